@@ -1,0 +1,22 @@
+use borrow.Author.Tests.{ne-eqb}
+use borrow.Author.Needs.{needs}
+use Rattle.rows.proofs.words.to_value.Statement.{statement}
+use Rattle.rows.proofs.words.to_value.Tie as tie
+use Rattle.rows.proofs.words.to_value.Reads as reads
+use Rattle.rows.proofs.words.to_value.Lts as lts
+use Rattle.rows.proofs.asyncio.HeapId.from_word.Reads as from-word-reads
+
+-- src/words.rt:80:26
+from-word-requires : tie.Need-from-word-requires
+from-word-requires c κs = search needs
+
+-- src/words.rt:75:1
+returns : tie.Need-returns
+returns c = rw (c .match .keys1)
+
+-- src/words.rt:75:1
+returns-2 : tie.Need-returns-2
+returns-2 c = rw (ne-eqb _ _ (c .before .match .rest .1), c .from-word .ensures)
+
+pub to-value-spec : {M : Type 1} → statement M
+to-value-spec = tie.close (tie.spec from-word-requires returns returns-2)

@@ -1,0 +1,43 @@
+-- How many numbers there are of each sort, and how wide the rows are. Document 01: "513 task records", "a 257th object, over 32 items,
+-- or over 512 item places in all", "numbers 0 to 65,535".
+use Prim.Native.Nat.{ℕ, _*_, _+_}
+
+abbrev pub task-limit : ℕ
+task-limit = 513
+
+abbrev pub object-limit : ℕ
+object-limit = 256
+
+abbrev pub place-limit : ℕ
+place-limit = 512
+
+-- places of one gather
+abbrev pub item-limit : ℕ
+item-limit = 32
+
+abbrev pub call-limit : ℕ
+call-limit = 65536
+
+-- numbers of 32 bits: functions, error numbers, the open places of a gather
+abbrev pub u32-limit : ℕ
+u32-limit = 4294967296
+
+-- words of a row
+abbrev pub task-width : ℕ
+task-width = 8
+
+abbrev pub object-width : ℕ
+object-width = 8
+
+abbrev pub place-width : ℕ
+place-width = 4
+
+-- words of each lent slice: the objects' rows stand behind one row for the header
+abbrev pub tasks-length : ℕ
+tasks-length = task-limit * task-width
+
+abbrev pub objects-length : ℕ
+objects-length = object-width + object-limit * object-width
+
+abbrev pub places-length : ℕ
+places-length = place-limit * place-width

@@ -1,0 +1,4 @@
+// The numbers and states of the scheduler (asyncio.rs), the words that each is laid out in (docs/LAYOUT.md), and the rows of the lent
+// slices. Only this crate knows an offset: everything above reads and writes rows.
+pub mod asyncio; // numbers, values, errors, awaiters, states; tests on them
+pub mod words; // each type as words, and what any words are read as
