@@ -33,7 +33,7 @@ def paths(n):
         if not b: break
         x=b.split()[0]; p+=' .before'
     return out
-p=f'crates/{crate}/proofs/{fn}/Proof.antt'
+p=(glob.glob(f'crates/{crate}/proofs/**/{fn}/Proof.antt',recursive=True))[0]
 s=open(p).read(); uses=[];blocks={};c=None
 for src in srcs:
   for l in open(src):

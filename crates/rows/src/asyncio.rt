@@ -6,9 +6,13 @@ ghost use Rattle.rows.specs.Kinds.{has-awaiter, is-coroutine, is-new, is
 
 // How many numbers there are of each sort (specs/Limits). A count takes one value more than the numbers that it counts.
 pub const TASKS: u64 = 513;
+
 pub const OBJECTS: u64 = 256;
+
 pub const PLACES: u64 = 512;
+
 pub const ITEMS: u64 = 32;
+
 pub const CALLS: u64 = 65536;
 
 // The number of an external call.

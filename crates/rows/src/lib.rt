@@ -2,3 +2,4 @@
 // slices. Only this crate knows an offset: everything above reads and writes rows.
 pub mod asyncio; // numbers, values, errors, awaiters, states; tests on them
 pub mod words; // each type as words, and what any words are read as
+pub mod tables; // rows of the lent slices, loaded and stored

@@ -206,7 +206,14 @@ fn coroutine_words(function: u32, state: CoroutineState) -> [u64; 8]
     match state {
         CoroutineState::New => object_row(Kind::NewCoroutine, Words3(0, 0, 0), f, 0, 0, 0),
         CoroutineState::Running => object_row(Kind::RunningCoroutine, Words3(0, 0, 0), f, 0, 0, 0),
-        CoroutineState::Completed => object_row(Kind::CompletedCoroutine, Words3(0, 0, 0), f, 0, 0, 0),
+        CoroutineState::Completed => object_row(
+            Kind::CompletedCoroutine,
+            Words3(0, 0, 0),
+            f,
+            0,
+            0,
+            0,
+        ),
     }
 }
 
@@ -314,7 +321,10 @@ pub fn to_object(w: [u64; 8]) -> Object
             let stored = to_option(w[5], w[6]);
             row_external(w, ExternalFutureState::Pending { awaiter, stored })
         }
-        Kind::ResolvedExternal => row_external(w, ExternalFutureState::Resolved(to_value(w[5], w[6]))),
+        Kind::ResolvedExternal => row_external(
+            w,
+            ExternalFutureState::Resolved(to_value(w[5], w[6])),
+        ),
         Kind::FailedExternal => row_external(w, ExternalFutureState::Failed(to_error(w[5], w[6]))),
         Kind::PendingGather => row_gather(w, GatherState::Pending),
         Kind::AwaitedGather => {

@@ -1,0 +1,136 @@
+-- A part of an object is what its own words are read as, by the object's kind.
+use mathlib.Core.Path.{_≡_, refl}
+use mathlib.Core.List.{List, [], _∷_}
+use Prim.Native.Nat.{ℕ, _+_, _*_}
+use native.Mathlib.Nat.{add-zero}
+use lib.ListN.{getD}
+use Rattle.rows.specs.Numbers.{call-id, to-call-id, to-u32, to-first, to-count}
+use Rattle.rows.specs.States.{pick}
+use Rattle.rows.specs.Kinds.{kind, has-awaiter, is-external, is-gather, is-awaited}
+use Rattle.rows.specs.Layout.{to-kind, to-awaiter, row-awaiter, row-object}
+use Rattle.rows.specs.Tables.{object-at, object-start}
+use Rattle.rows.specs.Parts.{awaiter-of, call-of, first-of, count-of, open-of}
+use Rattle.rows.specs.declared.asyncio.CallId.{CallId}
+use Rattle.rows.specs.declared.asyncio.Awaiter.{Awaiter}
+use Rattle.rows.specs.declared.asyncio.Kind.{Kind}
+
+-- ---- of a row
+
+row-kind : (k : Kind) (w : List ℕ) → kind (row-object k w) ≡ k
+unfolding kind
+row-kind Kind.Unmade w = refl
+row-kind Kind.NewCoroutine w = refl
+row-kind Kind.RunningCoroutine w = refl
+row-kind Kind.CompletedCoroutine w = refl
+row-kind Kind.PendingExternal w = refl
+row-kind Kind.ResolvedExternal w = refl
+row-kind Kind.FailedExternal w = refl
+row-kind Kind.PendingGather w = refl
+row-kind Kind.AwaitedGather w = refl
+row-kind Kind.CompletedGather w = refl
+row-kind Kind.FailedGather w = refl
+
+row-awaits : (k : Kind) (w : List ℕ) → awaiter-of (row-object k w) ≡ pick (has-awaiter k) (row-awaiter w) Awaiter.Nobody
+unfolding awaiter-of
+row-awaits Kind.Unmade w = refl
+row-awaits Kind.NewCoroutine w = refl
+row-awaits Kind.RunningCoroutine w = refl
+row-awaits Kind.CompletedCoroutine w = refl
+row-awaits Kind.PendingExternal w = refl
+row-awaits Kind.ResolvedExternal w = refl
+row-awaits Kind.FailedExternal w = refl
+row-awaits Kind.PendingGather w = refl
+row-awaits Kind.AwaitedGather w = refl
+row-awaits Kind.CompletedGather w = refl
+row-awaits Kind.FailedGather w = refl
+
+row-call : (k : Kind) (w : List ℕ) → call-of (row-object k w) ≡ pick (is-external k) (to-call-id (getD w 4 0)) (call-id 0)
+unfolding call-of
+row-call Kind.Unmade w = refl
+row-call Kind.NewCoroutine w = refl
+row-call Kind.RunningCoroutine w = refl
+row-call Kind.CompletedCoroutine w = refl
+row-call Kind.PendingExternal w = refl
+row-call Kind.ResolvedExternal w = refl
+row-call Kind.FailedExternal w = refl
+row-call Kind.PendingGather w = refl
+row-call Kind.AwaitedGather w = refl
+row-call Kind.CompletedGather w = refl
+row-call Kind.FailedGather w = refl
+
+row-first : (k : Kind) (w : List ℕ) → first-of (row-object k w) ≡ pick (is-gather k) (to-first (getD w 4 0)) 0
+unfolding first-of
+row-first Kind.Unmade w = refl
+row-first Kind.NewCoroutine w = refl
+row-first Kind.RunningCoroutine w = refl
+row-first Kind.CompletedCoroutine w = refl
+row-first Kind.PendingExternal w = refl
+row-first Kind.ResolvedExternal w = refl
+row-first Kind.FailedExternal w = refl
+row-first Kind.PendingGather w = refl
+row-first Kind.AwaitedGather w = refl
+row-first Kind.CompletedGather w = refl
+row-first Kind.FailedGather w = refl
+
+row-count : (k : Kind) (w : List ℕ) → count-of (row-object k w) ≡ pick (is-gather k) (to-count (to-first (getD w 4 0)) (getD w 5 0)) 0
+unfolding count-of
+row-count Kind.Unmade w = refl
+row-count Kind.NewCoroutine w = refl
+row-count Kind.RunningCoroutine w = refl
+row-count Kind.CompletedCoroutine w = refl
+row-count Kind.PendingExternal w = refl
+row-count Kind.ResolvedExternal w = refl
+row-count Kind.FailedExternal w = refl
+row-count Kind.PendingGather w = refl
+row-count Kind.AwaitedGather w = refl
+row-count Kind.CompletedGather w = refl
+row-count Kind.FailedGather w = refl
+
+row-open : (k : Kind) (w : List ℕ) → open-of (row-object k w) ≡ pick (is-awaited k) (to-u32 (getD w 6 0)) 0
+unfolding open-of
+row-open Kind.Unmade w = refl
+row-open Kind.NewCoroutine w = refl
+row-open Kind.RunningCoroutine w = refl
+row-open Kind.CompletedCoroutine w = refl
+row-open Kind.PendingExternal w = refl
+row-open Kind.ResolvedExternal w = refl
+row-open Kind.FailedExternal w = refl
+row-open Kind.PendingGather w = refl
+row-open Kind.AwaitedGather w = refl
+row-open Kind.CompletedGather w = refl
+row-open Kind.FailedGather w = refl
+
+-- ---- of object o of a slice
+
+module _ (os : List ℕ) (o : ℕ) where
+  abbrev word : ℕ → ℕ
+  word i = getD os (object-start o + i) 0
+
+  -- word 0 is the kind's
+  abbrev there : Kind
+  there = to-kind (getD os (object-start o) 0)
+
+  abbrev row : List ℕ
+  row = getD os (object-start o) 0 ∷ word 1 ∷ word 2 ∷ word 3 ∷ word 4 ∷ word 5 ∷ word 6 ∷ word 7 ∷ []
+
+  read-row : object-at os o ≡ row-object there row
+  unfolding object-at
+  read-row = rw add-zero
+
+  pub kind-at : kind (object-at os o) ≡ there
+  kind-at = rw read-row (row-kind there row)
+
+  pub awaiter-at : awaiter-of (object-at os o) ≡ pick (has-awaiter there) (to-awaiter (word 1) (word 2) (word 3)) Awaiter.Nobody
+  awaiter-at = rw read-row (row-awaits there row)
+
+  pub call-at : call-of (object-at os o) ≡ pick (is-external there) (to-call-id (word 4)) (call-id 0)
+  call-at = rw read-row (row-call there row)
+
+  pub first-at : first-of (object-at os o) ≡ pick (is-gather there) (to-first (word 4)) 0
+  first-at = rw read-row (row-first there row)
+
+  pub count-at : count-of (object-at os o) ≡ pick (is-gather there) (to-count (to-first (word 4)) (word 5)) 0
+  count-at = rw read-row (row-count there row)
+
+  pub open-at : open-of (object-at os o) ≡ pick (is-awaited there) (to-u32 (word 6)) 0
+  open-at = rw read-row (row-open there row)

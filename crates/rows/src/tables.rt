@@ -1,0 +1,137 @@
+// The rows of the lent slices, loaded and stored: 513 tasks; a header and 256 objects; 512 places. Each function equals its accessor
+// in specs/Tables.
+use crate::asyncio::Header;
+use crate::asyncio::HeapId;
+use crate::asyncio::Object;
+use crate::asyncio::Place;
+use crate::asyncio::Task;
+use crate::asyncio::TaskId;
+use crate::words::header_words;
+use crate::words::object_words;
+use crate::words::place_words;
+use crate::words::task_words;
+use crate::words::to_header;
+use crate::words::to_object;
+use crate::words::to_place;
+use crate::words::to_task;
+ghost use mathlib.Core.Path.{_≡_};
+ghost use Prim.Native.Nat.{_<_, _+_, _≤_};
+ghost use lib.ListN.{length};
+ghost use Rattle.rows.specs.Limits.{task-limit, object-limit, place-limit, tasks-length, objects-length, places-length};
+ghost use Rattle.rows.specs.Rows.{row-from, put-from};
+ghost use Rattle.rows.specs.Tables.{task-at, task-put, place-at, place-put, object-at, object-put, header-at, header-put};
+
+// ---- rows of 8 and of 4 words
+
+pub fn load8(w: &[u64], at: usize) -> [u64; 8]
+    requires { ⌜ at + 8 ≤ length (now w) ⌝ }
+    ensures { λ r. ⌜ r ≡ row-from (now (w .entry)) at 0 8 ⌝ }
+{
+    [
+        w[at],
+        w[at + 1],
+        w[at + 2],
+        w[at + 3],
+        w[at + 4],
+        w[at + 5],
+        w[at + 6],
+        w[at + 7],
+    ]
+}
+
+fn store8(w: &mut [u64], at: usize, r: [u64; 8])
+    requires { ⌜ at + 8 ≤ length (now w) ⌝ }
+    ensures { λ _. ⌜ now (w .exit) ≡ put-from (now (w .entry)) at 0 r ⌝ }
+{
+    w[at] = r[0];
+    w[at + 1] = r[1];
+    w[at + 2] = r[2];
+    w[at + 3] = r[3];
+    w[at + 4] = r[4];
+    w[at + 5] = r[5];
+    w[at + 6] = r[6];
+    w[at + 7] = r[7];
+}
+
+pub fn load4(w: &[u64], at: usize) -> [u64; 4]
+    requires { ⌜ at + 4 ≤ length (now w) ⌝ }
+    ensures { λ r. ⌜ r ≡ row-from (now (w .entry)) at 0 4 ⌝ }
+{
+    [w[at], w[at + 1], w[at + 2], w[at + 3]]
+}
+
+fn store4(w: &mut [u64], at: usize, r: [u64; 4])
+    requires { ⌜ at + 4 ≤ length (now w) ⌝ }
+    ensures { λ _. ⌜ now (w .exit) ≡ put-from (now (w .entry)) at 0 r ⌝ }
+{
+    w[at] = r[0];
+    w[at + 1] = r[1];
+    w[at + 2] = r[2];
+    w[at + 3] = r[3];
+}
+
+// ---- tasks
+
+pub fn load_task(tasks: &[u64], t: TaskId) -> Task
+    requires { ⌜ (length (now tasks) ≡ tasks-length) × (t .0 < task-limit) ⌝ }
+    ensures { λ r. ⌜ r ≡ task-at (now (tasks .entry)) (t .0) ⌝ }
+{
+    let i = t.0 as usize;
+    to_task(load8(tasks, i * 8))
+}
+
+pub fn store_task(tasks: &mut [u64], t: TaskId, r: Task)
+    requires { ⌜ (length (now tasks) ≡ tasks-length) × (t .0 < task-limit) ⌝ }
+    ensures { λ _. ⌜ now (tasks .exit) ≡ task-put (now (tasks .entry)) (t .0) r ⌝ }
+{
+    let i = t.0 as usize;
+    store8(tasks, i * 8, task_words(r));
+}
+
+// ---- objects, behind the header's row
+
+pub fn load_object(objects: &[u64], o: HeapId) -> Object
+    requires { ⌜ (length (now objects) ≡ objects-length) × (o .0 < object-limit) ⌝ }
+    ensures { λ r. ⌜ r ≡ object-at (now (objects .entry)) (o .0) ⌝ }
+{
+    let i = o.0 as usize;
+    to_object(load8(objects, i * 8 + 8))
+}
+
+pub fn store_object(objects: &mut [u64], o: HeapId, r: Object)
+    requires { ⌜ (length (now objects) ≡ objects-length) × (o .0 < object-limit) ⌝ }
+    ensures { λ _. ⌜ now (objects .exit) ≡ object-put (now (objects .entry)) (o .0) r ⌝ }
+{
+    let i = o.0 as usize;
+    store8(objects, i * 8 + 8, object_words(r));
+}
+
+pub fn load_header(objects: &[u64]) -> Header
+    requires { ⌜ length (now objects) ≡ objects-length ⌝ }
+    ensures { λ r. ⌜ r ≡ header-at (now (objects .entry)) ⌝ }
+{
+    to_header(load8(objects, 0))
+}
+
+pub fn store_header(objects: &mut [u64], h: Header)
+    requires { ⌜ length (now objects) ≡ objects-length ⌝ }
+    ensures { λ _. ⌜ now (objects .exit) ≡ header-put (now (objects .entry)) h ⌝ }
+{
+    store8(objects, 0, header_words(h));
+}
+
+// ---- places
+
+pub fn load_place(places: &[u64], p: usize) -> Place
+    requires { ⌜ (length (now places) ≡ places-length) × (p < place-limit) ⌝ }
+    ensures { λ r. ⌜ r ≡ place-at (now (places .entry)) p ⌝ }
+{
+    to_place(load4(places, p * 4))
+}
+
+pub fn store_place(places: &mut [u64], p: usize, r: Place)
+    requires { ⌜ (length (now places) ≡ places-length) × (p < place-limit) ⌝ }
+    ensures { λ _. ⌜ now (places .exit) ≡ place-put (now (places .entry)) p r ⌝ }
+{
+    store4(places, p * 4, place_words(r));
+}
