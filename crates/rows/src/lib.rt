@@ -3,3 +3,4 @@
 pub mod asyncio; // numbers, values, errors, awaiters, states; tests on them
 pub mod words; // each type as words, and what any words are read as
 pub mod tables; // rows of the lent slices, loaded and stored
+pub mod parts; // one part of a row, read from its own words
