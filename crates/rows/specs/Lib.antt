@@ -1,13 +1,5 @@
-pub mod Limits
-pub mod Numbers
-pub mod States
-pub mod Kinds
-pub mod Layout
-pub mod Ranges
-pub mod RangeLaws
 pub mod Rows
 pub mod RowLaws
 pub mod Tables
 pub mod TableLaws
-pub mod Parts
 pub mod PartLaws

@@ -4,15 +4,15 @@ use mathlib.Core.List.{List, [], _∷_}
 use Prim.Native.Nat.{ℕ, _+_, _*_}
 use native.Mathlib.Nat.{add-zero}
 use lib.ListN.{getD}
-use Rattle.rows.specs.Numbers.{call-id, to-call-id, to-u32, to-first, to-count}
-use Rattle.rows.specs.States.{pick}
-use Rattle.rows.specs.Kinds.{kind, has-awaiter, is-external, is-gather, is-awaited}
-use Rattle.rows.specs.Layout.{to-kind, to-awaiter, row-awaiter, row-object}
+use Rattle.asyncio.specs.Numbers.{call-id, to-call-id, to-u32, to-first, to-count}
+use Rattle.asyncio.specs.States.{pick}
+use Rattle.asyncio.specs.Kinds.{kind, has-awaiter, is-external, is-gather, is-awaited}
+use Rattle.asyncio.specs.Layout.{to-kind, to-awaiter, row-awaiter, row-object}
 use Rattle.rows.specs.Tables.{object-at, object-start}
-use Rattle.rows.specs.Parts.{awaiter-of, call-of, first-of, count-of, open-of}
-use Rattle.rows.specs.declared.asyncio.CallId.{CallId}
-use Rattle.rows.specs.declared.asyncio.Awaiter.{Awaiter}
-use Rattle.rows.specs.declared.asyncio.Kind.{Kind}
+use Rattle.asyncio.specs.Parts.{awaiter-of, call-of, first-of, count-of, open-of}
+use Rattle.asyncio.specs.declared.CallId.{CallId}
+use Rattle.asyncio.specs.declared.Awaiter.{Awaiter}
+use Rattle.asyncio.specs.declared.Kind.{Kind}
 
 -- ---- of a row
 

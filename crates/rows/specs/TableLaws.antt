@@ -10,15 +10,15 @@ use native.Mathlib.Omega.{arith}
 use lib.Dec.{ltb}
 use borrow.Author.Tests.{ltb-true, ltb-false}
 use lib.ListN.{length}
-use Rattle.rows.specs.Layout.{to-object, to-task, to-place, to-header}
-use Rattle.rows.specs.Ranges.{ObjectFits, TaskFits, PlaceFits, HeaderFits}
+use Rattle.asyncio.specs.Layout.{to-object, to-task, to-place, to-header}
+use Rattle.asyncio.specs.Ranges.{ObjectFits, TaskFits, PlaceFits, HeaderFits}
 use Rattle.rows.specs.RowLaws.{length-put-at, read-put, row-put-apart, read-fits}
 use Rattle.rows.specs.Tables.{task-codec, object-codec, place-codec, header-codec, task-start, object-start, place-start}
 use Rattle.rows.specs.Tables.{task-at, task-put, object-at, object-put, place-at, place-put, header-at, header-put}
-use Rattle.rows.specs.declared.asyncio.Object.{Object}
-use Rattle.rows.specs.declared.asyncio.Task.{Task}
-use Rattle.rows.specs.declared.asyncio.Place.{Place}
-use Rattle.rows.specs.declared.asyncio.Header.{Header}
+use Rattle.asyncio.specs.declared.Object.{Object}
+use Rattle.asyncio.specs.declared.Task.{Task}
+use Rattle.asyncio.specs.declared.Place.{Place}
+use Rattle.asyncio.specs.declared.Header.{Header}
 
 -- ---- lengths are kept
 

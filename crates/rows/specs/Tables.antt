@@ -3,15 +3,15 @@
 use mathlib.Core.Path.{refl}
 use mathlib.Core.List.{List}
 use Prim.Native.Nat.{ℕ, _+_, _*_}
-use Rattle.rows.specs.Limits.{task-width, object-width, place-width}
-use Rattle.rows.specs.Layout.{object-words, to-object, task-words, to-task, place-words, to-place, header-words, to-header}
-use Rattle.rows.specs.Ranges.{ObjectFits, TaskFits, PlaceFits, HeaderFits}
-use Rattle.rows.specs.RangeLaws.{object-back, task-back, place-back, header-back, object-wide, to-object-fits, to-task-fits, to-place-fits, to-header-fits}
+use Rattle.asyncio.specs.Limits.{task-width, object-width, place-width}
+use Rattle.asyncio.specs.Layout.{object-words, to-object, task-words, to-task, place-words, to-place, header-words, to-header}
+use Rattle.asyncio.specs.Ranges.{ObjectFits, TaskFits, PlaceFits, HeaderFits}
+use Rattle.asyncio.specs.RangeLaws.{object-back, task-back, place-back, header-back, object-wide, to-object-fits, to-task-fits, to-place-fits, to-header-fits}
 use Rattle.rows.specs.Rows.{Codec, read-at, put-at}
-use Rattle.rows.specs.declared.asyncio.Object.{Object}
-use Rattle.rows.specs.declared.asyncio.Task.{Task}
-use Rattle.rows.specs.declared.asyncio.Place.{Place}
-use Rattle.rows.specs.declared.asyncio.Header.{Header}
+use Rattle.asyncio.specs.declared.Object.{Object}
+use Rattle.asyncio.specs.declared.Task.{Task}
+use Rattle.asyncio.specs.declared.Place.{Place}
+use Rattle.asyncio.specs.declared.Header.{Header}
 
 abbrev pub task-codec : Codec Task
 task-codec = record { width = task-width; reads = to-task; words = task-words; Fits = TaskFits; wide = λ r. refl; back = task-back; in-range = to-task-fits }

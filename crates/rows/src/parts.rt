@@ -1,24 +1,24 @@
 // One part of a row, read from its own words: the same as that part of the whole row, at the cost of the words it needs.
-use crate::asyncio::Awaiter;
-use crate::asyncio::CallId;
-use crate::asyncio::HeapId;
-use crate::asyncio::Kind;
-use crate::asyncio::OptionValue;
-use crate::asyncio::TaskId;
-use crate::asyncio::TaskState;
-use crate::words::to_awaiter;
-use crate::words::to_count;
-use crate::words::to_first;
-use crate::words::to_kind;
-use crate::words::to_option;
-use crate::words::to_state;
-use crate::words::to_u32;
+use asyncio::Awaiter;
+use asyncio::CallId;
+use asyncio::HeapId;
+use asyncio::Kind;
+use asyncio::OptionValue;
+use asyncio::TaskId;
+use asyncio::TaskState;
+use asyncio::words::to_awaiter;
+use asyncio::words::to_count;
+use asyncio::words::to_first;
+use asyncio::words::to_kind;
+use asyncio::words::to_option;
+use asyncio::words::to_state;
+use asyncio::words::to_u32;
 ghost use mathlib.Core.Path.{_≡_};
 ghost use Prim.Native.Nat.{_<_};
 ghost use lib.ListN.{length};
-ghost use Rattle.rows.specs.Kinds.{kind};
-ghost use Rattle.rows.specs.Limits.{task-limit, object-limit, place-limit, tasks-length, objects-length, places-length};
-ghost use Rattle.rows.specs.Parts.{awaiter-of, call-of, first-of, count-of, open-of};
+ghost use Rattle.asyncio.specs.Kinds.{kind};
+ghost use Rattle.asyncio.specs.Limits.{task-limit, object-limit, place-limit, tasks-length, objects-length, places-length};
+ghost use Rattle.asyncio.specs.Parts.{awaiter-of, call-of, first-of, count-of, open-of};
 ghost use Rattle.rows.specs.Tables.{task-at, place-at, object-at};
 
 // ---- objects

@@ -1,23 +1,23 @@
 // The rows of the lent slices, loaded and stored: 513 tasks; a header and 256 objects; 512 places. Each function equals its accessor
 // in specs/Tables.
-use crate::asyncio::Header;
-use crate::asyncio::HeapId;
-use crate::asyncio::Object;
-use crate::asyncio::Place;
-use crate::asyncio::Task;
-use crate::asyncio::TaskId;
-use crate::words::header_words;
-use crate::words::object_words;
-use crate::words::place_words;
-use crate::words::task_words;
-use crate::words::to_header;
-use crate::words::to_object;
-use crate::words::to_place;
-use crate::words::to_task;
+use asyncio::Header;
+use asyncio::HeapId;
+use asyncio::Object;
+use asyncio::Place;
+use asyncio::Task;
+use asyncio::TaskId;
+use asyncio::words::header_words;
+use asyncio::words::object_words;
+use asyncio::words::place_words;
+use asyncio::words::task_words;
+use asyncio::words::to_header;
+use asyncio::words::to_object;
+use asyncio::words::to_place;
+use asyncio::words::to_task;
 ghost use mathlib.Core.Path.{_≡_};
 ghost use Prim.Native.Nat.{_<_, _+_, _≤_};
 ghost use lib.ListN.{length};
-ghost use Rattle.rows.specs.Limits.{task-limit, object-limit, place-limit, tasks-length, objects-length, places-length};
+ghost use Rattle.asyncio.specs.Limits.{task-limit, object-limit, place-limit, tasks-length, objects-length, places-length};
 ghost use Rattle.rows.specs.Rows.{row-from, put-from};
 ghost use Rattle.rows.specs.Tables.{task-at, task-put, place-at, place-put, object-at, object-put, header-at, header-put};
 

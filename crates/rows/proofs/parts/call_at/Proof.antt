@@ -3,66 +3,46 @@ use Rattle.rows.specs.PartLaws.{call-at}
 use borrow.Author.Needs.{needs}
 use Rattle.rows.proofs.parts.call_at.Statement.{statement}
 use Rattle.rows.proofs.parts.call_at.Tie as tie
-use Rattle.rows.proofs.parts.call_at.Reads as reads
-use Rattle.rows.proofs.parts.call_at.Lts as lts
-use Rattle.rows.proofs.asyncio.CallId.from_word.Reads as from-word-reads
-use Rattle.rows.proofs.asyncio.CallId.new.Reads as new-reads
-use Rattle.rows.proofs.asyncio.Kind.is_external.Reads as is-external-reads
-use Rattle.rows.proofs.words.to_kind.Reads as to-kind-reads
 
--- src/parts.rt:55:13
 cast-i : tie.Need-cast-i
 cast-i c = search needs
 
--- src/parts.rt:56:14
 mul-at : tie.Need-mul-at
 mul-at c = search needs
 
--- src/parts.rt:56:14
 add-at : tie.Need-add-at
 add-at c = search needs
 
--- src/parts.rt:57:24
 mul-to-kind : tie.Need-mul-to-kind
 mul-to-kind c = search needs
 
--- src/parts.rt:57:24
 shared-slice-read-to-kind : tie.Need-shared-slice-read-to-kind
 shared-slice-read-to-kind c = search needs
 
--- src/parts.rt:57:9
 to-kind-requires : tie.Need-to-kind-requires
 to-kind-requires c κs = search needs
 
--- src/parts.rt:58:8
 is-external-requires : tie.Need-is-external-requires
 is-external-requires c κs = search needs
 
--- src/parts.rt:59:42
 add-from-word : tie.Need-add-from-word
 add-from-word c = search needs
 
--- src/parts.rt:59:34
 mul-from-word : tie.Need-mul-from-word
 mul-from-word c = search needs
 
--- src/parts.rt:59:34
 shared-slice-read-from-word : tie.Need-shared-slice-read-from-word
 shared-slice-read-from-word c = search needs
 
--- src/parts.rt:59:9
 from-word-requires : tie.Need-from-word-requires
 from-word-requires c κs = search needs
 
--- src/parts.rt:59:9
 returns : tie.Need-returns
 returns c = rw (call-at (now (c .before .before .before .before .before .before .before .before .args .objects)) (c .before .before .before .before .before .before .before .before .args .o .0), ← c .before .before .before .before .to-kind .ensures, ← c .before .before .before .is-external .ensures, c .before .before .if1 .taken, c .from-word .ensures)
 
--- src/parts.rt:61:5
 new-requires : tie.Need-new-requires
 new-requires c κs = search needs
 
--- src/parts.rt:51:1
 returns-2 : tie.Need-returns-2
 returns-2 c = rw (call-at (now (c .before .before .before .before .before .before .before .args .objects)) (c .before .before .before .before .before .before .before .args .o .0), ← c .before .before .before .to-kind .ensures, ← c .before .before .is-external .ensures, c .before .if1 .left, c .new .ensures)
 

@@ -3,61 +3,43 @@ use Rattle.rows.specs.PartLaws.{first-at}
 use borrow.Author.Needs.{needs}
 use Rattle.rows.proofs.parts.first_at.Statement.{statement}
 use Rattle.rows.proofs.parts.first_at.Tie as tie
-use Rattle.rows.proofs.parts.first_at.Reads as reads
-use Rattle.rows.proofs.parts.first_at.Lts as lts
-use Rattle.rows.proofs.asyncio.Kind.is_gather.Reads as is-gather-reads
-use Rattle.rows.proofs.words.to_first.Reads as to-first-reads
-use Rattle.rows.proofs.words.to_kind.Reads as to-kind-reads
 
--- src/parts.rt:69:13
 cast-i : tie.Need-cast-i
 cast-i c = search needs
 
--- src/parts.rt:70:14
 mul-at : tie.Need-mul-at
 mul-at c = search needs
 
--- src/parts.rt:70:14
 add-at : tie.Need-add-at
 add-at c = search needs
 
--- src/parts.rt:71:24
 mul-to-kind : tie.Need-mul-to-kind
 mul-to-kind c = search needs
 
--- src/parts.rt:71:24
 shared-slice-read-to-kind : tie.Need-shared-slice-read-to-kind
 shared-slice-read-to-kind c = search needs
 
--- src/parts.rt:71:9
 to-kind-requires : tie.Need-to-kind-requires
 to-kind-requires c κs = search needs
 
--- src/parts.rt:72:8
 is-gather-requires : tie.Need-is-gather-requires
 is-gather-requires c κs = search needs
 
--- src/parts.rt:73:33
 add-to-first : tie.Need-add-to-first
 add-to-first c = search needs
 
--- src/parts.rt:73:25
 mul-to-first : tie.Need-mul-to-first
 mul-to-first c = search needs
 
--- src/parts.rt:73:25
 shared-slice-read-to-first : tie.Need-shared-slice-read-to-first
 shared-slice-read-to-first c = search needs
 
--- src/parts.rt:73:9
 to-first-requires : tie.Need-to-first-requires
 to-first-requires c κs = search needs
 
--- src/parts.rt:73:9
 returns : tie.Need-returns
 returns c = rw (first-at (now (c .before .before .before .before .before .before .before .before .args .objects)) (c .before .before .before .before .before .before .before .before .args .o .0), ← c .before .before .before .before .to-kind .ensures, ← c .before .before .before .is-gather .ensures, c .before .before .if1 .taken, c .to-first .ensures)
 
--- src/parts.rt:65:1
 returns-2 : tie.Need-returns-2
 returns-2 c = rw (first-at (now (c .before .before .before .before .before .before .args .objects)) (c .before .before .before .before .before .before .args .o .0), ← c .before .before .to-kind .ensures, ← c .before .is-gather .ensures, c .if1 .left)
 

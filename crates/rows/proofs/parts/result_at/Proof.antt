@@ -2,43 +2,31 @@ use Rattle.rows.specs.Tables.{place-at}
 use borrow.Author.Needs.{needs}
 use Rattle.rows.proofs.parts.result_at.Statement.{statement}
 use Rattle.rows.proofs.parts.result_at.Tie as tie
-use Rattle.rows.proofs.parts.result_at.Reads as reads
-use Rattle.rows.proofs.parts.result_at.Lts as lts
-use Rattle.rows.proofs.words.to_option.Reads as to-option-reads
 
--- src/parts.rt:149:14
 mul-at : tie.Need-mul-at
 mul-at c = search needs
 
--- src/parts.rt:150:22
 add-to-option : tie.Need-add-to-option
 add-to-option c = search needs
 
--- src/parts.rt:150:15
 mul-to-option : tie.Need-mul-to-option
 mul-to-option c = search needs
 
--- src/parts.rt:150:15
 shared-slice-read-to-option : tie.Need-shared-slice-read-to-option
 shared-slice-read-to-option c = search needs
 
--- src/parts.rt:150:38
 add-to-option-2 : tie.Need-add-to-option-2
 add-to-option-2 c = search needs
 
--- src/parts.rt:150:31
 mul-to-option-2 : tie.Need-mul-to-option-2
 mul-to-option-2 c = search needs
 
--- src/parts.rt:150:31
 shared-slice-read-to-option-2 : tie.Need-shared-slice-read-to-option-2
 shared-slice-read-to-option-2 c = search needs
 
--- src/parts.rt:150:5
 to-option-requires : tie.Need-to-option-requires
 to-option-requires c κs = search needs
 
--- src/parts.rt:145:1
 returns : tie.Need-returns
 unfolding place-at
 returns c = rw (c .to-option .ensures)

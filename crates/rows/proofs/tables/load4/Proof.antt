@@ -2,54 +2,40 @@ use native.Mathlib.Nat.{add-zero}
 use borrow.Author.Needs.{needs}
 use Rattle.rows.proofs.tables.load4.Statement.{statement}
 use Rattle.rows.proofs.tables.load4.Tie as tie
-use Rattle.rows.proofs.tables.load4.Reads as reads
-use Rattle.rows.proofs.tables.load4.Lts as lts
 
--- src/tables.rt:60:6
 mul-t3 : tie.Need-mul-t3
 mul-t3 c = search needs
 
--- src/tables.rt:60:6
 shared-slice-read-t5 : tie.Need-shared-slice-read-t5
 shared-slice-read-t5 c = search needs
 
--- src/tables.rt:60:15
 add-t6 : tie.Need-add-t6
 add-t6 c = search needs
 
--- src/tables.rt:60:13
 mul-t7 : tie.Need-mul-t7
 mul-t7 c = search needs
 
--- src/tables.rt:60:13
 shared-slice-read-t9 : tie.Need-shared-slice-read-t9
 shared-slice-read-t9 c = search needs
 
--- src/tables.rt:60:26
 add-t10 : tie.Need-add-t10
 add-t10 c = search needs
 
--- src/tables.rt:60:24
 mul-t11 : tie.Need-mul-t11
 mul-t11 c = search needs
 
--- src/tables.rt:60:24
 shared-slice-read-t13 : tie.Need-shared-slice-read-t13
 shared-slice-read-t13 c = search needs
 
--- src/tables.rt:60:37
 add-t14 : tie.Need-add-t14
 add-t14 c = search needs
 
--- src/tables.rt:60:35
 mul-t15 : tie.Need-mul-t15
 mul-t15 c = search needs
 
--- src/tables.rt:60:35
 shared-slice-read-t17 : tie.Need-shared-slice-read-t17
 shared-slice-read-t17 c = search needs
 
--- src/tables.rt:56:1
 returns : tie.Need-returns
 returns c = simp add-zero
 

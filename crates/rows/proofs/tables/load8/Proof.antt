@@ -2,102 +2,76 @@ use native.Mathlib.Nat.{add-zero}
 use borrow.Author.Needs.{needs}
 use Rattle.rows.proofs.tables.load8.Statement.{statement}
 use Rattle.rows.proofs.tables.load8.Tie as tie
-use Rattle.rows.proofs.tables.load8.Reads as reads
-use Rattle.rows.proofs.tables.load8.Lts as lts
 
--- src/tables.rt:31:9
 mul-t3 : tie.Need-mul-t3
 mul-t3 c = search needs
 
--- src/tables.rt:31:9
 shared-slice-read-t5 : tie.Need-shared-slice-read-t5
 shared-slice-read-t5 c = search needs
 
--- src/tables.rt:32:11
 add-t6 : tie.Need-add-t6
 add-t6 c = search needs
 
--- src/tables.rt:32:9
 mul-t7 : tie.Need-mul-t7
 mul-t7 c = search needs
 
--- src/tables.rt:32:9
 shared-slice-read-t9 : tie.Need-shared-slice-read-t9
 shared-slice-read-t9 c = search needs
 
--- src/tables.rt:33:11
 add-t10 : tie.Need-add-t10
 add-t10 c = search needs
 
--- src/tables.rt:33:9
 mul-t11 : tie.Need-mul-t11
 mul-t11 c = search needs
 
--- src/tables.rt:33:9
 shared-slice-read-t13 : tie.Need-shared-slice-read-t13
 shared-slice-read-t13 c = search needs
 
--- src/tables.rt:34:11
 add-t14 : tie.Need-add-t14
 add-t14 c = search needs
 
--- src/tables.rt:34:9
 mul-t15 : tie.Need-mul-t15
 mul-t15 c = search needs
 
--- src/tables.rt:34:9
 shared-slice-read-t17 : tie.Need-shared-slice-read-t17
 shared-slice-read-t17 c = search needs
 
--- src/tables.rt:35:11
 add-t18 : tie.Need-add-t18
 add-t18 c = search needs
 
--- src/tables.rt:35:9
 mul-t19 : tie.Need-mul-t19
 mul-t19 c = search needs
 
--- src/tables.rt:35:9
 shared-slice-read-t21 : tie.Need-shared-slice-read-t21
 shared-slice-read-t21 c = search needs
 
--- src/tables.rt:36:11
 add-t22 : tie.Need-add-t22
 add-t22 c = search needs
 
--- src/tables.rt:36:9
 mul-t23 : tie.Need-mul-t23
 mul-t23 c = search needs
 
--- src/tables.rt:36:9
 shared-slice-read-t25 : tie.Need-shared-slice-read-t25
 shared-slice-read-t25 c = search needs
 
--- src/tables.rt:37:11
 add-t26 : tie.Need-add-t26
 add-t26 c = search needs
 
--- src/tables.rt:37:9
 mul-t27 : tie.Need-mul-t27
 mul-t27 c = search needs
 
--- src/tables.rt:37:9
 shared-slice-read-t29 : tie.Need-shared-slice-read-t29
 shared-slice-read-t29 c = search needs
 
--- src/tables.rt:38:11
 add-t30 : tie.Need-add-t30
 add-t30 c = search needs
 
--- src/tables.rt:38:9
 mul-t31 : tie.Need-mul-t31
 mul-t31 c = search needs
 
--- src/tables.rt:38:9
 shared-slice-read-t33 : tie.Need-shared-slice-read-t33
 shared-slice-read-t33 c = search needs
 
--- src/tables.rt:26:1
 returns : tie.Need-returns
 returns c = simp add-zero
 

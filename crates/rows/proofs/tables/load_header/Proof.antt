@@ -2,20 +2,13 @@ use Rattle.rows.specs.Tables.{header-at}
 use borrow.Author.Needs.{needs}
 use Rattle.rows.proofs.tables.load_header.Statement.{statement}
 use Rattle.rows.proofs.tables.load_header.Tie as tie
-use Rattle.rows.proofs.tables.load_header.Reads as reads
-use Rattle.rows.proofs.tables.load_header.Lts as lts
-use Rattle.rows.proofs.tables.load8.Reads as load8-reads
-use Rattle.rows.proofs.words.to_header.Reads as to-header-reads
 
--- src/tables.rt:113:15
 load8-requires : tie.Need-load8-requires
 load8-requires c κs = search needs
 
--- src/tables.rt:113:5
 to-header-requires : tie.Need-to-header-requires
 to-header-requires c κs = search needs
 
--- src/tables.rt:109:1
 returns : tie.Need-returns
 unfolding header-at
 returns c = rw (c .to-header .ensures, c .before .load8 .ensures)

@@ -2,32 +2,22 @@ use Rattle.rows.specs.Tables.{object-at}
 use borrow.Author.Needs.{needs}
 use Rattle.rows.proofs.tables.load_object.Statement.{statement}
 use Rattle.rows.proofs.tables.load_object.Tie as tie
-use Rattle.rows.proofs.tables.load_object.Reads as reads
-use Rattle.rows.proofs.tables.load_object.Lts as lts
-use Rattle.rows.proofs.tables.load8.Reads as load8-reads
-use Rattle.rows.proofs.words.to_object.Reads as to-object-reads
 
--- src/tables.rt:97:13
 cast-i : tie.Need-cast-i
 cast-i c = search needs
 
--- src/tables.rt:98:30
 mul-load8 : tie.Need-mul-load8
 mul-load8 c = search needs
 
--- src/tables.rt:98:30
 add-load8 : tie.Need-add-load8
 add-load8 c = search needs
 
--- src/tables.rt:98:15
 load8-requires : tie.Need-load8-requires
 load8-requires c κs = search needs
 
--- src/tables.rt:98:5
 to-object-requires : tie.Need-to-object-requires
 to-object-requires c κs = search needs
 
--- src/tables.rt:93:1
 returns : tie.Need-returns
 unfolding object-at
 returns c = rw (c .to-object .ensures, c .before .load8 .ensures)

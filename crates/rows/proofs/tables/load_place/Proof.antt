@@ -2,24 +2,16 @@ use Rattle.rows.specs.Tables.{place-at}
 use borrow.Author.Needs.{needs}
 use Rattle.rows.proofs.tables.load_place.Statement.{statement}
 use Rattle.rows.proofs.tables.load_place.Tie as tie
-use Rattle.rows.proofs.tables.load_place.Reads as reads
-use Rattle.rows.proofs.tables.load_place.Lts as lts
-use Rattle.rows.proofs.tables.load4.Reads as load4-reads
-use Rattle.rows.proofs.words.to_place.Reads as to-place-reads
 
--- src/tables.rt:129:28
 mul-load4 : tie.Need-mul-load4
 mul-load4 c = search needs
 
--- src/tables.rt:129:14
 load4-requires : tie.Need-load4-requires
 load4-requires c κs = search needs
 
--- src/tables.rt:129:5
 to-place-requires : tie.Need-to-place-requires
 to-place-requires c κs = search needs
 
--- src/tables.rt:125:1
 returns : tie.Need-returns
 unfolding place-at
 returns c = rw (c .to-place .ensures, c .before .load4 .ensures)

@@ -6,74 +6,55 @@ use Rattle.rows.specs.RowLaws.{put-listed}
 use borrow.Author.Needs.{needs}
 use Rattle.rows.proofs.tables.store4.Statement.{statement}
 use Rattle.rows.proofs.tables.store4.Tie as tie
-use Rattle.rows.proofs.tables.store4.Reads as reads
-use Rattle.rows.proofs.tables.store4.Lts as lts
 
--- src/tables.rt:67:13
 array-read-w : tie.Need-array-read-w
 array-read-w c = search needs
 
--- src/tables.rt:67:5
 mul-w : tie.Need-mul-w
 mul-w c = search needs
 
--- src/tables.rt:67:5
 slice-write-w : tie.Need-slice-write-w
 slice-write-w c = search needs
 
--- src/tables.rt:68:17
 array-read-w-2 : tie.Need-array-read-w-2
 array-read-w-2 c = search needs
 
--- src/tables.rt:68:7
 add-w : tie.Need-add-w
 add-w c = search needs
 
--- src/tables.rt:68:5
 mul-w-2 : tie.Need-mul-w-2
 mul-w-2 c = search needs
 
--- src/tables.rt:68:5
 slice-write-w-2 : tie.Need-slice-write-w-2
 slice-write-w-2 c = simp length-set (omega arith)
 
--- src/tables.rt:69:17
 array-read-w-3 : tie.Need-array-read-w-3
 array-read-w-3 c = search needs
 
--- src/tables.rt:69:7
 add-w-2 : tie.Need-add-w-2
 add-w-2 c = search needs
 
--- src/tables.rt:69:5
 mul-w-3 : tie.Need-mul-w-3
 mul-w-3 c = search needs
 
--- src/tables.rt:69:5
 slice-write-w-3 : tie.Need-slice-write-w-3
 slice-write-w-3 c = simp length-set (omega arith)
 
--- src/tables.rt:70:17
 array-read-w-4 : tie.Need-array-read-w-4
 array-read-w-4 c = search needs
 
--- src/tables.rt:70:7
 add-w-3 : tie.Need-add-w-3
 add-w-3 c = search needs
 
--- src/tables.rt:70:5
 mul-w-4 : tie.Need-mul-w-4
 mul-w-4 c = search needs
 
--- src/tables.rt:70:5
 slice-write-w-4 : tie.Need-slice-write-w-4
 slice-write-w-4 c = simp length-set (omega arith)
 
--- src/tables.rt:63:1
 same-length : tie.Need-same-length
 same-length c = search needs
 
--- src/tables.rt:63:1
 returns : tie.Need-returns
 returns c = simp add-zero at (put-listed 4 (now (c .args .w)) (c .args .at) (c .args .t3) (search needs))
 

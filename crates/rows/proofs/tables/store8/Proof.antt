@@ -6,138 +6,103 @@ use Rattle.rows.specs.RowLaws.{put-listed}
 use borrow.Author.Needs.{needs}
 use Rattle.rows.proofs.tables.store8.Statement.{statement}
 use Rattle.rows.proofs.tables.store8.Tie as tie
-use Rattle.rows.proofs.tables.store8.Reads as reads
-use Rattle.rows.proofs.tables.store8.Lts as lts
 
--- src/tables.rt:46:13
 array-read-w : tie.Need-array-read-w
 array-read-w c = search needs
 
--- src/tables.rt:46:5
 mul-w : tie.Need-mul-w
 mul-w c = search needs
 
--- src/tables.rt:46:5
 slice-write-w : tie.Need-slice-write-w
 slice-write-w c = search needs
 
--- src/tables.rt:47:17
 array-read-w-2 : tie.Need-array-read-w-2
 array-read-w-2 c = search needs
 
--- src/tables.rt:47:7
 add-w : tie.Need-add-w
 add-w c = search needs
 
--- src/tables.rt:47:5
 mul-w-2 : tie.Need-mul-w-2
 mul-w-2 c = search needs
 
--- src/tables.rt:47:5
 slice-write-w-2 : tie.Need-slice-write-w-2
 slice-write-w-2 c = simp length-set (omega arith)
 
--- src/tables.rt:48:17
 array-read-w-3 : tie.Need-array-read-w-3
 array-read-w-3 c = search needs
 
--- src/tables.rt:48:7
 add-w-2 : tie.Need-add-w-2
 add-w-2 c = search needs
 
--- src/tables.rt:48:5
 mul-w-3 : tie.Need-mul-w-3
 mul-w-3 c = search needs
 
--- src/tables.rt:48:5
 slice-write-w-3 : tie.Need-slice-write-w-3
 slice-write-w-3 c = simp length-set (omega arith)
 
--- src/tables.rt:49:17
 array-read-w-4 : tie.Need-array-read-w-4
 array-read-w-4 c = search needs
 
--- src/tables.rt:49:7
 add-w-3 : tie.Need-add-w-3
 add-w-3 c = search needs
 
--- src/tables.rt:49:5
 mul-w-4 : tie.Need-mul-w-4
 mul-w-4 c = search needs
 
--- src/tables.rt:49:5
 slice-write-w-4 : tie.Need-slice-write-w-4
 slice-write-w-4 c = simp length-set (omega arith)
 
--- src/tables.rt:50:17
 array-read-w-5 : tie.Need-array-read-w-5
 array-read-w-5 c = search needs
 
--- src/tables.rt:50:7
 add-w-4 : tie.Need-add-w-4
 add-w-4 c = search needs
 
--- src/tables.rt:50:5
 mul-w-5 : tie.Need-mul-w-5
 mul-w-5 c = search needs
 
--- src/tables.rt:50:5
 slice-write-w-5 : tie.Need-slice-write-w-5
 slice-write-w-5 c = simp length-set (omega arith)
 
--- src/tables.rt:51:17
 array-read-w-6 : tie.Need-array-read-w-6
 array-read-w-6 c = search needs
 
--- src/tables.rt:51:7
 add-w-5 : tie.Need-add-w-5
 add-w-5 c = search needs
 
--- src/tables.rt:51:5
 mul-w-6 : tie.Need-mul-w-6
 mul-w-6 c = search needs
 
--- src/tables.rt:51:5
 slice-write-w-6 : tie.Need-slice-write-w-6
 slice-write-w-6 c = simp length-set (omega arith)
 
--- src/tables.rt:52:17
 array-read-w-7 : tie.Need-array-read-w-7
 array-read-w-7 c = search needs
 
--- src/tables.rt:52:7
 add-w-6 : tie.Need-add-w-6
 add-w-6 c = search needs
 
--- src/tables.rt:52:5
 mul-w-7 : tie.Need-mul-w-7
 mul-w-7 c = search needs
 
--- src/tables.rt:52:5
 slice-write-w-7 : tie.Need-slice-write-w-7
 slice-write-w-7 c = simp length-set (omega arith)
 
--- src/tables.rt:53:17
 array-read-w-8 : tie.Need-array-read-w-8
 array-read-w-8 c = search needs
 
--- src/tables.rt:53:7
 add-w-7 : tie.Need-add-w-7
 add-w-7 c = search needs
 
--- src/tables.rt:53:5
 mul-w-8 : tie.Need-mul-w-8
 mul-w-8 c = search needs
 
--- src/tables.rt:53:5
 slice-write-w-8 : tie.Need-slice-write-w-8
 slice-write-w-8 c = simp length-set (omega arith)
 
--- src/tables.rt:42:1
 same-length : tie.Need-same-length
 same-length c = simp length-set
 
--- src/tables.rt:42:1
 returns : tie.Need-returns
 returns c = simp add-zero at (put-listed 8 (now (c .args .w)) (c .args .at) (c .args .t3) (search needs))
 

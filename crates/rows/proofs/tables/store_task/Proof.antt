@@ -2,32 +2,22 @@ use Rattle.rows.specs.Tables.{task-put}
 use borrow.Author.Needs.{needs}
 use Rattle.rows.proofs.tables.store_task.Statement.{statement}
 use Rattle.rows.proofs.tables.store_task.Tie as tie
-use Rattle.rows.proofs.tables.store_task.Reads as reads
-use Rattle.rows.proofs.tables.store_task.Lts as lts
-use Rattle.rows.proofs.tables.store8.Reads as store8-reads
-use Rattle.rows.proofs.words.task_words.Reads as task-words-reads
 
--- src/tables.rt:87:13
 cast-i : tie.Need-cast-i
 cast-i c = search needs
 
--- src/tables.rt:88:19
 mul-store8 : tie.Need-mul-store8
 mul-store8 c = search needs
 
--- src/tables.rt:88:26
 task-words-requires : tie.Need-task-words-requires
 task-words-requires c κs = search needs
 
--- src/tables.rt:88:5
 store8-requires : tie.Need-store8-requires
 store8-requires c κs = search needs
 
--- src/tables.rt:83:1
 same-length : tie.Need-same-length
 same-length c = search needs
 
--- src/tables.rt:83:1
 returns : tie.Need-returns
 unfolding task-put
 returns c = rw (c .before .before .store8 .ensures, c .before .before .before .task-words .ensures)

@@ -1,0 +1,210 @@
+// Prints the words of a small store, to be held against docs/LAYOUT.md: document 01's worked example after its sixth record (task 1 has
+// completed with plain 40, main waits for gather 2 and its call 0), then a ready queue as it is pushed, removed from and popped.
+use asyncio::Awaiter;
+use asyncio::CallId;
+use asyncio::CoroutineState;
+use asyncio::ExternalFutureState;
+use asyncio::GatherState;
+use asyncio::Header;
+use asyncio::HeapId;
+use asyncio::Moment;
+use asyncio::Object;
+use asyncio::OptionValue;
+use asyncio::Place;
+use asyncio::Task;
+use asyncio::TaskId;
+use asyncio::TaskState;
+use asyncio::Value;
+use libc::STDOUT_FILENO;
+use queue::ReadyQueue;
+ghost use mathlib.Core.Path.{_≡_};
+ghost use lib.ListN.{length};
+ghost use Prim.Native.Nat.{_<_};
+ghost use Rattle.asyncio.specs.Limits.{tasks-length, objects-length, places-length, task-limit, object-limit, place-limit};
+
+fn print_word(n: u64) {
+    io::write_all(STDOUT_FILENO, b" ");
+    io::print_decimal(STDOUT_FILENO, n);
+}
+
+fn print_row(w: [u64; 8]) {
+    let mut i: usize = 0;
+    while i < 8 {
+        print_word(w[i]);
+        i += 1;
+    }
+    io::write_all(STDOUT_FILENO, b"\n");
+}
+
+fn print_object(objects: &[u64], o: HeapId)
+    requires { ⌜ (length (now objects) ≡ objects-length) × (o .0 < object-limit) ⌝ }
+{
+    io::write_all(STDOUT_FILENO, b"object");
+    print_row(asyncio::words::object_words(rows::tables::load_object(objects, o)));
+}
+
+fn print_task(tasks: &[u64], t: TaskId)
+    requires { ⌜ (length (now tasks) ≡ tasks-length) × (t .0 < task-limit) ⌝ }
+{
+    io::write_all(STDOUT_FILENO, b"task");
+    print_row(asyncio::words::task_words(rows::tables::load_task(tasks, t)));
+}
+
+fn print_place(places: &[u64], p: usize)
+    requires { ⌜ (length (now places) ≡ places-length) × (p < place-limit) ⌝ }
+{
+    let w = asyncio::words::place_words(rows::tables::load_place(places, p));
+    io::write_all(STDOUT_FILENO, b"place");
+    print_word(w[0]);
+    print_word(w[1]);
+    print_word(w[2]);
+    print_word(w[3]);
+    io::write_all(STDOUT_FILENO, b"\n");
+}
+
+fn print_queue(q: ReadyQueue) {
+    let n = q.len;
+    if 513 < n {
+        return;
+    }
+    io::write_all(STDOUT_FILENO, b"ready");
+    let mut i: usize = 0;
+    while i < n {
+        print_word(q.ids[i] as u64);
+        i += 1;
+    }
+    io::write_all(STDOUT_FILENO, b"\n");
+}
+
+// Coroutine 0 of function 7, completed; external 1 of call 0, pending; gather 2 of three places, awaited by main, its place 1 open.
+fn store_objects(objects: &mut [u64])
+    requires { ⌜ length (now objects) ≡ objects-length ⌝ }
+{
+    rows::tables::store_header(
+        objects,
+        Header {
+            made: 3,
+            used: 3,
+            calls: 1,
+            next: 2,
+            moment: Moment::Waiting,
+        },
+    );
+    rows::tables::store_object(
+        objects,
+        HeapId::new(0),
+        Object::Coroutine {
+            function: 7,
+            state: CoroutineState::Completed,
+        },
+    );
+    rows::tables::store_object(
+        objects,
+        HeapId::new(1),
+        Object::ExternalFuture {
+            call: CallId::new(0),
+            state: ExternalFutureState::Pending {
+                awaiter: Awaiter::GatherSlot {
+                    gather: HeapId::new(2),
+                    source: HeapId::new(1),
+                },
+                stored: OptionValue::None,
+            },
+        },
+    );
+    rows::tables::store_object(
+        objects,
+        HeapId::new(2),
+        Object::GatherFuture {
+            first: 0,
+            count: 3,
+            state: GatherState::Awaited {
+                awaiter: Awaiter::Task(TaskId::MAIN),
+                open_places: 2,
+            },
+        },
+    );
+}
+
+// The places of gather 2: items 0, 1, 0; what item 0 delivered stands in both of its places.
+fn store_places(places: &mut [u64])
+    requires { ⌜ length (now places) ≡ places-length ⌝ }
+{
+    let delivered = Place {
+        item: HeapId::new(0),
+        result: OptionValue::Some(Value::Plain(40)),
+    };
+    let open = Place {
+        item: HeapId::new(1),
+        result: OptionValue::None,
+    };
+    rows::tables::store_place(places, 0, delivered);
+    rows::tables::store_place(places, 1, open);
+    rows::tables::store_place(places, 2, delivered);
+}
+
+// Main is blocked on gather 2. Task 1 has ended.
+fn store_tasks(tasks: &mut [u64])
+    requires { ⌜ length (now tasks) ≡ tasks-length ⌝ }
+{
+    let main = Task {
+        state: TaskState::Blocked(HeapId::new(2)),
+        awaiter: Awaiter::Nobody,
+        coroutine: HeapId::new(0),
+    };
+    let ended = Task {
+        state: TaskState::Absent,
+        awaiter: Awaiter::Nobody,
+        coroutine: HeapId::new(0),
+    };
+    rows::tables::store_task(tasks, TaskId::MAIN, main);
+    rows::tables::store_task(tasks, TaskId::new(1), ended);
+}
+
+fn print_objects() {
+    let mut objects = [0u64; 2056];
+    store_objects(&mut objects);
+    io::write_all(STDOUT_FILENO, b"header");
+    print_row(asyncio::words::header_words(rows::tables::load_header(&objects)));
+    print_object(&objects, HeapId::new(0));
+    print_object(&objects, HeapId::new(1));
+    print_object(&objects, HeapId::new(2));
+    io::write_all(STDOUT_FILENO, b"open places of object 2:");
+    print_word(rows::parts::open_at(&objects, HeapId::new(2)) as u64);
+    io::write_all(STDOUT_FILENO, b"\n");
+}
+
+fn print_places() {
+    let mut places = [0u64; 2048];
+    store_places(&mut places);
+    print_place(&places, 0);
+    print_place(&places, 1);
+    print_place(&places, 2);
+}
+
+fn print_tasks() {
+    let mut tasks = [0u64; 4104];
+    store_tasks(&mut tasks);
+    print_task(&tasks, TaskId::MAIN);
+    print_task(&tasks, TaskId::new(1));
+}
+
+// Tasks 3, 1, 4 and 2 are made ready in this order; 4 is removed; the front is taken.
+fn print_queues() {
+    let q = ReadyQueue::new()
+        .push_back(TaskId::new(3))
+        .push_back(TaskId::new(1))
+        .push_back(TaskId::new(4))
+        .push_back(TaskId::new(2));
+    print_queue(q);
+    let without = q.remove(TaskId::new(4));
+    print_queue(without);
+    print_queue(without.pop_front());
+}
+
+fn main() {
+    print_objects();
+    print_places();
+    print_tasks();
+    print_queues();
+}
