@@ -3,3 +3,5 @@ pub mod RowLaws
 pub mod Tables
 pub mod TableLaws
 pub mod PartLaws
+pub mod Canonical
+pub mod CanonicalLaws
