@@ -76,54 +76,61 @@ fn print_queue(q: ReadyQueue) {
     io::write_all(STDOUT_FILENO, b"\n");
 }
 
-// Coroutine 0 of function 7, completed; external 1 of call 0, pending; gather 2 of three places, awaited by main, its place 1 open.
+fn store_counts(objects: &mut [u64])
+    requires { ⌜ length (now objects) ≡ objects-length ⌝ }
+{
+    let h = Header {
+        made: 3,
+        used: 3,
+        calls: 1,
+        next: 2,
+        moment: Moment::Waiting,
+    };
+    rows::tables::store_header(objects, h);
+}
+
+// A coroutine of function 7, completed.
+fn completed_coroutine() -> Object {
+    Object::Coroutine {
+        function: 7,
+        state: CoroutineState::Completed,
+    }
+}
+
+// The external of call 0, pending; its value goes to gather 2, which names it as object 1.
+fn pending_external() -> Object {
+    let awaiter = Awaiter::GatherSlot {
+        gather: HeapId::new(2),
+        source: HeapId::new(1),
+    };
+    let state = ExternalFutureState::Pending {
+        awaiter,
+        stored: OptionValue::None,
+    };
+    Object::ExternalFuture {
+        call: CallId::new(0),
+        state,
+    }
+}
+
+// A gather of three places from place 0, awaited by main, its place 1 open.
+fn awaited_gather() -> Object {
+    Object::GatherFuture {
+        first: 0,
+        count: 3,
+        state: GatherState::Awaited {
+            awaiter: Awaiter::Task(TaskId::MAIN),
+            open_places: 2,
+        },
+    }
+}
+
 fn store_objects(objects: &mut [u64])
     requires { ⌜ length (now objects) ≡ objects-length ⌝ }
 {
-    rows::tables::store_header(
-        objects,
-        Header {
-            made: 3,
-            used: 3,
-            calls: 1,
-            next: 2,
-            moment: Moment::Waiting,
-        },
-    );
-    rows::tables::store_object(
-        objects,
-        HeapId::new(0),
-        Object::Coroutine {
-            function: 7,
-            state: CoroutineState::Completed,
-        },
-    );
-    rows::tables::store_object(
-        objects,
-        HeapId::new(1),
-        Object::ExternalFuture {
-            call: CallId::new(0),
-            state: ExternalFutureState::Pending {
-                awaiter: Awaiter::GatherSlot {
-                    gather: HeapId::new(2),
-                    source: HeapId::new(1),
-                },
-                stored: OptionValue::None,
-            },
-        },
-    );
-    rows::tables::store_object(
-        objects,
-        HeapId::new(2),
-        Object::GatherFuture {
-            first: 0,
-            count: 3,
-            state: GatherState::Awaited {
-                awaiter: Awaiter::Task(TaskId::MAIN),
-                open_places: 2,
-            },
-        },
-    );
+    rows::tables::store_object(objects, HeapId::new(0), completed_coroutine());
+    rows::tables::store_object(objects, HeapId::new(1), pending_external());
+    rows::tables::store_object(objects, HeapId::new(2), awaited_gather());
 }
 
 // The places of gather 2: items 0, 1, 0; what item 0 delivered stands in both of its places.
@@ -161,17 +168,30 @@ fn store_tasks(tasks: &mut [u64])
     rows::tables::store_task(tasks, TaskId::new(1), ended);
 }
 
+fn print_counts(objects: &[u64])
+    requires { ⌜ length (now objects) ≡ objects-length ⌝ }
+{
+    io::write_all(STDOUT_FILENO, b"header");
+    print_row(asyncio::words::header_words(rows::tables::load_header(objects)));
+}
+
+fn print_open_places(objects: &[u64], o: HeapId)
+    requires { ⌜ (length (now objects) ≡ objects-length) × (o .0 < object-limit) ⌝ }
+{
+    io::write_all(STDOUT_FILENO, b"open places");
+    print_word(rows::parts::open_at(objects, o) as u64);
+    io::write_all(STDOUT_FILENO, b"\n");
+}
+
 fn print_objects() {
     let mut objects = [0u64; 2056];
+    store_counts(&mut objects);
     store_objects(&mut objects);
-    io::write_all(STDOUT_FILENO, b"header");
-    print_row(asyncio::words::header_words(rows::tables::load_header(&objects)));
+    print_counts(&objects);
     print_object(&objects, HeapId::new(0));
     print_object(&objects, HeapId::new(1));
     print_object(&objects, HeapId::new(2));
-    io::write_all(STDOUT_FILENO, b"open places of object 2:");
-    print_word(rows::parts::open_at(&objects, HeapId::new(2)) as u64);
-    io::write_all(STDOUT_FILENO, b"\n");
+    print_open_places(&objects, HeapId::new(2));
 }
 
 fn print_places() {

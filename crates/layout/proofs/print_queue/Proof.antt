@@ -2,10 +2,6 @@ use Prim.Native.Nat.{_≤_, _-_}
 use borrow.Author.Needs.{needs}
 use Rattle.layout.proofs.print_queue.Statement.{statement}
 use Rattle.layout.proofs.print_queue.Tie as tie
-use Rattle.layout.proofs.print_queue.Reads as reads
-use Rattle.layout.proofs.print_queue.Lts as lts
-use Rattle.io.proofs.write_all.Reads as write-all-reads
-use Rattle.layout.proofs.print_word.Reads as print-word-reads
 
 abbrev Inv-loop : tie.InvT-loop
 Inv-loop q n i₀ t6 i = i ≤ n
@@ -13,59 +9,45 @@ Inv-loop q n i₀ t6 i = i ≤ n
 abbrev μ-loop : tie.MeasureT-loop
 μ-loop q n i₀ t6 i = n - i
 
--- src/main.rt:68:9
 returns : tie.Need-returns Inv-loop μ-loop
 returns c = search needs
 
--- src/main.rt:70:34
 slice-aggregate-write-all : tie.Need-slice-aggregate-write-all Inv-loop μ-loop
 slice-aggregate-write-all c = search needs
 
--- src/main.rt:70:5
 write-all-requires : tie.Need-write-all-requires Inv-loop μ-loop
 write-all-requires c κs = search needs
 
--- src/main.rt:72:5
 loop-holds : tie.Need-loop-holds Inv-loop μ-loop
 loop-holds c = search needs
 
--- src/main.rt:73:20
 mul-print-word : tie.Need-mul-print-word Inv-loop μ-loop
 mul-print-word c = search needs
 
--- src/main.rt:73:20
 element-copy-out-print-word : tie.Need-element-copy-out-print-word Inv-loop μ-loop
 element-copy-out-print-word c = search needs
 
--- src/main.rt:73:20
 cast-print-word : tie.Need-cast-print-word Inv-loop μ-loop
 cast-print-word c = search needs
 
--- src/main.rt:73:9
 print-word-requires : tie.Need-print-word-requires Inv-loop μ-loop
 print-word-requires c κs = search needs
 
--- src/main.rt:74:9
 add-i : tie.Need-add-i Inv-loop μ-loop
 add-i c = search needs
 
--- src/main.rt:72:5
 loop-less : tie.Need-loop-less Inv-loop μ-loop
 loop-less c = search needs
 
--- src/main.rt:72:5
 loop-again : tie.Need-loop-again Inv-loop μ-loop
 loop-again c = search needs
 
--- src/main.rt:76:34
 slice-aggregate-write-all-2 : tie.Need-slice-aggregate-write-all-2 Inv-loop μ-loop
 slice-aggregate-write-all-2 c = search needs
 
--- src/main.rt:76:5
 write-all-requires-2 : tie.Need-write-all-requires-2 Inv-loop μ-loop
 write-all-requires-2 c κs = search needs
 
--- src/main.rt:65:1
 returns-2 : tie.Need-returns-2 Inv-loop μ-loop
 returns-2 c = search needs
 

@@ -4,41 +4,28 @@ use Rattle.asyncio.specs.declared.TaskId.{TaskId}
 use borrow.Author.Needs.{needs}
 use Rattle.layout.proofs.store_tasks.Statement.{statement}
 use Rattle.layout.proofs.store_tasks.Tie as tie
-use Rattle.layout.proofs.store_tasks.Reads as reads
-use Rattle.layout.proofs.store_tasks.Lts as lts
-use Rattle.asyncio.proofs.HeapId.new.Reads as HeapId-new-reads
-use Rattle.asyncio.proofs.TaskId.new.Reads as TaskId-new-reads
-use Rattle.rows.proofs.tables.store_task.Reads as store-task-reads
 
--- src/main.rt:151:35
 new-requires : tie.Need-new-requires
 new-requires c κs = search needs
 
--- src/main.rt:153:20
 new-requires-2 : tie.Need-new-requires-2
 new-requires-2 c κs = search needs
 
--- src/main.rt:158:20
 new-requires-3 : tie.Need-new-requires-3
 new-requires-3 c κs = search needs
 
--- src/main.rt:160:5
 store-task-requires : tie.Need-store-task-requires
 store-task-requires c κs = search needs
 
--- src/main.rt:161:37
 new-requires-4 : tie.Need-new-requires-4
 new-requires-4 c κs = search needs
 
--- src/main.rt:161:5
 store-task-requires-2 : tie.Need-store-task-requires-2
 store-task-requires-2 c κs = (search needs, omega (arith, ap (λ (t : TaskId). t .0) (c .new4 .ensures)))
 
--- src/main.rt:147:1
 same-length : tie.Need-same-length
 same-length c = search needs
 
--- src/main.rt:147:1
 returns : tie.Need-returns
 returns c = search needs
 
