@@ -1,0 +1,15 @@
+pub mod Tests
+pub mod CountLaws
+pub mod Store
+pub mod Scheduler
+pub mod Delivery
+pub mod Commit
+pub mod Events
+pub mod Sound
+pub mod Machine
+pub mod Answers
+pub mod Lent
+pub mod Computes
+pub mod Cases
+pub mod SoundCases
+pub mod History

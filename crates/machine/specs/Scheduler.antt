@@ -1,0 +1,226 @@
+-- The scheduler (scheduler.rs): live tasks, the ready queue, spawning and removal.
+use Prim.Native.Nat.{ℕ, zero, suc, _+_, _-_, _*_, _/_, _%_, _^_}
+use mathlib.Core.Bool.{Bool, true, false, not, _&&_}
+use mathlib.Core.List.{List, [], _∷_}
+use mathlib.Core.Option.{Option, none, some}
+use lib.Dec.{eqb, ltb, leb}
+use lib.ListN.{getD, set, replicate}
+use Rattle.asyncio.specs.declared.HeapId.{HeapId}
+use Rattle.asyncio.specs.declared.CallId.{CallId}
+use Rattle.asyncio.specs.declared.TaskState.{TaskState}
+use Rattle.asyncio.specs.declared.Task.{Task}
+use Rattle.asyncio.specs.declared.Awaiter.{Awaiter}
+use Rattle.asyncio.specs.declared.OptionValue.{OptionValue}
+use Rattle.asyncio.specs.declared.ExternalFutureState.{ExternalFutureState}
+use Rattle.asyncio.specs.declared.GatherState.{GatherState}
+use Rattle.asyncio.specs.declared.Object.{Object}
+use Rattle.asyncio.specs.declared.Place.{Place}
+use Rattle.asyncio.specs.declared.Moment.{Moment}
+use Rattle.asyncio.specs.declared.Header.{Header}
+use Rattle.asyncio.specs.States.{pick}
+use Rattle.asyncio.specs.Numbers.{heap-id}
+use Rattle.asyncio.specs.States.{is-live}
+use Rattle.asyncio.specs.Limits.{task-limit, object-limit}
+use Rattle.machine.specs.Tests.{count}
+use Rattle.rows.specs.Tables.{task-at}
+use Rattle.queue.specs.Queue.{empty-queue, push-back, remove}
+use Rattle.machine.specs.Store.{Store, task, put-task, object, place, header, put-queue, absent, set-state, set-next, set-moment, note, Happening, spawned, removed}
+
+-- ---- views of a row
+
+-- what a blocked task waits for
+unfoldable pub blocked-on : TaskState → Option ℕ
+blocked-on TaskState.Absent = none
+blocked-on TaskState.Unstarted = none
+blocked-on TaskState.Running = none
+blocked-on (TaskState.Woken v) = none
+blocked-on (TaskState.Raised e) = none
+blocked-on (TaskState.Blocked o) = some (o .0)
+
+-- is there one?
+unfoldable pub is-some : {A : Type 0} → Option A → Bool
+is-some none = false
+is-some (some a) = true
+
+-- a pending external: its call, its awaiter and its stored result
+pub record PendingExternal : Type 0 where
+  pub call : CallId
+  pub awaiter : Awaiter
+  pub stored : OptionValue
+
+-- the object as a pending external, if it is one
+unfoldable pub as-pending : Object → Option PendingExternal
+as-pending Object.Unmade = none
+as-pending (Object.Coroutine f x) = none
+as-pending (Object.ExternalFuture c (ExternalFutureState.Pending a r)) = some (record { call = c; awaiter = a; stored = r })
+as-pending (Object.ExternalFuture c (ExternalFutureState.Resolved v)) = none
+as-pending (Object.ExternalFuture c (ExternalFutureState.Failed e)) = none
+as-pending (Object.GatherFuture f n x) = none
+
+-- an awaited gather: its places, its awaiter and its open places
+pub record AwaitedGather : Type 0 where
+  pub first : ℕ
+  pub count : ℕ
+  pub awaiter : Awaiter
+  pub open-places : ℕ
+
+-- the object as an awaited gather, if it is one
+unfoldable pub as-awaited : Object → Option AwaitedGather
+as-awaited Object.Unmade = none
+as-awaited (Object.Coroutine f x) = none
+as-awaited (Object.ExternalFuture c x) = none
+as-awaited (Object.GatherFuture f n GatherState.Pending) = none
+as-awaited (Object.GatherFuture f n (GatherState.Awaited a m)) = some (record { first = f; count = n; awaiter = a; open-places = m })
+as-awaited (Object.GatherFuture f n GatherState.Completed) = none
+as-awaited (Object.GatherFuture f n (GatherState.Failed e)) = none
+
+-- bit i of an open word: place i is open
+abbrev pub bit : ℕ → ℕ → Bool
+bit m i = not (eqb (m / 2 ^ i % 2) 0)
+
+-- ---- the ready queue
+
+-- a task at the queue's back
+unfoldable pub push-ready : Store → ℕ → Store
+push-ready s t = put-queue s (push-back (s .queue) t)
+
+-- a task out of the queue, the others in their order
+unfoldable pub remove-from-ready-queue : Store → ℕ → Store
+remove-from-ready-queue s t = put-queue s (remove (s .queue) t)
+
+-- a blocked task is given a value or an error and goes to the queue's back
+unfoldable pub make-ready : Store → ℕ → TaskState → Store
+make-ready s t x = push-ready (set-state s t x) t
+
+-- ---- pending calls
+
+-- the first of the k numbers from i on that passes a test
+unfoldable pub first-from : (ℕ → Bool) → ℕ → ℕ → Option ℕ
+first-from p i zero = none
+first-from p i (suc k) = pick (p i) (some i) (first-from p (i + 1) k)
+
+-- a pending external of that call
+unfoldable pub is-call : ℕ → Option PendingExternal → Bool
+is-call call none = false
+is-call call (some p) = eqb (p .call .0) call
+
+-- the pending external of a call
+unfoldable pub pending-external : Store → ℕ → Option ℕ
+pending-external s call = first-from (λ o. is-call call (as-pending (object s o))) 0 (header s .made)
+
+-- a call into an ascending list
+unfoldable pub insert : ℕ → List ℕ → List ℕ
+insert c [] = c ∷ []
+insert c (d ∷ ds) = pick (leb c d) (c ∷ d ∷ ds) (d ∷ insert c ds)
+
+-- the calls of the pending externals below n
+unfoldable pub calls-below : Store → ℕ → List ℕ
+calls-below s zero = []
+calls-below s (suc o) = elim (as-pending (object s o)) [ none ↦ calls-below s o | some p ↦ insert (p .call .0) (calls-below s o) ]
+
+-- the calls of the pending externals, ascending
+unfoldable pub pending-call-ids : Store → List ℕ
+pending-call-ids s = calls-below s (header s .made)
+
+-- ---- tasks
+
+-- a task lives only below the next number: rows from there on are not in use
+unfoldable pub live : Store → ℕ → Bool
+live s t = pick (ltb t (header s .next)) (is-live (task s t .state)) false
+
+-- how many rows of tasks live: each failed start makes it one less
+unfoldable pub live-in : List ℕ → ℕ
+live-in ts = count (λ t. is-live (task-at ts t .state)) task-limit
+
+-- of a store
+unfoldable pub live-count : Store → ℕ
+live-count s = live-in (s .tasks)
+
+-- does the task of that row live and drive coroutine c?
+unfoldable pub drives : ℕ → Task → Bool
+drives c r = pick (is-live (r .state)) (eqb (r .coroutine .0) c) false
+
+-- the live spawned task that drives object c, if any (coroutine_to_task)
+unfoldable pub driver : Store → ℕ → Option ℕ
+driver s c = first-from (λ t. drives c (task s t)) 1 (header s .next - 1)
+
+-- task t is spawned, ready and not yet run; its result goes to the places of gather g that name coroutine c
+unfoldable pub spawn-as : Store → ℕ → ℕ → ℕ → Store
+spawn-as s t c g =
+    note (push-ready (set-next (put-task s t (record { state = TaskState.Unstarted; awaiter = Awaiter.GatherSlot (heap-id g) (heap-id c); coroutine = heap-id c })) (t + 1)) t)
+    (spawned t c)
+
+-- Nothing if the coroutine already has a live task. (Nor when no number is left: a sound store has one for every place.)
+unfoldable pub spawn : Store → ℕ → ℕ → Option Store
+spawn s c g =
+    elim (driver s c) [ some t ↦ none | none ↦ pick (ltb (header s .next) task-limit) (some (spawn-as s (header s .next) c g)) none ]
+
+-- the task is live no more, and not ready
+unfoldable pub remove-task : Store → ℕ → Store
+remove-task s t = remove-from-ready-queue (put-task s t absent) t
+
+-- ---- cancel: the task, the live tasks of the open items of what it is blocked on, and so on
+
+-- a task is removed by cancel or cleanup
+unfoldable pub cancel-one : Store → ℕ → Store
+cancel-one s t = note (remove-task s t) (removed t)
+
+-- A walk through awaited gathers: those reached are marked, so that each is walked once; those on the stack are still to be walked.
+pub record Walk : Type 0 where
+  pub store : Store
+  pub marks : List Bool
+  pub stack : List ℕ
+
+-- an awaited gather that is not marked is marked and stacked
+unfoldable pub reach-if : Walk → ℕ → Bool → Walk
+reach-if w g true = record { store = w .store; marks = set (w .marks) g true; stack = g ∷ w .stack }
+reach-if w g false = w
+
+-- a gather is reached: walked once, if it is awaited
+unfoldable pub reach : Walk → ℕ → Walk
+reach w g = reach-if w g (is-some (as-awaited (object (w .store) g)) && not (getD (w .marks) g false))
+
+-- a task goes, and what it is blocked on is reached
+unfoldable pub remove-blocked : Walk → ℕ → Option ℕ → Walk
+remove-blocked w t none = record { store = cancel-one (w .store) t; marks = w .marks; stack = w .stack }
+remove-blocked w t (some b) = reach (record { store = cancel-one (w .store) t; marks = w .marks; stack = w .stack }) b
+
+-- an item: its live task goes; a nested gather is reached
+unfoldable pub visit : Walk → ℕ → Walk
+visit w o = elim (driver (w .store) o) [ some t ↦ remove-blocked w t (blocked-on (task (w .store) t .state)) | none ↦ reach w o ]
+
+-- the items of the open places from i on, k of them
+unfoldable pub visit-open : Walk → AwaitedGather → ℕ → ℕ → Walk
+visit-open w a i zero = w
+visit-open w a i (suc k) =
+    visit-open (pick (bit (a .open-places) i) (visit w (place (w .store) (a .first + i) .item .0)) w) a (i + 1) k
+
+-- the open items of a gather are visited
+unfoldable pub walk-gather : Walk → Option AwaitedGather → Walk
+walk-gather w none = w
+walk-gather w (some a) = visit-open w a 0 (a .count)
+
+-- one turn: the gather on top of the stack is walked, then `go` on
+unfoldable pub walk-next : (Walk → Store) → Walk → List ℕ → Store
+walk-next go w [] = w .store
+walk-next go w (g ∷ gs) =
+    go (walk-gather (record { store = w .store; marks = w .marks; stack = gs }) (as-awaited (object (w .store) g)))
+
+-- Each turn takes one gather off the stack, and each comes there once: fuel is the gathers not marked and those on the stack.
+unfoldable pub walk : ℕ → Walk → Store
+walk zero w = w .store
+walk (suc k) w = walk-next (λ x. walk k x) w (w .stack)
+
+-- task t goes, and the walk begins at what it is blocked on
+unfoldable pub cancel-task : Store → ℕ → Store
+cancel-task s t =
+    walk object-limit (remove-blocked (record { store = s; marks = replicate object-limit false; stack = [] }) t (blocked-on (task s t .state)))
+
+-- the live tasks among the k from t on are removed
+unfoldable pub remove-from : Store → ℕ → ℕ → Store
+remove-from s t zero = s
+remove-from s t (suc k) = remove-from (pick (is-live (task s t .state)) (note (put-task s t absent) (removed t)) s) (t + 1) k
+
+-- the session ends: no task is left, and none is ready
+unfoldable pub cleanup : Store → Store
+cleanup s = set-moment (put-queue (remove-from s 0 (header s .next)) empty-queue) Moment.Ended
