@@ -1,4 +1,5 @@
 pub mod Tests
+pub mod TestLaws
 pub mod CountLaws
 pub mod Store
 pub mod Scheduler
@@ -6,10 +7,12 @@ pub mod Delivery
 pub mod Commit
 pub mod Events
 pub mod Sound
+pub mod SoundLaws
 pub mod Machine
 pub mod Answers
 pub mod Lent
 pub mod Computes
 pub mod Cases
 pub mod SoundCases
+pub mod Gather
 pub mod History

@@ -1,6 +1,8 @@
--- Tests over numbers: conjunction, implication, what holds of every number below n, and how many pass.
+-- Tests over numbers: conjunction, implication, what holds of every number below n, how many pass, and what stands in a list.
 use Prim.Native.Nat.{ℕ, zero, suc, _+_}
-use mathlib.Core.Bool.{Bool, true, false}
+use mathlib.Core.Bool.{Bool, true, false, _||_}
+use mathlib.Core.List.{List, [], _∷_}
+use lib.Dec.{eqb}
 use Rattle.asyncio.specs.States.{pick}
 
 infixr 35 _and_
@@ -32,3 +34,8 @@ count-from p i (suc k) = pick (p i) (suc (count-from p (suc i) k)) (count-from p
 -- how many of the numbers below n pass
 abbrev pub count : (ℕ → Bool) → ℕ → ℕ
 count p n = count-from p 0 n
+
+-- x stands in the list
+unfoldable pub is-in : ℕ → List ℕ → Bool
+is-in x [] = false
+is-in x (y ∷ ys) = eqb y x || is-in x ys
