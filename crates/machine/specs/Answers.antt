@@ -19,6 +19,7 @@ pub record Numbers : Type 0 where
   pub word : ℕ
   pub values : List ℕ
 
+-- an answer of an accepted event: its word and its values
 abbrev pub says : ℕ → List ℕ → Numbers
 says w vs = record { refusal = 0; word = w; values = vs }
 
@@ -47,6 +48,7 @@ unfoldable pub place-numbers : Option Value → List ℕ
 place-numbers none = 0 ∷ []
 place-numbers (some v) = 1 ∷ value-numbers v
 
+-- places one after the other
 unfoldable pub places-numbers : List (Option Value) → List ℕ
 places-numbers [] = []
 places-numbers (x ∷ xs) = place-numbers x ++ places-numbers xs
@@ -69,6 +71,7 @@ shown-numbers (Shown.a-gather-completed ps) = 2 ∷ 2 ∷ length ps ∷ places-n
 shown-numbers (Shown.a-gather-failed e) = 2 ∷ 3 ∷ error-numbers e
 shown-numbers Shown.nothing = []
 
+-- 1 yes, 0 no
 unfoldable pub yes-no : Bool → ℕ
 yes-no true = 1
 yes-no false = 0

@@ -32,10 +32,12 @@ pub data Poll : Type 0 where
   raised : Error → Poll
   pending : Poll
 
+-- The store after a poll, and what it gave.
 pub record Polled : Type 0 where
   pub store : Store
   pub poll : Poll
 
+-- a store and what was polled
 abbrev pub gives : Store → Poll → Polled
 gives s p = record { store = s; poll = p }
 
@@ -191,6 +193,7 @@ pub record Committed : Type 0 where
 -- A turn opens a nested gather, settles one, or ends in an error; `loop` goes on with a store, the frames, and the counts of
 -- steps, of gathers opened and of gathers settled.
 module _ (loop : Store → Frame → List Frame → ℕ → ℕ → ℕ → Committed) where
+  -- what one turn does with where the walk through the items stopped
   unfoldable pub turn : Frame → List Frame → ℕ → ℕ → ℕ → Stop → Committed
   turn f fs n j k (at-nested s i o) =
       loop (open-gather-commit s o (Awaiter.GatherSlot (heap-id (f .gather)) (heap-id o)))

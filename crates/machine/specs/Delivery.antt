@@ -46,6 +46,7 @@ pub record Filled : Type 0 where
   pub places : List ℕ
   pub open-places : ℕ
 
+-- the places and the open word
 abbrev pub filled : List ℕ → ℕ → Filled
 filled ps m = record { places = ps; open-places = m }
 

@@ -43,6 +43,7 @@ pub data Control : Type 0 where
   runs : ℕ → How → Control
   waits : List ℕ → Control
 
+-- The store after a switch, and who has control.
 pub record Switched : Type 0 where
   pub store : Store
   pub control : Control
@@ -112,6 +113,7 @@ activate s t = activate-within (live-count s) s t
 
 -- ---- await, by the running task t
 
+-- The store after an await, who has control, and the commit steps.
 pub record Awaited : Type 0 where
   pub store : Store
   pub control : Control
@@ -174,6 +176,7 @@ handle-task-completion s t v =
 
 -- ---- results: a call, a kind, a tag and a number
 
+-- One result of a batch, as it was sent.
 pub record Result : Type 0 where
   pub call : ℕ
   pub kind : ℕ

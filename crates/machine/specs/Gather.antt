@@ -58,9 +58,11 @@ module _ {A X : Type 0} where
   unfoldable pub gather : List ℕ → List (Arrival A X) → Gathered A X
   gather aws xs = elim (first-raised aws [] xs) [ none ↦ in-order xs aws | some e ↦ propagated e ]
 
+-- awaitable a returns n
 abbrev arrives : ℕ → ℕ → Arrival ℕ ℕ
 arrives a n = record { awaitable = a; outcome = returned n }
 
+-- awaitable a raises e
 abbrev fails : ℕ → ℕ → Arrival ℕ ℕ
 fails a e = record { awaitable = a; outcome = raised e }
 

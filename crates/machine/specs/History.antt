@@ -14,11 +14,13 @@ use Rattle.machine.specs.Delivery.{value-or}
 use Rattle.machine.specs.Events.{How, start, value, raises, inline, Control, runs, waits, Result}
 use Rattle.machine.specs.Machine.{Event, Answer, Step, step}
 
+-- An event of a session, its answer, and what happened, the last first.
 pub record Entry : Type 0 where
   pub event : Event
   pub answer : Answer
   pub happened : List Happening
 
+-- the entry of a step
 unfoldable pub entry : Event → Step → Entry
 entry e x = record { event = e; answer = x .answer; happened = x .store .log }
 
@@ -27,11 +29,13 @@ unfoldable pub history-from : Store → List Event → List Entry → List Entry
 history-from s [] h = h
 history-from s (e ∷ es) h = history-from (step s e .store) es (entry e (step s e) ∷ h)
 
+-- the entries of a session from the beginning
 unfoldable pub history : List Event → List Entry
 history es = history-from fresh es []
 
 -- Live: main at first, a spawned task from its spawning until its exit or removal.
 
+-- is task t live after these happenings, b telling whether it was before?
 unfoldable pub lives-by : Bool → List Happening → ℕ → Bool
 lives-by b [] t = b
 lives-by b (spawned u c ∷ hs) t = eqb u t || lives-by b hs t
@@ -40,12 +44,14 @@ lives-by b (reached u ∷ hs) t = lives-by b hs t
 lives-by b (exited u ∷ hs) t = not (eqb u t) && lives-by b hs t
 lives-by b (removed u ∷ hs) t = not (eqb u t) && lives-by b hs t
 
+-- is task t live after a history?
 unfoldable pub lives : List Entry → ℕ → Bool
 lives [] t = eqb t 0
 lives (x ∷ h) t = lives-by (lives h t) (x .happened) t
 
 -- Blocked: left waiting by an await until a value or error reaches it.
 
+-- is task t blocked after these happenings?
 unfoldable pub blocked-by : Bool → List Happening → ℕ → Bool
 blocked-by b [] t = b
 blocked-by b (spawned u c ∷ hs) t = blocked-by b hs t
@@ -54,6 +60,7 @@ blocked-by b (reached u ∷ hs) t = not (eqb u t) && blocked-by b hs t
 blocked-by b (exited u ∷ hs) t = blocked-by b hs t
 blocked-by b (removed u ∷ hs) t = blocked-by b hs t
 
+-- is task t blocked after a history?
 unfoldable pub stays-blocked : List Entry → ℕ → Bool
 stays-blocked [] t = false
 stays-blocked (x ∷ h) t = blocked-by (stays-blocked h t) (x .happened) t
@@ -68,9 +75,11 @@ pub record Says : Type 0 where
   pub items : List ℕ
   pub cancels : Bool
 
+-- an event that says none of these
 unfoldable pub nothing-said : Says
 nothing-said = record { results = []; pends = none; completes = none; items = []; cancels = false }
 
+-- what each event says
 unfoldable pub says : Event → Says
 says (Event.coroutine f) = nothing-said
 says Event.call = nothing-said
@@ -92,9 +101,11 @@ pub record Tells : Type 0 where
   pub makes : Option ℕ
   pub control : Option Control
 
+-- accepted, and no more
 unfoldable pub done-only : Tells
 done-only = record { accepts = true; makes = none; control = none }
 
+-- what each answer says
 unfoldable pub tells : Answer → Tells
 tells (Answer.made o) = record { accepts = true; makes = some o; control = none }
 tells (Answer.called n) = done-only
@@ -112,6 +123,7 @@ tells (Answer.refused n) = record { accepts = false; makes = none; control = non
 unfoldable pub said : Entry → Says
 said x = elim (tells (x .answer) .accepts) [ true ↦ says (x .event) | false ↦ nothing-said ]
 
+-- is it c?
 unfoldable pub is-at : Option ℕ → ℕ → Bool
 is-at none c = false
 is-at (some b) c = eqb b c
@@ -135,14 +147,17 @@ pub record Making : Type 0 where
   pub event : Event
   pub since : List Entry
 
+-- one entry later
 unfoldable pub later : Entry → Option Making → Option Making
 later x none = none
 later x (some m) = some (record { event = m .event; since = x ∷ m .since })
 
+-- the making of object o
 unfoldable pub making : List Entry → ℕ → Option Making
 making [] o = none
 making (x ∷ h) o = elim (is-at (tells (x .answer) .makes) o) [ true ↦ some (record { event = x .event; since = [] }) | false ↦ later x (making h o) ]
 
+-- the first result for call c that is not of kind 2
 unfoldable pub first-reply : List Entry → ℕ → Option Result
 first-reply [] c = none
 first-reply (x ∷ h) c = elim (first-reply h c) [ some r ↦ some r | none ↦ reply-in (said x .results) c ]
@@ -153,10 +168,12 @@ runner-by none r = r
 runner-by (some (runs t h)) r = some t
 runner-by (some (waits cs)) r = none
 
+-- the running task
 unfoldable pub running : List Entry → Option ℕ
 running [] = some 0
 running (x ∷ h) = runner-by (tells (x .answer) .control) (running h)
 
+-- the coroutine of task t after an answer
 unfoldable pub started-by : Option Control → ℕ → Option ℕ → Option ℕ
 started-by none t r = r
 started-by (some (runs u (start c f))) t r = elim (eqb u t) [ true ↦ some c | false ↦ r ]
@@ -170,6 +187,7 @@ unfoldable pub coroutine-of : List Entry → ℕ → Option ℕ
 coroutine-of [] t = none
 coroutine-of (x ∷ h) t = started-by (tells (x .answer) .control) t (coroutine-of h t)
 
+-- the coroutine of the running task
 unfoldable pub running-coroutine : List Entry → Option ℕ
 running-coroutine h = elim (running h) [ none ↦ none | some t ↦ coroutine-of h t ]
 
@@ -182,6 +200,7 @@ completed-value (x ∷ h) c =
       | false ↦ completed-value h c
     ]
 
+-- a return's value
 unfoldable pub returned : Option Result → Option Value
 returned none = none
 returned (some r) = elim (eqb (r .kind) 0) [ true ↦ some (to-value (r .tag) (r .number)) | false ↦ none ]
@@ -202,6 +221,7 @@ delivers h o (Event.cancel t) since = none
 delivers h o (Event.show p) since = none
 delivers h o Event.eager since = none
 
+-- what object o delivers, by a history
 unfoldable pub delivered : List Entry → ℕ → Option Value
 delivered h o = elim (making h o) [ none ↦ none | some m ↦ delivers h o (m .event) (m .since) ]
 

@@ -9,6 +9,7 @@ use Rattle.machine.specs.Store.{Store, fresh}
 use Rattle.machine.specs.Events.{Control, runs, waits}
 use Rattle.machine.specs.Machine.{Event, Answer, Step, step}
 
+-- The store and the call list after an event, and the answer.
 pub record Lent : Type 0 where
   pub store : Store
   pub list : List ℕ

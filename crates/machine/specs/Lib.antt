@@ -13,6 +13,7 @@ pub mod Answers
 pub mod Lent
 pub mod Computes
 pub mod Cases
+pub mod CasesHold
 pub mod SoundCases
 pub mod Gather
 pub mod History

@@ -25,19 +25,33 @@ use Rattle.machine.specs.Scheduler.{live, is-some, bit, pending-external
 use Rattle.machine.specs.Sound.{sound, is-ended, value-known, option-known}
 use Rattle.machine.specs.Events.{Control, runs, waits, Switched, Awaited, Result, exec-get-awaitable, handle-task-completion, handle-task-failure, activate, resume-next, apply-future-results, make-coroutine, make-pending, make-settled, make-gather}
 
+-- The events of document 01, kinds 1 to 11 of its records, and the reads, kinds 12 and 13.
 pub data Event : Type 0 where
+  -- a coroutine of a function is made
   coroutine : ℕ → Event
+  -- a call number is handed out
   call : Event
+  -- an external of a call is made pending, with a stored result or none
   pending : ℕ → OptionValue → Event
+  -- an external that has its value already
   settled : Value → Event
+  -- a gather of objects
   gather : List ℕ → Event
+  -- the running task awaits an object
   await : ℕ → Event
+  -- it completes with a value
   complete : Value → Event
+  -- it fails with the error script n
   fail : ℕ → Event
+  -- the host answers calls
   results : List Result → Event
+  -- the host hands control back
   resume : Event
+  -- the operator cancels a task
   cancel : ℕ → Event
+  -- a read of an object
   show : ℕ → Event
+  -- a read: may the host answer a call at once?
   eager : Event
 
 -- What a read of an object shows; a place is open, or has a value.
@@ -52,6 +66,7 @@ pub data Shown : Type 0 where
   a-gather-failed : Error → Shown
   nothing : Shown
 
+-- The answers: document 01's words and their fields.
 pub data Answer : Type 0 where
   made : ℕ → Answer
   called : ℕ → Answer
@@ -65,6 +80,7 @@ pub data Answer : Type 0 where
   is-eager : Bool → Answer
   refused : ℕ → Answer
 
+-- The store after an event, and the answer.
 pub record Step : Type 0 where
   pub store : Store
   pub answer : Answer

@@ -43,9 +43,11 @@ woken =
 unfoldable pub with-count : Store → ℕ → Store
 with-count s n = put-queue s (record { ids = s .queue .ids; len = n })
 
+-- a task
 abbrev a-task : TaskState → Awaiter → ℕ → Task
 a-task x a c = record { state = x; awaiter = a; coroutine = heap-id c }
 
+-- the slot of gather g for source o
 abbrev slot-of : ℕ → ℕ → Awaiter
 slot-of g o = Awaiter.GatherSlot (heap-id g) (heap-id o)
 
@@ -101,6 +103,7 @@ stores =
     set-state started 1 TaskState.Absent ∷
     []
 
+-- is each sound?
 unfoldable pub verdicts : List Bool
 verdicts =
     true ∷ true ∷ true ∷ true ∷ true ∷ true ∷ true ∷

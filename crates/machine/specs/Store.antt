@@ -132,6 +132,7 @@ fresh =
 
 -- ---- what a store says, with no word of how it stands in memory: soundness and the theorems speak of views
 
+-- A store as its tables: soundness and the theorems speak of views.
 pub record View : Type 0 where
   pub tasks : ℕ → Task
   pub objects : ℕ → Object
