@@ -7,6 +7,8 @@ pub mod Commit
 pub mod Events
 pub mod Sound
 pub mod Machine
+pub mod Views
+pub mod StoreLaws
 pub mod Answers
 pub mod Lent
 pub mod Computes
