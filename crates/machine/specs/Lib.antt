@@ -9,6 +9,7 @@ pub mod Sound
 pub mod Machine
 pub mod Views
 pub mod StoreLaws
+pub mod DeliveryLaws
 pub mod Answers
 pub mod Lent
 pub mod Computes
