@@ -8,8 +8,10 @@ pub mod Events
 pub mod Sound
 pub mod Machine
 pub mod Views
+pub mod Statements
 pub mod StoreLaws
 pub mod DeliveryLaws
+pub mod CommitLaws
 pub mod Answers
 pub mod Lent
 pub mod Computes

@@ -13,9 +13,16 @@ use Rattle.asyncio.specs.declared.Object.{Object}
 use Rattle.asyncio.specs.declared.Place.{Place}
 use Rattle.asyncio.specs.declared.Moment.{Moment}
 use Rattle.asyncio.specs.declared.Header.{Header}
-use Rattle.asyncio.specs.States.{pick}
-use Rattle.asyncio.specs.Limits.{task-limit, object-limit, place-limit, places-length}
+use Rattle.asyncio.specs.declared.CoroutineState.{CoroutineState}
+use Rattle.asyncio.specs.declared.ExternalFutureState.{ExternalFutureState}
+use Rattle.asyncio.specs.declared.GatherState.{GatherState}
+use Rattle.asyncio.specs.States.{pick, is-live}
+use Rattle.asyncio.specs.Kinds.{kind}
+use Rattle.asyncio.specs.Layout.{object-words, to-object, to-task, state-words, to-state}
+use Rattle.asyncio.specs.Limits.{task-limit, object-limit, place-limit, objects-length, places-length}
 use Rattle.asyncio.specs.Ranges.{TaskFits, ObjectFits, PlaceFits, HeaderFits}
+use Rattle.rows.specs.Tables.{task-codec, object-codec, task-start, object-start, task-at, task-put, object-at, object-put}
+use Rattle.rows.specs.RowLaws.{row-put-at}
 use Rattle.rows.specs.TableLaws.{length-task-put, length-object-put, length-place-put, length-header-put}
 use Rattle.rows.specs.TableLaws.{task-at-put, task-at-other, task-at-fits, object-at-put, object-at-other, object-at-fits, object-at-header-put}
 use Rattle.rows.specs.TableLaws.{place-at-put, place-at-other, place-at-fits, header-at-put, header-at-fits, header-at-object-put}
@@ -112,6 +119,44 @@ place-put-place s p r z l f = place-at-put (s .places) p r f (omega (arith, z .p
 pub header-put-header : (s : Store) (h : Header) → Sized s → HeaderFits h → header (put-header s h) ≡ h
 unfolding header put-header
 header-put-header s h z f = header-at-put (s .objects) h f (omega (arith, z .objects-sized))
+
+-- ---- of what was put the kind, and whether the task lives, is read back even where it does not fit
+
+kind-back : (r : Object) → kind (to-object (object-words r)) ≡ kind r
+unfolding kind
+kind-back Object.Unmade = refl
+kind-back (Object.Coroutine f CoroutineState.New) = refl
+kind-back (Object.Coroutine f CoroutineState.Running) = refl
+kind-back (Object.Coroutine f CoroutineState.Completed) = refl
+kind-back (Object.ExternalFuture c (ExternalFutureState.Pending a x)) = refl
+kind-back (Object.ExternalFuture c (ExternalFutureState.Resolved v)) = refl
+kind-back (Object.ExternalFuture c (ExternalFutureState.Failed e)) = refl
+kind-back (Object.GatherFuture i n GatherState.Pending) = refl
+kind-back (Object.GatherFuture i n (GatherState.Awaited a m)) = refl
+kind-back (Object.GatherFuture i n GatherState.Completed) = refl
+kind-back (Object.GatherFuture i n (GatherState.Failed e)) = refl
+
+pub kind-at-put : (w : List ℕ) (o : ℕ) (r : Object) → length w ≡ objects-length → o < object-limit → kind (object-at (object-put w o r) o) ≡ kind r
+unfolding object-at object-put
+kind-at-put w o r z l = ap (λ (x : List ℕ). kind (to-object x)) (row-put-at object-codec w (object-start o) r (omega arith)) ∙ kind-back r
+
+pub kind-put-object : (s : Store) (o : ℕ) (r : Object) → Sized s → o < object-limit → kind (object (put-object s o r) o) ≡ kind r
+unfolding object put-object
+kind-put-object s o r z l = kind-at-put (s .objects) o r (z .objects-sized) l
+
+live-back : (x : TaskState) → is-live (to-state (state-words x .0) (state-words x .1) (state-words x .2)) ≡ is-live x
+live-back TaskState.Absent = refl
+live-back TaskState.Unstarted = refl
+live-back TaskState.Running = refl
+live-back (TaskState.Woken v) = refl
+live-back (TaskState.Raised e) = refl
+live-back (TaskState.Blocked o) = refl
+
+pub live-put-task : (s : Store) (t : ℕ) (r : Task) → Sized s → t < task-limit → is-live (task (put-task s t r) t .state) ≡ is-live (r .state)
+unfolding task put-task task-at task-put
+live-put-task s t r z l =
+    ap (λ (x : List ℕ). is-live (to-task x .state)) (row-put-at task-codec (s .tasks) (task-start t) r (omega (arith, z .tasks-sized)))
+    ∙ live-back (r .state)
 
 -- ---- other rows stay
 
