@@ -12,6 +12,7 @@ pub mod Statements
 pub mod StoreLaws
 pub mod DeliveryLaws
 pub mod CommitLaws
+pub mod MachineLaws
 pub mod Answers
 pub mod Lent
 pub mod Computes

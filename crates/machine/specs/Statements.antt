@@ -9,7 +9,16 @@ use Rattle.asyncio.specs.Kinds.{kind, is-pending-gather}
 use Rattle.asyncio.specs.Limits.{object-limit}
 use Rattle.machine.specs.Store.{Store, task, object, header}
 use Rattle.machine.specs.Commit.{Poll, ready, raised, pending, Frame, Committed, commit-loop, pending-count}
+use Rattle.machine.specs.Events.{Control, runs, waits}
+use Rattle.machine.specs.Machine.{Answer}
 use Rattle.machine.specs.Views.{Sized}
+
+-- nothing but what has happened differs
+pub record SameWords (s u : Store) : Type 0 where
+  pub same-tasks : u .tasks ≡ s .tasks
+  pub same-objects : u .objects ≡ s .objects
+  pub same-places : u .places ≡ s .places
+  pub same-queue : u .queue ≡ s .queue
 
 -- the same tasks live, and the header is as it was
 pub record SameLive (s u : Store) : Type 0 where
@@ -50,3 +59,27 @@ NoneBelow c (d ∷ ds) = (c ≤ d) × NoneBelow c ds
 unfoldable pub Ascending : List ℕ → Type 0
 Ascending [] = Unit {0}
 Ascending (c ∷ cs) = NoneBelow c cs × Ascending cs
+
+-- a list of calls as a wait has it
+pub record CallList (cs : List ℕ) : Type 0 where
+  pub few : length cs ≤ object-limit
+  pub ascending : Ascending cs
+
+-- the calls of a wait
+unfoldable pub control-calls : Control → List ℕ
+control-calls (runs t h) = []
+control-calls (waits cs) = cs
+
+-- the calls that an answer writes
+unfoldable pub answer-calls : Answer → List ℕ
+answer-calls (Answer.made o) = []
+answer-calls (Answer.called n) = []
+answer-calls (Answer.control c) = control-calls c
+answer-calls (Answer.awaited c n) = control-calls c
+answer-calls Answer.done = []
+answer-calls Answer.stalled = []
+answer-calls (Answer.finished v) = []
+answer-calls (Answer.finished-error e) = []
+answer-calls (Answer.shows x) = []
+answer-calls (Answer.is-eager b) = []
+answer-calls (Answer.refused n) = []
