@@ -9,6 +9,12 @@ pub mod Events
 pub mod Sound
 pub mod SoundLaws
 pub mod Machine
+pub mod Views
+pub mod Statements
+pub mod StoreLaws
+pub mod DeliveryLaws
+pub mod CommitLaws
+pub mod MachineLaws
 pub mod Answers
 pub mod Lent
 pub mod Computes
