@@ -1,10 +1,10 @@
 -- The clauses of soundness as a record: the test holds just where every clause does.
 use mathlib.Core.Path.{_≡_}
 use mathlib.Core.Bool.{true}
 use Rattle.machine.specs.Tests.{_and_}
-use Rattle.machine.specs.TestLaws.{both, and-left, and-right}
+use Rattle.laws.specs.TestLaws.{both, and-left, and-right}
 use Rattle.machine.specs.Store.{Store, View, view}
 use Rattle.machine.specs.Sound.{words-in-range, numbers-in-range, spawned-in-range, items-lower, lists-completed, queue-ready, calls-distinct, one-driver, blocked-match, places-filled, slots-open, one-runs, sound-view, sound}
 
 -- the eleven clauses of the paragraph, of what a store says
 pub record SoundView (v : View) : Type 0 where

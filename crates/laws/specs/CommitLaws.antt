@@ -26,17 +26,17 @@ use Rattle.asyncio.specs.Parts.{count-of}
 use Rattle.asyncio.specs.RangeLaws.{pick-has}
 use Rattle.rows.specs.Tables.{object-at, object-put}
 use Rattle.rows.specs.TableLaws.{object-at-other}
-use Rattle.machine.specs.CountLaws.{count-same, count-drop}
+use Rattle.laws.specs.CountLaws.{count-same, count-drop}
 use Rattle.machine.specs.Store.{Store, object, put-object, place, put-place, header, put-task, set-next, put-queue, note, spawned}
 use Rattle.machine.specs.Scheduler.{AwaitedGather, as-awaited, spawn, spawn-as, driver, push-ready}
 use Rattle.machine.specs.Commit.{Poll, ready, raised, pending, Polled, gives, await-pending, await-external, Item, polled, nested, item-coroutine, item-gather, item-object, open-from, item}
 use Rattle.machine.specs.Commit.{open-place, fill-place, Stop, at-end, at-nested, at-error, put-polled, put-item, step-items, Frame, step-gather-commit}
 use Rattle.machine.specs.Commit.{with-state, set-gather, open-gather-commit, settle-as, settle-gather-commit, resume-in, resume-after-child, unwind}
 use Rattle.machine.specs.Commit.{Committed, turn, commit-loop, pending-in, pending-count, commit-gather-tree}
-use Rattle.machine.specs.Views.{Sized}
-use Rattle.machine.specs.Statements.{SamePending, StepFormula, StepsRight, Opened, commit-rest}
-use Rattle.machine.specs.StoreLaws.{sized-put-object, sized-put-place, sized-put-task, sized-set-next, sized-put-queue, sized-note, kind-at-put, kind-put-object, object-put-other, object-put-header, place-fits}
-use Rattle.machine.specs.DeliveryLaws.{awaited-object}
+use Rattle.laws.specs.Views.{Sized}
+use Rattle.laws.specs.Statements.{SamePending, StepFormula, StepsRight, Opened, commit-rest}
+use Rattle.laws.specs.StoreLaws.{sized-put-object, sized-put-place, sized-put-task, sized-set-next, sized-put-queue, sized-note, kind-at-put, kind-put-object, object-put-other, object-put-header, place-fits}
+use Rattle.laws.specs.DeliveryLaws.{awaited-object}
 
 -- ---- the step formulas
 

@@ -28,9 +28,9 @@ use Rattle.rows.specs.TableLaws.{task-at-put, task-at-other, task-at-fits, obje
 use Rattle.rows.specs.TableLaws.{place-at-put, place-at-other, place-at-fits, header-at-put, header-at-fits, header-at-object-put}
 use Rattle.queue.specs.declared.ReadyQueue.{ReadyQueue}
 use Rattle.queue.specs.Queue.{entries}
 use Rattle.machine.specs.Store.{Store, Happening, view, task, put-task, object, put-object, place, put-place, header, put-header}
 use Rattle.machine.specs.Store.{put-places, put-queue, note, forget, set-state, set-moment, set-next, set-calls, add-object}
-use Rattle.machine.specs.Views.{Sized, update, with-task, with-object, with-place, with-header, with-queue}
+use Rattle.laws.specs.Views.{Sized, update, with-task, with-object, with-place, with-header, with-queue}
 
 -- ---- each write keeps the lengths
 

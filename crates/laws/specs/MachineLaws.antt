@@ -19,19 +19,19 @@ use Rattle.asyncio.specs.declared.Object.{Object}
 use Rattle.asyncio.specs.States.{pick}
 use Rattle.asyncio.specs.Limits.{tasks-length, objects-length, places-length}
 use Rattle.asyncio.specs.RangeLaws.{pick-has}
 use Rattle.machine.specs.Store.{Store, task, object, header, forget}
 use Rattle.machine.specs.Scheduler.{PendingExternal, as-pending, insert, calls-below, pending-call-ids, remove-from-ready-queue, live-count}
 use Rattle.machine.specs.Delivery.{Delivery}
 use Rattle.machine.specs.Commit.{Poll, ready, raised, pending}
 use Rattle.machine.specs.Events.{How, start, value, raises, Control, runs, waits, Switched, Awaited, run, yield, resume-next, resume-after-task-exit, handle-task-failure}
 use Rattle.machine.specs.Events.{start-by, start-task, activate-state, activate-within, activate, stays, go-on}
 use Rattle.machine.specs.Events.{await-coroutine, await-gather, await-object, exec-get-awaitable, handle-task-completion}
 use Rattle.machine.specs.Machine.{Event, Answer, Step, switched, answer-await, end-main, task-completes, task-fails, repeat-wait, resume-with-resolved-futures}
 use Rattle.machine.specs.Machine.{accept, refusal, decide, step}
 use Rattle.machine.specs.Lent.{slices-right, lengths-right, write-calls, written-by, written, lent-by, lent-step}
-use Rattle.machine.specs.Views.{Sized}
-use Rattle.machine.specs.Statements.{SameWords, NoneBelow, Ascending, CallList, control-calls, answer-calls}
-use Rattle.machine.specs.StoreLaws.{header-fits}
+use Rattle.laws.specs.Views.{Sized}
+use Rattle.laws.specs.Statements.{SameWords, NoneBelow, Ascending, CallList, control-calls, answer-calls}
+use Rattle.laws.specs.StoreLaws.{header-fits}
 
 -- ---- what leaves the store as it was
 

@@ -24,16 +24,16 @@ use Rattle.asyncio.specs.Ranges.{ObjectFits, AwaiterFits}
 use Rattle.asyncio.specs.RangeLaws.{pick-has}
 use Rattle.rows.specs.Tables.{task-at, object-at, object-put, place-at}
 use Rattle.rows.specs.TableLaws.{object-at-other, length-place-put}
-use Rattle.machine.specs.CountLaws.{count-same, count-drop}
+use Rattle.laws.specs.CountLaws.{count-same, count-drop}
 use Rattle.machine.specs.Store.{Store, task, put-task, object, put-object, put-places, header, set-state, note, put-queue, reached}
 use Rattle.machine.specs.Scheduler.{AwaitedGather, as-awaited, bit, live, live-in, live-count, make-ready, push-ready}
 use Rattle.machine.specs.Delivery.{Delivery, nobody-woken, deliver-to-task, Filled, fill-one, fill-from}
 use Rattle.machine.specs.Delivery.{Settled, resolve-left, resolve-awaited, resolve-child, fail-awaited, fail-gather, climb, awaited-in, awaited-count}
 use Rattle.machine.specs.Delivery.{send-value, climb-value, deliver-awaiter-success, send-error, climb-error, deliver-awaiter-failure}
-use Rattle.machine.specs.Views.{Sized}
-use Rattle.machine.specs.Statements.{SameLive}
-use Rattle.machine.specs.StoreLaws.{sized-put-object, sized-put-places, sized-put-queue, sized-note, sized-set-state}
-use Rattle.machine.specs.StoreLaws.{object-fits, kind-at-put, live-put-task, task-put-other, header-put-object}
+use Rattle.laws.specs.Views.{Sized}
+use Rattle.laws.specs.Statements.{SameLive}
+use Rattle.laws.specs.StoreLaws.{sized-put-object, sized-put-places, sized-put-queue, sized-note, sized-set-state}
+use Rattle.laws.specs.StoreLaws.{object-fits, kind-at-put, live-put-task, task-put-other, header-put-object}
 
 same-store : (s : Store) → Sized s → SameLive s s
 same-store s z = record { sized = z; same-header = refl; lives = λ t. refl }

@@ -7,11 +7,11 @@ use lib.ListN.{length}
 use Rattle.asyncio.specs.States.{is-live}
 use Rattle.asyncio.specs.Kinds.{kind, is-pending-gather}
 use Rattle.asyncio.specs.Limits.{object-limit}
 use Rattle.machine.specs.Store.{Store, task, object, header}
 use Rattle.machine.specs.Commit.{Poll, ready, raised, pending, Frame, Committed, commit-loop, pending-count}
 use Rattle.machine.specs.Events.{Control, runs, waits}
 use Rattle.machine.specs.Machine.{Answer}
-use Rattle.machine.specs.Views.{Sized}
+use Rattle.laws.specs.Views.{Sized}
 
 -- nothing but what has happened differs
 pub record SameWords (s u : Store) : Type 0 where

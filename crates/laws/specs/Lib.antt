@@ -1,0 +1,9 @@
+pub mod TestLaws
+pub mod CountLaws
+pub mod SoundLaws
+pub mod Views
+pub mod Statements
+pub mod StoreLaws
+pub mod DeliveryLaws
+pub mod CommitLaws
+pub mod MachineLaws
