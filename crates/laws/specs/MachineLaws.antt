@@ -20,7 +20,10 @@ use Rattle.asyncio.specs.States.{pick}
 use Rattle.asyncio.specs.Limits.{tasks-length, objects-length, places-length}
 use Rattle.asyncio.specs.RangeLaws.{pick-has}
 use Rattle.machine.specs.Store.{Store, task, object, header, forget}
-use Rattle.machine.specs.Scheduler.{PendingExternal, as-pending, insert, calls-below, pending-call-ids, remove-from-ready-queue, live-count}
+use Rattle.asyncio.specs.Kinds.{kind, is-pending-external}
+use Rattle.asyncio.specs.Parts.{call-of}
+use Rattle.rows.specs.Tables.{object-at, header-at}
+use Rattle.machine.specs.Scheduler.{insert, calls-below, pending-calls-in, pending-call-ids, remove-from-ready-queue, live-count}
 use Rattle.machine.specs.Delivery.{Delivery}
 use Rattle.machine.specs.Commit.{Poll, ready, raised, pending}
 use Rattle.machine.specs.Events.{How, start, value, raises, Control, runs, waits, Switched, Awaited, run, yield, resume-next, resume-after-task-exit, handle-task-failure}
@@ -67,50 +70,44 @@ insert-none-below : (c d : ℕ) (l : List ℕ) → d ≤ c → NoneBelow d l →
 unfolding insert NoneBelow
 insert-none-below c d [] h k = (h, tt)
 insert-none-below c d (x ∷ l) h k =
-    pick-has (NoneBelow d) (leb c x) (h, k) (k .0, insert-none-below c d l h (k .1))
+    pick-has (NoneBelow d) (leb c x) (h, insert-none-below x d l (k .0) (k .1)) (k .0, insert-none-below c d l h (k .1))
 
 pub insert-ascending : (c : ℕ) (l : List ℕ) → Ascending l → Ascending (insert c l)
 unfolding insert Ascending NoneBelow
 insert-ascending c [] a = (tt, tt)
-insert-ascending c (d ∷ ds) a = by (leb c d) refl (insert-ascending c ds (a .1))
+insert-ascending c (d ∷ ds) a = by (leb c d) refl (insert-ascending d ds (a .1)) (insert-ascending c ds (a .1))
   where
-    by : (b : Bool) → leb c d ≡ b → Ascending (insert c ds) → Ascending (pick b (c ∷ d ∷ ds) (d ∷ insert c ds))
-    by true e h = let l : c ≤ d = leb-true c d e in ((l, none-below-less c d ds l (a .0)), a)
-    by false e h = let l : d ≤ c = omega (arith, leb-false c d e) in (insert-none-below c d ds l (a .0), h)
+    by : (b : Bool) → leb c d ≡ b → Ascending (insert d ds) → Ascending (insert c ds) → Ascending (pick b (c ∷ insert d ds) (d ∷ insert c ds))
+    by true e h k = let l : c ≤ d = leb-true c d e in (insert-none-below d c ds l (none-below-less c d ds l (a .0)), h)
+    by false e h k = let l : d ≤ c = omega (arith, leb-false c d e) in (insert-none-below c d ds l (a .0), k)
 
-length-insert : (c : ℕ) (l : List ℕ) → length (insert c l) ≡ suc (length l)
+pub length-insert : (c : ℕ) (l : List ℕ) → length (insert c l) ≡ suc (length l)
 unfolding insert
 length-insert c [] = refl
-length-insert c (d ∷ ds) = pick-has (λ (l : List ℕ). length l ≡ suc (suc (length ds))) (leb c d) refl (ap suc (length-insert c ds))
+length-insert c (d ∷ ds) =
+    pick-has (λ (l : List ℕ). length l ≡ suc (suc (length ds))) (leb c d) (ap suc (length-insert d ds)) (ap suc (length-insert c ds))
 
 -- one object more, and its call if it is a pending external
-calls-ascend : (s : Store) (n : ℕ) → Ascending (calls-below s n)
+calls-ascend : (os : List ℕ) (n : ℕ) → Ascending (calls-below os n)
 unfolding calls-below Ascending
-calls-ascend s zero = tt
-calls-ascend s (suc o) = by (as-pending (object s o)) (calls-ascend s o)
-  where
-    by : (x : Option PendingExternal) → Ascending (calls-below s o)
-        → Ascending (elim x [ none ↦ calls-below s o | some p ↦ insert (p .call .0) (calls-below s o) ])
-    by none h = h
-    by (some p) h = insert-ascending (p .call .0) (calls-below s o) h
+calls-ascend os zero = tt
+calls-ascend os (suc o) =
+    pick-has Ascending (is-pending-external (kind (object-at os o))) (insert-ascending (call-of (object-at os o) .0) (calls-below os o) (calls-ascend os o)) (calls-ascend os o)
 
-calls-few : (s : Store) (n : ℕ) → length (calls-below s n) ≤ n
+pub calls-few : (os : List ℕ) (n : ℕ) → length (calls-below os n) ≤ n
 unfolding calls-below
-calls-few s zero = omega arith
-calls-few s (suc o) = by (as-pending (object s o)) (calls-few s o)
-  where
-    by : (x : Option PendingExternal) → length (calls-below s o) ≤ o
-        → length {A = ℕ} (elim x [ none ↦ calls-below s o | some p ↦ insert (p .call .0) (calls-below s o) ]) ≤ suc o
-    by none h = omega arith
-    by (some p) h = omega (arith, length-insert (p .call .0) (calls-below s o))
+calls-few os zero = omega arith
+calls-few os (suc o) =
+    pick-has (λ (l : List ℕ). length l ≤ suc o) (is-pending-external (kind (object-at os o)))
+    (omega (arith, length-insert (call-of (object-at os o) .0) (calls-below os o), calls-few os o)) (omega (arith, calls-few os o))
 
 pub pending-calls-ascend : (s : Store) → Ascending (pending-call-ids s)
-unfolding pending-call-ids
-pending-calls-ascend s = calls-ascend s (header s .made)
+unfolding pending-call-ids pending-calls-in
+pending-calls-ascend s = calls-ascend (s .objects) (header-at (s .objects) .made)
 
 pub pending-calls-made : (s : Store) → length (pending-call-ids s) ≤ header s .made
-unfolding pending-call-ids
-pending-calls-made s = calls-few s (header s .made)
+unfolding pending-call-ids pending-calls-in header
+pending-calls-made s = calls-few (s .objects) (header s .made)
 
 pub pending-calls-list : (s : Store) → CallList (pending-call-ids s)
 pending-calls-list s = record { few = omega (arith, pending-calls-made s, header-fits s .made-fits); ascending = pending-calls-ascend s }

@@ -22,7 +22,9 @@ use Rattle.asyncio.specs.Numbers.{heap-id}
 use Rattle.asyncio.specs.States.{is-live}
 use Rattle.asyncio.specs.Limits.{task-limit, object-limit}
 use Rattle.machine.specs.Tests.{count}
-use Rattle.rows.specs.Tables.{task-at}
+use Rattle.asyncio.specs.Kinds.{kind, is-pending-external}
+use Rattle.asyncio.specs.Parts.{call-of}
+use Rattle.rows.specs.Tables.{task-at, object-at, header-at}
 use Rattle.queue.specs.Queue.{empty-queue, push-back, remove}
 use Rattle.machine.specs.Store.{Store, task, put-task, object, place, header, put-queue, absent, set-state, set-next, set-moment, note, Happening, spawned, removed}
 
@@ -99,28 +101,36 @@ unfoldable pub first-from : (ℕ → Bool) → ℕ → ℕ → Option ℕ
 first-from p i zero = none
 first-from p i (suc k) = pick (p i) (some i) (first-from p (i + 1) k)
 
--- a pending external of that call
-unfoldable pub is-call : ℕ → Option PendingExternal → Bool
-is-call call none = false
-is-call call (some p) = eqb (p .call .0) call
+-- object o is a pending external of that call
+unfoldable pub is-call : List ℕ → ℕ → ℕ → Bool
+is-call os call o = pick (is-pending-external (kind (object-at os o))) (eqb (call-of (object-at os o) .0) call) false
 
--- the pending external of a call
+-- the pending external of a call, by the objects' words
+unfoldable pub pending-external-in : List ℕ → ℕ → Option ℕ
+pending-external-in os call = first-from (is-call os call) 0 (header-at os .made)
+
+-- of a store
 unfoldable pub pending-external : Store → ℕ → Option ℕ
-pending-external s call = first-from (λ o. is-call call (as-pending (object s o))) 0 (header s .made)
+pending-external s call = pending-external-in (s .objects) call
 
--- a call into an ascending list
+-- a call into an ascending list: the smaller of it and the first comes first
 unfoldable pub insert : ℕ → List ℕ → List ℕ
 insert c [] = c ∷ []
-insert c (d ∷ ds) = pick (leb c d) (c ∷ d ∷ ds) (d ∷ insert c ds)
+insert c (d ∷ ds) = pick (leb c d) (c ∷ insert d ds) (d ∷ insert c ds)
 
 -- the calls of the pending externals below n
-unfoldable pub calls-below : Store → ℕ → List ℕ
-calls-below s zero = []
-calls-below s (suc o) = elim (as-pending (object s o)) [ none ↦ calls-below s o | some p ↦ insert (p .call .0) (calls-below s o) ]
+unfoldable pub calls-below : List ℕ → ℕ → List ℕ
+calls-below os zero = []
+calls-below os (suc o) =
+    pick (is-pending-external (kind (object-at os o))) (insert (call-of (object-at os o) .0) (calls-below os o)) (calls-below os o)
 
--- the calls of the pending externals, ascending
+-- the calls of the pending externals, ascending, by the objects' words
+unfoldable pub pending-calls-in : List ℕ → List ℕ
+pending-calls-in os = calls-below os (header-at os .made)
+
+-- of a store
 unfoldable pub pending-call-ids : Store → List ℕ
-pending-call-ids s = calls-below s (header s .made)
+pending-call-ids s = pending-calls-in (s .objects)
 
 -- ---- tasks
 
@@ -140,9 +150,13 @@ live-count s = live-in (s .tasks)
 unfoldable pub drives : ℕ → Task → Bool
 drives c r = pick (is-live (r .state)) (eqb (r .coroutine .0) c) false
 
--- the live spawned task that drives object c, if any (coroutine_to_task)
+-- the live spawned task below n that drives object c, if any, by the tasks' words (coroutine_to_task)
+unfoldable pub driver-in : List ℕ → ℕ → ℕ → Option ℕ
+driver-in ts n c = first-from (λ t. drives c (task-at ts t)) 1 (n - 1)
+
+-- of a store
 unfoldable pub driver : Store → ℕ → Option ℕ
-driver s c = first-from (λ t. drives c (task s t)) 1 (header s .next - 1)
+driver s c = driver-in (s .tasks) (header s .next) c
 
 -- task t is spawned, ready and not yet run; its result goes to the places of gather g that name coroutine c
 unfoldable pub spawn-as : Store → ℕ → ℕ → ℕ → Store

@@ -1,0 +1,2 @@
+// The scheduler (scheduler.rs).
+pub mod calls; // pending calls
