@@ -1,2 +1,3 @@
 // The scheduler (scheduler.rs).
-pub mod calls; // pending calls
+pub mod calls; // pending_call_ids
+pub mod tasks; // the searches

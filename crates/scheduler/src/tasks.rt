@@ -1,0 +1,74 @@
+// Searches: the task that drives a coroutine (coroutine_to_task), the pending external of a call (pending_externals).
+use asyncio::HeapId;
+use asyncio::TaskId;
+ghost use mathlib.Core.Path.{_≡_};
+ghost use Prim.Native.Nat.{_<_, _≤_};
+ghost use lib.ListN.{length};
+ghost use Rattle.asyncio.specs.Limits.{task-limit, object-limit, tasks-length, objects-length};
+ghost use Rattle.rows.specs.Tables.{task-at};
+ghost use Rattle.machine.specs.Scheduler.{drives, driver-in, is-call, pending-external-in};
+ghost use Rattle.scheduler.specs.Search.{found};
+
+// What a search found: a number, or nothing.
+pub enum Found {
+    At(u16),
+    Nothing,
+}
+
+// Does task `t` live and drive object `c`?
+fn drives(tasks: &[u64], t: TaskId, c: HeapId) -> bool
+    requires { ⌜ (length (now tasks) ≡ tasks-length) × (t .0 < task-limit) ⌝ }
+    ensures { λ r. ⌜ r ≡ drives (c .0) (task-at (now (tasks .entry)) (t .0)) ⌝ }
+{
+    let state = rows::parts::state_at(tasks, t);
+    if state.is_live() {
+        let coroutine = rows::parts::coroutine_at(tasks, t);
+        return coroutine.0 == c.0;
+    }
+    false
+}
+
+// The live spawned task below `next` that drives object `c`.
+pub fn driver(tasks: &[u64], next: u16, c: HeapId) -> Found
+    requires { ⌜ (length (now tasks) ≡ tasks-length) × (next ≤ task-limit) ⌝ }
+    ensures { λ r. ⌜ r ≡ found (driver-in (now (tasks .entry)) next (c .0)) ⌝ }
+{
+    let mut t: u16 = 1;
+    while t < next {
+        if drives(tasks, TaskId::new(t), c) {
+            return Found::At(t);
+        }
+        t += 1;
+    }
+    Found::Nothing
+}
+
+// Is object `o` a pending external of that call?
+fn is_call(objects: &[u64], call: u32, o: HeapId) -> bool
+    requires { ⌜ (length (now objects) ≡ objects-length) × (o .0 < object-limit) ⌝ }
+    ensures { λ r. ⌜ r ≡ is-call (now (objects .entry)) call (o .0) ⌝ }
+{
+    let kind = rows::parts::kind_at(objects, o);
+    if kind.is_pending_external() {
+        let c = rows::parts::call_at(objects, o);
+        return c.word() == call as u64;
+    }
+    false
+}
+
+// The pending external of a call. A call number that was cut to nothing finds nothing: it is compared whole.
+pub fn take_pending_external(objects: &[u64], call: u32) -> Found
+    requires { ⌜ length (now objects) ≡ objects-length ⌝ }
+    ensures { λ r. ⌜ r ≡ found (pending-external-in (now (objects .entry)) call) ⌝ }
+{
+    let header = rows::tables::load_header(objects);
+    let made = header.made;
+    let mut o: u16 = 0;
+    while o < made {
+        if is_call(objects, call, HeapId::new(o)) {
+            return Found::At(o);
+        }
+        o += 1;
+    }
+    Found::Nothing
+}
