@@ -25,7 +25,7 @@ use Rattle.asyncio.specs.RangeLaws.{pick-has}
 use Rattle.rows.specs.Tables.{task-at, object-at, object-put, place-at}
 use Rattle.rows.specs.TableLaws.{object-at-other, length-place-put}
 use Rattle.laws.specs.CountLaws.{count-same, count-drop}
-use Rattle.machine.specs.Store.{Store, task, put-task, object, put-object, put-places, header, set-state, note, put-queue, reached}
+use Rattle.machine.specs.Store.{Store, task, put-task, object, put-object, put-places, header, restate, set-state, note, put-queue, reached}
 use Rattle.machine.specs.Scheduler.{AwaitedGather, as-awaited, bit, live, live-in, live-count, make-ready, push-ready}
 use Rattle.machine.specs.Delivery.{Delivery, nobody-woken, deliver-to-task, Filled, fill-one, fill-from}
 use Rattle.machine.specs.Delivery.{Settled, resolve-left, resolve-awaited, resolve-child, fail-awaited, fail-gather, climb, awaited-in, awaited-count}
@@ -53,7 +53,7 @@ blocked-live (TaskState.Blocked o) e = refl
 
 state-put : (s : Store) (t u : ℕ) (x : TaskState) → Sized s → t < task-limit → is-live x ≡ is-live (task s t .state)
     → is-live (task (set-state s t x) u .state) ≡ is-live (task s u .state)
-unfolding set-state
+unfolding set-state restate
 state-put s t u x z l e = by (ℕ-discrete u t)
   where
     r : Task

@@ -31,6 +31,10 @@ pub record Store : Type 0 where
   pub queue : ReadyQueue
   pub log : List Happening
 
+-- the store of lent slices and a queue, with what has happened so far
+abbrev pub store-of : List ℕ → List ℕ → List ℕ → ReadyQueue → List Happening → Store
+store-of ts os ps q l = record { tasks = ts; objects = os; places = ps; queue = q; log = l }
+
 -- ---- a row, and the store with a row put there
 
 -- task t
@@ -85,9 +89,13 @@ forget s = record { tasks = s .tasks; objects = s .objects; places = s .places; 
 
 -- ---- one field of a row changed
 
+-- a task in another state
+unfoldable pub restate : Task → TaskState → Task
+restate r x = record { state = x; awaiter = r .awaiter; coroutine = r .coroutine }
+
 -- a task's state
 unfoldable pub set-state : Store → ℕ → TaskState → Store
-set-state s t x = let r : Task = task s t in put-task s t (record { state = x; awaiter = r .awaiter; coroutine = r .coroutine })
+set-state s t x = put-task s t (restate (task s t) x)
 
 -- the moment
 unfoldable pub set-moment : Store → Moment → Store

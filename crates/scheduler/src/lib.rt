@@ -1,3 +1,4 @@
 // The scheduler (scheduler.rs).
 pub mod calls; // pending_call_ids
 pub mod tasks; // the searches
+pub mod states; // make_ready, is_blocked, block_current_on, removal

@@ -1,0 +1,76 @@
+// The states of tasks: make_ready, is_blocked, block_current_on, and a task's removal.
+use asyncio::Awaiter;
+use asyncio::HeapId;
+use asyncio::Task;
+use asyncio::TaskId;
+use asyncio::TaskState;
+use queue::ReadyQueue;
+ghost use mathlib.Core.Path.{_≡_};
+ghost use mathlib.Core.List.{List};
+ghost use Prim.Native.Nat.{ℕ, _<_};
+ghost use lib.ListN.{length};
+ghost use Rattle.asyncio.specs.Limits.{task-limit, object-limit, tasks-length};
+ghost use Rattle.asyncio.specs.States.{is-blocked};
+ghost use Rattle.rows.specs.Tables.{task-at, task-put};
+ghost use Rattle.machine.specs.Store.{Happening, store-of, restate, set-state};
+ghost use Rattle.machine.specs.Scheduler.{make-ready, remove-task};
+ghost use Rattle.asyncio.specs.declared.TaskState.{TaskState};
+
+// Task `t` in another state.
+fn set_state(tasks: &mut [u64], t: TaskId, state: TaskState)
+    requires { ⌜ (length (now tasks) ≡ tasks-length) × (t .0 < task-limit) ⌝ }
+    ensures { λ _. ⌜ now (tasks .exit) ≡ task-put (now (tasks .entry)) (t .0) (restate (task-at (now (tasks .entry)) (t .0)) state) ⌝ }
+{
+    let old = rows::tables::load_task(tasks, t);
+    let awaiter = old.awaiter;
+    let coroutine = old.coroutine;
+    rows::tables::store_task(
+        tasks,
+        t,
+        Task {
+            state,
+            awaiter,
+            coroutine,
+        },
+    );
+}
+
+// Is task `t` waiting for an awaitable to settle?
+pub fn is_blocked(tasks: &[u64], t: TaskId) -> bool
+    requires { ⌜ (length (now tasks) ≡ tasks-length) × (t .0 < task-limit) ⌝ }
+    ensures { λ r. ⌜ r ≡ is-blocked (task-at (now (tasks .entry)) (t .0) .state) ⌝ }
+{
+    let state = rows::parts::state_at(tasks, t);
+    state.is_blocked()
+}
+
+// Task `t` is given a value or an error, and goes to the queue's back.
+pub fn make_ready(tasks: &mut [u64], queue: ReadyQueue, t: TaskId, state: TaskState) -> ReadyQueue
+    requires { ⌜ (length (now tasks) ≡ tasks-length) × (t .0 < task-limit) ⌝ }
+    ensures { λ r. ⌜ ((os ps : List ℕ) (l : List Happening) → store-of (now (tasks .exit)) os ps r l ≡ make-ready (store-of (now (tasks .entry)) os ps queue l) (t .0) state) ⌝ }
+{
+    set_state(tasks, t, state);
+    queue.push_back(t)
+}
+
+// Task `t` waits for object `o`.
+pub fn block_current_on(tasks: &mut [u64], t: TaskId, o: HeapId)
+    requires { ⌜ (length (now tasks) ≡ tasks-length) × (t .0 < task-limit) ⌝ }
+    ensures { λ _. ⌜ now (tasks .exit) ≡ task-put (now (tasks .entry)) (t .0) (restate (task-at (now (tasks .entry)) (t .0)) (TaskState.Blocked o)) ⌝ }
+{
+    set_state(tasks, t, TaskState::Blocked(o));
+}
+
+// Task `t` is live no more, and not ready.
+pub fn remove_task(tasks: &mut [u64], queue: ReadyQueue, t: TaskId) -> ReadyQueue
+    requires { ⌜ (length (now tasks) ≡ tasks-length) × (t .0 < task-limit) ⌝ }
+    ensures { λ r. ⌜ ((os ps : List ℕ) (l : List Happening) → store-of (now (tasks .exit)) os ps r l ≡ remove-task (store-of (now (tasks .entry)) os ps queue l) (t .0)) ⌝ }
+{
+    let absent = Task {
+        state: TaskState::Absent,
+        awaiter: Awaiter::Nobody,
+        coroutine: HeapId::new(0),
+    };
+    rows::tables::store_task(tasks, t, absent);
+    queue.remove(t)
+}
