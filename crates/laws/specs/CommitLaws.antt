@@ -28,7 +28,7 @@ use Rattle.rows.specs.Tables.{object-at, object-put}
 use Rattle.rows.specs.TableLaws.{object-at-other}
 use Rattle.laws.specs.CountLaws.{count-same, count-drop}
 use Rattle.machine.specs.Store.{Store, object, put-object, place, put-place, header, put-task, set-next, put-queue, note, spawned}
-use Rattle.machine.specs.Scheduler.{AwaitedGather, as-awaited, spawn, spawn-as, driver, push-ready}
+use Rattle.machine.specs.Scheduler.{AwaitedGather, as-awaited, spawn, spawn-unless, spawn-as, driver, push-ready}
 use Rattle.machine.specs.Commit.{Poll, ready, raised, pending, Polled, gives, await-pending, await-external, Item, polled, nested, item-coroutine, item-gather, item-object, open-from, item}
 use Rattle.machine.specs.Commit.{open-place, fill-place, Stop, at-end, at-nested, at-error, put-polled, put-item, step-items, Frame, step-gather-commit}
 use Rattle.machine.specs.Commit.{with-state, set-gather, open-gather-commit, settle-as, settle-gather-commit, resume-in, resume-after-child, unwind}
@@ -127,10 +127,10 @@ SpawnKeeps s none = Unit {0}
 SpawnKeeps s (some u) = SamePending s u
 
 spawn-pending : (s : Store) (c g : ℕ) → Sized s → SpawnKeeps s (spawn s c g)
-unfolding spawn SpawnKeeps
+unfolding spawn spawn-unless SpawnKeeps
 spawn-pending s c g z = by (driver s c)
   where
-    by : (d : Option ℕ) → SpawnKeeps s (elim d [ some t ↦ none | none ↦ pick (ltb (header s .next) task-limit) (some (spawn-as s (header s .next) c g)) none ])
+    by : (d : Option ℕ) → SpawnKeeps s (spawn-unless s c g d)
     by (some t) = tt
     by none = pick-has (SpawnKeeps s) (ltb (header s .next) task-limit) (spawn-as-pending s (header s .next) c g z) tt
 

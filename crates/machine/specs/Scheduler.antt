@@ -164,10 +164,14 @@ spawn-as s t c g =
     note (push-ready (set-next (put-task s t (record { state = TaskState.Unstarted; awaiter = Awaiter.GatherSlot (heap-id g) (heap-id c); coroutine = heap-id c })) (t + 1)) t)
     (spawned t c)
 
--- Nothing if the coroutine already has a live task. (Nor when no number is left: a sound store has one for every place.)
+-- by the live task of the coroutine, if it has one (nor is there a task when no number is left: a sound store has one for every place)
+unfoldable pub spawn-unless : Store → ℕ → ℕ → Option ℕ → Option Store
+spawn-unless s c g (some t) = none
+spawn-unless s c g none = pick (ltb (header s .next) task-limit) (some (spawn-as s (header s .next) c g)) none
+
+-- Nothing if the coroutine already has a live task.
 unfoldable pub spawn : Store → ℕ → ℕ → Option Store
-spawn s c g =
-    elim (driver s c) [ some t ↦ none | none ↦ pick (ltb (header s .next) task-limit) (some (spawn-as s (header s .next) c g)) none ]
+spawn s c g = spawn-unless s c g (driver s c)
 
 -- the task is live no more, and not ready
 unfoldable pub remove-task : Store → ℕ → Store

@@ -2,3 +2,5 @@ pub mod Calls
 pub mod CallLaws
 pub mod Search
 pub mod SearchLaws
+pub mod Spawn
+pub mod SpawnLaws

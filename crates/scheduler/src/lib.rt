@@ -2,3 +2,4 @@
 pub mod calls; // pending_call_ids
 pub mod tasks; // the searches
 pub mod states; // make_ready, is_blocked, block_current_on, removal
+pub mod spawn; // spawn

@@ -1,0 +1,54 @@
+-- The ways through spawn: the coroutine has a live task, no number is left, or a task is spawned.
+use mathlib.Core.Path.{_≡_, refl, sym, ap, _∙_}
+use mathlib.Core.Bool.{Bool, true, false}
+use mathlib.Core.List.{List, _∷_}
+use mathlib.Core.Option.{Option, none, some}
+use Prim.Native.Nat.{ℕ, _≤_, _<_}
+use native.Mathlib.Omega.{arith}
+use lib.Dec.{ltb}
+use borrow.Author.Tests.{lt-ltb, le-ltb}
+use Rattle.asyncio.specs.Limits.{task-limit}
+use Rattle.asyncio.specs.Ranges.{HeaderFits}
+use Rattle.asyncio.specs.declared.Header.{Header}
+use Rattle.rows.specs.Tables.{header-at}
+use Rattle.rows.specs.TableLaws.{header-at-fits}
+use Rattle.queue.specs.declared.ReadyQueue.{ReadyQueue}
+use Rattle.machine.specs.Store.{Happening, spawned, store-of, header}
+use Rattle.machine.specs.Scheduler.{driver-in, driver, spawn, spawn-unless, spawn-as}
+use Rattle.scheduler.specs.Search.{found}
+use Rattle.scheduler.specs.Spawn.{SpawnsAs, Spawns, done, not-done}
+use Rattle.scheduler.specs.declared.tasks.Found.{Found}
+
+pub next-fits : (os : List ℕ) {h : Header} → h ≡ header-at os → h .next ≤ task-limit
+next-fits os e = rw e (header-at-fits os .next-fits)
+
+found-at : (o : Option ℕ) (n : ℕ) → found o ≡ Found.At n → o ≡ some n
+found-at none n e = let z : _≡_ {A = ℕ} 0 1 = cc in absurd (omega arith)
+found-at (some m) n e = let z : m ≡ n = cc in ap some z
+
+found-nothing : (o : Option ℕ) → found o ≡ Found.Nothing → o ≡ none
+found-nothing none e = refl
+found-nothing (some m) e = let z : _≡_ {A = ℕ} 0 1 = cc in absurd (omega arith)
+
+module _ (ts os : List ℕ) (q : ReadyQueue) (c g : ℕ) {h : Header} {d : Found} (e : h ≡ header-at os) (f : d ≡ found (driver-in ts (h .next) c)) where
+  pub spawn-taken : (n : ℕ) → d ≡ Found.At n → Spawns ts os q c g ts os q false
+  unfolding spawn spawn-unless driver header
+  spawn-taken n t =
+      let k : driver-in ts (header-at os .next) c ≡ some n = rw e at (found-at (driver-in ts (h .next) c) n (sym f ∙ t)) in
+      not-done (λ ps l. rw k)
+
+  free : d ≡ Found.Nothing → driver-in ts (header-at os .next) c ≡ none
+  free t = rw e at (found-nothing (driver-in ts (h .next) c) (sym f ∙ t))
+
+  pub spawn-full : d ≡ Found.Nothing → task-limit ≤ h .next → Spawns ts os q c g ts os q false
+  unfolding spawn spawn-unless driver header
+  spawn-full t l =
+      let k : task-limit ≤ header-at os .next = rw e at l in
+      not-done (λ ps x. rw (free t, le-ltb (header-at os .next) task-limit k))
+
+  pub spawn-done : d ≡ Found.Nothing → h .next < task-limit → {ts′ os′ : List ℕ} {q′ : ReadyQueue} → SpawnsAs ts os q h c g ts′ os′ q′
+      → Spawns ts os q c g ts′ os′ q′ true
+  unfolding spawn spawn-unless driver header
+  spawn-done t l {ts′} {os′} {q′} r =
+      let k : header-at os .next < task-limit = rw e at l in
+      done {ts′ = ts′} {os′ = os′} {q′ = q′} (λ ps x. rw (free t, lt-ltb (header-at os .next) task-limit k, ← e, r .spawns (sym e) ps x))

@@ -1,0 +1,89 @@
+// spawn: a task for a coroutine, one at a time.
+use crate::tasks::Found;
+use crate::tasks::driver;
+use asyncio::Awaiter;
+use asyncio::Header;
+use asyncio::HeapId;
+use asyncio::Task;
+use asyncio::TaskId;
+use asyncio::TaskState;
+use queue::ReadyQueue;
+ghost use mathlib.Core.Path.{_≡_};
+ghost use mathlib.Core.List.{List};
+ghost use Prim.Native.Nat.{ℕ, _<_, _≤_};
+ghost use lib.ListN.{length};
+ghost use Rattle.asyncio.specs.Limits.{task-limit, object-limit, tasks-length, objects-length};
+ghost use Rattle.machine.specs.Store.{Happening, store-of};
+ghost use Rattle.machine.specs.Scheduler.{spawn, spawn-as};
+ghost use Rattle.scheduler.specs.Spawn.{SpawnsAs, Spawns};
+
+// Whether a task was spawned, and the queue.
+pub struct Spawned {
+    pub done: bool,
+    pub queue: ReadyQueue,
+}
+
+// Task `header.next` is spawned: ready and not yet run, its result goes to the places of gather `g` that name coroutine `c`.
+fn spawn_as(
+    tasks: &mut [u64],
+    objects: &mut [u64],
+    queue: ReadyQueue,
+    header: Header,
+    c: HeapId,
+    g: HeapId,
+) -> ReadyQueue
+    requires { ⌜ (length (now tasks) ≡ tasks-length) × (length (now objects) ≡ objects-length) × (header .next < task-limit) ⌝ }
+    ensures { λ r. ⌜ SpawnsAs (now (tasks .entry)) (now (objects .entry)) queue header (c .0) (g .0) (now (tasks .exit)) (now (objects .exit)) r ⌝ }
+{
+    let t = TaskId::new(header.next);
+    let moment = header.moment;
+    let task = Task {
+        state: TaskState::Unstarted,
+        awaiter: Awaiter::GatherSlot {
+            gather: g,
+            source: c,
+        },
+        coroutine: c,
+    };
+    rows::tables::store_task(tasks, t, task);
+    rows::tables::store_header(
+        objects,
+        Header {
+            made: header.made,
+            used: header.used,
+            calls: header.calls,
+            next: header.next + 1,
+            moment,
+        },
+    );
+    queue.push_back(t)
+}
+
+// Nothing where the coroutine already has a live task.
+pub fn spawn(
+    tasks: &mut [u64],
+    objects: &mut [u64],
+    queue: ReadyQueue,
+    c: HeapId,
+    g: HeapId,
+) -> Spawned
+    requires { ⌜ (length (now tasks) ≡ tasks-length) × (length (now objects) ≡ objects-length) ⌝ }
+    ensures { λ r. ⌜ Spawns (now (tasks .entry)) (now (objects .entry)) queue (c .0) (g .0) (now (tasks .exit)) (now (objects .exit)) (r .queue) (r .done) ⌝ }
+{
+    let header = rows::tables::load_header(objects);
+    let next = header.next;
+    let d = driver(tasks, next, c);
+    match d {
+        Found::At(_) => Spawned { done: false, queue },
+        Found::Nothing => {
+            if next < 513 {
+                let q = spawn_as(tasks, objects, queue, header, c, g);
+                return Spawned {
+                    done: true,
+                    queue: q,
+                };
+            }
+            Spawned { done: false, queue }
+        }
+    }
+}
