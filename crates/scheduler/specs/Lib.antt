@@ -4,3 +4,5 @@ pub mod Search
 pub mod SearchLaws
 pub mod Spawn
 pub mod SpawnLaws
+pub mod Ends
+pub mod EndLaws

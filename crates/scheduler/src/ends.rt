@@ -1,0 +1,102 @@
+// can_await_eagerly, and cleanup at the session's end.
+use asyncio::Awaiter;
+use asyncio::Header;
+use asyncio::HeapId;
+use asyncio::Moment;
+use asyncio::Task;
+use asyncio::TaskId;
+use asyncio::TaskState;
+use queue::ReadyQueue;
+ghost use mathlib.Core.Path.{_≡_};
+ghost use mathlib.Core.List.{List};
+ghost use Prim.Native.Nat.{ℕ, _<_, _≤_};
+ghost use lib.ListN.{length};
+ghost use Rattle.asyncio.specs.Limits.{task-limit, object-limit, tasks-length, objects-length};
+ghost use Rattle.machine.specs.Store.{Happening, store-of};
+ghost use Rattle.machine.specs.Scheduler.{pending-calls-in, cleanup};
+ghost use Rattle.machine.specs.Machine.{is-empty, can-await-eagerly};
+ghost use Rattle.queue.specs.declared.ReadyQueue.{ReadyQueue};
+ghost use Rattle.scheduler.specs.Ends.{clear-one, clear-from};
+
+// Is no call pending?
+fn no_call_pending(objects: &[u64]) -> bool
+    requires { ⌜ length (now objects) ≡ objects-length ⌝ }
+    ensures { λ r. ⌜ r ≡ is-empty (pending-calls-in (now (objects .entry))) ⌝ }
+{
+    let header = rows::tables::load_header(objects);
+    let made = header.made;
+    let mut o: u16 = 0;
+    while o < made {
+        let kind = rows::parts::kind_at(objects, HeapId::new(o));
+        if kind.is_pending_external() {
+            return false;
+        }
+        o += 1;
+    }
+    true
+}
+
+// May a call be answered at once? Nothing is ready and no call is pending; after the session's end none is.
+pub fn can_await_eagerly(objects: &[u64], queue: ReadyQueue) -> bool
+    requires { ⌜ length (now objects) ≡ objects-length ⌝ }
+    ensures { λ r. ⌜ ((ts ps : List ℕ) (l : List Happening) → r ≡ can-await-eagerly (store-of ts (now (objects .entry)) ps queue l)) ⌝ }
+{
+    if queue.len == 0 {
+        let header = rows::tables::load_header(objects);
+        let moment = header.moment;
+        return match moment {
+            Moment::Running(_) => no_call_pending(objects),
+            Moment::Waiting => no_call_pending(objects),
+            Moment::Ended => true,
+        };
+    }
+    false
+}
+
+// Row `t` cleared, if it is a live task's.
+fn clear_one(tasks: &mut [u64], t: TaskId)
+    requires { ⌜ (length (now tasks) ≡ tasks-length) × (t .0 < task-limit) ⌝ }
+    ensures { λ _. ⌜ now (tasks .exit) ≡ clear-one (now (tasks .entry)) (t .0) ⌝ }
+{
+    let state = rows::parts::state_at(tasks, t);
+    if state.is_live() {
+        let absent = Task {
+            state: TaskState::Absent,
+            awaiter: Awaiter::Nobody,
+            coroutine: HeapId::new(0),
+        };
+        rows::tables::store_task(tasks, t, absent);
+    }
+}
+
+// The rows of the live tasks below `next` cleared.
+fn clear_tasks(tasks: &mut [u64], next: u16)
+    requires { ⌜ (length (now tasks) ≡ tasks-length) × (next ≤ task-limit) ⌝ }
+    ensures { λ _. ⌜ now (tasks .exit) ≡ clear-from (now (tasks .entry)) 0 next ⌝ }
+{
+    let mut t: u16 = 0;
+    while t < next {
+        clear_one(tasks, TaskId::new(t));
+        t += 1;
+    }
+}
+
+// The session ends: no task is left, and none is ready.
+pub fn cleanup(tasks: &mut [u64], objects: &mut [u64]) -> ReadyQueue
+    requires { ⌜ (length (now tasks) ≡ tasks-length) × (length (now objects) ≡ objects-length) ⌝ }
+    ensures { λ r. ⌜ ((ps : List ℕ) (q : ReadyQueue) (l : List Happening) → store-of (now (tasks .exit)) (now (objects .exit)) ps r (cleanup (store-of (now (tasks .entry)) (now (objects .entry)) ps q l) .log) ≡ cleanup (store-of (now (tasks .entry)) (now (objects .entry)) ps q l)) ⌝ }
+{
+    let header = rows::tables::load_header(objects);
+    clear_tasks(tasks, header.next);
+    rows::tables::store_header(
+        objects,
+        Header {
+            made: header.made,
+            used: header.used,
+            calls: header.calls,
+            next: header.next,
+            moment: Moment::Ended,
+        },
+    );
+    ReadyQueue::new()
+}
