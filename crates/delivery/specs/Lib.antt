@@ -1,2 +1,4 @@
 pub mod BitLaws
 pub mod FillLaws
+pub mod Delivered
+pub mod StepLaws
