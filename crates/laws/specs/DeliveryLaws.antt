@@ -82,7 +82,7 @@ task-same s t x z l e = by (is-blocked (task s t .state)) refl
 
 -- ---- into a gather
 
-absurd-some : {B A : Type 0} {a : B} → _≡_ {A = Option B} none (some a) → A
+pub absurd-some : {B A : Type 0} {a : B} → _≡_ {A = Option B} none (some a) → A
 absurd-some e = let z : _≡_ {A = ℕ} 0 1 = cc in absurd (omega arith)
 
 -- the object that reads as an awaited gather
@@ -118,10 +118,10 @@ unfolding awaited-count object put-object put-places kind
 awaited-falls s ps g w r z l e q = awaited-in-falls (s .objects) g r (z .objects-sized) l (rw (awaited-object (object s g) w e)) q
 
 -- what a gather sends on, if anything: it is in range, and one awaited gather less is left
-record Sent (s : Store) (r : Settled) : Type 0 where
-  same : SameLive s (r .store)
-  fits : (a : Awaiter) → r .onward ≡ some a → AwaiterFits a
-  falls : (a : Awaiter) → r .onward ≡ some a → awaited-count s ≡ suc (awaited-count (r .store))
+pub record Sent (s : Store) (r : Settled) : Type 0 where
+  pub same : SameLive s (r .store)
+  pub fits : (a : Awaiter) → r .onward ≡ some a → AwaiterFits a
+  pub falls : (a : Awaiter) → r .onward ≡ some a → awaited-count s ≡ suc (awaited-count (r .store))
 
 nothing-sent : (s u : Store) → SameLive s u → Sent s (record { store = u; onward = none })
 nothing-sent s u k = record { same = k; fits = λ a e. absurd-some e; falls = λ a e. absurd-some e }
@@ -157,7 +157,7 @@ left-sent true s ps g w m z e l q = record {
 }
 left-sent false s ps g w m z e l q = nothing-sent s _ (object-same s ps g _ z e)
 
-resolve-sent : (s : Store) (g source : ℕ) (v : Value) → Sized s → g < object-limit → Sent s (resolve-child s g source v)
+pub resolve-sent : (s : Store) (g source : ℕ) (v : Value) → Sized s → g < object-limit → Sent s (resolve-child s g source v)
 unfolding resolve-child resolve-awaited
 resolve-sent s g source v z l = by (as-awaited (object s g)) refl
   where
@@ -168,7 +168,7 @@ resolve-sent s g source v z l = by (as-awaited (object s g)) refl
         left-sent (eqb (f .open-places) 0) s (f .places) g w (f .open-places) z
         (length-fill-from (w .count) (s .places) (w .open-places) (w .first) source v 0 ∙ z .places-sized) l q
 
-fail-sent : (s : Store) (g : ℕ) (x : Error) → Sized s → g < object-limit → Sent s (fail-gather s g x)
+pub fail-sent : (s : Store) (g : ℕ) (x : Error) → Sized s → g < object-limit → Sent s (fail-gather s g x)
 unfolding fail-gather fail-awaited kind put-places
 fail-sent s g x z l = by (as-awaited (object s g)) refl
   where

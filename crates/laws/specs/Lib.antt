@@ -1,9 +1,15 @@
-pub mod TestLaws
 pub mod CountLaws
-pub mod SoundLaws
+pub mod TestLaws
 pub mod Views
 pub mod Statements
 pub mod StoreLaws
 pub mod DeliveryLaws
 pub mod CommitLaws
 pub mod MachineLaws
+pub mod Facts
+pub mod FactLaws
+pub mod MakingLaws
+pub mod WordLaws
+pub mod SoundLaws
+pub mod SizedLaws
+pub mod CycleLaws

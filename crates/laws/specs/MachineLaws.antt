@@ -1,7 +1,7 @@
 -- Laws of the machine: a refused event and a read leave the store as it was; a wait's calls are ascending, at most 256, and written at the
 -- list's front.
-use mathlib.Core.Path.{_≡_, refl, sym, ap}
-use mathlib.Core.Bool.{Bool, true, false, _&&_, true≢false}
+use mathlib.Core.Path.{_≡_, refl, ap}
+use mathlib.Core.Bool.{Bool, true, false, _&&_}
 use mathlib.Core.List.{List, [], _∷_}
 use mathlib.Core.Option.{Option, none, some}
 use Prim.Native.Nat.{ℕ, zero, suc, _≤_}
@@ -34,6 +34,7 @@ use Rattle.machine.specs.Machine.{accept, refusal, decide, step}
 use Rattle.machine.specs.Lent.{slices-right, lengths-right, write-calls, written-by, written, lent-by, lent-step}
 use Rattle.laws.specs.Views.{Sized}
 use Rattle.laws.specs.Statements.{SameWords, NoneBelow, Ascending, CallList, control-calls, answer-calls}
+use Rattle.laws.specs.TestLaws.{and-true}
 use Rattle.laws.specs.StoreLaws.{header-fits}
 
 -- ---- what leaves the store as it was
@@ -271,18 +272,14 @@ written-calls (Answer.shows x) l = refl
 written-calls (Answer.is-eager b) l = refl
 written-calls (Answer.refused n) l = refl
 
-both-true : (a b : Bool) → (a && b) ≡ true → (a ≡ true) × (b ≡ true)
-both-true true b e = (refl, e)
-both-true false b e = (e, absurd (true≢false (sym e)))
-
 -- refusal 1 asks for the lengths
 pub slices-sized : (s : Store) → slices-right s ≡ true → Sized s
 unfolding slices-right
 slices-sized s e =
     let tasks-right : Bool = eqb (length (s .tasks)) tasks-length in
     let objects-right : Bool = eqb (length (s .objects)) objects-length in
-    let h = both-true (tasks-right && objects-right) (eqb (length (s .places)) places-length) e in
-    let k = both-true tasks-right objects-right (h .0) in
+    let h = and-true (tasks-right && objects-right) (eqb (length (s .places)) places-length) e in
+    let k = and-true tasks-right objects-right (h .0) in
     record {
       tasks-sized = eqb-true (length (s .tasks)) tasks-length (k .0);
       objects-sized = eqb-true (length (s .objects)) objects-length (k .1);
@@ -291,7 +288,7 @@ slices-sized s e =
 
 pub lengths-sized : (s : Store) (l : List ℕ) → lengths-right s l ≡ true → Sized s
 unfolding lengths-right
-lengths-sized s l e = slices-sized s (both-true (slices-right s) (leb 256 (length l)) e .0)
+lengths-sized s l e = slices-sized s (and-true (slices-right s) (leb 256 (length l)) e .0)
 
 module _ (s : Store) (l : List ℕ) (e : Event) where
   pub lent-refused : lengths-right s l ≡ false → lent-step s l e ≡ record { store = s; list = l; answer = Answer.refused 1 }
@@ -325,6 +322,6 @@ module _ (s : Store) (l : List ℕ) (e : Event) where
     where
       by : (b : Bool) → lengths-right s l ≡ b → length (lent-step s l e .list) ≡ length l
       by true h =
-          let room : 256 ≤ length l = leb-true 256 (length l) (unfold lengths-right in both-true (slices-right s) (leb 256 (length l)) h .1) in
+          let room : 256 ≤ length l = leb-true 256 (length l) (unfold lengths-right in and-true (slices-right s) (leb 256 (length l)) h .1) in
           rw lent-list (length-write-calls _ l (omega (arith, lent-calls .few)))
       by false h = rw (lent-refused h)

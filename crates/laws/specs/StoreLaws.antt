@@ -21,7 +21,7 @@ use Rattle.asyncio.specs.Kinds.{kind}
 use Rattle.asyncio.specs.Layout.{object-words, to-object, to-task, state-words, to-state}
 use Rattle.asyncio.specs.Limits.{task-limit, object-limit, place-limit, objects-length, places-length}
 use Rattle.asyncio.specs.Ranges.{TaskFits, ObjectFits, PlaceFits, HeaderFits}
-use Rattle.rows.specs.Tables.{task-codec, object-codec, task-start, object-start, task-at, task-put, object-at, object-put}
+use Rattle.rows.specs.Tables.{task-codec, object-codec, task-start, object-start, task-at, task-put, object-at, object-put, place-at}
 use Rattle.rows.specs.RowLaws.{row-put-at}
 use Rattle.rows.specs.TableLaws.{length-task-put, length-object-put, length-place-put, length-header-put}
 use Rattle.rows.specs.TableLaws.{task-at-put, task-at-other, task-at-fits, object-at-put, object-at-other, object-at-fits, object-at-header-put}
@@ -30,7 +30,7 @@ use Rattle.queue.specs.declared.ReadyQueue.{ReadyQueue}
 use Rattle.queue.specs.Queue.{entries}
 use Rattle.machine.specs.Store.{Store, Happening, view, task, put-task, object, put-object, place, put-place, header, put-header}
 use Rattle.machine.specs.Store.{put-places, put-queue, note, forget, set-state, set-moment, set-next, set-calls, add-object}
-use Rattle.laws.specs.Views.{Sized, update, with-task, with-object, with-place, with-header, with-queue}
+use Rattle.laws.specs.Views.{Sized, update, with-task, with-object, with-place, with-places, with-header, with-queue}
 
 -- ---- each write keeps the lengths
 
@@ -263,6 +263,10 @@ view-put-header s h z f = λ i. record {
   header = header-put-header s h z f i;
   queue = entries (s .queue);
 }
+
+pub view-put-places : (s : Store) (ps : List ℕ) → view (put-places s ps) ≡ with-places (view s) (λ p. place-at ps p)
+unfolding view with-places task object place header put-places
+view-put-places s ps = refl
 
 pub view-put-queue : (s : Store) (q : ReadyQueue) → view (put-queue s q) ≡ with-queue (view s) (entries q)
 unfolding view with-queue task object place header put-queue

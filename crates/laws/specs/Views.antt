@@ -34,6 +34,10 @@ with-object v o r = record { tasks = v .tasks; objects = update (v .objects) o r
 unfoldable pub with-place : View → ℕ → Place → View
 with-place v p r = record { tasks = v .tasks; objects = v .objects; places = update (v .places) p r; header = v .header; queue = v .queue }
 
+-- the places are ps
+unfoldable pub with-places : View → (ℕ → Place) → View
+with-places v ps = record { tasks = v .tasks; objects = v .objects; places = ps; header = v .header; queue = v .queue }
+
 -- the header is h
 unfoldable pub with-header : View → Header → View
 with-header v h = record { tasks = v .tasks; objects = v .objects; places = v .places; header = h; queue = v .queue }
