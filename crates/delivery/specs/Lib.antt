@@ -2,3 +2,4 @@ pub mod BitLaws
 pub mod FillLaws
 pub mod Delivered
 pub mod StepLaws
+pub mod ClimbLaws

@@ -2,3 +2,4 @@
 pub mod fill; // the places of a gather that wait for a source
 pub mod task; // to a task
 pub mod gather; // into a gather
+pub mod climb; // up the gathers
