@@ -3,7 +3,7 @@ use mathlib.Core.Path.{_≡_, refl, sym, ap, _∙_}
 use mathlib.Core.List.{List}
 use mathlib.Core.Option.{Option, none, some}
 use Prim.Native.Nat.{ℕ, suc, _<_}
-use lib.ListN.{length}
+use lib.ListN.{length, replicate}
 use Rattle.asyncio.specs.Limits.{object-limit, tasks-length, objects-length, places-length}
 use Rattle.asyncio.specs.Ranges.{AwaiterFits}
 use Rattle.asyncio.specs.declared.HeapId.{HeapId}
@@ -65,3 +65,53 @@ module _ (ts os ps : List ℕ) (q : ReadyQueue) where
       pub climb-falls : awaited-in os ≡ suc (awaited-in us)
       unfolding awaited-count
       climb-falls = resolve-sent (store-of ts os ps q l) (g .0) (source .0) v sized h .falls w sends ∙ sym (ap (λ (r : Settled). suc (awaited-in (r .store .objects))) f)
+
+-- ---- the same of an error
+
+module _ (ts os ps : List ℕ) (q : ReadyQueue) (x : Error) where
+  pub error-nobody : (l : List Happening) {d : Delivery} → deliver-awaiter-failure (store-of ts os ps q l) Awaiter.Nobody x ≡ d
+      → delivered (store-of ts os ps q (d .store .log)) Found.Nothing ≡ d
+  unfolding deliver-awaiter-failure send-error nobody-woken
+  error-nobody l e = rw (← e)
+
+  pub error-to-task : (l : List Happening) (t : TaskId) {d : Delivery} → deliver-awaiter-failure (store-of ts os ps q l) (Awaiter.Task t) x ≡ d
+      → {us : List ℕ} {r : ReadyQueue} (w : Found)
+      → delivered (store-of us os ps r (deliver-to-task (store-of ts os ps q l) (t .0) (TaskState.Raised x) .store .log)) w ≡ deliver-to-task (store-of ts os ps q l) (t .0) (TaskState.Raised x)
+      → delivered (store-of us os ps r (d .store .log)) w ≡ d
+  unfolding deliver-awaiter-failure send-error
+  error-to-task l t e w f = rw (← e) f
+
+  module _ (g source : HeapId) {us : List ℕ} where
+    pub error-stays : (l : List Happening) {d : Delivery} → deliver-awaiter-failure (store-of ts os ps q l) (Awaiter.GatherSlot g source) x ≡ d
+        → settled (store-of ts us ps q l) Onward.Nowhere ≡ fail-gather (store-of ts os ps q l) (g .0) x
+        → delivered (store-of ts us ps q (d .store .log)) Found.Nothing ≡ d
+    unfolding deliver-awaiter-failure send-error climb nobody-woken
+    error-stays l e f = rw (← e, ← f)
+
+    module _ (w : Awaiter) (z : length ts ≡ tasks-length) (y : length os ≡ objects-length) (v : length ps ≡ places-length) (h : g .0 < object-limit) (l : List Happening)
+        (f : settled (store-of ts us ps q l) (Onward.To w) ≡ fail-gather (store-of ts os ps q l) (g .0) x) where
+      error-sized : Sized (store-of ts os ps q l)
+      error-sized = record { tasks-sized = z; objects-sized = y; places-sized = v }
+
+      error-sends : fail-gather (store-of ts os ps q l) (g .0) x .onward ≡ some w
+      error-sends = sym (ap (λ (r : Settled). r .onward) f)
+
+      pub error-climbs : deliver-awaiter-failure (store-of ts us ps q l) w x ≡ deliver-awaiter-failure (store-of ts os ps q l) (Awaiter.GatherSlot g source) x
+      error-climbs =
+          ap (λ (r : Settled). deliver-awaiter-failure (r .store) w x) f
+          ∙ sym (failure-climbs (store-of ts os ps q l) g source x w error-sized h error-sends)
+
+      pub error-fits : AwaiterFits w
+      error-fits = fail-sent (store-of ts os ps q l) (g .0) x error-sized h .fits w error-sends
+
+      pub error-falls : awaited-in os ≡ suc (awaited-in us)
+      unfolding awaited-count
+      error-falls = fail-sent (store-of ts os ps q l) (g .0) x error-sized h .falls w error-sends ∙ sym (ap (λ (r : Settled). suc (awaited-in (r .store .objects))) f)
+
+-- places of the right length, for what does not depend on them
+pub some-places : List ℕ
+some-places = replicate places-length 0
+
+pub some-places-long : length some-places ≡ places-length
+unfolding some-places
+some-places-long = refl

@@ -61,3 +61,42 @@ pub fn deliver_awaiter_success(
         }
     }
 }
+
+// Failure marks each awaited gather failed, climbs, and the blocked task at the end will raise it.
+pub fn deliver_awaiter_failure(
+    tasks: &mut [u64],
+    objects: &mut [u64],
+    queue: ReadyQueue,
+    awaiter: Awaiter,
+    error: Error,
+) -> Delivered
+    requires { ⌜ (length (now tasks) ≡ tasks-length) × (length (now objects) ≡ objects-length) × AwaiterFits awaiter ⌝ }
+    ensures { λ r. ⌜ ((ps : List ℕ) (l : List Happening) → length ps ≡ places-length → delivered (store-of (now (tasks .exit)) (now (objects .exit)) ps (r .queue) (deliver-awaiter-failure (store-of (now (tasks .entry)) (now (objects .entry)) ps queue l) awaiter error .store .log)) (r .woken) ≡ deliver-awaiter-failure (store-of (now (tasks .entry)) (now (objects .entry)) ps queue l) awaiter error) ⌝ }
+{
+    let mut to = awaiter;
+    loop {
+        match to {
+            Awaiter::Nobody => {
+                return Delivered {
+                    queue,
+                    woken: Found::Nothing,
+                };
+            }
+            Awaiter::Task(t) => return deliver_to_task(tasks, queue, t, TaskState::Raised(error)),
+            Awaiter::GatherSlot { gather, source: _ } => {
+                let onward = fail(objects, gather, error);
+                match onward {
+                    Onward::Nowhere => {
+                        return Delivered {
+                            queue,
+                            woken: Found::Nothing,
+                        };
+                    }
+                    Onward::To(w) => {
+                        to = w;
+                    }
+                }
+            }
+        }
+    }
+}
