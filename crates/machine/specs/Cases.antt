@@ -351,14 +351,19 @@ cases =
     Event.results (result 0 0 1 1 ∷ []) ⇒ Answer.done ∷
     Event.show 0 ⇒ Answer.shows (Shown.an-external-resolved (list 1)) ∷
     []) ∷
-    -- "new" is not "not spawned": a coroutine run inline has no task and is not new; one whose task is queued is new (P5)
+    -- "new" is not "not spawned": a coroutine run inline has no task and is not new, so that the commit fails at it and the item behind it is
+    -- not started; one whose task is queued is new (P5)
     answered (
     Event.coroutine 7 ⇒ Answer.made 0 ∷
     Event.await 0 ⇒ Answer.awaited (runs 0 (inline 0)) 0 ∷
-    Event.gather (0 ∷ []) ⇒ Answer.made 1 ∷
-    Event.await 1 ⇒ Answer.awaited (runs 0 (raises Error.CoroutineReuse)) 1 ∷
-    Event.show 1 ⇒ Answer.shows (Shown.a-gather-failed Error.CoroutineReuse) ∷
+    Event.coroutine 8 ⇒ Answer.made 1 ∷
+    Event.gather (0 ∷ 1 ∷ []) ⇒ Answer.made 2 ∷
+    Event.await 2 ⇒ Answer.awaited (runs 0 (raises Error.CoroutineReuse)) 1 ∷
+    Event.show 2 ⇒ Answer.shows (Shown.a-gather-failed Error.CoroutineReuse) ∷
     Event.await 0 ⇒ Answer.awaited (runs 0 (raises Error.CoroutineReuse)) 0 ∷
+    Event.call ⇒ Answer.called 0 ∷
+    pending 0 ⇒ Answer.made 3 ∷
+    Event.await 3 ⇒ Answer.awaited (waits (0 ∷ [])) 0 ∷
     []) ∷
     -- a wait with no call: the cancelled task 2 leaves its place open, task 1 ends, and nothing is ready or pending; resume is stalled
     answered (
