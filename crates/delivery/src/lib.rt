@@ -3,3 +3,4 @@ pub mod fill; // the places of a gather that wait for a source
 pub mod task; // to a task
 pub mod gather; // into a gather
 pub mod climb; // up the gathers
+pub mod future; // from an external

@@ -32,7 +32,7 @@ use Rattle.machine.specs.Scheduler.{push-ready, remove-from-ready-queue, make-r
 use Rattle.machine.specs.Scheduler.{visit, visit-open, walk-gather, walk-next, walk, cancel-task, remove-from, cleanup}
 use Rattle.machine.specs.Delivery.{Delivery, nobody-woken, deliver-to-task, Filled, fill-from, Settled, resolve-left, resolve-awaited, resolve-child, fail-awaited, fail-gather}
 use Rattle.machine.specs.Delivery.{climb, awaited-count, send-value, climb-value, deliver-awaiter-success, send-error, climb-error, deliver-awaiter-failure}
-use Rattle.machine.specs.Delivery.{resolve-pending, fail-pending, found, resolve-future, fail-future}
+use Rattle.machine.specs.Delivery.{resolve-pending, fail-pending, settle-pending, settle-found, resolve-future, fail-future}
 use Rattle.machine.specs.Commit.{Poll, ready, raised, pending, Polled, gives, await-pending, await-external, Item, polled, nested, item-coroutine, item-gather, item-object, open-from, item}
 use Rattle.machine.specs.Commit.{open-place, fill-place, Stop, at-end, at-nested, at-error, put-polled, put-item, step-items, Frame, step-gather-commit}
 use Rattle.machine.specs.Commit.{set-gather, open-gather-commit, settle-as, settle-gather-commit, resume-in, resume-after-child, unwind}
@@ -210,12 +210,12 @@ unfolding deliver-awaiter-failure
 sized-failure s a e z =
     sized-send-error (λ x b f. climb-error (awaited-count s) x b f) (λ x b f y. sized-climb-error (awaited-count s) x b f y) s a e z
 
-sized-found : (s : Store) (o : Option ℕ) (f : ℕ → PendingExternal → Store) → Sized s → ((o : ℕ) (p : PendingExternal) → Sized (f o p)) → Sized (found s o f)
-unfolding found
+sized-found : (s : Store) (o : Option ℕ) (f : ℕ → PendingExternal → Store) → Sized s → ((o : ℕ) (p : PendingExternal) → Sized (f o p)) → Sized (settle-found s o f)
+unfolding settle-found settle-pending
 sized-found s none f z h = z
 sized-found s (some o) f z h = by (as-pending (object s o))
   where
-    by : (p : Option PendingExternal) → Sized (elim p [ none ↦ s | some p ↦ f o p ])
+    by : (p : Option PendingExternal) → Sized (settle-pending s p (f o))
     by none = z
     by (some p) = h o p
 

@@ -166,15 +166,20 @@ unfoldable pub fail-pending : Store → ℕ → PendingExternal → Error → St
 fail-pending s o p e =
     deliver-awaiter-failure (put-object s o (Object.ExternalFuture (p .call) (ExternalFutureState.Failed e))) (p .awaiter) e .store
 
+-- a pending external is settled; any other object stays
+unfoldable pub settle-pending : Store → Option PendingExternal → (PendingExternal → Store) → Store
+settle-pending s none f = s
+settle-pending s (some p) f = f p
+
 -- the pending external of a call, with its number
-unfoldable pub found : Store → Option ℕ → (ℕ → PendingExternal → Store) → Store
-found s none f = s
-found s (some o) f = elim (as-pending (object s o)) [ none ↦ s | some p ↦ f o p ]
+unfoldable pub settle-found : Store → Option ℕ → (ℕ → PendingExternal → Store) → Store
+settle-found s none f = s
+settle-found s (some o) f = settle-pending s (as-pending (object s o)) (f o)
 
 -- A call that is not pending is ignored.
 unfoldable pub resolve-future : Store → ℕ → Value → Store
-resolve-future s call v = found s (pending-external s call) (λ o p. resolve-pending s o p v)
+resolve-future s call v = settle-found s (pending-external s call) (λ o p. resolve-pending s o p v)
 
 -- The same with an error.
 unfoldable pub fail-future : Store → ℕ → Error → Store
-fail-future s call e = found s (pending-external s call) (λ o p. fail-pending s o p e)
+fail-future s call e = settle-found s (pending-external s call) (λ o p. fail-pending s o p e)
