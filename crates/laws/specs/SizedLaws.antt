@@ -393,7 +393,7 @@ waiting-header s z =
     let f : HeaderFits (header s) = header-fits s in
     ap (λ (h : Header). h .made) (header-put-header s _ z (record { made-fits = f .made-fits; used-fits = f .used-fits; calls-fit = f .calls-fit; next-fits = f .next-fits; moment-fits = tt }))
 
-waiting-calls : (s : Store) → Sized s → pending-call-ids (set-moment s Moment.Waiting) ≡ pending-call-ids s
+pub waiting-calls : (s : Store) → Sized s → pending-call-ids (set-moment s Moment.Waiting) ≡ pending-call-ids s
 unfolding pending-call-ids pending-calls-in
 waiting-calls s z =
     let e : header-at (set-moment s Moment.Waiting .objects) .made ≡ header-at (s .objects) .made = unfold header in (waiting-header s z) in

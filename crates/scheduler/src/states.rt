@@ -17,7 +17,7 @@ ghost use Rattle.machine.specs.Scheduler.{make-ready, remove-task};
 ghost use Rattle.asyncio.specs.declared.TaskState.{TaskState};
 
 // Task `t` in another state.
-fn set_state(tasks: &mut [u64], t: TaskId, state: TaskState)
+pub fn set_state(tasks: &mut [u64], t: TaskId, state: TaskState)
     requires { ⌜ (length (now tasks) ≡ tasks-length) × (t .0 < task-limit) ⌝ }
     ensures { λ _. ⌜ now (tasks .exit) ≡ task-put (now (tasks .entry)) (t .0) (restate (task-at (now (tasks .entry)) (t .0)) state) ⌝ }
 {

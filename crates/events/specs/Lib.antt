@@ -1,0 +1,4 @@
+pub mod Control
+pub mod WokenLaws
+pub mod ControlLaws
+pub mod CycleLaws

@@ -1,0 +1,3 @@
+// The events of a running or waiting session (async_exec.rs).
+pub mod control; // who has control: a task runs, or the host
+pub mod cycle; // activate_task, start_task, handle_task_failure, resume_after_task_exit, switch_or_yield
