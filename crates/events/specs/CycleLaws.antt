@@ -46,7 +46,7 @@ unfolding front-of
 front-fits q = mod-lt (getD (q .ids) 0 0) (omega arith)
 
 -- a switch that another one stands for
-same-switch : {x y : Switched} → x ≡ y → {ts os ps : List ℕ} {q : ReadyQueue} (c : Control) → switched-of (store-of ts os ps q (y .store .log)) c ≡ y
+pub same-switch : {x y : Switched} → x ≡ y → {ts os ps : List ℕ} {q : ReadyQueue} (c : Control) → switched-of (store-of ts os ps q (y .store .log)) c ≡ y
     → switched-of (store-of ts os ps q (x .store .log)) c ≡ x
 same-switch e c r = rw e r
 

@@ -19,7 +19,7 @@ ghost use Rattle.queue.specs.declared.ReadyQueue.{ReadyQueue};
 ghost use Rattle.scheduler.specs.Ends.{clear-one, clear-from};
 
 // Is no call pending?
-fn no_call_pending(objects: &[u64]) -> bool
+pub fn no_call_pending(objects: &[u64]) -> bool
     requires { ⌜ length (now objects) ≡ objects-length ⌝ }
     ensures { λ r. ⌜ r ≡ is-empty (pending-calls-in (now (objects .entry))) ⌝ }
 {

@@ -1,0 +1,25 @@
+// The answers of document 01. The calls of a wait are those pending in the store, and the places of a gather that is shown stand there too.
+use crate::control::Control;
+use asyncio::Error;
+use asyncio::HeapId;
+use asyncio::Value;
+use queue::ReadyQueue;
+
+pub enum Answer {
+    Made(HeapId),
+    Called(u32),
+    Switched(Control),
+    Awaited { control: Control, steps: u16 },
+    Done,
+    Stalled,
+    Finished(Value),
+    FinishedError(Error),
+    Eager(bool),
+    Refused(u16),
+}
+
+// The queue after an event, and its answer.
+pub struct Stepped {
+    pub queue: ReadyQueue,
+    pub answer: Answer,
+}
