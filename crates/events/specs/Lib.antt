@@ -5,3 +5,5 @@ pub mod CycleLaws
 pub mod Answer
 pub mod EndLaws
 pub mod MakingLaws
+pub mod Results
+pub mod ResultLaws

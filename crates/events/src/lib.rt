@@ -4,3 +4,4 @@ pub mod cycle; // activate_task, start_task, handle_task_failure, resume_after_t
 pub mod answer; // the answers
 pub mod ends; // handle_task_completion, the end of main, resume_with_resolved_futures
 pub mod making; // coroutines, externals, gathers
+pub mod results; // apply_future_results
