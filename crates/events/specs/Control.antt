@@ -36,6 +36,10 @@ control-of os Control.Waits = machine.waits (pending-calls-in os)
 abbrev pub switched-of : Store → Control → machine.Switched
 switched-of s c = record { store = s; control = control-of (s .objects) c }
 
+-- a store, who has control, and the commit steps
+abbrev pub awaited-of : Store → Control → ℕ → machine.Awaited
+awaited-of s c n = record { store = s; control = control-of (s .objects) c; steps = n }
+
 -- the function of a new coroutine
 abbrev pub function-of : Option ℕ → NewFunction
 function-of none = NewFunction.None

@@ -7,3 +7,4 @@ pub mod EndLaws
 pub mod MakingLaws
 pub mod Results
 pub mod ResultLaws
+pub mod AwaitLaws

@@ -5,3 +5,4 @@ pub mod answer; // the answers
 pub mod ends; // handle_task_completion, the end of main, resume_with_resolved_futures
 pub mod making; // coroutines, externals, gathers
 pub mod results; // apply_future_results
+pub mod awaits; // exec_get_awaitable

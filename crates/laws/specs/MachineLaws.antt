@@ -28,7 +28,7 @@ use Rattle.machine.specs.Delivery.{Delivery}
 use Rattle.machine.specs.Commit.{Poll, ready, raised, pending}
 use Rattle.machine.specs.Events.{How, start, value, raises, Control, runs, waits, Switched, Awaited, run, yield, resume-next, resume-after-task-exit, handle-task-failure}
 use Rattle.machine.specs.Events.{start-by, start-task, activate-state, activate-within, activate, stays, go-on}
-use Rattle.machine.specs.Events.{await-coroutine, await-gather, await-object, exec-get-awaitable, handle-task-completion}
+use Rattle.machine.specs.Events.{await-coroutine, await-external-future, await-gather, await-object, exec-get-awaitable, handle-task-completion}
 use Rattle.machine.specs.Machine.{Event, Answer, Step, switched, answer-await, end-main, task-completes, task-fails, repeat-wait, resume-with-resolved-futures}
 use Rattle.machine.specs.Machine.{accept, refusal, decide, step}
 use Rattle.machine.specs.Lent.{slices-right, lengths-right, write-calls, written-by, written, lent-by, lent-step}
@@ -189,8 +189,8 @@ go-on-fits t o n s (raised e) = stays-fits s t (raises e) n
 go-on-fits t o n s pending = next-fits activate activate-fits _
 
 await-fits : (s : Store) (t o : ℕ) (x : Object) → AwaitFits (await-object s t o x)
-unfolding await-object await-coroutine await-gather control-calls
-await-fits s t o Object.Unmade = no-calls
+unfolding await-object await-coroutine await-external-future await-gather control-calls
+await-fits s t o Object.Unmade = pending-calls-list s
 await-fits s t o (Object.Coroutine f CoroutineState.New) = stays-fits _ t _ 0
 await-fits s t o (Object.Coroutine f CoroutineState.Running) = stays-fits s t _ 0
 await-fits s t o (Object.Coroutine f CoroutineState.Completed) = stays-fits s t _ 0

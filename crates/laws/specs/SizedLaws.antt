@@ -39,7 +39,7 @@ use Rattle.machine.specs.Commit.{set-gather, open-gather-commit, settle-as, set
 use Rattle.machine.specs.Commit.{Committed, turn, commit-loop, commit-gather-tree}
 use Rattle.machine.specs.Events.{How, start, value, raises, Switched, Awaited, Result, run, yield, resume-next, resume-after-task-exit, handle-task-failure}
 use Rattle.machine.specs.Events.{start-by, start-task, activate-state, activate-within, activate, stays, go-on}
-use Rattle.machine.specs.Events.{await-coroutine, await-gather, await-object, exec-get-awaitable, handle-task-completion, apply-result, apply-future-results}
+use Rattle.machine.specs.Events.{await-coroutine, await-external-future, await-gather, await-object, exec-get-awaitable, handle-task-completion, apply-result, apply-future-results}
 use Rattle.machine.specs.Events.{make-coroutine, make-pending, make-settled, make-gather}
 use Rattle.machine.specs.Sound.{places-below, object-in-range}
 use Rattle.machine.specs.Machine.{Event, Answer, Step, switched, answer-await, end-main, task-completes, task-fails, runner, repeat-wait, resume-with-resolved-futures}
@@ -463,17 +463,17 @@ go-on-left t o n s (ready v) z = stays-left s t (value v) n z
 go-on-left t o n s (raised e) z = stays-left s t (raises e) n z
 go-on-left t o n s pending z = next-left activate activate-left _ (sized-note _ (blocked t) (sized-set-state s t _ z))
 
-await-left : (s : Store) (t o : ℕ) (x : Object) → (x ≡ Object.Unmade → ⊥) → Sized s → AwaitLeft (await-object s t o x)
-unfolding await-object await-coroutine await-gather
-await-left s t o Object.Unmade m z = absurd (m refl)
-await-left s t o (Object.Coroutine f CoroutineState.New) m z = stays-left _ t _ 0 (sized-put-object s o _ z)
-await-left s t o (Object.Coroutine f CoroutineState.Running) m z = stays-left s t _ 0 z
-await-left s t o (Object.Coroutine f CoroutineState.Completed) m z = stays-left s t _ 0 z
-await-left s t o (Object.ExternalFuture c x) m z = go-on-left t o 0 _ _ (sized-await-external s o c x _ z)
-await-left s t o (Object.GatherFuture f n GatherState.Pending) m z = go-on-left t o _ _ _ (sized-commit s o _ z)
-await-left s t o (Object.GatherFuture f n (GatherState.Awaited a k)) m z = stays-left s t _ 0 z
-await-left s t o (Object.GatherFuture f n GatherState.Completed) m z = stays-left s t _ 0 z
-await-left s t o (Object.GatherFuture f n (GatherState.Failed e)) m z = stays-left s t _ 0 z
+await-left : (s : Store) (t o : ℕ) (x : Object) → Sized s → AwaitLeft (await-object s t o x)
+unfolding await-object await-coroutine await-external-future await-gather SaysCalls
+await-left s t o Object.Unmade z = record { sized = z; says = refl }
+await-left s t o (Object.Coroutine f CoroutineState.New) z = stays-left _ t _ 0 (sized-put-object s o _ z)
+await-left s t o (Object.Coroutine f CoroutineState.Running) z = stays-left s t _ 0 z
+await-left s t o (Object.Coroutine f CoroutineState.Completed) z = stays-left s t _ 0 z
+await-left s t o (Object.ExternalFuture c x) z = go-on-left t o 0 _ _ (sized-await-external s o c x _ z)
+await-left s t o (Object.GatherFuture f n GatherState.Pending) z = go-on-left t o _ _ _ (sized-commit s o _ z)
+await-left s t o (Object.GatherFuture f n (GatherState.Awaited a k)) z = stays-left s t _ 0 z
+await-left s t o (Object.GatherFuture f n GatherState.Completed) z = stays-left s t _ 0 z
+await-left s t o (Object.GatherFuture f n (GatherState.Failed e)) z = stays-left s t _ 0 z
 
 -- ---- each event
 
@@ -519,41 +519,31 @@ unfolding apply-future-results
 sized-apply-results [] s z = z
 sized-apply-results (r ∷ rs) s z = sized-apply-results rs _ (sized-apply-result s r z)
 
-accept-left : (s : Store) (e : Event) → ((o : ℕ) → e ≡ Event.await o → object s o ≡ Object.Unmade → ⊥) → Sized s → StepLeft (accept s e)
+accept-left : (s : Store) (e : Event) → Sized s → StepLeft (accept s e)
 unfolding accept make-coroutine make-pending make-settled make-gather answer-await exec-get-awaitable task-completes task-fails AnswerSays
-accept-left s (Event.coroutine f) m z = quiet _ _ (sized-add-object s _ 0 z) tt
-accept-left s Event.call m z = quiet _ _ (sized-set-calls s _ z) tt
-accept-left s (Event.pending c r) m z = quiet _ _ (sized-add-object s _ 0 z) tt
-accept-left s (Event.settled v) m z = quiet _ _ (sized-add-object _ _ 0 (sized-set-calls s _ z)) tt
-accept-left s (Event.gather os) m z = quiet _ _ (sized-add-object _ _ _ (items-sized os s _ z)) tt
-accept-left s (Event.await o) m z = let k = await-left s _ o (object s o) (m o refl) z in record { sized = k .sized; says = k .says }
-accept-left s (Event.complete v) m z =
+accept-left s (Event.coroutine f) z = quiet _ _ (sized-add-object s _ 0 z) tt
+accept-left s Event.call z = quiet _ _ (sized-set-calls s _ z) tt
+accept-left s (Event.pending c r) z = quiet _ _ (sized-add-object s _ 0 z) tt
+accept-left s (Event.settled v) z = quiet _ _ (sized-add-object _ _ 0 (sized-set-calls s _ z)) tt
+accept-left s (Event.gather os) z = quiet _ _ (sized-add-object _ _ _ (items-sized os s _ z)) tt
+accept-left s (Event.await o) z = let k = await-left s _ o (object s o) z in record { sized = k .sized; says = k .says }
+accept-left s (Event.complete v) z =
     pick-has StepLeft (eqb (runner (header s .moment)) 0) (end-left s (Answer.finished v) (unfold AnswerSays in tt) z) (switched-left _ (completion-left s _ v z))
-accept-left s (Event.fail n) m z =
+accept-left s (Event.fail n) z =
     pick-has StepLeft (eqb (runner (header s .moment)) 0) (end-left s (Answer.finished-error (Error.Script n)) (unfold AnswerSays in tt) z)
     (switched-left _ (failure-left activate activate-left s _ (Error.Script n) z))
-accept-left s (Event.results rs) m z = quiet _ _ (sized-apply-results rs s z) tt
-accept-left s Event.resume m z = resume-left s z
-accept-left s (Event.cancel t) m z = quiet _ _ (sized-cancel-task s t z) tt
-accept-left s (Event.show o) m z = quiet _ _ z tt
-accept-left s Event.eager m z = quiet _ _ z tt
-
--- an await that is not refused is of an object that is made
-made-object : (s : Store) (o : ℕ) → refusal s (Event.await o) ≡ 0 → object s o ≡ Object.Unmade → ⊥
-unfolding refusals unmade view object-in-range
-made-object s o h u =
-    let c = running-rest s ((5, leb (header s .made) o) ∷ []) (refusal-rest s (Event.await o) h) in
-    let l : o < header s .made = leb-false (header s .made) o (pass 4 (leb (header s .made) o) [] c .0) in
-    subst (λ (x : Object). T (object-in-range (header s) (places-below (object s) o) x)) u (sound-facts s (refusal-sound s (Event.await o) h) .but .objects o l)
+accept-left s (Event.results rs) z = quiet _ _ (sized-apply-results rs s z) tt
+accept-left s Event.resume z = resume-left s z
+accept-left s (Event.cancel t) z = quiet _ _ (sized-cancel-task s t z) tt
+accept-left s (Event.show o) z = quiet _ _ z tt
+accept-left s Event.eager z = quiet _ _ z tt
 
 step-left : (s : Store) (e : Event) → Sized s → StepLeft (step s e)
 unfolding step decide
 step-left s e z = by (eqb (refusal s e) 0) refl
   where
     by : (b : Bool) → eqb (refusal s e) 0 ≡ b → StepLeft (pick b (accept (forget s) e) (record { store = forget s; answer = Answer.refused (refusal s e) }))
-    by true q =
-        accept-left (forget s) e
-        (λ o p u. made-object (forget s) o (ap (refusal (forget s)) (sym p) ∙ (refusal-forget s e ∙ eqb-true (refusal s e) 0 q)) u) (sized-forget s z)
+    by true q = accept-left (forget s) e (sized-forget s z)
     by false q = quiet (forget s) (Answer.refused (refusal s e)) (sized-forget s z) (unfold AnswerSays in tt)
 
 -- Every event keeps the lengths.

@@ -137,6 +137,11 @@ await-coroutine s t o f CoroutineState.New = stays (put-object s o (Object.Corou
 await-coroutine s t o f CoroutineState.Running = stays s t (raises Error.CoroutineReuse) 0
 await-coroutine s t o f CoroutineState.Completed = stays s t (raises Error.CoroutineReuse) 0
 
+-- an external is polled, with no commit
+unfoldable pub await-external-future : Store → ℕ → ℕ → CallId → ExternalFutureState → Awaited
+await-external-future s t o c x =
+    let r : Polled = await-external s o c x (Awaiter.Task (task-id t)) in go-on t o 0 (r .store) (r .poll)
+
 -- a pending gather is committed
 unfoldable pub await-gather : Store → ℕ → ℕ → GatherState → Awaited
 await-gather s t o GatherState.Pending =
@@ -145,12 +150,11 @@ await-gather s t o (GatherState.Awaited a m) = stays s t (raises Error.GatherReu
 await-gather s t o GatherState.Completed = stays s t (value (Value.List (heap-id o))) 0
 await-gather s t o (GatherState.Failed e) = stays s t (raises e) 0
 
--- by what the object is
+-- by what the object is (one that is not made is refused before)
 unfoldable pub await-object : Store → ℕ → ℕ → Object → Awaited
-await-object s t o Object.Unmade = record { store = s; control = waits []; steps = 0 }
+await-object s t o Object.Unmade = record { store = s; control = waits (pending-call-ids s); steps = 0 }
 await-object s t o (Object.Coroutine f x) = await-coroutine s t o f x
-await-object s t o (Object.ExternalFuture c x) =
-    let r : Polled = await-external s o c x (Awaiter.Task (task-id t)) in go-on t o 0 (r .store) (r .poll)
+await-object s t o (Object.ExternalFuture c x) = await-external-future s t o c x
 await-object s t o (Object.GatherFuture f n x) = await-gather s t o x
 
 -- Task t awaits object o.
