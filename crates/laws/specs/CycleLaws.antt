@@ -109,14 +109,14 @@ pub record Pays (w x : Walk) : Type 0 where
 pays-then : {w x y : Walk} → Pays w x → Pays x y → Pays w y
 pays-then k l = record { marked = l .marked; pays = l .pays ∙ k .pays }
 
-mark-falls : (ms : List Bool) (g : ℕ) → length ms ≡ object-limit → g < object-limit → getD ms g false ≡ false → unmarked ms ≡ suc (unmarked (set ms g true))
+pub mark-falls : (ms : List Bool) (g : ℕ) → length ms ≡ object-limit → g < object-limit → getD ms g false ≡ false → unmarked ms ≡ suc (unmarked (set ms g true))
 unfolding unmarked
 mark-falls ms g m l e =
     count-drop (λ o. not (getD ms o false)) (λ o. not (getD (set ms g true) o false)) object-limit g l (rw e)
     (rw (getD-set-same ms g true false (omega arith))) (λ i ne. rw (getD-set-other ms g i true false ne))
 
 module _ (w : Walk) (m : length (w .marks) ≡ object-limit) where
-  reach-pays : (g : ℕ) → g < object-limit → Pays w (reach w g)
+  pub reach-pays : (g : ℕ) → g < object-limit → Pays w (reach w g)
   unfolding reach reach-if
   reach-pays g l = by (is-some (as-awaited (object (w .store) g))) (getD (w .marks) g false) refl
     where
@@ -125,7 +125,7 @@ module _ (w : Walk) (m : length (w .marks) ≡ object-limit) where
       by true false e = record { marked = length-set (w .marks) g true ∙ m; pays = omega (arith, mark-falls (w .marks) g m l e) }
       by false b e = record { marked = m; pays = refl }
 
-blocked-fits : (x : TaskState) → StateFits x → (o : ℕ) → blocked-on x ≡ some o → o < object-limit
+pub blocked-fits : (x : TaskState) → StateFits x → (o : ℕ) → blocked-on x ≡ some o → o < object-limit
 unfolding blocked-on
 blocked-fits TaskState.Absent f o e = absurd-some e
 blocked-fits TaskState.Unstarted f o e = absurd-some e

@@ -205,10 +205,10 @@ unfoldable pub remove-blocked : Walk → ℕ → Option ℕ → Walk
 remove-blocked w t none = record { store = cancel-one (w .store) t; drivers = w .drivers; marks = w .marks; stack = w .stack }
 remove-blocked w t (some b) = reach (record { store = cancel-one (w .store) t; drivers = w .drivers; marks = w .marks; stack = w .stack }) b
 
--- the task, if the walk has not removed it
-unfoldable pub still-live : Store → Option ℕ → Option ℕ
-still-live s none = none
-still-live s (some t) = pick (is-live (task s t .state)) (some t) none
+-- the task, if it still lives, by the tasks' words
+unfoldable pub still-live : List ℕ → Option ℕ → Option ℕ
+still-live ts none = none
+still-live ts (some t) = pick (is-live (task-at ts t .state)) (some t) none
 
 -- an item with a live task, which goes; an item without, which is reached as a nested gather
 unfoldable pub visit-by : Walk → ℕ → Option ℕ → Walk
@@ -217,7 +217,7 @@ visit-by w o (some t) = remove-blocked w t (blocked-on (task (w .store) t .state
 
 -- an item
 unfoldable pub visit : Walk → ℕ → Walk
-visit w o = visit-by w o (still-live (w .store) (w .drivers o))
+visit w o = visit-by w o (still-live (w .store .tasks) (w .drivers o))
 
 -- the item of place p, which is place i of its gather, if it is one of the open places
 unfoldable pub visit-place : Walk → ℕ → ℕ → ℕ → Walk

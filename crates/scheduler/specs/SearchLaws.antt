@@ -7,6 +7,8 @@ use Prim.Native.Nat.{ℕ, suc, _+_, _-_, _≤_, _<_}
 use native.Mathlib.Omega.{arith}
 use Rattle.asyncio.specs.declared.Header.{Header}
 use Rattle.rows.specs.Tables.{task-at, header-at}
+use Rattle.scheduler.specs.Search.{found}
+use Rattle.scheduler.specs.declared.tasks.Found.{Found}
 use Rattle.machine.specs.Scheduler.{first-from, drives, driver-in, is-call, pending-external-in}
 
 -- j is the number that the code tested, i as a number of its type
@@ -31,3 +33,12 @@ driver-begins ts n c = refl
 pub pending-begins : (os : List ℕ) (call : ℕ) {h : Header} → h ≡ header-at os → first-from (is-call os call) 0 (h .made - 0) ≡ pending-external-in os call
 unfolding pending-external-in
 pending-begins os call {h} e = let k : h .made - 0 ≡ h .made = omega arith in rw (k, e)
+
+-- what the code found is what the search gave
+pub found-at : (o : Option ℕ) (n : ℕ) → found o ≡ Found.At n → o ≡ some n
+found-at none n e = let z : _≡_ {A = ℕ} 0 1 = cc in absurd (omega arith)
+found-at (some m) n e = let z : m ≡ n = cc in ap some z
+
+pub found-nothing : (o : Option ℕ) → found o ≡ Found.Nothing → o ≡ none
+found-nothing none e = refl
+found-nothing (some m) e = let z : _≡_ {A = ℕ} 0 1 = cc in absurd (omega arith)

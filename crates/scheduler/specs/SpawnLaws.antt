@@ -16,19 +16,12 @@ use Rattle.queue.specs.declared.ReadyQueue.{ReadyQueue}
 use Rattle.machine.specs.Store.{Happening, spawned, store-of, header}
 use Rattle.machine.specs.Scheduler.{driver-in, driver, spawn, spawn-unless, spawn-as}
 use Rattle.scheduler.specs.Search.{found}
+use Rattle.scheduler.specs.SearchLaws.{found-at, found-nothing}
 use Rattle.scheduler.specs.Spawn.{SpawnsAs, Spawns, done, not-done}
 use Rattle.scheduler.specs.declared.tasks.Found.{Found}
 
 pub next-fits : (os : List ℕ) {h : Header} → h ≡ header-at os → h .next ≤ task-limit
 next-fits os e = rw e (header-at-fits os .next-fits)
-
-found-at : (o : Option ℕ) (n : ℕ) → found o ≡ Found.At n → o ≡ some n
-found-at none n e = let z : _≡_ {A = ℕ} 0 1 = cc in absurd (omega arith)
-found-at (some m) n e = let z : m ≡ n = cc in ap some z
-
-found-nothing : (o : Option ℕ) → found o ≡ Found.Nothing → o ≡ none
-found-nothing none e = refl
-found-nothing (some m) e = let z : _≡_ {A = ℕ} 0 1 = cc in absurd (omega arith)
 
 module _ (ts os : List ℕ) (q : ReadyQueue) (c g : ℕ) {h : Header} {d : Found} (e : h ≡ header-at os) (f : d ≡ found (driver-in ts (h .next) c)) where
   pub spawn-taken : (n : ℕ) → d ≡ Found.At n → Spawns ts os q c g ts os q false
