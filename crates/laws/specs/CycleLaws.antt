@@ -185,11 +185,13 @@ walk-once w m = by (w .stack) refl
         let fuel : unmarked (w .marks) + suc (length gs) ≡ suc (unmarked (x .marks) + length (x .stack)) = omega (arith, k .pays) in
         rw (e, fuel)
 
+-- nothing is marked yet
+pub all-unmarked : unmarked (replicate object-limit false) + 0 ≡ object-limit
+unfolding unmarked
+all-unmarked = refl
+
 -- cancel's fuel, one for each object, is that count
 pub cancel-walks : (s : Store) (t : ℕ)
     → cancel-task s t ≡ walk-rest (remove-blocked (walk-from s) t (blocked-on (task s t .state)))
 unfolding cancel-task walk-rest walk-from
 cancel-walks s t = let k = blocked-pays (walk-from s) (length-replicate {A = Bool} object-limit false) t in rw (k .pays ∙ all-unmarked)
-  where
-    all-unmarked : unmarked (replicate object-limit false) + 0 ≡ object-limit
-    all-unmarked = unfold unmarked in refl

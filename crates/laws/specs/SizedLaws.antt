@@ -27,7 +27,7 @@ use Rattle.asyncio.specs.Limits.{object-limit, task-limit, tasks-length, object
 use Rattle.asyncio.specs.Ranges.{HeaderFits}
 use Rattle.asyncio.specs.RangeLaws.{pick-has}
 use Rattle.machine.specs.Store.{Store, task, object, place, header, put-places, removed, reached, spawned, exited, blocked, set-moment, forget, absent, view, fresh, empty}
-use Rattle.machine.specs.Scheduler.{AwaitedGather, PendingExternal, as-awaited, as-pending, is-some, blocked-on, bit, driver, pending-external, live-count, insert, calls-below, pending-calls-in, pending-call-ids}
+use Rattle.machine.specs.Scheduler.{AwaitedGather, PendingExternal, as-awaited, as-pending, is-some, bit, driver, pending-external, live-count, insert, calls-below, pending-calls-in, pending-call-ids}
 use Rattle.machine.specs.Scheduler.{push-ready, remove-from-ready-queue, make-ready, spawn-as, spawn, spawn-unless, remove-task, cancel-one, Walk, reach-if, reach, remove-blocked}
 use Rattle.machine.specs.Scheduler.{visit-by, visit, visit-place, visit-open, walk-gather, walk-next, walk, walk-from, cancel-task, remove-from, cleanup}
 use Rattle.machine.specs.Delivery.{Delivery, nobody-woken, deliver-to-task, Filled, fill-from, Settled, resolve-left, resolve-awaited, resolve-child, fail-awaited, fail-gather}

@@ -1,24 +1,21 @@
 -- The ways through the functions of cancel, in the shape of what the code knows there.
 use mathlib.Core.Path.{_≡_, refl, sym, ap, _∙_, fun-ext}
-use mathlib.Core.Bool.{Bool, true, false, not, _&&_}
+use mathlib.Core.Bool.{Bool, true, false, not}
 use mathlib.Core.List.{List, [], _∷_}
 use mathlib.Core.Option.{Option, none, some}
-use Prim.Native.Nat.{ℕ, zero, suc, _+_, _-_, _/_, _%_, _^_, _≤_, _<_, min}
+use Prim.Native.Nat.{ℕ, zero, suc, _+_, _-_, _/_, _%_, _^_, _≤_, _<_}
 use native.Mathlib.Nat.{mod-eq-of-lt}
 use native.Mathlib.Omega.{arith}
-use lib.Dec.{eqb}
 use lib.ListN.{length, getD, set, replicate, length-replicate}
 use lib.Seq.{getD-set-same, getD-set-other}
-use borrow.Author.Tests.{eq-eqb, ne-eqb, eqb-true, eqb-false}
-use Rattle.asyncio.specs.Limits.{task-limit, object-limit}
-use Rattle.asyncio.specs.States.{pick, is-live, is-main}
+use borrow.Author.Tests.{eq-eqb, ne-eqb}
+use Rattle.asyncio.specs.Limits.{object-limit}
+use Rattle.asyncio.specs.States.{pick}
 use Rattle.asyncio.specs.Kinds.{kind, is-awaited}
 use Rattle.asyncio.specs.Parts.{first-of, count-of, awaiter-of, open-of}
-use Rattle.asyncio.specs.Numbers.{to-task-id, to-heap-id}
+use Rattle.asyncio.specs.Numbers.{to-heap-id}
 use Rattle.asyncio.specs.Ranges.{ObjectFits, PlacesFit}
-use Rattle.asyncio.specs.RangeLaws.{pick-has}
 use Rattle.asyncio.specs.declared.HeapId.{HeapId}
-use Rattle.asyncio.specs.declared.TaskId.{TaskId}
 use Rattle.asyncio.specs.declared.Awaiter.{Awaiter}
 use Rattle.asyncio.specs.declared.CoroutineState.{CoroutineState}
 use Rattle.asyncio.specs.declared.ExternalFutureState.{ExternalFutureState}
@@ -26,19 +23,18 @@ use Rattle.asyncio.specs.declared.GatherState.{GatherState}
 use Rattle.asyncio.specs.declared.Object.{Object}
 use Rattle.asyncio.specs.declared.Kind.{Kind}
 use Rattle.asyncio.specs.declared.Header.{Header}
-use Rattle.asyncio.specs.declared.Task.{Task}
 use Rattle.asyncio.specs.declared.TaskState.{TaskState}
 use Rattle.rows.specs.Tables.{task-at, object-at, place-at, header-at}
 use Rattle.rows.specs.TableLaws.{task-at-fits, object-at-fits, place-at-fits}
 use Rattle.queue.specs.declared.ReadyQueue.{ReadyQueue}
 use Rattle.machine.specs.Store.{Store, Happening, removed, store-of, task, object, place, header, note}
-use Rattle.machine.specs.Scheduler.{AwaitedGather, as-awaited, is-some, blocked-on, first-from, drives, driver-in, driver, remove-task, cancel-one}
+use Rattle.machine.specs.Scheduler.{AwaitedGather, as-awaited, is-some, blocked-on, driver-in, driver, remove-task, cancel-one}
 use Rattle.machine.specs.Scheduler.{Walk, reach-if, reach, remove-blocked, still-live, visit-by, visit, visit-place, visit-open, walk-gather, walk-next, walk-from, cancel-task}
 use Rattle.laws.specs.Statements.{unmarked, walk-rest}
-use Rattle.laws.specs.CycleLaws.{Pays, mark-falls, blocked-fits, place-pays, gather-pays, walk-once, cancel-walks}
+use Rattle.laws.specs.CycleLaws.{Pays, mark-falls, blocked-fits, blocked-pays, place-pays, gather-pays, walk-once, all-unmarked, cancel-walks}
 use Rattle.scheduler.specs.Search.{found}
 use Rattle.scheduler.specs.SearchLaws.{found-at, found-nothing}
-use Rattle.scheduler.specs.Cancel.{named, drivers-in, note-driver, below, walked, walk-of, Shows, awaited-places}
+use Rattle.scheduler.specs.Cancel.{drivers-in, below, walked, walk-of, Shows, awaited-places}
 use Rattle.scheduler.specs.declared.tasks.Found.{Found}
 use Rattle.scheduler.specs.declared.cancel.Walked.{Walked}
 
@@ -229,6 +225,20 @@ module _ (ds ts os ps : List ℕ) (at : Walked) (l : List Happening) (ms : List 
   walks t p q r s = rw (awaited-by (object-at os g), ← e, ← f, t, ← p, ← q, ← r) (s (awaiter-of (object-at os g)))
 
 -- ---- cancel_task
+
+pub logged-then : {A : Type 0} {f : List Happening → A} {x y : A} → Logged f x → x ≡ y → Logged f y
+logged-then g e = record { log = g .log; gives = g .gives ∙ e }
+
+-- the stack is empty and nothing is marked: there is a place for each object
+pub cancel-room : (ds ts os ps : List ℕ) (q : ReadyQueue) (l : List Happening) (zs : List ℕ) (t : ℕ) {us hs : List ℕ} {r : Walked} {ns : List Bool}
+    → Shows ds us os ps r ns hs (remove-blocked (walk-of ds ts os ps (walked q 0) l (replicate object-limit false) zs) t (blocked-on (task-at ts t .state)))
+    → unmarked ns + r .depth ≡ object-limit
+unfolding task
+cancel-room ds ts os ps q l zs t s =
+    let w : Walk = walk-of ds ts os ps (walked q 0) l (replicate object-limit false) zs in
+    room-kept ds ts os ps (walked q 0) l (replicate object-limit false) zs (remove-blocked w t (blocked-on (task-at ts t .state)))
+    (blocked-pays w (length-replicate {A = Bool} object-limit false) t) s
+    ∙ all-unmarked
 
 -- the walk begins as the machine's does
 pub cancel-begins : (ds ts os ps zs : List ℕ) (q : ReadyQueue) (l : List Happening) (t : ℕ) {h : Header} → h ≡ header-at os

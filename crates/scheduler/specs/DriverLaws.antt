@@ -9,7 +9,7 @@ use native.Mathlib.Omega.{arith}
 use lib.Dec.{eqb}
 use lib.ListN.{length, getD, set, replicate}
 use lib.Seq.{getD-set-same, getD-set-other}
-use borrow.Author.Tests.{eq-eqb, ne-eqb, eqb-true, eqb-false}
+use borrow.Author.Tests.{ne-eqb, eqb-true, eqb-false}
 use Rattle.asyncio.specs.Limits.{task-limit, object-limit}
 use Rattle.asyncio.specs.States.{pick, is-live, is-main}
 use Rattle.asyncio.specs.Numbers.{to-task-id}

@@ -1,4 +1,4 @@
-use mathlib.Core.Path.{_≡_, refl, sym, ap, _∙_}
+use mathlib.Core.Path.{ap}
 use native.Mathlib.Omega.{arith}
 use denote.Ref.{now}
 use Rattle.asyncio.specs.declared.TaskId.{TaskId}
@@ -6,50 +6,34 @@ use Rattle.scheduler.specs.DriverLaws.{driver-none, driver-lives, driver
 use borrow.Author.Needs.{needs}
 use Rattle.scheduler.proofs.cancel.live_driver.Statement.{statement}
 use Rattle.scheduler.proofs.cancel.live_driver.Tie as tie
-use Rattle.scheduler.proofs.cancel.live_driver.Reads as reads
-use Rattle.scheduler.proofs.cancel.live_driver.Lts as lts
-use Rattle.asyncio.proofs.TaskId.from_word.Reads as from-word-reads
-use Rattle.asyncio.proofs.TaskId.is_main.Reads as is-main-reads
-use Rattle.asyncio.proofs.TaskState.is_live.Reads as is-live-reads
-use Rattle.rows.proofs.parts.state_at.Reads as state-at-reads
 
--- src/cancel.rt:56:13
 cast-i : tie.Need-cast-i
 cast-i c = search needs
 
--- src/cancel.rt:57:31
 mul-from-word : tie.Need-mul-from-word
 mul-from-word c = search needs
 
--- src/cancel.rt:57:31
 shared-slice-read-from-word : tie.Need-shared-slice-read-from-word
 shared-slice-read-from-word c = search needs
 
--- src/cancel.rt:57:9
 from-word-requires : tie.Need-from-word-requires
 from-word-requires c κs = search needs
 
--- src/cancel.rt:58:8
 is-main-requires : tie.Need-is-main-requires
 is-main-requires c κs = search needs
 
--- src/cancel.rt:59:9
 returns : tie.Need-returns
 returns c = driver-none (now (c .before .before .before .before .before .before .before .args .tasks)) (now (c .before .before .before .before .before .before .before .args .drivers)) (c .before .before .before .before .before .before .before .args .o .0) (c .before .before .from-word .ensures) (c .before .is-main .ensures) (c .if1 .taken)
 
--- src/cancel.rt:61:9
 state-at-requires : tie.Need-state-at-requires
 state-at-requires c κs = (c .before .before .before .before .before .before .before .pre .0, omega (arith, ap (λ (x : TaskId). x .0) (c .before .before .from-word .ensures)))
 
--- src/cancel.rt:62:8
 is-live-requires : tie.Need-is-live-requires
 is-live-requires c κs = search needs
 
--- src/cancel.rt:63:9
 returns-2 : tie.Need-returns-2
 returns-2 c = driver-lives (now (c .before .before .before .before .before .before .before .before .before .before .args .tasks)) (now (c .before .before .before .before .before .before .before .before .before .before .args .drivers)) (c .before .before .before .before .before .before .before .before .before .before .args .o .0) (c .before .before .before .before .before .from-word .ensures) (c .before .before .before .before .is-main .ensures) (c .before .before .before .if1 .left) (c .before .before .state-at .ensures) (c .before .is-live .ensures) (c .if2 .taken)
 
--- src/cancel.rt:52:1
 returns-3 : tie.Need-returns-3
 returns-3 c = driver-gone (now (c .before .before .before .before .before .before .before .before .before .before .args .tasks)) (now (c .before .before .before .before .before .before .before .before .before .before .args .drivers)) (c .before .before .before .before .before .before .before .before .before .before .args .o .0) (c .before .before .before .before .before .from-word .ensures) (c .before .before .before .before .is-main .ensures) (c .before .before .before .if1 .left) (c .before .before .state-at .ensures) (c .before .is-live .ensures) (c .if2 .left)
 

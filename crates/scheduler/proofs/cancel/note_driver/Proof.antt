@@ -1,4 +1,3 @@
-use mathlib.Core.Path.{_≡_, refl, sym, ap, _∙_}
 use native.Mathlib.Omega.{arith}
 use denote.Ref.{now}
 use Rattle.scheduler.specs.Cancel.{note-driver}
@@ -6,51 +5,35 @@ use Rattle.scheduler.specs.DriverLaws.{coroutine-fits}
 use borrow.Author.Needs.{needs}
 use Rattle.scheduler.proofs.cancel.note_driver.Statement.{statement}
 use Rattle.scheduler.proofs.cancel.note_driver.Tie as tie
-use Rattle.scheduler.proofs.cancel.note_driver.Reads as reads
-use Rattle.scheduler.proofs.cancel.note_driver.Lts as lts
-use Rattle.asyncio.proofs.TaskId.word.Reads as word-reads
-use Rattle.asyncio.proofs.TaskState.is_live.Reads as is-live-reads
-use Rattle.rows.proofs.parts.coroutine_at.Reads as coroutine-at-reads
-use Rattle.rows.proofs.parts.state_at.Reads as state-at-reads
 
--- src/cancel.rt:29:9
 state-at-requires : tie.Need-state-at-requires
 state-at-requires c κs = search needs
 
--- src/cancel.rt:30:8
 is-live-requires : tie.Need-is-live-requires
 is-live-requires c κs = search needs
 
--- src/cancel.rt:31:13
 coroutine-at-requires : tie.Need-coroutine-at-requires
 coroutine-at-requires c κs = search needs
 
--- src/cancel.rt:32:17
 cast-i : tie.Need-cast-i
 cast-i c = search needs
 
--- src/cancel.rt:33:22
 word-requires : tie.Need-word-requires
 word-requires c κs = search needs
 
--- src/cancel.rt:33:9
 mul-drivers : tie.Need-mul-drivers
 mul-drivers c = search needs
 
--- src/cancel.rt:33:9
 slice-write-drivers : tie.Need-slice-write-drivers
 slice-write-drivers c = omega (arith, coroutine-fits (now (c .before .before .before .before .before .before .before .before .args .tasks)) (c .before .before .before .before .before .before .before .before .args .t .0) (c .before .before .coroutine-at .ensures))
 
--- src/cancel.rt:25:1
 same-length : tie.Need-same-length
 same-length c = search needs
 
--- src/cancel.rt:25:1
 returns : tie.Need-returns
 unfolding note-driver
 returns c = rw (← c .before .before .before .before .before .state-at .ensures, ← c .before .before .before .before .is-live .ensures, c .before .before .before .if1 .taken, ← c .before .before .coroutine-at .ensures, c .word .ensures)
 
--- src/cancel.rt:25:1
 returns-2 : tie.Need-returns-2
 unfolding note-driver
 returns-2 c = rw (← c .before .before .state-at .ensures, ← c .before .is-live .ensures, c .if1 .left)

@@ -1,4 +1,4 @@
-use mathlib.Core.Path.{_≡_, refl, sym, ap, _∙_}
+use mathlib.Core.Path.{ap}
 use native.Mathlib.Omega.{arith}
 use denote.Ref.{now}
 use Rattle.asyncio.specs.declared.TaskId.{TaskId}
@@ -7,66 +7,46 @@ use Rattle.scheduler.specs.CancelLaws.{visit-driven, visit-nested}
 use borrow.Author.Needs.{needs}
 use Rattle.scheduler.proofs.cancel.visit.Statement.{statement}
 use Rattle.scheduler.proofs.cancel.visit.Tie as tie
-use Rattle.scheduler.proofs.cancel.visit.Reads as reads
-use Rattle.scheduler.proofs.cancel.visit.Lts as lts
-use Rattle.asyncio.proofs.TaskId.new.Reads as new-reads
-use Rattle.scheduler.proofs.cancel.live_driver.Reads as live-driver-reads
-use Rattle.scheduler.proofs.cancel.reach.Reads as reach-reads
-use Rattle.scheduler.proofs.cancel.remove_blocked.Reads as remove-blocked-reads
 
--- src/cancel.rt:149:9
 live-driver-requires : tie.Need-live-driver-requires
 live-driver-requires c κs = search needs
 
--- src/cancel.rt:151:19
 enum-known-d : tie.Need-enum-known-d
 enum-known-d c = search needs
 
--- src/cancel.rt:151:74
 new-requires : tie.Need-new-requires
 new-requires c κs = search needs
 
--- src/cancel.rt:151:25
 remove-blocked-requires : tie.Need-remove-blocked-requires
 remove-blocked-requires c κs = (c .before .before .before .before .before .before .before .before .before .before .before .before .before .before .pre .0, c .before .before .before .before .before .before .before .before .before .before .before .before .before .before .pre .1, c .before .before .before .before .before .before .before .before .before .before .before .before .before .before .pre .3, c .before .before .before .before .before .before .before .before .before .before .before .before .before .before .pre .4, c .before .before .before .before .before .before .before .before .before .before .before .before .before .before .pre .5, omega (arith, ap (λ (h : TaskId). h .0) (c .new .ensures), driver-fits (now (c .before .before .before .before .before .before .before .before .before .before .before .before .before .before .args .tasks)) (now (c .before .before .before .before .before .before .before .before .before .before .before .before .before .before .args .drivers)) (c .before .before .before .before .before .before .before .before .before .before .before .before .before .before .args .o .0) (c .before .before .before .before .before .d .given .0 .0) (c .before .before .before .before .before .before .before .live-driver .ensures) (c .before .before .before .before .before .d .given .1)))
 
--- src/cancel.rt:153:40
 enum-told : tie.Need-enum-told
 enum-told c = search needs
 
--- src/cancel.rt:153:17
 reach-requires : tie.Need-reach-requires
 reach-requires c κs = search needs
 
--- src/cancel.rt:137:1
 same-length : tie.Need-same-length
 same-length c = search needs
 
--- src/cancel.rt:137:1
 same-length-2 : tie.Need-same-length-2
 same-length-2 c = search needs
 
--- src/cancel.rt:137:1
 same-length-3 : tie.Need-same-length-3
 same-length-3 c = search needs
 
--- src/cancel.rt:137:1
 returns : tie.Need-returns
 returns c = λ ps l. visit-driven (now (c .before .before .before .before .before .before .before .before .before .before .before .before .before .before .before .before .before .before .before .before .before .args .drivers)) (now (c .before .before .before .before .before .before .before .before .before .before .before .before .before .before .before .before .before .before .before .before .before .args .tasks)) (now (c .before .before .before .before .before .before .before .before .before .before .before .before .before .before .before .before .before .before .before .before .before .args .objects)) ps (c .before .before .before .before .before .before .before .before .before .before .before .before .before .before .before .before .before .before .before .before .before .args .at) l (now (c .before .before .before .before .before .before .before .before .before .before .before .before .before .before .before .before .before .before .before .before .before .args .marks)) (now (c .before .before .before .before .before .before .before .before .before .before .before .before .before .before .before .before .before .before .before .before .before .args .stack)) (c .before .before .before .before .before .before .before .before .before .before .before .before .before .before .before .before .before .before .before .before .before .args .o .0) (c .before .before .before .before .before .before .before .before .before .before .before .before .before .before .live-driver .ensures) (c .before .before .before .before .before .before .before .before .before .before .before .before .d .given .0 .0) (c .before .before .before .before .before .before .before .before .before .before .before .before .d .given .1) (ap (λ (h : TaskId). h .0) (c .before .before .before .before .before .before .before .new .ensures)) (c .before .before .before .before .before .before .remove-blocked .ensures (now (c .before .before .before .before .before .before .before .before .before .before .before .before .before .before .before .before .before .before .before .before .before .args .drivers)) ps l)
 
--- src/cancel.rt:137:1
 same-length-4 : tie.Need-same-length-4
 same-length-4 c = search needs
 
--- src/cancel.rt:137:1
 same-length-5 : tie.Need-same-length-5
 same-length-5 c = search needs
 
--- src/cancel.rt:137:1
 same-length-6 : tie.Need-same-length-6
 same-length-6 c = search needs
 
--- src/cancel.rt:137:1
 returns-2 : tie.Need-returns-2
 returns-2 c = λ ps l. visit-nested (now (c .before .before .before .before .before .before .before .before .before .before .before .before .before .before .before .before .before .args .drivers)) (now (c .before .before .before .before .before .before .before .before .before .before .before .before .before .before .before .before .before .args .tasks)) (now (c .before .before .before .before .before .before .before .before .before .before .before .before .before .before .before .before .before .args .objects)) ps (c .before .before .before .before .before .before .before .before .before .before .before .before .before .before .before .before .before .args .at) l (now (c .before .before .before .before .before .before .before .before .before .before .before .before .before .before .before .before .before .args .marks)) (now (c .before .before .before .before .before .before .before .before .before .before .before .before .before .before .before .before .before .args .stack)) (c .before .before .before .before .before .before .before .before .before .before .before .before .before .before .before .before .before .args .o .0) (c .before .before .before .before .before .before .before .before .before .before .live-driver .ensures) (c .before .before .before .before .before .before .before .before .enum-told .given .1) (c .before .before .before .before .before .reach .ensures (now (c .before .before .before .before .before .before .before .before .before .before .before .before .before .before .before .before .before .args .drivers)) (now (c .before .before .before .before .before .before .before .before .before .before .before .before .before .before .before .before .before .args .tasks)) ps (c .before .before .before .before .before .before .before .before .before .before .before .before .before .before .before .before .before .args .at .queue) l)
 

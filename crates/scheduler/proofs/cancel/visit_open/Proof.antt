@@ -1,10 +1,9 @@
-use mathlib.Core.Path.{_≡_, refl, sym, ap, _∙_}
+use mathlib.Core.Path.{_≡_, refl, _∙_}
 use mathlib.Core.List.{List, []}
-use Prim.Native.Nat.{ℕ, _≤_, _-_, _+_}
+use Prim.Native.Nat.{_≤_, _-_, _+_}
 use native.Mathlib.Omega.{arith}
 use lib.ListN.{length}
 use denote.Ref.{now}
-use borrow.Author.Needs.{needs}
 use Rattle.asyncio.specs.Limits.{object-limit}
 use Rattle.asyncio.specs.declared.Awaiter.{Awaiter}
 use Rattle.machine.specs.Store.{Happening}
@@ -14,9 +13,6 @@ use Rattle.scheduler.specs.Cancel.{walk-of, awaited-places}
 use Rattle.scheduler.specs.CancelLaws.{Logged, open-begin, open-turn, open-end, open-room}
 use Rattle.scheduler.proofs.cancel.visit_open.Statement.{statement}
 use Rattle.scheduler.proofs.cancel.visit_open.Tie as tie
-use Rattle.scheduler.proofs.cancel.visit_open.Reads as reads
-use Rattle.scheduler.proofs.cancel.visit_open.Lts as lts
-use Rattle.scheduler.proofs.cancel.visit_place.Reads as visit-place-reads
 
 abbrev Inv-loop : tie.InvT-loop
 Inv-loop tasks₀ objects places drivers marks₀ stack₀ first count waiting w₀ i₀ tasks marks stack w i =
@@ -26,43 +22,33 @@ abbrev μ-loop : tie.MeasureT-loop
 μ-loop tasks₀ objects places drivers marks₀ stack₀ first count waiting w₀ i₀ tasks marks stack w i =
     count - i
 
--- src/cancel.rt:201:5
 loop-holds : tie.Need-loop-holds Inv-loop μ-loop
 loop-holds c = ((λ a l. record { log = l; gives = open-begin _ _ _ }), refl, refl, refl, omega arith, c .before .before .before .before .before .before .pre .6)
 
--- src/cancel.rt:210:13
 add-visit-place : tie.Need-add-visit-place Inv-loop μ-loop
 add-visit-place c = omega arith
 
--- src/cancel.rt:202:9
 visit-place-requires : tie.Need-visit-place-requires Inv-loop μ-loop
 visit-place-requires c κs = (c .before .before .before .before .loop .inv .1 ∙ c .before .before .before .before .before .before .before .before .before .before .before .pre .0, c .before .before .before .before .before .before .before .before .before .before .before .pre .1, c .before .before .before .before .before .before .before .before .before .before .before .pre .2, c .before .before .before .before .before .before .before .before .before .before .before .pre .3, c .before .before .before .before .loop .inv .2 ∙ c .before .before .before .before .before .before .before .before .before .before .before .pre .4, c .before .before .before .before .loop .inv .3 ∙ c .before .before .before .before .before .before .before .before .before .before .before .pre .5, c .before .before .before .before .loop .inv .5, omega arith, omega arith)
 
--- src/cancel.rt:214:9
 add-i : tie.Need-add-i Inv-loop μ-loop
 add-i c = omega arith
 
--- src/cancel.rt:201:5
 loop-less : tie.Need-loop-less Inv-loop μ-loop
 loop-less c = omega arith
 
--- src/cancel.rt:201:5
 loop-again : tie.Need-loop-again Inv-loop μ-loop
 loop-again c = ((λ a l. open-turn (now (c .before .before .before .before .before .before .before .before .before .before .before .before .before .before .before .before .before .before .args .drivers)) (c .before .before .before .before .before .before .before .before .before .before .before .loop .tasks) (now (c .before .before .before .before .before .before .before .before .before .before .before .before .before .before .before .before .before .before .args .objects)) (now (c .before .before .before .before .before .before .before .before .before .before .before .before .before .before .before .before .before .before .args .places)) (c .before .before .before .before .before .before .before .before .before .before .before .loop .w) (c .before .before .before .before .before .before .before .before .before .before .before .loop .marks) (c .before .before .before .before .before .before .before .before .before .before .before .loop .stack) (awaited-places (c .before .before .before .before .before .before .before .before .before .before .before .before .before .before .before .before .before .before .args .first) (c .before .before .before .before .before .before .before .before .before .before .before .before .before .before .before .before .before .before .args .count) a (c .before .before .before .before .before .before .before .before .before .before .before .before .before .before .before .before .before .before .args .waiting)) (c .before .before .before .before .before .before .before .before .before .before .before .loop .i) (c .before .before .before .before .before .before .before .before .before .before .before .before .before .before .before .before .before .before .args .count) (c .before .before .before .before .before .before .before .before .before .before .loop-test .taken) (λ m. c .before .before .before .before .before .before .visit-place .ensures m) (c .before .before .before .before .before .before .before .before .before .before .before .loop .inv .0 a l)), c .before .before .before .before .before .before .visit-place .kept .0 ∙ c .before .before .before .before .before .before .before .before .before .before .before .loop .inv .1, c .before .before .before .before .before .before .visit-place .kept .1 .1 .1 .1 .0 ∙ c .before .before .before .before .before .before .before .before .before .before .before .loop .inv .2, c .before .before .before .before .before .before .visit-place .kept .1 .1 .1 .1 .1 .0 ∙ c .before .before .before .before .before .before .before .before .before .before .before .loop .inv .3, omega arith, omega (arith, open-room (now (c .before .before .before .before .before .before .before .before .before .before .before .before .before .before .before .before .before .before .args .drivers)) (c .before .before .before .before .before .before .before .before .before .before .before .loop .tasks) (now (c .before .before .before .before .before .before .before .before .before .before .before .before .before .before .before .before .before .before .args .objects)) (now (c .before .before .before .before .before .before .before .before .before .before .before .before .before .before .before .before .before .before .args .places)) (c .before .before .before .before .before .before .before .before .before .before .before .loop .w) [] (c .before .before .before .before .before .before .before .before .before .before .before .loop .marks) (c .before .before .before .before .before .before .before .before .before .before .before .loop .stack) (c .before .before .before .before .before .before .before .before .before .before .before .before .before .before .before .before .before .before .args .first + c .before .before .before .before .before .before .before .before .before .before .before .loop .i) (c .before .before .before .before .before .before .before .before .before .before .before .loop .i) (c .before .before .before .before .before .before .before .before .before .before .before .before .before .before .before .before .before .before .args .waiting) (c .before .before .before .before .before .before .before .before .before .before .before .loop .inv .2 ∙ c .before .before .before .before .before .before .before .before .before .before .before .before .before .before .before .before .before .before .pre .4) (c .before .before .before .before .before .before .visit-place .ensures []), c .before .before .before .before .before .before .before .before .before .before .before .loop .inv .5))
 
--- src/cancel.rt:184:1
 same-length : tie.Need-same-length Inv-loop μ-loop
 same-length c = c .before .loop .inv .1
 
--- src/cancel.rt:184:1
 same-length-2 : tie.Need-same-length-2 Inv-loop μ-loop
 same-length-2 c = c .before .loop .inv .2
 
--- src/cancel.rt:184:1
 same-length-3 : tie.Need-same-length-3 Inv-loop μ-loop
 same-length-3 c = c .before .loop .inv .3
 
--- src/cancel.rt:184:1
 returns : tie.Need-returns Inv-loop μ-loop
 returns c = λ a l. open-end (now (c .before .before .before .before .before .before .before .before .args .drivers)) (c .before .loop .tasks) (now (c .before .before .before .before .before .before .before .before .args .objects)) (now (c .before .before .before .before .before .before .before .before .args .places)) (c .before .loop .w) (c .before .loop .marks) (c .before .loop .stack) (awaited-places (c .before .before .before .before .before .before .before .before .args .first) (c .before .before .before .before .before .before .before .before .args .count) a (c .before .before .before .before .before .before .before .before .args .waiting)) (c .before .loop .i) (c .before .before .before .before .before .before .before .before .args .count) (c .loop-test .left) (c .before .loop .inv .0 a l)
 
