@@ -22,7 +22,7 @@ use scheduler::cancel::cancel_task;
 ghost use mathlib.Core.Path.{_≡_};
 ghost use lib.ListN.{length};
 ghost use Prim.Native.Nat.{_<_, _≤_};
-ghost use Rattle.asyncio.specs.Limits.{tasks-length, objects-length, places-length, task-limit, object-limit, place-limit};
+ghost use Rattle.asyncio.specs.Limits.{tasks-length, objects-length, places-length, task-limit, object-limit};
 
 // ---- the store
 
