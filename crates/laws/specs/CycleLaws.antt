@@ -18,8 +18,8 @@ use Rattle.rows.specs.Tables.{task-at}
 use Rattle.queue.specs.Queue.{pop-front, front-of}
 use Rattle.laws.specs.CountLaws.{count-drop}
 use Rattle.machine.specs.Store.{Store, task, put-task, object, put-queue, note, exited, absent}
-use Rattle.machine.specs.Scheduler.{AwaitedGather, as-awaited, is-some, blocked-on, bit, driver, live-in, live-count, remove-task, remove-from-ready-queue, cancel-one}
-use Rattle.machine.specs.Scheduler.{Walk, reach-if, reach, remove-blocked, visit, visit-open, walk-gather, walk-next, walk, cancel-task}
+use Rattle.machine.specs.Scheduler.{AwaitedGather, as-awaited, is-some, blocked-on, bit, live-in, live-count, remove-task, remove-from-ready-queue, cancel-one}
+use Rattle.machine.specs.Scheduler.{Walk, reach-if, reach, remove-blocked, visit-by, visit, visit-place, visit-open, walk-gather, walk-next, walk, walk-from, cancel-task}
 use Rattle.machine.specs.Delivery.{Delivery, deliver-awaiter-failure}
 use Rattle.machine.specs.Events.{Switched, resume-next, resume-after-task-exit, handle-task-failure, start-by, start-task, activate-state, activate-within, activate}
 use Rattle.laws.specs.Views.{Sized}
@@ -102,21 +102,21 @@ activate-once s t z l e =
 -- ---- cancel's walk
 
 -- the marks have their places, and what was marked since w stands on the stack
-record Pays (w x : Walk) : Type 0 where
-  marked : length (x .marks) ≡ object-limit
-  pays : unmarked (x .marks) + length (x .stack) ≡ unmarked (w .marks) + length (w .stack)
+pub record Pays (w x : Walk) : Type 0 where
+  pub marked : length (x .marks) ≡ object-limit
+  pub pays : unmarked (x .marks) + length (x .stack) ≡ unmarked (w .marks) + length (w .stack)
 
 pays-then : {w x y : Walk} → Pays w x → Pays x y → Pays w y
 pays-then k l = record { marked = l .marked; pays = l .pays ∙ k .pays }
 
-mark-falls : (ms : List Bool) (g : ℕ) → length ms ≡ object-limit → g < object-limit → getD ms g false ≡ false → unmarked ms ≡ suc (unmarked (set ms g true))
+pub mark-falls : (ms : List Bool) (g : ℕ) → length ms ≡ object-limit → g < object-limit → getD ms g false ≡ false → unmarked ms ≡ suc (unmarked (set ms g true))
 unfolding unmarked
 mark-falls ms g m l e =
     count-drop (λ o. not (getD ms o false)) (λ o. not (getD (set ms g true) o false)) object-limit g l (rw e)
     (rw (getD-set-same ms g true false (omega arith))) (λ i ne. rw (getD-set-other ms g i true false ne))
 
 module _ (w : Walk) (m : length (w .marks) ≡ object-limit) where
-  reach-pays : (g : ℕ) → g < object-limit → Pays w (reach w g)
+  pub reach-pays : (g : ℕ) → g < object-limit → Pays w (reach w g)
   unfolding reach reach-if
   reach-pays g l = by (is-some (as-awaited (object (w .store) g))) (getD (w .marks) g false) refl
     where
@@ -125,7 +125,7 @@ module _ (w : Walk) (m : length (w .marks) ≡ object-limit) where
       by true false e = record { marked = length-set (w .marks) g true ∙ m; pays = omega (arith, mark-falls (w .marks) g m l e) }
       by false b e = record { marked = m; pays = refl }
 
-blocked-fits : (x : TaskState) → StateFits x → (o : ℕ) → blocked-on x ≡ some o → o < object-limit
+pub blocked-fits : (x : TaskState) → StateFits x → (o : ℕ) → blocked-on x ≡ some o → o < object-limit
 unfolding blocked-on
 blocked-fits TaskState.Absent f o e = absurd-some e
 blocked-fits TaskState.Unstarted f o e = absurd-some e
@@ -138,25 +138,31 @@ remove-pays : (w : Walk) → length (w .marks) ≡ object-limit → (t : ℕ) (b
 unfolding remove-blocked
 remove-pays w m t none l = record { marked = m; pays = refl }
 remove-pays w m t (some o) l =
-    let k = reach-pays (record { store = cancel-one (w .store) t; marks = w .marks; stack = w .stack }) m o (l o refl) in
+    let k = reach-pays (record { store = cancel-one (w .store) t; drivers = w .drivers; marks = w .marks; stack = w .stack }) m o (l o refl) in
     record { marked = k .marked; pays = k .pays }
 
-visit-pays : (w : Walk) → length (w .marks) ≡ object-limit → (o : ℕ) → o < object-limit → Pays w (visit w o)
-unfolding visit
-visit-pays w m o l = by (driver (w .store) o)
-  where
-    by : (d : Option ℕ) → Pays w (elim d [ some t ↦ remove-blocked w t (blocked-on (task (w .store) t .state)) | none ↦ reach w o ])
-    by none = reach-pays w m o l
-    by (some t) = remove-pays w m t _ (blocked-fits (task (w .store) t .state) (task-fits (w .store) t .state-fits))
+-- a task that goes with what it is blocked on
+pub blocked-pays : (w : Walk) → length (w .marks) ≡ object-limit → (t : ℕ) → Pays w (remove-blocked w t (blocked-on (task (w .store) t .state)))
+blocked-pays w m t = remove-pays w m t _ (blocked-fits (task (w .store) t .state) (task-fits (w .store) t .state-fits))
+
+visit-pays : (w : Walk) → length (w .marks) ≡ object-limit → (o : ℕ) → o < object-limit → (d : Option ℕ) → Pays w (visit-by w o d)
+unfolding visit-by
+visit-pays w m o l none = reach-pays w m o l
+visit-pays w m o l (some t) = blocked-pays w m t
+
+pub place-pays : (w : Walk) → length (w .marks) ≡ object-limit → (p i open-places : ℕ) → Pays w (visit-place w p i open-places)
+unfolding visit-place visit
+place-pays w m p i n =
+    pick-has (Pays w) (bit n i) (visit-pays w m _ (place-fits (w .store) p .item-fits) _) (record { marked = m; pays = refl })
 
 open-pays : (k : ℕ) (w : Walk) → length (w .marks) ≡ object-limit → (a : AwaitedGather) (i : ℕ) → Pays w (visit-open w a i k)
 unfolding visit-open
 open-pays zero w m a i = record { marked = m; pays = refl }
 open-pays (suc k) w m a i =
-    let x = pick-has (Pays w) (bit (a .open-places) i) (visit-pays w m _ (place-fits (w .store) (a .first + i) .item-fits)) (record { marked = m; pays = refl }) in
+    let x = place-pays w m (a .first + i) i (a .open-places) in
     pays-then x (open-pays k _ (x .marked) a (i + 1))
 
-gather-pays : (w : Walk) → length (w .marks) ≡ object-limit → (a : Option AwaitedGather) → Pays w (walk-gather w a)
+pub gather-pays : (w : Walk) → length (w .marks) ≡ object-limit → (a : Option AwaitedGather) → Pays w (walk-gather w a)
 unfolding walk-gather
 gather-pays w m none = record { marked = m; pays = refl }
 gather-pays w m (some a) = open-pays (a .count) w m a 0
@@ -174,19 +180,18 @@ walk-once w m = by (w .stack) refl
     by : (gs : List ℕ) → w .stack ≡ gs → walk (unmarked (w .marks) + length (w .stack)) w ≡ walk-next walk-rest w (w .stack)
     by [] e = walk-none (unmarked (w .marks) + length (w .stack)) w e ∙ rw e
     by (g ∷ gs) e =
-        let x : Walk = walk-gather (record { store = w .store; marks = w .marks; stack = gs }) (as-awaited (object (w .store) g)) in
-        let k = gather-pays (record { store = w .store; marks = w .marks; stack = gs }) m (as-awaited (object (w .store) g)) in
+        let x : Walk = walk-gather (record { store = w .store; drivers = w .drivers; marks = w .marks; stack = gs }) (as-awaited (object (w .store) g)) in
+        let k = gather-pays (record { store = w .store; drivers = w .drivers; marks = w .marks; stack = gs }) m (as-awaited (object (w .store) g)) in
         let fuel : unmarked (w .marks) + suc (length gs) ≡ suc (unmarked (x .marks) + length (x .stack)) = omega (arith, k .pays) in
         rw (e, fuel)
 
+-- nothing is marked yet
+pub all-unmarked : unmarked (replicate object-limit false) + 0 ≡ object-limit
+unfolding unmarked
+all-unmarked = refl
+
 -- cancel's fuel, one for each object, is that count
 pub cancel-walks : (s : Store) (t : ℕ)
-    → cancel-task s t ≡ walk-rest (remove-blocked (record { store = s; marks = replicate object-limit false; stack = [] }) t (blocked-on (task s t .state)))
-unfolding cancel-task walk-rest
-cancel-walks s t =
-    let k = remove-pays (record { store = s; marks = replicate object-limit false; stack = [] }) (length-replicate {A = Bool} object-limit false) t _
-    (blocked-fits (task s t .state) (task-fits s t .state-fits)) in
-    rw (k .pays ∙ all-unmarked)
-  where
-    all-unmarked : unmarked (replicate object-limit false) + 0 ≡ object-limit
-    all-unmarked = unfold unmarked in refl
+    → cancel-task s t ≡ walk-rest (remove-blocked (walk-from s) t (blocked-on (task s t .state)))
+unfolding cancel-task walk-rest walk-from
+cancel-walks s t = let k = blocked-pays (walk-from s) (length-replicate {A = Bool} object-limit false) t in rw (k .pays ∙ all-unmarked)

@@ -27,9 +27,9 @@ use Rattle.asyncio.specs.Limits.{object-limit, task-limit, tasks-length, object
 use Rattle.asyncio.specs.Ranges.{HeaderFits}
 use Rattle.asyncio.specs.RangeLaws.{pick-has}
 use Rattle.machine.specs.Store.{Store, task, object, place, header, put-places, removed, reached, spawned, exited, blocked, set-moment, forget, absent, view, fresh, empty}
-use Rattle.machine.specs.Scheduler.{AwaitedGather, PendingExternal, as-awaited, as-pending, is-some, blocked-on, bit, driver, pending-external, live-count, insert, calls-below, pending-calls-in, pending-call-ids}
+use Rattle.machine.specs.Scheduler.{AwaitedGather, PendingExternal, as-awaited, as-pending, is-some, bit, driver, pending-external, live-count, insert, calls-below, pending-calls-in, pending-call-ids}
 use Rattle.machine.specs.Scheduler.{push-ready, remove-from-ready-queue, make-ready, spawn-as, spawn, spawn-unless, remove-task, cancel-one, Walk, reach-if, reach, remove-blocked}
-use Rattle.machine.specs.Scheduler.{visit, visit-open, walk-gather, walk-next, walk, cancel-task, remove-from, cleanup}
+use Rattle.machine.specs.Scheduler.{visit-by, visit, visit-place, visit-open, walk-gather, walk-next, walk, walk-from, cancel-task, remove-from, cleanup}
 use Rattle.machine.specs.Delivery.{Delivery, nobody-woken, deliver-to-task, Filled, fill-from, Settled, resolve-left, resolve-awaited, resolve-child, fail-awaited, fail-gather}
 use Rattle.machine.specs.Delivery.{climb, awaited-count, send-value, climb-value, deliver-awaiter-success, send-error, climb-error, deliver-awaiter-failure}
 use Rattle.machine.specs.Delivery.{resolve-pending, fail-pending, settle-pending, settle-found, resolve-future, fail-future}
@@ -90,19 +90,19 @@ unfolding remove-blocked
 sized-remove-blocked w t none z = sized-cancel-one (w .store) t z
 sized-remove-blocked w t (some b) z = sized-reach _ b (sized-cancel-one (w .store) t z)
 
-sized-visit : (w : Walk) (o : ℕ) → WalkSized w → WalkSized (visit w o)
-unfolding visit
-sized-visit w o z = by (driver (w .store) o)
-  where
-    by : (d : Option ℕ) → WalkSized (elim d [ some t ↦ remove-blocked w t (blocked-on (task (w .store) t .state)) | none ↦ reach w o ])
-    by none = sized-reach w o z
-    by (some t) = sized-remove-blocked w t _ z
+sized-visit-by : (w : Walk) (o : ℕ) (d : Option ℕ) → WalkSized w → WalkSized (visit-by w o d)
+unfolding visit-by
+sized-visit-by w o none z = sized-reach w o z
+sized-visit-by w o (some t) z = sized-remove-blocked w t _ z
+
+sized-visit-place : (w : Walk) (p i m : ℕ) → WalkSized w → WalkSized (visit-place w p i m)
+unfolding visit-place visit
+sized-visit-place w p i m z = pick-has WalkSized (bit m i) (sized-visit-by w _ _ z) z
 
 sized-visit-open : (k : ℕ) (w : Walk) (a : AwaitedGather) (i : ℕ) → WalkSized w → WalkSized (visit-open w a i k)
 unfolding visit-open
 sized-visit-open zero w a i z = z
-sized-visit-open (suc k) w a i z =
-    sized-visit-open k _ a (i + 1) (pick-has WalkSized (bit (a .open-places) i) (sized-visit w _ z) z)
+sized-visit-open (suc k) w a i z = sized-visit-open k _ a (i + 1) (sized-visit-place w (a .first + i) i (a .open-places) z)
 
 sized-walk-gather : (w : Walk) (a : Option AwaitedGather) → WalkSized w → WalkSized (walk-gather w a)
 unfolding walk-gather
@@ -120,7 +120,7 @@ sized-walk zero w z = z
 sized-walk (suc k) w z = sized-walk-next (λ x. walk k x) (λ x y. sized-walk k x y) w (w .stack) z
 
 pub sized-cancel-task : (s : Store) (t : ℕ) → Sized s → Sized (cancel-task s t)
-unfolding cancel-task
+unfolding cancel-task walk-from
 sized-cancel-task s t z = sized-walk object-limit _ (sized-remove-blocked _ t _ z)
 
 sized-remove-from : (k : ℕ) (s : Store) (t : ℕ) → Sized s → Sized (remove-from s t k)

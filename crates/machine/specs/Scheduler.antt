@@ -184,14 +184,16 @@ unfoldable pub cancel-one : Store → ℕ → Store
 cancel-one s t = note (remove-task s t) (removed t)
 
 -- A walk through awaited gathers: those reached are marked, so that each is walked once; those on the stack are still to be walked.
+-- The drivers are those of the store in which the walk began, so that the tasks are searched once for the whole walk.
 pub record Walk : Type 0 where
   pub store : Store
+  pub drivers : ℕ → Option ℕ
   pub marks : List Bool
   pub stack : List ℕ
 
 -- an awaited gather that is not marked is marked and stacked
 unfoldable pub reach-if : Walk → ℕ → Bool → Walk
-reach-if w g true = record { store = w .store; marks = set (w .marks) g true; stack = g ∷ w .stack }
+reach-if w g true = record { store = w .store; drivers = w .drivers; marks = set (w .marks) g true; stack = g ∷ w .stack }
 reach-if w g false = w
 
 -- a gather is reached: walked once, if it is awaited
@@ -200,18 +202,31 @@ reach w g = reach-if w g (is-some (as-awaited (object (w .store) g)) && not (get
 
 -- a task goes, and what it is blocked on is reached
 unfoldable pub remove-blocked : Walk → ℕ → Option ℕ → Walk
-remove-blocked w t none = record { store = cancel-one (w .store) t; marks = w .marks; stack = w .stack }
-remove-blocked w t (some b) = reach (record { store = cancel-one (w .store) t; marks = w .marks; stack = w .stack }) b
+remove-blocked w t none = record { store = cancel-one (w .store) t; drivers = w .drivers; marks = w .marks; stack = w .stack }
+remove-blocked w t (some b) = reach (record { store = cancel-one (w .store) t; drivers = w .drivers; marks = w .marks; stack = w .stack }) b
 
--- an item: its live task goes; a nested gather is reached
+-- the task, if it still lives, by the tasks' words
+unfoldable pub still-live : List ℕ → Option ℕ → Option ℕ
+still-live ts none = none
+still-live ts (some t) = pick (is-live (task-at ts t .state)) (some t) none
+
+-- an item with a live task, which goes; an item without, which is reached as a nested gather
+unfoldable pub visit-by : Walk → ℕ → Option ℕ → Walk
+visit-by w o none = reach w o
+visit-by w o (some t) = remove-blocked w t (blocked-on (task (w .store) t .state))
+
+-- an item
 unfoldable pub visit : Walk → ℕ → Walk
-visit w o = elim (driver (w .store) o) [ some t ↦ remove-blocked w t (blocked-on (task (w .store) t .state)) | none ↦ reach w o ]
+visit w o = visit-by w o (still-live (w .store .tasks) (w .drivers o))
+
+-- the item of place p, which is place i of its gather, if it is one of the open places
+unfoldable pub visit-place : Walk → ℕ → ℕ → ℕ → Walk
+visit-place w p i open-places = pick (bit open-places i) (visit w (place (w .store) p .item .0)) w
 
 -- the items of the open places from i on, k of them
 unfoldable pub visit-open : Walk → AwaitedGather → ℕ → ℕ → Walk
 visit-open w a i zero = w
-visit-open w a i (suc k) =
-    visit-open (pick (bit (a .open-places) i) (visit w (place (w .store) (a .first + i) .item .0)) w) a (i + 1) k
+visit-open w a i (suc k) = visit-open (visit-place w (a .first + i) i (a .open-places)) a (i + 1) k
 
 -- the open items of a gather are visited
 unfoldable pub walk-gather : Walk → Option AwaitedGather → Walk
@@ -222,17 +237,20 @@ walk-gather w (some a) = visit-open w a 0 (a .count)
 unfoldable pub walk-next : (Walk → Store) → Walk → List ℕ → Store
 walk-next go w [] = w .store
 walk-next go w (g ∷ gs) =
-    go (walk-gather (record { store = w .store; marks = w .marks; stack = gs }) (as-awaited (object (w .store) g)))
+    go (walk-gather (record { store = w .store; drivers = w .drivers; marks = w .marks; stack = gs }) (as-awaited (object (w .store) g)))
 
 -- Each turn takes one gather off the stack, and each comes there once: fuel is the gathers not marked and those on the stack.
 unfoldable pub walk : ℕ → Walk → Store
 walk zero w = w .store
 walk (suc k) w = walk-next (λ x. walk k x) w (w .stack)
 
+-- a walk that has reached nothing
+unfoldable pub walk-from : Store → Walk
+walk-from s = record { store = s; drivers = driver s; marks = replicate object-limit false; stack = [] }
+
 -- task t goes, and the walk begins at what it is blocked on
 unfoldable pub cancel-task : Store → ℕ → Store
-cancel-task s t =
-    walk object-limit (remove-blocked (record { store = s; marks = replicate object-limit false; stack = [] }) t (blocked-on (task s t .state)))
+cancel-task s t = walk object-limit (remove-blocked (walk-from s) t (blocked-on (task s t .state)))
 
 -- the live tasks among the k from t on are removed
 unfoldable pub remove-from : Store → ℕ → ℕ → Store

@@ -6,3 +6,6 @@ pub mod Spawn
 pub mod SpawnLaws
 pub mod Ends
 pub mod EndLaws
+pub mod Cancel
+pub mod DriverLaws
+pub mod CancelLaws

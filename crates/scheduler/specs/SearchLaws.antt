@@ -34,8 +34,7 @@ pub pending-begins : (os : List ℕ) (call : ℕ) {h : Header} → h ≡ header-
 unfolding pending-external-in
 pending-begins os call {h} e = let k : h .made - 0 ≡ h .made = omega arith in rw (k, e)
 
--- ---- the answer back as an option
-
+-- what the code found is what the search gave
 pub found-at : (o : Option ℕ) (n : ℕ) → found o ≡ Found.At n → o ≡ some n
 found-at none n e = let z : _≡_ {A = ℕ} 0 1 = cc in absurd (omega arith)
 found-at (some m) n e = let z : m ≡ n = cc in ap some z

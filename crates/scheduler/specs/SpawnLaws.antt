@@ -1,20 +1,17 @@
 -- The ways through spawn: the coroutine has a live task, no number is left, or a task is spawned.
-use mathlib.Core.Path.{_≡_, refl, sym, ap, _∙_}
-use mathlib.Core.Bool.{Bool, true, false}
-use mathlib.Core.List.{List, _∷_}
-use mathlib.Core.Option.{Option, none, some}
+use mathlib.Core.Path.{_≡_, sym, _∙_}
+use mathlib.Core.Bool.{true, false}
+use mathlib.Core.List.{List}
+use mathlib.Core.Option.{none, some}
 use Prim.Native.Nat.{ℕ, _≤_, _<_}
-use native.Mathlib.Omega.{arith}
-use lib.Dec.{ltb}
 use borrow.Author.Tests.{lt-ltb, le-ltb}
 use Rattle.asyncio.specs.Limits.{task-limit}
-use Rattle.asyncio.specs.Ranges.{HeaderFits}
 use Rattle.asyncio.specs.declared.Header.{Header}
 use Rattle.rows.specs.Tables.{header-at}
 use Rattle.rows.specs.TableLaws.{header-at-fits}
 use Rattle.queue.specs.declared.ReadyQueue.{ReadyQueue}
-use Rattle.machine.specs.Store.{Happening, spawned, store-of, header}
-use Rattle.machine.specs.Scheduler.{driver-in, driver, spawn, spawn-unless, spawn-as}
+use Rattle.machine.specs.Store.{spawned, header}
+use Rattle.machine.specs.Scheduler.{driver-in, driver, spawn, spawn-unless}
 use Rattle.scheduler.specs.Search.{found}
 use Rattle.scheduler.specs.SearchLaws.{found-at, found-nothing}
 use Rattle.scheduler.specs.Spawn.{SpawnsAs, Spawns, done, not-done}
