@@ -258,7 +258,7 @@ module _ (g : ℕ) (l : g < object-limit) (w : AwaitedGather) (m : PlacesFit (w 
       unfold StopKeeps in stop-then (put-polled g w i (r .store) (r .poll) go) k
       (put-polled-kinds (r .store) (r .poll) (k .sized) (k .kinds g ∙ e) (c ∙ sym (k .counts g)))
 
-awaited-count : (x : Object) (w : AwaitedGather) → as-awaited x ≡ some w → w .count ≡ count-of x
+pub awaited-count : (x : Object) (w : AwaitedGather) → as-awaited x ≡ some w → w .count ≡ count-of x
 unfolding count-of
 awaited-count x w e = rw (awaited-object x w e)
 

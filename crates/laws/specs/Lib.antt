@@ -1,3 +1,4 @@
+pub mod BitLaws
 pub mod CountLaws
 pub mod TestLaws
 pub mod Views

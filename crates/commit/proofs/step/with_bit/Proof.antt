@@ -1,0 +1,37 @@
+use borrow.Author.Needs.{needs}
+use Rattle.commit.proofs.step.with_bit.Statement.{statement}
+use Rattle.commit.proofs.step.with_bit.Tie as tie
+use Rattle.commit.proofs.step.with_bit.Reads as reads
+use Rattle.commit.proofs.step.with_bit.Lts as lts
+
+-- src/step.rt:62:20
+cast-if1 : tie.Need-cast-if1
+cast-if1 c = search needs
+
+-- src/step.rt:62:9
+shr-if1 : tie.Need-shr-if1
+shr-if1 c = search needs
+
+-- src/step.rt:63:35
+cast-result : tie.Need-cast-result
+cast-result c = search needs
+
+-- src/step.rt:63:27
+shl-result : tie.Need-shl-result
+shl-result c = search needs
+
+-- src/step.rt:63:16
+add-result : tie.Need-add-result
+add-result c = ?
+
+-- src/step.rt:63:9
+returns : tie.Need-returns
+returns c = ?
+
+-- src/step.rt:58:1
+returns-2 : tie.Need-returns-2
+returns-2 c = ?
+
+pub with-bit-spec : {M : Type 1} → statement M
+with-bit-spec =
+    tie.close (tie.spec cast-if1 shr-if1 cast-result shl-result add-result returns returns-2)

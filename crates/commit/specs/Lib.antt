@@ -1,0 +1,4 @@
+pub mod Polls
+pub mod ItemLaws
+pub mod Steps
+pub mod StepLaws
