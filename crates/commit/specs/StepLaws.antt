@@ -18,6 +18,7 @@ use Rattle.asyncio.specs.declared.GatherState.{GatherState}
 use Rattle.asyncio.specs.declared.Object.{Object}
 use Rattle.asyncio.specs.declared.Place.{Place}
 use Rattle.rows.specs.Tables.{object-at, object-put, place-at, place-put}
+use Rattle.rows.specs.TableLaws.{place-at-fits}
 use Rattle.queue.specs.declared.ReadyQueue.{ReadyQueue}
 use Rattle.machine.specs.Store.{Store, Happening, store-of, object, put-object, place, put-place}
 use Rattle.machine.specs.Scheduler.{as-awaited}
@@ -75,10 +76,21 @@ pub awaited-range : (os : List ℕ) (g : ℕ) (a : OptionAwaited) (w : AwaitedGa
 unfolding object
 awaited-range os g a w e f = awaited-fits (store-of [] os [] (record { len = 0; ids = [] }) []) g (awaited-of w) (sym (rw f at e)) .0
 
--- it has as many places as its row
-pub awaited-places : (os : List ℕ) (g : ℕ) (a : OptionAwaited) (w : AwaitedGather) → option-awaited a ≡ as-awaited (object-at os g) → a ≡ OptionAwaited.Some w
-    → w .count ≡ count-of (object-at os g)
-awaited-places os g a w e f = awaited-count (object-at os g) (awaited-of w) (sym (rw f at e))
+-- a place of a gather, by the count in its row
+pub record InPlace (w : AwaitedGather) (i : ℕ) : Type 0 where
+  pub in-places : w .first + i < place-limit
+  pub in-items : i < item-limit
+
+pub place-range : (os : List ℕ) (g : ℕ) (a : OptionAwaited) (w : AwaitedGather) (i : ℕ) → option-awaited a ≡ as-awaited (object-at os g) → a ≡ OptionAwaited.Some w
+    → i < count-of (object-at os g) → InPlace w i
+place-range os g a w i e f h =
+    let n : w .count ≡ count-of (object-at os g) = awaited-count (object-at os g) (awaited-of w) (sym (rw f at e)) in
+    let r : PlacesFit (w .first) (w .count) = awaited-range os g a w e f in
+    record { in-places = omega (arith, r .within); in-items = omega (arith, r .at-most) }
+
+-- the object that a place names is in range
+pub item-range : (ps : List ℕ) (p : ℕ) {o : HeapId} → o ≡ place-at ps p .item → o .0 < object-limit
+item-range ps p e = rw e (place-at-fits ps p .item-fits)
 
 itemed-nested : (s u : Store) (x : machine.Item) → record { store = u; poll = none } ≡ itemed s x → (x ≡ nested) × (s ≡ u)
 itemed-nested s u (polled r) e = absurd-some (ap (λ (y : Itemed). y .poll) e)

@@ -1,3 +1,5 @@
+use denote.Ref.{now}
+use Rattle.commit.specs.StepLaws.{place-filled}
 use borrow.Author.Needs.{needs}
 use Rattle.commit.proofs.step.fill_place.Statement.{statement}
 use Rattle.commit.proofs.step.fill_place.Tie as tie
@@ -28,7 +30,7 @@ same-length c = search needs
 
 -- src/step.rt:90:1
 returns : tie.Need-returns
-returns c = ?
+returns c = λ ts os q l. place-filled ts os (now (c .before .before .before .before .before .before .before .before .args .places)) q l (c .before .before .before .before .before .before .before .before .args .w) (c .before .before .before .before .before .before .before .before .args .i) (c .before .before .before .before .before .before .before .before .args .value) (c .before .before .before .before .item-at .ensures) (c .before .before .store-place .ensures)
 
 pub fill-place-spec : {M : Type 1} → statement M
 fill-place-spec =

@@ -1,3 +1,5 @@
+use denote.Ref.{now}
+use Rattle.commit.specs.StepLaws.{place-opened}
 use borrow.Author.Needs.{needs}
 use Rattle.commit.proofs.step.open_place.Statement.{statement}
 use Rattle.commit.proofs.step.open_place.Tie as tie
@@ -20,7 +22,7 @@ same-length c = search needs
 
 -- src/step.rt:69:1
 returns : tie.Need-returns
-returns c = ?
+returns c = λ ts ps q l. place-opened ts (now (c .before .before .before .before .before .before .args .objects)) ps q l (c .before .before .before .before .before .before .args .w) (c .before .before .before .before .before .before .args .i) (c .before .before .before .before .before .before .args .g .0) (c .before .before .before .before .with-bit .ensures) (c .before .before .store-object .ensures)
 
 pub open-place-spec : {M : Type 1} → statement M
 open-place-spec = tie.close (tie.spec with-bit-requires store-object-requires same-length returns)

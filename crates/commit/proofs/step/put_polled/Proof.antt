@@ -1,3 +1,6 @@
+use denote.Ref.{now}
+use Rattle.commit.specs.Steps.{stepped}
+use Rattle.commit.specs.StepLaws.{put-ready, put-raised, put-pending}
 use borrow.Author.Needs.{needs}
 use Rattle.commit.proofs.step.put_polled.Statement.{statement}
 use Rattle.commit.proofs.step.put_polled.Tie as tie
@@ -32,11 +35,13 @@ same-length c = search needs
 
 -- src/step.rt:107:1
 returns : tie.Need-returns
-returns c = ?
+unfolding stepped
+returns c = λ ts q l go. put-ready ts (now (c .before .before .before .before .before .before .before .before .before .args .objects)) (now (c .before .before .before .before .before .before .before .before .before .args .places)) q l (c .before .before .before .before .before .before .before .before .before .args .w) (c .before .before .before .before .before .before .before .before .before .args .i) (c .before .before .before .before .before .before .before .before .before .args .g .0) go _ (c .before .before .before .before .before .poll .given .1) (c .before .before .fill-place .ensures ts (now (c .before .before .before .before .before .before .before .before .before .args .objects)) q l)
 
 -- src/step.rt:107:1
 returns-2 : tie.Need-returns-2
-returns-2 c = ?
+unfolding stepped
+returns-2 c = λ ts q l go. put-raised ts (now (c .before .before .before .before .before .args .objects)) (now (c .before .before .before .before .before .args .places)) q l (c .before .before .before .before .before .args .w) (c .before .before .before .before .before .args .i) (c .before .before .before .before .before .args .g .0) go _ (c .before .poll2 .given .1)
 
 -- src/step.rt:107:1
 same-length-2 : tie.Need-same-length-2
@@ -44,7 +49,8 @@ same-length-2 c = search needs
 
 -- src/step.rt:107:1
 returns-3 : tie.Need-returns-3
-returns-3 c = ?
+unfolding stepped
+returns-3 c = λ ts q l go. put-pending ts (now (c .before .before .before .before .before .before .before .before .args .objects)) (now (c .before .before .before .before .before .before .before .before .args .places)) q l (c .before .before .before .before .before .before .before .before .args .w) (c .before .before .before .before .before .before .before .before .args .i) (c .before .before .before .before .before .before .before .before .args .g .0) go (c .before .before .before .before .enum-told .given .1) (c .before .before .open-place .ensures ts (now (c .before .before .before .before .before .before .before .before .args .places)) q l)
 
 pub put-polled-spec : {M : Type 1} → statement M
 put-polled-spec =

@@ -1,3 +1,8 @@
+use mathlib.Core.Path.{_∙_}
+use native.Mathlib.Omega.{arith}
+use denote.Ref.{now}
+use Rattle.asyncio.specs.RangeLaws.{to-place-fits}
+use Rattle.commit.specs.StepLaws.{awaited-range, place-range, item-range, step-none, step-nested, step-polled}
 use borrow.Author.Needs.{needs}
 use Rattle.commit.proofs.step.step_item.Statement.{statement}
 use Rattle.commit.proofs.step.step_item.Tie as tie
@@ -26,15 +31,15 @@ cast-item-at c = search needs
 
 -- src/step.rt:150:50
 add-item-at : tie.Need-add-item-at
-add-item-at c = ?
+add-item-at c = omega (arith, place-range _ _ (c .before .before .before .before .before .as-awaited .result) _ _ (c .before .before .before .before .before .as-awaited .ensures) (c .before .before .before .a .given .1) (c .before .before .before .before .before .before .before .before .before .before .pre .4) .in-places)
 
 -- src/step.rt:150:17
 item-at-requires : tie.Need-item-at-requires
-item-at-requires c κs = ?
+item-at-requires c κs = (search needs, place-range _ _ (c .before .before .before .before .before .as-awaited .result) _ _ (c .before .before .before .before .before .as-awaited .ensures) (c .before .before .before .a .given .1) (c .before .before .before .before .before .before .before .before .before .before .pre .4) .in-places)
 
 -- src/step.rt:151:17
 item-requires : tie.Need-item-requires
-item-requires c κs = ?
+item-requires c κs = (search needs, search needs, search needs, awaited-range _ _ (c .before .before .before .before .before .before .before .before .before .as-awaited .result) _ (c .before .before .before .before .before .before .before .before .before .as-awaited .ensures) (c .before .before .before .before .before .before .before .a .given .1), item-range _ _ (c .before .before .before .item-at .ensures))
 
 -- src/step.rt:157:27
 enum-told-2 : tie.Need-enum-told-2
@@ -46,7 +51,7 @@ enum-known-polled c = search needs
 
 -- src/step.rt:160:25
 put-polled-requires : tie.Need-put-polled-requires
-put-polled-requires c κs = ?
+put-polled-requires c κs = (c .before .before .before .before .before .before .before .before .before .before .item .kept .1 .0 ∙ c .before .before .before .before .before .before .before .before .before .before .before .before .before .before .before .before .before .before .before .before .before .before .before .before .before .pre .1, c .before .before .before .before .before .before .before .before .before .before .before .before .before .before .before .before .before .before .before .before .before .before .before .before .before .pre .2, c .before .before .before .before .before .before .before .before .before .before .before .before .before .before .before .before .before .before .before .before .before .before .before .before .before .pre .3, place-range _ _ (c .before .before .before .before .before .before .before .before .before .before .before .before .before .before .before .before .before .before .before .before .as-awaited .result) _ _ (c .before .before .before .before .before .before .before .before .before .before .before .before .before .before .before .before .before .before .before .before .as-awaited .ensures) (c .before .before .before .before .before .before .before .before .before .before .before .before .before .before .before .before .before .before .a .given .1) (c .before .before .before .before .before .before .before .before .before .before .before .before .before .before .before .before .before .before .before .before .before .before .before .before .before .pre .4) .in-items, place-range _ _ (c .before .before .before .before .before .before .before .before .before .before .before .before .before .before .before .before .before .before .before .before .as-awaited .result) _ _ (c .before .before .before .before .before .before .before .before .before .before .before .before .before .before .before .before .before .before .before .before .as-awaited .ensures) (c .before .before .before .before .before .before .before .before .before .before .before .before .before .before .before .before .before .before .a .given .1) (c .before .before .before .before .before .before .before .before .before .before .before .before .before .before .before .before .before .before .before .before .before .before .before .before .before .pre .4) .in-places)
 
 -- src/step.rt:132:1
 same-length : tie.Need-same-length
@@ -54,7 +59,7 @@ same-length c = search needs
 
 -- src/step.rt:132:1
 returns : tie.Need-returns
-returns c = ?
+returns c = λ l go. step-none (now (c .before .before .before .before .before .before .before .args .tasks)) (now (c .before .before .before .before .before .before .before .args .objects)) (now (c .before .before .before .before .before .before .before .args .places)) (c .before .before .before .before .before .before .before .args .queue) l (c .before .before .before .before .before .before .before .args .g .0) (c .before .before .before .before .before .before .before .args .i) (c .before .before .as-awaited .result) (c .before .before .as-awaited .ensures) (c .enum-told .given .1) go
 
 -- src/step.rt:132:1
 same-length-2 : tie.Need-same-length-2
@@ -70,7 +75,7 @@ same-length-4 c = search needs
 
 -- src/step.rt:132:1
 returns-2 : tie.Need-returns-2
-returns-2 c = ?
+returns-2 c = λ l go. step-nested (now (c .before .before .before .before .before .before .before .before .before .before .before .before .before .before .before .before .before .before .before .before .before .before .args .tasks)) (now (c .before .before .before .before .before .before .before .before .before .before .before .before .before .before .before .before .before .before .before .before .before .before .args .objects)) (now (c .before .before .before .before .before .before .before .before .before .before .before .before .before .before .before .before .before .before .before .before .before .before .args .places)) (c .before .before .before .before .before .before .before .before .before .before .before .before .before .before .before .before .before .before .before .before .before .before .args .queue) l (c .before .before .before .before .before .before .before .before .before .before .before .before .before .before .before .before .before .before .before .before .before .before .args .g .0) (c .before .before .before .before .before .before .before .before .before .before .before .before .before .before .before .before .before .before .before .before .before .before .args .i) (c .before .before .before .before .before .before .before .before .before .before .before .before .before .before .before .before .before .as-awaited .result) (c .before .before .before .before .before .before .before .before .before .before .before .before .before .before .before .before .before .as-awaited .ensures) _ (c .before .before .before .before .before .before .before .before .before .before .before .before .before .before .before .a .given .1) (c .before .before .before .before .before .before .before .before .before .before .before .item-at .ensures) (c .before .before .before .before .before .before .before .item .result .item) (c .before .before .before .before .before .before .before .item .ensures l) (c .enum-told2 .given .1) go
 
 -- src/step.rt:132:1
 same-length-5 : tie.Need-same-length-5
@@ -86,7 +91,7 @@ same-length-7 c = search needs
 
 -- src/step.rt:132:1
 returns-3 : tie.Need-returns-3
-returns-3 c = ?
+returns-3 c = λ l go. step-polled (now (c .before .before .before .before .before .before .before .before .before .before .before .before .before .before .before .before .before .before .before .before .before .before .before .before .before .before .before .before .before .before .args .tasks)) (now (c .before .before .before .before .before .before .before .before .before .before .before .before .before .before .before .before .before .before .before .before .before .before .before .before .before .before .before .before .before .before .args .objects)) (now (c .before .before .before .before .before .before .before .before .before .before .before .before .before .before .before .before .before .before .before .before .before .before .before .before .before .before .before .before .before .before .args .places)) (c .before .before .before .before .before .before .before .before .before .before .before .before .before .before .before .before .before .before .before .before .before .before .before .before .before .before .before .before .before .before .args .queue) l (c .before .before .before .before .before .before .before .before .before .before .before .before .before .before .before .before .before .before .before .before .before .before .before .before .before .before .before .before .before .before .args .g .0) (c .before .before .before .before .before .before .before .before .before .before .before .before .before .before .before .before .before .before .before .before .before .before .before .before .before .before .before .before .before .before .args .i) (c .before .before .before .before .before .before .before .before .before .before .before .before .before .before .before .before .before .before .before .before .before .before .before .before .before .as-awaited .result) (c .before .before .before .before .before .before .before .before .before .before .before .before .before .before .before .before .before .before .before .before .before .before .before .before .before .as-awaited .ensures) _ (c .before .before .before .before .before .before .before .before .before .before .before .before .before .before .before .before .before .before .before .before .before .before .before .a .given .1) (c .before .before .before .before .before .before .before .before .before .before .before .before .before .before .before .before .before .before .before .item-at .ensures) (c .before .before .before .before .before .before .before .before .before .before .before .before .before .before .before .item .result .item) (c .before .before .before .before .before .before .before .before .before .before .before .before .before .before .before .item .ensures l) _ (c .before .before .before .before .before .before .before .before .polled .given .1) _ _ (c .before .before .before .before .put-polled .result) (λ k. c .before .before .before .before .put-polled .ensures _ _ k) go
 
 pub step-item-spec : {M : Type 1} → statement M
 step-item-spec =

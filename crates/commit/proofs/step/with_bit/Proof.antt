@@ -1,3 +1,6 @@
+use native.Mathlib.Omega.{arith}
+use borrow.Author.Tests.{eq-eqb, ne-eqb}
+use Rattle.laws.specs.BitLaws.{shifted-one, bit-room}
 use borrow.Author.Needs.{needs}
 use Rattle.commit.proofs.step.with_bit.Statement.{statement}
 use Rattle.commit.proofs.step.with_bit.Tie as tie
@@ -22,15 +25,15 @@ shl-result c = search needs
 
 -- src/step.rt:63:16
 add-result : tie.Need-add-result
-add-result c = ?
+add-result c = omega (arith, shifted-one (c .before .args .i) (search needs), bit-room (c .before .args .waiting) (c .before .args .i) (search needs) (search needs) (c .if1 .taken))
 
 -- src/step.rt:63:9
 returns : tie.Need-returns
-returns c = ?
+returns c = rw (shifted-one (c .before .args .i) (search needs), eq-eqb _ 0 (c .if1 .taken))
 
 -- src/step.rt:58:1
 returns-2 : tie.Need-returns-2
-returns-2 c = ?
+returns-2 c = rw (ne-eqb _ 0 (c .if1 .left))
 
 pub with-bit-spec : {M : Type 1} → statement M
 with-bit-spec =
