@@ -2,3 +2,6 @@ pub mod Polls
 pub mod ItemLaws
 pub mod Steps
 pub mod StepLaws
+pub mod Frames
+pub mod SettleLaws
+pub mod TreeLaws

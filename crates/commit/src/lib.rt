@@ -2,3 +2,5 @@
 pub mod awaited; // a gather that is awaited
 pub mod items; // one item
 pub mod step; // the items of one gather
+pub mod settle; // opening, settling and unwinding
+pub mod tree; // the walk through the gathers
