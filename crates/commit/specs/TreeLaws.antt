@@ -2,12 +2,12 @@
 -- fewer, and that the places of the frames stay in range.
 use mathlib.Core.Path.{_≡_, refl, sym, ap, _∙_}
 use mathlib.Core.List.{List, [], _∷_}
-use Prim.Native.Nat.{ℕ, zero, suc, _+_, _%_, _≤_, _<_}
+use Prim.Native.Nat.{ℕ, zero, suc, _+_, _*_, _%_, _≤_, _<_}
 use native.Mathlib.Nat.{mod-eq-of-lt}
 use native.Mathlib.Omega.{arith}
 use lib.ListN.{getD, set, length}
 use lib.Seq.{getD-set-same, getD-set-other}
-use Rattle.asyncio.specs.Limits.{object-limit, tasks-length, objects-length, places-length}
+use Rattle.asyncio.specs.Limits.{object-limit, item-limit, tasks-length, objects-length, places-length}
 use Rattle.asyncio.specs.Numbers.{heap-id}
 use Rattle.asyncio.specs.Kinds.{kind}
 use Rattle.asyncio.specs.Parts.{count-of}
@@ -16,13 +16,16 @@ use Rattle.asyncio.specs.declared.HeapId.{HeapId}
 use Rattle.asyncio.specs.declared.Error.{Error}
 use Rattle.asyncio.specs.declared.Awaiter.{Awaiter}
 use Rattle.asyncio.specs.declared.GatherState.{GatherState}
+use Rattle.asyncio.specs.declared.Object.{Object}
+use Rattle.asyncio.specs.Ranges.{ObjectFits}
 use Rattle.rows.specs.Tables.{object-at}
+use Rattle.rows.specs.TableLaws.{object-at-fits}
 use Rattle.queue.specs.declared.ReadyQueue.{ReadyQueue}
 use Rattle.machine.specs.Store.{Store, Happening, store-of, object}
 use Rattle.machine.specs.Commit.{Poll, raised, Polled, gives, Frame, step-gather-commit, open-gather-commit, settle-gather-commit, resume-after-child, unwind, Committed, turn, pending-in, pending-count, commit-gather-tree}
 use Rattle.laws.specs.Views.{Sized}
 use Rattle.laws.specs.Statements.{SameKinds, FramesFit, Placed, StopBelow, commit-rest}
-use Rattle.laws.specs.CommitLaws.{same-kinds-then, same-pending-count, StopKeeps, step-kinds, step-below, set-counts, settle-kinds, resume-kinds, open-falls, placed-same, commit-begins, commit-turns}
+use Rattle.laws.specs.CommitLaws.{same-kinds-then, same-pending-count, StopKeeps, step-kinds, step-below, set-counts, settle-kinds, resume-kinds, open-falls, placed-same, pending-most, commit-begins, commit-turns}
 use Rattle.commit.specs.Polls.{poll-of}
 use Rattle.commit.specs.Steps.{stopped, stop-log, frame}
 use Rattle.commit.specs.Frames.{below, Told, tells, told, GoesOn}
@@ -61,7 +64,33 @@ pub no-frame-placed : (s : Store) (gs ns : List ℕ) → Placed s (below gs ns 0
 unfolding Placed below
 no-frame-placed s gs ns = tt
 
+pub begins-low : (os : List ℕ) → 0 + pending-in os ≤ object-limit
+begins-low os = omega (arith, pending-most os)
+
+pub begins-few : (os : List ℕ) → 0 + (2 * pending-in os + 0) ≤ 512
+begins-few os = omega (arith, pending-most os)
+
+-- the commit of the root is that of its first frame
+pub tree-told : (ts os ps : List ℕ) (q : ReadyQueue) (g : ℕ) (a : Awaiter) (l : List Happening) {os′ : List ℕ}
+    → store-of ts os′ ps q l ≡ open-gather-commit (store-of ts os ps q l) g a → (us vs rs : List ℕ) (r : ReadyQueue) (p : Poll) (n : ℕ)
+    → tells (store-of us vs rs r (commit-rest (store-of ts os′ ps q l) (frame g 0) [] 0 1 0 .store .log)) p n ≡ told (commit-rest (store-of ts os′ ps q l) (frame g 0) [] 0 1 0)
+    → tells (store-of us vs rs r (commit-gather-tree (store-of ts os ps q l) g a .store .log)) p n ≡ told (commit-gather-tree (store-of ts os ps q l) g a)
+tree-told ts os ps q g a l {os′} e us vs rs r p n h =
+    let k : commit-rest (store-of ts os′ ps q l) (frame g 0) [] 0 1 0 ≡ commit-gather-tree (store-of ts os ps q l) g a =
+    ap (λ (s : Store). commit-rest s (frame g 0) [] 0 1 0) e ∙ sym (commit-begins (store-of ts os ps q l) g a) in
+    rw k at h
+
 -- ---- a turn
+
+count-few : (x : Object) → ObjectFits x → count-of x ≤ item-limit
+unfolding count-of
+count-few Object.Unmade f = omega arith
+count-few (Object.Coroutine g x) f = omega arith
+count-few (Object.ExternalFuture c x) f = omega arith
+count-few (Object.GatherFuture i n x) f = f .0 .at-most
+
+count-fits : (os : List ℕ) (g : ℕ) → count-of (object-at os g) ≤ item-limit
+count-fits os g = count-few (object-at os g) (object-at-fits os g)
 
 module _ (ts os ps : List ℕ) (q : ReadyQueue) (g i : ℕ) (a : length ts ≡ tasks-length) (b : length os ≡ objects-length) (c : length ps ≡ places-length) (h : g < object-limit)
     (us vs rs : List ℕ) (r : ReadyQueue) (x : Stop)
@@ -97,8 +126,17 @@ module _ (ts os ps : List ℕ) (q : ReadyQueue) (g i : ℕ) (a : length ts ≡ t
     unfolding StopBelow stopped
     nested-at = rw e at stops-below
 
-    -- the place is one of at most 32
-    module _ (us′ vs′ rs′ : List ℕ) (r′ : ReadyQueue) (y : Awaiter)
+    -- there is a pending gather
+    pub nested-room : 0 < pending-in os
+    unfolding pending-count
+    nested-room =
+        let k = nested-keeps in
+        let u : Store = store-of us vs rs r (log-at []) in
+        let m : pending-in vs ≡ pending-in os = same-pending-count (store-of ts os ps q []) u (k .0) in
+        let n : pending-in vs ≡ suc (pending-in (open-gather-commit u (o .0) Awaiter.Nobody .objects)) = open-falls u (o .0) Awaiter.Nobody (k .0 .sized) (k .1) (k .2) in
+        omega arith
+
+    module _ (vs′ : List ℕ) (y : Awaiter)
         (p : store-of us vs′ rs r (log-at []) ≡ open-gather-commit (store-of us vs rs r (log-at [])) (o .0) y) where
       -- one pending gather less
       pub nested-falls : pending-in os ≡ suc (pending-in vs′)
@@ -133,11 +171,14 @@ module _ (ts os ps : List ℕ) (q : ReadyQueue) (g i : ℕ) (a : length ts ≡ t
         let m : SameKinds (store-of us vs rs r (log-at [])) (store-of us vs₁ rs r (log-at [])) = rw (← f (log-at [])) at k in
         same-kinds-then (end-same e) m
 
-    module _ (gs ns : List ℕ) (d : ℕ) (z : Placed (store-of ts os ps q []) (below gs ns (suc d))) where
+    module _ (gs ns : List ℕ) (n d : ℕ) (m : n ≡ suc d) (z : Placed (store-of ts os ps q []) (below gs ns n)) where
       -- the place of the gather below, in which it is nested
       pub child-range : getD ns d 0 < count-of (object-at vs₁ (getD gs d 0 % object-limit))
       unfolding Placed below object
-      child-range = rw (settled-same .counts (getD gs d 0 % object-limit)) (z .0)
+      child-range = rw (settled-same .counts (getD gs d 0 % object-limit)) ((rw m at z) .0)
+
+      pub child-few : getD ns d 0 < item-limit
+      child-few = omega (arith, child-range, count-fits vs₁ (getD gs d 0 % object-limit))
 
       module _ (vs₂ rs₂ : List ℕ)
           (t : (l : List Happening) → store-of us vs₂ rs₂ r l ≡ resume-after-child (frame (getD gs d 0 % object-limit) (getD ns d 0)) (gives (store-of us vs₁ rs r l) p)) where
@@ -154,7 +195,7 @@ module _ (ts os ps : List ℕ) (q : ReadyQueue) (g i : ℕ) (a : length ts ≡ t
 
         pub popped-placed : Placed (store-of us vs₂ rs₂ r []) (below gs ns d)
         unfolding Placed below object
-        popped-placed = unfold Placed in placed-same (store-of ts os ps q []) (store-of us vs₂ rs₂ r []) (below gs ns d) (popped-same .counts) (z .1)
+        popped-placed = unfold Placed in placed-same (store-of ts os ps q []) (store-of us vs₂ rs₂ r []) (below gs ns d) (popped-same .counts) ((rw m at z) .1)
 
   -- ---- how the commit goes on
 
