@@ -1,7 +1,7 @@
 -- The frames of a commit in two arrays and a depth, and what a commit tells.
 use mathlib.Core.Path.{_≡_}
 use mathlib.Core.List.{List, [], _∷_}
-use Prim.Native.Nat.{ℕ, zero, suc, _%_}
+use Prim.Native.Nat.{ℕ, zero, suc, _<_}
 use lib.ListN.{getD}
 use Rattle.asyncio.specs.Limits.{object-limit}
 use Rattle.queue.specs.declared.ReadyQueue.{ReadyQueue}
@@ -13,7 +13,11 @@ use Rattle.commit.specs.Steps.{frame}
 -- the d frames below the innermost: their gathers and the places that are stepped next
 unfoldable pub below : List ℕ → List ℕ → ℕ → List Frame
 below gs ns zero = []
-below gs ns (suc d) = frame (getD gs d 0 % object-limit) (getD ns d 0) ∷ below gs ns d
+below gs ns (suc d) = frame (getD gs d 0) (getD ns d 0) ∷ below gs ns d
+
+-- their gathers are numbers of objects
+abbrev pub GathersFit : List ℕ → ℕ → Type 0
+GathersFit gs d = (i : ℕ) → i < d → getD gs i 0 < object-limit
 
 -- What a commit tells: the store after it, what the await sees, and the number of commit steps. (The machine counts the gathers
 -- opened and settled too: no code does.)

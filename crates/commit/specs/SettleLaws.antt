@@ -2,12 +2,11 @@
 use mathlib.Core.Path.{_≡_, refl, sym, ap, _∙_}
 use mathlib.Core.List.{List, [], _∷_}
 use mathlib.Core.Option.{none, some}
-use Prim.Native.Nat.{ℕ, zero, suc, _%_, _<_}
+use Prim.Native.Nat.{ℕ, zero, suc, _<_}
 use native.Mathlib.Omega.{arith}
 use lib.ListN.{getD}
 use lib.Dec.{eqb}
 use borrow.Author.Tests.{eq-eqb, ne-eqb}
-use Rattle.asyncio.specs.Limits.{object-limit}
 use Rattle.asyncio.specs.Numbers.{heap-id}
 use Rattle.asyncio.specs.declared.Value.{Value}
 use Rattle.asyncio.specs.declared.Error.{Error}
@@ -81,7 +80,7 @@ module _ (ts os ps : List ℕ) (q : ReadyQueue) (l : List Happening) (gs ns : Li
   unwind-begins g n d e = rw e
 
   -- one below it
-  pub unwind-turns : (d k : ℕ) → d ≡ suc k → {us : List ℕ} → store-of ts us ps q l ≡ set-gather (store-of ts os ps q l) (getD gs k 0 % object-limit) (GatherState.Failed x)
+  pub unwind-turns : (d k : ℕ) → d ≡ suc k → {us : List ℕ} → store-of ts us ps q l ≡ set-gather (store-of ts os ps q l) (getD gs k 0) (GatherState.Failed x)
       → unwind (store-of ts us ps q l) (below gs ns k) x ≡ unwind (store-of ts os ps q l) (below gs ns d) x
   unfolding unwind below
   unwind-turns d k z e = rw (z, e)

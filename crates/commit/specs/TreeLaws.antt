@@ -1,9 +1,10 @@
 -- The turns of a commit, in the shape of what the code knows there: how it goes on, that the pending gathers and the frames become
 -- fewer, and that the places of the frames stay in range.
 use mathlib.Core.Path.{_≡_, refl, sym, ap, _∙_}
+use mathlib.Core.Logic.{⊎-elim}
 use mathlib.Core.List.{List, [], _∷_}
-use Prim.Native.Nat.{ℕ, zero, suc, _+_, _*_, _%_, _≤_, _<_}
-use native.Mathlib.Nat.{mod-eq-of-lt}
+use Prim.Native.Nat.{ℕ, zero, suc, _+_, _*_, _≤_, _<_}
+use native.Mathlib.Nat.{eq-or-lt-of-le}
 use native.Mathlib.Omega.{arith}
 use lib.ListN.{getD, set, length}
 use lib.Seq.{getD-set-same, getD-set-other}
@@ -24,11 +25,11 @@ use Rattle.queue.specs.declared.ReadyQueue.{ReadyQueue}
 use Rattle.machine.specs.Store.{Store, Happening, store-of, object}
 use Rattle.machine.specs.Commit.{Poll, raised, Polled, gives, Frame, step-gather-commit, open-gather-commit, settle-gather-commit, resume-after-child, unwind, Committed, turn, pending-in, pending-count, commit-gather-tree}
 use Rattle.laws.specs.Views.{Sized}
-use Rattle.laws.specs.Statements.{SameKinds, FramesFit, Placed, StopBelow, commit-rest}
+use Rattle.laws.specs.Statements.{SameKinds, Placed, StopBelow, commit-rest}
 use Rattle.laws.specs.CommitLaws.{same-kinds-then, same-pending-count, StopKeeps, step-kinds, step-below, set-counts, settle-kinds, resume-kinds, open-falls, placed-same, pending-most, commit-begins, commit-turns}
 use Rattle.commit.specs.Polls.{poll-of}
 use Rattle.commit.specs.Steps.{stopped, stop-log, frame}
-use Rattle.commit.specs.Frames.{below, Told, tells, told, GoesOn}
+use Rattle.commit.specs.Frames.{below, GathersFit, Told, tells, told, GoesOn}
 use Rattle.commit.specs.declared.step.Stop.{Stop}
 
 -- ---- the frames in the arrays
@@ -41,17 +42,20 @@ below-same gs ns (suc d) n x y h =
     let b : getD (set ns n y) d 0 ≡ getD ns d 0 = getD-set-other ns n d y 0 (λ e. omega arith) in
     rw (a, b, below-same gs ns d n x y (omega arith))
 
-below-push : (gs ns : List ℕ) (d g i : ℕ) → d < length gs → d < length ns → g < object-limit
+below-push : (gs ns : List ℕ) (d g i : ℕ) → d < length gs → d < length ns
     → below (set gs d g) (set ns d i) (d + 1) ≡ frame g i ∷ below gs ns d
 unfolding below
-below-push gs ns d g i p q r =
+below-push gs ns d g i p q =
     let e : d + 1 ≡ suc d = omega arith in
-    rw (e, getD-set-same gs d g 0 p, getD-set-same ns d i 0 q, mod-eq-of-lt r, below-same gs ns d d g i (omega arith))
+    rw (e, getD-set-same gs d g 0 p, getD-set-same ns d i 0 q, below-same gs ns d d g i (omega arith))
 
-frames-fit : (gs ns : List ℕ) (d : ℕ) → FramesFit (below gs ns d)
-unfolding FramesFit below
-frames-fit gs ns zero = tt
-frames-fit gs ns (suc d) = (omega arith, frames-fit gs ns d)
+-- every gather below is an object's number
+pub gathers-fit : (s : Store) (gs ns : List ℕ) (d : ℕ) → Placed s (below gs ns d) → GathersFit gs d
+unfolding Placed below
+gathers-fit s gs ns zero z i l = absurd (omega arith)
+gathers-fit s gs ns (suc d) z i l =
+    let b : i ≤ d = omega arith in
+    ⊎-elim (λ e. rw e (z .0)) (λ m. gathers-fit s gs ns d (z .2) i m) (eq-or-lt-of-le b)
 
 -- ---- how a commit begins
 
@@ -159,8 +163,8 @@ module _ (ts os ps : List ℕ) (q : ReadyQueue) (g i : ℕ) (a : length ts ≡ t
       unfolding Placed object
       nested-placed gs ns d m n z =
           let e : count-of (object-at vs′ g) ≡ count-of (object-at os g) = nested-counts g in
-          rw (below-push gs ns d g at m n h)
-          (rw e nested-at, unfold Placed in placed-same (store-of ts os ps q []) (store-of us vs′ rs r []) (below gs ns d) nested-counts z)
+          rw (below-push gs ns d g at m n)
+          (h, rw e nested-at, unfold Placed in placed-same (store-of ts os ps q []) (store-of us vs′ rs r []) (below gs ns d) nested-counts z)
 
   -- the innermost gather was settled
   module _ (e : x ≡ Stop.End) (vs₁ : List ℕ) (p : Poll) (f : (l : List Happening) → gives (store-of us vs₁ rs r l) p ≡ settle-gather-commit (store-of us vs rs r l) g) where
@@ -172,20 +176,24 @@ module _ (ts os ps : List ℕ) (q : ReadyQueue) (g i : ℕ) (a : length ts ≡ t
         same-kinds-then (end-same e) m
 
     module _ (gs ns : List ℕ) (n d : ℕ) (m : n ≡ suc d) (z : Placed (store-of ts os ps q []) (below gs ns n)) where
-      -- the place of the gather below, in which it is nested
-      pub child-range : getD ns d 0 < count-of (object-at vs₁ (getD gs d 0 % object-limit))
+      -- the gather below, and the place of it in which the settled one is nested
+      pub parent-range : getD gs d 0 < object-limit
+      unfolding Placed below
+      parent-range = (rw m at z) .0
+
+      pub child-range : getD ns d 0 < count-of (object-at vs₁ (getD gs d 0))
       unfolding Placed below object
-      child-range = rw (settled-same .counts (getD gs d 0 % object-limit)) ((rw m at z) .0)
+      child-range = rw (settled-same .counts (getD gs d 0)) ((rw m at z) .1)
 
       pub child-few : getD ns d 0 < item-limit
-      child-few = omega (arith, child-range, count-fits vs₁ (getD gs d 0 % object-limit))
+      child-few = omega (arith, child-range, count-fits vs₁ (getD gs d 0))
 
       module _ (vs₂ rs₂ : List ℕ)
-          (t : (l : List Happening) → store-of us vs₂ rs₂ r l ≡ resume-after-child (frame (getD gs d 0 % object-limit) (getD ns d 0)) (gives (store-of us vs₁ rs r l) p)) where
+          (t : (l : List Happening) → store-of us vs₂ rs₂ r l ≡ resume-after-child (frame (getD gs d 0) (getD ns d 0)) (gives (store-of us vs₁ rs r l) p)) where
         popped-same : SameKinds (store-of ts os ps q []) (store-of us vs₂ rs₂ r (log-at []))
         popped-same =
-            let m : SameKinds (store-of us vs₁ rs r (log-at [])) (resume-after-child (frame (getD gs d 0 % object-limit) (getD ns d 0)) (gives (store-of us vs₁ rs r (log-at [])) p)) =
-            resume-kinds (frame (getD gs d 0 % object-limit) (getD ns d 0)) (gives (store-of us vs₁ rs r (log-at [])) p) (settled-same .sized) (omega arith) in
+            let m : SameKinds (store-of us vs₁ rs r (log-at [])) (resume-after-child (frame (getD gs d 0) (getD ns d 0)) (gives (store-of us vs₁ rs r (log-at [])) p)) =
+            resume-kinds (frame (getD gs d 0) (getD ns d 0)) (gives (store-of us vs₁ rs r (log-at [])) p) (settled-same .sized) parent-range in
             same-kinds-then settled-same (rw (← t (log-at [])) at m)
 
         -- as many pending gathers
@@ -195,19 +203,20 @@ module _ (ts os ps : List ℕ) (q : ReadyQueue) (g i : ℕ) (a : length ts ≡ t
 
         pub popped-placed : Placed (store-of us vs₂ rs₂ r []) (below gs ns d)
         unfolding Placed below object
-        popped-placed = unfold Placed in placed-same (store-of ts os ps q []) (store-of us vs₂ rs₂ r []) (below gs ns d) (popped-same .counts) ((rw m at z) .1)
+        popped-placed = unfold Placed in placed-same (store-of ts os ps q []) (store-of us vs₂ rs₂ r []) (below gs ns d) (popped-same .counts) ((rw m at z) .2)
 
   -- ---- how the commit goes on
 
-  module _ (M : List Happening → Committed) (gs ns : List ℕ) (d n : ℕ) (w : GoesOn M ts os ps q (frame g i) (below gs ns d) n) where
+  module _ (M : List Happening → Committed) (gs ns : List ℕ) (d n : ℕ) (z : Placed (store-of ts os ps q []) (below gs ns d)) (w : GoesOn M ts os ps q (frame g i) (below gs ns d) n) where
     abbrev log-now : List Happening → List Happening
     log-now l = log-at (w .log l)
 
     turns : (l : List Happening) → turn commit-rest (frame g i) (below gs ns d) n (w .opened) (w .settled) (stopped (store-of us vs rs r (log-now l)) x) ≡ M l
-    unfolding FramesFit
+    unfolding object
     turns l =
         ap (λ y. turn commit-rest (frame g i) (below gs ns d) n (w .opened) (w .settled) y) (s (w .log l))
-        ∙ sym (commit-turns (store-of ts os ps q (w .log l)) (frame g i) (below gs ns d) n (w .opened) (w .settled) (sized (w .log l)) (unfold FramesFit in (h, frames-fit gs ns d)))
+        ∙ sym (commit-turns (store-of ts os ps q (w .log l)) (frame g i) (below gs ns d) n (w .opened) (w .settled) (sized (w .log l)) h
+        (placed-same (store-of ts os ps q []) (store-of ts os ps q (w .log l)) (below gs ns d) (λ o. refl) z))
         ∙ w .goes-on l
 
     -- a nested gather is opened
@@ -221,7 +230,7 @@ module _ (ts os ps : List ℕ) (q : ReadyQueue) (g i : ℕ) (a : length ts ≡ t
       settled = w .settled;
       goes-on = λ l.
           let f : n + 1 ≡ suc n = omega arith in
-          rw (f, below-push gs ns d g at m k h, p (log-now l)) (rw e at (turns l));
+          rw (f, below-push gs ns d g at m k, p (log-now l)) (rw e at (turns l));
     }
 
     -- the root was settled
@@ -236,8 +245,8 @@ module _ (ts os ps : List ℕ) (q : ReadyQueue) (g i : ℕ) (a : length ts ≡ t
 
     -- a nested one was
     pub tree-popped : x ≡ Stop.End → (k : ℕ) → d ≡ suc k → (vs₁ : List ℕ) (p : Poll) → ((l : List Happening) → gives (store-of us vs₁ rs r l) p ≡ settle-gather-commit (store-of us vs rs r l) g)
-        → (vs₂ rs₂ : List ℕ) → ((l : List Happening) → store-of us vs₂ rs₂ r l ≡ resume-after-child (frame (getD gs k 0 % object-limit) (getD ns k 0)) (gives (store-of us vs₁ rs r l) p))
-        → GoesOn M us vs₂ rs₂ r (frame (getD gs k 0 % object-limit) (getD ns k 0 + 1)) (below gs ns k) (n + 1)
+        → (vs₂ rs₂ : List ℕ) → ((l : List Happening) → store-of us vs₂ rs₂ r l ≡ resume-after-child (frame (getD gs k 0) (getD ns k 0)) (gives (store-of us vs₁ rs r l) p))
+        → GoesOn M us vs₂ rs₂ r (frame (getD gs k 0) (getD ns k 0 + 1)) (below gs ns k) (n + 1)
     unfolding turn stopped below
     tree-popped e k z vs₁ p f vs₂ rs₂ t = record {
       log = log-now;

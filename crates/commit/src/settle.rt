@@ -22,7 +22,7 @@ ghost use Rattle.machine.specs.Store.{Happening, store-of};
 ghost use Rattle.machine.specs.Commit.{gives, with-state, set-gather, open-gather-commit, settle-gather-commit, resume-after-child, unwind};
 ghost use Rattle.commit.specs.Polls.{poll-of};
 ghost use Rattle.commit.specs.Steps.{frame};
-ghost use Rattle.commit.specs.Frames.{below};
+ghost use Rattle.commit.specs.Frames.{below, GathersFit};
 
 // A gather with that state; any other object as it is.
 fn with_state(o: Object, state: GatherState) -> Object
@@ -117,17 +117,13 @@ pub fn unwind_gather_commits(
     depth: usize,
     error: Error,
 )
-    requires { ⌜ (length (now objects) ≡ objects-length) × (g .0 < object-limit) × (depth ≤ object-limit) ⌝ }
+    requires { ⌜ (length (now objects) ≡ objects-length) × (g .0 < object-limit) × (depth ≤ object-limit) × GathersFit gathers depth ⌝ }
     ensures { λ _. ⌜ ((ts ps ns : List ℕ) (n : ℕ) (q : ReadyQueue) (l : List Happening) → store-of ts (now (objects .exit)) ps q l ≡ unwind (store-of ts (now (objects .entry)) ps q l) (frame (g .0) n ∷ below gathers ns depth) error) ⌝ }
 {
     set_gather(objects, g, GatherState::Failed(error));
     let mut d = depth;
     while 0 < d {
         d -= 1;
-        set_gather(
-            objects,
-            HeapId(gathers[d] % 256),
-            GatherState::Failed(error),
-        );
+        set_gather(objects, HeapId(gathers[d]), GatherState::Failed(error));
     }
 }

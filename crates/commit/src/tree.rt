@@ -27,7 +27,8 @@ pub struct Committed {
 }
 
 // Gather `root`, for its awaiter, and every gather nested in it. A frame is a gather and its place that is stepped next: the innermost
-// is in `g` and `next`, those below it in the arrays. No more frames are below than there are gathers that are not pending.
+// is in `g` and `next`, those below it in the arrays. Every frame but the
+// root's was made for a gather that was pending, so that 256 places are enough.
 pub fn commit_gather_tree(
     tasks: &mut [u64],
     objects: &mut [u64],
@@ -78,7 +79,7 @@ pub fn commit_gather_tree(
                     };
                 }
                 depth -= 1;
-                g = HeapId(gathers[depth] % 256);
+                g = HeapId(gathers[depth]);
                 let child = nexts[depth];
                 resume_after_child(objects, places, g, child as usize, poll);
                 next = child + 1;

@@ -36,7 +36,7 @@ use Rattle.machine.specs.Commit.{open-place, fill-place, Stop, at-end, at-neste
 use Rattle.machine.specs.Commit.{with-state, set-gather, open-gather-commit, settle-as, settle-gather-commit, resume-in, resume-as, resume-after-child, unwind}
 use Rattle.machine.specs.Commit.{Committed, turn, commit-loop, pending-in, pending-count, commit-gather-tree}
 use Rattle.laws.specs.Views.{Sized}
-use Rattle.laws.specs.Statements.{phase, SameKinds, is-failed-gather, kinds-in, failed-count, StepFormula, StepsRight, FailFormula, SeenFormula, NoFrame, Opened, FramesFit, Placed, StopBelow, commit-rest}
+use Rattle.laws.specs.Statements.{phase, SameKinds, is-failed-gather, kinds-in, failed-count, StepFormula, StepsRight, FailFormula, SeenFormula, NoFrame, Opened, Placed, StopBelow, commit-rest}
 use Rattle.laws.specs.StoreLaws.{sized-put-object, sized-put-place, sized-put-task, sized-set-next, sized-put-queue, sized-note, kind-put-object, object-put-other, object-put-header, object-fits, place-fits, PlacesOf, count-put-object}
 use Rattle.laws.specs.DeliveryLaws.{awaited-object, awaited-fits}
 
@@ -561,23 +561,23 @@ module _ (s : Store) (g : ℕ) (a : Awaiter) (z : Sized s) (l : g < object-limit
 
 -- ---- the fuel is an exact count: no commit runs out of it
 
-turn-pays : (s : Store) (f : Frame) (fs : List Frame) (n j k : ℕ) (x : Stop) → StopKeeps s x → FramesFit (f ∷ fs)
+turn-pays : (s : Store) (f : Frame) (fs : List Frame) (n j k : ℕ) (x : Stop) → StopKeeps s x → f .gather < object-limit → Placed s fs
     → turn (λ x g gs m i h. commit-loop (2 * pending-count s + length fs) x g gs m i h) f fs n j k x ≡ turn commit-rest f fs n j k x
-unfolding turn commit-rest StopKeeps FramesFit
-turn-pays s f fs n j k (at-nested u i o) q e =
+unfolding turn commit-rest StopKeeps Placed
+turn-pays s f fs n j k (at-nested u i o) q l e =
     let a : Awaiter = Awaiter.GatherSlot (heap-id (f .gather)) (heap-id o) in
     let x : Store = open-gather-commit u o a in
     let same : pending-count u ≡ pending-count s = same-pending-count s u (q .0) in
     let fall : pending-count u ≡ suc (pending-count x) = open-falls u o a (q .0 .sized) (q .1) (q .2) in
     let fuel : 2 * pending-count s + length fs ≡ 2 * pending-count x + suc (suc (length fs)) = omega arith in
     rw fuel
-turn-pays s f fs n j k (at-error u x) q e = refl
-turn-pays s f [] n j k (at-end u) q e = refl
-turn-pays s f (p ∷ ps) n j k (at-end u) q e =
+turn-pays s f fs n j k (at-error u x) q l e = refl
+turn-pays s f [] n j k (at-end u) q l e = refl
+turn-pays s f (p ∷ ps) n j k (at-end u) q l e =
     let r : Polled = settle-gather-commit u (f .gather) in
     let x : Store = resume-after-child p r in
-    let w : SameKinds u (r .store) = settle-kinds u (f .gather) (q .sized) (e .0) in
-    let v : SameKinds s x = same-kinds-then q (same-kinds-then w (resume-kinds p r (w .sized) (e .1 .0))) in
+    let w : SameKinds u (r .store) = settle-kinds u (f .gather) (q .sized) l in
+    let v : SameKinds s x = same-kinds-then q (same-kinds-then w (resume-kinds p r (w .sized) (e .0))) in
     let same : pending-count x ≡ pending-count s = same-pending-count s x v in
     rw same
 
@@ -588,12 +588,12 @@ unfolding commit-gather-tree commit-rest
 commit-begins s g a = refl
 
 -- a turn, then the commit from the next frame on
-pub commit-turns : (s : Store) (f : Frame) (fs : List Frame) (n j k : ℕ) → Sized s → FramesFit (f ∷ fs)
+pub commit-turns : (s : Store) (f : Frame) (fs : List Frame) (n j k : ℕ) → Sized s → f .gather < object-limit → Placed s fs
     → commit-rest s f fs n j k ≡ turn commit-rest f fs n j k (step-gather-commit s f)
-unfolding commit-rest commit-loop FramesFit
-commit-turns s f fs n j k z e =
+unfolding commit-rest commit-loop
+commit-turns s f fs n j k z l e =
     let fuel : 2 * pending-count s + suc (length fs) ≡ suc (2 * pending-count s + length fs) = omega arith in
-    rw fuel (turn-pays s f fs n j k (step-gather-commit s f) (step-kinds s f z (e .0)) (unfold FramesFit in e))
+    rw fuel (turn-pays s f fs n j k (step-gather-commit s f) (step-kinds s f z l) l e)
 
 -- ---- frames and places
 
@@ -605,7 +605,7 @@ pending-most os = count-most (λ o. is-pending-gather (kind (object-at os o))) o
 pub placed-same : (s u : Store) (fs : List Frame) → ((o : ℕ) → count-of (object u o) ≡ count-of (object s o)) → Placed s fs → Placed u fs
 unfolding Placed
 placed-same s u [] h k = tt
-placed-same s u (f ∷ fs) h k = (rw (h (f .gather)) (k .0), placed-same s u fs h (k .1))
+placed-same s u (f ∷ fs) h k = (k .0, rw (h (f .gather)) (k .1), placed-same s u fs h (k .2))
 
 module _ (g i n : ℕ) (l : i < n) (go : Store → Stop) (h : (u : Store) → StopBelow n (go u)) where
   put-polled-below : (w : AwaitedGather) (s : Store) (p : Poll) → StopBelow n (put-polled g w i s p go)

@@ -105,15 +105,10 @@ Opened s [] = Unit {0}
 Opened s (f ∷ fs) =
     (f .gather < object-limit) × (phase (kind (object s (f .gather))) ≡ Kind.AwaitedGather) × NoFrame (f .gather) fs × Opened s fs
 
--- the frames' gathers are numbers of objects
-unfoldable pub FramesFit : List Frame → Type 0
-FramesFit [] = Unit {0}
-FramesFit (f ∷ fs) = (f .gather < object-limit) × FramesFit fs
-
--- each frame's next place is one of its gather's
+-- each frame's gather is an object's number, and its next place is one of the gather's
 unfoldable pub Placed : Store → List Frame → Type 0
 Placed s [] = Unit {0}
-Placed s (f ∷ fs) = (f .next < count-of (object s (f .gather))) × Placed s fs
+Placed s (f ∷ fs) = (f .gather < object-limit) × (f .next < count-of (object s (f .gather))) × Placed s fs
 
 -- a walk that stops at a nested gather stops below place n
 unfoldable pub StopBelow : ℕ → Stop → Type 0

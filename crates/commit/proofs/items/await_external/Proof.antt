@@ -5,50 +5,36 @@ use Rattle.commit.specs.ItemLaws.{external-taken, external-refused, exte
 use borrow.Author.Needs.{needs}
 use Rattle.commit.proofs.items.await_external.Statement.{statement}
 use Rattle.commit.proofs.items.await_external.Tie as tie
-use Rattle.commit.proofs.items.await_external.Reads as reads
-use Rattle.commit.proofs.items.await_external.Lts as lts
-use Rattle.asyncio.proofs.Awaiter.is_nobody.Reads as is-nobody-reads
-use Rattle.rows.proofs.tables.store_object.Reads as store-object-reads
 
--- src/items.rt:62:39
 enum-known-state : tie.Need-enum-known-state
 enum-known-state c = search needs
 
--- src/items.rt:63:37
 enum-known-state-2 : tie.Need-enum-known-state-2
 enum-known-state-2 c = search needs
 
--- src/items.rt:65:22
 enum-known-state-3 : tie.Need-enum-known-state-3
 enum-known-state-3 c = search needs
 
--- src/items.rt:68:16
 is-nobody-requires : tie.Need-is-nobody-requires
 is-nobody-requires c κs = search needs
 
--- src/items.rt:69:17
 store-object-requires : tie.Need-store-object-requires
 store-object-requires c κs = search needs
 
--- src/items.rt:77:17
 same-length : tie.Need-same-length
 same-length c = search needs
 
--- src/items.rt:77:17
 returns : tie.Need-returns
 returns c = λ ts ps q l. external-taken ts (now (c .before .before .before .before .before .before .before .before .before .before .args .objects)) ps q l (c .before .before .before .before .before .before .before .before .before .before .args .o .0) (c .before .before .before .before .before .before .before .before .before .before .args .call) (c .before .before .before .before .before .before .before .before .before .before .args .awaiter) _ _ (c .before .before .before .before .before .before .before .state3 .given .1) (c .before .before .before .before .before .is-nobody .ensures) (c .before .before .before .before .if1 .taken) (c .before .before .store-object .ensures)
 
--- src/items.rt:51:1
 returns-2 : tie.Need-returns-2
 unfolding await-external
 returns-2 c = λ ts ps q l. external-settled ts (now (c .before .before .before .before .args .objects)) ps q l (c .before .before .before .before .args .o .0) (c .before .before .before .before .args .call) (c .before .before .before .before .args .awaiter) _ (c .before .state .given .1) refl
 
--- src/items.rt:51:1
 returns-3 : tie.Need-returns-3
 unfolding await-external
 returns-3 c = λ ts ps q l. external-settled ts (now (c .before .before .before .before .args .objects)) ps q l (c .before .before .before .before .args .o .0) (c .before .before .before .before .args .call) (c .before .before .before .before .args .awaiter) _ (c .before .state2 .given .1) refl
 
--- src/items.rt:51:1
 returns-4 : tie.Need-returns-4
 returns-4 c = λ ts ps q l. external-refused ts (now (c .before .before .before .before .before .before .args .objects)) ps q l (c .before .before .before .before .before .before .args .o .0) (c .before .before .before .before .before .before .args .call) (c .before .before .before .before .before .before .args .awaiter) _ _ (c .before .before .before .state3 .given .1) (c .before .is-nobody .ensures) (c .if1 .left)
 

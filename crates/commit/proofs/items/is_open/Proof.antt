@@ -8,9 +8,6 @@ use Rattle.commit.specs.Polls.{awaited-of}
 use Rattle.commit.specs.ItemLaws.{open-found, open-turn, open-end, open-begins}
 use Rattle.commit.proofs.items.is_open.Statement.{statement}
 use Rattle.commit.proofs.items.is_open.Tie as tie
-use Rattle.commit.proofs.items.is_open.Reads as reads
-use Rattle.commit.proofs.items.is_open.Lts as lts
-use Rattle.commit.proofs.items.is_open_here.Reads as is-open-here-reads
 
 abbrev Inv-loop : tie.InvT-loop
 Inv-loop places w o first count i₀ i = (open-from (λ p. place-at places p) (awaited-of w) (o .0) i (count - i) ≡ open-from (λ p. place-at places p) (awaited-of w) (o .0) 0 (w .count)) × (i ≤ count)
@@ -18,43 +15,33 @@ Inv-loop places w o first count i₀ i = (open-from (λ p. place-at places p) (a
 abbrev μ-loop : tie.MeasureT-loop
 μ-loop places w o first count i₀ i = count - i
 
--- src/items.rt:154:17
 cast-first : tie.Need-cast-first Inv-loop μ-loop
 cast-first c = search needs
 
--- src/items.rt:155:17
 cast-count : tie.Need-cast-count Inv-loop μ-loop
 cast-count c = search needs
 
--- src/items.rt:157:5
 loop-holds : tie.Need-loop-holds Inv-loop μ-loop
 loop-holds c = (open-begins _ _ _ _, omega arith)
 
--- src/items.rt:158:44
 add-is-open-here : tie.Need-add-is-open-here Inv-loop μ-loop
 add-is-open-here c = omega (arith, c .before .before .before .before .before .pre .1 .within)
 
--- src/items.rt:158:12
 is-open-here-requires : tie.Need-is-open-here-requires Inv-loop μ-loop
 is-open-here-requires c κs = (search needs, omega (arith, c .before .before .before .before .before .pre .1 .within), omega (arith, c .before .before .before .before .before .pre .1 .at-most))
 
--- src/items.rt:159:13
 returns : tie.Need-returns Inv-loop μ-loop
 returns c = open-found _ (awaited-of (c .before .before .before .before .before .before .before .args .w)) (c .before .before .before .before .before .before .before .args .o .0) (c .before .before .before .loop .i) (c .before .before .before .before .before .before .before .args .w .count) (c .before .before .loop-test .taken) (sym (c .if1 .taken) ∙ c .before .is-open-here .ensures) ∙ c .before .before .before .loop .inv .0
 
--- src/items.rt:161:9
 add-i : tie.Need-add-i Inv-loop μ-loop
 add-i c = omega (arith, c .before .before .before .before .before .before .before .pre .1 .at-most)
 
--- src/items.rt:157:5
 loop-less : tie.Need-loop-less Inv-loop μ-loop
 loop-less c = omega arith
 
--- src/items.rt:157:5
 loop-again : tie.Need-loop-again Inv-loop μ-loop
 loop-again c = (open-turn _ (awaited-of (c .before .before .before .before .before .before .before .args .w)) (c .before .before .before .before .before .before .before .args .o .0) (c .before .before .before .loop .i) (c .before .before .before .before .before .before .before .args .w .count) (c .before .before .loop-test .taken) (sym (c .if1 .left) ∙ c .before .is-open-here .ensures) ∙ c .before .before .before .loop .inv .0, omega arith)
 
--- src/items.rt:150:1
 returns-2 : tie.Need-returns-2 Inv-loop μ-loop
 returns-2 c = open-end _ (awaited-of (c .before .before .before .before .before .args .w)) (c .before .before .before .before .before .args .o .0) (c .before .loop .i) (c .before .before .before .before .before .args .w .count) (c .loop-test .left) ∙ c .before .loop .inv .0
 

@@ -3,27 +3,19 @@ use Rattle.commit.specs.ItemLaws.{place-shut, place-named}
 use borrow.Author.Needs.{needs}
 use Rattle.commit.proofs.items.is_open_here.Statement.{statement}
 use Rattle.commit.proofs.items.is_open_here.Tie as tie
-use Rattle.commit.proofs.items.is_open_here.Reads as reads
-use Rattle.commit.proofs.items.is_open_here.Lts as lts
-use Rattle.rows.proofs.parts.item_at.Reads as item-at-reads
 
--- src/items.rt:142:20
 cast-if1 : tie.Need-cast-if1
 cast-if1 c = search needs
 
--- src/items.rt:142:9
 shr-if1 : tie.Need-shr-if1
 shr-if1 c = search needs
 
--- src/items.rt:143:9
 returns : tie.Need-returns
 returns c = place-shut (now (c .before .before .args .places)) (c .before .before .args .waiting) (c .before .before .args .p) (c .before .before .args .i) (c .before .before .args .o .0) (c .if1 .taken)
 
--- src/items.rt:145:9
 item-at-requires : tie.Need-item-at-requires
 item-at-requires c κs = search needs
 
--- src/items.rt:138:1
 returns-2 : tie.Need-returns-2
 returns-2 c = place-named (now (c .before .before .before .before .before .args .places)) (c .before .before .before .before .before .args .waiting) (c .before .before .before .before .before .args .p) (c .before .before .before .before .before .args .i) (c .before .before .before .before .before .args .o .0) (c .before .before .before .if1 .left) (c .before .before .item-at .ensures)
 

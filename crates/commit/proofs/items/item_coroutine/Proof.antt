@@ -5,56 +5,41 @@ use Rattle.commit.specs.ItemLaws.{coroutine-spawned, coroutine-driven, c
 use borrow.Author.Needs.{needs}
 use Rattle.commit.proofs.items.item_coroutine.Statement.{statement}
 use Rattle.commit.proofs.items.item_coroutine.Tie as tie
-use Rattle.commit.proofs.items.item_coroutine.Reads as reads
-use Rattle.commit.proofs.items.item_coroutine.Lts as lts
-use Rattle.scheduler.proofs.spawn.spawn.Reads as spawn-reads
 
--- src/items.rt:98:51
 enum-told : tie.Need-enum-told
 enum-told c = search needs
 
--- src/items.rt:98:17
 spawn-requires : tie.Need-spawn-requires
 spawn-requires c κs = search needs
 
--- src/items.rt:101:17
 same-length : tie.Need-same-length
 same-length c = search needs
 
--- src/items.rt:101:17
 same-length-2 : tie.Need-same-length-2
 same-length-2 c = search needs
 
--- src/items.rt:101:17
 returns : tie.Need-returns
 returns c = λ ps l. coroutine-spawned (now (c .before .before .before .before .before .before .before .before .before .before .before .before .before .args .tasks)) (now (c .before .before .before .before .before .before .before .before .before .before .before .before .before .args .objects)) ps (c .before .before .before .before .before .before .before .before .before .before .before .before .before .args .queue) l (c .before .before .before .before .before .before .before .before .before .before .before .before .before .args .g .0) (c .before .before .before .before .before .before .before .before .before .before .before .before .before .args .o .0) (c .before .before .before .before .before .before .before .before .before .enum-told .given .1) (c .before .before .before .before .before .before .spawn .ensures) (c .if1 .taken)
 
--- src/items.rt:113:32
 enum-told-2 : tie.Need-enum-told-2
 enum-told-2 c = search needs
 
--- src/items.rt:117:32
 enum-told-3 : tie.Need-enum-told-3
 enum-told-3 c = search needs
 
--- src/items.rt:85:1
 same-length-3 : tie.Need-same-length-3
 same-length-3 c = search needs
 
--- src/items.rt:85:1
 same-length-4 : tie.Need-same-length-4
 same-length-4 c = search needs
 
--- src/items.rt:85:1
 returns-2 : tie.Need-returns-2
 returns-2 c = λ ps l. coroutine-driven (now (c .before .before .before .before .before .before .before .before .before .before .before .before .before .args .tasks)) (now (c .before .before .before .before .before .before .before .before .before .before .before .before .before .args .objects)) ps (c .before .before .before .before .before .before .before .before .before .before .before .before .before .args .queue) l (c .before .before .before .before .before .before .before .before .before .before .before .before .before .args .g .0) (c .before .before .before .before .before .before .before .before .before .before .before .before .before .args .o .0) (c .before .before .before .before .before .before .before .before .before .enum-told .given .1) (c .before .before .before .before .before .before .spawn .ensures) (c .if1 .left)
 
--- src/items.rt:85:1
 returns-3 : tie.Need-returns-3
 unfolding item-coroutine
 returns-3 c = λ ps l. coroutine-reused (now (c .before .before .before .before .args .tasks)) (now (c .before .before .before .before .args .objects)) ps (c .before .before .before .before .args .queue) l (c .before .before .before .before .args .g .0) (c .before .before .before .before .args .o .0) _ (c .enum-told2 .given .1) refl
 
--- src/items.rt:85:1
 returns-4 : tie.Need-returns-4
 unfolding item-coroutine
 returns-4 c = λ ps l. coroutine-reused (now (c .before .before .before .before .args .tasks)) (now (c .before .before .before .before .args .objects)) ps (c .before .before .before .before .args .queue) l (c .before .before .before .before .args .g .0) (c .before .before .before .before .args .o .0) _ (c .enum-told3 .given .1) refl

@@ -2,19 +2,13 @@ use Rattle.machine.specs.Commit.{open-gather-commit}
 use borrow.Author.Needs.{needs}
 use Rattle.commit.proofs.settle.open_gather_commit.Statement.{statement}
 use Rattle.commit.proofs.settle.open_gather_commit.Tie as tie
-use Rattle.commit.proofs.settle.open_gather_commit.Reads as reads
-use Rattle.commit.proofs.settle.open_gather_commit.Lts as lts
-use Rattle.commit.proofs.settle.set_gather.Reads as set-gather-reads
 
--- src/settle.rt:62:5
 set-gather-requires : tie.Need-set-gather-requires
 set-gather-requires c κs = search needs
 
--- src/settle.rt:58:1
 same-length : tie.Need-same-length
 same-length c = search needs
 
--- src/settle.rt:58:1
 returns : tie.Need-returns
 unfolding open-gather-commit
 returns c = c .before .before .set-gather .ensures

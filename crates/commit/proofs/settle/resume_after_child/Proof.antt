@@ -4,75 +4,55 @@ use Rattle.commit.specs.SettleLaws.{resume-none, resume-ready, resume-ra
 use borrow.Author.Needs.{needs}
 use Rattle.commit.proofs.settle.resume_after_child.Statement.{statement}
 use Rattle.commit.proofs.settle.resume_after_child.Tie as tie
-use Rattle.commit.proofs.settle.resume_after_child.Reads as reads
-use Rattle.commit.proofs.settle.resume_after_child.Lts as lts
-use Rattle.commit.proofs.awaited.as_awaited.Reads as as-awaited-reads
-use Rattle.commit.proofs.step.fill_place.Reads as fill-place-reads
-use Rattle.commit.proofs.step.open_place.Reads as open-place-reads
 
--- src/settle.rt:101:9
 as-awaited-requires : tie.Need-as-awaited-requires
 as-awaited-requires c κs = search needs
 
 enum-told : tie.Need-enum-told
 enum-told c = search needs
 
--- src/settle.rt:104:29
 enum-known-a : tie.Need-enum-known-a
 enum-known-a c = search needs
 
--- src/settle.rt:105:25
 enum-known-poll : tie.Need-enum-known-poll
 enum-known-poll c = search needs
 
--- src/settle.rt:105:31
 fill-place-requires : tie.Need-fill-place-requires
 fill-place-requires c κs = (search needs, place-range _ _ (c .before .before .before .before .before .before .before .as-awaited .result) _ _ (c .before .before .before .before .before .before .before .as-awaited .ensures) (c .before .before .before .before .before .a .given .1) (c .before .before .before .before .before .before .before .before .before .before .before .pre .3) .in-places)
 
 enum-told-2 : tie.Need-enum-told-2
 enum-told-2 c = search needs
 
--- src/settle.rt:107:41
 enum-told-3 : tie.Need-enum-told-3
 enum-told-3 c = search needs
 
--- src/settle.rt:107:30
 open-place-requires : tie.Need-open-place-requires
 open-place-requires c κs = (search needs, search needs, place-range _ _ (c .before .before .before .before .before .before .as-awaited .result) _ _ (c .before .before .before .before .before .before .as-awaited .ensures) (c .before .before .before .before .a .given .1) (c .before .before .before .before .before .before .before .before .before .before .pre .3) .in-items)
 
--- src/settle.rt:91:1
 same-length : tie.Need-same-length
 same-length c = search needs
 
--- src/settle.rt:91:1
 returns : tie.Need-returns
 returns c = λ ts q l. resume-none ts (now (c .before .before .before .before .before .before .args .objects)) (now (c .before .before .before .before .before .before .args .places)) q l (c .before .before .before .before .before .before .args .g .0) (c .before .before .as-awaited .result) (c .before .before .as-awaited .ensures) (c .before .before .before .before .before .before .args .next) (c .before .before .before .before .before .before .args .poll) (c .enum-told .given .1)
 
--- src/settle.rt:91:1
 same-length-2 : tie.Need-same-length-2
 same-length-2 c = search needs
 
--- src/settle.rt:91:1
 same-length-3 : tie.Need-same-length-3
 same-length-3 c = search needs
 
--- src/settle.rt:91:1
 returns-2 : tie.Need-returns-2
 returns-2 c = λ ts q l. resume-ready ts (now (c .before .before .before .before .before .before .before .before .before .before .before .before .before .before .args .objects)) (now (c .before .before .before .before .before .before .before .before .before .before .before .before .before .before .args .places)) q l (c .before .before .before .before .before .before .before .before .before .before .before .before .before .before .args .g .0) (c .before .before .before .before .before .before .before .before .before .before .as-awaited .result) (c .before .before .before .before .before .before .before .before .before .before .as-awaited .ensures) (c .before .before .before .before .before .before .before .before .before .before .before .before .before .before .args .next) (c .before .before .before .before .before .before .before .before .before .before .before .before .before .before .args .poll) _ (c .before .before .before .before .before .before .before .before .a .given .1) _ (c .before .before .before .before .before .poll .given .1) (c .before .before .fill-place .ensures ts (now (c .before .before .before .before .before .before .before .before .before .before .before .before .before .before .args .objects)) q l)
 
--- src/settle.rt:91:1
 same-length-4 : tie.Need-same-length-4
 same-length-4 c = search needs
 
--- src/settle.rt:91:1
 returns-3 : tie.Need-returns-3
 returns-3 c = λ ts q l. resume-raised ts (now (c .before .before .before .before .before .before .before .before .before .args .objects)) (now (c .before .before .before .before .before .before .before .before .before .args .places)) q l (c .before .before .before .before .before .before .before .before .before .args .g .0) (c .before .before .before .before .before .as-awaited .result) (c .before .before .before .before .before .as-awaited .ensures) (c .before .before .before .before .before .before .before .before .before .args .next) (c .before .before .before .before .before .before .before .before .before .args .poll) _ (c .before .before .before .a .given .1) _ (c .enum-told2 .given .1)
 
--- src/settle.rt:91:1
 same-length-5 : tie.Need-same-length-5
 same-length-5 c = search needs
 
--- src/settle.rt:91:1
 returns-4 : tie.Need-returns-4
 returns-4 c = λ ts q l. resume-pending ts (now (c .before .before .before .before .before .before .before .before .before .before .before .before .before .args .objects)) (now (c .before .before .before .before .before .before .before .before .before .before .before .before .before .args .places)) q l (c .before .before .before .before .before .before .before .before .before .before .before .before .before .args .g .0) (c .before .before .before .before .before .before .before .before .before .as-awaited .result) (c .before .before .before .before .before .before .before .before .before .as-awaited .ensures) (c .before .before .before .before .before .before .before .before .before .before .before .before .before .args .next) (c .before .before .before .before .before .before .before .before .before .before .before .before .before .args .poll) _ (c .before .before .before .before .before .before .before .a .given .1) (c .before .before .before .before .enum-told3 .given .1) (c .before .before .open-place .ensures ts (now (c .before .before .before .before .before .before .before .before .before .before .before .before .before .args .places)) q l)
 

@@ -3,48 +3,34 @@ use Rattle.commit.specs.SettleLaws.{settle-none, settle-done, settle-wai
 use borrow.Author.Needs.{needs}
 use Rattle.commit.proofs.settle.settle_gather_commit.Statement.{statement}
 use Rattle.commit.proofs.settle.settle_gather_commit.Tie as tie
-use Rattle.commit.proofs.settle.settle_gather_commit.Reads as reads
-use Rattle.commit.proofs.settle.settle_gather_commit.Lts as lts
-use Rattle.commit.proofs.awaited.as_awaited.Reads as as-awaited-reads
-use Rattle.commit.proofs.settle.set_gather.Reads as set-gather-reads
 
--- src/settle.rt:77:9
 as-awaited-requires : tie.Need-as-awaited-requires
 as-awaited-requires c κs = search needs
 
--- src/settle.rt:79:32
 enum-told : tie.Need-enum-told
 enum-told c = search needs
 
--- src/settle.rt:80:29
 enum-known-a : tie.Need-enum-known-a
 enum-known-a c = search needs
 
--- src/settle.rt:82:17
 set-gather-requires : tie.Need-set-gather-requires
 set-gather-requires c κs = search needs
 
--- src/settle.rt:83:17
 same-length : tie.Need-same-length
 same-length c = search needs
 
--- src/settle.rt:83:17
 returns : tie.Need-returns
 returns c = λ ts ps q l. settle-done ts (now (c .before .before .before .before .before .before .before .before .before .before .before .before .args .objects)) ps q l (c .before .before .before .before .before .before .before .before .before .before .before .before .args .g .0) (c .before .before .before .before .before .before .before .before .before .as-awaited .result) (c .before .before .before .before .before .before .before .before .before .as-awaited .ensures) _ (c .before .before .before .before .before .before .before .a .given .1) (c .before .before .before .before .if1 .taken) (c .before .before .set-gather .ensures ts ps q l)
 
--- src/settle.rt:73:1
 same-length-2 : tie.Need-same-length-2
 same-length-2 c = search needs
 
--- src/settle.rt:73:1
 returns-2 : tie.Need-returns-2
 returns-2 c = λ ts ps q l. settle-none ts (now (c .before .before .before .before .before .args .objects)) ps q l (c .before .before .before .before .before .args .g .0) (c .before .before .as-awaited .result) (c .before .before .as-awaited .ensures) (c .enum-told .given .1)
 
--- src/settle.rt:73:1
 same-length-3 : tie.Need-same-length-3
 same-length-3 c = search needs
 
--- src/settle.rt:73:1
 returns-3 : tie.Need-returns-3
 returns-3 c = λ ts ps q l. settle-waits ts (now (c .before .before .before .before .before .before .before .before .args .objects)) ps q l (c .before .before .before .before .before .before .before .before .args .g .0) (c .before .before .before .before .before .as-awaited .result) (c .before .before .before .before .before .as-awaited .ensures) _ (c .before .before .before .a .given .1) (c .if1 .left)
 

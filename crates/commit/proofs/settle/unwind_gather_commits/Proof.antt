@@ -13,9 +13,6 @@ use Rattle.commit.specs.Frames.{below}
 use Rattle.commit.specs.SettleLaws.{unwind-begins, unwind-turns, unwind-ends}
 use Rattle.commit.proofs.settle.unwind_gather_commits.Statement.{statement}
 use Rattle.commit.proofs.settle.unwind_gather_commits.Tie as tie
-use Rattle.commit.proofs.settle.unwind_gather_commits.Reads as reads
-use Rattle.commit.proofs.settle.unwind_gather_commits.Lts as lts
-use Rattle.commit.proofs.settle.set_gather.Reads as set-gather-reads
 
 abbrev Inv-loop : tie.InvT-loop
 Inv-loop objects₀ depth error gathers d₀ objects d = ((ts ps ns : List ℕ) (q : ReadyQueue) (l : List Happening) → unwind (store-of ts objects ps q l) (below gathers ns d) error ≡ unwind (store-of ts objects₀ ps q l) (below gathers ns depth) error) × (length objects ≡ length objects₀) × (d ≤ depth) × (length objects ≡ objects-length)
@@ -23,43 +20,33 @@ Inv-loop objects₀ depth error gathers d₀ objects d = ((ts ps ns : List ℕ) 
 abbrev μ-loop : tie.MeasureT-loop
 μ-loop objects₀ depth error gathers d₀ objects d = d
 
--- src/settle.rt:123:5
 set-gather-requires : tie.Need-set-gather-requires Inv-loop μ-loop
 set-gather-requires c κs = (c .before .before .pre .0, c .before .before .pre .1)
 
--- src/settle.rt:125:5
 loop-holds : tie.Need-loop-holds Inv-loop μ-loop
 loop-holds c = ((λ ts ps ns q l. refl), refl, omega arith, c .before .before .set-gather .kept .0 ∙ c .before .before .before .before .before .pre .0)
 
--- src/settle.rt:126:9
 sub-d : tie.Need-sub-d Inv-loop μ-loop
 sub-d c = omega arith
 
--- src/settle.rt:129:20
 mul-t16 : tie.Need-mul-t16 Inv-loop μ-loop
 mul-t16 c = omega arith
 
--- src/settle.rt:129:20
 array-read-t19 : tie.Need-array-read-t19 Inv-loop μ-loop
 array-read-t19 c = omega arith
 
--- src/settle.rt:127:9
 set-gather-requires-2 : tie.Need-set-gather-requires-2 Inv-loop μ-loop
-set-gather-requires-2 c κs = (c .before .before .loop .inv .3, omega arith)
+set-gather-requires-2 c κs = (c .before .before .loop .inv .3, c .before .before .before .before .before .before .before .before .pre .3 _ (omega arith))
 
--- src/settle.rt:125:5
 loop-less : tie.Need-loop-less Inv-loop μ-loop
 loop-less c = omega arith
 
--- src/settle.rt:125:5
 loop-again : tie.Need-loop-again Inv-loop μ-loop
 loop-again c = ((λ ts ps ns q l. unwind-turns ts (c .before .before .before .before .before .loop .objects) ps q l (c .before .before .before .before .before .before .before .before .before .before .before .args .t3) ns (c .before .before .before .before .before .before .before .before .before .before .before .args .error) (c .before .before .before .before .before .loop .d) (c .before .before .before .before .before .loop .d - 1) (omega arith) (c .before .before .set-gather2 .ensures ts ps q l) ∙ c .before .before .before .before .before .loop .inv .0 ts ps ns q l), c .before .before .set-gather2 .kept .0 ∙ c .before .before .before .before .before .loop .inv .1, omega arith, c .before .before .set-gather2 .kept .0 ∙ c .before .before .before .before .before .loop .inv .3)
 
--- src/settle.rt:113:1
 same-length : tie.Need-same-length Inv-loop μ-loop
 same-length c = c .before .loop .inv .1 ∙ c .before .before .before .before .set-gather .kept .0
 
--- src/settle.rt:113:1
 returns : tie.Need-returns Inv-loop μ-loop
 returns c = λ ts ps ns n q l. unwind-ends ts (c .before .loop .objects) ps q l (c .before .before .before .before .before .before .before .args .t3) ns (c .before .before .before .before .before .before .before .args .error) (c .before .loop .d) (omega arith) ∙ c .before .loop .inv .0 ts ps ns q l ∙ unwind-begins ts (now (c .before .before .before .before .before .before .before .args .objects)) ps q l (c .before .before .before .before .before .before .before .args .t3) ns (c .before .before .before .before .before .before .before .args .error) (c .before .before .before .before .before .before .before .args .g .0) n (c .before .before .before .before .before .before .before .args .depth) (c .before .before .before .before .set-gather .ensures ts ps q l)
 

@@ -2,41 +2,31 @@ use Rattle.machine.specs.Commit.{with-state}
 use borrow.Author.Needs.{needs}
 use Rattle.commit.proofs.settle.with_state.Statement.{statement}
 use Rattle.commit.proofs.settle.with_state.Tie as tie
-use Rattle.commit.proofs.settle.with_state.Reads as reads
-use Rattle.commit.proofs.settle.with_state.Lts as lts
 
--- src/settle.rt:32:27
 enum-told : tie.Need-enum-told
 enum-told c = search needs
 
--- src/settle.rt:33:29
 enum-known-o : tie.Need-enum-known-o
 enum-known-o c = search needs
 
--- src/settle.rt:34:34
 enum-known-o-2 : tie.Need-enum-known-o-2
 enum-known-o-2 c = search needs
 
--- src/settle.rt:36:13
 enum-known-o-3 : tie.Need-enum-known-o-3
 enum-known-o-3 c = search needs
 
--- src/settle.rt:28:1
 returns : tie.Need-returns
 unfolding with-state
 returns c = rw (c .enum-told .given .1)
 
--- src/settle.rt:28:1
 returns-2 : tie.Need-returns-2
 unfolding with-state
 returns-2 c = rw (c .before .o .given .1)
 
--- src/settle.rt:28:1
 returns-3 : tie.Need-returns-3
 unfolding with-state
 returns-3 c = rw (c .before .o2 .given .1)
 
--- src/settle.rt:28:1
 returns-4 : tie.Need-returns-4
 unfolding with-state
 returns-4 c = rw (c .before .o3 .given .1)

@@ -3,32 +3,22 @@ use Rattle.commit.specs.StepLaws.{place-filled}
 use borrow.Author.Needs.{needs}
 use Rattle.commit.proofs.step.fill_place.Statement.{statement}
 use Rattle.commit.proofs.step.fill_place.Tie as tie
-use Rattle.commit.proofs.step.fill_place.Reads as reads
-use Rattle.commit.proofs.step.fill_place.Lts as lts
-use Rattle.rows.proofs.parts.item_at.Reads as item-at-reads
-use Rattle.rows.proofs.tables.store_place.Reads as store-place-reads
 
--- src/step.rt:94:13
 cast-p : tie.Need-cast-p
 cast-p c = search needs
 
--- src/step.rt:94:13
 add-p : tie.Need-add-p
 add-p c = search needs
 
--- src/step.rt:95:9
 item-at-requires : tie.Need-item-at-requires
 item-at-requires c κs = search needs
 
--- src/step.rt:96:5
 store-place-requires : tie.Need-store-place-requires
 store-place-requires c κs = search needs
 
--- src/step.rt:90:1
 same-length : tie.Need-same-length
 same-length c = search needs
 
--- src/step.rt:90:1
 returns : tie.Need-returns
 returns c = λ ts os q l. place-filled ts os (now (c .before .before .before .before .before .before .before .before .args .places)) q l (c .before .before .before .before .before .before .before .before .args .w) (c .before .before .before .before .before .before .before .before .args .i) (c .before .before .before .before .before .before .before .before .args .value) (c .before .before .before .before .item-at .ensures) (c .before .before .store-place .ensures)
 

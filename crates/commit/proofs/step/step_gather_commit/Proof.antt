@@ -13,10 +13,6 @@ use Rattle.commit.specs.Steps.{WalksOn, frame}
 use Rattle.commit.specs.StepLaws.{walk-begins, walk-turns, walk-ends, walk-cut, walk-nested, walk-raised, walk-counts}
 use Rattle.commit.proofs.step.step_gather_commit.Statement.{statement}
 use Rattle.commit.proofs.step.step_gather_commit.Tie as tie
-use Rattle.commit.proofs.step.step_gather_commit.Reads as reads
-use Rattle.commit.proofs.step.step_gather_commit.Lts as lts
-use Rattle.commit.proofs.step.step_item.Reads as step-item-reads
-use Rattle.rows.proofs.parts.count_at.Reads as count-at-reads
 
 abbrev Inv-loop : tie.InvT-loop
 Inv-loop tasks₀ objects₀ places₀ g next count q₀ i₀ tasks objects places q i = WalksOn (λ l. step-gather-commit (store-of tasks₀ objects₀ places₀ q₀ l) (frame (g .0) next)) tasks objects places q (g .0) i count × (length tasks ≡ length tasks₀) × (length objects ≡ length objects₀) × (length places ≡ length places₀) × (count ≡ count-of (object-at objects (g .0)))
@@ -24,113 +20,90 @@ Inv-loop tasks₀ objects₀ places₀ g next count q₀ i₀ tasks objects plac
 abbrev μ-loop : tie.MeasureT-loop
 μ-loop tasks₀ objects₀ places₀ g next count q₀ i₀ tasks objects places q i = count - i
 
--- src/step.rt:180:9
 count-at-requires : tie.Need-count-at-requires Inv-loop μ-loop
 count-at-requires c κs = search needs
 
--- src/step.rt:183:5
 loop-holds : tie.Need-loop-holds Inv-loop μ-loop
 loop-holds c = (walk-begins _ _ _ _ _ _ (c .count-at .ensures), refl, refl, refl, c .count-at .ensures)
 
--- src/step.rt:184:57
 cast-step-item : tie.Need-cast-step-item Inv-loop μ-loop
 cast-step-item c = omega arith
 
--- src/step.rt:184:13
 step-item-requires : tie.Need-step-item-requires Inv-loop μ-loop
 step-item-requires c κs = (c .before .before .before .before .loop .inv .1 ∙ c .before .before .before .before .before .before .before .before .before .before .pre .0, c .before .before .before .before .loop .inv .2 ∙ c .before .before .before .before .before .before .before .before .before .before .pre .1, c .before .before .before .before .loop .inv .3 ∙ c .before .before .before .before .before .before .before .before .before .before .pre .2, c .before .before .before .before .before .before .before .before .before .before .pre .3, omega (arith, c .before .before .before .before .loop .inv .4))
 
--- src/step.rt:188:27
 enum-told : tie.Need-enum-told Inv-loop μ-loop
 enum-told c = search needs
 
--- src/step.rt:188:27
 add-i : tie.Need-add-i Inv-loop μ-loop
 add-i c = omega arith
 
--- src/step.rt:183:5
 loop-less : tie.Need-loop-less Inv-loop μ-loop
 loop-less c = omega arith
 
--- src/step.rt:183:5
 loop-again : tie.Need-loop-again Inv-loop μ-loop
-loop-again c = (walk-turns _ _ _ _ _ _ _ _ (c .before .before .before .before .before .before .before .before .before .before .before .before .before .before .loop .inv .0) (c .before .before .before .before .before .before .before .before .before .before .before .before .before .loop-test .taken) _ _ _ _ _ (c .before .before .before .before .before .before .before .before .before .step-item .ensures) (c .enum-told .given .1),
-      c .before .before .before .before .before .before .before .before .before .step-item .kept .0 ∙ c .before .before .before .before .before .before .before .before .before .before .before .before .before .before .loop .inv .1, c .before .before .before .before .before .before .before .before .before .step-item .kept .1 .0 ∙ c .before .before .before .before .before .before .before .before .before .before .before .before .before .before .loop .inv .2, c .before .before .before .before .before .before .before .before .before .step-item .kept .1 .1 .0 ∙ c .before .before .before .before .before .before .before .before .before .before .before .before .before .before .loop .inv .3,
-      c .before .before .before .before .before .before .before .before .before .before .before .before .before .before .loop .inv .4 ∙ sym (walk-counts _ _ _ _ _ _ _ _ _ _ _ (c .before .before .before .before .before .before .before .before .before .before .before .before .before .before .loop .inv .1 ∙ c .before .before .before .before .before .before .before .before .before .before .before .before .before .before .before .before .before .before .before .before .pre .0) (c .before .before .before .before .before .before .before .before .before .before .before .before .before .before .loop .inv .2 ∙ c .before .before .before .before .before .before .before .before .before .before .before .before .before .before .before .before .before .before .before .before .pre .1) (c .before .before .before .before .before .before .before .before .before .before .before .before .before .before .loop .inv .3 ∙ c .before .before .before .before .before .before .before .before .before .before .before .before .before .before .before .before .before .before .before .before .pre .2) (c .before .before .before .before .before .before .before .before .before .before .before .before .before .before .before .before .before .before .before .before .pre .3) (c .before .before .before .before .before .before .before .before .before .step-item .ensures) (c .enum-told .given .1)))
+loop-again c = (
+  walk-turns _ _ _ _ _ _ _ _ (c .before .before .before .before .before .before .before .before .before .before .before .before .before .before .loop .inv .0) (c .before .before .before .before .before .before .before .before .before .before .before .before .before .loop-test .taken) _ _ _ _ _ (c .before .before .before .before .before .before .before .before .before .step-item .ensures) (c .enum-told .given .1),
+  c .before .before .before .before .before .before .before .before .before .step-item .kept .0 ∙ c .before .before .before .before .before .before .before .before .before .before .before .before .before .before .loop .inv .1,
+  c .before .before .before .before .before .before .before .before .before .step-item .kept .1 .0 ∙ c .before .before .before .before .before .before .before .before .before .before .before .before .before .before .loop .inv .2,
+  c .before .before .before .before .before .before .before .before .before .step-item .kept .1 .1 .0 ∙ c .before .before .before .before .before .before .before .before .before .before .before .before .before .before .loop .inv .3,
+  c .before .before .before .before .before .before .before .before .before .before .before .before .before .before .loop .inv .4 ∙ sym (walk-counts _ _ _ _ _ _ _ _ _ _ _ (c .before .before .before .before .before .before .before .before .before .before .before .before .before .before .loop .inv .1 ∙ c .before .before .before .before .before .before .before .before .before .before .before .before .before .before .before .before .before .before .before .before .pre .0) (c .before .before .before .before .before .before .before .before .before .before .before .before .before .before .loop .inv .2 ∙ c .before .before .before .before .before .before .before .before .before .before .before .before .before .before .before .before .before .before .before .before .pre .1) (c .before .before .before .before .before .before .before .before .before .before .before .before .before .before .loop .inv .3 ∙ c .before .before .before .before .before .before .before .before .before .before .before .before .before .before .before .before .before .before .before .before .pre .2) (c .before .before .before .before .before .before .before .before .before .before .before .before .before .before .before .before .before .before .before .before .pre .3) (c .before .before .before .before .before .before .before .before .before .step-item .ensures) (c .enum-told .given .1)),
+)
 
--- src/step.rt:192:27
 enum-told-2 : tie.Need-enum-told-2 Inv-loop μ-loop
 enum-told-2 c = search needs
 
--- src/step.rt:190:17
 same-length : tie.Need-same-length Inv-loop μ-loop
 same-length c = c .before .before .before .before .before .before .before .before .before .step-item .kept .0 ∙ c .before .before .before .before .before .before .before .before .before .before .before .before .before .before .loop .inv .1
 
--- src/step.rt:190:17
 same-length-2 : tie.Need-same-length-2 Inv-loop μ-loop
 same-length-2 c = c .before .before .before .before .before .before .before .before .before .step-item .kept .1 .0 ∙ c .before .before .before .before .before .before .before .before .before .before .before .before .before .before .loop .inv .2
 
--- src/step.rt:190:17
 same-length-3 : tie.Need-same-length-3 Inv-loop μ-loop
 same-length-3 c = c .before .before .before .before .before .before .before .before .before .step-item .kept .1 .1 .0 ∙ c .before .before .before .before .before .before .before .before .before .before .before .before .before .before .loop .inv .3
 
--- src/step.rt:190:17
 returns : tie.Need-returns Inv-loop μ-loop
 returns c = walk-cut _ _ _ _ _ _ _ _ (c .before .before .before .before .before .before .before .before .before .before .before .before .before .before .loop .inv .0) (c .before .before .before .before .before .before .before .before .before .before .before .before .before .loop-test .taken) _ _ _ _ _ (c .before .before .before .before .before .before .before .before .before .step-item .ensures) (c .enum-told2 .given .1)
 
--- src/step.rt:195:26
 enum-known-step : tie.Need-enum-known-step Inv-loop μ-loop
 enum-known-step c = search needs
 
--- src/step.rt:196:17
 same-length-4 : tie.Need-same-length-4 Inv-loop μ-loop
 same-length-4 c = c .before .before .before .before .before .before .before .before .before .before .step-item .kept .0 ∙ c .before .before .before .before .before .before .before .before .before .before .before .before .before .before .before .loop .inv .1
 
--- src/step.rt:196:17
 same-length-5 : tie.Need-same-length-5 Inv-loop μ-loop
 same-length-5 c = c .before .before .before .before .before .before .before .before .before .before .step-item .kept .1 .0 ∙ c .before .before .before .before .before .before .before .before .before .before .before .before .before .before .before .loop .inv .2
 
--- src/step.rt:196:17
 same-length-6 : tie.Need-same-length-6 Inv-loop μ-loop
 same-length-6 c = c .before .before .before .before .before .before .before .before .before .before .step-item .kept .1 .1 .0 ∙ c .before .before .before .before .before .before .before .before .before .before .before .before .before .before .before .loop .inv .3
 
--- src/step.rt:196:17
 returns-2 : tie.Need-returns-2 Inv-loop μ-loop
 returns-2 c = walk-nested _ _ _ _ _ _ _ _ (c .before .before .before .before .before .before .before .before .before .before .before .before .before .before .before .loop .inv .0) (c .before .before .before .before .before .before .before .before .before .before .before .before .before .before .loop-test .taken) _ _ _ _ _ (c .before .before .before .before .before .before .before .before .before .before .step-item .ensures) _ (c .before .step .given .1)
 
--- src/step.rt:201:26
 enum-known-step-2 : tie.Need-enum-known-step-2 Inv-loop μ-loop
 enum-known-step-2 c = search needs
 
--- src/step.rt:202:17
 same-length-7 : tie.Need-same-length-7 Inv-loop μ-loop
 same-length-7 c = c .before .before .before .before .before .before .before .before .before .before .step-item .kept .0 ∙ c .before .before .before .before .before .before .before .before .before .before .before .before .before .before .before .loop .inv .1
 
--- src/step.rt:202:17
 same-length-8 : tie.Need-same-length-8 Inv-loop μ-loop
 same-length-8 c = c .before .before .before .before .before .before .before .before .before .before .step-item .kept .1 .0 ∙ c .before .before .before .before .before .before .before .before .before .before .before .before .before .before .before .loop .inv .2
 
--- src/step.rt:202:17
 same-length-9 : tie.Need-same-length-9 Inv-loop μ-loop
 same-length-9 c = c .before .before .before .before .before .before .before .before .before .before .step-item .kept .1 .1 .0 ∙ c .before .before .before .before .before .before .before .before .before .before .before .before .before .before .before .loop .inv .3
 
--- src/step.rt:202:17
 returns-3 : tie.Need-returns-3 Inv-loop μ-loop
 returns-3 c = walk-raised _ _ _ _ _ _ _ _ (c .before .before .before .before .before .before .before .before .before .before .before .before .before .before .before .loop .inv .0) (c .before .before .before .before .before .before .before .before .before .before .before .before .before .before .loop-test .taken) _ _ _ _ _ (c .before .before .before .before .before .before .before .before .before .before .step-item .ensures) _ (c .before .step2 .given .1)
 
--- src/step.rt:169:1
 same-length-10 : tie.Need-same-length-10 Inv-loop μ-loop
 same-length-10 c = c .before .loop .inv .1
 
--- src/step.rt:169:1
 same-length-11 : tie.Need-same-length-11 Inv-loop μ-loop
 same-length-11 c = c .before .loop .inv .2
 
--- src/step.rt:169:1
 same-length-12 : tie.Need-same-length-12 Inv-loop μ-loop
 same-length-12 c = c .before .loop .inv .3
 
--- src/step.rt:169:1
 returns-4 : tie.Need-returns-4 Inv-loop μ-loop
 returns-4 c = walk-ends _ _ _ _ _ _ _ _ (c .before .loop .inv .0) (c .loop-test .left)
 

@@ -6,90 +6,64 @@ use Rattle.commit.specs.StepLaws.{awaited-range, place-range, item-range
 use borrow.Author.Needs.{needs}
 use Rattle.commit.proofs.step.step_item.Statement.{statement}
 use Rattle.commit.proofs.step.step_item.Tie as tie
-use Rattle.commit.proofs.step.step_item.Reads as reads
-use Rattle.commit.proofs.step.step_item.Lts as lts
-use Rattle.commit.proofs.awaited.as_awaited.Reads as as-awaited-reads
-use Rattle.commit.proofs.items.item.Reads as item-reads
-use Rattle.commit.proofs.step.put_polled.Reads as put-polled-reads
-use Rattle.rows.proofs.parts.item_at.Reads as item-at-reads
 
--- src/step.rt:143:9
 as-awaited-requires : tie.Need-as-awaited-requires
 as-awaited-requires c κs = search needs
 
--- src/step.rt:147:19
 enum-told : tie.Need-enum-told
 enum-told c = search needs
 
--- src/step.rt:149:29
 enum-known-a : tie.Need-enum-known-a
 enum-known-a c = search needs
 
--- src/step.rt:150:50
 cast-item-at : tie.Need-cast-item-at
 cast-item-at c = search needs
 
--- src/step.rt:150:50
 add-item-at : tie.Need-add-item-at
 add-item-at c = omega (arith, place-range _ _ (c .before .before .before .before .before .as-awaited .result) _ _ (c .before .before .before .before .before .as-awaited .ensures) (c .before .before .before .a .given .1) (c .before .before .before .before .before .before .before .before .before .before .pre .4) .in-places)
 
--- src/step.rt:150:17
 item-at-requires : tie.Need-item-at-requires
 item-at-requires c κs = (search needs, place-range _ _ (c .before .before .before .before .before .as-awaited .result) _ _ (c .before .before .before .before .before .as-awaited .ensures) (c .before .before .before .a .given .1) (c .before .before .before .before .before .before .before .before .before .before .pre .4) .in-places)
 
--- src/step.rt:151:17
 item-requires : tie.Need-item-requires
 item-requires c κs = (search needs, search needs, search needs, awaited-range _ _ (c .before .before .before .before .before .before .before .before .before .as-awaited .result) _ (c .before .before .before .before .before .before .before .before .before .as-awaited .ensures) (c .before .before .before .before .before .before .before .a .given .1), item-range _ _ (c .before .before .before .item-at .ensures))
 
--- src/step.rt:157:27
 enum-told-2 : tie.Need-enum-told-2
 enum-told-2 c = search needs
 
--- src/step.rt:159:34
 enum-known-polled : tie.Need-enum-known-polled
 enum-known-polled c = search needs
 
--- src/step.rt:160:25
 put-polled-requires : tie.Need-put-polled-requires
 put-polled-requires c κs = (c .before .before .before .before .before .before .before .before .before .before .item .kept .1 .0 ∙ c .before .before .before .before .before .before .before .before .before .before .before .before .before .before .before .before .before .before .before .before .before .before .before .before .before .pre .1, c .before .before .before .before .before .before .before .before .before .before .before .before .before .before .before .before .before .before .before .before .before .before .before .before .before .pre .2, c .before .before .before .before .before .before .before .before .before .before .before .before .before .before .before .before .before .before .before .before .before .before .before .before .before .pre .3, place-range _ _ (c .before .before .before .before .before .before .before .before .before .before .before .before .before .before .before .before .before .before .before .before .as-awaited .result) _ _ (c .before .before .before .before .before .before .before .before .before .before .before .before .before .before .before .before .before .before .before .before .as-awaited .ensures) (c .before .before .before .before .before .before .before .before .before .before .before .before .before .before .before .before .before .before .a .given .1) (c .before .before .before .before .before .before .before .before .before .before .before .before .before .before .before .before .before .before .before .before .before .before .before .before .before .pre .4) .in-items, place-range _ _ (c .before .before .before .before .before .before .before .before .before .before .before .before .before .before .before .before .before .before .before .before .as-awaited .result) _ _ (c .before .before .before .before .before .before .before .before .before .before .before .before .before .before .before .before .before .before .before .before .as-awaited .ensures) (c .before .before .before .before .before .before .before .before .before .before .before .before .before .before .before .before .before .before .a .given .1) (c .before .before .before .before .before .before .before .before .before .before .before .before .before .before .before .before .before .before .before .before .before .before .before .before .before .pre .4) .in-places)
 
--- src/step.rt:132:1
 same-length : tie.Need-same-length
 same-length c = search needs
 
--- src/step.rt:132:1
 returns : tie.Need-returns
 returns c = λ l go. step-none (now (c .before .before .before .before .before .before .before .args .tasks)) (now (c .before .before .before .before .before .before .before .args .objects)) (now (c .before .before .before .before .before .before .before .args .places)) (c .before .before .before .before .before .before .before .args .queue) l (c .before .before .before .before .before .before .before .args .g .0) (c .before .before .before .before .before .before .before .args .i) (c .before .before .as-awaited .result) (c .before .before .as-awaited .ensures) (c .enum-told .given .1) go
 
--- src/step.rt:132:1
 same-length-2 : tie.Need-same-length-2
 same-length-2 c = search needs
 
--- src/step.rt:132:1
 same-length-3 : tie.Need-same-length-3
 same-length-3 c = search needs
 
--- src/step.rt:132:1
 same-length-4 : tie.Need-same-length-4
 same-length-4 c = search needs
 
--- src/step.rt:132:1
 returns-2 : tie.Need-returns-2
 returns-2 c = λ l go. step-nested (now (c .before .before .before .before .before .before .before .before .before .before .before .before .before .before .before .before .before .before .before .before .before .before .args .tasks)) (now (c .before .before .before .before .before .before .before .before .before .before .before .before .before .before .before .before .before .before .before .before .before .before .args .objects)) (now (c .before .before .before .before .before .before .before .before .before .before .before .before .before .before .before .before .before .before .before .before .before .before .args .places)) (c .before .before .before .before .before .before .before .before .before .before .before .before .before .before .before .before .before .before .before .before .before .before .args .queue) l (c .before .before .before .before .before .before .before .before .before .before .before .before .before .before .before .before .before .before .before .before .before .before .args .g .0) (c .before .before .before .before .before .before .before .before .before .before .before .before .before .before .before .before .before .before .before .before .before .before .args .i) (c .before .before .before .before .before .before .before .before .before .before .before .before .before .before .before .before .before .as-awaited .result) (c .before .before .before .before .before .before .before .before .before .before .before .before .before .before .before .before .before .as-awaited .ensures) _ (c .before .before .before .before .before .before .before .before .before .before .before .before .before .before .before .a .given .1) (c .before .before .before .before .before .before .before .before .before .before .before .item-at .ensures) (c .before .before .before .before .before .before .before .item .result .item) (c .before .before .before .before .before .before .before .item .ensures l) (c .enum-told2 .given .1) go
 
--- src/step.rt:132:1
 same-length-5 : tie.Need-same-length-5
 same-length-5 c = search needs
 
--- src/step.rt:132:1
 same-length-6 : tie.Need-same-length-6
 same-length-6 c = search needs
 
--- src/step.rt:132:1
 same-length-7 : tie.Need-same-length-7
 same-length-7 c = search needs
 
--- src/step.rt:132:1
 returns-3 : tie.Need-returns-3
 returns-3 c = λ l go. step-polled (now (c .before .before .before .before .before .before .before .before .before .before .before .before .before .before .before .before .before .before .before .before .before .before .before .before .before .before .before .before .before .before .args .tasks)) (now (c .before .before .before .before .before .before .before .before .before .before .before .before .before .before .before .before .before .before .before .before .before .before .before .before .before .before .before .before .before .before .args .objects)) (now (c .before .before .before .before .before .before .before .before .before .before .before .before .before .before .before .before .before .before .before .before .before .before .before .before .before .before .before .before .before .before .args .places)) (c .before .before .before .before .before .before .before .before .before .before .before .before .before .before .before .before .before .before .before .before .before .before .before .before .before .before .before .before .before .before .args .queue) l (c .before .before .before .before .before .before .before .before .before .before .before .before .before .before .before .before .before .before .before .before .before .before .before .before .before .before .before .before .before .before .args .g .0) (c .before .before .before .before .before .before .before .before .before .before .before .before .before .before .before .before .before .before .before .before .before .before .before .before .before .before .before .before .before .before .args .i) (c .before .before .before .before .before .before .before .before .before .before .before .before .before .before .before .before .before .before .before .before .before .before .before .before .before .as-awaited .result) (c .before .before .before .before .before .before .before .before .before .before .before .before .before .before .before .before .before .before .before .before .before .before .before .before .before .as-awaited .ensures) _ (c .before .before .before .before .before .before .before .before .before .before .before .before .before .before .before .before .before .before .before .before .before .before .before .a .given .1) (c .before .before .before .before .before .before .before .before .before .before .before .before .before .before .before .before .before .before .before .item-at .ensures) (c .before .before .before .before .before .before .before .before .before .before .before .before .before .before .before .item .result .item) (c .before .before .before .before .before .before .before .before .before .before .before .before .before .before .before .item .ensures l) _ (c .before .before .before .before .before .before .before .before .polled .given .1) _ _ (c .before .before .before .before .put-polled .result) (λ k. c .before .before .before .before .put-polled .ensures _ _ k) go
 

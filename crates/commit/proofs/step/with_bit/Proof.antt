@@ -4,34 +4,25 @@ use Rattle.laws.specs.BitLaws.{shifted-one, bit-room}
 use borrow.Author.Needs.{needs}
 use Rattle.commit.proofs.step.with_bit.Statement.{statement}
 use Rattle.commit.proofs.step.with_bit.Tie as tie
-use Rattle.commit.proofs.step.with_bit.Reads as reads
-use Rattle.commit.proofs.step.with_bit.Lts as lts
 
--- src/step.rt:62:20
 cast-if1 : tie.Need-cast-if1
 cast-if1 c = search needs
 
--- src/step.rt:62:9
 shr-if1 : tie.Need-shr-if1
 shr-if1 c = search needs
 
--- src/step.rt:63:35
 cast-result : tie.Need-cast-result
 cast-result c = search needs
 
--- src/step.rt:63:27
 shl-result : tie.Need-shl-result
 shl-result c = search needs
 
--- src/step.rt:63:16
 add-result : tie.Need-add-result
 add-result c = omega (arith, shifted-one (c .before .args .i) (search needs), bit-room (c .before .args .waiting) (c .before .args .i) (search needs) (search needs) (c .if1 .taken))
 
--- src/step.rt:63:9
 returns : tie.Need-returns
 returns c = rw (shifted-one (c .before .args .i) (search needs), eq-eqb _ 0 (c .if1 .taken))
 
--- src/step.rt:58:1
 returns-2 : tie.Need-returns-2
 returns-2 c = rw (ne-eqb _ 0 (c .if1 .left))
 
