@@ -1,5 +1,6 @@
 -- How many numbers there are of each sort, and how wide the rows are. Document 01: "513 task records", "a 257th object, over 32 items,
--- or over 512 item places in all", "numbers 0 to 65,535".
+-- or over 512 item places in all", "numbers 0 to 65,535",
+-- "over 64 results".
 use Prim.Native.Nat.{ℕ, _*_, _+_}
 
 abbrev pub task-limit : ℕ
@@ -17,6 +18,10 @@ item-limit = 32
 
 abbrev pub call-limit : ℕ
 call-limit = 65536
+
+-- results of one batch
+abbrev pub result-limit : ℕ
+result-limit = 64
 
 -- numbers of 32 bits: functions, error numbers, the open places of a gather
 abbrev pub u32-limit : ℕ

@@ -1,4 +1,3 @@
-pub mod BitLaws
 pub mod FillLaws
 pub mod Delivered
 pub mod StepLaws

@@ -34,7 +34,7 @@ use Rattle.laws.specs.Statements.{SameLive}
 use Rattle.laws.specs.CountLaws.{count-same}
 use Rattle.laws.specs.DeliveryLaws.{failure-same}
 use Rattle.laws.specs.CycleLaws.{live-falls}
-use Rattle.events.specs.WokenLaws.{WokenFits, failure-woken, activate-by, removed-same}
+use Rattle.laws.specs.WokenLaws.{WokenFits, failure-woken, activate-by, removed-same}
 use Rattle.events.specs.Control.{switched-of, function-of, FoundFits}
 use Rattle.events.specs.ControlLaws.{some-tasks, some-tasks-long}
 use Rattle.events.specs.declared.control.Control.{Control}

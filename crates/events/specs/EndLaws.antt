@@ -25,7 +25,7 @@ use Rattle.machine.specs.Events.{Switched, waits, completed, resume-after-task-
 use Rattle.machine.specs.Machine as machine
 use Rattle.machine.specs.Machine.{Step, is-empty, switched, end-main, task-completes, task-fails, repeat-wait, resume-with-resolved-futures}
 use Rattle.laws.specs.Views.{Sized}
-use Rattle.events.specs.WokenLaws.{WokenFits, success-woken}
+use Rattle.laws.specs.WokenLaws.{WokenFits, success-woken}
 use Rattle.events.specs.Control.{switched-of, FoundFits}
 use Rattle.events.specs.CycleLaws.{same-switch}
 use Rattle.events.specs.Answer.{stepped-of}

@@ -1,5 +1,4 @@
 pub mod Control
-pub mod WokenLaws
 pub mod ControlLaws
 pub mod CycleLaws
 pub mod Answer

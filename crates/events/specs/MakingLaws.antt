@@ -26,10 +26,6 @@ use Rattle.queue.specs.Queue.{empty-queue}
 use Rattle.machine.specs.Store.{Store, Happening, store-of, header, put-header, put-object, put-place, set-calls, add-object}
 use Rattle.machine.specs.Events.{make-settled, put-items, make-gather}
 
--- a header that was read is in range
-pub header-read : (w : List ℕ) {h : Header} → h ≡ header-at w → HeaderFits h
-header-read w e = rw e (header-at-fits w)
-
 module _ (ts os ps : List ℕ) (q : ReadyQueue) (l : List Happening) {h : Header} (e : h ≡ header-at os) {us : List ℕ} where
   pub added : (x : Object) (n : ℕ) {o : HeapId} → o .0 ≡ h .made
       → us ≡ header-put os (record { made = h .made + 1; used = h .used + n; calls = h .calls; next = h .next; moment = h .moment })

@@ -4,11 +4,12 @@ use mathlib.Core.Path.{_≡_, refl, sym, ap, _∙_}
 use mathlib.Core.Bool.{Bool, true, false, true≢false}
 use mathlib.Core.List.{List, [], _∷_}
 use mathlib.Core.Option.{Option, none, some}
-use Prim.Native.Nat.{ℕ, zero, suc, _+_, _-_, _*_, _<_}
+use Prim.Native.Nat.{ℕ, zero, suc, _+_, _-_, _*_, _≤_, _<_}
 use native.Mathlib.Omega.{arith}
 use native.Mathlib.Decide.{ℕ-discrete}
 use lib.Dec.{eqb, ltb}
 use lib.ListN.{length}
+use borrow.Author.Tests.{ltb-true, ltb-false}
 use Rattle.asyncio.specs.declared.CallId.{CallId}
 use Rattle.asyncio.specs.declared.Value.{Value}
 use Rattle.asyncio.specs.declared.Error.{Error}
@@ -24,19 +25,20 @@ use Rattle.asyncio.specs.Numbers.{heap-id}
 use Rattle.asyncio.specs.Kinds.{kind, is-gather, is-pending-gather}
 use Rattle.asyncio.specs.Limits.{task-limit, object-limit}
 use Rattle.asyncio.specs.Parts.{count-of}
+use Rattle.asyncio.specs.Ranges.{ObjectFits, PlacesFit}
 use Rattle.asyncio.specs.RangeLaws.{pick-has}
 use Rattle.rows.specs.Tables.{object-at}
-use Rattle.laws.specs.CountLaws.{count-same, count-drop}
+use Rattle.laws.specs.CountLaws.{count-same, count-drop, count-most}
 use Rattle.machine.specs.Store.{Store, object, put-object, place, put-place, header, put-task, set-next, put-queue, note, spawned}
 use Rattle.machine.specs.Scheduler.{AwaitedGather, as-awaited, spawn, spawn-unless, spawn-as, driver, push-ready}
-use Rattle.machine.specs.Commit.{Poll, ready, raised, pending, Polled, gives, await-pending, await-external, Item, polled, nested, item-coroutine, item-gather, item-object, open-from, item}
-use Rattle.machine.specs.Commit.{open-place, fill-place, Stop, at-end, at-nested, at-error, put-polled, put-item, step-items, Frame, step-gather-commit}
-use Rattle.machine.specs.Commit.{with-state, set-gather, open-gather-commit, settle-as, settle-gather-commit, resume-in, resume-after-child, unwind}
+use Rattle.machine.specs.Commit.{Poll, ready, raised, pending, Polled, gives, await-pending, await-external, Item, polled, nested, polled-spawn, item-coroutine, item-gather, item-object, open-from, item}
+use Rattle.machine.specs.Commit.{open-place, fill-place, Stop, at-end, at-nested, at-error, put-polled, put-item, step-item, step-items, Frame, step-gather-commit}
+use Rattle.machine.specs.Commit.{with-state, set-gather, open-gather-commit, settle-as, settle-gather-commit, resume-in, resume-as, resume-after-child, unwind}
 use Rattle.machine.specs.Commit.{Committed, turn, commit-loop, pending-in, pending-count, commit-gather-tree}
 use Rattle.laws.specs.Views.{Sized}
-use Rattle.laws.specs.Statements.{phase, SameKinds, is-failed-gather, kinds-in, failed-count, StepFormula, StepsRight, FailFormula, SeenFormula, NoFrame, Opened, commit-rest}
-use Rattle.laws.specs.StoreLaws.{sized-put-object, sized-put-place, sized-put-task, sized-set-next, sized-put-queue, sized-note, kind-put-object, object-put-other, object-put-header, place-fits}
-use Rattle.laws.specs.DeliveryLaws.{awaited-object}
+use Rattle.laws.specs.Statements.{phase, SameKinds, is-failed-gather, kinds-in, failed-count, StepFormula, StepsRight, FailFormula, SeenFormula, NoFrame, Opened, Placed, StopBelow, commit-rest}
+use Rattle.laws.specs.StoreLaws.{sized-put-object, sized-put-place, sized-put-task, sized-set-next, sized-put-queue, sized-note, kind-put-object, object-put-other, object-put-header, object-fits, place-fits, PlacesOf, count-put-object}
+use Rattle.laws.specs.DeliveryLaws.{awaited-object, awaited-fits}
 
 -- ---- the step formulas
 
@@ -76,10 +78,10 @@ commit-steps s g a =
 -- ---- what keeps the kinds
 
 pub same-kinds-refl : (s : Store) → Sized s → SameKinds s s
-same-kinds-refl s z = record { sized = z; kinds = λ o. refl }
+same-kinds-refl s z = record { sized = z; kinds = λ o. refl; counts = λ o. refl }
 
 pub same-kinds-then : {s u x : Store} → SameKinds s u → SameKinds u x → SameKinds s x
-same-kinds-then k l = record { sized = l .sized; kinds = λ o. l .kinds o ∙ k .kinds o }
+same-kinds-then k l = record { sized = l .sized; kinds = λ o. l .kinds o ∙ k .kinds o; counts = λ o. l .counts o ∙ k .counts o }
 
 -- a test that awaited and completed gathers pass alike
 phase-test : (p : Kind → Bool) → p Kind.AwaitedGather ≡ p Kind.CompletedGather → (k : Kind) → p (phase k) ≡ p k
@@ -121,17 +123,22 @@ pub same-failed-count : (s u : Store) → SameKinds s u → failed-count u ≡ f
 unfolding failed-count
 same-failed-count s u k = same-kinds-in is-failed-gather refl s u k
 
--- an object is put of the kind that the old one is
-pub put-object-kinds : (s : Store) (o : ℕ) (r : Object) → Sized s → o < object-limit → phase (kind r) ≡ phase (kind (object s o)) → SameKinds s (put-object s o r)
-put-object-kinds s o r z l e = record { sized = sized-put-object s o r z; kinds = λ p. by p (ℕ-discrete p o) }
+-- an object is put of the kind that the old one is, with as many places
+pub put-object-kinds : (s : Store) (o : ℕ) (r : Object) → Sized s → o < object-limit → phase (kind r) ≡ phase (kind (object s o))
+    → PlacesOf r → count-of r ≡ count-of (object s o) → SameKinds s (put-object s o r)
+put-object-kinds s o r z l e f c = record { sized = sized-put-object s o r z; kinds = λ p. by p (ℕ-discrete p o); counts = λ p. count-by p (ℕ-discrete p o) }
   where
+    count-by : (p : ℕ) → Dec (p ≡ o) → count-of (object (put-object s o r) p) ≡ count-of (object s p)
+    count-by p (yes q) = rw (q, count-put-object s o r z l f) c
+    count-by p (no ne) = rw (object-put-other s o p r ne)
+
     by : (p : ℕ) → Dec (p ≡ o) → phase (kind (object (put-object s o r) p)) ≡ phase (kind (object s p))
     by p (yes q) = rw (q, kind-put-object s o r z l) e
     by p (no ne) = rw (object-put-other s o p r ne)
 
 put-place-kinds : (s : Store) (p : ℕ) (r : Place) → Sized s → SameKinds s (put-place s p r)
 unfolding put-place object
-put-place-kinds s p r z = record { sized = sized-put-place s p r z; kinds = λ o. refl }
+put-place-kinds s p r z = record { sized = sized-put-place s p r z; kinds = λ o. refl; counts = λ o. refl }
 
 awaited-phase : (x : Object) (w : AwaitedGather) → as-awaited x ≡ some w → phase (kind x) ≡ Kind.AwaitedGather
 unfolding kind
@@ -148,6 +155,7 @@ unfolding spawn-as push-ready note put-queue put-task object
 spawn-as-kinds s t c g z = record {
   sized = sized-note _ (spawned t c) (sized-put-queue _ _ (sized-set-next _ (t + 1) (sized-put-task s t _ z)));
   kinds = λ o. ap (λ (x : Object). phase (kind x)) (object-set-next (put-task s t _) (t + 1) o);
+  counts = λ o. ap count-of (object-set-next (put-task s t _) (t + 1) o);
 }
 
 -- where a spawn gives a store, the kinds are the same there
@@ -172,10 +180,10 @@ abbrev PolledKeeps : Store → Polled → Type 0
 PolledKeeps s r = SameKinds s (r .store)
 
 coroutine-kinds : (s : Store) (g o : ℕ) (x : CoroutineState) → Sized s → SameKinds s (item-coroutine s g o x .store)
-unfolding item-coroutine SpawnKeeps
+unfolding item-coroutine polled-spawn SpawnKeeps
 coroutine-kinds s g o CoroutineState.New z = by (spawn s o g) (spawn-kinds s o g z)
   where
-    by : (x : Option Store) → SpawnKeeps s x → PolledKeeps s (elim x [ none ↦ gives s (raised Error.CoroutineReuse) | some u ↦ gives u pending ])
+    by : (x : Option Store) → SpawnKeeps s x → PolledKeeps s (polled-spawn s x)
     by none k = same-kinds-refl s z
     by (some u) k = k
 coroutine-kinds s g o CoroutineState.Running z = same-kinds-refl s z
@@ -183,8 +191,8 @@ coroutine-kinds s g o CoroutineState.Completed z = same-kinds-refl s z
 
 pub await-external-kinds : (s : Store) (o : ℕ) (c : CallId) (x : ExternalFutureState) (a : Awaiter) → Sized s → o < object-limit
     → object s o ≡ Object.ExternalFuture c x → SameKinds s (await-external s o c x a .store)
-unfolding await-external await-pending kind
-await-external-kinds s o c (ExternalFutureState.Pending Awaiter.Nobody r) a z l e = put-object-kinds s o _ z l (rw e)
+unfolding await-external await-pending kind count-of
+await-external-kinds s o c (ExternalFutureState.Pending Awaiter.Nobody r) a z l e = put-object-kinds s o _ z l (rw e) tt (rw e)
 await-external-kinds s o c (ExternalFutureState.Pending (Awaiter.Task t) r) a z l e = same-kinds-refl s z
 await-external-kinds s o c (ExternalFutureState.Pending (Awaiter.GatherSlot g y) r) a z l e = same-kinds-refl s z
 await-external-kinds s o c (ExternalFutureState.Resolved v) a z l e = same-kinds-refl s z
@@ -212,16 +220,16 @@ item-kinds s g w o z l =
 -- ---- the items of one gather
 
 open-place-kinds : (s : Store) (g : ℕ) (w : AwaitedGather) (i : ℕ) → Sized s → g < object-limit → phase (kind (object s g)) ≡ Kind.AwaitedGather
-    → SameKinds s (open-place s g w i)
-unfolding open-place kind
-open-place-kinds s g w i z l e = put-object-kinds s g _ z l (sym e)
+    → PlacesFit (w .first) (w .count) → w .count ≡ count-of (object s g) → SameKinds s (open-place s g w i)
+unfolding open-place kind count-of
+open-place-kinds s g w i z l e f c = put-object-kinds s g _ z l (sym e) f c
 
 fill-place-kinds : (s : Store) (w : AwaitedGather) (i : ℕ) (v : Value) → Sized s → SameKinds s (fill-place s w i v)
 unfolding fill-place
 fill-place-kinds s w i v z = put-place-kinds s _ _ z
 
 -- where a walk stops the kinds are the same; the nested item is a pending gather
-StopKeeps : Store → Stop → Type 0
+unfoldable pub StopKeeps : Store → Stop → Type 0
 StopKeeps s (at-end u) = SameKinds s u
 StopKeeps s (at-nested u i o) = SameKinds s u × (o < object-limit) × (kind (object u o) ≡ Kind.PendingGather)
 StopKeeps s (at-error u e) = SameKinds s u
@@ -232,39 +240,46 @@ stop-then (at-end v) k h = same-kinds-then k h
 stop-then (at-nested v i o) k h = (same-kinds-then k (h .0), h .1, h .2)
 stop-then (at-error v e) k h = same-kinds-then k h
 
-module _ (g : ℕ) (l : g < object-limit) (w : AwaitedGather) (i o : ℕ) (go : Store → Stop) (h : (u : Store) → Sized u → StopKeeps u (go u)) where
-  put-polled-kinds : (s : Store) (p : Poll) → Sized s → phase (kind (object s g)) ≡ Kind.AwaitedGather → StopKeeps s (put-polled g w i s p go)
+module _ (g : ℕ) (l : g < object-limit) (w : AwaitedGather) (m : PlacesFit (w .first) (w .count)) (i o : ℕ) (go : Store → Stop) (h : (u : Store) → Sized u → StopKeeps u (go u)) where
+  put-polled-kinds : (s : Store) (p : Poll) → Sized s → phase (kind (object s g)) ≡ Kind.AwaitedGather → w .count ≡ count-of (object s g)
+      → StopKeeps s (put-polled g w i s p go)
   unfolding put-polled StopKeeps
-  put-polled-kinds s (ready v) z e =
+  put-polled-kinds s (ready v) z e c =
       let k = fill-place-kinds s w i v z in unfold StopKeeps in stop-then (go (fill-place s w i v)) k (h _ (k .sized))
-  put-polled-kinds s (raised x) z e = same-kinds-refl s z
-  put-polled-kinds s pending z e =
-      let k = open-place-kinds s g w i z l e in unfold StopKeeps in stop-then (go (open-place s g w i)) k (h _ (k .sized))
+  put-polled-kinds s (raised x) z e c = same-kinds-refl s z
+  put-polled-kinds s pending z e c =
+      let k = open-place-kinds s g w i z l e m c in unfold StopKeeps in stop-then (go (open-place s g w i)) k (h _ (k .sized))
 
-  put-item-kinds : (s : Store) (x : Item) → Sized s → o < object-limit → phase (kind (object s g)) ≡ Kind.AwaitedGather → ItemKeeps s o x
-      → StopKeeps s (put-item g w i o s x go)
+  put-item-kinds : (s : Store) (x : Item) → Sized s → o < object-limit → phase (kind (object s g)) ≡ Kind.AwaitedGather → w .count ≡ count-of (object s g)
+      → ItemKeeps s o x → StopKeeps s (put-item g w i o s x go)
   unfolding put-item StopKeeps ItemKeeps
-  put-item-kinds s nested z m e k = (same-kinds-refl s z, m, k)
-  put-item-kinds s (polled r) z m e k =
-      unfold StopKeeps in stop-then (put-polled g w i (r .store) (r .poll) go) k (put-polled-kinds (r .store) (r .poll) (k .sized) (k .kinds g ∙ e))
+  put-item-kinds s nested z n e c k = (same-kinds-refl s z, n, k)
+  put-item-kinds s (polled r) z n e c k =
+      unfold StopKeeps in stop-then (put-polled g w i (r .store) (r .poll) go) k
+      (put-polled-kinds (r .store) (r .poll) (k .sized) (k .kinds g ∙ e) (c ∙ sym (k .counts g)))
+
+pub awaited-count : (x : Object) (w : AwaitedGather) → as-awaited x ≡ some w → w .count ≡ count-of x
+unfolding count-of
+awaited-count x w e = rw (awaited-object x w e)
+
+-- one item, then on; h: what goes on keeps the kinds
+pub step-item-kinds : (g i : ℕ) (s : Store) (go : Store → Stop) → Sized s → g < object-limit → ((u : Store) → Sized u → StopKeeps u (go u))
+    → StopKeeps s (step-item g i s (as-awaited (object s g)) go)
+unfolding step-item StopKeeps
+step-item-kinds g i s go z l h = by (as-awaited (object s g)) refl
+  where
+    by : (a : Option AwaitedGather) → as-awaited (object s g) ≡ a → StopKeeps s (step-item g i s a go)
+    by none e = same-kinds-refl s z
+    by (some w) e =
+        let o : ℕ = place s (w .first + i) .item .0 in
+        let m : o < object-limit = place-fits s (w .first + i) .item-fits in
+        put-item-kinds g l w (awaited-fits s g w e .0) i o go h s (item s g w o) z m (awaited-phase (object s g) w e) (awaited-count (object s g) w e) (item-kinds s g w o z m)
 
 step-items-kinds : (k : ℕ) (s : Store) (g i : ℕ) → Sized s → g < object-limit → StopKeeps s (step-items k s g i)
 unfolding step-items StopKeeps
 step-items-kinds zero s g i z l = same-kinds-refl s z
-step-items-kinds (suc k) s g i z l = by (as-awaited (object s g)) refl (λ u y. step-items-kinds k u g (i + 1) y l)
-  where
-    by : (a : Option AwaitedGather) → as-awaited (object s g) ≡ a → ((u : Store) → Sized u → StopKeeps u (step-items k u g (i + 1)))
-        → StopKeeps s (elim a [
-          | none ↦ at-end s
-          | some w ↦
-              let o : ℕ = place s (w .first + i) .item .0 in
-              put-item g w i o s (item s g w o) (λ x. step-items k x g (i + 1))
-        ])
-    by none e h = same-kinds-refl s z
-    by (some w) e h =
-        let o : ℕ = place s (w .first + i) .item .0 in
-        let m : o < object-limit = place-fits s (w .first + i) .item-fits in
-        put-item-kinds g l w i o (λ x. step-items k x g (i + 1)) h s (item s g w o) z m (awaited-phase (object s g) w e) (item-kinds s g w o z m)
+step-items-kinds (suc k) s g i z l =
+    unfold StopKeeps in step-item-kinds g i s (λ x. step-items k x g (i + 1)) z l (λ u y. step-items-kinds k u g (i + 1) y l)
 
 -- ---- opening, settling and unwinding
 
@@ -280,11 +295,34 @@ with-state-kind (Object.ExternalFuture c (ExternalFutureState.Resolved v)) y k e
 with-state-kind (Object.ExternalFuture c (ExternalFutureState.Failed x)) y k e h = absurd (true≢false (sym e))
 with-state-kind (Object.GatherFuture f n x) y k e h = h f n
 
+with-state-count : (x : Object) (y : GatherState) → count-of (with-state x y) ≡ count-of x
+unfolding with-state count-of
+with-state-count Object.Unmade y = refl
+with-state-count (Object.Coroutine f x) y = refl
+with-state-count (Object.ExternalFuture c x) y = refl
+with-state-count (Object.GatherFuture f n x) y = refl
+
+with-state-places : (x : Object) (y : GatherState) → ObjectFits x → PlacesOf (with-state x y)
+unfolding with-state
+with-state-places Object.Unmade y f = tt
+with-state-places (Object.Coroutine g x) y f = tt
+with-state-places (Object.ExternalFuture c x) y f = tt
+with-state-places (Object.GatherFuture i n x) y f = f .0
+
 phase-gather : (k : Kind) → phase k ≡ Kind.AwaitedGather → is-gather k ≡ true
 phase-gather k e = sym (phase-test is-gather refl k) ∙ ap is-gather e
 
 module _ (s : Store) (g : ℕ) (z : Sized s) (l : g < object-limit) where
-  settle-kinds : SameKinds s (settle-gather-commit s g .store)
+  -- an object gets a gather's state, if it is a gather: every gather has as many places
+  pub set-counts : (y : GatherState) (o : ℕ) → count-of (object (set-gather s g y) o) ≡ count-of (object s o)
+  unfolding set-gather
+  set-counts y o = by (ℕ-discrete o g)
+    where
+      by : Dec (o ≡ g) → count-of (object (put-object s g (with-state (object s g) y)) o) ≡ count-of (object s o)
+      by (yes q) = rw (q, count-put-object s g _ z l (with-state-places (object s g) y (object-fits s g))) (with-state-count (object s g) y)
+      by (no ne) = ap count-of (object-put-other s g o _ ne)
+
+  pub settle-kinds : SameKinds s (settle-gather-commit s g .store)
   unfolding settle-gather-commit settle-as set-gather kind
   settle-kinds = by (as-awaited (object s g)) refl
     where
@@ -294,19 +332,20 @@ module _ (s : Store) (g : ℕ) (z : Sized s) (l : g < object-limit) where
           let p : phase (kind (object s g)) ≡ Kind.AwaitedGather = awaited-phase (object s g) w e in
           let q : kind (with-state (object s g) GatherState.Completed) ≡ Kind.CompletedGather =
           with-state-kind (object s g) GatherState.Completed Kind.CompletedGather (phase-gather (kind (object s g)) p) (λ f n. refl) in
-          pick-has (PolledKeeps s) (eqb (w .open-places) 0) (put-object-kinds s g _ z l (ap phase q ∙ sym p)) (same-kinds-refl s z)
+          pick-has (PolledKeeps s) (eqb (w .open-places) 0) (put-object-kinds s g _ z l (ap phase q ∙ sym p) (with-state-places (object s g) _ (object-fits s g)) (with-state-count (object s g) _)) (same-kinds-refl s z)
 
-resume-kinds : (f : Frame) (r : Polled) → Sized (r .store) → f .gather < object-limit → SameKinds (r .store) (resume-after-child f r)
-unfolding resume-after-child resume-in
+pub resume-kinds : (f : Frame) (r : Polled) → Sized (r .store) → f .gather < object-limit → SameKinds (r .store) (resume-after-child f r)
+unfolding resume-after-child resume-as resume-in
 resume-kinds f r z l = by (as-awaited (object (r .store) (f .gather))) refl
   where
     poll-by : (w : AwaitedGather) (p : Poll) → as-awaited (object (r .store) (f .gather)) ≡ some w → SameKinds (r .store) (resume-in (r .store) f w p)
     poll-by w (ready v) e = fill-place-kinds (r .store) w (f .next) v z
     poll-by w (raised x) e = same-kinds-refl (r .store) z
     poll-by w pending e = open-place-kinds (r .store) (f .gather) w (f .next) z l (awaited-phase (object (r .store) (f .gather)) w e)
+        (awaited-fits (r .store) (f .gather) w e .0) (awaited-count (object (r .store) (f .gather)) w e)
 
     by : (a : Option AwaitedGather) → as-awaited (object (r .store) (f .gather)) ≡ a
-        → SameKinds (r .store) (elim a [ none ↦ r .store | some w ↦ resume-in (r .store) f w (r .poll) ])
+        → SameKinds (r .store) (resume-as f r a)
     by none e = same-kinds-refl (r .store) z
     by (some w) e = poll-by w (r .poll) e
 
@@ -394,7 +433,7 @@ module _ (s : Store) (g : ℕ) (a : Awaiter) (z : Sized s) (l : g < object-limit
   gathers : is-gather (kind (object s g)) ≡ true
   gathers = ap is-gather e
 
-  open-sized : Sized opens
+  pub open-sized : Sized opens
   unfolding open-gather-commit kind
   open-sized = set-sized s g (GatherState.Awaited a 0) Kind.AwaitedGather z l gathers (λ f n. refl)
 
@@ -474,9 +513,9 @@ module _ (loop : Store → Frame → List Frame → ℕ → ℕ → ℕ → Comm
       let c = h x (record { gather = p .gather; next = p .next + 1 }) ps (suc n) j (suc k) (omega arith) (v .sized) (opened-same s x (p ∷ ps) v (e .3)) in
       record { opens = omega (arith, c .opens); fails = rw fail at (c .fails) }
 
-step-kinds : (s : Store) (f : Frame) (fs : List Frame) → Sized s → Opened s (f ∷ fs) → StopKeeps s (step-gather-commit s f)
-unfolding step-gather-commit Opened
-step-kinds s f fs z e = step-items-kinds (count-of (object s (f .gather)) - f .next) s (f .gather) (f .next) z (e .0)
+pub step-kinds : (s : Store) (f : Frame) → Sized s → f .gather < object-limit → StopKeeps s (step-gather-commit s f)
+unfolding step-gather-commit
+step-kinds s f z l = step-items-kinds (count-of (object s (f .gather)) - f .next) s (f .gather) (f .next) z l
 
 idle-counts : (s : Store) (n j k : ℕ) → Counts s j (record { store = s; poll = pending; steps = n; opened = j; settled = k })
 unfolding FailFormula
@@ -489,7 +528,7 @@ loop-counts zero s f fs n j k d z e =
     (λ x g gs m i h c y b. idle-counts x m i h) s f fs n j k (at-error s Error.GatherReuse) d (unfold StopKeeps in same-kinds-refl s z) e
 loop-counts (suc fuel) s f fs n j k d z e =
     turn-counts (λ x g gs m i h. commit-loop fuel x g gs m i h) (λ x g gs m i h c y b. loop-counts fuel x g gs m i h c y b) s f fs n j k
-    (step-gather-commit s f) d (step-kinds s f fs z e) e
+    (step-gather-commit s f) d (step-kinds s f z (unfold Opened in (e .0))) e
 
 seen-by : (steps p b q c n k : ℕ) (x : Poll) → StepFormula steps n k x → FailFormula b c n k x → p ≡ q + n → SeenFormula steps p b q c x
 unfolding StepFormula FailFormula SeenFormula
@@ -522,23 +561,23 @@ module _ (s : Store) (g : ℕ) (a : Awaiter) (z : Sized s) (l : g < object-limit
 
 -- ---- the fuel is an exact count: no commit runs out of it
 
-turn-pays : (s : Store) (f : Frame) (fs : List Frame) (n j k : ℕ) (x : Stop) → StopKeeps s x → Opened s (f ∷ fs)
+turn-pays : (s : Store) (f : Frame) (fs : List Frame) (n j k : ℕ) (x : Stop) → StopKeeps s x → f .gather < object-limit → Placed s fs
     → turn (λ x g gs m i h. commit-loop (2 * pending-count s + length fs) x g gs m i h) f fs n j k x ≡ turn commit-rest f fs n j k x
-unfolding turn commit-rest StopKeeps Opened
-turn-pays s f fs n j k (at-nested u i o) q e =
+unfolding turn commit-rest StopKeeps Placed
+turn-pays s f fs n j k (at-nested u i o) q l e =
     let a : Awaiter = Awaiter.GatherSlot (heap-id (f .gather)) (heap-id o) in
     let x : Store = open-gather-commit u o a in
     let same : pending-count u ≡ pending-count s = same-pending-count s u (q .0) in
     let fall : pending-count u ≡ suc (pending-count x) = open-falls u o a (q .0 .sized) (q .1) (q .2) in
     let fuel : 2 * pending-count s + length fs ≡ 2 * pending-count x + suc (suc (length fs)) = omega arith in
     rw fuel
-turn-pays s f fs n j k (at-error u x) q e = refl
-turn-pays s f [] n j k (at-end u) q e = refl
-turn-pays s f (p ∷ ps) n j k (at-end u) q e =
+turn-pays s f fs n j k (at-error u x) q l e = refl
+turn-pays s f [] n j k (at-end u) q l e = refl
+turn-pays s f (p ∷ ps) n j k (at-end u) q l e =
     let r : Polled = settle-gather-commit u (f .gather) in
     let x : Store = resume-after-child p r in
-    let w : SameKinds u (r .store) = settle-kinds u (f .gather) (q .sized) (e .0) in
-    let v : SameKinds s x = same-kinds-then q (same-kinds-then w (resume-kinds p r (w .sized) (e .3 .0))) in
+    let w : SameKinds u (r .store) = settle-kinds u (f .gather) (q .sized) l in
+    let v : SameKinds s x = same-kinds-then q (same-kinds-then w (resume-kinds p r (w .sized) (e .0))) in
     let same : pending-count x ≡ pending-count s = same-pending-count s x v in
     rw same
 
@@ -549,9 +588,63 @@ unfolding commit-gather-tree commit-rest
 commit-begins s g a = refl
 
 -- a turn, then the commit from the next frame on
-pub commit-turns : (s : Store) (f : Frame) (fs : List Frame) (n j k : ℕ) → Sized s → Opened s (f ∷ fs)
+pub commit-turns : (s : Store) (f : Frame) (fs : List Frame) (n j k : ℕ) → Sized s → f .gather < object-limit → Placed s fs
     → commit-rest s f fs n j k ≡ turn commit-rest f fs n j k (step-gather-commit s f)
 unfolding commit-rest commit-loop
-commit-turns s f fs n j k z e =
+commit-turns s f fs n j k z l e =
     let fuel : 2 * pending-count s + suc (length fs) ≡ suc (2 * pending-count s + length fs) = omega arith in
-    rw fuel (turn-pays s f fs n j k (step-gather-commit s f) (step-kinds s f fs z e) e)
+    rw fuel (turn-pays s f fs n j k (step-gather-commit s f) (step-kinds s f z l) l e)
+
+-- ---- frames and places
+
+pub pending-most : (os : List ℕ) → pending-in os ≤ object-limit
+unfolding pending-in
+pending-most os = count-most (λ o. is-pending-gather (kind (object-at os o))) object-limit
+
+-- the frames' places are as they were where the gathers have as many
+pub placed-same : (s u : Store) (fs : List Frame) → ((o : ℕ) → count-of (object u o) ≡ count-of (object s o)) → Placed s fs → Placed u fs
+unfolding Placed
+placed-same s u [] h k = tt
+placed-same s u (f ∷ fs) h k = (k .0, rw (h (f .gather)) (k .1), placed-same s u fs h (k .2))
+
+module _ (g i n : ℕ) (l : i < n) (go : Store → Stop) (h : (u : Store) → StopBelow n (go u)) where
+  put-polled-below : (w : AwaitedGather) (s : Store) (p : Poll) → StopBelow n (put-polled g w i s p go)
+  unfolding put-polled StopBelow
+  put-polled-below w s (ready v) = unfold StopBelow in h (fill-place s w i v)
+  put-polled-below w s (raised e) = tt
+  put-polled-below w s pending = unfold StopBelow in h (open-place s g w i)
+
+  put-item-below : (w : AwaitedGather) (o : ℕ) (s : Store) (x : Item) → StopBelow n (put-item g w i o s x go)
+  unfolding put-item StopBelow
+  put-item-below w o s nested = l
+  put-item-below w o s (polled r) = unfold StopBelow in put-polled-below w (r .store) (r .poll)
+
+  step-item-below : (s : Store) (a : Option AwaitedGather) → StopBelow n (step-item g i s a go)
+  unfolding step-item StopBelow
+  step-item-below s none = tt
+  step-item-below s (some w) = unfold StopBelow in put-item-below w (place s (w .first + i) .item .0) s (item s g w (place s (w .first + i) .item .0))
+
+step-items-below : (k : ℕ) (s : Store) (g i n : ℕ) → i + k ≤ n → StopBelow n (step-items k s g i)
+unfolding step-items StopBelow
+step-items-below zero s g i n e = tt
+step-items-below (suc k) s g i n e =
+    unfold StopBelow in step-item-below g i n (omega arith) (λ x. step-items k x g (i + 1)) (λ u. step-items-below k u g (i + 1) n (omega arith)) s (as-awaited (object s g))
+
+no-items-below : (k : ℕ) (s : Store) (g i n : ℕ) → k ≡ 0 → StopBelow n (step-items k s g i)
+unfolding step-items StopBelow
+no-items-below zero s g i n e = tt
+no-items-below (suc k) s g i n e = absurd (omega arith)
+
+-- the walk stops at one of the gather's places
+pub step-below : (s : Store) (f : Frame) → StopBelow (count-of (object s (f .gather))) (step-gather-commit s f)
+unfolding step-gather-commit StopBelow
+step-below s f = by (ltb (f .next) (count-of (object s (f .gather)))) refl
+  where
+    by : (b : Bool) → ltb (f .next) (count-of (object s (f .gather))) ≡ b
+        → StopBelow (count-of (object s (f .gather))) (step-items (count-of (object s (f .gather)) - f .next) s (f .gather) (f .next))
+    by true e =
+        let l : f .next < count-of (object s (f .gather)) = ltb-true (f .next) (count-of (object s (f .gather))) e in
+        unfold StopBelow in step-items-below (count-of (object s (f .gather)) - f .next) s (f .gather) (f .next) (count-of (object s (f .gather))) (omega arith)
+    by false e =
+        let l : count-of (object s (f .gather)) ≤ f .next = ltb-false (f .next) (count-of (object s (f .gather))) e in
+        unfold StopBelow in no-items-below (count-of (object s (f .gather)) - f .next) s (f .gather) (f .next) (count-of (object s (f .gather))) (omega arith)

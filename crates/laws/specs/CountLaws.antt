@@ -34,3 +34,14 @@ count-from-drop f g i (suc k) t a b p q h =
 -- g fails at t, where f passes, and agrees with f elsewhere
 pub count-drop : (f g : ℕ → Bool) (n t : ℕ) → t < n → f t ≡ true → g t ≡ false → ((i : ℕ) → (i ≡ t → ⊥) → g i ≡ f i) → count f n ≡ suc (count g n)
 count-drop f g n t l p q h = count-from-drop f g 0 n t (omega arith) (omega arith) p q h
+
+picked-most : (b : Bool) (n k : ℕ) → n ≤ k → pick b (suc n) n ≤ suc k
+picked-most true n k h = omega arith
+picked-most false n k h = omega arith
+
+count-from-most : (f : ℕ → Bool) (i k : ℕ) → count-from f i k ≤ k
+count-from-most f i zero = omega arith
+count-from-most f i (suc k) = picked-most (f i) (count-from f (suc i) k) k (count-from-most f (suc i) k)
+
+pub count-most : (f : ℕ → Bool) (n : ℕ) → count f n ≤ n
+count-most f n = count-from-most f 0 n

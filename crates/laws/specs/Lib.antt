@@ -1,3 +1,4 @@
+pub mod BitLaws
 pub mod CountLaws
 pub mod TestLaws
 pub mod Views
@@ -13,3 +14,4 @@ pub mod WordLaws
 pub mod SoundLaws
 pub mod SizedLaws
 pub mod CycleLaws
+pub mod WokenLaws

@@ -33,9 +33,9 @@ use Rattle.machine.specs.Scheduler.{visit-by, visit, visit-place, visit-open, w
 use Rattle.machine.specs.Delivery.{Delivery, nobody-woken, deliver-to-task, Filled, fill-from, Settled, resolve-left, resolve-awaited, resolve-child, fail-awaited, fail-gather}
 use Rattle.machine.specs.Delivery.{climb, awaited-count, send-value, climb-value, deliver-awaiter-success, send-error, climb-error, deliver-awaiter-failure}
 use Rattle.machine.specs.Delivery.{resolve-pending, fail-pending, settle-pending, settle-found, resolve-future, fail-future}
-use Rattle.machine.specs.Commit.{Poll, ready, raised, pending, Polled, gives, await-pending, await-external, Item, polled, nested, item-coroutine, item-gather, item-object, open-from, item}
-use Rattle.machine.specs.Commit.{open-place, fill-place, Stop, at-end, at-nested, at-error, put-polled, put-item, step-items, Frame, step-gather-commit}
-use Rattle.machine.specs.Commit.{set-gather, open-gather-commit, settle-as, settle-gather-commit, resume-in, resume-after-child, unwind}
+use Rattle.machine.specs.Commit.{Poll, ready, raised, pending, Polled, gives, await-pending, await-external, Item, polled, nested, polled-spawn, item-coroutine, item-gather, item-object, open-from, item}
+use Rattle.machine.specs.Commit.{open-place, fill-place, Stop, at-end, at-nested, at-error, put-polled, put-item, step-item, step-items, Frame, step-gather-commit}
+use Rattle.machine.specs.Commit.{set-gather, open-gather-commit, settle-as, settle-gather-commit, resume-in, resume-as, resume-after-child, unwind}
 use Rattle.machine.specs.Commit.{Committed, turn, commit-loop, commit-gather-tree}
 use Rattle.machine.specs.Events.{How, start, value, raises, Switched, Awaited, Result, run, yield, resume-next, resume-after-task-exit, handle-task-failure}
 use Rattle.machine.specs.Events.{start-by, start-task, activate-state, activate-within, activate, stays, go-on}
@@ -254,10 +254,10 @@ sized-spawn s c g z = by (driver s c)
     by none = pick-has SpawnSized (ltb (header s .next) task-limit) (sized-spawn-as s (header s .next) c g z) tt
 
 sized-item-coroutine : (s : Store) (g o : ℕ) (x : CoroutineState) → Sized s → PolledSized (item-coroutine s g o x)
-unfolding item-coroutine SpawnSized
+unfolding item-coroutine polled-spawn SpawnSized
 sized-item-coroutine s g o CoroutineState.New z = by (spawn s o g) (sized-spawn s o g z)
   where
-    by : (x : Option Store) → SpawnSized x → PolledSized (elim x [ none ↦ gives s (raised Error.CoroutineReuse) | some u ↦ gives u pending ])
+    by : (x : Option Store) → SpawnSized x → PolledSized (polled-spawn s x)
     by none k = z
     by (some u) k = k
 sized-item-coroutine s g o CoroutineState.Running z = z
@@ -306,17 +306,12 @@ sized-put-item g w i o go h s (polled r) z k = by (r .poll)
     by pending = unfold put-polled in (h _ (sized-open-place (r .store) g w i k))
 
 sized-step-items : (k : ℕ) (s : Store) (g i : ℕ) → Sized s → StopSized (step-items k s g i)
-unfolding step-items StopSized
+unfolding step-items step-item StopSized
 sized-step-items zero s g i z = z
 sized-step-items (suc k) s g i z = by (as-awaited (object s g)) (λ u y. sized-step-items k u g (i + 1) y)
   where
     by : (a : Option AwaitedGather) → ((u : Store) → Sized u → StopSized (step-items k u g (i + 1)))
-        → StopSized (elim a [
-          | none ↦ at-end s
-          | some w ↦
-              let o : ℕ = place s (w .first + i) .item .0 in
-              put-item g w i o s (item s g w o) (λ x. step-items k x g (i + 1))
-        ])
+        → StopSized (step-item g i s a (λ x. step-items k x g (i + 1)))
     by none h = z
     by (some w) h =
         let o : ℕ = place s (w .first + i) .item .0 in
@@ -335,7 +330,7 @@ sized-settle s g z = by (as-awaited (object s g))
     by (some w) = pick-has PolledSized (eqb (w .open-places) 0) (sized-set-gather s g GatherState.Completed z) z
 
 sized-resume : (f : Frame) (r : Polled) → PolledSized r → Sized (resume-after-child f r)
-unfolding resume-after-child
+unfolding resume-after-child resume-as
 sized-resume f r z = by (as-awaited (object (r .store) (f .gather)))
   where
     poll-by : (w : AwaitedGather) (p : Poll) → Sized (resume-in (r .store) f w p)
@@ -343,7 +338,7 @@ sized-resume f r z = by (as-awaited (object (r .store) (f .gather)))
     poll-by w (raised e) = unfold resume-in in z
     poll-by w pending = unfold resume-in in (sized-open-place (r .store) (f .gather) w (f .next) z)
 
-    by : (a : Option AwaitedGather) → Sized (elim a [ none ↦ r .store | some w ↦ resume-in (r .store) f w (r .poll) ])
+    by : (a : Option AwaitedGather) → Sized (resume-as f r a)
     by none = z
     by (some w) = poll-by w (r .poll)
 

@@ -7,12 +7,13 @@ use lib.ListN.{length, getD}
 use Rattle.asyncio.specs.States.{is-live}
 use Rattle.asyncio.specs.declared.Kind.{Kind}
 use Rattle.asyncio.specs.Kinds.{kind}
+use Rattle.asyncio.specs.Parts.{count-of}
 use Rattle.asyncio.specs.Limits.{object-limit, u32-limit}
 use Rattle.rows.specs.Tables.{object-at}
 use Rattle.machine.specs.Tests.{count}
 use Rattle.machine.specs.Store.{Store, task, object, header}
 use Rattle.machine.specs.Scheduler.{pending-call-ids, Walk, walk}
-use Rattle.machine.specs.Commit.{Poll, ready, raised, pending, Frame, Committed, commit-loop, pending-count}
+use Rattle.machine.specs.Commit.{Poll, ready, raised, pending, Stop, at-end, at-nested, at-error, Frame, Committed, commit-loop, pending-count}
 use Rattle.machine.specs.Events.{Control, runs, waits}
 use Rattle.machine.specs.Machine.{Event, Answer}
 use Rattle.laws.specs.Views.{Sized}
@@ -44,10 +45,11 @@ phase Kind.AwaitedGather = Kind.AwaitedGather
 phase Kind.CompletedGather = Kind.AwaitedGather
 phase Kind.FailedGather = Kind.FailedGather
 
--- every object is of the kind that it was, but awaited gathers may have completed
+-- every object is of the kind that it was, but awaited gathers may have completed; a gather has as many places
 pub record SameKinds (s u : Store) : Type 0 where
   pub sized : Sized u
   pub kinds : (o : ℕ) → phase (kind (object u o)) ≡ phase (kind (object s o))
+  pub counts : (o : ℕ) → count-of (object u o) ≡ count-of (object s o)
 
 abbrev pub is-failed-gather : Kind → Bool
 is-failed-gather Kind.Unmade = false
@@ -102,6 +104,17 @@ unfoldable pub Opened : Store → List Frame → Type 0
 Opened s [] = Unit {0}
 Opened s (f ∷ fs) =
     (f .gather < object-limit) × (phase (kind (object s (f .gather))) ≡ Kind.AwaitedGather) × NoFrame (f .gather) fs × Opened s fs
+
+-- each frame's gather is an object's number, and its next place is one of the gather's
+unfoldable pub Placed : Store → List Frame → Type 0
+Placed s [] = Unit {0}
+Placed s (f ∷ fs) = (f .gather < object-limit) × (f .next < count-of (object s (f .gather))) × Placed s fs
+
+-- a walk that stops at a nested gather stops below place n
+unfoldable pub StopBelow : ℕ → Stop → Type 0
+StopBelow n (at-end s) = Unit {0}
+StopBelow n (at-nested s i o) = i < n
+StopBelow n (at-error s e) = Unit {0}
 
 -- the commit from a frame on: its fuel is an exact count
 unfoldable pub commit-rest : Store → Frame → List Frame → ℕ → ℕ → ℕ → Committed

@@ -18,9 +18,10 @@ use Rattle.asyncio.specs.declared.ExternalFutureState.{ExternalFutureState}
 use Rattle.asyncio.specs.declared.GatherState.{GatherState}
 use Rattle.asyncio.specs.States.{pick, is-live}
 use Rattle.asyncio.specs.Kinds.{kind}
+use Rattle.asyncio.specs.Parts.{count-of}
 use Rattle.asyncio.specs.Layout.{object-words, to-object, to-task, state-words, to-state}
 use Rattle.asyncio.specs.Limits.{task-limit, object-limit, place-limit, objects-length, places-length}
-use Rattle.asyncio.specs.Ranges.{TaskFits, ObjectFits, PlaceFits, HeaderFits}
+use Rattle.asyncio.specs.Ranges.{TaskFits, ObjectFits, PlacesFit, PlaceFits, HeaderFits}
 use Rattle.rows.specs.Tables.{task-codec, object-codec, task-start, object-start, task-at, task-put, object-at, object-put, place-at}
 use Rattle.rows.specs.RowLaws.{row-put-at}
 use Rattle.rows.specs.TableLaws.{length-task-put, length-object-put, length-place-put, length-header-put}
@@ -143,6 +144,33 @@ kind-at-put w o r z l = ap (λ (x : List ℕ). kind (to-object x)) (row-put-at o
 pub kind-put-object : (s : Store) (o : ℕ) (r : Object) → Sized s → o < object-limit → kind (object (put-object s o r) o) ≡ kind r
 unfolding object put-object
 kind-put-object s o r z l = kind-at-put (s .objects) o r (z .objects-sized) l
+
+-- a gather's places are in range
+abbrev pub PlacesOf : Object → Type 0
+PlacesOf Object.Unmade = Unit {0}
+PlacesOf (Object.Coroutine f x) = Unit {0}
+PlacesOf (Object.ExternalFuture c x) = Unit {0}
+PlacesOf (Object.GatherFuture i n x) = PlacesFit i n
+
+count-back : (r : Object) → PlacesOf r → count-of (to-object (object-words r)) ≡ count-of r
+unfolding count-of
+count-back Object.Unmade f = refl
+count-back (Object.Coroutine g CoroutineState.New) f = refl
+count-back (Object.Coroutine g CoroutineState.Running) f = refl
+count-back (Object.Coroutine g CoroutineState.Completed) f = refl
+count-back (Object.ExternalFuture c (ExternalFutureState.Pending w x)) f = refl
+count-back (Object.ExternalFuture c (ExternalFutureState.Resolved v)) f = refl
+count-back (Object.ExternalFuture c (ExternalFutureState.Failed e)) f = refl
+count-back (Object.GatherFuture i n GatherState.Pending) f = omega (arith, f .within, f .at-most)
+count-back (Object.GatherFuture i n (GatherState.Awaited w m)) f = omega (arith, f .within, f .at-most)
+count-back (Object.GatherFuture i n GatherState.Completed) f = omega (arith, f .within, f .at-most)
+count-back (Object.GatherFuture i n (GatherState.Failed e)) f = omega (arith, f .within, f .at-most)
+
+pub count-put-object : (s : Store) (o : ℕ) (r : Object) → Sized s → o < object-limit → PlacesOf r → count-of (object (put-object s o r) o) ≡ count-of r
+unfolding object put-object object-at object-put
+count-put-object s o r z l f =
+    let w : length (s .objects) ≡ objects-length = z .objects-sized in
+    ap (λ (x : List ℕ). count-of (to-object x)) (row-put-at object-codec (s .objects) (object-start o) r (omega arith)) ∙ count-back r f
 
 live-back : (x : TaskState) → is-live (to-state (state-words x .0) (state-words x .1) (state-words x .2)) ≡ is-live x
 live-back TaskState.Absent = refl

@@ -4,7 +4,7 @@ use mathlib.Core.Logic.{_⊎_, inl, inr, ⊎-elim}
 use mathlib.Core.List.{List}
 use Prim.Native.Nat.{ℕ, _+_, _*_, _≤_, _<_}
 use native.Mathlib.Omega.{arith}
-use native.Mathlib.Decide.{ℕ-discrete, decLt}
+use native.Mathlib.Decide.{ℕ-discrete}
 use lib.Dec.{T, leb→le, le→leb}
 use lib.ListN.{length}
 use Rattle.asyncio.specs.declared.Task.{Task}
@@ -15,6 +15,7 @@ use Rattle.asyncio.specs.Limits.{task-limit, object-limit, place-limit}
 use Rattle.asyncio.specs.Layout.{object-words, to-object, header-words, to-header}
 use Rattle.asyncio.specs.Ranges.{TaskFits, ObjectFits, PlaceFits, HeaderFits}
 use Rattle.rows.specs.Tables.{task-codec, object-codec, place-codec, header-codec, task-start, object-start, place-start, task-put, object-put, place-put, header-put}
+use Rattle.rows.specs.TableLaws.{different}
 use Rattle.rows.specs.RowLaws.{row-put-apart}
 use Rattle.rows.specs.Canonical.{same-words, task-canonical, object-canonical, place-canonical, header-canonical}
 use Rattle.rows.specs.CanonicalLaws.{canonical-put, canonical-apart}
@@ -49,13 +50,6 @@ words-test s h =
     (both _ _ (from-below (header s .used) _ (h .places-fine)) (le→leb (s .queue .len) task-limit (h .queue-fine)))))
 
 -- ---- rows
-
-different : (t u : ℕ) → (u ≡ t → ⊥) → (t < u) ⊎ (u < t)
-different t u ne = by (decLt t u)
-  where
-    by : Dec (t < u) → (t < u) ⊎ (u < t)
-    by (yes l) = inl l
-    by (no l) = inr (omega arith)
 
 task-row : (w : List ℕ) (t u : ℕ) (r : Task) → t * 8 + 8 ≤ length w → TaskFits r → ((u ≡ t → ⊥) → T (task-canonical w u)) → T (task-canonical (task-put w t r) u)
 unfolding task-canonical task-put

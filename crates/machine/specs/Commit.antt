@@ -60,9 +60,14 @@ pub data Item : Type 0 where
   polled : Polled → Item
   nested : Item
 
+-- a task was spawned, or none could be
+unfoldable pub polled-spawn : Store → Option Store → Polled
+polled-spawn s none = gives s (raised Error.CoroutineReuse)
+polled-spawn s (some x) = gives x pending
+
 -- a coroutine is spawned, if it is new and no live task drives it
 unfoldable pub item-coroutine : Store → ℕ → ℕ → CoroutineState → Polled
-item-coroutine s g o CoroutineState.New = elim (spawn s o g) [ none ↦ gives s (raised Error.CoroutineReuse) | some x ↦ gives x pending ]
+item-coroutine s g o CoroutineState.New = polled-spawn s (spawn s o g)
 item-coroutine s g o CoroutineState.Running = gives s (raised Error.CoroutineReuse)
 item-coroutine s g o CoroutineState.Completed = gives s (raised Error.CoroutineReuse)
 
@@ -118,16 +123,17 @@ unfoldable pub put-item : ℕ → AwaitedGather → ℕ → ℕ → Store → It
 put-item g w i o s nested go = at-nested s i o
 put-item g w i o s (polled r) go = put-polled g w i (r .store) (r .poll) go
 
+-- the item in place i of gather g, where it is awaited; then `go` on
+unfoldable pub step-item : ℕ → ℕ → Store → Option AwaitedGather → (Store → Stop) → Stop
+step-item g i s none go = at-end s
+step-item g i s (some w) go =
+    let o : ℕ = place s (w .first + i) .item .0 in
+    put-item g w i o s (item s g w o) go
+
 -- the items of gather g from place i on, k of them, left to right (step_gather_commit)
 unfoldable pub step-items : ℕ → Store → ℕ → ℕ → Stop
 step-items zero s g i = at-end s
-step-items (suc k) s g i =
-    elim (as-awaited (object s g)) [
-      | none ↦ at-end s
-      | some w ↦
-          let o : ℕ = place s (w .first + i) .item .0 in
-          put-item g w i o s (item s g w o) (λ x. step-items k x g (i + 1))
-    ]
+step-items (suc k) s g i = step-item g i s (as-awaited (object s g)) (λ x. step-items k x g (i + 1))
 
 -- A gather on the stack, and its place that is stepped next.
 pub record Frame : Type 0 where
@@ -172,8 +178,13 @@ resume-in s f w (raised e) = s
 resume-in s f w pending = open-place s (f .gather) w (f .next)
 
 -- as long as the frame is of an awaited gather
+unfoldable pub resume-as : Frame → Polled → Option AwaitedGather → Store
+resume-as f r none = r .store
+resume-as f r (some w) = resume-in (r .store) f w (r .poll)
+
+-- the frame's gather as it is now
 unfoldable pub resume-after-child : Frame → Polled → Store
-resume-after-child f r = elim (as-awaited (object (r .store) (f .gather))) [ none ↦ r .store | some w ↦ resume-in (r .store) f w (r .poll) ]
+resume-after-child f r = resume-as f r (as-awaited (object (r .store) (f .gather)))
 
 -- An error marks every gather on the commit stack failed, the innermost first.
 unfoldable pub unwind : Store → List Frame → Error → Store

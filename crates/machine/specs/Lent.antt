@@ -5,6 +5,7 @@ use mathlib.Core.List.{List, [], _∷_, _++_}
 use lib.ListN.{length, drop}
 use lib.Dec.{eqb, leb}
 use Rattle.asyncio.specs.States.{pick}
+use Rattle.asyncio.specs.Limits.{object-limit, tasks-length, objects-length, places-length}
 use Rattle.machine.specs.Store.{Store, fresh}
 use Rattle.machine.specs.Events.{Control, runs, waits}
 use Rattle.machine.specs.Machine.{Event, Answer, Step, step}
@@ -17,11 +18,11 @@ pub record Lent : Type 0 where
 
 -- the slices have their lengths
 unfoldable pub slices-right : Store → Bool
-slices-right s = eqb (length (s .tasks)) 4104 && eqb (length (s .objects)) 2056 && eqb (length (s .places)) 2048
+slices-right s = eqb (length (s .tasks)) tasks-length && eqb (length (s .objects)) objects-length && eqb (length (s .places)) places-length
 
 -- and the list of calls has room for every wait
 unfoldable pub lengths-right : Store → List ℕ → Bool
-lengths-right s l = slices-right s && leb 256 (length l)
+lengths-right s l = slices-right s && leb object-limit (length l)
 
 -- the calls at the list's front; the words behind them as they were
 unfoldable pub write-calls : List ℕ → List ℕ → List ℕ

@@ -1,6 +1,6 @@
 -- The machine: events, answers, the table of refusals, and one step of a session.
 -- Refusal 1, of the lengths of the lent slices, stands before the machine; 11 is the driver's.
-use Prim.Native.Nat.{ℕ, zero, suc, _+_, _-_, _/_, _%_, _^_}
+use Prim.Native.Nat.{ℕ, zero, suc, _+_, _-_, _/_, _%_}
 use mathlib.Core.Bool.{Bool, true, false, not, _&&_, _||_}
 use mathlib.Core.List.{List, [], _∷_}
 use mathlib.Core.Option.{Option, none, some}
@@ -20,6 +20,7 @@ use Rattle.asyncio.specs.declared.Moment.{Moment}
 use Rattle.asyncio.specs.declared.Header.{Header}
 use Rattle.asyncio.specs.States.{pick}
 use Rattle.asyncio.specs.Numbers.{heap-id}
+use Rattle.asyncio.specs.Limits.{object-limit, item-limit, place-limit, call-limit, u32-limit, result-limit}
 use Rattle.machine.specs.Store.{Store, object, place, header, set-calls, forget}
 use Rattle.machine.specs.Scheduler.{live, is-some, bit, pending-external, pending-call-ids, cancel-task, cleanup}
 use Rattle.machine.specs.Sound.{sound, is-ended, value-known, option-known}
@@ -122,15 +123,15 @@ result-unknown s r = eqb (r .kind) 0 && eqb (r .tag) 1 && not (value-known (head
 
 -- a kind above 4, a tag above 1, an error number of 2^32 or more
 unfoldable pub bad-result : Result → Bool
-bad-result r = ltb 4 (r .kind) || ltb 1 (r .tag) || (eqb (r .kind) 1 && leb (2 ^ 32) (r .number))
+bad-result r = ltb 4 (r .kind) || ltb 1 (r .tag) || (eqb (r .kind) 1 && leb u32-limit (r .number))
 
 -- 256 objects are made
 unfoldable pub full : Store → Bool
-full s = leb 256 (header s .made)
+full s = leb object-limit (header s .made)
 
 -- numbers 0 to 65,535 all handed out
 unfoldable pub no-number : Store → Bool
-no-number s = leb 65536 (header s .calls)
+no-number s = leb call-limit (header s .calls)
 
 -- the checks of each event, in the order of the table
 unfoldable pub refusals : Store → Event → List (ℕ × Bool)
@@ -140,11 +141,11 @@ refusals s (pending c r) =
     in-running s ((5, leb (header s .calls) c || not (option-known (header s .made) (object s) r)) ∷ (6, is-some (pending-external s c)) ∷ (7, full s) ∷ [])
 refusals s (settled v) = in-running s ((5, not (value-known (header s .made) (object s) v)) ∷ (7, full s) ∷ (8, no-number s) ∷ [])
 refusals s (gather os) =
-    in-running s ((5, any-of (unmade s) os) ∷ (7, full s || ltb 32 (length os) || ltb 512 (header s .used + length os)) ∷ [])
+    in-running s ((5, any-of (unmade s) os) ∷ (7, full s || ltb item-limit (length os) || ltb place-limit (header s .used + length os)) ∷ [])
 refusals s (await o) = in-running s ((5, unmade s o) ∷ [])
 refusals s (complete v) = in-running s ((5, not (value-known (header s .made) (object s) v)) ∷ [])
 refusals s (fail n) = in-running s []
-refusals s (results rs) = in-both s ((5, any-of (result-unknown s) rs) ∷ (10, ltb 64 (length rs) || any-of bad-result rs) ∷ [])
+refusals s (results rs) = in-both s ((5, any-of (result-unknown s) rs) ∷ (10, ltb result-limit (length rs) || any-of bad-result rs) ∷ [])
 refusals s resume = in-waiting s []
 refusals s (cancel t) = in-waiting s ((5, not (live s t)) ∷ (9, eqb t 0) ∷ [])
 refusals s (show o) = (5, unmade s o) ∷ []

@@ -62,7 +62,8 @@ different-by : (t u : ℕ) (b : Bool) → ltb t u ≡ b → (u ≡ t → ⊥) �
 different-by t u true e ne = inl (ltb-true t u e)
 different-by t u false e ne = ⊎-elim (λ q. absurd (ne q)) (λ l. inr l) (eq-or-lt-of-le (ltb-false t u e))
 
-different : (t u : ℕ) → (u ≡ t → ⊥) → (t < u) ⊎ (u < t)
+-- one of two different numbers is the lower
+pub different : (t u : ℕ) → (u ≡ t → ⊥) → (t < u) ⊎ (u < t)
 different t u ne = different-by t u (ltb t u) refl ne
 
 pub task-at-other : (w : List ℕ) (t u : ℕ) (r : Task) → (u ≡ t → ⊥) → task-at (task-put w t r) u ≡ task-at w u
@@ -105,3 +106,7 @@ place-at-fits w p = read-fits place-codec w (place-start p)
 pub header-at-fits : (w : List ℕ) → HeaderFits (header-at w)
 unfolding header-at
 header-at-fits w = read-fits header-codec w 0
+
+-- so is a header that the code has read
+pub header-read : (w : List ℕ) {h : Header} → h ≡ header-at w → HeaderFits h
+header-read w e = rw e (header-at-fits w)

@@ -17,9 +17,6 @@ use Rattle.scheduler.specs.SearchLaws.{found-at, found-nothing}
 use Rattle.scheduler.specs.Spawn.{SpawnsAs, Spawns, done, not-done}
 use Rattle.scheduler.specs.declared.tasks.Found.{Found}
 
-pub next-fits : (os : List ℕ) {h : Header} → h ≡ header-at os → h .next ≤ task-limit
-next-fits os e = rw e (header-at-fits os .next-fits)
-
 module _ (ts os : List ℕ) (q : ReadyQueue) (c g : ℕ) {h : Header} {d : Found} (e : h ≡ header-at os) (f : d ≡ found (driver-in ts (h .next) c)) where
   pub spawn-taken : (n : ℕ) → d ≡ Found.At n → Spawns ts os q c g ts os q false
   unfolding spawn spawn-unless driver header

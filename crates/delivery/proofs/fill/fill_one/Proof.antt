@@ -2,7 +2,7 @@ use native.Mathlib.Omega.{arith}
 use denote.Ref.{now}
 use mathlib.Core.Path.{ap}
 use Prim.Native.Nat.{ℕ, _-_}
-use Rattle.delivery.specs.BitLaws.{shifted-one, bit-le}
+use Rattle.laws.specs.BitLaws.{shifted-one, bit-le}
 use Rattle.delivery.specs.FillLaws.{fill-shut, fill-other, fill-here}
 use borrow.Author.Needs.{needs}
 use Rattle.delivery.proofs.fill.fill_one.Statement.{statement}

@@ -1,9 +1,11 @@
+use Rattle.rows.specs.TableLaws.{header-read}
+use Rattle.asyncio.specs.Ranges.{HeaderFits}
 use mathlib.Core.Path.{_≡_, ap, _∙_}
 use native.Mathlib.Omega.{arith}
 use denote.Ref.{now}
 use Rattle.asyncio.specs.declared.HeapId.{HeapId}
 use Rattle.asyncio.specs.declared.Header.{Header}
-use Rattle.events.specs.MakingLaws.{header-read, added}
+use Rattle.events.specs.MakingLaws.{added}
 use borrow.Author.Needs.{needs}
 use Rattle.events.proofs.making.add_object.Statement.{statement}
 use Rattle.events.proofs.making.add_object.Tie as tie

@@ -1,8 +1,10 @@
+use Rattle.rows.specs.TableLaws.{header-read}
+use Rattle.asyncio.specs.Ranges.{HeaderFits}
 use mathlib.Core.Path.{_≡_, ap, _∙_}
 use native.Mathlib.Omega.{arith}
 use denote.Ref.{now}
 use Rattle.asyncio.specs.declared.Header.{Header}
-use Rattle.events.specs.MakingLaws.{header-read, allocated}
+use Rattle.events.specs.MakingLaws.{allocated}
 use borrow.Author.Needs.{needs}
 use Rattle.events.proofs.making.allocate_call_id.Statement.{statement}
 use Rattle.events.proofs.making.allocate_call_id.Tie as tie

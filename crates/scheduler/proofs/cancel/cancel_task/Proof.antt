@@ -11,7 +11,8 @@ use Rattle.machine.specs.Store.{Happening}
 use Rattle.laws.specs.Statements.{unmarked, walk-rest}
 use Rattle.laws.specs.CycleLaws.{all-unmarked}
 use Rattle.scheduler.specs.Cancel.{walk-of}
-use Rattle.scheduler.specs.SpawnLaws.{next-fits}
+use Rattle.asyncio.specs.Ranges.{HeaderFits}
+use Rattle.rows.specs.TableLaws.{header-read}
 use Rattle.scheduler.specs.CancelLaws.{Logged, logged-then, cancel-room, cancel-begins, cancel-turn, cancel-falls, cancel-end}
 use Rattle.scheduler.proofs.cancel.cancel_task.Statement.{statement}
 use Rattle.scheduler.proofs.cancel.cancel_task.Tie as tie
@@ -26,7 +27,7 @@ load-header-requires : tie.Need-load-header-requires Inv-loop μ-loop
 load-header-requires c κs = search needs
 
 find-drivers-requires : tie.Need-find-drivers-requires Inv-loop μ-loop
-find-drivers-requires c κs = (c .before .before .before .before .before .pre .0, next-fits _ (c .before .load-header .ensures))
+find-drivers-requires c κs = (c .before .before .before .before .before .pre .0, header-read _ (c .before .load-header .ensures) .next-fits)
 
 slice-aggregate-remove-blocked : tie.Need-slice-aggregate-remove-blocked Inv-loop μ-loop
 slice-aggregate-remove-blocked c = search needs

@@ -1,5 +1,6 @@
 use denote.Ref.{now}
-use Rattle.scheduler.specs.SpawnLaws.{next-fits}
+use Rattle.asyncio.specs.Ranges.{HeaderFits}
+use Rattle.rows.specs.TableLaws.{header-read}
 use Rattle.scheduler.specs.EndLaws.{cleans}
 use borrow.Author.Needs.{needs}
 use Rattle.scheduler.proofs.ends.cleanup.Statement.{statement}
@@ -9,7 +10,7 @@ load-header-requires : tie.Need-load-header-requires
 load-header-requires c κs = search needs
 
 clear-tasks-requires : tie.Need-clear-tasks-requires
-clear-tasks-requires c κs = (c .before .before .before .before .before .pre .0, next-fits _ (c .before .load-header .ensures))
+clear-tasks-requires c κs = (c .before .before .before .before .before .pre .0, header-read _ (c .before .load-header .ensures) .next-fits)
 
 store-header-requires : tie.Need-store-header-requires
 store-header-requires c κs = search needs

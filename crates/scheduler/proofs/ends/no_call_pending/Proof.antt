@@ -7,7 +7,8 @@ use borrow.Author.Needs.{needs}
 use Rattle.asyncio.specs.declared.HeapId.{HeapId}
 use Rattle.machine.specs.Scheduler.{calls-below}
 use Rattle.machine.specs.Machine.{is-empty}
-use Rattle.scheduler.specs.CallLaws.{made-fits}
+use Rattle.asyncio.specs.Ranges.{HeaderFits}
+use Rattle.rows.specs.TableLaws.{header-read}
 use Rattle.scheduler.specs.EndLaws.{calls-none, pending-here, pending-turn, pending-none}
 use Rattle.scheduler.proofs.ends.no_call_pending.Statement.{statement}
 use Rattle.scheduler.proofs.ends.no_call_pending.Tie as tie
@@ -28,7 +29,7 @@ new-requires : tie.Need-new-requires Inv-loop μ-loop
 new-requires c κs = search needs
 
 kind-at-requires : tie.Need-kind-at-requires Inv-loop μ-loop
-kind-at-requires c κs = (c .before .before .before .before .before .pre, omega (arith, made-fits _ (c .before .before .before .load-header .ensures), ap (λ (h : HeapId). h .0) (c .new .ensures)))
+kind-at-requires c κs = (c .before .before .before .before .before .pre, omega (arith, header-read _ (c .before .before .before .load-header .ensures) .made-fits, ap (λ (h : HeapId). h .0) (c .new .ensures)))
 
 is-pending-external-requires : tie.Need-is-pending-external-requires Inv-loop μ-loop
 is-pending-external-requires c κs = search needs
@@ -37,7 +38,7 @@ returns : tie.Need-returns Inv-loop μ-loop
 returns c = pending-here (now (c .before .before .before .before .before .before .before .before .args .objects)) (c .before .before .before .before .before .loop .o) (ap (λ (h : HeapId). h .0) (c .before .before .before .new .ensures)) (c .before .before .kind-at .ensures) (c .before .is-pending-external .ensures) (c .before .before .before .before .before .before .load-header .ensures) (c .before .before .before .before .loop-test .taken) (c .if1 .taken)
 
 add-o : tie.Need-add-o Inv-loop μ-loop
-add-o c = omega (arith, made-fits _ (c .before .before .before .before .before .before .load-header .ensures))
+add-o c = omega (arith, header-read _ (c .before .before .before .before .before .before .load-header .ensures) .made-fits)
 
 loop-less : tie.Need-loop-less Inv-loop μ-loop
 loop-less c = omega arith

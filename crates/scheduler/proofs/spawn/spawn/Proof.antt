@@ -1,5 +1,7 @@
 use denote.Ref.{now}
-use Rattle.scheduler.specs.SpawnLaws.{next-fits, spawn-taken, spawn-full, spawn-done}
+use Rattle.scheduler.specs.SpawnLaws.{spawn-taken, spawn-full, spawn-done}
+use Rattle.asyncio.specs.Ranges.{HeaderFits}
+use Rattle.rows.specs.TableLaws.{header-read}
 use borrow.Author.Needs.{needs}
 use Rattle.scheduler.proofs.spawn.spawn.Statement.{statement}
 use Rattle.scheduler.proofs.spawn.spawn.Tie as tie
@@ -8,7 +10,7 @@ load-header-requires : tie.Need-load-header-requires
 load-header-requires c κs = search needs
 
 driver-requires : tie.Need-driver-requires
-driver-requires c κs = (c .before .before .before .before .before .pre .0, next-fits _ (c .before .load-header .ensures))
+driver-requires c κs = (c .before .before .before .before .before .pre .0, header-read _ (c .before .load-header .ensures) .next-fits)
 
 enum-told : tie.Need-enum-told
 enum-told c = search needs

@@ -7,7 +7,8 @@ use Rattle.asyncio.specs.declared.HeapId.{HeapId}
 use Rattle.machine.specs.Scheduler.{first-from, is-call, pending-external-in}
 use Rattle.scheduler.specs.Search.{found}
 use Rattle.scheduler.specs.SearchLaws.{first-here, first-turn, first-end, pending-begins}
-use Rattle.scheduler.specs.CallLaws.{made-fits}
+use Rattle.asyncio.specs.Ranges.{HeaderFits}
+use Rattle.rows.specs.TableLaws.{header-read}
 use Rattle.scheduler.proofs.tasks.take_pending_external.Statement.{statement}
 use Rattle.scheduler.proofs.tasks.take_pending_external.Tie as tie
 
@@ -27,13 +28,13 @@ new-requires : tie.Need-new-requires Inv-loop μ-loop
 new-requires c κs = search needs
 
 is-call-requires : tie.Need-is-call-requires Inv-loop μ-loop
-is-call-requires c κs = (c .before .before .before .before .before .pre, omega (arith, made-fits _ (c .before .before .before .load-header .ensures), ap (λ (h : HeapId). h .0) (c .new .ensures)))
+is-call-requires c κs = (c .before .before .before .before .before .pre, omega (arith, header-read _ (c .before .before .before .load-header .ensures) .made-fits, ap (λ (h : HeapId). h .0) (c .new .ensures)))
 
 returns : tie.Need-returns Inv-loop μ-loop
 returns c = ap found (sym (first-here (is-call (now (c .before .before .before .before .before .before .before .args .objects)) (c .before .before .before .before .before .before .before .args .call)) (c .before .before .before .before .loop .o) (c .before .before .before .before .before .load-header .result .made) (c .before .before .before .loop-test .taken) (ap (λ (h : HeapId). h .0) (c .before .before .new .ensures)) (sym (c .if1 .taken) ∙ c .before .is-call .ensures)) ∙ c .before .before .before .before .loop .inv)
 
 add-o : tie.Need-add-o Inv-loop μ-loop
-add-o c = omega (arith, made-fits _ (c .before .before .before .before .before .load-header .ensures))
+add-o c = omega (arith, header-read _ (c .before .before .before .before .before .load-header .ensures) .made-fits)
 
 loop-less : tie.Need-loop-less Inv-loop μ-loop
 loop-less c = omega arith

@@ -1,0 +1,7 @@
+pub mod Polls
+pub mod ItemLaws
+pub mod Steps
+pub mod StepLaws
+pub mod Frames
+pub mod SettleLaws
+pub mod TreeLaws
