@@ -1,0 +1,2 @@
+// One event of a sound store: the refusals from 3 on, in the order of document 01's table, and then what the event does.
+pub mod tests; // the tests of the table
