@@ -1,0 +1,97 @@
+// Events of the host: results, resume.
+use crate::tests::any_bad;
+use crate::tests::any_unknown;
+use asyncio::Moment;
+use events::answer::Answer;
+use events::answer::Stepped;
+use events::ends::resume_with_resolved_futures;
+use events::results::apply_future_results;
+use queue::ReadyQueue;
+ghost use mathlib.Core.Path.{_≡_};
+ghost use mathlib.Core.List.{List};
+ghost use Prim.Native.Nat.{ℕ};
+ghost use lib.ListN.{length};
+ghost use Rattle.asyncio.specs.Limits.{tasks-length, objects-length, places-length};
+ghost use Rattle.rows.specs.Tables.{header-at};
+ghost use Rattle.machine.specs.Store.{Happening, store-of};
+ghost use Rattle.machine.specs.Sound.{is-ended};
+ghost use Rattle.machine.specs.Machine.{Event};
+ghost use Rattle.events.specs.Answer.{stepped-of};
+ghost use Rattle.events.specs.Results.{results-in};
+ghost use Rattle.steps.specs.Checked.{checked};
+
+// Has the session ended?
+fn is_ended(objects: &[u64]) -> bool
+    requires { ⌜ length (now objects) ≡ objects-length ⌝ }
+    ensures { λ r. ⌜ r ≡ is-ended (header-at (now (objects .entry)) .moment) ⌝ }
+{
+    let header = rows::tables::load_header(objects);
+    let moment = header.moment;
+    match moment {
+        Moment::Running(_) => false,
+        Moment::Waiting => false,
+        Moment::Ended => true,
+    }
+}
+
+// The host answers calls. All checks come before the first result is applied.
+pub fn results(
+    tasks: &mut [u64],
+    objects: &mut [u64],
+    places: &mut [u64],
+    queue: ReadyQueue,
+    results: &[u8],
+) -> Stepped
+    requires { ⌜ (length (now tasks) ≡ tasks-length) × (length (now objects) ≡ objects-length) × (length (now places) ≡ places-length) ⌝ }
+    ensures { λ r. ⌜ ((l : List Happening) → stepped-of (store-of (now (tasks .exit)) (now (objects .exit)) (now (places .exit)) (r .queue) (checked (store-of (now (tasks .entry)) (now (objects .entry)) (now (places .entry)) queue l) (Event.results (results-in (now (results .entry)))) .store .log)) (r .answer) ≡ checked (store-of (now (tasks .entry)) (now (objects .entry)) (now (places .entry)) queue l) (Event.results (results-in (now (results .entry))))) ⌝ }
+{
+    if is_ended(objects) {
+        return Stepped {
+            queue,
+            answer: Answer::Refused(3),
+        };
+    }
+    if any_unknown(objects, results) {
+        return Stepped {
+            queue,
+            answer: Answer::Refused(5),
+        };
+    }
+    if 64 < results.len() / 14 {
+        return Stepped {
+            queue,
+            answer: Answer::Refused(10),
+        };
+    }
+    if any_bad(results) {
+        return Stepped {
+            queue,
+            answer: Answer::Refused(10),
+        };
+    }
+    let q = apply_future_results(tasks, objects, places, queue, results);
+    Stepped {
+        queue: q,
+        answer: Answer::Done,
+    }
+}
+
+// The host hands control back.
+pub fn resume(tasks: &mut [u64], objects: &mut [u64], queue: ReadyQueue) -> Stepped
+    requires { ⌜ (length (now tasks) ≡ tasks-length) × (length (now objects) ≡ objects-length) ⌝ }
+    ensures { λ r. ⌜ ((ps : List ℕ) (l : List Happening) → length ps ≡ places-length → stepped-of (store-of (now (tasks .exit)) (now (objects .exit)) ps (r .queue) (checked (store-of (now (tasks .entry)) (now (objects .entry)) ps queue l) Event.resume .store .log)) (r .answer) ≡ checked (store-of (now (tasks .entry)) (now (objects .entry)) ps queue l) Event.resume) ⌝ }
+{
+    let header = rows::tables::load_header(objects);
+    let moment = header.moment;
+    match moment {
+        Moment::Ended => Stepped {
+            queue,
+            answer: Answer::Refused(3),
+        },
+        Moment::Running(_) => Stepped {
+            queue,
+            answer: Answer::Refused(4),
+        },
+        Moment::Waiting => resume_with_resolved_futures(tasks, objects, queue),
+    }
+}
