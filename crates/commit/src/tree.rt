@@ -27,8 +27,7 @@ pub struct Committed {
 }
 
 // Gather `root`, for its awaiter, and every gather nested in it. A frame is a gather and its place that is stepped next: the innermost
-// is in `g` and `next`, those below it in the arrays. Every frame but the
-// root's was made for a gather that was pending, so that 256 places are enough.
+// is in `g` and `next`, those below it in the arrays. A frame goes there when a pending gather is opened, so that 256 are enough.
 pub fn commit_gather_tree(
     tasks: &mut [u64],
     objects: &mut [u64],
