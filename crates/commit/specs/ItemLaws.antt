@@ -2,15 +2,13 @@
 use mathlib.Core.Path.{_≡_, refl, sym, ap, _∙_}
 use mathlib.Core.Bool.{Bool, true, false, true≢false}
 use mathlib.Core.List.{List}
-use mathlib.Core.Option.{Option, none, some}
-use Prim.Native.Nat.{ℕ, zero, suc, _+_, _-_, _/_, _%_, _^_, _≤_, _<_}
+use mathlib.Core.Option.{none, some}
+use Prim.Native.Nat.{ℕ, suc, _+_, _-_, _/_, _%_, _^_, _≤_, _<_}
 use native.Mathlib.Omega.{arith}
 use lib.Dec.{eqb}
 use borrow.Author.Tests.{eq-eqb, ne-eqb}
 use Rattle.asyncio.specs.States.{is-nobody}
 use Rattle.asyncio.specs.Numbers.{heap-id}
-use Rattle.asyncio.specs.Parts.{count-of}
-use Rattle.asyncio.specs.Ranges.{ObjectFits, PlacesFit}
 use Rattle.asyncio.specs.declared.HeapId.{HeapId}
 use Rattle.asyncio.specs.declared.CallId.{CallId}
 use Rattle.asyncio.specs.declared.Error.{Error}
@@ -20,18 +18,15 @@ use Rattle.asyncio.specs.declared.CoroutineState.{CoroutineState}
 use Rattle.asyncio.specs.declared.ExternalFutureState.{ExternalFutureState}
 use Rattle.asyncio.specs.declared.GatherState.{GatherState}
 use Rattle.asyncio.specs.declared.Object.{Object}
-use Rattle.asyncio.specs.declared.Place.{Place}
 use Rattle.rows.specs.Tables.{object-at, object-put, place-at}
 use Rattle.queue.specs.declared.ReadyQueue.{ReadyQueue}
 use Rattle.scheduler.specs.Spawn.{Spawns, done, not-done}
 use Rattle.machine.specs.Store.{Store, Happening, store-of, object, put-object, place}
-use Rattle.machine.specs.Scheduler.{bit, as-awaited}
+use Rattle.machine.specs.Scheduler.{as-awaited}
 use Rattle.machine.specs.Scheduler as scheduler
 use Rattle.machine.specs.Commit.{raised, pending, Polled, gives, await-pending, await-external, polled-spawn, item-coroutine, polled, item-gather, item-object, open-from, item}
-use Rattle.laws.specs.DeliveryLaws.{awaited-object}
-use Rattle.commit.specs.Polls.{poll-of, awaited-of, option-awaited, open-here, Itemed, with-item, itemed, item-here, item-at}
+use Rattle.commit.specs.Polls.{poll-of, open-here, with-item, itemed, item-here, item-at}
 use Rattle.commit.specs.declared.awaited.AwaitedGather.{AwaitedGather}
-use Rattle.commit.specs.declared.awaited.OptionAwaited.{OptionAwaited}
 use Rattle.commit.specs.declared.items.Poll.{Poll}
 use Rattle.commit.specs.declared.items.ItemPoll.{ItemPoll}
 

@@ -1,23 +1,19 @@
 -- The ways through opening, settling, resuming and unwinding, in the shape of what the code knows there.
-use mathlib.Core.Path.{_≡_, refl, sym, ap, _∙_}
-use mathlib.Core.List.{List, [], _∷_}
-use mathlib.Core.Option.{none, some}
-use Prim.Native.Nat.{ℕ, zero, suc, _<_}
-use native.Mathlib.Omega.{arith}
+use mathlib.Core.Path.{_≡_}
+use mathlib.Core.List.{List, _∷_}
+use Prim.Native.Nat.{ℕ, suc}
 use lib.ListN.{getD}
-use lib.Dec.{eqb}
 use borrow.Author.Tests.{eq-eqb, ne-eqb}
 use Rattle.asyncio.specs.Numbers.{heap-id}
 use Rattle.asyncio.specs.declared.Value.{Value}
 use Rattle.asyncio.specs.declared.Error.{Error}
-use Rattle.asyncio.specs.declared.Awaiter.{Awaiter}
 use Rattle.asyncio.specs.declared.GatherState.{GatherState}
 use Rattle.asyncio.specs.declared.Object.{Object}
 use Rattle.rows.specs.Tables.{object-at, object-put}
 use Rattle.queue.specs.declared.ReadyQueue.{ReadyQueue}
-use Rattle.machine.specs.Store.{Store, Happening, store-of, object, put-object}
+use Rattle.machine.specs.Store.{Happening, store-of, object, put-object}
 use Rattle.machine.specs.Scheduler.{as-awaited}
-use Rattle.machine.specs.Commit.{ready, raised, pending, gives, open-place, fill-place, Frame, with-state, set-gather, open-gather-commit, settle-as, settle-gather-commit, resume-in, resume-as, resume-after-child, unwind}
+use Rattle.machine.specs.Commit.{ready, pending, gives, open-place, fill-place, with-state, set-gather, settle-as, settle-gather-commit, resume-in, resume-as, resume-after-child, unwind}
 use Rattle.commit.specs.Polls.{poll-of, awaited-of, option-awaited}
 use Rattle.commit.specs.Steps.{frame}
 use Rattle.commit.specs.Frames.{below}

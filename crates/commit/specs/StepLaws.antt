@@ -1,9 +1,8 @@
 -- The ways through the items of a gather, in the shape of what the code knows there.
 use mathlib.Core.Path.{_≡_, refl, sym, ap, _∙_}
-use mathlib.Core.Bool.{Bool, true, false}
 use mathlib.Core.List.{List, []}
-use mathlib.Core.Option.{Option, none, some, Option·some-injective}
-use Prim.Native.Nat.{ℕ, zero, suc, _+_, _-_, _≤_, _<_}
+use mathlib.Core.Option.{none, some, Option·some-injective}
+use Prim.Native.Nat.{ℕ, suc, _+_, _-_, _≤_, _<_}
 use native.Mathlib.Omega.{arith}
 use lib.ListN.{length}
 use Rattle.asyncio.specs.Limits.{object-limit, item-limit, place-limit, tasks-length, objects-length, places-length}
@@ -12,24 +11,20 @@ use Rattle.asyncio.specs.Ranges.{PlacesFit}
 use Rattle.asyncio.specs.declared.HeapId.{HeapId}
 use Rattle.asyncio.specs.declared.Value.{Value}
 use Rattle.asyncio.specs.declared.Error.{Error}
-use Rattle.asyncio.specs.declared.Awaiter.{Awaiter}
 use Rattle.asyncio.specs.declared.OptionValue.{OptionValue}
 use Rattle.asyncio.specs.declared.GatherState.{GatherState}
 use Rattle.asyncio.specs.declared.Object.{Object}
-use Rattle.asyncio.specs.declared.Place.{Place}
 use Rattle.rows.specs.Tables.{object-at, object-put, place-at, place-put}
 use Rattle.rows.specs.TableLaws.{place-at-fits}
 use Rattle.queue.specs.declared.ReadyQueue.{ReadyQueue}
 use Rattle.machine.specs.Store.{Store, Happening, store-of, object, put-object, place, put-place}
 use Rattle.machine.specs.Scheduler.{as-awaited}
-use Rattle.machine.specs.Scheduler as scheduler
-use Rattle.machine.specs.Commit.{gives, polled, nested, item, open-place, fill-place, at-end, at-nested, at-error, put-polled, put-item, step-item, step-items, step-gather-commit}
+use Rattle.machine.specs.Commit.{gives, polled, nested, item, open-place, fill-place, at-end, at-error, put-polled, put-item, step-item, step-items, step-gather-commit}
 use Rattle.machine.specs.Commit as machine
 use Rattle.laws.specs.Views.{Sized}
-use Rattle.laws.specs.Statements.{SameKinds}
 use Rattle.laws.specs.DeliveryLaws.{absurd-some, awaited-fits}
 use Rattle.laws.specs.CommitLaws.{same-kinds-refl, awaited-count, StopKeeps, step-item-kinds}
-use Rattle.commit.specs.Polls.{poll-of, awaited-of, option-awaited, Itemed, item-of, with-item, itemed, item-at}
+use Rattle.commit.specs.Polls.{poll-of, awaited-of, option-awaited, Itemed, with-item, itemed, item-at}
 use Rattle.commit.specs.Steps.{Goes, with-bit, stepped, step-at, stopped, stop-log, WalksOn, frame}
 use Rattle.commit.specs.declared.awaited.AwaitedGather.{AwaitedGather}
 use Rattle.commit.specs.declared.awaited.OptionAwaited.{OptionAwaited}

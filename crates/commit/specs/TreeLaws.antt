@@ -23,13 +23,12 @@ use Rattle.rows.specs.Tables.{object-at}
 use Rattle.rows.specs.TableLaws.{object-at-fits}
 use Rattle.queue.specs.declared.ReadyQueue.{ReadyQueue}
 use Rattle.machine.specs.Store.{Store, Happening, store-of, object}
-use Rattle.machine.specs.Commit.{Poll, raised, Polled, gives, Frame, step-gather-commit, open-gather-commit, settle-gather-commit, resume-after-child, unwind, Committed, turn, pending-in, pending-count, commit-gather-tree}
+use Rattle.machine.specs.Commit.{Poll, raised, Polled, gives, step-gather-commit, open-gather-commit, settle-gather-commit, resume-after-child, unwind, Committed, turn, pending-in, pending-count, commit-gather-tree}
 use Rattle.laws.specs.Views.{Sized}
 use Rattle.laws.specs.Statements.{SameKinds, Placed, StopBelow, commit-rest}
 use Rattle.laws.specs.CommitLaws.{same-kinds-then, same-pending-count, StopKeeps, step-kinds, step-below, set-counts, settle-kinds, resume-kinds, open-falls, placed-same, pending-most, commit-begins, commit-turns}
-use Rattle.commit.specs.Polls.{poll-of}
 use Rattle.commit.specs.Steps.{stopped, stop-log, frame}
-use Rattle.commit.specs.Frames.{below, GathersFit, Told, tells, told, GoesOn}
+use Rattle.commit.specs.Frames.{below, GathersFit, tells, told, GoesOn}
 use Rattle.commit.specs.declared.step.Stop.{Stop}
 
 -- ---- the frames in the arrays

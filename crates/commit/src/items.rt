@@ -12,7 +12,7 @@ use asyncio::Value;
 use queue::ReadyQueue;
 ghost use mathlib.Core.Path.{_≡_};
 ghost use mathlib.Core.List.{List};
-ghost use Prim.Native.Nat.{ℕ, _<_, _+_, _≤_};
+ghost use Prim.Native.Nat.{ℕ, _<_, _+_};
 ghost use lib.ListN.{length};
 ghost use Rattle.asyncio.specs.Limits.{object-limit, item-limit, place-limit, tasks-length, objects-length, places-length};
 ghost use Rattle.asyncio.specs.Ranges.{PlacesFit};

@@ -11,7 +11,7 @@ use asyncio::HeapId;
 use queue::ReadyQueue;
 ghost use mathlib.Core.Path.{_≡_};
 ghost use mathlib.Core.List.{List};
-ghost use Prim.Native.Nat.{ℕ, _<_};
+ghost use Prim.Native.Nat.{_<_};
 ghost use lib.ListN.{length};
 ghost use Rattle.asyncio.specs.Limits.{object-limit, tasks-length, objects-length, places-length};
 ghost use Rattle.machine.specs.Store.{Happening, store-of};
@@ -27,8 +27,7 @@ pub struct Committed {
 }
 
 // Gather `root`, for its awaiter, and every gather nested in it. A frame is a gather and its place that is stepped next: the innermost
-// is in `g` and `next`, those below it in the arrays. Every frame but the
-// root's was made for a gather that was pending, so that 256 places are enough.
+// is in `g` and `next`, those below it in the arrays. A frame goes there when a pending gather is opened, so that 256 are enough.
 pub fn commit_gather_tree(
     tasks: &mut [u64],
     objects: &mut [u64],

@@ -1,10 +1,8 @@
 use mathlib.Core.Path.{_≡_, refl, sym, _∙_}
-use Prim.Native.Nat.{_-_, _≤_, _<_}
+use Prim.Native.Nat.{_-_}
 use native.Mathlib.Omega.{arith}
 use lib.ListN.{length}
 use borrow.Author.Needs.{needs}
-use denote.Ref.{now}
-use Rattle.asyncio.specs.Limits.{item-limit}
 use Rattle.asyncio.specs.Parts.{count-of}
 use Rattle.rows.specs.Tables.{object-at}
 use Rattle.machine.specs.Store.{store-of}

@@ -1,7 +1,6 @@
 use mathlib.Core.Path.{_∙_}
 use native.Mathlib.Omega.{arith}
 use denote.Ref.{now}
-use Rattle.asyncio.specs.RangeLaws.{to-place-fits}
 use Rattle.commit.specs.StepLaws.{awaited-range, place-range, item-range, step-none, step-nested, step-polled}
 use borrow.Author.Needs.{needs}
 use Rattle.commit.proofs.step.step_item.Statement.{statement}
