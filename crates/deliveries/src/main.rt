@@ -1,6 +1,6 @@
-// Runs document 01's cases P8, P9, P11 and P12 from the store that the host finds when its results come in, or its cancel. For each case:
-// its name; the tasks, the objects and the queue (printing::print_store), and again after each thing that is done; last, how many words
-// of tasks, objects and places then differ from what they were at first.
+// Runs document 01's cases P8, P9, P11 and P12 on stores laid out by hand, at the moment waiting. Printed for each case: its name; the tasks,
+// the objects and the queue (printing::print_store), and again after each thing that is done; last, how many words of tasks, objects and
+// places then differ from what they were at first.
 use asyncio::Awaiter;
 use asyncio::CallId;
 use asyncio::CoroutineState;
@@ -153,7 +153,13 @@ fn run_fail(
     q
 }
 
-fn run_cancel(tasks: &mut [u64], objects: &[u64], places: &[u64], ready: ReadyQueue, t: TaskId)
+fn run_cancel(
+    tasks: &mut [u64],
+    objects: &[u64],
+    places: &[u64],
+    ready: ReadyQueue,
+    t: TaskId,
+) -> ReadyQueue
     requires { ⌜ (length (now tasks) ≡ tasks-length) × (length (now objects) ≡ objects-length) × (length (now places) ≡ places-length) × (t .0 < task-limit) ⌝ }
 {
     let q = cancel_task(tasks, objects, places, ready, t);
@@ -161,6 +167,7 @@ fn run_cancel(tasks: &mut [u64], objects: &[u64], places: &[u64], ready: ReadyQu
     print_number(t.word());
     io::write_all(STDOUT_FILENO, b"\n");
     print_store(tasks, objects, q);
+    q
 }
 
 fn print_changes(
@@ -295,7 +302,8 @@ fn two_failures() {
 }
 
 // ---- P12: main is blocked on gather 5 of coroutine 0. Task 1 drives it and is blocked on gather 4 of the coroutines 1 and 2. Task 2 drives
-// coroutine 1 and is queued; task 3 drives coroutine 2 and is blocked on the external 3, of call 0.
+// coroutine 1 and is queued; task 3 drives coroutine 2 and is blocked on the external 3, of call 0. Task 1 is cancelled; then call 0 returns,
+// and the task that waited for it is dead.
 
 fn store_coroutines(objects: &mut [u64])
     requires { ⌜ length (now objects) ≡ objects-length ⌝ }
@@ -348,10 +356,20 @@ fn cancelled_children() {
     store_nested(&mut objects, &mut places);
     store_tasks(&mut tasks);
     let tasks_before = tasks;
+    let objects_before = objects;
+    let places_before = places;
     let ready = ReadyQueue::new().push_back(TaskId(2));
     print_store(&tasks, &objects, ready);
-    run_cancel(&mut tasks, &objects, &places, ready, TaskId(1));
-    print_changes(&tasks_before, &objects, &places, &tasks, &objects, &places);
+    let left = run_cancel(&mut tasks, &objects, &places, ready, TaskId(1));
+    run_return(&mut tasks, &mut objects, &mut places, left, 0, 9);
+    print_changes(
+        &tasks_before,
+        &objects_before,
+        &places_before,
+        &tasks,
+        &objects,
+        &places,
+    );
 }
 
 fn main() {
