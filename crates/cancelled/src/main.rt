@@ -17,6 +17,8 @@ use asyncio::Task;
 use asyncio::TaskId;
 use asyncio::TaskState;
 use libc::STDOUT_FILENO;
+use printing::print_number;
+use printing::print_queue;
 use queue::ReadyQueue;
 use scheduler::cancel::cancel_task;
 ghost use mathlib.Core.Path.{_≡_};
@@ -172,11 +174,6 @@ fn store_tasks(tasks: &mut [u64])
 
 // ---- what is printed
 
-fn print_number(n: u64) {
-    io::write_all(STDOUT_FILENO, b" ");
-    io::print_decimal(STDOUT_FILENO, n);
-}
-
 // The numbers of the live tasks.
 fn print_live(tasks: &[u64])
     requires { ⌜ length (now tasks) ≡ tasks-length ⌝ }
@@ -191,21 +188,6 @@ fn print_live(tasks: &[u64])
         } else {
             t += 1;
         }
-    }
-    io::write_all(STDOUT_FILENO, b"\n");
-}
-
-// The queue, front first.
-fn print_queue(q: ReadyQueue) {
-    let n = q.len;
-    if 513 < n {
-        return;
-    }
-    io::write_all(STDOUT_FILENO, b"ready");
-    let mut i: usize = 0;
-    while i < n {
-        print_number(q.ids[i] as u64);
-        i += 1;
     }
     io::write_all(STDOUT_FILENO, b"\n");
 }

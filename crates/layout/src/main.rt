@@ -16,65 +16,17 @@ use asyncio::TaskId;
 use asyncio::TaskState;
 use asyncio::Value;
 use libc::STDOUT_FILENO;
+use printing::print_number;
+use printing::print_object;
+use printing::print_place;
+use printing::print_queue;
+use printing::print_row;
+use printing::print_task;
 use queue::ReadyQueue;
 ghost use mathlib.Core.Path.{_≡_};
 ghost use lib.ListN.{length};
 ghost use Prim.Native.Nat.{_<_};
-ghost use Rattle.asyncio.specs.Limits.{tasks-length, objects-length, places-length, task-limit, object-limit, place-limit};
-
-fn print_word(n: u64) {
-    io::write_all(STDOUT_FILENO, b" ");
-    io::print_decimal(STDOUT_FILENO, n);
-}
-
-fn print_row(w: [u64; 8]) {
-    let mut i: usize = 0;
-    while i < 8 {
-        print_word(w[i]);
-        i += 1;
-    }
-    io::write_all(STDOUT_FILENO, b"\n");
-}
-
-fn print_object(objects: &[u64], o: HeapId)
-    requires { ⌜ (length (now objects) ≡ objects-length) × (o .0 < object-limit) ⌝ }
-{
-    io::write_all(STDOUT_FILENO, b"object");
-    print_row(asyncio::words::object_words(rows::tables::load_object(objects, o)));
-}
-
-fn print_task(tasks: &[u64], t: TaskId)
-    requires { ⌜ (length (now tasks) ≡ tasks-length) × (t .0 < task-limit) ⌝ }
-{
-    io::write_all(STDOUT_FILENO, b"task");
-    print_row(asyncio::words::task_words(rows::tables::load_task(tasks, t)));
-}
-
-fn print_place(places: &[u64], p: usize)
-    requires { ⌜ (length (now places) ≡ places-length) × (p < place-limit) ⌝ }
-{
-    let w = asyncio::words::place_words(rows::tables::load_place(places, p));
-    io::write_all(STDOUT_FILENO, b"place");
-    print_word(w[0]);
-    print_word(w[1]);
-    print_word(w[2]);
-    print_word(w[3]);
-    io::write_all(STDOUT_FILENO, b"\n");
-}
-
-fn print_queue(q: ReadyQueue) {
-    let n = q.len;
-    if 513 < n {
-        return;
-    }
-    io::write_all(STDOUT_FILENO, b"ready");
-    let mut i: usize = 0;
-    while i < n {
-        print_word(q.ids[i] as u64);
-        i += 1;
-    }
-    io::write_all(STDOUT_FILENO, b"\n");
-}
+ghost use Rattle.asyncio.specs.Limits.{tasks-length, objects-length, places-length, object-limit};
 
 fn store_counts(objects: &mut [u64])
     requires { ⌜ length (now objects) ≡ objects-length ⌝ }
@@ -179,7 +131,7 @@ fn print_open_places(objects: &[u64], o: HeapId)
     requires { ⌜ (length (now objects) ≡ objects-length) × (o .0 < object-limit) ⌝ }
 {
     io::write_all(STDOUT_FILENO, b"open places");
-    print_word(rows::parts::open_at(objects, o) as u64);
+    print_number(rows::parts::open_at(objects, o) as u64);
     io::write_all(STDOUT_FILENO, b"\n");
 }
 

@@ -1,7 +1,7 @@
 use Prim.Native.Nat.{_≤_, _-_}
 use borrow.Author.Needs.{needs}
-use Rattle.layout.proofs.print_row.Statement.{statement}
-use Rattle.layout.proofs.print_row.Tie as tie
+use Rattle.printing.proofs.print_row.Statement.{statement}
+use Rattle.printing.proofs.print_row.Tie as tie
 
 abbrev Inv-loop : tie.InvT-loop
 Inv-loop w i₀ t4 i = i ≤ 8
@@ -12,14 +12,14 @@ abbrev μ-loop : tie.MeasureT-loop
 loop-holds : tie.Need-loop-holds Inv-loop μ-loop
 loop-holds c = search needs
 
-mul-print-word : tie.Need-mul-print-word Inv-loop μ-loop
-mul-print-word c = search needs
+mul-print-number : tie.Need-mul-print-number Inv-loop μ-loop
+mul-print-number c = search needs
 
-array-read-print-word : tie.Need-array-read-print-word Inv-loop μ-loop
-array-read-print-word c = search needs
+array-read-print-number : tie.Need-array-read-print-number Inv-loop μ-loop
+array-read-print-number c = search needs
 
-print-word-requires : tie.Need-print-word-requires Inv-loop μ-loop
-print-word-requires c κs = search needs
+print-number-requires : tie.Need-print-number-requires Inv-loop μ-loop
+print-number-requires c κs = search needs
 
 add-i : tie.Need-add-i Inv-loop μ-loop
 add-i c = search needs
@@ -46,9 +46,9 @@ print-row-spec =
     Inv-loop
     μ-loop
     loop-holds
-    mul-print-word
-    array-read-print-word
-    print-word-requires
+    mul-print-number
+    array-read-print-number
+    print-number-requires
     add-i
     loop-less
     loop-again

@@ -1,7 +1,7 @@
 use Prim.Native.Nat.{_≤_, _-_}
 use borrow.Author.Needs.{needs}
-use Rattle.layout.proofs.print_queue.Statement.{statement}
-use Rattle.layout.proofs.print_queue.Tie as tie
+use Rattle.printing.proofs.print_queue.Statement.{statement}
+use Rattle.printing.proofs.print_queue.Tie as tie
 
 abbrev Inv-loop : tie.InvT-loop
 Inv-loop q n i₀ t6 i = i ≤ n
@@ -21,17 +21,17 @@ write-all-requires c κs = search needs
 loop-holds : tie.Need-loop-holds Inv-loop μ-loop
 loop-holds c = search needs
 
-mul-print-word : tie.Need-mul-print-word Inv-loop μ-loop
-mul-print-word c = search needs
+mul-print-number : tie.Need-mul-print-number Inv-loop μ-loop
+mul-print-number c = search needs
 
-element-copy-out-print-word : tie.Need-element-copy-out-print-word Inv-loop μ-loop
-element-copy-out-print-word c = search needs
+element-copy-out-print-number : tie.Need-element-copy-out-print-number Inv-loop μ-loop
+element-copy-out-print-number c = search needs
 
-cast-print-word : tie.Need-cast-print-word Inv-loop μ-loop
-cast-print-word c = search needs
+cast-print-number : tie.Need-cast-print-number Inv-loop μ-loop
+cast-print-number c = search needs
 
-print-word-requires : tie.Need-print-word-requires Inv-loop μ-loop
-print-word-requires c κs = search needs
+print-number-requires : tie.Need-print-number-requires Inv-loop μ-loop
+print-number-requires c κs = search needs
 
 add-i : tie.Need-add-i Inv-loop μ-loop
 add-i c = search needs
@@ -61,10 +61,10 @@ print-queue-spec =
     slice-aggregate-write-all
     write-all-requires
     loop-holds
-    mul-print-word
-    element-copy-out-print-word
-    cast-print-word
-    print-word-requires
+    mul-print-number
+    element-copy-out-print-number
+    cast-print-number
+    print-number-requires
     add-i
     loop-less
     loop-again
