@@ -1,3 +1,4 @@
 pub mod Checked
 pub mod CheckedLaws
 pub mod TestLaws
+pub mod StepLaws

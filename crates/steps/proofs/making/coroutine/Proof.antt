@@ -1,55 +1,46 @@
+use mathlib.Core.Path.{_≡_, refl, sym, _∙_}
+use native.Mathlib.Omega.{arith}
+use denote.Ref.{now}
+use borrow.Author.Tests.{leb-false}
+use Rattle.machine.specs.Machine.{refusals}
+use Rattle.steps.specs.StepLaws.{no-turn, coroutine-refused, coroutine-made}
 use borrow.Author.Needs.{needs}
 use Rattle.steps.proofs.making.coroutine.Statement.{statement}
 use Rattle.steps.proofs.making.coroutine.Tie as tie
-use Rattle.steps.proofs.making.coroutine.Reads as reads
-use Rattle.steps.proofs.making.coroutine.Lts as lts
-use Rattle.events.proofs.making.make_coroutine.Reads as make-coroutine-reads
-use Rattle.steps.proofs.tests.is_full.Reads as is-full-reads
-use Rattle.steps.proofs.tests.running.Reads as running-reads
 
--- src/making.rt:39:9
 running-requires : tie.Need-running-requires
 running-requires c κs = search needs
 
--- src/making.rt:41:23
 enum-known-turn : tie.Need-enum-known-turn
 enum-known-turn c = search needs
 
--- src/making.rt:46:24
 enum-told : tie.Need-enum-told
 enum-told c = search needs
 
--- src/making.rt:46:16
 is-full-requires : tie.Need-is-full-requires
 is-full-requires c κs = search needs
 
--- src/making.rt:47:17
 same-length : tie.Need-same-length
 same-length c = search needs
 
--- src/making.rt:47:17
 returns : tie.Need-returns
-returns c = ?
+returns c = λ ts ps l. coroutine-refused ts (now (c .before .before .before .before .before .before .before .before .args .objects)) ps (c .before .before .before .before .before .before .before .before .args .queue) l (c .before .before .before .before .before .running .ensures) _ (c .before .before .before .enum-told .given .1) (c .before .before .before .before .before .before .before .before .args .function) (c .before .is-full .ensures) (c .if1 .taken)
 
--- src/making.rt:52:17
 make-coroutine-requires : tie.Need-make-coroutine-requires
-make-coroutine-requires c κs = ?
+make-coroutine-requires c κs = (c .before .before .before .before .before .before .before .before .before .pre, leb-false _ _ (sym (c .before .before .is-full .ensures) ∙ c .before .if1 .left))
 
--- src/making.rt:35:1
 same-length-2 : tie.Need-same-length-2
 same-length-2 c = search needs
 
--- src/making.rt:35:1
 returns-2 : tie.Need-returns-2
-returns-2 c = ?
+unfolding refusals
+returns-2 c = λ ts ps l. no-turn ts (now (c .before .before .before .before .before .before .args .objects)) ps (c .before .before .before .before .before .before .args .queue) l (c .before .before .before .running .ensures) _ _ refl (c .before .turn .given .0 .0) (c .before .turn .given .1)
 
--- src/making.rt:35:1
 same-length-3 : tie.Need-same-length-3
 same-length-3 c = search needs
 
--- src/making.rt:35:1
 returns-3 : tie.Need-returns-3
-returns-3 c = ?
+returns-3 c = λ ts ps l. coroutine-made ts (now (c .before .before .before .before .before .before .before .before .before .before .before .before .args .objects)) ps (c .before .before .before .before .before .before .before .before .before .before .before .before .args .queue) l (c .before .before .before .before .before .before .before .before .before .running .ensures) _ (c .before .before .before .before .before .before .before .enum-told .given .1) (c .before .before .before .before .before .before .before .before .before .before .before .before .args .function) (c .before .before .before .before .before .is-full .ensures) (c .before .before .before .before .if1 .left) (c .before .before .make-coroutine .ensures .0) (c .before .before .make-coroutine .ensures .1 ts ps (c .before .before .before .before .before .before .before .before .before .before .before .before .args .queue) l)
 
 pub coroutine-spec : {M : Type 1} → statement M
 coroutine-spec =

@@ -1,77 +1,64 @@
+use mathlib.Core.Path.{_≡_, refl, sym, ap, _∙_}
+use mathlib.Core.Bool.{_||_}
+use native.Mathlib.Omega.{arith}
+use denote.Ref.{now}
+use Rattle.asyncio.specs.Ranges.{HeaderFits}
+use Rattle.asyncio.specs.declared.Header.{Header}
+use Rattle.rows.specs.TableLaws.{header-read}
+use Rattle.machine.specs.Machine.{refusals}
+use Rattle.steps.specs.StepLaws.{no-turn, gather-unmade, gather-full, gather-made, gather-room}
 use borrow.Author.Needs.{needs}
 use Rattle.steps.proofs.making.gather.Statement.{statement}
 use Rattle.steps.proofs.making.gather.Tie as tie
-use Rattle.steps.proofs.making.gather.Reads as reads
-use Rattle.steps.proofs.making.gather.Lts as lts
-use Rattle.events.proofs.making.make_gather.Reads as make-gather-reads
-use Rattle.rows.proofs.tables.load_header.Reads as load-header-reads
-use Rattle.steps.proofs.making.too_many.Reads as too-many-reads
-use Rattle.steps.proofs.tests.any_unmade.Reads as any-unmade-reads
-use Rattle.steps.proofs.tests.running.Reads as running-reads
 
--- src/making.rt:183:9
 running-requires : tie.Need-running-requires
 running-requires c κs = search needs
 
--- src/making.rt:185:23
 enum-known-turn : tie.Need-enum-known-turn
 enum-known-turn c = search needs
 
--- src/making.rt:190:52
 enum-told : tie.Need-enum-told
 enum-told c = search needs
 
--- src/making.rt:190:17
 load-header-requires : tie.Need-load-header-requires
 load-header-requires c κs = search needs
 
--- src/making.rt:191:16
 any-unmade-requires : tie.Need-any-unmade-requires
 any-unmade-requires c κs = search needs
 
--- src/making.rt:192:17
 same-length : tie.Need-same-length
 same-length c = search needs
 
--- src/making.rt:192:17
 returns : tie.Need-returns
-returns c = ?
+returns c = λ ts l. gather-unmade ts (now (c .before .before .before .before .before .before .before .before .before .before .before .args .objects)) (now (c .before .before .before .before .before .before .before .before .before .before .before .args .places)) (c .before .before .before .before .before .before .before .before .before .before .before .args .queue) l (c .before .before .before .before .before .before .running .ensures) _ (c .before .before .before .before .enum-told .given .1) (now (c .before .before .before .before .before .before .before .before .before .before .before .args .items)) (c .before .before .load-header .ensures) (c .before .any-unmade .ensures) (c .if1 .taken)
 
--- src/making.rt:197:16
 too-many-requires : tie.Need-too-many-requires
-too-many-requires c κs = ?
+too-many-requires c κs = header-read _ (c .before .before .load-header .ensures) .used-fits
 
--- src/making.rt:198:17
 same-length-2 : tie.Need-same-length-2
 same-length-2 c = search needs
 
--- src/making.rt:198:17
 returns-2 : tie.Need-returns-2
-returns-2 c = ?
+returns-2 c = λ ts l. gather-full ts (now (c .before .before .before .before .before .before .before .before .before .before .before .before .before .args .objects)) (now (c .before .before .before .before .before .before .before .before .before .before .before .before .before .args .places)) (c .before .before .before .before .before .before .before .before .before .before .before .before .before .args .queue) l (c .before .before .before .before .before .before .before .before .running .ensures) _ (c .before .before .before .before .before .before .enum-told .given .1) (now (c .before .before .before .before .before .before .before .before .before .before .before .before .before .args .items)) (c .before .before .before .before .load-header .ensures) (c .before .before .before .any-unmade .ensures) (c .before .before .if1 .left) (c .before .too-many .ensures) (c .if2 .taken)
 
--- src/making.rt:203:17
 make-gather-requires : tie.Need-make-gather-requires
-make-gather-requires c κs = ?
+make-gather-requires c κs = let r = gather-room (now (c .before .before .before .before .before .before .before .before .before .before .before .before .before .before .before .args .objects)) (now (c .before .before .before .before .before .before .before .before .before .before .before .before .before .before .before .args .items)) (c .before .before .before .before .before .before .load-header .ensures) (c .before .before .before .too-many .ensures) (c .before .before .if2 .left) in (c .before .before .before .before .before .before .before .before .before .before .before .before .before .before .before .pre .0, c .before .before .before .before .before .before .before .before .before .before .before .before .before .before .before .pre .1, r .0, r .1, r .2)
 
--- src/making.rt:179:1
 same-length-3 : tie.Need-same-length-3
 same-length-3 c = search needs
 
--- src/making.rt:179:1
 returns-3 : tie.Need-returns-3
-returns-3 c = ?
+unfolding refusals
+returns-3 c = λ ts l. no-turn ts (now (c .before .before .before .before .before .before .before .before .args .objects)) (now (c .before .before .before .before .before .before .before .before .args .places)) (c .before .before .before .before .before .before .before .before .args .queue) l (c .before .before .before .running .ensures) _ _ refl (c .before .turn .given .0 .0) (c .before .turn .given .1)
 
--- src/making.rt:179:1
 same-length-4 : tie.Need-same-length-4
 same-length-4 c = search needs
 
--- src/making.rt:179:1
 same-length-5 : tie.Need-same-length-5
 same-length-5 c = search needs
 
--- src/making.rt:179:1
 returns-4 : tie.Need-returns-4
-returns-4 c = ?
+returns-4 c = λ ts l. gather-made ts (now (c .before .before .before .before .before .before .before .before .before .before .before .before .before .before .before .before .before .before .before .before .args .objects)) (now (c .before .before .before .before .before .before .before .before .before .before .before .before .before .before .before .before .before .before .before .before .args .places)) (c .before .before .before .before .before .before .before .before .before .before .before .before .before .before .before .before .before .before .before .before .args .queue) l (c .before .before .before .before .before .before .before .before .before .before .before .before .before .before .before .running .ensures) _ (c .before .before .before .before .before .before .before .before .before .before .before .before .before .enum-told .given .1) (now (c .before .before .before .before .before .before .before .before .before .before .before .before .before .before .before .before .before .before .before .before .args .items)) (c .before .before .before .before .before .before .before .before .before .before .before .load-header .ensures) (c .before .before .before .before .before .before .before .before .before .before .any-unmade .ensures) (c .before .before .before .before .before .before .before .before .before .if1 .left) (c .before .before .before .before .before .before .before .before .too-many .ensures) (c .before .before .before .before .before .before .before .if2 .left) (c .before .before .before .before .make-gather .ensures .0) (c .before .before .before .before .make-gather .ensures .1 ts (c .before .before .before .before .before .before .before .before .before .before .before .before .before .before .before .before .before .before .before .before .args .queue) l)
 
 pub gather-spec : {M : Type 1} → statement M
 gather-spec =

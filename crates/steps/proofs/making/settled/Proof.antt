@@ -1,86 +1,68 @@
+use mathlib.Core.Path.{_≡_, refl, sym, ap, _∙_}
+use denote.Ref.{now}
+use borrow.Author.Tests.{leb-false}
+use Rattle.asyncio.specs.Ranges.{HeaderFits}
+use Rattle.rows.specs.TableLaws.{header-read}
+use Rattle.machine.specs.Machine.{refusals}
+use Rattle.steps.specs.StepLaws.{no-turn, settled-unknown, settled-full, settled-over, settled-made}
 use borrow.Author.Needs.{needs}
 use Rattle.steps.proofs.making.settled.Statement.{statement}
 use Rattle.steps.proofs.making.settled.Tie as tie
-use Rattle.steps.proofs.making.settled.Reads as reads
-use Rattle.steps.proofs.making.settled.Lts as lts
-use Rattle.events.proofs.making.settled_awaitable.Reads as settled-awaitable-reads
-use Rattle.rows.proofs.tables.load_header.Reads as load-header-reads
-use Rattle.steps.proofs.tests.is_full.Reads as is-full-reads
-use Rattle.steps.proofs.tests.no_number.Reads as no-number-reads
-use Rattle.steps.proofs.tests.running.Reads as running-reads
-use Rattle.steps.proofs.tests.value_known.Reads as value-known-reads
 
--- src/making.rt:143:9
 running-requires : tie.Need-running-requires
 running-requires c κs = search needs
 
--- src/making.rt:145:23
 enum-known-turn : tie.Need-enum-known-turn
 enum-known-turn c = search needs
 
--- src/making.rt:150:52
 enum-told : tie.Need-enum-told
 enum-told c = search needs
 
--- src/making.rt:150:17
 load-header-requires : tie.Need-load-header-requires
 load-header-requires c κs = search needs
 
--- src/making.rt:151:16
 value-known-requires : tie.Need-value-known-requires
-value-known-requires c κs = ?
+value-known-requires c κs = (c .before .before .before .before .before .before .before .before .pre, header-read _ (c .before .load-header .ensures) .made-fits)
 
--- src/making.rt:152:20
 is-full-requires : tie.Need-is-full-requires
 is-full-requires c κs = search needs
 
--- src/making.rt:153:21
 same-length : tie.Need-same-length
 same-length c = search needs
 
--- src/making.rt:153:21
 returns : tie.Need-returns
-returns c = ?
+returns c = λ ts ps l. settled-full ts (now (c .before .before .before .before .before .before .before .before .before .before .before .before .before .args .objects)) ps (c .before .before .before .before .before .before .before .before .before .before .before .before .before .args .queue) l (c .before .before .before .before .before .before .before .before .before .before .running .ensures) _ (c .before .before .before .before .before .before .before .before .enum-told .given .1) (c .before .before .before .before .before .before .before .before .before .before .before .before .before .args .value) (c .before .before .before .before .before .before .load-header .ensures) (c .before .before .before .before .value-known .ensures) (c .before .before .before .if1 .taken) (c .before .is-full .ensures) (c .if2 .taken)
 
--- src/making.rt:158:20
 no-number-requires : tie.Need-no-number-requires
 no-number-requires c κs = search needs
 
--- src/making.rt:159:21
 same-length-2 : tie.Need-same-length-2
 same-length-2 c = search needs
 
--- src/making.rt:159:21
 returns-2 : tie.Need-returns-2
-returns-2 c = ?
+returns-2 c = λ ts ps l. settled-over ts (now (c .before .before .before .before .before .before .before .before .before .before .before .before .before .before .before .before .args .objects)) ps (c .before .before .before .before .before .before .before .before .before .before .before .before .before .before .before .before .args .queue) l (c .before .before .before .before .before .before .before .before .before .before .before .before .before .running .ensures) _ (c .before .before .before .before .before .before .before .before .before .before .before .enum-told .given .1) (c .before .before .before .before .before .before .before .before .before .before .before .before .before .before .before .before .args .value) (c .before .before .before .before .before .before .before .before .before .load-header .ensures) (c .before .before .before .before .before .before .before .value-known .ensures) (c .before .before .before .before .before .before .if1 .taken) (c .before .before .before .before .is-full .ensures) (c .before .before .before .if2 .left) (c .before .no-number .ensures) (c .if3 .taken)
 
--- src/making.rt:164:21
 settled-awaitable-requires : tie.Need-settled-awaitable-requires
-settled-awaitable-requires c κs = ?
+settled-awaitable-requires c κs = (c .before .before .before .before .before .before .before .before .before .before .before .before .before .before .before .before .before .pre, leb-false _ _ (sym (c .before .before .before .before .before .is-full .ensures) ∙ c .before .before .before .before .if2 .left), leb-false _ _ (sym (c .before .before .no-number .ensures) ∙ c .before .if3 .left))
 
--- src/making.rt:165:17
 same-length-3 : tie.Need-same-length-3
 same-length-3 c = search needs
 
--- src/making.rt:165:17
 returns-3 : tie.Need-returns-3
-returns-3 c = ?
+returns-3 c = λ ts ps l. settled-made ts (now (c .before .before .before .before .before .before .before .before .before .before .before .before .before .before .before .before .before .before .before .before .args .objects)) ps (c .before .before .before .before .before .before .before .before .before .before .before .before .before .before .before .before .before .before .before .before .args .queue) l (c .before .before .before .before .before .before .before .before .before .before .before .before .before .before .before .before .before .running .ensures) _ (c .before .before .before .before .before .before .before .before .before .before .before .before .before .before .before .enum-told .given .1) (c .before .before .before .before .before .before .before .before .before .before .before .before .before .before .before .before .before .before .before .before .args .value) (c .before .before .before .before .before .before .before .before .before .before .before .before .before .load-header .ensures) (c .before .before .before .before .before .before .before .before .before .before .before .value-known .ensures) (c .before .before .before .before .before .before .before .before .before .before .if1 .taken) (c .before .before .before .before .before .before .before .before .is-full .ensures) (c .before .before .before .before .before .before .before .if2 .left) (c .before .before .before .before .before .no-number .ensures) (c .before .before .before .before .if3 .left) (c .before .before .settled-awaitable .ensures .0) (c .before .before .settled-awaitable .ensures .1 ts ps (c .before .before .before .before .before .before .before .before .before .before .before .before .before .before .before .before .before .before .before .before .args .queue) l)
 
--- src/making.rt:139:1
 same-length-4 : tie.Need-same-length-4
 same-length-4 c = search needs
 
--- src/making.rt:139:1
 returns-4 : tie.Need-returns-4
-returns-4 c = ?
+unfolding refusals
+returns-4 c = λ ts ps l. no-turn ts (now (c .before .before .before .before .before .before .args .objects)) ps (c .before .before .before .before .before .before .args .queue) l (c .before .before .before .running .ensures) _ _ refl (c .before .turn .given .0 .0) (c .before .turn .given .1)
 
--- src/making.rt:139:1
 same-length-5 : tie.Need-same-length-5
 same-length-5 c = search needs
 
--- src/making.rt:139:1
 returns-5 : tie.Need-returns-5
-returns-5 c = ?
+returns-5 c = λ ts ps l. settled-unknown ts (now (c .before .before .before .before .before .before .before .before .before .before .args .objects)) ps (c .before .before .before .before .before .before .before .before .before .before .args .queue) l (c .before .before .before .before .before .before .before .running .ensures) _ (c .before .before .before .before .before .enum-told .given .1) (c .before .before .before .before .before .before .before .before .before .before .args .value) (c .before .before .before .load-header .ensures) (c .before .value-known .ensures) (c .if1 .left)
 
 pub settled-spec : {M : Type 1} → statement M
 settled-spec =

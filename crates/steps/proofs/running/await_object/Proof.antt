@@ -1,63 +1,53 @@
+use mathlib.Core.Path.{_≡_, refl, sym, ap, _∙_}
+use native.Mathlib.Omega.{arith}
+use denote.Ref.{now}
+use Rattle.asyncio.specs.Ranges.{HeaderFits}
+use Rattle.rows.specs.TableLaws.{header-read}
+use Rattle.machine.specs.Machine.{refusals}
+use Rattle.steps.specs.StepLaws.{no-turn-logs, runner-fits, await-unmade, await-goes}
 use borrow.Author.Needs.{needs}
 use Rattle.steps.proofs.running.await_object.Statement.{statement}
 use Rattle.steps.proofs.running.await_object.Tie as tie
-use Rattle.steps.proofs.running.await_object.Reads as reads
-use Rattle.steps.proofs.running.await_object.Lts as lts
-use Rattle.events.proofs.awaits.exec_get_awaitable.Reads as exec-get-awaitable-reads
-use Rattle.rows.proofs.tables.load_header.Reads as load-header-reads
-use Rattle.steps.proofs.tests.running.Reads as running-reads
 
--- src/running.rt:33:9
 running-requires : tie.Need-running-requires
 running-requires c κs = search needs
 
--- src/running.rt:35:23
 enum-known-turn : tie.Need-enum-known-turn
 enum-known-turn c = search needs
 
--- src/running.rt:39:20
 enum-known-turn-2 : tie.Need-enum-known-turn-2
 enum-known-turn-2 c = search needs
 
--- src/running.rt:40:17
 load-header-requires : tie.Need-load-header-requires
 load-header-requires c κs = search needs
 
--- src/running.rt:42:17
 same-length : tie.Need-same-length
 same-length c = search needs
 
--- src/running.rt:42:17
 returns : tie.Need-returns
-returns c = ?
+returns c = λ l. await-unmade (now (c .before .before .before .before .before .before .before .before .before .before .before .before .args .tasks)) (now (c .before .before .before .before .before .before .before .before .before .before .before .before .args .objects)) (now (c .before .before .before .before .before .before .before .before .before .before .before .before .args .places)) (c .before .before .before .before .before .before .before .before .before .before .before .before .args .queue) l (c .before .before .before .before .before .before .before .running .ensures) _ (c .before .before .before .before .before .turn2 .given .1) (c .before .before .before .before .before .before .before .before .before .before .before .before .args .o) (c .before .before .load-header .ensures) (c .if1 .taken)
 
--- src/running.rt:47:17
 exec-get-awaitable-requires : tie.Need-exec-get-awaitable-requires
-exec-get-awaitable-requires c κs = ?
+exec-get-awaitable-requires c κs = (c .before .before .before .before .before .before .before .before .before .before .before .before .before .before .before .pre .0, c .before .before .before .before .before .before .before .before .before .before .before .before .before .before .before .pre .1, c .before .before .before .before .before .before .before .before .before .before .before .before .before .before .before .pre .2, runner-fits (now (c .before .before .before .before .before .before .before .before .before .before .before .before .before .before .before .args .objects)) (c .before .before .before .before .before .before .before .before .before .before .running .ensures) _ (c .before .before .before .before .before .before .before .before .turn2 .given .1), omega (arith, c .before .before .before .if1 .left, header-read _ (c .before .before .before .before .before .load-header .ensures) .made-fits))
 
--- src/running.rt:23:1
 same-length-2 : tie.Need-same-length-2
 same-length-2 c = search needs
 
--- src/running.rt:23:1
 returns-2 : tie.Need-returns-2
-returns-2 c = ?
+unfolding refusals
+returns-2 c = λ l. no-turn-logs (now (c .before .before .before .before .before .before .before .before .args .tasks)) (now (c .before .before .before .before .before .before .before .before .args .objects)) (now (c .before .before .before .before .before .before .before .before .args .places)) (c .before .before .before .before .before .before .before .before .args .queue) l (c .before .before .before .running .ensures) _ _ refl (c .before .turn .given .0 .0) (c .before .turn .given .1)
 
--- src/running.rt:23:1
 same-length-3 : tie.Need-same-length-3
 same-length-3 c = search needs
 
--- src/running.rt:23:1
 same-length-4 : tie.Need-same-length-4
 same-length-4 c = search needs
 
--- src/running.rt:23:1
 same-length-5 : tie.Need-same-length-5
 same-length-5 c = search needs
 
--- src/running.rt:23:1
 returns-3 : tie.Need-returns-3
-returns-3 c = ?
+returns-3 c = λ l. await-goes (now (c .before .before .before .before .before .before .before .before .before .before .before .before .before .before .before .before .before .before .before .before .before .before .before .args .tasks)) (now (c .before .before .before .before .before .before .before .before .before .before .before .before .before .before .before .before .before .before .before .before .before .before .before .args .objects)) (now (c .before .before .before .before .before .before .before .before .before .before .before .before .before .before .before .before .before .before .before .before .before .before .before .args .places)) (c .before .before .before .before .before .before .before .before .before .before .before .before .before .before .before .before .before .before .before .before .before .before .before .args .queue) l (c .before .before .before .before .before .before .before .before .before .before .before .before .before .before .before .before .before .before .running .ensures) _ (c .before .before .before .before .before .before .before .before .before .before .before .before .before .before .before .before .turn2 .given .1) (c .before .before .before .before .before .before .before .before .before .before .before .before .before .before .before .before .before .before .before .before .before .before .before .args .o) (c .before .before .before .before .before .before .before .before .before .before .before .before .before .load-header .ensures) (c .before .before .before .before .before .before .before .before .before .before .before .if1 .left) (c .before .before .before .before .before .before .before .exec-get-awaitable .result .control) (c .before .before .before .before .before .before .before .exec-get-awaitable .result .steps) (c .before .before .before .before .before .before .before .exec-get-awaitable .ensures l)
 
 pub await-object-spec : {M : Type 1} → statement M
 await-object-spec =

@@ -1,68 +1,55 @@
+use mathlib.Core.Path.{_≡_, refl, sym, ap, _∙_}
+use denote.Ref.{now}
+use Rattle.asyncio.specs.Ranges.{HeaderFits}
+use Rattle.rows.specs.TableLaws.{header-read}
+use Rattle.machine.specs.Machine.{refusals}
+use Rattle.steps.specs.StepLaws.{no-turn-logs, runner-fits, complete-unknown, complete-goes}
 use borrow.Author.Needs.{needs}
 use Rattle.steps.proofs.running.complete.Statement.{statement}
 use Rattle.steps.proofs.running.complete.Tie as tie
-use Rattle.steps.proofs.running.complete.Reads as reads
-use Rattle.steps.proofs.running.complete.Lts as lts
-use Rattle.events.proofs.ends.complete.Reads as complete-reads
-use Rattle.rows.proofs.tables.load_header.Reads as load-header-reads
-use Rattle.steps.proofs.tests.running.Reads as running-reads
-use Rattle.steps.proofs.tests.value_known.Reads as value-known-reads
 
--- src/running.rt:70:9
 running-requires : tie.Need-running-requires
 running-requires c κs = search needs
 
--- src/running.rt:72:23
 enum-known-turn : tie.Need-enum-known-turn
 enum-known-turn c = search needs
 
--- src/running.rt:76:20
 enum-known-turn-2 : tie.Need-enum-known-turn-2
 enum-known-turn-2 c = search needs
 
--- src/running.rt:77:17
 load-header-requires : tie.Need-load-header-requires
 load-header-requires c κs = search needs
 
--- src/running.rt:78:16
 value-known-requires : tie.Need-value-known-requires
-value-known-requires c κs = ?
+value-known-requires c κs = (c .before .before .before .before .before .before .before .before .before .before .before .pre .1, header-read _ (c .before .load-header .ensures) .made-fits)
 
--- src/running.rt:79:17
 complete-requires : tie.Need-complete-requires
-complete-requires c κs = ?
+complete-requires c κs = (c .before .before .before .before .before .before .before .before .before .before .before .before .before .before .before .before .pre .0, c .before .before .before .before .before .before .before .before .before .before .before .before .before .before .before .before .pre .1, c .before .before .before .before .before .before .before .before .before .before .before .before .before .before .before .before .pre .2, runner-fits (now (c .before .before .before .before .before .before .before .before .before .before .before .before .before .before .before .before .args .objects)) (c .before .before .before .before .before .before .before .before .before .before .before .running .ensures) _ (c .before .before .before .before .before .before .before .before .before .turn2 .given .1))
 
--- src/running.rt:79:17
 same-length : tie.Need-same-length
 same-length c = search needs
 
--- src/running.rt:79:17
 same-length-2 : tie.Need-same-length-2
 same-length-2 c = search needs
 
--- src/running.rt:79:17
 same-length-3 : tie.Need-same-length-3
 same-length-3 c = search needs
 
--- src/running.rt:79:17
 returns : tie.Need-returns
-returns c = ?
+returns c = λ l. complete-goes (now (c .before .before .before .before .before .before .before .before .before .before .before .before .before .before .before .before .before .before .before .before .before .before .before .args .tasks)) (now (c .before .before .before .before .before .before .before .before .before .before .before .before .before .before .before .before .before .before .before .before .before .before .before .args .objects)) (now (c .before .before .before .before .before .before .before .before .before .before .before .before .before .before .before .before .before .before .before .before .before .before .before .args .places)) (c .before .before .before .before .before .before .before .before .before .before .before .before .before .before .before .before .before .before .before .before .before .before .before .args .queue) l (c .before .before .before .before .before .before .before .before .before .before .before .before .before .before .before .before .before .before .running .ensures) _ (c .before .before .before .before .before .before .before .before .before .before .before .before .before .before .before .before .turn2 .given .1) (c .before .before .before .before .before .before .before .before .before .before .before .before .before .before .before .before .before .before .before .before .before .before .before .args .value) (c .before .before .before .before .before .before .before .before .before .before .before .before .before .load-header .ensures) (c .before .before .before .before .before .before .before .before .before .before .before .value-known .ensures) (c .before .before .before .before .before .before .before .before .before .before .if1 .taken) (c .before .before .before .before .before .before .complete .result .answer) (c .before .before .before .before .before .before .complete .ensures l)
 
--- src/running.rt:60:1
 same-length-4 : tie.Need-same-length-4
 same-length-4 c = search needs
 
--- src/running.rt:60:1
 returns-2 : tie.Need-returns-2
-returns-2 c = ?
+unfolding refusals
+returns-2 c = λ l. no-turn-logs (now (c .before .before .before .before .before .before .before .before .args .tasks)) (now (c .before .before .before .before .before .before .before .before .args .objects)) (now (c .before .before .before .before .before .before .before .before .args .places)) (c .before .before .before .before .before .before .before .before .args .queue) l (c .before .before .before .running .ensures) _ _ refl (c .before .turn .given .0 .0) (c .before .turn .given .1)
 
--- src/running.rt:60:1
 same-length-5 : tie.Need-same-length-5
 same-length-5 c = search needs
 
--- src/running.rt:60:1
 returns-3 : tie.Need-returns-3
-returns-3 c = ?
+returns-3 c = λ l. complete-unknown (now (c .before .before .before .before .before .before .before .before .before .before .before .before .before .args .tasks)) (now (c .before .before .before .before .before .before .before .before .before .before .before .before .before .args .objects)) (now (c .before .before .before .before .before .before .before .before .before .before .before .before .before .args .places)) (c .before .before .before .before .before .before .before .before .before .before .before .before .before .args .queue) l (c .before .before .before .before .before .before .before .before .running .ensures) _ (c .before .before .before .before .before .before .turn2 .given .1) (c .before .before .before .before .before .before .before .before .before .before .before .before .before .args .value) (c .before .before .before .load-header .ensures) (c .before .value-known .ensures) (c .if1 .left)
 
 pub complete-spec : {M : Type 1} → statement M
 complete-spec =

@@ -1,76 +1,57 @@
+use mathlib.Core.Path.{_≡_, refl, sym, ap, _∙_}
+use denote.Ref.{now}
+use Rattle.steps.specs.StepLaws.{results-ended, results-unknown, results-many, results-bad, results-done}
 use borrow.Author.Needs.{needs}
 use Rattle.steps.proofs.waiting.results.Statement.{statement}
 use Rattle.steps.proofs.waiting.results.Tie as tie
-use Rattle.steps.proofs.waiting.results.Reads as reads
-use Rattle.steps.proofs.waiting.results.Lts as lts
-use Rattle.events.proofs.results.apply_future_results.Reads as apply-future-results-reads
-use Rattle.steps.proofs.tests.any_bad.Reads as any-bad-reads
-use Rattle.steps.proofs.tests.any_unknown.Reads as any-unknown-reads
-use Rattle.steps.proofs.waiting.is_ended.Reads as is-ended-reads
 
--- src/waiting.rt:48:8
 is-ended-requires : tie.Need-is-ended-requires
 is-ended-requires c κs = search needs
 
--- src/waiting.rt:49:9
 same-length : tie.Need-same-length
 same-length c = search needs
 
--- src/waiting.rt:49:9
 returns : tie.Need-returns
-returns c = ?
+returns c = λ l. results-ended (now (c .before .before .before .before .before .before .before .args .tasks)) (now (c .before .before .before .before .before .before .before .args .objects)) (now (c .before .before .before .before .before .before .before .args .places)) (c .before .before .before .before .before .before .before .args .queue) l (now (c .before .before .before .before .before .before .before .args .results)) (c .before .is-ended .ensures) (c .if1 .taken)
 
--- src/waiting.rt:54:8
 any-unknown-requires : tie.Need-any-unknown-requires
 any-unknown-requires c κs = search needs
 
--- src/waiting.rt:55:9
 same-length-2 : tie.Need-same-length-2
 same-length-2 c = search needs
 
--- src/waiting.rt:55:9
 returns-2 : tie.Need-returns-2
-returns-2 c = ?
+returns-2 c = λ l. results-unknown (now (c .before .before .before .before .before .before .before .before .before .before .args .tasks)) (now (c .before .before .before .before .before .before .before .before .before .before .args .objects)) (now (c .before .before .before .before .before .before .before .before .before .before .args .places)) (c .before .before .before .before .before .before .before .before .before .before .args .queue) l (now (c .before .before .before .before .before .before .before .before .before .before .args .results)) (c .before .before .before .before .is-ended .ensures) (c .before .before .before .if1 .left) (c .before .any-unknown .ensures (now (c .before .before .before .before .before .before .before .before .before .before .args .tasks)) (now (c .before .before .before .before .before .before .before .before .before .before .args .places)) (c .before .before .before .before .before .before .before .before .before .before .args .queue) l) (c .if2 .taken)
 
--- src/waiting.rt:61:9
 same-length-3 : tie.Need-same-length-3
 same-length-3 c = search needs
 
--- src/waiting.rt:61:9
 returns-3 : tie.Need-returns-3
-returns-3 c = ?
+returns-3 c = λ l. results-many (now (c .before .before .before .before .before .before .before .before .before .before .before .args .tasks)) (now (c .before .before .before .before .before .before .before .before .before .before .before .args .objects)) (now (c .before .before .before .before .before .before .before .before .before .before .before .args .places)) (c .before .before .before .before .before .before .before .before .before .before .before .args .queue) l (now (c .before .before .before .before .before .before .before .before .before .before .before .args .results)) (c .before .before .before .before .before .is-ended .ensures) (c .before .before .before .before .if1 .left) (c .before .before .any-unknown .ensures (now (c .before .before .before .before .before .before .before .before .before .before .before .args .tasks)) (now (c .before .before .before .before .before .before .before .before .before .before .before .args .places)) (c .before .before .before .before .before .before .before .before .before .before .before .args .queue) l) (c .before .if2 .left) (c .if3 .taken)
 
--- src/waiting.rt:66:8
 any-bad-requires : tie.Need-any-bad-requires
 any-bad-requires c κs = search needs
 
--- src/waiting.rt:67:9
 same-length-4 : tie.Need-same-length-4
 same-length-4 c = search needs
 
--- src/waiting.rt:67:9
 returns-4 : tie.Need-returns-4
-returns-4 c = ?
+returns-4 c = λ l. results-bad (now (c .before .before .before .before .before .before .before .before .before .before .before .before .before .args .tasks)) (now (c .before .before .before .before .before .before .before .before .before .before .before .before .before .args .objects)) (now (c .before .before .before .before .before .before .before .before .before .before .before .before .before .args .places)) (c .before .before .before .before .before .before .before .before .before .before .before .before .before .args .queue) l (now (c .before .before .before .before .before .before .before .before .before .before .before .before .before .args .results)) (c .before .before .before .before .before .before .before .is-ended .ensures) (c .before .before .before .before .before .before .if1 .left) (c .before .before .before .before .any-unknown .ensures (now (c .before .before .before .before .before .before .before .before .before .before .before .before .before .args .tasks)) (now (c .before .before .before .before .before .before .before .before .before .before .before .before .before .args .places)) (c .before .before .before .before .before .before .before .before .before .before .before .before .before .args .queue) l) (c .before .before .before .if2 .left) (c .before .before .if3 .left) (c .before .any-bad .ensures) (c .if4 .taken)
 
--- src/waiting.rt:72:9
 apply-future-results-requires : tie.Need-apply-future-results-requires
 apply-future-results-requires c κs = search needs
 
--- src/waiting.rt:38:1
 same-length-5 : tie.Need-same-length-5
 same-length-5 c = search needs
 
--- src/waiting.rt:38:1
 same-length-6 : tie.Need-same-length-6
 same-length-6 c = search needs
 
--- src/waiting.rt:38:1
 same-length-7 : tie.Need-same-length-7
 same-length-7 c = search needs
 
--- src/waiting.rt:38:1
 returns-5 : tie.Need-returns-5
-returns-5 c = ?
+returns-5 c = λ l. results-done (now (c .before .before .before .before .before .before .before .before .before .before .before .before .before .before .before .before .before .before .before .before .before .before .before .args .tasks)) (now (c .before .before .before .before .before .before .before .before .before .before .before .before .before .before .before .before .before .before .before .before .before .before .before .args .objects)) (now (c .before .before .before .before .before .before .before .before .before .before .before .before .before .before .before .before .before .before .before .before .before .before .before .args .places)) (c .before .before .before .before .before .before .before .before .before .before .before .before .before .before .before .before .before .before .before .before .before .before .before .args .queue) l (now (c .before .before .before .before .before .before .before .before .before .before .before .before .before .before .before .before .before .before .before .before .before .before .before .args .results)) (c .before .before .before .before .before .before .before .before .before .before .before .before .before .before .before .before .before .is-ended .ensures) (c .before .before .before .before .before .before .before .before .before .before .before .before .before .before .before .before .if1 .left) (c .before .before .before .before .before .before .before .before .before .before .before .before .before .before .any-unknown .ensures (now (c .before .before .before .before .before .before .before .before .before .before .before .before .before .before .before .before .before .before .before .before .before .before .before .args .tasks)) (now (c .before .before .before .before .before .before .before .before .before .before .before .before .before .before .before .before .before .before .before .before .before .before .before .args .places)) (c .before .before .before .before .before .before .before .before .before .before .before .before .before .before .before .before .before .before .before .before .before .before .before .args .queue) l) (c .before .before .before .before .before .before .before .before .before .before .before .before .before .if2 .left) (c .before .before .before .before .before .before .before .before .before .before .before .before .if3 .left) (c .before .before .before .before .before .before .before .before .before .before .before .any-bad .ensures) (c .before .before .before .before .before .before .before .before .before .before .if4 .left) (c .before .before .before .before .before .before .apply-future-results .ensures l)
 
 pub results-spec : {M : Type 1} → statement M
 results-spec =
