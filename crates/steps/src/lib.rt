@@ -3,3 +3,4 @@ pub mod tests; // the tests of the table
 pub mod making; // coroutine, call, pending, settled, gather
 pub mod running; // await, complete, fail
 pub mod waiting; // results, resume
+pub mod lent; // refusal 1, and the list of calls that a wait writes
