@@ -78,14 +78,14 @@ lengths-have ts os ps cs e i =
 -- ---- an event
 
 -- of a sound store
-step-checked : (s : Store) (e : Event) → sound s ≡ true → step s e ≡ checked (forget s) e
+pub step-checked : (s : Store) (e : Event) → sound s ≡ true → step s e ≡ checked (forget s) e
 unfolding step refusal checked
 step-checked s e h =
     let a : first-refusal ((2, not (sound s)) ∷ refusals s e) ≡ first-refusal (refusals s e) = unmet 2 (not (sound s)) (refusals s e) (rw h) in
     rw (a, refusals-forget s e)
 
 -- of one that is not
-step-unsound : (s : Store) (e : Event) → sound s ≡ false → step s e ≡ record { store = forget s; answer = machine.Answer.refused 2 }
+pub step-unsound : (s : Store) (e : Event) → sound s ≡ false → step s e ≡ record { store = forget s; answer = machine.Answer.refused 2 }
 unfolding step refusal decide
 step-unsound s e h =
     let a : first-refusal ((2, not (sound s)) ∷ refusals s e) ≡ 2 = met 2 (not (sound s)) (refusals s e) (rw h) in

@@ -1,0 +1,5 @@
+pub mod SessionLaws
+pub mod BeginLaws
+pub mod Reads
+pub mod ReadLaws
+pub mod Dispatch
