@@ -34,7 +34,7 @@ main-task = record { state = TaskState.Running; awaiter = Awaiter.Nobody; corout
 
 -- ---- words cleared one by one
 
-one-zero-more : (i : ℕ) → replicate i 0 ++ (0 ∷ []) ≡ replicate (suc i) 0
+one-zero-more : (i : ℕ) → _++_ {A = ℕ} (replicate {A = ℕ} i 0) (0 ∷ []) ≡ replicate {A = ℕ} (suc i) 0
 one-zero-more zero = refl
 one-zero-more (suc i) = ap (λ (xs : List ℕ). 0 ∷ xs) (one-zero-more i)
 
@@ -43,8 +43,8 @@ clear-turn ws i l e = rw (add-one i) (take-suc-set ws i 0 l ∙ ap (λ (xs : Lis
 
 pub clear-end : (ws : List ℕ) (i n : ℕ) → i ≡ length ws → length ws ≡ n → take i ws ≡ replicate i 0 → ws ≡ replicate n 0
 clear-end ws i n e h r =
-    let a : take (length ws) ws ≡ replicate (length ws) 0 = rw e at r in
-    let b : replicate (length ws) 0 ≡ replicate n 0 = ap (λ (k : ℕ). replicate k 0) h in
+    let a : take (length ws) ws ≡ replicate {A = ℕ} (length ws) 0 = rw e at r in
+    let b : replicate {A = ℕ} (length ws) 0 ≡ replicate {A = ℕ} n 0 = ap (λ (k : ℕ). replicate {A = ℕ} k 0) h in
     sym (take-length ws) ∙ a ∙ b
 
 -- ---- a fresh session

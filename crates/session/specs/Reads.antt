@@ -8,7 +8,7 @@ use Rattle.machine.specs.Scheduler.{bit}
 use Rattle.machine.specs.Machine as machine
 use Rattle.machine.specs.Machine.{slot-value}
 use Rattle.session.specs.declared.reads.Shown.{Shown}
-use Rattle.session.specs.declared.reads.Show.{Show}
+use Rattle.session.specs.declared.reads.Reading.{Reading}
 
 -- n places from i on of a gather that starts at f, by the places' words
 unfoldable pub places-from : List ℕ → ℕ → ℕ → ℕ → ℕ → List (Option Value)
@@ -28,6 +28,6 @@ shown-of ps (Shown.GatherFailed e) = machine.Shown.a-gather-failed e
 shown-of ps Shown.Nothing = machine.Shown.nothing
 
 -- the answer
-abbrev pub show-answer : List ℕ → Show → machine.Answer
-show-answer ps (Show.Shows x) = machine.Answer.shows (shown-of ps x)
-show-answer ps (Show.Refused n) = machine.Answer.refused n
+abbrev pub show-answer : List ℕ → Reading → machine.Answer
+show-answer ps (Reading.Shows x) = machine.Answer.shows (shown-of ps x)
+show-answer ps (Reading.Refused n) = machine.Answer.refused n

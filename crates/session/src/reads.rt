@@ -36,7 +36,7 @@ pub enum Shown {
 }
 
 // What is shown, or why nothing is.
-pub enum Show {
+pub enum Reading {
     Shows(Shown),
     Refused(u16),
 }
@@ -94,21 +94,21 @@ pub fn show(
     places: &[u64],
     queue: ReadyQueue,
     o: u16,
-) -> Show
+) -> Reading
     ensures { λ r. ⌜ ((l : List Happening) → show-answer (now (places .entry)) r ≡ lent-read (store-of (now (tasks .entry)) (now (objects .entry)) (now (places .entry)) queue l) (Event.show o) .answer) ⌝ }
 {
     if slices_right(tasks, objects, places) {
         if is_sound(queue, tasks, objects, places) {
             let header = rows::tables::load_header(objects);
             if header.made <= o {
-                return Show::Refused(5);
+                return Reading::Refused(5);
             }
             let x = rows::tables::load_object(objects, HeapId(o));
-            return Show::Shows(show_object(x));
+            return Reading::Shows(show_object(x));
         }
-        return Show::Refused(2);
+        return Reading::Refused(2);
     }
-    Show::Refused(1)
+    Reading::Refused(1)
 }
 
 // May the host answer a call at once?
