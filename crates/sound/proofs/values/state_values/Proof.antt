@@ -1,0 +1,85 @@
+use mathlib.Core.Path.{_≡_, refl, sym, ap, _∙_}
+use mathlib.Core.Bool.{Bool, true, false, not}
+use Prim.Native.Nat.{ℕ, _-_, _+_, _*_, _≤_, _<_}
+use native.Mathlib.Omega.{arith}
+use lib.ListN.{length, getD}
+use lib.Dec.{eqb, ltb, leb}
+use borrow.Author.Tests.{eq-eqb, ne-eqb, lt-ltb, le-ltb, le-leb, lt-leb}
+use denote.Ref.{now}
+use Rattle.machine.specs.Sound.{state-values}
+use borrow.Author.Needs.{needs}
+use Rattle.sound.proofs.values.state_values.Statement.{statement}
+use Rattle.sound.proofs.values.state_values.Tie as tie
+use Rattle.sound.proofs.values.state_values.Reads as reads
+use Rattle.sound.proofs.values.state_values.Lts as lts
+use Rattle.sound.proofs.values.value_known.Reads as value-known-reads
+
+-- src/values.rt:137:30
+enum-told : tie.Need-enum-told
+enum-told c = search needs
+
+-- src/values.rt:138:33
+enum-told-2 : tie.Need-enum-told-2
+enum-told-2 c = search needs
+
+-- src/values.rt:139:31
+enum-told-3 : tie.Need-enum-told-3
+enum-told-3 c = search needs
+
+-- src/values.rt:140:26
+enum-known-s : tie.Need-enum-known-s
+enum-known-s c = search needs
+
+-- src/values.rt:140:32
+value-known-requires : tie.Need-value-known-requires
+value-known-requires c κs = search needs
+
+-- src/values.rt:141:33
+enum-told-4 : tie.Need-enum-told-4
+enum-told-4 c = search needs
+
+-- src/values.rt:142:34
+enum-told-5 : tie.Need-enum-told-5
+enum-told-5 c = search needs
+
+-- src/values.rt:132:1
+returns : tie.Need-returns
+returns c = ?
+
+-- src/values.rt:132:1
+returns-2 : tie.Need-returns-2
+returns-2 c = ?
+
+-- src/values.rt:132:1
+returns-3 : tie.Need-returns-3
+returns-3 c = ?
+
+-- src/values.rt:132:1
+returns-4 : tie.Need-returns-4
+returns-4 c = ?
+
+-- src/values.rt:132:1
+returns-5 : tie.Need-returns-5
+returns-5 c = ?
+
+-- src/values.rt:132:1
+returns-6 : tie.Need-returns-6
+returns-6 c = ?
+
+pub state-values-spec : {M : Type 1} → statement M
+state-values-spec =
+    tie.close
+    (tie.spec
+    enum-told
+    enum-told-2
+    enum-told-3
+    enum-known-s
+    value-known-requires
+    enum-told-4
+    enum-told-5
+    returns
+    returns-2
+    returns-3
+    returns-4
+    returns-5
+    returns-6)
