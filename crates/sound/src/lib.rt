@@ -3,3 +3,10 @@
 pub mod words; // rows in use are the words of what they are read as
 pub mod numbers; // clauses 1 and 2
 pub mod values; // clauses 3 and 4
+pub mod entries; // clause 5
+pub mod calls; // clause 6
+pub mod drivers; // clause 7
+pub mod blocked; // clause 8
+pub mod filled; // clause 9
+pub mod slots; // clause 10
+pub mod runner; // clause 11

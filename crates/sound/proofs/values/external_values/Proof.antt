@@ -48,7 +48,7 @@ returns-2 c = rw (c .before .before .state2 .given .1) (c .value-known .ensures)
 -- src/values.rt:95:1
 returns-3 : tie.Need-returns-3
 unfolding external-values
-returns-3 c = rw (@state3 .given .1)
+returns-3 c = rw (c .enum-told .given .1)
 
 pub external-values-spec : {M : Type 1} → statement M
 external-values-spec =

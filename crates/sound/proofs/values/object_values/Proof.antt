@@ -51,23 +51,23 @@ enum-told-3 c = search needs
 
 -- src/values.rt:114:9
 returns : tie.Need-returns
-returns c = ?
+returns c = values-unmade _ _ _ (c .before .before .load-object .ensures) (c .enum-told .given .1)
 
 -- src/values.rt:114:9
 returns-2 : tie.Need-returns-2
-returns-2 c = ?
+returns-2 c = values-coroutine _ _ _ (c .before .before .load-object .ensures) (c .enum-told2 .given .1)
 
 -- src/values.rt:114:9
 returns-3 : tie.Need-returns-3
-returns-3 c = ?
+returns-3 c = values-read _ _ _ (c .before .before .before .before .load-object .ensures) (c .before .before .x .given .1) (c .external-values .ensures)
 
 -- src/values.rt:114:9
 returns-4 : tie.Need-returns-4
-returns-4 c = ?
+returns-4 c = values-gather _ _ _ (c .before .before .load-object .ensures) (c .enum-told3 .given .1)
 
 -- src/values.rt:107:1
 returns-5 : tie.Need-returns-5
-returns-5 c = ?
+returns-5 c = values-other _ _ _ (c .before .before .kind-at .ensures) (sym (c .before .is-external .ensures) ∙ c .if1 .left)
 
 pub object-values-spec : {M : Type 1} → statement M
 object-values-spec =

@@ -44,27 +44,33 @@ enum-told-5 c = search needs
 
 -- src/values.rt:132:1
 returns : tie.Need-returns
-returns c = ?
+unfolding state-values
+returns c = rw (c .enum-told .given .1)
 
 -- src/values.rt:132:1
 returns-2 : tie.Need-returns-2
-returns-2 c = ?
+unfolding state-values
+returns-2 c = rw (c .enum-told2 .given .1)
 
 -- src/values.rt:132:1
 returns-3 : tie.Need-returns-3
-returns-3 c = ?
+unfolding state-values
+returns-3 c = rw (c .enum-told3 .given .1)
 
 -- src/values.rt:132:1
 returns-4 : tie.Need-returns-4
-returns-4 c = ?
+unfolding state-values
+returns-4 c = rw (c .before .before .s .given .1) (c .value-known .ensures)
 
 -- src/values.rt:132:1
 returns-5 : tie.Need-returns-5
-returns-5 c = ?
+unfolding state-values
+returns-5 c = rw (c .enum-told4 .given .1)
 
 -- src/values.rt:132:1
 returns-6 : tie.Need-returns-6
-returns-6 c = ?
+unfolding state-values
+returns-6 c = rw (c .enum-told5 .given .1)
 
 pub state-values-spec : {M : Type 1} → statement M
 state-values-spec =

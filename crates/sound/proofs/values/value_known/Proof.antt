@@ -34,18 +34,18 @@ is-completed-requires c κs = search needs
 
 -- src/values.rt:77:17
 returns : tie.Need-returns
-unfolding value-known
-returns c = rw (c .before .before .before .before .before .v .given .1)
+unfolding value-known _and_
+returns c = rw (c .before .before .before .before .before .v .given .1, lt-ltb _ _ (c .before .before .if1 .taken), ← c .before .kind-at .ensures) (c .is-completed .ensures)
 
 -- src/values.rt:68:1
 returns-2 : tie.Need-returns-2
-unfolding value-known _and_
-returns-2 c = rw (@v2 .given .1, lt-ltb _ _ (@if1 .taken), ← @kind-at .ensures) (@is-completed .ensures)
+unfolding value-known
+returns-2 c = rw (c .enum-told .given .1)
 
 -- src/values.rt:68:1
 returns-3 : tie.Need-returns-3
 unfolding value-known _and_
-returns-3 c = rw (@v2 .given .1, le-ltb _ _ (c .if1 .left))
+returns-3 c = rw (c .before .before .before .v .given .1, le-ltb _ _ (c .if1 .left))
 
 pub value-known-spec : {M : Type 1} → statement M
 value-known-spec =
