@@ -10,3 +10,5 @@ pub mod DriverLaws
 pub mod AwaiterLaws
 pub mod FilledLaws
 pub mod SlotLaws
+pub mod RunnerLaws
+pub mod Whole

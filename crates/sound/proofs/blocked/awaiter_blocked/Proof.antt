@@ -10,42 +10,30 @@ use Rattle.machine.specs.Sound.{awaiter-blocked}
 use borrow.Author.Needs.{needs}
 use Rattle.sound.proofs.blocked.awaiter_blocked.Statement.{statement}
 use Rattle.sound.proofs.blocked.awaiter_blocked.Tie as tie
-use Rattle.sound.proofs.blocked.awaiter_blocked.Reads as reads
-use Rattle.sound.proofs.blocked.awaiter_blocked.Lts as lts
-use Rattle.rows.proofs.parts.state_at.Reads as state-at-reads
-use Rattle.sound.proofs.blocked.waits_for.Reads as waits-for-reads
 
--- src/blocked.rt:92:28
 enum-told : tie.Need-enum-told
 enum-told c = search needs
 
--- src/blocked.rt:93:23
 enum-known-w : tie.Need-enum-known-w
 enum-known-w c = search needs
 
--- src/blocked.rt:93:39
 state-at-requires : tie.Need-state-at-requires
 state-at-requires c κs = (search needs, (rw (c .before .w .given .1) at (c .before .before .before .before .pre .1)))
 
--- src/blocked.rt:93:29
 waits-for-requires : tie.Need-waits-for-requires
 waits-for-requires c κs = search needs
 
--- src/blocked.rt:97:14
 enum-told-2 : tie.Need-enum-told-2
 enum-told-2 c = search needs
 
--- src/blocked.rt:87:1
 returns : tie.Need-returns
 unfolding awaiter-blocked
 returns c = rw (c .enum-told .given .1)
 
--- src/blocked.rt:87:1
 returns-2 : tie.Need-returns-2
 unfolding awaiter-blocked
 returns-2 c = rw (c .before .before .before .w .given .1, ← c .before .state-at .ensures) (c .waits-for .ensures)
 
--- src/blocked.rt:87:1
 returns-3 : tie.Need-returns-3
 unfolding awaiter-blocked
 returns-3 c = rw (c .enum-told2 .given .1)

@@ -15,10 +15,6 @@ use Rattle.machine.specs.Sound.{awaiter-blocked}
 use Rattle.sound.specs.AwaiterLaws.{awaiter-fits}
 use Rattle.sound.proofs.blocked.awaiters_blocked.Statement.{statement}
 use Rattle.sound.proofs.blocked.awaiters_blocked.Tie as tie
-use Rattle.sound.proofs.blocked.awaiters_blocked.Reads as reads
-use Rattle.sound.proofs.blocked.awaiters_blocked.Lts as lts
-use Rattle.rows.proofs.parts.awaiter_at.Reads as awaiter-at-reads
-use Rattle.sound.proofs.blocked.awaiter_blocked.Reads as awaiter-blocked-reads
 
 abbrev Inv-loop : tie.InvT-loop
 Inv-loop made tasks objects o₀ o = (all-below o (λ (o : ℕ). awaiter-blocked (task-at tasks) o (awaiter-of (object-at objects o))) ≡ true) × (o ≤ made)
@@ -26,35 +22,27 @@ Inv-loop made tasks objects o₀ o = (all-below o (λ (o : ℕ). awaiter-blocked
 abbrev μ-loop : tie.MeasureT-loop
 μ-loop made tasks objects o₀ o = made - o
 
--- src/blocked.rt:107:5
 loop-holds : tie.Need-loop-holds Inv-loop μ-loop
 loop-holds c = (all-none _, omega arith)
 
--- src/blocked.rt:108:38
 awaiter-at-requires : tie.Need-awaiter-at-requires Inv-loop μ-loop
 awaiter-at-requires c κs = search needs
 
--- src/blocked.rt:108:12
 awaiter-blocked-requires : tie.Need-awaiter-blocked-requires Inv-loop μ-loop
 awaiter-blocked-requires c κs = (search needs, awaiter-fits _ _ (c .awaiter-at .ensures))
 
--- src/blocked.rt:109:13
 add-o : tie.Need-add-o Inv-loop μ-loop
 add-o c = omega arith
 
--- src/blocked.rt:107:5
 loop-less : tie.Need-loop-less Inv-loop μ-loop
 loop-less c = omega arith
 
--- src/blocked.rt:107:5
 loop-again : tie.Need-loop-again Inv-loop μ-loop
 loop-again c = (all-turn _ (c .before .before .before .before .loop .o) (sym (c .if1 .taken) ∙ c .before .awaiter-blocked .ensures ∙ ap (awaiter-blocked _ _) (c .before .before .awaiter-at .ensures)) (c .before .before .before .before .loop .inv .0), omega arith)
 
--- src/blocked.rt:111:13
 returns : tie.Need-returns Inv-loop μ-loop
 returns c = all-fails _ (c .before .before .before .before .loop .o) _ (c .before .before .before .loop-test .taken) (sym (c .if1 .left) ∙ c .before .awaiter-blocked .ensures ∙ ap (awaiter-blocked _ _) (c .before .before .awaiter-at .ensures))
 
--- src/blocked.rt:102:1
 returns-2 : tie.Need-returns-2 Inv-loop μ-loop
 returns-2 c = all-end _ (c .before .loop .o) _ (omega arith) (c .loop-test .left) (c .before .loop .inv .0)
 

@@ -12,74 +12,55 @@ use Rattle.machine.specs.Sound.{blocked-awaits}
 use borrow.Author.Needs.{needs}
 use Rattle.sound.proofs.blocked.blocked_awaits.Statement.{statement}
 use Rattle.sound.proofs.blocked.blocked_awaits.Tie as tie
-use Rattle.sound.proofs.blocked.blocked_awaits.Reads as reads
-use Rattle.sound.proofs.blocked.blocked_awaits.Lts as lts
-use Rattle.rows.proofs.parts.awaiter_at.Reads as awaiter-at-reads
-use Rattle.sound.proofs.blocked.is_task.Reads as is-task-reads
 
--- src/blocked.rt:41:30
 enum-told : tie.Need-enum-told
 enum-told c = search needs
 
--- src/blocked.rt:42:33
 enum-told-2 : tie.Need-enum-told-2
 enum-told-2 c = search needs
 
--- src/blocked.rt:43:31
 enum-told-3 : tie.Need-enum-told-3
 enum-told-3 c = search needs
 
--- src/blocked.rt:44:32
 enum-told-4 : tie.Need-enum-told-4
 enum-told-4 c = search needs
 
--- src/blocked.rt:45:33
 enum-told-5 : tie.Need-enum-told-5
 enum-told-5 c = search needs
 
--- src/blocked.rt:46:28
 enum-known-s : tie.Need-enum-known-s
 enum-known-s c = search needs
 
--- src/blocked.rt:48:35
 awaiter-at-requires : tie.Need-awaiter-at-requires
 awaiter-at-requires c κs = search needs
 
--- src/blocked.rt:48:17
 is-task-requires : tie.Need-is-task-requires
 is-task-requires c κs = search needs
 
--- src/blocked.rt:48:17
 returns : tie.Need-returns
 unfolding blocked-awaits blocked-on _and_
 returns c = rw (c .before .before .before .before .before .s .given .1, lt-ltb _ _ (c .before .before .if1 .taken), ← c .before .awaiter-at .ensures) (c .is-task .ensures)
 
--- src/blocked.rt:36:1
 returns-2 : tie.Need-returns-2
 unfolding blocked-awaits blocked-on
 returns-2 c = rw (c .enum-told .given .1)
 
--- src/blocked.rt:36:1
 returns-3 : tie.Need-returns-3
 unfolding blocked-awaits blocked-on
 returns-3 c = rw (c .enum-told2 .given .1)
 
--- src/blocked.rt:36:1
 returns-4 : tie.Need-returns-4
 unfolding blocked-awaits blocked-on
 returns-4 c = rw (c .enum-told3 .given .1)
 
--- src/blocked.rt:36:1
 returns-5 : tie.Need-returns-5
 unfolding blocked-awaits blocked-on
 returns-5 c = rw (c .enum-told4 .given .1)
 
--- src/blocked.rt:36:1
 returns-6 : tie.Need-returns-6
 unfolding blocked-awaits blocked-on
 returns-6 c = rw (c .enum-told5 .given .1)
 
--- src/blocked.rt:36:1
 returns-7 : tie.Need-returns-7
 unfolding blocked-awaits blocked-on _and_
 returns-7 c = rw (c .before .before .before .s .given .1, le-ltb _ _ (c .if1 .left))

@@ -11,25 +11,17 @@ use Rattle.sound.specs.Loops.{pass, stop}
 use borrow.Author.Needs.{needs}
 use Rattle.sound.proofs.blocked.blocked_match.Statement.{statement}
 use Rattle.sound.proofs.blocked.blocked_match.Tie as tie
-use Rattle.sound.proofs.blocked.blocked_match.Reads as reads
-use Rattle.sound.proofs.blocked.blocked_match.Lts as lts
-use Rattle.sound.proofs.blocked.awaiters_blocked.Reads as awaiters-blocked-reads
-use Rattle.sound.proofs.blocked.tasks_await.Reads as tasks-await-reads
 
--- src/blocked.rt:122:8
 tasks-await-requires : tie.Need-tasks-await-requires
 tasks-await-requires c κs = search needs
 
--- src/blocked.rt:123:9
 awaiters-blocked-requires : tie.Need-awaiters-blocked-requires
 awaiters-blocked-requires c κs = search needs
 
--- src/blocked.rt:123:9
 returns : tie.Need-returns
 unfolding blocked-match
 returns c = pass (sym (c .before .if1 .taken) ∙ c .before .before .tasks-await .ensures) (c .awaiters-blocked .ensures)
 
--- src/blocked.rt:118:1
 returns-2 : tie.Need-returns-2
 unfolding blocked-match
 returns-2 c = stop _ (sym (c .if1 .left) ∙ c .before .tasks-await .ensures)

@@ -10,32 +10,24 @@ use Rattle.machine.specs.Sound.{is-task}
 use borrow.Author.Needs.{needs}
 use Rattle.sound.proofs.blocked.is_task.Statement.{statement}
 use Rattle.sound.proofs.blocked.is_task.Tie as tie
-use Rattle.sound.proofs.blocked.is_task.Reads as reads
-use Rattle.sound.proofs.blocked.is_task.Lts as lts
 
--- src/blocked.rt:26:28
 enum-told : tie.Need-enum-told
 enum-told c = search needs
 
--- src/blocked.rt:27:23
 enum-known-w : tie.Need-enum-known-w
 enum-known-w c = search needs
 
--- src/blocked.rt:31:14
 enum-told-2 : tie.Need-enum-told-2
 enum-told-2 c = search needs
 
--- src/blocked.rt:22:1
 returns : tie.Need-returns
 unfolding is-task
 returns c = rw (c .enum-told .given .1)
 
--- src/blocked.rt:22:1
 returns-2 : tie.Need-returns-2
 unfolding is-task
 returns-2 c = rw (c .before .before .w .given .1)
 
--- src/blocked.rt:22:1
 returns-3 : tie.Need-returns-3
 unfolding is-task
 returns-3 c = rw (c .enum-told2 .given .1)

@@ -12,59 +12,45 @@ use Rattle.machine.specs.Sound.{blocked-at}
 use borrow.Author.Needs.{needs}
 use Rattle.sound.proofs.blocked.waits_for.Statement.{statement}
 use Rattle.sound.proofs.blocked.waits_for.Tie as tie
-use Rattle.sound.proofs.blocked.waits_for.Reads as reads
-use Rattle.sound.proofs.blocked.waits_for.Lts as lts
 
--- src/blocked.rt:77:30
 enum-told : tie.Need-enum-told
 enum-told c = search needs
 
--- src/blocked.rt:78:33
 enum-told-2 : tie.Need-enum-told-2
 enum-told-2 c = search needs
 
--- src/blocked.rt:79:31
 enum-told-3 : tie.Need-enum-told-3
 enum-told-3 c = search needs
 
--- src/blocked.rt:80:32
 enum-told-4 : tie.Need-enum-told-4
 enum-told-4 c = search needs
 
--- src/blocked.rt:81:33
 enum-told-5 : tie.Need-enum-told-5
 enum-told-5 c = search needs
 
--- src/blocked.rt:82:28
 enum-known-s : tie.Need-enum-known-s
 enum-known-s c = search needs
 
--- src/blocked.rt:73:1
 returns : tie.Need-returns
 unfolding blocked-at blocked-on implies
 returns c = rw (c .enum-told .given .1)
 
--- src/blocked.rt:73:1
 returns-2 : tie.Need-returns-2
 unfolding blocked-at blocked-on implies
 returns-2 c = rw (c .enum-told2 .given .1)
 
--- src/blocked.rt:73:1
 returns-3 : tie.Need-returns-3
 unfolding blocked-at blocked-on implies
 returns-3 c = rw (c .enum-told3 .given .1)
 
--- src/blocked.rt:73:1
 returns-4 : tie.Need-returns-4
 unfolding blocked-at blocked-on implies
 returns-4 c = rw (c .enum-told4 .given .1)
 
--- src/blocked.rt:73:1
 returns-5 : tie.Need-returns-5
 unfolding blocked-at blocked-on implies
 returns-5 c = rw (c .enum-told5 .given .1)
 
--- src/blocked.rt:73:1
 returns-6 : tie.Need-returns-6
 unfolding blocked-at blocked-on implies
 returns-6 c = rw (c .before .before .s .given .1)

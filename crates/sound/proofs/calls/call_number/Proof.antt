@@ -10,37 +10,25 @@ use Rattle.sound.specs.CallLaws.{number-pending, number-none}
 use borrow.Author.Needs.{needs}
 use Rattle.sound.proofs.calls.call_number.Statement.{statement}
 use Rattle.sound.proofs.calls.call_number.Tie as tie
-use Rattle.sound.proofs.calls.call_number.Reads as reads
-use Rattle.sound.proofs.calls.call_number.Lts as lts
-use Rattle.asyncio.proofs.Kind.is_pending_external.Reads as is-pending-external-reads
-use Rattle.rows.proofs.parts.call_at.Reads as call-at-reads
-use Rattle.rows.proofs.parts.kind_at.Reads as kind-at-reads
 
--- src/calls.rt:21:9
 kind-at-requires : tie.Need-kind-at-requires
 kind-at-requires c κs = search needs
 
--- src/calls.rt:22:8
 is-pending-external-requires : tie.Need-is-pending-external-requires
 is-pending-external-requires c κs = search needs
 
--- src/calls.rt:23:13
 call-at-requires : tie.Need-call-at-requires
 call-at-requires c κs = search needs
 
--- src/calls.rt:24:16
 cast-result : tie.Need-cast-result
 cast-result c = search needs
 
--- src/calls.rt:24:16
 add-result : tie.Need-add-result
 add-result c = search needs
 
--- src/calls.rt:24:9
 returns : tie.Need-returns
 returns c = number-pending _ _ (c .before .before .before .before .kind-at .ensures) (sym (c .before .before .before .is-pending-external .ensures) ∙ c .before .before .if1 .taken) (c .before .call-at .ensures)
 
--- src/calls.rt:17:1
 returns-2 : tie.Need-returns-2
 returns-2 c = number-none _ _ (c .before .before .kind-at .ensures) (sym (c .before .is-pending-external .ensures) ∙ c .if1 .left)
 

@@ -11,41 +11,30 @@ use Rattle.sound.specs.CallLaws.{distinct-told, distinct-ended}
 use borrow.Author.Needs.{needs}
 use Rattle.sound.proofs.calls.calls_distinct.Statement.{statement}
 use Rattle.sound.proofs.calls.calls_distinct.Tie as tie
-use Rattle.sound.proofs.calls.calls_distinct.Reads as reads
-use Rattle.sound.proofs.calls.calls_distinct.Lts as lts
-use Rattle.sound.proofs.calls.calls_new.Reads as calls-new-reads
 
--- src/calls.rt:74:31
 enum-told : tie.Need-enum-told
 enum-told c = search needs
 
--- src/calls.rt:74:31
 calls-new-requires : tie.Need-calls-new-requires
 calls-new-requires c κs = search needs
 
--- src/calls.rt:75:28
 enum-told-2 : tie.Need-enum-told-2
 enum-told-2 c = search needs
 
--- src/calls.rt:75:28
 calls-new-requires-2 : tie.Need-calls-new-requires-2
 calls-new-requires-2 c κs = search needs
 
--- src/calls.rt:76:26
 enum-told-3 : tie.Need-enum-told-3
 enum-told-3 c = search needs
 
--- src/calls.rt:68:1
 returns : tie.Need-returns
 unfolding is-ended
 returns c = distinct-told _ _ refl (rw (c .before .enum-told .given .1)) (c .calls-new .ensures)
 
--- src/calls.rt:68:1
 returns-2 : tie.Need-returns-2
 unfolding is-ended
 returns-2 c = distinct-told _ _ refl (rw (c .before .enum-told2 .given .1)) (c .calls-new2 .ensures)
 
--- src/calls.rt:68:1
 returns-3 : tie.Need-returns-3
 returns-3 c = distinct-ended _ _ (c .enum-told3 .given .1)
 

@@ -14,10 +14,6 @@ use Rattle.sound.specs.Loops.{all-none, all-turn, all-fails, all-end}
 use Rattle.sound.specs.CallLaws.{Highest, highest-none, highest-turn, call-none, call-high, call-looked}
 use Rattle.sound.proofs.calls.calls_new.Statement.{statement}
 use Rattle.sound.proofs.calls.calls_new.Tie as tie
-use Rattle.sound.proofs.calls.calls_new.Reads as reads
-use Rattle.sound.proofs.calls.calls_new.Lts as lts
-use Rattle.sound.proofs.calls.call_number.Reads as call-number-reads
-use Rattle.sound.proofs.calls.others_differ.Reads as others-differ-reads
 
 abbrev Inv-loop : tie.InvT-loop
 Inv-loop objects made top₀ o₀ top o = (all-below o (call-new (object-at objects)) ≡ true) × (o ≤ made) × Highest objects o top
@@ -25,23 +21,18 @@ Inv-loop objects made top₀ o₀ top o = (all-below o (call-new (object-at obje
 abbrev μ-loop : tie.MeasureT-loop
 μ-loop objects made top₀ o₀ top o = made - o
 
--- src/calls.rt:52:5
 loop-holds : tie.Need-loop-holds Inv-loop μ-loop
 loop-holds c = (all-none _, omega arith, highest-none _ _)
 
--- src/calls.rt:53:13
 call-number-requires : tie.Need-call-number-requires Inv-loop μ-loop
 call-number-requires c κs = search needs
 
--- src/calls.rt:55:13
 add-o : tie.Need-add-o Inv-loop μ-loop
 add-o c = omega arith
 
--- src/calls.rt:52:5
 loop-less : tie.Need-loop-less Inv-loop μ-loop
 loop-less c = omega arith
 
--- src/calls.rt:52:5
 loop-again : tie.Need-loop-again Inv-loop μ-loop
 loop-again c = (
   all-turn _ (c .before .before .before .loop .o) (call-none _ _ (c .before .call-number .ensures) (c .if1 .taken)) (c .before .before .before .loop .inv .0),
@@ -49,15 +40,12 @@ loop-again c = (
   highest-turn _ _ (c .before .before .before .loop .top) (c .before .before .before .loop .top) (omega arith) (omega (arith, c .before .call-number .ensures)) (c .before .before .before .loop .inv .2),
 )
 
--- src/calls.rt:58:13
 add-o-2 : tie.Need-add-o-2 Inv-loop μ-loop
 add-o-2 c = omega arith
 
--- src/calls.rt:52:5
 loop-less-2 : tie.Need-loop-less-2 Inv-loop μ-loop
 loop-less-2 c = omega arith
 
--- src/calls.rt:52:5
 loop-again-2 : tie.Need-loop-again-2 Inv-loop μ-loop
 loop-again-2 c = (
   all-turn _ (c .before .before .before .before .loop .o) (call-high _ _ (c .before .before .before .before .loop .top) (c .before .before .call-number .ensures) (c .if2 .taken) (c .before .before .before .before .loop .inv .2)) (c .before .before .before .before .loop .inv .0),
@@ -65,19 +53,15 @@ loop-again-2 c = (
   highest-turn _ _ (c .before .before .before .before .loop .top) _ (omega arith) (omega (arith, c .before .before .call-number .ensures)) (c .before .before .before .before .loop .inv .2),
 )
 
--- src/calls.rt:59:19
 others-differ-requires : tie.Need-others-differ-requires Inv-loop μ-loop
 others-differ-requires c κs = search needs
 
--- src/calls.rt:60:13
 add-o-3 : tie.Need-add-o-3 Inv-loop μ-loop
 add-o-3 c = omega arith
 
--- src/calls.rt:52:5
 loop-less-3 : tie.Need-loop-less-3 Inv-loop μ-loop
 loop-less-3 c = omega arith
 
--- src/calls.rt:52:5
 loop-again-3 : tie.Need-loop-again-3 Inv-loop μ-loop
 loop-again-3 c = (
   all-turn _ (c .before .before .before .before .before .before .loop .o) (sym (c .if3 .taken) ∙ call-looked _ _ (c .before .before .before .before .call-number .ensures) (c .before .before .before .if1 .left) (c .before .others-differ .ensures)) (c .before .before .before .before .before .before .loop .inv .0),
@@ -85,11 +69,9 @@ loop-again-3 c = (
   highest-turn _ _ (c .before .before .before .before .before .before .loop .top) (c .before .before .before .before .before .before .loop .top) (omega arith) (omega (arith, c .before .before .before .before .call-number .ensures)) (c .before .before .before .before .before .before .loop .inv .2),
 )
 
--- src/calls.rt:62:13
 returns : tie.Need-returns Inv-loop μ-loop
 returns c = all-fails _ (c .before .before .before .before .before .before .loop .o) _ (c .before .before .before .before .before .loop-test .taken) (sym (c .if3 .left) ∙ call-looked _ _ (c .before .before .before .before .call-number .ensures) (c .before .before .before .if1 .left) (c .before .others-differ .ensures))
 
--- src/calls.rt:46:1
 returns-2 : tie.Need-returns-2 Inv-loop μ-loop
 returns-2 c = all-end _ (c .before .loop .o) _ (omega arith) (c .loop-test .left) (c .before .loop .inv .0)
 

@@ -12,9 +12,6 @@ use Rattle.sound.specs.Loops.{all-none, all-turn, all-fails, all-end}
 use Rattle.sound.specs.CallLaws.{other-call}
 use Rattle.sound.proofs.calls.others_differ.Statement.{statement}
 use Rattle.sound.proofs.calls.others_differ.Tie as tie
-use Rattle.sound.proofs.calls.others_differ.Reads as reads
-use Rattle.sound.proofs.calls.others_differ.Lts as lts
-use Rattle.sound.proofs.calls.call_number.Reads as call-number-reads
 
 abbrev Inv-loop : tie.InvT-loop
 Inv-loop objects c n p₀ p = (all-below p (other-call objects c) ≡ true) × (p ≤ n)
@@ -22,33 +19,26 @@ Inv-loop objects c n p₀ p = (all-below p (other-call objects c) ≡ true) × (
 abbrev μ-loop : tie.MeasureT-loop
 μ-loop objects c n p₀ p = n - p
 
--- src/calls.rt:35:5
 loop-holds : tie.Need-loop-holds Inv-loop μ-loop
 loop-holds c = (all-none _, omega arith)
 
--- src/calls.rt:36:13
 call-number-requires : tie.Need-call-number-requires Inv-loop μ-loop
 call-number-requires c κs = search needs
 
--- src/calls.rt:38:13
 returns : tie.Need-returns Inv-loop μ-loop
 unfolding other-call
 returns c = all-fails _ (c .before .before .before .loop .p) _ (c .before .before .loop-test .taken) (rw (← c .before .call-number .ensures, eq-eqb _ _ (c .if1 .taken)))
 
--- src/calls.rt:40:9
 add-p : tie.Need-add-p Inv-loop μ-loop
 add-p c = omega arith
 
--- src/calls.rt:35:5
 loop-less : tie.Need-loop-less Inv-loop μ-loop
 loop-less c = omega arith
 
--- src/calls.rt:35:5
 loop-again : tie.Need-loop-again Inv-loop μ-loop
 unfolding other-call
 loop-again c = (all-turn _ (c .before .before .before .loop .p) (rw (← c .before .call-number .ensures, ne-eqb _ _ (c .if1 .left))) (c .before .before .before .loop .inv .0), omega arith)
 
--- src/calls.rt:30:1
 returns-2 : tie.Need-returns-2 Inv-loop μ-loop
 returns-2 c = all-end _ (c .before .loop .p) _ (omega arith) (c .loop-test .left) (c .before .loop .inv .0)
 

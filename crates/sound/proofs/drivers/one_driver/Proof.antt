@@ -16,11 +16,6 @@ use Rattle.sound.specs.Marks.{Marks, marks-zeros}
 use Rattle.sound.specs.DriverLaws.{driven, coroutine-fits, driver-main, marks-main, driver-dead, marks-dead, driver-second, driver-first, marks-live}
 use Rattle.sound.proofs.drivers.one_driver.Statement.{statement}
 use Rattle.sound.proofs.drivers.one_driver.Tie as tie
-use Rattle.sound.proofs.drivers.one_driver.Reads as reads
-use Rattle.sound.proofs.drivers.one_driver.Lts as lts
-use Rattle.asyncio.proofs.TaskState.is_live.Reads as is-live-reads
-use Rattle.rows.proofs.parts.coroutine_at.Reads as coroutine-at-reads
-use Rattle.rows.proofs.parts.state_at.Reads as state-at-reads
 
 abbrev Inv-loop : tie.InvT-loop
 Inv-loop next tasks seen₀ t₀ seen t = (all-below t (sole-driver (task-at tasks)) ≡ true) × (t ≤ next) × Marks seen object-limit t (driven tasks)
@@ -28,23 +23,18 @@ Inv-loop next tasks seen₀ t₀ seen t = (all-below t (sole-driver (task-at tas
 abbrev μ-loop : tie.MeasureT-loop
 μ-loop next tasks seen₀ t₀ seen t = next - t
 
--- src/drivers.rt:19:5
 loop-holds : tie.Need-loop-holds Inv-loop μ-loop
 loop-holds c = (all-none _, omega arith, marks-zeros object-limit _)
 
--- src/drivers.rt:20:13
 state-at-requires : tie.Need-state-at-requires Inv-loop μ-loop
 state-at-requires c κs = search needs
 
--- src/drivers.rt:22:13
 add-t : tie.Need-add-t Inv-loop μ-loop
 add-t c = omega arith
 
--- src/drivers.rt:19:5
 loop-less : tie.Need-loop-less Inv-loop μ-loop
 loop-less c = omega arith
 
--- src/drivers.rt:19:5
 loop-again : tie.Need-loop-again Inv-loop μ-loop
 loop-again c = (
   all-turn _ (c .before .before .before .loop .t) (driver-main _ (c .before .before .before .loop .seen) _ (c .before .before .before .loop .inv .2) (c .if1 .taken)) (c .before .before .before .loop .inv .0),
@@ -52,40 +42,31 @@ loop-again c = (
   marks-main _ (c .before .before .before .loop .seen) _ (c .before .before .before .loop .inv .2) (c .if1 .taken),
 )
 
--- src/drivers.rt:23:19
 is-live-requires : tie.Need-is-live-requires Inv-loop μ-loop
 is-live-requires c κs = search needs
 
--- src/drivers.rt:24:17
 coroutine-at-requires : tie.Need-coroutine-at-requires Inv-loop μ-loop
 coroutine-at-requires c κs = search needs
 
--- src/drivers.rt:25:21
 cast-k : tie.Need-cast-k Inv-loop μ-loop
 cast-k c = omega arith
 
--- src/drivers.rt:26:16
 array-read-if3 : tie.Need-array-read-if3 Inv-loop μ-loop
 array-read-if3 c = omega (arith, coroutine-fits _ _ (c .before .coroutine-at .ensures), c .before .before .before .before .before .before .before .loop .inv .2 .long)
 
--- src/drivers.rt:27:17
 returns : tie.Need-returns Inv-loop μ-loop
 unfolding one-driver
 returns c = all-fails _ (c .before .before .before .before .before .before .before .before .loop .t) _ (c .before .before .before .before .before .before .before .loop-test .taken) (driver-second _ (c .before .before .before .before .before .before .before .before .loop .seen) _ (c .before .before .before .before .before .before .before .before .loop .inv .2) (c .before .before .before .before .before .before .state-at .ensures) (c .before .before .before .before .before .if1 .left) (sym (c .before .before .before .before .is-live .ensures) ∙ c .before .before .before .if2 .taken) (c .before .before .coroutine-at .ensures) (c .if3 .taken))
 
--- src/drivers.rt:29:13
 array-write-seen : tie.Need-array-write-seen Inv-loop μ-loop
 array-write-seen c = omega (arith, coroutine-fits _ _ (c .before .before .coroutine-at .ensures), c .before .before .before .before .before .before .before .before .loop .inv .2 .long)
 
--- src/drivers.rt:30:13
 add-t-2 : tie.Need-add-t-2 Inv-loop μ-loop
 add-t-2 c = omega arith
 
--- src/drivers.rt:19:5
 loop-less-2 : tie.Need-loop-less-2 Inv-loop μ-loop
 loop-less-2 c = omega arith
 
--- src/drivers.rt:19:5
 loop-again-2 : tie.Need-loop-again-2 Inv-loop μ-loop
 loop-again-2 c = (
   all-turn _ (c .before .before .before .before .before .before .before .before .loop .t) (driver-first _ (c .before .before .before .before .before .before .before .before .loop .seen) _ (c .before .before .before .before .before .before .before .before .loop .inv .2) (c .before .before .before .before .before .before .state-at .ensures) (c .before .before .before .before .before .if1 .left) (sym (c .before .before .before .before .is-live .ensures) ∙ c .before .before .before .if2 .taken) (c .before .before .coroutine-at .ensures) (c .if3 .left)) (c .before .before .before .before .before .before .before .before .loop .inv .0),
@@ -93,15 +74,12 @@ loop-again-2 c = (
   marks-live _ (c .before .before .before .before .before .before .before .before .loop .seen) _ (c .before .before .before .before .before .before .before .before .loop .inv .2) (c .before .before .before .before .before .before .state-at .ensures) (c .before .before .before .before .before .if1 .left) (sym (c .before .before .before .before .is-live .ensures) ∙ c .before .before .before .if2 .taken) (c .before .before .coroutine-at .ensures),
 )
 
--- src/drivers.rt:32:13
 add-t-3 : tie.Need-add-t-3 Inv-loop μ-loop
 add-t-3 c = omega arith
 
--- src/drivers.rt:19:5
 loop-less-3 : tie.Need-loop-less-3 Inv-loop μ-loop
 loop-less-3 c = omega arith
 
--- src/drivers.rt:19:5
 loop-again-3 : tie.Need-loop-again-3 Inv-loop μ-loop
 loop-again-3 c = (
   all-turn _ (c .before .before .before .before .before .loop .t) (driver-dead _ (c .before .before .before .before .before .loop .seen) _ (c .before .before .before .before .before .loop .inv .2) (c .before .before .before .state-at .ensures) (sym (c .before .is-live .ensures) ∙ c .if2 .left)) (c .before .before .before .before .before .loop .inv .0),
@@ -109,7 +87,6 @@ loop-again-3 c = (
   marks-dead _ (c .before .before .before .before .before .loop .seen) _ (c .before .before .before .before .before .loop .inv .2) (c .before .before .before .state-at .ensures) (sym (c .before .is-live .ensures) ∙ c .if2 .left),
 )
 
--- src/drivers.rt:13:1
 returns-2 : tie.Need-returns-2 Inv-loop μ-loop
 unfolding one-driver
 returns-2 c = all-end _ (c .before .loop .t) _ (omega arith) (c .loop-test .left) (c .before .loop .inv .0)

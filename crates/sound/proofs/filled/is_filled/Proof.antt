@@ -10,23 +10,17 @@ use Rattle.machine.specs.Sound.{is-filled}
 use borrow.Author.Needs.{needs}
 use Rattle.sound.proofs.filled.is_filled.Statement.{statement}
 use Rattle.sound.proofs.filled.is_filled.Tie as tie
-use Rattle.sound.proofs.filled.is_filled.Reads as reads
-use Rattle.sound.proofs.filled.is_filled.Lts as lts
 
--- src/filled.rt:23:30
 enum-told : tie.Need-enum-told
 enum-told c = search needs
 
--- src/filled.rt:24:33
 enum-told-2 : tie.Need-enum-told-2
 enum-told-2 c = search needs
 
--- src/filled.rt:19:1
 returns : tie.Need-returns
 unfolding is-filled
 returns c = rw (c .enum-told .given .1)
 
--- src/filled.rt:19:1
 returns-2 : tie.Need-returns-2
 unfolding is-filled
 returns-2 c = rw (c .enum-told2 .given .1)

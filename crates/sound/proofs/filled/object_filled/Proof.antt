@@ -12,77 +12,52 @@ use Rattle.sound.specs.FilledLaws.{filled-other, filled-completed, fille
 use borrow.Author.Needs.{needs}
 use Rattle.sound.proofs.filled.object_filled.Statement.{statement}
 use Rattle.sound.proofs.filled.object_filled.Tie as tie
-use Rattle.sound.proofs.filled.object_filled.Reads as reads
-use Rattle.sound.proofs.filled.object_filled.Lts as lts
-use Rattle.asyncio.proofs.Kind.is_awaited.Reads as is-awaited-reads
-use Rattle.asyncio.proofs.Kind.is_completed.Reads as is-completed-reads
-use Rattle.rows.proofs.parts.count_at.Reads as count-at-reads
-use Rattle.rows.proofs.parts.first_at.Reads as first-at-reads
-use Rattle.rows.proofs.parts.kind_at.Reads as kind-at-reads
-use Rattle.rows.proofs.parts.open_at.Reads as open-at-reads
-use Rattle.sound.proofs.filled.rest_filled.Reads as rest-filled-reads
 
--- src/filled.rt:60:9
 kind-at-requires : tie.Need-kind-at-requires
 kind-at-requires c κs = search needs
 
--- src/filled.rt:61:9
 first-at-requires : tie.Need-first-at-requires
 first-at-requires c κs = search needs
 
--- src/filled.rt:62:9
 count-at-requires : tie.Need-count-at-requires
 count-at-requires c κs = search needs
 
--- src/filled.rt:63:8
 is-awaited-requires : tie.Need-is-awaited-requires
 is-awaited-requires c κs = search needs
 
--- src/filled.rt:64:13
 open-at-requires : tie.Need-open-at-requires
 open-at-requires c κs = search needs
 
--- src/filled.rt:66:13
 returns : tie.Need-returns
 returns c = filled-shut _ _ _ (c .before .before .before .before .before .before .kind-at .ensures) (sym (c .before .before .before .is-awaited .ensures) ∙ c .before .before .if1 .taken) (c .before .open-at .ensures) (c .if2 .taken)
 
--- src/filled.rt:68:36
 cast-rest-filled : tie.Need-cast-rest-filled
 cast-rest-filled c = search needs
 
--- src/filled.rt:68:52
 cast-rest-filled-2 : tie.Need-cast-rest-filled-2
 cast-rest-filled-2 c = search needs
 
--- src/filled.rt:68:9
 rest-filled-requires : tie.Need-rest-filled-requires
 rest-filled-requires c κs = (search needs, omega (arith, places-fit (now (c .before .before .before .before .before .before .before .before .before .args .objects)) (c .before .before .before .before .before .before .before .before .before .args .o) (c .before .before .before .before .before .first-at .ensures) (c .before .before .before .before .count-at .ensures) .within), omega (arith, places-fit (now (c .before .before .before .before .before .before .before .before .before .args .objects)) (c .before .before .before .before .before .before .before .before .before .args .o) (c .before .before .before .before .before .first-at .ensures) (c .before .before .before .before .count-at .ensures) .at-most))
 
--- src/filled.rt:68:9
 returns-2 : tie.Need-returns-2
 returns-2 c = filled-awaited _ _ _ (c .before .before .before .before .before .before .before .kind-at .ensures) (c .before .before .before .before .before .before .first-at .ensures) (c .before .before .before .before .before .count-at .ensures) (sym (c .before .before .before .before .is-awaited .ensures) ∙ c .before .before .before .if1 .taken) (c .before .before .open-at .ensures) (c .before .if2 .left) (c .rest-filled .ensures)
 
--- src/filled.rt:70:8
 is-completed-requires : tie.Need-is-completed-requires
 is-completed-requires c κs = search needs
 
--- src/filled.rt:71:36
 cast-rest-filled-3 : tie.Need-cast-rest-filled-3
 cast-rest-filled-3 c = search needs
 
--- src/filled.rt:71:52
 cast-rest-filled-4 : tie.Need-cast-rest-filled-4
 cast-rest-filled-4 c = search needs
 
--- src/filled.rt:71:9
 rest-filled-requires-2 : tie.Need-rest-filled-requires-2
 rest-filled-requires-2 c κs = (search needs, omega (arith, places-fit (now (c .before .before .before .before .before .before .before .before .before .args .objects)) (c .before .before .before .before .before .before .before .before .before .args .o) (c .before .before .before .before .before .first-at .ensures) (c .before .before .before .before .count-at .ensures) .within), omega (arith, places-fit (now (c .before .before .before .before .before .before .before .before .before .args .objects)) (c .before .before .before .before .before .before .before .before .before .args .o) (c .before .before .before .before .before .first-at .ensures) (c .before .before .before .before .count-at .ensures) .at-most))
 
--- src/filled.rt:71:9
 returns-3 : tie.Need-returns-3
 returns-3 c = filled-completed _ _ _ (c .before .before .before .before .before .before .before .kind-at .ensures) (c .before .before .before .before .before .before .first-at .ensures) (c .before .before .before .before .before .count-at .ensures) (sym (c .before .before .before .before .is-awaited .ensures) ∙ c .before .before .before .if1 .left) (sym (c .before .before .is-completed .ensures) ∙ c .before .if3 .taken) (c .rest-filled2 .ensures)
 
--- src/filled.rt:56:1
 returns-4 : tie.Need-returns-4
 returns-4 c = filled-other _ _ _ (c .before .before .before .before .before .before .kind-at .ensures) (sym (c .before .before .before .is-awaited .ensures) ∙ c .before .before .if1 .left) (sym (c .before .is-completed .ensures) ∙ c .if3 .left)
 

@@ -10,36 +10,25 @@ use Rattle.sound.specs.FilledLaws.{place-shut, place-open}
 use borrow.Author.Needs.{needs}
 use Rattle.sound.proofs.filled.place_done.Statement.{statement}
 use Rattle.sound.proofs.filled.place_done.Tie as tie
-use Rattle.sound.proofs.filled.place_done.Reads as reads
-use Rattle.sound.proofs.filled.place_done.Lts as lts
-use Rattle.rows.proofs.parts.result_at.Reads as result-at-reads
-use Rattle.sound.proofs.filled.is_filled.Reads as is-filled-reads
 
--- src/filled.rt:33:14
 cast-if1 : tie.Need-cast-if1
 cast-if1 c = search needs
 
--- src/filled.rt:33:9
 shr-if1 : tie.Need-shr-if1
 shr-if1 c = search needs
 
--- src/filled.rt:34:44
 add-result-at : tie.Need-add-result-at
 add-result-at c = search needs
 
--- src/filled.rt:34:26
 result-at-requires : tie.Need-result-at-requires
 result-at-requires c κs = search needs
 
--- src/filled.rt:34:9
 is-filled-requires : tie.Need-is-filled-requires
 is-filled-requires c κs = search needs
 
--- src/filled.rt:34:9
 returns : tie.Need-returns
 returns c = place-shut _ _ _ _ (c .before .before .if1 .taken) (c .before .result-at .ensures) (c .is-filled .ensures)
 
--- src/filled.rt:29:1
 returns-2 : tie.Need-returns-2
 returns-2 c = place-open _ _ _ _ (c .if1 .left)
 

@@ -13,9 +13,6 @@ use Rattle.rows.specs.Tables.{object-at, place-at}
 use Rattle.machine.specs.Sound.{object-filled, places-filled}
 use Rattle.sound.proofs.filled.places_filled.Statement.{statement}
 use Rattle.sound.proofs.filled.places_filled.Tie as tie
-use Rattle.sound.proofs.filled.places_filled.Reads as reads
-use Rattle.sound.proofs.filled.places_filled.Lts as lts
-use Rattle.sound.proofs.filled.object_filled.Reads as object-filled-reads
 
 abbrev Inv-loop : tie.InvT-loop
 Inv-loop made objects places o₀ o = (all-below o (λ (g : ℕ). object-filled (place-at places) (object-at objects g)) ≡ true) × (o ≤ made)
@@ -23,32 +20,25 @@ Inv-loop made objects places o₀ o = (all-below o (λ (g : ℕ). object-filled 
 abbrev μ-loop : tie.MeasureT-loop
 μ-loop made objects places o₀ o = made - o
 
--- src/filled.rt:82:5
 loop-holds : tie.Need-loop-holds Inv-loop μ-loop
 loop-holds c = (all-none _, omega arith)
 
--- src/filled.rt:83:12
 object-filled-requires : tie.Need-object-filled-requires Inv-loop μ-loop
 object-filled-requires c κs = search needs
 
--- src/filled.rt:84:13
 add-o : tie.Need-add-o Inv-loop μ-loop
 add-o c = omega arith
 
--- src/filled.rt:82:5
 loop-less : tie.Need-loop-less Inv-loop μ-loop
 loop-less c = omega arith
 
--- src/filled.rt:82:5
 loop-again : tie.Need-loop-again Inv-loop μ-loop
 loop-again c = (all-turn _ (c .before .before .before .loop .o) (sym (c .if1 .taken) ∙ c .before .object-filled .ensures) (c .before .before .before .loop .inv .0), omega arith)
 
--- src/filled.rt:86:13
 returns : tie.Need-returns Inv-loop μ-loop
 unfolding places-filled
 returns c = all-fails _ (c .before .before .before .loop .o) _ (c .before .before .loop-test .taken) (sym (c .if1 .left) ∙ c .before .object-filled .ensures)
 
--- src/filled.rt:77:1
 returns-2 : tie.Need-returns-2 Inv-loop μ-loop
 unfolding places-filled
 returns-2 c = all-end _ (c .before .loop .o) _ (omega arith) (c .loop-test .left) (c .before .loop .inv .0)

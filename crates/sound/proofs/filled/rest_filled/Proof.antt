@@ -15,9 +15,6 @@ use Rattle.machine.specs.Scheduler.{bit}
 use Rattle.machine.specs.Sound.{is-filled, rest-filled}
 use Rattle.sound.proofs.filled.rest_filled.Statement.{statement}
 use Rattle.sound.proofs.filled.rest_filled.Tie as tie
-use Rattle.sound.proofs.filled.rest_filled.Reads as reads
-use Rattle.sound.proofs.filled.rest_filled.Lts as lts
-use Rattle.sound.proofs.filled.place_done.Reads as place-done-reads
 
 abbrev Inv-loop : tie.InvT-loop
 Inv-loop places first n m k₀ k = (all-below k (λ (i : ℕ). bit m i || is-filled (place-at places (first + i) .result)) ≡ true) × (k ≤ n)
@@ -25,32 +22,25 @@ Inv-loop places first n m k₀ k = (all-below k (λ (i : ℕ). bit m i || is-fil
 abbrev μ-loop : tie.MeasureT-loop
 μ-loop places first n m k₀ k = n - k
 
--- src/filled.rt:45:5
 loop-holds : tie.Need-loop-holds Inv-loop μ-loop
 loop-holds c = (all-none _, omega arith)
 
--- src/filled.rt:46:12
 place-done-requires : tie.Need-place-done-requires Inv-loop μ-loop
 place-done-requires c κs = search needs
 
--- src/filled.rt:47:13
 add-k : tie.Need-add-k Inv-loop μ-loop
 add-k c = omega arith
 
--- src/filled.rt:45:5
 loop-less : tie.Need-loop-less Inv-loop μ-loop
 loop-less c = omega arith
 
--- src/filled.rt:45:5
 loop-again : tie.Need-loop-again Inv-loop μ-loop
 loop-again c = (all-turn _ (c .before .before .before .loop .k) (sym (c .if1 .taken) ∙ c .before .place-done .ensures) (c .before .before .before .loop .inv .0), omega arith)
 
--- src/filled.rt:49:13
 returns : tie.Need-returns Inv-loop μ-loop
 unfolding rest-filled
 returns c = all-fails _ (c .before .before .before .loop .k) _ (c .before .before .loop-test .taken) (sym (c .if1 .left) ∙ c .before .place-done .ensures)
 
--- src/filled.rt:40:1
 returns-2 : tie.Need-returns-2 Inv-loop μ-loop
 unfolding rest-filled
 returns-2 c = all-end _ (c .before .loop .k) _ (omega arith) (c .loop-test .left) (c .before .loop .inv .0)

@@ -10,32 +10,24 @@ use Rattle.machine.specs.Sound.{awaiter-in-range}
 use borrow.Author.Needs.{needs}
 use Rattle.sound.proofs.numbers.awaiter_in_range.Statement.{statement}
 use Rattle.sound.proofs.numbers.awaiter_in_range.Tie as tie
-use Rattle.sound.proofs.numbers.awaiter_in_range.Reads as reads
-use Rattle.sound.proofs.numbers.awaiter_in_range.Lts as lts
 
--- src/numbers.rt:33:28
 enum-told : tie.Need-enum-told
 enum-told c = search needs
 
--- src/numbers.rt:34:23
 enum-known-w : tie.Need-enum-known-w
 enum-known-w c = search needs
 
--- src/numbers.rt:35:31
 enum-known-w-2 : tie.Need-enum-known-w-2
 enum-known-w-2 c = search needs
 
--- src/numbers.rt:29:1
 returns : tie.Need-returns
 unfolding awaiter-in-range
 returns c = rw (c .enum-told .given .1)
 
--- src/numbers.rt:29:1
 returns-2 : tie.Need-returns-2
 unfolding awaiter-in-range
 returns-2 c = rw (c .before .before .before .w .given .1)
 
--- src/numbers.rt:29:1
 returns-3 : tie.Need-returns-3
 unfolding awaiter-in-range
 returns-3 c = rw (c .before .before .before .w2 .given .1)

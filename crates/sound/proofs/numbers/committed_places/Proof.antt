@@ -14,11 +14,6 @@ use Rattle.sound.specs.Loops.{sum-none}
 use Rattle.sound.specs.NumberLaws.{count-fits, committed-turn, committed-skip}
 use Rattle.sound.proofs.numbers.committed_places.Statement.{statement}
 use Rattle.sound.proofs.numbers.committed_places.Tie as tie
-use Rattle.sound.proofs.numbers.committed_places.Reads as reads
-use Rattle.sound.proofs.numbers.committed_places.Lts as lts
-use Rattle.asyncio.proofs.Kind.is_committed.Reads as is-committed-reads
-use Rattle.rows.proofs.parts.count_at.Reads as count-at-reads
-use Rattle.rows.proofs.parts.kind_at.Reads as kind-at-reads
 
 abbrev Inv-loop : tie.InvT-loop
 Inv-loop objects made sum₀ o₀ sum o = (sum ≡ sum-below o (λ (i : ℕ). committed-places (object-at objects i))) × (o ≤ made) × (sum ≤ 32 * o)
@@ -26,35 +21,27 @@ Inv-loop objects made sum₀ o₀ sum o = (sum ≡ sum-below o (λ (i : ℕ). co
 abbrev μ-loop : tie.MeasureT-loop
 μ-loop objects made sum₀ o₀ sum o = made - o
 
--- src/numbers.rt:177:5
 loop-holds : tie.Need-loop-holds Inv-loop μ-loop
 loop-holds c = (sum-none _, omega arith, omega arith)
 
--- src/numbers.rt:178:13
 kind-at-requires : tie.Need-kind-at-requires Inv-loop μ-loop
 kind-at-requires c κs = search needs
 
--- src/numbers.rt:179:12
 is-committed-requires : tie.Need-is-committed-requires Inv-loop μ-loop
 is-committed-requires c κs = search needs
 
--- src/numbers.rt:180:20
 count-at-requires : tie.Need-count-at-requires Inv-loop μ-loop
 count-at-requires c κs = search needs
 
--- src/numbers.rt:180:13
 add-sum : tie.Need-add-sum Inv-loop μ-loop
 add-sum c = omega (arith, count-fits (now (c .before .before .before .before .before .before .before .args .objects)) (c .before .before .before .before .before .loop .o) (c .count-at .ensures))
 
--- src/numbers.rt:181:13
 add-o : tie.Need-add-o Inv-loop μ-loop
 add-o c = omega arith
 
--- src/numbers.rt:177:5
 loop-less : tie.Need-loop-less Inv-loop μ-loop
 loop-less c = omega arith
 
--- src/numbers.rt:177:5
 loop-again : tie.Need-loop-again Inv-loop μ-loop
 loop-again c = (
   committed-turn _ (c .before .before .before .before .before .loop .o) (c .before .before .before .before .before .loop .sum) (c .before .before .before .before .before .loop .inv .0) (c .before .before .before .kind-at .ensures) (sym (c .before .before .is-committed .ensures) ∙ c .before .if1 .taken) (c .count-at .ensures),
@@ -62,19 +49,15 @@ loop-again c = (
   omega (arith, count-fits (now (c .before .before .before .before .before .before .before .args .objects)) (c .before .before .before .before .before .loop .o) (c .count-at .ensures)),
 )
 
--- src/numbers.rt:183:13
 add-o-2 : tie.Need-add-o-2 Inv-loop μ-loop
 add-o-2 c = omega arith
 
--- src/numbers.rt:177:5
 loop-less-2 : tie.Need-loop-less-2 Inv-loop μ-loop
 loop-less-2 c = omega arith
 
--- src/numbers.rt:177:5
 loop-again-2 : tie.Need-loop-again-2 Inv-loop μ-loop
 loop-again-2 c = (committed-skip _ (c .before .before .before .before .loop .o) (c .before .before .before .before .loop .sum) (c .before .before .before .before .loop .inv .0) (c .before .before .kind-at .ensures) (sym (c .before .is-committed .ensures) ∙ c .if1 .left), omega arith, omega arith)
 
--- src/numbers.rt:171:1
 returns : tie.Need-returns Inv-loop μ-loop
 returns c = (let e : c .before .loop .o ≡ c .before .before .before .args .made = omega arith in rw e at (c .before .loop .inv .0), omega arith)
 

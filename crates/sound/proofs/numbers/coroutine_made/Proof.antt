@@ -11,24 +11,16 @@ use Rattle.sound.specs.Loops.{pass, stop}
 use borrow.Author.Needs.{needs}
 use Rattle.sound.proofs.numbers.coroutine_made.Statement.{statement}
 use Rattle.sound.proofs.numbers.coroutine_made.Tie as tie
-use Rattle.sound.proofs.numbers.coroutine_made.Reads as reads
-use Rattle.sound.proofs.numbers.coroutine_made.Lts as lts
-use Rattle.asyncio.proofs.Kind.is_coroutine.Reads as is-coroutine-reads
-use Rattle.rows.proofs.parts.kind_at.Reads as kind-at-reads
 
--- src/numbers.rt:106:13
 kind-at-requires : tie.Need-kind-at-requires
 kind-at-requires c κs = search needs
 
--- src/numbers.rt:107:9
 is-coroutine-requires : tie.Need-is-coroutine-requires
 is-coroutine-requires c κs = search needs
 
--- src/numbers.rt:107:9
 returns : tie.Need-returns
 returns c = pass (sym (lt-ltb _ _ (c .before .before .if1 .taken))) (rw (← c .before .kind-at .ensures) (c .is-coroutine .ensures))
 
--- src/numbers.rt:101:1
 returns-2 : tie.Need-returns-2
 returns-2 c = stop _ (sym (le-ltb _ _ (c .if1 .left)))
 

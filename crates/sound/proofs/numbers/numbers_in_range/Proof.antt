@@ -10,28 +10,19 @@ use Rattle.sound.specs.NumberLaws.{none-next, numbers-fail, numbers-end}
 use borrow.Author.Needs.{needs}
 use Rattle.sound.proofs.numbers.numbers_in_range.Statement.{statement}
 use Rattle.sound.proofs.numbers.numbers_in_range.Tie as tie
-use Rattle.sound.proofs.numbers.numbers_in_range.Reads as reads
-use Rattle.sound.proofs.numbers.numbers_in_range.Lts as lts
-use Rattle.sound.proofs.numbers.objects_in_range.Reads as objects-in-range-reads
-use Rattle.sound.proofs.numbers.tasks_in_range.Reads as tasks-in-range-reads
 
--- src/numbers.rt:160:9
 returns : tie.Need-returns
 returns c = none-next _ _ _ (c .if1 .taken)
 
--- src/numbers.rt:162:8
 objects-in-range-requires : tie.Need-objects-in-range-requires
 objects-in-range-requires c κs = search needs
 
--- src/numbers.rt:163:9
 tasks-in-range-requires : tie.Need-tasks-in-range-requires
 tasks-in-range-requires c κs = search needs
 
--- src/numbers.rt:163:9
 returns-2 : tie.Need-returns-2
 returns-2 c = numbers-end _ _ _ (c .before .before .before .if1 .left) (sym (c .before .if2 .taken) ∙ c .before .before .objects-in-range .ensures) (c .tasks-in-range .ensures)
 
--- src/numbers.rt:155:1
 returns-3 : tie.Need-returns-3
 returns-3 c = numbers-fail _ _ _ (c .before .before .if1 .left) (sym (c .if2 .left) ∙ c .before .objects-in-range .ensures)
 

@@ -10,71 +10,46 @@ use Rattle.sound.specs.NumberLaws.{count-fits, external-ranged, other-ra
 use borrow.Author.Needs.{needs}
 use Rattle.sound.proofs.numbers.object_in_range.Statement.{statement}
 use Rattle.sound.proofs.numbers.object_in_range.Tie as tie
-use Rattle.sound.proofs.numbers.object_in_range.Reads as reads
-use Rattle.sound.proofs.numbers.object_in_range.Lts as lts
-use Rattle.asyncio.proofs.Kind.is_coroutine.Reads as is-coroutine-reads
-use Rattle.asyncio.proofs.Kind.is_external.Reads as is-external-reads
-use Rattle.asyncio.proofs.Kind.is_gather.Reads as is-gather-reads
-use Rattle.rows.proofs.parts.call_at.Reads as call-at-reads
-use Rattle.rows.proofs.parts.count_at.Reads as count-at-reads
-use Rattle.rows.proofs.parts.first_at.Reads as first-at-reads
-use Rattle.rows.proofs.parts.kind_at.Reads as kind-at-reads
-use Rattle.rows.proofs.parts.open_at.Reads as open-at-reads
-use Rattle.sound.proofs.numbers.open_in_range.Reads as open-in-range-reads
 
--- src/numbers.rt:52:9
 kind-at-requires : tie.Need-kind-at-requires
 kind-at-requires c κs = search needs
 
--- src/numbers.rt:53:8
 is-external-requires : tie.Need-is-external-requires
 is-external-requires c κs = search needs
 
--- src/numbers.rt:54:13
 call-at-requires : tie.Need-call-at-requires
 call-at-requires c κs = search needs
 
--- src/numbers.rt:55:17
 cast-result : tie.Need-cast-result
 cast-result c = search needs
 
--- src/numbers.rt:55:9
 returns : tie.Need-returns
 returns c = external-ranged _ _ _ _ (c .before .before .before .before .before .kind-at .ensures) (sym (c .before .before .before .before .is-external .ensures) ∙ c .before .before .before .if1 .taken) (c .before .before .call-at .ensures)
 
--- src/numbers.rt:57:8
 is-gather-requires : tie.Need-is-gather-requires
 is-gather-requires c κs = search needs
 
--- src/numbers.rt:58:12
 first-at-requires : tie.Need-first-at-requires
 first-at-requires c κs = search needs
 
--- src/numbers.rt:59:34
 count-at-requires : tie.Need-count-at-requires
 count-at-requires c κs = search needs
 
--- src/numbers.rt:59:64
 open-at-requires : tie.Need-open-at-requires
 open-at-requires c κs = search needs
 
--- src/numbers.rt:59:13
 open-in-range-requires : tie.Need-open-in-range-requires
 open-in-range-requires c κs = count-fits _ _ (c .before .count-at .ensures)
 
--- src/numbers.rt:59:13
 returns-2 : tie.Need-returns-2
 returns-2 c = gather-ranged _ _ _ _ (c .before .before .before .before .before .before .before .before .before .kind-at .ensures) (sym (c .before .before .before .before .before .before .before .before .is-external .ensures) ∙ c .before .before .before .before .before .before .before .if1 .left) (sym (c .before .before .before .before .before .before .is-gather .ensures) ∙ c .before .before .before .before .before .if2 .taken) (c .before .before .before .before .first-at .ensures) (c .before .before .before .if3 .taken) (c .before .before .count-at .ensures) (c .before .open-at .ensures) (c .open-in-range .ensures)
 
--- src/numbers.rt:61:9
 returns-3 : tie.Need-returns-3
 returns-3 c = gather-apart _ _ _ _ (c .before .before .before .before .before .before .kind-at .ensures) (sym (c .before .before .before .before .before .is-external .ensures) ∙ c .before .before .before .before .if1 .left) (sym (c .before .before .before .is-gather .ensures) ∙ c .before .before .if2 .taken) (c .before .first-at .ensures) (c .if3 .left)
 
--- src/numbers.rt:63:5
 is-coroutine-requires : tie.Need-is-coroutine-requires
 is-coroutine-requires c κs = search needs
 
--- src/numbers.rt:48:1
 returns-4 : tie.Need-returns-4
 returns-4 c = other-ranged _ _ _ _ (c .before .before .before .before .before .kind-at .ensures) (sym (c .before .before .before .before .is-external .ensures) ∙ c .before .before .before .if1 .left) (sym (c .before .before .is-gather .ensures) ∙ c .before .if2 .left) (c .is-coroutine .ensures)
 

@@ -15,12 +15,6 @@ use Rattle.sound.specs.Numbers.{object-ranged}
 use Rattle.sound.specs.NumberLaws.{count-fits, row-passes, row-stops, places-turn, places-none, objects-fail, objects-end}
 use Rattle.sound.proofs.numbers.objects_in_range.Statement.{statement}
 use Rattle.sound.proofs.numbers.objects_in_range.Tie as tie
-use Rattle.sound.proofs.numbers.objects_in_range.Reads as reads
-use Rattle.sound.proofs.numbers.objects_in_range.Lts as lts
-use Rattle.rows.proofs.parts.awaiter_at.Reads as awaiter-at-reads
-use Rattle.rows.proofs.parts.count_at.Reads as count-at-reads
-use Rattle.sound.proofs.numbers.awaiter_in_range.Reads as awaiter-in-range-reads
-use Rattle.sound.proofs.numbers.object_in_range.Reads as object-in-range-reads
 
 abbrev Inv-loop : tie.InvT-loop
 Inv-loop header objects made p₀ o₀ p o = (all-below o (object-ranged header (object-at objects)) ≡ true) × (o ≤ made) × (p ≡ places-below (object-at objects) o) × (p ≤ 32 * o)
@@ -28,39 +22,30 @@ Inv-loop header objects made p₀ o₀ p o = (all-below o (object-ranged header 
 abbrev μ-loop : tie.MeasureT-loop
 μ-loop header objects made p₀ o₀ p o = made - o
 
--- src/numbers.rt:74:5
 loop-holds : tie.Need-loop-holds Inv-loop μ-loop
 loop-holds c = (all-none _, omega arith, places-none _, omega arith)
 
--- src/numbers.rt:75:12
 object-in-range-requires : tie.Need-object-in-range-requires Inv-loop μ-loop
 object-in-range-requires c κs = search needs
 
--- src/numbers.rt:76:41
 awaiter-at-requires : tie.Need-awaiter-at-requires Inv-loop μ-loop
 awaiter-at-requires c κs = search needs
 
--- src/numbers.rt:76:16
 awaiter-in-range-requires : tie.Need-awaiter-in-range-requires Inv-loop μ-loop
 awaiter-in-range-requires c κs = search needs
 
--- src/numbers.rt:77:22
 count-at-requires : tie.Need-count-at-requires Inv-loop μ-loop
 count-at-requires c κs = search needs
 
--- src/numbers.rt:77:17
 add-p : tie.Need-add-p Inv-loop μ-loop
 add-p c = omega (arith, count-fits (now (c .before .before .before .before .before .before .before .before .before .args .objects)) (c .before .before .before .before .before .before .before .loop .o) (c .count-at .ensures))
 
--- src/numbers.rt:78:17
 add-o : tie.Need-add-o Inv-loop μ-loop
 add-o c = omega arith
 
--- src/numbers.rt:74:5
 loop-less : tie.Need-loop-less Inv-loop μ-loop
 loop-less c = omega arith
 
--- src/numbers.rt:74:5
 loop-again : tie.Need-loop-again Inv-loop μ-loop
 loop-again c = (
   all-turn _ (c .before .before .before .before .before .before .before .loop .o) (sym (c .before .if2 .taken) ∙ row-passes _ _ (c .before .before .before .before .before .before .before .loop .o) (c .before .before .before .before .before .before .before .loop .p) (c .before .before .before .before .before .before .before .loop .inv .2) (sym (c .before .before .before .before .if1 .taken) ∙ c .before .before .before .before .before .object-in-range .ensures) (c .before .before .before .awaiter-at .ensures) (c .before .before .awaiter-in-range .ensures)) (c .before .before .before .before .before .before .before .loop .inv .0),
@@ -69,15 +54,12 @@ loop-again c = (
   omega (arith, count-fits (now (c .before .before .before .before .before .before .before .before .before .args .objects)) (c .before .before .before .before .before .before .before .loop .o) (c .count-at .ensures)),
 )
 
--- src/numbers.rt:80:17
 returns : tie.Need-returns Inv-loop μ-loop
 returns c = objects-fail _ _ (all-fails _ (c .before .before .before .before .before .before .loop .o) _ (c .before .before .before .before .before .loop-test .taken) (sym (c .if2 .left) ∙ row-passes _ _ (c .before .before .before .before .before .before .loop .o) (c .before .before .before .before .before .before .loop .p) (c .before .before .before .before .before .before .loop .inv .2) (sym (c .before .before .before .if1 .taken) ∙ c .before .before .before .before .object-in-range .ensures) (c .before .before .awaiter-at .ensures) (c .before .awaiter-in-range .ensures)))
 
--- src/numbers.rt:83:13
 returns-2 : tie.Need-returns-2 Inv-loop μ-loop
 returns-2 c = objects-fail _ _ (all-fails _ (c .before .before .before .loop .o) _ (c .before .before .loop-test .taken) (row-stops _ _ (c .before .before .before .loop .o) (c .before .before .before .loop .p) (c .before .before .before .loop .inv .2) (sym (c .if1 .left) ∙ c .before .object-in-range .ensures)))
 
--- src/numbers.rt:67:1
 returns-3 : tie.Need-returns-3 Inv-loop μ-loop
 returns-3 c = objects-end _ _ (all-end _ (c .before .before .loop .o) _ (omega arith) (c .before .loop-test .left) (c .before .before .loop .inv .0)) (let e : c .before .before .loop .o ≡ c .before .before .before .before .args .header .made = omega arith in rw e at (c .before .before .loop .inv .2))
 

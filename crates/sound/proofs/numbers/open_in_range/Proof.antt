@@ -10,14 +10,10 @@ use Rattle.sound.specs.NumberLaws.{shifted-long}
 use borrow.Author.Needs.{needs}
 use Rattle.sound.proofs.numbers.open_in_range.Statement.{statement}
 use Rattle.sound.proofs.numbers.open_in_range.Tie as tie
-use Rattle.sound.proofs.numbers.open_in_range.Reads as reads
-use Rattle.sound.proofs.numbers.open_in_range.Lts as lts
 
--- src/numbers.rt:44:19
 shl-result : tie.Need-shl-result
 shl-result c = search needs
 
--- src/numbers.rt:40:1
 returns : tie.Need-returns
 returns c = rw (shifted-long _ (c .pre))
 

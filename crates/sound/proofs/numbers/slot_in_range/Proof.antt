@@ -11,32 +11,24 @@ use Rattle.machine.specs.Sound.{awaiter-in-range, is-slot}
 use borrow.Author.Needs.{needs}
 use Rattle.sound.proofs.numbers.slot_in_range.Statement.{statement}
 use Rattle.sound.proofs.numbers.slot_in_range.Tie as tie
-use Rattle.sound.proofs.numbers.slot_in_range.Reads as reads
-use Rattle.sound.proofs.numbers.slot_in_range.Lts as lts
 
--- src/numbers.rt:94:28
 enum-told : tie.Need-enum-told
 enum-told c = search needs
 
--- src/numbers.rt:95:29
 enum-told-2 : tie.Need-enum-told-2
 enum-told-2 c = search needs
 
--- src/numbers.rt:96:31
 enum-known-w : tie.Need-enum-known-w
 enum-known-w c = search needs
 
--- src/numbers.rt:90:1
 returns : tie.Need-returns
 unfolding awaiter-in-range is-slot _and_
 returns c = rw (c .enum-told .given .1)
 
--- src/numbers.rt:90:1
 returns-2 : tie.Need-returns-2
 unfolding awaiter-in-range is-slot _and_
 returns-2 c = rw (c .enum-told2 .given .1)
 
--- src/numbers.rt:90:1
 returns-3 : tie.Need-returns-3
 unfolding awaiter-in-range is-slot _and_
 returns-3 c = rw (c .before .before .before .w .given .1)

@@ -10,19 +10,13 @@ use Rattle.sound.specs.NumberLaws.{spawned-fit}
 use borrow.Author.Needs.{needs}
 use Rattle.sound.proofs.numbers.spawned_in_range.Statement.{statement}
 use Rattle.sound.proofs.numbers.spawned_in_range.Tie as tie
-use Rattle.sound.proofs.numbers.spawned_in_range.Reads as reads
-use Rattle.sound.proofs.numbers.spawned_in_range.Lts as lts
-use Rattle.sound.proofs.numbers.committed_places.Reads as committed-places-reads
 
--- src/numbers.rt:194:20
 committed-places-requires : tie.Need-committed-places-requires
 committed-places-requires c κs = search needs
 
--- src/numbers.rt:194:20
 add-result : tie.Need-add-result
 add-result c = search needs
 
--- src/numbers.rt:190:1
 returns : tie.Need-returns
 returns c = spawned-fit _ _ (c .before .committed-places .ensures .0)
 

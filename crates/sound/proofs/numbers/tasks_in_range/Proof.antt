@@ -13,9 +13,6 @@ use Rattle.rows.specs.Tables.{task-at, object-at}
 use Rattle.machine.specs.Sound.{task-in-range}
 use Rattle.sound.proofs.numbers.tasks_in_range.Statement.{statement}
 use Rattle.sound.proofs.numbers.tasks_in_range.Tie as tie
-use Rattle.sound.proofs.numbers.tasks_in_range.Reads as reads
-use Rattle.sound.proofs.numbers.tasks_in_range.Lts as lts
-use Rattle.sound.proofs.numbers.task_in_range.Reads as task-in-range-reads
 
 abbrev Inv-loop : tie.InvT-loop
 Inv-loop header tasks objects next t₀ t = (all-below t (λ (t : ℕ). task-in-range header (object-at objects) t (task-at tasks t)) ≡ true) × (t ≤ next)
@@ -23,31 +20,24 @@ Inv-loop header tasks objects next t₀ t = (all-below t (λ (t : ℕ). task-in-
 abbrev μ-loop : tie.MeasureT-loop
 μ-loop header tasks objects next t₀ t = next - t
 
--- src/numbers.rt:144:5
 loop-holds : tie.Need-loop-holds Inv-loop μ-loop
 loop-holds c = (all-none _, omega arith)
 
--- src/numbers.rt:145:12
 task-in-range-requires : tie.Need-task-in-range-requires Inv-loop μ-loop
 task-in-range-requires c κs = search needs
 
--- src/numbers.rt:146:13
 add-t : tie.Need-add-t Inv-loop μ-loop
 add-t c = omega arith
 
--- src/numbers.rt:144:5
 loop-less : tie.Need-loop-less Inv-loop μ-loop
 loop-less c = omega arith
 
--- src/numbers.rt:144:5
 loop-again : tie.Need-loop-again Inv-loop μ-loop
 loop-again c = (all-turn _ (c .before .before .before .loop .t) (sym (c .if1 .taken) ∙ c .before .task-in-range .ensures) (c .before .before .before .loop .inv .0), omega arith)
 
--- src/numbers.rt:148:13
 returns : tie.Need-returns Inv-loop μ-loop
 returns c = all-fails _ (c .before .before .before .loop .t) _ (c .before .before .loop-test .taken) (sym (c .if1 .left) ∙ c .before .task-in-range .ensures)
 
--- src/numbers.rt:138:1
 returns-2 : tie.Need-returns-2 Inv-loop μ-loop
 returns-2 c = all-end _ (c .before .loop .t) _ (omega arith) (c .loop-test .left) (c .before .loop .inv .0)
 

@@ -10,32 +10,24 @@ use Rattle.machine.specs.Sound.{runner-in-range}
 use borrow.Author.Needs.{needs}
 use Rattle.sound.proofs.runner.runner_in_range.Statement.{statement}
 use Rattle.sound.proofs.runner.runner_in_range.Tie as tie
-use Rattle.sound.proofs.runner.runner_in_range.Reads as reads
-use Rattle.sound.proofs.runner.runner_in_range.Lts as lts
 
--- src/runner.rt:33:25
 enum-known-m : tie.Need-enum-known-m
 enum-known-m c = search needs
 
--- src/runner.rt:34:28
 enum-told : tie.Need-enum-told
 enum-told c = search needs
 
--- src/runner.rt:35:26
 enum-told-2 : tie.Need-enum-told-2
 enum-told-2 c = search needs
 
--- src/runner.rt:29:1
 returns : tie.Need-returns
 unfolding runner-in-range
 returns c = rw (c .before .before .m .given .1)
 
--- src/runner.rt:29:1
 returns-2 : tie.Need-returns-2
 unfolding runner-in-range
 returns-2 c = rw (c .enum-told .given .1)
 
--- src/runner.rt:29:1
 returns-3 : tie.Need-returns-3
 unfolding runner-in-range
 returns-3 c = rw (c .enum-told2 .given .1)

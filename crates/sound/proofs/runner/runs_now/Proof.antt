@@ -10,32 +10,24 @@ use Rattle.machine.specs.Sound.{runs-now}
 use borrow.Author.Needs.{needs}
 use Rattle.sound.proofs.runner.runs_now.Statement.{statement}
 use Rattle.sound.proofs.runner.runs_now.Tie as tie
-use Rattle.sound.proofs.runner.runs_now.Reads as reads
-use Rattle.sound.proofs.runner.runs_now.Lts as lts
 
--- src/runner.rt:22:25
 enum-known-m : tie.Need-enum-known-m
 enum-known-m c = search needs
 
--- src/runner.rt:23:28
 enum-told : tie.Need-enum-told
 enum-told c = search needs
 
--- src/runner.rt:24:26
 enum-told-2 : tie.Need-enum-told-2
 enum-told-2 c = search needs
 
--- src/runner.rt:18:1
 returns : tie.Need-returns
 unfolding runs-now
 returns c = rw (c .before .before .m .given .1)
 
--- src/runner.rt:18:1
 returns-2 : tie.Need-returns-2
 unfolding runs-now
 returns-2 c = rw (c .enum-told .given .1)
 
--- src/runner.rt:18:1
 returns-3 : tie.Need-returns-3
 unfolding runs-now
 returns-3 c = rw (c .enum-told2 .given .1)

@@ -12,57 +12,37 @@ use Rattle.sound.specs.SlotLaws.{holds-settled, holds-awaited}
 use borrow.Author.Needs.{needs}
 use Rattle.sound.proofs.slots.gather_holds.Statement.{statement}
 use Rattle.sound.proofs.slots.gather_holds.Tie as tie
-use Rattle.sound.proofs.slots.gather_holds.Reads as reads
-use Rattle.sound.proofs.slots.gather_holds.Lts as lts
-use Rattle.asyncio.proofs.Kind.is_awaited.Reads as is-awaited-reads
-use Rattle.asyncio.proofs.Kind.is_committed.Reads as is-committed-reads
-use Rattle.rows.proofs.parts.count_at.Reads as count-at-reads
-use Rattle.rows.proofs.parts.first_at.Reads as first-at-reads
-use Rattle.rows.proofs.parts.kind_at.Reads as kind-at-reads
-use Rattle.rows.proofs.parts.open_at.Reads as open-at-reads
-use Rattle.sound.proofs.slots.source_open.Reads as source-open-reads
 
--- src/slots.rt:62:9
 kind-at-requires : tie.Need-kind-at-requires
 kind-at-requires c κs = search needs
 
--- src/slots.rt:63:8
 is-awaited-requires : tie.Need-is-awaited-requires
 is-awaited-requires c κs = search needs
 
--- src/slots.rt:64:13
 first-at-requires : tie.Need-first-at-requires
 first-at-requires c κs = search needs
 
--- src/slots.rt:65:13
 count-at-requires : tie.Need-count-at-requires
 count-at-requires c κs = search needs
 
--- src/slots.rt:66:13
 open-at-requires : tie.Need-open-at-requires
 open-at-requires c κs = search needs
 
--- src/slots.rt:67:36
 cast-source-open : tie.Need-cast-source-open
 cast-source-open c = search needs
 
--- src/slots.rt:67:52
 cast-source-open-2 : tie.Need-cast-source-open-2
 cast-source-open-2 c = search needs
 
--- src/slots.rt:67:9
 source-open-requires : tie.Need-source-open-requires
 source-open-requires c κs = (search needs, omega (arith, places-fit (now (c .before .before .before .before .before .before .before .before .args .objects)) (c .before .before .before .before .before .before .before .before .args .g .0) (c .before .before .first-at .ensures) (c .before .count-at .ensures) .within), omega (arith, places-fit (now (c .before .before .before .before .before .before .before .before .args .objects)) (c .before .before .before .before .before .before .before .before .args .g .0) (c .before .before .first-at .ensures) (c .before .count-at .ensures) .at-most))
 
--- src/slots.rt:67:9
 returns : tie.Need-returns
 returns c = holds-awaited _ _ _ _ (c .before .before .before .before .before .before .kind-at .ensures) (sym (c .before .before .before .before .before .is-awaited .ensures) ∙ c .before .before .before .before .if1 .taken) (c .before .before .before .first-at .ensures) (c .before .before .count-at .ensures) (c .before .open-at .ensures) (c .source-open .ensures)
 
--- src/slots.rt:69:5
 is-committed-requires : tie.Need-is-committed-requires
 is-committed-requires c κs = search needs
 
--- src/slots.rt:58:1
 returns-2 : tie.Need-returns-2
 returns-2 c = holds-settled _ _ _ _ (c .before .before .before .kind-at .ensures) (sym (c .before .before .is-awaited .ensures) ∙ c .before .if1 .left) (c .is-committed .ensures)
 

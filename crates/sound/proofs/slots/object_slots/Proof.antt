@@ -15,10 +15,6 @@ use Rattle.machine.specs.Sound.{slot-open}
 use Rattle.sound.specs.AwaiterLaws.{awaiter-fits}
 use Rattle.sound.proofs.slots.object_slots.Statement.{statement}
 use Rattle.sound.proofs.slots.object_slots.Tie as tie
-use Rattle.sound.proofs.slots.object_slots.Reads as reads
-use Rattle.sound.proofs.slots.object_slots.Lts as lts
-use Rattle.rows.proofs.parts.awaiter_at.Reads as awaiter-at-reads
-use Rattle.sound.proofs.slots.slot_open.Reads as slot-open-reads
 
 abbrev Inv-loop : tie.InvT-loop
 Inv-loop made objects places o₀ o = (all-below o (λ (o : ℕ). slot-open (object-at objects) (place-at places) o (awaiter-of (object-at objects o))) ≡ true) × (o ≤ made)
@@ -26,35 +22,27 @@ Inv-loop made objects places o₀ o = (all-below o (λ (o : ℕ). slot-open (obj
 abbrev μ-loop : tie.MeasureT-loop
 μ-loop made objects places o₀ o = made - o
 
--- src/slots.rt:95:5
 loop-holds : tie.Need-loop-holds Inv-loop μ-loop
 loop-holds c = (all-none _, omega arith)
 
--- src/slots.rt:96:42
 awaiter-at-requires : tie.Need-awaiter-at-requires Inv-loop μ-loop
 awaiter-at-requires c κs = search needs
 
--- src/slots.rt:96:12
 slot-open-requires : tie.Need-slot-open-requires Inv-loop μ-loop
 slot-open-requires c κs = (search needs, search needs, awaiter-fits _ _ (c .awaiter-at .ensures))
 
--- src/slots.rt:97:13
 add-o : tie.Need-add-o Inv-loop μ-loop
 add-o c = omega arith
 
--- src/slots.rt:95:5
 loop-less : tie.Need-loop-less Inv-loop μ-loop
 loop-less c = omega arith
 
--- src/slots.rt:95:5
 loop-again : tie.Need-loop-again Inv-loop μ-loop
 loop-again c = (all-turn _ (c .before .before .before .before .loop .o) (sym (c .if1 .taken) ∙ c .before .slot-open .ensures ∙ ap (slot-open _ _ _) (c .before .before .awaiter-at .ensures)) (c .before .before .before .before .loop .inv .0), omega arith)
 
--- src/slots.rt:99:13
 returns : tie.Need-returns Inv-loop μ-loop
 returns c = all-fails _ (c .before .before .before .before .loop .o) _ (c .before .before .before .loop-test .taken) (sym (c .if1 .left) ∙ c .before .slot-open .ensures ∙ ap (slot-open _ _ _) (c .before .before .awaiter-at .ensures))
 
--- src/slots.rt:90:1
 returns-2 : tie.Need-returns-2 Inv-loop μ-loop
 returns-2 c = all-end _ (c .before .loop .o) _ (omega arith) (c .loop-test .left) (c .before .loop .inv .0)
 

@@ -10,31 +10,22 @@ use Rattle.sound.specs.SlotLaws.{here-shut, here-named}
 use borrow.Author.Needs.{needs}
 use Rattle.sound.proofs.slots.place_open.Statement.{statement}
 use Rattle.sound.proofs.slots.place_open.Tie as tie
-use Rattle.sound.proofs.slots.place_open.Reads as reads
-use Rattle.sound.proofs.slots.place_open.Lts as lts
-use Rattle.rows.proofs.parts.item_at.Reads as item-at-reads
 
--- src/slots.rt:35:14
 cast-if1 : tie.Need-cast-if1
 cast-if1 c = search needs
 
--- src/slots.rt:35:9
 shr-if1 : tie.Need-shr-if1
 shr-if1 c = search needs
 
--- src/slots.rt:36:9
 returns : tie.Need-returns
 returns c = here-shut _ _ _ _ _ (c .if1 .taken)
 
--- src/slots.rt:38:32
 add-item-at : tie.Need-add-item-at
 add-item-at c = search needs
 
--- src/slots.rt:38:9
 item-at-requires : tie.Need-item-at-requires
 item-at-requires c κs = search needs
 
--- src/slots.rt:31:1
 returns-2 : tie.Need-returns-2
 returns-2 c = here-named _ _ _ _ _ (c .before .before .if1 .left) (c .before .item-at .ensures)
 

@@ -11,42 +11,31 @@ use Rattle.machine.specs.Sound.{slot-open}
 use borrow.Author.Needs.{needs}
 use Rattle.sound.proofs.slots.slot_open.Statement.{statement}
 use Rattle.sound.proofs.slots.slot_open.Tie as tie
-use Rattle.sound.proofs.slots.slot_open.Reads as reads
-use Rattle.sound.proofs.slots.slot_open.Lts as lts
-use Rattle.sound.proofs.slots.gather_holds.Reads as gather-holds-reads
 
--- src/slots.rt:78:28
 enum-told : tie.Need-enum-told
 enum-told c = search needs
 
--- src/slots.rt:79:29
 enum-told-2 : tie.Need-enum-told-2
 enum-told-2 c = search needs
 
--- src/slots.rt:80:31
 enum-known-w : tie.Need-enum-known-w
 enum-known-w c = search needs
 
--- src/slots.rt:82:17
 gather-holds-requires : tie.Need-gather-holds-requires
 gather-holds-requires c κs = (search needs, search needs, (rw (c .before .before .before .w .given .1) at (c .before .before .before .before .before .before .before .pre .2)) .0)
 
--- src/slots.rt:82:17
 returns : tie.Need-returns
 unfolding slot-open _and_
 returns c = rw (c .before .before .before .before .w .given .1, eq-eqb _ _ (c .before .if1 .taken)) (c .gather-holds .ensures)
 
--- src/slots.rt:73:1
 returns-2 : tie.Need-returns-2
 unfolding slot-open
 returns-2 c = rw (c .enum-told .given .1)
 
--- src/slots.rt:73:1
 returns-3 : tie.Need-returns-3
 unfolding slot-open
 returns-3 c = rw (c .enum-told2 .given .1)
 
--- src/slots.rt:73:1
 returns-4 : tie.Need-returns-4
 unfolding slot-open _and_
 returns-4 c = rw (c .before .before .before .w .given .1, ne-eqb _ _ (c .if1 .left))

@@ -11,25 +11,17 @@ use Rattle.sound.specs.Loops.{pass, stop}
 use borrow.Author.Needs.{needs}
 use Rattle.sound.proofs.slots.slots_open.Statement.{statement}
 use Rattle.sound.proofs.slots.slots_open.Tie as tie
-use Rattle.sound.proofs.slots.slots_open.Reads as reads
-use Rattle.sound.proofs.slots.slots_open.Lts as lts
-use Rattle.sound.proofs.slots.object_slots.Reads as object-slots-reads
-use Rattle.sound.proofs.slots.task_slots.Reads as task-slots-reads
 
--- src/slots.rt:139:8
 object-slots-requires : tie.Need-object-slots-requires
 object-slots-requires c κs = search needs
 
--- src/slots.rt:140:9
 task-slots-requires : tie.Need-task-slots-requires
 task-slots-requires c κs = search needs
 
--- src/slots.rt:140:9
 returns : tie.Need-returns
 unfolding slots-open
 returns c = pass (sym (c .before .if1 .taken) ∙ c .before .before .object-slots .ensures) (c .task-slots .ensures)
 
--- src/slots.rt:135:1
 returns-2 : tie.Need-returns-2
 unfolding slots-open
 returns-2 c = stop _ (sym (c .if1 .left) ∙ c .before .object-slots .ensures)

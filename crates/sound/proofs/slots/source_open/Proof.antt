@@ -12,9 +12,6 @@ use Rattle.machine.specs.Commit.{open-from}
 use Rattle.sound.specs.SlotLaws.{gather-parts, source-here, source-turn, source-end, source-begins}
 use Rattle.sound.proofs.slots.source_open.Statement.{statement}
 use Rattle.sound.proofs.slots.source_open.Tie as tie
-use Rattle.sound.proofs.slots.source_open.Reads as reads
-use Rattle.sound.proofs.slots.source_open.Lts as lts
-use Rattle.sound.proofs.slots.place_open.Reads as place-open-reads
 
 abbrev Inv-loop : tie.InvT-loop
 Inv-loop places first n m o k₀ k = (open-from (place-at places) (gather-parts first n m) o k (n - k) ≡ open-from (place-at places) (gather-parts first n m) o 0 n) × (k ≤ n)
@@ -22,31 +19,24 @@ Inv-loop places first n m o k₀ k = (open-from (place-at places) (gather-parts 
 abbrev μ-loop : tie.MeasureT-loop
 μ-loop places first n m o k₀ k = n - k
 
--- src/slots.rt:48:5
 loop-holds : tie.Need-loop-holds Inv-loop μ-loop
 loop-holds c = (source-begins _ _ (c .before .args .n) _ _, omega arith)
 
--- src/slots.rt:49:12
 place-open-requires : tie.Need-place-open-requires Inv-loop μ-loop
 place-open-requires c κs = search needs
 
--- src/slots.rt:50:13
 returns : tie.Need-returns Inv-loop μ-loop
 returns c = source-here _ _ (c .before .before .before .before .before .args .n) _ _ (c .before .before .before .loop .k) (c .before .before .loop-test .taken) (sym (c .if1 .taken) ∙ c .before .place-open .ensures) ∙ c .before .before .before .loop .inv .0
 
--- src/slots.rt:52:9
 add-k : tie.Need-add-k Inv-loop μ-loop
 add-k c = omega arith
 
--- src/slots.rt:48:5
 loop-less : tie.Need-loop-less Inv-loop μ-loop
 loop-less c = omega arith
 
--- src/slots.rt:48:5
 loop-again : tie.Need-loop-again Inv-loop μ-loop
 loop-again c = (source-turn _ _ (c .before .before .before .before .before .args .n) _ _ (c .before .before .before .loop .k) (c .before .before .loop-test .taken) (sym (c .if1 .left) ∙ c .before .place-open .ensures) ∙ c .before .before .before .loop .inv .0, omega arith)
 
--- src/slots.rt:43:1
 returns-2 : tie.Need-returns-2 Inv-loop μ-loop
 returns-2 c = source-end _ _ (c .before .before .before .args .n) _ _ (c .before .loop .k) (c .loop-test .left) ∙ c .before .loop .inv .0
 

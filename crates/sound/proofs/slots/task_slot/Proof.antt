@@ -11,39 +11,25 @@ use Rattle.sound.specs.SlotLaws.{slot-dead, slot-live}
 use borrow.Author.Needs.{needs}
 use Rattle.sound.proofs.slots.task_slot.Statement.{statement}
 use Rattle.sound.proofs.slots.task_slot.Tie as tie
-use Rattle.sound.proofs.slots.task_slot.Reads as reads
-use Rattle.sound.proofs.slots.task_slot.Lts as lts
-use Rattle.asyncio.proofs.TaskState.is_live.Reads as is-live-reads
-use Rattle.rows.proofs.parts.coroutine_at.Reads as coroutine-at-reads
-use Rattle.rows.proofs.parts.state_at.Reads as state-at-reads
-use Rattle.rows.proofs.parts.task_awaiter_at.Reads as task-awaiter-at-reads
-use Rattle.sound.proofs.slots.slot_open.Reads as slot-open-reads
 
--- src/slots.rt:110:9
 state-at-requires : tie.Need-state-at-requires
 state-at-requires c κs = search needs
 
--- src/slots.rt:111:8
 is-live-requires : tie.Need-is-live-requires
 is-live-requires c κs = search needs
 
--- src/slots.rt:112:13
 coroutine-at-requires : tie.Need-coroutine-at-requires
 coroutine-at-requires c κs = search needs
 
--- src/slots.rt:113:56
 task-awaiter-at-requires : tie.Need-task-awaiter-at-requires
 task-awaiter-at-requires c κs = search needs
 
--- src/slots.rt:113:9
 slot-open-requires : tie.Need-slot-open-requires
 slot-open-requires c κs = (search needs, search needs, task-awaiter-fits _ _ (c .task-awaiter-at .ensures))
 
--- src/slots.rt:113:9
 returns : tie.Need-returns
 returns c = slot-live _ _ _ _ (c .before .before .before .before .before .state-at .ensures) (sym (c .before .before .before .before .is-live .ensures) ∙ c .before .before .before .if1 .taken) (c .before .before .coroutine-at .ensures) (c .before .task-awaiter-at .ensures) (c .slot-open .ensures)
 
--- src/slots.rt:106:1
 returns-2 : tie.Need-returns-2
 returns-2 c = slot-dead _ _ _ _ (c .before .before .state-at .ensures) (sym (c .before .is-live .ensures) ∙ c .if1 .left)
 

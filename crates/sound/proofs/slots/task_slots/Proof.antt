@@ -15,9 +15,6 @@ use Rattle.machine.specs.Sound.{slot-open}
 use Rattle.machine.specs.Tests.{implies}
 use Rattle.sound.proofs.slots.task_slots.Statement.{statement}
 use Rattle.sound.proofs.slots.task_slots.Tie as tie
-use Rattle.sound.proofs.slots.task_slots.Reads as reads
-use Rattle.sound.proofs.slots.task_slots.Lts as lts
-use Rattle.sound.proofs.slots.task_slot.Reads as task-slot-reads
 
 abbrev Inv-loop : tie.InvT-loop
 Inv-loop next tasks objects places t₀ t = (all-below t (λ (t : ℕ). implies (is-live (task-at tasks t .state)) (slot-open (object-at objects) (place-at places) (task-at tasks t .coroutine .0) (task-at tasks t .awaiter))) ≡ true) × (t ≤ next)
@@ -25,31 +22,24 @@ Inv-loop next tasks objects places t₀ t = (all-below t (λ (t : ℕ). implies 
 abbrev μ-loop : tie.MeasureT-loop
 μ-loop next tasks objects places t₀ t = next - t
 
--- src/slots.rt:124:5
 loop-holds : tie.Need-loop-holds Inv-loop μ-loop
 loop-holds c = (all-none _, omega arith)
 
--- src/slots.rt:125:12
 task-slot-requires : tie.Need-task-slot-requires Inv-loop μ-loop
 task-slot-requires c κs = search needs
 
--- src/slots.rt:126:13
 add-t : tie.Need-add-t Inv-loop μ-loop
 add-t c = omega arith
 
--- src/slots.rt:124:5
 loop-less : tie.Need-loop-less Inv-loop μ-loop
 loop-less c = omega arith
 
--- src/slots.rt:124:5
 loop-again : tie.Need-loop-again Inv-loop μ-loop
 loop-again c = (all-turn _ (c .before .before .before .loop .t) (sym (c .if1 .taken) ∙ c .before .task-slot .ensures) (c .before .before .before .loop .inv .0), omega arith)
 
--- src/slots.rt:128:13
 returns : tie.Need-returns Inv-loop μ-loop
 returns c = all-fails _ (c .before .before .before .loop .t) _ (c .before .before .loop-test .taken) (sym (c .if1 .left) ∙ c .before .task-slot .ensures)
 
--- src/slots.rt:119:1
 returns-2 : tie.Need-returns-2 Inv-loop μ-loop
 returns-2 c = all-end _ (c .before .loop .t) _ (omega arith) (c .loop-test .left) (c .before .loop .inv .0)
 

@@ -10,42 +10,30 @@ use Rattle.sound.specs.ValueLaws.{external-values}
 use borrow.Author.Needs.{needs}
 use Rattle.sound.proofs.values.external_values.Statement.{statement}
 use Rattle.sound.proofs.values.external_values.Tie as tie
-use Rattle.sound.proofs.values.external_values.Reads as reads
-use Rattle.sound.proofs.values.external_values.Lts as lts
-use Rattle.sound.proofs.values.option_known.Reads as option-known-reads
-use Rattle.sound.proofs.values.value_known.Reads as value-known-reads
 
--- src/values.rt:100:52
 enum-known-state : tie.Need-enum-known-state
 enum-known-state c = search needs
 
--- src/values.rt:100:64
 option-known-requires : tie.Need-option-known-requires
 option-known-requires c κs = search needs
 
--- src/values.rt:101:39
 enum-known-state-2 : tie.Need-enum-known-state-2
 enum-known-state-2 c = search needs
 
--- src/values.rt:101:45
 value-known-requires : tie.Need-value-known-requires
 value-known-requires c κs = search needs
 
--- src/values.rt:102:43
 enum-told : tie.Need-enum-told
 enum-told c = search needs
 
--- src/values.rt:95:1
 returns : tie.Need-returns
 unfolding external-values
 returns c = rw (c .before .before .state .given .1) (c .option-known .ensures)
 
--- src/values.rt:95:1
 returns-2 : tie.Need-returns-2
 unfolding external-values
 returns-2 c = rw (c .before .before .state2 .given .1) (c .value-known .ensures)
 
--- src/values.rt:95:1
 returns-3 : tie.Need-returns-3
 unfolding external-values
 returns-3 c = rw (c .enum-told .given .1)

@@ -12,9 +12,6 @@ use Rattle.machine.specs.Tests.{all-below}
 use Rattle.sound.specs.Loops.{all-none, all-turn, all-fails, all-end}
 use Rattle.sound.proofs.values.items_below.Statement.{statement}
 use Rattle.sound.proofs.values.items_below.Tie as tie
-use Rattle.sound.proofs.values.items_below.Reads as reads
-use Rattle.sound.proofs.values.items_below.Lts as lts
-use Rattle.rows.proofs.parts.item_at.Reads as item-at-reads
 
 abbrev Inv-loop : tie.InvT-loop
 Inv-loop places g first n k₀ k = (all-below k (λ (i : ℕ). ltb (place-at places (first + i) .item .0) g) ≡ true) × (k ≤ n)
@@ -22,35 +19,27 @@ Inv-loop places g first n k₀ k = (all-below k (λ (i : ℕ). ltb (place-at pla
 abbrev μ-loop : tie.MeasureT-loop
 μ-loop places g first n k₀ k = n - k
 
--- src/values.rt:36:5
 loop-holds : tie.Need-loop-holds Inv-loop μ-loop
 loop-holds c = (all-none _, omega arith)
 
--- src/values.rt:37:36
 add-item-at : tie.Need-add-item-at Inv-loop μ-loop
 add-item-at c = omega arith
 
--- src/values.rt:37:13
 item-at-requires : tie.Need-item-at-requires Inv-loop μ-loop
 item-at-requires c κs = search needs
 
--- src/values.rt:39:13
 add-k : tie.Need-add-k Inv-loop μ-loop
 add-k c = omega arith
 
--- src/values.rt:36:5
 loop-less : tie.Need-loop-less Inv-loop μ-loop
 loop-less c = omega arith
 
--- src/values.rt:36:5
 loop-again : tie.Need-loop-again Inv-loop μ-loop
 loop-again c = (all-turn _ (c .before .before .before .before .loop .k) (rw (← c .before .before .item-at .ensures, lt-ltb _ _ (c .if1 .taken))) (c .before .before .before .before .loop .inv .0), omega arith)
 
--- src/values.rt:41:13
 returns : tie.Need-returns Inv-loop μ-loop
 returns c = all-fails _ (c .before .before .before .before .loop .k) _ (c .before .before .before .loop-test .taken) (rw (← c .before .before .item-at .ensures, le-ltb _ _ (c .if1 .left)))
 
--- src/values.rt:31:1
 returns-2 : tie.Need-returns-2 Inv-loop μ-loop
 returns-2 c = all-end _ (c .before .loop .k) _ (omega arith) (c .loop-test .left) (c .before .loop .inv .0)
 

@@ -16,11 +16,6 @@ use Rattle.scheduler.specs.CancelLaws.{places-fit}
 use Rattle.sound.specs.ValueLaws.{items-read}
 use Rattle.sound.proofs.values.items_lower.Statement.{statement}
 use Rattle.sound.proofs.values.items_lower.Tie as tie
-use Rattle.sound.proofs.values.items_lower.Reads as reads
-use Rattle.sound.proofs.values.items_lower.Lts as lts
-use Rattle.rows.proofs.parts.count_at.Reads as count-at-reads
-use Rattle.rows.proofs.parts.first_at.Reads as first-at-reads
-use Rattle.sound.proofs.values.items_below.Reads as items-below-reads
 
 abbrev Inv-loop : tie.InvT-loop
 Inv-loop made objects places o₀ o = (all-below o (λ (g : ℕ). items-below (place-at places) g (object-at objects g)) ≡ true) × (o ≤ made)
@@ -28,48 +23,37 @@ Inv-loop made objects places o₀ o = (all-below o (λ (g : ℕ). items-below (p
 abbrev μ-loop : tie.MeasureT-loop
 μ-loop made objects places o₀ o = made - o
 
--- src/values.rt:53:5
 loop-holds : tie.Need-loop-holds Inv-loop μ-loop
 loop-holds c = (all-none _, omega arith)
 
--- src/values.rt:54:13
 first-at-requires : tie.Need-first-at-requires Inv-loop μ-loop
 first-at-requires c κs = search needs
 
--- src/values.rt:55:13
 count-at-requires : tie.Need-count-at-requires Inv-loop μ-loop
 count-at-requires c κs = search needs
 
--- src/values.rt:56:35
 cast-items-below : tie.Need-cast-items-below Inv-loop μ-loop
 cast-items-below c = omega arith
 
--- src/values.rt:56:51
 cast-items-below-2 : tie.Need-cast-items-below-2 Inv-loop μ-loop
 cast-items-below-2 c = omega arith
 
--- src/values.rt:56:12
 items-below-requires : tie.Need-items-below-requires Inv-loop μ-loop
 items-below-requires c κs = (search needs, omega (arith, places-fit (now (c .before .before .before .before .before .before .args .objects)) (c .before .before .before .loop .o) (c .before .first-at .ensures) (c .count-at .ensures) .within))
 
--- src/values.rt:57:13
 add-o : tie.Need-add-o Inv-loop μ-loop
 add-o c = omega arith
 
--- src/values.rt:53:5
 loop-less : tie.Need-loop-less Inv-loop μ-loop
 loop-less c = omega arith
 
--- src/values.rt:53:5
 loop-again : tie.Need-loop-again Inv-loop μ-loop
 loop-again c = (all-turn _ (c .before .before .before .before .before .loop .o) (sym (c .if1 .taken) ∙ items-read _ _ _ (c .before .before .before .first-at .ensures) (c .before .before .count-at .ensures) (c .before .items-below .ensures)) (c .before .before .before .before .before .loop .inv .0), omega arith)
 
--- src/values.rt:59:13
 returns : tie.Need-returns Inv-loop μ-loop
 unfolding items-lower
 returns c = all-fails _ (c .before .before .before .before .before .loop .o) _ (c .before .before .before .before .loop-test .taken) (sym (c .if1 .left) ∙ items-read _ _ _ (c .before .before .before .first-at .ensures) (c .before .before .count-at .ensures) (c .before .items-below .ensures))
 
--- src/values.rt:48:1
 returns-2 : tie.Need-returns-2 Inv-loop μ-loop
 unfolding items-lower
 returns-2 c = all-end _ (c .before .loop .o) _ (omega arith) (c .loop-test .left) (c .before .loop .inv .0)

@@ -11,35 +11,24 @@ use Rattle.machine.specs.Sound.{lists-completed}
 use Rattle.sound.specs.Loops.{pass, stop}
 use Rattle.sound.proofs.values.lists_completed.Statement.{statement}
 use Rattle.sound.proofs.values.lists_completed.Tie as tie
-use Rattle.sound.proofs.values.lists_completed.Reads as reads
-use Rattle.sound.proofs.values.lists_completed.Lts as lts
-use Rattle.sound.proofs.values.objects_known.Reads as objects-known-reads
-use Rattle.sound.proofs.values.places_known.Reads as places-known-reads
-use Rattle.sound.proofs.values.tasks_known.Reads as tasks-known-reads
 
--- src/values.rt:197:8
 objects-known-requires : tie.Need-objects-known-requires
 objects-known-requires c κs = search needs
 
--- src/values.rt:198:12
 tasks-known-requires : tie.Need-tasks-known-requires
 tasks-known-requires c κs = search needs
 
--- src/values.rt:199:13
 places-known-requires : tie.Need-places-known-requires
 places-known-requires c κs = search needs
 
--- src/values.rt:199:13
 returns : tie.Need-returns
 unfolding lists-completed
 returns c = pass (sym (c .before .before .before .if1 .taken) ∙ c .before .before .before .before .objects-known .ensures) (pass (sym (c .before .if2 .taken) ∙ c .before .before .tasks-known .ensures) (c .places-known .ensures))
 
--- src/values.rt:201:9
 returns-2 : tie.Need-returns-2
 unfolding lists-completed
 returns-2 c = pass (sym (c .before .before .if1 .taken) ∙ c .before .before .before .objects-known .ensures) (stop _ (sym (c .if2 .left) ∙ c .before .tasks-known .ensures))
 
--- src/values.rt:193:1
 returns-3 : tie.Need-returns-3
 unfolding lists-completed
 returns-3 c = stop _ (sym (c .if1 .left) ∙ c .before .objects-known .ensures)

@@ -10,62 +10,43 @@ use Rattle.sound.specs.ValueLaws.{values-other, values-read, values-unma
 use borrow.Author.Needs.{needs}
 use Rattle.sound.proofs.values.object_values.Statement.{statement}
 use Rattle.sound.proofs.values.object_values.Tie as tie
-use Rattle.sound.proofs.values.object_values.Reads as reads
-use Rattle.sound.proofs.values.object_values.Lts as lts
-use Rattle.asyncio.proofs.Kind.is_external.Reads as is-external-reads
-use Rattle.rows.proofs.parts.kind_at.Reads as kind-at-reads
-use Rattle.rows.proofs.tables.load_object.Reads as load-object-reads
-use Rattle.sound.proofs.values.external_values.Reads as external-values-reads
 
--- src/values.rt:111:9
 kind-at-requires : tie.Need-kind-at-requires
 kind-at-requires c κs = search needs
 
--- src/values.rt:112:8
 is-external-requires : tie.Need-is-external-requires
 is-external-requires c κs = search needs
 
--- src/values.rt:113:13
 load-object-requires : tie.Need-load-object-requires
 load-object-requires c κs = search needs
 
--- src/values.rt:115:31
 enum-told : tie.Need-enum-told
 enum-told c = search needs
 
--- src/values.rt:119:18
 enum-told-2 : tie.Need-enum-told-2
 enum-told-2 c = search needs
 
--- src/values.rt:120:47
 enum-known-x : tie.Need-enum-known-x
 enum-known-x c = search needs
 
--- src/values.rt:120:58
 external-values-requires : tie.Need-external-values-requires
 external-values-requires c κs = search needs
 
--- src/values.rt:125:18
 enum-told-3 : tie.Need-enum-told-3
 enum-told-3 c = search needs
 
--- src/values.rt:114:9
 returns : tie.Need-returns
 returns c = values-unmade _ _ _ (c .before .before .load-object .ensures) (c .enum-told .given .1)
 
--- src/values.rt:114:9
 returns-2 : tie.Need-returns-2
 returns-2 c = values-coroutine _ _ _ (c .before .before .load-object .ensures) (c .enum-told2 .given .1)
 
--- src/values.rt:114:9
 returns-3 : tie.Need-returns-3
 returns-3 c = values-read _ _ _ (c .before .before .before .before .load-object .ensures) (c .before .before .x .given .1) (c .external-values .ensures)
 
--- src/values.rt:114:9
 returns-4 : tie.Need-returns-4
 returns-4 c = values-gather _ _ _ (c .before .before .load-object .ensures) (c .enum-told3 .given .1)
 
--- src/values.rt:107:1
 returns-5 : tie.Need-returns-5
 returns-5 c = values-other _ _ _ (c .before .before .kind-at .ensures) (sym (c .before .is-external .ensures) ∙ c .if1 .left)
 

@@ -13,9 +13,6 @@ use Rattle.rows.specs.Tables.{object-at}
 use Rattle.machine.specs.Sound.{object-values}
 use Rattle.sound.proofs.values.objects_known.Statement.{statement}
 use Rattle.sound.proofs.values.objects_known.Tie as tie
-use Rattle.sound.proofs.values.objects_known.Reads as reads
-use Rattle.sound.proofs.values.objects_known.Lts as lts
-use Rattle.sound.proofs.values.object_values.Reads as object-values-reads
 
 abbrev Inv-loop : tie.InvT-loop
 Inv-loop made objects o₀ o = (all-below o (λ (o : ℕ). object-values made (object-at objects) (object-at objects o)) ≡ true) × (o ≤ made)
@@ -23,31 +20,24 @@ Inv-loop made objects o₀ o = (all-below o (λ (o : ℕ). object-values made (o
 abbrev μ-loop : tie.MeasureT-loop
 μ-loop made objects o₀ o = made - o
 
--- src/values.rt:151:5
 loop-holds : tie.Need-loop-holds Inv-loop μ-loop
 loop-holds c = (all-none _, omega arith)
 
--- src/values.rt:152:12
 object-values-requires : tie.Need-object-values-requires Inv-loop μ-loop
 object-values-requires c κs = search needs
 
--- src/values.rt:153:13
 add-o : tie.Need-add-o Inv-loop μ-loop
 add-o c = omega arith
 
--- src/values.rt:151:5
 loop-less : tie.Need-loop-less Inv-loop μ-loop
 loop-less c = omega arith
 
--- src/values.rt:151:5
 loop-again : tie.Need-loop-again Inv-loop μ-loop
 loop-again c = (all-turn _ (c .before .before .before .loop .o) (sym (c .if1 .taken) ∙ c .before .object-values .ensures) (c .before .before .before .loop .inv .0), omega arith)
 
--- src/values.rt:155:13
 returns : tie.Need-returns Inv-loop μ-loop
 returns c = all-fails _ (c .before .before .before .loop .o) _ (c .before .before .loop-test .taken) (sym (c .if1 .left) ∙ c .before .object-values .ensures)
 
--- src/values.rt:146:1
 returns-2 : tie.Need-returns-2 Inv-loop μ-loop
 returns-2 c = all-end _ (c .before .loop .o) _ (omega arith) (c .loop-test .left) (c .before .loop .inv .0)
 

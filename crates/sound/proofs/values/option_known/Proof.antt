@@ -10,28 +10,20 @@ use Rattle.machine.specs.Sound.{option-known}
 use borrow.Author.Needs.{needs}
 use Rattle.sound.proofs.values.option_known.Statement.{statement}
 use Rattle.sound.proofs.values.option_known.Tie as tie
-use Rattle.sound.proofs.values.option_known.Reads as reads
-use Rattle.sound.proofs.values.option_known.Lts as lts
-use Rattle.sound.proofs.values.value_known.Reads as value-known-reads
 
--- src/values.rt:89:30
 enum-told : tie.Need-enum-told
 enum-told c = search needs
 
--- src/values.rt:90:27
 enum-known-x : tie.Need-enum-known-x
 enum-known-x c = search needs
 
--- src/values.rt:90:33
 value-known-requires : tie.Need-value-known-requires
 value-known-requires c κs = search needs
 
--- src/values.rt:84:1
 returns : tie.Need-returns
 unfolding option-known
 returns c = rw (c .enum-told .given .1)
 
--- src/values.rt:84:1
 returns-2 : tie.Need-returns-2
 unfolding option-known
 returns-2 c = rw (c .before .before .x .given .1) (c .value-known .ensures)

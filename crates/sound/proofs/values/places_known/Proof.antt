@@ -13,10 +13,6 @@ use Rattle.rows.specs.Tables.{object-at, place-at}
 use Rattle.machine.specs.Sound.{option-known}
 use Rattle.sound.proofs.values.places_known.Statement.{statement}
 use Rattle.sound.proofs.values.places_known.Tie as tie
-use Rattle.sound.proofs.values.places_known.Reads as reads
-use Rattle.sound.proofs.values.places_known.Lts as lts
-use Rattle.rows.proofs.parts.result_at.Reads as result-at-reads
-use Rattle.sound.proofs.values.option_known.Reads as option-known-reads
 
 abbrev Inv-loop : tie.InvT-loop
 Inv-loop made used objects places n p₀ p = (all-below p (λ (p : ℕ). option-known made (object-at objects) (place-at places p .result)) ≡ true) × (p ≤ n)
@@ -24,35 +20,27 @@ Inv-loop made used objects places n p₀ p = (all-below p (λ (p : ℕ). option-
 abbrev μ-loop : tie.MeasureT-loop
 μ-loop made used objects places n p₀ p = n - p
 
--- src/values.rt:182:5
 loop-holds : tie.Need-loop-holds Inv-loop μ-loop
 loop-holds c = (all-none _, omega arith)
 
--- src/values.rt:183:40
 result-at-requires : tie.Need-result-at-requires Inv-loop μ-loop
 result-at-requires c κs = search needs
 
--- src/values.rt:183:12
 option-known-requires : tie.Need-option-known-requires Inv-loop μ-loop
 option-known-requires c κs = search needs
 
--- src/values.rt:184:13
 add-p : tie.Need-add-p Inv-loop μ-loop
 add-p c = omega arith
 
--- src/values.rt:182:5
 loop-less : tie.Need-loop-less Inv-loop μ-loop
 loop-less c = omega arith
 
--- src/values.rt:182:5
 loop-again : tie.Need-loop-again Inv-loop μ-loop
 loop-again c = (all-turn _ (c .before .before .before .before .loop .p) (sym (c .if1 .taken) ∙ c .before .option-known .ensures ∙ ap (option-known _ _) (c .before .before .result-at .ensures)) (c .before .before .before .before .loop .inv .0), omega arith)
 
--- src/values.rt:186:13
 returns : tie.Need-returns Inv-loop μ-loop
 returns c = all-fails _ (c .before .before .before .before .loop .p) _ (c .before .before .before .loop-test .taken) (sym (c .if1 .left) ∙ c .before .option-known .ensures ∙ ap (option-known _ _) (c .before .before .result-at .ensures))
 
--- src/values.rt:176:1
 returns-2 : tie.Need-returns-2 Inv-loop μ-loop
 returns-2 c = all-end _ (c .before .loop .p) _ (omega arith) (c .loop-test .left) (c .before .loop .inv .0)
 

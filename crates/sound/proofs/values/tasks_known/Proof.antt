@@ -13,10 +13,6 @@ use Rattle.rows.specs.Tables.{task-at, object-at}
 use Rattle.machine.specs.Sound.{state-values}
 use Rattle.sound.proofs.values.tasks_known.Statement.{statement}
 use Rattle.sound.proofs.values.tasks_known.Tie as tie
-use Rattle.sound.proofs.values.tasks_known.Reads as reads
-use Rattle.sound.proofs.values.tasks_known.Lts as lts
-use Rattle.rows.proofs.parts.state_at.Reads as state-at-reads
-use Rattle.sound.proofs.values.state_values.Reads as state-values-reads
 
 abbrev Inv-loop : tie.InvT-loop
 Inv-loop made next tasks objects t₀ t = (all-below t (λ (t : ℕ). state-values made (object-at objects) (task-at tasks t .state)) ≡ true) × (t ≤ next)
@@ -24,35 +20,27 @@ Inv-loop made next tasks objects t₀ t = (all-below t (λ (t : ℕ). state-valu
 abbrev μ-loop : tie.MeasureT-loop
 μ-loop made next tasks objects t₀ t = next - t
 
--- src/values.rt:166:5
 loop-holds : tie.Need-loop-holds Inv-loop μ-loop
 loop-holds c = (all-none _, omega arith)
 
--- src/values.rt:167:40
 state-at-requires : tie.Need-state-at-requires Inv-loop μ-loop
 state-at-requires c κs = search needs
 
--- src/values.rt:167:12
 state-values-requires : tie.Need-state-values-requires Inv-loop μ-loop
 state-values-requires c κs = search needs
 
--- src/values.rt:168:13
 add-t : tie.Need-add-t Inv-loop μ-loop
 add-t c = omega arith
 
--- src/values.rt:166:5
 loop-less : tie.Need-loop-less Inv-loop μ-loop
 loop-less c = omega arith
 
--- src/values.rt:166:5
 loop-again : tie.Need-loop-again Inv-loop μ-loop
 loop-again c = (all-turn _ (c .before .before .before .before .loop .t) (sym (c .if1 .taken) ∙ c .before .state-values .ensures ∙ ap (state-values _ _) (c .before .before .state-at .ensures)) (c .before .before .before .before .loop .inv .0), omega arith)
 
--- src/values.rt:170:13
 returns : tie.Need-returns Inv-loop μ-loop
 returns c = all-fails _ (c .before .before .before .before .loop .t) _ (c .before .before .before .loop-test .taken) (sym (c .if1 .left) ∙ c .before .state-values .ensures ∙ ap (state-values _ _) (c .before .before .state-at .ensures))
 
--- src/values.rt:161:1
 returns-2 : tie.Need-returns-2 Inv-loop μ-loop
 returns-2 c = all-end _ (c .before .loop .t) _ (omega arith) (c .loop-test .left) (c .before .loop .inv .0)
 

@@ -11,38 +11,27 @@ use Rattle.machine.specs.Sound.{value-known}
 use borrow.Author.Needs.{needs}
 use Rattle.sound.proofs.values.value_known.Statement.{statement}
 use Rattle.sound.proofs.values.value_known.Tie as tie
-use Rattle.sound.proofs.values.value_known.Reads as reads
-use Rattle.sound.proofs.values.value_known.Lts as lts
-use Rattle.asyncio.proofs.Kind.is_completed.Reads as is-completed-reads
-use Rattle.rows.proofs.parts.kind_at.Reads as kind-at-reads
 
--- src/values.rt:73:28
 enum-told : tie.Need-enum-told
 enum-told c = search needs
 
--- src/values.rt:74:21
 enum-known-v : tie.Need-enum-known-v
 enum-known-v c = search needs
 
--- src/values.rt:76:21
 kind-at-requires : tie.Need-kind-at-requires
 kind-at-requires c κs = search needs
 
--- src/values.rt:77:17
 is-completed-requires : tie.Need-is-completed-requires
 is-completed-requires c κs = search needs
 
--- src/values.rt:77:17
 returns : tie.Need-returns
 unfolding value-known _and_
 returns c = rw (c .before .before .before .before .before .v .given .1, lt-ltb _ _ (c .before .before .if1 .taken), ← c .before .kind-at .ensures) (c .is-completed .ensures)
 
--- src/values.rt:68:1
 returns-2 : tie.Need-returns-2
 unfolding value-known
 returns-2 c = rw (c .enum-told .given .1)
 
--- src/values.rt:68:1
 returns-3 : tie.Need-returns-3
 unfolding value-known _and_
 returns-3 c = rw (c .before .before .before .v .given .1, le-ltb _ _ (c .if1 .left))

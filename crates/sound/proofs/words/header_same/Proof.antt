@@ -10,30 +10,19 @@ use Rattle.sound.specs.Words.{same-header}
 use borrow.Author.Needs.{needs}
 use Rattle.sound.proofs.words.header_same.Statement.{statement}
 use Rattle.sound.proofs.words.header_same.Tie as tie
-use Rattle.sound.proofs.words.header_same.Reads as reads
-use Rattle.sound.proofs.words.header_same.Lts as lts
-use Rattle.asyncio.proofs.words.header_words.Reads as header-words-reads
-use Rattle.asyncio.proofs.words.to_header.Reads as to-header-reads
-use Rattle.rows.proofs.tables.load8.Reads as load8-reads
-use Rattle.sound.proofs.words.same8.Reads as same8-reads
 
--- src/words.rt:51:9
 load8-requires : tie.Need-load8-requires
 load8-requires c κs = search needs
 
--- src/words.rt:52:24
 to-header-requires : tie.Need-to-header-requires
 to-header-requires c κs = search needs
 
--- src/words.rt:52:11
 header-words-requires : tie.Need-header-words-requires
 header-words-requires c κs = search needs
 
--- src/words.rt:52:5
 same8-requires : tie.Need-same8-requires
 same8-requires c κs = search needs
 
--- src/words.rt:47:1
 returns : tie.Need-returns
 returns c = same-header (c .same8 .ensures) _ (c .before .before .before .load8 .ensures) (c .before .before .to-header .ensures) (c .before .header-words .ensures)
 

@@ -10,38 +10,25 @@ use Rattle.sound.specs.Words.{same-object}
 use borrow.Author.Needs.{needs}
 use Rattle.sound.proofs.words.object_same.Statement.{statement}
 use Rattle.sound.proofs.words.object_same.Tie as tie
-use Rattle.sound.proofs.words.object_same.Reads as reads
-use Rattle.sound.proofs.words.object_same.Lts as lts
-use Rattle.asyncio.proofs.words.object_words.Reads as object-words-reads
-use Rattle.asyncio.proofs.words.to_object.Reads as to-object-reads
-use Rattle.rows.proofs.tables.load8.Reads as load8-reads
-use Rattle.sound.proofs.words.same8.Reads as same8-reads
 
--- src/words.rt:67:30
 mul-load8 : tie.Need-mul-load8
 mul-load8 c = search needs
 
--- src/words.rt:67:30
 add-load8 : tie.Need-add-load8
 add-load8 c = search needs
 
--- src/words.rt:67:9
 load8-requires : tie.Need-load8-requires
 load8-requires c κs = search needs
 
--- src/words.rt:68:24
 to-object-requires : tie.Need-to-object-requires
 to-object-requires c κs = search needs
 
--- src/words.rt:68:11
 object-words-requires : tie.Need-object-words-requires
 object-words-requires c κs = search needs
 
--- src/words.rt:68:5
 same8-requires : tie.Need-same8-requires
 same8-requires c κs = search needs
 
--- src/words.rt:63:1
 returns : tie.Need-returns
 returns c = same-object (c .same8 .ensures) _ _ (c .before .before .before .load8 .ensures) (c .before .before .to-object .ensures) (c .before .object-words .ensures)
 

@@ -12,9 +12,6 @@ use Rattle.sound.specs.Loops.{all-none, all-turn, all-fails, all-end}
 use Rattle.rows.specs.Canonical.{object-canonical}
 use Rattle.sound.proofs.words.objects_same.Statement.{statement}
 use Rattle.sound.proofs.words.objects_same.Tie as tie
-use Rattle.sound.proofs.words.objects_same.Reads as reads
-use Rattle.sound.proofs.words.objects_same.Lts as lts
-use Rattle.sound.proofs.words.object_same.Reads as object-same-reads
 
 abbrev Inv-loop : tie.InvT-loop
 Inv-loop objects n i₀ i = (all-below i (λ o. object-canonical objects o) ≡ true) × (i ≤ n)
@@ -22,31 +19,24 @@ Inv-loop objects n i₀ i = (all-below i (λ o. object-canonical objects o) ≡ 
 abbrev μ-loop : tie.MeasureT-loop
 μ-loop objects n i₀ i = n - i
 
--- src/words.rt:99:5
 loop-holds : tie.Need-loop-holds Inv-loop μ-loop
 loop-holds c = (all-none _, omega arith)
 
--- src/words.rt:100:12
 object-same-requires : tie.Need-object-same-requires Inv-loop μ-loop
 object-same-requires c κs = search needs
 
--- src/words.rt:101:13
 add-i : tie.Need-add-i Inv-loop μ-loop
 add-i c = omega arith
 
--- src/words.rt:99:5
 loop-less : tie.Need-loop-less Inv-loop μ-loop
 loop-less c = omega arith
 
--- src/words.rt:99:5
 loop-again : tie.Need-loop-again Inv-loop μ-loop
 loop-again c = (all-turn _ (c .before .before .before .loop .i) (sym (c .if1 .taken) ∙ c .before .object-same .ensures) (c .before .before .before .loop .inv .0), omega arith)
 
--- src/words.rt:103:13
 returns : tie.Need-returns Inv-loop μ-loop
 returns c = all-fails _ (c .before .before .before .loop .i) _ (c .before .before .loop-test .taken) (sym (c .if1 .left) ∙ c .before .object-same .ensures)
 
--- src/words.rt:94:1
 returns-2 : tie.Need-returns-2 Inv-loop μ-loop
 returns-2 c = all-end _ (c .before .loop .i) _ (omega arith) (c .loop-test .left) (c .before .loop .inv .0)
 

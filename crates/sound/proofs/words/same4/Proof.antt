@@ -12,8 +12,6 @@ use Rattle.sound.specs.Loops.{all-none, all-turn, all-fails, all-end}
 use Rattle.sound.specs.Words.{same-word, same-below}
 use Rattle.sound.proofs.words.same4.Statement.{statement}
 use Rattle.sound.proofs.words.same4.Tie as tie
-use Rattle.sound.proofs.words.same4.Reads as reads
-use Rattle.sound.proofs.words.same4.Lts as lts
 
 abbrev Inv-loop : tie.InvT-loop
 Inv-loop a b i₀ i = (all-below i (same-word a b) ≡ true) × (i ≤ 4) × (length a ≡ 4) × (length b ≡ 4)
@@ -21,43 +19,33 @@ Inv-loop a b i₀ i = (all-below i (same-word a b) ≡ true) × (i ≤ 4) × (le
 abbrev μ-loop : tie.MeasureT-loop
 μ-loop a b i₀ i = 4 - i
 
--- src/words.rt:37:5
 loop-holds : tie.Need-loop-holds Inv-loop μ-loop
 loop-holds c = (all-none _, omega arith, omega arith, omega arith)
 
--- src/words.rt:38:12
 mul-if1 : tie.Need-mul-if1 Inv-loop μ-loop
 mul-if1 c = omega arith
 
--- src/words.rt:38:12
 array-read-if1 : tie.Need-array-read-if1 Inv-loop μ-loop
 array-read-if1 c = omega arith
 
--- src/words.rt:38:20
 mul-if1-2 : tie.Need-mul-if1-2 Inv-loop μ-loop
 mul-if1-2 c = omega arith
 
--- src/words.rt:38:20
 array-read-if1-2 : tie.Need-array-read-if1-2 Inv-loop μ-loop
 array-read-if1-2 c = omega arith
 
--- src/words.rt:39:13
 add-i : tie.Need-add-i Inv-loop μ-loop
 add-i c = omega arith
 
--- src/words.rt:37:5
 loop-less : tie.Need-loop-less Inv-loop μ-loop
 loop-less c = omega arith
 
--- src/words.rt:37:5
 loop-again : tie.Need-loop-again Inv-loop μ-loop
 loop-again c = (all-turn _ (c .before .before .loop .i) (sym (eq-eqb _ _ (c .if1 .taken))) (c .before .before .loop .inv .0), omega arith, omega arith, omega arith)
 
--- src/words.rt:41:13
 returns : tie.Need-returns Inv-loop μ-loop
 returns c = all-fails _ (c .before .before .loop .i) 4 (c .before .loop-test .taken) (sym (ne-eqb _ _ (c .if1 .left))) ∙ same-below 4 _ _ (c .before .before .loop .inv .2) (c .before .before .loop .inv .3)
 
--- src/words.rt:33:1
 returns-2 : tie.Need-returns-2 Inv-loop μ-loop
 returns-2 c = all-end _ (c .before .loop .i) 4 (omega arith) (c .loop-test .left) (c .before .loop .inv .0) ∙ same-below 4 _ _ (c .before .loop .inv .2) (c .before .loop .inv .3)
 
