@@ -1,0 +1,28 @@
+use mathlib.Core.Path.{_≡_, refl, sym, ap, _∙_}
+use mathlib.Core.Bool.{Bool, true, false, not}
+use Prim.Native.Nat.{ℕ, _-_, _+_, _*_, _≤_, _<_}
+use native.Mathlib.Omega.{arith}
+use lib.ListN.{length, getD}
+use lib.Dec.{eqb, ltb, leb}
+use borrow.Author.Tests.{eq-eqb, ne-eqb, lt-ltb, le-ltb, le-leb, lt-leb}
+use denote.Ref.{now}
+use Rattle.machine.specs.Tests.{_and_}
+use Rattle.sound.specs.Loops.{pass, stop}
+use borrow.Author.Needs.{needs}
+use Rattle.sound.proofs.numbers.coroutine_made.Statement.{statement}
+use Rattle.sound.proofs.numbers.coroutine_made.Tie as tie
+
+kind-at-requires : tie.Need-kind-at-requires
+kind-at-requires c κs = search needs
+
+is-coroutine-requires : tie.Need-is-coroutine-requires
+is-coroutine-requires c κs = search needs
+
+returns : tie.Need-returns
+returns c = pass (sym (lt-ltb _ _ (c .before .before .if1 .taken))) (rw (← c .before .kind-at .ensures) (c .is-coroutine .ensures))
+
+returns-2 : tie.Need-returns-2
+returns-2 c = stop _ (sym (le-ltb _ _ (c .if1 .left)))
+
+pub coroutine-made-spec : {M : Type 1} → statement M
+coroutine-made-spec = tie.close (tie.spec kind-at-requires is-coroutine-requires returns returns-2)

@@ -1,0 +1,24 @@
+use mathlib.Core.Path.{_≡_, refl, sym, ap, _∙_}
+use mathlib.Core.Bool.{Bool, true, false, not}
+use Prim.Native.Nat.{ℕ, _-_, _+_, _*_, _≤_, _<_}
+use native.Mathlib.Omega.{arith}
+use lib.ListN.{length, getD}
+use lib.Dec.{eqb, ltb, leb}
+use borrow.Author.Tests.{eq-eqb, ne-eqb, lt-ltb, le-ltb, le-leb, lt-leb}
+use denote.Ref.{now}
+use Rattle.sound.specs.NumberLaws.{spawned-fit}
+use borrow.Author.Needs.{needs}
+use Rattle.sound.proofs.numbers.spawned_in_range.Statement.{statement}
+use Rattle.sound.proofs.numbers.spawned_in_range.Tie as tie
+
+committed-places-requires : tie.Need-committed-places-requires
+committed-places-requires c κs = search needs
+
+add-result : tie.Need-add-result
+add-result c = search needs
+
+returns : tie.Need-returns
+returns c = spawned-fit _ _ (c .before .committed-places .ensures .0)
+
+pub spawned-in-range-spec : {M : Type 1} → statement M
+spawned-in-range-spec = tie.close (tie.spec committed-places-requires add-result returns)

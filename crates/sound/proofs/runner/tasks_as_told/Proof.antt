@@ -1,0 +1,63 @@
+use mathlib.Core.Path.{_≡_, refl, sym, ap, _∙_}
+use mathlib.Core.Bool.{Bool, true, false, not}
+use Prim.Native.Nat.{ℕ, _-_, _+_, _*_, _≤_, _<_}
+use native.Mathlib.Omega.{arith}
+use lib.ListN.{length, getD}
+use lib.Dec.{eqb, ltb, leb}
+use borrow.Author.Tests.{eq-eqb, ne-eqb, lt-ltb, le-ltb, le-leb, lt-leb}
+use borrow.Author.Needs.{needs}
+use denote.Ref.{now}
+use Rattle.machine.specs.Tests.{all-below}
+use Rattle.sound.specs.Loops.{all-none, all-turn, all-fails, all-end}
+use mathlib.Core.Bool.{Bool·beq}
+use Rattle.asyncio.specs.States.{is-running}
+use Rattle.sound.specs.RunnerLaws.{told-read}
+use Rattle.rows.specs.Tables.{task-at}
+use Rattle.machine.specs.Sound.{runs-now}
+use Rattle.sound.proofs.runner.tasks_as_told.Statement.{statement}
+use Rattle.sound.proofs.runner.tasks_as_told.Tie as tie
+
+abbrev Inv-loop : tie.InvT-loop
+Inv-loop tasks next moment t₀ t = (all-below t (λ (u : ℕ). Bool·beq (is-running (task-at tasks u .state)) (runs-now moment u)) ≡ true) × (t ≤ next)
+
+abbrev μ-loop : tie.MeasureT-loop
+μ-loop tasks next moment t₀ t = next - t
+
+loop-holds : tie.Need-loop-holds Inv-loop μ-loop
+loop-holds c = (all-none _, omega arith)
+
+state-at-requires : tie.Need-state-at-requires Inv-loop μ-loop
+state-at-requires c κs = search needs
+
+runs-as-told-requires : tie.Need-runs-as-told-requires Inv-loop μ-loop
+runs-as-told-requires c κs = search needs
+
+add-t : tie.Need-add-t Inv-loop μ-loop
+add-t c = omega arith
+
+loop-less : tie.Need-loop-less Inv-loop μ-loop
+loop-less c = omega arith
+
+loop-again : tie.Need-loop-again Inv-loop μ-loop
+loop-again c = (all-turn _ (c .before .before .before .before .loop .t) (sym (c .if1 .taken) ∙ told-read _ _ (c .before .before .state-at .ensures) (c .before .runs-as-told .ensures)) (c .before .before .before .before .loop .inv .0), omega arith)
+
+returns : tie.Need-returns Inv-loop μ-loop
+returns c = all-fails _ (c .before .before .before .before .loop .t) _ (c .before .before .before .loop-test .taken) (sym (c .if1 .left) ∙ told-read _ _ (c .before .before .state-at .ensures) (c .before .runs-as-told .ensures))
+
+returns-2 : tie.Need-returns-2 Inv-loop μ-loop
+returns-2 c = all-end _ (c .before .loop .t) _ (omega arith) (c .loop-test .left) (c .before .loop .inv .0)
+
+pub tasks-as-told-spec : {M : Type 1} → statement M
+tasks-as-told-spec =
+    tie.close
+    (tie.spec
+    Inv-loop
+    μ-loop
+    loop-holds
+    state-at-requires
+    runs-as-told-requires
+    add-t
+    loop-less
+    loop-again
+    returns
+    returns-2)

@@ -1,0 +1,62 @@
+use mathlib.Core.Path.{_≡_, refl, sym, ap, _∙_}
+use mathlib.Core.Bool.{Bool, true, false, not}
+use Prim.Native.Nat.{ℕ, _-_, _+_, _*_, _≤_, _<_}
+use native.Mathlib.Omega.{arith}
+use lib.ListN.{length, getD}
+use lib.Dec.{eqb, ltb, leb}
+use borrow.Author.Tests.{eq-eqb, ne-eqb, lt-ltb, le-ltb, le-leb, lt-leb}
+use borrow.Author.Needs.{needs}
+use denote.Ref.{now}
+use Rattle.machine.specs.Tests.{all-below}
+use Rattle.sound.specs.Loops.{all-none, all-turn, all-fails, all-end}
+use Rattle.rows.specs.Tables.{object-at, place-at}
+use Rattle.asyncio.specs.Parts.{awaiter-of}
+use Rattle.machine.specs.Sound.{slot-open}
+use Rattle.sound.specs.AwaiterLaws.{awaiter-fits}
+use Rattle.sound.proofs.slots.object_slots.Statement.{statement}
+use Rattle.sound.proofs.slots.object_slots.Tie as tie
+
+abbrev Inv-loop : tie.InvT-loop
+Inv-loop made objects places o₀ o = (all-below o (λ (o : ℕ). slot-open (object-at objects) (place-at places) o (awaiter-of (object-at objects o))) ≡ true) × (o ≤ made)
+
+abbrev μ-loop : tie.MeasureT-loop
+μ-loop made objects places o₀ o = made - o
+
+loop-holds : tie.Need-loop-holds Inv-loop μ-loop
+loop-holds c = (all-none _, omega arith)
+
+awaiter-at-requires : tie.Need-awaiter-at-requires Inv-loop μ-loop
+awaiter-at-requires c κs = search needs
+
+slot-open-requires : tie.Need-slot-open-requires Inv-loop μ-loop
+slot-open-requires c κs = (search needs, search needs, awaiter-fits _ _ (c .awaiter-at .ensures))
+
+add-o : tie.Need-add-o Inv-loop μ-loop
+add-o c = omega arith
+
+loop-less : tie.Need-loop-less Inv-loop μ-loop
+loop-less c = omega arith
+
+loop-again : tie.Need-loop-again Inv-loop μ-loop
+loop-again c = (all-turn _ (c .before .before .before .before .loop .o) (sym (c .if1 .taken) ∙ c .before .slot-open .ensures ∙ ap (slot-open _ _ _) (c .before .before .awaiter-at .ensures)) (c .before .before .before .before .loop .inv .0), omega arith)
+
+returns : tie.Need-returns Inv-loop μ-loop
+returns c = all-fails _ (c .before .before .before .before .loop .o) _ (c .before .before .before .loop-test .taken) (sym (c .if1 .left) ∙ c .before .slot-open .ensures ∙ ap (slot-open _ _ _) (c .before .before .awaiter-at .ensures))
+
+returns-2 : tie.Need-returns-2 Inv-loop μ-loop
+returns-2 c = all-end _ (c .before .loop .o) _ (omega arith) (c .loop-test .left) (c .before .loop .inv .0)
+
+pub object-slots-spec : {M : Type 1} → statement M
+object-slots-spec =
+    tie.close
+    (tie.spec
+    Inv-loop
+    μ-loop
+    loop-holds
+    awaiter-at-requires
+    slot-open-requires
+    add-o
+    loop-less
+    loop-again
+    returns
+    returns-2)

@@ -1,0 +1,55 @@
+use mathlib.Core.Path.{_≡_, refl, sym, ap, _∙_}
+use mathlib.Core.Bool.{Bool, true, false, not}
+use Prim.Native.Nat.{ℕ, _-_, _+_, _*_, _≤_, _<_}
+use native.Mathlib.Omega.{arith}
+use lib.ListN.{length, getD}
+use lib.Dec.{eqb, ltb, leb}
+use borrow.Author.Tests.{eq-eqb, ne-eqb, lt-ltb, le-ltb, le-leb, lt-leb}
+use denote.Ref.{now}
+use Rattle.asyncio.specs.Ranges.{HeaderFits}
+use Rattle.sound.specs.Loops.{pass, stop}
+use Rattle.sound.specs.Whole.{tasks-sound}
+use borrow.Author.Needs.{needs}
+use Rattle.sound.proofs.tasks_sound.Statement.{statement}
+use Rattle.sound.proofs.tasks_sound.Tie as tie
+
+queue-ready-requires : tie.Need-queue-ready-requires
+queue-ready-requires c κs = search needs
+
+calls-distinct-requires : tie.Need-calls-distinct-requires
+calls-distinct-requires c κs = search needs
+
+one-driver-requires : tie.Need-one-driver-requires
+one-driver-requires c κs = search needs
+
+blocked-match-requires : tie.Need-blocked-match-requires
+blocked-match-requires c κs = search needs
+
+returns : tie.Need-returns
+unfolding tasks-sound
+returns c = pass (sym (c .before .before .before .before .before .if1 .taken) ∙ c .before .before .before .before .before .before .queue-ready .ensures) (pass (sym (c .before .before .before .if2 .taken) ∙ c .before .before .before .before .calls-distinct .ensures) (pass (sym (c .before .if3 .taken) ∙ c .before .before .one-driver .ensures) (c .blocked-match .ensures)))
+
+returns-2 : tie.Need-returns-2
+unfolding tasks-sound
+returns-2 c = pass (sym (c .before .before .before .before .if1 .taken) ∙ c .before .before .before .before .before .queue-ready .ensures) (pass (sym (c .before .before .if2 .taken) ∙ c .before .before .before .calls-distinct .ensures) (stop _ (sym (c .if3 .left) ∙ c .before .one-driver .ensures)))
+
+returns-3 : tie.Need-returns-3
+unfolding tasks-sound
+returns-3 c = pass (sym (c .before .before .if1 .taken) ∙ c .before .before .before .queue-ready .ensures) (stop _ (sym (c .if2 .left) ∙ c .before .calls-distinct .ensures))
+
+returns-4 : tie.Need-returns-4
+unfolding tasks-sound
+returns-4 c = stop _ (sym (c .if1 .left) ∙ c .before .queue-ready .ensures)
+
+pub tasks-sound-spec : {M : Type 1} → statement M
+tasks-sound-spec =
+    tie.close
+    (tie.spec
+    queue-ready-requires
+    calls-distinct-requires
+    one-driver-requires
+    blocked-match-requires
+    returns
+    returns-2
+    returns-3
+    returns-4)

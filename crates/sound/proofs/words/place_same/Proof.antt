@@ -1,0 +1,41 @@
+use mathlib.Core.Path.{_≡_, refl, sym, ap, _∙_}
+use mathlib.Core.Bool.{Bool, true, false, not}
+use Prim.Native.Nat.{ℕ, _-_, _+_, _*_, _≤_, _<_}
+use native.Mathlib.Omega.{arith}
+use lib.ListN.{length, getD}
+use lib.Dec.{eqb, ltb, leb}
+use borrow.Author.Tests.{eq-eqb, ne-eqb, lt-ltb, le-ltb, le-leb, lt-leb}
+use denote.Ref.{now}
+use Rattle.sound.specs.Words.{same-place}
+use borrow.Author.Needs.{needs}
+use Rattle.sound.proofs.words.place_same.Statement.{statement}
+use Rattle.sound.proofs.words.place_same.Tie as tie
+
+mul-load4 : tie.Need-mul-load4
+mul-load4 c = search needs
+
+load4-requires : tie.Need-load4-requires
+load4-requires c κs = search needs
+
+to-place-requires : tie.Need-to-place-requires
+to-place-requires c κs = search needs
+
+place-words-requires : tie.Need-place-words-requires
+place-words-requires c κs = search needs
+
+same4-requires : tie.Need-same4-requires
+same4-requires c κs = search needs
+
+returns : tie.Need-returns
+returns c = same-place (c .same4 .ensures) _ _ (c .before .before .before .load4 .ensures) (c .before .before .to-place .ensures) (c .before .place-words .ensures)
+
+pub place-same-spec : {M : Type 1} → statement M
+place-same-spec =
+    tie.close
+    (tie.spec
+    mul-load4
+    load4-requires
+    to-place-requires
+    place-words-requires
+    same4-requires
+    returns)

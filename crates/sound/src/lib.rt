@@ -1,0 +1,115 @@
+// The check of soundness (document 01: "A store is sound when"), clause by clause. It runs at every call: linear in the rows in use, and
+// nothing past the counts is looked at. Each clause is a loop that returns false at the first row that fails. Only a pending call that is
+// not above all before it is looked for among those.
+pub mod words; // rows in use are the words of what they are read as
+pub mod numbers; // clauses 1 and 2
+pub mod values; // clauses 3 and 4
+pub mod entries; // clause 5
+pub mod calls; // clause 6
+pub mod drivers; // clause 7
+pub mod blocked; // clause 8
+pub mod filled; // clause 9
+pub mod slots; // clause 10
+pub mod runner; // clause 11
+
+use asyncio::Header;
+use queue::ReadyQueue;
+use rows::tables::load_header;
+ghost use mathlib.Core.Path.{_≡_};
+ghost use mathlib.Core.List.{List};
+ghost use Prim.Native.Nat.{_≤_};
+ghost use lib.ListN.{length, take};
+ghost use Rattle.asyncio.specs.Limits.{task-limit, tasks-length, objects-length, places-length};
+ghost use Rattle.asyncio.specs.Ranges.{HeaderFits};
+ghost use Rattle.rows.specs.Tables.{task-at, object-at, place-at};
+ghost use Rattle.machine.specs.Store.{Happening, store-of};
+ghost use Rattle.machine.specs.Sound.{sound};
+ghost use Rattle.sound.specs.Whole.{rows-canonical, tables-sound, tasks-sound, gathers-sound};
+
+// Every row in use is canonical.
+fn rows_canonical(header: Header, tasks: &[u64], objects: &[u64], places: &[u64]) -> bool
+    requires { ⌜ (length (now tasks) ≡ tasks-length) × (length (now objects) ≡ objects-length) × (length (now places) ≡ places-length) × HeaderFits header ⌝ }
+    ensures { λ r. ⌜ r ≡ rows-canonical header (now (tasks .entry)) (now (objects .entry)) (now (places .entry)) ⌝ }
+{
+    if words::header_same(objects) {
+        if words::tasks_same(tasks, header.next as usize) {
+            if words::objects_same(objects, header.made as usize) {
+                return words::places_same(places, header.used as usize);
+            }
+            return false;
+        }
+        return false;
+    }
+    false
+}
+
+// Clauses 1 to 4.
+fn tables_sound(header: Header, tasks: &[u64], objects: &[u64], places: &[u64]) -> bool
+    requires { ⌜ (length (now tasks) ≡ tasks-length) × (length (now objects) ≡ objects-length) × (length (now places) ≡ places-length) × HeaderFits header ⌝ }
+    ensures { λ r. ⌜ r ≡ tables-sound header (object-at (now (objects .entry))) (task-at (now (tasks .entry))) (place-at (now (places .entry))) ⌝ }
+{
+    if numbers::numbers_in_range(header, tasks, objects) {
+        if numbers::spawned_in_range(header, objects) {
+            if values::items_lower(header.made, objects, places) {
+                return values::lists_completed(header, tasks, objects, places);
+            }
+            return false;
+        }
+        return false;
+    }
+    false
+}
+
+// Clauses 5 to 8, with the first `n` places of the queue.
+fn tasks_sound(header: Header, ids: [u16; 513], n: usize, tasks: &[u64], objects: &[u64]) -> bool
+    requires { ⌜ (length (now tasks) ≡ tasks-length) × (length (now objects) ≡ objects-length) × HeaderFits header × (n ≤ task-limit) ⌝ }
+    ensures { λ r. ⌜ r ≡ tasks-sound header (object-at (now (objects .entry))) (task-at (now (tasks .entry))) (take n ids) ⌝ }
+{
+    if entries::queue_ready(ids, n, header.next, tasks) {
+        if calls::calls_distinct(header, objects) {
+            if drivers::one_driver(header.next, tasks) {
+                return blocked::blocked_match(header, tasks, objects);
+            }
+            return false;
+        }
+        return false;
+    }
+    false
+}
+
+// Clauses 9 to 11.
+fn gathers_sound(header: Header, tasks: &[u64], objects: &[u64], places: &[u64]) -> bool
+    requires { ⌜ (length (now tasks) ≡ tasks-length) × (length (now objects) ≡ objects-length) × (length (now places) ≡ places-length) × HeaderFits header ⌝ }
+    ensures { λ r. ⌜ r ≡ gathers-sound header (object-at (now (objects .entry))) (task-at (now (tasks .entry))) (place-at (now (places .entry))) ⌝ }
+{
+    if filled::places_filled(header.made, objects, places) {
+        if slots::slots_open(header, tasks, objects, places) {
+            return runner::one_runs(header, tasks);
+        }
+        return false;
+    }
+    false
+}
+
+// Is the store sound? The words are tested first, so that the clauses speak of rows whose words say what they are read as.
+pub fn is_sound(queue: ReadyQueue, tasks: &[u64], objects: &[u64], places: &[u64]) -> bool
+    requires { ⌜ (length (now tasks) ≡ tasks-length) × (length (now objects) ≡ objects-length) × (length (now places) ≡ places-length) ⌝ }
+    ensures { λ r. ⌜ ((l : List Happening) → r ≡ sound (store-of (now (tasks .entry)) (now (objects .entry)) (now (places .entry)) queue l)) ⌝ }
+{
+    let n = queue.len;
+    if 513 < n {
+        return false;
+    }
+    let ids = queue.ids;
+    let header = load_header(objects);
+    if rows_canonical(header, tasks, objects, places) {
+        if tables_sound(header, tasks, objects, places) {
+            if tasks_sound(header, ids, n, tasks, objects) {
+                return gathers_sound(header, tasks, objects, places);
+            }
+            return false;
+        }
+        return false;
+    }
+    false
+}
