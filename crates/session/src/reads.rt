@@ -24,13 +24,23 @@ ghost use Rattle.session.specs.Reads.{shown-of, show-answer};
 
 // What a read of an object shows. The places of a gather are `count` from `first` on; bit i of `waiting` says that place i is open.
 pub enum Shown {
-    Coroutine { state: CoroutineState, function: u32 },
+    Coroutine {
+        state: CoroutineState,
+        function: u32,
+    },
     ExternalPending,
     ExternalResolved(Value),
     ExternalFailed(Error),
     GatherPending,
-    GatherAwaited { first: u16, count: u16, waiting: u32 },
-    GatherCompleted { first: u16, count: u16 },
+    GatherAwaited {
+        first: u16,
+        count: u16,
+        waiting: u32,
+    },
+    GatherCompleted {
+        first: u16,
+        count: u16,
+    },
     GatherFailed(Error),
     Nothing,
 }
@@ -88,13 +98,7 @@ fn show_object(x: Object) -> Shown
 }
 
 // A read of object `o`.
-pub fn show(
-    tasks: &[u64],
-    objects: &[u64],
-    places: &[u64],
-    queue: ReadyQueue,
-    o: u16,
-) -> Reading
+pub fn show(tasks: &[u64], objects: &[u64], places: &[u64], queue: ReadyQueue, o: u16) -> Reading
     ensures { λ r. ⌜ ((l : List Happening) → show-answer (now (places .entry)) r ≡ lent-read (store-of (now (tasks .entry)) (now (objects .entry)) (now (places .entry)) queue l) (Event.show o) .answer) ⌝ }
 {
     if slices_right(tasks, objects, places) {

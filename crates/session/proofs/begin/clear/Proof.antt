@@ -7,8 +7,6 @@ use denote.Ref.{now}
 use Rattle.session.specs.BeginLaws.{clear-turn, clear-end}
 use Rattle.session.proofs.begin.clear.Statement.{statement}
 use Rattle.session.proofs.begin.clear.Tie as tie
-use Rattle.session.proofs.begin.clear.Reads as reads
-use Rattle.session.proofs.begin.clear.Lts as lts
 
 abbrev Inv-loop : tie.InvT-loop
 Inv-loop words₀ n i₀ words i = (take i words ≡ replicate {A = ℕ} i 0) × (length words ≡ n) × (i ≤ n)
@@ -16,35 +14,27 @@ Inv-loop words₀ n i₀ words i = (take i words ≡ replicate {A = ℕ} i 0) ×
 abbrev μ-loop : tie.MeasureT-loop
 μ-loop words₀ n i₀ words i = n - i
 
--- src/begin.rt:30:5
 loop-holds : tie.Need-loop-holds Inv-loop μ-loop
 loop-holds c = (refl, refl, omega arith)
 
--- src/begin.rt:31:9
 mul-words : tie.Need-mul-words Inv-loop μ-loop
 mul-words c = omega arith
 
--- src/begin.rt:31:9
 slice-write-words : tie.Need-slice-write-words Inv-loop μ-loop
 slice-write-words c = omega (arith, c .before .loop .inv .1)
 
--- src/begin.rt:32:9
 add-i : tie.Need-add-i Inv-loop μ-loop
 add-i c = omega arith
 
--- src/begin.rt:30:5
 loop-less : tie.Need-loop-less Inv-loop μ-loop
 loop-less c = omega arith
 
--- src/begin.rt:30:5
 loop-again : tie.Need-loop-again Inv-loop μ-loop
 loop-again c = (clear-turn (c .before .loop .words) (c .before .loop .i) (omega (arith, c .before .loop .inv .1)) (c .before .loop .inv .0), simp length-set (c .before .loop .inv .1), omega arith)
 
--- src/begin.rt:25:1
 same-length : tie.Need-same-length Inv-loop μ-loop
 same-length c = c .before .loop .inv .1
 
--- src/begin.rt:25:1
 returns : tie.Need-returns Inv-loop μ-loop
 returns c = clear-end (c .before .loop .words) (c .before .loop .i) _ (omega (arith, c .before .loop .inv .1)) (c .before .loop .inv .1) (c .before .loop .inv .0)
 

@@ -10,46 +10,32 @@ use Rattle.session.specs.SessionLaws.{quiet}
 use borrow.Author.Needs.{needs}
 use Rattle.session.proofs.making.coroutine.Statement.{statement}
 use Rattle.session.proofs.making.coroutine.Tie as tie
-use Rattle.session.proofs.making.coroutine.Reads as reads
-use Rattle.session.proofs.making.coroutine.Lts as lts
-use Rattle.session.proofs.stub.is_sound.Reads as is-sound-reads
-use Rattle.steps.proofs.lent.lengths_right.Reads as lengths-right-reads
-use Rattle.steps.proofs.making.coroutine.Reads as coroutine-reads
 
--- src/making.rt:28:8
 lengths-right-requires : tie.Need-lengths-right-requires
 lengths-right-requires c κs = search needs
 
--- src/making.rt:29:12
 is-sound-requires : tie.Need-is-sound-requires
 is-sound-requires c κs = let h = lengths-have (length (now (c .before .before .before .before .before .before .before .before .args .tasks))) (length (now (c .before .before .before .before .before .before .before .before .args .objects))) (length (now (c .before .before .before .before .before .before .before .before .args .places))) (length (now (c .before .before .before .before .before .before .before .before .args .calls))) (c .before .before .lengths-right .ensures) (c .before .if1 .taken) in (h .0, h .1, h .2)
 
--- src/making.rt:30:13
 coroutine-requires : tie.Need-coroutine-requires
 coroutine-requires c κs = let h = lengths-have (length (now (c .before .before .before .before .before .before .before .before .before .before .before .args .tasks))) (length (now (c .before .before .before .before .before .before .before .before .before .before .before .args .objects))) (length (now (c .before .before .before .before .before .before .before .before .before .before .before .args .places))) (length (now (c .before .before .before .before .before .before .before .before .before .before .before .args .calls))) (c .before .before .before .before .before .lengths-right .ensures) (c .before .before .before .before .if1 .taken) in h .1
 
--- src/making.rt:30:13
 same-length : tie.Need-same-length
 same-length c = search needs
 
--- src/making.rt:30:13
 returns : tie.Need-returns
 unfolding accept written
 returns c = λ l. steps-on (now (c .before .before .before .before .before .before .before .before .before .before .before .before .before .before .args .tasks)) (now (c .before .before .before .before .before .before .before .before .before .before .before .before .before .before .args .objects)) (now (c .before .before .before .before .before .before .before .before .before .before .before .before .before .before .args .places)) (c .before .before .before .before .before .before .before .before .before .before .before .before .before .before .args .queue) (now (c .before .before .before .before .before .before .before .before .before .before .before .before .before .before .args .calls)) l (Event.coroutine (c .before .before .before .before .before .before .before .before .before .before .before .before .before .before .args .function)) (c .before .before .before .before .before .before .before .before .lengths-right .ensures) (c .before .before .before .before .before .before .before .if1 .taken) (c .before .before .before .before .before .is-sound .ensures l) (c .before .before .before .before .if2 .taken) (c .before .before .coroutine .result .answer) (logs [] (c .before .before .coroutine .result .answer) (c .before .before .coroutine .ensures (now (c .before .before .before .before .before .before .before .before .before .before .before .before .before .before .args .tasks)) (now (c .before .before .before .before .before .before .before .before .before .before .before .before .before .before .args .places)) [])) (quiet (store-of (now (c .before .before .before .before .before .before .before .before .before .before .before .before .before .before .args .tasks)) (now (c .before .before .before .before .before .before .before .before .before .before .before .before .before .before .args .objects)) (now (c .before .before .before .before .before .before .before .before .before .before .before .before .before .before .args .places)) (c .before .before .before .before .before .before .before .before .before .before .before .before .before .before .args .queue) []) (Event.coroutine (c .before .before .before .before .before .before .before .before .before .before .before .before .before .before .args .function)) (now (c .before .before .before .before .before .before .before .before .before .before .before .before .before .before .args .calls)) refl [] (c .before .before .coroutine .result .answer) (c .before .before .coroutine .ensures (now (c .before .before .before .before .before .before .before .before .before .before .before .before .before .before .args .tasks)) (now (c .before .before .before .before .before .before .before .before .before .before .before .before .before .before .args .places)) []))
 
--- src/making.rt:32:9
 same-length-2 : tie.Need-same-length-2
 same-length-2 c = search needs
 
--- src/making.rt:32:9
 returns-2 : tie.Need-returns-2
 returns-2 c = λ l. not-sound (now (c .before .before .before .before .before .before .before .before .before .before .args .tasks)) (now (c .before .before .before .before .before .before .before .before .before .before .args .objects)) (now (c .before .before .before .before .before .before .before .before .before .before .args .places)) (c .before .before .before .before .before .before .before .before .before .before .args .queue) (now (c .before .before .before .before .before .before .before .before .before .before .args .calls)) l (Event.coroutine (c .before .before .before .before .before .before .before .before .before .before .args .function)) (c .before .before .before .before .lengths-right .ensures) (c .before .before .before .if1 .taken) (c .before .is-sound .ensures l) (c .if2 .left)
 
--- src/making.rt:18:1
 same-length-3 : tie.Need-same-length-3
 same-length-3 c = search needs
 
--- src/making.rt:18:1
 returns-3 : tie.Need-returns-3
 returns-3 c = λ l. wrong-length (now (c .before .before .before .before .before .before .before .args .tasks)) (now (c .before .before .before .before .before .before .before .args .objects)) (now (c .before .before .before .before .before .before .before .args .places)) (c .before .before .before .before .before .before .before .args .queue) (now (c .before .before .before .before .before .before .before .args .calls)) l (Event.coroutine (c .before .before .before .before .before .before .before .args .function)) (c .before .lengths-right .ensures) (c .if1 .left)
 

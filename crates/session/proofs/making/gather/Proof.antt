@@ -10,58 +10,41 @@ use Rattle.session.specs.SessionLaws.{quiet}
 use borrow.Author.Needs.{needs}
 use Rattle.session.proofs.making.gather.Statement.{statement}
 use Rattle.session.proofs.making.gather.Tie as tie
-use Rattle.session.proofs.making.gather.Reads as reads
-use Rattle.session.proofs.making.gather.Lts as lts
-use Rattle.session.proofs.stub.is_sound.Reads as is-sound-reads
-use Rattle.steps.proofs.lent.lengths_right.Reads as lengths-right-reads
-use Rattle.steps.proofs.making.gather.Reads as gather-reads
 
--- src/making.rt:132:8
 lengths-right-requires : tie.Need-lengths-right-requires
 lengths-right-requires c κs = search needs
 
--- src/making.rt:133:12
 is-sound-requires : tie.Need-is-sound-requires
 is-sound-requires c κs = let h = lengths-have (length (now (c .before .before .before .before .before .before .before .before .before .before .before .args .tasks))) (length (now (c .before .before .before .before .before .before .before .before .before .before .before .args .objects))) (length (now (c .before .before .before .before .before .before .before .before .before .before .before .args .places))) (length (now (c .before .before .before .before .before .before .before .before .before .before .before .args .calls))) (c .before .before .before .lengths-right .ensures) (c .before .before .if1 .taken) in (h .0, h .1, h .2)
 
--- src/making.rt:134:13
 gather-requires : tie.Need-gather-requires
 gather-requires c κs = let h = lengths-have (length (now (c .before .before .before .before .before .before .before .before .before .before .before .before .before .before .before .args .tasks))) (length (now (c .before .before .before .before .before .before .before .before .before .before .before .before .before .before .before .args .objects))) (length (now (c .before .before .before .before .before .before .before .before .before .before .before .before .before .before .before .args .places))) (length (now (c .before .before .before .before .before .before .before .before .before .before .before .before .before .before .before .args .calls))) (c .before .before .before .before .before .before .before .lengths-right .ensures) (c .before .before .before .before .before .before .if1 .taken) in (h .1, h .2)
 
--- src/making.rt:134:13
 same-length : tie.Need-same-length
 same-length c = search needs
 
--- src/making.rt:134:13
 same-length-2 : tie.Need-same-length-2
 same-length-2 c = search needs
 
--- src/making.rt:134:13
 returns : tie.Need-returns
 unfolding accept written
 returns c = λ l. steps-on (now (c .before .before .before .before .before .before .before .before .before .before .before .before .before .before .before .before .before .before .before .before .args .tasks)) (now (c .before .before .before .before .before .before .before .before .before .before .before .before .before .before .before .before .before .before .before .before .args .objects)) (now (c .before .before .before .before .before .before .before .before .before .before .before .before .before .before .before .before .before .before .before .before .args .places)) (c .before .before .before .before .before .before .before .before .before .before .before .before .before .before .before .before .before .before .before .before .args .queue) (now (c .before .before .before .before .before .before .before .before .before .before .before .before .before .before .before .before .before .before .before .before .args .calls)) l (Event.gather (now (c .before .before .before .before .before .before .before .before .before .before .before .before .before .before .before .before .before .before .before .before .args .items))) (c .before .before .before .before .before .before .before .before .before .before .before .before .lengths-right .ensures) (c .before .before .before .before .before .before .before .before .before .before .before .if1 .taken) (c .before .before .before .before .before .before .before .before .is-sound .ensures l) (c .before .before .before .before .before .before .before .if2 .taken) (c .before .before .before .before .gather .result .answer) (logs [] (c .before .before .before .before .gather .result .answer) (c .before .before .before .before .gather .ensures (now (c .before .before .before .before .before .before .before .before .before .before .before .before .before .before .before .before .before .before .before .before .args .tasks)) [])) (quiet (store-of (now (c .before .before .before .before .before .before .before .before .before .before .before .before .before .before .before .before .before .before .before .before .args .tasks)) (now (c .before .before .before .before .before .before .before .before .before .before .before .before .before .before .before .before .before .before .before .before .args .objects)) (now (c .before .before .before .before .before .before .before .before .before .before .before .before .before .before .before .before .before .before .before .before .args .places)) (c .before .before .before .before .before .before .before .before .before .before .before .before .before .before .before .before .before .before .before .before .args .queue) []) (Event.gather (now (c .before .before .before .before .before .before .before .before .before .before .before .before .before .before .before .before .before .before .before .before .args .items))) (now (c .before .before .before .before .before .before .before .before .before .before .before .before .before .before .before .before .before .before .before .before .args .calls)) refl [] (c .before .before .before .before .gather .result .answer) (c .before .before .before .before .gather .ensures (now (c .before .before .before .before .before .before .before .before .before .before .before .before .before .before .before .before .before .before .before .before .args .tasks)) []))
 
--- src/making.rt:136:9
 same-length-3 : tie.Need-same-length-3
 same-length-3 c = search needs
 
--- src/making.rt:136:9
 same-length-4 : tie.Need-same-length-4
 same-length-4 c = search needs
 
--- src/making.rt:136:9
 returns-2 : tie.Need-returns-2
 returns-2 c = λ l. not-sound (now (c .before .before .before .before .before .before .before .before .before .before .before .before .before .args .tasks)) (now (c .before .before .before .before .before .before .before .before .before .before .before .before .before .args .objects)) (now (c .before .before .before .before .before .before .before .before .before .before .before .before .before .args .places)) (c .before .before .before .before .before .before .before .before .before .before .before .before .before .args .queue) (now (c .before .before .before .before .before .before .before .before .before .before .before .before .before .args .calls)) l (Event.gather (now (c .before .before .before .before .before .before .before .before .before .before .before .before .before .args .items))) (c .before .before .before .before .before .lengths-right .ensures) (c .before .before .before .before .if1 .taken) (c .before .is-sound .ensures l) (c .if2 .left)
 
--- src/making.rt:122:1
 same-length-5 : tie.Need-same-length-5
 same-length-5 c = search needs
 
--- src/making.rt:122:1
 same-length-6 : tie.Need-same-length-6
 same-length-6 c = search needs
 
--- src/making.rt:122:1
 returns-3 : tie.Need-returns-3
 returns-3 c = λ l. wrong-length (now (c .before .before .before .before .before .before .before .before .before .args .tasks)) (now (c .before .before .before .before .before .before .before .before .before .args .objects)) (now (c .before .before .before .before .before .before .before .before .before .args .places)) (c .before .before .before .before .before .before .before .before .before .args .queue) (now (c .before .before .before .before .before .before .before .before .before .args .calls)) l (Event.gather (now (c .before .before .before .before .before .before .before .before .before .args .items))) (c .before .lengths-right .ensures) (c .if1 .left)
 

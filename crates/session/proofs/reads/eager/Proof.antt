@@ -10,32 +10,22 @@ use borrow.Author.Needs.{needs}
 use Rattle.session.proofs.reads.eager.Statement.{statement}
 use Rattle.session.proofs.reads.eager.Tie as tie
 use Rattle.session.proofs.reads.eager.Reads as reads
-use Rattle.session.proofs.reads.eager.Lts as lts
-use Rattle.scheduler.proofs.ends.can_await_eagerly.Reads as can-await-eagerly-reads
-use Rattle.session.proofs.stub.is_sound.Reads as is-sound-reads
-use Rattle.steps.proofs.lent.slices_right.Reads as slices-right-reads
 
--- src/reads.rt:118:8
 slices-right-requires : tie.Need-slices-right-requires
 slices-right-requires c κs = search needs
 
--- src/reads.rt:119:12
 is-sound-requires : tie.Need-is-sound-requires
 is-sound-requires c κs = let h = slices-have (length (now (c .before .before .before .before .before .args .tasks))) (length (now (c .before .before .before .before .before .args .objects))) (length (now (c .before .before .before .before .before .args .places))) (c .before .slices-right .ensures) (c .if1 .taken) in (h .0, h .1, h .2)
 
--- src/reads.rt:120:34
 can-await-eagerly-requires : tie.Need-can-await-eagerly-requires
 can-await-eagerly-requires c κs = let h = slices-have (length (now (c .before .before .before .before .before .before .before .args .tasks))) (length (now (c .before .before .before .before .before .before .before .args .objects))) (length (now (c .before .before .before .before .before .before .before .args .places))) (c .before .before .before .slices-right .ensures) (c .before .before .if1 .taken) in h .1
 
--- src/reads.rt:120:13
 returns : tie.Need-returns
 returns c = λ l. eager-gives (store-of (now (c .before .before .before .before .before .before .before .before .args .tasks)) (now (c .before .before .before .before .before .before .before .before .args .objects)) (now (c .before .before .before .before .before .before .before .before .args .places)) (c .before .before .before .before .before .before .before .before .args .queue) []) (c .can-await-eagerly .ensures (now (c .before .before .before .before .before .before .before .before .args .tasks)) (now (c .before .before .before .before .before .before .before .before .args .places)) []) ∙ read-done (now (c .before .before .before .before .before .before .before .before .args .tasks)) (now (c .before .before .before .before .before .before .before .before .args .objects)) (now (c .before .before .before .before .before .before .before .before .args .places)) (c .before .before .before .before .before .before .before .before .args .queue) l Event.eager (c .before .before .before .before .slices-right .ensures) (c .before .before .before .if1 .taken) (c .before .before .is-sound .ensures l) (c .before .if2 .taken) (eager-passes _)
 
--- src/reads.rt:122:9
 returns-2 : tie.Need-returns-2
 returns-2 c = λ l. read-unsound (now (c .before .before .before .before .before .before .before .args .tasks)) (now (c .before .before .before .before .before .before .before .args .objects)) (now (c .before .before .before .before .before .before .before .args .places)) (c .before .before .before .before .before .before .before .args .queue) l Event.eager (c .before .before .before .slices-right .ensures) (c .before .before .if1 .taken) (c .before .is-sound .ensures l) (c .if2 .left)
 
--- src/reads.rt:115:1
 returns-3 : tie.Need-returns-3
 returns-3 c = λ l. read-length (now (c .before .before .before .before .before .args .tasks)) (now (c .before .before .before .before .before .args .objects)) (now (c .before .before .before .before .before .args .places)) (c .before .before .before .before .before .args .queue) l Event.eager (c .before .slices-right .ensures) (c .if1 .left)
 

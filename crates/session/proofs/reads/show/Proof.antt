@@ -13,46 +13,31 @@ use borrow.Author.Needs.{needs}
 use Rattle.session.proofs.reads.show.Statement.{statement}
 use Rattle.session.proofs.reads.show.Tie as tie
 use Rattle.session.proofs.reads.show.Reads as reads
-use Rattle.session.proofs.reads.show.Lts as lts
-use Rattle.rows.proofs.tables.load_header.Reads as load-header-reads
-use Rattle.rows.proofs.tables.load_object.Reads as load-object-reads
-use Rattle.session.proofs.reads.show_object.Reads as show-object-reads
-use Rattle.session.proofs.stub.is_sound.Reads as is-sound-reads
-use Rattle.steps.proofs.lent.slices_right.Reads as slices-right-reads
 
--- src/reads.rt:100:8
 slices-right-requires : tie.Need-slices-right-requires
 slices-right-requires c κs = search needs
 
--- src/reads.rt:101:12
 is-sound-requires : tie.Need-is-sound-requires
 is-sound-requires c κs = let h = slices-have (length (now (c .before .before .before .before .before .args .tasks))) (length (now (c .before .before .before .before .before .args .objects))) (length (now (c .before .before .before .before .before .args .places))) (c .before .slices-right .ensures) (c .if1 .taken) in (h .0, h .1, h .2)
 
--- src/reads.rt:102:17
 load-header-requires : tie.Need-load-header-requires
 load-header-requires c κs = let h = slices-have (length (now (c .before .before .before .before .before .before .before .args .tasks))) (length (now (c .before .before .before .before .before .before .before .args .objects))) (length (now (c .before .before .before .before .before .before .before .args .places))) (c .before .before .before .slices-right .ensures) (c .before .before .if1 .taken) in h .1
 
--- src/reads.rt:104:17
 returns : tie.Need-returns
 returns c = λ l. read-refused (now (c .before .before .before .before .before .before .before .before .before .before .args .tasks)) (now (c .before .before .before .before .before .before .before .before .before .before .args .objects)) (now (c .before .before .before .before .before .before .before .before .before .before .args .places)) (c .before .before .before .before .before .before .before .before .before .before .args .queue) l (Event.show (c .before .before .before .before .before .before .before .before .before .before .args .o)) (c .before .before .before .before .before .before .slices-right .ensures) (c .before .before .before .before .before .if1 .taken) (c .before .before .before .before .is-sound .ensures l) (c .before .before .before .if2 .taken) 4 (show-unmade (now (c .before .before .before .before .before .before .before .before .before .before .args .tasks)) (now (c .before .before .before .before .before .before .before .before .before .before .args .objects)) (now (c .before .before .before .before .before .before .before .before .before .before .args .places)) (c .before .before .before .before .before .before .before .before .before .before .args .queue) (c .before .before .before .before .before .before .before .before .before .before .args .o) (c .before .before .load-header .ensures) (c .if3 .taken))
 
--- src/reads.rt:106:17
 load-object-requires : tie.Need-load-object-requires
 load-object-requires c κs = let h = slices-have (length (now (c .before .before .before .before .before .before .before .before .before .before .args .tasks))) (length (now (c .before .before .before .before .before .before .before .before .before .before .args .objects))) (length (now (c .before .before .before .before .before .before .before .before .before .before .args .places))) (c .before .before .before .before .before .before .slices-right .ensures) (c .before .before .before .before .before .if1 .taken) in (h .1, omega (arith, c .if3 .left, header-read _ (c .before .before .load-header .ensures) .made-fits))
 
--- src/reads.rt:107:35
 show-object-requires : tie.Need-show-object-requires
 show-object-requires c κs = search needs
 
--- src/reads.rt:107:13
 returns-2 : tie.Need-returns-2
 returns-2 c = λ l. show-gives (now (c .before .before .before .before .before .before .before .before .before .before .before .before .args .tasks)) (now (c .before .before .before .before .before .before .before .before .before .before .before .before .args .objects)) (now (c .before .before .before .before .before .before .before .before .before .before .before .before .args .places)) (c .before .before .before .before .before .before .before .before .before .before .before .before .args .queue) (c .before .before .before .before .before .before .before .before .before .before .before .before .args .o) (c .before .load-object .ensures) (c .show-object .ensures (store-of (now (c .before .before .before .before .before .before .before .before .before .before .before .before .args .tasks)) (now (c .before .before .before .before .before .before .before .before .before .before .before .before .args .objects)) (now (c .before .before .before .before .before .before .before .before .before .before .before .before .args .places)) (c .before .before .before .before .before .before .before .before .before .before .before .before .args .queue) [])) ∙ read-done (now (c .before .before .before .before .before .before .before .before .before .before .before .before .args .tasks)) (now (c .before .before .before .before .before .before .before .before .before .before .before .before .args .objects)) (now (c .before .before .before .before .before .before .before .before .before .before .before .before .args .places)) (c .before .before .before .before .before .before .before .before .before .before .before .before .args .queue) l (Event.show (c .before .before .before .before .before .before .before .before .before .before .before .before .args .o)) (c .before .before .before .before .before .before .before .before .slices-right .ensures) (c .before .before .before .before .before .before .before .if1 .taken) (c .before .before .before .before .before .before .is-sound .ensures l) (c .before .before .before .before .before .if2 .taken) (show-made (now (c .before .before .before .before .before .before .before .before .before .before .before .before .args .tasks)) (now (c .before .before .before .before .before .before .before .before .before .before .before .before .args .objects)) (now (c .before .before .before .before .before .before .before .before .before .before .before .before .args .places)) (c .before .before .before .before .before .before .before .before .before .before .before .before .args .queue) (c .before .before .before .before .before .before .before .before .before .before .before .before .args .o) (c .before .before .before .before .load-header .ensures) (c .before .before .if3 .left))
 
--- src/reads.rt:109:9
 returns-3 : tie.Need-returns-3
 returns-3 c = λ l. read-unsound (now (c .before .before .before .before .before .before .before .args .tasks)) (now (c .before .before .before .before .before .before .before .args .objects)) (now (c .before .before .before .before .before .before .before .args .places)) (c .before .before .before .before .before .before .before .args .queue) l (Event.show (c .before .before .before .before .before .before .before .args .o)) (c .before .before .before .slices-right .ensures) (c .before .before .if1 .taken) (c .before .is-sound .ensures l) (c .if2 .left)
 
--- src/reads.rt:91:1
 returns-4 : tie.Need-returns-4
 returns-4 c = λ l. read-length (now (c .before .before .before .before .before .args .tasks)) (now (c .before .before .before .before .before .args .objects)) (now (c .before .before .before .before .before .args .places)) (c .before .before .before .before .before .args .queue) l (Event.show (c .before .before .before .before .before .args .o)) (c .before .slices-right .ensures) (c .if1 .left)
 

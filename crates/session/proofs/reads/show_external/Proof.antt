@@ -3,31 +3,24 @@ use borrow.Author.Needs.{needs}
 use Rattle.session.proofs.reads.show_external.Statement.{statement}
 use Rattle.session.proofs.reads.show_external.Tie as tie
 use Rattle.session.proofs.reads.show_external.Reads as reads
-use Rattle.session.proofs.reads.show_external.Lts as lts
 
--- src/reads.rt:51:14
 enum-told : tie.Need-enum-told
 enum-told c = search needs
 
--- src/reads.rt:52:39
 enum-known-state : tie.Need-enum-known-state
 enum-known-state c = search needs
 
--- src/reads.rt:53:37
 enum-known-state-2 : tie.Need-enum-known-state-2
 enum-known-state-2 c = search needs
 
--- src/reads.rt:44:1
 returns : tie.Need-returns
 unfolding shown
 returns c = λ s k. rw (c .enum-told .given .1)
 
--- src/reads.rt:44:1
 returns-2 : tie.Need-returns-2
 unfolding shown
 returns-2 c = λ s k. rw (c .before .state .given .1)
 
--- src/reads.rt:44:1
 returns-3 : tie.Need-returns-3
 unfolding shown
 returns-3 c = λ s k. rw (c .before .state2 .given .1)

@@ -4,40 +4,31 @@ use borrow.Author.Needs.{needs}
 use Rattle.session.proofs.reads.show_gather.Statement.{statement}
 use Rattle.session.proofs.reads.show_gather.Tie as tie
 use Rattle.session.proofs.reads.show_gather.Reads as reads
-use Rattle.session.proofs.reads.show_gather.Lts as lts
 
--- src/reads.rt:61:33
 enum-told : tie.Need-enum-told
 enum-told c = search needs
 
--- src/reads.rt:64:13
 enum-known-state : tie.Need-enum-known-state
 enum-known-state c = search needs
 
--- src/reads.rt:70:35
 enum-told-2 : tie.Need-enum-told-2
 enum-told-2 c = search needs
 
--- src/reads.rt:71:29
 enum-known-state-2 : tie.Need-enum-known-state-2
 enum-known-state-2 c = search needs
 
--- src/reads.rt:57:1
 returns : tie.Need-returns
 unfolding shown
 returns c = λ s. rw (c .enum-told .given .1)
 
--- src/reads.rt:57:1
 returns-2 : tie.Need-returns-2
 unfolding shown
 returns-2 c = λ s. rw (c .before .state .given .1, shows-places s (c .before .before .before .args .first) (c .before .state .given .0 .1 .0) (c .before .before .before .args .count) 0)
 
--- src/reads.rt:57:1
 returns-3 : tie.Need-returns-3
 unfolding shown
 returns-3 c = λ s. rw (c .enum-told2 .given .1, shows-places s (c .before .before .args .first) 0 (c .before .before .args .count) 0)
 
--- src/reads.rt:57:1
 returns-4 : tie.Need-returns-4
 unfolding shown
 returns-4 c = λ s. rw (c .before .state2 .given .1)

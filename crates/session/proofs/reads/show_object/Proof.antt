@@ -3,49 +3,36 @@ use borrow.Author.Needs.{needs}
 use Rattle.session.proofs.reads.show_object.Statement.{statement}
 use Rattle.session.proofs.reads.show_object.Tie as tie
 use Rattle.session.proofs.reads.show_object.Reads as reads
-use Rattle.session.proofs.reads.show_object.Lts as lts
-use Rattle.session.proofs.reads.show_external.Reads as show-external-reads
-use Rattle.session.proofs.reads.show_gather.Reads as show-gather-reads
 
--- src/reads.rt:79:27
 enum-told : tie.Need-enum-told
 enum-told c = search needs
 
--- src/reads.rt:80:29
 enum-known-x : tie.Need-enum-known-x
 enum-known-x c = search needs
 
--- src/reads.rt:81:43
 enum-known-x-2 : tie.Need-enum-known-x-2
 enum-known-x-2 c = search needs
 
--- src/reads.rt:81:54
 show-external-requires : tie.Need-show-external-requires
 show-external-requires c κs = search needs
 
--- src/reads.rt:83:13
 enum-known-x-3 : tie.Need-enum-known-x-3
 enum-known-x-3 c = search needs
 
--- src/reads.rt:86:14
 show-gather-requires : tie.Need-show-gather-requires
 show-gather-requires c κs = search needs
 
--- src/reads.rt:75:1
 returns : tie.Need-returns
 unfolding shown
 returns c = λ s. rw (c .enum-told .given .1)
 
--- src/reads.rt:75:1
 returns-2 : tie.Need-returns-2
 unfolding shown
 returns-2 c = λ s. rw (c .before .x .given .1)
 
--- src/reads.rt:75:1
 returns-3 : tie.Need-returns-3
 returns-3 c = λ s. rw (c .before .before .x2 .given .1) (c .show-external .ensures s (c .before .before .x2 .given .0 .0))
 
--- src/reads.rt:75:1
 returns-4 : tie.Need-returns-4
 returns-4 c = λ s. rw (c .before .before .x3 .given .1) (c .show-gather .ensures s)
 

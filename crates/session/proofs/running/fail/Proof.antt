@@ -10,74 +10,52 @@ use Rattle.session.specs.SessionLaws.{quiet}
 use borrow.Author.Needs.{needs}
 use Rattle.session.proofs.running.fail.Statement.{statement}
 use Rattle.session.proofs.running.fail.Tie as tie
-use Rattle.session.proofs.running.fail.Reads as reads
-use Rattle.session.proofs.running.fail.Lts as lts
-use Rattle.session.proofs.stub.is_sound.Reads as is-sound-reads
-use Rattle.steps.proofs.lent.lengths_right.Reads as lengths-right-reads
-use Rattle.steps.proofs.lent.tell.Reads as tell-reads
-use Rattle.steps.proofs.running.fail.Reads as fail-reads
 
--- src/running.rt:87:8
 lengths-right-requires : tie.Need-lengths-right-requires
 lengths-right-requires c κs = search needs
 
--- src/running.rt:88:12
 is-sound-requires : tie.Need-is-sound-requires
 is-sound-requires c κs = let h = lengths-have (length (now (c .before .before .before .before .before .before .before .before .before .before .before .args .tasks))) (length (now (c .before .before .before .before .before .before .before .before .before .before .before .args .objects))) (length (now (c .before .before .before .before .before .before .before .before .before .before .before .args .places))) (length (now (c .before .before .before .before .before .before .before .before .before .before .before .args .calls))) (c .before .before .before .lengths-right .ensures) (c .before .before .if1 .taken) in (h .0, h .1, h .2)
 
--- src/running.rt:89:17
 fail-requires : tie.Need-fail-requires
 fail-requires c κs = let h = lengths-have (length (now (c .before .before .before .before .before .before .before .before .before .before .before .before .before .before .before .args .tasks))) (length (now (c .before .before .before .before .before .before .before .before .before .before .before .before .before .before .before .args .objects))) (length (now (c .before .before .before .before .before .before .before .before .before .before .before .before .before .before .before .args .places))) (length (now (c .before .before .before .before .before .before .before .before .before .before .before .before .before .before .before .args .calls))) (c .before .before .before .before .before .before .before .lengths-right .ensures) (c .before .before .before .before .before .before .if1 .taken) in (h .0, h .1)
 
--- src/running.rt:92:13
 tell-requires : tie.Need-tell-requires
 tell-requires c κs = let h = lengths-have (length (now (c .before .before .before .before .before .before .before .before .before .before .before .before .before .before .before .before .before .before .before .before .before .before .before .args .tasks))) (length (now (c .before .before .before .before .before .before .before .before .before .before .before .before .before .before .before .before .before .before .before .before .before .before .before .args .objects))) (length (now (c .before .before .before .before .before .before .before .before .before .before .before .before .before .before .before .before .before .before .before .before .before .before .before .args .places))) (length (now (c .before .before .before .before .before .before .before .before .before .before .before .before .before .before .before .before .before .before .before .before .before .before .before .args .calls))) (c .before .before .before .before .before .before .before .before .before .before .before .before .before .before .before .lengths-right .ensures) (c .before .before .before .before .before .before .before .before .before .before .before .before .before .before .if1 .taken) in (c .before .before .before .before .before .before .before .fail .kept .1 .0 ∙ h .1, h .3)
 
--- src/running.rt:93:13
 same-length : tie.Need-same-length
 same-length c = search needs
 
--- src/running.rt:93:13
 same-length-2 : tie.Need-same-length-2
 same-length-2 c = search needs
 
--- src/running.rt:93:13
 same-length-3 : tie.Need-same-length-3
 same-length-3 c = search needs
 
--- src/running.rt:93:13
 returns : tie.Need-returns
 returns c = λ l. let h = lengths-have (length (now (c .before .before .before .before .before .before .before .before .before .before .before .before .before .before .before .before .before .before .before .before .before .before .before .before .before .before .args .tasks))) (length (now (c .before .before .before .before .before .before .before .before .before .before .before .before .before .before .before .before .before .before .before .before .before .before .before .before .before .before .args .objects))) (length (now (c .before .before .before .before .before .before .before .before .before .before .before .before .before .before .before .before .before .before .before .before .before .before .before .before .before .before .args .places))) (length (now (c .before .before .before .before .before .before .before .before .before .before .before .before .before .before .before .before .before .before .before .before .before .before .before .before .before .before .args .calls))) (c .before .before .before .before .before .before .before .before .before .before .before .before .before .before .before .before .before .before .lengths-right .ensures) (c .before .before .before .before .before .before .before .before .before .before .before .before .before .before .before .before .before .if1 .taken) in steps-on (now (c .before .before .before .before .before .before .before .before .before .before .before .before .before .before .before .before .before .before .before .before .before .before .before .before .before .before .args .tasks)) (now (c .before .before .before .before .before .before .before .before .before .before .before .before .before .before .before .before .before .before .before .before .before .before .before .before .before .before .args .objects)) (now (c .before .before .before .before .before .before .before .before .before .before .before .before .before .before .before .before .before .before .before .before .before .before .before .before .before .before .args .places)) (c .before .before .before .before .before .before .before .before .before .before .before .before .before .before .before .before .before .before .before .before .before .before .before .before .before .before .args .queue) (now (c .before .before .before .before .before .before .before .before .before .before .before .before .before .before .before .before .before .before .before .before .before .before .before .before .before .before .args .calls)) l (Event.fail (c .before .before .before .before .before .before .before .before .before .before .before .before .before .before .before .before .before .before .before .before .before .before .before .before .before .before .args .n)) (c .before .before .before .before .before .before .before .before .before .before .before .before .before .before .before .before .before .before .lengths-right .ensures) (c .before .before .before .before .before .before .before .before .before .before .before .before .before .before .before .before .before .if1 .taken) (c .before .before .before .before .before .before .before .before .before .before .before .before .before .before .is-sound .ensures l) (c .before .before .before .before .before .before .before .before .before .before .before .before .before .if2 .taken) (c .before .before .before .before .before .before .before .before .before .before .fail .result .answer) (c .before .before .before .before .before .before .before .before .before .before .fail .ensures (now (c .before .before .before .before .before .before .before .before .before .before .before .before .before .before .before .before .before .before .before .before .before .before .before .before .before .before .args .places)) [] (h .2)) (c .before .before .tell .ensures)
 
--- src/running.rt:95:9
 same-length-4 : tie.Need-same-length-4
 same-length-4 c = search needs
 
--- src/running.rt:95:9
 same-length-5 : tie.Need-same-length-5
 same-length-5 c = search needs
 
--- src/running.rt:95:9
 same-length-6 : tie.Need-same-length-6
 same-length-6 c = search needs
 
--- src/running.rt:95:9
 returns-2 : tie.Need-returns-2
 returns-2 c = λ l. not-sound (now (c .before .before .before .before .before .before .before .before .before .before .before .before .before .args .tasks)) (now (c .before .before .before .before .before .before .before .before .before .before .before .before .before .args .objects)) (now (c .before .before .before .before .before .before .before .before .before .before .before .before .before .args .places)) (c .before .before .before .before .before .before .before .before .before .before .before .before .before .args .queue) (now (c .before .before .before .before .before .before .before .before .before .before .before .before .before .args .calls)) l (Event.fail (c .before .before .before .before .before .before .before .before .before .before .before .before .before .args .n)) (c .before .before .before .before .before .lengths-right .ensures) (c .before .before .before .before .if1 .taken) (c .before .is-sound .ensures l) (c .if2 .left)
 
--- src/running.rt:77:1
 same-length-7 : tie.Need-same-length-7
 same-length-7 c = search needs
 
--- src/running.rt:77:1
 same-length-8 : tie.Need-same-length-8
 same-length-8 c = search needs
 
--- src/running.rt:77:1
 same-length-9 : tie.Need-same-length-9
 same-length-9 c = search needs
 
--- src/running.rt:77:1
 returns-3 : tie.Need-returns-3
 returns-3 c = λ l. wrong-length (now (c .before .before .before .before .before .before .before .before .before .args .tasks)) (now (c .before .before .before .before .before .before .before .before .before .args .objects)) (now (c .before .before .before .before .before .before .before .before .before .args .places)) (c .before .before .before .before .before .before .before .before .before .args .queue) (now (c .before .before .before .before .before .before .before .before .before .args .calls)) l (Event.fail (c .before .before .before .before .before .before .before .before .before .args .n)) (c .before .lengths-right .ensures) (c .if1 .left)
 

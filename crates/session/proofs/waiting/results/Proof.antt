@@ -11,70 +11,50 @@ use Rattle.session.specs.SessionLaws.{quiet}
 use borrow.Author.Needs.{needs}
 use Rattle.session.proofs.waiting.results.Statement.{statement}
 use Rattle.session.proofs.waiting.results.Tie as tie
-use Rattle.session.proofs.waiting.results.Reads as reads
-use Rattle.session.proofs.waiting.results.Lts as lts
-use Rattle.session.proofs.stub.is_sound.Reads as is-sound-reads
-use Rattle.steps.proofs.lent.lengths_right.Reads as lengths-right-reads
-use Rattle.steps.proofs.waiting.results.Reads as results-reads
 
--- src/waiting.rt:27:8
 lengths-right-requires : tie.Need-lengths-right-requires
 lengths-right-requires c κs = search needs
 
--- src/waiting.rt:28:12
 is-sound-requires : tie.Need-is-sound-requires
 is-sound-requires c κs = let h = lengths-have (length (now (c .before .before .before .before .before .before .before .before .before .before .before .before .before .args .tasks))) (length (now (c .before .before .before .before .before .before .before .before .before .before .before .before .before .args .objects))) (length (now (c .before .before .before .before .before .before .before .before .before .before .before .before .before .args .places))) (length (now (c .before .before .before .before .before .before .before .before .before .before .before .before .before .args .calls))) (c .before .before .before .before .lengths-right .ensures) (c .before .before .before .if1 .taken) in (h .0, h .1, h .2)
 
--- src/waiting.rt:29:13
 results-requires : tie.Need-results-requires
 results-requires c κs = let h = lengths-have (length (now (c .before .before .before .before .before .before .before .before .before .before .before .before .before .before .before .before .before .before .args .tasks))) (length (now (c .before .before .before .before .before .before .before .before .before .before .before .before .before .before .before .before .before .before .args .objects))) (length (now (c .before .before .before .before .before .before .before .before .before .before .before .before .before .before .before .before .before .before .args .places))) (length (now (c .before .before .before .before .before .before .before .before .before .before .before .before .before .before .before .before .before .before .args .calls))) (c .before .before .before .before .before .before .before .before .before .lengths-right .ensures) (c .before .before .before .before .before .before .before .before .if1 .taken) in (h .0, h .1, h .2)
 
--- src/waiting.rt:29:13
 same-length : tie.Need-same-length
 same-length c = search needs
 
--- src/waiting.rt:29:13
 same-length-2 : tie.Need-same-length-2
 same-length-2 c = search needs
 
--- src/waiting.rt:29:13
 same-length-3 : tie.Need-same-length-3
 same-length-3 c = search needs
 
--- src/waiting.rt:29:13
 returns : tie.Need-returns
 unfolding accept written
 returns c = λ l. let h = lengths-have (length (now (c .before .before .before .before .before .before .before .before .before .before .before .before .before .before .before .before .before .before .before .before .before .before .before .before .before .args .tasks))) (length (now (c .before .before .before .before .before .before .before .before .before .before .before .before .before .before .before .before .before .before .before .before .before .before .before .before .before .args .objects))) (length (now (c .before .before .before .before .before .before .before .before .before .before .before .before .before .before .before .before .before .before .before .before .before .before .before .before .before .args .places))) (length (now (c .before .before .before .before .before .before .before .before .before .before .before .before .before .before .before .before .before .before .before .before .before .before .before .before .before .args .calls))) (c .before .before .before .before .before .before .before .before .before .before .before .before .before .before .before .before .lengths-right .ensures) (c .before .before .before .before .before .before .before .before .before .before .before .before .before .before .before .if1 .taken) in steps-on (now (c .before .before .before .before .before .before .before .before .before .before .before .before .before .before .before .before .before .before .before .before .before .before .before .before .before .args .tasks)) (now (c .before .before .before .before .before .before .before .before .before .before .before .before .before .before .before .before .before .before .before .before .before .before .before .before .before .args .objects)) (now (c .before .before .before .before .before .before .before .before .before .before .before .before .before .before .before .before .before .before .before .before .before .before .before .before .before .args .places)) (c .before .before .before .before .before .before .before .before .before .before .before .before .before .before .before .before .before .before .before .before .before .before .before .before .before .args .queue) (now (c .before .before .before .before .before .before .before .before .before .before .before .before .before .before .before .before .before .before .before .before .before .before .before .before .before .args .calls)) l (Event.results (results-in (now (c .before .before .before .before .before .before .before .before .before .before .before .before .before .before .before .before .before .before .before .before .before .before .before .before .before .args .results)))) (c .before .before .before .before .before .before .before .before .before .before .before .before .before .before .before .before .lengths-right .ensures) (c .before .before .before .before .before .before .before .before .before .before .before .before .before .before .before .if1 .taken) (c .before .before .before .before .before .before .before .before .before .before .before .is-sound .ensures l) (c .before .before .before .before .before .before .before .before .before .before .if2 .taken) (c .before .before .before .before .before .before .results .result .answer) (c .before .before .before .before .before .before .results .ensures []) (quiet (store-of (now (c .before .before .before .before .before .before .before .before .before .before .before .before .before .before .before .before .before .before .before .before .before .before .before .before .before .args .tasks)) (now (c .before .before .before .before .before .before .before .before .before .before .before .before .before .before .before .before .before .before .before .before .before .before .before .before .before .args .objects)) (now (c .before .before .before .before .before .before .before .before .before .before .before .before .before .before .before .before .before .before .before .before .before .before .before .before .before .args .places)) (c .before .before .before .before .before .before .before .before .before .before .before .before .before .before .before .before .before .before .before .before .before .before .before .before .before .args .queue) []) (Event.results (results-in (now (c .before .before .before .before .before .before .before .before .before .before .before .before .before .before .before .before .before .before .before .before .before .before .before .before .before .args .results)))) (now (c .before .before .before .before .before .before .before .before .before .before .before .before .before .before .before .before .before .before .before .before .before .before .before .before .before .args .calls)) refl _ (c .before .before .before .before .before .before .results .result .answer) (c .before .before .before .before .before .before .results .ensures []))
 
--- src/waiting.rt:31:9
 same-length-4 : tie.Need-same-length-4
 same-length-4 c = search needs
 
--- src/waiting.rt:31:9
 same-length-5 : tie.Need-same-length-5
 same-length-5 c = search needs
 
--- src/waiting.rt:31:9
 same-length-6 : tie.Need-same-length-6
 same-length-6 c = search needs
 
--- src/waiting.rt:31:9
 returns-2 : tie.Need-returns-2
 returns-2 c = λ l. not-sound (now (c .before .before .before .before .before .before .before .before .before .before .before .before .before .before .before .args .tasks)) (now (c .before .before .before .before .before .before .before .before .before .before .before .before .before .before .before .args .objects)) (now (c .before .before .before .before .before .before .before .before .before .before .before .before .before .before .before .args .places)) (c .before .before .before .before .before .before .before .before .before .before .before .before .before .before .before .args .queue) (now (c .before .before .before .before .before .before .before .before .before .before .before .before .before .before .before .args .calls)) l (Event.results (results-in (now (c .before .before .before .before .before .before .before .before .before .before .before .before .before .before .before .args .results)))) (c .before .before .before .before .before .before .lengths-right .ensures) (c .before .before .before .before .before .if1 .taken) (c .before .is-sound .ensures l) (c .if2 .left)
 
--- src/waiting.rt:17:1
 same-length-7 : tie.Need-same-length-7
 same-length-7 c = search needs
 
--- src/waiting.rt:17:1
 same-length-8 : tie.Need-same-length-8
 same-length-8 c = search needs
 
--- src/waiting.rt:17:1
 same-length-9 : tie.Need-same-length-9
 same-length-9 c = search needs
 
--- src/waiting.rt:17:1
 returns-3 : tie.Need-returns-3
 returns-3 c = λ l. wrong-length (now (c .before .before .before .before .before .before .before .before .before .before .args .tasks)) (now (c .before .before .before .before .before .before .before .before .before .before .args .objects)) (now (c .before .before .before .before .before .before .before .before .before .before .args .places)) (c .before .before .before .before .before .before .before .before .before .before .args .queue) (now (c .before .before .before .before .before .before .before .before .before .before .args .calls)) l (Event.results (results-in (now (c .before .before .before .before .before .before .before .before .before .before .args .results)))) (c .before .lengths-right .ensures) (c .if1 .left)
 
