@@ -4,7 +4,7 @@ use mathlib.Core.Bool.{Bool}
 use mathlib.Core.List.{List}
 use Prim.Native.Nat.{ℕ}
 use Rattle.asyncio.specs.Parts.{awaiter-of}
-use Rattle.asyncio.specs.Ranges.{AwaiterFits, ObjectFits, TaskFits}
+use Rattle.asyncio.specs.Ranges.{AwaiterFits, ObjectFits}
 use Rattle.asyncio.specs.declared.Awaiter.{Awaiter}
 use Rattle.asyncio.specs.declared.ExternalFutureState.{ExternalFutureState}
 use Rattle.asyncio.specs.declared.GatherState.{GatherState}

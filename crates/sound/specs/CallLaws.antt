@@ -1,8 +1,8 @@
 -- Clause 6: pending calls as numbers, one more than the call and 0 for none; and the highest so far, above which a call is new.
 use mathlib.Core.Path.{_≡_, refl, sym, ap, _∙_}
-use mathlib.Core.Bool.{Bool, true, false, not, _||_}
+use mathlib.Core.Bool.{Bool, true, false, not}
 use mathlib.Core.List.{List}
-use mathlib.Core.Logic.{_⊎_, inl, inr, ⊎-elim}
+use mathlib.Core.Logic.{⊎-elim}
 use mathlib.Core.Option.{Option, none, some}
 use Prim.Native.Nat.{ℕ, _+_, _≤_, _<_}
 use native.Mathlib.Nat.{eq-or-lt-of-le}
@@ -21,7 +21,7 @@ use Rattle.asyncio.specs.declared.Kind.{Kind}
 use Rattle.asyncio.specs.declared.Moment.{Moment}
 use Rattle.asyncio.specs.declared.Object.{Object}
 use Rattle.rows.specs.Tables.{object-at}
-use Rattle.machine.specs.Tests.{_and_, all-below}
+use Rattle.machine.specs.Tests.{all-below}
 use Rattle.machine.specs.Scheduler.{as-pending, PendingExternal}
 use Rattle.machine.specs.Sound.{same-call, call-new, calls-distinct, is-ended}
 use Rattle.sound.specs.Loops.{all-of, all-same}

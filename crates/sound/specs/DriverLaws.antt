@@ -1,22 +1,19 @@
 -- Clause 7: one task against a table of the coroutines that live tasks drive: a law for each way through a turn.
-use mathlib.Core.Path.{_≡_, refl, sym, ap, _∙_}
+use mathlib.Core.Path.{_≡_, refl, sym}
 use mathlib.Core.Bool.{Bool, true, false, not}
 use mathlib.Core.List.{List}
-use Prim.Native.Nat.{ℕ, _+_, _≤_, _<_}
-use native.Mathlib.Omega.{arith}
+use Prim.Native.Nat.{ℕ, _+_, _<_}
 use lib.Dec.{eqb}
-use lib.ListN.{length, getD, set}
+use lib.ListN.{getD, set}
 use borrow.Author.Tests.{eq-eqb, ne-eqb}
 use Rattle.asyncio.specs.Limits.{object-limit}
-use Rattle.asyncio.specs.Ranges.{TaskFits}
-use Rattle.asyncio.specs.States.{pick, is-live}
+use Rattle.asyncio.specs.States.{is-live}
 use Rattle.asyncio.specs.declared.HeapId.{HeapId}
-use Rattle.asyncio.specs.declared.Task.{Task}
 use Rattle.asyncio.specs.declared.TaskState.{TaskState}
 use Rattle.rows.specs.Tables.{task-at}
 use Rattle.rows.specs.TableLaws.{task-at-fits}
 use Rattle.machine.specs.Scheduler.{drives}
-use Rattle.machine.specs.Tests.{_and_, implies, all-below}
+use Rattle.machine.specs.Tests.{_and_, implies}
 use Rattle.machine.specs.Sound.{drives-at, sole-driver}
 use Rattle.sound.specs.Loops.{and-false}
 use Rattle.sound.specs.Marks.{Marks, marks-turn, marks-skip}

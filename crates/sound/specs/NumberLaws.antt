@@ -1,18 +1,17 @@
 -- Clauses 1 and 2: what the code reads of an object or a task says what the definition asks, a law for each way through.
-use mathlib.Core.Path.{_≡_, refl, sym, ap, _∙_}
+use mathlib.Core.Path.{_≡_, refl, sym, _∙_}
 use mathlib.Core.Bool.{Bool, true, false, not}
 use mathlib.Core.List.{List}
-use Prim.Native.Nat.{ℕ, zero, suc, _+_, _-_, _*_, _%_, _^_, _≤_, _<_}
+use Prim.Native.Nat.{ℕ, suc, _+_, _-_, _*_, _%_, _^_, _≤_, _<_}
 use native.Mathlib.Nat.{one-mul, mod-eq-of-lt}
 use native.Mathlib.Omega.{arith}
 use lib.Dec.{eqb, ltb, leb}
 use lib.Pow.{pow-lt, pow-pos}
-use borrow.Author.Tests.{eq-eqb, ne-eqb, lt-ltb, le-ltb, le-leb, lt-leb, leb-true, leb-false}
-use Rattle.asyncio.specs.Limits.{item-limit, object-limit}
+use borrow.Author.Tests.{eq-eqb, ne-eqb, lt-ltb, le-leb, lt-leb, leb-true, leb-false}
+use Rattle.asyncio.specs.Limits.{item-limit}
 use Rattle.asyncio.specs.States.{pick, is-nobody, is-live, is-unstarted}
 use Rattle.asyncio.specs.Kinds.{kind, is-coroutine, is-external, is-gather, is-committed}
 use Rattle.asyncio.specs.Parts.{awaiter-of, call-of, first-of, count-of, open-of}
-use Rattle.asyncio.specs.Ranges.{PlacesFit}
 use Rattle.asyncio.specs.declared.Awaiter.{Awaiter}
 use Rattle.asyncio.specs.declared.CallId.{CallId}
 use Rattle.asyncio.specs.declared.CoroutineState.{CoroutineState}
@@ -28,7 +27,7 @@ use Rattle.rows.specs.Tables.{task-at, object-at}
 use Rattle.machine.specs.Tests.{_and_, implies, all-below, sum-below}
 use Rattle.machine.specs.Sound.{awaiter-in-range, is-slot, open-in-range, object-in-range, task-in-range, counts-in-range, places-below, numbers-in-range, committed-places, spawned-in-range}
 use Rattle.scheduler.specs.CancelLaws.{places-fit}
-use Rattle.sound.specs.Loops.{and-false, and-assoc, all-and, pass, stop, sum-none, sum-turn}
+use Rattle.sound.specs.Loops.{and-assoc, all-and, pass, stop, sum-none, sum-turn}
 use Rattle.sound.specs.Numbers.{object-ranged, objects-ranged}
 
 -- `1u64 << n`, as the machine has it

@@ -1,5 +1,5 @@
 -- Clause 11: a task's state against the moment.
-use mathlib.Core.Path.{_≡_, refl, sym, _∙_}
+use mathlib.Core.Path.{_≡_, refl, _∙_}
 use mathlib.Core.Bool.{Bool, true, false, Bool·beq}
 use Prim.Native.Nat.{ℕ}
 use Rattle.asyncio.specs.States.{is-running}

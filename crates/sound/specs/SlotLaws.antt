@@ -1,8 +1,7 @@
 -- Clause 10: the search for the source among a gather's open places, and a gather by its kind.
-use mathlib.Core.Path.{_≡_, refl, sym, ap, _∙_}
-use mathlib.Core.Bool.{Bool, true, false, not, _&&_}
+use mathlib.Core.Path.{_≡_, refl}
+use mathlib.Core.Bool.{Bool, true, false, _&&_}
 use mathlib.Core.List.{List}
-use mathlib.Core.Option.{Option, none, some}
 use Prim.Native.Nat.{ℕ, zero, suc, _+_, _-_, _/_, _%_, _^_, _≤_, _<_}
 use native.Mathlib.Omega.{arith}
 use lib.Dec.{eqb}
@@ -24,7 +23,6 @@ use Rattle.machine.specs.Tests.{_and_, implies}
 use Rattle.machine.specs.Scheduler.{bit, as-awaited, AwaitedGather}
 use Rattle.machine.specs.Commit.{open-from}
 use Rattle.machine.specs.Sound.{source-open, slot-open}
-use Rattle.sound.specs.Loops.{pass}
 
 -- place k of a gather whose places start at f is open in m, and names object o
 abbrev pub open-here : (ℕ → Place) → ℕ → ℕ → ℕ → ℕ → Bool

@@ -1,5 +1,5 @@
 -- Clauses 3 and 4: the items of an object by its places, and the values of an object by its kind.
-use mathlib.Core.Path.{_≡_, refl, sym, ap, _∙_}
+use mathlib.Core.Path.{_≡_, refl, _∙_}
 use mathlib.Core.Bool.{Bool, true, false, true≢false}
 use mathlib.Core.List.{List}
 use Prim.Native.Nat.{ℕ, _+_}
@@ -13,10 +13,8 @@ use Rattle.asyncio.specs.declared.GatherState.{GatherState}
 use Rattle.asyncio.specs.declared.Kind.{Kind}
 use Rattle.asyncio.specs.declared.Object.{Object}
 use Rattle.asyncio.specs.declared.Place.{Place}
-use Rattle.asyncio.specs.declared.Value.{Value}
-use Rattle.asyncio.specs.declared.OptionValue.{OptionValue}
-use Rattle.rows.specs.Tables.{object-at, place-at}
-use Rattle.machine.specs.Tests.{_and_, all-below}
+use Rattle.rows.specs.Tables.{object-at}
+use Rattle.machine.specs.Tests.{all-below}
 use Rattle.machine.specs.Sound.{items-below, value-known, option-known, object-values}
 use Rattle.sound.specs.Loops.{all-none}
 

@@ -1,9 +1,8 @@
 -- Canonical rows, as the code compares them: two rows of the same width are the same when each word is.
-use mathlib.Core.Path.{_≡_, refl, sym, ap, _∙_}
+use mathlib.Core.Path.{_≡_, refl, _∙_}
 use mathlib.Core.Bool.{Bool, true, false}
 use mathlib.Core.List.{List, [], _∷_}
 use Prim.Native.Nat.{ℕ, zero, suc, _+_, _*_}
-use native.Mathlib.Nat.{suc-inj}
 use native.Mathlib.Omega.{arith}
 use lib.Dec.{eqb}
 use lib.ListN.{length, getD}
@@ -16,7 +15,7 @@ use Rattle.asyncio.specs.declared.Header.{Header}
 use Rattle.rows.specs.Rows.{row-from}
 use Rattle.rows.specs.Canonical.{same-words, task-canonical, object-canonical, place-canonical, header-canonical}
 use Rattle.machine.specs.Tests.{_and_, all-below}
-use Rattle.sound.specs.Loops.{all-first, all-same}
+use Rattle.sound.specs.Loops.{all-first}
 
 -- word i of both rows
 abbrev pub same-word : List ℕ → List ℕ → ℕ → Bool

@@ -1,12 +1,4 @@
-use mathlib.Core.Path.{_≡_, refl, sym, ap, _∙_}
-use mathlib.Core.Bool.{Bool, true, false, not}
-use Prim.Native.Nat.{ℕ, _-_, _+_, _*_, _≤_, _<_}
-use native.Mathlib.Omega.{arith}
-use lib.ListN.{length, getD}
-use lib.Dec.{eqb, ltb, leb}
-use borrow.Author.Tests.{eq-eqb, ne-eqb, lt-ltb, le-ltb, le-leb, lt-leb}
-use denote.Ref.{now}
-use Rattle.asyncio.specs.Ranges.{HeaderFits}
+use mathlib.Core.Path.{sym, _∙_}
 use Rattle.sound.specs.Loops.{pass, stop}
 use Rattle.sound.specs.Whole.{tables-sound}
 use borrow.Author.Needs.{needs}

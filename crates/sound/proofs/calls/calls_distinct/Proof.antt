@@ -1,12 +1,5 @@
-use mathlib.Core.Path.{_≡_, refl, sym, ap, _∙_}
-use mathlib.Core.Bool.{Bool, true, false, not}
-use Prim.Native.Nat.{ℕ, _-_, _+_, _*_, _≤_, _<_}
-use native.Mathlib.Omega.{arith}
-use lib.ListN.{length, getD}
-use lib.Dec.{eqb, ltb, leb}
-use borrow.Author.Tests.{eq-eqb, ne-eqb, lt-ltb, le-ltb, le-leb, lt-leb}
-use denote.Ref.{now}
-use Rattle.machine.specs.Sound.{is-ended, calls-distinct}
+use mathlib.Core.Path.{refl}
+use Rattle.machine.specs.Sound.{is-ended}
 use Rattle.sound.specs.CallLaws.{distinct-told, distinct-ended}
 use borrow.Author.Needs.{needs}
 use Rattle.sound.proofs.calls.calls_distinct.Statement.{statement}

@@ -1,12 +1,6 @@
-use mathlib.Core.Path.{_≡_, refl, sym, ap, _∙_}
-use mathlib.Core.Bool.{Bool, true, false, not}
-use Prim.Native.Nat.{ℕ, _-_, _+_, _*_, _≤_, _<_}
+use mathlib.Core.Path.{sym, _∙_}
 use native.Mathlib.Omega.{arith}
-use lib.ListN.{length, getD}
-use lib.Dec.{eqb, ltb, leb}
-use borrow.Author.Tests.{eq-eqb, ne-eqb, lt-ltb, le-ltb, le-leb, lt-leb}
 use denote.Ref.{now}
-use Rattle.asyncio.specs.Ranges.{PlacesFit}
 use Rattle.scheduler.specs.CancelLaws.{places-fit}
 use Rattle.sound.specs.SlotLaws.{holds-settled, holds-awaited}
 use borrow.Author.Needs.{needs}
