@@ -1,0 +1,18 @@
+// Runs cases of document 01 on real slices, and the two deepest walks: a commit of gathers nested as deep as the objects allow, and a chain of
+// failed starts as long as they allow. Printed: a line for each case, then the answer to each event as document 01 has it.
+mod answers; // the words of an answer
+mod cases; // P1 to P7 and P10
+mod session; // the beginning, and events for the task that runs
+mod shows; // the words of a show
+mod told; // each event with its answer printed
+
+fn main() {
+    cases::empty_gather();
+    cases::one_task();
+    cases::empty_item();
+    cases::failed_item();
+    cases::dead_task();
+    cases::live_task_named();
+    cases::own_gather();
+    cases::batch();
+}
