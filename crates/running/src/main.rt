@@ -2,6 +2,7 @@
 // failed starts as long as they allow. Printed: a line for each case, then the answer to each event as document 01 has it.
 mod answers; // the words of an answer
 mod cases; // P1 to P7 and P10
+mod deep; // the deepest commits and the longest chain of failed starts
 mod session; // the beginning, and events for the task that runs
 mod shows; // the words of a show
 mod told; // each event with its answer printed
@@ -15,4 +16,8 @@ fn main() {
     cases::live_task_named();
     cases::own_gather();
     cases::batch();
+    deep::nested_pending();
+    deep::nested_failed();
+    deep::nested_empty();
+    deep::failed_starts();
 }
