@@ -16,8 +16,8 @@ use crate::told::results;
 use crate::told::resume;
 use asyncio::HeapId;
 use queue::ReadyQueue;
-ghost use Prim.Native.Nat.{_<_, _≤_, _+_};
-ghost use Rattle.asyncio.specs.Limits.{object-limit, item-limit};
+ghost use Prim.Native.Nat.{_<_};
+ghost use Rattle.asyncio.specs.Limits.{object-limit};
 
 // ---- commits
 
@@ -104,13 +104,13 @@ fn make_coroutines(objects: &mut [u64; 2056]) {
     }
 }
 
-// The `n` objects from `first` on.
-fn numbers(first: u16, n: usize) -> [u16; 32]
-    requires { ⌜ (first + n ≤ object-limit) × (n ≤ item-limit) ⌝ }
+// The 32 objects from `first` on.
+fn numbers(first: u16) -> [u16; 32]
+    requires { ⌜ first < object-limit ⌝ }
 {
     let mut items = [0u16; 32];
     let mut i: usize = 0;
-    while i < n {
+    while i < 32 {
         items[i] = first + i as u16;
         i += 1;
     }
@@ -121,7 +121,7 @@ fn numbers(first: u16, n: usize) -> [u16; 32]
 fn gather_coroutines(objects: &mut [u64; 2056], places: &mut [u64; 2048]) {
     let mut g: u16 = 0;
     while g < 7 {
-        let items = numbers(g * 32, 32);
+        let items = numbers(g * 32);
         make_gather(objects, places, &items);
         g += 1;
     }
@@ -130,11 +130,32 @@ fn gather_coroutines(objects: &mut [u64; 2056], places: &mut [u64; 2048]) {
 // Gather 253 of the other 21, and gather 254 of the gathers 246 to 253 and the failed external 245.
 fn gather_all(objects: &mut [u64; 2056], places: &mut [u64; 2048]) {
     gather_coroutines(objects, places);
-    let rest = numbers(224, 21);
-    gather(objects, places, &rest[..21]);
-    let mut all = numbers(246, 9);
-    all[8] = 245;
-    gather(objects, places, &all[..9]);
+    let rest = [
+        224u16,
+        225,
+        226,
+        227,
+        228,
+        229,
+        230,
+        231,
+        232,
+        233,
+        234,
+        235,
+        236,
+        237,
+        238,
+        239,
+        240,
+        241,
+        242,
+        243,
+        244,
+    ];
+    gather(objects, places, &rest);
+    let all = [246u16, 247, 248, 249, 250, 251, 252, 253, 245];
+    gather(objects, places, &all);
 }
 
 // Each coroutine runs inline.
