@@ -1,5 +1,6 @@
 // Document 01's cases P1 to P7 and P10, each from a fresh session. The events and the answers are those of the rows of
-// crates/machine/specs/Cases.antt; where a row ends with a cancel that is refused because its task is dead (P5), the live tasks are counted.
+// crates/machine/specs/Cases.antt. Besides: the ready queue when main, which the end of its task woke, runs (P2: it is empty), and the count of
+// live tasks where a row has a cancel that is refused because the task is dead (P5).
 use crate::answers::print_text;
 use crate::session::begin;
 use crate::shows::show;
@@ -13,6 +14,7 @@ use crate::told::pending;
 use crate::told::print_live;
 use crate::told::results;
 use crate::told::resume;
+use printing::print_queue;
 use queue::ReadyQueue;
 
 // A result as it stands in the lent bytes: the call in 4, its kind (0 return, 1 error), a plain value's tag, the number in 8.
@@ -43,6 +45,7 @@ pub fn one_task() {
     gather(&mut objects, &mut places, &items);
     let q1 = awaits(&mut tasks, &mut objects, &mut places, ReadyQueue::new(), 1);
     let q2 = complete(&mut tasks, &mut objects, &mut places, q1, 3);
+    print_queue(q2);
     show(&objects, &places, 1);
     call(&mut objects);
     pending(&mut objects, 0);
