@@ -1,5 +1,5 @@
-// The deepest walks that 256 objects allow. Commits: 255 or 256 gathers, each naming the object made before it. Failed starts: 245 tasks whose
-// coroutines ran inline before. Both stores are reached from a fresh session.
+// Deep walks, on stores reached from a fresh session. Commits: 255 or 256 gathers, each naming the object made before it. Failed starts: 245
+// tasks whose coroutines ran inline before. A coroutine has one live task at most, so that no chain is longer than 255.
 use crate::answers::print_text;
 use crate::cases::result;
 use crate::session::await_object;

@@ -1,8 +1,8 @@
-// Runs cases of document 01 on real slices, and the two deepest walks: a commit of gathers nested as deep as the objects allow, and a chain of
-// failed starts as long as they allow. Printed: a line for each case, then the answer to each event as document 01 has it.
+// Runs cases of document 01 on real slices, and two deep walks: commits of gathers nested as deep as 256 objects allow, and a chain of 245 failed
+// starts. Printed: a line for each case, then the answer to each event as document 01 has it.
 mod answers; // the words of an answer
 mod cases; // P1 to P7 and P10
-mod deep; // the deepest commits and the longest chain of failed starts
+mod deep; // the deepest commits and a long chain of failed starts
 mod session; // the beginning, and events for the task that runs
 mod shows; // the words of a show
 mod told; // each event with its answer printed
