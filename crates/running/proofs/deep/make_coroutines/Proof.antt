@@ -1,0 +1,41 @@
+use borrow.Author.Needs.{needs}
+use Prim.Native.Nat.{_≤_, _-_}
+use Rattle.running.proofs.deep.make_coroutines.Statement.{statement}
+use Rattle.running.proofs.deep.make_coroutines.Tie as tie
+
+abbrev Inv-loop : tie.InvT-loop
+Inv-loop objects₀ o₀ objects o = o ≤ 245
+
+abbrev μ-loop : tie.MeasureT-loop
+μ-loop objects₀ o₀ objects o = 245 - o
+
+loop-holds : tie.Need-loop-holds Inv-loop μ-loop
+loop-holds c = search needs
+
+make-coroutine-requires : tie.Need-make-coroutine-requires Inv-loop μ-loop
+make-coroutine-requires c κs = search needs
+
+add-o : tie.Need-add-o Inv-loop μ-loop
+add-o c = search needs
+
+loop-less : tie.Need-loop-less Inv-loop μ-loop
+loop-less c = search needs
+
+loop-again : tie.Need-loop-again Inv-loop μ-loop
+loop-again c = search needs
+
+returns : tie.Need-returns Inv-loop μ-loop
+returns c = search needs
+
+pub make-coroutines-spec : {M : Type 1} → statement M
+make-coroutines-spec =
+    tie.close
+    (tie.spec
+    Inv-loop
+    μ-loop
+    loop-holds
+    make-coroutine-requires
+    add-o
+    loop-less
+    loop-again
+    returns)

@@ -1,0 +1,37 @@
+use Rattle.rows.specs.TableLaws.{header-read}
+use borrow.Author.Needs.{needs}
+use Rattle.running.proofs.session.runner.Statement.{statement}
+use Rattle.running.proofs.session.runner.Tie as tie
+
+load-header-requires : tie.Need-load-header-requires
+load-header-requires c κs = search needs
+
+enum-known-moment : tie.Need-enum-known-moment
+enum-known-moment c = search needs
+
+enum-told : tie.Need-enum-told
+enum-told c = search needs
+
+enum-told-2 : tie.Need-enum-told-2
+enum-told-2 c = search needs
+
+returns : tie.Need-returns
+returns c = rw (c .before .moment .given .1) at (header-read _ (c .before .before .before .load-header .ensures) .moment-fits)
+
+returns-2 : tie.Need-returns-2
+returns-2 c = search needs
+
+returns-3 : tie.Need-returns-3
+returns-3 c = search needs
+
+pub runner-spec : {M : Type 1} → statement M
+runner-spec =
+    tie.close
+    (tie.spec
+    load-header-requires
+    enum-known-moment
+    enum-told
+    enum-told-2
+    returns
+    returns-2
+    returns-3)
