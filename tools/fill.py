@@ -2,6 +2,7 @@
 # fill.py CRATE FN FILE..: the FILEs have lines `use ..` and blocks `NEED[unfolded names]: term` (a term goes on over indented lines).
 # Fills the holes `NEED .. = ?` of the function's skeleton. A need `xyz*` stands for all that begin so.
 # `@thing` in a term is the path to the nearest place of that name in the need's `c`: `@loop .inv`, `@if1 .taken`, `@args .n`, `@pre`.
+# `@arm` is the fact of the nearest match's arm: `@arm .given .1` says which variant it is, fields bound or not.
 # With -g the generated files are made anew first (rt dev CRATE --generated).
 import re,sys,glob,os,tempfile,subprocess
 a=[x for x in sys.argv[1:] if x!='-g']
@@ -24,9 +25,12 @@ for i,l in enumerate(t):
         continue
     if re.match(r'\s{0,6}\S',l) and not l.strip().startswith('pub'): cur=None
 def paths(n):
-    out={}; x=need.get(n); p='c'
+    out={}; x=need.get(n); p='c'; last=None
     while x in recs:
         fs=dict(recs[x])
+        if 'match' in fs and last and 'arm' not in out: out['arm']=last
+        k=[g for g in fs if g!='before']
+        if k: last=p+' .'+k[0]
         for g in fs:
             if g!='before' and g not in out: out[g]=p+' .'+g
         b=fs.get('before')
