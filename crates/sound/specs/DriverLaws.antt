@@ -11,7 +11,7 @@ use Rattle.asyncio.specs.States.{is-live}
 use Rattle.asyncio.specs.declared.HeapId.{HeapId}
 use Rattle.asyncio.specs.declared.TaskState.{TaskState}
 use Rattle.rows.specs.Tables.{task-at}
-use Rattle.rows.specs.TableLaws.{task-at-fits}
+use Rattle.scheduler.specs.DriverLaws.{coroutine-fits}
 use Rattle.machine.specs.Scheduler.{drives}
 use Rattle.machine.specs.Tests.{_and_, implies}
 use Rattle.machine.specs.Sound.{drives-at, sole-driver}
@@ -21,9 +21,6 @@ use Rattle.sound.specs.Marks.{Marks, marks-turn, marks-skip}
 -- task t drives coroutine c
 abbrev pub driven : List ℕ → ℕ → ℕ → Bool
 driven ts t c = drives-at (task-at ts) c t
-
-pub coroutine-fits : (ts : List ℕ) (t : ℕ) {c : HeapId} → c ≡ task-at ts t .coroutine → c .0 < object-limit
-coroutine-fits ts t e = rw e (task-at-fits ts t .coroutine-fits)
 
 module _ (ts : List ℕ) (t : ℕ) where
   -- a row that drives nothing

@@ -65,7 +65,7 @@ pub fn items_lower(made: u16, objects: &[u64], places: &[u64]) -> bool
 // ---- 4. List values name completed gathers.
 
 // A value that may be handed on: plain, or the list of a completed gather among the objects made.
-fn value_known(made: u16, objects: &[u64], v: Value) -> bool
+pub fn value_known(made: u16, objects: &[u64], v: Value) -> bool
     requires { ⌜ (length (now objects) ≡ objects-length) × (made ≤ object-limit) ⌝ }
     ensures { λ r. ⌜ r ≡ value-known made (object-at (now (objects .entry))) v ⌝ }
 {
@@ -81,7 +81,8 @@ fn value_known(made: u16, objects: &[u64], v: Value) -> bool
     }
 }
 
-fn option_known(made: u16, objects: &[u64], x: OptionValue) -> bool
+// A value, or none.
+pub fn option_known(made: u16, objects: &[u64], x: OptionValue) -> bool
     requires { ⌜ (length (now objects) ≡ objects-length) × (made ≤ object-limit) ⌝ }
     ensures { λ r. ⌜ r ≡ option-known made (object-at (now (objects .entry))) x ⌝ }
 {

@@ -16,6 +16,7 @@ use Rattle.machine.specs.Events.{waits}
 use Rattle.machine.specs.Machine as machine
 use Rattle.machine.specs.Machine.{Event, Step, first-refusal, refusals, refusal, decide, step}
 use Rattle.machine.specs.Lent.{Lent, slices-right, lengths-right, write-calls, written-by, written, lent-by, lent-step, lent-read}
+use Rattle.laws.specs.TestLaws.{and-true}
 use Rattle.laws.specs.SoundLaws.{refusals-forget}
 use Rattle.events.specs.Answer.{answer-of, stepped-of}
 use Rattle.events.specs.declared.control.Control.{Control}
@@ -58,20 +59,16 @@ tells-nothing os (Answer.Refused n) e l = refl
 
 -- ---- lengths
 
-and-split : (a b : Bool) → (a && b) ≡ true → (a ≡ true) × (b ≡ true)
-and-split true b e = (refl, e)
-and-split false b e = (e, absurd (true≢false (sym e)))
-
 pub slices-have : (ts os ps : ℕ) {b : Bool} → b ≡ are-slices ts os ps → b ≡ true → (ts ≡ tasks-length) × (os ≡ objects-length) × (ps ≡ places-length)
 slices-have ts os ps e i =
-    let a = and-split (eqb ts tasks-length && eqb os objects-length) (eqb ps places-length) (sym e ∙ i) in
-    let b = and-split (eqb ts tasks-length) (eqb os objects-length) (a .0) in
+    let a = and-true (eqb ts tasks-length && eqb os objects-length) (eqb ps places-length) (sym e ∙ i) in
+    let b = and-true (eqb ts tasks-length) (eqb os objects-length) (a .0) in
     (eqb-true ts tasks-length (b .0), eqb-true os objects-length (b .1), eqb-true ps places-length (a .1))
 
 pub lengths-have : (ts os ps cs : ℕ) {b : Bool} → b ≡ (are-slices ts os ps && leb object-limit cs) → b ≡ true
     → (ts ≡ tasks-length) × (os ≡ objects-length) × (ps ≡ places-length) × (object-limit ≤ cs)
 lengths-have ts os ps cs e i =
-    let a = and-split (are-slices ts os ps) (leb object-limit cs) (sym e ∙ i) in
+    let a = and-true (are-slices ts os ps) (leb object-limit cs) (sym e ∙ i) in
     let b = slices-have ts os ps refl (a .0) in
     (b .0, b .1, b .2, leb-true object-limit cs (a .1))
 

@@ -3,9 +3,7 @@ use crate::tests::Turn;
 use crate::tests::any_unmade;
 use crate::tests::is_full;
 use crate::tests::no_number;
-use crate::tests::option_known;
 use crate::tests::running;
-use crate::tests::value_known;
 use asyncio::CallId;
 use asyncio::OptionValue;
 use asyncio::Value;
@@ -19,6 +17,8 @@ use events::making::settled_awaitable;
 use queue::ReadyQueue;
 use scheduler::tasks::Found;
 use scheduler::tasks::take_pending_external;
+use sound::values::option_known;
+use sound::values::value_known;
 ghost use mathlib.Core.Path.{_≡_};
 ghost use mathlib.Core.List.{List};
 ghost use mathlib.Core.Bool.{_||_};
@@ -105,7 +105,7 @@ pub fn pending(objects: &mut [u64], queue: ReadyQueue, call: u32, stored: Option
                     answer: Answer::Refused(5),
                 };
             }
-            if option_known(objects, made, stored) {
+            if option_known(made, objects, stored) {
                 let found = take_pending_external(objects, call);
                 return match found {
                     Found::At(_) => Stepped {
@@ -148,7 +148,7 @@ pub fn settled(objects: &mut [u64], queue: ReadyQueue, value: Value) -> Stepped
         },
         Turn::Runs(_) => {
             let header = rows::tables::load_header(objects);
-            if value_known(objects, header.made, value) {
+            if value_known(header.made, objects, value) {
                 if is_full(objects) {
                     return Stepped {
                         queue,

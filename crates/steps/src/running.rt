@@ -1,7 +1,6 @@
 // Events of the running task: await, complete, fail.
 use crate::tests::Turn;
 use crate::tests::running;
-use crate::tests::value_known;
 use asyncio::Error;
 use asyncio::HeapId;
 use asyncio::Value;
@@ -9,6 +8,7 @@ use events::answer::Answer;
 use events::answer::Stepped;
 use events::awaits::exec_get_awaitable;
 use queue::ReadyQueue;
+use sound::values::value_known;
 ghost use mathlib.Core.Path.{_≡_};
 ghost use mathlib.Core.List.{List};
 ghost use Prim.Native.Nat.{ℕ, _<_, _≤_};
@@ -75,7 +75,7 @@ pub fn complete(
         },
         Turn::Runs(t) => {
             let header = rows::tables::load_header(objects);
-            if value_known(objects, header.made, value) {
+            if value_known(header.made, objects, value) {
                 return events::ends::complete(tasks, objects, places, queue, t, value);
             }
             Stepped {

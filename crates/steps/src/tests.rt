@@ -1,9 +1,7 @@
 // The tests of the table of refusals.
 use asyncio::HeapId;
 use asyncio::Moment;
-use asyncio::OptionValue;
 use asyncio::TaskId;
-use asyncio::Value;
 ghost use mathlib.Core.Path.{_≡_};
 ghost use mathlib.Core.Bool.{Bool};
 ghost use mathlib.Core.List.{List};
@@ -12,7 +10,6 @@ ghost use lib.Dec.{leb};
 ghost use lib.ListN.{length};
 ghost use Rattle.asyncio.specs.Limits.{object-limit, call-limit, objects-length};
 ghost use Rattle.rows.specs.Tables.{object-at, header-at};
-ghost use Rattle.machine.specs.Sound.{value-known, option-known};
 ghost use Rattle.steps.specs.Checked.{turn-of};
 ghost use Rattle.machine.specs.Machine.{any-of, result-unknown, bad-result};
 ghost use Rattle.machine.specs.Store.{Happening, store-of};
@@ -55,34 +52,6 @@ pub fn no_number(objects: &[u64]) -> bool
 {
     let header = rows::tables::load_header(objects);
     65536 <= header.calls
-}
-
-// A value that may be handed on: plain, or the list of a completed gather.
-pub fn value_known(objects: &[u64], made: u16, v: Value) -> bool
-    requires { ⌜ (length (now objects) ≡ objects-length) × (made ≤ object-limit) ⌝ }
-    ensures { λ r. ⌜ r ≡ value-known made (object-at (now (objects .entry))) v ⌝ }
-{
-    match v {
-        Value::Plain(_) => true,
-        Value::List(g) => {
-            if g.0 < made {
-                let kind = rows::parts::kind_at(objects, g);
-                return kind.is_completed();
-            }
-            false
-        }
-    }
-}
-
-// A stored result, or none.
-pub fn option_known(objects: &[u64], made: u16, x: OptionValue) -> bool
-    requires { ⌜ (length (now objects) ≡ objects-length) × (made ≤ object-limit) ⌝ }
-    ensures { λ r. ⌜ r ≡ option-known made (object-at (now (objects .entry))) x ⌝ }
-{
-    match x {
-        OptionValue::None => true,
-        OptionValue::Some(v) => value_known(objects, made, v),
-    }
 }
 
 // Is one of the items not made?

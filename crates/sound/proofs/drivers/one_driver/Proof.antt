@@ -9,7 +9,8 @@ use Rattle.machine.specs.Tests.{all-below}
 use Rattle.machine.specs.Sound.{one-driver, sole-driver}
 use Rattle.sound.specs.Loops.{all-none, all-turn, all-fails, all-end}
 use Rattle.sound.specs.Marks.{Marks, marks-zeros}
-use Rattle.sound.specs.DriverLaws.{driven, coroutine-fits, driver-main, marks-main, driver-dead, marks-dead, driver-second, driver-first, marks-live}
+use Rattle.scheduler.specs.DriverLaws.{coroutine-fits}
+use Rattle.sound.specs.DriverLaws.{driven, driver-main, marks-main, driver-dead, marks-dead, driver-second, driver-first, marks-live}
 use Rattle.sound.proofs.drivers.one_driver.Statement.{statement}
 use Rattle.sound.proofs.drivers.one_driver.Tie as tie
 
