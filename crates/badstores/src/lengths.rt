@@ -34,60 +34,48 @@ fn offer_slices(
     b.queue
 }
 
-fn short_tasks(s: Store) {
+// The same on the first `t`, `o` and `p` words of the slices.
+fn offer_prefixes(
+    name: &[u8],
+    tasks: &mut [u64],
+    objects: &mut [u64],
+    places: &mut [u64],
+    queue: ReadyQueue,
+    t: usize,
+    o: usize,
+    p: usize,
+) -> ReadyQueue {
+    if tasks.len() < t {
+        return queue;
+    }
+    if objects.len() < o {
+        return queue;
+    }
+    if places.len() < p {
+        return queue;
+    }
+    offer_slices(
+        name,
+        &mut tasks[..t],
+        &mut objects[..o],
+        &mut places[..p],
+        queue,
+    )
+}
+
+fn offer_short(name: &[u8], s: Store, t: usize, o: usize, p: usize) {
     let mut tasks = s.tasks;
     let mut objects = s.objects;
     let mut places = s.places;
-    let queue = offer_slices(
-        b"tasks one word short",
-        &mut tasks[..4103],
+    let queue = offer_prefixes(
+        name,
+        &mut tasks,
         &mut objects,
         &mut places,
         s.queue,
-    );
-    print_changed(
-        s,
-        Store {
-            tasks,
-            objects,
-            places,
-            queue,
-        },
-    );
-}
-
-fn short_objects(s: Store) {
-    let mut tasks = s.tasks;
-    let mut objects = s.objects;
-    let mut places = s.places;
-    let queue = offer_slices(
-        b"objects one word short",
-        &mut tasks,
-        &mut objects[..2055],
-        &mut places,
-        s.queue,
-    );
-    print_changed(
-        s,
-        Store {
-            tasks,
-            objects,
-            places,
-            queue,
-        },
-    );
-}
-
-fn short_places(s: Store) {
-    let mut tasks = s.tasks;
-    let mut objects = s.objects;
-    let mut places = s.places;
-    let queue = offer_slices(
-        b"places one word short",
-        &mut tasks,
-        &mut objects,
-        &mut places[..2047],
-        s.queue,
+        t,
+        o,
+        p,
     );
     print_changed(
         s,
@@ -101,9 +89,9 @@ fn short_places(s: Store) {
 }
 
 pub fn short(s: Store) {
-    short_tasks(s);
-    short_objects(s);
-    short_places(s);
+    offer_short(b"tasks one word short", s, 4103, 2056, 2048);
+    offer_short(b"objects one word short", s, 4104, 2055, 2048);
+    offer_short(b"places one word short", s, 4104, 2056, 2047);
 }
 
 fn long_tasks(s: Store) {
@@ -209,9 +197,11 @@ fn offer_calls(name: &[u8], s: Store, calls: &mut [u64]) -> Store {
 }
 
 pub fn calls(s: Store) {
-    let mut list = [7u64; 257];
-    let refused = offer_calls(b"a call list of 255 words", s, &mut list[..255]);
+    let mut short = [7u64; 255];
+    let refused = offer_calls(b"a call list of 255 words", s, &mut short);
     print_changed(s, refused);
-    offer_calls(b"a call list of 256 words", s, &mut list[..256]);
-    offer_calls(b"a call list of 257 words", s, &mut list);
+    let mut list = [7u64; 256];
+    offer_calls(b"a call list of 256 words", s, &mut list);
+    let mut long = [7u64; 257];
+    offer_calls(b"a call list of 257 words", s, &mut long);
 }
