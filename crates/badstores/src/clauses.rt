@@ -41,6 +41,7 @@ pub fn drivers(s: Store) {
 }
 
 pub fn blocked(s: Store) {
+    offer(b"a blocked task that nothing wakes", with_object(s, 33, 0));
     offer(b"blocked on what another awaits", with_task(s, 5, 2));
     offer(b"blocked on an object not made", with_task(s, 5, 6));
     offer(b"an awaiter blocked elsewhere", with_object(s, 41, 1));
@@ -51,6 +52,11 @@ pub fn blocked(s: Store) {
 }
 
 pub fn places(s: Store, gathered: Store) {
+    let plain = with_task(gathered, 5, 0);
+    offer(
+        b"an awaited gather with all places filled",
+        with_object(plain, 32, 8),
+    );
     offer(
         b"an awaited gather with no open place",
         with_object(s, 38, 0),
