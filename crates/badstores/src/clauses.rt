@@ -69,6 +69,10 @@ pub fn places(s: Store, gathered: Store) {
 }
 
 pub fn slots(s: Store) {
+    offer(
+        b"an external's slot of another source",
+        with_object(s, 27, 1),
+    );
     offer(b"a slot of another source", with_task(s, 11, 1));
     offer(b"a slot of a gather not committed", with_task(s, 10, 5));
     offer(b"a slot of a coroutine", with_task(s, 10, 0));

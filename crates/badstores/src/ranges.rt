@@ -65,6 +65,10 @@ pub fn gathers(s: Store) {
 }
 
 pub fn main_task(s: Store, woken: Store) {
+    offer(
+        b"no main: next task 0, none queued",
+        with_object(with_count(woken, 0), 3, 0),
+    );
     offer(b"X1 main ready and not yet run", with_task(woken, 0, 1));
     offer(b"X3 main names a coroutine", with_task(s, 4, 1));
     offer(b"X3 main has an awaiter", with_task(s, 1, 1));
