@@ -4,7 +4,7 @@ use libc::STDOUT_FILENO;
 use printing::print_number;
 use session::reads::Reading;
 
-pub fn print_text(text: &[u8]) {
+pub(crate) fn print_text(text: &[u8]) {
     io::write_all(STDOUT_FILENO, text);
 }
 
@@ -21,7 +21,7 @@ fn print_refused(n: u16) {
     print_number(n as u64);
 }
 
-pub fn print_answer(answer: Answer) {
+pub(crate) fn print_answer(answer: Answer) {
     match answer {
         Answer::Made(_) => print_text(b"accepted"),
         Answer::Called(_) => print_text(b"accepted"),
@@ -39,7 +39,7 @@ pub fn print_answer(answer: Answer) {
     }
 }
 
-pub fn print_reading(reading: Reading) {
+pub(crate) fn print_reading(reading: Reading) {
     match reading {
         Reading::Shows(_) => print_text(b"shown"),
         Reading::Refused(n) => print_refused(n),

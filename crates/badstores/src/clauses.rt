@@ -7,12 +7,12 @@ use crate::store::with_object;
 use crate::store::with_place;
 use crate::store::with_task;
 
-pub fn items(s: Store) {
+pub(crate) fn items(s: Store) {
     offer(b"an item that is its gather", with_place(s, 12, 5));
 }
 
 // List values of objects that are no completed gather.
-pub fn lists(s: Store, woken: Store, gathered: Store) {
+pub(crate) fn lists(s: Store, woken: Store, gathered: Store) {
     offer(b"a delivered list of an external", with_task(woken, 5, 1));
     offer(
         b"a delivered list of another object",
@@ -23,7 +23,7 @@ pub fn lists(s: Store, woken: Store, gathered: Store) {
     offer(b"a place's list of a coroutine", with_place(s, 1, 2));
 }
 
-pub fn ready(s: Store, gathered: Store) {
+pub(crate) fn ready(s: Store, gathered: Store) {
     offer(b"a doubled entry", with_count(with_entry(s, 1, 2), 2));
     offer(b"a dead entry", with_entry(gathered, 0, 1));
     offer(b"a blocked entry", with_entry(s, 0, 0));
@@ -32,7 +32,7 @@ pub fn ready(s: Store, gathered: Store) {
     offer(b"an entry 513 up", with_entry(s, 0, 515));
 }
 
-pub fn drivers(s: Store) {
+pub(crate) fn drivers(s: Store) {
     offer(b"two pending externals of one call", with_object(s, 44, 0));
     offer(
         b"two live tasks of one coroutine",
@@ -40,7 +40,7 @@ pub fn drivers(s: Store) {
     );
 }
 
-pub fn blocked(s: Store) {
+pub(crate) fn blocked(s: Store) {
     offer(b"a blocked task that nothing wakes", with_object(s, 33, 0));
     offer(b"blocked on what another awaits", with_task(s, 5, 2));
     offer(b"blocked on an object not made", with_task(s, 5, 6));
@@ -51,7 +51,7 @@ pub fn blocked(s: Store) {
     );
 }
 
-pub fn places(s: Store, gathered: Store) {
+pub(crate) fn places(s: Store, gathered: Store) {
     let plain = with_task(gathered, 5, 0);
     offer(
         b"an awaited gather with all places filled",
@@ -68,7 +68,7 @@ pub fn places(s: Store, gathered: Store) {
     );
 }
 
-pub fn slots(s: Store) {
+pub(crate) fn slots(s: Store) {
     offer(
         b"an external's slot of another source",
         with_object(s, 27, 1),
@@ -82,7 +82,7 @@ pub fn slots(s: Store) {
     );
 }
 
-pub fn runner(s: Store) {
+pub(crate) fn runner(s: Store) {
     offer(b"another task is said to run", with_object(s, 5, 2));
     offer(b"the runner at the next number", with_object(s, 5, 3));
     offer(b"no task runs", with_task(s, 8, 1));

@@ -3,7 +3,7 @@ use crate::answers::print_text;
 use crate::store::Store;
 use queue::ReadyQueue;
 
-pub fn words_changed(before: &[u64], after: &[u64]) -> bool {
+pub(crate) fn words_changed(before: &[u64], after: &[u64]) -> bool {
     let n = before.len();
     if after.len() != n {
         return true;
@@ -55,7 +55,7 @@ fn slices_changed(before: Store, after: Store) -> bool {
 }
 
 // The line "changed" where something is.
-pub fn print_changed(before: Store, after: Store) {
+pub(crate) fn print_changed(before: Store, after: Store) {
     if slices_changed(before, after) {
         print_text(b"changed\n");
         return;

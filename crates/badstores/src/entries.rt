@@ -16,7 +16,7 @@ fn doubled(s: Store) -> Store {
     with_count(with_entry(s, 1, 2), 2)
 }
 
-pub fn making(s: Store) {
+pub(crate) fn making(s: Store) {
     let bad = doubled(s);
     offer_event(b"coroutine", bad, Event::Coroutine(7));
     offer_event(b"call", bad, Event::Call);
@@ -32,7 +32,7 @@ pub fn making(s: Store) {
     offer_event(b"gather", bad, Event::Gather);
 }
 
-pub fn running(s: Store) {
+pub(crate) fn running(s: Store) {
     let bad = doubled(s);
     offer_event(b"await", bad, Event::Await(4));
     offer_event(b"complete", bad, Event::Complete(Value::Plain(1)));
@@ -42,7 +42,7 @@ pub fn running(s: Store) {
 }
 
 // A read, and the beginning, which overwrites.
-pub fn others(s: Store) {
+pub(crate) fn others(s: Store) {
     let bad = doubled(s);
     let mut tasks = bad.tasks;
     let mut objects = bad.objects;

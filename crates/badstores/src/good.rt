@@ -65,19 +65,19 @@ fn awaited() -> Store {
 }
 
 // Besides, task 1 makes the external 4, of call 1, and gather 5 of it.
-pub fn started() -> Store {
+pub(crate) fn started() -> Store {
     let items = [4u16];
     gather(pending(awaited(), 1), &items)
 }
 
 // Main awaits a call, and its value has come: main is ready.
-pub fn woken() -> Store {
+pub(crate) fn woken() -> Store {
     let s = pending(fresh(), 0);
     result(event(s, Event::Await(0)))
 }
 
 // The gather that main awaits has its three values.
-pub fn gathered() -> Store {
+pub(crate) fn gathered() -> Store {
     let s = event(awaited(), Event::Complete(Value::Plain(0)));
     result(event(s, Event::Complete(Value::Plain(0))))
 }

@@ -88,7 +88,7 @@ fn offer_short(name: &[u8], s: Store, t: usize, o: usize, p: usize) {
     );
 }
 
-pub fn short(s: Store) {
+pub(crate) fn short(s: Store) {
     offer_short(b"tasks one word short", s, 4103, 2056, 2048);
     offer_short(b"objects one word short", s, 4104, 2055, 2048);
     offer_short(b"places one word short", s, 4104, 2056, 2047);
@@ -163,7 +163,7 @@ fn long_places(s: Store) {
     );
 }
 
-pub fn long(s: Store) {
+pub(crate) fn long(s: Store) {
     long_tasks(s);
     long_objects(s);
     long_places(s);
@@ -196,7 +196,7 @@ fn offer_calls(name: &[u8], s: Store, calls: &mut [u64]) -> Store {
     }
 }
 
-pub fn calls(s: Store) {
+pub(crate) fn calls(s: Store) {
     let mut short = [7u64; 255];
     let refused = offer_calls(b"a call list of 255 words", s, &mut short);
     print_changed(s, refused);

@@ -17,7 +17,7 @@ pub struct After {
 }
 
 // An event of the store. The call list holds 7s and is compared too where the event is refused.
-pub fn step(s: Store, event: Event, items: &[u16], results: &[u8]) -> After {
+pub(crate) fn step(s: Store, event: Event, items: &[u16], results: &[u8]) -> After {
     let mut tasks = s.tasks;
     let mut objects = s.objects;
     let mut places = s.places;
@@ -81,7 +81,7 @@ fn print_eager(s: Store) {
 }
 
 // The answers of `eager` and of `complete`.
-pub fn offer(name: &[u8], s: Store) {
+pub(crate) fn offer(name: &[u8], s: Store) {
     print_text(name);
     print_text(b": ");
     print_eager(s);
@@ -98,7 +98,7 @@ pub fn offer(name: &[u8], s: Store) {
 }
 
 // A good store: its rows, then its answers.
-pub fn good(name: &[u8], s: Store) {
+pub(crate) fn good(name: &[u8], s: Store) {
     let tasks = s.tasks;
     let objects = s.objects;
     printing::print_store(&tasks, &objects, s.queue);
@@ -106,7 +106,7 @@ pub fn good(name: &[u8], s: Store) {
 }
 
 // The answer of one event.
-pub fn offer_event(name: &[u8], s: Store, event: Event) {
+pub(crate) fn offer_event(name: &[u8], s: Store, event: Event) {
     let items = [0u16, 1];
     let results = [0u8; 14];
     let after = step(s, event, &items, &results);

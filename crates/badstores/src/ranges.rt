@@ -8,14 +8,14 @@ use crate::store::with_place;
 use crate::store::with_task;
 
 // Rows past the counts are not looked at.
-pub fn unused(s: Store) {
+pub(crate) fn unused(s: Store) {
     offer(b"a word of an unused task's row", with_task(s, 24, 9));
     offer(b"a word of an unused object's row", with_object(s, 56, 99));
     offer(b"a word of an unused place's row", with_place(s, 17, 9));
     offer(b"an id behind the queue's count", with_entry(s, 1, 9));
 }
 
-pub fn task_words(s: Store) {
+pub(crate) fn task_words(s: Store) {
     offer(b"task's tag 6", with_task(s, 0, 6));
     offer(b"task's last word not 0", with_task(s, 7, 1));
     offer(b"task's awaiter's tag 3", with_task(s, 9, 3));
@@ -23,7 +23,7 @@ pub fn task_words(s: Store) {
     offer(b"task's coroutine 256 up", with_task(s, 12, 256));
 }
 
-pub fn object_words(s: Store, woken: Store) {
+pub(crate) fn object_words(s: Store, woken: Store) {
     offer(b"object's tag 11", with_object(s, 8, 11));
     offer(b"object's last word not 0", with_object(s, 15, 1));
     offer(b"function of 33 bits", with_object(s, 12, 4294967303));
@@ -34,13 +34,13 @@ pub fn object_words(s: Store, woken: Store) {
     offer(b"error's tag 7", with_object(failed, 13, 7));
 }
 
-pub fn place_words(s: Store) {
+pub(crate) fn place_words(s: Store) {
     offer(b"place's item 256 up", with_place(s, 0, 256));
     offer(b"place's result's tag 3", with_place(s, 1, 3));
     offer(b"place's last word not 0", with_place(s, 3, 1));
 }
 
-pub fn header_words(s: Store) {
+pub(crate) fn header_words(s: Store) {
     offer(b"moment 3", with_object(s, 4, 3));
     offer(b"header's last word not 0", with_object(s, 7, 1));
     offer(b"a runner's number in waiting", with_object(s, 4, 1));
@@ -48,7 +48,7 @@ pub fn header_words(s: Store) {
     offer(b"queue's count 514", with_count(s, 514));
 }
 
-pub fn counts(s: Store) {
+pub(crate) fn counts(s: Store) {
     offer(b"next task 0", with_object(s, 3, 0));
     offer(b"places used one more", with_object(s, 1, 5));
     offer(b"objects made one more", with_object(s, 0, 7));
@@ -59,12 +59,12 @@ pub fn counts(s: Store) {
     );
 }
 
-pub fn gathers(s: Store) {
+pub(crate) fn gathers(s: Store) {
     offer(b"gather's first place off by one", with_object(s, 52, 2));
     offer(b"an open bit at the count", with_object(s, 38, 15));
 }
 
-pub fn main_task(s: Store, woken: Store) {
+pub(crate) fn main_task(s: Store, woken: Store) {
     offer(
         b"no main: next task 0, none queued",
         with_object(with_count(woken, 0), 3, 0),
@@ -74,7 +74,7 @@ pub fn main_task(s: Store, woken: Store) {
     offer(b"X3 main has an awaiter", with_task(s, 1, 1));
 }
 
-pub fn spawned(s: Store) {
+pub(crate) fn spawned(s: Store) {
     let other = with_task(s, 11, 2);
     offer(b"X2 a live task names an external", with_task(other, 12, 2));
     offer(b"X4 a queued task at the next number", with_object(s, 3, 2));

@@ -8,7 +8,7 @@ pub struct Store {
     pub queue: ReadyQueue,
 }
 
-pub fn with_task(s: Store, at: usize, word: u64) -> Store {
+pub(crate) fn with_task(s: Store, at: usize, word: u64) -> Store {
     let mut out = s;
     if at < 4104 {
         out.tasks[at] = word;
@@ -16,7 +16,7 @@ pub fn with_task(s: Store, at: usize, word: u64) -> Store {
     out
 }
 
-pub fn with_object(s: Store, at: usize, word: u64) -> Store {
+pub(crate) fn with_object(s: Store, at: usize, word: u64) -> Store {
     let mut out = s;
     if at < 2056 {
         out.objects[at] = word;
@@ -24,7 +24,7 @@ pub fn with_object(s: Store, at: usize, word: u64) -> Store {
     out
 }
 
-pub fn with_place(s: Store, at: usize, word: u64) -> Store {
+pub(crate) fn with_place(s: Store, at: usize, word: u64) -> Store {
     let mut out = s;
     if at < 2048 {
         out.places[at] = word;
@@ -33,7 +33,7 @@ pub fn with_place(s: Store, at: usize, word: u64) -> Store {
 }
 
 // The queue's entry `at` is `t`.
-pub fn with_entry(s: Store, at: usize, t: u16) -> Store {
+pub(crate) fn with_entry(s: Store, at: usize, t: u16) -> Store {
     let mut q = s.queue;
     if at < 513 {
         q.ids[at] = t;
@@ -43,7 +43,7 @@ pub fn with_entry(s: Store, at: usize, t: u16) -> Store {
     out
 }
 
-pub fn with_count(s: Store, n: usize) -> Store {
+pub(crate) fn with_count(s: Store, n: usize) -> Store {
     let mut q = s.queue;
     q.len = n;
     let mut out = s;

@@ -9,11 +9,11 @@ use libc::STDOUT_FILENO;
 use printing::print_number;
 use scheduler::calls::pending_call_ids;
 
-pub fn print_text(text: &[u8]) {
+pub(crate) fn print_text(text: &[u8]) {
     io::write_all(STDOUT_FILENO, text);
 }
 
-pub fn print_value(v: Value) {
+pub(crate) fn print_value(v: Value) {
     match v {
         Value::Plain(n) => {
             print_text(b" plain");
@@ -26,7 +26,7 @@ pub fn print_value(v: Value) {
     }
 }
 
-pub fn print_error(e: Error) {
+pub(crate) fn print_error(e: Error) {
     match e {
         Error::Host(n) => {
             print_text(b" host");
@@ -141,7 +141,7 @@ fn print_eager(yes: bool) {
     }
 }
 
-pub fn print_answer(objects: &[u64; 2056], answer: Answer) {
+pub(crate) fn print_answer(objects: &[u64; 2056], answer: Answer) {
     print_words(objects, answer);
     print_text(b"\n");
 }

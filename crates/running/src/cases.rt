@@ -18,11 +18,11 @@ use printing::print_queue;
 use queue::ReadyQueue;
 
 // A result as it stands in the lent bytes: the call in 4, its kind (0 return, 1 error), a plain value's tag, the number in 8.
-pub fn result(call: u8, kind: u8, number: u8) -> [u8; 14] {
+pub(crate) fn result(call: u8, kind: u8, number: u8) -> [u8; 14] {
     [call, 0, 0, 0, kind, 0, number, 0, 0, 0, 0, 0, 0, 0]
 }
 
-pub fn empty_gather() {
+pub(crate) fn empty_gather() {
     print_text(b"P1 empty gather: list, steps 1\n");
     let mut tasks = [0u64; 4104];
     let mut objects = [0u64; 2056];
@@ -34,7 +34,7 @@ pub fn empty_gather() {
     show(&objects, &places, 0);
 }
 
-pub fn one_task() {
+pub(crate) fn one_task() {
     print_text(b"P2 gather(c, c): one task\n");
     let mut tasks = [0u64; 4104];
     let mut objects = [0u64; 2056];
@@ -52,7 +52,7 @@ pub fn one_task() {
     awaits(&mut tasks, &mut objects, &mut places, q2, 2);
 }
 
-pub fn empty_item() {
+pub(crate) fn empty_item() {
     print_text(b"P3 gather(gather(), f), f pending: waits, steps 3\n");
     let mut tasks = [0u64; 4104];
     let mut objects = [0u64; 2056];
@@ -85,7 +85,7 @@ fn run_failed_item(
     awaits(tasks, objects, places, q, 2)
 }
 
-pub fn failed_item() {
+pub(crate) fn failed_item() {
     print_text(b"P4 gather(c, f), f failed: raised, steps 1, c's task ready\n");
     let mut tasks = [0u64; 4104];
     let mut objects = [0u64; 2056];
@@ -96,7 +96,7 @@ pub fn failed_item() {
     awaits(&mut tasks, &mut objects, &mut places, q, 3);
 }
 
-pub fn dead_task() {
+pub(crate) fn dead_task() {
     print_text(b"P5 after P4, await c runs inline; c's task dies; waits\n");
     let mut tasks = [0u64; 4104];
     let mut objects = [0u64; 2056];
@@ -120,7 +120,7 @@ fn make_gathers(objects: &mut [u64; 2056], places: &mut [u64; 2048]) {
     gather(objects, places, &again);
 }
 
-pub fn live_task_named() {
+pub(crate) fn live_task_named() {
     print_text(b"P6 a gather naming c of P2 while its task lives: coroutine-reuse\n");
     let mut tasks = [0u64; 4104];
     let mut objects = [0u64; 2056];
@@ -135,7 +135,7 @@ pub fn live_task_named() {
     awaits(&mut tasks, &mut objects, &mut places, q3, 4);
 }
 
-pub fn own_gather() {
+pub(crate) fn own_gather() {
     print_text(b"P7 a child awaits its own gather: gather-reuse\n");
     let mut tasks = [0u64; 4104];
     let mut objects = [0u64; 2056];
@@ -194,7 +194,7 @@ fn two_results() -> [u8; 28] {
     ]
 }
 
-pub fn batch() {
+pub(crate) fn batch() {
     print_text(b"P10 a batch waking task 2, then 1: 2 runs first\n");
     let mut tasks = [0u64; 4104];
     let mut objects = [0u64; 2056];

@@ -31,7 +31,7 @@ fn nest(objects: &mut [u64; 2056], places: &mut [u64; 2048]) {
     }
 }
 
-pub fn nested_pending() {
+pub(crate) fn nested_pending() {
     print_text(b"255 gathers nested, the innermost of a pending call\n");
     let mut tasks = [0u64; 4104];
     let mut objects = [0u64; 2056];
@@ -53,7 +53,7 @@ pub fn nested_pending() {
     show(&objects, &places, 255);
 }
 
-pub fn nested_failed() {
+pub(crate) fn nested_failed() {
     print_text(b"255 gathers nested, the innermost of a failed call\n");
     let mut tasks = [0u64; 4104];
     let mut objects = [0u64; 2056];
@@ -74,7 +74,7 @@ pub fn nested_failed() {
     show(&objects, &places, 1);
 }
 
-pub fn nested_empty() {
+pub(crate) fn nested_empty() {
     print_text(b"256 gathers nested, the innermost empty\n");
     let mut tasks = [0u64; 4104];
     let mut objects = [0u64; 2056];
@@ -177,7 +177,7 @@ fn await_coroutines(
 
 // The gather fails at its last item, when the tasks 1 to 245 are queued. Main then runs each of their coroutines inline and awaits call 1:
 // each task fails at its first run, and nothing is left to run.
-pub fn failed_starts() {
+pub(crate) fn failed_starts() {
     print_text(b"245 tasks in a row fail at their first run\n");
     let mut tasks = [0u64; 4104];
     let mut objects = [0u64; 2056];

@@ -18,7 +18,7 @@ ghost use Prim.Native.Nat.{_<_};
 ghost use Rattle.asyncio.specs.Limits.{task-limit, object-limit};
 
 // Main runs, nothing else exists. All words were 0.
-pub fn begin(tasks: &mut [u64; 4104], objects: &mut [u64; 2056]) {
+pub(crate) fn begin(tasks: &mut [u64; 4104], objects: &mut [u64; 2056]) {
     let header = Header {
         made: 0,
         used: 0,
@@ -36,7 +36,7 @@ pub fn begin(tasks: &mut [u64; 4104], objects: &mut [u64; 2056]) {
 }
 
 // The task that runs, or main.
-pub fn runner(objects: &[u64; 2056]) -> TaskId
+pub(crate) fn runner(objects: &[u64; 2056]) -> TaskId
     ensures { λ r. ⌜ r .0 < task-limit ⌝ }
 {
     let header = load_header(objects);
@@ -48,7 +48,7 @@ pub fn runner(objects: &[u64; 2056]) -> TaskId
     }
 }
 
-pub fn make_coroutine(objects: &mut [u64; 2056], function: u32) -> Answer {
+pub(crate) fn make_coroutine(objects: &mut [u64; 2056], function: u32) -> Answer {
     let header = load_header(objects);
     if header.made < 256 {
         return Answer::Made(events::making::make_coroutine(objects, function));
@@ -57,7 +57,7 @@ pub fn make_coroutine(objects: &mut [u64; 2056], function: u32) -> Answer {
 }
 
 // An external of a call, without a stored result.
-pub fn make_pending(objects: &mut [u64; 2056], call: u16) -> Answer {
+pub(crate) fn make_pending(objects: &mut [u64; 2056], call: u16) -> Answer {
     let header = load_header(objects);
     if header.made < 256 {
         return Answer::Made(events::making::push_pending_future(
@@ -69,7 +69,11 @@ pub fn make_pending(objects: &mut [u64; 2056], call: u16) -> Answer {
     Answer::Refused(7)
 }
 
-pub fn make_gather(objects: &mut [u64; 2056], places: &mut [u64; 2048], items: &[u16]) -> Answer {
+pub(crate) fn make_gather(
+    objects: &mut [u64; 2056],
+    places: &mut [u64; 2048],
+    items: &[u16],
+) -> Answer {
     let n = items.len();
     if 32 < n {
         return Answer::Refused(7);
@@ -86,7 +90,7 @@ pub fn make_gather(objects: &mut [u64; 2056], places: &mut [u64; 2048], items: &
 }
 
 // The running task awaits object `o`.
-pub fn await_object(
+pub(crate) fn await_object(
     tasks: &mut [u64; 4104],
     objects: &mut [u64; 2056],
     places: &mut [u64; 2048],

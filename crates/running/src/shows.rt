@@ -97,7 +97,7 @@ fn print_object(objects: &[u64; 2056], places: &[u64; 2048], o: HeapId)
     }
 }
 
-pub fn show(objects: &[u64; 2056], places: &[u64; 2048], o: u16)
+pub(crate) fn show(objects: &[u64; 2056], places: &[u64; 2048], o: u16)
     requires { ⌜ o < object-limit ⌝ }
 {
     print_text(b"shows");

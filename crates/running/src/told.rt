@@ -19,27 +19,27 @@ use queue::ReadyQueue;
 ghost use Prim.Native.Nat.{_<_};
 ghost use Rattle.asyncio.specs.Limits.{object-limit};
 
-pub fn coroutine(objects: &mut [u64; 2056], function: u32) {
+pub(crate) fn coroutine(objects: &mut [u64; 2056], function: u32) {
     let answer = make_coroutine(objects, function);
     print_answer(objects, answer);
 }
 
-pub fn call(objects: &mut [u64; 2056]) {
+pub(crate) fn call(objects: &mut [u64; 2056]) {
     let n = allocate_call_id(objects);
     print_answer(objects, Answer::Called(n));
 }
 
-pub fn pending(objects: &mut [u64; 2056], call: u16) {
+pub(crate) fn pending(objects: &mut [u64; 2056], call: u16) {
     let answer = make_pending(objects, call);
     print_answer(objects, answer);
 }
 
-pub fn gather(objects: &mut [u64; 2056], places: &mut [u64; 2048], items: &[u16]) {
+pub(crate) fn gather(objects: &mut [u64; 2056], places: &mut [u64; 2048], items: &[u16]) {
     let answer = make_gather(objects, places, items);
     print_answer(objects, answer);
 }
 
-pub fn awaits(
+pub(crate) fn awaits(
     tasks: &mut [u64; 4104],
     objects: &mut [u64; 2056],
     places: &mut [u64; 2048],
@@ -57,7 +57,7 @@ pub fn awaits(
 }
 
 // The running task completes with a plain value.
-pub fn complete(
+pub(crate) fn complete(
     tasks: &mut [u64; 4104],
     objects: &mut [u64; 2056],
     places: &mut [u64; 2048],
@@ -73,7 +73,7 @@ pub fn complete(
 }
 
 // The running task fails with an error of the script.
-pub fn fail(
+pub(crate) fn fail(
     tasks: &mut [u64; 4104],
     objects: &mut [u64; 2056],
     queue: ReadyQueue,
@@ -87,7 +87,7 @@ pub fn fail(
     left
 }
 
-pub fn results(
+pub(crate) fn results(
     tasks: &mut [u64; 4104],
     objects: &mut [u64; 2056],
     places: &mut [u64; 2048],
@@ -99,7 +99,11 @@ pub fn results(
     left
 }
 
-pub fn resume(tasks: &mut [u64; 4104], objects: &mut [u64; 2056], queue: ReadyQueue) -> ReadyQueue {
+pub(crate) fn resume(
+    tasks: &mut [u64; 4104],
+    objects: &mut [u64; 2056],
+    queue: ReadyQueue,
+) -> ReadyQueue {
     let s = resume_with_resolved_futures(tasks, objects, queue);
     let left = s.queue;
     let answer = s.answer;
@@ -123,7 +127,7 @@ fn count_live(tasks: &[u64; 4104]) -> u64 {
 }
 
 // How many tasks live.
-pub fn print_live(tasks: &[u64; 4104]) {
+pub(crate) fn print_live(tasks: &[u64; 4104]) {
     print_text(b"live");
     print_number(count_live(tasks));
     print_text(b"\n");
