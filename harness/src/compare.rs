@@ -1,0 +1,119 @@
+//! `drive` beside the published Rust: the same bytes to both, the lines held to each other byte for byte.
+
+use std::{
+    collections::BTreeMap,
+    fs,
+    io::Write,
+    panic::{self, AssertUnwindSafe},
+    path::Path,
+    process::{Command, Stdio},
+    thread,
+};
+
+use crate::{generate, records::Reader, session};
+
+/// What a program made of an input: its lines, and how it ended if not well.
+fn drive(program: &Path, input: &[u8]) -> String {
+    let mut child = Command::new(program)
+        .stdin(Stdio::piped())
+        .stdout(Stdio::piped())
+        .spawn()
+        .unwrap_or_else(|error| panic!("{} does not start: {error}", program.display()));
+    let mut stdin = child.stdin.take().expect("a pipe was asked for");
+    let input = input.to_vec();
+    // the program may stop reading at an 11
+    let writer = thread::spawn(move || drop(stdin.write_all(&input)));
+    let output = child.wait_with_output().expect("waiting for the program");
+    writer.join().expect("the writer does not panic");
+    let mut lines = String::from_utf8_lossy(&output.stdout).into_owned();
+    if !output.status.success() {
+        lines += &format!("ended with {}\n", output.status);
+    }
+    lines
+}
+
+/// The Rust's lines, or that it panicked.
+fn rust(input: &[u8]) -> String {
+    panic::catch_unwind(AssertUnwindSafe(|| session::lines(input))).unwrap_or_else(|_| "the Rust panicked\n".into())
+}
+
+/// The records of an input, as far as they can be read; what is left is one piece more.
+fn pieces(input: &[u8]) -> Vec<&[u8]> {
+    let mut out = Vec::new();
+    let mut rest = input;
+    while !rest.is_empty() {
+        let mut reader = Reader { bytes: rest };
+        let length = if reader.record().is_some() { rest.len() - reader.bytes.len() } else { rest.len() };
+        let (piece, after) = rest.split_at(length);
+        out.push(piece);
+        rest = after;
+    }
+    out
+}
+
+/// A shorter input on which the two still differ: pieces are left out as long as they do.
+fn cut_down(program: &Path, input: &[u8]) -> Vec<u8> {
+    let mut kept = pieces(input);
+    let mut size = kept.len().div_ceil(2);
+    while size > 0 {
+        let mut at = 0;
+        while at < kept.len() {
+            let mut fewer = kept.clone();
+            fewer.drain(at..(at + size).min(kept.len()));
+            let bytes = fewer.concat();
+            if drive(program, &bytes) == rust(&bytes) {
+                at += size;
+            } else {
+                kept = fewer;
+            }
+        }
+        size /= 2;
+    }
+    kept.concat()
+}
+
+/// Compares `count` files of `seed`; says what was in them; true if no line differs.
+pub(crate) fn compare(program: &Path, seed: u64, count: u64, folder: &Path) -> bool {
+    let mut words: BTreeMap<String, u64> = BTreeMap::new();
+    let mut records = 0;
+    for number in 0..count {
+        let input = generate::file(seed, number);
+        let expected = rust(&input);
+        let got = drive(program, &input);
+        if got != expected {
+            println!("file {number} of seed {seed}: the lines differ");
+            let short = cut_down(program, &input);
+            let path = folder.join(format!("differs-{seed}-{number}.bin"));
+            fs::write(&path, &short).expect("writing the file that differs");
+            println!("cut down from {} to {} bytes: {}", input.len(), short.len(), path.display());
+            println!("the Rust:\n{}drive:\n{}", rust(&short), drive(program, &short));
+            return false;
+        }
+        for line in expected.lines() {
+            records += 1;
+            *words.entry(kind(line)).or_default() += 1;
+        }
+    }
+    println!("{count} files of seed {seed}, {records} records: no line differs");
+    for (word, times) in words {
+        println!("  {times:>8} {word}");
+    }
+    true
+}
+
+/// The answer word of a line, with what tells the answers of one word apart.
+fn kind(line: &str) -> String {
+    let words: Vec<&str> = line.split(' ').skip(1).collect();
+    let detail = match *words.first().unwrap_or(&"") {
+        "refused" => 1..2,
+        "runs" => 2..3,
+        "shows" => 1..3,
+        _ => 0..0,
+    };
+    let mut kind = words[..1].to_vec();
+    kind.extend(words.get(detail).unwrap_or(&[]));
+    if words.len() > 1 && words[words.len() - 2] == "steps" {
+        kind.push(if words[words.len() - 1] == "0" { "without a commit" } else { "with a commit" });
+    }
+    kind.join(" ")
+}

@@ -1,0 +1,511 @@
+//! Random event files, each from a seed and its number. The generator runs the published Rust beside itself, so that it knows what could be asked next.
+
+use std::{fs, path::Path};
+
+use crate::{
+    asyncio::CallId,
+    records::Reader,
+    session::{Moment, Session, lines, with_session},
+};
+
+/// splitmix64.
+struct Random(u64);
+
+impl Random {
+    fn next(&mut self) -> u64 {
+        self.0 = self.0.wrapping_add(0x9E37_79B9_7F4A_7C15);
+        let mut x = self.0;
+        x = (x ^ (x >> 30)).wrapping_mul(0xBF58_476D_1CE4_E5B9);
+        x = (x ^ (x >> 27)).wrapping_mul(0x94D0_49BB_1331_11EB);
+        x ^ (x >> 31)
+    }
+
+    /// A number below `n`, which is not 0.
+    fn below(&mut self, n: u64) -> u64 {
+        self.next() % n
+    }
+
+    fn chance(&mut self, percent: u64) -> bool {
+        self.below(100) < percent
+    }
+
+    /// A place in the list of weights, each as often as its weight says.
+    fn weighted(&mut self, weights: &[u64]) -> usize {
+        let mut at = self.below(weights.iter().sum());
+        for (i, &weight) in weights.iter().enumerate() {
+            if at < weight {
+                return i;
+            }
+            at -= weight;
+        }
+        unreachable!("the weights are not all 0")
+    }
+}
+
+#[derive(Clone, Copy, PartialEq)]
+enum Style {
+    /// what a script and its host would do, with few mistakes
+    Sensible,
+    /// any record at any time, numbers in and out of range
+    Wild,
+    /// gathers in gathers
+    Deep,
+    /// the limits of document 01's "Run:" line
+    Limits,
+}
+
+const STYLES: [Style; 4] = [Style::Sensible, Style::Wild, Style::Deep, Style::Limits];
+
+/// One file being made.
+struct File<'s, 'h> {
+    random: Random,
+    session: &'s mut Session<'h>,
+    bytes: Vec<u8>,
+    records: u64,
+}
+
+impl File<'_, '_> {
+    // ---- a record, appended and run ----
+
+    fn record(&mut self, kind: u8, fields: &[u8]) {
+        let from = self.bytes.len();
+        self.bytes.extend([0xC3, 0x59, kind]);
+        self.bytes.extend(fields);
+        self.records += 1;
+        if let Some(record) = (Reader { bytes: &self.bytes[from..] }).record() {
+            let _ = self.session.answer(record);
+        }
+    }
+
+    fn coroutine(&mut self) {
+        let function = self.random.below(9) as u32;
+        self.record(1, &function.to_le_bytes());
+    }
+
+    fn call(&mut self) {
+        self.record(2, &[]);
+    }
+
+    fn pending(&mut self, call: u32) {
+        let flag = u8::from(self.random.chance(25));
+        let value = self.value();
+        let mut fields = call.to_le_bytes().to_vec();
+        fields.push(flag);
+        fields.extend(value);
+        self.record(3, &fields);
+    }
+
+    fn settled(&mut self) {
+        let value = self.value();
+        self.record(4, &value);
+    }
+
+    fn gather(&mut self, items: &[u16]) {
+        let mut fields = vec![items.len() as u8];
+        fields.extend(items.iter().flat_map(|item| item.to_le_bytes()));
+        self.record(5, &fields);
+    }
+
+    fn await_object(&mut self, object: u16) {
+        self.record(6, &object.to_le_bytes());
+    }
+
+    fn complete(&mut self) {
+        let value = self.value();
+        self.record(7, &value);
+    }
+
+    fn fail(&mut self) {
+        let number = self.random.below(1000) as u32;
+        self.record(8, &number.to_le_bytes());
+    }
+
+    fn results(&mut self, results: &[Vec<u8>]) {
+        let mut fields = vec![results.len() as u8];
+        fields.extend(results.concat());
+        self.record(9, &fields);
+    }
+
+    fn resume(&mut self) {
+        self.record(10, &[]);
+    }
+
+    fn show(&mut self, object: u16) {
+        self.record(12, &object.to_le_bytes());
+    }
+
+    fn eager(&mut self) {
+        self.record(13, &[]);
+    }
+
+    // ---- numbers and values ----
+
+    fn made(&self) -> u64 {
+        self.session.objects.len() as u64
+    }
+
+    fn value(&mut self) -> [u8; 9] {
+        let mut tag = 0;
+        let mut number = match self.random.below(10) {
+            0 => self.random.next(),
+            _ => self.random.below(100),
+        };
+        if self.random.chance(15) {
+            let lists: Vec<u64> = (0..self.made()).filter(|&g| self.session.list(g).is_some()).collect();
+            if !lists.is_empty() {
+                tag = 1;
+                number = lists[self.random.below(lists.len() as u64) as usize];
+            }
+        }
+        let mut bytes = [0; 9];
+        bytes[0] = tag;
+        bytes[1..].copy_from_slice(&number.to_le_bytes());
+        bytes
+    }
+
+    /// An object made, mostly one of the last; 0 if none is.
+    fn object(&mut self) -> u16 {
+        let made = self.made();
+        if made == 0 {
+            return 0;
+        }
+        let back = if self.random.chance(70) { made.min(8) } else { made };
+        (made - 1 - self.random.below(back)) as u16
+    }
+
+    /// Mostly a gather, if there is one among the last.
+    fn object_to_await(&mut self) -> u16 {
+        let mut object = self.object();
+        for _ in 0..4 {
+            let is_gather = self.session.objects.get(usize::from(object)).is_some_and(|&id| self.session.is_pending_gather(id));
+            if !is_gather {
+                object = self.object();
+            }
+        }
+        object
+    }
+
+    fn items(&mut self, most: u64) -> Vec<u16> {
+        let count = self.random.below(most + 1);
+        if self.made() == 0 { Vec::new() } else { (0..count).map(|_| self.object()).collect() }
+    }
+
+    fn pending_calls(&self) -> Vec<u32> {
+        let mut calls: Vec<u32> = self.session.vm.scheduler.pending_call_ids().into_iter().map(CallId::raw).collect();
+        calls.sort_unstable();
+        calls
+    }
+
+    /// A result: mostly for a pending call, else for one answered, or never handed out.
+    fn result(&mut self) -> Vec<u8> {
+        let pending = self.pending_calls();
+        let call = if !pending.is_empty() && self.random.chance(80) {
+            pending[self.random.below(pending.len() as u64) as usize]
+        } else {
+            self.random.below(u64::from(self.session.calls_handed_out) + 3) as u32
+        };
+        let kind = self.random.weighted(&[70, 15, 6, 5, 4]) as u8;
+        let mut value = self.value();
+        if kind == 1 {
+            value[5..].fill(0);
+        }
+        let mut bytes = call.to_le_bytes().to_vec();
+        bytes.push(kind);
+        bytes.extend(value);
+        bytes
+    }
+
+    // ---- styles ----
+
+    fn sensible(&mut self) {
+        match self.session.moment {
+            Moment::Running => self.sensible_running(),
+            Moment::Waiting => match self.random.weighted(&[45, 40, 8, 3, 4]) {
+                0 => self.some_results(4),
+                1 => self.resume(),
+                2 => self.some_show(),
+                3 => self.eager(),
+                _ => self.sensible_running(),
+            },
+            Moment::Ended => match self.random.below(3) {
+                0 => self.some_show(),
+                1 => self.eager(),
+                _ => self.sensible_running(),
+            },
+        }
+    }
+
+    fn some_results(&mut self, most: u64) {
+        let count = 1 + self.random.below(most);
+        let results: Vec<Vec<u8>> = (0..count).map(|_| self.result()).collect();
+        self.results(&results);
+    }
+
+    fn some_show(&mut self) {
+        let object = self.object();
+        self.show(object);
+    }
+
+    fn sensible_running(&mut self) {
+        let is_main = self.session.moment == Moment::Running && self.session.running().is_main();
+        let ends = if is_main { [1, 0] } else { [160, 40] };
+        match self.random.weighted(&[110, 90, 110, 30, 110, 260, ends[0], ends[1], 50, 60, 10, 5]) {
+            0 => self.coroutine(),
+            1 => self.call(),
+            2 => self.some_pending(),
+            3 => self.settled(),
+            4 => {
+                let items = self.items(6);
+                self.gather(&items);
+            }
+            5 => {
+                let object = self.object_to_await();
+                self.await_object(object);
+            }
+            6 => self.complete(),
+            7 => self.fail(),
+            8 => self.some_results(3),
+            9 => self.some_show(),
+            10 => self.eager(),
+            _ => self.resume(),
+        }
+    }
+
+    /// Mostly a call that is not pending, if there is one.
+    fn some_pending(&mut self) {
+        let pending = self.pending_calls();
+        let handed_out = u64::from(self.session.calls_handed_out);
+        if pending.len() as u64 == handed_out {
+            self.call();
+        }
+        let mut call = self.random.below(u64::from(self.session.calls_handed_out).max(1)) as u32;
+        for _ in 0..6 {
+            if pending.contains(&call) {
+                call = self.random.below(u64::from(self.session.calls_handed_out).max(1)) as u32;
+            }
+        }
+        self.pending(call);
+    }
+
+    /// Any record; numbers just in, just out of and far out of range.
+    fn wild(&mut self) {
+        let near = |random: &mut Random, limit: u64| match random.below(12) {
+            0 => limit,
+            1 => limit + 1 + random.below(300),
+            2 => random.next(),
+            _ => random.below(limit.max(1)),
+        };
+        let made = self.made();
+        let calls = u64::from(self.session.calls_handed_out);
+        let object = near(&mut self.random, made) as u16;
+        let call = near(&mut self.random, calls) as u32;
+        let mut value = self.value();
+        if self.random.chance(8) {
+            value[0] = 1;
+            value[1..].copy_from_slice(&near(&mut self.random, made).to_le_bytes());
+        }
+        match self.random.below(13) {
+            0 => self.coroutine(),
+            1 => self.call(),
+            2 => {
+                let mut fields = call.to_le_bytes().to_vec();
+                fields.push(self.random.below(2) as u8);
+                fields.extend(value);
+                self.record(3, &fields);
+            }
+            3 => self.record(4, &value),
+            4 => {
+                let count = self.random.below(36);
+                let items: Vec<u16> = (0..count)
+                    .map(|_| if self.random.chance(97) { self.random.below(made.max(1)) } else { near(&mut self.random, made) } as u16)
+                    .collect();
+                self.gather(&items);
+            }
+            5 | 6 => self.await_object(object),
+            7 if self.random.chance(60) => self.record(7, &value),
+            8 if self.random.chance(30) => self.fail(),
+            7..=9 => {
+                let count = self.random.below(5);
+                let results: Vec<Vec<u8>> = (0..count)
+                    .map(|_| {
+                        let mut result = self.result();
+                        match self.random.below(30) {
+                            0 => result[4] = self.random.below(7) as u8,
+                            1 => result[5] = self.random.below(3) as u8,
+                            2 => result[..4].copy_from_slice(&(near(&mut self.random, calls) as u32).to_le_bytes()),
+                            3 => result[6..].copy_from_slice(&near(&mut self.random, made).to_le_bytes()),
+                            _ => {}
+                        }
+                        result
+                    })
+                    .collect();
+                self.results(&results);
+            }
+            10 => self.resume(),
+            11 => self.show(object),
+            _ => self.eager(),
+        }
+    }
+
+    /// A tower of gathers over new leaves, awaited at its top; then sensible events.
+    fn deep(&mut self, most: u64) {
+        if self.session.moment == Moment::Running && self.made() < 250 && self.random.chance(12) {
+            let leaves = 1 + self.random.below(4);
+            for _ in 0..leaves {
+                match self.random.weighted(&[50, 35, 15]) {
+                    0 => self.coroutine(),
+                    1 => self.some_pending(),
+                    _ => self.settled(),
+                }
+            }
+            let height = 1 + self.random.below(most);
+            for _ in 0..height {
+                let top = (self.made().max(1) - 1) as u16;
+                let mut items = vec![top];
+                while self.random.chance(40) && items.len() < 6 {
+                    let item = self.object();
+                    items.push(if self.random.chance(30) { top } else { item });
+                }
+                if self.random.chance(50) {
+                    items.reverse();
+                }
+                self.gather(&items);
+            }
+            let top = (self.made().max(1) - 1) as u16;
+            self.await_object(top);
+        } else {
+            self.sensible();
+        }
+    }
+
+    /// Steps towards a limit and one past it, then sensible events.
+    fn limits(&mut self) {
+        match self.random.below(60) {
+            0 if self.made() > 0 => {
+                // 31 to 34 items
+                let count = 31 + self.random.below(4);
+                let items: Vec<u16> = (0..count).map(|_| self.object()).collect();
+                self.gather(&items);
+            }
+            1 => {
+                // all objects
+                let left = 257 - self.made().min(256) - self.random.below(2);
+                (0..left).for_each(|_| self.coroutine());
+            }
+            2 if self.made() > 0 => {
+                // all places
+                while self.session.places + 32 <= 512 && self.made() < 256 && self.session.moment == Moment::Running {
+                    let items: Vec<u16> = (0..32).map(|_| self.object()).collect();
+                    self.gather(&items);
+                }
+                let left = 512 - self.session.places as u64 + self.random.below(2);
+                let items: Vec<u16> = (0..left.min(33)).map(|_| self.object()).collect();
+                self.gather(&items);
+            }
+            3 => {
+                // 63 to 66 results
+                let count = 63 + self.random.below(4);
+                let results: Vec<Vec<u8>> = (0..count).map(|_| self.result()).collect();
+                self.results(&results);
+            }
+            4 => {
+                // as many results or items as a record can have
+                if self.random.chance(50) {
+                    let results: Vec<Vec<u8>> = (0..255).map(|_| self.result()).collect();
+                    self.results(&results);
+                } else if self.made() > 0 {
+                    let items: Vec<u16> = (0..255).map(|_| self.object()).collect();
+                    self.gather(&items);
+                }
+            }
+            _ => self.sensible(),
+        }
+    }
+
+    /// All call numbers handed out, and what can be done with the last.
+    fn all_calls(&mut self) {
+        while self.session.calls_handed_out < 65_535 {
+            self.call();
+        }
+        let last = self.random.chance(50);
+        if last { self.settled() } else { self.call() }
+        self.call();
+        self.settled();
+        for call in [65_535, 65_536, 0] {
+            self.pending(call);
+        }
+        self.some_results(4);
+        let top = self.object();
+        self.await_object(top);
+    }
+
+    fn fill(&mut self, style: Style, length: u64) {
+        let height = if self.random.chance(10) { 200 } else { 12 };
+        while self.records < length {
+            match style {
+                Style::Sensible => self.sensible(),
+                Style::Wild => self.wild(),
+                Style::Deep => self.deep(height),
+                Style::Limits => self.limits(),
+            }
+            if self.session.moment == Moment::Ended && self.random.chance(10) {
+                break;
+            }
+        }
+    }
+
+    /// A byte changed, taken out or put in, or the end cut off; mostly late in the file.
+    fn damage(&mut self) {
+        let length = self.bytes.len() as u64;
+        let from = if self.random.chance(80) { length * 7 / 10 } else { 0 };
+        let at = (from + self.random.below((length - from).max(1))) as usize;
+        let byte = self.random.below(256) as u8;
+        match self.random.below(5) {
+            0 => self.bytes.truncate(at),
+            1 => self.bytes[at] ^= 1 << self.random.below(8),
+            2 => self.bytes[at] = byte,
+            3 => self.bytes.insert(at, byte),
+            _ => {
+                self.bytes.remove(at);
+            }
+        }
+    }
+}
+
+/// File `number` of `seed`. Every fifth is damaged; file 3 hands out all call numbers.
+pub(crate) fn file(seed: u64, number: u64) -> Vec<u8> {
+    with_session(|session| {
+        let mut random = Random(seed.wrapping_mul(0x1000_0000_01B3) ^ number);
+        random.next();
+        let style = STYLES[(if number % 5 == 4 { random.below(4) } else { number % 5 }) as usize];
+        let length = match style {
+            Style::Wild => 40 + random.below(360),
+            Style::Limits => 100 + random.below(600),
+            _ => 60 + random.below(240),
+        };
+        let mut file = File {
+            random,
+            session,
+            bytes: Vec::new(),
+            records: 0,
+        };
+        if number == 3 {
+            file.all_calls();
+        }
+        let length = file.records + length;
+        file.fill(style, length);
+        if number % 5 == 4 {
+            file.damage();
+        }
+        file.bytes
+    })
+}
+
+/// Writes the files and the Rust's lines.
+pub(crate) fn files(seed: u64, from: u64, count: u64, folder: &Path) {
+    for number in from..from + count {
+        let bytes = file(seed, number);
+        fs::write(folder.join(format!("{number:04}.out")), lines(&bytes)).expect("writing lines");
+        fs::write(folder.join(format!("{number:04}.bin")), bytes).expect("writing a file");
+    }
+}
