@@ -2,7 +2,7 @@
 use events::answer::Answer;
 use libc::STDOUT_FILENO;
 use printing::print_number;
-use session::reads::Reading;
+use reads::Reading;
 
 pub(crate) fn print_text(text: &[u8]) {
     io::write_all(STDOUT_FILENO, text);

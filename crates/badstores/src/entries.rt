@@ -8,9 +8,9 @@ use crate::store::with_count;
 use crate::store::with_entry;
 use asyncio::OptionValue;
 use asyncio::Value;
-use session::begin::begin;
-use session::dispatch::Event;
-use session::reads::show;
+use beginning::begin;
+use reads::show;
+use session::Event;
 
 fn doubled(s: Store) -> Store {
     with_count(with_entry(s, 1, 2), 2)

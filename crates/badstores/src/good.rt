@@ -3,9 +3,9 @@ use crate::offer::step;
 use crate::store::Store;
 use asyncio::OptionValue;
 use asyncio::Value;
+use beginning::begin;
 use queue::ReadyQueue;
-use session::begin::begin;
-use session::dispatch::Event;
+use session::Event;
 
 // A fresh session.
 fn fresh() -> Store {

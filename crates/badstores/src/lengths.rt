@@ -4,10 +4,10 @@ use crate::answers::print_text;
 use crate::compare::print_changed;
 use crate::store::Store;
 use asyncio::Value;
+use beginning::begin;
 use queue::ReadyQueue;
-use session::begin::begin;
-use session::reads::eager;
-use session::running::complete;
+use reads::eager;
+use script::complete;
 
 // The answers on these slices, and the queue left.
 fn offer_slices(

@@ -6,9 +6,9 @@ use crate::compare::words_changed;
 use crate::store::Store;
 use asyncio::Value;
 use events::answer::Answer;
-use session::dispatch::Event;
-use session::dispatch::dispatch;
-use session::reads::eager;
+use reads::eager;
+use session::Event;
+use session::dispatch;
 
 // A store after an event, and its answer.
 pub struct After {

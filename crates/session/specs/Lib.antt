@@ -1,5 +1,1 @@
-pub mod SessionLaws
-pub mod BeginLaws
-pub mod Reads
-pub mod ReadLaws
 pub mod Dispatch
