@@ -1,0 +1,4 @@
+pub mod Format
+pub mod Items
+pub mod FormatLaws
+pub mod ItemLaws
