@@ -116,7 +116,7 @@ pub fn contents_at(s: &[u8], at: usize, kind: u64, next: usize) -> Parsed
         5 => Parsed::Record {
             what: Record::Gather {
                 first: at + 4,
-                count: endian::u8_at(s, at + 3) as usize,
+                count: endian::u8_at(s, at + 3) as u8,
             },
             next,
         },
@@ -132,7 +132,7 @@ pub fn contents_at(s: &[u8], at: usize, kind: u64, next: usize) -> Parsed
         9 => Parsed::Record {
             what: Record::Results {
                 first: at + 4,
-                count: endian::u8_at(s, at + 3) as usize,
+                count: endian::u8_at(s, at + 3) as u8,
             },
             next,
         },

@@ -1,7 +1,4 @@
-use denote.Ref.{now}
 use native.Mathlib.Omega.{arith}
-use Prim.Native.Nat.{_≤_, _-_, _+_, _*_}
-use lib.ListN.{length}
 use borrow.Author.Tests.{ne-eqb}
 use Rattle.reader.specs.Format.{size, contents}
 use Rattle.reader.specs.FormatLaws.{size-of-kind}
@@ -11,105 +8,111 @@ use Rattle.reader.proofs.body.contents_at.Tie as tie
 
 add-u32-at : tie.Need-add-u32-at
 unfolding size
-add-u32-at c = let h : 7 ≤ length (now (c .before .before .args .s)) - c .before .before .args .at = size-of-kind 1 _ (c .match .keys1) (c .before .before .pre) in omega (arith, h)
+add-u32-at c = omega (arith, size-of-kind 1 _ (c .match .keys1) (c .before .before .pre))
 
 u32-at-requires : tie.Need-u32-at-requires
 unfolding size
-u32-at-requires c κs = let h : 7 ≤ length (now (c .before .before .args .s)) - c .before .before .args .at = size-of-kind 1 _ (c .match .keys1) (c .before .before .pre) in omega (arith, h)
+u32-at-requires c κs = omega (arith, size-of-kind 1 _ (c .match .keys1) (c .before .before .pre))
 
 cast-t8 : tie.Need-cast-t8
 cast-t8 c = search needs
 
 pending-at-requires : tie.Need-pending-at-requires
 unfolding size
-pending-at-requires c κs = let h : 17 ≤ length (now (c .before .before .args .s)) - c .before .before .args .at = size-of-kind 3 _ (c .match .keys3) (c .before .before .pre) in omega (arith, h)
+pending-at-requires c κs = omega (arith, size-of-kind 3 _ (c .match .keys3) (c .before .before .pre))
 
 add-value-at : tie.Need-add-value-at
 unfolding size
-add-value-at c = let h : 12 ≤ length (now (c .before .before .args .s)) - c .before .before .args .at = size-of-kind 4 _ (c .match .keys4) (c .before .before .pre) in omega (arith, h)
+add-value-at c = omega (arith, size-of-kind 4 _ (c .match .keys4) (c .before .before .pre))
 
 value-at-requires : tie.Need-value-at-requires
 unfolding size
-value-at-requires c κs = let h : 12 ≤ length (now (c .before .before .args .s)) - c .before .before .args .at = size-of-kind 4 _ (c .match .keys4) (c .before .before .pre) in omega (arith, h)
+value-at-requires c κs = omega (arith, size-of-kind 4 _ (c .match .keys4) (c .before .before .pre))
 
 settled-requires : tie.Need-settled-requires
 settled-requires c κs = search needs
 
 add-t13 : tie.Need-add-t13
 unfolding size
-add-t13 c = let h : 4 + _ * 2 ≤ length (now (c .before .before .args .s)) - c .before .before .args .at = size-of-kind 5 _ (c .match .keys5) (c .before .before .pre) in omega (arith, h)
+add-t13 c = omega (arith, size-of-kind 5 _ (c .match .keys5) (c .before .before .pre))
 
 add-u8-at : tie.Need-add-u8-at
 unfolding size
-add-u8-at c = let h : 4 + _ * 2 ≤ length (now (c .before .before .args .s)) - c .before .before .args .at = size-of-kind 5 _ (c .match .keys5) (c .before .before .pre) in omega (arith, h)
+add-u8-at c = omega (arith, size-of-kind 5 _ (c .match .keys5) (c .before .before .pre))
 
 u8-at-requires : tie.Need-u8-at-requires
 unfolding size
-u8-at-requires c κs = let h : 4 + _ * 2 ≤ length (now (c .before .before .args .s)) - c .before .before .args .at = size-of-kind 5 _ (c .match .keys5) (c .before .before .pre) in omega (arith, h)
+u8-at-requires c κs = omega (arith, size-of-kind 5 _ (c .match .keys5) (c .before .before .pre))
+
+cast-t16 : tie.Need-cast-t16
+cast-t16 c = search needs
 
 add-u16-at : tie.Need-add-u16-at
 unfolding size
-add-u16-at c = let h : 5 ≤ length (now (c .before .before .args .s)) - c .before .before .args .at = size-of-kind 6 _ (c .match .keys6) (c .before .before .pre) in omega (arith, h)
+add-u16-at c = omega (arith, size-of-kind 6 _ (c .match .keys6) (c .before .before .pre))
 
 u16-at-requires : tie.Need-u16-at-requires
 unfolding size
-u16-at-requires c κs = let h : 5 ≤ length (now (c .before .before .args .s)) - c .before .before .args .at = size-of-kind 6 _ (c .match .keys6) (c .before .before .pre) in omega (arith, h)
+u16-at-requires c κs = omega (arith, size-of-kind 6 _ (c .match .keys6) (c .before .before .pre))
 
 cast-t20 : tie.Need-cast-t20
 cast-t20 c = search needs
 
 add-value-at-2 : tie.Need-add-value-at-2
 unfolding size
-add-value-at-2 c = let h : 12 ≤ length (now (c .before .before .args .s)) - c .before .before .args .at = size-of-kind 7 _ (c .match .keys7) (c .before .before .pre) in omega (arith, h)
+add-value-at-2 c = omega (arith, size-of-kind 7 _ (c .match .keys7) (c .before .before .pre))
 
 value-at-requires-2 : tie.Need-value-at-requires-2
 unfolding size
-value-at-requires-2 c κs = let h : 12 ≤ length (now (c .before .before .args .s)) - c .before .before .args .at = size-of-kind 7 _ (c .match .keys7) (c .before .before .pre) in omega (arith, h)
+value-at-requires-2 c κs = omega (arith, size-of-kind 7 _ (c .match .keys7) (c .before .before .pre))
 
 complete-requires : tie.Need-complete-requires
 complete-requires c κs = search needs
 
 add-u32-at-2 : tie.Need-add-u32-at-2
 unfolding size
-add-u32-at-2 c = let h : 7 ≤ length (now (c .before .before .args .s)) - c .before .before .args .at = size-of-kind 8 _ (c .match .keys8) (c .before .before .pre) in omega (arith, h)
+add-u32-at-2 c = omega (arith, size-of-kind 8 _ (c .match .keys8) (c .before .before .pre))
 
 u32-at-requires-2 : tie.Need-u32-at-requires-2
 unfolding size
-u32-at-requires-2 c κs = let h : 7 ≤ length (now (c .before .before .args .s)) - c .before .before .args .at = size-of-kind 8 _ (c .match .keys8) (c .before .before .pre) in omega (arith, h)
+u32-at-requires-2 c κs = omega (arith, size-of-kind 8 _ (c .match .keys8) (c .before .before .pre))
 
 cast-t26 : tie.Need-cast-t26
 cast-t26 c = search needs
 
 add-t28 : tie.Need-add-t28
 unfolding size
-add-t28 c = let h : 4 + _ * 14 ≤ length (now (c .before .before .args .s)) - c .before .before .args .at = size-of-kind 9 _ (c .match .keys9) (c .before .before .pre) in omega (arith, h)
+add-t28 c = omega (arith, size-of-kind 9 _ (c .match .keys9) (c .before .before .pre))
 
 add-u8-at-2 : tie.Need-add-u8-at-2
 unfolding size
-add-u8-at-2 c = let h : 4 + _ * 14 ≤ length (now (c .before .before .args .s)) - c .before .before .args .at = size-of-kind 9 _ (c .match .keys9) (c .before .before .pre) in omega (arith, h)
+add-u8-at-2 c = omega (arith, size-of-kind 9 _ (c .match .keys9) (c .before .before .pre))
 
 u8-at-requires-2 : tie.Need-u8-at-requires-2
 unfolding size
-u8-at-requires-2 c κs = let h : 4 + _ * 14 ≤ length (now (c .before .before .args .s)) - c .before .before .args .at = size-of-kind 9 _ (c .match .keys9) (c .before .before .pre) in omega (arith, h)
+u8-at-requires-2 c κs = omega (arith, size-of-kind 9 _ (c .match .keys9) (c .before .before .pre))
+
+cast-t31 : tie.Need-cast-t31
+cast-t31 c = search needs
 
 add-u16-at-2 : tie.Need-add-u16-at-2
 unfolding size
-add-u16-at-2 c = let h : 5 ≤ length (now (c .before .before .args .s)) - c .before .before .args .at = size-of-kind 11 _ (c .match .keys11) (c .before .before .pre) in omega (arith, h)
+add-u16-at-2 c = omega (arith, size-of-kind 11 _ (c .match .keys11) (c .before .before .pre))
 
 u16-at-requires-2 : tie.Need-u16-at-requires-2
 unfolding size
-u16-at-requires-2 c κs = let h : 5 ≤ length (now (c .before .before .args .s)) - c .before .before .args .at = size-of-kind 11 _ (c .match .keys11) (c .before .before .pre) in omega (arith, h)
+u16-at-requires-2 c κs = omega (arith, size-of-kind 11 _ (c .match .keys11) (c .before .before .pre))
 
 cast-t36 : tie.Need-cast-t36
 cast-t36 c = search needs
 
 add-u16-at-3 : tie.Need-add-u16-at-3
 unfolding size
-add-u16-at-3 c = let h : 5 ≤ length (now (c .before .before .args .s)) - c .before .before .args .at = size-of-kind 12 _ (c .match .keys12) (c .before .before .pre) in omega (arith, h)
+add-u16-at-3 c = omega (arith, size-of-kind 12 _ (c .match .keys12) (c .before .before .pre))
 
 u16-at-requires-3 : tie.Need-u16-at-requires-3
 unfolding size
-u16-at-requires-3 c κs = let h : 5 ≤ length (now (c .before .before .args .s)) - c .before .before .args .at = size-of-kind 12 _ (c .match .keys12) (c .before .before .pre) in omega (arith, h)
+u16-at-requires-3 c κs = omega (arith, size-of-kind 12 _ (c .match .keys12) (c .before .before .pre))
 
 cast-t40 : tie.Need-cast-t40
 cast-t40 c = search needs
@@ -184,6 +187,7 @@ contents-at-spec =
     add-t13
     add-u8-at
     u8-at-requires
+    cast-t16
     add-u16-at
     u16-at-requires
     cast-t20
@@ -196,6 +200,7 @@ contents-at-spec =
     add-t28
     add-u8-at-2
     u8-at-requires-2
+    cast-t31
     add-u16-at-2
     u16-at-requires-2
     cast-t36
