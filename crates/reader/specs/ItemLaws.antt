@@ -1,14 +1,14 @@
 -- Laws of the items of a gather: how a loop meets them, and how many they are.
 use mathlib.Core.Path.{_≡_, refl, sym, ap, _∙_}
 use mathlib.Core.List.{List, [], _∷_, _++_}
-use Prim.Native.Nat.{ℕ, zero, suc, _+_, _*_, _<_, _≤_}
+use Prim.Native.Nat.{ℕ, zero, suc, _+_, _*_, _<_, _≤_, min}
 use native.Mathlib.Nat.{add-zero}
 use native.Mathlib.Numerals.{add-one}
 use native.Mathlib.Omega.{arith}
 use lib.ListN.{length, getD, take, drop, set}
 use lib.Seq.{set-at, drop-cons, append-snoc, take-append-seam}
 use Rattle.endian.specs.Endian.{le1, le2}
-use Rattle.reader.specs.Items.{items-at}
+use Rattle.reader.specs.Items.{items-at, items-copied}
 
 -- there are as many as were asked for
 pub items-length : (s : List ℕ) (at k : ℕ) → length (items-at s at k) ≡ k
@@ -35,6 +35,8 @@ store-item s first i old h e q =
     rw (e, q, drop-cons old i 0 h, add-one i, items-next s first i, append-snoc (items-at s first i) (le2 s (first + i * 2)) (drop (suc i) old))
     (set-at (items-at s first i) (getD old i 0) (drop (suc i) old) (le2 s (first + i * 2)) i (items-length s first i))
 
--- the items stand at the front of what a copy leaves
-pub items-front : (s : List ℕ) (at k : ℕ) (old : List ℕ) → take k (items-at s at k ++ drop k old) ≡ items-at s at k
-items-front s at k old = rw (items-length s at k) at (take-append-seam (items-at s at k) (drop k old))
+-- where there is room for all, they are what stands at the front after a copy
+pub items-taken : (s : List ℕ) (at k : ℕ) (old : List ℕ) → k ≤ length old → take k (items-copied s at k old) ≡ items-at s at k
+items-taken s at k old h =
+    let m : min k (length old) ≡ k = omega arith in
+    rw m (rw (items-length s at k) at (take-append-seam (items-at s at k) (drop k old)))
