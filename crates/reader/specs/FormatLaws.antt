@@ -1,21 +1,15 @@
 -- How code meets the format: one law for each way through a function.
-use mathlib.Core.Path.{_≡_, refl, sym, ap, _∙_}
-use mathlib.Core.Bool.{Bool, true, false}
-use mathlib.Core.List.{List, [], _∷_}
-use mathlib.Core.Option.{Option, none, some}
-use Prim.Native.Nat.{ℕ, _+_, _-_, _*_, _≤_, _<_, min}
-use native.Mathlib.Omega.{arith}
-use lib.Dec.{eqb, leb, ltb}
+use mathlib.Core.Path.{_≡_}
+use mathlib.Core.List.{List}
+use Prim.Native.Nat.{ℕ, _+_, _-_, _≤_, _<_}
 use lib.ListN.{length}
-use borrow.Author.Tests.{eq-eqb, ne-eqb, lt-ltb, le-ltb, le-leb, lt-leb}
-use Rattle.asyncio.specs.Numbers.{heap-id}
-use Rattle.asyncio.specs.States.{pick}
+use borrow.Author.Tests.{ne-eqb, lt-ltb, le-ltb, le-leb, lt-leb}
 use Rattle.asyncio.specs.declared.Value.{Value}
 use Rattle.asyncio.specs.declared.OptionValue.{OptionValue}
 use Rattle.endian.specs.Endian.{le1, le2, le4, le8}
 use Rattle.reader.specs.declared.Record.{Record}
 use Rattle.reader.specs.declared.Parsed.{Parsed}
-use Rattle.reader.specs.Format.{mark, left, list-value, value-at, with-value, size, pending-at, contents, found, parse-kind, parse}
+use Rattle.reader.specs.Format.{mark, list-value, value-at, with-value, size, pending-at, contents, found, parse-kind, parse}
 
 -- ---- sizes: the size of a kind that is known
 

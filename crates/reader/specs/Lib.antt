@@ -6,3 +6,5 @@ pub mod RecordNumbers
 pub mod ParseLaws
 pub mod RecordCases
 pub mod RecordCasesHold
+pub mod Windows
+pub mod WindowLaws

@@ -1,8 +1,8 @@
 -- Laws of the format: a record ends behind the place where it starts and within the bytes; the items of a gather, and results, are the last
 -- bytes of their record; its kind is the kind byte.
-use mathlib.Core.Path.{_≡_, refl, sym, ap, _∙_}
+use mathlib.Core.Path.{_≡_, refl, sym}
 use mathlib.Core.Bool.{Bool, true, false}
-use mathlib.Core.List.{List, [], _∷_}
+use mathlib.Core.List.{List}
 use mathlib.Core.Option.{Option, none, some}
 use Prim.Native.Nat.{ℕ, _+_, _-_, _*_, _≤_, _<_}
 use native.Mathlib.Omega.{arith}
@@ -15,7 +15,7 @@ use Rattle.asyncio.specs.declared.OptionValue.{OptionValue}
 use Rattle.endian.specs.Endian.{le1, le2, le4}
 use Rattle.reader.specs.declared.Record.{Record}
 use Rattle.reader.specs.declared.Parsed.{Parsed}
-use Rattle.reader.specs.Format.{mark, left, value-at, with-value, size, pending-at, contents, found, parse-kind, parse}
+use Rattle.reader.specs.Format.{mark, value-at, with-value, size, pending-at, contents, found, parse-kind, parse}
 use Rattle.reader.specs.RecordNumbers.{record-kind}
 
 -- the items of a gather, and the results, end where their record ends
@@ -48,11 +48,11 @@ abbrev pub FitsIf : ℕ → ℕ → ℕ → Option Record → Type 0
 FitsIf kind at m none = Unit {0}
 FitsIf kind at m (some r) = Fits kind at m r
 
--- what holds if the kind is k, and what holds if not, holds of the size and the contents by that test
-either-kind : (P : ℕ → Option Record → Type 0) (kind k : ℕ) {m m′ : ℕ} {o o′ : Option Record} → (kind ≡ k → P m o) → P m′ o′ → P (pick (eqb kind k) m m′) (pick (eqb kind k) o o′)
-either-kind P kind k {m} {m′} {o} {o′} same other = by (eqb kind k) refl
+-- what holds of two things if the kind is k, and what holds of two others if not, holds of the two that are chosen by that test
+pub either-kind : {A B : Type 0} (P : A → B → Type 0) (kind k : ℕ) {x x′ : A} {y y′ : B} → (kind ≡ k → P x y) → P x′ y′ → P (pick (eqb kind k) x x′) (pick (eqb kind k) y y′)
+either-kind P kind k {x} {x′} {y} {y′} same other = by (eqb kind k) refl
   where
-    by : (b : Bool) → eqb kind k ≡ b → P (pick b m m′) (pick b o o′)
+    by : (b : Bool) → eqb kind k ≡ b → P (pick b x x′) (pick b y y′)
     by true e = same (eqb-true kind k e)
     by false e = other
 
@@ -90,6 +90,8 @@ contents-fit s at kind =
 -- a record that fits between its place and the end of the bytes
 pub record Inside (s : List ℕ) (at : ℕ) (r : Record) (next : ℕ) : Type 0 where
   pub kind-byte : record-kind r ≡ le1 s (at + 2)
+  pub size-is : next ≡ at + size (le1 s (at + 2)) (le1 s (at + 3))
+  pub head : at + 3 ≤ next
   pub behind : at < next
   pub within : next ≤ length s
   pub ends : EndsAt r next
@@ -100,9 +102,10 @@ InsideIf s at Parsed.End = length s ≤ at
 InsideIf s at Parsed.Refused = Unit {0}
 InsideIf s at (Parsed.Record r next) = Inside s at r next
 
-found-inside : (s : List ℕ) (at m : ℕ) (o : Option Record) → m ≤ length s - at → FitsIf (le1 s (at + 2)) at m o → InsideIf s at (found o (at + m))
-found-inside s at m none h f = tt
-found-inside s at m (some r) h f = record { kind-byte = f .kind-is; behind = omega (arith, f .has-head); within = omega (arith, f .has-head); ends = f .ends-at }
+found-inside : (s : List ℕ) (at m : ℕ) (o : Option Record) → m ≡ size (le1 s (at + 2)) (le1 s (at + 3)) → m ≤ length s - at → FitsIf (le1 s (at + 2)) at m o → InsideIf s at (found o (at + m))
+found-inside s at m none e h f = tt
+found-inside s at m (some r) e h f =
+    record { kind-byte = f .kind-is; size-is = rw e; head = omega (arith, f .has-head); behind = omega (arith, f .has-head); within = omega (arith, f .has-head); ends = f .ends-at }
 
 kind-inside : (s : List ℕ) (at : ℕ) → InsideIf s at (parse-kind s at (le1 s (at + 2)))
 unfolding parse-kind
@@ -110,7 +113,7 @@ kind-inside s at = by (leb (size (le1 s (at + 2)) (le1 s (at + 3))) (length s - 
   where
     by : (b : Bool) → leb (size (le1 s (at + 2)) (le1 s (at + 3))) (length s - at) ≡ b
         → InsideIf s at (pick b (found (contents s at (le1 s (at + 2))) (at + size (le1 s (at + 2)) (le1 s (at + 3)))) Parsed.Refused)
-    by true e = found-inside s at (size (le1 s (at + 2)) (le1 s (at + 3))) (contents s at (le1 s (at + 2))) (leb-true (size (le1 s (at + 2)) (le1 s (at + 3))) (length s - at) e) (contents-fit s at (le1 s (at + 2)))
+    by true e = found-inside s at (size (le1 s (at + 2)) (le1 s (at + 3))) (contents s at (le1 s (at + 2))) refl (leb-true (size (le1 s (at + 2)) (le1 s (at + 3))) (length s - at) e) (contents-fit s at (le1 s (at + 2)))
     by false e = tt
 
 parse-inside-if : (s : List ℕ) (at : ℕ) → InsideIf s at (parse s at)

@@ -1,7 +1,7 @@
 -- Every row of the table of records holds of the format: one computed test, and one theorem over the table.
 use mathlib.Core.Path.{_≡_, refl, sym, _∙_}
 use Prim.Native.Nat.{ℕ}
-use mathlib.Core.List.{List, [], _∷_, map}
+use mathlib.Core.List.{[], _∷_, map}
 use lib.ListN.{getD, List·getD-map}
 use Rattle.reader.specs.declared.Parsed.{Parsed}
 use Rattle.reader.specs.Format.{value-at, size, pending-at, contents, parse-kind, parse}

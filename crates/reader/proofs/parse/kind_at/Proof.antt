@@ -1,6 +1,4 @@
-use mathlib.Core.Path.{sym, _∙_}
 use denote.Ref.{now}
-use native.Mathlib.Omega.{arith}
 use Rattle.reader.specs.FormatLaws.{reads-whole, reads-short}
 use borrow.Author.Needs.{needs}
 use Rattle.reader.proofs.parse.kind_at.Statement.{statement}
