@@ -34,9 +34,9 @@ module _ (s : List ℕ) (at : ℕ) {tag : ℕ} (t : tag ≡ le1 s at) where
 -- ---- pending_at: flag 0, flag 1, another flag
 
 module _ (s : List ℕ) (at next : ℕ) {call flag : ℕ} (c : call ≡ le4 s (at + 3)) (f : flag ≡ le1 s (at + 7)) where
-  pub reads-unstored : flag ≡ 0 → Parsed.Record (Record.Pending call OptionValue.None) next ≡ found (pending-at s at) next
+  pub reads-unstored : {r : Parsed} → flag ≡ 0 → r ≡ Parsed.Record (Record.Pending call OptionValue.None) next → r ≡ found (pending-at s at) next
   unfolding pending-at
-  reads-unstored z = rw (← f, z, c)
+  reads-unstored z r = rw (← f, z, r, c)
 
   pub reads-stored : {v : OptionValue} {r : Parsed} → flag ≡ 1 → v ≡ value-at s (at + 8)
       → r ≡ found (with-value (λ (x : Value). Record.Pending call (OptionValue.Some x)) v) next → r ≡ found (pending-at s at) next

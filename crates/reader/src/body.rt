@@ -33,16 +33,20 @@ pub fn size_of(kind: u64, count: u64) -> usize
     }
 }
 
+// A record, and the place behind it.
+fn found(what: Record, next: usize) -> Parsed
+    ensures { λ r. ⌜ r ≡ Parsed.Record what next ⌝ }
+{
+    Parsed::Record { what, next }
+}
+
 // A settled external of a value.
 fn settled(value: OptionValue, next: usize) -> Parsed
     ensures { λ r. ⌜ r ≡ found (with-value Record.Settled value) next ⌝ }
 {
     match value {
         OptionValue::None => Parsed::Refused,
-        OptionValue::Some(v) => Parsed::Record {
-            what: Record::Settled(v),
-            next,
-        },
+        OptionValue::Some(v) => found(Record::Settled(v), next),
     }
 }
 
@@ -52,10 +56,7 @@ fn complete(value: OptionValue, next: usize) -> Parsed
 {
     match value {
         OptionValue::None => Parsed::Refused,
-        OptionValue::Some(v) => Parsed::Record {
-            what: Record::Complete(v),
-            next,
-        },
+        OptionValue::Some(v) => found(Record::Complete(v), next),
     }
 }
 
@@ -65,13 +66,10 @@ fn stored(call: u32, value: OptionValue, next: usize) -> Parsed
 {
     match value {
         OptionValue::None => Parsed::Refused,
-        OptionValue::Some(v) => Parsed::Record {
-            what: Record::Pending {
-                call,
-                stored: OptionValue::Some(v),
-            },
-            next,
-        },
+        OptionValue::Some(v) => {
+            let stored = OptionValue::Some(v);
+            found(Record::Pending { call, stored }, next)
+        }
     }
 }
 
@@ -83,13 +81,8 @@ fn pending_at(s: &[u8], at: usize, next: usize) -> Parsed
     let call = endian::u32_at(s, at + 3) as u32;
     let flag = endian::u8_at(s, at + 7);
     if flag == 0 {
-        return Parsed::Record {
-            what: Record::Pending {
-                call,
-                stored: OptionValue::None,
-            },
-            next,
-        };
+        let stored = OptionValue::None;
+        return found(Record::Pending { call, stored }, next);
     }
     if flag == 1 {
         return stored(call, value_at(s, at + 8), next);
@@ -103,55 +96,37 @@ pub fn contents_at(s: &[u8], at: usize, kind: u64, next: usize) -> Parsed
     ensures { λ r. ⌜ r ≡ found (contents (now (s .entry)) at kind) next ⌝ }
 {
     match kind {
-        1 => Parsed::Record {
-            what: Record::Coroutine(endian::u32_at(s, at + 3) as u32),
-            next,
-        },
-        2 => Parsed::Record {
-            what: Record::Call,
-            next,
-        },
+        1 => found(Record::Coroutine(endian::u32_at(s, at + 3) as u32), next),
+        2 => found(Record::Call, next),
         3 => pending_at(s, at, next),
         4 => settled(value_at(s, at + 3), next),
-        5 => Parsed::Record {
-            what: Record::Gather {
-                first: at + 4,
-                count: endian::u8_at(s, at + 3) as u8,
-            },
-            next,
-        },
-        6 => Parsed::Record {
-            what: Record::Await(endian::u16_at(s, at + 3) as u16),
-            next,
-        },
+        5 => {
+            let count = endian::u8_at(s, at + 3) as u8;
+            found(
+                Record::Gather {
+                    first: at + 4,
+                    count,
+                },
+                next,
+            )
+        }
+        6 => found(Record::Await(endian::u16_at(s, at + 3) as u16), next),
         7 => complete(value_at(s, at + 3), next),
-        8 => Parsed::Record {
-            what: Record::Fail(endian::u32_at(s, at + 3) as u32),
-            next,
-        },
-        9 => Parsed::Record {
-            what: Record::Results {
-                first: at + 4,
-                count: endian::u8_at(s, at + 3) as u8,
-            },
-            next,
-        },
-        10 => Parsed::Record {
-            what: Record::Resume,
-            next,
-        },
-        11 => Parsed::Record {
-            what: Record::Cancel(endian::u16_at(s, at + 3) as u16),
-            next,
-        },
-        12 => Parsed::Record {
-            what: Record::Show(endian::u16_at(s, at + 3) as u16),
-            next,
-        },
-        13 => Parsed::Record {
-            what: Record::Eager,
-            next,
-        },
+        8 => found(Record::Fail(endian::u32_at(s, at + 3) as u32), next),
+        9 => {
+            let count = endian::u8_at(s, at + 3) as u8;
+            found(
+                Record::Results {
+                    first: at + 4,
+                    count,
+                },
+                next,
+            )
+        }
+        10 => found(Record::Resume, next),
+        11 => found(Record::Cancel(endian::u16_at(s, at + 3) as u16), next),
+        12 => found(Record::Show(endian::u16_at(s, at + 3) as u16), next),
+        13 => found(Record::Eager, next),
         _ => Parsed::Refused,
     }
 }

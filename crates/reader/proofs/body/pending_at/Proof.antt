@@ -19,8 +19,11 @@ add-u8-at c = search needs
 u8-at-requires : tie.Need-u8-at-requires
 u8-at-requires c κs = search needs
 
+found-requires : tie.Need-found-requires
+found-requires c κs = search needs
+
 returns : tie.Need-returns
-returns c = reads-unstored (now (c .before .before .before .before .args .s)) (c .before .before .before .before .args .at) (c .before .before .before .before .args .next) (c .before .before .u32-at .ensures .0) (c .before .u8-at .ensures .0) (c .if1 .taken)
+returns c = reads-unstored (now (c .before .before .before .before .before .args .s)) (c .before .before .before .before .before .args .at) (c .before .before .before .before .before .args .next) (c .before .before .before .u32-at .ensures .0) (c .before .before .u8-at .ensures .0) (c .before .if1 .taken) (c .found .ensures)
 
 add-value-at : tie.Need-add-value-at
 add-value-at c = search needs
@@ -46,6 +49,7 @@ pending-at-spec =
     cast-call
     add-u8-at
     u8-at-requires
+    found-requires
     returns
     add-value-at
     value-at-requires
