@@ -1,0 +1,10 @@
+pub mod Format
+pub mod Items
+pub mod FormatLaws
+pub mod ItemLaws
+pub mod RecordNumbers
+pub mod ParseLaws
+pub mod RecordCases
+pub mod RecordCasesHold
+pub mod Windows
+pub mod WindowLaws
