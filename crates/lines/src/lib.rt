@@ -1,0 +1,2 @@
+// Document 01's lines: an answer written into a lent buffer, as decimal numbers and words.
+pub mod out;
