@@ -1,13 +1,13 @@
 -- The ways through the writers of bytes, texts and numbers, in the shape of what the code knows there.
 use mathlib.Core.Path.{_≡_, refl, sym, ap, _∙_}
-use mathlib.Core.List.{List, [], _∷_, _++_}
+use mathlib.Core.List.{List, [], _∷_, _++_, append-assoc, append-nil}
 use Prim.Native.Nat.{ℕ, zero, suc, _+_, _*_, _/_, _%_, _^_, _≤_, _<_}
 use native.Mathlib.Numerals.{add-one}
 use native.Mathlib.Omega.{arith}
 use lib.ListN.{length, getD, take, set}
 use lib.Seq.{take-suc, take-all}
 use Rattle.lines.specs.Out.{Out, out-of, emit, Wrote}
-use Rattle.lines.specs.OutLaws.{emits-in, emits-out, then, at-most}
+use Rattle.lines.specs.OutLaws.{emits-in, emits-out, wrote-none, then, at-most}
 use Rattle.lines.specs.Text.{decimal, field, fields}
 use Rattle.lines.specs.TextLaws.{decimal-small, decimal-large, decimal-short}
 
@@ -40,3 +40,26 @@ more-digits n {x} {y} {z} h g v w =
 pub spaced : (n : ℕ) {x y z : Out} → Wrote 1 x y (32 ∷ []) → Wrote 20 y z (decimal n) → Wrote 21 x z (field n)
 unfolding field
 spaced n v w = then v w
+
+-- ---- numbers
+
+fields-append : (xs ys : List ℕ) → fields (xs ++ ys) ≡ fields xs ++ fields ys
+unfolding fields
+fields-append [] ys = refl
+fields-append (x ∷ xs) ys = ap (λ (t : List ℕ). field x ++ t) (fields-append xs ys) ∙ sym (append-assoc (field x) (fields xs) (fields ys))
+
+pub numbers-none : (x : Out) → Wrote (21 * 0) x x (fields [])
+unfolding fields
+numbers-none x = wrote-none x
+
+pub numbers-turn : (ns : List ℕ) (i : ℕ) {x y z : Out} → i < length ns → Wrote (21 * i) x y (fields (take i ns)) → Wrote 21 y z (field (getD ns i 0))
+    → Wrote (21 * (i + 1)) x z (fields (take (i + 1) ns))
+unfolding fields
+numbers-turn ns i {x} {y} {z} h v w =
+    let t : take (i + 1) ns ≡ take i ns ++ (getD ns i 0 ∷ []) = rw (add-one i) (take-suc ns i 0 h) in
+    let e : fields (take (i + 1) ns) ≡ fields (take i ns) ++ field (getD ns i 0) =
+    ap fields t ∙ fields-append (take i ns) (getD ns i 0 ∷ []) ∙ ap (λ (s : List ℕ). fields (take i ns) ++ s) (append-nil (field (getD ns i 0))) in
+    rw e (at-most (omega arith) (then v w))
+
+pub numbers-end : (ns : List ℕ) (i : ℕ) {x y : Out} → i ≤ length ns → length ns ≤ i → Wrote (21 * i) x y (fields (take i ns)) → Wrote (21 * length ns) x y (fields ns)
+numbers-end ns i h g w = at-most (omega arith) (rw (take-all i ns g) at w)

@@ -1,2 +1,3 @@
 // Document 01's lines: an answer written into a lent buffer, as decimal numbers and words.
-pub mod out;
+pub mod answers;
+mod out;

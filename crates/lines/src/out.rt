@@ -7,7 +7,7 @@ ghost use Rattle.lines.specs.Out.{out-of, Wrote};
 ghost use Rattle.lines.specs.Text.{decimal, field};
 
 // One byte.
-fn put_byte(out: &mut [u8], at: usize, b: u8) -> usize
+pub(crate) fn put_byte(out: &mut [u8], at: usize, b: u8) -> usize
     ensures { λ r. ⌜ Wrote 1 (out-of (now (out .entry)) at) (out-of (now (out .exit)) r) (b ∷ []) ⌝ }
 {
     if at < out.len() {
@@ -18,7 +18,7 @@ fn put_byte(out: &mut [u8], at: usize, b: u8) -> usize
 }
 
 // The bytes of a text.
-pub fn put_text(out: &mut [u8], at: usize, text: &[u8]) -> usize
+pub(crate) fn put_text(out: &mut [u8], at: usize, text: &[u8]) -> usize
     ensures { λ r. ⌜ Wrote (length (now (text .entry))) (out-of (now (out .entry)) at) (out-of (now (out .exit)) r) (now (text .entry)) ⌝ }
 {
     let mut p = at;
@@ -31,7 +31,7 @@ pub fn put_text(out: &mut [u8], at: usize, text: &[u8]) -> usize
 }
 
 // A number in decimal.
-pub fn put_decimal(out: &mut [u8], at: usize, n: u64) -> usize
+pub(crate) fn put_decimal(out: &mut [u8], at: usize, n: u64) -> usize
     ensures { λ r. ⌜ Wrote 20 (out-of (now (out .entry)) at) (out-of (now (out .exit)) r) (decimal n) ⌝ }
 {
     if n < 10 {
@@ -42,7 +42,7 @@ pub fn put_decimal(out: &mut [u8], at: usize, n: u64) -> usize
 }
 
 // A number after a space.
-pub fn put_field(out: &mut [u8], at: usize, n: u64) -> usize
+pub(crate) fn put_field(out: &mut [u8], at: usize, n: u64) -> usize
     ensures { λ r. ⌜ Wrote 21 (out-of (now (out .entry)) at) (out-of (now (out .exit)) r) (field n) ⌝ }
 {
     let p = put_byte(out, at, 32);
@@ -50,7 +50,7 @@ pub fn put_field(out: &mut [u8], at: usize, n: u64) -> usize
 }
 
 // A text, and a number after a space.
-pub fn put_named(out: &mut [u8], at: usize, text: &[u8], n: u64) -> usize
+pub(crate) fn put_named(out: &mut [u8], at: usize, text: &[u8], n: u64) -> usize
     ensures { λ r. ⌜ Wrote (length (now (text .entry)) + 21) (out-of (now (out .entry)) at) (out-of (now (out .exit)) r) (now (text .entry) ++ field n) ⌝ }
 {
     let p = put_text(out, at, text);
