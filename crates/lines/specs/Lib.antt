@@ -5,3 +5,5 @@ pub mod TextLaws
 pub mod WriteLaws
 pub mod Lines
 pub mod Heard
+pub mod CallLaws
+pub mod LineLaws

@@ -89,3 +89,7 @@ answer-text (Answer.shows x) = word "shows" ++ shown-text x
 -- The line of record n.
 unfoldable pub line : ℕ → Answer → List ℕ
 line n a = decimal n ++ (answer-text a ++ newline)
+
+-- the most bytes of a line that a writer of an event's answer, or of a gather of 32 places, can write: a caller keeps so much room
+abbrev pub line-limit : ℕ
+line-limit = 8192
