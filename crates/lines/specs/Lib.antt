@@ -7,3 +7,4 @@ pub mod Lines
 pub mod Heard
 pub mod CallLaws
 pub mod LineLaws
+pub mod PlaceLaws

@@ -11,7 +11,7 @@ use Rattle.machine.specs.Machine as machine
 use Rattle.lines.specs.Out.{Out, Wrote}
 use Rattle.lines.specs.OutLaws.{then, at-most}
 use Rattle.lines.specs.Text.{word, newline, decimal, field, fields}
-use Rattle.lines.specs.Lines.{control-text, answer-text, line, line-limit}
+use Rattle.lines.specs.Lines.{control-text, answer-text, line}
 use Rattle.lines.specs.Heard.{front-calls}
 
 take-min : (k : ℕ) (l : List ℕ) → take (min k (length l)) l ≡ take k l
@@ -31,7 +31,7 @@ wait-wrote os cs {k} {n} e few m v w =
     let f : length (take (length (pending-calls-in os)) cs) ≡ n = ap length (sym s) ∙ l in
     rw (f, ← s) (at-most (omega arith) (then v w))
 
-pub line-wrote : {k : ℕ} {x y z u : Out} (n : ℕ) (a : machine.Answer) → k ≤ 8171 → Wrote 20 x y (decimal n) → Wrote k y z (answer-text a) → Wrote 1 z u newline
-    → Wrote line-limit x u (line n a)
+pub line-wrote : {k : ℕ} {x y z u : Out} (n : ℕ) (a : machine.Answer) → Wrote 20 x y (decimal n) → Wrote k y z (answer-text a) → Wrote 1 z u newline
+    → Wrote (20 + (k + 1)) x u (line n a)
 unfolding line
-line-wrote n a h v w e = at-most (omega arith) (then v (then w e))
+line-wrote n a v w e = then v (then w e)

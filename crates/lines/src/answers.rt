@@ -184,7 +184,7 @@ pub fn write_line(
 
 // The line of a refused record: the driver's own refusal, 11, too.
 pub fn write_refused(out: &mut [u8], at: usize, number: u64, n: u16) -> usize
-    ensures { λ r. ⌜ Wrote line-limit (out-of (now (out .entry)) at) (out-of (now (out .exit)) r) (line number (machine.Answer.refused n)) ⌝ }
+    ensures { λ r. ⌜ Wrote 50 (out-of (now (out .entry)) at) (out-of (now (out .exit)) r) (line number (machine.Answer.refused n)) ⌝ }
 {
     let p = put_decimal(out, at, number);
     let q = put_named(out, p, b" refused", n as u64);

@@ -1,4 +1,5 @@
 use native.Mathlib.Omega.{arith}
+use Rattle.lines.specs.OutLaws.{at-most}
 use Rattle.lines.specs.LineLaws.{line-wrote}
 use borrow.Author.Needs.{needs}
 use Rattle.lines.proofs.answers.write_line.Statement.{statement}
@@ -17,7 +18,7 @@ same-length : tie.Need-same-length
 same-length c = search needs
 
 returns : tie.Need-returns
-returns c = line-wrote _ _ (omega arith) (c .before .before .before .before .before .before .before .before .before .before .put-decimal .ensures) (c .before .before .before .before .before .before .put-answer .ensures) (c .before .before .put-byte .ensures)
+returns c = at-most (omega arith) (line-wrote _ _ (c .before .before .before .before .before .before .before .before .before .before .put-decimal .ensures) (c .before .before .before .before .before .before .put-answer .ensures) (c .before .before .put-byte .ensures))
 
 pub write-line-spec : {M : Type 1} → statement M
 write-line-spec =

@@ -1,4 +1,3 @@
-use native.Mathlib.Omega.{arith}
 use Rattle.machine.specs.Machine as machine
 use Rattle.lines.specs.Lines.{answer-text}
 use Rattle.lines.specs.LineLaws.{line-wrote}
@@ -23,7 +22,7 @@ same-length c = search needs
 
 returns : tie.Need-returns
 unfolding answer-text
-returns c = line-wrote (c .before .before .before .before .before .before .before .before .before .before .before .before .before .before .args .number) (machine.Answer.refused (c .before .before .before .before .before .before .before .before .before .before .before .before .before .before .args .n)) (omega arith) (c .before .before .before .before .before .before .before .before .before .before .before .put-decimal .ensures) (c .before .before .before .before .before .before .put-named .ensures) (c .before .before .put-byte .ensures)
+returns c = line-wrote (c .before .before .before .before .before .before .before .before .before .before .before .before .before .before .args .number) (machine.Answer.refused (c .before .before .before .before .before .before .before .before .before .before .before .before .before .before .args .n)) (c .before .before .before .before .before .before .before .before .before .before .before .put-decimal .ensures) (c .before .before .before .before .before .before .put-named .ensures) (c .before .before .put-byte .ensures)
 
 pub write-refused-spec : {M : Type 1} → statement M
 write-refused-spec =
