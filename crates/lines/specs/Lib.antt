@@ -8,3 +8,5 @@ pub mod Heard
 pub mod CallLaws
 pub mod LineLaws
 pub mod PlaceLaws
+pub mod HeardLaws
+pub mod Example

@@ -2,7 +2,7 @@
 use mathlib.Core.Bool.{Bool, true, false}
 use mathlib.Core.List.{List, [], _∷_, _++_}
 use mathlib.Core.Option.{Option, none, some}
-use Prim.Native.Nat.{ℕ}
+use Prim.Native.Nat.{ℕ, _+_}
 use lib.ListN.{length}
 use Rattle.asyncio.specs.declared.Value.{Value}
 use Rattle.asyncio.specs.declared.Error.{Error}
@@ -89,6 +89,11 @@ answer-text (Answer.shows x) = word "shows" ++ shown-text x
 -- The line of record n.
 unfoldable pub line : ℕ → Answer → List ℕ
 line n a = decimal n ++ (answer-text a ++ newline)
+
+-- The lines of answers one after the other, numbered on from n.
+unfoldable pub output : ℕ → List Answer → List ℕ
+output n [] = []
+output n (a ∷ answers) = line n a ++ output (n + 1) answers
 
 -- the most bytes of a line that a writer of an event's answer, or of a gather of 32 places, can write: a caller keeps so much room
 abbrev pub line-limit : ℕ

@@ -25,9 +25,9 @@ unfoldable pub digits : ℕ → ℕ → List ℕ
 digits zero n = []
 digits (suc k) n = pick (ltb n 10) ((48 + n) ∷ []) (digits k (n / 10) ++ ((48 + n % 10) ∷ []))
 
--- a number in decimal; it has no more than n + 1 digits
+-- a number in decimal: 20 digits hold every number of 64 bits
 unfoldable pub decimal : ℕ → List ℕ
-decimal n = digits (suc n) n
+decimal n = digits 20 n
 
 -- a number after a space
 unfoldable pub field : ℕ → List ℕ

@@ -34,8 +34,8 @@ one-digit n h w = rw (decimal-small n h) (at-most (omega arith) w)
 
 pub more-digits : (n : ℕ) {x y z : Out} → 10 ≤ n → n < 2 ^ 64 → Wrote 20 x y (decimal (n / 10)) → Wrote 1 y z ((48 + n % 10) ∷ []) → Wrote 20 x z (decimal n)
 more-digits n {x} {y} {z} h g v w =
-    let e : Wrote 21 x z (decimal n) = rw (decimal-large n h) (then v w) in
-    record { emitted = e .emitted; short = decimal-short n g }
+    let e : Wrote 21 x z (decimal n) = rw (decimal-large n h (omega arith)) (then v w) in
+    record { emitted = e .emitted; short = decimal-short n }
 
 pub spaced : (n : ℕ) {x y z : Out} → Wrote 1 x y (32 ∷ []) → Wrote 20 y z (decimal n) → Wrote 21 x z (field n)
 unfolding field
