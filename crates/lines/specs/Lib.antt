@@ -1,0 +1,12 @@
+pub mod Out
+pub mod OutLaws
+pub mod Text
+pub mod TextLaws
+pub mod WriteLaws
+pub mod Lines
+pub mod Heard
+pub mod CallLaws
+pub mod LineLaws
+pub mod PlaceLaws
+pub mod HeardLaws
+pub mod Example
