@@ -37,13 +37,13 @@ pub fn dispatch(
     ensures { λ r. ⌜ ((l : List Happening) → lent-of (store-of (now (tasks .exit)) (now (objects .exit)) (now (places .exit)) (r .queue) (lent-step (store-of (now (tasks .entry)) (now (objects .entry)) (now (places .entry)) queue l) (now (calls .entry)) (event-of (now (items .entry)) (now (results .entry)) event) .store .log)) (now (calls .exit)) (r .answer) ≡ lent-step (store-of (now (tasks .entry)) (now (objects .entry)) (now (places .entry)) queue l) (now (calls .entry)) (event-of (now (items .entry)) (now (results .entry)) event)) ⌝ }
 {
     match event {
-        Event::Coroutine(f) => making::coroutine(tasks, objects, places, calls, queue, f),
-        Event::Call => making::call(tasks, objects, places, calls, queue),
+        Event::Coroutine(f) => makers::coroutine(tasks, objects, places, calls, queue, f),
+        Event::Call => makers::call(tasks, objects, places, calls, queue),
         Event::Pending { call, stored } => {
-            making::pending(tasks, objects, places, calls, queue, call, stored)
+            makers::pending(tasks, objects, places, calls, queue, call, stored)
         }
-        Event::Settled(v) => making::settled(tasks, objects, places, calls, queue, v),
-        Event::Gather => making::gather(tasks, objects, places, calls, queue, items),
+        Event::Settled(v) => makers::settled(tasks, objects, places, calls, queue, v),
+        Event::Gather => makers::gather(tasks, objects, places, calls, queue, items),
         Event::Await(o) => script::await_object(tasks, objects, places, calls, queue, o),
         Event::Complete(v) => script::complete(tasks, objects, places, calls, queue, v),
         Event::Fail(n) => script::fail(tasks, objects, places, calls, queue, n),

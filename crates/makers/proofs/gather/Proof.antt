@@ -8,8 +8,8 @@ use Rattle.machine.specs.Lent.{written}
 use Rattle.steps.specs.LentLaws.{lengths-have, wrong-length, not-sound, steps-on, logs}
 use Rattle.steps.specs.QuietLaws.{quiet}
 use borrow.Author.Needs.{needs}
-use Rattle.making.proofs.gather.Statement.{statement}
-use Rattle.making.proofs.gather.Tie as tie
+use Rattle.makers.proofs.gather.Statement.{statement}
+use Rattle.makers.proofs.gather.Tie as tie
 
 lengths-right-requires : tie.Need-lengths-right-requires
 lengths-right-requires c κs = search needs
