@@ -4,7 +4,7 @@ use std::{fs, path::Path};
 
 use crate::{
     asyncio::CallId,
-    records::Reader,
+    records::{Reader, Record},
     session::{Moment, Session, lines, with_session},
 };
 
@@ -472,6 +472,19 @@ impl File<'_, '_> {
     }
 }
 
+/// The bytes before the first cancel, which a damaged file may have: `drive` does not take it yet.
+fn before_cancel(bytes: &[u8]) -> usize {
+    let mut reader = Reader { bytes };
+    loop {
+        let at = bytes.len() - reader.bytes.len();
+        match reader.record() {
+            Some(Record::Cancel { .. }) => return at,
+            Some(_) => {}
+            None => return bytes.len(),
+        }
+    }
+}
+
 /// File `number` of `seed`. Every fifth is damaged; file 3 hands out all call numbers.
 pub(crate) fn file(seed: u64, number: u64) -> Vec<u8> {
     with_session(|session| {
@@ -497,6 +510,8 @@ pub(crate) fn file(seed: u64, number: u64) -> Vec<u8> {
         if number % 5 == 4 {
             file.damage();
         }
+        let end = before_cancel(&file.bytes);
+        file.bytes.truncate(end);
         file.bytes
     })
 }

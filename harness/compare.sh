@@ -1,0 +1,21 @@
+#!/usr/bin/env bash
+# compare.sh [SEED [COUNT [DRIVE]]]: runs COUNT random event files of SEED through `drive` and through the published Rust, and holds the lines to each
+# other. Without DRIVE, a drive is built from the sources as they stand. A differing file is cut down and printed as text.
+set -euo pipefail
+cd "$(dirname "$0")/.."
+seed=${1:-1} count=${2:-1000} drive=${3:-}
+room=$(mktemp -d)
+trap 'rm -rf "$room"' EXIT
+if [ -z "$drive" ]; then
+    drive=$room/drive
+    bash tools/quickbuild.sh drive "$drive" >/dev/null
+fi
+(cd harness && cargo build --release --offline --quiet)
+mkdir "$room/differs"
+if ! harness/target/release/harness compare "$drive" "$seed" "$count" "$room/differs"; then
+    for file in "$room"/differs/*.bin; do
+        echo "as text:"
+        python3 tools/records.py text "$file"
+    done
+    exit 1
+fi
