@@ -1,11 +1,11 @@
 -- What a caller of the library has: the line that it writes is the line of the machine's answer, and how long it can be.
 use mathlib.Core.Path.{_≡_, refl, sym, ap, _∙_}
 use mathlib.Core.Bool.{Bool, true, false}
-use mathlib.Core.List.{List, [], _∷_}
-use Prim.Native.Nat.{ℕ, zero, suc, _+_, _*_, _≤_}
+use mathlib.Core.List.{List}
+use Prim.Native.Nat.{ℕ, _+_, _*_, _≤_}
 use native.Mathlib.Omega.{arith}
 use lib.Dec.{eqb}
-use lib.ListN.{length, take}
+use lib.ListN.{length}
 use Rattle.asyncio.specs.Limits.{item-limit}
 use Rattle.asyncio.specs.Ranges.{ObjectFits}
 use Rattle.asyncio.specs.declared.ExternalFutureState.{ExternalFutureState}
