@@ -1,16 +1,15 @@
 -- How many calls are pending, counted object by object, and the calls at the front of the lent list.
-use mathlib.Core.Path.{_≡_, refl, sym, ap, _∙_}
+use mathlib.Core.Path.{_≡_, refl, sym, _∙_}
 use mathlib.Core.Bool.{Bool, true, false}
-use mathlib.Core.List.{List, [], _∷_, _++_}
-use Prim.Native.Nat.{ℕ, zero, suc, _+_, _%_, _≤_, _<_, min}
+use mathlib.Core.List.{List}
+use Prim.Native.Nat.{ℕ, _+_, _%_}
 use native.Mathlib.Numerals.{add-one}
-use native.Mathlib.Omega.{arith}
 use lib.ListN.{length, getD}
 use Rattle.asyncio.specs.Kinds.{kind, is-pending-external}
 use Rattle.asyncio.specs.Parts.{call-of}
 use Rattle.rows.specs.Tables.{object-at, header-at}
 use Rattle.machine.specs.Scheduler.{calls-below, pending-calls-in}
-use Rattle.laws.specs.MachineLaws.{length-insert, calls-few}
+use Rattle.laws.specs.MachineLaws.{length-insert}
 
 -- ---- the count
 

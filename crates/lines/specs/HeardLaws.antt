@@ -1,11 +1,11 @@
 -- What a caller of the library has: the line that it writes is the line of the machine's answer, and how long it can be.
 use mathlib.Core.Path.{_≡_, refl, sym, ap, _∙_}
 use mathlib.Core.Bool.{Bool, true, false}
-use mathlib.Core.List.{List, [], _∷_}
-use Prim.Native.Nat.{ℕ, zero, suc, _+_, _*_, _≤_}
+use mathlib.Core.List.{List}
+use Prim.Native.Nat.{ℕ, _+_, _*_, _≤_}
 use native.Mathlib.Omega.{arith}
 use lib.Dec.{eqb}
-use lib.ListN.{length, take}
+use lib.ListN.{length}
 use Rattle.asyncio.specs.Limits.{item-limit}
 use Rattle.asyncio.specs.Ranges.{ObjectFits}
 use Rattle.asyncio.specs.declared.ExternalFutureState.{ExternalFutureState}
@@ -27,8 +27,10 @@ use Rattle.reads.specs.Reads.{shown-of, show-answer}
 use Rattle.reads.specs.ReadLaws.{shows-places}
 use Rattle.reads.specs.declared.Shown.{Shown}
 use Rattle.reads.specs.declared.Reading.{Reading}
+use Rattle.lines.specs.Out.{Out, Wrote}
+use Rattle.lines.specs.OutLaws.{at-most}
 use Rattle.lines.specs.Heard.{front-calls, told-control, told, heard, shown-count, reading-count}
-use Rattle.lines.specs.Lines.{line-limit}
+use Rattle.lines.specs.Lines.{line, line-limit}
 use Rattle.lines.specs.PlaceLaws.{places-length}
 
 -- ---- events
@@ -144,10 +146,28 @@ unfolding answer-places reading-count
 reads-count ps (Reading.Shows x) = shows-count ps x
 reads-count ps (Reading.Refused n) = refl
 
--- A read shows at most 32 places, so that the line of a reading has room where `line-limit` bytes have.
+-- a read shows at most 32 places
 pub reading-few : (ps : List ℕ) (u : Store) (o : ℕ) (r : Reading) → show-answer ps r ≡ lent-read u (Event.show o) .answer → reading-count r ≤ item-limit
 unfolding Few
 reading-few ps u o r h = rw (← reads-count ps r, h) (read-few u o)
 
-pub reading-room : (n : ℕ) → n ≤ item-limit → 75 + 27 * n ≤ line-limit
-reading-room n h = omega arith
+-- ---- what a writer of lines wrote, as the line of the machine's answer
+
+module _ (n : ℕ) {x y : Out} where
+  -- write_line, of an event: `r` is what the entry ensures
+  pub wrote-event : (s u : Store) (cs l : List ℕ) (a : Answer) (e : Event) → lent-of s cs a ≡ lent-step u l e
+      → Wrote line-limit x y (line n (heard (s .objects) cs a)) → Wrote line-limit x y (line n (lent-step u l e .answer))
+  wrote-event s u cs l a e r w = rw (heard-event s u cs l a e r) at w
+
+  -- write_line, of `eager`
+  pub wrote-eager : (os cs : List ℕ) (u : Store) (a : Answer) → answer-of os a ≡ lent-read u Event.eager .answer
+      → Wrote line-limit x y (line n (heard os cs a)) → Wrote line-limit x y (line n (lent-read u Event.eager .answer))
+  wrote-eager os cs u a r w = rw (heard-eager os cs u a r) at w
+
+  -- write_reading, of `show`
+  pub wrote-show : (ps : List ℕ) (u : Store) (o : ℕ) (a : Reading) → show-answer ps a ≡ lent-read u (Event.show o) .answer
+      → Wrote (75 + 27 * reading-count a) x y (line n (show-answer ps a)) → Wrote line-limit x y (line n (lent-read u (Event.show o) .answer))
+  wrote-show ps u o a r w =
+      let f : reading-count a ≤ item-limit = reading-few ps u o a r in
+      let h : Wrote (75 + 27 * reading-count a) x y (line n (lent-read u (Event.show o) .answer)) = rw r at w in
+      at-most (omega arith) h

@@ -95,6 +95,7 @@ unfoldable pub output : ℕ → List Answer → List ℕ
 output n [] = []
 output n (a ∷ answers) = line n a ++ output (n + 1) answers
 
--- the most bytes of a line that a writer of an event's answer, or of a gather of 32 places, can write: a caller keeps so much room
+-- A line that the code here writes has at most so many bytes: 256 calls of 20 digits, each after a space, are 5,376, and a read shows at
+-- most 32 places. A caller keeps so much room.
 abbrev pub line-limit : ℕ
 line-limit = 8192

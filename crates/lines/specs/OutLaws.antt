@@ -2,7 +2,7 @@
 use mathlib.Core.Path.{_≡_, refl, sym, ap, _∙_}
 use mathlib.Core.Bool.{Bool, true, false}
 use mathlib.Core.List.{List, [], _∷_, _++_}
-use Prim.Native.Nat.{ℕ, zero, suc, _+_, _≤_, _<_}
+use Prim.Native.Nat.{ℕ, suc, _+_, _≤_, _<_}
 use native.Mathlib.Numerals.{add-one}
 use native.Mathlib.Omega.{arith}
 use lib.Dec.{ltb}
@@ -43,7 +43,8 @@ at-most h w = record { emitted = w .emitted; short = omega (arith, w .short) }
 
 -- ---- what a caller has
 
-by-test : (A : Type 0) (t : Bool) → (t ≡ true → A) → (t ≡ false → A) → A
+-- by a test, with what it tells
+pub by-test : (A : Type 0) (t : Bool) → (t ≡ true → A) → (t ≡ false → A) → A
 by-test A true p q = p refl
 by-test A false p q = q refl
 

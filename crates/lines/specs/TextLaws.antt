@@ -1,18 +1,14 @@
 -- Numbers in decimal: the equation that the code follows, how many digits there are, and that they read back as the number.
 use mathlib.Core.Path.{_≡_, refl, sym, ap, _∙_}
-use mathlib.Core.Bool.{Bool, true, false}
 use mathlib.Core.List.{List, [], _∷_, _++_}
 use Prim.Native.Nat.{ℕ, zero, suc, _+_, _-_, _*_, _/_, _%_, _^_, _≤_, _<_}
-use native.Mathlib.Nat.{div-lt-iff-lt-mul, div-add-mod', pow-suc}
+use native.Mathlib.Nat.{div-lt-iff-lt-mul, pow-suc}
 use native.Mathlib.Omega.{arith}
 use lib.Dec.{ltb}
 use lib.ListN.{length, getD, length-append, List·getD-append}
 use borrow.Author.Tests.{lt-ltb, le-ltb, ltb-true, ltb-false}
+use Rattle.lines.specs.OutLaws.{by-test}
 use Rattle.lines.specs.Text.{digits, decimal}
-
-by-test : (A : Type 0) (t : Bool) → (t ≡ true → A) → (t ≡ false → A) → A
-by-test A true p q = p refl
-by-test A false p q = q refl
 
 tenth : (k n : ℕ) → n < 10 ^ suc k → n / 10 < 10 ^ k
 tenth k n h = let w : n < 10 ^ k * 10 = rw (← pow-suc 10 k) h in div-lt-iff-lt-mul {k = 10} (omega arith) .1 w

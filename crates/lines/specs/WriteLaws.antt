@@ -1,12 +1,12 @@
 -- The ways through the writers of bytes, texts and numbers, in the shape of what the code knows there.
 use mathlib.Core.Path.{_≡_, refl, sym, ap, _∙_}
 use mathlib.Core.List.{List, [], _∷_, _++_, append-assoc, append-nil}
-use Prim.Native.Nat.{ℕ, zero, suc, _+_, _*_, _/_, _%_, _^_, _≤_, _<_}
+use Prim.Native.Nat.{ℕ, _+_, _*_, _/_, _%_, _^_, _≤_, _<_}
 use native.Mathlib.Numerals.{add-one}
 use native.Mathlib.Omega.{arith}
 use lib.ListN.{length, getD, take, set}
 use lib.Seq.{take-suc, take-all}
-use Rattle.lines.specs.Out.{Out, out-of, emit, Wrote}
+use Rattle.lines.specs.Out.{Out, out-of, Wrote}
 use Rattle.lines.specs.OutLaws.{emits-in, emits-out, wrote-none, then, at-most}
 use Rattle.lines.specs.Text.{decimal, field, fields}
 use Rattle.lines.specs.TextLaws.{decimal-small, decimal-large, decimal-short}

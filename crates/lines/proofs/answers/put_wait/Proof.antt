@@ -1,4 +1,3 @@
-use native.Mathlib.Omega.{arith}
 use denote.Ref.{now}
 use Rattle.lines.specs.LineLaws.{front-length, wait-wrote}
 use mathlib.Core.Path.{sym}

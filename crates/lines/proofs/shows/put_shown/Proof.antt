@@ -1,5 +1,4 @@
 use native.Mathlib.Omega.{arith}
-use denote.Ref.{now}
 use Rattle.lines.specs.OutLaws.{at-most}
 use Rattle.lines.specs.Lines.{shown-text}
 use Rattle.lines.specs.Heard.{shown-count}
