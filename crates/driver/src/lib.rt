@@ -1,0 +1,63 @@
+// One record of document 01's driver to one line: the record is read, the library answers, the line is written.
+mod asks; // what a record asks of the library
+mod answered; // what is asked, and its line
+
+use queue::ReadyQueue;
+use reader::Parsed;
+
+// The queue after a record, where the output stands, the place of the next record, and whether it is to be read: not after the end of
+// the input, and not after an 11.
+pub struct Driven {
+    pub queue: ReadyQueue,
+    pub at: usize,
+    pub next: usize,
+    pub going: bool,
+}
+
+// The record at `from` and its line, which is written at `at`. `number` is the record's.
+pub fn drive_record(
+    tasks: &mut [u64],
+    objects: &mut [u64],
+    places: &mut [u64],
+    calls: &mut [u64],
+    queue: ReadyQueue,
+    src: &[u8],
+    from: usize,
+    out: &mut [u8],
+    at: usize,
+    number: u64,
+) -> Driven {
+    match reader::parse_record(src, from) {
+        Parsed::End => Driven {
+            queue,
+            at,
+            next: from,
+            going: false,
+        },
+        Parsed::Refused => {
+            let end = lines::answers::write_refused(out, at, number, 11);
+            Driven {
+                queue,
+                at: end,
+                next: from,
+                going: false,
+            }
+        }
+        Parsed::Record { what, next } => {
+            let asks = asks::asks(what);
+            answered::answered(
+                tasks,
+                objects,
+                places,
+                calls,
+                queue,
+                src,
+                asks,
+                next,
+                out,
+                at,
+                number,
+            )
+        }
+    }
+}
