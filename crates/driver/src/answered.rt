@@ -3,6 +3,17 @@ use crate::Driven;
 use crate::asks::Asks;
 use queue::ReadyQueue;
 use session::Event;
+ghost use mathlib.Core.List.{List};
+ghost use Prim.Native.Nat.{ℕ, _+_, _*_, _≤_};
+ghost use lib.ListN.{length, take, drop};
+ghost use Rattle.machine.specs.Store.{Happening, store-of};
+ghost use Rattle.machine.specs.Machine as machine;
+ghost use Rattle.reader.specs.Items.{items-at};
+ghost use Rattle.events.specs.Results.{results-in};
+ghost use Rattle.session.specs.Dispatch.{event-of};
+ghost use Rattle.lines.specs.Out.{out-of};
+ghost use Rattle.driver.specs.Driver.{Asked, refused-11, answered};
+ghost use Rattle.driver.specs.Drove.{Drove, asked-of, InInput};
 
 // An event and its line.
 fn event_line(
@@ -18,7 +29,9 @@ fn event_line(
     out: &mut [u8],
     at: usize,
     number: u64,
-) -> Driven {
+) -> Driven
+    ensures { λ r. ⌜ ((l : List Happening) → Drove (now (tasks .exit)) (now (objects .exit)) (now (places .exit)) (r .queue) (now (calls .exit)) (r .next) (r .going) (out-of (now (out .entry)) at) (out-of (now (out .exit)) (r .at)) (answered (store-of (now (tasks .entry)) (now (objects .entry)) (now (places .entry)) queue l) (now (calls .entry)) next number (Asked.event (event-of (now (items .entry)) (now (results .entry)) event)))) ⌝ }
+{
     let stepped = session::dispatch(tasks, objects, places, calls, queue, event, items, results);
     let q = stepped.queue;
     let answer = stepped.answer;
@@ -45,7 +58,9 @@ fn gather_line(
     out: &mut [u8],
     at: usize,
     number: u64,
-) -> Driven {
+) -> Driven
+    ensures { λ r. ⌜ ((l : List Happening) → Drove (now (tasks .exit)) (now (objects .exit)) (now (places .exit)) (r .queue) (now (calls .exit)) (r .next) (r .going) (out-of (now (out .entry)) at) (out-of (now (out .exit)) (r .at)) (answered (store-of (now (tasks .entry)) (now (objects .entry)) (now (places .entry)) queue l) (now (calls .entry)) next number (Asked.event (machine.Event.gather (items-at (now (src .entry)) first count))))) ⌝ }
+{
     let mut items: [u16; 255] = [0; 255];
     let n = count as usize;
     reader::items::gather_items(src, first, n, &mut items);
@@ -79,7 +94,10 @@ fn results_line(
     out: &mut [u8],
     at: usize,
     number: u64,
-) -> Driven {
+) -> Driven
+    requires { ⌜ first + count * 14 ≤ length (now src) ⌝ }
+    ensures { λ r. ⌜ ((l : List Happening) → Drove (now (tasks .exit)) (now (objects .exit)) (now (places .exit)) (r .queue) (now (calls .exit)) (r .next) (r .going) (out-of (now (out .entry)) at) (out-of (now (out .exit)) (r .at)) (answered (store-of (now (tasks .entry)) (now (objects .entry)) (now (places .entry)) queue l) (now (calls .entry)) next number (Asked.event (machine.Event.results (results-in (take (count * 14) (drop first (now (src .entry))))))))) ⌝ }
+{
     let items: [u16; 1] = [0; 1];
     let n = (count as usize) * 14;
     event_line(
@@ -109,7 +127,9 @@ fn show_line(
     out: &mut [u8],
     at: usize,
     number: u64,
-) -> Driven {
+) -> Driven
+    ensures { λ r. ⌜ ((cs : List ℕ) (l : List Happening) → Drove (now (tasks .entry)) (now (objects .entry)) (now (places .entry)) (r .queue) cs (r .next) (r .going) (out-of (now (out .entry)) at) (out-of (now (out .exit)) (r .at)) (answered (store-of (now (tasks .entry)) (now (objects .entry)) (now (places .entry)) queue l) cs next number (Asked.read (machine.Event.show o)))) ⌝ }
+{
     let reading = reads::show(tasks, objects, places, queue, o);
     let end = lines::shows::write_reading(out, at, number, reading, places);
     Driven {
@@ -131,7 +151,9 @@ fn eager_line(
     out: &mut [u8],
     at: usize,
     number: u64,
-) -> Driven {
+) -> Driven
+    ensures { λ r. ⌜ ((l : List Happening) → Drove (now (tasks .entry)) (now (objects .entry)) (now (places .entry)) (r .queue) (now (calls .entry)) (r .next) (r .going) (out-of (now (out .entry)) at) (out-of (now (out .exit)) (r .at)) (answered (store-of (now (tasks .entry)) (now (objects .entry)) (now (places .entry)) queue l) (now (calls .entry)) next number (Asked.read machine.Event.eager))) ⌝ }
+{
     let answer = reads::eager(tasks, objects, places, queue);
     let end = lines::answers::write_line(out, at, number, answer, objects, calls);
     Driven {
@@ -143,7 +165,9 @@ fn eager_line(
 }
 
 // Cancel is refused as an unknown kind is, until the library takes it.
-fn cancel_line(queue: ReadyQueue, next: usize, out: &mut [u8], at: usize, number: u64) -> Driven {
+fn cancel_line(queue: ReadyQueue, next: usize, out: &mut [u8], at: usize, number: u64) -> Driven
+    ensures { λ r. ⌜ ((ts os ps cs : List ℕ) (l : List Happening) → Drove ts os ps (r .queue) cs (r .next) (r .going) (out-of (now (out .entry)) at) (out-of (now (out .exit)) (r .at)) (refused-11 (store-of ts os ps queue l) cs next number)) ⌝ }
+{
     let end = lines::answers::write_refused(out, at, number, 11);
     Driven {
         queue,
@@ -166,7 +190,10 @@ pub fn answered(
     out: &mut [u8],
     at: usize,
     number: u64,
-) -> Driven {
+) -> Driven
+    requires { ⌜ InInput (now src) asks ⌝ }
+    ensures { λ r. ⌜ ((l : List Happening) → Drove (now (tasks .exit)) (now (objects .exit)) (now (places .exit)) (r .queue) (now (calls .exit)) (r .next) (r .going) (out-of (now (out .entry)) at) (out-of (now (out .exit)) (r .at)) (answered (store-of (now (tasks .entry)) (now (objects .entry)) (now (places .entry)) queue l) (now (calls .entry)) next number (asked-of (now (src .entry)) asks))) ⌝ }
+{
     match asks {
         Asks::Event(event) => {
             let items: [u16; 1] = [0; 1];

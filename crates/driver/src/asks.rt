@@ -1,6 +1,8 @@
 // What a record asks of the library.
 use reader::Record;
 use session::Event;
+ghost use mathlib.Core.Path.{_≡_};
+ghost use Rattle.driver.specs.Drove.{asks-of};
 
 // An event that has all it needs in its record; a gather or results, whose items stand in the input; a read; or cancel, which the
 // library does not take yet.
@@ -13,7 +15,9 @@ pub enum Asks {
     Cancel,
 }
 
-pub fn asks(what: Record) -> Asks {
+pub fn asked_by(what: Record) -> Asks
+    ensures { λ r. ⌜ r ≡ asks-of what ⌝ }
+{
     match what {
         Record::Coroutine(f) => Asks::Event(Event::Coroutine(f)),
         Record::Call => Asks::Event(Event::Call),

@@ -4,6 +4,11 @@ mod answered; // what is asked, and its line
 
 use queue::ReadyQueue;
 use reader::Parsed;
+ghost use mathlib.Core.List.{List};
+ghost use Rattle.machine.specs.Store.{Happening, store-of};
+ghost use Rattle.lines.specs.Out.{out-of};
+ghost use Rattle.driver.specs.Driver.{drive-one};
+ghost use Rattle.driver.specs.Drove.{Drove};
 
 // The queue after a record, where the output stands, the place of the next record, and whether it is to be read: not after the end of
 // the input, and not after an 11.
@@ -26,7 +31,9 @@ pub fn drive_record(
     out: &mut [u8],
     at: usize,
     number: u64,
-) -> Driven {
+) -> Driven
+    ensures { λ r. ⌜ ((l : List Happening) → Drove (now (tasks .exit)) (now (objects .exit)) (now (places .exit)) (r .queue) (now (calls .exit)) (r .next) (r .going) (out-of (now (out .entry)) at) (out-of (now (out .exit)) (r .at)) (drive-one (store-of (now (tasks .entry)) (now (objects .entry)) (now (places .entry)) queue l) (now (calls .entry)) (now (src .entry)) from number)) ⌝ }
+{
     match reader::parse_record(src, from) {
         Parsed::End => Driven {
             queue,
@@ -44,7 +51,7 @@ pub fn drive_record(
             }
         }
         Parsed::Record { what, next } => {
-            let asks = asks::asks(what);
+            let asks = asks::asked_by(what);
             answered::answered(
                 tasks,
                 objects,

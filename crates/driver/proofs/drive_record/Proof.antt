@@ -1,0 +1,94 @@
+use borrow.Author.Needs.{needs}
+use Rattle.driver.proofs.drive_record.Statement.{statement}
+use Rattle.driver.proofs.drive_record.Tie as tie
+use Rattle.driver.proofs.drive_record.Reads as reads
+use Rattle.driver.proofs.drive_record.Lts as lts
+use Rattle.driver.proofs.answered.answered.Reads as answered-reads
+use Rattle.driver.proofs.asks.asked_by.Reads as asked-by-reads
+use Rattle.lines.proofs.answers.write_refused.Reads as write-refused-reads
+use Rattle.reader.proofs.parse_record.Reads as parse-record-reads
+
+-- src/lib.rt:37:11
+parse-record-requires : tie.Need-parse-record-requires
+parse-record-requires c κs = search needs
+
+-- src/lib.rt:38:24
+enum-told : tie.Need-enum-told
+enum-told c = search needs
+
+-- src/lib.rt:45:53
+enum-told-2 : tie.Need-enum-told-2
+enum-told-2 c = search needs
+
+-- src/lib.rt:45:17
+write-refused-requires : tie.Need-write-refused-requires
+write-refused-requires c κs = search needs
+
+-- src/lib.rt:53:26
+enum-known-what : tie.Need-enum-known-what
+enum-known-what c = search needs
+
+-- src/lib.rt:54:17
+asked-by-requires : tie.Need-asked-by-requires
+asked-by-requires c κs = search needs
+
+-- src/lib.rt:55:13
+answered-requires : tie.Need-answered-requires
+answered-requires c κs = ?
+
+-- src/lib.rt:23:1
+returns : tie.Need-returns
+returns c = ?
+
+-- src/lib.rt:23:1
+same-length : tie.Need-same-length
+same-length c = search needs
+
+-- src/lib.rt:23:1
+returns-2 : tie.Need-returns-2
+returns-2 c = ?
+
+-- src/lib.rt:23:1
+same-length-2 : tie.Need-same-length-2
+same-length-2 c = search needs
+
+-- src/lib.rt:23:1
+same-length-3 : tie.Need-same-length-3
+same-length-3 c = search needs
+
+-- src/lib.rt:23:1
+same-length-4 : tie.Need-same-length-4
+same-length-4 c = search needs
+
+-- src/lib.rt:23:1
+same-length-5 : tie.Need-same-length-5
+same-length-5 c = search needs
+
+-- src/lib.rt:23:1
+same-length-6 : tie.Need-same-length-6
+same-length-6 c = search needs
+
+-- src/lib.rt:23:1
+returns-3 : tie.Need-returns-3
+returns-3 c = ?
+
+pub drive-record-spec : {M : Type 1} → statement M
+drive-record-spec =
+    tie.close
+    (tie.spec
+    parse-record-requires
+    enum-told
+    enum-told-2
+    write-refused-requires
+    enum-known-what
+    asked-by-requires
+    answered-requires
+    returns
+    same-length
+    returns-2
+    same-length-2
+    same-length-3
+    same-length-4
+    same-length-5
+    same-length-6
+    returns-3)
