@@ -1,6 +1,6 @@
 -- Laws of the driver, one for each way to a line.
 use mathlib.Core.Path.{_≡_, refl, sym, ap, _∙_}
-use mathlib.Core.Bool.{true, false}
+use mathlib.Core.Bool.{Bool, true, false}
 use mathlib.Core.List.{List, []}
 use Prim.Native.Nat.{ℕ, _+_, _-_, _*_, _≤_}
 use native.Mathlib.Omega.{arith}
@@ -78,6 +78,21 @@ pub refused-drove : (ts os ps : List ℕ) (q : ReadyQueue) (k : List Happening) 
 unfolding refused-11
 refused-drove ts os ps q k l next number w = record { store-is = refl; list-is = refl; next-is = refl; going-is = refl; wrote = at-most (omega arith) w }
 
+-- ---- the same
+
+pub same-drives : {ts os ps cs : List ℕ} {q : ReadyQueue} {next : ℕ} {going : Bool} {x y : Out} {d e : Drives} → d ≡ e
+    → Drove ts os ps q cs next going x y d → Drove ts os ps q cs next going x y e
+same-drives {d} {e} h w = rw h at w
+
+-- an event that is the same
+pub same-event : (u : Store) (l : List ℕ) (next number : ℕ) {d e : machine.Event} {ts os ps cs : List ℕ} {q : ReadyQueue} {after : ℕ} {going : Bool} {x y : Out} → d ≡ e
+    → Drove ts os ps q cs after going x y (answered u l next number (Asked.event d)) → Drove ts os ps q cs after going x y (answered u l next number (Asked.event e))
+same-event u l next number h w = same-drives (ap (λ (e : machine.Event). answered u l next number (Asked.event e)) h) w
+
+-- the n bytes from a place on: a part's end is written as a sum
+pub part-is : (src : List ℕ) (first n : ℕ) → take (first + n - first) (drop first src) ≡ take n (drop first src)
+part-is src first n = let e : first + n - first ≡ n = omega arith in rw e
+
 -- ---- what a record asks
 
 -- the code's form says what the record asks
@@ -97,22 +112,25 @@ asks-asked src (Record.Cancel t) = refl
 asks-asked src (Record.Show o) = refl
 asks-asked src Record.Eager = refl
 
--- what a record that was read asks stands in the input
-pub asks-inside : (src : List ℕ) (from : ℕ) (r : Record) {next : ℕ} → parse src from ≡ Parsed.Record r next → InInput src (asks-of r)
+inside : (src : List ℕ) (from : ℕ) (r : Record) {next : ℕ} → parse src from ≡ Parsed.Record r next → InInput src (asks-of r)
 unfolding asks-of
-asks-inside src from (Record.Coroutine f) e = tt
-asks-inside src from Record.Call e = tt
-asks-inside src from (Record.Pending c x) e = tt
-asks-inside src from (Record.Settled v) e = tt
-asks-inside src from (Record.Gather first count) e = tt
-asks-inside src from (Record.Await o) e = tt
-asks-inside src from (Record.Complete v) e = tt
-asks-inside src from (Record.Fail n) e = tt
-asks-inside src from (Record.Results first count) e = results-inside src from e
-asks-inside src from Record.Resume e = tt
-asks-inside src from (Record.Cancel t) e = tt
-asks-inside src from (Record.Show o) e = tt
-asks-inside src from Record.Eager e = tt
+inside src from (Record.Coroutine f) e = tt
+inside src from Record.Call e = tt
+inside src from (Record.Pending c x) e = tt
+inside src from (Record.Settled v) e = tt
+inside src from (Record.Gather first count) e = tt
+inside src from (Record.Await o) e = tt
+inside src from (Record.Complete v) e = tt
+inside src from (Record.Fail n) e = tt
+inside src from (Record.Results first count) e = results-inside src from e
+inside src from Record.Resume e = tt
+inside src from (Record.Cancel t) e = tt
+inside src from (Record.Show o) e = tt
+inside src from Record.Eager e = tt
+
+-- what a record that was read asks stands in the input
+pub asks-inside : (src : List ℕ) (from : ℕ) {r : Record} {next : ℕ} {a : Asks} → parse src from ≡ Parsed.Record r next → a ≡ asks-of r → InInput src a
+asks-inside src from {r} e h = rw h (inside src from r e)
 
 -- ---- one record
 

@@ -2,19 +2,13 @@ use Rattle.driver.specs.DriveLaws.{refused-drove}
 use borrow.Author.Needs.{needs}
 use Rattle.driver.proofs.answered.cancel_line.Statement.{statement}
 use Rattle.driver.proofs.answered.cancel_line.Tie as tie
-use Rattle.driver.proofs.answered.cancel_line.Reads as reads
-use Rattle.driver.proofs.answered.cancel_line.Lts as lts
-use Rattle.lines.proofs.answers.write_refused.Reads as write-refused-reads
 
--- src/answered.rt:171:9
 write-refused-requires : tie.Need-write-refused-requires
 write-refused-requires c κs = search needs
 
--- src/answered.rt:168:1
 same-length : tie.Need-same-length
 same-length c = search needs
 
--- src/answered.rt:168:1
 returns : tie.Need-returns
 returns c = λ ts os ps cs l. refused-drove ts os ps (c .before .before .before .before .before .args .queue) l cs (c .before .before .before .before .before .args .next) (c .before .before .before .before .before .args .number) (c .before .before .write-refused .ensures)
 
