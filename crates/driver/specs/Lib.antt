@@ -1,0 +1,6 @@
+pub mod Driver
+pub mod Drove
+pub mod DriveLaws
+pub mod Drive
+pub mod ProgressLaws
+pub mod Example

@@ -1,0 +1,70 @@
+// One record of document 01's driver to one line: the record is read, the library answers, the line is written.
+mod asks; // what a record asks of the library
+mod answered; // what is asked, and its line
+
+use queue::ReadyQueue;
+use reader::Parsed;
+ghost use mathlib.Core.List.{List};
+ghost use Rattle.machine.specs.Store.{Happening, store-of};
+ghost use Rattle.lines.specs.Out.{out-of};
+ghost use Rattle.driver.specs.Driver.{drive-one};
+ghost use Rattle.driver.specs.Drove.{Drove};
+
+// The queue after a record, where the output stands, the place of the next record, and whether it is to be read: not after the end of
+// the input, and not after an 11.
+pub struct Driven {
+    pub queue: ReadyQueue,
+    pub at: usize,
+    pub next: usize,
+    pub going: bool,
+}
+
+// The record at `from` and its line, which is written at `at`. `number` is the record's.
+pub fn drive_record(
+    tasks: &mut [u64],
+    objects: &mut [u64],
+    places: &mut [u64],
+    calls: &mut [u64],
+    queue: ReadyQueue,
+    src: &[u8],
+    from: usize,
+    out: &mut [u8],
+    at: usize,
+    number: u64,
+) -> Driven
+    ensures { λ r. ⌜ ((l : List Happening) → Drove (now (tasks .exit)) (now (objects .exit)) (now (places .exit)) (r .queue) (now (calls .exit)) (r .next) (r .going) (out-of (now (out .entry)) at) (out-of (now (out .exit)) (r .at)) (drive-one (store-of (now (tasks .entry)) (now (objects .entry)) (now (places .entry)) queue l) (now (calls .entry)) (now (src .entry)) from number)) ⌝ }
+{
+    match reader::parse_record(src, from) {
+        Parsed::End => Driven {
+            queue,
+            at,
+            next: from,
+            going: false,
+        },
+        Parsed::Refused => {
+            let end = lines::answers::write_refused(out, at, number, 11);
+            Driven {
+                queue,
+                at: end,
+                next: from,
+                going: false,
+            }
+        }
+        Parsed::Record { what, next } => {
+            let asks = asks::asked_by(what);
+            answered::answered(
+                tasks,
+                objects,
+                places,
+                calls,
+                queue,
+                src,
+                asks,
+                next,
+                out,
+                at,
+                number,
+            )
+        }
+    }
+}
