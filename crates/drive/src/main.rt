@@ -3,6 +3,7 @@ use libc::STDIN_FILENO;
 use libc::STDOUT_FILENO;
 use queue::ReadyQueue;
 ghost use Prim.Native.Nat.{_≤_};
+ghost use lib.ListN.{length};
 
 // The lesser of the two.
 fn within(n: usize, limit: usize) -> usize
@@ -11,41 +12,71 @@ fn within(n: usize, limit: usize) -> usize
     if n < limit { n } else { limit }
 }
 
-// The bytes from `from` on go to the front: `count` of them.
-fn move_up(src: &mut [u8; 65536], from: usize, count: usize) {
+// The bytes from `from` on, `count` of them or as many as there are, go to the front.
+fn move_up(src: &mut [u8], from: usize, count: usize) {
+    let start = within(from, src.len());
+    let n = within(count, src.len() - start);
     let mut i: usize = 0;
-    while i < count && i < 65536 - from {
-        src[i] = src[from + i];
+    while i < n {
+        src[i] = src[start + i];
         i += 1;
     }
 }
 
-// What is not read yet goes to the front, and the buffer is filled behind it unless the input ends first. Returns how many bytes there are.
-fn refill(src: &mut [u8; 65536], from: usize, filled: usize) -> usize
-    ensures { λ r. ⌜ r ≤ 65536 ⌝ }
+// What was read up to `filled` and not used up to `from` goes to the front, and the buffer is filled behind it unless the input ends first.
+// Returns how many bytes there are.
+fn refill(src: &mut [u8], from: usize, filled: usize) -> usize
+    ensures { λ r. ⌜ r ≤ length (now (src .exit)) ⌝ }
 {
     let start = within(from, filled);
-    let rest = within(filled - start, 65536);
-    move_up(src, within(start, 65536), rest);
+    let rest = within(filled - start, src.len());
+    move_up(src, start, rest);
     let got = io::read_full(STDIN_FILENO, &mut src[rest..]);
-    within(rest + got, 65536)
+    rest + within(got, src.len() - rest)
 }
 
-// Writes the lines out when there is little room left for another. Returns where the next line goes.
-fn flush(out: &[u8; 65536], at: usize) -> usize
-    ensures { λ r. ⌜ r ≤ 65536 ⌝ }
+// The bytes read, and how many of them are used.
+struct Input {
+    filled: usize,
+    from: usize,
+}
+
+// More is read where a record could be cut short, unless the input has ended: then the buffer is not full. A record has at most 3,574 bytes.
+fn ready(src: &mut [u8], from: usize, filled: usize) -> Input
+    requires { ⌜ filled ≤ length (now src) ⌝ }
+    ensures { λ r. ⌜ r .filled ≤ length (now (src .exit)) ⌝ }
 {
-    let end = within(at, 65536);
-    if end < 57344 {
+    if filled == src.len() && filled - within(from, filled) < 3574 {
+        return Input {
+            filled: refill(src, from, filled),
+            from: 0,
+        };
+    }
+    Input { filled, from }
+}
+
+// Writes the lines out where there might be no room for another: a line has at most 8,192 bytes. Returns where the next one goes.
+fn flush(out: &[u8], at: usize) -> usize
+    ensures { λ r. ⌜ r ≤ length (now (out .entry)) ⌝ }
+{
+    let end = within(at, out.len());
+    if 8192 <= out.len() - end {
         return end;
     }
     io::write_all(STDOUT_FILENO, &out[..end]);
     0
 }
 
-// A fresh session, and its records until the input ends or one is refused with 11. A record has at most 3,574 bytes, so that none is cut
-// short but by the input's end.
-fn run(src: &mut [u8; 65536], out: &mut [u8; 65536]) {
+// The number of the last record: this one, unless there is another.
+fn last_record(going: bool, number: u64, last: u64) -> u64
+    requires { ⌜ number ≤ last ⌝ }
+    ensures { λ r. ⌜ r ≤ last ⌝ }
+{
+    if going { last } else { number }
+}
+
+// A fresh session, and its records until the input ends or one is refused with 11.
+fn run(src: &mut [u8], out: &mut [u8]) {
     let mut tasks: [u64; 4104] = [0; 4104];
     let mut objects: [u64; 2056] = [0; 2056];
     let mut places: [u64; 2048] = [0; 2048];
@@ -56,8 +87,8 @@ fn run(src: &mut [u8; 65536], out: &mut [u8; 65536]) {
     let mut from: usize = 0;
     let mut at: usize = 0;
     let mut number: u64 = 0;
-    let mut going = true;
-    while going && number < u64::MAX {
+    let mut last: u64 = u64::MAX;
+    while number < last {
         number += 1;
         let driven = driver::drive_record(
             &mut tasks,
@@ -72,13 +103,11 @@ fn run(src: &mut [u8; 65536], out: &mut [u8; 65536]) {
             number,
         );
         queue = driven.queue;
-        going = driven.going;
-        from = driven.next;
+        last = last_record(driven.going, number, last);
         at = flush(out, driven.at);
-        if filled == 65536 && 61962 < from {
-            filled = refill(src, from, filled);
-            from = 0;
-        }
+        let input = ready(src, driven.next, filled);
+        filled = input.filled;
+        from = input.from;
     }
     io::write_all(STDOUT_FILENO, &out[..at]);
 }
