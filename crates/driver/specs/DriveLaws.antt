@@ -21,7 +21,7 @@ use Rattle.reader.specs.ParseLaws.{results-inside}
 use Rattle.lines.specs.Out.{Out, Wrote}
 use Rattle.lines.specs.OutLaws.{wrote-none, at-most}
 use Rattle.lines.specs.Heard.{heard, reading-count}
-use Rattle.lines.specs.HeardLaws.{heard-event, heard-eager, reading-few, reading-room}
+use Rattle.lines.specs.HeardLaws.{wrote-event, wrote-eager, wrote-show}
 use Rattle.lines.specs.Lines.{line, line-limit}
 use Rattle.driver.specs.Driver.{Asked, asked, Drives, refused-11, answered, drive-by, drive-one}
 use Rattle.driver.specs.Drove.{Drove, asks-of, asked-of, InInput}
@@ -40,7 +40,7 @@ event-drove u l e next number a {ts} {os} {ps} {cs} {q} h w = record {
   list-is = ap (λ (z : Lent). z .list) h;
   next-is = refl;
   going-is = refl;
-  wrote = rw (heard-event (store-of ts os ps q (lent-step u l e .store .log)) u cs l a e h) at w;
+  wrote = wrote-event number (store-of ts os ps q (lent-step u l e .store .log)) u cs l a e h w;
 }
 
 -- A read of an object.
@@ -54,7 +54,7 @@ show-drove ts os ps q k l o next number r h w = record {
   list-is = refl;
   next-is = refl;
   going-is = refl;
-  wrote = rw h at (at-most (reading-room (reading-count r) (reading-few ps (store-of ts os ps q k) o r h)) w);
+  wrote = wrote-show number ps (store-of ts os ps q k) o r h w;
 }
 
 -- The read `eager`.
@@ -68,7 +68,7 @@ eager-drove ts os ps q k l next number a h w = record {
   list-is = refl;
   next-is = refl;
   going-is = refl;
-  wrote = rw (heard-eager os l (store-of ts os ps q k) a h) at w;
+  wrote = wrote-eager number os l (store-of ts os ps q k) a h w;
 }
 
 -- Refusal 11.
