@@ -8,7 +8,7 @@ room=$(mktemp -d)
 trap 'rm -rf "$room"' EXIT
 if [ -z "$drive" ]; then
     drive=$room/drive
-    bash tools/quickbuild.sh drive "$drive" >/dev/null
+    bash tools/quickbuild.sh drive "$drive"
 fi
 (cd harness && cargo build --release --offline --quiet)
 mkdir "$room/differs"

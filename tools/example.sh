@@ -6,7 +6,7 @@ file=$(realpath "$1")
 cd "$(dirname "$0")/.."
 room=$(mktemp -d)
 trap 'rm -rf "$room"' EXIT
-bash tools/quickbuild.sh drive "$room/drive" >/dev/null
+bash tools/quickbuild.sh drive "$room/drive"
 python3 tools/records.py bytes "$file" >"$room/records"
 "$room/drive" <"$room/records" >"$room/lines"
 python3 tools/records.py text "$room/records" "$room/lines"

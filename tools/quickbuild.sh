@@ -35,4 +35,4 @@ printf '' >"$room/empty"
     "$own/bin/rattle-cases" --toolchain "$room/tools" --stdin "$room/empty" "crates/$name/src/main.rt" --crate-name "$name" "${words[@]}"
 ) >"$room/said" 2>&1 || true
 [ -f "$room/kept.o" ] || { cat "$room/said" >&2; echo "quickbuild: $name did not compile (rt dev says why)" >&2; exit 1; }
-"$own/bin/rattle-link" --target x86_64-unknown-linux-gnu --toolchain "$own/toolchain" -o "$out" "$room/kept.o"
+"$own/bin/rattle-link" --target x86_64-unknown-linux-gnu --toolchain "$own/toolchain" -o "$out" "$room/kept.o" >"$room/said" 2>&1 || { cat "$room/said" >&2; exit 1; }
