@@ -1,10 +1,10 @@
 -- A part of the input is enough to drive a record: what follows makes no difference where the record is whole, or where as many bytes are
 -- left as a record can have; without the bytes in front the record is driven the same, its next place counted from the new start.
 use mathlib.Core.Path.{_≡_, refl, sym, ap, _∙_}
-use mathlib.Core.List.{List, _∷_, _++_}
+use mathlib.Core.List.{List, _++_}
 use Prim.Native.Nat.{ℕ, zero, suc, _+_, _-_, _*_, _≤_, _<_}
 use native.Mathlib.Omega.{arith}
-use lib.ListN.{length, getD, take, drop, length-drop, List·getD-append}
+use lib.ListN.{length, take, drop, length-drop, List·getD-append}
 use lib.Seq.{take-append-le, drop-append-le, getD-drop, drop-drop}
 use Rattle.machine.specs.Store.{Store}
 use Rattle.machine.specs.Machine.{Event}
@@ -15,9 +15,9 @@ use Rattle.reader.specs.Items.{items-at}
 use Rattle.reader.specs.ParseLaws.{EndsAt, parse-inside}
 use Rattle.reader.specs.Windows.{record-limit, move-record, move}
 use Rattle.reader.specs.WindowLaws.{parse-longer, parse-enough, parse-rest}
-use Rattle.endian.specs.Endian.{le1, le2}
+use Rattle.endian.specs.Endian.{le1}
 use Rattle.events.specs.Results.{results-in}
-use Rattle.driver.specs.Driver.{Asked, asked, Drives, refused-11, answered, drive-by, drive-one}
+use Rattle.driver.specs.Driver.{Asked, asked, refused-11, answered, drive-by, drive-one}
 use Rattle.driver.specs.Drive.{moved}
 
 -- ---- bytes that follow
