@@ -21,3 +21,7 @@ drive-rest s l src from number = drive-from (suc (length src - from)) s l src fr
 -- A fresh session, a call list of the least length that every wait has room in, and the records from number 1 on.
 unfoldable pub drive : List ℕ → List ℕ
 drive src = drive-rest fresh (replicate object-limit 0) src 0 1
+
+-- The same, its next place counted from k bytes further in front. (A program that holds a part of the input counts from the part's start.)
+unfoldable pub moved : ℕ → Drives → Drives
+moved k x = record { store = x .store; list = x .list; text = x .text; next = k + x .next; going = x .going }

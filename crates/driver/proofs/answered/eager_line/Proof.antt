@@ -3,7 +3,6 @@ use Rattle.driver.specs.DriveLaws.{eager-drove}
 use borrow.Author.Needs.{needs}
 use Rattle.driver.proofs.answered.eager_line.Statement.{statement}
 use Rattle.driver.proofs.answered.eager_line.Tie as tie
-use Rattle.driver.proofs.answered.eager_line.Reads as reads
 
 eager-requires : tie.Need-eager-requires
 eager-requires c κs = search needs

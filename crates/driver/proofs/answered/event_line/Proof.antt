@@ -1,4 +1,3 @@
-use denote.Ref.{now}
 use Rattle.driver.specs.DriveLaws.{event-drove}
 use borrow.Author.Needs.{needs}
 use Rattle.driver.proofs.answered.event_line.Statement.{statement}

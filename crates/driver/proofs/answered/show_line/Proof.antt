@@ -3,7 +3,6 @@ use Rattle.driver.specs.DriveLaws.{show-drove}
 use borrow.Author.Needs.{needs}
 use Rattle.driver.proofs.answered.show_line.Statement.{statement}
 use Rattle.driver.proofs.answered.show_line.Tie as tie
-use Rattle.driver.proofs.answered.show_line.Reads as reads
 
 show-requires : tie.Need-show-requires
 show-requires c κs = search needs
