@@ -1,16 +1,15 @@
 -- A gather of the machine in the words of Python's documentation (`Gather`): its awaitables, what the task that awaits it sees, and what an
 -- arrival does to the store. The theorems are in AsyncioLaws.
 use Prim.Native.Nat.{ℕ, zero, suc, _+_, _<_, _^_}
-use mathlib.Core.Bool.{Bool, true, false}
+use mathlib.Core.Bool.{true, false}
 use mathlib.Core.List.{List, [], _∷_, _++_}
-use mathlib.Core.Option.{Option, none, some}
+use mathlib.Core.Option.{none, some}
 use mathlib.Core.Path.{_≡_}
 use Rattle.asyncio.specs.declared.Value.{Value}
 use Rattle.asyncio.specs.declared.Error.{Error}
 use Rattle.asyncio.specs.declared.OptionValue.{OptionValue}
 use Rattle.asyncio.specs.declared.GatherState.{GatherState}
 use Rattle.asyncio.specs.declared.Object.{Object}
-use Rattle.asyncio.specs.declared.HeapId.{HeapId}
 use Rattle.asyncio.specs.Ranges.{ValueFits, ErrorFits}
 use Rattle.machine.specs.Tests.{is-in}
 use Rattle.machine.specs.Store.{Store, object, place}
@@ -128,11 +127,11 @@ pub record Waits (s : Store) (g : ℕ) (aws : List ℕ) (done : List Done) (w : 
       → outcome-of done (item-at s (w .first + i)) ≡ some (returned (value-in (place s (w .first + i) .result)))
   pub none-raised : first-raised aws [] done ≡ none
 
--- It is completed: every awaitable is done, and the list is as the documentation has it.
-pub record Lists (s : Store) (g : ℕ) (aws : List ℕ) (done : List Done) : Type 0 where
+-- It is completed, and its list is the documentation's.
+pub record Lists (s : Store) (g : ℕ) (aws : List ℕ) (done : List Done) (vs : List Value) : Type 0 where
   pub settled : as-awaited (object s g) ≡ none
-  pub in-its-order : gathered s g ≡ in-order done aws
-  pub all-done : (a : ℕ) → is-in a aws ≡ true → outcome-of done a ≡ none → ⊥
+  pub has-values : gathered s g ≡ listed vs
+  pub in-its-order : in-order done aws ≡ listed vs
   pub none-raised : first-raised aws [] done ≡ none
 
 -- It failed, by the first exception.
@@ -144,5 +143,5 @@ pub record Fails (s : Store) (g : ℕ) (aws : List ℕ) (done : List Done) (e : 
 -- The gather g of the awaitables aws after the arrivals of `done`.
 pub data Mid (s : Store) (g : ℕ) (aws : List ℕ) (done : List Done) : Type 0 where
   still-waits : (w : AwaitedGather) → Waits s g aws done w → Mid s g aws done
-  has-listed : Lists s g aws done → Mid s g aws done
+  has-listed : (vs : List Value) → Lists s g aws done vs → Mid s g aws done
   has-failed : (e : Error) → Fails s g aws done e → Mid s g aws done

@@ -1,7 +1,7 @@
 -- What one value does to the open word and the places of its gather (`fill-from`): an open place that names the source is closed and has
 -- the value; every other place stays, open or not.
 use mathlib.Core.Path.{_≡_, refl, sym, ap, _∙_}
-use mathlib.Core.Bool.{Bool, true, false, not, _&&_, true≢false}
+use mathlib.Core.Bool.{Bool, true, false, _&&_}
 use mathlib.Core.List.{List}
 use Prim.Native.Nat.{ℕ, zero, suc, _+_, _-_, _^_, _≤_, _<_}
 use native.Mathlib.Nat.{not-suc-le-zero}
@@ -12,7 +12,6 @@ use lib.ListN.{length}
 use Rattle.asyncio.specs.declared.Value.{Value}
 use Rattle.asyncio.specs.declared.OptionValue.{OptionValue}
 use Rattle.asyncio.specs.declared.Place.{Place}
-use Rattle.asyncio.specs.declared.HeapId.{HeapId}
 use Rattle.asyncio.specs.States.{pick}
 use Rattle.asyncio.specs.Ranges.{ValueFits}
 use Rattle.asyncio.specs.Limits.{places-length, place-limit}

@@ -1,3 +1,5 @@
 pub mod ClearLaws
 pub mod FillLaws
+pub mod GatherLaws
 pub mod Asyncio
+pub mod AsyncioLaws
