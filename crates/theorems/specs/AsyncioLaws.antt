@@ -51,7 +51,7 @@ item-in s (suc n) p (suc i) l =
     (ap (λ (j : ℕ). is-in (item-at s j) (items-from s (p + 1) n)) (sym q) ∙ item-in s n (p + 1) i (omega (arith, l)))
 
 -- places that name the same
-same-items : (s u : Store) (n p : ℕ) → ((i : ℕ) → i < n → item-at u (p + i) ≡ item-at s (p + i)) → items-from u p n ≡ items-from s p n
+pub same-items : (s u : Store) (n p : ℕ) → ((i : ℕ) → i < n → item-at u (p + i) ≡ item-at s (p + i)) → items-from u p n ≡ items-from s p n
 unfolding items-from
 same-items s u zero p h = refl
 same-items s u (suc n) p h =

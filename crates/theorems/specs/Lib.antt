@@ -3,3 +3,5 @@ pub mod FillLaws
 pub mod GatherLaws
 pub mod Asyncio
 pub mod AsyncioLaws
+pub mod Meanwhile
+pub mod MeanwhileLaws
