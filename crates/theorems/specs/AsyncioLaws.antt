@@ -77,7 +77,7 @@ lists-values s xs (suc n) p h =
 
 -- ---- what is seen of a gather in the midst of its arrivals
 
-awaited-seen : (s : Store) (g : ℕ) (w : AwaitedGather) → as-awaited (object s g) ≡ some w → gathered s g ≡ waiting
+pub awaited-seen : (s : Store) (g : ℕ) (w : AwaitedGather) → as-awaited (object s g) ≡ some w → gathered s g ≡ waiting
 unfolding gathered seen-of
 awaited-seen s g w e = rw (awaited-object (object s g) w e)
 
@@ -96,7 +96,7 @@ mid-gathers s g aws done (has-failed e h) = h .propagates ∙ sym (gather-raises
 
 -- ---- an arrival at a gather that is settled
 
-settled-stays : (s : Store) (g a : ℕ) (o : Outcome Value Error) → as-awaited (object s g) ≡ none → arrive-by s g a o ≡ s
+pub settled-stays : (s : Store) (g a : ℕ) (o : Outcome Value Error) → as-awaited (object s g) ≡ none → arrive-by s g a o ≡ s
 unfolding arrive-by resolve-child resolve-awaited fail-gather fail-awaited
 settled-stays s g a (returned v) e = ap (λ (y : Option AwaitedGather). resolve-awaited s g a v y .store) e
 settled-stays s g a (raised x) e = ap (λ (y : Option AwaitedGather). fail-awaited s g x y .store) e
@@ -114,7 +114,7 @@ none-left s g aws done x vs h a = listed-waiting (sym (in-order-waits done aws (
 
 -- ---- an exception arrives at an awaited gather
 
-failed-object : (s : Store) (g : ℕ) (w : AwaitedGather) (e : Error) → Sized s → g < object-limit → as-awaited (object s g) ≡ some w → ErrorFits e
+pub failed-object : (s : Store) (g : ℕ) (w : AwaitedGather) (e : Error) → Sized s → g < object-limit → as-awaited (object s g) ≡ some w → ErrorFits e
     → object (fail-gather s g e .store) g ≡ Object.GatherFuture (w .first) (w .count) (GatherState.Failed e)
 unfolding fail-gather fail-awaited
 failed-object s g w e z l q f = rw q (object-put-object s g (Object.GatherFuture (w .first) (w .count) (GatherState.Failed e)) z l (awaited-fits s g w q .0, f))
@@ -131,6 +131,22 @@ raised-arrives s g aws done w x e z l h a o f =
     })
 
 -- ---- a value arrives at an awaited gather
+
+-- the places that it fills do not hinder the gather from being written
+pub put-back : (s : Store) (g : ℕ) (w : AwaitedGather) (source : ℕ) (v : Value) (r : Object) → Sized s → g < object-limit → ObjectFits r
+    → object (put-object (put-places s (fill-from (s .places) (w .open-places) (w .first) source v 0 (w .count) .places)) g r) g ≡ r
+put-back s g w source v r z l f =
+    let ps : List ℕ = fill-from (s .places) (w .open-places) (w .first) source v 0 (w .count) .places in
+    object-put-object (put-places s ps) g r
+    (sized-put-places s ps (length-fill-from (w .count) (s .places) (w .open-places) (w .first) source v 0 ∙ z .places-sized) z) l f
+
+-- its open word stays in range
+pub open-fits : (s : Store) (g : ℕ) (w : AwaitedGather) (source : ℕ) (v : Value) → as-awaited (object s g) ≡ some w
+    → ObjectFits (Object.GatherFuture (w .first) (w .count)
+    (GatherState.Awaited (w .awaiter) (fill-from (s .places) (w .open-places) (w .first) source v 0 (w .count) .open-places)))
+open-fits s g w source v e =
+    let f = awaited-fits s g w e in
+    (f .0, (f .1 .0, omega (arith, fill-less (w .count) (s .places) (w .open-places) (w .first) source v 0, f .1 .1)))
 
 module _ (s : Store) (g : ℕ) (aws : List ℕ) (done : List Done) (w : AwaitedGather) (x : Done) (v : Value) (z : Sized s) (l : g < object-limit)
     (h : Waits s g aws done w) (a : Arrives aws done x) (o : x .outcome ≡ returned v) (fv : ValueFits v) where
@@ -218,18 +234,13 @@ module _ (s : Store) (g : ℕ) (aws : List ℕ) (done : List Done) (w : AwaitedG
   unfolding place put-object put-places
   put-places-now r p = refl
 
-  put-object-now : (r : Object) → ObjectFits r → object (put-now r) g ≡ r
-  put-object-now r f =
-      object-put-object (put-places s (now .places)) g r
-      (sized-put-places s (now .places) (length-fill-from (w .count) (s .places) (w .open-places) (w .first) (x .awaitable) v 0 ∙ z .places-sized) z) l f
-
   -- it is completed
   completes : now .open-places ≡ 0 → Mid (put-now (Object.GatherFuture (w .first) (w .count) GatherState.Completed)) g aws after
   unfolding gathered seen-of as-awaited
   completes e =
       let r : Object = Object.GatherFuture (w .first) (w .count) GatherState.Completed in
       let u : Store = put-now r in
-      let q : object u g ≡ r = put-object-now r (awaited-fits s g w (h .awaited) .0, tt) in
+      let q : object u g ≡ r = put-back s g w (x .awaitable) v r z l (awaited-fits s g w (h .awaited) .0, tt) in
       has-listed (values-from u (w .first) (w .count)) (record {
         settled = ap as-awaited q;
         has-values = ap (seen-of u) q;
@@ -245,8 +256,7 @@ module _ (s : Store) (g : ℕ) (aws : List ℕ) (done : List Done) (w : AwaitedG
       let r : Object = Object.GatherFuture (w .first) (w .count) (GatherState.Awaited (w .awaiter) (now .open-places)) in
       let u : Store = put-now r in
       let less : now .open-places ≤ w .open-places = fill-less (w .count) (s .places) (w .open-places) (w .first) (x .awaitable) v 0 in
-      let f = awaited-fits s g w (h .awaited) in
-      let q : object u g ≡ r = put-object-now r (f .0, (f .1 .0, omega (arith, less, f .1 .1))) in
+      let q : object u g ≡ r = put-back s g w (x .awaitable) v r z l (open-fits s g w (x .awaitable) v (h .awaited)) in
       still-waits (record { first = w .first; count = w .count; awaiter = w .awaiter; open-places = now .open-places }) (record {
         awaited = ap as-awaited q;
         items = now-items u (put-places-now r);

@@ -5,3 +5,5 @@ pub mod Asyncio
 pub mod AsyncioLaws
 pub mod Meanwhile
 pub mod MeanwhileLaws
+pub mod Awaiting
+pub mod AwaitingLaws
