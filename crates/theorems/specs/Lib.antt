@@ -7,3 +7,4 @@ pub mod Meanwhile
 pub mod MeanwhileLaws
 pub mod Awaiting
 pub mod AwaitingLaws
+pub mod AsyncioCases
