@@ -254,17 +254,19 @@ task-is-given-from s g t aws done (x ∷ xs) z l h m a =
     (mid-same (arrive s g x) (deliver s g x) g (d .same) aws (done ++ (x ∷ [])) (arrives s g aws done x z l m (a .0))) (a .1)
     ∙ ap (gather aws) (append-assoc done (x ∷ []) xs)
 
+-- an awaited gather serves its blocked awaiter
+pub serves-first : (s : Store) (g : ℕ) (t : TaskId) (w : AwaitedGather) → as-awaited (object s g) ≡ some w → w .awaiter ≡ Awaiter.Task t
+    → is-blocked (task s (t .0) .state) ≡ true → Serves s g t
+serves-first s g t w e wa b = record {
+  waits = λ r q. (ap (λ (y : AwaitedGather). y .awaiter) (Option·some-injective r w (sym q ∙ e)) ∙ wa, b);
+  gives = λ q. absurd-some (sym q ∙ e);
+}
+
 -- The task that awaits a gather of which no place is filled, after deliveries to the gather, once from each awaitable.
 pub task-is-given : (s : Store) (g : ℕ) (t : TaskId) (w : AwaitedGather) (xs : List Done) → Sized s → g < object-limit → as-awaited (object s g) ≡ some w → AllOpen w
     → w .awaiter ≡ Awaiter.Task t → is-blocked (task s (t .0) .state) ≡ true → ArriveOnce (items-of s g) [] xs
     → given (deliver-all s g xs) (t .0) ≡ gather (items-of s g) xs
-task-is-given s g t w xs z l e h wa b a =
-    task-is-given-from s g t (items-of s g) [] xs z l
-    (record {
-      waits = λ r q. (ap (λ (y : AwaitedGather). y .awaiter) (Option·some-injective r w (sym q ∙ e)) ∙ wa, b);
-      gives = λ q. absurd-some (sym q ∙ e);
-    })
-    (begins s g w e h) a
+task-is-given s g t w xs z l e h wa b a = task-is-given-from s g t (items-of s g) [] xs z l (serves-first s g t w e wa b) (begins s g w e h) a
 
 deliver-same : (s : Store) (g : ℕ) (x : Done) → Sized s → g < object-limit → x .awaitable < object-limit → SameLive s (deliver s g x)
 unfolding deliver deliver-by

@@ -23,7 +23,7 @@ is-new aws seen a = is-in a aws && not (is-in a seen)
 module _ {A X : Type 0} where
   -- ---- what an awaitable came to
 
-  outcome-step : (x : Arrival A X) (xs : List (Arrival A X)) (a : ℕ)
+  pub outcome-step : (x : Arrival A X) (xs : List (Arrival A X)) (a : ℕ)
       → outcome-of (x ∷ xs) a ≡ pick (eqb (x .awaitable) a) (some (x .outcome)) (outcome-of xs a)
   unfolding outcome-of
   outcome-step x xs a = by (eqb (x .awaitable) a)
@@ -96,6 +96,13 @@ module _ {A X : Type 0} where
   look-returned : (b : Bool) (v : A) → look b (returned v) none none ≡ none
   look-returned true v = refl
   look-returned false v = refl
+
+  -- a value in front raises nothing
+  pub none-raised-in-front : (aws seen : List ℕ) (x : Arrival A X) (xs : List (Arrival A X)) (v : A) → x .outcome ≡ returned v
+      → first-raised aws (x .awaitable ∷ seen) xs ≡ none → first-raised aws seen xs ≡ none → first-raised aws seen (x ∷ xs) ≡ none
+  none-raised-in-front aws seen x xs v o p q =
+      raised-step aws seen x xs
+      ∙ rw (p, q, o) (look-returned (is-new aws seen (x .awaitable)) v)
 
   -- a value raises nothing
   pub none-raised-yet : (aws seen : List ℕ) (xs : List (Arrival A X)) (y : Arrival A X) (v : A) → y .outcome ≡ returned v

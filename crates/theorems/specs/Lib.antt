@@ -7,4 +7,6 @@ pub mod Meanwhile
 pub mod MeanwhileLaws
 pub mod Awaiting
 pub mod AwaitingLaws
+pub mod Begun
+pub mod BegunLaws
 pub mod AsyncioCases
