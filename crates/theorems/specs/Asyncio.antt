@@ -94,8 +94,7 @@ OutcomeFits (returned v) = ValueFits v
 OutcomeFits (raised e) = ErrorFits e
 
 -- An arrival, after those of `done`: it is of one of the awaitables aws, of one that was not done before, and its outcome is in range.
--- (On a sound store this is the clause on slot awaiters: the source is an item of the gather, and open while the gather is awaited; it is
--- its holder's own object, which is done once.)
+-- (On a sound store this is the clause on slot awaiters, "if still awaited, has that source open": PremiseLaws.)
 pub record Arrives (aws : List ℕ) (done : List Done) (x : Done) : Type 0 where
   pub named : is-in (x .awaitable) aws ≡ true
   pub first-time : outcome-of done (x .awaitable) ≡ none

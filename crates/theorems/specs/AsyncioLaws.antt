@@ -41,7 +41,7 @@ or-right true b e = refl
 or-right false b e = e
 
 -- what a place names is one of the items
-item-in : (s : Store) (n p i : ℕ) → i < n → is-in (item-at s (p + i)) (items-from s p n) ≡ true
+pub item-in : (s : Store) (n p i : ℕ) → i < n → is-in (item-at s (p + i)) (items-from s p n) ≡ true
 unfolding items-from is-in
 item-in s zero p i l = absurd (not-suc-le-zero l)
 item-in s (suc n) p zero l = rw (add-zero p, eq-eqb (item-at s p) (item-at s p) refl)

@@ -58,7 +58,7 @@ deliver-all s g (x ∷ xs) = deliver-all (deliver s g x) g xs
 -- ---- the premises
 
 -- Gather g serves task t: while the gather is awaited, t is its awaiter and is blocked; once it is settled, t has been given what is seen of it.
--- (On a sound store, "a live awaiter task is blocked there".)
+-- (On a sound store this is the clause "a live awaiter task is blocked there": PremiseLaws.)
 pub record Serves (s : Store) (g : ℕ) (t : TaskId) : Type 0 where
   pub waits : (w : AwaitedGather) → as-awaited (object s g) ≡ some w → (w .awaiter ≡ Awaiter.Task t) × (is-blocked (task s (t .0) .state) ≡ true)
   pub gives : as-awaited (object s g) ≡ none → given s (t .0) ≡ gathered s g

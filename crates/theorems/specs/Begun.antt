@@ -27,8 +27,8 @@ done-from s f m i (suc k) = pick (bit m i) (done-from s f m (i + 1) k) (filled-a
 unfoldable pub done-before : Store → AwaitedGather → List Done
 done-before s w = done-from s (w .first) (w .open-places) 0 (w .count)
 
--- A place is open and no bit stands behind the places (a clause of soundness); two places that name the same item are both open, or have
--- the same value (so the commit leaves them: an item that is done is done for each of its places).
+-- A place is open, and no bit stands behind the places: both are clauses of soundness (PremiseLaws). Two places that name the same item are
+-- both open, or both closed with the same value: this is no clause of soundness, and that a commit leaves it so is not proved.
 pub record SomeOpen (s : Store) (w : AwaitedGather) : Type 0 where
   pub some-open : w .open-places ≡ 0 → ⊥
   pub no-other : w .open-places < 2 ^ (w .count)

@@ -7,6 +7,7 @@ pub mod Meanwhile
 pub mod MeanwhileLaws
 pub mod Awaiting
 pub mod AwaitingLaws
+pub mod PremiseLaws
 pub mod Begun
 pub mod BegunLaws
 pub mod AsyncioCases
