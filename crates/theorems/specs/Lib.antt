@@ -1,0 +1,13 @@
+pub mod ClearLaws
+pub mod FillLaws
+pub mod GatherLaws
+pub mod Asyncio
+pub mod AsyncioLaws
+pub mod Meanwhile
+pub mod MeanwhileLaws
+pub mod Awaiting
+pub mod AwaitingLaws
+pub mod PremiseLaws
+pub mod Begun
+pub mod BegunLaws
+pub mod AsyncioCases
