@@ -1,1 +1,3 @@
+pub mod ReadyTasks
 pub mod PutObject
+pub mod PutTask
