@@ -1,3 +1,5 @@
 pub mod ReadyTasks
 pub mod PutObject
 pub mod PutTask
+pub mod Stores
+pub mod SpawnTask
