@@ -3,3 +3,4 @@ pub mod PutObject
 pub mod PutTask
 pub mod Stores
 pub mod SpawnTask
+pub mod Deliver

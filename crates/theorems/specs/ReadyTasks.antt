@@ -5,14 +5,16 @@ use mathlib.Core.List.{List, [], _∷_, _++_}
 use Prim.Native.Nat.{ℕ, zero, suc, _+_, _-_, _≤_, _<_}
 use native.Mathlib.Nat.{not-suc-le-zero}
 use native.Mathlib.Omega.{arith}
-use native.Mathlib.Decide.{ℕ-discrete}
+use native.Mathlib.Decide.{ℕ-discrete, decLt}
 use lib.Dec.{T, eqb, ltb→lt, lt→ltb, T-not, not-T, eqb-refl, eqb→eq}
 use lib.ListN.{length, getD}
 use borrow.Author.Tests.{eq-eqb, ne-eqb}
 use Rattle.asyncio.specs.declared.Task.{Task}
 use Rattle.asyncio.specs.States.{pick, is-ready}
-use Rattle.queue.specs.Queue.{occurrences, Distinct, without}
-use Rattle.queue.specs.QueueLaws.{occurrences-append, occurrences-without, distinct-append, distinct-without}
+use Rattle.asyncio.specs.Limits.{task-limit}
+use Rattle.queue.specs.declared.ReadyQueue.{ReadyQueue}
+use Rattle.queue.specs.Queue.{entries, push-back, remove, occurrences, Distinct, without}
+use Rattle.queue.specs.QueueLaws.{push-back-full, entries-push, entries-remove, occurrences-append, occurrences-without, distinct-append, distinct-without}
 use Rattle.machine.specs.Tests.{_and_}
 use Rattle.machine.specs.Sound.{entry-ready}
 use Rattle.laws.specs.Views.{update}
@@ -132,15 +134,16 @@ module _ {next : ℕ} {ts : ℕ → Task} {q : List ℕ} (t : ℕ) (r : Task) (h
   other : (u : ℕ) → occurrences q t ≡ 0 → 1 ≤ occurrences q u → u ≡ t → ⊥
   other u z l e = not-suc-le-zero {n = 0} (omega (arith, subst (λ (n : ℕ). 1 ≤ occurrences q n) e l))
 
-  -- the row of a task that does not stand there is written
-  pub queued-same : occurrences q t ≡ 0 → Queued next (update ts t r) q
-  queued-same z =
+  -- the row of a task that does not stand there is written; the next number may grow
+  pub queued-same : (n : ℕ) → next ≤ n → occurrences q t ≡ 0 → Queued n (update ts t r) q
+  queued-same n m z =
       record {
-        ready = λ u l. update-case ts t r (λ (y : Task). (u < next) × T (is-ready (y .state))) u (λ e. absurd (other u z l e)) (λ ne. h .ready u l);
+        ready = λ u l. update-case ts t r (λ (y : Task). (u < n) × T (is-ready (y .state))) u (λ e. absurd (other u z l e))
+            (λ ne. let y = h .ready u l in (omega (arith, y .0), y .1));
         distinct = h .distinct;
       }
 
-  -- a task with a new row comes to the back; the next number may grow
+  -- a task with a new row comes to the back
   pub queued-push : (n : ℕ) → next ≤ n → occurrences q t ≡ 0 → t < n → T (is-ready (r .state)) → Queued n (update ts t r) (q ++ (t ∷ []))
   queued-push n m z l k =
       record {
@@ -169,3 +172,18 @@ module _ {next : ℕ} {ts : ℕ → Task} {q : List ℕ} (t : ℕ) (r : Task) (h
           let z : eqb t u ≡ true = eq-eqb t u (sym e) in
           let k : occurrences (without q t) u ≡ occurrences q u - 1 = (rw z at (occurrences-without q t u)) in
           not-suc-le-zero {n = 0} (omega (arith, at-most-once q (h .distinct) u))
+
+-- ---- the queue of a store
+
+module _ (q : ReadyQueue) (ids : length (q .ids) ≡ task-limit) {next : ℕ} {ts : ℕ → Task} (t : ℕ) (r : Task) where
+  -- a full queue stays
+  pub queued-back : (n : ℕ) → next ≤ n → occurrences (entries q) t ≡ 0 → t < n → T (is-ready (r .state)) → Queued next ts (entries q)
+      → Queued n (update ts t r) (entries (push-back q t))
+  queued-back n m z l k h = by (decLt (q .len) task-limit)
+    where
+      by : Dec (q .len < task-limit) → Queued n (update ts t r) (entries (push-back q t))
+      by (yes y) = subst (Queued n (update ts t r)) (sym (entries-push q t ids y)) (queued-push t r h n m z l k)
+      by (no y) = subst (λ (p : ReadyQueue). Queued n (update ts t r) (entries p)) (sym (push-back-full q t (omega arith))) (queued-same t r h n m z)
+
+  pub queued-remove : q .len ≤ task-limit → Queued next ts (entries q) → Queued next (update ts t r) (entries (remove q t))
+  queued-remove l h = subst (Queued next (update ts t r)) (sym (entries-remove q t ids l)) (queued-off t r h)
