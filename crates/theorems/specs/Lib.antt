@@ -1,3 +1,4 @@
+pub mod Bits
 pub mod ReadyTasks
 pub mod PutObject
 pub mod PutTask
