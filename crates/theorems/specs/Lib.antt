@@ -5,3 +5,4 @@ pub mod PutTask
 pub mod Stores
 pub mod SpawnTask
 pub mod Deliver
+pub mod Fill
