@@ -192,3 +192,252 @@ module _ {r : ℕ → Bool} {D : ℕ → Type 0} {hd : Header} (s : Store) (g x 
 
   pub all-filled : Filling (after .places) (after .open-places)
   all-filled = fill-keeps (w .count) (s .places) (w .open-places) 0 (omega arith) begins
+
+-- ---- holders of slots
+
+-- no other holder has this object for its source
+abbrev pub Alone : View → ℕ → Type 0
+Alone v o = (g z : ℕ) → Held Nothing v g z → z ≡ o → ⊥
+
+settle-alone : (v : View) (o : ℕ) (x : Object) → Settles v o x → is-coroutine (kind x) ≡ false → SoundBut 0 Nothing Nothing v → Alone (with-object v o x) o
+unfolding with-object
+settle-alone v o x st c h g z (by-object y l n e) q =
+    nobody-slot (sym (ap awaiter-of (ap (update (v .objects) o x) q ∙ update-same (v .objects) o x) ∙ st .free) ∙ e)
+settle-alone v o x st c h g z (by-task t m l e) q =
+    let is-one : T (is-coroutine (kind (v .objects (v .tasks t .coroutine .0)))) =
+    slot-task (v .header) (v .objects) t (v .tasks t) (heap-id g) (heap-id (v .tasks t .coroutine .0)) e l (h .tasks t m) in
+    true≢false (sym (is-true _ (subst (λ (j : ℕ). T (is-coroutine (kind (v .objects j)))) q is-one)) ∙ (sym (st .coroutine) ∙ c))
+
+pub alone-keeps : {r : ℕ → Bool} {D : ℕ → Type 0} {hd : Header} (s : Store) (o : ℕ) (x : Object) → ObjectFits x → Settles (view s) o x → is-coroutine (kind x) ≡ false
+    → Mid Nothing r D hd s → Alone (view (put-object s o x)) o
+alone-keeps s o x f st c h =
+    subst (λ (v : View). Alone v o) (sym (view-put-object s o x (h .kept .sized) (omega (arith, st .made, h .kept .but .fits .made-fits)) f))
+    (settle-alone (view s) o x st c (h .kept .but))
+
+-- a gather's own slot is of another gather
+not-own-slot : {v : View} (g : ℕ) (w : AwaitedGather) → SoundBut 0 Nothing Nothing v → g < v .header .made → as-awaited (v .objects g) ≡ some w
+    → (f x : ℕ) → Slotted (v .header .made) (v .objects) (v .places) g f x → f ≡ g → ⊥
+not-own-slot {v} g w h l e f x sl q =
+    let op : Open (v .places) w g = sl .opens w (ap (λ (m : ℕ). as-awaited (v .objects m)) q ∙ e) in
+    let up : g < g = open-lower g w g h l e op in
+    omega arith
+
+-- a holder's slot of another gather, when one object is written
+pub elsewhere : (n : ℕ) (os : ℕ → Object) (ps : ℕ → Place) (o : ℕ) (x : Object) (z g y : ℕ) → (g ≡ o → ⊥) → Slotted n os ps z g y → Slotted n (update os o x) ps z g y
+elsewhere n os ps o x z g y d h =
+    record {
+      own = h .own;
+      made = h .made;
+      committed = subst (λ (r : Object). T (is-committed (kind r))) (sym (update-other os o x g d)) (h .committed);
+      opens = λ w e. h .opens w (ap as-awaited (sym (update-other os o x g d)) ∙ e);
+    }
+
+-- ---- the gather after the source's places are filled
+
+-- the gather with another open word
+abbrev pub awaits-on : AwaitedGather → ℕ → Object
+awaits-on w m = Object.GatherFuture (w .first) (w .count) (GatherState.Awaited (w .awaiter) m)
+
+-- an awaited gather with another open word: it is not 0, the rest is filled, and the holders' places are open
+mask-fits : (v : View) (g m : ℕ) (w : AwaitedGather) → SoundBut 0 Nothing Nothing v → g < v .header .made → as-awaited (v .objects g) ≡ some w
+    → m < 2 ^ (w .count) → T (not (eqb m 0)) → T (rest-filled (v .places) (w .first) (w .count) m)
+    → ((z : ℕ) → Held Nothing v g z → (i : ℕ) → bit (w .open-places) i ≡ true → v .places (w .first + i) .item .0 ≡ z → bit m i ≡ true)
+    → Fits 0 0 Nothing Nothing Nothing Nothing v g (awaits-on w m)
+unfolding count-of committed-places kind items-below object-filled gather-filled as-awaited as-pending object-in-range open-in-range object-values awaiter-of
+mask-fits v g m w h l e small some-open rest holders =
+    let q = awaited-object (v .objects g) w e in
+    record {
+      made = l;
+      count = sym (ap count-of q);
+      room = subst (λ (x : Object). committed-places x + 0 ≤ w .count + 0) (sym q) (omega arith);
+      coroutine = λ t. subst (λ (y : Object). T (is-coroutine (kind y))) q t;
+      completed = λ t. subst (λ (y : Object). T (is-completed (kind y))) q t;
+      committed = λ t. tt;
+      range = λ p t. both _ _ (both-left (eqb (w .first) p) _ (subst (λ (y : Object). T (object-in-range (v .header) p y)) q t)) (lt→ltb m (2 ^ (w .count)) small);
+      awaiter = λ t. subst (λ (a : Awaiter). T (awaiter-in-range (v .header) a)) (awaiter-is (v .objects g) w e) t;
+      lower = λ t. subst (λ (y : Object). T (items-below (v .places) g y)) q t;
+      known = λ t. tt;
+      call = λ a f. absurd-some f;
+      awaits = λ t z d b f. sym (awaiter-is (v .objects g) w e) ∙ f;
+      awaited = λ n t f. h .awaited g l n t (awaiter-is (v .objects g) w e ∙ f);
+      filled = λ n. both _ _ some-open rest;
+      slot = λ n f y a.
+          let sl : Slotted (v .header .made) (v .objects) (v .places) g f y = h .object-slots g l n f y (awaiter-is (v .objects g) w e ∙ a) in
+          elsewhere (v .header .made) (v .objects) (v .places) g (awaits-on w m) g f y (not-own-slot g w h l e f y sl) sl;
+      opens = λ u f z held sl.
+          let op : Open (v .places) w z = sl .opens w e in
+          let same : _≡_ {A = AwaitedGather} (record { first = w .first; count = w .count; awaiter = w .awaiter; open-places = m }) u = Option·some-injective _ u f in
+          subst (λ (x : AwaitedGather). Open (v .places) x z) same
+          (record { at = op .at; under = op .under; is-open = holders z held (op .at) (op .is-open) (op .names); names = op .names });
+      excepted = λ t b z d e. inl (λ z. z);
+      in-commit = λ p d n z. z;
+    }
+
+pub completed-done : (ps : ℕ → Place) (f n : ℕ) → T (rest-filled ps f n 0) → Done ps f n GatherState.Completed
+unfolding kind gather-filled awaiter-of as-awaited open-in-range
+completed-done ps f n h = record { committed = refl; plain = refl; filled = h; free = refl; settled = refl; range = tt }
+
+woken-resumes : (v : Value) → Resumes (TaskState.Woken v)
+unfolding blocked-on
+woken-resumes v = record { lives = tt; unblocked = refl; stands = refl; old = refl; ready = tt }
+
+held-places : (s : Store) (ps : List ℕ) (g z : ℕ) → Held Nothing (view (put-places s ps)) g z → Held Nothing (view s) g z
+unfolding view put-places task object header
+held-places s ps g z (by-object y l n e) = by-object y l n e
+held-places s ps g z (by-task t m l e) = by-task t m l e
+
+module _ {r : ℕ → Bool} {D : ℕ → Type 0} {hd : Header} (s : Store) (g x : ℕ) (v : Value) (w : AwaitedGather) (h : Mid Nothing r D hd s)
+    (l : g < header s .made) (e : as-awaited (object s g) ≡ some w) (k : T (value-known (header s .made) (object s) v)) where
+  mask : ℕ
+  mask = after s g x v w h l e k .open-places
+
+  middle : Store
+  middle = put-places s (after s g x v w h l e k .places)
+
+  fills : Filling s g x v w h l e k (after s g x v w h l e k .places) mask
+  unfolding mask
+  fills = all-filled s g x v w h l e k
+
+  full : Object
+  full = Object.GatherFuture (w .first) (w .count) GatherState.Completed
+
+  same-header : header middle ≡ header s
+  unfolding middle header put-places
+  same-header = refl
+
+  same-object : (o : ℕ) → object middle o ≡ object s o
+  unfolding middle object put-places
+  same-object o = refl
+
+  mid : Mid Nothing r D hd middle
+  unfolding middle
+  mid = fills .mid
+
+  made : g < header middle .made
+  made = subst (λ (y : Header). g < y .made) (sym same-header) l
+
+  awaited : as-awaited (object middle g) ≡ some w
+  awaited = ap as-awaited (same-object g) ∙ e
+
+  rest : T (rest-filled (place middle) (w .first) (w .count) mask)
+  unfolding middle place put-places
+  rest = fills .rest
+
+  full-fits : ObjectFits full
+  unfolding full
+  full-fits = (awaited-fits s g w e .0, tt)
+
+  -- it is completed
+  all-settles : mask ≡ 0 → Settles (view middle) g full
+  unfolding view full
+  all-settles q =
+      gather-settles (view middle) g w GatherState.Completed made awaited
+      (completed-done (place middle) (w .first) (w .count) (subst (λ (m : ℕ). T (rest-filled (place middle) (w .first) (w .count) m)) q rest))
+
+  -- and its list may be handed on
+  list-known : T (value-known (header (put-object middle g full) .made) (object (put-object middle g full)) (Value.List (heap-id g)))
+  unfolding value-known view
+  list-known =
+      both _ _ (lt→ltb g _ (subst (λ (y : Header). g < y .made) (sym (header-put-object middle g full)) made))
+      (subst (λ (y : Object). T (is-completed (kind y)))
+      (sym (object-put-object middle g full (mid .kept .sized) (omega (arith, made, mid .kept .but .fits .made-fits)) full-fits)) (unfold full kind in tt))
+
+  -- it waits on
+  waits-keeps : (mask ≡ 0 → ⊥) → ((z : ℕ) → Held Nothing (view s) g z → z ≡ x → ⊥) → Mid Nothing r D hd (put-object middle g (awaits-on w mask))
+  unfolding view
+  waits-keeps some-open alone =
+      object-mid middle mid g (awaits-on w mask) (old-fits .0, (old-fits .1 .0, omega (arith, fills .less, old-fits .1 .1)))
+      (mask-fits (view middle) g mask w (mid .kept .but) made awaited small (holds _ (ap not (ne-eqb mask 0 some-open))) rest
+      (λ z t i b n. fills .kept i b (λ y. alone z (unfold middle in (held-places s (after s g x v w h l e k .places) g z t)) (sym n ∙ (item-same (w .first + i) ∙ y)))))
+    where
+      old-fits : ObjectFits (awaits-on w (w .open-places))
+      old-fits = awaited-fits s g w e
+
+      small : mask < 2 ^ (w .count)
+      small = omega (arith, fills .less, open-small g w (h .kept .but) l e)
+
+      item-same : (p : ℕ) → place middle p .item .0 ≡ place s p .item .0
+      item-same p = unfold middle place put-places in (ap (λ (y : HeapId). y .0) (fills .item p))
+
+  -- what the gather's settling is
+  resolved : eqb mask 0 ≡ true → resolve-child s g x v ≡ record { store = put-object middle g full; onward = some (w .awaiter) }
+  unfolding resolve-child mask middle full resolve-awaited resolve-left
+  resolved q = rw (e, q)
+
+  resolved-on : eqb mask 0 ≡ false → resolve-child s g x v ≡ record { store = put-object middle g (awaits-on w mask); onward = none }
+  unfolding resolve-child mask middle resolve-awaited resolve-left
+  resolved-on q = rw (e, q)
+
+-- ---- a value climbs through each gather that it completes
+
+ends-here : (s : Store) (g x : ℕ) (v : Value) (u : Store) → resolve-child s g x v ≡ record { store = u; onward = none }
+    → deliver-awaiter-success s (Awaiter.GatherSlot (heap-id g) (heap-id x)) v .store ≡ u
+unfolding deliver-awaiter-success send-value climb nobody-woken
+ends-here s g x v u e = rw e
+
+module _ (r : ℕ → Bool) (D : ℕ → Type 0) (hd : Header) where
+  success-slot : (n : ℕ) (s : Store) (o g x : ℕ) (v : Value) → T (value-known (header s .made) (object s) v) → object-limit ≤ suc n + o
+      → Flight (view s) o (Awaiter.GatherSlot (heap-id g) (heap-id x)) → Alone (view s) o → Mid Nothing r D hd s
+      → ((s : Store) (o : ℕ) (a : Awaiter) (v : Value) → T (value-known (header s .made) (object s) v) → object-limit ≤ n + o → Flight (view s) o a → Alone (view s) o
+      → Mid (InFlight a) r D hd s → Mid Nothing r D hd (deliver-awaiter-success s a v .store))
+      → Mid Nothing r D hd (deliver-awaiter-success s (Awaiter.GatherSlot (heap-id g) (heap-id x)) v .store)
+  unfolding view
+  success-slot n s o g x v k f fl al h go = by (as-awaited (object s g)) refl
+    where
+      sl : Slotted (header s .made) (object s) (place s) o g x
+      sl = fl .slot g x refl
+
+      low : g < object-limit
+      low = omega (arith, sl .made, h .kept .but .fits .made-fits)
+
+      by : (w : Option AwaitedGather) → as-awaited (object s g) ≡ w → Mid Nothing r D hd (deliver-awaiter-success s (Awaiter.GatherSlot (heap-id g) (heap-id x)) v .store)
+      by none q = unfold deliver-awaiter-success send-value resolve-child in (rw q (unfold resolve-awaited climb nobody-woken in h))
+      by (some w) q = left (eqb (mask s g x v w h (sl .made) q k) 0) refl
+        where
+          mk : ℕ
+          mk = mask s g x v w h (sl .made) q k
+
+          md : Store
+          md = middle s g x v w h (sl .made) q k
+
+          fu : Object
+          fu = full s g x v w h (sl .made) q k
+
+          up : o < g
+          up = open-lower g w o (h .kept .but) (sl .made) q (sl .opens w q)
+
+          aw : awaiter-of (object md g) ≡ w .awaiter
+          aw = awaiter-is (object md g) w (awaited s g x v w h (sl .made) q k)
+
+          left : (b : Bool) → eqb mk 0 ≡ b → Mid Nothing r D hd (deliver-awaiter-success s (Awaiter.GatherSlot (heap-id g) (heap-id x)) v .store)
+          left true z =
+              let st : Settles (view md) g fu = all-settles s g x v w h (sl .made) q k (eqb-true mk 0 z) in
+              let fit : ObjectFits fu = full-fits s g x v w h (sl .made) q k in
+              let keep : Mid Nothing r D hd md = mid s g x v w h (sl .made) q k in
+              let there : Mid Nothing r D hd (deliver-awaiter-success (put-object md g fu) (w .awaiter) (Value.List (heap-id g)) .store) =
+              go (put-object md g fu) g (w .awaiter) (Value.List (heap-id g)) (list-known s g x v w h (sl .made) q k) (omega (arith, up))
+              (subst (λ (a : Awaiter). Flight (view (put-object md g fu)) g a) aw (flight-keeps md g fu fit st keep))
+              (alone-keeps md g fu fit st (unfold full kind in refl) keep)
+              (subst (λ (a : Awaiter). Mid (InFlight a) r D hd (put-object md g fu)) aw (settle-keeps md g fu fit st keep)) in
+              let same : resolve-child s g x v ≡ record { store = put-object md g fu; onward = some (w .awaiter) } =
+              resolved s g x v w h (sl .made) q k z in
+              rw (success-climbs s (heap-id g) (heap-id x) v (w .awaiter) (h .kept .sized) low (rw same refl), same) there
+          left false z =
+              let same : resolve-child s g x v ≡ record { store = put-object md g (awaits-on w mk); onward = none } =
+              resolved-on s g x v w h (sl .made) q k z in
+              subst (Mid Nothing r D hd) (sym (ends-here s g x v _ same)) (waits-keeps s g x v w h (sl .made) q k (eqb-false mk 0 z) (λ y t p. al g y t (p ∙ sl .own)))
+
+  success-climb : (n : ℕ) (s : Store) (o : ℕ) (a : Awaiter) (v : Value) → T (value-known (header s .made) (object s) v) → object-limit ≤ n + o → Flight (view s) o a
+      → Alone (view s) o → Mid (InFlight a) r D hd s → Mid Nothing r D hd (deliver-awaiter-success s a v .store)
+  unfolding view
+  success-climb zero s o a v k f fl al h = absurd (not-suc-le-zero {n = 0} (omega (arith, f, fl .made, h .kept .but .fits .made-fits)))
+  success-climb (suc n) s o Awaiter.Nobody v k f fl al h = unfold deliver-awaiter-success send-value nobody-woken in (landed s (λ u z. nobody-task z) h)
+  success-climb (suc n) s o (Awaiter.Task t) v k f fl al h = unfold deliver-awaiter-success send-value in
+      (reach-keeps s (t .0) o (TaskState.Woken v) (woken-resumes v) (value-fits (header s .made) (object s) v (h .kept .but .fits .made-fits) k) (unfold state-values in k) fl h)
+  success-climb (suc n) s o (Awaiter.GatherSlot g x) v k f fl al h =
+      success-slot n s o (g .0) (x .0) v k f fl al (landed s (λ u z. task-slot (sym z)) h) (λ y p b i j m c d z. success-climb n y p b i j m c d z)
+
+  -- A value of object o goes to its awaiter; no other holder has o for its source.
+  pub success-keeps : (s : Store) (o : ℕ) (a : Awaiter) (v : Value) → T (value-known (header s .made) (object s) v) → Flight (view s) o a → Alone (view s) o
+      → Mid (InFlight a) r D hd s → Mid Nothing r D hd (deliver-awaiter-success s a v .store)
+  success-keeps s o a v k fl al h = success-climb object-limit s o a v k (omega arith) fl al h
