@@ -27,7 +27,7 @@ use Rattle.queue.specs.Queue.{entries, push-back}
 use Rattle.queue.specs.QueueLaws.{push-back-len, push-back-length}
 use Rattle.machine.specs.Store.{Store, View, view, task, object, place, header, put-task, put-object, put-queue, set-state, restate, note, reached}
 use Rattle.machine.specs.Scheduler.{AwaitedGather, as-awaited, as-pending, blocked-on, make-ready, push-ready}
-use Rattle.machine.specs.Delivery.{nobody-woken, deliver-to-task, fail-awaited, fail-gather, send-error, climb, deliver-awaiter-failure}
+use Rattle.machine.specs.Delivery.{Delivery, nobody-woken, deliver-to-task, fail-awaited, fail-gather, send-error, climb, deliver-awaiter-failure}
 use Rattle.machine.specs.Sound.{awaiter-in-range, open-in-range, object-in-range, is-slot, task-in-range, committed-places, items-below, object-values, state-values, object-filled, gather-filled}
 use Rattle.laws.specs.Views.{update, with-object}
 use Rattle.laws.specs.Facts.{Open, Slotted, SoundBut, Nothing}
@@ -39,6 +39,11 @@ use Rattle.theorems.specs.PutObject.{by-object, Fits, slotted}
 use Rattle.theorems.specs.PutTask.{with-task-queue, TaskWrite, but-keeps}
 use Rattle.theorems.specs.Stores.{Kept, Runs, Mid, object-mid, task-mid, note-mid}
 use Rattle.theorems.specs.SpawnTask.{awaiter-below}
+
+-- A delivery is at its end: nothing is in flight, and a task that it woke is below the next number.
+pub record Landed (r : ℕ → Bool) (D : ℕ → Type 0) (hd : Header) (d : Delivery) : Type 0 where
+  pub mid : Mid Nothing r D hd (d .store)
+  pub woken : (t : ℕ) → d .woken ≡ some t → t < hd .next
 
 -- ---- awaiters told apart
 
@@ -83,6 +88,10 @@ except-mid s f h =
 -- nothing is in flight but a task's wake
 pub landed : {a : Awaiter} {r : ℕ → Bool} {D : ℕ → Type 0} {hd : Header} (s : Store) → ((u : ℕ) → InFlight a u → ⊥) → Mid (InFlight a) r D hd s → Mid Nothing r D hd s
 landed s f h = except-mid s (λ t o l d e z. f t z) h
+
+pub nobody-lands : {r : ℕ → Bool} {D : ℕ → Type 0} {hd : Header} (s : Store) → Mid Nothing r D hd s → Landed r D hd (nobody-woken s)
+unfolding nobody-woken
+nobody-lands s h = record { mid = h; woken = λ t e. absurd-some e }
 
 -- nothing is excepted, so nothing in particular
 pub take-off : {r : ℕ → Bool} {D : ℕ → Type 0} {hd : Header} (s : Store) (a : Awaiter) → Mid Nothing r D hd s → Mid (InFlight a) r D hd s
@@ -242,14 +251,19 @@ module _ {r : ℕ → Bool} {D : ℕ → Type 0} {hd : Header} (s : Store) (t o 
         (push-back-length (s .queue) t ∙ h .kept .ids) wake-fits wake-runs
 
   -- The last step of a delivery, of a value or an error: the task in flight is woken if it is blocked.
-  pub reach-keeps : Mid Nothing r D hd (deliver-to-task s t x .store)
-  unfolding deliver-to-task nobody-woken make-ready push-ready set-state put-task
+  pub reach-keeps : Landed r D hd (deliver-to-task s t x)
+  unfolding deliver-to-task make-ready push-ready set-state put-task
   reach-keeps = by (is-blocked (task s t .state)) refl
     where
-      by : (c : Bool) → is-blocked (task s t .state) ≡ c → Mid Nothing r D hd (pick c (record { store = note (make-ready s t x) (reached t); woken = some t }) (nobody-woken s) .store)
-      by true e = let i = is-the-block (task s t .state) e in note-mid (put-queue (put-task s t row) (push-back (s .queue) t)) (woken (i .0) (i .1)) (reached t)
+      by : (c : Bool) → is-blocked (task s t .state) ≡ c → Landed r D hd (pick c (record { store = note (make-ready s t x) (reached t); woken = some t }) (nobody-woken s))
+      by true e =
+          let i = is-the-block (task s t .state) e in
+          record {
+            mid = note-mid (put-queue (put-task s t row) (push-back (s .queue) t)) (woken (i .0) (i .1)) (reached t);
+            woken = λ u q. subst (λ (j : ℕ). j < hd .next) (Option·some-injective t u q) (subst (λ (y : Header). t < y .next) (h .head) low);
+          }
       by false e =
-          except-mid s (λ u p l d z q. absurd-some (sym (not-blocked (task s t .state) e) ∙ (ap (λ (m : ℕ). blocked-on (task s m .state)) (task-same q) ∙ z))) h
+          nobody-lands s (except-mid s (λ u p l d z q. absurd-some (sym (not-blocked (task s t .state) e) ∙ (ap (λ (m : ℕ). blocked-on (task s m .state)) (task-same q) ∙ z))) h)
 
 -- ---- gathers that settle
 
@@ -307,8 +321,8 @@ raised-resumes e = record { lives = tt; unblocked = refl; stands = refl; old = r
 
 module _ (r : ℕ → Bool) (D : ℕ → Type 0) (hd : Header) (e : Error) (k : ErrorFits e) where
   failure-slot : (n : ℕ) (s : Store) (o g x : ℕ) → object-limit ≤ suc n + o → Flight (view s) o (Awaiter.GatherSlot (heap-id g) (heap-id x)) → Mid Nothing r D hd s
-      → ((s : Store) (o : ℕ) (a : Awaiter) → object-limit ≤ n + o → Flight (view s) o a → Mid (InFlight a) r D hd s → Mid Nothing r D hd (deliver-awaiter-failure s a e .store))
-      → Mid Nothing r D hd (deliver-awaiter-failure s (Awaiter.GatherSlot (heap-id g) (heap-id x)) e .store)
+      → ((s : Store) (o : ℕ) (a : Awaiter) → object-limit ≤ n + o → Flight (view s) o a → Mid (InFlight a) r D hd s → Landed r D hd (deliver-awaiter-failure s a e))
+      → Landed r D hd (deliver-awaiter-failure s (Awaiter.GatherSlot (heap-id g) (heap-id x)) e)
   unfolding view
   failure-slot n s o g x f fl h go = by (as-awaited (object s g)) refl
     where
@@ -318,15 +332,15 @@ module _ (r : ℕ → Bool) (D : ℕ → Type 0) (hd : Header) (e : Error) (k : 
       low : g < object-limit
       low = omega (arith, sl .made, h .kept .but .fits .made-fits)
 
-      by : (w : Option AwaitedGather) → as-awaited (object s g) ≡ w → Mid Nothing r D hd (deliver-awaiter-failure s (Awaiter.GatherSlot (heap-id g) (heap-id x)) e .store)
-      by none q = unfold deliver-awaiter-failure send-error fail-gather in (rw q (unfold fail-awaited climb nobody-woken in h))
+      by : (w : Option AwaitedGather) → as-awaited (object s g) ≡ w → Landed r D hd (deliver-awaiter-failure s (Awaiter.GatherSlot (heap-id g) (heap-id x)) e)
+      by none q = unfold deliver-awaiter-failure send-error fail-gather in (rw q (unfold fail-awaited climb in (nobody-lands s h)))
       by (some w) q =
           let y : Object = Object.GatherFuture (w .first) (w .count) (GatherState.Failed e) in
           let up : o < g = open-lower g w o (h .kept .but) (sl .made) q (sl .opens w q) in
           let st : Settles (view s) g y = gather-settles (view s) g w (GatherState.Failed e) (sl .made) q (failed-done (place s) (w .first) (w .count) e) in
           let aw : awaiter-of (object s g) ≡ w .awaiter = awaiter-is (object s g) w q in
           let fit : ObjectFits y = (awaited-fits s g w q .0, k) in
-          let there : Mid Nothing r D hd (deliver-awaiter-failure (put-object s g y) (w .awaiter) e .store) =
+          let there : Landed r D hd (deliver-awaiter-failure (put-object s g y) (w .awaiter) e) =
           go (put-object s g y) g (w .awaiter) (omega arith) (subst (λ (a : Awaiter). Flight (view (put-object s g y)) g a) aw (flight-keeps s g y fit st h))
           (subst (λ (a : Awaiter). Mid (InFlight a) r D hd (put-object s g y)) aw (settle-keeps s g y fit st h)) in
           let same : fail-gather s g e ≡ record { store = put-object s g y; onward = some (w .awaiter) } = unfold fail-gather in (rw q (unfold fail-awaited in refl)) in
@@ -334,15 +348,15 @@ module _ (r : ℕ → Bool) (D : ℕ → Type 0) (hd : Header) (e : Error) (k : 
 
   -- fuel is no matter: see failure-climbs
   failure-climb : (n : ℕ) (s : Store) (o : ℕ) (a : Awaiter) → object-limit ≤ n + o → Flight (view s) o a → Mid (InFlight a) r D hd s
-      → Mid Nothing r D hd (deliver-awaiter-failure s a e .store)
+      → Landed r D hd (deliver-awaiter-failure s a e)
   unfolding view
   failure-climb zero s o a f fl h = absurd (not-suc-le-zero {n = 0} (omega (arith, f, fl .made, h .kept .but .fits .made-fits)))
-  failure-climb (suc n) s o Awaiter.Nobody f fl h = unfold deliver-awaiter-failure send-error nobody-woken in (landed s (λ u z. nobody-task z) h)
+  failure-climb (suc n) s o Awaiter.Nobody f fl h = unfold deliver-awaiter-failure send-error in (nobody-lands s (landed s (λ u z. nobody-task z) h))
   failure-climb (suc n) s o (Awaiter.Task t) f fl h = unfold deliver-awaiter-failure send-error in
       (reach-keeps s (t .0) o (TaskState.Raised e) (raised-resumes e) k (unfold state-values in tt) fl h)
   failure-climb (suc n) s o (Awaiter.GatherSlot g x) f fl h =
       failure-slot n s o (g .0) (x .0) f fl (landed s (λ u z. task-slot (sym z)) h) (λ y p b i j m. failure-climb n y p b i j m)
 
   -- A failure of object o goes to its awaiter.
-  pub failure-keeps : (s : Store) (o : ℕ) (a : Awaiter) → Flight (view s) o a → Mid (InFlight a) r D hd s → Mid Nothing r D hd (deliver-awaiter-failure s a e .store)
+  pub failure-keeps : (s : Store) (o : ℕ) (a : Awaiter) → Flight (view s) o a → Mid (InFlight a) r D hd s → Landed r D hd (deliver-awaiter-failure s a e)
   failure-keeps s o a fl h = failure-climb object-limit s o a (omega arith) fl h

@@ -43,7 +43,7 @@ use Rattle.theorems.specs.Bits.{bit-clear}
 use Rattle.theorems.specs.PutObject.{Held, by-object, by-task, Fits}
 use Rattle.theorems.specs.PutTask.{PlacesWrite}
 use Rattle.theorems.specs.Stores.{Kept, Mid, object-mid, place-mid}
-use Rattle.theorems.specs.Deliver.{nobody-task, nobody-slot, task-slot, InFlight, Flight, landed, Settles, settle-keeps, flight-keeps, Resumes, reach-keeps, awaiter-is, Done, gather-settles, open-lower}
+use Rattle.theorems.specs.Deliver.{nobody-task, nobody-slot, task-slot, Landed, InFlight, Flight, landed, nobody-lands, Settles, settle-keeps, flight-keeps, Resumes, reach-keeps, awaiter-is, Done, gather-settles, open-lower}
 
 -- ---- what an awaited gather's row says
 
@@ -371,7 +371,7 @@ module _ {r : ℕ → Bool} {D : ℕ → Type 0} {hd : Header} (s : Store) (g x 
 -- ---- a value climbs through each gather that it completes
 
 ends-here : (s : Store) (g x : ℕ) (v : Value) (u : Store) → resolve-child s g x v ≡ record { store = u; onward = none }
-    → deliver-awaiter-success s (Awaiter.GatherSlot (heap-id g) (heap-id x)) v .store ≡ u
+    → deliver-awaiter-success s (Awaiter.GatherSlot (heap-id g) (heap-id x)) v ≡ nobody-woken u
 unfolding deliver-awaiter-success send-value climb nobody-woken
 ends-here s g x v u e = rw e
 
@@ -379,8 +379,8 @@ module _ (r : ℕ → Bool) (D : ℕ → Type 0) (hd : Header) where
   success-slot : (n : ℕ) (s : Store) (o g x : ℕ) (v : Value) → T (value-known (header s .made) (object s) v) → object-limit ≤ suc n + o
       → Flight (view s) o (Awaiter.GatherSlot (heap-id g) (heap-id x)) → Alone (view s) o → Mid Nothing r D hd s
       → ((s : Store) (o : ℕ) (a : Awaiter) (v : Value) → T (value-known (header s .made) (object s) v) → object-limit ≤ n + o → Flight (view s) o a → Alone (view s) o
-      → Mid (InFlight a) r D hd s → Mid Nothing r D hd (deliver-awaiter-success s a v .store))
-      → Mid Nothing r D hd (deliver-awaiter-success s (Awaiter.GatherSlot (heap-id g) (heap-id x)) v .store)
+      → Mid (InFlight a) r D hd s → Landed r D hd (deliver-awaiter-success s a v))
+      → Landed r D hd (deliver-awaiter-success s (Awaiter.GatherSlot (heap-id g) (heap-id x)) v)
   unfolding view
   success-slot n s o g x v k f fl al h go = by (as-awaited (object s g)) refl
     where
@@ -390,8 +390,8 @@ module _ (r : ℕ → Bool) (D : ℕ → Type 0) (hd : Header) where
       low : g < object-limit
       low = omega (arith, sl .made, h .kept .but .fits .made-fits)
 
-      by : (w : Option AwaitedGather) → as-awaited (object s g) ≡ w → Mid Nothing r D hd (deliver-awaiter-success s (Awaiter.GatherSlot (heap-id g) (heap-id x)) v .store)
-      by none q = unfold deliver-awaiter-success send-value resolve-child in (rw q (unfold resolve-awaited climb nobody-woken in h))
+      by : (w : Option AwaitedGather) → as-awaited (object s g) ≡ w → Landed r D hd (deliver-awaiter-success s (Awaiter.GatherSlot (heap-id g) (heap-id x)) v)
+      by none q = unfold deliver-awaiter-success send-value resolve-child in (rw q (unfold resolve-awaited climb in (nobody-lands s h)))
       by (some w) q = left (eqb (mask s g x v w h (sl .made) q k) 0) refl
         where
           mk : ℕ
@@ -409,12 +409,12 @@ module _ (r : ℕ → Bool) (D : ℕ → Type 0) (hd : Header) where
           aw : awaiter-of (object md g) ≡ w .awaiter
           aw = awaiter-is (object md g) w (awaited s g x v w h (sl .made) q k)
 
-          left : (b : Bool) → eqb mk 0 ≡ b → Mid Nothing r D hd (deliver-awaiter-success s (Awaiter.GatherSlot (heap-id g) (heap-id x)) v .store)
+          left : (b : Bool) → eqb mk 0 ≡ b → Landed r D hd (deliver-awaiter-success s (Awaiter.GatherSlot (heap-id g) (heap-id x)) v)
           left true z =
               let st : Settles (view md) g fu = all-settles s g x v w h (sl .made) q k (eqb-true mk 0 z) in
               let fit : ObjectFits fu = full-fits s g x v w h (sl .made) q k in
               let keep : Mid Nothing r D hd md = mid s g x v w h (sl .made) q k in
-              let there : Mid Nothing r D hd (deliver-awaiter-success (put-object md g fu) (w .awaiter) (Value.List (heap-id g)) .store) =
+              let there : Landed r D hd (deliver-awaiter-success (put-object md g fu) (w .awaiter) (Value.List (heap-id g))) =
               go (put-object md g fu) g (w .awaiter) (Value.List (heap-id g)) (list-known s g x v w h (sl .made) q k) (omega (arith, up))
               (subst (λ (a : Awaiter). Flight (view (put-object md g fu)) g a) aw (flight-keeps md g fu fit st keep))
               (alone-keeps md g fu fit st (unfold full kind in refl) keep)
@@ -425,13 +425,13 @@ module _ (r : ℕ → Bool) (D : ℕ → Type 0) (hd : Header) where
           left false z =
               let same : resolve-child s g x v ≡ record { store = put-object md g (awaits-on w mk); onward = none } =
               resolved-on s g x v w h (sl .made) q k z in
-              subst (Mid Nothing r D hd) (sym (ends-here s g x v _ same)) (waits-keeps s g x v w h (sl .made) q k (eqb-false mk 0 z) (λ y t p. al g y t (p ∙ sl .own)))
+              subst (Landed r D hd) (sym (ends-here s g x v _ same)) (nobody-lands _ (waits-keeps s g x v w h (sl .made) q k (eqb-false mk 0 z) (λ y t p. al g y t (p ∙ sl .own))))
 
   success-climb : (n : ℕ) (s : Store) (o : ℕ) (a : Awaiter) (v : Value) → T (value-known (header s .made) (object s) v) → object-limit ≤ n + o → Flight (view s) o a
-      → Alone (view s) o → Mid (InFlight a) r D hd s → Mid Nothing r D hd (deliver-awaiter-success s a v .store)
+      → Alone (view s) o → Mid (InFlight a) r D hd s → Landed r D hd (deliver-awaiter-success s a v)
   unfolding view
   success-climb zero s o a v k f fl al h = absurd (not-suc-le-zero {n = 0} (omega (arith, f, fl .made, h .kept .but .fits .made-fits)))
-  success-climb (suc n) s o Awaiter.Nobody v k f fl al h = unfold deliver-awaiter-success send-value nobody-woken in (landed s (λ u z. nobody-task z) h)
+  success-climb (suc n) s o Awaiter.Nobody v k f fl al h = unfold deliver-awaiter-success send-value in (nobody-lands s (landed s (λ u z. nobody-task z) h))
   success-climb (suc n) s o (Awaiter.Task t) v k f fl al h = unfold deliver-awaiter-success send-value in
       (reach-keeps s (t .0) o (TaskState.Woken v) (woken-resumes v) (value-fits (header s .made) (object s) v (h .kept .but .fits .made-fits) k) (unfold state-values in k) fl h)
   success-climb (suc n) s o (Awaiter.GatherSlot g x) v k f fl al h =
@@ -439,5 +439,5 @@ module _ (r : ℕ → Bool) (D : ℕ → Type 0) (hd : Header) where
 
   -- A value of object o goes to its awaiter; no other holder has o for its source.
   pub success-keeps : (s : Store) (o : ℕ) (a : Awaiter) (v : Value) → T (value-known (header s .made) (object s) v) → Flight (view s) o a → Alone (view s) o
-      → Mid (InFlight a) r D hd s → Mid Nothing r D hd (deliver-awaiter-success s a v .store)
+      → Mid (InFlight a) r D hd s → Landed r D hd (deliver-awaiter-success s a v)
   success-keeps s o a v k fl al h = success-climb object-limit s o a v k (omega arith) fl al h

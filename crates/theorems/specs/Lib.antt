@@ -6,3 +6,4 @@ pub mod Stores
 pub mod SpawnTask
 pub mod Deliver
 pub mod Fill
+pub mod Results
