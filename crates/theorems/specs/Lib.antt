@@ -7,3 +7,4 @@ pub mod SpawnTask
 pub mod Deliver
 pub mod Fill
 pub mod Results
+pub mod Cycle

@@ -126,6 +126,10 @@ none-queued {q = q} t l h = by (ℕ-discrete (occurrences q t) 0)
     by (yes z) = z
     by (no ne) = absurd (not-suc-le-zero {n = 0} (omega (arith, h .ready t (omega arith) .0)))
 
+-- fewer entries, of those that stood there
+pub queued-less : {next : ℕ} {ts : ℕ → Task} {q p : List ℕ} → ((u : ℕ) → 1 ≤ occurrences p u → 1 ≤ occurrences q u) → Distinct p → Queued next ts q → Queued next ts p
+queued-less f d h = record { ready = λ t l. h .ready t (f t l); distinct = d }
+
 not-the-one : (t u : ℕ) → (t ≡ u → ⊥) → occurrences (t ∷ []) u ≡ 0
 unfolding occurrences
 not-the-one t u ne = rw (ne-eqb t u ne)
@@ -172,6 +176,24 @@ module _ {next : ℕ} {ts : ℕ → Task} {q : List ℕ} (t : ℕ) (r : Task) (h
           let z : eqb t u ≡ true = eq-eqb t u (sym e) in
           let k : occurrences (without q t) u ≡ occurrences q u - 1 = (rw z at (occurrences-without q t u)) in
           not-suc-le-zero {n = 0} (omega (arith, at-most-once q (h .distinct) u))
+
+-- what was taken out is gone
+pub gone : (q : List ℕ) (t : ℕ) → Distinct q → occurrences (without q t) t ≡ 0
+gone q t d =
+    let k : occurrences (without q t) t ≡ occurrences q t - 1 = (rw (eq-eqb t t refl) at (occurrences-without q t t)) in
+    omega (arith, at-most-once q d t)
+
+pub was-there : (q : List ℕ) (t u : ℕ) → 1 ≤ occurrences (without q t) u → 1 ≤ occurrences q u
+was-there q t u l = omega (arith, occurrences-without q t u)
+
+-- the first goes
+pub head-gone : {next : ℕ} {ts : ℕ → Task} {t : ℕ} {q : List ℕ} → Queued next ts (t ∷ q) → (t < next) × (occurrences q t ≡ 0) × Queued next ts q
+unfolding occurrences Distinct
+head-gone {t = t} {q = q} h = (
+  h .ready t (rw (eq-eqb t t refl) (omega arith)) .0,
+  h .distinct .0,
+  queued-less (λ u l. omega arith) (h .distinct .1) h,
+)
 
 -- ---- the queue of a store
 
