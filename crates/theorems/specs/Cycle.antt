@@ -159,12 +159,12 @@ coroutine-fits v o f x y l q =
 
 -- ---- a task is removed
 
-absent-in-range : (h : Header) (os : ℕ → Object) (t : ℕ) → T (task-in-range h os t absent)
+pub absent-in-range : (h : Header) (os : ℕ → Object) (t : ℕ) → T (task-in-range h os t absent)
 unfolding task-in-range absent implies
 absent-in-range h os zero = both _ _ tt (both _ _ tt tt)
 absent-in-range h os (suc t) = tt
 
-absent-fits : TaskFits absent
+pub absent-fits : TaskFits absent
 unfolding absent
 absent-fits = record { state-fits = tt; awaiter-fits = tt; coroutine-fits = omega arith }
 

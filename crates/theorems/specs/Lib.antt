@@ -8,3 +8,4 @@ pub mod Deliver
 pub mod Fill
 pub mod Results
 pub mod Cycle
+pub mod Exits

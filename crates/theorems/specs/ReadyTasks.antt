@@ -126,6 +126,11 @@ none-queued {q = q} t l h = by (ℕ-discrete (occurrences q t) 0)
     by (yes z) = z
     by (no ne) = absurd (not-suc-le-zero {n = 0} (omega (arith, h .ready t (omega arith) .0)))
 
+-- nothing stands there
+pub none-ready : (next : ℕ) (ts : ℕ → Task) → Queued next ts []
+unfolding occurrences Distinct
+none-ready next ts = record { ready = λ t l. absurd (not-suc-le-zero {n = 0} (omega arith)); distinct = tt }
+
 -- fewer entries, of those that stood there
 pub queued-less : {next : ℕ} {ts : ℕ → Task} {q p : List ℕ} → ((u : ℕ) → 1 ≤ occurrences p u → 1 ≤ occurrences q u) → Distinct p → Queued next ts q → Queued next ts p
 queued-less f d h = record { ready = λ t l. h .ready t (f t l); distinct = d }
