@@ -9,3 +9,4 @@ pub mod Fill
 pub mod Results
 pub mod Cycle
 pub mod Exits
+pub mod Await
