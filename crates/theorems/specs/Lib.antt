@@ -10,3 +10,4 @@ pub mod Results
 pub mod Cycle
 pub mod Exits
 pub mod Await
+pub mod CommitSteps
