@@ -11,3 +11,4 @@ pub mod Cycle
 pub mod Exits
 pub mod Await
 pub mod CommitSteps
+pub mod CommitInv
