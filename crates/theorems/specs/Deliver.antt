@@ -300,7 +300,7 @@ gather-settles v g w y l e d =
       known = tt;
     }
 
-failed-done : (ps : ℕ → Place) (f n : ℕ) (e : Error) → Done ps f n (GatherState.Failed e)
+pub failed-done : (ps : ℕ → Place) (f n : ℕ) (e : Error) → Done ps f n (GatherState.Failed e)
 unfolding kind gather-filled awaiter-of as-awaited open-in-range
 failed-done ps f n e = record { committed = refl; plain = refl; filled = tt; free = refl; settled = refl; range = tt }
 

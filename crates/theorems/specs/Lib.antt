@@ -12,3 +12,4 @@ pub mod Exits
 pub mod Await
 pub mod CommitSteps
 pub mod CommitInv
+pub mod CommitLoop
