@@ -130,7 +130,7 @@ pub record Commits (root t g i : ℕ) (fs : List Frame) (s : Store) : Type 0 whe
   pub inv : Inv root t 0 (OnTop g fs) (view s) g i fs
 
 -- a place of an awaited gather is filled
-fill-commits : (root t : ℕ) (Q : ℕ → Type 0) (s : Store) (g i : ℕ) (fs : List Frame) → Memory s → (h : Inv root t 0 Q (view s) g i fs) → i < h .w .count → (x : Value)
+pub fill-commits : (root t : ℕ) (Q : ℕ → Type 0) (s : Store) (g i : ℕ) (fs : List Frame) → Memory s → (h : Inv root t 0 Q (view s) g i fs) → i < h .w .count → (x : Value)
     → T (value-known (header s .made) (object s) x) → Memory (fill-place s (h .w) i x) × Inv root t 0 Q (view (fill-place s (h .w) i x)) g (i + 1) fs
 unfolding fill-place view
 fill-commits root t Q s g i fs m h l x k =

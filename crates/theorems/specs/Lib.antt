@@ -13,3 +13,4 @@ pub mod Await
 pub mod CommitSteps
 pub mod CommitInv
 pub mod CommitLoop
+pub mod CommitItems
