@@ -120,7 +120,7 @@ unwind-keeps (f ∷ fs) s root t k j g i w e ok l q st h =
 -- ---- a gather whose places are all done
 
 -- the places are filled, or open
-rest-done : (ps : ℕ → Place) (n : ℕ) (os : ℕ → Object) (g i : ℕ) (w : AwaitedGather) → i ≡ w .count → Opened n os ps g i w → T (rest-filled ps (w .first) (w .count) (w .open-places))
+pub rest-done : (ps : ℕ → Place) (n : ℕ) (os : ℕ → Object) (g i : ℕ) (w : AwaitedGather) → i ≡ w .count → Opened n os ps g i w → T (rest-filled ps (w .first) (w .count) (w .open-places))
 unfolding rest-filled
 rest-done ps n os g i w e op = from-below (w .count) _ (λ j z. op .before j (omega arith))
 

@@ -14,3 +14,4 @@ pub mod CommitSteps
 pub mod CommitInv
 pub mod CommitLoop
 pub mod CommitItems
+pub mod AwaitGather
