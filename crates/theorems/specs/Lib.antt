@@ -15,3 +15,4 @@ pub mod CommitInv
 pub mod CommitLoop
 pub mod CommitItems
 pub mod AwaitGather
+pub mod Preserved
