@@ -1,8 +1,8 @@
 -- The running task awaits a coroutine or an external; and it blocks.
 use mathlib.Core.Path.{_≡_, refl, ap, sym, subst, _∙_}
 use mathlib.Core.Logic.{_⊎_, inl, inr}
-use mathlib.Core.Bool.{Bool, true, false}
-use mathlib.Core.Option.{Option, none, some, Option·some-injective}
+use mathlib.Core.Bool.{Bool, false}
+use mathlib.Core.Option.{none, some, Option·some-injective}
 use Prim.Native.Nat.{ℕ, _+_, _≤_, _<_}
 use native.Mathlib.Nat.{le-refl}
 use native.Mathlib.Omega.{arith}
@@ -17,10 +17,10 @@ use Rattle.asyncio.specs.declared.ExternalFutureState.{ExternalFutureState}
 use Rattle.asyncio.specs.declared.Object.{Object}
 use Rattle.asyncio.specs.declared.Header.{Header}
 use Rattle.asyncio.specs.declared.Moment.{Moment}
-use Rattle.asyncio.specs.Limits.{task-limit, object-limit}
+use Rattle.asyncio.specs.Limits.{task-limit}
 use Rattle.asyncio.specs.Ranges.{ObjectFits}
 use Rattle.asyncio.specs.Numbers.{heap-id, task-id}
-use Rattle.asyncio.specs.States.{is-live, is-ready, is-running}
+use Rattle.asyncio.specs.States.{is-live, is-running}
 use Rattle.asyncio.specs.Kinds.{kind, is-coroutine, is-completed, is-committed}
 use Rattle.asyncio.specs.Parts.{awaiter-of, count-of}
 use Rattle.queue.specs.Queue.{entries}
@@ -30,8 +30,7 @@ use Rattle.machine.specs.Commit.{await-pending, await-external}
 use Rattle.machine.specs.Events.{activate, stays, go-on, await-coroutine, await-external-future}
 use Rattle.machine.specs.Sound.{awaiter-in-range, object-in-range, committed-places, items-below, object-values, state-values, object-filled, runs-now}
 use Rattle.laws.specs.Views.{update, with-object}
-use Rattle.laws.specs.Facts.{Slotted, SoundBut, Nothing}
-use Rattle.laws.specs.TestLaws.{both, both-left}
+use Rattle.laws.specs.Facts.{Slotted, Nothing}
 use Rattle.laws.specs.StoreLaws.{update-case, task-fits, object-fits, object-put-object, header-put-object, view-put-object}
 use Rattle.laws.specs.DeliveryLaws.{absurd-some}
 use Rattle.theorems.specs.ReadyTasks.{not-queued, queued-same}

@@ -1,70 +1,50 @@
 -- The commit of a gather and of the gathers nested in it, the await of a gather, and so the event `await`.
 use mathlib.Core.Path.{_≡_, refl, ap, sym, subst, _∙_}
-use mathlib.Core.Logic.{_⊎_, inl, inr}
-use mathlib.Core.Bool.{Bool, true, false, not, true≢false}
+use mathlib.Core.Logic.{inl, inr}
+use mathlib.Core.Bool.{Bool, true, false, not}
 use mathlib.Core.List.{List, [], _∷_}
-use mathlib.Core.Option.{Option, none, some, Option·some-injective}
-use Prim.Native.Nat.{ℕ, zero, suc, _+_, _-_, _^_, _≤_, _<_}
-use native.Mathlib.Nat.{not-suc-le-zero, le-refl}
+use mathlib.Core.Option.{Option}
+use Prim.Native.Nat.{ℕ, zero, suc, _+_, _-_, _≤_, _<_}
+use native.Mathlib.Nat.{not-suc-le-zero}
 use native.Mathlib.Omega.{arith}
-use native.Mathlib.Decide.{ℕ-discrete}
-use lib.Dec.{T, eqb, ltb, ltb→lt, lt→ltb}
-use lib.Pow.{pow-mono}
-use lib.ListN.{length}
-use borrow.Author.Tests.{eqb-true, eqb-false, eq-eqb, ne-eqb, ltb-true}
-use Rattle.asyncio.specs.declared.HeapId.{HeapId}
+use lib.Dec.{T, eqb, lt→ltb}
+use borrow.Author.Tests.{eqb-true, eq-eqb, ne-eqb}
 use Rattle.asyncio.specs.declared.Value.{Value}
-use Rattle.asyncio.specs.declared.OptionValue.{OptionValue}
 use Rattle.asyncio.specs.declared.Error.{Error}
 use Rattle.asyncio.specs.declared.Task.{Task}
 use Rattle.asyncio.specs.declared.Awaiter.{Awaiter}
-use Rattle.asyncio.specs.declared.CoroutineState.{CoroutineState}
-use Rattle.asyncio.specs.declared.ExternalFutureState.{ExternalFutureState}
 use Rattle.asyncio.specs.declared.GatherState.{GatherState}
 use Rattle.asyncio.specs.declared.Object.{Object}
 use Rattle.asyncio.specs.declared.Place.{Place}
-use Rattle.asyncio.specs.declared.Header.{Header}
-use Rattle.asyncio.specs.Limits.{task-limit, object-limit, u32-limit}
-use Rattle.asyncio.specs.Ranges.{ObjectFits, PlaceFits, TaskFits, ErrorFits, HeaderFits}
+use Rattle.asyncio.specs.Limits.{object-limit}
+use Rattle.asyncio.specs.Ranges.{ObjectFits}
 use Rattle.asyncio.specs.Numbers.{heap-id, task-id}
 use Rattle.asyncio.specs.States.{pick}
-use Rattle.asyncio.specs.Kinds.{kind, is-coroutine, is-completed, is-committed}
-use Rattle.asyncio.specs.Parts.{awaiter-of, count-of}
-use Rattle.queue.specs.Queue.{entries, push-back}
-use Rattle.queue.specs.QueueLaws.{push-back-len, push-back-length}
-use Rattle.machine.specs.Tests.{_and_}
-use Rattle.machine.specs.Store.{Store, View, view, task, object, place, header, put-task, put-object, put-place, put-header, put-queue, note, set-next, spawned}
-use Rattle.machine.specs.Scheduler.{AwaitedGather, PendingExternal, as-awaited, as-pending, bit, drives, first-from, driver-in, driver, push-ready, spawn-as, spawn-unless, spawn}
-use Rattle.machine.specs.Commit.{Poll, ready, raised, pending, Polled, gives, await-pending, await-external, Item, polled, nested, polled-spawn, item-coroutine, item-gather, item-object, open-from, item}
-use Rattle.machine.specs.Commit.{open-place, fill-place, Stop, at-end, at-nested, at-error, put-polled, put-item, step-item, step-items, Frame, step-gather-commit, with-state, set-gather}
-use Rattle.machine.specs.Commit.{open-gather-commit, settle-as, settle-gather-commit, resume-in, resume-as, resume-after-child, unwind, Committed, turn, commit-loop}
-use Rattle.machine.specs.Sound.{awaiter-in-range, object-in-range, items-below, value-known, object-values, rest-filled, gather-filled, object-filled, drives-at}
-use Rattle.laws.specs.Views.{Sized, update, with-task, with-object, with-place, with-header, with-queue}
-use Rattle.laws.specs.Facts.{Open, Slotted, SoundBut, Nothing, WordsFine}
-use Rattle.laws.specs.TestLaws.{holds, is-true, both, both-left, both-right, below, from-below}
-use Rattle.laws.specs.StoreLaws.{update-same, update-other, sized-put-task, sized-put-header, sized-set-next, sized-put-queue, object-fits, place-fits, header-fits, header-put-object, object-put-object}
-use Rattle.laws.specs.StoreLaws.{view-put-task, view-put-object, view-put-place, view-put-header}
-use Rattle.laws.specs.WordLaws.{fine-put-task, fine-put-header, fine-put-queue, fine-note}
-use Rattle.laws.specs.SizedLaws.{sized-spawn-as}
-use Rattle.laws.specs.MakingLaws.{value-fits}
-use Rattle.laws.specs.DeliveryLaws.{absurd-some, awaited-object, awaited-fits}
-use Rattle.theorems.specs.ReadyTasks.{none-queued, queued-back}
+use Rattle.machine.specs.Store.{Store, View, view, task, object, place, header, put-object, note}
+use Rattle.machine.specs.Scheduler.{AwaitedGather, as-awaited}
+use Rattle.machine.specs.Commit.{Poll, ready, raised, pending, gives}
+use Rattle.machine.specs.Commit.{Stop, at-end, at-nested, at-error, Frame, step-gather-commit, with-state, set-gather}
+use Rattle.machine.specs.Commit.{open-gather-commit, settle-as, settle-gather-commit, unwind, Committed, turn, commit-loop}
+use Rattle.machine.specs.Sound.{awaiter-in-range, object-in-range, rest-filled, gather-filled, object-filled}
+use Rattle.laws.specs.Views.{with-object}
+use Rattle.laws.specs.Facts.{SoundBut, Nothing}
+use Rattle.laws.specs.TestLaws.{both}
+use Rattle.laws.specs.StoreLaws.{update-same, object-fits, header-fits}
+use Rattle.laws.specs.StoreLaws.{view-put-object}
+use Rattle.laws.specs.DeliveryLaws.{awaited-object}
 use Rattle.theorems.specs.PutObject.{Fits}
 use Rattle.theorems.specs.PutTask.{Closes}
-use Rattle.theorems.specs.SpawnTask.{one-more, spawned-row, spawn-view}
-use Rattle.theorems.specs.Deliver.{task-slot, awaiter-is, Done, failed-done}
-use Rattle.theorems.specs.Fill.{gather-within, open-small, elsewhere, awaits-on, completed-done}
-use Rattle.theorems.specs.Await.{takes-fits}
-use Rattle.theorems.specs.CommitSteps.{Memory, memory-object, memory-place, wider, wider-small, wider-opens, Parked, park, Opened}
-use Rattle.theorems.specs.CommitInv.{OnStack, OnTop, Stacked, bottom, above, stacked-object, Inv, lessen, relax, open-step, fill-step, lower-step, spawn-step, nest-step, After, with-state-is, settle-memory, settle-top}
+use Rattle.theorems.specs.Deliver.{awaiter-is, Done}
+use Rattle.theorems.specs.Fill.{completed-done}
+use Rattle.theorems.specs.CommitSteps.{Memory, memory-object, park}
+use Rattle.theorems.specs.CommitInv.{OnTop, Stacked, bottom, Inv, lessen, nest-step, After, settle-memory, settle-top}
 use Rattle.asyncio.specs.declared.TaskState.{TaskState}
 use Rattle.asyncio.specs.declared.Moment.{Moment}
 use Rattle.asyncio.specs.States.{is-running}
 use Rattle.machine.specs.Store.{set-state, blocked}
-use Rattle.machine.specs.Commit.{commit-gather-tree, pending-count}
+use Rattle.machine.specs.Commit.{commit-gather-tree}
 use Rattle.machine.specs.Events.{activate, stays, go-on, await-gather, await-object, exec-get-awaitable}
 use Rattle.machine.specs.Sound.{is-ended, runs-now, runner-in-range, places-below}
-use Rattle.laws.specs.Facts.{SoundFacts}
 use Rattle.theorems.specs.Stores.{Kept, idle, Mid, Whole}
 use Rattle.theorems.specs.Cycle.{next-keeps, activate-keeps}
 use Rattle.theorems.specs.Exits.{is-run-state, runner-low}
@@ -72,7 +52,7 @@ use Rattle.theorems.specs.Await.{block-keeps, await-external-keeps, awai
 use Rattle.theorems.specs.CommitInv.{open-fits}
 use Rattle.theorems.specs.PutObject.{object-keeps}
 use Rattle.theorems.specs.CommitLoop.{Ends, unwind-keeps, rest-done, Commits, settle-next}
-use Rattle.theorems.specs.CommitItems.{AtEnd, AtNested, AtError, StopOk, inv-count, items-keep}
+use Rattle.theorems.specs.CommitItems.{AtError, StopOk, inv-count, items-keep}
 
 -- ---- the end of a commit: an answer for the task that awaits, or it is to block
 

@@ -1,62 +1,48 @@
 -- The commit of a gather and of the gathers nested in it keeps soundness.
 use mathlib.Core.Path.{_≡_, refl, ap, sym, subst, _∙_}
 use mathlib.Core.Logic.{_⊎_, inl, inr}
-use mathlib.Core.Bool.{Bool, true, false, not, true≢false}
+use mathlib.Core.Bool.{Bool, true, false, not}
 use mathlib.Core.List.{List, [], _∷_}
-use mathlib.Core.Option.{Option, none, some, Option·some-injective}
-use Prim.Native.Nat.{ℕ, zero, suc, _+_, _-_, _^_, _≤_, _<_}
-use native.Mathlib.Nat.{not-suc-le-zero, le-refl}
+use mathlib.Core.Option.{Option, some, Option·some-injective}
+use Prim.Native.Nat.{ℕ, _+_, _-_, _^_, _≤_, _<_}
+use native.Mathlib.Nat.{le-refl}
 use native.Mathlib.Omega.{arith}
 use native.Mathlib.Decide.{ℕ-discrete}
-use lib.Dec.{T, eqb, ltb, ltb→lt, lt→ltb}
+use lib.Dec.{T, eqb, ltb, lt→ltb}
 use lib.Pow.{pow-mono}
-use lib.ListN.{length}
-use borrow.Author.Tests.{eqb-true, eqb-false, eq-eqb, ltb-true}
+use borrow.Author.Tests.{eqb-true}
 use Rattle.asyncio.specs.declared.HeapId.{HeapId}
 use Rattle.asyncio.specs.declared.Value.{Value}
 use Rattle.asyncio.specs.declared.OptionValue.{OptionValue}
 use Rattle.asyncio.specs.declared.Error.{Error}
-use Rattle.asyncio.specs.declared.Task.{Task}
 use Rattle.asyncio.specs.declared.Awaiter.{Awaiter}
-use Rattle.asyncio.specs.declared.CoroutineState.{CoroutineState}
-use Rattle.asyncio.specs.declared.ExternalFutureState.{ExternalFutureState}
 use Rattle.asyncio.specs.declared.GatherState.{GatherState}
 use Rattle.asyncio.specs.declared.Object.{Object}
 use Rattle.asyncio.specs.declared.Place.{Place}
 use Rattle.asyncio.specs.declared.Header.{Header}
-use Rattle.asyncio.specs.Limits.{task-limit, object-limit, u32-limit}
-use Rattle.asyncio.specs.Ranges.{ObjectFits, PlaceFits, TaskFits, ErrorFits, HeaderFits}
-use Rattle.asyncio.specs.Numbers.{heap-id, task-id}
+use Rattle.asyncio.specs.Ranges.{ObjectFits, PlaceFits, ErrorFits}
+use Rattle.asyncio.specs.Numbers.{heap-id}
 use Rattle.asyncio.specs.States.{pick}
-use Rattle.asyncio.specs.Kinds.{kind, is-coroutine, is-completed, is-committed}
-use Rattle.asyncio.specs.Parts.{awaiter-of, count-of}
-use Rattle.queue.specs.Queue.{entries, push-back}
-use Rattle.queue.specs.QueueLaws.{push-back-len, push-back-length}
+use Rattle.asyncio.specs.Kinds.{kind, is-completed, is-committed}
+use Rattle.asyncio.specs.Parts.{awaiter-of}
 use Rattle.machine.specs.Tests.{_and_}
-use Rattle.machine.specs.Store.{Store, View, view, task, object, place, header, put-task, put-object, put-place, put-header, put-queue, note, set-next, spawned}
-use Rattle.machine.specs.Scheduler.{AwaitedGather, PendingExternal, as-awaited, as-pending, bit, drives, first-from, driver-in, driver, push-ready, spawn-as, spawn-unless, spawn}
-use Rattle.machine.specs.Commit.{Poll, ready, raised, pending, Polled, gives, await-pending, await-external, Item, polled, nested, polled-spawn, item-coroutine, item-gather, item-object, open-from, item}
-use Rattle.machine.specs.Commit.{open-place, fill-place, Stop, at-end, at-nested, at-error, put-polled, put-item, step-item, step-items, Frame, step-gather-commit, with-state, set-gather}
-use Rattle.machine.specs.Commit.{open-gather-commit, settle-as, settle-gather-commit, resume-in, resume-as, resume-after-child, unwind, Committed, turn, commit-loop}
-use Rattle.machine.specs.Sound.{awaiter-in-range, object-in-range, items-below, value-known, object-values, rest-filled, gather-filled, object-filled, drives-at}
-use Rattle.laws.specs.Views.{Sized, update, with-task, with-object, with-place, with-header, with-queue}
-use Rattle.laws.specs.Facts.{Open, Slotted, SoundBut, Nothing, WordsFine}
-use Rattle.laws.specs.TestLaws.{holds, is-true, both, both-left, both-right, below, from-below}
-use Rattle.laws.specs.StoreLaws.{update-same, update-other, sized-put-task, sized-put-header, sized-set-next, sized-put-queue, object-fits, place-fits, header-fits, header-put-object, object-put-object}
-use Rattle.laws.specs.StoreLaws.{view-put-task, view-put-object, view-put-place, view-put-header}
-use Rattle.laws.specs.WordLaws.{fine-put-task, fine-put-header, fine-put-queue, fine-note}
-use Rattle.laws.specs.SizedLaws.{sized-spawn-as}
+use Rattle.machine.specs.Store.{Store, View, view, object, place, header, put-object}
+use Rattle.machine.specs.Scheduler.{AwaitedGather, as-awaited}
+use Rattle.machine.specs.Commit.{ready, pending, gives, item}
+use Rattle.machine.specs.Commit.{open-place, fill-place, Frame, with-state, set-gather}
+use Rattle.machine.specs.Commit.{settle-as, settle-gather-commit, resume-in, resume-as, resume-after-child, unwind}
+use Rattle.machine.specs.Sound.{value-known, rest-filled, gather-filled, object-filled}
+use Rattle.laws.specs.Views.{with-object}
+use Rattle.laws.specs.Facts.{Open, Slotted, Nothing}
+use Rattle.laws.specs.TestLaws.{both, from-below}
+use Rattle.laws.specs.StoreLaws.{update-same, update-other, place-fits, header-fits, header-put-object, object-put-object}
+use Rattle.laws.specs.StoreLaws.{view-put-object, view-put-place}
 use Rattle.laws.specs.MakingLaws.{value-fits}
-use Rattle.laws.specs.DeliveryLaws.{absurd-some, awaited-object, awaited-fits}
-use Rattle.theorems.specs.ReadyTasks.{none-queued, queued-back}
-use Rattle.theorems.specs.PutObject.{Fits}
-use Rattle.theorems.specs.PutTask.{Closes}
-use Rattle.theorems.specs.SpawnTask.{one-more, spawned-row, spawn-view}
+use Rattle.laws.specs.DeliveryLaws.{awaited-object, awaited-fits}
 use Rattle.theorems.specs.Deliver.{task-slot, awaiter-is, Done, failed-done}
-use Rattle.theorems.specs.Fill.{gather-within, open-small, elsewhere, awaits-on, completed-done}
-use Rattle.theorems.specs.Await.{takes-fits}
+use Rattle.theorems.specs.Fill.{gather-within, open-small, awaits-on, completed-done}
 use Rattle.theorems.specs.CommitSteps.{Memory, memory-object, memory-place, wider, wider-small, wider-opens, Parked, park, Opened}
-use Rattle.theorems.specs.CommitInv.{OnStack, OnTop, Stacked, bottom, above, stacked-object, Inv, lessen, relax, open-step, fill-step, lower-step, spawn-step, nest-step, After, with-state-is, settle-memory, settle-top}
+use Rattle.theorems.specs.CommitInv.{OnStack, OnTop, Stacked, above, stacked-object, Inv, lessen, relax, open-step, fill-step, After, with-state-is, settle-memory, settle-top}
 
 -- ---- rows that are written fit their words
 

@@ -5,12 +5,11 @@ use mathlib.Core.Bool.{Bool, true, false, not}
 use mathlib.Core.List.{List, [], _∷_}
 use mathlib.Core.Option.{Option, none, some, Option·some-injective}
 use Prim.Native.Nat.{ℕ, zero, suc, _+_, _≤_, _<_}
-use native.Mathlib.Nat.{not-suc-le-zero, le-refl}
+use native.Mathlib.Nat.{le-refl}
 use native.Mathlib.Omega.{arith}
 use lib.Dec.{T, eqb, ltb, ltb→lt, lt→ltb}
 use lib.ListN.{length}
-use borrow.Author.Tests.{eqb-true, eqb-false, eq-eqb, ne-eqb}
-use Rattle.asyncio.specs.declared.HeapId.{HeapId}
+use borrow.Author.Tests.{eqb-false, eq-eqb, ne-eqb}
 use Rattle.asyncio.specs.declared.TaskId.{TaskId}
 use Rattle.asyncio.specs.declared.Error.{Error}
 use Rattle.asyncio.specs.declared.Task.{Task}
@@ -22,10 +21,10 @@ use Rattle.asyncio.specs.declared.GatherState.{GatherState}
 use Rattle.asyncio.specs.declared.Object.{Object}
 use Rattle.asyncio.specs.declared.Header.{Header}
 use Rattle.asyncio.specs.declared.Moment.{Moment}
-use Rattle.asyncio.specs.Limits.{task-limit, u32-limit}
+use Rattle.asyncio.specs.Limits.{task-limit}
 use Rattle.asyncio.specs.Ranges.{TaskFits, ObjectFits, ErrorFits}
-use Rattle.asyncio.specs.Numbers.{heap-id, task-id}
-use Rattle.asyncio.specs.States.{pick, is-live, is-unstarted, is-ready, is-running}
+use Rattle.asyncio.specs.Numbers.{task-id}
+use Rattle.asyncio.specs.States.{pick, is-live, is-unstarted, is-running}
 use Rattle.asyncio.specs.Kinds.{kind, is-coroutine, is-completed, is-committed}
 use Rattle.asyncio.specs.Parts.{awaiter-of, count-of}
 use Rattle.queue.specs.declared.ReadyQueue.{ReadyQueue}
@@ -38,16 +37,15 @@ use Rattle.machine.specs.Scheduler.{as-awaited, as-pending, blocked-on, remove-
 use Rattle.machine.specs.Delivery.{Delivery, deliver-awaiter-failure}
 use Rattle.machine.specs.Events.{Switched, How, start, value, raises, run, yield, new-function, resume-next, resume-after-task-exit, handle-task-failure, start-by, start-task, activate-state, activate-within, activate}
 use Rattle.machine.specs.Sound.{awaiter-in-range, object-in-range, is-slot, task-in-range, committed-places, items-below, object-values, state-values, is-ended, object-filled, runs-now, runner-in-range}
-use Rattle.laws.specs.Views.{update, with-object}
-use Rattle.laws.specs.Facts.{Slotted, SoundBut, Nothing}
-use Rattle.laws.specs.TestLaws.{holds, is-true, both, both-left, both-right, implies-use}
+use Rattle.laws.specs.Facts.{SoundBut, Nothing}
+use Rattle.laws.specs.TestLaws.{both, both-left, both-right, implies-use}
 use Rattle.laws.specs.StoreLaws.{update-case, task-fits, object-fits, header-put-object}
 use Rattle.laws.specs.DeliveryLaws.{absurd-some}
 use Rattle.theorems.specs.ReadyTasks.{Queued, to-queued, queued-same, queued-less, queued-remove, gone, was-there, head-gone}
 use Rattle.theorems.specs.PutObject.{Fits}
 use Rattle.theorems.specs.PutTask.{with-task-queue, TaskWrite}
-use Rattle.theorems.specs.Stores.{Kept, Runs, idle, Mid, Whole, object-mid, task-mid, queue-mid, note-mid, moment-whole}
-use Rattle.theorems.specs.Deliver.{nobody-task, nobody-slot, Landed, InFlight, Flight, take-off, restated-in-range, restated-fits, failure-keeps}
+use Rattle.theorems.specs.Stores.{Runs, idle, Mid, Whole, object-mid, task-mid, queue-mid, note-mid, moment-whole}
+use Rattle.theorems.specs.Deliver.{nobody-task, nobody-slot, Landed, Flight, take-off, restated-in-range, restated-fits, failure-keeps}
 
 -- ---- a live spawned task
 

@@ -17,10 +17,10 @@ use Rattle.asyncio.specs.declared.GatherState.{GatherState}
 use Rattle.asyncio.specs.declared.Object.{Object}
 use Rattle.asyncio.specs.declared.Place.{Place}
 use Rattle.asyncio.specs.declared.Header.{Header}
-use Rattle.asyncio.specs.Limits.{task-limit, object-limit}
+use Rattle.asyncio.specs.Limits.{object-limit}
 use Rattle.asyncio.specs.Ranges.{StateFits, TaskFits, ObjectFits, ErrorFits}
 use Rattle.asyncio.specs.Numbers.{heap-id, task-id}
-use Rattle.asyncio.specs.States.{pick, is-nobody, is-live, is-unstarted, is-ready, is-running, is-blocked}
+use Rattle.asyncio.specs.States.{pick, is-live, is-unstarted, is-ready, is-running, is-blocked}
 use Rattle.asyncio.specs.Kinds.{kind, is-coroutine, is-completed, is-committed}
 use Rattle.asyncio.specs.Parts.{awaiter-of, count-of}
 use Rattle.queue.specs.Queue.{entries, push-back}
@@ -28,16 +28,16 @@ use Rattle.queue.specs.QueueLaws.{push-back-len, push-back-length}
 use Rattle.machine.specs.Store.{Store, View, view, task, object, place, header, put-task, put-object, put-queue, set-state, restate, note, reached}
 use Rattle.machine.specs.Scheduler.{AwaitedGather, as-awaited, as-pending, blocked-on, make-ready, push-ready}
 use Rattle.machine.specs.Delivery.{Delivery, nobody-woken, deliver-to-task, fail-awaited, fail-gather, send-error, climb, deliver-awaiter-failure}
-use Rattle.machine.specs.Sound.{awaiter-in-range, open-in-range, object-in-range, is-slot, task-in-range, committed-places, items-below, object-values, state-values, object-filled, gather-filled}
-use Rattle.laws.specs.Views.{update, with-object}
+use Rattle.machine.specs.Sound.{awaiter-in-range, open-in-range, object-in-range, task-in-range, committed-places, items-below, object-values, state-values, object-filled, gather-filled}
+use Rattle.laws.specs.Views.{with-object}
 use Rattle.laws.specs.Facts.{Open, Slotted, SoundBut, Nothing}
-use Rattle.laws.specs.TestLaws.{holds, is-true, both, both-left, both-right, below, implies-use, implies-give}
+use Rattle.laws.specs.TestLaws.{both, both-left, both-right, below, implies-use, implies-give}
 use Rattle.laws.specs.StoreLaws.{update-same, update-case, view-put-object, task-fits}
 use Rattle.laws.specs.DeliveryLaws.{absurd-some, awaited-object, awaited-fits, failure-climbs}
-use Rattle.theorems.specs.ReadyTasks.{Queued, not-queued, queued-back}
+use Rattle.theorems.specs.ReadyTasks.{not-queued, queued-back}
 use Rattle.theorems.specs.PutObject.{by-object, Fits, slotted}
 use Rattle.theorems.specs.PutTask.{with-task-queue, TaskWrite, but-keeps}
-use Rattle.theorems.specs.Stores.{Kept, Runs, Mid, object-mid, task-mid, note-mid}
+use Rattle.theorems.specs.Stores.{Runs, Mid, object-mid, task-mid, note-mid}
 use Rattle.theorems.specs.SpawnTask.{awaiter-below}
 
 -- A delivery is at its end: nothing is in flight, and a task that it woke is below the next number.

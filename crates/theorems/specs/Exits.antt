@@ -4,13 +4,13 @@ use mathlib.Core.Logic.{inl}
 use mathlib.Core.Bool.{Bool, true, false, not, _&&_, true≢false}
 use mathlib.Core.List.{List, [], _∷_}
 use mathlib.Core.Option.{Option, none, some}
-use Prim.Native.Nat.{ℕ, zero, suc, _+_, _-_, _≤_, _<_}
-use native.Mathlib.Nat.{not-suc-le-zero, le-refl}
+use Prim.Native.Nat.{ℕ, zero, suc, _+_, _-_, _<_}
+use native.Mathlib.Nat.{not-suc-le-zero}
 use native.Mathlib.Omega.{arith}
 use native.Mathlib.Decide.{ℕ-discrete}
 use lib.Dec.{T, eqb, ltb→lt}
-use lib.ListN.{length, getD}
-use borrow.Author.Tests.{eqb-true, eqb-false, eq-eqb, ne-eqb}
+use lib.ListN.{getD}
+use borrow.Author.Tests.{eq-eqb, ne-eqb}
 use Rattle.asyncio.specs.declared.HeapId.{HeapId}
 use Rattle.asyncio.specs.declared.Value.{Value}
 use Rattle.asyncio.specs.declared.Error.{Error}
@@ -21,21 +21,20 @@ use Rattle.asyncio.specs.declared.CoroutineState.{CoroutineState}
 use Rattle.asyncio.specs.declared.Object.{Object}
 use Rattle.asyncio.specs.declared.Header.{Header}
 use Rattle.asyncio.specs.declared.Moment.{Moment}
-use Rattle.asyncio.specs.Limits.{task-limit, object-limit}
+use Rattle.asyncio.specs.Limits.{object-limit}
 use Rattle.asyncio.specs.Ranges.{ObjectFits, ErrorFits}
 use Rattle.asyncio.specs.Numbers.{heap-id, task-id}
 use Rattle.asyncio.specs.States.{pick, is-nobody, is-live, is-unstarted, is-running}
 use Rattle.asyncio.specs.Kinds.{kind, is-coroutine, is-completed}
 use Rattle.asyncio.specs.Parts.{awaiter-of}
 use Rattle.queue.specs.declared.ReadyQueue.{ReadyQueue}
-use Rattle.queue.specs.Queue.{entries, empty-queue, remove, occurrences, Distinct}
+use Rattle.queue.specs.Queue.{entries, empty-queue, remove}
 use Rattle.queue.specs.QueueLaws.{entries-empty}
 use Rattle.machine.specs.Store.{Store, View, view, task, object, place, header, put-task, put-object, put-queue, note, absent, Happening, exited, removed}
 use Rattle.rows.specs.Tables.{task-at}
-use Rattle.machine.specs.Scheduler.{AwaitedGather, as-awaited, is-some, bit, pending-call-ids, blocked-on, drives, remove-from-ready-queue, remove-task, first-from, driver-in, driver, cancel-one, Walk, reach-if, reach, remove-blocked, still-live, visit-by, visit, visit-place, visit-open, walk-gather, walk-next, walk, walk-from, cancel-task, remove-from, cleanup}
-use Rattle.machine.specs.Delivery.{deliver-awaiter-success}
+use Rattle.machine.specs.Scheduler.{AwaitedGather, as-awaited, is-some, bit, pending-call-ids, blocked-on, remove-from-ready-queue, remove-task, driver-in, driver, cancel-one, Walk, reach-if, reach, remove-blocked, still-live, visit-by, visit, visit-place, visit-open, walk-gather, walk-next, walk, walk-from, cancel-task, remove-from, cleanup}
 use Rattle.machine.specs.Events.{handle-task-failure, activate, completed, handle-task-completion, resume-next}
-use Rattle.machine.specs.Machine.{Step, switched, repeat-wait, resume-with-resolved-futures}
+use Rattle.machine.specs.Machine.{switched, repeat-wait, resume-with-resolved-futures}
 use Rattle.machine.specs.Sound.{is-slot, task-in-range, value-known, state-values, is-ended, drives-at, runs-now, runner-in-range}
 use Rattle.laws.specs.Views.{update}
 use Rattle.laws.specs.Facts.{SoundBut, Nothing}
@@ -43,10 +42,10 @@ use Rattle.laws.specs.TestLaws.{holds, both, both-left, both-right}
 use Rattle.laws.specs.StoreLaws.{update-case, update-same, update-other, object-fits}
 use Rattle.laws.specs.DeliveryLaws.{absurd-some}
 use Rattle.theorems.specs.ReadyTasks.{Queued, none-ready}
-use Rattle.theorems.specs.PutObject.{by-object, by-task, Fits, value-stays}
+use Rattle.theorems.specs.PutObject.{by-object, by-task, value-stays}
 use Rattle.theorems.specs.PutTask.{drives-give, with-task-queue, TaskWrite}
 use Rattle.theorems.specs.Stores.{Kept, Runs, idle, Mid, Whole, view-task-queue, object-mid, task-mid, queue-mid, note-mid, mid-of, whole-mid, moment-whole}
-use Rattle.theorems.specs.Deliver.{nobody-slot, Landed, Flight, take-off}
+use Rattle.theorems.specs.Deliver.{nobody-slot, Flight, take-off}
 use Rattle.theorems.specs.Fill.{Alone, success-keeps}
 use Rattle.theorems.specs.Results.{first-below}
 use Rattle.theorems.specs.Cycle.{Spawned, spawned-of, not-a-task, coroutine-is, no-awaiter, task-flight, coroutine-fits, absent-in-range, absent-fits, remove-keeps, next-keeps, exit-keeps, failure-exit, activate-keeps}

@@ -9,7 +9,7 @@ use native.Mathlib.Nat.{not-suc-le-zero, le-refl}
 use native.Mathlib.Omega.{arith}
 use native.Mathlib.Decide.{ℕ-discrete}
 use lib.Dec.{T, eqb, eqb→eq, ltb→lt, lt→ltb}
-use borrow.Author.Tests.{eqb-true, eqb-false, eq-eqb, ne-eqb}
+use borrow.Author.Tests.{eqb-true, eqb-false, ne-eqb}
 use Rattle.asyncio.specs.declared.HeapId.{HeapId}
 use Rattle.asyncio.specs.declared.Value.{Value}
 use Rattle.asyncio.specs.declared.OptionValue.{OptionValue}
@@ -20,9 +20,9 @@ use Rattle.asyncio.specs.declared.GatherState.{GatherState}
 use Rattle.asyncio.specs.declared.Object.{Object}
 use Rattle.asyncio.specs.declared.Place.{Place}
 use Rattle.asyncio.specs.declared.Header.{Header}
-use Rattle.asyncio.specs.Limits.{object-limit, place-limit, u32-limit}
+use Rattle.asyncio.specs.Limits.{object-limit}
 use Rattle.asyncio.specs.Ranges.{ObjectFits, PlaceFits}
-use Rattle.asyncio.specs.Numbers.{heap-id, task-id}
+use Rattle.asyncio.specs.Numbers.{heap-id}
 use Rattle.asyncio.specs.States.{pick, is-nobody, is-live}
 use Rattle.asyncio.specs.Kinds.{kind, is-coroutine, is-completed, is-committed}
 use Rattle.asyncio.specs.Parts.{awaiter-of, count-of}
@@ -31,7 +31,7 @@ use Rattle.machine.specs.Tests.{sum-below}
 use Rattle.machine.specs.Store.{Store, View, view, task, object, place, header, put-object, put-place, put-places}
 use Rattle.machine.specs.Scheduler.{AwaitedGather, as-awaited, as-pending, blocked-on, bit}
 use Rattle.machine.specs.Delivery.{Filled, filled, fill-one, fill-from, nobody-woken, resolve-left, resolve-awaited, resolve-child, climb, send-value, deliver-awaiter-success}
-use Rattle.machine.specs.Sound.{places-below, awaiter-in-range, open-in-range, object-in-range, is-slot, task-in-range, committed-places, items-below}
+use Rattle.machine.specs.Sound.{places-below, awaiter-in-range, open-in-range, object-in-range, task-in-range, committed-places, items-below}
 use Rattle.machine.specs.Sound.{value-known, option-known, object-values, state-values, is-filled, rest-filled, gather-filled, object-filled}
 use Rattle.laws.specs.Views.{update, with-object, with-place}
 use Rattle.laws.specs.Facts.{Open, Slotted, SoundBut, Nothing}
@@ -42,7 +42,7 @@ use Rattle.laws.specs.DeliveryLaws.{absurd-some, awaited-object, awaited-fits, 
 use Rattle.theorems.specs.Bits.{bit-clear}
 use Rattle.theorems.specs.PutObject.{Held, by-object, by-task, Fits}
 use Rattle.theorems.specs.PutTask.{PlacesWrite}
-use Rattle.theorems.specs.Stores.{Kept, Mid, object-mid, place-mid}
+use Rattle.theorems.specs.Stores.{Mid, object-mid, place-mid}
 use Rattle.theorems.specs.Deliver.{nobody-task, nobody-slot, task-slot, Landed, InFlight, Flight, landed, nobody-lands, Settles, settle-keeps, flight-keeps, Resumes, reach-keeps, awaiter-is, Done, gather-settles, open-lower}
 
 -- ---- what an awaited gather's row says

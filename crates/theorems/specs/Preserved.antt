@@ -1,38 +1,34 @@
 -- Every accepted event leaves a sound store sound.
-use mathlib.Core.Path.{_≡_, refl, ap, sym, subst, _∙_}
+use mathlib.Core.Path.{_≡_, refl, sym, subst, _∙_}
 use mathlib.Core.Bool.{Bool, true, false, not, _||_, _&&_, true≢false}
 use mathlib.Core.List.{List, [], _∷_}
 use Prim.Native.Nat.{ℕ, zero, suc, _%_, _≤_, _<_}
-use native.Mathlib.Nat.{not-suc-le-zero, mod-eq-of-lt}
+use native.Mathlib.Nat.{mod-eq-of-lt}
 use native.Mathlib.Omega.{arith}
 use lib.Dec.{T, eqb, ltb, leb, ltb→lt}
 use lib.ListN.{length}
-use borrow.Author.Tests.{leb-false, ltb-true, ltb-false, eqb-true, eqb-false, eq-eqb, ne-eqb}
+use borrow.Author.Tests.{leb-false, ltb-true, ltb-false, eqb-false, eq-eqb, ne-eqb}
 use Rattle.asyncio.specs.declared.Value.{Value}
 use Rattle.asyncio.specs.declared.Error.{Error}
-use Rattle.asyncio.specs.declared.Object.{Object}
-use Rattle.asyncio.specs.declared.HeapId.{HeapId}
-use Rattle.asyncio.specs.declared.Header.{Header}
 use Rattle.asyncio.specs.declared.Moment.{Moment}
 use Rattle.asyncio.specs.Limits.{task-limit, object-limit, u32-limit, result-limit}
-use Rattle.asyncio.specs.Numbers.{heap-id, task-id, to-heap-id}
-use Rattle.asyncio.specs.Layout.{to-value}
+use Rattle.asyncio.specs.Numbers.{task-id, to-heap-id}
 use Rattle.asyncio.specs.States.{pick, is-live}
 use Rattle.asyncio.specs.Kinds.{kind, is-completed}
 use Rattle.machine.specs.Tests.{_and_}
 use Rattle.machine.specs.Store.{Store, view, task, object, header, forget}
-use Rattle.machine.specs.Scheduler.{live, cancel-task, cleanup}
-use Rattle.machine.specs.Events.{Result, exec-get-awaitable, apply-future-results}
-use Rattle.machine.specs.Machine.{Event, Step, is-run, in-running, in-waiting, in-both, unmade, any-of, result-unknown, bad-result, refusals, first-refusal, refusal}
+use Rattle.machine.specs.Scheduler.{live}
+use Rattle.machine.specs.Events.{Result, apply-future-results}
+use Rattle.machine.specs.Machine.{Event, is-run, in-running, in-waiting, in-both, unmade, any-of, result-unknown, bad-result, refusals, first-refusal, refusal}
 use Rattle.machine.specs.Machine.{switched, answer-await, end-main, task-completes, task-fails, runner, accept, step}
 use Rattle.machine.specs.Sound.{sound, is-ended, value-known}
 use Rattle.laws.specs.Views.{Sized}
 use Rattle.laws.specs.Statements.{Making}
-use Rattle.laws.specs.TestLaws.{holds, is-true, not-not, both, both-left, both-right, or-left, or-right}
+use Rattle.laws.specs.TestLaws.{holds, not-not, both, both-left, both-right, or-left, or-right}
 use Rattle.laws.specs.StoreLaws.{sized-forget, header-fits}
 use Rattle.laws.specs.MachineLaws.{accepted-step}
-use Rattle.laws.specs.SoundLaws.{pass, refusal-sound, refusal-rest, running-rest, refusal-forget, sound-forget, making-sound, show-sound, eager-sound}
-use Rattle.theorems.specs.Stores.{Mid, Whole, whole-of, whole-sound, mid-of, whole-mid}
+use Rattle.laws.specs.SoundLaws.{pass, refusal-sound, refusal-rest, running-rest, refusal-forget, making-sound}
+use Rattle.theorems.specs.Stores.{Whole, whole-of, whole-sound, mid-of, whole-mid}
 use Rattle.theorems.specs.Results.{MayApply, AllApply, results-keep}
 use Rattle.theorems.specs.Exits.{completion-keeps, fail-keeps, end-keeps, cancel-keeps, resume-keeps}
 use Rattle.theorems.specs.AwaitGather.{await-keeps}

@@ -4,7 +4,7 @@ use mathlib.Core.Path.{_≡_, refl, ap, sym, subst, _∙_}
 use mathlib.Core.Logic.{_⊎_, inl, inr}
 use mathlib.Core.Option.{some}
 use Prim.Native.Nat.{ℕ, zero, suc, _+_, _≤_, _<_}
-use native.Mathlib.Nat.{not-suc-le-zero, le-refl}
+use native.Mathlib.Nat.{not-suc-le-zero}
 use native.Mathlib.Omega.{arith}
 use native.Mathlib.Decide.{ℕ-discrete}
 use lib.Dec.{T, ltb}
@@ -24,7 +24,7 @@ use Rattle.machine.specs.Tests.{_and_, sum-below}
 use Rattle.machine.specs.Store.{View}
 use Rattle.machine.specs.Scheduler.{AwaitedGather, PendingExternal, as-awaited, as-pending, blocked-on}
 use Rattle.machine.specs.Sound.{places-below, awaiter-in-range, object-in-range, is-slot, task-in-range, committed-places, items-below}
-use Rattle.machine.specs.Sound.{value-known, option-known, object-values, state-values, is-ended, object-filled}
+use Rattle.machine.specs.Sound.{value-known, option-known, object-values, state-values, object-filled}
 use Rattle.laws.specs.Views.{update, with-object}
 use Rattle.laws.specs.Facts.{Open, Slotted, AwaitedBy, SoundBut}
 use Rattle.laws.specs.TestLaws.{both, both-left, both-right, implies-map, sum-same}

@@ -1,6 +1,6 @@
 -- The ready queue's clause by what stands in the queue, not by place: every entry is a ready task, and none stands twice.
-use mathlib.Core.Path.{_≡_, refl, ap, sym, subst, _∙_}
-use mathlib.Core.Bool.{Bool, true, false, not}
+use mathlib.Core.Path.{_≡_, refl, sym, subst}
+use mathlib.Core.Bool.{true, false}
 use mathlib.Core.List.{List, [], _∷_, _++_}
 use Prim.Native.Nat.{ℕ, zero, suc, _+_, _-_, _≤_, _<_}
 use native.Mathlib.Nat.{not-suc-le-zero}
@@ -15,7 +15,6 @@ use Rattle.asyncio.specs.Limits.{task-limit}
 use Rattle.queue.specs.declared.ReadyQueue.{ReadyQueue}
 use Rattle.queue.specs.Queue.{entries, push-back, remove, occurrences, Distinct, without}
 use Rattle.queue.specs.QueueLaws.{push-back-full, entries-push, entries-remove, occurrences-append, occurrences-without, distinct-append, distinct-without}
-use Rattle.machine.specs.Tests.{_and_}
 use Rattle.machine.specs.Sound.{entry-ready}
 use Rattle.laws.specs.Views.{update}
 use Rattle.laws.specs.TestLaws.{both, both-left, both-right, below, from-below}

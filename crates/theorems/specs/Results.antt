@@ -1,14 +1,12 @@
 -- Results: the external of a call is settled, and its awaiter is served.
 use mathlib.Core.Path.{_≡_, refl, ap, sym, subst, _∙_}
-use mathlib.Core.Bool.{Bool, true, false, not, _||_, _&&_}
+use mathlib.Core.Bool.{Bool, true, false}
 use mathlib.Core.List.{List, [], _∷_}
 use mathlib.Core.Option.{Option, none, some, Option·some-injective}
-use Prim.Native.Nat.{ℕ, zero, suc, _+_, _%_, _≤_, _<_}
-use native.Mathlib.Nat.{mod-lt}
+use Prim.Native.Nat.{ℕ, zero, suc, _+_, _<_}
 use native.Mathlib.Omega.{arith}
-use lib.Dec.{T, eqb, ltb, leb, ltb→lt}
-use borrow.Author.Tests.{eqb-true, eqb-false, eq-eqb, ltb-false}
-use Rattle.asyncio.specs.declared.HeapId.{HeapId}
+use lib.Dec.{T, eqb}
+use borrow.Author.Tests.{eqb-true}
 use Rattle.asyncio.specs.declared.CallId.{CallId}
 use Rattle.asyncio.specs.declared.Value.{Value}
 use Rattle.asyncio.specs.declared.OptionValue.{OptionValue}
@@ -17,29 +15,24 @@ use Rattle.asyncio.specs.declared.Awaiter.{Awaiter}
 use Rattle.asyncio.specs.declared.ExternalFutureState.{ExternalFutureState}
 use Rattle.asyncio.specs.declared.Object.{Object}
 use Rattle.asyncio.specs.declared.Header.{Header}
-use Rattle.asyncio.specs.Limits.{object-limit, u32-limit, call-limit}
-use Rattle.asyncio.specs.Ranges.{ObjectFits, ExternalFits, ErrorFits}
-use Rattle.asyncio.specs.Numbers.{heap-id, to-heap-id}
+use Rattle.asyncio.specs.Ranges.{ObjectFits, ErrorFits}
 use Rattle.asyncio.specs.Layout.{to-value, to-error}
 use Rattle.asyncio.specs.States.{pick}
 use Rattle.asyncio.specs.Kinds.{kind, is-coroutine, is-completed, is-committed}
 use Rattle.asyncio.specs.Parts.{awaiter-of, count-of}
 use Rattle.machine.specs.Store.{Store, View, view, object, header, put-object}
 use Rattle.machine.specs.Scheduler.{PendingExternal, as-awaited, as-pending, first-from, pending-external-in, pending-external}
-use Rattle.machine.specs.Delivery.{value-or, resolve-pending, fail-pending, settle-pending, settle-found, resolve-future, fail-future, deliver-awaiter-success, deliver-awaiter-failure}
+use Rattle.machine.specs.Delivery.{value-or, resolve-pending, fail-pending, settle-pending, settle-found, resolve-future, fail-future}
 use Rattle.machine.specs.Events.{Result, apply-result, apply-future-results}
-use Rattle.machine.specs.Machine.{any-of, result-unknown, bad-result}
 use Rattle.machine.specs.Sound.{object-in-range, items-below, value-known, option-known, object-values, object-filled}
-use Rattle.laws.specs.Views.{update, with-object}
 use Rattle.laws.specs.Facts.{SoundBut, Nothing}
-use Rattle.laws.specs.TestLaws.{not-not, both, both-left, both-right, or-left, or-right}
-use Rattle.laws.specs.StoreLaws.{object-fits, header-put-object, view-put-object}
+use Rattle.laws.specs.StoreLaws.{object-fits, header-put-object}
 use Rattle.laws.specs.MakingLaws.{value-fits}
 use Rattle.laws.specs.DeliveryLaws.{absurd-some}
 use Rattle.theorems.specs.PutObject.{value-stays}
-use Rattle.theorems.specs.Stores.{Kept, Mid}
+use Rattle.theorems.specs.Stores.{Mid}
 use Rattle.theorems.specs.Deliver.{InFlight, Flight, Settles, settle-keeps, flight-keeps, failure-keeps}
-use Rattle.theorems.specs.Fill.{Alone, alone-keeps, success-keeps}
+use Rattle.theorems.specs.Fill.{alone-keeps, success-keeps}
 
 -- ---- a pending external settles
 

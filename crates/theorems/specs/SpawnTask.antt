@@ -1,10 +1,10 @@
 -- A task is spawned.
-use mathlib.Core.Path.{_≡_, refl, ap, sym, subst, _∙_}
-use mathlib.Core.Bool.{Bool, true, false, not}
-use mathlib.Core.List.{List, [], _∷_, _++_}
-use mathlib.Core.Option.{Option, none, some}
-use Prim.Native.Nat.{ℕ, zero, suc, _+_, _≤_, _<_}
-use native.Mathlib.Nat.{not-suc-le-zero, le-refl}
+use mathlib.Core.Path.{_≡_, refl, sym, subst, _∙_}
+use mathlib.Core.Bool.{not}
+use mathlib.Core.List.{List}
+use mathlib.Core.Option.{some}
+use Prim.Native.Nat.{ℕ, zero, suc, _+_, _<_}
+use native.Mathlib.Nat.{not-suc-le-zero}
 use native.Mathlib.Omega.{arith}
 use native.Mathlib.Decide.{ℕ-discrete}
 use lib.Dec.{T, eqb, ltb, ltb→lt, lt→ltb}
@@ -15,7 +15,6 @@ use Rattle.asyncio.specs.declared.Awaiter.{Awaiter}
 use Rattle.asyncio.specs.declared.Object.{Object}
 use Rattle.asyncio.specs.declared.Header.{Header}
 use Rattle.asyncio.specs.Limits.{task-limit}
-use Rattle.asyncio.specs.Ranges.{HeaderFits}
 use Rattle.asyncio.specs.Numbers.{heap-id, task-id}
 use Rattle.asyncio.specs.States.{is-live}
 use Rattle.asyncio.specs.Kinds.{kind, is-coroutine}
@@ -29,7 +28,7 @@ use Rattle.laws.specs.Facts.{Slotted, AwaitedBy, SoundBut, Nothing}
 use Rattle.laws.specs.TestLaws.{both, both-left, both-right, implies-map, ltb-more}
 use Rattle.laws.specs.StoreLaws.{update-case}
 use Rattle.laws.specs.DeliveryLaws.{absurd-some}
-use Rattle.theorems.specs.ReadyTasks.{Queued, to-queued, from-queued, none-queued, queued-same, queued-push}
+use Rattle.theorems.specs.ReadyTasks.{Queued, to-queued, from-queued}
 use Rattle.theorems.specs.PutTask.{drives-parts}
 
 -- the header with one task more

@@ -1,6 +1,6 @@
 -- A store in the midst of an event: its words, its view, and what each write of a row keeps of both.
 use mathlib.Core.Path.{_≡_, refl, ap, sym, subst, _∙_}
-use mathlib.Core.Bool.{Bool, true, false}
+use mathlib.Core.Bool.{Bool, false}
 use Prim.Native.Nat.{ℕ, _≤_, _<_}
 use native.Mathlib.Nat.{le-refl}
 use native.Mathlib.Omega.{arith}
@@ -12,17 +12,17 @@ use Rattle.asyncio.specs.declared.Place.{Place}
 use Rattle.asyncio.specs.declared.Header.{Header}
 use Rattle.asyncio.specs.declared.Moment.{Moment}
 use Rattle.asyncio.specs.Limits.{task-limit, object-limit}
-use Rattle.asyncio.specs.Ranges.{TaskFits, ObjectFits, PlaceFits, HeaderFits, MomentFits}
+use Rattle.asyncio.specs.Ranges.{TaskFits, ObjectFits, PlaceFits, MomentFits}
 use Rattle.asyncio.specs.States.{is-running}
 use Rattle.asyncio.specs.Kinds.{kind, is-completed}
 use Rattle.queue.specs.declared.ReadyQueue.{ReadyQueue}
 use Rattle.queue.specs.Queue.{entries}
 use Rattle.machine.specs.Store.{Store, View, view, task, object, place, header, put-task, put-object, put-place, put-header, put-queue, note, set-moment, Happening}
-use Rattle.machine.specs.Sound.{words-in-range, is-ended, runs-now, runner-in-range, sound-view, sound}
+use Rattle.machine.specs.Sound.{is-ended, runs-now, runner-in-range, sound}
 use Rattle.laws.specs.Views.{Sized, update, with-task, with-object, with-place, with-places, with-header, with-queue}
 use Rattle.laws.specs.Facts.{SoundBut, Nothing, SoundFacts, WordsFine}
 use Rattle.laws.specs.TestLaws.{both, both-left}
-use Rattle.laws.specs.StoreLaws.{update-case, sized-put-task, sized-put-object, sized-put-place, sized-put-header, sized-put-queue, sized-note, header-put-header, header-put-object, header-fits}
+use Rattle.laws.specs.StoreLaws.{update-case, sized-put-task, sized-put-object, sized-put-place, sized-put-header, sized-put-queue, sized-note, header-put-header, header-put-object}
 use Rattle.laws.specs.StoreLaws.{view-put-task, view-put-object, view-put-place, view-put-header, view-put-queue, view-note}
 use Rattle.laws.specs.WordLaws.{words-facts, words-test, fine-put-task, fine-put-object, fine-put-place, fine-put-header, fine-put-queue, fine-note}
 use Rattle.laws.specs.FactLaws.{to-test}
