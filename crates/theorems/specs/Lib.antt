@@ -16,3 +16,4 @@ pub mod CommitLoop
 pub mod CommitItems
 pub mod AwaitGather
 pub mod Preserved
+pub mod Sessions

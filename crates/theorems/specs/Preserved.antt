@@ -138,7 +138,7 @@ module _ (s : Store) (h : Whole s) where
   results-whole xs a = whole-mid (apply-future-results s xs) (h .facts .runner) (results-keep xs s a (mid-of s h))
 
 -- an event that does not make
-unfoldable Acting : Event → Type 0
+unfoldable pub Acting : Event → Type 0
 Acting (Event.coroutine f) = ⊥
 Acting Event.call = ⊥
 Acting (Event.pending c r) = ⊥
@@ -153,7 +153,7 @@ Acting (Event.cancel t) = Unit {0}
 Acting (Event.show o) = Unit {0}
 Acting Event.eager = Unit {0}
 
-accept-keeps : (s : Store) (e : Event) → Whole s → Acting e → first-refusal (refusals s e) ≡ 0 → Whole (accept s e .store)
+pub accept-keeps : (s : Store) (e : Event) → Whole s → Acting e → first-refusal (refusals s e) ≡ 0 → Whole (accept s e .store)
 unfolding Acting accept refusals answer-await in-both unmade
 accept-keeps s (Event.coroutine f) h a r = absurd a
 accept-keeps s Event.call h a r = absurd a
