@@ -1,1 +1,1 @@
-// No code: theorems about the machine, proved in specs/.
+// No function stands here: the theorems about the machine of document 01, in specs/.
