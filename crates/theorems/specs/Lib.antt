@@ -17,6 +17,7 @@ pub mod CommitItems
 pub mod AwaitGather
 pub mod Preserved
 pub mod Sessions
+pub mod NeverUnsound
 pub mod ClearLaws
 pub mod FillLaws
 pub mod GatherLaws
