@@ -30,3 +30,4 @@ pub mod PremiseLaws
 pub mod Begun
 pub mod BegunLaws
 pub mod AsyncioCases
+pub mod NoPanicLaws
