@@ -31,3 +31,4 @@ pub mod Begun
 pub mod BegunLaws
 pub mod AsyncioCases
 pub mod NoPanicLaws
+pub mod NoPanicWoken
