@@ -32,3 +32,5 @@ pub mod BegunLaws
 pub mod AsyncioCases
 pub mod NoPanicLaws
 pub mod NoPanicWoken
+pub mod Panicking
+pub mod PanickingLaws

@@ -4,7 +4,7 @@ use mathlib.Core.Path.{_≡_, refl, ap, sym, subst, _∙_}
 use mathlib.Core.Logic.{inl, inr}
 use mathlib.Core.Bool.{Bool, true, false, not, _||_}
 use mathlib.Core.List.{List, [], _∷_}
-use mathlib.Core.Option.{none, some, Option·some-injective}
+use mathlib.Core.Option.{Option, none, some, Option·some-injective}
 use Prim.Native.Nat.{ℕ, zero, suc, _+_, _-_, _≤_, _<_}
 use native.Mathlib.Nat.{le-refl}
 use native.Mathlib.Omega.{arith}
@@ -15,6 +15,7 @@ use Rattle.asyncio.specs.declared.TaskId.{TaskId}
 use Rattle.asyncio.specs.declared.Value.{Value}
 use Rattle.asyncio.specs.declared.Error.{Error}
 use Rattle.asyncio.specs.declared.Awaiter.{Awaiter}
+use Rattle.asyncio.specs.declared.OptionValue.{OptionValue}
 use Rattle.asyncio.specs.declared.TaskState.{TaskState}
 use Rattle.asyncio.specs.declared.CoroutineState.{CoroutineState}
 use Rattle.asyncio.specs.declared.ExternalFutureState.{ExternalFutureState}
@@ -32,17 +33,18 @@ use Rattle.queue.specs.Queue.{entries, front-of}
 use Rattle.queue.specs.QueueLaws.{length-entries, front-entry}
 use Rattle.machine.specs.Tests.{sum-below}
 use Rattle.machine.specs.Store.{Store, View, view, task, object, header}
-use Rattle.machine.specs.Scheduler.{AwaitedGather, PendingExternal, as-awaited, as-pending, bit, first-from, is-call, pending-external-in, pending-external}
+use Rattle.machine.specs.Scheduler.{AwaitedGather, PendingExternal, as-awaited, as-pending, bit, is-some, first-from, is-call, pending-external-in, pending-external}
 use Rattle.machine.specs.Scheduler.{driver, spawn-as, spawn-unless, spawn}
 use Rattle.machine.specs.Delivery.{fill-from}
 use Rattle.machine.specs.Commit.{Frame}
 use Rattle.rows.specs.Tables.{place-at}
-use Rattle.machine.specs.Machine.{is-run}
+use Rattle.machine.specs.Machine.{Event, is-run, in-running, refusals, refusal}
 use Rattle.machine.specs.Events.{new-function}
 use Rattle.machine.specs.Sound.{places-below, object-in-range, task-in-range, committed-places, items-below, entry-ready, is-ended, value-known, is-filled, rest-filled, gather-filled, object-filled, runs-now}
 use Rattle.laws.specs.Views.{update}
 use Rattle.laws.specs.Facts.{Open, Slotted, SoundBut, Nothing}
 use Rattle.laws.specs.TestLaws.{both-left, both-right, below, or-use, sum-last, sum-more}
+use Rattle.laws.specs.SoundLaws.{pass}
 use Rattle.laws.specs.DeliveryLaws.{absurd-some, awaited-object}
 use Rattle.theorems.specs.Stores.{Kept, Runs, Mid, Whole}
 use Rattle.theorems.specs.Deliver.{Flight}
@@ -339,6 +341,15 @@ pub found-alone : {k : ℕ} {P Q : ℕ → Type 0} (s : Store) → SoundBut k P 
     → PendingOf s call o → PendingOf s call p → o ≡ p
 unfolding view
 found-alone s h n call o p a b = h .calls n o p (a .made) (b .made) (a .external) (b .external) (a .is) (b .is) (a .of-call ∙ sym (b .of-call))
+
+-- scheduler.rs:217: an external is made pending only for a call that is not (refusal 6)
+pub registered-once : (s : Store) (call : ℕ) (r : OptionValue) → refusal s (Event.pending call r) ≡ 0 → pending-external s call ≡ none
+unfolding refusal refusals in-running is-some
+registered-once s call r e = by (pending-external s call) (pass 5 (is-some (pending-external s call)) _ (pass 4 _ _ (pass 3 _ _ (pass 2 _ _ (pass 1 _ _ e .1) .1) .1) .1) .0)
+  where
+    by : (o : Option ℕ) → is-some o ≡ false → o ≡ none
+    by none q = refl
+    by (some o) q = absurd (subst T q tt)
 
 -- ---- numbers of tasks
 
