@@ -34,3 +34,4 @@ pub mod NoPanicLaws
 pub mod NoPanicWoken
 pub mod Panicking
 pub mod PanickingLaws
+pub mod NoPanicPlaces
