@@ -9,14 +9,16 @@ use lib.Dec.{T, eqb}
 use lib.ListN.{length}
 use borrow.Author.Tests.{eqb-false}
 use Rattle.asyncio.specs.declared.TaskId.{TaskId}
+use Rattle.asyncio.specs.declared.Value.{Value}
 use Rattle.asyncio.specs.declared.Error.{Error}
+use Rattle.asyncio.specs.declared.Awaiter.{Awaiter}
 use Rattle.asyncio.specs.declared.TaskState.{TaskState}
 use Rattle.asyncio.specs.declared.CoroutineState.{CoroutineState}
 use Rattle.asyncio.specs.declared.Object.{Object}
 use Rattle.asyncio.specs.declared.Header.{Header}
 use Rattle.asyncio.specs.declared.Moment.{Moment}
 use Rattle.asyncio.specs.Limits.{task-limit}
-use Rattle.asyncio.specs.Ranges.{ErrorFits}
+use Rattle.asyncio.specs.Ranges.{AwaiterFits, ValueFits, ErrorFits}
 use Rattle.asyncio.specs.Numbers.{task-id}
 use Rattle.asyncio.specs.States.{pick, is-live, is-blocked}
 use Rattle.asyncio.specs.Kinds.{kind, is-completed}
@@ -25,9 +27,10 @@ use Rattle.queue.specs.Queue.{entries, front-of, pop-front, remove, occurrences
 use Rattle.queue.specs.QueueLaws.{length-entries, front-entry, entries-pop, entries-remove, pop-front-len, pop-front-length, remove-len, remove-length, distinct-without}
 use Rattle.machine.specs.Store.{Store, view, task, object, header, put-queue, exited}
 use Rattle.machine.specs.Scheduler.{remove-from-ready-queue, live-count}
-use Rattle.machine.specs.Delivery.{Delivery, deliver-awaiter-failure}
+use Rattle.machine.specs.Delivery.{Delivery, deliver-awaiter-success, deliver-awaiter-failure}
 use Rattle.machine.specs.Events.{Switched, yield, new-function, resume-next, resume-after-task-exit, handle-task-failure, start-by, start-task, activate-state, activate-within, activate}
 use Rattle.machine.specs.Sound.{runs-now}
+use Rattle.laws.specs.Views.{Sized}
 use Rattle.laws.specs.Facts.{Nothing}
 use Rattle.theorems.specs.ReadyTasks.{Queued, to-queued, queued-less, gone, was-there, head-gone}
 use Rattle.theorems.specs.Stores.{idle, Mid, Whole, queue-mid, mid-of}
@@ -35,7 +38,7 @@ use Rattle.theorems.specs.Deliver.{Landed, take-off, failure-keeps}
 use Rattle.theorems.specs.Cycle.{task-flight, remove-keeps}
 use Rattle.theorems.specs.Exits.{runner-low, runner-runs, runner-live, others-still}
 use Rattle.theorems.specs.NoPanicLaws.{Activated, starts, goes-on, raises-it, front-activated, main-started, IsCoroutine, task-coroutine}
-use Rattle.theorems.specs.NoPanicWoken.{failure-activated}
+use Rattle.theorems.specs.NoPanicWoken.{success-activated, failure-activated}
 use Rattle.theorems.specs.Panicking.{start-or-panic, task-or-panic, state-or-panic, within-or-panic, activate-or-panic}
 
 module _ (panic : Store → ℕ → Switched) (D : ℕ → Type 0) (hd : Header) where
@@ -165,6 +168,17 @@ module _ (panic : Store → ℕ → Switched) (D : ℕ → Type 0) (hd : Header)
 
 -- ---- events
 
+module _ (panic : Store → ℕ → Switched) (D : ℕ → Type 0) (hd : Header) where
+  -- No panic is reached where no task runs and the next one is to go on: in `resume`, and in `await` when the task has blocked (`block-keeps`).
+  pub next-safe : (s : Store) → Mid Nothing idle D hd s → resume-next activate s ≡ resume-next (activate-or-panic panic) s
+  next-safe s h = next-same panic D hd activate (activate-or-panic panic) (activate-same panic D hd) s h
+
+  -- Nor where the value of a task that has completed was delivered (`completion-keeps` has that it landed).
+  pub landed-safe : (s : Store) (a : Awaiter) (v : Value) → Sized s → AwaiterFits a → ValueFits v → Landed idle D hd (deliver-awaiter-success s a v)
+      → resume-after-task-exit activate (deliver-awaiter-success s a v) ≡ resume-after-task-exit (activate-or-panic panic) (deliver-awaiter-success s a v)
+  landed-safe s a v z f k h =
+      exit-same panic D hd activate (activate-or-panic panic) (activate-same panic D hd) (deliver-awaiter-success s a v) h (success-activated s a v z f k)
+
 module _ (panic : Store → ℕ → Switched) (s : Store) (h : Whole s) where
   abbrev D0 : ℕ → Type 0
   D0 o = T (is-completed (kind (object s o)))
@@ -174,8 +188,7 @@ module _ (panic : Store → ℕ → Switched) (s : Store) (h : Whole s) where
   resume-safe m =
       let k : Mid Nothing (runs-now (header s .moment)) D0 (header s) s = mid-of s h in
       let still : (u : ℕ) → runs-now (header s .moment) u ≡ false = λ u. ap (λ (y : Moment). runs-now y u) m ∙ (unfold runs-now in refl) in
-      next-same panic D0 (header s) activate (activate-or-panic panic) (activate-same panic D0 (header s)) s
-      (record { kept = k .kept; runs = λ u l. k .runs u l ∙ still u; done = k .done; head = k .head })
+      next-safe panic D0 (header s) s (record { kept = k .kept; runs = λ u l. k .runs u l ∙ still u; done = k .done; head = k .head })
 
   -- The event `fail`, of a spawned task, reaches no panic.
   pub fail-safe : (t : ℕ) (e : Error) → header s .moment ≡ Moment.Running (task-id (suc t)) → ErrorFits e
