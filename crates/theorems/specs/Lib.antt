@@ -32,3 +32,8 @@ pub mod Begun
 pub mod BegunLaws
 pub mod AsyncioCases
 pub mod OrphanLaws
+pub mod NoPanicLaws
+pub mod NoPanicWoken
+pub mod Panicking
+pub mod PanickingLaws
+pub mod NoPanicPlaces
