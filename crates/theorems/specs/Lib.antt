@@ -30,3 +30,5 @@ pub mod PremiseLaws
 pub mod Begun
 pub mod BegunLaws
 pub mod AsyncioCases
+pub mod Bounds
+pub mod BoundLaws
