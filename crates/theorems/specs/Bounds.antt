@@ -1,6 +1,6 @@
 -- Words for the bounds: what a commit leaves of the gathers that it opens, and its steps read off the stores before and after.
 use mathlib.Core.Path.{_≡_}
-use Prim.Native.Nat.{ℕ, suc, _+_, _-_, _*_, _≤_, _<_}
+use Prim.Native.Nat.{ℕ, _+_, _-_, _*_, _<_}
 use Rattle.machine.specs.Store.{Store}
 use Rattle.machine.specs.Commit.{Poll, ready, raised, pending, pending-count}
 use Rattle.laws.specs.Statements.{failed-count}

@@ -32,3 +32,5 @@ pub mod BegunLaws
 pub mod AsyncioCases
 pub mod Bounds
 pub mod BoundLaws
+pub mod FuelLaws
+pub mod LoopLaws
