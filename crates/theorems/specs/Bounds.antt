@@ -1,7 +1,13 @@
--- Words for the bounds: what a commit leaves of the gathers that it opens, and its steps read off the stores before and after.
+-- Words for the bounds: turns, what a commit leaves of the gathers that it opens, and its steps read off the stores before and after.
 use mathlib.Core.Path.{_≡_}
-use Prim.Native.Nat.{ℕ, _+_, _-_, _*_, _<_}
+use mathlib.Core.Option.{some}
+use Prim.Native.Nat.{ℕ, suc, _+_, _-_, _*_, _<_}
+use Rattle.asyncio.specs.declared.HeapId.{HeapId}
+use Rattle.asyncio.specs.declared.Value.{Value}
+use Rattle.asyncio.specs.declared.Error.{Error}
+use Rattle.asyncio.specs.declared.Awaiter.{Awaiter}
 use Rattle.machine.specs.Store.{Store}
+use Rattle.machine.specs.Delivery.{resolve-child, fail-gather}
 use Rattle.machine.specs.Commit.{Poll, ready, raised, pending, pending-count}
 use Rattle.laws.specs.Statements.{failed-count}
 
@@ -28,3 +34,17 @@ unfoldable pub StepsBetween : Store → Store → ℕ → Poll → Type 0
 StepsBetween s u steps (ready v) = steps ≡ 2 * opened-between s u - 1
 StepsBetween s u steps pending = steps ≡ 2 * opened-between s u - 1
 StepsBetween s u steps (raised e) = steps ≡ opened-between s u + settled-between s u
+
+-- ---- turns
+
+-- A value on its way up from one store and awaiter to another, through n gathers: each completes, and its list goes on to its own awaiter.
+pub data ValuePasses : Store → Awaiter → Value → ℕ → Store → Awaiter → Value → Type 0 where
+  value-here : (s : Store) (a : Awaiter) (v : Value) → ValuePasses s a v 0 s a v
+  value-on : (s : Store) (g source : HeapId) (v : Value) (b : Awaiter) (n : ℕ) (u : Store) (c : Awaiter) (w : Value) → resolve-child s (g .0) (source .0) v .onward ≡ some b
+      → ValuePasses (resolve-child s (g .0) (source .0) v .store) b (Value.List g) n u c w → ValuePasses s (Awaiter.GatherSlot g source) v (suc n) u c w
+
+-- The same for an error: each gather fails.
+pub data ErrorPasses (x : Error) : Store → Awaiter → ℕ → Store → Awaiter → Type 0 where
+  error-here : (s : Store) (a : Awaiter) → ErrorPasses x s a 0 s a
+  error-on : (s : Store) (g source : HeapId) (b : Awaiter) (n : ℕ) (u : Store) (c : Awaiter) → fail-gather s (g .0) x .onward ≡ some b
+      → ErrorPasses x (fail-gather s (g .0) x .store) b n u c → ErrorPasses x s (Awaiter.GatherSlot g source) (suc n) u c

@@ -34,3 +34,4 @@ pub mod Bounds
 pub mod BoundLaws
 pub mod FuelLaws
 pub mod LoopLaws
+pub mod TurnLaws
