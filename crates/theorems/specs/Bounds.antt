@@ -1,12 +1,13 @@
 -- Words for the bounds: turns, what a commit leaves of the gathers that it opens, and its steps read off the stores before and after.
 use mathlib.Core.Path.{_≡_}
+use mathlib.Core.List.{List, [], _∷_}
 use mathlib.Core.Option.{some}
 use Prim.Native.Nat.{ℕ, suc, _+_, _-_, _*_, _<_}
 use Rattle.asyncio.specs.declared.HeapId.{HeapId}
 use Rattle.asyncio.specs.declared.Value.{Value}
 use Rattle.asyncio.specs.declared.Error.{Error}
 use Rattle.asyncio.specs.declared.Awaiter.{Awaiter}
-use Rattle.machine.specs.Store.{Store}
+use Rattle.machine.specs.Store.{Store, Happening, spawned, blocked, reached, exited, removed}
 use Rattle.machine.specs.Delivery.{resolve-child, fail-gather}
 use Rattle.machine.specs.Commit.{Poll, ready, raised, pending, pending-count}
 use Rattle.laws.specs.Statements.{failed-count}
@@ -48,3 +49,21 @@ pub data ErrorPasses (x : Error) : Store → Awaiter → ℕ → Store → Await
   error-here : (s : Store) (a : Awaiter) → ErrorPasses x s a 0 s a
   error-on : (s : Store) (g source : HeapId) (b : Awaiter) (n : ℕ) (u : Store) (c : Awaiter) → fail-gather s (g .0) x .onward ≡ some b
       → ErrorPasses x (fail-gather s (g .0) x .store) b n u c → ErrorPasses x s (Awaiter.GatherSlot g source) (suc n) u c
+
+-- how many exits of tasks have happened
+unfoldable pub exits-in : List Happening → ℕ
+exits-in [] = 0
+exits-in (spawned t c ∷ hs) = exits-in hs
+exits-in (blocked t ∷ hs) = exits-in hs
+exits-in (reached t ∷ hs) = exits-in hs
+exits-in (exited t ∷ hs) = suc (exits-in hs)
+exits-in (removed t ∷ hs) = exits-in hs
+
+-- how many removals of tasks have happened
+unfoldable pub removals-in : List Happening → ℕ
+removals-in [] = 0
+removals-in (spawned t c ∷ hs) = removals-in hs
+removals-in (blocked t ∷ hs) = removals-in hs
+removals-in (reached t ∷ hs) = removals-in hs
+removals-in (exited t ∷ hs) = removals-in hs
+removals-in (removed t ∷ hs) = suc (removals-in hs)

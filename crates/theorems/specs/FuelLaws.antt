@@ -69,7 +69,8 @@ failure-fuel (suc k) s (Awaiter.GatherSlot g source) x z f l =
 
 -- ---- a chain of failed starts
 
-sized-gone : (u : Store) (t : ℕ) → Sized u → Sized (note (remove-task u t) (exited t))
+-- a task that has gone
+pub sized-gone : (u : Store) (t : ℕ) → Sized u → Sized (note (remove-task u t) (exited t))
 unfolding remove-task remove-from-ready-queue
 sized-gone u t z = sized-note _ (exited t) (sized-put-queue _ _ (sized-put-task u t absent z))
 

@@ -35,3 +35,4 @@ pub mod BoundLaws
 pub mod FuelLaws
 pub mod LoopLaws
 pub mod TurnLaws
+pub mod ChainLaws
