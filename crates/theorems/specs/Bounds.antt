@@ -1,13 +1,20 @@
 -- Words for the bounds: turns, what a commit leaves of the gathers that it opens, and its steps read off the stores before and after.
 use mathlib.Core.Path.{_≡_}
+use mathlib.Core.Bool.{false, not, _&&_}
 use mathlib.Core.List.{List, [], _∷_}
 use mathlib.Core.Option.{some}
 use Prim.Native.Nat.{ℕ, suc, _+_, _-_, _*_, _<_}
+use lib.ListN.{getD}
 use Rattle.asyncio.specs.declared.HeapId.{HeapId}
 use Rattle.asyncio.specs.declared.Value.{Value}
 use Rattle.asyncio.specs.declared.Error.{Error}
 use Rattle.asyncio.specs.declared.Awaiter.{Awaiter}
-use Rattle.machine.specs.Store.{Store, Happening, spawned, blocked, reached, exited, removed}
+use Rattle.asyncio.specs.Kinds.{kind, is-awaited}
+use Rattle.asyncio.specs.Limits.{object-limit}
+use Rattle.rows.specs.Tables.{object-at}
+use Rattle.machine.specs.Tests.{count}
+use Rattle.machine.specs.Store.{Store, object, Happening, spawned, blocked, reached, exited, removed}
+use Rattle.machine.specs.Scheduler.{as-awaited, Walk, walk-gather}
 use Rattle.machine.specs.Delivery.{resolve-child, fail-gather}
 use Rattle.machine.specs.Commit.{Poll, ready, raised, pending, pending-count}
 use Rattle.laws.specs.Statements.{failed-count}
@@ -67,3 +74,13 @@ removals-in (blocked t ∷ hs) = removals-in hs
 removals-in (reached t ∷ hs) = removals-in hs
 removals-in (exited t ∷ hs) = removals-in hs
 removals-in (removed t ∷ hs) = suc (removals-in hs)
+
+-- Cancel's walk goes on by n turns: each takes a gather off the stack and visits its open items.
+pub data Walks : Walk → ℕ → Walk → Type 0 where
+  walks-here : (w : Walk) → Walks w 0 w
+  walks-on : (w : Walk) (g : ℕ) (gs : List ℕ) (n : ℕ) (x : Walk) → w .stack ≡ g ∷ gs
+      → Walks (walk-gather (record { store = w .store; drivers = w .drivers; marks = w .marks; stack = gs }) (as-awaited (object (w .store) g))) n x → Walks w (suc n) x
+
+-- how many awaited gathers a walk has not reached yet
+unfoldable pub unreached : Walk → ℕ
+unreached w = count (λ o. is-awaited (kind (object-at (w .store .objects) o)) && not (getD (w .marks) o false)) object-limit

@@ -36,3 +36,4 @@ pub mod FuelLaws
 pub mod LoopLaws
 pub mod TurnLaws
 pub mod ChainLaws
+pub mod CancelTurns
