@@ -2,7 +2,7 @@
 -- turns as awaited gathers, and at most as many removals as live tasks.
 use mathlib.Core.Path.{_≡_, refl, sym, ap, _∙_}
 use mathlib.Core.Bool.{Bool, true, false, not, _&&_}
-use mathlib.Core.List.{[], _∷_}
+use mathlib.Core.List.{List, [], _∷_}
 use mathlib.Core.Option.{Option, none, some, Option·some-injective}
 use Prim.Native.Nat.{ℕ, zero, suc, _+_, _-_, _≤_, _<_}
 use native.Mathlib.Omega.{arith}
@@ -264,3 +264,41 @@ module _ (s : Store) (t : ℕ) (z : Sized s) (l : t < task-limit) (e : is-live (
       let k = walks-turned begun n x (begun-paid .fine) p in
       let over : walk-next walk-rest x [] ≡ x .store = unfold walk-next in refl in
       cancel-walks s t ∙ walks-rest begun n x (begun-paid .fine) p ∙ walk-once x (k .fine .marked) ∙ ap (walk-next walk-rest x) q ∙ over
+
+-- ---- it ends
+
+-- a walk that comes to an empty stack, after some turns
+pub record Ends (w : Walk) : Type 0 where
+  pub turns : ℕ
+  pub last : Walk
+  pub walks : Walks w turns last
+  pub empty : last .stack ≡ []
+
+walk-ends : (k : ℕ) (w : Walk) → Fine w → unreached w + length (w .stack) ≤ k → Ends w
+walk-ends zero w f p = by (w .stack) refl
+  where
+    by : (gs : List ℕ) → w .stack ≡ gs → Ends w
+    by [] e = record { turns = 0; last = w; walks = walks-here w; empty = e }
+    by (g ∷ gs) e = let stack : length (w .stack) ≡ suc (length gs) = ap length e in absurd (omega arith)
+walk-ends (suc k) w f p = by (w .stack) refl (λ x g q. walk-ends k x g q)
+  where
+    by : (gs : List ℕ) → w .stack ≡ gs → ((x : Walk) → Fine x → unreached x + length (x .stack) ≤ k → Ends x) → Ends w
+    by [] e h = record { turns = 0; last = w; walks = walks-here w; empty = e }
+    by (g ∷ gs) e h =
+        let v : Walk = record { store = w .store; drivers = w .drivers; marks = w .marks; stack = gs } in
+        let r = gather-paid v (as-awaited (object (w .store) g)) (record { sized = f .sized; marked = f .marked; drivers-fit = f .drivers-fit }) in
+        let same : unreached v ≡ unreached w = unfold unreached in refl in
+        let stack : length (w .stack) ≡ suc (length gs) = ap length e in
+        let x = h (walk-gather v (as-awaited (object (w .store) g))) (r .fine) (omega (arith, r .gathers, same, stack, p)) in
+        record { turns = suc (x .turns); last = x .last; walks = walks-on w g gs (x .turns) (x .last) e (x .walks); empty = x .empty }
+
+module _ (s : Store) (t : ℕ) (z : Sized s) (l : t < task-limit) (e : is-live (task s t .state) ≡ true) where
+  -- The walk of a cancel ends; by `cancel-ends` with the store that cancel leaves, and by `cancel-bound` within the awaited gathers and the live tasks.
+  pub cancel-terminates : Ends (begun s t z l e)
+  cancel-terminates = walk-ends (unreached (begun s t z l e) + length (begun s t z l e .stack)) (begun s t z l e) (begun-paid s t z l e .fine) (omega arith)
+
+  -- A whole cancel: as many removals more as live tasks less.
+  pub cancel-spent : removals-in (cancel-task s t .log) + live-count (cancel-task s t) ≡ removals-in (s .log) + live-count s
+  cancel-spent =
+      let x = cancel-terminates in
+      rw (cancel-ends s t z l e (x .turns) (x .last) (x .walks) (x .empty)) (cancel-removes s t z l e (x .turns) (x .last) (x .walks))
