@@ -37,3 +37,4 @@ pub mod LoopLaws
 pub mod TurnLaws
 pub mod ChainLaws
 pub mod CancelTurns
+pub mod AwaitSteps
