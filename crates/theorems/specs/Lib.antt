@@ -38,3 +38,4 @@ pub mod TurnLaws
 pub mod ChainLaws
 pub mod CancelTurns
 pub mod AwaitSteps
+pub mod SwitchPending
