@@ -37,3 +37,12 @@ pub mod NoPanicWoken
 pub mod Panicking
 pub mod PanickingLaws
 pub mod NoPanicPlaces
+pub mod Bounds
+pub mod BoundLaws
+pub mod FuelLaws
+pub mod LoopLaws
+pub mod TurnLaws
+pub mod ChainLaws
+pub mod CancelTurns
+pub mod AwaitSteps
+pub mod SwitchPending
