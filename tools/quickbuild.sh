@@ -24,9 +24,18 @@ END
 chmod +x "$room/tools/bin/clang"
 
 # every library that the program reaches, as source
-deps() { sed -n "s/^$1: *//p" "$2" | sed 's/#.*//'; }
+deps() { sed -n "s/^$1: *//p" crates.txt; }
+reached='' left=$(deps "$name")
+while [ -n "$(echo $left)" ]; do
+    next=''
+    for d in $left; do
+        case " $reached " in *" $d "*) continue ;; esac
+        reached="$reached $d" next="$next $(deps "$d")"
+    done
+    left=$next
+done
 words=(--lib "std=$kit/libs/std/src/lib.rt")
-for d in $(deps "$name" crates.txt); do
+for d in $reached; do
     if [ -d "crates/$d/src" ]; then words+=(--lib "$d=crates/$d/src/lib.rt"); else words+=(--lib "$d=$kit/libs/$d/src/lib.rt"); fi
 done
 printf '' >"$room/empty"

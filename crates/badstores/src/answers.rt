@@ -1,8 +1,8 @@
 // The words of an answer, as far as this program tells them apart.
-use events::answer::Answer;
 use libc::STDOUT_FILENO;
 use printing::print_number;
 use reads::Reading;
+use switching::answer::Answer;
 
 pub(crate) fn print_text(text: &[u8]) {
     io::write_all(STDOUT_FILENO, text);

@@ -5,10 +5,10 @@ use crate::compare::print_changed;
 use crate::compare::words_changed;
 use crate::store::Store;
 use asyncio::Value;
-use events::answer::Answer;
 use reads::eager;
 use session::Event;
 use session::dispatch;
+use switching::answer::Answer;
 
 // A store after an event, and its answer.
 pub struct After {

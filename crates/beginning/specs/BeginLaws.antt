@@ -20,9 +20,9 @@ use Rattle.machine.specs.Store.{Store, Happening, store-of, put-task, put-heade
 use Rattle.machine.specs.Machine as machine
 use Rattle.machine.specs.Machine.{Step}
 use Rattle.machine.specs.Lent.{slices-right, lent-begin}
-use Rattle.events.specs.Answer.{stepped-of}
-use Rattle.events.specs.declared.answer.Answer.{Answer}
-use Rattle.steps.specs.Lent.{are-slices}
+use Rattle.switching.specs.Answer.{stepped-of}
+use Rattle.switching.specs.declared.answer.Answer.{Answer}
+use Rattle.checks.specs.Lent.{are-slices}
 
 -- the counts of a fresh session
 abbrev pub main-header : Header

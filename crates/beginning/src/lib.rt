@@ -6,10 +6,10 @@ use asyncio::Moment;
 use asyncio::Task;
 use asyncio::TaskId;
 use asyncio::TaskState;
-use events::answer::Answer;
-use events::answer::Stepped;
+use checks::lent::slices_right;
 use queue::ReadyQueue;
-use steps::lent::slices_right;
+use switching::answer::Answer;
+use switching::answer::Stepped;
 ghost use mathlib.Core.Path.{_≡_};
 ghost use mathlib.Core.List.{List};
 ghost use Prim.Native.Nat.{ℕ};
@@ -18,7 +18,7 @@ ghost use Rattle.asyncio.specs.Limits.{tasks-length, objects-length};
 ghost use Rattle.rows.specs.Tables.{task-put, header-put};
 ghost use Rattle.machine.specs.Store.{Happening, store-of};
 ghost use Rattle.machine.specs.Lent.{lent-begin};
-ghost use Rattle.events.specs.Answer.{stepped-of};
+ghost use Rattle.switching.specs.Answer.{stepped-of};
 ghost use Rattle.beginning.specs.BeginLaws.{main-header, main-task};
 
 // All words 0.

@@ -1,5 +1,3 @@
-pub mod Polls
-pub mod ItemLaws
 pub mod Steps
 pub mod StepLaws
 pub mod Frames

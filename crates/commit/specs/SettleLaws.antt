@@ -14,12 +14,12 @@ use Rattle.queue.specs.declared.ReadyQueue.{ReadyQueue}
 use Rattle.machine.specs.Store.{Happening, store-of, object, put-object}
 use Rattle.machine.specs.Scheduler.{as-awaited}
 use Rattle.machine.specs.Commit.{ready, pending, gives, open-place, fill-place, with-state, set-gather, settle-as, settle-gather-commit, resume-in, resume-as, resume-after-child, unwind}
-use Rattle.commit.specs.Polls.{poll-of, awaited-of, option-awaited}
+use Rattle.polling.specs.Polls.{poll-of, awaited-of, option-awaited}
 use Rattle.commit.specs.Steps.{frame}
 use Rattle.commit.specs.Frames.{below}
-use Rattle.commit.specs.declared.awaited.AwaitedGather.{AwaitedGather}
-use Rattle.commit.specs.declared.awaited.OptionAwaited.{OptionAwaited}
-use Rattle.commit.specs.declared.items.Poll.{Poll}
+use Rattle.polling.specs.declared.awaited.AwaitedGather.{AwaitedGather}
+use Rattle.polling.specs.declared.awaited.OptionAwaited.{OptionAwaited}
+use Rattle.polling.specs.declared.items.Poll.{Poll}
 
 pub gather-set : (ts os ps : List ℕ) (q : ReadyQueue) (l : List Happening) (g : ℕ) (y : GatherState) {o x : Object} {us : List ℕ}
     → o ≡ object-at os g → x ≡ with-state o y → us ≡ object-put os g x → store-of ts us ps q l ≡ set-gather (store-of ts os ps q l) g y

@@ -24,12 +24,12 @@ use Rattle.machine.specs.Commit as machine
 use Rattle.laws.specs.Views.{Sized}
 use Rattle.laws.specs.DeliveryLaws.{absurd-some, awaited-fits}
 use Rattle.laws.specs.CommitLaws.{same-kinds-refl, awaited-count, StopKeeps, step-item-kinds}
-use Rattle.commit.specs.Polls.{poll-of, awaited-of, option-awaited, Itemed, with-item, itemed, item-at}
+use Rattle.polling.specs.Polls.{poll-of, awaited-of, option-awaited, Itemed, with-item, itemed, item-at}
 use Rattle.commit.specs.Steps.{Goes, with-bit, stepped, step-at, stopped, stop-log, WalksOn, frame}
-use Rattle.commit.specs.declared.awaited.AwaitedGather.{AwaitedGather}
-use Rattle.commit.specs.declared.awaited.OptionAwaited.{OptionAwaited}
-use Rattle.commit.specs.declared.items.Poll.{Poll}
-use Rattle.commit.specs.declared.items.ItemPoll.{ItemPoll}
+use Rattle.polling.specs.declared.awaited.AwaitedGather.{AwaitedGather}
+use Rattle.polling.specs.declared.awaited.OptionAwaited.{OptionAwaited}
+use Rattle.polling.specs.declared.items.Poll.{Poll}
+use Rattle.polling.specs.declared.items.ItemPoll.{ItemPoll}
 use Rattle.commit.specs.declared.step.Step.{Step}
 use Rattle.commit.specs.declared.step.Stop.{Stop}
 

@@ -1,6 +1,4 @@
 // Committing a gather and the gathers nested in it (async_exec.rs): commit_gather_tree.
-pub mod awaited; // a gather that is awaited
-pub mod items; // one item
 pub mod step; // the items of one gather
 pub mod settle; // opening, settling and unwinding
 pub mod tree; // the walk through the gathers

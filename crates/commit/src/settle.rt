@@ -1,7 +1,4 @@
 // The gathers of a commit: opened, settled, resumed, and failed when the commit fails.
-use crate::awaited::OptionAwaited;
-use crate::awaited::as_awaited;
-use crate::items::Poll;
 use crate::step::fill_place;
 use crate::step::open_place;
 use asyncio::Awaiter;
@@ -10,6 +7,9 @@ use asyncio::GatherState;
 use asyncio::HeapId;
 use asyncio::Object;
 use asyncio::Value;
+use polling::awaited::OptionAwaited;
+use polling::awaited::as_awaited;
+use polling::items::Poll;
 ghost use mathlib.Core.Path.{_≡_};
 ghost use mathlib.Core.List.{List, _∷_};
 ghost use Prim.Native.Nat.{ℕ, _<_, _≤_};
@@ -20,7 +20,7 @@ ghost use Rattle.rows.specs.Tables.{object-at};
 ghost use Rattle.queue.specs.declared.ReadyQueue.{ReadyQueue};
 ghost use Rattle.machine.specs.Store.{Happening, store-of};
 ghost use Rattle.machine.specs.Commit.{gives, with-state, set-gather, open-gather-commit, settle-gather-commit, resume-after-child, unwind};
-ghost use Rattle.commit.specs.Polls.{poll-of};
+ghost use Rattle.polling.specs.Polls.{poll-of};
 ghost use Rattle.commit.specs.Steps.{frame};
 ghost use Rattle.commit.specs.Frames.{below, GathersFit};
 

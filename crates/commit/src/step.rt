@@ -1,10 +1,4 @@
 // The items of one gather, left to right: step_gather_commit.
-use crate::awaited::AwaitedGather;
-use crate::awaited::OptionAwaited;
-use crate::awaited::as_awaited;
-use crate::items::ItemPoll;
-use crate::items::Poll;
-use crate::items::item;
 use asyncio::Error;
 use asyncio::GatherState;
 use asyncio::HeapId;
@@ -12,6 +6,12 @@ use asyncio::Object;
 use asyncio::OptionValue;
 use asyncio::Place;
 use asyncio::Value;
+use polling::awaited::AwaitedGather;
+use polling::awaited::OptionAwaited;
+use polling::awaited::as_awaited;
+use polling::items::ItemPoll;
+use polling::items::Poll;
+use polling::items::item;
 use queue::ReadyQueue;
 ghost use mathlib.Core.Path.{_≡_};
 ghost use mathlib.Core.List.{List};
@@ -23,7 +23,7 @@ ghost use Rattle.rows.specs.Tables.{object-at};
 ghost use Rattle.queue.specs.declared.ReadyQueue.{ReadyQueue};
 ghost use Rattle.machine.specs.Store.{Happening, store-of};
 ghost use Rattle.machine.specs.Commit.{at-end, open-place, fill-place, put-polled, step-gather-commit};
-ghost use Rattle.commit.specs.Polls.{poll-of, awaited-of};
+ghost use Rattle.polling.specs.Polls.{poll-of, awaited-of};
 ghost use Rattle.commit.specs.Steps.{Goes, with-bit, stepped, step-at, stopped, stop-log, frame};
 
 // How a walk stands after an item: it goes on, or it stops because the gather is not awaited, at a nested gather, at an error.

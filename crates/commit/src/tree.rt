@@ -1,5 +1,4 @@
 // commit_gather_tree: the walk through a gather and the gathers nested in it.
-use crate::items::Poll;
 use crate::settle::open_gather_commit;
 use crate::settle::resume_after_child;
 use crate::settle::settle_gather_commit;
@@ -8,6 +7,7 @@ use crate::step::Stop;
 use crate::step::step_gather_commit;
 use asyncio::Awaiter;
 use asyncio::HeapId;
+use polling::items::Poll;
 use queue::ReadyQueue;
 ghost use mathlib.Core.Path.{_≡_};
 ghost use mathlib.Core.List.{List};
@@ -16,7 +16,7 @@ ghost use lib.ListN.{length};
 ghost use Rattle.asyncio.specs.Limits.{object-limit, tasks-length, objects-length, places-length};
 ghost use Rattle.machine.specs.Store.{Happening, store-of};
 ghost use Rattle.machine.specs.Commit.{commit-gather-tree};
-ghost use Rattle.commit.specs.Polls.{poll-of};
+ghost use Rattle.polling.specs.Polls.{poll-of};
 ghost use Rattle.commit.specs.Frames.{tells, told};
 
 // The queue after a commit, what the await sees, and the number of commit steps.

@@ -18,8 +18,8 @@ use Rattle.machine.specs.Store.{Store, Happening, store-of}
 use Rattle.machine.specs.Delivery.{Delivery, Settled, nobody-woken, deliver-to-task, resolve-child, fail-gather, climb, awaited-in, awaited-count, send-value, send-error, deliver-awaiter-success, deliver-awaiter-failure}
 use Rattle.laws.specs.Views.{Sized}
 use Rattle.laws.specs.DeliveryLaws.{Sent, resolve-sent, fail-sent, success-climbs, failure-climbs}
-use Rattle.delivery.specs.Delivered.{delivered, settled}
-use Rattle.delivery.specs.declared.gather.Onward.{Onward}
+use Rattle.filling.specs.Delivered.{delivered, settled}
+use Rattle.filling.specs.declared.gather.Onward.{Onward}
 
 module _ (ts os ps : List ℕ) (q : ReadyQueue) where
   -- nobody gets anything

@@ -26,7 +26,7 @@ use Rattle.scheduler.specs.SearchLaws.{found-at, found-nothing}
 use Rattle.machine.specs.Store.{Store, Happening, store-of, object, put-object}
 use Rattle.machine.specs.Scheduler.{PendingExternal, as-pending, first-from, is-call, pending-external-in, pending-external}
 use Rattle.machine.specs.Delivery.{Delivery, value-or, settle-pending, settle-found, resolve-pending, fail-pending, resolve-future, fail-future, deliver-awaiter-success, deliver-awaiter-failure}
-use Rattle.delivery.specs.Delivered.{delivered}
+use Rattle.filling.specs.Delivered.{delivered}
 use Rattle.delivery.specs.Futures.{resolve-at, fail-at}
 
 -- what a search finds is below its end

@@ -1,13 +1,13 @@
 // Up the gathers: deliver_awaiter_success, deliver_awaiter_failure.
-use crate::gather::Onward;
-use crate::gather::fail;
-use crate::gather::resolve_child;
 use crate::task::Delivered;
 use crate::task::deliver_to_task;
 use asyncio::Awaiter;
 use asyncio::Error;
 use asyncio::TaskState;
 use asyncio::Value;
+use filling::gather::Onward;
+use filling::gather::fail;
+use filling::gather::resolve_child;
 use queue::ReadyQueue;
 use scheduler::tasks::Found;
 ghost use mathlib.Core.Path.{_≡_};
@@ -18,7 +18,7 @@ ghost use Rattle.asyncio.specs.Limits.{tasks-length, objects-length, places-len
 ghost use Rattle.asyncio.specs.Ranges.{AwaiterFits};
 ghost use Rattle.machine.specs.Store.{Happening, store-of};
 ghost use Rattle.machine.specs.Delivery.{deliver-awaiter-success, deliver-awaiter-failure};
-ghost use Rattle.delivery.specs.Delivered.{delivered};
+ghost use Rattle.filling.specs.Delivered.{delivered};
 
 // Success climbs through each gather that it completes, and wakes the blocked task at the end.
 pub fn deliver_awaiter_success(

@@ -1,6 +1,4 @@
 // Delivery (async_exec.rs): a result or an error goes to its awaiter, through gathers, to a blocked task.
-pub mod fill; // the places of a gather that wait for a source
 pub mod task; // to a task
-pub mod gather; // into a gather
 pub mod climb; // up the gathers
 pub mod future; // from an external

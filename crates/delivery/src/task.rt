@@ -10,7 +10,7 @@ ghost use lib.ListN.{length};
 ghost use Rattle.asyncio.specs.Limits.{task-limit, tasks-length};
 ghost use Rattle.machine.specs.Store.{Happening, store-of};
 ghost use Rattle.machine.specs.Delivery.{deliver-to-task};
-ghost use Rattle.delivery.specs.Delivered.{delivered};
+ghost use Rattle.filling.specs.Delivered.{delivered};
 
 // The queue after a delivery, and the task that it woke.
 pub struct Delivered {

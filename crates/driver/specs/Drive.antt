@@ -5,7 +5,7 @@ use lib.ListN.{length, replicate}
 use Rattle.asyncio.specs.Limits.{object-limit}
 use Rattle.asyncio.specs.States.{pick}
 use Rattle.machine.specs.Store.{Store, fresh}
-use Rattle.driver.specs.Driver.{Drives, drive-one}
+use Rattle.answering.specs.Driver.{Drives, drive-one}
 
 -- At most k records from a place on, and their lines; none where the driver stops, at the end of the input and after an 11.
 unfoldable pub drive-from : ℕ → Store → List ℕ → List ℕ → ℕ → ℕ → List ℕ

@@ -6,10 +6,10 @@ use Rattle.machine.specs.Lent.{slices-right, lengths-right, write-calls, writte
 use Rattle.reader.specs.Format.{value-at, size, pending-at, contents, parse-kind, parse}
 use Rattle.reader.specs.Items.{items-at}
 use Rattle.reader.specs.RecordCases.{worked-example}
-use Rattle.events.specs.Results.{results-from, results-in}
+use Rattle.futures.specs.Results.{results-from, results-in}
 use Rattle.lines.specs.Text.{bytes-of, digits, decimal, field, fields}
 use Rattle.lines.specs.Lines.{value-text, error-text, how-text, control-text, state-text, place-text, places-text, shown-text, yes-no, answer-text, line}
-use Rattle.driver.specs.Driver.{asked, refused-11, answered, drive-by, drive-one}
+use Rattle.answering.specs.Driver.{asked, refused-11, answered, drive-by, drive-one}
 use Rattle.driver.specs.Drive.{drive-from, drive-rest, drive}
 
 -- whoever unfolds this computes the driver: the machine, the format and the lines

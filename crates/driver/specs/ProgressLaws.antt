@@ -12,7 +12,7 @@ use Rattle.reader.specs.declared.Record.{Record}
 use Rattle.reader.specs.declared.Parsed.{Parsed}
 use Rattle.reader.specs.Format.{parse}
 use Rattle.reader.specs.ParseLaws.{parse-inside}
-use Rattle.driver.specs.Driver.{Asked, asked, Drives, refused-11, answered, drive-by, drive-one}
+use Rattle.answering.specs.Driver.{Asked, asked, Drives, refused-11, answered, drive-by, drive-one}
 use Rattle.driver.specs.Drive.{drive-from, drive-rest}
 
 -- a place behind another, within the input

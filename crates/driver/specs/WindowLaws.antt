@@ -16,8 +16,8 @@ use Rattle.reader.specs.ParseLaws.{EndsAt, parse-inside}
 use Rattle.reader.specs.Windows.{record-limit, move-record, move}
 use Rattle.reader.specs.WindowLaws.{parse-longer, parse-enough, parse-rest}
 use Rattle.endian.specs.Endian.{le1}
-use Rattle.events.specs.Results.{results-in}
-use Rattle.driver.specs.Driver.{Asked, asked, refused-11, answered, drive-by, drive-one}
+use Rattle.futures.specs.Results.{results-in}
+use Rattle.answering.specs.Driver.{Asked, asked, refused-11, answered, drive-by, drive-one}
 use Rattle.driver.specs.Drive.{moved}
 
 -- ---- bytes that follow

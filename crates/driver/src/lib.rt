@@ -1,23 +1,13 @@
 // One record of document 01's driver to one line: the record is read, the library answers, the line is written.
-mod asks; // what a record asks of the library
-mod answered; // what is asked, and its line
 
+use answering::answered::Driven;
 use queue::ReadyQueue;
 use reader::Parsed;
 ghost use mathlib.Core.List.{List};
 ghost use Rattle.machine.specs.Store.{Happening, store-of};
 ghost use Rattle.lines.specs.Out.{out-of};
-ghost use Rattle.driver.specs.Driver.{drive-one};
-ghost use Rattle.driver.specs.Drove.{Drove};
-
-// The queue after a record, where the output stands, the place of the next record, and whether it is to be read: not after the end of
-// the input, and not after an 11.
-pub struct Driven {
-    pub queue: ReadyQueue,
-    pub at: usize,
-    pub next: usize,
-    pub going: bool,
-}
+ghost use Rattle.answering.specs.Driver.{drive-one};
+ghost use Rattle.answering.specs.Drove.{Drove};
 
 // The record at `from` and its line, which is written at `at`. `number` is the record's.
 pub fn drive_record(
@@ -51,8 +41,8 @@ pub fn drive_record(
             }
         }
         Parsed::Record { what, next } => {
-            let asks = asks::asked_by(what);
-            answered::answered(
+            let asks = answering::asks::asked_by(what);
+            answering::answered::answered(
                 tasks,
                 objects,
                 places,

@@ -21,12 +21,12 @@ use Rattle.machine.specs.Scheduler.{pending-call-ids}
 use Rattle.machine.specs.Commit.{Polled, gives, await-external, commit-gather-tree}
 use Rattle.machine.specs.Events as machine
 use Rattle.machine.specs.Events.{Switched, Awaited, raises, resume-next, activate, stays, go-on, await-coroutine, await-external-future, await-gather, await-object, exec-get-awaitable}
-use Rattle.commit.specs.Polls.{poll-of}
+use Rattle.polling.specs.Polls.{poll-of}
 use Rattle.commit.specs.Frames.{Told, tells, told}
-use Rattle.commit.specs.declared.items.Poll.{Poll}
-use Rattle.events.specs.Control.{switched-of, awaited-of}
-use Rattle.events.specs.declared.control.How.{How}
-use Rattle.events.specs.declared.control.Control.{Control}
+use Rattle.polling.specs.declared.items.Poll.{Poll}
+use Rattle.switching.specs.Control.{switched-of, awaited-of}
+use Rattle.switching.specs.declared.control.How.{How}
+use Rattle.switching.specs.declared.control.Control.{Control}
 
 -- an await that another one stands for
 same-await : {x y : Awaited} → x ≡ y → {ts os ps : List ℕ} {q : ReadyQueue} (c : Control) (n : ℕ) → awaited-of (store-of ts os ps q (y .store .log)) c n ≡ y

@@ -17,7 +17,7 @@ use Rattle.asyncio.specs.declared.Awaiter.{Awaiter}
 use Rattle.rows.specs.Tables.{task-at, object-at, object-put}
 use Rattle.queue.specs.declared.ReadyQueue.{ReadyQueue}
 use Rattle.scheduler.specs.declared.tasks.Found.{Found}
-use Rattle.delivery.specs.Delivered.{number, delivered}
+use Rattle.filling.specs.Delivered.{number, delivered}
 use Rattle.machine.specs.Store.{Store, Happening, exited, store-of, task, object, put-object, note}
 use Rattle.machine.specs.Scheduler.{pending-calls-in, pending-call-ids, remove-task, cleanup}
 use Rattle.machine.specs.Delivery.{Delivery, deliver-awaiter-success}
@@ -26,11 +26,11 @@ use Rattle.machine.specs.Machine as machine
 use Rattle.machine.specs.Machine.{Step, is-empty, switched, end-main, task-completes, task-fails, repeat-wait, resume-with-resolved-futures}
 use Rattle.laws.specs.Views.{Sized}
 use Rattle.laws.specs.WokenLaws.{WokenFits, success-woken}
-use Rattle.events.specs.Control.{switched-of, FoundFits}
-use Rattle.events.specs.CycleLaws.{same-switch}
-use Rattle.events.specs.Answer.{stepped-of}
-use Rattle.events.specs.declared.control.Control.{Control}
-use Rattle.events.specs.declared.answer.Answer.{Answer}
+use Rattle.switching.specs.Control.{switched-of, FoundFits}
+use Rattle.switching.specs.CycleLaws.{same-switch}
+use Rattle.switching.specs.Answer.{stepped-of}
+use Rattle.switching.specs.declared.control.Control.{Control}
+use Rattle.switching.specs.declared.answer.Answer.{Answer}
 
 -- the task that a delivery woke is in range
 pub success-found : (ts os ps : List ℕ) (q : ReadyQueue) (l : List Happening) (a : Awaiter) (v : Value) → length ts ≡ tasks-length → length os ≡ objects-length → length ps ≡ places-length

@@ -1,9 +1,2 @@
-pub mod Control
-pub mod ControlLaws
-pub mod CycleLaws
-pub mod Answer
 pub mod EndLaws
-pub mod MakingLaws
-pub mod Results
-pub mod ResultLaws
 pub mod AwaitLaws

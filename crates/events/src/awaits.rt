@@ -1,7 +1,4 @@
 // Await, by the running task: exec_get_awaitable, await_coroutine, await_external_future, await_gather_future.
-use crate::control::Control;
-use crate::control::How;
-use crate::cycle::switch_or_yield;
 use asyncio::Awaiter;
 use asyncio::CallId;
 use asyncio::CoroutineState;
@@ -12,11 +9,14 @@ use asyncio::HeapId;
 use asyncio::Object;
 use asyncio::TaskId;
 use asyncio::Value;
-use commit::items::Poll;
-use commit::items::await_external;
 use commit::tree::commit_gather_tree;
+use polling::items::Poll;
+use polling::items::await_external;
 use queue::ReadyQueue;
 use scheduler::states::block_current_on;
+use switching::control::Control;
+use switching::control::How;
+use switching::cycle::switch_or_yield;
 ghost use mathlib.Core.Path.{_≡_};
 ghost use mathlib.Core.List.{List};
 ghost use Prim.Native.Nat.{ℕ, _<_};
@@ -24,8 +24,8 @@ ghost use lib.ListN.{length};
 ghost use Rattle.asyncio.specs.Limits.{task-limit, object-limit, tasks-length, objects-length, places-length};
 ghost use Rattle.machine.specs.Store.{Happening, store-of};
 ghost use Rattle.machine.specs.Events.{stays, raises, go-on, await-coroutine, await-external-future, await-gather, exec-get-awaitable};
-ghost use Rattle.commit.specs.Polls.{poll-of};
-ghost use Rattle.events.specs.Control.{awaited-of};
+ghost use Rattle.polling.specs.Polls.{poll-of};
+ghost use Rattle.switching.specs.Control.{awaited-of};
 
 // The queue after an await, who has control, and the number of commit steps.
 pub struct Awaited {

@@ -1,11 +1,4 @@
 // The end of a task: handle_task_completion, and the end of main; resume_with_resolved_futures.
-use crate::answer::Answer;
-use crate::answer::Stepped;
-use crate::control::Control;
-use crate::control::Switched;
-use crate::cycle::handle_task_failure;
-use crate::cycle::resume_after_task_exit;
-use crate::cycle::switch_or_yield;
 use asyncio::CoroutineState;
 use asyncio::Error;
 use asyncio::HeapId;
@@ -17,6 +10,13 @@ use queue::ReadyQueue;
 use scheduler::ends::cleanup;
 use scheduler::ends::no_call_pending;
 use scheduler::states::remove_task;
+use switching::answer::Answer;
+use switching::answer::Stepped;
+use switching::control::Control;
+use switching::control::Switched;
+use switching::cycle::handle_task_failure;
+use switching::cycle::resume_after_task_exit;
+use switching::cycle::switch_or_yield;
 ghost use mathlib.Core.Path.{_≡_};
 ghost use mathlib.Core.List.{List};
 ghost use Prim.Native.Nat.{ℕ, _<_};
@@ -26,8 +26,8 @@ ghost use Rattle.rows.specs.Tables.{object-at, object-put};
 ghost use Rattle.machine.specs.Store.{Happening, store-of};
 ghost use Rattle.machine.specs.Events.{completed, handle-task-completion};
 ghost use Rattle.machine.specs.Machine.{task-completes, task-fails, resume-with-resolved-futures};
-ghost use Rattle.events.specs.Control.{switched-of};
-ghost use Rattle.events.specs.Answer.{stepped-of};
+ghost use Rattle.switching.specs.Control.{switched-of};
+ghost use Rattle.switching.specs.Answer.{stepped-of};
 
 // A coroutine that has completed. Any other object stays.
 fn completed(x: Object) -> Object

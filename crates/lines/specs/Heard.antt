@@ -5,9 +5,9 @@ use lib.ListN.{length, take}
 use Rattle.machine.specs.Scheduler.{pending-calls-in}
 use Rattle.machine.specs.Events as machine-events
 use Rattle.machine.specs.Machine as machine
-use Rattle.events.specs.Control.{how-of}
-use Rattle.events.specs.declared.control.Control.{Control}
-use Rattle.events.specs.declared.answer.Answer.{Answer}
+use Rattle.switching.specs.Control.{how-of}
+use Rattle.switching.specs.declared.control.Control.{Control}
+use Rattle.switching.specs.declared.answer.Answer.{Answer}
 use Rattle.reads.specs.declared.Shown.{Shown}
 use Rattle.reads.specs.declared.Reading.{Reading}
 

@@ -19,10 +19,10 @@ use Rattle.machine.specs.Machine.{Event, Step, refusal, accept, decide, step, s
 use Rattle.machine.specs.Lent.{Lent, slices-right, lengths-right, written, written-by, lent-by, lent-step, lent-read}
 use Rattle.asyncio.specs.RangeLaws.{pick-has}
 use Rattle.laws.specs.MachineLaws.{take-write-calls}
-use Rattle.events.specs.Answer.{answer-of}
-use Rattle.events.specs.declared.control.Control.{Control}
-use Rattle.events.specs.declared.answer.Answer.{Answer}
-use Rattle.steps.specs.Lent.{lent-of}
+use Rattle.switching.specs.Answer.{answer-of}
+use Rattle.switching.specs.declared.control.Control.{Control}
+use Rattle.switching.specs.declared.answer.Answer.{Answer}
+use Rattle.checks.specs.Lent.{lent-of}
 use Rattle.reads.specs.Reads.{shown-of, show-answer}
 use Rattle.reads.specs.ReadLaws.{shows-places}
 use Rattle.reads.specs.declared.Shown.{Shown}

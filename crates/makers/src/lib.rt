@@ -1,19 +1,17 @@
-// The entries that make: coroutine, call, pending, settled, gather. Each demands nothing of the caller: a wrong length is 1, a store that is
+// The entries that make objects of the script: coroutine, gather. Each demands nothing of the caller: a wrong length is 1, a store that is
 // not sound is 2, and so on in the order of document 01's table; a refused call leaves everything as it was.
-use asyncio::OptionValue;
-use asyncio::Value;
-use events::answer::Answer;
-use events::answer::Stepped;
+use checks::lent::lengths_right;
 use queue::ReadyQueue;
 use sound::is_sound;
-use steps::lent::lengths_right;
+use switching::answer::Answer;
+use switching::answer::Stepped;
 ghost use mathlib.Core.Path.{_≡_};
 ghost use mathlib.Core.List.{List};
 ghost use Prim.Native.Nat.{ℕ};
 ghost use Rattle.machine.specs.Store.{Happening, store-of};
 ghost use Rattle.machine.specs.Machine.{Event};
 ghost use Rattle.machine.specs.Lent.{lent-step};
-ghost use Rattle.steps.specs.Lent.{lent-of};
+ghost use Rattle.checks.specs.Lent.{lent-of};
 
 // A coroutine of a function is made.
 pub fn coroutine(
@@ -28,96 +26,9 @@ pub fn coroutine(
 {
     if lengths_right(tasks, objects, places, calls) {
         if is_sound(queue, tasks, objects, places) {
-            let coroutine = steps::making::coroutine(objects, queue, function);
+            let coroutine = checks::making::coroutine(objects, queue, function);
             let q = coroutine.queue;
             let answer = coroutine.answer;
-            return Stepped { queue: q, answer };
-        }
-        return Stepped {
-            queue,
-            answer: Answer::Refused(2),
-        };
-    }
-    Stepped {
-        queue,
-        answer: Answer::Refused(1),
-    }
-}
-
-// A call number is handed out.
-pub fn call(
-    tasks: &[u64],
-    objects: &mut [u64],
-    places: &[u64],
-    calls: &[u64],
-    queue: ReadyQueue,
-) -> Stepped
-    ensures { λ r. ⌜ ((l : List Happening) → lent-of (store-of (now (tasks .entry)) (now (objects .exit)) (now (places .entry)) (r .queue) (lent-step (store-of (now (tasks .entry)) (now (objects .entry)) (now (places .entry)) queue l) (now (calls .entry)) Event.call .store .log)) (now (calls .entry)) (r .answer) ≡ lent-step (store-of (now (tasks .entry)) (now (objects .entry)) (now (places .entry)) queue l) (now (calls .entry)) Event.call) ⌝ }
-{
-    if lengths_right(tasks, objects, places, calls) {
-        if is_sound(queue, tasks, objects, places) {
-            let called = steps::making::call(objects, queue);
-            let q = called.queue;
-            let answer = called.answer;
-            return Stepped { queue: q, answer };
-        }
-        return Stepped {
-            queue,
-            answer: Answer::Refused(2),
-        };
-    }
-    Stepped {
-        queue,
-        answer: Answer::Refused(1),
-    }
-}
-
-// An external of a call is made pending, with a stored result or none.
-pub fn pending(
-    tasks: &[u64],
-    objects: &mut [u64],
-    places: &[u64],
-    calls: &[u64],
-    queue: ReadyQueue,
-    call: u32,
-    stored: OptionValue,
-) -> Stepped
-    ensures { λ r. ⌜ ((l : List Happening) → lent-of (store-of (now (tasks .entry)) (now (objects .exit)) (now (places .entry)) (r .queue) (lent-step (store-of (now (tasks .entry)) (now (objects .entry)) (now (places .entry)) queue l) (now (calls .entry)) (Event.pending call stored) .store .log)) (now (calls .entry)) (r .answer) ≡ lent-step (store-of (now (tasks .entry)) (now (objects .entry)) (now (places .entry)) queue l) (now (calls .entry)) (Event.pending call stored)) ⌝ }
-{
-    if lengths_right(tasks, objects, places, calls) {
-        if is_sound(queue, tasks, objects, places) {
-            let external = steps::making::pending(objects, queue, call, stored);
-            let q = external.queue;
-            let answer = external.answer;
-            return Stepped { queue: q, answer };
-        }
-        return Stepped {
-            queue,
-            answer: Answer::Refused(2),
-        };
-    }
-    Stepped {
-        queue,
-        answer: Answer::Refused(1),
-    }
-}
-
-// An external that has its value already.
-pub fn settled(
-    tasks: &[u64],
-    objects: &mut [u64],
-    places: &[u64],
-    calls: &[u64],
-    queue: ReadyQueue,
-    value: Value,
-) -> Stepped
-    ensures { λ r. ⌜ ((l : List Happening) → lent-of (store-of (now (tasks .entry)) (now (objects .exit)) (now (places .entry)) (r .queue) (lent-step (store-of (now (tasks .entry)) (now (objects .entry)) (now (places .entry)) queue l) (now (calls .entry)) (Event.settled value) .store .log)) (now (calls .entry)) (r .answer) ≡ lent-step (store-of (now (tasks .entry)) (now (objects .entry)) (now (places .entry)) queue l) (now (calls .entry)) (Event.settled value)) ⌝ }
-{
-    if lengths_right(tasks, objects, places, calls) {
-        if is_sound(queue, tasks, objects, places) {
-            let settled = steps::making::settled(objects, queue, value);
-            let q = settled.queue;
-            let answer = settled.answer;
             return Stepped { queue: q, answer };
         }
         return Stepped {
@@ -144,7 +55,7 @@ pub fn gather(
 {
     if lengths_right(tasks, objects, places, calls) {
         if is_sound(queue, tasks, objects, places) {
-            let gathered = steps::making::gather(objects, places, queue, items);
+            let gathered = checks::making::gather(objects, places, queue, items);
             let q = gathered.queue;
             let answer = gathered.answer;
             return Stepped { queue: q, answer };

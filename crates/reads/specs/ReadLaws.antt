@@ -18,11 +18,11 @@ use Rattle.machine.specs.Sound.{sound}
 use Rattle.machine.specs.Machine as machine
 use Rattle.machine.specs.Machine.{Event, Step, first-refusal, refusals, unmade, accept, step, slot-value, show-places, shown, can-await-eagerly}
 use Rattle.machine.specs.Lent.{slices-right, lent-read}
-use Rattle.events.specs.declared.answer.Answer.{Answer}
-use Rattle.steps.specs.Checked.{checked}
-use Rattle.steps.specs.CheckedLaws.{met, unmet, none-met, refuses, accepts}
-use Rattle.steps.specs.Lent.{are-slices}
-use Rattle.steps.specs.LentLaws.{step-checked, step-unsound}
+use Rattle.switching.specs.declared.answer.Answer.{Answer}
+use Rattle.checks.specs.Checked.{checked}
+use Rattle.checks.specs.CheckedLaws.{met, unmet, none-met, refuses, accepts}
+use Rattle.checks.specs.Lent.{are-slices}
+use Rattle.checks.specs.LentLaws.{step-checked, step-unsound}
 use Rattle.reads.specs.Reads.{places-from}
 
 -- the places that the machine shows

@@ -6,11 +6,11 @@ use asyncio::GatherState;
 use asyncio::HeapId;
 use asyncio::Object;
 use asyncio::Value;
-use events::answer::Answer;
+use checks::lent::slices_right;
 use queue::ReadyQueue;
 use scheduler::ends::can_await_eagerly;
 use sound::is_sound;
-use steps::lent::slices_right;
+use switching::answer::Answer;
 ghost use mathlib.Core.Path.{_≡_};
 ghost use mathlib.Core.List.{List};
 ghost use Prim.Native.Nat.{ℕ};
@@ -19,7 +19,7 @@ ghost use Rattle.asyncio.specs.declared.CallId.{CallId};
 ghost use Rattle.machine.specs.Store.{Store, Happening, store-of};
 ghost use Rattle.machine.specs.Machine.{Event, shown};
 ghost use Rattle.machine.specs.Lent.{lent-read};
-ghost use Rattle.events.specs.Answer.{answer-of};
+ghost use Rattle.switching.specs.Answer.{answer-of};
 ghost use Rattle.reads.specs.Reads.{shown-of, show-answer};
 
 // What a read of an object shows. The places of a gather are `count` from `first` on; bit i of `waiting` says that place i is open.

@@ -11,10 +11,13 @@ use lib.Dec.{ltb}
 use borrow.Author.Tests.{ltb-true, ltb-false}
 use lib.ListN.{length}
 use Rattle.asyncio.specs.Layout.{to-object, to-task, to-place, to-header}
-use Rattle.asyncio.specs.Ranges.{ObjectFits, TaskFits, PlaceFits, HeaderFits}
+use Rattle.asyncio.specs.Limits.{object-limit}
+use Rattle.asyncio.specs.Parts.{first-of, count-of}
+use Rattle.asyncio.specs.Ranges.{ObjectFits, TaskFits, PlaceFits, HeaderFits, PlacesFit}
 use Rattle.rows.specs.RowLaws.{length-put-at, read-put, row-put-apart, read-fits}
 use Rattle.rows.specs.Tables.{task-codec, object-codec, place-codec, header-codec, task-start, object-start, place-start}
 use Rattle.rows.specs.Tables.{task-at, task-put, object-at, object-put, place-at, place-put, header-at, header-put}
+use Rattle.asyncio.specs.declared.HeapId.{HeapId}
 use Rattle.asyncio.specs.declared.Object.{Object}
 use Rattle.asyncio.specs.declared.Task.{Task}
 use Rattle.asyncio.specs.declared.Place.{Place}
@@ -110,3 +113,18 @@ header-at-fits w = read-fits header-codec w 0
 -- so is a header that the code has read
 pub header-read : (w : List ℕ) {h : Header} → h ≡ header-at w → HeaderFits h
 header-read w e = rw e (header-at-fits w)
+
+parts-fit : (x : Object) → ObjectFits x → PlacesFit (first-of x) (count-of x)
+unfolding first-of count-of
+parts-fit Object.Unmade f = record { within = omega arith; at-most = omega arith }
+parts-fit (Object.Coroutine g s) f = record { within = omega arith; at-most = omega arith }
+parts-fit (Object.ExternalFuture c s) f = record { within = omega arith; at-most = omega arith }
+parts-fit (Object.GatherFuture i n s) f = f .0
+
+-- the places of an object that was read are in range
+pub places-fit : (os : List ℕ) (g : ℕ) {i n : ℕ} → i ≡ first-of (object-at os g) → n ≡ count-of (object-at os g) → PlacesFit i n
+places-fit os g e f = rw (e, f) (parts-fit (object-at os g) (object-at-fits os g))
+
+-- so is the coroutine of a task that was read
+pub coroutine-fits : (ts : List ℕ) (t : ℕ) {c : HeapId} → c ≡ task-at ts t .coroutine → c .0 < object-limit
+coroutine-fits ts t e = rw e (task-at-fits ts t .coroutine-fits)

@@ -6,6 +6,3 @@ pub mod Spawn
 pub mod SpawnLaws
 pub mod Ends
 pub mod EndLaws
-pub mod Cancel
-pub mod DriverLaws
-pub mod CancelLaws

@@ -1,17 +1,17 @@
 // The entries of the running task: await_object, complete, fail.
 use asyncio::Value;
-use events::answer::Answer;
-use events::answer::Stepped;
+use checks::lent::lengths_right;
 use queue::ReadyQueue;
 use sound::is_sound;
-use steps::lent::lengths_right;
+use switching::answer::Answer;
+use switching::answer::Stepped;
 ghost use mathlib.Core.Path.{_≡_};
 ghost use mathlib.Core.List.{List};
 ghost use Prim.Native.Nat.{ℕ};
 ghost use Rattle.machine.specs.Store.{Happening, store-of};
 ghost use Rattle.machine.specs.Machine.{Event};
 ghost use Rattle.machine.specs.Lent.{lent-step};
-ghost use Rattle.steps.specs.Lent.{lent-of};
+ghost use Rattle.checks.specs.Lent.{lent-of};
 
 // The running task awaits an object.
 pub fn await_object(
@@ -29,7 +29,7 @@ pub fn await_object(
             let awaited = steps::running::await_object(tasks, objects, places, queue, o);
             let q = awaited.queue;
             let answer = awaited.answer;
-            steps::lent::tell(objects, calls, answer);
+            checks::lent::tell(objects, calls, answer);
             return Stepped { queue: q, answer };
         }
         return Stepped {
@@ -59,7 +59,7 @@ pub fn complete(
             let completed = steps::running::complete(tasks, objects, places, queue, value);
             let rest = completed.queue;
             let answer = completed.answer;
-            steps::lent::tell(objects, calls, answer);
+            checks::lent::tell(objects, calls, answer);
             return Stepped {
                 queue: rest,
                 answer,
@@ -92,7 +92,7 @@ pub fn fail(
             let failed = steps::running::fail(tasks, objects, queue, n);
             let q = failed.queue;
             let answer = failed.answer;
-            steps::lent::tell(objects, calls, answer);
+            checks::lent::tell(objects, calls, answer);
             return Stepped { queue: q, answer };
         }
         return Stepped {

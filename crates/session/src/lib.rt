@@ -1,13 +1,13 @@
 // One event, whichever it is.
 use asyncio::OptionValue;
 use asyncio::Value;
-use events::answer::Stepped;
 use queue::ReadyQueue;
+use switching::answer::Stepped;
 ghost use mathlib.Core.Path.{_≡_};
 ghost use mathlib.Core.List.{List};
 ghost use Rattle.machine.specs.Store.{Happening, store-of};
 ghost use Rattle.machine.specs.Lent.{lent-step};
-ghost use Rattle.steps.specs.Lent.{lent-of};
+ghost use Rattle.checks.specs.Lent.{lent-of};
 ghost use Rattle.session.specs.Dispatch.{event-of};
 
 // The events of kinds 1 to 10. The items of a gather and the results of a batch stand in slices of their own.
@@ -38,11 +38,11 @@ pub fn dispatch(
 {
     match event {
         Event::Coroutine(f) => makers::coroutine(tasks, objects, places, calls, queue, f),
-        Event::Call => makers::call(tasks, objects, places, calls, queue),
+        Event::Call => externals::call(tasks, objects, places, calls, queue),
         Event::Pending { call, stored } => {
-            makers::pending(tasks, objects, places, calls, queue, call, stored)
+            externals::pending(tasks, objects, places, calls, queue, call, stored)
         }
-        Event::Settled(v) => makers::settled(tasks, objects, places, calls, queue, v),
+        Event::Settled(v) => externals::settled(tasks, objects, places, calls, queue, v),
         Event::Gather => makers::gather(tasks, objects, places, calls, queue, items),
         Event::Await(o) => script::await_object(tasks, objects, places, calls, queue, o),
         Event::Complete(v) => script::complete(tasks, objects, places, calls, queue, v),

@@ -1,13 +1,3 @@
-pub mod Loops
-pub mod Words
-pub mod Numbers
-pub mod NumberLaws
-pub mod ValueLaws
-pub mod Marks
-pub mod QueueLaws
-pub mod CallLaws
-pub mod DriverLaws
-pub mod AwaiterLaws
 pub mod FilledLaws
 pub mod SlotLaws
 pub mod RunnerLaws

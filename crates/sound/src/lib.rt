@@ -1,13 +1,5 @@
 // The check of soundness (document 01: "A store is sound when"), clause by clause. It runs at every call: linear in the rows in use, and
-// nothing past the counts is looked at. Each clause is a loop that returns false at the first row that fails. Only a pending call that is
-// not above all before it is looked for among those.
-pub mod words; // rows in use are the words of what they are read as
-pub mod numbers; // clauses 1 and 2
-pub mod values; // clauses 3 and 4
-pub mod entries; // clause 5
-pub mod calls; // clause 6
-pub mod drivers; // clause 7
-pub mod blocked; // clause 8
+// nothing past the counts is looked at. The words and clauses 1 to 8 are in `soundrows` and `soundtasks`.
 pub mod filled; // clause 9
 pub mod slots; // clause 10
 pub mod runner; // clause 11
@@ -31,10 +23,10 @@ fn rows_canonical(header: Header, tasks: &[u64], objects: &[u64], places: &[u64]
     requires { ⌜ (length (now tasks) ≡ tasks-length) × (length (now objects) ≡ objects-length) × (length (now places) ≡ places-length) × HeaderFits header ⌝ }
     ensures { λ r. ⌜ r ≡ rows-canonical header (now (tasks .entry)) (now (objects .entry)) (now (places .entry)) ⌝ }
 {
-    if words::header_same(objects) {
-        if words::tasks_same(tasks, header.next as usize) {
-            if words::objects_same(objects, header.made as usize) {
-                return words::places_same(places, header.used as usize);
+    if soundrows::words::header_same(objects) {
+        if soundrows::words::tasks_same(tasks, header.next as usize) {
+            if soundrows::words::objects_same(objects, header.made as usize) {
+                return soundrows::words::places_same(places, header.used as usize);
             }
             return false;
         }
@@ -48,10 +40,10 @@ fn tables_sound(header: Header, tasks: &[u64], objects: &[u64], places: &[u64]) 
     requires { ⌜ (length (now tasks) ≡ tasks-length) × (length (now objects) ≡ objects-length) × (length (now places) ≡ places-length) × HeaderFits header ⌝ }
     ensures { λ r. ⌜ r ≡ tables-sound header (object-at (now (objects .entry))) (task-at (now (tasks .entry))) (place-at (now (places .entry))) ⌝ }
 {
-    if numbers::numbers_in_range(header, tasks, objects) {
-        if numbers::spawned_in_range(header, objects) {
-            if values::items_lower(header.made, objects, places) {
-                return values::lists_completed(header, tasks, objects, places);
+    if soundrows::numbers::numbers_in_range(header, tasks, objects) {
+        if soundrows::numbers::spawned_in_range(header, objects) {
+            if soundrows::values::items_lower(header.made, objects, places) {
+                return soundrows::values::lists_completed(header, tasks, objects, places);
             }
             return false;
         }
@@ -65,10 +57,10 @@ fn tasks_sound(header: Header, ids: [u16; 513], n: usize, tasks: &[u64], objects
     requires { ⌜ (length (now tasks) ≡ tasks-length) × (length (now objects) ≡ objects-length) × HeaderFits header × (n ≤ task-limit) ⌝ }
     ensures { λ r. ⌜ r ≡ tasks-sound header (object-at (now (objects .entry))) (task-at (now (tasks .entry))) (take n ids) ⌝ }
 {
-    if entries::queue_ready(ids, n, header.next, tasks) {
-        if calls::calls_distinct(header, objects) {
-            if drivers::one_driver(header.next, tasks) {
-                return blocked::blocked_match(header, tasks, objects);
+    if soundtasks::entries::queue_ready(ids, n, header.next, tasks) {
+        if soundtasks::calls::calls_distinct(header, objects) {
+            if soundtasks::drivers::one_driver(header.next, tasks) {
+                return soundtasks::blocked::blocked_match(header, tasks, objects);
             }
             return false;
         }

@@ -1,14 +1,14 @@
 // Events of the running task: await, complete, fail.
-use crate::tests::Turn;
-use crate::tests::running;
 use asyncio::Error;
 use asyncio::HeapId;
 use asyncio::Value;
-use events::answer::Answer;
-use events::answer::Stepped;
+use checks::tests::Turn;
+use checks::tests::running;
 use events::awaits::exec_get_awaitable;
 use queue::ReadyQueue;
-use sound::values::value_known;
+use soundrows::values::value_known;
+use switching::answer::Answer;
+use switching::answer::Stepped;
 ghost use mathlib.Core.Path.{_≡_};
 ghost use mathlib.Core.List.{List};
 ghost use Prim.Native.Nat.{ℕ, _<_, _≤_};
@@ -16,8 +16,8 @@ ghost use lib.ListN.{length};
 ghost use Rattle.asyncio.specs.Limits.{tasks-length, objects-length, places-length};
 ghost use Rattle.machine.specs.Store.{Happening, store-of};
 ghost use Rattle.machine.specs.Machine.{Event};
-ghost use Rattle.events.specs.Answer.{stepped-of};
-ghost use Rattle.steps.specs.Checked.{checked};
+ghost use Rattle.switching.specs.Answer.{stepped-of};
+ghost use Rattle.checks.specs.Checked.{checked};
 
 // The running task awaits an object.
 pub fn await_object(

@@ -1,12 +1,12 @@
 // Events of the host: results, resume.
-use crate::tests::any_bad;
-use crate::tests::any_unknown;
 use asyncio::Moment;
-use events::answer::Answer;
-use events::answer::Stepped;
+use checks::tests::any_bad;
+use checks::tests::any_unknown;
 use events::ends::resume_with_resolved_futures;
-use events::results::apply_future_results;
+use futures::results::apply_future_results;
 use queue::ReadyQueue;
+use switching::answer::Answer;
+use switching::answer::Stepped;
 ghost use mathlib.Core.Path.{_≡_};
 ghost use mathlib.Core.List.{List};
 ghost use Prim.Native.Nat.{ℕ};
@@ -16,9 +16,9 @@ ghost use Rattle.rows.specs.Tables.{header-at};
 ghost use Rattle.machine.specs.Store.{Happening, store-of};
 ghost use Rattle.machine.specs.Sound.{is-ended};
 ghost use Rattle.machine.specs.Machine.{Event};
-ghost use Rattle.events.specs.Answer.{stepped-of};
-ghost use Rattle.events.specs.Results.{results-in};
-ghost use Rattle.steps.specs.Checked.{checked};
+ghost use Rattle.switching.specs.Answer.{stepped-of};
+ghost use Rattle.futures.specs.Results.{results-in};
+ghost use Rattle.checks.specs.Checked.{checked};
 
 // Has the session ended?
 fn is_ended(objects: &[u64]) -> bool

@@ -1,7 +1,7 @@
 use lib.ListN.{length}
 use mathlib.Core.Path.{_≡_, refl, sym, ap, _∙_}
 use denote.Ref.{now}
-use Rattle.steps.specs.LentLaws.{slices-have}
+use Rattle.checks.specs.LentLaws.{slices-have}
 use Rattle.beginning.specs.BeginLaws.{begin-refused, begins}
 use borrow.Author.Needs.{needs}
 use Rattle.beginning.proofs.begin.Statement.{statement}

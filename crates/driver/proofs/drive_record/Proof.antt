@@ -1,6 +1,6 @@
 use mathlib.Core.Path.{sym, _∙_}
 use denote.Ref.{now}
-use Rattle.driver.specs.DriveLaws.{same-drives, asks-inside, end-drove, none-drove, record-drives}
+use Rattle.answering.specs.DriveLaws.{same-drives, asks-inside, end-drove, none-drove, record-drives}
 use borrow.Author.Needs.{needs}
 use Rattle.driver.proofs.drive_record.Statement.{statement}
 use Rattle.driver.proofs.drive_record.Tie as tie

@@ -4,7 +4,7 @@ use mathlib.Core.List.{[]}
 use denote.Ref.{now}
 use Rattle.machine.specs.Store.{store-of}
 use Rattle.machine.specs.Machine.{Event}
-use Rattle.steps.specs.LentLaws.{slices-have}
+use Rattle.checks.specs.LentLaws.{slices-have}
 use Rattle.reads.specs.ReadLaws.{read-length, read-unsound, read-done, eager-passes, eager-gives}
 use borrow.Author.Needs.{needs}
 use Rattle.reads.proofs.eager.Statement.{statement}

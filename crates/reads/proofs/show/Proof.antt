@@ -7,7 +7,7 @@ use Rattle.asyncio.specs.Ranges.{HeaderFits}
 use Rattle.rows.specs.TableLaws.{header-read}
 use Rattle.machine.specs.Store.{store-of}
 use Rattle.machine.specs.Machine.{Event}
-use Rattle.steps.specs.LentLaws.{slices-have}
+use Rattle.checks.specs.LentLaws.{slices-have}
 use Rattle.reads.specs.ReadLaws.{read-length, read-unsound, read-refused, read-done, show-unmade, show-made, show-gives}
 use borrow.Author.Needs.{needs}
 use Rattle.reads.proofs.show.Statement.{statement}

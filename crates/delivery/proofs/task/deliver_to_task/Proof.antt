@@ -1,5 +1,5 @@
 use denote.Ref.{now}
-use Rattle.delivery.specs.StepLaws.{reaches, reaches-not}
+use Rattle.filling.specs.StepLaws.{reaches, reaches-not}
 use borrow.Author.Needs.{needs}
 use Rattle.delivery.proofs.task.deliver_to_task.Statement.{statement}
 use Rattle.delivery.proofs.task.deliver_to_task.Tie as tie

@@ -1,7 +1,7 @@
 use mathlib.Core.Path.{sym, _∙_}
 use native.Mathlib.Omega.{arith}
 use denote.Ref.{now}
-use Rattle.scheduler.specs.CancelLaws.{places-fit}
+use Rattle.rows.specs.TableLaws.{places-fit}
 use Rattle.sound.specs.SlotLaws.{holds-settled, holds-awaited}
 use borrow.Author.Needs.{needs}
 use Rattle.sound.proofs.slots.gather_holds.Statement.{statement}

@@ -1,0 +1,3 @@
+pub mod Driver
+pub mod Drove
+pub mod DriveLaws

@@ -1,0 +1,2 @@
+// Cancelling a task (scheduler.rs).
+pub mod cancel; // cancel_task

@@ -1,0 +1,3 @@
+pub mod MakingLaws
+pub mod Results
+pub mod ResultLaws

@@ -1,0 +1,5 @@
+pub mod Loops
+pub mod Words
+pub mod Numbers
+pub mod NumberLaws
+pub mod ValueLaws

@@ -1,0 +1,4 @@
+pub mod Control
+pub mod ControlLaws
+pub mod CycleLaws
+pub mod Answer
