@@ -11,7 +11,7 @@ ghost use Rattle.machine.specs.Machine as machine;
 ghost use Rattle.reader.specs.Items.{items-at};
 ghost use Rattle.events.specs.Results.{results-in};
 ghost use Rattle.session.specs.Dispatch.{event-of};
-ghost use Rattle.lines.specs.Out.{out-of};
+ghost use Rattle.texts.specs.Out.{out-of};
 ghost use Rattle.driver.specs.Driver.{Asked, refused-11, answered};
 ghost use Rattle.driver.specs.Drove.{Drove, asked-of, InInput};
 

@@ -6,7 +6,7 @@ use queue::ReadyQueue;
 use reader::Parsed;
 ghost use mathlib.Core.List.{List};
 ghost use Rattle.machine.specs.Store.{Happening, store-of};
-ghost use Rattle.lines.specs.Out.{out-of};
+ghost use Rattle.texts.specs.Out.{out-of};
 ghost use Rattle.driver.specs.Driver.{drive-one};
 ghost use Rattle.driver.specs.Drove.{Drove};
 

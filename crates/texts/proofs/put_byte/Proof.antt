@@ -1,7 +1,7 @@
-use Rattle.lines.specs.WriteLaws.{byte-in, byte-out}
+use Rattle.texts.specs.WriteLaws.{byte-in, byte-out}
 use borrow.Author.Needs.{needs}
-use Rattle.lines.proofs.out.put_byte.Statement.{statement}
-use Rattle.lines.proofs.out.put_byte.Tie as tie
+use Rattle.texts.proofs.put_byte.Statement.{statement}
+use Rattle.texts.proofs.put_byte.Tie as tie
 
 slice-write-out : tie.Need-slice-write-out
 slice-write-out c = search needs

@@ -7,8 +7,8 @@ use native.Mathlib.Omega.{arith}
 use lib.Dec.{ltb}
 use lib.ListN.{length, getD, length-append, List·getD-append}
 use borrow.Author.Tests.{lt-ltb, le-ltb, ltb-true, ltb-false}
-use Rattle.lines.specs.OutLaws.{by-test}
-use Rattle.lines.specs.Text.{digits, decimal}
+use Rattle.texts.specs.OutLaws.{by-test}
+use Rattle.texts.specs.Text.{digits, decimal}
 
 tenth : (k n : ℕ) → n < 10 ^ suc k → n / 10 < 10 ^ k
 tenth k n h = let w : n < 10 ^ k * 10 = rw (← pow-suc 10 k) h in div-lt-iff-lt-mul {k = 10} (omega arith) .1 w

@@ -1,13 +1,13 @@
 // Bytes, texts and numbers written into a lent buffer. Each function takes the place of the next byte and gives the place behind what it
 // wrote. Where the buffer ends nothing more is written.
-ghost use Prim.Native.Nat.{_+_};
+ghost use Prim.Native.Nat.{_+_, _*_};
 ghost use mathlib.Core.List.{[], _∷_, _++_};
 ghost use lib.ListN.{length};
-ghost use Rattle.lines.specs.Out.{out-of, Wrote};
-ghost use Rattle.lines.specs.Text.{decimal, field};
+ghost use Rattle.texts.specs.Out.{out-of, Wrote};
+ghost use Rattle.texts.specs.Text.{decimal, field, fields};
 
 // One byte.
-pub(crate) fn put_byte(out: &mut [u8], at: usize, b: u8) -> usize
+pub fn put_byte(out: &mut [u8], at: usize, b: u8) -> usize
     ensures { λ r. ⌜ Wrote 1 (out-of (now (out .entry)) at) (out-of (now (out .exit)) r) (b ∷ []) ⌝ }
 {
     if at < out.len() {
@@ -18,7 +18,7 @@ pub(crate) fn put_byte(out: &mut [u8], at: usize, b: u8) -> usize
 }
 
 // The bytes of a text.
-pub(crate) fn put_text(out: &mut [u8], at: usize, text: &[u8]) -> usize
+pub fn put_text(out: &mut [u8], at: usize, text: &[u8]) -> usize
     ensures { λ r. ⌜ Wrote (length (now (text .entry))) (out-of (now (out .entry)) at) (out-of (now (out .exit)) r) (now (text .entry)) ⌝ }
 {
     let mut p = at;
@@ -31,7 +31,7 @@ pub(crate) fn put_text(out: &mut [u8], at: usize, text: &[u8]) -> usize
 }
 
 // A number in decimal.
-pub(crate) fn put_decimal(out: &mut [u8], at: usize, n: u64) -> usize
+pub fn put_decimal(out: &mut [u8], at: usize, n: u64) -> usize
     ensures { λ r. ⌜ Wrote 20 (out-of (now (out .entry)) at) (out-of (now (out .exit)) r) (decimal n) ⌝ }
 {
     if n < 10 {
@@ -42,7 +42,7 @@ pub(crate) fn put_decimal(out: &mut [u8], at: usize, n: u64) -> usize
 }
 
 // A number after a space.
-pub(crate) fn put_field(out: &mut [u8], at: usize, n: u64) -> usize
+pub fn put_field(out: &mut [u8], at: usize, n: u64) -> usize
     ensures { λ r. ⌜ Wrote 21 (out-of (now (out .entry)) at) (out-of (now (out .exit)) r) (field n) ⌝ }
 {
     let p = put_byte(out, at, 32);
@@ -50,9 +50,22 @@ pub(crate) fn put_field(out: &mut [u8], at: usize, n: u64) -> usize
 }
 
 // A text, and a number after a space.
-pub(crate) fn put_named(out: &mut [u8], at: usize, text: &[u8], n: u64) -> usize
+pub fn put_named(out: &mut [u8], at: usize, text: &[u8], n: u64) -> usize
     ensures { λ r. ⌜ Wrote (length (now (text .entry)) + 21) (out-of (now (out .entry)) at) (out-of (now (out .exit)) r) (now (text .entry) ++ field n) ⌝ }
 {
     let p = put_text(out, at, text);
     put_field(out, p, n)
+}
+
+// Numbers, each after a space.
+pub fn put_numbers(out: &mut [u8], at: usize, numbers: &[u64]) -> usize
+    ensures { λ r. ⌜ Wrote (21 * length (now (numbers .entry))) (out-of (now (out .entry)) at) (out-of (now (out .exit)) r) (fields (now (numbers .entry))) ⌝ }
+{
+    let mut p = at;
+    let mut i: usize = 0;
+    while i < numbers.len() {
+        p = put_field(out, p, numbers[i]);
+        i += 1;
+    }
+    p
 }

@@ -3,11 +3,11 @@ use mathlib.Core.Path.{_≡_, refl, _∙_}
 use lib.ListN.{length, take}
 use native.Mathlib.Omega.{arith}
 use borrow.Author.Needs.{needs}
-use Rattle.lines.specs.Out.{out-of, Wrote}
-use Rattle.lines.specs.OutLaws.{wrote-none}
-use Rattle.lines.specs.WriteLaws.{text-turn, text-end}
-use Rattle.lines.proofs.out.put_text.Statement.{statement}
-use Rattle.lines.proofs.out.put_text.Tie as tie
+use Rattle.texts.specs.Out.{out-of, Wrote}
+use Rattle.texts.specs.OutLaws.{wrote-none}
+use Rattle.texts.specs.WriteLaws.{text-turn, text-end}
+use Rattle.texts.proofs.put_text.Statement.{statement}
+use Rattle.texts.proofs.put_text.Tie as tie
 
 abbrev Inv-loop : tie.InvT-loop
 Inv-loop out₀ at text p₀ i₀ out p i = Wrote i (out-of out₀ at) (out-of out p) (take i text) × (length out ≡ length out₀) × (i ≤ length text)

@@ -1,16 +1,16 @@
 use native.Mathlib.Omega.{arith}
 use mathlib.Core.Path.{_∙_}
 use borrow.Author.Needs.{needs}
-use Rattle.lines.specs.WriteLaws.{one-digit, more-digits}
+use Rattle.texts.specs.WriteLaws.{one-digit, more-digits}
 use Prim.Native.Nat.{ℕ, _<_}
 use borrow.Fn.Kinds.{In}
 use borrow.Fn.PlainCycle.{Measures, is, falls, and}
-use Rattle.lines.proofs.out.put_decimal.Reads as put-decimal
-use Rattle.lines.proofs.out.put_decimal.Kinds as put-decimal-kinds
-use Rattle.lines.proofs.out.+put_decimal.Lts-put_decimal as put-decimal-lts
-use Rattle.lines.proofs.out.put_byte.Reads as put-byte-reads
-use Rattle.lines.proofs.out.+put_decimal.{statement}
-use Rattle.lines.proofs.out.+put_decimal.Tie.{close}
+use Rattle.texts.proofs.put_decimal.Reads as put-decimal
+use Rattle.texts.proofs.put_decimal.Kinds as put-decimal-kinds
+use Rattle.texts.proofs.+put_decimal.Lts-put_decimal as put-decimal-lts
+use Rattle.texts.proofs.put_byte.Reads as put-byte-reads
+use Rattle.texts.proofs.+put_decimal.{statement}
+use Rattle.texts.proofs.+put_decimal.Tie.{close}
 
 abbrev μ-put-decimal : Measures 1 put-decimal-kinds.ps ℕ
 μ-put-decimal κs a = a .1 .1 .0

@@ -1,7 +1,7 @@
-use Rattle.lines.specs.WriteLaws.{spaced}
+use Rattle.texts.specs.WriteLaws.{spaced}
 use borrow.Author.Needs.{needs}
-use Rattle.lines.proofs.out.put_field.Statement.{statement}
-use Rattle.lines.proofs.out.put_field.Tie as tie
+use Rattle.texts.proofs.put_field.Statement.{statement}
+use Rattle.texts.proofs.put_field.Tie as tie
 
 put-byte-requires : tie.Need-put-byte-requires
 put-byte-requires c κs = search needs

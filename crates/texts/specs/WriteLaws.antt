@@ -6,10 +6,10 @@ use native.Mathlib.Numerals.{add-one}
 use native.Mathlib.Omega.{arith}
 use lib.ListN.{length, getD, take, set}
 use lib.Seq.{take-suc, take-all}
-use Rattle.lines.specs.Out.{Out, out-of, Wrote}
-use Rattle.lines.specs.OutLaws.{emits-in, emits-out, wrote-none, then, at-most}
-use Rattle.lines.specs.Text.{decimal, field, fields}
-use Rattle.lines.specs.TextLaws.{decimal-small, decimal-large, decimal-short}
+use Rattle.texts.specs.Out.{Out, out-of, Wrote}
+use Rattle.texts.specs.OutLaws.{emits-in, emits-out, wrote-none, then, at-most}
+use Rattle.texts.specs.Text.{decimal, field, fields}
+use Rattle.texts.specs.TextLaws.{decimal-small, decimal-large, decimal-short}
 
 -- ---- a byte
 
@@ -43,7 +43,7 @@ spaced n v w = then v w
 
 -- ---- numbers
 
-fields-append : (xs ys : List ℕ) → fields (xs ++ ys) ≡ fields xs ++ fields ys
+pub fields-append : (xs ys : List ℕ) → fields (xs ++ ys) ≡ fields xs ++ fields ys
 unfolding fields
 fields-append [] ys = refl
 fields-append (x ∷ xs) ys = ap (λ (t : List ℕ). field x ++ t) (fields-append xs ys) ∙ sym (append-assoc (field x) (fields xs) (fields ys))

@@ -9,7 +9,7 @@ use lib.Dec.{ltb}
 use lib.ListN.{length, take, drop, set, length-append, length-set}
 use lib.Seq.{sets, sets-eq}
 use borrow.Author.Tests.{lt-ltb, le-ltb, ltb-true, ltb-false}
-use Rattle.lines.specs.Out.{Out, out-of, emit1, emit, Wrote}
+use Rattle.texts.specs.Out.{Out, out-of, emit1, emit, Wrote}
 
 -- ---- one byte
 

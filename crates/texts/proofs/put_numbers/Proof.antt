@@ -3,11 +3,11 @@ use mathlib.Core.Path.{_≡_, refl, _∙_}
 use lib.ListN.{length, take}
 use native.Mathlib.Omega.{arith}
 use borrow.Author.Needs.{needs}
-use Rattle.lines.specs.Out.{out-of, Wrote}
-use Rattle.lines.specs.Text.{fields}
-use Rattle.lines.specs.WriteLaws.{numbers-none, numbers-turn, numbers-end}
-use Rattle.lines.proofs.answers.put_numbers.Statement.{statement}
-use Rattle.lines.proofs.answers.put_numbers.Tie as tie
+use Rattle.texts.specs.Out.{out-of, Wrote}
+use Rattle.texts.specs.Text.{fields}
+use Rattle.texts.specs.WriteLaws.{numbers-none, numbers-turn, numbers-end}
+use Rattle.texts.proofs.put_numbers.Statement.{statement}
+use Rattle.texts.proofs.put_numbers.Tie as tie
 
 abbrev Inv-loop : tie.InvT-loop
 Inv-loop out₀ at numbers p₀ i₀ out p i = Wrote (21 * i) (out-of out₀ at) (out-of out p) (fields (take i numbers)) × (length out ≡ length out₀) × (i ≤ length numbers)

@@ -1,7 +1,7 @@
-use Rattle.lines.specs.OutLaws.{then}
+use Rattle.texts.specs.OutLaws.{then}
 use borrow.Author.Needs.{needs}
-use Rattle.lines.proofs.out.put_named.Statement.{statement}
-use Rattle.lines.proofs.out.put_named.Tie as tie
+use Rattle.texts.proofs.put_named.Statement.{statement}
+use Rattle.texts.proofs.put_named.Tie as tie
 
 put-text-requires : tie.Need-put-text-requires
 put-text-requires c κs = search needs
