@@ -18,8 +18,8 @@ use Rattle.reader.specs.declared.Record.{Record}
 use Rattle.reader.specs.declared.Parsed.{Parsed}
 use Rattle.reader.specs.Format.{parse}
 use Rattle.reader.specs.ParseLaws.{results-inside}
-use Rattle.lines.specs.Out.{Out, Wrote}
-use Rattle.lines.specs.OutLaws.{wrote-none, at-most}
+use Rattle.texts.specs.Out.{Out, Wrote}
+use Rattle.texts.specs.OutLaws.{wrote-none, at-most}
 use Rattle.lines.specs.Heard.{heard, reading-count}
 use Rattle.lines.specs.HeardLaws.{wrote-event, wrote-eager, wrote-show}
 use Rattle.lines.specs.Lines.{line, line-limit}

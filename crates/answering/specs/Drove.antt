@@ -12,7 +12,7 @@ use Rattle.reader.specs.Items.{items-at}
 use Rattle.futures.specs.Results.{results-in}
 use Rattle.session.specs.declared.Event.{Event}
 use Rattle.session.specs.Dispatch.{event-of}
-use Rattle.lines.specs.Out.{Out, Wrote}
+use Rattle.texts.specs.Out.{Out, Wrote}
 use Rattle.lines.specs.Lines.{line-limit}
 use Rattle.answering.specs.Driver.{Asked, Drives}
 use Rattle.answering.specs.declared.asks.Asks.{Asks}

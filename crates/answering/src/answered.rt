@@ -10,7 +10,7 @@ ghost use Rattle.machine.specs.Machine as machine;
 ghost use Rattle.reader.specs.Items.{items-at};
 ghost use Rattle.futures.specs.Results.{results-in};
 ghost use Rattle.session.specs.Dispatch.{event-of};
-ghost use Rattle.lines.specs.Out.{out-of};
+ghost use Rattle.texts.specs.Out.{out-of};
 ghost use Rattle.answering.specs.Driver.{Asked, refused-11, answered};
 ghost use Rattle.answering.specs.Drove.{Drove, asked-of, InInput};
 

@@ -1,8 +1,8 @@
 // The words of an answer, as far as this program tells them apart.
 use libc::STDOUT_FILENO;
-use printing::print_number;
 use reads::Reading;
 use switching::answer::Answer;
+use texts::put_named;
 
 pub(crate) fn print_text(text: &[u8]) {
     io::write_all(STDOUT_FILENO, text);
@@ -16,9 +16,17 @@ fn print_eager(yes: bool) {
     }
 }
 
+// The part of a buffer that was written.
+pub(crate) fn print_written(out: &[u8], n: usize) {
+    if n <= out.len() {
+        print_text(&out[..n]);
+    }
+}
+
 fn print_refused(n: u16) {
-    print_text(b"refused");
-    print_number(n as u64);
+    let mut out = [0u8; 32];
+    let end = put_named(&mut out, 0, b"refused", n as u64);
+    print_written(&out, end);
 }
 
 pub(crate) fn print_answer(answer: Answer) {

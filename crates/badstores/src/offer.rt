@@ -1,10 +1,12 @@
 // A store, offered to the entries.
 use crate::answers::print_answer;
 use crate::answers::print_text;
+use crate::answers::print_written;
 use crate::compare::print_changed;
 use crate::compare::words_changed;
 use crate::store::Store;
 use asyncio::Value;
+use printing::write_store;
 use reads::eager;
 use session::Event;
 use session::dispatch;
@@ -101,7 +103,9 @@ pub(crate) fn offer(name: &[u8], s: Store) {
 pub(crate) fn good(name: &[u8], s: Store) {
     let tasks = s.tasks;
     let objects = s.objects;
-    printing::print_store(&tasks, &objects, s.queue);
+    let mut out = [0u8; 1024];
+    let end = write_store(&mut out, 0, &tasks, &objects, s.queue);
+    print_written(&out, end);
     offer(name, s);
 }
 

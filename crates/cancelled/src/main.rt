@@ -18,9 +18,11 @@ use asyncio::TaskId;
 use asyncio::TaskState;
 use cancelling::cancel::cancel_task;
 use libc::STDOUT_FILENO;
-use printing::print_number;
-use printing::print_queue;
+use printing::write_queue;
 use queue::ReadyQueue;
+use texts::put_byte;
+use texts::put_field;
+use texts::put_text;
 ghost use mathlib.Core.Path.{_≡_};
 ghost use lib.ListN.{length};
 ghost use Prim.Native.Nat.{_<_, _≤_};
@@ -175,21 +177,37 @@ fn store_tasks(tasks: &mut [u64])
 // ---- what is printed
 
 // The numbers of the live tasks.
-fn print_live(tasks: &[u64])
+fn write_live(out: &mut [u8], at: usize, tasks: &[u64]) -> usize
     requires { ⌜ length (now tasks) ≡ tasks-length ⌝ }
 {
-    io::write_all(STDOUT_FILENO, b"live");
+    let mut p = put_text(out, at, b"live");
     let mut t: u16 = 0;
     while t < 5 {
         let state = rows::parts::state_at(tasks, TaskId(t));
         if state.is_live() {
-            print_number(t as u64);
+            p = put_field(out, p, t as u64);
             t += 1;
         } else {
             t += 1;
         }
     }
-    io::write_all(STDOUT_FILENO, b"\n");
+    put_byte(out, p, 10)
+}
+
+fn write_out(out: &[u8], n: usize) {
+    if n <= out.len() {
+        io::write_all(STDOUT_FILENO, &out[..n]);
+    }
+}
+
+// The live tasks and the queue.
+fn print_live(tasks: &[u64], queue: ReadyQueue)
+    requires { ⌜ length (now tasks) ≡ tasks-length ⌝ }
+{
+    let mut out = [0u8; 128];
+    let p = write_live(&mut out, 0, tasks);
+    let end = write_queue(&mut out, p, queue);
+    write_out(&out, end);
 }
 
 fn run(tasks: &mut [u64], objects: &mut [u64], places: &mut [u64])
@@ -199,11 +217,9 @@ fn run(tasks: &mut [u64], objects: &mut [u64], places: &mut [u64])
         .push_back(TaskId(2))
         .push_back(TaskId(4))
         .push_back(TaskId(3));
-    print_live(tasks);
-    print_queue(q);
+    print_live(tasks, q);
     let left = cancel_task(tasks, objects, places, q, TaskId(1));
-    print_live(tasks);
-    print_queue(left);
+    print_live(tasks, left);
 }
 
 fn main() {

@@ -5,7 +5,7 @@ use queue::ReadyQueue;
 use reader::Parsed;
 ghost use mathlib.Core.List.{List};
 ghost use Rattle.machine.specs.Store.{Happening, store-of};
-ghost use Rattle.lines.specs.Out.{out-of};
+ghost use Rattle.texts.specs.Out.{out-of};
 ghost use Rattle.answering.specs.Driver.{drive-one};
 ghost use Rattle.answering.specs.Drove.{Drove};
 

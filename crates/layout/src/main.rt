@@ -16,17 +16,17 @@ use asyncio::TaskId;
 use asyncio::TaskState;
 use asyncio::Value;
 use libc::STDOUT_FILENO;
-use printing::print_number;
-use printing::print_object;
-use printing::print_place;
-use printing::print_queue;
-use printing::print_row;
-use printing::print_task;
+use printing::write_header;
+use printing::write_objects;
+use printing::write_place;
+use printing::write_queue;
+use printing::write_tasks;
 use queue::ReadyQueue;
+use texts::put_byte;
+use texts::put_named;
 ghost use mathlib.Core.Path.{_≡_};
 ghost use lib.ListN.{length};
-ghost use Prim.Native.Nat.{_<_};
-ghost use Rattle.asyncio.specs.Limits.{tasks-length, objects-length, places-length, object-limit};
+ghost use Rattle.asyncio.specs.Limits.{tasks-length, objects-length, places-length};
 
 fn store_counts(objects: &mut [u64])
     requires { ⌜ length (now objects) ≡ objects-length ⌝ }
@@ -120,45 +120,41 @@ fn store_tasks(tasks: &mut [u64])
     rows::tables::store_task(tasks, TaskId::new(1), ended);
 }
 
-fn print_counts(objects: &[u64])
-    requires { ⌜ length (now objects) ≡ objects-length ⌝ }
-{
-    io::write_all(STDOUT_FILENO, b"header");
-    print_row(asyncio::words::header_words(rows::tables::load_header(objects)));
-}
-
-fn print_open_places(objects: &[u64], o: HeapId)
-    requires { ⌜ (length (now objects) ≡ objects-length) × (o .0 < object-limit) ⌝ }
-{
-    io::write_all(STDOUT_FILENO, b"open places");
-    print_number(rows::parts::open_at(objects, o) as u64);
-    io::write_all(STDOUT_FILENO, b"\n");
+fn write_out(out: &[u8], n: usize) {
+    if n <= out.len() {
+        io::write_all(STDOUT_FILENO, &out[..n]);
+    }
 }
 
 fn print_objects() {
     let mut objects = [0u64; 2056];
     store_counts(&mut objects);
     store_objects(&mut objects);
-    print_counts(&objects);
-    print_object(&objects, HeapId::new(0));
-    print_object(&objects, HeapId::new(1));
-    print_object(&objects, HeapId::new(2));
-    print_open_places(&objects, HeapId::new(2));
+    let open = rows::parts::open_at(&objects, HeapId(2));
+    let mut out = [0u8; 1024];
+    let header = write_header(&mut out, 0, &objects);
+    let rows = write_objects(&mut out, header, &objects, 3);
+    let named = put_named(&mut out, rows, b"open places", open as u64);
+    let end = put_byte(&mut out, named, 10);
+    write_out(&out, end);
 }
 
 fn print_places() {
     let mut places = [0u64; 2048];
     store_places(&mut places);
-    print_place(&places, 0);
-    print_place(&places, 1);
-    print_place(&places, 2);
+    let mut out = [0u8; 512];
+    let first = write_place(&mut out, 0, &places, 0);
+    let second = write_place(&mut out, first, &places, 1);
+    let third = write_place(&mut out, second, &places, 2);
+    write_out(&out, third);
 }
 
 fn print_tasks() {
     let mut tasks = [0u64; 4104];
     store_tasks(&mut tasks);
-    print_task(&tasks, TaskId::MAIN);
-    print_task(&tasks, TaskId::new(1));
+    let mut out = [0u8; 512];
+    let end = write_tasks(&mut out, 0, &tasks, 2);
+    write_out(&out, end);
 }
 
 // Tasks 3, 1, 4 and 2 are made ready in this order; 4 is removed; the front is taken.
@@ -168,10 +164,12 @@ fn print_queues() {
         .push_back(TaskId::new(1))
         .push_back(TaskId::new(4))
         .push_back(TaskId::new(2));
-    print_queue(q);
     let without = q.remove(TaskId::new(4));
-    print_queue(without);
-    print_queue(without.pop_front());
+    let mut out = [0u8; 128];
+    let pushed = write_queue(&mut out, 0, q);
+    let removed = write_queue(&mut out, pushed, without);
+    let popped = write_queue(&mut out, removed, without.pop_front());
+    write_out(&out, popped);
 }
 
 fn main() {

@@ -15,7 +15,7 @@ use Rattle.machine.specs.Events.{start, value, raises, inline, runs, waits}
 use Rattle.machine.specs.Machine.{Answer, Shown}
 use Rattle.machine.specs.Cases.{Seen, seen, told, answer-of, cases}
 use Rattle.machine.specs.CasesHold.{no-row, cases-hold}
-use Rattle.lines.specs.Text.{bytes-of, digits, decimal, field, fields}
+use Rattle.texts.specs.Text.{bytes-of, digits, decimal, field, fields}
 use Rattle.lines.specs.Lines.{value-text, error-text, how-text, control-text, state-text, place-text, places-text, shown-text, yes-no, answer-text, line, output}
 
 -- whoever unfolds this computes lines

@@ -27,8 +27,8 @@ use Rattle.reads.specs.Reads.{shown-of, show-answer}
 use Rattle.reads.specs.ReadLaws.{shows-places}
 use Rattle.reads.specs.declared.Shown.{Shown}
 use Rattle.reads.specs.declared.Reading.{Reading}
-use Rattle.lines.specs.Out.{Out, Wrote}
-use Rattle.lines.specs.OutLaws.{at-most}
+use Rattle.texts.specs.Out.{Out, Wrote}
+use Rattle.texts.specs.OutLaws.{at-most}
 use Rattle.lines.specs.Heard.{front-calls, told-control, told, heard, shown-count, reading-count}
 use Rattle.lines.specs.Lines.{line, line-limit}
 use Rattle.lines.specs.PlaceLaws.{places-length}

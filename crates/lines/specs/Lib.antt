@@ -1,8 +1,3 @@
-pub mod Out
-pub mod OutLaws
-pub mod Text
-pub mod TextLaws
-pub mod WriteLaws
 pub mod Lines
 pub mod Heard
 pub mod CallLaws

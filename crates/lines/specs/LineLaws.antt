@@ -8,9 +8,9 @@ use lib.ListN.{length, take, length-take}
 use Rattle.machine.specs.Scheduler.{pending-calls-in}
 use Rattle.machine.specs.Events.{waits}
 use Rattle.machine.specs.Machine as machine
-use Rattle.lines.specs.Out.{Out, Wrote}
-use Rattle.lines.specs.OutLaws.{then, at-most}
-use Rattle.lines.specs.Text.{word, newline, decimal, field, fields}
+use Rattle.texts.specs.Out.{Out, Wrote}
+use Rattle.texts.specs.OutLaws.{then, at-most}
+use Rattle.texts.specs.Text.{word, newline, decimal, field, fields}
 use Rattle.lines.specs.Lines.{control-text, answer-text, line}
 use Rattle.lines.specs.Heard.{front-calls}
 

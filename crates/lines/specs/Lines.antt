@@ -9,7 +9,7 @@ use Rattle.asyncio.specs.declared.Error.{Error}
 use Rattle.asyncio.specs.declared.CoroutineState.{CoroutineState}
 use Rattle.machine.specs.Events.{How, start, value, raises, inline, Control, runs, waits}
 use Rattle.machine.specs.Machine.{Answer, Shown}
-use Rattle.lines.specs.Text.{word, newline, decimal, field, fields}
+use Rattle.texts.specs.Text.{word, newline, decimal, field, fields}
 
 -- a value: plain and its number, or the list of a gather
 unfoldable pub value-text : Value → List ℕ

@@ -14,8 +14,8 @@ use Rattle.rows.specs.Tables.{place-at}
 use Rattle.machine.specs.Scheduler.{bit}
 use Rattle.machine.specs.Machine.{slot-value}
 use Rattle.reads.specs.Reads.{places-from}
-use Rattle.lines.specs.Out.{Out, Wrote}
-use Rattle.lines.specs.OutLaws.{wrote-none, then, at-most}
+use Rattle.texts.specs.Out.{Out, Wrote}
+use Rattle.texts.specs.OutLaws.{wrote-none, then, at-most}
 use Rattle.lines.specs.Lines.{place-text, places-text}
 
 -- place i of the gather that starts at f, with open word m

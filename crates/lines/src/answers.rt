@@ -1,23 +1,22 @@
 // The line of an event's answer. The calls of a wait stand at the front of the lent list; how many there are, the store says.
-use crate::out::put_byte;
-use crate::out::put_decimal;
-use crate::out::put_field;
-use crate::out::put_named;
-use crate::out::put_text;
 use crate::words::count_calls;
 use asyncio::Error;
 use asyncio::Value;
 use switching::answer::Answer;
 use switching::control::Control;
 use switching::control::How;
+use texts::put_byte;
+use texts::put_decimal;
+use texts::put_field;
+use texts::put_named;
+use texts::put_numbers;
+use texts::put_text;
 ghost use mathlib.Core.Path.{_≡_};
-ghost use Prim.Native.Nat.{_*_, min};
-ghost use lib.ListN.{length};
+ghost use Prim.Native.Nat.{min};
 ghost use Rattle.machine.specs.Events.{waits};
 ghost use Rattle.machine.specs.Machine as machine;
 ghost use Rattle.switching.specs.Control.{how-of};
-ghost use Rattle.lines.specs.Out.{out-of, Wrote};
-ghost use Rattle.lines.specs.Text.{fields};
+ghost use Rattle.texts.specs.Out.{out-of, Wrote};
 ghost use Rattle.lines.specs.Lines.{value-text, error-text, how-text, control-text, answer-text, line, line-limit};
 ghost use Rattle.lines.specs.Heard.{front-calls, told-control, heard};
 
@@ -67,19 +66,6 @@ fn put_how(out: &mut [u8], at: usize, how: How) -> usize
         }
         How::Inline(c) => put_named(out, at, b" inline", c.word()),
     }
-}
-
-// Numbers, each after a space.
-fn put_numbers(out: &mut [u8], at: usize, numbers: &[u64]) -> usize
-    ensures { λ r. ⌜ Wrote (21 * length (now (numbers .entry))) (out-of (now (out .entry)) at) (out-of (now (out .exit)) r) (fields (now (numbers .entry))) ⌝ }
-{
-    let mut p = at;
-    let mut i: usize = 0;
-    while i < numbers.len() {
-        p = put_field(out, p, numbers[i]);
-        i += 1;
-    }
-    p
 }
 
 fn least(a: usize, b: usize) -> usize

@@ -1,5 +1,4 @@
 // Document 01's lines: an answer written into a lent buffer, as decimal numbers and words.
 pub mod answers;
-mod out;
 pub mod shows;
 mod words;

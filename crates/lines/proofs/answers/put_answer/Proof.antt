@@ -1,5 +1,5 @@
 use native.Mathlib.Omega.{arith}
-use Rattle.lines.specs.OutLaws.{at-most}
+use Rattle.texts.specs.OutLaws.{at-most}
 use Rattle.lines.specs.Lines.{answer-text}
 use Rattle.lines.specs.Heard.{told, heard}
 use borrow.Author.Needs.{needs}

@@ -1,5 +1,5 @@
 use native.Mathlib.Omega.{arith}
-use Rattle.lines.specs.OutLaws.{then, at-most}
+use Rattle.texts.specs.OutLaws.{then, at-most}
 use Rattle.lines.specs.Lines.{control-text}
 use Rattle.lines.specs.Heard.{told-control}
 use borrow.Author.Needs.{needs}

@@ -1,4 +1,4 @@
-use Rattle.lines.specs.OutLaws.{then}
+use Rattle.texts.specs.OutLaws.{then}
 use Rattle.lines.specs.Lines.{answer-text}
 use borrow.Author.Needs.{needs}
 use Rattle.lines.proofs.answers.put_finished.Statement.{statement}

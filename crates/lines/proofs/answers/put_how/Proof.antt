@@ -1,5 +1,5 @@
 use native.Mathlib.Omega.{arith}
-use Rattle.lines.specs.OutLaws.{then, at-most}
+use Rattle.texts.specs.OutLaws.{then, at-most}
 use Rattle.lines.specs.Lines.{how-text}
 use borrow.Author.Needs.{needs}
 use Rattle.lines.proofs.answers.put_how.Statement.{statement}

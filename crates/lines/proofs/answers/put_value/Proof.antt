@@ -1,5 +1,5 @@
 use native.Mathlib.Omega.{arith}
-use Rattle.lines.specs.OutLaws.{at-most}
+use Rattle.texts.specs.OutLaws.{at-most}
 use Rattle.lines.specs.Lines.{value-text}
 use borrow.Author.Needs.{needs}
 use Rattle.lines.proofs.answers.put_value.Statement.{statement}

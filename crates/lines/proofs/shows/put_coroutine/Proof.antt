@@ -1,5 +1,5 @@
 use native.Mathlib.Omega.{arith}
-use Rattle.lines.specs.OutLaws.{at-most}
+use Rattle.texts.specs.OutLaws.{at-most}
 use Rattle.lines.specs.Lines.{state-text, shown-text}
 use borrow.Author.Needs.{needs}
 use Rattle.lines.proofs.shows.put_coroutine.Statement.{statement}

@@ -1,5 +1,5 @@
 use native.Mathlib.Omega.{arith}
-use Rattle.lines.specs.OutLaws.{then, at-most}
+use Rattle.texts.specs.OutLaws.{then, at-most}
 use borrow.Author.Needs.{needs}
 use Rattle.lines.proofs.shows.put_failure.Statement.{statement}
 use Rattle.lines.proofs.shows.put_failure.Tie as tie

@@ -1,7 +1,7 @@
 use native.Mathlib.Omega.{arith}
 use borrow.Author.Tests.{eq-eqb, ne-eqb}
 use Rattle.machine.specs.Machine.{slot-value}
-use Rattle.lines.specs.OutLaws.{at-most}
+use Rattle.texts.specs.OutLaws.{at-most}
 use Rattle.lines.specs.Lines.{place-text}
 use borrow.Author.Needs.{needs}
 use Rattle.lines.proofs.shows.put_place.Statement.{statement}

@@ -5,7 +5,7 @@ use native.Mathlib.Omega.{arith}
 use denote.Ref.{now}
 use borrow.Author.Needs.{needs}
 use Rattle.reads.specs.Reads.{places-from}
-use Rattle.lines.specs.Out.{out-of, Wrote}
+use Rattle.texts.specs.Out.{out-of, Wrote}
 use Rattle.lines.specs.Lines.{places-text}
 use Rattle.lines.specs.PlaceLaws.{places-none, places-turn, places-end, halved, whole}
 use Rattle.lines.proofs.shows.put_places.Statement.{statement}

@@ -1,4 +1,4 @@
-use Rattle.lines.specs.OutLaws.{then}
+use Rattle.texts.specs.OutLaws.{then}
 use Rattle.lines.specs.Lines.{shown-text}
 use borrow.Author.Needs.{needs}
 use Rattle.lines.proofs.shows.put_resolved.Statement.{statement}

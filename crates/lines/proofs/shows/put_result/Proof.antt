@@ -1,6 +1,6 @@
 use native.Mathlib.Omega.{arith}
 use Rattle.machine.specs.Machine.{slot-value}
-use Rattle.lines.specs.OutLaws.{at-most}
+use Rattle.texts.specs.OutLaws.{at-most}
 use Rattle.lines.specs.Lines.{place-text}
 use borrow.Author.Needs.{needs}
 use Rattle.lines.proofs.shows.put_result.Statement.{statement}

@@ -1,5 +1,5 @@
 use native.Mathlib.Omega.{arith}
-use Rattle.lines.specs.OutLaws.{at-most}
+use Rattle.texts.specs.OutLaws.{at-most}
 use Rattle.lines.specs.Lines.{shown-text}
 use Rattle.lines.specs.Heard.{shown-count}
 use Rattle.lines.specs.PlaceLaws.{places-length}

@@ -1,5 +1,5 @@
 use native.Mathlib.Omega.{arith}
-use Rattle.lines.specs.OutLaws.{at-most}
+use Rattle.texts.specs.OutLaws.{at-most}
 use Rattle.lines.specs.Heard.{reading-count}
 use borrow.Author.Needs.{needs}
 use Rattle.lines.proofs.shows.write_reading.Statement.{statement}

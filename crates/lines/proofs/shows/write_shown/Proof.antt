@@ -2,7 +2,7 @@ use native.Mathlib.Omega.{arith}
 use denote.Ref.{now}
 use Rattle.machine.specs.Machine as machine
 use Rattle.reads.specs.Reads.{shown-of}
-use Rattle.lines.specs.OutLaws.{then, at-most}
+use Rattle.texts.specs.OutLaws.{then, at-most}
 use Rattle.lines.specs.Lines.{answer-text}
 use Rattle.lines.specs.LineLaws.{line-wrote}
 use borrow.Author.Needs.{needs}

@@ -1,0 +1,57 @@
+-- What the small programs print of a store: a line for each row and for the queue.
+use mathlib.Core.List.{List, [], _++_}
+use Prim.Native.Nat.{ℕ, zero, suc, _+_, _*_}
+use Prim.Native.String.{String}
+use lib.Dec.{eqb, ltb}
+use lib.ListN.{getD}
+use Rattle.asyncio.specs.Layout.{object-words, task-words, place-words, header-words}
+use Rattle.asyncio.specs.Limits.{task-limit, object-limit}
+use Rattle.asyncio.specs.States.{pick}
+use Rattle.rows.specs.Tables.{object-at, task-at, place-at, header-at}
+use Rattle.queue.specs.declared.ReadyQueue.{ReadyQueue}
+use Rattle.texts.specs.Text.{bytes-of, newline, field, fields}
+
+-- a line: a name, and numbers each after a space
+abbrev pub row-text : String → List ℕ → List ℕ
+row-text name words = bytes-of name ++ (fields words ++ newline)
+
+-- task t
+unfoldable pub task-text : List ℕ → ℕ → List ℕ
+task-text ts t = row-text "task" (task-words (task-at ts t))
+
+-- object o
+unfoldable pub object-text : List ℕ → ℕ → List ℕ
+object-text os o = row-text "object" (object-words (object-at os o))
+
+-- place p
+unfoldable pub place-text : List ℕ → ℕ → List ℕ
+place-text ps p = row-text "place" (place-words (place-at ps p))
+
+-- the header
+unfoldable pub header-text : List ℕ → List ℕ
+header-text os = row-text "header" (header-words (header-at os))
+
+-- the rows below n one after the other
+unfoldable pub rows-text : (ℕ → List ℕ) → ℕ → List ℕ
+rows-text text zero = []
+rows-text text (suc n) = rows-text text n ++ text n
+
+-- the queue: its numbers, front first; a count above 513 is no queue
+abbrev pub entry-text : ReadyQueue → ℕ → List ℕ
+entry-text q i = field (getD (q .ids) i 0)
+
+unfoldable pub queue-text : ReadyQueue → List ℕ
+queue-text q = pick (ltb task-limit (q .len)) [] (bytes-of "ready" ++ (rows-text (entry-text q) (q .len) ++ newline))
+
+-- the tasks and objects in use, and the queue
+unfoldable pub store-text : List ℕ → List ℕ → ReadyQueue → List ℕ
+store-text ts os q = rows-text (task-text ts) (header-at os .next) ++ (rows-text (object-text os) (header-at os .made) ++ queue-text q)
+
+-- A store's text has at most so many bytes: a task's line 173, an object's 175, the queue's 10,779.
+abbrev pub store-limit : ℕ
+store-limit = 173 * task-limit + (175 * object-limit + 10779)
+
+-- how many of the first n numbers of two lists differ
+unfoldable pub changed : List ℕ → List ℕ → ℕ → ℕ
+changed xs ys zero = 0
+changed xs ys (suc n) = changed xs ys n + pick (eqb (getD xs n 0) (getD ys n 0)) 0 1
