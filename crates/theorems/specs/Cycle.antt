@@ -45,7 +45,7 @@ use Rattle.theorems.specs.ReadyTasks.{Queued, to-queued, queued-same, qu
 use Rattle.theorems.specs.PutObject.{Fits}
 use Rattle.theorems.specs.PutTask.{with-task-queue, TaskWrite}
 use Rattle.theorems.specs.Stores.{Runs, idle, Mid, Whole, object-mid, task-mid, queue-mid, note-mid, moment-whole}
-use Rattle.theorems.specs.Deliver.{nobody-task, nobody-slot, Landed, Flight, take-off, restated-in-range, restated-fits, failure-keeps}
+use Rattle.theorems.specs.Deliver.{nobody-task, nobody-slot, Landed, Flight, take-off, restated-in-range, restated-fits, ErrorRises, failure-keeps}
 
 -- ---- a live spawned task
 
@@ -104,6 +104,12 @@ task-flight s t h low l =
       slot = λ g x e. h .kept .but .task-slots (suc t) low l g x e;
       task = λ u e z. absurd (not-a-task (task s (suc t) .awaiter) (sp .slot) (task-id u) e);
     }
+
+-- and an error for it
+pub task-rises : {r : ℕ → Bool} {D : ℕ → Type 0} {hd : Header} (s : Store) (t : ℕ) → Mid Nothing r D hd s → suc t < hd .next → T (is-live (task s (suc t) .state))
+    → ErrorRises r D hd (task s (suc t) .coroutine .0) s (task s (suc t) .awaiter)
+task-rises s t h low l =
+    record { flight = task-flight s t h (subst (λ (y : Header). suc t < y .next) (sym (h .head)) low) l; mid = take-off s (task s (suc t) .awaiter) h }
 
 -- ---- a coroutine's state is written
 
@@ -309,8 +315,7 @@ module _ (D : ℕ → Type 0) (hd : Header) (on : is-ended (hd .moment) ≡ fals
     unfolding handle-task-failure
     failure-exit s t e r k low l other h =
         let sent : Landed r D hd (deliver-awaiter-failure s (task s (suc t) .awaiter) e) =
-        failure-keeps r D hd e k s (task s (suc t) .coroutine .0) (task s (suc t) .awaiter)
-        (task-flight s t h (subst (λ (y : Header). suc t < y .next) (sym (h .head)) low) l) (take-off s (task s (suc t) .awaiter) h) in
+        failure-keeps r D hd e k s (task s (suc t) .coroutine .0) (task s (suc t) .awaiter) (task-rises s t h low l) in
         exit-keeps _ (record {
           mid = remove-keeps (deliver-awaiter-failure s (task s (suc t) .awaiter) e .store) (suc t) (sent .mid)
               (subst (λ (y : Header). suc t < y .next) (sym (sent .mid .head)) low) (exited (suc t)) idle refl other;

@@ -32,9 +32,12 @@ pub mod Begun
 pub mod BegunLaws
 pub mod AsyncioCases
 pub mod OrphanLaws
+pub mod Panics
+pub mod PanickingDelivery
 pub mod NoPanicLaws
 pub mod NoPanicWoken
 pub mod Panicking
+pub mod PanickingDeliveryLaws
 pub mod PanickingLaws
 pub mod NoPanicPlaces
 pub mod Bounds

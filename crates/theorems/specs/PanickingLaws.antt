@@ -34,8 +34,8 @@ use Rattle.laws.specs.Views.{Sized}
 use Rattle.laws.specs.Facts.{Nothing}
 use Rattle.theorems.specs.ReadyTasks.{Queued, to-queued, queued-less, gone, was-there, head-gone}
 use Rattle.theorems.specs.Stores.{idle, Mid, Whole, queue-mid, mid-of}
-use Rattle.theorems.specs.Deliver.{Landed, take-off, failure-keeps}
-use Rattle.theorems.specs.Cycle.{task-flight, remove-keeps}
+use Rattle.theorems.specs.Deliver.{Landed, failure-keeps}
+use Rattle.theorems.specs.Cycle.{task-rises, remove-keeps}
 use Rattle.theorems.specs.Exits.{runner-low, runner-runs, runner-live, others-still}
 use Rattle.theorems.specs.NoPanicLaws.{Activated, starts, goes-on, raises-it, front-activated, main-started, IsCoroutine, task-coroutine}
 use Rattle.theorems.specs.NoPanicWoken.{success-activated, failure-activated}
@@ -116,8 +116,7 @@ module _ (panic : Store → ℕ → Switched) (D : ℕ → Type 0) (hd : Header)
     unfolding handle-task-failure
     failure-same s t e r k low l free still h =
         let sent : Landed r D hd (deliver-awaiter-failure s (task s (suc t) .awaiter) e) =
-        failure-keeps r D hd e k s (task s (suc t) .coroutine .0) (task s (suc t) .awaiter)
-        (task-flight s t h (subst (λ (y : Header). suc t < y .next) (sym (h .head)) low) l) (take-off s (task s (suc t) .awaiter) h) in
+        failure-keeps r D hd e k s (task s (suc t) .coroutine .0) (task s (suc t) .awaiter) (task-rises s t h low l) in
         exit-same _ (record {
           mid = remove-keeps (deliver-awaiter-failure s (task s (suc t) .awaiter) e .store) (suc t) (sent .mid)
               (subst (λ (y : Header). suc t < y .next) (sym (sent .mid .head)) low) (exited (suc t)) idle refl still;
