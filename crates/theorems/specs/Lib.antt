@@ -37,7 +37,9 @@ pub mod PanickingDelivery
 pub mod NoPanicLaws
 pub mod NoPanicWoken
 pub mod Panicking
+pub mod PanickingCommit
 pub mod PanickingDeliveryLaws
+pub mod PanickingCommitLaws
 pub mod PanickingLaws
 pub mod NoPanicPlaces
 pub mod Bounds
