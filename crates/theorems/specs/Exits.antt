@@ -385,7 +385,8 @@ none-runs : (s : Store) → header s .moment ≡ Moment.Waiting → (u : ℕ) �
 unfolding runs-now
 none-runs s m u = ap (λ (y : Moment). runs-now y u) m
 
-quiet-of : (s : Store) → Whole s → header s .moment ≡ Moment.Waiting → Mid Nothing idle (λ o. T (is-completed (kind (object s o)))) (header s) s
+-- so at the beginning of an event no task runs
+pub quiet-of : (s : Store) → Whole s → header s .moment ≡ Moment.Waiting → Mid Nothing idle (λ o. T (is-completed (kind (object s o)))) (header s) s
 quiet-of s h m = let k = mid-of s h in record { kept = k .kept; runs = λ u l. k .runs u l ∙ none-runs s m u; done = k .done; head = k .head }
 
 -- The event `cancel`.

@@ -36,11 +36,13 @@ pub mod Panics
 pub mod PanickingDelivery
 pub mod NoPanicLaws
 pub mod NoPanicWoken
-pub mod Panicking
 pub mod PanickingCommit
 pub mod PanickingDeliveryLaws
+pub mod PanickingEvents
 pub mod PanickingCommitLaws
-pub mod PanickingLaws
+pub mod PanickingEventsLaws
+pub mod PanickingMachine
+pub mod PanickingMachineLaws
 pub mod NoPanicPlaces
 pub mod Bounds
 pub mod BoundLaws

@@ -1,13 +1,14 @@
 -- Delivery (Delivery) with the Rust's panics in it: where the Rust panics, whatever a panic does stands in the place of the harmless branch;
 -- where the machine has no such branch, the test that the Rust makes stands before what the machine does. Each definition has the machine's
 -- name for it in its comment, and is that definition but for the panics.
-use Prim.Native.Nat.{ℕ, zero, suc}
+use Prim.Native.Nat.{ℕ, zero, suc, _+_, _-_, _^_}
 use mathlib.Core.Bool.{Bool, true, false}
 use mathlib.Core.Option.{Option, none, some}
-use lib.Dec.{eqb}
+use lib.Dec.{eqb, ltb}
 use mathlib.Core.List.{List, [], _∷_}
 use Rattle.asyncio.specs.declared.Value.{Value}
 use Rattle.asyncio.specs.declared.Error.{Error}
+use Rattle.asyncio.specs.declared.OptionValue.{OptionValue}
 use Rattle.asyncio.specs.declared.TaskState.{TaskState}
 use Rattle.asyncio.specs.declared.Awaiter.{Awaiter}
 use Rattle.asyncio.specs.declared.ExternalFutureState.{ExternalFutureState}
@@ -15,9 +16,10 @@ use Rattle.asyncio.specs.declared.GatherState.{GatherState}
 use Rattle.asyncio.specs.declared.Object.{Object}
 use Rattle.asyncio.specs.Layout.{to-value, to-error}
 use Rattle.asyncio.specs.States.{pick, is-blocked}
+use Rattle.rows.specs.Tables.{place-at, place-put}
 use Rattle.machine.specs.Store.{Store, task, object, place, put-object, put-places, note, reached}
-use Rattle.machine.specs.Scheduler.{AwaitedGather, PendingExternal, as-pending, make-ready, pending-external}
-use Rattle.machine.specs.Delivery.{Delivery, nobody-woken, Filled, fill-from, Settled, climb, awaited-count, value-or}
+use Rattle.machine.specs.Scheduler.{AwaitedGather, PendingExternal, as-pending, bit, make-ready, pending-external}
+use Rattle.machine.specs.Delivery.{Delivery, nobody-woken, Filled, filled, Settled, climb, awaited-count, value-or}
 use Rattle.machine.specs.Commit.{open-from}
 use Rattle.machine.specs.Events.{Result}
 use Rattle.machine.specs.Sound.{rest-filled}
@@ -34,6 +36,22 @@ module _ (panic : Panics) where
 
   -- ---- into a gather
 
+  -- `fill-one`, of a gather of n places: `results[idx]` (async_exec.rs:1099)
+  unfoldable pub fill-one-or-panic : List ℕ → ℕ → ℕ → ℕ → ℕ → ℕ → Value → Filled
+  fill-one-or-panic ps m p i n source v =
+      pick (bit m i)
+      (pick (eqb (place-at ps p .item .0) source)
+      (pick (ltb i n) (filled (place-put ps p (record { item = place-at ps p .item; result = OptionValue.Some v })) (m - 2 ^ i)) (panic .filled ps))
+      (filled ps m))
+      (filled ps m)
+
+  -- `fill-from`
+  unfoldable pub fill-or-panic : List ℕ → ℕ → ℕ → ℕ → ℕ → Value → ℕ → ℕ → Filled
+  fill-or-panic ps m first n source v i zero = filled ps m
+  fill-or-panic ps m first n source v i (suc k) =
+      let f : Filled = fill-one-or-panic ps m (first + i) i n source v in
+      fill-or-panic (f .places) (f .open-places) first n source v (i + 1) k
+
   -- `resolve-left`: a gather that completes has all its results (async_exec.rs:1127)
   unfoldable pub left-or-panic : Bool → Store → ℕ → AwaitedGather → ℕ → Settled
   left-or-panic true s g w m =
@@ -46,7 +64,7 @@ module _ (panic : Panics) where
   -- `resolve-awaited`, of an awaited gather: the child is registered with it (async_exec.rs:1084)
   unfoldable pub awaited-or-panic : Store → ℕ → ℕ → Value → AwaitedGather → Settled
   awaited-or-panic s g source v w =
-      let f : Filled = fill-from (s .places) (w .open-places) (w .first) source v 0 (w .count) in
+      let f : Filled = fill-or-panic (s .places) (w .open-places) (w .first) (w .count) source v 0 (w .count) in
       pick (open-from (place s) w source 0 (w .count))
       (left-or-panic (eqb (f .open-places) 0) (put-places s (f .places)) g w (f .open-places))
       (panic .settled s)

@@ -3,10 +3,10 @@ use mathlib.Core.Path.{_≡_, refl, ap, sym, subst, _∙_}
 use mathlib.Core.Bool.{Bool, true, false}
 use mathlib.Core.List.{List, [], _∷_}
 use mathlib.Core.Option.{Option, none, some}
-use Prim.Native.Nat.{ℕ, zero, suc, _<_}
+use Prim.Native.Nat.{ℕ, zero, suc, _+_, _≤_, _<_}
 use native.Mathlib.Omega.{arith}
 use lib.Dec.{T, eqb}
-use borrow.Author.Tests.{eqb-true}
+use borrow.Author.Tests.{eqb-true, lt-ltb}
 use Rattle.asyncio.specs.declared.Value.{Value}
 use Rattle.asyncio.specs.declared.Error.{Error}
 use Rattle.asyncio.specs.declared.Awaiter.{Awaiter}
@@ -23,7 +23,7 @@ use Rattle.asyncio.specs.States.{pick, is-blocked}
 use Rattle.asyncio.specs.Kinds.{kind, is-committed}
 use Rattle.machine.specs.Store.{Store, view, task, object, place, header, put-places, note, reached}
 use Rattle.machine.specs.Scheduler.{AwaitedGather, PendingExternal, as-awaited, as-pending, make-ready, pending-external}
-use Rattle.machine.specs.Delivery.{Delivery, nobody-woken, deliver-to-task, Filled, fill-from, Settled, resolve-left, resolve-awaited, resolve-child, fail-awaited, fail-gather, climb, awaited-count}
+use Rattle.machine.specs.Delivery.{Delivery, nobody-woken, deliver-to-task, Filled, fill-one, fill-from, Settled, resolve-left, resolve-awaited, resolve-child, fail-awaited, fail-gather, climb, awaited-count}
 use Rattle.machine.specs.Delivery.{send-value, climb-value, deliver-awaiter-success, send-error, climb-error, deliver-awaiter-failure}
 use Rattle.machine.specs.Delivery.{value-or, resolve-pending, fail-pending, settle-pending, settle-found, resolve-future, fail-future}
 use Rattle.machine.specs.Events.{Result, apply-result, apply-future-results}
@@ -38,7 +38,7 @@ use Rattle.theorems.specs.Fill.{all-filled, ValueRises, value-sends}
 use Rattle.theorems.specs.Results.{resolve-rises, fail-rises, MayApply, AllApply, host-fits, result-keeps}
 use Rattle.theorems.specs.NoPanicLaws.{slot-registered, PendingOf, found-pending}
 use Rattle.theorems.specs.Panics.{Panics}
-use Rattle.theorems.specs.PanickingDelivery.{ready-or-panic, to-task-or-panic, left-or-panic, awaited-or-panic, child-or-panic, gather-or-panic}
+use Rattle.theorems.specs.PanickingDelivery.{ready-or-panic, to-task-or-panic, fill-one-or-panic, fill-or-panic, left-or-panic, awaited-or-panic, child-or-panic, gather-or-panic}
 use Rattle.theorems.specs.PanickingDelivery.{value-or-panic, climb-value-or-panic, success-or-panic, error-or-panic, climb-error-or-panic, failure-or-panic}
 use Rattle.theorems.specs.PanickingDelivery.{resolve-or-panic, fail-or-panic, pending-or-panic, found-or-panic, resolve-future-or-panic, fail-future-or-panic, result-or-panic, results-or-panic}
 
@@ -58,6 +58,18 @@ module _ (panic : Panics) where
       by false e = refl
 
   -- ---- into a gather
+
+  -- places of a gather
+  fill-one-same : (ps : List ℕ) (m p i n source : ℕ) (v : Value) → i < n → fill-one-or-panic panic ps m p i n source v ≡ fill-one ps m p i source v
+  unfolding fill-one-or-panic fill-one
+  fill-one-same ps m p i n source v l = rw (lt-ltb i n l)
+
+  fill-same : (k : ℕ) (ps : List ℕ) (m first n source : ℕ) (v : Value) (i : ℕ) → i + k ≤ n → fill-or-panic panic ps m first n source v i k ≡ fill-from ps m first source v i k
+  unfolding fill-or-panic fill-from
+  fill-same zero ps m first n source v i l = refl
+  fill-same (suc k) ps m first n source v i l =
+      ap (λ (f : Filled). fill-or-panic panic (f .places) (f .open-places) first n source v (i + 1) k) (fill-one-same ps m (first + i) i n source v (omega arith))
+      ∙ fill-same k _ _ first n source v (i + 1) (omega arith)
 
   -- a value of an awaited gather's child that is registered with it
   module _ {r : ℕ → Bool} {D : ℕ → Type 0} {hd : Header} (s : Store) (g x : ℕ) (v : Value) (w : AwaitedGather) (h : Mid Nothing r D hd s)
@@ -81,7 +93,7 @@ module _ (panic : Panics) where
     unfolding awaited-or-panic resolve-awaited
     awaited-same =
         let found : open-from (place s) w x 0 (w .count) ≡ true = is-true _ (open-test (place s) w x (w .count) 0 op (omega arith) (omega (arith, op .under))) in
-        rw found (left-same (eqb (f .open-places) 0) refl)
+        rw (found, fill-same (w .count) (s .places) (w .open-places) (w .first) (w .count) x v 0 (omega arith)) (left-same (eqb (f .open-places) 0) refl)
 
   -- the value goes into the gather of its slot
   child-same : (r : ℕ → Bool) (D : ℕ → Type 0) (hd : Header) (s : Store) (o g x : ℕ) (v : Value) → ValueRises r D hd o v s (Awaiter.GatherSlot (heap-id g) (heap-id x))
