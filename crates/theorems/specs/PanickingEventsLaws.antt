@@ -1,14 +1,9 @@
 -- The cycle, await and the end of a task reach no panic in a session: whatever a panic does, with the panics they are the machine's.
 use mathlib.Core.Path.{_≡_, refl, ap, sym, subst, _∙_}
 use mathlib.Core.Bool.{Bool, true, false}
-use mathlib.Core.List.{List, [], _∷_}
-use mathlib.Core.Option.{Option, none, some}
-use Prim.Native.Nat.{ℕ, zero, suc, _≤_, _<_}
-use native.Mathlib.Omega.{arith}
-use lib.Dec.{T, eqb}
-use lib.ListN.{length}
-use borrow.Author.Tests.{eqb-false}
-use Rattle.asyncio.specs.declared.TaskId.{TaskId}
+use mathlib.Core.Option.{some}
+use Prim.Native.Nat.{ℕ, zero, suc, _<_}
+use lib.Dec.{T}
 use Rattle.asyncio.specs.declared.CallId.{CallId}
 use Rattle.asyncio.specs.declared.Value.{Value}
 use Rattle.asyncio.specs.declared.Error.{Error}
@@ -20,19 +15,16 @@ use Rattle.asyncio.specs.declared.GatherState.{GatherState}
 use Rattle.asyncio.specs.declared.Object.{Object}
 use Rattle.asyncio.specs.declared.Header.{Header}
 use Rattle.asyncio.specs.declared.Moment.{Moment}
-use Rattle.asyncio.specs.Limits.{task-limit}
 use Rattle.asyncio.specs.Ranges.{AwaiterFits, ValueFits, ErrorFits}
 use Rattle.asyncio.specs.Numbers.{heap-id, task-id}
-use Rattle.asyncio.specs.States.{pick, is-live, is-running, is-blocked}
+use Rattle.asyncio.specs.States.{is-live, is-running, is-blocked}
 use Rattle.asyncio.specs.Kinds.{kind, is-completed}
-use Rattle.queue.specs.declared.ReadyQueue.{ReadyQueue}
-use Rattle.queue.specs.Queue.{entries, front-of, pop-front, remove, occurrences, without}
-use Rattle.queue.specs.QueueLaws.{length-entries, front-entry, entries-pop, entries-remove, pop-front-len, pop-front-length, remove-len, remove-length, distinct-without}
+use Rattle.queue.specs.Queue.{entries, occurrences}
 use Rattle.machine.specs.Store.{Store, view, task, object, header, put-object, put-queue, set-state, note, blocked, exited}
 use Rattle.machine.specs.Scheduler.{as-pending, remove-from-ready-queue, remove-task, live-count}
 use Rattle.machine.specs.Delivery.{Delivery, deliver-awaiter-success, deliver-awaiter-failure}
 use Rattle.machine.specs.Commit.{Poll, ready, raised, pending, Committed, await-pending, await-external, commit-gather-tree}
-use Rattle.machine.specs.Events.{Switched, yield, new-function, resume-next, resume-after-task-exit, handle-task-failure, start-by, start-task, activate-state, activate-within, activate}
+use Rattle.machine.specs.Events.{Switched, new-function, resume-next, resume-after-task-exit, handle-task-failure, start-by, start-task, activate-state, activate-within, activate}
 use Rattle.machine.specs.Events.{go-on, await-external-future, await-gather, await-object, exec-get-awaitable, completed, handle-task-completion}
 use Rattle.machine.specs.Sound.{value-known, runs-now}
 use Rattle.laws.specs.Views.{Sized}
@@ -40,15 +32,14 @@ use Rattle.laws.specs.Facts.{Nothing}
 use Rattle.laws.specs.TestLaws.{is-true}
 use Rattle.laws.specs.StoreLaws.{task-fits}
 use Rattle.laws.specs.MakingLaws.{value-fits}
-use Rattle.theorems.specs.ReadyTasks.{Queued, to-queued, queued-less, gone, was-there, head-gone}
-use Rattle.theorems.specs.Stores.{idle, Mid, Whole, queue-mid, mid-of}
+use Rattle.theorems.specs.Stores.{idle, Mid, Whole, mid-of}
 use Rattle.theorems.specs.Deliver.{Landed, ErrorRises, failure-keeps}
 use Rattle.theorems.specs.Fill.{ValueRises}
-use Rattle.theorems.specs.Cycle.{task-rises, remove-keeps}
+use Rattle.theorems.specs.Cycle.{task-rises, remove-keeps, next-by, exit-by}
 use Rattle.theorems.specs.Exits.{runner-low, runner-runs, runner-live, others-still, completion-rises, completion-lands, quiet-of}
 use Rattle.theorems.specs.Await.{wait-external}
 use Rattle.theorems.specs.AwaitGather.{EndOk, waits-runs, waits-blocks, commit-keeps}
-use Rattle.theorems.specs.NoPanicLaws.{Activated, starts, goes-on, raises-it, front-activated, main-started, IsCoroutine, task-coroutine}
+use Rattle.theorems.specs.NoPanicLaws.{Activated, starts, goes-on, raises-it, ready-activated, main-started, IsCoroutine, task-coroutine}
 use Rattle.theorems.specs.NoPanicWoken.{success-activated, failure-activated}
 use Rattle.theorems.specs.Panics.{Panics}
 use Rattle.theorems.specs.PanickingDelivery.{success-or-panic}
@@ -64,66 +55,19 @@ module _ (panic : Panics) (D : ℕ → Type 0) (hd : Header) where
       (s : Store) (t : ℕ) → t < hd .next → occurrences (entries (s .queue)) t ≡ 0 → Activated (task s t .state) → Mid Nothing idle D hd s → act s t ≡ other s t
 
   module _ (act other : Store → ℕ → Switched) (go : Same act other) where
-    queue-of : (s : Store) → Mid Nothing idle D hd s → Queued (header s .next) (task s) (entries (s .queue))
-    unfolding view
-    queue-of s h = to-queued (header s .next) (task s) (entries (s .queue)) (h .kept .but .entries)
-
     -- the next ready task
     pub next-same : (s : Store) → Mid Nothing idle D hd s → resume-next act s ≡ resume-next other s
-    unfolding resume-next Same view put-queue task header
-    next-same s h = by (eqb (s .queue .len) 0) refl
-      where
-        q : ReadyQueue
-        q = s .queue
-
-        len : q .len ≤ task-limit
-        len = h .kept .fine .queue-fine
-
-        popped : (u : ℕ) (us : List ℕ) → entries q ≡ u ∷ us → eqb (q .len) 0 ≡ false → act (put-queue s (pop-front q)) (front-of q .0) ≡ other (put-queue s (pop-front q)) (front-of q .0)
-        popped u us e ne =
-            let first = head-gone (subst (Queued (header s .next) (task s)) e (queue-of s h)) in
-            let rest : entries (pop-front q) ≡ us = entries-pop q u us (h .kept .ids) len e in
-            let low : u < hd .next = subst (λ (y : Header). u < y .next) (h .head) (first .0) in
-            let front : front-of q ≡ task-id u = front-entry q u us e (omega (arith, first .0, h .kept .but .fits .next-fits)) in
-            let active : Activated (task s u .state) = subst (λ (y : TaskId). Activated (task s (y .0) .state)) front (front-activated s (h .kept) ne .1) in
-            subst (λ (y : TaskId). act (put-queue s (pop-front q)) (y .0) ≡ other (put-queue s (pop-front q)) (y .0)) (sym front)
-            (go (put-queue s (pop-front q)) u low (rw rest (first .1)) active
-            (queue-mid s h (pop-front q) (pop-front-len q len) (pop-front-length q ∙ h .kept .ids)
-            (λ z. subst (Queued (header s .next) (task s)) (sym rest) (first .2))))
-
-        at-least-one : (us : List ℕ) → entries q ≡ us → eqb (q .len) 0 ≡ false → act (put-queue s (pop-front q)) (front-of q .0) ≡ other (put-queue s (pop-front q)) (front-of q .0)
-        at-least-one [] e ne = absurd (eqb-false (q .len) 0 ne (sym (length-entries q (h .kept .ids) len) ∙ ap length e))
-        at-least-one (u ∷ us) e ne = popped u us e ne
-
-        by : (b : Bool) → eqb (s .queue .len) 0 ≡ b
-            → pick b (yield s) (act (put-queue s (pop-front (s .queue))) (front-of (s .queue) .0)) ≡ pick b (yield s) (other (put-queue s (pop-front (s .queue))) (front-of (s .queue) .0))
-        by true e = refl
-        by false e = at-least-one (entries q) refl e
+    unfolding Same put-queue task
+    next-same s h =
+        next-by D hd (λ x y. x ≡ y) act other s h refl (λ q u low off r m. go (put-queue s q) u low off (ready-activated _ r) m)
 
     -- after an exit: the task that it woke, or the next one
     pub exit-same : (d : Delivery) → Landed idle D hd d → ((u : ℕ) → d .woken ≡ some u → Activated (task (remove-from-ready-queue (d .store) u) u .state))
         → resume-after-task-exit act d ≡ resume-after-task-exit other d
-    unfolding resume-after-task-exit Same remove-from-ready-queue put-queue
-    exit-same d h active = by (d .woken) refl
-      where
-        s : Store
-        s = d .store
-
-        len : s .queue .len ≤ task-limit
-        len = h .mid .kept .fine .queue-fine
-
-        by : (w : Option ℕ) → d .woken ≡ w
-            → _≡_ {A = Switched} (elim w [ none ↦ resume-next act (d .store) | some t ↦ act (remove-from-ready-queue (d .store) t) t ])
-            (elim w [ none ↦ resume-next other (d .store) | some t ↦ other (remove-from-ready-queue (d .store) t) t ])
-        by none e = next-same s (h .mid)
-        by (some t) e =
-            let gone-from : entries (remove (s .queue) t) ≡ without (entries (s .queue)) t = entries-remove (s .queue) t (h .mid .kept .ids) len in
-            let was : Queued (header s .next) (task s) (entries (s .queue)) = queue-of s (h .mid) in
-            go (put-queue s (remove (s .queue) t)) t (h .woken t e)
-            (rw gone-from (gone (entries (s .queue)) t (was .distinct))) (active t e)
-            (queue-mid s (h .mid) (remove (s .queue) t) (remove-len (s .queue) t len) (remove-length (s .queue) t ∙ h .mid .kept .ids)
-            (λ z. subst (Queued (header s .next) (task s)) (sym gone-from)
-            (queued-less (was-there (entries (s .queue)) t) (distinct-without (entries (s .queue)) t (z .distinct)) z)))
+    unfolding Same remove-from-ready-queue put-queue task
+    exit-same d h active =
+        exit-by D hd (λ x y. x ≡ y) act other d h refl (λ q u low off r m. go (put-queue (d .store) q) u low off (ready-activated _ r) m)
+        (λ q u e low off m. go (put-queue (d .store) q) u low off (active u e) m)
 
     -- a live spawned task that is not blocked fails
     pub failure-same : (s : Store) (t : ℕ) (e : Error) (r : ℕ → Bool) → ErrorFits e → suc t < hd .next → T (is-live (task s (suc t) .state))
