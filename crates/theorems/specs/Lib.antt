@@ -43,6 +43,9 @@ pub mod PanickingCommitLaws
 pub mod PanickingEventsLaws
 pub mod PanickingMachine
 pub mod PanickingMachineLaws
+pub mod Story
+pub mod StoryLaws
+pub mod StoryCommit
 pub mod NoPanicPlaces
 pub mod Bounds
 pub mod BoundLaws
