@@ -48,7 +48,7 @@ module _ (ps : ℕ → Place) (w : AwaitedGather) (o : ℕ) where
           record { at = i; under = omega arith; is-open = h .0; names = eqb-true (ps (w .first + i) .item .0) o (h .1) }
       by false e t f = f t
 
-  open-test : (k i : ℕ) (h : Open ps w o) → i ≤ h .at → h .at < i + k → T (open-from ps w o i k)
+  pub open-test : (k i : ℕ) (h : Open ps w o) → i ≤ h .at → h .at < i + k → T (open-from ps w o i k)
   unfolding open-from
   open-test zero i h l m = absurd (not-suc-le-zero {n = 0} (omega arith))
   open-test (suc k) i h l m = by (here i) refl (ℕ-discrete (h .at) i) (λ n. open-test k (i + 1) h (omega arith) (omega arith))

@@ -146,50 +146,48 @@ takes-fits k Q Q' v o p a l e free range awaited slot commit =
 module _ (s : Store) (t : ℕ) (h : Whole s) (m : header s .moment ≡ Moment.Running (task-id t)) where
   -- the running task waits for a pending external
   module _ (o : ℕ) (p : PendingExternal) (l : o < header s .made) (e : as-pending (object s o) ≡ some p) (free : p .awaiter ≡ Awaiter.Nobody) where
-    x : Object
+    abbrev x : Object
     x = Object.ExternalFuture (p .call) (ExternalFutureState.Pending (Awaiter.Task (task-id t)) (p .stored))
 
     fit : ObjectFits x
-    unfolding x view
+    unfolding view
     fit =
         let old : ObjectFits (Object.ExternalFuture (p .call) (ExternalFutureState.Pending (p .awaiter) (p .stored))) = subst ObjectFits (pending-object (object s o) p e) (object-fits s o) in
         (old .0, (omega (arith, runner-low s t h m, h .facts .but .fits .next-fits), old .1 .1))
 
     fits : Fits 0 0 Nothing Nothing Nothing (λ q. q ≡ o) (view s) o x
-    unfolding view x awaiter-in-range
+    unfolding view awaiter-in-range
     fits =
         takes-fits 0 Nothing (λ q. q ≡ o) (view s) o p (Awaiter.Task (task-id t)) l e free (lt→ltb t (header s .next) (runner-low s t h m))
         (λ n. absurd (n refl)) (λ n. absurd (n refl)) (λ q d n z. z)
 
-    next : Store
+    abbrev next : Store
     next = put-object s o x
 
     kept : Kept 0 Nothing (λ q. q ≡ o) next
-    unfolding next
     kept = object-kept s (mid-of s h .kept) o x fit fits
 
     there : view next ≡ with-object (view s) o x
-    unfolding next view
+    unfolding view
     there = view-put-object s o x (h .sized) (omega (arith, l, h .facts .but .fits .made-fits)) fit
 
     head : header next ≡ header s
-    unfolding next
     head = header-put-object s o x
 
     row-o : object next o ≡ x
-    unfolding next view
+    unfolding view
     row-o = object-put-object s o x (h .sized) (omega (arith, l, h .facts .but .fits .made-fits)) fit
 
     closes : Closes (view next) t o
     unfolding view
     closes =
         record {
-          awaiter = subst (λ (y : Object). awaiter-of y ≡ Awaiter.Task (task-id t)) (sym row-o) (unfold awaiter-of x in refl);
-          filled = subst (λ (y : Object). T (object-filled (view next .places) y)) (sym row-o) (unfold object-filled x in tt);
+          awaiter = subst (λ (y : Object). awaiter-of y ≡ Awaiter.Task (task-id t)) (sym row-o) (unfold awaiter-of in refl);
+          filled = subst (λ (y : Object). T (object-filled (view next .places) y)) (sym row-o) (unfold object-filled in tt);
         }
 
-    wait-external : Mid Nothing idle (λ o. T (is-completed (kind (object s o)))) (header s) (note (set-state next t (TaskState.Blocked (heap-id o))) (blocked t))
-    unfolding with-object view next task put-object
+    pub wait-external : Mid Nothing idle (λ o. T (is-completed (kind (object s o)))) (header s) (note (set-state next t (TaskState.Blocked (heap-id o))) (blocked t))
+    unfolding with-object view task put-object
     wait-external =
         block-keeps next t o (runs-now (header s .moment)) (subst (λ (y : Header). t < y .next) (sym head) (runner-low s t h m)) (runner-runs s t h m)
         (subst (λ (y : Header). o < y .made) (sym head) l) closes kept (others-still s t h m)
@@ -200,7 +198,7 @@ module _ (s : Store) (t : ℕ) (h : Whole s) (m : header s .moment ≡ Moment.Ru
 
   pub await-external-keeps : (o : ℕ) (c : CallId) (x : ExternalFutureState) → o < header s .made → object s o ≡ Object.ExternalFuture c x
       → Whole (await-external-future s t o c x .store)
-  unfolding await-external-future go-on stays await-external await-pending as-pending x next
+  unfolding await-external-future go-on stays await-external await-pending as-pending
   await-external-keeps o c (ExternalFutureState.Pending Awaiter.Nobody r) l e =
       next-keeps (λ o. T (is-completed (kind (object s o)))) (header s) (still-on s t h m) activate (activate-keeps _ (header s) (still-on s t h m)) _
       (wait-external o (record { call = c; awaiter = Awaiter.Nobody; stored = r }) l (ap as-pending e) refl)

@@ -40,19 +40,18 @@ use Rattle.theorems.specs.CommitSteps.{Memory, memory-object, park}
 use Rattle.theorems.specs.CommitInv.{OnTop, Stacked, bottom, Inv, lessen, nest-step, After, settle-memory, settle-top}
 use Rattle.asyncio.specs.declared.TaskState.{TaskState}
 use Rattle.asyncio.specs.declared.Moment.{Moment}
-use Rattle.asyncio.specs.States.{is-running}
 use Rattle.machine.specs.Store.{set-state, blocked}
 use Rattle.machine.specs.Commit.{commit-gather-tree}
 use Rattle.machine.specs.Events.{activate, stays, go-on, await-gather, await-object, exec-get-awaitable}
 use Rattle.machine.specs.Sound.{is-ended, runs-now, runner-in-range, places-below}
-use Rattle.theorems.specs.Stores.{Kept, idle, Mid, Whole}
+use Rattle.theorems.specs.Stores.{idle, Mid, Whole}
 use Rattle.theorems.specs.Cycle.{next-keeps, activate-keeps}
 use Rattle.theorems.specs.Exits.{is-run-state, runner-low}
 use Rattle.theorems.specs.Await.{block-keeps, await-external-keeps, await-coroutine-keeps}
 use Rattle.theorems.specs.CommitInv.{open-fits}
 use Rattle.theorems.specs.PutObject.{object-keeps}
 use Rattle.theorems.specs.CommitLoop.{Ends, unwind-keeps, rest-done, Commits, settle-next}
-use Rattle.theorems.specs.CommitItems.{AtError, StopOk, inv-count, items-keep}
+use Rattle.theorems.specs.CommitItems.{AtNested, AtError, StopOk, inv-count, items-keep}
 
 -- ---- the end of a commit: an answer for the task that awaits, or it is to block
 
@@ -142,34 +141,67 @@ opened-in s o f n a mem l q fit =
       ap (λ (y : Object). view (put-object s o y)) same ∙ view-put-object s o x (mem .sized) (omega (arith, l, header-fits s .made-fits)) fit,
     )
 
-turn-keeps : (root t : ℕ) (loop : Store → Frame → List Frame → ℕ → ℕ → ℕ → Committed) → LoopOk root t loop → (f : Frame) (fs : List Frame) (n j k : ℕ) (x : Stop)
-    → StopOk root t (f .gather) fs x → EndOk root t (turn loop f fs n j k x .store) (turn loop f fs n j k x .poll)
-unfolding turn view
-turn-keeps root t loop go f fs n j k (at-nested s i o) h =
+-- so a nested gather is, and the commit goes on with it
+pub nested-commits : (root t : ℕ) (f : Frame) (fs : List Frame) (s : Store) (i o : ℕ) → AtNested root t (f .gather) fs s i o
+    → Commits root t o 0 (record { gather = f .gather; next = i } ∷ fs) (open-gather-commit s o (Awaiter.GatherSlot (heap-id (f .gather)) (heap-id o)))
+unfolding view
+nested-commits root t f fs s i o h =
     let low : f .gather < header s .made = h .inv .opened .made in
     let low-o : o < header s .made = omega (arith, h .lower) in
     let old : ObjectFits (Object.GatherFuture (h .first) (h .count) GatherState.Pending) = subst ObjectFits (h .is-new) (object-fits s o) in
     let most : header s .made ≤ object-limit = header-fits s .made-fits in
     let r = opened-in s o (h .first) (h .count) (Awaiter.GatherSlot (heap-id (f .gather)) (heap-id o)) (h .memory) low-o (h .is-new)
     (old .0, ((omega arith, omega arith), omega arith)) in
-    go _ (record { gather = o; next = 0 }) (record { gather = f .gather; next = i } ∷ fs) _ _ _
-    (record {
+    record {
       memory = r .0;
       inv = subst (λ (v : View). Inv root t 0 (OnTop o (record { gather = f .gather; next = i } ∷ fs)) v o 0 (record { gather = f .gather; next = i } ∷ fs)) (sym (r .1))
           (nest-step root t (view s) (f .gather) i fs (h .inv) (h .less) o (h .first) (h .count) (h .lower) (h .is-new) (h .names));
-    })
+    }
+
+turn-keeps : (root t : ℕ) (loop : Store → Frame → List Frame → ℕ → ℕ → ℕ → Committed) → LoopOk root t loop → (f : Frame) (fs : List Frame) (n j k : ℕ) (x : Stop)
+    → StopOk root t (f .gather) fs x → EndOk root t (turn loop f fs n j k x .store) (turn loop f fs n j k x .poll)
+unfolding turn view
+turn-keeps root t loop go f fs n j k (at-nested s i o) h =
+    go _ (record { gather = o; next = 0 }) (record { gather = f .gather; next = i } ∷ fs) _ _ _ (nested-commits root t f fs s i o h)
 turn-keeps root t loop go f fs n j k (at-error s e) h = error-keeps root t f fs s e h
 turn-keeps root t loop go f [] n j k (at-end s) h = root-keeps root t s (f .gather) (h .i) (h .memory) (h .inv) (h .end)
 turn-keeps root t loop go f (p ∷ ps) n j k (at-end s) h =
     go _ (record { gather = p .gather; next = p .next + 1 }) ps _ _ _ (settle-next root t s (f .gather) (h .i) p ps (h .memory) (h .inv) (h .end))
 
+-- the items of the frame on top
+pub frame-stops : (root t : ℕ) (s : Store) (f : Frame) (fs : List Frame) → Commits root t (f .gather) (f .next) fs s → StopOk root t (f .gather) fs (step-gather-commit s f)
+unfolding step-gather-commit
+frame-stops root t s f fs h =
+    items-keep _ root t (f .gather) (f .next) fs s (h .memory) (h .inv)
+    (omega (arith, h .inv .opened .under, inv-count root t (f .next) (f .gather) 0 (OnTop (f .gather) fs) fs s (h .inv)))
+
 pub loop-keeps : (fuel root t : ℕ) → LoopOk root t (commit-loop fuel)
 unfolding commit-loop turn
 loop-keeps zero root t s f fs n j k h = error-keeps root t f fs s Error.GatherReuse (record { i = f .next; memory = h .memory; inv = h .inv; fits = tt })
 loop-keeps (suc fuel) root t s f fs n j k h =
-    turn-keeps root t (λ x g gs m i h. commit-loop fuel x g gs m i h) (loop-keeps fuel root t) f fs n j k (step-gather-commit s f)
-    (unfold step-gather-commit in (items-keep _ root t (f .gather) (f .next) fs s (h .memory) (h .inv)
-    (omega (arith, h .inv .opened .under, inv-count root t (f .next) (f .gather) 0 (OnTop (f .gather) fs) fs s (h .inv)))))
+    turn-keeps root t (λ x g gs m i h. commit-loop fuel x g gs m i h) (loop-keeps fuel root t) f fs n j k (step-gather-commit s f) (frame-stops root t s f fs h)
+
+-- ---- the awaiting task blocks
+
+module _ (o t : ℕ) (x : Store) (a : Waits o t x) where
+  af : After t 0 (λ p. p ≡ o) (view x)
+  af = a .ends .after
+
+  low : t < header x .next
+  unfolding view
+  low = af .low
+
+  -- it runs
+  pub waits-runs : task x t .state ≡ TaskState.Running
+  unfolding view runs-now
+  waits-runs = is-run-state (task x t .state) (af .runs t low ∙ eq-eqb t t refl)
+
+  pub waits-blocks : Mid Nothing idle Nothing (header x) (note (set-state x t (TaskState.Blocked (heap-id o))) (blocked t))
+  unfolding runs-now
+  waits-blocks =
+      block-keeps x t o (runs-now (Moment.Running (task-id t))) low waits-runs (a .made) (a .closes)
+      (record { sized = a .ends .memory .sized; ids = a .ends .memory .ids; fine = a .ends .memory .fine; but = af .but }) (λ u d. ne-eqb t u (λ q. d (sym q))) (af .runs)
+      (λ p d. absurd d) refl
 
 -- ---- the event `await`
 
@@ -177,12 +209,11 @@ module _ (s : Store) (t : ℕ) (h : Whole s) (m : header s .moment ≡ Moment.Ru
   memory : Memory s
   memory = record { sized = h .sized; ids = h .ids; fine = h .fine }
 
-  commit-keeps : (g f n : ℕ) → g < header s .made → object s g ≡ Object.GatherFuture f n GatherState.Pending
-      → EndOk g t (commit-gather-tree s g (Awaiter.Task (task-id t)) .store) (commit-gather-tree s g (Awaiter.Task (task-id t)) .poll)
-  unfolding commit-gather-tree view with-object awaiter-in-range
-  commit-keeps g f n l q =
-      loop-keeps _ g t (open-gather-commit s g (Awaiter.Task (task-id t))) (record { gather = g; next = 0 }) [] 0 1 0
-      (record { memory = r .0; inv = subst (λ (v : View). Inv g t 0 (OnTop g []) v g 0 []) (sym (r .1)) start })
+  -- the gather that the running task awaits is opened
+  pub commit-begins : (g f n : ℕ) → g < header s .made → object s g ≡ Object.GatherFuture f n GatherState.Pending
+      → Commits g t g 0 [] (open-gather-commit s g (Awaiter.Task (task-id t)))
+  unfolding view with-object awaiter-in-range
+  commit-begins g f n l q = record { memory = r .0; inv = subst (λ (v : View). Inv g t 0 (OnTop g []) v g 0 []) (sym (r .1)) start }
     where
       x : Object
       x = Object.GatherFuture f n (GatherState.Awaited (Awaiter.Task (task-id t)) 0)
@@ -220,6 +251,11 @@ module _ (s : Store) (t : ℕ) (h : Whole s) (m : header s .moment ≡ Moment.Ru
             moment = m;
           }
 
+  pub commit-keeps : (g f n : ℕ) → g < header s .made → object s g ≡ Object.GatherFuture f n GatherState.Pending
+      → EndOk g t (commit-gather-tree s g (Awaiter.Task (task-id t)) .store) (commit-gather-tree s g (Awaiter.Task (task-id t)) .poll)
+  unfolding commit-gather-tree
+  commit-keeps g f n l q = loop-keeps _ g t (open-gather-commit s g (Awaiter.Task (task-id t))) (record { gather = g; next = 0 }) [] 0 1 0 (commit-begins g f n l q)
+
   ends-whole : (x : Store) → Ends t 0 Nothing x → Whole x
   unfolding view runner-in-range
   ends-whole x a =
@@ -236,38 +272,13 @@ module _ (s : Store) (t : ℕ) (h : Whole s) (m : header s .moment ≡ Moment.Ru
 
   -- the awaiting task goes on, or blocks
   go-on-keeps : (o n : ℕ) (x : Store) (p : Poll) → EndOk o t x p → Whole (go-on t o n x p .store)
-  unfolding go-on stays
+  unfolding go-on stays view
   go-on-keeps o n x (ready v) a = ends-whole x a
   go-on-keeps o n x (raised e) a = ends-whole x a
-  go-on-keeps o n x pending a = next-keeps Nothing (header x) on activate (activate-keeps Nothing (header x) on) _ blocks
+  go-on-keeps o n x pending a = next-keeps Nothing (header x) on activate (activate-keeps Nothing (header x) on) _ (waits-blocks o t x a)
     where
-      af : After t 0 (λ p. p ≡ o) (view x)
-      af = a .ends .after
-
-      mo : header x .moment ≡ Moment.Running (task-id t)
-      mo = unfold view in (af .moment)
-
       on : is-ended (header x .moment) ≡ false
-      on = ap is-ended mo ∙ (unfold is-ended in refl)
-
-      low : t < header x .next
-      low = unfold view in (af .low)
-
-      still : (u : ℕ) → (u ≡ t → ⊥) → runs-now (Moment.Running (task-id t)) u ≡ false
-      still u d = unfold runs-now in (ne-eqb t u (λ q. d (sym q)))
-
-      now : runs-now (Moment.Running (task-id t)) t ≡ true
-      now = unfold runs-now in (eq-eqb t t refl)
-
-      state-now : is-running (task x t .state) ≡ runs-now (Moment.Running (task-id t)) t
-      state-now = unfold view in (af .runs t low)
-
-      kept : Kept 0 Nothing (λ p. p ≡ o) x
-      kept = record { sized = a .ends .memory .sized; ids = a .ends .memory .ids; fine = a .ends .memory .fine; but = af .but }
-
-      blocks : Mid Nothing idle Nothing (header x) (note (set-state x t (TaskState.Blocked (heap-id o))) (blocked t))
-      blocks =
-          block-keeps x t o (runs-now (Moment.Running (task-id t))) low (is-run-state (task x t .state) (state-now ∙ now)) (a .made) (a .closes) kept still (af .runs) (λ p d. absurd d) refl
+      on = ap is-ended (a .ends .after .moment) ∙ (unfold is-ended in refl)
 
   -- of a gather
   await-gather-keeps : (o f n : ℕ) (x : GatherState) → o < header s .made → object s o ≡ Object.GatherFuture f n x → Whole (await-gather s t o x .store)

@@ -30,7 +30,7 @@ use Rattle.queue.specs.Queue.{entries, push-back}
 use Rattle.queue.specs.QueueLaws.{push-back-len, push-back-length}
 use Rattle.machine.specs.Store.{Store, View, view, task, object, place, header, put-task, put-object, put-place, put-header, put-queue, note, set-next, spawned}
 use Rattle.machine.specs.Scheduler.{AwaitedGather, PendingExternal, as-awaited, as-pending, drives, first-from, driver-in, driver, push-ready, spawn-as, spawn-unless, spawn}
-use Rattle.machine.specs.Commit.{ready, raised, pending, gives, await-pending, await-external, Item, polled, polled-spawn, item-coroutine, item-gather, item-object, open-from, item}
+use Rattle.machine.specs.Commit.{Poll, ready, raised, pending, gives, await-pending, await-external, Item, polled, nested, polled-spawn, item-coroutine, item-gather, item-object, open-from, item}
 use Rattle.machine.specs.Commit.{open-place, fill-place, Stop, at-end, at-nested, at-error, put-polled, put-item, step-item, step-items, Frame}
 use Rattle.machine.specs.Sound.{awaiter-in-range, items-below, value-known, object-values, drives-at}
 use Rattle.laws.specs.Views.{Sized, update, with-task, with-object, with-header}
@@ -176,8 +176,40 @@ module _ (s : Store) (c g : ℕ) (mem : Memory s) (room : header s .next < task-
 
 -- ---- one item of the gather on top
 
-module _ (root t g : ℕ) (fs : List Frame) (n i : ℕ) (s : Store) (mem : Memory s) (h : Inv root t 0 (OnTop g fs) (view s) g i fs) (len : i + suc n ≡ h .w .count)
-    (go : (x : Store) → Memory x → Inv root t 0 (OnTop g fs) (view x) g (i + 1) fs → count-of (object x g) ≡ h .w .count → StopOk root t g fs (step-items n x g (i + 1))) where
+-- place i of gather g, which has n, is done: the walk goes on from there
+pub record Goes (root t g : ℕ) (fs : List Frame) (i n : ℕ) (s : Store) : Type 0 where
+  pub memory : Memory s
+  pub inv : Inv root t 0 (OnTop g fs) (view s) g (i + 1) fs
+  pub count : count-of (object s g) ≡ n
+
+-- what the item in place i gave, in store x
+abbrev pub PollOk : ℕ → ℕ → ℕ → List Frame → AwaitedGather → ℕ → Store → Poll → Type 0
+PollOk root t g fs w i x (ready v) = Goes root t g fs i (w .count) (fill-place x w i v)
+PollOk root t g fs w i x (raised e) = AtError root t g fs x e
+PollOk root t g fs w i x pending = Goes root t g fs i (w .count) (open-place x g w i)
+
+-- what the item o in place i is
+abbrev pub ItemOk : ℕ → ℕ → ℕ → List Frame → AwaitedGather → ℕ → ℕ → Store → Item → Type 0
+ItemOk root t g fs w i o s nested = AtNested root t g fs s i o
+ItemOk root t g fs w i o s (polled r) = PollOk root t g fs w i (r .store) (r .poll)
+
+-- one item less is left
+pub goes-length : (root t g i : ℕ) (fs : List Frame) (c n : ℕ) (x : Store) → i + suc n ≡ c → (k : Goes root t g fs i c x) → i + 1 + n ≡ k .inv .w .count
+goes-length root t g i fs c n x e k = omega (arith, k .count, inv-count root t (i + 1) g 0 (OnTop g fs) fs x (k .inv))
+
+-- so the walk stops where it is said to, if it does from the next place on
+put-ok : (root t g : ℕ) (fs : List Frame) (w : AwaitedGather) (i o : ℕ) (s : Store) (go : Store → Stop)
+    → ((y : Store) → Goes root t g fs i (w .count) y → StopOk root t g fs (go y)) → (x : Item) → ItemOk root t g fs w i o s x → StopOk root t g fs (put-item g w i o s x go)
+unfolding put-item put-polled
+put-ok root t g fs w i o s go f nested k = k
+put-ok root t g fs w i o s go f (polled r) k = by (r .poll) k
+  where
+    by : (p : Poll) → PollOk root t g fs w i (r .store) p → StopOk root t g fs (put-polled g w i (r .store) p go)
+    by (ready v) k = f _ k
+    by (raised e) k = k
+    by pending k = f _ k
+
+module _ (root t g : ℕ) (fs : List Frame) (i : ℕ) (s : Store) (mem : Memory s) (h : Inv root t 0 (OnTop g fs) (view s) g i fs) (less : i < h .w .count) where
   abbrev w : AwaitedGather
   w = h .w
 
@@ -185,10 +217,7 @@ module _ (root t g : ℕ) (fs : List Frame) (n i : ℕ) (s : Store) (mem : Memor
   o = place s (w .first + i) .item .0
 
   abbrev Ok : Item → Type 0
-  Ok x = StopOk root t g fs (put-item g w i o s x (λ y. step-items n y g (i + 1)))
-
-  less : i < w .count
-  less = omega arith
+  Ok x = ItemOk root t g fs w i o s x
 
   top : as-awaited (object s g) ≡ some w
   unfolding view
@@ -209,7 +238,6 @@ module _ (root t g : ℕ) (fs : List Frame) (n i : ℕ) (s : Store) (mem : Memor
   low-g = omega (arith, made, header-fits s .made-fits)
 
   err : (e : Error) → ErrorFits e → Ok (polled (gives s (raised e)))
-  unfolding put-item put-polled
   err e k = record { i = i; memory = mem; inv = h; fits = k }
 
   abbrev y1 : Object
@@ -221,9 +249,10 @@ module _ (root t g : ℕ) (fs : List Frame) (n i : ℕ) (s : Store) (mem : Memor
 
   -- place i is open in a store whose view is known
   opens-in : (x : Store) (v : View) → Memory x → g < header x .made → view x ≡ v → Inv root t 0 (OnTop g fs) (with-object v g y1) g (i + 1) fs
-      → StopOk root t g fs (step-items n (open-place x g w i) g (i + 1))
+      → Goes root t g fs i (w .count) (open-place x g w i)
   unfolding open-place wider
-  opens-in x v m l e inv = go (put-object x g y1) (memory-object x g y1 l y1-fits m) (subst (λ (z : View). Inv root t 0 (OnTop g fs) z g (i + 1) fs) (sym there) inv) count-there
+  opens-in x v m l e inv =
+      record { memory = memory-object x g y1 l y1-fits m; inv = subst (λ (z : View). Inv root t 0 (OnTop g fs) z g (i + 1) fs) (sym there) inv; count = count-there }
     where
       there : view (put-object x g y1) ≡ with-object v g y1
       there = view-put-object x g y1 (m .sized) low-g y1-fits ∙ ap (λ (z : View). with-object z g y1) e
@@ -236,14 +265,13 @@ module _ (root t g : ℕ) (fs : List Frame) (n i : ℕ) (s : Store) (mem : Memor
 
   -- it waits for nothing new: another place of an item that is open
   again : Ok (polled (gives s pending))
-  unfolding put-item put-polled
   again = opens-in s (view s) mem made refl (relax root t (OnTop g fs) _ g (i + 1) fs opened-view)
 
   fills : (x : Value) → T (value-known (header s .made) (object s) x) → Ok (polled (gives s (ready x)))
-  unfolding put-item put-polled
+  unfolding fill-place object put-place
   fills x k =
       let r = fill-commits root t (OnTop g fs) s g i fs mem h less x k in
-      go (fill-place s w i x) (r .0) (r .1) (unfold fill-place object put-place in (inv-count root t i g 0 (OnTop g fs) fs s h))
+      record { memory = r .0; inv = r .1; count = inv-count root t i g 0 (OnTop g fs) fs s h }
 
   known-value : (x : Object) → object s o ≡ x → T (object-values (header s .made) (object s) x)
   unfolding view
@@ -278,7 +306,6 @@ module _ (root t g : ℕ) (fs : List Frame) (n i : ℕ) (s : Store) (mem : Memor
   -- a pending external without awaiter takes the slot
   takes : (p : PendingExternal) → as-pending (object s o) ≡ some p → p .awaiter ≡ Awaiter.Nobody
       → Ok (polled (gives (put-object s o (Object.ExternalFuture (p .call) (ExternalFutureState.Pending (Awaiter.GatherSlot (heap-id g) (heap-id o)) (p .stored)))) pending))
-  unfolding put-item put-polled
   takes p e free =
       opens-in s2 (with-object (view s) o x) (memory-object s o x (omega (arith, lower, made)) fit mem) (subst (λ (y : Header). g < y .made) (sym (header-put-object s o x)) made) there
       (subst (λ (v : View). Inv root t 0 (OnTop g fs) v g (i + 1) fs) (with-objects-comm (view s) g o y1 x (λ q. apart (sym q)))
@@ -324,7 +351,7 @@ module _ (root t g : ℕ) (fs : List Frame) (n i : ℕ) (s : Store) (mem : Memor
       q1 = entries (push-back (s .queue) (header s .next))
 
       spawned-ok : driver s o ≡ none → header s .next < task-limit → Ok (polled (polled-spawn s (some (spawn-as s (header s .next) o g))))
-      spawned-ok e room = unfold polled-spawn put-item put-polled in
+      spawned-ok e room = unfold polled-spawn in
           (opens-in s2 (spawn-view (view s) o g q1) (spawn-memory s o g mem room low-o low-g) (subst (λ (y : View). g < y .header .made) (sym there) (unfold spawn-view view in made)) there
           (unfold spawn-view with-object in stepped))
         where
@@ -369,7 +396,7 @@ module _ (root t g : ℕ) (fs : List Frame) (n i : ℕ) (s : Store) (mem : Memor
   item-keeps (Object.ExternalFuture c (ExternalFutureState.Resolved x)) e = fills x (unfold object-values in (known-value (Object.ExternalFuture c (ExternalFutureState.Resolved x)) e))
   item-keeps (Object.ExternalFuture c (ExternalFutureState.Failed x)) e = err x (subst ObjectFits e (object-fits s o) .1)
   item-keeps (Object.GatherFuture f m GatherState.Pending) e =
-      unfold put-item in (record { memory = mem; inv = h; less = less; first = f; count = m; is-new = e; names = refl; lower = lower })
+      record { memory = mem; inv = h; less = less; first = f; count = m; is-new = e; names = refl; lower = lower }
   item-keeps (Object.GatherFuture f m (GatherState.Awaited a k)) e = err Error.GatherReuse tt
   item-keeps (Object.GatherFuture f m GatherState.Completed) e =
       fills (Value.List (heap-id o)) (unfold value-known in (both _ _ (lt→ltb o (header s .made) (omega (arith, lower, made))) (subst (λ (y : Object). T (is-completed (kind y))) (sym e) (unfold kind in tt))))
@@ -390,4 +417,5 @@ unfolding step-items step-item view
 items-keep zero root t g i fs s mem h e = record { i = i; memory = mem; inv = h; end = omega arith }
 items-keep (suc n) root t g i fs s mem h e =
     subst (λ (o : Option AwaitedGather). StopOk root t g fs (step-item g i s o (λ x. step-items n x g (i + 1)))) (sym (h .opened .awaited))
-    (one-keeps root t g fs n i s mem h e (λ x m k c. items-keep n root t g (i + 1) fs x m k (omega (arith, c, inv-count root t (i + 1) g 0 (OnTop g fs) fs x k))))
+    (put-ok root t g fs (h .w) i (place s (h .w .first + i) .item .0) s (λ x. step-items n x g (i + 1))
+    (λ x k. items-keep n root t g (i + 1) fs x (k .memory) (k .inv) (goes-length root t g i fs (h .w .count) n x e k)) _ (one-keeps root t g fs i s mem h (omega arith)))

@@ -62,7 +62,7 @@ stacked-put s x r {root} {t} {g} {a} {fs} {k} m low f l st =
     subst (λ (v : View). Stacked (v .header .made) (v .objects) (v .places) root t g a fs k)
     (sym (view-put-object s x r (m .sized) (omega (arith, low, header-fits s .made-fits)) f)) (stacked-object x r l st)
 
-stacked-set : (s : Store) (g : ℕ) (w : AwaitedGather) (y : GatherState) {root t : ℕ} {a : Awaiter} {fs : List Frame} {k : ℕ} → Memory s → g < header s .made
+pub stacked-set : (s : Store) (g : ℕ) (w : AwaitedGather) (y : GatherState) {root t : ℕ} {a : Awaiter} {fs : List Frame} {k : ℕ} → Memory s → g < header s .made
     → as-awaited (object s g) ≡ some w → ObjectFits (Object.GatherFuture (w .first) (w .count) y) → Stacked (header s .made) (object s) (place s) root t g a fs k
     → Stacked (header (set-gather s g y) .made) (object (set-gather s g y)) (place (set-gather s g y)) root t g a fs k
 unfolding set-gather

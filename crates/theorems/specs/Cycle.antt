@@ -24,7 +24,7 @@ use Rattle.asyncio.specs.declared.Moment.{Moment}
 use Rattle.asyncio.specs.Limits.{task-limit}
 use Rattle.asyncio.specs.Ranges.{TaskFits, ObjectFits, ErrorFits}
 use Rattle.asyncio.specs.Numbers.{task-id}
-use Rattle.asyncio.specs.States.{pick, is-live, is-unstarted, is-running}
+use Rattle.asyncio.specs.States.{pick, is-live, is-unstarted, is-running, is-ready}
 use Rattle.asyncio.specs.Kinds.{kind, is-coroutine, is-completed, is-committed}
 use Rattle.asyncio.specs.Parts.{awaiter-of, count-of}
 use Rattle.queue.specs.declared.ReadyQueue.{ReadyQueue}
@@ -45,7 +45,7 @@ use Rattle.theorems.specs.ReadyTasks.{Queued, to-queued, queued-same, qu
 use Rattle.theorems.specs.PutObject.{Fits}
 use Rattle.theorems.specs.PutTask.{with-task-queue, TaskWrite}
 use Rattle.theorems.specs.Stores.{Runs, idle, Mid, Whole, object-mid, task-mid, queue-mid, note-mid, moment-whole}
-use Rattle.theorems.specs.Deliver.{nobody-task, nobody-slot, Landed, Flight, take-off, restated-in-range, restated-fits, failure-keeps}
+use Rattle.theorems.specs.Deliver.{nobody-task, nobody-slot, Landed, Flight, take-off, restated-in-range, restated-fits, ErrorRises, failure-keeps}
 
 -- ---- a live spawned task
 
@@ -104,6 +104,12 @@ task-flight s t h low l =
       slot = λ g x e. h .kept .but .task-slots (suc t) low l g x e;
       task = λ u e z. absurd (not-a-task (task s (suc t) .awaiter) (sp .slot) (task-id u) e);
     }
+
+-- and an error for it
+pub task-rises : {r : ℕ → Bool} {D : ℕ → Type 0} {hd : Header} (s : Store) (t : ℕ) → Mid Nothing r D hd s → suc t < hd .next → T (is-live (task s (suc t) .state))
+    → ErrorRises r D hd (task s (suc t) .coroutine .0) s (task s (suc t) .awaiter)
+task-rises s t h low l =
+    record { flight = task-flight s t h (subst (λ (y : Header). suc t < y .next) (sym (h .head)) low) l; mid = take-off s (task s (suc t) .awaiter) h }
 
 -- ---- a coroutine's state is written
 
@@ -234,6 +240,79 @@ module _ {D : ℕ → Type 0} {hd : Header} (s : Store) (t : ℕ) (h : Mid Nothi
 
 -- ---- the cycle
 
+-- What a switch does, for two ways to activate a task and a relation of what they give: it holds where the host gets control, and where a task that
+-- is ready, or was woken, and does not stand in the queue any more, is activated.
+module _ (D : ℕ → Type 0) (hd : Header) (R : Switched → Switched → Type 0) (act other : Store → ℕ → Switched) where
+  queue-of : (s : Store) → Mid Nothing idle D hd s → Queued (header s .next) (task s) (entries (s .queue))
+  unfolding view
+  queue-of s h = to-queued (header s .next) (task s) (entries (s .queue)) (h .kept .but .entries)
+
+  -- the next ready task
+  pub next-by : (s : Store) → Mid Nothing idle D hd s → R (yield s) (yield s)
+      → ((q : ReadyQueue) (u : ℕ) → u < hd .next → occurrences (entries q) u ≡ 0 → T (is-ready (task s u .state)) → Mid Nothing idle D hd (put-queue s q)
+      → R (act (put-queue s q) u) (other (put-queue s q) u))
+      → R (resume-next act s) (resume-next other s)
+  unfolding resume-next view
+  next-by s h y go = by (eqb (s .queue .len) 0) refl
+    where
+      q : ReadyQueue
+      q = s .queue
+
+      len : q .len ≤ task-limit
+      len = h .kept .fine .queue-fine
+
+      Next : ℕ → Type 0
+      Next u = R (act (put-queue s (pop-front q)) u) (other (put-queue s (pop-front q)) u)
+
+      popped : (u : ℕ) (us : List ℕ) → entries q ≡ u ∷ us → Next (front-of q .0)
+      popped u us e =
+          let first = head-gone (subst (Queued (header s .next) (task s)) e (queue-of s h)) in
+          let rest : entries (pop-front q) ≡ us = entries-pop q u us (h .kept .ids) len e in
+          let low : u < hd .next = subst (λ (y : Header). u < y .next) (h .head) (first .0 .0) in
+          let front : front-of q ≡ task-id u = front-entry q u us e (omega (arith, first .0 .0, h .kept .but .fits .next-fits)) in
+          subst (λ (y : TaskId). Next (y .0)) (sym front)
+          (go (pop-front q) u low (rw rest (first .1)) (first .0 .1)
+          (queue-mid s h (pop-front q) (pop-front-len q len) (pop-front-length q ∙ h .kept .ids)
+          (λ z. subst (Queued (header s .next) (task s)) (sym rest) (first .2))))
+
+      at-least-one : (us : List ℕ) → entries q ≡ us → (q .len ≡ 0 → ⊥) → Next (front-of q .0)
+      at-least-one [] e ne = absurd (ne (sym (length-entries q (h .kept .ids) len) ∙ ap length e))
+      at-least-one (u ∷ us) e ne = popped u us e
+
+      by : (b : Bool) → eqb (s .queue .len) 0 ≡ b
+          → R (pick b (yield s) (act (put-queue s (pop-front (s .queue))) (front-of (s .queue) .0))) (pick b (yield s) (other (put-queue s (pop-front (s .queue))) (front-of (s .queue) .0)))
+      by true e = y
+      by false e = at-least-one (entries q) refl (eqb-false (s .queue .len) 0 e)
+
+  -- after an exit: the task that it woke, or the next one
+  pub exit-by : (d : Delivery) → Landed idle D hd d → R (yield (d .store)) (yield (d .store))
+      → ((q : ReadyQueue) (u : ℕ) → u < hd .next → occurrences (entries q) u ≡ 0 → T (is-ready (task (d .store) u .state)) → Mid Nothing idle D hd (put-queue (d .store) q)
+      → R (act (put-queue (d .store) q) u) (other (put-queue (d .store) q) u))
+      → ((q : ReadyQueue) (u : ℕ) → d .woken ≡ some u → u < hd .next → occurrences (entries q) u ≡ 0 → Mid Nothing idle D hd (put-queue (d .store) q)
+      → R (act (put-queue (d .store) q) u) (other (put-queue (d .store) q) u))
+      → R (resume-after-task-exit act d) (resume-after-task-exit other d)
+  unfolding resume-after-task-exit remove-from-ready-queue
+  exit-by d h y next woke = by (d .woken) refl
+    where
+      s : Store
+      s = d .store
+
+      len : s .queue .len ≤ task-limit
+      len = h .mid .kept .fine .queue-fine
+
+      by : (w : Option ℕ) → d .woken ≡ w
+          → R (elim w [ none ↦ resume-next act (d .store) | some t ↦ act (remove-from-ready-queue (d .store) t) t ])
+          (elim w [ none ↦ resume-next other (d .store) | some t ↦ other (remove-from-ready-queue (d .store) t) t ])
+      by none e = next-by s (h .mid) y next
+      by (some t) e =
+          let gone-from : entries (remove (s .queue) t) ≡ without (entries (s .queue)) t = entries-remove (s .queue) t (h .mid .kept .ids) len in
+          let was : Queued (header s .next) (task s) (entries (s .queue)) = queue-of s (h .mid) in
+          woke (remove (s .queue) t) t e (h .woken t e)
+          (rw gone-from (gone (entries (s .queue)) t (was .distinct)))
+          (queue-mid s (h .mid) (remove (s .queue) t) (remove-len (s .queue) t len) (remove-length (s .queue) t ∙ h .mid .kept .ids)
+          (λ z. subst (Queued (header s .next) (task s)) (sym gone-from)
+          (queued-less (was-there (entries (s .queue)) t) (distinct-without (entries (s .queue)) t (z .distinct)) z)))
+
 -- the store of a switch is sound
 abbrev pub Good : Switched → Type 0
 Good x = Whole (x .store)
@@ -249,59 +328,15 @@ module _ (D : ℕ → Type 0) (hd : Header) (on : is-ended (hd .moment) ≡ fals
   Activates act = (s : Store) (t : ℕ) → t < hd .next → occurrences (entries (s .queue)) t ≡ 0 → Mid Nothing idle D hd s → Whole (act s t .store)
 
   module _ (act : Store → ℕ → Switched) (go : Activates act) where
-    queue-of : (s : Store) → Mid Nothing idle D hd s → Queued (header s .next) (task s) (entries (s .queue))
-    unfolding view
-    queue-of s h = to-queued (header s .next) (task s) (entries (s .queue)) (h .kept .but .entries)
-
     pub next-keeps : (s : Store) → Mid Nothing idle D hd s → Whole (resume-next act s .store)
-    unfolding resume-next Activates view put-queue
-    next-keeps s h = by (eqb (s .queue .len) 0) refl
-      where
-        q : ReadyQueue
-        q = s .queue
-
-        len : q .len ≤ task-limit
-        len = h .kept .fine .queue-fine
-
-        popped : (u : ℕ) (us : List ℕ) → entries q ≡ u ∷ us → Whole (act (put-queue s (pop-front q)) (front-of q .0) .store)
-        popped u us e =
-            let first = head-gone (subst (Queued (header s .next) (task s)) e (queue-of s h)) in
-            let rest : entries (pop-front q) ≡ us = entries-pop q u us (h .kept .ids) len e in
-            let low : u < hd .next = subst (λ (y : Header). u < y .next) (h .head) (first .0) in
-            let front : front-of q ≡ task-id u = front-entry q u us e (omega (arith, first .0, h .kept .but .fits .next-fits)) in
-            subst (λ (y : TaskId). Whole (act (put-queue s (pop-front q)) (y .0) .store)) (sym front)
-            (go (put-queue s (pop-front q)) u low (rw rest (first .1))
-            (queue-mid s h (pop-front q) (pop-front-len q len) (pop-front-length q ∙ h .kept .ids)
-            (λ z. subst (Queued (header s .next) (task s)) (sym rest) (first .2))))
-
-        at-least-one : (us : List ℕ) → entries q ≡ us → (q .len ≡ 0 → ⊥) → Whole (act (put-queue s (pop-front q)) (front-of q .0) .store)
-        at-least-one [] e ne = absurd (ne (sym (length-entries q (h .kept .ids) len) ∙ ap length e))
-        at-least-one (u ∷ us) e ne = popped u us e
-
-        by : (b : Bool) → eqb (s .queue .len) 0 ≡ b → Whole (pick b (yield s) (act (put-queue s (pop-front (s .queue))) (front-of (s .queue) .0)) .store)
-        by true e = yield-keeps s h
-        by false e = at-least-one (entries q) refl (eqb-false (s .queue .len) 0 e)
+    unfolding Activates put-queue
+    next-keeps s h = next-by D hd (λ x y. Good x) act act s h (yield-keeps s h) (λ q u low off r m. go (put-queue s q) u low off m)
 
     pub exit-keeps : (d : Delivery) → Landed idle D hd d → Whole (resume-after-task-exit act d .store)
-    unfolding resume-after-task-exit Activates remove-from-ready-queue put-queue
-    exit-keeps d h = by (d .woken) refl
-      where
-        s : Store
-        s = d .store
-
-        len : s .queue .len ≤ task-limit
-        len = h .mid .kept .fine .queue-fine
-
-        by : (w : Option ℕ) → d .woken ≡ w → Good (elim w [ none ↦ resume-next act (d .store) | some t ↦ act (remove-from-ready-queue (d .store) t) t ])
-        by none e = next-keeps s (h .mid)
-        by (some t) e =
-            let gone-from : entries (remove (s .queue) t) ≡ without (entries (s .queue)) t = entries-remove (s .queue) t (h .mid .kept .ids) len in
-            let was : Queued (header s .next) (task s) (entries (s .queue)) = queue-of s (h .mid) in
-            go (put-queue s (remove (s .queue) t)) t (h .woken t e)
-            (rw gone-from (gone (entries (s .queue)) t (was .distinct)))
-            (queue-mid s (h .mid) (remove (s .queue) t) (remove-len (s .queue) t len) (remove-length (s .queue) t ∙ h .mid .kept .ids)
-            (λ z. subst (Queued (header s .next) (task s)) (sym gone-from)
-            (queued-less (was-there (entries (s .queue)) t) (distinct-without (entries (s .queue)) t (z .distinct)) z)))
+    unfolding Activates put-queue
+    exit-keeps d h =
+        exit-by D hd (λ x y. Good x) act act d h (yield-keeps (d .store) (h .mid)) (λ q u low off r m. go (put-queue (d .store) q) u low off m)
+        (λ q u e low off m. go (put-queue (d .store) q) u low off m)
 
     -- a live spawned task fails: no other task runs
     pub failure-exit : (s : Store) (t : ℕ) (e : Error) (r : ℕ → Bool) → ErrorFits e → suc t < hd .next → T (is-live (task s (suc t) .state))
@@ -309,8 +344,7 @@ module _ (D : ℕ → Type 0) (hd : Header) (on : is-ended (hd .moment) ≡ fals
     unfolding handle-task-failure
     failure-exit s t e r k low l other h =
         let sent : Landed r D hd (deliver-awaiter-failure s (task s (suc t) .awaiter) e) =
-        failure-keeps r D hd e k s (task s (suc t) .coroutine .0) (task s (suc t) .awaiter)
-        (task-flight s t h (subst (λ (y : Header). suc t < y .next) (sym (h .head)) low) l) (take-off s (task s (suc t) .awaiter) h) in
+        failure-keeps r D hd e k s (task s (suc t) .coroutine .0) (task s (suc t) .awaiter) (task-rises s t h low l) in
         exit-keeps _ (record {
           mid = remove-keeps (deliver-awaiter-failure s (task s (suc t) .awaiter) e .store) (suc t) (sent .mid)
               (subst (λ (y : Header). suc t < y .next) (sym (sent .mid .head)) low) (exited (suc t)) idle refl other;

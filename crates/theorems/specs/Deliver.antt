@@ -27,7 +27,7 @@ use Rattle.queue.specs.Queue.{entries, push-back}
 use Rattle.queue.specs.QueueLaws.{push-back-len, push-back-length}
 use Rattle.machine.specs.Store.{Store, View, view, task, object, place, header, put-task, put-object, put-queue, set-state, restate, note, reached}
 use Rattle.machine.specs.Scheduler.{AwaitedGather, as-awaited, as-pending, blocked-on, make-ready, push-ready}
-use Rattle.machine.specs.Delivery.{Delivery, nobody-woken, deliver-to-task, fail-awaited, fail-gather, send-error, climb, deliver-awaiter-failure}
+use Rattle.machine.specs.Delivery.{Delivery, nobody-woken, deliver-to-task, Settled, fail-awaited, fail-gather, send-error, climb, deliver-awaiter-failure}
 use Rattle.machine.specs.Sound.{awaiter-in-range, open-in-range, object-in-range, task-in-range, committed-places, items-below, object-values, state-values, object-filled, gather-filled}
 use Rattle.laws.specs.Views.{with-object}
 use Rattle.laws.specs.Facts.{Open, Slotted, SoundBut, Nothing}
@@ -319,44 +319,75 @@ raised-resumes : (e : Error) → Resumes (TaskState.Raised e)
 unfolding blocked-on
 raised-resumes e = record { lives = tt; unblocked = refl; stands = refl; old = refl; ready = tt }
 
+-- What the gather g of a slot of object o does: it sends nothing on, and nothing is in flight; or it sends to an awaiter, on the way to which R
+-- holds, and it is higher than o.
+pub record Sends (r : ℕ → Bool) (D : ℕ → Type 0) (hd : Header) (R : Store → Awaiter → Type 0) (o g : ℕ) (y : Settled) : Type 0 where
+  pub stays : y .onward ≡ none → Mid Nothing r D hd (y .store)
+  pub rises : (b : Awaiter) → y .onward ≡ some b → R (y .store) b
+  pub up : (b : Awaiter) → y .onward ≡ some b → o < g
+
+module _ (r : ℕ → Bool) (D : ℕ → Type 0) (hd : Header) where
+  pub sends-nothing : (R : Store → Awaiter → Type 0) (o g : ℕ) (s : Store) → Mid Nothing r D hd s → Sends r D hd R o g (record { store = s; onward = none })
+  sends-nothing R o g s h = record { stays = λ e. h; rises = λ b e. absurd-some e; up = λ b e. absurd-some e }
+
+  pub sends-on : (R : Store → Awaiter → Type 0) (o g : ℕ) (s : Store) (a : Awaiter) → R s a → o < g → Sends r D hd R o g (record { store = s; onward = some a })
+  sends-on R o g s a h l = record { stays = λ e. absurd-some (sym e); rises = λ b e. subst (R s) (Option·some-injective a b e) h; up = λ b e. l }
+
+-- an error of object o on its way to awaiter a
+pub record ErrorRises (r : ℕ → Bool) (D : ℕ → Type 0) (hd : Header) (o : ℕ) (s : Store) (a : Awaiter) : Type 0 where
+  pub flight : Flight (view s) o a
+  pub mid : Mid (InFlight a) r D hd s
+
 module _ (r : ℕ → Bool) (D : ℕ → Type 0) (hd : Header) (e : Error) (k : ErrorFits e) where
-  failure-slot : (n : ℕ) (s : Store) (o g x : ℕ) → object-limit ≤ suc n + o → Flight (view s) o (Awaiter.GatherSlot (heap-id g) (heap-id x)) → Mid Nothing r D hd s
-      → ((s : Store) (o : ℕ) (a : Awaiter) → object-limit ≤ n + o → Flight (view s) o a → Mid (InFlight a) r D hd s → Landed r D hd (deliver-awaiter-failure s a e))
-      → Landed r D hd (deliver-awaiter-failure s (Awaiter.GatherSlot (heap-id g) (heap-id x)) e)
-  unfolding view
-  failure-slot n s o g x f fl h go = by (as-awaited (object s g)) refl
+  -- it fails the gather of a slot, if that is still awaited
+  pub error-sends : (s : Store) (o g x : ℕ) → ErrorRises r D hd o s (Awaiter.GatherSlot (heap-id g) (heap-id x)) → Sends r D hd (ErrorRises r D hd g) o g (fail-gather s g e)
+  unfolding view fail-gather fail-awaited
+  error-sends s o g x i = by (as-awaited (object s g)) refl
     where
+      h : Mid Nothing r D hd s
+      h = landed s (λ u z. task-slot (sym z)) (i .mid)
+
       sl : Slotted (header s .made) (object s) (place s) o g x
-      sl = fl .slot g x refl
+      sl = i .flight .slot g x refl
 
-      low : g < object-limit
-      low = omega (arith, sl .made, h .kept .but .fits .made-fits)
-
-      by : (w : Option AwaitedGather) → as-awaited (object s g) ≡ w → Landed r D hd (deliver-awaiter-failure s (Awaiter.GatherSlot (heap-id g) (heap-id x)) e)
-      by none q = unfold deliver-awaiter-failure send-error fail-gather in (rw q (unfold fail-awaited climb in (nobody-lands s h)))
+      by : (w : Option AwaitedGather) → as-awaited (object s g) ≡ w → Sends r D hd (ErrorRises r D hd g) o g (fail-awaited s g e w)
+      by none q = sends-nothing r D hd (ErrorRises r D hd g) o g s h
       by (some w) q =
           let y : Object = Object.GatherFuture (w .first) (w .count) (GatherState.Failed e) in
-          let up : o < g = open-lower g w o (h .kept .but) (sl .made) q (sl .opens w q) in
           let st : Settles (view s) g y = gather-settles (view s) g w (GatherState.Failed e) (sl .made) q (failed-done (place s) (w .first) (w .count) e) in
           let aw : awaiter-of (object s g) ≡ w .awaiter = awaiter-is (object s g) w q in
           let fit : ObjectFits y = (awaited-fits s g w q .0, k) in
-          let there : Landed r D hd (deliver-awaiter-failure (put-object s g y) (w .awaiter) e) =
-          go (put-object s g y) g (w .awaiter) (omega arith) (subst (λ (a : Awaiter). Flight (view (put-object s g y)) g a) aw (flight-keeps s g y fit st h))
-          (subst (λ (a : Awaiter). Mid (InFlight a) r D hd (put-object s g y)) aw (settle-keeps s g y fit st h)) in
-          let same : fail-gather s g e ≡ record { store = put-object s g y; onward = some (w .awaiter) } = unfold fail-gather in (rw q (unfold fail-awaited in refl)) in
-          rw (failure-climbs s (heap-id g) (heap-id x) e (w .awaiter) (h .kept .sized) low (rw same refl), same) there
+          sends-on r D hd (ErrorRises r D hd g) o g (put-object s g y) (w .awaiter)
+          (record {
+            flight = subst (λ (a : Awaiter). Flight (view (put-object s g y)) g a) aw (flight-keeps s g y fit st h);
+            mid = subst (λ (a : Awaiter). Mid (InFlight a) r D hd (put-object s g y)) aw (settle-keeps s g y fit st h);
+          }) (open-lower g w o (h .kept .but) (sl .made) q (sl .opens w q))
+
+  failure-slot : (n : ℕ) (s : Store) (o g x : ℕ) → object-limit ≤ suc n + o → ErrorRises r D hd o s (Awaiter.GatherSlot (heap-id g) (heap-id x))
+      → ((s : Store) (o : ℕ) (a : Awaiter) → object-limit ≤ n + o → ErrorRises r D hd o s a → Landed r D hd (deliver-awaiter-failure s a e))
+      → Landed r D hd (deliver-awaiter-failure s (Awaiter.GatherSlot (heap-id g) (heap-id x)) e)
+  unfolding view
+  failure-slot n s o g x f i go = by (fail-gather s g e .onward) refl
+    where
+      sent : Sends r D hd (ErrorRises r D hd g) o g (fail-gather s g e)
+      sent = error-sends s o g x i
+
+      low : g < object-limit
+      low = omega (arith, i .flight .slot g x refl .made, i .mid .kept .but .fits .made-fits)
+
+      by : (b : Option Awaiter) → fail-gather s g e .onward ≡ b → Landed r D hd (deliver-awaiter-failure s (Awaiter.GatherSlot (heap-id g) (heap-id x)) e)
+      by none q = unfold deliver-awaiter-failure send-error in (rw q (unfold climb in (nobody-lands _ (sent .stays q))))
+      by (some a) q = rw (failure-climbs s (heap-id g) (heap-id x) e a (i .mid .kept .sized) low q) (go _ g a (omega (arith, sent .up a q)) (sent .rises a q))
 
   -- fuel is no matter: see failure-climbs
-  failure-climb : (n : ℕ) (s : Store) (o : ℕ) (a : Awaiter) → object-limit ≤ n + o → Flight (view s) o a → Mid (InFlight a) r D hd s
-      → Landed r D hd (deliver-awaiter-failure s a e)
+  failure-climb : (n : ℕ) (s : Store) (o : ℕ) (a : Awaiter) → object-limit ≤ n + o → ErrorRises r D hd o s a → Landed r D hd (deliver-awaiter-failure s a e)
   unfolding view
-  failure-climb zero s o a f fl h = absurd (not-suc-le-zero {n = 0} (omega (arith, f, fl .made, h .kept .but .fits .made-fits)))
-  failure-climb (suc n) s o Awaiter.Nobody f fl h = unfold deliver-awaiter-failure send-error in (nobody-lands s (landed s (λ u z. nobody-task z) h))
-  failure-climb (suc n) s o (Awaiter.Task t) f fl h = unfold deliver-awaiter-failure send-error in
-      (reach-keeps s (t .0) o (TaskState.Raised e) (raised-resumes e) k (unfold state-values in tt) fl h)
-  failure-climb (suc n) s o (Awaiter.GatherSlot g x) f fl h =
-      failure-slot n s o (g .0) (x .0) f fl (landed s (λ u z. task-slot (sym z)) h) (λ y p b i j m. failure-climb n y p b i j m)
+  failure-climb zero s o a f i = absurd (not-suc-le-zero {n = 0} (omega (arith, f, i .flight .made, i .mid .kept .but .fits .made-fits)))
+  failure-climb (suc n) s o Awaiter.Nobody f i = unfold deliver-awaiter-failure send-error in (nobody-lands s (landed s (λ u z. nobody-task z) (i .mid)))
+  failure-climb (suc n) s o (Awaiter.Task t) f i = unfold deliver-awaiter-failure send-error in
+      (reach-keeps s (t .0) o (TaskState.Raised e) (raised-resumes e) k (unfold state-values in tt) (i .flight) (i .mid))
+  failure-climb (suc n) s o (Awaiter.GatherSlot g x) f i = failure-slot n s o (g .0) (x .0) f i (λ y p b j m. failure-climb n y p b j m)
 
   -- A failure of object o goes to its awaiter.
-  pub failure-keeps : (s : Store) (o : ℕ) (a : Awaiter) → Flight (view s) o a → Mid (InFlight a) r D hd s → Landed r D hd (deliver-awaiter-failure s a e)
-  failure-keeps s o a fl h = failure-climb object-limit s o a (omega arith) fl h
+  pub failure-keeps : (s : Store) (o : ℕ) (a : Awaiter) → ErrorRises r D hd o s a → Landed r D hd (deliver-awaiter-failure s a e)
+  failure-keeps s o a i = failure-climb object-limit s o a (omega arith) i

@@ -33,6 +33,7 @@ use Rattle.queue.specs.QueueLaws.{entries-empty}
 use Rattle.machine.specs.Store.{Store, View, view, task, object, place, header, put-task, put-object, put-queue, note, absent, Happening, exited, removed}
 use Rattle.rows.specs.Tables.{task-at}
 use Rattle.machine.specs.Scheduler.{AwaitedGather, as-awaited, is-some, bit, pending-call-ids, blocked-on, remove-from-ready-queue, remove-task, driver-in, driver, cancel-one, Walk, reach-if, reach, remove-blocked, still-live, visit-by, visit, visit-place, visit-open, walk-gather, walk-next, walk, walk-from, cancel-task, remove-from, cleanup}
+use Rattle.machine.specs.Delivery.{deliver-awaiter-success}
 use Rattle.machine.specs.Events.{handle-task-failure, activate, completed, handle-task-completion, resume-next}
 use Rattle.machine.specs.Machine.{switched, repeat-wait, resume-with-resolved-futures}
 use Rattle.machine.specs.Sound.{is-slot, task-in-range, value-known, state-values, is-ended, drives-at, runs-now, runner-in-range}
@@ -45,8 +46,8 @@ use Rattle.theorems.specs.ReadyTasks.{Queued, none-ready}
 use Rattle.theorems.specs.PutObject.{by-object, by-task, value-stays}
 use Rattle.theorems.specs.PutTask.{drives-give, with-task-queue, TaskWrite}
 use Rattle.theorems.specs.Stores.{Kept, Runs, idle, Mid, Whole, view-task-queue, object-mid, task-mid, queue-mid, note-mid, mid-of, whole-mid, moment-whole}
-use Rattle.theorems.specs.Deliver.{nobody-slot, Flight, take-off}
-use Rattle.theorems.specs.Fill.{Alone, success-keeps}
+use Rattle.theorems.specs.Deliver.{nobody-slot, Landed, Flight, take-off}
+use Rattle.theorems.specs.Fill.{Alone, ValueRises, success-keeps}
 use Rattle.theorems.specs.Results.{first-below}
 use Rattle.theorems.specs.Cycle.{Spawned, spawned-of, not-a-task, coroutine-is, no-awaiter, task-flight, coroutine-fits, absent-in-range, absent-fits, remove-keeps, next-keeps, exit-keeps, failure-exit, activate-keeps}
 
@@ -137,62 +138,58 @@ remove-view : {k : ℕ} {P Q : ℕ → Type 0} (s : Store) (t : ℕ) (x : Happen
 unfolding view note remove-task remove-from-ready-queue put-queue put-task task object place header
 remove-view s t x h low = view-task-queue s h t absent (remove (s .queue) t) (omega (arith, low, h .but .fits .next-fits)) absent-fits
 
--- The event `complete`, of a spawned task.
-pub completion-keeps : (s : Store) (t : ℕ) (v : Value) → Whole s → header s .moment ≡ Moment.Running (task-id (suc t)) → T (value-known (header s .made) (object s) v)
-    → Whole (handle-task-completion s (suc t) v .store)
-unfolding handle-task-completion view
-completion-keeps s t v h m k =
-    exit-keeps D hd on activate (activate-keeps D hd on) _ (success-keeps idle D hd left c (task s (suc t) .awaiter) v known flight alone (take-off left (task s (suc t) .awaiter) mid2))
-  where
-    D : ℕ → Type 0
-    D = λ o. T (is-completed (kind (object s o)))
+-- A spawned task completes: its coroutine is completed, it is removed, and its value is on its way.
+module _ (s : Store) (t : ℕ) (v : Value) (h : Whole s) (m : header s .moment ≡ Moment.Running (task-id (suc t))) (k : T (value-known (header s .made) (object s) v)) where
+  abbrev c : ℕ
+  c = task s (suc t) .coroutine .0
 
-    hd : Header
-    hd = header s
+  abbrev done : Store
+  done = put-object s c (completed (object s c))
 
-    on : is-ended (hd .moment) ≡ false
-    on = still-on s (suc t) h m
+  -- the store when the value is sent
+  abbrev pub left-by : Store
+  left-by = note (remove-task done (suc t)) (exited (suc t))
 
-    c : ℕ
-    c = task s (suc t) .coroutine .0
+  low : suc t < header s .next
+  low = runner-low s (suc t) h m
 
-    low : suc t < header s .next
-    low = runner-low s (suc t) h m
+  sp : Spawned (view s) (suc t)
+  unfolding view
+  sp = spawned-of t (h .facts .but) low (runner-live s (suc t) h m)
 
-    live : T (is-live (task s (suc t) .state))
-    live = runner-live s (suc t) h m
+  mid1 : Mid Nothing (runs-now (header s .moment)) (λ o. T (is-completed (kind (object s o)))) (header s) done
+  unfolding view
+  mid1 = complete-mid s c (sp .made) (sp .coroutine) (mid-of s h)
 
-    sp : Spawned (view s) (suc t)
-    sp = spawned-of t (h .facts .but) low live
+  low1 : suc t < header done .next
+  low1 = subst (λ (y : Header). suc t < y .next) (sym (mid1 .head)) low
 
-    done : Store
-    done = put-object s c (completed (object s c))
+  mid2 : Mid Nothing idle (λ o. T (is-completed (kind (object s o)))) (header s) left-by
+  mid2 = remove-keeps done (suc t) mid1 low1 (exited (suc t)) idle refl (λ u d. others-still s (suc t) h m u d)
 
-    mid1 : Mid Nothing (runs-now (header s .moment)) D hd done
-    mid1 = complete-mid s c (sp .made) (sp .coroutine) (mid-of s h)
+  live1 : T (is-live (task done (suc t) .state))
+  unfolding task put-object
+  live1 = runner-live s (suc t) h m
 
-    low1 : suc t < header done .next
-    low1 = subst (λ (y : Header). suc t < y .next) (sym (mid1 .head)) low
+  pub completion-rises : ValueRises idle (λ o. T (is-completed (kind (object s o)))) (header s) c v left-by (task s (suc t) .awaiter)
+  unfolding view task put-object
+  completion-rises =
+      record {
+        known = subst (λ (y : Header). T (value-known (y .made) (object left-by) v)) (sym (mid2 .head)) (value-stays (header s .made) (object s) (object left-by) (mid2 .done) v k);
+        flight = remove-flight done (suc t) c (exited (suc t)) (task s (suc t) .awaiter) (sp .slot) (task-flight done t mid1 low1 live1);
+        alone = subst (λ (u : View). Alone u c) (sym (remove-view done (suc t) (exited (suc t)) (mid1 .kept) low1))
+            (remove-alone (view done) t (entries (remove (done .queue) (suc t))) (mid1 .kept .but) low1 live1);
+        mid = take-off left-by (task s (suc t) .awaiter) mid2;
+      }
 
-    left : Store
-    left = note (remove-task done (suc t)) (exited (suc t))
+  -- It reaches its awaiter.
+  pub completion-lands : Landed idle (λ o. T (is-completed (kind (object s o)))) (header s) (deliver-awaiter-success left-by (task s (suc t) .awaiter) v)
+  completion-lands = success-keeps idle _ (header s) left-by c (task s (suc t) .awaiter) v completion-rises
 
-    mid2 : Mid Nothing idle D hd left
-    mid2 = remove-keeps done (suc t) mid1 low1 (exited (suc t)) idle refl (λ u d. others-still s (suc t) h m u d)
-
-    live1 : T (is-live (task done (suc t) .state))
-    live1 = unfold task put-object in live
-
-    flight : Flight (view left) c (task s (suc t) .awaiter)
-    flight = remove-flight done (suc t) c (exited (suc t)) (task s (suc t) .awaiter) (sp .slot) (unfold task put-object in (task-flight done t mid1 low1 live1))
-
-    alone : Alone (view left) c
-    alone =
-        subst (λ (u : View). Alone u c) (sym (remove-view done (suc t) (exited (suc t)) (mid1 .kept) low1))
-        (unfold task put-object in (remove-alone (view done) t (entries (remove (done .queue) (suc t))) (mid1 .kept .but) low1 live1))
-
-    known : T (value-known (header left .made) (object left) v)
-    known = subst (λ (y : Header). T (value-known (y .made) (object left) v)) (sym (mid2 .head)) (value-stays (header s .made) (object s) (object left) (mid2 .done) v k)
+  -- The event `complete`, of a spawned task.
+  pub completion-keeps : Whole (handle-task-completion s (suc t) v .store)
+  unfolding handle-task-completion
+  completion-keeps = exit-keeps _ (header s) (still-on s (suc t) h m) activate (activate-keeps _ (header s) (still-on s (suc t) h m)) _ completion-lands
 
 -- The event `fail`, of a spawned task.
 pub fail-keeps : (s : Store) (t : ℕ) (e : Error) → Whole s → header s .moment ≡ Moment.Running (task-id (suc t)) → ErrorFits e
@@ -388,7 +385,8 @@ none-runs : (s : Store) → header s .moment ≡ Moment.Waiting → (u : ℕ) �
 unfolding runs-now
 none-runs s m u = ap (λ (y : Moment). runs-now y u) m
 
-quiet-of : (s : Store) → Whole s → header s .moment ≡ Moment.Waiting → Mid Nothing idle (λ o. T (is-completed (kind (object s o)))) (header s) s
+-- so at the beginning of an event no task runs
+pub quiet-of : (s : Store) → Whole s → header s .moment ≡ Moment.Waiting → Mid Nothing idle (λ o. T (is-completed (kind (object s o)))) (header s) s
 quiet-of s h m = let k = mid-of s h in record { kept = k .kept; runs = λ u l. k .runs u l ∙ none-runs s m u; done = k .done; head = k .head }
 
 -- The event `cancel`.

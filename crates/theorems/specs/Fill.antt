@@ -30,7 +30,7 @@ use Rattle.rows.specs.Tables.{place-at, place-put}
 use Rattle.machine.specs.Tests.{sum-below}
 use Rattle.machine.specs.Store.{Store, View, view, task, object, place, header, put-object, put-place, put-places}
 use Rattle.machine.specs.Scheduler.{AwaitedGather, as-awaited, as-pending, blocked-on, bit}
-use Rattle.machine.specs.Delivery.{Filled, filled, fill-one, fill-from, nobody-woken, resolve-left, resolve-awaited, resolve-child, climb, send-value, deliver-awaiter-success}
+use Rattle.machine.specs.Delivery.{Filled, filled, fill-one, fill-from, resolve-left, resolve-awaited, resolve-child, climb, send-value, deliver-awaiter-success}
 use Rattle.machine.specs.Sound.{places-below, awaiter-in-range, open-in-range, object-in-range, task-in-range, committed-places, items-below}
 use Rattle.machine.specs.Sound.{value-known, option-known, object-values, state-values, is-filled, rest-filled, gather-filled, object-filled}
 use Rattle.laws.specs.Views.{update, with-object, with-place}
@@ -44,6 +44,7 @@ use Rattle.theorems.specs.PutObject.{Held, by-object, by-task, Fits}
 use Rattle.theorems.specs.PutTask.{PlacesWrite}
 use Rattle.theorems.specs.Stores.{Mid, object-mid, place-mid}
 use Rattle.theorems.specs.Deliver.{nobody-task, nobody-slot, task-slot, Landed, InFlight, Flight, landed, nobody-lands, Settles, settle-keeps, flight-keeps, Resumes, reach-keeps, awaiter-is, Done, gather-settles, open-lower}
+use Rattle.theorems.specs.Deliver.{Sends, sends-nothing, sends-on}
 
 -- ---- what an awaited gather's row says
 
@@ -370,28 +371,34 @@ module _ {r : ℕ → Bool} {D : ℕ → Type 0} {hd : Header} (s : Store) (g x 
 
 -- ---- a value climbs through each gather that it completes
 
-ends-here : (s : Store) (g x : ℕ) (v : Value) (u : Store) → resolve-child s g x v ≡ record { store = u; onward = none }
-    → deliver-awaiter-success s (Awaiter.GatherSlot (heap-id g) (heap-id x)) v ≡ nobody-woken u
-unfolding deliver-awaiter-success send-value climb nobody-woken
-ends-here s g x v u e = rw e
+-- a value of object o on its way to awaiter a; no other holder has o for its source
+pub record ValueRises (r : ℕ → Bool) (D : ℕ → Type 0) (hd : Header) (o : ℕ) (v : Value) (s : Store) (a : Awaiter) : Type 0 where
+  pub known : T (value-known (header s .made) (object s) v)
+  pub flight : Flight (view s) o a
+  pub alone : Alone (view s) o
+  pub mid : Mid (InFlight a) r D hd s
 
 module _ (r : ℕ → Bool) (D : ℕ → Type 0) (hd : Header) where
-  success-slot : (n : ℕ) (s : Store) (o g x : ℕ) (v : Value) → T (value-known (header s .made) (object s) v) → object-limit ≤ suc n + o
-      → Flight (view s) o (Awaiter.GatherSlot (heap-id g) (heap-id x)) → Alone (view s) o → Mid Nothing r D hd s
-      → ((s : Store) (o : ℕ) (a : Awaiter) (v : Value) → T (value-known (header s .made) (object s) v) → object-limit ≤ n + o → Flight (view s) o a → Alone (view s) o
-      → Mid (InFlight a) r D hd s → Landed r D hd (deliver-awaiter-success s a v))
-      → Landed r D hd (deliver-awaiter-success s (Awaiter.GatherSlot (heap-id g) (heap-id x)) v)
+  -- it fills its places in the gather of a slot, if that is still awaited
+  pub value-sends : (s : Store) (o g x : ℕ) (v : Value) → ValueRises r D hd o v s (Awaiter.GatherSlot (heap-id g) (heap-id x))
+      → Sends r D hd (ValueRises r D hd g (Value.List (heap-id g))) o g (resolve-child s g x v)
   unfolding view
-  success-slot n s o g x v k f fl al h go = by (as-awaited (object s g)) refl
+  value-sends s o g x v i = by (as-awaited (object s g)) refl
     where
+      R : Store → Awaiter → Type 0
+      R = ValueRises r D hd g (Value.List (heap-id g))
+
+      h : Mid Nothing r D hd s
+      h = landed s (λ u z. task-slot (sym z)) (i .mid)
+
       sl : Slotted (header s .made) (object s) (place s) o g x
-      sl = fl .slot g x refl
+      sl = i .flight .slot g x refl
 
-      low : g < object-limit
-      low = omega (arith, sl .made, h .kept .but .fits .made-fits)
+      k : T (value-known (header s .made) (object s) v)
+      k = i .known
 
-      by : (w : Option AwaitedGather) → as-awaited (object s g) ≡ w → Landed r D hd (deliver-awaiter-success s (Awaiter.GatherSlot (heap-id g) (heap-id x)) v)
-      by none q = unfold deliver-awaiter-success send-value resolve-child in (rw q (unfold resolve-awaited climb in (nobody-lands s h)))
+      by : (w : Option AwaitedGather) → as-awaited (object s g) ≡ w → Sends r D hd R o g (resolve-child s g x v)
+      by none q = unfold resolve-child in (rw q (unfold resolve-awaited in (sends-nothing r D hd R o g s h)))
       by (some w) q = left (eqb (mask s g x v w h (sl .made) q k) 0) refl
         where
           mk : ℕ
@@ -403,41 +410,52 @@ module _ (r : ℕ → Bool) (D : ℕ → Type 0) (hd : Header) where
           fu : Object
           fu = full s g x v w h (sl .made) q k
 
-          up : o < g
-          up = open-lower g w o (h .kept .but) (sl .made) q (sl .opens w q)
-
           aw : awaiter-of (object md g) ≡ w .awaiter
           aw = awaiter-is (object md g) w (awaited s g x v w h (sl .made) q k)
 
-          left : (b : Bool) → eqb mk 0 ≡ b → Landed r D hd (deliver-awaiter-success s (Awaiter.GatherSlot (heap-id g) (heap-id x)) v)
+          left : (b : Bool) → eqb mk 0 ≡ b → Sends r D hd R o g (resolve-child s g x v)
           left true z =
               let st : Settles (view md) g fu = all-settles s g x v w h (sl .made) q k (eqb-true mk 0 z) in
               let fit : ObjectFits fu = full-fits s g x v w h (sl .made) q k in
               let keep : Mid Nothing r D hd md = mid s g x v w h (sl .made) q k in
-              let there : Landed r D hd (deliver-awaiter-success (put-object md g fu) (w .awaiter) (Value.List (heap-id g))) =
-              go (put-object md g fu) g (w .awaiter) (Value.List (heap-id g)) (list-known s g x v w h (sl .made) q k) (omega (arith, up))
-              (subst (λ (a : Awaiter). Flight (view (put-object md g fu)) g a) aw (flight-keeps md g fu fit st keep))
-              (alone-keeps md g fu fit st (unfold full kind in refl) keep)
-              (subst (λ (a : Awaiter). Mid (InFlight a) r D hd (put-object md g fu)) aw (settle-keeps md g fu fit st keep)) in
-              let same : resolve-child s g x v ≡ record { store = put-object md g fu; onward = some (w .awaiter) } =
-              resolved s g x v w h (sl .made) q k z in
-              rw (success-climbs s (heap-id g) (heap-id x) v (w .awaiter) (h .kept .sized) low (rw same refl), same) there
+              subst (Sends r D hd R o g) (sym (resolved s g x v w h (sl .made) q k z))
+              (sends-on r D hd R o g (put-object md g fu) (w .awaiter)
+              (record {
+                known = list-known s g x v w h (sl .made) q k;
+                flight = subst (λ (a : Awaiter). Flight (view (put-object md g fu)) g a) aw (flight-keeps md g fu fit st keep);
+                alone = alone-keeps md g fu fit st (unfold full kind in refl) keep;
+                mid = subst (λ (a : Awaiter). Mid (InFlight a) r D hd (put-object md g fu)) aw (settle-keeps md g fu fit st keep);
+              }) (open-lower g w o (h .kept .but) (sl .made) q (sl .opens w q)))
           left false z =
-              let same : resolve-child s g x v ≡ record { store = put-object md g (awaits-on w mk); onward = none } =
-              resolved-on s g x v w h (sl .made) q k z in
-              subst (Landed r D hd) (sym (ends-here s g x v _ same)) (nobody-lands _ (waits-keeps s g x v w h (sl .made) q k (eqb-false mk 0 z) (λ y t p. al g y t (p ∙ sl .own))))
+              subst (Sends r D hd R o g) (sym (resolved-on s g x v w h (sl .made) q k z))
+              (sends-nothing r D hd R o g _ (waits-keeps s g x v w h (sl .made) q k (eqb-false mk 0 z) (λ y t p. i .alone g y t (p ∙ sl .own))))
 
-  success-climb : (n : ℕ) (s : Store) (o : ℕ) (a : Awaiter) (v : Value) → T (value-known (header s .made) (object s) v) → object-limit ≤ n + o → Flight (view s) o a
-      → Alone (view s) o → Mid (InFlight a) r D hd s → Landed r D hd (deliver-awaiter-success s a v)
+  success-slot : (n : ℕ) (s : Store) (o g x : ℕ) (v : Value) → object-limit ≤ suc n + o → ValueRises r D hd o v s (Awaiter.GatherSlot (heap-id g) (heap-id x))
+      → ((s : Store) (o : ℕ) (a : Awaiter) (v : Value) → object-limit ≤ n + o → ValueRises r D hd o v s a → Landed r D hd (deliver-awaiter-success s a v))
+      → Landed r D hd (deliver-awaiter-success s (Awaiter.GatherSlot (heap-id g) (heap-id x)) v)
   unfolding view
-  success-climb zero s o a v k f fl al h = absurd (not-suc-le-zero {n = 0} (omega (arith, f, fl .made, h .kept .but .fits .made-fits)))
-  success-climb (suc n) s o Awaiter.Nobody v k f fl al h = unfold deliver-awaiter-success send-value in (nobody-lands s (landed s (λ u z. nobody-task z) h))
-  success-climb (suc n) s o (Awaiter.Task t) v k f fl al h = unfold deliver-awaiter-success send-value in
-      (reach-keeps s (t .0) o (TaskState.Woken v) (woken-resumes v) (value-fits (header s .made) (object s) v (h .kept .but .fits .made-fits) k) (unfold state-values in k) fl h)
-  success-climb (suc n) s o (Awaiter.GatherSlot g x) v k f fl al h =
-      success-slot n s o (g .0) (x .0) v k f fl al (landed s (λ u z. task-slot (sym z)) h) (λ y p b i j m c d z. success-climb n y p b i j m c d z)
+  success-slot n s o g x v f i go = by (resolve-child s g x v .onward) refl
+    where
+      sent : Sends r D hd (ValueRises r D hd g (Value.List (heap-id g))) o g (resolve-child s g x v)
+      sent = value-sends s o g x v i
 
-  -- A value of object o goes to its awaiter; no other holder has o for its source.
-  pub success-keeps : (s : Store) (o : ℕ) (a : Awaiter) (v : Value) → T (value-known (header s .made) (object s) v) → Flight (view s) o a → Alone (view s) o
-      → Mid (InFlight a) r D hd s → Landed r D hd (deliver-awaiter-success s a v)
-  success-keeps s o a v k fl al h = success-climb object-limit s o a v k (omega arith) fl al h
+      low : g < object-limit
+      low = omega (arith, i .flight .slot g x refl .made, i .mid .kept .but .fits .made-fits)
+
+      by : (b : Option Awaiter) → resolve-child s g x v .onward ≡ b → Landed r D hd (deliver-awaiter-success s (Awaiter.GatherSlot (heap-id g) (heap-id x)) v)
+      by none q = unfold deliver-awaiter-success send-value in (rw q (unfold climb in (nobody-lands _ (sent .stays q))))
+      by (some a) q =
+          rw (success-climbs s (heap-id g) (heap-id x) v a (i .mid .kept .sized) low q) (go _ g a (Value.List (heap-id g)) (omega (arith, sent .up a q)) (sent .rises a q))
+
+  success-climb : (n : ℕ) (s : Store) (o : ℕ) (a : Awaiter) (v : Value) → object-limit ≤ n + o → ValueRises r D hd o v s a → Landed r D hd (deliver-awaiter-success s a v)
+  unfolding view
+  success-climb zero s o a v f i = absurd (not-suc-le-zero {n = 0} (omega (arith, f, i .flight .made, i .mid .kept .but .fits .made-fits)))
+  success-climb (suc n) s o Awaiter.Nobody v f i = unfold deliver-awaiter-success send-value in (nobody-lands s (landed s (λ u z. nobody-task z) (i .mid)))
+  success-climb (suc n) s o (Awaiter.Task t) v f i = unfold deliver-awaiter-success send-value in
+      (reach-keeps s (t .0) o (TaskState.Woken v) (woken-resumes v) (value-fits (header s .made) (object s) v (i .mid .kept .but .fits .made-fits) (i .known))
+      (unfold state-values in (i .known)) (i .flight) (i .mid))
+  success-climb (suc n) s o (Awaiter.GatherSlot g x) v f i = success-slot n s o (g .0) (x .0) v f i (λ y p b w j m. success-climb n y p b w j m)
+
+  -- A value of object o goes to its awaiter.
+  pub success-keeps : (s : Store) (o : ℕ) (a : Awaiter) (v : Value) → ValueRises r D hd o v s a → Landed r D hd (deliver-awaiter-success s a v)
+  success-keeps s o a v i = success-climb object-limit s o a v (omega arith) i

@@ -1,11 +1,10 @@
 -- From a fresh session refusal 2 is never given.
-use mathlib.Core.Path.{_≡_, refl, sym, ap, _∙_}
-use mathlib.Core.Bool.{Bool, true, false, not}
+use mathlib.Core.Path.{_≡_, refl}
+use mathlib.Core.Bool.{Bool, true}
 use mathlib.Core.List.{List, [], _∷_}
-use Prim.Native.Nat.{ℕ, zero, suc, _+_}
+use Prim.Native.Nat.{ℕ}
 use native.Mathlib.Omega.{arith}
 use lib.Dec.{T}
-use Rattle.asyncio.specs.States.{pick}
 use Rattle.asyncio.specs.RangeLaws.{pick-has}
 use Rattle.machine.specs.Store.{Store, fresh}
 use Rattle.machine.specs.Sound.{sound}

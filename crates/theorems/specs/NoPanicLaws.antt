@@ -375,11 +375,15 @@ number-left {v = v} h =
     let all : v .header .used ≡ sum-below (v .header .made) (λ o. count-of (v .objects o)) = h .all-used in
     omega (arith, h .spawned, h .fits .used-fits)
 
--- `spawn`, in the midst of a commit: it spawns, unless a live task drives the coroutine; the test of the limit never fails
+-- in the midst of a commit: the test of the limit, before a task is spawned for the next item, never fails
+pub spawn-left : {root t g i : ℕ} {Q : ℕ → Type 0} {fs : List Frame} (s : Store) (h : Inv root t 0 Q (view s) g i fs) → i < h .w .count → header s .next < task-limit
+unfolding view
+spawn-left {i = i} {Q = Q} s h l =
+    let more : 0 + ((h .w .count - i) + h .k) ≡ suc ((h .w .count - (i + 1)) + h .k) = omega arith in
+    number-left (subst (λ (m : ℕ). SoundBut m Nothing Q (view s)) more (h .but))
+
+-- so `spawn` spawns, unless a live task drives the coroutine
 pub spawn-room : {root t g i : ℕ} {Q : ℕ → Type 0} {fs : List Frame} (s : Store) (h : Inv root t 0 Q (view s) g i fs) → i < h .w .count
     → (c : ℕ) → driver s c ≡ none → spawn s c g ≡ some (spawn-as s (header s .next) c g)
-unfolding spawn spawn-unless view
-spawn-room {i = i} {Q = Q} s h l c e =
-    let more : 0 + ((h .w .count - i) + h .k) ≡ suc ((h .w .count - (i + 1)) + h .k) = omega arith in
-    let left : header s .next < task-limit = number-left (subst (λ (m : ℕ). SoundBut m Nothing Q (view s)) more (h .but)) in
-    rw (e, lt-ltb (header s .next) task-limit left)
+unfolding spawn spawn-unless
+spawn-room s h l c e = rw (e, lt-ltb (header s .next) task-limit (spawn-left s h l))

@@ -43,7 +43,7 @@ pub record Resumable (os : ℕ → Object) (f : Frame) : Type 0 where
   pub awaited : as-awaited (os (f .gather)) ≡ some gather
   pub slot : f .next < gather .count
 
-resumable : {n : ℕ} {os : ℕ → Object} {ps : ℕ → Place} {root t g : ℕ} {a : Awaiter} {f : Frame} {fs : List Frame} {k : ℕ} → Stacked n os ps root t g a (f ∷ fs) k → Resumable os f
+pub resumable : {n : ℕ} {os : ℕ → Object} {ps : ℕ → Place} {root t g : ℕ} {a : Awaiter} {f : Frame} {fs : List Frame} {k : ℕ} → Stacked n os ps root t g a (f ∷ fs) k → Resumable os f
 resumable (above w j op lt nm lo aw rm rest) = record { gather = w; awaited = op .awaited; slot = lt }
 
 -- async_exec.rs:181, 984: when the gather on top was settled, whatever it is then, the frame below it resumes in its next place

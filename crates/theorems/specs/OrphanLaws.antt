@@ -1,7 +1,7 @@
 -- A task whose gather failed still ends as it would have: its value, or its error, goes to nobody, and nothing else of its end differs
 -- from that of a task that nobody awaits.
-use mathlib.Core.Path.{_≡_, refl, sym, ap, _∙_}
-use mathlib.Core.Option.{Option, none, some}
+use mathlib.Core.Path.{_≡_, refl}
+use mathlib.Core.Option.{none}
 use Prim.Native.Nat.{ℕ}
 use Rattle.asyncio.specs.declared.HeapId.{HeapId}
 use Rattle.asyncio.specs.declared.Value.{Value}
@@ -9,10 +9,10 @@ use Rattle.asyncio.specs.declared.Error.{Error}
 use Rattle.asyncio.specs.declared.Awaiter.{Awaiter}
 use Rattle.asyncio.specs.declared.Object.{Object}
 use Rattle.asyncio.specs.declared.GatherState.{GatherState}
-use Rattle.machine.specs.Store.{Store, task, object, put-object, note, Happening, exited}
+use Rattle.machine.specs.Store.{Store, task, object, put-object, note, exited}
 use Rattle.machine.specs.Scheduler.{as-awaited, remove-task}
-use Rattle.machine.specs.Delivery.{Delivery, nobody-woken, climb, resolve-child, resolve-awaited, fail-gather, fail-awaited, send-value, send-error, deliver-awaiter-success, deliver-awaiter-failure}
-use Rattle.machine.specs.Events.{Switched, completed, resume-after-task-exit, handle-task-completion, activate}
+use Rattle.machine.specs.Delivery.{nobody-woken, climb, resolve-child, resolve-awaited, fail-gather, fail-awaited, send-value, send-error, deliver-awaiter-success, deliver-awaiter-failure}
+use Rattle.machine.specs.Events.{completed, resume-after-task-exit, handle-task-completion, activate}
 
 -- a gather that failed is awaited no more
 pub failed-not-awaited : (x : Object) (f n : ℕ) (e : Error) → x ≡ Object.GatherFuture f n (GatherState.Failed e) → as-awaited x ≡ none

@@ -118,17 +118,36 @@ module _ (s : Store) (h : Whole s) where
   fails zero n m k = end-keeps s h
   fails (suc t) n m k = rw (ne-eqb (suc t) 0 (λ e. omega arith)) (fail-keeps s t (Error.Script n) h m k)
 
-  running : (rs : List (ℕ × Bool)) → first-refusal (in-running s rs) ≡ 0 → header s .moment ≡ Moment.Running (task-id (runner (header s .moment)))
+  pub running : (rs : List (ℕ × Bool)) → first-refusal (in-running s rs) ≡ 0 → header s .moment ≡ Moment.Running (task-id (runner (header s .moment)))
   unfolding in-running
   running rs e =
       run-is (header s .moment) (is-not-false (is-run (header s .moment)) (pass 3 (not (is-run (header s .moment))) rs (pass 2 (is-ended (header s .moment)) _ e .1) .0))
 
-  waiting : (rs : List (ℕ × Bool)) → first-refusal (in-waiting s rs) ≡ 0 → (header s .moment ≡ Moment.Waiting) × (first-refusal rs ≡ 0)
+  pub waiting : (rs : List (ℕ × Bool)) → first-refusal (in-waiting s rs) ≡ 0 → (header s .moment ≡ Moment.Waiting) × (first-refusal rs ≡ 0)
   unfolding in-waiting
   waiting rs e =
       let c = pass 2 (is-ended (header s .moment)) _ e in
       let d = pass 3 (is-run (header s .moment)) rs (c .1) in
       (wait-is (header s .moment) (c .0) (d .0), d .1)
+
+  -- what is awaited is made
+  pub await-made : (o : ℕ) → first-refusal (refusals s (Event.await o)) ≡ 0 → o < header s .made
+  unfolding refusals unmade
+  await-made o r = leb-false (header s .made) o (pass 4 (unmade s o) [] (running-rest s _ r) .0)
+
+  -- a value that is returned may be handed on
+  pub complete-known : (v : Value) → first-refusal (refusals s (Event.complete v)) ≡ 0 → T (value-known (header s .made) (object s) v)
+  unfolding refusals
+  complete-known v r = let known : Bool = value-known (header s .made) (object s) v in not-not known (pass 4 (not known) [] (running-rest s _ r) .0)
+
+  -- so may those of the host's results
+  pub results-apply : (rs : List Result) → first-refusal (refusals s (Event.results rs)) ≡ 0 → AllApply (header s .made) (λ o. T (is-completed (kind (object s o)))) rs
+  unfolding refusals in-both
+  results-apply rs r =
+      let c = pass 2 (is-ended (header s .moment)) _ r in
+      let d = pass 4 (any-of (result-unknown s) rs) _ (c .1) in
+      let f = pass 9 (ltb result-limit (length rs) || any-of bad-result rs) [] (d .1) in
+      all-apply s rs (d .0) (or-right (ltb result-limit (length rs)) (any-of bad-result rs) (f .0))
 
   results-whole : (xs : List Result) → AllApply (header s .made) (λ o. T (is-completed (kind (object s o)))) xs → Whole (apply-future-results s xs)
   unfolding view
@@ -151,23 +170,16 @@ Acting (Event.show o) = Unit {0}
 Acting Event.eager = Unit {0}
 
 pub accept-keeps : (s : Store) (e : Event) → Whole s → Acting e → first-refusal (refusals s e) ≡ 0 → Whole (accept s e .store)
-unfolding Acting accept refusals answer-await in-both unmade
+unfolding Acting accept refusals answer-await
 accept-keeps s (Event.coroutine f) h a r = absurd a
 accept-keeps s Event.call h a r = absurd a
 accept-keeps s (Event.pending c x) h a r = absurd a
 accept-keeps s (Event.settled v) h a r = absurd a
 accept-keeps s (Event.gather os) h a r = absurd a
-accept-keeps s (Event.await o) h a r =
-    await-keeps s (runner (header s .moment)) h (running s h _ r) o (leb-false (header s .made) o (pass 4 (unmade s o) [] (running-rest s _ r) .0))
-accept-keeps s (Event.complete v) h a r =
-    let known : Bool = value-known (header s .made) (object s) v in
-    completes s h (runner (header s .moment)) v (running s h _ r) (not-not known (pass 4 (not known) [] (running-rest s _ r) .0))
+accept-keeps s (Event.await o) h a r = await-keeps s (runner (header s .moment)) h (running s h _ r) o (await-made s h o r)
+accept-keeps s (Event.complete v) h a r = completes s h (runner (header s .moment)) v (running s h _ r) (complete-known s h v r)
 accept-keeps s (Event.fail n) h a r = fails s h (runner (header s .moment)) n (running s h _ r) a
-accept-keeps s (Event.results rs) h a r =
-    let c = pass 2 (is-ended (header s .moment)) _ r in
-    let d = pass 4 (any-of (result-unknown s) rs) _ (c .1) in
-    let f = pass 9 (ltb result-limit (length rs) || any-of bad-result rs) [] (d .1) in
-    results-whole s h rs (all-apply s rs (d .0) (or-right (ltb result-limit (length rs)) (any-of bad-result rs) (f .0)))
+accept-keeps s (Event.results rs) h a r = results-whole s h rs (results-apply s h rs r)
 accept-keeps s Event.resume h a r = resume-keeps s h (waiting s h [] r .0)
 accept-keeps s (Event.cancel t) h a r =
     let c = waiting s h _ r in

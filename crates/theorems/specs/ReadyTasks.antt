@@ -191,10 +191,11 @@ pub was-there : (q : List ℕ) (t u : ℕ) → 1 ≤ occurrences (without q t) u
 was-there q t u l = omega (arith, occurrences-without q t u)
 
 -- the first goes
-pub head-gone : {next : ℕ} {ts : ℕ → Task} {t : ℕ} {q : List ℕ} → Queued next ts (t ∷ q) → (t < next) × (occurrences q t ≡ 0) × Queued next ts q
+pub head-gone : {next : ℕ} {ts : ℕ → Task} {t : ℕ} {q : List ℕ} → Queued next ts (t ∷ q)
+    → ((t < next) × T (is-ready (ts t .state))) × (occurrences q t ≡ 0) × Queued next ts q
 unfolding occurrences Distinct
 head-gone {t = t} {q = q} h = (
-  h .ready t (rw (eq-eqb t t refl) (omega arith)) .0,
+  h .ready t (rw (eq-eqb t t refl) (omega arith)),
   h .distinct .0,
   queued-less (λ u l. omega arith) (h .distinct .1) h,
 )

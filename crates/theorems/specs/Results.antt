@@ -31,8 +31,8 @@ use Rattle.laws.specs.MakingLaws.{value-fits}
 use Rattle.laws.specs.DeliveryLaws.{absurd-some}
 use Rattle.theorems.specs.PutObject.{value-stays}
 use Rattle.theorems.specs.Stores.{Mid}
-use Rattle.theorems.specs.Deliver.{InFlight, Flight, Settles, settle-keeps, flight-keeps, failure-keeps}
-use Rattle.theorems.specs.Fill.{alone-keeps, success-keeps}
+use Rattle.theorems.specs.Deliver.{InFlight, Flight, Settles, settle-keeps, flight-keeps, ErrorRises, failure-keeps}
+use Rattle.theorems.specs.Fill.{alone-keeps, ValueRises, success-keeps}
 
 -- ---- a pending external settles
 
@@ -139,34 +139,48 @@ module _ {r : ℕ → Bool} {D : ℕ → Type 0} {hd : Header} (s : Store) (h : 
       subst (λ (z : Header). T (value-known (z .made) (object (put-object s o y)) x)) (sym (header-put-object s o y))
       (value-stays (header s .made) (object s) (object (put-object s o y)) (m .done) x k)
 
-  pub resolve-keeps : (call : ℕ) (v : Value) → T (value-known (header s .made) (object s) v) → Mid Nothing r D hd (resolve-future s call v)
-  unfolding resolve-future resolve-pending view
-  resolve-keeps call v k =
-      found-keeps (pending-external s call) _ (low call)
-      (λ o p l e.
+  -- the pending external o is settled with the host's value, or what is stored, which is on its way then
+  pub resolve-rises : (v : Value) → T (value-known (header s .made) (object s) v) → (o : ℕ) (p : PendingExternal) → o < header s .made → as-pending (object s o) ≡ some p
+      → ValueRises r D hd o (value-or (p .stored) v) (put-object s o (Object.ExternalFuture (p .call) (ExternalFutureState.Resolved (value-or (p .stored) v)))) (p .awaiter)
+  unfolding view
+  resolve-rises v k o p l e =
       let x : Value = value-or (p .stored) v in
       let y : Object = Object.ExternalFuture (p .call) (ExternalFutureState.Resolved x) in
       let known : T (value-known (header s .made) (object s) x) = known-or (view s) o p v (h .kept .but) l e k in
       let st : Settles (view s) o y = external-settles (view s) o p (ExternalFutureState.Resolved x) l e (resolved-answered (view s) (p .call) x known) in
       let fit : ObjectFits y = (pending-fits s o p e .0, value-fits (header s .made) (object s) x (h .kept .but .fits .made-fits) known) in
       let aw : awaiter-of (object s o) ≡ p .awaiter = pending-awaiter (object s o) p e in
-      success-keeps r D hd (put-object s o y) o (p .awaiter) x (known-settled o y x fit st known)
-      (subst (λ (a : Awaiter). Flight (view (put-object s o y)) o a) aw (flight-keeps s o y fit st h))
-      (alone-keeps s o y fit st (unfold kind in refl) h)
-      (subst (λ (a : Awaiter). Mid (InFlight a) r D hd (put-object s o y)) aw (settle-keeps s o y fit st h)) .mid)
+      record {
+        known = known-settled o y x fit st known;
+        flight = subst (λ (a : Awaiter). Flight (view (put-object s o y)) o a) aw (flight-keeps s o y fit st h);
+        alone = alone-keeps s o y fit st (unfold kind in refl) h;
+        mid = subst (λ (a : Awaiter). Mid (InFlight a) r D hd (put-object s o y)) aw (settle-keeps s o y fit st h);
+      }
 
-  pub fail-future-keeps : (call : ℕ) (x : Error) → ErrorFits x → Mid Nothing r D hd (fail-future s call x)
-  unfolding fail-future fail-pending view
-  fail-future-keeps call x k =
+  pub resolve-keeps : (call : ℕ) (v : Value) → T (value-known (header s .made) (object s) v) → Mid Nothing r D hd (resolve-future s call v)
+  unfolding resolve-future resolve-pending
+  resolve-keeps call v k =
       found-keeps (pending-external s call) _ (low call)
-      (λ o p l e.
+      (λ o p l e. success-keeps r D hd _ o (p .awaiter) (value-or (p .stored) v) (resolve-rises v k o p l e) .mid)
+
+  -- with an error
+  pub fail-rises : (x : Error) → ErrorFits x → (o : ℕ) (p : PendingExternal) → o < header s .made → as-pending (object s o) ≡ some p
+      → ErrorRises r D hd o (put-object s o (Object.ExternalFuture (p .call) (ExternalFutureState.Failed x))) (p .awaiter)
+  unfolding view
+  fail-rises x k o p l e =
       let y : Object = Object.ExternalFuture (p .call) (ExternalFutureState.Failed x) in
       let st : Settles (view s) o y = external-settles (view s) o p (ExternalFutureState.Failed x) l e (failed-answered (view s) (p .call) x) in
       let fit : ObjectFits y = (pending-fits s o p e .0, k) in
       let aw : awaiter-of (object s o) ≡ p .awaiter = pending-awaiter (object s o) p e in
-      failure-keeps r D hd x k (put-object s o y) o (p .awaiter)
-      (subst (λ (a : Awaiter). Flight (view (put-object s o y)) o a) aw (flight-keeps s o y fit st h))
-      (subst (λ (a : Awaiter). Mid (InFlight a) r D hd (put-object s o y)) aw (settle-keeps s o y fit st h)) .mid)
+      record {
+        flight = subst (λ (a : Awaiter). Flight (view (put-object s o y)) o a) aw (flight-keeps s o y fit st h);
+        mid = subst (λ (a : Awaiter). Mid (InFlight a) r D hd (put-object s o y)) aw (settle-keeps s o y fit st h);
+      }
+
+  pub fail-future-keeps : (call : ℕ) (x : Error) → ErrorFits x → Mid Nothing r D hd (fail-future s call x)
+  unfolding fail-future fail-pending
+  fail-future-keeps call x k =
+      found-keeps (pending-external s call) _ (low call) (λ o p l e. failure-keeps r D hd x k _ o (p .awaiter) (fail-rises x k o p l e) .mid)
 
 -- ---- the event `results`
 
@@ -179,10 +193,10 @@ unfoldable pub AllApply : ℕ → (ℕ → Type 0) → List Result → Type 0
 AllApply n D [] = Unit {0}
 AllApply n D (x ∷ xs) = MayApply n D x × AllApply n D xs
 
-host-fits : (n : ℕ) → ErrorFits (to-error 0 n)
+pub host-fits : (n : ℕ) → ErrorFits (to-error 0 n)
 host-fits n = omega arith
 
-result-keeps : {r : ℕ → Bool} {D : ℕ → Type 0} {hd : Header} (s : Store) (x : Result) → MayApply (hd .made) D x → Mid Nothing r D hd s → Mid Nothing r D hd (apply-result s x)
+pub result-keeps : {r : ℕ → Bool} {D : ℕ → Type 0} {hd : Header} (s : Store) (x : Result) → MayApply (hd .made) D x → Mid Nothing r D hd s → Mid Nothing r D hd (apply-result s x)
 unfolding apply-result
 result-keeps {r} {D} {hd} s x m h = by (eqb (x .kind) 0) refl (eqb (x .kind) 1) (eqb (x .kind) 2) (eqb (x .kind) 3)
   where

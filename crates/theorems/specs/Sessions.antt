@@ -50,7 +50,7 @@ making-queue s Event.eager m = absurd m
 -- ---- one event
 
 module _ (s : Store) (h : Whole s) where
-  forget-whole : Whole (forget s)
+  pub forget-whole : Whole (forget s)
   forget-whole = whole-of (forget s) (sized-forget s (h .sized)) (unfold forget in (h .ids)) (subst T (sym (sound-forget s)) (whole-sound s h))
 
   makes : (e : Event) → Making e → refusal s e ≡ 0 → Whole (step s e .store)
