@@ -20,8 +20,9 @@ use Rattle.reader.specs.Format.{parse}
 use Rattle.reader.specs.ParseLaws.{results-inside}
 use Rattle.texts.specs.Out.{Out, Wrote}
 use Rattle.texts.specs.OutLaws.{wrote-none, at-most}
-use Rattle.lines.specs.Heard.{heard, reading-count}
-use Rattle.lines.specs.HeardLaws.{wrote-event, wrote-eager, wrote-show}
+use Rattle.lines.specs.Heard.{heard}
+use Rattle.showing.specs.Shows.{reading-count}
+use Rattle.showing.specs.HeardLaws.{wrote-event, wrote-eager, wrote-show}
 use Rattle.lines.specs.Lines.{line, line-limit}
 use Rattle.answering.specs.Driver.{Asked, asked, Drives, refused-11, answered, drive-by, drive-one}
 use Rattle.answering.specs.Drove.{Drove, asks-of, asked-of, InInput}

@@ -139,7 +139,7 @@ fn show_line(
     ensures { λ r. ⌜ ((cs : List ℕ) (l : List Happening) → Drove (now (tasks .entry)) (now (objects .entry)) (now (places .entry)) (r .queue) cs (r .next) (r .going) (out-of (now (out .entry)) at) (out-of (now (out .exit)) (r .at)) (answered (store-of (now (tasks .entry)) (now (objects .entry)) (now (places .entry)) queue l) cs next number (Asked.read (machine.Event.show o)))) ⌝ }
 {
     let reading = reads::show(tasks, objects, places, queue, o);
-    let end = lines::shows::write_reading(out, at, number, reading, places);
+    let end = showing::shows::write_reading(out, at, number, reading, places);
     Driven {
         queue,
         at: end,

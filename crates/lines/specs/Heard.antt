@@ -8,8 +8,6 @@ use Rattle.machine.specs.Machine as machine
 use Rattle.switching.specs.Control.{how-of}
 use Rattle.switching.specs.declared.control.Control.{Control}
 use Rattle.switching.specs.declared.answer.Answer.{Answer}
-use Rattle.reads.specs.declared.Shown.{Shown}
-use Rattle.reads.specs.declared.Reading.{Reading}
 
 -- the calls of a wait: as many words at the front of the call list as calls are pending in the store
 unfoldable pub front-calls : List ℕ → List ℕ → List ℕ
@@ -36,20 +34,3 @@ told cs (Answer.Refused n) = machine.Answer.refused n
 -- the answer of an event: the objects' words, and the call list
 unfoldable pub heard : List ℕ → List ℕ → Answer → machine.Answer
 heard os cs a = told (front-calls os cs) a
-
--- how many places are shown
-unfoldable pub shown-count : Shown → ℕ
-shown-count (Shown.Coroutine x f) = 0
-shown-count Shown.ExternalPending = 0
-shown-count (Shown.ExternalResolved v) = 0
-shown-count (Shown.ExternalFailed e) = 0
-shown-count Shown.GatherPending = 0
-shown-count (Shown.GatherAwaited f n m) = n
-shown-count (Shown.GatherCompleted f n) = n
-shown-count (Shown.GatherFailed e) = 0
-shown-count Shown.Nothing = 0
-
--- of a reading
-unfoldable pub reading-count : Reading → ℕ
-reading-count (Reading.Shows x) = shown-count x
-reading-count (Reading.Refused n) = 0

@@ -2,6 +2,4 @@ pub mod Lines
 pub mod Heard
 pub mod CallLaws
 pub mod LineLaws
-pub mod PlaceLaws
-pub mod HeardLaws
 pub mod Example

@@ -22,7 +22,7 @@ ghost use Rattle.lines.specs.Heard.{front-calls, told-control, heard};
 
 // ---- parts of a line
 
-pub(crate) fn put_value(out: &mut [u8], at: usize, v: Value) -> usize
+pub fn put_value(out: &mut [u8], at: usize, v: Value) -> usize
     ensures { λ r. ⌜ Wrote 27 (out-of (now (out .entry)) at) (out-of (now (out .exit)) r) (value-text v) ⌝ }
 {
     match v {
@@ -31,7 +31,7 @@ pub(crate) fn put_value(out: &mut [u8], at: usize, v: Value) -> usize
     }
 }
 
-pub(crate) fn put_error(out: &mut [u8], at: usize, e: Error) -> usize
+pub fn put_error(out: &mut [u8], at: usize, e: Error) -> usize
     ensures { λ r. ⌜ Wrote 28 (out-of (now (out .entry)) at) (out-of (now (out .exit)) r) (error-text e) ⌝ }
 {
     match e {

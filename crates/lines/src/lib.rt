@@ -1,4 +1,3 @@
 // Document 01's lines: an answer written into a lent buffer, as decimal numbers and words.
-pub mod answers;
-pub mod shows;
-mod words;
+pub mod answers; // the line of an answer
+pub mod words; // words of the lent slices

@@ -1,16 +1,14 @@
 // Words of the lent slices, read with no test of a length: a word behind the end is 0, as in the definitions.
-use asyncio::OptionValue;
 use asyncio::words::to_kind;
-use asyncio::words::to_option;
 ghost use mathlib.Core.Path.{_≡_};
-ghost use Prim.Native.Nat.{_+_, _≤_};
+ghost use Prim.Native.Nat.{_≤_};
 ghost use lib.ListN.{length, getD};
 ghost use Rattle.asyncio.specs.Kinds.{kind, is-pending-external};
 ghost use Rattle.asyncio.specs.Limits.{object-limit};
-ghost use Rattle.rows.specs.Tables.{object-at, place-at};
+ghost use Rattle.rows.specs.Tables.{object-at};
 ghost use Rattle.machine.specs.Scheduler.{pending-calls-in};
 
-fn word_at(words: &[u64], i: usize) -> u64
+pub fn word_at(words: &[u64], i: usize) -> u64
     ensures { λ r. ⌜ r ≡ getD (now (words .entry)) i 0 ⌝ }
 {
     if i < words.len() {
@@ -29,7 +27,7 @@ fn is_pending_at(objects: &[u64], o: u16) -> bool
 }
 
 // How many calls are pending.
-pub(crate) fn count_calls(objects: &[u64]) -> usize
+pub fn count_calls(objects: &[u64]) -> usize
     ensures { λ r. ⌜ (r ≡ length (pending-calls-in (now (objects .entry)))) × (r ≤ object-limit) ⌝ }
 {
     let made = (word_at(objects, 0) % 257) as u16;
@@ -44,13 +42,4 @@ pub(crate) fn count_calls(objects: &[u64]) -> usize
         }
     }
     n
-}
-
-// The result of place `i` of a gather that starts at `first`.
-pub(crate) fn result_at(places: &[u64], first: u16, i: u16) -> OptionValue
-    ensures { λ r. ⌜ r ≡ place-at (now (places .entry)) (first + i) .result ⌝ }
-{
-    let p = first as usize + i as usize;
-    let at = p * 4;
-    to_option(word_at(places, at + 1), word_at(places, at + 2))
 }

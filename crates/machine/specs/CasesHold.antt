@@ -18,11 +18,13 @@ no-row-holds : seen no-row ≡ told no-row
 unfolding no-row computes seen told
 no-row-holds = refl
 
+-- Row k of a table that was computed.
+pub rows-hold : (cs : List Case) → map seen cs ≡ map told cs → (k : ℕ) → seen (getD cs k no-row) ≡ told (getD cs k no-row)
+rows-hold cs e k = sym (List·getD-map seen cs k no-row) ∙ (rw (e, no-row-holds) (List·getD-map told cs k no-row))
+
 -- Row k of the table.
 pub cases-hold : (k : ℕ) → seen (getD cases k no-row) ≡ told (getD cases k no-row)
-cases-hold k =
-    sym (List·getD-map seen cases k no-row) ∙
-    (rw (all-rows, no-row-holds) (List·getD-map told cases k no-row))
+cases-hold k = rows-hold cases all-rows k
 
 -- The ten lines of the worked example as document 01's numbers: word and values, in the order of the driver's line.
 example-told : map answer-numbers (told (getD cases 0 no-row) .answers) ≡

@@ -1,4 +1,4 @@
-// The entries of the running task: await_object, complete, fail.
+// The entries of the running task: complete, fail.
 use asyncio::Value;
 use checks::lent::lengths_right;
 use queue::ReadyQueue;
@@ -12,36 +12,6 @@ ghost use Rattle.machine.specs.Store.{Happening, store-of};
 ghost use Rattle.machine.specs.Machine.{Event};
 ghost use Rattle.machine.specs.Lent.{lent-step};
 ghost use Rattle.checks.specs.Lent.{lent-of};
-
-// The running task awaits an object.
-pub fn await_object(
-    tasks: &mut [u64],
-    objects: &mut [u64],
-    places: &mut [u64],
-    calls: &mut [u64],
-    queue: ReadyQueue,
-    o: u16,
-) -> Stepped
-    ensures { λ r. ⌜ ((l : List Happening) → lent-of (store-of (now (tasks .exit)) (now (objects .exit)) (now (places .exit)) (r .queue) (lent-step (store-of (now (tasks .entry)) (now (objects .entry)) (now (places .entry)) queue l) (now (calls .entry)) (Event.await o) .store .log)) (now (calls .exit)) (r .answer) ≡ lent-step (store-of (now (tasks .entry)) (now (objects .entry)) (now (places .entry)) queue l) (now (calls .entry)) (Event.await o)) ⌝ }
-{
-    if lengths_right(tasks, objects, places, calls) {
-        if is_sound(queue, tasks, objects, places) {
-            let awaited = steps::running::await_object(tasks, objects, places, queue, o);
-            let q = awaited.queue;
-            let answer = awaited.answer;
-            checks::lent::tell(objects, calls, answer);
-            return Stepped { queue: q, answer };
-        }
-        return Stepped {
-            queue,
-            answer: Answer::Refused(2),
-        };
-    }
-    Stepped {
-        queue,
-        answer: Answer::Refused(1),
-    }
-}
 
 // The running task completes with a value.
 pub fn complete(

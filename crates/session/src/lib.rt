@@ -44,7 +44,7 @@ pub fn dispatch(
         }
         Event::Settled(v) => externals::settled(tasks, objects, places, calls, queue, v),
         Event::Gather => makers::gather(tasks, objects, places, calls, queue, items),
-        Event::Await(o) => script::await_object(tasks, objects, places, calls, queue, o),
+        Event::Await(o) => awaiting::await_object(tasks, objects, places, calls, queue, o),
         Event::Complete(v) => script::complete(tasks, objects, places, calls, queue, v),
         Event::Fail(n) => script::fail(tasks, objects, places, calls, queue, n),
         Event::Results => host::results(tasks, objects, places, calls, queue, results),

@@ -1,0 +1,3 @@
+pub mod MoreCases
+pub mod MoreCasesHold
+pub mod MoreSoundCases

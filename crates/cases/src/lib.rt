@@ -1,0 +1,1 @@
+// Cases of document 01, computed (specs/).

@@ -1,0 +1,2 @@
+// The line of a read of an object.
+pub mod shows;
