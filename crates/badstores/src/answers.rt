@@ -1,55 +1,78 @@
-// The words of an answer, as far as this program tells them apart.
+// What an answer prints, as far as this program tells them apart.
+use crate::compare::store_changed;
+use crate::entries::After;
+use crate::entries::entered;
+use crate::store::Store;
+use crate::text::Command;
 use events::answer::Answer;
-use libc::STDOUT_FILENO;
-use reads::Reading;
+use texts::put_byte;
 use texts::put_named;
+use texts::put_text;
 
-pub(crate) fn print_text(text: &[u8]) {
-    io::write_all(STDOUT_FILENO, text);
-}
-
-fn print_eager(yes: bool) {
+fn write_eager(out: &mut [u8], at: usize, yes: bool) -> usize {
     if yes {
-        print_text(b"eager yes");
-    } else {
-        print_text(b"eager no");
+        return put_text(out, at, b"eager yes");
     }
+    put_text(out, at, b"eager no")
 }
 
-// The part of a buffer that was written.
-pub(crate) fn print_written(out: &[u8], n: usize) {
-    if n <= out.len() {
-        print_text(&out[..n]);
-    }
-}
-
-fn print_refused(n: u16) {
-    let mut out = [0u8; 32];
-    let end = put_named(&mut out, 0, b"refused", n as u64);
-    print_written(&out, end);
-}
-
-pub(crate) fn print_answer(answer: Answer) {
+fn write_answer(out: &mut [u8], at: usize, answer: Answer) -> usize {
     match answer {
-        Answer::Made(_) => print_text(b"accepted"),
-        Answer::Called(_) => print_text(b"accepted"),
-        Answer::Switched(_) => print_text(b"accepted"),
+        Answer::Made(_) => put_text(out, at, b"accepted"),
+        Answer::Called(_) => put_text(out, at, b"accepted"),
+        Answer::Switched(_) => put_text(out, at, b"accepted"),
         Answer::Awaited {
             control: _,
             steps: _,
-        } => print_text(b"accepted"),
-        Answer::Done => print_text(b"accepted"),
-        Answer::Stalled => print_text(b"accepted"),
-        Answer::Finished(_) => print_text(b"accepted"),
-        Answer::FinishedError(_) => print_text(b"accepted"),
-        Answer::Eager(yes) => print_eager(yes),
-        Answer::Refused(n) => print_refused(n),
+        } => put_text(out, at, b"accepted"),
+        Answer::Done => put_text(out, at, b"accepted"),
+        Answer::Stalled => put_text(out, at, b"accepted"),
+        Answer::Finished(_) => put_text(out, at, b"accepted"),
+        Answer::FinishedError(_) => put_text(out, at, b"accepted"),
+        Answer::Eager(yes) => write_eager(out, at, yes),
+        Answer::Refused(n) => put_named(out, at, b"refused", n as u64),
     }
 }
 
-pub(crate) fn print_reading(reading: Reading) {
-    match reading {
-        Reading::Shows(_) => print_text(b"shown"),
-        Reading::Refused(n) => print_refused(n),
+fn is_refused(answer: Answer) -> bool {
+    match answer {
+        Answer::Made(_) => false,
+        Answer::Called(_) => false,
+        Answer::Switched(_) => false,
+        Answer::Awaited {
+            control: _,
+            steps: _,
+        } => false,
+        Answer::Done => false,
+        Answer::Stalled => false,
+        Answer::Finished(_) => false,
+        Answer::FinishedError(_) => false,
+        Answer::Eager(_) => false,
+        Answer::Refused(_) => true,
     }
+}
+
+// Did a refused call change something?
+fn is_wrong(before: Store, r: After) -> bool {
+    let answer = r.answer;
+    if is_refused(answer) {
+        if r.told {
+            return true;
+        }
+        return store_changed(before, r.store);
+    }
+    false
+}
+
+// The command's letter, and what its entry answers.
+pub(crate) fn write_entry(out: &mut [u8], at: usize, s: Store, c: Command) -> usize {
+    let r = entered(s, c.a, c.b);
+    let p = put_byte(out, at, c.letter);
+    let q = put_byte(out, p, 32);
+    let answer = r.answer;
+    let end = write_answer(out, q, answer);
+    if is_wrong(s, r) {
+        return put_text(out, end, b"\nchanged");
+    }
+    end
 }
