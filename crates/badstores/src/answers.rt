@@ -9,59 +9,47 @@ use texts::put_byte;
 use texts::put_named;
 use texts::put_text;
 
-fn write_eager(out: &mut [u8], at: usize, yes: bool) -> usize {
-    if yes {
+// 0: accepted; 1 and 2: eager, no and yes; from 3 on: refused.
+fn told(answer: Answer) -> u64 {
+    match answer {
+        Answer::Made(_) => 0,
+        Answer::Called(_) => 0,
+        Answer::Switched(_) => 0,
+        Answer::Awaited {
+            control: _,
+            steps: _,
+        } => 0,
+        Answer::Done => 0,
+        Answer::Stalled => 0,
+        Answer::Finished(_) => 0,
+        Answer::FinishedError(_) => 0,
+        Answer::Eager(yes) => { if yes { 2 } else { 1 } }
+        Answer::Refused(n) => n as u64 + 3,
+    }
+}
+
+fn write_told(out: &mut [u8], at: usize, told: u64) -> usize {
+    if told == 0 {
+        return put_text(out, at, b"accepted");
+    }
+    if told == 1 {
+        return put_text(out, at, b"eager no");
+    }
+    if told == 2 {
         return put_text(out, at, b"eager yes");
     }
-    put_text(out, at, b"eager no")
-}
-
-fn write_answer(out: &mut [u8], at: usize, answer: Answer) -> usize {
-    match answer {
-        Answer::Made(_) => put_text(out, at, b"accepted"),
-        Answer::Called(_) => put_text(out, at, b"accepted"),
-        Answer::Switched(_) => put_text(out, at, b"accepted"),
-        Answer::Awaited {
-            control: _,
-            steps: _,
-        } => put_text(out, at, b"accepted"),
-        Answer::Done => put_text(out, at, b"accepted"),
-        Answer::Stalled => put_text(out, at, b"accepted"),
-        Answer::Finished(_) => put_text(out, at, b"accepted"),
-        Answer::FinishedError(_) => put_text(out, at, b"accepted"),
-        Answer::Eager(yes) => write_eager(out, at, yes),
-        Answer::Refused(n) => put_named(out, at, b"refused", n as u64),
-    }
-}
-
-fn is_refused(answer: Answer) -> bool {
-    match answer {
-        Answer::Made(_) => false,
-        Answer::Called(_) => false,
-        Answer::Switched(_) => false,
-        Answer::Awaited {
-            control: _,
-            steps: _,
-        } => false,
-        Answer::Done => false,
-        Answer::Stalled => false,
-        Answer::Finished(_) => false,
-        Answer::FinishedError(_) => false,
-        Answer::Eager(_) => false,
-        Answer::Refused(_) => true,
-    }
+    put_named(out, at, b"refused", told - 3)
 }
 
 // Did a refused call change something?
-fn is_wrong(before: Store, r: After) -> bool {
-    let answer = r.answer;
-    if is_refused(answer) {
-        if r.told {
-            return true;
-        }
-        return store_changed(before, r.store);
+fn is_wrong(before: Store, r: After, told: u64) -> bool {
+    if told < 3 {
+        return false;
     }
-    false
+    if r.listed {
+        return true;
+    }
+    store_changed(before, r.store)
 }
 
 // The command's letter, and what its entry answers.
@@ -70,8 +58,9 @@ pub(crate) fn write_entry(out: &mut [u8], at: usize, s: Store, c: Command) -> us
     let p = put_byte(out, at, c.letter);
     let q = put_byte(out, p, 32);
     let answer = r.answer;
-    let end = write_answer(out, q, answer);
-    if is_wrong(s, r) {
+    let n = told(answer);
+    let end = write_told(out, q, n);
+    if is_wrong(s, r, n) {
         return put_text(out, end, b"\nchanged");
     }
     end

@@ -119,7 +119,7 @@ fn enter_lent(
 pub struct After {
     pub store: Store,
     pub answer: Answer,
-    pub told: bool,
+    pub listed: bool,
 }
 
 pub(crate) fn entered(s: Store, kind: u64, n: u64) -> After {
@@ -150,6 +150,6 @@ pub(crate) fn entered(s: Store, kind: u64, n: u64) -> After {
             lent,
         },
         answer,
-        told: words_changed(&before, &calls),
+        listed: words_changed(&before, &calls),
     }
 }

@@ -4,7 +4,6 @@ use native.Mathlib.Omega.{arith}
 use borrow.Author.Needs.{needs}
 use Rattle.badstores.proofs.entries.enter.Statement.{statement}
 use Rattle.badstores.proofs.entries.enter.Tie as tie
-use Rattle.badstores.proofs.entries.enter.Reads as reads
 
 begin-requires : tie.Need-begin-requires
 begin-requires c κs = search needs
