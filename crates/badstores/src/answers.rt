@@ -1,55 +1,67 @@
-// The words of an answer, as far as this program tells them apart.
-use libc::STDOUT_FILENO;
-use reads::Reading;
+// What an answer prints, as far as this program tells them apart.
+use crate::compare::store_changed;
+use crate::entries::After;
+use crate::entries::entered;
+use crate::store::Store;
+use crate::text::Command;
 use switching::answer::Answer;
+use texts::put_byte;
 use texts::put_named;
+use texts::put_text;
 
-pub(crate) fn print_text(text: &[u8]) {
-    io::write_all(STDOUT_FILENO, text);
-}
-
-fn print_eager(yes: bool) {
-    if yes {
-        print_text(b"eager yes");
-    } else {
-        print_text(b"eager no");
-    }
-}
-
-// The part of a buffer that was written.
-pub(crate) fn print_written(out: &[u8], n: usize) {
-    if n <= out.len() {
-        print_text(&out[..n]);
-    }
-}
-
-fn print_refused(n: u16) {
-    let mut out = [0u8; 32];
-    let end = put_named(&mut out, 0, b"refused", n as u64);
-    print_written(&out, end);
-}
-
-pub(crate) fn print_answer(answer: Answer) {
+// 0: accepted; 1 and 2: eager, no and yes; from 3 on: refused.
+fn told(answer: Answer) -> u64 {
     match answer {
-        Answer::Made(_) => print_text(b"accepted"),
-        Answer::Called(_) => print_text(b"accepted"),
-        Answer::Switched(_) => print_text(b"accepted"),
+        Answer::Made(_) => 0,
+        Answer::Called(_) => 0,
+        Answer::Switched(_) => 0,
         Answer::Awaited {
             control: _,
             steps: _,
-        } => print_text(b"accepted"),
-        Answer::Done => print_text(b"accepted"),
-        Answer::Stalled => print_text(b"accepted"),
-        Answer::Finished(_) => print_text(b"accepted"),
-        Answer::FinishedError(_) => print_text(b"accepted"),
-        Answer::Eager(yes) => print_eager(yes),
-        Answer::Refused(n) => print_refused(n),
+        } => 0,
+        Answer::Done => 0,
+        Answer::Stalled => 0,
+        Answer::Finished(_) => 0,
+        Answer::FinishedError(_) => 0,
+        Answer::Eager(yes) => { if yes { 2 } else { 1 } }
+        Answer::Refused(n) => n as u64 + 3,
     }
 }
 
-pub(crate) fn print_reading(reading: Reading) {
-    match reading {
-        Reading::Shows(_) => print_text(b"shown"),
-        Reading::Refused(n) => print_refused(n),
+fn write_told(out: &mut [u8], at: usize, told: u64) -> usize {
+    if told == 0 {
+        return put_text(out, at, b"accepted");
     }
+    if told == 1 {
+        return put_text(out, at, b"eager no");
+    }
+    if told == 2 {
+        return put_text(out, at, b"eager yes");
+    }
+    put_named(out, at, b"refused", told - 3)
+}
+
+// Did a refused call change something?
+fn is_wrong(before: Store, r: After, told: u64) -> bool {
+    if told < 3 {
+        return false;
+    }
+    if r.listed {
+        return true;
+    }
+    store_changed(before, r.store)
+}
+
+// The command's letter, and what its entry answers.
+pub(crate) fn write_entry(out: &mut [u8], at: usize, s: Store, c: Command) -> usize {
+    let r = entered(s, c.a, c.b);
+    let p = put_byte(out, at, c.letter);
+    let q = put_byte(out, p, 32);
+    let answer = r.answer;
+    let n = told(answer);
+    let end = write_told(out, q, n);
+    if is_wrong(s, r, n) {
+        return put_text(out, end, b"\nchanged");
+    }
+    end
 }

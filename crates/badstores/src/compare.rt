@@ -1,7 +1,5 @@
-// What a refused call changed: nothing.
-use crate::answers::print_text;
+// What a call changed.
 use crate::store::Store;
-use queue::ReadyQueue;
 
 pub(crate) fn words_changed(before: &[u64], after: &[u64]) -> bool {
     let n = before.len();
@@ -29,16 +27,16 @@ fn ids_changed(before: &[u16; 513], after: &[u16; 513]) -> bool {
     false
 }
 
-fn queue_changed(before: ReadyQueue, after: ReadyQueue) -> bool {
-    if before.len != after.len {
+fn queue_changed(before: Store, after: Store) -> bool {
+    if before.queue.len != after.queue.len {
         return true;
     }
-    let ids = before.ids;
-    let ids_after = after.ids;
+    let ids = before.queue.ids;
+    let ids_after = after.queue.ids;
     ids_changed(&ids, &ids_after)
 }
 
-fn slices_changed(before: Store, after: Store) -> bool {
+pub(crate) fn store_changed(before: Store, after: Store) -> bool {
     let tasks = before.tasks;
     let tasks_after = after.tasks;
     if words_changed(&tasks, &tasks_after) {
@@ -51,16 +49,8 @@ fn slices_changed(before: Store, after: Store) -> bool {
     }
     let places = before.places;
     let places_after = after.places;
-    words_changed(&places, &places_after)
-}
-
-// The line "changed" where something is.
-pub(crate) fn print_changed(before: Store, after: Store) {
-    if slices_changed(before, after) {
-        print_text(b"changed\n");
-        return;
+    if words_changed(&places, &places_after) {
+        return true;
     }
-    if queue_changed(before.queue, after.queue) {
-        print_text(b"changed\n");
-    }
+    queue_changed(before, after)
 }

@@ -1,43 +1,27 @@
-// Damages good stores, a word, a queue entry or a length at a time, and prints what the entries answer: a line for each damage with its name, the
-// answer of the read `eager` and that of the event `complete`. A line "changed" would follow where a refused call changed something.
-mod answers; // the words of an answer
-mod clauses; // document 01's "A store is sound when", clause by clause
+// Damages good stores, a word, a queue entry or a length at a time, and prints what the entries answer. Standard input says it, a line for each
+// damage: its name, which is printed, `|`, the letter of a good store, and commands. A command is a letter, a number a, and, behind `=`, a number b.
+//   s w g      the good stores: task 1 runs; main is ready; main has a list
+//   t o p      word a of the tasks, objects or places is b
+//   q n        entry a of the queue is b; the queue's count is a
+//   T O P C    a words of the tasks, objects, places and of the call list are lent
+//   e          entry a is called with b
+//   : ,        prints the letter, a space, and what entry a answers to b; the store stays
+//   d .        prints the store; ends the line
+// Entry 0 begins a session, 1 to 10 are document 01's kinds of events, 11 is `eager`, 12 `show`. A line "changed" would follow where a refused
+// call changed something.
+mod answers; // what an answer prints
 mod compare; // what a refused call changed
-mod entries; // one damaged store through every entry
-mod good; // three sessions
-mod lengths; // slices of wrong length
-mod offer; // a store, offered to the entries
-mod ranges; // words out of range, X1 to X5
-mod store; // a store as one value, and one with a word changed
+mod entries; // an entry of the library, by its number
+mod commands; // the commands
+mod store; // a store as one value, and its damages
+mod text; // bytes and numbers of the text
+
+use libc::STDIN_FILENO;
 
 fn main() {
-    let started = good::started();
-    let woken = good::woken();
-    let gathered = good::gathered();
-    offer::good(b"task 1 runs", started);
-    offer::good(b"main is ready", woken);
-    offer::good(b"main has a list", gathered);
-    ranges::unused(started);
-    ranges::task_words(started);
-    ranges::object_words(started, woken);
-    ranges::place_words(started);
-    ranges::header_words(started);
-    ranges::counts(started);
-    ranges::gathers(started);
-    ranges::main_task(started, woken);
-    ranges::spawned(started);
-    clauses::items(started);
-    clauses::lists(started, woken, gathered);
-    clauses::ready(started, gathered);
-    clauses::drivers(started);
-    clauses::blocked(started);
-    clauses::places(started, gathered);
-    clauses::slots(started);
-    clauses::runner(started);
-    entries::making(started);
-    entries::running(started);
-    entries::others(started);
-    lengths::short(started);
-    lengths::long(started);
-    lengths::calls(started);
+    let mut input = [0u8; 8192];
+    let n = io::read_full(STDIN_FILENO, &mut input);
+    if n <= 8192 {
+        commands::run_lines(&input[..n]);
+    }
 }
