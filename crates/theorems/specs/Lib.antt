@@ -49,6 +49,8 @@ pub mod StoryCommit
 pub mod StoryEvents
 pub mod StorySessions
 pub mod StoryGathers
+pub mod Alike
+pub mod AlikeLaws
 pub mod NoPanicPlaces
 pub mod Bounds
 pub mod BoundLaws
