@@ -37,7 +37,7 @@ module _ (ps : ℕ → Place) (w : AwaitedGather) (o : ℕ) where
   abbrev here : ℕ → Bool
   here i = bit (w .open-places) i && eqb (ps (w .first + i) .item .0) o
 
-  open-found : (k i : ℕ) → i + k ≤ w .count → T (open-from ps w o i k) → Open ps w o
+  pub open-found : (k i : ℕ) → i + k ≤ w .count → T (open-from ps w o i k) → Open ps w o
   unfolding open-from
   open-found zero i l t = absurd t
   open-found (suc k) i l t = by (here i) refl t (λ u. open-found k (i + 1) (omega arith) u)

@@ -46,6 +46,11 @@ pub mod PanickingMachineLaws
 pub mod Story
 pub mod StoryLaws
 pub mod StoryCommit
+pub mod StoryEvents
+pub mod StorySessions
+pub mod StoryGathers
+pub mod Alike
+pub mod AlikeLaws
 pub mod NoPanicPlaces
 pub mod Bounds
 pub mod BoundLaws

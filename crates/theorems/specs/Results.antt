@@ -26,7 +26,7 @@ use Rattle.machine.specs.Delivery.{value-or, resolve-pending, fail-pending, set
 use Rattle.machine.specs.Events.{Result, apply-result, apply-future-results}
 use Rattle.machine.specs.Sound.{object-in-range, items-below, value-known, option-known, object-values, object-filled}
 use Rattle.laws.specs.Facts.{SoundBut, Nothing}
-use Rattle.laws.specs.StoreLaws.{object-fits, header-put-object}
+use Rattle.laws.specs.StoreLaws.{object-fits, object-put-object, header-put-object}
 use Rattle.laws.specs.MakingLaws.{value-fits}
 use Rattle.laws.specs.DeliveryLaws.{absurd-some}
 use Rattle.theorems.specs.PutObject.{value-stays}
@@ -125,7 +125,8 @@ module _ {r : ℕ → Bool} {D : ℕ → Type 0} {hd : Header} (s : Store) (h : 
       by none e = h
       by (some p) e = k o p (l o refl) e
 
-  low : (call o : ℕ) → pending-external s call ≡ some o → o < header s .made
+  -- what is found is made
+  pub low : (call o : ℕ) → pending-external s call ≡ some o → o < header s .made
   unfolding pending-external pending-external-in header
   low call o e = omega (arith, first-below _ (header s .made) 0 o e)
 
@@ -157,6 +158,15 @@ module _ {r : ℕ → Bool} {D : ℕ → Type 0} {hd : Header} (s : Store) (h : 
         mid = subst (λ (a : Awaiter). Mid (InFlight a) r D hd (put-object s o y)) aw (settle-keeps s o y fit st h);
       }
 
+  -- the row is written
+  pub resolve-row : (v : Value) → T (value-known (header s .made) (object s) v) → (o : ℕ) (p : PendingExternal) → o < header s .made → as-pending (object s o) ≡ some p
+      → object (put-object s o (Object.ExternalFuture (p .call) (ExternalFutureState.Resolved (value-or (p .stored) v)))) o
+      ≡ Object.ExternalFuture (p .call) (ExternalFutureState.Resolved (value-or (p .stored) v))
+  unfolding view
+  resolve-row v k o p l e =
+      object-put-object s o _ (h .kept .sized) (omega (arith, l, h .kept .but .fits .made-fits))
+      (pending-fits s o p e .0, value-fits (header s .made) (object s) (value-or (p .stored) v) (h .kept .but .fits .made-fits) (known-or (view s) o p v (h .kept .but) l e k))
+
   pub resolve-keeps : (call : ℕ) (v : Value) → T (value-known (header s .made) (object s) v) → Mid Nothing r D hd (resolve-future s call v)
   unfolding resolve-future resolve-pending
   resolve-keeps call v k =
@@ -176,6 +186,11 @@ module _ {r : ℕ → Bool} {D : ℕ → Type 0} {hd : Header} (s : Store) (h : 
         flight = subst (λ (a : Awaiter). Flight (view (put-object s o y)) o a) aw (flight-keeps s o y fit st h);
         mid = subst (λ (a : Awaiter). Mid (InFlight a) r D hd (put-object s o y)) aw (settle-keeps s o y fit st h);
       }
+
+  pub fail-row : (x : Error) → ErrorFits x → (o : ℕ) (p : PendingExternal) → o < header s .made → as-pending (object s o) ≡ some p
+      → object (put-object s o (Object.ExternalFuture (p .call) (ExternalFutureState.Failed x))) o ≡ Object.ExternalFuture (p .call) (ExternalFutureState.Failed x)
+  unfolding view
+  fail-row x k o p l e = object-put-object s o _ (h .kept .sized) (omega (arith, l, h .kept .but .fits .made-fits)) (pending-fits s o p e .0, k)
 
   pub fail-future-keeps : (call : ℕ) (x : Error) → ErrorFits x → Mid Nothing r D hd (fail-future s call x)
   unfolding fail-future fail-pending

@@ -2,7 +2,7 @@
 use mathlib.Core.Path.{_≡_}
 use mathlib.Core.List.{List, [], _∷_}
 use mathlib.Core.Option.{some}
-use Prim.Native.Nat.{ℕ}
+use Prim.Native.Nat.{ℕ, _≤_}
 use Rattle.asyncio.specs.declared.CallId.{CallId}
 use Rattle.asyncio.specs.declared.Value.{Value}
 use Rattle.asyncio.specs.declared.Error.{Error}
@@ -11,7 +11,7 @@ use Rattle.asyncio.specs.declared.ExternalFutureState.{ExternalFutureState}
 use Rattle.asyncio.specs.declared.GatherState.{GatherState}
 use Rattle.asyncio.specs.declared.Object.{Object}
 use Rattle.asyncio.specs.Numbers.{heap-id}
-use Rattle.machine.specs.Store.{Store, object, place}
+use Rattle.machine.specs.Store.{Store, object, place, header}
 use Rattle.machine.specs.Scheduler.{AwaitedGather, as-awaited}
 use Rattle.machine.specs.Gather.{Outcome, returned, raised}
 use Rattle.laws.specs.Facts.{Open}
@@ -34,7 +34,8 @@ pub data Story (g : ℕ) : Store → List Done → Store → Type 0 where
   arrival : (s v u : Store) (w : AwaitedGather) (x : Done) (xs : List Done) → SameGather s v g → as-awaited (object v g) ≡ some w → Open (place v) w (x .awaitable)
       → OutcomeFits (x .outcome) → Came (object v (x .awaitable)) (x .awaitable) (x .outcome) → Story g (arrive v g x) xs u → Story g s (x ∷ xs) u
 
--- some arrivals
+-- some arrivals, and no object is lost
 pub record Tale (g : ℕ) (s u : Store) : Type 0 where
   pub arrivals : List Done
   pub story : Story g s arrivals u
+  pub made : header s .made ≤ header u .made

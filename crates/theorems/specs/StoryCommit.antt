@@ -5,6 +5,7 @@ use mathlib.Core.Bool.{Bool, true, false}
 use mathlib.Core.List.{List, [], _∷_}
 use mathlib.Core.Option.{Option, none, some}
 use Prim.Native.Nat.{ℕ, zero, suc, _+_, _<_}
+use native.Mathlib.Nat.{le-refl}
 use native.Mathlib.Omega.{arith}
 use lib.Dec.{eqb, ltb}
 use Rattle.asyncio.specs.declared.Value.{Value}
@@ -16,7 +17,6 @@ use Rattle.asyncio.specs.declared.GatherState.{GatherState}
 use Rattle.asyncio.specs.declared.Object.{Object}
 use Rattle.asyncio.specs.declared.TaskState.{TaskState}
 use Rattle.asyncio.specs.declared.Task.{Task}
-use Rattle.asyncio.specs.declared.Place.{Place}
 use Rattle.asyncio.specs.declared.Header.{Header}
 use Rattle.asyncio.specs.declared.Moment.{Moment}
 use Rattle.asyncio.specs.Limits.{task-limit}
@@ -24,14 +24,13 @@ use Rattle.asyncio.specs.Ranges.{HeaderFits}
 use Rattle.asyncio.specs.Numbers.{heap-id, task-id}
 use Rattle.asyncio.specs.States.{pick}
 use Rattle.asyncio.specs.Kinds.{kind}
-use Rattle.machine.specs.Store.{Store, view, object, place, header, put-task, put-object, put-place, put-header, put-queue, set-next, note}
+use Rattle.machine.specs.Store.{Store, view, object, place, header, put-task, put-header, put-queue, set-next, note}
 use Rattle.machine.specs.Scheduler.{AwaitedGather, as-awaited, driver, push-ready, spawn-as, spawn-unless, spawn}
 use Rattle.machine.specs.Commit.{Poll, ready, raised, pending, Polled, gives, await-pending, await-external, Item, polled, nested, polled-spawn, item-coroutine, item-gather, item-object, open-from, item}
 use Rattle.machine.specs.Commit.{open-place, fill-place, Stop, at-end, at-nested, at-error, put-polled, put-item, step-item, step-items, Frame, step-gather-commit, set-gather, open-gather-commit}
 use Rattle.machine.specs.Commit.{settle-as, settle-gather-commit, resume-in, resume-as, resume-after-child, unwind, Committed, turn, commit-loop, commit-gather-tree}
 use Rattle.laws.specs.Views.{Sized}
-use Rattle.laws.specs.StoreLaws.{sized-put-place, sized-put-task, place-put-other, header-put-object, header-put-header, header-fits, object-put-other}
-use Rattle.rows.specs.Tables.{header-at}
+use Rattle.laws.specs.StoreLaws.{sized-put-task, header-fits, object-put-other}
 use borrow.Author.Tests.{ltb-true}
 use Rattle.laws.specs.SizedLaws.{sized-spawn-as}
 use Rattle.laws.specs.DeliveryLaws.{awaited-object}
@@ -41,39 +40,12 @@ use Rattle.theorems.specs.CommitInv.{OnStack, OnTop, Stacked, above, Inv
 use Rattle.theorems.specs.CommitLoop.{Commits, settle-next}
 use Rattle.theorems.specs.CommitItems.{StopOk, Goes, PollOk, ItemOk, goes-length, inv-count, one-keeps}
 use Rattle.theorems.specs.AwaitGather.{nested-commits, frame-stops, commit-begins}
-use Rattle.theorems.specs.Meanwhile.{SameGather}
-use Rattle.theorems.specs.StoryLaws.{same-refl, same-then, same-words, same-object, same-header, WasCommitted, same-committed, other-than, places-apart}
-
--- the gather g is as it was, and as many objects are made
-pub record Calm (g : ℕ) (s u : Store) : Type 0 where
-  pub same : SameGather s u g
-  pub made : header u .made ≡ header s .made
+use Rattle.theorems.specs.StoryLaws.{Calm, calm-refl, calm-then, calm-words, calm-object, calm-header, calm-place, WasCommitted, same-committed, other-than, places-apart}
 
 module _ (g : ℕ) where
-  calm-refl : (s : Store) → Sized s → Calm g s s
-  calm-refl s z = record { same = same-refl g s z; made = refl }
-
-  calm-then : {s u v : Store} → Calm g s u → Calm g u v → Calm g s v
-  calm-then k l = record { same = same-then g (k .same) (l .same); made = l .made ∙ k .made }
-
-  calm-object : (s : Store) (o : ℕ) (r : Object) → (g ≡ o → ⊥) → Sized s → Calm g s (put-object s o r)
-  calm-object s o r ne z = record { same = same-object g s o r ne z; made = ap (λ (h : Header). h .made) (header-put-object s o r) }
-
   calm-set : (s : Store) (o : ℕ) (x : GatherState) → (g ≡ o → ⊥) → Sized s → Calm g s (set-gather s o x)
   unfolding set-gather
-  calm-set s o x ne z = calm-object s o _ ne z
-
-  calm-place : (s : Store) (p : ℕ) (r : Place) → Sized s → ((f n : ℕ) (x : GatherState) → object s g ≡ Object.GatherFuture f n x → (i : ℕ) → i < n → f + i ≡ p → ⊥)
-      → Calm g s (put-place s p r)
-  calm-place s p r z h =
-      record {
-        same = record {
-          sized = sized-put-place s p r z;
-          same-object = unfold object put-place in refl;
-          same-places = λ f n x e i l. place-put-other s p (f + i) r (h f n x e i l);
-        };
-        made = unfold header put-place in refl;
-      }
+  calm-set s o x ne z = calm-object g s o _ ne z
 
   -- a gather that is not committed yet is opened
   not-yet : (s : Store) (o f n : ℕ) → WasCommitted s g → object s o ≡ Object.GatherFuture f n GatherState.Pending → g ≡ o → ⊥
@@ -86,14 +58,11 @@ module _ (g : ℕ) where
 
   -- a task is spawned
   calm-spawn : (s : Store) (c o : ℕ) → Sized s → header s .next < task-limit → Calm g s (spawn-as s (header s .next) c o)
-  unfolding header
   calm-spawn s c o z l =
-      record {
-        same = same-then g (same-words g s u1 (unfold put-task in refl) (unfold put-task in refl) z1)
-            (same-then g (same-header g u1 h z1) (same-words g (put-header u1 h) (spawn-as s (header s .next) c o) words (unfold spawn-as note push-ready put-queue set-next put-header in refl)
-            (sized-spawn-as s (header s .next) c o z)));
-        made = ap (λ (w : List ℕ). header-at w .made) words ∙ (ap (λ (y : Header). y .made) (header-put-header u1 h z1 fits) ∙ (unfold header put-task in refl));
-      }
+      calm-then g (calm-words g s u1 (unfold put-task in refl) (unfold put-task in refl) z1)
+      (calm-then g (calm-header g u1 h z1 fits (le-refl _))
+      (calm-words g (put-header u1 h) (spawn-as s (header s .next) c o) (unfold spawn-as note push-ready put-queue set-next in refl)
+      (unfold spawn-as note push-ready put-queue set-next put-header in refl) (sized-spawn-as s (header s .next) c o z)))
     where
       row : Task
       row = record { state = TaskState.Unstarted; awaiter = Awaiter.GatherSlot (heap-id o) (heap-id c); coroutine = heap-id c }
@@ -112,9 +81,6 @@ module _ (g : ℕ) where
           let f : HeaderFits (header u1) = header-fits u1 in
           record { made-fits = f .made-fits; used-fits = f .used-fits; calls-fit = f .calls-fit; next-fits = omega arith; moment-fits = f .moment-fits }
 
-      words : spawn-as s (header s .next) c o .objects ≡ put-header u1 h .objects
-      words = unfold spawn-as note push-ready put-queue set-next in refl
-
   -- ---- one item
 
   -- what the item is
@@ -129,9 +95,9 @@ module _ (g : ℕ) where
   StopCalm s (at-error x e) = Calm g s x
 
   stop-then : {s u : Store} (x : Stop) → Calm g s u → StopCalm u x → StopCalm s x
-  stop-then (at-end x) k l = calm-then k l
-  stop-then (at-nested x j q) k l = calm-then k l
-  stop-then (at-error x e) k l = calm-then k l
+  stop-then (at-end x) k l = calm-then g k l
+  stop-then (at-nested x j q) k l = calm-then g k l
+  stop-then (at-error x e) k l = calm-then g k l
 
   -- the gather p on top, whose place i is next
   module _ (root t p : ℕ) (fs : List Frame) (i : ℕ) (s : Store) (mem : Memory s) (h : Inv root t 0 (OnTop p fs) (view s) p i fs) (less : i < h .w .count) (ne : g ≡ p → ⊥)
@@ -151,34 +117,34 @@ module _ (g : ℕ) where
       where
         room : (b : Bool) → ltb (header s .next) task-limit ≡ b → Calm g s (polled-spawn s (pick b (some (spawn-as s (header s .next) o p)) none) .store)
         room true e = unfold polled-spawn in (calm-spawn s o p z (ltb-true (header s .next) task-limit e))
-        room false e = unfold polled-spawn in (calm-refl s z)
+        room false e = unfold polled-spawn in (calm-refl g s z)
 
         by : (d : Option ℕ) → Calm g s (polled-spawn s (spawn-unless s o p d) .store)
-        by (some u) = unfold spawn-unless polled-spawn in (calm-refl s z)
+        by (some u) = unfold spawn-unless polled-spawn in (calm-refl g s z)
         by none = unfold spawn-unless in (room (ltb (header s .next) task-limit) refl)
 
     object-calm : (x : Object) → object s o ≡ x → ItemCalm s (item-object s p o x)
     unfolding item-object item-gather await-external await-pending item-coroutine
-    object-calm Object.Unmade e = calm-refl s z
+    object-calm Object.Unmade e = calm-refl g s z
     object-calm (Object.Coroutine f CoroutineState.New) e = spawns
-    object-calm (Object.Coroutine f CoroutineState.Running) e = calm-refl s z
-    object-calm (Object.Coroutine f CoroutineState.Completed) e = calm-refl s z
-    object-calm (Object.ExternalFuture d (ExternalFutureState.Pending Awaiter.Nobody r)) e = calm-object s o _ (other-than s g o _ c e (unfold kind in (λ y. y))) z
-    object-calm (Object.ExternalFuture d (ExternalFutureState.Pending (Awaiter.Task u) r)) e = calm-refl s z
-    object-calm (Object.ExternalFuture d (ExternalFutureState.Pending (Awaiter.GatherSlot f y) r)) e = calm-refl s z
-    object-calm (Object.ExternalFuture d (ExternalFutureState.Resolved x)) e = calm-refl s z
-    object-calm (Object.ExternalFuture d (ExternalFutureState.Failed x)) e = calm-refl s z
+    object-calm (Object.Coroutine f CoroutineState.Running) e = calm-refl g s z
+    object-calm (Object.Coroutine f CoroutineState.Completed) e = calm-refl g s z
+    object-calm (Object.ExternalFuture d (ExternalFutureState.Pending Awaiter.Nobody r)) e = calm-object g s o _ (other-than s g o _ c e (unfold kind in (λ y. y))) z
+    object-calm (Object.ExternalFuture d (ExternalFutureState.Pending (Awaiter.Task u) r)) e = calm-refl g s z
+    object-calm (Object.ExternalFuture d (ExternalFutureState.Pending (Awaiter.GatherSlot f y) r)) e = calm-refl g s z
+    object-calm (Object.ExternalFuture d (ExternalFutureState.Resolved x)) e = calm-refl g s z
+    object-calm (Object.ExternalFuture d (ExternalFutureState.Failed x)) e = calm-refl g s z
     object-calm (Object.GatherFuture f m GatherState.Pending) e = tt
-    object-calm (Object.GatherFuture f m (GatherState.Awaited a k)) e = calm-refl s z
-    object-calm (Object.GatherFuture f m GatherState.Completed) e = calm-refl s z
-    object-calm (Object.GatherFuture f m (GatherState.Failed x)) e = calm-refl s z
+    object-calm (Object.GatherFuture f m (GatherState.Awaited a k)) e = calm-refl g s z
+    object-calm (Object.GatherFuture f m GatherState.Completed) e = calm-refl g s z
+    object-calm (Object.GatherFuture f m (GatherState.Failed x)) e = calm-refl g s z
 
     item-calm : ItemCalm s (item s p w o)
     unfolding item
     item-calm = by (open-from (place s) w o 0 (w .count))
       where
         by : (b : Bool) → ItemCalm s (pick b (polled (gives s pending)) (item-object s p o (object s o)))
-        by true = calm-refl s z
+        by true = calm-refl g s z
         by false = object-calm (object s o) refl
 
     -- its place is none of g's
@@ -190,25 +156,25 @@ module _ (g : ℕ) where
     put-calm : (go : Store → Stop) → ((y : Store) → Goes root t p fs i (w .count) y → Calm g s y → StopCalm s (go y)) → (x : Item) → ItemOk root t p fs w i o s x → ItemCalm s x
         → StopCalm s (put-item p w i o s x go)
     unfolding put-item
-    put-calm go f nested k l = calm-refl s z
+    put-calm go f nested k l = calm-refl g s z
     put-calm go f (polled r) k l = by (r .poll) k
       where
         by : (q : Poll) → PollOk root t p fs w i (r .store) q → StopCalm s (put-polled p w i (r .store) q go)
-        by (ready v) k = unfold put-polled in (f _ k (calm-then l (unfold fill-place in (calm-place (r .store) (w .first + i) _ (l .same .sized) (apart (r .store) l)))))
+        by (ready v) k = unfold put-polled in (f _ k (calm-then g l (unfold fill-place in (calm-place g (r .store) (w .first + i) _ (l .same .sized) (apart (r .store) l)))))
         by (raised e) k = unfold put-polled in l
-        by pending k = unfold put-polled in (f _ k (calm-then l (unfold open-place in (calm-object (r .store) p _ ne (l .same .sized)))))
+        by pending k = unfold put-polled in (f _ k (calm-then g l (unfold open-place in (calm-object g (r .store) p _ ne (l .same .sized)))))
 
   -- ---- the items of one gather
 
   items-calm : (n : ℕ) (root t p i : ℕ) (fs : List Frame) (s : Store) → Memory s → (h : Inv root t 0 (OnTop p fs) (view s) p i fs) → i + n ≡ h .w .count
       → (g ≡ p → ⊥) → WasCommitted s g → g < header s .made → StopCalm s (step-items n s p i)
   unfolding step-items step-item view
-  items-calm zero root t p i fs s mem h e ne c low = calm-refl s (mem .sized)
+  items-calm zero root t p i fs s mem h e ne c low = calm-refl g s (mem .sized)
   items-calm (suc n) root t p i fs s mem h e ne c low =
       subst (λ (u : Option AwaitedGather). StopCalm s (step-item p i s u (λ x. step-items n x p (i + 1)))) (sym (h .opened .awaited))
       (put-calm root t p fs i s mem h less ne c low (λ x. step-items n x p (i + 1))
       (λ y k l. stop-then (step-items n y p (i + 1)) l (items-calm n root t p (i + 1) fs y (k .memory) (k .inv) (goes-length root t p i fs (h .w .count) n y e k) ne
-      (same-committed g (l .same) c) (subst (λ (m : ℕ). g < m) (sym (l .made)) low))) _ (one-keeps root t p fs i s mem h less) (item-calm root t p fs i s mem h less ne c low))
+      (same-committed g (l .same) c) (omega (arith, l .made, low)))) _ (one-keeps root t p fs i s mem h less) (item-calm root t p fs i s mem h less ne c low))
     where
       less : i < h .w .count
       less = omega arith
@@ -217,10 +183,10 @@ module _ (g : ℕ) where
 
   unwind-calm : (fs : List Frame) (s : Store) (e : Error) → (OnStack fs g → ⊥) → Sized s → Calm g s (unwind s fs e)
   unfolding unwind
-  unwind-calm [] s e off z = calm-refl s z
+  unwind-calm [] s e off z = calm-refl g s z
   unwind-calm (f ∷ fs) s e off z =
       let k : Calm g s (set-gather s (f .gather) (GatherState.Failed e)) = calm-set s (f .gather) (GatherState.Failed e) (λ q. off (inl q)) z in
-      calm-then k (unwind-calm fs (set-gather s (f .gather) (GatherState.Failed e)) e (λ q. off (inr q)) (k .same .sized))
+      calm-then g k (unwind-calm fs (set-gather s (f .gather) (GatherState.Failed e)) e (λ q. off (inr q)) (k .same .sized))
 
   settle-calm : (s : Store) (p : ℕ) → (g ≡ p → ⊥) → Sized s → Calm g s (settle-gather-commit s p .store)
   unfolding settle-gather-commit
@@ -228,10 +194,10 @@ module _ (g : ℕ) where
     where
       done : (b : Bool) → Calm g s (pick b (gives (set-gather s p GatherState.Completed) (ready (Value.List (heap-id p)))) (gives s pending) .store)
       done true = calm-set s p GatherState.Completed ne z
-      done false = calm-refl s z
+      done false = calm-refl g s z
 
       by : (w : Option AwaitedGather) → Calm g s (settle-as s p w .store)
-      by none = unfold settle-as in (calm-refl s z)
+      by none = unfold settle-as in (calm-refl g s z)
       by (some w) = unfold settle-as in (done (eqb (w .open-places) 0))
 
   -- the frame below resumes: what it has is what it had when the one on top was not yet settled
@@ -250,7 +216,7 @@ module _ (g : ℕ) where
   resume-calm : (root t : ℕ) (s : Store) (p i : ℕ) (f : Frame) (fs : List Frame) → Memory s → (h : Inv root t 0 (OnTop p (f ∷ fs)) (view s) p i (f ∷ fs)) → (OnTop p (f ∷ fs) g → ⊥)
       → g < header s .made → Calm g s (resume-after-child f (settle-gather-commit s p))
   unfolding view resume-after-child
-  resume-calm root t s p i f fs mem h off low = calm-then settled (by (h .stack))
+  resume-calm root t s p i f fs mem h off low = calm-then g settled (by (h .stack))
     where
       r : Polled
       r = settle-gather-commit s p
@@ -267,11 +233,11 @@ module _ (g : ℕ) where
           (unfold resume-as in (put (r .poll)))
         where
           put : (q : Poll) → Calm g (r .store) (resume-in (r .store) f w q)
-          put (ready v) = unfold resume-in fill-place in (calm-place (r .store) (w .first + f .next) _ (settled .same .sized)
+          put (ready v) = unfold resume-in fill-place in (calm-place g (r .store) (w .first + f .next) _ (settled .same .sized)
               (λ d n y e i l q. places-apart (h .but) g d n y (f .gather) (w .first) (w .count) _ low (op .made) (sym (settled .same .same-object) ∙ e)
               (awaited-object (object s (f .gather)) w (op .awaited)) ne i (f .next) l lt q))
-          put (raised e) = unfold resume-in in (calm-refl (r .store) (settled .same .sized))
-          put pending = unfold resume-in open-place in (calm-object (r .store) (f .gather) _ ne (settled .same .sized))
+          put (raised e) = unfold resume-in in (calm-refl g (r .store) (settled .same .sized))
+          put pending = unfold resume-in open-place in (calm-object g (r .store) (f .gather) _ ne (settled .same .sized))
 
   -- ---- the commit
 
@@ -285,21 +251,21 @@ module _ (g : ℕ) where
   turn-calm root t loop go s f fs n j k (at-nested x i q) h l off c low =
       let ne : g ≡ q → ⊥ = not-yet x q (h .first) (h .count) (same-committed g (l .same) c) (h .is-new) in
       let opened : Calm g x (open-gather-commit x q (Awaiter.GatherSlot (heap-id (f .gather)) (heap-id q))) = calm-open x q _ ne (l .same .sized) in
-      let all : Calm g s (open-gather-commit x q (Awaiter.GatherSlot (heap-id (f .gather)) (heap-id q))) = calm-then l opened in
-      calm-then all (go _ (record { gather = q; next = 0 }) (record { gather = f .gather; next = i } ∷ fs) (suc n) (suc j) k (nested-commits root t f fs x i q h)
-      (off-nested q i ne) (same-committed g (all .same) c) (subst (λ (m : ℕ). g < m) (sym (all .made)) low))
+      let all : Calm g s (open-gather-commit x q (Awaiter.GatherSlot (heap-id (f .gather)) (heap-id q))) = calm-then g l opened in
+      calm-then g all (go _ (record { gather = q; next = 0 }) (record { gather = f .gather; next = i } ∷ fs) (suc n) (suc j) k (nested-commits root t f fs x i q h)
+      (off-nested q i ne) (same-committed g (all .same) c) (omega (arith, all .made, low)))
     where
       off-nested : (q i : ℕ) → (g ≡ q → ⊥) → OnTop q (record { gather = f .gather; next = i } ∷ fs) g → ⊥
       off-nested q i ne (inl e) = ne e
       off-nested q i ne (inr e) = off e
-  turn-calm root t loop go s f fs n j k (at-error x e) h l off c low = calm-then l (unwind-calm (f ∷ fs) x e off (l .same .sized))
-  turn-calm root t loop go s f [] n j k (at-end x) h l off c low = calm-then l (settle-calm x (f .gather) (λ q. off (inl q)) (l .same .sized))
+  turn-calm root t loop go s f fs n j k (at-error x e) h l off c low = calm-then g l (unwind-calm (f ∷ fs) x e off (l .same .sized))
+  turn-calm root t loop go s f [] n j k (at-end x) h l off c low = calm-then g l (settle-calm x (f .gather) (λ q. off (inl q)) (l .same .sized))
   turn-calm root t loop go s f (p ∷ ps) n j k (at-end x) h l off c low =
       let r : Calm g x (resume-after-child p (settle-gather-commit x (f .gather))) =
-      resume-calm root t x (f .gather) (h .i) p ps (h .memory) (h .inv) off (subst (λ (m : ℕ). g < m) (sym (l .made)) low) in
-      let all : Calm g s (resume-after-child p (settle-gather-commit x (f .gather))) = calm-then l r in
-      calm-then all (go _ (record { gather = p .gather; next = p .next + 1 }) ps (suc n) j (suc k) (settle-next root t x (f .gather) (h .i) p ps (h .memory) (h .inv) (h .end))
-      (λ q. off (inr q)) (same-committed g (all .same) c) (subst (λ (m : ℕ). g < m) (sym (all .made)) low))
+      resume-calm root t x (f .gather) (h .i) p ps (h .memory) (h .inv) off (omega (arith, l .made, low)) in
+      let all : Calm g s (resume-after-child p (settle-gather-commit x (f .gather))) = calm-then g l r in
+      calm-then g all (go _ (record { gather = p .gather; next = p .next + 1 }) ps (suc n) j (suc k) (settle-next root t x (f .gather) (h .i) p ps (h .memory) (h .inv) (h .end))
+      (λ q. off (inr q)) (same-committed g (all .same) c) (omega (arith, all .made, low)))
 
   loop-calm : (fuel root t : ℕ) → LoopCalm root t (commit-loop fuel)
   unfolding commit-loop LoopCalm turn
@@ -316,8 +282,8 @@ module _ (g : ℕ) where
   commit-calm s t h m o f n l q c low =
       let ne : g ≡ o → ⊥ = not-yet s o f n c q in
       let opened : Calm g s (open-gather-commit s o (Awaiter.Task (task-id t))) = calm-open s o _ ne (h .sized) in
-      calm-then opened (loop-calm _ o t (open-gather-commit s o (Awaiter.Task (task-id t))) (record { gather = o; next = 0 }) [] 0 1 0 (commit-begins s t h m o f n l q)
-      (only ne) (same-committed g (opened .same) c) (subst (λ (y : ℕ). g < y) (sym (opened .made)) low))
+      calm-then g opened (loop-calm _ o t (open-gather-commit s o (Awaiter.Task (task-id t))) (record { gather = o; next = 0 }) [] 0 1 0 (commit-begins s t h m o f n l q)
+      (only ne) (same-committed g (opened .same) c) (omega (arith, opened .made, low)))
     where
       only : (g ≡ o → ⊥) → OnTop o [] g → ⊥
       only ne (inl e) = ne e

@@ -4,6 +4,7 @@ use mathlib.Core.Bool.{Bool, true, false}
 use mathlib.Core.List.{List, [], _∷_, _++_}
 use mathlib.Core.Option.{Option, none, some}
 use Prim.Native.Nat.{ℕ, zero, suc, _+_, _≤_, _<_}
+use native.Mathlib.Nat.{le-refl}
 use native.Mathlib.Omega.{arith}
 use native.Mathlib.Decide.{ℕ-discrete, decLt}
 use lib.Dec.{T, eqb, eqb→eq}
@@ -15,18 +16,19 @@ use Rattle.asyncio.specs.declared.TaskState.{TaskState}
 use Rattle.asyncio.specs.declared.GatherState.{GatherState}
 use Rattle.asyncio.specs.declared.Object.{Object}
 use Rattle.asyncio.specs.declared.Kind.{Kind}
+use Rattle.asyncio.specs.declared.Place.{Place}
 use Rattle.asyncio.specs.declared.Header.{Header}
 use Rattle.asyncio.specs.Limits.{object-limit, places-length}
-use Rattle.asyncio.specs.Ranges.{ErrorFits}
+use Rattle.asyncio.specs.Ranges.{ErrorFits, HeaderFits}
 use Rattle.asyncio.specs.RangeLaws.{pick-has}
 use Rattle.asyncio.specs.Numbers.{heap-id}
 use Rattle.asyncio.specs.States.{is-blocked}
 use Rattle.asyncio.specs.Kinds.{kind, is-committed}
 use Rattle.asyncio.specs.Parts.{count-of}
-use Rattle.rows.specs.Tables.{object-at, place-at}
+use Rattle.rows.specs.Tables.{object-at, place-at, header-at}
 use Rattle.rows.specs.TableLaws.{place-at-other}
 use Rattle.machine.specs.Tests.{sum-below}
-use Rattle.machine.specs.Store.{Store, View, view, task, object, place, header, put-task, put-object, put-header, put-places, put-queue, set-state, note, reached}
+use Rattle.machine.specs.Store.{Store, View, view, task, object, place, header, put-task, put-object, put-place, put-header, put-places, put-queue, set-state, note, reached}
 use Rattle.machine.specs.Scheduler.{AwaitedGather, as-awaited, bit, make-ready, push-ready}
 use Rattle.machine.specs.Delivery.{Delivery, nobody-woken, deliver-to-task, Filled, fill-one, fill-from, Settled, resolve-left, resolve-awaited, resolve-child, fail-awaited, fail-gather, climb, awaited-count}
 use Rattle.machine.specs.Delivery.{send-value, climb-value, deliver-awaiter-success, send-error, climb-error, deliver-awaiter-failure}
@@ -35,9 +37,9 @@ use Rattle.machine.specs.Sound.{object-in-range, places-below}
 use Rattle.laws.specs.Views.{Sized}
 use Rattle.laws.specs.Facts.{Slotted, SoundBut, Nothing}
 use Rattle.laws.specs.TestLaws.{both-left, sum-last, sum-more}
-use Rattle.laws.specs.StoreLaws.{sized-put-object, sized-put-header, sized-put-places, sized-put-queue, sized-note, sized-set-state, kind-put-object, object-put-object, object-put-other, object-put-header}
+use Rattle.laws.specs.StoreLaws.{sized-put-place, place-put-other, header-put-object, header-put-header, sized-put-object, sized-put-header, sized-put-places, sized-put-queue, sized-note, sized-set-state, kind-put-object, object-put-object, object-put-other, object-put-header}
 use Rattle.laws.specs.MakingLaws.{value-fits}
-use Rattle.laws.specs.DeliveryLaws.{absurd-some, awaited-object, awaited-fits, length-fill-from}
+use Rattle.laws.specs.DeliveryLaws.{absurd-some, awaited-object, awaited-fits, length-fill-from, resolve-sent}
 use Rattle.theorems.specs.Stores.{Mid}
 use Rattle.theorems.specs.Deliver.{task-slot, Flight, landed, ErrorRises, error-sends}
 use Rattle.theorems.specs.Fill.{ValueRises, value-sends}
@@ -86,6 +88,41 @@ module _ (g : ℕ) where
       → SameGather s (put-places s ps) g
   unfolding place put-places object
   same-places s ps l z h = record { sized = sized-put-places s ps l z; same-object = refl; same-places = h }
+
+-- the gather g is as it was, and no object is lost
+pub record Calm (g : ℕ) (s u : Store) : Type 0 where
+  pub same : SameGather s u g
+  pub made : header s .made ≤ header u .made
+
+module _ (g : ℕ) where
+  pub calm-refl : (s : Store) → Sized s → Calm g s s
+  calm-refl s z = record { same = same-refl g s z; made = le-refl _ }
+
+  pub calm-then : {s u v : Store} → Calm g s u → Calm g u v → Calm g s v
+  calm-then k l = record { same = same-then g (k .same) (l .same); made = omega (arith, k .made, l .made) }
+
+  pub calm-words : (s u : Store) → u .objects ≡ s .objects → u .places ≡ s .places → Sized u → Calm g s u
+  unfolding header
+  calm-words s u e q z = record { same = same-words g s u e q z; made = omega (arith, ap (λ (w : List ℕ). header-at w .made) e) }
+
+  pub calm-object : (s : Store) (o : ℕ) (r : Object) → (g ≡ o → ⊥) → Sized s → Calm g s (put-object s o r)
+  calm-object s o r ne z = record { same = same-object g s o r ne z; made = omega (arith, ap (λ (h : Header). h .made) (header-put-object s o r)) }
+
+  pub calm-header : (s : Store) (h : Header) → Sized s → HeaderFits h → header s .made ≤ h .made → Calm g s (put-header s h)
+  calm-header s h z f l = record { same = same-header g s h z; made = omega (arith, ap (λ (y : Header). y .made) (header-put-header s h z f)) }
+
+  -- a place of none of its own is written
+  pub calm-place : (s : Store) (p : ℕ) (r : Place) → Sized s → ((f n : ℕ) (x : GatherState) → object s g ≡ Object.GatherFuture f n x → (i : ℕ) → i < n → f + i ≡ p → ⊥)
+      → Calm g s (put-place s p r)
+  calm-place s p r z h =
+      record {
+        same = record {
+          sized = sized-put-place s p r z;
+          same-object = unfold object put-place in refl;
+          same-places = λ f n x e i l. place-put-other s p (f + i) r (h f n x e i l);
+        };
+        made = unfold header put-place in (le-refl _);
+      }
 
 -- the gather was committed
 abbrev pub WasCommitted : Store → ℕ → Type 0
@@ -148,10 +185,10 @@ module _ (g : ℕ) where
   story-then (arrival s y u w x xs k e op f c q) r = arrival s y _ w x _ k e op f c (story-then q r)
 
   pub tale-then : {s u v : Store} → Tale g s u → Tale g u v → Tale g s v
-  tale-then a b = record { arrivals = a .arrivals ++ b .arrivals; story = story-then (a .story) (b .story) }
+  tale-then a b = record { arrivals = a .arrivals ++ b .arrivals; story = story-then (a .story) (b .story); made = omega (arith, a .made, b .made) }
 
-  pub tale-same : {s u : Store} → SameGather s u g → Tale g s u
-  tale-same {s} {u} k = record { arrivals = []; story = ends s u k }
+  pub tale-calm : {s u : Store} → Calm g s u → Tale g s u
+  tale-calm {s} {u} k = record { arrivals = []; story = ends s u (k .same); made = k .made }
 
   arrive-committed : (s : Store) (w : AwaitedGather) (x : Done) → Sized s → g < object-limit → as-awaited (object s g) ≡ some w → WasCommitted (arrive s g x) g
   unfolding arrive
@@ -205,9 +242,13 @@ module _ (g : ℕ) (r : ℕ → Bool) (D : ℕ → Type 0) (hd : Header) (low : 
   slot-limit s o p x fl h = omega (arith, fl .slot p x refl .made, h .kept .but .fits .made-fits)
 
   -- a value goes into another gather
-  other-resolves : (s : Store) (o x : ℕ) (v : Value) → Mid Nothing r D hd s → o < header s .made → (g ≡ o → ⊥) → SameGather s (resolve-child s o x v .store) g
+  other-resolves : (s : Store) (o x : ℕ) (v : Value) → Mid Nothing r D hd s → o < header s .made → (g ≡ o → ⊥) → Calm g s (resolve-child s o x v .store)
   unfolding view
-  other-resolves s o x v h l ne = by (as-awaited (object s o)) refl
+  other-resolves s o x v h l ne =
+      record {
+        same = by (as-awaited (object s o)) refl;
+        made = omega (arith, ap (λ (y : Header). y .made) (resolve-sent s o x v z (omega (arith, l, h .kept .but .fits .made-fits)) .same .same-header));
+      }
     where
       z : Sized s
       z = h .kept .sized
@@ -229,13 +270,13 @@ module _ (g : ℕ) (r : ℕ → Bool) (D : ℕ → Type 0) (hd : Header) (low : 
           left false = unfold resolve-left in (same-then g k (same-object g _ o _ ne (k .sized)))
 
   -- an error fails another gather
-  other-fails : (s : Store) (o : ℕ) (e : Error) → Sized s → (g ≡ o → ⊥) → SameGather s (fail-gather s o e .store) g
+  other-fails : (s : Store) (o : ℕ) (e : Error) → Sized s → (g ≡ o → ⊥) → Calm g s (fail-gather s o e .store)
   unfolding fail-gather
   other-fails s o e z ne = by (as-awaited (object s o))
     where
-      by : (w : Option AwaitedGather) → SameGather s (fail-awaited s o e w .store) g
-      by none = unfold fail-awaited in (same-refl g s z)
-      by (some w) = unfold fail-awaited in (same-object g s o _ ne z)
+      by : (w : Option AwaitedGather) → Calm g s (fail-awaited s o e w .store)
+      by none = unfold fail-awaited in (calm-refl g s z)
+      by (some w) = unfold fail-awaited in (calm-object g s o _ ne z)
 
   -- what goes into a gather g itself is an arrival, if it is awaited
   arrives-at : (s : Store) (o x : ℕ) (y : Outcome Value Error) → Mid Nothing r D hd s → Slotted (header s .made) (object s) (place s) o g x → OutcomeFits y → Came (object s o) o y
@@ -252,10 +293,11 @@ module _ (g : ℕ) (r : ℕ → Bool) (D : ℕ → Type 0) (hd : Header) (low : 
       sized-then = arrive-same s g d (h .kept .sized) (limit s h) .sized
 
       by : (w : Option AwaitedGather) → as-awaited (object s g) ≡ w → Tale g s (arrive-by s g x y)
-      by none e = subst (Tale g s) (sym (settled-stays s g x y e)) (tale-same g (same-refl g s (h .kept .sized)))
+      by none e = subst (Tale g s) (sym (settled-stays s g x y e)) (tale-calm g (calm-refl g s (h .kept .sized)))
       by (some w) e = unfold arrive in (record {
         arrivals = d ∷ [];
         story = arrival s s (arrive s g d) w d [] (same-refl g s (h .kept .sized)) e (slot-registered sl w e) f came-x (ends (arrive s g d) (arrive s g d) (same-refl g (arrive s g d) sized-then));
+        made = omega (arith, ap (λ (h : Header). h .made) (arrive-same s g d (h .kept .sized) (limit s h) .same-header));
       })
 
   -- a value goes into the gather of its slot
@@ -275,7 +317,7 @@ module _ (g : ℕ) (r : ℕ → Bool) (D : ℕ → Type 0) (hd : Header) (low : 
           subst (λ (j : ℕ). Tale g s (resolve-child s j x v .store)) q
           (unfold arrive-by in (arrives-at s o x (returned v) h (subst (λ (j : ℕ). Slotted (header s .made) (object s) (place s) o j x) (sym q) sl)
           (value-fits (header s .made) (object s) v (h .kept .but .fits .made-fits) (i .known)) came))
-      by (no ne) = tale-same g (other-resolves s p x v h (sl .made) ne)
+      by (no ne) = tale-calm g (other-resolves s p x v h (sl .made) ne)
 
   -- the gather has its list, if it sends it on
   list-came : (s : Store) (p x : ℕ) (v : Value) → Sized s → p < object-limit → (b : Awaiter) → resolve-child s p x v .onward ≡ some b
@@ -316,7 +358,7 @@ module _ (g : ℕ) (r : ℕ → Bool) (D : ℕ → Type 0) (hd : Header) (low : 
       by (yes q) =
           subst (λ (j : ℕ). Tale g s (fail-gather s j e .store)) q
           (unfold arrive-by in (arrives-at s o x (raised e) h (subst (λ (j : ℕ). Slotted (header s .made) (object s) (place s) o j x) (sym q) sl) k came))
-      by (no ne) = tale-same g (other-fails s p e (h .kept .sized) ne)
+      by (no ne) = tale-calm g (other-fails s p e (h .kept .sized) ne)
 
   -- the gather has failed with it, if it sends it on
   error-came : (s : Store) (p : ℕ) (e : Error) → ErrorFits e → Sized s → p < object-limit → (b : Awaiter) → fail-gather s p e .onward ≡ some b
@@ -330,13 +372,13 @@ module _ (g : ℕ) (r : ℕ → Bool) (D : ℕ → Type 0) (hd : Header) (low : 
 
   -- ---- up the gathers
 
-  to-task-same : (s : Store) (t : ℕ) (x : TaskState) → Sized s → SameGather s (deliver-to-task s t x .store) g
+  to-task-calm : (s : Store) (t : ℕ) (x : TaskState) → Sized s → Calm g s (deliver-to-task s t x .store)
   unfolding deliver-to-task nobody-woken
-  to-task-same s t x z =
-      pick-has (λ (d : Delivery). SameGather s (d .store) g) (is-blocked (task s t .state))
-      (unfold make-ready push-ready in (same-words g s _ (unfold note put-queue set-state put-task in refl) (unfold note put-queue set-state put-task in refl)
+  to-task-calm s t x z =
+      pick-has (λ (d : Delivery). Calm g s (d .store)) (is-blocked (task s t .state))
+      (unfold make-ready push-ready in (calm-words g s _ (unfold note put-queue set-state put-task in refl) (unfold note put-queue set-state put-task in refl)
       (sized-note _ (reached t) (sized-put-queue _ _ (sized-set-state s t x z)))))
-      (same-refl g s z)
+      (calm-refl g s z)
 
   climb-tells : (go : Store → Awaiter → Delivery) (s : Store) (y : Settled) → Tale g s (y .store) → ((b : Awaiter) → y .onward ≡ some b → Tale g (y .store) (go (y .store) b .store))
       → Tale g s (climb go (y .store) (y .onward) .store)
@@ -350,8 +392,8 @@ module _ (g : ℕ) (r : ℕ → Bool) (D : ℕ → Type 0) (hd : Header) (low : 
       → ((s : Store) (o : ℕ) (a : Awaiter) (v : Value) → ValueRises r D hd o v s a → Came (object s o) o (returned v) → Tale g s (go s a v .store))
       → (s : Store) (o : ℕ) (a : Awaiter) (v : Value) → ValueRises r D hd o v s a → Came (object s o) o (returned v) → Tale g s (send-value go s a v .store)
   unfolding send-value
-  send-value-tells go f s o Awaiter.Nobody v i came = unfold nobody-woken in (tale-same g (same-refl g s (i .mid .kept .sized)))
-  send-value-tells go f s o (Awaiter.Task t) v i came = tale-same g (to-task-same s (t .0) (TaskState.Woken v) (i .mid .kept .sized))
+  send-value-tells go f s o Awaiter.Nobody v i came = unfold nobody-woken in (tale-calm g (calm-refl g s (i .mid .kept .sized)))
+  send-value-tells go f s o (Awaiter.Task t) v i came = tale-calm g (to-task-calm s (t .0) (TaskState.Woken v) (i .mid .kept .sized))
   send-value-tells go f s o (Awaiter.GatherSlot p x) v i came =
       climb-tells (λ y a. go y a (Value.List p)) s (resolve-child s (p .0) (x .0) v) (value-tells s o (p .0) (x .0) v i came)
       (λ b e. f _ (p .0) b (Value.List p) (value-sends r D hd s o (p .0) (x .0) v i .rises b e)
@@ -359,7 +401,7 @@ module _ (g : ℕ) (r : ℕ → Bool) (D : ℕ → Type 0) (hd : Header) (low : 
 
   climb-value-tells : (n : ℕ) (s : Store) (o : ℕ) (a : Awaiter) (v : Value) → ValueRises r D hd o v s a → Came (object s o) o (returned v) → Tale g s (climb-value n s a v .store)
   unfolding climb-value
-  climb-value-tells zero s o a v i came = unfold nobody-woken in (tale-same g (same-refl g s (i .mid .kept .sized)))
+  climb-value-tells zero s o a v i came = unfold nobody-woken in (tale-calm g (calm-refl g s (i .mid .kept .sized)))
   climb-value-tells (suc n) s o a v i came = send-value-tells (λ y b w. climb-value n y b w) (λ y p b w j c. climb-value-tells n y p b w j c) s o a v i came
 
   -- A value of object o goes to its awaiter.
@@ -372,8 +414,8 @@ module _ (g : ℕ) (r : ℕ → Bool) (D : ℕ → Type 0) (hd : Header) (low : 
         → ((s : Store) (o : ℕ) (a : Awaiter) → ErrorRises r D hd o s a → Came (object s o) o (raised e) → Tale g s (go s a e .store))
         → (s : Store) (o : ℕ) (a : Awaiter) → ErrorRises r D hd o s a → Came (object s o) o (raised e) → Tale g s (send-error go s a e .store)
     unfolding send-error
-    send-error-tells go f s o Awaiter.Nobody i came = unfold nobody-woken in (tale-same g (same-refl g s (i .mid .kept .sized)))
-    send-error-tells go f s o (Awaiter.Task t) i came = tale-same g (to-task-same s (t .0) (TaskState.Raised e) (i .mid .kept .sized))
+    send-error-tells go f s o Awaiter.Nobody i came = unfold nobody-woken in (tale-calm g (calm-refl g s (i .mid .kept .sized)))
+    send-error-tells go f s o (Awaiter.Task t) i came = tale-calm g (to-task-calm s (t .0) (TaskState.Raised e) (i .mid .kept .sized))
     send-error-tells go f s o (Awaiter.GatherSlot p x) i came =
         climb-tells (λ y a. go y a e) s (fail-gather s (p .0) e) (error-tells s o (p .0) (x .0) e k i came)
         (λ b q. f _ (p .0) b (error-sends r D hd e k s o (p .0) (x .0) i .rises b q)
@@ -381,7 +423,7 @@ module _ (g : ℕ) (r : ℕ → Bool) (D : ℕ → Type 0) (hd : Header) (low : 
 
     climb-error-tells : (n : ℕ) (s : Store) (o : ℕ) (a : Awaiter) → ErrorRises r D hd o s a → Came (object s o) o (raised e) → Tale g s (climb-error n s a e .store)
     unfolding climb-error
-    climb-error-tells zero s o a i came = unfold nobody-woken in (tale-same g (same-refl g s (i .mid .kept .sized)))
+    climb-error-tells zero s o a i came = unfold nobody-woken in (tale-calm g (calm-refl g s (i .mid .kept .sized)))
     climb-error-tells (suc n) s o a i came = send-error-tells (λ y b w. climb-error n y b w) (λ y p b j c. climb-error-tells n y p b j c) s o a i came
 
     -- An error of object o goes there.
