@@ -51,6 +51,8 @@ pub mod StorySessions
 pub mod StoryGathers
 pub mod Alike
 pub mod AlikeLaws
+pub mod AlikeItems
+pub mod AlikeCommit
 pub mod NoPanicPlaces
 pub mod Bounds
 pub mod BoundLaws
