@@ -53,6 +53,9 @@ pub mod Alike
 pub mod AlikeLaws
 pub mod AlikeItems
 pub mod AlikeCommit
+pub mod Still
+pub mod AlikeSessions
+pub mod AlikeEvents
 pub mod NoPanicPlaces
 pub mod Bounds
 pub mod BoundLaws
