@@ -33,7 +33,7 @@ use Rattle.laws.specs.Views.{Sized, with-object}
 use Rattle.laws.specs.Facts.{Nothing}
 use Rattle.laws.specs.StoreLaws.{update-same, object-put-object, object-put-other, kind-put-object, header-put-object, header-fits, object-fits, sized-put-object}
 use Rattle.laws.specs.DeliveryLaws.{absurd-some, awaited-object, awaited-fits}
-use Rattle.theorems.specs.ClearLaws.{none-set}
+use Rattle.theorems.specs.Bits.{none-set}
 use Rattle.theorems.specs.Stores.{Whole}
 use Rattle.theorems.specs.Fill.{gather-within, open-small}
 use Rattle.theorems.specs.Exits.{runner-low}

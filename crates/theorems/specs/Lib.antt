@@ -18,7 +18,6 @@ pub mod AwaitGather
 pub mod Preserved
 pub mod Sessions
 pub mod NeverUnsound
-pub mod ClearLaws
 pub mod FillLaws
 pub mod GatherLaws
 pub mod Asyncio
