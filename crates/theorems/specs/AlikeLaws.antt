@@ -6,6 +6,7 @@ use Prim.Native.Nat.{ℕ, _+_, _^_, _≤_, _<_}
 use native.Mathlib.Nat.{not-suc-le-zero}
 use native.Mathlib.Omega.{arith}
 use native.Mathlib.Decide.{ℕ-discrete}
+use lib.Dec.{T}
 use Rattle.asyncio.specs.declared.Value.{Value}
 use Rattle.asyncio.specs.declared.OptionValue.{OptionValue}
 use Rattle.asyncio.specs.declared.GatherState.{GatherState}
@@ -14,6 +15,7 @@ use Rattle.asyncio.specs.declared.Place.{Place}
 use Rattle.asyncio.specs.Limits.{object-limit, place-limit}
 use Rattle.asyncio.specs.Ranges.{ValueFits}
 use Rattle.asyncio.specs.States.{pick}
+use Rattle.asyncio.specs.Kinds.{kind, is-committed}
 use Rattle.machine.specs.Store.{Store, object, place, put-object, put-place}
 use Rattle.machine.specs.Scheduler.{AwaitedGather, as-awaited, bit}
 use Rattle.machine.specs.Commit.{open-place, fill-place}
@@ -31,9 +33,14 @@ use Rattle.theorems.specs.Alike.{Alike, at-once, Level}
 
 -- ---- what gives a value at once
 
-not-awaited : (x : Object) (w : AwaitedGather) (o : ℕ) (v : Value) → as-awaited x ≡ some w → at-once x o ≡ some v → ⊥
+pub not-awaited : (x : Object) (w : AwaitedGather) (o : ℕ) (v : Value) → as-awaited x ≡ some w → at-once x o ≡ some v → ⊥
 unfolding at-once
 not-awaited x w o v e q = absurd-some (subst (λ (y : Object). at-once y o ≡ some v) (awaited-object x w e) q)
+
+-- an awaited gather was committed
+pub awaited-committed : (x : Object) (w : AwaitedGather) → as-awaited x ≡ some w → T (is-committed (kind x))
+unfolding kind
+awaited-committed x w e = subst (λ (y : Object). T (is-committed (kind y))) (sym (awaited-object x w e)) tt
 
 -- ---- a level that is left alone
 
@@ -144,7 +151,7 @@ module _ (s : Store) (p i : ℕ) (w : AwaitedGather) (a : Level s p i w) (l : i 
           subst (λ (y : Place). at-once (object u (y .item .0)) (y .item .0) ≡ some (value-in (y .result))) (sym (elsewhere j ne)) (unfold object put-place in (a .values j (omega arith) b))
 
   -- it is opened, where every earlier place of its item is open
-  abbrev wide : AwaitedGather
+  abbrev pub wide : AwaitedGather
   wide = record { first = w .first; count = w .count; awaiter = w .awaiter; open-places = wider w i }
 
   wider-other : (k : ℕ) → (k ≡ i → ⊥) → bit (wider w i) k ≡ bit (w .open-places) k

@@ -29,7 +29,7 @@ use Rattle.laws.specs.Statements.{SameLive}
 use Rattle.laws.specs.TestLaws.{and-true}
 use Rattle.laws.specs.StoreLaws.{sized-put-places, object-put-object}
 use Rattle.laws.specs.DeliveryLaws.{awaited-object, awaited-fits, length-fill-from, resolve-sent, fail-sent, same-live}
-use Rattle.theorems.specs.ClearLaws.{SetBelow, has-set, none-set}
+use Rattle.theorems.specs.Bits.{SetBelow, has-set, none-set}
 use Rattle.theorems.specs.FillLaws.{hit, Stays, Fills, fill-stays, fill-fills, fill-less}
 use Rattle.theorems.specs.GatherLaws.{outcome-kept, outcome-after, outcome-one, raised-kept, none-raised-yet, raised-first, in-order-waits, listed-waiting, gather-lists, gather-raises}
 use Rattle.theorems.specs.Asyncio.{Done, value-in, item-at, items-from, values-from, items-in, items-of, seen-of, gathered, arrive-by, arrive, arrive-all, OutcomeFits, Arrives, ArriveOnce, AllOpen, Waits, Lists, Fails, Mid, still-waits, has-listed, has-failed}

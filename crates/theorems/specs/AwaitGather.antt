@@ -130,7 +130,7 @@ error-keeps root t f fs s e h =
     (record { memory = h .memory; after = after-of root t 0 (OnTop (f .gather) fs) (view s) (f .gather) (h .i) fs (h .inv) })
 
 -- a gather that is not committed yet is opened in a store
-opened-in : (s : Store) (o f n : ℕ) (a : Awaiter) → Memory s → o < header s .made → object s o ≡ Object.GatherFuture f n GatherState.Pending
+pub opened-in : (s : Store) (o f n : ℕ) (a : Awaiter) → Memory s → o < header s .made → object s o ≡ Object.GatherFuture f n GatherState.Pending
     → ObjectFits (Object.GatherFuture f n (GatherState.Awaited a 0))
     → Memory (open-gather-commit s o a) × (view (open-gather-commit s o a) ≡ with-object (view s) o (Object.GatherFuture f n (GatherState.Awaited a 0)))
 unfolding open-gather-commit set-gather with-state

@@ -28,7 +28,7 @@ unfoldable pub done-before : Store → AwaitedGather → List Done
 done-before s w = done-from s (w .first) (w .open-places) 0 (w .count)
 
 -- A place is open, and no bit stands behind the places: both are clauses of soundness (PremiseLaws). Two places that name the same item are
--- both open, or both closed with the same value: this is no clause of soundness, and that a commit leaves it so is not proved.
+-- both open, or both closed with the same value: this is no clause of soundness, but it holds in every session (`session-alike`).
 pub record SomeOpen (s : Store) (w : AwaitedGather) : Type 0 where
   pub some-open : w .open-places ≡ 0 → ⊥
   pub no-other : w .open-places < 2 ^ (w .count)

@@ -1,11 +1,12 @@
--- Bits of an open word: one bit cleared or set, and the others as they were.
+-- Bits of an open word: one bit cleared or set, and the others as they were; a word with no bit set is 0.
 use mathlib.Core.Path.{_≡_, refl, ap, sym, _∙_}
 use mathlib.Core.Bool.{Bool, true, false, not}
 use Prim.Native.Nat.{ℕ, zero, suc, _+_, _-_, _*_, _/_, _%_, _^_, _<_}
 use native.Mathlib.Nat.{not-suc-le-zero, div-div-eq-div-mul, pow-succ'}
 use native.Mathlib.Omega.{arith}
 use lib.Dec.{eqb}
-use borrow.Author.Tests.{eqb-true, eqb-false, ne-eqb}
+use native.Mathlib.Decide.{ℕ-discrete}
+use borrow.Author.Tests.{eqb-true, eqb-false, eq-eqb, ne-eqb}
 use Rattle.machine.specs.Scheduler.{bit}
 use Rattle.laws.specs.BitLaws.{bit-le}
 
@@ -55,6 +56,13 @@ bit-clear (suc i) m (suc j) e ne =
     let q : (m - 2 ^ suc i) / 2 ≡ m / 2 - 2 ^ i = omega arith in
     bit-suc (m - 2 ^ suc i) j ∙ ap (λ (n : ℕ). bit n j) q ∙ bit-clear i (m / 2) j (sym (bit-suc m i) ∙ e) (λ p. ne (ap suc p)) ∙ sym (bit-suc m j)
 
+pub cleared : (i m : ℕ) → bit m i ≡ true → bit (m - 2 ^ i) i ≡ false
+cleared zero m e = ap not (eq-eqb ((m - 2 ^ 0) / 2 ^ 0 % 2) 0 (omega (arith, odd-low m e)))
+cleared (suc i) m e =
+    let d : 2 ^ suc i ≡ 2 * 2 ^ i = pow-succ' 2 i in
+    let q : (m - 2 ^ suc i) / 2 ≡ m / 2 - 2 ^ i = omega arith in
+    bit-suc (m - 2 ^ suc i) i ∙ ap (λ (n : ℕ). bit n i) q ∙ cleared i (m / 2) (sym (bit-suc m i) ∙ e)
+
 -- ---- bit i is set
 
 pub bit-set-other : (i m j : ℕ) → bit m i ≡ false → (j ≡ i → ⊥) → bit (m + 2 ^ i) j ≡ bit m j
@@ -84,9 +92,27 @@ bit-set-small (suc i) (suc n) m l s e =
     let d2 : 2 ^ suc i ≡ 2 * 2 ^ i = pow-succ' 2 i in
     omega (arith, bit-set-small i n (m / 2) (omega arith) (omega arith) (sym (bit-suc m i) ∙ e))
 
--- a word with no bit is 0
-pub no-bits : (n m : ℕ) → m < 2 ^ n → ((i : ℕ) → i < n → bit m i ≡ false) → m ≡ 0
-no-bits zero m l h = omega arith
-no-bits (suc n) m l h =
-    let d : 2 ^ suc n ≡ 2 * 2 ^ n = pow-succ' 2 n in
-    omega (arith, even-low m (h 0 (omega arith)), no-bits n (m / 2) (omega arith) (λ i k. sym (bit-suc m i) ∙ h (suc i) (omega arith)))
+-- ---- a word of n bits
+
+-- a bit below n that is set
+pub record SetBelow (n m : ℕ) : Type 0 where
+  pub at : ℕ
+  pub under : at < n
+  pub is-set : bit m at ≡ true
+
+-- a word of n bits that is not 0 has one set
+pub has-set : (n m : ℕ) → m < 2 ^ n → (m ≡ 0 → ⊥) → SetBelow n m
+has-set zero m l ne = absurd (ne (omega (arith, l)))
+has-set (suc n) m l ne = by (ℕ-discrete (m % 2) 0) (λ k ze. has-set n (m / 2) k ze)
+  where
+    higher : SetBelow n (m / 2) → SetBelow (suc n) m
+    higher h = record { at = suc (h .at); under = omega (arith, h .under); is-set = bit-suc m (h .at) ∙ h .is-set }
+
+    by : Dec (m % 2 ≡ 0) → (m / 2 < 2 ^ n → (m / 2 ≡ 0 → ⊥) → SetBelow n (m / 2)) → SetBelow (suc n) m
+    by (no odd) go = record { at = 0; under = omega arith; is-set = ap not (ne-eqb (m / 2 ^ 0 % 2) 0 (λ q. odd (omega arith))) }
+    by (yes even) go = higher (go (omega (arith, l, pow-succ' 2 n)) (λ q. ne (omega (arith, q, even))))
+
+-- 0 has none
+pub none-set : (i : ℕ) → bit 0 i ≡ false
+none-set zero = ap not (eq-eqb (0 / 2 ^ 0 % 2) 0 (omega arith))
+none-set (suc i) = bit-suc 0 i ∙ none-set i

@@ -21,7 +21,7 @@ use Rattle.machine.specs.Scheduler.{bit}
 use Rattle.machine.specs.Delivery.{Filled, filled, fill-one, fill-from}
 use Rattle.laws.specs.TestLaws.{and-true}
 use Rattle.laws.specs.DeliveryLaws.{length-fill-from}
-use Rattle.theorems.specs.ClearLaws.{cleared, others-stay}
+use Rattle.theorems.specs.Bits.{bit-clear, cleared}
 
 -- place p with the value
 abbrev pub with-value : List ℕ → ℕ → Value → Place
@@ -75,7 +75,7 @@ one-stays ps m first i source j v ne = by (hit ps m first source i) refl
     by : (b : Bool) → hit ps m first source i ≡ b → Stays ps m first j (fill-one ps m (first + i) i source v)
     by true h = rw (one-by-hit ps m first i source v, h) (record {
       same-place = place-at-other ps (first + i) (first + j) _ (λ q. apart h (omega (arith, q)));
-      same-bit = others-stay i j m (and-true _ _ h .0) (apart h);
+      same-bit = bit-clear i m j (and-true _ _ h .0) (apart h);
     })
     by false h = rw (one-misses ps m first i source v h) (record { same-place = refl; same-bit = refl })
 

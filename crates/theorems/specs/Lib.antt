@@ -18,7 +18,6 @@ pub mod AwaitGather
 pub mod Preserved
 pub mod Sessions
 pub mod NeverUnsound
-pub mod ClearLaws
 pub mod FillLaws
 pub mod GatherLaws
 pub mod Asyncio
@@ -51,6 +50,11 @@ pub mod StorySessions
 pub mod StoryGathers
 pub mod Alike
 pub mod AlikeLaws
+pub mod AlikeItems
+pub mod AlikeCommit
+pub mod Still
+pub mod AlikeSessions
+pub mod AlikeEvents
 pub mod NoPanicPlaces
 pub mod Bounds
 pub mod BoundLaws

@@ -48,7 +48,7 @@ use Rattle.laws.specs.SoundLaws.{pass}
 use Rattle.laws.specs.DeliveryLaws.{absurd-some, awaited-object}
 use Rattle.theorems.specs.Stores.{Kept, Runs, Mid, Whole}
 use Rattle.theorems.specs.Deliver.{Flight}
-use Rattle.theorems.specs.ClearLaws.{none-set}
+use Rattle.theorems.specs.Bits.{none-set}
 use Rattle.theorems.specs.Fill.{all-filled}
 use Rattle.theorems.specs.Results.{first-below}
 use Rattle.theorems.specs.Cycle.{Spawned, spawned-of, coroutine-is}

@@ -22,7 +22,7 @@ use Rattle.machine.specs.Scheduler.{AwaitedGather, as-awaited, blocked-on}
 use Rattle.machine.specs.Sound.{object-in-range, open-in-range, object-filled, gather-filled, places-below}
 use Rattle.machine.specs.Gather.{Outcome, outcome-of}
 use Rattle.laws.specs.TestLaws.{both-left, both-right, is-false}
-use Rattle.laws.specs.Facts.{Open, Slotted, SoundFacts}
+use Rattle.laws.specs.Facts.{Open, Slotted, SoundBut, Nothing, SoundFacts}
 use Rattle.laws.specs.DeliveryLaws.{absurd-some, awaited-object}
 use Rattle.theorems.specs.Asyncio.{Done, item-at, OutcomeFits, Arrives, Waits}
 use Rattle.theorems.specs.AsyncioLaws.{item-in}
@@ -66,18 +66,18 @@ task-arrives s g aws done w t x y h l v e m f =
 
 -- ---- the gather
 
-pub sound-some-open : (s : Store) (g : ℕ) (w : AwaitedGather) → SoundFacts (view s) → g < header s .made → as-awaited (object s g) ≡ some w → w .open-places ≡ 0 → ⊥
+pub sound-some-open : (s : Store) (g : ℕ) (w : AwaitedGather) → SoundBut 0 Nothing Nothing (view s) → g < header s .made → as-awaited (object s g) ≡ some w → w .open-places ≡ 0 → ⊥
 unfolding view object-filled gather-filled
 sound-some-open s g w h l e =
     let k : T (object-filled (place s) (Object.GatherFuture (w .first) (w .count) (GatherState.Awaited (w .awaiter) (w .open-places)))) =
-    subst (λ (r : Object). T (object-filled (place s) r)) (awaited-object (object s g) w e) (h .but .filled g l (λ z. z)) in
+    subst (λ (r : Object). T (object-filled (place s) r)) (awaited-object (object s g) w e) (h .filled g l (λ z. z)) in
     eqb-false (w .open-places) 0 (is-false (eqb (w .open-places) 0) (both-left _ _ k))
 
-pub sound-no-other : (s : Store) (g : ℕ) (w : AwaitedGather) → SoundFacts (view s) → g < header s .made → as-awaited (object s g) ≡ some w → w .open-places < 2 ^ (w .count)
+pub sound-no-other : (s : Store) (g : ℕ) (w : AwaitedGather) → SoundBut 0 Nothing Nothing (view s) → g < header s .made → as-awaited (object s g) ≡ some w → w .open-places < 2 ^ (w .count)
 unfolding view object-in-range open-in-range
 sound-no-other s g w h l e =
     let k : T (object-in-range (header s) (places-below (object s) g) (Object.GatherFuture (w .first) (w .count) (GatherState.Awaited (w .awaiter) (w .open-places)))) =
-    subst (λ (r : Object). T (object-in-range (header s) (places-below (object s) g) r)) (awaited-object (object s g) w e) (h .but .objects g l) in
+    subst (λ (r : Object). T (object-in-range (header s) (places-below (object s) g) r)) (awaited-object (object s g) w e) (h .objects g l) in
     ltb→lt (w .open-places) (2 ^ (w .count)) (both-right _ _ k)
 
 -- ---- its awaiter

@@ -52,7 +52,7 @@ module _ (g : ℕ) where
   unfolding kind
   not-yet s o f n c e = other-than s g o (Object.GatherFuture f n GatherState.Pending) c e (λ y. y)
 
-  calm-open : (s : Store) (o : ℕ) (a : Awaiter) → (g ≡ o → ⊥) → Sized s → Calm g s (open-gather-commit s o a)
+  pub calm-open : (s : Store) (o : ℕ) (a : Awaiter) → (g ≡ o → ⊥) → Sized s → Calm g s (open-gather-commit s o a)
   unfolding open-gather-commit
   calm-open s o a ne z = calm-set s o (GatherState.Awaited a 0) ne z
 
@@ -84,12 +84,12 @@ module _ (g : ℕ) where
   -- ---- one item
 
   -- what the item is
-  abbrev ItemCalm : Store → Item → Type 0
+  abbrev pub ItemCalm : Store → Item → Type 0
   ItemCalm s nested = Unit {0}
   ItemCalm s (polled r) = Calm g s (r .store)
 
   -- where the walk stops
-  abbrev StopCalm : Store → Stop → Type 0
+  abbrev pub StopCalm : Store → Stop → Type 0
   StopCalm s (at-end x) = Calm g s x
   StopCalm s (at-nested x j q) = Calm g s x
   StopCalm s (at-error x e) = Calm g s x
@@ -100,8 +100,8 @@ module _ (g : ℕ) where
   stop-then (at-error x e) k l = calm-then g k l
 
   -- the gather p on top, whose place i is next
-  module _ (root t p : ℕ) (fs : List Frame) (i : ℕ) (s : Store) (mem : Memory s) (h : Inv root t 0 (OnTop p fs) (view s) p i fs) (less : i < h .w .count) (ne : g ≡ p → ⊥)
-      (c : WasCommitted s g) (low : g < header s .made) where
+  module _ (root t p : ℕ) (fs : List Frame) (i : ℕ) (s : Store) (mem : Memory s) (h : Inv root t 0 (OnTop p fs) (view s) p i fs) (less : i < h .w .count)
+      (c : WasCommitted s g) where
     abbrev w : AwaitedGather
     w = h .w
 
@@ -139,7 +139,7 @@ module _ (g : ℕ) where
     object-calm (Object.GatherFuture f m GatherState.Completed) e = calm-refl g s z
     object-calm (Object.GatherFuture f m (GatherState.Failed x)) e = calm-refl g s z
 
-    item-calm : ItemCalm s (item s p w o)
+    pub item-calm : ItemCalm s (item s p w o)
     unfolding item
     item-calm = by (open-from (place s) w o 0 (w .count))
       where
@@ -148,47 +148,47 @@ module _ (g : ℕ) where
         by false = object-calm (object s o) refl
 
     -- its place is none of g's
-    apart : (x : Store) → Calm g s x → (f n : ℕ) (y : GatherState) → object x g ≡ Object.GatherFuture f n y → (j : ℕ) → j < n → f + j ≡ w .first + i → ⊥
+    apart : (g ≡ p → ⊥) → g < header s .made → (x : Store) → Calm g s x → (f n : ℕ) (y : GatherState) → object x g ≡ Object.GatherFuture f n y → (j : ℕ) → j < n → f + j ≡ w .first + i → ⊥
     unfolding view
-    apart x k f n y e j l q =
+    apart ne low x k f n y e j l q =
         places-apart (h .but) g f n y p (w .first) (w .count) _ low (h .opened .made) (sym (k .same .same-object) ∙ e) (awaited-object (object s p) w (h .opened .awaited)) ne j i l less q
 
-    put-calm : (go : Store → Stop) → ((y : Store) → Goes root t p fs i (w .count) y → Calm g s y → StopCalm s (go y)) → (x : Item) → ItemOk root t p fs w i o s x → ItemCalm s x
+    put-calm : (g ≡ p → ⊥) → g < header s .made → (go : Store → Stop) → ((y : Store) → Goes root t p fs i (w .count) y → Calm g s y → StopCalm s (go y)) → (x : Item) → ItemOk root t p fs w i o s x → ItemCalm s x
         → StopCalm s (put-item p w i o s x go)
     unfolding put-item
-    put-calm go f nested k l = calm-refl g s z
-    put-calm go f (polled r) k l = by (r .poll) k
+    put-calm ne low go f nested k l = calm-refl g s z
+    put-calm ne low go f (polled r) k l = by (r .poll) k
       where
         by : (q : Poll) → PollOk root t p fs w i (r .store) q → StopCalm s (put-polled p w i (r .store) q go)
-        by (ready v) k = unfold put-polled in (f _ k (calm-then g l (unfold fill-place in (calm-place g (r .store) (w .first + i) _ (l .same .sized) (apart (r .store) l)))))
+        by (ready v) k = unfold put-polled in (f _ k (calm-then g l (unfold fill-place in (calm-place g (r .store) (w .first + i) _ (l .same .sized) (apart ne low (r .store) l)))))
         by (raised e) k = unfold put-polled in l
         by pending k = unfold put-polled in (f _ k (calm-then g l (unfold open-place in (calm-object g (r .store) p _ ne (l .same .sized)))))
 
   -- ---- the items of one gather
 
-  items-calm : (n : ℕ) (root t p i : ℕ) (fs : List Frame) (s : Store) → Memory s → (h : Inv root t 0 (OnTop p fs) (view s) p i fs) → i + n ≡ h .w .count
+  pub items-calm : (n : ℕ) (root t p i : ℕ) (fs : List Frame) (s : Store) → Memory s → (h : Inv root t 0 (OnTop p fs) (view s) p i fs) → i + n ≡ h .w .count
       → (g ≡ p → ⊥) → WasCommitted s g → g < header s .made → StopCalm s (step-items n s p i)
   unfolding step-items step-item view
   items-calm zero root t p i fs s mem h e ne c low = calm-refl g s (mem .sized)
   items-calm (suc n) root t p i fs s mem h e ne c low =
       subst (λ (u : Option AwaitedGather). StopCalm s (step-item p i s u (λ x. step-items n x p (i + 1)))) (sym (h .opened .awaited))
-      (put-calm root t p fs i s mem h less ne c low (λ x. step-items n x p (i + 1))
+      (put-calm root t p fs i s mem h less c ne low (λ x. step-items n x p (i + 1))
       (λ y k l. stop-then (step-items n y p (i + 1)) l (items-calm n root t p (i + 1) fs y (k .memory) (k .inv) (goes-length root t p i fs (h .w .count) n y e k) ne
-      (same-committed g (l .same) c) (omega (arith, l .made, low)))) _ (one-keeps root t p fs i s mem h less) (item-calm root t p fs i s mem h less ne c low))
+      (same-committed g (l .same) c) (omega (arith, l .made, low)))) _ (one-keeps root t p fs i s mem h less) (item-calm root t p fs i s mem h less c))
     where
       less : i < h .w .count
       less = omega arith
 
   -- ---- settling and unwinding
 
-  unwind-calm : (fs : List Frame) (s : Store) (e : Error) → (OnStack fs g → ⊥) → Sized s → Calm g s (unwind s fs e)
+  pub unwind-calm : (fs : List Frame) (s : Store) (e : Error) → (OnStack fs g → ⊥) → Sized s → Calm g s (unwind s fs e)
   unfolding unwind
   unwind-calm [] s e off z = calm-refl g s z
   unwind-calm (f ∷ fs) s e off z =
       let k : Calm g s (set-gather s (f .gather) (GatherState.Failed e)) = calm-set s (f .gather) (GatherState.Failed e) (λ q. off (inl q)) z in
       calm-then g k (unwind-calm fs (set-gather s (f .gather) (GatherState.Failed e)) e (λ q. off (inr q)) (k .same .sized))
 
-  settle-calm : (s : Store) (p : ℕ) → (g ≡ p → ⊥) → Sized s → Calm g s (settle-gather-commit s p .store)
+  pub settle-calm : (s : Store) (p : ℕ) → (g ≡ p → ⊥) → Sized s → Calm g s (settle-gather-commit s p .store)
   unfolding settle-gather-commit
   settle-calm s p ne z = by (as-awaited (object s p))
     where
@@ -201,7 +201,7 @@ module _ (g : ℕ) where
       by (some w) = unfold settle-as in (done (eqb (w .open-places) 0))
 
   -- the frame below resumes: what it has is what it had when the one on top was not yet settled
-  settled-other : (s : Store) (p q : ℕ) → (q ≡ p → ⊥) → object (settle-gather-commit s p .store) q ≡ object s q
+  pub settled-other : (s : Store) (p q : ℕ) → (q ≡ p → ⊥) → object (settle-gather-commit s p .store) q ≡ object s q
   unfolding settle-gather-commit
   settled-other s p q ne = by (as-awaited (object s p))
     where
@@ -213,19 +213,16 @@ module _ (g : ℕ) where
       by none = unfold settle-as in refl
       by (some w) = unfold settle-as in (done (eqb (w .open-places) 0))
 
-  resume-calm : (root t : ℕ) (s : Store) (p i : ℕ) (f : Frame) (fs : List Frame) → Memory s → (h : Inv root t 0 (OnTop p (f ∷ fs)) (view s) p i (f ∷ fs)) → (OnTop p (f ∷ fs) g → ⊥)
-      → g < header s .made → Calm g s (resume-after-child f (settle-gather-commit s p))
+  pub resume-calm : (root t : ℕ) (s : Store) (p i : ℕ) (f : Frame) (fs : List Frame) → Memory s → (h : Inv root t 0 (OnTop p (f ∷ fs)) (view s) p i (f ∷ fs)) → (g ≡ p → ⊥)
+      → (g ≡ f .gather → ⊥) → g < header s .made → Calm g s (resume-after-child f (settle-gather-commit s p))
   unfolding view resume-after-child
-  resume-calm root t s p i f fs mem h off low = calm-then g settled (by (h .stack))
+  resume-calm root t s p i f fs mem h off ne low = calm-then g settled (by (h .stack))
     where
       r : Polled
       r = settle-gather-commit s p
 
-      ne : g ≡ f .gather → ⊥
-      ne q = off (inr (inl q))
-
       settled : Calm g s (r .store)
-      settled = settle-calm s p (λ q. off (inl q)) (mem .sized)
+      settled = settle-calm s p off (mem .sized)
 
       by : {a : Awaiter} {k : ℕ} → Stacked (header s .made) (object s) (place s) root t p a (f ∷ fs) k → Calm g (r .store) (resume-as f r (as-awaited (object (r .store) (f .gather))))
       by (above w j op lt nm lo aw rm rest) =
@@ -262,7 +259,7 @@ module _ (g : ℕ) where
   turn-calm root t loop go s f [] n j k (at-end x) h l off c low = calm-then g l (settle-calm x (f .gather) (λ q. off (inl q)) (l .same .sized))
   turn-calm root t loop go s f (p ∷ ps) n j k (at-end x) h l off c low =
       let r : Calm g x (resume-after-child p (settle-gather-commit x (f .gather))) =
-      resume-calm root t x (f .gather) (h .i) p ps (h .memory) (h .inv) off (omega (arith, l .made, low)) in
+      resume-calm root t x (f .gather) (h .i) p ps (h .memory) (h .inv) (λ q. off (inl q)) (λ q. off (inr (inl q))) (omega (arith, l .made, low)) in
       let all : Calm g s (resume-after-child p (settle-gather-commit x (f .gather))) = calm-then g l r in
       calm-then g all (go _ (record { gather = p .gather; next = p .next + 1 }) ps (suc n) j (suc k) (settle-next root t x (f .gather) (h .i) p ps (h .memory) (h .inv) (h .end))
       (λ q. off (inr q)) (same-committed g (all .same) c) (omega (arith, all .made, low)))

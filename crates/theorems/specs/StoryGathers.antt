@@ -27,9 +27,9 @@ use Rattle.theorems.specs.StoryLaws.{WasCommitted}
 use Rattle.theorems.specs.StorySessions.{session-tells}
 
 -- the gather of the awaitables aws after the arrivals of `done` and those of xs, which are of awaitables not done before
-record Told (u : Store) (g : ℕ) (aws : List ℕ) (done xs : List Done) : Type 0 where
-  once : ArriveOnce aws done xs
-  mid : Mid u g aws (done ++ xs)
+pub record Told (u : Store) (g : ℕ) (aws : List ℕ) (done xs : List Done) : Type 0 where
+  pub once : ArriveOnce aws done xs
+  pub mid : Mid u g aws (done ++ xs)
 
 -- what an open place names arrives for the first time
 first-arrives : (s : Store) (g : ℕ) (aws : List ℕ) (done : List Done) (w : AwaitedGather) (x : Done) → Mid s g aws done → as-awaited (object s g) ≡ some w
@@ -39,7 +39,7 @@ first-arrives s g aws done w x (still-waits v h) e op f =
 first-arrives s g aws done w x (has-listed vs h) e op f = absurd-some (sym (h .settled) ∙ e)
 first-arrives s g aws done w x (has-failed v h) e op f = absurd-some (sym (h .settled) ∙ e)
 
-told : {s u : Store} {xs : List Done} (g : ℕ) (aws : List ℕ) (done : List Done) → g < object-limit → Mid s g aws done → Story g s xs u → Told u g aws done xs
+pub told : {s u : Store} {xs : List Done} (g : ℕ) (aws : List ℕ) (done : List Done) → g < object-limit → Mid s g aws done → Story g s xs u → Told u g aws done xs
 told g aws done l h (ends s u k) = record { once = tt; mid = subst (Mid u g aws) (sym (append-nil done)) (mid-same s u g k aws done h) }
 told g aws done l h (arrival s v u w x xs k e op f came r) =
     let m : Mid v g aws done = mid-same s v g k aws done h in

@@ -111,7 +111,7 @@ module _ (g : ℕ) {r : ℕ → Bool} {D : ℕ → Type 0} {hd : Header} (below 
       by false e false false true = fail-tells (x .call) Error.NotFound tt
       by false e false false false = fail-tells (x .call) Error.ModuleFile tt
 
-results-tell : (g : ℕ) {r : ℕ → Bool} {D : ℕ → Type 0} {hd : Header} (xs : List Result) (s : Store) → g < hd .made → AllApply (hd .made) D xs → Mid Nothing r D hd s → WasCommitted s g
+pub results-tell : (g : ℕ) {r : ℕ → Bool} {D : ℕ → Type 0} {hd : Header} (xs : List Result) (s : Store) → g < hd .made → AllApply (hd .made) D xs → Mid Nothing r D hd s → WasCommitted s g
     → Tale g s (apply-future-results s xs)
 unfolding apply-future-results AllApply
 results-tell g [] s below a h c = tale-calm g (calm-refl g s (h .kept .sized))
@@ -122,7 +122,7 @@ results-tell g {D = D} {hd = hd} (x ∷ xs) s below a h c =
 -- ---- the other events
 
 -- the coroutine of a task that completed, when the task is gone
-completed-row : (s : Store) (o t f : ℕ) (y : CoroutineState) → Sized s → o < object-limit → object s o ≡ Object.Coroutine f y
+pub completed-row : (s : Store) (o t f : ℕ) (y : CoroutineState) → Sized s → o < object-limit → object s o ≡ Object.Coroutine f y
     → object (note (remove-task (put-object s o (completed (object s o))) t) (exited t)) o ≡ Object.Coroutine f CoroutineState.Completed
 unfolding object note remove-task remove-from-ready-queue put-queue put-task completed
 completed-row s o t f y z l e =
@@ -133,17 +133,17 @@ module _ (g : ℕ) (s : Store) (h : Whole s) (c : WasCommitted s g) (below : g <
   abbrev D0 : ℕ → Type 0
   D0 o = T (is-completed (kind (object s o)))
 
-  here : Tale g s s
+  pub here : Tale g s s
   here = tale-calm g (calm-refl g s (h .sized))
 
-  end-tells : Tale g s (cleanup s)
+  pub end-tells : Tale g s (cleanup s)
   unfolding cleanup put-queue
   end-tells =
       let k : Words s (remove-from s 0 (header s .next)) = remove-words (header s .next) s 0 in
       let z : Sized (put-queue (remove-from s 0 (header s .next)) empty-queue) = sized-put-queue _ _ (remove-sized (header s .next) s 0 (h .sized)) in
       tale-calm g (calm-then g (calm-words g s (put-queue (remove-from s 0 (header s .next)) empty-queue) (k .objects) (k .places) z) (moment-calm g _ Moment.Ended tt z))
 
-  complete-tells : (t : ℕ) (v : Value) → header s .moment ≡ Moment.Running (task-id (suc t)) → T (value-known (header s .made) (object s) v)
+  pub complete-tells : (t : ℕ) (v : Value) → header s .moment ≡ Moment.Running (task-id (suc t)) → T (value-known (header s .made) (object s) v)
       → Tale g s (handle-task-completion s (suc t) v .store)
   unfolding handle-task-completion view
   complete-tells t v m k =
@@ -181,7 +181,7 @@ module _ (g : ℕ) (s : Store) (h : Whole s) (c : WasCommitted s g) (below : g <
       sent : Tale g left (deliver-awaiter-success left a v .store)
       sent = success-tells g idle D0 (header s) below left o a v rises (coroutine-returned (is-one .function) v row)
 
-  fail-event-tells : (t : ℕ) (e : Error) → header s .moment ≡ Moment.Running (task-id t) → ErrorFits e → Tale g s (task-fails s t e .store)
+  pub fail-event-tells : (t : ℕ) (e : Error) → header s .moment ≡ Moment.Running (task-id t) → ErrorFits e → Tale g s (task-fails s t e .store)
   unfolding task-fails end-main switched
   fail-event-tells zero e m k = end-tells
   fail-event-tells (suc t) e m k =
@@ -189,12 +189,12 @@ module _ (g : ℕ) (s : Store) (h : Whole s) (c : WasCommitted s g) (below : g <
       (fails-tells g D0 (header s) below activate (activate-tells g D0 (header s) below) s t e (runs-now (header s .moment)) k
       (runner-low s (suc t) h m) (runner-live s (suc t) h m) (ap is-blocked (runner-runs s (suc t) h m)) (others-still s (suc t) h m) (mid-of s h) c)
 
-  complete-event-tells : (t : ℕ) (v : Value) → header s .moment ≡ Moment.Running (task-id t) → T (value-known (header s .made) (object s) v) → Tale g s (task-completes s t v .store)
+  pub complete-event-tells : (t : ℕ) (v : Value) → header s .moment ≡ Moment.Running (task-id t) → T (value-known (header s .made) (object s) v) → Tale g s (task-completes s t v .store)
   unfolding task-completes end-main switched
   complete-event-tells zero v m k = end-tells
   complete-event-tells (suc t) v m k = rw (ne-eqb (suc t) 0 (λ q. omega arith)) (complete-tells t v m k)
 
-  resume-tells : header s .moment ≡ Moment.Waiting → Tale g s (resume-with-resolved-futures s .store)
+  pub resume-tells : header s .moment ≡ Moment.Waiting → Tale g s (resume-with-resolved-futures s .store)
   unfolding resume-with-resolved-futures switched
   resume-tells m = by (eqb (s .queue .len) 0)
     where
@@ -202,14 +202,14 @@ module _ (g : ℕ) (s : Store) (h : Whole s) (c : WasCommitted s g) (below : g <
       by true = here
       by false = next-tells g D0 (header s) below activate (activate-tells g D0 (header s) below) s (quiet-of s h m) c
 
-  cancel-tells : (t : ℕ) → Tale g s (cancel-task s t)
+  pub cancel-tells : (t : ℕ) → Tale g s (cancel-task s t)
   cancel-tells t = let k : Words s (cancel-task s t) = cancel-words s t in tale-calm g (calm-words g s (cancel-task s t) (k .objects) (k .places) (sized-cancel-task s t (h .sized)))
 
   -- ---- await
 
   module _ (t : ℕ) (m : header s .moment ≡ Moment.Running (task-id t)) where
     -- the awaiting task goes on, or blocks, and another runs
-    blocked-calm : (x : Store) (o : ℕ) → Sized x → Calm g x (note (set-state x t (TaskState.Blocked (heap-id o))) (blocked t))
+    pub blocked-calm : (x : Store) (o : ℕ) → Sized x → Calm g x (note (set-state x t (TaskState.Blocked (heap-id o))) (blocked t))
     unfolding note set-state put-task
     blocked-calm x o z =
         calm-words g x (note (set-state x t (TaskState.Blocked (heap-id o))) (blocked t)) refl refl (sized-note _ (blocked t) (sized-set-state x t (TaskState.Blocked (heap-id o)) z))
@@ -223,7 +223,7 @@ module _ (g : ℕ) (s : Store) (h : Whole s) (c : WasCommitted s g) (below : g <
         let under : g < header x .made = omega (arith, k .made, below) in
         tale-then g (tale-calm g all) (next-tells g D (header x) under activate (activate-tells g D (header x) under) _ b (same-committed g (all .same) c))
 
-    external-tells : (o : ℕ) (d : CallId) (x : ExternalFutureState) → o < header s .made → object s o ≡ Object.ExternalFuture d x → Tale g s (await-external-future s t o d x .store)
+    pub external-tells : (o : ℕ) (d : CallId) (x : ExternalFutureState) → o < header s .made → object s o ≡ Object.ExternalFuture d x → Tale g s (await-external-future s t o d x .store)
     unfolding await-external-future await-external await-pending
     external-tells o d (ExternalFutureState.Pending Awaiter.Nobody r) l e =
         let y : Object = Object.ExternalFuture d (ExternalFutureState.Pending (Awaiter.Task (task-id t)) r) in
@@ -242,7 +242,7 @@ module _ (g : ℕ) (s : Store) (h : Whole s) (c : WasCommitted s g) (below : g <
     external-tells o d (ExternalFutureState.Resolved v) l e = unfold go-on stays in here
     external-tells o d (ExternalFutureState.Failed v) l e = unfold go-on stays in here
 
-    coroutine-tells : (o f : ℕ) (x : CoroutineState) → object s o ≡ Object.Coroutine f x → Tale g s (await-coroutine s t o f x .store)
+    pub coroutine-tells : (o f : ℕ) (x : CoroutineState) → object s o ≡ Object.Coroutine f x → Tale g s (await-coroutine s t o f x .store)
     unfolding await-coroutine stays
     coroutine-tells o f CoroutineState.New e = tale-calm g (coroutine-calm g s o f CoroutineState.New _ c e (h .sized))
     coroutine-tells o f CoroutineState.Running e = here
@@ -275,7 +275,7 @@ module _ (g : ℕ) (s : Store) (h : Whole s) (c : WasCommitted s g) (below : g <
 -- ---- making
 
 -- an object is made
-add-calm : (g : ℕ) (s : Store) (x : Object) (n : ℕ) → Sized s → g < header s .made → header s .made < object-limit → header s .used + n ≤ place-limit → Calm g s (add-object s x n)
+pub add-calm : (g : ℕ) (s : Store) (x : Object) (n : ℕ) → Sized s → g < header s .made → header s .made < object-limit → header s .used + n ≤ place-limit → Calm g s (add-object s x n)
 unfolding add-object
 add-calm g s x n z l m u =
     let f : HeaderFits (header s) = header-fits s in
@@ -285,7 +285,7 @@ add-calm g s x n z l m u =
     calm-then g k (calm-object g (put-header s i) (header s .made) x (λ q. omega arith) (k .same .sized))
 
 -- its items stand behind the places used
-items-calm : (os : List ℕ) (g : ℕ) (s : Store) (p : ℕ) → Sized s → ((f n : ℕ) (x : GatherState) → object s g ≡ Object.GatherFuture f n x → (i : ℕ) → i < n → f + i < p)
+pub items-calm : (os : List ℕ) (g : ℕ) (s : Store) (p : ℕ) → Sized s → ((f n : ℕ) (x : GatherState) → object s g ≡ Object.GatherFuture f n x → (i : ℕ) → i < n → f + i < p)
     → Calm g s (put-items s p os)
 unfolding put-items
 items-calm [] g s p z u = calm-refl g s z
@@ -295,7 +295,7 @@ items-calm (o ∷ os) g s p z u =
 
 -- a call is handed out
 module _ (g : ℕ) (s : Store) (z : Sized s) (l : header s .calls < call-limit) where
-  abbrev one-more : Header
+  abbrev pub one-more : Header
   one-more = record { made = header s .made; used = header s .used; calls = header s .calls + 1; next = header s .next; moment = header s .moment }
 
   more-fits : HeaderFits one-more
@@ -303,25 +303,25 @@ module _ (g : ℕ) (s : Store) (z : Sized s) (l : header s .calls < call-limit) 
       let f : HeaderFits (header s) = header-fits s in
       record { made-fits = f .made-fits; used-fits = f .used-fits; calls-fit = omega arith; next-fits = f .next-fits; moment-fits = f .moment-fits }
 
-  calls-calm : Calm g s (set-calls s (header s .calls + 1))
+  pub calls-calm : Calm g s (set-calls s (header s .calls + 1))
   unfolding set-calls
   calls-calm = calm-header g s one-more z more-fits (le-refl _)
 
-  calls-header : header (set-calls s (header s .calls + 1)) ≡ one-more
+  pub calls-header : header (set-calls s (header s .calls + 1)) ≡ one-more
   unfolding set-calls
   calls-header = header-put-header s one-more z more-fits
 
-items-header : (os : List ℕ) (s : Store) (p : ℕ) → header (put-items s p os) ≡ header s
+pub items-header : (os : List ℕ) (s : Store) (p : ℕ) → header (put-items s p os) ≡ header s
 unfolding put-items header put-place
 items-header [] s p = refl
 items-header (o ∷ os) s p = items-header os (put-place s p (record { item = heap-id o; result = OptionValue.None })) (p + 1)
 
 module _ (g : ℕ) (s : Store) (h : Whole s) (below : g < header s .made) where
-  room-for : full s ≡ false → header s .made < object-limit
+  pub room-for : full s ≡ false → header s .made < object-limit
   unfolding full
   room-for e = leb-false object-limit (header s .made) e
 
-  no-places : header s .used + 0 ≤ place-limit
+  pub no-places : header s .used + 0 ≤ place-limit
   no-places = omega (arith, header-fits s .used-fits)
 
   makes-one : (x : Object) → full s ≡ false → Calm g s (add-object s x 0)
@@ -347,7 +347,7 @@ module _ (g : ℕ) (s : Store) (h : Whole s) (below : g < header s .made) where
 -- ---- each event
 
 module _ (g : ℕ) (s : Store) (h : Whole s) (c : WasCommitted s g) (below : g < header s .made) where
-  accept-tells : (e : Event) → InRange e → refusal s e ≡ 0 → Tale g s (accept s e .store)
+  pub accept-tells : (e : Event) → InRange e → refusal s e ≡ 0 → Tale g s (accept s e .store)
   unfolding accept InRange refusals answer-await make-coroutine make-pending
   accept-tells (Event.coroutine f) i r = tale-calm g (makes-one g s h below _ (pass 6 (full s) [] (running-rest s _ (refusal-rest s (Event.coroutine f) r)) .0))
   accept-tells Event.call i r = tale-calm g (calls-calm g s (h .sized) (leb-false call-limit (header s .calls) (number (pass 7 (no-number s) [] (running-rest s _ (refusal-rest s Event.call r)) .0))))
