@@ -37,7 +37,8 @@ use Rattle.theorems.specs.Bits.{none-set}
 use Rattle.theorems.specs.Stores.{Whole}
 use Rattle.theorems.specs.Fill.{gather-within, open-small}
 use Rattle.theorems.specs.Exits.{runner-low}
-use Rattle.theorems.specs.CommitSteps.{Memory, wider-small}
+use Rattle.theorems.specs.Memory.{Memory}
+use Rattle.theorems.specs.CommitSteps.{wider-small}
 use Rattle.theorems.specs.CommitInv.{OnStack, OnTop, Stacked, bottom, above, Inv, with-state-is}
 use Rattle.theorems.specs.CommitLoop.{Commits, settle-next}
 use Rattle.theorems.specs.CommitItems.{AtNested, StopOk, inv-count}
@@ -506,7 +507,7 @@ commit-alike s t h m o f n l q a =
     aw1 = Awaiter.Task (task-id t)
 
     mem : Memory s
-    mem = record { sized = h .sized; ids = h .ids; fine = h .fine }
+    mem = h .memory
 
     fit : ObjectFits (Object.GatherFuture f n (GatherState.Awaited aw1 0))
     fit =

@@ -90,16 +90,16 @@ module _ (s : Store) (h : Whole s) where
   end-still =
       let k : Words s (remove-from s 0 (header s .next)) = remove-words (header s .next) s 0 in
       still-then (still-words s (put-queue (remove-from s 0 (header s .next)) empty-queue) (k .objects))
-      (moment-still _ Moment.Ended tt (sized-put-queue _ _ (remove-sized (header s .next) s 0 (h .sized))))
+      (moment-still _ Moment.Ended tt (sized-put-queue _ _ (remove-sized (header s .next) s 0 (h .memory .sized))))
 
   complete-still : (t : ℕ) (v : Value) → header s .moment ≡ Moment.Running (task-id (suc t)) → T (value-known (header s .made) (object s) v)
       → Still s (handle-task-completion s (suc t) v .store)
   unfolding handle-task-completion view
   complete-still t v m k =
-      still-then (still-object s o (completed (object s o)) (h .sized) (task-fits s (suc t) .coroutine-fits) (completed-old (object s o)))
-      (still-then (gone-still done (suc t)) (still-then (success-still left a v (rises .mid .kept .sized) (task-fits s (suc t) .awaiter-fits))
+      still-then (still-object s o (completed (object s o)) (h .memory .sized) (task-fits s (suc t) .coroutine-fits) (completed-old (object s o)))
+      (still-then (gone-still done (suc t)) (still-then (success-still left a v (rises .mid .kept .memory .sized) (task-fits s (suc t) .awaiter-fits))
       (exit-still D0 (header s) activate (activate-still D0 (header s)) _ (completion-lands s t v h m k)
-      (success-activated left a v (rises .mid .kept .sized) (task-fits s (suc t) .awaiter-fits) (value-fits (header s .made) (object s) v (h .facts .but .fits .made-fits) k)))))
+      (success-activated left a v (rises .mid .kept .memory .sized) (task-fits s (suc t) .awaiter-fits) (value-fits (header s .made) (object s) v (h .facts .but .fits .made-fits) k)))))
     where
       o : ℕ
       o = task s (suc t) .coroutine .0
@@ -144,7 +144,7 @@ module _ (s : Store) (h : Whole s) where
     unfolding await-external-future await-external await-pending go-on stays kind
     external-still o d (ExternalFutureState.Pending Awaiter.Nobody r) l e =
         let y : Object = Object.ExternalFuture d (ExternalFutureState.Pending (Awaiter.Task (task-id t)) r) in
-        still-then (still-object s o y (h .sized) (omega (arith, l, header-fits s .made-fits)) (λ c. absurd c))
+        still-then (still-object s o y (h .memory .sized) (omega (arith, l, header-fits s .made-fits)) (λ c. absurd c))
         (still-then (blocked-still (put-object s o y) o) (next-still D0 (header s) activate (activate-still D0 (header s)) _
         (wait-external s t h m o (record { call = d; awaiter = Awaiter.Nobody; stored = r }) l (ap as-pending e ∙ (unfold as-pending in refl)) refl)))
       where
@@ -157,7 +157,7 @@ module _ (s : Store) (h : Whole s) where
 
     coroutine-still : (o f : ℕ) (x : CoroutineState) → o < header s .made → Still s (await-coroutine s t o f x .store)
     unfolding await-coroutine stays
-    coroutine-still o f CoroutineState.New l = still-coroutine s o f CoroutineState.Running (h .sized) (omega (arith, l, header-fits s .made-fits))
+    coroutine-still o f CoroutineState.New l = still-coroutine s o f CoroutineState.Running (h .memory .sized) (omega (arith, l, header-fits s .made-fits))
     coroutine-still o f CoroutineState.Running l = still-refl s
     coroutine-still o f CoroutineState.Completed l = still-refl s
 
@@ -174,7 +174,7 @@ module _ (s : Store) (h : Whole s) where
         blocks = waits-blocks o t x e
 
         same : (g : ℕ) → SameGather x b g
-        same g = calm-words g x b (unfold note set-state put-task in refl) (unfold note set-state put-task in refl) (blocks .kept .sized) .same
+        same g = calm-words g x b (unfold note set-state put-task in refl) (unfold note set-state put-task in refl) (blocks .kept .memory .sized) .same
 
         alike-b : AllAlike Nothing b
         alike-b = rows-alike x b (ap (λ (y : Header). y .made) (blocks .head)) (λ q. same q .same-object) (λ g l. same g) a
@@ -188,7 +188,7 @@ module _ (s : Store) (h : Whole s) where
     commits-alike : (o f n : ℕ) → o < header s .made → object s o ≡ Object.GatherFuture f n GatherState.Pending → AllAlike Nothing s → AllAlike Nothing (await-gather s t o GatherState.Pending .store)
     unfolding await-gather
     commits-alike o f n l e a =
-        go-on-alike o _ (commit-gather-tree s o (Awaiter.Task (task-id t)) .store) (commit-gather-tree s o (Awaiter.Task (task-id t)) .poll) (sized-commit s o (Awaiter.Task (task-id t)) (h .sized))
+        go-on-alike o _ (commit-gather-tree s o (Awaiter.Task (task-id t)) .store) (commit-gather-tree s o (Awaiter.Task (task-id t)) .poll) (sized-commit s o (Awaiter.Task (task-id t)) (h .memory .sized))
         (commit-keeps s t h m o f n l e) (commit-alike s t h m o f n l e a)
 
     gather-alike : (o f n : ℕ) (x : GatherState) → o < header s .made → object s o ≡ Object.GatherFuture f n x → AllAlike Nothing s → AllAlike Nothing (await-gather s t o x .store)
@@ -210,21 +210,21 @@ module _ (s : Store) (h : Whole s) where
   -- ---- making
 
   makes-one-alike : (x : Object) → full s ≡ false → (T (is-committed (kind x)) → ⊥) → AllAlike Nothing s → AllAlike Nothing (add-object s x 0)
-  makes-one-alike x e nc a = add-alike s x 0 (h .sized) (leb-false object-limit (header s .made) (is-full e)) (omega (arith, header-fits s .used-fits)) nc a
+  makes-one-alike x e nc a = add-alike s x 0 (h .memory .sized) (leb-false object-limit (header s .made) (is-full e)) (omega (arith, header-fits s .used-fits)) nc a
     where
       is-full : full s ≡ false → leb object-limit (header s .made) ≡ false
       is-full q = unfold full in q
 
   calls-alike : header s .calls < call-limit → AllAlike Nothing s → AllAlike Nothing (set-calls s (header s .calls + 1))
   calls-alike l a =
-      rows-alike s (set-calls s (header s .calls + 1)) (ap (λ (y : Header). y .made) (calls-header 0 s (h .sized) l)) (λ q. unfold set-calls in (object-put-header s _ q))
-      (λ g k. calls-calm g s (h .sized) l .same) a
+      rows-alike s (set-calls s (header s .calls + 1)) (ap (λ (y : Header). y .made) (calls-header 0 s (h .memory .sized) l)) (λ q. unfold set-calls in (object-put-header s _ q))
+      (λ g k. calls-calm g s (h .memory .sized) l .same) a
 
   makes-settled-alike : (v : Value) → full s ≡ false → header s .calls < call-limit → AllAlike Nothing s → AllAlike Nothing (make-settled s v)
   unfolding make-settled kind full
   makes-settled-alike v e l a =
-      let hd : header (set-calls s (header s .calls + 1)) ≡ one-more 0 s (h .sized) l = calls-header 0 s (h .sized) l in
-      add-alike (set-calls s (header s .calls + 1)) _ 0 (calls-calm 0 s (h .sized) l .same .sized)
+      let hd : header (set-calls s (header s .calls + 1)) ≡ one-more 0 s (h .memory .sized) l = calls-header 0 s (h .memory .sized) l in
+      add-alike (set-calls s (header s .calls + 1)) _ 0 (calls-calm 0 s (h .memory .sized) l .same .sized)
       (subst (λ (y : Header). y .made < object-limit) (sym hd) (leb-false object-limit (header s .made) e))
       (subst (λ (y : Header). y .used + 0 ≤ place-limit) (sym hd) (omega (arith, header-fits s .used-fits))) (λ c. c) (calls-alike l a)
 
@@ -232,11 +232,11 @@ module _ (s : Store) (h : Whole s) where
   unfolding make-gather kind full view
   makes-gather-alike os e u a =
       let hd : header (put-items s (header s .used) os) ≡ header s = items-header os s (header s .used) in
-      add-alike (put-items s (header s .used) os) _ (length os) (items-sized os s (header s .used) (h .sized))
+      add-alike (put-items s (header s .used) os) _ (length os) (items-sized os s (header s .used) (h .memory .sized))
       (subst (λ (y : Header). y .made < object-limit) (sym hd) (leb-false object-limit (header s .made) e))
       (subst (λ (y : Header). y .used + length os ≤ place-limit) (sym hd) u) (λ c. c)
       (rows-alike s (put-items s (header s .used) os) (ap (λ (y : Header). y .made) hd) (items-rows os s (header s .used))
-      (λ g l. items-calm os g s (header s .used) (h .sized) (λ f n x q i k. place-used (h .facts .but) g f n x l q i k) .same) a)
+      (λ g l. items-calm os g s (header s .used) (h .memory .sized) (λ f n x q i k. place-used (h .facts .but) g f n x l q i k) .same) a)
 
   -- ---- each event
 
@@ -278,8 +278,8 @@ step-alike s e h i a = by (ℕ-discrete (refusal s e) 0)
   where
     by : Dec (refusal s e ≡ 0) → AllAlike Nothing (step s e .store)
     by (yes r) =
-        subst (λ (x : Step). AllAlike Nothing (x .store)) (sym (accepted-step s e r)) (accept-alike (forget s) (forget-whole s h) (forget-alike s (h .sized) a) e i (refusal-forget s e ∙ r))
-    by (no ne) = subst (λ (x : Step). AllAlike Nothing (x .store)) (sym (refused-step s e (refusal s e) refl ne)) (forget-alike s (h .sized) a)
+        subst (λ (x : Step). AllAlike Nothing (x .store)) (sym (accepted-step s e r)) (accept-alike (forget s) (forget-whole s h) (forget-alike s (h .memory .sized) a) e i (refusal-forget s e ∙ r))
+    by (no ne) = subst (λ (x : Step). AllAlike Nothing (x .store)) (sym (refused-step s e (refusal s e) refl ne)) (forget-alike s (h .memory .sized) a)
 
 after-alike : (es : List Event) (s : Store) → Whole s → AllInRange es → AllAlike Nothing s → AllAlike Nothing (after s es)
 unfolding after AllInRange

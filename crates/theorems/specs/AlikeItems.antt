@@ -35,7 +35,8 @@ use Rattle.laws.specs.TestLaws.{holds}
 use Rattle.laws.specs.StoreLaws.{sized-put-task, kind-put-object, object-put-other, object-put-header, header-put-object, header-put-header, header-fits, object-fits, place-fits}
 use Rattle.laws.specs.DeliveryLaws.{absurd-some, awaited-object}
 use Rattle.theorems.specs.Fill.{gather-within, open-small}
-use Rattle.theorems.specs.CommitSteps.{Memory, wider, wider-small}
+use Rattle.theorems.specs.Memory.{Memory}
+use Rattle.theorems.specs.CommitSteps.{wider, wider-small}
 use Rattle.theorems.specs.CommitInv.{OnTop, Inv}
 use Rattle.theorems.specs.CommitItems.{Goes, PollOk, ItemOk, goes-length, one-keeps}
 use Rattle.theorems.specs.Asyncio.{item-at}

@@ -2,6 +2,7 @@ pub mod Bits
 pub mod ReadyTasks
 pub mod PutObject
 pub mod PutTask
+pub mod Memory
 pub mod Stores
 pub mod SpawnTask
 pub mod Deliver

@@ -35,7 +35,7 @@ use borrow.Author.Tests.{ltb-true}
 use Rattle.laws.specs.SizedLaws.{sized-spawn-as}
 use Rattle.laws.specs.DeliveryLaws.{awaited-object}
 use Rattle.theorems.specs.Stores.{Whole}
-use Rattle.theorems.specs.CommitSteps.{Memory}
+use Rattle.theorems.specs.Memory.{Memory}
 use Rattle.theorems.specs.CommitInv.{OnStack, OnTop, Stacked, above, Inv}
 use Rattle.theorems.specs.CommitLoop.{Commits, settle-next}
 use Rattle.theorems.specs.CommitItems.{StopOk, Goes, PollOk, ItemOk, goes-length, inv-count, one-keeps}
@@ -278,7 +278,7 @@ module _ (g : ℕ) where
   unfolding commit-gather-tree LoopCalm
   commit-calm s t h m o f n l q c low =
       let ne : g ≡ o → ⊥ = not-yet s o f n c q in
-      let opened : Calm g s (open-gather-commit s o (Awaiter.Task (task-id t))) = calm-open s o _ ne (h .sized) in
+      let opened : Calm g s (open-gather-commit s o (Awaiter.Task (task-id t))) = calm-open s o _ ne (h .memory .sized) in
       calm-then g opened (loop-calm _ o t (open-gather-commit s o (Awaiter.Task (task-id t))) (record { gather = o; next = 0 }) [] 0 1 0 (commit-begins s t h m o f n l q)
       (only ne) (same-committed g (opened .same) c) (omega (arith, opened .made, low)))
     where

@@ -177,18 +177,18 @@ module _ (g : ℕ) (D : ℕ → Type 0) (hd : Header) (low : g < hd .made) where
     pub next-tells : (s : Store) → Mid Nothing idle D hd s → WasCommitted s g → Tale g s (resume-next act s .store)
     unfolding Tells put-queue task
     next-tells s h c =
-        next-by D hd (λ x y. Tale g s (x .store)) act act s h (tale-calm g (yield-calm g s (h .kept .sized)))
-        (λ q u l off r m. let k : Calm g s (put-queue s q) = queue-calm g s q (h .kept .sized) in
+        next-by D hd (λ x y. Tale g s (x .store)) act act s h (tale-calm g (yield-calm g s (h .kept .memory .sized)))
+        (λ q u l off r m. let k : Calm g s (put-queue s q) = queue-calm g s q (h .kept .memory .sized) in
         tale-then g (tale-calm g k) (go (put-queue s q) u l off (ready-activated _ r) m (same-committed g (k .same) c)))
 
     pub exit-tells : (d : Delivery) → Landed idle D hd d → ((u : ℕ) → d .woken ≡ some u → Activated (task (remove-from-ready-queue (d .store) u) u .state)) → WasCommitted (d .store) g
         → Tale g (d .store) (resume-after-task-exit act d .store)
     unfolding Tells remove-from-ready-queue put-queue task
     exit-tells d h active c =
-        exit-by D hd (λ x y. Tale g (d .store) (x .store)) act act d h (tale-calm g (yield-calm g (d .store) (h .mid .kept .sized)))
-        (λ q u l off r m. let k : Calm g (d .store) (put-queue (d .store) q) = queue-calm g (d .store) q (h .mid .kept .sized) in
+        exit-by D hd (λ x y. Tale g (d .store) (x .store)) act act d h (tale-calm g (yield-calm g (d .store) (h .mid .kept .memory .sized)))
+        (λ q u l off r m. let k : Calm g (d .store) (put-queue (d .store) q) = queue-calm g (d .store) q (h .mid .kept .memory .sized) in
         tale-then g (tale-calm g k) (go (put-queue (d .store) q) u l off (ready-activated _ r) m (same-committed g (k .same) c)))
-        (λ q u e l off m. let k : Calm g (d .store) (put-queue (d .store) q) = queue-calm g (d .store) q (h .mid .kept .sized) in
+        (λ q u e l off m. let k : Calm g (d .store) (put-queue (d .store) q) = queue-calm g (d .store) q (h .mid .kept .memory .sized) in
         tale-then g (tale-calm g k) (go (put-queue (d .store) q) u l off (active u e) m (same-committed g (k .same) c)))
 
     -- a live spawned task that is not blocked fails
@@ -200,7 +200,7 @@ module _ (g : ℕ) (D : ℕ → Type 0) (hd : Header) (low : g < hd .made) where
         tale-then g sent-tale (tale-then g (tale-calm g gone) (exit-tells _ (record {
           mid = remove-keeps (deliver-awaiter-failure s a e .store) (suc t) (sent .mid) (subst (λ (y : Header). suc t < y .next) (sym (sent .mid .head)) l) (exited (suc t)) idle refl still;
           woken = sent .woken;
-        }) (failure-activated s (suc t) e (h .kept .sized) k free) (same-committed g (gone .same) (tale-committed g (room s h) sent-tale c))))
+        }) (failure-activated s (suc t) e (h .kept .memory .sized) k free) (same-committed g (gone .same) (tale-committed g (room s h) sent-tale c))))
       where
         a : Awaiter
         a = task s (suc t) .awaiter
@@ -221,7 +221,7 @@ module _ (g : ℕ) (D : ℕ → Type 0) (hd : Header) (low : g < hd .made) where
         sent-tale = failure-tells g r D hd low e k s o a up (coroutine-raised (is-one .function) (is-one .state) e (is-one .is))
 
         gone : Calm g (deliver-awaiter-failure s a e .store) (note (remove-task (deliver-awaiter-failure s a e .store) (suc t)) (exited (suc t)))
-        gone = gone-calm g (deliver-awaiter-failure s a e .store) (suc t) (sent .mid .kept .sized)
+        gone = gone-calm g (deliver-awaiter-failure s a e .store) (suc t) (sent .mid .kept .memory .sized)
 
     start-tells : (s : Store) (t : ℕ) → suc t < hd .next → task s (suc t) .state ≡ TaskState.Unstarted → Mid Nothing idle D hd s → WasCommitted s g → Tale g s (start-task act s (suc t) .store)
     unfolding start-task start-by view
@@ -236,19 +236,19 @@ module _ (g : ℕ) (D : ℕ → Type 0) (hd : Header) (low : g < hd .made) where
         by : (n : Option ℕ) → Tale g s (start-by act s (suc t) o n .store)
         by none = fails-tells s t Error.CoroutineReuse idle tt l (rw fr tt) (rw fr) (λ u d. refl) h c
         by (some f) =
-            let k : Calm g s (put-object s o (Object.Coroutine f CoroutineState.Running)) = coroutine-calm g s o (is-one .function) (is-one .state) _ c (is-one .is) (h .kept .sized) in
+            let k : Calm g s (put-object s o (Object.Coroutine f CoroutineState.Running)) = coroutine-calm g s o (is-one .function) (is-one .state) _ c (is-one .is) (h .kept .memory .sized) in
             tale-calm g (calm-then g k (run-calm g _ (suc t) (start o f) (task-room s (suc t) l h) (k .same .sized)))
 
     state-tells : (s : Store) (t : ℕ) (x : TaskState) → t < hd .next → task s t .state ≡ x → Activated x → Mid Nothing idle D hd s → WasCommitted s g → Tale g s (activate-state act s t x .store)
     unfolding activate-state view
     state-tells s zero _ l e starts h c = absurd (main-started (h .kept .but) e)
     state-tells s (suc t) _ l e starts h c = start-tells s t l e h c
-    state-tells s t _ l e (goes-on v) h c = tale-calm g (run-calm g s t (value v) (task-room s t l h) (h .kept .sized))
-    state-tells s t _ l e (raises-it v) h c = tale-calm g (run-calm g s t (raises v) (task-room s t l h) (h .kept .sized))
+    state-tells s t _ l e (goes-on v) h c = tale-calm g (run-calm g s t (value v) (task-room s t l h) (h .kept .memory .sized))
+    state-tells s t _ l e (raises-it v) h c = tale-calm g (run-calm g s t (raises v) (task-room s t l h) (h .kept .memory .sized))
 
   within-tells : (k : ℕ) → Tells (activate-within k)
   unfolding activate-within Tells
-  within-tells zero s t l off a h c = tale-calm g (yield-calm g s (h .kept .sized))
+  within-tells zero s t l off a h c = tale-calm g (yield-calm g s (h .kept .memory .sized))
   within-tells (suc k) s t l off a h c = state-tells (λ x u. activate-within k x u) (within-tells k) s t (task s t .state) l refl a h c
 
   pub activate-tells : Tells activate

@@ -251,7 +251,7 @@ module _ (g : ℕ) (r : ℕ → Bool) (D : ℕ → Type 0) (hd : Header) (low : 
       }
     where
       z : Sized s
-      z = h .kept .sized
+      z = h .kept .memory .sized
 
       by : (w : Option AwaitedGather) → as-awaited (object s o) ≡ w → SameGather s (resolve-child s o x v .store) g
       by none e = unfold resolve-child in (rw e (unfold resolve-awaited in (same-refl g s z)))
@@ -290,14 +290,14 @@ module _ (g : ℕ) (r : ℕ → Bool) (D : ℕ → Type 0) (hd : Header) (low : 
       came-x = subst (λ (j : ℕ). Came (object s j) j y) (sym (sl .own)) came
 
       sized-then : Sized (arrive s g d)
-      sized-then = arrive-same s g d (h .kept .sized) (limit s h) .sized
+      sized-then = arrive-same s g d (h .kept .memory .sized) (limit s h) .sized
 
       by : (w : Option AwaitedGather) → as-awaited (object s g) ≡ w → Tale g s (arrive-by s g x y)
-      by none e = subst (Tale g s) (sym (settled-stays s g x y e)) (tale-calm g (calm-refl g s (h .kept .sized)))
+      by none e = subst (Tale g s) (sym (settled-stays s g x y e)) (tale-calm g (calm-refl g s (h .kept .memory .sized)))
       by (some w) e = unfold arrive in (record {
         arrivals = d ∷ [];
-        story = arrival s s (arrive s g d) w d [] (same-refl g s (h .kept .sized)) e (slot-registered sl w e) f came-x (ends (arrive s g d) (arrive s g d) (same-refl g (arrive s g d) sized-then));
-        made = omega (arith, ap (λ (h : Header). h .made) (arrive-same s g d (h .kept .sized) (limit s h) .same-header));
+        story = arrival s s (arrive s g d) w d [] (same-refl g s (h .kept .memory .sized)) e (slot-registered sl w e) f came-x (ends (arrive s g d) (arrive s g d) (same-refl g (arrive s g d) sized-then));
+        made = omega (arith, ap (λ (h : Header). h .made) (arrive-same s g d (h .kept .memory .sized) (limit s h) .same-header));
       })
 
   -- a value goes into the gather of its slot
@@ -358,7 +358,7 @@ module _ (g : ℕ) (r : ℕ → Bool) (D : ℕ → Type 0) (hd : Header) (low : 
       by (yes q) =
           subst (λ (j : ℕ). Tale g s (fail-gather s j e .store)) q
           (unfold arrive-by in (arrives-at s o x (raised e) h (subst (λ (j : ℕ). Slotted (header s .made) (object s) (place s) o j x) (sym q) sl) k came))
-      by (no ne) = tale-calm g (other-fails s p e (h .kept .sized) ne)
+      by (no ne) = tale-calm g (other-fails s p e (h .kept .memory .sized) ne)
 
   -- the gather has failed with it, if it sends it on
   error-came : (s : Store) (p : ℕ) (e : Error) → ErrorFits e → Sized s → p < object-limit → (b : Awaiter) → fail-gather s p e .onward ≡ some b
@@ -392,16 +392,16 @@ module _ (g : ℕ) (r : ℕ → Bool) (D : ℕ → Type 0) (hd : Header) (low : 
       → ((s : Store) (o : ℕ) (a : Awaiter) (v : Value) → ValueRises r D hd o v s a → Came (object s o) o (returned v) → Tale g s (go s a v .store))
       → (s : Store) (o : ℕ) (a : Awaiter) (v : Value) → ValueRises r D hd o v s a → Came (object s o) o (returned v) → Tale g s (send-value go s a v .store)
   unfolding send-value
-  send-value-tells go f s o Awaiter.Nobody v i came = unfold nobody-woken in (tale-calm g (calm-refl g s (i .mid .kept .sized)))
-  send-value-tells go f s o (Awaiter.Task t) v i came = tale-calm g (to-task-calm s (t .0) (TaskState.Woken v) (i .mid .kept .sized))
+  send-value-tells go f s o Awaiter.Nobody v i came = unfold nobody-woken in (tale-calm g (calm-refl g s (i .mid .kept .memory .sized)))
+  send-value-tells go f s o (Awaiter.Task t) v i came = tale-calm g (to-task-calm s (t .0) (TaskState.Woken v) (i .mid .kept .memory .sized))
   send-value-tells go f s o (Awaiter.GatherSlot p x) v i came =
       climb-tells (λ y a. go y a (Value.List p)) s (resolve-child s (p .0) (x .0) v) (value-tells s o (p .0) (x .0) v i came)
       (λ b e. f _ (p .0) b (Value.List p) (value-sends r D hd s o (p .0) (x .0) v i .rises b e)
-      (list-came s (p .0) (x .0) v (i .mid .kept .sized) (slot-limit s o (p .0) (x .0) (i .flight) (i .mid)) b e))
+      (list-came s (p .0) (x .0) v (i .mid .kept .memory .sized) (slot-limit s o (p .0) (x .0) (i .flight) (i .mid)) b e))
 
   climb-value-tells : (n : ℕ) (s : Store) (o : ℕ) (a : Awaiter) (v : Value) → ValueRises r D hd o v s a → Came (object s o) o (returned v) → Tale g s (climb-value n s a v .store)
   unfolding climb-value
-  climb-value-tells zero s o a v i came = unfold nobody-woken in (tale-calm g (calm-refl g s (i .mid .kept .sized)))
+  climb-value-tells zero s o a v i came = unfold nobody-woken in (tale-calm g (calm-refl g s (i .mid .kept .memory .sized)))
   climb-value-tells (suc n) s o a v i came = send-value-tells (λ y b w. climb-value n y b w) (λ y p b w j c. climb-value-tells n y p b w j c) s o a v i came
 
   -- A value of object o goes to its awaiter.
@@ -414,16 +414,16 @@ module _ (g : ℕ) (r : ℕ → Bool) (D : ℕ → Type 0) (hd : Header) (low : 
         → ((s : Store) (o : ℕ) (a : Awaiter) → ErrorRises r D hd o s a → Came (object s o) o (raised e) → Tale g s (go s a e .store))
         → (s : Store) (o : ℕ) (a : Awaiter) → ErrorRises r D hd o s a → Came (object s o) o (raised e) → Tale g s (send-error go s a e .store)
     unfolding send-error
-    send-error-tells go f s o Awaiter.Nobody i came = unfold nobody-woken in (tale-calm g (calm-refl g s (i .mid .kept .sized)))
-    send-error-tells go f s o (Awaiter.Task t) i came = tale-calm g (to-task-calm s (t .0) (TaskState.Raised e) (i .mid .kept .sized))
+    send-error-tells go f s o Awaiter.Nobody i came = unfold nobody-woken in (tale-calm g (calm-refl g s (i .mid .kept .memory .sized)))
+    send-error-tells go f s o (Awaiter.Task t) i came = tale-calm g (to-task-calm s (t .0) (TaskState.Raised e) (i .mid .kept .memory .sized))
     send-error-tells go f s o (Awaiter.GatherSlot p x) i came =
         climb-tells (λ y a. go y a e) s (fail-gather s (p .0) e) (error-tells s o (p .0) (x .0) e k i came)
         (λ b q. f _ (p .0) b (error-sends r D hd e k s o (p .0) (x .0) i .rises b q)
-        (error-came s (p .0) e k (i .mid .kept .sized) (slot-limit s o (p .0) (x .0) (i .flight) (i .mid)) b q))
+        (error-came s (p .0) e k (i .mid .kept .memory .sized) (slot-limit s o (p .0) (x .0) (i .flight) (i .mid)) b q))
 
     climb-error-tells : (n : ℕ) (s : Store) (o : ℕ) (a : Awaiter) → ErrorRises r D hd o s a → Came (object s o) o (raised e) → Tale g s (climb-error n s a e .store)
     unfolding climb-error
-    climb-error-tells zero s o a i came = unfold nobody-woken in (tale-calm g (calm-refl g s (i .mid .kept .sized)))
+    climb-error-tells zero s o a i came = unfold nobody-woken in (tale-calm g (calm-refl g s (i .mid .kept .memory .sized)))
     climb-error-tells (suc n) s o a i came = send-error-tells (λ y b w. climb-error n y b w) (λ y p b j c. climb-error-tells n y p b j c) s o a i came
 
     -- An error of object o goes there.

@@ -68,14 +68,14 @@ module _ (g : ℕ) {r : ℕ → Bool} {D : ℕ → Type 0} {hd : Header} (below 
   external-calm : (o : ℕ) (p : PendingExternal) (x : Object) → as-pending (object s o) ≡ some p → Calm g s (put-object s o x)
   external-calm o p x e =
       calm-object g s o x (other-than s g o (Object.ExternalFuture (p .call) (ExternalFutureState.Pending (p .awaiter) (p .stored))) c (pending-object (object s o) p e) (unfold kind in (λ z. z)))
-      (h .kept .sized)
+      (h .kept .memory .sized)
 
   found-tells : (call : ℕ) (f : ℕ → PendingExternal → Store) → ((o : ℕ) (p : PendingExternal) → o < header s .made → as-pending (object s o) ≡ some p → Tale g s (f o p))
       → Tale g s (settle-found s (pending-external s call) f)
   found-tells call f k = by (pending-external s call) refl
     where
       here : Tale g s s
-      here = tale-calm g (calm-refl g s (h .kept .sized))
+      here = tale-calm g (calm-refl g s (h .kept .memory .sized))
 
       at : (o : ℕ) → o < header s .made → (p : Option PendingExternal) → as-pending (object s o) ≡ p → Tale g s (settle-pending s p (f o))
       at o l none e = unfold settle-pending in here
@@ -107,14 +107,14 @@ module _ (g : ℕ) {r : ℕ → Bool} {D : ℕ → Type 0} {hd : Header} (below 
           resolve-tells (x .call) (to-value (x .tag) (x .number))
           (subst (λ (y : Header). T (value-known (y .made) (object s) (to-value (x .tag) (x .number)))) (sym (h .head)) (m (eqb-true (x .kind) 0 e) (object s) (h .done)))
       by false e true c d = fail-tells (x .call) (to-error 0 (x .number)) (host-fits (x .number))
-      by false e false true d = tale-calm g (calm-refl g s (h .kept .sized))
+      by false e false true d = tale-calm g (calm-refl g s (h .kept .memory .sized))
       by false e false false true = fail-tells (x .call) Error.NotFound tt
       by false e false false false = fail-tells (x .call) Error.ModuleFile tt
 
 pub results-tell : (g : ℕ) {r : ℕ → Bool} {D : ℕ → Type 0} {hd : Header} (xs : List Result) (s : Store) → g < hd .made → AllApply (hd .made) D xs → Mid Nothing r D hd s → WasCommitted s g
     → Tale g s (apply-future-results s xs)
 unfolding apply-future-results AllApply
-results-tell g [] s below a h c = tale-calm g (calm-refl g s (h .kept .sized))
+results-tell g [] s below a h c = tale-calm g (calm-refl g s (h .kept .memory .sized))
 results-tell g {D = D} {hd = hd} (x ∷ xs) s below a h c =
     let t : Tale g s (apply-result s x) = result-tells g below s h c x (a .0) in
     tale-then g t (results-tell g xs (apply-result s x) below (a .1) (result-keeps s x (a .0) h) (tale-committed g (room g D hd below s h) t c))
@@ -134,13 +134,13 @@ module _ (g : ℕ) (s : Store) (h : Whole s) (c : WasCommitted s g) (below : g <
   D0 o = T (is-completed (kind (object s o)))
 
   pub here : Tale g s s
-  here = tale-calm g (calm-refl g s (h .sized))
+  here = tale-calm g (calm-refl g s (h .memory .sized))
 
   pub end-tells : Tale g s (cleanup s)
   unfolding cleanup put-queue
   end-tells =
       let k : Words s (remove-from s 0 (header s .next)) = remove-words (header s .next) s 0 in
-      let z : Sized (put-queue (remove-from s 0 (header s .next)) empty-queue) = sized-put-queue _ _ (remove-sized (header s .next) s 0 (h .sized)) in
+      let z : Sized (put-queue (remove-from s 0 (header s .next)) empty-queue) = sized-put-queue _ _ (remove-sized (header s .next) s 0 (h .memory .sized)) in
       tale-calm g (calm-then g (calm-words g s (put-queue (remove-from s 0 (header s .next)) empty-queue) (k .objects) (k .places) z) (moment-calm g _ Moment.Ended tt z))
 
   pub complete-tells : (t : ℕ) (v : Value) → header s .moment ≡ Moment.Running (task-id (suc t)) → T (value-known (header s .made) (object s) v)
@@ -148,7 +148,7 @@ module _ (g : ℕ) (s : Store) (h : Whole s) (c : WasCommitted s g) (below : g <
   unfolding handle-task-completion view
   complete-tells t v m k =
       tale-then g (tale-calm g before) (tale-then g sent (exit-tells g D0 (header s) below activate (activate-tells g D0 (header s) below) _ (completion-lands s t v h m k)
-      (success-activated left a v (rises .mid .kept .sized) (task-fits s (suc t) .awaiter-fits) (value-fits (header s .made) (object s) v (h .facts .but .fits .made-fits) k))
+      (success-activated left a v (rises .mid .kept .memory .sized) (task-fits s (suc t) .awaiter-fits) (value-fits (header s .made) (object s) v (h .facts .but .fits .made-fits) k))
       (tale-committed g (room g D0 (header s) below left (rises .mid)) sent (same-committed g (before .same) c))))
     where
       o : ℕ
@@ -167,7 +167,7 @@ module _ (g : ℕ) (s : Store) (h : Whole s) (c : WasCommitted s g) (below : g <
       is-one = task-coroutine (h .facts .but) t (runner-low s (suc t) h m) (runner-live s (suc t) h m)
 
       first : Calm g s done
-      first = coroutine-calm g s o (is-one .function) (is-one .state) _ c (is-one .is) (h .sized)
+      first = coroutine-calm g s o (is-one .function) (is-one .state) _ c (is-one .is) (h .memory .sized)
 
       before : Calm g s left
       before = calm-then g first (gone-calm g done (suc t) (first .same .sized))
@@ -176,7 +176,7 @@ module _ (g : ℕ) (s : Store) (h : Whole s) (c : WasCommitted s g) (below : g <
       rises = completion-rises s t v h m k
 
       row : object left o ≡ Object.Coroutine (is-one .function) CoroutineState.Completed
-      row = completed-row s o (suc t) (is-one .function) (is-one .state) (h .sized) (omega (arith, is-one .made, h .facts .but .fits .made-fits)) (is-one .is)
+      row = completed-row s o (suc t) (is-one .function) (is-one .state) (h .memory .sized) (omega (arith, is-one .made, h .facts .but .fits .made-fits)) (is-one .is)
 
       sent : Tale g left (deliver-awaiter-success left a v .store)
       sent = success-tells g idle D0 (header s) below left o a v rises (coroutine-returned (is-one .function) v row)
@@ -203,7 +203,7 @@ module _ (g : ℕ) (s : Store) (h : Whole s) (c : WasCommitted s g) (below : g <
       by false = next-tells g D0 (header s) below activate (activate-tells g D0 (header s) below) s (quiet-of s h m) c
 
   pub cancel-tells : (t : ℕ) → Tale g s (cancel-task s t)
-  cancel-tells t = let k : Words s (cancel-task s t) = cancel-words s t in tale-calm g (calm-words g s (cancel-task s t) (k .objects) (k .places) (sized-cancel-task s t (h .sized)))
+  cancel-tells t = let k : Words s (cancel-task s t) = cancel-words s t in tale-calm g (calm-words g s (cancel-task s t) (k .objects) (k .places) (sized-cancel-task s t (h .memory .sized)))
 
   -- ---- await
 
@@ -227,7 +227,7 @@ module _ (g : ℕ) (s : Store) (h : Whole s) (c : WasCommitted s g) (below : g <
     unfolding await-external-future await-external await-pending
     external-tells o d (ExternalFutureState.Pending Awaiter.Nobody r) l e =
         let y : Object = Object.ExternalFuture d (ExternalFutureState.Pending (Awaiter.Task (task-id t)) r) in
-        let k : Calm g s (put-object s o y) = calm-object g s o y (not-external o d _ e) (h .sized) in
+        let k : Calm g s (put-object s o y) = calm-object g s o y (not-external o d _ e) (h .memory .sized) in
         blocks-tells (put-object s o y) o 0 D0 k
         (subst (λ (z : Header). Mid Nothing idle D0 z (note (set-state (put-object s o y) t (TaskState.Blocked (heap-id o))) (blocked t))) (sym (header-put-object s o y))
         (wait-external s t h m o (record { call = d; awaiter = Awaiter.Nobody; stored = r }) l (ap as-pending e ∙ pending-is d r) refl))
@@ -244,7 +244,7 @@ module _ (g : ℕ) (s : Store) (h : Whole s) (c : WasCommitted s g) (below : g <
 
     pub coroutine-tells : (o f : ℕ) (x : CoroutineState) → object s o ≡ Object.Coroutine f x → Tale g s (await-coroutine s t o f x .store)
     unfolding await-coroutine stays
-    coroutine-tells o f CoroutineState.New e = tale-calm g (coroutine-calm g s o f CoroutineState.New _ c e (h .sized))
+    coroutine-tells o f CoroutineState.New e = tale-calm g (coroutine-calm g s o f CoroutineState.New _ c e (h .memory .sized))
     coroutine-tells o f CoroutineState.Running e = here
     coroutine-tells o f CoroutineState.Completed e = here
 
@@ -325,21 +325,21 @@ module _ (g : ℕ) (s : Store) (h : Whole s) (below : g < header s .made) where
   no-places = omega (arith, header-fits s .used-fits)
 
   makes-one : (x : Object) → full s ≡ false → Calm g s (add-object s x 0)
-  makes-one x e = add-calm g s x 0 (h .sized) below (room-for e) no-places
+  makes-one x e = add-calm g s x 0 (h .memory .sized) below (room-for e) no-places
 
   makes-settled : (v : Value) → full s ≡ false → no-number s ≡ false → Calm g s (make-settled s v)
   unfolding make-settled no-number
   makes-settled v e q =
       let number : header s .calls < call-limit = leb-false call-limit (header s .calls) q in
-      let k : Calm g s (set-calls s (header s .calls + 1)) = calls-calm g s (h .sized) number in
-      let hd : header (set-calls s (header s .calls + 1)) ≡ one-more g s (h .sized) number = calls-header g s (h .sized) number in
+      let k : Calm g s (set-calls s (header s .calls + 1)) = calls-calm g s (h .memory .sized) number in
+      let hd : header (set-calls s (header s .calls + 1)) ≡ one-more g s (h .memory .sized) number = calls-header g s (h .memory .sized) number in
       calm-then g k (add-calm g _ _ 0 (k .same .sized) (omega (arith, k .made, below)) (subst (λ (y : Header). y .made < object-limit) (sym hd) (room-for e))
       (subst (λ (y : Header). y .used + 0 ≤ place-limit) (sym hd) no-places))
 
   makes-gather : (os : List ℕ) → full s ≡ false → header s .used + length os ≤ place-limit → Calm g s (make-gather s os)
   unfolding make-gather view
   makes-gather os e u =
-      let k : Calm g s (put-items s (header s .used) os) = items-calm os g s (header s .used) (h .sized) (λ f n x q i l. place-used (h .facts .but) g f n x below q i l) in
+      let k : Calm g s (put-items s (header s .used) os) = items-calm os g s (header s .used) (h .memory .sized) (λ f n x q i l. place-used (h .facts .but) g f n x below q i l) in
       let hd : header (put-items s (header s .used) os) ≡ header s = items-header os s (header s .used) in
       calm-then g k (add-calm g _ _ (length os) (k .same .sized) (omega (arith, k .made, below)) (subst (λ (y : Header). y .made < object-limit) (sym hd) (room-for e))
       (subst (λ (y : Header). y .used + length os ≤ place-limit) (sym hd) u))
@@ -350,7 +350,7 @@ module _ (g : ℕ) (s : Store) (h : Whole s) (c : WasCommitted s g) (below : g <
   pub accept-tells : (e : Event) → InRange e → refusal s e ≡ 0 → Tale g s (accept s e .store)
   unfolding accept InRange refusals answer-await make-coroutine make-pending
   accept-tells (Event.coroutine f) i r = tale-calm g (makes-one g s h below _ (pass 6 (full s) [] (running-rest s _ (refusal-rest s (Event.coroutine f) r)) .0))
-  accept-tells Event.call i r = tale-calm g (calls-calm g s (h .sized) (leb-false call-limit (header s .calls) (number (pass 7 (no-number s) [] (running-rest s _ (refusal-rest s Event.call r)) .0))))
+  accept-tells Event.call i r = tale-calm g (calls-calm g s (h .memory .sized) (leb-false call-limit (header s .calls) (number (pass 7 (no-number s) [] (running-rest s _ (refusal-rest s Event.call r)) .0))))
     where
       number : no-number s ≡ false → leb call-limit (header s .calls) ≡ false
       number q = unfold no-number in q
@@ -380,7 +380,7 @@ pub step-tells : (g : ℕ) (s : Store) (e : Event) → Whole s → InRange e →
 step-tells g s e h i c below = by (ℕ-discrete (refusal s e) 0)
   where
     forgets : Calm g s (forget s)
-    forgets = calm-words g s (forget s) (unfold forget in refl) (unfold forget in refl) (sized-forget s (h .sized))
+    forgets = calm-words g s (forget s) (unfold forget in refl) (unfold forget in refl) (sized-forget s (h .memory .sized))
 
     by : Dec (refusal s e ≡ 0) → Tale g s (step s e .store)
     by (yes r) =
@@ -391,7 +391,7 @@ step-tells g s e h i c below = by (ℕ-discrete (refusal s e) 0)
 -- Any events.
 pub session-tells : (es : List Event) (g : ℕ) (s : Store) → Whole s → AllInRange es → WasCommitted s g → g < header s .made → Tale g s (after s es)
 unfolding after AllInRange view
-session-tells [] g s h i c below = tale-calm g (calm-refl g s (h .sized))
+session-tells [] g s h i c below = tale-calm g (calm-refl g s (h .memory .sized))
 session-tells (e ∷ es) g s h i c below =
     let t : Tale g s (step s e .store) = step-tells g s e h (i .0) c below in
     tale-then g t (session-tells es g (step s e .store) (step-whole s h e (i .0)) (i .1) (tale-committed g (omega (arith, below, h .facts .but .fits .made-fits)) t c) (omega (arith, t .made, below)))
