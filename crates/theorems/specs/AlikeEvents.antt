@@ -34,6 +34,7 @@ use Rattle.machine.specs.Commit.{Poll, ready, raised, pending, await-pending, a
 use Rattle.machine.specs.Events.{activate, resume-next, stays, go-on, await-coroutine, await-external-future, await-gather, await-object, exec-get-awaitable, completed, handle-task-completion}
 use Rattle.machine.specs.Events.{make-coroutine, make-pending, make-settled, put-items, make-gather}
 use Rattle.machine.specs.Machine.{Event, Step, switched, answer-await, end-main, task-completes, task-fails, runner, repeat-wait, resume-with-resolved-futures, refusals, refusal, full, no-number, accept, step, after}
+use Rattle.machine.specs.Gather.{Outcome}
 use Rattle.machine.specs.Sound.{value-known, runs-now}
 use Rattle.laws.specs.Views.{Sized}
 use Rattle.laws.specs.Facts.{Nothing}
@@ -56,7 +57,7 @@ use Rattle.theorems.specs.PremiseLaws.{sound-some-open, sound-no-other}
 use Rattle.theorems.specs.Asyncio.{items-of}
 use Rattle.theorems.specs.Begun.{done-before}
 use Rattle.theorems.specs.Meanwhile.{SameGather}
-use Rattle.theorems.specs.Story.{Tale}
+use Rattle.theorems.specs.Story.{Tale, EndedIn}
 use Rattle.theorems.specs.StoryLaws.{calm-words, WasCommitted}
 use Rattle.theorems.specs.StoryEvents.{Words, cancel-words, remove-words, remove-sized, next-tells, activate-tells}
 use Rattle.theorems.specs.StorySessions.{coroutine-tells, external-tells, items-calm, items-header, calls-calm, calls-header, one-more, accept-tells}
@@ -65,6 +66,10 @@ use Rattle.theorems.specs.Alike.{Alike, AllAlike}
 use Rattle.theorems.specs.AlikeCommit.{commit-alike}
 use Rattle.theorems.specs.Still.{Still, still-refl, still-then, still-words, still-object, still-coroutine, success-still, gone-still, moment-still, next-still, exit-still, fails-still, activate-still, results-still}
 use Rattle.theorems.specs.AlikeSessions.{acts-alike, rows-alike, add-alike}
+
+-- whatever tasks end with
+abbrev Any : ℕ → Outcome Value Error → Type 0
+Any o y = Unit {0}
 
 -- completion makes no gather of a coroutine
 completed-old : (x : Object) → T (is-committed (kind (completed x))) → T (is-committed (kind x))
@@ -179,10 +184,10 @@ module _ (s : Store) (h : Whole s) where
         alike-b : AllAlike Nothing b
         alike-b = rows-alike x b (ap (λ (y : Header). y .made) (blocks .head)) (λ q. same q .same-object) (λ g l. same g) a
 
-        told-by : (g : ℕ) → g < header b .made → WasCommitted b g → Tale g b (resume-next activate b .store)
+        told-by : (g : ℕ) → g < header b .made → WasCommitted b g → Tale Any g b (resume-next activate b .store)
         told-by g l c =
             let low : g < header x .made = subst (λ (y : Header). g < y .made) (blocks .head) l in
-            next-tells g Nothing (header x) low activate (activate-tells g Nothing (header x) low) b blocks c
+            next-tells Any (λ o. tt) g Nothing (header x) low activate (activate-tells Any (λ o. tt) g Nothing (header x) low) b blocks c
 
     -- of a gather that is pending: its commit
     commits-alike : (o f n : ℕ) → o < header s .made → object s o ≡ Object.GatherFuture f n GatherState.Pending → AllAlike Nothing s → AllAlike Nothing (await-gather s t o GatherState.Pending .store)
@@ -203,8 +208,8 @@ module _ (s : Store) (h : Whole s) where
       where
         by : (x : Object) → object s o ≡ x → AllAlike Nothing (await-object s t o x .store)
         by Object.Unmade e = a
-        by (Object.Coroutine f x) e = acts-alike s _ (h .facts .but) (coroutine-still o f x l) (λ g k c. coroutine-tells g s h c k t m o f x e) a
-        by (Object.ExternalFuture d x) e = acts-alike s _ (h .facts .but) (external-still o d x l e) (λ g k c. external-tells g s h c k t m o d x l e) a
+        by (Object.Coroutine f x) e = acts-alike s _ (h .facts .but) (coroutine-still o f x l) (λ g k c. coroutine-tells Any (λ o. tt) g s h c k t m o f x e) a
+        by (Object.ExternalFuture d x) e = acts-alike s _ (h .facts .but) (external-still o d x l e) (λ g k c. external-tells Any (λ o. tt) g s h c k t m o d x l e) a
         by (Object.GatherFuture f n x) e = gather-alike o f n x l e a
 
   -- ---- making
@@ -242,7 +247,7 @@ module _ (s : Store) (h : Whole s) where
 
   module _ (a : AllAlike Nothing s) where
     acts : (e : Event) → InRange e → refusal s e ≡ 0 → Still s (accept s e .store) → AllAlike Nothing (accept s e .store)
-    acts e i r k = acts-alike s (accept s e .store) (h .facts .but) k (λ g l c. accept-tells g s h c l e i r) a
+    acts e i r k = acts-alike s (accept s e .store) (h .facts .but) k (λ g l c. accept-tells Any (λ o. tt) g s h c l e i r (λ o y z. tt)) a
 
     accept-alike : (e : Event) → InRange e → refusal s e ≡ 0 → AllAlike Nothing (accept s e .store)
     unfolding accept InRange refusals answer-await make-coroutine make-pending no-number kind
@@ -308,7 +313,7 @@ session-alike es i = after-alike es fresh fresh-whole i fresh-alike
 -- Asyncio's gather, in every session: whenever a gather is awaited, then after any further events it shows what the documentation says of its items, of
 -- those that its closed places tell were done, and of what arrived since.
 pub sessions-gather : (es fs : List Event) → AllInRange es → AllInRange fs → (g : ℕ) (w : AwaitedGather) → g < header (after fresh es) .made → as-awaited (object (after fresh es) g) ≡ some w
-    → SessionGather (after fresh es) (after (after fresh es) fs) g (items-of (after fresh es) g) (done-before (after fresh es) w)
+    → SessionGather (EndedIn (after fresh es) fs) (after fresh es) (after (after fresh es) fs) g (items-of (after fresh es) g) (done-before (after fresh es) w)
 sessions-gather es fs i j g w l e =
     let s : Store = after fresh es in
     let h : Whole s = session-whole es fresh i fresh-whole in

@@ -54,12 +54,12 @@ waits-alike s g aws done w h = record { open-alike = same; value-alike = λ i j 
         by false d false e = refl
 
 -- a settled gather stays settled
-settled-story : {s u : Store} {xs : List Done} (g : ℕ) → Story g s xs u → as-awaited (object s g) ≡ none → as-awaited (object u g) ≡ none
+settled-story : {E : ℕ → Outcome Value Error → Type 0} {s u : Store} {xs : List Done} (g : ℕ) → Story E g s xs u → as-awaited (object s g) ≡ none → as-awaited (object u g) ≡ none
 settled-story g (ends s u k) e = ap as-awaited (k .same-object) ∙ e
 settled-story g (arrival s v u w x xs k d op f c r) e = absurd-some (sym (ap as-awaited (k .same-object) ∙ e) ∙ d)
 
-tale-alike : (s u : Store) (g : ℕ) (w : AwaitedGather) → SoundBut 0 Nothing Nothing (view s) → g < header s .made → ((v : AwaitedGather) → as-awaited (object s g) ≡ some v → Alike s v)
-    → Tale g s u → as-awaited (object u g) ≡ some w → Alike u w
+tale-alike : {E : ℕ → Outcome Value Error → Type 0} (s u : Store) (g : ℕ) (w : AwaitedGather) → SoundBut 0 Nothing Nothing (view s) → g < header s .made → ((v : AwaitedGather) → as-awaited (object s g) ≡ some v → Alike s v)
+    → Tale E g s u → as-awaited (object u g) ≡ some w → Alike u w
 unfolding view
 tale-alike s u g w h l a t e = by (as-awaited (object s g)) refl
   where
@@ -78,7 +78,7 @@ tale-alike s u g w h l a t e = by (as-awaited (object s g)) refl
         at-end (r .mid)
 
 -- what commits no gather leaves all alike
-pub acts-alike : (s u : Store) → SoundBut 0 Nothing Nothing (view s) → Still s u → ((g : ℕ) → g < header s .made → WasCommitted s g → Tale g s u) → AllAlike Nothing s → AllAlike Nothing u
+pub acts-alike : {E : ℕ → Outcome Value Error → Type 0} (s u : Store) → SoundBut 0 Nothing Nothing (view s) → Still s u → ((g : ℕ) → g < header s .made → WasCommitted s g → Tale E g s u) → AllAlike Nothing s → AllAlike Nothing u
 acts-alike s u h k t a =
     record {
       each = λ g w m n e.

@@ -7,6 +7,7 @@ use Prim.Native.Nat.{ℕ, zero, suc, _+_, _<_}
 use native.Mathlib.Nat.{le-refl}
 use native.Mathlib.Omega.{arith}
 use lib.Dec.{T}
+use Rattle.asyncio.specs.declared.Value.{Value}
 use Rattle.asyncio.specs.declared.Error.{Error}
 use Rattle.asyncio.specs.declared.Awaiter.{Awaiter}
 use Rattle.asyncio.specs.declared.TaskState.{TaskState}
@@ -25,6 +26,7 @@ use Rattle.machine.specs.Store.{Store, view, task, object, place, header, put-t
 use Rattle.machine.specs.Scheduler.{AwaitedGather, bit, remove-from-ready-queue, remove-task, live-count, cancel-one, Walk, reach-if, reach, remove-blocked, still-live, visit-by, visit, visit-place, visit-open, walk-gather, walk-next, walk, walk-from, cancel-task, remove-from}
 use Rattle.machine.specs.Delivery.{Delivery, deliver-awaiter-failure}
 use Rattle.machine.specs.Events.{Switched, How, start, value, raises, run, yield, new-function, resume-next, resume-after-task-exit, handle-task-failure, start-by, start-task, activate-state, activate-within, activate}
+use Rattle.machine.specs.Gather.{Outcome, raised}
 use Rattle.laws.specs.Views.{Sized}
 use Rattle.laws.specs.Facts.{Nothing}
 use Rattle.laws.specs.StoreLaws.{header-fits, sized-put-task, sized-put-queue, sized-note, sized-set-state}
@@ -164,6 +166,8 @@ module _ (g : ℕ) (D : ℕ → Type 0) (hd : Header) (low : g < hd .made) where
   unfolding view
   room s h = omega (arith, subst (λ (y : Header). g < y .made) (sym (h .head)) low, h .kept .but .fits .made-fits)
 
+module _ (E : ℕ → Outcome Value Error → Type 0)
+    (again : (o : ℕ) → E o (raised Error.CoroutineReuse)) (g : ℕ) (D : ℕ → Type 0) (hd : Header) (low : g < hd .made) where
   task-room : {P : ℕ → Type 0} {r : ℕ → Bool} (s : Store) (t : ℕ) → t < hd .next → Mid P r D hd s → t < task-limit
   unfolding view
   task-room s t l h = omega (arith, subst (λ (y : Header). t < y .next) (sym (h .head)) l, h .kept .but .fits .next-fits)
@@ -171,36 +175,36 @@ module _ (g : ℕ) (D : ℕ → Type 0) (hd : Header) (low : g < hd .made) where
   -- a task is activated
   pub Tells : (Store → ℕ → Switched) → Type 0
   Tells act =
-      (s : Store) (t : ℕ) → t < hd .next → occurrences (entries (s .queue)) t ≡ 0 → Activated (task s t .state) → Mid Nothing idle D hd s → WasCommitted s g → Tale g s (act s t .store)
+      (s : Store) (t : ℕ) → t < hd .next → occurrences (entries (s .queue)) t ≡ 0 → Activated (task s t .state) → Mid Nothing idle D hd s → WasCommitted s g → Tale E g s (act s t .store)
 
   module _ (act : Store → ℕ → Switched) (go : Tells act) where
-    pub next-tells : (s : Store) → Mid Nothing idle D hd s → WasCommitted s g → Tale g s (resume-next act s .store)
+    pub next-tells : (s : Store) → Mid Nothing idle D hd s → WasCommitted s g → Tale E g s (resume-next act s .store)
     unfolding Tells put-queue task
     next-tells s h c =
-        next-by D hd (λ x y. Tale g s (x .store)) act act s h (tale-calm g (yield-calm g s (h .kept .memory .sized)))
+        next-by D hd (λ x y. Tale E g s (x .store)) act act s h (tale-calm E g (yield-calm g s (h .kept .memory .sized)))
         (λ q u l off r m. let k : Calm g s (put-queue s q) = queue-calm g s q (h .kept .memory .sized) in
-        tale-then g (tale-calm g k) (go (put-queue s q) u l off (ready-activated _ r) m (same-committed g (k .same) c)))
+        tale-then E g (tale-calm E g k) (go (put-queue s q) u l off (ready-activated _ r) m (same-committed g (k .same) c)))
 
     pub exit-tells : (d : Delivery) → Landed idle D hd d → ((u : ℕ) → d .woken ≡ some u → Activated (task (remove-from-ready-queue (d .store) u) u .state)) → WasCommitted (d .store) g
-        → Tale g (d .store) (resume-after-task-exit act d .store)
+        → Tale E g (d .store) (resume-after-task-exit act d .store)
     unfolding Tells remove-from-ready-queue put-queue task
     exit-tells d h active c =
-        exit-by D hd (λ x y. Tale g (d .store) (x .store)) act act d h (tale-calm g (yield-calm g (d .store) (h .mid .kept .memory .sized)))
+        exit-by D hd (λ x y. Tale E g (d .store) (x .store)) act act d h (tale-calm E g (yield-calm g (d .store) (h .mid .kept .memory .sized)))
         (λ q u l off r m. let k : Calm g (d .store) (put-queue (d .store) q) = queue-calm g (d .store) q (h .mid .kept .memory .sized) in
-        tale-then g (tale-calm g k) (go (put-queue (d .store) q) u l off (ready-activated _ r) m (same-committed g (k .same) c)))
+        tale-then E g (tale-calm E g k) (go (put-queue (d .store) q) u l off (ready-activated _ r) m (same-committed g (k .same) c)))
         (λ q u e l off m. let k : Calm g (d .store) (put-queue (d .store) q) = queue-calm g (d .store) q (h .mid .kept .memory .sized) in
-        tale-then g (tale-calm g k) (go (put-queue (d .store) q) u l off (active u e) m (same-committed g (k .same) c)))
+        tale-then E g (tale-calm E g k) (go (put-queue (d .store) q) u l off (active u e) m (same-committed g (k .same) c)))
 
     -- a live spawned task that is not blocked fails
     pub fails-tells : (s : Store) (t : ℕ) (e : Error) (r : ℕ → Bool) → ErrorFits e → suc t < hd .next → T (is-live (task s (suc t) .state))
         → is-blocked (task s (suc t) .state) ≡ false → ((u : ℕ) → (u ≡ suc t → ⊥) → r u ≡ false) → Mid Nothing r D hd s → WasCommitted s g
-        → Tale g s (handle-task-failure act s (suc t) e .store)
+        → E (task s (suc t) .coroutine .0) (raised e) → Tale E g s (handle-task-failure act s (suc t) e .store)
     unfolding handle-task-failure view
-    fails-tells s t e r k l live free still h c =
-        tale-then g sent-tale (tale-then g (tale-calm g gone) (exit-tells _ (record {
+    fails-tells s t e r k l live free still h c en =
+        tale-then E g sent-tale (tale-then E g (tale-calm E g gone) (exit-tells _ (record {
           mid = remove-keeps (deliver-awaiter-failure s a e .store) (suc t) (sent .mid) (subst (λ (y : Header). suc t < y .next) (sym (sent .mid .head)) l) (exited (suc t)) idle refl still;
           woken = sent .woken;
-        }) (failure-activated s (suc t) e (h .kept .memory .sized) k free) (same-committed g (gone .same) (tale-committed g (room s h) sent-tale c))))
+        }) (failure-activated s (suc t) e (h .kept .memory .sized) k free) (same-committed g (gone .same) (tale-committed E g (room g D hd low s h) sent-tale c))))
       where
         a : Awaiter
         a = task s (suc t) .awaiter
@@ -217,13 +221,13 @@ module _ (g : ℕ) (D : ℕ → Type 0) (hd : Header) (low : g < hd .made) where
         sent : Landed r D hd (deliver-awaiter-failure s a e)
         sent = failure-keeps r D hd e k s o a up
 
-        sent-tale : Tale g s (deliver-awaiter-failure s a e .store)
-        sent-tale = failure-tells g r D hd low e k s o a up (coroutine-raised (is-one .function) (is-one .state) e (is-one .is))
+        sent-tale : Tale E g s (deliver-awaiter-failure s a e .store)
+        sent-tale = failure-tells E g r D hd low e k s o a up (coroutine-raised (is-one .function) (is-one .state) e (is-one .is) en)
 
         gone : Calm g (deliver-awaiter-failure s a e .store) (note (remove-task (deliver-awaiter-failure s a e .store) (suc t)) (exited (suc t)))
         gone = gone-calm g (deliver-awaiter-failure s a e .store) (suc t) (sent .mid .kept .memory .sized)
 
-    start-tells : (s : Store) (t : ℕ) → suc t < hd .next → task s (suc t) .state ≡ TaskState.Unstarted → Mid Nothing idle D hd s → WasCommitted s g → Tale g s (start-task act s (suc t) .store)
+    start-tells : (s : Store) (t : ℕ) → suc t < hd .next → task s (suc t) .state ≡ TaskState.Unstarted → Mid Nothing idle D hd s → WasCommitted s g → Tale E g s (start-task act s (suc t) .store)
     unfolding start-task start-by view
     start-tells s t l fr h c = by (new-function (object s o))
       where
@@ -233,22 +237,22 @@ module _ (g : ℕ) (D : ℕ → Type 0) (hd : Header) (low : g < hd .made) where
         is-one : IsCoroutine (view s) o
         is-one = task-coroutine (h .kept .but) t (subst (λ (y : Header). suc t < y .next) (sym (h .head)) l) (rw fr tt)
 
-        by : (n : Option ℕ) → Tale g s (start-by act s (suc t) o n .store)
-        by none = fails-tells s t Error.CoroutineReuse idle tt l (rw fr tt) (rw fr) (λ u d. refl) h c
+        by : (n : Option ℕ) → Tale E g s (start-by act s (suc t) o n .store)
+        by none = fails-tells s t Error.CoroutineReuse idle tt l (rw fr tt) (rw fr) (λ u d. refl) h c (again o)
         by (some f) =
             let k : Calm g s (put-object s o (Object.Coroutine f CoroutineState.Running)) = coroutine-calm g s o (is-one .function) (is-one .state) _ c (is-one .is) (h .kept .memory .sized) in
-            tale-calm g (calm-then g k (run-calm g _ (suc t) (start o f) (task-room s (suc t) l h) (k .same .sized)))
+            tale-calm E g (calm-then g k (run-calm g _ (suc t) (start o f) (task-room s (suc t) l h) (k .same .sized)))
 
-    state-tells : (s : Store) (t : ℕ) (x : TaskState) → t < hd .next → task s t .state ≡ x → Activated x → Mid Nothing idle D hd s → WasCommitted s g → Tale g s (activate-state act s t x .store)
+    state-tells : (s : Store) (t : ℕ) (x : TaskState) → t < hd .next → task s t .state ≡ x → Activated x → Mid Nothing idle D hd s → WasCommitted s g → Tale E g s (activate-state act s t x .store)
     unfolding activate-state view
     state-tells s zero _ l e starts h c = absurd (main-started (h .kept .but) e)
     state-tells s (suc t) _ l e starts h c = start-tells s t l e h c
-    state-tells s t _ l e (goes-on v) h c = tale-calm g (run-calm g s t (value v) (task-room s t l h) (h .kept .memory .sized))
-    state-tells s t _ l e (raises-it v) h c = tale-calm g (run-calm g s t (raises v) (task-room s t l h) (h .kept .memory .sized))
+    state-tells s t _ l e (goes-on v) h c = tale-calm E g (run-calm g s t (value v) (task-room s t l h) (h .kept .memory .sized))
+    state-tells s t _ l e (raises-it v) h c = tale-calm E g (run-calm g s t (raises v) (task-room s t l h) (h .kept .memory .sized))
 
   within-tells : (k : ℕ) → Tells (activate-within k)
   unfolding activate-within Tells
-  within-tells zero s t l off a h c = tale-calm g (yield-calm g s (h .kept .memory .sized))
+  within-tells zero s t l off a h c = tale-calm E g (yield-calm g s (h .kept .memory .sized))
   within-tells (suc k) s t l off a h c = state-tells (λ x u. activate-within k x u) (within-tells k) s t (task s t .state) l refl a h c
 
   pub activate-tells : Tells activate
