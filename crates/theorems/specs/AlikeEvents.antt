@@ -57,11 +57,11 @@ use Rattle.theorems.specs.PremiseLaws.{sound-some-open, sound-no-other}
 use Rattle.theorems.specs.Asyncio.{items-of}
 use Rattle.theorems.specs.Begun.{done-before}
 use Rattle.theorems.specs.Meanwhile.{SameGather}
-use Rattle.theorems.specs.Story.{Tale, EndedIn}
-use Rattle.theorems.specs.StoryLaws.{calm-words, WasCommitted}
-use Rattle.theorems.specs.StoryEvents.{Words, cancel-words, remove-words, remove-sized, next-tells, activate-tells}
-use Rattle.theorems.specs.StorySessions.{coroutine-tells, external-tells, items-calm, items-header, calls-calm, calls-header, one-more, accept-tells}
-use Rattle.theorems.specs.StoryGathers.{SessionGather, session-gathers-on}
+use Rattle.theorems.specs.Received.{SomeReceived, EndedIn}
+use Rattle.theorems.specs.ReceivedLaws.{untouched-words, WasCommitted}
+use Rattle.theorems.specs.ReceivedEvents.{Words, cancel-words, remove-words, remove-sized, next-received, activate-received}
+use Rattle.theorems.specs.ReceivedSessions.{coroutine-received, external-received, items-untouched, items-header, calls-untouched, calls-header, one-more, accept-received}
+use Rattle.theorems.specs.SessionGathers.{SessionGather, session-gathers-on}
 use Rattle.theorems.specs.Alike.{Alike, AllAlike}
 use Rattle.theorems.specs.AlikeCommit.{commit-alike}
 use Rattle.theorems.specs.Still.{Still, still-refl, still-then, still-words, still-object, still-coroutine, success-still, gone-still, moment-still, next-still, exit-still, fails-still, activate-still, results-still}
@@ -170,7 +170,7 @@ module _ (s : Store) (h : Whole s) where
     go-on-alike : (o n : ℕ) (x : Store) (p : Poll) → Sized x → EndOk o t x p → AllAlike Nothing x → AllAlike Nothing (go-on t o n x p .store)
     go-on-alike o n x (ready v) z e a = unfold go-on stays in a
     go-on-alike o n x (raised v) z e a = unfold go-on stays in a
-    go-on-alike o n x pending z e a = unfold go-on in (acts-alike b (resume-next activate b .store) (blocks .kept .but) (next-still Nothing (header x) activate (activate-still Nothing (header x)) b blocks) told-by alike-b)
+    go-on-alike o n x pending z e a = unfold go-on in (acts-alike b (resume-next activate b .store) (blocks .kept .but) (next-still Nothing (header x) activate (activate-still Nothing (header x)) b blocks) received-by alike-b)
       where
         b : Store
         b = note (set-state x t (TaskState.Blocked (heap-id o))) (blocked t)
@@ -179,15 +179,15 @@ module _ (s : Store) (h : Whole s) where
         blocks = waits-blocks o t x e
 
         same : (g : ℕ) → SameGather x b g
-        same g = calm-words g x b (unfold note set-state put-task in refl) (unfold note set-state put-task in refl) (blocks .kept .memory .sized) .same
+        same g = untouched-words g x b (unfold note set-state put-task in refl) (unfold note set-state put-task in refl) (blocks .kept .memory .sized) .same
 
         alike-b : AllAlike Nothing b
         alike-b = rows-alike x b (ap (λ (y : Header). y .made) (blocks .head)) (λ q. same q .same-object) (λ g l. same g) a
 
-        told-by : (g : ℕ) → g < header b .made → WasCommitted b g → Tale Any g b (resume-next activate b .store)
-        told-by g l c =
+        received-by : (g : ℕ) → g < header b .made → WasCommitted b g → SomeReceived Any g b (resume-next activate b .store)
+        received-by g l c =
             let low : g < header x .made = subst (λ (y : Header). g < y .made) (blocks .head) l in
-            next-tells Any (λ o. tt) g Nothing (header x) low activate (activate-tells Any (λ o. tt) g Nothing (header x) low) b blocks c
+            next-received Any (λ o. tt) g Nothing (header x) low activate (activate-received Any (λ o. tt) g Nothing (header x) low) b blocks c
 
     -- of a gather that is pending: its commit
     commits-alike : (o f n : ℕ) → o < header s .made → object s o ≡ Object.GatherFuture f n GatherState.Pending → AllAlike Nothing s → AllAlike Nothing (await-gather s t o GatherState.Pending .store)
@@ -208,8 +208,8 @@ module _ (s : Store) (h : Whole s) where
       where
         by : (x : Object) → object s o ≡ x → AllAlike Nothing (await-object s t o x .store)
         by Object.Unmade e = a
-        by (Object.Coroutine f x) e = acts-alike s _ (h .facts .but) (coroutine-still o f x l) (λ g k c. coroutine-tells Any (λ o. tt) g s h c k t m o f x e) a
-        by (Object.ExternalFuture d x) e = acts-alike s _ (h .facts .but) (external-still o d x l e) (λ g k c. external-tells Any (λ o. tt) g s h c k t m o d x l e) a
+        by (Object.Coroutine f x) e = acts-alike s _ (h .facts .but) (coroutine-still o f x l) (λ g k c. coroutine-received Any (λ o. tt) g s h c k t m o f x e) a
+        by (Object.ExternalFuture d x) e = acts-alike s _ (h .facts .but) (external-still o d x l e) (λ g k c. external-received Any (λ o. tt) g s h c k t m o d x l e) a
         by (Object.GatherFuture f n x) e = gather-alike o f n x l e a
 
   -- ---- making
@@ -223,13 +223,13 @@ module _ (s : Store) (h : Whole s) where
   calls-alike : header s .calls < call-limit → AllAlike Nothing s → AllAlike Nothing (set-calls s (header s .calls + 1))
   calls-alike l a =
       rows-alike s (set-calls s (header s .calls + 1)) (ap (λ (y : Header). y .made) (calls-header 0 s (h .memory .sized) l)) (λ q. unfold set-calls in (object-put-header s _ q))
-      (λ g k. calls-calm g s (h .memory .sized) l .same) a
+      (λ g k. calls-untouched g s (h .memory .sized) l .same) a
 
   makes-settled-alike : (v : Value) → full s ≡ false → header s .calls < call-limit → AllAlike Nothing s → AllAlike Nothing (make-settled s v)
   unfolding make-settled kind full
   makes-settled-alike v e l a =
       let hd : header (set-calls s (header s .calls + 1)) ≡ one-more 0 s (h .memory .sized) l = calls-header 0 s (h .memory .sized) l in
-      add-alike (set-calls s (header s .calls + 1)) _ 0 (calls-calm 0 s (h .memory .sized) l .same .sized)
+      add-alike (set-calls s (header s .calls + 1)) _ 0 (calls-untouched 0 s (h .memory .sized) l .same .sized)
       (subst (λ (y : Header). y .made < object-limit) (sym hd) (leb-false object-limit (header s .made) e))
       (subst (λ (y : Header). y .used + 0 ≤ place-limit) (sym hd) (omega (arith, header-fits s .used-fits))) (λ c. c) (calls-alike l a)
 
@@ -241,13 +241,13 @@ module _ (s : Store) (h : Whole s) where
       (subst (λ (y : Header). y .made < object-limit) (sym hd) (leb-false object-limit (header s .made) e))
       (subst (λ (y : Header). y .used + length os ≤ place-limit) (sym hd) u) (λ c. c)
       (rows-alike s (put-items s (header s .used) os) (ap (λ (y : Header). y .made) hd) (items-rows os s (header s .used))
-      (λ g l. items-calm os g s (header s .used) (h .memory .sized) (λ f n x q i k. place-used (h .facts .but) g f n x l q i k) .same) a)
+      (λ g l. items-untouched os g s (header s .used) (h .memory .sized) (λ f n x q i k. place-used (h .facts .but) g f n x l q i k) .same) a)
 
   -- ---- each event
 
   module _ (a : AllAlike Nothing s) where
     acts : (e : Event) → InRange e → refusal s e ≡ 0 → Still s (accept s e .store) → AllAlike Nothing (accept s e .store)
-    acts e i r k = acts-alike s (accept s e .store) (h .facts .but) k (λ g l c. accept-tells Any (λ o. tt) g s h c l e i r (λ o y z. tt)) a
+    acts e i r k = acts-alike s (accept s e .store) (h .facts .but) k (λ g l c. accept-received Any (λ o. tt) g s h c l e i r (λ o y z. tt)) a
 
     accept-alike : (e : Event) → InRange e → refusal s e ≡ 0 → AllAlike Nothing (accept s e .store)
     unfolding accept InRange refusals answer-await make-coroutine make-pending no-number kind
@@ -275,7 +275,7 @@ module _ (s : Store) (h : Whole s) where
 
 forget-alike : (s : Store) → Sized s → AllAlike Nothing s → AllAlike Nothing (forget s)
 forget-alike s z a =
-    rows-alike s (forget s) (unfold header forget in refl) (λ q. unfold object forget in refl) (λ g l. calm-words g s (forget s) (unfold forget in refl) (unfold forget in refl) (sized-forget s z) .same) a
+    rows-alike s (forget s) (unfold header forget in refl) (λ q. unfold object forget in refl) (λ g l. untouched-words g s (forget s) (unfold forget in refl) (unfold forget in refl) (sized-forget s z) .same) a
 
 -- An event leaves places of one item alike.
 step-alike : (s : Store) (e : Event) → Whole s → InRange e → AllAlike Nothing s → AllAlike Nothing (step s e .store)

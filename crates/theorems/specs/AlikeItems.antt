@@ -40,8 +40,8 @@ use Rattle.theorems.specs.CommitSteps.{wider, wider-small}
 use Rattle.theorems.specs.CommitInv.{OnTop, Inv}
 use Rattle.theorems.specs.CommitItems.{Goes, PollOk, ItemOk, goes-length, one-keeps}
 use Rattle.theorems.specs.Asyncio.{item-at}
-use Rattle.theorems.specs.StoryLaws.{Calm, WasCommitted}
-use Rattle.theorems.specs.StoryCommit.{ItemCalm, item-calm}
+use Rattle.theorems.specs.ReceivedLaws.{Untouched, WasCommitted}
+use Rattle.theorems.specs.ReceivedCommit.{ItemUntouched, item-untouched}
 use Rattle.theorems.specs.Alike.{at-once, Level, FirstNamed, Quiet}
 use Rattle.theorems.specs.AlikeLaws.{not-awaited, awaited-committed, level-kept, level-at, level-fill, wide, level-open}
 
@@ -248,7 +248,7 @@ module _ (root t p : ℕ) (fs : List Frame) (i : ℕ) (s : Store) (mem : Memory 
   small = wider-small w i less (open-small p w (h .but) (h .opened .made) top)
 
   -- in a store in which the gather is as it was
-  module _ (x : Store) (k : Calm p s x) (q : Quiet p s x) where
+  module _ (x : Store) (k : Untouched p s x) (q : Quiet p s x) where
     level-x : Level x p i w
     level-x = level-kept p i w (k .same) (q .persist) a
 
@@ -283,7 +283,7 @@ module _ (root t p : ℕ) (fs : List Frame) (i : ℕ) (s : Store) (mem : Memory 
   low-o : o < object-limit
   low-o = place-fits s (w .first + i) .item-fits
 
-  put-level : (go : Store → Stop) → GoesOn go → (x : Item) → ItemOk root t p fs w i o s x → ItemGives x → ItemCalm p s x → Closed → StopLevel s p (put-item p w i o s x go)
+  put-level : (go : Store → Stop) → GoesOn go → (x : Item) → ItemOk root t p fs w i o s x → ItemGives x → ItemUntouched p s x → Closed → StopLevel s p (put-item p w i o s x go)
   unfolding put-item
   put-level go f nested ok gv k cl = record { w = w; level = a; first = first-of cl gv; quiet = quiet-refl p s }
   put-level go f (polled r) ok gv k cl = by (r .poll) ok (gv .1)
@@ -297,10 +297,10 @@ module _ (root t p : ℕ) (fs : List Frame) (i : ℕ) (s : Store) (mem : Memory 
 
   one-level : (go : Store → Stop) → GoesOn go → StopLevel s p (put-item p w i o s (item s p w o) go)
   unfolding item
-  one-level go f = by (open-from (place s) w o 0 (w .count)) refl (one-keeps root t p fs i s mem h less) (item-calm p root t p fs i s mem h less c)
+  one-level go f = by (open-from (place s) w o 0 (w .count)) refl (one-keeps root t p fs i s mem h less) (item-untouched p root t p fs i s mem h less c)
     where
       by : (b : Bool) → open-from (place s) w o 0 (w .count) ≡ b → ItemOk root t p fs w i o s (pick b (polled (gives s pending)) (item-object s p o (object s o)))
-          → ItemCalm p s (pick b (polled (gives s pending)) (item-object s p o (object s o)))
+          → ItemUntouched p s (pick b (polled (gives s pending)) (item-object s p o (object s o)))
           → StopLevel s p (put-item p w i o s (pick b (polled (gives s pending)) (item-object s p o (object s o))) go)
       by true e ok k = unfold put-item put-polled in (f _ ok (open-quiet s k (quiet-refl p s)) _ (open-level s k (quiet-refl p s) (some-open e)))
       by false e ok k = put-level go f (item-object s p o (object s o)) ok (object-gives low-o (object s o) refl) k (none-open e)

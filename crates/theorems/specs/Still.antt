@@ -41,7 +41,7 @@ use Rattle.theorems.specs.Results.{pending-object, AllApply, result-keep
 use Rattle.theorems.specs.Cycle.{task-rises, remove-keeps, next-by, exit-by}
 use Rattle.theorems.specs.NoPanicLaws.{Activated, starts, goes-on, raises-it, ready-activated, main-started}
 use Rattle.theorems.specs.NoPanicWoken.{failure-activated}
-use Rattle.theorems.specs.StoryLaws.{WasCommitted}
+use Rattle.theorems.specs.ReceivedLaws.{WasCommitted}
 use Rattle.theorems.specs.AlikeLaws.{awaited-committed}
 
 -- as many objects are made, and what was committed in u was so in s

@@ -31,15 +31,15 @@ pub data Came (E : ℕ → Outcome Value Error → Type 0) (x : Object) (o : ℕ
   coroutine-raised : (f : ℕ) (y : CoroutineState) (e : Error) → x ≡ Object.Coroutine f y → E o (raised e) → Came E x o (raised e)
 
 -- From store s to store u the arrivals xs come to the gather g. Each is of an item of an open place, which came to that outcome.
-pub data Story (E : ℕ → Outcome Value Error → Type 0) (g : ℕ) : Store → List Done → Store → Type 0 where
-  ends : (s u : Store) → SameGather s u g → Story E g s [] u
+pub data Received (E : ℕ → Outcome Value Error → Type 0) (g : ℕ) : Store → List Done → Store → Type 0 where
+  ends : (s u : Store) → SameGather s u g → Received E g s [] u
   arrival : (s v u : Store) (w : AwaitedGather) (x : Done) (xs : List Done) → SameGather s v g → as-awaited (object v g) ≡ some w → Open (place v) w (x .awaitable)
-      → OutcomeFits (x .outcome) → Came E (object v (x .awaitable)) (x .awaitable) (x .outcome) → Story E g (arrive v g x) xs u → Story E g s (x ∷ xs) u
+      → OutcomeFits (x .outcome) → Came E (object v (x .awaitable)) (x .awaitable) (x .outcome) → Received E g (arrive v g x) xs u → Received E g s (x ∷ xs) u
 
 -- some arrivals, and no object is lost
-pub record Tale (E : ℕ → Outcome Value Error → Type 0) (g : ℕ) (s u : Store) : Type 0 where
+pub record SomeReceived (E : ℕ → Outcome Value Error → Type 0) (g : ℕ) (s u : Store) : Type 0 where
   pub arrivals : List Done
-  pub story : Story E g s arrivals u
+  pub received : Received E g s arrivals u
   pub made : header s .made ≤ header u .made
 
 -- ---- how tasks end
