@@ -5,7 +5,6 @@ use mathlib.Core.Bool.{Bool, true, false}
 use mathlib.Core.List.{List, [], _∷_}
 use mathlib.Core.Option.{Option, none, some}
 use Prim.Native.Nat.{ℕ, zero, suc, _+_, _<_}
-use native.Mathlib.Nat.{le-refl}
 use native.Mathlib.Omega.{arith}
 use lib.Dec.{eqb, ltb}
 use Rattle.asyncio.specs.declared.Value.{Value}
@@ -24,13 +23,14 @@ use Rattle.asyncio.specs.Ranges.{HeaderFits}
 use Rattle.asyncio.specs.Numbers.{heap-id, task-id}
 use Rattle.asyncio.specs.States.{pick}
 use Rattle.asyncio.specs.Kinds.{kind}
+use Rattle.rows.specs.Tables.{object-at, header-at}
 use Rattle.machine.specs.Store.{Store, view, object, place, header, put-task, put-header, put-queue, set-next, note}
 use Rattle.machine.specs.Scheduler.{AwaitedGather, as-awaited, driver, push-ready, spawn-as, spawn-unless, spawn}
 use Rattle.machine.specs.Commit.{Poll, ready, raised, pending, Polled, gives, await-pending, await-external, Item, polled, nested, polled-spawn, item-coroutine, item-gather, item-object, open-from, item}
 use Rattle.machine.specs.Commit.{open-place, fill-place, Stop, at-end, at-nested, at-error, put-polled, put-item, step-item, step-items, Frame, step-gather-commit, set-gather, open-gather-commit}
 use Rattle.machine.specs.Commit.{settle-as, settle-gather-commit, resume-in, resume-as, resume-after-child, unwind, Committed, turn, commit-loop, commit-gather-tree}
 use Rattle.laws.specs.Views.{Sized}
-use Rattle.laws.specs.StoreLaws.{sized-put-task, header-fits, object-put-other}
+use Rattle.laws.specs.StoreLaws.{object-put-header, header-put-header, sized-put-task, header-fits, object-put-other}
 use borrow.Author.Tests.{ltb-true}
 use Rattle.laws.specs.SizedLaws.{sized-spawn-as}
 use Rattle.laws.specs.DeliveryLaws.{awaited-object}
@@ -40,7 +40,36 @@ use Rattle.theorems.specs.CommitInv.{OnStack, OnTop, Stacked, above, Inv
 use Rattle.theorems.specs.CommitLoop.{Commits, settle-next}
 use Rattle.theorems.specs.CommitItems.{StopOk, Goes, PollOk, ItemOk, goes-length, inv-count, one-keeps}
 use Rattle.theorems.specs.AwaitGather.{nested-commits, frame-stops, commit-begins}
-use Rattle.theorems.specs.ReceivedLaws.{Untouched, untouched-refl, untouched-then, untouched-words, untouched-object, untouched-header, untouched-place, WasCommitted, same-committed, other-than, places-apart}
+use Rattle.theorems.specs.ReceivedLaws.{Untouched, untouched-refl, untouched-then, untouched-object, untouched-place, WasCommitted, same-committed, other-than, places-apart}
+
+-- a task is spawned: the objects are as they were
+module _ (s : Store) (c o : ℕ) (z : Sized s) (l : header s .next < task-limit) where
+  row : Task
+  row = record { state = TaskState.Unstarted; awaiter = Awaiter.GatherSlot (heap-id o) (heap-id c); coroutine = heap-id c }
+
+  u1 : Store
+  u1 = put-task s (header s .next) row
+
+  one-more : Header
+  one-more = record { made = header u1 .made; used = header u1 .used; calls = header u1 .calls; next = header s .next + 1; moment = header u1 .moment }
+
+  fits : HeaderFits one-more
+  unfolding one-more
+  fits =
+      let f : HeaderFits (header u1) = header-fits u1 in
+      record { made-fits = f .made-fits; used-fits = f .used-fits; calls-fit = f .calls-fit; next-fits = omega arith; moment-fits = f .moment-fits }
+
+  words : spawn-as s (header s .next) c o .objects ≡ put-header u1 one-more .objects
+  unfolding spawn-as note push-ready put-queue set-next one-more u1 row
+  words = refl
+
+  pub spawn-made : header (spawn-as s (header s .next) c o) .made ≡ header s .made
+  unfolding header put-task one-more u1
+  spawn-made = ap (λ (w : List ℕ). header-at w .made) words ∙ ap (λ (y : Header). y .made) (header-put-header u1 one-more (sized-put-task s (header s .next) row z) fits)
+
+  pub spawn-object : (q : ℕ) → object (spawn-as s (header s .next) c o) q ≡ object s q
+  unfolding object put-task u1
+  spawn-object q = ap (λ (w : List ℕ). object-at w q) words ∙ object-put-header u1 one-more q
 
 module _ (g : ℕ) where
   untouched-set : (s : Store) (o : ℕ) (x : GatherState) → (g ≡ o → ⊥) → Sized s → Untouched g s (set-gather s o x)
@@ -59,27 +88,14 @@ module _ (g : ℕ) where
   -- a task is spawned
   untouched-spawn : (s : Store) (c o : ℕ) → Sized s → header s .next < task-limit → Untouched g s (spawn-as s (header s .next) c o)
   untouched-spawn s c o z l =
-      untouched-then g (untouched-words g s u1 (unfold put-task in refl) (unfold put-task in refl) z1)
-      (untouched-then g (untouched-header g u1 h z1 fits (le-refl _))
-      (untouched-words g (put-header u1 h) (spawn-as s (header s .next) c o) (unfold spawn-as note push-ready put-queue set-next in refl)
-      (unfold spawn-as note push-ready put-queue set-next put-header in refl) (sized-spawn-as s (header s .next) c o z)))
-    where
-      row : Task
-      row = record { state = TaskState.Unstarted; awaiter = Awaiter.GatherSlot (heap-id o) (heap-id c); coroutine = heap-id c }
-
-      u1 : Store
-      u1 = put-task s (header s .next) row
-
-      z1 : Sized u1
-      z1 = sized-put-task s (header s .next) row z
-
-      h : Header
-      h = record { made = header u1 .made; used = header u1 .used; calls = header u1 .calls; next = header s .next + 1; moment = header u1 .moment }
-
-      fits : HeaderFits h
-      fits =
-          let f : HeaderFits (header u1) = header-fits u1 in
-          record { made-fits = f .made-fits; used-fits = f .used-fits; calls-fit = f .calls-fit; next-fits = omega arith; moment-fits = f .moment-fits }
+      record {
+        same = record {
+          sized = sized-spawn-as s (header s .next) c o z;
+          same-object = spawn-object s c o z l g;
+          same-places = λ f n x e i m. unfold place spawn-as note push-ready put-queue set-next put-header put-task in refl;
+        };
+        made = omega (arith, spawn-made s c o z l);
+      }
 
   -- ---- one item
 
