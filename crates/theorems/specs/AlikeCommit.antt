@@ -37,15 +37,16 @@ use Rattle.theorems.specs.Bits.{none-set}
 use Rattle.theorems.specs.Stores.{Whole}
 use Rattle.theorems.specs.Fill.{gather-within, open-small}
 use Rattle.theorems.specs.Exits.{runner-low}
-use Rattle.theorems.specs.CommitSteps.{Memory, wider-small}
+use Rattle.theorems.specs.Memory.{Memory}
+use Rattle.theorems.specs.CommitSteps.{wider-small}
 use Rattle.theorems.specs.CommitInv.{OnStack, OnTop, Stacked, bottom, above, Inv, with-state-is}
 use Rattle.theorems.specs.CommitLoop.{Commits, settle-next}
 use Rattle.theorems.specs.CommitItems.{AtNested, StopOk, inv-count}
 use Rattle.theorems.specs.AwaitGather.{opened-in, nested-commits, frame-stops, commit-begins}
 use Rattle.theorems.specs.Asyncio.{item-at}
 use Rattle.theorems.specs.Meanwhile.{SameGather}
-use Rattle.theorems.specs.StoryLaws.{Calm, calm-object, WasCommitted}
-use Rattle.theorems.specs.StoryCommit.{StopCalm, items-calm, unwind-calm, resume-calm, calm-open}
+use Rattle.theorems.specs.ReceivedLaws.{Untouched, untouched-object, WasCommitted}
+use Rattle.theorems.specs.ReceivedCommit.{StopUntouched, items-untouched, unwind-untouched, resume-untouched, untouched-open}
 use Rattle.theorems.specs.Alike.{Alike, AllAlike, at-once, Level, FirstNamed, Quiet}
 use Rattle.theorems.specs.AlikeLaws.{not-awaited, awaited-committed, alike-kept, level-kept, level-at, level-alike, level-fill, wide, level-open}
 use Rattle.theorems.specs.AlikeItems.{quiet-refl, quiet-object, EndLevel, NestLevel, StopLevel, items-level}
@@ -128,7 +129,7 @@ module _ (x : Store) (q f n : ℕ) (aw : Awaiter) (mem : Memory x) (low : q < he
       (λ v e. absurd-some (subst (λ (o : Object). at-once o q ≡ some v) new e))
 
   opens-same : (g : ℕ) → (g ≡ q → ⊥) → SameGather x y g
-  opens-same g ne = calm-open g x q aw ne (mem .sized) .same
+  opens-same g ne = untouched-open g x q aw ne (mem .sized) .same
 
   opens-level : Level y q 0 w0
   opens-level =
@@ -249,7 +250,7 @@ error-alike f fs x e z low off =
     record {
       each = λ g w m n k.
           let b : as-awaited (object x g) ≡ some w = u .back g w k in
-          alike-kept g w b (unwind-calm g (f ∷ fs) x e (u .off g w k) z .same) (off .each g w (subst (λ (y : ℕ). g < y) (u .made) m) (u .off g w k) b);
+          alike-kept g w b (unwind-untouched g (f ∷ fs) x e (u .off g w k) z .same) (off .each g w (subst (λ (y : ℕ). g < y) (u .made) m) (u .off g w k) b);
     }
 
 -- ---- a gather whose items are all stepped
@@ -277,7 +278,7 @@ module _ (x : Store) (p : ℕ) (w : AwaitedGather) (a : Level x p (w .count) w) 
 
   full-same : (g : ℕ) → (g ≡ p → ⊥) → SameGather x x1 g
   unfolding x1 set-gather
-  full-same g ne = calm-object g x p _ ne z .same
+  full-same g ne = untouched-object g x p _ ne z .same
 
   -- the root
   root-alike : AllAlike (OnTop p []) x → AllAlike Nothing (settle-gather-commit x p .store)
@@ -369,7 +370,7 @@ module _ (x : Store) (p : ℕ) (w : AwaitedGather) (a : Level x p (w .count) w) 
             alike-kept p v b (same-p tt) (subst (Alike x) (Option·some-injective w v (sym (a .awaited) ∙ b)) (level-alike a))
           where
             same-p : Unit {0} → SameGather x (open-place x (f .gather) (l .w) (f .next)) p
-            same-p u = unfold open-place in (calm-object p x (f .gather) _ ne z .same)
+            same-p u = unfold open-place in (untouched-object p x (f .gather) _ ne z .same)
 
     resumed : Resumed (resume-after-child f (settle-gather-commit x p))
     unfolding settle-gather-commit x1
@@ -395,18 +396,18 @@ stack-low (above w j op lt nm lo aw rm rest) r (inr o) = stack-low rest r o
 
 module _ (root t : ℕ) (loop : Store → Frame → List Frame → ℕ → ℕ → ℕ → Committed) (go : LoopAlike root t loop) (s : Store) (f : Frame) (fs : List Frame)
     (hs : Commits root t (f .gather) (f .next) fs s) (c : CommitAlike s (f .gather) (f .next) fs) where
-  abbrev CalmTo : Store → Type 0
-  CalmTo x = (q : ℕ) → (q ≡ f .gather → ⊥) → q < header s .made → WasCommitted s q → Calm q s x
+  abbrev UntouchedTo : Store → Type 0
+  UntouchedTo x = (q : ℕ) → (q ≡ f .gather → ⊥) → q < header s .made → WasCommitted s q → Untouched q s x
 
-  below-at : (x : Store) → Quiet (f .gather) s x → CalmTo x → Levels x fs
+  below-at : (x : Store) → Quiet (f .gather) s x → UntouchedTo x → Levels x fs
   unfolding view
-  below-at x k calm = levels-kept (hs .inv .stack) (λ q lt m d. calm q (λ e. omega arith) m d .same) (k .persist) (c .below)
+  below-at x k untouched = levels-kept (hs .inv .stack) (λ q lt m d. untouched q (λ e. omega arith) m d .same) (k .persist) (c .below)
 
-  off-at : (x : Store) → Quiet (f .gather) s x → CalmTo x → AllAlike (OnTop (f .gather) fs) x
-  off-at x k calm = all-kept (f .gather) k (inl refl) (λ q ne m d. calm q ne m d .same) (c .off)
+  off-at : (x : Store) → Quiet (f .gather) s x → UntouchedTo x → AllAlike (OnTop (f .gather) fs) x
+  off-at x k untouched = all-kept (f .gather) k (inl refl) (λ q ne m d. untouched q ne m d .same) (c .off)
 
-  abbrev StopsCalm : Stop → Type 0
-  StopsCalm x = (q : ℕ) → (q ≡ f .gather → ⊥) → q < header s .made → WasCommitted s q → StopCalm q s x
+  abbrev StopsUntouched : Stop → Type 0
+  StopsUntouched x = (q : ℕ) → (q ≡ f .gather → ⊥) → q < header s .made → WasCommitted s q → StopUntouched q s x
 
   parent-alike : (x : Store) (p : Frame) (ps : List Frame) (i : ℕ) → fs ≡ p ∷ ps → Memory x → (h : Inv root t 0 (OnTop (f .gather) (p ∷ ps)) (view x) (f .gather) i (p ∷ ps)) → i ≡ h .w .count
       → EndLevel x (f .gather) x → Levels x (p ∷ ps) → AllAlike (OnTop (f .gather) (p ∷ ps)) x
@@ -425,7 +426,7 @@ module _ (root t : ℕ) (loop : Store → Frame → List Frame → ℕ → ℕ �
           record {
             w = r .w2;
             top = r .top;
-            below = levels-kept rest (λ q l m d. resume-calm q root t x g0 i p ps mem h (λ e. omega arith) (λ e. omega arith) m .same) (r .persist) (below .1);
+            below = levels-kept rest (λ q l m d. resume-untouched q root t x g0 i p ps mem h (λ e. omega arith) (λ e. omega arith) m .same) (r .persist) (below .1);
             off = record { each = λ g v m n e. at g v (subst (λ (k : ℕ). g < k) (r .made) m) n e (ℕ-discrete g g0) };
           }
         where
@@ -452,28 +453,28 @@ module _ (root t : ℕ) (loop : Store → Frame → List Frame → ℕ → ℕ �
           at g v m n e (yes q) = r .child v (subst (λ (k : ℕ). as-awaited (object y k) ≡ some v) q e)
           at g v m n e (no ne) =
               let b : as-awaited (object x g) ≡ some v = r .back g v ne (λ q. n (inl q)) e in
-              alike-kept g v b (resume-calm g root t x g0 i p ps mem h ne (λ q. n (inl q)) m .same) (off .each g v m (not-on g ne n) b)
+              alike-kept g v b (resume-untouched g root t x g0 i p ps mem h ne (λ q. n (inl q)) m .same) (off .each g v m (not-on g ne n) b)
 
 turn-alike : (root t : ℕ) (loop : Store → Frame → List Frame → ℕ → ℕ → ℕ → Committed) → LoopAlike root t loop → (s : Store) (f : Frame) (fs : List Frame) (n j k : ℕ) (x : Stop)
     → Commits root t (f .gather) (f .next) fs s → CommitAlike s (f .gather) (f .next) fs → StopOk root t (f .gather) fs x → StopLevel s (f .gather) x
-    → ((q : ℕ) → (q ≡ f .gather → ⊥) → q < header s .made → WasCommitted s q → StopCalm q s x) → AllAlike Nothing (turn loop f fs n j k x .store)
+    → ((q : ℕ) → (q ≡ f .gather → ⊥) → q < header s .made → WasCommitted s q → StopUntouched q s x) → AllAlike Nothing (turn loop f fs n j k x .store)
 unfolding turn view
-turn-alike root t loop go s f fs n j k (at-nested x i q) hs c h l calm =
+turn-alike root t loop go s f fs n j k (at-nested x i q) hs c h l untouched =
     go _ (record { gather = q; next = 0 }) (record { gather = f .gather; next = i } ∷ fs) (suc n) (suc j) k (nested-commits root t f fs x i q h)
     (nested-alike root t f fs x i q h (record { w = l .w; level = l .level; first = l .first; quiet = quiet-refl (f .gather) x })
-    (below-at root t loop go s f fs hs c x (l .quiet) calm) (off-at root t loop go s f fs hs c x (l .quiet) calm))
-turn-alike root t loop go s f fs n j k (at-error x e) hs c h l calm =
-    error-alike f fs x e (h .memory .sized) on-stack (off-at root t loop go s f fs hs c x l calm)
+    (below-at root t loop go s f fs hs c x (l .quiet) untouched) (off-at root t loop go s f fs hs c x (l .quiet) untouched))
+turn-alike root t loop go s f fs n j k (at-error x e) hs c h l untouched =
+    error-alike f fs x e (h .memory .sized) on-stack (off-at root t loop go s f fs hs c x l untouched)
   where
     on-stack : (q : ℕ) → OnStack (f ∷ fs) q → q < object-limit
     on-stack q (inl d) = omega (arith, d, h .inv .opened .made, h .inv .but .fits .made-fits)
     on-stack q (inr o) = omega (arith, stack-low (h .inv .stack) q o, h .inv .but .fits .made-fits)
-turn-alike root t loop go s f [] n j k (at-end x) hs c h l calm =
-    root-alike x (f .gather) (l .w) (l .level) (h .memory .sized) (omega (arith, h .inv .opened .made, h .inv .but .fits .made-fits)) (off-at root t loop go s f [] hs c x (l .quiet) calm)
-turn-alike root t loop go s f (p ∷ ps) n j k (at-end x) hs c h l calm =
+turn-alike root t loop go s f [] n j k (at-end x) hs c h l untouched =
+    root-alike x (f .gather) (l .w) (l .level) (h .memory .sized) (omega (arith, h .inv .opened .made, h .inv .but .fits .made-fits)) (off-at root t loop go s f [] hs c x (l .quiet) untouched)
+turn-alike root t loop go s f (p ∷ ps) n j k (at-end x) hs c h l untouched =
     go _ (record { gather = p .gather; next = p .next + 1 }) ps (suc n) j (suc k) (settle-next root t x (f .gather) (h .i) p ps (h .memory) (h .inv) (h .end))
     (parent-alike root t loop go s f (p ∷ ps) hs c x p ps (h .i) refl (h .memory) (h .inv) (h .end) (record { w = l .w; level = l .level; quiet = quiet-refl (f .gather) x })
-    (below-at root t loop go s f (p ∷ ps) hs c x (l .quiet) calm) (off-at root t loop go s f (p ∷ ps) hs c x (l .quiet) calm))
+    (below-at root t loop go s f (p ∷ ps) hs c x (l .quiet) untouched) (off-at root t loop go s f (p ∷ ps) hs c x (l .quiet) untouched))
 
 loop-alike : (fuel root t : ℕ) → LoopAlike root t (commit-loop fuel)
 unfolding commit-loop step-gather-commit turn view
@@ -487,7 +488,7 @@ loop-alike (suc fuel) root t s f fs n j k h c =
     omega (arith, h .inv .opened .under, inv-count root t (f .next) (f .gather) 0 (OnTop (f .gather) fs) fs s (h .inv)) in
     turn-alike root t (λ x g gs m i h. commit-loop fuel x g gs m i h) (loop-alike fuel root t) s f fs n j k (step-gather-commit s f) h c (frame-stops root t s f fs h)
     (items-level (count-of (object s (f .gather)) - f .next) root t (f .gather) (f .next) fs s (h .memory) (h .inv) len (level-at (h .inv .w) (h .inv .opened .awaited) (c .top)))
-    (λ q ne m d. items-calm q (count-of (object s (f .gather)) - f .next) root t (f .gather) (f .next) fs s (h .memory) (h .inv) len ne d m)
+    (λ q ne m d. items-untouched q (count-of (object s (f .gather)) - f .next) root t (f .gather) (f .next) fs s (h .memory) (h .inv) len ne d m)
 
 -- A commit leaves places of one item alike.
 pub commit-alike : (s : Store) (t : ℕ) (h : Whole s) → header s .moment ≡ Moment.Running (task-id t) → (o f n : ℕ) → o < header s .made
@@ -506,7 +507,7 @@ commit-alike s t h m o f n l q a =
     aw1 = Awaiter.Task (task-id t)
 
     mem : Memory s
-    mem = record { sized = h .sized; ids = h .ids; fine = h .fine }
+    mem = h .memory
 
     fit : ObjectFits (Object.GatherFuture f n (GatherState.Awaited aw1 0))
     fit =

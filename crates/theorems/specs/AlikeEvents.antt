@@ -34,6 +34,7 @@ use Rattle.machine.specs.Commit.{Poll, ready, raised, pending, await-pending, a
 use Rattle.machine.specs.Events.{activate, resume-next, stays, go-on, await-coroutine, await-external-future, await-gather, await-object, exec-get-awaitable, completed, handle-task-completion}
 use Rattle.machine.specs.Events.{make-coroutine, make-pending, make-settled, put-items, make-gather}
 use Rattle.machine.specs.Machine.{Event, Step, switched, answer-await, end-main, task-completes, task-fails, runner, repeat-wait, resume-with-resolved-futures, refusals, refusal, full, no-number, accept, step, after}
+use Rattle.machine.specs.Gather.{Outcome}
 use Rattle.machine.specs.Sound.{value-known, runs-now}
 use Rattle.laws.specs.Views.{Sized}
 use Rattle.laws.specs.Facts.{Nothing}
@@ -56,15 +57,19 @@ use Rattle.theorems.specs.PremiseLaws.{sound-some-open, sound-no-other}
 use Rattle.theorems.specs.Asyncio.{items-of}
 use Rattle.theorems.specs.Begun.{done-before}
 use Rattle.theorems.specs.Meanwhile.{SameGather}
-use Rattle.theorems.specs.Story.{Tale}
-use Rattle.theorems.specs.StoryLaws.{calm-words, WasCommitted}
-use Rattle.theorems.specs.StoryEvents.{Words, cancel-words, remove-words, remove-sized, next-tells, activate-tells}
-use Rattle.theorems.specs.StorySessions.{coroutine-tells, external-tells, items-calm, items-header, calls-calm, calls-header, one-more, accept-tells}
-use Rattle.theorems.specs.StoryGathers.{SessionGather, session-gathers-on}
+use Rattle.theorems.specs.Received.{SomeReceived, EndedIn}
+use Rattle.theorems.specs.ReceivedLaws.{untouched-words, WasCommitted}
+use Rattle.theorems.specs.ReceivedEvents.{Words, cancel-words, remove-words, remove-sized, next-received, activate-received}
+use Rattle.theorems.specs.ReceivedSessions.{coroutine-received, external-received, items-untouched, items-header, calls-untouched, calls-header, one-more, accept-received}
+use Rattle.theorems.specs.SessionGathers.{SessionGather, session-gathers-on}
 use Rattle.theorems.specs.Alike.{Alike, AllAlike}
 use Rattle.theorems.specs.AlikeCommit.{commit-alike}
 use Rattle.theorems.specs.Still.{Still, still-refl, still-then, still-words, still-object, still-coroutine, success-still, gone-still, moment-still, next-still, exit-still, fails-still, activate-still, results-still}
 use Rattle.theorems.specs.AlikeSessions.{acts-alike, rows-alike, add-alike}
+
+-- whatever tasks end with
+abbrev Any : ℕ → Outcome Value Error → Type 0
+Any o y = Unit {0}
 
 -- completion makes no gather of a coroutine
 completed-old : (x : Object) → T (is-committed (kind (completed x))) → T (is-committed (kind x))
@@ -90,16 +95,16 @@ module _ (s : Store) (h : Whole s) where
   end-still =
       let k : Words s (remove-from s 0 (header s .next)) = remove-words (header s .next) s 0 in
       still-then (still-words s (put-queue (remove-from s 0 (header s .next)) empty-queue) (k .objects))
-      (moment-still _ Moment.Ended tt (sized-put-queue _ _ (remove-sized (header s .next) s 0 (h .sized))))
+      (moment-still _ Moment.Ended tt (sized-put-queue _ _ (remove-sized (header s .next) s 0 (h .memory .sized))))
 
   complete-still : (t : ℕ) (v : Value) → header s .moment ≡ Moment.Running (task-id (suc t)) → T (value-known (header s .made) (object s) v)
       → Still s (handle-task-completion s (suc t) v .store)
   unfolding handle-task-completion view
   complete-still t v m k =
-      still-then (still-object s o (completed (object s o)) (h .sized) (task-fits s (suc t) .coroutine-fits) (completed-old (object s o)))
-      (still-then (gone-still done (suc t)) (still-then (success-still left a v (rises .mid .kept .sized) (task-fits s (suc t) .awaiter-fits))
+      still-then (still-object s o (completed (object s o)) (h .memory .sized) (task-fits s (suc t) .coroutine-fits) (completed-old (object s o)))
+      (still-then (gone-still done (suc t)) (still-then (success-still left a v (rises .mid .kept .memory .sized) (task-fits s (suc t) .awaiter-fits))
       (exit-still D0 (header s) activate (activate-still D0 (header s)) _ (completion-lands s t v h m k)
-      (success-activated left a v (rises .mid .kept .sized) (task-fits s (suc t) .awaiter-fits) (value-fits (header s .made) (object s) v (h .facts .but .fits .made-fits) k)))))
+      (success-activated left a v (rises .mid .kept .memory .sized) (task-fits s (suc t) .awaiter-fits) (value-fits (header s .made) (object s) v (h .facts .but .fits .made-fits) k)))))
     where
       o : ℕ
       o = task s (suc t) .coroutine .0
@@ -144,7 +149,7 @@ module _ (s : Store) (h : Whole s) where
     unfolding await-external-future await-external await-pending go-on stays kind
     external-still o d (ExternalFutureState.Pending Awaiter.Nobody r) l e =
         let y : Object = Object.ExternalFuture d (ExternalFutureState.Pending (Awaiter.Task (task-id t)) r) in
-        still-then (still-object s o y (h .sized) (omega (arith, l, header-fits s .made-fits)) (λ c. absurd c))
+        still-then (still-object s o y (h .memory .sized) (omega (arith, l, header-fits s .made-fits)) (λ c. absurd c))
         (still-then (blocked-still (put-object s o y) o) (next-still D0 (header s) activate (activate-still D0 (header s)) _
         (wait-external s t h m o (record { call = d; awaiter = Awaiter.Nobody; stored = r }) l (ap as-pending e ∙ (unfold as-pending in refl)) refl)))
       where
@@ -157,7 +162,7 @@ module _ (s : Store) (h : Whole s) where
 
     coroutine-still : (o f : ℕ) (x : CoroutineState) → o < header s .made → Still s (await-coroutine s t o f x .store)
     unfolding await-coroutine stays
-    coroutine-still o f CoroutineState.New l = still-coroutine s o f CoroutineState.Running (h .sized) (omega (arith, l, header-fits s .made-fits))
+    coroutine-still o f CoroutineState.New l = still-coroutine s o f CoroutineState.Running (h .memory .sized) (omega (arith, l, header-fits s .made-fits))
     coroutine-still o f CoroutineState.Running l = still-refl s
     coroutine-still o f CoroutineState.Completed l = still-refl s
 
@@ -165,7 +170,7 @@ module _ (s : Store) (h : Whole s) where
     go-on-alike : (o n : ℕ) (x : Store) (p : Poll) → Sized x → EndOk o t x p → AllAlike Nothing x → AllAlike Nothing (go-on t o n x p .store)
     go-on-alike o n x (ready v) z e a = unfold go-on stays in a
     go-on-alike o n x (raised v) z e a = unfold go-on stays in a
-    go-on-alike o n x pending z e a = unfold go-on in (acts-alike b (resume-next activate b .store) (blocks .kept .but) (next-still Nothing (header x) activate (activate-still Nothing (header x)) b blocks) told-by alike-b)
+    go-on-alike o n x pending z e a = unfold go-on in (acts-alike b (resume-next activate b .store) (blocks .kept .but) (next-still Nothing (header x) activate (activate-still Nothing (header x)) b blocks) received-by alike-b)
       where
         b : Store
         b = note (set-state x t (TaskState.Blocked (heap-id o))) (blocked t)
@@ -174,21 +179,21 @@ module _ (s : Store) (h : Whole s) where
         blocks = waits-blocks o t x e
 
         same : (g : ℕ) → SameGather x b g
-        same g = calm-words g x b (unfold note set-state put-task in refl) (unfold note set-state put-task in refl) (blocks .kept .sized) .same
+        same g = untouched-words g x b (unfold note set-state put-task in refl) (unfold note set-state put-task in refl) (blocks .kept .memory .sized) .same
 
         alike-b : AllAlike Nothing b
         alike-b = rows-alike x b (ap (λ (y : Header). y .made) (blocks .head)) (λ q. same q .same-object) (λ g l. same g) a
 
-        told-by : (g : ℕ) → g < header b .made → WasCommitted b g → Tale g b (resume-next activate b .store)
-        told-by g l c =
+        received-by : (g : ℕ) → g < header b .made → WasCommitted b g → SomeReceived Any g b (resume-next activate b .store)
+        received-by g l c =
             let low : g < header x .made = subst (λ (y : Header). g < y .made) (blocks .head) l in
-            next-tells g Nothing (header x) low activate (activate-tells g Nothing (header x) low) b blocks c
+            next-received Any (λ o. tt) g Nothing (header x) low activate (activate-received Any (λ o. tt) g Nothing (header x) low) b blocks c
 
     -- of a gather that is pending: its commit
     commits-alike : (o f n : ℕ) → o < header s .made → object s o ≡ Object.GatherFuture f n GatherState.Pending → AllAlike Nothing s → AllAlike Nothing (await-gather s t o GatherState.Pending .store)
     unfolding await-gather
     commits-alike o f n l e a =
-        go-on-alike o _ (commit-gather-tree s o (Awaiter.Task (task-id t)) .store) (commit-gather-tree s o (Awaiter.Task (task-id t)) .poll) (sized-commit s o (Awaiter.Task (task-id t)) (h .sized))
+        go-on-alike o _ (commit-gather-tree s o (Awaiter.Task (task-id t)) .store) (commit-gather-tree s o (Awaiter.Task (task-id t)) .poll) (sized-commit s o (Awaiter.Task (task-id t)) (h .memory .sized))
         (commit-keeps s t h m o f n l e) (commit-alike s t h m o f n l e a)
 
     gather-alike : (o f n : ℕ) (x : GatherState) → o < header s .made → object s o ≡ Object.GatherFuture f n x → AllAlike Nothing s → AllAlike Nothing (await-gather s t o x .store)
@@ -203,28 +208,28 @@ module _ (s : Store) (h : Whole s) where
       where
         by : (x : Object) → object s o ≡ x → AllAlike Nothing (await-object s t o x .store)
         by Object.Unmade e = a
-        by (Object.Coroutine f x) e = acts-alike s _ (h .facts .but) (coroutine-still o f x l) (λ g k c. coroutine-tells g s h c k t m o f x e) a
-        by (Object.ExternalFuture d x) e = acts-alike s _ (h .facts .but) (external-still o d x l e) (λ g k c. external-tells g s h c k t m o d x l e) a
+        by (Object.Coroutine f x) e = acts-alike s _ (h .facts .but) (coroutine-still o f x l) (λ g k c. coroutine-received Any (λ o. tt) g s h c k t m o f x e) a
+        by (Object.ExternalFuture d x) e = acts-alike s _ (h .facts .but) (external-still o d x l e) (λ g k c. external-received Any (λ o. tt) g s h c k t m o d x l e) a
         by (Object.GatherFuture f n x) e = gather-alike o f n x l e a
 
   -- ---- making
 
   makes-one-alike : (x : Object) → full s ≡ false → (T (is-committed (kind x)) → ⊥) → AllAlike Nothing s → AllAlike Nothing (add-object s x 0)
-  makes-one-alike x e nc a = add-alike s x 0 (h .sized) (leb-false object-limit (header s .made) (is-full e)) (omega (arith, header-fits s .used-fits)) nc a
+  makes-one-alike x e nc a = add-alike s x 0 (h .memory .sized) (leb-false object-limit (header s .made) (is-full e)) (omega (arith, header-fits s .used-fits)) nc a
     where
       is-full : full s ≡ false → leb object-limit (header s .made) ≡ false
       is-full q = unfold full in q
 
   calls-alike : header s .calls < call-limit → AllAlike Nothing s → AllAlike Nothing (set-calls s (header s .calls + 1))
   calls-alike l a =
-      rows-alike s (set-calls s (header s .calls + 1)) (ap (λ (y : Header). y .made) (calls-header 0 s (h .sized) l)) (λ q. unfold set-calls in (object-put-header s _ q))
-      (λ g k. calls-calm g s (h .sized) l .same) a
+      rows-alike s (set-calls s (header s .calls + 1)) (ap (λ (y : Header). y .made) (calls-header 0 s (h .memory .sized) l)) (λ q. unfold set-calls in (object-put-header s _ q))
+      (λ g k. calls-untouched g s (h .memory .sized) l .same) a
 
   makes-settled-alike : (v : Value) → full s ≡ false → header s .calls < call-limit → AllAlike Nothing s → AllAlike Nothing (make-settled s v)
   unfolding make-settled kind full
   makes-settled-alike v e l a =
-      let hd : header (set-calls s (header s .calls + 1)) ≡ one-more 0 s (h .sized) l = calls-header 0 s (h .sized) l in
-      add-alike (set-calls s (header s .calls + 1)) _ 0 (calls-calm 0 s (h .sized) l .same .sized)
+      let hd : header (set-calls s (header s .calls + 1)) ≡ one-more 0 s (h .memory .sized) l = calls-header 0 s (h .memory .sized) l in
+      add-alike (set-calls s (header s .calls + 1)) _ 0 (calls-untouched 0 s (h .memory .sized) l .same .sized)
       (subst (λ (y : Header). y .made < object-limit) (sym hd) (leb-false object-limit (header s .made) e))
       (subst (λ (y : Header). y .used + 0 ≤ place-limit) (sym hd) (omega (arith, header-fits s .used-fits))) (λ c. c) (calls-alike l a)
 
@@ -232,17 +237,17 @@ module _ (s : Store) (h : Whole s) where
   unfolding make-gather kind full view
   makes-gather-alike os e u a =
       let hd : header (put-items s (header s .used) os) ≡ header s = items-header os s (header s .used) in
-      add-alike (put-items s (header s .used) os) _ (length os) (items-sized os s (header s .used) (h .sized))
+      add-alike (put-items s (header s .used) os) _ (length os) (items-sized os s (header s .used) (h .memory .sized))
       (subst (λ (y : Header). y .made < object-limit) (sym hd) (leb-false object-limit (header s .made) e))
       (subst (λ (y : Header). y .used + length os ≤ place-limit) (sym hd) u) (λ c. c)
       (rows-alike s (put-items s (header s .used) os) (ap (λ (y : Header). y .made) hd) (items-rows os s (header s .used))
-      (λ g l. items-calm os g s (header s .used) (h .sized) (λ f n x q i k. place-used (h .facts .but) g f n x l q i k) .same) a)
+      (λ g l. items-untouched os g s (header s .used) (h .memory .sized) (λ f n x q i k. place-used (h .facts .but) g f n x l q i k) .same) a)
 
   -- ---- each event
 
   module _ (a : AllAlike Nothing s) where
     acts : (e : Event) → InRange e → refusal s e ≡ 0 → Still s (accept s e .store) → AllAlike Nothing (accept s e .store)
-    acts e i r k = acts-alike s (accept s e .store) (h .facts .but) k (λ g l c. accept-tells g s h c l e i r) a
+    acts e i r k = acts-alike s (accept s e .store) (h .facts .but) k (λ g l c. accept-received Any (λ o. tt) g s h c l e i r (λ o y z. tt)) a
 
     accept-alike : (e : Event) → InRange e → refusal s e ≡ 0 → AllAlike Nothing (accept s e .store)
     unfolding accept InRange refusals answer-await make-coroutine make-pending no-number kind
@@ -270,7 +275,7 @@ module _ (s : Store) (h : Whole s) where
 
 forget-alike : (s : Store) → Sized s → AllAlike Nothing s → AllAlike Nothing (forget s)
 forget-alike s z a =
-    rows-alike s (forget s) (unfold header forget in refl) (λ q. unfold object forget in refl) (λ g l. calm-words g s (forget s) (unfold forget in refl) (unfold forget in refl) (sized-forget s z) .same) a
+    rows-alike s (forget s) (unfold header forget in refl) (λ q. unfold object forget in refl) (λ g l. untouched-words g s (forget s) (unfold forget in refl) (unfold forget in refl) (sized-forget s z) .same) a
 
 -- An event leaves places of one item alike.
 step-alike : (s : Store) (e : Event) → Whole s → InRange e → AllAlike Nothing s → AllAlike Nothing (step s e .store)
@@ -278,8 +283,8 @@ step-alike s e h i a = by (ℕ-discrete (refusal s e) 0)
   where
     by : Dec (refusal s e ≡ 0) → AllAlike Nothing (step s e .store)
     by (yes r) =
-        subst (λ (x : Step). AllAlike Nothing (x .store)) (sym (accepted-step s e r)) (accept-alike (forget s) (forget-whole s h) (forget-alike s (h .sized) a) e i (refusal-forget s e ∙ r))
-    by (no ne) = subst (λ (x : Step). AllAlike Nothing (x .store)) (sym (refused-step s e (refusal s e) refl ne)) (forget-alike s (h .sized) a)
+        subst (λ (x : Step). AllAlike Nothing (x .store)) (sym (accepted-step s e r)) (accept-alike (forget s) (forget-whole s h) (forget-alike s (h .memory .sized) a) e i (refusal-forget s e ∙ r))
+    by (no ne) = subst (λ (x : Step). AllAlike Nothing (x .store)) (sym (refused-step s e (refusal s e) refl ne)) (forget-alike s (h .memory .sized) a)
 
 after-alike : (es : List Event) (s : Store) → Whole s → AllInRange es → AllAlike Nothing s → AllAlike Nothing (after s es)
 unfolding after AllInRange
@@ -308,7 +313,7 @@ session-alike es i = after-alike es fresh fresh-whole i fresh-alike
 -- Asyncio's gather, in every session: whenever a gather is awaited, then after any further events it shows what the documentation says of its items, of
 -- those that its closed places tell were done, and of what arrived since.
 pub sessions-gather : (es fs : List Event) → AllInRange es → AllInRange fs → (g : ℕ) (w : AwaitedGather) → g < header (after fresh es) .made → as-awaited (object (after fresh es) g) ≡ some w
-    → SessionGather (after fresh es) (after (after fresh es) fs) g (items-of (after fresh es) g) (done-before (after fresh es) w)
+    → SessionGather (EndedIn (after fresh es) fs) (after fresh es) (after (after fresh es) fs) g (items-of (after fresh es) g) (done-before (after fresh es) w)
 sessions-gather es fs i j g w l e =
     let s : Store = after fresh es in
     let h : Whole s = session-whole es fresh i fresh-whole in

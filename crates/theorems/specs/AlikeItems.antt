@@ -10,7 +10,6 @@ use lib.Dec.{T, ltb}
 use borrow.Author.Tests.{ltb-true}
 use Rattle.asyncio.specs.declared.Value.{Value}
 use Rattle.asyncio.specs.declared.Awaiter.{Awaiter}
-use Rattle.asyncio.specs.declared.TaskState.{TaskState}
 use Rattle.asyncio.specs.declared.Task.{Task}
 use Rattle.asyncio.specs.declared.CoroutineState.{CoroutineState}
 use Rattle.asyncio.specs.declared.ExternalFutureState.{ExternalFutureState}
@@ -20,27 +19,28 @@ use Rattle.asyncio.specs.declared.Kind.{Kind}
 use Rattle.asyncio.specs.declared.Place.{Place}
 use Rattle.asyncio.specs.declared.Header.{Header}
 use Rattle.asyncio.specs.Limits.{object-limit, place-limit, task-limit}
-use Rattle.asyncio.specs.Ranges.{HeaderFits, ObjectFits, ValueFits}
+use Rattle.asyncio.specs.Ranges.{ObjectFits, ValueFits}
 use Rattle.asyncio.specs.Numbers.{heap-id}
 use Rattle.asyncio.specs.States.{pick}
 use Rattle.asyncio.specs.Kinds.{kind, is-committed}
-use Rattle.machine.specs.Store.{Store, view, object, place, header, put-task, put-object, put-place, put-queue, set-next, note}
-use Rattle.machine.specs.Scheduler.{AwaitedGather, as-awaited, bit, driver, push-ready, spawn-as, spawn-unless, spawn}
+use Rattle.machine.specs.Store.{Store, view, object, place, header, put-object, put-place}
+use Rattle.machine.specs.Scheduler.{AwaitedGather, as-awaited, bit, driver, spawn-as, spawn-unless, spawn}
 use Rattle.machine.specs.Commit.{Poll, ready, raised, pending, gives, await-pending, await-external, Item, polled, nested, polled-spawn, item-coroutine, item-gather, item-object, open-from, item}
 use Rattle.machine.specs.Commit.{open-place, fill-place, Stop, at-end, at-nested, at-error, put-polled, put-item, step-item, step-items, Frame}
 use Rattle.laws.specs.Views.{Sized}
 use Rattle.laws.specs.Facts.{Open}
 use Rattle.laws.specs.FactLaws.{open-found, open-test}
 use Rattle.laws.specs.TestLaws.{holds}
-use Rattle.laws.specs.StoreLaws.{sized-put-task, kind-put-object, object-put-other, object-put-header, header-put-object, header-put-header, header-fits, object-fits, place-fits}
+use Rattle.laws.specs.StoreLaws.{kind-put-object, object-put-other, header-put-object, object-fits, place-fits}
 use Rattle.laws.specs.DeliveryLaws.{absurd-some, awaited-object}
 use Rattle.theorems.specs.Fill.{gather-within, open-small}
-use Rattle.theorems.specs.CommitSteps.{Memory, wider, wider-small}
+use Rattle.theorems.specs.Memory.{Memory}
+use Rattle.theorems.specs.CommitSteps.{wider, wider-small}
 use Rattle.theorems.specs.CommitInv.{OnTop, Inv}
 use Rattle.theorems.specs.CommitItems.{Goes, PollOk, ItemOk, goes-length, one-keeps}
 use Rattle.theorems.specs.Asyncio.{item-at}
-use Rattle.theorems.specs.StoryLaws.{Calm, WasCommitted}
-use Rattle.theorems.specs.StoryCommit.{ItemCalm, item-calm}
+use Rattle.theorems.specs.ReceivedLaws.{Untouched, WasCommitted}
+use Rattle.theorems.specs.ReceivedCommit.{spawn-made, spawn-object, ItemUntouched, item-untouched}
 use Rattle.theorems.specs.Alike.{at-once, Level, FirstNamed, Quiet}
 use Rattle.theorems.specs.AlikeLaws.{not-awaited, awaited-committed, level-kept, level-at, level-fill, wide, level-open}
 
@@ -79,28 +79,7 @@ module _ (p : ℕ) where
       by q w ne e (no d) = sym (ap as-awaited (object-put-other s o q r d)) ∙ e
 
   quiet-spawn : (s : Store) (c o : ℕ) → Sized s → header s .next < task-limit → Quiet p s (spawn-as s (header s .next) c o)
-  quiet-spawn s c o z l = quiet-rows s (spawn-as s (header s .next) c o) made rows
-    where
-      row : Task
-      row = record { state = TaskState.Unstarted; awaiter = Awaiter.GatherSlot (heap-id o) (heap-id c); coroutine = heap-id c }
-
-      u1 : Store
-      u1 = put-task s (header s .next) row
-
-      h : Header
-      h = record { made = header u1 .made; used = header u1 .used; calls = header u1 .calls; next = header s .next + 1; moment = header u1 .moment }
-
-      fits : HeaderFits h
-      fits =
-          let f : HeaderFits (header u1) = header-fits u1 in
-          record { made-fits = f .made-fits; used-fits = f .used-fits; calls-fit = f .calls-fit; next-fits = omega arith; moment-fits = f .moment-fits }
-
-      made : header (spawn-as s (header s .next) c o) .made ≡ header s .made
-      made = unfold spawn-as note push-ready put-queue set-next header in
-          (ap (λ (y : Header). y .made) (unfold header in (header-put-header u1 h (sized-put-task s (header s .next) row z) fits)) ∙ (unfold header put-task in refl))
-
-      rows : (q : ℕ) → object (spawn-as s (header s .next) c o) q ≡ object s q
-      rows q = unfold spawn-as note push-ready put-queue set-next object in ((unfold object in (object-put-header u1 h q)) ∙ (unfold object put-task in refl))
+  quiet-spawn s c o z l = quiet-rows s (spawn-as s (header s .next) c o) (spawn-made s c o z l) (spawn-object s c o z l)
 
 -- ---- one item
 
@@ -247,7 +226,7 @@ module _ (root t p : ℕ) (fs : List Frame) (i : ℕ) (s : Store) (mem : Memory 
   small = wider-small w i less (open-small p w (h .but) (h .opened .made) top)
 
   -- in a store in which the gather is as it was
-  module _ (x : Store) (k : Calm p s x) (q : Quiet p s x) where
+  module _ (x : Store) (k : Untouched p s x) (q : Quiet p s x) where
     level-x : Level x p i w
     level-x = level-kept p i w (k .same) (q .persist) a
 
@@ -282,7 +261,7 @@ module _ (root t p : ℕ) (fs : List Frame) (i : ℕ) (s : Store) (mem : Memory 
   low-o : o < object-limit
   low-o = place-fits s (w .first + i) .item-fits
 
-  put-level : (go : Store → Stop) → GoesOn go → (x : Item) → ItemOk root t p fs w i o s x → ItemGives x → ItemCalm p s x → Closed → StopLevel s p (put-item p w i o s x go)
+  put-level : (go : Store → Stop) → GoesOn go → (x : Item) → ItemOk root t p fs w i o s x → ItemGives x → ItemUntouched p s x → Closed → StopLevel s p (put-item p w i o s x go)
   unfolding put-item
   put-level go f nested ok gv k cl = record { w = w; level = a; first = first-of cl gv; quiet = quiet-refl p s }
   put-level go f (polled r) ok gv k cl = by (r .poll) ok (gv .1)
@@ -296,10 +275,10 @@ module _ (root t p : ℕ) (fs : List Frame) (i : ℕ) (s : Store) (mem : Memory 
 
   one-level : (go : Store → Stop) → GoesOn go → StopLevel s p (put-item p w i o s (item s p w o) go)
   unfolding item
-  one-level go f = by (open-from (place s) w o 0 (w .count)) refl (one-keeps root t p fs i s mem h less) (item-calm p root t p fs i s mem h less c)
+  one-level go f = by (open-from (place s) w o 0 (w .count)) refl (one-keeps root t p fs i s mem h less) (item-untouched p root t p fs i s mem h less c)
     where
       by : (b : Bool) → open-from (place s) w o 0 (w .count) ≡ b → ItemOk root t p fs w i o s (pick b (polled (gives s pending)) (item-object s p o (object s o)))
-          → ItemCalm p s (pick b (polled (gives s pending)) (item-object s p o (object s o)))
+          → ItemUntouched p s (pick b (polled (gives s pending)) (item-object s p o (object s o)))
           → StopLevel s p (put-item p w i o s (pick b (polled (gives s pending)) (item-object s p o (object s o))) go)
       by true e ok k = unfold put-item put-polled in (f _ ok (open-quiet s k (quiet-refl p s)) _ (open-level s k (quiet-refl p s) (some-open e)))
       by false e ok k = put-level go f (item-object s p o (object s o)) ok (object-gives low-o (object s o) refl) k (none-open e)

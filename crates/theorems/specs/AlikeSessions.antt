@@ -27,10 +27,10 @@ use Rattle.theorems.specs.Begun.{value-at, done-before, SomeOpen}
 use Rattle.theorems.specs.BegunLaws.{has-begun}
 use Rattle.theorems.specs.PremiseLaws.{sound-some-open, sound-no-other}
 use Rattle.theorems.specs.Meanwhile.{SameGather}
-use Rattle.theorems.specs.Story.{Story, ends, arrival, Tale}
-use Rattle.theorems.specs.StoryLaws.{WasCommitted}
-use Rattle.theorems.specs.StorySessions.{add-calm}
-use Rattle.theorems.specs.StoryGathers.{Told, told}
+use Rattle.theorems.specs.Received.{Received, ends, arrival, SomeReceived}
+use Rattle.theorems.specs.ReceivedLaws.{WasCommitted}
+use Rattle.theorems.specs.ReceivedSessions.{add-untouched}
+use Rattle.theorems.specs.SessionGathers.{Arrived, arrived}
 use Rattle.theorems.specs.Alike.{Alike, AllAlike}
 use Rattle.theorems.specs.AlikeLaws.{awaited-committed, alike-kept}
 use Rattle.theorems.specs.Still.{Still}
@@ -54,14 +54,14 @@ waits-alike s g aws done w h = record { open-alike = same; value-alike = λ i j 
         by false d false e = refl
 
 -- a settled gather stays settled
-settled-story : {s u : Store} {xs : List Done} (g : ℕ) → Story g s xs u → as-awaited (object s g) ≡ none → as-awaited (object u g) ≡ none
-settled-story g (ends s u k) e = ap as-awaited (k .same-object) ∙ e
-settled-story g (arrival s v u w x xs k d op f c r) e = absurd-some (sym (ap as-awaited (k .same-object) ∙ e) ∙ d)
+settled-received : {E : ℕ → Outcome Value Error → Type 0} {s u : Store} {xs : List Done} (g : ℕ) → Received E g s xs u → as-awaited (object s g) ≡ none → as-awaited (object u g) ≡ none
+settled-received g (ends s u k) e = ap as-awaited (k .same-object) ∙ e
+settled-received g (arrival s v u w x xs k d op f c r) e = absurd-some (sym (ap as-awaited (k .same-object) ∙ e) ∙ d)
 
-tale-alike : (s u : Store) (g : ℕ) (w : AwaitedGather) → SoundBut 0 Nothing Nothing (view s) → g < header s .made → ((v : AwaitedGather) → as-awaited (object s g) ≡ some v → Alike s v)
-    → Tale g s u → as-awaited (object u g) ≡ some w → Alike u w
+received-alike : {E : ℕ → Outcome Value Error → Type 0} (s u : Store) (g : ℕ) (w : AwaitedGather) → SoundBut 0 Nothing Nothing (view s) → g < header s .made → ((v : AwaitedGather) → as-awaited (object s g) ≡ some v → Alike s v)
+    → SomeReceived E g s u → as-awaited (object u g) ≡ some w → Alike u w
 unfolding view
-tale-alike s u g w h l a t e = by (as-awaited (object s g)) refl
+received-alike s u g w h l a t e = by (as-awaited (object s g)) refl
   where
     at-end : {aws : List ℕ} {done : List Done} → Mid u g aws done → Alike u w
     at-end {aws} {done} (still-waits v k) = subst (Alike u) (Option·some-injective v w (sym (k .awaited) ∙ e)) (waits-alike u g aws done v k)
@@ -69,21 +69,21 @@ tale-alike s u g w h l a t e = by (as-awaited (object s g)) refl
     at-end (has-failed v k) = absurd-some (sym (k .settled) ∙ e)
 
     by : (o : Option AwaitedGather) → as-awaited (object s g) ≡ o → Alike u w
-    by none q = absurd-some (sym (settled-story g (t .story) q) ∙ e)
+    by none q = absurd-some (sym (settled-received g (t .received) q) ∙ e)
     by (some v) q =
         let k : Alike s v = a v q in
         let so : SomeOpen s v = record { some-open = sound-some-open s g v h l q; no-other = sound-no-other s g v h l q; open-alike = k .open-alike; value-alike = k .value-alike } in
-        let r : Told u g (items-of s g) (done-before s v) (t .arrivals) =
-        told g (items-of s g) (done-before s v) (omega (arith, l, h .fits .made-fits)) (has-begun s g v q so) (t .story) in
+        let r : Arrived u g (items-of s g) (done-before s v) (t .arrivals) =
+        arrived g (items-of s g) (done-before s v) (omega (arith, l, h .fits .made-fits)) (has-begun s g v q so) (t .received) in
         at-end (r .mid)
 
 -- what commits no gather leaves all alike
-pub acts-alike : (s u : Store) → SoundBut 0 Nothing Nothing (view s) → Still s u → ((g : ℕ) → g < header s .made → WasCommitted s g → Tale g s u) → AllAlike Nothing s → AllAlike Nothing u
+pub acts-alike : {E : ℕ → Outcome Value Error → Type 0} (s u : Store) → SoundBut 0 Nothing Nothing (view s) → Still s u → ((g : ℕ) → g < header s .made → WasCommitted s g → SomeReceived E g s u) → AllAlike Nothing s → AllAlike Nothing u
 acts-alike s u h k t a =
     record {
       each = λ g w m n e.
           let l : g < header s .made = subst (λ (y : ℕ). g < y) (k .made) m in
-          tale-alike s u g w h l (λ v q. a .each g v l (λ z. z) q) (t g l (k .old g (awaited-committed (object u g) w e))) e;
+          received-alike s u g w h l (λ v q. a .each g v l (λ z. z) q) (t g l (k .old g (awaited-committed (object u g) w e))) e;
     }
 
 -- rows and places as they were
@@ -121,6 +121,6 @@ add-alike s r n z l u nc a = record { each = λ g w m k e. by g w (subst (λ (y 
         (awaited-committed (object (add-object s r n) (header s .made)) w (subst (λ (k : ℕ). as-awaited (object (add-object s r n) k) ≡ some w) q e))))
     by g w m e (no ne) =
         let low : g < header s .made = omega arith in
-        let k : SameGather s (add-object s r n) g = add-calm g s r n z low l u .same in
+        let k : SameGather s (add-object s r n) g = add-untouched g s r n z low l u .same in
         let b : as-awaited (object s g) ≡ some w = sym (ap as-awaited (k .same-object)) ∙ e in
         alike-kept g w b k (a .each g w low (λ d. d) b)

@@ -102,7 +102,7 @@ module _ (s : Store) (t o : ℕ) (r : ℕ → Bool) (low : t < header s .next) (
       mid =
           record {
             kept = task-kept s h t row (s .queue) low (restated-fits (task s t) (TaskState.Blocked (heap-id o)) (task-fits s t) (unfold view in (omega (arith, made, h .but .fits .made-fits))))
-                (h .fine .queue-fine) (h .ids) block-fits;
+                (h .memory .fine .queue-fine) (h .memory .ids) block-fits;
             runs = subst (Runs idle) (sym (view-task-queue s h t row (s .queue) room (restated-fits (task s t) (TaskState.Blocked (heap-id o)) (task-fits s t) (unfold view in (omega (arith, made, h .but .fits .made-fits)))))) now;
             done = λ p d. unfold object put-task in (dn p d);
             head = unfold header put-task in head;
@@ -169,14 +169,14 @@ module _ (s : Store) (t : ℕ) (h : Whole s) (m : header s .moment ≡ Moment.Ru
 
     there : view next ≡ with-object (view s) o x
     unfolding view
-    there = view-put-object s o x (h .sized) (omega (arith, l, h .facts .but .fits .made-fits)) fit
+    there = view-put-object s o x (h .memory .sized) (omega (arith, l, h .facts .but .fits .made-fits)) fit
 
     head : header next ≡ header s
     head = header-put-object s o x
 
     row-o : object next o ≡ x
     unfolding view
-    row-o = object-put-object s o x (h .sized) (omega (arith, l, h .facts .but .fits .made-fits)) fit
+    row-o = object-put-object s o x (h .memory .sized) (omega (arith, l, h .facts .but .fits .made-fits)) fit
 
     closes : Closes (view next) t o
     unfolding view

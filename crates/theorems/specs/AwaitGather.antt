@@ -36,7 +36,8 @@ use Rattle.theorems.specs.PutObject.{Fits}
 use Rattle.theorems.specs.PutTask.{Closes}
 use Rattle.theorems.specs.Deliver.{awaiter-is, Done}
 use Rattle.theorems.specs.Fill.{completed-done}
-use Rattle.theorems.specs.CommitSteps.{Memory, memory-object, park}
+use Rattle.theorems.specs.Memory.{Memory, memory-object}
+use Rattle.theorems.specs.CommitSteps.{park}
 use Rattle.theorems.specs.CommitInv.{OnTop, Stacked, bottom, Inv, lessen, nest-step, After, settle-memory, settle-top}
 use Rattle.asyncio.specs.declared.TaskState.{TaskState}
 use Rattle.asyncio.specs.declared.Moment.{Moment}
@@ -200,14 +201,14 @@ module _ (o t : ℕ) (x : Store) (a : Waits o t x) where
   unfolding runs-now
   waits-blocks =
       block-keeps x t o (runs-now (Moment.Running (task-id t))) low waits-runs (a .made) (a .closes)
-      (record { sized = a .ends .memory .sized; ids = a .ends .memory .ids; fine = a .ends .memory .fine; but = af .but }) (λ u d. ne-eqb t u (λ q. d (sym q))) (af .runs)
+      (record { memory = a .ends .memory; but = af .but }) (λ u d. ne-eqb t u (λ q. d (sym q))) (af .runs)
       (λ p d. absurd d) refl
 
 -- ---- the event `await`
 
 module _ (s : Store) (t : ℕ) (h : Whole s) (m : header s .moment ≡ Moment.Running (task-id t)) where
   memory : Memory s
-  memory = record { sized = h .sized; ids = h .ids; fine = h .fine }
+  memory = h .memory
 
   -- the gather that the running task awaits is opened
   pub commit-begins : (g f n : ℕ) → g < header s .made → object s g ≡ Object.GatherFuture f n GatherState.Pending
@@ -260,9 +261,7 @@ module _ (s : Store) (t : ℕ) (h : Whole s) (m : header s .moment ≡ Moment.Ru
   unfolding view runner-in-range
   ends-whole x a =
       record {
-        sized = a .memory .sized;
-        ids = a .memory .ids;
-        fine = a .memory .fine;
+        memory = a .memory;
         facts = record {
           but = a .after .but;
           runner = subst (λ (y : Moment). T (runner-in-range (header x .next) y)) (sym (a .after .moment)) (lt→ltb t (header x .next) (a .after .low));

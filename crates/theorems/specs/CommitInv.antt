@@ -43,7 +43,8 @@ use Rattle.theorems.specs.SpawnTask.{spawned-row, spawn-view, spawn-keep
 use Rattle.theorems.specs.Deliver.{nobody-task, task-slot, task-same, awaiter-is, Done}
 use Rattle.theorems.specs.Fill.{awaits-on, open-small}
 use Rattle.theorems.specs.Exits.{is-run-state}
-use Rattle.theorems.specs.CommitSteps.{Memory, memory-object, wider, wider-small, wider-opens, wider-keeps, Opened, stack-fits}
+use Rattle.theorems.specs.Memory.{Memory, memory-object}
+use Rattle.theorems.specs.CommitSteps.{wider, wider-small, wider-opens, wider-keeps, Opened, stack-fits}
 
 -- ---- the stack
 

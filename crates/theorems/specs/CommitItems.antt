@@ -47,7 +47,8 @@ use Rattle.theorems.specs.SpawnTask.{one-more, spawned-row, spawn-view}
 use Rattle.theorems.specs.Deliver.{task-slot}
 use Rattle.theorems.specs.Fill.{open-small, elsewhere, awaits-on}
 use Rattle.theorems.specs.Await.{takes-fits}
-use Rattle.theorems.specs.CommitSteps.{Memory, memory-object, wider, wider-small, wider-opens}
+use Rattle.theorems.specs.Memory.{Memory, memory-object}
+use Rattle.theorems.specs.CommitSteps.{wider, wider-small, wider-opens}
 use Rattle.theorems.specs.CommitInv.{OnTop, Inv, relax, open-step, lower-step, spawn-step}
 use Rattle.rows.specs.Tables.{task-at}
 use Rattle.theorems.specs.Results.{pending-object}

@@ -41,7 +41,8 @@ use Rattle.laws.specs.MakingLaws.{value-fits}
 use Rattle.laws.specs.DeliveryLaws.{awaited-object, awaited-fits}
 use Rattle.theorems.specs.Deliver.{task-slot, awaiter-is, Done, failed-done}
 use Rattle.theorems.specs.Fill.{gather-within, open-small, awaits-on, completed-done}
-use Rattle.theorems.specs.CommitSteps.{Memory, memory-object, memory-place, wider, wider-small, wider-opens, Parked, park, Opened}
+use Rattle.theorems.specs.Memory.{Memory, memory-object, memory-place}
+use Rattle.theorems.specs.CommitSteps.{wider, wider-small, wider-opens, Parked, park, Opened}
 use Rattle.theorems.specs.CommitInv.{OnStack, OnTop, Stacked, above, stacked-object, Inv, lessen, relax, open-step, fill-step, After, with-state-is, settle-memory, settle-top}
 
 -- ---- rows that are written fit their words

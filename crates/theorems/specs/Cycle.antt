@@ -182,7 +182,7 @@ module _ {r : ℕ → Bool} {D : ℕ → Type 0} {hd : Header} (s : Store) (t : 
         coroutine = λ z. absurd z;
         range = λ z. absent-in-range (header s) (object s) t;
         known = tt;
-        queue = λ z. queued-remove (s .queue) (h .kept .ids) t absent (h .kept .fine .queue-fine) z;
+        queue = λ z. queued-remove (s .queue) (h .kept .memory .ids) t absent (h .kept .memory .fine .queue-fine) z;
         awaits = λ d o e. absurd-some e;
         awaited = λ l. absurd l;
         in-commit = λ p n. inl n;
@@ -194,7 +194,7 @@ module _ {r : ℕ → Bool} {D : ℕ → Type 0} {hd : Header} (s : Store) (t : 
   unfolding remove-task remove-from-ready-queue put-task
   remove-keeps x z zt rz =
       note-mid (put-queue (put-task s t absent) (remove (s .queue) t))
-      (task-mid s h t absent (remove (s .queue) t) low absent-fits (remove-len (s .queue) t (h .kept .fine .queue-fine)) (remove-length (s .queue) t ∙ h .kept .ids)
+      (task-mid s h t absent (remove (s .queue) t) low absent-fits (remove-len (s .queue) t (h .kept .memory .fine .queue-fine)) (remove-length (s .queue) t ∙ h .kept .memory .ids)
       remove-fits now) x
     where
       now : Runs z (with-task-queue (view s) t absent (entries (remove (s .queue) t)))
@@ -236,7 +236,7 @@ module _ {D : ℕ → Type 0} {hd : Header} (s : Store) (t : ℕ) (h : Mid Nothi
   run-keeps on how =
       moment-whole {D = D} {hd = hd} (set-state s t TaskState.Running) (Moment.Running (task-id t)) (omega (arith, low, h .kept .but .fits .next-fits))
       (lt→ltb t (hd .next) low-hd) (λ z. on)
-      (task-mid s h t running (s .queue) low (restated-fits (task s t) TaskState.Running (task-fits s t) tt) (h .kept .fine .queue-fine) (h .kept .ids) run-fits run-runs)
+      (task-mid s h t running (s .queue) low (restated-fits (task s t) TaskState.Running (task-fits s t) tt) (h .kept .memory .fine .queue-fine) (h .kept .memory .ids) run-fits run-runs)
 
 -- ---- the cycle
 
@@ -259,7 +259,7 @@ module _ (D : ℕ → Type 0) (hd : Header) (R : Switched → Switched → Type 
       q = s .queue
 
       len : q .len ≤ task-limit
-      len = h .kept .fine .queue-fine
+      len = h .kept .memory .fine .queue-fine
 
       Next : ℕ → Type 0
       Next u = R (act (put-queue s (pop-front q)) u) (other (put-queue s (pop-front q)) u)
@@ -267,16 +267,16 @@ module _ (D : ℕ → Type 0) (hd : Header) (R : Switched → Switched → Type 
       popped : (u : ℕ) (us : List ℕ) → entries q ≡ u ∷ us → Next (front-of q .0)
       popped u us e =
           let first = head-gone (subst (Queued (header s .next) (task s)) e (queue-of s h)) in
-          let rest : entries (pop-front q) ≡ us = entries-pop q u us (h .kept .ids) len e in
+          let rest : entries (pop-front q) ≡ us = entries-pop q u us (h .kept .memory .ids) len e in
           let low : u < hd .next = subst (λ (y : Header). u < y .next) (h .head) (first .0 .0) in
           let front : front-of q ≡ task-id u = front-entry q u us e (omega (arith, first .0 .0, h .kept .but .fits .next-fits)) in
           subst (λ (y : TaskId). Next (y .0)) (sym front)
           (go (pop-front q) u low (rw rest (first .1)) (first .0 .1)
-          (queue-mid s h (pop-front q) (pop-front-len q len) (pop-front-length q ∙ h .kept .ids)
+          (queue-mid s h (pop-front q) (pop-front-len q len) (pop-front-length q ∙ h .kept .memory .ids)
           (λ z. subst (Queued (header s .next) (task s)) (sym rest) (first .2))))
 
       at-least-one : (us : List ℕ) → entries q ≡ us → (q .len ≡ 0 → ⊥) → Next (front-of q .0)
-      at-least-one [] e ne = absurd (ne (sym (length-entries q (h .kept .ids) len) ∙ ap length e))
+      at-least-one [] e ne = absurd (ne (sym (length-entries q (h .kept .memory .ids) len) ∙ ap length e))
       at-least-one (u ∷ us) e ne = popped u us e
 
       by : (b : Bool) → eqb (s .queue .len) 0 ≡ b
@@ -298,18 +298,18 @@ module _ (D : ℕ → Type 0) (hd : Header) (R : Switched → Switched → Type 
       s = d .store
 
       len : s .queue .len ≤ task-limit
-      len = h .mid .kept .fine .queue-fine
+      len = h .mid .kept .memory .fine .queue-fine
 
       by : (w : Option ℕ) → d .woken ≡ w
           → R (elim w [ none ↦ resume-next act (d .store) | some t ↦ act (remove-from-ready-queue (d .store) t) t ])
           (elim w [ none ↦ resume-next other (d .store) | some t ↦ other (remove-from-ready-queue (d .store) t) t ])
       by none e = next-by s (h .mid) y next
       by (some t) e =
-          let gone-from : entries (remove (s .queue) t) ≡ without (entries (s .queue)) t = entries-remove (s .queue) t (h .mid .kept .ids) len in
+          let gone-from : entries (remove (s .queue) t) ≡ without (entries (s .queue)) t = entries-remove (s .queue) t (h .mid .kept .memory .ids) len in
           let was : Queued (header s .next) (task s) (entries (s .queue)) = queue-of s (h .mid) in
           woke (remove (s .queue) t) t e (h .woken t e)
           (rw gone-from (gone (entries (s .queue)) t (was .distinct)))
-          (queue-mid s (h .mid) (remove (s .queue) t) (remove-len (s .queue) t len) (remove-length (s .queue) t ∙ h .mid .kept .ids)
+          (queue-mid s (h .mid) (remove (s .queue) t) (remove-len (s .queue) t len) (remove-length (s .queue) t ∙ h .mid .kept .memory .ids)
           (λ z. subst (Queued (header s .next) (task s)) (sym gone-from)
           (queued-less (was-there (entries (s .queue)) t) (distinct-without (entries (s .queue)) t (z .distinct)) z)))
 

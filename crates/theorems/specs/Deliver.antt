@@ -79,7 +79,7 @@ pub except-mid : {P P' : ℕ → Type 0} {r : ℕ → Bool} {D : ℕ → Type 0}
 unfolding view
 except-mid s f h =
     record {
-      kept = record { sized = h .kept .sized; ids = h .kept .ids; fine = h .kept .fine; but = but-keeps (le-refl 0) f (λ p l n. n) (h .kept .but) };
+      kept = record { memory = h .kept .memory; but = but-keeps (le-refl 0) f (λ p l n. n) (h .kept .but) };
       runs = h .runs;
       done = h .done;
       head = h .head;
@@ -162,7 +162,7 @@ module _ {r : ℕ → Bool} {D : ℕ → Type 0} {hd : Header} (s : Store) (o : 
   unfolding view
   flight-keeps =
       subst (λ (v : View). Flight v o (awaiter-of (object s o)))
-      (sym (view-put-object s o x (h .kept .sized) (omega (arith, st .made, h .kept .but .fits .made-fits)) f)) (settle-flight (view s) o x st (h .kept .but))
+      (sym (view-put-object s o x (h .kept .memory .sized) (omega (arith, st .made, h .kept .but .fits .made-fits)) f)) (settle-flight (view s) o x st (h .kept .but))
 
 -- ---- a task is woken
 
@@ -228,7 +228,7 @@ module _ {r : ℕ → Bool} {D : ℕ → Type 0} {hd : Header} (s : Store) (t o 
           coroutine = λ z. refl;
           range = λ z. restated-in-range (header s) (object s) t (task s t) x was-live (rs .old) z;
           known = k;
-          queue = λ z. queued-back (s .queue) (h .kept .ids) t row (header s .next) (le-refl _) (not-queued t (rw e) z) low (rs .ready) z;
+          queue = λ z. queued-back (s .queue) (h .kept .memory .ids) t row (header s .next) (le-refl _) (not-queued t (rw e) z) low (rs .ready) z;
           awaits = λ d p z. absurd-some (sym (rs .unblocked) ∙ z);
           awaited = λ l p z n a.
               let here : blocked-on (task s t .state) ≡ some p = h .kept .but .awaited p z n t a was-live in
@@ -247,8 +247,8 @@ module _ {r : ℕ → Bool} {D : ℕ → Type 0} {hd : Header} (s : Store) (t o 
 
     woken : Mid Nothing r D hd (put-queue (put-task s t row) (push-back (s .queue) t))
     woken =
-        task-mid s h t row (push-back (s .queue) t) low (restated-fits (task s t) x (task-fits s t) f) (push-back-len (s .queue) t (h .kept .fine .queue-fine))
-        (push-back-length (s .queue) t ∙ h .kept .ids) wake-fits wake-runs
+        task-mid s h t row (push-back (s .queue) t) low (restated-fits (task s t) x (task-fits s t) f) (push-back-len (s .queue) t (h .kept .memory .fine .queue-fine))
+        (push-back-length (s .queue) t ∙ h .kept .memory .ids) wake-fits wake-runs
 
   -- The last step of a delivery, of a value or an error: the task in flight is woken if it is blocked.
   pub reach-keeps : Landed r D hd (deliver-to-task s t x)
@@ -377,7 +377,7 @@ module _ (r : ℕ → Bool) (D : ℕ → Type 0) (hd : Header) (e : Error) (k : 
 
       by : (b : Option Awaiter) → fail-gather s g e .onward ≡ b → Landed r D hd (deliver-awaiter-failure s (Awaiter.GatherSlot (heap-id g) (heap-id x)) e)
       by none q = unfold deliver-awaiter-failure send-error in (rw q (unfold climb in (nobody-lands _ (sent .stays q))))
-      by (some a) q = rw (failure-climbs s (heap-id g) (heap-id x) e a (i .mid .kept .sized) low q) (go _ g a (omega (arith, sent .up a q)) (sent .rises a q))
+      by (some a) q = rw (failure-climbs s (heap-id g) (heap-id x) e a (i .mid .kept .memory .sized) low q) (go _ g a (omega (arith, sent .up a q)) (sent .rises a q))
 
   -- fuel is no matter: see failure-climbs
   failure-climb : (n : ℕ) (s : Store) (o : ℕ) (a : Awaiter) → object-limit ≤ n + o → ErrorRises r D hd o s a → Landed r D hd (deliver-awaiter-failure s a e)

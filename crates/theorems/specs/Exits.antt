@@ -233,7 +233,7 @@ module _ {D : ℕ → Type 0} {hd : Header} where
       → Mid Nothing (but-for r t) D hd (note (put-task s t absent) (removed t))
   unfolding put-queue put-task
   end-one {r} s t e low h =
-      note-mid (put-task s t absent) (task-mid s h t absent (s .queue) low absent-fits (h .kept .fine .queue-fine) (h .kept .ids) write now) (removed t)
+      note-mid (put-task s t absent) (task-mid s h t absent (s .queue) low absent-fits (h .kept .memory .fine .queue-fine) (h .kept .memory .ids) write now) (removed t)
     where
       none-queued : Queued (header s .next) (update (task s) t absent) (entries (s .queue))
       none-queued =

@@ -141,7 +141,7 @@ module _ {r : ℕ → Bool} {D : ℕ → Type 0} {hd : Header} (s : Store) (g x 
 
     now : (p : ℕ) → place-at (place-put ps at row) p ≡ update (place-at ps) at row p
     unfolding view with-place place put-place put-places
-    now p = ap (λ (y : View). y .places p) (view-put-place u at row (f .mid .kept .sized) (omega (arith, low-used, f .mid .kept .but .fits .used-fits)) row-fits)
+    now p = ap (λ (y : View). y .places p) (view-put-place u at row (f .mid .kept .memory .sized) (omega (arith, low-used, f .mid .kept .but .fits .used-fits)) row-fits)
 
     written : Filling (place-put ps at row) (m - 2 ^ i)
     written =
@@ -212,7 +212,7 @@ settle-alone v o x st c h g z (by-task t m l e) q =
 pub alone-keeps : {r : ℕ → Bool} {D : ℕ → Type 0} {hd : Header} (s : Store) (o : ℕ) (x : Object) → ObjectFits x → Settles (view s) o x → is-coroutine (kind x) ≡ false
     → Mid Nothing r D hd s → Alone (view (put-object s o x)) o
 alone-keeps s o x f st c h =
-    subst (λ (v : View). Alone v o) (sym (view-put-object s o x (h .kept .sized) (omega (arith, st .made, h .kept .but .fits .made-fits)) f))
+    subst (λ (v : View). Alone v o) (sym (view-put-object s o x (h .kept .memory .sized) (omega (arith, st .made, h .kept .but .fits .made-fits)) f))
     (settle-alone (view s) o x st c (h .kept .but))
 
 -- a gather's own slot is of another gather
@@ -341,7 +341,7 @@ module _ {r : ℕ → Bool} {D : ℕ → Type 0} {hd : Header} (s : Store) (g x 
   list-known =
       both _ _ (lt→ltb g _ (subst (λ (y : Header). g < y .made) (sym (header-put-object middle g full)) made))
       (subst (λ (y : Object). T (is-completed (kind y)))
-      (sym (object-put-object middle g full (mid .kept .sized) (omega (arith, made, mid .kept .but .fits .made-fits)) full-fits)) (unfold full kind in tt))
+      (sym (object-put-object middle g full (mid .kept .memory .sized) (omega (arith, made, mid .kept .but .fits .made-fits)) full-fits)) (unfold full kind in tt))
 
   -- it waits on
   waits-keeps : (mask ≡ 0 → ⊥) → ((z : ℕ) → Held Nothing (view s) g z → z ≡ x → ⊥) → Mid Nothing r D hd (put-object middle g (awaits-on w mask))
@@ -445,7 +445,7 @@ module _ (r : ℕ → Bool) (D : ℕ → Type 0) (hd : Header) where
       by : (b : Option Awaiter) → resolve-child s g x v .onward ≡ b → Landed r D hd (deliver-awaiter-success s (Awaiter.GatherSlot (heap-id g) (heap-id x)) v)
       by none q = unfold deliver-awaiter-success send-value in (rw q (unfold climb in (nobody-lands _ (sent .stays q))))
       by (some a) q =
-          rw (success-climbs s (heap-id g) (heap-id x) v a (i .mid .kept .sized) low q) (go _ g a (Value.List (heap-id g)) (omega (arith, sent .up a q)) (sent .rises a q))
+          rw (success-climbs s (heap-id g) (heap-id x) v a (i .mid .kept .memory .sized) low q) (go _ g a (Value.List (heap-id g)) (omega (arith, sent .up a q)) (sent .rises a q))
 
   success-climb : (n : ℕ) (s : Store) (o : ℕ) (a : Awaiter) (v : Value) → object-limit ≤ n + o → ValueRises r D hd o v s a → Landed r D hd (deliver-awaiter-success s a v)
   unfolding view

@@ -2,6 +2,7 @@ pub mod Bits
 pub mod ReadyTasks
 pub mod PutObject
 pub mod PutTask
+pub mod Memory
 pub mod Stores
 pub mod SpawnTask
 pub mod Deliver
@@ -42,12 +43,12 @@ pub mod PanickingCommitLaws
 pub mod PanickingEventsLaws
 pub mod PanickingMachine
 pub mod PanickingMachineLaws
-pub mod Story
-pub mod StoryLaws
-pub mod StoryCommit
-pub mod StoryEvents
-pub mod StorySessions
-pub mod StoryGathers
+pub mod Received
+pub mod ReceivedLaws
+pub mod ReceivedCommit
+pub mod ReceivedEvents
+pub mod ReceivedSessions
+pub mod SessionGathers
 pub mod Alike
 pub mod AlikeLaws
 pub mod AlikeItems

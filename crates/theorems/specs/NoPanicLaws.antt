@@ -99,10 +99,10 @@ unfolding view
 front-activated s h ne = by (entries (s .queue)) refl
   where
     len : s .queue .len ≤ task-limit
-    len = h .fine .queue-fine
+    len = h .memory .fine .queue-fine
 
     by : (us : List ℕ) → entries (s .queue) ≡ us → (front-of (s .queue) .0 < header s .next) × Activated (task s (front-of (s .queue) .0) .state)
-    by [] e = absurd (eqb-false (s .queue .len) 0 ne (sym (length-entries (s .queue) (h .ids) len) ∙ ap length e))
+    by [] e = absurd (eqb-false (s .queue .len) 0 ne (sym (length-entries (s .queue) (h .memory .ids) len) ∙ ap length e))
     by (u ∷ us) e =
         let first = entry-activated (h .but) 0 (subst (λ (q : List ℕ). 0 < length q) (sym e) (omega arith)) in
         let here : getD (entries (s .queue)) 0 0 ≡ u = ap (λ (q : List ℕ). getD q 0 0) e in

@@ -70,6 +70,6 @@ slot-fills s o g x v w h f sl e =
     record {
       at = op .at;
       under = op .under;
-      fills = fill-fills (w .count) (s .places) (w .open-places) (w .first) x v 0 (op .at) (h .sized .places-sized) (omega (arith, room, h .but .fits .used-fits)) f (omega arith)
+      fills = fill-fills (w .count) (s .places) (w .open-places) (w .first) x v 0 (op .at) (h .memory .sized .places-sized) (omega (arith, room, h .but .fits .used-fits)) f (omega arith)
           (omega (arith, op .under)) named;
     }

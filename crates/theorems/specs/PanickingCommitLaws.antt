@@ -29,7 +29,7 @@ use Rattle.laws.specs.TestLaws.{is-true}
 use Rattle.laws.specs.DeliveryLaws.{awaited-object, awaited-fits}
 use Rattle.theorems.specs.Stores.{Whole}
 use Rattle.theorems.specs.Deliver.{failed-done}
-use Rattle.theorems.specs.CommitSteps.{Memory}
+use Rattle.theorems.specs.Memory.{Memory}
 use Rattle.theorems.specs.CommitInv.{OnTop, Stacked, above, Inv, settle-memory}
 use Rattle.theorems.specs.CommitLoop.{stacked-set, rest-done, Commits, settle-next}
 use Rattle.theorems.specs.CommitItems.{StopOk, Goes, PollOk, ItemOk, goes-length, one-keeps}

@@ -83,7 +83,7 @@ module _ (panic : Panics) (D : ℕ → Type 0) (hd : Header) where
           mid = remove-keeps (deliver-awaiter-failure s (task s (suc t) .awaiter) e .store) (suc t) (sent .mid)
               (subst (λ (y : Header). suc t < y .next) (sym (sent .mid .head)) low) (exited (suc t)) idle refl still;
           woken = sent .woken;
-        }) (failure-activated s (suc t) e (h .kept .sized) k free))
+        }) (failure-activated s (suc t) e (h .kept .memory .sized) k free))
 
     start-same : (s : Store) (t : ℕ) → suc t < hd .next → task s (suc t) .state ≡ TaskState.Unstarted → Mid Nothing idle D hd s
         → task-or-panic panic act s (suc t) ≡ start-task other s (suc t)
@@ -168,7 +168,7 @@ module _ (panic : Panics) (s : Store) (h : Whole s) where
   complete-safe t v m k =
       rw (is-true (is-live (task s (suc t) .state)) live)
       (sends ∙ (ap (resume-after-task-exit (activate-or-panic panic)) (success-safe panic idle D0 (header s) left c a v rises)
-      ∙ landed-safe panic D0 (header s) left a v (rises .mid .kept .sized) (task-fits s (suc t) .awaiter-fits)
+      ∙ landed-safe panic D0 (header s) left a v (rises .mid .kept .memory .sized) (task-fits s (suc t) .awaiter-fits)
       (value-fits (header s .made) (object s) v (h .facts .but .fits .made-fits) k) (completion-lands s t v h m k)))
     where
       c : ℕ

@@ -118,7 +118,7 @@ module _ (panic : Panics) where
   step-ids s e z ids i = by (eqb (refusal s e) 0) refl
     where
       by : (b : Bool) → eqb (refusal s e) 0 ≡ b → length (step s e .store .queue .ids) ≡ task-limit
-      by true q = step-whole s (whole-of s z ids (refusal-sound s e (eqb-true (refusal s e) 0 q))) e i .ids
+      by true q = step-whole s (whole-of s z ids (refusal-sound s e (eqb-true (refusal s e) 0 q))) e i .memory .ids
       by false q = rw (refused-step s e (refusal s e) refl (eqb-false (refusal s e) 0 q)) (unfold forget in ids)
 
   after-safe : (es : List Event) (s : Store) → Sized s → length (s .queue .ids) ≡ task-limit → AllInRange es → after-or-panic panic s es ≡ after s es
@@ -137,4 +137,4 @@ module _ (panic : Panics) where
 
   -- No panic is reached by any events from a fresh session on: the store and the answers are the machine's.
   pub session-safe : (es : List Event) → AllInRange es → (after-or-panic panic fresh es ≡ after fresh es) × (answers-or-panic panic fresh es ≡ answers fresh es)
-  session-safe es i = (after-safe es fresh (fresh-whole .sized) (fresh-whole .ids) i, answers-safe es fresh (fresh-whole .sized) (fresh-whole .ids) i)
+  session-safe es i = (after-safe es fresh (fresh-whole .memory .sized) (fresh-whole .memory .ids) i, answers-safe es fresh (fresh-whole .memory .sized) (fresh-whole .memory .ids) i)

@@ -164,7 +164,7 @@ module _ {r : ℕ → Bool} {D : ℕ → Type 0} {hd : Header} (s : Store) (h : 
       ≡ Object.ExternalFuture (p .call) (ExternalFutureState.Resolved (value-or (p .stored) v))
   unfolding view
   resolve-row v k o p l e =
-      object-put-object s o _ (h .kept .sized) (omega (arith, l, h .kept .but .fits .made-fits))
+      object-put-object s o _ (h .kept .memory .sized) (omega (arith, l, h .kept .but .fits .made-fits))
       (pending-fits s o p e .0, value-fits (header s .made) (object s) (value-or (p .stored) v) (h .kept .but .fits .made-fits) (known-or (view s) o p v (h .kept .but) l e k))
 
   pub resolve-keeps : (call : ℕ) (v : Value) → T (value-known (header s .made) (object s) v) → Mid Nothing r D hd (resolve-future s call v)
@@ -190,7 +190,7 @@ module _ {r : ℕ → Bool} {D : ℕ → Type 0} {hd : Header} (s : Store) (h : 
   pub fail-row : (x : Error) → ErrorFits x → (o : ℕ) (p : PendingExternal) → o < header s .made → as-pending (object s o) ≡ some p
       → object (put-object s o (Object.ExternalFuture (p .call) (ExternalFutureState.Failed x))) o ≡ Object.ExternalFuture (p .call) (ExternalFutureState.Failed x)
   unfolding view
-  fail-row x k o p l e = object-put-object s o _ (h .kept .sized) (omega (arith, l, h .kept .but .fits .made-fits)) (pending-fits s o p e .0, k)
+  fail-row x k o p l e = object-put-object s o _ (h .kept .memory .sized) (omega (arith, l, h .kept .but .fits .made-fits)) (pending-fits s o p e .0, k)
 
   pub fail-future-keeps : (call : ℕ) (x : Error) → ErrorFits x → Mid Nothing r D hd (fail-future s call x)
   unfolding fail-future fail-pending

@@ -51,12 +51,12 @@ making-queue s Event.eager m = absurd m
 
 module _ (s : Store) (h : Whole s) where
   pub forget-whole : Whole (forget s)
-  forget-whole = whole-of (forget s) (sized-forget s (h .sized)) (unfold forget in (h .ids)) (subst T (sym (sound-forget s)) (whole-sound s h))
+  forget-whole = whole-of (forget s) (sized-forget s (h .memory .sized)) (unfold forget in (h .memory .ids)) (subst T (sym (sound-forget s)) (whole-sound s h))
 
   makes : (e : Event) → Making e → refusal s e ≡ 0 → Whole (step s e .store)
   makes e m r =
       let same : step s e .store .queue ≡ s .queue = rw (accepted-step s e r) (making-queue (forget s) e m ∙ (unfold forget in refl)) in
-      whole-of (step s e .store) (step-sized s e (h .sized)) (ap (λ (q : ReadyQueue). length (q .ids)) same ∙ h .ids) (holds _ (making-sound s e (h .sized) m r))
+      whole-of (step s e .store) (step-sized s e (h .memory .sized)) (ap (λ (q : ReadyQueue). length (q .ids)) same ∙ h .memory .ids) (holds _ (making-sound s e (h .memory .sized) m r))
 
   acts : (e : Event) → Acting e → refusal s e ≡ 0 → Whole (step s e .store)
   acts e a r = rw (accepted-step s e r) (accept-keeps (forget s) e forget-whole a (refusal-rest (forget s) e (refusal-forget s e ∙ r)))

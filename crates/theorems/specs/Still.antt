@@ -41,7 +41,7 @@ use Rattle.theorems.specs.Results.{pending-object, AllApply, result-keep
 use Rattle.theorems.specs.Cycle.{task-rises, remove-keeps, next-by, exit-by}
 use Rattle.theorems.specs.NoPanicLaws.{Activated, starts, goes-on, raises-it, ready-activated, main-started}
 use Rattle.theorems.specs.NoPanicWoken.{failure-activated}
-use Rattle.theorems.specs.StoryLaws.{WasCommitted}
+use Rattle.theorems.specs.ReceivedLaws.{WasCommitted}
 use Rattle.theorems.specs.AlikeLaws.{awaited-committed}
 
 -- as many objects are made, and what was committed in u was so in s
@@ -201,14 +201,14 @@ module _ (D : ℕ → Type 0) (hd : Header) where
     pub next-still : (s : Store) → Mid Nothing idle D hd s → Still s (resume-next act s .store)
     unfolding Stills put-queue task
     next-still s h =
-        next-by D hd (λ x y. Still s (x .store)) act act s h (yield-still s (h .kept .sized))
+        next-by D hd (λ x y. Still s (x .store)) act act s h (yield-still s (h .kept .memory .sized))
         (λ q u l off r m. still-then (still-words s (put-queue s q) refl) (go (put-queue s q) u l (ready-activated _ r) m))
 
     pub exit-still : (d : Delivery) → Landed idle D hd d → ((u : ℕ) → d .woken ≡ some u → Activated (task (remove-from-ready-queue (d .store) u) u .state))
         → Still (d .store) (resume-after-task-exit act d .store)
     unfolding Stills remove-from-ready-queue put-queue task
     exit-still d h active =
-        exit-by D hd (λ x y. Still (d .store) (x .store)) act act d h (yield-still (d .store) (h .mid .kept .sized))
+        exit-by D hd (λ x y. Still (d .store) (x .store)) act act d h (yield-still (d .store) (h .mid .kept .memory .sized))
         (λ q u l off r m. still-then (still-words (d .store) (put-queue (d .store) q) refl) (go (put-queue (d .store) q) u l (ready-activated _ r) m))
         (λ q u e l off m. still-then (still-words (d .store) (put-queue (d .store) q) refl) (go (put-queue (d .store) q) u l (active u e) m))
 
@@ -218,11 +218,11 @@ module _ (D : ℕ → Type 0) (hd : Header) where
     fails-still s t e r k l live free still h =
         let a : Awaiter = task s (suc t) .awaiter in
         let sent : Landed r D hd (deliver-awaiter-failure s a e) = failure-keeps r D hd e k s (task s (suc t) .coroutine .0) a (task-rises s t h l live) in
-        still-then (failure-still s a e (h .kept .sized) (task-fits s (suc t) .awaiter-fits)) (still-then (gone-still (deliver-awaiter-failure s a e .store) (suc t))
+        still-then (failure-still s a e (h .kept .memory .sized) (task-fits s (suc t) .awaiter-fits)) (still-then (gone-still (deliver-awaiter-failure s a e .store) (suc t))
         (exit-still _ (record {
           mid = remove-keeps (deliver-awaiter-failure s a e .store) (suc t) (sent .mid) (subst (λ (y : Header). suc t < y .next) (sym (sent .mid .head)) l) (exited (suc t)) idle refl still;
           woken = sent .woken;
-        }) (failure-activated s (suc t) e (h .kept .sized) k free)))
+        }) (failure-activated s (suc t) e (h .kept .memory .sized) k free)))
 
     start-still : (s : Store) (t : ℕ) → suc t < hd .next → task s (suc t) .state ≡ TaskState.Unstarted → Mid Nothing idle D hd s → Still s (start-task act s (suc t) .store)
     unfolding start-task start-by
@@ -234,19 +234,19 @@ module _ (D : ℕ → Type 0) (hd : Header) where
         by : (n : Option ℕ) → Still s (start-by act s (suc t) o n .store)
         by none = fails-still s t Error.CoroutineReuse idle tt l (rw fr tt) (rw fr) (λ u d. refl) h
         by (some f) =
-            still-then (still-coroutine s o f CoroutineState.Running (h .kept .sized) (task-fits s (suc t) .coroutine-fits))
-            (run-still _ (suc t) (start o f) (task-room s (suc t) l h) (sized-put-object s o _ (h .kept .sized)))
+            still-then (still-coroutine s o f CoroutineState.Running (h .kept .memory .sized) (task-fits s (suc t) .coroutine-fits))
+            (run-still _ (suc t) (start o f) (task-room s (suc t) l h) (sized-put-object s o _ (h .kept .memory .sized)))
 
     state-still : (s : Store) (t : ℕ) (x : TaskState) → t < hd .next → task s t .state ≡ x → Activated x → Mid Nothing idle D hd s → Still s (activate-state act s t x .store)
     unfolding activate-state view
     state-still s zero _ l e starts h = absurd (main-started (h .kept .but) e)
     state-still s (suc t) _ l e starts h = start-still s t l e h
-    state-still s t _ l e (goes-on v) h = run-still s t (value v) (task-room s t l h) (h .kept .sized)
-    state-still s t _ l e (raises-it v) h = run-still s t (raises v) (task-room s t l h) (h .kept .sized)
+    state-still s t _ l e (goes-on v) h = run-still s t (value v) (task-room s t l h) (h .kept .memory .sized)
+    state-still s t _ l e (raises-it v) h = run-still s t (raises v) (task-room s t l h) (h .kept .memory .sized)
 
   within-still : (k : ℕ) → Stills (activate-within k)
   unfolding activate-within Stills
-  within-still zero s t l a h = yield-still s (h .kept .sized)
+  within-still zero s t l a h = yield-still s (h .kept .memory .sized)
   within-still (suc k) s t l a h = state-still (λ x u. activate-within k x u) (within-still k) s t (task s t .state) l refl a h
 
   pub activate-still : Stills activate
@@ -275,14 +275,14 @@ module _ {r : ℕ → Bool} {D : ℕ → Type 0} {hd : Header} (s : Store) (h : 
   resolve-future-still : (call : ℕ) (v : Value) → Still s (resolve-future s call v)
   unfolding resolve-future resolve-pending kind
   resolve-future-still call v =
-      found-still call _ (λ o p l e. still-then (still-object s o (Object.ExternalFuture (p .call) (ExternalFutureState.Resolved (value-or (p .stored) v))) (h .kept .sized) l (λ c. absurd c))
-      (success-still _ (p .awaiter) (value-or (p .stored) v) (sized-put-object s o _ (h .kept .sized)) (pending-awaiter-fits o p e)))
+      found-still call _ (λ o p l e. still-then (still-object s o (Object.ExternalFuture (p .call) (ExternalFutureState.Resolved (value-or (p .stored) v))) (h .kept .memory .sized) l (λ c. absurd c))
+      (success-still _ (p .awaiter) (value-or (p .stored) v) (sized-put-object s o _ (h .kept .memory .sized)) (pending-awaiter-fits o p e)))
 
   fail-future-still : (call : ℕ) (x : Error) → Still s (fail-future s call x)
   unfolding fail-future fail-pending kind
   fail-future-still call x =
-      found-still call _ (λ o p l e. still-then (still-object s o (Object.ExternalFuture (p .call) (ExternalFutureState.Failed x)) (h .kept .sized) l (λ c. absurd c))
-      (failure-still _ (p .awaiter) x (sized-put-object s o _ (h .kept .sized)) (pending-awaiter-fits o p e)))
+      found-still call _ (λ o p l e. still-then (still-object s o (Object.ExternalFuture (p .call) (ExternalFutureState.Failed x)) (h .kept .memory .sized) l (λ c. absurd c))
+      (failure-still _ (p .awaiter) x (sized-put-object s o _ (h .kept .memory .sized)) (pending-awaiter-fits o p e)))
 
   result-still : (x : Result) → Still s (apply-result s x)
   unfolding apply-result

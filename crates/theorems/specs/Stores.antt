@@ -22,21 +22,20 @@ use Rattle.machine.specs.Sound.{is-ended, runs-now, runner-in-range, sound}
 use Rattle.laws.specs.Views.{Sized, update, with-task, with-object, with-place, with-places, with-header, with-queue}
 use Rattle.laws.specs.Facts.{SoundBut, Nothing, SoundFacts, WordsFine}
 use Rattle.laws.specs.TestLaws.{both, both-left}
-use Rattle.laws.specs.StoreLaws.{update-case, sized-put-task, sized-put-object, sized-put-place, sized-put-header, sized-put-queue, sized-note, header-put-header, header-put-object}
+use Rattle.laws.specs.StoreLaws.{update-case, sized-put-task, sized-put-header, sized-put-queue, sized-note, header-put-header, header-put-object}
 use Rattle.laws.specs.StoreLaws.{view-put-task, view-put-object, view-put-place, view-put-header, view-put-queue, view-note}
-use Rattle.laws.specs.WordLaws.{words-facts, words-test, fine-put-task, fine-put-object, fine-put-place, fine-put-header, fine-put-queue, fine-note}
+use Rattle.laws.specs.WordLaws.{words-facts, words-test, fine-put-task, fine-put-header, fine-put-queue, fine-note}
 use Rattle.laws.specs.FactLaws.{to-test}
 use Rattle.laws.specs.MakingLaws.{called-at, header-keeps}
 use Rattle.laws.specs.SoundLaws.{sound-facts}
+use Rattle.theorems.specs.Memory.{Memory, memory-object, memory-place}
 use Rattle.theorems.specs.ReadyTasks.{Queued}
 use Rattle.theorems.specs.PutObject.{Fits, object-keeps}
 use Rattle.theorems.specs.PutTask.{with-task-queue, TaskWrite, task-keeps, queue-keeps, PlacesWrite, places-keep}
 
 -- the memory is of its lengths, the rows in use are canonical, and the view is sound but for what k, P and Q except
 pub record Kept (k : ℕ) (P Q : ℕ → Type 0) (s : Store) : Type 0 where
-  pub sized : Sized s
-  pub ids : length (s .queue .ids) ≡ task-limit
-  pub fine : WordsFine (header s .next) (header s .made) (header s .used) s
+  pub memory : Memory s
   pub but : SoundBut k P Q (view s)
 
 -- which tasks run
@@ -56,18 +55,16 @@ pub record Mid (P : ℕ → Type 0) (r : ℕ → Bool) (D : ℕ → Type 0) (h :
 
 -- A sound store, whose memory is of its lengths.
 pub record Whole (s : Store) : Type 0 where
-  pub sized : Sized s
-  pub ids : length (s .queue .ids) ≡ task-limit
-  pub fine : WordsFine (header s .next) (header s .made) (header s .used) s
+  pub memory : Memory s
   pub facts : SoundFacts (view s)
 
 pub whole-of : (s : Store) → Sized s → length (s .queue .ids) ≡ task-limit → T (sound s) → Whole s
 unfolding sound
-whole-of s z i h = record { sized = z; ids = i; fine = words-facts s (both-left _ _ h); facts = sound-facts s h }
+whole-of s z i h = record { memory = record { sized = z; ids = i; fine = words-facts s (both-left _ _ h) }; facts = sound-facts s h }
 
 pub whole-sound : (s : Store) → Whole s → T (sound s)
 unfolding sound
-whole-sound s h = both _ _ (words-test s (h .fine)) (to-test (view s) (h .facts))
+whole-sound s h = both _ _ (words-test s (h .memory .fine)) (to-test (view s) (h .facts))
 
 -- ---- each write
 
@@ -77,28 +74,27 @@ module _ {k : ℕ} {P Q : ℕ → Type 0} (s : Store) (h : Kept k P Q s) where
   object-kept {l} {P'} {Q'} o x f ft =
       let low : o < object-limit = omega (arith, ft .made, h .but .fits .made-fits) in
       record {
-        sized = sized-put-object s o x (h .sized);
-        ids = unfold put-object in (h .ids);
-        fine = subst (λ (y : Header). WordsFine (y .next) (y .made) (y .used) (put-object s o x)) (sym (header-put-object s o x))
-            (fine-put-object _ _ _ s (h .sized) (h .fine) (header s .made) o x low f (λ p m ne. m));
-        but = subst (SoundBut l P' Q') (sym (view-put-object s o x (h .sized) low f)) (object-keeps k l P Q P' Q' (view s) o x ft (h .but));
+        memory = memory-object s o x (ft .made) f (h .memory);
+        but = subst (SoundBut l P' Q') (sym (view-put-object s o x (h .memory .sized) low f)) (object-keeps k l P Q P' Q' (view s) o x ft (h .but));
       }
 
   pub view-task-queue : (t : ℕ) (r : Task) (q : ReadyQueue) → t < task-limit → TaskFits r
       → view (put-queue (put-task s t r) q) ≡ with-task-queue (view s) t r (entries q)
   unfolding with-task-queue with-task with-queue
-  view-task-queue t r q low f = view-put-queue (put-task s t r) q ∙ ap (λ (v : View). with-queue v (entries q)) (view-put-task s t r (h .sized) low f)
+  view-task-queue t r q low f = view-put-queue (put-task s t r) q ∙ ap (λ (v : View). with-queue v (entries q)) (view-put-task s t r (h .memory .sized) low f)
 
   pub task-kept : {P' Q' : ℕ → Type 0} (t : ℕ) (r : Task) (q : ReadyQueue) → t < header s .next → TaskFits r → q .len ≤ task-limit → length (q .ids) ≡ task-limit
       → TaskWrite P Q P' Q' (view s) t r (entries q) → Kept k P' Q' (put-queue (put-task s t r) q)
   task-kept {P'} {Q'} t r q low f len ids ft =
       let room : t < task-limit = unfold view in (omega (arith, low, h .but .fits .next-fits)) in
       record {
-        sized = sized-put-queue (put-task s t r) q (sized-put-task s t r (h .sized));
-        ids = unfold put-queue in ids;
-        fine = unfold header put-queue put-task in
-            (fine-put-queue (header s .next) (header s .made) (header s .used) (put-task s t r) (sized-put-task s t r (h .sized))
-            (fine-put-task _ _ _ s (h .sized) (h .fine) (header s .next) t r room f (λ u m ne. m)) q len);
+        memory = record {
+          sized = sized-put-queue (put-task s t r) q (sized-put-task s t r (h .memory .sized));
+          ids = unfold put-queue in ids;
+          fine = unfold header put-queue put-task in
+              (fine-put-queue (header s .next) (header s .made) (header s .used) (put-task s t r) (sized-put-task s t r (h .memory .sized))
+              (fine-put-task _ _ _ s (h .memory .sized) (h .memory .fine) (header s .next) t r room f (λ u m ne. m)) q len);
+        };
         but = subst (SoundBut k P' Q') (sym (view-task-queue t r q room f)) (task-keeps k P Q P' Q' (view s) t r (entries q) ft (h .but));
       }
 
@@ -106,9 +102,11 @@ module _ {k : ℕ} {P Q : ℕ → Type 0} (s : Store) (h : Kept k P Q s) where
       → (Queued (header s .next) (task s) (entries (s .queue)) → Queued (header s .next) (task s) (entries q)) → Kept k P Q (put-queue s q)
   queue-kept q len ids f =
       record {
-        sized = sized-put-queue s q (h .sized);
-        ids = unfold put-queue in ids;
-        fine = unfold header put-queue in (fine-put-queue (header s .next) (header s .made) (header s .used) s (h .sized) (h .fine) q len);
+        memory = record {
+          sized = sized-put-queue s q (h .memory .sized);
+          ids = unfold put-queue in ids;
+          fine = unfold header put-queue in (fine-put-queue (header s .next) (header s .made) (header s .used) s (h .memory .sized) (h .memory .fine) q len);
+        };
         but = subst (SoundBut k P Q) (sym (view-put-queue s q)) (unfold view in (queue-keeps (entries q) f (h .but)));
       }
 
@@ -116,18 +114,18 @@ module _ {k : ℕ} {P Q : ℕ → Type 0} (s : Store) (h : Kept k P Q s) where
   place-kept p r low f ft =
       let room : p < 512 = unfold view in (omega (arith, low, h .but .fits .used-fits)) in
       record {
-        sized = sized-put-place s p r (h .sized);
-        ids = unfold put-place in (h .ids);
-        fine = unfold header put-place in (fine-put-place (header s .next) (header s .made) (header s .used) s (h .sized) (h .fine) (header s .used) p r room f (λ q m ne. m));
-        but = subst (SoundBut k P Q) (sym (view-put-place s p r (h .sized) room f)) (unfold with-place with-places view in (places-keep (view s) (update (place s) p r) ft (h .but)));
+        memory = memory-place s p r low f (h .memory);
+        but = subst (SoundBut k P Q) (sym (view-put-place s p r (h .memory .sized) room f)) (unfold with-place with-places view in (places-keep (view s) (update (place s) p r) ft (h .but)));
       }
 
   pub note-kept : (x : Happening) → Kept k P Q (note s x)
   note-kept x =
       record {
-        sized = sized-note s x (h .sized);
-        ids = unfold note in (h .ids);
-        fine = unfold header note in (fine-note (header s .next) (header s .made) (header s .used) s (h .sized) (h .fine) x);
+        memory = record {
+          sized = sized-note s x (h .memory .sized);
+          ids = unfold note in (h .memory .ids);
+          fine = unfold header note in (fine-note (header s .next) (header s .made) (header s .used) s (h .memory .sized) (h .memory .fine) x);
+        };
         but = subst (SoundBut k P Q) (sym (view-note s x)) (h .but);
       }
 
@@ -145,7 +143,7 @@ module _ {P : ℕ → Type 0} {r : ℕ → Bool} {D : ℕ → Type 0} {hd : Head
       }
     where
       same : view (put-object s o x) ≡ with-object (view s) o x
-      same = view-put-object s o x (h .kept .sized) (omega (arith, ft .made, h .kept .but .fits .made-fits)) f
+      same = view-put-object s o x (h .kept .memory .sized) (omega (arith, ft .made, h .kept .but .fits .made-fits)) f
 
       more-done : (p : ℕ) → T (is-completed (kind (object s p))) → T (is-completed (kind (update (object s) o x p)))
       more-done p t = update-case (object s) o x (λ (y : Object). T (is-completed (kind y))) p
@@ -194,7 +192,7 @@ module _ {P : ℕ → Type 0} {r : ℕ → Bool} {D : ℕ → Type 0} {hd : Head
 pub mid-of : (s : Store) → Whole s → Mid Nothing (runs-now (header s .moment)) (λ o. T (is-completed (kind (object s o)))) (header s) s
 mid-of s h =
     record {
-      kept = record { sized = h .sized; ids = h .ids; fine = h .fine; but = h .facts .but };
+      kept = record { memory = h .memory; but = h .facts .but };
       runs = unfold view in (h .facts .runs);
       done = λ o d. d;
       head = refl;
@@ -204,9 +202,7 @@ pub whole-mid : {D : ℕ → Type 0} {hd : Header} (s : Store) → T (runner-in-
 unfolding view
 whole-mid {D} {hd} s k h =
     record {
-      sized = h .kept .sized;
-      ids = h .kept .ids;
-      fine = h .kept .fine;
+      memory = h .kept .memory;
       facts = record {
         but = h .kept .but;
         runner = subst (λ (y : Header). T (runner-in-range (y .next) (y .moment))) (sym (h .head)) k;
@@ -220,16 +216,18 @@ pub moment-whole : {D : ℕ → Type 0} {hd : Header} (s : Store) (m : Moment) �
 unfolding set-moment view with-header
 moment-whole {D} {hd} s m f k e h =
     record {
-      sized = sized-put-header s i z;
-      ids = unfold put-header in (h .kept .ids);
-      fine = subst (λ (y : Header). WordsFine (y .next) (y .made) (y .used) (put-header s i)) (sym (header-put-header s i z (but .fits)))
-          (fine-put-header _ _ _ s z (h .kept .fine) i (but .fits));
+      memory = record {
+        sized = sized-put-header s i z;
+        ids = unfold put-header in (h .kept .memory .ids);
+        fine = subst (λ (y : Header). WordsFine (y .next) (y .made) (y .used) (put-header s i)) (sym (header-put-header s i z (but .fits)))
+            (fine-put-header _ _ _ s z (h .kept .memory .fine) i (but .fits));
+      };
       facts = subst SoundFacts (sym (view-put-header s i z (but .fits)))
           (record { but = but; runner = subst (λ (y : Header). T (runner-in-range (y .next) m)) (sym (h .head)) k; runs = h .runs });
     }
   where
     z : Sized s
-    z = h .kept .sized
+    z = h .kept .memory .sized
 
     i : Header
     i = called-at (header s) (header s .calls) m

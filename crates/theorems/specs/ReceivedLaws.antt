@@ -47,7 +47,7 @@ use Rattle.theorems.specs.NoPanicLaws.{slot-registered}
 use Rattle.theorems.specs.Asyncio.{Done, OutcomeFits, arrive, arrive-by}
 use Rattle.theorems.specs.AsyncioLaws.{settled-stays, arrive-same}
 use Rattle.theorems.specs.Meanwhile.{SameGather}
-use Rattle.theorems.specs.Story.{Came, gather-completed, gather-failed, Story, ends, arrival, Tale}
+use Rattle.theorems.specs.Received.{Came, external-resolved, external-failed, gather-completed, gather-failed, coroutine-returned, coroutine-raised, Received, ends, arrival, SomeReceived}
 
 -- ---- what leaves the gather alone
 
@@ -90,31 +90,31 @@ module _ (g : ℕ) where
   same-places s ps l z h = record { sized = sized-put-places s ps l z; same-object = refl; same-places = h }
 
 -- the gather g is as it was, and no object is lost
-pub record Calm (g : ℕ) (s u : Store) : Type 0 where
+pub record Untouched (g : ℕ) (s u : Store) : Type 0 where
   pub same : SameGather s u g
   pub made : header s .made ≤ header u .made
 
 module _ (g : ℕ) where
-  pub calm-refl : (s : Store) → Sized s → Calm g s s
-  calm-refl s z = record { same = same-refl g s z; made = le-refl _ }
+  pub untouched-refl : (s : Store) → Sized s → Untouched g s s
+  untouched-refl s z = record { same = same-refl g s z; made = le-refl _ }
 
-  pub calm-then : {s u v : Store} → Calm g s u → Calm g u v → Calm g s v
-  calm-then k l = record { same = same-then g (k .same) (l .same); made = omega (arith, k .made, l .made) }
+  pub untouched-then : {s u v : Store} → Untouched g s u → Untouched g u v → Untouched g s v
+  untouched-then k l = record { same = same-then g (k .same) (l .same); made = omega (arith, k .made, l .made) }
 
-  pub calm-words : (s u : Store) → u .objects ≡ s .objects → u .places ≡ s .places → Sized u → Calm g s u
+  pub untouched-words : (s u : Store) → u .objects ≡ s .objects → u .places ≡ s .places → Sized u → Untouched g s u
   unfolding header
-  calm-words s u e q z = record { same = same-words g s u e q z; made = omega (arith, ap (λ (w : List ℕ). header-at w .made) e) }
+  untouched-words s u e q z = record { same = same-words g s u e q z; made = omega (arith, ap (λ (w : List ℕ). header-at w .made) e) }
 
-  pub calm-object : (s : Store) (o : ℕ) (r : Object) → (g ≡ o → ⊥) → Sized s → Calm g s (put-object s o r)
-  calm-object s o r ne z = record { same = same-object g s o r ne z; made = omega (arith, ap (λ (h : Header). h .made) (header-put-object s o r)) }
+  pub untouched-object : (s : Store) (o : ℕ) (r : Object) → (g ≡ o → ⊥) → Sized s → Untouched g s (put-object s o r)
+  untouched-object s o r ne z = record { same = same-object g s o r ne z; made = omega (arith, ap (λ (h : Header). h .made) (header-put-object s o r)) }
 
-  pub calm-header : (s : Store) (h : Header) → Sized s → HeaderFits h → header s .made ≤ h .made → Calm g s (put-header s h)
-  calm-header s h z f l = record { same = same-header g s h z; made = omega (arith, ap (λ (y : Header). y .made) (header-put-header s h z f)) }
+  pub untouched-header : (s : Store) (h : Header) → Sized s → HeaderFits h → header s .made ≤ h .made → Untouched g s (put-header s h)
+  untouched-header s h z f l = record { same = same-header g s h z; made = omega (arith, ap (λ (y : Header). y .made) (header-put-header s h z f)) }
 
   -- a place of none of its own is written
-  pub calm-place : (s : Store) (p : ℕ) (r : Place) → Sized s → ((f n : ℕ) (x : GatherState) → object s g ≡ Object.GatherFuture f n x → (i : ℕ) → i < n → f + i ≡ p → ⊥)
-      → Calm g s (put-place s p r)
-  calm-place s p r z h =
+  pub untouched-place : (s : Store) (p : ℕ) (r : Place) → Sized s → ((f n : ℕ) (x : GatherState) → object s g ≡ Object.GatherFuture f n x → (i : ℕ) → i < n → f + i ≡ p → ⊥)
+      → Untouched g s (put-place s p r)
+  untouched-place s p r z h =
       record {
         same = record {
           sized = sized-put-place s p r z;
@@ -175,20 +175,20 @@ fill-outside (suc k) ps m first source v i p h =
 
 -- ---- stories
 
-module _ (g : ℕ) where
-  pub before : {s u v : Store} {xs : List Done} → SameGather s u g → Story g u xs v → Story g s xs v
+module _ (E : ℕ → Outcome Value Error → Type 0) (g : ℕ) where
+  pub before : {s u v : Store} {xs : List Done} → SameGather s u g → Received E g u xs v → Received E g s xs v
   before {s = s} k (ends u v l) = ends s v (same-then g k l)
   before {s = s} k (arrival u y v w x xs l e op f c r) = arrival s y v w x xs (same-then g k l) e op f c r
 
-  story-then : {s u v : Store} {xs ys : List Done} → Story g s xs u → Story g u ys v → Story g s (xs ++ ys) v
-  story-then (ends s u k) r = before k r
-  story-then (arrival s y u w x xs k e op f c q) r = arrival s y _ w x _ k e op f c (story-then q r)
+  received-by-then : {s u v : Store} {xs ys : List Done} → Received E g s xs u → Received E g u ys v → Received E g s (xs ++ ys) v
+  received-by-then (ends s u k) r = before k r
+  received-by-then (arrival s y u w x xs k e op f c q) r = arrival s y _ w x _ k e op f c (received-by-then q r)
 
-  pub tale-then : {s u v : Store} → Tale g s u → Tale g u v → Tale g s v
-  tale-then a b = record { arrivals = a .arrivals ++ b .arrivals; story = story-then (a .story) (b .story); made = omega (arith, a .made, b .made) }
+  pub received-then : {s u v : Store} → SomeReceived E g s u → SomeReceived E g u v → SomeReceived E g s v
+  received-then a b = record { arrivals = a .arrivals ++ b .arrivals; received = received-by-then (a .received) (b .received); made = omega (arith, a .made, b .made) }
 
-  pub tale-calm : {s u : Store} → Calm g s u → Tale g s u
-  tale-calm {s} {u} k = record { arrivals = []; story = ends s u (k .same); made = k .made }
+  pub received-none : {s u : Store} → Untouched g s u → SomeReceived E g s u
+  received-none {s} {u} k = record { arrivals = []; received = ends s u (k .same); made = k .made }
 
   arrive-committed : (s : Store) (w : AwaitedGather) (x : Done) → Sized s → g < object-limit → as-awaited (object s g) ≡ some w → WasCommitted (arrive s g x) g
   unfolding arrive
@@ -213,23 +213,39 @@ module _ (g : ℕ) where
       by (raised v) = unfold arrive-by fail-gather in
           (subst (λ (u : Option AwaitedGather). WasCommitted (fail-awaited s g v u .store) g) (sym e) (unfold fail-awaited in (is-it _ s z (unfold kind in tt))))
 
-  story-committed : {s u : Store} {xs : List Done} → g < object-limit → Story g s xs u → WasCommitted s g → WasCommitted u g
-  story-committed l (ends s u k) c = same-committed g k c
-  story-committed l (arrival s y u w x xs k e op f came r) c = story-committed l r (arrive-committed y w x (k .sized) l e)
+  received-by-committed : {s u : Store} {xs : List Done} → g < object-limit → Received E g s xs u → WasCommitted s g → WasCommitted u g
+  received-by-committed l (ends s u k) c = same-committed g k c
+  received-by-committed l (arrival s y u w x xs k e op f came r) c = received-by-committed l r (arrive-committed y w x (k .sized) l e)
 
-  pub tale-committed : {s u : Store} → g < object-limit → Tale g s u → WasCommitted s g → WasCommitted u g
-  tale-committed l a c = story-committed l (a .story) c
+  pub received-committed : {s u : Store} → g < object-limit → SomeReceived E g s u → WasCommitted s g → WasCommitted u g
+  received-committed l a c = received-by-committed l (a .received) c
 
-  story-sized : {s u : Store} {xs : List Done} → Story g s xs u → Sized u
-  story-sized (ends s u k) = k .sized
-  story-sized (arrival s y u w x xs k e op f came r) = story-sized r
+  received-by-sized : {s u : Store} {xs : List Done} → Received E g s xs u → Sized u
+  received-by-sized (ends s u k) = k .sized
+  received-by-sized (arrival s y u w x xs k e op f came r) = received-by-sized r
 
-  pub tale-sized : {s u : Store} → Tale g s u → Sized u
-  tale-sized a = story-sized (a .story)
+  pub received-sized : {s u : Store} → SomeReceived E g s u → Sized u
+  received-sized a = received-by-sized (a .received)
+
+-- what is told of ends may be more
+received-by-map : {E F : ℕ → Outcome Value Error → Type 0} (g : ℕ) {s u : Store} {xs : List Done} → ((o : ℕ) (y : Outcome Value Error) → E o y → F o y) → Received E g s xs u → Received F g s xs u
+received-by-map g m (ends s u k) = ends s u k
+received-by-map {E} {F} g m (arrival s v u w x xs k e op f c r) = arrival s v u w x xs k e op f (came c) (received-by-map g m r)
+  where
+    came : {z : Object} {o : ℕ} {y : Outcome Value Error} → Came E z o y → Came F z o y
+    came (external-resolved d b q) = external-resolved d b q
+    came (external-failed d b q) = external-failed d b q
+    came (gather-completed d n q) = gather-completed d n q
+    came (gather-failed d n b q) = gather-failed d n b q
+    came (coroutine-returned d b q h) = coroutine-returned d b q (m _ _ h)
+    came (coroutine-raised d y b q h) = coroutine-raised d y b q (m _ _ h)
+
+pub received-map : {E F : ℕ → Outcome Value Error → Type 0} (g : ℕ) {s u : Store} → ((o : ℕ) (y : Outcome Value Error) → E o y → F o y) → SomeReceived E g s u → SomeReceived F g s u
+received-map g m t = record { arrivals = t .arrivals; received = received-by-map g m (t .received); made = t .made }
 
 -- ---- into a gather
 
-module _ (g : ℕ) (r : ℕ → Bool) (D : ℕ → Type 0) (hd : Header) (low : g < hd .made) where
+module _ (E : ℕ → Outcome Value Error → Type 0) (g : ℕ) (r : ℕ → Bool) (D : ℕ → Type 0) (hd : Header) (low : g < hd .made) where
   made-in : {P : ℕ → Type 0} (s : Store) → Mid P r D hd s → g < header s .made
   made-in s h = subst (λ (y : Header). g < y .made) (sym (h .head)) low
 
@@ -242,7 +258,7 @@ module _ (g : ℕ) (r : ℕ → Bool) (D : ℕ → Type 0) (hd : Header) (low : 
   slot-limit s o p x fl h = omega (arith, fl .slot p x refl .made, h .kept .but .fits .made-fits)
 
   -- a value goes into another gather
-  other-resolves : (s : Store) (o x : ℕ) (v : Value) → Mid Nothing r D hd s → o < header s .made → (g ≡ o → ⊥) → Calm g s (resolve-child s o x v .store)
+  other-resolves : (s : Store) (o x : ℕ) (v : Value) → Mid Nothing r D hd s → o < header s .made → (g ≡ o → ⊥) → Untouched g s (resolve-child s o x v .store)
   unfolding view
   other-resolves s o x v h l ne =
       record {
@@ -251,7 +267,7 @@ module _ (g : ℕ) (r : ℕ → Bool) (D : ℕ → Type 0) (hd : Header) (low : 
       }
     where
       z : Sized s
-      z = h .kept .sized
+      z = h .kept .memory .sized
 
       by : (w : Option AwaitedGather) → as-awaited (object s o) ≡ w → SameGather s (resolve-child s o x v .store) g
       by none e = unfold resolve-child in (rw e (unfold resolve-awaited in (same-refl g s z)))
@@ -270,41 +286,41 @@ module _ (g : ℕ) (r : ℕ → Bool) (D : ℕ → Type 0) (hd : Header) (low : 
           left false = unfold resolve-left in (same-then g k (same-object g _ o _ ne (k .sized)))
 
   -- an error fails another gather
-  other-fails : (s : Store) (o : ℕ) (e : Error) → Sized s → (g ≡ o → ⊥) → Calm g s (fail-gather s o e .store)
+  other-fails : (s : Store) (o : ℕ) (e : Error) → Sized s → (g ≡ o → ⊥) → Untouched g s (fail-gather s o e .store)
   unfolding fail-gather
   other-fails s o e z ne = by (as-awaited (object s o))
     where
-      by : (w : Option AwaitedGather) → Calm g s (fail-awaited s o e w .store)
-      by none = unfold fail-awaited in (calm-refl g s z)
-      by (some w) = unfold fail-awaited in (calm-object g s o _ ne z)
+      by : (w : Option AwaitedGather) → Untouched g s (fail-awaited s o e w .store)
+      by none = unfold fail-awaited in (untouched-refl g s z)
+      by (some w) = unfold fail-awaited in (untouched-object g s o _ ne z)
 
   -- what goes into a gather g itself is an arrival, if it is awaited
-  arrives-at : (s : Store) (o x : ℕ) (y : Outcome Value Error) → Mid Nothing r D hd s → Slotted (header s .made) (object s) (place s) o g x → OutcomeFits y → Came (object s o) o y
-      → Tale g s (arrive-by s g x y)
+  arrives-at : (s : Store) (o x : ℕ) (y : Outcome Value Error) → Mid Nothing r D hd s → Slotted (header s .made) (object s) (place s) o g x → OutcomeFits y → Came E (object s o) o y
+      → SomeReceived E g s (arrive-by s g x y)
   arrives-at s o x y h sl f came = by (as-awaited (object s g)) refl
     where
       d : Done
       d = record { awaitable = x; outcome = y }
 
-      came-x : Came (object s x) x y
-      came-x = subst (λ (j : ℕ). Came (object s j) j y) (sym (sl .own)) came
+      came-x : Came E (object s x) x y
+      came-x = subst (λ (j : ℕ). Came E (object s j) j y) (sym (sl .own)) came
 
       sized-then : Sized (arrive s g d)
-      sized-then = arrive-same s g d (h .kept .sized) (limit s h) .sized
+      sized-then = arrive-same s g d (h .kept .memory .sized) (limit s h) .sized
 
-      by : (w : Option AwaitedGather) → as-awaited (object s g) ≡ w → Tale g s (arrive-by s g x y)
-      by none e = subst (Tale g s) (sym (settled-stays s g x y e)) (tale-calm g (calm-refl g s (h .kept .sized)))
+      by : (w : Option AwaitedGather) → as-awaited (object s g) ≡ w → SomeReceived E g s (arrive-by s g x y)
+      by none e = subst (SomeReceived E g s) (sym (settled-stays s g x y e)) (received-none E g (untouched-refl g s (h .kept .memory .sized)))
       by (some w) e = unfold arrive in (record {
         arrivals = d ∷ [];
-        story = arrival s s (arrive s g d) w d [] (same-refl g s (h .kept .sized)) e (slot-registered sl w e) f came-x (ends (arrive s g d) (arrive s g d) (same-refl g (arrive s g d) sized-then));
-        made = omega (arith, ap (λ (h : Header). h .made) (arrive-same s g d (h .kept .sized) (limit s h) .same-header));
+        received = arrival s s (arrive s g d) w d [] (same-refl g s (h .kept .memory .sized)) e (slot-registered sl w e) f came-x (ends (arrive s g d) (arrive s g d) (same-refl g (arrive s g d) sized-then));
+        made = omega (arith, ap (λ (h : Header). h .made) (arrive-same s g d (h .kept .memory .sized) (limit s h) .same-header));
       })
 
   -- a value goes into the gather of its slot
-  value-tells : (s : Store) (o p x : ℕ) (v : Value) → ValueRises r D hd o v s (Awaiter.GatherSlot (heap-id p) (heap-id x)) → Came (object s o) o (returned v)
-      → Tale g s (resolve-child s p x v .store)
+  value-received : (s : Store) (o p x : ℕ) (v : Value) → ValueRises r D hd o v s (Awaiter.GatherSlot (heap-id p) (heap-id x)) → Came E (object s o) o (returned v)
+      → SomeReceived E g s (resolve-child s p x v .store)
   unfolding view
-  value-tells s o p x v i came = by (ℕ-discrete g p)
+  value-received s o p x v i came = by (ℕ-discrete g p)
     where
       h : Mid Nothing r D hd s
       h = landed s (λ u z. task-slot (sym z)) (i .mid)
@@ -312,21 +328,21 @@ module _ (g : ℕ) (r : ℕ → Bool) (D : ℕ → Type 0) (hd : Header) (low : 
       sl : Slotted (header s .made) (object s) (place s) o p x
       sl = i .flight .slot p x refl
 
-      by : Dec (g ≡ p) → Tale g s (resolve-child s p x v .store)
+      by : Dec (g ≡ p) → SomeReceived E g s (resolve-child s p x v .store)
       by (yes q) =
-          subst (λ (j : ℕ). Tale g s (resolve-child s j x v .store)) q
+          subst (λ (j : ℕ). SomeReceived E g s (resolve-child s j x v .store)) q
           (unfold arrive-by in (arrives-at s o x (returned v) h (subst (λ (j : ℕ). Slotted (header s .made) (object s) (place s) o j x) (sym q) sl)
           (value-fits (header s .made) (object s) v (h .kept .but .fits .made-fits) (i .known)) came))
-      by (no ne) = tale-calm g (other-resolves s p x v h (sl .made) ne)
+      by (no ne) = received-none E g (other-resolves s p x v h (sl .made) ne)
 
   -- the gather has its list, if it sends it on
   list-came : (s : Store) (p x : ℕ) (v : Value) → Sized s → p < object-limit → (b : Awaiter) → resolve-child s p x v .onward ≡ some b
-      → Came (object (resolve-child s p x v .store) p) p (returned (Value.List (heap-id p)))
+      → Came E (object (resolve-child s p x v .store) p) p (returned (Value.List (heap-id p)))
   unfolding resolve-child
   list-came s p x v z l b e = by (as-awaited (object s p)) refl e
     where
       by : (w : Option AwaitedGather) → as-awaited (object s p) ≡ w → resolve-awaited s p x v w .onward ≡ some b
-          → Came (object (resolve-awaited s p x v w .store) p) p (returned (Value.List (heap-id p)))
+          → Came E (object (resolve-awaited s p x v w .store) p) p (returned (Value.List (heap-id p)))
       by none q e = unfold resolve-awaited in (absurd-some e)
       by (some w) q e = unfold resolve-awaited in (left (eqb (f .open-places) 0) e)
         where
@@ -337,16 +353,16 @@ module _ (g : ℕ) (r : ℕ → Bool) (D : ℕ → Type 0) (hd : Header) (low : 
           z1 = sized-put-places s (f .places) (length-fill-from (w .count) (s .places) (w .open-places) (w .first) x v 0 ∙ z .places-sized) z
 
           left : (c : Bool) → resolve-left c (put-places s (f .places)) p w (f .open-places) .onward ≡ some b
-              → Came (object (resolve-left c (put-places s (f .places)) p w (f .open-places) .store) p) p (returned (Value.List (heap-id p)))
+              → Came E (object (resolve-left c (put-places s (f .places)) p w (f .open-places) .store) p) p (returned (Value.List (heap-id p)))
           left true e = unfold resolve-left in
               (gather-completed (w .first) (w .count) (object-put-object (put-places s (f .places)) p _ z1 l (awaited-fits s p w q .0, tt)))
           left false e = unfold resolve-left in (absurd-some e)
 
   -- an error goes there
-  error-tells : (s : Store) (o p x : ℕ) (e : Error) → ErrorFits e → ErrorRises r D hd o s (Awaiter.GatherSlot (heap-id p) (heap-id x)) → Came (object s o) o (raised e)
-      → Tale g s (fail-gather s p e .store)
+  error-received : (s : Store) (o p x : ℕ) (e : Error) → ErrorFits e → ErrorRises r D hd o s (Awaiter.GatherSlot (heap-id p) (heap-id x)) → Came E (object s o) o (raised e)
+      → SomeReceived E g s (fail-gather s p e .store)
   unfolding view
-  error-tells s o p x e k i came = by (ℕ-discrete g p)
+  error-received s o p x e k i came = by (ℕ-discrete g p)
     where
       h : Mid Nothing r D hd s
       h = landed s (λ u z. task-slot (sym z)) (i .mid)
@@ -354,79 +370,79 @@ module _ (g : ℕ) (r : ℕ → Bool) (D : ℕ → Type 0) (hd : Header) (low : 
       sl : Slotted (header s .made) (object s) (place s) o p x
       sl = i .flight .slot p x refl
 
-      by : Dec (g ≡ p) → Tale g s (fail-gather s p e .store)
+      by : Dec (g ≡ p) → SomeReceived E g s (fail-gather s p e .store)
       by (yes q) =
-          subst (λ (j : ℕ). Tale g s (fail-gather s j e .store)) q
+          subst (λ (j : ℕ). SomeReceived E g s (fail-gather s j e .store)) q
           (unfold arrive-by in (arrives-at s o x (raised e) h (subst (λ (j : ℕ). Slotted (header s .made) (object s) (place s) o j x) (sym q) sl) k came))
-      by (no ne) = tale-calm g (other-fails s p e (h .kept .sized) ne)
+      by (no ne) = received-none E g (other-fails s p e (h .kept .memory .sized) ne)
 
   -- the gather has failed with it, if it sends it on
   error-came : (s : Store) (p : ℕ) (e : Error) → ErrorFits e → Sized s → p < object-limit → (b : Awaiter) → fail-gather s p e .onward ≡ some b
-      → Came (object (fail-gather s p e .store) p) p (raised e)
+      → Came E (object (fail-gather s p e .store) p) p (raised e)
   unfolding fail-gather
   error-came s p e k z l b o = by (as-awaited (object s p)) refl o
     where
-      by : (w : Option AwaitedGather) → as-awaited (object s p) ≡ w → fail-awaited s p e w .onward ≡ some b → Came (object (fail-awaited s p e w .store) p) p (raised e)
+      by : (w : Option AwaitedGather) → as-awaited (object s p) ≡ w → fail-awaited s p e w .onward ≡ some b → Came E (object (fail-awaited s p e w .store) p) p (raised e)
       by none q o = unfold fail-awaited in (absurd-some o)
       by (some w) q o = unfold fail-awaited in (gather-failed (w .first) (w .count) e (object-put-object s p _ z l (awaited-fits s p w q .0, k)))
 
   -- ---- up the gathers
 
-  to-task-calm : (s : Store) (t : ℕ) (x : TaskState) → Sized s → Calm g s (deliver-to-task s t x .store)
+  to-task-untouched : (s : Store) (t : ℕ) (x : TaskState) → Sized s → Untouched g s (deliver-to-task s t x .store)
   unfolding deliver-to-task nobody-woken
-  to-task-calm s t x z =
-      pick-has (λ (d : Delivery). Calm g s (d .store)) (is-blocked (task s t .state))
-      (unfold make-ready push-ready in (calm-words g s _ (unfold note put-queue set-state put-task in refl) (unfold note put-queue set-state put-task in refl)
+  to-task-untouched s t x z =
+      pick-has (λ (d : Delivery). Untouched g s (d .store)) (is-blocked (task s t .state))
+      (unfold make-ready push-ready in (untouched-words g s _ (unfold note put-queue set-state put-task in refl) (unfold note put-queue set-state put-task in refl)
       (sized-note _ (reached t) (sized-put-queue _ _ (sized-set-state s t x z)))))
-      (calm-refl g s z)
+      (untouched-refl g s z)
 
-  climb-tells : (go : Store → Awaiter → Delivery) (s : Store) (y : Settled) → Tale g s (y .store) → ((b : Awaiter) → y .onward ≡ some b → Tale g (y .store) (go (y .store) b .store))
-      → Tale g s (climb go (y .store) (y .onward) .store)
-  climb-tells go s y a f = by (y .onward) refl
+  climb-received : (go : Store → Awaiter → Delivery) (s : Store) (y : Settled) → SomeReceived E g s (y .store) → ((b : Awaiter) → y .onward ≡ some b → SomeReceived E g (y .store) (go (y .store) b .store))
+      → SomeReceived E g s (climb go (y .store) (y .onward) .store)
+  climb-received go s y a f = by (y .onward) refl
     where
-      by : (b : Option Awaiter) → y .onward ≡ b → Tale g s (climb go (y .store) b .store)
+      by : (b : Option Awaiter) → y .onward ≡ b → SomeReceived E g s (climb go (y .store) b .store)
       by none e = unfold climb nobody-woken in a
-      by (some b) e = unfold climb in (tale-then g a (f b e))
+      by (some b) e = unfold climb in (received-then E g a (f b e))
 
-  send-value-tells : (go : Store → Awaiter → Value → Delivery)
-      → ((s : Store) (o : ℕ) (a : Awaiter) (v : Value) → ValueRises r D hd o v s a → Came (object s o) o (returned v) → Tale g s (go s a v .store))
-      → (s : Store) (o : ℕ) (a : Awaiter) (v : Value) → ValueRises r D hd o v s a → Came (object s o) o (returned v) → Tale g s (send-value go s a v .store)
+  send-value-received : (go : Store → Awaiter → Value → Delivery)
+      → ((s : Store) (o : ℕ) (a : Awaiter) (v : Value) → ValueRises r D hd o v s a → Came E (object s o) o (returned v) → SomeReceived E g s (go s a v .store))
+      → (s : Store) (o : ℕ) (a : Awaiter) (v : Value) → ValueRises r D hd o v s a → Came E (object s o) o (returned v) → SomeReceived E g s (send-value go s a v .store)
   unfolding send-value
-  send-value-tells go f s o Awaiter.Nobody v i came = unfold nobody-woken in (tale-calm g (calm-refl g s (i .mid .kept .sized)))
-  send-value-tells go f s o (Awaiter.Task t) v i came = tale-calm g (to-task-calm s (t .0) (TaskState.Woken v) (i .mid .kept .sized))
-  send-value-tells go f s o (Awaiter.GatherSlot p x) v i came =
-      climb-tells (λ y a. go y a (Value.List p)) s (resolve-child s (p .0) (x .0) v) (value-tells s o (p .0) (x .0) v i came)
+  send-value-received go f s o Awaiter.Nobody v i came = unfold nobody-woken in (received-none E g (untouched-refl g s (i .mid .kept .memory .sized)))
+  send-value-received go f s o (Awaiter.Task t) v i came = received-none E g (to-task-untouched s (t .0) (TaskState.Woken v) (i .mid .kept .memory .sized))
+  send-value-received go f s o (Awaiter.GatherSlot p x) v i came =
+      climb-received (λ y a. go y a (Value.List p)) s (resolve-child s (p .0) (x .0) v) (value-received s o (p .0) (x .0) v i came)
       (λ b e. f _ (p .0) b (Value.List p) (value-sends r D hd s o (p .0) (x .0) v i .rises b e)
-      (list-came s (p .0) (x .0) v (i .mid .kept .sized) (slot-limit s o (p .0) (x .0) (i .flight) (i .mid)) b e))
+      (list-came s (p .0) (x .0) v (i .mid .kept .memory .sized) (slot-limit s o (p .0) (x .0) (i .flight) (i .mid)) b e))
 
-  climb-value-tells : (n : ℕ) (s : Store) (o : ℕ) (a : Awaiter) (v : Value) → ValueRises r D hd o v s a → Came (object s o) o (returned v) → Tale g s (climb-value n s a v .store)
+  climb-value-received : (n : ℕ) (s : Store) (o : ℕ) (a : Awaiter) (v : Value) → ValueRises r D hd o v s a → Came E (object s o) o (returned v) → SomeReceived E g s (climb-value n s a v .store)
   unfolding climb-value
-  climb-value-tells zero s o a v i came = unfold nobody-woken in (tale-calm g (calm-refl g s (i .mid .kept .sized)))
-  climb-value-tells (suc n) s o a v i came = send-value-tells (λ y b w. climb-value n y b w) (λ y p b w j c. climb-value-tells n y p b w j c) s o a v i came
+  climb-value-received zero s o a v i came = unfold nobody-woken in (received-none E g (untouched-refl g s (i .mid .kept .memory .sized)))
+  climb-value-received (suc n) s o a v i came = send-value-received (λ y b w. climb-value n y b w) (λ y p b w j c. climb-value-received n y p b w j c) s o a v i came
 
   -- A value of object o goes to its awaiter.
-  pub success-tells : (s : Store) (o : ℕ) (a : Awaiter) (v : Value) → ValueRises r D hd o v s a → Came (object s o) o (returned v) → Tale g s (deliver-awaiter-success s a v .store)
+  pub success-received : (s : Store) (o : ℕ) (a : Awaiter) (v : Value) → ValueRises r D hd o v s a → Came E (object s o) o (returned v) → SomeReceived E g s (deliver-awaiter-success s a v .store)
   unfolding deliver-awaiter-success
-  success-tells s o a v i came = send-value-tells _ (λ y p b w j c. climb-value-tells (awaited-count s) y p b w j c) s o a v i came
+  success-received s o a v i came = send-value-received _ (λ y p b w j c. climb-value-received (awaited-count s) y p b w j c) s o a v i came
 
   module _ (e : Error) (k : ErrorFits e) where
-    send-error-tells : (go : Store → Awaiter → Error → Delivery)
-        → ((s : Store) (o : ℕ) (a : Awaiter) → ErrorRises r D hd o s a → Came (object s o) o (raised e) → Tale g s (go s a e .store))
-        → (s : Store) (o : ℕ) (a : Awaiter) → ErrorRises r D hd o s a → Came (object s o) o (raised e) → Tale g s (send-error go s a e .store)
+    send-error-received : (go : Store → Awaiter → Error → Delivery)
+        → ((s : Store) (o : ℕ) (a : Awaiter) → ErrorRises r D hd o s a → Came E (object s o) o (raised e) → SomeReceived E g s (go s a e .store))
+        → (s : Store) (o : ℕ) (a : Awaiter) → ErrorRises r D hd o s a → Came E (object s o) o (raised e) → SomeReceived E g s (send-error go s a e .store)
     unfolding send-error
-    send-error-tells go f s o Awaiter.Nobody i came = unfold nobody-woken in (tale-calm g (calm-refl g s (i .mid .kept .sized)))
-    send-error-tells go f s o (Awaiter.Task t) i came = tale-calm g (to-task-calm s (t .0) (TaskState.Raised e) (i .mid .kept .sized))
-    send-error-tells go f s o (Awaiter.GatherSlot p x) i came =
-        climb-tells (λ y a. go y a e) s (fail-gather s (p .0) e) (error-tells s o (p .0) (x .0) e k i came)
+    send-error-received go f s o Awaiter.Nobody i came = unfold nobody-woken in (received-none E g (untouched-refl g s (i .mid .kept .memory .sized)))
+    send-error-received go f s o (Awaiter.Task t) i came = received-none E g (to-task-untouched s (t .0) (TaskState.Raised e) (i .mid .kept .memory .sized))
+    send-error-received go f s o (Awaiter.GatherSlot p x) i came =
+        climb-received (λ y a. go y a e) s (fail-gather s (p .0) e) (error-received s o (p .0) (x .0) e k i came)
         (λ b q. f _ (p .0) b (error-sends r D hd e k s o (p .0) (x .0) i .rises b q)
-        (error-came s (p .0) e k (i .mid .kept .sized) (slot-limit s o (p .0) (x .0) (i .flight) (i .mid)) b q))
+        (error-came s (p .0) e k (i .mid .kept .memory .sized) (slot-limit s o (p .0) (x .0) (i .flight) (i .mid)) b q))
 
-    climb-error-tells : (n : ℕ) (s : Store) (o : ℕ) (a : Awaiter) → ErrorRises r D hd o s a → Came (object s o) o (raised e) → Tale g s (climb-error n s a e .store)
+    climb-error-received : (n : ℕ) (s : Store) (o : ℕ) (a : Awaiter) → ErrorRises r D hd o s a → Came E (object s o) o (raised e) → SomeReceived E g s (climb-error n s a e .store)
     unfolding climb-error
-    climb-error-tells zero s o a i came = unfold nobody-woken in (tale-calm g (calm-refl g s (i .mid .kept .sized)))
-    climb-error-tells (suc n) s o a i came = send-error-tells (λ y b w. climb-error n y b w) (λ y p b j c. climb-error-tells n y p b j c) s o a i came
+    climb-error-received zero s o a i came = unfold nobody-woken in (received-none E g (untouched-refl g s (i .mid .kept .memory .sized)))
+    climb-error-received (suc n) s o a i came = send-error-received (λ y b w. climb-error n y b w) (λ y p b j c. climb-error-received n y p b j c) s o a i came
 
     -- An error of object o goes there.
-    pub failure-tells : (s : Store) (o : ℕ) (a : Awaiter) → ErrorRises r D hd o s a → Came (object s o) o (raised e) → Tale g s (deliver-awaiter-failure s a e .store)
+    pub failure-received : (s : Store) (o : ℕ) (a : Awaiter) → ErrorRises r D hd o s a → Came E (object s o) o (raised e) → SomeReceived E g s (deliver-awaiter-failure s a e .store)
     unfolding deliver-awaiter-failure
-    failure-tells s o a i came = send-error-tells _ (λ y p b j c. climb-error-tells (awaited-count s) y p b j c) s o a i came
+    failure-received s o a i came = send-error-received _ (λ y p b j c. climb-error-received (awaited-count s) y p b j c) s o a i came

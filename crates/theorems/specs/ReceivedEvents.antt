@@ -7,6 +7,7 @@ use Prim.Native.Nat.{ℕ, zero, suc, _+_, _<_}
 use native.Mathlib.Nat.{le-refl}
 use native.Mathlib.Omega.{arith}
 use lib.Dec.{T}
+use Rattle.asyncio.specs.declared.Value.{Value}
 use Rattle.asyncio.specs.declared.Error.{Error}
 use Rattle.asyncio.specs.declared.Awaiter.{Awaiter}
 use Rattle.asyncio.specs.declared.TaskState.{TaskState}
@@ -25,6 +26,7 @@ use Rattle.machine.specs.Store.{Store, view, task, object, place, header, put-t
 use Rattle.machine.specs.Scheduler.{AwaitedGather, bit, remove-from-ready-queue, remove-task, live-count, cancel-one, Walk, reach-if, reach, remove-blocked, still-live, visit-by, visit, visit-place, visit-open, walk-gather, walk-next, walk, walk-from, cancel-task, remove-from}
 use Rattle.machine.specs.Delivery.{Delivery, deliver-awaiter-failure}
 use Rattle.machine.specs.Events.{Switched, How, start, value, raises, run, yield, new-function, resume-next, resume-after-task-exit, handle-task-failure, start-by, start-task, activate-state, activate-within, activate}
+use Rattle.machine.specs.Gather.{Outcome, raised}
 use Rattle.laws.specs.Views.{Sized}
 use Rattle.laws.specs.Facts.{Nothing}
 use Rattle.laws.specs.StoreLaws.{header-fits, sized-put-task, sized-put-queue, sized-note, sized-set-state}
@@ -34,8 +36,8 @@ use Rattle.theorems.specs.Cycle.{task-rises, remove-keeps, next-by, exit
 use Rattle.theorems.specs.FuelLaws.{sized-gone}
 use Rattle.theorems.specs.NoPanicLaws.{Activated, starts, goes-on, raises-it, ready-activated, main-started, IsCoroutine, task-coroutine}
 use Rattle.theorems.specs.NoPanicWoken.{failure-activated}
-use Rattle.theorems.specs.Story.{coroutine-raised, Tale}
-use Rattle.theorems.specs.StoryLaws.{Calm, calm-then, calm-words, calm-object, calm-header, WasCommitted, same-committed, other-than, tale-then, tale-calm, tale-committed, failure-tells}
+use Rattle.theorems.specs.Received.{coroutine-raised, SomeReceived}
+use Rattle.theorems.specs.ReceivedLaws.{Untouched, untouched-then, untouched-words, untouched-object, untouched-header, WasCommitted, same-committed, other-than, received-then, received-none, received-committed, failure-received}
 
 -- ---- what changes no object and no place
 
@@ -126,33 +128,33 @@ remove-sized (suc k) s t z = remove-sized k _ (t + 1) (by (is-live (task s t .st
 -- ---- switching tasks
 
 module _ (g : ℕ) where
-  pub moment-calm : (s : Store) (m : Moment) → MomentFits m → Sized s → Calm g s (set-moment s m)
+  pub moment-untouched : (s : Store) (m : Moment) → MomentFits m → Sized s → Untouched g s (set-moment s m)
   unfolding set-moment
-  moment-calm s m k z =
+  moment-untouched s m k z =
       let f : HeaderFits (header s) = header-fits s in
-      calm-header g s _ z (record { made-fits = f .made-fits; used-fits = f .used-fits; calls-fit = f .calls-fit; next-fits = f .next-fits; moment-fits = k }) (le-refl _)
+      untouched-header g s _ z (record { made-fits = f .made-fits; used-fits = f .used-fits; calls-fit = f .calls-fit; next-fits = f .next-fits; moment-fits = k }) (le-refl _)
 
-  pub state-calm : (s : Store) (t : ℕ) (x : TaskState) → Sized s → Calm g s (set-state s t x)
-  state-calm s t x z = calm-words g s (set-state s t x) (unfold set-state put-task in refl) (unfold set-state put-task in refl) (sized-set-state s t x z)
+  pub state-untouched : (s : Store) (t : ℕ) (x : TaskState) → Sized s → Untouched g s (set-state s t x)
+  state-untouched s t x z = untouched-words g s (set-state s t x) (unfold set-state put-task in refl) (unfold set-state put-task in refl) (sized-set-state s t x z)
 
-  run-calm : (s : Store) (t : ℕ) (h : How) → t < task-limit → Sized s → Calm g s (run s t h .store)
+  run-untouched : (s : Store) (t : ℕ) (h : How) → t < task-limit → Sized s → Untouched g s (run s t h .store)
   unfolding run
-  run-calm s t h l z = calm-then g (state-calm s t TaskState.Running z) (moment-calm (set-state s t TaskState.Running) (Moment.Running (task-id t)) l (sized-set-state s t TaskState.Running z))
+  run-untouched s t h l z = untouched-then g (state-untouched s t TaskState.Running z) (moment-untouched (set-state s t TaskState.Running) (Moment.Running (task-id t)) l (sized-set-state s t TaskState.Running z))
 
-  yield-calm : (s : Store) → Sized s → Calm g s (yield s .store)
+  yield-untouched : (s : Store) → Sized s → Untouched g s (yield s .store)
   unfolding yield
-  yield-calm s z = moment-calm s Moment.Waiting tt z
+  yield-untouched s z = moment-untouched s Moment.Waiting tt z
 
-  pub queue-calm : (s : Store) (q : ReadyQueue) → Sized s → Calm g s (put-queue s q)
-  queue-calm s q z = calm-words g s (put-queue s q) (unfold put-queue in refl) (unfold put-queue in refl) (sized-put-queue s q z)
+  pub queue-untouched : (s : Store) (q : ReadyQueue) → Sized s → Untouched g s (put-queue s q)
+  queue-untouched s q z = untouched-words g s (put-queue s q) (unfold put-queue in refl) (unfold put-queue in refl) (sized-put-queue s q z)
 
-  pub gone-calm : (s : Store) (t : ℕ) → Sized s → Calm g s (note (remove-task s t) (exited t))
-  gone-calm s t z =
-      calm-words g s _ (unfold note remove-task remove-from-ready-queue put-queue put-task in refl) (unfold note remove-task remove-from-ready-queue put-queue put-task in refl) (sized-gone s t z)
+  pub gone-untouched : (s : Store) (t : ℕ) → Sized s → Untouched g s (note (remove-task s t) (exited t))
+  gone-untouched s t z =
+      untouched-words g s _ (unfold note remove-task remove-from-ready-queue put-queue put-task in refl) (unfold note remove-task remove-from-ready-queue put-queue put-task in refl) (sized-gone s t z)
 
   -- a coroutine is written
-  pub coroutine-calm : (s : Store) (o f : ℕ) (y : CoroutineState) (r : Object) → WasCommitted s g → object s o ≡ Object.Coroutine f y → Sized s → Calm g s (put-object s o r)
-  coroutine-calm s o f y r c e z = calm-object g s o r (other-than s g o (Object.Coroutine f y) c e (plain y)) z
+  pub coroutine-untouched : (s : Store) (o f : ℕ) (y : CoroutineState) (r : Object) → WasCommitted s g → object s o ≡ Object.Coroutine f y → Sized s → Untouched g s (put-object s o r)
+  coroutine-untouched s o f y r c e z = untouched-object g s o r (other-than s g o (Object.Coroutine f y) c e (plain y)) z
     where
       plain : (y : CoroutineState) → T (is-committed (kind (Object.Coroutine f y))) → ⊥
       plain CoroutineState.New = unfold kind in (λ z. z)
@@ -164,43 +166,45 @@ module _ (g : ℕ) (D : ℕ → Type 0) (hd : Header) (low : g < hd .made) where
   unfolding view
   room s h = omega (arith, subst (λ (y : Header). g < y .made) (sym (h .head)) low, h .kept .but .fits .made-fits)
 
+module _ (E : ℕ → Outcome Value Error → Type 0)
+    (again : (o : ℕ) → E o (raised Error.CoroutineReuse)) (g : ℕ) (D : ℕ → Type 0) (hd : Header) (low : g < hd .made) where
   task-room : {P : ℕ → Type 0} {r : ℕ → Bool} (s : Store) (t : ℕ) → t < hd .next → Mid P r D hd s → t < task-limit
   unfolding view
   task-room s t l h = omega (arith, subst (λ (y : Header). t < y .next) (sym (h .head)) l, h .kept .but .fits .next-fits)
 
   -- a task is activated
-  pub Tells : (Store → ℕ → Switched) → Type 0
-  Tells act =
-      (s : Store) (t : ℕ) → t < hd .next → occurrences (entries (s .queue)) t ≡ 0 → Activated (task s t .state) → Mid Nothing idle D hd s → WasCommitted s g → Tale g s (act s t .store)
+  pub Receives : (Store → ℕ → Switched) → Type 0
+  Receives act =
+      (s : Store) (t : ℕ) → t < hd .next → occurrences (entries (s .queue)) t ≡ 0 → Activated (task s t .state) → Mid Nothing idle D hd s → WasCommitted s g → SomeReceived E g s (act s t .store)
 
-  module _ (act : Store → ℕ → Switched) (go : Tells act) where
-    pub next-tells : (s : Store) → Mid Nothing idle D hd s → WasCommitted s g → Tale g s (resume-next act s .store)
-    unfolding Tells put-queue task
-    next-tells s h c =
-        next-by D hd (λ x y. Tale g s (x .store)) act act s h (tale-calm g (yield-calm g s (h .kept .sized)))
-        (λ q u l off r m. let k : Calm g s (put-queue s q) = queue-calm g s q (h .kept .sized) in
-        tale-then g (tale-calm g k) (go (put-queue s q) u l off (ready-activated _ r) m (same-committed g (k .same) c)))
+  module _ (act : Store → ℕ → Switched) (go : Receives act) where
+    pub next-received : (s : Store) → Mid Nothing idle D hd s → WasCommitted s g → SomeReceived E g s (resume-next act s .store)
+    unfolding Receives put-queue task
+    next-received s h c =
+        next-by D hd (λ x y. SomeReceived E g s (x .store)) act act s h (received-none E g (yield-untouched g s (h .kept .memory .sized)))
+        (λ q u l off r m. let k : Untouched g s (put-queue s q) = queue-untouched g s q (h .kept .memory .sized) in
+        received-then E g (received-none E g k) (go (put-queue s q) u l off (ready-activated _ r) m (same-committed g (k .same) c)))
 
-    pub exit-tells : (d : Delivery) → Landed idle D hd d → ((u : ℕ) → d .woken ≡ some u → Activated (task (remove-from-ready-queue (d .store) u) u .state)) → WasCommitted (d .store) g
-        → Tale g (d .store) (resume-after-task-exit act d .store)
-    unfolding Tells remove-from-ready-queue put-queue task
-    exit-tells d h active c =
-        exit-by D hd (λ x y. Tale g (d .store) (x .store)) act act d h (tale-calm g (yield-calm g (d .store) (h .mid .kept .sized)))
-        (λ q u l off r m. let k : Calm g (d .store) (put-queue (d .store) q) = queue-calm g (d .store) q (h .mid .kept .sized) in
-        tale-then g (tale-calm g k) (go (put-queue (d .store) q) u l off (ready-activated _ r) m (same-committed g (k .same) c)))
-        (λ q u e l off m. let k : Calm g (d .store) (put-queue (d .store) q) = queue-calm g (d .store) q (h .mid .kept .sized) in
-        tale-then g (tale-calm g k) (go (put-queue (d .store) q) u l off (active u e) m (same-committed g (k .same) c)))
+    pub exit-received : (d : Delivery) → Landed idle D hd d → ((u : ℕ) → d .woken ≡ some u → Activated (task (remove-from-ready-queue (d .store) u) u .state)) → WasCommitted (d .store) g
+        → SomeReceived E g (d .store) (resume-after-task-exit act d .store)
+    unfolding Receives remove-from-ready-queue put-queue task
+    exit-received d h active c =
+        exit-by D hd (λ x y. SomeReceived E g (d .store) (x .store)) act act d h (received-none E g (yield-untouched g (d .store) (h .mid .kept .memory .sized)))
+        (λ q u l off r m. let k : Untouched g (d .store) (put-queue (d .store) q) = queue-untouched g (d .store) q (h .mid .kept .memory .sized) in
+        received-then E g (received-none E g k) (go (put-queue (d .store) q) u l off (ready-activated _ r) m (same-committed g (k .same) c)))
+        (λ q u e l off m. let k : Untouched g (d .store) (put-queue (d .store) q) = queue-untouched g (d .store) q (h .mid .kept .memory .sized) in
+        received-then E g (received-none E g k) (go (put-queue (d .store) q) u l off (active u e) m (same-committed g (k .same) c)))
 
     -- a live spawned task that is not blocked fails
-    pub fails-tells : (s : Store) (t : ℕ) (e : Error) (r : ℕ → Bool) → ErrorFits e → suc t < hd .next → T (is-live (task s (suc t) .state))
+    pub fails-received : (s : Store) (t : ℕ) (e : Error) (r : ℕ → Bool) → ErrorFits e → suc t < hd .next → T (is-live (task s (suc t) .state))
         → is-blocked (task s (suc t) .state) ≡ false → ((u : ℕ) → (u ≡ suc t → ⊥) → r u ≡ false) → Mid Nothing r D hd s → WasCommitted s g
-        → Tale g s (handle-task-failure act s (suc t) e .store)
+        → E (task s (suc t) .coroutine .0) (raised e) → SomeReceived E g s (handle-task-failure act s (suc t) e .store)
     unfolding handle-task-failure view
-    fails-tells s t e r k l live free still h c =
-        tale-then g sent-tale (tale-then g (tale-calm g gone) (exit-tells _ (record {
+    fails-received s t e r k l live free still h c en =
+        received-then E g sent-received (received-then E g (received-none E g gone) (exit-received _ (record {
           mid = remove-keeps (deliver-awaiter-failure s a e .store) (suc t) (sent .mid) (subst (λ (y : Header). suc t < y .next) (sym (sent .mid .head)) l) (exited (suc t)) idle refl still;
           woken = sent .woken;
-        }) (failure-activated s (suc t) e (h .kept .sized) k free) (same-committed g (gone .same) (tale-committed g (room s h) sent-tale c))))
+        }) (failure-activated s (suc t) e (h .kept .memory .sized) k free) (same-committed g (gone .same) (received-committed E g (room g D hd low s h) sent-received c))))
       where
         a : Awaiter
         a = task s (suc t) .awaiter
@@ -217,15 +221,15 @@ module _ (g : ℕ) (D : ℕ → Type 0) (hd : Header) (low : g < hd .made) where
         sent : Landed r D hd (deliver-awaiter-failure s a e)
         sent = failure-keeps r D hd e k s o a up
 
-        sent-tale : Tale g s (deliver-awaiter-failure s a e .store)
-        sent-tale = failure-tells g r D hd low e k s o a up (coroutine-raised (is-one .function) (is-one .state) e (is-one .is))
+        sent-received : SomeReceived E g s (deliver-awaiter-failure s a e .store)
+        sent-received = failure-received E g r D hd low e k s o a up (coroutine-raised (is-one .function) (is-one .state) e (is-one .is) en)
 
-        gone : Calm g (deliver-awaiter-failure s a e .store) (note (remove-task (deliver-awaiter-failure s a e .store) (suc t)) (exited (suc t)))
-        gone = gone-calm g (deliver-awaiter-failure s a e .store) (suc t) (sent .mid .kept .sized)
+        gone : Untouched g (deliver-awaiter-failure s a e .store) (note (remove-task (deliver-awaiter-failure s a e .store) (suc t)) (exited (suc t)))
+        gone = gone-untouched g (deliver-awaiter-failure s a e .store) (suc t) (sent .mid .kept .memory .sized)
 
-    start-tells : (s : Store) (t : ℕ) → suc t < hd .next → task s (suc t) .state ≡ TaskState.Unstarted → Mid Nothing idle D hd s → WasCommitted s g → Tale g s (start-task act s (suc t) .store)
+    start-received : (s : Store) (t : ℕ) → suc t < hd .next → task s (suc t) .state ≡ TaskState.Unstarted → Mid Nothing idle D hd s → WasCommitted s g → SomeReceived E g s (start-task act s (suc t) .store)
     unfolding start-task start-by view
-    start-tells s t l fr h c = by (new-function (object s o))
+    start-received s t l fr h c = by (new-function (object s o))
       where
         o : ℕ
         o = task s (suc t) .coroutine .0
@@ -233,24 +237,24 @@ module _ (g : ℕ) (D : ℕ → Type 0) (hd : Header) (low : g < hd .made) where
         is-one : IsCoroutine (view s) o
         is-one = task-coroutine (h .kept .but) t (subst (λ (y : Header). suc t < y .next) (sym (h .head)) l) (rw fr tt)
 
-        by : (n : Option ℕ) → Tale g s (start-by act s (suc t) o n .store)
-        by none = fails-tells s t Error.CoroutineReuse idle tt l (rw fr tt) (rw fr) (λ u d. refl) h c
+        by : (n : Option ℕ) → SomeReceived E g s (start-by act s (suc t) o n .store)
+        by none = fails-received s t Error.CoroutineReuse idle tt l (rw fr tt) (rw fr) (λ u d. refl) h c (again o)
         by (some f) =
-            let k : Calm g s (put-object s o (Object.Coroutine f CoroutineState.Running)) = coroutine-calm g s o (is-one .function) (is-one .state) _ c (is-one .is) (h .kept .sized) in
-            tale-calm g (calm-then g k (run-calm g _ (suc t) (start o f) (task-room s (suc t) l h) (k .same .sized)))
+            let k : Untouched g s (put-object s o (Object.Coroutine f CoroutineState.Running)) = coroutine-untouched g s o (is-one .function) (is-one .state) _ c (is-one .is) (h .kept .memory .sized) in
+            received-none E g (untouched-then g k (run-untouched g _ (suc t) (start o f) (task-room s (suc t) l h) (k .same .sized)))
 
-    state-tells : (s : Store) (t : ℕ) (x : TaskState) → t < hd .next → task s t .state ≡ x → Activated x → Mid Nothing idle D hd s → WasCommitted s g → Tale g s (activate-state act s t x .store)
+    state-received : (s : Store) (t : ℕ) (x : TaskState) → t < hd .next → task s t .state ≡ x → Activated x → Mid Nothing idle D hd s → WasCommitted s g → SomeReceived E g s (activate-state act s t x .store)
     unfolding activate-state view
-    state-tells s zero _ l e starts h c = absurd (main-started (h .kept .but) e)
-    state-tells s (suc t) _ l e starts h c = start-tells s t l e h c
-    state-tells s t _ l e (goes-on v) h c = tale-calm g (run-calm g s t (value v) (task-room s t l h) (h .kept .sized))
-    state-tells s t _ l e (raises-it v) h c = tale-calm g (run-calm g s t (raises v) (task-room s t l h) (h .kept .sized))
+    state-received s zero _ l e starts h c = absurd (main-started (h .kept .but) e)
+    state-received s (suc t) _ l e starts h c = start-received s t l e h c
+    state-received s t _ l e (goes-on v) h c = received-none E g (run-untouched g s t (value v) (task-room s t l h) (h .kept .memory .sized))
+    state-received s t _ l e (raises-it v) h c = received-none E g (run-untouched g s t (raises v) (task-room s t l h) (h .kept .memory .sized))
 
-  within-tells : (k : ℕ) → Tells (activate-within k)
-  unfolding activate-within Tells
-  within-tells zero s t l off a h c = tale-calm g (yield-calm g s (h .kept .sized))
-  within-tells (suc k) s t l off a h c = state-tells (λ x u. activate-within k x u) (within-tells k) s t (task s t .state) l refl a h c
+  within-received : (k : ℕ) → Receives (activate-within k)
+  unfolding activate-within Receives
+  within-received zero s t l off a h c = received-none E g (yield-untouched g s (h .kept .memory .sized))
+  within-received (suc k) s t l off a h c = state-received (λ x u. activate-within k x u) (within-received k) s t (task s t .state) l refl a h c
 
-  pub activate-tells : Tells activate
-  unfolding activate Tells
-  activate-tells s t l off a h c = within-tells (live-count s) s t l off a h c
+  pub activate-received : Receives activate
+  unfolding activate Receives
+  activate-received s t l off a h c = within-received (live-count s) s t l off a h c
