@@ -12,13 +12,16 @@ use scheduler::ends::can_await_eagerly;
 use sound::is_sound;
 use switching::answer::Answer;
 ghost use mathlib.Core.Path.{_≡_};
+ghost use mathlib.Core.Bool.{true};
 ghost use mathlib.Core.List.{List};
 ghost use Prim.Native.Nat.{ℕ};
 ghost use lib.ListN.{length};
+ghost use Rattle.asyncio.specs.Limits.{objects-length};
 ghost use Rattle.asyncio.specs.declared.CallId.{CallId};
 ghost use Rattle.machine.specs.Store.{Store, Happening, store-of};
 ghost use Rattle.machine.specs.Machine.{Event, shown};
-ghost use Rattle.machine.specs.Lent.{lent-read};
+ghost use Rattle.machine.specs.Sound.{sound};
+ghost use Rattle.machine.specs.Lent.{slices-right, lent-read};
 ghost use Rattle.switching.specs.Answer.{answer-of};
 ghost use Rattle.reads.specs.Reads.{shown-of, show-answer};
 
@@ -97,22 +100,38 @@ fn show_object(x: Object) -> Shown
     }
 }
 
+// A read of object `o` of a sound store.
+pub fn show_sound(objects: &[u64], o: u16) -> Reading
+    requires { ⌜ length (now objects) ≡ objects-length ⌝ }
+    ensures { λ r. ⌜ ((ts ps : List ℕ) (q : ReadyQueue) (l : List Happening) → slices-right (store-of ts (now (objects .entry)) ps q l) ≡ true → sound (store-of ts (now (objects .entry)) ps q l) ≡ true → show-answer ps r ≡ lent-read (store-of ts (now (objects .entry)) ps q l) (Event.show o) .answer) ⌝ }
+{
+    let header = rows::tables::load_header(objects);
+    if header.made <= o {
+        return Reading::Refused(5);
+    }
+    let x = rows::tables::load_object(objects, HeapId(o));
+    Reading::Shows(show_object(x))
+}
+
 // A read of object `o`.
 pub fn show(tasks: &[u64], objects: &[u64], places: &[u64], queue: ReadyQueue, o: u16) -> Reading
     ensures { λ r. ⌜ ((l : List Happening) → show-answer (now (places .entry)) r ≡ lent-read (store-of (now (tasks .entry)) (now (objects .entry)) (now (places .entry)) queue l) (Event.show o) .answer) ⌝ }
 {
     if slices_right(tasks, objects, places) {
         if is_sound(queue, tasks, objects, places) {
-            let header = rows::tables::load_header(objects);
-            if header.made <= o {
-                return Reading::Refused(5);
-            }
-            let x = rows::tables::load_object(objects, HeapId(o));
-            return Reading::Shows(show_object(x));
+            return show_sound(objects, o);
         }
         return Reading::Refused(2);
     }
     Reading::Refused(1)
+}
+
+// May the host answer a call at once? Of a sound store.
+pub fn eager_sound(objects: &[u64], queue: ReadyQueue) -> Answer
+    requires { ⌜ length (now objects) ≡ objects-length ⌝ }
+    ensures { λ r. ⌜ ((ts ps : List ℕ) (l : List Happening) → slices-right (store-of ts (now (objects .entry)) ps queue l) ≡ true → sound (store-of ts (now (objects .entry)) ps queue l) ≡ true → answer-of (now (objects .entry)) r ≡ lent-read (store-of ts (now (objects .entry)) ps queue l) Event.eager .answer) ⌝ }
+{
+    Answer::Eager(can_await_eagerly(objects, queue))
 }
 
 // May the host answer a call at once?
@@ -121,7 +140,7 @@ pub fn eager(tasks: &[u64], objects: &[u64], places: &[u64], queue: ReadyQueue) 
 {
     if slices_right(tasks, objects, places) {
         if is_sound(queue, tasks, objects, places) {
-            return Answer::Eager(can_await_eagerly(objects, queue));
+            return eager_sound(objects, queue);
         }
         return Answer::Refused(2);
     }

@@ -1,1 +1,3 @@
 pub mod Shows
+pub mod PlaceLaws
+pub mod HeardLaws

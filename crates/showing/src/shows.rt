@@ -15,6 +15,7 @@ use texts::put_decimal;
 use texts::put_field;
 use texts::put_named;
 use texts::put_text;
+ghost use mathlib.Core.Path.{_≡_};
 ghost use mathlib.Core.Bool.{false, not};
 ghost use Prim.Native.Nat.{_+_, _*_, _%_};
 ghost use lib.Dec.{eqb};
