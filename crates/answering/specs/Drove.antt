@@ -2,12 +2,14 @@
 use mathlib.Core.Path.{_≡_}
 use mathlib.Core.Bool.{Bool}
 use mathlib.Core.List.{List, [], _∷_}
-use Prim.Native.Nat.{ℕ, _+_, _*_, _≤_}
+use Prim.Native.Nat.{ℕ, _+_, _*_, _≤_, _<_}
 use lib.ListN.{length, take, drop}
+use Rattle.asyncio.specs.Limits.{u32-limit}
 use Rattle.queue.specs.declared.ReadyQueue.{ReadyQueue}
 use Rattle.machine.specs.Store.{store-of}
 use Rattle.machine.specs.Machine as machine
 use Rattle.reader.specs.declared.Record.{Record}
+use Rattle.reader.specs.declared.Parsed.{Parsed}
 use Rattle.reader.specs.Items.{items-at}
 use Rattle.futures.specs.Results.{results-in}
 use Rattle.session.specs.declared.Event.{Event}
@@ -60,3 +62,25 @@ InInput src (Asks.Results first count) = first + count * 14 ≤ length src
 InInput src (Asks.Show o) = Unit {0}
 InInput src Asks.Eager = Unit {0}
 InInput src Asks.Cancel = Unit {0}
+
+-- the numbers that a record stores whole fit 32 bits
+abbrev pub RecordFits : Record → Type 0
+RecordFits (Record.Coroutine f) = f < u32-limit
+RecordFits Record.Call = Unit {0}
+RecordFits (Record.Pending c x) = Unit {0}
+RecordFits (Record.Settled v) = Unit {0}
+RecordFits (Record.Gather first count) = Unit {0}
+RecordFits (Record.Await o) = Unit {0}
+RecordFits (Record.Complete v) = Unit {0}
+RecordFits (Record.Fail n) = n < u32-limit
+RecordFits (Record.Results first count) = Unit {0}
+RecordFits Record.Resume = Unit {0}
+RecordFits (Record.Cancel t) = Unit {0}
+RecordFits (Record.Show o) = Unit {0}
+RecordFits Record.Eager = Unit {0}
+
+-- those of the record that was read, if there is one
+abbrev pub ParsedFits : Parsed → Type 0
+ParsedFits Parsed.End = Unit {0}
+ParsedFits Parsed.Refused = Unit {0}
+ParsedFits (Parsed.Record r next) = RecordFits r

@@ -1,11 +1,15 @@
-// What a record asks, answered by the library, and its line.
+// What a record asks, answered by the library, and its line. The store is sound, as it is in a session: it is not checked at each record.
 use crate::asks::Asks;
 use queue::ReadyQueue;
 use session::Event;
-ghost use mathlib.Core.List.{List};
+ghost use mathlib.Core.Path.{_≡_};
+ghost use mathlib.Core.Bool.{true};
+ghost use mathlib.Core.List.{List, []};
 ghost use Prim.Native.Nat.{ℕ, _+_, _*_, _≤_};
 ghost use lib.ListN.{length, take, drop};
 ghost use Rattle.machine.specs.Store.{Happening, store-of};
+ghost use Rattle.machine.specs.Sound.{sound};
+ghost use Rattle.machine.specs.Lent.{slices-right, lengths-right};
 ghost use Rattle.machine.specs.Machine as machine;
 ghost use Rattle.reader.specs.Items.{items-at};
 ghost use Rattle.futures.specs.Results.{results-in};
@@ -38,9 +42,10 @@ fn event_line(
     at: usize,
     number: u64,
 ) -> Driven
+    requires { ⌜ (lengths-right (store-of (now tasks) (now objects) (now places) queue []) (now calls) ≡ true) × (sound (store-of (now tasks) (now objects) (now places) queue []) ≡ true) ⌝ }
     ensures { λ r. ⌜ ((l : List Happening) → Drove (now (tasks .exit)) (now (objects .exit)) (now (places .exit)) (r .queue) (now (calls .exit)) (r .next) (r .going) (out-of (now (out .entry)) at) (out-of (now (out .exit)) (r .at)) (answered (store-of (now (tasks .entry)) (now (objects .entry)) (now (places .entry)) queue l) (now (calls .entry)) next number (Asked.event (event-of (now (items .entry)) (now (results .entry)) event)))) ⌝ }
 {
-    let stepped = session::dispatch(tasks, objects, places, calls, queue, event, items, results);
+    let stepped = session::step(tasks, objects, places, calls, queue, event, items, results);
     let q = stepped.queue;
     let answer = stepped.answer;
     let end = lines::answers::write_line(out, at, number, answer, objects, calls);
@@ -67,6 +72,7 @@ fn gather_line(
     at: usize,
     number: u64,
 ) -> Driven
+    requires { ⌜ (lengths-right (store-of (now tasks) (now objects) (now places) queue []) (now calls) ≡ true) × (sound (store-of (now tasks) (now objects) (now places) queue []) ≡ true) ⌝ }
     ensures { λ r. ⌜ ((l : List Happening) → Drove (now (tasks .exit)) (now (objects .exit)) (now (places .exit)) (r .queue) (now (calls .exit)) (r .next) (r .going) (out-of (now (out .entry)) at) (out-of (now (out .exit)) (r .at)) (answered (store-of (now (tasks .entry)) (now (objects .entry)) (now (places .entry)) queue l) (now (calls .entry)) next number (Asked.event (machine.Event.gather (items-at (now (src .entry)) first count))))) ⌝ }
 {
     let mut items: [u16; 255] = [0; 255];
@@ -103,7 +109,7 @@ fn results_line(
     at: usize,
     number: u64,
 ) -> Driven
-    requires { ⌜ first + count * 14 ≤ length (now src) ⌝ }
+    requires { ⌜ (lengths-right (store-of (now tasks) (now objects) (now places) queue []) (now calls) ≡ true) × (sound (store-of (now tasks) (now objects) (now places) queue []) ≡ true) × (first + count * 14 ≤ length (now src)) ⌝ }
     ensures { λ r. ⌜ ((l : List Happening) → Drove (now (tasks .exit)) (now (objects .exit)) (now (places .exit)) (r .queue) (now (calls .exit)) (r .next) (r .going) (out-of (now (out .entry)) at) (out-of (now (out .exit)) (r .at)) (answered (store-of (now (tasks .entry)) (now (objects .entry)) (now (places .entry)) queue l) (now (calls .entry)) next number (Asked.event (machine.Event.results (results-in (take (count * 14) (drop first (now (src .entry))))))))) ⌝ }
 {
     let items: [u16; 1] = [0; 1];
@@ -136,9 +142,10 @@ fn show_line(
     at: usize,
     number: u64,
 ) -> Driven
+    requires { ⌜ (slices-right (store-of (now tasks) (now objects) (now places) queue []) ≡ true) × (sound (store-of (now tasks) (now objects) (now places) queue []) ≡ true) ⌝ }
     ensures { λ r. ⌜ ((cs : List ℕ) (l : List Happening) → Drove (now (tasks .entry)) (now (objects .entry)) (now (places .entry)) (r .queue) cs (r .next) (r .going) (out-of (now (out .entry)) at) (out-of (now (out .exit)) (r .at)) (answered (store-of (now (tasks .entry)) (now (objects .entry)) (now (places .entry)) queue l) cs next number (Asked.read (machine.Event.show o)))) ⌝ }
 {
-    let reading = reads::show(tasks, objects, places, queue, o);
+    let reading = reads::show_sound(objects, o);
     let end = showing::shows::write_reading(out, at, number, reading, places);
     Driven {
         queue,
@@ -160,9 +167,10 @@ fn eager_line(
     at: usize,
     number: u64,
 ) -> Driven
+    requires { ⌜ (slices-right (store-of (now tasks) (now objects) (now places) queue []) ≡ true) × (sound (store-of (now tasks) (now objects) (now places) queue []) ≡ true) ⌝ }
     ensures { λ r. ⌜ ((l : List Happening) → Drove (now (tasks .entry)) (now (objects .entry)) (now (places .entry)) (r .queue) (now (calls .entry)) (r .next) (r .going) (out-of (now (out .entry)) at) (out-of (now (out .exit)) (r .at)) (answered (store-of (now (tasks .entry)) (now (objects .entry)) (now (places .entry)) queue l) (now (calls .entry)) next number (Asked.read machine.Event.eager))) ⌝ }
 {
-    let answer = reads::eager(tasks, objects, places, queue);
+    let answer = reads::eager_sound(objects, queue);
     let end = lines::answers::write_line(out, at, number, answer, objects, calls);
     Driven {
         queue,
@@ -199,7 +207,7 @@ pub fn answered(
     at: usize,
     number: u64,
 ) -> Driven
-    requires { ⌜ InInput (now src) asks ⌝ }
+    requires { ⌜ (lengths-right (store-of (now tasks) (now objects) (now places) queue []) (now calls) ≡ true) × (sound (store-of (now tasks) (now objects) (now places) queue []) ≡ true) × InInput (now src) asks ⌝ }
     ensures { λ r. ⌜ ((l : List Happening) → Drove (now (tasks .exit)) (now (objects .exit)) (now (places .exit)) (r .queue) (now (calls .exit)) (r .next) (r .going) (out-of (now (out .entry)) at) (out-of (now (out .exit)) (r .at)) (answered (store-of (now (tasks .entry)) (now (objects .entry)) (now (places .entry)) queue l) (now (calls .entry)) next number (asked-of (now (src .entry)) asks))) ⌝ }
 {
     match asks {

@@ -2,7 +2,7 @@
 use reader::Record;
 use session::Event;
 ghost use mathlib.Core.Path.{_≡_};
-ghost use Rattle.answering.specs.Drove.{asks-of};
+ghost use Rattle.answering.specs.Drove.{asks-of, RecordFits};
 
 // An event that has all it needs in its record; a gather or results, whose items stand in the input; a read; or cancel, which the
 // library does not take yet.
@@ -15,8 +15,9 @@ pub enum Asks {
     Cancel,
 }
 
+// What a record asks. That its numbers fit is the types' doing, and said so that soundness can be kept (`driverlaws`).
 pub fn asked_by(what: Record) -> Asks
-    ensures { λ r. ⌜ r ≡ asks-of what ⌝ }
+    ensures { λ r. ⌜ (r ≡ asks-of what) × RecordFits what ⌝ }
 {
     match what {
         Record::Coroutine(f) => Asks::Event(Event::Coroutine(f)),

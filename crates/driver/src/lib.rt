@@ -3,13 +3,19 @@
 use answering::answered::Driven;
 use queue::ReadyQueue;
 use reader::Parsed;
-ghost use mathlib.Core.List.{List};
+ghost use mathlib.Core.Path.{_≡_};
+ghost use mathlib.Core.Bool.{true};
+ghost use mathlib.Core.List.{List, []};
 ghost use Rattle.machine.specs.Store.{Happening, store-of};
+ghost use Rattle.machine.specs.Sound.{sound};
+ghost use Rattle.machine.specs.Lent.{lengths-right};
+ghost use Rattle.reader.specs.Format.{parse};
 ghost use Rattle.texts.specs.Out.{out-of};
 ghost use Rattle.answering.specs.Driver.{drive-one};
-ghost use Rattle.answering.specs.Drove.{Drove};
+ghost use Rattle.answering.specs.Drove.{Drove, ParsedFits};
 
-// The record at `from` and its line, which is written at `at`. `number` is the record's.
+// The record at `from` and its line, which is written at `at`. `number` is the record's. The store is sound, as it is in a session: it is
+// not checked at each record.
 pub fn drive_record(
     tasks: &mut [u64],
     objects: &mut [u64],
@@ -22,7 +28,8 @@ pub fn drive_record(
     at: usize,
     number: u64,
 ) -> Driven
-    ensures { λ r. ⌜ ((l : List Happening) → Drove (now (tasks .exit)) (now (objects .exit)) (now (places .exit)) (r .queue) (now (calls .exit)) (r .next) (r .going) (out-of (now (out .entry)) at) (out-of (now (out .exit)) (r .at)) (drive-one (store-of (now (tasks .entry)) (now (objects .entry)) (now (places .entry)) queue l) (now (calls .entry)) (now (src .entry)) from number)) ⌝ }
+    requires { ⌜ (lengths-right (store-of (now tasks) (now objects) (now places) queue []) (now calls) ≡ true) × (sound (store-of (now tasks) (now objects) (now places) queue []) ≡ true) ⌝ }
+    ensures { λ r. ⌜ (((l : List Happening) → Drove (now (tasks .exit)) (now (objects .exit)) (now (places .exit)) (r .queue) (now (calls .exit)) (r .next) (r .going) (out-of (now (out .entry)) at) (out-of (now (out .exit)) (r .at)) (drive-one (store-of (now (tasks .entry)) (now (objects .entry)) (now (places .entry)) queue l) (now (calls .entry)) (now (src .entry)) from number)) × ParsedFits (parse (now (src .entry)) from)) ⌝ }
 {
     match reader::parse_record(src, from) {
         Parsed::End => Driven {

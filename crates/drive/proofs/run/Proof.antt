@@ -1,15 +1,19 @@
 use Prim.Native.Nat.{ℕ, _≤_, _-_}
 use mathlib.Core.Path.{_≡_, refl, sym, ap, _∙_}
+use mathlib.Core.List.{[]}
 use native.Mathlib.Omega.{arith}
 use lib.ListN.{length}
 use lib.Seq.{length-take-le}
+use Rattle.machine.specs.Store.{store-of}
+use Rattle.theorems.specs.Stores.{Whole}
+use Rattle.driverlaws.specs.KeptLaws.{begun-whole, record-whole, whole-right, whole-is-sound}
 use borrow.Author.Needs.{needs}
 use Rattle.drive.proofs.run.Statement.{statement}
 use Rattle.drive.proofs.run.Tie as tie
 
 abbrev Inv-loop : tie.InvT-loop
 Inv-loop src₀ out₀ tasks₀ objects₀ places₀ calls₀ queue₀ filled₀ from₀ at₀ number₀ last₀ src out tasks objects places calls queue filled from at number last =
-    (length tasks ≡ 4104) × (length objects ≡ 2056) × (length places ≡ 2048) × (length calls ≡ 256) × (filled ≤ length src) × (at ≤ length out) × (length src ≡ length src₀) × (length out ≡ length out₀) × (last ≤ 18446744073709551615)
+    Whole (store-of tasks objects places queue []) × (length calls ≡ 256) × (filled ≤ length src) × (at ≤ length out) × (length src ≡ length src₀) × (length out ≡ length out₀) × (last ≤ 18446744073709551615)
 
 abbrev μ-loop : tie.MeasureT-loop
 μ-loop src₀ out₀ tasks₀ objects₀ places₀ calls₀ queue₀ filled₀ from₀ at₀ number₀ last₀ src out tasks objects places calls queue filled from at number last =
@@ -34,61 +38,61 @@ refill-requires : tie.Need-refill-requires Inv-loop μ-loop
 refill-requires c κs = search needs
 
 loop-holds : tie.Need-loop-holds Inv-loop μ-loop
-loop-holds c = (c .before .before .before .before .before .before .before .before .begin .kept .0, c .before .before .before .before .before .before .before .before .begin .kept .1 .0, c .before .before .before .before .before .before .before .before .begin .kept .1 .1 .0, refl, c .before .before .refill .ensures, omega arith, refl, refl, omega arith)
+loop-holds c = (begun-whole _ (c .before .before .before .before .before .before .before .before .begin .result .answer) refl refl refl (c .before .before .before .before .before .before .before .before .begin .ensures []), refl, c .before .before .refill .ensures, omega arith, refl, refl, omega arith)
 
 add-number : tie.Need-add-number Inv-loop μ-loop
-add-number c = omega (arith, c .before .loop .inv .8)
+add-number c = omega (arith, c .before .loop .inv .6)
 
 slice-aggregate-drive-record : tie.Need-slice-aggregate-drive-record Inv-loop μ-loop
-slice-aggregate-drive-record c = sym (c .before .before .loop .inv .0)
+slice-aggregate-drive-record c = sym (c .before .before .loop .inv .0 .sized .tasks-sized)
 
 slice-aggregate-drive-record-2 : tie.Need-slice-aggregate-drive-record-2 Inv-loop μ-loop
-slice-aggregate-drive-record-2 c = sym (c .before .before .before .loop .inv .1)
+slice-aggregate-drive-record-2 c = sym (c .before .before .before .loop .inv .0 .sized .objects-sized)
 
 slice-aggregate-drive-record-3 : tie.Need-slice-aggregate-drive-record-3 Inv-loop μ-loop
-slice-aggregate-drive-record-3 c = sym (c .before .before .before .before .loop .inv .2)
+slice-aggregate-drive-record-3 c = sym (c .before .before .before .before .loop .inv .0 .sized .places-sized)
 
 slice-aggregate-drive-record-4 : tie.Need-slice-aggregate-drive-record-4 Inv-loop μ-loop
-slice-aggregate-drive-record-4 c = sym (c .before .before .before .before .before .loop .inv .3)
+slice-aggregate-drive-record-4 c = sym (c .before .before .before .before .before .loop .inv .1)
 
 slice-reshare-prefix-drive-record : tie.Need-slice-reshare-prefix-drive-record Inv-loop μ-loop
-slice-reshare-prefix-drive-record c = c .before .before .before .before .before .loop .inv .4
+slice-reshare-prefix-drive-record c = c .before .before .before .before .before .loop .inv .2
 
 slice-aggregate-drive-record-5 : tie.Need-slice-aggregate-drive-record-5 Inv-loop μ-loop
-slice-aggregate-drive-record-5 c = sym (length-take-le _ _ (c .before .before .before .before .before .before .loop .inv .4))
+slice-aggregate-drive-record-5 c = sym (length-take-le _ _ (c .before .before .before .before .before .before .loop .inv .2))
 
 drive-record-requires : tie.Need-drive-record-requires Inv-loop μ-loop
-drive-record-requires c κs = search needs
+drive-record-requires c κs = (whole-right (c .before .before .before .before .before .before .before .loop .inv .0) _ (omega (arith, c .before .before .before .before .before .before .before .loop .inv .1)), whole-is-sound (c .before .before .before .before .before .before .before .loop .inv .0))
 
 last-record-requires : tie.Need-last-record-requires Inv-loop μ-loop
-last-record-requires c κs = omega (arith, c .before .before .before .before .before .before .before .before .before .before .before .before .before .before .before .loop .inv .8)
+last-record-requires c κs = omega (arith, c .before .before .before .before .before .before .before .before .before .before .before .before .before .before .before .loop .inv .6)
 
 flush-requires : tie.Need-flush-requires Inv-loop μ-loop
 flush-requires c κs = search needs
 
 ready-requires : tie.Need-ready-requires Inv-loop μ-loop
-ready-requires c κs = c .before .before .before .before .before .before .before .before .before .before .before .before .before .before .before .before .before .before .before .loop .inv .4
+ready-requires c κs = c .before .before .before .before .before .before .before .before .before .before .before .before .before .before .before .before .before .before .before .loop .inv .2
 
 loop-less : tie.Need-loop-less Inv-loop μ-loop
 loop-less c = omega (arith, c .before .before .before .before .before .before .last-record .ensures)
 
 loop-again : tie.Need-loop-again Inv-loop μ-loop
-loop-again c = (c .before .before .before .before .before .before .before .before .before .before .before .before .before .before .drive-record .kept .0 ∙ c .before .before .before .before .before .before .before .before .before .before .before .before .before .before .before .before .before .before .before .before .before .before .loop .inv .0, c .before .before .before .before .before .before .before .before .before .before .before .before .before .before .drive-record .kept .1 .0 ∙ c .before .before .before .before .before .before .before .before .before .before .before .before .before .before .before .before .before .before .before .before .before .before .loop .inv .1, c .before .before .before .before .before .before .before .before .before .before .before .before .before .before .drive-record .kept .1 .1 .0 ∙ c .before .before .before .before .before .before .before .before .before .before .before .before .before .before .before .before .before .before .before .before .before .before .loop .inv .2, c .before .before .before .before .before .before .before .before .before .before .before .before .before .before .drive-record .kept .1 .1 .1 .0 ∙ c .before .before .before .before .before .before .before .before .before .before .before .before .before .before .before .before .before .before .before .before .before .before .loop .inv .3, c .before .before .ready .ensures, c .before .before .before .before .flush .ensures, c .before .before .ready .kept .0 ∙ c .before .before .before .before .before .before .before .before .before .before .before .before .before .before .before .before .before .before .before .before .before .before .loop .inv .6, c .before .before .before .before .before .before .before .before .before .before .before .before .before .before .drive-record .kept .1 .1 .1 .1 .1 .1 .1 .0 ∙ c .before .before .before .before .before .before .before .before .before .before .before .before .before .before .before .before .before .before .before .before .before .before .loop .inv .7, omega (arith, c .before .before .before .before .before .before .last-record .ensures, c .before .before .before .before .before .before .before .before .before .before .before .before .before .before .before .before .before .before .before .before .before .before .loop .inv .8))
+loop-again c = (record-whole _ _ _ _ _ (c .before .before .before .before .before .before .before .before .before .before .before .before .before .before .before .before .before .before .before .before .before .before .loop .inv .0) (c .before .before .before .before .before .before .before .before .before .before .before .before .before .before .drive-record .ensures .1) (c .before .before .before .before .before .before .before .before .before .before .before .before .before .before .drive-record .ensures .0 []), c .before .before .before .before .before .before .before .before .before .before .before .before .before .before .drive-record .kept .1 .1 .1 .0 ∙ c .before .before .before .before .before .before .before .before .before .before .before .before .before .before .before .before .before .before .before .before .before .before .loop .inv .1, c .before .before .ready .ensures, c .before .before .before .before .flush .ensures, c .before .before .ready .kept .0 ∙ c .before .before .before .before .before .before .before .before .before .before .before .before .before .before .before .before .before .before .before .before .before .before .loop .inv .4, c .before .before .before .before .before .before .before .before .before .before .before .before .before .before .drive-record .kept .1 .1 .1 .1 .1 .1 .1 .0 ∙ c .before .before .before .before .before .before .before .before .before .before .before .before .before .before .before .before .before .before .before .before .before .before .loop .inv .5, omega (arith, c .before .before .before .before .before .before .last-record .ensures, c .before .before .before .before .before .before .before .before .before .before .before .before .before .before .before .before .before .before .before .before .before .before .loop .inv .6))
 
 slice-reshare-prefix-write-all : tie.Need-slice-reshare-prefix-write-all Inv-loop μ-loop
-slice-reshare-prefix-write-all c = c .before .loop .inv .5
+slice-reshare-prefix-write-all c = c .before .loop .inv .3
 
 slice-aggregate-write-all : tie.Need-slice-aggregate-write-all Inv-loop μ-loop
-slice-aggregate-write-all c = sym (length-take-le _ _ (c .before .before .loop .inv .5))
+slice-aggregate-write-all c = sym (length-take-le _ _ (c .before .before .loop .inv .3))
 
 write-all-requires : tie.Need-write-all-requires Inv-loop μ-loop
 write-all-requires c κs = search needs
 
 same-length : tie.Need-same-length Inv-loop μ-loop
-same-length c = c .before .before .before .loop .inv .6 ∙ c .before .before .before .before .before .before .refill .kept .0
+same-length c = c .before .before .before .loop .inv .4 ∙ c .before .before .before .before .before .before .refill .kept .0
 
 same-length-2 : tie.Need-same-length-2 Inv-loop μ-loop
-same-length-2 c = c .before .before .before .loop .inv .7
+same-length-2 c = c .before .before .before .loop .inv .5
 
 returns : tie.Need-returns Inv-loop μ-loop
 returns c = search needs

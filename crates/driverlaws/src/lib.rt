@@ -1,0 +1,1 @@
+// No code: that a session keeps its store sound is proved in specs/.
