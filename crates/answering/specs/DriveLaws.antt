@@ -12,8 +12,8 @@ use Rattle.machine.specs.Lent.{Lent, lent-step, lent-read}
 use Rattle.switching.specs.Answer.{answer-of}
 use Rattle.switching.specs.declared.answer.Answer.{Answer}
 use Rattle.checks.specs.Lent.{lent-of}
-use Rattle.reads.specs.Reads.{show-answer}
-use Rattle.reads.specs.declared.Reading.{Reading}
+use Rattle.readings.specs.Reads.{show-answer}
+use Rattle.readings.specs.declared.Reading.{Reading}
 use Rattle.reader.specs.declared.Record.{Record}
 use Rattle.reader.specs.declared.Parsed.{Parsed}
 use Rattle.reader.specs.Format.{parse}

@@ -12,8 +12,8 @@ use Rattle.reader.specs.declared.Record.{Record}
 use Rattle.reader.specs.declared.Parsed.{Parsed}
 use Rattle.reader.specs.Items.{items-at}
 use Rattle.futures.specs.Results.{results-in}
-use Rattle.session.specs.declared.Event.{Event}
-use Rattle.session.specs.Dispatch.{event-of}
+use Rattle.stepping.specs.declared.Event.{Event}
+use Rattle.stepping.specs.Dispatch.{event-of}
 use Rattle.texts.specs.Out.{Out, Wrote}
 use Rattle.lines.specs.Lines.{line-limit}
 use Rattle.answering.specs.Driver.{Asked, Drives}

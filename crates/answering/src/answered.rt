@@ -1,7 +1,7 @@
 // What a record asks, answered by the library, and its line. The store is sound, as it is in a session: it is not checked at each record.
 use crate::asks::Asks;
 use queue::ReadyQueue;
-use session::Event;
+use stepping::Event;
 ghost use mathlib.Core.Path.{_≡_};
 ghost use mathlib.Core.Bool.{true};
 ghost use mathlib.Core.List.{List, []};
@@ -13,7 +13,7 @@ ghost use Rattle.machine.specs.Lent.{slices-right, lengths-right};
 ghost use Rattle.machine.specs.Machine as machine;
 ghost use Rattle.reader.specs.Items.{items-at};
 ghost use Rattle.futures.specs.Results.{results-in};
-ghost use Rattle.session.specs.Dispatch.{event-of};
+ghost use Rattle.stepping.specs.Dispatch.{event-of};
 ghost use Rattle.texts.specs.Out.{out-of};
 ghost use Rattle.answering.specs.Driver.{Asked, refused-11, answered};
 ghost use Rattle.answering.specs.Drove.{Drove, asked-of, InInput};
@@ -45,7 +45,7 @@ fn event_line(
     requires { ⌜ (lengths-right (store-of (now tasks) (now objects) (now places) queue []) (now calls) ≡ true) × (sound (store-of (now tasks) (now objects) (now places) queue []) ≡ true) ⌝ }
     ensures { λ r. ⌜ ((l : List Happening) → Drove (now (tasks .exit)) (now (objects .exit)) (now (places .exit)) (r .queue) (now (calls .exit)) (r .next) (r .going) (out-of (now (out .entry)) at) (out-of (now (out .exit)) (r .at)) (answered (store-of (now (tasks .entry)) (now (objects .entry)) (now (places .entry)) queue l) (now (calls .entry)) next number (Asked.event (event-of (now (items .entry)) (now (results .entry)) event)))) ⌝ }
 {
-    let stepped = session::step(tasks, objects, places, calls, queue, event, items, results);
+    let stepped = stepping::step(tasks, objects, places, calls, queue, event, items, results);
     let q = stepped.queue;
     let answer = stepped.answer;
     let end = lines::answers::write_line(out, at, number, answer, objects, calls);
@@ -145,7 +145,7 @@ fn show_line(
     requires { ⌜ (slices-right (store-of (now tasks) (now objects) (now places) queue []) ≡ true) × (sound (store-of (now tasks) (now objects) (now places) queue []) ≡ true) ⌝ }
     ensures { λ r. ⌜ ((cs : List ℕ) (l : List Happening) → Drove (now (tasks .entry)) (now (objects .entry)) (now (places .entry)) (r .queue) cs (r .next) (r .going) (out-of (now (out .entry)) at) (out-of (now (out .exit)) (r .at)) (answered (store-of (now (tasks .entry)) (now (objects .entry)) (now (places .entry)) queue l) cs next number (Asked.read (machine.Event.show o)))) ⌝ }
 {
-    let reading = reads::show_sound(objects, o);
+    let reading = readings::show_sound(objects, o);
     let end = showing::shows::write_reading(out, at, number, reading, places);
     Driven {
         queue,
@@ -170,7 +170,7 @@ fn eager_line(
     requires { ⌜ (slices-right (store-of (now tasks) (now objects) (now places) queue []) ≡ true) × (sound (store-of (now tasks) (now objects) (now places) queue []) ≡ true) ⌝ }
     ensures { λ r. ⌜ ((l : List Happening) → Drove (now (tasks .entry)) (now (objects .entry)) (now (places .entry)) (r .queue) (now (calls .entry)) (r .next) (r .going) (out-of (now (out .entry)) at) (out-of (now (out .exit)) (r .at)) (answered (store-of (now (tasks .entry)) (now (objects .entry)) (now (places .entry)) queue l) (now (calls .entry)) next number (Asked.read machine.Event.eager))) ⌝ }
 {
-    let answer = reads::eager_sound(objects, queue);
+    let answer = readings::eager_sound(objects, queue);
     let end = lines::answers::write_line(out, at, number, answer, objects, calls);
     Driven {
         queue,

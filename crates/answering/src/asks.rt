@@ -1,6 +1,6 @@
 // What a record asks of the library.
 use reader::Record;
-use session::Event;
+use stepping::Event;
 ghost use mathlib.Core.Path.{_≡_};
 ghost use Rattle.answering.specs.Drove.{asks-of, RecordFits};
 

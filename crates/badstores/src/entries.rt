@@ -6,11 +6,11 @@ use asyncio::OptionValue;
 use asyncio::Value;
 use beginning::begin;
 use queue::ReadyQueue;
-use reads::Reading;
+use readings::Reading;
 use reads::eager;
 use reads::show;
-use session::Event;
 use session::dispatch;
+use stepping::Event;
 use switching::answer::Answer;
 use switching::answer::Stepped;
 

@@ -23,10 +23,10 @@ use Rattle.switching.specs.Answer.{answer-of}
 use Rattle.switching.specs.declared.control.Control.{Control}
 use Rattle.switching.specs.declared.answer.Answer.{Answer}
 use Rattle.checks.specs.Lent.{lent-of}
-use Rattle.reads.specs.Reads.{shown-of, show-answer}
-use Rattle.reads.specs.ReadLaws.{shows-places}
-use Rattle.reads.specs.declared.Shown.{Shown}
-use Rattle.reads.specs.declared.Reading.{Reading}
+use Rattle.readings.specs.Reads.{shown-of, show-answer}
+use Rattle.readings.specs.ReadLaws.{shows-places}
+use Rattle.readings.specs.declared.Shown.{Shown}
+use Rattle.readings.specs.declared.Reading.{Reading}
 use Rattle.texts.specs.Out.{Out, Wrote}
 use Rattle.texts.specs.OutLaws.{at-most}
 use Rattle.lines.specs.Heard.{front-calls, told-control, told, heard}

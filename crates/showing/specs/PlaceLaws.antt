@@ -13,7 +13,7 @@ use Rattle.asyncio.specs.declared.Value.{Value}
 use Rattle.rows.specs.Tables.{place-at}
 use Rattle.machine.specs.Scheduler.{bit}
 use Rattle.machine.specs.Machine.{slot-value}
-use Rattle.reads.specs.Reads.{places-from}
+use Rattle.readings.specs.Reads.{places-from}
 use Rattle.texts.specs.Out.{Out, Wrote}
 use Rattle.texts.specs.OutLaws.{wrote-none, then, at-most}
 use Rattle.lines.specs.Lines.{place-text, places-text}

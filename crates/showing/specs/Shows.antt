@@ -1,7 +1,7 @@
 -- How many places a line shows.
 use Prim.Native.Nat.{ℕ}
-use Rattle.reads.specs.declared.Shown.{Shown}
-use Rattle.reads.specs.declared.Reading.{Reading}
+use Rattle.readings.specs.declared.Shown.{Shown}
+use Rattle.readings.specs.declared.Reading.{Reading}
 
 -- how many places are shown
 unfoldable pub shown-count : Shown → ℕ

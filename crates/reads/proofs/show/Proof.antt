@@ -4,14 +4,14 @@ use denote.Ref.{now}
 use Rattle.machine.specs.Machine.{Event}
 use Rattle.machine.specs.Lent.{slices-right}
 use Rattle.checks.specs.LentLaws.{slices-have}
-use Rattle.reads.specs.ReadLaws.{read-length, read-unsound}
+use Rattle.readings.specs.ReadLaws.{read-length, read-unsound}
 use borrow.Author.Needs.{needs}
 use Rattle.reads.proofs.show.Statement.{statement}
 use Rattle.reads.proofs.show.Tie as tie
 use Rattle.reads.proofs.show.Reads as reads
 use Rattle.reads.proofs.show.Lts as lts
 use Rattle.checks.proofs.lent.slices_right.Reads as slices-right-reads
-use Rattle.reads.proofs.show_sound.Reads as show-sound-reads
+use Rattle.readings.proofs.show_sound.Reads as show-sound-reads
 use Rattle.sound.proofs.is_sound.Reads as is-sound-reads
 
 -- src/lib.rt:120:8

@@ -10,7 +10,7 @@ use Rattle.session.proofs.dispatch.Tie as tie
 use Rattle.session.proofs.dispatch.Reads as reads
 use Rattle.session.proofs.dispatch.Lts as lts
 use Rattle.checks.proofs.lent.lengths_right.Reads as lengths-right-reads
-use Rattle.session.proofs.step.Reads as step-reads
+use Rattle.stepping.proofs.step.Reads as step-reads
 use Rattle.sound.proofs.is_sound.Reads as is-sound-reads
 
 -- src/lib.rt:101:8

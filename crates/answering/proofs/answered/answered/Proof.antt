@@ -1,6 +1,6 @@
 use mathlib.Core.List.{[]}
 use denote.Ref.{now}
-use Rattle.session.specs.SessionLaws.{right-slices}
+use Rattle.stepping.specs.SteppingLaws.{right-slices}
 use Rattle.answering.specs.Driver.{answered}
 use Rattle.answering.specs.Drove.{asked-of}
 use borrow.Author.Needs.{needs}

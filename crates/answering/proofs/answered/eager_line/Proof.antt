@@ -3,7 +3,7 @@ use lib.ListN.{length}
 use denote.Ref.{now}
 use Rattle.machine.specs.Lent.{slices-right}
 use Rattle.checks.specs.LentLaws.{slices-have}
-use Rattle.session.specs.SessionLaws.{sound-logged}
+use Rattle.stepping.specs.SteppingLaws.{sound-logged}
 use Rattle.answering.specs.DriveLaws.{eager-drove}
 use borrow.Author.Needs.{needs}
 use Rattle.answering.proofs.answered.eager_line.Statement.{statement}
@@ -11,7 +11,7 @@ use Rattle.answering.proofs.answered.eager_line.Tie as tie
 use Rattle.answering.proofs.answered.eager_line.Reads as reads
 use Rattle.answering.proofs.answered.eager_line.Lts as lts
 use Rattle.lines.proofs.answers.write_line.Reads as write-line-reads
-use Rattle.reads.proofs.eager_sound.Reads as eager-sound-reads
+use Rattle.readings.proofs.eager_sound.Reads as eager-sound-reads
 
 -- src/answered.rt:173:9
 eager-sound-requires : tie.Need-eager-sound-requires

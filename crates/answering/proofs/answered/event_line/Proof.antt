@@ -5,7 +5,7 @@ use Rattle.answering.proofs.answered.event_line.Tie as tie
 use Rattle.answering.proofs.answered.event_line.Reads as reads
 use Rattle.answering.proofs.answered.event_line.Lts as lts
 use Rattle.lines.proofs.answers.write_line.Reads as write-line-reads
-use Rattle.session.proofs.step.Reads as step-reads
+use Rattle.stepping.proofs.step.Reads as step-reads
 
 -- src/answered.rt:48:9
 step-requires : tie.Need-step-requires

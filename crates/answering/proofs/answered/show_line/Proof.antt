@@ -3,14 +3,14 @@ use lib.ListN.{length}
 use denote.Ref.{now}
 use Rattle.machine.specs.Lent.{slices-right}
 use Rattle.checks.specs.LentLaws.{slices-have}
-use Rattle.session.specs.SessionLaws.{sound-logged}
+use Rattle.stepping.specs.SteppingLaws.{sound-logged}
 use Rattle.answering.specs.DriveLaws.{show-drove}
 use borrow.Author.Needs.{needs}
 use Rattle.answering.proofs.answered.show_line.Statement.{statement}
 use Rattle.answering.proofs.answered.show_line.Tie as tie
 use Rattle.answering.proofs.answered.show_line.Reads as reads
 use Rattle.answering.proofs.answered.show_line.Lts as lts
-use Rattle.reads.proofs.show_sound.Reads as show-sound-reads
+use Rattle.readings.proofs.show_sound.Reads as show-sound-reads
 use Rattle.showing.proofs.shows.write_reading.Reads as write-reading-reads
 
 -- src/answered.rt:148:9

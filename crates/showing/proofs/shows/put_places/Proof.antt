@@ -4,7 +4,7 @@ use lib.ListN.{length}
 use native.Mathlib.Omega.{arith}
 use denote.Ref.{now}
 use borrow.Author.Needs.{needs}
-use Rattle.reads.specs.Reads.{places-from}
+use Rattle.readings.specs.Reads.{places-from}
 use Rattle.texts.specs.Out.{out-of, Wrote}
 use Rattle.lines.specs.Lines.{places-text}
 use Rattle.showing.specs.PlaceLaws.{places-none, places-turn, places-end, halved, whole}

@@ -1,14 +1,14 @@
 use mathlib.Core.Path.{_≡_, sym, _∙_}
 use mathlib.Core.List.{[]}
 use denote.Ref.{now}
-use Rattle.session.specs.SessionLaws.{right-lengths, steps-soundly}
+use Rattle.stepping.specs.SteppingLaws.{right-lengths, steps-soundly}
 use borrow.Author.Needs.{needs}
-use Rattle.session.proofs.step.Statement.{statement}
-use Rattle.session.proofs.step.Tie as tie
-use Rattle.session.proofs.step.Reads as reads
-use Rattle.session.proofs.step.Lts as lts
+use Rattle.stepping.proofs.step.Statement.{statement}
+use Rattle.stepping.proofs.step.Tie as tie
+use Rattle.stepping.proofs.step.Reads as reads
+use Rattle.stepping.proofs.step.Lts as lts
 use Rattle.checks.proofs.lent.tell.Reads as tell-reads
-use Rattle.session.proofs.checked.Reads as checked-reads
+use Rattle.stepping.proofs.checked.Reads as checked-reads
 
 -- src/lib.rt:77:9
 checked-requires : tie.Need-checked-requires

@@ -1,8 +1,8 @@
 use Rattle.machine.specs.Machine.{shown}
 use borrow.Author.Needs.{needs}
-use Rattle.reads.proofs.show_external.Statement.{statement}
-use Rattle.reads.proofs.show_external.Tie as tie
-use Rattle.reads.proofs.show_external.Reads as reads
+use Rattle.readings.proofs.show_external.Statement.{statement}
+use Rattle.readings.proofs.show_external.Tie as tie
+use Rattle.readings.proofs.show_external.Reads as reads
 
 enum-told : tie.Need-enum-told
 enum-told c = search needs

@@ -23,7 +23,7 @@ use Rattle.checks.specs.Checked.{checked}
 use Rattle.checks.specs.CheckedLaws.{met, unmet, none-met, refuses, accepts}
 use Rattle.checks.specs.Lent.{are-slices}
 use Rattle.checks.specs.LentLaws.{step-checked, step-unsound}
-use Rattle.reads.specs.Reads.{places-from}
+use Rattle.readings.specs.Reads.{places-from}
 
 -- the places that the machine shows
 pub shows-places : (s : Store) (f m : ℕ) (n i : ℕ) → places-from (s .places) f m i n ≡ show-places s f m i n

@@ -6,13 +6,13 @@ use Rattle.rows.specs.TableLaws.{header-read}
 use Rattle.machine.specs.Store.{store-of}
 use Rattle.machine.specs.Machine.{Event}
 use Rattle.machine.specs.Lent.{slices-right}
-use Rattle.reads.specs.ReadLaws.{read-refused, read-done, show-unmade, show-made, show-gives}
+use Rattle.readings.specs.ReadLaws.{read-refused, read-done, show-unmade, show-made, show-gives}
 use borrow.Author.Needs.{needs}
-use Rattle.reads.proofs.show_sound.Statement.{statement}
-use Rattle.reads.proofs.show_sound.Tie as tie
-use Rattle.reads.proofs.show_sound.Reads as reads
-use Rattle.reads.proofs.show_sound.Lts as lts
-use Rattle.reads.proofs.show_object.Reads as show-object-reads
+use Rattle.readings.proofs.show_sound.Statement.{statement}
+use Rattle.readings.proofs.show_sound.Tie as tie
+use Rattle.readings.proofs.show_sound.Reads as reads
+use Rattle.readings.proofs.show_sound.Lts as lts
+use Rattle.readings.proofs.show_object.Reads as show-object-reads
 use Rattle.rows.proofs.tables.load_header.Reads as load-header-reads
 use Rattle.rows.proofs.tables.load_object.Reads as load-object-reads
 

@@ -3,7 +3,7 @@ use Prim.Native.Nat.{ℕ}
 use mathlib.Core.List.{List}
 use Rattle.machine.specs.Machine as machine
 use Rattle.futures.specs.Results.{results-in}
-use Rattle.session.specs.declared.Event.{Event}
+use Rattle.stepping.specs.declared.Event.{Event}
 
 -- with the items of a gather and the bytes of results
 abbrev pub event-of : List ℕ → List ℕ → Event → machine.Event

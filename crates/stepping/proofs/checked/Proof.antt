@@ -2,10 +2,10 @@ use mathlib.Core.Path.{_≡_}
 use denote.Ref.{now}
 use Rattle.checks.specs.LentLaws.{logs}
 use borrow.Author.Needs.{needs}
-use Rattle.session.proofs.checked.Statement.{statement}
-use Rattle.session.proofs.checked.Tie as tie
-use Rattle.session.proofs.checked.Reads as reads
-use Rattle.session.proofs.checked.Lts as lts
+use Rattle.stepping.proofs.checked.Statement.{statement}
+use Rattle.stepping.proofs.checked.Tie as tie
+use Rattle.stepping.proofs.checked.Reads as reads
+use Rattle.stepping.proofs.checked.Lts as lts
 use Rattle.checks.proofs.making.call.Reads as call-reads
 use Rattle.checks.proofs.making.coroutine.Reads as coroutine-reads
 use Rattle.checks.proofs.making.gather.Reads as gather-reads

@@ -7,8 +7,8 @@ use Rattle.rows.specs.Tables.{place-at}
 use Rattle.machine.specs.Scheduler.{bit}
 use Rattle.machine.specs.Machine as machine
 use Rattle.machine.specs.Machine.{slot-value}
-use Rattle.reads.specs.declared.Shown.{Shown}
-use Rattle.reads.specs.declared.Reading.{Reading}
+use Rattle.readings.specs.declared.Shown.{Shown}
+use Rattle.readings.specs.declared.Reading.{Reading}
 
 -- n places from i on of a gather that starts at f, by the places' words
 unfoldable pub places-from : List ℕ → ℕ → ℕ → ℕ → ℕ → List (Option Value)

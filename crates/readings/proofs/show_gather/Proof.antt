@@ -1,9 +1,9 @@
 use Rattle.machine.specs.Machine.{shown}
-use Rattle.reads.specs.ReadLaws.{shows-places}
+use Rattle.readings.specs.ReadLaws.{shows-places}
 use borrow.Author.Needs.{needs}
-use Rattle.reads.proofs.show_gather.Statement.{statement}
-use Rattle.reads.proofs.show_gather.Tie as tie
-use Rattle.reads.proofs.show_gather.Reads as reads
+use Rattle.readings.proofs.show_gather.Statement.{statement}
+use Rattle.readings.proofs.show_gather.Tie as tie
+use Rattle.readings.proofs.show_gather.Reads as reads
 
 enum-told : tie.Need-enum-told
 enum-told c = search needs

@@ -4,12 +4,12 @@ use denote.Ref.{now}
 use Rattle.machine.specs.Store.{store-of}
 use Rattle.machine.specs.Machine.{Event}
 use Rattle.machine.specs.Lent.{slices-right}
-use Rattle.reads.specs.ReadLaws.{read-done, eager-passes, eager-gives}
+use Rattle.readings.specs.ReadLaws.{read-done, eager-passes, eager-gives}
 use borrow.Author.Needs.{needs}
-use Rattle.reads.proofs.eager_sound.Statement.{statement}
-use Rattle.reads.proofs.eager_sound.Tie as tie
-use Rattle.reads.proofs.eager_sound.Reads as reads
-use Rattle.reads.proofs.eager_sound.Lts as lts
+use Rattle.readings.proofs.eager_sound.Statement.{statement}
+use Rattle.readings.proofs.eager_sound.Tie as tie
+use Rattle.readings.proofs.eager_sound.Reads as reads
+use Rattle.readings.proofs.eager_sound.Lts as lts
 use Rattle.scheduler.proofs.ends.can_await_eagerly.Reads as can-await-eagerly-reads
 
 -- src/lib.rt:134:19

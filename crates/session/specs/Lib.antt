@@ -1,2 +1,0 @@
-pub mod Dispatch
-pub mod SessionLaws
