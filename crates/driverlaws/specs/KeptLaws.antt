@@ -114,7 +114,7 @@ module _ {ts os ps : List ℕ} {q : ReadyQueue} where
   module _ (h : Whole (store-of ts os ps q [])) where
     pub whole-right : (cs : List ℕ) → object-limit ≤ length cs → lengths-right (store-of ts os ps q []) cs ≡ true
     unfolding lengths-right
-    whole-right cs i = rw (sized-right (store-of ts os ps q []) (h .sized), le-leb object-limit (length cs) i)
+    whole-right cs i = rw (sized-right (store-of ts os ps q []) (h .memory .sized), le-leb object-limit (length cs) i)
 
     pub whole-is-sound : sound (store-of ts os ps q []) ≡ true
     whole-is-sound = is-true _ (whole-sound (store-of ts os ps q []) h)
