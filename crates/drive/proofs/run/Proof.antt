@@ -44,13 +44,13 @@ add-number : tie.Need-add-number Inv-loop μ-loop
 add-number c = omega (arith, c .before .loop .inv .6)
 
 slice-aggregate-drive-record : tie.Need-slice-aggregate-drive-record Inv-loop μ-loop
-slice-aggregate-drive-record c = sym (c .before .before .loop .inv .0 .sized .tasks-sized)
+slice-aggregate-drive-record c = sym (c .before .before .loop .inv .0 .memory .sized .tasks-sized)
 
 slice-aggregate-drive-record-2 : tie.Need-slice-aggregate-drive-record-2 Inv-loop μ-loop
-slice-aggregate-drive-record-2 c = sym (c .before .before .before .loop .inv .0 .sized .objects-sized)
+slice-aggregate-drive-record-2 c = sym (c .before .before .before .loop .inv .0 .memory .sized .objects-sized)
 
 slice-aggregate-drive-record-3 : tie.Need-slice-aggregate-drive-record-3 Inv-loop μ-loop
-slice-aggregate-drive-record-3 c = sym (c .before .before .before .before .loop .inv .0 .sized .places-sized)
+slice-aggregate-drive-record-3 c = sym (c .before .before .before .before .loop .inv .0 .memory .sized .places-sized)
 
 slice-aggregate-drive-record-4 : tie.Need-slice-aggregate-drive-record-4 Inv-loop μ-loop
 slice-aggregate-drive-record-4 c = sym (c .before .before .before .before .before .loop .inv .1)
