@@ -1,16 +1,16 @@
 // The entry of an await.
-use checks::lent::lengths_right;
+use exec_switch::answer::Answer;
+use exec_switch::answer::Stepped;
 use queue::ReadyQueue;
 use sound::is_sound;
-use switching::answer::Answer;
-use switching::answer::Stepped;
+use step_checks::lent::lengths_right;
 ghost use mathlib.Core.Path.{_≡_};
 ghost use mathlib.Core.List.{List};
 ghost use Prim.Native.Nat.{ℕ};
 ghost use Rattle.machine.specs.Store.{Happening, store-of};
 ghost use Rattle.machine.specs.Machine.{Event};
 ghost use Rattle.machine.specs.Lent.{lent-step};
-ghost use Rattle.checks.specs.Lent.{lent-of};
+ghost use Rattle.step_checks.specs.Lent.{lent-of};
 
 // The running task awaits an object.
 pub fn await_object(
@@ -28,7 +28,7 @@ pub fn await_object(
             let awaited = steps::running::await_object(tasks, objects, places, queue, o);
             let q = awaited.queue;
             let answer = awaited.answer;
-            checks::lent::tell(objects, calls, answer);
+            step_checks::lent::tell(objects, calls, answer);
             return Stepped { queue: q, answer };
         }
         return Stepped {

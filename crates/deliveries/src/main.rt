@@ -4,15 +4,15 @@
 use asyncio::Error;
 use asyncio::TaskId;
 use asyncio::Value;
-use cancelling::cancel::cancel_task;
-use delivery::future::fail_future;
-use delivery::future::resolve_future;
+use drive_text::put_byte;
+use drive_text::put_text;
+use exec_deliver::future::fail_future;
+use exec_deliver::future::resolve_future;
 use libc::STDOUT_FILENO;
 use printing::write_changed;
 use printing::write_store;
 use queue::ReadyQueue;
-use texts::put_byte;
-use texts::put_text;
+use scheduler_cancel::cancel::cancel_task;
 
 struct Store {
     tasks: [u64; 4104],

@@ -81,7 +81,7 @@ fn run(src: &mut [u8], out: &mut [u8]) {
     let mut objects: [u64; 2056] = [0; 2056];
     let mut places: [u64; 2048] = [0; 2048];
     let mut calls: [u64; 256] = [0; 256];
-    let begun = beginning::begin(&mut tasks, &mut objects, &mut places, ReadyQueue::new());
+    let begun = session_begin::begin(&mut tasks, &mut objects, &mut places, ReadyQueue::new());
     let mut queue = begun.queue;
     let mut filled: usize = refill(src, 0, 0);
     let mut from: usize = 0;
@@ -90,7 +90,7 @@ fn run(src: &mut [u8], out: &mut [u8]) {
     let mut last: u64 = u64::MAX;
     while number < last {
         number += 1;
-        let driven = driver::drive_record(
+        let driven = drive_record::drive_record(
             &mut tasks,
             &mut objects,
             &mut places,

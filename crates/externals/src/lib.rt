@@ -2,18 +2,18 @@
 // not sound is 2, and so on in the order of document 01's table; a refused call leaves everything as it was.
 use asyncio::OptionValue;
 use asyncio::Value;
-use checks::lent::lengths_right;
+use exec_switch::answer::Answer;
+use exec_switch::answer::Stepped;
 use queue::ReadyQueue;
 use sound::is_sound;
-use switching::answer::Answer;
-use switching::answer::Stepped;
+use step_checks::lent::lengths_right;
 ghost use mathlib.Core.Path.{_≡_};
 ghost use mathlib.Core.List.{List};
 ghost use Prim.Native.Nat.{ℕ};
 ghost use Rattle.machine.specs.Store.{Happening, store-of};
 ghost use Rattle.machine.specs.Machine.{Event};
 ghost use Rattle.machine.specs.Lent.{lent-step};
-ghost use Rattle.checks.specs.Lent.{lent-of};
+ghost use Rattle.step_checks.specs.Lent.{lent-of};
 
 // A call number is handed out.
 pub fn call(
@@ -27,7 +27,7 @@ pub fn call(
 {
     if lengths_right(tasks, objects, places, calls) {
         if is_sound(queue, tasks, objects, places) {
-            let called = checks::making::call(objects, queue);
+            let called = step_checks::make::call(objects, queue);
             let q = called.queue;
             let answer = called.answer;
             return Stepped { queue: q, answer };
@@ -57,7 +57,7 @@ pub fn pending(
 {
     if lengths_right(tasks, objects, places, calls) {
         if is_sound(queue, tasks, objects, places) {
-            let external = checks::making::pending(objects, queue, call, stored);
+            let external = step_checks::make::pending(objects, queue, call, stored);
             let q = external.queue;
             let answer = external.answer;
             return Stepped { queue: q, answer };
@@ -86,7 +86,7 @@ pub fn settled(
 {
     if lengths_right(tasks, objects, places, calls) {
         if is_sound(queue, tasks, objects, places) {
-            let settled = checks::making::settled(objects, queue, value);
+            let settled = step_checks::make::settled(objects, queue, value);
             let q = settled.queue;
             let answer = settled.answer;
             return Stepped { queue: q, answer };

@@ -1,17 +1,17 @@
 // The entries of the host: results, resume.
-use checks::lent::lengths_right;
+use exec_switch::answer::Answer;
+use exec_switch::answer::Stepped;
 use queue::ReadyQueue;
 use sound::is_sound;
-use switching::answer::Answer;
-use switching::answer::Stepped;
+use step_checks::lent::lengths_right;
 ghost use mathlib.Core.Path.{_≡_};
 ghost use mathlib.Core.List.{List};
 ghost use Prim.Native.Nat.{ℕ};
 ghost use Rattle.machine.specs.Store.{Happening, store-of};
 ghost use Rattle.machine.specs.Machine.{Event};
 ghost use Rattle.machine.specs.Lent.{lent-step};
-ghost use Rattle.checks.specs.Lent.{lent-of};
-ghost use Rattle.futures.specs.Results.{results-in};
+ghost use Rattle.step_checks.specs.Lent.{lent-of};
+ghost use Rattle.exec_futures.specs.Results.{results-in};
 
 // The host answers calls: results of 14 bytes each, in document 01's layout.
 pub fn results(
@@ -60,7 +60,7 @@ pub fn resume(
             let resumed = steps::waiting::resume(tasks, objects, queue);
             let rest = resumed.queue;
             let answer = resumed.answer;
-            checks::lent::tell(objects, calls, answer);
+            step_checks::lent::tell(objects, calls, answer);
             return Stepped {
                 queue: rest,
                 answer,

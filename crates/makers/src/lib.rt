@@ -1,17 +1,17 @@
 // The entries that make objects of the script: coroutine, gather. Each demands nothing of the caller: a wrong length is 1, a store that is
 // not sound is 2, and so on in the order of document 01's table; a refused call leaves everything as it was.
-use checks::lent::lengths_right;
+use exec_switch::answer::Answer;
+use exec_switch::answer::Stepped;
 use queue::ReadyQueue;
 use sound::is_sound;
-use switching::answer::Answer;
-use switching::answer::Stepped;
+use step_checks::lent::lengths_right;
 ghost use mathlib.Core.Path.{_≡_};
 ghost use mathlib.Core.List.{List};
 ghost use Prim.Native.Nat.{ℕ};
 ghost use Rattle.machine.specs.Store.{Happening, store-of};
 ghost use Rattle.machine.specs.Machine.{Event};
 ghost use Rattle.machine.specs.Lent.{lent-step};
-ghost use Rattle.checks.specs.Lent.{lent-of};
+ghost use Rattle.step_checks.specs.Lent.{lent-of};
 
 // A coroutine of a function is made.
 pub fn coroutine(
@@ -26,7 +26,7 @@ pub fn coroutine(
 {
     if lengths_right(tasks, objects, places, calls) {
         if is_sound(queue, tasks, objects, places) {
-            let coroutine = checks::making::coroutine(objects, queue, function);
+            let coroutine = step_checks::make::coroutine(objects, queue, function);
             let q = coroutine.queue;
             let answer = coroutine.answer;
             return Stepped { queue: q, answer };
@@ -55,7 +55,7 @@ pub fn gather(
 {
     if lengths_right(tasks, objects, places, calls) {
         if is_sound(queue, tasks, objects, places) {
-            let gathered = checks::making::gather(objects, places, queue, items);
+            let gathered = step_checks::make::gather(objects, places, queue, items);
             let q = gathered.queue;
             let answer = gathered.answer;
             return Stepped { queue: q, answer };

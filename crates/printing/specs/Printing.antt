@@ -9,7 +9,7 @@ use Rattle.asyncio.specs.Limits.{task-limit, object-limit}
 use Rattle.asyncio.specs.States.{pick}
 use Rattle.rows.specs.Tables.{object-at, task-at, place-at, header-at}
 use Rattle.queue.specs.declared.ReadyQueue.{ReadyQueue}
-use Rattle.texts.specs.Text.{bytes-of, newline, field, fields}
+use Rattle.drive_text.specs.Text.{bytes-of, newline, field, fields}
 
 -- a line: a name, and numbers each after a space
 abbrev pub row-text : String → List ℕ → List ℕ

@@ -14,10 +14,10 @@ use Rattle.rows.specs.Tables.{header-at}
 use Rattle.rows.specs.TableLaws.{header-read}
 use Rattle.queue.specs.Queue.{entries}
 use Rattle.queue.specs.declared.ReadyQueue.{ReadyQueue}
-use Rattle.texts.specs.Out.{Out, Wrote}
-use Rattle.texts.specs.OutLaws.{wrote-none, then, at-most}
-use Rattle.texts.specs.Text.{bytes-of, newline, field, fields}
-use Rattle.texts.specs.WriteLaws.{fields-append}
+use Rattle.drive_text.specs.Out.{Out, Wrote}
+use Rattle.drive_text.specs.OutLaws.{wrote-none, then, at-most}
+use Rattle.drive_text.specs.Text.{bytes-of, newline, field, fields}
+use Rattle.drive_text.specs.WriteLaws.{fields-append}
 use Rattle.printing.specs.Printing.{row-text, task-text, object-text, rows-text, entry-text, queue-text, store-text, store-limit, changed}
 
 -- the line of k words that are known by another name

@@ -6,22 +6,22 @@ use asyncio::words::header_words;
 use asyncio::words::object_words;
 use asyncio::words::place_words;
 use asyncio::words::task_words;
+use drive_text::put_byte;
+use drive_text::put_field;
+use drive_text::put_numbers;
+use drive_text::put_text;
 use queue::ReadyQueue;
 use rows::tables::load_header;
 use rows::tables::load_object;
 use rows::tables::load_place;
 use rows::tables::load_task;
-use texts::put_byte;
-use texts::put_field;
-use texts::put_numbers;
-use texts::put_text;
 ghost use mathlib.Core.Path.{_≡_};
 ghost use mathlib.Core.List.{_++_};
 ghost use lib.ListN.{length};
 ghost use Prim.Native.Nat.{_+_, _*_, _<_, _≤_, min};
 ghost use Rattle.asyncio.specs.Limits.{tasks-length, objects-length, places-length, task-limit, object-limit, place-limit};
-ghost use Rattle.texts.specs.Out.{out-of, Wrote};
-ghost use Rattle.texts.specs.Text.{newline, field, fields};
+ghost use Rattle.drive_text.specs.Out.{out-of, Wrote};
+ghost use Rattle.drive_text.specs.Text.{newline, field, fields};
 ghost use Rattle.printing.specs.Printing.{task-text, object-text, place-text, header-text, entry-text, queue-text, rows-text, store-text, store-limit, changed};
 
 // A line: a name and numbers.

@@ -17,9 +17,9 @@ use Rattle.machine.specs.Store.{Store, object, header}
 use Rattle.machine.specs.Scheduler.{is-some, pending-external}
 use Rattle.machine.specs.Sound.{sound, is-ended, value-known, option-known}
 use Rattle.machine.specs.Machine.{Event, is-run, in-running, full, no-number, refusals, first-refusal, refusal, step}
-use Rattle.reader.specs.Format.{list-value}
-use Rattle.laws.specs.StoreLaws.{header-fits}
-use Rattle.laws.specs.MachineLaws.{refused-step}
+use Rattle.drive_reader.specs.Format.{list-value}
+use Rattle.machine_laws.specs.StoreLaws.{header-fits}
+use Rattle.machine_laws.specs.MachineLaws.{refused-step}
 
 -- the list of a number
 abbrev list : ℕ → Value

@@ -3,4 +3,4 @@ pub mod calls; // pending_call_ids
 pub mod tasks; // the searches
 pub mod states; // make_ready, is_blocked, block_current_on, removal
 pub mod spawn; // spawn
-pub mod ends; // can_await_eagerly, cleanup
+pub mod cleanup; // can_await_eagerly, cleanup

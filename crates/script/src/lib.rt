@@ -1,17 +1,17 @@
 // The entries of the running task: complete, fail.
 use asyncio::Value;
-use checks::lent::lengths_right;
+use exec_switch::answer::Answer;
+use exec_switch::answer::Stepped;
 use queue::ReadyQueue;
 use sound::is_sound;
-use switching::answer::Answer;
-use switching::answer::Stepped;
+use step_checks::lent::lengths_right;
 ghost use mathlib.Core.Path.{_≡_};
 ghost use mathlib.Core.List.{List};
 ghost use Prim.Native.Nat.{ℕ};
 ghost use Rattle.machine.specs.Store.{Happening, store-of};
 ghost use Rattle.machine.specs.Machine.{Event};
 ghost use Rattle.machine.specs.Lent.{lent-step};
-ghost use Rattle.checks.specs.Lent.{lent-of};
+ghost use Rattle.step_checks.specs.Lent.{lent-of};
 
 // The running task completes with a value.
 pub fn complete(
@@ -29,7 +29,7 @@ pub fn complete(
             let completed = steps::running::complete(tasks, objects, places, queue, value);
             let rest = completed.queue;
             let answer = completed.answer;
-            checks::lent::tell(objects, calls, answer);
+            step_checks::lent::tell(objects, calls, answer);
             return Stepped {
                 queue: rest,
                 answer,
@@ -62,7 +62,7 @@ pub fn fail(
             let failed = steps::running::fail(tasks, objects, queue, n);
             let q = failed.queue;
             let answer = failed.answer;
-            checks::lent::tell(objects, calls, answer);
+            step_checks::lent::tell(objects, calls, answer);
             return Stepped { queue: q, answer };
         }
         return Stepped {

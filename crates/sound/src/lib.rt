@@ -23,10 +23,10 @@ fn rows_canonical(header: Header, tasks: &[u64], objects: &[u64], places: &[u64]
     requires { ⌜ (length (now tasks) ≡ tasks-length) × (length (now objects) ≡ objects-length) × (length (now places) ≡ places-length) × HeaderFits header ⌝ }
     ensures { λ r. ⌜ r ≡ rows-canonical header (now (tasks .entry)) (now (objects .entry)) (now (places .entry)) ⌝ }
 {
-    if soundrows::words::header_same(objects) {
-        if soundrows::words::tasks_same(tasks, header.next as usize) {
-            if soundrows::words::objects_same(objects, header.made as usize) {
-                return soundrows::words::places_same(places, header.used as usize);
+    if sound_rows::words::header_same(objects) {
+        if sound_rows::words::tasks_same(tasks, header.next as usize) {
+            if sound_rows::words::objects_same(objects, header.made as usize) {
+                return sound_rows::words::places_same(places, header.used as usize);
             }
             return false;
         }
@@ -40,10 +40,10 @@ fn tables_sound(header: Header, tasks: &[u64], objects: &[u64], places: &[u64]) 
     requires { ⌜ (length (now tasks) ≡ tasks-length) × (length (now objects) ≡ objects-length) × (length (now places) ≡ places-length) × HeaderFits header ⌝ }
     ensures { λ r. ⌜ r ≡ tables-sound header (object-at (now (objects .entry))) (task-at (now (tasks .entry))) (place-at (now (places .entry))) ⌝ }
 {
-    if soundrows::numbers::numbers_in_range(header, tasks, objects) {
-        if soundrows::numbers::spawned_in_range(header, objects) {
-            if soundrows::values::items_lower(header.made, objects, places) {
-                return soundrows::values::lists_completed(header, tasks, objects, places);
+    if sound_rows::numbers::numbers_in_range(header, tasks, objects) {
+        if sound_rows::numbers::spawned_in_range(header, objects) {
+            if sound_rows::values::items_lower(header.made, objects, places) {
+                return sound_rows::values::lists_completed(header, tasks, objects, places);
             }
             return false;
         }
@@ -57,10 +57,10 @@ fn tasks_sound(header: Header, ids: [u16; 513], n: usize, tasks: &[u64], objects
     requires { ⌜ (length (now tasks) ≡ tasks-length) × (length (now objects) ≡ objects-length) × HeaderFits header × (n ≤ task-limit) ⌝ }
     ensures { λ r. ⌜ r ≡ tasks-sound header (object-at (now (objects .entry))) (task-at (now (tasks .entry))) (take n ids) ⌝ }
 {
-    if soundtasks::entries::queue_ready(ids, n, header.next, tasks) {
-        if soundtasks::calls::calls_distinct(header, objects) {
-            if soundtasks::drivers::one_driver(header.next, tasks) {
-                return soundtasks::blocked::blocked_match(header, tasks, objects);
+    if sound_tasks::entries::queue_ready(ids, n, header.next, tasks) {
+        if sound_tasks::calls::calls_distinct(header, objects) {
+            if sound_tasks::drivers::one_driver(header.next, tasks) {
+                return sound_tasks::blocked::blocked_match(header, tasks, objects);
             }
             return false;
         }

@@ -2,13 +2,13 @@
 use asyncio::Error;
 use asyncio::HeapId;
 use asyncio::Value;
-use checks::tests::Turn;
-use checks::tests::running;
-use events::awaits::exec_get_awaitable;
+use exec_events::awaits::exec_get_awaitable;
+use exec_switch::answer::Answer;
+use exec_switch::answer::Stepped;
 use queue::ReadyQueue;
-use soundrows::values::value_known;
-use switching::answer::Answer;
-use switching::answer::Stepped;
+use sound_rows::values::value_known;
+use step_checks::refusals::Turn;
+use step_checks::refusals::running;
 ghost use mathlib.Core.Path.{_≡_};
 ghost use mathlib.Core.List.{List};
 ghost use Prim.Native.Nat.{ℕ, _<_, _≤_};
@@ -16,8 +16,8 @@ ghost use lib.ListN.{length};
 ghost use Rattle.asyncio.specs.Limits.{tasks-length, objects-length, places-length};
 ghost use Rattle.machine.specs.Store.{Happening, store-of};
 ghost use Rattle.machine.specs.Machine.{Event};
-ghost use Rattle.switching.specs.Answer.{stepped-of};
-ghost use Rattle.checks.specs.Checked.{checked};
+ghost use Rattle.exec_switch.specs.Answer.{stepped-of};
+ghost use Rattle.step_checks.specs.Checked.{checked};
 
 // The running task awaits an object.
 pub fn await_object(
@@ -76,7 +76,7 @@ pub fn complete(
         Turn::Runs(t) => {
             let header = rows::tables::load_header(objects);
             if value_known(header.made, objects, value) {
-                return events::ends::complete(tasks, objects, places, queue, t, value);
+                return exec_events::ends::complete(tasks, objects, places, queue, t, value);
             }
             Stepped {
                 queue,
@@ -97,6 +97,6 @@ pub fn fail(tasks: &mut [u64], objects: &mut [u64], queue: ReadyQueue, n: u32) -
             queue,
             answer: Answer::Refused(k),
         },
-        Turn::Runs(t) => events::ends::fail(tasks, objects, queue, t, Error::Script(n)),
+        Turn::Runs(t) => exec_events::ends::fail(tasks, objects, queue, t, Error::Script(n)),
     }
 }

@@ -1,12 +1,12 @@
 // Events of the host: results, resume.
 use asyncio::Moment;
-use checks::tests::any_bad;
-use checks::tests::any_unknown;
-use events::ends::resume_with_resolved_futures;
-use futures::results::apply_future_results;
+use exec_events::ends::resume_with_resolved_futures;
+use exec_futures::results::apply_future_results;
+use exec_switch::answer::Answer;
+use exec_switch::answer::Stepped;
 use queue::ReadyQueue;
-use switching::answer::Answer;
-use switching::answer::Stepped;
+use step_checks::refusals::any_bad;
+use step_checks::refusals::any_unknown;
 ghost use mathlib.Core.Path.{_≡_};
 ghost use mathlib.Core.List.{List};
 ghost use Prim.Native.Nat.{ℕ};
@@ -16,9 +16,9 @@ ghost use Rattle.rows.specs.Tables.{header-at};
 ghost use Rattle.machine.specs.Store.{Happening, store-of};
 ghost use Rattle.machine.specs.Sound.{is-ended};
 ghost use Rattle.machine.specs.Machine.{Event};
-ghost use Rattle.switching.specs.Answer.{stepped-of};
-ghost use Rattle.futures.specs.Results.{results-in};
-ghost use Rattle.checks.specs.Checked.{checked};
+ghost use Rattle.exec_switch.specs.Answer.{stepped-of};
+ghost use Rattle.exec_futures.specs.Results.{results-in};
+ghost use Rattle.step_checks.specs.Checked.{checked};
 
 // Has the session ended?
 fn is_ended(objects: &[u64]) -> bool

@@ -5,8 +5,8 @@ use native.Mathlib.Omega.{arith}
 use lib.ListN.{length}
 use lib.Seq.{length-take-le}
 use Rattle.machine.specs.Store.{store-of}
-use Rattle.theorems.specs.Stores.{Whole}
-use Rattle.driverlaws.specs.KeptLaws.{begun-whole, record-whole, whole-right, whole-is-sound}
+use Rattle.machine_theorems.specs.Soundness.Stores.{Whole}
+use Rattle.drive_laws.specs.KeptLaws.{begun-whole, record-whole, whole-right, whole-is-sound}
 use borrow.Author.Needs.{needs}
 use Rattle.drive.proofs.run.Statement.{statement}
 use Rattle.drive.proofs.run.Tie as tie

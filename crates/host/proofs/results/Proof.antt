@@ -2,12 +2,12 @@ use lib.ListN.{length}
 use mathlib.Core.Path.{_≡_, refl, sym, ap, _∙_}
 use mathlib.Core.List.{[]}
 use denote.Ref.{now}
-use Rattle.futures.specs.Results.{results-in}
+use Rattle.exec_futures.specs.Results.{results-in}
 use Rattle.machine.specs.Store.{store-of}
 use Rattle.machine.specs.Machine.{Event, accept}
 use Rattle.machine.specs.Lent.{written}
-use Rattle.checks.specs.LentLaws.{lengths-have, wrong-length, not-sound, steps-on, logs}
-use Rattle.checks.specs.QuietLaws.{quiet}
+use Rattle.step_checks.specs.LentLaws.{lengths-have, wrong-length, not-sound, steps-on, logs}
+use Rattle.step_checks.specs.QuietLaws.{quiet}
 use borrow.Author.Needs.{needs}
 use Rattle.host.proofs.results.Statement.{statement}
 use Rattle.host.proofs.results.Tie as tie

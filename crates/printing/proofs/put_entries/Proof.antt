@@ -3,7 +3,7 @@ use mathlib.Core.Path.{_≡_, refl, _∙_}
 use lib.ListN.{length}
 use native.Mathlib.Omega.{arith}
 use borrow.Author.Needs.{needs}
-use Rattle.texts.specs.Out.{out-of, Wrote}
+use Rattle.drive_text.specs.Out.{out-of, Wrote}
 use Rattle.printing.specs.Printing.{entry-text, rows-text}
 use Rattle.printing.specs.PrintingLaws.{rows-none, rows-turn, rows-end}
 use Rattle.printing.proofs.put_entries.Statement.{statement}

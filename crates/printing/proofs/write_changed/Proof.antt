@@ -6,7 +6,7 @@ use Rattle.printing.proofs.write_changed.Tie as tie
 use Rattle.printing.proofs.write_changed.Reads as reads
 use Rattle.printing.proofs.write_changed.Lts as lts
 use Rattle.printing.proofs.count_changed.Reads as count-changed-reads
-use Rattle.texts.proofs.put_field.Reads as put-field-reads
+use Rattle.drive_text.proofs.put_field.Reads as put-field-reads
 
 -- src/lib.rt:165:35
 count-changed-requires : tie.Need-count-changed-requires

@@ -1,4 +1,4 @@
-use Rattle.texts.specs.Text.{bytes-of}
+use Rattle.drive_text.specs.Text.{bytes-of}
 use Rattle.printing.specs.Printing.{header-text}
 use Rattle.printing.specs.PrintingLaws.{row-wrote}
 use Rattle.asyncio.specs.Layout.{header-words}

@@ -1,5 +1,5 @@
 use Rattle.rows.specs.Tables.{object-at}
-use Rattle.texts.specs.Text.{bytes-of}
+use Rattle.drive_text.specs.Text.{bytes-of}
 use Rattle.asyncio.specs.RangeLaws.{object-wide}
 use Rattle.printing.specs.Printing.{object-text}
 use Rattle.printing.specs.PrintingLaws.{row-wrote}

@@ -4,7 +4,7 @@ use Prim.Native.Nat.{_≤_, _-_, _*_}
 use mathlib.Core.Path.{_≡_, refl, _∙_}
 use lib.ListN.{length}
 use native.Mathlib.Omega.{arith}
-use Rattle.texts.specs.Out.{out-of, Wrote}
+use Rattle.drive_text.specs.Out.{out-of, Wrote}
 use Rattle.printing.specs.Printing.{object-text, rows-text}
 use Rattle.printing.specs.PrintingLaws.{rows-none, rows-turn}
 use Rattle.printing.proofs.write_objects.Statement.{statement}

@@ -1,4 +1,4 @@
-use Rattle.texts.specs.OutLaws.{then}
+use Rattle.drive_text.specs.OutLaws.{then}
 use borrow.Author.Needs.{needs}
 use Rattle.printing.proofs.write_row.Statement.{statement}
 use Rattle.printing.proofs.write_row.Tie as tie

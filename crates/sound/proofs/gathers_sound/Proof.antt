@@ -1,6 +1,6 @@
 use mathlib.Core.Path.{sym, _∙_}
 use borrow.Author.Needs.{needs}
-use Rattle.soundrows.specs.Loops.{pass, stop}
+use Rattle.sound_rows.specs.Loops.{pass, stop}
 use Rattle.sound.specs.Whole.{gathers-sound}
 use Rattle.sound.proofs.gathers_sound.Statement.{statement}
 use Rattle.sound.proofs.gathers_sound.Tie as tie

@@ -1,5 +1,5 @@
 use mathlib.Core.Path.{sym, _∙_}
-use Rattle.soundrows.specs.Loops.{pass, stop}
+use Rattle.sound_rows.specs.Loops.{pass, stop}
 use Rattle.sound.specs.Whole.{rows-canonical}
 use borrow.Author.Needs.{needs}
 use Rattle.sound.proofs.rows_canonical.Statement.{statement}

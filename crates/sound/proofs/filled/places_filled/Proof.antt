@@ -4,7 +4,7 @@ use Prim.Native.Nat.{ℕ, _-_, _≤_}
 use native.Mathlib.Omega.{arith}
 use borrow.Author.Needs.{needs}
 use Rattle.machine.specs.Tests.{all-below}
-use Rattle.soundrows.specs.Loops.{all-none, all-turn, all-fails, all-end}
+use Rattle.sound_rows.specs.Loops.{all-none, all-turn, all-fails, all-end}
 use Rattle.rows.specs.Tables.{object-at, place-at}
 use Rattle.machine.specs.Sound.{object-filled, places-filled}
 use Rattle.sound.proofs.filled.places_filled.Statement.{statement}

@@ -4,7 +4,7 @@ use Prim.Native.Nat.{ℕ, _-_, _≤_}
 use native.Mathlib.Omega.{arith}
 use borrow.Author.Needs.{needs}
 use Rattle.machine.specs.Tests.{all-below}
-use Rattle.soundrows.specs.Loops.{all-none, all-turn, all-fails, all-end}
+use Rattle.sound_rows.specs.Loops.{all-none, all-turn, all-fails, all-end}
 use mathlib.Core.Bool.{Bool·beq}
 use Rattle.asyncio.specs.States.{is-running}
 use Rattle.sound.specs.RunnerLaws.{told-read}

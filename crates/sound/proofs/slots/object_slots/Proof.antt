@@ -4,11 +4,11 @@ use Prim.Native.Nat.{ℕ, _-_, _≤_}
 use native.Mathlib.Omega.{arith}
 use borrow.Author.Needs.{needs}
 use Rattle.machine.specs.Tests.{all-below}
-use Rattle.soundrows.specs.Loops.{all-none, all-turn, all-fails, all-end}
+use Rattle.sound_rows.specs.Loops.{all-none, all-turn, all-fails, all-end}
 use Rattle.rows.specs.Tables.{object-at, place-at}
 use Rattle.asyncio.specs.Parts.{awaiter-of}
 use Rattle.machine.specs.Sound.{slot-open}
-use Rattle.soundtasks.specs.AwaiterLaws.{awaiter-fits}
+use Rattle.sound_tasks.specs.AwaiterLaws.{awaiter-fits}
 use Rattle.sound.proofs.slots.object_slots.Statement.{statement}
 use Rattle.sound.proofs.slots.object_slots.Tie as tie
 

@@ -1,5 +1,5 @@
 use mathlib.Core.Path.{sym, _∙_}
-use Rattle.soundtasks.specs.AwaiterLaws.{task-awaiter-fits}
+use Rattle.sound_tasks.specs.AwaiterLaws.{task-awaiter-fits}
 use Rattle.sound.specs.SlotLaws.{slot-dead, slot-live}
 use borrow.Author.Needs.{needs}
 use Rattle.sound.proofs.slots.task_slot.Statement.{statement}

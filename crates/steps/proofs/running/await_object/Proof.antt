@@ -4,7 +4,7 @@ use denote.Ref.{now}
 use Rattle.asyncio.specs.Ranges.{HeaderFits}
 use Rattle.rows.specs.TableLaws.{header-read}
 use Rattle.machine.specs.Machine.{refusals}
-use Rattle.checks.specs.StepLaws.{no-turn-logs, runner-fits, await-unmade, await-goes}
+use Rattle.step_checks.specs.StepLaws.{no-turn-logs, runner-fits, await-unmade, await-goes}
 use borrow.Author.Needs.{needs}
 use Rattle.steps.proofs.running.await_object.Statement.{statement}
 use Rattle.steps.proofs.running.await_object.Tie as tie

@@ -3,7 +3,7 @@ use denote.Ref.{now}
 use Rattle.asyncio.specs.Ranges.{HeaderFits}
 use Rattle.rows.specs.TableLaws.{header-read}
 use Rattle.machine.specs.Machine.{refusals}
-use Rattle.checks.specs.StepLaws.{no-turn-logs, runner-fits, complete-unknown, complete-goes}
+use Rattle.step_checks.specs.StepLaws.{no-turn-logs, runner-fits, complete-unknown, complete-goes}
 use borrow.Author.Needs.{needs}
 use Rattle.steps.proofs.running.complete.Statement.{statement}
 use Rattle.steps.proofs.running.complete.Tie as tie

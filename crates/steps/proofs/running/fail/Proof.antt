@@ -2,7 +2,7 @@ use mathlib.Core.Path.{_≡_, refl, sym, ap, _∙_}
 use mathlib.Core.List.{[]}
 use denote.Ref.{now}
 use Rattle.machine.specs.Machine.{refusals}
-use Rattle.checks.specs.StepLaws.{no-turn-logs, runner-fits, fail-goes}
+use Rattle.step_checks.specs.StepLaws.{no-turn-logs, runner-fits, fail-goes}
 use borrow.Author.Needs.{needs}
 use Rattle.steps.proofs.running.fail.Statement.{statement}
 use Rattle.steps.proofs.running.fail.Tie as tie

@@ -1,6 +1,6 @@
 use mathlib.Core.Path.{_≡_, refl, sym, ap, _∙_}
 use denote.Ref.{now}
-use Rattle.checks.specs.StepLaws.{results-ended, results-unknown, results-many, results-bad, results-done}
+use Rattle.step_checks.specs.StepLaws.{results-ended, results-unknown, results-many, results-bad, results-done}
 use borrow.Author.Needs.{needs}
 use Rattle.steps.proofs.waiting.results.Statement.{statement}
 use Rattle.steps.proofs.waiting.results.Tie as tie

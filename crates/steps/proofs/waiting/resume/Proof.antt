@@ -1,6 +1,6 @@
 use mathlib.Core.Path.{_≡_, refl, sym, ap, _∙_}
 use denote.Ref.{now}
-use Rattle.checks.specs.StepLaws.{resume-ended, resume-running, resume-goes}
+use Rattle.step_checks.specs.StepLaws.{resume-ended, resume-running, resume-goes}
 use borrow.Author.Needs.{needs}
 use Rattle.steps.proofs.waiting.resume.Statement.{statement}
 use Rattle.steps.proofs.waiting.resume.Tie as tie

@@ -1,0 +1,158 @@
+-- Laws of the driver, one for each way to a line.
+use mathlib.Core.Path.{_≡_, refl, ap}
+use mathlib.Core.Bool.{Bool, true, false}
+use mathlib.Core.List.{List}
+use Prim.Native.Nat.{ℕ, _+_, _-_, _*_}
+use native.Mathlib.Omega.{arith}
+use lib.ListN.{take, drop}
+use Rattle.queue.specs.declared.ReadyQueue.{ReadyQueue}
+use Rattle.machine.specs.Store.{Store, Happening, store-of}
+use Rattle.machine.specs.Machine as machine
+use Rattle.machine.specs.Lent.{Lent, lent-step, lent-read}
+use Rattle.exec_switch.specs.Answer.{answer-of}
+use Rattle.exec_switch.specs.declared.answer.Answer.{Answer}
+use Rattle.step_checks.specs.Lent.{lent-of}
+use Rattle.step_read.specs.Reads.{show-answer}
+use Rattle.step_read.specs.declared.Reading.{Reading}
+use Rattle.drive_reader.specs.declared.Record.{Record}
+use Rattle.drive_reader.specs.declared.Parsed.{Parsed}
+use Rattle.drive_reader.specs.Format.{parse}
+use Rattle.drive_reader.specs.ParseLaws.{results-inside}
+use Rattle.drive_text.specs.Out.{Out, Wrote}
+use Rattle.drive_text.specs.OutLaws.{wrote-none, at-most}
+use Rattle.drive_lines.specs.Heard.{heard}
+use Rattle.drive_shows.specs.Shows.{reading-count}
+use Rattle.drive_shows.specs.HeardLaws.{wrote-event, wrote-eager, wrote-show}
+use Rattle.drive_lines.specs.Lines.{line, line-limit}
+use Rattle.drive_answer.specs.Driver.{Asked, asked, Drives, refused-11, answered, drive-by, drive-one}
+use Rattle.drive_answer.specs.Drove.{Drove, asks-of, asked-of, InInput}
+use Rattle.drive_answer.specs.declared.asks.Asks.{Asks}
+
+-- ---- lines
+
+-- An event: what the library ensures, and the line that was written.
+pub event-drove : (u : Store) (l : List ℕ) (e : machine.Event) (next number : ℕ) (a : Answer) {ts os ps cs : List ℕ} {q : ReadyQueue} {x y : Out}
+    → lent-of (store-of ts os ps q (lent-step u l e .store .log)) cs a ≡ lent-step u l e
+    → Wrote line-limit x y (line number (heard os cs a))
+    → Drove ts os ps q cs next true x y (answered u l next number (Asked.event e))
+unfolding answered
+event-drove u l e next number a {ts} {os} {ps} {cs} {q} h w = record {
+  store-is = ap (λ (z : Lent). z .store) h;
+  list-is = ap (λ (z : Lent). z .list) h;
+  next-is = refl;
+  going-is = refl;
+  wrote = wrote-event number (store-of ts os ps q (lent-step u l e .store .log)) u cs l a e h w;
+}
+
+-- A read of an object.
+pub show-drove : (ts os ps : List ℕ) (q : ReadyQueue) (k : List Happening) (l : List ℕ) (o next number : ℕ) (r : Reading) {x y : Out}
+    → show-answer ps r ≡ lent-read (store-of ts os ps q k) (machine.Event.show o) .answer
+    → Wrote (75 + 27 * reading-count r) x y (line number (show-answer ps r))
+    → Drove ts os ps q l next true x y (answered (store-of ts os ps q k) l next number (Asked.read (machine.Event.show o)))
+unfolding answered
+show-drove ts os ps q k l o next number r h w = record {
+  store-is = refl;
+  list-is = refl;
+  next-is = refl;
+  going-is = refl;
+  wrote = wrote-show number ps (store-of ts os ps q k) o r h w;
+}
+
+-- The read `eager`.
+pub eager-drove : (ts os ps : List ℕ) (q : ReadyQueue) (k : List Happening) (l : List ℕ) (next number : ℕ) (a : Answer) {x y : Out}
+    → answer-of os a ≡ lent-read (store-of ts os ps q k) machine.Event.eager .answer
+    → Wrote line-limit x y (line number (heard os l a))
+    → Drove ts os ps q l next true x y (answered (store-of ts os ps q k) l next number (Asked.read machine.Event.eager))
+unfolding answered
+eager-drove ts os ps q k l next number a h w = record {
+  store-is = refl;
+  list-is = refl;
+  next-is = refl;
+  going-is = refl;
+  wrote = wrote-eager number os l (store-of ts os ps q k) a h w;
+}
+
+-- Refusal 11.
+pub refused-drove : (ts os ps : List ℕ) (q : ReadyQueue) (k : List Happening) (l : List ℕ) (next number : ℕ) {x y : Out}
+    → Wrote 50 x y (line number (machine.Answer.refused 11))
+    → Drove ts os ps q l next false x y (refused-11 (store-of ts os ps q k) l next number)
+unfolding refused-11
+refused-drove ts os ps q k l next number w = record { store-is = refl; list-is = refl; next-is = refl; going-is = refl; wrote = at-most (omega arith) w }
+
+-- ---- the same
+
+pub same-drives : {ts os ps cs : List ℕ} {q : ReadyQueue} {next : ℕ} {going : Bool} {x y : Out} {d e : Drives} → d ≡ e
+    → Drove ts os ps q cs next going x y d → Drove ts os ps q cs next going x y e
+same-drives {d} {e} h w = rw h at w
+
+-- an event that is the same
+pub same-event : (u : Store) (l : List ℕ) (next number : ℕ) {d e : machine.Event} {ts os ps cs : List ℕ} {q : ReadyQueue} {after : ℕ} {going : Bool} {x y : Out} → d ≡ e
+    → Drove ts os ps q cs after going x y (answered u l next number (Asked.event d)) → Drove ts os ps q cs after going x y (answered u l next number (Asked.event e))
+same-event u l next number h w = same-drives (ap (λ (e : machine.Event). answered u l next number (Asked.event e)) h) w
+
+-- the n bytes from a place on: a part's end is written as a sum
+pub part-is : (src : List ℕ) (first n : ℕ) → take (first + n - first) (drop first src) ≡ take n (drop first src)
+part-is src first n = let e : first + n - first ≡ n = omega arith in rw e
+
+-- ---- what a record asks
+
+-- the code's form says what the record asks
+pub asks-asked : (src : List ℕ) (r : Record) → asked-of src (asks-of r) ≡ asked src r
+unfolding asks-of asked-of asked
+asks-asked src (Record.Coroutine f) = refl
+asks-asked src Record.Call = refl
+asks-asked src (Record.Pending c x) = refl
+asks-asked src (Record.Settled v) = refl
+asks-asked src (Record.Gather first count) = refl
+asks-asked src (Record.Await o) = refl
+asks-asked src (Record.Complete v) = refl
+asks-asked src (Record.Fail n) = refl
+asks-asked src (Record.Results first count) = refl
+asks-asked src Record.Resume = refl
+asks-asked src (Record.Cancel t) = refl
+asks-asked src (Record.Show o) = refl
+asks-asked src Record.Eager = refl
+
+inside : (src : List ℕ) (from : ℕ) (r : Record) {next : ℕ} → parse src from ≡ Parsed.Record r next → InInput src (asks-of r)
+unfolding asks-of
+inside src from (Record.Coroutine f) e = tt
+inside src from Record.Call e = tt
+inside src from (Record.Pending c x) e = tt
+inside src from (Record.Settled v) e = tt
+inside src from (Record.Gather first count) e = tt
+inside src from (Record.Await o) e = tt
+inside src from (Record.Complete v) e = tt
+inside src from (Record.Fail n) e = tt
+inside src from (Record.Results first count) e = results-inside src from e
+inside src from Record.Resume e = tt
+inside src from (Record.Cancel t) e = tt
+inside src from (Record.Show o) e = tt
+inside src from Record.Eager e = tt
+
+-- what a record that was read asks stands in the input
+pub asks-inside : (src : List ℕ) (from : ℕ) {r : Record} {next : ℕ} {a : Asks} → parse src from ≡ Parsed.Record r next → a ≡ asks-of r → InInput src a
+asks-inside src from {r} e h = rw h (inside src from r e)
+
+-- ---- one record
+
+-- the end of the input
+pub end-drove : (ts os ps : List ℕ) (q : ReadyQueue) (k : List Happening) (l src : List ℕ) (from number : ℕ) {x : Out}
+    → parse src from ≡ Parsed.End
+    → Drove ts os ps q l from false x x (drive-one (store-of ts os ps q k) l src from number)
+unfolding drive-one drive-by
+end-drove ts os ps q k l src from number e = rw e (record { store-is = refl; list-is = refl; next-is = refl; going-is = refl; wrote = at-most (omega arith) (wrote-none _) })
+
+-- no record
+pub none-drove : (ts os ps : List ℕ) (q : ReadyQueue) (k : List Happening) (l src : List ℕ) (from number : ℕ) {x y : Out}
+    → parse src from ≡ Parsed.Refused
+    → Wrote 50 x y (line number (machine.Answer.refused 11))
+    → Drove ts os ps q l from false x y (drive-one (store-of ts os ps q k) l src from number)
+unfolding drive-one drive-by
+none-drove ts os ps q k l src from number e w = rw e (refused-drove ts os ps q k l from number w)
+
+-- a record is what it asks, answered
+pub record-drives : (u : Store) (l src : List ℕ) (from number : ℕ) {r : Record} {next : ℕ} {a : Asks}
+    → parse src from ≡ Parsed.Record r next → a ≡ asks-of r
+    → answered u l next number (asked-of src a) ≡ drive-one u l src from number
+unfolding drive-one drive-by
+record-drives u l src from number {r} {next} e h = rw (e, h, asks-asked src r)

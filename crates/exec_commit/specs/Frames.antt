@@ -1,0 +1,43 @@
+-- The frames of a commit in two arrays and a depth, and what a commit tells.
+use mathlib.Core.Path.{_≡_}
+use mathlib.Core.List.{List, [], _∷_}
+use Prim.Native.Nat.{ℕ, zero, suc, _<_}
+use lib.ListN.{getD}
+use Rattle.asyncio.specs.Limits.{object-limit}
+use Rattle.queue.specs.declared.ReadyQueue.{ReadyQueue}
+use Rattle.machine.specs.Store.{Store, Happening, store-of}
+use Rattle.machine.specs.Commit.{Poll, Frame, Committed}
+use Rattle.machine_laws.specs.Statements.{commit-rest}
+use Rattle.exec_commit.specs.Steps.{frame}
+
+-- the d frames below the innermost: their gathers and the places that are stepped next
+unfoldable pub below : List ℕ → List ℕ → ℕ → List Frame
+below gs ns zero = []
+below gs ns (suc d) = frame (getD gs d 0) (getD ns d 0) ∷ below gs ns d
+
+-- their gathers are numbers of objects
+abbrev pub GathersFit : List ℕ → ℕ → Type 0
+GathersFit gs d = (i : ℕ) → i < d → getD gs i 0 < object-limit
+
+-- What a commit tells: the store after it, what the await sees, and the number of commit steps. (The machine counts the gathers
+-- opened and settled too: no code does.)
+pub record Told : Type 0 where
+  pub store : Store
+  pub poll : Poll
+  pub steps : ℕ
+
+-- the three
+abbrev pub tells : Store → Poll → ℕ → Told
+tells s p n = record { store = s; poll = p; steps = n }
+
+-- what the machine's commit tells
+abbrev pub told : Committed → Told
+told r = record { store = r .store; poll = r .poll; steps = r .steps }
+
+-- a commit that began as M goes on from frame f, with the frames fs below it, after n steps: for what had happened then there is what
+-- has happened now, and there are the two counts that no code has
+pub record GoesOn (M : List Happening → Committed) (ts os ps : List ℕ) (q : ReadyQueue) (f : Frame) (fs : List Frame) (n : ℕ) : Type 0 where
+  pub log : List Happening → List Happening
+  pub opened : ℕ
+  pub settled : ℕ
+  pub goes-on : (l : List Happening) → commit-rest (store-of ts os ps q (log l)) f fs n opened settled ≡ M l

@@ -1,0 +1,52 @@
+-- Where a walk through a gather's items stands, as the machine has it.
+use mathlib.Core.Path.{_≡_}
+use Prim.Native.Nat.{ℕ, _+_, _-_, _^_}
+use mathlib.Core.List.{List}
+use Rattle.asyncio.specs.States.{pick}
+use Rattle.queue.specs.declared.ReadyQueue.{ReadyQueue}
+use Rattle.machine.specs.Store.{Store, Happening, store-of, object}
+use Rattle.machine.specs.Scheduler.{bit, as-awaited}
+use Rattle.machine.specs.Commit.{at-end, at-nested, at-error, step-item, step-items, Frame}
+use Rattle.machine.specs.Commit as machine
+use Rattle.exec_commit.specs.declared.step.Step.{Step}
+use Rattle.exec_commit.specs.declared.step.Stop.{Stop}
+
+-- bit i set
+abbrev pub with-bit : ℕ → ℕ → ℕ
+with-bit m i = pick (bit m i) m (m + 2 ^ i)
+
+-- how a walk goes on with a store
+abbrev pub Goes : Type 0
+Goes = Store → machine.Stop
+
+-- after the item in place i: `go` on with the store, or stopped there
+unfoldable pub stepped : Store → ℕ → Step → Goes → machine.Stop
+stepped s i Step.Next go = go s
+stepped s i Step.End go = at-end s
+stepped s i (Step.Nested o) go = at-nested s i (o .0)
+stepped s i (Step.Raised e) go = at-error s e
+
+-- the machine's item in place i of gather g, then `go` on
+abbrev pub step-at : Store → ℕ → ℕ → Goes → machine.Stop
+step-at s g i go = step-item g i s (as-awaited (object s g)) go
+
+-- where a walk stopped
+unfoldable pub stopped : Store → Stop → machine.Stop
+stopped s Stop.End = at-end s
+stopped s (Stop.Nested i o) = at-nested s i (o .0)
+stopped s (Stop.Raised e) = at-error s e
+
+-- what has happened where a walk stopped
+abbrev pub stop-log : machine.Stop → List Happening
+stop-log (at-end s) = s .log
+stop-log (at-nested s i o) = s .log
+stop-log (at-error s e) = s .log
+
+-- a walk that began as M goes on from place i of gather g, which has n places: for what had happened then there is what has happened now
+pub record WalksOn (M : List Happening → machine.Stop) (ts os ps : List ℕ) (q : ReadyQueue) (g i n : ℕ) : Type 0 where
+  pub log : List Happening → List Happening
+  pub walks-on : (l : List Happening) → step-items (n - i) (store-of ts os ps q (log l)) g i ≡ M l
+
+-- a gather, and its place that is stepped next
+abbrev pub frame : ℕ → ℕ → Frame
+frame g i = record { gather = g; next = i }

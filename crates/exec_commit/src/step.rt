@@ -1,0 +1,212 @@
+// The items of one gather, left to right: step_gather_commit.
+use asyncio::Error;
+use asyncio::GatherState;
+use asyncio::HeapId;
+use asyncio::Object;
+use asyncio::OptionValue;
+use asyncio::Place;
+use asyncio::Value;
+use exec_poll::awaited::AwaitedGather;
+use exec_poll::awaited::OptionAwaited;
+use exec_poll::awaited::as_awaited;
+use exec_poll::item::ItemPoll;
+use exec_poll::item::Poll;
+use exec_poll::item::item;
+use queue::ReadyQueue;
+ghost use mathlib.Core.Path.{_≡_};
+ghost use mathlib.Core.List.{List};
+ghost use Prim.Native.Nat.{ℕ, _<_, _+_};
+ghost use lib.ListN.{length};
+ghost use Rattle.asyncio.specs.Limits.{object-limit, item-limit, place-limit, tasks-length, objects-length, places-length};
+ghost use Rattle.asyncio.specs.Parts.{count-of};
+ghost use Rattle.rows.specs.Tables.{object-at};
+ghost use Rattle.queue.specs.declared.ReadyQueue.{ReadyQueue};
+ghost use Rattle.machine.specs.Store.{Happening, store-of};
+ghost use Rattle.machine.specs.Commit.{at-end, open-place, fill-place, put-polled, step-gather-commit};
+ghost use Rattle.exec_poll.specs.Polls.{poll-of, awaited-of};
+ghost use Rattle.exec_commit.specs.Steps.{Goes, with-bit, stepped, step-at, stopped, stop-log, frame};
+
+// How a walk stands after an item: it goes on, or it stops because the gather is not awaited, at a nested gather, at an error.
+pub enum Step {
+    Next,
+    End,
+    Nested(HeapId),
+    Raised(Error),
+}
+
+// The queue after an item, and how the walk stands.
+pub struct Stepped {
+    pub queue: ReadyQueue,
+    pub step: Step,
+}
+
+// Where the walk through a gather's items stopped: at the end, at a nested gather in place `at`, at an error.
+pub enum Stop {
+    End,
+    Nested { at: u16, item: HeapId },
+    Raised(Error),
+}
+
+// The queue after a walk, and where it stopped.
+pub struct Stopped {
+    pub queue: ReadyQueue,
+    pub stop: Stop,
+}
+
+// Bit `i` of the open places, set.
+fn with_bit(waiting: u32, i: usize) -> u32
+    requires { ⌜ i < item-limit ⌝ }
+    ensures { λ r. ⌜ r ≡ with-bit waiting i ⌝ }
+{
+    if (waiting >> i) % 2 == 0 {
+        return waiting + (1u32 << i);
+    }
+    waiting
+}
+
+// Place `i` of gather `g`, which is `w`, is open.
+pub fn open_place(objects: &mut [u64], g: HeapId, w: AwaitedGather, i: usize)
+    requires { ⌜ (length (now objects) ≡ objects-length) × (g .0 < object-limit) × (i < item-limit) ⌝ }
+    ensures { λ _. ⌜ ((ts ps : List ℕ) (q : ReadyQueue) (l : List Happening) → store-of ts (now (objects .exit)) ps q l ≡ open-place (store-of ts (now (objects .entry)) ps q l) (g .0) (awaited-of w) i) ⌝ }
+{
+    let awaiter = w.awaiter;
+    let open_places = with_bit(w.waiting, i);
+    rows::tables::store_object(
+        objects,
+        g,
+        Object::GatherFuture {
+            first: w.first,
+            count: w.count,
+            state: GatherState::Awaited {
+                awaiter,
+                open_places,
+            },
+        },
+    );
+}
+
+// Place `i` of the gather `w` has a value.
+pub fn fill_place(places: &mut [u64], w: AwaitedGather, i: usize, value: Value)
+    requires { ⌜ (length (now places) ≡ places-length) × (w .first + i < place-limit) ⌝ }
+    ensures { λ _. ⌜ ((ts os : List ℕ) (q : ReadyQueue) (l : List Happening) → store-of ts os (now (places .exit)) q l ≡ fill-place (store-of ts os (now (places .entry)) q l) (awaited-of w) i value) ⌝ }
+{
+    let p = w.first as usize + i;
+    let item = rows::parts::item_at(places, p);
+    rows::tables::store_place(
+        places,
+        p,
+        Place {
+            item,
+            result: OptionValue::Some(value),
+        },
+    );
+}
+
+// What the item of place `i` gave is put there; an error stops the walk.
+fn put_polled(
+    objects: &mut [u64],
+    places: &mut [u64],
+    g: HeapId,
+    w: AwaitedGather,
+    i: usize,
+    poll: Poll,
+) -> Step
+    requires { ⌜ (length (now objects) ≡ objects-length) × (length (now places) ≡ places-length) × (g .0 < object-limit) × (i < item-limit) × (w .first + i < place-limit) ⌝ }
+    ensures { λ r. ⌜ ((ts : List ℕ) (q : ReadyQueue) (l : List Happening) (go : Goes) → stepped (store-of ts (now (objects .exit)) (now (places .exit)) q l) i r go ≡ put-polled (g .0) (awaited-of w) i (store-of ts (now (objects .entry)) (now (places .entry)) q l) (poll-of poll) go) ⌝ }
+{
+    match poll {
+        Poll::Ready(v) => {
+            fill_place(places, w, i, v);
+            Step::Next
+        }
+        Poll::Raised(e) => Step::Raised(e),
+        Poll::Pending => {
+            open_place(objects, g, w, i);
+            Step::Next
+        }
+    }
+}
+
+// The item in place `i` of gather `g`.
+fn step_item(
+    tasks: &mut [u64],
+    objects: &mut [u64],
+    places: &mut [u64],
+    queue: ReadyQueue,
+    g: HeapId,
+    i: usize,
+) -> Stepped
+    requires { ⌜ (length (now tasks) ≡ tasks-length) × (length (now objects) ≡ objects-length) × (length (now places) ≡ places-length) × (g .0 < object-limit) × (i < count-of (object-at (now objects) (g .0))) ⌝ }
+    ensures { λ r. ⌜ ((l : List Happening) (go : Goes) → stepped (store-of (now (tasks .exit)) (now (objects .exit)) (now (places .exit)) (r .queue) (stop-log (step-at (store-of (now (tasks .entry)) (now (objects .entry)) (now (places .entry)) queue l) (g .0) i at-end))) i (r .step) go ≡ step-at (store-of (now (tasks .entry)) (now (objects .entry)) (now (places .entry)) queue l) (g .0) i go) ⌝ }
+{
+    let a = as_awaited(objects, g);
+    match a {
+        OptionAwaited::None => Stepped {
+            queue,
+            step: Step::End,
+        },
+        OptionAwaited::Some(w) => {
+            let o = rows::parts::item_at(places, w.first as usize + i);
+            let r = item(tasks, objects, places, queue, g, w, o);
+            let q = r.queue;
+            let polled = r.item;
+            match polled {
+                ItemPoll::Nested => Stepped {
+                    queue: q,
+                    step: Step::Nested(o),
+                },
+                ItemPoll::Polled(poll) => {
+                    let step = put_polled(objects, places, g, w, i, poll);
+                    Stepped { queue: q, step }
+                }
+            }
+        }
+    }
+}
+
+// The items of gather `g` from place `next` on, left to right, up to the end, a nested gather that must be committed first, or an error.
+pub fn step_gather_commit(
+    tasks: &mut [u64],
+    objects: &mut [u64],
+    places: &mut [u64],
+    queue: ReadyQueue,
+    g: HeapId,
+    next: u16,
+) -> Stopped
+    requires { ⌜ (length (now tasks) ≡ tasks-length) × (length (now objects) ≡ objects-length) × (length (now places) ≡ places-length) × (g .0 < object-limit) ⌝ }
+    ensures { λ r. ⌜ ((l : List Happening) → stopped (store-of (now (tasks .exit)) (now (objects .exit)) (now (places .exit)) (r .queue) (stop-log (step-gather-commit (store-of (now (tasks .entry)) (now (objects .entry)) (now (places .entry)) queue l) (frame (g .0) next)))) (r .stop) ≡ step-gather-commit (store-of (now (tasks .entry)) (now (objects .entry)) (now (places .entry)) queue l) (frame (g .0) next)) ⌝ }
+{
+    let count = rows::parts::count_at(objects, g);
+    let mut q = queue;
+    let mut i = next;
+    while i < count {
+        let r = step_item(tasks, objects, places, q, g, i as usize);
+        let step = r.step;
+        q = r.queue;
+        match step {
+            Step::Next => i += 1,
+            Step::End => {
+                return Stopped {
+                    queue: q,
+                    stop: Stop::End,
+                };
+            }
+            Step::Nested(o) => {
+                return Stopped {
+                    queue: q,
+                    stop: Stop::Nested { at: i, item: o },
+                };
+            }
+            Step::Raised(e) => {
+                return Stopped {
+                    queue: q,
+                    stop: Stop::Raised(e),
+                };
+            }
+        }
+    }
+    Stopped {
+        queue: q,
+        stop: Stop::End,
+    }
+}

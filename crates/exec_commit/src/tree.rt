@@ -1,0 +1,96 @@
+// commit_gather_tree: the walk through a gather and the gathers nested in it.
+use crate::settle::open_gather_commit;
+use crate::settle::resume_after_child;
+use crate::settle::settle_gather_commit;
+use crate::settle::unwind_gather_commits;
+use crate::step::Stop;
+use crate::step::step_gather_commit;
+use asyncio::Awaiter;
+use asyncio::HeapId;
+use exec_poll::item::Poll;
+use queue::ReadyQueue;
+ghost use mathlib.Core.Path.{_≡_};
+ghost use mathlib.Core.List.{List};
+ghost use Prim.Native.Nat.{_<_};
+ghost use lib.ListN.{length};
+ghost use Rattle.asyncio.specs.Limits.{object-limit, tasks-length, objects-length, places-length};
+ghost use Rattle.machine.specs.Store.{Happening, store-of};
+ghost use Rattle.machine.specs.Commit.{commit-gather-tree};
+ghost use Rattle.exec_poll.specs.Polls.{poll-of};
+ghost use Rattle.exec_commit.specs.Frames.{tells, told};
+
+// The queue after a commit, what the await sees, and the number of commit steps.
+pub struct Committed {
+    pub queue: ReadyQueue,
+    pub poll: Poll,
+    pub steps: u16,
+}
+
+// Gather `root`, for its awaiter, and every gather nested in it. A frame is a gather and its place that is stepped next: the innermost
+// is in `g` and `next`, those below it in the arrays. A frame goes there when a pending gather is opened, so that 256 are enough.
+pub fn commit_gather_tree(
+    tasks: &mut [u64],
+    objects: &mut [u64],
+    places: &mut [u64],
+    queue: ReadyQueue,
+    root: HeapId,
+    awaiter: Awaiter,
+) -> Committed
+    requires { ⌜ (length (now tasks) ≡ tasks-length) × (length (now objects) ≡ objects-length) × (length (now places) ≡ places-length) × (root .0 < object-limit) ⌝ }
+    ensures { λ r. ⌜ ((l : List Happening) → tells (store-of (now (tasks .exit)) (now (objects .exit)) (now (places .exit)) (r .queue) (commit-gather-tree (store-of (now (tasks .entry)) (now (objects .entry)) (now (places .entry)) queue l) (root .0) awaiter .store .log)) (poll-of (r .poll)) (r .steps) ≡ told (commit-gather-tree (store-of (now (tasks .entry)) (now (objects .entry)) (now (places .entry)) queue l) (root .0) awaiter)) ⌝ }
+{
+    open_gather_commit(objects, root, awaiter);
+    let mut gathers = [0u16; 256];
+    let mut nexts = [0u16; 256];
+    let mut depth: usize = 0;
+    let mut g = root;
+    let mut next: u16 = 0;
+    let mut q = queue;
+    let mut steps: u16 = 0;
+    loop {
+        let r = step_gather_commit(tasks, objects, places, q, g, next);
+        let stop = r.stop;
+        q = r.queue;
+        steps += 1;
+        match stop {
+            Stop::Nested { at, item } => {
+                gathers[depth] = g.0;
+                nexts[depth] = at;
+                depth += 1;
+                open_gather_commit(
+                    objects,
+                    item,
+                    Awaiter::GatherSlot {
+                        gather: g,
+                        source: item,
+                    },
+                );
+                g = item;
+                next = 0;
+            }
+            Stop::End => {
+                let poll = settle_gather_commit(objects, g);
+                if depth == 0 {
+                    return Committed {
+                        queue: q,
+                        poll,
+                        steps,
+                    };
+                }
+                depth -= 1;
+                g = HeapId(gathers[depth]);
+                let child = nexts[depth];
+                resume_after_child(objects, places, g, child as usize, poll);
+                next = child + 1;
+            }
+            Stop::Raised(e) => {
+                unwind_gather_commits(objects, g, gathers, depth, e);
+                return Committed {
+                    queue: q,
+                    poll: Poll::Raised(e),
+                    steps,
+                };
+            }
+        }
+    }
+}

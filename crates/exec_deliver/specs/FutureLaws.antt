@@ -1,0 +1,114 @@
+-- The ways through resolve_future and fail_future, in the shape of what the code knows there.
+use mathlib.Core.Path.{_≡_, refl, sym, ap, _∙_}
+use mathlib.Core.Bool.{Bool, true, false}
+use mathlib.Core.List.{List}
+use mathlib.Core.Option.{Option, none, some, Option·some-injective}
+use Prim.Native.Nat.{ℕ, zero, suc, _+_, _≤_, _<_}
+use native.Mathlib.Omega.{arith}
+use lib.ListN.{length}
+use Rattle.asyncio.specs.States.{pick}
+use Rattle.asyncio.specs.Limits.{object-limit, places-length}
+use Rattle.asyncio.specs.Ranges.{ObjectFits, AwaiterFits, HeaderFits}
+use Rattle.asyncio.specs.declared.CallId.{CallId}
+use Rattle.asyncio.specs.declared.HeapId.{HeapId}
+use Rattle.asyncio.specs.declared.Value.{Value}
+use Rattle.asyncio.specs.declared.OptionValue.{OptionValue}
+use Rattle.asyncio.specs.declared.Error.{Error}
+use Rattle.asyncio.specs.declared.Awaiter.{Awaiter}
+use Rattle.asyncio.specs.declared.ExternalFutureState.{ExternalFutureState}
+use Rattle.asyncio.specs.declared.Object.{Object}
+use Rattle.rows.specs.Tables.{object-at, object-put, header-at}
+use Rattle.rows.specs.TableLaws.{object-at-fits, header-at-fits}
+use Rattle.queue.specs.declared.ReadyQueue.{ReadyQueue}
+use Rattle.scheduler.specs.declared.tasks.Found.{Found}
+use Rattle.scheduler.specs.Search.{found}
+use Rattle.scheduler.specs.SearchLaws.{found-at, found-nothing}
+use Rattle.machine.specs.Store.{Store, Happening, store-of, object, put-object}
+use Rattle.machine.specs.Scheduler.{PendingExternal, as-pending, first-from, is-call, pending-external-in, pending-external}
+use Rattle.machine.specs.Delivery.{Delivery, value-or, settle-pending, settle-found, resolve-pending, fail-pending, resolve-future, fail-future, deliver-awaiter-success, deliver-awaiter-failure}
+use Rattle.exec_fill.specs.Delivered.{delivered}
+use Rattle.exec_deliver.specs.Futures.{resolve-at, fail-at}
+
+-- what a search finds is below its end
+first-below : (p : ℕ → Bool) (k i j : ℕ) → first-from p i k ≡ some j → j < i + k
+unfolding first-from
+first-below p zero i j e = let z : _≡_ {A = ℕ} 0 1 = cc in absurd (omega arith)
+first-below p (suc k) i j e = by (p i) e (first-below p k (i + 1) j)
+  where
+    by : (b : Bool) → pick b (some i) (first-from p (i + 1) k) ≡ some j → (first-from p (i + 1) k ≡ some j → j < i + 1 + k) → j < i + suc k
+    by true q f = let z : i ≡ j = Option·some-injective i j q in omega arith
+    by false q f = omega (arith, f q)
+
+-- the object that a call was found at
+pub found-below : (os : List ℕ) (call n : ℕ) {d : Found} → d ≡ found (pending-external-in os call) → d ≡ Found.At n → n < object-limit
+unfolding pending-external-in
+found-below os call n e t =
+    omega (arith, first-below (is-call os call) (header-at os .made) 0 n (found-at (first-from (is-call os call) 0 (header-at os .made)) n (sym e ∙ t)), header-at-fits os .made-fits)
+
+-- the awaiter of a pending external that was read is in range
+pub external-range : (os : List ℕ) (o : ℕ) {x : Object} {c : CallId} {s : ExternalFutureState} {w : Awaiter} {y : OptionValue}
+    → x ≡ object-at os o → x ≡ Object.ExternalFuture c s → s ≡ ExternalFutureState.Pending w y → AwaiterFits w
+external-range os o {c = c} {s = s} {w = w} {y = y} e f a =
+    let h : ObjectFits (Object.ExternalFuture c (ExternalFutureState.Pending w y)) = rw (sym e ∙ f ∙ ap (λ (z : ExternalFutureState). Object.ExternalFuture c z) a) at (object-at-fits os o) in
+    h .1 .0
+
+module _ (ts os ps : List ℕ) (q : ReadyQueue) (l : List Happening) where
+  module _ (o : ℕ) {x : Object} (e : x ≡ object-at os o) where
+    pub resolve-nothing : (v : Value) (y : Object) → x ≡ y → as-pending y ≡ none
+        → store-of ts os ps q (resolve-at (store-of ts os ps q l) o v .log) ≡ resolve-at (store-of ts os ps q l) o v
+    unfolding resolve-at settle-found settle-pending object
+    resolve-nothing v y f n = rw (← e, f, n)
+
+    pub fail-nothing : (v : Error) (y : Object) → x ≡ y → as-pending y ≡ none
+        → store-of ts os ps q (fail-at (store-of ts os ps q l) o v .log) ≡ fail-at (store-of ts os ps q l) o v
+    unfolding fail-at settle-found settle-pending object
+    fail-nothing v y f n = rw (← e, f, n)
+
+    module _ (c : CallId) (w : Awaiter) (y : OptionValue) {s : ExternalFutureState} (f : x ≡ Object.ExternalFuture c s) (a : s ≡ ExternalFutureState.Pending w y) {us : List ℕ} where
+      resolve-goes : (v : Value) {u : Value} → u ≡ value-or y v → us ≡ object-put os o (Object.ExternalFuture c (ExternalFutureState.Resolved u))
+          → resolve-at (store-of ts os ps q l) o v ≡ deliver-awaiter-success (store-of ts us ps q l) w u .store
+      unfolding resolve-at settle-found settle-pending as-pending resolve-pending object put-object
+      resolve-goes v g p = rw (← e, f, a, p, g)
+
+      pub resolves : (v : Value) {u : Value} → u ≡ value-or y v → us ≡ object-put os o (Object.ExternalFuture c (ExternalFutureState.Resolved u))
+          → {ts′ os′ ps′ : List ℕ} {q′ : ReadyQueue} (k : Found)
+          → delivered (store-of ts′ os′ ps′ q′ (deliver-awaiter-success (store-of ts us ps q l) w u .store .log)) k ≡ deliver-awaiter-success (store-of ts us ps q l) w u
+          → store-of ts′ os′ ps′ q′ (resolve-at (store-of ts os ps q l) o v .log) ≡ resolve-at (store-of ts os ps q l) o v
+      resolves v g p k d = rw (resolve-goes v g p) (ap (λ (r : Delivery). r .store) d)
+
+      fail-goes : (v : Error) → us ≡ object-put os o (Object.ExternalFuture c (ExternalFutureState.Failed v))
+          → fail-at (store-of ts os ps q l) o v ≡ deliver-awaiter-failure (store-of ts us ps q l) w v .store
+      unfolding fail-at settle-found settle-pending as-pending fail-pending object put-object
+      fail-goes v p = rw (← e, f, a, p)
+
+      pub fails-at : (v : Error) → us ≡ object-put os o (Object.ExternalFuture c (ExternalFutureState.Failed v))
+          → {ts′ os′ : List ℕ} {q′ : ReadyQueue} (k : Found)
+          → delivered (store-of ts′ os′ ps q′ (deliver-awaiter-failure (store-of ts us ps q l) w v .store .log)) k ≡ deliver-awaiter-failure (store-of ts us ps q l) w v
+          → store-of ts′ os′ ps q′ (fail-at (store-of ts os ps q l) o v .log) ≡ fail-at (store-of ts os ps q l) o v
+      fails-at v p k d = rw (fail-goes v p) (ap (λ (r : Delivery). r .store) d)
+
+  module _ (call : ℕ) {d : Found} (e : d ≡ found (pending-external-in os call)) where
+    free : d ≡ Found.Nothing → pending-external-in os call ≡ none
+    free t = found-nothing (pending-external-in os call) (sym e ∙ t)
+
+    here : (n : ℕ) → d ≡ Found.At n → pending-external-in os call ≡ some n
+    here n t = found-at (pending-external-in os call) n (sym e ∙ t)
+
+    pub resolve-none : (v : Value) → d ≡ Found.Nothing → store-of ts os ps q (resolve-future (store-of ts os ps q l) call v .log) ≡ resolve-future (store-of ts os ps q l) call v
+    unfolding resolve-future pending-external settle-found
+    resolve-none v t = rw (free t)
+
+    pub fail-none : (v : Error) → d ≡ Found.Nothing → store-of ts os ps q (fail-future (store-of ts os ps q l) call v .log) ≡ fail-future (store-of ts os ps q l) call v
+    unfolding fail-future pending-external settle-found
+    fail-none v t = rw (free t)
+
+    module _ (n : ℕ) (t : d ≡ Found.At n) {h : HeapId} (i : h .0 ≡ n) {ts′ os′ ps′ : List ℕ} {q′ : ReadyQueue} where
+      pub resolve-found : (v : Value) → store-of ts′ os′ ps′ q′ (resolve-at (store-of ts os ps q l) (h .0) v .log) ≡ resolve-at (store-of ts os ps q l) (h .0) v
+          → store-of ts′ os′ ps′ q′ (resolve-future (store-of ts os ps q l) call v .log) ≡ resolve-future (store-of ts os ps q l) call v
+      unfolding resolve-future pending-external resolve-at
+      resolve-found v r = rw (here n t, ← i) r
+
+      pub fail-found : (v : Error) → store-of ts′ os′ ps′ q′ (fail-at (store-of ts os ps q l) (h .0) v .log) ≡ fail-at (store-of ts os ps q l) (h .0) v
+          → store-of ts′ os′ ps′ q′ (fail-future (store-of ts os ps q l) call v .log) ≡ fail-future (store-of ts os ps q l) call v
+      unfolding fail-future pending-external fail-at
+      fail-found v r = rw (here n t, ← i) r

@@ -1,0 +1,153 @@
+// From an external: resolve_future, fail_future.
+use crate::climb::deliver_awaiter_failure;
+use crate::climb::deliver_awaiter_success;
+use asyncio::Error;
+use asyncio::ExternalFutureState;
+use asyncio::HeapId;
+use asyncio::Object;
+use asyncio::OptionValue;
+use asyncio::Value;
+use queue::ReadyQueue;
+use scheduler::tasks::Found;
+use scheduler::tasks::take_pending_external;
+ghost use mathlib.Core.Path.{_≡_};
+ghost use mathlib.Core.List.{List};
+ghost use Prim.Native.Nat.{ℕ, _<_};
+ghost use lib.ListN.{length};
+ghost use Rattle.asyncio.specs.Limits.{object-limit, tasks-length, objects-length, places-length};
+ghost use Rattle.machine.specs.Store.{Happening, store-of};
+ghost use Rattle.machine.specs.Delivery.{value-or, resolve-future, fail-future};
+ghost use Rattle.exec_deliver.specs.Futures.{resolve-at, fail-at};
+
+// A stored result replaces the host's value.
+fn value_or(stored: OptionValue, value: Value) -> Value
+    ensures { λ r. ⌜ r ≡ value-or stored value ⌝ }
+{
+    match stored {
+        OptionValue::None => value,
+        OptionValue::Some(v) => v,
+    }
+}
+
+// Object `o`, if it is a pending external, is resolved, and its awaiter served.
+fn resolve_at(
+    tasks: &mut [u64],
+    objects: &mut [u64],
+    places: &mut [u64],
+    queue: ReadyQueue,
+    o: HeapId,
+    value: Value,
+) -> ReadyQueue
+    requires { ⌜ (length (now tasks) ≡ tasks-length) × (length (now objects) ≡ objects-length) × (length (now places) ≡ places-length) × (o .0 < object-limit) ⌝ }
+    ensures { λ r. ⌜ ((l : List Happening) → store-of (now (tasks .exit)) (now (objects .exit)) (now (places .exit)) r (resolve-at (store-of (now (tasks .entry)) (now (objects .entry)) (now (places .entry)) queue l) (o .0) value .log) ≡ resolve-at (store-of (now (tasks .entry)) (now (objects .entry)) (now (places .entry)) queue l) (o .0) value) ⌝ }
+{
+    let x = rows::tables::load_object(objects, o);
+    match x {
+        Object::Unmade => queue,
+        Object::Coroutine {
+            function: _,
+            state: _,
+        } => queue,
+        Object::GatherFuture {
+            first: _,
+            count: _,
+            state: _,
+        } => queue,
+        Object::ExternalFuture { call, state } => match state {
+            ExternalFutureState::Resolved(_) => queue,
+            ExternalFutureState::Failed(_) => queue,
+            ExternalFutureState::Pending { awaiter, stored } => {
+                let v = value_or(stored, value);
+                rows::tables::store_object(
+                    objects,
+                    o,
+                    Object::ExternalFuture {
+                        call,
+                        state: ExternalFutureState::Resolved(v),
+                    },
+                );
+                let d = deliver_awaiter_success(tasks, objects, places, queue, awaiter, v);
+                d.queue
+            }
+        },
+    }
+}
+
+// A call that is not pending is ignored.
+pub fn resolve_future(
+    tasks: &mut [u64],
+    objects: &mut [u64],
+    places: &mut [u64],
+    queue: ReadyQueue,
+    call: u32,
+    value: Value,
+) -> ReadyQueue
+    requires { ⌜ (length (now tasks) ≡ tasks-length) × (length (now objects) ≡ objects-length) × (length (now places) ≡ places-length) ⌝ }
+    ensures { λ r. ⌜ ((l : List Happening) → store-of (now (tasks .exit)) (now (objects .exit)) (now (places .exit)) r (resolve-future (store-of (now (tasks .entry)) (now (objects .entry)) (now (places .entry)) queue l) call value .log) ≡ resolve-future (store-of (now (tasks .entry)) (now (objects .entry)) (now (places .entry)) queue l) call value) ⌝ }
+{
+    let found = take_pending_external(objects, call);
+    match found {
+        Found::Nothing => queue,
+        Found::At(o) => resolve_at(tasks, objects, places, queue, HeapId::new(o), value),
+    }
+}
+
+// Object `o`, if it is a pending external, has failed, and its awaiter is served. A stored result is dropped.
+fn fail_at(
+    tasks: &mut [u64],
+    objects: &mut [u64],
+    queue: ReadyQueue,
+    o: HeapId,
+    error: Error,
+) -> ReadyQueue
+    requires { ⌜ (length (now tasks) ≡ tasks-length) × (length (now objects) ≡ objects-length) × (o .0 < object-limit) ⌝ }
+    ensures { λ r. ⌜ ((ps : List ℕ) (l : List Happening) → length ps ≡ places-length → store-of (now (tasks .exit)) (now (objects .exit)) ps r (fail-at (store-of (now (tasks .entry)) (now (objects .entry)) ps queue l) (o .0) error .log) ≡ fail-at (store-of (now (tasks .entry)) (now (objects .entry)) ps queue l) (o .0) error) ⌝ }
+{
+    let x = rows::tables::load_object(objects, o);
+    match x {
+        Object::Unmade => queue,
+        Object::Coroutine {
+            function: _,
+            state: _,
+        } => queue,
+        Object::GatherFuture {
+            first: _,
+            count: _,
+            state: _,
+        } => queue,
+        Object::ExternalFuture { call, state } => match state {
+            ExternalFutureState::Resolved(_) => queue,
+            ExternalFutureState::Failed(_) => queue,
+            ExternalFutureState::Pending { awaiter, stored: _ } => {
+                rows::tables::store_object(
+                    objects,
+                    o,
+                    Object::ExternalFuture {
+                        call,
+                        state: ExternalFutureState::Failed(error),
+                    },
+                );
+                let d = deliver_awaiter_failure(tasks, objects, queue, awaiter, error);
+                d.queue
+            }
+        },
+    }
+}
+
+// A call that is not pending is ignored.
+pub fn fail_future(
+    tasks: &mut [u64],
+    objects: &mut [u64],
+    queue: ReadyQueue,
+    call: u32,
+    error: Error,
+) -> ReadyQueue
+    requires { ⌜ (length (now tasks) ≡ tasks-length) × (length (now objects) ≡ objects-length) ⌝ }
+    ensures { λ r. ⌜ ((ps : List ℕ) (l : List Happening) → length ps ≡ places-length → store-of (now (tasks .exit)) (now (objects .exit)) ps r (fail-future (store-of (now (tasks .entry)) (now (objects .entry)) ps queue l) call error .log) ≡ fail-future (store-of (now (tasks .entry)) (now (objects .entry)) ps queue l) call error) ⌝ }
+{
+    let found = take_pending_external(objects, call);
+    match found {
+        Found::Nothing => queue,
+        Found::At(o) => fail_at(tasks, objects, queue, HeapId::new(o), error),
+    }
+}

@@ -1,0 +1,51 @@
+use denote.Ref.{now}
+use mathlib.Core.Path.{_≡_, ap, _∙_}
+use mathlib.Core.List.{_∷_, []}
+use Rattle.asyncio.specs.Ranges.{AwaiterFits}
+use Rattle.rows.specs.TableLaws.{task-at-fits}
+use Rattle.machine.specs.Store.{exited}
+use Rattle.exec_events.specs.EndLaws.{completes, success-found}
+use borrow.Author.Needs.{needs}
+use Rattle.exec_events.proofs.ends.handle_task_completion.Statement.{statement}
+use Rattle.exec_events.proofs.ends.handle_task_completion.Tie as tie
+
+load-task-requires : tie.Need-load-task-requires
+load-task-requires c κs = search needs
+
+complete-coroutine-requires : tie.Need-complete-coroutine-requires
+complete-coroutine-requires c κs = (c .before .before .before .before .before .before .before .pre .1, rw (c .before .before .load-task .ensures) (task-at-fits (now (c .before .before .before .before .before .before .before .args .tasks)) (c .before .before .before .before .before .before .before .args .t .0) .coroutine-fits))
+
+remove-task-requires : tie.Need-remove-task-requires
+remove-task-requires c κs = search needs
+
+deliver-awaiter-success-requires : tie.Need-deliver-awaiter-success-requires
+deliver-awaiter-success-requires c κs = (c .before .before .before .before .before .remove-task .kept .0 ∙ c .before .before .before .before .before .before .before .before .before .before .before .before .before .before .before .before .before .pre .0, c .before .before .before .before .before .before .before .before .before .complete-coroutine .kept .0 ∙ c .before .before .before .before .before .before .before .before .before .before .before .before .before .before .before .before .before .pre .1, c .before .before .before .before .before .before .before .before .before .before .before .before .before .before .before .before .before .pre .2, rw (c .before .before .before .before .before .before .before .before .before .before .before .before .load-task .ensures) (task-at-fits (now (c .before .before .before .before .before .before .before .before .before .before .before .before .before .before .before .before .before .args .tasks)) (c .before .before .before .before .before .before .before .before .before .before .before .before .before .before .before .before .before .args .t .0) .awaiter-fits))
+
+resume-after-task-exit-requires : tie.Need-resume-after-task-exit-requires
+resume-after-task-exit-requires c κs = (c .before .before .before .before .before .before .before .before .before .deliver-awaiter-success .kept .0 ∙ c .before .before .before .before .before .before .before .before .before .before .before .before .before .before .before .remove-task .kept .0 ∙ c .before .before .before .before .before .before .before .before .before .before .before .before .before .before .before .before .before .before .before .before .before .before .before .before .before .before .before .pre .0, c .before .before .before .before .before .before .before .before .before .deliver-awaiter-success .kept .1 .0 ∙ c .before .before .before .before .before .before .before .before .before .before .before .before .before .before .before .before .before .before .before .complete-coroutine .kept .0 ∙ c .before .before .before .before .before .before .before .before .before .before .before .before .before .before .before .before .before .before .before .before .before .before .before .before .before .before .before .pre .1, success-found _ _ _ _ [] _ (c .before .before .before .before .before .before .before .before .before .before .before .before .before .before .before .before .before .before .before .before .before .before .before .before .before .before .before .args .value) (c .before .before .before .before .before .before .before .before .before .before .before .before .before .before .before .remove-task .kept .0 ∙ c .before .before .before .before .before .before .before .before .before .before .before .before .before .before .before .before .before .before .before .before .before .before .before .before .before .before .before .pre .0) (c .before .before .before .before .before .before .before .before .before .before .before .before .before .before .before .before .before .before .before .complete-coroutine .kept .0 ∙ c .before .before .before .before .before .before .before .before .before .before .before .before .before .before .before .before .before .before .before .before .before .before .before .before .before .before .before .pre .1) (c .before .before .before .before .before .before .before .before .before .before .before .before .before .before .before .before .before .before .before .before .before .before .before .before .before .before .before .pre .2) (rw (c .before .before .before .before .before .before .before .before .before .before .before .before .before .before .before .before .before .before .before .before .before .before .load-task .ensures) (task-at-fits (now (c .before .before .before .before .before .before .before .before .before .before .before .before .before .before .before .before .before .before .before .before .before .before .before .before .before .before .before .args .tasks)) (c .before .before .before .before .before .before .before .before .before .before .before .before .before .before .before .before .before .before .before .before .before .before .before .before .before .before .before .args .t .0) .awaiter-fits)) (c .before .before .before .before .before .before .before .before .before .deliver-awaiter-success .result .woken) (c .before .before .before .before .before .before .before .before .before .deliver-awaiter-success .ensures []))
+
+same-length : tie.Need-same-length
+same-length c = search needs
+
+same-length-2 : tie.Need-same-length-2
+same-length-2 c = search needs
+
+same-length-3 : tie.Need-same-length-3
+same-length-3 c = search needs
+
+returns : tie.Need-returns
+returns c = λ l. completes (now (c .before .before .before .before .before .before .before .before .before .before .before .before .before .before .before .before .before .before .before .before .before .before .before .before .before .before .before .before .before .before .before .before .args .tasks)) (now (c .before .before .before .before .before .before .before .before .before .before .before .before .before .before .before .before .before .before .before .before .before .before .before .before .before .before .before .before .before .before .before .before .args .objects)) (now (c .before .before .before .before .before .before .before .before .before .before .before .before .before .before .before .before .before .before .before .before .before .before .before .before .before .before .before .before .before .before .before .before .args .places)) (c .before .before .before .before .before .before .before .before .before .before .before .before .before .before .before .before .before .before .before .before .before .before .before .before .before .before .before .before .before .before .before .before .args .queue) l (c .before .before .before .before .before .before .before .before .before .before .before .before .before .before .before .before .before .before .before .before .before .before .before .before .before .before .before .before .before .before .before .before .args .t .0) (c .before .before .before .before .before .before .before .before .before .before .before .before .before .before .before .before .before .before .before .before .before .before .before .before .before .before .before .before .before .before .before .before .args .value) (c .before .before .before .before .before .before .before .before .before .before .before .before .before .before .before .before .before .before .before .before .before .before .before .before .before .before .before .load-task .ensures) (c .before .before .before .before .before .before .before .before .before .before .before .before .before .before .before .before .before .before .before .before .before .before .before .before .complete-coroutine .ensures) (c .before .before .before .before .before .before .before .before .before .before .before .before .before .before .before .before .before .before .before .before .remove-task .ensures) (c .before .before .before .before .before .before .before .before .before .before .before .before .before .before .deliver-awaiter-success .result .woken) (c .before .before .before .before .before .before .before .before .before .before .before .before .before .before .deliver-awaiter-success .ensures (exited (c .before .before .before .before .before .before .before .before .before .before .before .before .before .before .before .before .before .before .before .before .before .before .before .before .before .before .before .before .before .before .before .before .args .t .0) ∷ l)) (c .before .before .before .before .resume-after-task-exit .result .control) (c .before .before .before .before .resume-after-task-exit .ensures _ _ (c .before .before .before .before .before .before .before .before .before .before .before .before .before .before .deliver-awaiter-success .kept .1 .1 .0 ∙ c .before .before .before .before .before .before .before .before .before .before .before .before .before .before .before .before .before .before .before .before .before .before .before .before .before .before .before .before .before .before .before .before .pre .2))
+
+pub handle-task-completion-spec : {M : Type 1} → statement M
+handle-task-completion-spec =
+    tie.close
+    (tie.spec
+    load-task-requires
+    complete-coroutine-requires
+    remove-task-requires
+    deliver-awaiter-success-requires
+    resume-after-task-exit-requires
+    same-length
+    same-length-2
+    same-length-3
+    returns)

@@ -1,0 +1,216 @@
+// Await, by the running task: exec_get_awaitable, await_coroutine, await_external_future, await_gather_future.
+use asyncio::Awaiter;
+use asyncio::CallId;
+use asyncio::CoroutineState;
+use asyncio::Error;
+use asyncio::ExternalFutureState;
+use asyncio::GatherState;
+use asyncio::HeapId;
+use asyncio::Object;
+use asyncio::TaskId;
+use asyncio::Value;
+use exec_commit::tree::commit_gather_tree;
+use exec_poll::item::Poll;
+use exec_poll::item::await_external;
+use exec_switch::control::Control;
+use exec_switch::control::How;
+use exec_switch::cycle::switch_or_yield;
+use queue::ReadyQueue;
+use scheduler::states::block_current_on;
+ghost use mathlib.Core.Path.{_≡_};
+ghost use mathlib.Core.List.{List};
+ghost use Prim.Native.Nat.{ℕ, _<_};
+ghost use lib.ListN.{length};
+ghost use Rattle.asyncio.specs.Limits.{task-limit, object-limit, tasks-length, objects-length, places-length};
+ghost use Rattle.machine.specs.Store.{Happening, store-of};
+ghost use Rattle.machine.specs.Events.{stays, raises, go-on, await-coroutine, await-external-future, await-gather, exec-get-awaitable};
+ghost use Rattle.exec_poll.specs.Polls.{poll-of};
+ghost use Rattle.exec_switch.specs.Control.{awaited-of};
+
+// The queue after an await, who has control, and the number of commit steps.
+pub struct Awaited {
+    pub queue: ReadyQueue,
+    pub control: Control,
+    pub steps: u16,
+}
+
+// A value or an error is the task's own. Otherwise it blocks on object `o`, and another runs.
+fn go_on(
+    tasks: &mut [u64],
+    objects: &mut [u64],
+    queue: ReadyQueue,
+    t: TaskId,
+    o: HeapId,
+    steps: u16,
+    poll: Poll,
+) -> Awaited
+    requires { ⌜ (length (now tasks) ≡ tasks-length) × (length (now objects) ≡ objects-length) × (t .0 < task-limit) ⌝ }
+    ensures { λ r. ⌜ ((ps : List ℕ) (l : List Happening) → length ps ≡ places-length → awaited-of (store-of (now (tasks .exit)) (now (objects .exit)) ps (r .queue) (go-on (t .0) (o .0) steps (store-of (now (tasks .entry)) (now (objects .entry)) ps queue l) (poll-of poll) .store .log)) (r .control) (r .steps) ≡ go-on (t .0) (o .0) steps (store-of (now (tasks .entry)) (now (objects .entry)) ps queue l) (poll-of poll)) ⌝ }
+{
+    match poll {
+        Poll::Ready(v) => Awaited {
+            queue,
+            control: Control::Runs {
+                task: t,
+                how: How::Value(v),
+            },
+            steps,
+        },
+        Poll::Raised(e) => Awaited {
+            queue,
+            control: Control::Runs {
+                task: t,
+                how: How::Raised(e),
+            },
+            steps,
+        },
+        Poll::Pending => {
+            block_current_on(tasks, t, o);
+            let s = switch_or_yield(tasks, objects, queue);
+            let q = s.queue;
+            let control = s.control;
+            Awaited {
+                queue: q,
+                control,
+                steps,
+            }
+        }
+    }
+}
+
+// A new coroutine runs inline.
+fn await_coroutine(
+    objects: &mut [u64],
+    queue: ReadyQueue,
+    t: TaskId,
+    o: HeapId,
+    function: u32,
+    state: CoroutineState,
+) -> Awaited
+    requires { ⌜ (length (now objects) ≡ objects-length) × (o .0 < object-limit) ⌝ }
+    ensures { λ r. ⌜ ((ts ps : List ℕ) (l : List Happening) → awaited-of (store-of ts (now (objects .exit)) ps (r .queue) l) (r .control) (r .steps) ≡ await-coroutine (store-of ts (now (objects .entry)) ps queue l) (t .0) (o .0) function state) ⌝ }
+{
+    match state {
+        CoroutineState::New => {
+            rows::tables::store_object(
+                objects,
+                o,
+                Object::Coroutine {
+                    function,
+                    state: CoroutineState::Running,
+                },
+            );
+            Awaited {
+                queue,
+                control: Control::Runs {
+                    task: t,
+                    how: How::Inline(o),
+                },
+                steps: 0,
+            }
+        }
+        CoroutineState::Running => raise(queue, t, Error::CoroutineReuse),
+        CoroutineState::Completed => raise(queue, t, Error::CoroutineReuse),
+    }
+}
+
+// The task goes on with an error, at once and without a commit.
+fn raise(queue: ReadyQueue, t: TaskId, error: Error) -> Awaited
+    ensures { λ r. ⌜ ((ts os ps : List ℕ) (l : List Happening) → awaited-of (store-of ts os ps (r .queue) l) (r .control) (r .steps) ≡ stays (store-of ts os ps queue l) (t .0) (raises error) 0) ⌝ }
+{
+    Awaited {
+        queue,
+        control: Control::Runs {
+            task: t,
+            how: How::Raised(error),
+        },
+        steps: 0,
+    }
+}
+
+// An external: its value, its error, or the task waits for it.
+fn await_external_future(
+    tasks: &mut [u64],
+    objects: &mut [u64],
+    queue: ReadyQueue,
+    t: TaskId,
+    o: HeapId,
+    call: CallId,
+    state: ExternalFutureState,
+) -> Awaited
+    requires { ⌜ (length (now tasks) ≡ tasks-length) × (length (now objects) ≡ objects-length) × (t .0 < task-limit) × (o .0 < object-limit) ⌝ }
+    ensures { λ r. ⌜ ((ps : List ℕ) (l : List Happening) → length ps ≡ places-length → awaited-of (store-of (now (tasks .exit)) (now (objects .exit)) ps (r .queue) (await-external-future (store-of (now (tasks .entry)) (now (objects .entry)) ps queue l) (t .0) (o .0) call state .store .log)) (r .control) (r .steps) ≡ await-external-future (store-of (now (tasks .entry)) (now (objects .entry)) ps queue l) (t .0) (o .0) call state) ⌝ }
+{
+    let poll = await_external(objects, o, call, state, Awaiter::Task(t));
+    go_on(tasks, objects, queue, t, o, 0, poll)
+}
+
+// A pending gather is committed. A settled one gives what it has.
+fn await_gather_future(
+    tasks: &mut [u64],
+    objects: &mut [u64],
+    places: &mut [u64],
+    queue: ReadyQueue,
+    t: TaskId,
+    o: HeapId,
+    state: GatherState,
+) -> Awaited
+    requires { ⌜ (length (now tasks) ≡ tasks-length) × (length (now objects) ≡ objects-length) × (length (now places) ≡ places-length) × (t .0 < task-limit) × (o .0 < object-limit) ⌝ }
+    ensures { λ r. ⌜ ((l : List Happening) → awaited-of (store-of (now (tasks .exit)) (now (objects .exit)) (now (places .exit)) (r .queue) (await-gather (store-of (now (tasks .entry)) (now (objects .entry)) (now (places .entry)) queue l) (t .0) (o .0) state .store .log)) (r .control) (r .steps) ≡ await-gather (store-of (now (tasks .entry)) (now (objects .entry)) (now (places .entry)) queue l) (t .0) (o .0) state) ⌝ }
+{
+    match state {
+        GatherState::Pending => {
+            let c = commit_gather_tree(tasks, objects, places, queue, o, Awaiter::Task(t));
+            let q = c.queue;
+            let poll = c.poll;
+            let steps = c.steps;
+            go_on(tasks, objects, q, t, o, steps, poll)
+        }
+        GatherState::Awaited {
+            awaiter: _,
+            open_places: _,
+        } => raise(queue, t, Error::GatherReuse),
+        GatherState::Completed => Awaited {
+            queue,
+            control: Control::Runs {
+                task: t,
+                how: How::Value(Value::List(o)),
+            },
+            steps: 0,
+        },
+        GatherState::Failed(e) => raise(queue, t, e),
+    }
+}
+
+// Task `t` awaits object `o`.
+pub fn exec_get_awaitable(
+    tasks: &mut [u64],
+    objects: &mut [u64],
+    places: &mut [u64],
+    queue: ReadyQueue,
+    t: TaskId,
+    o: HeapId,
+) -> Awaited
+    requires { ⌜ (length (now tasks) ≡ tasks-length) × (length (now objects) ≡ objects-length) × (length (now places) ≡ places-length) × (t .0 < task-limit) × (o .0 < object-limit) ⌝ }
+    ensures { λ r. ⌜ ((l : List Happening) → awaited-of (store-of (now (tasks .exit)) (now (objects .exit)) (now (places .exit)) (r .queue) (exec-get-awaitable (store-of (now (tasks .entry)) (now (objects .entry)) (now (places .entry)) queue l) (t .0) (o .0) .store .log)) (r .control) (r .steps) ≡ exec-get-awaitable (store-of (now (tasks .entry)) (now (objects .entry)) (now (places .entry)) queue l) (t .0) (o .0)) ⌝ }
+{
+    let x = rows::tables::load_object(objects, o);
+    match x {
+        Object::Unmade => Awaited {
+            queue,
+            control: Control::Waits,
+            steps: 0,
+        },
+        Object::Coroutine { function, state } => {
+            await_coroutine(objects, queue, t, o, function, state)
+        }
+        Object::ExternalFuture { call, state } => {
+            await_external_future(tasks, objects, queue, t, o, call, state)
+        }
+        Object::GatherFuture {
+            first: _,
+            count: _,
+            state,
+        } => await_gather_future(tasks, objects, places, queue, t, o, state),
+    }
+}

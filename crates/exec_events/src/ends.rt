@@ -1,0 +1,166 @@
+// The end of a task: handle_task_completion, and the end of main; resume_with_resolved_futures.
+use asyncio::CoroutineState;
+use asyncio::Error;
+use asyncio::HeapId;
+use asyncio::Object;
+use asyncio::TaskId;
+use asyncio::Value;
+use exec_deliver::climb::deliver_awaiter_success;
+use exec_switch::answer::Answer;
+use exec_switch::answer::Stepped;
+use exec_switch::control::Control;
+use exec_switch::control::Switched;
+use exec_switch::cycle::handle_task_failure;
+use exec_switch::cycle::resume_after_task_exit;
+use exec_switch::cycle::switch_or_yield;
+use queue::ReadyQueue;
+use scheduler::cleanup::cleanup;
+use scheduler::cleanup::no_call_pending;
+use scheduler::states::remove_task;
+ghost use mathlib.Core.Path.{_≡_};
+ghost use mathlib.Core.List.{List};
+ghost use Prim.Native.Nat.{ℕ, _<_};
+ghost use lib.ListN.{length};
+ghost use Rattle.asyncio.specs.Limits.{task-limit, object-limit, tasks-length, objects-length, places-length};
+ghost use Rattle.rows.specs.Tables.{object-at, object-put};
+ghost use Rattle.machine.specs.Store.{Happening, store-of};
+ghost use Rattle.machine.specs.Events.{completed, handle-task-completion};
+ghost use Rattle.machine.specs.Machine.{task-completes, task-fails, resume-with-resolved-futures};
+ghost use Rattle.exec_switch.specs.Control.{switched-of};
+ghost use Rattle.exec_switch.specs.Answer.{stepped-of};
+
+// A coroutine that has completed. Any other object stays.
+fn completed(x: Object) -> Object
+    ensures { λ r. ⌜ r ≡ completed x ⌝ }
+{
+    match x {
+        Object::Unmade => x,
+        Object::Coroutine { function, state: _ } => Object::Coroutine {
+            function,
+            state: CoroutineState::Completed,
+        },
+        Object::ExternalFuture { call: _, state: _ } => x,
+        Object::GatherFuture {
+            first: _,
+            count: _,
+            state: _,
+        } => x,
+    }
+}
+
+// The coroutine of a task that completed.
+fn complete_coroutine(objects: &mut [u64], c: HeapId)
+    requires { ⌜ (length (now objects) ≡ objects-length) × (c .0 < object-limit) ⌝ }
+    ensures { λ _. ⌜ now (objects .exit) ≡ object-put (now (objects .entry)) (c .0) (completed (object-at (now (objects .entry)) (c .0))) ⌝ }
+{
+    let x = rows::tables::load_object(objects, c);
+    rows::tables::store_object(objects, c, completed(x));
+}
+
+// The task's coroutine is completed, the task goes, and its awaiter gets the value.
+pub fn handle_task_completion(
+    tasks: &mut [u64],
+    objects: &mut [u64],
+    places: &mut [u64],
+    queue: ReadyQueue,
+    t: TaskId,
+    value: Value,
+) -> Switched
+    requires { ⌜ (length (now tasks) ≡ tasks-length) × (length (now objects) ≡ objects-length) × (length (now places) ≡ places-length) × (t .0 < task-limit) ⌝ }
+    ensures { λ r. ⌜ ((l : List Happening) → switched-of (store-of (now (tasks .exit)) (now (objects .exit)) (now (places .exit)) (r .queue) (handle-task-completion (store-of (now (tasks .entry)) (now (objects .entry)) (now (places .entry)) queue l) (t .0) value .store .log)) (r .control) ≡ handle-task-completion (store-of (now (tasks .entry)) (now (objects .entry)) (now (places .entry)) queue l) (t .0) value) ⌝ }
+{
+    let task = rows::tables::load_task(tasks, t);
+    let awaiter = task.awaiter;
+    let coroutine = task.coroutine;
+    complete_coroutine(objects, coroutine);
+    let left = remove_task(tasks, queue, t);
+    let d = deliver_awaiter_success(tasks, objects, places, left, awaiter, value);
+    let given = d.queue;
+    let woken = d.woken;
+    resume_after_task_exit(tasks, objects, given, woken)
+}
+
+// Task `t` completes. Main's end is the session's.
+pub fn complete(
+    tasks: &mut [u64],
+    objects: &mut [u64],
+    places: &mut [u64],
+    queue: ReadyQueue,
+    t: TaskId,
+    value: Value,
+) -> Stepped
+    requires { ⌜ (length (now tasks) ≡ tasks-length) × (length (now objects) ≡ objects-length) × (length (now places) ≡ places-length) × (t .0 < task-limit) ⌝ }
+    ensures { λ r. ⌜ ((l : List Happening) → stepped-of (store-of (now (tasks .exit)) (now (objects .exit)) (now (places .exit)) (r .queue) (task-completes (store-of (now (tasks .entry)) (now (objects .entry)) (now (places .entry)) queue l) (t .0) value .store .log)) (r .answer) ≡ task-completes (store-of (now (tasks .entry)) (now (objects .entry)) (now (places .entry)) queue l) (t .0) value) ⌝ }
+{
+    if t.0 == 0 {
+        let q = cleanup(tasks, objects);
+        return Stepped {
+            queue: q,
+            answer: Answer::Finished(value),
+        };
+    }
+    let s = handle_task_completion(tasks, objects, places, queue, t, value);
+    let q = s.queue;
+    let control = s.control;
+    Stepped {
+        queue: q,
+        answer: Answer::Switched(control),
+    }
+}
+
+// Task `t` fails. Main's end is the session's.
+pub fn fail(
+    tasks: &mut [u64],
+    objects: &mut [u64],
+    queue: ReadyQueue,
+    t: TaskId,
+    error: Error,
+) -> Stepped
+    requires { ⌜ (length (now tasks) ≡ tasks-length) × (length (now objects) ≡ objects-length) × (t .0 < task-limit) ⌝ }
+    ensures { λ r. ⌜ ((ps : List ℕ) (l : List Happening) → length ps ≡ places-length → stepped-of (store-of (now (tasks .exit)) (now (objects .exit)) ps (r .queue) (task-fails (store-of (now (tasks .entry)) (now (objects .entry)) ps queue l) (t .0) error .store .log)) (r .answer) ≡ task-fails (store-of (now (tasks .entry)) (now (objects .entry)) ps queue l) (t .0) error) ⌝ }
+{
+    if t.0 == 0 {
+        let q = cleanup(tasks, objects);
+        return Stepped {
+            queue: q,
+            answer: Answer::FinishedError(error),
+        };
+    }
+    let s = handle_task_failure(tasks, objects, queue, t, error);
+    let q = s.queue;
+    let control = s.control;
+    Stepped {
+        queue: q,
+        answer: Answer::Switched(control),
+    }
+}
+
+// The next ready task runs on. Where none is ready nothing changes: the wait is repeated, or no call is pending.
+pub fn resume_with_resolved_futures(
+    tasks: &mut [u64],
+    objects: &mut [u64],
+    queue: ReadyQueue,
+) -> Stepped
+    requires { ⌜ (length (now tasks) ≡ tasks-length) × (length (now objects) ≡ objects-length) ⌝ }
+    ensures { λ r. ⌜ ((ps : List ℕ) (l : List Happening) → length ps ≡ places-length → stepped-of (store-of (now (tasks .exit)) (now (objects .exit)) ps (r .queue) (resume-with-resolved-futures (store-of (now (tasks .entry)) (now (objects .entry)) ps queue l) .store .log)) (r .answer) ≡ resume-with-resolved-futures (store-of (now (tasks .entry)) (now (objects .entry)) ps queue l)) ⌝ }
+{
+    if queue.len == 0 {
+        if no_call_pending(objects) {
+            return Stepped {
+                queue,
+                answer: Answer::Stalled,
+            };
+        }
+        return Stepped {
+            queue,
+            answer: Answer::Switched(Control::Waits),
+        };
+    }
+    let s = switch_or_yield(tasks, objects, queue);
+    let q = s.queue;
+    let control = s.control;
+    Stepped {
+        queue: q,
+        answer: Answer::Switched(control),
+    }
+}

@@ -1,0 +1,26 @@
+-- What the code answers, as the machine's records.
+use Prim.Native.Nat.{ℕ}
+use mathlib.Core.Option.{Option, none, some}
+use Rattle.asyncio.specs.declared.Awaiter.{Awaiter}
+use Rattle.scheduler.specs.declared.tasks.Found.{Found}
+use Rattle.machine.specs.Store.{Store}
+use Rattle.machine.specs.Delivery.{Delivery, Settled}
+use Rattle.exec_fill.specs.declared.gather.Onward.{Onward}
+
+-- a number that was found, or none
+abbrev pub number : Found → Option ℕ
+number (Found.At n) = some n
+number Found.Nothing = none
+
+-- a store, and the task that was woken
+abbrev pub delivered : Store → Found → Delivery
+delivered s w = record { store = s; woken = number w }
+
+-- where a gather's result goes on to
+abbrev pub onward-of : Onward → Option Awaiter
+onward-of Onward.Nowhere = none
+onward-of (Onward.To w) = some w
+
+-- a store, and where a settled gather's result goes on to
+abbrev pub settled : Store → Onward → Settled
+settled s o = record { store = s; onward = onward-of o }

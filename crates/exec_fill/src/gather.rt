@@ -1,0 +1,132 @@
+// Into a gather: resolve_child, and fail.
+use crate::fill::fill_places;
+use asyncio::Awaiter;
+use asyncio::Error;
+use asyncio::GatherState;
+use asyncio::HeapId;
+use asyncio::Object;
+use asyncio::Value;
+ghost use mathlib.Core.Path.{_≡_};
+ghost use mathlib.Core.List.{List};
+ghost use Prim.Native.Nat.{ℕ, _<_};
+ghost use lib.ListN.{length};
+ghost use Rattle.asyncio.specs.Limits.{object-limit, objects-length, places-length};
+ghost use Rattle.queue.specs.declared.ReadyQueue.{ReadyQueue};
+ghost use Rattle.machine.specs.Store.{Happening, store-of};
+ghost use Rattle.machine.specs.Delivery.{resolve-child, fail-gather};
+ghost use Rattle.exec_fill.specs.Delivered.{settled};
+
+// Where the result of a gather goes on to: nowhere, where it was settled before or still waits.
+pub enum Onward {
+    Nowhere,
+    To(Awaiter),
+}
+
+// A child's value: it completes the gather when no place is open any more. A gather that is not awaited discards it.
+pub fn resolve_child(
+    objects: &mut [u64],
+    places: &mut [u64],
+    g: HeapId,
+    source: HeapId,
+    value: Value,
+) -> Onward
+    requires { ⌜ (length (now objects) ≡ objects-length) × (length (now places) ≡ places-length) × (g .0 < object-limit) ⌝ }
+    ensures { λ r. ⌜ ((ts : List ℕ) (q : ReadyQueue) (l : List Happening) → settled (store-of ts (now (objects .exit)) (now (places .exit)) q l) r ≡ resolve-child (store-of ts (now (objects .entry)) (now (places .entry)) q l) (g .0) (source .0) value) ⌝ }
+{
+    let o = rows::tables::load_object(objects, g);
+    match o {
+        Object::Unmade => Onward::Nowhere,
+        Object::Coroutine {
+            function: _,
+            state: _,
+        } => Onward::Nowhere,
+        Object::ExternalFuture { call: _, state: _ } => Onward::Nowhere,
+        Object::GatherFuture {
+            first,
+            count,
+            state,
+        } => match state {
+            GatherState::Pending => Onward::Nowhere,
+            GatherState::Completed => Onward::Nowhere,
+            GatherState::Failed(_) => Onward::Nowhere,
+            GatherState::Awaited {
+                awaiter,
+                open_places,
+            } => {
+                let left = fill_places(
+                    places,
+                    first as usize,
+                    count as usize,
+                    open_places,
+                    source,
+                    value,
+                );
+                if left == 0 {
+                    rows::tables::store_object(
+                        objects,
+                        g,
+                        Object::GatherFuture {
+                            first,
+                            count,
+                            state: GatherState::Completed,
+                        },
+                    );
+                    return Onward::To(awaiter);
+                }
+                rows::tables::store_object(
+                    objects,
+                    g,
+                    Object::GatherFuture {
+                        first,
+                        count,
+                        state: GatherState::Awaited {
+                            awaiter,
+                            open_places: left,
+                        },
+                    },
+                );
+                Onward::Nowhere
+            }
+        },
+    }
+}
+
+// The first failure of an awaited gather. One that is not awaited keeps its state.
+pub fn fail(objects: &mut [u64], g: HeapId, error: Error) -> Onward
+    requires { ⌜ (length (now objects) ≡ objects-length) × (g .0 < object-limit) ⌝ }
+    ensures { λ r. ⌜ ((ts ps : List ℕ) (q : ReadyQueue) (l : List Happening) → settled (store-of ts (now (objects .exit)) ps q l) r ≡ fail-gather (store-of ts (now (objects .entry)) ps q l) (g .0) error) ⌝ }
+{
+    let o = rows::tables::load_object(objects, g);
+    match o {
+        Object::Unmade => Onward::Nowhere,
+        Object::Coroutine {
+            function: _,
+            state: _,
+        } => Onward::Nowhere,
+        Object::ExternalFuture { call: _, state: _ } => Onward::Nowhere,
+        Object::GatherFuture {
+            first,
+            count,
+            state,
+        } => match state {
+            GatherState::Pending => Onward::Nowhere,
+            GatherState::Completed => Onward::Nowhere,
+            GatherState::Failed(_) => Onward::Nowhere,
+            GatherState::Awaited {
+                awaiter,
+                open_places: _,
+            } => {
+                rows::tables::store_object(
+                    objects,
+                    g,
+                    Object::GatherFuture {
+                        first,
+                        count,
+                        state: GatherState::Failed(error),
+                    },
+                );
+                Onward::To(awaiter)
+            }
+        },
+    }
+}

@@ -1,0 +1,68 @@
+// Results of calls: apply_future_results.
+use asyncio::Error;
+use asyncio::words::to_error;
+use asyncio::words::to_value;
+use exec_deliver::future::fail_future;
+use exec_deliver::future::resolve_future;
+use queue::ReadyQueue;
+ghost use mathlib.Core.Path.{_≡_};
+ghost use mathlib.Core.List.{List};
+ghost use Prim.Native.Nat.{ℕ, _≤_, _+_};
+ghost use lib.ListN.{length};
+ghost use Rattle.asyncio.specs.Limits.{tasks-length, objects-length, places-length};
+ghost use Rattle.machine.specs.Store.{Happening, store-of};
+ghost use Rattle.machine.specs.Events.{apply-result, apply-future-results};
+ghost use Rattle.exec_futures.specs.Results.{result-at, results-in};
+
+// The result at byte `at`. Kinds: 0 return, 1 error, 2 still a future, 3 not found, 4 module file.
+fn apply_result(
+    tasks: &mut [u64],
+    objects: &mut [u64],
+    places: &mut [u64],
+    queue: ReadyQueue,
+    results: &[u8],
+    at: usize,
+) -> ReadyQueue
+    requires { ⌜ (length (now tasks) ≡ tasks-length) × (length (now objects) ≡ objects-length) × (length (now places) ≡ places-length) × (at + 14 ≤ length (now results)) ⌝ }
+    ensures { λ r. ⌜ ((l : List Happening) → store-of (now (tasks .exit)) (now (objects .exit)) (now (places .exit)) r (apply-result (store-of (now (tasks .entry)) (now (objects .entry)) (now (places .entry)) queue l) (result-at (now (results .entry)) at) .log) ≡ apply-result (store-of (now (tasks .entry)) (now (objects .entry)) (now (places .entry)) queue l) (result-at (now (results .entry)) at)) ⌝ }
+{
+    let call = endian::u32_at(results, at) as u32;
+    let kind = endian::u8_at(results, at + 4);
+    if kind == 0 {
+        let tag = endian::u8_at(results, at + 5);
+        let number = endian::u64_at(results, at + 6);
+        return resolve_future(tasks, objects, places, queue, call, to_value(tag, number));
+    }
+    if kind == 1 {
+        let number = endian::u64_at(results, at + 6);
+        return fail_future(tasks, objects, queue, call, to_error(0, number));
+    }
+    if kind == 2 {
+        return queue;
+    }
+    if kind == 3 {
+        return fail_future(tasks, objects, queue, call, Error::NotFound);
+    }
+    fail_future(tasks, objects, queue, call, Error::ModuleFile)
+}
+
+// One result after the other, read where they stand.
+pub fn apply_future_results(
+    tasks: &mut [u64],
+    objects: &mut [u64],
+    places: &mut [u64],
+    queue: ReadyQueue,
+    results: &[u8],
+) -> ReadyQueue
+    requires { ⌜ (length (now tasks) ≡ tasks-length) × (length (now objects) ≡ objects-length) × (length (now places) ≡ places-length) ⌝ }
+    ensures { λ r. ⌜ ((l : List Happening) → store-of (now (tasks .exit)) (now (objects .exit)) (now (places .exit)) r (apply-future-results (store-of (now (tasks .entry)) (now (objects .entry)) (now (places .entry)) queue l) (results-in (now (results .entry))) .log) ≡ apply-future-results (store-of (now (tasks .entry)) (now (objects .entry)) (now (places .entry)) queue l) (results-in (now (results .entry)))) ⌝ }
+{
+    let n = results.len() / 14;
+    let mut left = queue;
+    let mut i: usize = 0;
+    while i < n {
+        left = apply_result(tasks, objects, places, left, results, i * 14);
+        i += 1;
+    }
+    left
+}

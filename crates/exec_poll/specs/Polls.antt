@@ -1,0 +1,62 @@
+-- What the code answers, as the machine's data.
+use Prim.Native.Nat.{ℕ}
+use mathlib.Core.Bool.{Bool, _&&_}
+use mathlib.Core.List.{List}
+use mathlib.Core.Option.{Option, none, some}
+use lib.Dec.{eqb}
+use Rattle.rows.specs.Tables.{place-at}
+use Rattle.machine.specs.Store.{Store, object}
+use Rattle.machine.specs.Scheduler.{bit}
+use Rattle.machine.specs.Scheduler as scheduler
+use Rattle.machine.specs.Commit.{ready, raised, pending, Polled, polled, nested, item-object, item}
+use Rattle.machine.specs.Commit as machine
+use Rattle.exec_poll.specs.declared.awaited.AwaitedGather.{AwaitedGather}
+use Rattle.exec_poll.specs.declared.awaited.OptionAwaited.{OptionAwaited}
+use Rattle.exec_poll.specs.declared.item.Poll.{Poll}
+use Rattle.exec_poll.specs.declared.item.ItemPoll.{ItemPoll}
+
+-- what an awaitable gives at once
+abbrev pub poll-of : Poll → machine.Poll
+poll-of (Poll.Ready v) = ready v
+poll-of (Poll.Raised e) = raised e
+poll-of Poll.Pending = pending
+
+-- an awaited gather
+abbrev pub awaited-of : AwaitedGather → scheduler.AwaitedGather
+awaited-of w = record { first = w .first; count = w .count; awaiter = w .awaiter; open-places = w .waiting }
+
+-- an awaited gather, or none
+abbrev pub option-awaited : OptionAwaited → Option scheduler.AwaitedGather
+option-awaited OptionAwaited.None = none
+option-awaited (OptionAwaited.Some w) = some (awaited-of w)
+
+-- place p, which is place i of its gather, is open and names object o
+abbrev pub open-here : List ℕ → ℕ → ℕ → ℕ → ℕ → Bool
+open-here ps m p i o = bit m i && eqb (place-at ps p .item .0) o
+
+-- The store after an item, and what the item gave: nothing where it is a nested gather, which leaves the store as it is.
+pub record Itemed : Type 0 where
+  pub store : Store
+  pub poll : Option machine.Poll
+
+-- what the code says of an item
+abbrev pub item-of : ItemPoll → Option machine.Poll
+item-of (ItemPoll.Polled p) = some (poll-of p)
+item-of ItemPoll.Nested = none
+
+-- with the store that it leaves
+abbrev pub with-item : Store → ItemPoll → Itemed
+with-item s x = record { store = s; poll = item-of x }
+
+-- what the machine says of an item of a store
+abbrev pub itemed : Store → machine.Item → Itemed
+itemed s (polled r) = record { store = r .store; poll = some (r .poll) }
+itemed s nested = record { store = s; poll = none }
+
+-- object o as an item of gather g, where no open place names it
+abbrev pub item-here : Store → ℕ → ℕ → Itemed
+item-here s g o = itemed s (item-object s g o (object s o))
+
+-- object o as an item of gather g, which is w
+abbrev pub item-at : Store → ℕ → scheduler.AwaitedGather → ℕ → Itemed
+item-at s g w o = itemed s (item s g w o)

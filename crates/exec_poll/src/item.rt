@@ -1,0 +1,239 @@
+// One item of a gather: what it gives at once, or that it is a gather that must be committed first.
+use crate::awaited::AwaitedGather;
+use asyncio::Awaiter;
+use asyncio::CallId;
+use asyncio::CoroutineState;
+use asyncio::Error;
+use asyncio::ExternalFutureState;
+use asyncio::GatherState;
+use asyncio::HeapId;
+use asyncio::Object;
+use asyncio::Value;
+use queue::ReadyQueue;
+ghost use mathlib.Core.Path.{_≡_};
+ghost use mathlib.Core.List.{List};
+ghost use Prim.Native.Nat.{ℕ, _<_, _+_};
+ghost use lib.ListN.{length};
+ghost use Rattle.asyncio.specs.Limits.{object-limit, item-limit, place-limit, tasks-length, objects-length, places-length};
+ghost use Rattle.asyncio.specs.Ranges.{PlacesFit};
+ghost use Rattle.rows.specs.Tables.{place-at};
+ghost use Rattle.queue.specs.declared.ReadyQueue.{ReadyQueue};
+ghost use Rattle.machine.specs.Store.{Store, Happening, store-of};
+ghost use Rattle.machine.specs.Commit.{gives, await-external, item-coroutine, item-gather, open-from};
+ghost use Rattle.exec_poll.specs.Polls.{poll-of, awaited-of, open-here, with-item, itemed, item-at, item-here};
+
+// What an awaitable gives at once: a value, an error, or nothing yet.
+pub enum Poll {
+    Ready(Value),
+    Raised(Error),
+    Pending,
+}
+
+// The queue after a poll, and what it gave.
+pub struct Polled {
+    pub queue: ReadyQueue,
+    pub poll: Poll,
+}
+
+// One item of a gather: polled, or a nested gather that must be committed first.
+pub enum ItemPoll {
+    Polled(Poll),
+    Nested,
+}
+
+// The queue after an item, and what the item gave.
+pub struct PolledItem {
+    pub queue: ReadyQueue,
+    pub item: ItemPoll,
+}
+
+// External `o` of that call and in that state: settled, or it takes the awaiter if it has none (await_external_future).
+pub fn await_external(
+    objects: &mut [u64],
+    o: HeapId,
+    call: CallId,
+    state: ExternalFutureState,
+    awaiter: Awaiter,
+) -> Poll
+    requires { ⌜ (length (now objects) ≡ objects-length) × (o .0 < object-limit) ⌝ }
+    ensures { λ r. ⌜ ((ts ps : List ℕ) (q : ReadyQueue) (l : List Happening) → gives (store-of ts (now (objects .exit)) ps q l) (poll-of r) ≡ await-external (store-of ts (now (objects .entry)) ps q l) (o .0) call state awaiter) ⌝ }
+{
+    match state {
+        ExternalFutureState::Resolved(v) => Poll::Ready(v),
+        ExternalFutureState::Failed(e) => Poll::Raised(e),
+        ExternalFutureState::Pending {
+            awaiter: old,
+            stored,
+        } => {
+            if old.is_nobody() {
+                rows::tables::store_object(
+                    objects,
+                    o,
+                    Object::ExternalFuture {
+                        call,
+                        state: ExternalFutureState::Pending { awaiter, stored },
+                    },
+                );
+                return Poll::Pending;
+            }
+            Poll::Raised(Error::FutureReuse)
+        }
+    }
+}
+
+// Coroutine `o` in that state, an item of gather `g`: it is spawned, if it is new and no live task drives it.
+fn item_coroutine(
+    tasks: &mut [u64],
+    objects: &mut [u64],
+    queue: ReadyQueue,
+    g: HeapId,
+    o: HeapId,
+    state: CoroutineState,
+) -> Polled
+    requires { ⌜ (length (now tasks) ≡ tasks-length) × (length (now objects) ≡ objects-length) ⌝ }
+    ensures { λ r. ⌜ ((ps : List ℕ) (l : List Happening) → gives (store-of (now (tasks .exit)) (now (objects .exit)) ps (r .queue) (item-coroutine (store-of (now (tasks .entry)) (now (objects .entry)) ps queue l) (g .0) (o .0) state .store .log)) (poll-of (r .poll)) ≡ item-coroutine (store-of (now (tasks .entry)) (now (objects .entry)) ps queue l) (g .0) (o .0) state) ⌝ }
+{
+    match state {
+        CoroutineState::New => {
+            let spawned = scheduler::spawn::spawn(tasks, objects, queue, o, g);
+            let q = spawned.queue;
+            if spawned.done {
+                return Polled {
+                    queue: q,
+                    poll: Poll::Pending,
+                };
+            }
+            Polled {
+                queue: q,
+                poll: Poll::Raised(Error::CoroutineReuse),
+            }
+        }
+        CoroutineState::Running => Polled {
+            queue,
+            poll: Poll::Raised(Error::CoroutineReuse),
+        },
+        CoroutineState::Completed => Polled {
+            queue,
+            poll: Poll::Raised(Error::CoroutineReuse),
+        },
+    }
+}
+
+// Gather `o` in that state: nested if it is pending, else polled (poll_settled_gather).
+fn item_gather(o: HeapId, state: GatherState) -> ItemPoll
+    ensures { λ r. ⌜ ((s : Store) → with-item s r ≡ itemed s (item-gather s (o .0) state)) ⌝ }
+{
+    match state {
+        GatherState::Pending => ItemPoll::Nested,
+        GatherState::Awaited {
+            awaiter: _,
+            open_places: _,
+        } => ItemPoll::Polled(Poll::Raised(Error::GatherReuse)),
+        GatherState::Completed => ItemPoll::Polled(Poll::Ready(Value::List(o))),
+        GatherState::Failed(e) => ItemPoll::Polled(Poll::Raised(e)),
+    }
+}
+
+// Does place `p`, which is place `i` of a gather, wait for object `o`?
+fn is_open_here(places: &[u64], waiting: u32, p: usize, i: usize, o: HeapId) -> bool
+    requires { ⌜ (length (now places) ≡ places-length) × (p < place-limit) × (i < item-limit) ⌝ }
+    ensures { λ r. ⌜ r ≡ open-here (now (places .entry)) waiting p i (o .0) ⌝ }
+{
+    if (waiting >> i) % 2 == 0 {
+        return false;
+    }
+    let item = rows::parts::item_at(places, p);
+    item.0 == o.0
+}
+
+// Does an open place of the gather name object `o`?
+fn is_open(places: &[u64], w: AwaitedGather, o: HeapId) -> bool
+    requires { ⌜ (length (now places) ≡ places-length) × PlacesFit (w .first) (w .count) ⌝ }
+    ensures { λ r. ⌜ r ≡ open-from (λ p. place-at (now (places .entry)) p) (awaited-of w) (o .0) 0 (w .count) ⌝ }
+{
+    let first = w.first as usize;
+    let count = w.count as usize;
+    let mut i: usize = 0;
+    while i < count {
+        if is_open_here(places, w.waiting, first + i, i, o) {
+            return true;
+        }
+        i += 1;
+    }
+    false
+}
+
+// Object `o` as an item of gather `g`, where no open place of it names the object.
+fn item_object(
+    tasks: &mut [u64],
+    objects: &mut [u64],
+    queue: ReadyQueue,
+    g: HeapId,
+    o: HeapId,
+) -> PolledItem
+    requires { ⌜ (length (now tasks) ≡ tasks-length) × (length (now objects) ≡ objects-length) × (o .0 < object-limit) ⌝ }
+    ensures { λ r. ⌜ ((ps : List ℕ) (l : List Happening) → with-item (store-of (now (tasks .exit)) (now (objects .exit)) ps (r .queue) (item-here (store-of (now (tasks .entry)) (now (objects .entry)) ps queue l) (g .0) (o .0) .store .log)) (r .item) ≡ item-here (store-of (now (tasks .entry)) (now (objects .entry)) ps queue l) (g .0) (o .0)) ⌝ }
+{
+    let x = rows::tables::load_object(objects, o);
+    match x {
+        Object::Unmade => PolledItem {
+            queue,
+            item: ItemPoll::Polled(Poll::Pending),
+        },
+        Object::Coroutine { function: _, state } => {
+            let r = item_coroutine(tasks, objects, queue, g, o, state);
+            let q = r.queue;
+            let poll = r.poll;
+            PolledItem {
+                queue: q,
+                item: ItemPoll::Polled(poll),
+            }
+        }
+        Object::ExternalFuture { call, state } => {
+            let poll = await_external(
+                objects,
+                o,
+                call,
+                state,
+                Awaiter::GatherSlot {
+                    gather: g,
+                    source: o,
+                },
+            );
+            PolledItem {
+                queue,
+                item: ItemPoll::Polled(poll),
+            }
+        }
+        Object::GatherFuture {
+            first: _,
+            count: _,
+            state,
+        } => {
+            let item = item_gather(o, state);
+            PolledItem { queue, item }
+        }
+    }
+}
+
+// Object `o` as an item of gather `g`, which is `w`. An item that is open already gets another place and no second task.
+pub fn item(
+    tasks: &mut [u64],
+    objects: &mut [u64],
+    places: &[u64],
+    queue: ReadyQueue,
+    g: HeapId,
+    w: AwaitedGather,
+    o: HeapId,
+) -> PolledItem
+    requires { ⌜ (length (now tasks) ≡ tasks-length) × (length (now objects) ≡ objects-length) × (length (now places) ≡ places-length) × PlacesFit (w .first) (w .count) × (o .0 < object-limit) ⌝ }
+    ensures { λ r. ⌜ ((l : List Happening) → with-item (store-of (now (tasks .exit)) (now (objects .exit)) (now (places .entry)) (r .queue) (item-at (store-of (now (tasks .entry)) (now (objects .entry)) (now (places .entry)) queue l) (g .0) (awaited-of w) (o .0) .store .log)) (r .item) ≡ item-at (store-of (now (tasks .entry)) (now (objects .entry)) (now (places .entry)) queue l) (g .0) (awaited-of w) (o .0)) ⌝ }
+{
+    if is_open(places, w, o) {
+        return PolledItem {
+            queue,
+            item: ItemPoll::Polled(Poll::Pending),
+        };
+    }
+    item_object(tasks, objects, queue, g, o)
+}

@@ -1,0 +1,24 @@
+-- The answers, as the code gives them.
+use Prim.Native.Nat.{ℕ}
+use mathlib.Core.List.{List}
+use Rattle.machine.specs.Store.{Store}
+use Rattle.machine.specs.Machine as machine
+use Rattle.exec_switch.specs.Control.{control-of}
+use Rattle.exec_switch.specs.declared.answer.Answer.{Answer}
+
+-- a wait tells the calls that are pending
+abbrev pub answer-of : List ℕ → Answer → machine.Answer
+answer-of os (Answer.Made o) = machine.Answer.made (o .0)
+answer-of os (Answer.Called n) = machine.Answer.called n
+answer-of os (Answer.Switched c) = machine.Answer.control (control-of os c)
+answer-of os (Answer.Awaited c n) = machine.Answer.awaited (control-of os c) n
+answer-of os Answer.Done = machine.Answer.done
+answer-of os Answer.Stalled = machine.Answer.stalled
+answer-of os (Answer.Finished v) = machine.Answer.finished v
+answer-of os (Answer.FinishedError e) = machine.Answer.finished-error e
+answer-of os (Answer.Eager b) = machine.Answer.is-eager b
+answer-of os (Answer.Refused n) = machine.Answer.refused n
+
+-- a store, and the answer
+abbrev pub stepped-of : Store → Answer → machine.Step
+stepped-of s a = record { store = s; answer = answer-of (s .objects) a }

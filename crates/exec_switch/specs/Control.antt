@@ -1,0 +1,51 @@
+-- Who has control, as the code answers it.
+use Prim.Native.Nat.{ℕ, _<_}
+use mathlib.Core.List.{List}
+use mathlib.Core.Option.{Option, none, some}
+use Rattle.asyncio.specs.Limits.{task-limit}
+use Rattle.asyncio.specs.declared.Moment.{Moment}
+use Rattle.asyncio.specs.declared.Header.{Header}
+use Rattle.rows.specs.Tables.{header-at, header-put}
+use Rattle.machine.specs.Store.{Store}
+use Rattle.machine.specs.Scheduler.{pending-calls-in}
+use Rattle.machine.specs.Events as machine
+use Rattle.scheduler.specs.declared.tasks.Found.{Found}
+use Rattle.exec_switch.specs.declared.control.How.{How}
+use Rattle.exec_switch.specs.declared.control.Control.{Control}
+use Rattle.exec_switch.specs.declared.cycle.NewFunction.{NewFunction}
+
+-- the objects' words with another moment
+unfoldable pub moment-put : List ℕ → Moment → List ℕ
+moment-put os m =
+    let h : Header = header-at os in
+    header-put os (record { made = h .made; used = h .used; calls = h .calls; next = h .next; moment = m })
+
+-- how a task goes on
+abbrev pub how-of : How → machine.How
+how-of (How.Start c f) = machine.start (c .0) f
+how-of (How.Value v) = machine.value v
+how-of (How.Raised e) = machine.raises e
+how-of (How.Inline c) = machine.inline (c .0)
+
+-- a wait tells the calls that are pending
+abbrev pub control-of : List ℕ → Control → machine.Control
+control-of os (Control.Runs t h) = machine.runs (t .0) (how-of h)
+control-of os Control.Waits = machine.waits (pending-calls-in os)
+
+-- a store, and who has control
+abbrev pub switched-of : Store → Control → machine.Switched
+switched-of s c = record { store = s; control = control-of (s .objects) c }
+
+-- a store, who has control, and the commit steps
+abbrev pub awaited-of : Store → Control → ℕ → machine.Awaited
+awaited-of s c n = record { store = s; control = control-of (s .objects) c; steps = n }
+
+-- the function of a new coroutine
+abbrev pub function-of : Option ℕ → NewFunction
+function-of none = NewFunction.None
+function-of (some f) = NewFunction.Some f
+
+-- a task that was found has a number in range
+abbrev pub FoundFits : Found → Type 0
+FoundFits (Found.At n) = n < task-limit
+FoundFits Found.Nothing = Unit {0}

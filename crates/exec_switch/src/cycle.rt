@@ -1,0 +1,155 @@
+// Starting a task, failing it and resuming the next call each other; at each failed start one live task less is left.
+use crate::control::How;
+use crate::control::Switched;
+use crate::control::run;
+use crate::control::yield_control;
+use asyncio::CoroutineState;
+use asyncio::Error;
+use asyncio::HeapId;
+use asyncio::Object;
+use asyncio::TaskId;
+use asyncio::TaskState;
+use exec_deliver::climb::deliver_awaiter_failure;
+use queue::ReadyQueue;
+use scheduler::states::remove_task;
+use scheduler::tasks::Found;
+ghost use mathlib.Core.Path.{_≡_};
+ghost use mathlib.Core.List.{List};
+ghost use Prim.Native.Nat.{ℕ, _<_};
+ghost use lib.ListN.{length};
+ghost use Rattle.asyncio.specs.Limits.{task-limit, object-limit, tasks-length, objects-length, places-length};
+ghost use Rattle.rows.specs.Tables.{object-at};
+ghost use Rattle.exec_fill.specs.Delivered.{delivered};
+ghost use Rattle.machine.specs.Store.{Happening, store-of};
+ghost use Rattle.machine.specs.Events.{new-function, activate, start-task, handle-task-failure, resume-after-task-exit, resume-next};
+ghost use Rattle.exec_switch.specs.Control.{switched-of, function-of, FoundFits};
+
+// The function of a new coroutine.
+pub enum NewFunction {
+    None,
+    Some(u32),
+}
+
+fn new_function(objects: &[u64], c: HeapId) -> NewFunction
+    requires { ⌜ (length (now objects) ≡ objects-length) × (c .0 < object-limit) ⌝ }
+    ensures { λ r. ⌜ r ≡ function-of (new-function (object-at (now (objects .entry)) (c .0))) ⌝ }
+{
+    let x = rows::tables::load_object(objects, c);
+    match x {
+        Object::Unmade => NewFunction::None,
+        Object::ExternalFuture { call: _, state: _ } => NewFunction::None,
+        Object::GatherFuture {
+            first: _,
+            count: _,
+            state: _,
+        } => NewFunction::None,
+        Object::Coroutine { function, state } => match state {
+            CoroutineState::New => NewFunction::Some(function),
+            CoroutineState::Running => NewFunction::None,
+            CoroutineState::Completed => NewFunction::None,
+        },
+    }
+}
+
+// A ready task runs on with what was delivered, or starts. No other is activated.
+pub fn activate_task(
+    tasks: &mut [u64],
+    objects: &mut [u64],
+    queue: ReadyQueue,
+    t: TaskId,
+) -> Switched
+    requires { ⌜ (length (now tasks) ≡ tasks-length) × (length (now objects) ≡ objects-length) × (t .0 < task-limit) ⌝ }
+    ensures { λ r. ⌜ ((ps : List ℕ) (l : List Happening) → length ps ≡ places-length → switched-of (store-of (now (tasks .exit)) (now (objects .exit)) ps (r .queue) (activate (store-of (now (tasks .entry)) (now (objects .entry)) ps queue l) (t .0) .store .log)) (r .control) ≡ activate (store-of (now (tasks .entry)) (now (objects .entry)) ps queue l) (t .0)) ⌝ }
+{
+    let state = rows::parts::state_at(tasks, t);
+    match state {
+        TaskState::Absent => yield_control(objects, queue),
+        TaskState::Unstarted => start_task(tasks, objects, queue, t),
+        TaskState::Running => yield_control(objects, queue),
+        TaskState::Woken(v) => run(tasks, objects, queue, t, How::Value(v)),
+        TaskState::Raised(e) => run(tasks, objects, queue, t, How::Raised(e)),
+        TaskState::Blocked(_) => yield_control(objects, queue),
+    }
+}
+
+// The first run of a task: a coroutine that is not new any more fails it.
+fn start_task(tasks: &mut [u64], objects: &mut [u64], queue: ReadyQueue, t: TaskId) -> Switched
+    requires { ⌜ (length (now tasks) ≡ tasks-length) × (length (now objects) ≡ objects-length) × (t .0 < task-limit) ⌝ }
+    ensures { λ r. ⌜ ((ps : List ℕ) (l : List Happening) → length ps ≡ places-length → switched-of (store-of (now (tasks .exit)) (now (objects .exit)) ps (r .queue) (start-task activate (store-of (now (tasks .entry)) (now (objects .entry)) ps queue l) (t .0) .store .log)) (r .control) ≡ start-task activate (store-of (now (tasks .entry)) (now (objects .entry)) ps queue l) (t .0)) ⌝ }
+{
+    let c = rows::parts::coroutine_at(tasks, t);
+    let f = new_function(objects, c);
+    match f {
+        NewFunction::None => handle_task_failure(tasks, objects, queue, t, Error::CoroutineReuse),
+        NewFunction::Some(function) => {
+            rows::tables::store_object(
+                objects,
+                c,
+                Object::Coroutine {
+                    function,
+                    state: CoroutineState::Running,
+                },
+            );
+            run(
+                tasks,
+                objects,
+                queue,
+                t,
+                How::Start {
+                    coroutine: c,
+                    function,
+                },
+            )
+        }
+    }
+}
+
+// The task's awaiter gets the error, and the task goes. Its coroutine keeps its state.
+pub fn handle_task_failure(
+    tasks: &mut [u64],
+    objects: &mut [u64],
+    queue: ReadyQueue,
+    t: TaskId,
+    error: Error,
+) -> Switched
+    requires { ⌜ (length (now tasks) ≡ tasks-length) × (length (now objects) ≡ objects-length) × (t .0 < task-limit) ⌝ }
+    ensures { λ r. ⌜ ((ps : List ℕ) (l : List Happening) → length ps ≡ places-length → switched-of (store-of (now (tasks .exit)) (now (objects .exit)) ps (r .queue) (handle-task-failure activate (store-of (now (tasks .entry)) (now (objects .entry)) ps queue l) (t .0) error .store .log)) (r .control) ≡ handle-task-failure activate (store-of (now (tasks .entry)) (now (objects .entry)) ps queue l) (t .0) error) ⌝ }
+{
+    let awaiter = rows::parts::task_awaiter_at(tasks, t);
+    let d = deliver_awaiter_failure(tasks, objects, queue, awaiter, error);
+    let given = d.queue;
+    let woken = d.woken;
+    let left = remove_task(tasks, given, t);
+    resume_after_task_exit(tasks, objects, left, woken)
+}
+
+// The task that an exit woke goes ahead of the queue.
+pub fn resume_after_task_exit(
+    tasks: &mut [u64],
+    objects: &mut [u64],
+    queue: ReadyQueue,
+    woken: Found,
+) -> Switched
+    requires { ⌜ (length (now tasks) ≡ tasks-length) × (length (now objects) ≡ objects-length) × FoundFits woken ⌝ }
+    ensures { λ r. ⌜ ((ps : List ℕ) (l : List Happening) → length ps ≡ places-length → switched-of (store-of (now (tasks .exit)) (now (objects .exit)) ps (r .queue) (resume-after-task-exit activate (delivered (store-of (now (tasks .entry)) (now (objects .entry)) ps queue l) woken) .store .log)) (r .control) ≡ resume-after-task-exit activate (delivered (store-of (now (tasks .entry)) (now (objects .entry)) ps queue l) woken)) ⌝ }
+{
+    match woken {
+        Found::Nothing => switch_or_yield(tasks, objects, queue),
+        Found::At(n) => {
+            let t = TaskId::new(n);
+            activate_task(tasks, objects, queue.remove(t), t)
+        }
+    }
+}
+
+// The task at the queue's front, or the host.
+pub fn switch_or_yield(tasks: &mut [u64], objects: &mut [u64], queue: ReadyQueue) -> Switched
+    requires { ⌜ (length (now tasks) ≡ tasks-length) × (length (now objects) ≡ objects-length) ⌝ }
+    ensures { λ r. ⌜ ((ps : List ℕ) (l : List Happening) → length ps ≡ places-length → switched-of (store-of (now (tasks .exit)) (now (objects .exit)) ps (r .queue) (resume-next activate (store-of (now (tasks .entry)) (now (objects .entry)) ps queue l) .store .log)) (r .control) ≡ resume-next activate (store-of (now (tasks .entry)) (now (objects .entry)) ps queue l)) ⌝ }
+{
+    if queue.len == 0 {
+        return yield_control(objects, queue);
+    }
+    let t = queue.front();
+    activate_task(tasks, objects, queue.pop_front(), t)
+}

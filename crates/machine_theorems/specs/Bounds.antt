@@ -1,0 +1,10 @@
+pub mod Bits
+pub mod Counts
+pub mod BoundLaws
+pub mod FuelLaws
+pub mod LoopLaws
+pub mod TurnLaws
+pub mod ChainLaws
+pub mod CancelTurns
+pub mod AwaitSteps
+pub mod SwitchPending

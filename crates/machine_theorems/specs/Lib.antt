@@ -1,0 +1,4 @@
+pub mod Soundness
+pub mod Panics
+pub mod Gather
+pub mod Bounds

@@ -1,0 +1,12 @@
+pub mod Panic
+pub mod PanickingDelivery
+pub mod NoPanicLaws
+pub mod NoPanicWoken
+pub mod PanickingCommit
+pub mod PanickingDeliveryLaws
+pub mod PanickingEvents
+pub mod PanickingCommitLaws
+pub mod PanickingEventsLaws
+pub mod PanickingMachine
+pub mod PanickingMachineLaws
+pub mod NoPanicPlaces

@@ -1,0 +1,101 @@
+-- The table of drivers: how find_drivers fills it, and the ways through live_driver.
+use mathlib.Core.Path.{_≡_, refl, sym, ap, _∙_}
+use mathlib.Core.Bool.{Bool, true, false}
+use mathlib.Core.List.{List}
+use mathlib.Core.Option.{Option, none, some}
+use Prim.Native.Nat.{ℕ, zero, suc, _+_, _-_, _%_, _≤_, _<_, min}
+use native.Mathlib.Nat.{mod-eq-of-lt}
+use native.Mathlib.Omega.{arith}
+use lib.Dec.{eqb}
+use lib.ListN.{length, getD, set, replicate}
+use lib.Seq.{getD-set-same, getD-set-other}
+use borrow.Author.Tests.{ne-eqb, eqb-true, eqb-false}
+use Rattle.asyncio.specs.Limits.{task-limit, object-limit}
+use Rattle.asyncio.specs.States.{pick, is-live, is-main}
+use Rattle.asyncio.specs.Numbers.{to-task-id}
+use Rattle.asyncio.specs.RangeLaws.{pick-has}
+use Rattle.asyncio.specs.declared.HeapId.{HeapId}
+use Rattle.asyncio.specs.declared.TaskId.{TaskId}
+use Rattle.asyncio.specs.declared.Task.{Task}
+use Rattle.asyncio.specs.declared.TaskState.{TaskState}
+use Rattle.rows.specs.Tables.{task-at}
+use Rattle.rows.specs.TableLaws.{task-at-fits}
+use Rattle.machine.specs.Scheduler.{first-from, drives, driver-in, still-live}
+use Rattle.scheduler.specs.Search.{found}
+use Rattle.scheduler.specs.SearchLaws.{found-at}
+use Rattle.scheduler_cancel.specs.Cancel.{named, drivers-in, note-driver}
+use Rattle.scheduler.specs.declared.tasks.Found.{Found}
+
+named-task : (t : ℕ) → 0 < t → t < task-limit → named t ≡ some t
+unfolding named
+named-task t h l = rw (mod-eq-of-lt l, ne-eqb t 0 (omega arith))
+
+-- what the table says after task t was noted, whose row is r
+noted : (ds : List ℕ) (t : ℕ) (r : Task) (b : Bool) → length ds ≡ object-limit → r .coroutine .0 < object-limit → 0 < t → t < task-limit → (c : ℕ)
+    → named (getD (pick b (set ds (r .coroutine .0) t) ds) c 0) ≡ pick (pick b (eqb (r .coroutine .0) c) false) (some t) (named (getD ds c 0))
+noted ds t r false m k h l c = refl
+noted ds t r true m k h l c = by (eqb (r .coroutine .0) c) refl
+  where
+    by : (b : Bool) → eqb (r .coroutine .0) c ≡ b → named (getD (set ds (r .coroutine .0) t) c 0) ≡ pick b (some t) (named (getD ds c 0))
+    by true e = rw (← eqb-true (r .coroutine .0) c e, getD-set-same ds (r .coroutine .0) t 0 (omega arith)) (named-task t h l)
+    by false e = rw (getD-set-other ds (r .coroutine .0) c t 0 (λ q. eqb-false (r .coroutine .0) c e (sym q)))
+
+module _ (ts : List ℕ) (n : ℕ) where
+  -- the drivers among the tasks from t on, below n
+  pub drivers-turn : (ds : List ℕ) (u t : ℕ) → t ≡ u + 1 → t ≤ n → 0 < u → n ≤ task-limit → length ds ≡ object-limit
+      → {j : ℕ} {es : List ℕ} → j ≡ u → es ≡ note-driver ts j ds
+      → ((c : ℕ) → drivers-in ds c ≡ first-from (λ v. drives c (task-at ts v)) t (n - t))
+      → (c : ℕ) → drivers-in es c ≡ first-from (λ v. drives c (task-at ts v)) u (n - u)
+  unfolding drivers-in note-driver first-from drives
+  drivers-turn ds u t e h p z m i q f c =
+      let k : n - u ≡ suc (n - (u + 1)) = omega arith in
+      rw (k, q, i, ← e, ← f c) (noted ds u (task-at ts u) (is-live (task-at ts u .state)) m (task-at-fits ts u .coroutine-fits) p (omega arith) c)
+
+  zeros : (k c : ℕ) → _≡_ {A = ℕ} (getD (replicate k 0) c 0) 0
+  zeros zero c = refl
+  zeros (suc k) zero = refl
+  zeros (suc k) (suc c) = zeros k c
+
+  pub drivers-begin : (c : ℕ) → drivers-in (replicate object-limit 0) c ≡ first-from (λ v. drives c (task-at ts v)) n (n - n)
+  unfolding drivers-in named first-from
+  drivers-begin c = let k : n - n ≡ 0 = omega arith in rw (k, zeros object-limit c)
+
+  pub drivers-end : (ds : List ℕ) (t : ℕ) → t ≤ 1 → t ≤ n → min n 1 ≤ t
+      → ((c : ℕ) → drivers-in ds c ≡ first-from (λ v. drives c (task-at ts v)) t (n - t)) → (c : ℕ) → drivers-in ds c ≡ driver-in ts n c
+  unfolding driver-in first-from
+  drivers-end ds zero h l m f c = let a : n ≡ 0 = omega arith in f c ∙ rw a
+  drivers-end ds (suc t) h l m f c = let a : t ≡ 0 = omega arith in f c ∙ rw a
+
+-- the table's driver, as live_driver finds it
+module _ (ts ds : List ℕ) (o : ℕ) {u : TaskId} (e : u ≡ to-task-id (getD ds o 0)) {b : Bool} (f : b ≡ is-main u) where
+  number : getD ds o 0 % task-limit ≡ u .0
+  number = sym (ap (λ (x : TaskId). x .0) e)
+
+  pub driver-none : b ≡ true → Found.Nothing ≡ found (still-live ts (drivers-in ds o))
+  unfolding drivers-in named still-live
+  driver-none t = rw (number, ← f, t)
+
+  module _ (n : b ≡ false) {x : TaskState} (g : x ≡ task-at ts (u .0) .state) {y : Bool} (h : y ≡ is-live x) where
+    pub driver-lives : y ≡ true → Found.At (u .0) ≡ found (still-live ts (drivers-in ds o))
+    unfolding drivers-in named still-live
+    driver-lives t = rw (number, ← f, n, ← g, ← h, t)
+
+    pub driver-gone : y ≡ false → Found.Nothing ≡ found (still-live ts (drivers-in ds o))
+    unfolding drivers-in named still-live
+    driver-gone t = rw (number, ← f, n, ← g, ← h, t)
+
+-- a task's number, if there is one
+abbrev NumberFits : Option ℕ → Type 0
+NumberFits none = Unit {0}
+NumberFits (some t) = t < task-limit
+
+pub driver-fits : (ts ds : List ℕ) (o : ℕ) {d : Found} (t : ℕ) → d ≡ found (still-live ts (drivers-in ds o)) → d ≡ Found.At t → t < task-limit
+unfolding drivers-in
+driver-fits ts ds o t e f = rw (found-at (still-live ts (drivers-in ds o)) t (sym e ∙ f)) at (lives (drivers-in ds o) (names (getD ds o 0)))
+  where
+    names : (n : ℕ) → NumberFits (named n)
+    names n = unfold named in (pick-has NumberFits (eqb (to-task-id n .0) 0) tt (omega arith))
+
+    lives : (x : Option ℕ) → NumberFits x → NumberFits (still-live ts x)
+    lives none h = unfold still-live in tt
+    lives (some u) h = unfold still-live in (pick-has NumberFits (is-live (task-at ts u .state)) h tt)

@@ -1,0 +1,52 @@
+use mathlib.Core.Path.{_≡_, sym, _∙_}
+use mathlib.Core.Bool.{true}
+use Prim.Native.Nat.{ℕ, _-_, _≤_}
+use native.Mathlib.Omega.{arith}
+use borrow.Author.Needs.{needs}
+use Rattle.machine.specs.Tests.{all-below}
+use Rattle.sound_rows.specs.Loops.{all-none, all-turn, all-fails, all-end}
+use Rattle.rows.specs.Tables.{object-at}
+use Rattle.machine.specs.Sound.{object-values}
+use Rattle.sound_rows.proofs.values.objects_known.Statement.{statement}
+use Rattle.sound_rows.proofs.values.objects_known.Tie as tie
+
+abbrev Inv-loop : tie.InvT-loop
+Inv-loop made objects o₀ o = (all-below o (λ (o : ℕ). object-values made (object-at objects) (object-at objects o)) ≡ true) × (o ≤ made)
+
+abbrev μ-loop : tie.MeasureT-loop
+μ-loop made objects o₀ o = made - o
+
+loop-holds : tie.Need-loop-holds Inv-loop μ-loop
+loop-holds c = (all-none _, omega arith)
+
+object-values-requires : tie.Need-object-values-requires Inv-loop μ-loop
+object-values-requires c κs = search needs
+
+add-o : tie.Need-add-o Inv-loop μ-loop
+add-o c = omega arith
+
+loop-less : tie.Need-loop-less Inv-loop μ-loop
+loop-less c = omega arith
+
+loop-again : tie.Need-loop-again Inv-loop μ-loop
+loop-again c = (all-turn _ (c .before .before .before .loop .o) (sym (c .if1 .taken) ∙ c .before .object-values .ensures) (c .before .before .before .loop .inv .0), omega arith)
+
+returns : tie.Need-returns Inv-loop μ-loop
+returns c = all-fails _ (c .before .before .before .loop .o) _ (c .before .before .loop-test .taken) (sym (c .if1 .left) ∙ c .before .object-values .ensures)
+
+returns-2 : tie.Need-returns-2 Inv-loop μ-loop
+returns-2 c = all-end _ (c .before .loop .o) _ (omega arith) (c .loop-test .left) (c .before .loop .inv .0)
+
+pub objects-known-spec : {M : Type 1} → statement M
+objects-known-spec =
+    tie.close
+    (tie.spec
+    Inv-loop
+    μ-loop
+    loop-holds
+    object-values-requires
+    add-o
+    loop-less
+    loop-again
+    returns
+    returns-2)

@@ -1,0 +1,56 @@
+use mathlib.Core.Path.{_≡_, sym, ap, _∙_}
+use mathlib.Core.Bool.{true}
+use Prim.Native.Nat.{ℕ, _-_, _≤_}
+use native.Mathlib.Omega.{arith}
+use borrow.Author.Needs.{needs}
+use Rattle.machine.specs.Tests.{all-below}
+use Rattle.sound_rows.specs.Loops.{all-none, all-turn, all-fails, all-end}
+use Rattle.rows.specs.Tables.{task-at, object-at}
+use Rattle.machine.specs.Sound.{state-values}
+use Rattle.sound_rows.proofs.values.tasks_known.Statement.{statement}
+use Rattle.sound_rows.proofs.values.tasks_known.Tie as tie
+
+abbrev Inv-loop : tie.InvT-loop
+Inv-loop made next tasks objects t₀ t = (all-below t (λ (t : ℕ). state-values made (object-at objects) (task-at tasks t .state)) ≡ true) × (t ≤ next)
+
+abbrev μ-loop : tie.MeasureT-loop
+μ-loop made next tasks objects t₀ t = next - t
+
+loop-holds : tie.Need-loop-holds Inv-loop μ-loop
+loop-holds c = (all-none _, omega arith)
+
+state-at-requires : tie.Need-state-at-requires Inv-loop μ-loop
+state-at-requires c κs = search needs
+
+state-values-requires : tie.Need-state-values-requires Inv-loop μ-loop
+state-values-requires c κs = search needs
+
+add-t : tie.Need-add-t Inv-loop μ-loop
+add-t c = omega arith
+
+loop-less : tie.Need-loop-less Inv-loop μ-loop
+loop-less c = omega arith
+
+loop-again : tie.Need-loop-again Inv-loop μ-loop
+loop-again c = (all-turn _ (c .before .before .before .before .loop .t) (sym (c .if1 .taken) ∙ c .before .state-values .ensures ∙ ap (state-values _ _) (c .before .before .state-at .ensures)) (c .before .before .before .before .loop .inv .0), omega arith)
+
+returns : tie.Need-returns Inv-loop μ-loop
+returns c = all-fails _ (c .before .before .before .before .loop .t) _ (c .before .before .before .loop-test .taken) (sym (c .if1 .left) ∙ c .before .state-values .ensures ∙ ap (state-values _ _) (c .before .before .state-at .ensures))
+
+returns-2 : tie.Need-returns-2 Inv-loop μ-loop
+returns-2 c = all-end _ (c .before .loop .t) _ (omega arith) (c .loop-test .left) (c .before .loop .inv .0)
+
+pub tasks-known-spec : {M : Type 1} → statement M
+tasks-known-spec =
+    tie.close
+    (tie.spec
+    Inv-loop
+    μ-loop
+    loop-holds
+    state-at-requires
+    state-values-requires
+    add-t
+    loop-less
+    loop-again
+    returns
+    returns-2)

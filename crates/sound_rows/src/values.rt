@@ -1,0 +1,205 @@
+// Clauses 3 and 4: items are lower than their gather, and list values name completed gathers.
+use asyncio::ExternalFutureState;
+use asyncio::Header;
+use asyncio::HeapId;
+use asyncio::Object;
+use asyncio::OptionValue;
+use asyncio::TaskId;
+use asyncio::TaskState;
+use asyncio::Value;
+use rows::parts::count_at;
+use rows::parts::first_at;
+use rows::parts::item_at;
+use rows::parts::kind_at;
+use rows::parts::result_at;
+use rows::parts::state_at;
+use rows::tables::load_object;
+ghost use mathlib.Core.Path.{_≡_};
+ghost use Prim.Native.Nat.{_<_, _+_, _≤_};
+ghost use lib.Dec.{ltb};
+ghost use lib.ListN.{length};
+ghost use Rattle.asyncio.specs.Limits.{task-limit, object-limit, place-limit, tasks-length, objects-length, places-length};
+ghost use Rattle.rows.specs.Tables.{task-at, object-at, place-at};
+ghost use Rattle.machine.specs.Tests.{all-below};
+ghost use Rattle.machine.specs.Sound.{items-lower, value-known, option-known, object-values, state-values, lists-completed};
+ghost use Rattle.asyncio.specs.Ranges.{HeaderFits};
+ghost use Rattle.sound_rows.specs.ValueLaws.{external-values};
+
+// ---- 3. Items are lower than their gather.
+
+// The items of gather `g`, in its `n` places from `first` on.
+fn items_below(places: &[u64], g: u16, first: usize, n: usize) -> bool
+    requires { ⌜ (length (now places) ≡ places-length) × (first + n ≤ place-limit) ⌝ }
+    ensures { λ r. ⌜ r ≡ all-below n (λ k. ltb (place-at (now (places .entry)) (first + k) .item .0) g) ⌝ }
+{
+    let mut k: usize = 0;
+    while k < n {
+        let item = item_at(places, first + k);
+        if item.0 < g {
+            k += 1;
+        } else {
+            return false;
+        }
+    }
+    true
+}
+
+// Of every gather; other objects have no places.
+pub fn items_lower(made: u16, objects: &[u64], places: &[u64]) -> bool
+    requires { ⌜ (length (now objects) ≡ objects-length) × (length (now places) ≡ places-length) × (made ≤ object-limit) ⌝ }
+    ensures { λ r. ⌜ r ≡ items-lower made (object-at (now (objects .entry))) (place-at (now (places .entry))) ⌝ }
+{
+    let mut o: u16 = 0;
+    while o < made {
+        let first = first_at(objects, HeapId(o));
+        let count = count_at(objects, HeapId(o));
+        if items_below(places, o, first as usize, count as usize) {
+            o += 1;
+        } else {
+            return false;
+        }
+    }
+    true
+}
+
+// ---- 4. List values name completed gathers.
+
+// A value that may be handed on: plain, or the list of a completed gather among the objects made.
+pub fn value_known(made: u16, objects: &[u64], v: Value) -> bool
+    requires { ⌜ (length (now objects) ≡ objects-length) × (made ≤ object-limit) ⌝ }
+    ensures { λ r. ⌜ r ≡ value-known made (object-at (now (objects .entry))) v ⌝ }
+{
+    match v {
+        Value::Plain(_) => true,
+        Value::List(g) => {
+            if g.0 < made {
+                let kind = kind_at(objects, g);
+                return kind.is_completed();
+            }
+            false
+        }
+    }
+}
+
+// A value, or none.
+pub fn option_known(made: u16, objects: &[u64], x: OptionValue) -> bool
+    requires { ⌜ (length (now objects) ≡ objects-length) × (made ≤ object-limit) ⌝ }
+    ensures { λ r. ⌜ r ≡ option-known made (object-at (now (objects .entry))) x ⌝ }
+{
+    match x {
+        OptionValue::None => true,
+        OptionValue::Some(v) => value_known(made, objects, v),
+    }
+}
+
+// The stored result of a pending external, the value of a resolved one.
+fn external_values(made: u16, objects: &[u64], state: ExternalFutureState) -> bool
+    requires { ⌜ (length (now objects) ≡ objects-length) × (made ≤ object-limit) ⌝ }
+    ensures { λ r. ⌜ r ≡ external-values made (object-at (now (objects .entry))) state ⌝ }
+{
+    match state {
+        ExternalFutureState::Pending { awaiter: _, stored } => option_known(made, objects, stored),
+        ExternalFutureState::Resolved(v) => value_known(made, objects, v),
+        ExternalFutureState::Failed(_) => true,
+    }
+}
+
+// The value or stored result that object `o` holds. Only externals hold one: other rows are not read whole.
+fn object_values(made: u16, objects: &[u64], o: u16) -> bool
+    requires { ⌜ (length (now objects) ≡ objects-length) × (made ≤ object-limit) × (o < object-limit) ⌝ }
+    ensures { λ r. ⌜ r ≡ object-values made (object-at (now (objects .entry))) (object-at (now (objects .entry)) o) ⌝ }
+{
+    let kind = kind_at(objects, HeapId(o));
+    if kind.is_external() {
+        let x = load_object(objects, HeapId(o));
+        return match x {
+            Object::Unmade => true,
+            Object::Coroutine {
+                function: _,
+                state: _,
+            } => true,
+            Object::ExternalFuture { call: _, state } => external_values(made, objects, state),
+            Object::GatherFuture {
+                first: _,
+                count: _,
+                state: _,
+            } => true,
+        };
+    }
+    true
+}
+
+// The value delivered to a task.
+fn state_values(made: u16, objects: &[u64], s: TaskState) -> bool
+    requires { ⌜ (length (now objects) ≡ objects-length) × (made ≤ object-limit) ⌝ }
+    ensures { λ r. ⌜ r ≡ state-values made (object-at (now (objects .entry))) s ⌝ }
+{
+    match s {
+        TaskState::Absent => true,
+        TaskState::Unstarted => true,
+        TaskState::Running => true,
+        TaskState::Woken(v) => value_known(made, objects, v),
+        TaskState::Raised(_) => true,
+        TaskState::Blocked(_) => true,
+    }
+}
+
+fn objects_known(made: u16, objects: &[u64]) -> bool
+    requires { ⌜ (length (now objects) ≡ objects-length) × (made ≤ object-limit) ⌝ }
+    ensures { λ r. ⌜ r ≡ all-below made (λ o. object-values made (object-at (now (objects .entry))) (object-at (now (objects .entry)) o)) ⌝ }
+{
+    let mut o: u16 = 0;
+    while o < made {
+        if object_values(made, objects, o) {
+            o += 1;
+        } else {
+            return false;
+        }
+    }
+    true
+}
+
+fn tasks_known(made: u16, next: u16, tasks: &[u64], objects: &[u64]) -> bool
+    requires { ⌜ (length (now tasks) ≡ tasks-length) × (length (now objects) ≡ objects-length) × (made ≤ object-limit) × (next ≤ task-limit) ⌝ }
+    ensures { λ r. ⌜ r ≡ all-below next (λ t. state-values made (object-at (now (objects .entry))) (task-at (now (tasks .entry)) t .state)) ⌝ }
+{
+    let mut t: u16 = 0;
+    while t < next {
+        if state_values(made, objects, state_at(tasks, TaskId(t))) {
+            t += 1;
+        } else {
+            return false;
+        }
+    }
+    true
+}
+
+fn places_known(made: u16, used: u16, objects: &[u64], places: &[u64]) -> bool
+    requires { ⌜ (length (now objects) ≡ objects-length) × (length (now places) ≡ places-length) × (made ≤ object-limit) × (used ≤ place-limit) ⌝ }
+    ensures { λ r. ⌜ r ≡ all-below used (λ p. option-known made (object-at (now (objects .entry))) (place-at (now (places .entry)) p .result)) ⌝ }
+{
+    let n = used as usize;
+    let mut p: usize = 0;
+    while p < n {
+        if option_known(made, objects, result_at(places, p)) {
+            p += 1;
+        } else {
+            return false;
+        }
+    }
+    true
+}
+
+// Of objects, tasks and places.
+pub fn lists_completed(header: Header, tasks: &[u64], objects: &[u64], places: &[u64]) -> bool
+    requires { ⌜ (length (now tasks) ≡ tasks-length) × (length (now objects) ≡ objects-length) × (length (now places) ≡ places-length) × HeaderFits header ⌝ }
+    ensures { λ r. ⌜ r ≡ lists-completed header (object-at (now (objects .entry))) (task-at (now (tasks .entry))) (place-at (now (places .entry))) ⌝ }
+{
+    if objects_known(header.made, objects) {
+        if tasks_known(header.made, header.next, tasks, objects) {
+            return places_known(header.made, header.used, objects, places);
+        }
+        return false;
+    }
+    false
+}

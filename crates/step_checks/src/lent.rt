@@ -1,0 +1,71 @@
+// Lent memory: the lengths that refusal 1 asks for, and the list of calls that a wait writes.
+use exec_switch::answer::Answer;
+use exec_switch::control::Control;
+use scheduler::calls::pending_call_ids;
+ghost use mathlib.Core.Path.{_≡_};
+ghost use mathlib.Core.Bool.{_&&_};
+ghost use mathlib.Core.List.{List};
+ghost use Prim.Native.Nat.{ℕ, _≤_};
+ghost use lib.Dec.{leb};
+ghost use lib.ListN.{length};
+ghost use Rattle.asyncio.specs.Limits.{object-limit, objects-length};
+ghost use Rattle.machine.specs.Lent.{written};
+ghost use Rattle.exec_switch.specs.Answer.{answer-of};
+ghost use Rattle.step_checks.specs.Lent.{is-wait, are-slices};
+
+// Have the slices of the store their lengths?
+pub fn slices_right(tasks: &[u64], objects: &[u64], places: &[u64]) -> bool
+    ensures { λ r. ⌜ r ≡ are-slices (length (now (tasks .entry))) (length (now (objects .entry))) (length (now (places .entry))) ⌝ }
+{
+    if tasks.len() == 4104 {
+        if objects.len() == 2056 {
+            return places.len() == 2048;
+        }
+        return false;
+    }
+    false
+}
+
+// Has the list of calls room for every wait, too?
+pub fn lengths_right(tasks: &[u64], objects: &[u64], places: &[u64], calls: &[u64]) -> bool
+    ensures { λ r. ⌜ r ≡ (are-slices (length (now (tasks .entry))) (length (now (objects .entry))) (length (now (places .entry))) && leb object-limit (length (now (calls .entry)))) ⌝ }
+{
+    if slices_right(tasks, objects, places) {
+        return 256 <= calls.len();
+    }
+    false
+}
+
+// Is it a wait?
+fn is_wait(answer: Answer) -> bool
+    ensures { λ r. ⌜ r ≡ is-wait answer ⌝ }
+{
+    match answer {
+        Answer::Made(_) => false,
+        Answer::Called(_) => false,
+        Answer::Switched(control) => match control {
+            Control::Runs { task: _, how: _ } => false,
+            Control::Waits => true,
+        },
+        Answer::Awaited { control, steps: _ } => match control {
+            Control::Runs { task: _, how: _ } => false,
+            Control::Waits => true,
+        },
+        Answer::Done => false,
+        Answer::Stalled => false,
+        Answer::Finished(_) => false,
+        Answer::FinishedError(_) => false,
+        Answer::Eager(_) => false,
+        Answer::Refused(_) => false,
+    }
+}
+
+// A wait writes the pending calls at the list's front. After any other answer the list keeps its contents.
+pub fn tell(objects: &[u64], calls: &mut [u64], answer: Answer)
+    requires { ⌜ (length (now objects) ≡ objects-length) × (object-limit ≤ length (now calls)) ⌝ }
+    ensures { λ _. ⌜ now (calls .exit) ≡ written (answer-of (now (objects .entry)) answer) (now (calls .entry)) ⌝ }
+{
+    if is_wait(answer) {
+        pending_call_ids(objects, calls);
+    }
+}

@@ -1,0 +1,84 @@
+-- The ways through a read, in the shape of what the code knows there.
+use mathlib.Core.Path.{_≡_, refl, sym, ap, _∙_}
+use mathlib.Core.Bool.{Bool, true, false}
+use mathlib.Core.List.{List, [], _∷_}
+use mathlib.Core.Option.{Option}
+use Prim.Native.Nat.{ℕ, zero, suc, _+_, _≤_, _<_}
+use lib.Dec.{leb}
+use lib.ListN.{length}
+use borrow.Author.Tests.{le-leb, lt-leb}
+use Rattle.asyncio.specs.declared.Value.{Value}
+use Rattle.asyncio.specs.declared.Object.{Object}
+use Rattle.asyncio.specs.declared.Header.{Header}
+use Rattle.rows.specs.Tables.{object-at, header-at, place-at}
+use Rattle.queue.specs.declared.ReadyQueue.{ReadyQueue}
+use Rattle.machine.specs.Store.{Store, Happening, store-of, place, object, header, forget}
+use Rattle.machine.specs.Scheduler.{bit}
+use Rattle.machine.specs.Sound.{sound}
+use Rattle.machine.specs.Machine as machine
+use Rattle.machine.specs.Machine.{Event, Step, first-refusal, refusals, unmade, accept, step, slot-value, show-places, shown, can-await-eagerly}
+use Rattle.machine.specs.Lent.{slices-right, lent-read}
+use Rattle.exec_switch.specs.declared.answer.Answer.{Answer}
+use Rattle.step_checks.specs.Checked.{checked}
+use Rattle.step_checks.specs.CheckedLaws.{met, unmet, none-met, refuses, accepts}
+use Rattle.step_checks.specs.Lent.{are-slices}
+use Rattle.step_checks.specs.LentLaws.{step-checked, step-unsound}
+use Rattle.step_read.specs.Reads.{places-from}
+
+-- the places that the machine shows
+pub shows-places : (s : Store) (f m : ℕ) (n i : ℕ) → places-from (s .places) f m i n ≡ show-places s f m i n
+unfolding places-from show-places place
+shows-places s f m zero i = refl
+shows-places s f m (suc n) i = ap (λ (xs : List (Option Value)). slot-value (bit m i) (place-at (s .places) (f + i) .result) ∷ xs) (shows-places s f m n (i + 1))
+
+module _ (ts os ps : List ℕ) (q : ReadyQueue) (l : List Happening) (e : Event) {b : Bool} (g : b ≡ are-slices (length ts) (length os) (length ps)) where
+  abbrev given : Store
+  given = store-of ts os ps q l
+
+  abbrev clean : Store
+  clean = store-of ts os ps q []
+
+  pub read-length : b ≡ false → machine.Answer.refused 1 ≡ lent-read given e .answer
+  unfolding lent-read slices-right
+  read-length i = rw (sym g ∙ i)
+
+  module _ (i : b ≡ true) {u : Bool} (h : u ≡ sound given) where
+    reads : lent-read given e ≡ step given e
+    unfolding lent-read slices-right
+    reads = rw (sym g ∙ i)
+
+    pub read-unsound : u ≡ false → machine.Answer.refused 2 ≡ lent-read given e .answer
+    read-unsound k = sym (ap (λ (x : Step). x .answer) (reads ∙ step-unsound given e (sym h ∙ k)))
+
+    read-checked : u ≡ true → lent-read given e ≡ checked clean e
+    read-checked k =
+        let f : forget given ≡ clean = unfold forget in refl in
+        reads ∙ step-checked given e (sym h ∙ k) ∙ ap (λ (z : Store). checked z e) f
+
+    pub read-refused : u ≡ true → (n : ℕ) → first-refusal (refusals clean e) ≡ suc n → machine.Answer.refused (suc n) ≡ lent-read given e .answer
+    read-refused k n r = ap (λ (x : Step). x .answer) (refuses clean e n r) ∙ sym (ap (λ (x : Step). x .answer) (read-checked k))
+
+    pub read-done : u ≡ true → first-refusal (refusals clean e) ≡ 0 → accept clean e .answer ≡ lent-read given e .answer
+    read-done k r = sym (ap (λ (x : Step). x .answer) (read-checked k ∙ accepts clean e r))
+
+module _ (ts os ps : List ℕ) (q : ReadyQueue) (o : ℕ) {v : Header} (g : v ≡ header-at os) where
+  pub show-unmade : v .made ≤ o → first-refusal (refusals (store-of ts os ps q []) (Event.show o)) ≡ 5
+  unfolding refusals unmade header
+  show-unmade i = let k : header-at os .made ≤ o = rw g at i in met 5 (leb (header-at os .made) o) [] (le-leb (header-at os .made) o k)
+
+  pub show-made : o < v .made → first-refusal (refusals (store-of ts os ps q []) (Event.show o)) ≡ 0
+  unfolding refusals unmade header
+  show-made i = let k : o < header-at os .made = rw g at i in unmet 5 (leb (header-at os .made) o) [] (lt-leb (header-at os .made) o k) ∙ none-met
+
+pub show-gives : (ts os ps : List ℕ) (q : ReadyQueue) (o : ℕ) {x : Object} → x ≡ object-at os o → {y : machine.Shown} → y ≡ shown (store-of ts os ps q []) x
+    → machine.Answer.shows y ≡ accept (store-of ts os ps q []) (Event.show o) .answer
+unfolding accept object
+show-gives ts os ps q o e r = rw (← e, ← r)
+
+pub eager-passes : (s : Store) → first-refusal (refusals s Event.eager) ≡ 0
+unfolding refusals
+eager-passes s = none-met
+
+pub eager-gives : (s : Store) {b : Bool} → b ≡ can-await-eagerly s → machine.Answer.is-eager b ≡ accept s Event.eager .answer
+unfolding accept
+eager-gives s e = rw e
