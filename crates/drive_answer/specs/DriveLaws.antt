@@ -6,7 +6,7 @@ use Prim.Native.Nat.{ℕ, _+_, _-_, _*_}
 use native.Mathlib.Omega.{arith}
 use lib.ListN.{take, drop}
 use Rattle.queue.specs.declared.ReadyQueue.{ReadyQueue}
-use Rattle.machine.specs.Store.{Store, Happening, store-of}
+use Rattle.machine.specs.Store.{Store, LogEntry, store-of}
 use Rattle.machine.specs.Machine as machine
 use Rattle.machine.specs.Lent.{Lent, lent-step, lent-read}
 use Rattle.exec_switch.specs.Answer.{answer-of}
@@ -45,7 +45,7 @@ event-drove u l e next number a {ts} {os} {ps} {cs} {q} h w = record {
 }
 
 -- A read of an object.
-pub show-drove : (ts os ps : List ℕ) (q : ReadyQueue) (k : List Happening) (l : List ℕ) (o next number : ℕ) (r : Reading) {x y : Out}
+pub show-drove : (ts os ps : List ℕ) (q : ReadyQueue) (k : List LogEntry) (l : List ℕ) (o next number : ℕ) (r : Reading) {x y : Out}
     → show-answer ps r ≡ lent-read (store-of ts os ps q k) (machine.Event.show o) .answer
     → Wrote (75 + 27 * reading-count r) x y (line number (show-answer ps r))
     → Drove ts os ps q l next true x y (answered (store-of ts os ps q k) l next number (Asked.read (machine.Event.show o)))
@@ -59,7 +59,7 @@ show-drove ts os ps q k l o next number r h w = record {
 }
 
 -- The read `eager`.
-pub eager-drove : (ts os ps : List ℕ) (q : ReadyQueue) (k : List Happening) (l : List ℕ) (next number : ℕ) (a : Answer) {x y : Out}
+pub eager-drove : (ts os ps : List ℕ) (q : ReadyQueue) (k : List LogEntry) (l : List ℕ) (next number : ℕ) (a : Answer) {x y : Out}
     → answer-of os a ≡ lent-read (store-of ts os ps q k) machine.Event.eager .answer
     → Wrote line-limit x y (line number (heard os l a))
     → Drove ts os ps q l next true x y (answered (store-of ts os ps q k) l next number (Asked.read machine.Event.eager))
@@ -73,7 +73,7 @@ eager-drove ts os ps q k l next number a h w = record {
 }
 
 -- Refusal 11.
-pub refused-drove : (ts os ps : List ℕ) (q : ReadyQueue) (k : List Happening) (l : List ℕ) (next number : ℕ) {x y : Out}
+pub refused-drove : (ts os ps : List ℕ) (q : ReadyQueue) (k : List LogEntry) (l : List ℕ) (next number : ℕ) {x y : Out}
     → Wrote 50 x y (line number (machine.Answer.refused 11))
     → Drove ts os ps q l next false x y (refused-11 (store-of ts os ps q k) l next number)
 unfolding refused-11
@@ -136,14 +136,14 @@ asks-inside src from {r} e h = rw h (inside src from r e)
 -- ---- one record
 
 -- the end of the input
-pub end-drove : (ts os ps : List ℕ) (q : ReadyQueue) (k : List Happening) (l src : List ℕ) (from number : ℕ) {x : Out}
+pub end-drove : (ts os ps : List ℕ) (q : ReadyQueue) (k : List LogEntry) (l src : List ℕ) (from number : ℕ) {x : Out}
     → parse src from ≡ Parsed.End
     → Drove ts os ps q l from false x x (drive-one (store-of ts os ps q k) l src from number)
 unfolding drive-one drive-by
 end-drove ts os ps q k l src from number e = rw e (record { store-is = refl; list-is = refl; next-is = refl; going-is = refl; wrote = at-most (omega arith) (wrote-none _) })
 
 -- no record
-pub none-drove : (ts os ps : List ℕ) (q : ReadyQueue) (k : List Happening) (l src : List ℕ) (from number : ℕ) {x y : Out}
+pub none-drove : (ts os ps : List ℕ) (q : ReadyQueue) (k : List LogEntry) (l src : List ℕ) (from number : ℕ) {x y : Out}
     → parse src from ≡ Parsed.Refused
     → Wrote 50 x y (line number (machine.Answer.refused 11))
     → Drove ts os ps q l from false x y (drive-one (store-of ts os ps q k) l src from number)

@@ -7,7 +7,7 @@ ghost use mathlib.Core.Bool.{true};
 ghost use mathlib.Core.List.{List, []};
 ghost use Prim.Native.Nat.{ℕ, _+_, _*_, _≤_};
 ghost use lib.ListN.{length, take, drop};
-ghost use Rattle.machine.specs.Store.{Happening, store-of};
+ghost use Rattle.machine.specs.Store.{LogEntry, store-of};
 ghost use Rattle.machine.specs.Sound.{sound};
 ghost use Rattle.machine.specs.Lent.{slices-right, lengths-right};
 ghost use Rattle.machine.specs.Machine as machine;
@@ -43,7 +43,7 @@ fn event_line(
     number: u64,
 ) -> Driven
     requires { ⌜ (lengths-right (store-of (now tasks) (now objects) (now places) queue []) (now calls) ≡ true) × (sound (store-of (now tasks) (now objects) (now places) queue []) ≡ true) ⌝ }
-    ensures { λ r. ⌜ ((l : List Happening) → Drove (now (tasks .exit)) (now (objects .exit)) (now (places .exit)) (r .queue) (now (calls .exit)) (r .next) (r .going) (out-of (now (out .entry)) at) (out-of (now (out .exit)) (r .at)) (answered (store-of (now (tasks .entry)) (now (objects .entry)) (now (places .entry)) queue l) (now (calls .entry)) next number (Asked.event (event-of (now (items .entry)) (now (results .entry)) event)))) ⌝ }
+    ensures { λ r. ⌜ ((l : List LogEntry) → Drove (now (tasks .exit)) (now (objects .exit)) (now (places .exit)) (r .queue) (now (calls .exit)) (r .next) (r .going) (out-of (now (out .entry)) at) (out-of (now (out .exit)) (r .at)) (answered (store-of (now (tasks .entry)) (now (objects .entry)) (now (places .entry)) queue l) (now (calls .entry)) next number (Asked.event (event-of (now (items .entry)) (now (results .entry)) event)))) ⌝ }
 {
     let stepped = step_event::step(tasks, objects, places, calls, queue, event, items, results);
     let q = stepped.queue;
@@ -73,7 +73,7 @@ fn gather_line(
     number: u64,
 ) -> Driven
     requires { ⌜ (lengths-right (store-of (now tasks) (now objects) (now places) queue []) (now calls) ≡ true) × (sound (store-of (now tasks) (now objects) (now places) queue []) ≡ true) ⌝ }
-    ensures { λ r. ⌜ ((l : List Happening) → Drove (now (tasks .exit)) (now (objects .exit)) (now (places .exit)) (r .queue) (now (calls .exit)) (r .next) (r .going) (out-of (now (out .entry)) at) (out-of (now (out .exit)) (r .at)) (answered (store-of (now (tasks .entry)) (now (objects .entry)) (now (places .entry)) queue l) (now (calls .entry)) next number (Asked.event (machine.Event.gather (items-at (now (src .entry)) first count))))) ⌝ }
+    ensures { λ r. ⌜ ((l : List LogEntry) → Drove (now (tasks .exit)) (now (objects .exit)) (now (places .exit)) (r .queue) (now (calls .exit)) (r .next) (r .going) (out-of (now (out .entry)) at) (out-of (now (out .exit)) (r .at)) (answered (store-of (now (tasks .entry)) (now (objects .entry)) (now (places .entry)) queue l) (now (calls .entry)) next number (Asked.event (machine.Event.gather (items-at (now (src .entry)) first count))))) ⌝ }
 {
     let mut items: [u16; 255] = [0; 255];
     let n = count as usize;
@@ -110,7 +110,7 @@ fn results_line(
     number: u64,
 ) -> Driven
     requires { ⌜ (lengths-right (store-of (now tasks) (now objects) (now places) queue []) (now calls) ≡ true) × (sound (store-of (now tasks) (now objects) (now places) queue []) ≡ true) × (first + count * 14 ≤ length (now src)) ⌝ }
-    ensures { λ r. ⌜ ((l : List Happening) → Drove (now (tasks .exit)) (now (objects .exit)) (now (places .exit)) (r .queue) (now (calls .exit)) (r .next) (r .going) (out-of (now (out .entry)) at) (out-of (now (out .exit)) (r .at)) (answered (store-of (now (tasks .entry)) (now (objects .entry)) (now (places .entry)) queue l) (now (calls .entry)) next number (Asked.event (machine.Event.results (results-in (take (count * 14) (drop first (now (src .entry))))))))) ⌝ }
+    ensures { λ r. ⌜ ((l : List LogEntry) → Drove (now (tasks .exit)) (now (objects .exit)) (now (places .exit)) (r .queue) (now (calls .exit)) (r .next) (r .going) (out-of (now (out .entry)) at) (out-of (now (out .exit)) (r .at)) (answered (store-of (now (tasks .entry)) (now (objects .entry)) (now (places .entry)) queue l) (now (calls .entry)) next number (Asked.event (machine.Event.results (results-in (take (count * 14) (drop first (now (src .entry))))))))) ⌝ }
 {
     let items: [u16; 1] = [0; 1];
     let n = (count as usize) * 14;
@@ -143,7 +143,7 @@ fn show_line(
     number: u64,
 ) -> Driven
     requires { ⌜ (slices-right (store-of (now tasks) (now objects) (now places) queue []) ≡ true) × (sound (store-of (now tasks) (now objects) (now places) queue []) ≡ true) ⌝ }
-    ensures { λ r. ⌜ ((cs : List ℕ) (l : List Happening) → Drove (now (tasks .entry)) (now (objects .entry)) (now (places .entry)) (r .queue) cs (r .next) (r .going) (out-of (now (out .entry)) at) (out-of (now (out .exit)) (r .at)) (answered (store-of (now (tasks .entry)) (now (objects .entry)) (now (places .entry)) queue l) cs next number (Asked.read (machine.Event.show o)))) ⌝ }
+    ensures { λ r. ⌜ ((cs : List ℕ) (l : List LogEntry) → Drove (now (tasks .entry)) (now (objects .entry)) (now (places .entry)) (r .queue) cs (r .next) (r .going) (out-of (now (out .entry)) at) (out-of (now (out .exit)) (r .at)) (answered (store-of (now (tasks .entry)) (now (objects .entry)) (now (places .entry)) queue l) cs next number (Asked.read (machine.Event.show o)))) ⌝ }
 {
     let reading = step_read::show_sound(objects, o);
     let end = drive_shows::shows::write_reading(out, at, number, reading, places);
@@ -168,7 +168,7 @@ fn eager_line(
     number: u64,
 ) -> Driven
     requires { ⌜ (slices-right (store-of (now tasks) (now objects) (now places) queue []) ≡ true) × (sound (store-of (now tasks) (now objects) (now places) queue []) ≡ true) ⌝ }
-    ensures { λ r. ⌜ ((l : List Happening) → Drove (now (tasks .entry)) (now (objects .entry)) (now (places .entry)) (r .queue) (now (calls .entry)) (r .next) (r .going) (out-of (now (out .entry)) at) (out-of (now (out .exit)) (r .at)) (answered (store-of (now (tasks .entry)) (now (objects .entry)) (now (places .entry)) queue l) (now (calls .entry)) next number (Asked.read machine.Event.eager))) ⌝ }
+    ensures { λ r. ⌜ ((l : List LogEntry) → Drove (now (tasks .entry)) (now (objects .entry)) (now (places .entry)) (r .queue) (now (calls .entry)) (r .next) (r .going) (out-of (now (out .entry)) at) (out-of (now (out .exit)) (r .at)) (answered (store-of (now (tasks .entry)) (now (objects .entry)) (now (places .entry)) queue l) (now (calls .entry)) next number (Asked.read machine.Event.eager))) ⌝ }
 {
     let answer = step_read::eager_sound(objects, queue);
     let end = drive_lines::answers::write_line(out, at, number, answer, objects, calls);
@@ -182,7 +182,7 @@ fn eager_line(
 
 // Cancel is refused as an unknown kind is, until the library takes it.
 fn cancel_line(queue: ReadyQueue, next: usize, out: &mut [u8], at: usize, number: u64) -> Driven
-    ensures { λ r. ⌜ ((ts os ps cs : List ℕ) (l : List Happening) → Drove ts os ps (r .queue) cs (r .next) (r .going) (out-of (now (out .entry)) at) (out-of (now (out .exit)) (r .at)) (refused-11 (store-of ts os ps queue l) cs next number)) ⌝ }
+    ensures { λ r. ⌜ ((ts os ps cs : List ℕ) (l : List LogEntry) → Drove ts os ps (r .queue) cs (r .next) (r .going) (out-of (now (out .entry)) at) (out-of (now (out .exit)) (r .at)) (refused-11 (store-of ts os ps queue l) cs next number)) ⌝ }
 {
     let end = drive_lines::answers::write_refused(out, at, number, 11);
     Driven {
@@ -208,7 +208,7 @@ pub fn answered(
     number: u64,
 ) -> Driven
     requires { ⌜ (lengths-right (store-of (now tasks) (now objects) (now places) queue []) (now calls) ≡ true) × (sound (store-of (now tasks) (now objects) (now places) queue []) ≡ true) × InInput (now src) asks ⌝ }
-    ensures { λ r. ⌜ ((l : List Happening) → Drove (now (tasks .exit)) (now (objects .exit)) (now (places .exit)) (r .queue) (now (calls .exit)) (r .next) (r .going) (out-of (now (out .entry)) at) (out-of (now (out .exit)) (r .at)) (answered (store-of (now (tasks .entry)) (now (objects .entry)) (now (places .entry)) queue l) (now (calls .entry)) next number (asked-of (now (src .entry)) asks))) ⌝ }
+    ensures { λ r. ⌜ ((l : List LogEntry) → Drove (now (tasks .exit)) (now (objects .exit)) (now (places .exit)) (r .queue) (now (calls .exit)) (r .next) (r .going) (out-of (now (out .entry)) at) (out-of (now (out .exit)) (r .at)) (answered (store-of (now (tasks .entry)) (now (objects .entry)) (now (places .entry)) queue l) (now (calls .entry)) next number (asked-of (now (src .entry)) asks))) ⌝ }
 {
     match asks {
         Asks::Event(event) => {

@@ -8,16 +8,16 @@ use lib.ListN.{length}
 use borrow.Author.Tests.{eq-eqb, le-leb}
 use Rattle.asyncio.specs.Limits.{object-limit, tasks-length, objects-length, places-length}
 use Rattle.queue.specs.declared.ReadyQueue.{ReadyQueue}
-use Rattle.machine.specs.Store.{Store, Happening, store-of, forget, fresh}
+use Rattle.machine.specs.Store.{Store, LogEntry, store-of, forget, fresh}
 use Rattle.machine.specs.Sound.{sound}
 use Rattle.machine.specs.Machine.{Event, Step, step}
 use Rattle.machine.specs.Machine as machine
 use Rattle.machine.specs.Lent.{slices-right, lengths-right, lent-by, lent-step, lent-begin}
 use Rattle.machine_laws.specs.Views.{Sized}
 use Rattle.machine_laws.specs.TestLaws.{is-true}
-use Rattle.machine_theorems.specs.Soundness.Stores.{Whole, whole-sound}
+use Rattle.machine_theorems.specs.Soundness.Stores.{SoundStore, sound-store-sound}
 use Rattle.machine_theorems.specs.Soundness.Preserved.{InRange}
-use Rattle.machine_theorems.specs.Soundness.Sessions.{forget-whole, step-whole, fresh-whole}
+use Rattle.machine_theorems.specs.Soundness.Sessions.{forget-sound-store, step-sound-store, fresh-sound-store}
 use Rattle.exec_switch.specs.Answer.{stepped-of}
 use Rattle.exec_switch.specs.declared.answer.Answer.{Answer}
 use Rattle.drive_text.specs.Out.{Out}
@@ -30,13 +30,13 @@ use Rattle.drive_answer.specs.Drove.{Drove, RecordFits, ParsedFits}
 -- ---- one record
 
 -- an event on lent memory: the machine's, or the store as it was
-lent-whole : (s : Store) (l : List ℕ) (e : Event) → Whole s → InRange e → Whole (lent-step s l e .store)
+lent-sound-store : (s : Store) (l : List ℕ) (e : Event) → SoundStore s → InRange e → SoundStore (lent-step s l e .store)
 unfolding lent-step lent-by
-lent-whole s l e h i = by (lengths-right s l)
+lent-sound-store s l e h i = by (lengths-right s l)
   where
-    by : (b : Bool) → Whole (lent-by b s l e .store)
+    by : (b : Bool) → SoundStore (lent-by b s l e .store)
     by false = h
-    by true = step-whole s h e i
+    by true = step-sound-store s h e i
 
 -- what is asked is in range
 abbrev AskedFits : Asked → Type 0
@@ -60,21 +60,21 @@ asked-fits src (Record.Cancel t) i = tt
 asked-fits src (Record.Show o) i = tt
 asked-fits src Record.Eager i = tt
 
-answered-whole : (s : Store) (l : List ℕ) (next number : ℕ) (a : Asked) → Whole s → AskedFits a → Whole (answered s l next number a .store)
+answered-sound-store : (s : Store) (l : List ℕ) (next number : ℕ) (a : Asked) → SoundStore s → AskedFits a → SoundStore (answered s l next number a .store)
 unfolding answered refused-11
-answered-whole s l next number (Asked.event e) h i = lent-whole s l e h i
-answered-whole s l next number (Asked.read e) h i = h
-answered-whole s l next number Asked.cancel h i = h
+answered-sound-store s l next number (Asked.event e) h i = lent-sound-store s l e h i
+answered-sound-store s l next number (Asked.read e) h i = h
+answered-sound-store s l next number Asked.cancel h i = h
 
 -- A record leaves a sound store sound.
-pub drives-whole : (s : Store) (l src : List ℕ) (from number : ℕ) → Whole s → ParsedFits (parse src from) → Whole (drive-one s l src from number .store)
+pub drives-sound-store : (s : Store) (l src : List ℕ) (from number : ℕ) → SoundStore s → ParsedFits (parse src from) → SoundStore (drive-one s l src from number .store)
 unfolding drive-one drive-by refused-11
-drives-whole s l src from number h i = by (parse src from) i
+drives-sound-store s l src from number h i = by (parse src from) i
   where
-    by : (p : Parsed) → ParsedFits p → Whole (drive-by s l src from number p .store)
+    by : (p : Parsed) → ParsedFits p → SoundStore (drive-by s l src from number p .store)
     by Parsed.End j = h
     by Parsed.Refused j = h
-    by (Parsed.Record r next) j = answered-whole s l next number (asked src r) h (asked-fits src r j)
+    by (Parsed.Record r next) j = answered-sound-store s l next number (asked src r) h (asked-fits src r j)
 
 -- ---- what the code has, which has no log
 
@@ -93,28 +93,28 @@ begins-fresh s i = rw i
 
 module _ {ts os ps : List ℕ} {q : ReadyQueue} where
   -- with another log
-  unlogged : (s : Store) → Whole s → store-of ts os ps q (s .log) ≡ s → Whole (store-of ts os ps q [])
+  unlogged : (s : Store) → SoundStore s → store-of ts os ps q (s .log) ≡ s → SoundStore (store-of ts os ps q [])
   unlogged s h e =
       let f : forget (store-of ts os ps q (s .log)) ≡ store-of ts os ps q [] = unfold forget in refl in
-      subst Whole (ap forget (sym e) ∙ f) (forget-whole s h)
+      subst SoundStore (ap forget (sym e) ∙ f) (forget-sound-store s h)
 
   -- after a record
-  pub record-whole : (s : Store) (l src : List ℕ) (from number : ℕ) {cs : List ℕ} {next : ℕ} {going : Bool} {x y : Out} → Whole s → ParsedFits (parse src from)
-      → Drove ts os ps q cs next going x y (drive-one s l src from number) → Whole (store-of ts os ps q [])
-  record-whole s l src from number h i d = unlogged (drive-one s l src from number .store) (drives-whole s l src from number h i) (d .store-is)
+  pub record-sound-store : (s : Store) (l src : List ℕ) (from number : ℕ) {cs : List ℕ} {next : ℕ} {going : Bool} {x y : Out} → SoundStore s → ParsedFits (parse src from)
+      → Drove ts os ps q cs next going x y (drive-one s l src from number) → SoundStore (store-of ts os ps q [])
+  record-sound-store s l src from number h i d = unlogged (drive-one s l src from number .store) (drives-sound-store s l src from number h i) (d .store-is)
 
   -- at the beginning
-  pub begun-whole : (s : Store) (a : Answer) → length (s .tasks) ≡ tasks-length → length (s .objects) ≡ objects-length → length (s .places) ≡ places-length
-      → stepped-of (store-of ts os ps q (lent-begin s .store .log)) a ≡ lent-begin s → Whole (store-of ts os ps q [])
-  begun-whole s a t o p e =
+  pub begun-sound-store : (s : Store) (a : Answer) → length (s .tasks) ≡ tasks-length → length (s .objects) ≡ objects-length → length (s .places) ≡ places-length
+      → stepped-of (store-of ts os ps q (lent-begin s .store .log)) a ≡ lent-begin s → SoundStore (store-of ts os ps q [])
+  begun-sound-store s a t o p e =
       let b : lent-begin s .store ≡ fresh = begins-fresh s (sized-right s (record { tasks-sized = t; objects-sized = o; places-sized = p })) in
-      unlogged (lent-begin s .store) (subst Whole (sym b) fresh-whole) (ap (λ (x : Step). x .store) e)
+      unlogged (lent-begin s .store) (subst SoundStore (sym b) fresh-sound-store) (ap (λ (x : Step). x .store) e)
 
   -- The lengths, and soundness, as the code asks them.
-  module _ (h : Whole (store-of ts os ps q [])) where
-    pub whole-right : (cs : List ℕ) → object-limit ≤ length cs → lengths-right (store-of ts os ps q []) cs ≡ true
+  module _ (h : SoundStore (store-of ts os ps q [])) where
+    pub sound-store-right : (cs : List ℕ) → object-limit ≤ length cs → lengths-right (store-of ts os ps q []) cs ≡ true
     unfolding lengths-right
-    whole-right cs i = rw (sized-right (store-of ts os ps q []) (h .memory .sized), le-leb object-limit (length cs) i)
+    sound-store-right cs i = rw (sized-right (store-of ts os ps q []) (h .memory .sized), le-leb object-limit (length cs) i)
 
-    pub whole-is-sound : sound (store-of ts os ps q []) ≡ true
-    whole-is-sound = is-true _ (whole-sound (store-of ts os ps q []) h)
+    pub sound-store-is-sound : sound (store-of ts os ps q []) ≡ true
+    sound-store-is-sound = is-true _ (sound-store-sound (store-of ts os ps q []) h)

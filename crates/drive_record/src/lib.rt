@@ -6,7 +6,7 @@ use queue::ReadyQueue;
 ghost use mathlib.Core.Path.{_≡_};
 ghost use mathlib.Core.Bool.{true};
 ghost use mathlib.Core.List.{List, []};
-ghost use Rattle.machine.specs.Store.{Happening, store-of};
+ghost use Rattle.machine.specs.Store.{LogEntry, store-of};
 ghost use Rattle.machine.specs.Sound.{sound};
 ghost use Rattle.machine.specs.Lent.{lengths-right};
 ghost use Rattle.drive_reader.specs.Format.{parse};
@@ -29,7 +29,7 @@ pub fn drive_record(
     number: u64,
 ) -> Driven
     requires { ⌜ (lengths-right (store-of (now tasks) (now objects) (now places) queue []) (now calls) ≡ true) × (sound (store-of (now tasks) (now objects) (now places) queue []) ≡ true) ⌝ }
-    ensures { λ r. ⌜ (((l : List Happening) → Drove (now (tasks .exit)) (now (objects .exit)) (now (places .exit)) (r .queue) (now (calls .exit)) (r .next) (r .going) (out-of (now (out .entry)) at) (out-of (now (out .exit)) (r .at)) (drive-one (store-of (now (tasks .entry)) (now (objects .entry)) (now (places .entry)) queue l) (now (calls .entry)) (now (src .entry)) from number)) × ParsedFits (parse (now (src .entry)) from)) ⌝ }
+    ensures { λ r. ⌜ (((l : List LogEntry) → Drove (now (tasks .exit)) (now (objects .exit)) (now (places .exit)) (r .queue) (now (calls .exit)) (r .next) (r .going) (out-of (now (out .entry)) at) (out-of (now (out .exit)) (r .at)) (drive-one (store-of (now (tasks .entry)) (now (objects .entry)) (now (places .entry)) queue l) (now (calls .entry)) (now (src .entry)) from number)) × ParsedFits (parse (now (src .entry)) from)) ⌝ }
 {
     match drive_reader::parse_record(src, from) {
         Parsed::End => Driven {

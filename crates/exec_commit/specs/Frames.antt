@@ -5,7 +5,7 @@ use Prim.Native.Nat.{ℕ, zero, suc, _<_}
 use lib.ListN.{getD}
 use Rattle.asyncio.specs.Limits.{object-limit}
 use Rattle.queue.specs.declared.ReadyQueue.{ReadyQueue}
-use Rattle.machine.specs.Store.{Store, Happening, store-of}
+use Rattle.machine.specs.Store.{Store, LogEntry, store-of}
 use Rattle.machine.specs.Commit.{Poll, Frame, Committed}
 use Rattle.machine_laws.specs.Statements.{commit-rest}
 use Rattle.exec_commit.specs.Steps.{frame}
@@ -36,8 +36,8 @@ told r = record { store = r .store; poll = r .poll; steps = r .steps }
 
 -- a commit that began as M goes on from frame f, with the frames fs below it, after n steps: for what had happened then there is what
 -- has happened now, and there are the two counts that no code has
-pub record GoesOn (M : List Happening → Committed) (ts os ps : List ℕ) (q : ReadyQueue) (f : Frame) (fs : List Frame) (n : ℕ) : Type 0 where
-  pub log : List Happening → List Happening
+pub record GoesOn (M : List LogEntry → Committed) (ts os ps : List ℕ) (q : ReadyQueue) (f : Frame) (fs : List Frame) (n : ℕ) : Type 0 where
+  pub log : List LogEntry → List LogEntry
   pub opened : ℕ
   pub settled : ℕ
-  pub goes-on : (l : List Happening) → commit-rest (store-of ts os ps q (log l)) f fs n opened settled ≡ M l
+  pub goes-on : (l : List LogEntry) → commit-rest (store-of ts os ps q (log l)) f fs n opened settled ≡ M l

@@ -11,7 +11,7 @@ use Rattle.asyncio.specs.declared.GatherState.{GatherState}
 use Rattle.asyncio.specs.declared.Object.{Object}
 use Rattle.rows.specs.Tables.{object-at, object-put}
 use Rattle.queue.specs.declared.ReadyQueue.{ReadyQueue}
-use Rattle.machine.specs.Store.{Happening, store-of, object, put-object}
+use Rattle.machine.specs.Store.{LogEntry, store-of, object, put-object}
 use Rattle.machine.specs.Scheduler.{as-awaited}
 use Rattle.machine.specs.Commit.{ready, pending, gives, open-place, fill-place, with-state, set-gather, settle-as, settle-gather-commit, resume-in, resume-as, resume-after-child, unwind}
 use Rattle.exec_poll.specs.Polls.{poll-of, awaited-of, option-awaited}
@@ -21,12 +21,12 @@ use Rattle.exec_poll.specs.declared.awaited.AwaitedGather.{AwaitedGather}
 use Rattle.exec_poll.specs.declared.awaited.OptionAwaited.{OptionAwaited}
 use Rattle.exec_poll.specs.declared.item.Poll.{Poll}
 
-pub gather-set : (ts os ps : List ℕ) (q : ReadyQueue) (l : List Happening) (g : ℕ) (y : GatherState) {o x : Object} {us : List ℕ}
+pub gather-set : (ts os ps : List ℕ) (q : ReadyQueue) (l : List LogEntry) (g : ℕ) (y : GatherState) {o x : Object} {us : List ℕ}
     → o ≡ object-at os g → x ≡ with-state o y → us ≡ object-put os g x → store-of ts us ps q l ≡ set-gather (store-of ts os ps q l) g y
 unfolding set-gather put-object object
 gather-set ts os ps q l g y e f p = rw (p, f, e)
 
-module _ (ts os ps : List ℕ) (q : ReadyQueue) (l : List Happening) (g : ℕ) (a : OptionAwaited) (e : option-awaited a ≡ as-awaited (object-at os g)) where
+module _ (ts os ps : List ℕ) (q : ReadyQueue) (l : List LogEntry) (g : ℕ) (a : OptionAwaited) (e : option-awaited a ≡ as-awaited (object-at os g)) where
   -- ---- settling
 
   pub settle-none : a ≡ OptionAwaited.None → gives (store-of ts os ps q l) pending ≡ settle-gather-commit (store-of ts os ps q l) g
@@ -68,7 +68,7 @@ module _ (ts os ps : List ℕ) (q : ReadyQueue) (l : List Happening) (g : ℕ) (
 
 -- ---- unwinding
 
-module _ (ts os ps : List ℕ) (q : ReadyQueue) (l : List Happening) (gs ns : List ℕ) (x : Error) where
+module _ (ts os ps : List ℕ) (q : ReadyQueue) (l : List LogEntry) (gs ns : List ℕ) (x : Error) where
   -- the innermost gather
   pub unwind-begins : (g n d : ℕ) {us : List ℕ} → store-of ts us ps q l ≡ set-gather (store-of ts os ps q l) g (GatherState.Failed x)
       → unwind (store-of ts us ps q l) (below gs ns d) x ≡ unwind (store-of ts os ps q l) (frame g n ∷ below gs ns d) x

@@ -17,7 +17,7 @@ use Rattle.asyncio.specs.declared.Object.{Object}
 use Rattle.rows.specs.Tables.{object-at, object-put, place-at, place-put}
 use Rattle.rows.specs.TableLaws.{place-at-fits}
 use Rattle.queue.specs.declared.ReadyQueue.{ReadyQueue}
-use Rattle.machine.specs.Store.{Store, Happening, store-of, object, put-object, place, put-place}
+use Rattle.machine.specs.Store.{Store, LogEntry, store-of, object, put-object, place, put-place}
 use Rattle.machine.specs.Scheduler.{as-awaited}
 use Rattle.machine.specs.Commit.{gives, polled, nested, item, open-place, fill-place, at-end, at-error, put-polled, put-item, step-item, step-items, step-gather-commit}
 use Rattle.machine.specs.Commit as machine
@@ -35,7 +35,7 @@ use Rattle.exec_commit.specs.declared.step.Stop.{Stop}
 
 -- ---- a place is opened or filled
 
-module _ (ts os ps : List ℕ) (q : ReadyQueue) (l : List Happening) (w : AwaitedGather) (i : ℕ) where
+module _ (ts os ps : List ℕ) (q : ReadyQueue) (l : List LogEntry) (w : AwaitedGather) (i : ℕ) where
   pub place-opened : (g : ℕ) {m : ℕ} → m ≡ with-bit (w .waiting) i
       → {us : List ℕ} → us ≡ object-put os g (Object.GatherFuture (w .first) (w .count) (GatherState.Awaited (w .awaiter) m))
       → store-of ts us ps q l ≡ open-place (store-of ts os ps q l) g (awaited-of w) i
@@ -106,13 +106,13 @@ stepped-log s i Step.End = refl
 stepped-log s i (Step.Nested o) = refl
 stepped-log s i (Step.Raised e) = refl
 
-own-step : (us vs rs : List ℕ) (r : ReadyQueue) (k : List Happening) (i : ℕ) (x : Step) (m : Goes → machine.Stop)
+own-step : (us vs rs : List ℕ) (r : ReadyQueue) (k : List LogEntry) (i : ℕ) (x : Step) (m : Goes → machine.Stop)
     → ((go : Goes) → stepped (store-of us vs rs r k) i x go ≡ m go) → (go : Goes) → stepped (store-of us vs rs r (stop-log (m at-end))) i x go ≡ m go
 own-step us vs rs r k i x m h go =
     let e : k ≡ stop-log (m at-end) = sym (stepped-log (store-of us vs rs r k) i x) ∙ ap stop-log (h at-end) in
     rw (← e) (h go)
 
-module _ (ts os ps : List ℕ) (q : ReadyQueue) (l : List Happening) (g i : ℕ) (a : OptionAwaited) (e : option-awaited a ≡ as-awaited (object-at os g)) where
+module _ (ts os ps : List ℕ) (q : ReadyQueue) (l : List LogEntry) (g i : ℕ) (a : OptionAwaited) (e : option-awaited a ≡ as-awaited (object-at os g)) where
   abbrev here : Store
   here = store-of ts os ps q l
 
@@ -124,7 +124,7 @@ module _ (ts os ps : List ℕ) (q : ReadyQueue) (l : List Happening) (g i : ℕ)
   module _ (w : AwaitedGather) (f : a ≡ OptionAwaited.Some w) {o : HeapId} (n : o ≡ place-at ps (w .first + i) .item)
       {us vs : List ℕ} {r : ReadyQueue} (x : ItemPoll)
       (h : with-item (store-of us vs ps r (item-at here g (awaited-of w) (o .0) .store .log)) x ≡ item-at here g (awaited-of w) (o .0)) where
-    abbrev there : List Happening
+    abbrev there : List LogEntry
     there = item-at here g (awaited-of w) (o .0) .store .log
 
     -- a nested gather
@@ -137,7 +137,7 @@ module _ (ts os ps : List ℕ) (q : ReadyQueue) (l : List Happening) (g i : ℕ)
 
     -- what was polled is put into its place
     pub step-polled : (p : Poll) → x ≡ ItemPoll.Polled p → (vs′ rs : List ℕ) (y : Step)
-        → ((k : List Happening) (go : Goes) → stepped (store-of us vs′ rs r k) i y go ≡ put-polled g (awaited-of w) i (store-of us vs ps r k) (poll-of p) go)
+        → ((k : List LogEntry) (go : Goes) → stepped (store-of us vs′ rs r k) i y go ≡ put-polled g (awaited-of w) i (store-of us vs ps r k) (poll-of p) go)
         → (go : Goes) → stepped (store-of us vs′ rs r (stop-log (step-at here g i at-end))) i y go ≡ step-at here g i go
     unfolding step-item object place put-item
     step-polled p z vs′ rs y b =
@@ -154,7 +154,7 @@ stopped-log s Stop.End = refl
 stopped-log s (Stop.Nested i o) = refl
 stopped-log s (Stop.Raised e) = refl
 
-own-stop : (us vs rs : List ℕ) (r : ReadyQueue) (k : List Happening) (x : Stop) (m : machine.Stop) → stopped (store-of us vs rs r k) x ≡ m
+own-stop : (us vs rs : List ℕ) (r : ReadyQueue) (k : List LogEntry) (x : Stop) (m : machine.Stop) → stopped (store-of us vs rs r k) x ≡ m
     → stopped (store-of us vs rs r (stop-log m)) x ≡ m
 own-stop us vs rs r k x m h =
     let e : k ≡ stop-log m = sym (stopped-log (store-of us vs rs r k) x) ∙ ap stop-log h in
@@ -165,21 +165,21 @@ pub walk-begins : (ts os ps : List ℕ) (q : ReadyQueue) (g i : ℕ) {n : ℕ} �
 unfolding step-gather-commit object
 walk-begins ts os ps q g i e = record { log = λ l. l; walks-on = λ l. rw e }
 
-module _ (M : List Happening → machine.Stop) (ts os ps : List ℕ) (q : ReadyQueue) (g i n : ℕ) (c : WalksOn M ts os ps q g i n) where
+module _ (M : List LogEntry → machine.Stop) (ts os ps : List ℕ) (q : ReadyQueue) (g i n : ℕ) (c : WalksOn M ts os ps q g i n) where
   -- no item is left
-  pub walk-ends : n ≤ i → (l : List Happening) → stopped (store-of ts os ps q (stop-log (M l))) Stop.End ≡ M l
+  pub walk-ends : n ≤ i → (l : List LogEntry) → stopped (store-of ts os ps q (stop-log (M l))) Stop.End ≡ M l
   unfolding step-items stopped
   walk-ends h l =
       let k : n - i ≡ 0 = omega arith in
       own-stop ts os ps q (c .log l) Stop.End (M l) (rw k at (c .walks-on l))
 
   module _ (h : i < n) (us vs rs : List ℕ) (r : ReadyQueue) (x : Step)
-      (s : (l : List Happening) (go : Goes) → stepped (store-of us vs rs r (stop-log (step-at (store-of ts os ps q l) g i at-end))) i x go ≡ step-at (store-of ts os ps q l) g i go) where
-    abbrev log-now : List Happening → List Happening
+      (s : (l : List LogEntry) (go : Goes) → stepped (store-of us vs rs r (stop-log (step-at (store-of ts os ps q l) g i at-end))) i x go ≡ step-at (store-of ts os ps q l) g i go) where
+    abbrev log-now : List LogEntry → List LogEntry
     log-now l = stop-log (step-at (store-of ts os ps q (c .log l)) g i at-end)
 
     -- one item, then the rest
-    turns : (l : List Happening) → stepped (store-of us vs rs r (log-now l)) i x (λ y. step-items (n - (i + 1)) y g (i + 1)) ≡ M l
+    turns : (l : List LogEntry) → stepped (store-of us vs rs r (log-now l)) i x (λ y. step-items (n - (i + 1)) y g (i + 1)) ≡ M l
     unfolding step-items
     turns l =
         let k : n - i ≡ suc (n - (i + 1)) = omega arith in
@@ -189,22 +189,22 @@ module _ (M : List Happening → machine.Stop) (ts os ps : List ℕ) (q : ReadyQ
     unfolding stepped
     walk-turns e = record { log = log-now; walks-on = λ l. rw e at (turns l) }
 
-    pub walk-cut : x ≡ Step.End → (l : List Happening) → stopped (store-of us vs rs r (stop-log (M l))) Stop.End ≡ M l
+    pub walk-cut : x ≡ Step.End → (l : List LogEntry) → stopped (store-of us vs rs r (stop-log (M l))) Stop.End ≡ M l
     unfolding stepped stopped
     walk-cut e l = own-stop us vs rs r (log-now l) Stop.End (M l) (rw e at (turns l))
 
-    pub walk-nested : (o : HeapId) → x ≡ Step.Nested o → (l : List Happening) → stopped (store-of us vs rs r (stop-log (M l))) (Stop.Nested i o) ≡ M l
+    pub walk-nested : (o : HeapId) → x ≡ Step.Nested o → (l : List LogEntry) → stopped (store-of us vs rs r (stop-log (M l))) (Stop.Nested i o) ≡ M l
     unfolding stepped stopped
     walk-nested o e l = own-stop us vs rs r (log-now l) (Stop.Nested i o) (M l) (rw e at (turns l))
 
-    pub walk-raised : (y : Error) → x ≡ Step.Raised y → (l : List Happening) → stopped (store-of us vs rs r (stop-log (M l))) (Stop.Raised y) ≡ M l
+    pub walk-raised : (y : Error) → x ≡ Step.Raised y → (l : List LogEntry) → stopped (store-of us vs rs r (stop-log (M l))) (Stop.Raised y) ≡ M l
     unfolding stepped stopped
     walk-raised y e l = own-stop us vs rs r (log-now l) (Stop.Raised y) (M l) (rw e at (turns l))
 
 -- an item leaves its gather as many places
 pub walk-counts : (ts os ps : List ℕ) (q : ReadyQueue) (g i : ℕ) (us vs rs : List ℕ) (r : ReadyQueue) (x : Step)
     → length ts ≡ tasks-length → length os ≡ objects-length → length ps ≡ places-length → g < object-limit
-    → ((l : List Happening) (go : Goes) → stepped (store-of us vs rs r (stop-log (step-at (store-of ts os ps q l) g i at-end))) i x go ≡ step-at (store-of ts os ps q l) g i go)
+    → ((l : List LogEntry) (go : Goes) → stepped (store-of us vs rs r (stop-log (step-at (store-of ts os ps q l) g i at-end))) i x go ≡ step-at (store-of ts os ps q l) g i go)
     → x ≡ Step.Next → count-of (object-at vs g) ≡ count-of (object-at os g)
 unfolding StopKeeps object stepped
 walk-counts ts os ps q g i us vs rs r x a b d h s e =

@@ -4,7 +4,7 @@ use Prim.Native.Nat.{ℕ, _+_, _-_, _^_}
 use mathlib.Core.List.{List}
 use Rattle.asyncio.specs.States.{pick}
 use Rattle.queue.specs.declared.ReadyQueue.{ReadyQueue}
-use Rattle.machine.specs.Store.{Store, Happening, store-of, object}
+use Rattle.machine.specs.Store.{Store, LogEntry, store-of, object}
 use Rattle.machine.specs.Scheduler.{bit, as-awaited}
 use Rattle.machine.specs.Commit.{at-end, at-nested, at-error, step-item, step-items, Frame}
 use Rattle.machine.specs.Commit as machine
@@ -37,15 +37,15 @@ stopped s (Stop.Nested i o) = at-nested s i (o .0)
 stopped s (Stop.Raised e) = at-error s e
 
 -- what has happened where a walk stopped
-abbrev pub stop-log : machine.Stop → List Happening
+abbrev pub stop-log : machine.Stop → List LogEntry
 stop-log (at-end s) = s .log
 stop-log (at-nested s i o) = s .log
 stop-log (at-error s e) = s .log
 
 -- a walk that began as M goes on from place i of gather g, which has n places: for what had happened then there is what has happened now
-pub record WalksOn (M : List Happening → machine.Stop) (ts os ps : List ℕ) (q : ReadyQueue) (g i n : ℕ) : Type 0 where
-  pub log : List Happening → List Happening
-  pub walks-on : (l : List Happening) → step-items (n - i) (store-of ts os ps q (log l)) g i ≡ M l
+pub record WalksOn (M : List LogEntry → machine.Stop) (ts os ps : List ℕ) (q : ReadyQueue) (g i n : ℕ) : Type 0 where
+  pub log : List LogEntry → List LogEntry
+  pub walks-on : (l : List LogEntry) → step-items (n - i) (store-of ts os ps q (log l)) g i ≡ M l
 
 -- a gather, and its place that is stepped next
 abbrev pub frame : ℕ → ℕ → Frame

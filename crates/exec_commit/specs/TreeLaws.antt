@@ -22,7 +22,7 @@ use Rattle.asyncio.specs.Ranges.{ObjectFits}
 use Rattle.rows.specs.Tables.{object-at}
 use Rattle.rows.specs.TableLaws.{object-at-fits}
 use Rattle.queue.specs.declared.ReadyQueue.{ReadyQueue}
-use Rattle.machine.specs.Store.{Store, Happening, store-of, object}
+use Rattle.machine.specs.Store.{Store, LogEntry, store-of, object}
 use Rattle.machine.specs.Commit.{Poll, raised, Polled, gives, step-gather-commit, open-gather-commit, settle-gather-commit, resume-after-child, unwind, Committed, turn, pending-in, pending-count, commit-gather-tree}
 use Rattle.machine_laws.specs.Views.{Sized}
 use Rattle.machine_laws.specs.Statements.{SameKinds, Placed, StopBelow, commit-rest}
@@ -74,7 +74,7 @@ pub begins-few : (os : List ℕ) → 0 + (2 * pending-in os + 0) ≤ 512
 begins-few os = omega (arith, pending-most os)
 
 -- the commit of the root is that of its first frame
-pub tree-told : (ts os ps : List ℕ) (q : ReadyQueue) (g : ℕ) (a : Awaiter) (l : List Happening) {os′ : List ℕ}
+pub tree-told : (ts os ps : List ℕ) (q : ReadyQueue) (g : ℕ) (a : Awaiter) (l : List LogEntry) {os′ : List ℕ}
     → store-of ts os′ ps q l ≡ open-gather-commit (store-of ts os ps q l) g a → (us vs rs : List ℕ) (r : ReadyQueue) (p : Poll) (n : ℕ)
     → tells (store-of us vs rs r (commit-rest (store-of ts os′ ps q l) (frame g 0) [] 0 1 0 .store .log)) p n ≡ told (commit-rest (store-of ts os′ ps q l) (frame g 0) [] 0 1 0)
     → tells (store-of us vs rs r (commit-gather-tree (store-of ts os ps q l) g a .store .log)) p n ≡ told (commit-gather-tree (store-of ts os ps q l) g a)
@@ -97,11 +97,11 @@ count-fits os g = count-few (object-at os g) (object-at-fits os g)
 
 module _ (ts os ps : List ℕ) (q : ReadyQueue) (g i : ℕ) (a : length ts ≡ tasks-length) (b : length os ≡ objects-length) (c : length ps ≡ places-length) (h : g < object-limit)
     (us vs rs : List ℕ) (r : ReadyQueue) (x : Stop)
-    (s : (l : List Happening) → stopped (store-of us vs rs r (stop-log (step-gather-commit (store-of ts os ps q l) (frame g i)))) x ≡ step-gather-commit (store-of ts os ps q l) (frame g i)) where
-  abbrev log-at : List Happening → List Happening
+    (s : (l : List LogEntry) → stopped (store-of us vs rs r (stop-log (step-gather-commit (store-of ts os ps q l) (frame g i)))) x ≡ step-gather-commit (store-of ts os ps q l) (frame g i)) where
+  abbrev log-at : List LogEntry → List LogEntry
   log-at l = stop-log (step-gather-commit (store-of ts os ps q l) (frame g i))
 
-  sized : (l : List Happening) → Sized (store-of ts os ps q l)
+  sized : (l : List LogEntry) → Sized (store-of ts os ps q l)
   sized l = record { tasks-sized = a; objects-sized = b; places-sized = c }
 
   keeps : StopKeeps (store-of ts os ps q []) (stopped (store-of us vs rs r (log-at [])) x)
@@ -166,7 +166,7 @@ module _ (ts os ps : List ℕ) (q : ReadyQueue) (g i : ℕ) (a : length ts ≡ t
           (h, rw e nested-at, unfold Placed in placed-same (store-of ts os ps q []) (store-of us vs′ rs r []) (below gs ns d) nested-counts z)
 
   -- the innermost gather was settled
-  module _ (e : x ≡ Stop.End) (vs₁ : List ℕ) (p : Poll) (f : (l : List Happening) → gives (store-of us vs₁ rs r l) p ≡ settle-gather-commit (store-of us vs rs r l) g) where
+  module _ (e : x ≡ Stop.End) (vs₁ : List ℕ) (p : Poll) (f : (l : List LogEntry) → gives (store-of us vs₁ rs r l) p ≡ settle-gather-commit (store-of us vs rs r l) g) where
     settled-same : SameKinds (store-of ts os ps q []) (store-of us vs₁ rs r (log-at []))
     settled-same =
         let k : SameKinds (store-of us vs rs r (log-at [])) (settle-gather-commit (store-of us vs rs r (log-at [])) g .store) =
@@ -188,7 +188,7 @@ module _ (ts os ps : List ℕ) (q : ReadyQueue) (g i : ℕ) (a : length ts ≡ t
       child-few = omega (arith, child-range, count-fits vs₁ (getD gs d 0))
 
       module _ (vs₂ rs₂ : List ℕ)
-          (t : (l : List Happening) → store-of us vs₂ rs₂ r l ≡ resume-after-child (frame (getD gs d 0) (getD ns d 0)) (gives (store-of us vs₁ rs r l) p)) where
+          (t : (l : List LogEntry) → store-of us vs₂ rs₂ r l ≡ resume-after-child (frame (getD gs d 0) (getD ns d 0)) (gives (store-of us vs₁ rs r l) p)) where
         popped-same : SameKinds (store-of ts os ps q []) (store-of us vs₂ rs₂ r (log-at []))
         popped-same =
             let m : SameKinds (store-of us vs₁ rs r (log-at [])) (resume-after-child (frame (getD gs d 0) (getD ns d 0)) (gives (store-of us vs₁ rs r (log-at [])) p)) =
@@ -206,11 +206,11 @@ module _ (ts os ps : List ℕ) (q : ReadyQueue) (g i : ℕ) (a : length ts ≡ t
 
   -- ---- how the commit goes on
 
-  module _ (M : List Happening → Committed) (gs ns : List ℕ) (d n : ℕ) (z : Placed (store-of ts os ps q []) (below gs ns d)) (w : GoesOn M ts os ps q (frame g i) (below gs ns d) n) where
-    abbrev log-now : List Happening → List Happening
+  module _ (M : List LogEntry → Committed) (gs ns : List ℕ) (d n : ℕ) (z : Placed (store-of ts os ps q []) (below gs ns d)) (w : GoesOn M ts os ps q (frame g i) (below gs ns d) n) where
+    abbrev log-now : List LogEntry → List LogEntry
     log-now l = log-at (w .log l)
 
-    turns : (l : List Happening) → turn commit-rest (frame g i) (below gs ns d) n (w .opened) (w .settled) (stopped (store-of us vs rs r (log-now l)) x) ≡ M l
+    turns : (l : List LogEntry) → turn commit-rest (frame g i) (below gs ns d) n (w .opened) (w .settled) (stopped (store-of us vs rs r (log-now l)) x) ≡ M l
     unfolding object
     turns l =
         ap (λ y. turn commit-rest (frame g i) (below gs ns d) n (w .opened) (w .settled) y) (s (w .log l))
@@ -220,7 +220,7 @@ module _ (ts os ps : List ℕ) (q : ReadyQueue) (g i : ℕ) (a : length ts ≡ t
 
     -- a nested gather is opened
     pub tree-nested : (at : ℕ) (o : HeapId) → x ≡ Stop.Nested at o → d < length gs → d < length ns → (vs′ : List ℕ)
-        → ((l : List Happening) → store-of us vs′ rs r l ≡ open-gather-commit (store-of us vs rs r l) (o .0) (Awaiter.GatherSlot (heap-id g) o))
+        → ((l : List LogEntry) → store-of us vs′ rs r l ≡ open-gather-commit (store-of us vs rs r l) (o .0) (Awaiter.GatherSlot (heap-id g) o))
         → GoesOn M us vs′ rs r (frame (o .0) 0) (below (set gs d g) (set ns d at) (d + 1)) (n + 1)
     unfolding turn stopped
     tree-nested at o e m k vs′ p = record {
@@ -233,8 +233,8 @@ module _ (ts os ps : List ℕ) (q : ReadyQueue) (g i : ℕ) (a : length ts ≡ t
     }
 
     -- the root was settled
-    pub tree-root : x ≡ Stop.End → d ≡ 0 → (vs₁ : List ℕ) (p : Poll) → ((l : List Happening) → gives (store-of us vs₁ rs r l) p ≡ settle-gather-commit (store-of us vs rs r l) g)
-        → (l : List Happening) → tells (store-of us vs₁ rs r (M l .store .log)) p (n + 1) ≡ told (M l)
+    pub tree-root : x ≡ Stop.End → d ≡ 0 → (vs₁ : List ℕ) (p : Poll) → ((l : List LogEntry) → gives (store-of us vs₁ rs r l) p ≡ settle-gather-commit (store-of us vs rs r l) g)
+        → (l : List LogEntry) → tells (store-of us vs₁ rs r (M l .store .log)) p (n + 1) ≡ told (M l)
     unfolding turn stopped below
     tree-root e z vs₁ p f l =
         let k : n + 1 ≡ suc n = omega arith in
@@ -243,8 +243,8 @@ module _ (ts os ps : List ℕ) (q : ReadyQueue) (g i : ℕ) (a : length ts ≡ t
         rw (k, ← t)
 
     -- a nested one was
-    pub tree-popped : x ≡ Stop.End → (k : ℕ) → d ≡ suc k → (vs₁ : List ℕ) (p : Poll) → ((l : List Happening) → gives (store-of us vs₁ rs r l) p ≡ settle-gather-commit (store-of us vs rs r l) g)
-        → (vs₂ rs₂ : List ℕ) → ((l : List Happening) → store-of us vs₂ rs₂ r l ≡ resume-after-child (frame (getD gs k 0) (getD ns k 0)) (gives (store-of us vs₁ rs r l) p))
+    pub tree-popped : x ≡ Stop.End → (k : ℕ) → d ≡ suc k → (vs₁ : List ℕ) (p : Poll) → ((l : List LogEntry) → gives (store-of us vs₁ rs r l) p ≡ settle-gather-commit (store-of us vs rs r l) g)
+        → (vs₂ rs₂ : List ℕ) → ((l : List LogEntry) → store-of us vs₂ rs₂ r l ≡ resume-after-child (frame (getD gs k 0) (getD ns k 0)) (gives (store-of us vs₁ rs r l) p))
         → GoesOn M us vs₂ rs₂ r (frame (getD gs k 0) (getD ns k 0 + 1)) (below gs ns k) (n + 1)
     unfolding turn stopped below
     tree-popped e k z vs₁ p f vs₂ rs₂ t = record {
@@ -258,8 +258,8 @@ module _ (ts os ps : List ℕ) (q : ReadyQueue) (g i : ℕ) (a : length ts ≡ t
 
     -- the commit fails
     pub tree-raised : (y : Error) → x ≡ Stop.Raised y → (vs₁ : List ℕ)
-        → ((l : List Happening) → store-of us vs₁ rs r l ≡ unwind (store-of us vs rs r l) (frame g i ∷ below gs ns d) y)
-        → (l : List Happening) → tells (store-of us vs₁ rs r (M l .store .log)) (raised y) (n + 1) ≡ told (M l)
+        → ((l : List LogEntry) → store-of us vs₁ rs r l ≡ unwind (store-of us vs rs r l) (frame g i ∷ below gs ns d) y)
+        → (l : List LogEntry) → tells (store-of us vs₁ rs r (M l .store .log)) (raised y) (n + 1) ≡ told (M l)
     unfolding turn stopped
     tree-raised y e vs₁ p l =
         let k : n + 1 ≡ suc n = omega arith in

@@ -18,7 +18,7 @@ ghost use Rattle.asyncio.specs.Limits.{object-limit, objects-length, places-len
 ghost use Rattle.asyncio.specs.Parts.{count-of};
 ghost use Rattle.rows.specs.Tables.{object-at};
 ghost use Rattle.queue.specs.declared.ReadyQueue.{ReadyQueue};
-ghost use Rattle.machine.specs.Store.{Happening, store-of};
+ghost use Rattle.machine.specs.Store.{LogEntry, store-of};
 ghost use Rattle.machine.specs.Commit.{gives, with-state, set-gather, open-gather-commit, settle-gather-commit, resume-after-child, unwind};
 ghost use Rattle.exec_poll.specs.Polls.{poll-of};
 ghost use Rattle.exec_commit.specs.Steps.{frame};
@@ -47,7 +47,7 @@ fn with_state(o: Object, state: GatherState) -> Object
 // Gather `g` in that state.
 fn set_gather(objects: &mut [u64], g: HeapId, state: GatherState)
     requires { ⌜ (length (now objects) ≡ objects-length) × (g .0 < object-limit) ⌝ }
-    ensures { λ _. ⌜ ((ts ps : List ℕ) (q : ReadyQueue) (l : List Happening) → store-of ts (now (objects .exit)) ps q l ≡ set-gather (store-of ts (now (objects .entry)) ps q l) (g .0) state) ⌝ }
+    ensures { λ _. ⌜ ((ts ps : List ℕ) (q : ReadyQueue) (l : List LogEntry) → store-of ts (now (objects .exit)) ps q l ≡ set-gather (store-of ts (now (objects .entry)) ps q l) (g .0) state) ⌝ }
 {
     let o = rows::tables::load_object(objects, g);
     let changed = with_state(o, state);
@@ -57,7 +57,7 @@ fn set_gather(objects: &mut [u64], g: HeapId, state: GatherState)
 // Gather `g` is awaited, with no place open yet.
 pub fn open_gather_commit(objects: &mut [u64], g: HeapId, awaiter: Awaiter)
     requires { ⌜ (length (now objects) ≡ objects-length) × (g .0 < object-limit) ⌝ }
-    ensures { λ _. ⌜ ((ts ps : List ℕ) (q : ReadyQueue) (l : List Happening) → store-of ts (now (objects .exit)) ps q l ≡ open-gather-commit (store-of ts (now (objects .entry)) ps q l) (g .0) awaiter) ⌝ }
+    ensures { λ _. ⌜ ((ts ps : List ℕ) (q : ReadyQueue) (l : List LogEntry) → store-of ts (now (objects .exit)) ps q l ≡ open-gather-commit (store-of ts (now (objects .entry)) ps q l) (g .0) awaiter) ⌝ }
 {
     set_gather(
         objects,
@@ -72,7 +72,7 @@ pub fn open_gather_commit(objects: &mut [u64], g: HeapId, awaiter: Awaiter)
 // Gather `g`, whose items are all stepped: completed where no place is open, the empty gather included.
 pub fn settle_gather_commit(objects: &mut [u64], g: HeapId) -> Poll
     requires { ⌜ (length (now objects) ≡ objects-length) × (g .0 < object-limit) ⌝ }
-    ensures { λ r. ⌜ ((ts ps : List ℕ) (q : ReadyQueue) (l : List Happening) → gives (store-of ts (now (objects .exit)) ps q l) (poll-of r) ≡ settle-gather-commit (store-of ts (now (objects .entry)) ps q l) (g .0)) ⌝ }
+    ensures { λ r. ⌜ ((ts ps : List ℕ) (q : ReadyQueue) (l : List LogEntry) → gives (store-of ts (now (objects .exit)) ps q l) (poll-of r) ≡ settle-gather-commit (store-of ts (now (objects .entry)) ps q l) (g .0)) ⌝ }
 {
     let a = as_awaited(objects, g);
     match a {
@@ -96,7 +96,7 @@ pub fn resume_after_child(
     poll: Poll,
 )
     requires { ⌜ (length (now objects) ≡ objects-length) × (length (now places) ≡ places-length) × (g .0 < object-limit) × (next < count-of (object-at (now objects) (g .0))) ⌝ }
-    ensures { λ _. ⌜ ((ts : List ℕ) (q : ReadyQueue) (l : List Happening) → store-of ts (now (objects .exit)) (now (places .exit)) q l ≡ resume-after-child (frame (g .0) next) (gives (store-of ts (now (objects .entry)) (now (places .entry)) q l) (poll-of poll))) ⌝ }
+    ensures { λ _. ⌜ ((ts : List ℕ) (q : ReadyQueue) (l : List LogEntry) → store-of ts (now (objects .exit)) (now (places .exit)) q l ≡ resume-after-child (frame (g .0) next) (gives (store-of ts (now (objects .entry)) (now (places .entry)) q l) (poll-of poll))) ⌝ }
 {
     let a = as_awaited(objects, g);
     match a {
@@ -118,7 +118,7 @@ pub fn unwind_gather_commits(
     error: Error,
 )
     requires { ⌜ (length (now objects) ≡ objects-length) × (g .0 < object-limit) × (depth ≤ object-limit) × GathersFit gathers depth ⌝ }
-    ensures { λ _. ⌜ ((ts ps ns : List ℕ) (n : ℕ) (q : ReadyQueue) (l : List Happening) → store-of ts (now (objects .exit)) ps q l ≡ unwind (store-of ts (now (objects .entry)) ps q l) (frame (g .0) n ∷ below gathers ns depth) error) ⌝ }
+    ensures { λ _. ⌜ ((ts ps ns : List ℕ) (n : ℕ) (q : ReadyQueue) (l : List LogEntry) → store-of ts (now (objects .exit)) ps q l ≡ unwind (store-of ts (now (objects .entry)) ps q l) (frame (g .0) n ∷ below gathers ns depth) error) ⌝ }
 {
     set_gather(objects, g, GatherState::Failed(error));
     let mut d = depth;

@@ -21,7 +21,7 @@ ghost use Rattle.asyncio.specs.Limits.{object-limit, item-limit, place-limit, t
 ghost use Rattle.asyncio.specs.Parts.{count-of};
 ghost use Rattle.rows.specs.Tables.{object-at};
 ghost use Rattle.queue.specs.declared.ReadyQueue.{ReadyQueue};
-ghost use Rattle.machine.specs.Store.{Happening, store-of};
+ghost use Rattle.machine.specs.Store.{LogEntry, store-of};
 ghost use Rattle.machine.specs.Commit.{at-end, open-place, fill-place, put-polled, step-gather-commit};
 ghost use Rattle.exec_poll.specs.Polls.{poll-of, awaited-of};
 ghost use Rattle.exec_commit.specs.Steps.{Goes, with-bit, stepped, step-at, stopped, stop-log, frame};
@@ -67,7 +67,7 @@ fn with_bit(waiting: u32, i: usize) -> u32
 // Place `i` of gather `g`, which is `w`, is open.
 pub fn open_place(objects: &mut [u64], g: HeapId, w: AwaitedGather, i: usize)
     requires { ⌜ (length (now objects) ≡ objects-length) × (g .0 < object-limit) × (i < item-limit) ⌝ }
-    ensures { λ _. ⌜ ((ts ps : List ℕ) (q : ReadyQueue) (l : List Happening) → store-of ts (now (objects .exit)) ps q l ≡ open-place (store-of ts (now (objects .entry)) ps q l) (g .0) (awaited-of w) i) ⌝ }
+    ensures { λ _. ⌜ ((ts ps : List ℕ) (q : ReadyQueue) (l : List LogEntry) → store-of ts (now (objects .exit)) ps q l ≡ open-place (store-of ts (now (objects .entry)) ps q l) (g .0) (awaited-of w) i) ⌝ }
 {
     let awaiter = w.awaiter;
     let open_places = with_bit(w.waiting, i);
@@ -88,7 +88,7 @@ pub fn open_place(objects: &mut [u64], g: HeapId, w: AwaitedGather, i: usize)
 // Place `i` of the gather `w` has a value.
 pub fn fill_place(places: &mut [u64], w: AwaitedGather, i: usize, value: Value)
     requires { ⌜ (length (now places) ≡ places-length) × (w .first + i < place-limit) ⌝ }
-    ensures { λ _. ⌜ ((ts os : List ℕ) (q : ReadyQueue) (l : List Happening) → store-of ts os (now (places .exit)) q l ≡ fill-place (store-of ts os (now (places .entry)) q l) (awaited-of w) i value) ⌝ }
+    ensures { λ _. ⌜ ((ts os : List ℕ) (q : ReadyQueue) (l : List LogEntry) → store-of ts os (now (places .exit)) q l ≡ fill-place (store-of ts os (now (places .entry)) q l) (awaited-of w) i value) ⌝ }
 {
     let p = w.first as usize + i;
     let item = rows::parts::item_at(places, p);
@@ -112,7 +112,7 @@ fn put_polled(
     poll: Poll,
 ) -> Step
     requires { ⌜ (length (now objects) ≡ objects-length) × (length (now places) ≡ places-length) × (g .0 < object-limit) × (i < item-limit) × (w .first + i < place-limit) ⌝ }
-    ensures { λ r. ⌜ ((ts : List ℕ) (q : ReadyQueue) (l : List Happening) (go : Goes) → stepped (store-of ts (now (objects .exit)) (now (places .exit)) q l) i r go ≡ put-polled (g .0) (awaited-of w) i (store-of ts (now (objects .entry)) (now (places .entry)) q l) (poll-of poll) go) ⌝ }
+    ensures { λ r. ⌜ ((ts : List ℕ) (q : ReadyQueue) (l : List LogEntry) (go : Goes) → stepped (store-of ts (now (objects .exit)) (now (places .exit)) q l) i r go ≡ put-polled (g .0) (awaited-of w) i (store-of ts (now (objects .entry)) (now (places .entry)) q l) (poll-of poll) go) ⌝ }
 {
     match poll {
         Poll::Ready(v) => {
@@ -137,7 +137,7 @@ fn step_item(
     i: usize,
 ) -> Stepped
     requires { ⌜ (length (now tasks) ≡ tasks-length) × (length (now objects) ≡ objects-length) × (length (now places) ≡ places-length) × (g .0 < object-limit) × (i < count-of (object-at (now objects) (g .0))) ⌝ }
-    ensures { λ r. ⌜ ((l : List Happening) (go : Goes) → stepped (store-of (now (tasks .exit)) (now (objects .exit)) (now (places .exit)) (r .queue) (stop-log (step-at (store-of (now (tasks .entry)) (now (objects .entry)) (now (places .entry)) queue l) (g .0) i at-end))) i (r .step) go ≡ step-at (store-of (now (tasks .entry)) (now (objects .entry)) (now (places .entry)) queue l) (g .0) i go) ⌝ }
+    ensures { λ r. ⌜ ((l : List LogEntry) (go : Goes) → stepped (store-of (now (tasks .exit)) (now (objects .exit)) (now (places .exit)) (r .queue) (stop-log (step-at (store-of (now (tasks .entry)) (now (objects .entry)) (now (places .entry)) queue l) (g .0) i at-end))) i (r .step) go ≡ step-at (store-of (now (tasks .entry)) (now (objects .entry)) (now (places .entry)) queue l) (g .0) i go) ⌝ }
 {
     let a = as_awaited(objects, g);
     match a {
@@ -174,7 +174,7 @@ pub fn step_gather_commit(
     next: u16,
 ) -> Stopped
     requires { ⌜ (length (now tasks) ≡ tasks-length) × (length (now objects) ≡ objects-length) × (length (now places) ≡ places-length) × (g .0 < object-limit) ⌝ }
-    ensures { λ r. ⌜ ((l : List Happening) → stopped (store-of (now (tasks .exit)) (now (objects .exit)) (now (places .exit)) (r .queue) (stop-log (step-gather-commit (store-of (now (tasks .entry)) (now (objects .entry)) (now (places .entry)) queue l) (frame (g .0) next)))) (r .stop) ≡ step-gather-commit (store-of (now (tasks .entry)) (now (objects .entry)) (now (places .entry)) queue l) (frame (g .0) next)) ⌝ }
+    ensures { λ r. ⌜ ((l : List LogEntry) → stopped (store-of (now (tasks .exit)) (now (objects .exit)) (now (places .exit)) (r .queue) (stop-log (step-gather-commit (store-of (now (tasks .entry)) (now (objects .entry)) (now (places .entry)) queue l) (frame (g .0) next)))) (r .stop) ≡ step-gather-commit (store-of (now (tasks .entry)) (now (objects .entry)) (now (places .entry)) queue l) (frame (g .0) next)) ⌝ }
 {
     let count = rows::parts::count_at(objects, g);
     let mut q = queue;

@@ -14,7 +14,7 @@ ghost use mathlib.Core.List.{List};
 ghost use Prim.Native.Nat.{_<_};
 ghost use lib.ListN.{length};
 ghost use Rattle.asyncio.specs.Limits.{object-limit, tasks-length, objects-length, places-length};
-ghost use Rattle.machine.specs.Store.{Happening, store-of};
+ghost use Rattle.machine.specs.Store.{LogEntry, store-of};
 ghost use Rattle.machine.specs.Commit.{commit-gather-tree};
 ghost use Rattle.exec_poll.specs.Polls.{poll-of};
 ghost use Rattle.exec_commit.specs.Frames.{tells, told};
@@ -37,7 +37,7 @@ pub fn commit_gather_tree(
     awaiter: Awaiter,
 ) -> Committed
     requires { ⌜ (length (now tasks) ≡ tasks-length) × (length (now objects) ≡ objects-length) × (length (now places) ≡ places-length) × (root .0 < object-limit) ⌝ }
-    ensures { λ r. ⌜ ((l : List Happening) → tells (store-of (now (tasks .exit)) (now (objects .exit)) (now (places .exit)) (r .queue) (commit-gather-tree (store-of (now (tasks .entry)) (now (objects .entry)) (now (places .entry)) queue l) (root .0) awaiter .store .log)) (poll-of (r .poll)) (r .steps) ≡ told (commit-gather-tree (store-of (now (tasks .entry)) (now (objects .entry)) (now (places .entry)) queue l) (root .0) awaiter)) ⌝ }
+    ensures { λ r. ⌜ ((l : List LogEntry) → tells (store-of (now (tasks .exit)) (now (objects .exit)) (now (places .exit)) (r .queue) (commit-gather-tree (store-of (now (tasks .entry)) (now (objects .entry)) (now (places .entry)) queue l) (root .0) awaiter .store .log)) (poll-of (r .poll)) (r .steps) ≡ told (commit-gather-tree (store-of (now (tasks .entry)) (now (objects .entry)) (now (places .entry)) queue l) (root .0) awaiter)) ⌝ }
 {
     open_gather_commit(objects, root, awaiter);
     let mut gathers = [0u16; 256];

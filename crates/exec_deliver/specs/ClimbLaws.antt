@@ -14,7 +14,7 @@ use Rattle.asyncio.specs.declared.Awaiter.{Awaiter}
 use Rattle.asyncio.specs.declared.TaskState.{TaskState}
 use Rattle.queue.specs.declared.ReadyQueue.{ReadyQueue}
 use Rattle.scheduler.specs.declared.tasks.Found.{Found}
-use Rattle.machine.specs.Store.{Store, Happening, store-of}
+use Rattle.machine.specs.Store.{Store, LogEntry, store-of}
 use Rattle.machine.specs.Delivery.{Delivery, Settled, nobody-woken, deliver-to-task, resolve-child, fail-gather, climb, awaited-in, awaited-count, send-value, send-error, deliver-awaiter-success, deliver-awaiter-failure}
 use Rattle.machine_laws.specs.Views.{Sized}
 use Rattle.machine_laws.specs.DeliveryLaws.{Sent, resolve-sent, fail-sent, success-climbs, failure-climbs}
@@ -23,13 +23,13 @@ use Rattle.exec_fill.specs.declared.gather.Onward.{Onward}
 
 module _ (ts os ps : List ℕ) (q : ReadyQueue) where
   -- nobody gets anything
-  pub nobody : (l : List Happening) (v : Value) {d : Delivery} → deliver-awaiter-success (store-of ts os ps q l) Awaiter.Nobody v ≡ d
+  pub nobody : (l : List LogEntry) (v : Value) {d : Delivery} → deliver-awaiter-success (store-of ts os ps q l) Awaiter.Nobody v ≡ d
       → delivered (store-of ts os ps q (d .store .log)) Found.Nothing ≡ d
   unfolding deliver-awaiter-success send-value nobody-woken
   nobody l v e = rw (← e)
 
   -- to a task
-  pub to-task : (l : List Happening) (t : TaskId) (v : Value) {d : Delivery} → deliver-awaiter-success (store-of ts os ps q l) (Awaiter.Task t) v ≡ d
+  pub to-task : (l : List LogEntry) (t : TaskId) (v : Value) {d : Delivery} → deliver-awaiter-success (store-of ts os ps q l) (Awaiter.Task t) v ≡ d
       → {us : List ℕ} {r : ReadyQueue} (w : Found)
       → delivered (store-of us os ps r (deliver-to-task (store-of ts os ps q l) (t .0) (TaskState.Woken v) .store .log)) w ≡ deliver-to-task (store-of ts os ps q l) (t .0) (TaskState.Woken v)
       → delivered (store-of us os ps r (d .store .log)) w ≡ d
@@ -38,13 +38,13 @@ module _ (ts os ps : List ℕ) (q : ReadyQueue) where
 
   module _ (g source : HeapId) (v : Value) {us rs : List ℕ} where
     -- a gather that sends nothing on
-    pub stays : (l : List Happening) {d : Delivery} → deliver-awaiter-success (store-of ts os ps q l) (Awaiter.GatherSlot g source) v ≡ d
+    pub stays : (l : List LogEntry) {d : Delivery} → deliver-awaiter-success (store-of ts os ps q l) (Awaiter.GatherSlot g source) v ≡ d
         → settled (store-of ts us rs q l) Onward.Nowhere ≡ resolve-child (store-of ts os ps q l) (g .0) (source .0) v
         → delivered (store-of ts us rs q (d .store .log)) Found.Nothing ≡ d
     unfolding deliver-awaiter-success send-value climb nobody-woken
     stays l e f = rw (← e, ← f)
 
-    module _ (w : Awaiter) (z : length ts ≡ tasks-length) (y : length os ≡ objects-length) (x : length ps ≡ places-length) (h : g .0 < object-limit) (l : List Happening)
+    module _ (w : Awaiter) (z : length ts ≡ tasks-length) (y : length os ≡ objects-length) (x : length ps ≡ places-length) (h : g .0 < object-limit) (l : List LogEntry)
         (f : settled (store-of ts us rs q l) (Onward.To w) ≡ resolve-child (store-of ts os ps q l) (g .0) (source .0) v) where
       sized : Sized (store-of ts os ps q l)
       sized = record { tasks-sized = z; objects-sized = y; places-sized = x }
@@ -69,12 +69,12 @@ module _ (ts os ps : List ℕ) (q : ReadyQueue) where
 -- ---- the same of an error
 
 module _ (ts os ps : List ℕ) (q : ReadyQueue) (x : Error) where
-  pub error-nobody : (l : List Happening) {d : Delivery} → deliver-awaiter-failure (store-of ts os ps q l) Awaiter.Nobody x ≡ d
+  pub error-nobody : (l : List LogEntry) {d : Delivery} → deliver-awaiter-failure (store-of ts os ps q l) Awaiter.Nobody x ≡ d
       → delivered (store-of ts os ps q (d .store .log)) Found.Nothing ≡ d
   unfolding deliver-awaiter-failure send-error nobody-woken
   error-nobody l e = rw (← e)
 
-  pub error-to-task : (l : List Happening) (t : TaskId) {d : Delivery} → deliver-awaiter-failure (store-of ts os ps q l) (Awaiter.Task t) x ≡ d
+  pub error-to-task : (l : List LogEntry) (t : TaskId) {d : Delivery} → deliver-awaiter-failure (store-of ts os ps q l) (Awaiter.Task t) x ≡ d
       → {us : List ℕ} {r : ReadyQueue} (w : Found)
       → delivered (store-of us os ps r (deliver-to-task (store-of ts os ps q l) (t .0) (TaskState.Raised x) .store .log)) w ≡ deliver-to-task (store-of ts os ps q l) (t .0) (TaskState.Raised x)
       → delivered (store-of us os ps r (d .store .log)) w ≡ d
@@ -82,13 +82,13 @@ module _ (ts os ps : List ℕ) (q : ReadyQueue) (x : Error) where
   error-to-task l t e w f = rw (← e) f
 
   module _ (g source : HeapId) {us : List ℕ} where
-    pub error-stays : (l : List Happening) {d : Delivery} → deliver-awaiter-failure (store-of ts os ps q l) (Awaiter.GatherSlot g source) x ≡ d
+    pub error-stays : (l : List LogEntry) {d : Delivery} → deliver-awaiter-failure (store-of ts os ps q l) (Awaiter.GatherSlot g source) x ≡ d
         → settled (store-of ts us ps q l) Onward.Nowhere ≡ fail-gather (store-of ts os ps q l) (g .0) x
         → delivered (store-of ts us ps q (d .store .log)) Found.Nothing ≡ d
     unfolding deliver-awaiter-failure send-error climb nobody-woken
     error-stays l e f = rw (← e, ← f)
 
-    module _ (w : Awaiter) (z : length ts ≡ tasks-length) (y : length os ≡ objects-length) (v : length ps ≡ places-length) (h : g .0 < object-limit) (l : List Happening)
+    module _ (w : Awaiter) (z : length ts ≡ tasks-length) (y : length os ≡ objects-length) (v : length ps ≡ places-length) (h : g .0 < object-limit) (l : List LogEntry)
         (f : settled (store-of ts us ps q l) (Onward.To w) ≡ fail-gather (store-of ts os ps q l) (g .0) x) where
       error-sized : Sized (store-of ts os ps q l)
       error-sized = record { tasks-sized = z; objects-sized = y; places-sized = v }

@@ -23,7 +23,7 @@ use Rattle.queue.specs.declared.ReadyQueue.{ReadyQueue}
 use Rattle.scheduler.specs.declared.tasks.Found.{Found}
 use Rattle.scheduler.specs.Search.{found}
 use Rattle.scheduler.specs.SearchLaws.{found-at, found-nothing}
-use Rattle.machine.specs.Store.{Store, Happening, store-of, object, put-object}
+use Rattle.machine.specs.Store.{Store, LogEntry, store-of, object, put-object}
 use Rattle.machine.specs.Scheduler.{PendingExternal, as-pending, first-from, is-call, pending-external-in, pending-external}
 use Rattle.machine.specs.Delivery.{Delivery, value-or, settle-pending, settle-found, resolve-pending, fail-pending, resolve-future, fail-future, deliver-awaiter-success, deliver-awaiter-failure}
 use Rattle.exec_fill.specs.Delivered.{delivered}
@@ -52,7 +52,7 @@ external-range os o {c = c} {s = s} {w = w} {y = y} e f a =
     let h : ObjectFits (Object.ExternalFuture c (ExternalFutureState.Pending w y)) = rw (sym e ∙ f ∙ ap (λ (z : ExternalFutureState). Object.ExternalFuture c z) a) at (object-at-fits os o) in
     h .1 .0
 
-module _ (ts os ps : List ℕ) (q : ReadyQueue) (l : List Happening) where
+module _ (ts os ps : List ℕ) (q : ReadyQueue) (l : List LogEntry) where
   module _ (o : ℕ) {x : Object} (e : x ≡ object-at os o) where
     pub resolve-nothing : (v : Value) (y : Object) → x ≡ y → as-pending y ≡ none
         → store-of ts os ps q (resolve-at (store-of ts os ps q l) o v .log) ≡ resolve-at (store-of ts os ps q l) o v

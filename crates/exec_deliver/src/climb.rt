@@ -16,7 +16,7 @@ ghost use Prim.Native.Nat.{ℕ, _<_};
 ghost use lib.ListN.{length};
 ghost use Rattle.asyncio.specs.Limits.{tasks-length, objects-length, places-length};
 ghost use Rattle.asyncio.specs.Ranges.{AwaiterFits};
-ghost use Rattle.machine.specs.Store.{Happening, store-of};
+ghost use Rattle.machine.specs.Store.{LogEntry, store-of};
 ghost use Rattle.machine.specs.Delivery.{deliver-awaiter-success, deliver-awaiter-failure};
 ghost use Rattle.exec_fill.specs.Delivered.{delivered};
 
@@ -30,7 +30,7 @@ pub fn deliver_awaiter_success(
     value: Value,
 ) -> Delivered
     requires { ⌜ (length (now tasks) ≡ tasks-length) × (length (now objects) ≡ objects-length) × (length (now places) ≡ places-length) × AwaiterFits awaiter ⌝ }
-    ensures { λ r. ⌜ ((l : List Happening) → delivered (store-of (now (tasks .exit)) (now (objects .exit)) (now (places .exit)) (r .queue) (deliver-awaiter-success (store-of (now (tasks .entry)) (now (objects .entry)) (now (places .entry)) queue l) awaiter value .store .log)) (r .woken) ≡ deliver-awaiter-success (store-of (now (tasks .entry)) (now (objects .entry)) (now (places .entry)) queue l) awaiter value) ⌝ }
+    ensures { λ r. ⌜ ((l : List LogEntry) → delivered (store-of (now (tasks .exit)) (now (objects .exit)) (now (places .exit)) (r .queue) (deliver-awaiter-success (store-of (now (tasks .entry)) (now (objects .entry)) (now (places .entry)) queue l) awaiter value .store .log)) (r .woken) ≡ deliver-awaiter-success (store-of (now (tasks .entry)) (now (objects .entry)) (now (places .entry)) queue l) awaiter value) ⌝ }
 {
     let mut to = awaiter;
     let mut given = value;
@@ -71,7 +71,7 @@ pub fn deliver_awaiter_failure(
     error: Error,
 ) -> Delivered
     requires { ⌜ (length (now tasks) ≡ tasks-length) × (length (now objects) ≡ objects-length) × AwaiterFits awaiter ⌝ }
-    ensures { λ r. ⌜ ((ps : List ℕ) (l : List Happening) → length ps ≡ places-length → delivered (store-of (now (tasks .exit)) (now (objects .exit)) ps (r .queue) (deliver-awaiter-failure (store-of (now (tasks .entry)) (now (objects .entry)) ps queue l) awaiter error .store .log)) (r .woken) ≡ deliver-awaiter-failure (store-of (now (tasks .entry)) (now (objects .entry)) ps queue l) awaiter error) ⌝ }
+    ensures { λ r. ⌜ ((ps : List ℕ) (l : List LogEntry) → length ps ≡ places-length → delivered (store-of (now (tasks .exit)) (now (objects .exit)) ps (r .queue) (deliver-awaiter-failure (store-of (now (tasks .entry)) (now (objects .entry)) ps queue l) awaiter error .store .log)) (r .woken) ≡ deliver-awaiter-failure (store-of (now (tasks .entry)) (now (objects .entry)) ps queue l) awaiter error) ⌝ }
 {
     let mut to = awaiter;
     loop {

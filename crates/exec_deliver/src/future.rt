@@ -15,7 +15,7 @@ ghost use mathlib.Core.List.{List};
 ghost use Prim.Native.Nat.{ℕ, _<_};
 ghost use lib.ListN.{length};
 ghost use Rattle.asyncio.specs.Limits.{object-limit, tasks-length, objects-length, places-length};
-ghost use Rattle.machine.specs.Store.{Happening, store-of};
+ghost use Rattle.machine.specs.Store.{LogEntry, store-of};
 ghost use Rattle.machine.specs.Delivery.{value-or, resolve-future, fail-future};
 ghost use Rattle.exec_deliver.specs.Futures.{resolve-at, fail-at};
 
@@ -39,7 +39,7 @@ fn resolve_at(
     value: Value,
 ) -> ReadyQueue
     requires { ⌜ (length (now tasks) ≡ tasks-length) × (length (now objects) ≡ objects-length) × (length (now places) ≡ places-length) × (o .0 < object-limit) ⌝ }
-    ensures { λ r. ⌜ ((l : List Happening) → store-of (now (tasks .exit)) (now (objects .exit)) (now (places .exit)) r (resolve-at (store-of (now (tasks .entry)) (now (objects .entry)) (now (places .entry)) queue l) (o .0) value .log) ≡ resolve-at (store-of (now (tasks .entry)) (now (objects .entry)) (now (places .entry)) queue l) (o .0) value) ⌝ }
+    ensures { λ r. ⌜ ((l : List LogEntry) → store-of (now (tasks .exit)) (now (objects .exit)) (now (places .exit)) r (resolve-at (store-of (now (tasks .entry)) (now (objects .entry)) (now (places .entry)) queue l) (o .0) value .log) ≡ resolve-at (store-of (now (tasks .entry)) (now (objects .entry)) (now (places .entry)) queue l) (o .0) value) ⌝ }
 {
     let x = rows::tables::load_object(objects, o);
     match x {
@@ -83,7 +83,7 @@ pub fn resolve_future(
     value: Value,
 ) -> ReadyQueue
     requires { ⌜ (length (now tasks) ≡ tasks-length) × (length (now objects) ≡ objects-length) × (length (now places) ≡ places-length) ⌝ }
-    ensures { λ r. ⌜ ((l : List Happening) → store-of (now (tasks .exit)) (now (objects .exit)) (now (places .exit)) r (resolve-future (store-of (now (tasks .entry)) (now (objects .entry)) (now (places .entry)) queue l) call value .log) ≡ resolve-future (store-of (now (tasks .entry)) (now (objects .entry)) (now (places .entry)) queue l) call value) ⌝ }
+    ensures { λ r. ⌜ ((l : List LogEntry) → store-of (now (tasks .exit)) (now (objects .exit)) (now (places .exit)) r (resolve-future (store-of (now (tasks .entry)) (now (objects .entry)) (now (places .entry)) queue l) call value .log) ≡ resolve-future (store-of (now (tasks .entry)) (now (objects .entry)) (now (places .entry)) queue l) call value) ⌝ }
 {
     let found = take_pending_external(objects, call);
     match found {
@@ -101,7 +101,7 @@ fn fail_at(
     error: Error,
 ) -> ReadyQueue
     requires { ⌜ (length (now tasks) ≡ tasks-length) × (length (now objects) ≡ objects-length) × (o .0 < object-limit) ⌝ }
-    ensures { λ r. ⌜ ((ps : List ℕ) (l : List Happening) → length ps ≡ places-length → store-of (now (tasks .exit)) (now (objects .exit)) ps r (fail-at (store-of (now (tasks .entry)) (now (objects .entry)) ps queue l) (o .0) error .log) ≡ fail-at (store-of (now (tasks .entry)) (now (objects .entry)) ps queue l) (o .0) error) ⌝ }
+    ensures { λ r. ⌜ ((ps : List ℕ) (l : List LogEntry) → length ps ≡ places-length → store-of (now (tasks .exit)) (now (objects .exit)) ps r (fail-at (store-of (now (tasks .entry)) (now (objects .entry)) ps queue l) (o .0) error .log) ≡ fail-at (store-of (now (tasks .entry)) (now (objects .entry)) ps queue l) (o .0) error) ⌝ }
 {
     let x = rows::tables::load_object(objects, o);
     match x {
@@ -143,7 +143,7 @@ pub fn fail_future(
     error: Error,
 ) -> ReadyQueue
     requires { ⌜ (length (now tasks) ≡ tasks-length) × (length (now objects) ≡ objects-length) ⌝ }
-    ensures { λ r. ⌜ ((ps : List ℕ) (l : List Happening) → length ps ≡ places-length → store-of (now (tasks .exit)) (now (objects .exit)) ps r (fail-future (store-of (now (tasks .entry)) (now (objects .entry)) ps queue l) call error .log) ≡ fail-future (store-of (now (tasks .entry)) (now (objects .entry)) ps queue l) call error) ⌝ }
+    ensures { λ r. ⌜ ((ps : List ℕ) (l : List LogEntry) → length ps ≡ places-length → store-of (now (tasks .exit)) (now (objects .exit)) ps r (fail-future (store-of (now (tasks .entry)) (now (objects .entry)) ps queue l) call error .log) ≡ fail-future (store-of (now (tasks .entry)) (now (objects .entry)) ps queue l) call error) ⌝ }
 {
     let found = take_pending_external(objects, call);
     match found {

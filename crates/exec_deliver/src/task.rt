@@ -8,7 +8,7 @@ ghost use mathlib.Core.List.{List};
 ghost use Prim.Native.Nat.{ℕ, _<_};
 ghost use lib.ListN.{length};
 ghost use Rattle.asyncio.specs.Limits.{task-limit, tasks-length};
-ghost use Rattle.machine.specs.Store.{Happening, store-of};
+ghost use Rattle.machine.specs.Store.{LogEntry, store-of};
 ghost use Rattle.machine.specs.Delivery.{deliver-to-task};
 ghost use Rattle.exec_fill.specs.Delivered.{delivered};
 
@@ -26,7 +26,7 @@ pub fn deliver_to_task(
     state: TaskState,
 ) -> Delivered
     requires { ⌜ (length (now tasks) ≡ tasks-length) × (t .0 < task-limit) ⌝ }
-    ensures { λ r. ⌜ ((os ps : List ℕ) (l : List Happening) → delivered (store-of (now (tasks .exit)) os ps (r .queue) (deliver-to-task (store-of (now (tasks .entry)) os ps queue l) (t .0) state .store .log)) (r .woken) ≡ deliver-to-task (store-of (now (tasks .entry)) os ps queue l) (t .0) state) ⌝ }
+    ensures { λ r. ⌜ ((os ps : List ℕ) (l : List LogEntry) → delivered (store-of (now (tasks .exit)) os ps (r .queue) (deliver-to-task (store-of (now (tasks .entry)) os ps queue l) (t .0) state .store .log)) (r .woken) ≡ deliver-to-task (store-of (now (tasks .entry)) os ps queue l) (t .0) state) ⌝ }
 {
     if scheduler::states::is_blocked(tasks, t) {
         let q = scheduler::states::make_ready(tasks, queue, t, state);

@@ -16,7 +16,7 @@ use Rattle.asyncio.specs.declared.GatherState.{GatherState}
 use Rattle.asyncio.specs.declared.Object.{Object}
 use Rattle.rows.specs.Tables.{task-at, task-put, object-at, object-put}
 use Rattle.queue.specs.declared.ReadyQueue.{ReadyQueue}
-use Rattle.machine.specs.Store.{Store, Happening, blocked, store-of, task, put-task, object, put-object, restate, set-state, note}
+use Rattle.machine.specs.Store.{Store, LogEntry, blocked, store-of, task, put-task, object, put-object, restate, set-state, add-log}
 use Rattle.machine.specs.Scheduler.{pending-call-ids}
 use Rattle.machine.specs.Commit.{Polled, gives, await-external, commit-gather-tree}
 use Rattle.machine.specs.Events as machine
@@ -33,7 +33,7 @@ same-await : {x y : Awaited} → x ≡ y → {ts os ps : List ℕ} {q : ReadyQue
     → awaited-of (store-of ts os ps q (x .store .log)) c n ≡ x
 same-await e c n r = rw e r
 
-module _ (ts os ps : List ℕ) (q : ReadyQueue) (l : List Happening) (t : TaskId) (o : HeapId) where
+module _ (ts os ps : List ℕ) (q : ReadyQueue) (l : List LogEntry) (t : TaskId) (o : HeapId) where
   abbrev here : Store
   here = store-of ts os ps q l
 
@@ -59,7 +59,7 @@ module _ (ts os ps : List ℕ) (q : ReadyQueue) (l : List Happening) (t : TaskId
         switches y = record { store = y .store; control = y .control; steps = n }
 
         blocks : go-on (t .0) (o .0) n here (poll-of p) ≡ record { store = resume-next activate (store-of us os ps q (blocked (t .0) ∷ l)) .store; control = resume-next activate (store-of us os ps q (blocked (t .0) ∷ l)) .control; steps = n }
-        blocks = unfold go-on note set-state put-task task in (rw (e, u))
+        blocks = unfold go-on add-log set-state put-task task in (rw (e, u))
 
   -- ---- await_coroutine
 
@@ -124,7 +124,7 @@ module _ (ts os ps : List ℕ) (q : ReadyQueue) (l : List Happening) (t : TaskId
         → awaited-of (store-of ts os′ ps q′ (exec-get-awaitable here (t .0) (o .0) .store .log)) c n ≡ exec-get-awaitable here (t .0) (o .0)
     awaits-coroutine f s i {os′} {q′} c n r =
         let k : exec-get-awaitable here (t .0) (o .0) ≡ await-coroutine here (t .0) (o .0) f s = unfold exec-get-awaitable await-object object in (rw (← e, i)) in
-        same-await k c n (ap (λ (m : List Happening). awaited-of (store-of ts os′ ps q′ m) c n) (coroutine-logs f s) ∙ r)
+        same-await k c n (ap (λ (m : List LogEntry). awaited-of (store-of ts os′ ps q′ m) c n) (coroutine-logs f s) ∙ r)
 
     pub awaits-external : (y : CallId) (s : ExternalFutureState) → x ≡ Object.ExternalFuture y s → {ts′ os′ : List ℕ} {q′ : ReadyQueue} (c : Control) (n : ℕ)
         → awaited-of (store-of ts′ os′ ps q′ (await-external-future here (t .0) (o .0) y s .store .log)) c n ≡ await-external-future here (t .0) (o .0) y s

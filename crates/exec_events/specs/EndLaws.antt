@@ -18,7 +18,7 @@ use Rattle.rows.specs.Tables.{task-at, object-at, object-put}
 use Rattle.queue.specs.declared.ReadyQueue.{ReadyQueue}
 use Rattle.scheduler.specs.declared.tasks.Found.{Found}
 use Rattle.exec_fill.specs.Delivered.{number, delivered}
-use Rattle.machine.specs.Store.{Store, Happening, exited, store-of, task, object, put-object, note}
+use Rattle.machine.specs.Store.{Store, LogEntry, exited, store-of, task, object, put-object, add-log}
 use Rattle.machine.specs.Scheduler.{pending-calls-in, pending-call-ids, remove-task, cleanup}
 use Rattle.machine.specs.Delivery.{Delivery, deliver-awaiter-success}
 use Rattle.machine.specs.Events.{Switched, waits, completed, resume-after-task-exit, resume-next, activate, handle-task-failure, handle-task-completion}
@@ -33,7 +33,7 @@ use Rattle.exec_switch.specs.declared.control.Control.{Control}
 use Rattle.exec_switch.specs.declared.answer.Answer.{Answer}
 
 -- the task that a delivery woke is in range
-pub success-found : (ts os ps : List ℕ) (q : ReadyQueue) (l : List Happening) (a : Awaiter) (v : Value) → length ts ≡ tasks-length → length os ≡ objects-length → length ps ≡ places-length
+pub success-found : (ts os ps : List ℕ) (q : ReadyQueue) (l : List LogEntry) (a : Awaiter) (v : Value) → length ts ≡ tasks-length → length os ≡ objects-length → length ps ≡ places-length
     → AwaiterFits a → {s : Store} (m : Found) → delivered s m ≡ deliver-awaiter-success (store-of ts os ps q l) a v → FoundFits m
 success-found ts os ps q l a v z y w f m d =
     by m (success-woken (store-of ts os ps q l) a v (record { tasks-sized = z; objects-sized = y; places-sized = w }) f .fits) (ap (λ (k : Delivery). k .woken) d)
@@ -43,26 +43,26 @@ success-found ts os ps q l a v z y w f m d =
     by (Found.At u) k g = k u (sym g)
     by Found.Nothing k g = tt
 
-module _ (ts os ps : List ℕ) (q : ReadyQueue) (l : List Happening) where
+module _ (ts os ps : List ℕ) (q : ReadyQueue) (l : List LogEntry) where
   abbrev here : Store
   here = store-of ts os ps q l
 
   -- ---- handle_task_completion
 
   module _ (t : ℕ) (v : Value) {r : Task} (e : r ≡ task-at ts t) {os₁ : List ℕ} (o : os₁ ≡ object-put os (r .coroutine .0) (completed (object-at os (r .coroutine .0))))
-      {ts₁ : List ℕ} {q₁ : ReadyQueue} (g : (us rs : List ℕ) (k : List Happening) → store-of ts₁ us rs q₁ k ≡ remove-task (store-of ts us rs q k) t)
+      {ts₁ : List ℕ} {q₁ : ReadyQueue} (g : (us rs : List ℕ) (k : List LogEntry) → store-of ts₁ us rs q₁ k ≡ remove-task (store-of ts us rs q k) t)
       {ts₂ os₂ ps₂ : List ℕ} {q₂ : ReadyQueue} (m : Found)
       (d : delivered (store-of ts₂ os₂ ps₂ q₂ (deliver-awaiter-success (store-of ts₁ os₁ ps q₁ (exited t ∷ l)) (r .awaiter) v .store .log)) m
       ≡ deliver-awaiter-success (store-of ts₁ os₁ ps q₁ (exited t ∷ l)) (r .awaiter) v) where
     gives : Store → Switched
-    gives s = resume-after-task-exit activate (deliver-awaiter-success (note s (exited t)) (r .awaiter) v)
+    gives s = resume-after-task-exit activate (deliver-awaiter-success (add-log s (exited t)) (r .awaiter) v)
 
     begins : handle-task-completion here t v ≡ gives (remove-task (store-of ts os₁ ps q l) t)
     unfolding handle-task-completion gives task object put-object
     begins = rw (← e, ← o)
 
     leaves : gives (store-of ts₁ os₁ ps q₁ l) ≡ resume-after-task-exit activate (deliver-awaiter-success (store-of ts₁ os₁ ps q₁ (exited t ∷ l)) (r .awaiter) v)
-    unfolding gives note
+    unfolding gives add-log
     leaves = refl
 
     pub completes : {ts′ os′ : List ℕ} {q′ : ReadyQueue} (c : Control)
@@ -91,7 +91,7 @@ end-answers : (s : Store) {ts os ps : List ℕ} {q : ReadyQueue} → store-of ts
 unfolding end-main
 end-answers s {ts} {os} {ps} {q} r a b f = rw (f os) (ap (λ (x : Store). record { store = x; answer = b }) r)
 
-module _ (ts os ps : List ℕ) (q : ReadyQueue) (l : List Happening) (t : ℕ) where
+module _ (ts os ps : List ℕ) (q : ReadyQueue) (l : List LogEntry) (t : ℕ) where
   abbrev start : Store
   start = store-of ts os ps q l
 
@@ -135,7 +135,7 @@ unfolding is-empty repeat-wait
 repeat-waits [] e = let z : _≡_ {A = ℕ} 0 1 = cc in absurd (omega arith)
 repeat-waits (c ∷ cs) e = refl
 
-module _ (ts os ps : List ℕ) (q : ReadyQueue) (l : List Happening) where
+module _ (ts os ps : List ℕ) (q : ReadyQueue) (l : List LogEntry) where
   module _ (e : q .len ≡ 0) {b : Bool} (n : b ≡ is-empty (pending-calls-in os)) where
     pub resume-stalls : b ≡ true → stepped-of (store-of ts os ps q (resume-with-resolved-futures (store-of ts os ps q l) .store .log)) Answer.Stalled ≡ resume-with-resolved-futures (store-of ts os ps q l)
     unfolding resume-with-resolved-futures pending-call-ids

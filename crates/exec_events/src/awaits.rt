@@ -22,7 +22,7 @@ ghost use mathlib.Core.List.{List};
 ghost use Prim.Native.Nat.{ℕ, _<_};
 ghost use lib.ListN.{length};
 ghost use Rattle.asyncio.specs.Limits.{task-limit, object-limit, tasks-length, objects-length, places-length};
-ghost use Rattle.machine.specs.Store.{Happening, store-of};
+ghost use Rattle.machine.specs.Store.{LogEntry, store-of};
 ghost use Rattle.machine.specs.Events.{stays, raises, go-on, await-coroutine, await-external-future, await-gather, exec-get-awaitable};
 ghost use Rattle.exec_poll.specs.Polls.{poll-of};
 ghost use Rattle.exec_switch.specs.Control.{awaited-of};
@@ -45,7 +45,7 @@ fn go_on(
     poll: Poll,
 ) -> Awaited
     requires { ⌜ (length (now tasks) ≡ tasks-length) × (length (now objects) ≡ objects-length) × (t .0 < task-limit) ⌝ }
-    ensures { λ r. ⌜ ((ps : List ℕ) (l : List Happening) → length ps ≡ places-length → awaited-of (store-of (now (tasks .exit)) (now (objects .exit)) ps (r .queue) (go-on (t .0) (o .0) steps (store-of (now (tasks .entry)) (now (objects .entry)) ps queue l) (poll-of poll) .store .log)) (r .control) (r .steps) ≡ go-on (t .0) (o .0) steps (store-of (now (tasks .entry)) (now (objects .entry)) ps queue l) (poll-of poll)) ⌝ }
+    ensures { λ r. ⌜ ((ps : List ℕ) (l : List LogEntry) → length ps ≡ places-length → awaited-of (store-of (now (tasks .exit)) (now (objects .exit)) ps (r .queue) (go-on (t .0) (o .0) steps (store-of (now (tasks .entry)) (now (objects .entry)) ps queue l) (poll-of poll) .store .log)) (r .control) (r .steps) ≡ go-on (t .0) (o .0) steps (store-of (now (tasks .entry)) (now (objects .entry)) ps queue l) (poll-of poll)) ⌝ }
 {
     match poll {
         Poll::Ready(v) => Awaited {
@@ -88,7 +88,7 @@ fn await_coroutine(
     state: CoroutineState,
 ) -> Awaited
     requires { ⌜ (length (now objects) ≡ objects-length) × (o .0 < object-limit) ⌝ }
-    ensures { λ r. ⌜ ((ts ps : List ℕ) (l : List Happening) → awaited-of (store-of ts (now (objects .exit)) ps (r .queue) l) (r .control) (r .steps) ≡ await-coroutine (store-of ts (now (objects .entry)) ps queue l) (t .0) (o .0) function state) ⌝ }
+    ensures { λ r. ⌜ ((ts ps : List ℕ) (l : List LogEntry) → awaited-of (store-of ts (now (objects .exit)) ps (r .queue) l) (r .control) (r .steps) ≡ await-coroutine (store-of ts (now (objects .entry)) ps queue l) (t .0) (o .0) function state) ⌝ }
 {
     match state {
         CoroutineState::New => {
@@ -116,7 +116,7 @@ fn await_coroutine(
 
 // The task goes on with an error, at once and without a commit.
 fn raise(queue: ReadyQueue, t: TaskId, error: Error) -> Awaited
-    ensures { λ r. ⌜ ((ts os ps : List ℕ) (l : List Happening) → awaited-of (store-of ts os ps (r .queue) l) (r .control) (r .steps) ≡ stays (store-of ts os ps queue l) (t .0) (raises error) 0) ⌝ }
+    ensures { λ r. ⌜ ((ts os ps : List ℕ) (l : List LogEntry) → awaited-of (store-of ts os ps (r .queue) l) (r .control) (r .steps) ≡ stays (store-of ts os ps queue l) (t .0) (raises error) 0) ⌝ }
 {
     Awaited {
         queue,
@@ -139,7 +139,7 @@ fn await_external_future(
     state: ExternalFutureState,
 ) -> Awaited
     requires { ⌜ (length (now tasks) ≡ tasks-length) × (length (now objects) ≡ objects-length) × (t .0 < task-limit) × (o .0 < object-limit) ⌝ }
-    ensures { λ r. ⌜ ((ps : List ℕ) (l : List Happening) → length ps ≡ places-length → awaited-of (store-of (now (tasks .exit)) (now (objects .exit)) ps (r .queue) (await-external-future (store-of (now (tasks .entry)) (now (objects .entry)) ps queue l) (t .0) (o .0) call state .store .log)) (r .control) (r .steps) ≡ await-external-future (store-of (now (tasks .entry)) (now (objects .entry)) ps queue l) (t .0) (o .0) call state) ⌝ }
+    ensures { λ r. ⌜ ((ps : List ℕ) (l : List LogEntry) → length ps ≡ places-length → awaited-of (store-of (now (tasks .exit)) (now (objects .exit)) ps (r .queue) (await-external-future (store-of (now (tasks .entry)) (now (objects .entry)) ps queue l) (t .0) (o .0) call state .store .log)) (r .control) (r .steps) ≡ await-external-future (store-of (now (tasks .entry)) (now (objects .entry)) ps queue l) (t .0) (o .0) call state) ⌝ }
 {
     let poll = await_external(objects, o, call, state, Awaiter::Task(t));
     go_on(tasks, objects, queue, t, o, 0, poll)
@@ -156,7 +156,7 @@ fn await_gather_future(
     state: GatherState,
 ) -> Awaited
     requires { ⌜ (length (now tasks) ≡ tasks-length) × (length (now objects) ≡ objects-length) × (length (now places) ≡ places-length) × (t .0 < task-limit) × (o .0 < object-limit) ⌝ }
-    ensures { λ r. ⌜ ((l : List Happening) → awaited-of (store-of (now (tasks .exit)) (now (objects .exit)) (now (places .exit)) (r .queue) (await-gather (store-of (now (tasks .entry)) (now (objects .entry)) (now (places .entry)) queue l) (t .0) (o .0) state .store .log)) (r .control) (r .steps) ≡ await-gather (store-of (now (tasks .entry)) (now (objects .entry)) (now (places .entry)) queue l) (t .0) (o .0) state) ⌝ }
+    ensures { λ r. ⌜ ((l : List LogEntry) → awaited-of (store-of (now (tasks .exit)) (now (objects .exit)) (now (places .exit)) (r .queue) (await-gather (store-of (now (tasks .entry)) (now (objects .entry)) (now (places .entry)) queue l) (t .0) (o .0) state .store .log)) (r .control) (r .steps) ≡ await-gather (store-of (now (tasks .entry)) (now (objects .entry)) (now (places .entry)) queue l) (t .0) (o .0) state) ⌝ }
 {
     match state {
         GatherState::Pending => {
@@ -192,7 +192,7 @@ pub fn exec_get_awaitable(
     o: HeapId,
 ) -> Awaited
     requires { ⌜ (length (now tasks) ≡ tasks-length) × (length (now objects) ≡ objects-length) × (length (now places) ≡ places-length) × (t .0 < task-limit) × (o .0 < object-limit) ⌝ }
-    ensures { λ r. ⌜ ((l : List Happening) → awaited-of (store-of (now (tasks .exit)) (now (objects .exit)) (now (places .exit)) (r .queue) (exec-get-awaitable (store-of (now (tasks .entry)) (now (objects .entry)) (now (places .entry)) queue l) (t .0) (o .0) .store .log)) (r .control) (r .steps) ≡ exec-get-awaitable (store-of (now (tasks .entry)) (now (objects .entry)) (now (places .entry)) queue l) (t .0) (o .0)) ⌝ }
+    ensures { λ r. ⌜ ((l : List LogEntry) → awaited-of (store-of (now (tasks .exit)) (now (objects .exit)) (now (places .exit)) (r .queue) (exec-get-awaitable (store-of (now (tasks .entry)) (now (objects .entry)) (now (places .entry)) queue l) (t .0) (o .0) .store .log)) (r .control) (r .steps) ≡ exec-get-awaitable (store-of (now (tasks .entry)) (now (objects .entry)) (now (places .entry)) queue l) (t .0) (o .0)) ⌝ }
 {
     let x = rows::tables::load_object(objects, o);
     match x {

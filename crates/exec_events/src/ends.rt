@@ -23,7 +23,7 @@ ghost use Prim.Native.Nat.{ℕ, _<_};
 ghost use lib.ListN.{length};
 ghost use Rattle.asyncio.specs.Limits.{task-limit, object-limit, tasks-length, objects-length, places-length};
 ghost use Rattle.rows.specs.Tables.{object-at, object-put};
-ghost use Rattle.machine.specs.Store.{Happening, store-of};
+ghost use Rattle.machine.specs.Store.{LogEntry, store-of};
 ghost use Rattle.machine.specs.Events.{completed, handle-task-completion};
 ghost use Rattle.machine.specs.Machine.{task-completes, task-fails, resume-with-resolved-futures};
 ghost use Rattle.exec_switch.specs.Control.{switched-of};
@@ -67,7 +67,7 @@ pub fn handle_task_completion(
     value: Value,
 ) -> Switched
     requires { ⌜ (length (now tasks) ≡ tasks-length) × (length (now objects) ≡ objects-length) × (length (now places) ≡ places-length) × (t .0 < task-limit) ⌝ }
-    ensures { λ r. ⌜ ((l : List Happening) → switched-of (store-of (now (tasks .exit)) (now (objects .exit)) (now (places .exit)) (r .queue) (handle-task-completion (store-of (now (tasks .entry)) (now (objects .entry)) (now (places .entry)) queue l) (t .0) value .store .log)) (r .control) ≡ handle-task-completion (store-of (now (tasks .entry)) (now (objects .entry)) (now (places .entry)) queue l) (t .0) value) ⌝ }
+    ensures { λ r. ⌜ ((l : List LogEntry) → switched-of (store-of (now (tasks .exit)) (now (objects .exit)) (now (places .exit)) (r .queue) (handle-task-completion (store-of (now (tasks .entry)) (now (objects .entry)) (now (places .entry)) queue l) (t .0) value .store .log)) (r .control) ≡ handle-task-completion (store-of (now (tasks .entry)) (now (objects .entry)) (now (places .entry)) queue l) (t .0) value) ⌝ }
 {
     let task = rows::tables::load_task(tasks, t);
     let awaiter = task.awaiter;
@@ -90,7 +90,7 @@ pub fn complete(
     value: Value,
 ) -> Stepped
     requires { ⌜ (length (now tasks) ≡ tasks-length) × (length (now objects) ≡ objects-length) × (length (now places) ≡ places-length) × (t .0 < task-limit) ⌝ }
-    ensures { λ r. ⌜ ((l : List Happening) → stepped-of (store-of (now (tasks .exit)) (now (objects .exit)) (now (places .exit)) (r .queue) (task-completes (store-of (now (tasks .entry)) (now (objects .entry)) (now (places .entry)) queue l) (t .0) value .store .log)) (r .answer) ≡ task-completes (store-of (now (tasks .entry)) (now (objects .entry)) (now (places .entry)) queue l) (t .0) value) ⌝ }
+    ensures { λ r. ⌜ ((l : List LogEntry) → stepped-of (store-of (now (tasks .exit)) (now (objects .exit)) (now (places .exit)) (r .queue) (task-completes (store-of (now (tasks .entry)) (now (objects .entry)) (now (places .entry)) queue l) (t .0) value .store .log)) (r .answer) ≡ task-completes (store-of (now (tasks .entry)) (now (objects .entry)) (now (places .entry)) queue l) (t .0) value) ⌝ }
 {
     if t.0 == 0 {
         let q = cleanup(tasks, objects);
@@ -117,7 +117,7 @@ pub fn fail(
     error: Error,
 ) -> Stepped
     requires { ⌜ (length (now tasks) ≡ tasks-length) × (length (now objects) ≡ objects-length) × (t .0 < task-limit) ⌝ }
-    ensures { λ r. ⌜ ((ps : List ℕ) (l : List Happening) → length ps ≡ places-length → stepped-of (store-of (now (tasks .exit)) (now (objects .exit)) ps (r .queue) (task-fails (store-of (now (tasks .entry)) (now (objects .entry)) ps queue l) (t .0) error .store .log)) (r .answer) ≡ task-fails (store-of (now (tasks .entry)) (now (objects .entry)) ps queue l) (t .0) error) ⌝ }
+    ensures { λ r. ⌜ ((ps : List ℕ) (l : List LogEntry) → length ps ≡ places-length → stepped-of (store-of (now (tasks .exit)) (now (objects .exit)) ps (r .queue) (task-fails (store-of (now (tasks .entry)) (now (objects .entry)) ps queue l) (t .0) error .store .log)) (r .answer) ≡ task-fails (store-of (now (tasks .entry)) (now (objects .entry)) ps queue l) (t .0) error) ⌝ }
 {
     if t.0 == 0 {
         let q = cleanup(tasks, objects);
@@ -142,7 +142,7 @@ pub fn resume_with_resolved_futures(
     queue: ReadyQueue,
 ) -> Stepped
     requires { ⌜ (length (now tasks) ≡ tasks-length) × (length (now objects) ≡ objects-length) ⌝ }
-    ensures { λ r. ⌜ ((ps : List ℕ) (l : List Happening) → length ps ≡ places-length → stepped-of (store-of (now (tasks .exit)) (now (objects .exit)) ps (r .queue) (resume-with-resolved-futures (store-of (now (tasks .entry)) (now (objects .entry)) ps queue l) .store .log)) (r .answer) ≡ resume-with-resolved-futures (store-of (now (tasks .entry)) (now (objects .entry)) ps queue l)) ⌝ }
+    ensures { λ r. ⌜ ((ps : List ℕ) (l : List LogEntry) → length ps ≡ places-length → stepped-of (store-of (now (tasks .exit)) (now (objects .exit)) ps (r .queue) (resume-with-resolved-futures (store-of (now (tasks .entry)) (now (objects .entry)) ps queue l) .store .log)) (r .answer) ≡ resume-with-resolved-futures (store-of (now (tasks .entry)) (now (objects .entry)) ps queue l)) ⌝ }
 {
     if queue.len == 0 {
         if no_call_pending(objects) {

@@ -18,7 +18,7 @@ use Rattle.rows.specs.Tables.{task-at, object-at, object-put}
 use Rattle.rows.specs.TableLaws.{object-at-fits}
 use Rattle.queue.specs.declared.ReadyQueue.{ReadyQueue}
 use Rattle.scheduler.specs.declared.tasks.Found.{Found}
-use Rattle.machine.specs.Store.{Store, Happening, store-of, task, object, put-object, put-places, note}
+use Rattle.machine.specs.Store.{Store, LogEntry, store-of, task, object, put-object, put-places, add-log}
 use Rattle.machine.specs.Scheduler.{as-awaited, make-ready}
 use Rattle.machine.specs.Delivery.{Filled, filled, fill-from, nobody-woken, deliver-to-task, resolve-left, resolve-awaited, resolve-child, fail-awaited, fail-gather}
 use Rattle.exec_fill.specs.Delivered.{delivered, settled}
@@ -26,10 +26,10 @@ use Rattle.exec_fill.specs.declared.gather.Onward.{Onward}
 
 -- ---- to a task
 
-module _ (ts os ps : List ℕ) (q : ReadyQueue) (l : List Happening) (t : ℕ) (x : TaskState) {b : Bool} (e : b ≡ is-blocked (task-at ts t .state)) where
+module _ (ts os ps : List ℕ) (q : ReadyQueue) (l : List LogEntry) (t : ℕ) (x : TaskState) {b : Bool} (e : b ≡ is-blocked (task-at ts t .state)) where
   pub reaches : b ≡ true → {us : List ℕ} {r : ReadyQueue} → store-of us os ps r l ≡ make-ready (store-of ts os ps q l) t x
       → delivered (store-of us os ps r (deliver-to-task (store-of ts os ps q l) t x .store .log)) (Found.At t) ≡ deliver-to-task (store-of ts os ps q l) t x
-  unfolding deliver-to-task note task
+  unfolding deliver-to-task add-log task
   reaches k m = rw (← e, k, ← m)
 
   pub reaches-not : b ≡ false → delivered (store-of ts os ps q (deliver-to-task (store-of ts os ps q l) t x .store .log)) Found.Nothing ≡ deliver-to-task (store-of ts os ps q l) t x
@@ -42,7 +42,7 @@ module _ (ts os ps : List ℕ) (q : ReadyQueue) (l : List Happening) (t : ℕ) (
 pub gather-range : (os : List ℕ) (g : ℕ) {o : Object} {i n : ℕ} {s : GatherState} → o ≡ object-at os g → o ≡ Object.GatherFuture i n s → PlacesFit i n
 gather-range os g {i = i} {n = n} {s = s} e f = let h : ObjectFits (Object.GatherFuture i n s) = rw (sym e ∙ f) at (object-at-fits os g) in h .0
 
-module _ (ts os ps : List ℕ) (q : ReadyQueue) (l : List Happening) (g : ℕ) {o : Object} (e : o ≡ object-at os g) where
+module _ (ts os ps : List ℕ) (q : ReadyQueue) (l : List LogEntry) (g : ℕ) {o : Object} (e : o ≡ object-at os g) where
   module _ (source : ℕ) (v : Value) where
     pub resolve-idle : (x : Object) → o ≡ x → as-awaited x ≡ none → settled (store-of ts os ps q l) Onward.Nowhere ≡ resolve-child (store-of ts os ps q l) g source v
     unfolding resolve-child resolve-awaited object

@@ -12,7 +12,7 @@ ghost use Prim.Native.Nat.{ℕ, _<_};
 ghost use lib.ListN.{length};
 ghost use Rattle.asyncio.specs.Limits.{object-limit, objects-length, places-length};
 ghost use Rattle.queue.specs.declared.ReadyQueue.{ReadyQueue};
-ghost use Rattle.machine.specs.Store.{Happening, store-of};
+ghost use Rattle.machine.specs.Store.{LogEntry, store-of};
 ghost use Rattle.machine.specs.Delivery.{resolve-child, fail-gather};
 ghost use Rattle.exec_fill.specs.Delivered.{settled};
 
@@ -31,7 +31,7 @@ pub fn resolve_child(
     value: Value,
 ) -> Onward
     requires { ⌜ (length (now objects) ≡ objects-length) × (length (now places) ≡ places-length) × (g .0 < object-limit) ⌝ }
-    ensures { λ r. ⌜ ((ts : List ℕ) (q : ReadyQueue) (l : List Happening) → settled (store-of ts (now (objects .exit)) (now (places .exit)) q l) r ≡ resolve-child (store-of ts (now (objects .entry)) (now (places .entry)) q l) (g .0) (source .0) value) ⌝ }
+    ensures { λ r. ⌜ ((ts : List ℕ) (q : ReadyQueue) (l : List LogEntry) → settled (store-of ts (now (objects .exit)) (now (places .exit)) q l) r ≡ resolve-child (store-of ts (now (objects .entry)) (now (places .entry)) q l) (g .0) (source .0) value) ⌝ }
 {
     let o = rows::tables::load_object(objects, g);
     match o {
@@ -94,7 +94,7 @@ pub fn resolve_child(
 // The first failure of an awaited gather. One that is not awaited keeps its state.
 pub fn fail(objects: &mut [u64], g: HeapId, error: Error) -> Onward
     requires { ⌜ (length (now objects) ≡ objects-length) × (g .0 < object-limit) ⌝ }
-    ensures { λ r. ⌜ ((ts ps : List ℕ) (q : ReadyQueue) (l : List Happening) → settled (store-of ts (now (objects .exit)) ps q l) r ≡ fail-gather (store-of ts (now (objects .entry)) ps q l) (g .0) error) ⌝ }
+    ensures { λ r. ⌜ ((ts ps : List ℕ) (q : ReadyQueue) (l : List LogEntry) → settled (store-of ts (now (objects .exit)) ps q l) r ≡ fail-gather (store-of ts (now (objects .entry)) ps q l) (g .0) error) ⌝ }
 {
     let o = rows::tables::load_object(objects, g);
     match o {

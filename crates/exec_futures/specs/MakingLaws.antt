@@ -23,10 +23,10 @@ use Rattle.rows.specs.Tables.{object-put, header-at, header-put, place-put}
 use Rattle.rows.specs.TableLaws.{header-at-fits, header-at-put}
 use Rattle.queue.specs.declared.ReadyQueue.{ReadyQueue}
 use Rattle.queue.specs.Queue.{empty-queue}
-use Rattle.machine.specs.Store.{Store, Happening, store-of, header, put-header, put-object, put-place, set-calls, add-object}
+use Rattle.machine.specs.Store.{Store, LogEntry, store-of, header, put-header, put-object, put-place, set-calls, add-object}
 use Rattle.machine.specs.Events.{make-settled, put-items, make-gather}
 
-module _ (ts os ps : List ℕ) (q : ReadyQueue) (l : List Happening) {h : Header} (e : h ≡ header-at os) {us : List ℕ} where
+module _ (ts os ps : List ℕ) (q : ReadyQueue) (l : List LogEntry) {h : Header} (e : h ≡ header-at os) {us : List ℕ} where
   pub added : (x : Object) (n : ℕ) {o : HeapId} → o .0 ≡ h .made
       → us ≡ header-put os (record { made = h .made + 1; used = h .used + n; calls = h .calls; next = h .next; moment = h .moment })
       → {vs : List ℕ} → vs ≡ object-put us (o .0) x → store-of ts vs ps q l ≡ add-object (store-of ts os ps q l) x n
@@ -41,7 +41,7 @@ module _ (ts os ps : List ℕ) (q : ReadyQueue) (l : List Happening) {h : Header
 -- ---- a settled external
 
 module _ (os : List ℕ) (z : length os ≡ objects-length) (n : ℕ) (k : n < call-limit) {us : List ℕ}
-    (g : (ts ps : List ℕ) (q : ReadyQueue) (l : List Happening) → store-of ts us ps q l ≡ set-calls (store-of ts os ps q l) (n + 1)) where
+    (g : (ts ps : List ℕ) (q : ReadyQueue) (l : List LogEntry) → store-of ts us ps q l ≡ set-calls (store-of ts os ps q l) (n + 1)) where
   pub allocated-made : header-at us .made ≡ header-at os .made
   unfolding set-calls put-header header
   allocated-made =
@@ -50,7 +50,7 @@ module _ (os : List ℕ) (z : length os ≡ objects-length) (n : ℕ) (k : n < c
       (ap (λ (x : Header). x .made)
       (header-at-put os _ (record { made-fits = f .made-fits; used-fits = f .used-fits; calls-fit = omega arith; next-fits = f .next-fits; moment-fits = f .moment-fits }) (omega arith)))
 
-  pub settles : n ≡ header-at os .calls → (v : Value) {c : CallId} → c ≡ call-id n → (ts ps : List ℕ) (q : ReadyQueue) (l : List Happening)
+  pub settles : n ≡ header-at os .calls → (v : Value) {c : CallId} → c ≡ call-id n → (ts ps : List ℕ) (q : ReadyQueue) (l : List LogEntry)
       → {vs : List ℕ} → store-of ts vs ps q l ≡ add-object (store-of ts us ps q l) (Object.ExternalFuture c (ExternalFutureState.Resolved v)) 0
       → store-of ts vs ps q l ≡ make-settled (store-of ts os ps q l) v
   unfolding make-settled header
@@ -61,7 +61,7 @@ module _ (os : List ℕ) (z : length os ≡ objects-length) (n : ℕ) (k : n < c
 
 -- ---- a gather
 
-module _ (items : List ℕ) (first : ℕ) (ts os : List ℕ) (q : ReadyQueue) (l : List Happening) where
+module _ (items : List ℕ) (first : ℕ) (ts os : List ℕ) (q : ReadyQueue) (l : List LogEntry) where
   pub items-turn : (ps : List ℕ) (i : ℕ) → i < length items → {o : HeapId} → o ≡ heap-id (getD items i 0) → {rs : List ℕ}
       → rs ≡ place-put ps (first + i) (record { item = o; result = OptionValue.None })
       → put-items (store-of ts os rs q l) (first + (i + 1)) (drop (i + 1) items) ≡ put-items (store-of ts os ps q l) (first + i) (drop i items)
@@ -78,7 +78,7 @@ module _ (items : List ℕ) (first : ℕ) (ts os : List ℕ) (q : ReadyQueue) (l
   pub items-begin : (ps : List ℕ) → put-items (store-of ts os ps q l) (first + 0) (drop 0 items) ≡ put-items (store-of ts os ps q l) first items
   items-begin ps = rw (add-zero first)
 
-pub gathers : (ts os ps : List ℕ) (q : ReadyQueue) (l : List Happening) {h : Header} → h ≡ header-at os → (items : List ℕ) {n : ℕ} → n ≡ length items → {os′ ps′ : List ℕ}
+pub gathers : (ts os ps : List ℕ) (q : ReadyQueue) (l : List LogEntry) {h : Header} → h ≡ header-at os → (items : List ℕ) {n : ℕ} → n ≡ length items → {os′ ps′ : List ℕ}
     → store-of ts os ps′ q l ≡ put-items (store-of ts os ps q l) (h .used) items
     → store-of ts os′ ps′ q l ≡ add-object (store-of ts os ps′ q l) (Object.GatherFuture (h .used) n GatherState.Pending) n
     → store-of ts os′ ps′ q l ≡ make-gather (store-of ts os ps q l) items

@@ -11,7 +11,7 @@ use Rattle.asyncio.specs.Layout.{to-value, to-error}
 use Rattle.asyncio.specs.declared.Value.{Value}
 use Rattle.asyncio.specs.declared.Error.{Error}
 use Rattle.queue.specs.declared.ReadyQueue.{ReadyQueue}
-use Rattle.machine.specs.Store.{Store, Happening, store-of}
+use Rattle.machine.specs.Store.{Store, LogEntry, store-of}
 use Rattle.machine.specs.Delivery.{resolve-future, fail-future}
 use Rattle.machine.specs.Events.{Result, apply-result, apply-future-results}
 use Rattle.exec_futures.specs.Results.{result-at, results-from, results-in}
@@ -20,7 +20,7 @@ use Rattle.exec_futures.specs.Results.{result-at, results-from, results-
 same-store : {x y : Store} → x ≡ y → {ts os ps : List ℕ} {q : ReadyQueue} → store-of ts os ps q (y .log) ≡ y → store-of ts os ps q (x .log) ≡ x
 same-store e r = rw e r
 
-module _ (ts os ps : List ℕ) (q : ReadyQueue) (l : List Happening) (r : Result) {call kind : ℕ} (c : call ≡ r .call) (k : kind ≡ r .kind) where
+module _ (ts os ps : List ℕ) (q : ReadyQueue) (l : List LogEntry) (r : Result) {call kind : ℕ} (c : call ≡ r .call) (k : kind ≡ r .kind) where
   abbrev here : Store
   here = store-of ts os ps q l
 
@@ -76,7 +76,7 @@ module _ (bs : List ℕ) (s : Store) where
 
   pub results-turn : (i : ℕ) {ts os ps : List ℕ} {q : ReadyQueue} → store-of ts os ps q (apply-future-results s (results-from bs 0 i) .log) ≡ apply-future-results s (results-from bs 0 i)
       → {ts′ os′ ps′ : List ℕ} {q′ : ReadyQueue}
-      → ((l : List Happening) → store-of ts′ os′ ps′ q′ (apply-result (store-of ts os ps q l) (result-at bs (i * 14)) .log) ≡ apply-result (store-of ts os ps q l) (result-at bs (i * 14)))
+      → ((l : List LogEntry) → store-of ts′ os′ ps′ q′ (apply-result (store-of ts os ps q l) (result-at bs (i * 14)) .log) ≡ apply-result (store-of ts os ps q l) (result-at bs (i * 14)))
       → store-of ts′ os′ ps′ q′ (apply-future-results s (results-from bs 0 (i + 1)) .log) ≡ apply-future-results s (results-from bs 0 (i + 1))
   results-turn i d r =
       let n : i + 1 ≡ suc i = add-one i in

@@ -17,13 +17,13 @@ ghost use lib.ListN.{length};
 ghost use Rattle.asyncio.specs.Limits.{object-limit, item-limit, place-limit, call-limit, objects-length, places-length};
 ghost use Rattle.rows.specs.Tables.{header-at};
 ghost use Rattle.queue.specs.declared.ReadyQueue.{ReadyQueue};
-ghost use Rattle.machine.specs.Store.{Happening, store-of, set-calls, add-object};
+ghost use Rattle.machine.specs.Store.{LogEntry, store-of, set-calls, add-object};
 ghost use Rattle.machine.specs.Events.{make-coroutine, make-pending, make-settled, put-items, make-gather};
 
 // An object at the end, and `n` places given to it.
 fn add_object(objects: &mut [u64], x: Object, n: u16) -> HeapId
     requires { ⌜ (length (now objects) ≡ objects-length) × (header-at (now objects) .made < object-limit) × (n ≤ item-limit) ⌝ }
-    ensures { λ r. ⌜ (r .0 ≡ header-at (now (objects .entry)) .made) × ((ts ps : List ℕ) (q : ReadyQueue) (l : List Happening) → store-of ts (now (objects .exit)) ps q l ≡ add-object (store-of ts (now (objects .entry)) ps q l) x n) ⌝ }
+    ensures { λ r. ⌜ (r .0 ≡ header-at (now (objects .entry)) .made) × ((ts ps : List ℕ) (q : ReadyQueue) (l : List LogEntry) → store-of ts (now (objects .exit)) ps q l ≡ add-object (store-of ts (now (objects .entry)) ps q l) x n) ⌝ }
 {
     let header = rows::tables::load_header(objects);
     let moment = header.moment;
@@ -45,7 +45,7 @@ fn add_object(objects: &mut [u64], x: Object, n: u16) -> HeapId
 // The next call's number is handed out.
 pub fn allocate_call_id(objects: &mut [u64]) -> u32
     requires { ⌜ length (now objects) ≡ objects-length ⌝ }
-    ensures { λ r. ⌜ (r ≡ header-at (now (objects .entry)) .calls) × ((ts ps : List ℕ) (q : ReadyQueue) (l : List Happening) → store-of ts (now (objects .exit)) ps q l ≡ set-calls (store-of ts (now (objects .entry)) ps q l) (r + 1)) ⌝ }
+    ensures { λ r. ⌜ (r ≡ header-at (now (objects .entry)) .calls) × ((ts ps : List ℕ) (q : ReadyQueue) (l : List LogEntry) → store-of ts (now (objects .exit)) ps q l ≡ set-calls (store-of ts (now (objects .entry)) ps q l) (r + 1)) ⌝ }
 {
     let header = rows::tables::load_header(objects);
     let moment = header.moment;
@@ -66,7 +66,7 @@ pub fn allocate_call_id(objects: &mut [u64]) -> u32
 // A new coroutine of a function.
 pub fn make_coroutine(objects: &mut [u64], function: u32) -> HeapId
     requires { ⌜ (length (now objects) ≡ objects-length) × (header-at (now objects) .made < object-limit) ⌝ }
-    ensures { λ r. ⌜ (r .0 ≡ header-at (now (objects .entry)) .made) × ((ts ps : List ℕ) (q : ReadyQueue) (l : List Happening) → store-of ts (now (objects .exit)) ps q l ≡ make-coroutine (store-of ts (now (objects .entry)) ps q l) function) ⌝ }
+    ensures { λ r. ⌜ (r .0 ≡ header-at (now (objects .entry)) .made) × ((ts ps : List ℕ) (q : ReadyQueue) (l : List LogEntry) → store-of ts (now (objects .exit)) ps q l ≡ make-coroutine (store-of ts (now (objects .entry)) ps q l) function) ⌝ }
 {
     let x = Object::Coroutine {
         function,
@@ -78,7 +78,7 @@ pub fn make_coroutine(objects: &mut [u64], function: u32) -> HeapId
 // An external of a call, with a stored result or none (add_pending_call, add_pending_sleep).
 pub fn push_pending_future(objects: &mut [u64], call: CallId, stored: OptionValue) -> HeapId
     requires { ⌜ (length (now objects) ≡ objects-length) × (header-at (now objects) .made < object-limit) ⌝ }
-    ensures { λ r. ⌜ (r .0 ≡ header-at (now (objects .entry)) .made) × ((ts ps : List ℕ) (q : ReadyQueue) (l : List Happening) → store-of ts (now (objects .exit)) ps q l ≡ make-pending (store-of ts (now (objects .entry)) ps q l) (call .0) stored) ⌝ }
+    ensures { λ r. ⌜ (r .0 ≡ header-at (now (objects .entry)) .made) × ((ts ps : List ℕ) (q : ReadyQueue) (l : List LogEntry) → store-of ts (now (objects .exit)) ps q l ≡ make-pending (store-of ts (now (objects .entry)) ps q l) (call .0) stored) ⌝ }
 {
     let x = Object::ExternalFuture {
         call,
@@ -93,7 +93,7 @@ pub fn push_pending_future(objects: &mut [u64], call: CallId, stored: OptionValu
 // An external that has its value already. It takes a call number too.
 pub fn settled_awaitable(objects: &mut [u64], value: Value) -> HeapId
     requires { ⌜ (length (now objects) ≡ objects-length) × (header-at (now objects) .made < object-limit) × (header-at (now objects) .calls < call-limit) ⌝ }
-    ensures { λ r. ⌜ (r .0 ≡ header-at (now (objects .entry)) .made) × ((ts ps : List ℕ) (q : ReadyQueue) (l : List Happening) → store-of ts (now (objects .exit)) ps q l ≡ make-settled (store-of ts (now (objects .entry)) ps q l) value) ⌝ }
+    ensures { λ r. ⌜ (r .0 ≡ header-at (now (objects .entry)) .made) × ((ts ps : List ℕ) (q : ReadyQueue) (l : List LogEntry) → store-of ts (now (objects .exit)) ps q l ≡ make-settled (store-of ts (now (objects .entry)) ps q l) value) ⌝ }
 {
     let n = allocate_call_id(objects);
     let x = Object::ExternalFuture {
@@ -106,7 +106,7 @@ pub fn settled_awaitable(objects: &mut [u64], value: Value) -> HeapId
 // The items in the places from `first` on.
 fn put_items(places: &mut [u64], first: usize, items: &[u16])
     requires { ⌜ (length (now places) ≡ places-length) × (first + length (now items) ≤ place-limit) ⌝ }
-    ensures { λ _. ⌜ ((ts os : List ℕ) (q : ReadyQueue) (l : List Happening) → store-of ts os (now (places .exit)) q l ≡ put-items (store-of ts os (now (places .entry)) q l) first (now (items .entry))) ⌝ }
+    ensures { λ _. ⌜ ((ts os : List ℕ) (q : ReadyQueue) (l : List LogEntry) → store-of ts os (now (places .exit)) q l ≡ put-items (store-of ts os (now (places .entry)) q l) first (now (items .entry))) ⌝ }
 {
     let n = items.len();
     let mut i: usize = 0;
@@ -123,7 +123,7 @@ fn put_items(places: &mut [u64], first: usize, items: &[u16])
 // A gather of the items, not committed.
 pub fn make_gather(objects: &mut [u64], places: &mut [u64], items: &[u16]) -> HeapId
     requires { ⌜ (length (now objects) ≡ objects-length) × (length (now places) ≡ places-length) × (header-at (now objects) .made < object-limit) × (length (now items) ≤ item-limit) × (header-at (now objects) .used + length (now items) ≤ place-limit) ⌝ }
-    ensures { λ r. ⌜ (r .0 ≡ header-at (now (objects .entry)) .made) × ((ts : List ℕ) (q : ReadyQueue) (l : List Happening) → store-of ts (now (objects .exit)) (now (places .exit)) q l ≡ make-gather (store-of ts (now (objects .entry)) (now (places .entry)) q l) (now (items .entry))) ⌝ }
+    ensures { λ r. ⌜ (r .0 ≡ header-at (now (objects .entry)) .made) × ((ts : List ℕ) (q : ReadyQueue) (l : List LogEntry) → store-of ts (now (objects .exit)) (now (places .exit)) q l ≡ make-gather (store-of ts (now (objects .entry)) (now (places .entry)) q l) (now (items .entry))) ⌝ }
 {
     let header = rows::tables::load_header(objects);
     let first = header.used;

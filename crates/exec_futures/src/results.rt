@@ -10,7 +10,7 @@ ghost use mathlib.Core.List.{List};
 ghost use Prim.Native.Nat.{ℕ, _≤_, _+_};
 ghost use lib.ListN.{length};
 ghost use Rattle.asyncio.specs.Limits.{tasks-length, objects-length, places-length};
-ghost use Rattle.machine.specs.Store.{Happening, store-of};
+ghost use Rattle.machine.specs.Store.{LogEntry, store-of};
 ghost use Rattle.machine.specs.Events.{apply-result, apply-future-results};
 ghost use Rattle.exec_futures.specs.Results.{result-at, results-in};
 
@@ -24,7 +24,7 @@ fn apply_result(
     at: usize,
 ) -> ReadyQueue
     requires { ⌜ (length (now tasks) ≡ tasks-length) × (length (now objects) ≡ objects-length) × (length (now places) ≡ places-length) × (at + 14 ≤ length (now results)) ⌝ }
-    ensures { λ r. ⌜ ((l : List Happening) → store-of (now (tasks .exit)) (now (objects .exit)) (now (places .exit)) r (apply-result (store-of (now (tasks .entry)) (now (objects .entry)) (now (places .entry)) queue l) (result-at (now (results .entry)) at) .log) ≡ apply-result (store-of (now (tasks .entry)) (now (objects .entry)) (now (places .entry)) queue l) (result-at (now (results .entry)) at)) ⌝ }
+    ensures { λ r. ⌜ ((l : List LogEntry) → store-of (now (tasks .exit)) (now (objects .exit)) (now (places .exit)) r (apply-result (store-of (now (tasks .entry)) (now (objects .entry)) (now (places .entry)) queue l) (result-at (now (results .entry)) at) .log) ≡ apply-result (store-of (now (tasks .entry)) (now (objects .entry)) (now (places .entry)) queue l) (result-at (now (results .entry)) at)) ⌝ }
 {
     let call = endian::u32_at(results, at) as u32;
     let kind = endian::u8_at(results, at + 4);
@@ -55,7 +55,7 @@ pub fn apply_future_results(
     results: &[u8],
 ) -> ReadyQueue
     requires { ⌜ (length (now tasks) ≡ tasks-length) × (length (now objects) ≡ objects-length) × (length (now places) ≡ places-length) ⌝ }
-    ensures { λ r. ⌜ ((l : List Happening) → store-of (now (tasks .exit)) (now (objects .exit)) (now (places .exit)) r (apply-future-results (store-of (now (tasks .entry)) (now (objects .entry)) (now (places .entry)) queue l) (results-in (now (results .entry))) .log) ≡ apply-future-results (store-of (now (tasks .entry)) (now (objects .entry)) (now (places .entry)) queue l) (results-in (now (results .entry)))) ⌝ }
+    ensures { λ r. ⌜ ((l : List LogEntry) → store-of (now (tasks .exit)) (now (objects .exit)) (now (places .exit)) r (apply-future-results (store-of (now (tasks .entry)) (now (objects .entry)) (now (places .entry)) queue l) (results-in (now (results .entry))) .log) ≡ apply-future-results (store-of (now (tasks .entry)) (now (objects .entry)) (now (places .entry)) queue l) (results-in (now (results .entry)))) ⌝ }
 {
     let n = results.len() / 14;
     let mut left = queue;

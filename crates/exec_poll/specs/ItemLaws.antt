@@ -21,7 +21,7 @@ use Rattle.asyncio.specs.declared.Object.{Object}
 use Rattle.rows.specs.Tables.{object-at, object-put, place-at}
 use Rattle.queue.specs.declared.ReadyQueue.{ReadyQueue}
 use Rattle.scheduler.specs.Spawn.{Spawns, done, not-done}
-use Rattle.machine.specs.Store.{Store, Happening, store-of, object, put-object, place}
+use Rattle.machine.specs.Store.{Store, LogEntry, store-of, object, put-object, place}
 use Rattle.machine.specs.Scheduler.{as-awaited}
 use Rattle.machine.specs.Scheduler as scheduler
 use Rattle.machine.specs.Commit.{raised, pending, Polled, gives, await-pending, await-external, polled-spawn, item-coroutine, polled, item-gather, item-object, open-from, item}
@@ -56,7 +56,7 @@ module _ (s : Store) (o : ℕ) (c : CallId) (r : OptionValue) (a : Awaiter) wher
   awaits-not (Awaiter.Task t) e = refl
   awaits-not (Awaiter.GatherSlot g y) e = refl
 
-module _ (ts os ps : List ℕ) (q : ReadyQueue) (l : List Happening) (o : ℕ) (c : CallId) (a : Awaiter) {x : ExternalFutureState} where
+module _ (ts os ps : List ℕ) (q : ReadyQueue) (l : List LogEntry) (o : ℕ) (c : CallId) (a : Awaiter) {x : ExternalFutureState} where
   module _ (b : Awaiter) (r : OptionValue) (e : x ≡ ExternalFutureState.Pending b r) {n : Bool} (f : n ≡ is-nobody b) where
     -- it takes the awaiter
     pub external-taken : n ≡ true → {us : List ℕ} → us ≡ object-put os o (Object.ExternalFuture c (ExternalFutureState.Pending a r))
@@ -77,7 +77,7 @@ module _ (ts os ps : List ℕ) (q : ReadyQueue) (l : List Happening) (o : ℕ) (
 -- ---- a coroutine
 
 coroutine-done : (ts os : List ℕ) (q : ReadyQueue) (o g : ℕ) (ts′ os′ : List ℕ) (q′ : ReadyQueue) (b : Bool) → Spawns ts os q o g ts′ os′ q′ b → b ≡ true
-    → (ps : List ℕ) (l : List Happening)
+    → (ps : List ℕ) (l : List LogEntry)
     → gives (store-of ts′ os′ ps q′ (item-coroutine (store-of ts os ps q l) g o CoroutineState.New .store .log)) pending
     ≡ item-coroutine (store-of ts os ps q l) g o CoroutineState.New
 unfolding item-coroutine polled-spawn
@@ -85,14 +85,14 @@ coroutine-done ts os q o g ts′ os′ q′ b (done h) e ps l = rw (h ps l)
 coroutine-done ts os q o g ts′ os′ q′ b (not-done h) e ps l = absurd (true≢false (sym e))
 
 coroutine-not-done : (ts os : List ℕ) (q : ReadyQueue) (o g : ℕ) (ts′ os′ : List ℕ) (q′ : ReadyQueue) (b : Bool) → Spawns ts os q o g ts′ os′ q′ b → b ≡ false
-    → (ps : List ℕ) (l : List Happening)
+    → (ps : List ℕ) (l : List LogEntry)
     → gives (store-of ts′ os′ ps q′ (item-coroutine (store-of ts os ps q l) g o CoroutineState.New .store .log)) (raised Error.CoroutineReuse)
     ≡ item-coroutine (store-of ts os ps q l) g o CoroutineState.New
 unfolding item-coroutine polled-spawn
 coroutine-not-done ts os q o g ts′ os′ q′ b (done h) e ps l = absurd (true≢false e)
 coroutine-not-done ts os q o g ts′ os′ q′ b (not-done h) e ps l = rw (h ps l)
 
-module _ (ts os ps : List ℕ) (q : ReadyQueue) (l : List Happening) (g o : ℕ) {x : CoroutineState} where
+module _ (ts os ps : List ℕ) (q : ReadyQueue) (l : List LogEntry) (g o : ℕ) {x : CoroutineState} where
   -- it was awaited before
   pub coroutine-reused : (y : CoroutineState) → x ≡ y → gives (store-of ts os ps q l) (raised Error.CoroutineReuse) ≡ item-coroutine (store-of ts os ps q l) g o y
       → gives (store-of ts os ps q (item-coroutine (store-of ts os ps q l) g o x .store .log)) (raised Error.CoroutineReuse)
@@ -139,7 +139,7 @@ open-begins ps w o n = let k : n - 0 ≡ n = omega arith in rw k
 
 -- ---- an item
 
-module _ (ts os ps : List ℕ) (q : ReadyQueue) (l : List Happening) (g o : ℕ) {x : Object} (e : x ≡ object-at os o) where
+module _ (ts os ps : List ℕ) (q : ReadyQueue) (l : List LogEntry) (g o : ℕ) {x : Object} (e : x ≡ object-at os o) where
   abbrev here : Store
   here = store-of ts os ps q l
 
@@ -166,7 +166,7 @@ module _ (ts os ps : List ℕ) (q : ReadyQueue) (l : List Happening) (g o : ℕ)
   item-nests i n y f (ItemPoll.Polled p) h = rw (← e, f, ← h)
   item-nests i n y f ItemPoll.Nested h = rw (← e, f, ← h)
 
-module _ (ts os ps : List ℕ) (q : ReadyQueue) (l : List Happening) (g : ℕ) (w : scheduler.AwaitedGather) (o : ℕ) {b : Bool}
+module _ (ts os ps : List ℕ) (q : ReadyQueue) (l : List LogEntry) (g : ℕ) (w : scheduler.AwaitedGather) (o : ℕ) {b : Bool}
     (e : b ≡ open-from (λ p. place-at ps p) w o 0 (w .count)) where
   abbrev from : Store
   from = store-of ts os ps q l

@@ -18,7 +18,7 @@ ghost use Rattle.asyncio.specs.Limits.{object-limit, item-limit, place-limit, t
 ghost use Rattle.asyncio.specs.Ranges.{PlacesFit};
 ghost use Rattle.rows.specs.Tables.{place-at};
 ghost use Rattle.queue.specs.declared.ReadyQueue.{ReadyQueue};
-ghost use Rattle.machine.specs.Store.{Store, Happening, store-of};
+ghost use Rattle.machine.specs.Store.{Store, LogEntry, store-of};
 ghost use Rattle.machine.specs.Commit.{gives, await-external, item-coroutine, item-gather, open-from};
 ghost use Rattle.exec_poll.specs.Polls.{poll-of, awaited-of, open-here, with-item, itemed, item-at, item-here};
 
@@ -56,7 +56,7 @@ pub fn await_external(
     awaiter: Awaiter,
 ) -> Poll
     requires { ⌜ (length (now objects) ≡ objects-length) × (o .0 < object-limit) ⌝ }
-    ensures { λ r. ⌜ ((ts ps : List ℕ) (q : ReadyQueue) (l : List Happening) → gives (store-of ts (now (objects .exit)) ps q l) (poll-of r) ≡ await-external (store-of ts (now (objects .entry)) ps q l) (o .0) call state awaiter) ⌝ }
+    ensures { λ r. ⌜ ((ts ps : List ℕ) (q : ReadyQueue) (l : List LogEntry) → gives (store-of ts (now (objects .exit)) ps q l) (poll-of r) ≡ await-external (store-of ts (now (objects .entry)) ps q l) (o .0) call state awaiter) ⌝ }
 {
     match state {
         ExternalFutureState::Resolved(v) => Poll::Ready(v),
@@ -91,7 +91,7 @@ fn item_coroutine(
     state: CoroutineState,
 ) -> Polled
     requires { ⌜ (length (now tasks) ≡ tasks-length) × (length (now objects) ≡ objects-length) ⌝ }
-    ensures { λ r. ⌜ ((ps : List ℕ) (l : List Happening) → gives (store-of (now (tasks .exit)) (now (objects .exit)) ps (r .queue) (item-coroutine (store-of (now (tasks .entry)) (now (objects .entry)) ps queue l) (g .0) (o .0) state .store .log)) (poll-of (r .poll)) ≡ item-coroutine (store-of (now (tasks .entry)) (now (objects .entry)) ps queue l) (g .0) (o .0) state) ⌝ }
+    ensures { λ r. ⌜ ((ps : List ℕ) (l : List LogEntry) → gives (store-of (now (tasks .exit)) (now (objects .exit)) ps (r .queue) (item-coroutine (store-of (now (tasks .entry)) (now (objects .entry)) ps queue l) (g .0) (o .0) state .store .log)) (poll-of (r .poll)) ≡ item-coroutine (store-of (now (tasks .entry)) (now (objects .entry)) ps queue l) (g .0) (o .0) state) ⌝ }
 {
     match state {
         CoroutineState::New => {
@@ -172,7 +172,7 @@ fn item_object(
     o: HeapId,
 ) -> PolledItem
     requires { ⌜ (length (now tasks) ≡ tasks-length) × (length (now objects) ≡ objects-length) × (o .0 < object-limit) ⌝ }
-    ensures { λ r. ⌜ ((ps : List ℕ) (l : List Happening) → with-item (store-of (now (tasks .exit)) (now (objects .exit)) ps (r .queue) (item-here (store-of (now (tasks .entry)) (now (objects .entry)) ps queue l) (g .0) (o .0) .store .log)) (r .item) ≡ item-here (store-of (now (tasks .entry)) (now (objects .entry)) ps queue l) (g .0) (o .0)) ⌝ }
+    ensures { λ r. ⌜ ((ps : List ℕ) (l : List LogEntry) → with-item (store-of (now (tasks .exit)) (now (objects .exit)) ps (r .queue) (item-here (store-of (now (tasks .entry)) (now (objects .entry)) ps queue l) (g .0) (o .0) .store .log)) (r .item) ≡ item-here (store-of (now (tasks .entry)) (now (objects .entry)) ps queue l) (g .0) (o .0)) ⌝ }
 {
     let x = rows::tables::load_object(objects, o);
     match x {
@@ -227,7 +227,7 @@ pub fn item(
     o: HeapId,
 ) -> PolledItem
     requires { ⌜ (length (now tasks) ≡ tasks-length) × (length (now objects) ≡ objects-length) × (length (now places) ≡ places-length) × PlacesFit (w .first) (w .count) × (o .0 < object-limit) ⌝ }
-    ensures { λ r. ⌜ ((l : List Happening) → with-item (store-of (now (tasks .exit)) (now (objects .exit)) (now (places .entry)) (r .queue) (item-at (store-of (now (tasks .entry)) (now (objects .entry)) (now (places .entry)) queue l) (g .0) (awaited-of w) (o .0) .store .log)) (r .item) ≡ item-at (store-of (now (tasks .entry)) (now (objects .entry)) (now (places .entry)) queue l) (g .0) (awaited-of w) (o .0)) ⌝ }
+    ensures { λ r. ⌜ ((l : List LogEntry) → with-item (store-of (now (tasks .exit)) (now (objects .exit)) (now (places .entry)) (r .queue) (item-at (store-of (now (tasks .entry)) (now (objects .entry)) (now (places .entry)) queue l) (g .0) (awaited-of w) (o .0) .store .log)) (r .item) ≡ item-at (store-of (now (tasks .entry)) (now (objects .entry)) (now (places .entry)) queue l) (g .0) (awaited-of w) (o .0)) ⌝ }
 {
     if is_open(places, w, o) {
         return PolledItem {

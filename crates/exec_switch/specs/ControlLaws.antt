@@ -10,7 +10,7 @@ use Rattle.asyncio.specs.declared.Moment.{Moment}
 use Rattle.rows.specs.Tables.{task-at, task-put}
 use Rattle.queue.specs.declared.ReadyQueue.{ReadyQueue}
 use Rattle.queue.specs.Queue.{empty-queue}
-use Rattle.machine.specs.Store.{Store, Happening, store-of, task, put-task, header, put-header, restate, set-state, set-moment}
+use Rattle.machine.specs.Store.{Store, LogEntry, store-of, task, put-task, header, put-header, restate, set-state, set-moment}
 use Rattle.machine.specs.Scheduler.{pending-calls-in, pending-call-ids}
 use Rattle.machine.specs.Events.{run, yield}
 use Rattle.machine_laws.specs.Views.{Sized}
@@ -28,12 +28,12 @@ unfolding some-tasks
 some-tasks-long = refl
 
 -- another moment leaves the pending calls
-waiting-same : (os : List ℕ) (q : ReadyQueue) (l : List Happening) → length os ≡ objects-length → pending-calls-in (moment-put os Moment.Waiting) ≡ pending-calls-in os
+waiting-same : (os : List ℕ) (q : ReadyQueue) (l : List LogEntry) → length os ≡ objects-length → pending-calls-in (moment-put os Moment.Waiting) ≡ pending-calls-in os
 unfolding pending-call-ids set-moment put-header header moment-put
 waiting-same os q l y =
     waiting-calls (store-of some-tasks os some-places q l) (record { tasks-sized = some-tasks-long; objects-sized = y; places-sized = some-places-long })
 
-module _ (ts os ps : List ℕ) (q : ReadyQueue) (l : List Happening) where
+module _ (ts os ps : List ℕ) (q : ReadyQueue) (l : List LogEntry) where
   pub runs-now : (t : TaskId) (h : How) {ts′ os′ : List ℕ} → ts′ ≡ task-put ts (t .0) (restate (task-at ts (t .0)) TaskState.Running) → os′ ≡ moment-put os (Moment.Running t)
       → switched-of (store-of ts′ os′ ps q l) (Control.Runs t h) ≡ run (store-of ts os ps q l) (t .0) (how-of h)
   unfolding run set-state set-moment put-task put-header task header moment-put

@@ -25,7 +25,7 @@ use Rattle.queue.specs.Queue.{front-of, pop-front, remove}
 use Rattle.scheduler.specs.declared.tasks.Found.{Found}
 use Rattle.exec_fill.specs.Delivered.{number, delivered}
 use Rattle.exec_deliver.specs.ClimbLaws.{some-places, some-places-long}
-use Rattle.machine.specs.Store.{Store, Happening, exited, store-of, task, put-task, object, put-object, put-queue, note, absent, set-moment, set-state, put-header}
+use Rattle.machine.specs.Store.{Store, LogEntry, exited, store-of, task, put-task, object, put-object, put-queue, add-log, absent, set-moment, set-state, put-header}
 use Rattle.machine.specs.Scheduler.{live-in, live-count, remove-task, remove-from-ready-queue}
 use Rattle.machine.specs.Delivery.{Delivery, deliver-awaiter-failure}
 use Rattle.machine.specs.Events.{Switched, How, start, run, yield, new-function, start-by, start-task, handle-task-failure, resume-after-task-exit, resume-next, activate-state, activate}
@@ -61,7 +61,7 @@ module _ (s : Store) {ts os ps : List ℕ} {q : ReadyQueue} (c : Control) where
   unfolding yield set-moment put-header
   yield-logs r = r
 
-module _ (ts os ps : List ℕ) (q : ReadyQueue) (l : List Happening) where
+module _ (ts os ps : List ℕ) (q : ReadyQueue) (l : List LogEntry) where
   abbrev here : Store
   here = store-of ts os ps q l
 
@@ -151,8 +151,8 @@ module _ (ts os ps : List ℕ) (q : ReadyQueue) (l : List Happening) where
 
   module _ (t : ℕ) (x : Error) {a : Awaiter} (e : a ≡ task-at ts t .awaiter) {ts₁ os₁ : List ℕ} {q₁ : ReadyQueue} (m : Found)
       (d : delivered (store-of ts₁ os₁ ps q₁ (deliver-awaiter-failure here a x .store .log)) m ≡ deliver-awaiter-failure here a x)
-      {ts₂ : List ℕ} {q₂ : ReadyQueue} (r : (us rs : List ℕ) (k : List Happening) → store-of ts₂ us rs q₂ k ≡ remove-task (store-of ts₁ us rs q₁ k) t) where
-    abbrev left-log : List Happening
+      {ts₂ : List ℕ} {q₂ : ReadyQueue} (r : (us rs : List ℕ) (k : List LogEntry) → store-of ts₂ us rs q₂ k ≡ remove-task (store-of ts₁ us rs q₁ k) t) where
+    abbrev left-log : List LogEntry
     left-log = deliver-awaiter-failure here a x .store .log
 
     -- the exit that the failure comes to
@@ -160,11 +160,11 @@ module _ (ts os ps : List ℕ) (q : ReadyQueue) (l : List Happening) where
     after-exit = resume-after-task-exit activate (delivered (store-of ts₂ os₁ ps q₂ (exited t ∷ left-log)) m)
 
     exits : Delivery → Switched
-    exits f = resume-after-task-exit activate (record { store = note (remove-task (f .store) t) (exited t); woken = f .woken })
+    exits f = resume-after-task-exit activate (record { store = add-log (remove-task (f .store) t) (exited t); woken = f .woken })
 
     leaves : exits (delivered (store-of ts₁ os₁ ps q₁ left-log) m) ≡ after-exit
     leaves =
-        unfold exits after-exit note in
+        unfold exits after-exit add-log in
         (ap (λ (s : Store). resume-after-task-exit activate (record { store = record { tasks = s .tasks; objects = s .objects; places = s .places; queue = s .queue; log = exited t ∷ s .log }; woken = number m }))
         (sym (r os₁ ps left-log)))
 
@@ -201,7 +201,7 @@ module _ (ts os : List ℕ) (q : ReadyQueue) (t : ℕ) (x : Error) (z : length t
   same : SameLive (store-of ts os some-places q []) (store-of ts₁ os₁ some-places q₁ (deliver-awaiter-failure (store-of ts os some-places q []) a x .store .log))
   same = rw (ap (λ (k : Delivery). k .store) d) (failure-same (store-of ts os some-places q []) a x sized awaiter-fits)
 
-  pub failure-falls : {ts₂ : List ℕ} {q₂ : ReadyQueue} → ((us rs : List ℕ) (k : List Happening) → store-of ts₂ us rs q₂ k ≡ remove-task (store-of ts₁ us rs q₁ k) t)
+  pub failure-falls : {ts₂ : List ℕ} {q₂ : ReadyQueue} → ((us rs : List ℕ) (k : List LogEntry) → store-of ts₂ us rs q₂ k ≡ remove-task (store-of ts₁ us rs q₁ k) t)
       → live-in ts₂ ≡ live-in (task-put ts t absent)
   unfolding live-in remove-task remove-from-ready-queue put-queue put-task task
   failure-falls {ts₂} r =

@@ -12,7 +12,7 @@ ghost use mathlib.Core.List.{List};
 ghost use Prim.Native.Nat.{ℕ, _<_};
 ghost use lib.ListN.{length};
 ghost use Rattle.asyncio.specs.Limits.{task-limit, tasks-length, objects-length};
-ghost use Rattle.machine.specs.Store.{Happening, store-of};
+ghost use Rattle.machine.specs.Store.{LogEntry, store-of};
 ghost use Rattle.machine.specs.Events.{run, yield};
 ghost use Rattle.exec_switch.specs.Control.{moment-put, how-of, switched-of};
 
@@ -63,7 +63,7 @@ pub fn run(
     how: How,
 ) -> Switched
     requires { ⌜ (length (now tasks) ≡ tasks-length) × (length (now objects) ≡ objects-length) × (t .0 < task-limit) ⌝ }
-    ensures { λ r. ⌜ ((ps : List ℕ) (l : List Happening) → switched-of (store-of (now (tasks .exit)) (now (objects .exit)) ps (r .queue) l) (r .control) ≡ run (store-of (now (tasks .entry)) (now (objects .entry)) ps queue l) (t .0) (how-of how)) ⌝ }
+    ensures { λ r. ⌜ ((ps : List ℕ) (l : List LogEntry) → switched-of (store-of (now (tasks .exit)) (now (objects .exit)) ps (r .queue) l) (r .control) ≡ run (store-of (now (tasks .entry)) (now (objects .entry)) ps queue l) (t .0) (how-of how)) ⌝ }
 {
     scheduler::states::set_state(tasks, t, TaskState::Running);
     set_moment(objects, Moment::Running(t));
@@ -76,7 +76,7 @@ pub fn run(
 // The host has control.
 pub fn yield_control(objects: &mut [u64], queue: ReadyQueue) -> Switched
     requires { ⌜ length (now objects) ≡ objects-length ⌝ }
-    ensures { λ r. ⌜ ((ts ps : List ℕ) (l : List Happening) → switched-of (store-of ts (now (objects .exit)) ps (r .queue) l) (r .control) ≡ yield (store-of ts (now (objects .entry)) ps queue l)) ⌝ }
+    ensures { λ r. ⌜ ((ts ps : List ℕ) (l : List LogEntry) → switched-of (store-of ts (now (objects .exit)) ps (r .queue) l) (r .control) ≡ yield (store-of ts (now (objects .entry)) ps queue l)) ⌝ }
 {
     set_moment(objects, Moment::Waiting);
     Switched {

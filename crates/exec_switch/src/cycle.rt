@@ -20,7 +20,7 @@ ghost use lib.ListN.{length};
 ghost use Rattle.asyncio.specs.Limits.{task-limit, object-limit, tasks-length, objects-length, places-length};
 ghost use Rattle.rows.specs.Tables.{object-at};
 ghost use Rattle.exec_fill.specs.Delivered.{delivered};
-ghost use Rattle.machine.specs.Store.{Happening, store-of};
+ghost use Rattle.machine.specs.Store.{LogEntry, store-of};
 ghost use Rattle.machine.specs.Events.{new-function, activate, start-task, handle-task-failure, resume-after-task-exit, resume-next};
 ghost use Rattle.exec_switch.specs.Control.{switched-of, function-of, FoundFits};
 
@@ -59,7 +59,7 @@ pub fn activate_task(
     t: TaskId,
 ) -> Switched
     requires { ⌜ (length (now tasks) ≡ tasks-length) × (length (now objects) ≡ objects-length) × (t .0 < task-limit) ⌝ }
-    ensures { λ r. ⌜ ((ps : List ℕ) (l : List Happening) → length ps ≡ places-length → switched-of (store-of (now (tasks .exit)) (now (objects .exit)) ps (r .queue) (activate (store-of (now (tasks .entry)) (now (objects .entry)) ps queue l) (t .0) .store .log)) (r .control) ≡ activate (store-of (now (tasks .entry)) (now (objects .entry)) ps queue l) (t .0)) ⌝ }
+    ensures { λ r. ⌜ ((ps : List ℕ) (l : List LogEntry) → length ps ≡ places-length → switched-of (store-of (now (tasks .exit)) (now (objects .exit)) ps (r .queue) (activate (store-of (now (tasks .entry)) (now (objects .entry)) ps queue l) (t .0) .store .log)) (r .control) ≡ activate (store-of (now (tasks .entry)) (now (objects .entry)) ps queue l) (t .0)) ⌝ }
 {
     let state = rows::parts::state_at(tasks, t);
     match state {
@@ -75,7 +75,7 @@ pub fn activate_task(
 // The first run of a task: a coroutine that is not new any more fails it.
 fn start_task(tasks: &mut [u64], objects: &mut [u64], queue: ReadyQueue, t: TaskId) -> Switched
     requires { ⌜ (length (now tasks) ≡ tasks-length) × (length (now objects) ≡ objects-length) × (t .0 < task-limit) ⌝ }
-    ensures { λ r. ⌜ ((ps : List ℕ) (l : List Happening) → length ps ≡ places-length → switched-of (store-of (now (tasks .exit)) (now (objects .exit)) ps (r .queue) (start-task activate (store-of (now (tasks .entry)) (now (objects .entry)) ps queue l) (t .0) .store .log)) (r .control) ≡ start-task activate (store-of (now (tasks .entry)) (now (objects .entry)) ps queue l) (t .0)) ⌝ }
+    ensures { λ r. ⌜ ((ps : List ℕ) (l : List LogEntry) → length ps ≡ places-length → switched-of (store-of (now (tasks .exit)) (now (objects .exit)) ps (r .queue) (start-task activate (store-of (now (tasks .entry)) (now (objects .entry)) ps queue l) (t .0) .store .log)) (r .control) ≡ start-task activate (store-of (now (tasks .entry)) (now (objects .entry)) ps queue l) (t .0)) ⌝ }
 {
     let c = rows::parts::coroutine_at(tasks, t);
     let f = new_function(objects, c);
@@ -113,7 +113,7 @@ pub fn handle_task_failure(
     error: Error,
 ) -> Switched
     requires { ⌜ (length (now tasks) ≡ tasks-length) × (length (now objects) ≡ objects-length) × (t .0 < task-limit) ⌝ }
-    ensures { λ r. ⌜ ((ps : List ℕ) (l : List Happening) → length ps ≡ places-length → switched-of (store-of (now (tasks .exit)) (now (objects .exit)) ps (r .queue) (handle-task-failure activate (store-of (now (tasks .entry)) (now (objects .entry)) ps queue l) (t .0) error .store .log)) (r .control) ≡ handle-task-failure activate (store-of (now (tasks .entry)) (now (objects .entry)) ps queue l) (t .0) error) ⌝ }
+    ensures { λ r. ⌜ ((ps : List ℕ) (l : List LogEntry) → length ps ≡ places-length → switched-of (store-of (now (tasks .exit)) (now (objects .exit)) ps (r .queue) (handle-task-failure activate (store-of (now (tasks .entry)) (now (objects .entry)) ps queue l) (t .0) error .store .log)) (r .control) ≡ handle-task-failure activate (store-of (now (tasks .entry)) (now (objects .entry)) ps queue l) (t .0) error) ⌝ }
 {
     let awaiter = rows::parts::task_awaiter_at(tasks, t);
     let d = deliver_awaiter_failure(tasks, objects, queue, awaiter, error);
@@ -131,7 +131,7 @@ pub fn resume_after_task_exit(
     woken: Found,
 ) -> Switched
     requires { ⌜ (length (now tasks) ≡ tasks-length) × (length (now objects) ≡ objects-length) × FoundFits woken ⌝ }
-    ensures { λ r. ⌜ ((ps : List ℕ) (l : List Happening) → length ps ≡ places-length → switched-of (store-of (now (tasks .exit)) (now (objects .exit)) ps (r .queue) (resume-after-task-exit activate (delivered (store-of (now (tasks .entry)) (now (objects .entry)) ps queue l) woken) .store .log)) (r .control) ≡ resume-after-task-exit activate (delivered (store-of (now (tasks .entry)) (now (objects .entry)) ps queue l) woken)) ⌝ }
+    ensures { λ r. ⌜ ((ps : List ℕ) (l : List LogEntry) → length ps ≡ places-length → switched-of (store-of (now (tasks .exit)) (now (objects .exit)) ps (r .queue) (resume-after-task-exit activate (delivered (store-of (now (tasks .entry)) (now (objects .entry)) ps queue l) woken) .store .log)) (r .control) ≡ resume-after-task-exit activate (delivered (store-of (now (tasks .entry)) (now (objects .entry)) ps queue l) woken)) ⌝ }
 {
     match woken {
         Found::Nothing => switch_or_yield(tasks, objects, queue),
@@ -145,7 +145,7 @@ pub fn resume_after_task_exit(
 // The task at the queue's front, or the host.
 pub fn switch_or_yield(tasks: &mut [u64], objects: &mut [u64], queue: ReadyQueue) -> Switched
     requires { ⌜ (length (now tasks) ≡ tasks-length) × (length (now objects) ≡ objects-length) ⌝ }
-    ensures { λ r. ⌜ ((ps : List ℕ) (l : List Happening) → length ps ≡ places-length → switched-of (store-of (now (tasks .exit)) (now (objects .exit)) ps (r .queue) (resume-next activate (store-of (now (tasks .entry)) (now (objects .entry)) ps queue l) .store .log)) (r .control) ≡ resume-next activate (store-of (now (tasks .entry)) (now (objects .entry)) ps queue l)) ⌝ }
+    ensures { λ r. ⌜ ((ps : List ℕ) (l : List LogEntry) → length ps ≡ places-length → switched-of (store-of (now (tasks .exit)) (now (objects .exit)) ps (r .queue) (resume-next activate (store-of (now (tasks .entry)) (now (objects .entry)) ps queue l) .store .log)) (r .control) ≡ resume-next activate (store-of (now (tasks .entry)) (now (objects .entry)) ps queue l)) ⌝ }
 {
     if queue.len == 0 {
         return yield_control(objects, queue);

@@ -10,7 +10,7 @@ use step_checks::lent::lengths_right;
 ghost use mathlib.Core.Path.{_≡_};
 ghost use mathlib.Core.List.{List};
 ghost use Prim.Native.Nat.{ℕ};
-ghost use Rattle.machine.specs.Store.{Happening, store-of};
+ghost use Rattle.machine.specs.Store.{LogEntry, store-of};
 ghost use Rattle.machine.specs.Machine.{Event};
 ghost use Rattle.machine.specs.Lent.{lent-step};
 ghost use Rattle.step_checks.specs.Lent.{lent-of};
@@ -23,7 +23,7 @@ pub fn call(
     calls: &[u64],
     queue: ReadyQueue,
 ) -> Stepped
-    ensures { λ r. ⌜ ((l : List Happening) → lent-of (store-of (now (tasks .entry)) (now (objects .exit)) (now (places .entry)) (r .queue) (lent-step (store-of (now (tasks .entry)) (now (objects .entry)) (now (places .entry)) queue l) (now (calls .entry)) Event.call .store .log)) (now (calls .entry)) (r .answer) ≡ lent-step (store-of (now (tasks .entry)) (now (objects .entry)) (now (places .entry)) queue l) (now (calls .entry)) Event.call) ⌝ }
+    ensures { λ r. ⌜ ((l : List LogEntry) → lent-of (store-of (now (tasks .entry)) (now (objects .exit)) (now (places .entry)) (r .queue) (lent-step (store-of (now (tasks .entry)) (now (objects .entry)) (now (places .entry)) queue l) (now (calls .entry)) Event.call .store .log)) (now (calls .entry)) (r .answer) ≡ lent-step (store-of (now (tasks .entry)) (now (objects .entry)) (now (places .entry)) queue l) (now (calls .entry)) Event.call) ⌝ }
 {
     if lengths_right(tasks, objects, places, calls) {
         if is_sound(queue, tasks, objects, places) {
@@ -53,7 +53,7 @@ pub fn pending(
     call: u32,
     stored: OptionValue,
 ) -> Stepped
-    ensures { λ r. ⌜ ((l : List Happening) → lent-of (store-of (now (tasks .entry)) (now (objects .exit)) (now (places .entry)) (r .queue) (lent-step (store-of (now (tasks .entry)) (now (objects .entry)) (now (places .entry)) queue l) (now (calls .entry)) (Event.pending call stored) .store .log)) (now (calls .entry)) (r .answer) ≡ lent-step (store-of (now (tasks .entry)) (now (objects .entry)) (now (places .entry)) queue l) (now (calls .entry)) (Event.pending call stored)) ⌝ }
+    ensures { λ r. ⌜ ((l : List LogEntry) → lent-of (store-of (now (tasks .entry)) (now (objects .exit)) (now (places .entry)) (r .queue) (lent-step (store-of (now (tasks .entry)) (now (objects .entry)) (now (places .entry)) queue l) (now (calls .entry)) (Event.pending call stored) .store .log)) (now (calls .entry)) (r .answer) ≡ lent-step (store-of (now (tasks .entry)) (now (objects .entry)) (now (places .entry)) queue l) (now (calls .entry)) (Event.pending call stored)) ⌝ }
 {
     if lengths_right(tasks, objects, places, calls) {
         if is_sound(queue, tasks, objects, places) {
@@ -82,7 +82,7 @@ pub fn settled(
     queue: ReadyQueue,
     value: Value,
 ) -> Stepped
-    ensures { λ r. ⌜ ((l : List Happening) → lent-of (store-of (now (tasks .entry)) (now (objects .exit)) (now (places .entry)) (r .queue) (lent-step (store-of (now (tasks .entry)) (now (objects .entry)) (now (places .entry)) queue l) (now (calls .entry)) (Event.settled value) .store .log)) (now (calls .entry)) (r .answer) ≡ lent-step (store-of (now (tasks .entry)) (now (objects .entry)) (now (places .entry)) queue l) (now (calls .entry)) (Event.settled value)) ⌝ }
+    ensures { λ r. ⌜ ((l : List LogEntry) → lent-of (store-of (now (tasks .entry)) (now (objects .exit)) (now (places .entry)) (r .queue) (lent-step (store-of (now (tasks .entry)) (now (objects .entry)) (now (places .entry)) queue l) (now (calls .entry)) (Event.settled value) .store .log)) (now (calls .entry)) (r .answer) ≡ lent-step (store-of (now (tasks .entry)) (now (objects .entry)) (now (places .entry)) queue l) (now (calls .entry)) (Event.settled value)) ⌝ }
 {
     if lengths_right(tasks, objects, places, calls) {
         if is_sound(queue, tasks, objects, places) {

@@ -7,7 +7,7 @@ use step_checks::lent::lengths_right;
 ghost use mathlib.Core.Path.{_≡_};
 ghost use mathlib.Core.List.{List};
 ghost use Prim.Native.Nat.{ℕ};
-ghost use Rattle.machine.specs.Store.{Happening, store-of};
+ghost use Rattle.machine.specs.Store.{LogEntry, store-of};
 ghost use Rattle.machine.specs.Machine.{Event};
 ghost use Rattle.machine.specs.Lent.{lent-step};
 ghost use Rattle.step_checks.specs.Lent.{lent-of};
@@ -22,7 +22,7 @@ pub fn results(
     queue: ReadyQueue,
     results: &[u8],
 ) -> Stepped
-    ensures { λ r. ⌜ ((l : List Happening) → lent-of (store-of (now (tasks .exit)) (now (objects .exit)) (now (places .exit)) (r .queue) (lent-step (store-of (now (tasks .entry)) (now (objects .entry)) (now (places .entry)) queue l) (now (calls .entry)) (Event.results (results-in (now (results .entry)))) .store .log)) (now (calls .entry)) (r .answer) ≡ lent-step (store-of (now (tasks .entry)) (now (objects .entry)) (now (places .entry)) queue l) (now (calls .entry)) (Event.results (results-in (now (results .entry))))) ⌝ }
+    ensures { λ r. ⌜ ((l : List LogEntry) → lent-of (store-of (now (tasks .exit)) (now (objects .exit)) (now (places .exit)) (r .queue) (lent-step (store-of (now (tasks .entry)) (now (objects .entry)) (now (places .entry)) queue l) (now (calls .entry)) (Event.results (results-in (now (results .entry)))) .store .log)) (now (calls .entry)) (r .answer) ≡ lent-step (store-of (now (tasks .entry)) (now (objects .entry)) (now (places .entry)) queue l) (now (calls .entry)) (Event.results (results-in (now (results .entry))))) ⌝ }
 {
     if lengths_right(tasks, objects, places, calls) {
         if is_sound(queue, tasks, objects, places) {
@@ -53,7 +53,7 @@ pub fn resume(
     calls: &mut [u64],
     queue: ReadyQueue,
 ) -> Stepped
-    ensures { λ r. ⌜ ((l : List Happening) → lent-of (store-of (now (tasks .exit)) (now (objects .exit)) (now (places .entry)) (r .queue) (lent-step (store-of (now (tasks .entry)) (now (objects .entry)) (now (places .entry)) queue l) (now (calls .entry)) Event.resume .store .log)) (now (calls .exit)) (r .answer) ≡ lent-step (store-of (now (tasks .entry)) (now (objects .entry)) (now (places .entry)) queue l) (now (calls .entry)) Event.resume) ⌝ }
+    ensures { λ r. ⌜ ((l : List LogEntry) → lent-of (store-of (now (tasks .exit)) (now (objects .exit)) (now (places .entry)) (r .queue) (lent-step (store-of (now (tasks .entry)) (now (objects .entry)) (now (places .entry)) queue l) (now (calls .entry)) Event.resume .store .log)) (now (calls .exit)) (r .answer) ≡ lent-step (store-of (now (tasks .entry)) (now (objects .entry)) (now (places .entry)) queue l) (now (calls .entry)) Event.resume) ⌝ }
 {
     if lengths_right(tasks, objects, places, calls) {
         if is_sound(queue, tasks, objects, places) {

@@ -22,7 +22,7 @@ use Rattle.asyncio.specs.Kinds.{kind, is-awaited}
 use Rattle.asyncio.specs.Limits.{object-limit}
 use Rattle.machine.specs.Tests.{count}
 use Rattle.rows.specs.Tables.{place-at, place-put, object-at}
-use Rattle.machine.specs.Store.{Store, task, object, put-object, put-places, note, reached}
+use Rattle.machine.specs.Store.{Store, task, object, put-object, put-places, add-log, reached}
 use Rattle.machine.specs.Scheduler.{AwaitedGather, PendingExternal, as-awaited, as-pending, bit, make-ready, pending-external}
 
 -- The store after a delivery, and the task that it woke.
@@ -37,7 +37,7 @@ nobody-woken s = record { store = s; woken = none }
 -- A blocked task becomes ready with a value or an error; any other receives nothing.
 unfoldable pub deliver-to-task : Store → ℕ → TaskState → Delivery
 deliver-to-task s t x =
-    pick (is-blocked (task s t .state)) (record { store = note (make-ready s t x) (reached t); woken = some t }) (nobody-woken s)
+    pick (is-blocked (task s t .state)) (record { store = add-log (make-ready s t x) (reached t); woken = some t }) (nobody-woken s)
 
 -- ---- into a gather
 

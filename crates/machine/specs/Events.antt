@@ -26,7 +26,7 @@ use Rattle.asyncio.specs.States.{pick}
 use Rattle.asyncio.specs.Numbers.{heap-id, task-id, call-id}
 use Rattle.asyncio.specs.Layout.{to-value, to-error}
 use Rattle.queue.specs.Queue.{front-of, pop-front}
-use Rattle.machine.specs.Store.{Store, task, object, put-object, put-place, header, put-queue, set-state, set-moment, set-calls, add-object, note, blocked, exited}
+use Rattle.machine.specs.Store.{Store, task, object, put-object, put-place, header, put-queue, set-state, set-moment, set-calls, add-object, add-log, blocked, exited}
 use Rattle.machine.specs.Scheduler.{pending-call-ids, remove-task, remove-from-ready-queue, live-count}
 use Rattle.machine.specs.Delivery.{Delivery, deliver-awaiter-success, deliver-awaiter-failure, resolve-future, fail-future}
 use Rattle.machine.specs.Commit.{Poll, ready, raised, pending, Polled, gives, Committed, await-external, commit-gather-tree}
@@ -82,7 +82,7 @@ module _ (activate : Store → ℕ → Switched) where
   unfoldable pub handle-task-failure : Store → ℕ → Error → Switched
   handle-task-failure s t e =
       let d : Delivery = deliver-awaiter-failure s (task s t .awaiter) e in
-      resume-after-task-exit (record { store = note (remove-task (d .store) t) (exited t); woken = d .woken })
+      resume-after-task-exit (record { store = add-log (remove-task (d .store) t) (exited t); woken = d .woken })
 
   -- a coroutine that is not new any more fails the task
   unfoldable pub start-by : Store → ℕ → ℕ → Option ℕ → Switched
@@ -128,7 +128,7 @@ unfoldable pub go-on : ℕ → ℕ → ℕ → Store → Poll → Awaited
 go-on t o n s (ready v) = stays s t (value v) n
 go-on t o n s (raised e) = stays s t (raises e) n
 go-on t o n s pending =
-    let x : Switched = resume-next activate (note (set-state s t (TaskState.Blocked (heap-id o))) (blocked t)) in
+    let x : Switched = resume-next activate (add-log (set-state s t (TaskState.Blocked (heap-id o))) (blocked t)) in
     record { store = x .store; control = x .control; steps = n }
 
 -- a new coroutine runs inline
@@ -175,7 +175,7 @@ unfoldable pub handle-task-completion : Store → ℕ → Value → Switched
 handle-task-completion s t v =
     let r : Task = task s t in
     let c : ℕ = r .coroutine .0 in
-    let left : Store = note (remove-task (put-object s c (completed (object s c))) t) (exited t) in
+    let left : Store = add-log (remove-task (put-object s c (completed (object s c))) t) (exited t) in
     resume-after-task-exit activate (deliver-awaiter-success left (r .awaiter) v)
 
 -- ---- results: a call, a kind, a tag and a number

@@ -9,7 +9,7 @@ use Rattle.asyncio.specs.declared.Value.{Value}
 use Rattle.asyncio.specs.declared.HeapId.{HeapId}
 use Rattle.asyncio.specs.Numbers.{heap-id}
 use Rattle.asyncio.specs.Layout.{to-value}
-use Rattle.machine.specs.Store.{Store, Happening, spawned, blocked, reached, exited, removed, fresh}
+use Rattle.machine.specs.Store.{Store, LogEntry, spawned, blocked, reached, exited, removed, fresh}
 use Rattle.machine.specs.Delivery.{value-or}
 use Rattle.machine.specs.Events.{How, start, value, raises, inline, Control, runs, waits, Result}
 use Rattle.machine.specs.Machine.{Event, Answer, Step, step}
@@ -18,7 +18,7 @@ use Rattle.machine.specs.Machine.{Event, Answer, Step, step}
 pub record Entry : Type 0 where
   pub event : Event
   pub answer : Answer
-  pub happened : List Happening
+  pub happened : List LogEntry
 
 -- the entry of a step
 unfoldable pub entry : Event → Step → Entry
@@ -36,7 +36,7 @@ history es = history-from fresh es []
 -- Live: main at first, a spawned task from its spawning until its exit or removal.
 
 -- is task t live after these happenings, b telling whether it was before?
-unfoldable pub lives-by : Bool → List Happening → ℕ → Bool
+unfoldable pub lives-by : Bool → List LogEntry → ℕ → Bool
 lives-by b [] t = b
 lives-by b (spawned u c ∷ hs) t = eqb u t || lives-by b hs t
 lives-by b (blocked u ∷ hs) t = lives-by b hs t
@@ -52,7 +52,7 @@ lives (x ∷ h) t = lives-by (lives h t) (x .happened) t
 -- Blocked: left waiting by an await until a value or error reaches it.
 
 -- is task t blocked after these happenings?
-unfoldable pub blocked-by : Bool → List Happening → ℕ → Bool
+unfoldable pub blocked-by : Bool → List LogEntry → ℕ → Bool
 blocked-by b [] t = b
 blocked-by b (spawned u c ∷ hs) t = blocked-by b hs t
 blocked-by b (blocked u ∷ hs) t = eqb u t || blocked-by b hs t

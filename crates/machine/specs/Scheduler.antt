@@ -26,7 +26,7 @@ use Rattle.asyncio.specs.Kinds.{kind, is-pending-external}
 use Rattle.asyncio.specs.Parts.{call-of}
 use Rattle.rows.specs.Tables.{task-at, object-at, header-at}
 use Rattle.queue.specs.Queue.{empty-queue, push-back, remove}
-use Rattle.machine.specs.Store.{Store, task, put-task, object, place, header, put-queue, absent, set-state, set-next, set-moment, note, Happening, spawned, removed}
+use Rattle.machine.specs.Store.{Store, task, put-task, object, place, header, put-queue, absent, set-state, set-next, set-moment, add-log, LogEntry, spawned, removed}
 
 -- ---- views of a row
 
@@ -147,21 +147,21 @@ unfoldable pub live-count : Store → ℕ
 live-count s = live-in (s .tasks)
 
 -- does the task of that row live and drive coroutine c?
-unfoldable pub drives : ℕ → Task → Bool
-drives c r = pick (is-live (r .state)) (eqb (r .coroutine .0) c) false
+unfoldable pub is-task-of : ℕ → Task → Bool
+is-task-of c r = pick (is-live (r .state)) (eqb (r .coroutine .0) c) false
 
 -- the live spawned task below n that drives object c, if any, by the tasks' words (coroutine_to_task)
-unfoldable pub driver-in : List ℕ → ℕ → ℕ → Option ℕ
-driver-in ts n c = first-from (λ t. drives c (task-at ts t)) 1 (n - 1)
+unfoldable pub task-of-in : List ℕ → ℕ → ℕ → Option ℕ
+task-of-in ts n c = first-from (λ t. is-task-of c (task-at ts t)) 1 (n - 1)
 
 -- of a store
-unfoldable pub driver : Store → ℕ → Option ℕ
-driver s c = driver-in (s .tasks) (header s .next) c
+unfoldable pub task-of : Store → ℕ → Option ℕ
+task-of s c = task-of-in (s .tasks) (header s .next) c
 
 -- task t is spawned, ready and not yet run; its result goes to the places of gather g that name coroutine c
 unfoldable pub spawn-as : Store → ℕ → ℕ → ℕ → Store
 spawn-as s t c g =
-    note (push-ready (set-next (put-task s t (record { state = TaskState.Unstarted; awaiter = Awaiter.GatherSlot (heap-id g) (heap-id c); coroutine = heap-id c })) (t + 1)) t)
+    add-log (push-ready (set-next (put-task s t (record { state = TaskState.Unstarted; awaiter = Awaiter.GatherSlot (heap-id g) (heap-id c); coroutine = heap-id c })) (t + 1)) t)
     (spawned t c)
 
 -- by the live task of the coroutine, if it has one (nor is there a task when no number is left: a sound store has one for every place)
@@ -171,7 +171,7 @@ spawn-unless s c g none = pick (ltb (header s .next) task-limit) (some (spawn-as
 
 -- Nothing if the coroutine already has a live task.
 unfoldable pub spawn : Store → ℕ → ℕ → Option Store
-spawn s c g = spawn-unless s c g (driver s c)
+spawn s c g = spawn-unless s c g (task-of s c)
 
 -- the task is live no more, and not ready
 unfoldable pub remove-task : Store → ℕ → Store
@@ -181,19 +181,19 @@ remove-task s t = remove-from-ready-queue (put-task s t absent) t
 
 -- a task is removed by cancel or cleanup
 unfoldable pub cancel-one : Store → ℕ → Store
-cancel-one s t = note (remove-task s t) (removed t)
+cancel-one s t = add-log (remove-task s t) (removed t)
 
 -- A walk through awaited gathers: those reached are marked, so that each is walked once; those on the stack are still to be walked.
 -- The drivers are those of the store in which the walk began, so that the tasks are searched once for the whole walk.
 pub record Walk : Type 0 where
   pub store : Store
-  pub drivers : ℕ → Option ℕ
+  pub tasks-of : ℕ → Option ℕ
   pub marks : List Bool
   pub stack : List ℕ
 
 -- an awaited gather that is not marked is marked and stacked
 unfoldable pub reach-if : Walk → ℕ → Bool → Walk
-reach-if w g true = record { store = w .store; drivers = w .drivers; marks = set (w .marks) g true; stack = g ∷ w .stack }
+reach-if w g true = record { store = w .store; tasks-of = w .tasks-of; marks = set (w .marks) g true; stack = g ∷ w .stack }
 reach-if w g false = w
 
 -- a gather is reached: walked once, if it is awaited
@@ -202,8 +202,8 @@ reach w g = reach-if w g (is-some (as-awaited (object (w .store) g)) && not (get
 
 -- a task goes, and what it is blocked on is reached
 unfoldable pub remove-blocked : Walk → ℕ → Option ℕ → Walk
-remove-blocked w t none = record { store = cancel-one (w .store) t; drivers = w .drivers; marks = w .marks; stack = w .stack }
-remove-blocked w t (some b) = reach (record { store = cancel-one (w .store) t; drivers = w .drivers; marks = w .marks; stack = w .stack }) b
+remove-blocked w t none = record { store = cancel-one (w .store) t; tasks-of = w .tasks-of; marks = w .marks; stack = w .stack }
+remove-blocked w t (some b) = reach (record { store = cancel-one (w .store) t; tasks-of = w .tasks-of; marks = w .marks; stack = w .stack }) b
 
 -- the task, if it still lives, by the tasks' words
 unfoldable pub still-live : List ℕ → Option ℕ → Option ℕ
@@ -217,7 +217,7 @@ visit-by w o (some t) = remove-blocked w t (blocked-on (task (w .store) t .state
 
 -- an item
 unfoldable pub visit : Walk → ℕ → Walk
-visit w o = visit-by w o (still-live (w .store .tasks) (w .drivers o))
+visit w o = visit-by w o (still-live (w .store .tasks) (w .tasks-of o))
 
 -- the item of place p, which is place i of its gather, if it is one of the open places
 unfoldable pub visit-place : Walk → ℕ → ℕ → ℕ → Walk
@@ -237,7 +237,7 @@ walk-gather w (some a) = visit-open w a 0 (a .count)
 unfoldable pub walk-next : (Walk → Store) → Walk → List ℕ → Store
 walk-next go w [] = w .store
 walk-next go w (g ∷ gs) =
-    go (walk-gather (record { store = w .store; drivers = w .drivers; marks = w .marks; stack = gs }) (as-awaited (object (w .store) g)))
+    go (walk-gather (record { store = w .store; tasks-of = w .tasks-of; marks = w .marks; stack = gs }) (as-awaited (object (w .store) g)))
 
 -- Each turn takes one gather off the stack, and each comes there once: fuel is the gathers not marked and those on the stack.
 unfoldable pub walk : ℕ → Walk → Store
@@ -246,7 +246,7 @@ walk (suc k) w = walk-next (λ x. walk k x) w (w .stack)
 
 -- a walk that has reached nothing
 unfoldable pub walk-from : Store → Walk
-walk-from s = record { store = s; drivers = driver s; marks = replicate object-limit false; stack = [] }
+walk-from s = record { store = s; tasks-of = task-of s; marks = replicate object-limit false; stack = [] }
 
 -- task t goes, and the walk begins at what it is blocked on
 unfoldable pub cancel-task : Store → ℕ → Store
@@ -255,7 +255,7 @@ cancel-task s t = walk object-limit (remove-blocked (walk-from s) t (blocked-on 
 -- the live tasks among the k from t on are removed
 unfoldable pub remove-from : Store → ℕ → ℕ → Store
 remove-from s t zero = s
-remove-from s t (suc k) = remove-from (pick (is-live (task s t .state)) (note (put-task s t absent) (removed t)) s) (t + 1) k
+remove-from s t (suc k) = remove-from (pick (is-live (task s t .state)) (add-log (put-task s t absent) (removed t)) s) (t + 1) k
 
 -- the session ends: no task is left, and none is ready
 unfoldable pub cleanup : Store → Store

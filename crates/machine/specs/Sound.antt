@@ -27,7 +27,7 @@ use Rattle.asyncio.specs.Parts.{awaiter-of, count-of}
 use Rattle.rows.specs.Canonical.{task-canonical, object-canonical, place-canonical, header-canonical}
 use Rattle.machine.specs.Tests.{_and_, implies, all-below, sum-below}
 use Rattle.machine.specs.Store.{Store, View, view, header}
-use Rattle.machine.specs.Scheduler.{blocked-on, as-pending, as-awaited, AwaitedGather, PendingExternal, bit, drives}
+use Rattle.machine.specs.Scheduler.{blocked-on, as-pending, as-awaited, AwaitedGather, PendingExternal, bit, is-task-of}
 use Rattle.machine.specs.Commit.{open-from}
 
 -- ---- 1. Numbers and counts lie in range. X1 to X5 are the conditions of decision 21 (docs/DECISIONS.md).
@@ -187,16 +187,16 @@ calls-distinct h os = is-ended (h .moment) || all-below (h .made) (call-new os)
 -- ---- 7. A coroutine has at most one live task.
 
 -- row t is a live spawned task that drives c
-unfoldable pub drives-at : (ℕ → Task) → ℕ → ℕ → Bool
-drives-at ts c t = not (eqb t 0) and drives c (ts t)
+unfoldable pub is-task-of-at : (ℕ → Task) → ℕ → ℕ → Bool
+is-task-of-at ts c t = not (eqb t 0) and is-task-of c (ts t)
 
 -- no task before t drives what t drives
-unfoldable pub sole-driver : (ℕ → Task) → ℕ → Bool
-sole-driver ts t = implies (drives-at ts (ts t .coroutine .0) t) (all-below t (λ u. not (drives-at ts (ts t .coroutine .0) u)))
+unfoldable pub sole-task : (ℕ → Task) → ℕ → Bool
+sole-task ts t = implies (is-task-of-at ts (ts t .coroutine .0) t) (all-below t (λ u. not (is-task-of-at ts (ts t .coroutine .0) u)))
 
 -- of every task
-unfoldable pub one-driver : ℕ → (ℕ → Task) → Bool
-one-driver next ts = all-below next (sole-driver ts)
+unfoldable pub one-task : ℕ → (ℕ → Task) → Bool
+one-task next ts = all-below next (sole-task ts)
 
 -- ---- 8. A blocked task is the awaiter of what it waits on, and a live awaiter task is blocked there.
 
@@ -307,7 +307,7 @@ sound-view v =
     lists-completed (v .header) (v .objects) (v .tasks) (v .places) and
     queue-ready (v .header .next) (v .tasks) (v .queue) and
     calls-distinct (v .header) (v .objects) and
-    one-driver (v .header .next) (v .tasks) and
+    one-task (v .header .next) (v .tasks) and
     blocked-match (v .header) (v .objects) (v .tasks) and
     places-filled (v .header .made) (v .objects) (v .places) and
     slots-open (v .header) (v .objects) (v .tasks) (v .places) and

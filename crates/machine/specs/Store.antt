@@ -16,12 +16,12 @@ use Rattle.queue.specs.declared.ReadyQueue.{ReadyQueue}
 use Rattle.queue.specs.Queue.{empty-queue, entries}
 
 -- What an event makes happen, in order. It is written and never read: only statements on sessions speak of it.
-pub data Happening : Type 0 where
-  spawned : ℕ → ℕ → Happening
-  blocked : ℕ → Happening
-  reached : ℕ → Happening
-  exited : ℕ → Happening
-  removed : ℕ → Happening
+pub data LogEntry : Type 0 where
+  spawned : ℕ → ℕ → LogEntry
+  blocked : ℕ → LogEntry
+  reached : ℕ → LogEntry
+  exited : ℕ → LogEntry
+  removed : ℕ → LogEntry
 
 -- The three lent slices of words, the ready queue, and what has happened, the last first.
 pub record Store : Type 0 where
@@ -29,10 +29,10 @@ pub record Store : Type 0 where
   pub objects : List ℕ
   pub places : List ℕ
   pub queue : ReadyQueue
-  pub log : List Happening
+  pub log : List LogEntry
 
 -- the store of lent slices and a queue, with what has happened so far
-abbrev pub store-of : List ℕ → List ℕ → List ℕ → ReadyQueue → List Happening → Store
+abbrev pub store-of : List ℕ → List ℕ → List ℕ → ReadyQueue → List LogEntry → Store
 store-of ts os ps q l = record { tasks = ts; objects = os; places = ps; queue = q; log = l }
 
 -- ---- a row, and the store with a row put there
@@ -80,8 +80,8 @@ unfoldable pub put-queue : Store → ReadyQueue → Store
 put-queue s q = record { tasks = s .tasks; objects = s .objects; places = s .places; queue = q; log = s .log }
 
 -- one more happening
-unfoldable pub note : Store → Happening → Store
-note s h = record { tasks = s .tasks; objects = s .objects; places = s .places; queue = s .queue; log = h ∷ s .log }
+unfoldable pub add-log : Store → LogEntry → Store
+add-log s h = record { tasks = s .tasks; objects = s .objects; places = s .places; queue = s .queue; log = h ∷ s .log }
 
 -- no happening yet
 unfoldable pub forget : Store → Store

@@ -29,15 +29,15 @@ use Rattle.asyncio.specs.Ranges.{ObjectFits, PlacesFit}
 use Rattle.asyncio.specs.RangeLaws.{pick-has}
 use Rattle.rows.specs.Tables.{object-at}
 use Rattle.machine_laws.specs.CountLaws.{count-same, count-drop, count-most}
-use Rattle.machine.specs.Store.{Store, object, put-object, place, put-place, header, put-task, set-next, put-queue, note, spawned}
-use Rattle.machine.specs.Scheduler.{AwaitedGather, as-awaited, spawn, spawn-unless, spawn-as, driver, push-ready}
+use Rattle.machine.specs.Store.{Store, object, put-object, place, put-place, header, put-task, set-next, put-queue, add-log, spawned}
+use Rattle.machine.specs.Scheduler.{AwaitedGather, as-awaited, spawn, spawn-unless, spawn-as, task-of, push-ready}
 use Rattle.machine.specs.Commit.{Poll, ready, raised, pending, Polled, gives, await-pending, await-external, Item, polled, nested, polled-spawn, item-coroutine, item-gather, item-object, open-from, item}
 use Rattle.machine.specs.Commit.{open-place, fill-place, Stop, at-end, at-nested, at-error, put-polled, put-item, step-item, step-items, Frame, step-gather-commit}
 use Rattle.machine.specs.Commit.{with-state, set-gather, open-gather-commit, settle-as, settle-gather-commit, resume-in, resume-as, resume-after-child, unwind}
 use Rattle.machine.specs.Commit.{Committed, turn, commit-loop, pending-in, pending-count, commit-gather-tree}
 use Rattle.machine_laws.specs.Views.{Sized}
 use Rattle.machine_laws.specs.Statements.{phase, SameKinds, is-failed-gather, kinds-in, failed-count, StepFormula, StepsRight, FailFormula, SeenFormula, NoFrame, Opened, Placed, StopBelow, commit-rest}
-use Rattle.machine_laws.specs.StoreLaws.{sized-put-object, sized-put-place, sized-put-task, sized-set-next, sized-put-queue, sized-note, kind-put-object, object-put-other, object-put-header, object-fits, place-fits, PlacesOf, count-put-object}
+use Rattle.machine_laws.specs.StoreLaws.{sized-put-object, sized-put-place, sized-put-task, sized-set-next, sized-put-queue, sized-add-log, kind-put-object, object-put-other, object-put-header, object-fits, place-fits, PlacesOf, count-put-object}
 use Rattle.machine_laws.specs.DeliveryLaws.{awaited-object, awaited-fits}
 
 -- ---- the step formulas
@@ -151,9 +151,9 @@ unfolding set-next
 object-set-next s n o = object-put-header s _ o
 
 spawn-as-kinds : (s : Store) (t c g : ℕ) → Sized s → SameKinds s (spawn-as s t c g)
-unfolding spawn-as push-ready note put-queue put-task object
+unfolding spawn-as push-ready add-log put-queue put-task object
 spawn-as-kinds s t c g z = record {
-  sized = sized-note _ (spawned t c) (sized-put-queue _ _ (sized-set-next _ (t + 1) (sized-put-task s t _ z)));
+  sized = sized-add-log _ (spawned t c) (sized-put-queue _ _ (sized-set-next _ (t + 1) (sized-put-task s t _ z)));
   kinds = λ o. ap (λ (x : Object). phase (kind x)) (object-set-next (put-task s t _) (t + 1) o);
   counts = λ o. ap count-of (object-set-next (put-task s t _) (t + 1) o);
 }
@@ -165,7 +165,7 @@ SpawnKeeps s (some u) = SameKinds s u
 
 spawn-kinds : (s : Store) (c g : ℕ) → Sized s → SpawnKeeps s (spawn s c g)
 unfolding spawn spawn-unless SpawnKeeps
-spawn-kinds s c g z = by (driver s c)
+spawn-kinds s c g z = by (task-of s c)
   where
     by : (d : Option ℕ) → SpawnKeeps s (spawn-unless s c g d)
     by (some t) = tt
@@ -561,19 +561,19 @@ module _ (s : Store) (g : ℕ) (a : Awaiter) (z : Sized s) (l : g < object-limit
 
 -- ---- the fuel is an exact count: no commit runs out of it
 
-turn-pays : (s : Store) (f : Frame) (fs : List Frame) (n j k : ℕ) (x : Stop) → StopKeeps s x → f .gather < object-limit → Placed s fs
+turn-counts-kept : (s : Store) (f : Frame) (fs : List Frame) (n j k : ℕ) (x : Stop) → StopKeeps s x → f .gather < object-limit → Placed s fs
     → turn (λ x g gs m i h. commit-loop (2 * pending-count s + length fs) x g gs m i h) f fs n j k x ≡ turn commit-rest f fs n j k x
 unfolding turn commit-rest StopKeeps Placed
-turn-pays s f fs n j k (at-nested u i o) q l e =
+turn-counts-kept s f fs n j k (at-nested u i o) q l e =
     let a : Awaiter = Awaiter.GatherSlot (heap-id (f .gather)) (heap-id o) in
     let x : Store = open-gather-commit u o a in
     let same : pending-count u ≡ pending-count s = same-pending-count s u (q .0) in
     let fall : pending-count u ≡ suc (pending-count x) = open-falls u o a (q .0 .sized) (q .1) (q .2) in
     let fuel : 2 * pending-count s + length fs ≡ 2 * pending-count x + suc (suc (length fs)) = omega arith in
     rw fuel
-turn-pays s f fs n j k (at-error u x) q l e = refl
-turn-pays s f [] n j k (at-end u) q l e = refl
-turn-pays s f (p ∷ ps) n j k (at-end u) q l e =
+turn-counts-kept s f fs n j k (at-error u x) q l e = refl
+turn-counts-kept s f [] n j k (at-end u) q l e = refl
+turn-counts-kept s f (p ∷ ps) n j k (at-end u) q l e =
     let r : Polled = settle-gather-commit u (f .gather) in
     let x : Store = resume-after-child p r in
     let w : SameKinds u (r .store) = settle-kinds u (f .gather) (q .sized) l in
@@ -593,7 +593,7 @@ pub commit-turns : (s : Store) (f : Frame) (fs : List Frame) (n j k : ℕ) → S
 unfolding commit-rest commit-loop
 commit-turns s f fs n j k z l e =
     let fuel : 2 * pending-count s + suc (length fs) ≡ suc (2 * pending-count s + length fs) = omega arith in
-    rw fuel (turn-pays s f fs n j k (step-gather-commit s f) (step-kinds s f z l) l e)
+    rw fuel (turn-counts-kept s f fs n j k (step-gather-commit s f) (step-kinds s f z l) l e)
 
 -- ---- frames and places
 

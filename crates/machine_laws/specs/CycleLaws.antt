@@ -17,7 +17,7 @@ use Rattle.asyncio.specs.RangeLaws.{pick-has}
 use Rattle.rows.specs.Tables.{task-at}
 use Rattle.queue.specs.Queue.{pop-front, front-of}
 use Rattle.machine_laws.specs.CountLaws.{count-drop}
-use Rattle.machine.specs.Store.{Store, task, put-task, object, put-queue, note, exited, absent}
+use Rattle.machine.specs.Store.{Store, task, put-task, object, put-queue, add-log, exited, absent}
 use Rattle.machine.specs.Scheduler.{AwaitedGather, as-awaited, is-some, blocked-on, bit, live-in, live-count, remove-task, remove-from-ready-queue, cancel-one}
 use Rattle.machine.specs.Scheduler.{Walk, reach-if, reach, remove-blocked, visit-by, visit, visit-place, visit-open, walk-gather, walk-next, walk, walk-from, cancel-task}
 use Rattle.machine.specs.Delivery.{Delivery, deliver-awaiter-failure}
@@ -57,15 +57,15 @@ module _ (k : ℕ) (go come : Store → ℕ → Switched) (h : (s : Store) (t : 
       by (some t) = h _ t e
 
   module _ (s : Store) (t : ℕ) (z : Sized s) (l : t < task-limit) (e : is-live (task s t .state) ≡ true) (q : live-count s ≡ suc k) where
-    removed-count : (u : Store) → SameLive s u → live-count (note (remove-task u t) (exited t)) ≡ k
+    removed-count : (u : Store) → SameLive s u → live-count (add-log (remove-task u t) (exited t)) ≡ k
     removed-count u m =
         let fall : live-count u ≡ suc (live-count (put-task u t absent)) = live-falls u t (m .sized) l (m .lives t ∙ e) in
         let same : live-count u ≡ live-count s = same-live-count s u m in
         let left : live-count (put-task u t absent) ≡ k = omega arith in
         removed-tasks u ∙ left
       where
-        removed-tasks : (u : Store) → live-count (note (remove-task u t) (exited t)) ≡ live-count (put-task u t absent)
-        removed-tasks u = unfold live-count note remove-task remove-from-ready-queue put-queue in refl
+        removed-tasks : (u : Store) → live-count (add-log (remove-task u t) (exited t)) ≡ live-count (put-task u t absent)
+        removed-tasks u = unfold live-count add-log remove-task remove-from-ready-queue put-queue in refl
 
     same-failure : (x : Error) → handle-task-failure go s t x ≡ handle-task-failure come s t x
     unfolding handle-task-failure
@@ -102,12 +102,12 @@ activate-once s t z l e =
 -- ---- cancel's walk
 
 -- the marks have their places, and what was marked since w stands on the stack
-pub record Pays (w x : Walk) : Type 0 where
+pub record CountsKept (w x : Walk) : Type 0 where
   pub marked : length (x .marks) ≡ object-limit
   pub pays : unmarked (x .marks) + length (x .stack) ≡ unmarked (w .marks) + length (w .stack)
 
-pays-then : {w x y : Walk} → Pays w x → Pays x y → Pays w y
-pays-then k l = record { marked = l .marked; pays = l .pays ∙ k .pays }
+counts-kept-then : {w x y : Walk} → CountsKept w x → CountsKept x y → CountsKept w y
+counts-kept-then k l = record { marked = l .marked; pays = l .pays ∙ k .pays }
 
 pub mark-falls : (ms : List Bool) (g : ℕ) → length ms ≡ object-limit → g < object-limit → getD ms g false ≡ false → unmarked ms ≡ suc (unmarked (set ms g true))
 unfolding unmarked
@@ -116,11 +116,11 @@ mark-falls ms g m l e =
     (rw (getD-set-same ms g true false (omega arith))) (λ i ne. rw (getD-set-other ms g i true false ne))
 
 module _ (w : Walk) (m : length (w .marks) ≡ object-limit) where
-  pub reach-pays : (g : ℕ) → g < object-limit → Pays w (reach w g)
+  pub reach-counts-kept : (g : ℕ) → g < object-limit → CountsKept w (reach w g)
   unfolding reach reach-if
-  reach-pays g l = by (is-some (as-awaited (object (w .store) g))) (getD (w .marks) g false) refl
+  reach-counts-kept g l = by (is-some (as-awaited (object (w .store) g))) (getD (w .marks) g false) refl
     where
-      by : (a b : Bool) → getD (w .marks) g false ≡ b → Pays w (reach-if w g (a && not b))
+      by : (a b : Bool) → getD (w .marks) g false ≡ b → CountsKept w (reach-if w g (a && not b))
       by true true e = record { marked = m; pays = refl }
       by true false e = record { marked = length-set (w .marks) g true ∙ m; pays = omega (arith, mark-falls (w .marks) g m l e) }
       by false b e = record { marked = m; pays = refl }
@@ -134,38 +134,38 @@ blocked-fits (TaskState.Woken v) f o e = absurd-some e
 blocked-fits (TaskState.Raised x) f o e = absurd-some e
 blocked-fits (TaskState.Blocked b) f o e = rw (← Option·some-injective (b .0) o e) f
 
-remove-pays : (w : Walk) → length (w .marks) ≡ object-limit → (t : ℕ) (b : Option ℕ) → ((o : ℕ) → b ≡ some o → o < object-limit) → Pays w (remove-blocked w t b)
+remove-counts-kept : (w : Walk) → length (w .marks) ≡ object-limit → (t : ℕ) (b : Option ℕ) → ((o : ℕ) → b ≡ some o → o < object-limit) → CountsKept w (remove-blocked w t b)
 unfolding remove-blocked
-remove-pays w m t none l = record { marked = m; pays = refl }
-remove-pays w m t (some o) l =
-    let k = reach-pays (record { store = cancel-one (w .store) t; drivers = w .drivers; marks = w .marks; stack = w .stack }) m o (l o refl) in
+remove-counts-kept w m t none l = record { marked = m; pays = refl }
+remove-counts-kept w m t (some o) l =
+    let k = reach-counts-kept (record { store = cancel-one (w .store) t; tasks-of = w .tasks-of; marks = w .marks; stack = w .stack }) m o (l o refl) in
     record { marked = k .marked; pays = k .pays }
 
 -- a task that goes with what it is blocked on
-pub blocked-pays : (w : Walk) → length (w .marks) ≡ object-limit → (t : ℕ) → Pays w (remove-blocked w t (blocked-on (task (w .store) t .state)))
-blocked-pays w m t = remove-pays w m t _ (blocked-fits (task (w .store) t .state) (task-fits (w .store) t .state-fits))
+pub blocked-counts-kept : (w : Walk) → length (w .marks) ≡ object-limit → (t : ℕ) → CountsKept w (remove-blocked w t (blocked-on (task (w .store) t .state)))
+blocked-counts-kept w m t = remove-counts-kept w m t _ (blocked-fits (task (w .store) t .state) (task-fits (w .store) t .state-fits))
 
-visit-pays : (w : Walk) → length (w .marks) ≡ object-limit → (o : ℕ) → o < object-limit → (d : Option ℕ) → Pays w (visit-by w o d)
+visit-counts-kept : (w : Walk) → length (w .marks) ≡ object-limit → (o : ℕ) → o < object-limit → (d : Option ℕ) → CountsKept w (visit-by w o d)
 unfolding visit-by
-visit-pays w m o l none = reach-pays w m o l
-visit-pays w m o l (some t) = blocked-pays w m t
+visit-counts-kept w m o l none = reach-counts-kept w m o l
+visit-counts-kept w m o l (some t) = blocked-counts-kept w m t
 
-pub place-pays : (w : Walk) → length (w .marks) ≡ object-limit → (p i open-places : ℕ) → Pays w (visit-place w p i open-places)
+pub place-counts-kept : (w : Walk) → length (w .marks) ≡ object-limit → (p i open-places : ℕ) → CountsKept w (visit-place w p i open-places)
 unfolding visit-place visit
-place-pays w m p i n =
-    pick-has (Pays w) (bit n i) (visit-pays w m _ (place-fits (w .store) p .item-fits) _) (record { marked = m; pays = refl })
+place-counts-kept w m p i n =
+    pick-has (CountsKept w) (bit n i) (visit-counts-kept w m _ (place-fits (w .store) p .item-fits) _) (record { marked = m; pays = refl })
 
-open-pays : (k : ℕ) (w : Walk) → length (w .marks) ≡ object-limit → (a : AwaitedGather) (i : ℕ) → Pays w (visit-open w a i k)
+open-counts-kept : (k : ℕ) (w : Walk) → length (w .marks) ≡ object-limit → (a : AwaitedGather) (i : ℕ) → CountsKept w (visit-open w a i k)
 unfolding visit-open
-open-pays zero w m a i = record { marked = m; pays = refl }
-open-pays (suc k) w m a i =
-    let x = place-pays w m (a .first + i) i (a .open-places) in
-    pays-then x (open-pays k _ (x .marked) a (i + 1))
+open-counts-kept zero w m a i = record { marked = m; pays = refl }
+open-counts-kept (suc k) w m a i =
+    let x = place-counts-kept w m (a .first + i) i (a .open-places) in
+    counts-kept-then x (open-counts-kept k _ (x .marked) a (i + 1))
 
-pub gather-pays : (w : Walk) → length (w .marks) ≡ object-limit → (a : Option AwaitedGather) → Pays w (walk-gather w a)
+pub gather-counts-kept : (w : Walk) → length (w .marks) ≡ object-limit → (a : Option AwaitedGather) → CountsKept w (walk-gather w a)
 unfolding walk-gather
-gather-pays w m none = record { marked = m; pays = refl }
-gather-pays w m (some a) = open-pays (a .count) w m a 0
+gather-counts-kept w m none = record { marked = m; pays = refl }
+gather-counts-kept w m (some a) = open-counts-kept (a .count) w m a 0
 
 walk-none : (k : ℕ) (w : Walk) → w .stack ≡ [] → walk k w ≡ w .store
 unfolding walk walk-next
@@ -180,8 +180,8 @@ walk-once w m = by (w .stack) refl
     by : (gs : List ℕ) → w .stack ≡ gs → walk (unmarked (w .marks) + length (w .stack)) w ≡ walk-next walk-rest w (w .stack)
     by [] e = walk-none (unmarked (w .marks) + length (w .stack)) w e ∙ rw e
     by (g ∷ gs) e =
-        let x : Walk = walk-gather (record { store = w .store; drivers = w .drivers; marks = w .marks; stack = gs }) (as-awaited (object (w .store) g)) in
-        let k = gather-pays (record { store = w .store; drivers = w .drivers; marks = w .marks; stack = gs }) m (as-awaited (object (w .store) g)) in
+        let x : Walk = walk-gather (record { store = w .store; tasks-of = w .tasks-of; marks = w .marks; stack = gs }) (as-awaited (object (w .store) g)) in
+        let k = gather-counts-kept (record { store = w .store; tasks-of = w .tasks-of; marks = w .marks; stack = gs }) m (as-awaited (object (w .store) g)) in
         let fuel : unmarked (w .marks) + suc (length gs) ≡ suc (unmarked (x .marks) + length (x .stack)) = omega (arith, k .pays) in
         rw (e, fuel)
 
@@ -194,4 +194,4 @@ all-unmarked = refl
 pub cancel-walks : (s : Store) (t : ℕ)
     → cancel-task s t ≡ walk-rest (remove-blocked (walk-from s) t (blocked-on (task s t .state)))
 unfolding cancel-task walk-rest walk-from
-cancel-walks s t = let k = blocked-pays (walk-from s) (length-replicate {A = Bool} object-limit false) t in rw (k .pays ∙ all-unmarked)
+cancel-walks s t = let k = blocked-counts-kept (walk-from s) (length-replicate {A = Bool} object-limit false) t in rw (k .pays ∙ all-unmarked)

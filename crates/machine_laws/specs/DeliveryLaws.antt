@@ -25,14 +25,14 @@ use Rattle.asyncio.specs.RangeLaws.{pick-has}
 use Rattle.rows.specs.Tables.{task-at, object-at, object-put, place-at}
 use Rattle.rows.specs.TableLaws.{object-at-other, length-place-put}
 use Rattle.machine_laws.specs.CountLaws.{count-same, count-drop}
-use Rattle.machine.specs.Store.{Store, task, put-task, object, put-object, put-places, header, restate, set-state, note, put-queue, reached}
+use Rattle.machine.specs.Store.{Store, task, put-task, object, put-object, put-places, header, restate, set-state, add-log, put-queue, reached}
 use Rattle.machine.specs.Scheduler.{AwaitedGather, as-awaited, bit, live, live-in, live-count, make-ready, push-ready}
 use Rattle.machine.specs.Delivery.{Delivery, nobody-woken, deliver-to-task, Filled, fill-one, fill-from}
 use Rattle.machine.specs.Delivery.{Settled, resolve-left, resolve-awaited, resolve-child, fail-awaited, fail-gather, climb, awaited-in, awaited-count}
 use Rattle.machine.specs.Delivery.{send-value, climb-value, deliver-awaiter-success, send-error, climb-error, deliver-awaiter-failure}
 use Rattle.machine_laws.specs.Views.{Sized}
 use Rattle.machine_laws.specs.Statements.{SameLive}
-use Rattle.machine_laws.specs.StoreLaws.{sized-put-object, sized-put-places, sized-put-queue, sized-note, sized-set-state}
+use Rattle.machine_laws.specs.StoreLaws.{sized-put-object, sized-put-places, sized-put-queue, sized-add-log, sized-set-state}
 use Rattle.machine_laws.specs.StoreLaws.{object-fits, kind-at-put, live-put-task, task-put-other, header-put-object}
 
 same-store : (s : Store) → Sized s → SameLive s s
@@ -63,10 +63,10 @@ state-put s t u x z l e = by (ℕ-discrete u t)
     by (yes q) = rw (q, live-put-task s t r z l) e
     by (no ne) = rw (task-put-other s t u r ne)
 
-woken-same : (s : Store) (t : ℕ) (x : TaskState) → Sized s → t < task-limit → is-live x ≡ is-live (task s t .state) → SameLive s (note (make-ready s t x) (reached t))
-unfolding make-ready push-ready note put-queue set-state put-task header task
+woken-same : (s : Store) (t : ℕ) (x : TaskState) → Sized s → t < task-limit → is-live x ≡ is-live (task s t .state) → SameLive s (add-log (make-ready s t x) (reached t))
+unfolding make-ready push-ready add-log put-queue set-state put-task header task
 woken-same s t x z l e = record {
-  sized = sized-note _ (reached t) (sized-put-queue _ _ (sized-set-state s t x z));
+  sized = sized-add-log _ (reached t) (sized-put-queue _ _ (sized-set-state s t x z));
   same-header = refl;
   lives = λ u. state-put s t u x z l e;
 }
@@ -76,7 +76,7 @@ unfolding deliver-to-task nobody-woken
 task-same s t x z l e = by (is-blocked (task s t .state)) refl
   where
     by : (b : Bool) → is-blocked (task s t .state) ≡ b
-        → SameLive s (pick b (record { store = note (make-ready s t x) (reached t); woken = some t }) (nobody-woken s) .store)
+        → SameLive s (pick b (record { store = add-log (make-ready s t x) (reached t); woken = some t }) (nobody-woken s) .store)
     by true q = woken-same s t x z l (e ∙ sym (blocked-live (task s t .state) q))
     by false q = same-store s z
 

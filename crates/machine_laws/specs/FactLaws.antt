@@ -21,11 +21,11 @@ use Rattle.asyncio.specs.Parts.{awaiter-of}
 use Rattle.asyncio.specs.Ranges.{HeaderFits}
 use Rattle.machine.specs.Tests.{_and_, all-below, sum-below}
 use Rattle.machine.specs.Store.{View}
-use Rattle.machine.specs.Scheduler.{AwaitedGather, PendingExternal, as-awaited, as-pending, blocked-on, bit, drives}
+use Rattle.machine.specs.Scheduler.{AwaitedGather, PendingExternal, as-awaited, as-pending, blocked-on, bit, is-task-of}
 use Rattle.machine.specs.Commit.{open-from}
 use Rattle.machine.specs.Sound.{places-below, counts-in-range, awaiter-in-range, object-in-range, is-slot, task-in-range, numbers-in-range}
 use Rattle.machine.specs.Sound.{committed-places, spawned-in-range, items-lower, object-values, state-values, lists-completed}
-use Rattle.machine.specs.Sound.{queue-ready, is-ended, same-call, call-new, calls-distinct, drives-at, sole-driver, one-driver}
+use Rattle.machine.specs.Sound.{queue-ready, is-ended, same-call, call-new, calls-distinct, is-task-of-at, sole-task, one-task}
 use Rattle.machine.specs.Sound.{is-task, blocked-awaits, blocked-at, awaiter-blocked, blocked-match, places-filled}
 use Rattle.machine.specs.Sound.{source-open, slot-open, slots-open, runner-in-range, one-runs, sound-view}
 use Rattle.machine_laws.specs.TestLaws.{and-true, both, both-left, both-right, implies-use, implies-give, or-use, or-give, same-use, same-give, below, from-below}
@@ -182,33 +182,33 @@ module _ (os : ℕ → Object) (n : ℕ) where
 
 -- ---- clause 7: the driver of a coroutine
 
-drives-it : (c : ℕ) (r : Task) → T (drives c r) → r .coroutine .0 ≡ c
-unfolding drives
-drives-it c r t = by (is-live (r .state)) t
+is-task-of-it : (c : ℕ) (r : Task) → T (is-task-of c r) → r .coroutine .0 ≡ c
+unfolding is-task-of
+is-task-of-it c r t = by (is-live (r .state)) t
   where
     by : (b : Bool) → T (pick b (eqb (r .coroutine .0) c) false) → r .coroutine .0 ≡ c
     by true t = eqb→eq (r .coroutine .0) c t
     by false t = absurd t
 
 module _ (ts : ℕ → Task) (n : ℕ) where
-  driven : (c t : ℕ) → T (drives-at ts c t) → ts t .coroutine .0 ≡ c
-  unfolding drives-at
-  driven c t d = drives-it c (ts t) (both-right (not (eqb t 0)) _ d)
+  driven : (c t : ℕ) → T (is-task-of-at ts c t) → ts t .coroutine .0 ≡ c
+  unfolding is-task-of-at
+  driven c t d = is-task-of-it c (ts t) (both-right (not (eqb t 0)) _ d)
 
-  driver-of : T (all-below n (sole-driver ts)) → (c t u : ℕ) → t < n → u < n → T (drives-at ts c t) → T (drives-at ts c u) → t ≡ u
-  unfolding sole-driver
-  driver-of h c t u l m d e =
-      distinct-of n (λ x y. drives-at ts c x and drives-at ts c y)
+  task-of-of : T (all-below n (sole-task ts)) → (c t u : ℕ) → t < n → u < n → T (is-task-of-at ts c t) → T (is-task-of-at ts c u) → t ≡ u
+  unfolding sole-task
+  task-of-of h c t u l m d e =
+      distinct-of n (λ x y. is-task-of-at ts c x and is-task-of-at ts c y)
       (λ x y l m z.
       let q : ts x .coroutine .0 ≡ c = driven c x (both-left _ _ z) in
-      T-not (drives-at ts c y) (below x _ (implies-use (drives-at ts c x) _ (both-left _ _ z) (rw q at (below n (sole-driver ts) h x l))) y m) (both-right (drives-at ts c x) _ z))
+      T-not (is-task-of-at ts c y) (below x _ (implies-use (is-task-of-at ts c x) _ (both-left _ _ z) (rw q at (below n (sole-task ts) h x l))) y m) (both-right (is-task-of-at ts c x) _ z))
       t u l m (both _ _ d e) (both _ _ e d)
 
-  driver-test : ((c t u : ℕ) → t < n → u < n → T (drives-at ts c t) → T (drives-at ts c u) → t ≡ u) → T (all-below n (sole-driver ts))
-  unfolding sole-driver
-  driver-test h =
-      from-below n (sole-driver ts) (λ t l. implies-give (drives-at ts (ts t .coroutine .0) t) _
-      (λ d. from-below t _ (λ u m. not-T (drives-at ts (ts t .coroutine .0) u)
+  task-of-test : ((c t u : ℕ) → t < n → u < n → T (is-task-of-at ts c t) → T (is-task-of-at ts c u) → t ≡ u) → T (all-below n (sole-task ts))
+  unfolding sole-task
+  task-of-test h =
+      from-below n (sole-task ts) (λ t l. implies-give (is-task-of-at ts (ts t .coroutine .0) t) _
+      (λ d. from-below t _ (λ u m. not-T (is-task-of-at ts (ts t .coroutine .0) u)
       (λ e. let q : t ≡ u = h (ts t .coroutine .0) t u l (omega arith) d e in not-suc-le-zero {n = 0} (omega arith)))))
 
 -- ---- all of it
@@ -222,7 +222,7 @@ module _ (v : View) where
 
   -- the test gives the facts; the header of a store is always in range
   pub to-facts : HeaderFits (v .header) → T (sound-view v) → SoundFacts v
-  unfolding sound-view numbers-in-range counts-in-range spawned-in-range items-lower lists-completed queue-ready calls-distinct one-driver blocked-match places-filled slots-open one-runs
+  unfolding sound-view numbers-in-range counts-in-range spawned-in-range items-lower lists-completed queue-ready calls-distinct one-task blocked-match places-filled slots-open one-runs
   to-facts f h =
       let h2 = both-right (numbers-in-range (v .header) (v .objects) (v .tasks)) _ h in
       let h3 = both-right (spawned-in-range (v .header) (v .objects)) _ h2 in
@@ -230,7 +230,7 @@ module _ (v : View) where
       let h5 = both-right (lists-completed (v .header) (v .objects) (v .tasks) (v .places)) _ h4 in
       let h6 = both-right (queue-ready next (v .tasks) (v .queue)) _ h5 in
       let h7 = both-right (calls-distinct (v .header) (v .objects)) _ h6 in
-      let h8 = both-right (one-driver next (v .tasks)) _ h7 in
+      let h8 = both-right (one-task next (v .tasks)) _ h7 in
       let h9 = both-right (blocked-match (v .header) (v .objects) (v .tasks)) _ h8 in
       let h10 = both-right (places-filled made (v .objects) (v .places)) _ h9 in
       let h11 = both-right (slots-open (v .header) (v .objects) (v .tasks) (v .places)) _ h10 in
@@ -260,7 +260,7 @@ module _ (v : View) where
               place-lists = below (v .header .used) _ (both-right (all-below next (λ t. state-values made (v .objects) (v .tasks t .state))) _ lists2);
               entries = below (length (v .queue)) _ (both-left _ _ h5);
               calls = λ on. calls-of (v .objects) made (or-use (is-ended (v .header .moment)) _ on (both-left _ _ h6));
-              driver = driver-of (v .tasks) next (both-left _ _ h7);
+              task-of = task-of-of (v .tasks) next (both-left _ _ h7);
               awaits = λ t l d o e. awaited-by-of made (v .objects) t o _ (below next _ (both-left _ _ match) t l) e;
               awaited = λ o l d t e a. blocked-of (v .tasks) o t _
                   (below made _ (both-right (all-below next (λ t. blocked-awaits made (v .objects) t (blocked-on (v .tasks t .state)))) _ match) o l) e a;
@@ -276,7 +276,7 @@ module _ (v : View) where
 
   -- the facts give the test
   pub to-test : SoundFacts v → T (sound-view v)
-  unfolding sound-view numbers-in-range counts-in-range spawned-in-range items-lower lists-completed queue-ready calls-distinct one-driver blocked-match places-filled slots-open one-runs
+  unfolding sound-view numbers-in-range counts-in-range spawned-in-range items-lower lists-completed queue-ready calls-distinct one-task blocked-match places-filled slots-open one-runs
   to-test s =
       let h : SoundBut 0 Nothing Nothing v = s .but in
       both _ _ (both _ _ (both _ _ (le→leb 1 next (h .main)) (subst (λ (m : ℕ). T (eqb (v .header .used) m)) (h .all-used) (eqb-refl (v .header .used))))
@@ -286,7 +286,7 @@ module _ (v : View) where
       (both _ _ (both _ _ (from-below made _ (h .object-lists)) (both _ _ (from-below next _ (h .task-lists)) (from-below (v .header .used) _ (h .place-lists))))
       (both _ _ (from-below (length (v .queue)) _ (h .entries))
       (both _ _ (or-give (is-ended (v .header .moment)) _ (λ on. calls-test (v .objects) made (h .calls on)))
-      (both _ _ (driver-test (v .tasks) next (h .driver))
+      (both _ _ (task-of-test (v .tasks) next (h .task-of))
       (both _ _ (both _ _ (from-below next _ (λ t l. awaits-test made (v .objects) t _ (λ o e. h .awaits t l (λ z. z) o e)))
       (from-below made _ (λ o l. blocked-test (v .tasks) o _ (λ t e a. h .awaited o l (λ z. z) t e a))))
       (both _ _ (from-below made _ (λ g l. h .filled g l (λ z. z)))

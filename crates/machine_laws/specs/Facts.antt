@@ -21,7 +21,7 @@ use Rattle.machine.specs.Store.{Store, View}
 use Rattle.machine.specs.Scheduler.{AwaitedGather, PendingExternal, as-awaited, as-pending, blocked-on, bit}
 use Rattle.machine_laws.specs.Views.{update}
 use Rattle.machine.specs.Sound.{places-below, awaiter-in-range, object-in-range, task-in-range, committed-places, items-below, object-values, state-values, option-known}
-use Rattle.machine.specs.Sound.{entry-ready, is-ended, drives-at, object-filled, runs-now, runner-in-range}
+use Rattle.machine.specs.Sound.{entry-ready, is-ended, is-task-of-at, object-filled, runs-now, runner-in-range}
 
 -- an open place of the gather names o
 pub record Open (ps : ℕ → Place) (w : AwaitedGather) (o : ℕ) : Type 0 where
@@ -60,7 +60,7 @@ pub record SoundBut (k : ℕ) (P Q : ℕ → Type 0) (v : View) : Type 0 where
   pub entries : (i : ℕ) → i < length (v .queue) → T (entry-ready (v .header .next) (v .tasks) (v .queue) i)
   pub calls : is-ended (v .header .moment) ≡ false → (o p : ℕ) → o < v .header .made → p < v .header .made → (a b : PendingExternal)
       → as-pending (v .objects o) ≡ some a → as-pending (v .objects p) ≡ some b → a .call .0 ≡ b .call .0 → o ≡ p
-  pub driver : (c t u : ℕ) → t < v .header .next → u < v .header .next → T (drives-at (v .tasks) c t) → T (drives-at (v .tasks) c u) → t ≡ u
+  pub task-of : (c t u : ℕ) → t < v .header .next → u < v .header .next → T (is-task-of-at (v .tasks) c t) → T (is-task-of-at (v .tasks) c u) → t ≡ u
   pub awaits : (t : ℕ) → t < v .header .next → (P t → ⊥) → (o : ℕ) → blocked-on (v .tasks t .state) ≡ some o
       → AwaitedBy (v .header .made) (v .objects) t o
   pub awaited : (o : ℕ) → o < v .header .made → (Q o → ⊥) → (t : ℕ) → awaiter-of (v .objects o) ≡ Awaiter.Task (task-id t)

@@ -99,7 +99,7 @@ header-keeps k P Q v c m l b f e h =
       place-lists = h .place-lists;
       entries = h .entries;
       calls = λ on. h .calls (e on);
-      driver = h .driver;
+      task-of = h .task-of;
       awaits = h .awaits;
       awaited = h .awaited;
       filled = h .filled;
@@ -290,7 +290,7 @@ module _ (v : View) (x : Object) (n : ℕ) (ps : ℕ → Place) (c : ℕ) (ft : 
         place-lists = place-add;
         entries = h .entries;
         calls = calls-add;
-        driver = h .driver;
+        task-of = h .task-of;
         awaits = λ t l d o e.
             let aw : AwaitedBy top (v .objects) t o = h .awaits t l d o e in
             record { made = omega (arith, aw .made); awaiter = ap awaiter-of (old o (aw .made)) ∙ aw .awaiter };

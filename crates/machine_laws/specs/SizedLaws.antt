@@ -27,7 +27,7 @@ use Rattle.asyncio.specs.Limits.{object-limit, task-limit, tasks-length, object
 use Rattle.asyncio.specs.Ranges.{HeaderFits}
 use Rattle.asyncio.specs.RangeLaws.{pick-has}
 use Rattle.machine.specs.Store.{Store, task, object, place, header, put-places, removed, reached, spawned, exited, blocked, set-moment, forget, absent, view, fresh, empty}
-use Rattle.machine.specs.Scheduler.{AwaitedGather, PendingExternal, as-awaited, as-pending, is-some, bit, driver, pending-external, live-count, insert, calls-below, pending-calls-in, pending-call-ids}
+use Rattle.machine.specs.Scheduler.{AwaitedGather, PendingExternal, as-awaited, as-pending, is-some, bit, task-of, pending-external, live-count, insert, calls-below, pending-calls-in, pending-call-ids}
 use Rattle.machine.specs.Scheduler.{push-ready, remove-from-ready-queue, make-ready, spawn-as, spawn, spawn-unless, remove-task, cancel-one, Walk, reach-if, reach, remove-blocked}
 use Rattle.machine.specs.Scheduler.{visit-by, visit, visit-place, visit-open, walk-gather, walk-next, walk, walk-from, cancel-task, remove-from, cleanup}
 use Rattle.machine.specs.Delivery.{Delivery, nobody-woken, deliver-to-task, Filled, fill-from, Settled, resolve-left, resolve-awaited, resolve-child, fail-awaited, fail-gather}
@@ -46,7 +46,7 @@ use Rattle.machine.specs.Machine.{Event, Answer, Step, switched, answer-await, 
 use Rattle.machine.specs.Machine.{unmade, refusals, refusal, accept, decide, step, after}
 use Rattle.machine_laws.specs.Views.{Sized}
 use Rattle.machine_laws.specs.Statements.{SaysCalls, Left, AnswerSays}
-use Rattle.machine_laws.specs.StoreLaws.{sized-put-task, sized-put-object, sized-put-place, sized-put-header, sized-put-places, sized-put-queue, sized-note, sized-forget, sized-set-state, sized-set-moment, sized-set-next, sized-set-calls, sized-add-object, header-fits, header-put-header, object-put-header}
+use Rattle.machine_laws.specs.StoreLaws.{sized-put-task, sized-put-object, sized-put-place, sized-put-header, sized-put-places, sized-put-queue, sized-add-log, sized-forget, sized-set-state, sized-set-moment, sized-set-next, sized-set-calls, sized-add-object, header-fits, header-put-header, object-put-header}
 use Rattle.machine_laws.specs.DeliveryLaws.{length-fill-from}
 use Rattle.machine_laws.specs.MakingLaws.{items-sized}
 use Rattle.machine_laws.specs.SoundLaws.{sound-facts, pass, running-rest, refusal-rest, refusal-sound, refusal-forget}
@@ -63,7 +63,7 @@ sized-make-ready s t x z = sized-put-queue _ _ (sized-set-state s t x z)
 
 pub sized-spawn-as : (s : Store) (t c g : ℕ) → Sized s → Sized (spawn-as s t c g)
 unfolding spawn-as push-ready
-sized-spawn-as s t c g z = sized-note _ (spawned t c) (sized-put-queue _ _ (sized-set-next _ (t + 1) (sized-put-task s t _ z)))
+sized-spawn-as s t c g z = sized-add-log _ (spawned t c) (sized-put-queue _ _ (sized-set-next _ (t + 1) (sized-put-task s t _ z)))
 
 sized-remove-task : (s : Store) (t : ℕ) → Sized s → Sized (remove-task s t)
 unfolding remove-task
@@ -71,7 +71,7 @@ sized-remove-task s t z = sized-remove-from-ready-queue _ t (sized-put-task s t 
 
 sized-cancel-one : (s : Store) (t : ℕ) → Sized s → Sized (cancel-one s t)
 unfolding cancel-one
-sized-cancel-one s t z = sized-note _ (removed t) (sized-remove-task s t z)
+sized-cancel-one s t z = sized-add-log _ (removed t) (sized-remove-task s t z)
 
 -- the store of a walk
 abbrev WalkSized : Walk → Type 0
@@ -127,7 +127,7 @@ sized-remove-from : (k : ℕ) (s : Store) (t : ℕ) → Sized s → Sized (remov
 unfolding remove-from
 sized-remove-from zero s t z = z
 sized-remove-from (suc k) s t z =
-    sized-remove-from k _ (t + 1) (pick-has Sized (is-live (task s t .state)) (sized-note _ (removed t) (sized-put-task s t absent z)) z)
+    sized-remove-from k _ (t + 1) (pick-has Sized (is-live (task s t .state)) (sized-add-log _ (removed t) (sized-put-task s t absent z)) z)
 
 pub sized-cleanup : (s : Store) → Sized s → Sized (cleanup s)
 unfolding cleanup
@@ -143,7 +143,7 @@ SettledSized r = Sized (r .store)
 
 sized-deliver-to-task : (s : Store) (t : ℕ) (x : TaskState) → Sized s → DeliverySized (deliver-to-task s t x)
 unfolding deliver-to-task nobody-woken
-sized-deliver-to-task s t x z = pick-has DeliverySized (is-blocked (task s t .state)) (sized-note _ (reached t) (sized-make-ready s t x z)) z
+sized-deliver-to-task s t x z = pick-has DeliverySized (is-blocked (task s t .state)) (sized-add-log _ (reached t) (sized-make-ready s t x z)) z
 
 sized-resolve-child : (s : Store) (g source : ℕ) (v : Value) → Sized s → SettledSized (resolve-child s g source v)
 unfolding resolve-child resolve-awaited
@@ -247,7 +247,7 @@ SpawnSized (some u) = Sized u
 
 sized-spawn : (s : Store) (c g : ℕ) → Sized s → SpawnSized (spawn s c g)
 unfolding spawn spawn-unless SpawnSized
-sized-spawn s c g z = by (driver s c)
+sized-spawn s c g z = by (task-of s c)
   where
     by : (d : Option ℕ) → SpawnSized (spawn-unless s c g d)
     by (some t) = tt
@@ -423,7 +423,7 @@ module _ (go : Store → ℕ → Switched) (h : (s : Store) (t : ℕ) → Sized 
 
   failure-left : (s : Store) (t : ℕ) (e : Error) → Sized s → SwitchLeft (handle-task-failure go s t e)
   unfolding handle-task-failure
-  failure-left s t e z = exit-left _ (sized-note _ (exited t) (sized-remove-task _ t (sized-failure s _ e z)))
+  failure-left s t e z = exit-left _ (sized-add-log _ (exited t) (sized-remove-task _ t (sized-failure s _ e z)))
 
   start-left : (s : Store) (t c : ℕ) (f : Option ℕ) → Sized s → SwitchLeft (start-by go s t c f)
   unfolding start-by
@@ -456,7 +456,7 @@ go-on-left : (t o n : ℕ) (s : Store) (p : Poll) → Sized s → AwaitLeft (go-
 unfolding go-on
 go-on-left t o n s (ready v) z = stays-left s t (value v) n z
 go-on-left t o n s (raised e) z = stays-left s t (raises e) n z
-go-on-left t o n s pending z = next-left activate activate-left _ (sized-note _ (blocked t) (sized-set-state s t _ z))
+go-on-left t o n s pending z = next-left activate activate-left _ (sized-add-log _ (blocked t) (sized-set-state s t _ z))
 
 await-left : (s : Store) (t o : ℕ) (x : Object) → Sized s → AwaitLeft (await-object s t o x)
 unfolding await-object await-coroutine await-external-future await-gather SaysCalls
@@ -491,7 +491,7 @@ end-left s a q z = quiet (cleanup s) a (sized-cleanup s z) q
 completion-left : (s : Store) (t : ℕ) (v : Value) → Sized s → SwitchLeft (handle-task-completion s t v)
 unfolding handle-task-completion
 completion-left s t v z =
-    exit-left activate activate-left _ (sized-success _ _ v (sized-note _ (exited t) (sized-remove-task _ t (sized-put-object s _ _ z))))
+    exit-left activate activate-left _ (sized-success _ _ v (sized-add-log _ (exited t) (sized-remove-task _ t (sized-put-object s _ _ z))))
 
 repeat-left : (s : Store) (cs : List ℕ) → cs ≡ pending-call-ids s → AnswerSays s (repeat-wait cs)
 unfolding repeat-wait AnswerSays SaysCalls

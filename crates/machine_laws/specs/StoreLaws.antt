@@ -29,8 +29,8 @@ use Rattle.rows.specs.TableLaws.{task-at-put, task-at-other, task-at-fits, obje
 use Rattle.rows.specs.TableLaws.{place-at-put, place-at-other, place-at-fits, header-at-put, header-at-fits, header-at-object-put}
 use Rattle.queue.specs.declared.ReadyQueue.{ReadyQueue}
 use Rattle.queue.specs.Queue.{entries}
-use Rattle.machine.specs.Store.{Store, Happening, view, task, put-task, object, put-object, place, put-place, header, put-header}
-use Rattle.machine.specs.Store.{put-places, put-queue, note, forget, set-state, set-moment, set-next, set-calls, add-object}
+use Rattle.machine.specs.Store.{Store, LogEntry, view, task, put-task, object, put-object, place, put-place, header, put-header}
+use Rattle.machine.specs.Store.{put-places, put-queue, add-log, forget, set-state, set-moment, set-next, set-calls, add-object}
 use Rattle.machine_laws.specs.Views.{Sized, update, with-task, with-object, with-place, with-places, with-header, with-queue}
 
 -- ---- each write keeps the lengths
@@ -75,9 +75,9 @@ pub sized-put-queue : (s : Store) (q : ReadyQueue) → Sized s → Sized (put-qu
 unfolding put-queue
 sized-put-queue s q z = record { tasks-sized = z .tasks-sized; objects-sized = z .objects-sized; places-sized = z .places-sized }
 
-pub sized-note : (s : Store) (h : Happening) → Sized s → Sized (note s h)
-unfolding note
-sized-note s h z = record { tasks-sized = z .tasks-sized; objects-sized = z .objects-sized; places-sized = z .places-sized }
+pub sized-add-log : (s : Store) (h : LogEntry) → Sized s → Sized (add-log s h)
+unfolding add-log
+sized-add-log s h z = record { tasks-sized = z .tasks-sized; objects-sized = z .objects-sized; places-sized = z .places-sized }
 
 pub sized-forget : (s : Store) → Sized s → Sized (forget s)
 unfolding forget
@@ -301,9 +301,9 @@ unfolding view with-queue task object place header put-queue
 view-put-queue s q = refl
 
 -- what has happened is no part of the view
-pub view-note : (s : Store) (h : Happening) → view (note s h) ≡ view s
-unfolding view task object place header note
-view-note s h = refl
+pub view-add-log : (s : Store) (h : LogEntry) → view (add-log s h) ≡ view s
+unfolding view task object place header add-log
+view-add-log s h = refl
 
 pub view-forget : (s : Store) → view (forget s) ≡ view s
 unfolding view task object place header forget

@@ -21,7 +21,7 @@ use Rattle.rows.specs.Canonical.{same-words, task-canonical, object-canonical, 
 use Rattle.rows.specs.CanonicalLaws.{canonical-put, canonical-apart}
 use Rattle.queue.specs.declared.ReadyQueue.{ReadyQueue}
 use Rattle.machine.specs.Tests.{all-below}
-use Rattle.machine.specs.Store.{Store, header, put-task, put-object, put-place, put-header, put-queue, note, forget, Happening}
+use Rattle.machine.specs.Store.{Store, header, put-task, put-object, put-place, put-header, put-queue, add-log, forget, LogEntry}
 use Rattle.machine.specs.Sound.{words-in-range}
 use Rattle.machine_laws.specs.Views.{Sized}
 use Rattle.machine_laws.specs.Facts.{WordsFine}
@@ -152,9 +152,9 @@ module _ (next made used : ℕ) (s : Store) (z : Sized s) (k : WordsFine next ma
     queue-fine = l;
   }
 
-  pub fine-note : (x : Happening) → WordsFine next made used (note s x)
-  unfolding note
-  fine-note x = record {
+  pub fine-add-log : (x : LogEntry) → WordsFine next made used (add-log s x)
+  unfolding add-log
+  fine-add-log x = record {
     header-fine = k .header-fine;
     tasks-fine = k .tasks-fine;
     objects-fine = k .objects-fine;

@@ -8,7 +8,7 @@ use step_checks::lent::lengths_right;
 ghost use mathlib.Core.Path.{_≡_};
 ghost use mathlib.Core.List.{List};
 ghost use Prim.Native.Nat.{ℕ};
-ghost use Rattle.machine.specs.Store.{Happening, store-of};
+ghost use Rattle.machine.specs.Store.{LogEntry, store-of};
 ghost use Rattle.machine.specs.Machine.{Event};
 ghost use Rattle.machine.specs.Lent.{lent-step};
 ghost use Rattle.step_checks.specs.Lent.{lent-of};
@@ -22,7 +22,7 @@ pub fn coroutine(
     queue: ReadyQueue,
     function: u32,
 ) -> Stepped
-    ensures { λ r. ⌜ ((l : List Happening) → lent-of (store-of (now (tasks .entry)) (now (objects .exit)) (now (places .entry)) (r .queue) (lent-step (store-of (now (tasks .entry)) (now (objects .entry)) (now (places .entry)) queue l) (now (calls .entry)) (Event.coroutine function) .store .log)) (now (calls .entry)) (r .answer) ≡ lent-step (store-of (now (tasks .entry)) (now (objects .entry)) (now (places .entry)) queue l) (now (calls .entry)) (Event.coroutine function)) ⌝ }
+    ensures { λ r. ⌜ ((l : List LogEntry) → lent-of (store-of (now (tasks .entry)) (now (objects .exit)) (now (places .entry)) (r .queue) (lent-step (store-of (now (tasks .entry)) (now (objects .entry)) (now (places .entry)) queue l) (now (calls .entry)) (Event.coroutine function) .store .log)) (now (calls .entry)) (r .answer) ≡ lent-step (store-of (now (tasks .entry)) (now (objects .entry)) (now (places .entry)) queue l) (now (calls .entry)) (Event.coroutine function)) ⌝ }
 {
     if lengths_right(tasks, objects, places, calls) {
         if is_sound(queue, tasks, objects, places) {
@@ -51,7 +51,7 @@ pub fn gather(
     queue: ReadyQueue,
     items: &[u16],
 ) -> Stepped
-    ensures { λ r. ⌜ ((l : List Happening) → lent-of (store-of (now (tasks .entry)) (now (objects .exit)) (now (places .exit)) (r .queue) (lent-step (store-of (now (tasks .entry)) (now (objects .entry)) (now (places .entry)) queue l) (now (calls .entry)) (Event.gather (now (items .entry))) .store .log)) (now (calls .entry)) (r .answer) ≡ lent-step (store-of (now (tasks .entry)) (now (objects .entry)) (now (places .entry)) queue l) (now (calls .entry)) (Event.gather (now (items .entry)))) ⌝ }
+    ensures { λ r. ⌜ ((l : List LogEntry) → lent-of (store-of (now (tasks .entry)) (now (objects .exit)) (now (places .exit)) (r .queue) (lent-step (store-of (now (tasks .entry)) (now (objects .entry)) (now (places .entry)) queue l) (now (calls .entry)) (Event.gather (now (items .entry))) .store .log)) (now (calls .entry)) (r .answer) ≡ lent-step (store-of (now (tasks .entry)) (now (objects .entry)) (now (places .entry)) queue l) (now (calls .entry)) (Event.gather (now (items .entry)))) ⌝ }
 {
     if lengths_right(tasks, objects, places, calls) {
         if is_sound(queue, tasks, objects, places) {

@@ -9,7 +9,7 @@ use Rattle.asyncio.specs.declared.Header.{Header}
 use Rattle.rows.specs.Tables.{task-at, header-at}
 use Rattle.scheduler.specs.Search.{found}
 use Rattle.scheduler.specs.declared.tasks.Found.{Found}
-use Rattle.machine.specs.Scheduler.{first-from, drives, driver-in, is-call, pending-external-in}
+use Rattle.machine.specs.Scheduler.{first-from, is-task-of, task-of-in, is-call, pending-external-in}
 
 -- j is the number that the code tested, i as a number of its type
 module _ (p : ℕ → Bool) (i n : ℕ) {j : ℕ} where
@@ -26,9 +26,9 @@ module _ (p : ℕ → Bool) (i n : ℕ) where
   unfolding first-from
   first-end h = let e : n - i ≡ 0 = omega arith in rw e
 
-pub driver-begins : (ts : List ℕ) (n c : ℕ) → first-from (λ t. drives c (task-at ts t)) 1 (n - 1) ≡ driver-in ts n c
-unfolding driver-in
-driver-begins ts n c = refl
+pub task-of-begins : (ts : List ℕ) (n c : ℕ) → first-from (λ t. is-task-of c (task-at ts t)) 1 (n - 1) ≡ task-of-in ts n c
+unfolding task-of-in
+task-of-begins ts n c = refl
 
 pub pending-begins : (os : List ℕ) (call : ℕ) {h : Header} → h ≡ header-at os → first-from (is-call os call) 0 (h .made - 0) ≡ pending-external-in os call
 unfolding pending-external-in

@@ -7,17 +7,17 @@ use Prim.Native.Nat.{ℕ}
 use Rattle.asyncio.specs.declared.Header.{Header}
 use Rattle.rows.specs.Tables.{header-at}
 use Rattle.queue.specs.declared.ReadyQueue.{ReadyQueue}
-use Rattle.machine.specs.Store.{Happening, spawned, store-of}
+use Rattle.machine.specs.Store.{LogEntry, spawned, store-of}
 use Rattle.machine.specs.Scheduler.{spawn, spawn-as}
 
 -- from ts, os and q to ts′, os′ and q′, where the header of os is h: the machine's spawn-as
 pub record SpawnsAs (ts os : List ℕ) (q : ReadyQueue) (h : Header) (c g : ℕ) (ts′ os′ : List ℕ) (q′ : ReadyQueue) : Type 0 where
-  pub spawns : header-at os ≡ h → (ps : List ℕ) (l : List Happening)
+  pub spawns : header-at os ≡ h → (ps : List ℕ) (l : List LogEntry)
       → store-of ts′ os′ ps q′ (spawned (h .next) c ∷ l) ≡ spawn-as (store-of ts os ps q l) (h .next) c g
 
 -- done: the machine's spawn gives that store; not done: it gives none, and all is as it was
 pub data Spawns (ts os : List ℕ) (q : ReadyQueue) (c g : ℕ) : List ℕ → List ℕ → ReadyQueue → Bool → Type 0 where
   done : {ts′ os′ : List ℕ} {q′ : ReadyQueue}
-      → ((ps : List ℕ) (l : List Happening) → spawn (store-of ts os ps q l) c g ≡ some (store-of ts′ os′ ps q′ (spawned (header-at os .next) c ∷ l)))
+      → ((ps : List ℕ) (l : List LogEntry) → spawn (store-of ts os ps q l) c g ≡ some (store-of ts′ os′ ps q′ (spawned (header-at os .next) c ∷ l)))
       → Spawns ts os q c g ts′ os′ q′ true
-  not-done : ((ps : List ℕ) (l : List Happening) → spawn (store-of ts os ps q l) c g ≡ none) → Spawns ts os q c g ts os q false
+  not-done : ((ps : List ℕ) (l : List LogEntry) → spawn (store-of ts os ps q l) c g ≡ none) → Spawns ts os q c g ts os q false

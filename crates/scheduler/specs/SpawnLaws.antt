@@ -11,31 +11,31 @@ use Rattle.rows.specs.Tables.{header-at}
 use Rattle.rows.specs.TableLaws.{header-at-fits}
 use Rattle.queue.specs.declared.ReadyQueue.{ReadyQueue}
 use Rattle.machine.specs.Store.{spawned, header}
-use Rattle.machine.specs.Scheduler.{driver-in, driver, spawn, spawn-unless}
+use Rattle.machine.specs.Scheduler.{task-of-in, task-of, spawn, spawn-unless}
 use Rattle.scheduler.specs.Search.{found}
 use Rattle.scheduler.specs.SearchLaws.{found-at, found-nothing}
 use Rattle.scheduler.specs.Spawn.{SpawnsAs, Spawns, done, not-done}
 use Rattle.scheduler.specs.declared.tasks.Found.{Found}
 
-module _ (ts os : List ℕ) (q : ReadyQueue) (c g : ℕ) {h : Header} {d : Found} (e : h ≡ header-at os) (f : d ≡ found (driver-in ts (h .next) c)) where
+module _ (ts os : List ℕ) (q : ReadyQueue) (c g : ℕ) {h : Header} {d : Found} (e : h ≡ header-at os) (f : d ≡ found (task-of-in ts (h .next) c)) where
   pub spawn-taken : (n : ℕ) → d ≡ Found.At n → Spawns ts os q c g ts os q false
-  unfolding spawn spawn-unless driver header
+  unfolding spawn spawn-unless task-of header
   spawn-taken n t =
-      let k : driver-in ts (header-at os .next) c ≡ some n = rw e at (found-at (driver-in ts (h .next) c) n (sym f ∙ t)) in
+      let k : task-of-in ts (header-at os .next) c ≡ some n = rw e at (found-at (task-of-in ts (h .next) c) n (sym f ∙ t)) in
       not-done (λ ps l. rw k)
 
-  free : d ≡ Found.Nothing → driver-in ts (header-at os .next) c ≡ none
-  free t = rw e at (found-nothing (driver-in ts (h .next) c) (sym f ∙ t))
+  free : d ≡ Found.Nothing → task-of-in ts (header-at os .next) c ≡ none
+  free t = rw e at (found-nothing (task-of-in ts (h .next) c) (sym f ∙ t))
 
   pub spawn-full : d ≡ Found.Nothing → task-limit ≤ h .next → Spawns ts os q c g ts os q false
-  unfolding spawn spawn-unless driver header
+  unfolding spawn spawn-unless task-of header
   spawn-full t l =
       let k : task-limit ≤ header-at os .next = rw e at l in
       not-done (λ ps x. rw (free t, le-ltb (header-at os .next) task-limit k))
 
   pub spawn-done : d ≡ Found.Nothing → h .next < task-limit → {ts′ os′ : List ℕ} {q′ : ReadyQueue} → SpawnsAs ts os q h c g ts′ os′ q′
       → Spawns ts os q c g ts′ os′ q′ true
-  unfolding spawn spawn-unless driver header
+  unfolding spawn spawn-unless task-of header
   spawn-done t l {ts′} {os′} {q′} r =
       let k : header-at os .next < task-limit = rw e at l in
       done {ts′ = ts′} {os′ = os′} {q′ = q′} (λ ps x. rw (free t, lt-ltb (header-at os .next) task-limit k, ← e, r .spawns (sym e) ps x))

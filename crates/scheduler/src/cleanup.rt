@@ -12,7 +12,7 @@ ghost use mathlib.Core.List.{List};
 ghost use Prim.Native.Nat.{ℕ, _<_, _≤_};
 ghost use lib.ListN.{length};
 ghost use Rattle.asyncio.specs.Limits.{task-limit, object-limit, tasks-length, objects-length};
-ghost use Rattle.machine.specs.Store.{Happening, store-of};
+ghost use Rattle.machine.specs.Store.{LogEntry, store-of};
 ghost use Rattle.machine.specs.Scheduler.{pending-calls-in, cleanup};
 ghost use Rattle.machine.specs.Machine.{is-empty, can-await-eagerly};
 ghost use Rattle.queue.specs.declared.ReadyQueue.{ReadyQueue};
@@ -39,7 +39,7 @@ pub fn no_call_pending(objects: &[u64]) -> bool
 // May a call be answered at once? Nothing is ready and no call is pending; after the session's end none is.
 pub fn can_await_eagerly(objects: &[u64], queue: ReadyQueue) -> bool
     requires { ⌜ length (now objects) ≡ objects-length ⌝ }
-    ensures { λ r. ⌜ ((ts ps : List ℕ) (l : List Happening) → r ≡ can-await-eagerly (store-of ts (now (objects .entry)) ps queue l)) ⌝ }
+    ensures { λ r. ⌜ ((ts ps : List ℕ) (l : List LogEntry) → r ≡ can-await-eagerly (store-of ts (now (objects .entry)) ps queue l)) ⌝ }
 {
     if queue.len == 0 {
         let header = rows::tables::load_header(objects);
@@ -84,7 +84,7 @@ fn clear_tasks(tasks: &mut [u64], next: u16)
 // The session ends: no task is left, and none is ready.
 pub fn cleanup(tasks: &mut [u64], objects: &mut [u64]) -> ReadyQueue
     requires { ⌜ (length (now tasks) ≡ tasks-length) × (length (now objects) ≡ objects-length) ⌝ }
-    ensures { λ r. ⌜ ((ps : List ℕ) (q : ReadyQueue) (l : List Happening) → store-of (now (tasks .exit)) (now (objects .exit)) ps r (cleanup (store-of (now (tasks .entry)) (now (objects .entry)) ps q l) .log) ≡ cleanup (store-of (now (tasks .entry)) (now (objects .entry)) ps q l)) ⌝ }
+    ensures { λ r. ⌜ ((ps : List ℕ) (q : ReadyQueue) (l : List LogEntry) → store-of (now (tasks .exit)) (now (objects .exit)) ps r (cleanup (store-of (now (tasks .entry)) (now (objects .entry)) ps q l) .log) ≡ cleanup (store-of (now (tasks .entry)) (now (objects .entry)) ps q l)) ⌝ }
 {
     let header = rows::tables::load_header(objects);
     clear_tasks(tasks, header.next);

@@ -1,6 +1,6 @@
 // spawn: a task for a coroutine, one at a time.
 use crate::tasks::Found;
-use crate::tasks::driver;
+use crate::tasks::task_of;
 use asyncio::Awaiter;
 use asyncio::Header;
 use asyncio::HeapId;
@@ -13,7 +13,7 @@ ghost use mathlib.Core.List.{List};
 ghost use Prim.Native.Nat.{ℕ, _<_, _≤_};
 ghost use lib.ListN.{length};
 ghost use Rattle.asyncio.specs.Limits.{task-limit, object-limit, tasks-length, objects-length};
-ghost use Rattle.machine.specs.Store.{Happening, store-of};
+ghost use Rattle.machine.specs.Store.{LogEntry, store-of};
 ghost use Rattle.machine.specs.Scheduler.{spawn, spawn-as};
 ghost use Rattle.scheduler.specs.Spawn.{SpawnsAs, Spawns};
 
@@ -72,7 +72,7 @@ pub fn spawn(
 {
     let header = rows::tables::load_header(objects);
     let next = header.next;
-    let d = driver(tasks, next, c);
+    let d = task_of(tasks, next, c);
     match d {
         Found::At(_) => Spawned { done: false, queue },
         Found::Nothing => {

@@ -12,7 +12,7 @@ ghost use lib.ListN.{length};
 ghost use Rattle.asyncio.specs.Limits.{task-limit, object-limit, tasks-length};
 ghost use Rattle.asyncio.specs.States.{is-blocked};
 ghost use Rattle.rows.specs.Tables.{task-at, task-put};
-ghost use Rattle.machine.specs.Store.{Happening, store-of, restate, set-state};
+ghost use Rattle.machine.specs.Store.{LogEntry, store-of, restate, set-state};
 ghost use Rattle.machine.specs.Scheduler.{make-ready, remove-task};
 ghost use Rattle.asyncio.specs.declared.TaskState.{TaskState};
 
@@ -47,7 +47,7 @@ pub fn is_blocked(tasks: &[u64], t: TaskId) -> bool
 // Task `t` is given a value or an error, and goes to the queue's back.
 pub fn make_ready(tasks: &mut [u64], queue: ReadyQueue, t: TaskId, state: TaskState) -> ReadyQueue
     requires { ⌜ (length (now tasks) ≡ tasks-length) × (t .0 < task-limit) ⌝ }
-    ensures { λ r. ⌜ ((os ps : List ℕ) (l : List Happening) → store-of (now (tasks .exit)) os ps r l ≡ make-ready (store-of (now (tasks .entry)) os ps queue l) (t .0) state) ⌝ }
+    ensures { λ r. ⌜ ((os ps : List ℕ) (l : List LogEntry) → store-of (now (tasks .exit)) os ps r l ≡ make-ready (store-of (now (tasks .entry)) os ps queue l) (t .0) state) ⌝ }
 {
     set_state(tasks, t, state);
     queue.push_back(t)
@@ -64,7 +64,7 @@ pub fn block_current_on(tasks: &mut [u64], t: TaskId, o: HeapId)
 // Task `t` is live no more, and not ready.
 pub fn remove_task(tasks: &mut [u64], queue: ReadyQueue, t: TaskId) -> ReadyQueue
     requires { ⌜ (length (now tasks) ≡ tasks-length) × (t .0 < task-limit) ⌝ }
-    ensures { λ r. ⌜ ((os ps : List ℕ) (l : List Happening) → store-of (now (tasks .exit)) os ps r l ≡ remove-task (store-of (now (tasks .entry)) os ps queue l) (t .0)) ⌝ }
+    ensures { λ r. ⌜ ((os ps : List ℕ) (l : List LogEntry) → store-of (now (tasks .exit)) os ps r l ≡ remove-task (store-of (now (tasks .entry)) os ps queue l) (t .0)) ⌝ }
 {
     let absent = Task {
         state: TaskState::Absent,

@@ -6,7 +6,7 @@ ghost use Prim.Native.Nat.{_<_, _≤_};
 ghost use lib.ListN.{length};
 ghost use Rattle.asyncio.specs.Limits.{task-limit, object-limit, tasks-length, objects-length};
 ghost use Rattle.rows.specs.Tables.{task-at};
-ghost use Rattle.machine.specs.Scheduler.{drives, driver-in, is-call, pending-external-in};
+ghost use Rattle.machine.specs.Scheduler.{is-task-of, task-of-in, is-call, pending-external-in};
 ghost use Rattle.scheduler.specs.Search.{found};
 
 // What a search found: a number, or nothing.
@@ -16,9 +16,9 @@ pub enum Found {
 }
 
 // Does task `t` live and drive object `c`?
-fn drives(tasks: &[u64], t: TaskId, c: HeapId) -> bool
+fn is_task_of(tasks: &[u64], t: TaskId, c: HeapId) -> bool
     requires { ⌜ (length (now tasks) ≡ tasks-length) × (t .0 < task-limit) ⌝ }
-    ensures { λ r. ⌜ r ≡ drives (c .0) (task-at (now (tasks .entry)) (t .0)) ⌝ }
+    ensures { λ r. ⌜ r ≡ is-task-of (c .0) (task-at (now (tasks .entry)) (t .0)) ⌝ }
 {
     let state = rows::parts::state_at(tasks, t);
     if state.is_live() {
@@ -29,13 +29,13 @@ fn drives(tasks: &[u64], t: TaskId, c: HeapId) -> bool
 }
 
 // The live spawned task below `next` that drives object `c`.
-pub fn driver(tasks: &[u64], next: u16, c: HeapId) -> Found
+pub fn task_of(tasks: &[u64], next: u16, c: HeapId) -> Found
     requires { ⌜ (length (now tasks) ≡ tasks-length) × (next ≤ task-limit) ⌝ }
-    ensures { λ r. ⌜ r ≡ found (driver-in (now (tasks .entry)) next (c .0)) ⌝ }
+    ensures { λ r. ⌜ r ≡ found (task-of-in (now (tasks .entry)) next (c .0)) ⌝ }
 {
     let mut t: u16 = 1;
     while t < next {
-        if drives(tasks, TaskId::new(t), c) {
+        if is_task_of(tasks, TaskId::new(t), c) {
             return Found::At(t);
         }
         t += 1;

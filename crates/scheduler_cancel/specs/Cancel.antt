@@ -11,7 +11,7 @@ use Rattle.asyncio.specs.Numbers.{to-task-id, to-heap-id}
 use Rattle.asyncio.specs.declared.Awaiter.{Awaiter}
 use Rattle.rows.specs.Tables.{task-at}
 use Rattle.queue.specs.declared.ReadyQueue.{ReadyQueue}
-use Rattle.machine.specs.Store.{Happening, store-of}
+use Rattle.machine.specs.Store.{LogEntry, store-of}
 use Rattle.machine.specs.Scheduler.{AwaitedGather, Walk}
 use Rattle.scheduler_cancel.specs.declared.cancel.Walked.{Walked}
 
@@ -22,12 +22,12 @@ unfoldable pub named : ℕ → Option ℕ
 named n = pick (eqb (to-task-id n .0) 0) none (some (to-task-id n .0))
 
 -- the driver of each object, by the table
-unfoldable pub drivers-in : List ℕ → ℕ → Option ℕ
-drivers-in ds c = named (getD ds c 0)
+unfoldable pub tasks-of-in : List ℕ → ℕ → Option ℕ
+tasks-of-in ds c = named (getD ds c 0)
 
 -- task t noted at its coroutine, if it lives
-unfoldable pub note-driver : List ℕ → ℕ → List ℕ → List ℕ
-note-driver ts t ds = pick (is-live (task-at ts t .state)) (set ds (task-at ts t .coroutine .0) t) ds
+unfoldable pub put-task-of : List ℕ → ℕ → List ℕ → List ℕ
+put-task-of ts t ds = pick (is-live (task-at ts t .state)) (set ds (task-at ts t .coroutine .0) t) ds
 
 -- ---- the walk
 
@@ -40,9 +40,9 @@ abbrev pub walked : ReadyQueue → ℕ → Walked
 walked q d = record { queue = q; depth = d }
 
 -- the walk of drivers ds over the lent slices, with marks ms and stack gs
-abbrev pub walk-of : List ℕ → List ℕ → List ℕ → List ℕ → Walked → List Happening → List Bool → List ℕ → Walk
+abbrev pub walk-of : List ℕ → List ℕ → List ℕ → List ℕ → Walked → List LogEntry → List Bool → List ℕ → Walk
 walk-of ds ts os ps w l ms gs =
-    record { store = store-of ts os ps (w .queue) l; drivers = λ c. drivers-in ds c; marks = ms; stack = below gs (w .depth) }
+    record { store = store-of ts os ps (w .queue) l; tasks-of = λ c. tasks-of-in ds c; marks = ms; stack = below gs (w .depth) }
 
 -- what the code has is the walk x; the log is x's own
 pub record Shows (ds ts os ps : List ℕ) (w : Walked) (ms : List Bool) (gs : List ℕ) (x : Walk) : Type 0 where

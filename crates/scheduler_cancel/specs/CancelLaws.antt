@@ -27,14 +27,14 @@ use Rattle.asyncio.specs.declared.TaskState.{TaskState}
 use Rattle.rows.specs.Tables.{task-at, object-at, place-at, header-at}
 use Rattle.rows.specs.TableLaws.{task-at-fits, object-at-fits, place-at-fits}
 use Rattle.queue.specs.declared.ReadyQueue.{ReadyQueue}
-use Rattle.machine.specs.Store.{Store, Happening, removed, store-of, task, object, place, header, note}
-use Rattle.machine.specs.Scheduler.{AwaitedGather, as-awaited, is-some, blocked-on, driver-in, driver, remove-task, cancel-one}
+use Rattle.machine.specs.Store.{Store, LogEntry, removed, store-of, task, object, place, header, add-log}
+use Rattle.machine.specs.Scheduler.{AwaitedGather, as-awaited, is-some, blocked-on, task-of-in, task-of, remove-task, cancel-one}
 use Rattle.machine.specs.Scheduler.{Walk, reach-if, reach, remove-blocked, still-live, visit-by, visit, visit-place, visit-open, walk-gather, walk-next, walk-from, cancel-task}
 use Rattle.machine_laws.specs.Statements.{unmarked, walk-rest}
-use Rattle.machine_laws.specs.CycleLaws.{Pays, mark-falls, blocked-fits, blocked-pays, place-pays, gather-pays, walk-once, all-unmarked, cancel-walks}
+use Rattle.machine_laws.specs.CycleLaws.{CountsKept, mark-falls, blocked-fits, blocked-counts-kept, place-counts-kept, gather-counts-kept, walk-once, all-unmarked, cancel-walks}
 use Rattle.scheduler.specs.Search.{found}
 use Rattle.scheduler.specs.SearchLaws.{found-at, found-nothing}
-use Rattle.scheduler_cancel.specs.Cancel.{drivers-in, below, walked, walk-of, Shows, awaited-places}
+use Rattle.scheduler_cancel.specs.Cancel.{tasks-of-in, below, walked, walk-of, Shows, awaited-places}
 use Rattle.scheduler.specs.declared.tasks.Found.{Found}
 use Rattle.scheduler_cancel.specs.declared.cancel.Walked.{Walked}
 
@@ -79,12 +79,12 @@ awaited-by (Object.GatherFuture f n (GatherState.Failed e)) = refl
 
 -- ---- what the code has is the walk that it started from, taken one step on
 
-pub shows-by : (ds ts os ps : List ℕ) (w : Walked) (l : List Happening) (ms : List Bool) (gs : List ℕ) {x : Walk} → walk-of ds ts os ps w l ms gs ≡ x → Shows ds ts os ps w ms gs x
+pub shows-by : (ds ts os ps : List ℕ) (w : Walked) (l : List LogEntry) (ms : List Bool) (gs : List ℕ) {x : Walk} → walk-of ds ts os ps w l ms gs ≡ x → Shows ds ts os ps w ms gs x
 shows-by ds ts os ps w l ms gs e = record { shows = rw (← e) }
 
 -- what is not marked and what is on the stack: together as many as before
-pub room-kept : (ds ts os ps : List ℕ) (at : Walked) (l : List Happening) (ms : List Bool) (gs : List ℕ) {us hs : List ℕ} {r : Walked} {ns : List Bool} (x : Walk)
-    → Pays (walk-of ds ts os ps at l ms gs) x → Shows ds us os ps r ns hs x → unmarked ns + r .depth ≡ unmarked ms + at .depth
+pub room-kept : (ds ts os ps : List ℕ) (at : Walked) (l : List LogEntry) (ms : List Bool) (gs : List ℕ) {us hs : List ℕ} {r : Walked} {ns : List Bool} (x : Walk)
+    → CountsKept (walk-of ds ts os ps at l ms gs) x → Shows ds us os ps r ns hs x → unmarked ns + r .depth ≡ unmarked ms + at .depth
 room-kept ds ts os ps at l ms gs {hs = hs} {r = r} {ns = ns} x p s =
     let a : ns ≡ x .marks = ap (λ (w : Walk). w .marks) (s .shows) in
     let b : below hs (r .depth) ≡ x .stack = ap (λ (w : Walk). w .stack) (s .shows) in
@@ -97,7 +97,7 @@ room-left ms d g m h l e = omega (arith, mark-falls ms g m l e)
 
 -- ---- reach
 
-module _ (ds ts os ps : List ℕ) (q : ReadyQueue) (d : ℕ) (l : List Happening) (ms : List Bool) (gs : List ℕ) (g : ℕ)
+module _ (ds ts os ps : List ℕ) (q : ReadyQueue) (d : ℕ) (l : List LogEntry) (ms : List Bool) (gs : List ℕ) (g : ℕ)
     {k : Kind} (e : k ≡ kind (object-at os g)) {b : Bool} (f : b ≡ is-awaited k) where
   reached : is-some (as-awaited (object-at os g)) ≡ b
   unfolding is-some
@@ -127,17 +127,17 @@ pub blocked-object : (ts : List ℕ) (t : ℕ) {x : TaskState} {b : Found} (o : 
 blocked-object ts t {x} o e f g =
     blocked-fits (task-at ts t .state) (task-at-fits ts t .state-fits) o (rw e at (found-at (blocked-on x) o (sym f ∙ g)))
 
-module _ (ds ts os ps : List ℕ) (at : Walked) (l : List Happening) (ms : List Bool) (gs : List ℕ) (t : ℕ)
+module _ (ds ts os ps : List ℕ) (at : Walked) (l : List LogEntry) (ms : List Bool) (gs : List ℕ) (t : ℕ)
     {x : TaskState} {b : Found} (e : x ≡ task-at ts t .state) (f : b ≡ found (blocked-on x)) {us : List ℕ} {r : ReadyQueue}
     (h : store-of us os ps r l ≡ remove-task (store-of ts os ps (at .queue) l) t) where
   pub removes-only : b ≡ Found.Nothing → Shows ds us os ps (walked r (at .depth)) ms gs (remove-blocked (walk-of ds ts os ps at l ms gs) t (blocked-on (task-at ts t .state)))
-  unfolding remove-blocked cancel-one note
+  unfolding remove-blocked cancel-one add-log
   removes-only g = let k : blocked-on (task-at ts t .state) ≡ none = rw e at (found-nothing (blocked-on x) (sym f ∙ g)) in rw (k, ← h) (record { shows = refl })
 
   pub removes-blocked : (o : ℕ) → b ≡ Found.At o → {j : ℕ} → j ≡ o → {d : ℕ} {ns : List Bool} {hs : List ℕ}
       → walk-of ds us os ps (walked r d) (removed t ∷ l) ns hs ≡ reach (walk-of ds us os ps (walked r (at .depth)) (removed t ∷ l) ms gs) j
       → Shows ds us os ps (walked r d) ns hs (remove-blocked (walk-of ds ts os ps at l ms gs) t (blocked-on (task-at ts t .state)))
-  unfolding remove-blocked cancel-one note
+  unfolding remove-blocked cancel-one add-log
   removes-blocked o g i {d} {ns} {hs} p =
       let k : blocked-on (task-at ts t .state) ≡ some o = rw e at (found-at (blocked-on x) o (sym f ∙ g)) in
       rw (k, ← h, ← i) (shows-by ds us os ps (walked r d) (removed t ∷ l) ns hs p)
@@ -147,19 +147,19 @@ module _ (ds ts os ps : List ℕ) (at : Walked) (l : List Happening) (ms : List 
 pub item-fits : (ps : List ℕ) (p : ℕ) {h : HeapId} → h ≡ place-at ps p .item → h .0 < object-limit
 item-fits ps p e = rw e (place-at-fits ps p .item-fits)
 
-module _ (ds ts os ps : List ℕ) (at : Walked) (l : List Happening) (ms : List Bool) (gs : List ℕ) where
-  module _ (o : ℕ) {d : Found} (e : d ≡ found (still-live ts (drivers-in ds o))) where
+module _ (ds ts os ps : List ℕ) (at : Walked) (l : List LogEntry) (ms : List Bool) (gs : List ℕ) where
+  module _ (o : ℕ) {d : Found} (e : d ≡ found (still-live ts (tasks-of-in ds o))) where
     pub visit-driven : (t : ℕ) → d ≡ Found.At t → {j : ℕ} → j ≡ t → {us hs : List ℕ} {r : Walked} {ns : List Bool}
         → Shows ds us os ps r ns hs (remove-blocked (walk-of ds ts os ps at l ms gs) j (blocked-on (task-at ts j .state)))
         → Shows ds us os ps r ns hs (visit (walk-of ds ts os ps at l ms gs) o)
     unfolding visit visit-by task
-    visit-driven t f i s = rw (found-at (still-live ts (drivers-in ds o)) t (sym e ∙ f), ← i) s
+    visit-driven t f i s = rw (found-at (still-live ts (tasks-of-in ds o)) t (sym e ∙ f), ← i) s
 
     pub visit-nested : d ≡ Found.Nothing → {n : ℕ} {ns : List Bool} {hs : List ℕ}
         → walk-of ds ts os ps (walked (at .queue) n) l ns hs ≡ reach (walk-of ds ts os ps at l ms gs) o
         → Shows ds ts os ps (walked (at .queue) n) ns hs (visit (walk-of ds ts os ps at l ms gs) o)
     unfolding visit visit-by
-    visit-nested f {n} {ns} {hs} h = rw (found-nothing (still-live ts (drivers-in ds o)) (sym e ∙ f)) (shows-by ds ts os ps (walked (at .queue) n) l ns hs h)
+    visit-nested f {n} {ns} {hs} h = rw (found-nothing (still-live ts (tasks-of-in ds o)) (sym e ∙ f)) (shows-by ds ts os ps (walked (at .queue) n) l ns hs h)
 
   module _ (p i m : ℕ) where
     pub place-shut : m / 2 ^ i % 2 ≡ 0 → Shows ds ts os ps at ms gs (visit-place (walk-of ds ts os ps at l ms gs) p i m)
@@ -172,13 +172,13 @@ module _ (ds ts os ps : List ℕ) (at : Walked) (l : List Happening) (ms : List 
     place-open b e s = rw (ne-eqb (m / 2 ^ i % 2) 0 b, ← e) s
 
 -- with some log, f gives x
-pub record Logged {A : Type 0} (f : List Happening → A) (x : A) : Type 0 where
-  pub log : List Happening
+pub record Logged {A : Type 0} (f : List LogEntry → A) (x : A) : Type 0 where
+  pub log : List LogEntry
   pub gives : f log ≡ x
 
 module _ (ds ts os ps : List ℕ) (at : Walked) (ms : List Bool) (gs : List ℕ) (a : AwaitedGather) (i n : ℕ) {x : Walk} where
   pub open-turn : i < n → {us hs : List ℕ} {r : Walked} {ns : List Bool}
-      → ((l : List Happening) → Shows ds us os ps r ns hs (visit-place (walk-of ds ts os ps at l ms gs) (a .first + i) i (a .open-places)))
+      → ((l : List LogEntry) → Shows ds us os ps r ns hs (visit-place (walk-of ds ts os ps at l ms gs) (a .first + i) i (a .open-places)))
       → Logged (λ l. visit-open (walk-of ds ts os ps at l ms gs) a i (n - i)) x → Logged (λ l. visit-open (walk-of ds us os ps r l ns hs) a (i + 1) (n - (i + 1))) x
   unfolding visit-open
   open-turn h s g =
@@ -190,17 +190,17 @@ module _ (ds ts os ps : List ℕ) (at : Walked) (ms : List Bool) (gs : List ℕ)
   open-end h g = let k : n - i ≡ 0 = omega arith in shows-by ds ts os ps at (g .log) ms gs (rw k at (g .gives))
 
 -- as many places are left
-pub open-room : (ds ts os ps : List ℕ) (at : Walked) (l : List Happening) (ms : List Bool) (gs : List ℕ) (p i m : ℕ) → length ms ≡ object-limit
+pub open-room : (ds ts os ps : List ℕ) (at : Walked) (l : List LogEntry) (ms : List Bool) (gs : List ℕ) (p i m : ℕ) → length ms ≡ object-limit
     → {us hs : List ℕ} {r : Walked} {ns : List Bool} → Shows ds us os ps r ns hs (visit-place (walk-of ds ts os ps at l ms gs) p i m)
     → unmarked ns + r .depth ≡ unmarked ms + at .depth
-open-room ds ts os ps at l ms gs p i m z s = room-kept ds ts os ps at l ms gs _ (place-pays (walk-of ds ts os ps at l ms gs) z p i m) s
+open-room ds ts os ps at l ms gs p i m z s = room-kept ds ts os ps at l ms gs _ (place-counts-kept (walk-of ds ts os ps at l ms gs) z p i m) s
 
 pub open-begin : (w : Walk) (a : AwaitedGather) (n : ℕ) → visit-open w a 0 (n - 0) ≡ visit-open w a 0 n
 open-begin w a n = let k : n - 0 ≡ n = omega arith in rw k
 
 -- ---- walk_gather
 
-module _ (ds ts os ps : List ℕ) (at : Walked) (l : List Happening) (ms : List Bool) (gs : List ℕ) (g : ℕ)
+module _ (ds ts os ps : List ℕ) (at : Walked) (l : List LogEntry) (ms : List Bool) (gs : List ℕ) (g : ℕ)
     {k : Kind} (e : k ≡ kind (object-at os g)) {b : Bool} (f : b ≡ is-awaited k) where
   pub walks-not : b ≡ false → Shows ds ts os ps at ms gs (walk-gather (walk-of ds ts os ps at l ms gs) (as-awaited (object-at os g)))
   unfolding walk-gather
@@ -215,35 +215,35 @@ module _ (ds ts os ps : List ℕ) (at : Walked) (l : List Happening) (ms : List 
 
 -- ---- cancel_task
 
-pub logged-then : {A : Type 0} {f : List Happening → A} {x y : A} → Logged f x → x ≡ y → Logged f y
+pub logged-then : {A : Type 0} {f : List LogEntry → A} {x y : A} → Logged f x → x ≡ y → Logged f y
 logged-then g e = record { log = g .log; gives = g .gives ∙ e }
 
 -- the stack is empty and nothing is marked: there is a place for each object
-pub cancel-room : (ds ts os ps : List ℕ) (q : ReadyQueue) (l : List Happening) (zs : List ℕ) (t : ℕ) {us hs : List ℕ} {r : Walked} {ns : List Bool}
+pub cancel-room : (ds ts os ps : List ℕ) (q : ReadyQueue) (l : List LogEntry) (zs : List ℕ) (t : ℕ) {us hs : List ℕ} {r : Walked} {ns : List Bool}
     → Shows ds us os ps r ns hs (remove-blocked (walk-of ds ts os ps (walked q 0) l (replicate object-limit false) zs) t (blocked-on (task-at ts t .state)))
     → unmarked ns + r .depth ≡ object-limit
 unfolding task
 cancel-room ds ts os ps q l zs t s =
     let w : Walk = walk-of ds ts os ps (walked q 0) l (replicate object-limit false) zs in
     room-kept ds ts os ps (walked q 0) l (replicate object-limit false) zs (remove-blocked w t (blocked-on (task-at ts t .state)))
-    (blocked-pays w (length-replicate {A = Bool} object-limit false) t) s
+    (blocked-counts-kept w (length-replicate {A = Bool} object-limit false) t) s
     ∙ all-unmarked
 
 -- the walk begins as the machine's does
-pub cancel-begins : (ds ts os ps zs : List ℕ) (q : ReadyQueue) (l : List Happening) (t : ℕ) {h : Header} → h ≡ header-at os
-    → ((c : ℕ) → drivers-in ds c ≡ driver-in ts (h .next) c) → {us hs : List ℕ} {r : Walked} {ns : List Bool}
+pub cancel-begins : (ds ts os ps zs : List ℕ) (q : ReadyQueue) (l : List LogEntry) (t : ℕ) {h : Header} → h ≡ header-at os
+    → ((c : ℕ) → tasks-of-in ds c ≡ task-of-in ts (h .next) c) → {us hs : List ℕ} {r : Walked} {ns : List Bool}
     → Shows ds us os ps r ns hs (remove-blocked (walk-of ds ts os ps (walked q 0) l (replicate object-limit false) zs) t (blocked-on (task-at ts t .state)))
     → Logged (λ m. walk-rest (walk-of ds us os ps r m ns hs)) (cancel-task (store-of ts os ps q l) t)
 cancel-begins ds ts os ps zs q l t {h} e d s =
     record { log = _; gives = ap (λ (w : Walk). walk-rest w) (s .shows) ∙ ap (λ (w : Walk). walk-rest (remove-blocked w t (blocked-on (task-at ts t .state)))) begins ∙ sym (walks-so) }
   where
-    same : (c : ℕ) → drivers-in ds c ≡ driver (store-of ts os ps q l) c
-    same c = unfold driver header in (rw (← e) (d c))
+    same : (c : ℕ) → tasks-of-in ds c ≡ task-of (store-of ts os ps q l) c
+    same c = unfold task-of header in (rw (← e) (d c))
 
     begins : walk-of ds ts os ps (walked q 0) l (replicate object-limit false) zs ≡ walk-from (store-of ts os ps q l)
     begins =
         unfold walk-from below in
-        (ap (λ (f : ℕ → Option ℕ). record { store = store-of ts os ps q l; drivers = f; marks = replicate object-limit false; stack = [] }) (fun-ext same))
+        (ap (λ (f : ℕ → Option ℕ). record { store = store-of ts os ps q l; tasks-of = f; marks = replicate object-limit false; stack = [] }) (fun-ext same))
 
     walks-so : cancel-task (store-of ts os ps q l) t ≡ walk-rest (remove-blocked (walk-from (store-of ts os ps q l)) t (blocked-on (task-at ts t .state)))
     walks-so = unfold task in (cancel-walks (store-of ts os ps q l) t)
@@ -251,12 +251,12 @@ cancel-begins ds ts os ps zs q l t {h} e d s =
 module _ (ds ts os ps : List ℕ) (q : ReadyQueue) (d : ℕ) (ms : List Bool) (gs : List ℕ) (m : length ms ≡ object-limit) where
   -- the gather on top of the stack is walked
   pub cancel-turn : {x : Store} → 0 < d → {g : HeapId} → g ≡ to-heap-id (getD gs (d - 1) 0) → {us hs : List ℕ} {r : Walked} {ns : List Bool}
-      → ((l : List Happening) → Shows ds us os ps r ns hs (walk-gather (walk-of ds ts os ps (walked q (d - 1)) l ms gs) (as-awaited (object-at os (g .0)))))
+      → ((l : List LogEntry) → Shows ds us os ps r ns hs (walk-gather (walk-of ds ts os ps (walked q (d - 1)) l ms gs) (as-awaited (object-at os (g .0)))))
       → Logged (λ l. walk-rest (walk-of ds ts os ps (walked q d) l ms gs)) x → Logged (λ l. walk-rest (walk-of ds us os ps r l ns hs)) x
   cancel-turn h {g} e s p =
       record { log = _; gives = ap (λ (w : Walk). walk-rest w) (s (p .log) .shows) ∙ sym (once (p .log)) ∙ p .gives }
     where
-      once : (l : List Happening)
+      once : (l : List LogEntry)
           → walk-rest (walk-of ds ts os ps (walked q d) l ms gs)
           ≡ walk-rest (walk-gather (walk-of ds ts os ps (walked q (d - 1)) l ms gs) (as-awaited (object-at os (g .0))))
       once l =
@@ -264,7 +264,7 @@ module _ (ds ts os ps : List ℕ) (q : ReadyQueue) (d : ℕ) (ms : List Bool) (g
           ∙ ap (λ (c : List ℕ). walk-next walk-rest (walk-of ds ts os ps (walked q d) l ms gs) c) (below-top gs d h)
           ∙ (unfold walk-next object in (rw (← ap (λ (c : HeapId). c .0) e)))
 
-  stops : d ≡ 0 → (l : List Happening) → walk-next walk-rest (walk-of ds ts os ps (walked q d) l ms gs) (below gs d) ≡ store-of ts os ps q l
+  stops : d ≡ 0 → (l : List LogEntry) → walk-next walk-rest (walk-of ds ts os ps (walked q d) l ms gs) (below gs d) ≡ store-of ts os ps q l
   unfolding walk-next below
   stops z l = rw z
 
@@ -272,13 +272,13 @@ module _ (ds ts os ps : List ℕ) (q : ReadyQueue) (d : ℕ) (ms : List Bool) (g
   pub cancel-end : {x : Store} → d ≤ 0 → Logged (λ l. walk-rest (walk-of ds ts os ps (walked q d) l ms gs)) x → store-of ts os ps q (x .log) ≡ x
   cancel-end {x} h p = by (sym (walk-once (walk-of ds ts os ps (walked q d) (p .log) ms gs) m ∙ stops (omega arith) (p .log)) ∙ p .gives)
     where
-      by : {l : List Happening} → store-of ts os ps q l ≡ x → store-of ts os ps q (x .log) ≡ x
+      by : {l : List LogEntry} → store-of ts os ps q l ≡ x → store-of ts os ps q (x .log) ≡ x
       by k = rw (← k)
 
 -- each turn takes one gather off the stack, for good
-pub cancel-falls : (ds ts os ps : List ℕ) (q : ReadyQueue) (d : ℕ) (l : List Happening) (ms : List Bool) (gs : List ℕ) (g : ℕ) → length ms ≡ object-limit
+pub cancel-falls : (ds ts os ps : List ℕ) (q : ReadyQueue) (d : ℕ) (l : List LogEntry) (ms : List Bool) (gs : List ℕ) (g : ℕ) → length ms ≡ object-limit
     → 0 < d → {us hs : List ℕ} {r : Walked} {ns : List Bool}
     → Shows ds us os ps r ns hs (walk-gather (walk-of ds ts os ps (walked q (d - 1)) l ms gs) (as-awaited (object-at os g)))
     → suc (unmarked ns + r .depth) ≡ unmarked ms + d
 cancel-falls ds ts os ps q d l ms gs g m h s =
-    omega (arith, room-kept ds ts os ps (walked q (d - 1)) l ms gs _ (gather-pays (walk-of ds ts os ps (walked q (d - 1)) l ms gs) m (as-awaited (object-at os g))) s)
+    omega (arith, room-kept ds ts os ps (walked q (d - 1)) l ms gs _ (gather-counts-kept (walk-of ds ts os ps (walked q (d - 1)) l ms gs) m (as-awaited (object-at os g))) s)

@@ -1,3 +1,3 @@
 pub mod Cancel
-pub mod DriverLaws
+pub mod TaskOfLaws
 pub mod CancelLaws

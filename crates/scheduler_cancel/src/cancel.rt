@@ -13,48 +13,48 @@ ghost use Rattle.asyncio.specs.Limits.{task-limit, object-limit, place-limit, i
 ghost use Rattle.asyncio.specs.declared.Awaiter.{Awaiter};
 ghost use Rattle.queue.specs.declared.ReadyQueue.{ReadyQueue};
 ghost use Rattle.rows.specs.Tables.{task-at, object-at};
-ghost use Rattle.machine.specs.Store.{Happening, store-of};
-ghost use Rattle.machine.specs.Scheduler.{as-awaited, blocked-on, driver-in, still-live, reach, remove-blocked, visit, visit-place, visit-open, walk-gather, cancel-task};
+ghost use Rattle.machine.specs.Store.{LogEntry, store-of};
+ghost use Rattle.machine.specs.Scheduler.{as-awaited, blocked-on, task-of-in, still-live, reach, remove-blocked, visit, visit-place, visit-open, walk-gather, cancel-task};
 ghost use Rattle.machine_laws.specs.Statements.{unmarked};
 ghost use Rattle.scheduler.specs.Search.{found};
-ghost use Rattle.scheduler_cancel.specs.Cancel.{note-driver, drivers-in, walked, walk-of, Shows, awaited-places};
+ghost use Rattle.scheduler_cancel.specs.Cancel.{put-task-of, tasks-of-in, walked, walk-of, Shows, awaited-places};
 
 // ---- which task drives a coroutine: a table of one word for each object, 0 where no task does (task 0 is main)
 
 // Task `t` is noted at its coroutine, if it lives.
-fn note_driver(tasks: &[u64], drivers: &mut [u64], t: TaskId)
-    requires { ⌜ (length (now tasks) ≡ tasks-length) × (length (now drivers) ≡ object-limit) × (t .0 < task-limit) ⌝ }
-    ensures { λ _. ⌜ now (drivers .exit) ≡ note-driver (now (tasks .entry)) (t .0) (now (drivers .entry)) ⌝ }
+fn put_task_of(tasks: &[u64], table: &mut [u64], t: TaskId)
+    requires { ⌜ (length (now tasks) ≡ tasks-length) × (length (now table) ≡ object-limit) × (t .0 < task-limit) ⌝ }
+    ensures { λ _. ⌜ now (table .exit) ≡ put-task-of (now (tasks .entry)) (t .0) (now (table .entry)) ⌝ }
 {
     let state = rows::parts::state_at(tasks, t);
     if state.is_live() {
         let c = rows::parts::coroutine_at(tasks, t);
         let i = c.0 as usize;
-        drivers[i] = t.word();
+        table[i] = t.word();
     }
 }
 
 // The drivers of all objects, in one pass over the tasks: downward, so that the lowest number stays.
-fn find_drivers(tasks: &[u64], next: u16) -> [u64; 256]
+fn find_tasks(tasks: &[u64], next: u16) -> [u64; 256]
     requires { ⌜ (length (now tasks) ≡ tasks-length) × (next ≤ task-limit) ⌝ }
-    ensures { λ r. ⌜ ((c : ℕ) → drivers-in r c ≡ driver-in (now (tasks .entry)) next c) ⌝ }
+    ensures { λ r. ⌜ ((c : ℕ) → tasks-of-in r c ≡ task-of-in (now (tasks .entry)) next c) ⌝ }
 {
-    let mut drivers = [0u64; 256];
+    let mut table = [0u64; 256];
     let mut t = next;
     while 1 < t {
         t -= 1;
-        note_driver(tasks, &mut drivers, TaskId::new(t));
+        put_task_of(tasks, &mut table, TaskId::new(t));
     }
-    drivers
+    table
 }
 
 // The task that drives object `o` by the table, if it still lives.
-fn live_driver(tasks: &[u64], drivers: &[u64], o: HeapId) -> Found
-    requires { ⌜ (length (now tasks) ≡ tasks-length) × (length (now drivers) ≡ object-limit) × (o .0 < object-limit) ⌝ }
-    ensures { λ r. ⌜ r ≡ found (still-live (now (tasks .entry)) (drivers-in (now (drivers .entry)) (o .0))) ⌝ }
+fn live_task_of(tasks: &[u64], table: &[u64], o: HeapId) -> Found
+    requires { ⌜ (length (now tasks) ≡ tasks-length) × (length (now table) ≡ object-limit) × (o .0 < object-limit) ⌝ }
+    ensures { λ r. ⌜ r ≡ found (still-live (now (tasks .entry)) (tasks-of-in (now (table .entry)) (o .0))) ⌝ }
 {
     let i = o.0 as usize;
-    let t = TaskId::from_word(drivers[i]);
+    let t = TaskId::from_word(table[i]);
     if t.is_main() {
         return Found::Nothing;
     }
@@ -90,7 +90,7 @@ fn blocked_on(state: TaskState) -> Found
 // Gather `g` is marked and put on the stack, if it is awaited and was not marked. The depth of the stack then.
 fn reach(objects: &[u64], marks: &mut [bool], stack: &mut [u64], depth: usize, g: HeapId) -> usize
     requires { ⌜ (length (now objects) ≡ objects-length) × (length (now marks) ≡ object-limit) × (length (now stack) ≡ object-limit) × (unmarked (now marks) + depth ≤ object-limit) × (g .0 < object-limit) ⌝ }
-    ensures { λ r. ⌜ ((ds ts ps : List ℕ) (q : ReadyQueue) (l : List Happening) → walk-of ds ts (now (objects .entry)) ps (walked q r) l (now (marks .exit)) (now (stack .exit)) ≡ reach (walk-of ds ts (now (objects .entry)) ps (walked q depth) l (now (marks .entry)) (now (stack .entry))) (g .0)) ⌝ }
+    ensures { λ r. ⌜ ((ds ts ps : List ℕ) (q : ReadyQueue) (l : List LogEntry) → walk-of ds ts (now (objects .entry)) ps (walked q r) l (now (marks .exit)) (now (stack .exit)) ≡ reach (walk-of ds ts (now (objects .entry)) ps (walked q depth) l (now (marks .entry)) (now (stack .entry))) (g .0)) ⌝ }
 {
     let i = g.0 as usize;
     let kind = rows::parts::kind_at(objects, g);
@@ -115,7 +115,7 @@ fn remove_blocked(
     t: TaskId,
 ) -> Walked
     requires { ⌜ (length (now tasks) ≡ tasks-length) × (length (now objects) ≡ objects-length) × (length (now marks) ≡ object-limit) × (length (now stack) ≡ object-limit) × (unmarked (now marks) + at .depth ≤ object-limit) × (t .0 < task-limit) ⌝ }
-    ensures { λ r. ⌜ ((ds ps : List ℕ) (l : List Happening) → Shows ds (now (tasks .exit)) (now (objects .entry)) ps r (now (marks .exit)) (now (stack .exit)) (remove-blocked (walk-of ds (now (tasks .entry)) (now (objects .entry)) ps at l (now (marks .entry)) (now (stack .entry))) (t .0) (blocked-on (task-at (now (tasks .entry)) (t .0) .state)))) ⌝ }
+    ensures { λ r. ⌜ ((ds ps : List ℕ) (l : List LogEntry) → Shows ds (now (tasks .exit)) (now (objects .entry)) ps r (now (marks .exit)) (now (stack .exit)) (remove-blocked (walk-of ds (now (tasks .entry)) (now (objects .entry)) ps at l (now (marks .entry)) (now (stack .entry))) (t .0) (blocked-on (task-at (now (tasks .entry)) (t .0) .state)))) ⌝ }
 {
     let state = rows::parts::state_at(tasks, t);
     let blocked = blocked_on(state);
@@ -137,16 +137,16 @@ fn remove_blocked(
 fn visit(
     tasks: &mut [u64],
     objects: &[u64],
-    drivers: &[u64],
+    table: &[u64],
     marks: &mut [bool],
     stack: &mut [u64],
     at: Walked,
     o: HeapId,
 ) -> Walked
-    requires { ⌜ (length (now tasks) ≡ tasks-length) × (length (now objects) ≡ objects-length) × (length (now drivers) ≡ object-limit) × (length (now marks) ≡ object-limit) × (length (now stack) ≡ object-limit) × (unmarked (now marks) + at .depth ≤ object-limit) × (o .0 < object-limit) ⌝ }
-    ensures { λ r. ⌜ ((ps : List ℕ) (l : List Happening) → Shows (now (drivers .entry)) (now (tasks .exit)) (now (objects .entry)) ps r (now (marks .exit)) (now (stack .exit)) (visit (walk-of (now (drivers .entry)) (now (tasks .entry)) (now (objects .entry)) ps at l (now (marks .entry)) (now (stack .entry))) (o .0))) ⌝ }
+    requires { ⌜ (length (now tasks) ≡ tasks-length) × (length (now objects) ≡ objects-length) × (length (now table) ≡ object-limit) × (length (now marks) ≡ object-limit) × (length (now stack) ≡ object-limit) × (unmarked (now marks) + at .depth ≤ object-limit) × (o .0 < object-limit) ⌝ }
+    ensures { λ r. ⌜ ((ps : List ℕ) (l : List LogEntry) → Shows (now (table .entry)) (now (tasks .exit)) (now (objects .entry)) ps r (now (marks .exit)) (now (stack .exit)) (visit (walk-of (now (table .entry)) (now (tasks .entry)) (now (objects .entry)) ps at l (now (marks .entry)) (now (stack .entry))) (o .0))) ⌝ }
 {
-    let d = live_driver(tasks, drivers, o);
+    let d = live_task_of(tasks, table, o);
     match d {
         Found::At(t) => remove_blocked(tasks, objects, marks, stack, at, TaskId::new(t)),
         Found::Nothing => {
@@ -162,7 +162,7 @@ fn visit_place(
     tasks: &mut [u64],
     objects: &[u64],
     places: &[u64],
-    drivers: &[u64],
+    table: &[u64],
     marks: &mut [bool],
     stack: &mut [u64],
     at: Walked,
@@ -170,14 +170,14 @@ fn visit_place(
     i: usize,
     waiting: u32,
 ) -> Walked
-    requires { ⌜ (length (now tasks) ≡ tasks-length) × (length (now objects) ≡ objects-length) × (length (now places) ≡ places-length) × (length (now drivers) ≡ object-limit) × (length (now marks) ≡ object-limit) × (length (now stack) ≡ object-limit) × (unmarked (now marks) + at .depth ≤ object-limit) × (p < place-limit) × (i < item-limit) ⌝ }
-    ensures { λ r. ⌜ ((l : List Happening) → Shows (now (drivers .entry)) (now (tasks .exit)) (now (objects .entry)) (now (places .entry)) r (now (marks .exit)) (now (stack .exit)) (visit-place (walk-of (now (drivers .entry)) (now (tasks .entry)) (now (objects .entry)) (now (places .entry)) at l (now (marks .entry)) (now (stack .entry))) p i waiting)) ⌝ }
+    requires { ⌜ (length (now tasks) ≡ tasks-length) × (length (now objects) ≡ objects-length) × (length (now places) ≡ places-length) × (length (now table) ≡ object-limit) × (length (now marks) ≡ object-limit) × (length (now stack) ≡ object-limit) × (unmarked (now marks) + at .depth ≤ object-limit) × (p < place-limit) × (i < item-limit) ⌝ }
+    ensures { λ r. ⌜ ((l : List LogEntry) → Shows (now (table .entry)) (now (tasks .exit)) (now (objects .entry)) (now (places .entry)) r (now (marks .exit)) (now (stack .exit)) (visit-place (walk-of (now (table .entry)) (now (tasks .entry)) (now (objects .entry)) (now (places .entry)) at l (now (marks .entry)) (now (stack .entry))) p i waiting)) ⌝ }
 {
     if (waiting >> i) % 2 == 0 {
         return at;
     }
     let o = rows::parts::item_at(places, p);
-    visit(tasks, objects, drivers, marks, stack, at, o)
+    visit(tasks, objects, table, marks, stack, at, o)
 }
 
 // The items of the open places of a gather, which has the `count` places from `first` on.
@@ -185,7 +185,7 @@ fn visit_open(
     tasks: &mut [u64],
     objects: &[u64],
     places: &[u64],
-    drivers: &[u64],
+    table: &[u64],
     marks: &mut [bool],
     stack: &mut [u64],
     at: Walked,
@@ -193,8 +193,8 @@ fn visit_open(
     count: usize,
     waiting: u32,
 ) -> Walked
-    requires { ⌜ (length (now tasks) ≡ tasks-length) × (length (now objects) ≡ objects-length) × (length (now places) ≡ places-length) × (length (now drivers) ≡ object-limit) × (length (now marks) ≡ object-limit) × (length (now stack) ≡ object-limit) × (unmarked (now marks) + at .depth ≤ object-limit) × (first + count ≤ place-limit) × (count ≤ item-limit) ⌝ }
-    ensures { λ r. ⌜ ((a : Awaiter) (l : List Happening) → Shows (now (drivers .entry)) (now (tasks .exit)) (now (objects .entry)) (now (places .entry)) r (now (marks .exit)) (now (stack .exit)) (visit-open (walk-of (now (drivers .entry)) (now (tasks .entry)) (now (objects .entry)) (now (places .entry)) at l (now (marks .entry)) (now (stack .entry))) (awaited-places first count a waiting) 0 count)) ⌝ }
+    requires { ⌜ (length (now tasks) ≡ tasks-length) × (length (now objects) ≡ objects-length) × (length (now places) ≡ places-length) × (length (now table) ≡ object-limit) × (length (now marks) ≡ object-limit) × (length (now stack) ≡ object-limit) × (unmarked (now marks) + at .depth ≤ object-limit) × (first + count ≤ place-limit) × (count ≤ item-limit) ⌝ }
+    ensures { λ r. ⌜ ((a : Awaiter) (l : List LogEntry) → Shows (now (table .entry)) (now (tasks .exit)) (now (objects .entry)) (now (places .entry)) r (now (marks .exit)) (now (stack .exit)) (visit-open (walk-of (now (table .entry)) (now (tasks .entry)) (now (objects .entry)) (now (places .entry)) at l (now (marks .entry)) (now (stack .entry))) (awaited-places first count a waiting) 0 count)) ⌝ }
 {
     let mut w = at;
     let mut i: usize = 0;
@@ -203,7 +203,7 @@ fn visit_open(
             tasks,
             objects,
             places,
-            drivers,
+            table,
             marks,
             stack,
             w,
@@ -221,14 +221,14 @@ fn walk_gather(
     tasks: &mut [u64],
     objects: &[u64],
     places: &[u64],
-    drivers: &[u64],
+    table: &[u64],
     marks: &mut [bool],
     stack: &mut [u64],
     at: Walked,
     g: HeapId,
 ) -> Walked
-    requires { ⌜ (length (now tasks) ≡ tasks-length) × (length (now objects) ≡ objects-length) × (length (now places) ≡ places-length) × (length (now drivers) ≡ object-limit) × (length (now marks) ≡ object-limit) × (length (now stack) ≡ object-limit) × (unmarked (now marks) + at .depth ≤ object-limit) × (g .0 < object-limit) ⌝ }
-    ensures { λ r. ⌜ ((l : List Happening) → Shows (now (drivers .entry)) (now (tasks .exit)) (now (objects .entry)) (now (places .entry)) r (now (marks .exit)) (now (stack .exit)) (walk-gather (walk-of (now (drivers .entry)) (now (tasks .entry)) (now (objects .entry)) (now (places .entry)) at l (now (marks .entry)) (now (stack .entry))) (as-awaited (object-at (now (objects .entry)) (g .0))))) ⌝ }
+    requires { ⌜ (length (now tasks) ≡ tasks-length) × (length (now objects) ≡ objects-length) × (length (now places) ≡ places-length) × (length (now table) ≡ object-limit) × (length (now marks) ≡ object-limit) × (length (now stack) ≡ object-limit) × (unmarked (now marks) + at .depth ≤ object-limit) × (g .0 < object-limit) ⌝ }
+    ensures { λ r. ⌜ ((l : List LogEntry) → Shows (now (table .entry)) (now (tasks .exit)) (now (objects .entry)) (now (places .entry)) r (now (marks .exit)) (now (stack .exit)) (walk-gather (walk-of (now (table .entry)) (now (tasks .entry)) (now (objects .entry)) (now (places .entry)) at l (now (marks .entry)) (now (stack .entry))) (as-awaited (object-at (now (objects .entry)) (g .0))))) ⌝ }
 {
     let kind = rows::parts::kind_at(objects, g);
     if kind.is_awaited() {
@@ -239,7 +239,7 @@ fn walk_gather(
             tasks,
             objects,
             places,
-            drivers,
+            table,
             marks,
             stack,
             at,
@@ -260,10 +260,10 @@ pub fn cancel_task(
     t: TaskId,
 ) -> ReadyQueue
     requires { ⌜ (length (now tasks) ≡ tasks-length) × (length (now objects) ≡ objects-length) × (length (now places) ≡ places-length) × (t .0 < task-limit) ⌝ }
-    ensures { λ r. ⌜ ((l : List Happening) → store-of (now (tasks .exit)) (now (objects .entry)) (now (places .entry)) r (cancel-task (store-of (now (tasks .entry)) (now (objects .entry)) (now (places .entry)) queue l) (t .0) .log) ≡ cancel-task (store-of (now (tasks .entry)) (now (objects .entry)) (now (places .entry)) queue l) (t .0)) ⌝ }
+    ensures { λ r. ⌜ ((l : List LogEntry) → store-of (now (tasks .exit)) (now (objects .entry)) (now (places .entry)) r (cancel-task (store-of (now (tasks .entry)) (now (objects .entry)) (now (places .entry)) queue l) (t .0) .log) ≡ cancel-task (store-of (now (tasks .entry)) (now (objects .entry)) (now (places .entry)) queue l) (t .0)) ⌝ }
 {
     let header = rows::tables::load_header(objects);
-    let drivers = find_drivers(tasks, header.next);
+    let table = find_tasks(tasks, header.next);
     let mut marks = [false; 256];
     let mut stack = [0u64; 256];
     let start = Walked { queue, depth: 0 };

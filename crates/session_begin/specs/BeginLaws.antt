@@ -16,7 +16,7 @@ use Rattle.asyncio.specs.declared.Header.{Header}
 use Rattle.rows.specs.Tables.{task-put, header-put}
 use Rattle.queue.specs.declared.ReadyQueue.{ReadyQueue}
 use Rattle.queue.specs.Queue.{empty-queue}
-use Rattle.machine.specs.Store.{Store, Happening, store-of, put-task, put-header, empty, fresh}
+use Rattle.machine.specs.Store.{Store, LogEntry, store-of, put-task, put-header, empty, fresh}
 use Rattle.machine.specs.Machine as machine
 use Rattle.machine.specs.Machine.{Step}
 use Rattle.machine.specs.Lent.{slices-right, lent-begin}
@@ -49,7 +49,7 @@ clear-end ws i n e h r =
 
 -- ---- a fresh session
 
-module _ (ts os ps : List ℕ) (q : ReadyQueue) (l : List Happening) {b : Bool} (g : b ≡ are-slices (length ts) (length os) (length ps)) where
+module _ (ts os ps : List ℕ) (q : ReadyQueue) (l : List LogEntry) {b : Bool} (g : b ≡ are-slices (length ts) (length os) (length ps)) where
   pub begin-refused : b ≡ false → stepped-of (store-of ts os ps q (lent-begin (store-of ts os ps q l) .store .log)) (Answer.Refused 1) ≡ lent-begin (store-of ts os ps q l)
   unfolding lent-begin slices-right
   begin-refused i = rw (sym g ∙ i)
@@ -65,4 +65,4 @@ module _ (ts os ps : List ℕ) (q : ReadyQueue) (l : List Happening) {b : Bool} 
     begins {ts₁} {os₁} {ps₁} a c d {ts₂} {os₂} {q₂} e f h =
         let s : store-of ts₂ os₂ ps₁ q₂ [] ≡ fresh = unfold fresh empty put-task put-header in (rw (e, f, h, a, c, d, z, y, w)) in
         let k : lent-begin (store-of ts os ps q l) .store .log ≡ [] = ap (λ (x : Step). x .store .log) begins-fresh ∙ sym (ap (λ (x : Store). x .log) s) in
-        ap (λ (m : List Happening). stepped-of (store-of ts₂ os₂ ps₁ q₂ m) Answer.Done) k ∙ ap (λ (x : Store). record { store = x; answer = machine.Answer.done }) s ∙ sym begins-fresh
+        ap (λ (m : List LogEntry). stepped-of (store-of ts₂ os₂ ps₁ q₂ m) Answer.Done) k ∙ ap (λ (x : Store). record { store = x; answer = machine.Answer.done }) s ∙ sym begins-fresh

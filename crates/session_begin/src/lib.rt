@@ -16,7 +16,7 @@ ghost use Prim.Native.Nat.{ℕ};
 ghost use lib.ListN.{length, replicate};
 ghost use Rattle.asyncio.specs.Limits.{tasks-length, objects-length};
 ghost use Rattle.rows.specs.Tables.{task-put, header-put};
-ghost use Rattle.machine.specs.Store.{Happening, store-of};
+ghost use Rattle.machine.specs.Store.{LogEntry, store-of};
 ghost use Rattle.machine.specs.Lent.{lent-begin};
 ghost use Rattle.exec_switch.specs.Answer.{stepped-of};
 ghost use Rattle.session_begin.specs.BeginLaws.{main-header, main-task};
@@ -66,7 +66,7 @@ pub fn begin(
     places: &mut [u64],
     queue: ReadyQueue,
 ) -> Stepped
-    ensures { λ r. ⌜ ((l : List Happening) → stepped-of (store-of (now (tasks .exit)) (now (objects .exit)) (now (places .exit)) (r .queue) (lent-begin (store-of (now (tasks .entry)) (now (objects .entry)) (now (places .entry)) queue l) .store .log)) (r .answer) ≡ lent-begin (store-of (now (tasks .entry)) (now (objects .entry)) (now (places .entry)) queue l)) ⌝ }
+    ensures { λ r. ⌜ ((l : List LogEntry) → stepped-of (store-of (now (tasks .exit)) (now (objects .exit)) (now (places .exit)) (r .queue) (lent-begin (store-of (now (tasks .entry)) (now (objects .entry)) (now (places .entry)) queue l) .store .log)) (r .answer) ≡ lent-begin (store-of (now (tasks .entry)) (now (objects .entry)) (now (places .entry)) queue l)) ⌝ }
 {
     if slices_right(tasks, objects, places) {
         clear(tasks);

@@ -8,7 +8,7 @@ use step_event::Event;
 use step_event::step;
 ghost use mathlib.Core.Path.{_≡_};
 ghost use mathlib.Core.List.{List};
-ghost use Rattle.machine.specs.Store.{Happening, store-of};
+ghost use Rattle.machine.specs.Store.{LogEntry, store-of};
 ghost use Rattle.machine.specs.Lent.{lent-step};
 ghost use Rattle.step_checks.specs.Lent.{lent-of};
 ghost use Rattle.step_event.specs.Dispatch.{event-of};
@@ -25,7 +25,7 @@ pub fn dispatch(
     items: &[u16],
     results: &[u8],
 ) -> Stepped
-    ensures { λ r. ⌜ ((l : List Happening) → lent-of (store-of (now (tasks .exit)) (now (objects .exit)) (now (places .exit)) (r .queue) (lent-step (store-of (now (tasks .entry)) (now (objects .entry)) (now (places .entry)) queue l) (now (calls .entry)) (event-of (now (items .entry)) (now (results .entry)) event) .store .log)) (now (calls .exit)) (r .answer) ≡ lent-step (store-of (now (tasks .entry)) (now (objects .entry)) (now (places .entry)) queue l) (now (calls .entry)) (event-of (now (items .entry)) (now (results .entry)) event)) ⌝ }
+    ensures { λ r. ⌜ ((l : List LogEntry) → lent-of (store-of (now (tasks .exit)) (now (objects .exit)) (now (places .exit)) (r .queue) (lent-step (store-of (now (tasks .entry)) (now (objects .entry)) (now (places .entry)) queue l) (now (calls .entry)) (event-of (now (items .entry)) (now (results .entry)) event) .store .log)) (now (calls .exit)) (r .answer) ≡ lent-step (store-of (now (tasks .entry)) (now (objects .entry)) (now (places .entry)) queue l) (now (calls .entry)) (event-of (now (items .entry)) (now (results .entry)) event)) ⌝ }
 {
     if lengths_right(tasks, objects, places, calls) {
         if is_sound(queue, tasks, objects, places) {

@@ -8,7 +8,7 @@ use step_read::eager_sound;
 use step_read::show_sound;
 ghost use mathlib.Core.Path.{_≡_};
 ghost use mathlib.Core.List.{List};
-ghost use Rattle.machine.specs.Store.{Happening, store-of};
+ghost use Rattle.machine.specs.Store.{LogEntry, store-of};
 ghost use Rattle.machine.specs.Machine.{Event};
 ghost use Rattle.machine.specs.Lent.{lent-read};
 ghost use Rattle.exec_switch.specs.Answer.{answer-of};
@@ -16,7 +16,7 @@ ghost use Rattle.step_read.specs.Reads.{show-answer};
 
 // A read of object `o`.
 pub fn show(tasks: &[u64], objects: &[u64], places: &[u64], queue: ReadyQueue, o: u16) -> Reading
-    ensures { λ r. ⌜ ((l : List Happening) → show-answer (now (places .entry)) r ≡ lent-read (store-of (now (tasks .entry)) (now (objects .entry)) (now (places .entry)) queue l) (Event.show o) .answer) ⌝ }
+    ensures { λ r. ⌜ ((l : List LogEntry) → show-answer (now (places .entry)) r ≡ lent-read (store-of (now (tasks .entry)) (now (objects .entry)) (now (places .entry)) queue l) (Event.show o) .answer) ⌝ }
 {
     if slices_right(tasks, objects, places) {
         if is_sound(queue, tasks, objects, places) {
@@ -29,7 +29,7 @@ pub fn show(tasks: &[u64], objects: &[u64], places: &[u64], queue: ReadyQueue, o
 
 // May the host answer a call at once?
 pub fn eager(tasks: &[u64], objects: &[u64], places: &[u64], queue: ReadyQueue) -> Answer
-    ensures { λ r. ⌜ ((l : List Happening) → answer-of (now (objects .entry)) r ≡ lent-read (store-of (now (tasks .entry)) (now (objects .entry)) (now (places .entry)) queue l) Event.eager .answer) ⌝ }
+    ensures { λ r. ⌜ ((l : List LogEntry) → answer-of (now (objects .entry)) r ≡ lent-read (store-of (now (tasks .entry)) (now (objects .entry)) (now (places .entry)) queue l) Event.eager .answer) ⌝ }
 {
     if slices_right(tasks, objects, places) {
         if is_sound(queue, tasks, objects, places) {

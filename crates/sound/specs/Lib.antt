@@ -1,4 +1,4 @@
 pub mod FilledLaws
 pub mod SlotLaws
 pub mod RunnerLaws
-pub mod Whole
+pub mod Clauses

@@ -14,9 +14,9 @@ ghost use lib.ListN.{length, take};
 ghost use Rattle.asyncio.specs.Limits.{task-limit, tasks-length, objects-length, places-length};
 ghost use Rattle.asyncio.specs.Ranges.{HeaderFits};
 ghost use Rattle.rows.specs.Tables.{task-at, object-at, place-at};
-ghost use Rattle.machine.specs.Store.{Happening, store-of};
+ghost use Rattle.machine.specs.Store.{LogEntry, store-of};
 ghost use Rattle.machine.specs.Sound.{sound};
-ghost use Rattle.sound.specs.Whole.{rows-canonical, tables-sound, tasks-sound, gathers-sound};
+ghost use Rattle.sound.specs.Clauses.{rows-canonical, tables-sound, tasks-sound, gathers-sound};
 
 // Every row in use is canonical.
 fn rows_canonical(header: Header, tasks: &[u64], objects: &[u64], places: &[u64]) -> bool
@@ -59,7 +59,7 @@ fn tasks_sound(header: Header, ids: [u16; 513], n: usize, tasks: &[u64], objects
 {
     if sound_tasks::entries::queue_ready(ids, n, header.next, tasks) {
         if sound_tasks::calls::calls_distinct(header, objects) {
-            if sound_tasks::drivers::one_driver(header.next, tasks) {
+            if sound_tasks::one_task::one_task(header.next, tasks) {
                 return sound_tasks::blocked::blocked_match(header, tasks, objects);
             }
             return false;
@@ -86,7 +86,7 @@ fn gathers_sound(header: Header, tasks: &[u64], objects: &[u64], places: &[u64])
 // Is the store sound? The words are tested first, so that the clauses speak of rows whose words say what they are read as.
 pub fn is_sound(queue: ReadyQueue, tasks: &[u64], objects: &[u64], places: &[u64]) -> bool
     requires { ⌜ (length (now tasks) ≡ tasks-length) × (length (now objects) ≡ objects-length) × (length (now places) ≡ places-length) ⌝ }
-    ensures { λ r. ⌜ ((l : List Happening) → r ≡ sound (store-of (now (tasks .entry)) (now (objects .entry)) (now (places .entry)) queue l)) ⌝ }
+    ensures { λ r. ⌜ ((l : List LogEntry) → r ≡ sound (store-of (now (tasks .entry)) (now (objects .entry)) (now (places .entry)) queue l)) ⌝ }
 {
     let n = queue.len;
     if 513 < n {

@@ -1,5 +1,5 @@
 pub mod Marks
 pub mod QueueLaws
 pub mod CallLaws
-pub mod DriverLaws
+pub mod OneTaskLaws
 pub mod AwaiterLaws

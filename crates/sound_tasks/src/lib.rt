@@ -2,5 +2,5 @@
 // all before it is looked for among those.
 pub mod entries; // clause 5
 pub mod calls; // clause 6
-pub mod drivers; // clause 7
+pub mod one_task; // clause 7
 pub mod blocked; // clause 8

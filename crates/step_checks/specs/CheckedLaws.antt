@@ -12,7 +12,7 @@ use Rattle.asyncio.specs.declared.TaskId.{TaskId}
 use Rattle.asyncio.specs.declared.Moment.{Moment}
 use Rattle.rows.specs.Tables.{header-at}
 use Rattle.queue.specs.declared.ReadyQueue.{ReadyQueue}
-use Rattle.machine.specs.Store.{Store, Happening, store-of, header}
+use Rattle.machine.specs.Store.{Store, LogEntry, store-of, header}
 use Rattle.machine.specs.Sound.{is-ended}
 use Rattle.machine.specs.Machine as machine
 use Rattle.machine.specs.Machine.{Event, Step, is-run, in-running, in-waiting, in-both, first-refusal, refusals, accept, decide, runner}

@@ -9,7 +9,7 @@ use lib.ListN.{length}
 use borrow.Author.Tests.{eqb-true, leb-true}
 use Rattle.asyncio.specs.Limits.{object-limit, tasks-length, objects-length, places-length}
 use Rattle.queue.specs.declared.ReadyQueue.{ReadyQueue}
-use Rattle.machine.specs.Store.{Store, Happening, store-of, forget}
+use Rattle.machine.specs.Store.{Store, LogEntry, store-of, forget}
 use Rattle.machine.specs.Scheduler.{pending-calls-in}
 use Rattle.machine.specs.Sound.{sound}
 use Rattle.machine.specs.Events.{waits}
@@ -89,7 +89,7 @@ step-unsound s e h =
     rw a
 
 -- where the log of a step stands does not matter
-pub logs : {x : Step} {ts os ps : List ℕ} {q : ReadyQueue} (l : List Happening) (a : Answer) → stepped-of (store-of ts os ps q l) a ≡ x → stepped-of (store-of ts os ps q (x .store .log)) a ≡ x
+pub logs : {x : Step} {ts os ps : List ℕ} {q : ReadyQueue} (l : List LogEntry) (a : Answer) → stepped-of (store-of ts os ps q l) a ≡ x → stepped-of (store-of ts os ps q (x .store .log)) a ≡ x
 logs {x} {ts} {os} {ps} {q} l a r = ap (λ (y : Step). stepped-of (store-of ts os ps q (y .store .log)) a) (sym r) ∙ r
 
 -- a step, and the list of calls after it
@@ -102,7 +102,7 @@ refused-lent : (s : Store) (cs : List ℕ) → lent-from (record { store = forge
 unfolding written forget
 refused-lent s cs = refl
 
-module _ (ts os ps : List ℕ) (q : ReadyQueue) (cs : List ℕ) (l : List Happening) (e : Event) where
+module _ (ts os ps : List ℕ) (q : ReadyQueue) (cs : List ℕ) (l : List LogEntry) (e : Event) where
   abbrev given : Store
   given = store-of ts os ps q l
 

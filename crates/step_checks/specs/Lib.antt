@@ -4,4 +4,4 @@ pub mod TestLaws
 pub mod StepLaws
 pub mod Lent
 pub mod LentLaws
-pub mod QuietLaws
+pub mod KeptListLaws

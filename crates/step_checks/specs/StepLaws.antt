@@ -23,7 +23,7 @@ use Rattle.queue.specs.declared.ReadyQueue.{ReadyQueue}
 use Rattle.scheduler.specs.declared.tasks.Found.{Found}
 use Rattle.scheduler.specs.Search.{found}
 use Rattle.scheduler.specs.SearchLaws.{found-at, found-nothing}
-use Rattle.machine.specs.Store.{Store, Happening, store-of, object, header, set-calls}
+use Rattle.machine.specs.Store.{Store, LogEntry, store-of, object, header, set-calls}
 use Rattle.machine.specs.Scheduler.{is-some, pending-external-in, pending-external}
 use Rattle.machine.specs.Sound.{is-ended, value-known, option-known}
 use Rattle.machine.specs.Events as machine-events
@@ -52,7 +52,7 @@ same-step e a r = rw e r
 refused-logs : (s : Store) (e : Event) (a : Answer) → stepped-of s a ≡ checked s e → stepped-of (store-of (s .tasks) (s .objects) (s .places) (s .queue) (checked s e .store .log)) a ≡ checked s e
 refused-logs s e a r = ap (λ (x : Step). stepped-of (store-of (s .tasks) (s .objects) (s .places) (s .queue) (x .store .log)) a) (sym r) ∙ r
 
-module _ (ts os ps : List ℕ) (q : ReadyQueue) (l : List Happening) {x : Turn} (f : x ≡ turn-of (header-at os .moment)) where
+module _ (ts os ps : List ℕ) (q : ReadyQueue) (l : List LogEntry) {x : Turn} (f : x ≡ turn-of (header-at os .moment)) where
   abbrev here : Store
   here = store-of ts os ps q l
 
@@ -249,7 +249,7 @@ module _ (ts os ps : List ℕ) (q : ReadyQueue) (l : List Happening) {x : Turn} 
 
 -- ---- results
 
-module _ (ts os ps : List ℕ) (q : ReadyQueue) (l : List Happening) (bs : List ℕ) {b : Bool} (e : b ≡ is-ended (header-at os .moment)) where
+module _ (ts os ps : List ℕ) (q : ReadyQueue) (l : List LogEntry) (bs : List ℕ) {b : Bool} (e : b ≡ is-ended (header-at os .moment)) where
   abbrev waiting : Store
   waiting = store-of ts os ps q l
 
@@ -305,7 +305,7 @@ module _ (ts os ps : List ℕ) (q : ReadyQueue) (l : List Happening) (bs : List 
 
 -- ---- resume
 
-module _ (ts os ps : List ℕ) (q : ReadyQueue) (l : List Happening) {v : Header} (g : v ≡ header-at os) where
+module _ (ts os ps : List ℕ) (q : ReadyQueue) (l : List LogEntry) {v : Header} (g : v ≡ header-at os) where
   abbrev asked : Store
   asked = store-of ts os ps q l
 

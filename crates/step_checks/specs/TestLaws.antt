@@ -18,7 +18,7 @@ use Rattle.asyncio.specs.declared.Header.{Header}
 use Rattle.rows.specs.Tables.{object-at, header-at}
 use Rattle.queue.specs.declared.ReadyQueue.{ReadyQueue}
 use Rattle.machine.specs.Tests.{_and_}
-use Rattle.machine.specs.Store.{Store, Happening, store-of, object, header}
+use Rattle.machine.specs.Store.{Store, LogEntry, store-of, object, header}
 use Rattle.machine.specs.Sound.{value-known}
 use Rattle.machine.specs.Events.{Result}
 use Rattle.machine.specs.Machine.{any-of, result-unknown, bad-result}
@@ -66,7 +66,7 @@ module _ (p : Result → Bool) (bs : List ℕ) where
 
 -- ---- one result
 
-module _ (ts os ps : List ℕ) (q : ReadyQueue) (l : List Happening) (r : Result) where
+module _ (ts os ps : List ℕ) (q : ReadyQueue) (l : List LogEntry) (r : Result) where
   pub known-kind : (r .kind ≡ 0 → ⊥) → false ≡ result-unknown (store-of ts os ps q l) r
   unfolding result-unknown
   known-kind n = rw (ne-eqb (r .kind) 0 n)

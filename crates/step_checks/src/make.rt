@@ -26,7 +26,7 @@ ghost use Prim.Native.Nat.{ℕ, _<_, _≤_, _+_};
 ghost use lib.Dec.{ltb, leb};
 ghost use lib.ListN.{length};
 ghost use Rattle.asyncio.specs.Limits.{object-limit, item-limit, place-limit, objects-length, places-length};
-ghost use Rattle.machine.specs.Store.{Happening, store-of};
+ghost use Rattle.machine.specs.Store.{LogEntry, store-of};
 ghost use Rattle.machine.specs.Machine.{Event};
 ghost use Rattle.exec_switch.specs.Answer.{stepped-of};
 ghost use Rattle.step_checks.specs.Checked.{checked};
@@ -34,7 +34,7 @@ ghost use Rattle.step_checks.specs.Checked.{checked};
 // A coroutine of a function is made.
 pub fn coroutine(objects: &mut [u64], queue: ReadyQueue, function: u32) -> Stepped
     requires { ⌜ length (now objects) ≡ objects-length ⌝ }
-    ensures { λ r. ⌜ ((ts ps : List ℕ) (l : List Happening) → stepped-of (store-of ts (now (objects .exit)) ps (r .queue) l) (r .answer) ≡ checked (store-of ts (now (objects .entry)) ps queue l) (Event.coroutine function)) ⌝ }
+    ensures { λ r. ⌜ ((ts ps : List ℕ) (l : List LogEntry) → stepped-of (store-of ts (now (objects .exit)) ps (r .queue) l) (r .answer) ≡ checked (store-of ts (now (objects .entry)) ps queue l) (Event.coroutine function)) ⌝ }
 {
     let turn = running(objects);
     match turn {
@@ -61,7 +61,7 @@ pub fn coroutine(objects: &mut [u64], queue: ReadyQueue, function: u32) -> Stepp
 // A call number is handed out.
 pub fn call(objects: &mut [u64], queue: ReadyQueue) -> Stepped
     requires { ⌜ length (now objects) ≡ objects-length ⌝ }
-    ensures { λ r. ⌜ ((ts ps : List ℕ) (l : List Happening) → stepped-of (store-of ts (now (objects .exit)) ps (r .queue) l) (r .answer) ≡ checked (store-of ts (now (objects .entry)) ps queue l) Event.call) ⌝ }
+    ensures { λ r. ⌜ ((ts ps : List ℕ) (l : List LogEntry) → stepped-of (store-of ts (now (objects .exit)) ps (r .queue) l) (r .answer) ≡ checked (store-of ts (now (objects .entry)) ps queue l) Event.call) ⌝ }
 {
     let turn = running(objects);
     match turn {
@@ -88,7 +88,7 @@ pub fn call(objects: &mut [u64], queue: ReadyQueue) -> Stepped
 // An external of a call is made pending, with a stored result or none.
 pub fn pending(objects: &mut [u64], queue: ReadyQueue, call: u32, stored: OptionValue) -> Stepped
     requires { ⌜ length (now objects) ≡ objects-length ⌝ }
-    ensures { λ r. ⌜ ((ts ps : List ℕ) (l : List Happening) → stepped-of (store-of ts (now (objects .exit)) ps (r .queue) l) (r .answer) ≡ checked (store-of ts (now (objects .entry)) ps queue l) (Event.pending call stored)) ⌝ }
+    ensures { λ r. ⌜ ((ts ps : List ℕ) (l : List LogEntry) → stepped-of (store-of ts (now (objects .exit)) ps (r .queue) l) (r .answer) ≡ checked (store-of ts (now (objects .entry)) ps queue l) (Event.pending call stored)) ⌝ }
 {
     let turn = running(objects);
     match turn {
@@ -138,7 +138,7 @@ pub fn pending(objects: &mut [u64], queue: ReadyQueue, call: u32, stored: Option
 // An external that has its value already.
 pub fn settled(objects: &mut [u64], queue: ReadyQueue, value: Value) -> Stepped
     requires { ⌜ length (now objects) ≡ objects-length ⌝ }
-    ensures { λ r. ⌜ ((ts ps : List ℕ) (l : List Happening) → stepped-of (store-of ts (now (objects .exit)) ps (r .queue) l) (r .answer) ≡ checked (store-of ts (now (objects .entry)) ps queue l) (Event.settled value)) ⌝ }
+    ensures { λ r. ⌜ ((ts ps : List ℕ) (l : List LogEntry) → stepped-of (store-of ts (now (objects .exit)) ps (r .queue) l) (r .answer) ≡ checked (store-of ts (now (objects .entry)) ps queue l) (Event.settled value)) ⌝ }
 {
     let turn = running(objects);
     match turn {
@@ -178,7 +178,7 @@ pub fn settled(objects: &mut [u64], queue: ReadyQueue, value: Value) -> Stepped
 // A gather of objects.
 pub fn gather(objects: &mut [u64], places: &mut [u64], queue: ReadyQueue, items: &[u16]) -> Stepped
     requires { ⌜ (length (now objects) ≡ objects-length) × (length (now places) ≡ places-length) ⌝ }
-    ensures { λ r. ⌜ ((ts : List ℕ) (l : List Happening) → stepped-of (store-of ts (now (objects .exit)) (now (places .exit)) (r .queue) l) (r .answer) ≡ checked (store-of ts (now (objects .entry)) (now (places .entry)) queue l) (Event.gather (now (items .entry)))) ⌝ }
+    ensures { λ r. ⌜ ((ts : List ℕ) (l : List LogEntry) → stepped-of (store-of ts (now (objects .exit)) (now (places .exit)) (r .queue) l) (r .answer) ≡ checked (store-of ts (now (objects .entry)) (now (places .entry)) queue l) (Event.gather (now (items .entry)))) ⌝ }
 {
     let turn = running(objects);
     match turn {

@@ -12,7 +12,7 @@ ghost use Rattle.asyncio.specs.Limits.{object-limit, call-limit, objects-length
 ghost use Rattle.rows.specs.Tables.{object-at, header-at};
 ghost use Rattle.step_checks.specs.Checked.{turn-of};
 ghost use Rattle.machine.specs.Machine.{any-of, result-unknown, bad-result};
-ghost use Rattle.machine.specs.Store.{Happening, store-of};
+ghost use Rattle.machine.specs.Store.{LogEntry, store-of};
 ghost use Rattle.queue.specs.declared.ReadyQueue.{ReadyQueue};
 ghost use Rattle.exec_futures.specs.Results.{result-at, results-in};
 
@@ -72,7 +72,7 @@ pub fn any_unmade(made: u16, items: &[u16]) -> bool
 // Is the result at byte `at` a returned list of a gather that is not completed?
 fn result_unknown(objects: &[u64], made: u16, results: &[u8], at: usize) -> bool
     requires { ⌜ (length (now objects) ≡ objects-length) × (made ≤ object-limit) × (at + 14 ≤ length (now results)) × (header-at (now objects) .made ≡ made) ⌝ }
-    ensures { λ r. ⌜ ((ts ps : List ℕ) (q : ReadyQueue) (l : List Happening) → r ≡ result-unknown (store-of ts (now (objects .entry)) ps q l) (result-at (now (results .entry)) at)) ⌝ }
+    ensures { λ r. ⌜ ((ts ps : List ℕ) (q : ReadyQueue) (l : List LogEntry) → r ≡ result-unknown (store-of ts (now (objects .entry)) ps q l) (result-at (now (results .entry)) at)) ⌝ }
 {
     if endian::u8_at(results, at + 4) == 0 {
         if endian::u8_at(results, at + 5) == 1 {
@@ -91,7 +91,7 @@ fn result_unknown(objects: &[u64], made: u16, results: &[u8], at: usize) -> bool
 // Is one of the results such a list?
 pub fn any_unknown(objects: &[u64], results: &[u8]) -> bool
     requires { ⌜ length (now objects) ≡ objects-length ⌝ }
-    ensures { λ r. ⌜ ((ts ps : List ℕ) (q : ReadyQueue) (l : List Happening) → r ≡ any-of (result-unknown (store-of ts (now (objects .entry)) ps q l)) (results-in (now (results .entry)))) ⌝ }
+    ensures { λ r. ⌜ ((ts ps : List ℕ) (q : ReadyQueue) (l : List LogEntry) → r ≡ any-of (result-unknown (store-of ts (now (objects .entry)) ps q l)) (results-in (now (results .entry)))) ⌝ }
 {
     let header = rows::tables::load_header(objects);
     let made = header.made;

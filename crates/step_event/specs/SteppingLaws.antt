@@ -6,7 +6,7 @@ use Prim.Native.Nat.{ℕ, _≤_}
 use lib.ListN.{length}
 use Rattle.asyncio.specs.Limits.{object-limit, tasks-length, objects-length, places-length}
 use Rattle.queue.specs.declared.ReadyQueue.{ReadyQueue}
-use Rattle.machine.specs.Store.{Store, Happening, store-of, forget}
+use Rattle.machine.specs.Store.{Store, LogEntry, store-of, forget}
 use Rattle.machine.specs.Sound.{sound}
 use Rattle.machine.specs.Machine.{Event}
 use Rattle.machine.specs.Lent.{slices-right, lengths-right, written, lent-step}
@@ -24,17 +24,17 @@ module _ (ts os ps : List ℕ) (q : ReadyQueue) where
     unfolding lengths-right slices-right
     right-lengths = lengths-have (length ts) (length os) (length ps) (length cs) refl i
 
-    pub right-slices : (l : List Happening) → slices-right (store-of ts os ps q l) ≡ true
+    pub right-slices : (l : List LogEntry) → slices-right (store-of ts os ps q l) ≡ true
     unfolding lengths-right slices-right
     right-slices l = and-true _ _ i .0
 
   -- soundness does not look at the log
-  pub sound-logged : sound (store-of ts os ps q []) ≡ true → (l : List Happening) → sound (store-of ts os ps q l) ≡ true
+  pub sound-logged : sound (store-of ts os ps q []) ≡ true → (l : List LogEntry) → sound (store-of ts os ps q l) ≡ true
   sound-logged k l =
       let f : forget (store-of ts os ps q l) ≡ store-of ts os ps q [] = unfold forget in refl in
       sym (sound-forget (store-of ts os ps q l)) ∙ rw f k
 
-  pub steps-soundly : (cs : List ℕ) (l : List Happening) (e : Event) → lengths-right (store-of ts os ps q []) cs ≡ true → sound (store-of ts os ps q []) ≡ true
+  pub steps-soundly : (cs : List ℕ) (l : List LogEntry) (e : Event) → lengths-right (store-of ts os ps q []) cs ≡ true → sound (store-of ts os ps q []) ≡ true
       → {ts′ os′ ps′ cs′ : List ℕ} {q′ : ReadyQueue} (a : Answer)
       → stepped-of (store-of ts′ os′ ps′ q′ (checked (store-of ts os ps q []) e .store .log)) a ≡ checked (store-of ts os ps q []) e → cs′ ≡ written (answer-of os′ a) cs
       → lent-of (store-of ts′ os′ ps′ q′ (lent-step (store-of ts os ps q l) cs e .store .log)) cs′ a ≡ lent-step (store-of ts os ps q l) cs e

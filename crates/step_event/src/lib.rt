@@ -8,7 +8,7 @@ ghost use mathlib.Core.Bool.{true};
 ghost use mathlib.Core.List.{List, []};
 ghost use lib.ListN.{length};
 ghost use Rattle.asyncio.specs.Limits.{tasks-length, objects-length, places-length};
-ghost use Rattle.machine.specs.Store.{Happening, store-of};
+ghost use Rattle.machine.specs.Store.{LogEntry, store-of};
 ghost use Rattle.machine.specs.Sound.{sound};
 ghost use Rattle.machine.specs.Lent.{lengths-right, lent-step};
 ghost use Rattle.exec_switch.specs.Answer.{stepped-of};
@@ -41,7 +41,7 @@ fn checked(
     results: &[u8],
 ) -> Stepped
     requires { ⌜ (length (now tasks) ≡ tasks-length) × (length (now objects) ≡ objects-length) × (length (now places) ≡ places-length) ⌝ }
-    ensures { λ r. ⌜ ((l : List Happening) → stepped-of (store-of (now (tasks .exit)) (now (objects .exit)) (now (places .exit)) (r .queue) (checked (store-of (now (tasks .entry)) (now (objects .entry)) (now (places .entry)) queue l) (event-of (now (items .entry)) (now (results .entry)) event) .store .log)) (r .answer) ≡ checked (store-of (now (tasks .entry)) (now (objects .entry)) (now (places .entry)) queue l) (event-of (now (items .entry)) (now (results .entry)) event)) ⌝ }
+    ensures { λ r. ⌜ ((l : List LogEntry) → stepped-of (store-of (now (tasks .exit)) (now (objects .exit)) (now (places .exit)) (r .queue) (checked (store-of (now (tasks .entry)) (now (objects .entry)) (now (places .entry)) queue l) (event-of (now (items .entry)) (now (results .entry)) event) .store .log)) (r .answer) ≡ checked (store-of (now (tasks .entry)) (now (objects .entry)) (now (places .entry)) queue l) (event-of (now (items .entry)) (now (results .entry)) event)) ⌝ }
 {
     match event {
         Event::Coroutine(f) => step_checks::make::coroutine(objects, queue, f),
@@ -57,7 +57,7 @@ fn checked(
     }
 }
 
-// The event on a sound store of the right lengths, which a session has (`driverlaws`, `drives-whole`): no check of it is made.
+// The event on a sound store of the right lengths, which a session has (`driverlaws`, `is-task-of-whole`): no check of it is made.
 pub fn step(
     tasks: &mut [u64],
     objects: &mut [u64],
@@ -69,7 +69,7 @@ pub fn step(
     results: &[u8],
 ) -> Stepped
     requires { ⌜ (lengths-right (store-of (now tasks) (now objects) (now places) queue []) (now calls) ≡ true) × (sound (store-of (now tasks) (now objects) (now places) queue []) ≡ true) ⌝ }
-    ensures { λ r. ⌜ ((l : List Happening) → lent-of (store-of (now (tasks .exit)) (now (objects .exit)) (now (places .exit)) (r .queue) (lent-step (store-of (now (tasks .entry)) (now (objects .entry)) (now (places .entry)) queue l) (now (calls .entry)) (event-of (now (items .entry)) (now (results .entry)) event) .store .log)) (now (calls .exit)) (r .answer) ≡ lent-step (store-of (now (tasks .entry)) (now (objects .entry)) (now (places .entry)) queue l) (now (calls .entry)) (event-of (now (items .entry)) (now (results .entry)) event)) ⌝ }
+    ensures { λ r. ⌜ ((l : List LogEntry) → lent-of (store-of (now (tasks .exit)) (now (objects .exit)) (now (places .exit)) (r .queue) (lent-step (store-of (now (tasks .entry)) (now (objects .entry)) (now (places .entry)) queue l) (now (calls .entry)) (event-of (now (items .entry)) (now (results .entry)) event) .store .log)) (now (calls .exit)) (r .answer) ≡ lent-step (store-of (now (tasks .entry)) (now (objects .entry)) (now (places .entry)) queue l) (now (calls .entry)) (event-of (now (items .entry)) (now (results .entry)) event)) ⌝ }
 {
     let stepped = checked(tasks, objects, places, queue, event, items, results);
     let after = stepped.queue;

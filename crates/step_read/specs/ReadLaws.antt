@@ -12,7 +12,7 @@ use Rattle.asyncio.specs.declared.Object.{Object}
 use Rattle.asyncio.specs.declared.Header.{Header}
 use Rattle.rows.specs.Tables.{object-at, header-at, place-at}
 use Rattle.queue.specs.declared.ReadyQueue.{ReadyQueue}
-use Rattle.machine.specs.Store.{Store, Happening, store-of, place, object, header, forget}
+use Rattle.machine.specs.Store.{Store, LogEntry, store-of, place, object, header, forget}
 use Rattle.machine.specs.Scheduler.{bit}
 use Rattle.machine.specs.Sound.{sound}
 use Rattle.machine.specs.Machine as machine
@@ -31,7 +31,7 @@ unfolding places-from show-places place
 shows-places s f m zero i = refl
 shows-places s f m (suc n) i = ap (λ (xs : List (Option Value)). slot-value (bit m i) (place-at (s .places) (f + i) .result) ∷ xs) (shows-places s f m n (i + 1))
 
-module _ (ts os ps : List ℕ) (q : ReadyQueue) (l : List Happening) (e : Event) {b : Bool} (g : b ≡ are-slices (length ts) (length os) (length ps)) where
+module _ (ts os ps : List ℕ) (q : ReadyQueue) (l : List LogEntry) (e : Event) {b : Bool} (g : b ≡ are-slices (length ts) (length os) (length ps)) where
   abbrev given : Store
   given = store-of ts os ps q l
 

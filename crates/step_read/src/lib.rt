@@ -16,7 +16,7 @@ ghost use Prim.Native.Nat.{ℕ};
 ghost use lib.ListN.{length};
 ghost use Rattle.asyncio.specs.Limits.{objects-length};
 ghost use Rattle.asyncio.specs.declared.CallId.{CallId};
-ghost use Rattle.machine.specs.Store.{Store, Happening, store-of};
+ghost use Rattle.machine.specs.Store.{Store, LogEntry, store-of};
 ghost use Rattle.machine.specs.Machine.{Event, shown};
 ghost use Rattle.machine.specs.Sound.{sound};
 ghost use Rattle.machine.specs.Lent.{slices-right, lent-read};
@@ -101,7 +101,7 @@ fn show_object(x: Object) -> Shown
 // A read of object `o` of a sound store.
 pub fn show_sound(objects: &[u64], o: u16) -> Reading
     requires { ⌜ length (now objects) ≡ objects-length ⌝ }
-    ensures { λ r. ⌜ ((ts ps : List ℕ) (q : ReadyQueue) (l : List Happening) → slices-right (store-of ts (now (objects .entry)) ps q l) ≡ true → sound (store-of ts (now (objects .entry)) ps q l) ≡ true → show-answer ps r ≡ lent-read (store-of ts (now (objects .entry)) ps q l) (Event.show o) .answer) ⌝ }
+    ensures { λ r. ⌜ ((ts ps : List ℕ) (q : ReadyQueue) (l : List LogEntry) → slices-right (store-of ts (now (objects .entry)) ps q l) ≡ true → sound (store-of ts (now (objects .entry)) ps q l) ≡ true → show-answer ps r ≡ lent-read (store-of ts (now (objects .entry)) ps q l) (Event.show o) .answer) ⌝ }
 {
     let header = rows::tables::load_header(objects);
     if header.made <= o {
@@ -114,7 +114,7 @@ pub fn show_sound(objects: &[u64], o: u16) -> Reading
 // May the host answer a call at once? Of a sound store.
 pub fn eager_sound(objects: &[u64], queue: ReadyQueue) -> Answer
     requires { ⌜ length (now objects) ≡ objects-length ⌝ }
-    ensures { λ r. ⌜ ((ts ps : List ℕ) (l : List Happening) → slices-right (store-of ts (now (objects .entry)) ps queue l) ≡ true → sound (store-of ts (now (objects .entry)) ps queue l) ≡ true → answer-of (now (objects .entry)) r ≡ lent-read (store-of ts (now (objects .entry)) ps queue l) Event.eager .answer) ⌝ }
+    ensures { λ r. ⌜ ((ts ps : List ℕ) (l : List LogEntry) → slices-right (store-of ts (now (objects .entry)) ps queue l) ≡ true → sound (store-of ts (now (objects .entry)) ps queue l) ≡ true → answer-of (now (objects .entry)) r ≡ lent-read (store-of ts (now (objects .entry)) ps queue l) Event.eager .answer) ⌝ }
 {
     Answer::Eager(can_await_eagerly(objects, queue))
 }

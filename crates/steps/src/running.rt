@@ -14,7 +14,7 @@ ghost use mathlib.Core.List.{List};
 ghost use Prim.Native.Nat.{ℕ, _<_, _≤_};
 ghost use lib.ListN.{length};
 ghost use Rattle.asyncio.specs.Limits.{tasks-length, objects-length, places-length};
-ghost use Rattle.machine.specs.Store.{Happening, store-of};
+ghost use Rattle.machine.specs.Store.{LogEntry, store-of};
 ghost use Rattle.machine.specs.Machine.{Event};
 ghost use Rattle.exec_switch.specs.Answer.{stepped-of};
 ghost use Rattle.step_checks.specs.Checked.{checked};
@@ -28,7 +28,7 @@ pub fn await_object(
     o: u16,
 ) -> Stepped
     requires { ⌜ (length (now tasks) ≡ tasks-length) × (length (now objects) ≡ objects-length) × (length (now places) ≡ places-length) ⌝ }
-    ensures { λ r. ⌜ ((l : List Happening) → stepped-of (store-of (now (tasks .exit)) (now (objects .exit)) (now (places .exit)) (r .queue) (checked (store-of (now (tasks .entry)) (now (objects .entry)) (now (places .entry)) queue l) (Event.await o) .store .log)) (r .answer) ≡ checked (store-of (now (tasks .entry)) (now (objects .entry)) (now (places .entry)) queue l) (Event.await o)) ⌝ }
+    ensures { λ r. ⌜ ((l : List LogEntry) → stepped-of (store-of (now (tasks .exit)) (now (objects .exit)) (now (places .exit)) (r .queue) (checked (store-of (now (tasks .entry)) (now (objects .entry)) (now (places .entry)) queue l) (Event.await o) .store .log)) (r .answer) ≡ checked (store-of (now (tasks .entry)) (now (objects .entry)) (now (places .entry)) queue l) (Event.await o)) ⌝ }
 {
     let turn = running(objects);
     match turn {
@@ -65,7 +65,7 @@ pub fn complete(
     value: Value,
 ) -> Stepped
     requires { ⌜ (length (now tasks) ≡ tasks-length) × (length (now objects) ≡ objects-length) × (length (now places) ≡ places-length) ⌝ }
-    ensures { λ r. ⌜ ((l : List Happening) → stepped-of (store-of (now (tasks .exit)) (now (objects .exit)) (now (places .exit)) (r .queue) (checked (store-of (now (tasks .entry)) (now (objects .entry)) (now (places .entry)) queue l) (Event.complete value) .store .log)) (r .answer) ≡ checked (store-of (now (tasks .entry)) (now (objects .entry)) (now (places .entry)) queue l) (Event.complete value)) ⌝ }
+    ensures { λ r. ⌜ ((l : List LogEntry) → stepped-of (store-of (now (tasks .exit)) (now (objects .exit)) (now (places .exit)) (r .queue) (checked (store-of (now (tasks .entry)) (now (objects .entry)) (now (places .entry)) queue l) (Event.complete value) .store .log)) (r .answer) ≡ checked (store-of (now (tasks .entry)) (now (objects .entry)) (now (places .entry)) queue l) (Event.complete value)) ⌝ }
 {
     let turn = running(objects);
     match turn {
@@ -89,7 +89,7 @@ pub fn complete(
 // The running task fails with the error script n.
 pub fn fail(tasks: &mut [u64], objects: &mut [u64], queue: ReadyQueue, n: u32) -> Stepped
     requires { ⌜ (length (now tasks) ≡ tasks-length) × (length (now objects) ≡ objects-length) ⌝ }
-    ensures { λ r. ⌜ ((ps : List ℕ) (l : List Happening) → length ps ≡ places-length → stepped-of (store-of (now (tasks .exit)) (now (objects .exit)) ps (r .queue) (checked (store-of (now (tasks .entry)) (now (objects .entry)) ps queue l) (Event.fail n) .store .log)) (r .answer) ≡ checked (store-of (now (tasks .entry)) (now (objects .entry)) ps queue l) (Event.fail n)) ⌝ }
+    ensures { λ r. ⌜ ((ps : List ℕ) (l : List LogEntry) → length ps ≡ places-length → stepped-of (store-of (now (tasks .exit)) (now (objects .exit)) ps (r .queue) (checked (store-of (now (tasks .entry)) (now (objects .entry)) ps queue l) (Event.fail n) .store .log)) (r .answer) ≡ checked (store-of (now (tasks .entry)) (now (objects .entry)) ps queue l) (Event.fail n)) ⌝ }
 {
     let turn = running(objects);
     match turn {

@@ -13,7 +13,7 @@ ghost use Prim.Native.Nat.{ℕ};
 ghost use lib.ListN.{length};
 ghost use Rattle.asyncio.specs.Limits.{tasks-length, objects-length, places-length};
 ghost use Rattle.rows.specs.Tables.{header-at};
-ghost use Rattle.machine.specs.Store.{Happening, store-of};
+ghost use Rattle.machine.specs.Store.{LogEntry, store-of};
 ghost use Rattle.machine.specs.Sound.{is-ended};
 ghost use Rattle.machine.specs.Machine.{Event};
 ghost use Rattle.exec_switch.specs.Answer.{stepped-of};
@@ -43,7 +43,7 @@ pub fn results(
     results: &[u8],
 ) -> Stepped
     requires { ⌜ (length (now tasks) ≡ tasks-length) × (length (now objects) ≡ objects-length) × (length (now places) ≡ places-length) ⌝ }
-    ensures { λ r. ⌜ ((l : List Happening) → stepped-of (store-of (now (tasks .exit)) (now (objects .exit)) (now (places .exit)) (r .queue) (checked (store-of (now (tasks .entry)) (now (objects .entry)) (now (places .entry)) queue l) (Event.results (results-in (now (results .entry)))) .store .log)) (r .answer) ≡ checked (store-of (now (tasks .entry)) (now (objects .entry)) (now (places .entry)) queue l) (Event.results (results-in (now (results .entry))))) ⌝ }
+    ensures { λ r. ⌜ ((l : List LogEntry) → stepped-of (store-of (now (tasks .exit)) (now (objects .exit)) (now (places .exit)) (r .queue) (checked (store-of (now (tasks .entry)) (now (objects .entry)) (now (places .entry)) queue l) (Event.results (results-in (now (results .entry)))) .store .log)) (r .answer) ≡ checked (store-of (now (tasks .entry)) (now (objects .entry)) (now (places .entry)) queue l) (Event.results (results-in (now (results .entry))))) ⌝ }
 {
     if is_ended(objects) {
         return Stepped {
@@ -79,7 +79,7 @@ pub fn results(
 // The host hands control back.
 pub fn resume(tasks: &mut [u64], objects: &mut [u64], queue: ReadyQueue) -> Stepped
     requires { ⌜ (length (now tasks) ≡ tasks-length) × (length (now objects) ≡ objects-length) ⌝ }
-    ensures { λ r. ⌜ ((ps : List ℕ) (l : List Happening) → length ps ≡ places-length → stepped-of (store-of (now (tasks .exit)) (now (objects .exit)) ps (r .queue) (checked (store-of (now (tasks .entry)) (now (objects .entry)) ps queue l) Event.resume .store .log)) (r .answer) ≡ checked (store-of (now (tasks .entry)) (now (objects .entry)) ps queue l) Event.resume) ⌝ }
+    ensures { λ r. ⌜ ((ps : List ℕ) (l : List LogEntry) → length ps ≡ places-length → stepped-of (store-of (now (tasks .exit)) (now (objects .exit)) ps (r .queue) (checked (store-of (now (tasks .entry)) (now (objects .entry)) ps queue l) Event.resume .store .log)) (r .answer) ≡ checked (store-of (now (tasks .entry)) (now (objects .entry)) ps queue l) Event.resume) ⌝ }
 {
     let header = rows::tables::load_header(objects);
     let moment = header.moment;

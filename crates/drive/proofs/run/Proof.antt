@@ -5,15 +5,15 @@ use native.Mathlib.Omega.{arith}
 use lib.ListN.{length}
 use lib.Seq.{length-take-le}
 use Rattle.machine.specs.Store.{store-of}
-use Rattle.machine_theorems.specs.Soundness.Stores.{Whole}
-use Rattle.drive_laws.specs.KeptLaws.{begun-whole, record-whole, whole-right, whole-is-sound}
+use Rattle.machine_theorems.specs.Soundness.Stores.{SoundStore}
+use Rattle.drive_laws.specs.KeptLaws.{begun-sound-store, record-sound-store, sound-store-right, sound-store-is-sound}
 use borrow.Author.Needs.{needs}
 use Rattle.drive.proofs.run.Statement.{statement}
 use Rattle.drive.proofs.run.Tie as tie
 
 abbrev Inv-loop : tie.InvT-loop
 Inv-loop src₀ out₀ tasks₀ objects₀ places₀ calls₀ queue₀ filled₀ from₀ at₀ number₀ last₀ src out tasks objects places calls queue filled from at number last =
-    Whole (store-of tasks objects places queue []) × (length calls ≡ 256) × (filled ≤ length src) × (at ≤ length out) × (length src ≡ length src₀) × (length out ≡ length out₀) × (last ≤ 18446744073709551615)
+    SoundStore (store-of tasks objects places queue []) × (length calls ≡ 256) × (filled ≤ length src) × (at ≤ length out) × (length src ≡ length src₀) × (length out ≡ length out₀) × (last ≤ 18446744073709551615)
 
 abbrev μ-loop : tie.MeasureT-loop
 μ-loop src₀ out₀ tasks₀ objects₀ places₀ calls₀ queue₀ filled₀ from₀ at₀ number₀ last₀ src out tasks objects places calls queue filled from at number last =
@@ -38,7 +38,7 @@ refill-requires : tie.Need-refill-requires Inv-loop μ-loop
 refill-requires c κs = search needs
 
 loop-holds : tie.Need-loop-holds Inv-loop μ-loop
-loop-holds c = (begun-whole _ (c .before .before .before .before .before .before .before .before .begin .result .answer) refl refl refl (c .before .before .before .before .before .before .before .before .begin .ensures []), refl, c .before .before .refill .ensures, omega arith, refl, refl, omega arith)
+loop-holds c = (begun-sound-store _ (c .before .before .before .before .before .before .before .before .begin .result .answer) refl refl refl (c .before .before .before .before .before .before .before .before .begin .ensures []), refl, c .before .before .refill .ensures, omega arith, refl, refl, omega arith)
 
 add-number : tie.Need-add-number Inv-loop μ-loop
 add-number c = omega (arith, c .before .loop .inv .6)
@@ -62,7 +62,7 @@ slice-aggregate-drive-record-5 : tie.Need-slice-aggregate-drive-record-5 Inv-loo
 slice-aggregate-drive-record-5 c = sym (length-take-le _ _ (c .before .before .before .before .before .before .loop .inv .2))
 
 drive-record-requires : tie.Need-drive-record-requires Inv-loop μ-loop
-drive-record-requires c κs = (whole-right (c .before .before .before .before .before .before .before .loop .inv .0) _ (omega (arith, c .before .before .before .before .before .before .before .loop .inv .1)), whole-is-sound (c .before .before .before .before .before .before .before .loop .inv .0))
+drive-record-requires c κs = (sound-store-right (c .before .before .before .before .before .before .before .loop .inv .0) _ (omega (arith, c .before .before .before .before .before .before .before .loop .inv .1)), sound-store-is-sound (c .before .before .before .before .before .before .before .loop .inv .0))
 
 last-record-requires : tie.Need-last-record-requires Inv-loop μ-loop
 last-record-requires c κs = omega (arith, c .before .before .before .before .before .before .before .before .before .before .before .before .before .before .before .loop .inv .6)
@@ -77,7 +77,7 @@ loop-less : tie.Need-loop-less Inv-loop μ-loop
 loop-less c = omega (arith, c .before .before .before .before .before .before .last-record .ensures)
 
 loop-again : tie.Need-loop-again Inv-loop μ-loop
-loop-again c = (record-whole _ _ _ _ _ (c .before .before .before .before .before .before .before .before .before .before .before .before .before .before .before .before .before .before .before .before .before .before .loop .inv .0) (c .before .before .before .before .before .before .before .before .before .before .before .before .before .before .drive-record .ensures .1) (c .before .before .before .before .before .before .before .before .before .before .before .before .before .before .drive-record .ensures .0 []), c .before .before .before .before .before .before .before .before .before .before .before .before .before .before .drive-record .kept .1 .1 .1 .0 ∙ c .before .before .before .before .before .before .before .before .before .before .before .before .before .before .before .before .before .before .before .before .before .before .loop .inv .1, c .before .before .ready .ensures, c .before .before .before .before .flush .ensures, c .before .before .ready .kept .0 ∙ c .before .before .before .before .before .before .before .before .before .before .before .before .before .before .before .before .before .before .before .before .before .before .loop .inv .4, c .before .before .before .before .before .before .before .before .before .before .before .before .before .before .drive-record .kept .1 .1 .1 .1 .1 .1 .1 .0 ∙ c .before .before .before .before .before .before .before .before .before .before .before .before .before .before .before .before .before .before .before .before .before .before .loop .inv .5, omega (arith, c .before .before .before .before .before .before .last-record .ensures, c .before .before .before .before .before .before .before .before .before .before .before .before .before .before .before .before .before .before .before .before .before .before .loop .inv .6))
+loop-again c = (record-sound-store _ _ _ _ _ (c .before .before .before .before .before .before .before .before .before .before .before .before .before .before .before .before .before .before .before .before .before .before .loop .inv .0) (c .before .before .before .before .before .before .before .before .before .before .before .before .before .before .drive-record .ensures .1) (c .before .before .before .before .before .before .before .before .before .before .before .before .before .before .drive-record .ensures .0 []), c .before .before .before .before .before .before .before .before .before .before .before .before .before .before .drive-record .kept .1 .1 .1 .0 ∙ c .before .before .before .before .before .before .before .before .before .before .before .before .before .before .before .before .before .before .before .before .before .before .loop .inv .1, c .before .before .ready .ensures, c .before .before .before .before .flush .ensures, c .before .before .ready .kept .0 ∙ c .before .before .before .before .before .before .before .before .before .before .before .before .before .before .before .before .before .before .before .before .before .before .loop .inv .4, c .before .before .before .before .before .before .before .before .before .before .before .before .before .before .drive-record .kept .1 .1 .1 .1 .1 .1 .1 .0 ∙ c .before .before .before .before .before .before .before .before .before .before .before .before .before .before .before .before .before .before .before .before .before .before .loop .inv .5, omega (arith, c .before .before .before .before .before .before .last-record .ensures, c .before .before .before .before .before .before .before .before .before .before .before .before .before .before .before .before .before .before .before .before .before .before .loop .inv .6))
 
 slice-reshare-prefix-write-all : tie.Need-slice-reshare-prefix-write-all Inv-loop μ-loop
 slice-reshare-prefix-write-all c = c .before .loop .inv .3

@@ -6,7 +6,7 @@ use Rattle.machine.specs.Store.{store-of}
 use Rattle.machine.specs.Machine.{Event, accept}
 use Rattle.machine.specs.Lent.{written}
 use Rattle.step_checks.specs.LentLaws.{lengths-have, wrong-length, not-sound, steps-on, logs}
-use Rattle.step_checks.specs.QuietLaws.{quiet}
+use Rattle.step_checks.specs.KeptListLaws.{keeps-list}
 use borrow.Author.Needs.{needs}
 use Rattle.externals.proofs.pending.Statement.{statement}
 use Rattle.externals.proofs.pending.Tie as tie
@@ -25,7 +25,7 @@ same-length c = search needs
 
 returns : tie.Need-returns
 unfolding accept written
-returns c = λ l. steps-on (now (c .before .before .before .before .before .before .before .before .before .before .before .before .before .before .before .args .tasks)) (now (c .before .before .before .before .before .before .before .before .before .before .before .before .before .before .before .args .objects)) (now (c .before .before .before .before .before .before .before .before .before .before .before .before .before .before .before .args .places)) (c .before .before .before .before .before .before .before .before .before .before .before .before .before .before .before .args .queue) (now (c .before .before .before .before .before .before .before .before .before .before .before .before .before .before .before .args .calls)) l (Event.pending (c .before .before .before .before .before .before .before .before .before .before .before .before .before .before .before .args .call) (c .before .before .before .before .before .before .before .before .before .before .before .before .before .before .before .args .stored)) (c .before .before .before .before .before .before .before .before .before .lengths-right .ensures) (c .before .before .before .before .before .before .before .before .if1 .taken) (c .before .before .before .before .before .before .is-sound .ensures l) (c .before .before .before .before .before .if2 .taken) (c .before .before .before .pending .result .answer) (logs [] (c .before .before .before .pending .result .answer) (c .before .before .before .pending .ensures (now (c .before .before .before .before .before .before .before .before .before .before .before .before .before .before .before .args .tasks)) (now (c .before .before .before .before .before .before .before .before .before .before .before .before .before .before .before .args .places)) [])) (quiet (store-of (now (c .before .before .before .before .before .before .before .before .before .before .before .before .before .before .before .args .tasks)) (now (c .before .before .before .before .before .before .before .before .before .before .before .before .before .before .before .args .objects)) (now (c .before .before .before .before .before .before .before .before .before .before .before .before .before .before .before .args .places)) (c .before .before .before .before .before .before .before .before .before .before .before .before .before .before .before .args .queue) []) (Event.pending (c .before .before .before .before .before .before .before .before .before .before .before .before .before .before .before .args .call) (c .before .before .before .before .before .before .before .before .before .before .before .before .before .before .before .args .stored)) (now (c .before .before .before .before .before .before .before .before .before .before .before .before .before .before .before .args .calls)) refl [] (c .before .before .before .pending .result .answer) (c .before .before .before .pending .ensures (now (c .before .before .before .before .before .before .before .before .before .before .before .before .before .before .before .args .tasks)) (now (c .before .before .before .before .before .before .before .before .before .before .before .before .before .before .before .args .places)) []))
+returns c = λ l. steps-on (now (c .before .before .before .before .before .before .before .before .before .before .before .before .before .before .before .args .tasks)) (now (c .before .before .before .before .before .before .before .before .before .before .before .before .before .before .before .args .objects)) (now (c .before .before .before .before .before .before .before .before .before .before .before .before .before .before .before .args .places)) (c .before .before .before .before .before .before .before .before .before .before .before .before .before .before .before .args .queue) (now (c .before .before .before .before .before .before .before .before .before .before .before .before .before .before .before .args .calls)) l (Event.pending (c .before .before .before .before .before .before .before .before .before .before .before .before .before .before .before .args .call) (c .before .before .before .before .before .before .before .before .before .before .before .before .before .before .before .args .stored)) (c .before .before .before .before .before .before .before .before .before .lengths-right .ensures) (c .before .before .before .before .before .before .before .before .if1 .taken) (c .before .before .before .before .before .before .is-sound .ensures l) (c .before .before .before .before .before .if2 .taken) (c .before .before .before .pending .result .answer) (logs [] (c .before .before .before .pending .result .answer) (c .before .before .before .pending .ensures (now (c .before .before .before .before .before .before .before .before .before .before .before .before .before .before .before .args .tasks)) (now (c .before .before .before .before .before .before .before .before .before .before .before .before .before .before .before .args .places)) [])) (keeps-list (store-of (now (c .before .before .before .before .before .before .before .before .before .before .before .before .before .before .before .args .tasks)) (now (c .before .before .before .before .before .before .before .before .before .before .before .before .before .before .before .args .objects)) (now (c .before .before .before .before .before .before .before .before .before .before .before .before .before .before .before .args .places)) (c .before .before .before .before .before .before .before .before .before .before .before .before .before .before .before .args .queue) []) (Event.pending (c .before .before .before .before .before .before .before .before .before .before .before .before .before .before .before .args .call) (c .before .before .before .before .before .before .before .before .before .before .before .before .before .before .before .args .stored)) (now (c .before .before .before .before .before .before .before .before .before .before .before .before .before .before .before .args .calls)) refl [] (c .before .before .before .pending .result .answer) (c .before .before .before .pending .ensures (now (c .before .before .before .before .before .before .before .before .before .before .before .before .before .before .before .args .tasks)) (now (c .before .before .before .before .before .before .before .before .before .before .before .before .before .before .before .args .places)) []))
 
 same-length-2 : tie.Need-same-length-2
 same-length-2 c = search needs

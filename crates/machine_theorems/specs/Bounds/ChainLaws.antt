@@ -19,7 +19,7 @@ use Rattle.asyncio.specs.Limits.{task-limit}
 use Rattle.asyncio.specs.RangeLaws.{pick-has}
 use Rattle.queue.specs.Queue.{pop-front, front-of}
 use Rattle.queue.specs.QueueLaws.{front-of-fits}
-use Rattle.machine.specs.Store.{Store, task, header, object, put-task, put-object, put-header, put-queue, restate, set-state, set-moment, note, exited, absent}
+use Rattle.machine.specs.Store.{Store, task, header, object, put-task, put-object, put-header, put-queue, restate, set-state, set-moment, add-log, exited, absent}
 use Rattle.machine.specs.Scheduler.{AwaitedGather, as-awaited, live-count, make-ready, push-ready, remove-task, remove-from-ready-queue}
 use Rattle.machine.specs.Delivery.{Delivery, nobody-woken, deliver-to-task, fail-awaited, fail-gather, climb, awaited-count, send-error, climb-error, deliver-awaiter-failure}
 use Rattle.machine.specs.Events.{Switched, How, start, value, raises, run, yield, new-function, resume-next, resume-after-task-exit, handle-task-failure, start-by, start-task, activate-state, activate-within, activate}
@@ -42,7 +42,7 @@ task-exits : (s : Store) (t : ℕ) (x : TaskState) → SameExits s (deliver-to-t
 unfolding deliver-to-task nobody-woken
 task-exits s t x =
     pick-has (λ (d : Delivery). SameExits s (d .store)) (is-blocked (task s t .state))
-    (unfold exits-in note make-ready push-ready put-queue set-state put-task in refl) refl
+    (unfold exits-in add-log make-ready push-ready put-queue set-state put-task in refl) refl
 
 fail-exits : (s : Store) (g : ℕ) (x : Error) → SameExits s (fail-gather s g x .store)
 unfolding fail-gather fail-awaited put-object
@@ -132,11 +132,11 @@ start-spent s t c r h z l e =
     spent-then (object-spent s c r) (run-spent (put-object s c r) t h (sized-put-object s c r z) l (rw same e))
 
 -- a task goes: one exit more, one live task less
-gone-spent : (s : Store) (t : ℕ) → Sized s → t < task-limit → is-live (task s t .state) ≡ true → Spent s (note (remove-task s t) (exited t))
+gone-spent : (s : Store) (t : ℕ) → Sized s → t < task-limit → is-live (task s t .state) ≡ true → Spent s (add-log (remove-task s t) (exited t))
 gone-spent s t z l e =
     let fall : live-count s ≡ suc (live-count (put-task s t absent)) = live-falls s t z l e in
-    let left : live-count (note (remove-task s t) (exited t)) ≡ live-count (put-task s t absent) = unfold live-count note remove-task remove-from-ready-queue put-queue in refl in
-    let more : exits-in (note (remove-task s t) (exited t) .log) ≡ suc (exits-in (s .log)) = unfold exits-in note remove-task remove-from-ready-queue put-queue put-task in refl in
+    let left : live-count (add-log (remove-task s t) (exited t)) ≡ live-count (put-task s t absent) = unfold live-count add-log remove-task remove-from-ready-queue put-queue in refl in
+    let more : exits-in (add-log (remove-task s t) (exited t) .log) ≡ suc (exits-in (s .log)) = unfold exits-in add-log remove-task remove-from-ready-queue put-queue put-task in refl in
     record { spent = omega (arith, fall, left, more) }
 
 module _ (go : Store → ℕ → Switched) (h : (s : Store) (t : ℕ) → Sized s → t < task-limit → Spent s (go s t .store)) where

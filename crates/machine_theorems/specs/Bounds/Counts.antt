@@ -13,7 +13,7 @@ use Rattle.asyncio.specs.Kinds.{kind, is-awaited}
 use Rattle.asyncio.specs.Limits.{object-limit}
 use Rattle.rows.specs.Tables.{object-at}
 use Rattle.machine.specs.Tests.{count}
-use Rattle.machine.specs.Store.{Store, object, Happening, spawned, blocked, reached, exited, removed}
+use Rattle.machine.specs.Store.{Store, object, LogEntry, spawned, blocked, reached, exited, removed}
 use Rattle.machine.specs.Scheduler.{as-awaited, Walk, walk-gather}
 use Rattle.machine.specs.Delivery.{resolve-child, fail-gather}
 use Rattle.machine.specs.Commit.{Poll, ready, raised, pending, pending-count}
@@ -58,7 +58,7 @@ pub data ErrorPasses (x : Error) : Store → Awaiter → ℕ → Store → Await
       → ErrorPasses x (fail-gather s (g .0) x .store) b n u c → ErrorPasses x s (Awaiter.GatherSlot g source) (suc n) u c
 
 -- how many exits of tasks have happened
-unfoldable pub exits-in : List Happening → ℕ
+unfoldable pub exits-in : List LogEntry → ℕ
 exits-in [] = 0
 exits-in (spawned t c ∷ hs) = exits-in hs
 exits-in (blocked t ∷ hs) = exits-in hs
@@ -67,7 +67,7 @@ exits-in (exited t ∷ hs) = suc (exits-in hs)
 exits-in (removed t ∷ hs) = exits-in hs
 
 -- how many removals of tasks have happened
-unfoldable pub removals-in : List Happening → ℕ
+unfoldable pub removals-in : List LogEntry → ℕ
 removals-in [] = 0
 removals-in (spawned t c ∷ hs) = removals-in hs
 removals-in (blocked t ∷ hs) = removals-in hs
@@ -79,7 +79,7 @@ removals-in (removed t ∷ hs) = suc (removals-in hs)
 pub data Walks : Walk → ℕ → Walk → Type 0 where
   walks-here : (w : Walk) → Walks w 0 w
   walks-on : (w : Walk) (g : ℕ) (gs : List ℕ) (n : ℕ) (x : Walk) → w .stack ≡ g ∷ gs
-      → Walks (walk-gather (record { store = w .store; drivers = w .drivers; marks = w .marks; stack = gs }) (as-awaited (object (w .store) g))) n x → Walks w (suc n) x
+      → Walks (walk-gather (record { store = w .store; tasks-of = w .tasks-of; marks = w .marks; stack = gs }) (as-awaited (object (w .store) g))) n x → Walks w (suc n) x
 
 -- how many awaited gathers a walk has not reached yet
 unfoldable pub unreached : Walk → ℕ

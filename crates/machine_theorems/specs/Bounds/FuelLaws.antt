@@ -13,14 +13,14 @@ use Rattle.asyncio.specs.Limits.{task-limit}
 use Rattle.asyncio.specs.Ranges.{AwaiterFits}
 use Rattle.queue.specs.Queue.{pop-front, front-of}
 use Rattle.queue.specs.QueueLaws.{front-of-fits}
-use Rattle.machine.specs.Store.{Store, task, put-task, put-queue, note, exited, absent}
+use Rattle.machine.specs.Store.{Store, task, put-task, put-queue, add-log, exited, absent}
 use Rattle.machine.specs.Scheduler.{live-count, remove-task, remove-from-ready-queue}
 use Rattle.machine.specs.Delivery.{Delivery, resolve-child, fail-gather, climb, awaited-count}
 use Rattle.machine.specs.Delivery.{send-value, climb-value, deliver-awaiter-success, send-error, climb-error, deliver-awaiter-failure}
 use Rattle.machine.specs.Events.{Switched, resume-next, resume-after-task-exit, handle-task-failure, start-by, start-task, activate-state, activate-within, activate}
 use Rattle.machine_laws.specs.Views.{Sized}
 use Rattle.machine_laws.specs.Statements.{SameLive}
-use Rattle.machine_laws.specs.StoreLaws.{task-fits, sized-put-task, sized-put-queue, sized-note}
+use Rattle.machine_laws.specs.StoreLaws.{task-fits, sized-put-task, sized-put-queue, sized-add-log}
 use Rattle.machine_laws.specs.DeliveryLaws.{resolve-sent, fail-sent, success-climbs, failure-climbs, failure-same, same-live-count}
 use Rattle.machine_laws.specs.CycleLaws.{live-falls}
 use Rattle.machine_laws.specs.WokenLaws.{WokenFits, failure-woken, activate-by}
@@ -70,9 +70,9 @@ failure-fuel (suc k) s (Awaiter.GatherSlot g source) x z f l =
 -- ---- a chain of failed starts
 
 -- a task that has gone
-pub sized-gone : (u : Store) (t : ℕ) → Sized u → Sized (note (remove-task u t) (exited t))
+pub sized-gone : (u : Store) (t : ℕ) → Sized u → Sized (add-log (remove-task u t) (exited t))
 unfolding remove-task remove-from-ready-queue
-sized-gone u t z = sized-note _ (exited t) (sized-put-queue _ _ (sized-put-task u t absent z))
+sized-gone u t z = sized-add-log _ (exited t) (sized-put-queue _ _ (sized-put-task u t absent z))
 
 -- the fuel of `activate`
 activate-at : (s : Store) (t k : ℕ) → live-count s ≡ k → activate-within k s t ≡ activate s t
@@ -101,12 +101,12 @@ module _ (k : ℕ) (go come : Store → ℕ → Switched) (h : (s : Store) (t : 
           h (remove-from-ready-queue (d .store) t) t (unfold remove-from-ready-queue in sized-put-queue (d .store) _ z) (m .fits t e) (omega arith)
 
   module _ (s : Store) (t : ℕ) (z : Sized s) (l : t < task-limit) (e : is-live (task s t .state) ≡ true) (q : live-count s ≤ suc k) where
-    left-count : (u : Store) → SameLive s u → live-count (note (remove-task u t) (exited t)) ≤ k
+    left-count : (u : Store) → SameLive s u → live-count (add-log (remove-task u t) (exited t)) ≤ k
     left-count u m =
         let fall : live-count u ≡ suc (live-count (put-task u t absent)) = live-falls u t (m .sized) l (m .lives t ∙ e) in
         let same : live-count u ≡ live-count s = same-live-count s u m in
-        let here : live-count (note (remove-task u t) (exited t)) ≡ live-count (put-task u t absent) =
-        unfold live-count note remove-task remove-from-ready-queue put-queue in refl in
+        let here : live-count (add-log (remove-task u t) (exited t)) ≡ live-count (put-task u t absent) =
+        unfold live-count add-log remove-task remove-from-ready-queue put-queue in refl in
         omega arith
 
     failure-agrees : (x : Error) → handle-task-failure go s t x ≡ handle-task-failure come s t x

@@ -20,7 +20,7 @@ use Rattle.machine_laws.specs.Views.{Sized}
 use Rattle.machine_laws.specs.Statements.{SameKinds, Placed, StopBelow, commit-rest, unmarked, walk-rest}
 use Rattle.machine_laws.specs.CommitLaws.{StopKeeps, same-kinds-then, same-pending-count, set-counts, settle-kinds, resume-kinds, step-kinds, step-below, placed-same}
 use Rattle.machine_laws.specs.CommitLaws.{open-sized, open-falls, commit-begins, commit-turns}
-use Rattle.machine_laws.specs.CycleLaws.{Pays, gather-pays, blocked-pays, all-unmarked, walk-once, cancel-walks}
+use Rattle.machine_laws.specs.CycleLaws.{CountsKept, gather-counts-kept, blocked-counts-kept, all-unmarked, walk-once, cancel-walks}
 
 -- ---- the commit
 
@@ -85,8 +85,8 @@ next-agrees : (go come : Walk → Store) (k : ℕ) (w : Walk) (gs : List ℕ) �
 unfolding walk-next
 next-agrees go come k w [] m p h = refl
 next-agrees go come k w (g ∷ gs) m p h =
-    let v : Walk = record { store = w .store; drivers = w .drivers; marks = w .marks; stack = gs } in
-    let r : Pays v (walk-gather v (as-awaited (object (w .store) g))) = gather-pays v m (as-awaited (object (w .store) g)) in
+    let v : Walk = record { store = w .store; tasks-of = w .tasks-of; marks = w .marks; stack = gs } in
+    let r : CountsKept v (walk-gather v (as-awaited (object (w .store) g))) = gather-counts-kept v m (as-awaited (object (w .store) g)) in
     h (walk-gather v (as-awaited (object (w .store) g))) (r .marked) (omega (arith, r .pays))
 
 -- The walk gets through with any fuel of at least the gathers not marked and those on the stack.
@@ -101,6 +101,6 @@ pub cancel-fuel : (k : ℕ) (s : Store) (t : ℕ) → object-limit ≤ k → wal
 unfolding walk-from
 cancel-fuel k s t p =
     let w : Walk = remove-blocked (walk-from s) t (blocked-on (task s t .state)) in
-    let r : Pays (walk-from s) w = blocked-pays (walk-from s) (length-replicate {A = Bool} object-limit false) t in
+    let r : CountsKept (walk-from s) w = blocked-counts-kept (walk-from s) (length-replicate {A = Bool} object-limit false) t in
     let all : unmarked (walk-from s .marks) + length (walk-from s .stack) ≡ object-limit = all-unmarked in
     walk-fuel k w (r .marked) (omega (arith, r .pays, all, p)) ∙ sym (cancel-walks s t)

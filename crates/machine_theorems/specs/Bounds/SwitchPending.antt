@@ -22,7 +22,7 @@ use Rattle.asyncio.specs.RangeLaws.{pick-has}
 use Rattle.rows.specs.Tables.{object-at}
 use Rattle.queue.specs.Queue.{pop-front, front-of}
 use Rattle.queue.specs.QueueLaws.{front-of-fits}
-use Rattle.machine.specs.Store.{Store, task, object, put-task, put-object, put-queue, set-state, set-moment, note, reached, blocked, exited}
+use Rattle.machine.specs.Store.{Store, task, object, put-task, put-object, put-queue, set-state, set-moment, add-log, reached, blocked, exited}
 use Rattle.machine.specs.Scheduler.{AwaitedGather, as-awaited, make-ready, push-ready, remove-task, remove-from-ready-queue}
 use Rattle.machine.specs.Delivery.{Delivery, nobody-woken, deliver-to-task, fail-awaited, fail-gather, climb, awaited-count, send-error, climb-error, deliver-awaiter-failure}
 use Rattle.machine.specs.Commit.{Poll, ready, raised, pending, pending-in, pending-count, commit-gather-tree}
@@ -31,7 +31,7 @@ use Rattle.machine.specs.Events.{stays, go-on, await-gather, await-object, exec
 use Rattle.machine_laws.specs.Views.{Sized}
 use Rattle.machine_laws.specs.Statements.{SameLive}
 use Rattle.machine_laws.specs.CountLaws.{count-same}
-use Rattle.machine_laws.specs.StoreLaws.{task-fits, kind-put-object, object-put-other, object-put-header, sized-put-queue, sized-set-state, sized-note}
+use Rattle.machine_laws.specs.StoreLaws.{task-fits, kind-put-object, object-put-other, object-put-header, sized-put-queue, sized-set-state, sized-add-log}
 use Rattle.machine_laws.specs.DeliveryLaws.{absurd-some, awaited-object, fail-sent, failure-same}
 use Rattle.machine_laws.specs.WokenLaws.{WokenFits, failure-woken}
 use Rattle.machine_laws.specs.SizedLaws.{sized-commit}
@@ -70,8 +70,8 @@ moment-pending s m = kinds-pending s _ (λ o. ap (λ (x : Object). is-pending-ga
 
 -- ---- a delivery
 
-ready-pending : (s : Store) (t : ℕ) (x : TaskState) → SamePending s (note (make-ready s t x) (reached t))
-unfolding note make-ready push-ready put-queue set-state put-task pending-count
+ready-pending : (s : Store) (t : ℕ) (x : TaskState) → SamePending s (add-log (make-ready s t x) (reached t))
+unfolding add-log make-ready push-ready put-queue set-state put-task pending-count
 ready-pending s t x = record { same = refl }
 
 task-pending : (s : Store) (t : ℕ) (x : TaskState) → SamePending s (deliver-to-task s t x .store)
@@ -166,9 +166,9 @@ module _ (go : Store → ℕ → Switched) (h : (s : Store) (t : ℕ) → Sized 
       let u : Store = deliver-awaiter-failure s a x .store in
       let m : SameLive s u = failure-same s a x z (task-fits s t .awaiter-fits) in
       let w : WokenFits (deliver-awaiter-failure s a x) = failure-woken s a x z (task-fits s t .awaiter-fits) in
-      let gone : note (remove-task u t) (exited t) .objects ≡ u .objects = unfold note remove-task remove-from-ready-queue put-queue put-task in refl in
+      let gone : add-log (remove-task u t) (exited t) .objects ≡ u .objects = unfold add-log remove-task remove-from-ready-queue put-queue put-task in refl in
       pending-then (failure-pending s a x z (task-fits s t .awaiter-fits))
-      (pending-then (words-pending u (note (remove-task u t) (exited t)) gone) (exit-pending _ (sized-gone u t (m .sized)) (record { fits = w .fits })))
+      (pending-then (words-pending u (add-log (remove-task u t) (exited t)) gone) (exit-pending _ (sized-gone u t (m .sized)) (record { fits = w .fits })))
 
   start-pending : (s : Store) (t c : ℕ) (f : Option ℕ) → new-function (object s c) ≡ f → Sized s → c < object-limit → SamePending s (start-by go s t c f .store)
   unfolding start-by
@@ -199,11 +199,11 @@ activate-pending s t z l = within-pending _ s t z l
 -- ---- the whole await
 
 -- a task that blocks, and another that runs
-block-pending : (s : Store) (t o : ℕ) → Sized s → SamePending s (resume-next activate (note (set-state s t (TaskState.Blocked (heap-id o))) (blocked t)) .store)
+block-pending : (s : Store) (t o : ℕ) → Sized s → SamePending s (resume-next activate (add-log (set-state s t (TaskState.Blocked (heap-id o))) (blocked t)) .store)
 block-pending s t o z =
-    let u : Store = note (set-state s t (TaskState.Blocked (heap-id o))) (blocked t) in
-    let same : u .objects ≡ s .objects = unfold note set-state put-task in refl in
-    pending-then (words-pending s u same) (next-pending activate activate-pending u (sized-note _ (blocked t) (sized-set-state s t (TaskState.Blocked (heap-id o)) z)))
+    let u : Store = add-log (set-state s t (TaskState.Blocked (heap-id o))) (blocked t) in
+    let same : u .objects ≡ s .objects = unfold add-log set-state put-task in refl in
+    pending-then (words-pending s u same) (next-pending activate activate-pending u (sized-add-log _ (blocked t) (sized-set-state s t (TaskState.Blocked (heap-id o)) z)))
 
 go-on-seen : (t o n m : ℕ) (s u : Store) (x : Poll) → Sized u → StepsBetween s u n x → StepsBetween s (go-on t o m u x .store) n x
 unfolding go-on stays StepsBetween opened-between settled-between

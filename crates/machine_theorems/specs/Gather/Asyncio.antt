@@ -140,7 +140,7 @@ pub record Fails (s : Store) (g : ℕ) (aws : List ℕ) (done : List Done) (e : 
   pub first-one : first-raised aws [] done ≡ some e
 
 -- The gather g of the awaitables aws after the arrivals of `done`.
-pub data Mid (s : Store) (g : ℕ) (aws : List ℕ) (done : List Done) : Type 0 where
-  still-waits : (w : AwaitedGather) → Waits s g aws done w → Mid s g aws done
-  has-listed : (vs : List Value) → Lists s g aws done vs → Mid s g aws done
-  has-failed : (e : Error) → Fails s g aws done e → Mid s g aws done
+pub data GatherAfter (s : Store) (g : ℕ) (aws : List ℕ) (done : List Done) : Type 0 where
+  still-waits : (w : AwaitedGather) → Waits s g aws done w → GatherAfter s g aws done
+  has-listed : (vs : List Value) → Lists s g aws done vs → GatherAfter s g aws done
+  has-failed : (e : Error) → Fails s g aws done e → GatherAfter s g aws done

@@ -146,14 +146,14 @@ alike f P a b c r p q (suc (suc zero)) (suc (suc zero)) k l e = r 2
 alike f P a b c r p q (suc (suc zero)) (suc (suc (suc j))) k l e = absurd (not-suc-le-zero {n = 0} (omega (arith, l)))
 alike f P a b c r p q (suc (suc (suc i))) j k l e = absurd (not-suc-le-zero {n = 0} (omega (arith, k)))
 
-pub begun-alike : SomeOpen begun partly
-begun-alike =
+pub begun-agree : SomeOpen begun partly
+begun-agree =
     let t = begun-places in
     record {
       some-open = λ e. absurd (not-suc-le-zero {n = 0} (omega (arith, e)));
       no-other = omega arith;
-      open-alike = alike (λ i. item-at begun (0 + i)) (λ i j. bit 2 i ≡ bit 2 j) (t .0) (t .1) (t .2) (λ i. refl) refl refl;
-      value-alike = λ i j k l e b.
+      open-agree = alike (λ i. item-at begun (0 + i)) (λ i j. bit 2 i ≡ bit 2 j) (t .0) (t .1) (t .2) (λ i. refl) refl refl;
+      value-agree = λ i j k l e b.
           alike (λ n. item-at begun (0 + n)) (λ n h. value-at begun (0 + n) ≡ value-at begun (0 + h)) (t .0) (t .1) (t .2) (λ n. refl) begun-values (sym begun-values) i j k l e;
     }
 
@@ -161,6 +161,6 @@ begun-alike =
 pub begun-listed : given (deliver-all begun 2 (returns 0 5 ∷ [])) 0 ≡ listed (Value.Plain 9 ∷ Value.Plain 5 ∷ Value.Plain 9 ∷ [])
 unfolding gather first-raised in-order put-first outcome-of is-in
 begun-listed =
-    task-is-given-on begun 2 (task-id 0) partly (returns 0 5 ∷ []) begun-sized (omega arith) begun-awaited begun-alike refl begun-blocked
+    task-is-given-on begun 2 (task-id 0) partly (returns 0 5 ∷ []) begun-sized (omega arith) begun-awaited begun-agree refl begun-blocked
     (rw (begun-items, begun-done) (record { named = refl; first-time = refl; fits = tt }, tt))
     ∙ rw (begun-items, begun-done)

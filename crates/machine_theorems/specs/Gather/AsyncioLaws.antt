@@ -32,7 +32,7 @@ use Rattle.machine_laws.specs.DeliveryLaws.{awaited-object, awaited-fits, lengt
 use Rattle.machine_theorems.specs.Bounds.Bits.{SetBelow, has-set, none-set}
 use Rattle.machine_theorems.specs.Soundness.FillLaws.{hit, Stays, Fills, fill-stays, fill-fills, fill-less}
 use Rattle.machine_theorems.specs.Gather.GatherLaws.{outcome-kept, outcome-after, outcome-one, raised-kept, none-raised-yet, raised-first, in-order-waits, listed-waiting, gather-lists, gather-raises}
-use Rattle.machine_theorems.specs.Gather.Asyncio.{Done, value-in, item-at, items-from, values-from, items-in, items-of, seen-of, gathered, arrive-by, arrive, arrive-all, OutcomeFits, Arrives, ArriveOnce, AllOpen, Waits, Lists, Fails, Mid, still-waits, has-listed, has-failed}
+use Rattle.machine_theorems.specs.Gather.Asyncio.{Done, value-in, item-at, items-from, values-from, items-in, items-of, seen-of, gathered, arrive-by, arrive, arrive-all, OutcomeFits, Arrives, ArriveOnce, AllOpen, Waits, Lists, Fails, GatherAfter, still-waits, has-listed, has-failed}
 
 -- ---- places in a row
 
@@ -89,10 +89,10 @@ waits-seen s g aws done w h =
     (h .left (o .at) (o .under) (o .is-set))
 
 -- it is what the documentation says
-pub mid-gathers : (s : Store) (g : ℕ) (aws : List ℕ) (done : List Done) → Mid s g aws done → gathered s g ≡ gather aws done
-mid-gathers s g aws done (still-waits w h) = awaited-seen s g w (h .awaited) ∙ sym (waits-seen s g aws done w h) ∙ sym (gather-lists aws done (h .none-raised))
-mid-gathers s g aws done (has-listed vs h) = h .has-values ∙ sym (h .in-its-order) ∙ sym (gather-lists aws done (h .none-raised))
-mid-gathers s g aws done (has-failed e h) = h .propagates ∙ sym (gather-raises aws done e (h .first-one))
+pub after-gathers : (s : Store) (g : ℕ) (aws : List ℕ) (done : List Done) → GatherAfter s g aws done → gathered s g ≡ gather aws done
+after-gathers s g aws done (still-waits w h) = awaited-seen s g w (h .awaited) ∙ sym (waits-seen s g aws done w h) ∙ sym (gather-lists aws done (h .none-raised))
+after-gathers s g aws done (has-listed vs h) = h .has-values ∙ sym (h .in-its-order) ∙ sym (gather-lists aws done (h .none-raised))
+after-gathers s g aws done (has-failed e h) = h .propagates ∙ sym (gather-raises aws done e (h .first-one))
 
 -- ---- an arrival at a gather that is settled
 
@@ -101,7 +101,7 @@ unfolding arrive-by resolve-child resolve-awaited fail-gather fail-awaited
 settled-stays s g a (returned v) e = ap (λ (y : Option AwaitedGather). resolve-awaited s g a v y .store) e
 settled-stays s g a (raised x) e = ap (λ (y : Option AwaitedGather). fail-awaited s g x y .store) e
 
-failed-stays : (s u : Store) (g : ℕ) (aws : List ℕ) (done : List Done) (x : Done) (e : Error) → Fails s g aws done e → u ≡ s → Mid u g aws (done ++ (x ∷ []))
+failed-stays : (s u : Store) (g : ℕ) (aws : List ℕ) (done : List Done) (x : Done) (e : Error) → Fails s g aws done e → u ≡ s → GatherAfter u g aws (done ++ (x ∷ []))
 failed-stays s u g aws done x e h q = rw q (has-failed e (record {
   settled = h .settled;
   propagates = h .propagates;
@@ -120,7 +120,7 @@ unfolding fail-gather fail-awaited
 failed-object s g w e z l q f = rw q (object-put-object s g (Object.GatherFuture (w .first) (w .count) (GatherState.Failed e)) z l (awaited-fits s g w q .0, f))
 
 raised-arrives : (s : Store) (g : ℕ) (aws : List ℕ) (done : List Done) (w : AwaitedGather) (x : Done) (e : Error) → Sized s → g < object-limit
-    → Waits s g aws done w → Arrives aws done x → x .outcome ≡ raised e → ErrorFits e → Mid (fail-gather s g e .store) g aws (done ++ (x ∷ []))
+    → Waits s g aws done w → Arrives aws done x → x .outcome ≡ raised e → ErrorFits e → GatherAfter (fail-gather s g e .store) g aws (done ++ (x ∷ []))
 unfolding gathered seen-of as-awaited is-in
 raised-arrives s g aws done w x e z l h a o f =
     let q = failed-object s g w e z l (h .awaited) f in
@@ -235,7 +235,7 @@ module _ (s : Store) (g : ℕ) (aws : List ℕ) (done : List Done) (w : AwaitedG
   put-places-now r p = refl
 
   -- it is completed
-  completes : now .open-places ≡ 0 → Mid (put-now (Object.GatherFuture (w .first) (w .count) GatherState.Completed)) g aws after
+  completes : now .open-places ≡ 0 → GatherAfter (put-now (Object.GatherFuture (w .first) (w .count) GatherState.Completed)) g aws after
   unfolding gathered seen-of as-awaited
   completes e =
       let r : Object = Object.GatherFuture (w .first) (w .count) GatherState.Completed in
@@ -250,7 +250,7 @@ module _ (s : Store) (g : ℕ) (aws : List ℕ) (done : List Done) (w : AwaitedG
       })
 
   -- it waits on
-  waits-on : (now .open-places ≡ 0 → ⊥) → Mid (put-now (Object.GatherFuture (w .first) (w .count) (GatherState.Awaited (w .awaiter) (now .open-places)))) g aws after
+  waits-on : (now .open-places ≡ 0 → ⊥) → GatherAfter (put-now (Object.GatherFuture (w .first) (w .count) (GatherState.Awaited (w .awaiter) (now .open-places)))) g aws after
   unfolding as-awaited
   waits-on ne =
       let r : Object = Object.GatherFuture (w .first) (w .count) (GatherState.Awaited (w .awaiter) (now .open-places)) in
@@ -267,23 +267,23 @@ module _ (s : Store) (g : ℕ) (aws : List ℕ) (done : List Done) (w : AwaitedG
         none-raised = none-raised-yet aws [] done x v o (h .none-raised);
       })
 
-  returned-arrives : Mid (resolve-child s g (x .awaitable) v .store) g aws after
+  returned-arrives : GatherAfter (resolve-child s g (x .awaitable) v .store) g aws after
   unfolding resolve-child resolve-awaited resolve-left
   returned-arrives = rw (h .awaited) (by (eqb (now .open-places) 0) refl)
     where
-      by : (b : Bool) → eqb (now .open-places) 0 ≡ b → Mid (resolve-left b (put-places s (now .places)) g w (now .open-places) .store) g aws after
+      by : (b : Bool) → eqb (now .open-places) 0 ≡ b → GatherAfter (resolve-left b (put-places s (now .places)) g w (now .open-places) .store) g aws after
       by true e = completes (eqb-true (now .open-places) 0 e)
       by false e = waits-on (eqb-false (now .open-places) 0 e)
 
 -- ---- any arrival
 
 -- One arrival: the gather after it is the documentation's gather after it.
-pub arrives : (s : Store) (g : ℕ) (aws : List ℕ) (done : List Done) (x : Done) → Sized s → g < object-limit → Mid s g aws done → Arrives aws done x
-    → Mid (arrive s g x) g aws (done ++ (x ∷ []))
+pub arrives : (s : Store) (g : ℕ) (aws : List ℕ) (done : List Done) (x : Done) → Sized s → g < object-limit → GatherAfter s g aws done → Arrives aws done x
+    → GatherAfter (arrive s g x) g aws (done ++ (x ∷ []))
 unfolding arrive arrive-by
 arrives s g aws done x z l (still-waits w h) a = by (x .outcome) refl (a .fits)
   where
-    by : (o : Outcome Value Error) → x .outcome ≡ o → OutcomeFits o → Mid (arrive-by s g (x .awaitable) o) g aws (done ++ (x ∷ []))
+    by : (o : Outcome Value Error) → x .outcome ≡ o → OutcomeFits o → GatherAfter (arrive-by s g (x .awaitable) o) g aws (done ++ (x ∷ []))
     by (returned v) o f = returned-arrives s g aws done w x v z l h a o f
     by (raised e) o f = raised-arrives s g aws done w x e z l h a o f
 arrives s g aws done x z l (has-listed vs h) a = none-left s g aws done x vs h a
@@ -301,16 +301,16 @@ arrive-same s g x z l = by (x .outcome)
 -- ---- the theorems
 
 -- The gather of the awaitables aws, after the arrivals of `done` and then those of xs.
-pub gathers-from : (s : Store) (g : ℕ) (aws : List ℕ) (done xs : List Done) → Sized s → g < object-limit → Mid s g aws done → ArriveOnce aws done xs
+pub gathers-from : (s : Store) (g : ℕ) (aws : List ℕ) (done xs : List Done) → Sized s → g < object-limit → GatherAfter s g aws done → ArriveOnce aws done xs
     → gathered (arrive-all s g xs) g ≡ gather aws (done ++ xs)
 unfolding arrive-all
-gathers-from s g aws done [] z l h a = mid-gathers s g aws done h ∙ ap (gather aws) (sym (append-nil done))
+gathers-from s g aws done [] z l h a = after-gathers s g aws done h ∙ ap (gather aws) (sym (append-nil done))
 gathers-from s g aws done (x ∷ xs) z l h a =
     gathers-from (arrive s g x) g aws (done ++ (x ∷ [])) xs (arrive-same s g x z l .sized) l (arrives s g aws done x z l h (a .0)) (a .1)
     ∙ ap (gather aws) (append-assoc done (x ∷ []) xs)
 
 -- a gather of which no place is filled
-pub begins : (s : Store) (g : ℕ) (w : AwaitedGather) → as-awaited (object s g) ≡ some w → AllOpen w → Mid s g (items-of s g) []
+pub begins : (s : Store) (g : ℕ) (w : AwaitedGather) → as-awaited (object s g) ≡ some w → AllOpen w → GatherAfter s g (items-of s g) []
 unfolding items-of items-in outcome-of first-raised
 begins s g w e h = still-waits w (record {
   awaited = e;

@@ -18,18 +18,18 @@ use Rattle.asyncio.specs.Numbers.{heap-id}
 use Rattle.asyncio.specs.States.{pick, is-blocked}
 use Rattle.asyncio.specs.Limits.{object-limit, task-limit}
 use Rattle.asyncio.specs.Ranges.{StateFits}
-use Rattle.machine.specs.Store.{Store, task, put-task, object, place, put-object, put-places, restate, set-state, note, put-queue, reached}
+use Rattle.machine.specs.Store.{Store, task, put-task, object, place, put-object, put-places, restate, set-state, add-log, put-queue, reached}
 use Rattle.machine.specs.Scheduler.{AwaitedGather, as-awaited, live, make-ready, push-ready}
 use Rattle.machine.specs.Delivery.{Filled, fill-from, Settled, nobody-woken, deliver-to-task, resolve-left, resolve-awaited, resolve-child, fail-awaited, fail-gather, climb, send-value, climb-value, deliver-awaiter-success, send-error, climb-error, deliver-awaiter-failure, awaited-count}
 use Rattle.machine.specs.Gather.{Outcome, returned, raised, waiting, gather}
 use Rattle.machine_laws.specs.Views.{Sized}
 use Rattle.machine_laws.specs.Statements.{SameLive}
-use Rattle.machine_laws.specs.StoreLaws.{task-put-task, task-fits, sized-note, sized-put-queue, sized-set-state}
+use Rattle.machine_laws.specs.StoreLaws.{task-put-task, task-fits, sized-add-log, sized-put-queue, sized-set-state}
 use Rattle.machine_laws.specs.DeliveryLaws.{absurd-some, awaited-fits, success-climbs, failure-climbs, success-same, failure-same, same-live}
-use Rattle.machine_theorems.specs.Gather.Asyncio.{Done, items-of, seen-of, gathered, arrive-by, arrive, OutcomeFits, ArriveOnce, AllOpen, Mid}
-use Rattle.machine_theorems.specs.Gather.AsyncioLaws.{put-back, open-fits, failed-object, settled-stays, awaited-seen, mid-gathers, arrives, arrive-same, begins}
+use Rattle.machine_theorems.specs.Gather.Asyncio.{Done, items-of, seen-of, gathered, arrive-by, arrive, OutcomeFits, ArriveOnce, AllOpen, GatherAfter}
+use Rattle.machine_theorems.specs.Gather.AsyncioLaws.{put-back, open-fits, failed-object, settled-stays, awaited-seen, after-gathers, arrives, arrive-same, begins}
 use Rattle.machine_theorems.specs.Gather.Meanwhile.{SameGather}
-use Rattle.machine_theorems.specs.Gather.MeanwhileLaws.{mid-same}
+use Rattle.machine_theorems.specs.Gather.MeanwhileLaws.{during-same}
 use Rattle.machine_theorems.specs.Gather.Awaiting.{values-in, given-by, given, deliver-by, deliver, deliver-all, Serves, Numbered}
 
 -- ---- where an outcome goes on to
@@ -124,7 +124,7 @@ same-task s g a (raised x) t = by (as-awaited (object s g))
 -- a blocked task is given what comes to it
 woken-state : (s : Store) (t : ℕ) (y : TaskState) → Sized s → t < task-limit → StateFits y → is-blocked (task s t .state) ≡ true
     → task (deliver-to-task s t y .store) t .state ≡ y
-unfolding deliver-to-task make-ready push-ready note put-queue set-state restate task put-task
+unfolding deliver-to-task make-ready push-ready add-log put-queue set-state restate task put-task
 woken-state s t y z l f b =
     let r : Task = restate (task s t) y in
     let k : task (put-task s t r) t ≡ r = task-put-task s t r z l (record { state-fits = f; awaiter-fits = task-fits s t .awaiter-fits; coroutine-fits = task-fits s t .coroutine-fits }) in
@@ -132,12 +132,12 @@ woken-state s t y z l f b =
 
 -- and no gather is written
 task-leaves : (s : Store) (t : ℕ) (y : TaskState) (g : ℕ) → Sized s → SameGather s (deliver-to-task s t y .store) g
-unfolding deliver-to-task nobody-woken make-ready push-ready note put-queue set-state put-task object place
+unfolding deliver-to-task nobody-woken make-ready push-ready add-log put-queue set-state put-task object place
 task-leaves s t y g z = by (is-blocked (task s t .state))
   where
-    by : (b : Bool) → SameGather s (pick b (record { store = note (make-ready s t y) (reached t); woken = some t }) (nobody-woken s) .store) g
+    by : (b : Bool) → SameGather s (pick b (record { store = add-log (make-ready s t y) (reached t); woken = some t }) (nobody-woken s) .store) g
     by true = record {
-      sized = sized-note _ (reached t) (sized-put-queue _ _ (sized-set-state s t y z));
+      sized = sized-add-log _ (reached t) (sized-put-queue _ _ (sized-set-state s t y z));
       same-object = refl;
       same-places = λ f n x e i l. refl;
     }
@@ -244,14 +244,14 @@ given-seen s g t h = by (as-awaited (object s g)) refl
     by (some w) e = blocked-given s (task s (t .0) .state) (h .waits w e .1) ∙ sym (awaited-seen s g w e)
 
 -- From any state between two arrivals.
-pub task-is-given-from : (s : Store) (g : ℕ) (t : TaskId) (aws : List ℕ) (done xs : List Done) → Sized s → g < object-limit → Serves s g t → Mid s g aws done
+pub task-is-given-from : (s : Store) (g : ℕ) (t : TaskId) (aws : List ℕ) (done xs : List Done) → Sized s → g < object-limit → Serves s g t → GatherAfter s g aws done
     → ArriveOnce aws done xs → given (deliver-all s g xs) (t .0) ≡ gather aws (done ++ xs)
 unfolding deliver-all
-task-is-given-from s g t aws done [] z l h m a = given-seen s g t h ∙ mid-gathers s g aws done m ∙ ap (gather aws) (sym (append-nil done))
+task-is-given-from s g t aws done [] z l h m a = given-seen s g t h ∙ after-gathers s g aws done m ∙ ap (gather aws) (sym (append-nil done))
 task-is-given-from s g t aws done (x ∷ xs) z l h m a =
     let d = delivered s g t x z l (a .0 .fits) h in
     task-is-given-from (deliver s g x) g t aws (done ++ (x ∷ [])) xs (d .same .sized) l (d .serves)
-    (mid-same (arrive s g x) (deliver s g x) g (d .same) aws (done ++ (x ∷ [])) (arrives s g aws done x z l m (a .0))) (a .1)
+    (during-same (arrive s g x) (deliver s g x) g (d .same) aws (done ++ (x ∷ [])) (arrives s g aws done x z l m (a .0))) (a .1)
     ∙ ap (gather aws) (append-assoc done (x ∷ []) xs)
 
 -- an awaited gather serves its blocked awaiter

@@ -28,10 +28,10 @@ unfoldable pub done-before : Store → AwaitedGather → List Done
 done-before s w = done-from s (w .first) (w .open-places) 0 (w .count)
 
 -- A place is open, and no bit stands behind the places: both are clauses of soundness (PremiseLaws). Two places that name the same item are
--- both open, or both closed with the same value: this is no clause of soundness, but it holds in every session (`session-alike`).
+-- both open, or both closed with the same value: this is no clause of soundness, but it holds in every session (`session-agree`).
 pub record SomeOpen (s : Store) (w : AwaitedGather) : Type 0 where
   pub some-open : w .open-places ≡ 0 → ⊥
   pub no-other : w .open-places < 2 ^ (w .count)
-  pub open-alike : (i j : ℕ) → i < w .count → j < w .count → item-at s (w .first + i) ≡ item-at s (w .first + j) → bit (w .open-places) i ≡ bit (w .open-places) j
-  pub value-alike : (i j : ℕ) → i < w .count → j < w .count → item-at s (w .first + i) ≡ item-at s (w .first + j)
+  pub open-agree : (i j : ℕ) → i < w .count → j < w .count → item-at s (w .first + i) ≡ item-at s (w .first + j) → bit (w .open-places) i ≡ bit (w .open-places) j
+  pub value-agree : (i j : ℕ) → i < w .count → j < w .count → item-at s (w .first + i) ≡ item-at s (w .first + j)
       → bit (w .open-places) i ≡ false → value-at s (w .first + i) ≡ value-at s (w .first + j)

@@ -20,7 +20,7 @@ use Rattle.machine.specs.Gather.{returned, outcome-of, first-raised, gather}
 use Rattle.machine_laws.specs.Views.{Sized}
 use Rattle.machine_laws.specs.DeliveryLaws.{awaited-object}
 use Rattle.machine_theorems.specs.Gather.GatherLaws.{outcome-step, none-raised-in-front}
-use Rattle.machine_theorems.specs.Gather.Asyncio.{Done, item-at, items-in, items-of, gathered, arrive-all, ArriveOnce, Mid, still-waits}
+use Rattle.machine_theorems.specs.Gather.Asyncio.{Done, item-at, items-in, items-of, gathered, arrive-all, ArriveOnce, GatherAfter, still-waits}
 use Rattle.machine_theorems.specs.Gather.AsyncioLaws.{gathers-from}
 use Rattle.machine_theorems.specs.Gather.Awaiting.{given, deliver-all}
 use Rattle.machine_theorems.specs.Gather.AwaitingLaws.{serves-first, task-is-given-from}
@@ -89,7 +89,7 @@ module _ (s : Store) (f m : ℕ) where
           none-raised-in-front aws seen (filled-at s (f + i)) (done-from s f m (i + 1) k) (value-at s (f + i)) refl (go (item-at s (f + i) ∷ seen)) (go seen)
 
 -- an awaited gather is in the midst of its arrivals, those before being the ones that its closed places tell of
-pub has-begun : (s : Store) (g : ℕ) (w : AwaitedGather) → as-awaited (object s g) ≡ some w → SomeOpen s w → Mid s g (items-of s g) (done-before s w)
+pub has-begun : (s : Store) (g : ℕ) (w : AwaitedGather) → as-awaited (object s g) ≡ some w → SomeOpen s w → GatherAfter s g (items-of s g) (done-before s w)
 unfolding items-of items-in done-before value-at
 has-begun s g w e h = still-waits w (record {
   awaited = e;
@@ -97,9 +97,9 @@ has-begun s g w e h = still-waits w (record {
   some-open = h .some-open;
   no-other = h .no-other;
   left = λ i l b.
-      none-done s (w .first) (w .open-places) (w .count) 0 (item-at s (w .first + i)) (λ j lo hi c q. true≢false (sym b ∙ h .open-alike i j l (omega (arith, hi)) (sym q) ∙ c));
+      none-done s (w .first) (w .open-places) (w .count) 0 (item-at s (w .first + i)) (λ j lo hi c q. true≢false (sym b ∙ h .open-agree i j l (omega (arith, hi)) (sym q) ∙ c));
   filled = λ i l b.
-      one-done s (w .first) (w .open-places) (w .count) 0 i (omega arith) (omega (arith, l)) b (λ j lo hi c q. h .value-alike j i (omega (arith, hi)) l q c);
+      one-done s (w .first) (w .open-places) (w .count) 0 i (omega arith) (omega (arith, l)) b (λ j lo hi c q. h .value-agree j i (omega (arith, hi)) l q c);
   none-raised = nothing-raised s (w .first) (w .open-places) (w .count) 0 (items-of s g) [];
 })
 

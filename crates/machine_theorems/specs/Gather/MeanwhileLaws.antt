@@ -14,8 +14,8 @@ use Rattle.machine.specs.Gather.{returned, outcome-of, gather}
 use mathlib.Core.Option.{some}
 use Rattle.machine_laws.specs.Views.{Sized}
 use Rattle.machine_laws.specs.DeliveryLaws.{awaited-object}
-use Rattle.machine_theorems.specs.Gather.Asyncio.{Done, value-in, item-at, values-from, seen-of, gathered, arrive, ArriveOnce, Waits, Mid, still-waits, has-listed, has-failed}
-use Rattle.machine_theorems.specs.Gather.AsyncioLaws.{same-items, mid-gathers, arrives, arrive-same}
+use Rattle.machine_theorems.specs.Gather.Asyncio.{Done, value-in, item-at, values-from, seen-of, gathered, arrive, ArriveOnce, Waits, GatherAfter, still-waits, has-listed, has-failed}
+use Rattle.machine_theorems.specs.Gather.AsyncioLaws.{same-items, after-gathers, arrives, arrive-same}
 use Rattle.machine_theorems.specs.Gather.Meanwhile.{SameGather, Course, over, arrival, meanwhile}
 
 -- places with the same values
@@ -62,25 +62,25 @@ module _ (s u : Store) (g : ℕ) (k : SameGather s u g) where
       same i l = k .same-places (w .first) (w .count) (GatherState.Awaited (w .awaiter) (w .open-places)) (awaited-object (object s g) w (h .awaited)) i l
 
   -- what leaves the gather alone leaves it in the midst of the same arrivals
-  pub mid-same : (aws : List ℕ) (done : List Done) → Mid s g aws done → Mid u g aws done
-  mid-same aws done (still-waits w h) = still-waits w (waits-same aws done w h)
-  mid-same aws done (has-listed vs h) = has-listed vs (record {
+  pub during-same : (aws : List ℕ) (done : List Done) → GatherAfter s g aws done → GatherAfter u g aws done
+  during-same aws done (still-waits w h) = still-waits w (waits-same aws done w h)
+  during-same aws done (has-listed vs h) = has-listed vs (record {
     settled = ap as-awaited (k .same-object) ∙ h .settled;
     has-values = gathered-same ∙ h .has-values;
     in-its-order = h .in-its-order;
     none-raised = h .none-raised;
   })
-  mid-same aws done (has-failed e h) = has-failed e (record {
+  during-same aws done (has-failed e h) = has-failed e (record {
     settled = ap as-awaited (k .same-object) ∙ h .settled;
     propagates = gathered-same ∙ h .propagates;
     first-one = h .first-one;
   })
 
 -- The gather of the awaitables aws, after the arrivals of `done` and then those of xs, with anything in between that leaves it alone.
-pub gathers-meanwhile : (s u : Store) (g : ℕ) (aws : List ℕ) (done xs : List Done) → Sized s → g < object-limit → Mid s g aws done → ArriveOnce aws done xs
+pub gathers-meanwhile : (s u : Store) (g : ℕ) (aws : List ℕ) (done xs : List Done) → Sized s → g < object-limit → GatherAfter s g aws done → ArriveOnce aws done xs
     → Course g s xs u → gathered u g ≡ gather aws (done ++ xs)
-gathers-meanwhile s u g aws done xs z l h a (over t) = mid-gathers t g aws done h ∙ ap (gather aws) (sym (append-nil done))
+gathers-meanwhile s u g aws done xs z l h a (over t) = after-gathers t g aws done h ∙ ap (gather aws) (sym (append-nil done))
 gathers-meanwhile s u g aws done ys z l h a (arrival t v x xs c) =
     gathers-meanwhile (arrive t g x) v g aws (done ++ (x ∷ [])) xs (arrive-same t g x z l .sized) l (arrives t g aws done x z l h (a .0)) (a .1) c
     ∙ ap (gather aws) (append-assoc done (x ∷ []) xs)
-gathers-meanwhile s u g aws done ys z l h a (meanwhile t v r xs k c) = gathers-meanwhile v r g aws done xs (k .sized) l (mid-same t v g k aws done h) a c
+gathers-meanwhile s u g aws done ys z l h a (meanwhile t v r xs k c) = gathers-meanwhile v r g aws done xs (k .sized) l (during-same t v g k aws done h) a c

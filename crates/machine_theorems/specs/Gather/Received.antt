@@ -22,19 +22,19 @@ use Rattle.machine_theorems.specs.Gather.Meanwhile.{SameGather}
 
 -- What object o came to: as its row says, an external its value or error, a gather its list or error; a coroutine what its task ended with, which E says,
 -- for its row does not.
-pub data Came (E : ℕ → Outcome Value Error → Type 0) (x : Object) (o : ℕ) : Outcome Value Error → Type 0 where
-  external-resolved : (c : CallId) (v : Value) → x ≡ Object.ExternalFuture c (ExternalFutureState.Resolved v) → Came E x o (returned v)
-  external-failed : (c : CallId) (e : Error) → x ≡ Object.ExternalFuture c (ExternalFutureState.Failed e) → Came E x o (raised e)
-  gather-completed : (f n : ℕ) → x ≡ Object.GatherFuture f n GatherState.Completed → Came E x o (returned (Value.List (heap-id o)))
-  gather-failed : (f n : ℕ) (e : Error) → x ≡ Object.GatherFuture f n (GatherState.Failed e) → Came E x o (raised e)
-  coroutine-returned : (f : ℕ) (v : Value) → x ≡ Object.Coroutine f CoroutineState.Completed → E o (returned v) → Came E x o (returned v)
-  coroutine-raised : (f : ℕ) (y : CoroutineState) (e : Error) → x ≡ Object.Coroutine f y → E o (raised e) → Came E x o (raised e)
+pub data SettledTo (E : ℕ → Outcome Value Error → Type 0) (x : Object) (o : ℕ) : Outcome Value Error → Type 0 where
+  external-resolved : (c : CallId) (v : Value) → x ≡ Object.ExternalFuture c (ExternalFutureState.Resolved v) → SettledTo E x o (returned v)
+  external-failed : (c : CallId) (e : Error) → x ≡ Object.ExternalFuture c (ExternalFutureState.Failed e) → SettledTo E x o (raised e)
+  gather-completed : (f n : ℕ) → x ≡ Object.GatherFuture f n GatherState.Completed → SettledTo E x o (returned (Value.List (heap-id o)))
+  gather-failed : (f n : ℕ) (e : Error) → x ≡ Object.GatherFuture f n (GatherState.Failed e) → SettledTo E x o (raised e)
+  coroutine-returned : (f : ℕ) (v : Value) → x ≡ Object.Coroutine f CoroutineState.Completed → E o (returned v) → SettledTo E x o (returned v)
+  coroutine-raised : (f : ℕ) (y : CoroutineState) (e : Error) → x ≡ Object.Coroutine f y → E o (raised e) → SettledTo E x o (raised e)
 
 -- From store s to store u the arrivals xs come to the gather g. Each is of an item of an open place, which came to that outcome.
 pub data Received (E : ℕ → Outcome Value Error → Type 0) (g : ℕ) : Store → List Done → Store → Type 0 where
   ends : (s u : Store) → SameGather s u g → Received E g s [] u
   arrival : (s v u : Store) (w : AwaitedGather) (x : Done) (xs : List Done) → SameGather s v g → as-awaited (object v g) ≡ some w → Open (place v) w (x .awaitable)
-      → OutcomeFits (x .outcome) → Came E (object v (x .awaitable)) (x .awaitable) (x .outcome) → Received E g (arrive v g x) xs u → Received E g s (x ∷ xs) u
+      → OutcomeFits (x .outcome) → SettledTo E (object v (x .awaitable)) (x .awaitable) (x .outcome) → Received E g (arrive v g x) xs u → Received E g s (x ∷ xs) u
 
 -- some arrivals, and no object is lost
 pub record SomeReceived (E : ℕ → Outcome Value Error → Type 0) (g : ℕ) (s u : Store) : Type 0 where
@@ -49,26 +49,26 @@ abbrev pub raises-error : Error → Outcome Value Error
 raises-error e = raised e
 
 -- event e at store s ends the running task, which drives coroutine o, with outcome y
-unfoldable pub Own : Store → Event → ℕ → Outcome Value Error → Type 0
-Own s (Event.coroutine f) o y = ⊥
-Own s Event.call o y = ⊥
-Own s (Event.pending c r) o y = ⊥
-Own s (Event.settled v) o y = ⊥
-Own s (Event.gather os) o y = ⊥
-Own s (Event.await p) o y = ⊥
-Own s (Event.complete v) o y = (o ≡ task s (runner (header s .moment)) .coroutine .0) × (y ≡ returned v)
-Own s (Event.fail n) o y = (o ≡ task s (runner (header s .moment)) .coroutine .0) × (y ≡ raised (Error.Script n))
-Own s (Event.results rs) o y = ⊥
-Own s Event.resume o y = ⊥
-Own s (Event.cancel t) o y = ⊥
-Own s (Event.show p) o y = ⊥
-Own s Event.eager o y = ⊥
+unfoldable pub EndsTask : Store → Event → ℕ → Outcome Value Error → Type 0
+EndsTask s (Event.coroutine f) o y = ⊥
+EndsTask s Event.call o y = ⊥
+EndsTask s (Event.pending c r) o y = ⊥
+EndsTask s (Event.settled v) o y = ⊥
+EndsTask s (Event.gather os) o y = ⊥
+EndsTask s (Event.await p) o y = ⊥
+EndsTask s (Event.complete v) o y = (o ≡ task s (runner (header s .moment)) .coroutine .0) × (y ≡ returned v)
+EndsTask s (Event.fail n) o y = (o ≡ task s (runner (header s .moment)) .coroutine .0) × (y ≡ raised (Error.Script n))
+EndsTask s (Event.results rs) o y = ⊥
+EndsTask s Event.resume o y = ⊥
+EndsTask s (Event.cancel t) o y = ⊥
+EndsTask s (Event.show p) o y = ⊥
+EndsTask s Event.eager o y = ⊥
 
 -- or a task that an event starts finds its coroutine not new any more
-abbrev pub Ended : Store → Event → ℕ → Outcome Value Error → Type 0
-Ended s e o y = Own s e o y ⊎ (y ≡ raised Error.CoroutineReuse)
+abbrev pub EndsOrReuse : Store → Event → ℕ → Outcome Value Error → Type 0
+EndsOrReuse s e o y = EndsTask s e o y ⊎ (y ≡ raised Error.CoroutineReuse)
 
 -- in one of the events from store s on
-abbrev pub EndedIn : Store → List Event → ℕ → Outcome Value Error → Type 0
-EndedIn s [] o y = ⊥
-EndedIn s (e ∷ es) o y = Ended s e o y ⊎ EndedIn (step s e .store) es o y
+abbrev pub EndsIn : Store → List Event → ℕ → Outcome Value Error → Type 0
+EndsIn s [] o y = ⊥
+EndsIn s (e ∷ es) o y = EndsOrReuse s e o y ⊎ EndsIn (step s e .store) es o y

@@ -24,8 +24,8 @@ use Rattle.asyncio.specs.Numbers.{heap-id, task-id}
 use Rattle.asyncio.specs.States.{pick}
 use Rattle.asyncio.specs.Kinds.{kind}
 use Rattle.rows.specs.Tables.{object-at, header-at}
-use Rattle.machine.specs.Store.{Store, view, object, place, header, put-task, put-header, put-queue, set-next, note}
-use Rattle.machine.specs.Scheduler.{AwaitedGather, as-awaited, driver, push-ready, spawn-as, spawn-unless, spawn}
+use Rattle.machine.specs.Store.{Store, view, object, place, header, put-task, put-header, put-queue, set-next, add-log}
+use Rattle.machine.specs.Scheduler.{AwaitedGather, as-awaited, task-of, push-ready, spawn-as, spawn-unless, spawn}
 use Rattle.machine.specs.Commit.{Poll, ready, raised, pending, Polled, gives, await-pending, await-external, Item, polled, nested, polled-spawn, item-coroutine, item-gather, item-object, open-from, item}
 use Rattle.machine.specs.Commit.{open-place, fill-place, Stop, at-end, at-nested, at-error, put-polled, put-item, step-item, step-items, Frame, step-gather-commit, set-gather, open-gather-commit}
 use Rattle.machine.specs.Commit.{settle-as, settle-gather-commit, resume-in, resume-as, resume-after-child, unwind, Committed, turn, commit-loop, commit-gather-tree}
@@ -34,7 +34,7 @@ use Rattle.machine_laws.specs.StoreLaws.{object-put-header, header-put-header, 
 use borrow.Author.Tests.{ltb-true}
 use Rattle.machine_laws.specs.SizedLaws.{sized-spawn-as}
 use Rattle.machine_laws.specs.DeliveryLaws.{awaited-object}
-use Rattle.machine_theorems.specs.Soundness.Stores.{Whole}
+use Rattle.machine_theorems.specs.Soundness.Stores.{SoundStore}
 use Rattle.machine_theorems.specs.Soundness.Memory.{Memory}
 use Rattle.machine_theorems.specs.Soundness.CommitInv.{OnStack, OnTop, Stacked, above, Inv}
 use Rattle.machine_theorems.specs.Soundness.CommitLoop.{Commits, settle-next}
@@ -60,7 +60,7 @@ module _ (s : Store) (c o : ℕ) (z : Sized s) (l : header s .next < task-limit)
       record { made-fits = f .made-fits; used-fits = f .used-fits; calls-fit = f .calls-fit; next-fits = omega arith; moment-fits = f .moment-fits }
 
   words : spawn-as s (header s .next) c o .objects ≡ put-header u1 one-more .objects
-  unfolding spawn-as note push-ready put-queue set-next one-more u1 row
+  unfolding spawn-as add-log push-ready put-queue set-next one-more u1 row
   words = refl
 
   pub spawn-made : header (spawn-as s (header s .next) c o) .made ≡ header s .made
@@ -92,7 +92,7 @@ module _ (g : ℕ) where
         same = record {
           sized = sized-spawn-as s (header s .next) c o z;
           same-object = spawn-object s c o z l g;
-          same-places = λ f n x e i m. unfold place spawn-as note push-ready put-queue set-next put-header put-task in refl;
+          same-places = λ f n x e i m. unfold place spawn-as add-log push-ready put-queue set-next put-header put-task in refl;
         };
         made = omega (arith, spawn-made s c o z l);
       }
@@ -129,7 +129,7 @@ module _ (g : ℕ) where
 
     spawns : Untouched g s (polled-spawn s (spawn s o p) .store)
     unfolding spawn
-    spawns = by (driver s o)
+    spawns = by (task-of s o)
       where
         room : (b : Bool) → ltb (header s .next) task-limit ≡ b → Untouched g s (polled-spawn s (pick b (some (spawn-as s (header s .next) o p)) none) .store)
         room true e = unfold polled-spawn in (untouched-spawn s o p z (ltb-true (header s .next) task-limit e))
@@ -289,7 +289,7 @@ module _ (g : ℕ) where
       (omega (arith, h .inv .opened .under, inv-count root t (f .next) (f .gather) 0 (OnTop (f .gather) fs) fs s (h .inv))) (λ q. off (inl q)) c low)) off c low
 
   -- The commit of a gather o that the running task awaits leaves the gather g alone.
-  pub commit-untouched : (s : Store) (t : ℕ) (h : Whole s) → header s .moment ≡ Moment.Running (task-id t) → (o f n : ℕ) → o < header s .made
+  pub commit-untouched : (s : Store) (t : ℕ) (h : SoundStore s) → header s .moment ≡ Moment.Running (task-id t) → (o f n : ℕ) → o < header s .made
       → object s o ≡ Object.GatherFuture f n GatherState.Pending → WasCommitted s g → g < header s .made → Untouched g s (commit-gather-tree s o (Awaiter.Task (task-id t)) .store)
   unfolding commit-gather-tree LoopUntouched
   commit-untouched s t h m o f n l q c low =

@@ -22,17 +22,17 @@ use Rattle.asyncio.specs.States.{pick, is-live, is-blocked}
 use Rattle.asyncio.specs.Kinds.{kind, is-committed}
 use Rattle.queue.specs.Queue.{entries, occurrences}
 use Rattle.queue.specs.declared.ReadyQueue.{ReadyQueue}
-use Rattle.machine.specs.Store.{Store, view, task, object, place, header, put-task, put-object, put-queue, set-state, set-moment, note, absent, exited, removed}
+use Rattle.machine.specs.Store.{Store, view, task, object, place, header, put-task, put-object, put-queue, set-state, set-moment, add-log, absent, exited, removed}
 use Rattle.machine.specs.Scheduler.{AwaitedGather, bit, remove-from-ready-queue, remove-task, live-count, cancel-one, Walk, reach-if, reach, remove-blocked, still-live, visit-by, visit, visit-place, visit-open, walk-gather, walk-next, walk, walk-from, cancel-task, remove-from}
 use Rattle.machine.specs.Delivery.{Delivery, deliver-awaiter-failure}
 use Rattle.machine.specs.Events.{Switched, How, start, value, raises, run, yield, new-function, resume-next, resume-after-task-exit, handle-task-failure, start-by, start-task, activate-state, activate-within, activate}
 use Rattle.machine.specs.Gather.{Outcome, raised}
 use Rattle.machine_laws.specs.Views.{Sized}
 use Rattle.machine_laws.specs.Facts.{Nothing}
-use Rattle.machine_laws.specs.StoreLaws.{header-fits, sized-put-task, sized-put-queue, sized-note, sized-set-state}
-use Rattle.machine_theorems.specs.Soundness.Stores.{idle, Mid}
-use Rattle.machine_theorems.specs.Soundness.Deliver.{Landed, ErrorRises, failure-keeps}
-use Rattle.machine_theorems.specs.Soundness.Cycle.{task-rises, remove-keeps, next-by, exit-by}
+use Rattle.machine_laws.specs.StoreLaws.{header-fits, sized-put-task, sized-put-queue, sized-add-log, sized-set-state}
+use Rattle.machine_theorems.specs.Soundness.Stores.{idle, SoundDuring}
+use Rattle.machine_theorems.specs.Soundness.Deliver.{DeliveryEnds, ErrorRises, failure-keeps}
+use Rattle.machine_theorems.specs.Soundness.Cycle.{task-delivering, remove-keeps, next-by, exit-by}
 use Rattle.machine_theorems.specs.Bounds.FuelLaws.{sized-gone}
 use Rattle.machine_theorems.specs.Panics.NoPanicLaws.{Activated, starts, goes-on, raises-it, ready-activated, main-started, IsCoroutine, task-coroutine}
 use Rattle.machine_theorems.specs.Panics.NoPanicWoken.{failure-activated}
@@ -52,7 +52,7 @@ words-then : {s u v : Store} → Words s u → Words u v → Words s v
 words-then k l = record { objects = l .objects ∙ k .objects; places = l .places ∙ k .places }
 
 one-words : (s : Store) (t : ℕ) → Words s (cancel-one s t)
-unfolding cancel-one note remove-task remove-from-ready-queue put-queue put-task
+unfolding cancel-one add-log remove-task remove-from-ready-queue put-queue put-task
 one-words s t = record { objects = refl; places = refl }
 
 reach-words : (w : Walk) (o : ℕ) → reach w o .store ≡ w .store
@@ -70,7 +70,7 @@ blocked-words w t (some b) = subst (Words (w .store)) (sym (reach-words _ b)) (o
 
 visit-words : (w : Walk) (o : ℕ) → Words (w .store) (visit w o .store)
 unfolding visit
-visit-words w o = by (still-live (w .store .tasks) (w .drivers o))
+visit-words w o = by (still-live (w .store .tasks) (w .tasks-of o))
   where
     by : (t : Option ℕ) → Words (w .store) (visit-by w o t .store)
     by none = unfold visit-by in (subst (Words (w .store)) (sym (reach-words w o)) (words-refl (w .store)))
@@ -101,7 +101,7 @@ walk-words (suc k) w = by (w .stack) (λ x. walk-words k x)
   where
     by : (gs : List ℕ) → ((x : Walk) → Words (x .store) (walk k x)) → Words (w .store) (walk-next (λ x. walk k x) w gs)
     by [] f = unfold walk-next in (words-refl (w .store))
-    by (g ∷ gs) f = unfold walk-next in (words-then (gather-words (record { store = w .store; drivers = w .drivers; marks = w .marks; stack = gs }) _) (f _))
+    by (g ∷ gs) f = unfold walk-next in (words-then (gather-words (record { store = w .store; tasks-of = w .tasks-of; marks = w .marks; stack = gs }) _) (f _))
 
 pub cancel-words : (s : Store) (t : ℕ) → Words s (cancel-task s t)
 unfolding cancel-task walk-from
@@ -112,8 +112,8 @@ unfolding remove-from
 remove-words zero s t = words-refl s
 remove-words (suc k) s t = words-then (by (is-live (task s t .state))) (remove-words k _ (t + 1))
   where
-    by : (b : Bool) → Words s (pick b (note (put-task s t absent) (removed t)) s)
-    by true = unfold note put-task in (record { objects = refl; places = refl })
+    by : (b : Bool) → Words s (pick b (add-log (put-task s t absent) (removed t)) s)
+    by true = unfold add-log put-task in (record { objects = refl; places = refl })
     by false = words-refl s
 
 pub remove-sized : (k : ℕ) (s : Store) (t : ℕ) → Sized s → Sized (remove-from s t k)
@@ -121,8 +121,8 @@ unfolding remove-from
 remove-sized zero s t z = z
 remove-sized (suc k) s t z = remove-sized k _ (t + 1) (by (is-live (task s t .state)))
   where
-    by : (b : Bool) → Sized (pick b (note (put-task s t absent) (removed t)) s)
-    by true = sized-note _ (removed t) (sized-put-task s t absent z)
+    by : (b : Bool) → Sized (pick b (add-log (put-task s t absent) (removed t)) s)
+    by true = sized-add-log _ (removed t) (sized-put-task s t absent z)
     by false = z
 
 -- ---- switching tasks
@@ -148,9 +148,9 @@ module _ (g : ℕ) where
   pub queue-untouched : (s : Store) (q : ReadyQueue) → Sized s → Untouched g s (put-queue s q)
   queue-untouched s q z = untouched-words g s (put-queue s q) (unfold put-queue in refl) (unfold put-queue in refl) (sized-put-queue s q z)
 
-  pub gone-untouched : (s : Store) (t : ℕ) → Sized s → Untouched g s (note (remove-task s t) (exited t))
+  pub gone-untouched : (s : Store) (t : ℕ) → Sized s → Untouched g s (add-log (remove-task s t) (exited t))
   gone-untouched s t z =
-      untouched-words g s _ (unfold note remove-task remove-from-ready-queue put-queue put-task in refl) (unfold note remove-task remove-from-ready-queue put-queue put-task in refl) (sized-gone s t z)
+      untouched-words g s _ (unfold add-log remove-task remove-from-ready-queue put-queue put-task in refl) (unfold add-log remove-task remove-from-ready-queue put-queue put-task in refl) (sized-gone s t z)
 
   -- a coroutine is written
   pub coroutine-untouched : (s : Store) (o f : ℕ) (y : CoroutineState) (r : Object) → WasCommitted s g → object s o ≡ Object.Coroutine f y → Sized s → Untouched g s (put-object s o r)
@@ -162,30 +162,30 @@ module _ (g : ℕ) where
       plain CoroutineState.Completed = unfold kind in (λ z. z)
 
 module _ (g : ℕ) (D : ℕ → Type 0) (hd : Header) (low : g < hd .made) where
-  pub room : {P : ℕ → Type 0} {r : ℕ → Bool} (s : Store) → Mid P r D hd s → g < object-limit
+  pub room : {P : ℕ → Type 0} {r : ℕ → Bool} (s : Store) → SoundDuring P r D hd s → g < object-limit
   unfolding view
   room s h = omega (arith, subst (λ (y : Header). g < y .made) (sym (h .head)) low, h .kept .but .fits .made-fits)
 
 module _ (E : ℕ → Outcome Value Error → Type 0)
     (again : (o : ℕ) → E o (raised Error.CoroutineReuse)) (g : ℕ) (D : ℕ → Type 0) (hd : Header) (low : g < hd .made) where
-  task-room : {P : ℕ → Type 0} {r : ℕ → Bool} (s : Store) (t : ℕ) → t < hd .next → Mid P r D hd s → t < task-limit
+  task-room : {P : ℕ → Type 0} {r : ℕ → Bool} (s : Store) (t : ℕ) → t < hd .next → SoundDuring P r D hd s → t < task-limit
   unfolding view
   task-room s t l h = omega (arith, subst (λ (y : Header). t < y .next) (sym (h .head)) l, h .kept .but .fits .next-fits)
 
   -- a task is activated
   pub Receives : (Store → ℕ → Switched) → Type 0
   Receives act =
-      (s : Store) (t : ℕ) → t < hd .next → occurrences (entries (s .queue)) t ≡ 0 → Activated (task s t .state) → Mid Nothing idle D hd s → WasCommitted s g → SomeReceived E g s (act s t .store)
+      (s : Store) (t : ℕ) → t < hd .next → occurrences (entries (s .queue)) t ≡ 0 → Activated (task s t .state) → SoundDuring Nothing idle D hd s → WasCommitted s g → SomeReceived E g s (act s t .store)
 
   module _ (act : Store → ℕ → Switched) (go : Receives act) where
-    pub next-received : (s : Store) → Mid Nothing idle D hd s → WasCommitted s g → SomeReceived E g s (resume-next act s .store)
+    pub next-received : (s : Store) → SoundDuring Nothing idle D hd s → WasCommitted s g → SomeReceived E g s (resume-next act s .store)
     unfolding Receives put-queue task
     next-received s h c =
         next-by D hd (λ x y. SomeReceived E g s (x .store)) act act s h (received-none E g (yield-untouched g s (h .kept .memory .sized)))
         (λ q u l off r m. let k : Untouched g s (put-queue s q) = queue-untouched g s q (h .kept .memory .sized) in
         received-then E g (received-none E g k) (go (put-queue s q) u l off (ready-activated _ r) m (same-committed g (k .same) c)))
 
-    pub exit-received : (d : Delivery) → Landed idle D hd d → ((u : ℕ) → d .woken ≡ some u → Activated (task (remove-from-ready-queue (d .store) u) u .state)) → WasCommitted (d .store) g
+    pub exit-received : (d : Delivery) → DeliveryEnds idle D hd d → ((u : ℕ) → d .woken ≡ some u → Activated (task (remove-from-ready-queue (d .store) u) u .state)) → WasCommitted (d .store) g
         → SomeReceived E g (d .store) (resume-after-task-exit act d .store)
     unfolding Receives remove-from-ready-queue put-queue task
     exit-received d h active c =
@@ -197,7 +197,7 @@ module _ (E : ℕ → Outcome Value Error → Type 0)
 
     -- a live spawned task that is not blocked fails
     pub fails-received : (s : Store) (t : ℕ) (e : Error) (r : ℕ → Bool) → ErrorFits e → suc t < hd .next → T (is-live (task s (suc t) .state))
-        → is-blocked (task s (suc t) .state) ≡ false → ((u : ℕ) → (u ≡ suc t → ⊥) → r u ≡ false) → Mid Nothing r D hd s → WasCommitted s g
+        → is-blocked (task s (suc t) .state) ≡ false → ((u : ℕ) → (u ≡ suc t → ⊥) → r u ≡ false) → SoundDuring Nothing r D hd s → WasCommitted s g
         → E (task s (suc t) .coroutine .0) (raised e) → SomeReceived E g s (handle-task-failure act s (suc t) e .store)
     unfolding handle-task-failure view
     fails-received s t e r k l live free still h c en =
@@ -213,21 +213,21 @@ module _ (E : ℕ → Outcome Value Error → Type 0)
         o = task s (suc t) .coroutine .0
 
         up : ErrorRises r D hd o s a
-        up = task-rises s t h l live
+        up = task-delivering s t h l live
 
         is-one : IsCoroutine (view s) o
         is-one = task-coroutine (h .kept .but) t (subst (λ (y : Header). suc t < y .next) (sym (h .head)) l) live
 
-        sent : Landed r D hd (deliver-awaiter-failure s a e)
+        sent : DeliveryEnds r D hd (deliver-awaiter-failure s a e)
         sent = failure-keeps r D hd e k s o a up
 
         sent-received : SomeReceived E g s (deliver-awaiter-failure s a e .store)
         sent-received = failure-received E g r D hd low e k s o a up (coroutine-raised (is-one .function) (is-one .state) e (is-one .is) en)
 
-        gone : Untouched g (deliver-awaiter-failure s a e .store) (note (remove-task (deliver-awaiter-failure s a e .store) (suc t)) (exited (suc t)))
+        gone : Untouched g (deliver-awaiter-failure s a e .store) (add-log (remove-task (deliver-awaiter-failure s a e .store) (suc t)) (exited (suc t)))
         gone = gone-untouched g (deliver-awaiter-failure s a e .store) (suc t) (sent .mid .kept .memory .sized)
 
-    start-received : (s : Store) (t : ℕ) → suc t < hd .next → task s (suc t) .state ≡ TaskState.Unstarted → Mid Nothing idle D hd s → WasCommitted s g → SomeReceived E g s (start-task act s (suc t) .store)
+    start-received : (s : Store) (t : ℕ) → suc t < hd .next → task s (suc t) .state ≡ TaskState.Unstarted → SoundDuring Nothing idle D hd s → WasCommitted s g → SomeReceived E g s (start-task act s (suc t) .store)
     unfolding start-task start-by view
     start-received s t l fr h c = by (new-function (object s o))
       where
@@ -243,7 +243,7 @@ module _ (E : ℕ → Outcome Value Error → Type 0)
             let k : Untouched g s (put-object s o (Object.Coroutine f CoroutineState.Running)) = coroutine-untouched g s o (is-one .function) (is-one .state) _ c (is-one .is) (h .kept .memory .sized) in
             received-none E g (untouched-then g k (run-untouched g _ (suc t) (start o f) (task-room s (suc t) l h) (k .same .sized)))
 
-    state-received : (s : Store) (t : ℕ) (x : TaskState) → t < hd .next → task s t .state ≡ x → Activated x → Mid Nothing idle D hd s → WasCommitted s g → SomeReceived E g s (activate-state act s t x .store)
+    state-received : (s : Store) (t : ℕ) (x : TaskState) → t < hd .next → task s t .state ≡ x → Activated x → SoundDuring Nothing idle D hd s → WasCommitted s g → SomeReceived E g s (activate-state act s t x .store)
     unfolding activate-state view
     state-received s zero _ l e starts h c = absurd (main-started (h .kept .but) e)
     state-received s (suc t) _ l e starts h c = start-received s t l e h c

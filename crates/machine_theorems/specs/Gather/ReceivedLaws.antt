@@ -28,7 +28,7 @@ use Rattle.asyncio.specs.Parts.{count-of}
 use Rattle.rows.specs.Tables.{object-at, place-at, header-at}
 use Rattle.rows.specs.TableLaws.{place-at-other}
 use Rattle.machine.specs.Tests.{sum-below}
-use Rattle.machine.specs.Store.{Store, View, view, task, object, place, header, put-task, put-object, put-place, put-header, put-places, put-queue, set-state, note, reached}
+use Rattle.machine.specs.Store.{Store, View, view, task, object, place, header, put-task, put-object, put-place, put-header, put-places, put-queue, set-state, add-log, reached}
 use Rattle.machine.specs.Scheduler.{AwaitedGather, as-awaited, bit, make-ready, push-ready}
 use Rattle.machine.specs.Delivery.{Delivery, nobody-woken, deliver-to-task, Filled, fill-one, fill-from, Settled, resolve-left, resolve-awaited, resolve-child, fail-awaited, fail-gather, climb, awaited-count}
 use Rattle.machine.specs.Delivery.{send-value, climb-value, deliver-awaiter-success, send-error, climb-error, deliver-awaiter-failure}
@@ -37,17 +37,17 @@ use Rattle.machine.specs.Sound.{object-in-range, places-below}
 use Rattle.machine_laws.specs.Views.{Sized}
 use Rattle.machine_laws.specs.Facts.{Slotted, SoundBut, Nothing}
 use Rattle.machine_laws.specs.TestLaws.{both-left, sum-last, sum-more}
-use Rattle.machine_laws.specs.StoreLaws.{sized-put-place, place-put-other, header-put-object, header-put-header, sized-put-object, sized-put-header, sized-put-places, sized-put-queue, sized-note, sized-set-state, kind-put-object, object-put-object, object-put-other, object-put-header}
+use Rattle.machine_laws.specs.StoreLaws.{sized-put-place, place-put-other, header-put-object, header-put-header, sized-put-object, sized-put-header, sized-put-places, sized-put-queue, sized-add-log, sized-set-state, kind-put-object, object-put-object, object-put-other, object-put-header}
 use Rattle.machine_laws.specs.MakingLaws.{value-fits}
 use Rattle.machine_laws.specs.DeliveryLaws.{absurd-some, awaited-object, awaited-fits, length-fill-from, resolve-sent}
-use Rattle.machine_theorems.specs.Soundness.Stores.{Mid}
-use Rattle.machine_theorems.specs.Soundness.Deliver.{task-slot, Flight, landed, ErrorRises, error-sends}
+use Rattle.machine_theorems.specs.Soundness.Stores.{SoundDuring}
+use Rattle.machine_theorems.specs.Soundness.Deliver.{task-slot, Detached, landed, ErrorRises, error-sends}
 use Rattle.machine_theorems.specs.Soundness.Fill.{ValueRises, value-sends}
 use Rattle.machine_theorems.specs.Panics.NoPanicLaws.{slot-registered}
 use Rattle.machine_theorems.specs.Gather.Asyncio.{Done, OutcomeFits, arrive, arrive-by}
 use Rattle.machine_theorems.specs.Gather.AsyncioLaws.{settled-stays, arrive-same}
 use Rattle.machine_theorems.specs.Gather.Meanwhile.{SameGather}
-use Rattle.machine_theorems.specs.Gather.Received.{Came, external-resolved, external-failed, gather-completed, gather-failed, coroutine-returned, coroutine-raised, Received, ends, arrival, SomeReceived}
+use Rattle.machine_theorems.specs.Gather.Received.{SettledTo, external-resolved, external-failed, gather-completed, gather-failed, coroutine-returned, coroutine-raised, Received, ends, arrival, SomeReceived}
 
 -- ---- what leaves the gather alone
 
@@ -232,7 +232,7 @@ received-by-map : {E F : ℕ → Outcome Value Error → Type 0} (g : ℕ) {s u 
 received-by-map g m (ends s u k) = ends s u k
 received-by-map {E} {F} g m (arrival s v u w x xs k e op f c r) = arrival s v u w x xs k e op f (came c) (received-by-map g m r)
   where
-    came : {z : Object} {o : ℕ} {y : Outcome Value Error} → Came E z o y → Came F z o y
+    came : {z : Object} {o : ℕ} {y : Outcome Value Error} → SettledTo E z o y → SettledTo F z o y
     came (external-resolved d b q) = external-resolved d b q
     came (external-failed d b q) = external-failed d b q
     came (gather-completed d n q) = gather-completed d n q
@@ -246,19 +246,19 @@ received-map g m t = record { arrivals = t .arrivals; received = received-by-map
 -- ---- into a gather
 
 module _ (E : ℕ → Outcome Value Error → Type 0) (g : ℕ) (r : ℕ → Bool) (D : ℕ → Type 0) (hd : Header) (low : g < hd .made) where
-  made-in : {P : ℕ → Type 0} (s : Store) → Mid P r D hd s → g < header s .made
+  made-in : {P : ℕ → Type 0} (s : Store) → SoundDuring P r D hd s → g < header s .made
   made-in s h = subst (λ (y : Header). g < y .made) (sym (h .head)) low
 
-  limit : {P : ℕ → Type 0} (s : Store) → Mid P r D hd s → g < object-limit
+  limit : {P : ℕ → Type 0} (s : Store) → SoundDuring P r D hd s → g < object-limit
   unfolding view
   limit s h = omega (arith, made-in s h, h .kept .but .fits .made-fits)
 
-  slot-limit : {P : ℕ → Type 0} (s : Store) (o p x : ℕ) → Flight (view s) o (Awaiter.GatherSlot (heap-id p) (heap-id x)) → Mid P r D hd s → p < object-limit
+  slot-limit : {P : ℕ → Type 0} (s : Store) (o p x : ℕ) → Detached (view s) o (Awaiter.GatherSlot (heap-id p) (heap-id x)) → SoundDuring P r D hd s → p < object-limit
   unfolding view
   slot-limit s o p x fl h = omega (arith, fl .slot p x refl .made, h .kept .but .fits .made-fits)
 
   -- a value goes into another gather
-  other-resolves : (s : Store) (o x : ℕ) (v : Value) → Mid Nothing r D hd s → o < header s .made → (g ≡ o → ⊥) → Untouched g s (resolve-child s o x v .store)
+  other-resolves : (s : Store) (o x : ℕ) (v : Value) → SoundDuring Nothing r D hd s → o < header s .made → (g ≡ o → ⊥) → Untouched g s (resolve-child s o x v .store)
   unfolding view
   other-resolves s o x v h l ne =
       record {
@@ -295,15 +295,15 @@ module _ (E : ℕ → Outcome Value Error → Type 0) (g : ℕ) (r : ℕ → Boo
       by (some w) = unfold fail-awaited in (untouched-object g s o _ ne z)
 
   -- what goes into a gather g itself is an arrival, if it is awaited
-  arrives-at : (s : Store) (o x : ℕ) (y : Outcome Value Error) → Mid Nothing r D hd s → Slotted (header s .made) (object s) (place s) o g x → OutcomeFits y → Came E (object s o) o y
+  arrives-at : (s : Store) (o x : ℕ) (y : Outcome Value Error) → SoundDuring Nothing r D hd s → Slotted (header s .made) (object s) (place s) o g x → OutcomeFits y → SettledTo E (object s o) o y
       → SomeReceived E g s (arrive-by s g x y)
   arrives-at s o x y h sl f came = by (as-awaited (object s g)) refl
     where
       d : Done
       d = record { awaitable = x; outcome = y }
 
-      came-x : Came E (object s x) x y
-      came-x = subst (λ (j : ℕ). Came E (object s j) j y) (sym (sl .own)) came
+      came-x : SettledTo E (object s x) x y
+      came-x = subst (λ (j : ℕ). SettledTo E (object s j) j y) (sym (sl .own)) came
 
       sized-then : Sized (arrive s g d)
       sized-then = arrive-same s g d (h .kept .memory .sized) (limit s h) .sized
@@ -317,12 +317,12 @@ module _ (E : ℕ → Outcome Value Error → Type 0) (g : ℕ) (r : ℕ → Boo
       })
 
   -- a value goes into the gather of its slot
-  value-received : (s : Store) (o p x : ℕ) (v : Value) → ValueRises r D hd o v s (Awaiter.GatherSlot (heap-id p) (heap-id x)) → Came E (object s o) o (returned v)
+  value-received : (s : Store) (o p x : ℕ) (v : Value) → ValueRises r D hd o v s (Awaiter.GatherSlot (heap-id p) (heap-id x)) → SettledTo E (object s o) o (returned v)
       → SomeReceived E g s (resolve-child s p x v .store)
   unfolding view
   value-received s o p x v i came = by (ℕ-discrete g p)
     where
-      h : Mid Nothing r D hd s
+      h : SoundDuring Nothing r D hd s
       h = landed s (λ u z. task-slot (sym z)) (i .mid)
 
       sl : Slotted (header s .made) (object s) (place s) o p x
@@ -336,13 +336,13 @@ module _ (E : ℕ → Outcome Value Error → Type 0) (g : ℕ) (r : ℕ → Boo
       by (no ne) = received-none E g (other-resolves s p x v h (sl .made) ne)
 
   -- the gather has its list, if it sends it on
-  list-came : (s : Store) (p x : ℕ) (v : Value) → Sized s → p < object-limit → (b : Awaiter) → resolve-child s p x v .onward ≡ some b
-      → Came E (object (resolve-child s p x v .store) p) p (returned (Value.List (heap-id p)))
+  list-settled-to : (s : Store) (p x : ℕ) (v : Value) → Sized s → p < object-limit → (b : Awaiter) → resolve-child s p x v .onward ≡ some b
+      → SettledTo E (object (resolve-child s p x v .store) p) p (returned (Value.List (heap-id p)))
   unfolding resolve-child
-  list-came s p x v z l b e = by (as-awaited (object s p)) refl e
+  list-settled-to s p x v z l b e = by (as-awaited (object s p)) refl e
     where
       by : (w : Option AwaitedGather) → as-awaited (object s p) ≡ w → resolve-awaited s p x v w .onward ≡ some b
-          → Came E (object (resolve-awaited s p x v w .store) p) p (returned (Value.List (heap-id p)))
+          → SettledTo E (object (resolve-awaited s p x v w .store) p) p (returned (Value.List (heap-id p)))
       by none q e = unfold resolve-awaited in (absurd-some e)
       by (some w) q e = unfold resolve-awaited in (left (eqb (f .open-places) 0) e)
         where
@@ -353,18 +353,18 @@ module _ (E : ℕ → Outcome Value Error → Type 0) (g : ℕ) (r : ℕ → Boo
           z1 = sized-put-places s (f .places) (length-fill-from (w .count) (s .places) (w .open-places) (w .first) x v 0 ∙ z .places-sized) z
 
           left : (c : Bool) → resolve-left c (put-places s (f .places)) p w (f .open-places) .onward ≡ some b
-              → Came E (object (resolve-left c (put-places s (f .places)) p w (f .open-places) .store) p) p (returned (Value.List (heap-id p)))
+              → SettledTo E (object (resolve-left c (put-places s (f .places)) p w (f .open-places) .store) p) p (returned (Value.List (heap-id p)))
           left true e = unfold resolve-left in
               (gather-completed (w .first) (w .count) (object-put-object (put-places s (f .places)) p _ z1 l (awaited-fits s p w q .0, tt)))
           left false e = unfold resolve-left in (absurd-some e)
 
   -- an error goes there
-  error-received : (s : Store) (o p x : ℕ) (e : Error) → ErrorFits e → ErrorRises r D hd o s (Awaiter.GatherSlot (heap-id p) (heap-id x)) → Came E (object s o) o (raised e)
+  error-received : (s : Store) (o p x : ℕ) (e : Error) → ErrorFits e → ErrorRises r D hd o s (Awaiter.GatherSlot (heap-id p) (heap-id x)) → SettledTo E (object s o) o (raised e)
       → SomeReceived E g s (fail-gather s p e .store)
   unfolding view
   error-received s o p x e k i came = by (ℕ-discrete g p)
     where
-      h : Mid Nothing r D hd s
+      h : SoundDuring Nothing r D hd s
       h = landed s (λ u z. task-slot (sym z)) (i .mid)
 
       sl : Slotted (header s .made) (object s) (place s) o p x
@@ -377,12 +377,12 @@ module _ (E : ℕ → Outcome Value Error → Type 0) (g : ℕ) (r : ℕ → Boo
       by (no ne) = received-none E g (other-fails s p e (h .kept .memory .sized) ne)
 
   -- the gather has failed with it, if it sends it on
-  error-came : (s : Store) (p : ℕ) (e : Error) → ErrorFits e → Sized s → p < object-limit → (b : Awaiter) → fail-gather s p e .onward ≡ some b
-      → Came E (object (fail-gather s p e .store) p) p (raised e)
+  error-settled-to : (s : Store) (p : ℕ) (e : Error) → ErrorFits e → Sized s → p < object-limit → (b : Awaiter) → fail-gather s p e .onward ≡ some b
+      → SettledTo E (object (fail-gather s p e .store) p) p (raised e)
   unfolding fail-gather
-  error-came s p e k z l b o = by (as-awaited (object s p)) refl o
+  error-settled-to s p e k z l b o = by (as-awaited (object s p)) refl o
     where
-      by : (w : Option AwaitedGather) → as-awaited (object s p) ≡ w → fail-awaited s p e w .onward ≡ some b → Came E (object (fail-awaited s p e w .store) p) p (raised e)
+      by : (w : Option AwaitedGather) → as-awaited (object s p) ≡ w → fail-awaited s p e w .onward ≡ some b → SettledTo E (object (fail-awaited s p e w .store) p) p (raised e)
       by none q o = unfold fail-awaited in (absurd-some o)
       by (some w) q o = unfold fail-awaited in (gather-failed (w .first) (w .count) e (object-put-object s p _ z l (awaited-fits s p w q .0, k)))
 
@@ -392,8 +392,8 @@ module _ (E : ℕ → Outcome Value Error → Type 0) (g : ℕ) (r : ℕ → Boo
   unfolding deliver-to-task nobody-woken
   to-task-untouched s t x z =
       pick-has (λ (d : Delivery). Untouched g s (d .store)) (is-blocked (task s t .state))
-      (unfold make-ready push-ready in (untouched-words g s _ (unfold note put-queue set-state put-task in refl) (unfold note put-queue set-state put-task in refl)
-      (sized-note _ (reached t) (sized-put-queue _ _ (sized-set-state s t x z)))))
+      (unfold make-ready push-ready in (untouched-words g s _ (unfold add-log put-queue set-state put-task in refl) (unfold add-log put-queue set-state put-task in refl)
+      (sized-add-log _ (reached t) (sized-put-queue _ _ (sized-set-state s t x z)))))
       (untouched-refl g s z)
 
   climb-received : (go : Store → Awaiter → Delivery) (s : Store) (y : Settled) → SomeReceived E g s (y .store) → ((b : Awaiter) → y .onward ≡ some b → SomeReceived E g (y .store) (go (y .store) b .store))
@@ -405,44 +405,44 @@ module _ (E : ℕ → Outcome Value Error → Type 0) (g : ℕ) (r : ℕ → Boo
       by (some b) e = unfold climb in (received-then E g a (f b e))
 
   send-value-received : (go : Store → Awaiter → Value → Delivery)
-      → ((s : Store) (o : ℕ) (a : Awaiter) (v : Value) → ValueRises r D hd o v s a → Came E (object s o) o (returned v) → SomeReceived E g s (go s a v .store))
-      → (s : Store) (o : ℕ) (a : Awaiter) (v : Value) → ValueRises r D hd o v s a → Came E (object s o) o (returned v) → SomeReceived E g s (send-value go s a v .store)
+      → ((s : Store) (o : ℕ) (a : Awaiter) (v : Value) → ValueRises r D hd o v s a → SettledTo E (object s o) o (returned v) → SomeReceived E g s (go s a v .store))
+      → (s : Store) (o : ℕ) (a : Awaiter) (v : Value) → ValueRises r D hd o v s a → SettledTo E (object s o) o (returned v) → SomeReceived E g s (send-value go s a v .store)
   unfolding send-value
   send-value-received go f s o Awaiter.Nobody v i came = unfold nobody-woken in (received-none E g (untouched-refl g s (i .mid .kept .memory .sized)))
   send-value-received go f s o (Awaiter.Task t) v i came = received-none E g (to-task-untouched s (t .0) (TaskState.Woken v) (i .mid .kept .memory .sized))
   send-value-received go f s o (Awaiter.GatherSlot p x) v i came =
       climb-received (λ y a. go y a (Value.List p)) s (resolve-child s (p .0) (x .0) v) (value-received s o (p .0) (x .0) v i came)
       (λ b e. f _ (p .0) b (Value.List p) (value-sends r D hd s o (p .0) (x .0) v i .rises b e)
-      (list-came s (p .0) (x .0) v (i .mid .kept .memory .sized) (slot-limit s o (p .0) (x .0) (i .flight) (i .mid)) b e))
+      (list-settled-to s (p .0) (x .0) v (i .mid .kept .memory .sized) (slot-limit s o (p .0) (x .0) (i .flight) (i .mid)) b e))
 
-  climb-value-received : (n : ℕ) (s : Store) (o : ℕ) (a : Awaiter) (v : Value) → ValueRises r D hd o v s a → Came E (object s o) o (returned v) → SomeReceived E g s (climb-value n s a v .store)
+  climb-value-received : (n : ℕ) (s : Store) (o : ℕ) (a : Awaiter) (v : Value) → ValueRises r D hd o v s a → SettledTo E (object s o) o (returned v) → SomeReceived E g s (climb-value n s a v .store)
   unfolding climb-value
   climb-value-received zero s o a v i came = unfold nobody-woken in (received-none E g (untouched-refl g s (i .mid .kept .memory .sized)))
   climb-value-received (suc n) s o a v i came = send-value-received (λ y b w. climb-value n y b w) (λ y p b w j c. climb-value-received n y p b w j c) s o a v i came
 
   -- A value of object o goes to its awaiter.
-  pub success-received : (s : Store) (o : ℕ) (a : Awaiter) (v : Value) → ValueRises r D hd o v s a → Came E (object s o) o (returned v) → SomeReceived E g s (deliver-awaiter-success s a v .store)
+  pub success-received : (s : Store) (o : ℕ) (a : Awaiter) (v : Value) → ValueRises r D hd o v s a → SettledTo E (object s o) o (returned v) → SomeReceived E g s (deliver-awaiter-success s a v .store)
   unfolding deliver-awaiter-success
   success-received s o a v i came = send-value-received _ (λ y p b w j c. climb-value-received (awaited-count s) y p b w j c) s o a v i came
 
   module _ (e : Error) (k : ErrorFits e) where
     send-error-received : (go : Store → Awaiter → Error → Delivery)
-        → ((s : Store) (o : ℕ) (a : Awaiter) → ErrorRises r D hd o s a → Came E (object s o) o (raised e) → SomeReceived E g s (go s a e .store))
-        → (s : Store) (o : ℕ) (a : Awaiter) → ErrorRises r D hd o s a → Came E (object s o) o (raised e) → SomeReceived E g s (send-error go s a e .store)
+        → ((s : Store) (o : ℕ) (a : Awaiter) → ErrorRises r D hd o s a → SettledTo E (object s o) o (raised e) → SomeReceived E g s (go s a e .store))
+        → (s : Store) (o : ℕ) (a : Awaiter) → ErrorRises r D hd o s a → SettledTo E (object s o) o (raised e) → SomeReceived E g s (send-error go s a e .store)
     unfolding send-error
     send-error-received go f s o Awaiter.Nobody i came = unfold nobody-woken in (received-none E g (untouched-refl g s (i .mid .kept .memory .sized)))
     send-error-received go f s o (Awaiter.Task t) i came = received-none E g (to-task-untouched s (t .0) (TaskState.Raised e) (i .mid .kept .memory .sized))
     send-error-received go f s o (Awaiter.GatherSlot p x) i came =
         climb-received (λ y a. go y a e) s (fail-gather s (p .0) e) (error-received s o (p .0) (x .0) e k i came)
         (λ b q. f _ (p .0) b (error-sends r D hd e k s o (p .0) (x .0) i .rises b q)
-        (error-came s (p .0) e k (i .mid .kept .memory .sized) (slot-limit s o (p .0) (x .0) (i .flight) (i .mid)) b q))
+        (error-settled-to s (p .0) e k (i .mid .kept .memory .sized) (slot-limit s o (p .0) (x .0) (i .flight) (i .mid)) b q))
 
-    climb-error-received : (n : ℕ) (s : Store) (o : ℕ) (a : Awaiter) → ErrorRises r D hd o s a → Came E (object s o) o (raised e) → SomeReceived E g s (climb-error n s a e .store)
+    climb-error-received : (n : ℕ) (s : Store) (o : ℕ) (a : Awaiter) → ErrorRises r D hd o s a → SettledTo E (object s o) o (raised e) → SomeReceived E g s (climb-error n s a e .store)
     unfolding climb-error
     climb-error-received zero s o a i came = unfold nobody-woken in (received-none E g (untouched-refl g s (i .mid .kept .memory .sized)))
     climb-error-received (suc n) s o a i came = send-error-received (λ y b w. climb-error n y b w) (λ y p b j c. climb-error-received n y p b j c) s o a i came
 
     -- An error of object o goes there.
-    pub failure-received : (s : Store) (o : ℕ) (a : Awaiter) → ErrorRises r D hd o s a → Came E (object s o) o (raised e) → SomeReceived E g s (deliver-awaiter-failure s a e .store)
+    pub failure-received : (s : Store) (o : ℕ) (a : Awaiter) → ErrorRises r D hd o s a → SettledTo E (object s o) o (raised e) → SomeReceived E g s (deliver-awaiter-failure s a e .store)
     unfolding deliver-awaiter-failure
     failure-received s o a i came = send-error-received _ (λ y p b j c. climb-error-received (awaited-count s) y p b j c) s o a i came

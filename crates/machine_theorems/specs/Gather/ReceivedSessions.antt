@@ -30,7 +30,7 @@ use Rattle.asyncio.specs.Numbers.{heap-id, task-id}
 use Rattle.asyncio.specs.States.{pick, is-blocked}
 use Rattle.asyncio.specs.Kinds.{kind, is-completed}
 use Rattle.queue.specs.Queue.{empty-queue}
-use Rattle.machine.specs.Store.{Store, view, task, object, header, put-task, put-object, put-place, put-header, put-queue, set-state, set-calls, add-object, note, blocked, exited, forget}
+use Rattle.machine.specs.Store.{Store, view, task, object, header, put-task, put-object, put-place, put-header, put-queue, set-state, set-calls, add-object, add-log, blocked, exited, forget}
 use Rattle.machine.specs.Scheduler.{PendingExternal, as-pending, pending-external, pending-call-ids, remove-from-ready-queue, remove-task, cancel-task, remove-from, cleanup}
 use Rattle.machine.specs.Delivery.{deliver-awaiter-success, value-or, resolve-pending, fail-pending, settle-pending, settle-found, resolve-future, fail-future}
 use Rattle.machine.specs.Commit.{Poll, ready, raised, pending, await-pending, await-external, commit-gather-tree}
@@ -42,29 +42,29 @@ use Rattle.machine.specs.Sound.{value-known, runs-now}
 use Rattle.machine_laws.specs.Views.{Sized}
 use Rattle.machine_laws.specs.Facts.{Nothing}
 use Rattle.machine_laws.specs.TestLaws.{or-left, or-right}
-use Rattle.machine_laws.specs.StoreLaws.{header-fits, header-put-object, header-put-header, sized-set-state, sized-put-queue, sized-note, sized-forget, object-put-object, object-fits, task-fits}
+use Rattle.machine_laws.specs.StoreLaws.{header-fits, header-put-object, header-put-header, sized-set-state, sized-put-queue, sized-add-log, sized-forget, object-put-object, object-fits, task-fits}
 use Rattle.machine_laws.specs.SizedLaws.{sized-cancel-task}
 use Rattle.machine_laws.specs.MachineLaws.{accepted-step, refused-step}
 use Rattle.machine_laws.specs.SoundLaws.{pass, running-rest, refusal-rest, refusal-forget}
 use Rattle.machine_laws.specs.MakingLaws.{value-fits}
-use Rattle.machine_theorems.specs.Soundness.Stores.{idle, Mid, Whole, mid-of}
-use Rattle.machine_theorems.specs.Soundness.Results.{pending-object, resolve-rises, resolve-row, fail-rises, fail-row, MayApply, AllApply, host-fits, result-keeps, low}
-use Rattle.machine_theorems.specs.Soundness.Exits.{runner-low, runner-runs, runner-live, others-still, completion-rises, completion-lands, quiet-of}
+use Rattle.machine_theorems.specs.Soundness.Stores.{idle, SoundDuring, SoundStore, during-of}
+use Rattle.machine_theorems.specs.Soundness.Results.{pending-object, resolve-delivering, resolve-row, fail-delivering, fail-row, MayApply, AllApply, host-fits, result-keeps, low}
+use Rattle.machine_theorems.specs.Soundness.Exits.{runner-low, runner-runs, runner-live, others-commits-none, completion-delivering, completion-delivery-ends, only-changes-of}
 use Rattle.machine_theorems.specs.Soundness.Fill.{ValueRises}
 use Rattle.machine_theorems.specs.Soundness.Await.{wait-external}
 use Rattle.machine_theorems.specs.Soundness.AwaitGather.{EndOk, waits-blocks, commit-keeps}
 use Rattle.machine_theorems.specs.Soundness.Preserved.{InRange, running, waiting, await-made, complete-known, results-apply}
-use Rattle.machine_theorems.specs.Soundness.Sessions.{forget-whole, step-whole, AllInRange}
+use Rattle.machine_theorems.specs.Soundness.Sessions.{forget-sound-store, step-sound-store, AllInRange}
 use Rattle.machine_theorems.specs.Panics.NoPanicLaws.{IsCoroutine, task-coroutine, place-used}
 use Rattle.machine_theorems.specs.Panics.NoPanicWoken.{success-activated}
-use Rattle.machine_theorems.specs.Gather.Received.{external-resolved, external-failed, coroutine-returned, SomeReceived, raises-error, Own, Ended, EndedIn}
+use Rattle.machine_theorems.specs.Gather.Received.{external-resolved, external-failed, coroutine-returned, SomeReceived, raises-error, EndsTask, EndsOrReuse, EndsIn}
 use Rattle.machine_theorems.specs.Gather.ReceivedLaws.{Untouched, untouched-refl, untouched-then, untouched-words, untouched-object, untouched-header, untouched-place, WasCommitted, same-committed, other-than, received-then, received-none, received-committed, received-map, success-received, failure-received}
 use Rattle.machine_theorems.specs.Gather.ReceivedCommit.{commit-untouched}
 use Rattle.machine_theorems.specs.Gather.ReceivedEvents.{Words, cancel-words, remove-words, remove-sized, moment-untouched, gone-untouched, coroutine-untouched, room, next-received, exit-received, fails-received, activate-received}
 
 -- ---- results
 
-module _ (E : ℕ → Outcome Value Error → Type 0) (g : ℕ) {r : ℕ → Bool} {D : ℕ → Type 0} {hd : Header} (below : g < hd .made) (s : Store) (h : Mid Nothing r D hd s) (c : WasCommitted s g) where
+module _ (E : ℕ → Outcome Value Error → Type 0) (g : ℕ) {r : ℕ → Bool} {D : ℕ → Type 0} {hd : Header} (below : g < hd .made) (s : Store) (h : SoundDuring Nothing r D hd s) (c : WasCommitted s g) where
   -- the external that is settled is another object
   external-untouched : (o : ℕ) (p : PendingExternal) (x : Object) → as-pending (object s o) ≡ some p → Untouched g s (put-object s o x)
   external-untouched o p x e =
@@ -90,13 +90,13 @@ module _ (E : ℕ → Outcome Value Error → Type 0) (g : ℕ) {r : ℕ → Boo
   unfolding resolve-future resolve-pending
   resolve-received call v k =
       found-received call _ (λ o p l e. received-then E g (received-none E g (external-untouched o p _ e))
-      (success-received E g r D hd below _ o (p .awaiter) (value-or (p .stored) v) (resolve-rises s h v k o p l e) (external-resolved (p .call) _ (resolve-row s h v k o p l e))))
+      (success-received E g r D hd below _ o (p .awaiter) (value-or (p .stored) v) (resolve-delivering s h v k o p l e) (external-resolved (p .call) _ (resolve-row s h v k o p l e))))
 
   fail-received : (call : ℕ) (x : Error) → ErrorFits x → SomeReceived E g s (fail-future s call x)
   unfolding fail-future fail-pending
   fail-received call x k =
       found-received call _ (λ o p l e. received-then E g (received-none E g (external-untouched o p _ e))
-      (failure-received E g r D hd below x k _ o (p .awaiter) (fail-rises s h x k o p l e) (external-failed (p .call) x (fail-row s h x k o p l e))))
+      (failure-received E g r D hd below x k _ o (p .awaiter) (fail-delivering s h x k o p l e) (external-failed (p .call) x (fail-row s h x k o p l e))))
 
   result-received : (x : Result) → MayApply (hd .made) D x → SomeReceived E g s (apply-result s x)
   unfolding apply-result
@@ -112,7 +112,7 @@ module _ (E : ℕ → Outcome Value Error → Type 0) (g : ℕ) {r : ℕ → Boo
       by false e false false true = fail-received (x .call) Error.NotFound tt
       by false e false false false = fail-received (x .call) Error.ModuleFile tt
 
-pub results-received : (E : ℕ → Outcome Value Error → Type 0) (g : ℕ) {r : ℕ → Bool} {D : ℕ → Type 0} {hd : Header} (xs : List Result) (s : Store) → g < hd .made → AllApply (hd .made) D xs → Mid Nothing r D hd s → WasCommitted s g
+pub results-received : (E : ℕ → Outcome Value Error → Type 0) (g : ℕ) {r : ℕ → Bool} {D : ℕ → Type 0} {hd : Header} (xs : List Result) (s : Store) → g < hd .made → AllApply (hd .made) D xs → SoundDuring Nothing r D hd s → WasCommitted s g
     → SomeReceived E g s (apply-future-results s xs)
 unfolding apply-future-results AllApply
 results-received E g [] s below a h c = received-none E g (untouched-refl g s (h .kept .memory .sized))
@@ -124,14 +124,14 @@ results-received E g {D = D} {hd = hd} (x ∷ xs) s below a h c =
 
 -- the coroutine of a task that completed, when the task is gone
 pub completed-row : (s : Store) (o t f : ℕ) (y : CoroutineState) → Sized s → o < object-limit → object s o ≡ Object.Coroutine f y
-    → object (note (remove-task (put-object s o (completed (object s o))) t) (exited t)) o ≡ Object.Coroutine f CoroutineState.Completed
-unfolding object note remove-task remove-from-ready-queue put-queue put-task completed
+    → object (add-log (remove-task (put-object s o (completed (object s o))) t) (exited t)) o ≡ Object.Coroutine f CoroutineState.Completed
+unfolding object add-log remove-task remove-from-ready-queue put-queue put-task completed
 completed-row s o t f y z l e =
     ap (λ (x : Object). object (put-object s o (completed x)) o) e
     ∙ object-put-object s o (Object.Coroutine f CoroutineState.Completed) z l (subst ObjectFits e (object-fits s o))
 
 module _ (E : ℕ → Outcome Value Error → Type 0) (again : (o : ℕ) → E o (raises-error Error.CoroutineReuse))
-    (g : ℕ) (s : Store) (h : Whole s) (c : WasCommitted s g) (below : g < header s .made) where
+    (g : ℕ) (s : Store) (h : SoundStore s) (c : WasCommitted s g) (below : g < header s .made) where
   abbrev D0 : ℕ → Type 0
   D0 o = T (is-completed (kind (object s o)))
 
@@ -149,7 +149,7 @@ module _ (E : ℕ → Outcome Value Error → Type 0) (again : (o : ℕ) → E o
       → E (task s (suc t) .coroutine .0) (returned v) → SomeReceived E g s (handle-task-completion s (suc t) v .store)
   unfolding handle-task-completion view
   complete-received t v m k en =
-      received-then E g (received-none E g before) (received-then E g sent (exit-received E again g D0 (header s) below activate (activate-received E again g D0 (header s) below) _ (completion-lands s t v h m k)
+      received-then E g (received-none E g before) (received-then E g sent (exit-received E again g D0 (header s) below activate (activate-received E again g D0 (header s) below) _ (completion-delivery-ends s t v h m k)
       (success-activated left a v (rises .mid .kept .memory .sized) (task-fits s (suc t) .awaiter-fits) (value-fits (header s .made) (object s) v (h .facts .but .fits .made-fits) k))
       (received-committed E g (room g D0 (header s) below left (rises .mid)) sent (same-committed g (before .same) c))))
     where
@@ -163,7 +163,7 @@ module _ (E : ℕ → Outcome Value Error → Type 0) (again : (o : ℕ) → E o
       done = put-object s o (completed (object s o))
 
       left : Store
-      left = note (remove-task done (suc t)) (exited (suc t))
+      left = add-log (remove-task done (suc t)) (exited (suc t))
 
       is-one : IsCoroutine (view s) o
       is-one = task-coroutine (h .facts .but) t (runner-low s (suc t) h m) (runner-live s (suc t) h m)
@@ -175,7 +175,7 @@ module _ (E : ℕ → Outcome Value Error → Type 0) (again : (o : ℕ) → E o
       before = untouched-then g first (gone-untouched g done (suc t) (first .same .sized))
 
       rises : ValueRises idle D0 (header s) o v left a
-      rises = completion-rises s t v h m k
+      rises = completion-delivering s t v h m k
 
       row : object left o ≡ Object.Coroutine (is-one .function) CoroutineState.Completed
       row = completed-row s o (suc t) (is-one .function) (is-one .state) (h .memory .sized) (omega (arith, is-one .made, h .facts .but .fits .made-fits)) (is-one .is)
@@ -189,7 +189,7 @@ module _ (E : ℕ → Outcome Value Error → Type 0) (again : (o : ℕ) → E o
   fail-event-received (suc t) e m k en =
       rw (ne-eqb (suc t) 0 (λ q. omega arith))
       (fails-received E again g D0 (header s) below activate (activate-received E again g D0 (header s) below) s t e (runs-now (header s .moment)) k
-      (runner-low s (suc t) h m) (runner-live s (suc t) h m) (ap is-blocked (runner-runs s (suc t) h m)) (others-still s (suc t) h m) (mid-of s h) c en)
+      (runner-low s (suc t) h m) (runner-live s (suc t) h m) (ap is-blocked (runner-runs s (suc t) h m)) (others-commits-none s (suc t) h m) (during-of s h) c en)
 
   pub complete-event-received : (t : ℕ) (v : Value) → header s .moment ≡ Moment.Running (task-id t) → T (value-known (header s .made) (object s) v) → E (task s t .coroutine .0) (returned v) → SomeReceived E g s (task-completes s t v .store)
   unfolding task-completes end-main switched
@@ -202,7 +202,7 @@ module _ (E : ℕ → Outcome Value Error → Type 0) (again : (o : ℕ) → E o
     where
       by : (b : Bool) → SomeReceived E g s (pick b (record { store = s; answer = repeat-wait (pending-call-ids s) }) (switched (resume-next activate s)) .store)
       by true = here
-      by false = next-received E again g D0 (header s) below activate (activate-received E again g D0 (header s) below) s (quiet-of s h m) c
+      by false = next-received E again g D0 (header s) below activate (activate-received E again g D0 (header s) below) s (only-changes-of s h m) c
 
   pub cancel-received : (t : ℕ) → SomeReceived E g s (cancel-task s t)
   cancel-received t = let k : Words s (cancel-task s t) = cancel-words s t in received-none E g (untouched-words g s (cancel-task s t) (k .objects) (k .places) (sized-cancel-task s t (h .memory .sized)))
@@ -211,17 +211,17 @@ module _ (E : ℕ → Outcome Value Error → Type 0) (again : (o : ℕ) → E o
 
   module _ (t : ℕ) (m : header s .moment ≡ Moment.Running (task-id t)) where
     -- the awaiting task goes on, or blocks, and another runs
-    pub blocked-untouched : (x : Store) (o : ℕ) → Sized x → Untouched g x (note (set-state x t (TaskState.Blocked (heap-id o))) (blocked t))
-    unfolding note set-state put-task
+    pub blocked-untouched : (x : Store) (o : ℕ) → Sized x → Untouched g x (add-log (set-state x t (TaskState.Blocked (heap-id o))) (blocked t))
+    unfolding add-log set-state put-task
     blocked-untouched x o z =
-        untouched-words g x (note (set-state x t (TaskState.Blocked (heap-id o))) (blocked t)) refl refl (sized-note _ (blocked t) (sized-set-state x t (TaskState.Blocked (heap-id o)) z))
+        untouched-words g x (add-log (set-state x t (TaskState.Blocked (heap-id o))) (blocked t)) refl refl (sized-add-log _ (blocked t) (sized-set-state x t (TaskState.Blocked (heap-id o)) z))
 
-    blocks-received : (x : Store) (o n : ℕ) (D : ℕ → Type 0) → Untouched g s x → Mid Nothing idle D (header x) (note (set-state x t (TaskState.Blocked (heap-id o))) (blocked t))
+    blocks-received : (x : Store) (o n : ℕ) (D : ℕ → Type 0) → Untouched g s x → SoundDuring Nothing idle D (header x) (add-log (set-state x t (TaskState.Blocked (heap-id o))) (blocked t))
         → SomeReceived E g s (go-on t o n x pending .store)
     unfolding go-on
     blocks-received x o n D k b =
-        let stops : Untouched g x (note (set-state x t (TaskState.Blocked (heap-id o))) (blocked t)) = blocked-untouched x o (k .same .sized) in
-        let all : Untouched g s (note (set-state x t (TaskState.Blocked (heap-id o))) (blocked t)) = untouched-then g k stops in
+        let stops : Untouched g x (add-log (set-state x t (TaskState.Blocked (heap-id o))) (blocked t)) = blocked-untouched x o (k .same .sized) in
+        let all : Untouched g s (add-log (set-state x t (TaskState.Blocked (heap-id o))) (blocked t)) = untouched-then g k stops in
         let under : g < header x .made = omega (arith, k .made, below) in
         received-then E g (received-none E g all) (next-received E again g D (header x) under activate (activate-received E again g D (header x) under) _ b (same-committed g (all .same) c))
 
@@ -231,7 +231,7 @@ module _ (E : ℕ → Outcome Value Error → Type 0) (again : (o : ℕ) → E o
         let y : Object = Object.ExternalFuture d (ExternalFutureState.Pending (Awaiter.Task (task-id t)) r) in
         let k : Untouched g s (put-object s o y) = untouched-object g s o y (not-external o d _ e) (h .memory .sized) in
         blocks-received (put-object s o y) o 0 D0 k
-        (subst (λ (z : Header). Mid Nothing idle D0 z (note (set-state (put-object s o y) t (TaskState.Blocked (heap-id o))) (blocked t))) (sym (header-put-object s o y))
+        (subst (λ (z : Header). SoundDuring Nothing idle D0 z (add-log (set-state (put-object s o y) t (TaskState.Blocked (heap-id o))) (blocked t))) (sym (header-put-object s o y))
         (wait-external s t h m o (record { call = d; awaiter = Awaiter.Nobody; stored = r }) l (ap as-pending e ∙ pending-is d r) refl))
       where
         pending-is : (d : CallId) (r : OptionValue) → as-pending (Object.ExternalFuture d (ExternalFutureState.Pending Awaiter.Nobody r)) ≡ some (record { call = d; awaiter = Awaiter.Nobody; stored = r })
@@ -318,7 +318,7 @@ unfolding put-items header put-place
 items-header [] s p = refl
 items-header (o ∷ os) s p = items-header os (put-place s p (record { item = heap-id o; result = OptionValue.None })) (p + 1)
 
-module _ (g : ℕ) (s : Store) (h : Whole s) (below : g < header s .made) where
+module _ (g : ℕ) (s : Store) (h : SoundStore s) (below : g < header s .made) where
   pub room-for : full s ≡ false → header s .made < object-limit
   unfolding full
   room-for e = leb-false object-limit (header s .made) e
@@ -349,9 +349,9 @@ module _ (g : ℕ) (s : Store) (h : Whole s) (below : g < header s .made) where
 -- ---- each event
 
 module _ (E : ℕ → Outcome Value Error → Type 0) (again : (o : ℕ) → E o (raises-error Error.CoroutineReuse))
-    (g : ℕ) (s : Store) (h : Whole s) (c : WasCommitted s g) (below : g < header s .made) where
-  pub accept-received : (e : Event) → InRange e → refusal s e ≡ 0 → ((o : ℕ) (y : Outcome Value Error) → Own s e o y → E o y) → SomeReceived E g s (accept s e .store)
-  unfolding Own accept InRange refusals answer-await make-coroutine make-pending
+    (g : ℕ) (s : Store) (h : SoundStore s) (c : WasCommitted s g) (below : g < header s .made) where
+  pub accept-received : (e : Event) → InRange e → refusal s e ≡ 0 → ((o : ℕ) (y : Outcome Value Error) → EndsTask s e o y → E o y) → SomeReceived E g s (accept s e .store)
+  unfolding EndsTask accept InRange refusals answer-await make-coroutine make-pending
   accept-received (Event.coroutine f) i r up = received-none E g (makes-one g s h below _ (pass 6 (full s) [] (running-rest s _ (refusal-rest s (Event.coroutine f) r)) .0))
   accept-received Event.call i r up = received-none E g (calls-untouched g s (h .memory .sized) (leb-false call-limit (header s .calls) (number (pass 7 (no-number s) [] (running-rest s _ (refusal-rest s Event.call r)) .0))))
     where
@@ -372,15 +372,15 @@ module _ (E : ℕ → Outcome Value Error → Type 0) (again : (o : ℕ) → E o
   accept-received (Event.complete v) i r up =
       let q = refusal-rest s (Event.complete v) r in complete-event-received E again g s h c below (runner (header s .moment)) v (running s h _ q) (complete-known s h v q) (up _ (returned v) (refl, refl))
   accept-received (Event.fail n) i r up = fail-event-received E again g s h c below (runner (header s .moment)) (Error.Script n) (running s h _ (refusal-rest s (Event.fail n) r)) i (up _ (raises-error (Error.Script n)) (refl, refl))
-  accept-received (Event.results rs) i r up = results-received E g rs s below (results-apply s h rs (refusal-rest s (Event.results rs) r)) (mid-of s h) c
+  accept-received (Event.results rs) i r up = results-received E g rs s below (results-apply s h rs (refusal-rest s (Event.results rs) r)) (during-of s h) c
   accept-received Event.resume i r up = resume-received E again g s h c below (waiting s h [] (refusal-rest s Event.resume r) .0)
   accept-received (Event.cancel t) i r up = cancel-received E again g s h c below t
   accept-received (Event.show o) i r up = here E again g s h c below
   accept-received Event.eager i r up = here E again g s h c below
 
 -- how tasks end does not hang on what has happened before
-own-forget : (s : Store) (e : Event) (o : ℕ) (y : Outcome Value Error) → Own (forget s) e o y → Own s e o y
-unfolding Own task header forget
+own-forget : (s : Store) (e : Event) (o : ℕ) (y : Outcome Value Error) → EndsTask (forget s) e o y → EndsTask s e o y
+unfolding EndsTask task header forget
 own-forget s (Event.coroutine f) o y k = k
 own-forget s Event.call o y k = k
 own-forget s (Event.pending c r) o y k = k
@@ -396,11 +396,11 @@ own-forget s (Event.show p) o y k = k
 own-forget s Event.eager o y k = k
 
 -- One event, refused or done: arrivals at the gather g, and nothing else.
-pub step-received : (g : ℕ) (s : Store) (e : Event) → Whole s → InRange e → WasCommitted s g → g < header s .made → SomeReceived (Ended s e) g s (step s e .store)
+pub step-received : (g : ℕ) (s : Store) (e : Event) → SoundStore s → InRange e → WasCommitted s g → g < header s .made → SomeReceived (EndsOrReuse s e) g s (step s e .store)
 step-received g s e h i c below = by (ℕ-discrete (refusal s e) 0)
   where
     E : ℕ → Outcome Value Error → Type 0
-    E = Ended s e
+    E = EndsOrReuse s e
 
     forgets : Untouched g s (forget s)
     forgets = untouched-words g s (forget s) (unfold forget in refl) (unfold forget in refl) (sized-forget s (h .memory .sized))
@@ -408,17 +408,17 @@ step-received g s e h i c below = by (ℕ-discrete (refusal s e) 0)
     by : Dec (refusal s e ≡ 0) → SomeReceived E g s (step s e .store)
     by (yes r) =
         subst (λ (x : Step). SomeReceived E g s (x .store)) (sym (accepted-step s e r))
-        (received-then E g (received-none E g forgets) (accept-received E (λ o. inr refl) g (forget s) (forget-whole s h) (same-committed g (forgets .same) c) (omega (arith, forgets .made, below)) e i (refusal-forget s e ∙ r)
+        (received-then E g (received-none E g forgets) (accept-received E (λ o. inr refl) g (forget s) (forget-sound-store s h) (same-committed g (forgets .same) c) (omega (arith, forgets .made, below)) e i (refusal-forget s e ∙ r)
         (λ o y k. inl (own-forget s e o y k))))
     by (no ne) = subst (λ (x : Step). SomeReceived E g s (x .store)) (sym (refused-step s e (refusal s e) refl ne)) (received-none E g forgets)
 
 -- Any events.
-pub session-received : (es : List Event) (g : ℕ) (s : Store) → Whole s → AllInRange es → WasCommitted s g → g < header s .made → SomeReceived (EndedIn s es) g s (after s es)
+pub session-received : (es : List Event) (g : ℕ) (s : Store) → SoundStore s → AllInRange es → WasCommitted s g → g < header s .made → SomeReceived (EndsIn s es) g s (after s es)
 unfolding after AllInRange view
 session-received [] g s h i c below = received-none (λ o y. ⊥) g (untouched-refl g s (h .memory .sized))
 session-received (e ∷ es) g s h i c below =
-    let t : SomeReceived (Ended s e) g s (step s e .store) = step-received g s e h (i .0) c below in
+    let t : SomeReceived (EndsOrReuse s e) g s (step s e .store) = step-received g s e h (i .0) c below in
     let l : g < object-limit = omega (arith, below, h .facts .but .fits .made-fits) in
-    let r : SomeReceived (EndedIn (step s e .store) es) g (step s e .store) (after (step s e .store) es) =
-    session-received es g (step s e .store) (step-whole s h e (i .0)) (i .1) (received-committed (Ended s e) g l t c) (omega (arith, t .made, below)) in
-    received-then (EndedIn s (e ∷ es)) g (received-map g (λ o y k. inl k) t) (received-map g (λ o y k. inr k) r)
+    let r : SomeReceived (EndsIn (step s e .store) es) g (step s e .store) (after (step s e .store) es) =
+    session-received es g (step s e .store) (step-sound-store s h e (i .0)) (i .1) (received-committed (EndsOrReuse s e) g l t c) (omega (arith, t .made, below)) in
+    received-then (EndsIn s (e ∷ es)) g (received-map g (λ o y k. inl k) t) (received-map g (λ o y k. inr k) r)

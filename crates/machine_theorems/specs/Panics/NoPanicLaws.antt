@@ -34,7 +34,7 @@ use Rattle.queue.specs.QueueLaws.{length-entries, front-entry}
 use Rattle.machine.specs.Tests.{sum-below}
 use Rattle.machine.specs.Store.{Store, View, view, task, object, header}
 use Rattle.machine.specs.Scheduler.{AwaitedGather, PendingExternal, as-awaited, as-pending, bit, is-some, first-from, is-call, pending-external-in, pending-external}
-use Rattle.machine.specs.Scheduler.{driver, spawn-as, spawn-unless, spawn}
+use Rattle.machine.specs.Scheduler.{task-of, spawn-as, spawn-unless, spawn}
 use Rattle.machine.specs.Delivery.{fill-from}
 use Rattle.machine.specs.Commit.{Frame}
 use Rattle.rows.specs.Tables.{place-at}
@@ -46,8 +46,8 @@ use Rattle.machine_laws.specs.Facts.{Open, Slotted, SoundBut, Nothing}
 use Rattle.machine_laws.specs.TestLaws.{both-left, both-right, below, or-use, sum-last, sum-more}
 use Rattle.machine_laws.specs.SoundLaws.{pass}
 use Rattle.machine_laws.specs.DeliveryLaws.{absurd-some, awaited-object}
-use Rattle.machine_theorems.specs.Soundness.Stores.{Kept, Runs, Mid, Whole}
-use Rattle.machine_theorems.specs.Soundness.Deliver.{Flight}
+use Rattle.machine_theorems.specs.Soundness.Stores.{Kept, Runs, SoundDuring, SoundStore}
+use Rattle.machine_theorems.specs.Soundness.Deliver.{Detached}
 use Rattle.machine_theorems.specs.Bounds.Bits.{none-set}
 use Rattle.machine_theorems.specs.Soundness.Fill.{all-filled}
 use Rattle.machine_theorems.specs.Soundness.Results.{first-below}
@@ -113,7 +113,7 @@ front-activated s h ne = by (entries (s .queue)) refl
 
 -- ---- the running task
 
--- scheduler.rs:236, async_exec.rs:60, 426, 475: where task t runs, at the beginning of an event and in its midst (`Mid`, `Inv`, `After`), its state
+-- scheduler.rs:236, async_exec.rs:60, 426, 475: where task t runs, at the beginning of an event and in its midst (`SoundDuring`, `Inv`, `After`), its state
 -- is Running: it is live, and blocked on nothing
 pub current-runs : (t : ℕ) (v : View) → t < v .header .next → Runs (runs-now (Moment.Running (task-id t))) v → v .tasks t .state ≡ TaskState.Running
 unfolding runs-now
@@ -127,7 +127,7 @@ pub record Current (s : Store) : Type 0 where
   pub state : task s number .state ≡ TaskState.Running
 
 -- async_exec.rs:60, 426, 475: an event of running (refusal 4) has a current task
-pub current-task : (s : Store) → Whole s → is-run (header s .moment) ≡ true → Current s
+pub current-task : (s : Store) → SoundStore s → is-run (header s .moment) ≡ true → Current s
 unfolding is-run
 current-task s h e = by (header s .moment) refl
   where
@@ -219,7 +219,7 @@ committed-filled {v = v} {g = g} {i = i} h e z =
     all-of-rest (v .places) (h .w .first) (h .w .count) (h .w .open-places) z (rest-done (v .places) (v .header .made) (v .objects) g i (h .w) e (h .opened))
 
 -- async_exec.rs:1127: a gather that a value leaves with no place open has all its places filled
-pub delivered-filled : {r : ℕ → Bool} {D : ℕ → Type 0} {hd : Header} (s : Store) (g x : ℕ) (v : Value) (w : AwaitedGather) → Mid Nothing r D hd s → g < header s .made
+pub delivered-filled : {r : ℕ → Bool} {D : ℕ → Type 0} {hd : Header} (s : Store) (g x : ℕ) (v : Value) (w : AwaitedGather) → SoundDuring Nothing r D hd s → g < header s .made
     → as-awaited (object s g) ≡ some w → T (value-known (header s .made) (object s) v)
     → fill-from (s .places) (w .open-places) (w .first) x v 0 (w .count) .open-places ≡ 0
     → (i : ℕ) → i < w .count → T (is-filled (place-at (fill-from (s .places) (w .open-places) (w .first) x v 0 (w .count) .places) (w .first + i) .result))
@@ -292,9 +292,9 @@ module _ {k : ℕ} {P Q : ℕ → Type 0} {v : View} (h : SoundBut k P Q v) wher
   task-slotted = h .task-slots
 
 -- and of what is on its way up the gathers, when its object has it no more
-pub flight-slotted : {v : View} {o : ℕ} {a : Awaiter} → Flight v o a → (g x : ℕ) → a ≡ Awaiter.GatherSlot (heap-id g) (heap-id x)
+pub detached-slotted : {v : View} {o : ℕ} {a : Awaiter} → Detached v o a → (g x : ℕ) → a ≡ Awaiter.GatherSlot (heap-id g) (heap-id x)
     → Slotted (v .header .made) (v .objects) (v .places) o g x
-flight-slotted h = h .slot
+detached-slotted h = h .slot
 
 -- ---- pending calls
 
@@ -384,6 +384,6 @@ spawn-left {i = i} {Q = Q} s h l =
 
 -- so `spawn` spawns, unless a live task drives the coroutine
 pub spawn-room : {root t g i : ℕ} {Q : ℕ → Type 0} {fs : List Frame} (s : Store) (h : Inv root t 0 Q (view s) g i fs) → i < h .w .count
-    → (c : ℕ) → driver s c ≡ none → spawn s c g ≡ some (spawn-as s (header s .next) c g)
+    → (c : ℕ) → task-of s c ≡ none → spawn s c g ≡ some (spawn-as s (header s .next) c g)
 unfolding spawn spawn-unless
 spawn-room s h l c e = rw (e, lt-ltb (header s .next) task-limit (spawn-left s h l))

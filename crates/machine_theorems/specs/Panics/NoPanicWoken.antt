@@ -12,7 +12,7 @@ use Rattle.asyncio.specs.declared.Task.{Task}
 use Rattle.asyncio.specs.Limits.{task-limit}
 use Rattle.asyncio.specs.Ranges.{StateFits, AwaiterFits, ValueFits, ErrorFits}
 use Rattle.asyncio.specs.States.{pick, is-ready, is-blocked}
-use Rattle.machine.specs.Store.{Store, task, object, put-object, put-places, put-queue, set-state, restate, absent, note, reached, exited}
+use Rattle.machine.specs.Store.{Store, task, object, put-object, put-places, put-queue, set-state, restate, absent, add-log, reached, exited}
 use Rattle.machine.specs.Scheduler.{AwaitedGather, as-awaited, make-ready, push-ready, remove-from-ready-queue, remove-task}
 use Rattle.machine.specs.Delivery.{Delivery, nobody-woken, deliver-to-task, fill-from, resolve-left, resolve-awaited, resolve-child, fail-awaited, fail-gather, climb, awaited-count}
 use Rattle.machine.specs.Delivery.{send-value, climb-value, deliver-awaiter-success, send-error, climb-error, deliver-awaiter-failure}
@@ -49,14 +49,14 @@ task-wakes s t x z l f k = by (is-blocked (task s t .state)) refl
     row : Task
     row = restate (task s t) x
 
-    there : task (note (make-ready s t x) (reached t)) t .state ≡ x
-    there = unfold note make-ready push-ready put-queue set-state task restate in
+    there : task (add-log (make-ready s t x) (reached t)) t .state ≡ x
+    there = unfold add-log make-ready push-ready put-queue set-state task restate in
         (ap (λ (y : Task). y .state) (task-put-task s t row z l (restated-fits (task s t) x (task-fits s t) f)))
 
-    by : (b : Bool) → is-blocked (task s t .state) ≡ b → Wakes s (pick b (record { store = note (make-ready s t x) (reached t); woken = some t }) (nobody-woken s))
+    by : (b : Bool) → is-blocked (task s t .state) ≡ b → Wakes s (pick b (record { store = add-log (make-ready s t x) (reached t); woken = some t }) (nobody-woken s))
     by true e =
         record {
-          woke = λ u q. subst (Woke s (record { store = note (make-ready s t x) (reached t); woken = some t })) (Option·some-injective t u q)
+          woke = λ u q. subst (Woke s (record { store = add-log (make-ready s t x) (reached t); woken = some t })) (Option·some-injective t u q)
               (record { blocked = e; ready = subst (λ (y : TaskState). T (is-ready y)) (sym there) k });
         }
     by false e = nobody-wakes s s
@@ -145,8 +145,8 @@ success-activated s a v z f k u e = ready-activated _ (success-wakes s a v z f k
 -- scheduler.rs:197, 312: after a failure of task t, which is not blocked: it goes when its error was delivered, and is not the one woken
 pub failure-activated : (s : Store) (t : ℕ) (e : Error) → Sized s → ErrorFits e → is-blocked (task s t .state) ≡ false → (u : ℕ)
     → deliver-awaiter-failure s (task s t .awaiter) e .woken ≡ some u
-    → Activated (task (remove-from-ready-queue (note (remove-task (deliver-awaiter-failure s (task s t .awaiter) e .store) t) (exited t)) u) u .state)
-unfolding remove-from-ready-queue remove-task note put-queue task
+    → Activated (task (remove-from-ready-queue (add-log (remove-task (deliver-awaiter-failure s (task s t .awaiter) e .store) t) (exited t)) u) u .state)
+unfolding remove-from-ready-queue remove-task add-log put-queue task
 failure-activated s t e z k n u q =
     let d : Delivery = deliver-awaiter-failure s (task s t .awaiter) e in
     let w : Woke s d u = failure-wakes s (task s t .awaiter) e z (task-fits s t .awaiter-fits) k .woke u q in

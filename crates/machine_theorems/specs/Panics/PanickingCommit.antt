@@ -15,7 +15,7 @@ use Rattle.asyncio.specs.Limits.{task-limit}
 use Rattle.asyncio.specs.Numbers.{heap-id}
 use Rattle.asyncio.specs.States.{pick}
 use Rattle.machine.specs.Store.{Store, object, place, header, put-object}
-use Rattle.machine.specs.Scheduler.{AwaitedGather, as-awaited, driver, spawn-as}
+use Rattle.machine.specs.Scheduler.{AwaitedGather, as-awaited, task-of, spawn-as}
 use Rattle.machine.specs.Commit.{Poll, ready, raised, pending, Polled, gives, await-external, Item, polled, nested, item-gather, open-from, open-place, fill-place}
 use Rattle.machine.specs.Commit.{Stop, at-end, at-nested, at-error, Frame, Committed, pending-count}
 use Rattle.machine.specs.Sound.{rest-filled}
@@ -31,7 +31,7 @@ module _ (panic : Panics) where
 
   -- `item-coroutine`
   unfoldable pub coroutine-or-panic : Store → ℕ → ℕ → CoroutineState → Polled
-  coroutine-or-panic s g o CoroutineState.New = spawn-or-panic s o g (driver s o)
+  coroutine-or-panic s g o CoroutineState.New = spawn-or-panic s o g (task-of s o)
   coroutine-or-panic s g o CoroutineState.Running = gives s (raised Error.CoroutineReuse)
   coroutine-or-panic s g o CoroutineState.Completed = gives s (raised Error.CoroutineReuse)
 

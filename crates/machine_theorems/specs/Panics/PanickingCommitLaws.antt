@@ -20,14 +20,14 @@ use Rattle.asyncio.specs.Numbers.{heap-id, task-id}
 use Rattle.asyncio.specs.States.{pick}
 use Rattle.asyncio.specs.Parts.{count-of}
 use Rattle.machine.specs.Store.{Store, view, object, place, header}
-use Rattle.machine.specs.Scheduler.{AwaitedGather, as-awaited, driver, spawn-unless, spawn}
+use Rattle.machine.specs.Scheduler.{AwaitedGather, as-awaited, task-of, spawn-unless, spawn}
 use Rattle.machine.specs.Commit.{Poll, ready, raised, pending, Polled, gives, Item, polled, nested, polled-spawn, item-coroutine, item-object, open-from, item}
 use Rattle.machine.specs.Commit.{Stop, at-end, at-nested, at-error, put-polled, put-item, step-item, step-items, Frame, step-gather-commit, with-state, set-gather, open-gather-commit}
 use Rattle.machine.specs.Commit.{settle-as, settle-gather-commit, resume-in, resume-as, resume-after-child, unwind, Committed, turn, commit-loop, pending-count, commit-gather-tree}
 use Rattle.machine.specs.Sound.{rest-filled}
 use Rattle.machine_laws.specs.TestLaws.{is-true}
 use Rattle.machine_laws.specs.DeliveryLaws.{awaited-object, awaited-fits}
-use Rattle.machine_theorems.specs.Soundness.Stores.{Whole}
+use Rattle.machine_theorems.specs.Soundness.Stores.{SoundStore}
 use Rattle.machine_theorems.specs.Soundness.Deliver.{failed-done}
 use Rattle.machine_theorems.specs.Soundness.Memory.{Memory}
 use Rattle.machine_theorems.specs.Soundness.CommitInv.{OnTop, Stacked, above, Inv, settle-memory}
@@ -51,10 +51,10 @@ module _ (panic : Panics) where
     abbrev o : ℕ
     o = place s (w .first + i) .item .0
 
-    spawn-same : spawn-or-panic panic s o g (driver s o) ≡ polled-spawn s (spawn s o g)
-    spawn-same = by (driver s o) refl
+    spawn-same : spawn-or-panic panic s o g (task-of s o) ≡ polled-spawn s (spawn s o g)
+    spawn-same = by (task-of s o) refl
       where
-        by : (d : Option ℕ) → driver s o ≡ d → spawn-or-panic panic s o g d ≡ polled-spawn s (spawn s o g)
+        by : (d : Option ℕ) → task-of s o ≡ d → spawn-or-panic panic s o g d ≡ polled-spawn s (spawn s o g)
         by (some u) e = unfold spawn-or-panic spawn in (rw e (unfold spawn-unless polled-spawn in refl))
         by none e = unfold spawn-or-panic polled-spawn in (rw (lt-ltb (header s .next) task-limit (spawn-left s h less), spawn-room s h less o e))
 
@@ -233,7 +233,7 @@ module _ (panic : Panics) where
       (frame-stops root t s f fs h)
 
   -- The commit of a gather that the running task awaits reaches no panic.
-  pub commit-safe : (s : Store) (t : ℕ) (h : Whole s) → header s .moment ≡ Moment.Running (task-id t) → (g f n : ℕ) → g < header s .made
+  pub commit-safe : (s : Store) (t : ℕ) (h : SoundStore s) → header s .moment ≡ Moment.Running (task-id t) → (g f n : ℕ) → g < header s .made
       → object s g ≡ Object.GatherFuture f n GatherState.Pending → commit-or-panic panic s g (Awaiter.Task (task-id t)) ≡ commit-gather-tree s g (Awaiter.Task (task-id t))
   unfolding commit-or-panic commit-gather-tree SameLoop
   commit-safe s t h m g f n l q =

@@ -17,7 +17,7 @@ use Rattle.asyncio.specs.declared.Object.{Object}
 use Rattle.asyncio.specs.Layout.{to-value, to-error}
 use Rattle.asyncio.specs.States.{pick, is-blocked}
 use Rattle.rows.specs.Tables.{place-at, place-put}
-use Rattle.machine.specs.Store.{Store, task, object, place, put-object, put-places, note, reached}
+use Rattle.machine.specs.Store.{Store, task, object, place, put-object, put-places, add-log, reached}
 use Rattle.machine.specs.Scheduler.{AwaitedGather, PendingExternal, as-pending, bit, make-ready, pending-external}
 use Rattle.machine.specs.Delivery.{Delivery, nobody-woken, Filled, filled, Settled, climb, awaited-count, value-or}
 use Rattle.machine.specs.Commit.{open-from}
@@ -28,7 +28,7 @@ use Rattle.machine_theorems.specs.Panics.Panic.{Panics}
 module _ (panic : Panics) where
   -- `make-ready`: the task is blocked, so that it is there (scheduler.rs:197, 302)
   unfoldable pub ready-or-panic : Store → ℕ → TaskState → Delivery
-  ready-or-panic s t x = pick (is-blocked (task s t .state)) (record { store = note (make-ready s t x) (reached t); woken = some t }) (panic .delivery s)
+  ready-or-panic s t x = pick (is-blocked (task s t .state)) (record { store = add-log (make-ready s t x) (reached t); woken = some t }) (panic .delivery s)
 
   -- `deliver-to-task`
   unfoldable pub to-task-or-panic : Store → ℕ → TaskState → Delivery

@@ -21,7 +21,7 @@ use Rattle.asyncio.specs.Numbers.{heap-id}
 use Rattle.asyncio.specs.Layout.{to-value, to-error}
 use Rattle.asyncio.specs.States.{pick, is-blocked}
 use Rattle.asyncio.specs.Kinds.{kind, is-committed}
-use Rattle.machine.specs.Store.{Store, view, task, object, place, header, put-places, note, reached}
+use Rattle.machine.specs.Store.{Store, view, task, object, place, header, put-places, add-log, reached}
 use Rattle.machine.specs.Scheduler.{AwaitedGather, PendingExternal, as-awaited, as-pending, make-ready, pending-external}
 use Rattle.machine.specs.Delivery.{Delivery, nobody-woken, deliver-to-task, Filled, fill-one, fill-from, Settled, resolve-left, resolve-awaited, resolve-child, fail-awaited, fail-gather, climb, awaited-count}
 use Rattle.machine.specs.Delivery.{send-value, climb-value, deliver-awaiter-success, send-error, climb-error, deliver-awaiter-failure}
@@ -32,10 +32,10 @@ use Rattle.machine.specs.Sound.{value-known, rest-filled}
 use Rattle.machine_laws.specs.Facts.{Open, Slotted, Nothing}
 use Rattle.machine_laws.specs.FactLaws.{open-test}
 use Rattle.machine_laws.specs.TestLaws.{is-true}
-use Rattle.machine_theorems.specs.Soundness.Stores.{Mid}
+use Rattle.machine_theorems.specs.Soundness.Stores.{SoundDuring}
 use Rattle.machine_theorems.specs.Soundness.Deliver.{task-slot, landed, Sends, ErrorRises, error-sends}
 use Rattle.machine_theorems.specs.Soundness.Fill.{all-filled, ValueRises, value-sends}
-use Rattle.machine_theorems.specs.Soundness.Results.{resolve-rises, fail-rises, MayApply, AllApply, host-fits, result-keeps}
+use Rattle.machine_theorems.specs.Soundness.Results.{resolve-delivering, fail-delivering, MayApply, AllApply, host-fits, result-keeps}
 use Rattle.machine_theorems.specs.Panics.NoPanicLaws.{slot-registered, PendingOf, found-pending}
 use Rattle.machine_theorems.specs.Panics.Panic.{Panics}
 use Rattle.machine_theorems.specs.Panics.PanickingDelivery.{ready-or-panic, to-task-or-panic, fill-one-or-panic, fill-or-panic, left-or-panic, awaited-or-panic, child-or-panic, gather-or-panic}
@@ -51,7 +51,7 @@ module _ (panic : Panics) where
   to-task-same s t x = by (is-blocked (task s t .state)) refl
     where
       d : Delivery
-      d = record { store = note (make-ready s t x) (reached t); woken = some t }
+      d = record { store = add-log (make-ready s t x) (reached t); woken = some t }
 
       by : (b : Bool) → is-blocked (task s t .state) ≡ b → pick b (ready-or-panic panic s t x) (nobody-woken s) ≡ pick b d (nobody-woken s)
       by true e = unfold ready-or-panic in (rw e)
@@ -72,7 +72,7 @@ module _ (panic : Panics) where
       ∙ fill-same k _ _ first n source v (i + 1) (omega arith)
 
   -- a value of an awaited gather's child that is registered with it
-  module _ {r : ℕ → Bool} {D : ℕ → Type 0} {hd : Header} (s : Store) (g x : ℕ) (v : Value) (w : AwaitedGather) (h : Mid Nothing r D hd s)
+  module _ {r : ℕ → Bool} {D : ℕ → Type 0} {hd : Header} (s : Store) (g x : ℕ) (v : Value) (w : AwaitedGather) (h : SoundDuring Nothing r D hd s)
       (l : g < header s .made) (e : as-awaited (object s g) ≡ some w) (k : T (value-known (header s .made) (object s) v)) (op : Open (place s) w x) where
     abbrev f : Filled
     f = fill-from (s .places) (w .open-places) (w .first) x v 0 (w .count)
@@ -101,7 +101,7 @@ module _ (panic : Panics) where
   unfolding resolve-child view
   child-same r D hd s o g x v i = by (object s g) refl
     where
-      h : Mid Nothing r D hd s
+      h : SoundDuring Nothing r D hd s
       h = landed s (λ u z. task-slot (sym z)) (i .mid)
 
       sl : Slotted (header s .made) (object s) (place s) o g x
@@ -209,7 +209,7 @@ module _ (panic : Panics) where
 
   -- ---- from an external
 
-  module _ {r : ℕ → Bool} {D : ℕ → Type 0} {hd : Header} (s : Store) (h : Mid Nothing r D hd s) where
+  module _ {r : ℕ → Bool} {D : ℕ → Type 0} {hd : Header} (s : Store) (h : SoundDuring Nothing r D hd s) where
     -- what is found for a call is a pending external, in any store
     found-same : (call : ℕ) (go other : ℕ → PendingExternal → Store)
         → ((o : ℕ) (p : PendingExternal) → o < header s .made → as-pending (object s o) ≡ some p → go o p ≡ other o p)
@@ -225,11 +225,11 @@ module _ (panic : Panics) where
     resolve-future-safe : (call : ℕ) (v : Value) → T (value-known (header s .made) (object s) v) → resolve-future-or-panic panic s call v ≡ resolve-future s call v
     unfolding resolve-future-or-panic resolve-future resolve-or-panic resolve-pending
     resolve-future-safe call v k =
-        found-same call _ _ (λ o p l e. ap (λ (d : Delivery). d .store) (success-safe r D hd _ o (p .awaiter) (value-or (p .stored) v) (resolve-rises s h v k o p l e)))
+        found-same call _ _ (λ o p l e. ap (λ (d : Delivery). d .store) (success-safe r D hd _ o (p .awaiter) (value-or (p .stored) v) (resolve-delivering s h v k o p l e)))
 
     fail-future-safe : (call : ℕ) (x : Error) → ErrorFits x → fail-future-or-panic panic s call x ≡ fail-future s call x
     unfolding fail-future-or-panic fail-future fail-or-panic fail-pending
-    fail-future-safe call x k = found-same call _ _ (λ o p l e. ap (λ (d : Delivery). d .store) (failure-safe r D hd x k _ o (p .awaiter) (fail-rises s h x k o p l e)))
+    fail-future-safe call x k = found-same call _ _ (λ o p l e. ap (λ (d : Delivery). d .store) (failure-safe r D hd x k _ o (p .awaiter) (fail-delivering s h x k o p l e)))
 
     result-safe : (x : Result) → MayApply (hd .made) D x → result-or-panic panic s x ≡ apply-result s x
     unfolding result-or-panic apply-result
@@ -251,7 +251,7 @@ module _ (panic : Panics) where
         by false e false false false = fail-future-safe (x .call) Error.ModuleFile tt
 
   -- The event `results` reaches no panic.
-  pub results-safe : {r : ℕ → Bool} {D : ℕ → Type 0} {hd : Header} (xs : List Result) (s : Store) → AllApply (hd .made) D xs → Mid Nothing r D hd s
+  pub results-safe : {r : ℕ → Bool} {D : ℕ → Type 0} {hd : Header} (xs : List Result) (s : Store) → AllApply (hd .made) D xs → SoundDuring Nothing r D hd s
       → results-or-panic panic s xs ≡ apply-future-results s xs
   unfolding results-or-panic apply-future-results AllApply
   results-safe [] s a h = refl

@@ -14,7 +14,7 @@ use Rattle.asyncio.specs.declared.GatherState.{GatherState}
 use Rattle.asyncio.specs.declared.Object.{Object}
 use Rattle.asyncio.specs.Numbers.{heap-id, task-id}
 use Rattle.asyncio.specs.States.{pick, is-live, is-running}
-use Rattle.machine.specs.Store.{Store, task, object, put-object, set-state, note, blocked, exited}
+use Rattle.machine.specs.Store.{Store, task, object, put-object, set-state, add-log, blocked, exited}
 use Rattle.machine.specs.Scheduler.{pending-call-ids, remove-task, live-count}
 use Rattle.machine.specs.Delivery.{Delivery}
 use Rattle.machine.specs.Commit.{Poll, ready, raised, pending, Polled, Committed, await-external}
@@ -33,7 +33,7 @@ module _ (panic : Panics) where
     fails-or-panic s (suc t) e =
         let d : Delivery = failure-or-panic panic s (task s (suc t) .awaiter) e in
         pick (is-live (task s (suc t) .state))
-        (resume-after-task-exit act (record { store = note (remove-task (d .store) (suc t)) (exited (suc t)); woken = d .woken }))
+        (resume-after-task-exit act (record { store = add-log (remove-task (d .store) (suc t)) (exited (suc t)); woken = d .woken }))
         (panic .switch s (suc t))
 
     -- `start-by`, of the task's object: it is a coroutine (async_exec.rs:613, 638)
@@ -75,7 +75,7 @@ module _ (panic : Panics) where
   go-on-or-panic t o n s (ready v) = stays s t (value v) n
   go-on-or-panic t o n s (raised e) = stays s t (raises e) n
   go-on-or-panic t o n s pending =
-      let x : Switched = resume-next activate-or-panic (note (set-state s t (TaskState.Blocked (heap-id o))) (blocked t)) in
+      let x : Switched = resume-next activate-or-panic (add-log (set-state s t (TaskState.Blocked (heap-id o))) (blocked t)) in
       pick (is-running (task s t .state)) (record { store = x .store; control = x .control; steps = n }) (panic .awaited s)
 
   -- `await-external-future`
@@ -110,7 +110,7 @@ module _ (panic : Panics) where
   completed-or-panic s t v (Object.Coroutine f x) =
       let r : Task = task s t in
       let c : ℕ = r .coroutine .0 in
-      let left : Store = note (remove-task (put-object s c (Object.Coroutine f CoroutineState.Completed)) t) (exited t) in
+      let left : Store = add-log (remove-task (put-object s c (Object.Coroutine f CoroutineState.Completed)) t) (exited t) in
       resume-after-task-exit activate-or-panic (success-or-panic panic left (r .awaiter) v)
   completed-or-panic s t v (Object.ExternalFuture c x) = panic .switch s t
   completed-or-panic s t v (Object.GatherFuture f n x) = panic .switch s t

@@ -20,7 +20,7 @@ use Rattle.asyncio.specs.Numbers.{heap-id, task-id}
 use Rattle.asyncio.specs.States.{is-live, is-running, is-blocked}
 use Rattle.asyncio.specs.Kinds.{kind, is-completed}
 use Rattle.queue.specs.Queue.{entries, occurrences}
-use Rattle.machine.specs.Store.{Store, view, task, object, header, put-object, put-queue, set-state, note, blocked, exited}
+use Rattle.machine.specs.Store.{Store, view, task, object, header, put-object, put-queue, set-state, add-log, blocked, exited}
 use Rattle.machine.specs.Scheduler.{as-pending, remove-from-ready-queue, remove-task, live-count}
 use Rattle.machine.specs.Delivery.{Delivery, deliver-awaiter-success, deliver-awaiter-failure}
 use Rattle.machine.specs.Commit.{Poll, ready, raised, pending, Committed, await-pending, await-external, commit-gather-tree}
@@ -32,11 +32,11 @@ use Rattle.machine_laws.specs.Facts.{Nothing}
 use Rattle.machine_laws.specs.TestLaws.{is-true}
 use Rattle.machine_laws.specs.StoreLaws.{task-fits}
 use Rattle.machine_laws.specs.MakingLaws.{value-fits}
-use Rattle.machine_theorems.specs.Soundness.Stores.{idle, Mid, Whole, mid-of}
-use Rattle.machine_theorems.specs.Soundness.Deliver.{Landed, ErrorRises, failure-keeps}
+use Rattle.machine_theorems.specs.Soundness.Stores.{idle, SoundDuring, SoundStore, during-of}
+use Rattle.machine_theorems.specs.Soundness.Deliver.{DeliveryEnds, ErrorRises, failure-keeps}
 use Rattle.machine_theorems.specs.Soundness.Fill.{ValueRises}
-use Rattle.machine_theorems.specs.Soundness.Cycle.{task-rises, remove-keeps, next-by, exit-by}
-use Rattle.machine_theorems.specs.Soundness.Exits.{runner-low, runner-runs, runner-live, others-still, completion-rises, completion-lands, quiet-of}
+use Rattle.machine_theorems.specs.Soundness.Cycle.{task-delivering, remove-keeps, next-by, exit-by}
+use Rattle.machine_theorems.specs.Soundness.Exits.{runner-low, runner-runs, runner-live, others-commits-none, completion-delivering, completion-delivery-ends, only-changes-of}
 use Rattle.machine_theorems.specs.Soundness.Await.{wait-external}
 use Rattle.machine_theorems.specs.Soundness.AwaitGather.{EndOk, waits-runs, waits-blocks, commit-keeps}
 use Rattle.machine_theorems.specs.Panics.NoPanicLaws.{Activated, starts, goes-on, raises-it, ready-activated, main-started, IsCoroutine, task-coroutine}
@@ -52,17 +52,17 @@ module _ (panic : Panics) (D : ℕ → Type 0) (hd : Header) where
   -- two ways to activate do the same with a task that is to be started or to run on, in the midst of an event
   pub Same : (Store → ℕ → Switched) → (Store → ℕ → Switched) → Type 0
   Same act other =
-      (s : Store) (t : ℕ) → t < hd .next → occurrences (entries (s .queue)) t ≡ 0 → Activated (task s t .state) → Mid Nothing idle D hd s → act s t ≡ other s t
+      (s : Store) (t : ℕ) → t < hd .next → occurrences (entries (s .queue)) t ≡ 0 → Activated (task s t .state) → SoundDuring Nothing idle D hd s → act s t ≡ other s t
 
   module _ (act other : Store → ℕ → Switched) (go : Same act other) where
     -- the next ready task
-    pub next-same : (s : Store) → Mid Nothing idle D hd s → resume-next act s ≡ resume-next other s
+    pub next-same : (s : Store) → SoundDuring Nothing idle D hd s → resume-next act s ≡ resume-next other s
     unfolding Same put-queue task
     next-same s h =
         next-by D hd (λ x y. x ≡ y) act other s h refl (λ q u low off r m. go (put-queue s q) u low off (ready-activated _ r) m)
 
     -- after an exit: the task that it woke, or the next one
-    pub exit-same : (d : Delivery) → Landed idle D hd d → ((u : ℕ) → d .woken ≡ some u → Activated (task (remove-from-ready-queue (d .store) u) u .state))
+    pub exit-same : (d : Delivery) → DeliveryEnds idle D hd d → ((u : ℕ) → d .woken ≡ some u → Activated (task (remove-from-ready-queue (d .store) u) u .state))
         → resume-after-task-exit act d ≡ resume-after-task-exit other d
     unfolding Same remove-from-ready-queue put-queue task
     exit-same d h active =
@@ -71,12 +71,12 @@ module _ (panic : Panics) (D : ℕ → Type 0) (hd : Header) where
 
     -- a live spawned task that is not blocked fails
     pub failure-same : (s : Store) (t : ℕ) (e : Error) (r : ℕ → Bool) → ErrorFits e → suc t < hd .next → T (is-live (task s (suc t) .state))
-        → is-blocked (task s (suc t) .state) ≡ false → ((u : ℕ) → (u ≡ suc t → ⊥) → r u ≡ false) → Mid Nothing r D hd s
+        → is-blocked (task s (suc t) .state) ≡ false → ((u : ℕ) → (u ≡ suc t → ⊥) → r u ≡ false) → SoundDuring Nothing r D hd s
         → fails-or-panic panic act s (suc t) e ≡ handle-task-failure other s (suc t) e
     unfolding handle-task-failure fails-or-panic
     failure-same s t e r k low l free still h =
-        let up : ErrorRises r D hd (task s (suc t) .coroutine .0) s (task s (suc t) .awaiter) = task-rises s t h low l in
-        let sent : Landed r D hd (deliver-awaiter-failure s (task s (suc t) .awaiter) e) =
+        let up : ErrorRises r D hd (task s (suc t) .coroutine .0) s (task s (suc t) .awaiter) = task-delivering s t h low l in
+        let sent : DeliveryEnds r D hd (deliver-awaiter-failure s (task s (suc t) .awaiter) e) =
         failure-keeps r D hd e k s (task s (suc t) .coroutine .0) (task s (suc t) .awaiter) up in
         rw (is-true (is-live (task s (suc t) .state)) l, failure-safe panic r D hd e k s (task s (suc t) .coroutine .0) (task s (suc t) .awaiter) up)
         (exit-same _ (record {
@@ -85,7 +85,7 @@ module _ (panic : Panics) (D : ℕ → Type 0) (hd : Header) where
           woken = sent .woken;
         }) (failure-activated s (suc t) e (h .kept .memory .sized) k free))
 
-    start-same : (s : Store) (t : ℕ) → suc t < hd .next → task s (suc t) .state ≡ TaskState.Unstarted → Mid Nothing idle D hd s
+    start-same : (s : Store) (t : ℕ) → suc t < hd .next → task s (suc t) .state ≡ TaskState.Unstarted → SoundDuring Nothing idle D hd s
         → task-or-panic panic act s (suc t) ≡ start-task other s (suc t)
     unfolding start-task task-or-panic view
     start-same s t low fr h =
@@ -108,7 +108,7 @@ module _ (panic : Panics) (D : ℕ → Type 0) (hd : Header) where
         coroutine f CoroutineState.Running = unfold start-by new-function start-or-panic in fails
         coroutine f CoroutineState.Completed = unfold start-by new-function start-or-panic in fails
 
-    state-same : (s : Store) (t : ℕ) (x : TaskState) → t < hd .next → task s t .state ≡ x → Activated x → Mid Nothing idle D hd s
+    state-same : (s : Store) (t : ℕ) (x : TaskState) → t < hd .next → task s t .state ≡ x → Activated x → SoundDuring Nothing idle D hd s
         → state-or-panic panic act s t x ≡ activate-state other s t x
     unfolding activate-state state-or-panic view
     state-same s zero _ low e starts h = absurd (main-started (h .kept .but) e)
@@ -128,16 +128,16 @@ module _ (panic : Panics) (D : ℕ → Type 0) (hd : Header) where
   activate-same s t low off a h = within-same (live-count s) s t low off a h
 
   -- No panic is reached where no task runs and the next one is to go on.
-  pub next-safe : (s : Store) → Mid Nothing idle D hd s → resume-next (activate-or-panic panic) s ≡ resume-next activate s
+  pub next-safe : (s : Store) → SoundDuring Nothing idle D hd s → resume-next (activate-or-panic panic) s ≡ resume-next activate s
   next-safe s h = next-same (activate-or-panic panic) activate activate-same s h
 
   -- Nor where the value of a task that has completed was delivered.
-  pub landed-safe : (s : Store) (a : Awaiter) (v : Value) → Sized s → AwaiterFits a → ValueFits v → Landed idle D hd (deliver-awaiter-success s a v)
+  pub landed-safe : (s : Store) (a : Awaiter) (v : Value) → Sized s → AwaiterFits a → ValueFits v → DeliveryEnds idle D hd (deliver-awaiter-success s a v)
       → resume-after-task-exit (activate-or-panic panic) (deliver-awaiter-success s a v) ≡ resume-after-task-exit activate (deliver-awaiter-success s a v)
   landed-safe s a v z f k h = exit-same (activate-or-panic panic) activate activate-same (deliver-awaiter-success s a v) h (success-activated s a v z f k)
 
   -- Nor where a running task blocks.
-  pub blocks-safe : (t o n : ℕ) (s : Store) → task s t .state ≡ TaskState.Running → Mid Nothing idle D hd (note (set-state s t (TaskState.Blocked (heap-id o))) (blocked t))
+  pub blocks-safe : (t o n : ℕ) (s : Store) → task s t .state ≡ TaskState.Running → SoundDuring Nothing idle D hd (add-log (set-state s t (TaskState.Blocked (heap-id o))) (blocked t))
       → go-on-or-panic panic t o n s pending ≡ go-on t o n s pending
   unfolding go-on-or-panic go-on
   blocks-safe t o n s run h =
@@ -146,20 +146,20 @@ module _ (panic : Panics) (D : ℕ → Type 0) (hd : Header) where
 
 -- ---- events
 
-module _ (panic : Panics) (s : Store) (h : Whole s) where
+module _ (panic : Panics) (s : Store) (h : SoundStore s) where
   abbrev D0 : ℕ → Type 0
   D0 o = T (is-completed (kind (object s o)))
 
   -- The event `resume` reaches no panic.
   pub resume-safe : header s .moment ≡ Moment.Waiting → resume-next (activate-or-panic panic) s ≡ resume-next activate s
-  resume-safe m = next-safe panic D0 (header s) s (quiet-of s h m)
+  resume-safe m = next-safe panic D0 (header s) s (only-changes-of s h m)
 
   -- The event `fail`, of a spawned task, reaches no panic.
   pub fail-safe : (t : ℕ) (e : Error) → header s .moment ≡ Moment.Running (task-id (suc t)) → ErrorFits e
       → fails-or-panic panic (activate-or-panic panic) s (suc t) e ≡ handle-task-failure activate s (suc t) e
   fail-safe t e m k =
       failure-same panic D0 (header s) (activate-or-panic panic) activate (activate-same panic D0 (header s)) s t e (runs-now (header s .moment)) k
-      (runner-low s (suc t) h m) (runner-live s (suc t) h m) (ap is-blocked (runner-runs s (suc t) h m)) (others-still s (suc t) h m) (mid-of s h)
+      (runner-low s (suc t) h m) (runner-live s (suc t) h m) (ap is-blocked (runner-runs s (suc t) h m)) (others-commits-none s (suc t) h m) (during-of s h)
 
   -- The event `complete`, of a spawned task, reaches no panic.
   pub complete-safe : (t : ℕ) (v : Value) → header s .moment ≡ Moment.Running (task-id (suc t)) → T (value-known (header s .made) (object s) v)
@@ -169,7 +169,7 @@ module _ (panic : Panics) (s : Store) (h : Whole s) where
       rw (is-true (is-live (task s (suc t) .state)) live)
       (sends ∙ (ap (resume-after-task-exit (activate-or-panic panic)) (success-safe panic idle D0 (header s) left c a v rises)
       ∙ landed-safe panic D0 (header s) left a v (rises .mid .kept .memory .sized) (task-fits s (suc t) .awaiter-fits)
-      (value-fits (header s .made) (object s) v (h .facts .but .fits .made-fits) k) (completion-lands s t v h m k)))
+      (value-fits (header s .made) (object s) v (h .facts .but .fits .made-fits) k) (completion-delivery-ends s t v h m k)))
     where
       c : ℕ
       c = task s (suc t) .coroutine .0
@@ -178,13 +178,13 @@ module _ (panic : Panics) (s : Store) (h : Whole s) where
       a = task s (suc t) .awaiter
 
       left : Store
-      left = note (remove-task (put-object s c (completed (object s c))) (suc t)) (exited (suc t))
+      left = add-log (remove-task (put-object s c (completed (object s c))) (suc t)) (exited (suc t))
 
       live : T (is-live (task s (suc t) .state))
       live = runner-live s (suc t) h m
 
       rises : ValueRises idle D0 (header s) c v left a
-      rises = completion-rises s t v h m k
+      rises = completion-delivering s t v h m k
 
       is-one : IsCoroutine (view s) c
       is-one = task-coroutine (h .facts .but) t (runner-low s (suc t) h m) live
@@ -192,11 +192,11 @@ module _ (panic : Panics) (s : Store) (h : Whole s) where
       sends : completed-or-panic panic s (suc t) v (object s c) ≡ resume-after-task-exit (activate-or-panic panic) (success-or-panic panic left a v)
       sends =
           subst (λ (y : Object). completed-or-panic panic s (suc t) v y
-          ≡ resume-after-task-exit (activate-or-panic panic) (success-or-panic panic (note (remove-task (put-object s c (completed y)) (suc t)) (exited (suc t))) a v))
+          ≡ resume-after-task-exit (activate-or-panic panic) (success-or-panic panic (add-log (remove-task (put-object s c (completed y)) (suc t)) (exited (suc t))) a v))
           (sym (is-one .is)) (unfold completed-or-panic completed in refl)
 
 -- The event `await` reaches no panic.
-module _ (panic : Panics) (s : Store) (t : ℕ) (h : Whole s) (m : header s .moment ≡ Moment.Running (task-id t)) where
+module _ (panic : Panics) (s : Store) (t : ℕ) (h : SoundStore s) (m : header s .moment ≡ Moment.Running (task-id t)) where
   await-external-safe : (o : ℕ) (c : CallId) (x : ExternalFutureState) → o < header s .made → object s o ≡ Object.ExternalFuture c x
       → await-external-or-panic panic s t o c x ≡ await-external-future s t o c x
   unfolding await-external-or-panic await-external-future await-external await-pending

@@ -25,9 +25,9 @@ use Rattle.machine_laws.specs.Views.{Sized}
 use Rattle.machine_laws.specs.MachineLaws.{refused-step}
 use Rattle.machine_laws.specs.SizedLaws.{step-sized}
 use Rattle.machine_laws.specs.SoundLaws.{refusal-sound, refusal-rest, refusal-forget}
-use Rattle.machine_theorems.specs.Soundness.Stores.{Whole, whole-of, mid-of}
+use Rattle.machine_theorems.specs.Soundness.Stores.{SoundStore, sound-store-of, during-of}
 use Rattle.machine_theorems.specs.Soundness.Preserved.{InRange, running, waiting, await-made, complete-known, results-apply}
-use Rattle.machine_theorems.specs.Soundness.Sessions.{forget-whole, step-whole, AllInRange, fresh-whole}
+use Rattle.machine_theorems.specs.Soundness.Sessions.{forget-sound-store, step-sound-store, AllInRange, fresh-sound-store}
 use Rattle.machine_theorems.specs.Panics.NoPanicLaws.{registered-once}
 use Rattle.machine_theorems.specs.Panics.Panic.{Panics}
 use Rattle.machine_theorems.specs.Panics.PanickingDeliveryLaws.{results-safe}
@@ -38,7 +38,7 @@ use Rattle.machine_theorems.specs.Panics.PanickingMachine.{accept-or-pan
 module _ (panic : Panics) where
   -- ---- an event that no refusal meets
 
-  module _ (s : Store) (h : Whole s) where
+  module _ (s : Store) (h : SoundStore s) where
     current-same : (y : Moment) (f : ℕ → Step) → is-run y ≡ true → current-or-panic panic s y f ≡ f (runner y)
     unfolding current-or-panic runner is-run
     current-same (Moment.Running t) f e = refl
@@ -75,7 +75,7 @@ module _ (panic : Panics) where
 
     results-same : (rs : List Result) → first-refusal (refusals s (Event.results rs)) ≡ 0 → accept-or-panic panic s (Event.results rs) ≡ accept s (Event.results rs)
     unfolding accept-or-panic accept
-    results-same rs r = ap (λ (x : Store). record { store = x; answer = done }) (results-safe panic rs s (results-apply s h rs r) (mid-of s h))
+    results-same rs r = ap (λ (x : Store). record { store = x; answer = done }) (results-safe panic rs s (results-apply s h rs r) (during-of s h))
 
     accept-safe : (e : Event) → InRange e → refusal s e ≡ 0 → accept-or-panic panic s e ≡ accept s e
     unfolding accept-or-panic accept InRange refusals
@@ -108,7 +108,7 @@ module _ (panic : Panics) where
           ≡ pick b (accept (forget s) e) (record { store = forget s; answer = refused (refusal s e) })
       by true q =
           let r : refusal s e ≡ 0 = eqb-true (refusal s e) 0 q in
-          accept-safe (forget s) (forget-whole s (whole-of s z ids (refusal-sound s e r))) e i (refusal-forget s e ∙ r)
+          accept-safe (forget s) (forget-sound-store s (sound-store-of s z ids (refusal-sound s e r))) e i (refusal-forget s e ∙ r)
       by false q = refl
 
   -- ---- sessions
@@ -118,7 +118,7 @@ module _ (panic : Panics) where
   step-ids s e z ids i = by (eqb (refusal s e) 0) refl
     where
       by : (b : Bool) → eqb (refusal s e) 0 ≡ b → length (step s e .store .queue .ids) ≡ task-limit
-      by true q = step-whole s (whole-of s z ids (refusal-sound s e (eqb-true (refusal s e) 0 q))) e i .memory .ids
+      by true q = step-sound-store s (sound-store-of s z ids (refusal-sound s e (eqb-true (refusal s e) 0 q))) e i .memory .ids
       by false q = rw (refused-step s e (refusal s e) refl (eqb-false (refusal s e) 0 q)) (unfold forget in ids)
 
   after-safe : (es : List Event) (s : Store) → Sized s → length (s .queue .ids) ≡ task-limit → AllInRange es → after-or-panic panic s es ≡ after s es
@@ -137,4 +137,4 @@ module _ (panic : Panics) where
 
   -- No panic is reached by any events from a fresh session on: the store and the answers are the machine's.
   pub session-safe : (es : List Event) → AllInRange es → (after-or-panic panic fresh es ≡ after fresh es) × (answers-or-panic panic fresh es ≡ answers fresh es)
-  session-safe es i = (after-safe es fresh (fresh-whole .memory .sized) (fresh-whole .memory .ids) i, answers-safe es fresh (fresh-whole .memory .sized) (fresh-whole .memory .ids) i)
+  session-safe es i = (after-safe es fresh (fresh-sound-store .memory .sized) (fresh-sound-store .memory .ids) i, answers-safe es fresh (fresh-sound-store .memory .sized) (fresh-sound-store .memory .ids) i)

@@ -24,7 +24,7 @@ use Rattle.asyncio.specs.States.{is-live, is-running}
 use Rattle.asyncio.specs.Kinds.{kind, is-coroutine, is-completed, is-committed}
 use Rattle.asyncio.specs.Parts.{awaiter-of, count-of}
 use Rattle.queue.specs.Queue.{entries}
-use Rattle.machine.specs.Store.{Store, View, view, task, object, header, put-task, put-object, put-queue, note, set-state, restate, blocked}
+use Rattle.machine.specs.Store.{Store, View, view, task, object, header, put-task, put-object, put-queue, add-log, set-state, restate, blocked}
 use Rattle.machine.specs.Scheduler.{PendingExternal, as-awaited, as-pending, blocked-on}
 use Rattle.machine.specs.Commit.{await-pending, await-external}
 use Rattle.machine.specs.Events.{activate, stays, go-on, await-coroutine, await-external-future}
@@ -36,11 +36,11 @@ use Rattle.machine_laws.specs.DeliveryLaws.{absurd-some}
 use Rattle.machine_theorems.specs.Soundness.ReadyTasks.{not-queued, queued-same}
 use Rattle.machine_theorems.specs.Soundness.PutObject.{Fits}
 use Rattle.machine_theorems.specs.Soundness.PutTask.{with-task-queue, Closes, TaskWrite}
-use Rattle.machine_theorems.specs.Soundness.Stores.{Kept, Runs, idle, Mid, Whole, object-kept, task-kept, view-task-queue, note-mid, object-mid, mid-of, whole-mid}
+use Rattle.machine_theorems.specs.Soundness.Stores.{Kept, Runs, idle, SoundDuring, SoundStore, object-kept, task-kept, view-task-queue, add-log-during, object-during, during-of, sound-store-during}
 use Rattle.machine_theorems.specs.Soundness.Deliver.{nobody-task, restated-in-range, restated-fits}
 use Rattle.machine_theorems.specs.Soundness.Results.{pending-object}
 use Rattle.machine_theorems.specs.Soundness.Cycle.{coroutine-fits, next-keeps, activate-keeps}
-use Rattle.machine_theorems.specs.Soundness.Exits.{runner-low, runner-runs, others-still, still-on}
+use Rattle.machine_theorems.specs.Soundness.Exits.{runner-low, runner-runs, others-commits-none, commits-none-on}
 
 -- ---- the awaiting task blocks
 
@@ -87,9 +87,9 @@ module _ (s : Store) (t o : ℕ) (r : ℕ → Bool) (low : t < header s .next) (
       closed p (no d) = inl d
 
   pub block-keeps : {D : ℕ → Type 0} {hd : Header} → ((u : ℕ) → (u ≡ t → ⊥) → r u ≡ false) → Runs r (view s) → ((p : ℕ) → D p → T (is-completed (kind (object s p))))
-      → header s ≡ hd → Mid Nothing idle D hd (note (set-state s t (TaskState.Blocked (heap-id o))) (blocked t))
+      → header s ≡ hd → SoundDuring Nothing idle D hd (add-log (set-state s t (TaskState.Blocked (heap-id o))) (blocked t))
   unfolding set-state put-task put-queue
-  block-keeps {D} {hd} still rn dn head = note-mid (put-task s t row) mid (blocked t)
+  block-keeps {D} {hd} still rn dn head = add-log-during (put-task s t row) mid (blocked t)
     where
       room : t < task-limit
       room = unfold view in (omega (arith, low, h .but .fits .next-fits))
@@ -98,7 +98,7 @@ module _ (s : Store) (t o : ℕ) (r : ℕ → Bool) (low : t < header s .next) (
       now u l = unfold with-task-queue view restate in
           (update-case (task s) t row (λ (y : Task). is-running (y .state) ≡ false) u (λ q. refl) (λ d. rn u l ∙ still u d))
 
-      mid : Mid Nothing idle D hd (put-queue (put-task s t row) (s .queue))
+      mid : SoundDuring Nothing idle D hd (put-queue (put-task s t row) (s .queue))
       mid =
           record {
             kept = task-kept s h t row (s .queue) low (restated-fits (task s t) (TaskState.Blocked (heap-id o)) (task-fits s t) (unfold view in (omega (arith, made, h .but .fits .made-fits))))
@@ -143,7 +143,7 @@ takes-fits k Q Q' v o p a l e free range awaited slot commit =
 
 -- ---- the event `await`, of an external and of a coroutine
 
-module _ (s : Store) (t : ℕ) (h : Whole s) (m : header s .moment ≡ Moment.Running (task-id t)) where
+module _ (s : Store) (t : ℕ) (h : SoundStore s) (m : header s .moment ≡ Moment.Running (task-id t)) where
   -- the running task waits for a pending external
   module _ (o : ℕ) (p : PendingExternal) (l : o < header s .made) (e : as-pending (object s o) ≡ some p) (free : p .awaiter ≡ Awaiter.Nobody) where
     abbrev x : Object
@@ -165,7 +165,7 @@ module _ (s : Store) (t : ℕ) (h : Whole s) (m : header s .moment ≡ Moment.Ru
     next = put-object s o x
 
     kept : Kept 0 Nothing (λ q. q ≡ o) next
-    kept = object-kept s (mid-of s h .kept) o x fit fits
+    kept = object-kept s (during-of s h .kept) o x fit fits
 
     there : view next ≡ with-object (view s) o x
     unfolding view
@@ -186,32 +186,32 @@ module _ (s : Store) (t : ℕ) (h : Whole s) (m : header s .moment ≡ Moment.Ru
           filled = subst (λ (y : Object). T (object-filled (view next .places) y)) (sym row-o) (unfold object-filled in tt);
         }
 
-    pub wait-external : Mid Nothing idle (λ o. T (is-completed (kind (object s o)))) (header s) (note (set-state next t (TaskState.Blocked (heap-id o))) (blocked t))
+    pub wait-external : SoundDuring Nothing idle (λ o. T (is-completed (kind (object s o)))) (header s) (add-log (set-state next t (TaskState.Blocked (heap-id o))) (blocked t))
     unfolding with-object view task put-object
     wait-external =
         block-keeps next t o (runs-now (header s .moment)) (subst (λ (y : Header). t < y .next) (sym head) (runner-low s t h m)) (runner-runs s t h m)
-        (subst (λ (y : Header). o < y .made) (sym head) l) closes kept (others-still s t h m)
-        (subst (Runs (runs-now (header s .moment))) (sym there) (mid-of s h .runs))
+        (subst (λ (y : Header). o < y .made) (sym head) l) closes kept (others-commits-none s t h m)
+        (subst (Runs (runs-now (header s .moment))) (sym there) (during-of s h .runs))
         (λ q d. subst (λ (v : View). T (is-completed (kind (v .objects q)))) (sym there)
         (update-case (object s) o x (λ (y : Object). T (is-completed (kind y))) q (λ z. fits .completed (subst (λ (j : ℕ). T (is-completed (kind (object s j)))) z d)) (λ z. d)))
         head
 
   pub await-external-keeps : (o : ℕ) (c : CallId) (x : ExternalFutureState) → o < header s .made → object s o ≡ Object.ExternalFuture c x
-      → Whole (await-external-future s t o c x .store)
+      → SoundStore (await-external-future s t o c x .store)
   unfolding await-external-future go-on stays await-external await-pending as-pending
   await-external-keeps o c (ExternalFutureState.Pending Awaiter.Nobody r) l e =
-      next-keeps (λ o. T (is-completed (kind (object s o)))) (header s) (still-on s t h m) activate (activate-keeps _ (header s) (still-on s t h m)) _
+      next-keeps (λ o. T (is-completed (kind (object s o)))) (header s) (commits-none-on s t h m) activate (activate-keeps _ (header s) (commits-none-on s t h m)) _
       (wait-external o (record { call = c; awaiter = Awaiter.Nobody; stored = r }) l (ap as-pending e) refl)
   await-external-keeps o c (ExternalFutureState.Pending (Awaiter.Task u) r) l e = h
   await-external-keeps o c (ExternalFutureState.Pending (Awaiter.GatherSlot g y) r) l e = h
   await-external-keeps o c (ExternalFutureState.Resolved v) l e = h
   await-external-keeps o c (ExternalFutureState.Failed v) l e = h
 
-  pub await-coroutine-keeps : (o f : ℕ) (x : CoroutineState) → o < header s .made → object s o ≡ Object.Coroutine f x → Whole (await-coroutine s t o f x .store)
+  pub await-coroutine-keeps : (o f : ℕ) (x : CoroutineState) → o < header s .made → object s o ≡ Object.Coroutine f x → SoundStore (await-coroutine s t o f x .store)
   unfolding await-coroutine stays view
   await-coroutine-keeps o f CoroutineState.New l e =
-      whole-mid (put-object s o (Object.Coroutine f CoroutineState.Running)) (h .facts .runner)
-      (object-mid s (mid-of s h) o (Object.Coroutine f CoroutineState.Running) (subst ObjectFits e (object-fits s o))
+      sound-store-during (put-object s o (Object.Coroutine f CoroutineState.Running)) (h .facts .runner)
+      (object-during s (during-of s h) o (Object.Coroutine f CoroutineState.Running) (subst ObjectFits e (object-fits s o))
       (coroutine-fits (view s) o f CoroutineState.New CoroutineState.Running l e))
   await-coroutine-keeps o f CoroutineState.Running l e = h
   await-coroutine-keeps o f CoroutineState.Completed l e = h

@@ -20,7 +20,7 @@ use Rattle.asyncio.specs.Limits.{object-limit}
 use Rattle.asyncio.specs.Ranges.{ObjectFits}
 use Rattle.asyncio.specs.Numbers.{heap-id, task-id}
 use Rattle.asyncio.specs.States.{pick}
-use Rattle.machine.specs.Store.{Store, View, view, task, object, place, header, put-object, note}
+use Rattle.machine.specs.Store.{Store, View, view, task, object, place, header, put-object, add-log}
 use Rattle.machine.specs.Scheduler.{AwaitedGather, as-awaited}
 use Rattle.machine.specs.Commit.{Poll, ready, raised, pending, gives}
 use Rattle.machine.specs.Commit.{Stop, at-end, at-nested, at-error, Frame, step-gather-commit, with-state, set-gather}
@@ -45,7 +45,7 @@ use Rattle.machine.specs.Store.{set-state, blocked}
 use Rattle.machine.specs.Commit.{commit-gather-tree}
 use Rattle.machine.specs.Events.{activate, stays, go-on, await-gather, await-object, exec-get-awaitable}
 use Rattle.machine.specs.Sound.{is-ended, runs-now, runner-in-range, places-below}
-use Rattle.machine_theorems.specs.Soundness.Stores.{idle, Mid, Whole}
+use Rattle.machine_theorems.specs.Soundness.Stores.{idle, SoundDuring, SoundStore}
 use Rattle.machine_theorems.specs.Soundness.Cycle.{next-keeps, activate-keeps}
 use Rattle.machine_theorems.specs.Soundness.Exits.{is-run-state, runner-low}
 use Rattle.machine_theorems.specs.Soundness.Await.{block-keeps, await-external-keeps, await-coroutine-keeps}
@@ -197,7 +197,7 @@ module _ (o t : ℕ) (x : Store) (a : Waits o t x) where
   unfolding view runs-now
   waits-runs = is-run-state (task x t .state) (af .runs t low ∙ eq-eqb t t refl)
 
-  pub waits-blocks : Mid Nothing idle Nothing (header x) (note (set-state x t (TaskState.Blocked (heap-id o))) (blocked t))
+  pub waits-blocks : SoundDuring Nothing idle Nothing (header x) (add-log (set-state x t (TaskState.Blocked (heap-id o))) (blocked t))
   unfolding runs-now
   waits-blocks =
       block-keeps x t o (runs-now (Moment.Running (task-id t))) low waits-runs (a .made) (a .closes)
@@ -206,7 +206,7 @@ module _ (o t : ℕ) (x : Store) (a : Waits o t x) where
 
 -- ---- the event `await`
 
-module _ (s : Store) (t : ℕ) (h : Whole s) (m : header s .moment ≡ Moment.Running (task-id t)) where
+module _ (s : Store) (t : ℕ) (h : SoundStore s) (m : header s .moment ≡ Moment.Running (task-id t)) where
   memory : Memory s
   memory = h .memory
 
@@ -257,9 +257,9 @@ module _ (s : Store) (t : ℕ) (h : Whole s) (m : header s .moment ≡ Moment.Ru
   unfolding commit-gather-tree
   commit-keeps g f n l q = loop-keeps _ g t (open-gather-commit s g (Awaiter.Task (task-id t))) (record { gather = g; next = 0 }) [] 0 1 0 (commit-begins g f n l q)
 
-  ends-whole : (x : Store) → Ends t 0 Nothing x → Whole x
+  ends-sound-store : (x : Store) → Ends t 0 Nothing x → SoundStore x
   unfolding view runner-in-range
-  ends-whole x a =
+  ends-sound-store x a =
       record {
         memory = a .memory;
         facts = record {
@@ -270,17 +270,17 @@ module _ (s : Store) (t : ℕ) (h : Whole s) (m : header s .moment ≡ Moment.Ru
       }
 
   -- the awaiting task goes on, or blocks
-  go-on-keeps : (o n : ℕ) (x : Store) (p : Poll) → EndOk o t x p → Whole (go-on t o n x p .store)
+  go-on-keeps : (o n : ℕ) (x : Store) (p : Poll) → EndOk o t x p → SoundStore (go-on t o n x p .store)
   unfolding go-on stays view
-  go-on-keeps o n x (ready v) a = ends-whole x a
-  go-on-keeps o n x (raised e) a = ends-whole x a
+  go-on-keeps o n x (ready v) a = ends-sound-store x a
+  go-on-keeps o n x (raised e) a = ends-sound-store x a
   go-on-keeps o n x pending a = next-keeps Nothing (header x) on activate (activate-keeps Nothing (header x) on) _ (waits-blocks o t x a)
     where
       on : is-ended (header x .moment) ≡ false
       on = ap is-ended (a .ends .after .moment) ∙ (unfold is-ended in refl)
 
   -- of a gather
-  await-gather-keeps : (o f n : ℕ) (x : GatherState) → o < header s .made → object s o ≡ Object.GatherFuture f n x → Whole (await-gather s t o x .store)
+  await-gather-keeps : (o f n : ℕ) (x : GatherState) → o < header s .made → object s o ≡ Object.GatherFuture f n x → SoundStore (await-gather s t o x .store)
   unfolding await-gather stays
   await-gather-keeps o f n GatherState.Pending l e =
       go-on-keeps o _ (commit-gather-tree s o (Awaiter.Task (task-id t)) .store) (commit-gather-tree s o (Awaiter.Task (task-id t)) .poll) (commit-keeps o f n l e)
@@ -293,11 +293,11 @@ module _ (s : Store) (t : ℕ) (h : Whole s) (m : header s .moment ≡ Moment.Ru
   made-is o l e = subst (λ (y : Object). T (object-in-range (header s) (places-below (object s) o) y)) e (h .facts .but .objects o l)
 
   -- of whichever object
-  pub await-keeps : (o : ℕ) → o < header s .made → Whole (exec-get-awaitable s t o .store)
+  pub await-keeps : (o : ℕ) → o < header s .made → SoundStore (exec-get-awaitable s t o .store)
   unfolding exec-get-awaitable await-object
   await-keeps o l = by (object s o) refl
     where
-      by : (x : Object) → object s o ≡ x → Whole (await-object s t o x .store)
+      by : (x : Object) → object s o ≡ x → SoundStore (await-object s t o x .store)
       by Object.Unmade e = absurd (made-is o l e)
       by (Object.Coroutine f x) e = await-coroutine-keeps s t h m o f x l e
       by (Object.ExternalFuture c x) e = await-external-keeps s t h m o c x l e

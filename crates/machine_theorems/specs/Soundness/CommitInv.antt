@@ -29,7 +29,7 @@ use Rattle.asyncio.specs.Parts.{awaiter-of, count-of}
 use Rattle.machine.specs.Store.{Store, View, view, task, object, place, header, put-object}
 use Rattle.machine.specs.Scheduler.{AwaitedGather, as-awaited, as-pending, blocked-on, bit}
 use Rattle.machine.specs.Commit.{Frame, with-state, set-gather}
-use Rattle.machine.specs.Sound.{awaiter-in-range, open-in-range, object-in-range, committed-places, items-below, value-known, option-known, object-values, is-filled, object-filled, drives-at, runs-now}
+use Rattle.machine.specs.Sound.{awaiter-in-range, open-in-range, object-in-range, committed-places, items-below, value-known, option-known, object-values, is-filled, object-filled, is-task-of-at, runs-now}
 use Rattle.machine_laws.specs.Views.{update, with-object, with-place, with-places}
 use Rattle.machine_laws.specs.Facts.{Open, Slotted, SoundBut, Nothing}
 use Rattle.machine_laws.specs.TestLaws.{both, both-left}
@@ -219,7 +219,7 @@ module _ (root t : ℕ) (Q : ℕ → Type 0) (v : View) (g i : ℕ) (fs : List F
 
   -- a task is spawned for the coroutine c
   pub spawn-step : Inv root t 1 Q v g i fs → (c : ℕ) → T (is-coroutine (kind (v .objects c))) → c < v .header .made
-      → ((u : ℕ) → u < v .header .next → T (drives-at (v .tasks) c u) → ⊥) → v .header .next < task-limit
+      → ((u : ℕ) → u < v .header .next → T (is-task-of-at (v .tasks) c u) → ⊥) → v .header .next < task-limit
       → Slotted (v .header .made) (v .objects) (v .places) c g c
       → (q : List ℕ) → (Queued (v .header .next) (v .tasks) (v .queue) → Queued (v .header .next + 1) (update (v .tasks) (v .header .next) (spawned-row c g)) q)
       → Inv root t 0 Q (spawn-view v c g q) g i fs

@@ -28,17 +28,17 @@ use Rattle.asyncio.specs.Kinds.{kind, is-coroutine, is-completed, is-committed}
 use Rattle.asyncio.specs.Parts.{count-of}
 use Rattle.queue.specs.Queue.{entries, push-back}
 use Rattle.queue.specs.QueueLaws.{push-back-len, push-back-length}
-use Rattle.machine.specs.Store.{Store, View, view, task, object, place, header, put-task, put-object, put-place, put-header, put-queue, note, set-next, spawned}
-use Rattle.machine.specs.Scheduler.{AwaitedGather, PendingExternal, as-awaited, as-pending, drives, first-from, driver-in, driver, push-ready, spawn-as, spawn-unless, spawn}
+use Rattle.machine.specs.Store.{Store, View, view, task, object, place, header, put-task, put-object, put-place, put-header, put-queue, add-log, set-next, spawned}
+use Rattle.machine.specs.Scheduler.{AwaitedGather, PendingExternal, as-awaited, as-pending, is-task-of, first-from, task-of-in, task-of, push-ready, spawn-as, spawn-unless, spawn}
 use Rattle.machine.specs.Commit.{Poll, ready, raised, pending, gives, await-pending, await-external, Item, polled, nested, polled-spawn, item-coroutine, item-gather, item-object, open-from, item}
 use Rattle.machine.specs.Commit.{open-place, fill-place, Stop, at-end, at-nested, at-error, put-polled, put-item, step-item, step-items, Frame}
-use Rattle.machine.specs.Sound.{awaiter-in-range, items-below, value-known, object-values, drives-at}
+use Rattle.machine.specs.Sound.{awaiter-in-range, items-below, value-known, object-values, is-task-of-at}
 use Rattle.machine_laws.specs.Views.{Sized, update, with-task, with-object, with-header}
 use Rattle.machine_laws.specs.Facts.{Open, Slotted, Nothing, WordsFine}
 use Rattle.machine_laws.specs.TestLaws.{both, both-left, both-right, below}
 use Rattle.machine_laws.specs.StoreLaws.{update-same, update-other, sized-put-task, sized-put-header, sized-put-queue, object-fits, header-fits, header-put-object, object-put-object}
 use Rattle.machine_laws.specs.StoreLaws.{view-put-task, view-put-object, view-put-header}
-use Rattle.machine_laws.specs.WordLaws.{fine-put-task, fine-put-header, fine-put-queue, fine-note}
+use Rattle.machine_laws.specs.WordLaws.{fine-put-task, fine-put-header, fine-put-queue, fine-add-log}
 use Rattle.machine_laws.specs.SizedLaws.{sized-spawn-as}
 use Rattle.machine_laws.specs.DeliveryLaws.{absurd-some, awaited-object}
 use Rattle.machine_theorems.specs.Soundness.ReadyTasks.{none-queued, queued-back}
@@ -119,11 +119,11 @@ none-first p (suc k) i e j l m = by (p i) refl e (λ q. none-first p k (i + 1) q
         at (yes d) = ap p d ∙ q
         at (no d) = f e (omega arith) (omega arith)
 
-no-driver : (s : Store) (c : ℕ) → driver s c ≡ none → (v : ℕ) → v < header s .next → T (drives-at (task s) c v) → ⊥
-unfolding drives-at driver driver-in task
-no-driver s c e zero l d = both-left (not (eqb 0 0)) _ d
-no-driver s c e (suc v) l d =
-    subst T (none-first (λ t. drives c (task-at (s .tasks) t)) (header s .next - 1) 1 e (suc v) (omega arith) (omega arith)) (both-right (not (eqb (suc v) 0)) _ d)
+no-task-of : (s : Store) (c : ℕ) → task-of s c ≡ none → (v : ℕ) → v < header s .next → T (is-task-of-at (task s) c v) → ⊥
+unfolding is-task-of-at task-of task-of-in task
+no-task-of s c e zero l d = both-left (not (eqb 0 0)) _ d
+no-task-of s c e (suc v) l d =
+    subst T (none-first (λ t. is-task-of c (task-at (s .tasks) t)) (header s .next - 1) 1 e (suc v) (omega arith) (omega arith)) (both-right (not (eqb (suc v) 0)) _ d)
 
 module _ (s : Store) (c g : ℕ) (mem : Memory s) (room : header s .next < task-limit) (low-c : c < object-limit) (low-g : g < object-limit) where
   abbrev t0 : ℕ
@@ -148,7 +148,7 @@ module _ (s : Store) (c g : ℕ) (mem : Memory s) (room : header s .next < task-
   x = put-header u (one-more (header s))
 
   pub spawn-store-view : view (spawn-as s t0 c g) ≡ spawn-view (view s) c g (entries (push-back (s .queue) t0))
-  unfolding spawn-as note push-ready put-queue set-next view spawn-view with-header with-task task object place header put-task put-header u
+  unfolding spawn-as add-log push-ready put-queue set-next view spawn-view with-header with-task task object place header put-task put-header u
   spawn-store-view =
       ap (λ (w : View). record { tasks = w .tasks; objects = w .objects; places = w .places; header = w .header; queue = entries (push-back (s .queue) t0) })
       (view-put-header u (one-more (header s)) u-sized more-fits ∙ ap (λ (v : View). with-header v (one-more (header s))) (view-put-task s t0 (spawned-row c g) (mem .sized) room row-fits))
@@ -158,9 +158,9 @@ module _ (s : Store) (c g : ℕ) (mem : Memory s) (room : header s .next < task-
   header-then = ap (λ (v : View). v .header) spawn-store-view
 
   words : WordsFine (t0 + 1) (header s .made) (header s .used) (spawn-as s t0 c g)
-  unfolding spawn-as note push-ready put-queue set-next header put-task put-header u x
+  unfolding spawn-as add-log push-ready put-queue set-next header put-task put-header u x
   words =
-      fine-note (t0 + 1) (header s .made) (header s .used) (put-queue x (push-back (s .queue) t0)) (sized-put-queue x (push-back (s .queue) t0) (sized-put-header u (one-more (header s)) u-sized))
+      fine-add-log (t0 + 1) (header s .made) (header s .used) (put-queue x (push-back (s .queue) t0)) (sized-put-queue x (push-back (s .queue) t0) (sized-put-header u (one-more (header s)) u-sized))
       (fine-put-queue (t0 + 1) (header s .made) (header s .used) x (sized-put-header u (one-more (header s)) u-sized)
       (fine-put-header (t0 + 1) (header s .made) (header s .used) u u-sized
       (fine-put-task _ _ _ s (mem .sized) (mem .fine) (t0 + 1) t0 (spawned-row c g) room row-fits (λ j m ne. omega arith))
@@ -171,7 +171,7 @@ module _ (s : Store) (c g : ℕ) (mem : Memory s) (room : header s .next < task-
   spawn-memory =
       record {
         sized = sized-spawn-as s t0 c g (mem .sized);
-        ids = unfold spawn-as note push-ready put-queue set-next put-header put-task in (push-back-length (s .queue) t0 ∙ mem .ids);
+        ids = unfold spawn-as add-log push-ready put-queue set-next put-header put-task in (push-back-length (s .queue) t0 ∙ mem .ids);
         fine = subst (λ (y : Header). WordsFine (y .next) (y .made) (y .used) (spawn-as s t0 c g)) (sym header-then) words;
       }
 
@@ -346,12 +346,12 @@ module _ (root t g : ℕ) (fs : List Frame) (i : ℕ) (s : Store) (mem : Memory 
   -- a task is spawned for a new coroutine
   spawns : (f : ℕ) → object s o ≡ Object.Coroutine f CoroutineState.New → Ok (polled (item-coroutine s g o CoroutineState.New))
   unfolding item-coroutine spawn view
-  spawns f q = by (driver s o) refl
+  spawns f q = by (task-of s o) refl
     where
       q1 : List ℕ
       q1 = entries (push-back (s .queue) (header s .next))
 
-      spawned-ok : driver s o ≡ none → header s .next < task-limit → Ok (polled (polled-spawn s (some (spawn-as s (header s .next) o g))))
+      spawned-ok : task-of s o ≡ none → header s .next < task-limit → Ok (polled (polled-spawn s (some (spawn-as s (header s .next) o g))))
       spawned-ok e room = unfold polled-spawn in
           (opens-in s2 (spawn-view (view s) o g q1) (spawn-memory s o g mem room low-o low-g) (subst (λ (y : View). g < y .header .made) (sym there) (unfold spawn-view view in made)) there
           (unfold spawn-view with-object in stepped))
@@ -370,16 +370,16 @@ module _ (root t g : ℕ) (fs : List Frame) (i : ℕ) (s : Store) (mem : Memory 
 
           stepped : Inv root t 0 (OnTop g fs) (spawn-view v1 o g q1) g (i + 1) fs
           stepped =
-              spawn-step root t (OnTop g fs) v1 g (i + 1) fs opened-view o co (unfold with-object view in (omega (arith, lower, made))) (unfold with-object view in (no-driver s o e))
+              spawn-step root t (OnTop g fs) v1 g (i + 1) fs opened-view o co (unfold with-object view in (omega (arith, lower, made))) (unfold with-object view in (no-task-of s o e))
               (unfold with-object view in room) slot-of q1
               (unfold with-object view in (λ z. queued-back (s .queue) (mem .ids) (header s .next) (spawned-row o g) (header s .next + 1) (omega arith)
               (none-queued (header s .next) (le-refl _) z) (omega arith) tt z))
 
-      room-or : driver s o ≡ none → (b : Bool) → ltb (header s .next) task-limit ≡ b → Ok (polled (polled-spawn s (pick b (some (spawn-as s (header s .next) o g)) none)))
+      room-or : task-of s o ≡ none → (b : Bool) → ltb (header s .next) task-limit ≡ b → Ok (polled (polled-spawn s (pick b (some (spawn-as s (header s .next) o g)) none)))
       room-or e true z = spawned-ok e (ltb-true (header s .next) task-limit z)
       room-or e false z = unfold polled-spawn in (err Error.CoroutineReuse tt)
 
-      by : (d : Option ℕ) → driver s o ≡ d → Ok (polled (polled-spawn s (spawn-unless s o g d)))
+      by : (d : Option ℕ) → task-of s o ≡ d → Ok (polled (polled-spawn s (spawn-unless s o g d)))
       by (some v) e = unfold spawn-unless polled-spawn in (err Error.CoroutineReuse tt)
       by none e = unfold spawn-unless in (room-or e (ltb (header s .next) task-limit) refl)
 

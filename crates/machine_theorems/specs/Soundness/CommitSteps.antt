@@ -79,7 +79,7 @@ park {Q = Q} {v = v} f h =
       place-lists = h .place-lists;
       entries = h .entries;
       calls = h .calls;
-      driver = h .driver;
+      task-of = h .task-of;
       awaits = h .awaits;
       awaited = λ o z n t e l. a o z t e l (f o n);
       filled = λ g z n. b g z (f g n);

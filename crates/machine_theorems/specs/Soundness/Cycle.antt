@@ -32,7 +32,7 @@ use Rattle.queue.specs.Queue.{entries, front-of, pop-front, remove, occurrences
 use Rattle.queue.specs.QueueLaws.{length-entries, front-entry, entries-pop, entries-remove, pop-front-len, pop-front-length, remove-len, remove-length}
 use Rattle.queue.specs.QueueLaws.{distinct-without}
 use Rattle.machine.specs.Tests.{implies}
-use Rattle.machine.specs.Store.{Store, View, view, task, object, header, put-task, put-object, put-queue, note, set-state, restate, absent, Happening, exited}
+use Rattle.machine.specs.Store.{Store, View, view, task, object, header, put-task, put-object, put-queue, add-log, set-state, restate, absent, LogEntry, exited}
 use Rattle.machine.specs.Scheduler.{as-awaited, as-pending, blocked-on, remove-from-ready-queue, remove-task, live-count}
 use Rattle.machine.specs.Delivery.{Delivery, deliver-awaiter-failure}
 use Rattle.machine.specs.Events.{Switched, How, start, value, raises, run, yield, new-function, resume-next, resume-after-task-exit, handle-task-failure, start-by, start-task, activate-state, activate-within, activate}
@@ -44,8 +44,8 @@ use Rattle.machine_laws.specs.DeliveryLaws.{absurd-some}
 use Rattle.machine_theorems.specs.Soundness.ReadyTasks.{Queued, to-queued, queued-same, queued-less, queued-remove, gone, was-there, head-gone}
 use Rattle.machine_theorems.specs.Soundness.PutObject.{Fits}
 use Rattle.machine_theorems.specs.Soundness.PutTask.{with-task-queue, TaskWrite}
-use Rattle.machine_theorems.specs.Soundness.Stores.{Runs, idle, Mid, Whole, object-mid, task-mid, queue-mid, note-mid, moment-whole}
-use Rattle.machine_theorems.specs.Soundness.Deliver.{nobody-task, nobody-slot, Landed, Flight, take-off, restated-in-range, restated-fits, ErrorRises, failure-keeps}
+use Rattle.machine_theorems.specs.Soundness.Stores.{Runs, idle, SoundDuring, SoundStore, object-during, task-during, queue-during, add-log-during, moment-sound-store}
+use Rattle.machine_theorems.specs.Soundness.Deliver.{nobody-task, nobody-slot, DeliveryEnds, Detached, take-off, restated-in-range, restated-fits, ErrorRises, failure-keeps}
 
 -- ---- a live spawned task
 
@@ -92,10 +92,10 @@ unfolding awaiter-of
 no-awaiter x h = let i = coroutine-is x h in ap awaiter-of (i .2)
 
 -- its awaiter, on its way
-pub task-flight : {r : ℕ → Bool} {D : ℕ → Type 0} {hd : Header} (s : Store) (t : ℕ) → Mid Nothing r D hd s → suc t < header s .next → T (is-live (task s (suc t) .state))
-    → Flight (view s) (task s (suc t) .coroutine .0) (task s (suc t) .awaiter)
+pub task-detached : {r : ℕ → Bool} {D : ℕ → Type 0} {hd : Header} (s : Store) (t : ℕ) → SoundDuring Nothing r D hd s → suc t < header s .next → T (is-live (task s (suc t) .state))
+    → Detached (view s) (task s (suc t) .coroutine .0) (task s (suc t) .awaiter)
 unfolding view
-task-flight s t h low l =
+task-detached s t h low l =
     let sp : Spawned (view s) (suc t) = spawned-of t (h .kept .but) low l in
     record {
       made = sp .made;
@@ -106,10 +106,10 @@ task-flight s t h low l =
     }
 
 -- and an error for it
-pub task-rises : {r : ℕ → Bool} {D : ℕ → Type 0} {hd : Header} (s : Store) (t : ℕ) → Mid Nothing r D hd s → suc t < hd .next → T (is-live (task s (suc t) .state))
+pub task-delivering : {r : ℕ → Bool} {D : ℕ → Type 0} {hd : Header} (s : Store) (t : ℕ) → SoundDuring Nothing r D hd s → suc t < hd .next → T (is-live (task s (suc t) .state))
     → ErrorRises r D hd (task s (suc t) .coroutine .0) s (task s (suc t) .awaiter)
-task-rises s t h low l =
-    record { flight = task-flight s t h (subst (λ (y : Header). suc t < y .next) (sym (h .head)) low) l; mid = take-off s (task s (suc t) .awaiter) h }
+task-delivering s t h low l =
+    record { flight = task-detached s t h (subst (λ (y : Header). suc t < y .next) (sym (h .head)) low) l; mid = take-off s (task s (suc t) .awaiter) h }
 
 -- ---- a coroutine's state is written
 
@@ -172,7 +172,7 @@ pub absent-fits : TaskFits absent
 unfolding absent
 absent-fits = record { state-fits = tt; awaiter-fits = tt; coroutine-fits = omega arith }
 
-module _ {r : ℕ → Bool} {D : ℕ → Type 0} {hd : Header} (s : Store) (t : ℕ) (h : Mid Nothing r D hd s) (low : t < header s .next) where
+module _ {r : ℕ → Bool} {D : ℕ → Type 0} {hd : Header} (s : Store) (t : ℕ) (h : SoundDuring Nothing r D hd s) (low : t < header s .next) where
   remove-fits : TaskWrite Nothing Nothing Nothing Nothing (view s) t absent (entries (remove (s .queue) t))
   unfolding absent blocked-on state-values view
   remove-fits =
@@ -190,11 +190,11 @@ module _ {r : ℕ → Bool} {D : ℕ → Type 0} {hd : Header} (s : Store) (t : 
       }
 
   -- task t goes; who runs then is z
-  pub remove-keeps : (x : Happening) (z : ℕ → Bool) → z t ≡ false → ((u : ℕ) → (u ≡ t → ⊥) → r u ≡ z u) → Mid Nothing z D hd (note (remove-task s t) x)
+  pub remove-keeps : (x : LogEntry) (z : ℕ → Bool) → z t ≡ false → ((u : ℕ) → (u ≡ t → ⊥) → r u ≡ z u) → SoundDuring Nothing z D hd (add-log (remove-task s t) x)
   unfolding remove-task remove-from-ready-queue put-task
   remove-keeps x z zt rz =
-      note-mid (put-queue (put-task s t absent) (remove (s .queue) t))
-      (task-mid s h t absent (remove (s .queue) t) low absent-fits (remove-len (s .queue) t (h .kept .memory .fine .queue-fine)) (remove-length (s .queue) t ∙ h .kept .memory .ids)
+      add-log-during (put-queue (put-task s t absent) (remove (s .queue) t))
+      (task-during s h t absent (remove (s .queue) t) low absent-fits (remove-len (s .queue) t (h .kept .memory .fine .queue-fine)) (remove-length (s .queue) t ∙ h .kept .memory .ids)
       remove-fits now) x
     where
       now : Runs z (with-task-queue (view s) t absent (entries (remove (s .queue) t)))
@@ -203,7 +203,7 @@ module _ {r : ℕ → Bool} {D : ℕ → Type 0} {hd : Header} (s : Store) (t : 
 
 -- ---- a ready task runs
 
-module _ {D : ℕ → Type 0} {hd : Header} (s : Store) (t : ℕ) (h : Mid Nothing idle D hd s) (low : t < header s .next) (live : T (is-live (task s t .state)))
+module _ {D : ℕ → Type 0} {hd : Header} (s : Store) (t : ℕ) (h : SoundDuring Nothing idle D hd s) (low : t < header s .next) (live : T (is-live (task s t .state)))
     (free : blocked-on (task s t .state) ≡ none) (off : occurrences (entries (s .queue)) t ≡ 0) where
   abbrev running : Task
   running = restate (task s t) TaskState.Running
@@ -231,25 +231,25 @@ module _ {D : ℕ → Type 0} {hd : Header} (s : Store) (t : ℕ) (h : Mid Nothi
   low-hd : t < hd .next
   low-hd = subst (λ (y : Header). t < y .next) (h .head) low
 
-  pub run-keeps : is-ended (hd .moment) ≡ false → (how : How) → Whole (run s t how .store)
+  pub run-keeps : is-ended (hd .moment) ≡ false → (how : How) → SoundStore (run s t how .store)
   unfolding run set-state put-task put-queue view runner-in-range
   run-keeps on how =
-      moment-whole {D = D} {hd = hd} (set-state s t TaskState.Running) (Moment.Running (task-id t)) (omega (arith, low, h .kept .but .fits .next-fits))
+      moment-sound-store {D = D} {hd = hd} (set-state s t TaskState.Running) (Moment.Running (task-id t)) (omega (arith, low, h .kept .but .fits .next-fits))
       (lt→ltb t (hd .next) low-hd) (λ z. on)
-      (task-mid s h t running (s .queue) low (restated-fits (task s t) TaskState.Running (task-fits s t) tt) (h .kept .memory .fine .queue-fine) (h .kept .memory .ids) run-fits run-runs)
+      (task-during s h t running (s .queue) low (restated-fits (task s t) TaskState.Running (task-fits s t) tt) (h .kept .memory .fine .queue-fine) (h .kept .memory .ids) run-fits run-runs)
 
 -- ---- the cycle
 
 -- What a switch does, for two ways to activate a task and a relation of what they give: it holds where the host gets control, and where a task that
 -- is ready, or was woken, and does not stand in the queue any more, is activated.
 module _ (D : ℕ → Type 0) (hd : Header) (R : Switched → Switched → Type 0) (act other : Store → ℕ → Switched) where
-  queue-of : (s : Store) → Mid Nothing idle D hd s → Queued (header s .next) (task s) (entries (s .queue))
+  queue-of : (s : Store) → SoundDuring Nothing idle D hd s → Queued (header s .next) (task s) (entries (s .queue))
   unfolding view
   queue-of s h = to-queued (header s .next) (task s) (entries (s .queue)) (h .kept .but .entries)
 
   -- the next ready task
-  pub next-by : (s : Store) → Mid Nothing idle D hd s → R (yield s) (yield s)
-      → ((q : ReadyQueue) (u : ℕ) → u < hd .next → occurrences (entries q) u ≡ 0 → T (is-ready (task s u .state)) → Mid Nothing idle D hd (put-queue s q)
+  pub next-by : (s : Store) → SoundDuring Nothing idle D hd s → R (yield s) (yield s)
+      → ((q : ReadyQueue) (u : ℕ) → u < hd .next → occurrences (entries q) u ≡ 0 → T (is-ready (task s u .state)) → SoundDuring Nothing idle D hd (put-queue s q)
       → R (act (put-queue s q) u) (other (put-queue s q) u))
       → R (resume-next act s) (resume-next other s)
   unfolding resume-next view
@@ -272,7 +272,7 @@ module _ (D : ℕ → Type 0) (hd : Header) (R : Switched → Switched → Type 
           let front : front-of q ≡ task-id u = front-entry q u us e (omega (arith, first .0 .0, h .kept .but .fits .next-fits)) in
           subst (λ (y : TaskId). Next (y .0)) (sym front)
           (go (pop-front q) u low (rw rest (first .1)) (first .0 .1)
-          (queue-mid s h (pop-front q) (pop-front-len q len) (pop-front-length q ∙ h .kept .memory .ids)
+          (queue-during s h (pop-front q) (pop-front-len q len) (pop-front-length q ∙ h .kept .memory .ids)
           (λ z. subst (Queued (header s .next) (task s)) (sym rest) (first .2))))
 
       at-least-one : (us : List ℕ) → entries q ≡ us → (q .len ≡ 0 → ⊥) → Next (front-of q .0)
@@ -285,10 +285,10 @@ module _ (D : ℕ → Type 0) (hd : Header) (R : Switched → Switched → Type 
       by false e = at-least-one (entries q) refl (eqb-false (s .queue .len) 0 e)
 
   -- after an exit: the task that it woke, or the next one
-  pub exit-by : (d : Delivery) → Landed idle D hd d → R (yield (d .store)) (yield (d .store))
-      → ((q : ReadyQueue) (u : ℕ) → u < hd .next → occurrences (entries q) u ≡ 0 → T (is-ready (task (d .store) u .state)) → Mid Nothing idle D hd (put-queue (d .store) q)
+  pub exit-by : (d : Delivery) → DeliveryEnds idle D hd d → R (yield (d .store)) (yield (d .store))
+      → ((q : ReadyQueue) (u : ℕ) → u < hd .next → occurrences (entries q) u ≡ 0 → T (is-ready (task (d .store) u .state)) → SoundDuring Nothing idle D hd (put-queue (d .store) q)
       → R (act (put-queue (d .store) q) u) (other (put-queue (d .store) q) u))
-      → ((q : ReadyQueue) (u : ℕ) → d .woken ≡ some u → u < hd .next → occurrences (entries q) u ≡ 0 → Mid Nothing idle D hd (put-queue (d .store) q)
+      → ((q : ReadyQueue) (u : ℕ) → d .woken ≡ some u → u < hd .next → occurrences (entries q) u ≡ 0 → SoundDuring Nothing idle D hd (put-queue (d .store) q)
       → R (act (put-queue (d .store) q) u) (other (put-queue (d .store) q) u))
       → R (resume-after-task-exit act d) (resume-after-task-exit other d)
   unfolding resume-after-task-exit remove-from-ready-queue
@@ -309,30 +309,30 @@ module _ (D : ℕ → Type 0) (hd : Header) (R : Switched → Switched → Type 
           let was : Queued (header s .next) (task s) (entries (s .queue)) = queue-of s (h .mid) in
           woke (remove (s .queue) t) t e (h .woken t e)
           (rw gone-from (gone (entries (s .queue)) t (was .distinct)))
-          (queue-mid s (h .mid) (remove (s .queue) t) (remove-len (s .queue) t len) (remove-length (s .queue) t ∙ h .mid .kept .memory .ids)
+          (queue-during s (h .mid) (remove (s .queue) t) (remove-len (s .queue) t len) (remove-length (s .queue) t ∙ h .mid .kept .memory .ids)
           (λ z. subst (Queued (header s .next) (task s)) (sym gone-from)
           (queued-less (was-there (entries (s .queue)) t) (distinct-without (entries (s .queue)) t (z .distinct)) z)))
 
 -- the store of a switch is sound
 abbrev pub Good : Switched → Type 0
-Good x = Whole (x .store)
+Good x = SoundStore (x .store)
 
 module _ (D : ℕ → Type 0) (hd : Header) (on : is-ended (hd .moment) ≡ false) where
-  pub yield-keeps : (s : Store) → Mid Nothing idle D hd s → Whole (yield s .store)
+  pub yield-keeps : (s : Store) → SoundDuring Nothing idle D hd s → SoundStore (yield s .store)
   unfolding yield runs-now runner-in-range
   yield-keeps s h =
-      moment-whole {D = D} {hd = hd} s Moment.Waiting tt tt (λ z. on) (record { kept = h .kept; runs = h .runs; done = h .done; head = h .head })
+      moment-sound-store {D = D} {hd = hd} s Moment.Waiting tt tt (λ z. on) (record { kept = h .kept; runs = h .runs; done = h .done; head = h .head })
 
   -- a task below the next number that does not stand in the queue is activated
   pub Activates : (Store → ℕ → Switched) → Type 0
-  Activates act = (s : Store) (t : ℕ) → t < hd .next → occurrences (entries (s .queue)) t ≡ 0 → Mid Nothing idle D hd s → Whole (act s t .store)
+  Activates act = (s : Store) (t : ℕ) → t < hd .next → occurrences (entries (s .queue)) t ≡ 0 → SoundDuring Nothing idle D hd s → SoundStore (act s t .store)
 
   module _ (act : Store → ℕ → Switched) (go : Activates act) where
-    pub next-keeps : (s : Store) → Mid Nothing idle D hd s → Whole (resume-next act s .store)
+    pub next-keeps : (s : Store) → SoundDuring Nothing idle D hd s → SoundStore (resume-next act s .store)
     unfolding Activates put-queue
     next-keeps s h = next-by D hd (λ x y. Good x) act act s h (yield-keeps s h) (λ q u low off r m. go (put-queue s q) u low off m)
 
-    pub exit-keeps : (d : Delivery) → Landed idle D hd d → Whole (resume-after-task-exit act d .store)
+    pub exit-keeps : (d : Delivery) → DeliveryEnds idle D hd d → SoundStore (resume-after-task-exit act d .store)
     unfolding Activates put-queue
     exit-keeps d h =
         exit-by D hd (λ x y. Good x) act act d h (yield-keeps (d .store) (h .mid)) (λ q u low off r m. go (put-queue (d .store) q) u low off m)
@@ -340,11 +340,11 @@ module _ (D : ℕ → Type 0) (hd : Header) (on : is-ended (hd .moment) ≡ fals
 
     -- a live spawned task fails: no other task runs
     pub failure-exit : (s : Store) (t : ℕ) (e : Error) (r : ℕ → Bool) → ErrorFits e → suc t < hd .next → T (is-live (task s (suc t) .state))
-        → ((u : ℕ) → (u ≡ suc t → ⊥) → r u ≡ false) → Mid Nothing r D hd s → Whole (handle-task-failure act s (suc t) e .store)
+        → ((u : ℕ) → (u ≡ suc t → ⊥) → r u ≡ false) → SoundDuring Nothing r D hd s → SoundStore (handle-task-failure act s (suc t) e .store)
     unfolding handle-task-failure
     failure-exit s t e r k low l other h =
-        let sent : Landed r D hd (deliver-awaiter-failure s (task s (suc t) .awaiter) e) =
-        failure-keeps r D hd e k s (task s (suc t) .coroutine .0) (task s (suc t) .awaiter) (task-rises s t h low l) in
+        let sent : DeliveryEnds r D hd (deliver-awaiter-failure s (task s (suc t) .awaiter) e) =
+        failure-keeps r D hd e k s (task s (suc t) .coroutine .0) (task s (suc t) .awaiter) (task-delivering s t h low l) in
         exit-keeps _ (record {
           mid = remove-keeps (deliver-awaiter-failure s (task s (suc t) .awaiter) e .store) (suc t) (sent .mid)
               (subst (λ (y : Header). suc t < y .next) (sym (sent .mid .head)) low) (exited (suc t)) idle refl other;
@@ -361,7 +361,7 @@ module _ (D : ℕ → Type 0) (hd : Header) (on : is-ended (hd .moment) ≡ fals
     new-is (Object.GatherFuture c n y) f e = absurd-some e
 
     start-keeps : (s : Store) (t : ℕ) → suc t < hd .next → task s (suc t) .state ≡ TaskState.Unstarted → occurrences (entries (s .queue)) (suc t) ≡ 0
-        → Mid Nothing idle D hd s → Whole (start-task act s (suc t) .store)
+        → SoundDuring Nothing idle D hd s → SoundStore (start-task act s (suc t) .store)
     unfolding start-task start-by view task put-object
     start-keeps s t low fr off h = by (new-function (object s (task s (suc t) .coroutine .0))) refl
       where
@@ -377,23 +377,23 @@ module _ (D : ℕ → Type 0) (hd : Header) (on : is-ended (hd .moment) ≡ fals
         c : ℕ
         c = task s (suc t) .coroutine .0
 
-        by : (n : Option ℕ) → new-function (object s c) ≡ n → Whole (start-by act s (suc t) c n .store)
+        by : (n : Option ℕ) → new-function (object s c) ≡ n → SoundStore (start-by act s (suc t) c n .store)
         by none q = failure-exit s t Error.CoroutineReuse idle tt low live (λ u d. refl) h
         by (some f) q =
             let x : Object = Object.Coroutine f CoroutineState.Running in
             let sp : Spawned (view s) (suc t) = spawned-of t (h .kept .but) low-s live in
             let is-new : object s c ≡ Object.Coroutine f CoroutineState.New = new-is (object s c) f q in
             let ft : Fits 0 0 Nothing Nothing Nothing Nothing (view s) c x = coroutine-fits (view s) c f CoroutineState.New CoroutineState.Running (sp .made) is-new in
-            let m : Mid Nothing idle D hd (put-object s c x) = object-mid s h c x (subst ObjectFits is-new (object-fits s c)) ft in
+            let m : SoundDuring Nothing idle D hd (put-object s c x) = object-during s h c x (subst ObjectFits is-new (object-fits s c)) ft in
             run-keeps (put-object s c x) (suc t) m (subst (λ (y : Header). suc t < y .next) (sym (header-put-object s c x)) low-s) live free off on (start c f)
 
     -- main is never unstarted
-    main-old : (s : Store) → Mid Nothing idle D hd s → task s 0 .state ≡ TaskState.Unstarted → ⊥
+    main-old : (s : Store) → SoundDuring Nothing idle D hd s → task s 0 .state ≡ TaskState.Unstarted → ⊥
     unfolding task-in-range view
     main-old s h e = subst (λ (y : TaskState). T (not (is-unstarted y))) e (both-left _ _ (h .kept .but .tasks 0 (h .kept .but .main)))
 
-    state-keeps : (s : Store) (t : ℕ) (x : TaskState) → t < hd .next → task s t .state ≡ x → occurrences (entries (s .queue)) t ≡ 0 → Mid Nothing idle D hd s
-        → Whole (activate-state act s t x .store)
+    state-keeps : (s : Store) (t : ℕ) (x : TaskState) → t < hd .next → task s t .state ≡ x → occurrences (entries (s .queue)) t ≡ 0 → SoundDuring Nothing idle D hd s
+        → SoundStore (activate-state act s t x .store)
     unfolding activate-state blocked-on
     state-keeps s t TaskState.Absent low e off h = yield-keeps s h
     state-keeps s zero TaskState.Unstarted low e off h = absurd (main-old s h e)

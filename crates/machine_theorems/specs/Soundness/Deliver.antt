@@ -25,7 +25,7 @@ use Rattle.asyncio.specs.Kinds.{kind, is-coroutine, is-completed, is-committed}
 use Rattle.asyncio.specs.Parts.{awaiter-of, count-of}
 use Rattle.queue.specs.Queue.{entries, push-back}
 use Rattle.queue.specs.QueueLaws.{push-back-len, push-back-length}
-use Rattle.machine.specs.Store.{Store, View, view, task, object, place, header, put-task, put-object, put-queue, set-state, restate, note, reached}
+use Rattle.machine.specs.Store.{Store, View, view, task, object, place, header, put-task, put-object, put-queue, set-state, restate, add-log, reached}
 use Rattle.machine.specs.Scheduler.{AwaitedGather, as-awaited, as-pending, blocked-on, make-ready, push-ready}
 use Rattle.machine.specs.Delivery.{Delivery, nobody-woken, deliver-to-task, Settled, fail-awaited, fail-gather, send-error, climb, deliver-awaiter-failure}
 use Rattle.machine.specs.Sound.{awaiter-in-range, open-in-range, object-in-range, task-in-range, committed-places, items-below, object-values, state-values, object-filled, gather-filled}
@@ -37,12 +37,12 @@ use Rattle.machine_laws.specs.DeliveryLaws.{absurd-some, awaited-object, awaite
 use Rattle.machine_theorems.specs.Soundness.ReadyTasks.{not-queued, queued-back}
 use Rattle.machine_theorems.specs.Soundness.PutObject.{by-object, Fits, slotted}
 use Rattle.machine_theorems.specs.Soundness.PutTask.{with-task-queue, TaskWrite, but-keeps}
-use Rattle.machine_theorems.specs.Soundness.Stores.{Runs, Mid, object-mid, task-mid, note-mid}
+use Rattle.machine_theorems.specs.Soundness.Stores.{Runs, SoundDuring, object-during, task-during, add-log-during}
 use Rattle.machine_theorems.specs.Soundness.SpawnTask.{awaiter-below}
 
 -- A delivery is at its end: nothing is in flight, and a task that it woke is below the next number.
-pub record Landed (r : ℕ → Bool) (D : ℕ → Type 0) (hd : Header) (d : Delivery) : Type 0 where
-  pub mid : Mid Nothing r D hd (d .store)
+pub record DeliveryEnds (r : ℕ → Bool) (D : ℕ → Type 0) (hd : Header) (d : Delivery) : Type 0 where
+  pub mid : SoundDuring Nothing r D hd (d .store)
   pub woken : (t : ℕ) → d .woken ≡ some t → t < hd .next
 
 -- ---- awaiters told apart
@@ -62,11 +62,11 @@ task-same {t} {u} e = let p : task-id t ≡ task-id u = cc in ap (λ (y : TaskId
 -- ---- what is in flight
 
 -- the tasks that a delivery to awaiter a will wake
-abbrev pub InFlight : Awaiter → ℕ → Type 0
-InFlight a u = a ≡ Awaiter.Task (task-id u)
+abbrev pub Delivering : Awaiter → ℕ → Type 0
+Delivering a u = a ≡ Awaiter.Task (task-id u)
 
 -- awaiter a of object o is in flight: o has it no more
-pub record Flight (v : View) (o : ℕ) (a : Awaiter) : Type 0 where
+pub record Detached (v : View) (o : ℕ) (a : Awaiter) : Type 0 where
   pub made : o < v .header .made
   pub free : awaiter-of (v .objects o) ≡ Awaiter.Nobody
   pub range : T (awaiter-in-range (v .header) a)
@@ -74,10 +74,10 @@ pub record Flight (v : View) (o : ℕ) (a : Awaiter) : Type 0 where
   pub task : (t : ℕ) → a ≡ Awaiter.Task (task-id t) → T (is-live (v .tasks t .state)) → blocked-on (v .tasks t .state) ≡ some o
 
 -- another P, where the tasks concerned are not blocked
-pub except-mid : {P P' : ℕ → Type 0} {r : ℕ → Bool} {D : ℕ → Type 0} {hd : Header} (s : Store)
-    → ((t o : ℕ) → t < header s .next → (P' t → ⊥) → blocked-on (task s t .state) ≡ some o → P t → ⊥) → Mid P r D hd s → Mid P' r D hd s
+pub except-during : {P P' : ℕ → Type 0} {r : ℕ → Bool} {D : ℕ → Type 0} {hd : Header} (s : Store)
+    → ((t o : ℕ) → t < header s .next → (P' t → ⊥) → blocked-on (task s t .state) ≡ some o → P t → ⊥) → SoundDuring P r D hd s → SoundDuring P' r D hd s
 unfolding view
-except-mid s f h =
+except-during s f h =
     record {
       kept = record { memory = h .kept .memory; but = but-keeps (le-refl 0) f (λ p l n. n) (h .kept .but) };
       runs = h .runs;
@@ -86,16 +86,16 @@ except-mid s f h =
     }
 
 -- nothing is in flight but a task's wake
-pub landed : {a : Awaiter} {r : ℕ → Bool} {D : ℕ → Type 0} {hd : Header} (s : Store) → ((u : ℕ) → InFlight a u → ⊥) → Mid (InFlight a) r D hd s → Mid Nothing r D hd s
-landed s f h = except-mid s (λ t o l d e z. f t z) h
+pub landed : {a : Awaiter} {r : ℕ → Bool} {D : ℕ → Type 0} {hd : Header} (s : Store) → ((u : ℕ) → Delivering a u → ⊥) → SoundDuring (Delivering a) r D hd s → SoundDuring Nothing r D hd s
+landed s f h = except-during s (λ t o l d e z. f t z) h
 
-pub nobody-lands : {r : ℕ → Bool} {D : ℕ → Type 0} {hd : Header} (s : Store) → Mid Nothing r D hd s → Landed r D hd (nobody-woken s)
+pub nobody-delivery-ends : {r : ℕ → Bool} {D : ℕ → Type 0} {hd : Header} (s : Store) → SoundDuring Nothing r D hd s → DeliveryEnds r D hd (nobody-woken s)
 unfolding nobody-woken
-nobody-lands s h = record { mid = h; woken = λ t e. absurd-some e }
+nobody-delivery-ends s h = record { mid = h; woken = λ t e. absurd-some e }
 
 -- nothing is excepted, so nothing in particular
-pub take-off : {r : ℕ → Bool} {D : ℕ → Type 0} {hd : Header} (s : Store) (a : Awaiter) → Mid Nothing r D hd s → Mid (InFlight a) r D hd s
-take-off s a h = except-mid s (λ t o l d e z. z) h
+pub take-off : {r : ℕ → Bool} {D : ℕ → Type 0} {hd : Header} (s : Store) (a : Awaiter) → SoundDuring Nothing r D hd s → SoundDuring (Delivering a) r D hd s
+take-off s a h = except-during s (λ t o l d e z. z) h
 
 -- ---- an object settles
 
@@ -114,7 +114,7 @@ pub record Settles (v : View) (o : ℕ) (x : Object) : Type 0 where
   pub range : (p : ℕ) → T (object-in-range (v .header) p (v .objects o)) → T (object-in-range (v .header) p x)
   pub known : T (object-values (v .header .made) (v .objects) x)
 
-settle-fits : (v : View) (o : ℕ) (x : Object) → Settles v o x → Fits 0 0 Nothing Nothing (InFlight (awaiter-of (v .objects o))) Nothing v o x
+settle-fits : (v : View) (o : ℕ) (x : Object) → Settles v o x → Fits 0 0 Nothing Nothing (Delivering (awaiter-of (v .objects o))) Nothing v o x
 unfolding committed-places
 settle-fits v o x st =
     record {
@@ -138,31 +138,31 @@ settle-fits v o x st =
       in-commit = λ p d n z. z;
     }
 
-settle-flight : (v : View) (o : ℕ) (x : Object) → Settles v o x → SoundBut 0 Nothing Nothing v → Flight (with-object v o x) o (awaiter-of (v .objects o))
+settle-detached : (v : View) (o : ℕ) (x : Object) → Settles v o x → SoundBut 0 Nothing Nothing v → Detached (with-object v o x) o (awaiter-of (v .objects o))
 unfolding with-object
-settle-flight v o x st h =
+settle-detached v o x st h =
     record {
       made = st .made;
       free = ap awaiter-of (update-same (v .objects) o x) ∙ st .free;
       range = h .awaiters o (st .made);
       slot = λ g y e.
-          slotted 0 0 Nothing Nothing (InFlight (awaiter-of (v .objects o))) Nothing v o x (settle-fits v o x st) o g y
+          slotted 0 0 Nothing Nothing (Delivering (awaiter-of (v .objects o))) Nothing v o x (settle-fits v o x st) o g y
           (λ q. by-object o (st .made) (λ z. z) (e ∙ ap (λ (i : ℕ). Awaiter.GatherSlot (heap-id g) (heap-id i)) q)) (h .object-slots o (st .made) (λ z. z) g y e);
       task = λ t e l. h .awaited o (st .made) (λ z. z) t e l;
     }
 
-module _ {r : ℕ → Bool} {D : ℕ → Type 0} {hd : Header} (s : Store) (o : ℕ) (x : Object) (f : ObjectFits x) (st : Settles (view s) o x) (h : Mid Nothing r D hd s) where
+module _ {r : ℕ → Bool} {D : ℕ → Type 0} {hd : Header} (s : Store) (o : ℕ) (x : Object) (f : ObjectFits x) (st : Settles (view s) o x) (h : SoundDuring Nothing r D hd s) where
   -- the object of a store is settled
-  pub settle-keeps : Mid (InFlight (awaiter-of (object s o))) r D hd (put-object s o x)
+  pub settle-keeps : SoundDuring (Delivering (awaiter-of (object s o))) r D hd (put-object s o x)
   unfolding view
-  settle-keeps = object-mid s h o x f (settle-fits (view s) o x st)
+  settle-keeps = object-during s h o x f (settle-fits (view s) o x st)
 
   -- and its awaiter is in flight then
-  pub flight-keeps : Flight (view (put-object s o x)) o (awaiter-of (object s o))
+  pub detached-keeps : Detached (view (put-object s o x)) o (awaiter-of (object s o))
   unfolding view
-  flight-keeps =
-      subst (λ (v : View). Flight v o (awaiter-of (object s o)))
-      (sym (view-put-object s o x (h .kept .memory .sized) (omega (arith, st .made, h .kept .but .fits .made-fits)) f)) (settle-flight (view s) o x st (h .kept .but))
+  detached-keeps =
+      subst (λ (v : View). Detached v o (awaiter-of (object s o)))
+      (sym (view-put-object s o x (h .kept .memory .sized) (omega (arith, st .made, h .kept .but .fits .made-fits)) f)) (settle-detached (view s) o x st (h .kept .but))
 
 -- ---- a task is woken
 
@@ -203,8 +203,8 @@ unfolding restate
 restated-fits y x f k = record { state-fits = k; awaiter-fits = f .awaiter-fits; coroutine-fits = f .coroutine-fits }
 
 module _ {r : ℕ → Bool} {D : ℕ → Type 0} {hd : Header} (s : Store) (t o : ℕ) (x : TaskState) (rs : Resumes x) (f : StateFits x)
-    (k : T (state-values (header s .made) (object s) x)) (fl : Flight (view s) o (Awaiter.Task (task-id t)))
-    (h : Mid (InFlight (Awaiter.Task (task-id t))) r D hd s) where
+    (k : T (state-values (header s .made) (object s) x)) (fl : Detached (view s) o (Awaiter.Task (task-id t)))
+    (h : SoundDuring (Delivering (Awaiter.Task (task-id t))) r D hd s) where
   abbrev row : Task
   row = restate (task s t) x
 
@@ -219,7 +219,7 @@ module _ {r : ℕ → Bool} {D : ℕ → Type 0} {hd : Header} (s : Store) (t o 
     was-still : is-running (task s t .state) ≡ false
     was-still = rw e
 
-    wake-fits : TaskWrite (InFlight (Awaiter.Task (task-id t))) Nothing Nothing Nothing (view s) t row (entries (push-back (s .queue) t))
+    wake-fits : TaskWrite (Delivering (Awaiter.Task (task-id t))) Nothing Nothing Nothing (view s) t row (entries (push-back (s .queue) t))
     unfolding view restate
     wake-fits =
         record {
@@ -245,25 +245,25 @@ module _ {r : ℕ → Bool} {D : ℕ → Type 0} {hd : Header} (s : Store) (t o 
         update-case (task s) t row (λ (y : Task). is-running (y .state) ≡ r u) u
         (λ q. rs .stands ∙ subst (λ (m : ℕ). false ≡ r m) (sym q) (sym was-still ∙ h .runs t low)) (λ d. h .runs u l)
 
-    woken : Mid Nothing r D hd (put-queue (put-task s t row) (push-back (s .queue) t))
+    woken : SoundDuring Nothing r D hd (put-queue (put-task s t row) (push-back (s .queue) t))
     woken =
-        task-mid s h t row (push-back (s .queue) t) low (restated-fits (task s t) x (task-fits s t) f) (push-back-len (s .queue) t (h .kept .memory .fine .queue-fine))
+        task-during s h t row (push-back (s .queue) t) low (restated-fits (task s t) x (task-fits s t) f) (push-back-len (s .queue) t (h .kept .memory .fine .queue-fine))
         (push-back-length (s .queue) t ∙ h .kept .memory .ids) wake-fits wake-runs
 
   -- The last step of a delivery, of a value or an error: the task in flight is woken if it is blocked.
-  pub reach-keeps : Landed r D hd (deliver-to-task s t x)
+  pub reach-keeps : DeliveryEnds r D hd (deliver-to-task s t x)
   unfolding deliver-to-task make-ready push-ready set-state put-task
   reach-keeps = by (is-blocked (task s t .state)) refl
     where
-      by : (c : Bool) → is-blocked (task s t .state) ≡ c → Landed r D hd (pick c (record { store = note (make-ready s t x) (reached t); woken = some t }) (nobody-woken s))
+      by : (c : Bool) → is-blocked (task s t .state) ≡ c → DeliveryEnds r D hd (pick c (record { store = add-log (make-ready s t x) (reached t); woken = some t }) (nobody-woken s))
       by true e =
           let i = is-the-block (task s t .state) e in
           record {
-            mid = note-mid (put-queue (put-task s t row) (push-back (s .queue) t)) (woken (i .0) (i .1)) (reached t);
+            mid = add-log-during (put-queue (put-task s t row) (push-back (s .queue) t)) (woken (i .0) (i .1)) (reached t);
             woken = λ u q. subst (λ (j : ℕ). j < hd .next) (Option·some-injective t u q) (subst (λ (y : Header). t < y .next) (h .head) low);
           }
       by false e =
-          nobody-lands s (except-mid s (λ u p l d z q. absurd-some (sym (not-blocked (task s t .state) e) ∙ (ap (λ (m : ℕ). blocked-on (task s m .state)) (task-same q) ∙ z))) h)
+          nobody-delivery-ends s (except-during s (λ u p l d z q. absurd-some (sym (not-blocked (task s t .state) e) ∙ (ap (λ (m : ℕ). blocked-on (task s m .state)) (task-same q) ∙ z))) h)
 
 -- ---- gathers that settle
 
@@ -322,12 +322,12 @@ raised-resumes e = record { lives = tt; unblocked = refl; stands = refl; old = r
 -- What the gather g of a slot of object o does: it sends nothing on, and nothing is in flight; or it sends to an awaiter, on the way to which R
 -- holds, and it is higher than o.
 pub record Sends (r : ℕ → Bool) (D : ℕ → Type 0) (hd : Header) (R : Store → Awaiter → Type 0) (o g : ℕ) (y : Settled) : Type 0 where
-  pub stays : y .onward ≡ none → Mid Nothing r D hd (y .store)
+  pub stays : y .onward ≡ none → SoundDuring Nothing r D hd (y .store)
   pub rises : (b : Awaiter) → y .onward ≡ some b → R (y .store) b
   pub up : (b : Awaiter) → y .onward ≡ some b → o < g
 
 module _ (r : ℕ → Bool) (D : ℕ → Type 0) (hd : Header) where
-  pub sends-nothing : (R : Store → Awaiter → Type 0) (o g : ℕ) (s : Store) → Mid Nothing r D hd s → Sends r D hd R o g (record { store = s; onward = none })
+  pub sends-nothing : (R : Store → Awaiter → Type 0) (o g : ℕ) (s : Store) → SoundDuring Nothing r D hd s → Sends r D hd R o g (record { store = s; onward = none })
   sends-nothing R o g s h = record { stays = λ e. h; rises = λ b e. absurd-some e; up = λ b e. absurd-some e }
 
   pub sends-on : (R : Store → Awaiter → Type 0) (o g : ℕ) (s : Store) (a : Awaiter) → R s a → o < g → Sends r D hd R o g (record { store = s; onward = some a })
@@ -335,8 +335,8 @@ module _ (r : ℕ → Bool) (D : ℕ → Type 0) (hd : Header) where
 
 -- an error of object o on its way to awaiter a
 pub record ErrorRises (r : ℕ → Bool) (D : ℕ → Type 0) (hd : Header) (o : ℕ) (s : Store) (a : Awaiter) : Type 0 where
-  pub flight : Flight (view s) o a
-  pub mid : Mid (InFlight a) r D hd s
+  pub flight : Detached (view s) o a
+  pub mid : SoundDuring (Delivering a) r D hd s
 
 module _ (r : ℕ → Bool) (D : ℕ → Type 0) (hd : Header) (e : Error) (k : ErrorFits e) where
   -- it fails the gather of a slot, if that is still awaited
@@ -344,7 +344,7 @@ module _ (r : ℕ → Bool) (D : ℕ → Type 0) (hd : Header) (e : Error) (k : 
   unfolding view fail-gather fail-awaited
   error-sends s o g x i = by (as-awaited (object s g)) refl
     where
-      h : Mid Nothing r D hd s
+      h : SoundDuring Nothing r D hd s
       h = landed s (λ u z. task-slot (sym z)) (i .mid)
 
       sl : Slotted (header s .made) (object s) (place s) o g x
@@ -359,13 +359,13 @@ module _ (r : ℕ → Bool) (D : ℕ → Type 0) (hd : Header) (e : Error) (k : 
           let fit : ObjectFits y = (awaited-fits s g w q .0, k) in
           sends-on r D hd (ErrorRises r D hd g) o g (put-object s g y) (w .awaiter)
           (record {
-            flight = subst (λ (a : Awaiter). Flight (view (put-object s g y)) g a) aw (flight-keeps s g y fit st h);
-            mid = subst (λ (a : Awaiter). Mid (InFlight a) r D hd (put-object s g y)) aw (settle-keeps s g y fit st h);
+            flight = subst (λ (a : Awaiter). Detached (view (put-object s g y)) g a) aw (detached-keeps s g y fit st h);
+            mid = subst (λ (a : Awaiter). SoundDuring (Delivering a) r D hd (put-object s g y)) aw (settle-keeps s g y fit st h);
           }) (open-lower g w o (h .kept .but) (sl .made) q (sl .opens w q))
 
   failure-slot : (n : ℕ) (s : Store) (o g x : ℕ) → object-limit ≤ suc n + o → ErrorRises r D hd o s (Awaiter.GatherSlot (heap-id g) (heap-id x))
-      → ((s : Store) (o : ℕ) (a : Awaiter) → object-limit ≤ n + o → ErrorRises r D hd o s a → Landed r D hd (deliver-awaiter-failure s a e))
-      → Landed r D hd (deliver-awaiter-failure s (Awaiter.GatherSlot (heap-id g) (heap-id x)) e)
+      → ((s : Store) (o : ℕ) (a : Awaiter) → object-limit ≤ n + o → ErrorRises r D hd o s a → DeliveryEnds r D hd (deliver-awaiter-failure s a e))
+      → DeliveryEnds r D hd (deliver-awaiter-failure s (Awaiter.GatherSlot (heap-id g) (heap-id x)) e)
   unfolding view
   failure-slot n s o g x f i go = by (fail-gather s g e .onward) refl
     where
@@ -375,19 +375,19 @@ module _ (r : ℕ → Bool) (D : ℕ → Type 0) (hd : Header) (e : Error) (k : 
       low : g < object-limit
       low = omega (arith, i .flight .slot g x refl .made, i .mid .kept .but .fits .made-fits)
 
-      by : (b : Option Awaiter) → fail-gather s g e .onward ≡ b → Landed r D hd (deliver-awaiter-failure s (Awaiter.GatherSlot (heap-id g) (heap-id x)) e)
-      by none q = unfold deliver-awaiter-failure send-error in (rw q (unfold climb in (nobody-lands _ (sent .stays q))))
+      by : (b : Option Awaiter) → fail-gather s g e .onward ≡ b → DeliveryEnds r D hd (deliver-awaiter-failure s (Awaiter.GatherSlot (heap-id g) (heap-id x)) e)
+      by none q = unfold deliver-awaiter-failure send-error in (rw q (unfold climb in (nobody-delivery-ends _ (sent .stays q))))
       by (some a) q = rw (failure-climbs s (heap-id g) (heap-id x) e a (i .mid .kept .memory .sized) low q) (go _ g a (omega (arith, sent .up a q)) (sent .rises a q))
 
   -- fuel is no matter: see failure-climbs
-  failure-climb : (n : ℕ) (s : Store) (o : ℕ) (a : Awaiter) → object-limit ≤ n + o → ErrorRises r D hd o s a → Landed r D hd (deliver-awaiter-failure s a e)
+  failure-climb : (n : ℕ) (s : Store) (o : ℕ) (a : Awaiter) → object-limit ≤ n + o → ErrorRises r D hd o s a → DeliveryEnds r D hd (deliver-awaiter-failure s a e)
   unfolding view
   failure-climb zero s o a f i = absurd (not-suc-le-zero {n = 0} (omega (arith, f, i .flight .made, i .mid .kept .but .fits .made-fits)))
-  failure-climb (suc n) s o Awaiter.Nobody f i = unfold deliver-awaiter-failure send-error in (nobody-lands s (landed s (λ u z. nobody-task z) (i .mid)))
+  failure-climb (suc n) s o Awaiter.Nobody f i = unfold deliver-awaiter-failure send-error in (nobody-delivery-ends s (landed s (λ u z. nobody-task z) (i .mid)))
   failure-climb (suc n) s o (Awaiter.Task t) f i = unfold deliver-awaiter-failure send-error in
       (reach-keeps s (t .0) o (TaskState.Raised e) (raised-resumes e) k (unfold state-values in tt) (i .flight) (i .mid))
   failure-climb (suc n) s o (Awaiter.GatherSlot g x) f i = failure-slot n s o (g .0) (x .0) f i (λ y p b j m. failure-climb n y p b j m)
 
   -- A failure of object o goes to its awaiter.
-  pub failure-keeps : (s : Store) (o : ℕ) (a : Awaiter) → ErrorRises r D hd o s a → Landed r D hd (deliver-awaiter-failure s a e)
+  pub failure-keeps : (s : Store) (o : ℕ) (a : Awaiter) → ErrorRises r D hd o s a → DeliveryEnds r D hd (deliver-awaiter-failure s a e)
   failure-keeps s o a i = failure-climb object-limit s o a (omega arith) i

@@ -30,13 +30,13 @@ use Rattle.asyncio.specs.Parts.{awaiter-of}
 use Rattle.queue.specs.declared.ReadyQueue.{ReadyQueue}
 use Rattle.queue.specs.Queue.{entries, empty-queue, remove}
 use Rattle.queue.specs.QueueLaws.{entries-empty}
-use Rattle.machine.specs.Store.{Store, View, view, task, object, place, header, put-task, put-object, put-queue, note, absent, Happening, exited, removed}
+use Rattle.machine.specs.Store.{Store, View, view, task, object, place, header, put-task, put-object, put-queue, add-log, absent, LogEntry, exited, removed}
 use Rattle.rows.specs.Tables.{task-at}
-use Rattle.machine.specs.Scheduler.{AwaitedGather, as-awaited, is-some, bit, pending-call-ids, blocked-on, remove-from-ready-queue, remove-task, driver-in, driver, cancel-one, Walk, reach-if, reach, remove-blocked, still-live, visit-by, visit, visit-place, visit-open, walk-gather, walk-next, walk, walk-from, cancel-task, remove-from, cleanup}
+use Rattle.machine.specs.Scheduler.{AwaitedGather, as-awaited, is-some, bit, pending-call-ids, blocked-on, remove-from-ready-queue, remove-task, task-of-in, task-of, cancel-one, Walk, reach-if, reach, remove-blocked, still-live, visit-by, visit, visit-place, visit-open, walk-gather, walk-next, walk, walk-from, cancel-task, remove-from, cleanup}
 use Rattle.machine.specs.Delivery.{deliver-awaiter-success}
 use Rattle.machine.specs.Events.{handle-task-failure, activate, completed, handle-task-completion, resume-next}
 use Rattle.machine.specs.Machine.{switched, repeat-wait, resume-with-resolved-futures}
-use Rattle.machine.specs.Sound.{is-slot, task-in-range, value-known, state-values, is-ended, drives-at, runs-now, runner-in-range}
+use Rattle.machine.specs.Sound.{is-slot, task-in-range, value-known, state-values, is-ended, is-task-of-at, runs-now, runner-in-range}
 use Rattle.machine_laws.specs.Views.{update}
 use Rattle.machine_laws.specs.Facts.{SoundBut, Nothing}
 use Rattle.machine_laws.specs.TestLaws.{holds, both, both-left, both-right}
@@ -44,12 +44,12 @@ use Rattle.machine_laws.specs.StoreLaws.{update-case, update-same, update-other
 use Rattle.machine_laws.specs.DeliveryLaws.{absurd-some}
 use Rattle.machine_theorems.specs.Soundness.ReadyTasks.{Queued, none-ready}
 use Rattle.machine_theorems.specs.Soundness.PutObject.{by-object, by-task, value-stays}
-use Rattle.machine_theorems.specs.Soundness.PutTask.{drives-give, with-task-queue, TaskWrite}
-use Rattle.machine_theorems.specs.Soundness.Stores.{Kept, Runs, idle, Mid, Whole, view-task-queue, object-mid, task-mid, queue-mid, note-mid, mid-of, whole-mid, moment-whole}
-use Rattle.machine_theorems.specs.Soundness.Deliver.{nobody-slot, Landed, Flight, take-off}
+use Rattle.machine_theorems.specs.Soundness.PutTask.{is-task-of-give, with-task-queue, TaskWrite}
+use Rattle.machine_theorems.specs.Soundness.Stores.{Kept, Runs, idle, SoundDuring, SoundStore, view-task-queue, object-during, task-during, queue-during, add-log-during, during-of, sound-store-during, moment-sound-store}
+use Rattle.machine_theorems.specs.Soundness.Deliver.{nobody-slot, DeliveryEnds, Detached, take-off}
 use Rattle.machine_theorems.specs.Soundness.Fill.{Alone, ValueRises, success-keeps}
 use Rattle.machine_theorems.specs.Soundness.Results.{first-below}
-use Rattle.machine_theorems.specs.Soundness.Cycle.{Spawned, spawned-of, not-a-task, coroutine-is, no-awaiter, task-flight, coroutine-fits, absent-in-range, absent-fits, remove-keeps, next-keeps, exit-keeps, failure-exit, activate-keeps}
+use Rattle.machine_theorems.specs.Soundness.Cycle.{Spawned, spawned-of, not-a-task, coroutine-is, no-awaiter, task-detached, coroutine-fits, absent-in-range, absent-fits, remove-keeps, next-keeps, exit-keeps, failure-exit, activate-keeps}
 
 -- ---- the running task
 
@@ -62,7 +62,7 @@ is-run-state (TaskState.Raised v) e = absurd (true≢false (sym e))
 is-run-state (TaskState.Blocked o) e = absurd (true≢false (sym e))
 
 -- In the moment of task t, that task runs and no other does.
-module _ (s : Store) (t : ℕ) (h : Whole s) (m : header s .moment ≡ Moment.Running (task-id t)) where
+module _ (s : Store) (t : ℕ) (h : SoundStore s) (m : header s .moment ≡ Moment.Running (task-id t)) where
   pub runner-low : t < header s .next
   unfolding view runner-in-range
   runner-low = ltb→lt t (header s .next) (subst (λ (y : Moment). T (runner-in-range (header s .next) y)) m (h .facts .runner))
@@ -74,13 +74,13 @@ module _ (s : Store) (t : ℕ) (h : Whole s) (m : header s .moment ≡ Moment.Ru
   pub runner-live : T (is-live (task s t .state))
   runner-live = rw runner-runs tt
 
-  pub others-still : (u : ℕ) → (u ≡ t → ⊥) → runs-now (header s .moment) u ≡ false
+  pub others-commits-none : (u : ℕ) → (u ≡ t → ⊥) → runs-now (header s .moment) u ≡ false
   unfolding runs-now
-  others-still u d = ap (λ (y : Moment). runs-now y u) m ∙ ne-eqb t u (λ q. d (sym q))
+  others-commits-none u d = ap (λ (y : Moment). runs-now y u) m ∙ ne-eqb t u (λ q. d (sym q))
 
-  pub still-on : is-ended (header s .moment) ≡ false
+  pub commits-none-on : is-ended (header s .moment) ≡ false
   unfolding is-ended
-  still-on = ap is-ended m
+  commits-none-on = ap is-ended m
 
 -- ---- the end of a spawned task
 
@@ -98,14 +98,14 @@ remove-alone v t q h low l g z (by-task u low-u m e) same = by (ℕ-discrete u (
     nobody : (y : Task) → T (task-in-range (v .header) (v .objects) 0 y) → (f x : HeapId) → y .awaiter ≡ Awaiter.GatherSlot f x → ⊥
     nobody y a f x p = subst (λ (b : Awaiter). T (is-nobody b)) p (both-left _ _ (both-right (not (is-unstarted (y .state))) _ a))
 
-    drives-it : (w : ℕ) → T (is-live (v .tasks (suc w) .state)) → v .tasks (suc w) .coroutine .0 ≡ v .tasks (suc t) .coroutine .0
-        → T (drives-at (v .tasks) (v .tasks (suc t) .coroutine .0) (suc w))
-    drives-it w a c = unfold drives-at in (both _ _ (holds _ (ap not (ne-eqb (suc w) 0 (λ p. omega arith)))) (drives-give _ (v .tasks (suc w)) a c))
+    is-task-of-it : (w : ℕ) → T (is-live (v .tasks (suc w) .state)) → v .tasks (suc w) .coroutine .0 ≡ v .tasks (suc t) .coroutine .0
+        → T (is-task-of-at (v .tasks) (v .tasks (suc t) .coroutine .0) (suc w))
+    is-task-of-it w a c = unfold is-task-of-at in (both _ _ (holds _ (ap not (ne-eqb (suc w) 0 (λ p. omega arith)))) (is-task-of-give _ (v .tasks (suc w)) a c))
 
     other : (w : ℕ) → w < v .header .next → (w ≡ suc t → ⊥) → T (is-live (v .tasks w .state)) → (x : HeapId) → v .tasks w .awaiter ≡ Awaiter.GatherSlot (heap-id g) x
         → v .tasks w .coroutine .0 ≡ v .tasks (suc t) .coroutine .0 → ⊥
     other zero k d a x p c = nobody (v .tasks 0) (h .tasks 0 (h .main)) (heap-id g) x p
-    other (suc w) k d a x p c = d (h .driver (v .tasks (suc t) .coroutine .0) (suc w) (suc t) k low (drives-it w a c) (drives-it t l refl))
+    other (suc w) k d a x p c = d (h .task-of (v .tasks (suc t) .coroutine .0) (suc w) (suc t) k low (is-task-of-it w a c) (is-task-of-it t l refl))
 
     by : Dec (u ≡ suc t) → (w : ℕ) → w ≡ u → T (is-live (update (v .tasks) (suc t) absent w .state))
         → update (v .tasks) (suc t) absent w .awaiter ≡ Awaiter.GatherSlot (heap-id g) (heap-id (update (v .tasks) (suc t) absent w .coroutine .0))
@@ -117,29 +117,29 @@ remove-alone v t q h low l g z (by-task u low-u m e) same = by (ℕ-discrete u (
         (subst (λ (y : Task). y .awaiter ≡ Awaiter.GatherSlot (heap-id g) (heap-id (y .coroutine .0))) same-row b)
         (subst (λ (y : Task). y .coroutine .0 ≡ v .tasks (suc t) .coroutine .0) same-row c)
 
-complete-mid : {r : ℕ → Bool} {D : ℕ → Type 0} {hd : Header} (s : Store) (o : ℕ) → o < header s .made → T (is-coroutine (kind (object s o))) → Mid Nothing r D hd s
-    → Mid Nothing r D hd (put-object s o (completed (object s o)))
+complete-during : {r : ℕ → Bool} {D : ℕ → Type 0} {hd : Header} (s : Store) (o : ℕ) → o < header s .made → T (is-coroutine (kind (object s o))) → SoundDuring Nothing r D hd s
+    → SoundDuring Nothing r D hd (put-object s o (completed (object s o)))
 unfolding view
-complete-mid {r} {D} {hd} s o l c h =
+complete-during {r} {D} {hd} s o l c h =
     let i = coroutine-is (object s o) c in
     let x : Object = Object.Coroutine (i .0) CoroutineState.Completed in
     let q : completed (object s o) ≡ x = ap completed (i .2) ∙ (unfold completed in refl) in
-    subst (λ (y : Object). Mid Nothing r D hd (put-object s o y)) (sym q)
-    (object-mid s h o x (subst ObjectFits (i .2) (object-fits s o)) (coroutine-fits (view s) o (i .0) (i .1) CoroutineState.Completed l (i .2)))
+    subst (λ (y : Object). SoundDuring Nothing r D hd (put-object s o y)) (sym q)
+    (object-during s h o x (subst ObjectFits (i .2) (object-fits s o)) (coroutine-fits (view s) o (i .0) (i .1) CoroutineState.Completed l (i .2)))
 
 -- a flight does not see that a task was removed, if it is not bound for a task
-remove-flight : (s : Store) (t o : ℕ) (x : Happening) (a : Awaiter) → T (is-slot a) → Flight (view s) o a → Flight (view (note (remove-task s t) x)) o a
-unfolding view note remove-task remove-from-ready-queue put-queue put-task object place header
-remove-flight s t o x a k fl =
+remove-detached : (s : Store) (t o : ℕ) (x : LogEntry) (a : Awaiter) → T (is-slot a) → Detached (view s) o a → Detached (view (add-log (remove-task s t) x)) o a
+unfolding view add-log remove-task remove-from-ready-queue put-queue put-task object place header
+remove-detached s t o x a k fl =
     record { made = fl .made; free = fl .free; range = fl .range; slot = fl .slot; task = λ u e z. absurd (not-a-task a k (task-id u) e) }
 
-remove-view : {k : ℕ} {P Q : ℕ → Type 0} (s : Store) (t : ℕ) (x : Happening) → Kept k P Q s → t < header s .next
-    → view (note (remove-task s t) x) ≡ with-task-queue (view s) t absent (entries (remove (s .queue) t))
-unfolding view note remove-task remove-from-ready-queue put-queue put-task task object place header
+remove-view : {k : ℕ} {P Q : ℕ → Type 0} (s : Store) (t : ℕ) (x : LogEntry) → Kept k P Q s → t < header s .next
+    → view (add-log (remove-task s t) x) ≡ with-task-queue (view s) t absent (entries (remove (s .queue) t))
+unfolding view add-log remove-task remove-from-ready-queue put-queue put-task task object place header
 remove-view s t x h low = view-task-queue s h t absent (remove (s .queue) t) (omega (arith, low, h .but .fits .next-fits)) absent-fits
 
 -- A spawned task completes: its coroutine is completed, it is removed, and its value is on its way.
-module _ (s : Store) (t : ℕ) (v : Value) (h : Whole s) (m : header s .moment ≡ Moment.Running (task-id (suc t))) (k : T (value-known (header s .made) (object s) v)) where
+module _ (s : Store) (t : ℕ) (v : Value) (h : SoundStore s) (m : header s .moment ≡ Moment.Running (task-id (suc t))) (k : T (value-known (header s .made) (object s) v)) where
   abbrev c : ℕ
   c = task s (suc t) .coroutine .0
 
@@ -148,7 +148,7 @@ module _ (s : Store) (t : ℕ) (v : Value) (h : Whole s) (m : header s .moment �
 
   -- the store when the value is sent
   abbrev pub left-by : Store
-  left-by = note (remove-task done (suc t)) (exited (suc t))
+  left-by = add-log (remove-task done (suc t)) (exited (suc t))
 
   low : suc t < header s .next
   low = runner-low s (suc t) h m
@@ -157,46 +157,46 @@ module _ (s : Store) (t : ℕ) (v : Value) (h : Whole s) (m : header s .moment �
   unfolding view
   sp = spawned-of t (h .facts .but) low (runner-live s (suc t) h m)
 
-  mid1 : Mid Nothing (runs-now (header s .moment)) (λ o. T (is-completed (kind (object s o)))) (header s) done
+  mid1 : SoundDuring Nothing (runs-now (header s .moment)) (λ o. T (is-completed (kind (object s o)))) (header s) done
   unfolding view
-  mid1 = complete-mid s c (sp .made) (sp .coroutine) (mid-of s h)
+  mid1 = complete-during s c (sp .made) (sp .coroutine) (during-of s h)
 
   low1 : suc t < header done .next
   low1 = subst (λ (y : Header). suc t < y .next) (sym (mid1 .head)) low
 
-  mid2 : Mid Nothing idle (λ o. T (is-completed (kind (object s o)))) (header s) left-by
-  mid2 = remove-keeps done (suc t) mid1 low1 (exited (suc t)) idle refl (λ u d. others-still s (suc t) h m u d)
+  mid2 : SoundDuring Nothing idle (λ o. T (is-completed (kind (object s o)))) (header s) left-by
+  mid2 = remove-keeps done (suc t) mid1 low1 (exited (suc t)) idle refl (λ u d. others-commits-none s (suc t) h m u d)
 
   live1 : T (is-live (task done (suc t) .state))
   unfolding task put-object
   live1 = runner-live s (suc t) h m
 
-  pub completion-rises : ValueRises idle (λ o. T (is-completed (kind (object s o)))) (header s) c v left-by (task s (suc t) .awaiter)
+  pub completion-delivering : ValueRises idle (λ o. T (is-completed (kind (object s o)))) (header s) c v left-by (task s (suc t) .awaiter)
   unfolding view task put-object
-  completion-rises =
+  completion-delivering =
       record {
         known = subst (λ (y : Header). T (value-known (y .made) (object left-by) v)) (sym (mid2 .head)) (value-stays (header s .made) (object s) (object left-by) (mid2 .done) v k);
-        flight = remove-flight done (suc t) c (exited (suc t)) (task s (suc t) .awaiter) (sp .slot) (task-flight done t mid1 low1 live1);
+        flight = remove-detached done (suc t) c (exited (suc t)) (task s (suc t) .awaiter) (sp .slot) (task-detached done t mid1 low1 live1);
         alone = subst (λ (u : View). Alone u c) (sym (remove-view done (suc t) (exited (suc t)) (mid1 .kept) low1))
             (remove-alone (view done) t (entries (remove (done .queue) (suc t))) (mid1 .kept .but) low1 live1);
         mid = take-off left-by (task s (suc t) .awaiter) mid2;
       }
 
   -- It reaches its awaiter.
-  pub completion-lands : Landed idle (λ o. T (is-completed (kind (object s o)))) (header s) (deliver-awaiter-success left-by (task s (suc t) .awaiter) v)
-  completion-lands = success-keeps idle _ (header s) left-by c (task s (suc t) .awaiter) v completion-rises
+  pub completion-delivery-ends : DeliveryEnds idle (λ o. T (is-completed (kind (object s o)))) (header s) (deliver-awaiter-success left-by (task s (suc t) .awaiter) v)
+  completion-delivery-ends = success-keeps idle _ (header s) left-by c (task s (suc t) .awaiter) v completion-delivering
 
   -- The event `complete`, of a spawned task.
-  pub completion-keeps : Whole (handle-task-completion s (suc t) v .store)
+  pub completion-keeps : SoundStore (handle-task-completion s (suc t) v .store)
   unfolding handle-task-completion
-  completion-keeps = exit-keeps _ (header s) (still-on s (suc t) h m) activate (activate-keeps _ (header s) (still-on s (suc t) h m)) _ completion-lands
+  completion-keeps = exit-keeps _ (header s) (commits-none-on s (suc t) h m) activate (activate-keeps _ (header s) (commits-none-on s (suc t) h m)) _ completion-delivery-ends
 
 -- The event `fail`, of a spawned task.
-pub fail-keeps : (s : Store) (t : ℕ) (e : Error) → Whole s → header s .moment ≡ Moment.Running (task-id (suc t)) → ErrorFits e
-    → Whole (handle-task-failure activate s (suc t) e .store)
+pub fail-keeps : (s : Store) (t : ℕ) (e : Error) → SoundStore s → header s .moment ≡ Moment.Running (task-id (suc t)) → ErrorFits e
+    → SoundStore (handle-task-failure activate s (suc t) e .store)
 fail-keeps s t e h m k =
-    failure-exit (λ o. T (is-completed (kind (object s o)))) (header s) (still-on s (suc t) h m) activate (activate-keeps _ (header s) (still-on s (suc t) h m)) s t e
-    (runs-now (header s .moment)) k (runner-low s (suc t) h m) (runner-live s (suc t) h m) (others-still s (suc t) h m) (mid-of s h)
+    failure-exit (λ o. T (is-completed (kind (object s o)))) (header s) (commits-none-on s (suc t) h m) activate (activate-keeps _ (header s) (commits-none-on s (suc t) h m)) s t e
+    (runs-now (header s .moment)) k (runner-low s (suc t) h m) (runner-live s (suc t) h m) (others-commits-none s (suc t) h m) (during-of s h)
 
 -- ---- the session's end
 
@@ -207,33 +207,33 @@ remove-queue zero s t q = refl
 remove-queue (suc k) s t q = by (is-live (task s t .state)) (λ x. remove-queue k x (t + 1) q) ∙ ap (λ (x : Store). remove-from x (t + 1) k) (same (is-live (task s t .state)))
   where
     by : (b : Bool) → ((x : Store) → put-queue (remove-from x (t + 1) k) q ≡ remove-from (put-queue x q) (t + 1) k)
-        → put-queue (remove-from (pick b (note (put-task s t absent) (removed t)) s) (t + 1) k) q
-        ≡ remove-from (put-queue (pick b (note (put-task s t absent) (removed t)) s) q) (t + 1) k
-    by b f = f (pick b (note (put-task s t absent) (removed t)) s)
+        → put-queue (remove-from (pick b (add-log (put-task s t absent) (removed t)) s) (t + 1) k) q
+        ≡ remove-from (put-queue (pick b (add-log (put-task s t absent) (removed t)) s) q) (t + 1) k
+    by b f = f (pick b (add-log (put-task s t absent) (removed t)) s)
 
-    same : (b : Bool) → put-queue (pick b (note (put-task s t absent) (removed t)) s) q ≡ pick b (note (put-task (put-queue s q) t absent) (removed t)) (put-queue s q)
-    same true = unfold put-queue note put-task in refl
+    same : (b : Bool) → put-queue (pick b (add-log (put-task s t absent) (removed t)) s) q ≡ pick b (add-log (put-task (put-queue s q) t absent) (removed t)) (put-queue s q)
+    same true = unfold put-queue add-log put-task in refl
     same false = refl
 
 -- r, but for t
 abbrev but-for : (ℕ → Bool) → ℕ → ℕ → Bool
 but-for r t u = pick (eqb t u) false (r u)
 
-not-live-still : (x : TaskState) → is-live x ≡ false → is-running x ≡ false
-not-live-still TaskState.Absent e = refl
-not-live-still TaskState.Unstarted e = refl
-not-live-still TaskState.Running e = e
-not-live-still (TaskState.Woken v) e = refl
-not-live-still (TaskState.Raised v) e = refl
-not-live-still (TaskState.Blocked o) e = refl
+not-live-commits-none : (x : TaskState) → is-live x ≡ false → is-running x ≡ false
+not-live-commits-none TaskState.Absent e = refl
+not-live-commits-none TaskState.Unstarted e = refl
+not-live-commits-none TaskState.Running e = e
+not-live-commits-none (TaskState.Woken v) e = refl
+not-live-commits-none (TaskState.Raised v) e = refl
+not-live-commits-none (TaskState.Blocked o) e = refl
 
 module _ {D : ℕ → Type 0} {hd : Header} where
   -- a task goes, and nothing stands in the queue
-  end-one : {r : ℕ → Bool} (s : Store) (t : ℕ) → entries (s .queue) ≡ [] → t < header s .next → Mid Nothing r D hd s
-      → Mid Nothing (but-for r t) D hd (note (put-task s t absent) (removed t))
+  end-one : {r : ℕ → Bool} (s : Store) (t : ℕ) → entries (s .queue) ≡ [] → t < header s .next → SoundDuring Nothing r D hd s
+      → SoundDuring Nothing (but-for r t) D hd (add-log (put-task s t absent) (removed t))
   unfolding put-queue put-task
   end-one {r} s t e low h =
-      note-mid (put-task s t absent) (task-mid s h t absent (s .queue) low absent-fits (h .kept .memory .fine .queue-fine) (h .kept .memory .ids) write now) (removed t)
+      add-log-during (put-task s t absent) (task-during s h t absent (s .queue) low absent-fits (h .kept .memory .fine .queue-fine) (h .kept .memory .ids) write now) (removed t)
     where
       none-queued : Queued (header s .next) (update (task s) t absent) (entries (s .queue))
       none-queued =
@@ -257,8 +257,8 @@ module _ {D : ℕ → Type 0} {hd : Header} where
       now u l = unfold with-task-queue view in (update-case (task s) t absent (λ (y : Task). is-running (y .state) ≡ but-for r t u) u
           (λ q. unfold absent in (rw (eq-eqb t u (sym q)))) (λ d. rw (ne-eqb t u (λ q. d (sym q))) (h .runs u l)))
 
-  end-all : (k : ℕ) (s : Store) (t : ℕ) (r : ℕ → Bool) → t + k ≡ hd .next → entries (s .queue) ≡ [] → ((u : ℕ) → u < t → r u ≡ false) → Mid Nothing r D hd s
-      → Mid Nothing idle D hd (remove-from s t k)
+  end-all : (k : ℕ) (s : Store) (t : ℕ) (r : ℕ → Bool) → t + k ≡ hd .next → entries (s .queue) ≡ [] → ((u : ℕ) → u < t → r u ≡ false) → SoundDuring Nothing r D hd s
+      → SoundDuring Nothing idle D hd (remove-from s t k)
   unfolding remove-from view
   end-all zero s t r e q f h = record { kept = h .kept; runs = λ u l. h .runs u l ∙ f u (omega (arith, l, ap (λ (y : Header). y .next) (h .head))); done = h .done; head = h .head }
   end-all (suc k) s t r e q f h = by (is-live (task s t .state)) refl (λ x z p g m. end-all k x (t + 1) z (omega arith) p g m)
@@ -267,9 +267,9 @@ module _ {D : ℕ → Type 0} {hd : Header} where
       low = omega (arith, ap (λ (y : Header). y .next) (h .head))
 
       by : (b : Bool) → is-live (task s t .state) ≡ b
-          → ((x : Store) (z : ℕ → Bool) → entries (x .queue) ≡ [] → ((u : ℕ) → u < t + 1 → z u ≡ false) → Mid Nothing z D hd x → Mid Nothing idle D hd (remove-from x (t + 1) k))
-          → Mid Nothing idle D hd (remove-from (pick b (note (put-task s t absent) (removed t)) s) (t + 1) k)
-      by true l go = go (note (put-task s t absent) (removed t)) (but-for r t) (unfold note put-task in q) past (end-one s t q low h)
+          → ((x : Store) (z : ℕ → Bool) → entries (x .queue) ≡ [] → ((u : ℕ) → u < t + 1 → z u ≡ false) → SoundDuring Nothing z D hd x → SoundDuring Nothing idle D hd (remove-from x (t + 1) k))
+          → SoundDuring Nothing idle D hd (remove-from (pick b (add-log (put-task s t absent) (removed t)) s) (t + 1) k)
+      by true l go = go (add-log (put-task s t absent) (removed t)) (but-for r t) (unfold add-log put-task in q) past (end-one s t q low h)
         where
           past : (u : ℕ) → u < t + 1 → but-for r t u ≡ false
           past u m = at (ℕ-discrete u t)
@@ -283,15 +283,15 @@ module _ {D : ℕ → Type 0} {hd : Header} where
           past u m = at (ℕ-discrete u t)
             where
               at : Dec (u ≡ t) → r u ≡ false
-              at (yes p) = ap r p ∙ (sym (h .runs t low) ∙ not-live-still (task s t .state) l)
+              at (yes p) = ap r p ∙ (sym (h .runs t low) ∙ not-live-commits-none (task s t .state) l)
               at (no p) = f u (omega arith)
 
 -- The events `complete` and `fail`, of main.
-pub end-keeps : (s : Store) → Whole s → Whole (cleanup s)
+pub end-keeps : (s : Store) → SoundStore s → SoundStore (cleanup s)
 unfolding cleanup runs-now runner-in-range
 end-keeps s h =
-    moment-whole {D = D} {hd = hd} (put-queue (remove-from s 0 (header s .next)) empty-queue) Moment.Ended tt tt (λ z. absurd (ended z))
-    (subst (Mid Nothing idle D hd) (sym (remove-queue (header s .next) s 0 empty-queue)) all-gone)
+    moment-sound-store {D = D} {hd = hd} (put-queue (remove-from s 0 (header s .next)) empty-queue) Moment.Ended tt tt (λ z. absurd (ended z))
+    (subst (SoundDuring Nothing idle D hd) (sym (remove-queue (header s .next) s 0 empty-queue)) all-gone)
   where
     D : ℕ → Type 0
     D = λ o. T (is-completed (kind (object s o)))
@@ -302,11 +302,11 @@ end-keeps s h =
     ended : is-ended Moment.Ended ≡ false → ⊥
     ended z = unfold is-ended in (true≢false z)
 
-    emptied : Mid Nothing (runs-now (header s .moment)) D hd (put-queue s empty-queue)
-    emptied = queue-mid s (mid-of s h) empty-queue (unfold empty-queue in (omega arith)) (unfold empty-queue in refl)
+    emptied : SoundDuring Nothing (runs-now (header s .moment)) D hd (put-queue s empty-queue)
+    emptied = queue-during s (during-of s h) empty-queue (unfold empty-queue in (omega arith)) (unfold empty-queue in refl)
         (λ z. subst (Queued (header s .next) (task s)) (sym entries-empty) (none-ready (header s .next) (task s)))
 
-    all-gone : Mid Nothing idle D hd (remove-from (put-queue s empty-queue) 0 (header s .next))
+    all-gone : SoundDuring Nothing idle D hd (remove-from (put-queue s empty-queue) 0 (header s .next))
     all-gone = end-all (header s .next) (put-queue s empty-queue) 0 (runs-now (header s .moment)) (omega arith) (unfold put-queue in entries-empty)
         (λ u l. absurd (not-suc-le-zero {n = 0} (omega arith))) emptied
 
@@ -314,70 +314,70 @@ end-keeps s h =
 
 module _ (D : ℕ → Type 0) (hd : Header) where
   -- no task runs, and the drivers are tasks below the next number
-  record Quiet (w : Walk) : Type 0 where
-    mid : Mid Nothing idle D hd (w .store)
-    low : (o t : ℕ) → w .drivers o ≡ some t → t < hd .next
+  record OnlyChanges (w : Walk) : Type 0 where
+    mid : SoundDuring Nothing idle D hd (w .store)
+    low : (o t : ℕ) → w .tasks-of o ≡ some t → t < hd .next
 
-  one-keeps : (s : Store) (t : ℕ) → t < hd .next → Mid Nothing idle D hd s → Mid Nothing idle D hd (cancel-one s t)
+  one-keeps : (s : Store) (t : ℕ) → t < hd .next → SoundDuring Nothing idle D hd s → SoundDuring Nothing idle D hd (cancel-one s t)
   unfolding cancel-one
   one-keeps s t low h = remove-keeps s t h (subst (λ (y : Header). t < y .next) (sym (h .head)) low) (removed t) idle refl (λ u d. refl)
 
-  reach-quiet : (w : Walk) (g : ℕ) → Quiet w → Quiet (reach w g)
+  reach-only-changes : (w : Walk) (g : ℕ) → OnlyChanges w → OnlyChanges (reach w g)
   unfolding reach
-  reach-quiet w g h = by (is-some (as-awaited (object (w .store) g)) && not (getD (w .marks) g false))
+  reach-only-changes w g h = by (is-some (as-awaited (object (w .store) g)) && not (getD (w .marks) g false))
     where
-      by : (b : Bool) → Quiet (reach-if w g b)
+      by : (b : Bool) → OnlyChanges (reach-if w g b)
       by true = unfold reach-if in (record { mid = h .mid; low = h .low })
       by false = unfold reach-if in h
 
-  blocked-quiet : (w : Walk) (t : ℕ) (b : Option ℕ) → t < hd .next → Quiet w → Quiet (remove-blocked w t b)
+  blocked-only-changes : (w : Walk) (t : ℕ) (b : Option ℕ) → t < hd .next → OnlyChanges w → OnlyChanges (remove-blocked w t b)
   unfolding remove-blocked
-  blocked-quiet w t none l h = record { mid = one-keeps (w .store) t l (h .mid); low = h .low }
-  blocked-quiet w t (some b) l h = reach-quiet _ b (record { mid = one-keeps (w .store) t l (h .mid); low = h .low })
+  blocked-only-changes w t none l h = record { mid = one-keeps (w .store) t l (h .mid); low = h .low }
+  blocked-only-changes w t (some b) l h = reach-only-changes _ b (record { mid = one-keeps (w .store) t l (h .mid); low = h .low })
 
-  visit-quiet : (w : Walk) (o : ℕ) → Quiet w → Quiet (visit w o)
+  visit-only-changes : (w : Walk) (o : ℕ) → OnlyChanges w → OnlyChanges (visit w o)
   unfolding visit
-  visit-quiet w o h = by (w .drivers o) refl
+  visit-only-changes w o h = by (w .tasks-of o) refl
     where
-      by-live : (t : ℕ) → t < hd .next → (b : Bool) → Quiet (visit-by w o (pick b (some t) none))
-      by-live t l true = unfold visit-by in (blocked-quiet w t _ l h)
-      by-live t l false = unfold visit-by in (reach-quiet w o h)
+      by-live : (t : ℕ) → t < hd .next → (b : Bool) → OnlyChanges (visit-by w o (pick b (some t) none))
+      by-live t l true = unfold visit-by in (blocked-only-changes w t _ l h)
+      by-live t l false = unfold visit-by in (reach-only-changes w o h)
 
-      by : (d : Option ℕ) → w .drivers o ≡ d → Quiet (visit-by w o (still-live (w .store .tasks) d))
-      by none e = unfold still-live visit-by in (reach-quiet w o h)
+      by : (d : Option ℕ) → w .tasks-of o ≡ d → OnlyChanges (visit-by w o (still-live (w .store .tasks) d))
+      by none e = unfold still-live visit-by in (reach-only-changes w o h)
       by (some t) e = unfold still-live in (by-live t (h .low o t e) (is-live (task-at (w .store .tasks) t .state)))
 
-  place-quiet : (w : Walk) (p i m : ℕ) → Quiet w → Quiet (visit-place w p i m)
+  place-only-changes : (w : Walk) (p i m : ℕ) → OnlyChanges w → OnlyChanges (visit-place w p i m)
   unfolding visit-place
-  place-quiet w p i m h = by (bit m i)
+  place-only-changes w p i m h = by (bit m i)
     where
-      by : (b : Bool) → Quiet (pick b (visit w (place (w .store) p .item .0)) w)
-      by true = visit-quiet w (place (w .store) p .item .0) h
+      by : (b : Bool) → OnlyChanges (pick b (visit w (place (w .store) p .item .0)) w)
+      by true = visit-only-changes w (place (w .store) p .item .0) h
       by false = h
 
-  open-quiet : (k : ℕ) (w : Walk) (a : AwaitedGather) (i : ℕ) → Quiet w → Quiet (visit-open w a i k)
+  open-only-changes : (k : ℕ) (w : Walk) (a : AwaitedGather) (i : ℕ) → OnlyChanges w → OnlyChanges (visit-open w a i k)
   unfolding visit-open
-  open-quiet zero w a i h = h
-  open-quiet (suc k) w a i h = open-quiet k (visit-place w (a .first + i) i (a .open-places)) a (i + 1) (place-quiet w (a .first + i) i (a .open-places) h)
+  open-only-changes zero w a i h = h
+  open-only-changes (suc k) w a i h = open-only-changes k (visit-place w (a .first + i) i (a .open-places)) a (i + 1) (place-only-changes w (a .first + i) i (a .open-places) h)
 
-  gather-quiet : (w : Walk) (a : Option AwaitedGather) → Quiet w → Quiet (walk-gather w a)
+  gather-only-changes : (w : Walk) (a : Option AwaitedGather) → OnlyChanges w → OnlyChanges (walk-gather w a)
   unfolding walk-gather
-  gather-quiet w none h = h
-  gather-quiet w (some a) h = open-quiet (a .count) w a 0 h
+  gather-only-changes w none h = h
+  gather-only-changes w (some a) h = open-only-changes (a .count) w a 0 h
 
-  walk-quiet : (k : ℕ) (w : Walk) → Quiet w → Mid Nothing idle D hd (walk k w)
+  walk-only-changes : (k : ℕ) (w : Walk) → OnlyChanges w → SoundDuring Nothing idle D hd (walk k w)
   unfolding walk
-  walk-quiet zero w h = h .mid
-  walk-quiet (suc k) w h = by (w .stack) (λ x y. walk-quiet k x y)
+  walk-only-changes zero w h = h .mid
+  walk-only-changes (suc k) w h = by (w .stack) (λ x y. walk-only-changes k x y)
     where
-      by : (gs : List ℕ) → ((x : Walk) → Quiet x → Mid Nothing idle D hd (walk k x)) → Mid Nothing idle D hd (walk-next (λ x. walk k x) w gs)
+      by : (gs : List ℕ) → ((x : Walk) → OnlyChanges x → SoundDuring Nothing idle D hd (walk k x)) → SoundDuring Nothing idle D hd (walk-next (λ x. walk k x) w gs)
       by [] go = unfold walk-next in (h .mid)
-      by (g ∷ gs) go = unfold walk-next in (go _ (gather-quiet _ _ (record { mid = h .mid; low = h .low })))
+      by (g ∷ gs) go = unfold walk-next in (go _ (gather-only-changes _ _ (record { mid = h .mid; low = h .low })))
 
-  pub cancel-mid : (s : Store) (t : ℕ) → t < hd .next → Mid Nothing idle D hd s → Mid Nothing idle D hd (cancel-task s t)
-  unfolding cancel-task walk-from driver driver-in
-  cancel-mid s t l h =
-      walk-quiet object-limit (remove-blocked (walk-from s) t (blocked-on (task s t .state))) (blocked-quiet (walk-from s) t _ l
+  pub cancel-during : (s : Store) (t : ℕ) → t < hd .next → SoundDuring Nothing idle D hd s → SoundDuring Nothing idle D hd (cancel-task s t)
+  unfolding cancel-task walk-from task-of task-of-in
+  cancel-during s t l h =
+      walk-only-changes object-limit (remove-blocked (walk-from s) t (blocked-on (task s t .state))) (blocked-only-changes (walk-from s) t _ l
       (record { mid = h; low = λ o u e. omega (arith, first-below _ (header s .next - 1) 1 u e, ap (λ (y : Header). y .next) (h .head), h .kept .but .main) }))
 
 -- in waiting nobody runs
@@ -386,25 +386,25 @@ unfolding runs-now
 none-runs s m u = ap (λ (y : Moment). runs-now y u) m
 
 -- so at the beginning of an event no task runs
-pub quiet-of : (s : Store) → Whole s → header s .moment ≡ Moment.Waiting → Mid Nothing idle (λ o. T (is-completed (kind (object s o)))) (header s) s
-quiet-of s h m = let k = mid-of s h in record { kept = k .kept; runs = λ u l. k .runs u l ∙ none-runs s m u; done = k .done; head = k .head }
+pub only-changes-of : (s : Store) → SoundStore s → header s .moment ≡ Moment.Waiting → SoundDuring Nothing idle (λ o. T (is-completed (kind (object s o)))) (header s) s
+only-changes-of s h m = let k = during-of s h in record { kept = k .kept; runs = λ u l. k .runs u l ∙ none-runs s m u; done = k .done; head = k .head }
 
 -- The event `cancel`.
-pub cancel-keeps : (s : Store) (t : ℕ) → Whole s → header s .moment ≡ Moment.Waiting → t < header s .next → Whole (cancel-task s t)
+pub cancel-keeps : (s : Store) (t : ℕ) → SoundStore s → header s .moment ≡ Moment.Waiting → t < header s .next → SoundStore (cancel-task s t)
 unfolding view runner-in-range
 cancel-keeps s t h m l =
-    let c = cancel-mid (λ o. T (is-completed (kind (object s o)))) (header s) s t l (quiet-of s h m) in
-    whole-mid (cancel-task s t) (h .facts .runner)
+    let c = cancel-during (λ o. T (is-completed (kind (object s o)))) (header s) s t l (only-changes-of s h m) in
+    sound-store-during (cancel-task s t) (h .facts .runner)
     (record { kept = c .kept; runs = λ u z. c .runs u z ∙ sym (none-runs s m u); done = c .done; head = c .head })
 
 -- The event `resume`.
-pub resume-keeps : (s : Store) → Whole s → header s .moment ≡ Moment.Waiting → Whole (resume-with-resolved-futures s .store)
+pub resume-keeps : (s : Store) → SoundStore s → header s .moment ≡ Moment.Waiting → SoundStore (resume-with-resolved-futures s .store)
 unfolding resume-with-resolved-futures switched is-ended
 resume-keeps s h m = by (eqb (s .queue .len) 0)
   where
     on : is-ended (header s .moment) ≡ false
     on = ap is-ended m
 
-    by : (b : Bool) → Whole (pick b (record { store = s; answer = repeat-wait (pending-call-ids s) }) (switched (resume-next activate s)) .store)
+    by : (b : Bool) → SoundStore (pick b (record { store = s; answer = repeat-wait (pending-call-ids s) }) (switched (resume-next activate s)) .store)
     by true = h
-    by false = next-keeps _ (header s) on activate (activate-keeps _ (header s) on) s (quiet-of s h m)
+    by false = next-keeps _ (header s) on activate (activate-keeps _ (header s) on) s (only-changes-of s h m)

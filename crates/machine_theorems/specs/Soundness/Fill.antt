@@ -42,8 +42,8 @@ use Rattle.machine_laws.specs.DeliveryLaws.{absurd-some, awaited-object, awaite
 use Rattle.machine_theorems.specs.Bounds.Bits.{bit-clear}
 use Rattle.machine_theorems.specs.Soundness.PutObject.{Held, by-object, by-task, Fits}
 use Rattle.machine_theorems.specs.Soundness.PutTask.{PlacesWrite}
-use Rattle.machine_theorems.specs.Soundness.Stores.{Mid, object-mid, place-mid}
-use Rattle.machine_theorems.specs.Soundness.Deliver.{nobody-task, nobody-slot, task-slot, Landed, InFlight, Flight, landed, nobody-lands, Settles, settle-keeps, flight-keeps, Resumes, reach-keeps, awaiter-is, Done, gather-settles, open-lower}
+use Rattle.machine_theorems.specs.Soundness.Stores.{SoundDuring, object-during, place-during}
+use Rattle.machine_theorems.specs.Soundness.Deliver.{nobody-task, nobody-slot, task-slot, DeliveryEnds, Delivering, Detached, landed, nobody-delivery-ends, Settles, settle-keeps, detached-keeps, Resumes, reach-keeps, awaiter-is, Done, gather-settles, open-lower}
 use Rattle.machine_theorems.specs.Soundness.Deliver.{Sends, sends-nothing, sends-on}
 
 -- ---- what an awaited gather's row says
@@ -91,11 +91,11 @@ or-right-true true b t = tt
 or-right-true false b t = t
 
 -- One step of a value's climb: the open places of an awaited gather that name the source x are filled.
-module _ {r : ℕ → Bool} {D : ℕ → Type 0} {hd : Header} (s : Store) (g x : ℕ) (v : Value) (w : AwaitedGather) (h : Mid Nothing r D hd s)
+module _ {r : ℕ → Bool} {D : ℕ → Type 0} {hd : Header} (s : Store) (g x : ℕ) (v : Value) (w : AwaitedGather) (h : SoundDuring Nothing r D hd s)
     (l : g < header s .made) (e : as-awaited (object s g) ≡ some w) (k : T (value-known (header s .made) (object s) v)) where
   -- the places' words and the open word while places are filled
   pub record Filling (ps : List ℕ) (m : ℕ) : Type 0 where
-    pub mid : Mid Nothing r D hd (put-places s ps)
+    pub mid : SoundDuring Nothing r D hd (put-places s ps)
     pub item : (p : ℕ) → place-at ps p .item ≡ place s p .item
     pub less : m ≤ w .open-places
     pub rest : T (rest-filled (place-at ps) (w .first) (w .count) m)
@@ -146,7 +146,7 @@ module _ {r : ℕ → Bool} {D : ℕ → Type 0} {hd : Header} (s : Store) (g x 
     written : Filling (place-put ps at row) (m - 2 ^ i)
     written =
         record {
-          mid = unfold put-places put-place in (place-mid u (f .mid) at row low-used row-fits row-write);
+          mid = unfold put-places put-place in (place-during u (f .mid) at row low-used row-fits row-write);
           item = λ p. ap (λ (y : Place). y .item) (now p)
               ∙ update-case (place-at ps) at row (λ (y : Place). y .item ≡ place s p .item) p (λ q. ap (λ (j : ℕ). place-at ps j .item) (sym q) ∙ f .item p) (λ d. f .item p);
           less = omega (arith, f .less);
@@ -210,7 +210,7 @@ settle-alone v o x st c h g z (by-task t m l e) q =
     true≢false (sym (is-true _ (subst (λ (j : ℕ). T (is-coroutine (kind (v .objects j)))) q is-one)) ∙ (sym (st .coroutine) ∙ c))
 
 pub alone-keeps : {r : ℕ → Bool} {D : ℕ → Type 0} {hd : Header} (s : Store) (o : ℕ) (x : Object) → ObjectFits x → Settles (view s) o x → is-coroutine (kind x) ≡ false
-    → Mid Nothing r D hd s → Alone (view (put-object s o x)) o
+    → SoundDuring Nothing r D hd s → Alone (view (put-object s o x)) o
 alone-keeps s o x f st c h =
     subst (λ (v : View). Alone v o) (sym (view-put-object s o x (h .kept .memory .sized) (omega (arith, st .made, h .kept .but .fits .made-fits)) f))
     (settle-alone (view s) o x st c (h .kept .but))
@@ -287,7 +287,7 @@ unfolding view put-places task object header
 held-places s ps g z (by-object y l n e) = by-object y l n e
 held-places s ps g z (by-task t m l e) = by-task t m l e
 
-module _ {r : ℕ → Bool} {D : ℕ → Type 0} {hd : Header} (s : Store) (g x : ℕ) (v : Value) (w : AwaitedGather) (h : Mid Nothing r D hd s)
+module _ {r : ℕ → Bool} {D : ℕ → Type 0} {hd : Header} (s : Store) (g x : ℕ) (v : Value) (w : AwaitedGather) (h : SoundDuring Nothing r D hd s)
     (l : g < header s .made) (e : as-awaited (object s g) ≡ some w) (k : T (value-known (header s .made) (object s) v)) where
   mask : ℕ
   mask = after s g x v w h l e k .open-places
@@ -310,7 +310,7 @@ module _ {r : ℕ → Bool} {D : ℕ → Type 0} {hd : Header} (s : Store) (g x 
   unfolding middle object put-places
   same-object o = refl
 
-  mid : Mid Nothing r D hd middle
+  mid : SoundDuring Nothing r D hd middle
   unfolding middle
   mid = fills .mid
 
@@ -344,10 +344,10 @@ module _ {r : ℕ → Bool} {D : ℕ → Type 0} {hd : Header} (s : Store) (g x 
       (sym (object-put-object middle g full (mid .kept .memory .sized) (omega (arith, made, mid .kept .but .fits .made-fits)) full-fits)) (unfold full kind in tt))
 
   -- it waits on
-  waits-keeps : (mask ≡ 0 → ⊥) → ((z : ℕ) → Held Nothing (view s) g z → z ≡ x → ⊥) → Mid Nothing r D hd (put-object middle g (awaits-on w mask))
+  waits-keeps : (mask ≡ 0 → ⊥) → ((z : ℕ) → Held Nothing (view s) g z → z ≡ x → ⊥) → SoundDuring Nothing r D hd (put-object middle g (awaits-on w mask))
   unfolding view
   waits-keeps some-open alone =
-      object-mid middle mid g (awaits-on w mask) (old-fits .0, (old-fits .1 .0, omega (arith, fills .less, old-fits .1 .1)))
+      object-during middle mid g (awaits-on w mask) (old-fits .0, (old-fits .1 .0, omega (arith, fills .less, old-fits .1 .1)))
       (mask-fits (view middle) g mask w (mid .kept .but) made awaited small (holds _ (ap not (ne-eqb mask 0 some-open))) rest
       (λ z t i b n. fills .kept i b (λ y. alone z (unfold middle in (held-places s (after s g x v w h l e k .places) g z t)) (sym n ∙ (item-same (w .first + i) ∙ y)))))
     where
@@ -374,9 +374,9 @@ module _ {r : ℕ → Bool} {D : ℕ → Type 0} {hd : Header} (s : Store) (g x 
 -- a value of object o on its way to awaiter a; no other holder has o for its source
 pub record ValueRises (r : ℕ → Bool) (D : ℕ → Type 0) (hd : Header) (o : ℕ) (v : Value) (s : Store) (a : Awaiter) : Type 0 where
   pub known : T (value-known (header s .made) (object s) v)
-  pub flight : Flight (view s) o a
+  pub flight : Detached (view s) o a
   pub alone : Alone (view s) o
-  pub mid : Mid (InFlight a) r D hd s
+  pub mid : SoundDuring (Delivering a) r D hd s
 
 module _ (r : ℕ → Bool) (D : ℕ → Type 0) (hd : Header) where
   -- it fills its places in the gather of a slot, if that is still awaited
@@ -388,7 +388,7 @@ module _ (r : ℕ → Bool) (D : ℕ → Type 0) (hd : Header) where
       R : Store → Awaiter → Type 0
       R = ValueRises r D hd g (Value.List (heap-id g))
 
-      h : Mid Nothing r D hd s
+      h : SoundDuring Nothing r D hd s
       h = landed s (λ u z. task-slot (sym z)) (i .mid)
 
       sl : Slotted (header s .made) (object s) (place s) o g x
@@ -417,22 +417,22 @@ module _ (r : ℕ → Bool) (D : ℕ → Type 0) (hd : Header) where
           left true z =
               let st : Settles (view md) g fu = all-settles s g x v w h (sl .made) q k (eqb-true mk 0 z) in
               let fit : ObjectFits fu = full-fits s g x v w h (sl .made) q k in
-              let keep : Mid Nothing r D hd md = mid s g x v w h (sl .made) q k in
+              let keep : SoundDuring Nothing r D hd md = mid s g x v w h (sl .made) q k in
               subst (Sends r D hd R o g) (sym (resolved s g x v w h (sl .made) q k z))
               (sends-on r D hd R o g (put-object md g fu) (w .awaiter)
               (record {
                 known = list-known s g x v w h (sl .made) q k;
-                flight = subst (λ (a : Awaiter). Flight (view (put-object md g fu)) g a) aw (flight-keeps md g fu fit st keep);
+                flight = subst (λ (a : Awaiter). Detached (view (put-object md g fu)) g a) aw (detached-keeps md g fu fit st keep);
                 alone = alone-keeps md g fu fit st (unfold full kind in refl) keep;
-                mid = subst (λ (a : Awaiter). Mid (InFlight a) r D hd (put-object md g fu)) aw (settle-keeps md g fu fit st keep);
+                mid = subst (λ (a : Awaiter). SoundDuring (Delivering a) r D hd (put-object md g fu)) aw (settle-keeps md g fu fit st keep);
               }) (open-lower g w o (h .kept .but) (sl .made) q (sl .opens w q)))
           left false z =
               subst (Sends r D hd R o g) (sym (resolved-on s g x v w h (sl .made) q k z))
               (sends-nothing r D hd R o g _ (waits-keeps s g x v w h (sl .made) q k (eqb-false mk 0 z) (λ y t p. i .alone g y t (p ∙ sl .own))))
 
   success-slot : (n : ℕ) (s : Store) (o g x : ℕ) (v : Value) → object-limit ≤ suc n + o → ValueRises r D hd o v s (Awaiter.GatherSlot (heap-id g) (heap-id x))
-      → ((s : Store) (o : ℕ) (a : Awaiter) (v : Value) → object-limit ≤ n + o → ValueRises r D hd o v s a → Landed r D hd (deliver-awaiter-success s a v))
-      → Landed r D hd (deliver-awaiter-success s (Awaiter.GatherSlot (heap-id g) (heap-id x)) v)
+      → ((s : Store) (o : ℕ) (a : Awaiter) (v : Value) → object-limit ≤ n + o → ValueRises r D hd o v s a → DeliveryEnds r D hd (deliver-awaiter-success s a v))
+      → DeliveryEnds r D hd (deliver-awaiter-success s (Awaiter.GatherSlot (heap-id g) (heap-id x)) v)
   unfolding view
   success-slot n s o g x v f i go = by (resolve-child s g x v .onward) refl
     where
@@ -442,20 +442,20 @@ module _ (r : ℕ → Bool) (D : ℕ → Type 0) (hd : Header) where
       low : g < object-limit
       low = omega (arith, i .flight .slot g x refl .made, i .mid .kept .but .fits .made-fits)
 
-      by : (b : Option Awaiter) → resolve-child s g x v .onward ≡ b → Landed r D hd (deliver-awaiter-success s (Awaiter.GatherSlot (heap-id g) (heap-id x)) v)
-      by none q = unfold deliver-awaiter-success send-value in (rw q (unfold climb in (nobody-lands _ (sent .stays q))))
+      by : (b : Option Awaiter) → resolve-child s g x v .onward ≡ b → DeliveryEnds r D hd (deliver-awaiter-success s (Awaiter.GatherSlot (heap-id g) (heap-id x)) v)
+      by none q = unfold deliver-awaiter-success send-value in (rw q (unfold climb in (nobody-delivery-ends _ (sent .stays q))))
       by (some a) q =
           rw (success-climbs s (heap-id g) (heap-id x) v a (i .mid .kept .memory .sized) low q) (go _ g a (Value.List (heap-id g)) (omega (arith, sent .up a q)) (sent .rises a q))
 
-  success-climb : (n : ℕ) (s : Store) (o : ℕ) (a : Awaiter) (v : Value) → object-limit ≤ n + o → ValueRises r D hd o v s a → Landed r D hd (deliver-awaiter-success s a v)
+  success-climb : (n : ℕ) (s : Store) (o : ℕ) (a : Awaiter) (v : Value) → object-limit ≤ n + o → ValueRises r D hd o v s a → DeliveryEnds r D hd (deliver-awaiter-success s a v)
   unfolding view
   success-climb zero s o a v f i = absurd (not-suc-le-zero {n = 0} (omega (arith, f, i .flight .made, i .mid .kept .but .fits .made-fits)))
-  success-climb (suc n) s o Awaiter.Nobody v f i = unfold deliver-awaiter-success send-value in (nobody-lands s (landed s (λ u z. nobody-task z) (i .mid)))
+  success-climb (suc n) s o Awaiter.Nobody v f i = unfold deliver-awaiter-success send-value in (nobody-delivery-ends s (landed s (λ u z. nobody-task z) (i .mid)))
   success-climb (suc n) s o (Awaiter.Task t) v f i = unfold deliver-awaiter-success send-value in
       (reach-keeps s (t .0) o (TaskState.Woken v) (woken-resumes v) (value-fits (header s .made) (object s) v (i .mid .kept .but .fits .made-fits) (i .known))
       (unfold state-values in (i .known)) (i .flight) (i .mid))
   success-climb (suc n) s o (Awaiter.GatherSlot g x) v f i = success-slot n s o (g .0) (x .0) v f i (λ y p b w j m. success-climb n y p b w j m)
 
   -- A value of object o goes to its awaiter.
-  pub success-keeps : (s : Store) (o : ℕ) (a : Awaiter) (v : Value) → ValueRises r D hd o v s a → Landed r D hd (deliver-awaiter-success s a v)
+  pub success-keeps : (s : Store) (o : ℕ) (a : Awaiter) (v : Value) → ValueRises r D hd o v s a → DeliveryEnds r D hd (deliver-awaiter-success s a v)
   success-keeps s o a v i = success-climb object-limit s o a v (omega arith) i

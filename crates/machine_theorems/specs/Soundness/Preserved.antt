@@ -25,7 +25,7 @@ use Rattle.machine.specs.Sound.{is-ended, value-known}
 use Rattle.machine_laws.specs.TestLaws.{not-not, both, both-left, both-right, or-left, or-right}
 use Rattle.machine_laws.specs.StoreLaws.{header-fits}
 use Rattle.machine_laws.specs.SoundLaws.{pass, running-rest}
-use Rattle.machine_theorems.specs.Soundness.Stores.{Whole, mid-of, whole-mid}
+use Rattle.machine_theorems.specs.Soundness.Stores.{SoundStore, during-of, sound-store-during}
 use Rattle.machine_theorems.specs.Soundness.Results.{MayApply, AllApply, results-keep}
 use Rattle.machine_theorems.specs.Soundness.Exits.{completion-keeps, fail-keeps, end-keeps, cancel-keeps, resume-keeps}
 use Rattle.machine_theorems.specs.Soundness.AwaitGather.{await-keeps}
@@ -107,13 +107,13 @@ all-apply s (x ∷ xs) u b = (
 
 -- ---- each event
 
-module _ (s : Store) (h : Whole s) where
-  completes : (t : ℕ) (v : Value) → header s .moment ≡ Moment.Running (task-id t) → T (value-known (header s .made) (object s) v) → Whole (task-completes s t v .store)
+module _ (s : Store) (h : SoundStore s) where
+  completes : (t : ℕ) (v : Value) → header s .moment ≡ Moment.Running (task-id t) → T (value-known (header s .made) (object s) v) → SoundStore (task-completes s t v .store)
   unfolding task-completes end-main switched
   completes zero v m k = end-keeps s h
   completes (suc t) v m k = rw (ne-eqb (suc t) 0 (λ e. omega arith)) (completion-keeps s t v h m k)
 
-  fails : (t n : ℕ) → header s .moment ≡ Moment.Running (task-id t) → n < u32-limit → Whole (task-fails s t (Error.Script n) .store)
+  fails : (t n : ℕ) → header s .moment ≡ Moment.Running (task-id t) → n < u32-limit → SoundStore (task-fails s t (Error.Script n) .store)
   unfolding task-fails end-main switched
   fails zero n m k = end-keeps s h
   fails (suc t) n m k = rw (ne-eqb (suc t) 0 (λ e. omega arith)) (fail-keeps s t (Error.Script n) h m k)
@@ -149,9 +149,9 @@ module _ (s : Store) (h : Whole s) where
       let f = pass 9 (ltb result-limit (length rs) || any-of bad-result rs) [] (d .1) in
       all-apply s rs (d .0) (or-right (ltb result-limit (length rs)) (any-of bad-result rs) (f .0))
 
-  results-whole : (xs : List Result) → AllApply (header s .made) (λ o. T (is-completed (kind (object s o)))) xs → Whole (apply-future-results s xs)
+  results-sound-store : (xs : List Result) → AllApply (header s .made) (λ o. T (is-completed (kind (object s o)))) xs → SoundStore (apply-future-results s xs)
   unfolding view
-  results-whole xs a = whole-mid (apply-future-results s xs) (h .facts .runner) (results-keep xs s a (mid-of s h))
+  results-sound-store xs a = sound-store-during (apply-future-results s xs) (h .facts .runner) (results-keep xs s a (during-of s h))
 
 -- an event that does not make
 unfoldable pub Acting : Event → Type 0
@@ -169,7 +169,7 @@ Acting (Event.cancel t) = Unit {0}
 Acting (Event.show o) = Unit {0}
 Acting Event.eager = Unit {0}
 
-pub accept-keeps : (s : Store) (e : Event) → Whole s → Acting e → first-refusal (refusals s e) ≡ 0 → Whole (accept s e .store)
+pub accept-keeps : (s : Store) (e : Event) → SoundStore s → Acting e → first-refusal (refusals s e) ≡ 0 → SoundStore (accept s e .store)
 unfolding Acting accept refusals answer-await
 accept-keeps s (Event.coroutine f) h a r = absurd a
 accept-keeps s Event.call h a r = absurd a
@@ -179,7 +179,7 @@ accept-keeps s (Event.gather os) h a r = absurd a
 accept-keeps s (Event.await o) h a r = await-keeps s (runner (header s .moment)) h (running s h _ r) o (await-made s h o r)
 accept-keeps s (Event.complete v) h a r = completes s h (runner (header s .moment)) v (running s h _ r) (complete-known s h v r)
 accept-keeps s (Event.fail n) h a r = fails s h (runner (header s .moment)) n (running s h _ r) a
-accept-keeps s (Event.results rs) h a r = results-whole s h rs (results-apply s h rs r)
+accept-keeps s (Event.results rs) h a r = results-sound-store s h rs (results-apply s h rs r)
 accept-keeps s Event.resume h a r = resume-keeps s h (waiting s h [] r .0)
 accept-keeps s (Event.cancel t) h a r =
     let c = waiting s h _ r in

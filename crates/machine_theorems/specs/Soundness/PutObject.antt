@@ -197,7 +197,7 @@ module _ (k l : ℕ) (P Q P' Q' : ℕ → Type 0) (v : View) (o : ℕ) (x : Obje
             let i = old-call p a e in
             let j = old-call q b f in
             h .calls n p q y z (i .0) (j .0) (i .1) (j .1) (sym (i .2) ∙ (c ∙ j .2));
-        driver = h .driver;
+        task-of = h .task-of;
         awaits = λ t z d b e. awaits-new t b z d e (ft .excepted t b z d e);
         awaited = λ p z n t.
             case (λ p y. (Q' p → ⊥) → awaiter-of y ≡ Awaiter.Task (task-id t) → T (is-live (v .tasks t .state)) → blocked-on (v .tasks t .state) ≡ some p) p

@@ -20,8 +20,8 @@ use Rattle.asyncio.specs.Numbers.{heap-id, task-id}
 use Rattle.asyncio.specs.States.{pick, is-live}
 use Rattle.asyncio.specs.Parts.{awaiter-of}
 use Rattle.machine.specs.Store.{View}
-use Rattle.machine.specs.Scheduler.{AwaitedGather, blocked-on, bit, drives}
-use Rattle.machine.specs.Sound.{task-in-range, items-below, state-values, option-known, drives-at, is-filled, rest-filled, gather-filled, object-filled}
+use Rattle.machine.specs.Scheduler.{AwaitedGather, blocked-on, bit, is-task-of}
+use Rattle.machine.specs.Sound.{task-in-range, items-below, state-values, option-known, is-task-of-at, is-filled, rest-filled, gather-filled, object-filled}
 use Rattle.machine_laws.specs.Views.{update, with-places, with-queue}
 use Rattle.machine_laws.specs.Facts.{Open, Slotted, AwaitedBy, SoundBut}
 use Rattle.machine_laws.specs.TestLaws.{both, both-left, both-right, below, from-below}
@@ -30,17 +30,17 @@ use Rattle.machine_theorems.specs.Soundness.ReadyTasks.{Queued, to-queue
 
 -- ---- a live task that drives a coroutine
 
-pub drives-parts : (c : ℕ) (r : Task) → T (drives c r) → T (is-live (r .state)) × (r .coroutine .0 ≡ c)
-unfolding drives
-drives-parts c r t = by (is-live (r .state)) t
+pub is-task-of-parts : (c : ℕ) (r : Task) → T (is-task-of c r) → T (is-live (r .state)) × (r .coroutine .0 ≡ c)
+unfolding is-task-of
+is-task-of-parts c r t = by (is-live (r .state)) t
   where
     by : (b : Bool) → T (pick b (eqb (r .coroutine .0) c) false) → T b × (r .coroutine .0 ≡ c)
     by true t = (tt, eqb→eq (r .coroutine .0) c t)
     by false t = absurd t
 
-pub drives-give : (c : ℕ) (r : Task) → T (is-live (r .state)) → r .coroutine .0 ≡ c → T (drives c r)
-unfolding drives
-drives-give c r l e = by (is-live (r .state)) l
+pub is-task-of-give : (c : ℕ) (r : Task) → T (is-live (r .state)) → r .coroutine .0 ≡ c → T (is-task-of c r)
+unfolding is-task-of
+is-task-of-give c r l e = by (is-live (r .state)) l
   where
     by : (b : Bool) → T b → T (pick b (eqb (r .coroutine .0) c) false)
     by true l = subst (λ (m : ℕ). T (eqb (r .coroutine .0) m)) e (eqb-refl (r .coroutine .0))
@@ -89,11 +89,11 @@ module _ (k : ℕ) (P Q P' Q' : ℕ → Type 0) (v : View) (t : ℕ) (r : Task) 
   coroutine-same u =
       case (λ u y. T (is-live (y .state)) → y .coroutine .0 ≡ v .tasks u .coroutine .0) u (λ l. ap (λ (c : HeapId). c .0) (ft .coroutine l)) (λ d z. refl)
 
-  drove : (c u : ℕ) → T (drives-at new c u) → T (drives-at (v .tasks) c u)
-  unfolding drives-at
+  drove : (c u : ℕ) → T (is-task-of-at new c u) → T (is-task-of-at (v .tasks) c u)
+  unfolding is-task-of-at
   drove c u d =
-      let i = drives-parts c (new u) (both-right (not (eqb u 0)) _ d) in
-      both _ _ (both-left _ _ d) (drives-give c (v .tasks u) (lived u (i .0)) (sym (coroutine-same u (i .0)) ∙ i .1))
+      let i = is-task-of-parts c (new u) (both-right (not (eqb u 0)) _ d) in
+      both _ _ (both-left _ _ d) (is-task-of-give c (v .tasks u) (lived u (i .0)) (sym (coroutine-same u (i .0)) ∙ i .1))
 
   pub task-keeps : SoundBut k P Q v → SoundBut k P' Q' (with-task-queue v t r q)
   unfolding with-task-queue
@@ -115,7 +115,7 @@ module _ (k : ℕ) (P Q P' Q' : ℕ → Type 0) (v : View) (t : ℕ) (r : Task) 
         place-lists = h .place-lists;
         entries = from-queued (v .header .next) new q (ft .queue (to-queued (v .header .next) (v .tasks) (v .queue) (h .entries)));
         calls = h .calls;
-        driver = λ c u w a b d e. h .driver c u w a b (drove c u d) (drove c w e);
+        task-of = λ c u w a b d e. h .task-of c u w a b (drove c u d) (drove c w e);
         awaits = λ u z d o. case (λ u y. u < v .header .next → (P' u → ⊥) → blocked-on (y .state) ≡ some o → AwaitedBy (v .header .made) (v .objects) u o) u
             (λ l n e. ft .awaits n o e) (λ n l m e. h .awaits u l (ft .excepted u n m) o e) z d;
         awaited = λ o z n u e. case (λ u y. awaiter-of (v .objects o) ≡ Awaiter.Task (task-id u) → T (is-live (y .state)) → blocked-on (y .state) ≡ some o) u
@@ -161,7 +161,7 @@ but-keeps {v = v} less f g h = record {
   place-lists = h .place-lists;
   entries = h .entries;
   calls = h .calls;
-  driver = h .driver;
+  task-of = h .task-of;
   awaits = λ t l d o e. h .awaits t l (f t o l d e) o e;
   awaited = λ o l d. h .awaited o l (g o l d);
   filled = λ p l d. h .filled p l (g p l d);
@@ -187,7 +187,7 @@ queue-keeps {v = v} q f h = record {
   place-lists = h .place-lists;
   entries = from-queued (v .header .next) (v .tasks) q (f (to-queued (v .header .next) (v .tasks) (v .queue) (h .entries)));
   calls = h .calls;
-  driver = h .driver;
+  task-of = h .task-of;
   awaits = h .awaits;
   awaited = h .awaited;
   filled = h .filled;
@@ -258,7 +258,7 @@ module _ (v : View) (ps : ℕ → Place) (ft : PlacesWrite v ps) where
         place-lists = λ p z. ft .known p (h .place-lists p z);
         entries = h .entries;
         calls = h .calls;
-        driver = h .driver;
+        task-of = h .task-of;
         awaits = h .awaits;
         awaited = h .awaited;
         filled = λ g z n. filled-more (v .objects g) (h .filled g z n);

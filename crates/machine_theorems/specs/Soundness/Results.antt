@@ -30,8 +30,8 @@ use Rattle.machine_laws.specs.StoreLaws.{object-fits, object-put-object, header
 use Rattle.machine_laws.specs.MakingLaws.{value-fits}
 use Rattle.machine_laws.specs.DeliveryLaws.{absurd-some}
 use Rattle.machine_theorems.specs.Soundness.PutObject.{value-stays}
-use Rattle.machine_theorems.specs.Soundness.Stores.{Mid}
-use Rattle.machine_theorems.specs.Soundness.Deliver.{InFlight, Flight, Settles, settle-keeps, flight-keeps, ErrorRises, failure-keeps}
+use Rattle.machine_theorems.specs.Soundness.Stores.{SoundDuring}
+use Rattle.machine_theorems.specs.Soundness.Deliver.{Delivering, Detached, Settles, settle-keeps, detached-keeps, ErrorRises, failure-keeps}
 use Rattle.machine_theorems.specs.Soundness.Fill.{alone-keeps, ValueRises, success-keeps}
 
 -- ---- a pending external settles
@@ -114,14 +114,14 @@ first-below p (suc k) i o e = by (p i) e (λ q. first-below p k (i + 1) o q)
 
 -- ---- one result of the host
 
-module _ {r : ℕ → Bool} {D : ℕ → Type 0} {hd : Header} (s : Store) (h : Mid Nothing r D hd s) where
+module _ {r : ℕ → Bool} {D : ℕ → Type 0} {hd : Header} (s : Store) (h : SoundDuring Nothing r D hd s) where
   found-keeps : (c : Option ℕ) (f : ℕ → PendingExternal → Store) → ((o : ℕ) → c ≡ some o → o < header s .made)
-      → ((o : ℕ) (p : PendingExternal) → o < header s .made → as-pending (object s o) ≡ some p → Mid Nothing r D hd (f o p)) → Mid Nothing r D hd (settle-found s c f)
+      → ((o : ℕ) (p : PendingExternal) → o < header s .made → as-pending (object s o) ≡ some p → SoundDuring Nothing r D hd (f o p)) → SoundDuring Nothing r D hd (settle-found s c f)
   unfolding settle-found settle-pending
   found-keeps none f l k = h
   found-keeps (some o) f l k = by (as-pending (object s o)) refl
     where
-      by : (p : Option PendingExternal) → as-pending (object s o) ≡ p → Mid Nothing r D hd (settle-pending s p (f o))
+      by : (p : Option PendingExternal) → as-pending (object s o) ≡ p → SoundDuring Nothing r D hd (settle-pending s p (f o))
       by none e = h
       by (some p) e = k o p (l o refl) e
 
@@ -135,16 +135,16 @@ module _ {r : ℕ → Bool} {D : ℕ → Type 0} {hd : Header} (s : Store) (h : 
       → T (value-known (header (put-object s o y) .made) (object (put-object s o y)) x)
   unfolding view
   known-settled o y x f st k =
-      let m : Mid (InFlight (awaiter-of (object s o))) r (λ p. T (is-completed (kind (object s p)))) hd (put-object s o y) =
+      let m : SoundDuring (Delivering (awaiter-of (object s o))) r (λ p. T (is-completed (kind (object s p)))) hd (put-object s o y) =
       settle-keeps s o y f st (record { kept = h .kept; runs = h .runs; done = λ p d. d; head = h .head }) in
       subst (λ (z : Header). T (value-known (z .made) (object (put-object s o y)) x)) (sym (header-put-object s o y))
       (value-stays (header s .made) (object s) (object (put-object s o y)) (m .done) x k)
 
   -- the pending external o is settled with the host's value, or what is stored, which is on its way then
-  pub resolve-rises : (v : Value) → T (value-known (header s .made) (object s) v) → (o : ℕ) (p : PendingExternal) → o < header s .made → as-pending (object s o) ≡ some p
+  pub resolve-delivering : (v : Value) → T (value-known (header s .made) (object s) v) → (o : ℕ) (p : PendingExternal) → o < header s .made → as-pending (object s o) ≡ some p
       → ValueRises r D hd o (value-or (p .stored) v) (put-object s o (Object.ExternalFuture (p .call) (ExternalFutureState.Resolved (value-or (p .stored) v)))) (p .awaiter)
   unfolding view
-  resolve-rises v k o p l e =
+  resolve-delivering v k o p l e =
       let x : Value = value-or (p .stored) v in
       let y : Object = Object.ExternalFuture (p .call) (ExternalFutureState.Resolved x) in
       let known : T (value-known (header s .made) (object s) x) = known-or (view s) o p v (h .kept .but) l e k in
@@ -153,9 +153,9 @@ module _ {r : ℕ → Bool} {D : ℕ → Type 0} {hd : Header} (s : Store) (h : 
       let aw : awaiter-of (object s o) ≡ p .awaiter = pending-awaiter (object s o) p e in
       record {
         known = known-settled o y x fit st known;
-        flight = subst (λ (a : Awaiter). Flight (view (put-object s o y)) o a) aw (flight-keeps s o y fit st h);
+        flight = subst (λ (a : Awaiter). Detached (view (put-object s o y)) o a) aw (detached-keeps s o y fit st h);
         alone = alone-keeps s o y fit st (unfold kind in refl) h;
-        mid = subst (λ (a : Awaiter). Mid (InFlight a) r D hd (put-object s o y)) aw (settle-keeps s o y fit st h);
+        mid = subst (λ (a : Awaiter). SoundDuring (Delivering a) r D hd (put-object s o y)) aw (settle-keeps s o y fit st h);
       }
 
   -- the row is written
@@ -167,24 +167,24 @@ module _ {r : ℕ → Bool} {D : ℕ → Type 0} {hd : Header} (s : Store) (h : 
       object-put-object s o _ (h .kept .memory .sized) (omega (arith, l, h .kept .but .fits .made-fits))
       (pending-fits s o p e .0, value-fits (header s .made) (object s) (value-or (p .stored) v) (h .kept .but .fits .made-fits) (known-or (view s) o p v (h .kept .but) l e k))
 
-  pub resolve-keeps : (call : ℕ) (v : Value) → T (value-known (header s .made) (object s) v) → Mid Nothing r D hd (resolve-future s call v)
+  pub resolve-keeps : (call : ℕ) (v : Value) → T (value-known (header s .made) (object s) v) → SoundDuring Nothing r D hd (resolve-future s call v)
   unfolding resolve-future resolve-pending
   resolve-keeps call v k =
       found-keeps (pending-external s call) _ (low call)
-      (λ o p l e. success-keeps r D hd _ o (p .awaiter) (value-or (p .stored) v) (resolve-rises v k o p l e) .mid)
+      (λ o p l e. success-keeps r D hd _ o (p .awaiter) (value-or (p .stored) v) (resolve-delivering v k o p l e) .mid)
 
   -- with an error
-  pub fail-rises : (x : Error) → ErrorFits x → (o : ℕ) (p : PendingExternal) → o < header s .made → as-pending (object s o) ≡ some p
+  pub fail-delivering : (x : Error) → ErrorFits x → (o : ℕ) (p : PendingExternal) → o < header s .made → as-pending (object s o) ≡ some p
       → ErrorRises r D hd o (put-object s o (Object.ExternalFuture (p .call) (ExternalFutureState.Failed x))) (p .awaiter)
   unfolding view
-  fail-rises x k o p l e =
+  fail-delivering x k o p l e =
       let y : Object = Object.ExternalFuture (p .call) (ExternalFutureState.Failed x) in
       let st : Settles (view s) o y = external-settles (view s) o p (ExternalFutureState.Failed x) l e (failed-answered (view s) (p .call) x) in
       let fit : ObjectFits y = (pending-fits s o p e .0, k) in
       let aw : awaiter-of (object s o) ≡ p .awaiter = pending-awaiter (object s o) p e in
       record {
-        flight = subst (λ (a : Awaiter). Flight (view (put-object s o y)) o a) aw (flight-keeps s o y fit st h);
-        mid = subst (λ (a : Awaiter). Mid (InFlight a) r D hd (put-object s o y)) aw (settle-keeps s o y fit st h);
+        flight = subst (λ (a : Awaiter). Detached (view (put-object s o y)) o a) aw (detached-keeps s o y fit st h);
+        mid = subst (λ (a : Awaiter). SoundDuring (Delivering a) r D hd (put-object s o y)) aw (settle-keeps s o y fit st h);
       }
 
   pub fail-row : (x : Error) → ErrorFits x → (o : ℕ) (p : PendingExternal) → o < header s .made → as-pending (object s o) ≡ some p
@@ -192,10 +192,10 @@ module _ {r : ℕ → Bool} {D : ℕ → Type 0} {hd : Header} (s : Store) (h : 
   unfolding view
   fail-row x k o p l e = object-put-object s o _ (h .kept .memory .sized) (omega (arith, l, h .kept .but .fits .made-fits)) (pending-fits s o p e .0, k)
 
-  pub fail-future-keeps : (call : ℕ) (x : Error) → ErrorFits x → Mid Nothing r D hd (fail-future s call x)
+  pub fail-future-keeps : (call : ℕ) (x : Error) → ErrorFits x → SoundDuring Nothing r D hd (fail-future s call x)
   unfolding fail-future fail-pending
   fail-future-keeps call x k =
-      found-keeps (pending-external s call) _ (low call) (λ o p l e. failure-keeps r D hd x k _ o (p .awaiter) (fail-rises x k o p l e) .mid)
+      found-keeps (pending-external s call) _ (low call) (λ o p l e. failure-keeps r D hd x k _ o (p .awaiter) (fail-delivering x k o p l e) .mid)
 
 -- ---- the event `results`
 
@@ -211,11 +211,11 @@ AllApply n D (x ∷ xs) = MayApply n D x × AllApply n D xs
 pub host-fits : (n : ℕ) → ErrorFits (to-error 0 n)
 host-fits n = omega arith
 
-pub result-keeps : {r : ℕ → Bool} {D : ℕ → Type 0} {hd : Header} (s : Store) (x : Result) → MayApply (hd .made) D x → Mid Nothing r D hd s → Mid Nothing r D hd (apply-result s x)
+pub result-keeps : {r : ℕ → Bool} {D : ℕ → Type 0} {hd : Header} (s : Store) (x : Result) → MayApply (hd .made) D x → SoundDuring Nothing r D hd s → SoundDuring Nothing r D hd (apply-result s x)
 unfolding apply-result
 result-keeps {r} {D} {hd} s x m h = by (eqb (x .kind) 0) refl (eqb (x .kind) 1) (eqb (x .kind) 2) (eqb (x .kind) 3)
   where
-    by : (a : Bool) → eqb (x .kind) 0 ≡ a → (b c d : Bool) → Mid Nothing r D hd (pick a (resolve-future s (x .call) (to-value (x .tag) (x .number)))
+    by : (a : Bool) → eqb (x .kind) 0 ≡ a → (b c d : Bool) → SoundDuring Nothing r D hd (pick a (resolve-future s (x .call) (to-value (x .tag) (x .number)))
         (pick b (fail-future s (x .call) (to-error 0 (x .number))) (pick c s (pick d (fail-future s (x .call) Error.NotFound) (fail-future s (x .call) Error.ModuleFile)))))
     by true e b c d =
         resolve-keeps s h (x .call) (to-value (x .tag) (x .number))
@@ -225,8 +225,8 @@ result-keeps {r} {D} {hd} s x m h = by (eqb (x .kind) 0) refl (eqb (x .kind) 1) 
     by false e false false true = fail-future-keeps s h (x .call) Error.NotFound tt
     by false e false false false = fail-future-keeps s h (x .call) Error.ModuleFile tt
 
-pub results-keep : {r : ℕ → Bool} {D : ℕ → Type 0} {hd : Header} (xs : List Result) (s : Store) → AllApply (hd .made) D xs → Mid Nothing r D hd s
-    → Mid Nothing r D hd (apply-future-results s xs)
+pub results-keep : {r : ℕ → Bool} {D : ℕ → Type 0} {hd : Header} (xs : List Result) (s : Store) → AllApply (hd .made) D xs → SoundDuring Nothing r D hd s
+    → SoundDuring Nothing r D hd (apply-future-results s xs)
 unfolding apply-future-results AllApply
 results-keep [] s a h = h
 results-keep (x ∷ xs) s a h = results-keep xs (apply-result s x) (a .1) (result-keeps s x (a .0) h)

@@ -21,7 +21,7 @@ use Rattle.machine_laws.specs.StoreLaws.{sized-forget}
 use Rattle.machine_laws.specs.MachineLaws.{accepted-step, refused-step}
 use Rattle.machine_laws.specs.SizedLaws.{step-sized, fresh-sized}
 use Rattle.machine_laws.specs.SoundLaws.{refusal-sound, refusal-rest, refusal-forget, sound-forget, making-sound}
-use Rattle.machine_theorems.specs.Soundness.Stores.{Whole, whole-of, whole-sound}
+use Rattle.machine_theorems.specs.Soundness.Stores.{SoundStore, sound-store-of, sound-store-sound}
 use Rattle.machine_theorems.specs.Soundness.Preserved.{InRange, Acting, accept-keeps}
 
 -- ---- an event that makes leaves the queue as it was
@@ -49,19 +49,19 @@ making-queue s Event.eager m = absurd m
 
 -- ---- one event
 
-module _ (s : Store) (h : Whole s) where
-  pub forget-whole : Whole (forget s)
-  forget-whole = whole-of (forget s) (sized-forget s (h .memory .sized)) (unfold forget in (h .memory .ids)) (subst T (sym (sound-forget s)) (whole-sound s h))
+module _ (s : Store) (h : SoundStore s) where
+  pub forget-sound-store : SoundStore (forget s)
+  forget-sound-store = sound-store-of (forget s) (sized-forget s (h .memory .sized)) (unfold forget in (h .memory .ids)) (subst T (sym (sound-forget s)) (sound-store-sound s h))
 
-  makes : (e : Event) → Making e → refusal s e ≡ 0 → Whole (step s e .store)
+  makes : (e : Event) → Making e → refusal s e ≡ 0 → SoundStore (step s e .store)
   makes e m r =
       let same : step s e .store .queue ≡ s .queue = rw (accepted-step s e r) (making-queue (forget s) e m ∙ (unfold forget in refl)) in
-      whole-of (step s e .store) (step-sized s e (h .memory .sized)) (ap (λ (q : ReadyQueue). length (q .ids)) same ∙ h .memory .ids) (holds _ (making-sound s e (h .memory .sized) m r))
+      sound-store-of (step s e .store) (step-sized s e (h .memory .sized)) (ap (λ (q : ReadyQueue). length (q .ids)) same ∙ h .memory .ids) (holds _ (making-sound s e (h .memory .sized) m r))
 
-  acts : (e : Event) → Acting e → refusal s e ≡ 0 → Whole (step s e .store)
-  acts e a r = rw (accepted-step s e r) (accept-keeps (forget s) e forget-whole a (refusal-rest (forget s) e (refusal-forget s e ∙ r)))
+  acts : (e : Event) → Acting e → refusal s e ≡ 0 → SoundStore (step s e .store)
+  acts e a r = rw (accepted-step s e r) (accept-keeps (forget s) e forget-sound-store a (refusal-rest (forget s) e (refusal-forget s e ∙ r)))
 
-  accepted : (e : Event) → InRange e → refusal s e ≡ 0 → Whole (step s e .store)
+  accepted : (e : Event) → InRange e → refusal s e ≡ 0 → SoundStore (step s e .store)
   unfolding InRange Acting Making
   accepted (Event.coroutine f) i r = makes (Event.coroutine f) i r
   accepted Event.call i r = makes Event.call tt r
@@ -78,17 +78,17 @@ module _ (s : Store) (h : Whole s) where
   accepted Event.eager i r = acts Event.eager tt r
 
   -- An event, refused or not, leaves a sound store sound, and memory of its lengths.
-  pub step-whole : (e : Event) → InRange e → Whole (step s e .store)
-  step-whole e i = by (ℕ-discrete (refusal s e) 0)
+  pub step-sound-store : (e : Event) → InRange e → SoundStore (step s e .store)
+  step-sound-store e i = by (ℕ-discrete (refusal s e) 0)
     where
-      by : Dec (refusal s e ≡ 0) → Whole (step s e .store)
+      by : Dec (refusal s e ≡ 0) → SoundStore (step s e .store)
       by (yes r) = accepted e i r
-      by (no ne) = rw (refused-step s e (refusal s e) refl ne) forget-whole
+      by (no ne) = rw (refused-step s e (refusal s e) refl ne) forget-sound-store
 
 -- An event that no refusal meets leaves a sound store sound: that the store is sound before is the table's check 2. The memory is of its
 -- lengths, as the slices' lengths (refusal 1) and the queue's type have it.
 pub step-sound : (s : Store) (e : Event) → Sized s → length (s .queue .ids) ≡ task-limit → InRange e → refusal s e ≡ 0 → T (sound (step s e .store))
-step-sound s e z ids i r = whole-sound (step s e .store) (accepted s (whole-of s z ids (refusal-sound s e r)) e i r)
+step-sound s e z ids i r = sound-store-sound (step s e .store) (accepted s (sound-store-of s z ids (refusal-sound s e r)) e i r)
 
 -- ---- sessions
 
@@ -97,18 +97,18 @@ unfoldable pub AllInRange : List Event → Type 0
 AllInRange [] = Unit {0}
 AllInRange (e ∷ es) = InRange e × AllInRange es
 
-pub session-whole : (es : List Event) (s : Store) → AllInRange es → Whole s → Whole (after s es)
+pub session-sound-store : (es : List Event) (s : Store) → AllInRange es → SoundStore s → SoundStore (after s es)
 unfolding after AllInRange
-session-whole [] s i h = h
-session-whole (e ∷ es) s i h = session-whole es (step s e .store) (i .1) (step-whole s h e (i .0))
+session-sound-store [] s i h = h
+session-sound-store (e ∷ es) s i h = session-sound-store es (step s e .store) (i .1) (step-sound-store s h e (i .0))
 
 fresh-sound : sound fresh ≡ true
 unfolding stores verdicts
 fresh-sound = ap (λ (l : List Bool). getD l 0 false) sound-cases
 
-pub fresh-whole : Whole fresh
-fresh-whole = whole-of fresh fresh-sized (unfold fresh empty put-task put-header empty-queue in refl) (holds _ fresh-sound)
+pub fresh-sound-store : SoundStore fresh
+fresh-sound-store = sound-store-of fresh fresh-sized (unfold fresh empty put-task put-header empty-queue in refl) (holds _ fresh-sound)
 
 -- After any events from a fresh session on, the store is sound.
 pub session-sound : (es : List Event) → AllInRange es → T (sound (after fresh es))
-session-sound es i = whole-sound (after fresh es) (session-whole es fresh i fresh-whole)
+session-sound es i = sound-store-sound (after fresh es) (session-sound-store es fresh i fresh-sound-store)

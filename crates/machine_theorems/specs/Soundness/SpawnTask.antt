@@ -21,15 +21,15 @@ use Rattle.asyncio.specs.Kinds.{kind, is-coroutine}
 use Rattle.asyncio.specs.Parts.{awaiter-of}
 use Rattle.machine.specs.Tests.{_and_, implies}
 use Rattle.machine.specs.Store.{View}
-use Rattle.machine.specs.Scheduler.{blocked-on, drives}
-use Rattle.machine.specs.Sound.{awaiter-in-range, object-in-range, is-slot, task-in-range, state-values, drives-at}
+use Rattle.machine.specs.Scheduler.{blocked-on, is-task-of}
+use Rattle.machine.specs.Sound.{awaiter-in-range, object-in-range, is-slot, task-in-range, state-values, is-task-of-at}
 use Rattle.machine_laws.specs.Views.{update}
 use Rattle.machine_laws.specs.Facts.{Slotted, AwaitedBy, SoundBut, Nothing}
 use Rattle.machine_laws.specs.TestLaws.{both, both-left, both-right, implies-map, ltb-more}
 use Rattle.machine_laws.specs.StoreLaws.{update-case}
 use Rattle.machine_laws.specs.DeliveryLaws.{absurd-some}
 use Rattle.machine_theorems.specs.Soundness.ReadyTasks.{Queued, to-queued, from-queued}
-use Rattle.machine_theorems.specs.Soundness.PutTask.{drives-parts}
+use Rattle.machine_theorems.specs.Soundness.PutTask.{is-task-of-parts}
 
 -- the header with one task more
 abbrev pub one-more : Header → Header
@@ -76,7 +76,7 @@ unfolding awaiter-in-range
 awaiter-below h a t k e = ltb→lt t (h .next) (subst (λ (b : Awaiter). T (awaiter-in-range h b)) e k)
 
 module _ (k : ℕ) (Q : ℕ → Type 0) (v : View) (c g : ℕ) (h : SoundBut (suc k) Nothing Q v) (co : T (is-coroutine (kind (v .objects c)))) (low : c < v .header .made)
-    (free : (u : ℕ) → u < v .header .next → T (drives-at (v .tasks) c u) → ⊥) (room : v .header .next < task-limit)
+    (free : (u : ℕ) → u < v .header .next → T (is-task-of-at (v .tasks) c u) → ⊥) (room : v .header .next < task-limit)
     (slot : Slotted (v .header .made) (v .objects) (v .places) c g c) where
   abbrev n : ℕ
   n = v .header .next
@@ -98,11 +98,11 @@ module _ (k : ℕ) (Q : ℕ → Type 0) (v : View) (c g : ℕ) (h : SoundBut (su
       (both _ _ tt (both _ _ (lt→ltb g (v .header .made) (slot .made)) (both _ _ (lt→ltb c (v .header .made) low) co)))
 
   -- a task below the next number drives what it did, and the new one drives c
-  drove : (d u : ℕ) → T (drives-at new d u) → (u ≡ n → d ≡ c) × ((u ≡ n → ⊥) → T (drives-at (v .tasks) d u))
-  unfolding drives-at
+  drove : (d u : ℕ) → T (is-task-of-at new d u) → (u ≡ n → d ≡ c) × ((u ≡ n → ⊥) → T (is-task-of-at (v .tasks) d u))
+  unfolding is-task-of-at
   drove d u =
-      case (λ i y. T (not (eqb i 0) and drives d y) → (i ≡ n → d ≡ c) × ((i ≡ n → ⊥) → T (not (eqb i 0) and drives d (v .tasks i)))) u
-      (λ z. (λ e. sym (drives-parts d row (both-right (not (eqb n 0)) _ z) .1), λ ne. absurd (ne refl)))
+      case (λ i y. T (not (eqb i 0) and is-task-of d y) → (i ≡ n → d ≡ c) × ((i ≡ n → ⊥) → T (not (eqb i 0) and is-task-of d (v .tasks i)))) u
+      (λ z. (λ e. sym (is-task-of-parts d row (both-right (not (eqb n 0)) _ z) .1), λ ne. absurd (ne refl)))
       (λ ne z. (λ e. absurd (ne e), λ m. z))
 
   pub spawn-keeps : (q : List ℕ) → (Queued n (v .tasks) (v .queue) → Queued (n + 1) new q) → SoundBut k Nothing Q (spawn-view v c g q)
@@ -130,7 +130,7 @@ module _ (k : ℕ) (Q : ℕ → Type 0) (v : View) (c g : ℕ) (h : SoundBut (su
         place-lists = h .place-lists;
         entries = from-queued (n + 1) new q (queue (to-queued n (v .tasks) (v .queue) (h .entries)));
         calls = h .calls;
-        driver = driver-new;
+        task-of = task-of-new;
         awaits = λ t z d o. case (λ t y. t < n + 1 → blocked-on (y .state) ≡ some o → AwaitedBy (v .header .made) (v .objects) t o) t
             (λ l e. unfold blocked-on in (absurd-some e)) (λ m l e. h .awaits t (omega arith) d o e) z;
         awaited = λ o z m t. case (λ t y. awaiter-of (v .objects o) ≡ Awaiter.Task (task-id t) → T (is-live (y .state)) → blocked-on (y .state) ≡ some o) t
@@ -142,17 +142,17 @@ module _ (k : ℕ) (Q : ℕ → Type 0) (v : View) (c g : ℕ) (h : SoundBut (su
             (λ l a f x e. slot-is f x e) (λ d l a. h .task-slots t (omega arith) a) z;
       }
     where
-      driver-new : (d t u : ℕ) → t < n + 1 → u < n + 1 → T (drives-at new d t) → T (drives-at new d u) → t ≡ u
-      driver-new d t u l m x y = by (dec t) (dec u)
+      task-of-new : (d t u : ℕ) → t < n + 1 → u < n + 1 → T (is-task-of-at new d t) → T (is-task-of-at new d u) → t ≡ u
+      task-of-new d t u l m x y = by (dec t) (dec u)
         where
           dec : (i : ℕ) → Dec (i ≡ n)
           dec i = ℕ-discrete i n
 
           by : Dec (t ≡ n) → Dec (u ≡ n) → t ≡ u
           by (yes e) (yes f) = e ∙ sym f
-          by (yes e) (no f) = absurd (free u (omega arith) (subst (λ (j : ℕ). T (drives-at (v .tasks) j u)) (drove d t x .0 e) (drove d u y .1 f)))
-          by (no e) (yes f) = absurd (free t (omega arith) (subst (λ (j : ℕ). T (drives-at (v .tasks) j t)) (drove d u y .0 f) (drove d t x .1 e)))
-          by (no e) (no f) = h .driver d t u (omega arith) (omega arith) (drove d t x .1 e) (drove d u y .1 f)
+          by (yes e) (no f) = absurd (free u (omega arith) (subst (λ (j : ℕ). T (is-task-of-at (v .tasks) j u)) (drove d t x .0 e) (drove d u y .1 f)))
+          by (no e) (yes f) = absurd (free t (omega arith) (subst (λ (j : ℕ). T (is-task-of-at (v .tasks) j t)) (drove d u y .0 f) (drove d t x .1 e)))
+          by (no e) (no f) = h .task-of d t u (omega arith) (omega arith) (drove d t x .1 e) (drove d u y .1 f)
 
       slot-is : (f x : ℕ) → Awaiter.GatherSlot (heap-id g) (heap-id c) ≡ Awaiter.GatherSlot (heap-id f) (heap-id x)
           → Slotted (v .header .made) (v .objects) (v .places) c f x

@@ -17,14 +17,14 @@ use Rattle.asyncio.specs.States.{is-running}
 use Rattle.asyncio.specs.Kinds.{kind, is-completed}
 use Rattle.queue.specs.declared.ReadyQueue.{ReadyQueue}
 use Rattle.queue.specs.Queue.{entries}
-use Rattle.machine.specs.Store.{Store, View, view, task, object, place, header, put-task, put-object, put-place, put-header, put-queue, note, set-moment, Happening}
+use Rattle.machine.specs.Store.{Store, View, view, task, object, place, header, put-task, put-object, put-place, put-header, put-queue, add-log, set-moment, LogEntry}
 use Rattle.machine.specs.Sound.{is-ended, runs-now, runner-in-range, sound}
 use Rattle.machine_laws.specs.Views.{Sized, update, with-task, with-object, with-place, with-places, with-header, with-queue}
 use Rattle.machine_laws.specs.Facts.{SoundBut, Nothing, SoundFacts, WordsFine}
 use Rattle.machine_laws.specs.TestLaws.{both, both-left}
-use Rattle.machine_laws.specs.StoreLaws.{update-case, sized-put-task, sized-put-header, sized-put-queue, sized-note, header-put-header, header-put-object}
-use Rattle.machine_laws.specs.StoreLaws.{view-put-task, view-put-object, view-put-place, view-put-header, view-put-queue, view-note}
-use Rattle.machine_laws.specs.WordLaws.{words-facts, words-test, fine-put-task, fine-put-header, fine-put-queue, fine-note}
+use Rattle.machine_laws.specs.StoreLaws.{update-case, sized-put-task, sized-put-header, sized-put-queue, sized-add-log, header-put-header, header-put-object}
+use Rattle.machine_laws.specs.StoreLaws.{view-put-task, view-put-object, view-put-place, view-put-header, view-put-queue, view-add-log}
+use Rattle.machine_laws.specs.WordLaws.{words-facts, words-test, fine-put-task, fine-put-header, fine-put-queue, fine-add-log}
 use Rattle.machine_laws.specs.FactLaws.{to-test}
 use Rattle.machine_laws.specs.MakingLaws.{called-at, header-keeps}
 use Rattle.machine_laws.specs.SoundLaws.{sound-facts}
@@ -47,24 +47,24 @@ abbrev pub idle : ℕ → Bool
 idle t = false
 
 -- In the midst of a delivery or of a switch: sound but for P, who runs, which gathers (at least) are completed, and the header.
-pub record Mid (P : ℕ → Type 0) (r : ℕ → Bool) (D : ℕ → Type 0) (h : Header) (s : Store) : Type 0 where
+pub record SoundDuring (P : ℕ → Type 0) (r : ℕ → Bool) (D : ℕ → Type 0) (h : Header) (s : Store) : Type 0 where
   pub kept : Kept 0 P Nothing s
   pub runs : Runs r (view s)
   pub done : (o : ℕ) → D o → T (is-completed (kind (object s o)))
   pub head : header s ≡ h
 
 -- A sound store, whose memory is of its lengths.
-pub record Whole (s : Store) : Type 0 where
+pub record SoundStore (s : Store) : Type 0 where
   pub memory : Memory s
   pub facts : SoundFacts (view s)
 
-pub whole-of : (s : Store) → Sized s → length (s .queue .ids) ≡ task-limit → T (sound s) → Whole s
+pub sound-store-of : (s : Store) → Sized s → length (s .queue .ids) ≡ task-limit → T (sound s) → SoundStore s
 unfolding sound
-whole-of s z i h = record { memory = record { sized = z; ids = i; fine = words-facts s (both-left _ _ h) }; facts = sound-facts s h }
+sound-store-of s z i h = record { memory = record { sized = z; ids = i; fine = words-facts s (both-left _ _ h) }; facts = sound-facts s h }
 
-pub whole-sound : (s : Store) → Whole s → T (sound s)
+pub sound-store-sound : (s : Store) → SoundStore s → T (sound s)
 unfolding sound
-whole-sound s h = both _ _ (words-test s (h .memory .fine)) (to-test (view s) (h .facts))
+sound-store-sound s h = both _ _ (words-test s (h .memory .fine)) (to-test (view s) (h .facts))
 
 -- ---- each write
 
@@ -118,23 +118,23 @@ module _ {k : ℕ} {P Q : ℕ → Type 0} (s : Store) (h : Kept k P Q s) where
         but = subst (SoundBut k P Q) (sym (view-put-place s p r (h .memory .sized) room f)) (unfold with-place with-places view in (places-keep (view s) (update (place s) p r) ft (h .but)));
       }
 
-  pub note-kept : (x : Happening) → Kept k P Q (note s x)
-  note-kept x =
+  pub add-log-kept : (x : LogEntry) → Kept k P Q (add-log s x)
+  add-log-kept x =
       record {
         memory = record {
-          sized = sized-note s x (h .memory .sized);
-          ids = unfold note in (h .memory .ids);
-          fine = unfold header note in (fine-note (header s .next) (header s .made) (header s .used) s (h .memory .sized) (h .memory .fine) x);
+          sized = sized-add-log s x (h .memory .sized);
+          ids = unfold add-log in (h .memory .ids);
+          fine = unfold header add-log in (fine-add-log (header s .next) (header s .made) (header s .used) s (h .memory .sized) (h .memory .fine) x);
         };
-        but = subst (SoundBut k P Q) (sym (view-note s x)) (h .but);
+        but = subst (SoundBut k P Q) (sym (view-add-log s x)) (h .but);
       }
 
 -- ---- each write, in the midst of an event
 
-module _ {P : ℕ → Type 0} {r : ℕ → Bool} {D : ℕ → Type 0} {hd : Header} (s : Store) (h : Mid P r D hd s) where
-  pub object-mid : {P' : ℕ → Type 0} (o : ℕ) (x : Object) → ObjectFits x → Fits 0 0 P Nothing P' Nothing (view s) o x → Mid P' r D hd (put-object s o x)
+module _ {P : ℕ → Type 0} {r : ℕ → Bool} {D : ℕ → Type 0} {hd : Header} (s : Store) (h : SoundDuring P r D hd s) where
+  pub object-during : {P' : ℕ → Type 0} (o : ℕ) (x : Object) → ObjectFits x → Fits 0 0 P Nothing P' Nothing (view s) o x → SoundDuring P' r D hd (put-object s o x)
   unfolding view
-  object-mid {P'} o x f ft =
+  object-during {P'} o x f ft =
       record {
         kept = object-kept s (h .kept) o x f ft;
         runs = subst (Runs r) (sym same) (unfold with-object in (h .runs));
@@ -149,9 +149,9 @@ module _ {P : ℕ → Type 0} {r : ℕ → Bool} {D : ℕ → Type 0} {hd : Head
       more-done p t = update-case (object s) o x (λ (y : Object). T (is-completed (kind y))) p
           (λ q. ft .completed (subst (λ (m : ℕ). T (is-completed (kind (object s m)))) q t)) (λ d. t)
 
-  pub task-mid : {P' : ℕ → Type 0} {z : ℕ → Bool} (t : ℕ) (x : Task) (q : ReadyQueue) → t < header s .next → TaskFits x → q .len ≤ task-limit → length (q .ids) ≡ task-limit
-      → TaskWrite P Nothing P' Nothing (view s) t x (entries q) → Runs z (with-task-queue (view s) t x (entries q)) → Mid P' z D hd (put-queue (put-task s t x) q)
-  task-mid {P'} {z} t x q low f len ids ft rn =
+  pub task-during : {P' : ℕ → Type 0} {z : ℕ → Bool} (t : ℕ) (x : Task) (q : ReadyQueue) → t < header s .next → TaskFits x → q .len ≤ task-limit → length (q .ids) ≡ task-limit
+      → TaskWrite P Nothing P' Nothing (view s) t x (entries q) → Runs z (with-task-queue (view s) t x (entries q)) → SoundDuring P' z D hd (put-queue (put-task s t x) q)
+  task-during {P'} {z} t x q low f len ids ft rn =
       record {
         kept = task-kept s (h .kept) t x q low f len ids ft;
         runs = subst (Runs z) (sym (view-task-queue s (h .kept) t x q (unfold view in (omega (arith, low, h .kept .but .fits .next-fits))) f)) rn;
@@ -159,9 +159,9 @@ module _ {P : ℕ → Type 0} {r : ℕ → Bool} {D : ℕ → Type 0} {hd : Head
         head = unfold header put-queue put-task in (h .head);
       }
 
-  pub queue-mid : (q : ReadyQueue) → q .len ≤ task-limit → length (q .ids) ≡ task-limit
-      → (Queued (header s .next) (task s) (entries (s .queue)) → Queued (header s .next) (task s) (entries q)) → Mid P r D hd (put-queue s q)
-  queue-mid q len ids f =
+  pub queue-during : (q : ReadyQueue) → q .len ≤ task-limit → length (q .ids) ≡ task-limit
+      → (Queued (header s .next) (task s) (entries (s .queue)) → Queued (header s .next) (task s) (entries q)) → SoundDuring P r D hd (put-queue s q)
+  queue-during q len ids f =
       record {
         kept = queue-kept s (h .kept) q len ids f;
         runs = unfold view task header put-queue in (h .runs);
@@ -169,8 +169,8 @@ module _ {P : ℕ → Type 0} {r : ℕ → Bool} {D : ℕ → Type 0} {hd : Head
         head = unfold header put-queue in (h .head);
       }
 
-  pub place-mid : (p : ℕ) (x : Place) → p < header s .used → PlaceFits x → PlacesWrite (view s) (update (place s) p x) → Mid P r D hd (put-place s p x)
-  place-mid p x low f ft =
+  pub place-during : (p : ℕ) (x : Place) → p < header s .used → PlaceFits x → PlacesWrite (view s) (update (place s) p x) → SoundDuring P r D hd (put-place s p x)
+  place-during p x low f ft =
       record {
         kept = place-kept s (h .kept) p x low f ft;
         runs = unfold view task header put-place in (h .runs);
@@ -178,19 +178,19 @@ module _ {P : ℕ → Type 0} {r : ℕ → Bool} {D : ℕ → Type 0} {hd : Head
         head = unfold header put-place in (h .head);
       }
 
-  pub note-mid : (x : Happening) → Mid P r D hd (note s x)
-  note-mid x =
+  pub add-log-during : (x : LogEntry) → SoundDuring P r D hd (add-log s x)
+  add-log-during x =
       record {
-        kept = note-kept s (h .kept) x;
-        runs = unfold view task header note in (h .runs);
-        done = λ o d. unfold object note in (h .done o d);
-        head = unfold header note in (h .head);
+        kept = add-log-kept s (h .kept) x;
+        runs = unfold view task header add-log in (h .runs);
+        done = λ o d. unfold object add-log in (h .done o d);
+        head = unfold header add-log in (h .head);
       }
 
 -- ---- from a sound store, and back to one
 
-pub mid-of : (s : Store) → Whole s → Mid Nothing (runs-now (header s .moment)) (λ o. T (is-completed (kind (object s o)))) (header s) s
-mid-of s h =
+pub during-of : (s : Store) → SoundStore s → SoundDuring Nothing (runs-now (header s .moment)) (λ o. T (is-completed (kind (object s o)))) (header s) s
+during-of s h =
     record {
       kept = record { memory = h .memory; but = h .facts .but };
       runs = unfold view in (h .facts .runs);
@@ -198,9 +198,9 @@ mid-of s h =
       head = refl;
     }
 
-pub whole-mid : {D : ℕ → Type 0} {hd : Header} (s : Store) → T (runner-in-range (hd .next) (hd .moment)) → Mid Nothing (runs-now (hd .moment)) D hd s → Whole s
+pub sound-store-during : {D : ℕ → Type 0} {hd : Header} (s : Store) → T (runner-in-range (hd .next) (hd .moment)) → SoundDuring Nothing (runs-now (hd .moment)) D hd s → SoundStore s
 unfolding view
-whole-mid {D} {hd} s k h =
+sound-store-during {D} {hd} s k h =
     record {
       memory = h .kept .memory;
       facts = record {
@@ -211,10 +211,10 @@ whole-mid {D} {hd} s k h =
     }
 
 -- the moment is written
-pub moment-whole : {D : ℕ → Type 0} {hd : Header} (s : Store) (m : Moment) → MomentFits m → T (runner-in-range (hd .next) m)
-    → (is-ended m ≡ false → is-ended (hd .moment) ≡ false) → Mid Nothing (runs-now m) D hd s → Whole (set-moment s m)
+pub moment-sound-store : {D : ℕ → Type 0} {hd : Header} (s : Store) (m : Moment) → MomentFits m → T (runner-in-range (hd .next) m)
+    → (is-ended m ≡ false → is-ended (hd .moment) ≡ false) → SoundDuring Nothing (runs-now m) D hd s → SoundStore (set-moment s m)
 unfolding set-moment view with-header
-moment-whole {D} {hd} s m f k e h =
+moment-sound-store {D} {hd} s m f k e h =
     record {
       memory = record {
         sized = sized-put-header s i z;

@@ -6,7 +6,7 @@ use Rattle.machine.specs.Store.{store-of}
 use Rattle.machine.specs.Machine.{Event, accept}
 use Rattle.machine.specs.Lent.{written}
 use Rattle.step_checks.specs.LentLaws.{lengths-have, wrong-length, not-sound, steps-on, logs}
-use Rattle.step_checks.specs.QuietLaws.{quiet}
+use Rattle.step_checks.specs.KeptListLaws.{keeps-list}
 use borrow.Author.Needs.{needs}
 use Rattle.makers.proofs.gather.Statement.{statement}
 use Rattle.makers.proofs.gather.Tie as tie
@@ -28,7 +28,7 @@ same-length-2 c = search needs
 
 returns : tie.Need-returns
 unfolding accept written
-returns c = λ l. steps-on (now (c .before .before .before .before .before .before .before .before .before .before .before .before .before .before .before .before .before .before .before .before .before .args .tasks)) (now (c .before .before .before .before .before .before .before .before .before .before .before .before .before .before .before .before .before .before .before .before .before .args .objects)) (now (c .before .before .before .before .before .before .before .before .before .before .before .before .before .before .before .before .before .before .before .before .before .args .places)) (c .before .before .before .before .before .before .before .before .before .before .before .before .before .before .before .before .before .before .before .before .before .args .queue) (now (c .before .before .before .before .before .before .before .before .before .before .before .before .before .before .before .before .before .before .before .before .before .args .calls)) l (Event.gather (now (c .before .before .before .before .before .before .before .before .before .before .before .before .before .before .before .before .before .before .before .before .before .args .items))) (c .before .before .before .before .before .before .before .before .before .before .before .before .before .lengths-right .ensures) (c .before .before .before .before .before .before .before .before .before .before .before .before .if1 .taken) (c .before .before .before .before .before .before .before .before .before .is-sound .ensures l) (c .before .before .before .before .before .before .before .before .if2 .taken) (c .before .before .before .before .before .gather .result .answer) (logs [] (c .before .before .before .before .before .gather .result .answer) (c .before .before .before .before .before .gather .ensures (now (c .before .before .before .before .before .before .before .before .before .before .before .before .before .before .before .before .before .before .before .before .before .args .tasks)) [])) (quiet (store-of (now (c .before .before .before .before .before .before .before .before .before .before .before .before .before .before .before .before .before .before .before .before .before .args .tasks)) (now (c .before .before .before .before .before .before .before .before .before .before .before .before .before .before .before .before .before .before .before .before .before .args .objects)) (now (c .before .before .before .before .before .before .before .before .before .before .before .before .before .before .before .before .before .before .before .before .before .args .places)) (c .before .before .before .before .before .before .before .before .before .before .before .before .before .before .before .before .before .before .before .before .before .args .queue) []) (Event.gather (now (c .before .before .before .before .before .before .before .before .before .before .before .before .before .before .before .before .before .before .before .before .before .args .items))) (now (c .before .before .before .before .before .before .before .before .before .before .before .before .before .before .before .before .before .before .before .before .before .args .calls)) refl [] (c .before .before .before .before .before .gather .result .answer) (c .before .before .before .before .before .gather .ensures (now (c .before .before .before .before .before .before .before .before .before .before .before .before .before .before .before .before .before .before .before .before .before .args .tasks)) []))
+returns c = λ l. steps-on (now (c .before .before .before .before .before .before .before .before .before .before .before .before .before .before .before .before .before .before .before .before .before .args .tasks)) (now (c .before .before .before .before .before .before .before .before .before .before .before .before .before .before .before .before .before .before .before .before .before .args .objects)) (now (c .before .before .before .before .before .before .before .before .before .before .before .before .before .before .before .before .before .before .before .before .before .args .places)) (c .before .before .before .before .before .before .before .before .before .before .before .before .before .before .before .before .before .before .before .before .before .args .queue) (now (c .before .before .before .before .before .before .before .before .before .before .before .before .before .before .before .before .before .before .before .before .before .args .calls)) l (Event.gather (now (c .before .before .before .before .before .before .before .before .before .before .before .before .before .before .before .before .before .before .before .before .before .args .items))) (c .before .before .before .before .before .before .before .before .before .before .before .before .before .lengths-right .ensures) (c .before .before .before .before .before .before .before .before .before .before .before .before .if1 .taken) (c .before .before .before .before .before .before .before .before .before .is-sound .ensures l) (c .before .before .before .before .before .before .before .before .if2 .taken) (c .before .before .before .before .before .gather .result .answer) (logs [] (c .before .before .before .before .before .gather .result .answer) (c .before .before .before .before .before .gather .ensures (now (c .before .before .before .before .before .before .before .before .before .before .before .before .before .before .before .before .before .before .before .before .before .args .tasks)) [])) (keeps-list (store-of (now (c .before .before .before .before .before .before .before .before .before .before .before .before .before .before .before .before .before .before .before .before .before .args .tasks)) (now (c .before .before .before .before .before .before .before .before .before .before .before .before .before .before .before .before .before .before .before .before .before .args .objects)) (now (c .before .before .before .before .before .before .before .before .before .before .before .before .before .before .before .before .before .before .before .before .before .args .places)) (c .before .before .before .before .before .before .before .before .before .before .before .before .before .before .before .before .before .before .before .before .before .args .queue) []) (Event.gather (now (c .before .before .before .before .before .before .before .before .before .before .before .before .before .before .before .before .before .before .before .before .before .args .items))) (now (c .before .before .before .before .before .before .before .before .before .before .before .before .before .before .before .before .before .before .before .before .before .args .calls)) refl [] (c .before .before .before .before .before .gather .result .answer) (c .before .before .before .before .before .gather .ensures (now (c .before .before .before .before .before .before .before .before .before .before .before .before .before .before .before .before .before .before .before .before .before .args .tasks)) []))
 
 same-length-3 : tie.Need-same-length-3
 same-length-3 c = search needs

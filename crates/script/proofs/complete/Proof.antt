@@ -6,7 +6,7 @@ use Rattle.machine.specs.Store.{store-of}
 use Rattle.machine.specs.Machine.{Event, accept}
 use Rattle.machine.specs.Lent.{written}
 use Rattle.step_checks.specs.LentLaws.{lengths-have, wrong-length, not-sound, steps-on, logs}
-use Rattle.step_checks.specs.QuietLaws.{quiet}
+use Rattle.step_checks.specs.KeptListLaws.{keeps-list}
 use borrow.Author.Needs.{needs}
 use Rattle.script.proofs.complete.Statement.{statement}
 use Rattle.script.proofs.complete.Tie as tie

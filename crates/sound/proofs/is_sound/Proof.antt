@@ -1,7 +1,7 @@
 use mathlib.Core.Path.{sym, _∙_}
 use Rattle.rows.specs.TableLaws.{header-read}
 use Rattle.queue.specs.Queue.{entries}
-use Rattle.sound.specs.Whole.{sound-long, sound-worded, sound-tabled, sound-tasked, sound-told}
+use Rattle.sound.specs.Clauses.{sound-long, sound-worded, sound-tabled, sound-tasked, sound-told}
 use borrow.Author.Needs.{needs}
 use Rattle.sound.proofs.is_sound.Statement.{statement}
 use Rattle.sound.proofs.is_sound.Tie as tie

@@ -1,6 +1,6 @@
 use mathlib.Core.Path.{sym, _∙_}
 use Rattle.sound_rows.specs.Loops.{pass, stop}
-use Rattle.sound.specs.Whole.{rows-canonical}
+use Rattle.sound.specs.Clauses.{rows-canonical}
 use borrow.Author.Needs.{needs}
 use Rattle.sound.proofs.rows_canonical.Statement.{statement}
 use Rattle.sound.proofs.rows_canonical.Tie as tie

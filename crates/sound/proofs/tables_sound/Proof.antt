@@ -1,6 +1,6 @@
 use mathlib.Core.Path.{sym, _∙_}
 use Rattle.sound_rows.specs.Loops.{pass, stop}
-use Rattle.sound.specs.Whole.{tables-sound}
+use Rattle.sound.specs.Clauses.{tables-sound}
 use borrow.Author.Needs.{needs}
 use Rattle.sound.proofs.tables_sound.Statement.{statement}
 use Rattle.sound.proofs.tables_sound.Tie as tie

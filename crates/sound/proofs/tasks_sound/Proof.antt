@@ -1,6 +1,6 @@
 use mathlib.Core.Path.{sym, _∙_}
 use Rattle.sound_rows.specs.Loops.{pass, stop}
-use Rattle.sound.specs.Whole.{tasks-sound}
+use Rattle.sound.specs.Clauses.{tasks-sound}
 use borrow.Author.Needs.{needs}
 use Rattle.sound.proofs.tasks_sound.Statement.{statement}
 use Rattle.sound.proofs.tasks_sound.Tie as tie
@@ -11,19 +11,19 @@ queue-ready-requires c κs = search needs
 calls-distinct-requires : tie.Need-calls-distinct-requires
 calls-distinct-requires c κs = search needs
 
-one-driver-requires : tie.Need-one-driver-requires
-one-driver-requires c κs = search needs
+one-task-requires : tie.Need-one-task-requires
+one-task-requires c κs = search needs
 
 blocked-match-requires : tie.Need-blocked-match-requires
 blocked-match-requires c κs = search needs
 
 returns : tie.Need-returns
 unfolding tasks-sound
-returns c = pass (sym (c .before .before .before .before .before .if1 .taken) ∙ c .before .before .before .before .before .before .queue-ready .ensures) (pass (sym (c .before .before .before .if2 .taken) ∙ c .before .before .before .before .calls-distinct .ensures) (pass (sym (c .before .if3 .taken) ∙ c .before .before .one-driver .ensures) (c .blocked-match .ensures)))
+returns c = pass (sym (c .before .before .before .before .before .if1 .taken) ∙ c .before .before .before .before .before .before .queue-ready .ensures) (pass (sym (c .before .before .before .if2 .taken) ∙ c .before .before .before .before .calls-distinct .ensures) (pass (sym (c .before .if3 .taken) ∙ c .before .before .one-task .ensures) (c .blocked-match .ensures)))
 
 returns-2 : tie.Need-returns-2
 unfolding tasks-sound
-returns-2 c = pass (sym (c .before .before .before .before .if1 .taken) ∙ c .before .before .before .before .before .queue-ready .ensures) (pass (sym (c .before .before .if2 .taken) ∙ c .before .before .before .calls-distinct .ensures) (stop _ (sym (c .if3 .left) ∙ c .before .one-driver .ensures)))
+returns-2 c = pass (sym (c .before .before .before .before .if1 .taken) ∙ c .before .before .before .before .before .queue-ready .ensures) (pass (sym (c .before .before .if2 .taken) ∙ c .before .before .before .calls-distinct .ensures) (stop _ (sym (c .if3 .left) ∙ c .before .one-task .ensures)))
 
 returns-3 : tie.Need-returns-3
 unfolding tasks-sound
@@ -39,7 +39,7 @@ tasks-sound-spec =
     (tie.spec
     queue-ready-requires
     calls-distinct-requires
-    one-driver-requires
+    one-task-requires
     blocked-match-requires
     returns
     returns-2

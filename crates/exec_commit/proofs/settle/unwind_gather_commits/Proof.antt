@@ -6,7 +6,7 @@ use lib.ListN.{length}
 use denote.Ref.{now}
 use Rattle.asyncio.specs.Limits.{objects-length}
 use Rattle.queue.specs.declared.ReadyQueue.{ReadyQueue}
-use Rattle.machine.specs.Store.{Happening, store-of}
+use Rattle.machine.specs.Store.{LogEntry, store-of}
 use Rattle.machine.specs.Commit.{unwind}
 use Rattle.exec_commit.specs.Frames.{below}
 use Rattle.exec_commit.specs.SettleLaws.{unwind-begins, unwind-turns, unwind-ends}
@@ -14,7 +14,7 @@ use Rattle.exec_commit.proofs.settle.unwind_gather_commits.Statement.{s
 use Rattle.exec_commit.proofs.settle.unwind_gather_commits.Tie as tie
 
 abbrev Inv-loop : tie.InvT-loop
-Inv-loop objects₀ depth error gathers d₀ objects d = ((ts ps ns : List ℕ) (q : ReadyQueue) (l : List Happening) → unwind (store-of ts objects ps q l) (below gathers ns d) error ≡ unwind (store-of ts objects₀ ps q l) (below gathers ns depth) error) × (length objects ≡ length objects₀) × (d ≤ depth) × (length objects ≡ objects-length)
+Inv-loop objects₀ depth error gathers d₀ objects d = ((ts ps ns : List ℕ) (q : ReadyQueue) (l : List LogEntry) → unwind (store-of ts objects ps q l) (below gathers ns d) error ≡ unwind (store-of ts objects₀ ps q l) (below gathers ns depth) error) × (length objects ≡ length objects₀) × (d ≤ depth) × (length objects ≡ objects-length)
 
 abbrev μ-loop : tie.MeasureT-loop
 μ-loop objects₀ depth error gathers d₀ objects d = d

@@ -6,14 +6,14 @@ use lib.ListN.{length}
 use borrow.Author.Needs.{needs}
 use Rattle.asyncio.specs.Limits.{places-length}
 use Rattle.asyncio.specs.Ranges.{AwaiterFits}
-use Rattle.machine.specs.Store.{Happening, store-of}
+use Rattle.machine.specs.Store.{LogEntry, store-of}
 use Rattle.machine.specs.Delivery.{deliver-awaiter-failure, awaited-in}
 use Rattle.exec_deliver.specs.ClimbLaws.{error-nobody, error-to-task, error-stays, error-climbs, error-fits, error-falls, some-places, some-places-long}
 use Rattle.exec_deliver.proofs.climb.deliver_awaiter_failure.Statement.{statement}
 use Rattle.exec_deliver.proofs.climb.deliver_awaiter_failure.Tie as tie
 
 abbrev Inv-loop : tie.InvT-loop
-Inv-loop tasks₀ objects₀ queue error to₀ tasks objects to = ((ps : List ℕ) (l : List Happening) → length ps ≡ places-length → deliver-awaiter-failure (store-of tasks objects ps queue l) to error ≡ deliver-awaiter-failure (store-of tasks₀ objects₀ ps queue l) to₀ error) × (length tasks ≡ length tasks₀) × (length objects ≡ length objects₀) × AwaiterFits to
+Inv-loop tasks₀ objects₀ queue error to₀ tasks objects to = ((ps : List ℕ) (l : List LogEntry) → length ps ≡ places-length → deliver-awaiter-failure (store-of tasks objects ps queue l) to error ≡ deliver-awaiter-failure (store-of tasks₀ objects₀ ps queue l) to₀ error) × (length tasks ≡ length tasks₀) × (length objects ≡ length objects₀) × AwaiterFits to
 
 abbrev μ-loop : tie.MeasureT-loop
 μ-loop tasks₀ objects₀ queue error to₀ tasks objects to = awaited-in objects

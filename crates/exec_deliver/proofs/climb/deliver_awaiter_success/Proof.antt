@@ -4,14 +4,14 @@ use native.Mathlib.Omega.{arith}
 use lib.ListN.{length}
 use borrow.Author.Needs.{needs}
 use Rattle.asyncio.specs.Ranges.{AwaiterFits}
-use Rattle.machine.specs.Store.{Happening, store-of}
+use Rattle.machine.specs.Store.{LogEntry, store-of}
 use Rattle.machine.specs.Delivery.{deliver-awaiter-success, awaited-in}
 use Rattle.exec_deliver.specs.ClimbLaws.{nobody, to-task, stays, climbs, climb-fits, climb-falls}
 use Rattle.exec_deliver.proofs.climb.deliver_awaiter_success.Statement.{statement}
 use Rattle.exec_deliver.proofs.climb.deliver_awaiter_success.Tie as tie
 
 abbrev Inv-loop : tie.InvT-loop
-Inv-loop tasks₀ objects₀ places₀ queue to₀ given₀ tasks objects places to given = ((l : List Happening) → deliver-awaiter-success (store-of tasks objects places queue l) to given ≡ deliver-awaiter-success (store-of tasks₀ objects₀ places₀ queue l) to₀ given₀) × (length tasks ≡ length tasks₀) × (length objects ≡ length objects₀) × (length places ≡ length places₀) × AwaiterFits to
+Inv-loop tasks₀ objects₀ places₀ queue to₀ given₀ tasks objects places to given = ((l : List LogEntry) → deliver-awaiter-success (store-of tasks objects places queue l) to given ≡ deliver-awaiter-success (store-of tasks₀ objects₀ places₀ queue l) to₀ given₀) × (length tasks ≡ length tasks₀) × (length objects ≡ length objects₀) × (length places ≡ length places₀) × AwaiterFits to
 
 abbrev μ-loop : tie.MeasureT-loop
 μ-loop tasks₀ objects₀ places₀ queue to₀ given₀ tasks objects places to given = awaited-in objects

@@ -6,14 +6,14 @@ use lib.ListN.{length, drop}
 use denote.Ref.{now}
 use borrow.Author.Needs.{needs}
 use Rattle.queue.specs.declared.ReadyQueue.{ReadyQueue}
-use Rattle.machine.specs.Store.{Happening, store-of}
+use Rattle.machine.specs.Store.{LogEntry, store-of}
 use Rattle.machine.specs.Events.{put-items}
 use Rattle.exec_futures.specs.MakingLaws.{items-turn, items-end, items-begin}
 use Rattle.exec_futures.proofs.making.put_items.Statement.{statement}
 use Rattle.exec_futures.proofs.making.put_items.Tie as tie
 
 abbrev Inv-loop : tie.InvT-loop
-Inv-loop places₀ first items n i₀ places i = ((ts os : List ℕ) (q : ReadyQueue) (l : List Happening) → put-items (store-of ts os places q l) (first + i) (drop i items) ≡ put-items (store-of ts os places₀ q l) first items) × (length places ≡ length places₀) × (i ≤ n)
+Inv-loop places₀ first items n i₀ places i = ((ts os : List ℕ) (q : ReadyQueue) (l : List LogEntry) → put-items (store-of ts os places q l) (first + i) (drop i items) ≡ put-items (store-of ts os places₀ q l) first items) × (length places ≡ length places₀) × (i ≤ n)
 
 abbrev μ-loop : tie.MeasureT-loop
 μ-loop places₀ first items n i₀ places i = n - i

@@ -5,7 +5,7 @@ use native.Mathlib.Omega.{arith}
 use lib.ListN.{length}
 use denote.Ref.{now}
 use borrow.Author.Needs.{needs}
-use Rattle.machine.specs.Store.{Happening, store-of}
+use Rattle.machine.specs.Store.{LogEntry, store-of}
 use Rattle.machine.specs.Events.{apply-future-results}
 use Rattle.exec_futures.specs.Results.{results-from, results-in}
 use Rattle.exec_futures.specs.ResultLaws.{results-begin, results-turn, results-end}
@@ -13,7 +13,7 @@ use Rattle.exec_futures.proofs.results.apply_future_results.Statement.{
 use Rattle.exec_futures.proofs.results.apply_future_results.Tie as tie
 
 abbrev Inv-loop : tie.InvT-loop
-Inv-loop tasks₀ objects₀ places₀ results n left₀ i₀ tasks objects places left i = ((l : List Happening) → store-of tasks objects places left (apply-future-results (store-of tasks₀ objects₀ places₀ left₀ l) (results-from results 0 i) .log) ≡ apply-future-results (store-of tasks₀ objects₀ places₀ left₀ l) (results-from results 0 i)) × (length tasks ≡ length tasks₀) × (length objects ≡ length objects₀) × (length places ≡ length places₀) × (i ≤ n)
+Inv-loop tasks₀ objects₀ places₀ results n left₀ i₀ tasks objects places left i = ((l : List LogEntry) → store-of tasks objects places left (apply-future-results (store-of tasks₀ objects₀ places₀ left₀ l) (results-from results 0 i) .log) ≡ apply-future-results (store-of tasks₀ objects₀ places₀ left₀ l) (results-from results 0 i)) × (length tasks ≡ length tasks₀) × (length objects ≡ length objects₀) × (length places ≡ length places₀) × (i ≤ n)
 
 abbrev μ-loop : tie.MeasureT-loop
 μ-loop tasks₀ objects₀ places₀ results n left₀ i₀ tasks objects places left i = n - i

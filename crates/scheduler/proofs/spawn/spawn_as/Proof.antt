@@ -1,7 +1,7 @@
 use mathlib.Core.Path.{ap}
 use native.Mathlib.Omega.{arith}
 use Rattle.asyncio.specs.declared.TaskId.{TaskId}
-use Rattle.machine.specs.Store.{put-task, put-header, put-queue, note, set-next, header}
+use Rattle.machine.specs.Store.{put-task, put-header, put-queue, add-log, set-next, header}
 use Rattle.machine.specs.Scheduler.{push-ready, spawn-as}
 use borrow.Author.Needs.{needs}
 use Rattle.scheduler.proofs.spawn.spawn_as.Statement.{statement}
@@ -29,7 +29,7 @@ same-length-2 : tie.Need-same-length-2
 same-length-2 c = search needs
 
 returns : tie.Need-returns
-unfolding spawn-as push-ready set-next put-task put-header put-queue note header
+unfolding spawn-as push-ready set-next put-task put-header put-queue add-log header
 returns c = record { spawns = λ e ps l. rw (e, c .push-back .ensures, c .before .before .before .store-header .ensures, c .before .before .before .before .before .before .before .before .store-task .ensures, c .before .before .before .before .before .before .before .before .before .before .new .ensures) }
 
 pub spawn-as-spec : {M : Type 1} → statement M

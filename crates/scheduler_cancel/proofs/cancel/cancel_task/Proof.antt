@@ -7,7 +7,7 @@ use denote.Ref.{now}
 use borrow.Author.Needs.{needs}
 use Rattle.asyncio.specs.Limits.{object-limit}
 use Rattle.asyncio.specs.declared.HeapId.{HeapId}
-use Rattle.machine.specs.Store.{Happening}
+use Rattle.machine.specs.Store.{LogEntry}
 use Rattle.machine_laws.specs.Statements.{unmarked, walk-rest}
 use Rattle.machine_laws.specs.CycleLaws.{all-unmarked}
 use Rattle.scheduler_cancel.specs.Cancel.{walk-of}
@@ -18,16 +18,16 @@ use Rattle.scheduler_cancel.proofs.cancel.cancel_task.Statement.{statem
 use Rattle.scheduler_cancel.proofs.cancel.cancel_task.Tie as tie
 
 abbrev Inv-loop : tie.InvT-loop
-Inv-loop tasks₀ objects places drivers marks₀ stack₀ w₀ tasks marks stack w = ((l : List Happening) → Logged (λ m. walk-rest (walk-of drivers tasks objects places w m marks stack)) (walk-rest (walk-of drivers tasks₀ objects places w₀ l marks₀ stack₀))) × (length tasks ≡ length tasks₀) × (length marks ≡ object-limit) × (length stack ≡ object-limit) × (unmarked marks + w .depth ≤ object-limit)
+Inv-loop tasks₀ objects places table marks₀ stack₀ w₀ tasks marks stack w = ((l : List LogEntry) → Logged (λ m. walk-rest (walk-of table tasks objects places w m marks stack)) (walk-rest (walk-of table tasks₀ objects places w₀ l marks₀ stack₀))) × (length tasks ≡ length tasks₀) × (length marks ≡ object-limit) × (length stack ≡ object-limit) × (unmarked marks + w .depth ≤ object-limit)
 
 abbrev μ-loop : tie.MeasureT-loop
-μ-loop tasks₀ objects places drivers marks₀ stack₀ w₀ tasks marks stack w = unmarked marks + w .depth
+μ-loop tasks₀ objects places table marks₀ stack₀ w₀ tasks marks stack w = unmarked marks + w .depth
 
 load-header-requires : tie.Need-load-header-requires Inv-loop μ-loop
 load-header-requires c κs = search needs
 
-find-drivers-requires : tie.Need-find-drivers-requires Inv-loop μ-loop
-find-drivers-requires c κs = (c .before .before .before .before .before .pre .0, header-read _ (c .before .load-header .ensures) .next-fits)
+find-tasks-requires : tie.Need-find-tasks-requires Inv-loop μ-loop
+find-tasks-requires c κs = (c .before .before .before .before .before .pre .0, header-read _ (c .before .load-header .ensures) .next-fits)
 
 slice-aggregate-remove-blocked : tie.Need-slice-aggregate-remove-blocked Inv-loop μ-loop
 slice-aggregate-remove-blocked c = search needs
@@ -39,7 +39,7 @@ remove-blocked-requires : tie.Need-remove-blocked-requires Inv-loop μ-loop
 remove-blocked-requires c κs = (c .before .before .before .before .before .before .before .before .before .pre .0, c .before .before .before .before .before .before .before .before .before .pre .1, refl, refl, omega (arith, all-unmarked), c .before .before .before .before .before .before .before .before .before .pre .3)
 
 loop-holds : tie.Need-loop-holds Inv-loop μ-loop
-loop-holds c = ((λ l. record { log = l; gives = refl }), refl, c .before .before .before .before .remove-blocked .kept .1 .1 .0, c .before .before .before .before .remove-blocked .kept .1 .1 .1 .0, omega (arith, cancel-room (c .before .before .before .before .before .before .before .before .find-drivers .result) (now (c .before .before .before .before .before .before .before .before .before .before .before .before .before .before .args .tasks)) (now (c .before .before .before .before .before .before .before .before .before .before .before .before .before .before .args .objects)) (now (c .before .before .before .before .before .before .before .before .before .before .before .before .before .before .args .places)) (c .before .before .before .before .before .before .before .before .before .before .before .before .before .before .args .queue) [] (replicate object-limit zero) (c .before .before .before .before .before .before .before .before .before .before .before .before .before .before .args .t .0) (c .before .before .before .before .remove-blocked .ensures (c .before .before .before .before .before .before .before .before .find-drivers .result) (now (c .before .before .before .before .before .before .before .before .before .before .before .before .before .before .args .places)) [])))
+loop-holds c = ((λ l. record { log = l; gives = refl }), refl, c .before .before .before .before .remove-blocked .kept .1 .1 .0, c .before .before .before .before .remove-blocked .kept .1 .1 .1 .0, omega (arith, cancel-room (c .before .before .before .before .before .before .before .before .find-tasks .result) (now (c .before .before .before .before .before .before .before .before .before .before .before .before .before .before .args .tasks)) (now (c .before .before .before .before .before .before .before .before .before .before .before .before .before .before .args .objects)) (now (c .before .before .before .before .before .before .before .before .before .before .before .before .before .before .args .places)) (c .before .before .before .before .before .before .before .before .before .before .before .before .before .before .args .queue) [] (replicate object-limit zero) (c .before .before .before .before .before .before .before .before .before .before .before .before .before .before .args .t .0) (c .before .before .before .before .remove-blocked .ensures (c .before .before .before .before .before .before .before .before .find-tasks .result) (now (c .before .before .before .before .before .before .before .before .before .before .before .before .before .before .args .places)) [])))
 
 sub-top : tie.Need-sub-top Inv-loop μ-loop
 sub-top c = omega arith
@@ -66,16 +66,16 @@ walk-gather-requires : tie.Need-walk-gather-requires Inv-loop μ-loop
 walk-gather-requires c κs = (c .before .before .before .before .before .before .before .before .before .loop .inv .1 ∙ (c .before .before .before .before .before .before .before .before .before .before .before .before .before .before .remove-blocked .kept .0 ∙ c .before .before .before .before .before .before .before .before .before .before .before .before .before .before .before .before .before .before .before .before .before .before .before .before .pre .0), c .before .before .before .before .before .before .before .before .before .before .before .before .before .before .before .before .before .before .before .before .before .before .before .before .pre .1, c .before .before .before .before .before .before .before .before .before .before .before .before .before .before .before .before .before .before .before .before .before .before .before .before .pre .2, search needs, c .before .before .before .before .before .before .before .before .before .loop .inv .2, c .before .before .before .before .before .before .before .before .before .loop .inv .3, omega (arith, c .before .before .before .before .before .before .before .before .before .loop .inv .4), omega (arith, ap (λ (h : HeapId). h .0) (c .before .before .before .before .from-word .ensures)))
 
 loop-less : tie.Need-loop-less Inv-loop μ-loop
-loop-less c = omega (arith, cancel-falls (c .before .before .before .before .before .before .before .before .before .before .before .before .before .before .before .before .before .before .before .before .before .before .before .find-drivers .result) (c .before .before .before .before .before .before .before .before .before .before .before .before .before .before .loop .tasks) (now (c .before .before .before .before .before .before .before .before .before .before .before .before .before .before .before .before .before .before .before .before .before .before .before .before .before .before .before .before .before .args .objects)) (now (c .before .before .before .before .before .before .before .before .before .before .before .before .before .before .before .before .before .before .before .before .before .before .before .before .before .before .before .before .before .args .places)) (c .before .before .before .before .before .before .before .before .before .before .before .before .before .before .loop .w .queue) (c .before .before .before .before .before .before .before .before .before .before .before .before .before .before .loop .w .depth) [] (c .before .before .before .before .before .before .before .before .before .before .before .before .before .before .loop .marks) (c .before .before .before .before .before .before .before .before .before .before .before .before .before .before .loop .stack) (c .before .before .before .before .before .before .before .before .before .from-word .result .0) (c .before .before .before .before .before .before .before .before .before .before .before .before .before .before .loop .inv .2) (c .before .before .before .before .before .before .before .before .before .before .before .before .if1 .taken) (c .before .before .before .before .walk-gather .ensures []))
+loop-less c = omega (arith, cancel-falls (c .before .before .before .before .before .before .before .before .before .before .before .before .before .before .before .before .before .before .before .before .before .before .before .find-tasks .result) (c .before .before .before .before .before .before .before .before .before .before .before .before .before .before .loop .tasks) (now (c .before .before .before .before .before .before .before .before .before .before .before .before .before .before .before .before .before .before .before .before .before .before .before .before .before .before .before .before .before .args .objects)) (now (c .before .before .before .before .before .before .before .before .before .before .before .before .before .before .before .before .before .before .before .before .before .before .before .before .before .before .before .before .before .args .places)) (c .before .before .before .before .before .before .before .before .before .before .before .before .before .before .loop .w .queue) (c .before .before .before .before .before .before .before .before .before .before .before .before .before .before .loop .w .depth) [] (c .before .before .before .before .before .before .before .before .before .before .before .before .before .before .loop .marks) (c .before .before .before .before .before .before .before .before .before .before .before .before .before .before .loop .stack) (c .before .before .before .before .before .before .before .before .before .from-word .result .0) (c .before .before .before .before .before .before .before .before .before .before .before .before .before .before .loop .inv .2) (c .before .before .before .before .before .before .before .before .before .before .before .before .if1 .taken) (c .before .before .before .before .walk-gather .ensures []))
 
 loop-again : tie.Need-loop-again Inv-loop μ-loop
-loop-again c = ((λ l. cancel-turn (c .before .before .before .before .before .before .before .before .before .before .before .before .before .before .before .before .before .before .before .before .before .before .before .find-drivers .result) (c .before .before .before .before .before .before .before .before .before .before .before .before .before .before .loop .tasks) (now (c .before .before .before .before .before .before .before .before .before .before .before .before .before .before .before .before .before .before .before .before .before .before .before .before .before .before .before .before .before .args .objects)) (now (c .before .before .before .before .before .before .before .before .before .before .before .before .before .before .before .before .before .before .before .before .before .before .before .before .before .before .before .before .before .args .places)) (c .before .before .before .before .before .before .before .before .before .before .before .before .before .before .loop .w .queue) (c .before .before .before .before .before .before .before .before .before .before .before .before .before .before .loop .w .depth) (c .before .before .before .before .before .before .before .before .before .before .before .before .before .before .loop .marks) (c .before .before .before .before .before .before .before .before .before .before .before .before .before .before .loop .stack) (c .before .before .before .before .before .before .before .before .before .before .before .before .before .before .loop .inv .2) (c .before .before .before .before .before .before .before .before .before .before .before .before .if1 .taken) (c .before .before .before .before .before .before .before .before .before .from-word .ensures) (λ m. c .before .before .before .before .walk-gather .ensures m) (c .before .before .before .before .before .before .before .before .before .before .before .before .before .before .loop .inv .0 l)), c .before .before .before .before .walk-gather .kept .0 ∙ c .before .before .before .before .before .before .before .before .before .before .before .before .before .before .loop .inv .1, c .before .before .before .before .walk-gather .kept .1 .1 .1 .1 .0 ∙ c .before .before .before .before .before .before .before .before .before .before .before .before .before .before .loop .inv .2, c .before .before .before .before .walk-gather .kept .1 .1 .1 .1 .1 .0 ∙ c .before .before .before .before .before .before .before .before .before .before .before .before .before .before .loop .inv .3, omega (arith, c .before .before .before .before .before .before .before .before .before .before .before .before .before .before .loop .inv .4, cancel-falls (c .before .before .before .before .before .before .before .before .before .before .before .before .before .before .before .before .before .before .before .before .before .before .before .find-drivers .result) (c .before .before .before .before .before .before .before .before .before .before .before .before .before .before .loop .tasks) (now (c .before .before .before .before .before .before .before .before .before .before .before .before .before .before .before .before .before .before .before .before .before .before .before .before .before .before .before .before .before .args .objects)) (now (c .before .before .before .before .before .before .before .before .before .before .before .before .before .before .before .before .before .before .before .before .before .before .before .before .before .before .before .before .before .args .places)) (c .before .before .before .before .before .before .before .before .before .before .before .before .before .before .loop .w .queue) (c .before .before .before .before .before .before .before .before .before .before .before .before .before .before .loop .w .depth) [] (c .before .before .before .before .before .before .before .before .before .before .before .before .before .before .loop .marks) (c .before .before .before .before .before .before .before .before .before .before .before .before .before .before .loop .stack) (c .before .before .before .before .before .before .before .before .before .from-word .result .0) (c .before .before .before .before .before .before .before .before .before .before .before .before .before .before .loop .inv .2) (c .before .before .before .before .before .before .before .before .before .before .before .before .if1 .taken) (c .before .before .before .before .walk-gather .ensures [])))
+loop-again c = ((λ l. cancel-turn (c .before .before .before .before .before .before .before .before .before .before .before .before .before .before .before .before .before .before .before .before .before .before .before .find-tasks .result) (c .before .before .before .before .before .before .before .before .before .before .before .before .before .before .loop .tasks) (now (c .before .before .before .before .before .before .before .before .before .before .before .before .before .before .before .before .before .before .before .before .before .before .before .before .before .before .before .before .before .args .objects)) (now (c .before .before .before .before .before .before .before .before .before .before .before .before .before .before .before .before .before .before .before .before .before .before .before .before .before .before .before .before .before .args .places)) (c .before .before .before .before .before .before .before .before .before .before .before .before .before .before .loop .w .queue) (c .before .before .before .before .before .before .before .before .before .before .before .before .before .before .loop .w .depth) (c .before .before .before .before .before .before .before .before .before .before .before .before .before .before .loop .marks) (c .before .before .before .before .before .before .before .before .before .before .before .before .before .before .loop .stack) (c .before .before .before .before .before .before .before .before .before .before .before .before .before .before .loop .inv .2) (c .before .before .before .before .before .before .before .before .before .before .before .before .if1 .taken) (c .before .before .before .before .before .before .before .before .before .from-word .ensures) (λ m. c .before .before .before .before .walk-gather .ensures m) (c .before .before .before .before .before .before .before .before .before .before .before .before .before .before .loop .inv .0 l)), c .before .before .before .before .walk-gather .kept .0 ∙ c .before .before .before .before .before .before .before .before .before .before .before .before .before .before .loop .inv .1, c .before .before .before .before .walk-gather .kept .1 .1 .1 .1 .0 ∙ c .before .before .before .before .before .before .before .before .before .before .before .before .before .before .loop .inv .2, c .before .before .before .before .walk-gather .kept .1 .1 .1 .1 .1 .0 ∙ c .before .before .before .before .before .before .before .before .before .before .before .before .before .before .loop .inv .3, omega (arith, c .before .before .before .before .before .before .before .before .before .before .before .before .before .before .loop .inv .4, cancel-falls (c .before .before .before .before .before .before .before .before .before .before .before .before .before .before .before .before .before .before .before .before .before .before .before .find-tasks .result) (c .before .before .before .before .before .before .before .before .before .before .before .before .before .before .loop .tasks) (now (c .before .before .before .before .before .before .before .before .before .before .before .before .before .before .before .before .before .before .before .before .before .before .before .before .before .before .before .before .before .args .objects)) (now (c .before .before .before .before .before .before .before .before .before .before .before .before .before .before .before .before .before .before .before .before .before .before .before .before .before .before .before .before .before .args .places)) (c .before .before .before .before .before .before .before .before .before .before .before .before .before .before .loop .w .queue) (c .before .before .before .before .before .before .before .before .before .before .before .before .before .before .loop .w .depth) [] (c .before .before .before .before .before .before .before .before .before .before .before .before .before .before .loop .marks) (c .before .before .before .before .before .before .before .before .before .before .before .before .before .before .loop .stack) (c .before .before .before .before .before .before .before .before .before .from-word .result .0) (c .before .before .before .before .before .before .before .before .before .before .before .before .before .before .loop .inv .2) (c .before .before .before .before .before .before .before .before .before .before .before .before .if1 .taken) (c .before .before .before .before .walk-gather .ensures [])))
 
 same-length : tie.Need-same-length Inv-loop μ-loop
 same-length c = c .before .before .before .loop .inv .1 ∙ c .before .before .before .before .before .before .before .before .remove-blocked .kept .0
 
 returns : tie.Need-returns Inv-loop μ-loop
-returns c = λ l. let b = cancel-begins (c .before .before .before .before .before .before .before .before .before .before .before .before .find-drivers .result) (now (c .before .before .before .before .before .before .before .before .before .before .before .before .before .before .before .before .before .before .args .tasks)) (now (c .before .before .before .before .before .before .before .before .before .before .before .before .before .before .before .before .before .before .args .objects)) (now (c .before .before .before .before .before .before .before .before .before .before .before .before .before .before .before .before .before .before .args .places)) (replicate object-limit zero) (c .before .before .before .before .before .before .before .before .before .before .before .before .before .before .before .before .before .before .args .queue) l (c .before .before .before .before .before .before .before .before .before .before .before .before .before .before .before .before .before .before .args .t .0) (c .before .before .before .before .before .before .before .before .before .before .before .before .before .before .load-header .ensures) (c .before .before .before .before .before .before .before .before .before .before .before .before .find-drivers .ensures) (c .before .before .before .before .before .before .before .before .remove-blocked .ensures (c .before .before .before .before .before .before .before .before .before .before .before .before .find-drivers .result) (now (c .before .before .before .before .before .before .before .before .before .before .before .before .before .before .before .before .before .before .args .places)) l) in cancel-end (c .before .before .before .before .before .before .before .before .before .before .before .before .find-drivers .result) (c .before .before .before .loop .tasks) (now (c .before .before .before .before .before .before .before .before .before .before .before .before .before .before .before .before .before .before .args .objects)) (now (c .before .before .before .before .before .before .before .before .before .before .before .before .before .before .before .before .before .before .args .places)) (c .before .before .before .loop .w .queue) (c .before .before .before .loop .w .depth) (c .before .before .before .loop .marks) (c .before .before .before .loop .stack) (c .before .before .before .loop .inv .2) (c .before .if1 .left) (logged-then (c .before .before .before .loop .inv .0 (b .log)) (b .gives))
+returns c = λ l. let b = cancel-begins (c .before .before .before .before .before .before .before .before .before .before .before .before .find-tasks .result) (now (c .before .before .before .before .before .before .before .before .before .before .before .before .before .before .before .before .before .before .args .tasks)) (now (c .before .before .before .before .before .before .before .before .before .before .before .before .before .before .before .before .before .before .args .objects)) (now (c .before .before .before .before .before .before .before .before .before .before .before .before .before .before .before .before .before .before .args .places)) (replicate object-limit zero) (c .before .before .before .before .before .before .before .before .before .before .before .before .before .before .before .before .before .before .args .queue) l (c .before .before .before .before .before .before .before .before .before .before .before .before .before .before .before .before .before .before .args .t .0) (c .before .before .before .before .before .before .before .before .before .before .before .before .before .before .load-header .ensures) (c .before .before .before .before .before .before .before .before .before .before .before .before .find-tasks .ensures) (c .before .before .before .before .before .before .before .before .remove-blocked .ensures (c .before .before .before .before .before .before .before .before .before .before .before .before .find-tasks .result) (now (c .before .before .before .before .before .before .before .before .before .before .before .before .before .before .before .before .before .before .args .places)) l) in cancel-end (c .before .before .before .before .before .before .before .before .before .before .before .before .find-tasks .result) (c .before .before .before .loop .tasks) (now (c .before .before .before .before .before .before .before .before .before .before .before .before .before .before .before .before .before .before .args .objects)) (now (c .before .before .before .before .before .before .before .before .before .before .before .before .before .before .before .before .before .before .args .places)) (c .before .before .before .loop .w .queue) (c .before .before .before .loop .w .depth) (c .before .before .before .loop .marks) (c .before .before .before .loop .stack) (c .before .before .before .loop .inv .2) (c .before .if1 .left) (logged-then (c .before .before .before .loop .inv .0 (b .log)) (b .gives))
 
 pub cancel-task-spec : {M : Type 1} → statement M
 cancel-task-spec =
@@ -84,7 +84,7 @@ cancel-task-spec =
     Inv-loop
     μ-loop
     load-header-requires
-    find-drivers-requires
+    find-tasks-requires
     slice-aggregate-remove-blocked
     slice-aggregate-remove-blocked-2
     remove-blocked-requires

@@ -8,7 +8,7 @@ use Rattle.asyncio.specs.Ranges.{HeaderFits}
 use Rattle.asyncio.specs.declared.Header.{Header}
 use Rattle.rows.specs.TableLaws.{header-read}
 use Rattle.queue.specs.declared.ReadyQueue.{ReadyQueue}
-use Rattle.machine.specs.Store.{Happening, store-of}
+use Rattle.machine.specs.Store.{LogEntry, store-of}
 use Rattle.machine.specs.Machine.{any-of, result-unknown}
 use Rattle.exec_futures.specs.Results.{result-at, results-from, results-in}
 use Rattle.step_checks.specs.TestLaws.{some-here, some-turn, some-end, some-begin}
@@ -16,7 +16,7 @@ use Rattle.step_checks.proofs.refusals.any_unknown.Statement.{statement
 use Rattle.step_checks.proofs.refusals.any_unknown.Tie as tie
 
 abbrev Inv-loop : tie.InvT-loop
-Inv-loop objects results made n i₀ i = ((ts ps : List ℕ) (q : ReadyQueue) (l : List Happening) → any-of (result-unknown (store-of ts objects ps q l)) (results-from results (i * 14) (n - i)) ≡ any-of (result-unknown (store-of ts objects ps q l)) (results-in results)) × (i ≤ n)
+Inv-loop objects results made n i₀ i = ((ts ps : List ℕ) (q : ReadyQueue) (l : List LogEntry) → any-of (result-unknown (store-of ts objects ps q l)) (results-from results (i * 14) (n - i)) ≡ any-of (result-unknown (store-of ts objects ps q l)) (results-in results)) × (i ≤ n)
 
 abbrev μ-loop : tie.MeasureT-loop
 μ-loop objects results made n i₀ i = n - i

@@ -1,10 +1,10 @@
 use native.Mathlib.Omega.{arith}
 use denote.Ref.{now}
-use Rattle.scheduler_cancel.specs.Cancel.{note-driver}
+use Rattle.scheduler_cancel.specs.Cancel.{put-task-of}
 use Rattle.rows.specs.TableLaws.{coroutine-fits}
 use borrow.Author.Needs.{needs}
-use Rattle.scheduler_cancel.proofs.cancel.note_driver.Statement.{statement}
-use Rattle.scheduler_cancel.proofs.cancel.note_driver.Tie as tie
+use Rattle.scheduler_cancel.proofs.cancel.put_task_of.Statement.{statement}
+use Rattle.scheduler_cancel.proofs.cancel.put_task_of.Tie as tie
 
 state-at-requires : tie.Need-state-at-requires
 state-at-requires c κs = search needs
@@ -21,25 +21,25 @@ cast-i c = search needs
 word-requires : tie.Need-word-requires
 word-requires c κs = search needs
 
-mul-drivers : tie.Need-mul-drivers
-mul-drivers c = search needs
+mul-table : tie.Need-mul-table
+mul-table c = search needs
 
-slice-write-drivers : tie.Need-slice-write-drivers
-slice-write-drivers c = omega (arith, coroutine-fits (now (c .before .before .before .before .before .before .before .before .args .tasks)) (c .before .before .before .before .before .before .before .before .args .t .0) (c .before .before .coroutine-at .ensures))
+slice-write-table : tie.Need-slice-write-table
+slice-write-table c = omega (arith, coroutine-fits (now (c .before .before .before .before .before .before .before .before .args .tasks)) (c .before .before .before .before .before .before .before .before .args .t .0) (c .before .before .coroutine-at .ensures))
 
 same-length : tie.Need-same-length
 same-length c = search needs
 
 returns : tie.Need-returns
-unfolding note-driver
+unfolding put-task-of
 returns c = rw (← c .before .before .before .before .before .state-at .ensures, ← c .before .before .before .before .is-live .ensures, c .before .before .before .if1 .taken, ← c .before .before .coroutine-at .ensures, c .word .ensures)
 
 returns-2 : tie.Need-returns-2
-unfolding note-driver
+unfolding put-task-of
 returns-2 c = rw (← c .before .before .state-at .ensures, ← c .before .is-live .ensures, c .if1 .left)
 
-pub note-driver-spec : {M : Type 1} → statement M
-note-driver-spec =
+pub put-task-of-spec : {M : Type 1} → statement M
+put-task-of-spec =
     tie.close
     (tie.spec
     state-at-requires
@@ -47,8 +47,8 @@ note-driver-spec =
     coroutine-at-requires
     cast-i
     word-requires
-    mul-drivers
-    slice-write-drivers
+    mul-table
+    slice-write-table
     same-length
     returns
     returns-2)

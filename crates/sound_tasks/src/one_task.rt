@@ -7,12 +7,12 @@ ghost use Prim.Native.Nat.{_≤_};
 ghost use lib.ListN.{length};
 ghost use Rattle.asyncio.specs.Limits.{task-limit, tasks-length};
 ghost use Rattle.rows.specs.Tables.{task-at};
-ghost use Rattle.machine.specs.Sound.{one-driver};
+ghost use Rattle.machine.specs.Sound.{one-task};
 
 // The coroutine of each live spawned task is not seen before.
-pub fn one_driver(next: u16, tasks: &[u64]) -> bool
+pub fn one_task(next: u16, tasks: &[u64]) -> bool
     requires { ⌜ (length (now tasks) ≡ tasks-length) × (next ≤ task-limit) ⌝ }
-    ensures { λ r. ⌜ r ≡ one-driver next (task-at (now (tasks .entry))) ⌝ }
+    ensures { λ r. ⌜ r ≡ one-task next (task-at (now (tasks .entry))) ⌝ }
 {
     let mut seen = [0u8; 256];
     let mut t: u16 = 0;

@@ -1,4 +1,4 @@
--- A commit leaves the places of one item alike in every awaited gather (`commit-alike`).
+-- A commit leaves the places of one item alike in every awaited gather (`commit-agree`).
 use mathlib.Core.Path.{_≡_, refl, ap, sym, subst, _∙_}
 use mathlib.Core.Logic.{inl, inr}
 use mathlib.Core.Bool.{Bool, true, false, true≢false}
@@ -34,7 +34,7 @@ use Rattle.machine_laws.specs.Facts.{Nothing}
 use Rattle.machine_laws.specs.StoreLaws.{update-same, object-put-object, object-put-other, kind-put-object, header-put-object, header-fits, object-fits, sized-put-object}
 use Rattle.machine_laws.specs.DeliveryLaws.{absurd-some, awaited-object, awaited-fits}
 use Rattle.machine_theorems.specs.Bounds.Bits.{none-set}
-use Rattle.machine_theorems.specs.Soundness.Stores.{Whole}
+use Rattle.machine_theorems.specs.Soundness.Stores.{SoundStore}
 use Rattle.machine_theorems.specs.Soundness.Fill.{gather-within, open-small}
 use Rattle.machine_theorems.specs.Soundness.Exits.{runner-low}
 use Rattle.machine_theorems.specs.Soundness.Memory.{Memory}
@@ -47,34 +47,34 @@ use Rattle.machine_theorems.specs.Gather.Asyncio.{item-at}
 use Rattle.machine_theorems.specs.Gather.Meanwhile.{SameGather}
 use Rattle.machine_theorems.specs.Gather.ReceivedLaws.{Untouched, untouched-object, WasCommitted}
 use Rattle.machine_theorems.specs.Gather.ReceivedCommit.{StopUntouched, items-untouched, unwind-untouched, resume-untouched, untouched-open}
-use Rattle.machine_theorems.specs.Gather.Alike.{Alike, AllAlike, at-once, Level, FirstNamed, Quiet}
-use Rattle.machine_theorems.specs.Gather.AlikeLaws.{not-awaited, awaited-committed, alike-kept, level-kept, level-at, level-alike, level-fill, wide, level-open}
-use Rattle.machine_theorems.specs.Gather.AlikeItems.{quiet-refl, quiet-object, EndLevel, NestLevel, StopLevel, items-level}
+use Rattle.machine_theorems.specs.Gather.PlacesAgree.{PlacesAgree, AllPlacesAgree, at-once, CommitProgress, FirstNamed, OnlyChanges}
+use Rattle.machine_theorems.specs.Gather.PlacesAgreeLaws.{not-awaited, awaited-committed, agree-kept, level-kept, level-at, level-agree, level-fill, wide, level-open}
+use Rattle.machine_theorems.specs.Gather.PlacesAgreeItems.{only-changes-refl, only-changes-object, EndProgress, NestProgress, StopProgress, items-level}
 
 -- ---- the levels of the stack
 
 -- of a frame whose nested gather is being committed: no earlier place names it
-pub record FrameLevel (s : Store) (f : Frame) : Type 0 where
+pub record FrameProgress (s : Store) (f : Frame) : Type 0 where
   pub w : AwaitedGather
-  pub level : Level s (f .gather) (f .next) w
+  pub level : CommitProgress s (f .gather) (f .next) w
   pub less : f .next < w .count
   pub first : FirstNamed s w (f .next)
 
-abbrev pub Levels : Store → List Frame → Type 0
-Levels s [] = Unit {0}
-Levels s (f ∷ fs) = FrameLevel s f × Levels s fs
+abbrev pub CommitsProgress : Store → List Frame → Type 0
+CommitsProgress s [] = Unit {0}
+CommitsProgress s (f ∷ fs) = FrameProgress s f × CommitsProgress s fs
 
 -- in the midst of a commit
 pub record CommitAlike (s : Store) (p i : ℕ) (fs : List Frame) : Type 0 where
   pub w : AwaitedGather
-  pub top : Level s p i w
-  pub below : Levels s fs
-  pub off : AllAlike (OnTop p fs) s
+  pub top : CommitProgress s p i w
+  pub below : CommitsProgress s fs
+  pub off : AllPlacesAgree (OnTop p fs) s
 
 abbrev Persists : Store → Store → Type 0
 Persists s u = (o : ℕ) (v : Value) → at-once (object s o) o ≡ some v → at-once (object u o) o ≡ some v
 
-frame-kept : {s u : Store} (f : Frame) → SameGather s u (f .gather) → Persists s u → FrameLevel s f → FrameLevel u f
+frame-kept : {s u : Store} (f : Frame) → SameGather s u (f .gather) → Persists s u → FrameProgress s f → FrameProgress u f
 unfolding item-at
 frame-kept {s} {u} f k ps a =
     record {
@@ -90,7 +90,7 @@ frame-kept {s} {u} f k ps a =
         (k .same-places (a .w .first) (a .w .count) (GatherState.Awaited (a .w .awaiter) (a .w .open-places)) (awaited-object (object s (f .gather)) (a .w) (a .level .awaited)) j l)
 
 levels-kept : {s u : Store} {root t p : ℕ} {b : Awaiter} {fs : List Frame} {k : ℕ} → Stacked (header s .made) (object s) (place s) root t p b fs k
-    → ((q : ℕ) → p < q → q < header s .made → WasCommitted s q → SameGather s u q) → Persists s u → Levels s fs → Levels u fs
+    → ((q : ℕ) → p < q → q < header s .made → WasCommitted s q → SameGather s u q) → Persists s u → CommitsProgress s fs → CommitsProgress u fs
 levels-kept (bottom e q) same ps a = tt
 levels-kept {s} (above {f = f} w j op lt nm lo aw rm rest) same ps a = (
   frame-kept f (same (f .gather) lo (op .made) (awaited-committed (object s (f .gather)) w (op .awaited))) ps (a .0),
@@ -98,14 +98,14 @@ levels-kept {s} (above {f = f} w j op lt nm lo aw rm rest) same ps a = (
 )
 
 -- the others
-all-kept : {s u : Store} (p : ℕ) {Q : ℕ → Type 0} → Quiet p s u → Q p → ((q : ℕ) → (q ≡ p → ⊥) → q < header s .made → WasCommitted s q → SameGather s u q) → AllAlike Q s → AllAlike Q u
+all-kept : {s u : Store} (p : ℕ) {Q : ℕ → Type 0} → OnlyChanges p s u → Q p → ((q : ℕ) → (q ≡ p → ⊥) → q < header s .made → WasCommitted s q → SameGather s u q) → AllPlacesAgree Q s → AllPlacesAgree Q u
 all-kept {s} {u} p {Q} k on same a =
     record {
       each = λ g w l n e.
           let ne : g ≡ p → ⊥ = λ q. n (subst Q (sym q) on) in
           let b : as-awaited (object s g) ≡ some w = k .back g w ne e in
           let m : g < header s .made = subst (λ (y : ℕ). g < y) (k .made) l in
-          alike-kept g w b (same g ne m (awaited-committed (object s g) w b)) (a .each g w m n b);
+          agree-kept g w b (same g ne m (awaited-committed (object s g) w b)) (a .each g w m n b);
     }
 
 -- ---- a gather that is not committed yet is opened
@@ -122,16 +122,16 @@ module _ (x : Store) (q f n : ℕ) (aw : Awaiter) (mem : Memory x) (low : q < he
   unfolding view with-object
   opened-row = ap (λ (u : View). u .objects q) (opened-in x q f n aw mem low new fits .1) ∙ update-same (object x) q _
 
-  opens-quiet : Quiet q x y
+  opens-only-changes : OnlyChanges q x y
   unfolding open-gather-commit set-gather at-once
-  opens-quiet =
-      quiet-object q x q _ (mem .sized) (omega (arith, low, header-fits x .made-fits)) (λ d. absurd (d refl))
+  opens-only-changes =
+      only-changes-object q x q _ (mem .sized) (omega (arith, low, header-fits x .made-fits)) (λ d. absurd (d refl))
       (λ v e. absurd-some (subst (λ (o : Object). at-once o q ≡ some v) new e))
 
   opens-same : (g : ℕ) → (g ≡ q → ⊥) → SameGather x y g
   opens-same g ne = untouched-open g x q aw ne (mem .sized) .same
 
-  opens-level : Level y q 0 w0
+  opens-level : CommitProgress y q 0 w0
   opens-level =
       record {
         awaited = ap as-awaited opened-row ∙ (unfold as-awaited in refl);
@@ -142,13 +142,13 @@ module _ (x : Store) (q f n : ℕ) (aw : Awaiter) (mem : Memory x) (low : q < he
       }
 
   -- the others are alike still
-  opens-off : {Q R : ℕ → Type 0} → R q → ((g : ℕ) → (R g → ⊥) → Q g → ⊥) → AllAlike Q x → AllAlike R y
+  opens-off : {Q R : ℕ → Type 0} → R q → ((g : ℕ) → (R g → ⊥) → Q g → ⊥) → AllPlacesAgree Q x → AllPlacesAgree R y
   opens-off {Q} {R} on less off =
       record {
         each = λ g w m k e.
             let ne : g ≡ q → ⊥ = λ d. k (subst R (sym d) on) in
-            let b : as-awaited (object x g) ≡ some w = opens-quiet .back g w ne e in
-            alike-kept g w b (opens-same g ne) (off .each g w (subst (λ (u : ℕ). g < u) (opens-quiet .made) m) (less g k) b);
+            let b : as-awaited (object x g) ≡ some w = opens-only-changes .back g w ne e in
+            agree-kept g w b (opens-same g ne) (off .each g w (subst (λ (u : ℕ). g < u) (opens-only-changes .made) m) (less g k) b);
       }
 
 -- a nested one
@@ -170,10 +170,10 @@ module _ (root t : ℕ) (f : Frame) (fs : List Frame) (x : Store) (i q : ℕ) (h
       let most : header x .made ≤ object-limit = header-fits x .made-fits in
       (old .0, ((omega (arith, h .inv .opened .made), omega (arith, low-q)), omega arith))
 
-  nested-alike : (l : NestLevel x p x i) → Levels x fs → AllAlike (OnTop p fs) x
+  nested-agree : (l : NestProgress x p x i) → CommitsProgress x fs → AllPlacesAgree (OnTop p fs) x
       → CommitAlike (open-gather-commit x q (Awaiter.GatherSlot (heap-id p) (heap-id q))) q 0 (record { gather = p; next = i } ∷ fs)
   unfolding view
-  nested-alike l below off =
+  nested-agree l below off =
       record {
         w = w0 x q (h .first) (h .count) aw (h .memory) low-q (h .is-new) fits-q;
         top = opens-level x q (h .first) (h .count) aw (h .memory) low-q (h .is-new) fits-q;
@@ -188,8 +188,8 @@ module _ (root t : ℕ) (f : Frame) (fs : List Frame) (x : Store) (i q : ℕ) (h
       same : (g : ℕ) → (g ≡ q → ⊥) → SameGather x (open-gather-commit x q aw) g
       same = opens-same x q (h .first) (h .count) aw (h .memory) low-q (h .is-new) fits-q
 
-      quiet : Quiet q x (open-gather-commit x q aw)
-      quiet = opens-quiet x q (h .first) (h .count) aw (h .memory) low-q (h .is-new) fits-q
+      quiet : OnlyChanges q x (open-gather-commit x q aw)
+      quiet = opens-only-changes x q (h .first) (h .count) aw (h .memory) low-q (h .is-new) fits-q
 
       first-at : (v : AwaitedGather) → some v ≡ some (h .inv .w) → FirstNamed x v i → FirstNamed x (h .inv .w) i
       first-at v e k = subst (λ (u : AwaitedGather). FirstNamed x u i) (Option·some-injective v (h .inv .w) e) k
@@ -243,19 +243,19 @@ unwound (f ∷ fs) s e z low =
         split g w k (inl q) = failed g w (r .back g w k) q
         split g w k (inr o) = r .off g w k o
 
-error-alike : (f : Frame) (fs : List Frame) (x : Store) (e : Error) → Sized x → ((q : ℕ) → OnStack (f ∷ fs) q → q < object-limit) → AllAlike (OnTop (f .gather) fs) x
-    → AllAlike Nothing (unwind x (f ∷ fs) e)
-error-alike f fs x e z low off =
+error-agree : (f : Frame) (fs : List Frame) (x : Store) (e : Error) → Sized x → ((q : ℕ) → OnStack (f ∷ fs) q → q < object-limit) → AllPlacesAgree (OnTop (f .gather) fs) x
+    → AllPlacesAgree Nothing (unwind x (f ∷ fs) e)
+error-agree f fs x e z low off =
     let u : Unwound (f ∷ fs) x (unwind x (f ∷ fs) e) = unwound (f ∷ fs) x e z low in
     record {
       each = λ g w m n k.
           let b : as-awaited (object x g) ≡ some w = u .back g w k in
-          alike-kept g w b (unwind-untouched g (f ∷ fs) x e (u .off g w k) z .same) (off .each g w (subst (λ (y : ℕ). g < y) (u .made) m) (u .off g w k) b);
+          agree-kept g w b (unwind-untouched g (f ∷ fs) x e (u .off g w k) z .same) (off .each g w (subst (λ (y : ℕ). g < y) (u .made) m) (u .off g w k) b);
     }
 
 -- ---- a gather whose items are all stepped
 
-module _ (x : Store) (p : ℕ) (w : AwaitedGather) (a : Level x p (w .count) w) (z : Sized x) (room : p < object-limit) where
+module _ (x : Store) (p : ℕ) (w : AwaitedGather) (a : CommitProgress x p (w .count) w) (z : Sized x) (room : p < object-limit) where
   x1 : Store
   x1 = set-gather x p GatherState.Completed
 
@@ -268,9 +268,9 @@ module _ (x : Store) (p : ℕ) (w : AwaitedGather) (a : Level x p (w .count) w) 
   full-none : (v : AwaitedGather) → as-awaited (object x1 p) ≡ some v → ⊥
   full-none v e = absurd-some (sym (ap as-awaited full-row ∙ (unfold as-awaited in refl)) ∙ e)
 
-  full-quiet : Quiet p x x1
+  full-only-changes : OnlyChanges p x x1
   unfolding x1 set-gather
-  full-quiet = quiet-object p x p _ z room (λ d. absurd (d refl)) (λ v e. not-awaited (object x p) w p v (a .awaited) e)
+  full-only-changes = only-changes-object p x p _ z room (λ d. absurd (d refl)) (λ v e. not-awaited (object x p) w p v (a .awaited) e)
 
   full-other : (g : ℕ) → (g ≡ p → ⊥) → object x1 g ≡ object x g
   unfolding x1 set-gather
@@ -281,39 +281,39 @@ module _ (x : Store) (p : ℕ) (w : AwaitedGather) (a : Level x p (w .count) w) 
   full-same g ne = untouched-object g x p _ ne z .same
 
   -- the root
-  root-alike : AllAlike (OnTop p []) x → AllAlike Nothing (settle-gather-commit x p .store)
+  root-agree : AllPlacesAgree (OnTop p []) x → AllPlacesAgree Nothing (settle-gather-commit x p .store)
   unfolding settle-gather-commit x1
-  root-alike off = subst (λ (o : Option AwaitedGather). AllAlike Nothing (settle-as x p o .store)) (sym (a .awaited)) (unfold settle-as in (by (eqb (w .open-places) 0)))
+  root-agree off = subst (λ (o : Option AwaitedGather). AllPlacesAgree Nothing (settle-as x p o .store)) (sym (a .awaited)) (unfold settle-as in (by (eqb (w .open-places) 0)))
     where
       not-on : (g : ℕ) → (g ≡ p → ⊥) → OnTop p [] g → ⊥
       not-on g ne (inl q) = ne q
       not-on g ne (inr q) = q
 
-      done : (g : ℕ) (v : AwaitedGather) → g < header x1 .made → as-awaited (object x1 g) ≡ some v → Dec (g ≡ p) → Alike x1 v
+      done : (g : ℕ) (v : AwaitedGather) → g < header x1 .made → as-awaited (object x1 g) ≡ some v → Dec (g ≡ p) → PlacesAgree x1 v
       done g v m e (yes q) = absurd (full-none v (subst (λ (k : ℕ). as-awaited (object x1 k) ≡ some v) q e))
       done g v m e (no ne) =
           let b : as-awaited (object x g) ≡ some v = sym (ap as-awaited (full-other g ne)) ∙ e in
-          alike-kept g v b (full-same g ne) (off .each g v (subst (λ (k : ℕ). g < k) (full-quiet .made) m) (not-on g ne) b)
+          agree-kept g v b (full-same g ne) (off .each g v (subst (λ (k : ℕ). g < k) (full-only-changes .made) m) (not-on g ne) b)
 
-      waits : (g : ℕ) (v : AwaitedGather) → g < header x .made → as-awaited (object x g) ≡ some v → Dec (g ≡ p) → Alike x v
+      waits : (g : ℕ) (v : AwaitedGather) → g < header x .made → as-awaited (object x g) ≡ some v → Dec (g ≡ p) → PlacesAgree x v
       waits g v m e (yes q) =
-          subst (Alike x) (Option·some-injective w v (sym (a .awaited) ∙ subst (λ (k : ℕ). as-awaited (object x k) ≡ some v) q e)) (level-alike a)
+          subst (PlacesAgree x) (Option·some-injective w v (sym (a .awaited) ∙ subst (λ (k : ℕ). as-awaited (object x k) ≡ some v) q e)) (level-agree a)
       waits g v m e (no ne) = off .each g v m (not-on g ne) e
 
-      by : (b : Bool) → AllAlike Nothing (pick b (gives (set-gather x p GatherState.Completed) (ready (Value.List (heap-id p)))) (gives x pending) .store)
+      by : (b : Bool) → AllPlacesAgree Nothing (pick b (gives (set-gather x p GatherState.Completed) (ready (Value.List (heap-id p)))) (gives x pending) .store)
       by true = record { each = λ g v m n e. done g v m e (ℕ-discrete g p) }
       by false = record { each = λ g v m n e. waits g v m e (ℕ-discrete g p) }
 
   -- the frame below resumes
-  module _ (f : Frame) (l : FrameLevel x f) (ne : p ≡ f .gather → ⊥) (names : place x (l .w .first + f .next) .item .0 ≡ p) (fit : l .w .first + l .w .count ≤ place-limit)
+  module _ (f : Frame) (l : FrameProgress x f) (ne : p ≡ f .gather → ⊥) (names : place x (l .w .first + f .next) .item .0 ≡ p) (fit : l .w .first + l .w .count ≤ place-limit)
       (low : f .gather < object-limit) (small : l .w .open-places < 2 ^ (l .w .count)) where
     record Resumed (y : Store) : Type 0 where
       made : header y .made ≡ header x .made
       persist : Persists x y
       back : (g : ℕ) (v : AwaitedGather) → (g ≡ p → ⊥) → (g ≡ f .gather → ⊥) → as-awaited (object y g) ≡ some v → as-awaited (object x g) ≡ some v
       w2 : AwaitedGather
-      top : Level y (f .gather) (f .next + 1) w2
-      child : (v : AwaitedGather) → as-awaited (object y p) ≡ some v → Alike y v
+      top : CommitProgress y (f .gather) (f .next + 1) w2
+      child : (v : AwaitedGather) → as-awaited (object y p) ≡ some v → PlacesAgree y v
 
     -- the nested gather completed: its list is in the place
     filled : Resumed (fill-place x1 (l .w) (f .next) (Value.List (heap-id p)))
@@ -330,12 +330,12 @@ module _ (x : Store) (p : ℕ) (w : AwaitedGather) (a : Level x p (w .count) w) 
         }
       where
         made1 : header x1 .made ≡ header x .made
-        made1 = full-quiet .made
+        made1 = full-only-changes .made
 
         persist1 : Persists x x1
-        persist1 = full-quiet .persist
+        persist1 = full-only-changes .persist
 
-        l1 : FrameLevel x1 f
+        l1 : FrameProgress x1 f
         l1 = frame-kept f (full-same (f .gather) (λ q. ne (sym q))) persist1 l
 
         item : place x1 (l .w .first + f .next) .item .0 ≡ p
@@ -360,14 +360,14 @@ module _ (x : Store) (p : ℕ) (w : AwaitedGather) (a : Level x p (w .count) w) 
           child = λ v e. parked v e;
         }
       where
-        quiet : Quiet (f .gather) x (open-place x (f .gather) (l .w) (f .next))
+        quiet : OnlyChanges (f .gather) x (open-place x (f .gather) (l .w) (f .next))
         quiet = unfold open-place in
-            (quiet-object (f .gather) x (f .gather) _ z low (λ d. absurd (d refl)) (λ v e. not-awaited (object x (f .gather)) (l .w) (f .gather) v (l .level .awaited) e))
+            (only-changes-object (f .gather) x (f .gather) _ z low (λ d. absurd (d refl)) (λ v e. not-awaited (object x (f .gather)) (l .w) (f .gather) v (l .level .awaited) e))
 
-        parked : (v : AwaitedGather) → as-awaited (object (open-place x (f .gather) (l .w) (f .next)) p) ≡ some v → Alike (open-place x (f .gather) (l .w) (f .next)) v
+        parked : (v : AwaitedGather) → as-awaited (object (open-place x (f .gather) (l .w) (f .next)) p) ≡ some v → PlacesAgree (open-place x (f .gather) (l .w) (f .next)) v
         parked v e =
             let b : as-awaited (object x p) ≡ some v = quiet .back p v ne e in
-            alike-kept p v b (same-p tt) (subst (Alike x) (Option·some-injective w v (sym (a .awaited) ∙ b)) (level-alike a))
+            agree-kept p v b (same-p tt) (subst (PlacesAgree x) (Option·some-injective w v (sym (a .awaited) ∙ b)) (level-agree a))
           where
             same-p : Unit {0} → SameGather x (open-place x (f .gather) (l .w) (f .next)) p
             same-p u = unfold open-place in (untouched-object p x (f .gather) _ ne z .same)
@@ -387,7 +387,7 @@ module _ (x : Store) (p : ℕ) (w : AwaitedGather) (a : Level x p (w .count) w) 
 
 abbrev LoopAlike : ℕ → ℕ → (Store → Frame → List Frame → ℕ → ℕ → ℕ → Committed) → Type 0
 LoopAlike root t loop = (s : Store) (f : Frame) (fs : List Frame) (n j k : ℕ) → Commits root t (f .gather) (f .next) fs s → CommitAlike s (f .gather) (f .next) fs
-    → AllAlike Nothing (loop s f fs n j k .store)
+    → AllPlacesAgree Nothing (loop s f fs n j k .store)
 
 stack-low : {n : ℕ} {os : ℕ → Object} {ps : ℕ → Place} {root t p : ℕ} {b : Awaiter} {fs : List Frame} {k : ℕ} → Stacked n os ps root t p b fs k → (q : ℕ) → OnStack fs q → q < n
 stack-low (bottom e q) r o = absurd o
@@ -399,21 +399,21 @@ module _ (root t : ℕ) (loop : Store → Frame → List Frame → ℕ → ℕ �
   abbrev UntouchedTo : Store → Type 0
   UntouchedTo x = (q : ℕ) → (q ≡ f .gather → ⊥) → q < header s .made → WasCommitted s q → Untouched q s x
 
-  below-at : (x : Store) → Quiet (f .gather) s x → UntouchedTo x → Levels x fs
+  below-at : (x : Store) → OnlyChanges (f .gather) s x → UntouchedTo x → CommitsProgress x fs
   unfolding view
   below-at x k untouched = levels-kept (hs .inv .stack) (λ q lt m d. untouched q (λ e. omega arith) m d .same) (k .persist) (c .below)
 
-  off-at : (x : Store) → Quiet (f .gather) s x → UntouchedTo x → AllAlike (OnTop (f .gather) fs) x
+  off-at : (x : Store) → OnlyChanges (f .gather) s x → UntouchedTo x → AllPlacesAgree (OnTop (f .gather) fs) x
   off-at x k untouched = all-kept (f .gather) k (inl refl) (λ q ne m d. untouched q ne m d .same) (c .off)
 
   abbrev StopsUntouched : Stop → Type 0
   StopsUntouched x = (q : ℕ) → (q ≡ f .gather → ⊥) → q < header s .made → WasCommitted s q → StopUntouched q s x
 
-  parent-alike : (x : Store) (p : Frame) (ps : List Frame) (i : ℕ) → fs ≡ p ∷ ps → Memory x → (h : Inv root t 0 (OnTop (f .gather) (p ∷ ps)) (view x) (f .gather) i (p ∷ ps)) → i ≡ h .w .count
-      → EndLevel x (f .gather) x → Levels x (p ∷ ps) → AllAlike (OnTop (f .gather) (p ∷ ps)) x
+  parent-agree : (x : Store) (p : Frame) (ps : List Frame) (i : ℕ) → fs ≡ p ∷ ps → Memory x → (h : Inv root t 0 (OnTop (f .gather) (p ∷ ps)) (view x) (f .gather) i (p ∷ ps)) → i ≡ h .w .count
+      → EndProgress x (f .gather) x → CommitsProgress x (p ∷ ps) → AllPlacesAgree (OnTop (f .gather) (p ∷ ps)) x
       → CommitAlike (resume-after-child p (settle-gather-commit x (f .gather))) (p .gather) (p .next + 1) ps
   unfolding view
-  parent-alike x p ps i same mem h end l below off = by (h .stack)
+  parent-agree x p ps i same mem h end l below off = by (h .stack)
     where
       g0 : ℕ
       g0 = f .gather
@@ -430,7 +430,7 @@ module _ (root t : ℕ) (loop : Store → Frame → List Frame → ℕ → ℕ �
             off = record { each = λ g v m n e. at g v (subst (λ (k : ℕ). g < k) (r .made) m) n e (ℕ-discrete g g0) };
           }
         where
-          fl : FrameLevel x p
+          fl : FrameProgress x p
           fl = below .0
 
           same-w : w ≡ fl .w
@@ -449,53 +449,53 @@ module _ (root t : ℕ) (loop : Store → Frame → List Frame → ℕ → ℕ �
           not-on g ne n (inl e) = ne e
           not-on g ne n (inr e) = n e
 
-          at : (g : ℕ) (v : AwaitedGather) → g < header x .made → (OnTop (p .gather) ps g → ⊥) → as-awaited (object y g) ≡ some v → Dec (g ≡ g0) → Alike y v
+          at : (g : ℕ) (v : AwaitedGather) → g < header x .made → (OnTop (p .gather) ps g → ⊥) → as-awaited (object y g) ≡ some v → Dec (g ≡ g0) → PlacesAgree y v
           at g v m n e (yes q) = r .child v (subst (λ (k : ℕ). as-awaited (object y k) ≡ some v) q e)
           at g v m n e (no ne) =
               let b : as-awaited (object x g) ≡ some v = r .back g v ne (λ q. n (inl q)) e in
-              alike-kept g v b (resume-untouched g root t x g0 i p ps mem h ne (λ q. n (inl q)) m .same) (off .each g v m (not-on g ne n) b)
+              agree-kept g v b (resume-untouched g root t x g0 i p ps mem h ne (λ q. n (inl q)) m .same) (off .each g v m (not-on g ne n) b)
 
-turn-alike : (root t : ℕ) (loop : Store → Frame → List Frame → ℕ → ℕ → ℕ → Committed) → LoopAlike root t loop → (s : Store) (f : Frame) (fs : List Frame) (n j k : ℕ) (x : Stop)
-    → Commits root t (f .gather) (f .next) fs s → CommitAlike s (f .gather) (f .next) fs → StopOk root t (f .gather) fs x → StopLevel s (f .gather) x
-    → ((q : ℕ) → (q ≡ f .gather → ⊥) → q < header s .made → WasCommitted s q → StopUntouched q s x) → AllAlike Nothing (turn loop f fs n j k x .store)
+turn-agree : (root t : ℕ) (loop : Store → Frame → List Frame → ℕ → ℕ → ℕ → Committed) → LoopAlike root t loop → (s : Store) (f : Frame) (fs : List Frame) (n j k : ℕ) (x : Stop)
+    → Commits root t (f .gather) (f .next) fs s → CommitAlike s (f .gather) (f .next) fs → StopOk root t (f .gather) fs x → StopProgress s (f .gather) x
+    → ((q : ℕ) → (q ≡ f .gather → ⊥) → q < header s .made → WasCommitted s q → StopUntouched q s x) → AllPlacesAgree Nothing (turn loop f fs n j k x .store)
 unfolding turn view
-turn-alike root t loop go s f fs n j k (at-nested x i q) hs c h l untouched =
+turn-agree root t loop go s f fs n j k (at-nested x i q) hs c h l untouched =
     go _ (record { gather = q; next = 0 }) (record { gather = f .gather; next = i } ∷ fs) (suc n) (suc j) k (nested-commits root t f fs x i q h)
-    (nested-alike root t f fs x i q h (record { w = l .w; level = l .level; first = l .first; quiet = quiet-refl (f .gather) x })
+    (nested-agree root t f fs x i q h (record { w = l .w; level = l .level; first = l .first; quiet = only-changes-refl (f .gather) x })
     (below-at root t loop go s f fs hs c x (l .quiet) untouched) (off-at root t loop go s f fs hs c x (l .quiet) untouched))
-turn-alike root t loop go s f fs n j k (at-error x e) hs c h l untouched =
-    error-alike f fs x e (h .memory .sized) on-stack (off-at root t loop go s f fs hs c x l untouched)
+turn-agree root t loop go s f fs n j k (at-error x e) hs c h l untouched =
+    error-agree f fs x e (h .memory .sized) on-stack (off-at root t loop go s f fs hs c x l untouched)
   where
     on-stack : (q : ℕ) → OnStack (f ∷ fs) q → q < object-limit
     on-stack q (inl d) = omega (arith, d, h .inv .opened .made, h .inv .but .fits .made-fits)
     on-stack q (inr o) = omega (arith, stack-low (h .inv .stack) q o, h .inv .but .fits .made-fits)
-turn-alike root t loop go s f [] n j k (at-end x) hs c h l untouched =
-    root-alike x (f .gather) (l .w) (l .level) (h .memory .sized) (omega (arith, h .inv .opened .made, h .inv .but .fits .made-fits)) (off-at root t loop go s f [] hs c x (l .quiet) untouched)
-turn-alike root t loop go s f (p ∷ ps) n j k (at-end x) hs c h l untouched =
+turn-agree root t loop go s f [] n j k (at-end x) hs c h l untouched =
+    root-agree x (f .gather) (l .w) (l .level) (h .memory .sized) (omega (arith, h .inv .opened .made, h .inv .but .fits .made-fits)) (off-at root t loop go s f [] hs c x (l .quiet) untouched)
+turn-agree root t loop go s f (p ∷ ps) n j k (at-end x) hs c h l untouched =
     go _ (record { gather = p .gather; next = p .next + 1 }) ps (suc n) j (suc k) (settle-next root t x (f .gather) (h .i) p ps (h .memory) (h .inv) (h .end))
-    (parent-alike root t loop go s f (p ∷ ps) hs c x p ps (h .i) refl (h .memory) (h .inv) (h .end) (record { w = l .w; level = l .level; quiet = quiet-refl (f .gather) x })
+    (parent-agree root t loop go s f (p ∷ ps) hs c x p ps (h .i) refl (h .memory) (h .inv) (h .end) (record { w = l .w; level = l .level; quiet = only-changes-refl (f .gather) x })
     (below-at root t loop go s f (p ∷ ps) hs c x (l .quiet) untouched) (off-at root t loop go s f (p ∷ ps) hs c x (l .quiet) untouched))
 
-loop-alike : (fuel root t : ℕ) → LoopAlike root t (commit-loop fuel)
+loop-agree : (fuel root t : ℕ) → LoopAlike root t (commit-loop fuel)
 unfolding commit-loop step-gather-commit turn view
-loop-alike zero root t s f fs n j k h c = error-alike f fs s Error.GatherReuse (h .memory .sized) on-stack (c .off)
+loop-agree zero root t s f fs n j k h c = error-agree f fs s Error.GatherReuse (h .memory .sized) on-stack (c .off)
   where
     on-stack : (q : ℕ) → OnStack (f ∷ fs) q → q < object-limit
     on-stack q (inl d) = omega (arith, d, h .inv .opened .made, h .inv .but .fits .made-fits)
     on-stack q (inr o) = omega (arith, stack-low (h .inv .stack) q o, h .inv .but .fits .made-fits)
-loop-alike (suc fuel) root t s f fs n j k h c =
+loop-agree (suc fuel) root t s f fs n j k h c =
     let len : f .next + (count-of (object s (f .gather)) - f .next) ≡ h .inv .w .count =
     omega (arith, h .inv .opened .under, inv-count root t (f .next) (f .gather) 0 (OnTop (f .gather) fs) fs s (h .inv)) in
-    turn-alike root t (λ x g gs m i h. commit-loop fuel x g gs m i h) (loop-alike fuel root t) s f fs n j k (step-gather-commit s f) h c (frame-stops root t s f fs h)
+    turn-agree root t (λ x g gs m i h. commit-loop fuel x g gs m i h) (loop-agree fuel root t) s f fs n j k (step-gather-commit s f) h c (frame-stops root t s f fs h)
     (items-level (count-of (object s (f .gather)) - f .next) root t (f .gather) (f .next) fs s (h .memory) (h .inv) len (level-at (h .inv .w) (h .inv .opened .awaited) (c .top)))
     (λ q ne m d. items-untouched q (count-of (object s (f .gather)) - f .next) root t (f .gather) (f .next) fs s (h .memory) (h .inv) len ne d m)
 
 -- A commit leaves places of one item alike.
-pub commit-alike : (s : Store) (t : ℕ) (h : Whole s) → header s .moment ≡ Moment.Running (task-id t) → (o f n : ℕ) → o < header s .made
-    → object s o ≡ Object.GatherFuture f n GatherState.Pending → AllAlike Nothing s → AllAlike Nothing (commit-gather-tree s o (Awaiter.Task (task-id t)) .store)
+pub commit-agree : (s : Store) (t : ℕ) (h : SoundStore s) → header s .moment ≡ Moment.Running (task-id t) → (o f n : ℕ) → o < header s .made
+    → object s o ≡ Object.GatherFuture f n GatherState.Pending → AllPlacesAgree Nothing s → AllPlacesAgree Nothing (commit-gather-tree s o (Awaiter.Task (task-id t)) .store)
 unfolding commit-gather-tree
-commit-alike s t h m o f n l q a =
-    loop-alike _ o t (open-gather-commit s o aw1) (record { gather = o; next = 0 }) [] 0 1 0 (commit-begins s t h m o f n l q)
+commit-agree s t h m o f n l q a =
+    loop-agree _ o t (open-gather-commit s o aw1) (record { gather = o; next = 0 }) [] 0 1 0 (commit-begins s t h m o f n l q)
     (record {
       w = w0 s o f n aw1 mem l q fit;
       top = opens-level s o f n aw1 mem l q fit;

@@ -20,10 +20,10 @@ use Rattle.asyncio.specs.declared.Task.{Task}
 use Rattle.asyncio.specs.declared.TaskState.{TaskState}
 use Rattle.rows.specs.Tables.{task-at}
 use Rattle.rows.specs.TableLaws.{task-at-fits}
-use Rattle.machine.specs.Scheduler.{first-from, drives, driver-in, still-live}
+use Rattle.machine.specs.Scheduler.{first-from, is-task-of, task-of-in, still-live}
 use Rattle.scheduler.specs.Search.{found}
 use Rattle.scheduler.specs.SearchLaws.{found-at}
-use Rattle.scheduler_cancel.specs.Cancel.{named, drivers-in, note-driver}
+use Rattle.scheduler_cancel.specs.Cancel.{named, tasks-of-in, put-task-of}
 use Rattle.scheduler.specs.declared.tasks.Found.{Found}
 
 named-task : (t : ℕ) → 0 < t → t < task-limit → named t ≡ some t
@@ -42,12 +42,12 @@ noted ds t r true m k h l c = by (eqb (r .coroutine .0) c) refl
 
 module _ (ts : List ℕ) (n : ℕ) where
   -- the drivers among the tasks from t on, below n
-  pub drivers-turn : (ds : List ℕ) (u t : ℕ) → t ≡ u + 1 → t ≤ n → 0 < u → n ≤ task-limit → length ds ≡ object-limit
-      → {j : ℕ} {es : List ℕ} → j ≡ u → es ≡ note-driver ts j ds
-      → ((c : ℕ) → drivers-in ds c ≡ first-from (λ v. drives c (task-at ts v)) t (n - t))
-      → (c : ℕ) → drivers-in es c ≡ first-from (λ v. drives c (task-at ts v)) u (n - u)
-  unfolding drivers-in note-driver first-from drives
-  drivers-turn ds u t e h p z m i q f c =
+  pub tasks-of-turn : (ds : List ℕ) (u t : ℕ) → t ≡ u + 1 → t ≤ n → 0 < u → n ≤ task-limit → length ds ≡ object-limit
+      → {j : ℕ} {es : List ℕ} → j ≡ u → es ≡ put-task-of ts j ds
+      → ((c : ℕ) → tasks-of-in ds c ≡ first-from (λ v. is-task-of c (task-at ts v)) t (n - t))
+      → (c : ℕ) → tasks-of-in es c ≡ first-from (λ v. is-task-of c (task-at ts v)) u (n - u)
+  unfolding tasks-of-in put-task-of first-from is-task-of
+  tasks-of-turn ds u t e h p z m i q f c =
       let k : n - u ≡ suc (n - (u + 1)) = omega arith in
       rw (k, q, i, ← e, ← f c) (noted ds u (task-at ts u) (is-live (task-at ts u .state)) m (task-at-fits ts u .coroutine-fits) p (omega arith) c)
 
@@ -56,42 +56,42 @@ module _ (ts : List ℕ) (n : ℕ) where
   zeros (suc k) zero = refl
   zeros (suc k) (suc c) = zeros k c
 
-  pub drivers-begin : (c : ℕ) → drivers-in (replicate object-limit 0) c ≡ first-from (λ v. drives c (task-at ts v)) n (n - n)
-  unfolding drivers-in named first-from
-  drivers-begin c = let k : n - n ≡ 0 = omega arith in rw (k, zeros object-limit c)
+  pub tasks-of-begin : (c : ℕ) → tasks-of-in (replicate object-limit 0) c ≡ first-from (λ v. is-task-of c (task-at ts v)) n (n - n)
+  unfolding tasks-of-in named first-from
+  tasks-of-begin c = let k : n - n ≡ 0 = omega arith in rw (k, zeros object-limit c)
 
-  pub drivers-end : (ds : List ℕ) (t : ℕ) → t ≤ 1 → t ≤ n → min n 1 ≤ t
-      → ((c : ℕ) → drivers-in ds c ≡ first-from (λ v. drives c (task-at ts v)) t (n - t)) → (c : ℕ) → drivers-in ds c ≡ driver-in ts n c
-  unfolding driver-in first-from
-  drivers-end ds zero h l m f c = let a : n ≡ 0 = omega arith in f c ∙ rw a
-  drivers-end ds (suc t) h l m f c = let a : t ≡ 0 = omega arith in f c ∙ rw a
+  pub tasks-of-end : (ds : List ℕ) (t : ℕ) → t ≤ 1 → t ≤ n → min n 1 ≤ t
+      → ((c : ℕ) → tasks-of-in ds c ≡ first-from (λ v. is-task-of c (task-at ts v)) t (n - t)) → (c : ℕ) → tasks-of-in ds c ≡ task-of-in ts n c
+  unfolding task-of-in first-from
+  tasks-of-end ds zero h l m f c = let a : n ≡ 0 = omega arith in f c ∙ rw a
+  tasks-of-end ds (suc t) h l m f c = let a : t ≡ 0 = omega arith in f c ∙ rw a
 
 -- the table's driver, as live_driver finds it
 module _ (ts ds : List ℕ) (o : ℕ) {u : TaskId} (e : u ≡ to-task-id (getD ds o 0)) {b : Bool} (f : b ≡ is-main u) where
   number : getD ds o 0 % task-limit ≡ u .0
   number = sym (ap (λ (x : TaskId). x .0) e)
 
-  pub driver-none : b ≡ true → Found.Nothing ≡ found (still-live ts (drivers-in ds o))
-  unfolding drivers-in named still-live
-  driver-none t = rw (number, ← f, t)
+  pub task-of-none : b ≡ true → Found.Nothing ≡ found (still-live ts (tasks-of-in ds o))
+  unfolding tasks-of-in named still-live
+  task-of-none t = rw (number, ← f, t)
 
   module _ (n : b ≡ false) {x : TaskState} (g : x ≡ task-at ts (u .0) .state) {y : Bool} (h : y ≡ is-live x) where
-    pub driver-lives : y ≡ true → Found.At (u .0) ≡ found (still-live ts (drivers-in ds o))
-    unfolding drivers-in named still-live
-    driver-lives t = rw (number, ← f, n, ← g, ← h, t)
+    pub task-of-lives : y ≡ true → Found.At (u .0) ≡ found (still-live ts (tasks-of-in ds o))
+    unfolding tasks-of-in named still-live
+    task-of-lives t = rw (number, ← f, n, ← g, ← h, t)
 
-    pub driver-gone : y ≡ false → Found.Nothing ≡ found (still-live ts (drivers-in ds o))
-    unfolding drivers-in named still-live
-    driver-gone t = rw (number, ← f, n, ← g, ← h, t)
+    pub task-of-gone : y ≡ false → Found.Nothing ≡ found (still-live ts (tasks-of-in ds o))
+    unfolding tasks-of-in named still-live
+    task-of-gone t = rw (number, ← f, n, ← g, ← h, t)
 
 -- a task's number, if there is one
 abbrev NumberFits : Option ℕ → Type 0
 NumberFits none = Unit {0}
 NumberFits (some t) = t < task-limit
 
-pub driver-fits : (ts ds : List ℕ) (o : ℕ) {d : Found} (t : ℕ) → d ≡ found (still-live ts (drivers-in ds o)) → d ≡ Found.At t → t < task-limit
-unfolding drivers-in
-driver-fits ts ds o t e f = rw (found-at (still-live ts (drivers-in ds o)) t (sym e ∙ f)) at (lives (drivers-in ds o) (names (getD ds o 0)))
+pub task-of-fits : (ts ds : List ℕ) (o : ℕ) {d : Found} (t : ℕ) → d ≡ found (still-live ts (tasks-of-in ds o)) → d ≡ Found.At t → t < task-limit
+unfolding tasks-of-in
+task-of-fits ts ds o t e f = rw (found-at (still-live ts (tasks-of-in ds o)) t (sym e ∙ f)) at (lives (tasks-of-in ds o) (names (getD ds o 0)))
   where
     names : (n : ℕ) → NumberFits (named n)
     names n = unfold named in (pick-has NumberFits (eqb (to-task-id n .0) 0) tt (omega arith))

@@ -15,8 +15,8 @@ use Rattle.rows.specs.Tables.{task-at, object-at, place-at, header-at}
 use Rattle.queue.specs.Queue.{entries}
 use Rattle.queue.specs.declared.ReadyQueue.{ReadyQueue}
 use Rattle.machine.specs.Tests.{_and_, all-below}
-use Rattle.machine.specs.Store.{Happening, store-of, task, object, place, header, view}
-use Rattle.machine.specs.Sound.{words-in-range, numbers-in-range, spawned-in-range, items-lower, lists-completed, queue-ready, calls-distinct, one-driver, blocked-match, places-filled, slots-open, one-runs, sound-view, sound}
+use Rattle.machine.specs.Store.{LogEntry, store-of, task, object, place, header, view}
+use Rattle.machine.specs.Sound.{words-in-range, numbers-in-range, spawned-in-range, items-lower, lists-completed, queue-ready, calls-distinct, one-task, blocked-match, places-filled, slots-open, one-runs, sound-view, sound}
 use Rattle.sound_rows.specs.Loops.{pass, stop}
 
 -- every row in use is canonical, for the header h
@@ -33,7 +33,7 @@ tables-sound h os ts ps = numbers-in-range h os ts and spawned-in-range h os and
 
 -- clauses 5 to 8
 unfoldable pub tasks-sound : Header → (ℕ → Object) → (ℕ → Task) → List ℕ → Bool
-tasks-sound h os ts q = queue-ready (h .next) ts q and calls-distinct h os and one-driver (h .next) ts and blocked-match h os ts
+tasks-sound h os ts q = queue-ready (h .next) ts q and calls-distinct h os and one-task (h .next) ts and blocked-match h os ts
 
 -- clauses 9 to 11
 unfoldable pub gathers-sound : Header → (ℕ → Object) → (ℕ → Task) → (ℕ → Place) → Bool
@@ -54,7 +54,7 @@ front true b x = refl
 front false true x = refl
 front false false x = refl
 
-module _ (ts os ps : List ℕ) (q : ReadyQueue) (l : List Happening) where
+module _ (ts os ps : List ℕ) (q : ReadyQueue) (l : List LogEntry) where
   abbrev h : Header
   h = header-at os
 
@@ -71,7 +71,7 @@ module _ (ts os ps : List ℕ) (q : ReadyQueue) (l : List Happening) where
       four (numbers-in-range h (object-at os) (task-at ts)) (spawned-in-range h (object-at os)) (items-lower (h .made) (object-at os) (place-at ps))
       (lists-completed h (object-at os) (task-at ts) (place-at ps)) _
       ∙ ap (λ (b : Bool). tables-sound h (object-at os) (task-at ts) (place-at ps) and b)
-      (four (queue-ready (h .next) (task-at ts) (entries q)) (calls-distinct h (object-at os)) (one-driver (h .next) (task-at ts))
+      (four (queue-ready (h .next) (task-at ts) (entries q)) (calls-distinct h (object-at os)) (one-task (h .next) (task-at ts))
       (blocked-match h (object-at os) (task-at ts)) (gathers-sound h (object-at os) (task-at ts) (place-at ps)))
 
   sound-by : sound (store-of ts os ps q l)
@@ -82,7 +82,7 @@ module _ (ts os ps : List ℕ) (q : ReadyQueue) (l : List Happening) where
 
 -- ---- the code's early exits
 
-module _ (ts os ps : List ℕ) (q : ReadyQueue) (l : List Happening) where
+module _ (ts os ps : List ℕ) (q : ReadyQueue) (l : List LogEntry) where
   pub sound-long : task-limit < q .len → false ≡ sound (store-of ts os ps q l)
   sound-long h = rw (sound-by ts os ps q l) (stop _ (sym (lt-leb (q .len) task-limit h)))
 

@@ -7,7 +7,7 @@ use lib.Dec.{eqb}
 use Rattle.asyncio.specs.States.{pick}
 use Rattle.asyncio.specs.RangeLaws.{pick-has}
 use Rattle.queue.specs.declared.ReadyQueue.{ReadyQueue}
-use Rattle.machine.specs.Store.{Store, Happening, store-of}
+use Rattle.machine.specs.Store.{Store, LogEntry, store-of}
 use Rattle.machine.specs.Machine as machine
 use Rattle.machine.specs.Machine.{Event, Step, first-refusal, refusals, accept, decide}
 use Rattle.machine.specs.Lent.{written}
@@ -22,6 +22,6 @@ quiet-checked s e cs h =
     pick-has (λ (x : Step). written (x .answer) cs ≡ cs) (eqb (first-refusal (refusals s e)) 0) h (unfold written in refl)
 
 -- keeps it
-pub quiet : (s : Store) (e : Event) (cs : List ℕ) → written (accept s e .answer) cs ≡ cs → {ts os ps : List ℕ} {q : ReadyQueue} (l : List Happening) (a : Answer)
+pub keeps-list : (s : Store) (e : Event) (cs : List ℕ) → written (accept s e .answer) cs ≡ cs → {ts os ps : List ℕ} {q : ReadyQueue} (l : List LogEntry) (a : Answer)
     → stepped-of (store-of ts os ps q l) a ≡ checked s e → cs ≡ written (answer-of os a) cs
-quiet s e cs h l a r = sym (ap (λ (x : Step). written (x .answer) cs) r ∙ quiet-checked s e cs h)
+keeps-list s e cs h l a r = sym (ap (λ (x : Step). written (x .answer) cs) r ∙ quiet-checked s e cs h)

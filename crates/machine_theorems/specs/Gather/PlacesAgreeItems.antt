@@ -24,7 +24,7 @@ use Rattle.asyncio.specs.Numbers.{heap-id}
 use Rattle.asyncio.specs.States.{pick}
 use Rattle.asyncio.specs.Kinds.{kind, is-committed}
 use Rattle.machine.specs.Store.{Store, view, object, place, header, put-object, put-place}
-use Rattle.machine.specs.Scheduler.{AwaitedGather, as-awaited, bit, driver, spawn-as, spawn-unless, spawn}
+use Rattle.machine.specs.Scheduler.{AwaitedGather, as-awaited, bit, task-of, spawn-as, spawn-unless, spawn}
 use Rattle.machine.specs.Commit.{Poll, ready, raised, pending, gives, await-pending, await-external, Item, polled, nested, polled-spawn, item-coroutine, item-gather, item-object, open-from, item}
 use Rattle.machine.specs.Commit.{open-place, fill-place, Stop, at-end, at-nested, at-error, put-polled, put-item, step-item, step-items, Frame}
 use Rattle.machine_laws.specs.Views.{Sized}
@@ -41,31 +41,31 @@ use Rattle.machine_theorems.specs.Soundness.CommitItems.{Goes, PollOk, I
 use Rattle.machine_theorems.specs.Gather.Asyncio.{item-at}
 use Rattle.machine_theorems.specs.Gather.ReceivedLaws.{Untouched, WasCommitted}
 use Rattle.machine_theorems.specs.Gather.ReceivedCommit.{spawn-made, spawn-object, ItemUntouched, item-untouched}
-use Rattle.machine_theorems.specs.Gather.Alike.{at-once, Level, FirstNamed, Quiet}
-use Rattle.machine_theorems.specs.Gather.AlikeLaws.{not-awaited, awaited-committed, level-kept, level-at, level-fill, wide, level-open}
+use Rattle.machine_theorems.specs.Gather.PlacesAgree.{at-once, CommitProgress, FirstNamed, OnlyChanges}
+use Rattle.machine_theorems.specs.Gather.PlacesAgreeLaws.{not-awaited, awaited-committed, level-kept, level-at, level-fill, wide, level-open}
 
 -- ---- what is quiet
 
 module _ (p : ℕ) where
-  pub quiet-refl : (s : Store) → Quiet p s s
-  quiet-refl s = record { made = refl; back = λ q w ne e. e; persist = λ o v e. e }
+  pub only-changes-refl : (s : Store) → OnlyChanges p s s
+  only-changes-refl s = record { made = refl; back = λ q w ne e. e; persist = λ o v e. e }
 
-  pub quiet-then : {s u v : Store} → Quiet p s u → Quiet p u v → Quiet p s v
-  quiet-then k l = record { made = l .made ∙ k .made; back = λ q w ne e. k .back q w ne (l .back q w ne e); persist = λ o v e. l .persist o v (k .persist o v e) }
+  pub only-changes-then : {s u v : Store} → OnlyChanges p s u → OnlyChanges p u v → OnlyChanges p s v
+  only-changes-then k l = record { made = l .made ∙ k .made; back = λ q w ne e. k .back q w ne (l .back q w ne e); persist = λ o v e. l .persist o v (k .persist o v e) }
 
   -- the objects' rows are as they were
-  pub quiet-rows : (s u : Store) → header u .made ≡ header s .made → ((q : ℕ) → object u q ≡ object s q) → Quiet p s u
-  quiet-rows s u m e =
+  pub only-changes-rows : (s u : Store) → header u .made ≡ header s .made → ((q : ℕ) → object u q ≡ object s q) → OnlyChanges p s u
+  only-changes-rows s u m e =
       record { made = m; back = λ q w ne k. sym (ap as-awaited (e q)) ∙ k; persist = λ o v k. ap (λ (x : Object). at-once x o) (e o) ∙ k }
 
-  pub quiet-place : (s : Store) (j : ℕ) (r : Place) → Quiet p s (put-place s j r)
+  pub only-changes-place : (s : Store) (j : ℕ) (r : Place) → OnlyChanges p s (put-place s j r)
   unfolding header object put-place
-  quiet-place s j r = quiet-rows s (put-place s j r) refl (λ q. refl)
+  only-changes-place s j r = only-changes-rows s (put-place s j r) refl (λ q. refl)
 
   -- an object that gave no value is written
-  pub quiet-object : (s : Store) (o : ℕ) (r : Object) → Sized s → o < object-limit → ((o ≡ p → ⊥) → T (is-committed (kind r)) → ⊥) → ((v : Value) → at-once (object s o) o ≡ some v → ⊥)
-      → Quiet p s (put-object s o r)
-  quiet-object s o r z l n g =
+  pub only-changes-object : (s : Store) (o : ℕ) (r : Object) → Sized s → o < object-limit → ((o ≡ p → ⊥) → T (is-committed (kind r)) → ⊥) → ((v : Value) → at-once (object s o) o ≡ some v → ⊥)
+      → OnlyChanges p s (put-object s o r)
+  only-changes-object s o r z l n g =
       record {
         made = ap (λ (h : Header). h .made) (header-put-object s o r);
         back = λ q w ne e. by q w ne e (ℕ-discrete q o);
@@ -78,32 +78,32 @@ module _ (p : ℕ) where
           (awaited-committed (object (put-object s o r) o) w (subst (λ (m : ℕ). as-awaited (object (put-object s o r) m) ≡ some w) d e))))
       by q w ne e (no d) = sym (ap as-awaited (object-put-other s o q r d)) ∙ e
 
-  quiet-spawn : (s : Store) (c o : ℕ) → Sized s → header s .next < task-limit → Quiet p s (spawn-as s (header s .next) c o)
-  quiet-spawn s c o z l = quiet-rows s (spawn-as s (header s .next) c o) (spawn-made s c o z l) (spawn-object s c o z l)
+  only-changes-spawn : (s : Store) (c o : ℕ) → Sized s → header s .next < task-limit → OnlyChanges p s (spawn-as s (header s .next) c o)
+  only-changes-spawn s c o z l = only-changes-rows s (spawn-as s (header s .next) c o) (spawn-made s c o z l) (spawn-object s c o z l)
 
 -- ---- one item
 
 -- what the walk through the items of gather p leaves
-pub record EndLevel (s : Store) (p : ℕ) (x : Store) : Type 0 where
+pub record EndProgress (s : Store) (p : ℕ) (x : Store) : Type 0 where
   pub w : AwaitedGather
-  pub level : Level x p (w .count) w
-  pub quiet : Quiet p s x
+  pub level : CommitProgress x p (w .count) w
+  pub quiet : OnlyChanges p s x
 
-pub record NestLevel (s : Store) (p : ℕ) (x : Store) (i : ℕ) : Type 0 where
+pub record NestProgress (s : Store) (p : ℕ) (x : Store) (i : ℕ) : Type 0 where
   pub w : AwaitedGather
-  pub level : Level x p i w
+  pub level : CommitProgress x p i w
   pub first : FirstNamed x w i
-  pub quiet : Quiet p s x
+  pub quiet : OnlyChanges p s x
 
-abbrev pub StopLevel : Store → ℕ → Stop → Type 0
-StopLevel s p (at-end x) = EndLevel s p x
-StopLevel s p (at-nested x i o) = NestLevel s p x i
-StopLevel s p (at-error x e) = Quiet p s x
+abbrev pub StopProgress : Store → ℕ → Stop → Type 0
+StopProgress s p (at-end x) = EndProgress s p x
+StopProgress s p (at-nested x i o) = NestProgress s p x i
+StopProgress s p (at-error x e) = OnlyChanges p s x
 
-stop-level-then : {s u : Store} (p : ℕ) (x : Stop) → Quiet p s u → StopLevel u p x → StopLevel s p x
-stop-level-then p (at-end x) k l = record { w = l .w; level = l .level; quiet = quiet-then p k (l .quiet) }
-stop-level-then p (at-nested x i o) k l = record { w = l .w; level = l .level; first = l .first; quiet = quiet-then p k (l .quiet) }
-stop-level-then p (at-error x e) k l = quiet-then p k l
+stop-level-then : {s u : Store} (p : ℕ) (x : Stop) → OnlyChanges p s u → StopProgress u p x → StopProgress s p x
+stop-level-then p (at-end x) k l = record { w = l .w; level = l .level; quiet = only-changes-then p k (l .quiet) }
+stop-level-then p (at-nested x i o) k l = record { w = l .w; level = l .level; first = l .first; quiet = only-changes-then p k (l .quiet) }
+stop-level-then p (at-error x e) k l = only-changes-then p k l
 
 none-some : {A : Type 0} {x : Option Value} (v : Value) → x ≡ none → x ≡ some v → A
 none-some v e q = absurd-some (sym e ∙ q)
@@ -121,7 +121,7 @@ at-once-fits (Object.GatherFuture g n (GatherState.Awaited a m)) o v f l e = abs
 at-once-fits (Object.GatherFuture g n GatherState.Completed) o v f l e = subst ValueFits (Option·some-injective (Value.List (heap-id o)) v e) l
 at-once-fits (Object.GatherFuture g n (GatherState.Failed x)) o v f l e = absurd-some e
 
-module _ (root t p : ℕ) (fs : List Frame) (i : ℕ) (s : Store) (mem : Memory s) (h : Inv root t 0 (OnTop p fs) (view s) p i fs) (less : i < h .w .count) (a : Level s p i (h .w)) where
+module _ (root t p : ℕ) (fs : List Frame) (i : ℕ) (s : Store) (mem : Memory s) (h : Inv root t 0 (OnTop p fs) (view s) p i fs) (less : i < h .w .count) (a : CommitProgress s p i (h .w)) where
   abbrev w : AwaitedGather
   w = h .w
 
@@ -149,42 +149,42 @@ module _ (root t p : ℕ) (fs : List Frame) (i : ℕ) (s : Store) (mem : Memory 
 
   abbrev ItemGives : Item → Type 0
   ItemGives nested = at-once (object s o) o ≡ none
-  ItemGives (polled r) = Quiet p s (r .store) × PollGives (r .poll)
+  ItemGives (polled r) = OnlyChanges p s (r .store) × PollGives (r .poll)
 
   spawn-gives : (f : ℕ) → object s o ≡ Object.Coroutine f CoroutineState.New → ItemGives (polled (polled-spawn s (spawn s o p)))
   unfolding spawn
-  spawn-gives f e = by (driver s o)
+  spawn-gives f e = by (task-of s o)
     where
       no-value : at-once (object s o) o ≡ none
       no-value = ap (λ (x : Object). at-once x o) e ∙ (unfold at-once in refl)
 
       room : (b : Bool) → ltb (header s .next) task-limit ≡ b → ItemGives (polled (polled-spawn s (pick b (some (spawn-as s (header s .next) o p)) none)))
-      room true q = unfold polled-spawn in (quiet-spawn p s o p z (ltb-true (header s .next) task-limit q), no-value)
-      room false q = unfold polled-spawn in (quiet-refl p s, tt)
+      room true q = unfold polled-spawn in (only-changes-spawn p s o p z (ltb-true (header s .next) task-limit q), no-value)
+      room false q = unfold polled-spawn in (only-changes-refl p s, tt)
 
       by : (d : Option ℕ) → ItemGives (polled (polled-spawn s (spawn-unless s o p d)))
-      by (some u) = unfold spawn-unless polled-spawn in (quiet-refl p s, tt)
+      by (some u) = unfold spawn-unless polled-spawn in (only-changes-refl p s, tt)
       by none = unfold spawn-unless in (room (ltb (header s .next) task-limit) refl)
 
-  external-quiet : (low-o : o < object-limit) (x r : Object) → object s o ≡ x → at-once x o ≡ none → (T (is-committed (kind r)) → ⊥) → Quiet p s (put-object s o r)
-  external-quiet low-o x r e n k = quiet-object p s o r z low-o (λ d. k) (λ v q. none-some v (ap (λ (y : Object). at-once y o) e ∙ n) q)
+  external-only-changes : (low-o : o < object-limit) (x r : Object) → object s o ≡ x → at-once x o ≡ none → (T (is-committed (kind r)) → ⊥) → OnlyChanges p s (put-object s o r)
+  external-only-changes low-o x r e n k = only-changes-object p s o r z low-o (λ d. k) (λ v q. none-some v (ap (λ (y : Object). at-once y o) e ∙ n) q)
 
   object-gives : o < object-limit → (x : Object) → object s o ≡ x → ItemGives (item-object s p o x)
   unfolding item-object item-gather await-external await-pending item-coroutine at-once
-  object-gives l Object.Unmade e = (quiet-refl p s, ap (λ (x : Object). at-once x o) e)
+  object-gives l Object.Unmade e = (only-changes-refl p s, ap (λ (x : Object). at-once x o) e)
   object-gives l (Object.Coroutine f CoroutineState.New) e = spawn-gives f e
-  object-gives l (Object.Coroutine f CoroutineState.Running) e = (quiet-refl p s, tt)
-  object-gives l (Object.Coroutine f CoroutineState.Completed) e = (quiet-refl p s, tt)
+  object-gives l (Object.Coroutine f CoroutineState.Running) e = (only-changes-refl p s, tt)
+  object-gives l (Object.Coroutine f CoroutineState.Completed) e = (only-changes-refl p s, tt)
   object-gives l (Object.ExternalFuture d (ExternalFutureState.Pending Awaiter.Nobody r)) e =
-      (external-quiet l _ _ e refl (unfold kind in (λ y. y)), ap (λ (x : Object). at-once x o) e)
-  object-gives l (Object.ExternalFuture d (ExternalFutureState.Pending (Awaiter.Task u) r)) e = (quiet-refl p s, tt)
-  object-gives l (Object.ExternalFuture d (ExternalFutureState.Pending (Awaiter.GatherSlot f y) r)) e = (quiet-refl p s, tt)
-  object-gives l (Object.ExternalFuture d (ExternalFutureState.Resolved x)) e = (quiet-refl p s, ap (λ (x : Object). at-once x o) e)
-  object-gives l (Object.ExternalFuture d (ExternalFutureState.Failed x)) e = (quiet-refl p s, tt)
+      (external-only-changes l _ _ e refl (unfold kind in (λ y. y)), ap (λ (x : Object). at-once x o) e)
+  object-gives l (Object.ExternalFuture d (ExternalFutureState.Pending (Awaiter.Task u) r)) e = (only-changes-refl p s, tt)
+  object-gives l (Object.ExternalFuture d (ExternalFutureState.Pending (Awaiter.GatherSlot f y) r)) e = (only-changes-refl p s, tt)
+  object-gives l (Object.ExternalFuture d (ExternalFutureState.Resolved x)) e = (only-changes-refl p s, ap (λ (x : Object). at-once x o) e)
+  object-gives l (Object.ExternalFuture d (ExternalFutureState.Failed x)) e = (only-changes-refl p s, tt)
   object-gives l (Object.GatherFuture f m GatherState.Pending) e = ap (λ (x : Object). at-once x o) e
-  object-gives l (Object.GatherFuture f m (GatherState.Awaited b k)) e = (quiet-refl p s, tt)
-  object-gives l (Object.GatherFuture f m GatherState.Completed) e = (quiet-refl p s, ap (λ (x : Object). at-once x o) e)
-  object-gives l (Object.GatherFuture f m (GatherState.Failed x)) e = (quiet-refl p s, tt)
+  object-gives l (Object.GatherFuture f m (GatherState.Awaited b k)) e = (only-changes-refl p s, tt)
+  object-gives l (Object.GatherFuture f m GatherState.Completed) e = (only-changes-refl p s, ap (λ (x : Object). at-once x o) e)
+  object-gives l (Object.GatherFuture f m (GatherState.Failed x)) e = (only-changes-refl p s, tt)
 
   -- ---- the earlier places of the item
 
@@ -226,8 +226,8 @@ module _ (root t p : ℕ) (fs : List Frame) (i : ℕ) (s : Store) (mem : Memory 
   small = wider-small w i less (open-small p w (h .but) (h .opened .made) top)
 
   -- in a store in which the gather is as it was
-  module _ (x : Store) (k : Untouched p s x) (q : Quiet p s x) where
-    level-x : Level x p i w
+  module _ (x : Store) (k : Untouched p s x) (q : OnlyChanges p s x) where
+    level-x : CommitProgress x p i w
     level-x = level-kept p i w (k .same) (q .persist) a
 
     item-x : (j : ℕ) → j < w .count → item-at x (w .first + j) ≡ item-at s (w .first + j)
@@ -237,60 +237,60 @@ module _ (root t p : ℕ) (fs : List Frame) (i : ℕ) (s : Store) (mem : Memory 
     same-item : (j : ℕ) → j < i → item-at x (w .first + j) ≡ item-at x (w .first + i) → item-at s (w .first + j) ≡ item-at s (w .first + i)
     same-item j l e = sym (item-x j (omega (arith, l, less))) ∙ (e ∙ item-x i less)
 
-    fill-quiet : (v : Value) → Quiet p s (fill-place x w i v)
+    fill-only-changes : (v : Value) → OnlyChanges p s (fill-place x w i v)
     unfolding fill-place
-    fill-quiet v = quiet-then p q (quiet-place p x _ _)
+    fill-only-changes v = only-changes-then p q (only-changes-place p x _ _)
 
-    fill-level : (v : Value) → ValueFits v → Closed → at-once (object s o) o ≡ some v → Level (fill-place x w i v) p (i + 1) w
+    fill-level : (v : Value) → ValueFits v → Closed → at-once (object s o) o ≡ some v → CommitProgress (fill-place x w i v) p (i + 1) w
     unfolding item-at
     fill-level v f cl g =
         level-fill x p i w level-x less (k .same .sized) v room f (λ j l e. cl j l (same-item j l e))
         (subst (λ (m : ℕ). at-once (object x m) m ≡ some v) (sym (item-x i less)) (q .persist o v g))
 
-    open-quiet : Quiet p s (open-place x p w i)
+    open-only-changes : OnlyChanges p s (open-place x p w i)
     unfolding open-place
-    open-quiet = quiet-then p q (quiet-object p x p _ (k .same .sized) low-p (λ d. absurd (d refl)) (λ v e. not-awaited (object x p) w p v (level-x .awaited) e))
+    open-only-changes = only-changes-then p q (only-changes-object p x p _ (k .same .sized) low-p (λ d. absurd (d refl)) (λ v e. not-awaited (object x p) w p v (level-x .awaited) e))
 
-    open-level : Opened → Level (open-place x p w i) p (i + 1) (wide x p i w level-x less (k .same .sized))
+    open-level : Opened → CommitProgress (open-place x p w i) p (i + 1) (wide x p i w level-x less (k .same .sized))
     open-level op = level-open x p i w level-x less (k .same .sized) low-p small (λ j l e. op j l (same-item j l e))
 
   -- the walk goes on
   abbrev GoesOn : (Store → Stop) → Type 0
-  GoesOn go = (y : Store) → Goes root t p fs i (w .count) y → Quiet p s y → (v : AwaitedGather) → Level y p (i + 1) v → StopLevel s p (go y)
+  GoesOn go = (y : Store) → Goes root t p fs i (w .count) y → OnlyChanges p s y → (v : AwaitedGather) → CommitProgress y p (i + 1) v → StopProgress s p (go y)
 
   low-o : o < object-limit
   low-o = place-fits s (w .first + i) .item-fits
 
-  put-level : (go : Store → Stop) → GoesOn go → (x : Item) → ItemOk root t p fs w i o s x → ItemGives x → ItemUntouched p s x → Closed → StopLevel s p (put-item p w i o s x go)
+  put-level : (go : Store → Stop) → GoesOn go → (x : Item) → ItemOk root t p fs w i o s x → ItemGives x → ItemUntouched p s x → Closed → StopProgress s p (put-item p w i o s x go)
   unfolding put-item
-  put-level go f nested ok gv k cl = record { w = w; level = a; first = first-of cl gv; quiet = quiet-refl p s }
+  put-level go f nested ok gv k cl = record { w = w; level = a; first = first-of cl gv; quiet = only-changes-refl p s }
   put-level go f (polled r) ok gv k cl = by (r .poll) ok (gv .1)
     where
-      by : (y : Poll) → PollOk root t p fs w i (r .store) y → PollGives y → StopLevel s p (put-polled p w i (r .store) y go)
+      by : (y : Poll) → PollOk root t p fs w i (r .store) y → PollGives y → StopProgress s p (put-polled p w i (r .store) y go)
       by (ready v) ok g = unfold put-polled in
-          (f _ ok (fill-quiet (r .store) k (gv .0) v) w (fill-level (r .store) k (gv .0) v (at-once-fits (object s o) o v (object-fits s o) low-o g) cl g))
+          (f _ ok (fill-only-changes (r .store) k (gv .0) v) w (fill-level (r .store) k (gv .0) v (at-once-fits (object s o) o v (object-fits s o) low-o g) cl g))
       by (raised e) ok g = unfold put-polled in (gv .0)
       by pending ok g = unfold put-polled in
-          (f _ ok (open-quiet (r .store) k (gv .0)) _ (open-level (r .store) k (gv .0) (λ j l e. absurd (first-of cl g j l e))))
+          (f _ ok (open-only-changes (r .store) k (gv .0)) _ (open-level (r .store) k (gv .0) (λ j l e. absurd (first-of cl g j l e))))
 
-  one-level : (go : Store → Stop) → GoesOn go → StopLevel s p (put-item p w i o s (item s p w o) go)
+  one-level : (go : Store → Stop) → GoesOn go → StopProgress s p (put-item p w i o s (item s p w o) go)
   unfolding item
   one-level go f = by (open-from (place s) w o 0 (w .count)) refl (one-keeps root t p fs i s mem h less) (item-untouched p root t p fs i s mem h less c)
     where
       by : (b : Bool) → open-from (place s) w o 0 (w .count) ≡ b → ItemOk root t p fs w i o s (pick b (polled (gives s pending)) (item-object s p o (object s o)))
           → ItemUntouched p s (pick b (polled (gives s pending)) (item-object s p o (object s o)))
-          → StopLevel s p (put-item p w i o s (pick b (polled (gives s pending)) (item-object s p o (object s o))) go)
-      by true e ok k = unfold put-item put-polled in (f _ ok (open-quiet s k (quiet-refl p s)) _ (open-level s k (quiet-refl p s) (some-open e)))
+          → StopProgress s p (put-item p w i o s (pick b (polled (gives s pending)) (item-object s p o (object s o))) go)
+      by true e ok k = unfold put-item put-polled in (f _ ok (open-only-changes s k (only-changes-refl p s)) _ (open-level s k (only-changes-refl p s) (some-open e)))
       by false e ok k = put-level go f (item-object s p o (object s o)) ok (object-gives low-o (object s o) refl) k (none-open e)
 
 -- The walk.
-pub items-level : (n : ℕ) (root t p i : ℕ) (fs : List Frame) (s : Store) → Memory s → (h : Inv root t 0 (OnTop p fs) (view s) p i fs) → i + n ≡ h .w .count → Level s p i (h .w)
-    → StopLevel s p (step-items n s p i)
+pub items-level : (n : ℕ) (root t p i : ℕ) (fs : List Frame) (s : Store) → Memory s → (h : Inv root t 0 (OnTop p fs) (view s) p i fs) → i + n ≡ h .w .count → CommitProgress s p i (h .w)
+    → StopProgress s p (step-items n s p i)
 unfolding step-items step-item view
 items-level zero root t p i fs s mem h e a =
-    record { w = h .w; level = subst (λ (m : ℕ). Level s p m (h .w)) (let q : i ≡ h .w .count = omega arith in q) a; quiet = quiet-refl p s }
+    record { w = h .w; level = subst (λ (m : ℕ). CommitProgress s p m (h .w)) (let q : i ≡ h .w .count = omega arith in q) a; quiet = only-changes-refl p s }
 items-level (suc n) root t p i fs s mem h e a =
-    subst (λ (u : Option AwaitedGather). StopLevel s p (step-item p i s u (λ x. step-items n x p (i + 1)))) (sym (h .opened .awaited))
+    subst (λ (u : Option AwaitedGather). StopProgress s p (step-item p i s u (λ x. step-items n x p (i + 1)))) (sym (h .opened .awaited))
     (one-level root t p fs i s mem h (omega arith) a (λ x. step-items n x p (i + 1))
     (λ y k q v l. stop-level-then p (step-items n y p (i + 1)) q
     (items-level n root t p (i + 1) fs y (k .memory) (k .inv) (goes-length root t p i fs (h .w .count) n y e k) (level-at (k .inv .w) (k .inv .opened .awaited) l))))

@@ -6,16 +6,16 @@ use borrow.Author.Needs.{needs}
 use Rattle.asyncio.specs.Limits.{object-limit}
 use Rattle.rows.specs.Tables.{task-at}
 use Rattle.machine.specs.Tests.{all-below}
-use Rattle.machine.specs.Sound.{one-driver, sole-driver}
+use Rattle.machine.specs.Sound.{one-task, sole-task}
 use Rattle.sound_rows.specs.Loops.{all-none, all-turn, all-fails, all-end}
 use Rattle.sound_tasks.specs.Marks.{Marks, marks-zeros}
 use Rattle.rows.specs.TableLaws.{coroutine-fits}
-use Rattle.sound_tasks.specs.DriverLaws.{driven, driver-main, marks-main, driver-dead, marks-dead, driver-second, driver-first, marks-live}
-use Rattle.sound_tasks.proofs.drivers.one_driver.Statement.{statement}
-use Rattle.sound_tasks.proofs.drivers.one_driver.Tie as tie
+use Rattle.sound_tasks.specs.OneTaskLaws.{driven, task-of-main, marks-main, task-of-dead, marks-dead, task-of-second, task-of-first, marks-live}
+use Rattle.sound_tasks.proofs.one_task.one_task.Statement.{statement}
+use Rattle.sound_tasks.proofs.one_task.one_task.Tie as tie
 
 abbrev Inv-loop : tie.InvT-loop
-Inv-loop next tasks seen₀ t₀ seen t = (all-below t (sole-driver (task-at tasks)) ≡ true) × (t ≤ next) × Marks seen object-limit t (driven tasks)
+Inv-loop next tasks seen₀ t₀ seen t = (all-below t (sole-task (task-at tasks)) ≡ true) × (t ≤ next) × Marks seen object-limit t (driven tasks)
 
 abbrev μ-loop : tie.MeasureT-loop
 μ-loop next tasks seen₀ t₀ seen t = next - t
@@ -34,7 +34,7 @@ loop-less c = omega arith
 
 loop-again : tie.Need-loop-again Inv-loop μ-loop
 loop-again c = (
-  all-turn _ (c .before .before .before .loop .t) (driver-main _ (c .before .before .before .loop .seen) _ (c .before .before .before .loop .inv .2) (c .if1 .taken)) (c .before .before .before .loop .inv .0),
+  all-turn _ (c .before .before .before .loop .t) (task-of-main _ (c .before .before .before .loop .seen) _ (c .before .before .before .loop .inv .2) (c .if1 .taken)) (c .before .before .before .loop .inv .0),
   omega arith,
   marks-main _ (c .before .before .before .loop .seen) _ (c .before .before .before .loop .inv .2) (c .if1 .taken),
 )
@@ -52,8 +52,8 @@ array-read-if3 : tie.Need-array-read-if3 Inv-loop μ-loop
 array-read-if3 c = omega (arith, coroutine-fits _ _ (c .before .coroutine-at .ensures), c .before .before .before .before .before .before .before .loop .inv .2 .long)
 
 returns : tie.Need-returns Inv-loop μ-loop
-unfolding one-driver
-returns c = all-fails _ (c .before .before .before .before .before .before .before .before .loop .t) _ (c .before .before .before .before .before .before .before .loop-test .taken) (driver-second _ (c .before .before .before .before .before .before .before .before .loop .seen) _ (c .before .before .before .before .before .before .before .before .loop .inv .2) (c .before .before .before .before .before .before .state-at .ensures) (c .before .before .before .before .before .if1 .left) (sym (c .before .before .before .before .is-live .ensures) ∙ c .before .before .before .if2 .taken) (c .before .before .coroutine-at .ensures) (c .if3 .taken))
+unfolding one-task
+returns c = all-fails _ (c .before .before .before .before .before .before .before .before .loop .t) _ (c .before .before .before .before .before .before .before .loop-test .taken) (task-of-second _ (c .before .before .before .before .before .before .before .before .loop .seen) _ (c .before .before .before .before .before .before .before .before .loop .inv .2) (c .before .before .before .before .before .before .state-at .ensures) (c .before .before .before .before .before .if1 .left) (sym (c .before .before .before .before .is-live .ensures) ∙ c .before .before .before .if2 .taken) (c .before .before .coroutine-at .ensures) (c .if3 .taken))
 
 array-write-seen : tie.Need-array-write-seen Inv-loop μ-loop
 array-write-seen c = omega (arith, coroutine-fits _ _ (c .before .before .coroutine-at .ensures), c .before .before .before .before .before .before .before .before .loop .inv .2 .long)
@@ -66,7 +66,7 @@ loop-less-2 c = omega arith
 
 loop-again-2 : tie.Need-loop-again-2 Inv-loop μ-loop
 loop-again-2 c = (
-  all-turn _ (c .before .before .before .before .before .before .before .before .loop .t) (driver-first _ (c .before .before .before .before .before .before .before .before .loop .seen) _ (c .before .before .before .before .before .before .before .before .loop .inv .2) (c .before .before .before .before .before .before .state-at .ensures) (c .before .before .before .before .before .if1 .left) (sym (c .before .before .before .before .is-live .ensures) ∙ c .before .before .before .if2 .taken) (c .before .before .coroutine-at .ensures) (c .if3 .left)) (c .before .before .before .before .before .before .before .before .loop .inv .0),
+  all-turn _ (c .before .before .before .before .before .before .before .before .loop .t) (task-of-first _ (c .before .before .before .before .before .before .before .before .loop .seen) _ (c .before .before .before .before .before .before .before .before .loop .inv .2) (c .before .before .before .before .before .before .state-at .ensures) (c .before .before .before .before .before .if1 .left) (sym (c .before .before .before .before .is-live .ensures) ∙ c .before .before .before .if2 .taken) (c .before .before .coroutine-at .ensures) (c .if3 .left)) (c .before .before .before .before .before .before .before .before .loop .inv .0),
   omega arith,
   marks-live _ (c .before .before .before .before .before .before .before .before .loop .seen) _ (c .before .before .before .before .before .before .before .before .loop .inv .2) (c .before .before .before .before .before .before .state-at .ensures) (c .before .before .before .before .before .if1 .left) (sym (c .before .before .before .before .is-live .ensures) ∙ c .before .before .before .if2 .taken) (c .before .before .coroutine-at .ensures),
 )
@@ -79,17 +79,17 @@ loop-less-3 c = omega arith
 
 loop-again-3 : tie.Need-loop-again-3 Inv-loop μ-loop
 loop-again-3 c = (
-  all-turn _ (c .before .before .before .before .before .loop .t) (driver-dead _ (c .before .before .before .before .before .loop .seen) _ (c .before .before .before .before .before .loop .inv .2) (c .before .before .before .state-at .ensures) (sym (c .before .is-live .ensures) ∙ c .if2 .left)) (c .before .before .before .before .before .loop .inv .0),
+  all-turn _ (c .before .before .before .before .before .loop .t) (task-of-dead _ (c .before .before .before .before .before .loop .seen) _ (c .before .before .before .before .before .loop .inv .2) (c .before .before .before .state-at .ensures) (sym (c .before .is-live .ensures) ∙ c .if2 .left)) (c .before .before .before .before .before .loop .inv .0),
   omega arith,
   marks-dead _ (c .before .before .before .before .before .loop .seen) _ (c .before .before .before .before .before .loop .inv .2) (c .before .before .before .state-at .ensures) (sym (c .before .is-live .ensures) ∙ c .if2 .left),
 )
 
 returns-2 : tie.Need-returns-2 Inv-loop μ-loop
-unfolding one-driver
+unfolding one-task
 returns-2 c = all-end _ (c .before .loop .t) _ (omega arith) (c .loop-test .left) (c .before .loop .inv .0)
 
-pub one-driver-spec : {M : Type 1} → statement M
-one-driver-spec =
+pub one-task-spec : {M : Type 1} → statement M
+one-task-spec =
     tie.close
     (tie.spec
     Inv-loop

@@ -29,7 +29,7 @@ use Rattle.machine_theorems.specs.Soundness.CommitLoop.{awaits-fits}
 use Rattle.machine_theorems.specs.Gather.Asyncio.{value-in, item-at}
 use Rattle.machine_theorems.specs.Gather.Begun.{value-at}
 use Rattle.machine_theorems.specs.Gather.Meanwhile.{SameGather}
-use Rattle.machine_theorems.specs.Gather.Alike.{Alike, at-once, Level}
+use Rattle.machine_theorems.specs.Gather.PlacesAgree.{PlacesAgree, at-once, CommitProgress}
 
 -- ---- what gives a value at once
 
@@ -47,12 +47,12 @@ awaited-committed x w e = subst (λ (y : Object). T (is-committed (kind y))) (sy
 same-place : {s u : Store} {p : ℕ} (w : AwaitedGather) → as-awaited (object s p) ≡ some w → SameGather s u p → (j : ℕ) → j < w .count → place u (w .first + j) ≡ place s (w .first + j)
 same-place {s} {u} {p} w e k j l = k .same-places (w .first) (w .count) (GatherState.Awaited (w .awaiter) (w .open-places)) (awaited-object (object s p) w e) j l
 
-pub alike-kept : {s u : Store} (p : ℕ) (w : AwaitedGather) → as-awaited (object s p) ≡ some w → SameGather s u p → Alike s w → Alike u w
+pub agree-kept : {s u : Store} (p : ℕ) (w : AwaitedGather) → as-awaited (object s p) ≡ some w → SameGather s u p → PlacesAgree s w → PlacesAgree u w
 unfolding item-at value-at
-alike-kept {s} {u} p w e k a =
+agree-kept {s} {u} p w e k a =
     record {
-      open-alike = λ i j li lj q. a .open-alike i j li lj (sym (item i li) ∙ (q ∙ item j lj));
-      value-alike = λ i j li lj q b. val i li ∙ (a .value-alike i j li lj (sym (item i li) ∙ (q ∙ item j lj)) b ∙ sym (val j lj));
+      open-agree = λ i j li lj q. a .open-agree i j li lj (sym (item i li) ∙ (q ∙ item j lj));
+      value-agree = λ i j li lj q b. val i li ∙ (a .value-agree i j li lj (sym (item i li) ∙ (q ∙ item j lj)) b ∙ sym (val j lj));
     }
   where
     item : (j : ℕ) → j < w .count → place u (w .first + j) .item .0 ≡ place s (w .first + j) .item .0
@@ -62,7 +62,7 @@ alike-kept {s} {u} p w e k a =
     val j l = ap (λ (y : Place). value-in (y .result)) (same-place w e k j l)
 
 pub level-kept : {s u : Store} (p n : ℕ) (w : AwaitedGather) → SameGather s u p → ((o : ℕ) (v : Value) → at-once (object s o) o ≡ some v → at-once (object u o) o ≡ some v)
-    → Level s p n w → Level u p n w
+    → CommitProgress s p n w → CommitProgress u p n w
 unfolding item-at value-at
 level-kept {s} {u} p n w k persist a =
     record {
@@ -79,15 +79,15 @@ level-kept {s} {u} p n w k persist a =
     item j l = ap (λ (y : Place). y .item .0) (same-place w (a .awaited) k j l)
 
 -- the gather's row is read again
-pub level-at : {s : Store} {p n : ℕ} {w : AwaitedGather} (v : AwaitedGather) → as-awaited (object s p) ≡ some v → Level s p n w → Level s p n v
-level-at {s} {p} {n} {w} v e a = subst (Level s p n) (Option·some-injective w v (sym (a .awaited) ∙ e)) a
+pub level-at : {s : Store} {p n : ℕ} {w : AwaitedGather} (v : AwaitedGather) → as-awaited (object s p) ≡ some v → CommitProgress s p n w → CommitProgress s p n v
+level-at {s} {p} {n} {w} v e a = subst (CommitProgress s p n) (Option·some-injective w v (sym (a .awaited) ∙ e)) a
 
 -- all places done
-pub level-alike : {s : Store} {p : ℕ} {w : AwaitedGather} → Level s p (w .count) w → Alike s w
-level-alike {s} {p} {w} a =
+pub level-agree : {s : Store} {p : ℕ} {w : AwaitedGather} → CommitProgress s p (w .count) w → PlacesAgree s w
+level-agree {s} {p} {w} a =
     record {
-      open-alike = a .bits;
-      value-alike = λ i j li lj q b.
+      open-agree = a .bits;
+      value-agree = λ i j li lj q b.
           Option·some-injective _ _ (sym (a .values i li b) ∙ (ap (λ (o : ℕ). at-once (object s o) o) q ∙ a .values j lj (sym (a .bits i j li lj q) ∙ b)));
     }
 
@@ -97,14 +97,14 @@ bool-false : (b : Bool) → (b ≡ true → ⊥) → b ≡ false
 bool-false true f = absurd (f refl)
 bool-false false f = refl
 
-module _ (s : Store) (p i : ℕ) (w : AwaitedGather) (a : Level s p i w) (l : i < w .count) (z : Sized s) where
+module _ (s : Store) (p i : ℕ) (w : AwaitedGather) (a : CommitProgress s p i w) (l : i < w .count) (z : Sized s) where
   shut : bit (w .open-places) i ≡ false
   shut = bool-false _ (λ e. let k : i < i = a .later i e in not-suc-le-zero {n = 0} (omega arith))
 
   -- it is filled, where its item gives the value at once and no earlier place of the item is open
   pub level-fill : (v : Value) → w .first + w .count ≤ place-limit → ValueFits v
       → ((k : ℕ) → k < i → item-at s (w .first + k) ≡ item-at s (w .first + i) → bit (w .open-places) k ≡ false)
-      → at-once (object s (item-at s (w .first + i))) (item-at s (w .first + i)) ≡ some v → Level (fill-place s w i v) p (i + 1) w
+      → at-once (object s (item-at s (w .first + i))) (item-at s (w .first + i)) ≡ some v → CommitProgress (fill-place s w i v) p (i + 1) w
   unfolding fill-place item-at value-at value-in
   level-fill v r f closed gives =
       record {
@@ -163,7 +163,7 @@ module _ (s : Store) (p i : ℕ) (w : AwaitedGather) (a : Level s p i w) (l : i 
       by false e = bit-set-other i (w .open-places) k e ne
 
   pub level-open : p < object-limit → wider w i < 2 ^ (w .count) → ((k : ℕ) → k < i → item-at s (w .first + k) ≡ item-at s (w .first + i) → bit (w .open-places) k ≡ true)
-      → Level (open-place s p w i) p (i + 1) wide
+      → CommitProgress (open-place s p w i) p (i + 1) wide
   unfolding open-place wider
   level-open room small opened =
       record {
