@@ -122,7 +122,7 @@ SPECS = {
     ("machine_theorems", "AlikeLaws"): "PlacesAgreeLaws", ("machine_theorems", "AlikeSessions"): "PlacesAgreeSessions",
     ("machine_theorems", "Still"): "CommitsNone", ("machine_theorems", "OrphanLaws"): "UnawaitedLaws",
 }
-IDENT = r"[^\s(){};,.\[\]@⌜⌝\"`:]+"
+IDENT = r"[^\s(){};,.\[\]@⌜⌝\"`:&*]+"
 
 
 def name(token, owner, ending, mid):

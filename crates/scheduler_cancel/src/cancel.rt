@@ -276,7 +276,7 @@ pub fn cancel_task(
             tasks,
             objects,
             places,
-            &drivers,
+            &table,
             &mut marks,
             &mut stack,
             Walked {
