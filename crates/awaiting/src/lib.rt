@@ -25,7 +25,7 @@ pub fn await_object(
 {
     if lengths_right(tasks, objects, places, calls) {
         if is_sound(queue, tasks, objects, places) {
-            let awaited = steps::running::await_object(tasks, objects, places, queue, o);
+            let awaited = step_event::running::await_object(tasks, objects, places, queue, o);
             let q = awaited.queue;
             let answer = awaited.answer;
             step_checks::lent::tell(objects, calls, answer);

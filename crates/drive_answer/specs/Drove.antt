@@ -13,7 +13,7 @@ use Rattle.drive_reader.specs.declared.Parsed.{Parsed}
 use Rattle.drive_reader.specs.Items.{items-at}
 use Rattle.exec_futures.specs.Results.{results-in}
 use Rattle.step_event.specs.declared.Event.{Event}
-use Rattle.step_event.specs.Dispatch.{event-of}
+use Rattle.step_event.specs.EventOf.{event-of}
 use Rattle.drive_text.specs.Out.{Out, Wrote}
 use Rattle.drive_lines.specs.Lines.{line-limit}
 use Rattle.drive_answer.specs.Driver.{Asked, Drives}

@@ -13,7 +13,7 @@ ghost use Rattle.machine.specs.Lent.{slices-right, lengths-right};
 ghost use Rattle.machine.specs.Machine as machine;
 ghost use Rattle.drive_reader.specs.Items.{items-at};
 ghost use Rattle.exec_futures.specs.Results.{results-in};
-ghost use Rattle.step_event.specs.Dispatch.{event-of};
+ghost use Rattle.step_event.specs.EventOf.{event-of};
 ghost use Rattle.drive_text.specs.Out.{out-of};
 ghost use Rattle.drive_answer.specs.Driver.{Asked, refused-11, answered};
 ghost use Rattle.drive_answer.specs.Drove.{Drove, asked-of, InInput};

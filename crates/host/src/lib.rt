@@ -26,7 +26,7 @@ pub fn results(
 {
     if lengths_right(tasks, objects, places, calls) {
         if is_sound(queue, tasks, objects, places) {
-            let applied = steps::waiting::results(tasks, objects, places, queue, results);
+            let applied = step_event::host::results(tasks, objects, places, queue, results);
             let woken = applied.queue;
             let answer = applied.answer;
             return Stepped {
@@ -57,7 +57,7 @@ pub fn resume(
 {
     if lengths_right(tasks, objects, places, calls) {
         if is_sound(queue, tasks, objects, places) {
-            let resumed = steps::waiting::resume(tasks, objects, queue);
+            let resumed = step_event::host::resume(tasks, objects, queue);
             let rest = resumed.queue;
             let answer = resumed.answer;
             step_checks::lent::tell(objects, calls, answer);

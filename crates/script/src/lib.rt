@@ -26,7 +26,7 @@ pub fn complete(
 {
     if lengths_right(tasks, objects, places, calls) {
         if is_sound(queue, tasks, objects, places) {
-            let completed = steps::running::complete(tasks, objects, places, queue, value);
+            let completed = step_event::running::complete(tasks, objects, places, queue, value);
             let rest = completed.queue;
             let answer = completed.answer;
             step_checks::lent::tell(objects, calls, answer);
@@ -59,7 +59,7 @@ pub fn fail(
 {
     if lengths_right(tasks, objects, places, calls) {
         if is_sound(queue, tasks, objects, places) {
-            let failed = steps::running::fail(tasks, objects, queue, n);
+            let failed = step_event::running::fail(tasks, objects, queue, n);
             let q = failed.queue;
             let answer = failed.answer;
             step_checks::lent::tell(objects, calls, answer);

@@ -11,7 +11,7 @@ ghost use mathlib.Core.List.{List};
 ghost use Rattle.machine.specs.Store.{LogEntry, store-of};
 ghost use Rattle.machine.specs.Lent.{lent-step};
 ghost use Rattle.step_checks.specs.Lent.{lent-of};
-ghost use Rattle.step_event.specs.Dispatch.{event-of};
+ghost use Rattle.step_event.specs.EventOf.{event-of};
 
 // The event on any memory: a wrong length is 1, a store that is not sound is 2, and so on in the order of document 01's table; a refused
 // event leaves everything as it was.

@@ -1,2 +1,2 @@
-pub mod Dispatch
-pub mod SteppingLaws
+pub mod EventOf
+pub mod SoundStepLaws

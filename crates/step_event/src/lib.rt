@@ -1,4 +1,8 @@
-// One event, whichever it is, of a sound store: `step` asks its caller for one, and checks nothing.
+// One event, whichever it is, of a sound store, with its refusals from 3 on in the order of document 01's table: `step` asks its caller for a sound
+// store, and checks nothing of it.
+pub mod host; // the host's events: results, resume
+pub mod running; // the running task's: await, complete, fail
+
 use asyncio::OptionValue;
 use asyncio::Value;
 use exec_switch::answer::Stepped;
@@ -14,7 +18,7 @@ ghost use Rattle.machine.specs.Lent.{lengths-right, lent-step};
 ghost use Rattle.exec_switch.specs.Answer.{stepped-of};
 ghost use Rattle.step_checks.specs.Checked.{checked};
 ghost use Rattle.step_checks.specs.Lent.{lent-of};
-ghost use Rattle.step_event.specs.Dispatch.{event-of};
+ghost use Rattle.step_event.specs.EventOf.{event-of};
 
 // The events of kinds 1 to 10. The items of a gather and the results of a batch stand in slices of their own.
 pub enum Event {
@@ -49,15 +53,15 @@ fn checked(
         Event::Pending { call, stored } => step_checks::make::pending(objects, queue, call, stored),
         Event::Settled(v) => step_checks::make::settled(objects, queue, v),
         Event::Gather => step_checks::make::gather(objects, places, queue, items),
-        Event::Await(o) => steps::running::await_object(tasks, objects, places, queue, o),
-        Event::Complete(v) => steps::running::complete(tasks, objects, places, queue, v),
-        Event::Fail(n) => steps::running::fail(tasks, objects, queue, n),
-        Event::Results => steps::waiting::results(tasks, objects, places, queue, results),
-        Event::Resume => steps::waiting::resume(tasks, objects, queue),
+        Event::Await(o) => running::await_object(tasks, objects, places, queue, o),
+        Event::Complete(v) => running::complete(tasks, objects, places, queue, v),
+        Event::Fail(n) => running::fail(tasks, objects, queue, n),
+        Event::Results => host::results(tasks, objects, places, queue, results),
+        Event::Resume => host::resume(tasks, objects, queue),
     }
 }
 
-// The event on a sound store of the right lengths, which a session has (`driverlaws`, `is-task-of-whole`): no check of it is made.
+// The event on a sound store of the right lengths, which a session has (`drive_laws`): no check of it is made.
 pub fn step(
     tasks: &mut [u64],
     objects: &mut [u64],

@@ -1,7 +1,7 @@
 use mathlib.Core.Path.{_≡_, sym, _∙_}
 use mathlib.Core.List.{[]}
 use denote.Ref.{now}
-use Rattle.step_event.specs.SteppingLaws.{right-lengths, steps-soundly}
+use Rattle.step_event.specs.SoundStepLaws.{right-lengths, steps-soundly}
 use borrow.Author.Needs.{needs}
 use Rattle.step_event.proofs.step.Statement.{statement}
 use Rattle.step_event.proofs.step.Tie as tie

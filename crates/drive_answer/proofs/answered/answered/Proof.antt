@@ -1,6 +1,6 @@
 use mathlib.Core.List.{[]}
 use denote.Ref.{now}
-use Rattle.step_event.specs.SteppingLaws.{right-slices}
+use Rattle.step_event.specs.SoundStepLaws.{right-slices}
 use Rattle.drive_answer.specs.Driver.{answered}
 use Rattle.drive_answer.specs.Drove.{asked-of}
 use borrow.Author.Needs.{needs}

@@ -3,7 +3,7 @@ use lib.ListN.{length}
 use denote.Ref.{now}
 use Rattle.machine.specs.Lent.{slices-right}
 use Rattle.step_checks.specs.LentLaws.{slices-have}
-use Rattle.step_event.specs.SteppingLaws.{sound-logged}
+use Rattle.step_event.specs.SoundStepLaws.{sound-logged}
 use Rattle.drive_answer.specs.DriveLaws.{eager-drove}
 use borrow.Author.Needs.{needs}
 use Rattle.drive_answer.proofs.answered.eager_line.Statement.{statement}

@@ -6,8 +6,8 @@ use Rattle.rows.specs.TableLaws.{header-read}
 use Rattle.machine.specs.Machine.{refusals}
 use Rattle.step_checks.specs.StepLaws.{no-turn-logs, runner-fits, await-unmade, await-goes}
 use borrow.Author.Needs.{needs}
-use Rattle.steps.proofs.running.await_object.Statement.{statement}
-use Rattle.steps.proofs.running.await_object.Tie as tie
+use Rattle.step_event.proofs.running.await_object.Statement.{statement}
+use Rattle.step_event.proofs.running.await_object.Tie as tie
 
 running-requires : tie.Need-running-requires
 running-requires c κs = search needs

@@ -2,8 +2,8 @@ use mathlib.Core.Path.{_≡_, refl, sym, ap, _∙_}
 use denote.Ref.{now}
 use Rattle.step_checks.specs.StepLaws.{resume-ended, resume-running, resume-goes}
 use borrow.Author.Needs.{needs}
-use Rattle.steps.proofs.waiting.resume.Statement.{statement}
-use Rattle.steps.proofs.waiting.resume.Tie as tie
+use Rattle.step_event.proofs.host.resume.Statement.{statement}
+use Rattle.step_event.proofs.host.resume.Tie as tie
 
 load-header-requires : tie.Need-load-header-requires
 load-header-requires c κs = search needs

@@ -2,8 +2,8 @@ use mathlib.Core.Path.{_≡_, refl, sym, ap, _∙_}
 use denote.Ref.{now}
 use Rattle.step_checks.specs.StepLaws.{results-ended, results-unknown, results-many, results-bad, results-done}
 use borrow.Author.Needs.{needs}
-use Rattle.steps.proofs.waiting.results.Statement.{statement}
-use Rattle.steps.proofs.waiting.results.Tie as tie
+use Rattle.step_event.proofs.host.results.Statement.{statement}
+use Rattle.step_event.proofs.host.results.Tie as tie
 
 is-ended-requires : tie.Need-is-ended-requires
 is-ended-requires c κs = search needs

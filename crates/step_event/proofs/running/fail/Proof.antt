@@ -4,8 +4,8 @@ use denote.Ref.{now}
 use Rattle.machine.specs.Machine.{refusals}
 use Rattle.step_checks.specs.StepLaws.{no-turn-logs, runner-fits, fail-goes}
 use borrow.Author.Needs.{needs}
-use Rattle.steps.proofs.running.fail.Statement.{statement}
-use Rattle.steps.proofs.running.fail.Tie as tie
+use Rattle.step_event.proofs.running.fail.Statement.{statement}
+use Rattle.step_event.proofs.running.fail.Tie as tie
 
 running-requires : tie.Need-running-requires
 running-requires c κs = search needs

@@ -1,7 +1,7 @@
 use Rattle.machine.specs.Sound.{is-ended}
 use borrow.Author.Needs.{needs}
-use Rattle.steps.proofs.waiting.is_ended.Statement.{statement}
-use Rattle.steps.proofs.waiting.is_ended.Tie as tie
+use Rattle.step_event.proofs.host.is_ended.Statement.{statement}
+use Rattle.step_event.proofs.host.is_ended.Tie as tie
 
 load-header-requires : tie.Need-load-header-requires
 load-header-requires c κs = search needs
