@@ -1,5 +1,5 @@
 -- The worked example of document 01 and cases of its rules, as a table: each row is a session from the beginning, an event and its answer to
--- a line. (CasesHold proves the whole table; the crate `cases` has the rest of P1 to P12 and further ones.)
+-- a line. (CasesHold proves the whole table; the crate `machine_cases` has the rest of P1 to P12 and further ones.)
 use Prim.Native.Nat.{ℕ}
 use mathlib.Core.Bool.{Bool, true, false, _&&_}
 use mathlib.Core.List.{List, [], _∷_, map}

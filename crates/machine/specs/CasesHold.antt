@@ -7,7 +7,8 @@ use Rattle.machine.specs.Cases.{Case, Seen, answered, event-of, answer-o
 use Rattle.machine.specs.Computes.{computes}
 use Rattle.machine.specs.Answers.{says, value-numbers, error-numbers, how-numbers, control-numbers, place-numbers, places-numbers, shown-numbers, answer-numbers}
 
-all-rows : map seen cases ≡ map told cases
+-- every row of this table
+pub all-rows : map seen cases ≡ map told cases
 unfolding computes cases seen told same-store event-of answer-of
 all-rows = refl
 

@@ -1,3 +1,4 @@
 pub mod MoreCases
-pub mod MoreCasesHold
+pub mod AllCases
+pub mod LayoutCase
 pub mod MoreSoundCases

@@ -46,7 +46,20 @@ more-cases =
     Event.cancel 1 ⇒ Answer.refused 5 ∷
     Event.show 0 ⇒ Answer.shows (Shown.a-coroutine CoroutineState.Running 7) ∷
     []) ∷
-    -- P6 a gather naming c of P2 while its task lives: coroutine-reuse (c new, its task ready; then c running)
+    -- P6 a gather naming c of P2 while its task lives: coroutine-reuse. c runs; the gather of P2 stays awaited, and fails with its child
+    answered (
+    Event.coroutine 3 ⇒ Answer.made 0 ∷
+    Event.gather (0 ∷ 0 ∷ []) ⇒ Answer.made 1 ∷
+    Event.await 1 ⇒ Answer.awaited (runs 1 (start 0 3)) 1 ∷
+    Event.gather (0 ∷ []) ⇒ Answer.made 2 ∷
+    Event.await 2 ⇒ Answer.awaited (runs 1 (raises Error.CoroutineReuse)) 1 ∷
+    Event.show 2 ⇒ Answer.shows (Shown.a-gather-failed Error.CoroutineReuse) ∷
+    Event.show 1 ⇒ Answer.shows (Shown.a-gather-awaited (none ∷ none ∷ [])) ∷
+    Event.fail 9 ⇒ Answer.control (runs 0 (raises (Error.Script 9))) ∷
+    Event.show 1 ⇒ Answer.shows (Shown.a-gather-failed (Error.Script 9)) ∷
+    Event.show 0 ⇒ Answer.shows (Shown.a-coroutine CoroutineState.Running 3) ∷
+    []) ∷
+    -- the same while c is new and its task only ready; the gather then replays its stored error
     answered (
     Event.coroutine 8 ⇒ Answer.made 0 ∷
     Event.coroutine 7 ⇒ Answer.made 1 ∷
