@@ -1,1 +1,0 @@
-// No code: what the reader's readings mean to the machine is proved in specs/.
