@@ -19,7 +19,9 @@ CRATES = {
     "beginning": "session_begin", "session": "session_dispatch", "reads": "session_reads",
     "driver": "drive_record", "answering": "drive_answer", "reader": "drive_reader", "lines": "drive_lines", "showing": "drive_shows",
     "texts": "drive_text", "driverlaws": "drive_laws",
-    "badstores": "test_stores",
+    "badstores": "test_stores", "cancelled": "test_cancel", "deliveries": "test_deliver", "printing": "test_print",
+    # merged into another crate: its names are found there
+    "steps": "step_event", "readerlaws": "drive_laws",
 }
 
 # modules, by the crate's old name

@@ -11,8 +11,8 @@ use crate::text::read_command;
 use drive_text::put_byte;
 use drive_text::put_text;
 use libc::STDOUT_FILENO;
-use printing::write_store;
 use queue::ReadyQueue;
+use test_print::write_store;
 ghost use Prim.Native.Nat.{_<_, _≤_};
 ghost use lib.ListN.{length};
 

@@ -1,0 +1,168 @@
+// What the small programs print of a store, written into a lent buffer, a line for each row and for the queue: the words of docs/LAYOUT.md,
+// decimal, a space before each. Each function takes the place of the next byte and gives the place behind what it wrote.
+use asyncio::HeapId;
+use asyncio::TaskId;
+use asyncio::words::header_words;
+use asyncio::words::object_words;
+use asyncio::words::place_words;
+use asyncio::words::task_words;
+use drive_text::put_byte;
+use drive_text::put_field;
+use drive_text::put_numbers;
+use drive_text::put_text;
+use queue::ReadyQueue;
+use rows::tables::load_header;
+use rows::tables::load_object;
+use rows::tables::load_place;
+use rows::tables::load_task;
+ghost use mathlib.Core.Path.{_≡_};
+ghost use mathlib.Core.List.{_++_};
+ghost use lib.ListN.{length};
+ghost use Prim.Native.Nat.{_+_, _*_, _<_, _≤_, min};
+ghost use Rattle.asyncio.specs.Limits.{tasks-length, objects-length, places-length, task-limit, object-limit, place-limit};
+ghost use Rattle.drive_text.specs.Out.{Puts};
+ghost use Rattle.drive_text.specs.Text.{newline, field, fields};
+ghost use Rattle.test_print.specs.Printing.{task-text, object-text, place-text, header-text, entry-text, queue-text, rows-text, store-text, store-limit, changed};
+
+// A line: a name and numbers.
+pub fn write_row(out: &mut [u8], at: usize, name: &[u8], words: &[u64]) -> usize
+    ensures { λ r. ⌜ Puts (length (now (name .entry)) + (21 * length (now (words .entry)) + 1)) out at r (now (name .entry) ++ (fields (now (words .entry)) ++ newline)) ⌝ }
+{
+    let p = put_text(out, at, name);
+    let q = put_numbers(out, p, words);
+    put_byte(out, q, 10)
+}
+
+pub fn write_header(out: &mut [u8], at: usize, objects: &[u64]) -> usize
+    requires { ⌜ length (now objects) ≡ objects-length ⌝ }
+    ensures { λ r. ⌜ Puts 175 out at r (header-text (now (objects .entry))) ⌝ }
+{
+    let words = header_words(load_header(objects));
+    write_row(out, at, b"header", &words)
+}
+
+pub fn write_object(out: &mut [u8], at: usize, objects: &[u64], o: HeapId) -> usize
+    requires { ⌜ (length (now objects) ≡ objects-length) × (o .0 < object-limit) ⌝ }
+    ensures { λ r. ⌜ Puts 175 out at r (object-text (now (objects .entry)) (o .0)) ⌝ }
+{
+    let words = object_words(load_object(objects, o));
+    write_row(out, at, b"object", &words)
+}
+
+pub fn write_task(out: &mut [u8], at: usize, tasks: &[u64], t: TaskId) -> usize
+    requires { ⌜ (length (now tasks) ≡ tasks-length) × (t .0 < task-limit) ⌝ }
+    ensures { λ r. ⌜ Puts 173 out at r (task-text (now (tasks .entry)) (t .0)) ⌝ }
+{
+    let words = task_words(load_task(tasks, t));
+    write_row(out, at, b"task", &words)
+}
+
+pub fn write_place(out: &mut [u8], at: usize, places: &[u64], p: usize) -> usize
+    requires { ⌜ (length (now places) ≡ places-length) × (p < place-limit) ⌝ }
+    ensures { λ r. ⌜ Puts 90 out at r (place-text (now (places .entry)) p) ⌝ }
+{
+    let words = place_words(load_place(places, p));
+    write_row(out, at, b"place", &words)
+}
+
+// The numbers in a queue, each after a space.
+fn put_entries(out: &mut [u8], at: usize, queue: ReadyQueue) -> usize
+    requires { ⌜ queue .len ≤ task-limit ⌝ }
+    ensures { λ r. ⌜ Puts (21 * queue .len) out at r (rows-text (entry-text queue) (queue .len)) ⌝ }
+{
+    let n = queue.len;
+    let mut p = at;
+    let mut i: usize = 0;
+    while i < n {
+        p = put_field(out, p, queue.ids[i] as u64);
+        i += 1;
+    }
+    p
+}
+
+// The numbers of the queued tasks, front first. A queue whose count is above 513 is none, and nothing is written.
+pub fn write_queue(out: &mut [u8], at: usize, queue: ReadyQueue) -> usize
+    ensures { λ r. ⌜ Puts 10779 out at r (queue-text queue) ⌝ }
+{
+    if 513 < queue.len {
+        return at;
+    }
+    let p = put_text(out, at, b"ready");
+    let q = put_entries(out, p, queue);
+    put_byte(out, q, 10)
+}
+
+// ---- a whole store
+
+// The tasks below `n`.
+pub fn write_tasks(out: &mut [u8], at: usize, tasks: &[u64], n: u16) -> usize
+    requires { ⌜ (length (now tasks) ≡ tasks-length) × (n ≤ task-limit) ⌝ }
+    ensures { λ r. ⌜ Puts (173 * n) out at r (rows-text (task-text (now (tasks .entry))) n) ⌝ }
+{
+    let mut p = at;
+    let mut t: u16 = 0;
+    while t < n {
+        p = write_task(out, p, tasks, TaskId(t));
+        t += 1;
+    }
+    p
+}
+
+// The objects below `n`.
+pub fn write_objects(out: &mut [u8], at: usize, objects: &[u64], n: u16) -> usize
+    requires { ⌜ (length (now objects) ≡ objects-length) × (n ≤ object-limit) ⌝ }
+    ensures { λ r. ⌜ Puts (175 * n) out at r (rows-text (object-text (now (objects .entry))) n) ⌝ }
+{
+    let mut p = at;
+    let mut o: u16 = 0;
+    while o < n {
+        p = write_object(out, p, objects, HeapId(o));
+        o += 1;
+    }
+    p
+}
+
+// The tasks and objects in use, by number, and the queue.
+pub fn write_store(
+    out: &mut [u8],
+    at: usize,
+    tasks: &[u64],
+    objects: &[u64],
+    queue: ReadyQueue,
+) -> usize
+    requires { ⌜ (length (now tasks) ≡ tasks-length) × (length (now objects) ≡ objects-length) ⌝ }
+    ensures { λ r. ⌜ Puts store-limit out at r (store-text (now (tasks .entry)) (now (objects .entry)) queue) ⌝ }
+{
+    let h = load_header(objects);
+    let p = write_tasks(out, at, tasks, h.next);
+    let q = write_objects(out, p, objects, h.made);
+    write_queue(out, q, queue)
+}
+
+// How many of the first `n` words differ.
+fn count_changed(before: &[u64], after: &[u64], n: usize) -> u64
+    requires { ⌜ (n ≤ length (now before)) × (n ≤ length (now after)) ⌝ }
+    ensures { λ r. ⌜ r ≡ changed (now (before .entry)) (now (after .entry)) n ⌝ }
+{
+    let mut count: u64 = 0;
+    let mut i: usize = 0;
+    while i < n {
+        if before[i] != after[i] {
+            count += 1;
+            i += 1;
+        } else {
+            i += 1;
+        }
+    }
+    count
+}
+
+// How many words of a slice differ from what they were. What is longer than the other is not looked at.
+pub fn write_changed(out: &mut [u8], at: usize, before: &[u64], after: &[u64]) -> usize
+    ensures { λ r. ⌜ Puts 21 out at r (field (changed (now (before .entry)) (now (after .entry)) (min (length (now (before .entry))) (length (now (after .entry)))))) ⌝ }
+{
+    if before.len() < after.len() {
+        return put_field(out, at, count_changed(before, after, before.len()));
+    }
+    put_field(out, at, count_changed(before, after, after.len()))
+}
