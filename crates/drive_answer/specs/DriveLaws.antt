@@ -1,15 +1,15 @@
 -- Laws of the driver, one for each way to a line.
 use mathlib.Core.Path.{_≡_, refl, ap}
 use mathlib.Core.Bool.{Bool, true, false}
-use mathlib.Core.List.{List}
+use mathlib.Core.List.{List, []}
 use Prim.Native.Nat.{ℕ, _+_, _-_, _*_}
 use native.Mathlib.Omega.{arith}
-use lib.ListN.{take, drop}
+use lib.ListN.{length, take, drop}
 use Rattle.queue.specs.declared.ReadyQueue.{ReadyQueue}
 use Rattle.machine.specs.Store.{Store, LogEntry, store-of}
 use Rattle.machine.specs.Machine as machine
 use Rattle.machine.specs.Lent.{Lent, lent-step, lent-read}
-use Rattle.exec_switch.specs.Answer.{answer-of}
+use Rattle.exec_switch.specs.Answer.{answer-with, answer-of}
 use Rattle.exec_switch.specs.declared.answer.Answer.{Answer}
 use Rattle.step_checks.specs.Lent.{lent-of}
 use Rattle.step_read.specs.Reads.{show-answer}
@@ -20,10 +20,9 @@ use Rattle.drive_reader.specs.Format.{parse}
 use Rattle.drive_reader.specs.ParseLaws.{results-inside}
 use Rattle.drive_text.specs.Out.{Out, Wrote}
 use Rattle.drive_text.specs.OutLaws.{wrote-none, at-most}
-use Rattle.drive_lines.specs.Heard.{heard}
 use Rattle.drive_shows.specs.Shows.{reading-count}
-use Rattle.drive_shows.specs.HeardLaws.{wrote-event, wrote-eager, wrote-show}
-use Rattle.drive_lines.specs.Lines.{line, line-limit}
+use Rattle.drive_shows.specs.AnswerLaws.{wrote-event, wrote-eager, wrote-show}
+use Rattle.drive_lines.specs.Lines.{line}
 use Rattle.drive_answer.specs.Driver.{Asked, asked, Drives, refused-11, answered, drive-by, drive-one}
 use Rattle.drive_answer.specs.Drove.{Drove, asks-of, asked-of, InInput}
 use Rattle.drive_answer.specs.declared.asks.Asks.{Asks}
@@ -31,17 +30,17 @@ use Rattle.drive_answer.specs.declared.asks.Asks.{Asks}
 -- ---- lines
 
 -- An event: what the library ensures, and the line that was written.
-pub event-drove : (u : Store) (l : List ℕ) (e : machine.Event) (next number : ℕ) (a : Answer) {ts os ps cs : List ℕ} {q : ReadyQueue} {x y : Out}
-    → lent-of (store-of ts os ps q (lent-step u l e .store .log)) cs a ≡ lent-step u l e
-    → Wrote line-limit x y (line number (heard os cs a))
+pub event-drove : (u : Store) (l : List ℕ) (e : machine.Event) (next number : ℕ) (a : Answer) (k : ℕ) {ts os ps cs : List ℕ} {q : ReadyQueue} {x y : Out}
+    → lent-of (store-of ts os ps q (lent-step u l e .store .log)) cs a k ≡ lent-step u l e
+    → Wrote (123 + 21 * length (take k cs)) x y (line number (answer-with (take k cs) a))
     → Drove ts os ps q cs next true x y (answered u l next number (Asked.event e))
 unfolding answered
-event-drove u l e next number a {ts} {os} {ps} {cs} {q} h w = record {
+event-drove u l e next number a k {ts} {os} {ps} {cs} {q} h w = record {
   store-is = ap (λ (z : Lent). z .store) h;
   list-is = ap (λ (z : Lent). z .list) h;
   next-is = refl;
   going-is = refl;
-  wrote = wrote-event number (store-of ts os ps q (lent-step u l e .store .log)) u cs l a e h w;
+  wrote = wrote-event number (store-of ts os ps q (lent-step u l e .store .log)) u cs l a k e h w;
 }
 
 -- A read of an object.
@@ -61,7 +60,7 @@ show-drove ts os ps q k l o next number r h w = record {
 -- The read `eager`.
 pub eager-drove : (ts os ps : List ℕ) (q : ReadyQueue) (k : List LogEntry) (l : List ℕ) (next number : ℕ) (a : Answer) {x y : Out}
     → answer-of os a ≡ lent-read (store-of ts os ps q k) machine.Event.eager .answer
-    → Wrote line-limit x y (line number (heard os l a))
+    → Wrote (123 + 21 * 0) x y (line number (answer-with [] a))
     → Drove ts os ps q l next true x y (answered (store-of ts os ps q k) l next number (Asked.read machine.Event.eager))
 unfolding answered
 eager-drove ts os ps q k l next number a h w = record {
@@ -69,7 +68,7 @@ eager-drove ts os ps q k l next number a h w = record {
   list-is = refl;
   next-is = refl;
   going-is = refl;
-  wrote = wrote-eager number os l (store-of ts os ps q k) a h w;
+  wrote = wrote-eager number os (store-of ts os ps q k) a h w;
 }
 
 -- Refusal 11.

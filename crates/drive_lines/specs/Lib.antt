@@ -1,5 +1,4 @@
 pub mod Lines
-pub mod Heard
-pub mod CallLaws
+pub mod Writes
 pub mod LineLaws
 pub mod Example

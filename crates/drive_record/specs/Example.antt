@@ -2,7 +2,7 @@
 use mathlib.Core.Path.{_≡_, refl}
 use mathlib.Core.List.{[], _∷_}
 use Rattle.machine.specs.Computes.{computes}
-use Rattle.machine.specs.Lent.{slices-right, lengths-right, write-calls, written-by, written, lent-by, lent-step, lent-read}
+use Rattle.machine.specs.Lent.{slices-right, lengths-right, write-calls, control-calls, answer-calls, written, lent-by, lent-step, lent-read}
 use Rattle.drive_reader.specs.Format.{value-at, size, pending-at, contents, parse-kind, parse}
 use Rattle.drive_reader.specs.Items.{items-at}
 use Rattle.drive_reader.specs.RecordCases.{worked-example}
@@ -14,7 +14,7 @@ use Rattle.drive_record.specs.Drive.{drive-from, drive-rest, drive}
 
 -- whoever unfolds this computes the driver: the machine, the format and the lines
 unfoldable runs : Unit {0}
-unfolding computes slices-right lengths-right write-calls written-by written lent-by lent-step lent-read value-at size pending-at contents parse-kind parse items-at results-from results-in digits decimal field fields value-text error-text how-text control-text state-text place-text places-text shown-text yes-no answer-text line asked refused-11 answered drive-by drive-one drive-from drive-rest drive
+unfolding computes slices-right lengths-right write-calls control-calls answer-calls written lent-by lent-step lent-read value-at size pending-at contents parse-kind parse items-at results-from results-in digits decimal field fields value-text error-text how-text control-text state-text place-text places-text shown-text yes-no answer-text line asked refused-11 answered drive-by drive-one drive-from drive-rest drive
 runs = tt
 
 pub example-drives : drive worked-example ≡

@@ -1,3 +1,3 @@
 pub mod Shows
 pub mod PlaceLaws
-pub mod HeardLaws
+pub mod AnswerLaws

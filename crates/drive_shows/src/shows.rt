@@ -3,45 +3,34 @@ use asyncio::CoroutineState;
 use asyncio::Error;
 use asyncio::OptionValue;
 use asyncio::Value;
-use asyncio::words::to_option;
 use drive_lines::answers::put_error;
 use drive_lines::answers::put_value;
 use drive_lines::answers::write_refused;
-use drive_lines::pending::word_at;
 use drive_text::put_byte;
 use drive_text::put_decimal;
 use drive_text::put_field;
 use drive_text::put_named;
 use drive_text::put_text;
+use rows::total::result_at;
 use step_read::Reading;
 use step_read::Shown;
-ghost use mathlib.Core.Path.{_≡_};
 ghost use mathlib.Core.Bool.{false, not};
+ghost use mathlib.Core.List.{_++_};
 ghost use Prim.Native.Nat.{_+_, _*_, _%_};
 ghost use lib.Dec.{eqb};
 ghost use lib.ListN.{length};
-ghost use mathlib.Core.List.{_++_};
 ghost use Rattle.rows.specs.Tables.{place-at};
 ghost use Rattle.machine.specs.Machine as machine;
 ghost use Rattle.machine.specs.Machine.{slot-value};
-ghost use Rattle.step_read.specs.Reads.{places-from, shown-of, show-answer};
-ghost use Rattle.drive_text.specs.Out.{out-of, Wrote};
-ghost use Rattle.drive_text.specs.Text.{word, field};
-ghost use Rattle.drive_lines.specs.Lines.{error-text, place-text, places-text, shown-text, line};
-ghost use Rattle.drive_shows.specs.Shows.{shown-count, reading-count};
-
-// The result of place `i` of a gather that starts at `first`.
-fn result_at(places: &[u64], first: u16, i: u16) -> OptionValue
-    ensures { λ r. ⌜ r ≡ place-at (now (places .entry)) (first + i) .result ⌝ }
-{
-    let p = first as usize + i as usize;
-    let at = p * 4;
-    to_option(word_at(places, at + 1), word_at(places, at + 2))
-}
+ghost use Rattle.step_read.specs.Reads.{places-from, shown-of};
+ghost use Rattle.drive_text.specs.Out.{Puts};
+ghost use Rattle.drive_text.specs.Text.{word};
+ghost use Rattle.drive_lines.specs.Lines.{error-text, place-text, places-text, shown-text};
+ghost use Rattle.drive_shows.specs.Shows.{shown-count, PutsGather, PutsReading};
 
 // A coroutine: its state and its function.
 fn put_coroutine(out: &mut [u8], at: usize, state: CoroutineState, function: u32) -> usize
-    ensures { λ r. ⌜ Wrote 41 (out-of (now (out .entry)) at) (out-of (now (out .exit)) r) (shown-text (machine.Shown.a-coroutine state function)) ⌝ }
+    ensures { λ r. ⌜ Puts 41 out at r (shown-text (machine.Shown.a-coroutine state function)) ⌝ }
 {
     match state {
         CoroutineState::New => put_named(out, at, b" coroutine new", function as u64),
@@ -52,7 +41,7 @@ fn put_coroutine(out: &mut [u8], at: usize, state: CoroutineState, function: u32
 
 // A place that is not open: its result.
 fn put_result(out: &mut [u8], at: usize, x: OptionValue) -> usize
-    ensures { λ r. ⌜ Wrote 27 (out-of (now (out .entry)) at) (out-of (now (out .exit)) r) (place-text (slot-value false x)) ⌝ }
+    ensures { λ r. ⌜ Puts 27 out at r (place-text (slot-value false x)) ⌝ }
 {
     match x {
         OptionValue::None => put_text(out, at, b" open"),
@@ -62,7 +51,7 @@ fn put_result(out: &mut [u8], at: usize, x: OptionValue) -> usize
 
 // Place `i` of a gather; `rest` is its open word without the bits below `i`.
 fn put_place(out: &mut [u8], at: usize, places: &[u64], first: u16, i: u16, rest: u32) -> usize
-    ensures { λ r. ⌜ Wrote 27 (out-of (now (out .entry)) at) (out-of (now (out .exit)) r) (place-text (slot-value (not (eqb (rest % 2) 0)) (place-at (now (places .entry)) (first + i) .result))) ⌝ }
+    ensures { λ r. ⌜ Puts 27 out at r (place-text (slot-value (not (eqb (rest % 2) 0)) (place-at (now (places .entry)) (first + i) .result))) ⌝ }
 {
     if rest % 2 == 0 {
         return put_result(out, at, result_at(places, first, i));
@@ -70,19 +59,12 @@ fn put_place(out: &mut [u8], at: usize, places: &[u64], first: u16, i: u16, rest
     put_text(out, at, b" open")
 }
 
-// The places of a gather.
-fn put_places(
-    out: &mut [u8],
-    at: usize,
-    places: &[u64],
-    first: u16,
-    count: u16,
-    waiting: u32,
-) -> usize
-    ensures { λ r. ⌜ Wrote (27 * count) (out-of (now (out .entry)) at) (out-of (now (out .exit)) r) (places-text (places-from (now (places .entry)) first waiting 0 count)) ⌝ }
+// The places of a gather; bit i of `mask` says that place i is open.
+fn put_places(out: &mut [u8], at: usize, places: &[u64], first: u16, count: u16, mask: u32) -> usize
+    ensures { λ r. ⌜ Puts (27 * count) out at r (places-text (places-from (now (places .entry)) first mask 0 count)) ⌝ }
 {
     let mut p = at;
-    let mut rest = waiting;
+    let mut rest = mask;
     let mut i: u16 = 0;
     while i < count {
         p = put_place(out, p, places, first, i, rest);
@@ -100,24 +82,24 @@ fn put_gather(
     places: &[u64],
     first: u16,
     count: u16,
-    waiting: u32,
+    mask: u32,
 ) -> usize
-    ensures { λ r. ⌜ Wrote (length (now (state .entry)) + (21 + 27 * count)) (out-of (now (out .entry)) at) (out-of (now (out .exit)) r) (now (state .entry) ++ (field count ++ places-text (places-from (now (places .entry)) first waiting 0 count))) ⌝ }
+    ensures { λ r. ⌜ PutsGather out at r state places first count mask ⌝ }
 {
     let p = put_text(out, at, state);
     let q = put_field(out, p, count as u64);
-    put_places(out, q, places, first, count, waiting)
+    put_places(out, q, places, first, count, mask)
 }
 
 fn put_resolved(out: &mut [u8], at: usize, v: Value) -> usize
-    ensures { λ r. ⌜ Wrote 45 (out-of (now (out .entry)) at) (out-of (now (out .exit)) r) (shown-text (machine.Shown.an-external-resolved v)) ⌝ }
+    ensures { λ r. ⌜ Puts 45 out at r (shown-text (machine.Shown.an-external-resolved v)) ⌝ }
 {
     let p = put_text(out, at, b" external resolved");
     put_value(out, p, v)
 }
 
 fn put_failure(out: &mut [u8], at: usize, sort: &[u8], e: Error) -> usize
-    ensures { λ r. ⌜ Wrote (length (now (sort .entry)) + 35) (out-of (now (out .entry)) at) (out-of (now (out .exit)) r) (now (sort .entry) ++ (word "failed" ++ error-text e)) ⌝ }
+    ensures { λ r. ⌜ Puts (length (now (sort .entry)) + 35) out at r (now (sort .entry) ++ (word "failed" ++ error-text e)) ⌝ }
 {
     let p = put_text(out, at, sort);
     let q = put_text(out, p, b" failed");
@@ -126,7 +108,7 @@ fn put_failure(out: &mut [u8], at: usize, sort: &[u8], e: Error) -> usize
 
 // Sort, state and what document 01 lists.
 fn put_shown(out: &mut [u8], at: usize, shown: Shown, places: &[u64]) -> usize
-    ensures { λ r. ⌜ Wrote (48 + 27 * shown-count shown) (out-of (now (out .entry)) at) (out-of (now (out .exit)) r) (shown-text (shown-of (now (places .entry)) shown)) ⌝ }
+    ensures { λ r. ⌜ Puts (48 + 27 * shown-count shown) out at r (shown-text (shown-of (now (places .entry)) shown)) ⌝ }
 {
     match shown {
         Shown::Coroutine { state, function } => put_coroutine(out, at, state, function),
@@ -137,8 +119,8 @@ fn put_shown(out: &mut [u8], at: usize, shown: Shown, places: &[u64]) -> usize
         Shown::GatherAwaited {
             first,
             count,
-            waiting,
-        } => put_gather(out, at, b" gather awaited", places, first, count, waiting),
+            open_places: mask,
+        } => put_gather(out, at, b" gather awaited", places, first, count, mask),
         Shown::GatherCompleted { first, count } => put_gather(
             out,
             at,
@@ -154,7 +136,7 @@ fn put_shown(out: &mut [u8], at: usize, shown: Shown, places: &[u64]) -> usize
 }
 
 fn write_shown(out: &mut [u8], at: usize, number: u64, shown: Shown, places: &[u64]) -> usize
-    ensures { λ r. ⌜ Wrote (75 + 27 * shown-count shown) (out-of (now (out .entry)) at) (out-of (now (out .exit)) r) (line number (machine.Answer.shows (shown-of (now (places .entry)) shown))) ⌝ }
+    ensures { λ r. ⌜ PutsReading out at r number places (Reading.Shows shown) ⌝ }
 {
     let p = put_decimal(out, at, number);
     let q = put_text(out, p, b" shows");
@@ -170,7 +152,7 @@ pub fn write_reading(
     reading: Reading,
     places: &[u64],
 ) -> usize
-    ensures { λ r. ⌜ Wrote (75 + 27 * reading-count reading) (out-of (now (out .entry)) at) (out-of (now (out .exit)) r) (line number (show-answer (now (places .entry)) reading)) ⌝ }
+    ensures { λ r. ⌜ PutsReading out at r number places reading ⌝ }
 {
     match reading {
         Reading::Shows(shown) => write_shown(out, at, number, shown, places),

@@ -4,6 +4,8 @@ use mathlib.Core.List.{List, [], _∷_}
 use Prim.Native.Nat.{ℕ, _+_, _≤_}
 use lib.Dec.{ltb}
 use lib.ListN.{length, set}
+use denote.Triple.Both.{Both}
+use denote.Ref.{RefT, now}
 use Rattle.asyncio.specs.States.{pick}
 
 -- A buffer, and the place of the next byte.
@@ -28,3 +30,7 @@ emit o (b ∷ bs) = emit (emit1 o b) bs
 pub record Wrote (k : ℕ) (x y : Out) (bs : List ℕ) : Type 0 where
   pub emitted : y ≡ emit x bs
   pub short : length bs ≤ k
+
+-- The call writes these bytes, at most k, into the lent buffer at a place, and returns the place behind them.
+abbrev pub Puts : ℕ → Both (RefT (List ℕ)) (RefT (List ℕ)) → ℕ → ℕ → List ℕ → Type 0
+Puts k out at r bs = Wrote k (out-of (now (out .entry)) at) (out-of (now (out .exit)) r) bs

@@ -3,12 +3,12 @@
 ghost use Prim.Native.Nat.{_+_, _*_};
 ghost use mathlib.Core.List.{[], _∷_, _++_};
 ghost use lib.ListN.{length};
-ghost use Rattle.drive_text.specs.Out.{out-of, Wrote};
+ghost use Rattle.drive_text.specs.Out.{Puts};
 ghost use Rattle.drive_text.specs.Text.{decimal, field, fields};
 
 // One byte.
 pub fn put_byte(out: &mut [u8], at: usize, b: u8) -> usize
-    ensures { λ r. ⌜ Wrote 1 (out-of (now (out .entry)) at) (out-of (now (out .exit)) r) (b ∷ []) ⌝ }
+    ensures { λ r. ⌜ Puts 1 out at r (b ∷ []) ⌝ }
 {
     if at < out.len() {
         out[at] = b;
@@ -19,7 +19,7 @@ pub fn put_byte(out: &mut [u8], at: usize, b: u8) -> usize
 
 // The bytes of a text.
 pub fn put_text(out: &mut [u8], at: usize, text: &[u8]) -> usize
-    ensures { λ r. ⌜ Wrote (length (now (text .entry))) (out-of (now (out .entry)) at) (out-of (now (out .exit)) r) (now (text .entry)) ⌝ }
+    ensures { λ r. ⌜ Puts (length (now (text .entry))) out at r (now (text .entry)) ⌝ }
 {
     let mut p = at;
     let mut i: usize = 0;
@@ -32,7 +32,7 @@ pub fn put_text(out: &mut [u8], at: usize, text: &[u8]) -> usize
 
 // A number in decimal.
 pub fn put_decimal(out: &mut [u8], at: usize, n: u64) -> usize
-    ensures { λ r. ⌜ Wrote 20 (out-of (now (out .entry)) at) (out-of (now (out .exit)) r) (decimal n) ⌝ }
+    ensures { λ r. ⌜ Puts 20 out at r (decimal n) ⌝ }
 {
     if n < 10 {
         return put_byte(out, at, 48 + n as u8);
@@ -43,7 +43,7 @@ pub fn put_decimal(out: &mut [u8], at: usize, n: u64) -> usize
 
 // A number after a space.
 pub fn put_field(out: &mut [u8], at: usize, n: u64) -> usize
-    ensures { λ r. ⌜ Wrote 21 (out-of (now (out .entry)) at) (out-of (now (out .exit)) r) (field n) ⌝ }
+    ensures { λ r. ⌜ Puts 21 out at r (field n) ⌝ }
 {
     let p = put_byte(out, at, 32);
     put_decimal(out, p, n)
@@ -51,7 +51,7 @@ pub fn put_field(out: &mut [u8], at: usize, n: u64) -> usize
 
 // A text, and a number after a space.
 pub fn put_named(out: &mut [u8], at: usize, text: &[u8], n: u64) -> usize
-    ensures { λ r. ⌜ Wrote (length (now (text .entry)) + 21) (out-of (now (out .entry)) at) (out-of (now (out .exit)) r) (now (text .entry) ++ field n) ⌝ }
+    ensures { λ r. ⌜ Puts (length (now (text .entry)) + 21) out at r (now (text .entry) ++ field n) ⌝ }
 {
     let p = put_text(out, at, text);
     put_field(out, p, n)
@@ -59,7 +59,7 @@ pub fn put_named(out: &mut [u8], at: usize, text: &[u8], n: u64) -> usize
 
 // Numbers, each after a space.
 pub fn put_numbers(out: &mut [u8], at: usize, numbers: &[u64]) -> usize
-    ensures { λ r. ⌜ Wrote (21 * length (now (numbers .entry))) (out-of (now (out .entry)) at) (out-of (now (out .exit)) r) (fields (now (numbers .entry))) ⌝ }
+    ensures { λ r. ⌜ Puts (21 * length (now (numbers .entry))) out at r (fields (now (numbers .entry))) ⌝ }
 {
     let mut p = at;
     let mut i: usize = 0;

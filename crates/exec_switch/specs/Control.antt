@@ -27,10 +27,14 @@ how-of (How.Value v) = machine.value v
 how-of (How.Raised e) = machine.raises e
 how-of (How.Inline c) = machine.inline (c .0)
 
--- a wait tells the calls that are pending
+-- who has control: a wait with these calls
+abbrev pub control-with : List ℕ → Control → machine.Control
+control-with cs (Control.Runs t h) = machine.runs (t .0) (how-of h)
+control-with cs Control.Waits = machine.waits cs
+
+-- a wait's calls are those pending in the store
 abbrev pub control-of : List ℕ → Control → machine.Control
-control-of os (Control.Runs t h) = machine.runs (t .0) (how-of h)
-control-of os Control.Waits = machine.waits (pending-calls-in os)
+control-of os c = control-with (pending-calls-in os) c
 
 -- a store, and who has control
 abbrev pub switched-of : Store → Control → machine.Switched

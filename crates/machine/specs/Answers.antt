@@ -1,5 +1,5 @@
 -- What document 01 calls each answer: its number in the table of refusals (0: accepted), its word, and its values in the order of the
--- driver's line. The contracts speak of an answer through these numbers.
+-- driver's line. The entries' contracts equate them too (`Lent`, `Read`).
 use Prim.Native.Nat.{ℕ}
 use mathlib.Core.Bool.{Bool, true, false}
 use mathlib.Core.List.{List, [], _∷_, _++_}

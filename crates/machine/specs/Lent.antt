@@ -9,12 +9,20 @@ use Rattle.asyncio.specs.Limits.{object-limit, tasks-length, objects-length, pl
 use Rattle.machine.specs.Store.{Store, fresh}
 use Rattle.machine.specs.Events.{Control, runs, waits}
 use Rattle.machine.specs.Machine.{Event, Answer, Step, step}
+use Rattle.machine.specs.Answers.{Numbers, answer-numbers}
 
--- The store and the call list after an event, and the answer.
+-- The store and the call list after an event; the answer, document 01's numbers for it, and how many calls a wait has (0: it is none).
 pub record Lent : Type 0 where
   pub store : Store
   pub list : List ℕ
   pub answer : Answer
+  pub numbers : Numbers
+  pub count : ℕ
+
+-- What a read answers, and document 01's numbers for it.
+pub record Read : Type 0 where
+  pub answer : Answer
+  pub numbers : Numbers
 
 -- the slices have their lengths
 unfoldable pub slices-right : Store → Bool
@@ -28,29 +36,41 @@ lengths-right s l = slices-right s && leb object-limit (length l)
 unfoldable pub write-calls : List ℕ → List ℕ → List ℕ
 write-calls cs l = cs ++ drop (length cs) l
 
--- a wait writes the list; any other answer keeps it
-unfoldable pub written-by : Control → List ℕ → List ℕ
-written-by (runs t h) l = l
-written-by (waits cs) l = write-calls cs l
+-- the calls of a wait
+unfoldable pub control-calls : Control → List ℕ
+control-calls (runs t h) = []
+control-calls (waits cs) = cs
 
--- by the answer
+-- by the answer: none unless it is a wait
+unfoldable pub answer-calls : Answer → List ℕ
+answer-calls (Answer.made o) = []
+answer-calls (Answer.called n) = []
+answer-calls (Answer.control c) = control-calls c
+answer-calls (Answer.awaited c n) = control-calls c
+answer-calls Answer.done = []
+answer-calls Answer.stalled = []
+answer-calls (Answer.finished v) = []
+answer-calls (Answer.finished-error e) = []
+answer-calls (Answer.shows x) = []
+answer-calls (Answer.is-eager b) = []
+answer-calls (Answer.refused n) = []
+
+-- a wait writes the list; any other answer keeps it
 unfoldable pub written : Answer → List ℕ → List ℕ
-written (Answer.made o) l = l
-written (Answer.called n) l = l
-written (Answer.control c) l = written-by c l
-written (Answer.awaited c n) l = written-by c l
-written Answer.done l = l
-written Answer.stalled l = l
-written (Answer.finished v) l = l
-written (Answer.finished-error e) l = l
-written (Answer.shows x) l = l
-written (Answer.is-eager b) l = l
-written (Answer.refused n) l = l
+written a l = write-calls (answer-calls a) l
+
+-- an answer as a caller gets it
+abbrev pub lent-as : Store → List ℕ → Answer → Lent
+lent-as s l a = record { store = s; list = l; answer = a; numbers = answer-numbers a; count = length (answer-calls a) }
+
+-- an answer as a reader gets it
+abbrev pub read-as : Answer → Read
+read-as a = record { answer = a; numbers = answer-numbers a }
 
 -- an event: all unchanged where a length is wrong; else the machine's step, and its wait written
 unfoldable pub lent-by : Bool → Store → List ℕ → Event → Lent
-lent-by false s l e = record { store = s; list = l; answer = Answer.refused 1 }
-lent-by true s l e = let x : Step = step s e in record { store = x .store; list = written (x .answer) l; answer = x .answer }
+lent-by false s l e = lent-as s l (Answer.refused 1)
+lent-by true s l e = let x : Step = step s e in lent-as (x .store) (written (x .answer) l) (x .answer)
 
 -- An event on lent memory.
 unfoldable pub lent-step : Store → List ℕ → Event → Lent

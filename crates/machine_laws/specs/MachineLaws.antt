@@ -31,9 +31,9 @@ use Rattle.machine.specs.Events.{start-by, start-task, activate-state, activate
 use Rattle.machine.specs.Events.{await-coroutine, await-external-future, await-gather, await-object, exec-get-awaitable, handle-task-completion}
 use Rattle.machine.specs.Machine.{Event, Answer, Step, switched, answer-await, end-main, task-completes, task-fails, repeat-wait, resume-with-resolved-futures}
 use Rattle.machine.specs.Machine.{accept, refusal, decide, step}
-use Rattle.machine.specs.Lent.{slices-right, lengths-right, write-calls, written-by, written, lent-by, lent-step}
+use Rattle.machine.specs.Lent.{slices-right, lengths-right, write-calls, control-calls, answer-calls, written, lent-as, lent-by, lent-step}
 use Rattle.machine_laws.specs.Views.{Sized}
-use Rattle.machine_laws.specs.Statements.{SameWords, NoneBelow, Ascending, CallList, control-calls, answer-calls}
+use Rattle.machine_laws.specs.Statements.{SameWords, NoneBelow, Ascending, CallList}
 use Rattle.machine_laws.specs.TestLaws.{and-true}
 use Rattle.machine_laws.specs.StoreLaws.{header-fits}
 
@@ -252,25 +252,10 @@ pub drop-write-calls : (cs l : List ℕ) → drop (length cs) (write-calls cs l)
 unfolding write-calls
 drop-write-calls cs l = drop-append-seam cs (drop (length cs) l)
 
-written-by-calls : (c : Control) (l : List ℕ) → written-by c l ≡ write-calls (control-calls c) l
-unfolding written-by write-calls control-calls
-written-by-calls (runs t h) l = refl
-written-by-calls (waits cs) l = refl
-
--- an answer writes its calls, and no other answer than a wait has any
+-- an answer writes its calls
 pub written-calls : (a : Answer) (l : List ℕ) → written a l ≡ write-calls (answer-calls a) l
-unfolding written write-calls answer-calls
-written-calls (Answer.made o) l = refl
-written-calls (Answer.called n) l = refl
-written-calls (Answer.control c) l = unfold write-calls in written-by-calls c l
-written-calls (Answer.awaited c n) l = unfold write-calls in written-by-calls c l
-written-calls Answer.done l = refl
-written-calls Answer.stalled l = refl
-written-calls (Answer.finished v) l = refl
-written-calls (Answer.finished-error e) l = refl
-written-calls (Answer.shows x) l = refl
-written-calls (Answer.is-eager b) l = refl
-written-calls (Answer.refused n) l = refl
+unfolding written
+written-calls a l = refl
 
 -- refusal 1 asks for the lengths
 pub slices-sized : (s : Store) → slices-right s ≡ true → Sized s
@@ -291,12 +276,12 @@ unfolding lengths-right
 lengths-sized s l e = slices-sized s (and-true (slices-right s) (leb 256 (length l)) e .0)
 
 module _ (s : Store) (l : List ℕ) (e : Event) where
-  pub lent-refused : lengths-right s l ≡ false → lent-step s l e ≡ record { store = s; list = l; answer = Answer.refused 1 }
+  pub lent-refused : lengths-right s l ≡ false → lent-step s l e ≡ lent-as s l (Answer.refused 1)
   unfolding lent-step lent-by
   lent-refused h = rw h
 
   pub lent-accepted : lengths-right s l ≡ true
-      → lent-step s l e ≡ record { store = step s e .store; list = written (step s e .answer) l; answer = step s e .answer }
+      → lent-step s l e ≡ lent-as (step s e .store) (written (step s e .answer) l) (step s e .answer)
   unfolding lent-step lent-by
   lent-accepted h = rw h
 
@@ -308,6 +293,14 @@ module _ (s : Store) (l : List ℕ) (e : Event) where
       by : (b : Bool) → lent-by b s l e .list ≡ write-calls (answer-calls (lent-by b s l e .answer)) l
       by true = unfold lent-by in written-calls (step s e .answer) l
       by false = unfold lent-by write-calls answer-calls in refl
+
+  pub lent-count : lent-step s l e .count ≡ length (answer-calls (lent-step s l e .answer))
+  unfolding lent-step
+  lent-count = by (lengths-right s l)
+    where
+      by : (b : Bool) → lent-by b s l e .count ≡ length (answer-calls (lent-by b s l e .answer))
+      by true = unfold lent-by in refl
+      by false = unfold lent-by in refl
 
   pub lent-calls : CallList (answer-calls (lent-step s l e .answer))
   unfolding lent-step

@@ -148,25 +148,6 @@ pub record CallList (cs : List ℕ) : Type 0 where
   pub few : length cs ≤ object-limit
   pub ascending : Ascending cs
 
--- the calls of a wait
-unfoldable pub control-calls : Control → List ℕ
-control-calls (runs t h) = []
-control-calls (waits cs) = cs
-
--- the calls that an answer writes
-unfoldable pub answer-calls : Answer → List ℕ
-answer-calls (Answer.made o) = []
-answer-calls (Answer.called n) = []
-answer-calls (Answer.control c) = control-calls c
-answer-calls (Answer.awaited c n) = control-calls c
-answer-calls Answer.done = []
-answer-calls Answer.stalled = []
-answer-calls (Answer.finished v) = []
-answer-calls (Answer.finished-error e) = []
-answer-calls (Answer.shows x) = []
-answer-calls (Answer.is-eager b) = []
-answer-calls (Answer.refused n) = []
-
 -- a wait's calls are the pending calls of the store that is left
 unfoldable pub SaysCalls : Store → Control → Type 0
 SaysCalls s (runs t h) = Unit {0}

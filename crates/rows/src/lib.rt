@@ -2,3 +2,4 @@
 // word stands (docs/LAYOUT.md).
 pub mod tables; // whole rows, loaded and stored
 pub mod parts; // one part of a row, read from its own words
+pub mod total; // parts read from a slice of any length

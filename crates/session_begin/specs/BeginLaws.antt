@@ -7,12 +7,6 @@ use native.Mathlib.Numerals.{add-one}
 use lib.ListN.{length, replicate, take, set}
 use lib.Seq.{take-suc-set, take-length}
 use Rattle.asyncio.specs.Limits.{tasks-length, objects-length, places-length}
-use Rattle.asyncio.specs.Numbers.{heap-id, task-id}
-use Rattle.asyncio.specs.declared.TaskState.{TaskState}
-use Rattle.asyncio.specs.declared.Awaiter.{Awaiter}
-use Rattle.asyncio.specs.declared.Task.{Task}
-use Rattle.asyncio.specs.declared.Moment.{Moment}
-use Rattle.asyncio.specs.declared.Header.{Header}
 use Rattle.rows.specs.Tables.{task-put, header-put}
 use Rattle.queue.specs.declared.ReadyQueue.{ReadyQueue}
 use Rattle.queue.specs.Queue.{empty-queue}
@@ -23,14 +17,7 @@ use Rattle.machine.specs.Lent.{slices-right, lent-begin}
 use Rattle.exec_switch.specs.Answer.{stepped-of}
 use Rattle.exec_switch.specs.declared.answer.Answer.{Answer}
 use Rattle.step_checks.specs.Lent.{are-slices}
-
--- the counts of a fresh session
-abbrev pub main-header : Header
-main-header = record { made = 0; used = 0; calls = 0; next = 1; moment = Moment.Running (task-id 0) }
-
--- main runs
-abbrev pub main-task : Task
-main-task = record { state = TaskState.Running; awaiter = Awaiter.Nobody; coroutine = heap-id 0 }
+use Rattle.session_begin.specs.Begin.{main-header, main-task}
 
 -- ---- words cleared one by one
 

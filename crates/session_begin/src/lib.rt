@@ -11,15 +11,9 @@ use exec_switch::answer::Stepped;
 use queue::ReadyQueue;
 use step_checks::lent::slices_right;
 ghost use mathlib.Core.Path.{_≡_};
-ghost use mathlib.Core.List.{List};
-ghost use Prim.Native.Nat.{ℕ};
 ghost use lib.ListN.{length, replicate};
-ghost use Rattle.asyncio.specs.Limits.{tasks-length, objects-length};
-ghost use Rattle.rows.specs.Tables.{task-put, header-put};
-ghost use Rattle.machine.specs.Store.{LogEntry, store-of};
-ghost use Rattle.machine.specs.Lent.{lent-begin};
-ghost use Rattle.exec_switch.specs.Answer.{stepped-of};
-ghost use Rattle.session_begin.specs.BeginLaws.{main-header, main-task};
+ghost use Rattle.contract.specs.Contract.{Lengths₂};
+ghost use Rattle.session_begin.specs.Begin.{StoresMain, LentBegin};
 
 // All words 0.
 fn clear(words: &mut [u64])
@@ -35,8 +29,8 @@ fn clear(words: &mut [u64])
 
 // Main runs, and nothing else exists.
 fn store_main(tasks: &mut [u64], objects: &mut [u64])
-    requires { ⌜ (length (now tasks) ≡ tasks-length) × (length (now objects) ≡ objects-length) ⌝ }
-    ensures { λ _. ⌜ (now (tasks .exit) ≡ task-put (now (tasks .entry)) 0 main-task) × (now (objects .exit) ≡ header-put (now (objects .entry)) main-header) ⌝ }
+    requires { ⌜ Lengths₂ tasks objects ⌝ }
+    ensures { λ _. ⌜ StoresMain tasks objects ⌝ }
 {
     rows::tables::store_header(
         objects,
@@ -45,12 +39,12 @@ fn store_main(tasks: &mut [u64], objects: &mut [u64])
             used: 0,
             calls: 0,
             next: 1,
-            moment: Moment::Running(TaskId(0)),
+            moment: Moment::Running(TaskId::MAIN),
         },
     );
     rows::tables::store_task(
         tasks,
-        TaskId(0),
+        TaskId::MAIN,
         Task {
             state: TaskState::Running,
             awaiter: Awaiter::Nobody,
@@ -59,14 +53,15 @@ fn store_main(tasks: &mut [u64], objects: &mut [u64])
     );
 }
 
-// A fresh session.
+// A fresh session: main runs, and nothing else exists, whatever the slices held. Done, with the queue to pass back. Refused with 1 where a slice has
+// another length than 4,104, 2,056 and 2,048; then nothing is changed.
 pub fn begin(
     tasks: &mut [u64],
     objects: &mut [u64],
     places: &mut [u64],
     queue: ReadyQueue,
 ) -> Stepped
-    ensures { λ r. ⌜ ((l : List LogEntry) → stepped-of (store-of (now (tasks .exit)) (now (objects .exit)) (now (places .exit)) (r .queue) (lent-begin (store-of (now (tasks .entry)) (now (objects .entry)) (now (places .entry)) queue l) .store .log)) (r .answer) ≡ lent-begin (store-of (now (tasks .entry)) (now (objects .entry)) (now (places .entry)) queue l)) ⌝ }
+    ensures { λ r. ⌜ LentBegin tasks objects places queue r ⌝ }
 {
     if slices_right(tasks, objects, places) {
         clear(tasks);

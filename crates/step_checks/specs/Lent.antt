@@ -1,11 +1,17 @@
 -- An event on lent memory, as the code answers it.
 use Prim.Native.Nat.{ℕ}
+use mathlib.Core.Path.{_≡_}
 use mathlib.Core.Bool.{Bool, true, false, _&&_}
 use mathlib.Core.List.{List}
 use lib.Dec.{eqb}
+use lib.ListN.{length}
+use denote.Ref.{now}
 use Rattle.asyncio.specs.Limits.{tasks-length, objects-length, places-length}
 use Rattle.machine.specs.Store.{Store}
-use Rattle.machine.specs.Lent.{Lent}
+use Rattle.machine.specs.Machine as machine
+use Rattle.machine.specs.Answers.{answer-numbers}
+use Rattle.machine.specs.Lent.{Lent, answer-calls, written}
+use Rattle.contract.specs.Contract.{Slice}
 use Rattle.exec_switch.specs.Answer.{answer-of}
 use Rattle.exec_switch.specs.declared.control.Control.{Control}
 use Rattle.exec_switch.specs.declared.answer.Answer.{Answer}
@@ -32,6 +38,14 @@ is-wait (Answer.FinishedError e) = false
 is-wait (Answer.Eager b) = false
 is-wait (Answer.Refused n) = false
 
--- a store, the list of calls, and the answer
-abbrev pub lent-of : Store → List ℕ → Answer → Lent
-lent-of s cs a = record { store = s; list = cs; answer = answer-of (s .objects) a }
+-- a store, the list of calls, the answer, and how many calls a wait wrote
+abbrev pub lent-of : Store → List ℕ → Answer → ℕ → Lent
+lent-of s cs a n =
+    let x : machine.Answer = answer-of (s .objects) a in
+    record { store = s; list = cs; answer = x; numbers = answer-numbers x; count = n }
+
+-- The call writes the calls of a wait at the list's front, as document 01 has it, and returns how many there are.
+abbrev pub WritesCalls : Slice → Slice → Answer → ℕ → Type 0
+WritesCalls objects calls answer r =
+    let x : machine.Answer = answer-of (now (objects .entry)) answer in
+    (now (calls .exit) ≡ written x (now (calls .entry))) × (r ≡ length (answer-calls x))

@@ -15,7 +15,7 @@ use Rattle.machine.specs.Sound.{sound}
 use Rattle.machine.specs.Events.{waits}
 use Rattle.machine.specs.Machine as machine
 use Rattle.machine.specs.Machine.{Event, Step, first-refusal, refusals, refusal, decide, step}
-use Rattle.machine.specs.Lent.{Lent, slices-right, lengths-right, write-calls, written-by, written, lent-by, lent-step, lent-read}
+use Rattle.machine.specs.Lent.{Lent, slices-right, lengths-right, write-calls, control-calls, answer-calls, written, lent-as, lent-by, lent-step}
 use Rattle.machine_laws.specs.TestLaws.{and-true}
 use Rattle.machine_laws.specs.SoundLaws.{refusals-forget}
 use Rattle.exec_switch.specs.Answer.{answer-of, stepped-of}
@@ -27,35 +27,36 @@ use Rattle.step_checks.specs.Lent.{are-slices, is-wait, lent-of}
 
 -- ---- the list of calls
 
-pub tells-wait : (os : List ℕ) (a : Answer) → is-wait a ≡ true → (l : List ℕ) → written (answer-of os a) l ≡ write-calls (pending-calls-in os) l
-unfolding written written-by
-tells-wait os (Answer.Made o) e l = absurd (true≢false (sym e))
-tells-wait os (Answer.Called n) e l = absurd (true≢false (sym e))
-tells-wait os (Answer.Switched (Control.Runs t h)) e l = absurd (true≢false (sym e))
-tells-wait os (Answer.Switched Control.Waits) e l = refl
-tells-wait os (Answer.Awaited (Control.Runs t h) n) e l = absurd (true≢false (sym e))
-tells-wait os (Answer.Awaited Control.Waits n) e l = refl
-tells-wait os Answer.Done e l = absurd (true≢false (sym e))
-tells-wait os Answer.Stalled e l = absurd (true≢false (sym e))
-tells-wait os (Answer.Finished v) e l = absurd (true≢false (sym e))
-tells-wait os (Answer.FinishedError x) e l = absurd (true≢false (sym e))
-tells-wait os (Answer.Eager b) e l = absurd (true≢false (sym e))
-tells-wait os (Answer.Refused n) e l = absurd (true≢false (sym e))
+pub wait-written : (os : List ℕ) (a : Answer) → is-wait a ≡ true → (l : List ℕ)
+    → (written (answer-of os a) l ≡ write-calls (pending-calls-in os) l) × (length (answer-calls (answer-of os a)) ≡ length (pending-calls-in os))
+unfolding written write-calls answer-calls control-calls
+wait-written os (Answer.Made o) e l = absurd (true≢false (sym e))
+wait-written os (Answer.Called n) e l = absurd (true≢false (sym e))
+wait-written os (Answer.Switched (Control.Runs t h)) e l = absurd (true≢false (sym e))
+wait-written os (Answer.Switched Control.Waits) e l = (refl, refl)
+wait-written os (Answer.Awaited (Control.Runs t h) n) e l = absurd (true≢false (sym e))
+wait-written os (Answer.Awaited Control.Waits n) e l = (refl, refl)
+wait-written os Answer.Done e l = absurd (true≢false (sym e))
+wait-written os Answer.Stalled e l = absurd (true≢false (sym e))
+wait-written os (Answer.Finished v) e l = absurd (true≢false (sym e))
+wait-written os (Answer.FinishedError x) e l = absurd (true≢false (sym e))
+wait-written os (Answer.Eager b) e l = absurd (true≢false (sym e))
+wait-written os (Answer.Refused n) e l = absurd (true≢false (sym e))
 
-pub tells-nothing : (os : List ℕ) (a : Answer) → is-wait a ≡ false → (l : List ℕ) → written (answer-of os a) l ≡ l
-unfolding written written-by
-tells-nothing os (Answer.Made o) e l = refl
-tells-nothing os (Answer.Called n) e l = refl
-tells-nothing os (Answer.Switched (Control.Runs t h)) e l = refl
-tells-nothing os (Answer.Switched Control.Waits) e l = absurd (true≢false e)
-tells-nothing os (Answer.Awaited (Control.Runs t h) n) e l = refl
-tells-nothing os (Answer.Awaited Control.Waits n) e l = absurd (true≢false e)
-tells-nothing os Answer.Done e l = refl
-tells-nothing os Answer.Stalled e l = refl
-tells-nothing os (Answer.Finished v) e l = refl
-tells-nothing os (Answer.FinishedError x) e l = refl
-tells-nothing os (Answer.Eager b) e l = refl
-tells-nothing os (Answer.Refused n) e l = refl
+pub none-written : (os : List ℕ) (a : Answer) → is-wait a ≡ false → (l : List ℕ) → (written (answer-of os a) l ≡ l) × (length (answer-calls (answer-of os a)) ≡ 0)
+unfolding written write-calls answer-calls control-calls
+none-written os (Answer.Made o) e l = (refl, refl)
+none-written os (Answer.Called n) e l = (refl, refl)
+none-written os (Answer.Switched (Control.Runs t h)) e l = (refl, refl)
+none-written os (Answer.Switched Control.Waits) e l = absurd (true≢false e)
+none-written os (Answer.Awaited (Control.Runs t h) n) e l = (refl, refl)
+none-written os (Answer.Awaited Control.Waits n) e l = absurd (true≢false e)
+none-written os Answer.Done e l = (refl, refl)
+none-written os Answer.Stalled e l = (refl, refl)
+none-written os (Answer.Finished v) e l = (refl, refl)
+none-written os (Answer.FinishedError x) e l = (refl, refl)
+none-written os (Answer.Eager b) e l = (refl, refl)
+none-written os (Answer.Refused n) e l = (refl, refl)
 
 -- ---- lengths
 
@@ -94,12 +95,12 @@ logs {x} {ts} {os} {ps} {q} l a r = ap (λ (y : Step). stepped-of (store-of ts o
 
 -- a step, and the list of calls after it
 abbrev lent-from : Step → List ℕ → Lent
-lent-from x cs = record { store = x .store; list = written (x .answer) cs; answer = x .answer }
+lent-from x cs = lent-as (x .store) (written (x .answer) cs) (x .answer)
 
 -- refusal 2, on lent memory
 refused-lent : (s : Store) (cs : List ℕ) → lent-from (record { store = forget s; answer = machine.Answer.refused 2 }) cs
-    ≡ lent-of (store-of (s .tasks) (s .objects) (s .places) (s .queue) []) cs (Answer.Refused 2)
-unfolding written forget
+    ≡ lent-of (store-of (s .tasks) (s .objects) (s .places) (s .queue) []) cs (Answer.Refused 2) 0
+unfolding written write-calls forget answer-calls
 refused-lent s cs = refl
 
 module _ (ts os ps : List ℕ) (q : ReadyQueue) (cs : List ℕ) (l : List LogEntry) (e : Event) where
@@ -110,8 +111,8 @@ module _ (ts os ps : List ℕ) (q : ReadyQueue) (cs : List ℕ) (l : List LogEnt
   clean = store-of ts os ps q []
 
   module _ {b : Bool} (g : b ≡ (are-slices (length ts) (length os) (length ps) && leb object-limit (length cs))) where
-    pub wrong-length : b ≡ false → lent-of (store-of ts os ps q (lent-step given cs e .store .log)) cs (Answer.Refused 1) ≡ lent-step given cs e
-    unfolding lent-step lengths-right slices-right lent-by
+    pub wrong-length : b ≡ false → lent-of (store-of ts os ps q (lent-step given cs e .store .log)) cs (Answer.Refused 1) 0 ≡ lent-step given cs e
+    unfolding lent-step lengths-right slices-right lent-by answer-calls
     wrong-length i = rw (sym g ∙ i)
 
     module _ (i : b ≡ true) {u : Bool} (h : u ≡ sound given) where
@@ -119,18 +120,20 @@ module _ (ts os ps : List ℕ) (q : ReadyQueue) (cs : List ℕ) (l : List LogEnt
       unfolding lent-step lengths-right slices-right lent-by
       right = rw (sym g ∙ i)
 
-      pub not-sound : u ≡ false → lent-of (store-of ts os ps q (lent-step given cs e .store .log)) cs (Answer.Refused 2) ≡ lent-step given cs e
+      pub not-sound : u ≡ false → lent-of (store-of ts os ps q (lent-step given cs e .store .log)) cs (Answer.Refused 2) 0 ≡ lent-step given cs e
       not-sound k =
-          let r : lent-step given cs e ≡ lent-of clean cs (Answer.Refused 2) = right ∙ ap (λ (z : Step). lent-from z cs) (step-unsound given e (sym h ∙ k)) ∙ refused-lent given cs in
-          ap (λ (x : Lent). lent-of (store-of ts os ps q (x .store .log)) cs (Answer.Refused 2)) r ∙ sym r
+          let r : lent-step given cs e ≡ lent-of clean cs (Answer.Refused 2) 0 = right ∙ ap (λ (z : Step). lent-from z cs) (step-unsound given e (sym h ∙ k)) ∙ refused-lent given cs in
+          ap (λ (x : Lent). lent-of (store-of ts os ps q (x .store .log)) cs (Answer.Refused 2) 0) r ∙ sym r
 
-      pub steps-on : u ≡ true → {ts′ os′ ps′ cs′ : List ℕ} {q′ : ReadyQueue} (a : Answer)
-          → stepped-of (store-of ts′ os′ ps′ q′ (checked clean e .store .log)) a ≡ checked clean e → cs′ ≡ written (answer-of os′ a) cs
-          → lent-of (store-of ts′ os′ ps′ q′ (lent-step given cs e .store .log)) cs′ a ≡ lent-step given cs e
-      steps-on k {ts′} {os′} {ps′} {cs′} {q′} a r w =
+      pub steps-on : u ≡ true → {ts′ os′ ps′ cs′ : List ℕ} {q′ : ReadyQueue} {n : ℕ} (a : Answer)
+          → stepped-of (store-of ts′ os′ ps′ q′ (checked clean e .store .log)) a ≡ checked clean e
+          → (cs′ ≡ written (answer-of os′ a) cs) × (n ≡ length (answer-calls (answer-of os′ a)))
+          → lent-of (store-of ts′ os′ ps′ q′ (lent-step given cs e .store .log)) cs′ a n ≡ lent-step given cs e
+      steps-on k {ts′} {os′} {ps′} {cs′} {q′} {n} a r w =
           let f : forget given ≡ clean = unfold forget in refl in
           let s : step given e ≡ checked clean e = step-checked given e (sym h ∙ k) ∙ ap (λ (z : Store). checked z e) f in
           let x : lent-step given cs e ≡ lent-from (checked clean e) cs = right ∙ ap (λ (z : Step). lent-from z cs) s in
-          ap (λ (z : Lent). lent-of (store-of ts′ os′ ps′ q′ (z .store .log)) cs′ a) x
-          ∙ ap (λ (c : List ℕ). lent-of (store-of ts′ os′ ps′ q′ (checked clean e .store .log)) c a) w
+          ap (λ (z : Lent). lent-of (store-of ts′ os′ ps′ q′ (z .store .log)) cs′ a n) x
+          ∙ ap (λ (c : List ℕ). lent-of (store-of ts′ os′ ps′ q′ (checked clean e .store .log)) c a n) (w .0)
+          ∙ ap (λ (m : ℕ). lent-of (store-of ts′ os′ ps′ q′ (checked clean e .store .log)) (written (answer-of os′ a) cs) a m) (w .1)
           ∙ ap (λ (z : Step). lent-from z cs) r ∙ sym x

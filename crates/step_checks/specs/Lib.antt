@@ -4,4 +4,3 @@ pub mod TestLaws
 pub mod StepLaws
 pub mod Lent
 pub mod LentLaws
-pub mod KeptListLaws

@@ -9,9 +9,7 @@ ghost use Prim.Native.Nat.{ℕ, _≤_};
 ghost use lib.Dec.{leb};
 ghost use lib.ListN.{length};
 ghost use Rattle.asyncio.specs.Limits.{object-limit, objects-length};
-ghost use Rattle.machine.specs.Lent.{written};
-ghost use Rattle.exec_switch.specs.Answer.{answer-of};
-ghost use Rattle.step_checks.specs.Lent.{is-wait, are-slices};
+ghost use Rattle.step_checks.specs.Lent.{is-wait, are-slices, WritesCalls};
 
 // Have the slices of the store their lengths?
 pub fn slices_right(tasks: &[u64], objects: &[u64], places: &[u64]) -> bool
@@ -60,12 +58,14 @@ fn is_wait(answer: Answer) -> bool
     }
 }
 
-// A wait writes the pending calls at the list's front. After any other answer the list keeps its contents.
-pub fn tell(objects: &[u64], calls: &mut [u64], answer: Answer)
+// A wait writes the pending calls at the list's front, and it is told how many there are. After any other answer the list keeps its contents, and
+// there are 0.
+pub fn write_calls(objects: &[u64], calls: &mut [u64], answer: Answer) -> usize
     requires { ⌜ (length (now objects) ≡ objects-length) × (object-limit ≤ length (now calls)) ⌝ }
-    ensures { λ _. ⌜ now (calls .exit) ≡ written (answer-of (now (objects .entry)) answer) (now (calls .entry)) ⌝ }
+    ensures { λ r. ⌜ WritesCalls objects calls answer r ⌝ }
 {
     if is_wait(answer) {
-        pending_call_ids(objects, calls);
+        return pending_call_ids(objects, calls);
     }
+    0
 }

@@ -1,2 +1,3 @@
+pub mod LentStep
 pub mod EventOf
 pub mod SoundStepLaws

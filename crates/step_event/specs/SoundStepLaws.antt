@@ -9,7 +9,7 @@ use Rattle.queue.specs.declared.ReadyQueue.{ReadyQueue}
 use Rattle.machine.specs.Store.{Store, LogEntry, store-of, forget}
 use Rattle.machine.specs.Sound.{sound}
 use Rattle.machine.specs.Machine.{Event}
-use Rattle.machine.specs.Lent.{slices-right, lengths-right, written, lent-step}
+use Rattle.machine.specs.Lent.{slices-right, lengths-right, answer-calls, written, lent-step}
 use Rattle.machine_laws.specs.TestLaws.{and-true}
 use Rattle.machine_laws.specs.SoundLaws.{sound-forget}
 use Rattle.exec_switch.specs.Answer.{answer-of, stepped-of}
@@ -35,8 +35,9 @@ module _ (ts os ps : List ℕ) (q : ReadyQueue) where
       sym (sound-forget (store-of ts os ps q l)) ∙ rw f k
 
   pub steps-soundly : (cs : List ℕ) (l : List LogEntry) (e : Event) → lengths-right (store-of ts os ps q []) cs ≡ true → sound (store-of ts os ps q []) ≡ true
-      → {ts′ os′ ps′ cs′ : List ℕ} {q′ : ReadyQueue} (a : Answer)
-      → stepped-of (store-of ts′ os′ ps′ q′ (checked (store-of ts os ps q []) e .store .log)) a ≡ checked (store-of ts os ps q []) e → cs′ ≡ written (answer-of os′ a) cs
-      → lent-of (store-of ts′ os′ ps′ q′ (lent-step (store-of ts os ps q l) cs e .store .log)) cs′ a ≡ lent-step (store-of ts os ps q l) cs e
+      → {ts′ os′ ps′ cs′ : List ℕ} {q′ : ReadyQueue} {n : ℕ} (a : Answer)
+      → stepped-of (store-of ts′ os′ ps′ q′ (checked (store-of ts os ps q []) e .store .log)) a ≡ checked (store-of ts os ps q []) e
+      → (cs′ ≡ written (answer-of os′ a) cs) × (n ≡ length (answer-calls (answer-of os′ a)))
+      → lent-of (store-of ts′ os′ ps′ q′ (lent-step (store-of ts os ps q l) cs e .store .log)) cs′ a n ≡ lent-step (store-of ts os ps q l) cs e
   unfolding lengths-right slices-right
   steps-soundly cs l e i k a r w = steps-on ts os ps q cs l e refl i refl (sound-logged k l) a r w

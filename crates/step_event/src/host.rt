@@ -8,21 +8,17 @@ use queue::ReadyQueue;
 use step_checks::refusals::any_bad;
 use step_checks::refusals::any_unknown;
 ghost use mathlib.Core.Path.{_≡_};
-ghost use mathlib.Core.List.{List};
-ghost use Prim.Native.Nat.{ℕ};
-ghost use lib.ListN.{length};
-ghost use Rattle.asyncio.specs.Limits.{tasks-length, objects-length, places-length};
 ghost use Rattle.rows.specs.Tables.{header-at};
-ghost use Rattle.machine.specs.Store.{LogEntry, store-of};
 ghost use Rattle.machine.specs.Sound.{is-ended};
 ghost use Rattle.machine.specs.Machine.{Event};
-ghost use Rattle.exec_switch.specs.Answer.{stepped-of};
+ghost use Rattle.contract.specs.Contract.{ObjectsLength, Lengths, Lengths₂};
+ghost use Rattle.exec_switch.specs.Answer.{Answers, AnswersKeepingPlaces};
 ghost use Rattle.exec_futures.specs.Results.{results-in};
 ghost use Rattle.step_checks.specs.Checked.{checked};
 
 // Has the session ended?
 fn is_ended(objects: &[u64]) -> bool
-    requires { ⌜ length (now objects) ≡ objects-length ⌝ }
+    requires { ⌜ ObjectsLength objects ⌝ }
     ensures { λ r. ⌜ r ≡ is-ended (header-at (now (objects .entry)) .moment) ⌝ }
 {
     let header = rows::tables::load_header(objects);
@@ -42,8 +38,8 @@ pub fn results(
     queue: ReadyQueue,
     results: &[u8],
 ) -> Stepped
-    requires { ⌜ (length (now tasks) ≡ tasks-length) × (length (now objects) ≡ objects-length) × (length (now places) ≡ places-length) ⌝ }
-    ensures { λ r. ⌜ ((l : List LogEntry) → stepped-of (store-of (now (tasks .exit)) (now (objects .exit)) (now (places .exit)) (r .queue) (checked (store-of (now (tasks .entry)) (now (objects .entry)) (now (places .entry)) queue l) (Event.results (results-in (now (results .entry)))) .store .log)) (r .answer) ≡ checked (store-of (now (tasks .entry)) (now (objects .entry)) (now (places .entry)) queue l) (Event.results (results-in (now (results .entry))))) ⌝ }
+    requires { ⌜ Lengths tasks objects places ⌝ }
+    ensures { λ r. ⌜ Answers tasks objects places queue (λ s. checked s (Event.results (results-in (now (results .entry))))) r ⌝ }
 {
     if is_ended(objects) {
         return Stepped {
@@ -78,8 +74,8 @@ pub fn results(
 
 // The host hands control back.
 pub fn resume(tasks: &mut [u64], objects: &mut [u64], queue: ReadyQueue) -> Stepped
-    requires { ⌜ (length (now tasks) ≡ tasks-length) × (length (now objects) ≡ objects-length) ⌝ }
-    ensures { λ r. ⌜ ((ps : List ℕ) (l : List LogEntry) → length ps ≡ places-length → stepped-of (store-of (now (tasks .exit)) (now (objects .exit)) ps (r .queue) (checked (store-of (now (tasks .entry)) (now (objects .entry)) ps queue l) Event.resume .store .log)) (r .answer) ≡ checked (store-of (now (tasks .entry)) (now (objects .entry)) ps queue l) Event.resume) ⌝ }
+    requires { ⌜ Lengths₂ tasks objects ⌝ }
+    ensures { λ r. ⌜ AnswersKeepingPlaces tasks objects queue (λ s. checked s Event.resume) r ⌝ }
 {
     let header = rows::tables::load_header(objects);
     let moment = header.moment;

@@ -5,20 +5,15 @@ pub mod running; // the running task's: await, complete, fail
 
 use asyncio::OptionValue;
 use asyncio::Value;
+use exec_switch::answer::Answer;
 use exec_switch::answer::Stepped;
 use queue::ReadyQueue;
-ghost use mathlib.Core.Path.{_≡_};
-ghost use mathlib.Core.Bool.{true};
-ghost use mathlib.Core.List.{List, []};
-ghost use lib.ListN.{length};
-ghost use Rattle.asyncio.specs.Limits.{tasks-length, objects-length, places-length};
-ghost use Rattle.machine.specs.Store.{LogEntry, store-of};
-ghost use Rattle.machine.specs.Sound.{sound};
-ghost use Rattle.machine.specs.Lent.{lengths-right, lent-step};
-ghost use Rattle.exec_switch.specs.Answer.{stepped-of};
+ghost use Rattle.contract.specs.Contract.{Lengths};
+ghost use Rattle.contract.specs.Entries.{SoundMemory};
+ghost use Rattle.exec_switch.specs.Answer.{Answers};
 ghost use Rattle.step_checks.specs.Checked.{checked};
-ghost use Rattle.step_checks.specs.Lent.{lent-of};
 ghost use Rattle.step_event.specs.EventOf.{event-of};
+ghost use Rattle.step_event.specs.LentStep.{LentStep};
 
 // The events of kinds 1 to 10. The items of a gather and the results of a batch stand in slices of their own.
 pub enum Event {
@@ -34,6 +29,13 @@ pub enum Event {
     Resume,
 }
 
+// What a caller gets: the queue to pass back at the next call, the answer, and of a wait how many calls stand at the front of the list (0: it is no wait).
+pub struct Answered {
+    pub queue: ReadyQueue,
+    pub answer: Answer,
+    pub calls: usize,
+}
+
 // The event with its refusals from 3 on, in the order of document 01's table.
 fn checked(
     tasks: &mut [u64],
@@ -44,8 +46,8 @@ fn checked(
     items: &[u16],
     results: &[u8],
 ) -> Stepped
-    requires { ⌜ (length (now tasks) ≡ tasks-length) × (length (now objects) ≡ objects-length) × (length (now places) ≡ places-length) ⌝ }
-    ensures { λ r. ⌜ ((l : List LogEntry) → stepped-of (store-of (now (tasks .exit)) (now (objects .exit)) (now (places .exit)) (r .queue) (checked (store-of (now (tasks .entry)) (now (objects .entry)) (now (places .entry)) queue l) (event-of (now (items .entry)) (now (results .entry)) event) .store .log)) (r .answer) ≡ checked (store-of (now (tasks .entry)) (now (objects .entry)) (now (places .entry)) queue l) (event-of (now (items .entry)) (now (results .entry)) event)) ⌝ }
+    requires { ⌜ Lengths tasks objects places ⌝ }
+    ensures { λ r. ⌜ Answers tasks objects places queue (λ s. checked s (event-of (now (items .entry)) (now (results .entry)) event)) r ⌝ }
 {
     match event {
         Event::Coroutine(f) => step_checks::make::coroutine(objects, queue, f),
@@ -61,7 +63,8 @@ fn checked(
     }
 }
 
-// The event on a sound store of the right lengths, which a session has (`drive_laws`): no check of it is made.
+// The event on a sound store of the right lengths, which a session has (`drive_laws`): no check of it is made. Refusals are those from 3 on; a
+// refused event leaves everything as it was.
 pub fn step(
     tasks: &mut [u64],
     objects: &mut [u64],
@@ -71,16 +74,17 @@ pub fn step(
     event: Event,
     items: &[u16],
     results: &[u8],
-) -> Stepped
-    requires { ⌜ (lengths-right (store-of (now tasks) (now objects) (now places) queue []) (now calls) ≡ true) × (sound (store-of (now tasks) (now objects) (now places) queue []) ≡ true) ⌝ }
-    ensures { λ r. ⌜ ((l : List LogEntry) → lent-of (store-of (now (tasks .exit)) (now (objects .exit)) (now (places .exit)) (r .queue) (lent-step (store-of (now (tasks .entry)) (now (objects .entry)) (now (places .entry)) queue l) (now (calls .entry)) (event-of (now (items .entry)) (now (results .entry)) event) .store .log)) (now (calls .exit)) (r .answer) ≡ lent-step (store-of (now (tasks .entry)) (now (objects .entry)) (now (places .entry)) queue l) (now (calls .entry)) (event-of (now (items .entry)) (now (results .entry)) event)) ⌝ }
+) -> Answered
+    requires { ⌜ SoundMemory tasks objects places calls queue ⌝ }
+    ensures { λ r. ⌜ LentStep tasks objects places calls queue (event-of (now (items .entry)) (now (results .entry)) event) r ⌝ }
 {
     let stepped = checked(tasks, objects, places, queue, event, items, results);
     let after = stepped.queue;
     let answer = stepped.answer;
-    step_checks::lent::tell(objects, calls, answer);
-    Stepped {
+    let count = step_checks::lent::write_calls(objects, calls, answer);
+    Answered {
         queue: after,
         answer,
+        calls: count,
     }
 }

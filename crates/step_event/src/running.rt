@@ -9,14 +9,9 @@ use queue::ReadyQueue;
 use sound_rows::values::value_known;
 use step_checks::refusals::Turn;
 use step_checks::refusals::running;
-ghost use mathlib.Core.Path.{_≡_};
-ghost use mathlib.Core.List.{List};
-ghost use Prim.Native.Nat.{ℕ, _<_, _≤_};
-ghost use lib.ListN.{length};
-ghost use Rattle.asyncio.specs.Limits.{tasks-length, objects-length, places-length};
-ghost use Rattle.machine.specs.Store.{LogEntry, store-of};
 ghost use Rattle.machine.specs.Machine.{Event};
-ghost use Rattle.exec_switch.specs.Answer.{stepped-of};
+ghost use Rattle.contract.specs.Contract.{Lengths, Lengths₂};
+ghost use Rattle.exec_switch.specs.Answer.{Answers, AnswersKeepingPlaces};
 ghost use Rattle.step_checks.specs.Checked.{checked};
 
 // The running task awaits an object.
@@ -27,8 +22,8 @@ pub fn await_object(
     queue: ReadyQueue,
     o: u16,
 ) -> Stepped
-    requires { ⌜ (length (now tasks) ≡ tasks-length) × (length (now objects) ≡ objects-length) × (length (now places) ≡ places-length) ⌝ }
-    ensures { λ r. ⌜ ((l : List LogEntry) → stepped-of (store-of (now (tasks .exit)) (now (objects .exit)) (now (places .exit)) (r .queue) (checked (store-of (now (tasks .entry)) (now (objects .entry)) (now (places .entry)) queue l) (Event.await o) .store .log)) (r .answer) ≡ checked (store-of (now (tasks .entry)) (now (objects .entry)) (now (places .entry)) queue l) (Event.await o)) ⌝ }
+    requires { ⌜ Lengths tasks objects places ⌝ }
+    ensures { λ r. ⌜ Answers tasks objects places queue (λ s. checked s (Event.await o)) r ⌝ }
 {
     let turn = running(objects);
     match turn {
@@ -64,8 +59,8 @@ pub fn complete(
     queue: ReadyQueue,
     value: Value,
 ) -> Stepped
-    requires { ⌜ (length (now tasks) ≡ tasks-length) × (length (now objects) ≡ objects-length) × (length (now places) ≡ places-length) ⌝ }
-    ensures { λ r. ⌜ ((l : List LogEntry) → stepped-of (store-of (now (tasks .exit)) (now (objects .exit)) (now (places .exit)) (r .queue) (checked (store-of (now (tasks .entry)) (now (objects .entry)) (now (places .entry)) queue l) (Event.complete value) .store .log)) (r .answer) ≡ checked (store-of (now (tasks .entry)) (now (objects .entry)) (now (places .entry)) queue l) (Event.complete value)) ⌝ }
+    requires { ⌜ Lengths tasks objects places ⌝ }
+    ensures { λ r. ⌜ Answers tasks objects places queue (λ s. checked s (Event.complete value)) r ⌝ }
 {
     let turn = running(objects);
     match turn {
@@ -88,8 +83,8 @@ pub fn complete(
 
 // The running task fails with the error script n.
 pub fn fail(tasks: &mut [u64], objects: &mut [u64], queue: ReadyQueue, n: u32) -> Stepped
-    requires { ⌜ (length (now tasks) ≡ tasks-length) × (length (now objects) ≡ objects-length) ⌝ }
-    ensures { λ r. ⌜ ((ps : List ℕ) (l : List LogEntry) → length ps ≡ places-length → stepped-of (store-of (now (tasks .exit)) (now (objects .exit)) ps (r .queue) (checked (store-of (now (tasks .entry)) (now (objects .entry)) ps queue l) (Event.fail n) .store .log)) (r .answer) ≡ checked (store-of (now (tasks .entry)) (now (objects .entry)) ps queue l) (Event.fail n)) ⌝ }
+    requires { ⌜ Lengths₂ tasks objects ⌝ }
+    ensures { λ r. ⌜ AnswersKeepingPlaces tasks objects queue (λ s. checked s (Event.fail n)) r ⌝ }
 {
     let turn = running(objects);
     match turn {

@@ -50,30 +50,38 @@ module _ (ts os ps : List ℕ) (q : ReadyQueue) (l : List LogEntry) (e : Event) 
     pub read-unsound : u ≡ false → machine.Answer.refused 2 ≡ lent-read given e .answer
     read-unsound k = sym (ap (λ (x : Step). x .answer) (reads ∙ step-unsound given e (sym h ∙ k)))
 
+    -- of a sound store it is what the checks from 3 on leave
     read-checked : u ≡ true → lent-read given e ≡ checked clean e
     read-checked k =
         let f : forget given ≡ clean = unfold forget in refl in
         reads ∙ step-checked given e (sym h ∙ k) ∙ ap (λ (z : Store). checked z e) f
 
-    pub read-refused : u ≡ true → (n : ℕ) → first-refusal (refusals clean e) ≡ suc n → machine.Answer.refused (suc n) ≡ lent-read given e .answer
-    read-refused k n r = ap (λ (x : Step). x .answer) (refuses clean e n r) ∙ sym (ap (λ (x : Step). x .answer) (read-checked k))
+    pub read-sound : u ≡ true → {a : machine.Answer} → a ≡ checked clean e .answer → a ≡ lent-read given e .answer
+    read-sound k r = r ∙ sym (ap (λ (x : Step). x .answer) (read-checked k))
 
-    pub read-done : u ≡ true → first-refusal (refusals clean e) ≡ 0 → accept clean e .answer ≡ lent-read given e .answer
-    read-done k r = sym (ap (λ (x : Step). x .answer) (read-checked k ∙ accepts clean e r))
+-- ---- the checks from 3 on
 
-module _ (ts os ps : List ℕ) (q : ReadyQueue) (o : ℕ) {v : Header} (g : v ≡ header-at os) where
-  pub show-unmade : v .made ≤ o → first-refusal (refusals (store-of ts os ps q []) (Event.show o)) ≡ 5
+read-refused : (s : Store) (e : Event) (n : ℕ) → first-refusal (refusals s e) ≡ suc n → machine.Answer.refused (suc n) ≡ checked s e .answer
+read-refused s e n r = ap (λ (x : Step). x .answer) (refuses s e n r)
+
+pub read-done : (s : Store) (e : Event) → first-refusal (refusals s e) ≡ 0 → accept s e .answer ≡ checked s e .answer
+read-done s e r = sym (ap (λ (x : Step). x .answer) (accepts s e r))
+
+module _ (ts os ps : List ℕ) (q : ReadyQueue) (l : List LogEntry) (o : ℕ) {v : Header} (g : v ≡ header-at os) where
+  pub show-unmade : v .made ≤ o → machine.Answer.refused 5 ≡ checked (store-of ts os ps q l) (Event.show o) .answer
   unfolding refusals unmade header
-  show-unmade i = let k : header-at os .made ≤ o = rw g at i in met 5 (leb (header-at os .made) o) [] (le-leb (header-at os .made) o k)
+  show-unmade i =
+      let k : header-at os .made ≤ o = rw g at i in
+      read-refused (store-of ts os ps q l) (Event.show o) 4 (met 5 (leb (header-at os .made) o) [] (le-leb (header-at os .made) o k))
 
-  pub show-made : o < v .made → first-refusal (refusals (store-of ts os ps q []) (Event.show o)) ≡ 0
+  pub show-made : o < v .made → first-refusal (refusals (store-of ts os ps q l) (Event.show o)) ≡ 0
   unfolding refusals unmade header
   show-made i = let k : o < header-at os .made = rw g at i in unmet 5 (leb (header-at os .made) o) [] (lt-leb (header-at os .made) o k) ∙ none-met
 
-pub show-gives : (ts os ps : List ℕ) (q : ReadyQueue) (o : ℕ) {x : Object} → x ≡ object-at os o → {y : machine.Shown} → y ≡ shown (store-of ts os ps q []) x
-    → machine.Answer.shows y ≡ accept (store-of ts os ps q []) (Event.show o) .answer
+pub show-gives : (ts os ps : List ℕ) (q : ReadyQueue) (l : List LogEntry) (o : ℕ) {x : Object} → x ≡ object-at os o
+    → {y : machine.Shown} → y ≡ shown (store-of ts os ps q l) x → machine.Answer.shows y ≡ accept (store-of ts os ps q l) (Event.show o) .answer
 unfolding accept object
-show-gives ts os ps q o e r = rw (← e, ← r)
+show-gives ts os ps q l o e r = rw (← e, ← r)
 
 pub eager-passes : (s : Store) → first-refusal (refusals s Event.eager) ≡ 0
 unfolding refusals

@@ -1,12 +1,20 @@
 -- What a read shows, as the code answers it.
+use mathlib.Core.Path.{_≡_}
 use Prim.Native.Nat.{ℕ, zero, suc, _+_}
 use mathlib.Core.List.{List, [], _∷_}
 use mathlib.Core.Option.{Option}
+use denote.Ref.{now}
 use Rattle.asyncio.specs.declared.Value.{Value}
 use Rattle.rows.specs.Tables.{place-at}
+use Rattle.queue.specs.declared.ReadyQueue.{ReadyQueue}
+use Rattle.machine.specs.Store.{LogEntry, store-of}
 use Rattle.machine.specs.Scheduler.{bit}
 use Rattle.machine.specs.Machine as machine
 use Rattle.machine.specs.Machine.{slot-value}
+use Rattle.contract.specs.Contract.{Slice}
+use Rattle.exec_switch.specs.Answer.{answer-of}
+use Rattle.exec_switch.specs.declared.answer.Answer.{Answer}
+use Rattle.step_checks.specs.Checked.{checked}
 use Rattle.step_read.specs.declared.Shown.{Shown}
 use Rattle.step_read.specs.declared.Reading.{Reading}
 
@@ -31,3 +39,14 @@ shown-of ps Shown.Nothing = machine.Shown.nothing
 abbrev pub show-answer : List ℕ → Reading → machine.Answer
 show-answer ps (Reading.Shows x) = machine.Answer.shows (shown-of ps x)
 show-answer ps (Reading.Refused n) = machine.Answer.refused n
+
+-- The call reads object o of a store that has these objects, whatever the rest of it is: its answer is what the checks from 3 on leave.
+abbrev pub ShowsChecked : Slice → ℕ → Reading → Type 0
+ShowsChecked objects o r =
+    (ts ps : List ℕ) (q : ReadyQueue) (l : List LogEntry) → show-answer ps r ≡ checked (store-of ts (now (objects .entry)) ps q l) (machine.Event.show o) .answer
+
+-- The same of eager, which looks at the queue too.
+abbrev pub EagerChecked : Slice → ReadyQueue → Answer → Type 0
+EagerChecked objects queue r =
+    (ts ps : List ℕ) (l : List LogEntry)
+    → answer-of (now (objects .entry)) r ≡ checked (store-of ts (now (objects .entry)) ps queue l) machine.Event.eager .answer

@@ -1,4 +1,4 @@
-// Reads of a sound store: show, eager. Their caller has one, and nothing is checked but 5.
+// Reads of a sound store: show, eager. Nothing is checked but 5, that the object is made.
 use asyncio::CoroutineState;
 use asyncio::Error;
 use asyncio::ExternalFutureState;
@@ -10,20 +10,13 @@ use exec_switch::answer::Answer;
 use queue::ReadyQueue;
 use scheduler::cleanup::can_await_eagerly;
 ghost use mathlib.Core.Path.{_≡_};
-ghost use mathlib.Core.Bool.{true};
-ghost use mathlib.Core.List.{List};
-ghost use Prim.Native.Nat.{ℕ};
-ghost use lib.ListN.{length};
-ghost use Rattle.asyncio.specs.Limits.{objects-length};
 ghost use Rattle.asyncio.specs.declared.CallId.{CallId};
-ghost use Rattle.machine.specs.Store.{Store, LogEntry, store-of};
-ghost use Rattle.machine.specs.Machine.{Event, shown};
-ghost use Rattle.machine.specs.Sound.{sound};
-ghost use Rattle.machine.specs.Lent.{slices-right, lent-read};
-ghost use Rattle.exec_switch.specs.Answer.{answer-of};
-ghost use Rattle.step_read.specs.Reads.{shown-of, show-answer};
+ghost use Rattle.machine.specs.Store.{Store};
+ghost use Rattle.machine.specs.Machine.{shown};
+ghost use Rattle.contract.specs.Contract.{ObjectsLength};
+ghost use Rattle.step_read.specs.Reads.{shown-of, ShowsChecked, EagerChecked};
 
-// What a read of an object shows. The places of a gather are `count` from `first` on; bit i of `waiting` says that place i is open.
+// What a read of an object shows. The places of a gather are `count` from `first` on; bit i of `open_places` says that place i is open.
 pub enum Shown {
     Coroutine {
         state: CoroutineState,
@@ -36,7 +29,7 @@ pub enum Shown {
     GatherAwaited {
         first: u16,
         count: u16,
-        waiting: u32,
+        open_places: u32,
     },
     GatherCompleted {
         first: u16,
@@ -76,7 +69,7 @@ fn show_gather(first: u16, count: u16, state: GatherState) -> Shown
         } => Shown::GatherAwaited {
             first,
             count,
-            waiting: open_places,
+            open_places,
         },
         GatherState::Completed => Shown::GatherCompleted { first, count },
         GatherState::Failed(e) => Shown::GatherFailed(e),
@@ -98,23 +91,23 @@ fn show_object(x: Object) -> Shown
     }
 }
 
-// A read of object `o` of a sound store.
-pub fn show_sound(objects: &[u64], o: u16) -> Reading
-    requires { ⌜ length (now objects) ≡ objects-length ⌝ }
-    ensures { λ r. ⌜ ((ts ps : List ℕ) (q : ReadyQueue) (l : List LogEntry) → slices-right (store-of ts (now (objects .entry)) ps q l) ≡ true → sound (store-of ts (now (objects .entry)) ps q l) ≡ true → show-answer ps r ≡ lent-read (store-of ts (now (objects .entry)) ps q l) (Event.show o) .answer) ⌝ }
+// What object `o` shows, or 5.
+pub fn show(objects: &[u64], o: u16) -> Reading
+    requires { ⌜ ObjectsLength objects ⌝ }
+    ensures { λ r. ⌜ ShowsChecked objects o r ⌝ }
 {
     let header = rows::tables::load_header(objects);
     if header.made <= o {
         return Reading::Refused(5);
     }
-    let x = rows::tables::load_object(objects, HeapId(o));
+    let x = rows::tables::load_object(objects, HeapId::new(o));
     Reading::Shows(show_object(x))
 }
 
-// May the host answer a call at once? Of a sound store.
-pub fn eager_sound(objects: &[u64], queue: ReadyQueue) -> Answer
-    requires { ⌜ length (now objects) ≡ objects-length ⌝ }
-    ensures { λ r. ⌜ ((ts ps : List ℕ) (l : List LogEntry) → slices-right (store-of ts (now (objects .entry)) ps queue l) ≡ true → sound (store-of ts (now (objects .entry)) ps queue l) ≡ true → answer-of (now (objects .entry)) r ≡ lent-read (store-of ts (now (objects .entry)) ps queue l) Event.eager .answer) ⌝ }
+// May the host answer a call at once?
+pub fn eager(objects: &[u64], queue: ReadyQueue) -> Answer
+    requires { ⌜ ObjectsLength objects ⌝ }
+    ensures { λ r. ⌜ EagerChecked objects queue r ⌝ }
 {
     Answer::Eager(can_await_eagerly(objects, queue))
 }

@@ -4,40 +4,29 @@ use denote.Ref.{now}
 use Rattle.machine.specs.Machine.{Event}
 use Rattle.machine.specs.Lent.{slices-right}
 use Rattle.step_checks.specs.LentLaws.{slices-have}
-use Rattle.step_read.specs.ReadLaws.{read-length, read-unsound}
+use Rattle.step_read.specs.ReadLaws.{read-length, read-unsound, read-sound}
 use borrow.Author.Needs.{needs}
 use Rattle.session_reads.proofs.eager.Statement.{statement}
 use Rattle.session_reads.proofs.eager.Tie as tie
-use Rattle.session_reads.proofs.eager.Reads as reads
-use Rattle.session_reads.proofs.eager.Lts as lts
-use Rattle.step_checks.proofs.lent.slices_right.Reads as slices-right-reads
-use Rattle.step_read.proofs.eager_sound.Reads as eager-sound-reads
-use Rattle.sound.proofs.is_sound.Reads as is-sound-reads
 
--- src/lib.rt:141:8
 slices-right-requires : tie.Need-slices-right-requires
 slices-right-requires c κs = search needs
 
--- src/lib.rt:142:12
 is-sound-requires : tie.Need-is-sound-requires
 is-sound-requires c κs = let h = slices-have (length (now (c .before .before .before .before .before .args .tasks))) (length (now (c .before .before .before .before .before .args .objects))) (length (now (c .before .before .before .before .before .args .places))) (c .before .slices-right .ensures) (c .if1 .taken) in (h .0, h .1, h .2)
 
--- src/lib.rt:143:13
-eager-sound-requires : tie.Need-eager-sound-requires
-eager-sound-requires c κs = let h = slices-have (length (now (c .before .before .before .before .before .before .before .args .tasks))) (length (now (c .before .before .before .before .before .before .before .args .objects))) (length (now (c .before .before .before .before .before .before .before .args .places))) (c .before .before .before .slices-right .ensures) (c .before .before .if1 .taken) in h .1
+eager-requires : tie.Need-eager-requires
+eager-requires c κs = let h = slices-have (length (now (c .before .before .before .before .before .before .before .args .tasks))) (length (now (c .before .before .before .before .before .before .before .args .objects))) (length (now (c .before .before .before .before .before .before .before .args .places))) (c .before .before .before .slices-right .ensures) (c .before .before .if1 .taken) in h .1
 
--- src/lib.rt:143:13
 returns : tie.Need-returns
 unfolding slices-right
-returns c = λ l. c .eager-sound .ensures (now (c .before .before .before .before .before .before .before .before .args .tasks)) (now (c .before .before .before .before .before .before .before .before .args .places)) l (sym (c .before .before .before .before .slices-right .ensures) ∙ c .before .before .before .if1 .taken) (sym (c .before .before .is-sound .ensures l) ∙ c .before .if2 .taken)
+returns c = λ l. ap read-as (read-sound (now (c .before .before .before .before .before .before .before .before .args .tasks)) (now (c .before .before .before .before .before .before .before .before .args .objects)) (now (c .before .before .before .before .before .before .before .before .args .places)) (c .before .before .before .before .before .before .before .before .args .queue) l Event.eager (c .before .before .before .before .slices-right .ensures) (c .before .before .before .if1 .taken) (c .before .before .is-sound .ensures l) (c .before .if2 .taken) (c .eager .ensures (now (c .before .before .before .before .before .before .before .before .args .tasks)) (now (c .before .before .before .before .before .before .before .before .args .places)) []))
 
--- src/lib.rt:145:9
 returns-2 : tie.Need-returns-2
-returns-2 c = λ l. read-unsound (now (c .before .before .before .before .before .before .before .args .tasks)) (now (c .before .before .before .before .before .before .before .args .objects)) (now (c .before .before .before .before .before .before .before .args .places)) (c .before .before .before .before .before .before .before .args .queue) l Event.eager (c .before .before .before .slices-right .ensures) (c .before .before .if1 .taken) (c .before .is-sound .ensures l) (c .if2 .left)
+returns-2 c = λ l. ap read-as (read-unsound (now (c .before .before .before .before .before .before .before .args .tasks)) (now (c .before .before .before .before .before .before .before .args .objects)) (now (c .before .before .before .before .before .before .before .args .places)) (c .before .before .before .before .before .before .before .args .queue) l Event.eager (c .before .before .before .slices-right .ensures) (c .before .before .if1 .taken) (c .before .is-sound .ensures l) (c .if2 .left))
 
--- src/lib.rt:138:1
 returns-3 : tie.Need-returns-3
-returns-3 c = λ l. read-length (now (c .before .before .before .before .before .args .tasks)) (now (c .before .before .before .before .before .args .objects)) (now (c .before .before .before .before .before .args .places)) (c .before .before .before .before .before .args .queue) l Event.eager (c .before .slices-right .ensures) (c .if1 .left)
+returns-3 c = λ l. ap read-as (read-length (now (c .before .before .before .before .before .args .tasks)) (now (c .before .before .before .before .before .args .objects)) (now (c .before .before .before .before .before .args .places)) (c .before .before .before .before .before .args .queue) l Event.eager (c .before .slices-right .ensures) (c .if1 .left))
 
 pub eager-spec : {M : Type 1} → statement M
 eager-spec =
@@ -45,7 +34,7 @@ eager-spec =
     (tie.spec
     slices-right-requires
     is-sound-requires
-    eager-sound-requires
+    eager-requires
     returns
     returns-2
     returns-3)

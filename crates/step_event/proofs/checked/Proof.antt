@@ -4,212 +4,151 @@ use Rattle.step_checks.specs.LentLaws.{logs}
 use borrow.Author.Needs.{needs}
 use Rattle.step_event.proofs.checked.Statement.{statement}
 use Rattle.step_event.proofs.checked.Tie as tie
-use Rattle.step_event.proofs.checked.Reads as reads
-use Rattle.step_event.proofs.checked.Lts as lts
-use Rattle.step_checks.proofs.make.call.Reads as call-reads
-use Rattle.step_checks.proofs.make.coroutine.Reads as coroutine-reads
-use Rattle.step_checks.proofs.make.gather.Reads as gather-reads
-use Rattle.step_checks.proofs.make.pending.Reads as pending-reads
-use Rattle.step_checks.proofs.make.settled.Reads as settled-reads
-use Rattle.steps.proofs.running.await_object.Reads as await-object-reads
-use Rattle.steps.proofs.running.complete.Reads as complete-reads
-use Rattle.steps.proofs.running.fail.Reads as fail-reads
-use Rattle.steps.proofs.waiting.results.Reads as results-reads
-use Rattle.steps.proofs.waiting.resume.Reads as resume-reads
 
--- src/lib.rt:50:26
 enum-known-event : tie.Need-enum-known-event
 enum-known-event c = search needs
 
--- src/lib.rt:50:32
 coroutine-requires : tie.Need-coroutine-requires
 coroutine-requires c κs = search needs
 
--- src/lib.rt:51:45
 enum-told : tie.Need-enum-told
 enum-told c = search needs
 
--- src/lib.rt:51:24
 call-requires : tie.Need-call-requires
 call-requires c κs = search needs
 
--- src/lib.rt:52:26
 enum-known-event-2 : tie.Need-enum-known-event-2
 enum-known-event-2 c = search needs
 
--- src/lib.rt:52:44
 pending-requires : tie.Need-pending-requires
 pending-requires c κs = search needs
 
--- src/lib.rt:53:24
 enum-known-event-3 : tie.Need-enum-known-event-3
 enum-known-event-3 c = search needs
 
--- src/lib.rt:53:30
 settled-requires : tie.Need-settled-requires
 settled-requires c κs = search needs
 
--- src/lib.rt:54:49
 enum-told-2 : tie.Need-enum-told-2
 enum-told-2 c = search needs
 
--- src/lib.rt:54:26
 gather-requires : tie.Need-gather-requires
 gather-requires c κs = search needs
 
--- src/lib.rt:55:22
 enum-known-event-4 : tie.Need-enum-known-event-4
 enum-known-event-4 c = search needs
 
--- src/lib.rt:55:28
 await-object-requires : tie.Need-await-object-requires
 await-object-requires c κs = search needs
 
--- src/lib.rt:56:25
 enum-known-event-5 : tie.Need-enum-known-event-5
 enum-known-event-5 c = search needs
 
--- src/lib.rt:56:31
 complete-requires : tie.Need-complete-requires
 complete-requires c κs = search needs
 
--- src/lib.rt:57:21
 enum-known-event-6 : tie.Need-enum-known-event-6
 enum-known-event-6 c = search needs
 
--- src/lib.rt:57:27
 fail-requires : tie.Need-fail-requires
 fail-requires c κs = search needs
 
--- src/lib.rt:58:51
 enum-told-3 : tie.Need-enum-told-3
 enum-told-3 c = search needs
 
--- src/lib.rt:58:27
 results-requires : tie.Need-results-requires
 results-requires c κs = search needs
 
--- src/lib.rt:59:49
 enum-told-4 : tie.Need-enum-told-4
 enum-told-4 c = search needs
 
--- src/lib.rt:59:26
 resume-requires : tie.Need-resume-requires
 resume-requires c κs = search needs
 
--- src/lib.rt:37:1
 same-length : tie.Need-same-length
 same-length c = search needs
 
--- src/lib.rt:37:1
 returns : tie.Need-returns
 returns c = λ l. rw (c .before .before .before .before .before .event .given .1) (logs l (c .before .before .coroutine .result .answer) (c .before .before .coroutine .ensures _ _ l))
 
--- src/lib.rt:37:1
 same-length-2 : tie.Need-same-length-2
 same-length-2 c = search needs
 
--- src/lib.rt:37:1
 returns-2 : tie.Need-returns-2
 returns-2 c = λ l. rw (c .before .before .before .before .enum-told .given .1) (logs l (c .before .before .call .result .answer) (c .before .before .call .ensures _ _ l))
 
--- src/lib.rt:37:1
 same-length-3 : tie.Need-same-length-3
 same-length-3 c = search needs
 
--- src/lib.rt:37:1
 returns-3 : tie.Need-returns-3
 returns-3 c = λ l. rw (c .before .before .before .before .before .event2 .given .1) (logs l (c .before .before .pending .result .answer) (c .before .before .pending .ensures _ _ l))
 
--- src/lib.rt:37:1
 same-length-4 : tie.Need-same-length-4
 same-length-4 c = search needs
 
--- src/lib.rt:37:1
 returns-4 : tie.Need-returns-4
 returns-4 c = λ l. rw (c .before .before .before .before .before .event3 .given .1) (logs l (c .before .before .settled .result .answer) (c .before .before .settled .ensures _ _ l))
 
--- src/lib.rt:37:1
 same-length-5 : tie.Need-same-length-5
 same-length-5 c = search needs
 
--- src/lib.rt:37:1
 same-length-6 : tie.Need-same-length-6
 same-length-6 c = search needs
 
--- src/lib.rt:37:1
 returns-5 : tie.Need-returns-5
 returns-5 c = λ l. rw (c .before .before .before .before .before .before .before .enum-told2 .given .1) (logs l (c .before .before .before .before .gather .result .answer) (c .before .before .before .before .gather .ensures _ l))
 
--- src/lib.rt:37:1
 same-length-7 : tie.Need-same-length-7
 same-length-7 c = search needs
 
--- src/lib.rt:37:1
 same-length-8 : tie.Need-same-length-8
 same-length-8 c = search needs
 
--- src/lib.rt:37:1
 same-length-9 : tie.Need-same-length-9
 same-length-9 c = search needs
 
--- src/lib.rt:37:1
 returns-6 : tie.Need-returns-6
 returns-6 c = λ l. rw (c .before .before .before .before .before .before .before .before .before .before .before .event4 .given .1) (c .before .before .before .before .before .before .await-object .ensures l)
 
--- src/lib.rt:37:1
 same-length-10 : tie.Need-same-length-10
 same-length-10 c = search needs
 
--- src/lib.rt:37:1
 same-length-11 : tie.Need-same-length-11
 same-length-11 c = search needs
 
--- src/lib.rt:37:1
 same-length-12 : tie.Need-same-length-12
 same-length-12 c = search needs
 
--- src/lib.rt:37:1
 returns-7 : tie.Need-returns-7
 returns-7 c = λ l. rw (c .before .before .before .before .before .before .before .before .before .before .before .event5 .given .1) (c .before .before .before .before .before .before .complete .ensures l)
 
--- src/lib.rt:37:1
 same-length-13 : tie.Need-same-length-13
 same-length-13 c = search needs
 
--- src/lib.rt:37:1
 same-length-14 : tie.Need-same-length-14
 same-length-14 c = search needs
 
--- src/lib.rt:37:1
 returns-8 : tie.Need-returns-8
 returns-8 c = λ l. rw (c .before .before .before .before .before .before .before .before .event6 .given .1) (c .before .before .before .before .fail .ensures _ l (c .before .before .before .before .before .before .before .before .before .before .before .before .before .before .before .pre .2))
 
--- src/lib.rt:37:1
 same-length-15 : tie.Need-same-length-15
 same-length-15 c = search needs
 
--- src/lib.rt:37:1
 same-length-16 : tie.Need-same-length-16
 same-length-16 c = search needs
 
--- src/lib.rt:37:1
 same-length-17 : tie.Need-same-length-17
 same-length-17 c = search needs
 
--- src/lib.rt:37:1
 returns-9 : tie.Need-returns-9
 returns-9 c = λ l. rw (c .before .before .before .before .before .before .before .before .before .before .enum-told3 .given .1) (c .before .before .before .before .before .before .results .ensures l)
 
--- src/lib.rt:37:1
 same-length-18 : tie.Need-same-length-18
 same-length-18 c = search needs
 
--- src/lib.rt:37:1
 same-length-19 : tie.Need-same-length-19
 same-length-19 c = search needs
 
--- src/lib.rt:37:1
 returns-10 : tie.Need-returns-10
 returns-10 c = λ l. rw (c .before .before .before .before .before .before .before .enum-told4 .given .1) (c .before .before .before .before .resume .ensures _ l (c .before .before .before .before .before .before .before .before .before .before .before .before .before .before .pre .2))
 

@@ -1,7 +1,6 @@
 use native.Mathlib.Omega.{arith}
 use Rattle.drive_text.specs.OutLaws.{at-most}
 use Rattle.drive_lines.specs.Lines.{answer-text}
-use Rattle.drive_lines.specs.Heard.{told, heard}
 use borrow.Author.Needs.{needs}
 use Rattle.drive_lines.proofs.answers.put_answer.Statement.{statement}
 use Rattle.drive_lines.proofs.answers.put_answer.Tie as tie
@@ -94,21 +93,21 @@ same-length : tie.Need-same-length
 same-length c = search needs
 
 returns : tie.Need-returns
-unfolding answer-text told heard
+unfolding answer-text
 returns c = rw (c .before .before .before .before .before .before .before .answer .given .1, ← c .before .before .before .word .ensures) (at-most (omega arith) (c .before .before .put-named .ensures))
 
 same-length-2 : tie.Need-same-length-2
 same-length-2 c = search needs
 
 returns-2 : tie.Need-returns-2
-unfolding answer-text told heard
+unfolding answer-text
 returns-2 c = rw (c .before .before .before .before .before .before .answer2 .given .1) (at-most (omega arith) (c .before .before .put-named2 .ensures))
 
 same-length-3 : tie.Need-same-length-3
 same-length-3 c = search needs
 
 returns-3 : tie.Need-returns-3
-unfolding answer-text told heard
+unfolding answer-text
 returns-3 c = rw (c .before .before .before .before .before .answer3 .given .1) (at-most (omega arith) (c .before .before .put-control .ensures))
 
 same-length-4 : tie.Need-same-length-4
@@ -121,42 +120,39 @@ same-length-5 : tie.Need-same-length-5
 same-length-5 c = search needs
 
 returns-5 : tie.Need-returns-5
-unfolding answer-text told heard
+unfolding answer-text
 returns-5 c = rw (c .before .before .before .before .before .enum-told .given .1) (at-most (omega arith) (c .before .before .put-text .ensures))
 
 same-length-6 : tie.Need-same-length-6
 same-length-6 c = search needs
 
 returns-6 : tie.Need-returns-6
-unfolding answer-text told heard
+unfolding answer-text
 returns-6 c = rw (c .before .before .before .before .before .enum-told2 .given .1) (at-most (omega arith) (c .before .before .put-text2 .ensures))
 
 same-length-7 : tie.Need-same-length-7
 same-length-7 c = search needs
 
 returns-7 : tie.Need-returns-7
-unfolding told heard
 returns-7 c = rw (c .before .before .before .before .before .answer5 .given .1) (at-most (omega arith) (c .before .before .put-finished .ensures))
 
 same-length-8 : tie.Need-same-length-8
 same-length-8 c = search needs
 
 returns-8 : tie.Need-returns-8
-unfolding told heard
 returns-8 c = rw (c .before .before .before .before .before .answer6 .given .1) (at-most (omega arith) (c .before .before .put-failed .ensures))
 
 same-length-9 : tie.Need-same-length-9
 same-length-9 c = search needs
 
 returns-9 : tie.Need-returns-9
-unfolding told heard
 returns-9 c = rw (c .before .before .before .before .before .answer7 .given .1) (at-most (omega arith) (c .before .before .put-eager .ensures))
 
 same-length-10 : tie.Need-same-length-10
 same-length-10 c = search needs
 
 returns-10 : tie.Need-returns-10
-unfolding answer-text told heard
+unfolding answer-text
 returns-10 c = rw (c .before .before .before .before .before .before .answer8 .given .1) (at-most (omega arith) (c .before .before .put-named3 .ensures))
 
 pub put-answer-spec : {M : Type 1} → statement M

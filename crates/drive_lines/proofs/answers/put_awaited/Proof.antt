@@ -1,6 +1,5 @@
 use Rattle.drive_text.specs.OutLaws.{then}
 use Rattle.drive_lines.specs.Lines.{answer-text}
-use Rattle.drive_lines.specs.Heard.{told, heard}
 use borrow.Author.Needs.{needs}
 use Rattle.drive_lines.proofs.answers.put_awaited.Statement.{statement}
 use Rattle.drive_lines.proofs.answers.put_awaited.Tie as tie
@@ -18,7 +17,7 @@ same-length : tie.Need-same-length
 same-length c = search needs
 
 returns : tie.Need-returns
-unfolding answer-text told heard
+unfolding answer-text
 returns c = then (c .before .before .before .before .before .before .before .put-control .ensures) (c .before .before .put-named .ensures)
 
 pub put-awaited-spec : {M : Type 1} → statement M

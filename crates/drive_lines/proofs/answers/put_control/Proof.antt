@@ -1,7 +1,6 @@
 use native.Mathlib.Omega.{arith}
 use Rattle.drive_text.specs.OutLaws.{then, at-most}
 use Rattle.drive_lines.specs.Lines.{control-text}
-use Rattle.drive_lines.specs.Heard.{told-control}
 use borrow.Author.Needs.{needs}
 use Rattle.drive_lines.proofs.answers.put_control.Statement.{statement}
 use Rattle.drive_lines.proofs.answers.put_control.Tie as tie
@@ -31,14 +30,13 @@ same-length : tie.Need-same-length
 same-length c = search needs
 
 returns : tie.Need-returns
-unfolding control-text told-control
+unfolding control-text
 returns c = rw (c .before .before .before .before .before .before .before .before .before .before .before .control .given .1, ← c .before .before .before .before .before .before .before .word .ensures) (at-most (omega arith) (then (c .before .before .before .before .before .before .put-named .ensures) (c .before .before .put-how .ensures)))
 
 same-length-2 : tie.Need-same-length-2
 same-length-2 c = search needs
 
 returns-2 : tie.Need-returns-2
-unfolding told-control
 returns-2 c = rw (c .before .before .before .before .enum-told .given .1) (c .before .before .put-wait .ensures)
 
 pub put-control-spec : {M : Type 1} → statement M

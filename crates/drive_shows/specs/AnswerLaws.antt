@@ -1,25 +1,24 @@
--- What a caller of the library has: the line that it writes is the line of the machine's answer, and how long it can be.
+-- The line that a caller of the library writes of what it was answered is the line of the machine's answer, and how long it can be.
 use mathlib.Core.Path.{_≡_, refl, sym, ap, _∙_}
 use mathlib.Core.Bool.{Bool, true, false}
-use mathlib.Core.List.{List}
+use mathlib.Core.List.{List, []}
 use Prim.Native.Nat.{ℕ, _+_, _*_, _≤_}
 use native.Mathlib.Omega.{arith}
 use lib.Dec.{eqb}
-use lib.ListN.{length}
-use Rattle.asyncio.specs.Limits.{item-limit}
+use lib.ListN.{length, take, length-take}
+use Rattle.asyncio.specs.Limits.{object-limit, item-limit}
 use Rattle.asyncio.specs.Ranges.{ObjectFits}
 use Rattle.asyncio.specs.declared.ExternalFutureState.{ExternalFutureState}
 use Rattle.asyncio.specs.declared.GatherState.{GatherState}
 use Rattle.asyncio.specs.declared.Object.{Object}
 use Rattle.rows.specs.TableLaws.{object-at-fits}
 use Rattle.machine.specs.Store.{Store, object, forget}
-use Rattle.machine.specs.Scheduler.{pending-calls-in}
 use Rattle.machine.specs.Machine as machine
 use Rattle.machine.specs.Machine.{Event, Step, refusal, accept, decide, step, shown, show-places}
-use Rattle.machine.specs.Lent.{Lent, slices-right, lengths-right, written, written-by, lent-by, lent-step, lent-read}
+use Rattle.machine.specs.Lent.{Lent, slices-right, write-calls, control-calls, answer-calls, lent-step, lent-read}
 use Rattle.asyncio.specs.RangeLaws.{pick-has}
-use Rattle.machine_laws.specs.MachineLaws.{take-write-calls}
-use Rattle.exec_switch.specs.Answer.{answer-of}
+use Rattle.machine_laws.specs.MachineLaws.{take-write-calls, lent-list, lent-count, lent-calls}
+use Rattle.exec_switch.specs.Answer.{answer-with, answer-of}
 use Rattle.exec_switch.specs.declared.control.Control.{Control}
 use Rattle.exec_switch.specs.declared.answer.Answer.{Answer}
 use Rattle.step_checks.specs.Lent.{lent-of}
@@ -29,56 +28,62 @@ use Rattle.step_read.specs.declared.Shown.{Shown}
 use Rattle.step_read.specs.declared.Reading.{Reading}
 use Rattle.drive_text.specs.Out.{Out, Wrote}
 use Rattle.drive_text.specs.OutLaws.{at-most}
-use Rattle.drive_lines.specs.Heard.{front-calls, told-control, told, heard}
 use Rattle.drive_shows.specs.Shows.{shown-count, reading-count}
 use Rattle.drive_lines.specs.Lines.{line, line-limit}
 use Rattle.drive_shows.specs.PlaceLaws.{places-length}
 
 -- ---- events
 
--- with the list that a wait wrote, the answer told is the machine's
-pub heard-written : (os l : List ℕ) (a : Answer) → heard os (written (answer-of os a) l) a ≡ answer-of os a
-unfolding heard told told-control front-calls written written-by
-heard-written os l (Answer.Made o) = refl
-heard-written os l (Answer.Called n) = refl
-heard-written os l (Answer.Switched (Control.Runs t h)) = refl
-heard-written os l (Answer.Switched Control.Waits) = rw (take-write-calls (pending-calls-in os) l)
-heard-written os l (Answer.Awaited (Control.Runs t h) n) = refl
-heard-written os l (Answer.Awaited Control.Waits n) = rw (take-write-calls (pending-calls-in os) l)
-heard-written os l Answer.Done = refl
-heard-written os l Answer.Stalled = refl
-heard-written os l (Answer.Finished v) = refl
-heard-written os l (Answer.FinishedError e) = refl
-heard-written os l (Answer.Eager b) = refl
-heard-written os l (Answer.Refused n) = refl
+-- with its own calls the answer is the machine's
+own-calls : (os : List ℕ) (a : Answer) → answer-with (answer-calls (answer-of os a)) a ≡ answer-of os a
+unfolding answer-calls control-calls
+own-calls os (Answer.Made o) = refl
+own-calls os (Answer.Called n) = refl
+own-calls os (Answer.Switched (Control.Runs t h)) = refl
+own-calls os (Answer.Switched Control.Waits) = refl
+own-calls os (Answer.Awaited (Control.Runs t h) n) = refl
+own-calls os (Answer.Awaited Control.Waits n) = refl
+own-calls os Answer.Done = refl
+own-calls os Answer.Stalled = refl
+own-calls os (Answer.Finished v) = refl
+own-calls os (Answer.FinishedError e) = refl
+own-calls os (Answer.Eager b) = refl
+own-calls os (Answer.Refused n) = refl
 
-list-written : (s : Store) (l : List ℕ) (e : Event) → lent-step s l e .list ≡ written (lent-step s l e .answer) l
-unfolding lent-step
-list-written s l e = by (lengths-right s l)
-  where
-    by : (b : Bool) → lent-by b s l e .list ≡ written (lent-by b s l e .answer) l
-    by true = unfold lent-by in refl
-    by false = unfold lent-by written in refl
+-- What an entry ensures: its count of words at the list's front are the calls of the answer.
+module _ (s u : Store) (cs l : List ℕ) (a : Answer) (k : ℕ) (e : Event) (r : lent-of s cs a k ≡ lent-step u l e) where
+  told-answer : answer-of (s .objects) a ≡ lent-step u l e .answer
+  told-answer = ap (λ (x : Lent). x .answer) r
 
--- An event's answer, from what an entry of the library ensures.
-pub heard-event : (s u : Store) (cs l : List ℕ) (a : Answer) (e : Event) → lent-of s cs a ≡ lent-step u l e → heard (s .objects) cs a ≡ lent-step u l e .answer
-heard-event s u cs l a e r =
-    let w : answer-of (s .objects) a ≡ lent-step u l e .answer = ap (λ (x : Lent). x .answer) r in
-    let c : cs ≡ written (answer-of (s .objects) a) l = ap (λ (x : Lent). x .list) r ∙ list-written u l e ∙ ap (λ (x : machine.Answer). written x l) (sym w) in
-    ap (λ (x : List ℕ). heard (s .objects) x a) c ∙ heard-written (s .objects) l a ∙ w
+  told-count : k ≡ length (answer-calls (lent-step u l e .answer))
+  told-count = ap (λ (x : Lent). x .count) r ∙ lent-count u l e
+
+  front-calls : take k cs ≡ answer-calls (lent-step u l e .answer)
+  front-calls =
+      let w : cs ≡ write-calls (answer-calls (lent-step u l e .answer)) l = ap (λ (x : Lent). x .list) r ∙ lent-list u l e in
+      rw (told-count, w) (take-write-calls (answer-calls (lent-step u l e .answer)) l)
+
+  pub event-answer : answer-with (take k cs) a ≡ lent-step u l e .answer
+  event-answer =
+      let c : take k cs ≡ answer-calls (answer-of (s .objects) a) = front-calls ∙ ap answer-calls (sym told-answer) in
+      ap (λ (x : List ℕ). answer-with x a) c ∙ own-calls (s .objects) a ∙ told-answer
+
+  pub calls-few : k ≤ object-limit
+  calls-few = rw told-count (lent-calls u l e .few)
 
 -- ---- reads
 
-eager-keeps : (u : Store) (l : List ℕ) → written (lent-read u Event.eager .answer) l ≡ l
-unfolding lent-read step decide accept written
-eager-keeps u l =
-    pick-has (λ (x : Step). written (x .answer) l ≡ l) (slices-right u) (pick-has (λ (x : Step). written (x .answer) l ≡ l) (eqb (refusal u Event.eager) 0) refl refl) refl
+eager-calls : (u : Store) → answer-calls (lent-read u Event.eager .answer) ≡ []
+unfolding lent-read step decide accept answer-calls
+eager-calls u =
+    pick-has (λ (x : Step). answer-calls (x .answer) ≡ []) (slices-right u)
+    (pick-has (λ (x : Step). answer-calls (x .answer) ≡ []) (eqb (refusal u Event.eager) 0) refl refl) refl
 
--- The answer of `eager`, whatever stands in the call list.
-pub heard-eager : (os cs : List ℕ) (u : Store) (a : Answer) → answer-of os a ≡ lent-read u Event.eager .answer → heard os cs a ≡ lent-read u Event.eager .answer
-heard-eager os cs u a r =
-    let c : cs ≡ written (answer-of os a) cs = sym (eager-keeps u cs) ∙ ap (λ (x : machine.Answer). written x cs) (sym r) in
-    ap (λ (x : List ℕ). heard os x a) c ∙ heard-written os cs a ∙ r
+-- The answer of `eager` has no calls.
+pub eager-answer : (os : List ℕ) (u : Store) (a : Answer) → answer-of os a ≡ lent-read u Event.eager .answer → answer-with [] a ≡ lent-read u Event.eager .answer
+eager-answer os u a r =
+    let c : [] ≡ answer-calls (answer-of os a) = sym (ap answer-calls r ∙ eager-calls u) in
+    ap (λ (x : List ℕ). answer-with x a) c ∙ own-calls os a ∙ r
 
 -- the places that an answer shows
 shown-places : machine.Shown → ℕ
@@ -156,14 +161,17 @@ reading-few ps u o r h = rw (← reads-count ps r, h) (read-few u o)
 
 module _ (n : ℕ) {x y : Out} where
   -- write_line, of an event: `r` is what the entry ensures
-  pub wrote-event : (s u : Store) (cs l : List ℕ) (a : Answer) (e : Event) → lent-of s cs a ≡ lent-step u l e
-      → Wrote line-limit x y (line n (heard (s .objects) cs a)) → Wrote line-limit x y (line n (lent-step u l e .answer))
-  wrote-event s u cs l a e r w = rw (heard-event s u cs l a e r) at w
+  pub wrote-event : (s u : Store) (cs l : List ℕ) (a : Answer) (k : ℕ) (e : Event) → lent-of s cs a k ≡ lent-step u l e
+      → Wrote (123 + 21 * length (take k cs)) x y (line n (answer-with (take k cs) a)) → Wrote line-limit x y (line n (lent-step u l e .answer))
+  wrote-event s u cs l a k e r w =
+      let f : length (take k cs) ≤ k = omega (arith, length-take k cs) in
+      let h : Wrote (123 + 21 * length (take k cs)) x y (line n (lent-step u l e .answer)) = rw (event-answer s u cs l a k e r) at w in
+      at-most (omega (arith, f, calls-few s u cs l a k e r)) h
 
   -- write_line, of `eager`
-  pub wrote-eager : (os cs : List ℕ) (u : Store) (a : Answer) → answer-of os a ≡ lent-read u Event.eager .answer
-      → Wrote line-limit x y (line n (heard os cs a)) → Wrote line-limit x y (line n (lent-read u Event.eager .answer))
-  wrote-eager os cs u a r w = rw (heard-eager os cs u a r) at w
+  pub wrote-eager : (os : List ℕ) (u : Store) (a : Answer) → answer-of os a ≡ lent-read u Event.eager .answer
+      → Wrote (123 + 21 * 0) x y (line n (answer-with [] a)) → Wrote line-limit x y (line n (lent-read u Event.eager .answer))
+  wrote-eager os u a r w = at-most (omega arith) (rw (eager-answer os u a r) at w)
 
   -- write_reading, of `show`
   pub wrote-show : (ps : List ℕ) (u : Store) (o : ℕ) (a : Reading) → show-answer ps a ≡ lent-read u (Event.show o) .answer

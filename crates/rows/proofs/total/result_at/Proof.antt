@@ -1,7 +1,7 @@
 use Rattle.rows.specs.Tables.{place-at}
 use borrow.Author.Needs.{needs}
-use Rattle.drive_shows.proofs.shows.result_at.Statement.{statement}
-use Rattle.drive_shows.proofs.shows.result_at.Tie as tie
+use Rattle.rows.proofs.total.result_at.Statement.{statement}
+use Rattle.rows.proofs.total.result_at.Tie as tie
 
 add-p : tie.Need-add-p
 add-p c = search needs

@@ -2,8 +2,8 @@ use mathlib.Core.Path.{sym}
 use lib.ListN.{List·getD-eq-default}
 use denote.Ref.{now}
 use borrow.Author.Needs.{needs}
-use Rattle.drive_lines.proofs.pending.word_at.Statement.{statement}
-use Rattle.drive_lines.proofs.pending.word_at.Tie as tie
+use Rattle.rows.proofs.total.word_at.Statement.{statement}
+use Rattle.rows.proofs.total.word_at.Tie as tie
 
 mul-result : tie.Need-mul-result
 mul-result c = search needs
