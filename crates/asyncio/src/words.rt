@@ -23,6 +23,7 @@ use crate::TaskState;
 use crate::Value;
 ghost use mathlib.Core.Path.{_≡_};
 ghost use Prim.Native.Nat.{min, _≤_};
+ghost use Rattle.asyncio.specs.Limits.{place-limit};
 ghost use Rattle.asyncio.specs.Numbers.{to-u32, to-first, to-count};
 ghost use Rattle.asyncio.specs.Layout.{value-words, to-value, option-words, to-option, error-words, to-error, awaiter-words, to-awaiter};
 ghost use Rattle.asyncio.specs.Layout.{kind-word, to-kind, object-row, coroutine-words, external-words, gather-words, object-words};
@@ -56,7 +57,7 @@ pub fn least(a: u64, b: u64) -> u64
 }
 
 pub fn to_count(first: u16, n: u64) -> u16
-    requires { ⌜ first ≤ 512 ⌝ }
+    requires { ⌜ first ≤ place-limit ⌝ }
     ensures { λ r. ⌜ r ≡ to-count first n ⌝ }
 {
     least(n % (ITEMS as u64 + 1), PLACES as u64 - first as u64) as u16
