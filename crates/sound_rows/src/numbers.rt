@@ -45,18 +45,18 @@ fn open_in_range(n: u16, m: u32) -> bool
 }
 
 // Object `o` is made; its call was handed out; a gather's places start at `p`.
-fn object_in_range(header: Header, objects: &[u64], o: u16, p: u16) -> bool
-    requires { ⌜ ObjectRow objects o ⌝ }
-    ensures { λ r. ⌜ r ≡ object-in-range header p (object-in objects o) ⌝ }
+fn object_in_range(header: Header, objects: &[u64], o: HeapId, p: u16) -> bool
+    requires { ⌜ ObjectRow objects (o .0) ⌝ }
+    ensures { λ r. ⌜ r ≡ object-in-range header p (object-in objects (o .0)) ⌝ }
 {
-    let kind = kind_at(objects, HeapId(o));
+    let kind = kind_at(objects, o);
     if kind.is_external() {
-        let call = call_at(objects, HeapId(o));
-        return (call.0 as u32) < header.calls;
+        let call = call_at(objects, o);
+        return call.word() < header.calls as u64;
     }
     if kind.is_gather() {
-        if first_at(objects, HeapId(o)) == p {
-            return open_in_range(count_at(objects, HeapId(o)), open_at(objects, HeapId(o)));
+        if first_at(objects, o) == p {
+            return open_in_range(count_at(objects, o), open_at(objects, o));
         }
         return false;
     }
@@ -72,9 +72,10 @@ fn objects_in_range(header: Header, objects: &[u64]) -> bool
     let mut p: u16 = 0;
     let mut o: u16 = 0;
     while o < made {
-        if object_in_range(header, objects, o, p) {
-            if awaiter_in_range(header, awaiter_at(objects, HeapId(o))) {
-                p += count_at(objects, HeapId(o));
+        let object = HeapId::new(o);
+        if object_in_range(header, objects, object, p) {
+            if awaiter_in_range(header, awaiter_at(objects, object)) {
+                p += count_at(objects, object);
                 o += 1;
             } else {
                 return false;
@@ -110,14 +111,14 @@ fn coroutine_made(made: u16, objects: &[u64], c: HeapId) -> bool
 }
 
 // Main is never unstarted, and has no awaiter and no coroutine. A live spawned task has a slot for its awaiter, and names a coroutine.
-fn task_in_range(header: Header, tasks: &[u64], objects: &[u64], t: u16) -> bool
-    requires { ⌜ Lengths₂And tasks objects ((header .made ≤ object-limit) × (t < task-limit)) ⌝ }
-    ensures { λ r. ⌜ r ≡ task-in-range header (object-in objects) t (task-in tasks t) ⌝ }
+fn task_in_range(header: Header, tasks: &[u64], objects: &[u64], t: TaskId) -> bool
+    requires { ⌜ Lengths₂And tasks objects ((header .made ≤ object-limit) × (t .0 < task-limit)) ⌝ }
+    ensures { λ r. ⌜ r ≡ task-in-range header (object-in objects) (t .0) (task-in tasks (t .0)) ⌝ }
 {
-    let state = state_at(tasks, TaskId(t));
-    let awaiter = task_awaiter_at(tasks, TaskId(t));
-    let coroutine = coroutine_at(tasks, TaskId(t));
-    if t == 0 {
+    let state = state_at(tasks, t);
+    let awaiter = task_awaiter_at(tasks, t);
+    let coroutine = coroutine_at(tasks, t);
+    if t.is_main() {
         if state.is_unstarted() {
             return false;
         }
@@ -142,7 +143,7 @@ fn tasks_in_range(header: Header, tasks: &[u64], objects: &[u64]) -> bool
     let next = header.next;
     let mut t: u16 = 0;
     while t < next {
-        if task_in_range(header, tasks, objects, t) {
+        if task_in_range(header, tasks, objects, TaskId::new(t)) {
             t += 1;
         } else {
             return false;
@@ -175,9 +176,10 @@ fn committed_places(objects: &[u64], made: u16) -> u16
     let mut sum: u16 = 0;
     let mut o: u16 = 0;
     while o < made {
-        let kind = kind_at(objects, HeapId(o));
+        let object = HeapId::new(o);
+        let kind = kind_at(objects, object);
         if kind.is_committed() {
-            sum += count_at(objects, HeapId(o));
+            sum += count_at(objects, object);
             o += 1;
         } else {
             o += 1;

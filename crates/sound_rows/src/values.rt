@@ -51,8 +51,9 @@ pub fn items_lower(made: u16, objects: &[u64], places: &[u64]) -> bool
 {
     let mut o: u16 = 0;
     while o < made {
-        let first = first_at(objects, HeapId(o));
-        let count = count_at(objects, HeapId(o));
+        let object = HeapId::new(o);
+        let first = first_at(objects, object);
+        let count = count_at(objects, object);
         if items_below(places, o, first as usize, count as usize) {
             o += 1;
         } else {
@@ -105,13 +106,13 @@ fn external_values(made: u16, objects: &[u64], state: ExternalFutureState) -> bo
 }
 
 // The value or stored result that object `o` holds. Only externals hold one: other rows are not read whole.
-fn object_values(made: u16, objects: &[u64], o: u16) -> bool
-    requires { ⌜ ObjectsLengthAnd objects ((made ≤ object-limit) × (o < object-limit)) ⌝ }
-    ensures { λ r. ⌜ r ≡ object-values made (object-in objects) (object-in objects o) ⌝ }
+fn object_values(made: u16, objects: &[u64], o: HeapId) -> bool
+    requires { ⌜ ObjectsLengthAnd objects ((made ≤ object-limit) × (o .0 < object-limit)) ⌝ }
+    ensures { λ r. ⌜ r ≡ object-values made (object-in objects) (object-in objects (o .0)) ⌝ }
 {
-    let kind = kind_at(objects, HeapId(o));
+    let kind = kind_at(objects, o);
     if kind.is_external() {
-        let x = load_object(objects, HeapId(o));
+        let x = load_object(objects, o);
         return match x {
             Object::Unmade => true,
             Object::Coroutine {
@@ -150,7 +151,7 @@ fn objects_known(made: u16, objects: &[u64]) -> bool
 {
     let mut o: u16 = 0;
     while o < made {
-        if object_values(made, objects, o) {
+        if object_values(made, objects, HeapId::new(o)) {
             o += 1;
         } else {
             return false;
@@ -165,7 +166,7 @@ fn tasks_known(made: u16, next: u16, tasks: &[u64], objects: &[u64]) -> bool
 {
     let mut t: u16 = 0;
     while t < next {
-        if state_values(made, objects, state_at(tasks, TaskId(t))) {
+        if state_values(made, objects, state_at(tasks, TaskId::new(t))) {
             t += 1;
         } else {
             return false;
