@@ -1,5 +1,11 @@
 -- The kind of an object: its sort and state, without what they hold; and tests on kinds.
 use mathlib.Core.Bool.{Bool, true, false}
+use Prim.Native.Nat.{ℕ}
+use Rattle.asyncio.specs.declared.CallId.{CallId}
+use Rattle.asyncio.specs.declared.Value.{Value}
+use Rattle.asyncio.specs.declared.OptionValue.{OptionValue}
+use Rattle.asyncio.specs.declared.Error.{Error}
+use Rattle.asyncio.specs.declared.Awaiter.{Awaiter}
 use Rattle.asyncio.specs.declared.CoroutineState.{CoroutineState}
 use Rattle.asyncio.specs.declared.ExternalFutureState.{ExternalFutureState}
 use Rattle.asyncio.specs.declared.GatherState.{GatherState}
@@ -45,20 +51,6 @@ is-coroutine Kind.PendingGather = false
 is-coroutine Kind.AwaitedGather = false
 is-coroutine Kind.CompletedGather = false
 is-coroutine Kind.FailedGather = false
-
--- a coroutine that was not awaited yet
-abbrev pub is-new : Kind → Bool
-is-new Kind.Unmade = false
-is-new Kind.NewCoroutine = true
-is-new Kind.RunningCoroutine = false
-is-new Kind.CompletedCoroutine = false
-is-new Kind.PendingExternal = false
-is-new Kind.ResolvedExternal = false
-is-new Kind.FailedExternal = false
-is-new Kind.PendingGather = false
-is-new Kind.AwaitedGather = false
-is-new Kind.CompletedGather = false
-is-new Kind.FailedGather = false
 
 abbrev pub is-external : Kind → Bool
 is-external Kind.Unmade = false
@@ -153,3 +145,43 @@ is-committed Kind.PendingGather = false
 is-committed Kind.AwaitedGather = true
 is-committed Kind.CompletedGather = true
 is-committed Kind.FailedGather = true
+
+-- what holds of each kind holds of every one
+pub each-kind : (P : Kind → Type 0) → P Kind.Unmade → P Kind.NewCoroutine → P Kind.RunningCoroutine → P Kind.CompletedCoroutine
+    → P Kind.PendingExternal → P Kind.ResolvedExternal → P Kind.FailedExternal
+    → P Kind.PendingGather → P Kind.AwaitedGather → P Kind.CompletedGather → P Kind.FailedGather → (k : Kind) → P k
+each-kind P a b c d e f g h i j l Kind.Unmade = a
+each-kind P a b c d e f g h i j l Kind.NewCoroutine = b
+each-kind P a b c d e f g h i j l Kind.RunningCoroutine = c
+each-kind P a b c d e f g h i j l Kind.CompletedCoroutine = d
+each-kind P a b c d e f g h i j l Kind.PendingExternal = e
+each-kind P a b c d e f g h i j l Kind.ResolvedExternal = f
+each-kind P a b c d e f g h i j l Kind.FailedExternal = g
+each-kind P a b c d e f g h i j l Kind.PendingGather = h
+each-kind P a b c d e f g h i j l Kind.AwaitedGather = i
+each-kind P a b c d e f g h i j l Kind.CompletedGather = j
+each-kind P a b c d e f g h i j l Kind.FailedGather = l
+
+-- what holds of the objects of each kind, whatever they hold, holds of every one
+pub each-object : (P : Object → Type 0) → P Object.Unmade
+    → ((f : ℕ) → P (Object.Coroutine f CoroutineState.New))
+    → ((f : ℕ) → P (Object.Coroutine f CoroutineState.Running))
+    → ((f : ℕ) → P (Object.Coroutine f CoroutineState.Completed))
+    → ((c : CallId) (w : Awaiter) (x : OptionValue) → P (Object.ExternalFuture c (ExternalFutureState.Pending w x)))
+    → ((c : CallId) (v : Value) → P (Object.ExternalFuture c (ExternalFutureState.Resolved v)))
+    → ((c : CallId) (e : Error) → P (Object.ExternalFuture c (ExternalFutureState.Failed e)))
+    → ((i n : ℕ) → P (Object.GatherFuture i n GatherState.Pending))
+    → ((i n : ℕ) (w : Awaiter) (m : ℕ) → P (Object.GatherFuture i n (GatherState.Awaited w m)))
+    → ((i n : ℕ) → P (Object.GatherFuture i n GatherState.Completed))
+    → ((i n : ℕ) (e : Error) → P (Object.GatherFuture i n (GatherState.Failed e))) → (x : Object) → P x
+each-object P a b c d e f g h i j l Object.Unmade = a
+each-object P a b c d e f g h i j l (Object.Coroutine k CoroutineState.New) = b k
+each-object P a b c d e f g h i j l (Object.Coroutine k CoroutineState.Running) = c k
+each-object P a b c d e f g h i j l (Object.Coroutine k CoroutineState.Completed) = d k
+each-object P a b c d e f g h i j l (Object.ExternalFuture k (ExternalFutureState.Pending w x)) = e k w x
+each-object P a b c d e f g h i j l (Object.ExternalFuture k (ExternalFutureState.Resolved v)) = f k v
+each-object P a b c d e f g h i j l (Object.ExternalFuture k (ExternalFutureState.Failed x)) = g k x
+each-object P a b c d e f g h i j l (Object.GatherFuture k n GatherState.Pending) = h k n
+each-object P a b c d e f g h i j l (Object.GatherFuture k n (GatherState.Awaited w m)) = i k n w m
+each-object P a b c d e f g h i j l (Object.GatherFuture k n GatherState.Completed) = j k n
+each-object P a b c d e f g h i j l (Object.GatherFuture k n (GatherState.Failed x)) = l k n x

@@ -2,7 +2,7 @@
 -- read is in its range. A word that means nothing is 0.
 use mathlib.Core.Bool.{Bool, true, false}
 use mathlib.Core.List.{List, [], _∷_}
-use Prim.Native.Nat.{ℕ, _+_, _%_}
+use Prim.Native.Nat.{ℕ, _+_, _-_, _%_}
 use lib.Dec.{eqb}
 use lib.ListN.{getD}
 use Rattle.asyncio.specs.Limits.{task-limit, object-limit, place-limit, call-limit}
@@ -42,16 +42,13 @@ value-words (Value.List h) = words2 1 (h .0)
 abbrev pub to-value : ℕ → ℕ → Value
 to-value tag n = pick (eqb tag 0) (Value.Plain n) (Value.List (to-heap-id n))
 
--- a value or none: 0 none, 1 plain, 2 list; its number
+-- a value or none: 0 none; one more than the value's tag, its number
 abbrev pub option-words : OptionValue → Words2
 option-words OptionValue.None = words2 0 0
-option-words (OptionValue.Some (Value.Plain n)) = words2 1 n
-option-words (OptionValue.Some (Value.List h)) = words2 2 (h .0)
+option-words (OptionValue.Some v) = words2 (value-words v .0 + 1) (value-words v .1)
 
 abbrev pub to-option : ℕ → ℕ → OptionValue
-to-option tag n =
-    pick (eqb tag 0) OptionValue.None
-    (pick (eqb tag 1) (OptionValue.Some (Value.Plain n)) (OptionValue.Some (Value.List (to-heap-id n))))
+to-option tag n = pick (eqb tag 0) OptionValue.None (OptionValue.Some (to-value (tag - 1) n))
 
 -- an error: its place in document 01's list, from 0; its number, 0 where it has none
 abbrev pub error-words : Error → Words2

@@ -19,6 +19,10 @@ item-limit = 32
 abbrev pub call-limit : ℕ
 call-limit = 65536
 
+-- errors of document 01's list
+abbrev pub error-limit : ℕ
+error-limit = 7
+
 -- results of one batch
 abbrev pub result-limit : ℕ
 result-limit = 64

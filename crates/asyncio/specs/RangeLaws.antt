@@ -3,13 +3,15 @@ use mathlib.Core.Path.{_≡_, refl, ap}
 use mathlib.Core.Bool.{Bool, true, false}
 use mathlib.Core.List.{List}
 use Prim.Native.Nat.{ℕ, _+_, _-_, _≤_, _<_, _%_, min}
-use native.Mathlib.Nat.{mod-eq-of-lt}
+use native.Mathlib.Nat.{mod-eq-of-lt, add-sub-cancel}
 use native.Mathlib.Omega.{arith}
 use lib.Dec.{eqb}
+use borrow.Author.Tests.{ne-eqb}
 use lib.ListN.{length, getD}
-use Rattle.asyncio.specs.Limits.{task-limit, object-limit, place-limit, call-limit, u32-limit}
+use Rattle.asyncio.specs.Limits.{task-limit, object-limit, place-limit, call-limit, error-limit, u32-limit}
 use Rattle.asyncio.specs.Numbers.{to-call-id, to-task-id, to-heap-id, to-u32, to-first, to-count}
 use Rattle.asyncio.specs.States.{pick}
+use Rattle.asyncio.specs.Kinds.{each-object}
 use Rattle.asyncio.specs.Layout.{value-words, to-value, option-words, to-option, error-words, to-error, awaiter-words, to-awaiter, kind-word, to-kind, object-words, row-awaiter, row-object, to-object}
 use Rattle.asyncio.specs.Layout.{state-words, to-state, task-words, to-task, place-words, to-place, moment-words, to-moment, header-words, to-header}
 use Rattle.asyncio.specs.Ranges.{ValueFits, OptionFits, ErrorFits, AwaiterFits, ExternalFits, GatherFits, PlacesFit, ObjectFits, PlaceFits, StateFits, TaskFits, MomentFits, HeaderFits}
@@ -30,6 +32,7 @@ use Rattle.asyncio.specs.declared.TaskState.{TaskState}
 use Rattle.asyncio.specs.declared.Task.{Task}
 use Rattle.asyncio.specs.declared.Moment.{Moment}
 use Rattle.asyncio.specs.declared.Header.{Header}
+use Rattle.asyncio.specs.declared.words.Words2.{Words2}
 
 -- ---- what fits is read back as it was
 
@@ -37,10 +40,28 @@ value-back : (v : Value) → ValueFits v → to-value (value-words v .0) (value-
 value-back (Value.Plain n) p = refl
 value-back (Value.List h) p = rw (mod-eq-of-lt p)
 
+-- a value's tag is 0 or 1
+pub value-tag : (v : Value) → value-words v .0 < 2
+value-tag (Value.Plain n) = omega arith
+value-tag (Value.List h) = omega arith
+
+pub tag-of : {w : Words2} (v : Value) → w ≡ value-words v → w .0 < 2
+tag-of {w} v e = rw e (value-tag v)
+
 option-back : (x : OptionValue) → OptionFits x → to-option (option-words x .0) (option-words x .1) ≡ x
 option-back OptionValue.None p = refl
-option-back (OptionValue.Some (Value.Plain n)) p = refl
-option-back (OptionValue.Some (Value.List h)) p = rw (mod-eq-of-lt p)
+option-back (OptionValue.Some v) p =
+    rw (ne-eqb (value-words v .0 + 1) 0 (λ q. omega arith), add-sub-cancel (value-words v .0) 1) (ap OptionValue.Some (value-back v p))
+
+-- an error's word is its place in the list
+pub error-place : (e : Error) → error-words e .0 < error-limit
+error-place (Error.Host n) = omega arith
+error-place (Error.Script n) = omega arith
+error-place Error.CoroutineReuse = omega arith
+error-place Error.FutureReuse = omega arith
+error-place Error.GatherReuse = omega arith
+error-place Error.NotFound = omega arith
+error-place Error.ModuleFile = omega arith
 
 error-back : (e : Error) → ErrorFits e → to-error (error-words e .0) (error-words e .1) ≡ e
 error-back (Error.Host n) p = rw (mod-eq-of-lt p)
@@ -104,17 +125,9 @@ header-back h f =
     rw (up-to object-limit (f .made-fits), up-to place-limit (f .used-fits), up-to call-limit (f .calls-fit), up-to task-limit (f .next-fits), moment-back (h .moment) (f .moment-fits))
 
 pub object-wide : (o : Object) → length (object-words o) ≡ 8
-object-wide Object.Unmade = refl
-object-wide (Object.Coroutine f CoroutineState.New) = refl
-object-wide (Object.Coroutine f CoroutineState.Running) = refl
-object-wide (Object.Coroutine f CoroutineState.Completed) = refl
-object-wide (Object.ExternalFuture c (ExternalFutureState.Pending w x)) = refl
-object-wide (Object.ExternalFuture c (ExternalFutureState.Resolved v)) = refl
-object-wide (Object.ExternalFuture c (ExternalFutureState.Failed e)) = refl
-object-wide (Object.GatherFuture i n GatherState.Pending) = refl
-object-wide (Object.GatherFuture i n (GatherState.Awaited w m)) = refl
-object-wide (Object.GatherFuture i n GatherState.Completed) = refl
-object-wide (Object.GatherFuture i n (GatherState.Failed e)) = refl
+object-wide =
+    each-object (λ o. length (object-words o) ≡ 8) refl (λ f. refl) (λ f. refl) (λ f. refl)
+    (λ c w x. refl) (λ c v. refl) (λ c e. refl) (λ i n. refl) (λ i n w m. refl) (λ i n. refl) (λ i n e. refl)
 
 -- ---- whatever is read fits
 
@@ -142,7 +155,7 @@ value-fits : (tag n : ℕ) → ValueFits (to-value tag n)
 value-fits tag n = pick-has ValueFits (eqb tag 0) tt (heap-fits n)
 
 option-fits : (tag n : ℕ) → OptionFits (to-option tag n)
-option-fits tag n = pick-has OptionFits (eqb tag 0) tt (pick-has OptionFits (eqb tag 1) tt (heap-fits n))
+option-fits tag n = pick-has OptionFits (eqb tag 0) tt (value-fits (tag - 1) n)
 
 error-fits : (tag n : ℕ) → ErrorFits (to-error tag n)
 error-fits tag n =

@@ -4,18 +4,31 @@ pub mod words; // the words of each type (docs/LAYOUT.md)
 ghost use mathlib.Core.Path.{_≡_};
 ghost use Rattle.asyncio.specs.Numbers.{call-id, task-id, heap-id, to-call-id, to-task-id, to-heap-id};
 ghost use Rattle.asyncio.specs.States.{is-main, is-live, is-unstarted, is-ready, is-running, is-blocked, is-nobody};
-ghost use Rattle.asyncio.specs.Kinds.{has-awaiter, is-coroutine, is-new, is-external, is-pending-external, is-gather, is-pending-gather, is-awaited, is-completed, is-committed};
+ghost use Rattle.asyncio.specs.Kinds.{has-awaiter, is-coroutine, is-external, is-pending-external, is-gather, is-awaited, is-completed, is-committed};
 
 // How many numbers there are of each sort (specs/Limits). A count takes one value more than the numbers that it counts.
-pub const TASKS: u64 = 513;
+pub const TASKS: usize = 513;
 
-pub const OBJECTS: u64 = 256;
+pub const OBJECTS: usize = 256;
 
-pub const PLACES: u64 = 512;
+pub const PLACES: usize = 512;
 
-pub const ITEMS: u64 = 32;
+// Places of one gather.
+pub const ITEMS: usize = 32;
 
-pub const CALLS: u64 = 65536;
+pub const CALLS: usize = 65536;
+
+// Results of one batch, and the bytes of one.
+pub const RESULTS: usize = 64;
+
+pub const RESULT_BYTES: usize = 14;
+
+// Words of each lent slice; the objects' rows stand behind one row for the header.
+pub const TASKS_LEN: usize = 4104;
+
+pub const OBJECTS_LEN: usize = 2056;
+
+pub const PLACES_LEN: usize = 2048;
 
 // The number of an external call.
 pub struct CallId(pub u16);
@@ -30,7 +43,7 @@ impl CallId {
     pub fn from_word(n: u64) -> CallId
         ensures { λ r. ⌜ r ≡ to-call-id n ⌝ }
     {
-        CallId::new((n % CALLS) as u16)
+        CallId::new((n % CALLS as u64) as u16)
     }
 
     pub fn word(self) -> u64
@@ -55,7 +68,7 @@ impl TaskId {
     pub fn from_word(n: u64) -> TaskId
         ensures { λ r. ⌜ r ≡ to-task-id n ⌝ }
     {
-        TaskId::new((n % TASKS) as u16)
+        TaskId::new((n % TASKS as u64) as u16)
     }
 
     pub fn word(self) -> u64
@@ -84,7 +97,7 @@ impl HeapId {
     pub fn from_word(n: u64) -> HeapId
         ensures { λ r. ⌜ r ≡ to-heap-id n ⌝ }
     {
-        HeapId::new((n % OBJECTS) as u16)
+        HeapId::new((n % OBJECTS as u64) as u16)
     }
 
     pub fn word(self) -> u64
@@ -342,25 +355,6 @@ impl Kind {
         }
     }
 
-    // A coroutine that was not awaited yet.
-    pub fn is_new(self) -> bool
-        ensures { λ r. ⌜ r ≡ is-new self ⌝ }
-    {
-        match self {
-            Kind::Unmade => false,
-            Kind::NewCoroutine => true,
-            Kind::RunningCoroutine => false,
-            Kind::CompletedCoroutine => false,
-            Kind::PendingExternal => false,
-            Kind::ResolvedExternal => false,
-            Kind::FailedExternal => false,
-            Kind::PendingGather => false,
-            Kind::AwaitedGather => false,
-            Kind::CompletedGather => false,
-            Kind::FailedGather => false,
-        }
-    }
-
     pub fn is_external(self) -> bool
         ensures { λ r. ⌜ r ≡ is-external self ⌝ }
     {
@@ -412,24 +406,6 @@ impl Kind {
             Kind::AwaitedGather => true,
             Kind::CompletedGather => true,
             Kind::FailedGather => true,
-        }
-    }
-
-    pub fn is_pending_gather(self) -> bool
-        ensures { λ r. ⌜ r ≡ is-pending-gather self ⌝ }
-    {
-        match self {
-            Kind::Unmade => false,
-            Kind::NewCoroutine => false,
-            Kind::RunningCoroutine => false,
-            Kind::CompletedCoroutine => false,
-            Kind::PendingExternal => false,
-            Kind::ResolvedExternal => false,
-            Kind::FailedExternal => false,
-            Kind::PendingGather => true,
-            Kind::AwaitedGather => false,
-            Kind::CompletedGather => false,
-            Kind::FailedGather => false,
         }
     }
 

@@ -23,6 +23,7 @@ use crate::TaskState;
 use crate::Value;
 ghost use mathlib.Core.Path.{_≡_};
 ghost use Prim.Native.Nat.{min, _≤_};
+ghost use Rattle.asyncio.specs.Limits.{place-limit};
 ghost use Rattle.asyncio.specs.Numbers.{to-u32, to-first, to-count};
 ghost use Rattle.asyncio.specs.Layout.{value-words, to-value, option-words, to-option, error-words, to-error, awaiter-words, to-awaiter};
 ghost use Rattle.asyncio.specs.Layout.{kind-word, to-kind, object-row, coroutine-words, external-words, gather-words, object-words};
@@ -45,20 +46,21 @@ pub fn to_u32(n: u64) -> u32
 pub fn to_first(n: u64) -> u16
     ensures { λ r. ⌜ r ≡ to-first n ⌝ }
 {
-    (n % (PLACES + 1)) as u16
+    (n % (PLACES as u64 + 1)) as u16
 }
 
-fn least(a: u64, b: u64) -> u64
+// The lower of two numbers.
+pub fn least(a: u64, b: u64) -> u64
     ensures { λ r. ⌜ r ≡ min a b ⌝ }
 {
     if a < b { a } else { b }
 }
 
 pub fn to_count(first: u16, n: u64) -> u16
-    requires { ⌜ first ≤ 512 ⌝ }
+    requires { ⌜ first ≤ place-limit ⌝ }
     ensures { λ r. ⌜ r ≡ to-count first n ⌝ }
 {
-    least(n % (ITEMS + 1), PLACES - first as u64) as u16
+    least(n % (ITEMS as u64 + 1), PLACES as u64 - first as u64) as u16
 }
 
 // ---- values, errors, awaiters
@@ -86,10 +88,10 @@ pub fn option_words(x: OptionValue) -> Words2
 {
     match x {
         OptionValue::None => Words2(0, 0),
-        OptionValue::Some(v) => match v {
-            Value::Plain(n) => Words2(1, n),
-            Value::List(h) => Words2(2, h.word()),
-        },
+        OptionValue::Some(v) => {
+            let w = value_words(v);
+            Words2(w.0 + 1, w.1)
+        }
     }
 }
 
@@ -98,8 +100,7 @@ pub fn to_option(tag: u64, n: u64) -> OptionValue
 {
     match tag {
         0 => OptionValue::None,
-        1 => OptionValue::Some(Value::Plain(n)),
-        _ => OptionValue::Some(Value::List(HeapId::from_word(n))),
+        _ => OptionValue::Some(to_value(tag - 1, n)),
     }
 }
 
@@ -462,10 +463,10 @@ pub fn to_header(w: [u64; 8]) -> Header
 {
     let moment = to_moment(w[4], w[5]);
     Header {
-        made: (w[0] % (OBJECTS + 1)) as u16,
-        used: (w[1] % (PLACES + 1)) as u16,
-        calls: (w[2] % (CALLS + 1)) as u32,
-        next: (w[3] % (TASKS + 1)) as u16,
+        made: (w[0] % (OBJECTS as u64 + 1)) as u16,
+        used: (w[1] % (PLACES as u64 + 1)) as u16,
+        calls: (w[2] % (CALLS as u64 + 1)) as u32,
+        next: (w[3] % (TASKS as u64 + 1)) as u16,
         moment,
     }
 }

@@ -22,7 +22,7 @@ use Rattle.asyncio.specs.declared.Kind.{Kind}
 use Rattle.asyncio.specs.declared.Place.{Place}
 use Rattle.asyncio.specs.States.{pick}
 use Rattle.asyncio.specs.Numbers.{heap-id}
-use Rattle.asyncio.specs.Kinds.{kind, is-gather, is-pending-gather}
+use Rattle.asyncio.specs.Kinds.{kind, each-kind, is-gather, is-pending-gather}
 use Rattle.asyncio.specs.Limits.{task-limit, object-limit}
 use Rattle.asyncio.specs.Parts.{count-of}
 use Rattle.asyncio.specs.Ranges.{ObjectFits, PlacesFit}
@@ -85,17 +85,7 @@ same-kinds-then k l = record { sized = l .sized; kinds = λ o. l .kinds o ∙ k 
 
 -- a test that awaited and completed gathers pass alike
 phase-test : (p : Kind → Bool) → p Kind.AwaitedGather ≡ p Kind.CompletedGather → (k : Kind) → p (phase k) ≡ p k
-phase-test p e Kind.Unmade = refl
-phase-test p e Kind.NewCoroutine = refl
-phase-test p e Kind.RunningCoroutine = refl
-phase-test p e Kind.CompletedCoroutine = refl
-phase-test p e Kind.PendingExternal = refl
-phase-test p e Kind.ResolvedExternal = refl
-phase-test p e Kind.FailedExternal = refl
-phase-test p e Kind.PendingGather = refl
-phase-test p e Kind.AwaitedGather = refl
-phase-test p e Kind.CompletedGather = e
-phase-test p e Kind.FailedGather = refl
+phase-test p e k = each-kind (λ (k : Kind). p (phase k) ≡ p k) refl refl refl refl refl refl refl refl refl e refl k
 
 kinds-in-same : (p : Kind → Bool) (os us : List ℕ) → ((o : ℕ) → p (kind (object-at us o)) ≡ p (kind (object-at os o))) → kinds-in p us ≡ kinds-in p os
 unfolding kinds-in

@@ -15,6 +15,7 @@ use Rattle.asyncio.specs.declared.Error.{Error}
 use Rattle.asyncio.specs.declared.TaskState.{TaskState}
 use Rattle.asyncio.specs.declared.Task.{Task}
 use Rattle.asyncio.specs.declared.Awaiter.{Awaiter}
+use Rattle.asyncio.specs.declared.ExternalFutureState.{ExternalFutureState}
 use Rattle.asyncio.specs.declared.GatherState.{GatherState}
 use Rattle.asyncio.specs.declared.Object.{Object}
 use Rattle.asyncio.specs.States.{pick, is-live, is-blocked}
@@ -26,7 +27,7 @@ use Rattle.rows.specs.Tables.{task-at, object-at, object-put, place-at}
 use Rattle.rows.specs.TableLaws.{object-at-other, length-place-put}
 use Rattle.machine_laws.specs.CountLaws.{count-same, count-drop}
 use Rattle.machine.specs.Store.{Store, task, put-task, object, put-object, put-places, header, restate, set-state, add-log, put-queue, reached}
-use Rattle.machine.specs.Scheduler.{AwaitedGather, as-awaited, bit, live, live-in, live-count, make-ready, push-ready}
+use Rattle.machine.specs.Scheduler.{AwaitedGather, PendingExternal, as-awaited, as-pending, first-from, bit, live, live-in, live-count, make-ready, push-ready}
 use Rattle.machine.specs.Delivery.{Delivery, nobody-woken, deliver-to-task, Filled, fill-one, fill-from}
 use Rattle.machine.specs.Delivery.{Settled, resolve-left, resolve-awaited, resolve-child, fail-awaited, fail-gather, climb, awaited-in, awaited-count}
 use Rattle.machine.specs.Delivery.{send-value, climb-value, deliver-awaiter-success, send-error, climb-error, deliver-awaiter-failure}
@@ -97,6 +98,27 @@ awaited-object (Object.GatherFuture f n (GatherState.Awaited a m)) w e =
     ap (λ (y : AwaitedGather). Object.GatherFuture (y .first) (y .count) (GatherState.Awaited (y .awaiter) (y .open-places))) (Option·some-injective _ w e)
 awaited-object (Object.GatherFuture f n GatherState.Completed) w e = absurd-some e
 awaited-object (Object.GatherFuture f n (GatherState.Failed x)) w e = absurd-some e
+
+-- the object that reads as a pending external
+pub pending-object : (x : Object) (p : PendingExternal) → as-pending x ≡ some p → x ≡ Object.ExternalFuture (p .call) (ExternalFutureState.Pending (p .awaiter) (p .stored))
+unfolding as-pending
+pending-object Object.Unmade p e = absurd-some e
+pending-object (Object.Coroutine f y) p e = absurd-some e
+pending-object (Object.ExternalFuture c (ExternalFutureState.Pending a r)) p e =
+    ap (λ (u : PendingExternal). Object.ExternalFuture (u .call) (ExternalFutureState.Pending (u .awaiter) (u .stored))) (Option·some-injective _ p e)
+pending-object (Object.ExternalFuture c (ExternalFutureState.Resolved y)) p e = absurd-some e
+pending-object (Object.ExternalFuture c (ExternalFutureState.Failed y)) p e = absurd-some e
+pending-object (Object.GatherFuture f n y) p e = absurd-some e
+
+-- what is found is one of the numbers that were looked at
+pub first-below : (p : ℕ → Bool) (k i o : ℕ) → first-from p i k ≡ some o → o < i + k
+unfolding first-from
+first-below p zero i o e = absurd-some e
+first-below p (suc k) i o e = by (p i) e (λ q. first-below p k (i + 1) o q)
+  where
+    by : (b : Bool) → pick b (some i) (first-from p (i + 1) k) ≡ some o → (first-from p (i + 1) k ≡ some o → o < i + 1 + k) → o < i + suc k
+    by true q f = let z : i ≡ o = Option·some-injective i o q in omega arith
+    by false q f = omega (arith, f q)
 
 -- its parts are in range
 pub awaited-fits : (s : Store) (g : ℕ) (w : AwaitedGather) → as-awaited (object s g) ≡ some w

@@ -12,6 +12,8 @@ pub mod FactLaws
 pub mod MakingLaws
 pub mod WordLaws
 pub mod SoundLaws
-pub mod SizedLaws
 pub mod CycleLaws
 pub mod WokenLaws
+pub mod Walk
+pub mod WalkEvents
+pub mod SizedLaws

@@ -17,7 +17,7 @@ use Rattle.asyncio.specs.declared.CoroutineState.{CoroutineState}
 use Rattle.asyncio.specs.declared.ExternalFutureState.{ExternalFutureState}
 use Rattle.asyncio.specs.declared.GatherState.{GatherState}
 use Rattle.asyncio.specs.States.{pick, is-live}
-use Rattle.asyncio.specs.Kinds.{kind}
+use Rattle.asyncio.specs.Kinds.{kind, each-object}
 use Rattle.asyncio.specs.Parts.{count-of}
 use Rattle.asyncio.specs.Layout.{object-words, to-object, to-task, state-words, to-state}
 use Rattle.asyncio.specs.Limits.{task-limit, object-limit, place-limit, objects-length, places-length}
@@ -125,17 +125,10 @@ header-put-header s h z f = header-at-put (s .objects) h f (omega (arith, z .obj
 
 kind-back : (r : Object) → kind (to-object (object-words r)) ≡ kind r
 unfolding kind
-kind-back Object.Unmade = refl
-kind-back (Object.Coroutine f CoroutineState.New) = refl
-kind-back (Object.Coroutine f CoroutineState.Running) = refl
-kind-back (Object.Coroutine f CoroutineState.Completed) = refl
-kind-back (Object.ExternalFuture c (ExternalFutureState.Pending a x)) = refl
-kind-back (Object.ExternalFuture c (ExternalFutureState.Resolved v)) = refl
-kind-back (Object.ExternalFuture c (ExternalFutureState.Failed e)) = refl
-kind-back (Object.GatherFuture i n GatherState.Pending) = refl
-kind-back (Object.GatherFuture i n (GatherState.Awaited a m)) = refl
-kind-back (Object.GatherFuture i n GatherState.Completed) = refl
-kind-back (Object.GatherFuture i n (GatherState.Failed e)) = refl
+kind-back r =
+    each-object (λ (r : Object). kind (to-object (object-words r)) ≡ kind r)
+    refl (λ f. refl) (λ f. refl) (λ f. refl) (λ c a x. refl) (λ c v. refl) (λ c e. refl) (λ i n. refl) (λ i n a m. refl) (λ i n. refl)
+    (λ i n e. refl) r
 
 pub kind-at-put : (w : List ℕ) (o : ℕ) (r : Object) → length w ≡ objects-length → o < object-limit → kind (object-at (object-put w o r) o) ≡ kind r
 unfolding object-at object-put

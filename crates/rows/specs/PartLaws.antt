@@ -6,7 +6,7 @@ use native.Mathlib.Nat.{add-zero}
 use lib.ListN.{getD}
 use Rattle.asyncio.specs.Numbers.{call-id, to-call-id, to-u32, to-first, to-count}
 use Rattle.asyncio.specs.States.{pick}
-use Rattle.asyncio.specs.Kinds.{kind, has-awaiter, is-external, is-gather, is-awaited}
+use Rattle.asyncio.specs.Kinds.{kind, each-kind, has-awaiter, is-external, is-gather, is-awaited}
 use Rattle.asyncio.specs.Layout.{to-kind, to-awaiter, row-awaiter, row-object}
 use Rattle.rows.specs.Tables.{object-at, object-start}
 use Rattle.asyncio.specs.Parts.{awaiter-of, call-of, first-of, count-of, open-of}
@@ -18,87 +18,39 @@ use Rattle.asyncio.specs.declared.Kind.{Kind}
 
 row-kind : (k : Kind) (w : List ℕ) → kind (row-object k w) ≡ k
 unfolding kind
-row-kind Kind.Unmade w = refl
-row-kind Kind.NewCoroutine w = refl
-row-kind Kind.RunningCoroutine w = refl
-row-kind Kind.CompletedCoroutine w = refl
-row-kind Kind.PendingExternal w = refl
-row-kind Kind.ResolvedExternal w = refl
-row-kind Kind.FailedExternal w = refl
-row-kind Kind.PendingGather w = refl
-row-kind Kind.AwaitedGather w = refl
-row-kind Kind.CompletedGather w = refl
-row-kind Kind.FailedGather w = refl
+row-kind k w =
+    each-kind (λ k. kind (row-object k w) ≡ k)
+    refl refl refl refl refl refl refl refl refl refl refl k
 
 row-awaits : (k : Kind) (w : List ℕ) → awaiter-of (row-object k w) ≡ pick (has-awaiter k) (row-awaiter w) Awaiter.Nobody
 unfolding awaiter-of
-row-awaits Kind.Unmade w = refl
-row-awaits Kind.NewCoroutine w = refl
-row-awaits Kind.RunningCoroutine w = refl
-row-awaits Kind.CompletedCoroutine w = refl
-row-awaits Kind.PendingExternal w = refl
-row-awaits Kind.ResolvedExternal w = refl
-row-awaits Kind.FailedExternal w = refl
-row-awaits Kind.PendingGather w = refl
-row-awaits Kind.AwaitedGather w = refl
-row-awaits Kind.CompletedGather w = refl
-row-awaits Kind.FailedGather w = refl
+row-awaits k w =
+    each-kind (λ k. awaiter-of (row-object k w) ≡ pick (has-awaiter k) (row-awaiter w) Awaiter.Nobody)
+    refl refl refl refl refl refl refl refl refl refl refl k
 
 row-call : (k : Kind) (w : List ℕ) → call-of (row-object k w) ≡ pick (is-external k) (to-call-id (getD w 4 0)) (call-id 0)
 unfolding call-of
-row-call Kind.Unmade w = refl
-row-call Kind.NewCoroutine w = refl
-row-call Kind.RunningCoroutine w = refl
-row-call Kind.CompletedCoroutine w = refl
-row-call Kind.PendingExternal w = refl
-row-call Kind.ResolvedExternal w = refl
-row-call Kind.FailedExternal w = refl
-row-call Kind.PendingGather w = refl
-row-call Kind.AwaitedGather w = refl
-row-call Kind.CompletedGather w = refl
-row-call Kind.FailedGather w = refl
+row-call k w =
+    each-kind (λ k. call-of (row-object k w) ≡ pick (is-external k) (to-call-id (getD w 4 0)) (call-id 0))
+    refl refl refl refl refl refl refl refl refl refl refl k
 
 row-first : (k : Kind) (w : List ℕ) → first-of (row-object k w) ≡ pick (is-gather k) (to-first (getD w 4 0)) 0
 unfolding first-of
-row-first Kind.Unmade w = refl
-row-first Kind.NewCoroutine w = refl
-row-first Kind.RunningCoroutine w = refl
-row-first Kind.CompletedCoroutine w = refl
-row-first Kind.PendingExternal w = refl
-row-first Kind.ResolvedExternal w = refl
-row-first Kind.FailedExternal w = refl
-row-first Kind.PendingGather w = refl
-row-first Kind.AwaitedGather w = refl
-row-first Kind.CompletedGather w = refl
-row-first Kind.FailedGather w = refl
+row-first k w =
+    each-kind (λ k. first-of (row-object k w) ≡ pick (is-gather k) (to-first (getD w 4 0)) 0)
+    refl refl refl refl refl refl refl refl refl refl refl k
 
 row-count : (k : Kind) (w : List ℕ) → count-of (row-object k w) ≡ pick (is-gather k) (to-count (to-first (getD w 4 0)) (getD w 5 0)) 0
 unfolding count-of
-row-count Kind.Unmade w = refl
-row-count Kind.NewCoroutine w = refl
-row-count Kind.RunningCoroutine w = refl
-row-count Kind.CompletedCoroutine w = refl
-row-count Kind.PendingExternal w = refl
-row-count Kind.ResolvedExternal w = refl
-row-count Kind.FailedExternal w = refl
-row-count Kind.PendingGather w = refl
-row-count Kind.AwaitedGather w = refl
-row-count Kind.CompletedGather w = refl
-row-count Kind.FailedGather w = refl
+row-count k w =
+    each-kind (λ k. count-of (row-object k w) ≡ pick (is-gather k) (to-count (to-first (getD w 4 0)) (getD w 5 0)) 0)
+    refl refl refl refl refl refl refl refl refl refl refl k
 
 row-open : (k : Kind) (w : List ℕ) → open-of (row-object k w) ≡ pick (is-awaited k) (to-u32 (getD w 6 0)) 0
 unfolding open-of
-row-open Kind.Unmade w = refl
-row-open Kind.NewCoroutine w = refl
-row-open Kind.RunningCoroutine w = refl
-row-open Kind.CompletedCoroutine w = refl
-row-open Kind.PendingExternal w = refl
-row-open Kind.ResolvedExternal w = refl
-row-open Kind.FailedExternal w = refl
-row-open Kind.PendingGather w = refl
-row-open Kind.AwaitedGather w = refl
-row-open Kind.CompletedGather w = refl
-row-open Kind.FailedGather w = refl
+row-open k w =
+    each-kind (λ k. open-of (row-object k w) ≡ pick (is-awaited k) (to-u32 (getD w 6 0)) 0)
+    refl refl refl refl refl refl refl refl refl refl refl k
 
 -- ---- of object o of a slice
 

@@ -14,19 +14,16 @@ use asyncio::words::to_option;
 use asyncio::words::to_state;
 use asyncio::words::to_u32;
 ghost use mathlib.Core.Path.{_≡_};
-ghost use Prim.Native.Nat.{_<_};
-ghost use lib.ListN.{length};
 ghost use Rattle.asyncio.specs.Kinds.{kind};
-ghost use Rattle.asyncio.specs.Limits.{task-limit, object-limit, place-limit, tasks-length, objects-length, places-length};
 ghost use Rattle.asyncio.specs.Parts.{awaiter-of, call-of, first-of, count-of, open-of};
-ghost use Rattle.rows.specs.Tables.{task-at, place-at, object-at};
+ghost use Rattle.rows.specs.Slices.{TaskRow, ObjectRow, PlaceRow, task-in, object-in, place-in};
 
 // ---- objects
 
 // Its sort and state.
 pub fn kind_at(objects: &[u64], o: HeapId) -> Kind
-    requires { ⌜ (length (now objects) ≡ objects-length) × (o .0 < object-limit) ⌝ }
-    ensures { λ r. ⌜ r ≡ kind (object-at (now (objects .entry)) (o .0)) ⌝ }
+    requires { ⌜ ObjectRow objects (o .0) ⌝ }
+    ensures { λ r. ⌜ r ≡ kind (object-in objects (o .0)) ⌝ }
 {
     let i = o.0 as usize;
     let at = i * 8 + 8;
@@ -35,8 +32,8 @@ pub fn kind_at(objects: &[u64], o: HeapId) -> Kind
 
 // The awaiter of a pending external or an awaited gather, else nobody.
 pub fn awaiter_at(objects: &[u64], o: HeapId) -> Awaiter
-    requires { ⌜ (length (now objects) ≡ objects-length) × (o .0 < object-limit) ⌝ }
-    ensures { λ r. ⌜ r ≡ awaiter-of (object-at (now (objects .entry)) (o .0)) ⌝ }
+    requires { ⌜ ObjectRow objects (o .0) ⌝ }
+    ensures { λ r. ⌜ r ≡ awaiter-of (object-in objects (o .0)) ⌝ }
 {
     let i = o.0 as usize;
     let at = i * 8 + 8;
@@ -49,8 +46,8 @@ pub fn awaiter_at(objects: &[u64], o: HeapId) -> Awaiter
 
 // The call of an external, else 0.
 pub fn call_at(objects: &[u64], o: HeapId) -> CallId
-    requires { ⌜ (length (now objects) ≡ objects-length) × (o .0 < object-limit) ⌝ }
-    ensures { λ r. ⌜ r ≡ call-of (object-at (now (objects .entry)) (o .0)) ⌝ }
+    requires { ⌜ ObjectRow objects (o .0) ⌝ }
+    ensures { λ r. ⌜ r ≡ call-of (object-in objects (o .0)) ⌝ }
 {
     let i = o.0 as usize;
     let at = i * 8 + 8;
@@ -63,8 +60,8 @@ pub fn call_at(objects: &[u64], o: HeapId) -> CallId
 
 // The first place of a gather, else 0.
 pub fn first_at(objects: &[u64], o: HeapId) -> u16
-    requires { ⌜ (length (now objects) ≡ objects-length) × (o .0 < object-limit) ⌝ }
-    ensures { λ r. ⌜ r ≡ first-of (object-at (now (objects .entry)) (o .0)) ⌝ }
+    requires { ⌜ ObjectRow objects (o .0) ⌝ }
+    ensures { λ r. ⌜ r ≡ first-of (object-in objects (o .0)) ⌝ }
 {
     let i = o.0 as usize;
     let at = i * 8 + 8;
@@ -77,8 +74,8 @@ pub fn first_at(objects: &[u64], o: HeapId) -> u16
 
 // The number of places of a gather, else 0.
 pub fn count_at(objects: &[u64], o: HeapId) -> u16
-    requires { ⌜ (length (now objects) ≡ objects-length) × (o .0 < object-limit) ⌝ }
-    ensures { λ r. ⌜ r ≡ count-of (object-at (now (objects .entry)) (o .0)) ⌝ }
+    requires { ⌜ ObjectRow objects (o .0) ⌝ }
+    ensures { λ r. ⌜ r ≡ count-of (object-in objects (o .0)) ⌝ }
 {
     let i = o.0 as usize;
     let at = i * 8 + 8;
@@ -91,8 +88,8 @@ pub fn count_at(objects: &[u64], o: HeapId) -> u16
 
 // The open places of an awaited gather, else 0.
 pub fn open_at(objects: &[u64], o: HeapId) -> u32
-    requires { ⌜ (length (now objects) ≡ objects-length) × (o .0 < object-limit) ⌝ }
-    ensures { λ r. ⌜ r ≡ open-of (object-at (now (objects .entry)) (o .0)) ⌝ }
+    requires { ⌜ ObjectRow objects (o .0) ⌝ }
+    ensures { λ r. ⌜ r ≡ open-of (object-in objects (o .0)) ⌝ }
 {
     let i = o.0 as usize;
     let at = i * 8 + 8;
@@ -106,8 +103,8 @@ pub fn open_at(objects: &[u64], o: HeapId) -> u32
 // ---- tasks
 
 pub fn state_at(tasks: &[u64], t: TaskId) -> TaskState
-    requires { ⌜ (length (now tasks) ≡ tasks-length) × (t .0 < task-limit) ⌝ }
-    ensures { λ r. ⌜ r ≡ task-at (now (tasks .entry)) (t .0) .state ⌝ }
+    requires { ⌜ TaskRow tasks (t .0) ⌝ }
+    ensures { λ r. ⌜ r ≡ task-in tasks (t .0) .state ⌝ }
 {
     let i = t.0 as usize;
     let at = i * 8;
@@ -115,8 +112,8 @@ pub fn state_at(tasks: &[u64], t: TaskId) -> TaskState
 }
 
 pub fn task_awaiter_at(tasks: &[u64], t: TaskId) -> Awaiter
-    requires { ⌜ (length (now tasks) ≡ tasks-length) × (t .0 < task-limit) ⌝ }
-    ensures { λ r. ⌜ r ≡ task-at (now (tasks .entry)) (t .0) .awaiter ⌝ }
+    requires { ⌜ TaskRow tasks (t .0) ⌝ }
+    ensures { λ r. ⌜ r ≡ task-in tasks (t .0) .awaiter ⌝ }
 {
     let i = t.0 as usize;
     let at = i * 8;
@@ -124,8 +121,8 @@ pub fn task_awaiter_at(tasks: &[u64], t: TaskId) -> Awaiter
 }
 
 pub fn coroutine_at(tasks: &[u64], t: TaskId) -> HeapId
-    requires { ⌜ (length (now tasks) ≡ tasks-length) × (t .0 < task-limit) ⌝ }
-    ensures { λ r. ⌜ r ≡ task-at (now (tasks .entry)) (t .0) .coroutine ⌝ }
+    requires { ⌜ TaskRow tasks (t .0) ⌝ }
+    ensures { λ r. ⌜ r ≡ task-in tasks (t .0) .coroutine ⌝ }
 {
     let i = t.0 as usize;
     let at = i * 8;
@@ -135,16 +132,16 @@ pub fn coroutine_at(tasks: &[u64], t: TaskId) -> HeapId
 // ---- places
 
 pub fn item_at(places: &[u64], p: usize) -> HeapId
-    requires { ⌜ (length (now places) ≡ places-length) × (p < place-limit) ⌝ }
-    ensures { λ r. ⌜ r ≡ place-at (now (places .entry)) p .item ⌝ }
+    requires { ⌜ PlaceRow places p ⌝ }
+    ensures { λ r. ⌜ r ≡ place-in places p .item ⌝ }
 {
     let at = p * 4;
     HeapId::from_word(places[at])
 }
 
 pub fn result_at(places: &[u64], p: usize) -> OptionValue
-    requires { ⌜ (length (now places) ≡ places-length) × (p < place-limit) ⌝ }
-    ensures { λ r. ⌜ r ≡ place-at (now (places .entry)) p .result ⌝ }
+    requires { ⌜ PlaceRow places p ⌝ }
+    ensures { λ r. ⌜ r ≡ place-in places p .result ⌝ }
 {
     let at = p * 4;
     to_option(places[at + 1], places[at + 2])

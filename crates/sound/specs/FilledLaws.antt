@@ -6,7 +6,7 @@ use Prim.Native.Nat.{ℕ, _/_, _%_, _^_}
 use lib.Dec.{eqb}
 use borrow.Author.Tests.{eq-eqb, ne-eqb}
 use Rattle.asyncio.specs.States.{pick}
-use Rattle.asyncio.specs.Kinds.{kind, is-awaited, is-completed}
+use Rattle.asyncio.specs.Kinds.{kind, each-object, is-awaited, is-completed}
 use Rattle.asyncio.specs.Parts.{first-of, count-of, open-of}
 use Rattle.asyncio.specs.declared.CoroutineState.{CoroutineState}
 use Rattle.asyncio.specs.declared.ExternalFutureState.{ExternalFutureState}
@@ -34,17 +34,10 @@ module _ (ps : List ℕ) (p m k : ℕ) where
 filled-by : (ps : ℕ → Place) (x : Object) → object-filled ps x
     ≡ pick (is-awaited (kind x)) (not (eqb (open-of x) 0) and rest-filled ps (first-of x) (count-of x) (open-of x)) (pick (is-completed (kind x)) (rest-filled ps (first-of x) (count-of x) 0) true)
 unfolding object-filled gather-filled kind open-of first-of count-of
-filled-by ps Object.Unmade = refl
-filled-by ps (Object.Coroutine f CoroutineState.New) = refl
-filled-by ps (Object.Coroutine f CoroutineState.Running) = refl
-filled-by ps (Object.Coroutine f CoroutineState.Completed) = refl
-filled-by ps (Object.ExternalFuture c (ExternalFutureState.Pending w x)) = refl
-filled-by ps (Object.ExternalFuture c (ExternalFutureState.Resolved v)) = refl
-filled-by ps (Object.ExternalFuture c (ExternalFutureState.Failed e)) = refl
-filled-by ps (Object.GatherFuture i n GatherState.Pending) = refl
-filled-by ps (Object.GatherFuture i n (GatherState.Awaited w m)) = refl
-filled-by ps (Object.GatherFuture i n GatherState.Completed) = refl
-filled-by ps (Object.GatherFuture i n (GatherState.Failed e)) = refl
+filled-by ps x =
+    each-object (λ (x : Object). object-filled ps x ≡ pick (is-awaited (kind x)) (not (eqb (open-of x) 0) and rest-filled ps (first-of x) (count-of x) (open-of x)) (pick (is-completed (kind x)) (rest-filled ps (first-of x) (count-of x) 0) true))
+    refl (λ f. refl) (λ f. refl) (λ f. refl) (λ c w x. refl) (λ c v. refl) (λ c e. refl) (λ i n. refl) (λ i n w m. refl) (λ i n. refl)
+    (λ i n e. refl) x
 
 module _ (ps : ℕ → Place) (os : List ℕ) (o : ℕ) {k : Kind} (e : k ≡ kind (object-at os o)) where
   pub filled-other : is-awaited k ≡ false → is-completed k ≡ false → true ≡ object-filled ps (object-at os o)

@@ -7,7 +7,7 @@ use native.Mathlib.Omega.{arith}
 use lib.Dec.{eqb}
 use borrow.Author.Tests.{eq-eqb, ne-eqb}
 use Rattle.asyncio.specs.States.{pick, is-live}
-use Rattle.asyncio.specs.Kinds.{kind, is-awaited, is-committed}
+use Rattle.asyncio.specs.Kinds.{kind, each-object, is-awaited, is-committed}
 use Rattle.asyncio.specs.Parts.{first-of, count-of, open-of}
 use Rattle.asyncio.specs.declared.Awaiter.{Awaiter}
 use Rattle.asyncio.specs.declared.CoroutineState.{CoroutineState}
@@ -18,6 +18,7 @@ use Rattle.asyncio.specs.declared.Kind.{Kind}
 use Rattle.asyncio.specs.declared.Object.{Object}
 use Rattle.asyncio.specs.declared.Place.{Place}
 use Rattle.asyncio.specs.declared.TaskState.{TaskState}
+use Rattle.asyncio.specs.declared.Task.{Task}
 use Rattle.rows.specs.Tables.{task-at, object-at, place-at}
 use Rattle.machine.specs.Tests.{_and_, implies}
 use Rattle.machine.specs.Scheduler.{bit, as-awaited, AwaitedGather}
@@ -31,6 +32,14 @@ open-here ps f m o k = bit m k && eqb (ps (f + k) .item .0) o
 -- an awaited gather as the search reads it: the awaiter does not matter
 abbrev pub gather-parts : ℕ → ℕ → ℕ → AwaitedGather
 gather-parts f n m = record { first = f; count = n; awaiter = Awaiter.Nobody; open-places = m }
+
+-- gather g was committed and, if it is awaited, has object o open
+abbrev pub gather-holds : (ℕ → Object) → (ℕ → Place) → ℕ → ℕ → Bool
+gather-holds os ps g o = is-committed (kind (os g)) and source-open ps (as-awaited (os g)) o
+
+-- the awaiter of task t, if it lives, for its coroutine
+abbrev pub task-slot-open : (ℕ → Object) → (ℕ → Task) → (ℕ → Place) → ℕ → Bool
+task-slot-open os ts ps t = implies (is-live (ts t .state)) (slot-open os ps (ts t .coroutine .0) (ts t .awaiter))
 
 -- ---- a place
 
@@ -70,17 +79,10 @@ parts-same ps f n m o a i (suc k) = rw (parts-same ps f n m o a (i + 1) k)
 holds-by : (ps : ℕ → Place) (x : Object) (o : ℕ) → is-committed (kind x) and source-open ps (as-awaited x) o
     ≡ pick (is-awaited (kind x)) (open-from ps (gather-parts (first-of x) (count-of x) (open-of x)) o 0 (count-of x)) (is-committed (kind x))
 unfolding _and_ source-open as-awaited kind first-of count-of open-of
-holds-by ps Object.Unmade o = refl
-holds-by ps (Object.Coroutine f CoroutineState.New) o = refl
-holds-by ps (Object.Coroutine f CoroutineState.Running) o = refl
-holds-by ps (Object.Coroutine f CoroutineState.Completed) o = refl
-holds-by ps (Object.ExternalFuture c (ExternalFutureState.Pending w x)) o = refl
-holds-by ps (Object.ExternalFuture c (ExternalFutureState.Resolved v)) o = refl
-holds-by ps (Object.ExternalFuture c (ExternalFutureState.Failed e)) o = refl
-holds-by ps (Object.GatherFuture i n GatherState.Pending) o = refl
-holds-by ps (Object.GatherFuture i n (GatherState.Awaited w m)) o = parts-same ps i n m o w 0 n
-holds-by ps (Object.GatherFuture i n GatherState.Completed) o = refl
-holds-by ps (Object.GatherFuture i n (GatherState.Failed e)) o = refl
+holds-by ps x o =
+    each-object (λ (x : Object). is-committed (kind x) and source-open ps (as-awaited x) o ≡ pick (is-awaited (kind x)) (open-from ps (gather-parts (first-of x) (count-of x) (open-of x)) o 0 (count-of x)) (is-committed (kind x)))
+    refl (λ f. refl) (λ f. refl) (λ f. refl) (λ c w x. refl) (λ c v. refl) (λ c e. refl) (λ i n. refl)
+    (λ i n w m. parts-same ps i n m o w 0 n) (λ i n. refl) (λ i n e. refl) x
 
 module _ (ps : ℕ → Place) (os : List ℕ) (g o : ℕ) {k : Kind} {r : Bool} (e : k ≡ kind (object-at os g)) where
   pub holds-settled : is-awaited k ≡ false → r ≡ is-committed k → r ≡ is-committed (kind (object-at os g)) and source-open ps (as-awaited (object-at os g)) o

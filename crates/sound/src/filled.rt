@@ -9,9 +9,9 @@ use rows::parts::result_at;
 ghost use mathlib.Core.Path.{_≡_};
 ghost use mathlib.Core.Bool.{_||_};
 ghost use Prim.Native.Nat.{_<_, _+_, _≤_};
-ghost use lib.ListN.{length};
-ghost use Rattle.asyncio.specs.Limits.{object-limit, item-limit, place-limit, objects-length, places-length};
-ghost use Rattle.rows.specs.Tables.{object-at, place-at};
+ghost use Rattle.asyncio.specs.Limits.{object-limit, item-limit, place-limit};
+ghost use Rattle.rows.specs.Slices.{object-in, place-in};
+ghost use Rattle.contract.specs.Contract.{ObjectsLengthAnd, PlacesLengthAnd};
 ghost use Rattle.machine.specs.Scheduler.{bit};
 ghost use Rattle.machine.specs.Sound.{is-filled, rest-filled, object-filled, places-filled};
 
@@ -27,8 +27,8 @@ fn is_filled(x: OptionValue) -> bool
 
 // Place `k` of a gather whose places start at `first` is open in `m`, or filled.
 fn place_done(places: &[u64], first: usize, m: u32, k: usize) -> bool
-    requires { ⌜ (length (now places) ≡ places-length) × (first + k < place-limit) × (k < item-limit) ⌝ }
-    ensures { λ r. ⌜ r ≡ (bit m k || is-filled (place-at (now (places .entry)) (first + k) .result)) ⌝ }
+    requires { ⌜ PlacesLengthAnd places ((first + k < place-limit) × (k < item-limit)) ⌝ }
+    ensures { λ r. ⌜ r ≡ (bit m k || is-filled (place-in places (first + k) .result)) ⌝ }
 {
     if (m >> k) % 2 == 0 {
         return is_filled(result_at(places, first + k));
@@ -38,8 +38,8 @@ fn place_done(places: &[u64], first: usize, m: u32, k: usize) -> bool
 
 // The places not open in `m` are filled.
 fn rest_filled(places: &[u64], first: usize, n: usize, m: u32) -> bool
-    requires { ⌜ (length (now places) ≡ places-length) × (first + n ≤ place-limit) × (n ≤ item-limit) ⌝ }
-    ensures { λ r. ⌜ r ≡ rest-filled (place-at (now (places .entry))) first n m ⌝ }
+    requires { ⌜ PlacesLengthAnd places ((first + n ≤ place-limit) × (n ≤ item-limit)) ⌝ }
+    ensures { λ r. ⌜ r ≡ rest-filled (place-in places) first n m ⌝ }
 {
     let mut k: usize = 0;
     while k < n {
@@ -53,15 +53,15 @@ fn rest_filled(places: &[u64], first: usize, n: usize, m: u32) -> bool
 }
 
 // Object `o` by its kind: only gathers have places.
-fn object_filled(objects: &[u64], places: &[u64], o: u16) -> bool
-    requires { ⌜ (length (now objects) ≡ objects-length) × (length (now places) ≡ places-length) × (o < object-limit) ⌝ }
-    ensures { λ r. ⌜ r ≡ object-filled (place-at (now (places .entry))) (object-at (now (objects .entry)) o) ⌝ }
+fn object_filled(objects: &[u64], places: &[u64], o: HeapId) -> bool
+    requires { ⌜ ObjectsLengthAnd objects (PlacesLengthAnd places (o .0 < object-limit)) ⌝ }
+    ensures { λ r. ⌜ r ≡ object-filled (place-in places) (object-in objects (o .0)) ⌝ }
 {
-    let kind = kind_at(objects, HeapId(o));
-    let first = first_at(objects, HeapId(o));
-    let count = count_at(objects, HeapId(o));
+    let kind = kind_at(objects, o);
+    let first = first_at(objects, o);
+    let count = count_at(objects, o);
     if kind.is_awaited() {
-        let m = open_at(objects, HeapId(o));
+        let m = open_at(objects, o);
         if m == 0 {
             return false;
         }
@@ -75,12 +75,12 @@ fn object_filled(objects: &[u64], places: &[u64], o: u16) -> bool
 
 // Of every object.
 pub fn places_filled(made: u16, objects: &[u64], places: &[u64]) -> bool
-    requires { ⌜ (length (now objects) ≡ objects-length) × (length (now places) ≡ places-length) × (made ≤ object-limit) ⌝ }
-    ensures { λ r. ⌜ r ≡ places-filled made (object-at (now (objects .entry))) (place-at (now (places .entry))) ⌝ }
+    requires { ⌜ ObjectsLengthAnd objects (PlacesLengthAnd places (made ≤ object-limit)) ⌝ }
+    ensures { λ r. ⌜ r ≡ places-filled made (object-in objects) (place-in places) ⌝ }
 {
     let mut o: u16 = 0;
     while o < made {
-        if object_filled(objects, places, o) {
+        if object_filled(objects, places, HeapId::new(o)) {
             o += 1;
         } else {
             return false;

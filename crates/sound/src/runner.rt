@@ -7,10 +7,10 @@ use rows::parts::state_at;
 ghost use mathlib.Core.Path.{_≡_};
 ghost use mathlib.Core.Bool.{Bool·beq};
 ghost use Prim.Native.Nat.{_≤_};
-ghost use lib.ListN.{length};
-ghost use Rattle.asyncio.specs.Limits.{task-limit, tasks-length};
+ghost use Rattle.asyncio.specs.Limits.{task-limit};
 ghost use Rattle.asyncio.specs.States.{is-running};
-ghost use Rattle.rows.specs.Tables.{task-at};
+ghost use Rattle.rows.specs.Slices.{task-in};
+ghost use Rattle.contract.specs.Contract.{TasksLengthAnd};
 ghost use Rattle.machine.specs.Tests.{all-below};
 ghost use Rattle.machine.specs.Sound.{runs-now, runner-in-range, one-runs};
 
@@ -51,14 +51,14 @@ fn runs_as_told(m: Moment, t: u16, s: TaskState) -> bool
 }
 
 fn tasks_as_told(header: Header, tasks: &[u64]) -> bool
-    requires { ⌜ (length (now tasks) ≡ tasks-length) × (header .next ≤ task-limit) ⌝ }
-    ensures { λ r. ⌜ r ≡ all-below (header .next) (λ t. Bool·beq (is-running (task-at (now (tasks .entry)) t .state)) (runs-now (header .moment) t)) ⌝ }
+    requires { ⌜ TasksLengthAnd tasks (header .next ≤ task-limit) ⌝ }
+    ensures { λ r. ⌜ r ≡ all-below (header .next) (λ t. Bool·beq (is-running (task-in tasks t .state)) (runs-now (header .moment) t)) ⌝ }
 {
     let next = header.next;
     let moment = header.moment;
     let mut t: u16 = 0;
     while t < next {
-        if runs_as_told(moment, t, state_at(tasks, TaskId(t))) {
+        if runs_as_told(moment, t, state_at(tasks, TaskId::new(t))) {
             t += 1;
         } else {
             return false;
@@ -69,8 +69,8 @@ fn tasks_as_told(header: Header, tasks: &[u64]) -> bool
 
 // The tasks whose state is running: the one of the moment.
 pub fn one_runs(header: Header, tasks: &[u64]) -> bool
-    requires { ⌜ (length (now tasks) ≡ tasks-length) × (header .next ≤ task-limit) ⌝ }
-    ensures { λ r. ⌜ r ≡ one-runs header (task-at (now (tasks .entry))) ⌝ }
+    requires { ⌜ TasksLengthAnd tasks (header .next ≤ task-limit) ⌝ }
+    ensures { λ r. ⌜ r ≡ one-runs header (task-in tasks) ⌝ }
 {
     let moment = header.moment;
     if runner_in_range(header.next, moment) {

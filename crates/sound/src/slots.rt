@@ -14,23 +14,20 @@ use rows::parts::state_at;
 use rows::parts::task_awaiter_at;
 ghost use mathlib.Core.Path.{_≡_};
 ghost use Prim.Native.Nat.{_<_, _+_, _≤_};
-ghost use lib.ListN.{length};
-ghost use Rattle.asyncio.specs.Limits.{task-limit, object-limit, item-limit, place-limit, tasks-length, objects-length, places-length};
-ghost use Rattle.asyncio.specs.Kinds.{kind, is-committed};
+ghost use Rattle.asyncio.specs.Limits.{task-limit, object-limit, item-limit, place-limit};
 ghost use Rattle.asyncio.specs.Parts.{awaiter-of};
 ghost use Rattle.asyncio.specs.Ranges.{AwaiterFits};
-ghost use Rattle.asyncio.specs.States.{is-live};
-ghost use Rattle.rows.specs.Tables.{task-at, object-at, place-at};
-ghost use Rattle.machine.specs.Tests.{_and_, implies, all-below};
-ghost use Rattle.machine.specs.Scheduler.{as-awaited};
+ghost use Rattle.rows.specs.Slices.{task-in, object-in, place-in};
+ghost use Rattle.contract.specs.Contract.{ObjectsLengthAnd, PlacesLengthAnd, LengthsAnd};
+ghost use Rattle.machine.specs.Tests.{all-below};
 ghost use Rattle.machine.specs.Commit.{open-from};
-ghost use Rattle.machine.specs.Sound.{source-open, slot-open, slots-open};
-ghost use Rattle.sound.specs.SlotLaws.{open-here, gather-parts};
+ghost use Rattle.machine.specs.Sound.{slot-open, slots-open};
+ghost use Rattle.sound.specs.SlotLaws.{open-here, gather-parts, gather-holds, task-slot-open};
 
 // Place `k` of a gather whose places start at `first` is open in `m`, and names object `o`.
 fn place_open(places: &[u64], first: usize, m: u32, o: u16, k: usize) -> bool
-    requires { ⌜ (length (now places) ≡ places-length) × (first + k < place-limit) × (k < item-limit) ⌝ }
-    ensures { λ r. ⌜ r ≡ open-here (place-at (now (places .entry))) first m o k ⌝ }
+    requires { ⌜ PlacesLengthAnd places ((first + k < place-limit) × (k < item-limit)) ⌝ }
+    ensures { λ r. ⌜ r ≡ open-here (place-in places) first m o k ⌝ }
 {
     if (m >> k) % 2 == 0 {
         return false;
@@ -41,8 +38,8 @@ fn place_open(places: &[u64], first: usize, m: u32, o: u16, k: usize) -> bool
 
 // An open place of a gather names object `o`.
 fn source_open(places: &[u64], first: usize, n: usize, m: u32, o: u16) -> bool
-    requires { ⌜ (length (now places) ≡ places-length) × (first + n ≤ place-limit) × (n ≤ item-limit) ⌝ }
-    ensures { λ r. ⌜ r ≡ open-from (place-at (now (places .entry))) (gather-parts first n m) o 0 n ⌝ }
+    requires { ⌜ PlacesLengthAnd places ((first + n ≤ place-limit) × (n ≤ item-limit)) ⌝ }
+    ensures { λ r. ⌜ r ≡ open-from (place-in places) (gather-parts first n m) o 0 n ⌝ }
 {
     let mut k: usize = 0;
     while k < n {
@@ -56,8 +53,8 @@ fn source_open(places: &[u64], first: usize, n: usize, m: u32, o: u16) -> bool
 
 // Gather `g` was committed and, if it is awaited, has object `o` open.
 fn gather_holds(objects: &[u64], places: &[u64], g: HeapId, o: u16) -> bool
-    requires { ⌜ (length (now objects) ≡ objects-length) × (length (now places) ≡ places-length) × (g .0 < object-limit) ⌝ }
-    ensures { λ r. ⌜ r ≡ is-committed (kind (object-at (now (objects .entry)) (g .0))) and source-open (place-at (now (places .entry))) (as-awaited (object-at (now (objects .entry)) (g .0))) o ⌝ }
+    requires { ⌜ ObjectsLengthAnd objects (PlacesLengthAnd places (g .0 < object-limit)) ⌝ }
+    ensures { λ r. ⌜ r ≡ gather-holds (object-in objects) (place-in places) (g .0) o ⌝ }
 {
     let kind = kind_at(objects, g);
     if kind.is_awaited() {
@@ -71,8 +68,8 @@ fn gather_holds(objects: &[u64], places: &[u64], g: HeapId, o: u16) -> bool
 
 // The awaiter of the holder of object `o`.
 fn slot_open(objects: &[u64], places: &[u64], o: u16, w: Awaiter) -> bool
-    requires { ⌜ (length (now objects) ≡ objects-length) × (length (now places) ≡ places-length) × AwaiterFits w ⌝ }
-    ensures { λ r. ⌜ r ≡ slot-open (object-at (now (objects .entry))) (place-at (now (places .entry))) o w ⌝ }
+    requires { ⌜ ObjectsLengthAnd objects (PlacesLengthAnd places (AwaiterFits w)) ⌝ }
+    ensures { λ r. ⌜ r ≡ slot-open (object-in objects) (place-in places) o w ⌝ }
 {
     match w {
         Awaiter::Nobody => true,
@@ -88,12 +85,12 @@ fn slot_open(objects: &[u64], places: &[u64], o: u16, w: Awaiter) -> bool
 
 // Of every object.
 fn object_slots(made: u16, objects: &[u64], places: &[u64]) -> bool
-    requires { ⌜ (length (now objects) ≡ objects-length) × (length (now places) ≡ places-length) × (made ≤ object-limit) ⌝ }
-    ensures { λ r. ⌜ r ≡ all-below made (λ o. slot-open (object-at (now (objects .entry))) (place-at (now (places .entry))) o (awaiter-of (object-at (now (objects .entry)) o))) ⌝ }
+    requires { ⌜ ObjectsLengthAnd objects (PlacesLengthAnd places (made ≤ object-limit)) ⌝ }
+    ensures { λ r. ⌜ r ≡ all-below made (λ o. slot-open (object-in objects) (place-in places) o (awaiter-of (object-in objects o))) ⌝ }
 {
     let mut o: u16 = 0;
     while o < made {
-        if slot_open(objects, places, o, awaiter_at(objects, HeapId(o))) {
+        if slot_open(objects, places, o, awaiter_at(objects, HeapId::new(o))) {
             o += 1;
         } else {
             return false;
@@ -103,31 +100,26 @@ fn object_slots(made: u16, objects: &[u64], places: &[u64]) -> bool
 }
 
 // A live task's awaiter, for its coroutine.
-fn task_slot(tasks: &[u64], objects: &[u64], places: &[u64], t: u16) -> bool
-    requires { ⌜ (length (now tasks) ≡ tasks-length) × (length (now objects) ≡ objects-length) × (length (now places) ≡ places-length) × (t < task-limit) ⌝ }
-    ensures { λ r. ⌜ r ≡ implies (is-live (task-at (now (tasks .entry)) t .state)) (slot-open (object-at (now (objects .entry))) (place-at (now (places .entry))) (task-at (now (tasks .entry)) t .coroutine .0) (task-at (now (tasks .entry)) t .awaiter)) ⌝ }
+fn task_slot(tasks: &[u64], objects: &[u64], places: &[u64], t: TaskId) -> bool
+    requires { ⌜ LengthsAnd tasks objects places (t .0 < task-limit) ⌝ }
+    ensures { λ r. ⌜ r ≡ task-slot-open (object-in objects) (task-in tasks) (place-in places) (t .0) ⌝ }
 {
-    let state = state_at(tasks, TaskId(t));
+    let state = state_at(tasks, t);
     if state.is_live() {
-        let coroutine = coroutine_at(tasks, TaskId(t));
-        return slot_open(
-            objects,
-            places,
-            coroutine.0,
-            task_awaiter_at(tasks, TaskId(t)),
-        );
+        let coroutine = coroutine_at(tasks, t);
+        return slot_open(objects, places, coroutine.0, task_awaiter_at(tasks, t));
     }
     true
 }
 
 // Of every task.
 fn task_slots(next: u16, tasks: &[u64], objects: &[u64], places: &[u64]) -> bool
-    requires { ⌜ (length (now tasks) ≡ tasks-length) × (length (now objects) ≡ objects-length) × (length (now places) ≡ places-length) × (next ≤ task-limit) ⌝ }
-    ensures { λ r. ⌜ r ≡ all-below next (λ t. implies (is-live (task-at (now (tasks .entry)) t .state)) (slot-open (object-at (now (objects .entry))) (place-at (now (places .entry))) (task-at (now (tasks .entry)) t .coroutine .0) (task-at (now (tasks .entry)) t .awaiter))) ⌝ }
+    requires { ⌜ LengthsAnd tasks objects places (next ≤ task-limit) ⌝ }
+    ensures { λ r. ⌜ r ≡ all-below next (task-slot-open (object-in objects) (task-in tasks) (place-in places)) ⌝ }
 {
     let mut t: u16 = 0;
     while t < next {
-        if task_slot(tasks, objects, places, t) {
+        if task_slot(tasks, objects, places, TaskId::new(t)) {
             t += 1;
         } else {
             return false;
@@ -138,8 +130,8 @@ fn task_slots(next: u16, tasks: &[u64], objects: &[u64], places: &[u64]) -> bool
 
 // Of objects, and of live tasks for their coroutines.
 pub fn slots_open(header: Header, tasks: &[u64], objects: &[u64], places: &[u64]) -> bool
-    requires { ⌜ (length (now tasks) ≡ tasks-length) × (length (now objects) ≡ objects-length) × (length (now places) ≡ places-length) × (header .made ≤ object-limit) × (header .next ≤ task-limit) ⌝ }
-    ensures { λ r. ⌜ r ≡ slots-open header (object-at (now (objects .entry))) (task-at (now (tasks .entry))) (place-at (now (places .entry))) ⌝ }
+    requires { ⌜ LengthsAnd tasks objects places ((header .made ≤ object-limit) × (header .next ≤ task-limit)) ⌝ }
+    ensures { λ r. ⌜ r ≡ slots-open header (object-in objects) (task-in tasks) (place-in places) ⌝ }
 {
     if object_slots(header.made, objects, places) {
         return task_slots(header.next, tasks, objects, places);

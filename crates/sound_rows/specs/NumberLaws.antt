@@ -1,5 +1,5 @@
 -- Clauses 1 and 2: what the code reads of an object or a task says what the definition asks, a law for each way through.
-use mathlib.Core.Path.{_≡_, refl, sym, _∙_}
+use mathlib.Core.Path.{_≡_, refl, sym, ap, _∙_}
 use mathlib.Core.Bool.{Bool, true, false, not}
 use mathlib.Core.List.{List}
 use Prim.Native.Nat.{ℕ, suc, _+_, _-_, _*_, _%_, _^_, _≤_, _<_}
@@ -7,10 +7,11 @@ use native.Mathlib.Nat.{one-mul, mod-eq-of-lt}
 use native.Mathlib.Omega.{arith}
 use lib.Dec.{eqb, ltb, leb}
 use lib.Pow.{pow-lt, pow-pos}
-use borrow.Author.Tests.{eq-eqb, ne-eqb, lt-ltb, le-leb, lt-leb, leb-true, leb-false}
+use borrow.Author.Tests.{eq-eqb, ne-eqb, eqb-true, eqb-false, lt-ltb, le-leb, lt-leb, leb-true, leb-false}
 use Rattle.asyncio.specs.Limits.{item-limit}
+use Rattle.asyncio.specs.Numbers.{heap-id, task-id}
 use Rattle.asyncio.specs.States.{pick, is-nobody, is-live, is-unstarted}
-use Rattle.asyncio.specs.Kinds.{kind, is-coroutine, is-external, is-gather, is-committed}
+use Rattle.asyncio.specs.Kinds.{kind, each-object, is-coroutine, is-external, is-gather, is-committed}
 use Rattle.asyncio.specs.Parts.{awaiter-of, call-of, first-of, count-of, open-of}
 use Rattle.asyncio.specs.declared.Awaiter.{Awaiter}
 use Rattle.asyncio.specs.declared.CallId.{CallId}
@@ -22,6 +23,7 @@ use Rattle.asyncio.specs.declared.HeapId.{HeapId}
 use Rattle.asyncio.specs.declared.Kind.{Kind}
 use Rattle.asyncio.specs.declared.Object.{Object}
 use Rattle.asyncio.specs.declared.Task.{Task}
+use Rattle.asyncio.specs.declared.TaskId.{TaskId}
 use Rattle.asyncio.specs.declared.TaskState.{TaskState}
 use Rattle.rows.specs.Tables.{task-at, object-at}
 use Rattle.machine.specs.Tests.{_and_, implies, all-below, sum-below}
@@ -33,6 +35,13 @@ use Rattle.sound_rows.specs.Numbers.{object-ranged, objects-ranged}
 -- `1u64 << n`, as the machine has it
 pub shifted-long : (n : ℕ) → n ≤ item-limit → 1 * 2 ^ n % 18446744073709551616 ≡ 2 ^ n
 shifted-long n h = let l : n < 64 = omega arith in rw one-mul (mod-eq-of-lt (pow-lt l))
+
+-- the number of what `new` makes
+pub heap-number : {h : HeapId} {n : ℕ} → h ≡ heap-id n → h .0 ≡ n
+heap-number e = ap (λ (h : HeapId). h .0) e
+
+pub task-number : {t : TaskId} {n : ℕ} → t ≡ task-id n → t .0 ≡ n
+task-number e = ap (λ (t : TaskId). t .0) e
 
 -- a gather has at most 32 places
 pub count-fits : (os : List ℕ) (o : ℕ) {n : ℕ} → n ≡ count-of (object-at os o) → n ≤ item-limit
@@ -46,21 +55,15 @@ no-open n = lt-ltb 0 (2 ^ n) (pow-pos n)
 pub object-by-kind : (h : Header) (p : ℕ) (x : Object) → object-in-range h p x
     ≡ pick (is-external (kind x)) (ltb (call-of x .0) (h .calls)) (pick (is-gather (kind x)) (eqb (first-of x) p and ltb (open-of x) (2 ^ count-of x)) (is-coroutine (kind x)))
 unfolding object-in-range open-in-range kind call-of first-of open-of count-of
-object-by-kind h p Object.Unmade = refl
-object-by-kind h p (Object.Coroutine f CoroutineState.New) = refl
-object-by-kind h p (Object.Coroutine f CoroutineState.Running) = refl
-object-by-kind h p (Object.Coroutine f CoroutineState.Completed) = refl
-object-by-kind h p (Object.ExternalFuture c (ExternalFutureState.Pending w x)) = refl
-object-by-kind h p (Object.ExternalFuture c (ExternalFutureState.Resolved v)) = refl
-object-by-kind h p (Object.ExternalFuture c (ExternalFutureState.Failed e)) = refl
-object-by-kind h p (Object.GatherFuture i n GatherState.Pending) = rw (no-open n)
-object-by-kind h p (Object.GatherFuture i n (GatherState.Awaited w m)) = refl
-object-by-kind h p (Object.GatherFuture i n GatherState.Completed) = rw (no-open n)
-object-by-kind h p (Object.GatherFuture i n (GatherState.Failed e)) = rw (no-open n)
+object-by-kind h p x =
+    each-object (λ (x : Object). object-in-range h p x ≡ pick (is-external (kind x)) (ltb (call-of x .0) (h .calls)) (pick (is-gather (kind x)) (eqb (first-of x) p and ltb (open-of x) (2 ^ count-of x)) (is-coroutine (kind x))))
+    refl (λ f. refl) (λ f. refl) (λ f. refl) (λ c w x. refl) (λ c v. refl) (λ c e. refl) (λ i n. rw (no-open n)) (λ i n w m. refl)
+    (λ i n. rw (no-open n)) (λ i n e. rw (no-open n)) x
 
 module _ (os : List ℕ) (o : ℕ) (h : Header) (p : ℕ) {k : Kind} (e : k ≡ kind (object-at os o)) where
-  pub external-ranged : {c : CallId} → is-external k ≡ true → c ≡ call-of (object-at os o) → ltb (c .0) (h .calls) ≡ object-in-range h p (object-at os o)
-  external-ranged t q = rw (object-by-kind h p (object-at os o), ← e, t, ← q)
+  pub external-ranged : {c : CallId} {n : ℕ} → is-external k ≡ true → c ≡ call-of (object-at os o) → n ≡ c .0
+      → ltb n (h .calls) ≡ object-in-range h p (object-at os o)
+  external-ranged t q w = rw (object-by-kind h p (object-at os o), ← e, t, ← q, w)
 
   module _ (t : is-external k ≡ false) where
     pub other-ranged : {r : Bool} → is-gather k ≡ false → r ≡ is-coroutine k → r ≡ object-in-range h p (object-at os o)
@@ -118,37 +121,37 @@ module _ (h : Header) (os : ℕ → Object) (t : ℕ) (x : Task) where
   spawned-by ne = let e : t ≡ suc (t - 1) = omega arith in rw e
 
 module _ (h : Header) (os : ℕ → Object) (ts : List ℕ) (t : ℕ) {s : TaskState} (e : s ≡ task-at ts t .state) where
-  module _ (z : t ≡ 0) where
+  module _ (z : eqb t 0 ≡ true) where
     pub main-unstarted : is-unstarted s ≡ true → false ≡ task-in-range h os t (task-at ts t)
     unfolding _and_
-    main-unstarted u = rw (main-by h os t (task-at ts t) z, ← e, u)
+    main-unstarted u = rw (main-by h os t (task-at ts t) (eqb-true t 0 z), ← e, u)
 
     module _ (u : is-unstarted s ≡ false) {w : Awaiter} (f : w ≡ task-at ts t .awaiter) where
       pub main-awaited : is-nobody w ≡ false → false ≡ task-in-range h os t (task-at ts t)
       unfolding _and_
-      main-awaited v = rw (main-by h os t (task-at ts t) z, ← e, u, ← f, v)
+      main-awaited v = rw (main-by h os t (task-at ts t) (eqb-true t 0 z), ← e, u, ← f, v)
 
       pub main-ranged : {c : HeapId} → is-nobody w ≡ true → c ≡ task-at ts t .coroutine → eqb (c .0) 0 ≡ task-in-range h os t (task-at ts t)
       unfolding _and_
-      main-ranged v g = rw (main-by h os t (task-at ts t) z, ← e, u, ← f, v, ← g)
+      main-ranged v g = rw (main-by h os t (task-at ts t) (eqb-true t 0 z), ← e, u, ← f, v, ← g)
 
-  module _ (z : t ≡ 0 → ⊥) where
+  module _ (z : eqb t 0 ≡ false) where
     pub dead-ranged : is-live s ≡ false → true ≡ task-in-range h os t (task-at ts t)
     unfolding implies
-    dead-ranged u = rw (spawned-by h os t (task-at ts t) z, ← e, u)
+    dead-ranged u = rw (spawned-by h os t (task-at ts t) (eqb-false t 0 z), ← e, u)
 
     module _ (u : is-live s ≡ true) {w : Awaiter} (f : w ≡ task-at ts t .awaiter) where
       pub live-apart : false ≡ is-slot w and awaiter-in-range h w → false ≡ task-in-range h os t (task-at ts t)
       unfolding implies
       live-apart v =
-          rw (spawned-by h os t (task-at ts t) z, ← e, u, ← f)
+          rw (spawned-by h os t (task-at ts t) (eqb-false t 0 z), ← e, u, ← f)
           (stop _ v ∙ and-assoc (is-slot w) (awaiter-in-range h w) (ltb (task-at ts t .coroutine .0) (h .made) and is-coroutine (kind (os (task-at ts t .coroutine .0)))))
 
       pub live-ranged : {c : HeapId} {r : Bool} → true ≡ is-slot w and awaiter-in-range h w → c ≡ task-at ts t .coroutine
           → r ≡ ltb (c .0) (h .made) and is-coroutine (kind (os (c .0))) → r ≡ task-in-range h os t (task-at ts t)
       unfolding implies
       live-ranged {c} v g q =
-          rw (spawned-by h os t (task-at ts t) z, ← e, u, ← f, ← g)
+          rw (spawned-by h os t (task-at ts t) (eqb-false t 0 z), ← e, u, ← f, ← g)
           (pass v q ∙ and-assoc (is-slot w) (awaiter-in-range h w) (ltb (c .0) (h .made) and is-coroutine (kind (os (c .0)))))
 
 -- ---- the whole of clause 1

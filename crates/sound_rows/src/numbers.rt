@@ -15,10 +15,10 @@ use rows::parts::task_awaiter_at;
 ghost use mathlib.Core.Path.{_≡_};
 ghost use Prim.Native.Nat.{_<_, _≤_, _^_};
 ghost use lib.Dec.{ltb};
-ghost use lib.ListN.{length};
-ghost use Rattle.asyncio.specs.Limits.{task-limit, object-limit, item-limit, tasks-length, objects-length};
+ghost use Rattle.asyncio.specs.Limits.{task-limit, object-limit, item-limit};
 ghost use Rattle.asyncio.specs.Kinds.{kind, is-coroutine};
-ghost use Rattle.rows.specs.Tables.{task-at, object-at};
+ghost use Rattle.rows.specs.Slices.{ObjectRow, task-in, object-in};
+ghost use Rattle.contract.specs.Contract.{ObjectsLengthAnd, Lengths₂And};
 ghost use Rattle.machine.specs.Tests.{_and_, all-below, sum-below};
 ghost use Rattle.machine.specs.Sound.{awaiter-in-range, is-slot, object-in-range, task-in-range, numbers-in-range, committed-places, spawned-in-range};
 ghost use Rattle.sound_rows.specs.Numbers.{objects-ranged};
@@ -45,18 +45,18 @@ fn open_in_range(n: u16, m: u32) -> bool
 }
 
 // Object `o` is made; its call was handed out; a gather's places start at `p`.
-fn object_in_range(header: Header, objects: &[u64], o: u16, p: u16) -> bool
-    requires { ⌜ (length (now objects) ≡ objects-length) × (o < object-limit) ⌝ }
-    ensures { λ r. ⌜ r ≡ object-in-range header p (object-at (now (objects .entry)) o) ⌝ }
+fn object_in_range(header: Header, objects: &[u64], o: HeapId, p: u16) -> bool
+    requires { ⌜ ObjectRow objects (o .0) ⌝ }
+    ensures { λ r. ⌜ r ≡ object-in-range header p (object-in objects (o .0)) ⌝ }
 {
-    let kind = kind_at(objects, HeapId(o));
+    let kind = kind_at(objects, o);
     if kind.is_external() {
-        let call = call_at(objects, HeapId(o));
-        return (call.0 as u32) < header.calls;
+        let call = call_at(objects, o);
+        return call.word() < header.calls as u64;
     }
     if kind.is_gather() {
-        if first_at(objects, HeapId(o)) == p {
-            return open_in_range(count_at(objects, HeapId(o)), open_at(objects, HeapId(o)));
+        if first_at(objects, o) == p {
+            return open_in_range(count_at(objects, o), open_at(objects, o));
         }
         return false;
     }
@@ -65,16 +65,17 @@ fn object_in_range(header: Header, objects: &[u64], o: u16, p: u16) -> bool
 
 // Objects and their awaiters, and the places used: `p` is where the places of the gathers so far end.
 fn objects_in_range(header: Header, objects: &[u64]) -> bool
-    requires { ⌜ (length (now objects) ≡ objects-length) × (header .made ≤ object-limit) ⌝ }
-    ensures { λ r. ⌜ r ≡ objects-ranged header (object-at (now (objects .entry))) ⌝ }
+    requires { ⌜ ObjectsLengthAnd objects (header .made ≤ object-limit) ⌝ }
+    ensures { λ r. ⌜ r ≡ objects-ranged header (object-in objects) ⌝ }
 {
     let made = header.made;
     let mut p: u16 = 0;
     let mut o: u16 = 0;
     while o < made {
-        if object_in_range(header, objects, o, p) {
-            if awaiter_in_range(header, awaiter_at(objects, HeapId(o))) {
-                p += count_at(objects, HeapId(o));
+        let object = HeapId::new(o);
+        if object_in_range(header, objects, object, p) {
+            if awaiter_in_range(header, awaiter_at(objects, object)) {
+                p += count_at(objects, object);
                 o += 1;
             } else {
                 return false;
@@ -99,8 +100,8 @@ fn slot_in_range(header: Header, w: Awaiter) -> bool
 
 // Object `c` is made, and a coroutine.
 fn coroutine_made(made: u16, objects: &[u64], c: HeapId) -> bool
-    requires { ⌜ (length (now objects) ≡ objects-length) × (made ≤ object-limit) ⌝ }
-    ensures { λ r. ⌜ r ≡ ltb (c .0) made and is-coroutine (kind (object-at (now (objects .entry)) (c .0))) ⌝ }
+    requires { ⌜ ObjectsLengthAnd objects (made ≤ object-limit) ⌝ }
+    ensures { λ r. ⌜ r ≡ ltb (c .0) made and is-coroutine (kind (object-in objects (c .0))) ⌝ }
 {
     if c.0 < made {
         let kind = kind_at(objects, c);
@@ -110,14 +111,14 @@ fn coroutine_made(made: u16, objects: &[u64], c: HeapId) -> bool
 }
 
 // Main is never unstarted, and has no awaiter and no coroutine. A live spawned task has a slot for its awaiter, and names a coroutine.
-fn task_in_range(header: Header, tasks: &[u64], objects: &[u64], t: u16) -> bool
-    requires { ⌜ (length (now tasks) ≡ tasks-length) × (length (now objects) ≡ objects-length) × (header .made ≤ object-limit) × (t < task-limit) ⌝ }
-    ensures { λ r. ⌜ r ≡ task-in-range header (object-at (now (objects .entry))) t (task-at (now (tasks .entry)) t) ⌝ }
+fn task_in_range(header: Header, tasks: &[u64], objects: &[u64], t: TaskId) -> bool
+    requires { ⌜ Lengths₂And tasks objects ((header .made ≤ object-limit) × (t .0 < task-limit)) ⌝ }
+    ensures { λ r. ⌜ r ≡ task-in-range header (object-in objects) (t .0) (task-in tasks (t .0)) ⌝ }
 {
-    let state = state_at(tasks, TaskId(t));
-    let awaiter = task_awaiter_at(tasks, TaskId(t));
-    let coroutine = coroutine_at(tasks, TaskId(t));
-    if t == 0 {
+    let state = state_at(tasks, t);
+    let awaiter = task_awaiter_at(tasks, t);
+    let coroutine = coroutine_at(tasks, t);
+    if t.is_main() {
         if state.is_unstarted() {
             return false;
         }
@@ -136,13 +137,13 @@ fn task_in_range(header: Header, tasks: &[u64], objects: &[u64], t: u16) -> bool
 }
 
 fn tasks_in_range(header: Header, tasks: &[u64], objects: &[u64]) -> bool
-    requires { ⌜ (length (now tasks) ≡ tasks-length) × (length (now objects) ≡ objects-length) × (header .made ≤ object-limit) × (header .next ≤ task-limit) ⌝ }
-    ensures { λ r. ⌜ r ≡ all-below (header .next) (λ t. task-in-range header (object-at (now (objects .entry))) t (task-at (now (tasks .entry)) t)) ⌝ }
+    requires { ⌜ Lengths₂And tasks objects ((header .made ≤ object-limit) × (header .next ≤ task-limit)) ⌝ }
+    ensures { λ r. ⌜ r ≡ all-below (header .next) (λ t. task-in-range header (object-in objects) t (task-in tasks t)) ⌝ }
 {
     let next = header.next;
     let mut t: u16 = 0;
     while t < next {
-        if task_in_range(header, tasks, objects, t) {
+        if task_in_range(header, tasks, objects, TaskId::new(t)) {
             t += 1;
         } else {
             return false;
@@ -153,8 +154,8 @@ fn tasks_in_range(header: Header, tasks: &[u64], objects: &[u64]) -> bool
 
 // Counts, objects, awaiters and tasks.
 pub fn numbers_in_range(header: Header, tasks: &[u64], objects: &[u64]) -> bool
-    requires { ⌜ (length (now tasks) ≡ tasks-length) × (length (now objects) ≡ objects-length) × (header .made ≤ object-limit) × (header .next ≤ task-limit) ⌝ }
-    ensures { λ r. ⌜ r ≡ numbers-in-range header (object-at (now (objects .entry))) (task-at (now (tasks .entry))) ⌝ }
+    requires { ⌜ Lengths₂And tasks objects ((header .made ≤ object-limit) × (header .next ≤ task-limit)) ⌝ }
+    ensures { λ r. ⌜ r ≡ numbers-in-range header (object-in objects) (task-in tasks) ⌝ }
 {
     if header.next == 0 {
         return false;
@@ -169,15 +170,16 @@ pub fn numbers_in_range(header: Header, tasks: &[u64], objects: &[u64]) -> bool
 
 // The places of the committed gathers below `made`.
 fn committed_places(objects: &[u64], made: u16) -> u16
-    requires { ⌜ (length (now objects) ≡ objects-length) × (made ≤ object-limit) ⌝ }
-    ensures { λ r. ⌜ (r ≡ sum-below made (λ o. committed-places (object-at (now (objects .entry)) o))) × (r ≤ 8192) ⌝ }
+    requires { ⌜ ObjectsLengthAnd objects (made ≤ object-limit) ⌝ }
+    ensures { λ r. ⌜ (r ≡ sum-below made (λ o. committed-places (object-in objects o))) × (r ≤ 8192) ⌝ }
 {
     let mut sum: u16 = 0;
     let mut o: u16 = 0;
     while o < made {
-        let kind = kind_at(objects, HeapId(o));
+        let object = HeapId::new(o);
+        let kind = kind_at(objects, object);
         if kind.is_committed() {
-            sum += count_at(objects, HeapId(o));
+            sum += count_at(objects, object);
             o += 1;
         } else {
             o += 1;
@@ -188,8 +190,8 @@ fn committed_places(objects: &[u64], made: u16) -> u16
 
 // Spawned: the tasks below the next number but main.
 pub fn spawned_in_range(header: Header, objects: &[u64]) -> bool
-    requires { ⌜ (length (now objects) ≡ objects-length) × (header .made ≤ object-limit) ⌝ }
-    ensures { λ r. ⌜ r ≡ spawned-in-range header (object-at (now (objects .entry))) ⌝ }
+    requires { ⌜ ObjectsLengthAnd objects (header .made ≤ object-limit) ⌝ }
+    ensures { λ r. ⌜ r ≡ spawned-in-range header (object-in objects) ⌝ }
 {
     header.next <= committed_places(objects, header.made) + 1
 }

@@ -17,9 +17,9 @@ use rows::tables::load_object;
 ghost use mathlib.Core.Path.{_≡_};
 ghost use Prim.Native.Nat.{_<_, _+_, _≤_};
 ghost use lib.Dec.{ltb};
-ghost use lib.ListN.{length};
-ghost use Rattle.asyncio.specs.Limits.{task-limit, object-limit, place-limit, tasks-length, objects-length, places-length};
-ghost use Rattle.rows.specs.Tables.{task-at, object-at, place-at};
+ghost use Rattle.asyncio.specs.Limits.{task-limit, object-limit, place-limit};
+ghost use Rattle.rows.specs.Slices.{task-in, object-in, place-in};
+ghost use Rattle.contract.specs.Contract.{ObjectsLengthAnd, PlacesLengthAnd, Lengths₂And, LengthsAnd};
 ghost use Rattle.machine.specs.Tests.{all-below};
 ghost use Rattle.machine.specs.Sound.{items-lower, value-known, option-known, object-values, state-values, lists-completed};
 ghost use Rattle.asyncio.specs.Ranges.{HeaderFits};
@@ -29,8 +29,8 @@ ghost use Rattle.sound_rows.specs.ValueLaws.{external-values};
 
 // The items of gather `g`, in its `n` places from `first` on.
 fn items_below(places: &[u64], g: u16, first: usize, n: usize) -> bool
-    requires { ⌜ (length (now places) ≡ places-length) × (first + n ≤ place-limit) ⌝ }
-    ensures { λ r. ⌜ r ≡ all-below n (λ k. ltb (place-at (now (places .entry)) (first + k) .item .0) g) ⌝ }
+    requires { ⌜ PlacesLengthAnd places (first + n ≤ place-limit) ⌝ }
+    ensures { λ r. ⌜ r ≡ all-below n (λ k. ltb (place-in places (first + k) .item .0) g) ⌝ }
 {
     let mut k: usize = 0;
     while k < n {
@@ -46,13 +46,14 @@ fn items_below(places: &[u64], g: u16, first: usize, n: usize) -> bool
 
 // Of every gather; other objects have no places.
 pub fn items_lower(made: u16, objects: &[u64], places: &[u64]) -> bool
-    requires { ⌜ (length (now objects) ≡ objects-length) × (length (now places) ≡ places-length) × (made ≤ object-limit) ⌝ }
-    ensures { λ r. ⌜ r ≡ items-lower made (object-at (now (objects .entry))) (place-at (now (places .entry))) ⌝ }
+    requires { ⌜ ObjectsLengthAnd objects (PlacesLengthAnd places (made ≤ object-limit)) ⌝ }
+    ensures { λ r. ⌜ r ≡ items-lower made (object-in objects) (place-in places) ⌝ }
 {
     let mut o: u16 = 0;
     while o < made {
-        let first = first_at(objects, HeapId(o));
-        let count = count_at(objects, HeapId(o));
+        let object = HeapId::new(o);
+        let first = first_at(objects, object);
+        let count = count_at(objects, object);
         if items_below(places, o, first as usize, count as usize) {
             o += 1;
         } else {
@@ -66,8 +67,8 @@ pub fn items_lower(made: u16, objects: &[u64], places: &[u64]) -> bool
 
 // A value that may be handed on: plain, or the list of a completed gather among the objects made.
 pub fn value_known(made: u16, objects: &[u64], v: Value) -> bool
-    requires { ⌜ (length (now objects) ≡ objects-length) × (made ≤ object-limit) ⌝ }
-    ensures { λ r. ⌜ r ≡ value-known made (object-at (now (objects .entry))) v ⌝ }
+    requires { ⌜ ObjectsLengthAnd objects (made ≤ object-limit) ⌝ }
+    ensures { λ r. ⌜ r ≡ value-known made (object-in objects) v ⌝ }
 {
     match v {
         Value::Plain(_) => true,
@@ -83,8 +84,8 @@ pub fn value_known(made: u16, objects: &[u64], v: Value) -> bool
 
 // A value, or none.
 pub fn option_known(made: u16, objects: &[u64], x: OptionValue) -> bool
-    requires { ⌜ (length (now objects) ≡ objects-length) × (made ≤ object-limit) ⌝ }
-    ensures { λ r. ⌜ r ≡ option-known made (object-at (now (objects .entry))) x ⌝ }
+    requires { ⌜ ObjectsLengthAnd objects (made ≤ object-limit) ⌝ }
+    ensures { λ r. ⌜ r ≡ option-known made (object-in objects) x ⌝ }
 {
     match x {
         OptionValue::None => true,
@@ -94,8 +95,8 @@ pub fn option_known(made: u16, objects: &[u64], x: OptionValue) -> bool
 
 // The stored result of a pending external, the value of a resolved one.
 fn external_values(made: u16, objects: &[u64], state: ExternalFutureState) -> bool
-    requires { ⌜ (length (now objects) ≡ objects-length) × (made ≤ object-limit) ⌝ }
-    ensures { λ r. ⌜ r ≡ external-values made (object-at (now (objects .entry))) state ⌝ }
+    requires { ⌜ ObjectsLengthAnd objects (made ≤ object-limit) ⌝ }
+    ensures { λ r. ⌜ r ≡ external-values made (object-in objects) state ⌝ }
 {
     match state {
         ExternalFutureState::Pending { awaiter: _, stored } => option_known(made, objects, stored),
@@ -105,13 +106,13 @@ fn external_values(made: u16, objects: &[u64], state: ExternalFutureState) -> bo
 }
 
 // The value or stored result that object `o` holds. Only externals hold one: other rows are not read whole.
-fn object_values(made: u16, objects: &[u64], o: u16) -> bool
-    requires { ⌜ (length (now objects) ≡ objects-length) × (made ≤ object-limit) × (o < object-limit) ⌝ }
-    ensures { λ r. ⌜ r ≡ object-values made (object-at (now (objects .entry))) (object-at (now (objects .entry)) o) ⌝ }
+fn object_values(made: u16, objects: &[u64], o: HeapId) -> bool
+    requires { ⌜ ObjectsLengthAnd objects ((made ≤ object-limit) × (o .0 < object-limit)) ⌝ }
+    ensures { λ r. ⌜ r ≡ object-values made (object-in objects) (object-in objects (o .0)) ⌝ }
 {
-    let kind = kind_at(objects, HeapId(o));
+    let kind = kind_at(objects, o);
     if kind.is_external() {
-        let x = load_object(objects, HeapId(o));
+        let x = load_object(objects, o);
         return match x {
             Object::Unmade => true,
             Object::Coroutine {
@@ -131,8 +132,8 @@ fn object_values(made: u16, objects: &[u64], o: u16) -> bool
 
 // The value delivered to a task.
 fn state_values(made: u16, objects: &[u64], s: TaskState) -> bool
-    requires { ⌜ (length (now objects) ≡ objects-length) × (made ≤ object-limit) ⌝ }
-    ensures { λ r. ⌜ r ≡ state-values made (object-at (now (objects .entry))) s ⌝ }
+    requires { ⌜ ObjectsLengthAnd objects (made ≤ object-limit) ⌝ }
+    ensures { λ r. ⌜ r ≡ state-values made (object-in objects) s ⌝ }
 {
     match s {
         TaskState::Absent => true,
@@ -145,12 +146,12 @@ fn state_values(made: u16, objects: &[u64], s: TaskState) -> bool
 }
 
 fn objects_known(made: u16, objects: &[u64]) -> bool
-    requires { ⌜ (length (now objects) ≡ objects-length) × (made ≤ object-limit) ⌝ }
-    ensures { λ r. ⌜ r ≡ all-below made (λ o. object-values made (object-at (now (objects .entry))) (object-at (now (objects .entry)) o)) ⌝ }
+    requires { ⌜ ObjectsLengthAnd objects (made ≤ object-limit) ⌝ }
+    ensures { λ r. ⌜ r ≡ all-below made (λ o. object-values made (object-in objects) (object-in objects o)) ⌝ }
 {
     let mut o: u16 = 0;
     while o < made {
-        if object_values(made, objects, o) {
+        if object_values(made, objects, HeapId::new(o)) {
             o += 1;
         } else {
             return false;
@@ -160,12 +161,12 @@ fn objects_known(made: u16, objects: &[u64]) -> bool
 }
 
 fn tasks_known(made: u16, next: u16, tasks: &[u64], objects: &[u64]) -> bool
-    requires { ⌜ (length (now tasks) ≡ tasks-length) × (length (now objects) ≡ objects-length) × (made ≤ object-limit) × (next ≤ task-limit) ⌝ }
-    ensures { λ r. ⌜ r ≡ all-below next (λ t. state-values made (object-at (now (objects .entry))) (task-at (now (tasks .entry)) t .state)) ⌝ }
+    requires { ⌜ Lengths₂And tasks objects ((made ≤ object-limit) × (next ≤ task-limit)) ⌝ }
+    ensures { λ r. ⌜ r ≡ all-below next (λ t. state-values made (object-in objects) (task-in tasks t .state)) ⌝ }
 {
     let mut t: u16 = 0;
     while t < next {
-        if state_values(made, objects, state_at(tasks, TaskId(t))) {
+        if state_values(made, objects, state_at(tasks, TaskId::new(t))) {
             t += 1;
         } else {
             return false;
@@ -175,8 +176,8 @@ fn tasks_known(made: u16, next: u16, tasks: &[u64], objects: &[u64]) -> bool
 }
 
 fn places_known(made: u16, used: u16, objects: &[u64], places: &[u64]) -> bool
-    requires { ⌜ (length (now objects) ≡ objects-length) × (length (now places) ≡ places-length) × (made ≤ object-limit) × (used ≤ place-limit) ⌝ }
-    ensures { λ r. ⌜ r ≡ all-below used (λ p. option-known made (object-at (now (objects .entry))) (place-at (now (places .entry)) p .result)) ⌝ }
+    requires { ⌜ ObjectsLengthAnd objects (PlacesLengthAnd places ((made ≤ object-limit) × (used ≤ place-limit))) ⌝ }
+    ensures { λ r. ⌜ r ≡ all-below used (λ p. option-known made (object-in objects) (place-in places p .result)) ⌝ }
 {
     let n = used as usize;
     let mut p: usize = 0;
@@ -192,8 +193,8 @@ fn places_known(made: u16, used: u16, objects: &[u64], places: &[u64]) -> bool
 
 // Of objects, tasks and places.
 pub fn lists_completed(header: Header, tasks: &[u64], objects: &[u64], places: &[u64]) -> bool
-    requires { ⌜ (length (now tasks) ≡ tasks-length) × (length (now objects) ≡ objects-length) × (length (now places) ≡ places-length) × HeaderFits header ⌝ }
-    ensures { λ r. ⌜ r ≡ lists-completed header (object-at (now (objects .entry))) (task-at (now (tasks .entry))) (place-at (now (places .entry))) ⌝ }
+    requires { ⌜ LengthsAnd tasks objects places (HeaderFits header) ⌝ }
+    ensures { λ r. ⌜ r ≡ lists-completed header (object-in objects) (task-in tasks) (place-in places) ⌝ }
 {
     if objects_known(header.made, objects) {
         if tasks_known(header.made, header.next, tasks, objects) {

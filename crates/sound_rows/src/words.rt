@@ -7,13 +7,16 @@ use asyncio::words::to_header;
 use asyncio::words::to_object;
 use asyncio::words::to_place;
 use asyncio::words::to_task;
-use rows::tables::load4;
-use rows::tables::load8;
+use rows::tables::header_row;
+use rows::tables::object_row;
+use rows::tables::place_row;
+use rows::tables::task_row;
 ghost use mathlib.Core.Path.{_≡_};
 ghost use Prim.Native.Nat.{_<_, _≤_};
-ghost use lib.ListN.{length};
-ghost use Rattle.asyncio.specs.Limits.{task-limit, object-limit, place-limit, tasks-length, objects-length, places-length};
+ghost use Rattle.asyncio.specs.Limits.{task-limit, object-limit, place-limit};
 ghost use Rattle.rows.specs.Canonical.{same-words, task-canonical, object-canonical, place-canonical, header-canonical};
+ghost use Rattle.rows.specs.Slices.{TaskRow, ObjectRow, PlaceRow};
+ghost use Rattle.contract.specs.Contract.{ObjectsLength, TasksLengthAnd, ObjectsLengthAnd, PlacesLengthAnd};
 ghost use Rattle.machine.specs.Tests.{all-below};
 
 fn same8(a: [u64; 8], b: [u64; 8]) -> bool
@@ -45,39 +48,39 @@ fn same4(a: [u64; 4], b: [u64; 4]) -> bool
 }
 
 pub fn header_same(objects: &[u64]) -> bool
-    requires { ⌜ length (now objects) ≡ objects-length ⌝ }
+    requires { ⌜ ObjectsLength objects ⌝ }
     ensures { λ r. ⌜ r ≡ header-canonical (now (objects .entry)) ⌝ }
 {
-    let row = load8(objects, 0);
+    let row = header_row(objects);
     same8(header_words(to_header(row)), row)
 }
 
 fn task_same(tasks: &[u64], t: usize) -> bool
-    requires { ⌜ (length (now tasks) ≡ tasks-length) × (t < task-limit) ⌝ }
+    requires { ⌜ TaskRow tasks t ⌝ }
     ensures { λ r. ⌜ r ≡ task-canonical (now (tasks .entry)) t ⌝ }
 {
-    let row = load8(tasks, t * 8);
+    let row = task_row(tasks, t);
     same8(task_words(to_task(row)), row)
 }
 
 fn object_same(objects: &[u64], o: usize) -> bool
-    requires { ⌜ (length (now objects) ≡ objects-length) × (o < object-limit) ⌝ }
+    requires { ⌜ ObjectRow objects o ⌝ }
     ensures { λ r. ⌜ r ≡ object-canonical (now (objects .entry)) o ⌝ }
 {
-    let row = load8(objects, o * 8 + 8);
+    let row = object_row(objects, o);
     same8(object_words(to_object(row)), row)
 }
 
 fn place_same(places: &[u64], p: usize) -> bool
-    requires { ⌜ (length (now places) ≡ places-length) × (p < place-limit) ⌝ }
+    requires { ⌜ PlaceRow places p ⌝ }
     ensures { λ r. ⌜ r ≡ place-canonical (now (places .entry)) p ⌝ }
 {
-    let row = load4(places, p * 4);
+    let row = place_row(places, p);
     same4(place_words(to_place(row)), row)
 }
 
 pub fn tasks_same(tasks: &[u64], n: usize) -> bool
-    requires { ⌜ (length (now tasks) ≡ tasks-length) × (n ≤ task-limit) ⌝ }
+    requires { ⌜ TasksLengthAnd tasks (n ≤ task-limit) ⌝ }
     ensures { λ r. ⌜ r ≡ all-below n (λ t. task-canonical (now (tasks .entry)) t) ⌝ }
 {
     let mut i: usize = 0;
@@ -92,7 +95,7 @@ pub fn tasks_same(tasks: &[u64], n: usize) -> bool
 }
 
 pub fn objects_same(objects: &[u64], n: usize) -> bool
-    requires { ⌜ (length (now objects) ≡ objects-length) × (n ≤ object-limit) ⌝ }
+    requires { ⌜ ObjectsLengthAnd objects (n ≤ object-limit) ⌝ }
     ensures { λ r. ⌜ r ≡ all-below n (λ o. object-canonical (now (objects .entry)) o) ⌝ }
 {
     let mut i: usize = 0;
@@ -107,7 +110,7 @@ pub fn objects_same(objects: &[u64], n: usize) -> bool
 }
 
 pub fn places_same(places: &[u64], n: usize) -> bool
-    requires { ⌜ (length (now places) ≡ places-length) × (n ≤ place-limit) ⌝ }
+    requires { ⌜ PlacesLengthAnd places (n ≤ place-limit) ⌝ }
     ensures { λ r. ⌜ r ≡ all-below n (λ p. place-canonical (now (places .entry)) p) ⌝ }
 {
     let mut i: usize = 0;

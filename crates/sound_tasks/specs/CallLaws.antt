@@ -10,7 +10,7 @@ use native.Mathlib.Omega.{arith}
 use lib.Dec.{eqb}
 use borrow.Author.Tests.{eq-eqb, ne-eqb, eqb-true, eqb-false}
 use Rattle.asyncio.specs.States.{pick}
-use Rattle.asyncio.specs.Kinds.{kind, is-pending-external}
+use Rattle.asyncio.specs.Kinds.{kind, each-object, is-pending-external}
 use Rattle.asyncio.specs.Parts.{call-of}
 use Rattle.asyncio.specs.declared.CallId.{CallId}
 use Rattle.asyncio.specs.declared.CoroutineState.{CoroutineState}
@@ -43,22 +43,15 @@ other-call os c p = not (eqb (call-number os p) c)
 
 number-by : (x : Object) → number-of (as-pending x) ≡ pick (is-pending-external (kind x)) (call-of x .0 + 1) 0
 unfolding number-of as-pending kind call-of
-number-by Object.Unmade = refl
-number-by (Object.Coroutine f CoroutineState.New) = refl
-number-by (Object.Coroutine f CoroutineState.Running) = refl
-number-by (Object.Coroutine f CoroutineState.Completed) = refl
-number-by (Object.ExternalFuture c (ExternalFutureState.Pending w x)) = refl
-number-by (Object.ExternalFuture c (ExternalFutureState.Resolved v)) = refl
-number-by (Object.ExternalFuture c (ExternalFutureState.Failed e)) = refl
-number-by (Object.GatherFuture i n GatherState.Pending) = refl
-number-by (Object.GatherFuture i n (GatherState.Awaited w m)) = refl
-number-by (Object.GatherFuture i n GatherState.Completed) = refl
-number-by (Object.GatherFuture i n (GatherState.Failed e)) = refl
+number-by x =
+    each-object (λ (x : Object). number-of (as-pending x) ≡ pick (is-pending-external (kind x)) (call-of x .0 + 1) 0)
+    refl (λ f. refl) (λ f. refl) (λ f. refl) (λ c w x. refl) (λ c v. refl) (λ c e. refl) (λ i n. refl) (λ i n w m. refl) (λ i n. refl)
+    (λ i n e. refl) x
 
 module _ (os : List ℕ) (o : ℕ) {k : Kind} (e : k ≡ kind (object-at os o)) where
-  pub number-pending : {c : CallId} → is-pending-external k ≡ true → c ≡ call-of (object-at os o) → c .0 + 1 ≡ call-number os o
+  pub number-pending : {c : CallId} {n : ℕ} → is-pending-external k ≡ true → c ≡ call-of (object-at os o) → n ≡ c .0 → n + 1 ≡ call-number os o
   unfolding call-number
-  number-pending t q = rw (number-by (object-at os o), ← e, t, ← q)
+  number-pending t q w = rw (number-by (object-at os o), ← e, t, ← q, w)
 
   pub number-none : is-pending-external k ≡ false → 0 ≡ call-number os o
   unfolding call-number

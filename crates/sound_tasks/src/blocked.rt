@@ -8,12 +8,12 @@ use rows::parts::awaiter_at;
 use rows::parts::state_at;
 ghost use mathlib.Core.Path.{_≡_};
 ghost use Prim.Native.Nat.{_<_, _≤_};
-ghost use lib.ListN.{length};
-ghost use Rattle.asyncio.specs.Limits.{task-limit, object-limit, tasks-length, objects-length};
+ghost use Rattle.asyncio.specs.Limits.{task-limit, object-limit};
 ghost use Rattle.asyncio.specs.Parts.{awaiter-of};
 ghost use Rattle.asyncio.specs.Ranges.{AwaiterFits};
 ghost use Rattle.asyncio.specs.States.{is-live};
-ghost use Rattle.rows.specs.Tables.{task-at, object-at};
+ghost use Rattle.rows.specs.Slices.{task-in, object-in};
+ghost use Rattle.contract.specs.Contract.{TasksLengthAnd, ObjectsLengthAnd, Lengths₂And};
 ghost use Rattle.machine.specs.Tests.{implies, all-below};
 ghost use Rattle.machine.specs.Scheduler.{blocked-on};
 ghost use Rattle.machine.specs.Sound.{is-task, blocked-awaits, blocked-at, awaiter-blocked, blocked-match};
@@ -34,8 +34,8 @@ fn is_task(t: u16, w: Awaiter) -> bool
 
 // Task `t` in state `s`: where it is blocked on an object, that object is made and `t` is its awaiter.
 fn blocked_awaits(made: u16, objects: &[u64], t: u16, s: TaskState) -> bool
-    requires { ⌜ (length (now objects) ≡ objects-length) × (made ≤ object-limit) ⌝ }
-    ensures { λ r. ⌜ r ≡ blocked-awaits made (object-at (now (objects .entry))) t (blocked-on s) ⌝ }
+    requires { ⌜ ObjectsLengthAnd objects (made ≤ object-limit) ⌝ }
+    ensures { λ r. ⌜ r ≡ blocked-awaits made (object-in objects) t (blocked-on s) ⌝ }
 {
     match s {
         TaskState::Absent => true,
@@ -54,13 +54,13 @@ fn blocked_awaits(made: u16, objects: &[u64], t: u16, s: TaskState) -> bool
 
 // Of every task.
 fn tasks_await(header: Header, tasks: &[u64], objects: &[u64]) -> bool
-    requires { ⌜ (length (now tasks) ≡ tasks-length) × (length (now objects) ≡ objects-length) × (header .made ≤ object-limit) × (header .next ≤ task-limit) ⌝ }
-    ensures { λ r. ⌜ r ≡ all-below (header .next) (λ t. blocked-awaits (header .made) (object-at (now (objects .entry))) t (blocked-on (task-at (now (tasks .entry)) t .state))) ⌝ }
+    requires { ⌜ Lengths₂And tasks objects ((header .made ≤ object-limit) × (header .next ≤ task-limit)) ⌝ }
+    ensures { λ r. ⌜ r ≡ all-below (header .next) (λ t. blocked-awaits (header .made) (object-in objects) t (blocked-on (task-in tasks t .state))) ⌝ }
 {
     let next = header.next;
     let mut t: u16 = 0;
     while t < next {
-        if blocked_awaits(header.made, objects, t, state_at(tasks, TaskId(t))) {
+        if blocked_awaits(header.made, objects, t, state_at(tasks, TaskId::new(t))) {
             t += 1;
         } else {
             return false;
@@ -85,8 +85,8 @@ fn waits_for(s: TaskState, o: u16) -> bool
 
 // The awaiter of object `o`, if it is a live task, is blocked on `o`.
 fn awaiter_blocked(tasks: &[u64], o: u16, w: Awaiter) -> bool
-    requires { ⌜ (length (now tasks) ≡ tasks-length) × AwaiterFits w ⌝ }
-    ensures { λ r. ⌜ r ≡ awaiter-blocked (task-at (now (tasks .entry))) o w ⌝ }
+    requires { ⌜ TasksLengthAnd tasks (AwaiterFits w) ⌝ }
+    ensures { λ r. ⌜ r ≡ awaiter-blocked (task-in tasks) o w ⌝ }
 {
     match w {
         Awaiter::Nobody => true,
@@ -100,12 +100,12 @@ fn awaiter_blocked(tasks: &[u64], o: u16, w: Awaiter) -> bool
 
 // Of every object.
 fn awaiters_blocked(made: u16, tasks: &[u64], objects: &[u64]) -> bool
-    requires { ⌜ (length (now tasks) ≡ tasks-length) × (length (now objects) ≡ objects-length) × (made ≤ object-limit) ⌝ }
-    ensures { λ r. ⌜ r ≡ all-below made (λ o. awaiter-blocked (task-at (now (tasks .entry))) o (awaiter-of (object-at (now (objects .entry)) o))) ⌝ }
+    requires { ⌜ Lengths₂And tasks objects (made ≤ object-limit) ⌝ }
+    ensures { λ r. ⌜ r ≡ all-below made (λ o. awaiter-blocked (task-in tasks) o (awaiter-of (object-in objects o))) ⌝ }
 {
     let mut o: u16 = 0;
     while o < made {
-        if awaiter_blocked(tasks, o, awaiter_at(objects, HeapId(o))) {
+        if awaiter_blocked(tasks, o, awaiter_at(objects, HeapId::new(o))) {
             o += 1;
         } else {
             return false;
@@ -116,8 +116,8 @@ fn awaiters_blocked(made: u16, tasks: &[u64], objects: &[u64]) -> bool
 
 // Both ways.
 pub fn blocked_match(header: Header, tasks: &[u64], objects: &[u64]) -> bool
-    requires { ⌜ (length (now tasks) ≡ tasks-length) × (length (now objects) ≡ objects-length) × (header .made ≤ object-limit) × (header .next ≤ task-limit) ⌝ }
-    ensures { λ r. ⌜ r ≡ blocked-match header (object-at (now (objects .entry))) (task-at (now (tasks .entry))) ⌝ }
+    requires { ⌜ Lengths₂And tasks objects ((header .made ≤ object-limit) × (header .next ≤ task-limit)) ⌝ }
+    ensures { λ r. ⌜ r ≡ blocked-match header (object-in objects) (task-in tasks) ⌝ }
 {
     if tasks_await(header, tasks, objects) {
         return awaiters_blocked(header.made, tasks, objects);

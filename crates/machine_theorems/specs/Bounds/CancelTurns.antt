@@ -8,24 +8,21 @@ use Prim.Native.Nat.{ℕ, zero, suc, _+_, _-_, _≤_, _<_}
 use native.Mathlib.Omega.{arith}
 use lib.ListN.{length, getD, set, length-set, replicate, length-replicate}
 use lib.Seq.{getD-set-same, getD-set-other}
-use Rattle.asyncio.specs.declared.CoroutineState.{CoroutineState}
-use Rattle.asyncio.specs.declared.ExternalFutureState.{ExternalFutureState}
-use Rattle.asyncio.specs.declared.GatherState.{GatherState}
 use Rattle.asyncio.specs.declared.Object.{Object}
 use Rattle.asyncio.specs.States.{pick, is-live}
-use Rattle.asyncio.specs.Kinds.{kind, is-awaited}
+use Rattle.asyncio.specs.Kinds.{kind, each-object, is-awaited}
 use Rattle.asyncio.specs.Limits.{task-limit, object-limit}
 use Rattle.asyncio.specs.RangeLaws.{pick-has}
 use Rattle.rows.specs.Tables.{task-at, object-at}
 use Rattle.machine.specs.Store.{Store, task, object, place, header, put-task, put-queue, add-log, removed, absent}
-use Rattle.machine.specs.Scheduler.{AwaitedGather, as-awaited, is-some, blocked-on, bit, first-from, is-task-of, task-of-in, task-of, live-count, remove-task, remove-from-ready-queue, cancel-one}
+use Rattle.machine.specs.Scheduler.{AwaitedGather, as-awaited, is-some, blocked-on, bit, is-task-of, task-of-in, task-of, live-count, remove-task, remove-from-ready-queue, cancel-one}
 use Rattle.machine.specs.Scheduler.{Walk, reach-if, reach, remove-blocked, still-live, visit-by, visit, visit-place, visit-open, walk-gather, walk-next, walk-from, cancel-task}
 use Rattle.machine.specs.Delivery.{awaited-in, awaited-count}
 use Rattle.machine_laws.specs.Views.{Sized}
 use Rattle.machine_laws.specs.Statements.{walk-rest}
 use Rattle.machine_laws.specs.CountLaws.{count-same, count-drop}
 use Rattle.machine_laws.specs.StoreLaws.{task-fits, place-fits, header-fits, sized-put-task, sized-put-queue, sized-add-log}
-use Rattle.machine_laws.specs.DeliveryLaws.{absurd-some}
+use Rattle.machine_laws.specs.DeliveryLaws.{absurd-some, first-below}
 use Rattle.machine_laws.specs.CycleLaws.{live-falls, blocked-fits, walk-once, cancel-walks}
 use Rattle.machine_theorems.specs.Bounds.Counts.{removals-in, Walks, walks-here, walks-on, unreached}
 
@@ -53,17 +50,10 @@ walk-kept-then k l = record { fine = l .fine; gathers = l .gathers ∙ k .gather
 
 awaited-kind : (x : Object) → is-awaited (kind x) ≡ is-some (as-awaited x)
 unfolding as-awaited is-some kind
-awaited-kind Object.Unmade = refl
-awaited-kind (Object.Coroutine f CoroutineState.New) = refl
-awaited-kind (Object.Coroutine f CoroutineState.Running) = refl
-awaited-kind (Object.Coroutine f CoroutineState.Completed) = refl
-awaited-kind (Object.ExternalFuture c (ExternalFutureState.Pending a x)) = refl
-awaited-kind (Object.ExternalFuture c (ExternalFutureState.Resolved v)) = refl
-awaited-kind (Object.ExternalFuture c (ExternalFutureState.Failed x)) = refl
-awaited-kind (Object.GatherFuture f n GatherState.Pending) = refl
-awaited-kind (Object.GatherFuture f n (GatherState.Awaited a m)) = refl
-awaited-kind (Object.GatherFuture f n GatherState.Completed) = refl
-awaited-kind (Object.GatherFuture f n (GatherState.Failed x)) = refl
+awaited-kind x =
+    each-object (λ (x : Object). is-awaited (kind x) ≡ is-some (as-awaited x))
+    refl (λ f. refl) (λ f. refl) (λ f. refl) (λ c a x. refl) (λ c v. refl) (λ c x. refl) (λ f n. refl) (λ f n a m. refl) (λ f n. refl)
+    (λ f n x. refl) x
 
 reach-falls : (w : Walk) (g : ℕ) → length (w .marks) ≡ object-limit → g < object-limit → is-some (as-awaited (object (w .store) g)) ≡ true → getD (w .marks) g false ≡ false
     → unreached w ≡ suc (unreached (reach-if w g true))
@@ -194,15 +184,6 @@ walks-rest w₀ n₀ x₀ f (walks-on w g gs n x e p) =
     walk-once w (f .marked) ∙ ap (walk-next walk-rest w) e ∙ here ∙ walks-rest (walk-gather v (as-awaited (object (w .store) g))) n x (k .fine) p
 
 -- ---- from the beginning of a cancel
-
-first-below : (p : ℕ → Bool) (k i t : ℕ) → first-from p i k ≡ some t → t < i + k
-unfolding first-from
-first-below p zero i t e = absurd-some e
-first-below p (suc k) i t e = by (p i) e (λ q. first-below p k (i + 1) t q)
-  where
-    by : (b : Bool) → _≡_ {A = Option ℕ} (pick b (some i) (first-from p (i + 1) k)) (some t) → (first-from p (i + 1) k ≡ some t → t < i + 1 + k) → t < i + suc k
-    by true q h = let same : i ≡ t = Option·some-injective i t q in omega arith
-    by false q h = omega (arith, h q)
 
 task-of-below : (s : Store) (o t : ℕ) → task-of s o ≡ some t → t < task-limit
 unfolding task-of task-of-in

@@ -224,5 +224,5 @@ pub await-steps-between : (s : Store) (t o f n : ℕ) → Sized s → o < object
 await-steps-between s t o f n z l e =
     let a : Awaiter = Awaiter.Task (task-id t) in
     rw (await-goes-on s t o f n e)
-    (go-on-seen t o (exec-get-awaitable s t o .steps) (commit-gather-tree s o a .steps) s (commit-gather-tree s o a .store) (commit-gather-tree s o a .poll) (sized-commit s o a z)
+    (go-on-seen t o (exec-get-awaitable s t o .steps) (commit-gather-tree s o a .steps) s (commit-gather-tree s o a .store) (commit-gather-tree s o a .poll) (sized-commit s o a l z)
     (await-steps-seen s t o f n z l e))

@@ -34,10 +34,10 @@ use Rattle.machine.specs.Events.{Result, apply-result, apply-future-results}
 use Rattle.machine_laws.specs.Views.{Sized}
 use Rattle.machine_laws.specs.Facts.{Nothing}
 use Rattle.machine_laws.specs.StoreLaws.{sized-put-places, sized-set-state, sized-put-object, kind-put-object, object-put-other, object-put-header, header-put-object, header-put-header, header-fits, task-fits, object-fits}
-use Rattle.machine_laws.specs.DeliveryLaws.{length-fill-from, resolve-sent, fail-sent}
+use Rattle.machine_laws.specs.DeliveryLaws.{length-fill-from, resolve-sent, fail-sent, pending-object}
 use Rattle.machine_theorems.specs.Soundness.Stores.{idle, SoundDuring}
 use Rattle.machine_theorems.specs.Soundness.Deliver.{DeliveryEnds, failure-keeps}
-use Rattle.machine_theorems.specs.Soundness.Results.{pending-object, AllApply, result-keeps, low}
+use Rattle.machine_theorems.specs.Soundness.Results.{AllApply, result-keeps, low}
 use Rattle.machine_theorems.specs.Soundness.Cycle.{task-delivering, remove-keeps, next-by, exit-by}
 use Rattle.machine_theorems.specs.Panics.NoPanicLaws.{Activated, starts, goes-on, raises-it, ready-activated, main-started}
 use Rattle.machine_theorems.specs.Panics.NoPanicWoken.{failure-activated}

@@ -193,7 +193,7 @@ module _ (s : Store) (h : SoundStore s) where
     commits-agree : (o f n : ℕ) → o < header s .made → object s o ≡ Object.GatherFuture f n GatherState.Pending → AllPlacesAgree Nothing s → AllPlacesAgree Nothing (await-gather s t o GatherState.Pending .store)
     unfolding await-gather
     commits-agree o f n l e a =
-        go-on-agree o _ (commit-gather-tree s o (Awaiter.Task (task-id t)) .store) (commit-gather-tree s o (Awaiter.Task (task-id t)) .poll) (sized-commit s o (Awaiter.Task (task-id t)) (h .memory .sized))
+        go-on-agree o _ (commit-gather-tree s o (Awaiter.Task (task-id t)) .store) (commit-gather-tree s o (Awaiter.Task (task-id t)) .poll) (sized-commit s o (Awaiter.Task (task-id t)) (omega (arith, l, header-fits s .made-fits)) (h .memory .sized))
         (commit-keeps s t h m o f n l e) (commit-agree s t h m o f n l e a)
 
     gather-agree : (o f n : ℕ) (x : GatherState) → o < header s .made → object s o ≡ Object.GatherFuture f n x → AllPlacesAgree Nothing s → AllPlacesAgree Nothing (await-gather s t o x .store)

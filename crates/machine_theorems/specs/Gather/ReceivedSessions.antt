@@ -40,6 +40,7 @@ use Rattle.machine.specs.Machine.{Event, switched, answer-await, end-main, task
 use Rattle.machine.specs.Gather.{Outcome, returned}
 use Rattle.machine.specs.Sound.{value-known, runs-now}
 use Rattle.machine_laws.specs.Views.{Sized}
+use Rattle.machine_laws.specs.DeliveryLaws.{pending-object}
 use Rattle.machine_laws.specs.Facts.{Nothing}
 use Rattle.machine_laws.specs.TestLaws.{or-left, or-right}
 use Rattle.machine_laws.specs.StoreLaws.{header-fits, header-put-object, header-put-header, sized-set-state, sized-put-queue, sized-add-log, sized-forget, object-put-object, object-fits, task-fits}
@@ -48,7 +49,7 @@ use Rattle.machine_laws.specs.MachineLaws.{accepted-step, refused-step}
 use Rattle.machine_laws.specs.SoundLaws.{pass, running-rest, refusal-rest, refusal-forget}
 use Rattle.machine_laws.specs.MakingLaws.{value-fits}
 use Rattle.machine_theorems.specs.Soundness.Stores.{idle, SoundDuring, SoundStore, during-of}
-use Rattle.machine_theorems.specs.Soundness.Results.{pending-object, resolve-delivering, resolve-row, fail-delivering, fail-row, MayApply, AllApply, host-fits, result-keeps, low}
+use Rattle.machine_theorems.specs.Soundness.Results.{resolve-delivering, resolve-row, fail-delivering, fail-row, MayApply, AllApply, host-fits, result-keeps, low}
 use Rattle.machine_theorems.specs.Soundness.Exits.{runner-low, runner-runs, runner-live, others-commits-none, completion-delivering, completion-delivery-ends, only-changes-of}
 use Rattle.machine_theorems.specs.Soundness.Fill.{ValueRises}
 use Rattle.machine_theorems.specs.Soundness.Await.{wait-external}

@@ -45,12 +45,11 @@ use Rattle.machine_laws.specs.Views.{update}
 use Rattle.machine_laws.specs.Facts.{Open, Slotted, SoundBut, Nothing}
 use Rattle.machine_laws.specs.TestLaws.{both-left, both-right, below, or-use, sum-last, sum-more}
 use Rattle.machine_laws.specs.SoundLaws.{pass}
-use Rattle.machine_laws.specs.DeliveryLaws.{absurd-some, awaited-object}
+use Rattle.machine_laws.specs.DeliveryLaws.{absurd-some, awaited-object, first-below}
 use Rattle.machine_theorems.specs.Soundness.Stores.{Kept, Runs, SoundDuring, SoundStore}
 use Rattle.machine_theorems.specs.Soundness.Deliver.{Detached}
 use Rattle.machine_theorems.specs.Bounds.Bits.{none-set}
 use Rattle.machine_theorems.specs.Soundness.Fill.{all-filled}
-use Rattle.machine_theorems.specs.Soundness.Results.{first-below}
 use Rattle.machine_theorems.specs.Soundness.Cycle.{Spawned, spawned-of, coroutine-is}
 use Rattle.machine_theorems.specs.Soundness.Exits.{is-run-state, runner-low, runner-runs}
 use Rattle.machine_theorems.specs.Soundness.CommitInv.{OnStack, Stacked, bottom, above, stacked-object, Inv}

@@ -40,7 +40,7 @@ use Rattle.machine_laws.specs.StoreLaws.{update-same, update-other, sized-put-t
 use Rattle.machine_laws.specs.StoreLaws.{view-put-task, view-put-object, view-put-header}
 use Rattle.machine_laws.specs.WordLaws.{fine-put-task, fine-put-header, fine-put-queue, fine-add-log}
 use Rattle.machine_laws.specs.SizedLaws.{sized-spawn-as}
-use Rattle.machine_laws.specs.DeliveryLaws.{absurd-some, awaited-object}
+use Rattle.machine_laws.specs.DeliveryLaws.{absurd-some, awaited-object, pending-object}
 use Rattle.machine_theorems.specs.Soundness.ReadyTasks.{none-queued, queued-back}
 use Rattle.machine_theorems.specs.Soundness.PutObject.{Fits}
 use Rattle.machine_theorems.specs.Soundness.SpawnTask.{one-more, spawned-row, spawn-view}
@@ -51,7 +51,6 @@ use Rattle.machine_theorems.specs.Soundness.Memory.{Memory, memory-objec
 use Rattle.machine_theorems.specs.Soundness.CommitSteps.{wider, wider-small, wider-opens}
 use Rattle.machine_theorems.specs.Soundness.CommitInv.{OnTop, Inv, relax, open-step, lower-step, spawn-step}
 use Rattle.rows.specs.Tables.{task-at}
-use Rattle.machine_theorems.specs.Soundness.Results.{pending-object}
 use Rattle.machine_theorems.specs.Soundness.CommitLoop.{awaits-fits, fill-commits}
 
 -- ---- where a walk through the items stops

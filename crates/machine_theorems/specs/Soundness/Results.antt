@@ -2,8 +2,8 @@
 use mathlib.Core.Path.{_≡_, refl, ap, sym, subst, _∙_}
 use mathlib.Core.Bool.{Bool, true, false}
 use mathlib.Core.List.{List, [], _∷_}
-use mathlib.Core.Option.{Option, none, some, Option·some-injective}
-use Prim.Native.Nat.{ℕ, zero, suc, _+_, _<_}
+use mathlib.Core.Option.{Option, none, some}
+use Prim.Native.Nat.{ℕ, _<_}
 use native.Mathlib.Omega.{arith}
 use lib.Dec.{T, eqb}
 use borrow.Author.Tests.{eqb-true}
@@ -21,31 +21,20 @@ use Rattle.asyncio.specs.States.{pick}
 use Rattle.asyncio.specs.Kinds.{kind, is-coroutine, is-completed, is-committed}
 use Rattle.asyncio.specs.Parts.{awaiter-of, count-of}
 use Rattle.machine.specs.Store.{Store, View, view, object, header, put-object}
-use Rattle.machine.specs.Scheduler.{PendingExternal, as-awaited, as-pending, first-from, pending-external-in, pending-external}
+use Rattle.machine.specs.Scheduler.{PendingExternal, as-awaited, as-pending, pending-external-in, pending-external}
 use Rattle.machine.specs.Delivery.{value-or, resolve-pending, fail-pending, settle-pending, settle-found, resolve-future, fail-future}
 use Rattle.machine.specs.Events.{Result, apply-result, apply-future-results}
 use Rattle.machine.specs.Sound.{object-in-range, items-below, value-known, option-known, object-values, object-filled}
 use Rattle.machine_laws.specs.Facts.{SoundBut, Nothing}
 use Rattle.machine_laws.specs.StoreLaws.{object-fits, object-put-object, header-put-object}
 use Rattle.machine_laws.specs.MakingLaws.{value-fits}
-use Rattle.machine_laws.specs.DeliveryLaws.{absurd-some}
+use Rattle.machine_laws.specs.DeliveryLaws.{pending-object, first-below}
 use Rattle.machine_theorems.specs.Soundness.PutObject.{value-stays}
 use Rattle.machine_theorems.specs.Soundness.Stores.{SoundDuring}
 use Rattle.machine_theorems.specs.Soundness.Deliver.{Delivering, Detached, Settles, settle-keeps, detached-keeps, ErrorRises, failure-keeps}
 use Rattle.machine_theorems.specs.Soundness.Fill.{alone-keeps, ValueRises, success-keeps}
 
 -- ---- a pending external settles
-
--- the object that reads as a pending external
-pub pending-object : (x : Object) (p : PendingExternal) → as-pending x ≡ some p → x ≡ Object.ExternalFuture (p .call) (ExternalFutureState.Pending (p .awaiter) (p .stored))
-unfolding as-pending
-pending-object Object.Unmade p e = absurd-some e
-pending-object (Object.Coroutine f y) p e = absurd-some e
-pending-object (Object.ExternalFuture c (ExternalFutureState.Pending a r)) p e =
-    ap (λ (u : PendingExternal). Object.ExternalFuture (u .call) (ExternalFutureState.Pending (u .awaiter) (u .stored))) (Option·some-injective _ p e)
-pending-object (Object.ExternalFuture c (ExternalFutureState.Resolved y)) p e = absurd-some e
-pending-object (Object.ExternalFuture c (ExternalFutureState.Failed y)) p e = absurd-some e
-pending-object (Object.GatherFuture f n y) p e = absurd-some e
 
 pending-fits : (s : Store) (o : ℕ) (p : PendingExternal) → as-pending (object s o) ≡ some p
     → ObjectFits (Object.ExternalFuture (p .call) (ExternalFutureState.Pending (p .awaiter) (p .stored)))
@@ -101,16 +90,6 @@ known-or v o p x h l e k =
     by : (r : OptionValue) → T (option-known (v .header .made) (v .objects) r) → T (value-known (v .header .made) (v .objects) (value-or r x))
     by OptionValue.None t = unfold value-or in k
     by (OptionValue.Some y) t = unfold value-or option-known in t
-
--- what is found is one of the numbers that were looked at
-pub first-below : (p : ℕ → Bool) (k i o : ℕ) → first-from p i k ≡ some o → o < i + k
-unfolding first-from
-first-below p zero i o e = absurd-some e
-first-below p (suc k) i o e = by (p i) e (λ q. first-below p k (i + 1) o q)
-  where
-    by : (b : Bool) → pick b (some i) (first-from p (i + 1) k) ≡ some o → (first-from p (i + 1) k ≡ some o → o < i + 1 + k) → o < i + suc k
-    by true q f = let z : i ≡ o = Option·some-injective i o q in omega arith
-    by false q f = omega (arith, f q)
 
 -- ---- one result of the host
 

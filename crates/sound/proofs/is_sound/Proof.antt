@@ -19,7 +19,7 @@ tables-sound-requires : tie.Need-tables-sound-requires
 tables-sound-requires c κs = (c .before .before .before .before .before .before .before .before .pre .0, c .before .before .before .before .before .before .before .before .pre .1, c .before .before .before .before .before .before .before .before .pre .2, header-read _ (c .before .before .load-header .ensures))
 
 tasks-sound-requires : tie.Need-tasks-sound-requires
-tasks-sound-requires c κs = (c .before .before .before .before .before .before .before .before .before .before .pre .0, c .before .before .before .before .before .before .before .before .before .before .pre .1, header-read _ (c .before .before .before .before .load-header .ensures), c .before .before .before .before .before .before .if1 .left)
+tasks-sound-requires c κs = (c .before .before .before .before .before .before .before .before .before .before .pre .0, c .before .before .before .before .before .before .before .before .before .before .pre .1, (header-read _ (c .before .before .before .before .load-header .ensures), c .before .before .before .before .before .before .if1 .left))
 
 gathers-sound-requires : tie.Need-gathers-sound-requires
 gathers-sound-requires c κs = (c .before .before .before .before .before .before .before .before .before .before .before .before .pre .0, c .before .before .before .before .before .before .before .before .before .before .before .before .pre .1, c .before .before .before .before .before .before .before .before .before .before .before .before .pre .2, header-read _ (c .before .before .before .before .before .before .load-header .ensures))

@@ -1,6 +1,9 @@
 use borrow.Author.Needs.{needs}
 use Rattle.asyncio.proofs.words.to_header.Statement.{statement}
 use Rattle.asyncio.proofs.words.to_header.Tie as tie
+use Rattle.asyncio.proofs.words.to_header.Reads as reads
+use Rattle.asyncio.proofs.words.to_header.Lts as lts
+use Rattle.asyncio.proofs.words.to_moment.Reads as to-moment-reads
 
 array-read-to-moment : tie.Need-array-read-to-moment
 array-read-to-moment c = search needs
@@ -14,50 +17,50 @@ to-moment-requires c κs = search needs
 array-read-t6 : tie.Need-array-read-t6
 array-read-t6 c = search needs
 
-add-t9 : tie.Need-add-t9
-add-t9 c = search needs
+add-t12 : tie.Need-add-t12
+add-t12 c = search needs
 
-rem-t12 : tie.Need-rem-t12
-rem-t12 c = search needs
+rem-t13 : tie.Need-rem-t13
+rem-t13 c = search needs
 
-cast-t13 : tie.Need-cast-t13
-cast-t13 c = search needs
+cast-t14 : tie.Need-cast-t14
+cast-t14 c = search needs
 
-array-read-t16 : tie.Need-array-read-t16
-array-read-t16 c = search needs
+array-read-t17 : tie.Need-array-read-t17
+array-read-t17 c = search needs
 
-add-t17 : tie.Need-add-t17
-add-t17 c = search needs
+add-t19 : tie.Need-add-t19
+add-t19 c = search needs
 
-rem-t18 : tie.Need-rem-t18
-rem-t18 c = search needs
+rem-t20 : tie.Need-rem-t20
+rem-t20 c = search needs
 
-cast-t19 : tie.Need-cast-t19
-cast-t19 c = search needs
+cast-t21 : tie.Need-cast-t21
+cast-t21 c = search needs
 
-array-read-t22 : tie.Need-array-read-t22
-array-read-t22 c = search needs
+array-read-t24 : tie.Need-array-read-t24
+array-read-t24 c = search needs
 
-add-t23 : tie.Need-add-t23
-add-t23 c = search needs
+add-t26 : tie.Need-add-t26
+add-t26 c = search needs
 
-rem-t24 : tie.Need-rem-t24
-rem-t24 c = search needs
+rem-t27 : tie.Need-rem-t27
+rem-t27 c = search needs
 
-cast-t25 : tie.Need-cast-t25
-cast-t25 c = search needs
+cast-t28 : tie.Need-cast-t28
+cast-t28 c = search needs
 
-array-read-t28 : tie.Need-array-read-t28
-array-read-t28 c = search needs
+array-read-t31 : tie.Need-array-read-t31
+array-read-t31 c = search needs
 
-add-t29 : tie.Need-add-t29
-add-t29 c = search needs
+add-t33 : tie.Need-add-t33
+add-t33 c = search needs
 
-rem-t30 : tie.Need-rem-t30
-rem-t30 c = search needs
+rem-t34 : tie.Need-rem-t34
+rem-t34 c = search needs
 
-cast-t31 : tie.Need-cast-t31
-cast-t31 c = search needs
+cast-t35 : tie.Need-cast-t35
+cast-t35 c = search needs
 
 returns : tie.Need-returns
 returns c = rw (c .to-moment .ensures)
@@ -70,19 +73,19 @@ to-header-spec =
     array-read-to-moment-2
     to-moment-requires
     array-read-t6
-    add-t9
-    rem-t12
-    cast-t13
-    array-read-t16
-    add-t17
-    rem-t18
-    cast-t19
-    array-read-t22
-    add-t23
-    rem-t24
-    cast-t25
-    array-read-t28
-    add-t29
-    rem-t30
-    cast-t31
+    add-t12
+    rem-t13
+    cast-t14
+    array-read-t17
+    add-t19
+    rem-t20
+    cast-t21
+    array-read-t24
+    add-t26
+    rem-t27
+    cast-t28
+    array-read-t31
+    add-t33
+    rem-t34
+    cast-t35
     returns)

@@ -3,21 +3,18 @@ use borrow.Author.Needs.{needs}
 use Rattle.rows.proofs.tables.load_task.Statement.{statement}
 use Rattle.rows.proofs.tables.load_task.Tie as tie
 
-cast-i : tie.Need-cast-i
-cast-i c = search needs
+cast-task-row : tie.Need-cast-task-row
+cast-task-row c = search needs
 
-mul-load8 : tie.Need-mul-load8
-mul-load8 c = search needs
-
-load8-requires : tie.Need-load8-requires
-load8-requires c κs = search needs
+task-row-requires : tie.Need-task-row-requires
+task-row-requires c κs = search needs
 
 to-task-requires : tie.Need-to-task-requires
 to-task-requires c κs = search needs
 
 returns : tie.Need-returns
 unfolding task-at
-returns c = rw (c .to-task .ensures, c .before .load8 .ensures)
+returns c = rw (c .to-task .ensures, c .before .task-row .ensures)
 
 pub load-task-spec : {M : Type 1} → statement M
-load-task-spec = tie.close (tie.spec cast-i mul-load8 load8-requires to-task-requires returns)
+load-task-spec = tie.close (tie.spec cast-task-row task-row-requires to-task-requires returns)

@@ -32,7 +32,7 @@ cast-rest-filled-2 : tie.Need-cast-rest-filled-2
 cast-rest-filled-2 c = search needs
 
 rest-filled-requires : tie.Need-rest-filled-requires
-rest-filled-requires c κs = (search needs, omega (arith, places-fit (now (c .before .before .before .before .before .before .before .before .before .args .objects)) (c .before .before .before .before .before .before .before .before .before .args .o) (c .before .before .before .before .before .first-at .ensures) (c .before .before .before .before .count-at .ensures) .within), omega (arith, places-fit (now (c .before .before .before .before .before .before .before .before .before .args .objects)) (c .before .before .before .before .before .before .before .before .before .args .o) (c .before .before .before .before .before .first-at .ensures) (c .before .before .before .before .count-at .ensures) .at-most))
+rest-filled-requires c κs = (search needs, (omega (arith, places-fit (now (c .before .before .before .before .before .before .before .before .before .args .objects)) (c .before .before .before .before .before .before .before .before .before .args .o .0) (c .before .before .before .before .before .first-at .ensures) (c .before .before .before .before .count-at .ensures) .within), omega (arith, places-fit (now (c .before .before .before .before .before .before .before .before .before .args .objects)) (c .before .before .before .before .before .before .before .before .before .args .o .0) (c .before .before .before .before .before .first-at .ensures) (c .before .before .before .before .count-at .ensures) .at-most)))
 
 returns-2 : tie.Need-returns-2
 returns-2 c = filled-awaited _ _ _ (c .before .before .before .before .before .before .before .kind-at .ensures) (c .before .before .before .before .before .before .first-at .ensures) (c .before .before .before .before .before .count-at .ensures) (sym (c .before .before .before .before .is-awaited .ensures) ∙ c .before .before .before .if1 .taken) (c .before .before .open-at .ensures) (c .before .if2 .left) (c .rest-filled .ensures)
@@ -47,7 +47,7 @@ cast-rest-filled-4 : tie.Need-cast-rest-filled-4
 cast-rest-filled-4 c = search needs
 
 rest-filled-requires-2 : tie.Need-rest-filled-requires-2
-rest-filled-requires-2 c κs = (search needs, omega (arith, places-fit (now (c .before .before .before .before .before .before .before .before .before .args .objects)) (c .before .before .before .before .before .before .before .before .before .args .o) (c .before .before .before .before .before .first-at .ensures) (c .before .before .before .before .count-at .ensures) .within), omega (arith, places-fit (now (c .before .before .before .before .before .before .before .before .before .args .objects)) (c .before .before .before .before .before .before .before .before .before .args .o) (c .before .before .before .before .before .first-at .ensures) (c .before .before .before .before .count-at .ensures) .at-most))
+rest-filled-requires-2 c κs = (search needs, (omega (arith, places-fit (now (c .before .before .before .before .before .before .before .before .before .args .objects)) (c .before .before .before .before .before .before .before .before .before .args .o .0) (c .before .before .before .before .before .first-at .ensures) (c .before .before .before .before .count-at .ensures) .within), omega (arith, places-fit (now (c .before .before .before .before .before .before .before .before .before .args .objects)) (c .before .before .before .before .before .before .before .before .before .args .o .0) (c .before .before .before .before .before .first-at .ensures) (c .before .before .before .before .count-at .ensures) .at-most)))
 
 returns-3 : tie.Need-returns-3
 returns-3 c = filled-completed _ _ _ (c .before .before .before .before .before .before .before .kind-at .ensures) (c .before .before .before .before .before .before .first-at .ensures) (c .before .before .before .before .before .count-at .ensures) (sym (c .before .before .before .before .is-awaited .ensures) ∙ c .before .before .before .if1 .left) (sym (c .before .before .is-completed .ensures) ∙ c .before .if3 .taken) (c .rest-filled2 .ensures)

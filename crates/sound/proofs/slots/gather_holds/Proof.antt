@@ -29,7 +29,7 @@ cast-source-open-2 : tie.Need-cast-source-open-2
 cast-source-open-2 c = search needs
 
 source-open-requires : tie.Need-source-open-requires
-source-open-requires c κs = (search needs, omega (arith, places-fit (now (c .before .before .before .before .before .before .before .before .args .objects)) (c .before .before .before .before .before .before .before .before .args .g .0) (c .before .before .first-at .ensures) (c .before .count-at .ensures) .within), omega (arith, places-fit (now (c .before .before .before .before .before .before .before .before .args .objects)) (c .before .before .before .before .before .before .before .before .args .g .0) (c .before .before .first-at .ensures) (c .before .count-at .ensures) .at-most))
+source-open-requires c κs = (search needs, (omega (arith, places-fit (now (c .before .before .before .before .before .before .before .before .args .objects)) (c .before .before .before .before .before .before .before .before .args .g .0) (c .before .before .first-at .ensures) (c .before .count-at .ensures) .within), omega (arith, places-fit (now (c .before .before .before .before .before .before .before .before .args .objects)) (c .before .before .before .before .before .before .before .before .args .g .0) (c .before .before .first-at .ensures) (c .before .count-at .ensures) .at-most)))
 
 returns : tie.Need-returns
 returns c = holds-awaited _ _ _ _ (c .before .before .before .before .before .before .kind-at .ensures) (sym (c .before .before .before .before .before .is-awaited .ensures) ∙ c .before .before .before .before .if1 .taken) (c .before .before .before .first-at .ensures) (c .before .before .count-at .ensures) (c .before .open-at .ensures) (c .source-open .ensures)

@@ -2,6 +2,7 @@ use mathlib.Core.Path.{_≡_, sym, ap, _∙_}
 use mathlib.Core.Bool.{true}
 use Prim.Native.Nat.{ℕ, _-_, _≤_}
 use native.Mathlib.Omega.{arith}
+use Rattle.sound_rows.specs.NumberLaws.{heap-number}
 use borrow.Author.Needs.{needs}
 use Rattle.machine.specs.Tests.{all-below}
 use Rattle.sound_rows.specs.Loops.{all-none, all-turn, all-fails, all-end}
@@ -21,11 +22,14 @@ abbrev μ-loop : tie.MeasureT-loop
 loop-holds : tie.Need-loop-holds Inv-loop μ-loop
 loop-holds c = (all-none _, omega arith)
 
+new-requires : tie.Need-new-requires Inv-loop μ-loop
+new-requires c κs = search needs
+
 awaiter-at-requires : tie.Need-awaiter-at-requires Inv-loop μ-loop
-awaiter-at-requires c κs = search needs
+awaiter-at-requires c κs = search (needs, heap-number (c .new .ensures))
 
 slot-open-requires : tie.Need-slot-open-requires Inv-loop μ-loop
-slot-open-requires c κs = (search needs, search needs, awaiter-fits _ _ (c .awaiter-at .ensures))
+slot-open-requires c κs = (search needs, (search needs, awaiter-fits _ _ (rw (c .before .new .ensures) at (c .awaiter-at .ensures))))
 
 add-o : tie.Need-add-o Inv-loop μ-loop
 add-o c = omega arith
@@ -34,10 +38,10 @@ loop-less : tie.Need-loop-less Inv-loop μ-loop
 loop-less c = omega arith
 
 loop-again : tie.Need-loop-again Inv-loop μ-loop
-loop-again c = (all-turn _ (c .before .before .before .before .loop .o) (sym (c .if1 .taken) ∙ c .before .slot-open .ensures ∙ ap (slot-open _ _ _) (c .before .before .awaiter-at .ensures)) (c .before .before .before .before .loop .inv .0), omega arith)
+loop-again c = (all-turn _ (c .before .before .before .before .before .loop .o) (sym (c .if1 .taken) ∙ c .before .slot-open .ensures ∙ ap (slot-open _ _ _) (rw (c .before .before .before .new .ensures) at (c .before .before .awaiter-at .ensures))) (c .before .before .before .before .before .loop .inv .0), omega arith)
 
 returns : tie.Need-returns Inv-loop μ-loop
-returns c = all-fails _ (c .before .before .before .before .loop .o) _ (c .before .before .before .loop-test .taken) (sym (c .if1 .left) ∙ c .before .slot-open .ensures ∙ ap (slot-open _ _ _) (c .before .before .awaiter-at .ensures))
+returns c = all-fails _ (c .before .before .before .before .before .loop .o) _ (c .before .before .before .before .loop-test .taken) (sym (c .if1 .left) ∙ c .before .slot-open .ensures ∙ ap (slot-open _ _ _) (rw (c .before .before .before .new .ensures) at (c .before .before .awaiter-at .ensures)))
 
 returns-2 : tie.Need-returns-2 Inv-loop μ-loop
 returns-2 c = all-end _ (c .before .loop .o) _ (omega arith) (c .loop-test .left) (c .before .loop .inv .0)
@@ -49,6 +53,7 @@ object-slots-spec =
     Inv-loop
     μ-loop
     loop-holds
+    new-requires
     awaiter-at-requires
     slot-open-requires
     add-o

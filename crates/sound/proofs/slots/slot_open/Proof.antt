@@ -15,7 +15,7 @@ enum-known-w : tie.Need-enum-known-w
 enum-known-w c = search needs
 
 gather-holds-requires : tie.Need-gather-holds-requires
-gather-holds-requires c κs = (search needs, search needs, (rw (c .before .before .before .w .given .1) at (c .before .before .before .before .before .before .before .pre .2)) .0)
+gather-holds-requires c κs = (search needs, (search needs, (rw (c .before .before .before .w .given .1) at (c .before .before .before .before .before .before .before .pre .1 .1)) .0))
 
 returns : tie.Need-returns
 unfolding slot-open _and_

@@ -18,7 +18,7 @@ task-awaiter-at-requires : tie.Need-task-awaiter-at-requires
 task-awaiter-at-requires c κs = search needs
 
 slot-open-requires : tie.Need-slot-open-requires
-slot-open-requires c κs = (search needs, search needs, task-awaiter-fits _ _ (c .task-awaiter-at .ensures))
+slot-open-requires c κs = (search needs, (search needs, task-awaiter-fits _ _ (c .task-awaiter-at .ensures)))
 
 returns : tie.Need-returns
 returns c = slot-live _ _ _ _ (c .before .before .before .before .before .state-at .ensures) (sym (c .before .before .before .before .is-live .ensures) ∙ c .before .before .before .if1 .taken) (c .before .before .coroutine-at .ensures) (c .before .task-awaiter-at .ensures) (c .slot-open .ensures)

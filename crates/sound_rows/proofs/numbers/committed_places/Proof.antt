@@ -1,6 +1,7 @@
 use mathlib.Core.Path.{_≡_, sym, _∙_}
 use Prim.Native.Nat.{ℕ, _-_, _*_, _≤_}
 use native.Mathlib.Omega.{arith}
+use Rattle.sound_rows.specs.NumberLaws.{heap-number}
 use borrow.Author.Needs.{needs}
 use denote.Ref.{now}
 use Rattle.rows.specs.Tables.{object-at}
@@ -20,17 +21,20 @@ abbrev μ-loop : tie.MeasureT-loop
 loop-holds : tie.Need-loop-holds Inv-loop μ-loop
 loop-holds c = (sum-none _, omega arith, omega arith)
 
+new-requires : tie.Need-new-requires Inv-loop μ-loop
+new-requires c κs = search needs
+
 kind-at-requires : tie.Need-kind-at-requires Inv-loop μ-loop
-kind-at-requires c κs = search needs
+kind-at-requires c κs = search (needs, heap-number (c .new .ensures))
 
 is-committed-requires : tie.Need-is-committed-requires Inv-loop μ-loop
 is-committed-requires c κs = search needs
 
 count-at-requires : tie.Need-count-at-requires Inv-loop μ-loop
-count-at-requires c κs = search needs
+count-at-requires c κs = search (needs, heap-number (c .before .before .before .new .ensures))
 
 add-sum : tie.Need-add-sum Inv-loop μ-loop
-add-sum c = omega (arith, count-fits (now (c .before .before .before .before .before .before .before .args .objects)) (c .before .before .before .before .before .loop .o) (c .count-at .ensures))
+add-sum c = omega (arith, count-fits (now (c .before .before .before .before .before .before .before .before .args .objects)) (c .before .before .before .before .before .before .loop .o) (rw (c .before .before .before .before .new .ensures) at (c .count-at .ensures)))
 
 add-o : tie.Need-add-o Inv-loop μ-loop
 add-o c = omega arith
@@ -40,9 +44,9 @@ loop-less c = omega arith
 
 loop-again : tie.Need-loop-again Inv-loop μ-loop
 loop-again c = (
-  committed-turn _ (c .before .before .before .before .before .loop .o) (c .before .before .before .before .before .loop .sum) (c .before .before .before .before .before .loop .inv .0) (c .before .before .before .kind-at .ensures) (sym (c .before .before .is-committed .ensures) ∙ c .before .if1 .taken) (c .count-at .ensures),
+  committed-turn _ (c .before .before .before .before .before .before .loop .o) (c .before .before .before .before .before .before .loop .sum) (c .before .before .before .before .before .before .loop .inv .0) (rw (c .before .before .before .before .new .ensures) at (c .before .before .before .kind-at .ensures)) (sym (c .before .before .is-committed .ensures) ∙ c .before .if1 .taken) (rw (c .before .before .before .before .new .ensures) at (c .count-at .ensures)),
   omega arith,
-  omega (arith, count-fits (now (c .before .before .before .before .before .before .before .args .objects)) (c .before .before .before .before .before .loop .o) (c .count-at .ensures)),
+  omega (arith, count-fits (now (c .before .before .before .before .before .before .before .before .args .objects)) (c .before .before .before .before .before .before .loop .o) (rw (c .before .before .before .before .new .ensures) at (c .count-at .ensures))),
 )
 
 add-o-2 : tie.Need-add-o-2 Inv-loop μ-loop
@@ -52,7 +56,7 @@ loop-less-2 : tie.Need-loop-less-2 Inv-loop μ-loop
 loop-less-2 c = omega arith
 
 loop-again-2 : tie.Need-loop-again-2 Inv-loop μ-loop
-loop-again-2 c = (committed-skip _ (c .before .before .before .before .loop .o) (c .before .before .before .before .loop .sum) (c .before .before .before .before .loop .inv .0) (c .before .before .kind-at .ensures) (sym (c .before .is-committed .ensures) ∙ c .if1 .left), omega arith, omega arith)
+loop-again-2 c = (committed-skip _ (c .before .before .before .before .before .loop .o) (c .before .before .before .before .before .loop .sum) (c .before .before .before .before .before .loop .inv .0) (rw (c .before .before .before .new .ensures) at (c .before .before .kind-at .ensures)) (sym (c .before .is-committed .ensures) ∙ c .if1 .left), omega arith, omega arith)
 
 returns : tie.Need-returns Inv-loop μ-loop
 returns c = (let e : c .before .loop .o ≡ c .before .before .before .args .made = omega arith in rw e at (c .before .loop .inv .0), omega arith)
@@ -64,6 +68,7 @@ committed-places-spec =
     Inv-loop
     μ-loop
     loop-holds
+    new-requires
     kind-at-requires
     is-committed-requires
     count-at-requires

@@ -13,11 +13,14 @@ is-external-requires c κs = search needs
 call-at-requires : tie.Need-call-at-requires
 call-at-requires c κs = search needs
 
+word-requires : tie.Need-word-requires
+word-requires c κs = search needs
+
 cast-result : tie.Need-cast-result
 cast-result c = search needs
 
 returns : tie.Need-returns
-returns c = external-ranged _ _ _ _ (c .before .before .before .before .before .kind-at .ensures) (sym (c .before .before .before .before .is-external .ensures) ∙ c .before .before .before .if1 .taken) (c .before .before .call-at .ensures)
+returns c = external-ranged _ _ _ _ (c .before .before .before .before .before .kind-at .ensures) (sym (c .before .before .before .before .is-external .ensures) ∙ c .before .before .before .if1 .taken) (c .before .before .call-at .ensures) (c .before .word .ensures)
 
 is-gather-requires : tie.Need-is-gather-requires
 is-gather-requires c κs = search needs
@@ -53,6 +56,7 @@ object-in-range-spec =
     kind-at-requires
     is-external-requires
     call-at-requires
+    word-requires
     cast-result
     returns
     is-gather-requires

@@ -2,6 +2,7 @@ use mathlib.Core.Path.{_≡_, sym, _∙_}
 use mathlib.Core.Bool.{true}
 use Prim.Native.Nat.{ℕ, _-_, _≤_}
 use native.Mathlib.Omega.{arith}
+use Rattle.sound_rows.specs.NumberLaws.{task-number}
 use borrow.Author.Needs.{needs}
 use Rattle.machine.specs.Tests.{all-below}
 use Rattle.sound_rows.specs.Loops.{all-none, all-turn, all-fails, all-end}
@@ -19,8 +20,11 @@ abbrev μ-loop : tie.MeasureT-loop
 loop-holds : tie.Need-loop-holds Inv-loop μ-loop
 loop-holds c = (all-none _, omega arith)
 
+new-requires : tie.Need-new-requires Inv-loop μ-loop
+new-requires c κs = search needs
+
 task-in-range-requires : tie.Need-task-in-range-requires Inv-loop μ-loop
-task-in-range-requires c κs = search needs
+task-in-range-requires c κs = search (needs, task-number (c .new .ensures))
 
 add-t : tie.Need-add-t Inv-loop μ-loop
 add-t c = omega arith
@@ -29,10 +33,10 @@ loop-less : tie.Need-loop-less Inv-loop μ-loop
 loop-less c = omega arith
 
 loop-again : tie.Need-loop-again Inv-loop μ-loop
-loop-again c = (all-turn _ (c .before .before .before .loop .t) (sym (c .if1 .taken) ∙ c .before .task-in-range .ensures) (c .before .before .before .loop .inv .0), omega arith)
+loop-again c = (all-turn _ (c .before .before .before .before .loop .t) (sym (c .if1 .taken) ∙ (rw (c .before .before .new .ensures) at (c .before .task-in-range .ensures))) (c .before .before .before .before .loop .inv .0), omega arith)
 
 returns : tie.Need-returns Inv-loop μ-loop
-returns c = all-fails _ (c .before .before .before .loop .t) _ (c .before .before .loop-test .taken) (sym (c .if1 .left) ∙ c .before .task-in-range .ensures)
+returns c = all-fails _ (c .before .before .before .before .loop .t) _ (c .before .before .before .loop-test .taken) (sym (c .if1 .left) ∙ (rw (c .before .before .new .ensures) at (c .before .task-in-range .ensures)))
 
 returns-2 : tie.Need-returns-2 Inv-loop μ-loop
 returns-2 c = all-end _ (c .before .loop .t) _ (omega arith) (c .loop-test .left) (c .before .loop .inv .0)
@@ -44,6 +48,7 @@ tasks-in-range-spec =
     Inv-loop
     μ-loop
     loop-holds
+    new-requires
     task-in-range-requires
     add-t
     loop-less

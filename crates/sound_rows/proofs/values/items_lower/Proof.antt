@@ -2,6 +2,7 @@ use mathlib.Core.Path.{_≡_, sym, _∙_}
 use mathlib.Core.Bool.{true}
 use Prim.Native.Nat.{ℕ, _-_, _≤_}
 use native.Mathlib.Omega.{arith}
+use Rattle.sound_rows.specs.NumberLaws.{heap-number}
 use borrow.Author.Needs.{needs}
 use denote.Ref.{now}
 use Rattle.machine.specs.Tests.{all-below}
@@ -22,11 +23,14 @@ abbrev μ-loop : tie.MeasureT-loop
 loop-holds : tie.Need-loop-holds Inv-loop μ-loop
 loop-holds c = (all-none _, omega arith)
 
+new-requires : tie.Need-new-requires Inv-loop μ-loop
+new-requires c κs = search needs
+
 first-at-requires : tie.Need-first-at-requires Inv-loop μ-loop
-first-at-requires c κs = search needs
+first-at-requires c κs = search (needs, heap-number (c .new .ensures))
 
 count-at-requires : tie.Need-count-at-requires Inv-loop μ-loop
-count-at-requires c κs = search needs
+count-at-requires c κs = search (needs, heap-number (c .before .new .ensures))
 
 cast-items-below : tie.Need-cast-items-below Inv-loop μ-loop
 cast-items-below c = omega arith
@@ -35,7 +39,7 @@ cast-items-below-2 : tie.Need-cast-items-below-2 Inv-loop μ-loop
 cast-items-below-2 c = omega arith
 
 items-below-requires : tie.Need-items-below-requires Inv-loop μ-loop
-items-below-requires c κs = (search needs, omega (arith, places-fit (now (c .before .before .before .before .before .before .args .objects)) (c .before .before .before .loop .o) (c .before .first-at .ensures) (c .count-at .ensures) .within))
+items-below-requires c κs = (search needs, omega (arith, places-fit (now (c .before .before .before .before .before .before .before .args .objects)) (c .before .before .before .before .loop .o) (rw (c .before .before .new .ensures) at (c .before .first-at .ensures)) (rw (c .before .before .new .ensures) at (c .count-at .ensures)) .within))
 
 add-o : tie.Need-add-o Inv-loop μ-loop
 add-o c = omega arith
@@ -44,11 +48,11 @@ loop-less : tie.Need-loop-less Inv-loop μ-loop
 loop-less c = omega arith
 
 loop-again : tie.Need-loop-again Inv-loop μ-loop
-loop-again c = (all-turn _ (c .before .before .before .before .before .loop .o) (sym (c .if1 .taken) ∙ items-read _ _ _ (c .before .before .before .first-at .ensures) (c .before .before .count-at .ensures) (c .before .items-below .ensures)) (c .before .before .before .before .before .loop .inv .0), omega arith)
+loop-again c = (all-turn _ (c .before .before .before .before .before .before .loop .o) (sym (c .if1 .taken) ∙ items-read _ _ _ (rw (c .before .before .before .before .new .ensures) at (c .before .before .before .first-at .ensures)) (rw (c .before .before .before .before .new .ensures) at (c .before .before .count-at .ensures)) (c .before .items-below .ensures)) (c .before .before .before .before .before .before .loop .inv .0), omega arith)
 
 returns : tie.Need-returns Inv-loop μ-loop
 unfolding items-lower
-returns c = all-fails _ (c .before .before .before .before .before .loop .o) _ (c .before .before .before .before .loop-test .taken) (sym (c .if1 .left) ∙ items-read _ _ _ (c .before .before .before .first-at .ensures) (c .before .before .count-at .ensures) (c .before .items-below .ensures))
+returns c = all-fails _ (c .before .before .before .before .before .before .loop .o) _ (c .before .before .before .before .before .loop-test .taken) (sym (c .if1 .left) ∙ items-read _ _ _ (rw (c .before .before .before .before .new .ensures) at (c .before .before .before .first-at .ensures)) (rw (c .before .before .before .before .new .ensures) at (c .before .before .count-at .ensures)) (c .before .items-below .ensures))
 
 returns-2 : tie.Need-returns-2 Inv-loop μ-loop
 unfolding items-lower
@@ -61,6 +65,7 @@ items-lower-spec =
     Inv-loop
     μ-loop
     loop-holds
+    new-requires
     first-at-requires
     count-at-requires
     cast-items-below

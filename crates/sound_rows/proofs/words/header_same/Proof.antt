@@ -3,8 +3,8 @@ use borrow.Author.Needs.{needs}
 use Rattle.sound_rows.proofs.words.header_same.Statement.{statement}
 use Rattle.sound_rows.proofs.words.header_same.Tie as tie
 
-load8-requires : tie.Need-load8-requires
-load8-requires c κs = search needs
+header-row-requires : tie.Need-header-row-requires
+header-row-requires c κs = search needs
 
 to-header-requires : tie.Need-to-header-requires
 to-header-requires c κs = search needs
@@ -16,9 +16,9 @@ same8-requires : tie.Need-same8-requires
 same8-requires c κs = search needs
 
 returns : tie.Need-returns
-returns c = same-header (c .same8 .ensures) _ (c .before .before .before .load8 .ensures) (c .before .before .to-header .ensures) (c .before .header-words .ensures)
+returns c = same-header (c .same8 .ensures) _ (c .before .before .before .header-row .ensures) (c .before .before .to-header .ensures) (c .before .header-words .ensures)
 
 pub header-same-spec : {M : Type 1} → statement M
 header-same-spec =
     tie.close
-    (tie.spec load8-requires to-header-requires header-words-requires same8-requires returns)
+    (tie.spec header-row-requires to-header-requires header-words-requires same8-requires returns)

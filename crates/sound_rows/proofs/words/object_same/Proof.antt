@@ -3,14 +3,8 @@ use borrow.Author.Needs.{needs}
 use Rattle.sound_rows.proofs.words.object_same.Statement.{statement}
 use Rattle.sound_rows.proofs.words.object_same.Tie as tie
 
-mul-load8 : tie.Need-mul-load8
-mul-load8 c = search needs
-
-add-load8 : tie.Need-add-load8
-add-load8 c = search needs
-
-load8-requires : tie.Need-load8-requires
-load8-requires c κs = search needs
+object-row-requires : tie.Need-object-row-requires
+object-row-requires c κs = search needs
 
 to-object-requires : tie.Need-to-object-requires
 to-object-requires c κs = search needs
@@ -22,15 +16,13 @@ same8-requires : tie.Need-same8-requires
 same8-requires c κs = search needs
 
 returns : tie.Need-returns
-returns c = same-object (c .same8 .ensures) _ _ (c .before .before .before .load8 .ensures) (c .before .before .to-object .ensures) (c .before .object-words .ensures)
+returns c = same-object (c .same8 .ensures) _ _ (c .before .before .before .object-row .ensures) (c .before .before .to-object .ensures) (c .before .object-words .ensures)
 
 pub object-same-spec : {M : Type 1} → statement M
 object-same-spec =
     tie.close
     (tie.spec
-    mul-load8
-    add-load8
-    load8-requires
+    object-row-requires
     to-object-requires
     object-words-requires
     same8-requires

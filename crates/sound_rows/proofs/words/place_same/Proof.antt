@@ -3,11 +3,8 @@ use borrow.Author.Needs.{needs}
 use Rattle.sound_rows.proofs.words.place_same.Statement.{statement}
 use Rattle.sound_rows.proofs.words.place_same.Tie as tie
 
-mul-load4 : tie.Need-mul-load4
-mul-load4 c = search needs
-
-load4-requires : tie.Need-load4-requires
-load4-requires c κs = search needs
+place-row-requires : tie.Need-place-row-requires
+place-row-requires c κs = search needs
 
 to-place-requires : tie.Need-to-place-requires
 to-place-requires c κs = search needs
@@ -19,14 +16,13 @@ same4-requires : tie.Need-same4-requires
 same4-requires c κs = search needs
 
 returns : tie.Need-returns
-returns c = same-place (c .same4 .ensures) _ _ (c .before .before .before .load4 .ensures) (c .before .before .to-place .ensures) (c .before .place-words .ensures)
+returns c = same-place (c .same4 .ensures) _ _ (c .before .before .before .place-row .ensures) (c .before .before .to-place .ensures) (c .before .place-words .ensures)
 
 pub place-same-spec : {M : Type 1} → statement M
 place-same-spec =
     tie.close
     (tie.spec
-    mul-load4
-    load4-requires
+    place-row-requires
     to-place-requires
     place-words-requires
     same4-requires

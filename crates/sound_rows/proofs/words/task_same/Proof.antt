@@ -3,11 +3,8 @@ use borrow.Author.Needs.{needs}
 use Rattle.sound_rows.proofs.words.task_same.Statement.{statement}
 use Rattle.sound_rows.proofs.words.task_same.Tie as tie
 
-mul-load8 : tie.Need-mul-load8
-mul-load8 c = search needs
-
-load8-requires : tie.Need-load8-requires
-load8-requires c κs = search needs
+task-row-requires : tie.Need-task-row-requires
+task-row-requires c κs = search needs
 
 to-task-requires : tie.Need-to-task-requires
 to-task-requires c κs = search needs
@@ -19,9 +16,9 @@ same8-requires : tie.Need-same8-requires
 same8-requires c κs = search needs
 
 returns : tie.Need-returns
-returns c = same-task (c .same8 .ensures) _ _ (c .before .before .before .load8 .ensures) (c .before .before .to-task .ensures) (c .before .task-words .ensures)
+returns c = same-task (c .same8 .ensures) _ _ (c .before .before .before .task-row .ensures) (c .before .before .to-task .ensures) (c .before .task-words .ensures)
 
 pub task-same-spec : {M : Type 1} → statement M
 task-same-spec =
     tie.close
-    (tie.spec mul-load8 load8-requires to-task-requires task-words-requires same8-requires returns)
+    (tie.spec task-row-requires to-task-requires task-words-requires same8-requires returns)

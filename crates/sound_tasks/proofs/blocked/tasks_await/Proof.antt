@@ -2,6 +2,7 @@ use mathlib.Core.Path.{_≡_, sym, _∙_}
 use mathlib.Core.Bool.{true}
 use Prim.Native.Nat.{ℕ, _-_, _≤_}
 use native.Mathlib.Omega.{arith}
+use Rattle.sound_rows.specs.NumberLaws.{task-number}
 use borrow.Author.Needs.{needs}
 use Rattle.machine.specs.Tests.{all-below}
 use Rattle.sound_rows.specs.Loops.{all-none, all-turn, all-fails, all-end}
@@ -21,8 +22,11 @@ abbrev μ-loop : tie.MeasureT-loop
 loop-holds : tie.Need-loop-holds Inv-loop μ-loop
 loop-holds c = (all-none _, omega arith)
 
+new-requires : tie.Need-new-requires Inv-loop μ-loop
+new-requires c κs = search needs
+
 state-at-requires : tie.Need-state-at-requires Inv-loop μ-loop
-state-at-requires c κs = search needs
+state-at-requires c κs = search (needs, task-number (c .new .ensures))
 
 blocked-awaits-requires : tie.Need-blocked-awaits-requires Inv-loop μ-loop
 blocked-awaits-requires c κs = search needs
@@ -34,10 +38,10 @@ loop-less : tie.Need-loop-less Inv-loop μ-loop
 loop-less c = omega arith
 
 loop-again : tie.Need-loop-again Inv-loop μ-loop
-loop-again c = (all-turn _ (c .before .before .before .before .loop .t) (sym (c .if1 .taken) ∙ awaits-read _ _ _ (c .before .before .state-at .ensures) (c .before .blocked-awaits .ensures)) (c .before .before .before .before .loop .inv .0), omega arith)
+loop-again c = (all-turn _ (c .before .before .before .before .before .loop .t) (sym (c .if1 .taken) ∙ awaits-read _ _ _ (rw (c .before .before .before .new .ensures) at (c .before .before .state-at .ensures)) (c .before .blocked-awaits .ensures)) (c .before .before .before .before .before .loop .inv .0), omega arith)
 
 returns : tie.Need-returns Inv-loop μ-loop
-returns c = all-fails _ (c .before .before .before .before .loop .t) _ (c .before .before .before .loop-test .taken) (sym (c .if1 .left) ∙ awaits-read _ _ _ (c .before .before .state-at .ensures) (c .before .blocked-awaits .ensures))
+returns c = all-fails _ (c .before .before .before .before .before .loop .t) _ (c .before .before .before .before .loop-test .taken) (sym (c .if1 .left) ∙ awaits-read _ _ _ (rw (c .before .before .before .new .ensures) at (c .before .before .state-at .ensures)) (c .before .blocked-awaits .ensures))
 
 returns-2 : tie.Need-returns-2 Inv-loop μ-loop
 returns-2 c = all-end _ (c .before .loop .t) _ (omega arith) (c .loop-test .left) (c .before .loop .inv .0)
@@ -49,6 +53,7 @@ tasks-await-spec =
     Inv-loop
     μ-loop
     loop-holds
+    new-requires
     state-at-requires
     blocked-awaits-requires
     add-t

@@ -13,14 +13,14 @@ is-pending-external-requires c κs = search needs
 call-at-requires : tie.Need-call-at-requires
 call-at-requires c κs = search needs
 
-cast-result : tie.Need-cast-result
-cast-result c = search needs
+word-requires : tie.Need-word-requires
+word-requires c κs = search needs
 
 add-result : tie.Need-add-result
 add-result c = search needs
 
 returns : tie.Need-returns
-returns c = number-pending _ _ (c .before .before .before .before .kind-at .ensures) (sym (c .before .before .before .is-pending-external .ensures) ∙ c .before .before .if1 .taken) (c .before .call-at .ensures)
+returns c = number-pending _ _ (c .before .before .before .before .kind-at .ensures) (sym (c .before .before .before .is-pending-external .ensures) ∙ c .before .before .if1 .taken) (c .before .call-at .ensures) (c .word .ensures)
 
 returns-2 : tie.Need-returns-2
 returns-2 c = number-none _ _ (c .before .before .kind-at .ensures) (sym (c .before .is-pending-external .ensures) ∙ c .if1 .left)
@@ -32,7 +32,7 @@ call-number-spec =
     kind-at-requires
     is-pending-external-requires
     call-at-requires
-    cast-result
+    word-requires
     add-result
     returns
     returns-2)

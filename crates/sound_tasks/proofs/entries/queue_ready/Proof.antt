@@ -3,6 +3,7 @@ use mathlib.Core.Bool.{true}
 use Prim.Native.Nat.{_-_, _≤_}
 use native.Mathlib.Omega.{arith}
 use lib.ListN.{length}
+use Rattle.sound_rows.specs.NumberLaws.{task-number}
 use borrow.Author.Needs.{needs}
 use denote.Ref.{now}
 use Rattle.asyncio.specs.Limits.{task-limit, tasks-length}
@@ -41,10 +42,13 @@ array-read-if2 : tie.Need-array-read-if2 Inv-loop μ-loop
 array-read-if2 c = omega arith
 
 returns-2 : tie.Need-returns-2 Inv-loop μ-loop
-returns-2 c = queue-told _ (c .before .before .before .before .before .args .n) _ _ (omega arith) (all-fails _ (c .before .before .before .loop .i) _ (c .before .before .loop-test .taken) (entry-seen _ _ _ (c .before .before .before .loop .seen) _ (entry-at _ (c .before .before .before .before .before .args .n) (c .before .before .before .loop .i) (c .before .before .loop-test .taken)) (c .before .if1 .left) (c .before .before .before .before .before .pre .2) (c .before .before .before .loop .inv .2) (c .if2 .taken)))
+returns-2 c = queue-told _ (c .before .before .before .before .before .args .n) _ _ (omega arith) (all-fails _ (c .before .before .before .loop .i) _ (c .before .before .loop-test .taken) (entry-seen _ _ _ (c .before .before .before .loop .seen) _ (entry-at _ (c .before .before .before .before .before .args .n) (c .before .before .before .loop .i) (c .before .before .loop-test .taken)) (c .before .if1 .left) (c .before .before .before .before .before .pre .1 .1) (c .before .before .before .loop .inv .2) (c .if2 .taken)))
+
+new-requires : tie.Need-new-requires Inv-loop μ-loop
+new-requires c κs = search needs
 
 state-at-requires : tie.Need-state-at-requires Inv-loop μ-loop
-state-at-requires c κs = search needs
+state-at-requires c κs = search (needs, task-number (c .new .ensures))
 
 is-ready-requires : tie.Need-is-ready-requires Inv-loop μ-loop
 is-ready-requires c κs = search needs
@@ -60,15 +64,15 @@ loop-less c = omega arith
 
 loop-again : tie.Need-loop-again Inv-loop μ-loop
 loop-again c = (
-  all-turn _ (c .before .before .before .before .before .before .loop .i) (entry-good _ _ _ (c .before .before .before .before .before .before .loop .seen) _ (entry-at _ (c .before .before .before .before .before .before .before .before .args .n) (c .before .before .before .before .before .before .loop .i) (c .before .before .before .before .before .loop-test .taken)) (c .before .before .before .before .if1 .left) (c .before .before .before .before .before .before .before .before .pre .2) (c .before .before .before .before .before .before .loop .inv .2) (c .before .before .state-at .ensures) (c .before .before .before .if2 .left) (sym (c .before .is-ready .ensures) ∙ c .if3 .taken)) (c .before .before .before .before .before .before .loop .inv .0),
+  all-turn _ (c .before .before .before .before .before .before .before .loop .i) (entry-good _ _ _ (c .before .before .before .before .before .before .before .loop .seen) _ (entry-at _ (c .before .before .before .before .before .before .before .before .before .args .n) (c .before .before .before .before .before .before .before .loop .i) (c .before .before .before .before .before .before .loop-test .taken)) (c .before .before .before .before .before .if1 .left) (c .before .before .before .before .before .before .before .before .before .pre .1 .1) (c .before .before .before .before .before .before .before .loop .inv .2) (rw (c .before .before .before .new .ensures) at (c .before .before .state-at .ensures)) (c .before .before .before .before .if2 .left) (sym (c .before .is-ready .ensures) ∙ c .if3 .taken)) (c .before .before .before .before .before .before .before .loop .inv .0),
   omega arith,
-  entry-marks _ (now (c .before .before .before .before .before .before .before .before .args .tasks)) (take (c .before .before .before .before .before .before .before .before .args .n) (c .before .before .before .before .before .before .before .before .args .t1)) (c .before .before .before .before .before .before .loop .seen) _ (entry-at _ (c .before .before .before .before .before .before .before .before .args .n) (c .before .before .before .before .before .before .loop .i) (c .before .before .before .before .before .loop-test .taken)) (c .before .before .before .before .if1 .left) (c .before .before .before .before .before .before .before .before .pre .2) (c .before .before .before .before .before .before .loop .inv .2),
+  entry-marks _ (now (c .before .before .before .before .before .before .before .before .before .args .tasks)) (take (c .before .before .before .before .before .before .before .before .before .args .n) (c .before .before .before .before .before .before .before .before .before .args .t1)) (c .before .before .before .before .before .before .before .loop .seen) _ (entry-at _ (c .before .before .before .before .before .before .before .before .before .args .n) (c .before .before .before .before .before .before .before .loop .i) (c .before .before .before .before .before .before .loop-test .taken)) (c .before .before .before .before .before .if1 .left) (c .before .before .before .before .before .before .before .before .before .pre .1 .1) (c .before .before .before .before .before .before .before .loop .inv .2),
   omega arith,
   omega arith,
 )
 
 returns-3 : tie.Need-returns-3 Inv-loop μ-loop
-returns-3 c = queue-told _ (c .before .before .before .before .before .before .before .before .args .n) _ _ (omega arith) (all-fails _ (c .before .before .before .before .before .before .loop .i) _ (c .before .before .before .before .before .loop-test .taken) (entry-idle _ _ _ (c .before .before .before .before .before .before .loop .seen) _ (entry-at _ (c .before .before .before .before .before .before .before .before .args .n) (c .before .before .before .before .before .before .loop .i) (c .before .before .before .before .before .loop-test .taken)) (c .before .before .before .before .if1 .left) (c .before .before .before .before .before .before .before .before .pre .2) (c .before .before .before .before .before .before .loop .inv .2) (c .before .before .state-at .ensures) (sym (c .before .is-ready .ensures) ∙ c .if3 .left)))
+returns-3 c = queue-told _ (c .before .before .before .before .before .before .before .before .before .args .n) _ _ (omega arith) (all-fails _ (c .before .before .before .before .before .before .before .loop .i) _ (c .before .before .before .before .before .before .loop-test .taken) (entry-idle _ _ _ (c .before .before .before .before .before .before .before .loop .seen) _ (entry-at _ (c .before .before .before .before .before .before .before .before .before .args .n) (c .before .before .before .before .before .before .before .loop .i) (c .before .before .before .before .before .before .loop-test .taken)) (c .before .before .before .before .before .if1 .left) (c .before .before .before .before .before .before .before .before .before .pre .1 .1) (c .before .before .before .before .before .before .before .loop .inv .2) (rw (c .before .before .before .new .ensures) at (c .before .before .state-at .ensures)) (sym (c .before .is-ready .ensures) ∙ c .if3 .left)))
 
 returns-4 : tie.Need-returns-4 Inv-loop μ-loop
 returns-4 c = queue-told _ (c .before .before .before .args .n) _ _ (omega arith) (all-end _ (c .before .loop .i) _ (omega arith) (c .loop-test .left) (c .before .loop .inv .0))
@@ -86,6 +90,7 @@ queue-ready-spec =
     cast-k
     array-read-if2
     returns-2
+    new-requires
     state-at-requires
     is-ready-requires
     array-write-seen
