@@ -1,10 +1,13 @@
 -- The answers, as the code gives them.
 use Prim.Native.Nat.{ℕ}
 use mathlib.Core.List.{List}
+use Rattle.queue.specs.declared.ReadyQueue.{ReadyQueue}
 use Rattle.machine.specs.Store.{Store}
 use Rattle.machine.specs.Machine as machine
+use Rattle.contract.specs.Contract.{Slice, Does, DoesKeepingPlaces}
 use Rattle.exec_switch.specs.Control.{control-of}
 use Rattle.exec_switch.specs.declared.answer.Answer.{Answer}
+use Rattle.exec_switch.specs.declared.answer.Stepped.{Stepped}
 
 -- a wait tells the calls that are pending
 abbrev pub answer-of : List ℕ → Answer → machine.Answer
@@ -22,3 +25,11 @@ answer-of os (Answer.Refused n) = machine.Answer.refused n
 -- a store, and the answer
 abbrev pub stepped-of : Store → Answer → machine.Step
 stepped-of s a = record { store = s; answer = answer-of (s .objects) a }
+
+-- The call leaves and answers what f does.
+abbrev pub Answers : Slice → Slice → Slice → ReadyQueue → (Store → machine.Step) → Stepped → Type 0
+Answers tasks objects places queue f r = Does (λ x. x .store .log) tasks objects places queue (r .queue) (λ s. stepped-of s (r .answer)) f
+
+-- The same of a call that does not take the places.
+abbrev pub AnswersKeepingPlaces : Slice → Slice → ReadyQueue → (Store → machine.Step) → Stepped → Type 0
+AnswersKeepingPlaces tasks objects queue f r = DoesKeepingPlaces (λ x. x .store .log) tasks objects queue (r .queue) (λ s. stepped-of s (r .answer)) f
