@@ -4,6 +4,7 @@ use Prim.Native.Nat.{ℕ}
 use mathlib.Core.Bool.{Bool, true, false, _&&_}
 use mathlib.Core.List.{List, []}
 use lib.Dec.{eqb}
+use lib.ListN.{length}
 use denote.Ref.{now}
 use Rattle.asyncio.specs.Limits.{tasks-length, objects-length, places-length}
 use Rattle.queue.specs.declared.ReadyQueue.{ReadyQueue}
@@ -20,6 +21,10 @@ use Rattle.exec_switch.specs.declared.answer.Stepped.{Stepped}
 -- the lengths of the three slices
 abbrev pub are-slices : ℕ → ℕ → ℕ → Bool
 are-slices ts os ps = eqb ts tasks-length && eqb os objects-length && eqb ps places-length
+
+-- of lent ones
+abbrev pub slices-fit : Slice → Slice → Slice → Bool
+slices-fit tasks objects places = are-slices (length (now (tasks .entry))) (length (now (objects .entry))) (length (now (places .entry)))
 
 -- the host has control
 abbrev pub host-waits : Control → Bool
