@@ -62,6 +62,13 @@ Lengths₂And tasks objects more = TasksLength tasks × ObjectsLength objects ×
 abbrev pub LengthsAnd : Words → Words → Words → Type 0 → Type 0
 LengthsAnd tasks objects places more = TasksLength tasks × ObjectsLength objects × PlacesLength places × more
 
+-- and what two things else (a product is flat, so that each has its own place)
+abbrev pub Lengths₂And₂ : Words → Words → Type 0 → Type 0 → Type 0
+Lengths₂And₂ tasks objects more also = TasksLength tasks × ObjectsLength objects × more × also
+
+abbrev pub LengthsAnd₂ : Words → Words → Words → Type 0 → Type 0 → Type 0
+LengthsAnd₂ tasks objects places more also = TasksLength tasks × ObjectsLength objects × PlacesLength places × more × also
+
 -- ---- what a call does
 
 -- the store before the call; the log l is no part of the memory
@@ -85,6 +92,65 @@ Does log tasks objects places queue left result f = (l : List LogEntry) → Does
 abbrev pub DoesKeepingPlaces : {X : Type 0} → (X → List LogEntry) → Slice → Slice → ReadyQueue → ReadyQueue → (Store → X) → (Store → X) → Type 0
 DoesKeepingPlaces log tasks objects queue left result f =
     (ps : List ℕ) (l : List LogEntry) → length ps ≡ places-length → DoesAt l log tasks objects (kept ps) queue left result f
+
+-- without the places, and whatever they are
+abbrev pub DoesOfTasksAndObjects : {X : Type 0} → (X → List LogEntry) → Slice → Slice → ReadyQueue → ReadyQueue → (Store → X) → (Store → X) → Type 0
+DoesOfTasksAndObjects log tasks objects queue left result f =
+    (ps : List ℕ) (l : List LogEntry) → DoesAt l log tasks objects (kept ps) queue left result f
+
+-- where the machine gives a store alone
+abbrev pub Changes : Slice → Slice → Slice → ReadyQueue → ReadyQueue → (Store → Store) → Type 0
+Changes tasks objects places queue left f = Does (λ s. s .log) tasks objects places queue left (λ s. s) f
+
+abbrev pub ChangesKeepingPlaces : Slice → Slice → ReadyQueue → ReadyQueue → (Store → Store) → Type 0
+ChangesKeepingPlaces tasks objects queue left f = DoesKeepingPlaces (λ s. s .log) tasks objects queue left (λ s. s) f
+
+-- ---- what a call does that logs nothing, and takes some of the slices: the rest of the store, whatever it is, stays
+
+-- The call does what f does of the store before it, and the log l stays: `result` makes the machine's result of the store after it.
+abbrev pub DoesKeepingLogAt : {X : Type 0} → List LogEntry → Slice → Slice → Slice → ReadyQueue → ReadyQueue → (Store → X) → (Store → X) → Type 0
+DoesKeepingLogAt l tasks objects places queue left result f = result (after tasks objects places left l) ≡ f (before tasks objects places queue l)
+
+-- of the objects alone
+abbrev pub DoesOfObjects : {X : Type 0} → Slice → (Store → X) → (Store → X) → Type 0
+DoesOfObjects objects result f =
+    (ts ps : List ℕ) (q : ReadyQueue) (l : List LogEntry) → DoesKeepingLogAt l (kept ts) objects (kept ps) q q result f
+
+-- of the objects and the queue
+abbrev pub DoesOfObjectsAndQueue : {X : Type 0} → Slice → ReadyQueue → ReadyQueue → (Store → X) → (Store → X) → Type 0
+DoesOfObjectsAndQueue objects queue left result f =
+    (ts ps : List ℕ) (l : List LogEntry) → DoesKeepingLogAt l (kept ts) objects (kept ps) queue left result f
+
+-- of the objects and the places
+abbrev pub DoesOfObjectsAndPlaces : {X : Type 0} → Slice → Slice → (Store → X) → (Store → X) → Type 0
+DoesOfObjectsAndPlaces objects places result f =
+    (ts : List ℕ) (q : ReadyQueue) (l : List LogEntry) → DoesKeepingLogAt l (kept ts) objects places q q result f
+
+-- where the machine gives a store alone
+abbrev pub ChangesObjects : Slice → (Store → Store) → Type 0
+ChangesObjects objects f = DoesOfObjects objects (λ s. s) f
+
+abbrev pub ChangesObjectsAndPlaces : Slice → Slice → (Store → Store) → Type 0
+ChangesObjectsAndPlaces objects places f = DoesOfObjectsAndPlaces objects places (λ s. s) f
+
+abbrev pub ChangesPlaces : Slice → (Store → Store) → Type 0
+ChangesPlaces places f =
+    (ts os : List ℕ) (q : ReadyQueue) (l : List LogEntry) → DoesKeepingLogAt l (kept ts) (kept os) places q q (λ s. s) f
+
+-- of the tasks and the queue
+abbrev pub ChangesTasks : Slice → ReadyQueue → ReadyQueue → (Store → Store) → Type 0
+ChangesTasks tasks queue left f =
+    (os ps : List ℕ) (l : List LogEntry) → DoesKeepingLogAt l tasks (kept os) (kept ps) queue left (λ s. s) f
+
+-- ---- what a call reads: r is what f reads of the store, whatever the rest of it is
+
+-- of the objects
+abbrev pub ReadsObjects : {X : Type 0} → Slice → (Store → X) → X → Type 0
+ReadsObjects objects f r = (ts ps : List ℕ) (q : ReadyQueue) (l : List LogEntry) → r ≡ f (before (kept ts) objects (kept ps) q l)
+
+-- of the objects and the queue
+abbrev pub ReadsObjectsAndQueue : {X : Type 0} → Slice → ReadyQueue → (Store → X) → X → Type 0
+ReadsObjectsAndQueue objects queue f r = (ts ps : List ℕ) (l : List LogEntry) → r ≡ f (before (kept ts) objects (kept ps) queue l)
 
 -- ---- what holds of every log
 

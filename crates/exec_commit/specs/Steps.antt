@@ -8,8 +8,11 @@ use Rattle.machine.specs.Store.{Store, LogEntry, store-of, object}
 use Rattle.machine.specs.Scheduler.{bit, as-awaited}
 use Rattle.machine.specs.Commit.{at-end, at-nested, at-error, step-item, step-items, Frame}
 use Rattle.machine.specs.Commit as machine
+use Rattle.contract.specs.Contract.{Slice, kept, before, after, Does}
 use Rattle.exec_commit.specs.declared.step.Step.{Step}
+use Rattle.exec_commit.specs.declared.step.Stepped.{Stepped}
 use Rattle.exec_commit.specs.declared.step.Stop.{Stop}
+use Rattle.exec_commit.specs.declared.step.Stopped.{Stopped}
 
 -- bit i set
 abbrev pub with-bit : ℕ → ℕ → ℕ
@@ -50,3 +53,22 @@ pub record WalksOn (M : List LogEntry → machine.Stop) (ts os ps : List ℕ) (q
 -- a gather, and its place that is stepped next
 abbrev pub frame : ℕ → ℕ → Frame
 frame g i = record { gather = g; next = i }
+
+-- ---- what a call does
+
+-- The call puts what the item of place i gave, as f does, however the walk goes on.
+abbrev pub StepsPlace : Slice → Slice → ℕ → (Store → Goes → machine.Stop) → Step → Type 0
+StepsPlace objects places i f r =
+    (ts : List ℕ) (q : ReadyQueue) (l : List LogEntry) (go : Goes) →
+    stepped (after (kept ts) objects places q l) i r go ≡ f (before (kept ts) objects places q l) go
+
+-- The call steps the item of place i, as f does. What has happened does not hang on how the walk goes on.
+abbrev pub StepsTo : Slice → Slice → Slice → ReadyQueue → ℕ → (Store → Goes → machine.Stop) → Stepped → Type 0
+StepsTo tasks objects places queue i f r =
+    (l : List LogEntry) (go : Goes) →
+    stepped (after tasks objects places (r .queue) (stop-log (f (before tasks objects places queue l) at-end))) i (r .step) go
+    ≡ f (before tasks objects places queue l) go
+
+-- The call walks through the items of a gather and stops, as f does.
+abbrev pub StopsAt : Slice → Slice → Slice → ReadyQueue → (Store → machine.Stop) → Stopped → Type 0
+StopsAt tasks objects places queue f r = Does stop-log tasks objects places queue (r .queue) (λ s. stopped s (r .stop)) f

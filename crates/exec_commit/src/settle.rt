@@ -11,18 +11,15 @@ use exec_poll::awaited::OptionAwaited;
 use exec_poll::awaited::as_awaited;
 use exec_poll::item::Poll;
 ghost use mathlib.Core.Path.{_≡_};
-ghost use mathlib.Core.List.{List, _∷_};
-ghost use Prim.Native.Nat.{ℕ, _<_, _≤_};
-ghost use lib.ListN.{length};
-ghost use Rattle.asyncio.specs.Limits.{object-limit, objects-length, places-length};
+ghost use Prim.Native.Nat.{_<_, _≤_};
+ghost use Rattle.asyncio.specs.Limits.{object-limit};
 ghost use Rattle.asyncio.specs.Parts.{count-of};
 ghost use Rattle.rows.specs.Tables.{object-at};
-ghost use Rattle.queue.specs.declared.ReadyQueue.{ReadyQueue};
-ghost use Rattle.machine.specs.Store.{LogEntry, store-of};
-ghost use Rattle.machine.specs.Commit.{gives, with-state, set-gather, open-gather-commit, settle-gather-commit, resume-after-child, unwind};
-ghost use Rattle.exec_poll.specs.Polls.{poll-of};
+ghost use Rattle.machine.specs.Commit.{gives, with-state, set-gather, open-gather-commit, settle-gather-commit, resume-after-child};
+ghost use Rattle.exec_poll.specs.Polls.{poll-of, PollsOfObjects};
 ghost use Rattle.exec_commit.specs.Steps.{frame};
-ghost use Rattle.exec_commit.specs.Frames.{below, GathersFit};
+ghost use Rattle.exec_commit.specs.Frames.{GathersFit, Unwinds};
+ghost use Rattle.contract.specs.Contract.{ObjectsLength, PlacesLength, ChangesObjects, ChangesObjectsAndPlaces};
 
 // A gather with that state; any other object as it is.
 fn with_state(o: Object, state: GatherState) -> Object
@@ -46,8 +43,8 @@ fn with_state(o: Object, state: GatherState) -> Object
 
 // Gather `g` in that state.
 fn set_gather(objects: &mut [u64], g: HeapId, state: GatherState)
-    requires { ⌜ (length (now objects) ≡ objects-length) × (g .0 < object-limit) ⌝ }
-    ensures { λ _. ⌜ ((ts ps : List ℕ) (q : ReadyQueue) (l : List LogEntry) → store-of ts (now (objects .exit)) ps q l ≡ set-gather (store-of ts (now (objects .entry)) ps q l) (g .0) state) ⌝ }
+    requires { ⌜ ObjectsLength objects × (g .0 < object-limit) ⌝ }
+    ensures { λ _. ⌜ ChangesObjects objects (λ s. set-gather s (g .0) state) ⌝ }
 {
     let o = rows::tables::load_object(objects, g);
     let changed = with_state(o, state);
@@ -56,8 +53,8 @@ fn set_gather(objects: &mut [u64], g: HeapId, state: GatherState)
 
 // Gather `g` is awaited, with no place open yet.
 pub fn open_gather_commit(objects: &mut [u64], g: HeapId, awaiter: Awaiter)
-    requires { ⌜ (length (now objects) ≡ objects-length) × (g .0 < object-limit) ⌝ }
-    ensures { λ _. ⌜ ((ts ps : List ℕ) (q : ReadyQueue) (l : List LogEntry) → store-of ts (now (objects .exit)) ps q l ≡ open-gather-commit (store-of ts (now (objects .entry)) ps q l) (g .0) awaiter) ⌝ }
+    requires { ⌜ ObjectsLength objects × (g .0 < object-limit) ⌝ }
+    ensures { λ _. ⌜ ChangesObjects objects (λ s. open-gather-commit s (g .0) awaiter) ⌝ }
 {
     set_gather(
         objects,
@@ -71,8 +68,8 @@ pub fn open_gather_commit(objects: &mut [u64], g: HeapId, awaiter: Awaiter)
 
 // Gather `g`, whose items are all stepped: completed where no place is open, the empty gather included.
 pub fn settle_gather_commit(objects: &mut [u64], g: HeapId) -> Poll
-    requires { ⌜ (length (now objects) ≡ objects-length) × (g .0 < object-limit) ⌝ }
-    ensures { λ r. ⌜ ((ts ps : List ℕ) (q : ReadyQueue) (l : List LogEntry) → gives (store-of ts (now (objects .exit)) ps q l) (poll-of r) ≡ settle-gather-commit (store-of ts (now (objects .entry)) ps q l) (g .0)) ⌝ }
+    requires { ⌜ ObjectsLength objects × (g .0 < object-limit) ⌝ }
+    ensures { λ r. ⌜ PollsOfObjects objects (λ s. settle-gather-commit s (g .0)) r ⌝ }
 {
     let a = as_awaited(objects, g);
     match a {
@@ -95,8 +92,9 @@ pub fn resume_after_child(
     next: usize,
     poll: Poll,
 )
-    requires { ⌜ (length (now objects) ≡ objects-length) × (length (now places) ≡ places-length) × (g .0 < object-limit) × (next < count-of (object-at (now objects) (g .0))) ⌝ }
-    ensures { λ _. ⌜ ((ts : List ℕ) (q : ReadyQueue) (l : List LogEntry) → store-of ts (now (objects .exit)) (now (places .exit)) q l ≡ resume-after-child (frame (g .0) next) (gives (store-of ts (now (objects .entry)) (now (places .entry)) q l) (poll-of poll))) ⌝ }
+    requires { ⌜ ObjectsLength objects × PlacesLength places × (g .0 < object-limit) × (next < count-of (object-at (now objects) (g .0))) ⌝ }
+    ensures { λ _. ⌜ ChangesObjectsAndPlaces objects places
+        (λ s. resume-after-child (frame (g .0) next) (gives s (poll-of poll))) ⌝ }
 {
     let a = as_awaited(objects, g);
     match a {
@@ -117,8 +115,8 @@ pub fn unwind_gather_commits(
     depth: usize,
     error: Error,
 )
-    requires { ⌜ (length (now objects) ≡ objects-length) × (g .0 < object-limit) × (depth ≤ object-limit) × GathersFit gathers depth ⌝ }
-    ensures { λ _. ⌜ ((ts ps ns : List ℕ) (n : ℕ) (q : ReadyQueue) (l : List LogEntry) → store-of ts (now (objects .exit)) ps q l ≡ unwind (store-of ts (now (objects .entry)) ps q l) (frame (g .0) n ∷ below gathers ns depth) error) ⌝ }
+    requires { ⌜ ObjectsLength objects × (g .0 < object-limit) × (depth ≤ object-limit) × GathersFit gathers depth ⌝ }
+    ensures { λ _. ⌜ Unwinds objects (g .0) gathers depth error ⌝ }
 {
     set_gather(objects, g, GatherState::Failed(error));
     let mut d = depth;

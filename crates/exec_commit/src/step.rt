@@ -14,17 +14,14 @@ use exec_poll::item::Poll;
 use exec_poll::item::item;
 use queue::ReadyQueue;
 ghost use mathlib.Core.Path.{_≡_};
-ghost use mathlib.Core.List.{List};
-ghost use Prim.Native.Nat.{ℕ, _<_, _+_};
-ghost use lib.ListN.{length};
-ghost use Rattle.asyncio.specs.Limits.{object-limit, item-limit, place-limit, tasks-length, objects-length, places-length};
+ghost use Prim.Native.Nat.{_<_, _+_};
+ghost use Rattle.asyncio.specs.Limits.{object-limit, item-limit, place-limit};
 ghost use Rattle.asyncio.specs.Parts.{count-of};
 ghost use Rattle.rows.specs.Tables.{object-at};
-ghost use Rattle.queue.specs.declared.ReadyQueue.{ReadyQueue};
-ghost use Rattle.machine.specs.Store.{LogEntry, store-of};
-ghost use Rattle.machine.specs.Commit.{at-end, open-place, fill-place, put-polled, step-gather-commit};
+ghost use Rattle.machine.specs.Commit.{open-place, fill-place, put-polled, step-gather-commit};
 ghost use Rattle.exec_poll.specs.Polls.{poll-of, awaited-of};
-ghost use Rattle.exec_commit.specs.Steps.{Goes, with-bit, stepped, step-at, stopped, stop-log, frame};
+ghost use Rattle.exec_commit.specs.Steps.{with-bit, step-at, frame, StepsPlace, StepsTo, StopsAt};
+ghost use Rattle.contract.specs.Contract.{ObjectsLength, PlacesLength, LengthsAnd, LengthsAnd₂, ChangesObjects, ChangesPlaces};
 
 // How a walk stands after an item: it goes on, or it stops because the gather is not awaited, at a nested gather, at an error.
 pub enum Step {
@@ -66,8 +63,8 @@ fn with_bit(waiting: u32, i: usize) -> u32
 
 // Place `i` of gather `g`, which is `w`, is open.
 pub fn open_place(objects: &mut [u64], g: HeapId, w: AwaitedGather, i: usize)
-    requires { ⌜ (length (now objects) ≡ objects-length) × (g .0 < object-limit) × (i < item-limit) ⌝ }
-    ensures { λ _. ⌜ ((ts ps : List ℕ) (q : ReadyQueue) (l : List LogEntry) → store-of ts (now (objects .exit)) ps q l ≡ open-place (store-of ts (now (objects .entry)) ps q l) (g .0) (awaited-of w) i) ⌝ }
+    requires { ⌜ ObjectsLength objects × (g .0 < object-limit) × (i < item-limit) ⌝ }
+    ensures { λ _. ⌜ ChangesObjects objects (λ s. open-place s (g .0) (awaited-of w) i) ⌝ }
 {
     let awaiter = w.awaiter;
     let open_places = with_bit(w.waiting, i);
@@ -87,8 +84,8 @@ pub fn open_place(objects: &mut [u64], g: HeapId, w: AwaitedGather, i: usize)
 
 // Place `i` of the gather `w` has a value.
 pub fn fill_place(places: &mut [u64], w: AwaitedGather, i: usize, value: Value)
-    requires { ⌜ (length (now places) ≡ places-length) × (w .first + i < place-limit) ⌝ }
-    ensures { λ _. ⌜ ((ts os : List ℕ) (q : ReadyQueue) (l : List LogEntry) → store-of ts os (now (places .exit)) q l ≡ fill-place (store-of ts os (now (places .entry)) q l) (awaited-of w) i value) ⌝ }
+    requires { ⌜ PlacesLength places × (w .first + i < place-limit) ⌝ }
+    ensures { λ _. ⌜ ChangesPlaces places (λ s. fill-place s (awaited-of w) i value) ⌝ }
 {
     let p = w.first as usize + i;
     let item = rows::parts::item_at(places, p);
@@ -111,8 +108,8 @@ fn put_polled(
     i: usize,
     poll: Poll,
 ) -> Step
-    requires { ⌜ (length (now objects) ≡ objects-length) × (length (now places) ≡ places-length) × (g .0 < object-limit) × (i < item-limit) × (w .first + i < place-limit) ⌝ }
-    ensures { λ r. ⌜ ((ts : List ℕ) (q : ReadyQueue) (l : List LogEntry) (go : Goes) → stepped (store-of ts (now (objects .exit)) (now (places .exit)) q l) i r go ≡ put-polled (g .0) (awaited-of w) i (store-of ts (now (objects .entry)) (now (places .entry)) q l) (poll-of poll) go) ⌝ }
+    requires { ⌜ ObjectsLength objects × PlacesLength places × (g .0 < object-limit) × (i < item-limit) × (w .first + i < place-limit) ⌝ }
+    ensures { λ r. ⌜ StepsPlace objects places i (λ s go. put-polled (g .0) (awaited-of w) i s (poll-of poll) go) r ⌝ }
 {
     match poll {
         Poll::Ready(v) => {
@@ -136,8 +133,8 @@ fn step_item(
     g: HeapId,
     i: usize,
 ) -> Stepped
-    requires { ⌜ (length (now tasks) ≡ tasks-length) × (length (now objects) ≡ objects-length) × (length (now places) ≡ places-length) × (g .0 < object-limit) × (i < count-of (object-at (now objects) (g .0))) ⌝ }
-    ensures { λ r. ⌜ ((l : List LogEntry) (go : Goes) → stepped (store-of (now (tasks .exit)) (now (objects .exit)) (now (places .exit)) (r .queue) (stop-log (step-at (store-of (now (tasks .entry)) (now (objects .entry)) (now (places .entry)) queue l) (g .0) i at-end))) i (r .step) go ≡ step-at (store-of (now (tasks .entry)) (now (objects .entry)) (now (places .entry)) queue l) (g .0) i go) ⌝ }
+    requires { ⌜ LengthsAnd₂ tasks objects places (g .0 < object-limit) (i < count-of (object-at (now objects) (g .0))) ⌝ }
+    ensures { λ r. ⌜ StepsTo tasks objects places queue i (λ s go. step-at s (g .0) i go) r ⌝ }
 {
     let a = as_awaited(objects, g);
     match a {
@@ -173,8 +170,8 @@ pub fn step_gather_commit(
     g: HeapId,
     next: u16,
 ) -> Stopped
-    requires { ⌜ (length (now tasks) ≡ tasks-length) × (length (now objects) ≡ objects-length) × (length (now places) ≡ places-length) × (g .0 < object-limit) ⌝ }
-    ensures { λ r. ⌜ ((l : List LogEntry) → stopped (store-of (now (tasks .exit)) (now (objects .exit)) (now (places .exit)) (r .queue) (stop-log (step-gather-commit (store-of (now (tasks .entry)) (now (objects .entry)) (now (places .entry)) queue l) (frame (g .0) next)))) (r .stop) ≡ step-gather-commit (store-of (now (tasks .entry)) (now (objects .entry)) (now (places .entry)) queue l) (frame (g .0) next)) ⌝ }
+    requires { ⌜ LengthsAnd tasks objects places (g .0 < object-limit) ⌝ }
+    ensures { λ r. ⌜ StopsAt tasks objects places queue (λ s. step-gather-commit s (frame (g .0) next)) r ⌝ }
 {
     let count = rows::parts::count_at(objects, g);
     let mut q = queue;

@@ -9,15 +9,11 @@ use asyncio::Awaiter;
 use asyncio::HeapId;
 use exec_poll::item::Poll;
 use queue::ReadyQueue;
-ghost use mathlib.Core.Path.{_≡_};
-ghost use mathlib.Core.List.{List};
 ghost use Prim.Native.Nat.{_<_};
-ghost use lib.ListN.{length};
-ghost use Rattle.asyncio.specs.Limits.{object-limit, tasks-length, objects-length, places-length};
-ghost use Rattle.machine.specs.Store.{LogEntry, store-of};
+ghost use Rattle.asyncio.specs.Limits.{object-limit};
 ghost use Rattle.machine.specs.Commit.{commit-gather-tree};
-ghost use Rattle.exec_poll.specs.Polls.{poll-of};
-ghost use Rattle.exec_commit.specs.Frames.{tells, told};
+ghost use Rattle.contract.specs.Contract.{LengthsAnd};
+ghost use Rattle.exec_commit.specs.Frames.{Commits};
 
 // The queue after a commit, what the await sees, and the number of commit steps.
 pub struct Committed {
@@ -36,8 +32,8 @@ pub fn commit_gather_tree(
     root: HeapId,
     awaiter: Awaiter,
 ) -> Committed
-    requires { ⌜ (length (now tasks) ≡ tasks-length) × (length (now objects) ≡ objects-length) × (length (now places) ≡ places-length) × (root .0 < object-limit) ⌝ }
-    ensures { λ r. ⌜ ((l : List LogEntry) → tells (store-of (now (tasks .exit)) (now (objects .exit)) (now (places .exit)) (r .queue) (commit-gather-tree (store-of (now (tasks .entry)) (now (objects .entry)) (now (places .entry)) queue l) (root .0) awaiter .store .log)) (poll-of (r .poll)) (r .steps) ≡ told (commit-gather-tree (store-of (now (tasks .entry)) (now (objects .entry)) (now (places .entry)) queue l) (root .0) awaiter)) ⌝ }
+    requires { ⌜ LengthsAnd tasks objects places (root .0 < object-limit) ⌝ }
+    ensures { λ r. ⌜ Commits tasks objects places queue (λ s. commit-gather-tree s (root .0) awaiter) r ⌝ }
 {
     open_gather_commit(objects, root, awaiter);
     let mut gathers = [0u16; 256];

@@ -1,3 +1,4 @@
 pub mod ClimbLaws
 pub mod Futures
 pub mod FutureLaws
+pub mod Delivers

@@ -10,15 +10,10 @@ use exec_fill::gather::fail;
 use exec_fill::gather::resolve_child;
 use queue::ReadyQueue;
 use scheduler::tasks::Found;
-ghost use mathlib.Core.Path.{_≡_};
-ghost use mathlib.Core.List.{List};
-ghost use Prim.Native.Nat.{ℕ, _<_};
-ghost use lib.ListN.{length};
-ghost use Rattle.asyncio.specs.Limits.{tasks-length, objects-length, places-length};
 ghost use Rattle.asyncio.specs.Ranges.{AwaiterFits};
-ghost use Rattle.machine.specs.Store.{LogEntry, store-of};
 ghost use Rattle.machine.specs.Delivery.{deliver-awaiter-success, deliver-awaiter-failure};
-ghost use Rattle.exec_fill.specs.Delivered.{delivered};
+ghost use Rattle.contract.specs.Contract.{Lengths₂And, LengthsAnd};
+ghost use Rattle.exec_deliver.specs.Delivers.{Delivers, DeliversKeepingPlaces};
 
 // Success climbs through each gather that it completes, and wakes the blocked task at the end.
 pub fn deliver_awaiter_success(
@@ -29,8 +24,8 @@ pub fn deliver_awaiter_success(
     awaiter: Awaiter,
     value: Value,
 ) -> Delivered
-    requires { ⌜ (length (now tasks) ≡ tasks-length) × (length (now objects) ≡ objects-length) × (length (now places) ≡ places-length) × AwaiterFits awaiter ⌝ }
-    ensures { λ r. ⌜ ((l : List LogEntry) → delivered (store-of (now (tasks .exit)) (now (objects .exit)) (now (places .exit)) (r .queue) (deliver-awaiter-success (store-of (now (tasks .entry)) (now (objects .entry)) (now (places .entry)) queue l) awaiter value .store .log)) (r .woken) ≡ deliver-awaiter-success (store-of (now (tasks .entry)) (now (objects .entry)) (now (places .entry)) queue l) awaiter value) ⌝ }
+    requires { ⌜ LengthsAnd tasks objects places (AwaiterFits awaiter) ⌝ }
+    ensures { λ r. ⌜ Delivers tasks objects places queue (λ s. deliver-awaiter-success s awaiter value) r ⌝ }
 {
     let mut to = awaiter;
     let mut given = value;
@@ -70,8 +65,8 @@ pub fn deliver_awaiter_failure(
     awaiter: Awaiter,
     error: Error,
 ) -> Delivered
-    requires { ⌜ (length (now tasks) ≡ tasks-length) × (length (now objects) ≡ objects-length) × AwaiterFits awaiter ⌝ }
-    ensures { λ r. ⌜ ((ps : List ℕ) (l : List LogEntry) → length ps ≡ places-length → delivered (store-of (now (tasks .exit)) (now (objects .exit)) ps (r .queue) (deliver-awaiter-failure (store-of (now (tasks .entry)) (now (objects .entry)) ps queue l) awaiter error .store .log)) (r .woken) ≡ deliver-awaiter-failure (store-of (now (tasks .entry)) (now (objects .entry)) ps queue l) awaiter error) ⌝ }
+    requires { ⌜ Lengths₂And tasks objects (AwaiterFits awaiter) ⌝ }
+    ensures { λ r. ⌜ DeliversKeepingPlaces tasks objects queue (λ s. deliver-awaiter-failure s awaiter error) r ⌝ }
 {
     let mut to = awaiter;
     loop {

@@ -11,13 +11,11 @@ use queue::ReadyQueue;
 use scheduler::tasks::Found;
 use scheduler::tasks::take_pending_external;
 ghost use mathlib.Core.Path.{_≡_};
-ghost use mathlib.Core.List.{List};
-ghost use Prim.Native.Nat.{ℕ, _<_};
-ghost use lib.ListN.{length};
-ghost use Rattle.asyncio.specs.Limits.{object-limit, tasks-length, objects-length, places-length};
-ghost use Rattle.machine.specs.Store.{LogEntry, store-of};
+ghost use Prim.Native.Nat.{_<_};
+ghost use Rattle.asyncio.specs.Limits.{object-limit};
 ghost use Rattle.machine.specs.Delivery.{value-or, resolve-future, fail-future};
 ghost use Rattle.exec_deliver.specs.Futures.{resolve-at, fail-at};
+ghost use Rattle.contract.specs.Contract.{Lengths₂, Lengths, Lengths₂And, LengthsAnd, Changes, ChangesKeepingPlaces};
 
 // A stored result replaces the host's value.
 fn value_or(stored: OptionValue, value: Value) -> Value
@@ -38,8 +36,8 @@ fn resolve_at(
     o: HeapId,
     value: Value,
 ) -> ReadyQueue
-    requires { ⌜ (length (now tasks) ≡ tasks-length) × (length (now objects) ≡ objects-length) × (length (now places) ≡ places-length) × (o .0 < object-limit) ⌝ }
-    ensures { λ r. ⌜ ((l : List LogEntry) → store-of (now (tasks .exit)) (now (objects .exit)) (now (places .exit)) r (resolve-at (store-of (now (tasks .entry)) (now (objects .entry)) (now (places .entry)) queue l) (o .0) value .log) ≡ resolve-at (store-of (now (tasks .entry)) (now (objects .entry)) (now (places .entry)) queue l) (o .0) value) ⌝ }
+    requires { ⌜ LengthsAnd tasks objects places (o .0 < object-limit) ⌝ }
+    ensures { λ r. ⌜ Changes tasks objects places queue r (λ s. resolve-at s (o .0) value) ⌝ }
 {
     let x = rows::tables::load_object(objects, o);
     match x {
@@ -82,8 +80,8 @@ pub fn resolve_future(
     call: u32,
     value: Value,
 ) -> ReadyQueue
-    requires { ⌜ (length (now tasks) ≡ tasks-length) × (length (now objects) ≡ objects-length) × (length (now places) ≡ places-length) ⌝ }
-    ensures { λ r. ⌜ ((l : List LogEntry) → store-of (now (tasks .exit)) (now (objects .exit)) (now (places .exit)) r (resolve-future (store-of (now (tasks .entry)) (now (objects .entry)) (now (places .entry)) queue l) call value .log) ≡ resolve-future (store-of (now (tasks .entry)) (now (objects .entry)) (now (places .entry)) queue l) call value) ⌝ }
+    requires { ⌜ Lengths tasks objects places ⌝ }
+    ensures { λ r. ⌜ Changes tasks objects places queue r (λ s. resolve-future s call value) ⌝ }
 {
     let found = take_pending_external(objects, call);
     match found {
@@ -100,8 +98,8 @@ fn fail_at(
     o: HeapId,
     error: Error,
 ) -> ReadyQueue
-    requires { ⌜ (length (now tasks) ≡ tasks-length) × (length (now objects) ≡ objects-length) × (o .0 < object-limit) ⌝ }
-    ensures { λ r. ⌜ ((ps : List ℕ) (l : List LogEntry) → length ps ≡ places-length → store-of (now (tasks .exit)) (now (objects .exit)) ps r (fail-at (store-of (now (tasks .entry)) (now (objects .entry)) ps queue l) (o .0) error .log) ≡ fail-at (store-of (now (tasks .entry)) (now (objects .entry)) ps queue l) (o .0) error) ⌝ }
+    requires { ⌜ Lengths₂And tasks objects (o .0 < object-limit) ⌝ }
+    ensures { λ r. ⌜ ChangesKeepingPlaces tasks objects queue r (λ s. fail-at s (o .0) error) ⌝ }
 {
     let x = rows::tables::load_object(objects, o);
     match x {
@@ -142,8 +140,8 @@ pub fn fail_future(
     call: u32,
     error: Error,
 ) -> ReadyQueue
-    requires { ⌜ (length (now tasks) ≡ tasks-length) × (length (now objects) ≡ objects-length) ⌝ }
-    ensures { λ r. ⌜ ((ps : List ℕ) (l : List LogEntry) → length ps ≡ places-length → store-of (now (tasks .exit)) (now (objects .exit)) ps r (fail-future (store-of (now (tasks .entry)) (now (objects .entry)) ps queue l) call error .log) ≡ fail-future (store-of (now (tasks .entry)) (now (objects .entry)) ps queue l) call error) ⌝ }
+    requires { ⌜ Lengths₂ tasks objects ⌝ }
+    ensures { λ r. ⌜ ChangesKeepingPlaces tasks objects queue r (λ s. fail-future s call error) ⌝ }
 {
     let found = take_pending_external(objects, call);
     match found {

@@ -3,14 +3,11 @@ use asyncio::TaskId;
 use asyncio::TaskState;
 use queue::ReadyQueue;
 use scheduler::tasks::Found;
-ghost use mathlib.Core.Path.{_≡_};
-ghost use mathlib.Core.List.{List};
-ghost use Prim.Native.Nat.{ℕ, _<_};
-ghost use lib.ListN.{length};
-ghost use Rattle.asyncio.specs.Limits.{task-limit, tasks-length};
-ghost use Rattle.machine.specs.Store.{LogEntry, store-of};
+ghost use Prim.Native.Nat.{_<_};
+ghost use Rattle.asyncio.specs.Limits.{task-limit};
 ghost use Rattle.machine.specs.Delivery.{deliver-to-task};
-ghost use Rattle.exec_fill.specs.Delivered.{delivered};
+ghost use Rattle.contract.specs.Contract.{TasksLength};
+ghost use Rattle.exec_deliver.specs.Delivers.{DeliversOfTasks};
 
 // The queue after a delivery, and the task that it woke.
 pub struct Delivered {
@@ -25,8 +22,8 @@ pub fn deliver_to_task(
     t: TaskId,
     state: TaskState,
 ) -> Delivered
-    requires { ⌜ (length (now tasks) ≡ tasks-length) × (t .0 < task-limit) ⌝ }
-    ensures { λ r. ⌜ ((os ps : List ℕ) (l : List LogEntry) → delivered (store-of (now (tasks .exit)) os ps (r .queue) (deliver-to-task (store-of (now (tasks .entry)) os ps queue l) (t .0) state .store .log)) (r .woken) ≡ deliver-to-task (store-of (now (tasks .entry)) os ps queue l) (t .0) state) ⌝ }
+    requires { ⌜ TasksLength tasks × (t .0 < task-limit) ⌝ }
+    ensures { λ r. ⌜ DeliversOfTasks tasks queue (λ s. deliver-to-task s (t .0) state) r ⌝ }
 {
     if scheduler::states::is_blocked(tasks, t) {
         let q = scheduler::states::make_ready(tasks, queue, t, state);

@@ -17,15 +17,12 @@ use exec_switch::control::How;
 use exec_switch::cycle::switch_or_yield;
 use queue::ReadyQueue;
 use scheduler::states::block_current_on;
-ghost use mathlib.Core.Path.{_≡_};
-ghost use mathlib.Core.List.{List};
-ghost use Prim.Native.Nat.{ℕ, _<_};
-ghost use lib.ListN.{length};
-ghost use Rattle.asyncio.specs.Limits.{task-limit, object-limit, tasks-length, objects-length, places-length};
-ghost use Rattle.machine.specs.Store.{LogEntry, store-of};
+ghost use Prim.Native.Nat.{_<_};
+ghost use Rattle.asyncio.specs.Limits.{task-limit, object-limit};
 ghost use Rattle.machine.specs.Events.{stays, raises, go-on, await-coroutine, await-external-future, await-gather, exec-get-awaitable};
 ghost use Rattle.exec_poll.specs.Polls.{poll-of};
-ghost use Rattle.exec_switch.specs.Control.{awaited-of};
+ghost use Rattle.contract.specs.Contract.{ObjectsLength, Lengths₂And, Lengths₂And₂, LengthsAnd₂};
+ghost use Rattle.exec_events.specs.Awaits.{AwaitsKeepingPlaces, AwaitsOfObjects, AwaitsOfQueue, Awaits};
 
 // The queue after an await, who has control, and the number of commit steps.
 pub struct Awaited {
@@ -44,8 +41,9 @@ fn go_on(
     steps: u16,
     poll: Poll,
 ) -> Awaited
-    requires { ⌜ (length (now tasks) ≡ tasks-length) × (length (now objects) ≡ objects-length) × (t .0 < task-limit) ⌝ }
-    ensures { λ r. ⌜ ((ps : List ℕ) (l : List LogEntry) → length ps ≡ places-length → awaited-of (store-of (now (tasks .exit)) (now (objects .exit)) ps (r .queue) (go-on (t .0) (o .0) steps (store-of (now (tasks .entry)) (now (objects .entry)) ps queue l) (poll-of poll) .store .log)) (r .control) (r .steps) ≡ go-on (t .0) (o .0) steps (store-of (now (tasks .entry)) (now (objects .entry)) ps queue l) (poll-of poll)) ⌝ }
+    requires { ⌜ Lengths₂And tasks objects (t .0 < task-limit) ⌝ }
+    ensures { λ r. ⌜ AwaitsKeepingPlaces tasks objects queue
+        (λ s. go-on (t .0) (o .0) steps s (poll-of poll)) r ⌝ }
 {
     match poll {
         Poll::Ready(v) => Awaited {
@@ -87,8 +85,8 @@ fn await_coroutine(
     function: u32,
     state: CoroutineState,
 ) -> Awaited
-    requires { ⌜ (length (now objects) ≡ objects-length) × (o .0 < object-limit) ⌝ }
-    ensures { λ r. ⌜ ((ts ps : List ℕ) (l : List LogEntry) → awaited-of (store-of ts (now (objects .exit)) ps (r .queue) l) (r .control) (r .steps) ≡ await-coroutine (store-of ts (now (objects .entry)) ps queue l) (t .0) (o .0) function state) ⌝ }
+    requires { ⌜ ObjectsLength objects × (o .0 < object-limit) ⌝ }
+    ensures { λ r. ⌜ AwaitsOfObjects objects queue (λ s. await-coroutine s (t .0) (o .0) function state) r ⌝ }
 {
     match state {
         CoroutineState::New => {
@@ -116,7 +114,7 @@ fn await_coroutine(
 
 // The task goes on with an error, at once and without a commit.
 fn raise(queue: ReadyQueue, t: TaskId, error: Error) -> Awaited
-    ensures { λ r. ⌜ ((ts os ps : List ℕ) (l : List LogEntry) → awaited-of (store-of ts os ps (r .queue) l) (r .control) (r .steps) ≡ stays (store-of ts os ps queue l) (t .0) (raises error) 0) ⌝ }
+    ensures { λ r. ⌜ AwaitsOfQueue queue (λ s. stays s (t .0) (raises error) 0) r ⌝ }
 {
     Awaited {
         queue,
@@ -138,8 +136,9 @@ fn await_external_future(
     call: CallId,
     state: ExternalFutureState,
 ) -> Awaited
-    requires { ⌜ (length (now tasks) ≡ tasks-length) × (length (now objects) ≡ objects-length) × (t .0 < task-limit) × (o .0 < object-limit) ⌝ }
-    ensures { λ r. ⌜ ((ps : List ℕ) (l : List LogEntry) → length ps ≡ places-length → awaited-of (store-of (now (tasks .exit)) (now (objects .exit)) ps (r .queue) (await-external-future (store-of (now (tasks .entry)) (now (objects .entry)) ps queue l) (t .0) (o .0) call state .store .log)) (r .control) (r .steps) ≡ await-external-future (store-of (now (tasks .entry)) (now (objects .entry)) ps queue l) (t .0) (o .0) call state) ⌝ }
+    requires { ⌜ Lengths₂And₂ tasks objects (t .0 < task-limit) (o .0 < object-limit) ⌝ }
+    ensures { λ r. ⌜ AwaitsKeepingPlaces tasks objects queue
+        (λ s. await-external-future s (t .0) (o .0) call state) r ⌝ }
 {
     let poll = await_external(objects, o, call, state, Awaiter::Task(t));
     go_on(tasks, objects, queue, t, o, 0, poll)
@@ -155,8 +154,8 @@ fn await_gather_future(
     o: HeapId,
     state: GatherState,
 ) -> Awaited
-    requires { ⌜ (length (now tasks) ≡ tasks-length) × (length (now objects) ≡ objects-length) × (length (now places) ≡ places-length) × (t .0 < task-limit) × (o .0 < object-limit) ⌝ }
-    ensures { λ r. ⌜ ((l : List LogEntry) → awaited-of (store-of (now (tasks .exit)) (now (objects .exit)) (now (places .exit)) (r .queue) (await-gather (store-of (now (tasks .entry)) (now (objects .entry)) (now (places .entry)) queue l) (t .0) (o .0) state .store .log)) (r .control) (r .steps) ≡ await-gather (store-of (now (tasks .entry)) (now (objects .entry)) (now (places .entry)) queue l) (t .0) (o .0) state) ⌝ }
+    requires { ⌜ LengthsAnd₂ tasks objects places (t .0 < task-limit) (o .0 < object-limit) ⌝ }
+    ensures { λ r. ⌜ Awaits tasks objects places queue (λ s. await-gather s (t .0) (o .0) state) r ⌝ }
 {
     match state {
         GatherState::Pending => {
@@ -191,8 +190,8 @@ pub fn exec_get_awaitable(
     t: TaskId,
     o: HeapId,
 ) -> Awaited
-    requires { ⌜ (length (now tasks) ≡ tasks-length) × (length (now objects) ≡ objects-length) × (length (now places) ≡ places-length) × (t .0 < task-limit) × (o .0 < object-limit) ⌝ }
-    ensures { λ r. ⌜ ((l : List LogEntry) → awaited-of (store-of (now (tasks .exit)) (now (objects .exit)) (now (places .exit)) (r .queue) (exec-get-awaitable (store-of (now (tasks .entry)) (now (objects .entry)) (now (places .entry)) queue l) (t .0) (o .0) .store .log)) (r .control) (r .steps) ≡ exec-get-awaitable (store-of (now (tasks .entry)) (now (objects .entry)) (now (places .entry)) queue l) (t .0) (o .0)) ⌝ }
+    requires { ⌜ LengthsAnd₂ tasks objects places (t .0 < task-limit) (o .0 < object-limit) ⌝ }
+    ensures { λ r. ⌜ Awaits tasks objects places queue (λ s. exec-get-awaitable s (t .0) (o .0)) r ⌝ }
 {
     let x = rows::tables::load_object(objects, o);
     match x {

@@ -18,16 +18,14 @@ use scheduler::cleanup::cleanup;
 use scheduler::cleanup::no_call_pending;
 use scheduler::states::remove_task;
 ghost use mathlib.Core.Path.{_≡_};
-ghost use mathlib.Core.List.{List};
-ghost use Prim.Native.Nat.{ℕ, _<_};
-ghost use lib.ListN.{length};
-ghost use Rattle.asyncio.specs.Limits.{task-limit, object-limit, tasks-length, objects-length, places-length};
+ghost use Prim.Native.Nat.{_<_};
+ghost use Rattle.asyncio.specs.Limits.{task-limit, object-limit};
 ghost use Rattle.rows.specs.Tables.{object-at, object-put};
-ghost use Rattle.machine.specs.Store.{LogEntry, store-of};
 ghost use Rattle.machine.specs.Events.{completed, handle-task-completion};
 ghost use Rattle.machine.specs.Machine.{task-completes, task-fails, resume-with-resolved-futures};
-ghost use Rattle.exec_switch.specs.Control.{switched-of};
-ghost use Rattle.exec_switch.specs.Answer.{stepped-of};
+ghost use Rattle.contract.specs.Contract.{ObjectsLength, Lengths₂, Lengths₂And, LengthsAnd};
+ghost use Rattle.exec_switch.specs.Control.{Switches};
+ghost use Rattle.exec_switch.specs.Answer.{Answers, AnswersKeepingPlaces};
 
 // A coroutine that has completed. Any other object stays.
 fn completed(x: Object) -> Object
@@ -50,7 +48,7 @@ fn completed(x: Object) -> Object
 
 // The coroutine of a task that completed.
 fn complete_coroutine(objects: &mut [u64], c: HeapId)
-    requires { ⌜ (length (now objects) ≡ objects-length) × (c .0 < object-limit) ⌝ }
+    requires { ⌜ ObjectsLength objects × (c .0 < object-limit) ⌝ }
     ensures { λ _. ⌜ now (objects .exit) ≡ object-put (now (objects .entry)) (c .0) (completed (object-at (now (objects .entry)) (c .0))) ⌝ }
 {
     let x = rows::tables::load_object(objects, c);
@@ -66,8 +64,8 @@ pub fn handle_task_completion(
     t: TaskId,
     value: Value,
 ) -> Switched
-    requires { ⌜ (length (now tasks) ≡ tasks-length) × (length (now objects) ≡ objects-length) × (length (now places) ≡ places-length) × (t .0 < task-limit) ⌝ }
-    ensures { λ r. ⌜ ((l : List LogEntry) → switched-of (store-of (now (tasks .exit)) (now (objects .exit)) (now (places .exit)) (r .queue) (handle-task-completion (store-of (now (tasks .entry)) (now (objects .entry)) (now (places .entry)) queue l) (t .0) value .store .log)) (r .control) ≡ handle-task-completion (store-of (now (tasks .entry)) (now (objects .entry)) (now (places .entry)) queue l) (t .0) value) ⌝ }
+    requires { ⌜ LengthsAnd tasks objects places (t .0 < task-limit) ⌝ }
+    ensures { λ r. ⌜ Switches tasks objects places queue (λ s. handle-task-completion s (t .0) value) r ⌝ }
 {
     let task = rows::tables::load_task(tasks, t);
     let awaiter = task.awaiter;
@@ -89,8 +87,8 @@ pub fn complete(
     t: TaskId,
     value: Value,
 ) -> Stepped
-    requires { ⌜ (length (now tasks) ≡ tasks-length) × (length (now objects) ≡ objects-length) × (length (now places) ≡ places-length) × (t .0 < task-limit) ⌝ }
-    ensures { λ r. ⌜ ((l : List LogEntry) → stepped-of (store-of (now (tasks .exit)) (now (objects .exit)) (now (places .exit)) (r .queue) (task-completes (store-of (now (tasks .entry)) (now (objects .entry)) (now (places .entry)) queue l) (t .0) value .store .log)) (r .answer) ≡ task-completes (store-of (now (tasks .entry)) (now (objects .entry)) (now (places .entry)) queue l) (t .0) value) ⌝ }
+    requires { ⌜ LengthsAnd tasks objects places (t .0 < task-limit) ⌝ }
+    ensures { λ r. ⌜ Answers tasks objects places queue (λ s. task-completes s (t .0) value) r ⌝ }
 {
     if t.0 == 0 {
         let q = cleanup(tasks, objects);
@@ -116,8 +114,8 @@ pub fn fail(
     t: TaskId,
     error: Error,
 ) -> Stepped
-    requires { ⌜ (length (now tasks) ≡ tasks-length) × (length (now objects) ≡ objects-length) × (t .0 < task-limit) ⌝ }
-    ensures { λ r. ⌜ ((ps : List ℕ) (l : List LogEntry) → length ps ≡ places-length → stepped-of (store-of (now (tasks .exit)) (now (objects .exit)) ps (r .queue) (task-fails (store-of (now (tasks .entry)) (now (objects .entry)) ps queue l) (t .0) error .store .log)) (r .answer) ≡ task-fails (store-of (now (tasks .entry)) (now (objects .entry)) ps queue l) (t .0) error) ⌝ }
+    requires { ⌜ Lengths₂And tasks objects (t .0 < task-limit) ⌝ }
+    ensures { λ r. ⌜ AnswersKeepingPlaces tasks objects queue (λ s. task-fails s (t .0) error) r ⌝ }
 {
     if t.0 == 0 {
         let q = cleanup(tasks, objects);
@@ -141,8 +139,8 @@ pub fn resume_with_resolved_futures(
     objects: &mut [u64],
     queue: ReadyQueue,
 ) -> Stepped
-    requires { ⌜ (length (now tasks) ≡ tasks-length) × (length (now objects) ≡ objects-length) ⌝ }
-    ensures { λ r. ⌜ ((ps : List ℕ) (l : List LogEntry) → length ps ≡ places-length → stepped-of (store-of (now (tasks .exit)) (now (objects .exit)) ps (r .queue) (resume-with-resolved-futures (store-of (now (tasks .entry)) (now (objects .entry)) ps queue l) .store .log)) (r .answer) ≡ resume-with-resolved-futures (store-of (now (tasks .entry)) (now (objects .entry)) ps queue l)) ⌝ }
+    requires { ⌜ Lengths₂ tasks objects ⌝ }
+    ensures { λ r. ⌜ AnswersKeepingPlaces tasks objects queue resume-with-resolved-futures r ⌝ }
 {
     if queue.len == 0 {
         if no_call_pending(objects) {

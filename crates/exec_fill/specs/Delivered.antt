@@ -5,6 +5,7 @@ use Rattle.asyncio.specs.declared.Awaiter.{Awaiter}
 use Rattle.scheduler.specs.declared.tasks.Found.{Found}
 use Rattle.machine.specs.Store.{Store}
 use Rattle.machine.specs.Delivery.{Delivery, Settled}
+use Rattle.contract.specs.Contract.{Slice, DoesOfObjects, DoesOfObjectsAndPlaces}
 use Rattle.exec_fill.specs.declared.gather.Onward.{Onward}
 
 -- a number that was found, or none
@@ -24,3 +25,11 @@ onward-of (Onward.To w) = some w
 -- a store, and where a settled gather's result goes on to
 abbrev pub settled : Store → Onward → Settled
 settled s o = record { store = s; onward = onward-of o }
+
+-- The call puts a result into a gather, as f does.
+abbrev pub Settles : Slice → Slice → (Store → Settled) → Onward → Type 0
+Settles objects places f r = DoesOfObjectsAndPlaces objects places (λ s. settled s r) f
+
+-- The same of a call that does not take the places.
+abbrev pub SettlesKeepingPlaces : Slice → (Store → Settled) → Onward → Type 0
+SettlesKeepingPlaces objects f r = DoesOfObjects objects (λ s. settled s r) f

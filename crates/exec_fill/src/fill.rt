@@ -5,9 +5,9 @@ use asyncio::Place;
 use asyncio::Value;
 ghost use mathlib.Core.Path.{_≡_};
 ghost use Prim.Native.Nat.{_<_, _+_, _≤_};
-ghost use lib.ListN.{length};
-ghost use Rattle.asyncio.specs.Limits.{item-limit, place-limit, places-length};
+ghost use Rattle.asyncio.specs.Limits.{item-limit, place-limit};
 ghost use Rattle.machine.specs.Delivery.{filled, fill-one, fill-from};
+ghost use Rattle.contract.specs.Contract.{PlacesLength};
 
 // Place `p`, which is place `i` of its gather: where it is open and names `source`, the value goes in and its bit is cleared. The open
 // places that are left.
@@ -19,7 +19,7 @@ fn fill_one(
     source: HeapId,
     value: Value,
 ) -> u32
-    requires { ⌜ (length (now places) ≡ places-length) × (p < place-limit) × (i < item-limit) ⌝ }
+    requires { ⌜ PlacesLength places × (p < place-limit) × (i < item-limit) ⌝ }
     ensures { λ r. ⌜ filled (now (places .exit)) r ≡ fill-one (now (places .entry)) waiting p i (source .0) value ⌝ }
 {
     if (waiting >> i) % 2 == 0 {
@@ -49,7 +49,7 @@ pub fn fill_places(
     source: HeapId,
     value: Value,
 ) -> u32
-    requires { ⌜ (length (now places) ≡ places-length) × (first + count ≤ place-limit) × (count ≤ item-limit) ⌝ }
+    requires { ⌜ PlacesLength places × (first + count ≤ place-limit) × (count ≤ item-limit) ⌝ }
     ensures { λ r. ⌜ filled (now (places .exit)) r ≡ fill-from (now (places .entry)) waiting first (source .0) value 0 count ⌝ }
 {
     let mut left = waiting;

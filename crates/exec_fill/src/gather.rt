@@ -6,15 +6,11 @@ use asyncio::GatherState;
 use asyncio::HeapId;
 use asyncio::Object;
 use asyncio::Value;
-ghost use mathlib.Core.Path.{_≡_};
-ghost use mathlib.Core.List.{List};
-ghost use Prim.Native.Nat.{ℕ, _<_};
-ghost use lib.ListN.{length};
-ghost use Rattle.asyncio.specs.Limits.{object-limit, objects-length, places-length};
-ghost use Rattle.queue.specs.declared.ReadyQueue.{ReadyQueue};
-ghost use Rattle.machine.specs.Store.{LogEntry, store-of};
+ghost use Prim.Native.Nat.{_<_};
+ghost use Rattle.asyncio.specs.Limits.{object-limit};
 ghost use Rattle.machine.specs.Delivery.{resolve-child, fail-gather};
-ghost use Rattle.exec_fill.specs.Delivered.{settled};
+ghost use Rattle.contract.specs.Contract.{ObjectsLength, PlacesLength};
+ghost use Rattle.exec_fill.specs.Delivered.{Settles, SettlesKeepingPlaces};
 
 // Where the result of a gather goes on to: nowhere, where it was settled before or still waits.
 pub enum Onward {
@@ -30,8 +26,8 @@ pub fn resolve_child(
     source: HeapId,
     value: Value,
 ) -> Onward
-    requires { ⌜ (length (now objects) ≡ objects-length) × (length (now places) ≡ places-length) × (g .0 < object-limit) ⌝ }
-    ensures { λ r. ⌜ ((ts : List ℕ) (q : ReadyQueue) (l : List LogEntry) → settled (store-of ts (now (objects .exit)) (now (places .exit)) q l) r ≡ resolve-child (store-of ts (now (objects .entry)) (now (places .entry)) q l) (g .0) (source .0) value) ⌝ }
+    requires { ⌜ ObjectsLength objects × PlacesLength places × (g .0 < object-limit) ⌝ }
+    ensures { λ r. ⌜ Settles objects places (λ s. resolve-child s (g .0) (source .0) value) r ⌝ }
 {
     let o = rows::tables::load_object(objects, g);
     match o {
@@ -93,8 +89,8 @@ pub fn resolve_child(
 
 // The first failure of an awaited gather. One that is not awaited keeps its state.
 pub fn fail(objects: &mut [u64], g: HeapId, error: Error) -> Onward
-    requires { ⌜ (length (now objects) ≡ objects-length) × (g .0 < object-limit) ⌝ }
-    ensures { λ r. ⌜ ((ts ps : List ℕ) (q : ReadyQueue) (l : List LogEntry) → settled (store-of ts (now (objects .exit)) ps q l) r ≡ fail-gather (store-of ts (now (objects .entry)) ps q l) (g .0) error) ⌝ }
+    requires { ⌜ ObjectsLength objects × (g .0 < object-limit) ⌝ }
+    ensures { λ r. ⌜ SettlesKeepingPlaces objects (λ s. fail-gather s (g .0) error) r ⌝ }
 {
     let o = rows::tables::load_object(objects, g);
     match o {

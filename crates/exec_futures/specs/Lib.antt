@@ -1,3 +1,4 @@
 pub mod MakingLaws
 pub mod Results
 pub mod ResultLaws
+pub mod Making

@@ -11,19 +11,19 @@ use asyncio::OptionValue;
 use asyncio::Place;
 use asyncio::Value;
 ghost use mathlib.Core.Path.{_≡_};
-ghost use mathlib.Core.List.{List};
-ghost use Prim.Native.Nat.{ℕ, _<_, _≤_, _+_};
+ghost use Prim.Native.Nat.{_≤_, _+_};
 ghost use lib.ListN.{length};
-ghost use Rattle.asyncio.specs.Limits.{object-limit, item-limit, place-limit, call-limit, objects-length, places-length};
+ghost use Rattle.asyncio.specs.Limits.{item-limit, place-limit};
 ghost use Rattle.rows.specs.Tables.{header-at};
-ghost use Rattle.queue.specs.declared.ReadyQueue.{ReadyQueue};
-ghost use Rattle.machine.specs.Store.{LogEntry, store-of, set-calls, add-object};
+ghost use Rattle.machine.specs.Store.{set-calls, add-object};
 ghost use Rattle.machine.specs.Events.{make-coroutine, make-pending, make-settled, put-items, make-gather};
+ghost use Rattle.contract.specs.Contract.{ObjectsLength, PlacesLength, ChangesObjects, ChangesPlaces};
+ghost use Rattle.exec_futures.specs.Making.{MakesObject, MakesGather, HasCall, HasPlaces, HasRoom};
 
 // An object at the end, and `n` places given to it.
 fn add_object(objects: &mut [u64], x: Object, n: u16) -> HeapId
-    requires { ⌜ (length (now objects) ≡ objects-length) × (header-at (now objects) .made < object-limit) × (n ≤ item-limit) ⌝ }
-    ensures { λ r. ⌜ (r .0 ≡ header-at (now (objects .entry)) .made) × ((ts ps : List ℕ) (q : ReadyQueue) (l : List LogEntry) → store-of ts (now (objects .exit)) ps q l ≡ add-object (store-of ts (now (objects .entry)) ps q l) x n) ⌝ }
+    requires { ⌜ ObjectsLength objects × HasRoom objects × (n ≤ item-limit) ⌝ }
+    ensures { λ r. ⌜ MakesObject objects (λ s. add-object s x n) r ⌝ }
 {
     let header = rows::tables::load_header(objects);
     let moment = header.moment;
@@ -44,8 +44,8 @@ fn add_object(objects: &mut [u64], x: Object, n: u16) -> HeapId
 
 // The next call's number is handed out.
 pub fn allocate_call_id(objects: &mut [u64]) -> u32
-    requires { ⌜ length (now objects) ≡ objects-length ⌝ }
-    ensures { λ r. ⌜ (r ≡ header-at (now (objects .entry)) .calls) × ((ts ps : List ℕ) (q : ReadyQueue) (l : List LogEntry) → store-of ts (now (objects .exit)) ps q l ≡ set-calls (store-of ts (now (objects .entry)) ps q l) (r + 1)) ⌝ }
+    requires { ⌜ ObjectsLength objects ⌝ }
+    ensures { λ r. ⌜ (r ≡ header-at (now (objects .entry)) .calls) × ChangesObjects objects (λ s. set-calls s (r + 1)) ⌝ }
 {
     let header = rows::tables::load_header(objects);
     let moment = header.moment;
@@ -65,8 +65,8 @@ pub fn allocate_call_id(objects: &mut [u64]) -> u32
 
 // A new coroutine of a function.
 pub fn make_coroutine(objects: &mut [u64], function: u32) -> HeapId
-    requires { ⌜ (length (now objects) ≡ objects-length) × (header-at (now objects) .made < object-limit) ⌝ }
-    ensures { λ r. ⌜ (r .0 ≡ header-at (now (objects .entry)) .made) × ((ts ps : List ℕ) (q : ReadyQueue) (l : List LogEntry) → store-of ts (now (objects .exit)) ps q l ≡ make-coroutine (store-of ts (now (objects .entry)) ps q l) function) ⌝ }
+    requires { ⌜ ObjectsLength objects × HasRoom objects ⌝ }
+    ensures { λ r. ⌜ MakesObject objects (λ s. make-coroutine s function) r ⌝ }
 {
     let x = Object::Coroutine {
         function,
@@ -77,8 +77,8 @@ pub fn make_coroutine(objects: &mut [u64], function: u32) -> HeapId
 
 // An external of a call, with a stored result or none (add_pending_call, add_pending_sleep).
 pub fn push_pending_future(objects: &mut [u64], call: CallId, stored: OptionValue) -> HeapId
-    requires { ⌜ (length (now objects) ≡ objects-length) × (header-at (now objects) .made < object-limit) ⌝ }
-    ensures { λ r. ⌜ (r .0 ≡ header-at (now (objects .entry)) .made) × ((ts ps : List ℕ) (q : ReadyQueue) (l : List LogEntry) → store-of ts (now (objects .exit)) ps q l ≡ make-pending (store-of ts (now (objects .entry)) ps q l) (call .0) stored) ⌝ }
+    requires { ⌜ ObjectsLength objects × HasRoom objects ⌝ }
+    ensures { λ r. ⌜ MakesObject objects (λ s. make-pending s (call .0) stored) r ⌝ }
 {
     let x = Object::ExternalFuture {
         call,
@@ -92,8 +92,8 @@ pub fn push_pending_future(objects: &mut [u64], call: CallId, stored: OptionValu
 
 // An external that has its value already. It takes a call number too.
 pub fn settled_awaitable(objects: &mut [u64], value: Value) -> HeapId
-    requires { ⌜ (length (now objects) ≡ objects-length) × (header-at (now objects) .made < object-limit) × (header-at (now objects) .calls < call-limit) ⌝ }
-    ensures { λ r. ⌜ (r .0 ≡ header-at (now (objects .entry)) .made) × ((ts ps : List ℕ) (q : ReadyQueue) (l : List LogEntry) → store-of ts (now (objects .exit)) ps q l ≡ make-settled (store-of ts (now (objects .entry)) ps q l) value) ⌝ }
+    requires { ⌜ ObjectsLength objects × HasRoom objects × HasCall objects ⌝ }
+    ensures { λ r. ⌜ MakesObject objects (λ s. make-settled s value) r ⌝ }
 {
     let n = allocate_call_id(objects);
     let x = Object::ExternalFuture {
@@ -105,8 +105,8 @@ pub fn settled_awaitable(objects: &mut [u64], value: Value) -> HeapId
 
 // The items in the places from `first` on.
 fn put_items(places: &mut [u64], first: usize, items: &[u16])
-    requires { ⌜ (length (now places) ≡ places-length) × (first + length (now items) ≤ place-limit) ⌝ }
-    ensures { λ _. ⌜ ((ts os : List ℕ) (q : ReadyQueue) (l : List LogEntry) → store-of ts os (now (places .exit)) q l ≡ put-items (store-of ts os (now (places .entry)) q l) first (now (items .entry))) ⌝ }
+    requires { ⌜ PlacesLength places × (first + length (now items) ≤ place-limit) ⌝ }
+    ensures { λ _. ⌜ ChangesPlaces places (λ s. put-items s first (now (items .entry))) ⌝ }
 {
     let n = items.len();
     let mut i: usize = 0;
@@ -122,8 +122,9 @@ fn put_items(places: &mut [u64], first: usize, items: &[u16])
 
 // A gather of the items, not committed.
 pub fn make_gather(objects: &mut [u64], places: &mut [u64], items: &[u16]) -> HeapId
-    requires { ⌜ (length (now objects) ≡ objects-length) × (length (now places) ≡ places-length) × (header-at (now objects) .made < object-limit) × (length (now items) ≤ item-limit) × (header-at (now objects) .used + length (now items) ≤ place-limit) ⌝ }
-    ensures { λ r. ⌜ (r .0 ≡ header-at (now (objects .entry)) .made) × ((ts : List ℕ) (q : ReadyQueue) (l : List LogEntry) → store-of ts (now (objects .exit)) (now (places .exit)) q l ≡ make-gather (store-of ts (now (objects .entry)) (now (places .entry)) q l) (now (items .entry))) ⌝ }
+    requires { ⌜ ObjectsLength objects × PlacesLength places × HasRoom objects × (length (now items) ≤ item-limit)
+        × HasPlaces objects (length (now items)) ⌝ }
+    ensures { λ r. ⌜ MakesGather objects places (λ s. make-gather s (now (items .entry))) r ⌝ }
 {
     let header = rows::tables::load_header(objects);
     let first = header.used;

@@ -5,14 +5,11 @@ use asyncio::words::to_value;
 use exec_deliver::future::fail_future;
 use exec_deliver::future::resolve_future;
 use queue::ReadyQueue;
-ghost use mathlib.Core.Path.{_≡_};
-ghost use mathlib.Core.List.{List};
-ghost use Prim.Native.Nat.{ℕ, _≤_, _+_};
+ghost use Prim.Native.Nat.{_≤_, _+_};
 ghost use lib.ListN.{length};
-ghost use Rattle.asyncio.specs.Limits.{tasks-length, objects-length, places-length};
-ghost use Rattle.machine.specs.Store.{LogEntry, store-of};
 ghost use Rattle.machine.specs.Events.{apply-result, apply-future-results};
 ghost use Rattle.exec_futures.specs.Results.{result-at, results-in};
+ghost use Rattle.contract.specs.Contract.{Lengths, LengthsAnd, Changes};
 
 // The result at byte `at`. Kinds: 0 return, 1 error, 2 still a future, 3 not found, 4 module file.
 fn apply_result(
@@ -23,8 +20,8 @@ fn apply_result(
     results: &[u8],
     at: usize,
 ) -> ReadyQueue
-    requires { ⌜ (length (now tasks) ≡ tasks-length) × (length (now objects) ≡ objects-length) × (length (now places) ≡ places-length) × (at + 14 ≤ length (now results)) ⌝ }
-    ensures { λ r. ⌜ ((l : List LogEntry) → store-of (now (tasks .exit)) (now (objects .exit)) (now (places .exit)) r (apply-result (store-of (now (tasks .entry)) (now (objects .entry)) (now (places .entry)) queue l) (result-at (now (results .entry)) at) .log) ≡ apply-result (store-of (now (tasks .entry)) (now (objects .entry)) (now (places .entry)) queue l) (result-at (now (results .entry)) at)) ⌝ }
+    requires { ⌜ LengthsAnd tasks objects places (at + 14 ≤ length (now results)) ⌝ }
+    ensures { λ r. ⌜ Changes tasks objects places queue r (λ s. apply-result s (result-at (now (results .entry)) at)) ⌝ }
 {
     let call = endian::u32_at(results, at) as u32;
     let kind = endian::u8_at(results, at + 4);
@@ -54,8 +51,9 @@ pub fn apply_future_results(
     queue: ReadyQueue,
     results: &[u8],
 ) -> ReadyQueue
-    requires { ⌜ (length (now tasks) ≡ tasks-length) × (length (now objects) ≡ objects-length) × (length (now places) ≡ places-length) ⌝ }
-    ensures { λ r. ⌜ ((l : List LogEntry) → store-of (now (tasks .exit)) (now (objects .exit)) (now (places .exit)) r (apply-future-results (store-of (now (tasks .entry)) (now (objects .entry)) (now (places .entry)) queue l) (results-in (now (results .entry))) .log) ≡ apply-future-results (store-of (now (tasks .entry)) (now (objects .entry)) (now (places .entry)) queue l) (results-in (now (results .entry)))) ⌝ }
+    requires { ⌜ Lengths tasks objects places ⌝ }
+    ensures { λ r. ⌜ Changes tasks objects places queue r
+        (λ s. apply-future-results s (results-in (now (results .entry)))) ⌝ }
 {
     let n = results.len() / 14;
     let mut left = queue;

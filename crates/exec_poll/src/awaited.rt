@@ -5,11 +5,11 @@ use asyncio::HeapId;
 use asyncio::Object;
 ghost use mathlib.Core.Path.{_≡_};
 ghost use Prim.Native.Nat.{_<_};
-ghost use lib.ListN.{length};
-ghost use Rattle.asyncio.specs.Limits.{object-limit, objects-length};
+ghost use Rattle.asyncio.specs.Limits.{object-limit};
 ghost use Rattle.rows.specs.Tables.{object-at};
 ghost use Rattle.machine.specs.Scheduler.{as-awaited};
 ghost use Rattle.exec_poll.specs.Polls.{option-awaited};
+ghost use Rattle.contract.specs.Contract.{ObjectsLength};
 
 // An awaited gather: its places, its awaiter, and the bits of the places that wait for their items.
 pub struct AwaitedGather {
@@ -26,7 +26,7 @@ pub enum OptionAwaited {
 
 // Object `g` as an awaited gather, if it is one.
 pub fn as_awaited(objects: &[u64], g: HeapId) -> OptionAwaited
-    requires { ⌜ (length (now objects) ≡ objects-length) × (g .0 < object-limit) ⌝ }
+    requires { ⌜ ObjectsLength objects × (g .0 < object-limit) ⌝ }
     ensures { λ r. ⌜ option-awaited r ≡ as-awaited (object-at (now (objects .entry)) (g .0)) ⌝ }
 {
     let o = rows::tables::load_object(objects, g);

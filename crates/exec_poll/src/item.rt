@@ -11,16 +11,14 @@ use asyncio::Object;
 use asyncio::Value;
 use queue::ReadyQueue;
 ghost use mathlib.Core.Path.{_≡_};
-ghost use mathlib.Core.List.{List};
-ghost use Prim.Native.Nat.{ℕ, _<_, _+_};
-ghost use lib.ListN.{length};
-ghost use Rattle.asyncio.specs.Limits.{object-limit, item-limit, place-limit, tasks-length, objects-length, places-length};
+ghost use Prim.Native.Nat.{_<_};
+ghost use Rattle.asyncio.specs.Limits.{object-limit, item-limit, place-limit};
 ghost use Rattle.asyncio.specs.Ranges.{PlacesFit};
 ghost use Rattle.rows.specs.Tables.{place-at};
-ghost use Rattle.queue.specs.declared.ReadyQueue.{ReadyQueue};
-ghost use Rattle.machine.specs.Store.{Store, LogEntry, store-of};
-ghost use Rattle.machine.specs.Commit.{gives, await-external, item-coroutine, item-gather, open-from};
-ghost use Rattle.exec_poll.specs.Polls.{poll-of, awaited-of, open-here, with-item, itemed, item-at, item-here};
+ghost use Rattle.machine.specs.Store.{Store};
+ghost use Rattle.machine.specs.Commit.{await-external, item-coroutine, item-gather, open-from};
+ghost use Rattle.exec_poll.specs.Polls.{awaited-of, open-here, with-item, itemed, item-at, item-here, PollsOfObjects, Polls, PollsItem, PollsItemOfPlaces};
+ghost use Rattle.contract.specs.Contract.{ObjectsLength, PlacesLength, Lengths₂, Lengths₂And, LengthsAnd₂};
 
 // What an awaitable gives at once: a value, an error, or nothing yet.
 pub enum Poll {
@@ -55,8 +53,8 @@ pub fn await_external(
     state: ExternalFutureState,
     awaiter: Awaiter,
 ) -> Poll
-    requires { ⌜ (length (now objects) ≡ objects-length) × (o .0 < object-limit) ⌝ }
-    ensures { λ r. ⌜ ((ts ps : List ℕ) (q : ReadyQueue) (l : List LogEntry) → gives (store-of ts (now (objects .exit)) ps q l) (poll-of r) ≡ await-external (store-of ts (now (objects .entry)) ps q l) (o .0) call state awaiter) ⌝ }
+    requires { ⌜ ObjectsLength objects × (o .0 < object-limit) ⌝ }
+    ensures { λ r. ⌜ PollsOfObjects objects (λ s. await-external s (o .0) call state awaiter) r ⌝ }
 {
     match state {
         ExternalFutureState::Resolved(v) => Poll::Ready(v),
@@ -90,8 +88,8 @@ fn item_coroutine(
     o: HeapId,
     state: CoroutineState,
 ) -> Polled
-    requires { ⌜ (length (now tasks) ≡ tasks-length) × (length (now objects) ≡ objects-length) ⌝ }
-    ensures { λ r. ⌜ ((ps : List ℕ) (l : List LogEntry) → gives (store-of (now (tasks .exit)) (now (objects .exit)) ps (r .queue) (item-coroutine (store-of (now (tasks .entry)) (now (objects .entry)) ps queue l) (g .0) (o .0) state .store .log)) (poll-of (r .poll)) ≡ item-coroutine (store-of (now (tasks .entry)) (now (objects .entry)) ps queue l) (g .0) (o .0) state) ⌝ }
+    requires { ⌜ Lengths₂ tasks objects ⌝ }
+    ensures { λ r. ⌜ Polls tasks objects queue (λ s. item-coroutine s (g .0) (o .0) state) r ⌝ }
 {
     match state {
         CoroutineState::New => {
@@ -136,7 +134,7 @@ fn item_gather(o: HeapId, state: GatherState) -> ItemPoll
 
 // Does place `p`, which is place `i` of a gather, wait for object `o`?
 fn is_open_here(places: &[u64], waiting: u32, p: usize, i: usize, o: HeapId) -> bool
-    requires { ⌜ (length (now places) ≡ places-length) × (p < place-limit) × (i < item-limit) ⌝ }
+    requires { ⌜ PlacesLength places × (p < place-limit) × (i < item-limit) ⌝ }
     ensures { λ r. ⌜ r ≡ open-here (now (places .entry)) waiting p i (o .0) ⌝ }
 {
     if (waiting >> i) % 2 == 0 {
@@ -148,7 +146,7 @@ fn is_open_here(places: &[u64], waiting: u32, p: usize, i: usize, o: HeapId) -> 
 
 // Does an open place of the gather name object `o`?
 fn is_open(places: &[u64], w: AwaitedGather, o: HeapId) -> bool
-    requires { ⌜ (length (now places) ≡ places-length) × PlacesFit (w .first) (w .count) ⌝ }
+    requires { ⌜ PlacesLength places × PlacesFit (w .first) (w .count) ⌝ }
     ensures { λ r. ⌜ r ≡ open-from (λ p. place-at (now (places .entry)) p) (awaited-of w) (o .0) 0 (w .count) ⌝ }
 {
     let first = w.first as usize;
@@ -171,8 +169,8 @@ fn item_object(
     g: HeapId,
     o: HeapId,
 ) -> PolledItem
-    requires { ⌜ (length (now tasks) ≡ tasks-length) × (length (now objects) ≡ objects-length) × (o .0 < object-limit) ⌝ }
-    ensures { λ r. ⌜ ((ps : List ℕ) (l : List LogEntry) → with-item (store-of (now (tasks .exit)) (now (objects .exit)) ps (r .queue) (item-here (store-of (now (tasks .entry)) (now (objects .entry)) ps queue l) (g .0) (o .0) .store .log)) (r .item) ≡ item-here (store-of (now (tasks .entry)) (now (objects .entry)) ps queue l) (g .0) (o .0)) ⌝ }
+    requires { ⌜ Lengths₂And tasks objects (o .0 < object-limit) ⌝ }
+    ensures { λ r. ⌜ PollsItem tasks objects queue (λ s. item-here s (g .0) (o .0)) r ⌝ }
 {
     let x = rows::tables::load_object(objects, o);
     match x {
@@ -226,8 +224,8 @@ pub fn item(
     w: AwaitedGather,
     o: HeapId,
 ) -> PolledItem
-    requires { ⌜ (length (now tasks) ≡ tasks-length) × (length (now objects) ≡ objects-length) × (length (now places) ≡ places-length) × PlacesFit (w .first) (w .count) × (o .0 < object-limit) ⌝ }
-    ensures { λ r. ⌜ ((l : List LogEntry) → with-item (store-of (now (tasks .exit)) (now (objects .exit)) (now (places .entry)) (r .queue) (item-at (store-of (now (tasks .entry)) (now (objects .entry)) (now (places .entry)) queue l) (g .0) (awaited-of w) (o .0) .store .log)) (r .item) ≡ item-at (store-of (now (tasks .entry)) (now (objects .entry)) (now (places .entry)) queue l) (g .0) (awaited-of w) (o .0)) ⌝ }
+    requires { ⌜ LengthsAnd₂ tasks objects places (PlacesFit (w .first) (w .count)) (o .0 < object-limit) ⌝ }
+    ensures { λ r. ⌜ PollsItemOfPlaces tasks objects places queue (λ s. item-at s (g .0) (awaited-of w) (o .0)) r ⌝ }
 {
     if is_open(places, w, o) {
         return PolledItem {

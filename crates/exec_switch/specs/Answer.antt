@@ -2,10 +2,10 @@
 use Prim.Native.Nat.{ℕ}
 use mathlib.Core.List.{List}
 use Rattle.queue.specs.declared.ReadyQueue.{ReadyQueue}
-use Rattle.machine.specs.Store.{Store}
+use Rattle.machine.specs.Store.{Store, LogEntry}
 use Rattle.machine.specs.Scheduler.{pending-calls-in}
 use Rattle.machine.specs.Machine as machine
-use Rattle.contract.specs.Contract.{Slice, Does, DoesKeepingPlaces}
+use Rattle.contract.specs.Contract.{Slice, kept, Does, DoesKeepingPlaces, DoesKeepingLogAt, DoesOfObjectsAndQueue}
 use Rattle.exec_switch.specs.Control.{control-with}
 use Rattle.exec_switch.specs.declared.answer.Answer.{Answer}
 use Rattle.exec_switch.specs.declared.answer.Stepped.{Stepped}
@@ -38,3 +38,12 @@ Answers tasks objects places queue f r = Does (λ x. x .store .log) tasks object
 -- The same of a call that does not take the places.
 abbrev pub AnswersKeepingPlaces : Slice → Slice → ReadyQueue → (Store → machine.Step) → Stepped → Type 0
 AnswersKeepingPlaces tasks objects queue f r = DoesKeepingPlaces (λ x. x .store .log) tasks objects queue (r .queue) (λ s. stepped-of s (r .answer)) f
+
+-- The same of a call that takes the objects alone, and logs nothing.
+abbrev pub AnswersOfObjects : Slice → ReadyQueue → (Store → machine.Step) → Stepped → Type 0
+AnswersOfObjects objects queue f r = DoesOfObjectsAndQueue objects queue (r .queue) (λ s. stepped-of s (r .answer)) f
+
+-- and of one that takes the places, too
+abbrev pub AnswersOfObjectsAndPlaces : Slice → Slice → ReadyQueue → (Store → machine.Step) → Stepped → Type 0
+AnswersOfObjectsAndPlaces objects places queue f r =
+    (ts : List ℕ) (l : List LogEntry) → DoesKeepingLogAt l (kept ts) objects places queue (r .queue) (λ s. stepped-of s (r .answer)) f

@@ -6,12 +6,15 @@ use Rattle.asyncio.specs.Limits.{task-limit}
 use Rattle.asyncio.specs.declared.Moment.{Moment}
 use Rattle.asyncio.specs.declared.Header.{Header}
 use Rattle.rows.specs.Tables.{header-at, header-put}
-use Rattle.machine.specs.Store.{Store}
+use Rattle.queue.specs.declared.ReadyQueue.{ReadyQueue}
+use Rattle.machine.specs.Store.{Store, LogEntry}
 use Rattle.machine.specs.Scheduler.{pending-calls-in}
 use Rattle.machine.specs.Events as machine
+use Rattle.contract.specs.Contract.{Slice, kept, Does, DoesKeepingPlaces, DoesKeepingLogAt, DoesOfObjectsAndQueue}
 use Rattle.scheduler.specs.declared.tasks.Found.{Found}
 use Rattle.exec_switch.specs.declared.control.How.{How}
 use Rattle.exec_switch.specs.declared.control.Control.{Control}
+use Rattle.exec_switch.specs.declared.control.Switched.{Switched}
 use Rattle.exec_switch.specs.declared.cycle.NewFunction.{NewFunction}
 
 -- the objects' words with another moment
@@ -53,3 +56,23 @@ function-of (some f) = NewFunction.Some f
 abbrev pub FoundFits : Found → Type 0
 FoundFits (Found.At n) = n < task-limit
 FoundFits Found.Nothing = Unit {0}
+
+-- ---- what a call does
+
+-- The call gives control to whom f gives it.
+abbrev pub Switches : Slice → Slice → Slice → ReadyQueue → (Store → machine.Switched) → Switched → Type 0
+Switches tasks objects places queue f r = Does (λ x. x .store .log) tasks objects places queue (r .queue) (λ s. switched-of s (r .control)) f
+
+-- The same of a call that does not take the places.
+abbrev pub SwitchesKeepingPlaces : Slice → Slice → ReadyQueue → (Store → machine.Switched) → Switched → Type 0
+SwitchesKeepingPlaces tasks objects queue f r =
+    DoesKeepingPlaces (λ x. x .store .log) tasks objects queue (r .queue) (λ s. switched-of s (r .control)) f
+
+-- and logs nothing
+abbrev pub SwitchesKeepingLog : Slice → Slice → ReadyQueue → (Store → machine.Switched) → Switched → Type 0
+SwitchesKeepingLog tasks objects queue f r =
+    (ps : List ℕ) (l : List LogEntry) → DoesKeepingLogAt l tasks objects (kept ps) queue (r .queue) (λ s. switched-of s (r .control)) f
+
+-- and does not take the tasks either
+abbrev pub SwitchesOfObjects : Slice → ReadyQueue → (Store → machine.Switched) → Switched → Type 0
+SwitchesOfObjects objects queue f r = DoesOfObjectsAndQueue objects queue (r .queue) (λ s. switched-of s (r .control)) f

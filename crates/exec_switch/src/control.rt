@@ -8,13 +8,11 @@ use asyncio::TaskState;
 use asyncio::Value;
 use queue::ReadyQueue;
 ghost use mathlib.Core.Path.{_≡_};
-ghost use mathlib.Core.List.{List};
-ghost use Prim.Native.Nat.{ℕ, _<_};
-ghost use lib.ListN.{length};
-ghost use Rattle.asyncio.specs.Limits.{task-limit, tasks-length, objects-length};
-ghost use Rattle.machine.specs.Store.{LogEntry, store-of};
+ghost use Prim.Native.Nat.{_<_};
+ghost use Rattle.asyncio.specs.Limits.{task-limit};
 ghost use Rattle.machine.specs.Events.{run, yield};
-ghost use Rattle.exec_switch.specs.Control.{moment-put, how-of, switched-of};
+ghost use Rattle.exec_switch.specs.Control.{moment-put, how-of, SwitchesKeepingLog, SwitchesOfObjects};
+ghost use Rattle.contract.specs.Contract.{ObjectsLength, Lengths₂And};
 
 // How a task goes on: it starts a coroutine with its function, receives a value, raises an error, or runs a coroutine inline.
 pub enum How {
@@ -38,7 +36,7 @@ pub struct Switched {
 
 // The moment of the session.
 fn set_moment(objects: &mut [u64], moment: Moment)
-    requires { ⌜ length (now objects) ≡ objects-length ⌝ }
+    requires { ⌜ ObjectsLength objects ⌝ }
     ensures { λ _. ⌜ now (objects .exit) ≡ moment-put (now (objects .entry)) moment ⌝ }
 {
     let header = rows::tables::load_header(objects);
@@ -62,8 +60,8 @@ pub fn run(
     t: TaskId,
     how: How,
 ) -> Switched
-    requires { ⌜ (length (now tasks) ≡ tasks-length) × (length (now objects) ≡ objects-length) × (t .0 < task-limit) ⌝ }
-    ensures { λ r. ⌜ ((ps : List ℕ) (l : List LogEntry) → switched-of (store-of (now (tasks .exit)) (now (objects .exit)) ps (r .queue) l) (r .control) ≡ run (store-of (now (tasks .entry)) (now (objects .entry)) ps queue l) (t .0) (how-of how)) ⌝ }
+    requires { ⌜ Lengths₂And tasks objects (t .0 < task-limit) ⌝ }
+    ensures { λ r. ⌜ SwitchesKeepingLog tasks objects queue (λ s. run s (t .0) (how-of how)) r ⌝ }
 {
     scheduler::states::set_state(tasks, t, TaskState::Running);
     set_moment(objects, Moment::Running(t));
@@ -75,8 +73,8 @@ pub fn run(
 
 // The host has control.
 pub fn yield_control(objects: &mut [u64], queue: ReadyQueue) -> Switched
-    requires { ⌜ length (now objects) ≡ objects-length ⌝ }
-    ensures { λ r. ⌜ ((ts ps : List ℕ) (l : List LogEntry) → switched-of (store-of ts (now (objects .exit)) ps (r .queue) l) (r .control) ≡ yield (store-of ts (now (objects .entry)) ps queue l)) ⌝ }
+    requires { ⌜ ObjectsLength objects ⌝ }
+    ensures { λ r. ⌜ SwitchesOfObjects objects queue yield r ⌝ }
 {
     set_moment(objects, Moment::Waiting);
     Switched {

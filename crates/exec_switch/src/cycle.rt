@@ -14,15 +14,13 @@ use queue::ReadyQueue;
 use scheduler::states::remove_task;
 use scheduler::tasks::Found;
 ghost use mathlib.Core.Path.{_≡_};
-ghost use mathlib.Core.List.{List};
-ghost use Prim.Native.Nat.{ℕ, _<_};
-ghost use lib.ListN.{length};
-ghost use Rattle.asyncio.specs.Limits.{task-limit, object-limit, tasks-length, objects-length, places-length};
+ghost use Prim.Native.Nat.{_<_};
+ghost use Rattle.asyncio.specs.Limits.{task-limit, object-limit};
 ghost use Rattle.rows.specs.Tables.{object-at};
 ghost use Rattle.exec_fill.specs.Delivered.{delivered};
-ghost use Rattle.machine.specs.Store.{LogEntry, store-of};
 ghost use Rattle.machine.specs.Events.{new-function, activate, start-task, handle-task-failure, resume-after-task-exit, resume-next};
-ghost use Rattle.exec_switch.specs.Control.{switched-of, function-of, FoundFits};
+ghost use Rattle.exec_switch.specs.Control.{function-of, FoundFits, SwitchesKeepingPlaces};
+ghost use Rattle.contract.specs.Contract.{ObjectsLength, Lengths₂, Lengths₂And};
 
 // The function of a new coroutine.
 pub enum NewFunction {
@@ -31,7 +29,7 @@ pub enum NewFunction {
 }
 
 fn new_function(objects: &[u64], c: HeapId) -> NewFunction
-    requires { ⌜ (length (now objects) ≡ objects-length) × (c .0 < object-limit) ⌝ }
+    requires { ⌜ ObjectsLength objects × (c .0 < object-limit) ⌝ }
     ensures { λ r. ⌜ r ≡ function-of (new-function (object-at (now (objects .entry)) (c .0))) ⌝ }
 {
     let x = rows::tables::load_object(objects, c);
@@ -58,8 +56,8 @@ pub fn activate_task(
     queue: ReadyQueue,
     t: TaskId,
 ) -> Switched
-    requires { ⌜ (length (now tasks) ≡ tasks-length) × (length (now objects) ≡ objects-length) × (t .0 < task-limit) ⌝ }
-    ensures { λ r. ⌜ ((ps : List ℕ) (l : List LogEntry) → length ps ≡ places-length → switched-of (store-of (now (tasks .exit)) (now (objects .exit)) ps (r .queue) (activate (store-of (now (tasks .entry)) (now (objects .entry)) ps queue l) (t .0) .store .log)) (r .control) ≡ activate (store-of (now (tasks .entry)) (now (objects .entry)) ps queue l) (t .0)) ⌝ }
+    requires { ⌜ Lengths₂And tasks objects (t .0 < task-limit) ⌝ }
+    ensures { λ r. ⌜ SwitchesKeepingPlaces tasks objects queue (λ s. activate s (t .0)) r ⌝ }
 {
     let state = rows::parts::state_at(tasks, t);
     match state {
@@ -74,8 +72,8 @@ pub fn activate_task(
 
 // The first run of a task: a coroutine that is not new any more fails it.
 fn start_task(tasks: &mut [u64], objects: &mut [u64], queue: ReadyQueue, t: TaskId) -> Switched
-    requires { ⌜ (length (now tasks) ≡ tasks-length) × (length (now objects) ≡ objects-length) × (t .0 < task-limit) ⌝ }
-    ensures { λ r. ⌜ ((ps : List ℕ) (l : List LogEntry) → length ps ≡ places-length → switched-of (store-of (now (tasks .exit)) (now (objects .exit)) ps (r .queue) (start-task activate (store-of (now (tasks .entry)) (now (objects .entry)) ps queue l) (t .0) .store .log)) (r .control) ≡ start-task activate (store-of (now (tasks .entry)) (now (objects .entry)) ps queue l) (t .0)) ⌝ }
+    requires { ⌜ Lengths₂And tasks objects (t .0 < task-limit) ⌝ }
+    ensures { λ r. ⌜ SwitchesKeepingPlaces tasks objects queue (λ s. start-task activate s (t .0)) r ⌝ }
 {
     let c = rows::parts::coroutine_at(tasks, t);
     let f = new_function(objects, c);
@@ -112,8 +110,8 @@ pub fn handle_task_failure(
     t: TaskId,
     error: Error,
 ) -> Switched
-    requires { ⌜ (length (now tasks) ≡ tasks-length) × (length (now objects) ≡ objects-length) × (t .0 < task-limit) ⌝ }
-    ensures { λ r. ⌜ ((ps : List ℕ) (l : List LogEntry) → length ps ≡ places-length → switched-of (store-of (now (tasks .exit)) (now (objects .exit)) ps (r .queue) (handle-task-failure activate (store-of (now (tasks .entry)) (now (objects .entry)) ps queue l) (t .0) error .store .log)) (r .control) ≡ handle-task-failure activate (store-of (now (tasks .entry)) (now (objects .entry)) ps queue l) (t .0) error) ⌝ }
+    requires { ⌜ Lengths₂And tasks objects (t .0 < task-limit) ⌝ }
+    ensures { λ r. ⌜ SwitchesKeepingPlaces tasks objects queue (λ s. handle-task-failure activate s (t .0) error) r ⌝ }
 {
     let awaiter = rows::parts::task_awaiter_at(tasks, t);
     let d = deliver_awaiter_failure(tasks, objects, queue, awaiter, error);
@@ -130,8 +128,9 @@ pub fn resume_after_task_exit(
     queue: ReadyQueue,
     woken: Found,
 ) -> Switched
-    requires { ⌜ (length (now tasks) ≡ tasks-length) × (length (now objects) ≡ objects-length) × FoundFits woken ⌝ }
-    ensures { λ r. ⌜ ((ps : List ℕ) (l : List LogEntry) → length ps ≡ places-length → switched-of (store-of (now (tasks .exit)) (now (objects .exit)) ps (r .queue) (resume-after-task-exit activate (delivered (store-of (now (tasks .entry)) (now (objects .entry)) ps queue l) woken) .store .log)) (r .control) ≡ resume-after-task-exit activate (delivered (store-of (now (tasks .entry)) (now (objects .entry)) ps queue l) woken)) ⌝ }
+    requires { ⌜ Lengths₂And tasks objects (FoundFits woken) ⌝ }
+    ensures { λ r. ⌜ SwitchesKeepingPlaces tasks objects queue
+        (λ s. resume-after-task-exit activate (delivered s woken)) r ⌝ }
 {
     match woken {
         Found::Nothing => switch_or_yield(tasks, objects, queue),
@@ -144,8 +143,8 @@ pub fn resume_after_task_exit(
 
 // The task at the queue's front, or the host.
 pub fn switch_or_yield(tasks: &mut [u64], objects: &mut [u64], queue: ReadyQueue) -> Switched
-    requires { ⌜ (length (now tasks) ≡ tasks-length) × (length (now objects) ≡ objects-length) ⌝ }
-    ensures { λ r. ⌜ ((ps : List ℕ) (l : List LogEntry) → length ps ≡ places-length → switched-of (store-of (now (tasks .exit)) (now (objects .exit)) ps (r .queue) (resume-next activate (store-of (now (tasks .entry)) (now (objects .entry)) ps queue l) .store .log)) (r .control) ≡ resume-next activate (store-of (now (tasks .entry)) (now (objects .entry)) ps queue l)) ⌝ }
+    requires { ⌜ Lengths₂ tasks objects ⌝ }
+    ensures { λ r. ⌜ SwitchesKeepingPlaces tasks objects queue (λ s. resume-next activate s) r ⌝ }
 {
     if queue.len == 0 {
         return yield_control(objects, queue);

@@ -6,3 +6,4 @@ pub mod Spawn
 pub mod SpawnLaws
 pub mod Ends
 pub mod EndLaws
+pub mod States

@@ -4,11 +4,13 @@ use mathlib.Core.Bool.{Bool, true, false}
 use mathlib.Core.List.{List, _∷_}
 use mathlib.Core.Option.{Option, none, some}
 use Prim.Native.Nat.{ℕ}
+use denote.Ref.{now}
 use Rattle.asyncio.specs.declared.Header.{Header}
 use Rattle.rows.specs.Tables.{header-at}
 use Rattle.queue.specs.declared.ReadyQueue.{ReadyQueue}
 use Rattle.machine.specs.Store.{LogEntry, spawned, store-of}
 use Rattle.machine.specs.Scheduler.{spawn, spawn-as}
+use Rattle.contract.specs.Contract.{Slice}
 
 -- from ts, os and q to ts′, os′ and q′, where the header of os is h: the machine's spawn-as
 pub record SpawnsAs (ts os : List ℕ) (q : ReadyQueue) (h : Header) (c g : ℕ) (ts′ os′ : List ℕ) (q′ : ReadyQueue) : Type 0 where
@@ -21,3 +23,12 @@ pub data Spawns (ts os : List ℕ) (q : ReadyQueue) (c g : ℕ) : List ℕ → L
       → ((ps : List ℕ) (l : List LogEntry) → spawn (store-of ts os ps q l) c g ≡ some (store-of ts′ os′ ps q′ (spawned (header-at os .next) c ∷ l)))
       → Spawns ts os q c g ts′ os′ q′ true
   not-done : ((ps : List ℕ) (l : List LogEntry) → spawn (store-of ts os ps q l) c g ≡ none) → Spawns ts os q c g ts os q false
+
+-- both, of a call
+abbrev pub SpawnsTaskAs : Slice → Slice → ReadyQueue → Header → ℕ → ℕ → ReadyQueue → Type 0
+SpawnsTaskAs tasks objects queue h c g left =
+    SpawnsAs (now (tasks .entry)) (now (objects .entry)) queue h c g (now (tasks .exit)) (now (objects .exit)) left
+
+abbrev pub SpawnsTask : Slice → Slice → ReadyQueue → ℕ → ℕ → ReadyQueue → Bool → Type 0
+SpawnsTask tasks objects queue c g left b =
+    Spawns (now (tasks .entry)) (now (objects .entry)) queue c g (now (tasks .exit)) (now (objects .exit)) left b

@@ -8,19 +8,16 @@ use asyncio::TaskId;
 use asyncio::TaskState;
 use queue::ReadyQueue;
 ghost use mathlib.Core.Path.{_≡_};
-ghost use mathlib.Core.List.{List};
-ghost use Prim.Native.Nat.{ℕ, _<_, _≤_};
-ghost use lib.ListN.{length};
-ghost use Rattle.asyncio.specs.Limits.{task-limit, object-limit, tasks-length, objects-length};
-ghost use Rattle.machine.specs.Store.{LogEntry, store-of};
-ghost use Rattle.machine.specs.Scheduler.{pending-calls-in, cleanup};
+ghost use Prim.Native.Nat.{_<_, _≤_};
+ghost use Rattle.asyncio.specs.Limits.{task-limit};
+ghost use Rattle.machine.specs.Scheduler.{pending-calls-in};
 ghost use Rattle.machine.specs.Machine.{is-empty, can-await-eagerly};
-ghost use Rattle.queue.specs.declared.ReadyQueue.{ReadyQueue};
-ghost use Rattle.scheduler.specs.Ends.{clear-one, clear-from};
+ghost use Rattle.scheduler.specs.Ends.{clear-one, clear-from, Cleans};
+ghost use Rattle.contract.specs.Contract.{TasksLength, ObjectsLength, Lengths₂, ReadsObjectsAndQueue};
 
 // Is no call pending?
 pub fn no_call_pending(objects: &[u64]) -> bool
-    requires { ⌜ length (now objects) ≡ objects-length ⌝ }
+    requires { ⌜ ObjectsLength objects ⌝ }
     ensures { λ r. ⌜ r ≡ is-empty (pending-calls-in (now (objects .entry))) ⌝ }
 {
     let header = rows::tables::load_header(objects);
@@ -38,8 +35,8 @@ pub fn no_call_pending(objects: &[u64]) -> bool
 
 // May a call be answered at once? Nothing is ready and no call is pending; after the session's end none is.
 pub fn can_await_eagerly(objects: &[u64], queue: ReadyQueue) -> bool
-    requires { ⌜ length (now objects) ≡ objects-length ⌝ }
-    ensures { λ r. ⌜ ((ts ps : List ℕ) (l : List LogEntry) → r ≡ can-await-eagerly (store-of ts (now (objects .entry)) ps queue l)) ⌝ }
+    requires { ⌜ ObjectsLength objects ⌝ }
+    ensures { λ r. ⌜ ReadsObjectsAndQueue objects queue can-await-eagerly r ⌝ }
 {
     if queue.len == 0 {
         let header = rows::tables::load_header(objects);
@@ -55,7 +52,7 @@ pub fn can_await_eagerly(objects: &[u64], queue: ReadyQueue) -> bool
 
 // Row `t` cleared, if it is a live task's.
 fn clear_one(tasks: &mut [u64], t: TaskId)
-    requires { ⌜ (length (now tasks) ≡ tasks-length) × (t .0 < task-limit) ⌝ }
+    requires { ⌜ TasksLength tasks × (t .0 < task-limit) ⌝ }
     ensures { λ _. ⌜ now (tasks .exit) ≡ clear-one (now (tasks .entry)) (t .0) ⌝ }
 {
     let state = rows::parts::state_at(tasks, t);
@@ -71,7 +68,7 @@ fn clear_one(tasks: &mut [u64], t: TaskId)
 
 // The rows of the live tasks below `next` cleared.
 fn clear_tasks(tasks: &mut [u64], next: u16)
-    requires { ⌜ (length (now tasks) ≡ tasks-length) × (next ≤ task-limit) ⌝ }
+    requires { ⌜ TasksLength tasks × (next ≤ task-limit) ⌝ }
     ensures { λ _. ⌜ now (tasks .exit) ≡ clear-from (now (tasks .entry)) 0 next ⌝ }
 {
     let mut t: u16 = 0;
@@ -83,8 +80,8 @@ fn clear_tasks(tasks: &mut [u64], next: u16)
 
 // The session ends: no task is left, and none is ready.
 pub fn cleanup(tasks: &mut [u64], objects: &mut [u64]) -> ReadyQueue
-    requires { ⌜ (length (now tasks) ≡ tasks-length) × (length (now objects) ≡ objects-length) ⌝ }
-    ensures { λ r. ⌜ ((ps : List ℕ) (q : ReadyQueue) (l : List LogEntry) → store-of (now (tasks .exit)) (now (objects .exit)) ps r (cleanup (store-of (now (tasks .entry)) (now (objects .entry)) ps q l) .log) ≡ cleanup (store-of (now (tasks .entry)) (now (objects .entry)) ps q l)) ⌝ }
+    requires { ⌜ Lengths₂ tasks objects ⌝ }
+    ensures { λ r. ⌜ Cleans tasks objects r ⌝ }
 {
     let header = rows::tables::load_header(objects);
     clear_tasks(tasks, header.next);

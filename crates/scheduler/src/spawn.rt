@@ -8,14 +8,10 @@ use asyncio::Task;
 use asyncio::TaskId;
 use asyncio::TaskState;
 use queue::ReadyQueue;
-ghost use mathlib.Core.Path.{_≡_};
-ghost use mathlib.Core.List.{List};
-ghost use Prim.Native.Nat.{ℕ, _<_, _≤_};
-ghost use lib.ListN.{length};
-ghost use Rattle.asyncio.specs.Limits.{task-limit, object-limit, tasks-length, objects-length};
-ghost use Rattle.machine.specs.Store.{LogEntry, store-of};
-ghost use Rattle.machine.specs.Scheduler.{spawn, spawn-as};
-ghost use Rattle.scheduler.specs.Spawn.{SpawnsAs, Spawns};
+ghost use Prim.Native.Nat.{_<_};
+ghost use Rattle.asyncio.specs.Limits.{task-limit};
+ghost use Rattle.contract.specs.Contract.{Lengths₂, Lengths₂And};
+ghost use Rattle.scheduler.specs.Spawn.{SpawnsTaskAs, SpawnsTask};
 
 // Whether a task was spawned, and the queue.
 pub struct Spawned {
@@ -32,8 +28,8 @@ fn spawn_as(
     c: HeapId,
     g: HeapId,
 ) -> ReadyQueue
-    requires { ⌜ (length (now tasks) ≡ tasks-length) × (length (now objects) ≡ objects-length) × (header .next < task-limit) ⌝ }
-    ensures { λ r. ⌜ SpawnsAs (now (tasks .entry)) (now (objects .entry)) queue header (c .0) (g .0) (now (tasks .exit)) (now (objects .exit)) r ⌝ }
+    requires { ⌜ Lengths₂And tasks objects (header .next < task-limit) ⌝ }
+    ensures { λ r. ⌜ SpawnsTaskAs tasks objects queue header (c .0) (g .0) r ⌝ }
 {
     let t = TaskId::new(header.next);
     let moment = header.moment;
@@ -67,8 +63,8 @@ pub fn spawn(
     c: HeapId,
     g: HeapId,
 ) -> Spawned
-    requires { ⌜ (length (now tasks) ≡ tasks-length) × (length (now objects) ≡ objects-length) ⌝ }
-    ensures { λ r. ⌜ Spawns (now (tasks .entry)) (now (objects .entry)) queue (c .0) (g .0) (now (tasks .exit)) (now (objects .exit)) (r .queue) (r .done) ⌝ }
+    requires { ⌜ Lengths₂ tasks objects ⌝ }
+    ensures { λ r. ⌜ SpawnsTask tasks objects queue (c .0) (g .0) (r .queue) (r .done) ⌝ }
 {
     let header = rows::tables::load_header(objects);
     let next = header.next;

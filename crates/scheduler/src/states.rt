@@ -6,20 +6,19 @@ use asyncio::TaskId;
 use asyncio::TaskState;
 use queue::ReadyQueue;
 ghost use mathlib.Core.Path.{_≡_};
-ghost use mathlib.Core.List.{List};
-ghost use Prim.Native.Nat.{ℕ, _<_};
-ghost use lib.ListN.{length};
-ghost use Rattle.asyncio.specs.Limits.{task-limit, object-limit, tasks-length};
+ghost use Prim.Native.Nat.{_<_};
+ghost use Rattle.asyncio.specs.Limits.{task-limit};
 ghost use Rattle.asyncio.specs.States.{is-blocked};
-ghost use Rattle.rows.specs.Tables.{task-at, task-put};
-ghost use Rattle.machine.specs.Store.{LogEntry, store-of, restate, set-state};
+ghost use Rattle.rows.specs.Tables.{task-at};
 ghost use Rattle.machine.specs.Scheduler.{make-ready, remove-task};
 ghost use Rattle.asyncio.specs.declared.TaskState.{TaskState};
+ghost use Rattle.contract.specs.Contract.{TasksLength, ChangesTasks};
+ghost use Rattle.scheduler.specs.States.{Restates};
 
 // Task `t` in another state.
 pub fn set_state(tasks: &mut [u64], t: TaskId, state: TaskState)
-    requires { ⌜ (length (now tasks) ≡ tasks-length) × (t .0 < task-limit) ⌝ }
-    ensures { λ _. ⌜ now (tasks .exit) ≡ task-put (now (tasks .entry)) (t .0) (restate (task-at (now (tasks .entry)) (t .0)) state) ⌝ }
+    requires { ⌜ TasksLength tasks × (t .0 < task-limit) ⌝ }
+    ensures { λ _. ⌜ Restates tasks (t .0) state ⌝ }
 {
     let old = rows::tables::load_task(tasks, t);
     let awaiter = old.awaiter;
@@ -37,7 +36,7 @@ pub fn set_state(tasks: &mut [u64], t: TaskId, state: TaskState)
 
 // Is task `t` waiting for an awaitable to settle?
 pub fn is_blocked(tasks: &[u64], t: TaskId) -> bool
-    requires { ⌜ (length (now tasks) ≡ tasks-length) × (t .0 < task-limit) ⌝ }
+    requires { ⌜ TasksLength tasks × (t .0 < task-limit) ⌝ }
     ensures { λ r. ⌜ r ≡ is-blocked (task-at (now (tasks .entry)) (t .0) .state) ⌝ }
 {
     let state = rows::parts::state_at(tasks, t);
@@ -46,8 +45,8 @@ pub fn is_blocked(tasks: &[u64], t: TaskId) -> bool
 
 // Task `t` is given a value or an error, and goes to the queue's back.
 pub fn make_ready(tasks: &mut [u64], queue: ReadyQueue, t: TaskId, state: TaskState) -> ReadyQueue
-    requires { ⌜ (length (now tasks) ≡ tasks-length) × (t .0 < task-limit) ⌝ }
-    ensures { λ r. ⌜ ((os ps : List ℕ) (l : List LogEntry) → store-of (now (tasks .exit)) os ps r l ≡ make-ready (store-of (now (tasks .entry)) os ps queue l) (t .0) state) ⌝ }
+    requires { ⌜ TasksLength tasks × (t .0 < task-limit) ⌝ }
+    ensures { λ r. ⌜ ChangesTasks tasks queue r (λ s. make-ready s (t .0) state) ⌝ }
 {
     set_state(tasks, t, state);
     queue.push_back(t)
@@ -55,16 +54,16 @@ pub fn make_ready(tasks: &mut [u64], queue: ReadyQueue, t: TaskId, state: TaskSt
 
 // Task `t` waits for object `o`.
 pub fn block_current_on(tasks: &mut [u64], t: TaskId, o: HeapId)
-    requires { ⌜ (length (now tasks) ≡ tasks-length) × (t .0 < task-limit) ⌝ }
-    ensures { λ _. ⌜ now (tasks .exit) ≡ task-put (now (tasks .entry)) (t .0) (restate (task-at (now (tasks .entry)) (t .0)) (TaskState.Blocked o)) ⌝ }
+    requires { ⌜ TasksLength tasks × (t .0 < task-limit) ⌝ }
+    ensures { λ _. ⌜ Restates tasks (t .0) (TaskState.Blocked o) ⌝ }
 {
     set_state(tasks, t, TaskState::Blocked(o));
 }
 
 // Task `t` is live no more, and not ready.
 pub fn remove_task(tasks: &mut [u64], queue: ReadyQueue, t: TaskId) -> ReadyQueue
-    requires { ⌜ (length (now tasks) ≡ tasks-length) × (t .0 < task-limit) ⌝ }
-    ensures { λ r. ⌜ ((os ps : List ℕ) (l : List LogEntry) → store-of (now (tasks .exit)) os ps r l ≡ remove-task (store-of (now (tasks .entry)) os ps queue l) (t .0)) ⌝ }
+    requires { ⌜ TasksLength tasks × (t .0 < task-limit) ⌝ }
+    ensures { λ r. ⌜ ChangesTasks tasks queue r (λ s. remove-task s (t .0)) ⌝ }
 {
     let absent = Task {
         state: TaskState::Absent,

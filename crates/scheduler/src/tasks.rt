@@ -3,11 +3,11 @@ use asyncio::HeapId;
 use asyncio::TaskId;
 ghost use mathlib.Core.Path.{_≡_};
 ghost use Prim.Native.Nat.{_<_, _≤_};
-ghost use lib.ListN.{length};
-ghost use Rattle.asyncio.specs.Limits.{task-limit, object-limit, tasks-length, objects-length};
+ghost use Rattle.asyncio.specs.Limits.{task-limit, object-limit};
 ghost use Rattle.rows.specs.Tables.{task-at};
 ghost use Rattle.machine.specs.Scheduler.{is-task-of, task-of-in, is-call, pending-external-in};
 ghost use Rattle.scheduler.specs.Search.{found};
+ghost use Rattle.contract.specs.Contract.{TasksLength, ObjectsLength};
 
 // What a search found: a number, or nothing.
 pub enum Found {
@@ -17,7 +17,7 @@ pub enum Found {
 
 // Does task `t` live and drive object `c`?
 fn is_task_of(tasks: &[u64], t: TaskId, c: HeapId) -> bool
-    requires { ⌜ (length (now tasks) ≡ tasks-length) × (t .0 < task-limit) ⌝ }
+    requires { ⌜ TasksLength tasks × (t .0 < task-limit) ⌝ }
     ensures { λ r. ⌜ r ≡ is-task-of (c .0) (task-at (now (tasks .entry)) (t .0)) ⌝ }
 {
     let state = rows::parts::state_at(tasks, t);
@@ -30,7 +30,7 @@ fn is_task_of(tasks: &[u64], t: TaskId, c: HeapId) -> bool
 
 // The live spawned task below `next` that drives object `c`.
 pub fn task_of(tasks: &[u64], next: u16, c: HeapId) -> Found
-    requires { ⌜ (length (now tasks) ≡ tasks-length) × (next ≤ task-limit) ⌝ }
+    requires { ⌜ TasksLength tasks × (next ≤ task-limit) ⌝ }
     ensures { λ r. ⌜ r ≡ found (task-of-in (now (tasks .entry)) next (c .0)) ⌝ }
 {
     let mut t: u16 = 1;
@@ -45,7 +45,7 @@ pub fn task_of(tasks: &[u64], next: u16, c: HeapId) -> Found
 
 // Is object `o` a pending external of that call?
 fn is_call(objects: &[u64], call: u32, o: HeapId) -> bool
-    requires { ⌜ (length (now objects) ≡ objects-length) × (o .0 < object-limit) ⌝ }
+    requires { ⌜ ObjectsLength objects × (o .0 < object-limit) ⌝ }
     ensures { λ r. ⌜ r ≡ is-call (now (objects .entry)) call (o .0) ⌝ }
 {
     let kind = rows::parts::kind_at(objects, o);
@@ -58,7 +58,7 @@ fn is_call(objects: &[u64], call: u32, o: HeapId) -> bool
 
 // The pending external of a call. A call number that was cut to nothing finds nothing: it is compared whole.
 pub fn take_pending_external(objects: &[u64], call: u32) -> Found
-    requires { ⌜ length (now objects) ≡ objects-length ⌝ }
+    requires { ⌜ ObjectsLength objects ⌝ }
     ensures { λ r. ⌜ r ≡ found (pending-external-in (now (objects .entry)) call) ⌝ }
 {
     let header = rows::tables::load_header(objects);

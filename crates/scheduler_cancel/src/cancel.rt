@@ -6,24 +6,20 @@ use queue::ReadyQueue;
 use scheduler::states::remove_task;
 use scheduler::tasks::Found;
 ghost use mathlib.Core.Path.{_≡_};
-ghost use mathlib.Core.List.{List};
 ghost use Prim.Native.Nat.{ℕ, _<_, _≤_, _+_};
-ghost use lib.ListN.{length};
-ghost use Rattle.asyncio.specs.Limits.{task-limit, object-limit, place-limit, item-limit, tasks-length, objects-length, places-length};
+ghost use Rattle.asyncio.specs.Limits.{task-limit, object-limit, place-limit, item-limit};
 ghost use Rattle.asyncio.specs.declared.Awaiter.{Awaiter};
-ghost use Rattle.queue.specs.declared.ReadyQueue.{ReadyQueue};
 ghost use Rattle.rows.specs.Tables.{task-at, object-at};
-ghost use Rattle.machine.specs.Store.{LogEntry, store-of};
 ghost use Rattle.machine.specs.Scheduler.{as-awaited, blocked-on, task-of-in, still-live, reach, remove-blocked, visit, visit-place, visit-open, walk-gather, cancel-task};
-ghost use Rattle.machine_laws.specs.Statements.{unmarked};
 ghost use Rattle.scheduler.specs.Search.{found};
-ghost use Rattle.scheduler_cancel.specs.Cancel.{put-task-of, tasks-of-in, walked, walk-of, Shows, awaited-places};
+ghost use Rattle.scheduler_cancel.specs.Cancel.{put-task-of, tasks-of-in, awaited-places, TableLength, MarksLength, Reaches, WalksOfTasks, WalksKeepingPlaces, Walks, HasRoom};
+ghost use Rattle.contract.specs.Contract.{TasksLength, ObjectsLength, PlacesLength, LengthsAnd, Changes};
 
 // ---- which task drives a coroutine: a table of one word for each object, 0 where no task does (task 0 is main)
 
 // Task `t` is noted at its coroutine, if it lives.
 fn put_task_of(tasks: &[u64], table: &mut [u64], t: TaskId)
-    requires { ⌜ (length (now tasks) ≡ tasks-length) × (length (now table) ≡ object-limit) × (t .0 < task-limit) ⌝ }
+    requires { ⌜ TasksLength tasks × TableLength table × (t .0 < task-limit) ⌝ }
     ensures { λ _. ⌜ now (table .exit) ≡ put-task-of (now (tasks .entry)) (t .0) (now (table .entry)) ⌝ }
 {
     let state = rows::parts::state_at(tasks, t);
@@ -36,7 +32,7 @@ fn put_task_of(tasks: &[u64], table: &mut [u64], t: TaskId)
 
 // The drivers of all objects, in one pass over the tasks: downward, so that the lowest number stays.
 fn find_tasks(tasks: &[u64], next: u16) -> [u64; 256]
-    requires { ⌜ (length (now tasks) ≡ tasks-length) × (next ≤ task-limit) ⌝ }
+    requires { ⌜ TasksLength tasks × (next ≤ task-limit) ⌝ }
     ensures { λ r. ⌜ ((c : ℕ) → tasks-of-in r c ≡ task-of-in (now (tasks .entry)) next c) ⌝ }
 {
     let mut table = [0u64; 256];
@@ -50,7 +46,7 @@ fn find_tasks(tasks: &[u64], next: u16) -> [u64; 256]
 
 // The task that drives object `o` by the table, if it still lives.
 fn live_task_of(tasks: &[u64], table: &[u64], o: HeapId) -> Found
-    requires { ⌜ (length (now tasks) ≡ tasks-length) × (length (now table) ≡ object-limit) × (o .0 < object-limit) ⌝ }
+    requires { ⌜ TasksLength tasks × TableLength table × (o .0 < object-limit) ⌝ }
     ensures { λ r. ⌜ r ≡ found (still-live (now (tasks .entry)) (tasks-of-in (now (table .entry)) (o .0))) ⌝ }
 {
     let i = o.0 as usize;
@@ -89,8 +85,8 @@ fn blocked_on(state: TaskState) -> Found
 
 // Gather `g` is marked and put on the stack, if it is awaited and was not marked. The depth of the stack then.
 fn reach(objects: &[u64], marks: &mut [bool], stack: &mut [u64], depth: usize, g: HeapId) -> usize
-    requires { ⌜ (length (now objects) ≡ objects-length) × (length (now marks) ≡ object-limit) × (length (now stack) ≡ object-limit) × (unmarked (now marks) + depth ≤ object-limit) × (g .0 < object-limit) ⌝ }
-    ensures { λ r. ⌜ ((ds ts ps : List ℕ) (q : ReadyQueue) (l : List LogEntry) → walk-of ds ts (now (objects .entry)) ps (walked q r) l (now (marks .exit)) (now (stack .exit)) ≡ reach (walk-of ds ts (now (objects .entry)) ps (walked q depth) l (now (marks .entry)) (now (stack .entry))) (g .0)) ⌝ }
+    requires { ⌜ ObjectsLength objects × MarksLength marks × TableLength stack × HasRoom marks depth × (g .0 < object-limit) ⌝ }
+    ensures { λ r. ⌜ Reaches objects marks stack depth (λ w. reach w (g .0)) r ⌝ }
 {
     let i = g.0 as usize;
     let kind = rows::parts::kind_at(objects, g);
@@ -114,8 +110,10 @@ fn remove_blocked(
     at: Walked,
     t: TaskId,
 ) -> Walked
-    requires { ⌜ (length (now tasks) ≡ tasks-length) × (length (now objects) ≡ objects-length) × (length (now marks) ≡ object-limit) × (length (now stack) ≡ object-limit) × (unmarked (now marks) + at .depth ≤ object-limit) × (t .0 < task-limit) ⌝ }
-    ensures { λ r. ⌜ ((ds ps : List ℕ) (l : List LogEntry) → Shows ds (now (tasks .exit)) (now (objects .entry)) ps r (now (marks .exit)) (now (stack .exit)) (remove-blocked (walk-of ds (now (tasks .entry)) (now (objects .entry)) ps at l (now (marks .entry)) (now (stack .entry))) (t .0) (blocked-on (task-at (now (tasks .entry)) (t .0) .state)))) ⌝ }
+    requires { ⌜ TasksLength tasks × ObjectsLength objects × MarksLength marks × TableLength stack
+        × HasRoom marks (at .depth) × (t .0 < task-limit) ⌝ }
+    ensures { λ r. ⌜ WalksOfTasks tasks objects marks stack at
+        (λ w. remove-blocked w (t .0) (blocked-on (task-at (now (tasks .entry)) (t .0) .state))) r ⌝ }
 {
     let state = rows::parts::state_at(tasks, t);
     let blocked = blocked_on(state);
@@ -143,8 +141,9 @@ fn visit(
     at: Walked,
     o: HeapId,
 ) -> Walked
-    requires { ⌜ (length (now tasks) ≡ tasks-length) × (length (now objects) ≡ objects-length) × (length (now table) ≡ object-limit) × (length (now marks) ≡ object-limit) × (length (now stack) ≡ object-limit) × (unmarked (now marks) + at .depth ≤ object-limit) × (o .0 < object-limit) ⌝ }
-    ensures { λ r. ⌜ ((ps : List ℕ) (l : List LogEntry) → Shows (now (table .entry)) (now (tasks .exit)) (now (objects .entry)) ps r (now (marks .exit)) (now (stack .exit)) (visit (walk-of (now (table .entry)) (now (tasks .entry)) (now (objects .entry)) ps at l (now (marks .entry)) (now (stack .entry))) (o .0))) ⌝ }
+    requires { ⌜ TasksLength tasks × ObjectsLength objects × TableLength table × MarksLength marks × TableLength stack
+        × HasRoom marks (at .depth) × (o .0 < object-limit) ⌝ }
+    ensures { λ r. ⌜ WalksKeepingPlaces table tasks objects marks stack at (λ w. visit w (o .0)) r ⌝ }
 {
     let d = live_task_of(tasks, table, o);
     match d {
@@ -170,8 +169,9 @@ fn visit_place(
     i: usize,
     waiting: u32,
 ) -> Walked
-    requires { ⌜ (length (now tasks) ≡ tasks-length) × (length (now objects) ≡ objects-length) × (length (now places) ≡ places-length) × (length (now table) ≡ object-limit) × (length (now marks) ≡ object-limit) × (length (now stack) ≡ object-limit) × (unmarked (now marks) + at .depth ≤ object-limit) × (p < place-limit) × (i < item-limit) ⌝ }
-    ensures { λ r. ⌜ ((l : List LogEntry) → Shows (now (table .entry)) (now (tasks .exit)) (now (objects .entry)) (now (places .entry)) r (now (marks .exit)) (now (stack .exit)) (visit-place (walk-of (now (table .entry)) (now (tasks .entry)) (now (objects .entry)) (now (places .entry)) at l (now (marks .entry)) (now (stack .entry))) p i waiting)) ⌝ }
+    requires { ⌜ TasksLength tasks × ObjectsLength objects × PlacesLength places × TableLength table × MarksLength marks
+        × TableLength stack × HasRoom marks (at .depth) × (p < place-limit) × (i < item-limit) ⌝ }
+    ensures { λ r. ⌜ Walks table tasks objects places marks stack at (λ w. visit-place w p i waiting) r ⌝ }
 {
     if (waiting >> i) % 2 == 0 {
         return at;
@@ -193,8 +193,10 @@ fn visit_open(
     count: usize,
     waiting: u32,
 ) -> Walked
-    requires { ⌜ (length (now tasks) ≡ tasks-length) × (length (now objects) ≡ objects-length) × (length (now places) ≡ places-length) × (length (now table) ≡ object-limit) × (length (now marks) ≡ object-limit) × (length (now stack) ≡ object-limit) × (unmarked (now marks) + at .depth ≤ object-limit) × (first + count ≤ place-limit) × (count ≤ item-limit) ⌝ }
-    ensures { λ r. ⌜ ((a : Awaiter) (l : List LogEntry) → Shows (now (table .entry)) (now (tasks .exit)) (now (objects .entry)) (now (places .entry)) r (now (marks .exit)) (now (stack .exit)) (visit-open (walk-of (now (table .entry)) (now (tasks .entry)) (now (objects .entry)) (now (places .entry)) at l (now (marks .entry)) (now (stack .entry))) (awaited-places first count a waiting) 0 count)) ⌝ }
+    requires { ⌜ TasksLength tasks × ObjectsLength objects × PlacesLength places × TableLength table × MarksLength marks
+        × TableLength stack × HasRoom marks (at .depth) × (first + count ≤ place-limit) × (count ≤ item-limit) ⌝ }
+    ensures { λ r. ⌜ ((a : Awaiter) → Walks table tasks objects places marks stack at
+        (λ w. visit-open w (awaited-places first count a waiting) 0 count) r) ⌝ }
 {
     let mut w = at;
     let mut i: usize = 0;
@@ -227,8 +229,10 @@ fn walk_gather(
     at: Walked,
     g: HeapId,
 ) -> Walked
-    requires { ⌜ (length (now tasks) ≡ tasks-length) × (length (now objects) ≡ objects-length) × (length (now places) ≡ places-length) × (length (now table) ≡ object-limit) × (length (now marks) ≡ object-limit) × (length (now stack) ≡ object-limit) × (unmarked (now marks) + at .depth ≤ object-limit) × (g .0 < object-limit) ⌝ }
-    ensures { λ r. ⌜ ((l : List LogEntry) → Shows (now (table .entry)) (now (tasks .exit)) (now (objects .entry)) (now (places .entry)) r (now (marks .exit)) (now (stack .exit)) (walk-gather (walk-of (now (table .entry)) (now (tasks .entry)) (now (objects .entry)) (now (places .entry)) at l (now (marks .entry)) (now (stack .entry))) (as-awaited (object-at (now (objects .entry)) (g .0))))) ⌝ }
+    requires { ⌜ TasksLength tasks × ObjectsLength objects × PlacesLength places × TableLength table × MarksLength marks
+        × TableLength stack × HasRoom marks (at .depth) × (g .0 < object-limit) ⌝ }
+    ensures { λ r. ⌜ Walks table tasks objects places marks stack at
+        (λ w. walk-gather w (as-awaited (object-at (now (objects .entry)) (g .0)))) r ⌝ }
 {
     let kind = rows::parts::kind_at(objects, g);
     if kind.is_awaited() {
@@ -259,8 +263,8 @@ pub fn cancel_task(
     queue: ReadyQueue,
     t: TaskId,
 ) -> ReadyQueue
-    requires { ⌜ (length (now tasks) ≡ tasks-length) × (length (now objects) ≡ objects-length) × (length (now places) ≡ places-length) × (t .0 < task-limit) ⌝ }
-    ensures { λ r. ⌜ ((l : List LogEntry) → store-of (now (tasks .exit)) (now (objects .entry)) (now (places .entry)) r (cancel-task (store-of (now (tasks .entry)) (now (objects .entry)) (now (places .entry)) queue l) (t .0) .log) ≡ cancel-task (store-of (now (tasks .entry)) (now (objects .entry)) (now (places .entry)) queue l) (t .0)) ⌝ }
+    requires { ⌜ LengthsAnd tasks objects places (t .0 < task-limit) ⌝ }
+    ensures { λ r. ⌜ Changes tasks objects places queue r (λ s. cancel-task s (t .0)) ⌝ }
 {
     let header = rows::tables::load_header(objects);
     let table = find_tasks(tasks, header.next);

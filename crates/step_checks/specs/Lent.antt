@@ -1,6 +1,6 @@
 -- An event on lent memory, as the code answers it.
-use Prim.Native.Nat.{ℕ}
 use mathlib.Core.Path.{_≡_}
+use Prim.Native.Nat.{ℕ}
 use mathlib.Core.Bool.{Bool, true, false, _&&_}
 use mathlib.Core.List.{List}
 use lib.Dec.{eqb}
@@ -19,6 +19,10 @@ use Rattle.exec_switch.specs.declared.answer.Answer.{Answer}
 -- the lengths of the three slices
 abbrev pub are-slices : ℕ → ℕ → ℕ → Bool
 are-slices ts os ps = eqb ts tasks-length && eqb os objects-length && eqb ps places-length
+
+-- of lent ones
+abbrev pub slices-fit : Slice → Slice → Slice → Bool
+slices-fit tasks objects places = are-slices (length (now (tasks .entry))) (length (now (objects .entry))) (length (now (places .entry)))
 
 -- the host has control
 abbrev pub host-waits : Control → Bool

@@ -4,16 +4,16 @@ use exec_switch::control::Control;
 use scheduler::calls::pending_call_ids;
 ghost use mathlib.Core.Path.{_≡_};
 ghost use mathlib.Core.Bool.{_&&_};
-ghost use mathlib.Core.List.{List};
-ghost use Prim.Native.Nat.{ℕ, _≤_};
+ghost use Prim.Native.Nat.{_≤_};
 ghost use lib.Dec.{leb};
 ghost use lib.ListN.{length};
-ghost use Rattle.asyncio.specs.Limits.{object-limit, objects-length};
-ghost use Rattle.step_checks.specs.Lent.{is-wait, are-slices, WritesCalls};
+ghost use Rattle.asyncio.specs.Limits.{object-limit};
+ghost use Rattle.contract.specs.Contract.{ObjectsLength};
+ghost use Rattle.step_checks.specs.Lent.{is-wait, slices-fit, WritesCalls};
 
 // Have the slices of the store their lengths?
 pub fn slices_right(tasks: &[u64], objects: &[u64], places: &[u64]) -> bool
-    ensures { λ r. ⌜ r ≡ are-slices (length (now (tasks .entry))) (length (now (objects .entry))) (length (now (places .entry))) ⌝ }
+    ensures { λ r. ⌜ r ≡ slices-fit tasks objects places ⌝ }
 {
     if tasks.len() == 4104 {
         if objects.len() == 2056 {
@@ -26,7 +26,7 @@ pub fn slices_right(tasks: &[u64], objects: &[u64], places: &[u64]) -> bool
 
 // Has the list of calls room for every wait, too?
 pub fn lengths_right(tasks: &[u64], objects: &[u64], places: &[u64], calls: &[u64]) -> bool
-    ensures { λ r. ⌜ r ≡ (are-slices (length (now (tasks .entry))) (length (now (objects .entry))) (length (now (places .entry))) && leb object-limit (length (now (calls .entry)))) ⌝ }
+    ensures { λ r. ⌜ r ≡ (slices-fit tasks objects places && leb object-limit (length (now (calls .entry)))) ⌝ }
 {
     if slices_right(tasks, objects, places) {
         return 256 <= calls.len();
@@ -61,7 +61,7 @@ fn is_wait(answer: Answer) -> bool
 // A wait writes the pending calls at the list's front, and it is told how many there are. After any other answer the list keeps its contents, and
 // there are 0.
 pub fn write_calls(objects: &[u64], calls: &mut [u64], answer: Answer) -> usize
-    requires { ⌜ (length (now objects) ≡ objects-length) × (object-limit ≤ length (now calls)) ⌝ }
+    requires { ⌜ ObjectsLength objects × (object-limit ≤ length (now calls)) ⌝ }
     ensures { λ r. ⌜ WritesCalls objects calls answer r ⌝ }
 {
     if is_wait(answer) {

@@ -20,21 +20,20 @@ use scheduler::tasks::take_pending_external;
 use sound_rows::values::option_known;
 use sound_rows::values::value_known;
 ghost use mathlib.Core.Path.{_≡_};
-ghost use mathlib.Core.List.{List};
 ghost use mathlib.Core.Bool.{_||_};
-ghost use Prim.Native.Nat.{ℕ, _<_, _≤_, _+_};
+ghost use Prim.Native.Nat.{_≤_, _+_};
 ghost use lib.Dec.{ltb, leb};
 ghost use lib.ListN.{length};
-ghost use Rattle.asyncio.specs.Limits.{object-limit, item-limit, place-limit, objects-length, places-length};
-ghost use Rattle.machine.specs.Store.{LogEntry, store-of};
+ghost use Rattle.asyncio.specs.Limits.{object-limit, item-limit, place-limit};
 ghost use Rattle.machine.specs.Machine.{Event};
-ghost use Rattle.exec_switch.specs.Answer.{stepped-of};
 ghost use Rattle.step_checks.specs.Checked.{checked};
+ghost use Rattle.contract.specs.Contract.{ObjectsLength, PlacesLength};
+ghost use Rattle.exec_switch.specs.Answer.{AnswersOfObjects, AnswersOfObjectsAndPlaces};
 
 // A coroutine of a function is made.
 pub fn coroutine(objects: &mut [u64], queue: ReadyQueue, function: u32) -> Stepped
-    requires { ⌜ length (now objects) ≡ objects-length ⌝ }
-    ensures { λ r. ⌜ ((ts ps : List ℕ) (l : List LogEntry) → stepped-of (store-of ts (now (objects .exit)) ps (r .queue) l) (r .answer) ≡ checked (store-of ts (now (objects .entry)) ps queue l) (Event.coroutine function)) ⌝ }
+    requires { ⌜ ObjectsLength objects ⌝ }
+    ensures { λ r. ⌜ AnswersOfObjects objects queue (λ s. checked s (Event.coroutine function)) r ⌝ }
 {
     let turn = running(objects);
     match turn {
@@ -60,8 +59,8 @@ pub fn coroutine(objects: &mut [u64], queue: ReadyQueue, function: u32) -> Stepp
 
 // A call number is handed out.
 pub fn call(objects: &mut [u64], queue: ReadyQueue) -> Stepped
-    requires { ⌜ length (now objects) ≡ objects-length ⌝ }
-    ensures { λ r. ⌜ ((ts ps : List ℕ) (l : List LogEntry) → stepped-of (store-of ts (now (objects .exit)) ps (r .queue) l) (r .answer) ≡ checked (store-of ts (now (objects .entry)) ps queue l) Event.call) ⌝ }
+    requires { ⌜ ObjectsLength objects ⌝ }
+    ensures { λ r. ⌜ AnswersOfObjects objects queue (λ s. checked s Event.call) r ⌝ }
 {
     let turn = running(objects);
     match turn {
@@ -87,8 +86,8 @@ pub fn call(objects: &mut [u64], queue: ReadyQueue) -> Stepped
 
 // An external of a call is made pending, with a stored result or none.
 pub fn pending(objects: &mut [u64], queue: ReadyQueue, call: u32, stored: OptionValue) -> Stepped
-    requires { ⌜ length (now objects) ≡ objects-length ⌝ }
-    ensures { λ r. ⌜ ((ts ps : List ℕ) (l : List LogEntry) → stepped-of (store-of ts (now (objects .exit)) ps (r .queue) l) (r .answer) ≡ checked (store-of ts (now (objects .entry)) ps queue l) (Event.pending call stored)) ⌝ }
+    requires { ⌜ ObjectsLength objects ⌝ }
+    ensures { λ r. ⌜ AnswersOfObjects objects queue (λ s. checked s (Event.pending call stored)) r ⌝ }
 {
     let turn = running(objects);
     match turn {
@@ -137,8 +136,8 @@ pub fn pending(objects: &mut [u64], queue: ReadyQueue, call: u32, stored: Option
 
 // An external that has its value already.
 pub fn settled(objects: &mut [u64], queue: ReadyQueue, value: Value) -> Stepped
-    requires { ⌜ length (now objects) ≡ objects-length ⌝ }
-    ensures { λ r. ⌜ ((ts ps : List ℕ) (l : List LogEntry) → stepped-of (store-of ts (now (objects .exit)) ps (r .queue) l) (r .answer) ≡ checked (store-of ts (now (objects .entry)) ps queue l) (Event.settled value)) ⌝ }
+    requires { ⌜ ObjectsLength objects ⌝ }
+    ensures { λ r. ⌜ AnswersOfObjects objects queue (λ s. checked s (Event.settled value)) r ⌝ }
 {
     let turn = running(objects);
     match turn {
@@ -177,8 +176,9 @@ pub fn settled(objects: &mut [u64], queue: ReadyQueue, value: Value) -> Stepped
 
 // A gather of objects.
 pub fn gather(objects: &mut [u64], places: &mut [u64], queue: ReadyQueue, items: &[u16]) -> Stepped
-    requires { ⌜ (length (now objects) ≡ objects-length) × (length (now places) ≡ places-length) ⌝ }
-    ensures { λ r. ⌜ ((ts : List ℕ) (l : List LogEntry) → stepped-of (store-of ts (now (objects .exit)) (now (places .exit)) (r .queue) l) (r .answer) ≡ checked (store-of ts (now (objects .entry)) (now (places .entry)) queue l) (Event.gather (now (items .entry)))) ⌝ }
+    requires { ⌜ ObjectsLength objects × PlacesLength places ⌝ }
+    ensures { λ r. ⌜ AnswersOfObjectsAndPlaces objects places queue
+        (λ s. checked s (Event.gather (now (items .entry)))) r ⌝ }
 {
     let turn = running(objects);
     match turn {
@@ -212,7 +212,8 @@ pub fn gather(objects: &mut [u64], places: &mut [u64], queue: ReadyQueue, items:
 // A 257th object, over 32 items, or over 512 item places in all.
 fn too_many(made: u16, used: u16, items: &[u16]) -> bool
     requires { ⌜ used ≤ place-limit ⌝ }
-    ensures { λ r. ⌜ r ≡ (leb object-limit made || ltb item-limit (length (now (items .entry))) || ltb place-limit (used + length (now (items .entry)))) ⌝ }
+    ensures { λ r. ⌜ r ≡ (leb object-limit made || ltb item-limit (length (now (items .entry)))
+        || ltb place-limit (used + length (now (items .entry)))) ⌝ }
 {
     if 256 <= made {
         return true;

@@ -3,18 +3,15 @@ use asyncio::HeapId;
 use asyncio::Moment;
 use asyncio::TaskId;
 ghost use mathlib.Core.Path.{_≡_};
-ghost use mathlib.Core.Bool.{Bool};
-ghost use mathlib.Core.List.{List};
-ghost use Prim.Native.Nat.{ℕ, _<_, _≤_, _+_};
+ghost use Prim.Native.Nat.{_≤_, _+_};
 ghost use lib.Dec.{leb};
 ghost use lib.ListN.{length};
-ghost use Rattle.asyncio.specs.Limits.{object-limit, call-limit, objects-length};
-ghost use Rattle.rows.specs.Tables.{object-at, header-at};
+ghost use Rattle.asyncio.specs.Limits.{object-limit, call-limit};
+ghost use Rattle.rows.specs.Tables.{header-at};
 ghost use Rattle.step_checks.specs.Checked.{turn-of};
 ghost use Rattle.machine.specs.Machine.{any-of, result-unknown, bad-result};
-ghost use Rattle.machine.specs.Store.{LogEntry, store-of};
-ghost use Rattle.queue.specs.declared.ReadyQueue.{ReadyQueue};
 ghost use Rattle.exec_futures.specs.Results.{result-at, results-in};
+ghost use Rattle.contract.specs.Contract.{ObjectsLength, ReadsObjects};
 
 // The running task, or why an event of running is refused.
 pub enum Turn {
@@ -24,7 +21,7 @@ pub enum Turn {
 
 // An event of running: 3 after the session's end, 4 while the host has control.
 pub fn running(objects: &[u64]) -> Turn
-    requires { ⌜ length (now objects) ≡ objects-length ⌝ }
+    requires { ⌜ ObjectsLength objects ⌝ }
     ensures { λ r. ⌜ r ≡ turn-of (header-at (now (objects .entry)) .moment) ⌝ }
 {
     let header = rows::tables::load_header(objects);
@@ -38,7 +35,7 @@ pub fn running(objects: &[u64]) -> Turn
 
 // Are 256 objects made?
 pub fn is_full(objects: &[u64]) -> bool
-    requires { ⌜ length (now objects) ≡ objects-length ⌝ }
+    requires { ⌜ ObjectsLength objects ⌝ }
     ensures { λ r. ⌜ r ≡ leb object-limit (header-at (now (objects .entry)) .made) ⌝ }
 {
     let header = rows::tables::load_header(objects);
@@ -47,7 +44,7 @@ pub fn is_full(objects: &[u64]) -> bool
 
 // Are the numbers 0 to 65,535 all handed out?
 pub fn no_number(objects: &[u64]) -> bool
-    requires { ⌜ length (now objects) ≡ objects-length ⌝ }
+    requires { ⌜ ObjectsLength objects ⌝ }
     ensures { λ r. ⌜ r ≡ leb call-limit (header-at (now (objects .entry)) .calls) ⌝ }
 {
     let header = rows::tables::load_header(objects);
@@ -71,8 +68,8 @@ pub fn any_unmade(made: u16, items: &[u16]) -> bool
 
 // Is the result at byte `at` a returned list of a gather that is not completed?
 fn result_unknown(objects: &[u64], made: u16, results: &[u8], at: usize) -> bool
-    requires { ⌜ (length (now objects) ≡ objects-length) × (made ≤ object-limit) × (at + 14 ≤ length (now results)) × (header-at (now objects) .made ≡ made) ⌝ }
-    ensures { λ r. ⌜ ((ts ps : List ℕ) (q : ReadyQueue) (l : List LogEntry) → r ≡ result-unknown (store-of ts (now (objects .entry)) ps q l) (result-at (now (results .entry)) at)) ⌝ }
+    requires { ⌜ ObjectsLength objects × (made ≤ object-limit) × (at + 14 ≤ length (now results)) × (header-at (now objects) .made ≡ made) ⌝ }
+    ensures { λ r. ⌜ ReadsObjects objects (λ s. result-unknown s (result-at (now (results .entry)) at)) r ⌝ }
 {
     if endian::u8_at(results, at + 4) == 0 {
         if endian::u8_at(results, at + 5) == 1 {
@@ -90,8 +87,9 @@ fn result_unknown(objects: &[u64], made: u16, results: &[u8], at: usize) -> bool
 
 // Is one of the results such a list?
 pub fn any_unknown(objects: &[u64], results: &[u8]) -> bool
-    requires { ⌜ length (now objects) ≡ objects-length ⌝ }
-    ensures { λ r. ⌜ ((ts ps : List ℕ) (q : ReadyQueue) (l : List LogEntry) → r ≡ any-of (result-unknown (store-of ts (now (objects .entry)) ps q l)) (results-in (now (results .entry)))) ⌝ }
+    requires { ⌜ ObjectsLength objects ⌝ }
+    ensures { λ r. ⌜ ReadsObjects objects
+        (λ s. any-of (result-unknown s) (results-in (now (results .entry)))) r ⌝ }
 {
     let header = rows::tables::load_header(objects);
     let made = header.made;
