@@ -212,7 +212,7 @@ start-fine s z = record { sized = z; marked = length-replicate {A = Bool} object
 
 -- The walk of a cancel of the live task t, as it stands when t has gone.
 module _ (s : Store) (t : ℕ) (z : Sized s) (l : t < task-limit) (e : is-live (task s t .state) ≡ true) where
-  abbrev begun : Walk
+  abbrev pub begun : Walk
   begun = remove-blocked (walk-from s) t (blocked-on (task s t .state))
 
   begun-walk-kept : WalkKept (walk-from s) begun
