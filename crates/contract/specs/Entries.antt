@@ -16,6 +16,13 @@ SoundMemory tasks objects places calls queue =
     (lengths-right (store-of (now tasks) (now objects) (now places) queue []) (now calls) ≡ true)
     × (sound (store-of (now tasks) (now objects) (now places) queue []) ≡ true)
 
+-- and what else it asks
+abbrev pub SoundMemoryAnd : Words → Words → Words → Words → ReadyQueue → Type 0 → Type 0
+SoundMemoryAnd tasks objects places calls queue more =
+    (lengths-right (store-of (now tasks) (now objects) (now places) queue []) (now calls) ≡ true)
+    × (sound (store-of (now tasks) (now objects) (now places) queue []) ≡ true)
+    × more
+
 -- The same for a read, which takes no list.
 abbrev pub SoundSlices : Words → Words → Words → ReadyQueue → Type 0
 SoundSlices tasks objects places queue =

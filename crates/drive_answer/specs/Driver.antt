@@ -4,6 +4,7 @@ use mathlib.Core.Bool.{Bool, true, false}
 use mathlib.Core.List.{List, []}
 use lib.ListN.{take, drop}
 use Rattle.machine.specs.Store.{Store}
+use Rattle.machine.specs.Events.{Result}
 use Rattle.machine.specs.Machine.{Event, Answer}
 use Rattle.machine.specs.Lent.{Lent, lent-step, lent-read}
 use Rattle.drive_reader.specs.declared.Record.{Record}
@@ -22,7 +23,11 @@ pub data Asked : Type 0 where
   -- cancel, which the library does not take yet (demand 3)
   cancel : Asked
 
--- A gather's items are numbers of two bytes, results have 14 bytes each; both stand in the input.
+-- results stand in the input, 14 bytes each
+abbrev pub results-at : List ℕ → ℕ → ℕ → List Result
+results-at src first count = results-in (take (count * 14) (drop first src))
+
+-- What a record asks. A gather's items are numbers of two bytes, and stand in the input too.
 unfoldable pub asked : List ℕ → Record → Asked
 asked src (Record.Coroutine f) = Asked.event (Event.coroutine f)
 asked src Record.Call = Asked.event Event.call
@@ -32,7 +37,7 @@ asked src (Record.Gather first count) = Asked.event (Event.gather (items-at src 
 asked src (Record.Await o) = Asked.event (Event.await o)
 asked src (Record.Complete v) = Asked.event (Event.complete v)
 asked src (Record.Fail n) = Asked.event (Event.fail n)
-asked src (Record.Results first count) = Asked.event (Event.results (results-in (take (count * 14) (drop first src))))
+asked src (Record.Results first count) = Asked.event (Event.results (results-at src first count))
 asked src Record.Resume = Asked.event Event.resume
 asked src (Record.Cancel t) = Asked.cancel
 asked src (Record.Show o) = Asked.read (Event.show o)

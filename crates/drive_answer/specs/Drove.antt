@@ -3,20 +3,23 @@ use mathlib.Core.Path.{_≡_}
 use mathlib.Core.Bool.{Bool}
 use mathlib.Core.List.{List, [], _∷_}
 use Prim.Native.Nat.{ℕ, _+_, _*_, _≤_, _<_}
-use lib.ListN.{length, take, drop}
+use lib.ListN.{length}
+use denote.Ref.{now}
 use Rattle.asyncio.specs.Limits.{u32-limit}
 use Rattle.queue.specs.declared.ReadyQueue.{ReadyQueue}
-use Rattle.machine.specs.Store.{store-of}
+use Rattle.machine.specs.Store.{Store, LogEntry, store-of}
 use Rattle.machine.specs.Machine as machine
 use Rattle.drive_reader.specs.declared.Record.{Record}
 use Rattle.drive_reader.specs.declared.Parsed.{Parsed}
+use Rattle.drive_reader.specs.Format.{parse}
 use Rattle.drive_reader.specs.Items.{items-at}
-use Rattle.exec_futures.specs.Results.{results-in}
 use Rattle.step_event.specs.declared.Event.{Event}
 use Rattle.step_event.specs.EventOf.{event-of}
-use Rattle.drive_text.specs.Out.{Out, Wrote}
+use Rattle.contract.specs.Contract.{Slice, before}
+use Rattle.drive_text.specs.Out.{Out, out-of, Wrote}
 use Rattle.drive_lines.specs.Lines.{line-limit}
-use Rattle.drive_answer.specs.Driver.{Asked, Drives}
+use Rattle.drive_answer.specs.Driver.{Asked, Drives, answered, results-at, drive-one}
+use Rattle.drive_answer.specs.declared.answered.Driven.{Driven}
 use Rattle.drive_answer.specs.declared.asks.Asks.{Asks}
 
 -- What the code has is x: the three slices and the queue are x's store (the log, which the code has not, is x's own), then the call list,
@@ -27,6 +30,17 @@ pub record Drove (ts os ps : List ℕ) (q : ReadyQueue) (cs : List ℕ) (next : 
   pub next-is : next ≡ x .next
   pub going-is : going ≡ x .going
   pub wrote : Wrote line-limit before after (x .text)
+
+-- The call leaves and writes what f says of the store and of the call list before it.
+abbrev pub Writes : Slice → Slice → Slice → Slice → ReadyQueue → Slice → ℕ → (Store → List ℕ → Drives) → Driven → Type 0
+Writes tasks objects places calls queue out at f r =
+    (l : List LogEntry)
+    → Drove (now (tasks .exit)) (now (objects .exit)) (now (places .exit)) (r .queue) (now (calls .exit)) (r .next) (r .going) (out-of (now (out .entry)) at)
+        (out-of (now (out .exit)) (r .at)) (f (before tasks objects places queue l) (now (calls .entry)))
+
+-- The call answers what is asked, and writes its line.
+abbrev pub WritesAnswer : Slice → Slice → Slice → Slice → ReadyQueue → Slice → ℕ → ℕ → ℕ → Asked → Driven → Type 0
+WritesAnswer tasks objects places calls queue out at next number a r = Writes tasks objects places calls queue out at (λ s cs. answered s cs next number a) r
 
 -- What a record asks, in the code's form: an event that has all it needs in its record, or where its items stand.
 unfoldable pub asks-of : Record → Asks
@@ -49,7 +63,7 @@ asks-of Record.Eager = Asks.Eager
 unfoldable pub asked-of : List ℕ → Asks → Asked
 asked-of src (Asks.Event e) = Asked.event (event-of (0 ∷ []) src e)
 asked-of src (Asks.Gather first count) = Asked.event (machine.Event.gather (items-at src first count))
-asked-of src (Asks.Results first count) = Asked.event (machine.Event.results (results-in (take (count * 14) (drop first src))))
+asked-of src (Asks.Results first count) = Asked.event (machine.Event.results (results-at src first count))
 asked-of src (Asks.Show o) = Asked.read (machine.Event.show o)
 asked-of src Asks.Eager = Asked.read machine.Event.eager
 asked-of src Asks.Cancel = Asked.cancel
@@ -84,3 +98,8 @@ abbrev pub ParsedFits : Parsed → Type 0
 ParsedFits Parsed.End = Unit {0}
 ParsedFits Parsed.Refused = Unit {0}
 ParsedFits (Parsed.Record r next) = RecordFits r
+
+-- The call reads the record at a place of the input, answers it and writes its line; the numbers that it stores whole fit.
+abbrev pub DrivesRecord : Slice → Slice → Slice → Slice → ReadyQueue → Slice → ℕ → Slice → ℕ → ℕ → Driven → Type 0
+DrivesRecord tasks objects places calls queue src from out at number r =
+    Writes tasks objects places calls queue out at (λ s cs. drive-one s cs (now (src .entry)) from number) r × ParsedFits (parse (now (src .entry)) from)

@@ -2,21 +2,16 @@
 use crate::asks::Asks;
 use queue::ReadyQueue;
 use step_event::Event;
-ghost use mathlib.Core.Path.{_≡_};
-ghost use mathlib.Core.Bool.{true};
-ghost use mathlib.Core.List.{List, []};
+ghost use mathlib.Core.List.{List};
 ghost use Prim.Native.Nat.{ℕ, _+_, _*_, _≤_};
-ghost use lib.ListN.{length, take, drop};
-ghost use Rattle.machine.specs.Store.{LogEntry, store-of};
-ghost use Rattle.machine.specs.Sound.{sound};
-ghost use Rattle.machine.specs.Lent.{slices-right, lengths-right};
+ghost use lib.ListN.{length};
 ghost use Rattle.machine.specs.Machine as machine;
-ghost use Rattle.drive_reader.specs.Items.{items-at};
-ghost use Rattle.exec_futures.specs.Results.{results-in};
+ghost use Rattle.contract.specs.Contract.{kept};
+ghost use Rattle.contract.specs.Entries.{SoundMemory, SoundMemoryAnd, SoundSlices};
 ghost use Rattle.step_event.specs.EventOf.{event-of};
-ghost use Rattle.drive_text.specs.Out.{out-of};
-ghost use Rattle.drive_answer.specs.Driver.{Asked, refused-11, answered};
-ghost use Rattle.drive_answer.specs.Drove.{Drove, asked-of, InInput};
+ghost use Rattle.drive_reader.specs.Items.{items-at};
+ghost use Rattle.drive_answer.specs.Driver.{Asked, results-at, refused-11};
+ghost use Rattle.drive_answer.specs.Drove.{Writes, WritesAnswer, asked-of, InInput};
 
 // The queue after a record, where the output stands, the place of the next record, and whether it is to be read: not after the end of
 // the input, and not after an 11.
@@ -42,13 +37,14 @@ fn event_line(
     at: usize,
     number: u64,
 ) -> Driven
-    requires { ⌜ (lengths-right (store-of (now tasks) (now objects) (now places) queue []) (now calls) ≡ true) × (sound (store-of (now tasks) (now objects) (now places) queue []) ≡ true) ⌝ }
-    ensures { λ r. ⌜ ((l : List LogEntry) → Drove (now (tasks .exit)) (now (objects .exit)) (now (places .exit)) (r .queue) (now (calls .exit)) (r .next) (r .going) (out-of (now (out .entry)) at) (out-of (now (out .exit)) (r .at)) (answered (store-of (now (tasks .entry)) (now (objects .entry)) (now (places .entry)) queue l) (now (calls .entry)) next number (Asked.event (event-of (now (items .entry)) (now (results .entry)) event)))) ⌝ }
+    requires { ⌜ SoundMemory tasks objects places calls queue ⌝ }
+    ensures { λ r. ⌜ WritesAnswer tasks objects places calls queue out at next number (Asked.event (event-of (now (items .entry)) (now (results .entry)) event)) r ⌝ }
 {
     let stepped = step_event::step(tasks, objects, places, calls, queue, event, items, results);
     let q = stepped.queue;
     let answer = stepped.answer;
-    let end = drive_lines::answers::write_line(out, at, number, answer, objects, calls);
+    let count = stepped.calls;
+    let end = drive_lines::answers::write_line(out, at, number, answer, &calls[..count]);
     Driven {
         queue: q,
         at: end,
@@ -72,8 +68,8 @@ fn gather_line(
     at: usize,
     number: u64,
 ) -> Driven
-    requires { ⌜ (lengths-right (store-of (now tasks) (now objects) (now places) queue []) (now calls) ≡ true) × (sound (store-of (now tasks) (now objects) (now places) queue []) ≡ true) ⌝ }
-    ensures { λ r. ⌜ ((l : List LogEntry) → Drove (now (tasks .exit)) (now (objects .exit)) (now (places .exit)) (r .queue) (now (calls .exit)) (r .next) (r .going) (out-of (now (out .entry)) at) (out-of (now (out .exit)) (r .at)) (answered (store-of (now (tasks .entry)) (now (objects .entry)) (now (places .entry)) queue l) (now (calls .entry)) next number (Asked.event (machine.Event.gather (items-at (now (src .entry)) first count))))) ⌝ }
+    requires { ⌜ SoundMemory tasks objects places calls queue ⌝ }
+    ensures { λ r. ⌜ WritesAnswer tasks objects places calls queue out at next number (Asked.event (machine.Event.gather (items-at (now (src .entry)) first count))) r ⌝ }
 {
     let mut items: [u16; 255] = [0; 255];
     let n = count as usize;
@@ -109,8 +105,8 @@ fn results_line(
     at: usize,
     number: u64,
 ) -> Driven
-    requires { ⌜ (lengths-right (store-of (now tasks) (now objects) (now places) queue []) (now calls) ≡ true) × (sound (store-of (now tasks) (now objects) (now places) queue []) ≡ true) × (first + count * 14 ≤ length (now src)) ⌝ }
-    ensures { λ r. ⌜ ((l : List LogEntry) → Drove (now (tasks .exit)) (now (objects .exit)) (now (places .exit)) (r .queue) (now (calls .exit)) (r .next) (r .going) (out-of (now (out .entry)) at) (out-of (now (out .exit)) (r .at)) (answered (store-of (now (tasks .entry)) (now (objects .entry)) (now (places .entry)) queue l) (now (calls .entry)) next number (Asked.event (machine.Event.results (results-in (take (count * 14) (drop first (now (src .entry))))))))) ⌝ }
+    requires { ⌜ SoundMemoryAnd tasks objects places calls queue (first + count * 14 ≤ length (now src)) ⌝ }
+    ensures { λ r. ⌜ WritesAnswer tasks objects places calls queue out at next number (Asked.event (machine.Event.results (results-at (now (src .entry)) first count))) r ⌝ }
 {
     let items: [u16; 1] = [0; 1];
     let n = (count as usize) * 14;
@@ -142,10 +138,10 @@ fn show_line(
     at: usize,
     number: u64,
 ) -> Driven
-    requires { ⌜ (slices-right (store-of (now tasks) (now objects) (now places) queue []) ≡ true) × (sound (store-of (now tasks) (now objects) (now places) queue []) ≡ true) ⌝ }
-    ensures { λ r. ⌜ ((cs : List ℕ) (l : List LogEntry) → Drove (now (tasks .entry)) (now (objects .entry)) (now (places .entry)) (r .queue) cs (r .next) (r .going) (out-of (now (out .entry)) at) (out-of (now (out .exit)) (r .at)) (answered (store-of (now (tasks .entry)) (now (objects .entry)) (now (places .entry)) queue l) cs next number (Asked.read (machine.Event.show o)))) ⌝ }
+    requires { ⌜ SoundSlices tasks objects places queue ⌝ }
+    ensures { λ r. ⌜ ((cs : List ℕ) → WritesAnswer tasks objects places (kept cs) queue out at next number (Asked.read (machine.Event.show o)) r) ⌝ }
 {
-    let reading = step_read::show_sound(objects, o);
+    let reading = step_read::show(objects, o);
     let end = drive_shows::shows::write_reading(out, at, number, reading, places);
     Driven {
         queue,
@@ -167,11 +163,11 @@ fn eager_line(
     at: usize,
     number: u64,
 ) -> Driven
-    requires { ⌜ (slices-right (store-of (now tasks) (now objects) (now places) queue []) ≡ true) × (sound (store-of (now tasks) (now objects) (now places) queue []) ≡ true) ⌝ }
-    ensures { λ r. ⌜ ((l : List LogEntry) → Drove (now (tasks .entry)) (now (objects .entry)) (now (places .entry)) (r .queue) (now (calls .entry)) (r .next) (r .going) (out-of (now (out .entry)) at) (out-of (now (out .exit)) (r .at)) (answered (store-of (now (tasks .entry)) (now (objects .entry)) (now (places .entry)) queue l) (now (calls .entry)) next number (Asked.read machine.Event.eager))) ⌝ }
+    requires { ⌜ SoundSlices tasks objects places queue ⌝ }
+    ensures { λ r. ⌜ WritesAnswer tasks objects places calls queue out at next number (Asked.read machine.Event.eager) r ⌝ }
 {
-    let answer = step_read::eager_sound(objects, queue);
-    let end = drive_lines::answers::write_line(out, at, number, answer, objects, calls);
+    let answer = step_read::eager(objects, queue);
+    let end = drive_lines::answers::write_line(out, at, number, answer, &calls[..0]);
     Driven {
         queue,
         at: end,
@@ -182,7 +178,7 @@ fn eager_line(
 
 // Cancel is refused as an unknown kind is, until the library takes it.
 fn cancel_line(queue: ReadyQueue, next: usize, out: &mut [u8], at: usize, number: u64) -> Driven
-    ensures { λ r. ⌜ ((ts os ps cs : List ℕ) (l : List LogEntry) → Drove ts os ps (r .queue) cs (r .next) (r .going) (out-of (now (out .entry)) at) (out-of (now (out .exit)) (r .at)) (refused-11 (store-of ts os ps queue l) cs next number)) ⌝ }
+    ensures { λ r. ⌜ ((ts os ps cs : List ℕ) → Writes (kept ts) (kept os) (kept ps) (kept cs) queue out at (λ s l. refused-11 s l next number) r) ⌝ }
 {
     let end = drive_lines::answers::write_refused(out, at, number, 11);
     Driven {
@@ -207,8 +203,8 @@ pub fn answered(
     at: usize,
     number: u64,
 ) -> Driven
-    requires { ⌜ (lengths-right (store-of (now tasks) (now objects) (now places) queue []) (now calls) ≡ true) × (sound (store-of (now tasks) (now objects) (now places) queue []) ≡ true) × InInput (now src) asks ⌝ }
-    ensures { λ r. ⌜ ((l : List LogEntry) → Drove (now (tasks .exit)) (now (objects .exit)) (now (places .exit)) (r .queue) (now (calls .exit)) (r .next) (r .going) (out-of (now (out .entry)) at) (out-of (now (out .exit)) (r .at)) (answered (store-of (now (tasks .entry)) (now (objects .entry)) (now (places .entry)) queue l) (now (calls .entry)) next number (asked-of (now (src .entry)) asks))) ⌝ }
+    requires { ⌜ SoundMemoryAnd tasks objects places calls queue (InInput (now src) asks) ⌝ }
+    ensures { λ r. ⌜ WritesAnswer tasks objects places calls queue out at next number (asked-of (now (src .entry)) asks) r ⌝ }
 {
     match asks {
         Asks::Event(event) => {

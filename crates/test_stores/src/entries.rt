@@ -5,12 +5,12 @@ use crate::store::Store;
 use asyncio::OptionValue;
 use asyncio::Value;
 use exec_switch::answer::Answer;
-use exec_switch::answer::Stepped;
 use queue::ReadyQueue;
 use session_begin::begin;
 use session_dispatch::dispatch;
 use session_reads::eager;
 use session_reads::show;
+use step_event::Answered;
 use step_event::Event;
 use step_read::Reading;
 
@@ -49,17 +49,32 @@ fn enter(
     queue: ReadyQueue,
     kind: u64,
     n: u64,
-) -> Stepped {
+) -> Answered {
     if kind == 0 {
-        return begin(tasks, objects, places, queue);
+        let begun = begin(tasks, objects, places, queue);
+        let q = begun.queue;
+        let answer = begun.answer;
+        return Answered {
+            queue: q,
+            answer,
+            calls: 0,
+        };
     }
     if kind == 11 {
         let answer = eager(tasks, objects, places, queue);
-        return Stepped { queue, answer };
+        return Answered {
+            queue,
+            answer,
+            calls: 0,
+        };
     }
     if kind == 12 {
         let answer = shown(show(tasks, objects, places, queue, 0));
-        return Stepped { queue, answer };
+        return Answered {
+            queue,
+            answer,
+            calls: 0,
+        };
     }
     let first = (n / 10 % 256) as u16;
     let items = [first, first + 1, first + 2];
@@ -87,10 +102,11 @@ fn enter_lent(
     lent: Lengths,
     kind: u64,
     n: u64,
-) -> Stepped {
-    let refused = Stepped {
+) -> Answered {
+    let refused = Answered {
         queue,
         answer: Answer::Refused(0),
+        calls: 0,
     };
     if tasks.len() < lent.tasks {
         return refused;
