@@ -551,25 +551,40 @@ module _ (s : Store) (g : ℕ) (a : Awaiter) (z : Sized s) (l : g < object-limit
 
 -- ---- the fuel is an exact count: no commit runs out of it
 
+-- a nested gather is opened: one pending gather less, one frame more
+pub nested-fuel : (s u : Store) (f : Frame) (fs : List Frame) (i o : ℕ) → StopKeeps s (at-nested u i o)
+    → 2 * pending-count s + length fs ≡ suc (2 * pending-count (open-gather-commit u o (Awaiter.GatherSlot (heap-id (f .gather)) (heap-id o))) + suc (length fs))
+unfolding StopKeeps
+nested-fuel s u f fs i o q =
+    let a : Awaiter = Awaiter.GatherSlot (heap-id (f .gather)) (heap-id o) in
+    let same : pending-count u ≡ pending-count s = same-pending-count s u (q .0) in
+    let fall : pending-count u ≡ suc (pending-count (open-gather-commit u o a)) = open-falls u o a (q .0 .sized) (q .1) (q .2) in
+    omega arith
+
+-- a gather is settled and the one below resumes: the pending gathers are the same, one frame less
+pub settled-fuel : (s u : Store) (f p : Frame) (ps : List Frame) → StopKeeps s (at-end u) → f .gather < object-limit → p .gather < object-limit
+    → 2 * pending-count s + length (p ∷ ps) ≡ suc (2 * pending-count (resume-after-child p (settle-gather-commit u (f .gather))) + length ps)
+unfolding StopKeeps
+settled-fuel s u f p ps q l m =
+    let r : Polled = settle-gather-commit u (f .gather) in
+    let x : Store = resume-after-child p r in
+    let w : SameKinds u (r .store) = settle-kinds u (f .gather) (q .sized) l in
+    let same : pending-count x ≡ pending-count s = same-pending-count s x (same-kinds-then q (same-kinds-then w (resume-kinds p r (w .sized) m))) in
+    omega arith
+
 turn-counts-kept : (s : Store) (f : Frame) (fs : List Frame) (n j k : ℕ) (x : Stop) → StopKeeps s x → f .gather < object-limit → Placed s fs
     → turn (λ x g gs m i h. commit-loop (2 * pending-count s + length fs) x g gs m i h) f fs n j k x ≡ turn commit-rest f fs n j k x
-unfolding turn commit-rest StopKeeps Placed
+unfolding turn commit-rest Placed
 turn-counts-kept s f fs n j k (at-nested u i o) q l e =
-    let a : Awaiter = Awaiter.GatherSlot (heap-id (f .gather)) (heap-id o) in
-    let x : Store = open-gather-commit u o a in
-    let same : pending-count u ≡ pending-count s = same-pending-count s u (q .0) in
-    let fall : pending-count u ≡ suc (pending-count x) = open-falls u o a (q .0 .sized) (q .1) (q .2) in
-    let fuel : 2 * pending-count s + length fs ≡ 2 * pending-count x + suc (suc (length fs)) = omega arith in
+    let x : Store = open-gather-commit u o (Awaiter.GatherSlot (heap-id (f .gather)) (heap-id o)) in
+    let fuel : 2 * pending-count s + length fs ≡ 2 * pending-count x + suc (suc (length fs)) = omega (arith, nested-fuel s u f fs i o q) in
     rw fuel
 turn-counts-kept s f fs n j k (at-error u x) q l e = refl
 turn-counts-kept s f [] n j k (at-end u) q l e = refl
 turn-counts-kept s f (p ∷ ps) n j k (at-end u) q l e =
-    let r : Polled = settle-gather-commit u (f .gather) in
-    let x : Store = resume-after-child p r in
-    let w : SameKinds u (r .store) = settle-kinds u (f .gather) (q .sized) l in
-    let v : SameKinds s x = same-kinds-then q (same-kinds-then w (resume-kinds p r (w .sized) (e .0))) in
-    let same : pending-count x ≡ pending-count s = same-pending-count s x v in
-    rw same
+    let x : Store = resume-after-child p (settle-gather-commit u (f .gather)) in
+    let fuel : 2 * pending-count s + length (p ∷ ps) ≡ 2 * pending-count x + suc (length ps) = omega (arith, settled-fuel s u f p ps q l (e .0)) in
+    rw fuel
 
 -- the commit of a gather is that of its first frame
 pub commit-begins : (s : Store) (g : ℕ) (a : Awaiter)

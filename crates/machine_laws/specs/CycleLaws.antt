@@ -41,6 +41,20 @@ live-falls s t z l e =
     live-in-falls (s .tasks) (put-task s t absent .tasks) t l e (live-put-task s t absent z l)
     (λ u ne. ap (λ (r : Task). is-live (r .state)) (task-put-other s t u absent ne))
 
+-- a live task is removed from a store with the same live tasks: one less
+removed-falls : (s u : Store) (t : ℕ) → t < task-limit → is-live (task s t .state) ≡ true → SameLive s u → live-count s ≡ suc (live-count (add-log (remove-task u t) (exited t)))
+removed-falls s u t l e m =
+    let fall : live-count u ≡ suc (live-count (put-task u t absent)) = live-falls u t (m .sized) l (m .lives t ∙ e) in
+    let left : live-count (add-log (remove-task u t) (exited t)) ≡ live-count (put-task u t absent) =
+    unfold live-count add-log remove-task remove-from-ready-queue put-queue in refl in
+    omega (arith, same-live-count s u m)
+
+-- a live task that fails: one live task less
+pub failure-falls : (s : Store) (t : ℕ) (x : Error) → Sized s → t < task-limit → is-live (task s t .state) ≡ true
+    → live-count s ≡ suc (live-count (add-log (remove-task (deliver-awaiter-failure s (task s t .awaiter) x .store) t) (exited t)))
+failure-falls s t x z l e =
+    let a = task s t .awaiter in removed-falls s (deliver-awaiter-failure s a x .store) t l e (failure-same s a x z (task-fits s t .awaiter-fits))
+
 -- two calls that close the cycle, and agree where k tasks live
 module _ (k : ℕ) (go come : Store → ℕ → Switched) (h : (s : Store) (t : ℕ) → live-count s ≡ k → go s t ≡ come s t) where
   same-next : (s : Store) → live-count s ≡ k → resume-next go s ≡ resume-next come s
@@ -57,21 +71,9 @@ module _ (k : ℕ) (go come : Store → ℕ → Switched) (h : (s : Store) (t : 
       by (some t) = h _ t e
 
   module _ (s : Store) (t : ℕ) (z : Sized s) (l : t < task-limit) (e : is-live (task s t .state) ≡ true) (q : live-count s ≡ suc k) where
-    removed-count : (u : Store) → SameLive s u → live-count (add-log (remove-task u t) (exited t)) ≡ k
-    removed-count u m =
-        let fall : live-count u ≡ suc (live-count (put-task u t absent)) = live-falls u t (m .sized) l (m .lives t ∙ e) in
-        let same : live-count u ≡ live-count s = same-live-count s u m in
-        let left : live-count (put-task u t absent) ≡ k = omega arith in
-        removed-tasks u ∙ left
-      where
-        removed-tasks : (u : Store) → live-count (add-log (remove-task u t) (exited t)) ≡ live-count (put-task u t absent)
-        removed-tasks u = unfold live-count add-log remove-task remove-from-ready-queue put-queue in refl
-
     same-failure : (x : Error) → handle-task-failure go s t x ≡ handle-task-failure come s t x
     unfolding handle-task-failure
-    same-failure x =
-        let a = task s t .awaiter in
-        same-exit _ (removed-count (deliver-awaiter-failure s a x .store) (failure-same s a x z (task-fits s t .awaiter-fits)))
+    same-failure x = same-exit _ (omega (arith, failure-falls s t x z l e))
 
     same-start : (c : ℕ) (f : Option ℕ) → start-by go s t c f ≡ start-by come s t c f
     unfolding start-by

@@ -3,7 +3,7 @@ use Prim.Native.Nat.{ℕ}
 use mathlib.Core.List.{List}
 use Rattle.machine.specs.Store.{Store}
 use Rattle.machine.specs.Delivery.{Delivery, Filled, Settled}
-use Rattle.machine.specs.Commit.{Polled, Item, Stop}
+use Rattle.machine.specs.Commit.{Polled, Item, Stop, Committed}
 use Rattle.machine.specs.Events.{Switched, Awaited}
 use Rattle.machine.specs.Machine.{Step}
 
@@ -16,6 +16,7 @@ pub record Panics : Type 0 where
   pub item : Store → Item
   pub stop : Store → Stop
   pub polled : Store → Polled
+  pub committed : Store → Committed
   pub switch : Store → ℕ → Switched
   pub awaited : Store → Awaited
   pub step : Store → Step

@@ -139,10 +139,9 @@ module _ (panic : Panics) where
   turn-or-panic loop f (p ∷ ps) n j k (at-end s) =
       loop (resume-child-or-panic p (settle-or-panic s (f .gather))) (record { gather = p .gather; next = p .next + 1 }) ps (suc n) j (suc k)
 
-  -- `commit-loop`
+  -- `commit-loop`; the Rust's loop has no fuel: that it ends here is a panic too
   unfoldable pub loop-or-panic : ℕ → Store → Frame → List Frame → ℕ → ℕ → ℕ → Committed
-  loop-or-panic zero s f fs n j k =
-      turn-or-panic (λ x g gs m i h. record { store = x; poll = pending; steps = m; opened = i; settled = h }) f fs n j k (at-error s Error.GatherReuse)
+  loop-or-panic zero s f fs n j k = panic .committed s
   loop-or-panic (suc fuel) s f fs n j k =
       turn-or-panic (λ x g gs m i h. loop-or-panic fuel x g gs m i h) f fs n j k (frame-or-panic s f (object s (f .gather)))
 

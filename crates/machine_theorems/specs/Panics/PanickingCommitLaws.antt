@@ -4,8 +4,10 @@ use mathlib.Core.Bool.{Bool, true, false}
 use mathlib.Core.List.{List, [], _∷_}
 use mathlib.Core.Option.{Option, none, some}
 use Prim.Native.Nat.{ℕ, zero, suc, _+_, _-_, _*_, _<_}
+use native.Mathlib.Nat.{not-suc-le-zero}
 use native.Mathlib.Omega.{arith}
 use lib.Dec.{T, eqb}
+use lib.ListN.{length}
 use borrow.Author.Tests.{eqb-true, lt-ltb}
 use Rattle.asyncio.specs.declared.Value.{Value}
 use Rattle.asyncio.specs.declared.Error.{Error}
@@ -14,7 +16,7 @@ use Rattle.asyncio.specs.declared.CoroutineState.{CoroutineState}
 use Rattle.asyncio.specs.declared.GatherState.{GatherState}
 use Rattle.asyncio.specs.declared.Object.{Object}
 use Rattle.asyncio.specs.declared.Moment.{Moment}
-use Rattle.asyncio.specs.Limits.{task-limit}
+use Rattle.asyncio.specs.Limits.{task-limit, object-limit}
 use Rattle.asyncio.specs.Ranges.{ErrorFits}
 use Rattle.asyncio.specs.Numbers.{heap-id, task-id}
 use Rattle.asyncio.specs.States.{pick}
@@ -26,7 +28,9 @@ use Rattle.machine.specs.Commit.{Stop, at-end, at-nested, at-error, put-polled,
 use Rattle.machine.specs.Commit.{settle-as, settle-gather-commit, resume-in, resume-as, resume-after-child, unwind, Committed, turn, commit-loop, pending-count, commit-gather-tree}
 use Rattle.machine.specs.Sound.{rest-filled}
 use Rattle.machine_laws.specs.TestLaws.{is-true}
+use Rattle.machine_laws.specs.StoreLaws.{header-fits}
 use Rattle.machine_laws.specs.DeliveryLaws.{awaited-object, awaited-fits}
+use Rattle.machine_laws.specs.CommitLaws.{StopKeeps, step-kinds, nested-fuel, settled-fuel}
 use Rattle.machine_theorems.specs.Soundness.Stores.{SoundStore}
 use Rattle.machine_theorems.specs.Soundness.Deliver.{failed-done}
 use Rattle.machine_theorems.specs.Soundness.Memory.{Memory}
@@ -195,42 +199,52 @@ module _ (panic : Panics) where
 
   -- ---- the commit
 
-  -- two loops do the same in the midst of a commit
-  SameLoop : ℕ → ℕ → (Store → Frame → List Frame → ℕ → ℕ → ℕ → Committed) → (Store → Frame → List Frame → ℕ → ℕ → ℕ → Committed) → Type 0
-  SameLoop root t loop other = (s : Store) (f : Frame) (fs : List Frame) (n j k : ℕ) → Commits root t (f .gather) (f .next) fs s → loop s f fs n j k ≡ other s f fs n j k
+  -- two loops do the same in the midst of a commit, with fuel for the pending gathers (two turns each) and the frames
+  SameLoop : ℕ → ℕ → ℕ → (Store → Frame → List Frame → ℕ → ℕ → ℕ → Committed) → (Store → Frame → List Frame → ℕ → ℕ → ℕ → Committed) → Type 0
+  SameLoop fuel root t loop other =
+      (s : Store) (f : Frame) (fs : List Frame) (n j k : ℕ) → fuel ≡ suc (2 * pending-count s + length fs) → Commits root t (f .gather) (f .next) fs s
+      → loop s f fs n j k ≡ other s f fs n j k
+
+  -- the gather of a frame
+  top-low : (root t g i : ℕ) (fs : List Frame) (s : Store) → Commits root t g i fs s → g < object-limit
+  unfolding view
+  top-low root t g i fs s h = omega (arith, h .inv .opened .made, header-fits s .made-fits)
 
   error-same : (root t : ℕ) (f : Frame) (fs : List Frame) (s : Store) (i : ℕ) (e : Error) → ErrorFits e → Memory s → Inv root t 0 (OnTop (f .gather) fs) (view s) (f .gather) i fs
       → unwind-or-panic panic s (f ∷ fs) e ≡ unwind s (f ∷ fs) e
   unfolding view
   error-same root t f fs s i e ok m h = unwind-same fs s root t (h .k) (f .gather) (f .next) (h .w) e ok m (h .opened .made) (h .opened .awaited) (h .stack)
 
-  turn-same : (root t : ℕ) (loop other : Store → Frame → List Frame → ℕ → ℕ → ℕ → Committed) → SameLoop root t loop other → (f : Frame) (fs : List Frame) (n j k : ℕ) (x : Stop)
+  turn-same : (fuel root t : ℕ) (loop other : Store → Frame → List Frame → ℕ → ℕ → ℕ → Committed) → SameLoop fuel root t loop other
+      → (u : Store) (f : Frame) (fs : List Frame) (n j k : ℕ) (x : Stop) → fuel ≡ 2 * pending-count u + length fs → f .gather < object-limit → StopKeeps u x
       → StopOk root t (f .gather) fs x → turn-or-panic panic loop f fs n j k x ≡ turn other f fs n j k x
   unfolding turn-or-panic turn SameLoop
-  turn-same root t loop other go f fs n j k (at-nested s i o) h =
+  turn-same fuel root t loop other go u f fs n j k (at-nested s i o) e l q h =
       ap (λ (x : Store). loop x (record { gather = o; next = 0 }) (record { gather = f .gather; next = i } ∷ fs) (suc n) (suc j) k)
       (open-same s o (h .first) (h .count) (Awaiter.GatherSlot (heap-id (f .gather)) (heap-id o)) (h .is-new))
-      ∙ go _ (record { gather = o; next = 0 }) (record { gather = f .gather; next = i } ∷ fs) (suc n) (suc j) k (nested-commits root t f fs s i o h)
-  turn-same root t loop other go f fs n j k (at-error s e) h =
-      ap (λ (x : Store). record { store = x; poll = raised e; steps = suc n; opened = j; settled = k }) (error-same root t f fs s (h .i) e (h .fits) (h .memory) (h .inv))
-  turn-same root t loop other go f [] n j k (at-end s) h =
+      ∙ go _ (record { gather = o; next = 0 }) (record { gather = f .gather; next = i } ∷ fs) (suc n) (suc j) k (e ∙ nested-fuel u s f fs i o q) (nested-commits root t f fs s i o h)
+  turn-same fuel root t loop other go u f fs n j k (at-error s x) e l q h =
+      ap (λ (y : Store). record { store = y; poll = raised x; steps = suc n; opened = j; settled = k }) (error-same root t f fs s (h .i) x (h .fits) (h .memory) (h .inv))
+  turn-same fuel root t loop other go u f [] n j k (at-end s) e l q h =
       ap (λ (r : Polled). record { store = r .store; poll = r .poll; steps = suc n; opened = j; settled = suc k }) (settle-same root t s (f .gather) (h .i) [] (h .inv) (h .end))
-  turn-same root t loop other go f (p ∷ ps) n j k (at-end s) h =
+  turn-same fuel root t loop other go u f (p ∷ ps) n j k (at-end s) e l q h =
+      let next : Commits root t (p .gather) (p .next + 1) ps (resume-after-child p (settle-gather-commit s (f .gather))) =
+      settle-next root t s (f .gather) (h .i) p ps (h .memory) (h .inv) (h .end) in
       ap (λ (r : Polled). loop (resume-child-or-panic panic p r) (record { gather = p .gather; next = p .next + 1 }) ps (suc n) j (suc k))
       (settle-same root t s (f .gather) (h .i) (p ∷ ps) (h .inv) (h .end))
       ∙ (ap (λ (x : Store). loop x (record { gather = p .gather; next = p .next + 1 }) ps (suc n) j (suc k))
       (resume-same p (settle-gather-commit s (f .gather)) (settled-resumable root t s (f .gather) (h .i) p ps (h .memory) (h .inv)))
-      ∙ go _ (record { gather = p .gather; next = p .next + 1 }) ps (suc n) j (suc k) (settle-next root t s (f .gather) (h .i) p ps (h .memory) (h .inv) (h .end)))
+      ∙ go _ (record { gather = p .gather; next = p .next + 1 }) ps (suc n) j (suc k)
+      (e ∙ settled-fuel u s f p ps q l (top-low root t (p .gather) (p .next + 1) ps _ next)) next)
 
-  loop-same : (fuel root t : ℕ) → SameLoop root t (loop-or-panic panic fuel) (commit-loop fuel)
+  loop-same : (fuel root t : ℕ) → SameLoop fuel root t (loop-or-panic panic fuel) (commit-loop fuel)
   unfolding loop-or-panic commit-loop SameLoop turn-or-panic turn
-  loop-same zero root t s f fs n j k h =
-      ap (λ (x : Store). record { store = x; poll = raised Error.GatherReuse; steps = suc n; opened = j; settled = k })
-      (error-same root t f fs s (f .next) Error.GatherReuse tt (h .memory) (h .inv))
-  loop-same (suc fuel) root t s f fs n j k h =
+  loop-same zero root t s f fs n j k e h = absurd (not-suc-le-zero {n = 0} (omega (arith, e)))
+  loop-same (suc fuel) root t s f fs n j k e h =
+      let low : f .gather < object-limit = top-low root t (f .gather) (f .next) fs s h in
       ap (turn-or-panic panic (λ x g gs m i h. loop-or-panic panic fuel x g gs m i h) f fs n j k) (frame-same root t s f fs h)
-      ∙ turn-same root t (λ x g gs m i h. loop-or-panic panic fuel x g gs m i h) (λ x g gs m i h. commit-loop fuel x g gs m i h) (loop-same fuel root t) f fs n j k (step-gather-commit s f)
-      (frame-stops root t s f fs h)
+      ∙ turn-same fuel root t (λ x g gs m i h. loop-or-panic panic fuel x g gs m i h) (λ x g gs m i h. commit-loop fuel x g gs m i h) (loop-same fuel root t) s f fs n j k
+      (step-gather-commit s f) (omega (arith, e)) low (step-kinds s f (h .memory .sized) low) (frame-stops root t s f fs h)
 
   -- The commit of a gather that the running task awaits reaches no panic.
   pub commit-safe : (s : Store) (t : ℕ) (h : SoundStore s) → header s .moment ≡ Moment.Running (task-id t) → (g f n : ℕ) → g < header s .made
@@ -239,4 +253,4 @@ module _ (panic : Panics) where
   commit-safe s t h m g f n l q =
       ap (λ (x : Store). loop-or-panic panic (2 * pending-count x + 1) x (record { gather = g; next = 0 }) [] 0 1 0)
       (open-same s g f n (Awaiter.Task (task-id t)) q)
-      ∙ loop-same _ g t (open-gather-commit s g (Awaiter.Task (task-id t))) (record { gather = g; next = 0 }) [] 0 1 0 (commit-begins s t h m g f n l q)
+      ∙ loop-same _ g t (open-gather-commit s g (Awaiter.Task (task-id t))) (record { gather = g; next = 0 }) [] 0 1 0 (omega arith) (commit-begins s t h m g f n l q)

@@ -101,9 +101,9 @@ module _ (panic : Panics) where
       let r : Settled = child-or-panic s (g .0) (source .0) v (object s (g .0)) in
       climb (λ x a. go x a (Value.List g)) (r .store) (r .onward)
 
-  -- `climb-value`
+  -- `climb-value`; the Rust's loop has no fuel: that it ends here is a panic too
   unfoldable pub climb-value-or-panic : ℕ → Store → Awaiter → Value → Delivery
-  climb-value-or-panic zero s a v = nobody-woken s
+  climb-value-or-panic zero s a v = panic .delivery s
   climb-value-or-panic (suc k) s a v = value-or-panic (λ x b w. climb-value-or-panic k x b w) s a v
 
   -- `deliver-awaiter-success`
@@ -118,9 +118,9 @@ module _ (panic : Panics) where
       let r : Settled = gather-or-panic s (g .0) e (object s (g .0)) in
       climb (λ x a. go x a e) (r .store) (r .onward)
 
-  -- `climb-error`
+  -- `climb-error`; fuel as for a value
   unfoldable pub climb-error-or-panic : ℕ → Store → Awaiter → Error → Delivery
-  climb-error-or-panic zero s a e = nobody-woken s
+  climb-error-or-panic zero s a e = panic .delivery s
   climb-error-or-panic (suc k) s a e = error-or-panic (λ x b f. climb-error-or-panic k x b f) s a e
 
   -- `deliver-awaiter-failure`

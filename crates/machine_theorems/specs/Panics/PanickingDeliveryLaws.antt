@@ -4,6 +4,7 @@ use mathlib.Core.Bool.{Bool, true, false}
 use mathlib.Core.List.{List, [], _∷_}
 use mathlib.Core.Option.{Option, none, some}
 use Prim.Native.Nat.{ℕ, zero, suc, _+_, _≤_, _<_}
+use native.Mathlib.Nat.{not-suc-le-zero}
 use native.Mathlib.Omega.{arith}
 use lib.Dec.{T, eqb}
 use borrow.Author.Tests.{eqb-true, lt-ltb}
@@ -17,6 +18,7 @@ use Rattle.asyncio.specs.declared.GatherState.{GatherState}
 use Rattle.asyncio.specs.declared.Object.{Object}
 use Rattle.asyncio.specs.declared.Header.{Header}
 use Rattle.asyncio.specs.Ranges.{ErrorFits}
+use Rattle.asyncio.specs.Limits.{object-limit}
 use Rattle.asyncio.specs.Numbers.{heap-id}
 use Rattle.asyncio.specs.Layout.{to-value, to-error}
 use Rattle.asyncio.specs.States.{pick, is-blocked}
@@ -32,8 +34,10 @@ use Rattle.machine.specs.Sound.{value-known, rest-filled}
 use Rattle.machine_laws.specs.Facts.{Open, Slotted, Nothing}
 use Rattle.machine_laws.specs.FactLaws.{open-test}
 use Rattle.machine_laws.specs.TestLaws.{is-true}
+use Rattle.machine_laws.specs.StoreLaws.{header-fits}
+use Rattle.machine_laws.specs.DeliveryLaws.{Sent, resolve-sent, fail-sent}
 use Rattle.machine_theorems.specs.Soundness.Stores.{SoundDuring}
-use Rattle.machine_theorems.specs.Soundness.Deliver.{task-slot, landed, Sends, ErrorRises, error-sends}
+use Rattle.machine_theorems.specs.Soundness.Deliver.{Detached, task-slot, landed, Sends, ErrorRises, error-sends}
 use Rattle.machine_theorems.specs.Soundness.Fill.{all-filled, ValueRises, value-sends}
 use Rattle.machine_theorems.specs.Soundness.Results.{resolve-delivering, fail-delivering, MayApply, AllApply, host-fits, result-keeps}
 use Rattle.machine_theorems.specs.Panics.NoPanicLaws.{slot-registered, PendingOf, found-pending}
@@ -151,61 +155,74 @@ module _ (panic : Panics) where
   -- ---- up the gathers
 
   module _ (r : ℕ → Bool) (D : ℕ → Type 0) (hd : Header) where
+    -- the gather of a slot that something is on its way to
+    slot-low : (s : Store) (o g x : ℕ) → Detached (view s) o (Awaiter.GatherSlot (heap-id g) (heap-id x)) → g < object-limit
+    unfolding view
+    slot-low s o g x f = omega (arith, f .slot g x refl .made, header-fits s .made-fits)
+
     -- where two ways to go on do the same with what is sent on, so do two climbs
     climb-same : (R : Store → Awaiter → Type 0) (o g : ℕ) (go other : Store → Awaiter → Delivery) (y : Settled) → Sends r D hd R o g y
-        → ((s : Store) (a : Awaiter) → R s a → go s a ≡ other s a) → climb go (y .store) (y .onward) ≡ climb other (y .store) (y .onward)
+        → ((a : Awaiter) → y .onward ≡ some a → R (y .store) a → go (y .store) a ≡ other (y .store) a)
+        → climb go (y .store) (y .onward) ≡ climb other (y .store) (y .onward)
     climb-same R o g go other y k same = by (y .onward) refl
       where
         by : (b : Option Awaiter) → y .onward ≡ b → climb go (y .store) b ≡ climb other (y .store) b
         by none e = unfold climb in refl
-        by (some a) e = unfold climb in (same (y .store) a (k .rises a e))
+        by (some a) e = unfold climb in (same a e (k .rises a e))
 
-    value-same : (go other : Store → Awaiter → Value → Delivery) → ((s : Store) (o : ℕ) (a : Awaiter) (v : Value) → ValueRises r D hd o v s a → go s a v ≡ other s a v)
-        → (s : Store) (o : ℕ) (a : Awaiter) (v : Value) → ValueRises r D hd o v s a → value-or-panic panic go s a v ≡ send-value other s a v
+    -- two ways to go on do the same with one awaited gather less than m
+    value-same : (m : ℕ) (go other : Store → Awaiter → Value → Delivery)
+        → ((s : Store) (o : ℕ) (a : Awaiter) (v : Value) → m ≡ suc (awaited-count s) → ValueRises r D hd o v s a → go s a v ≡ other s a v)
+        → (s : Store) (o : ℕ) (a : Awaiter) (v : Value) → m ≡ awaited-count s → ValueRises r D hd o v s a → value-or-panic panic go s a v ≡ send-value other s a v
     unfolding value-or-panic send-value
-    value-same go other same s o Awaiter.Nobody v i = refl
-    value-same go other same s o (Awaiter.Task t) v i = to-task-same s (t .0) (TaskState.Woken v)
-    value-same go other same s o (Awaiter.GatherSlot g x) v i =
+    value-same m go other same s o Awaiter.Nobody v q i = refl
+    value-same m go other same s o (Awaiter.Task t) v q i = to-task-same s (t .0) (TaskState.Woken v)
+    value-same m go other same s o (Awaiter.GatherSlot g x) v q i =
+        let sent : Sent s (resolve-child s (g .0) (x .0) v) = resolve-sent s (g .0) (x .0) v (i .mid .kept .memory .sized) (slot-low s o (g .0) (x .0) (i .flight)) in
         ap (λ (y : Settled). climb (λ z a. go z a (Value.List g)) (y .store) (y .onward)) (child-same r D hd s o (g .0) (x .0) v i)
         ∙ climb-same (ValueRises r D hd (g .0) (Value.List g)) o (g .0) (λ z a. go z a (Value.List g)) (λ z a. other z a (Value.List g)) (resolve-child s (g .0) (x .0) v)
-        (value-sends r D hd s o (g .0) (x .0) v i) (λ z a k. same z (g .0) a (Value.List g) k)
+        (value-sends r D hd s o (g .0) (x .0) v i) (λ a p k. same _ (g .0) a (Value.List g) (q ∙ sent .falls a p) k)
 
-    climb-value-same : (n : ℕ) (s : Store) (o : ℕ) (a : Awaiter) (v : Value) → ValueRises r D hd o v s a → climb-value-or-panic panic n s a v ≡ climb-value n s a v
+    climb-value-same : (n : ℕ) (s : Store) (o : ℕ) (a : Awaiter) (v : Value) → n ≡ suc (awaited-count s) → ValueRises r D hd o v s a
+        → climb-value-or-panic panic n s a v ≡ climb-value n s a v
     unfolding climb-value-or-panic climb-value
-    climb-value-same zero s o a v i = refl
-    climb-value-same (suc n) s o a v i =
-        value-same (λ x b w. climb-value-or-panic panic n x b w) (λ x b w. climb-value n x b w) (λ x p b w j. climb-value-same n x p b w j) s o a v i
+    climb-value-same zero s o a v q i = absurd (not-suc-le-zero {n = 0} (omega arith))
+    climb-value-same (suc n) s o a v q i =
+        value-same n (λ x b w. climb-value-or-panic panic n x b w) (λ x b w. climb-value n x b w) (λ x p b w c j. climb-value-same n x p b w c j) s o a v (omega arith) i
 
     -- A value of object o reaches its awaiter without a panic.
     pub success-safe : (s : Store) (o : ℕ) (a : Awaiter) (v : Value) → ValueRises r D hd o v s a → success-or-panic panic s a v ≡ deliver-awaiter-success s a v
     unfolding success-or-panic deliver-awaiter-success
     success-safe s o a v i =
-        value-same (λ x b w. climb-value-or-panic panic (awaited-count s) x b w) (λ x b w. climb-value (awaited-count s) x b w)
-        (λ x p b w j. climb-value-same (awaited-count s) x p b w j) s o a v i
+        value-same (awaited-count s) (λ x b w. climb-value-or-panic panic (awaited-count s) x b w) (λ x b w. climb-value (awaited-count s) x b w)
+        (λ x p b w c j. climb-value-same (awaited-count s) x p b w c j) s o a v refl i
 
     module _ (e : Error) (k : ErrorFits e) where
-      error-same : (go other : Store → Awaiter → Error → Delivery) → ((s : Store) (o : ℕ) (a : Awaiter) → ErrorRises r D hd o s a → go s a e ≡ other s a e)
-          → (s : Store) (o : ℕ) (a : Awaiter) → ErrorRises r D hd o s a → error-or-panic panic go s a e ≡ send-error other s a e
+      error-same : (m : ℕ) (go other : Store → Awaiter → Error → Delivery)
+          → ((s : Store) (o : ℕ) (a : Awaiter) → m ≡ suc (awaited-count s) → ErrorRises r D hd o s a → go s a e ≡ other s a e)
+          → (s : Store) (o : ℕ) (a : Awaiter) → m ≡ awaited-count s → ErrorRises r D hd o s a → error-or-panic panic go s a e ≡ send-error other s a e
       unfolding error-or-panic send-error
-      error-same go other same s o Awaiter.Nobody i = refl
-      error-same go other same s o (Awaiter.Task t) i = to-task-same s (t .0) (TaskState.Raised e)
-      error-same go other same s o (Awaiter.GatherSlot g x) i =
+      error-same m go other same s o Awaiter.Nobody q i = refl
+      error-same m go other same s o (Awaiter.Task t) q i = to-task-same s (t .0) (TaskState.Raised e)
+      error-same m go other same s o (Awaiter.GatherSlot g x) q i =
+          let sent : Sent s (fail-gather s (g .0) e) = fail-sent s (g .0) e (i .mid .kept .memory .sized) (slot-low s o (g .0) (x .0) (i .flight)) in
           ap (λ (y : Settled). climb (λ z a. go z a e) (y .store) (y .onward)) (gather-same r D hd s o (g .0) (x .0) e i)
           ∙ climb-same (ErrorRises r D hd (g .0)) o (g .0) (λ z a. go z a e) (λ z a. other z a e) (fail-gather s (g .0) e)
-          (error-sends r D hd e k s o (g .0) (x .0) i) (λ z a j. same z (g .0) a j)
+          (error-sends r D hd e k s o (g .0) (x .0) i) (λ a p j. same _ (g .0) a (q ∙ sent .falls a p) j)
 
-      climb-error-same : (n : ℕ) (s : Store) (o : ℕ) (a : Awaiter) → ErrorRises r D hd o s a → climb-error-or-panic panic n s a e ≡ climb-error n s a e
+      climb-error-same : (n : ℕ) (s : Store) (o : ℕ) (a : Awaiter) → n ≡ suc (awaited-count s) → ErrorRises r D hd o s a
+          → climb-error-or-panic panic n s a e ≡ climb-error n s a e
       unfolding climb-error-or-panic climb-error
-      climb-error-same zero s o a i = refl
-      climb-error-same (suc n) s o a i =
-          error-same (λ x b f. climb-error-or-panic panic n x b f) (λ x b f. climb-error n x b f) (λ x p b j. climb-error-same n x p b j) s o a i
+      climb-error-same zero s o a q i = absurd (not-suc-le-zero {n = 0} (omega arith))
+      climb-error-same (suc n) s o a q i =
+          error-same n (λ x b f. climb-error-or-panic panic n x b f) (λ x b f. climb-error n x b f) (λ x p b c j. climb-error-same n x p b c j) s o a (omega arith) i
 
       -- And so does an error.
       pub failure-safe : (s : Store) (o : ℕ) (a : Awaiter) → ErrorRises r D hd o s a → failure-or-panic panic s a e ≡ deliver-awaiter-failure s a e
       unfolding failure-or-panic deliver-awaiter-failure
       failure-safe s o a i =
-          error-same (λ x b f. climb-error-or-panic panic (awaited-count s) x b f) (λ x b f. climb-error (awaited-count s) x b f)
-          (λ x p b j. climb-error-same (awaited-count s) x p b j) s o a i
+          error-same (awaited-count s) (λ x b f. climb-error-or-panic panic (awaited-count s) x b f) (λ x b f. climb-error (awaited-count s) x b f)
+          (λ x p b c j. climb-error-same (awaited-count s) x p b c j) s o a refl i
 
   -- ---- from an external
 

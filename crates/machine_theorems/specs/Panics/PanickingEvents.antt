@@ -59,9 +59,9 @@ module _ (panic : Panics) where
     state-or-panic s t (TaskState.Raised e) = run s t (raises e)
     state-or-panic s t (TaskState.Blocked o) = panic .switch s t
 
-  -- `activate-within`
+  -- `activate-within`; the Rust's loop has no fuel: that it ends here is a panic too
   unfoldable pub within-or-panic : ℕ → Store → ℕ → Switched
-  within-or-panic zero s t = yield s
+  within-or-panic zero s t = panic .switch s t
   within-or-panic (suc k) s t = state-or-panic (λ x u. within-or-panic k x u) s t (task s t .state)
 
   -- `activate`
