@@ -12,7 +12,7 @@ use Rattle.exec_switch.specs.declared.answer.Stepped.{Stepped}
 -- a wait tells the calls that are pending
 abbrev pub answer-of : List ℕ → Answer → machine.Answer
 answer-of os (Answer.Made o) = machine.Answer.made (o .0)
-answer-of os (Answer.Called n) = machine.Answer.called n
+answer-of os (Answer.Called n) = machine.Answer.called (n .0)
 answer-of os (Answer.Switched c) = machine.Answer.control (control-of os c)
 answer-of os (Answer.Awaited c n) = machine.Answer.awaited (control-of os c) n
 answer-of os Answer.Done = machine.Answer.done
