@@ -13,7 +13,7 @@ use Rattle.asyncio.specs.declared.Error.{Error}
 use Rattle.asyncio.specs.declared.Awaiter.{Awaiter}
 use Rattle.asyncio.specs.declared.TaskState.{TaskState}
 use Rattle.queue.specs.declared.ReadyQueue.{ReadyQueue}
-use Rattle.scheduler.specs.declared.tasks.Found.{Found}
+use Rattle.scheduler.specs.declared.tasks.FoundTask.{FoundTask}
 use Rattle.machine.specs.Store.{Store, LogEntry, store-of}
 use Rattle.machine.specs.Delivery.{Delivery, Settled, nobody-woken, deliver-to-task, resolve-child, fail-gather, climb, awaited-in, awaited-count, send-value, send-error, deliver-awaiter-success, deliver-awaiter-failure}
 use Rattle.machine_laws.specs.Views.{Sized}
@@ -24,13 +24,13 @@ use Rattle.exec_fill.specs.declared.gather.Onward.{Onward}
 module _ (ts os ps : List ℕ) (q : ReadyQueue) where
   -- nobody gets anything
   pub nobody : (l : List LogEntry) (v : Value) {d : Delivery} → deliver-awaiter-success (store-of ts os ps q l) Awaiter.Nobody v ≡ d
-      → delivered (store-of ts os ps q (d .store .log)) Found.Nothing ≡ d
+      → delivered (store-of ts os ps q (d .store .log)) FoundTask.Nothing ≡ d
   unfolding deliver-awaiter-success send-value nobody-woken
   nobody l v e = rw (← e)
 
   -- to a task
   pub to-task : (l : List LogEntry) (t : TaskId) (v : Value) {d : Delivery} → deliver-awaiter-success (store-of ts os ps q l) (Awaiter.Task t) v ≡ d
-      → {us : List ℕ} {r : ReadyQueue} (w : Found)
+      → {us : List ℕ} {r : ReadyQueue} (w : FoundTask)
       → delivered (store-of us os ps r (deliver-to-task (store-of ts os ps q l) (t .0) (TaskState.Woken v) .store .log)) w ≡ deliver-to-task (store-of ts os ps q l) (t .0) (TaskState.Woken v)
       → delivered (store-of us os ps r (d .store .log)) w ≡ d
   unfolding deliver-awaiter-success send-value
@@ -40,7 +40,7 @@ module _ (ts os ps : List ℕ) (q : ReadyQueue) where
     -- a gather that sends nothing on
     pub stays : (l : List LogEntry) {d : Delivery} → deliver-awaiter-success (store-of ts os ps q l) (Awaiter.GatherSlot g source) v ≡ d
         → settled (store-of ts us rs q l) Onward.Nowhere ≡ resolve-child (store-of ts os ps q l) (g .0) (source .0) v
-        → delivered (store-of ts us rs q (d .store .log)) Found.Nothing ≡ d
+        → delivered (store-of ts us rs q (d .store .log)) FoundTask.Nothing ≡ d
     unfolding deliver-awaiter-success send-value climb nobody-woken
     stays l e f = rw (← e, ← f)
 
@@ -70,12 +70,12 @@ module _ (ts os ps : List ℕ) (q : ReadyQueue) where
 
 module _ (ts os ps : List ℕ) (q : ReadyQueue) (x : Error) where
   pub error-nobody : (l : List LogEntry) {d : Delivery} → deliver-awaiter-failure (store-of ts os ps q l) Awaiter.Nobody x ≡ d
-      → delivered (store-of ts os ps q (d .store .log)) Found.Nothing ≡ d
+      → delivered (store-of ts os ps q (d .store .log)) FoundTask.Nothing ≡ d
   unfolding deliver-awaiter-failure send-error nobody-woken
   error-nobody l e = rw (← e)
 
   pub error-to-task : (l : List LogEntry) (t : TaskId) {d : Delivery} → deliver-awaiter-failure (store-of ts os ps q l) (Awaiter.Task t) x ≡ d
-      → {us : List ℕ} {r : ReadyQueue} (w : Found)
+      → {us : List ℕ} {r : ReadyQueue} (w : FoundTask)
       → delivered (store-of us os ps r (deliver-to-task (store-of ts os ps q l) (t .0) (TaskState.Raised x) .store .log)) w ≡ deliver-to-task (store-of ts os ps q l) (t .0) (TaskState.Raised x)
       → delivered (store-of us os ps r (d .store .log)) w ≡ d
   unfolding deliver-awaiter-failure send-error
@@ -84,7 +84,7 @@ module _ (ts os ps : List ℕ) (q : ReadyQueue) (x : Error) where
   module _ (g source : HeapId) {us : List ℕ} where
     pub error-stays : (l : List LogEntry) {d : Delivery} → deliver-awaiter-failure (store-of ts os ps q l) (Awaiter.GatherSlot g source) x ≡ d
         → settled (store-of ts us ps q l) Onward.Nowhere ≡ fail-gather (store-of ts os ps q l) (g .0) x
-        → delivered (store-of ts us ps q (d .store .log)) Found.Nothing ≡ d
+        → delivered (store-of ts us ps q (d .store .log)) FoundTask.Nothing ≡ d
     unfolding deliver-awaiter-failure send-error climb nobody-woken
     error-stays l e f = rw (← e, ← f)
 

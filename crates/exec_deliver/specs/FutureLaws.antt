@@ -20,9 +20,10 @@ use Rattle.asyncio.specs.declared.Object.{Object}
 use Rattle.rows.specs.Tables.{object-at, object-put, header-at}
 use Rattle.rows.specs.TableLaws.{object-at-fits, header-at-fits}
 use Rattle.queue.specs.declared.ReadyQueue.{ReadyQueue}
-use Rattle.scheduler.specs.declared.tasks.Found.{Found}
-use Rattle.scheduler.specs.Search.{found}
-use Rattle.scheduler.specs.SearchLaws.{found-at, found-nothing}
+use Rattle.scheduler.specs.declared.tasks.FoundTask.{FoundTask}
+use Rattle.scheduler.specs.declared.tasks.FoundObject.{FoundObject}
+use Rattle.scheduler.specs.Search.{found-object}
+use Rattle.scheduler.specs.SearchLaws.{object-found, no-object}
 use Rattle.machine.specs.Store.{Store, LogEntry, store-of, object, put-object}
 use Rattle.machine.specs.Scheduler.{PendingExternal, as-pending, first-from, is-call, pending-external-in, pending-external}
 use Rattle.machine.specs.Delivery.{Delivery, value-or, settle-pending, settle-found, resolve-pending, fail-pending, resolve-future, fail-future, deliver-awaiter-success, deliver-awaiter-failure}
@@ -40,10 +41,10 @@ first-below p (suc k) i j e = by (p i) e (first-below p k (i + 1) j)
     by false q f = omega (arith, f q)
 
 -- the object that a call was found at
-pub found-below : (os : List ℕ) (call n : ℕ) {d : Found} → d ≡ found (pending-external-in os call) → d ≡ Found.At n → n < object-limit
+pub found-below : (os : List ℕ) (call : ℕ) (n : HeapId) {d : FoundObject} → d ≡ found-object (pending-external-in os call) → d ≡ FoundObject.At n → n .0 < object-limit
 unfolding pending-external-in
 found-below os call n e t =
-    omega (arith, first-below (is-call os call) (header-at os .made) 0 n (found-at (first-from (is-call os call) 0 (header-at os .made)) n (sym e ∙ t)), header-at-fits os .made-fits)
+    omega (arith, first-below (is-call os call) (header-at os .made) 0 (n .0) (object-found (first-from (is-call os call) 0 (header-at os .made)) n (sym e ∙ t)), header-at-fits os .made-fits)
 
 -- the awaiter of a pending external that was read is in range
 pub external-range : (os : List ℕ) (o : ℕ) {x : Object} {c : CallId} {s : ExternalFutureState} {w : Awaiter} {y : OptionValue}
@@ -71,7 +72,7 @@ module _ (ts os ps : List ℕ) (q : ReadyQueue) (l : List LogEntry) where
       resolve-goes v g p = rw (← e, f, a, p, g)
 
       pub resolves : (v : Value) {u : Value} → u ≡ value-or y v → us ≡ object-put os o (Object.ExternalFuture c (ExternalFutureState.Resolved u))
-          → {ts′ os′ ps′ : List ℕ} {q′ : ReadyQueue} (k : Found)
+          → {ts′ os′ ps′ : List ℕ} {q′ : ReadyQueue} (k : FoundTask)
           → delivered (store-of ts′ os′ ps′ q′ (deliver-awaiter-success (store-of ts us ps q l) w u .store .log)) k ≡ deliver-awaiter-success (store-of ts us ps q l) w u
           → store-of ts′ os′ ps′ q′ (resolve-at (store-of ts os ps q l) o v .log) ≡ resolve-at (store-of ts os ps q l) o v
       resolves v g p k d = rw (resolve-goes v g p) (ap (λ (r : Delivery). r .store) d)
@@ -82,33 +83,33 @@ module _ (ts os ps : List ℕ) (q : ReadyQueue) (l : List LogEntry) where
       fail-goes v p = rw (← e, f, a, p)
 
       pub fails-at : (v : Error) → us ≡ object-put os o (Object.ExternalFuture c (ExternalFutureState.Failed v))
-          → {ts′ os′ : List ℕ} {q′ : ReadyQueue} (k : Found)
+          → {ts′ os′ : List ℕ} {q′ : ReadyQueue} (k : FoundTask)
           → delivered (store-of ts′ os′ ps q′ (deliver-awaiter-failure (store-of ts us ps q l) w v .store .log)) k ≡ deliver-awaiter-failure (store-of ts us ps q l) w v
           → store-of ts′ os′ ps q′ (fail-at (store-of ts os ps q l) o v .log) ≡ fail-at (store-of ts os ps q l) o v
       fails-at v p k d = rw (fail-goes v p) (ap (λ (r : Delivery). r .store) d)
 
-  module _ (call : ℕ) {d : Found} (e : d ≡ found (pending-external-in os call)) where
-    free : d ≡ Found.Nothing → pending-external-in os call ≡ none
-    free t = found-nothing (pending-external-in os call) (sym e ∙ t)
+  module _ (call : ℕ) {d : FoundObject} (e : d ≡ found-object (pending-external-in os call)) where
+    free : d ≡ FoundObject.Nothing → pending-external-in os call ≡ none
+    free t = no-object (pending-external-in os call) (sym e ∙ t)
 
-    here : (n : ℕ) → d ≡ Found.At n → pending-external-in os call ≡ some n
-    here n t = found-at (pending-external-in os call) n (sym e ∙ t)
+    here : (n : HeapId) → d ≡ FoundObject.At n → pending-external-in os call ≡ some (n .0)
+    here n t = object-found (pending-external-in os call) n (sym e ∙ t)
 
-    pub resolve-none : (v : Value) → d ≡ Found.Nothing → store-of ts os ps q (resolve-future (store-of ts os ps q l) call v .log) ≡ resolve-future (store-of ts os ps q l) call v
+    pub resolve-none : (v : Value) → d ≡ FoundObject.Nothing → store-of ts os ps q (resolve-future (store-of ts os ps q l) call v .log) ≡ resolve-future (store-of ts os ps q l) call v
     unfolding resolve-future pending-external settle-found
     resolve-none v t = rw (free t)
 
-    pub fail-none : (v : Error) → d ≡ Found.Nothing → store-of ts os ps q (fail-future (store-of ts os ps q l) call v .log) ≡ fail-future (store-of ts os ps q l) call v
+    pub fail-none : (v : Error) → d ≡ FoundObject.Nothing → store-of ts os ps q (fail-future (store-of ts os ps q l) call v .log) ≡ fail-future (store-of ts os ps q l) call v
     unfolding fail-future pending-external settle-found
     fail-none v t = rw (free t)
 
-    module _ (n : ℕ) (t : d ≡ Found.At n) {h : HeapId} (i : h .0 ≡ n) {ts′ os′ ps′ : List ℕ} {q′ : ReadyQueue} where
-      pub resolve-found : (v : Value) → store-of ts′ os′ ps′ q′ (resolve-at (store-of ts os ps q l) (h .0) v .log) ≡ resolve-at (store-of ts os ps q l) (h .0) v
+    module _ (n : HeapId) (t : d ≡ FoundObject.At n) {ts′ os′ ps′ : List ℕ} {q′ : ReadyQueue} where
+      pub resolve-found : (v : Value) → store-of ts′ os′ ps′ q′ (resolve-at (store-of ts os ps q l) (n .0) v .log) ≡ resolve-at (store-of ts os ps q l) (n .0) v
           → store-of ts′ os′ ps′ q′ (resolve-future (store-of ts os ps q l) call v .log) ≡ resolve-future (store-of ts os ps q l) call v
       unfolding resolve-future pending-external resolve-at
-      resolve-found v r = rw (here n t, ← i) r
+      resolve-found v r = rw (here n t) r
 
-      pub fail-found : (v : Error) → store-of ts′ os′ ps′ q′ (fail-at (store-of ts os ps q l) (h .0) v .log) ≡ fail-at (store-of ts os ps q l) (h .0) v
+      pub fail-found : (v : Error) → store-of ts′ os′ ps′ q′ (fail-at (store-of ts os ps q l) (n .0) v .log) ≡ fail-at (store-of ts os ps q l) (n .0) v
           → store-of ts′ os′ ps′ q′ (fail-future (store-of ts os ps q l) call v .log) ≡ fail-future (store-of ts os ps q l) call v
       unfolding fail-future pending-external fail-at
-      fail-found v r = rw (here n t, ← i) r
+      fail-found v r = rw (here n t) r

@@ -9,7 +9,7 @@ use exec_fill::gather::Onward;
 use exec_fill::gather::fail;
 use exec_fill::gather::resolve_child;
 use queue::ReadyQueue;
-use scheduler::tasks::Found;
+use scheduler::tasks::FoundTask;
 ghost use Rattle.asyncio.specs.Ranges.{AwaiterFits};
 ghost use Rattle.machine.specs.Delivery.{deliver-awaiter-success, deliver-awaiter-failure};
 ghost use Rattle.contract.specs.Contract.{Lengths₂And, LengthsAnd};
@@ -34,7 +34,7 @@ pub fn deliver_awaiter_success(
             Awaiter::Nobody => {
                 return Delivered {
                     queue,
-                    woken: Found::Nothing,
+                    woken: FoundTask::Nothing,
                 };
             }
             Awaiter::Task(t) => return deliver_to_task(tasks, queue, t, TaskState::Woken(given)),
@@ -44,7 +44,7 @@ pub fn deliver_awaiter_success(
                     Onward::Nowhere => {
                         return Delivered {
                             queue,
-                            woken: Found::Nothing,
+                            woken: FoundTask::Nothing,
                         };
                     }
                     Onward::To(w) => {
@@ -74,7 +74,7 @@ pub fn deliver_awaiter_failure(
             Awaiter::Nobody => {
                 return Delivered {
                     queue,
-                    woken: Found::Nothing,
+                    woken: FoundTask::Nothing,
                 };
             }
             Awaiter::Task(t) => return deliver_to_task(tasks, queue, t, TaskState::Raised(error)),
@@ -84,7 +84,7 @@ pub fn deliver_awaiter_failure(
                     Onward::Nowhere => {
                         return Delivered {
                             queue,
-                            woken: Found::Nothing,
+                            woken: FoundTask::Nothing,
                         };
                     }
                     Onward::To(w) => {

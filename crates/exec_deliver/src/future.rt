@@ -8,7 +8,7 @@ use asyncio::Object;
 use asyncio::OptionValue;
 use asyncio::Value;
 use queue::ReadyQueue;
-use scheduler::tasks::Found;
+use scheduler::tasks::FoundObject;
 use scheduler::tasks::take_pending_external;
 ghost use mathlib.Core.Path.{_≡_};
 ghost use Prim.Native.Nat.{_<_};
@@ -85,8 +85,8 @@ pub fn resolve_future(
 {
     let found = take_pending_external(objects, call);
     match found {
-        Found::Nothing => queue,
-        Found::At(o) => resolve_at(tasks, objects, places, queue, HeapId::new(o), value),
+        FoundObject::Nothing => queue,
+        FoundObject::At(o) => resolve_at(tasks, objects, places, queue, o, value),
     }
 }
 
@@ -145,7 +145,7 @@ pub fn fail_future(
 {
     let found = take_pending_external(objects, call);
     match found {
-        Found::Nothing => queue,
-        Found::At(o) => fail_at(tasks, objects, queue, HeapId::new(o), error),
+        FoundObject::Nothing => queue,
+        FoundObject::At(o) => fail_at(tasks, objects, queue, o, error),
     }
 }

@@ -2,7 +2,7 @@
 use asyncio::TaskId;
 use asyncio::TaskState;
 use queue::ReadyQueue;
-use scheduler::tasks::Found;
+use scheduler::tasks::FoundTask;
 ghost use Prim.Native.Nat.{_<_};
 ghost use Rattle.asyncio.specs.Limits.{task-limit};
 ghost use Rattle.machine.specs.Delivery.{deliver-to-task};
@@ -12,7 +12,7 @@ ghost use Rattle.exec_deliver.specs.Delivers.{DeliversOfTasks};
 // The queue after a delivery, and the task that it woke.
 pub struct Delivered {
     pub queue: ReadyQueue,
-    pub woken: Found,
+    pub woken: FoundTask,
 }
 
 // A blocked task becomes ready with a value or an error. Any other receives nothing.
@@ -29,11 +29,11 @@ pub fn deliver_to_task(
         let q = scheduler::states::make_ready(tasks, queue, t, state);
         return Delivered {
             queue: q,
-            woken: Found::At(t.0),
+            woken: FoundTask::At(t),
         };
     }
     Delivered {
         queue,
-        woken: Found::Nothing,
+        woken: FoundTask::Nothing,
     }
 }

@@ -13,10 +13,12 @@ use Rattle.asyncio.specs.Ranges.{AwaiterFits}
 use Rattle.asyncio.specs.declared.Value.{Value}
 use Rattle.asyncio.specs.declared.Error.{Error}
 use Rattle.asyncio.specs.declared.Task.{Task}
+use Rattle.asyncio.specs.States.{is-main}
+use Rattle.asyncio.specs.declared.TaskId.{TaskId}
 use Rattle.asyncio.specs.declared.Awaiter.{Awaiter}
 use Rattle.rows.specs.Tables.{task-at, object-at, object-put}
 use Rattle.queue.specs.declared.ReadyQueue.{ReadyQueue}
-use Rattle.scheduler.specs.declared.tasks.Found.{Found}
+use Rattle.scheduler.specs.declared.tasks.FoundTask.{FoundTask}
 use Rattle.exec_fill.specs.Delivered.{number, delivered}
 use Rattle.machine.specs.Store.{Store, LogEntry, exited, store-of, task, object, put-object, add-log}
 use Rattle.machine.specs.Scheduler.{pending-calls-in, pending-call-ids, remove-task, cleanup}
@@ -34,14 +36,14 @@ use Rattle.exec_switch.specs.declared.answer.Answer.{Answer}
 
 -- the task that a delivery woke is in range
 pub success-found : (ts os ps : List ℕ) (q : ReadyQueue) (l : List LogEntry) (a : Awaiter) (v : Value) → length ts ≡ tasks-length → length os ≡ objects-length → length ps ≡ places-length
-    → AwaiterFits a → {s : Store} (m : Found) → delivered s m ≡ deliver-awaiter-success (store-of ts os ps q l) a v → FoundFits m
+    → AwaiterFits a → {s : Store} (m : FoundTask) → delivered s m ≡ deliver-awaiter-success (store-of ts os ps q l) a v → FoundFits m
 success-found ts os ps q l a v z y w f m d =
     by m (success-woken (store-of ts os ps q l) a v (record { tasks-sized = z; objects-sized = y; places-sized = w }) f .fits) (ap (λ (k : Delivery). k .woken) d)
   where
-    by : (n : Found) → ((u : ℕ) → deliver-awaiter-success (store-of ts os ps q l) a v .woken ≡ some u → u < task-limit)
+    by : (n : FoundTask) → ((u : ℕ) → deliver-awaiter-success (store-of ts os ps q l) a v .woken ≡ some u → u < task-limit)
         → number n ≡ deliver-awaiter-success (store-of ts os ps q l) a v .woken → FoundFits n
-    by (Found.At u) k g = k u (sym g)
-    by Found.Nothing k g = tt
+    by (FoundTask.At u) k g = k (u .0) (sym g)
+    by FoundTask.Nothing k g = tt
 
 module _ (ts os ps : List ℕ) (q : ReadyQueue) (l : List LogEntry) where
   abbrev here : Store
@@ -51,7 +53,7 @@ module _ (ts os ps : List ℕ) (q : ReadyQueue) (l : List LogEntry) where
 
   module _ (t : ℕ) (v : Value) {r : Task} (e : r ≡ task-at ts t) {os₁ : List ℕ} (o : os₁ ≡ object-put os (r .coroutine .0) (completed (object-at os (r .coroutine .0))))
       {ts₁ : List ℕ} {q₁ : ReadyQueue} (g : (us rs : List ℕ) (k : List LogEntry) → store-of ts₁ us rs q₁ k ≡ remove-task (store-of ts us rs q k) t)
-      {ts₂ os₂ ps₂ : List ℕ} {q₂ : ReadyQueue} (m : Found)
+      {ts₂ os₂ ps₂ : List ℕ} {q₂ : ReadyQueue} (m : FoundTask)
       (d : delivered (store-of ts₂ os₂ ps₂ q₂ (deliver-awaiter-success (store-of ts₁ os₁ ps q₁ (exited t ∷ l)) (r .awaiter) v .store .log)) m
       ≡ deliver-awaiter-success (store-of ts₁ os₁ ps q₁ (exited t ∷ l)) (r .awaiter) v) where
     gives : Store → Switched
@@ -91,37 +93,37 @@ end-answers : (s : Store) {ts os ps : List ℕ} {q : ReadyQueue} → store-of ts
 unfolding end-main
 end-answers s {ts} {os} {ps} {q} r a b f = rw (f os) (ap (λ (x : Store). record { store = x; answer = b }) r)
 
-module _ (ts os ps : List ℕ) (q : ReadyQueue) (l : List LogEntry) (t : ℕ) where
+module _ (ts os ps : List ℕ) (q : ReadyQueue) (l : List LogEntry) (t : TaskId) {b : Bool} (m : b ≡ is-main t) where
   abbrev start : Store
   start = store-of ts os ps q l
 
   module _ (v : Value) where
-    pub complete-main : t ≡ 0 → {ts′ os′ : List ℕ} {q′ : ReadyQueue} → store-of ts′ os′ ps q′ (cleanup start .log) ≡ cleanup start
-        → stepped-of (store-of ts′ os′ ps q′ (task-completes start t v .store .log)) (Answer.Finished v) ≡ task-completes start t v
+    pub complete-main : b ≡ true → {ts′ os′ : List ℕ} {q′ : ReadyQueue} → store-of ts′ os′ ps q′ (cleanup start .log) ≡ cleanup start
+        → stepped-of (store-of ts′ os′ ps q′ (task-completes start (t .0) v .store .log)) (Answer.Finished v) ≡ task-completes start (t .0) v
     complete-main e r =
-        let k : task-completes start t v ≡ end-main start (machine.Answer.finished v) = unfold task-completes in (rw (eq-eqb t 0 e)) in
+        let k : task-completes start (t .0) v ≡ end-main start (machine.Answer.finished v) = unfold task-completes in (rw (sym m ∙ e)) in
         same-step k (Answer.Finished v) (end-answers start r (Answer.Finished v) (machine.Answer.finished v) (λ us. refl))
 
-    pub complete-spawned : (t ≡ 0 → ⊥) → {ts′ os′ ps′ : List ℕ} {q′ : ReadyQueue} (c : Control)
-        → switched-of (store-of ts′ os′ ps′ q′ (handle-task-completion start t v .store .log)) c ≡ handle-task-completion start t v
-        → stepped-of (store-of ts′ os′ ps′ q′ (task-completes start t v .store .log)) (Answer.Switched c) ≡ task-completes start t v
+    pub complete-spawned : b ≡ false → {ts′ os′ ps′ : List ℕ} {q′ : ReadyQueue} (c : Control)
+        → switched-of (store-of ts′ os′ ps′ q′ (handle-task-completion start (t .0) v .store .log)) c ≡ handle-task-completion start (t .0) v
+        → stepped-of (store-of ts′ os′ ps′ q′ (task-completes start (t .0) v .store .log)) (Answer.Switched c) ≡ task-completes start (t .0) v
     complete-spawned n c r =
-        let k : task-completes start t v ≡ switched (handle-task-completion start t v) = unfold task-completes in (rw (ne-eqb t 0 n)) in
-        same-step k (Answer.Switched c) (switch-answers (handle-task-completion start t v) c r)
+        let k : task-completes start (t .0) v ≡ switched (handle-task-completion start (t .0) v) = unfold task-completes in (rw (sym m ∙ n)) in
+        same-step k (Answer.Switched c) (switch-answers (handle-task-completion start (t .0) v) c r)
 
   module _ (x : Error) where
-    pub fail-main : t ≡ 0 → {ts′ os′ : List ℕ} {q′ : ReadyQueue} → store-of ts′ os′ ps q′ (cleanup start .log) ≡ cleanup start
-        → stepped-of (store-of ts′ os′ ps q′ (task-fails start t x .store .log)) (Answer.FinishedError x) ≡ task-fails start t x
+    pub fail-main : b ≡ true → {ts′ os′ : List ℕ} {q′ : ReadyQueue} → store-of ts′ os′ ps q′ (cleanup start .log) ≡ cleanup start
+        → stepped-of (store-of ts′ os′ ps q′ (task-fails start (t .0) x .store .log)) (Answer.FinishedError x) ≡ task-fails start (t .0) x
     fail-main e r =
-        let k : task-fails start t x ≡ end-main start (machine.Answer.finished-error x) = unfold task-fails in (rw (eq-eqb t 0 e)) in
+        let k : task-fails start (t .0) x ≡ end-main start (machine.Answer.finished-error x) = unfold task-fails in (rw (sym m ∙ e)) in
         same-step k (Answer.FinishedError x) (end-answers start r (Answer.FinishedError x) (machine.Answer.finished-error x) (λ us. refl))
 
-    pub fail-spawned : (t ≡ 0 → ⊥) → {ts′ os′ ps′ : List ℕ} {q′ : ReadyQueue} (c : Control)
-        → switched-of (store-of ts′ os′ ps′ q′ (handle-task-failure activate start t x .store .log)) c ≡ handle-task-failure activate start t x
-        → stepped-of (store-of ts′ os′ ps′ q′ (task-fails start t x .store .log)) (Answer.Switched c) ≡ task-fails start t x
+    pub fail-spawned : b ≡ false → {ts′ os′ ps′ : List ℕ} {q′ : ReadyQueue} (c : Control)
+        → switched-of (store-of ts′ os′ ps′ q′ (handle-task-failure activate start (t .0) x .store .log)) c ≡ handle-task-failure activate start (t .0) x
+        → stepped-of (store-of ts′ os′ ps′ q′ (task-fails start (t .0) x .store .log)) (Answer.Switched c) ≡ task-fails start (t .0) x
     fail-spawned n c r =
-        let k : task-fails start t x ≡ switched (handle-task-failure activate start t x) = unfold task-fails in (rw (ne-eqb t 0 n)) in
-        same-step k (Answer.Switched c) (switch-answers (handle-task-failure activate start t x) c r)
+        let k : task-fails start (t .0) x ≡ switched (handle-task-failure activate start (t .0) x) = unfold task-fails in (rw (sym m ∙ n)) in
+        same-step k (Answer.Switched c) (switch-answers (handle-task-failure activate start (t .0) x) c r)
 
 -- ---- resume
 

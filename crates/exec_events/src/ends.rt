@@ -90,7 +90,7 @@ pub fn complete(
     requires { ⌜ LengthsAnd tasks objects places (t .0 < task-limit) ⌝ }
     ensures { λ r. ⌜ Answers tasks objects places queue (λ s. task-completes s (t .0) value) r ⌝ }
 {
-    if t.0 == 0 {
+    if t.is_main() {
         let q = cleanup(tasks, objects);
         return Stepped {
             queue: q,
@@ -117,7 +117,7 @@ pub fn fail(
     requires { ⌜ Lengths₂And tasks objects (t .0 < task-limit) ⌝ }
     ensures { λ r. ⌜ AnswersKeepingPlaces tasks objects queue (λ s. task-fails s (t .0) error) r ⌝ }
 {
-    if t.0 == 0 {
+    if t.is_main() {
         let q = cleanup(tasks, objects);
         return Stepped {
             queue: q,

@@ -2,19 +2,19 @@
 use Prim.Native.Nat.{ℕ}
 use mathlib.Core.Option.{Option, none, some}
 use Rattle.asyncio.specs.declared.Awaiter.{Awaiter}
-use Rattle.scheduler.specs.declared.tasks.Found.{Found}
+use Rattle.scheduler.specs.declared.tasks.FoundTask.{FoundTask}
 use Rattle.machine.specs.Store.{Store}
 use Rattle.machine.specs.Delivery.{Delivery, Settled}
 use Rattle.contract.specs.Contract.{Slice, DoesOfObjects, DoesOfObjectsAndPlaces}
 use Rattle.exec_fill.specs.declared.gather.Onward.{Onward}
 
--- a number that was found, or none
-abbrev pub number : Found → Option ℕ
-number (Found.At n) = some n
-number Found.Nothing = none
+-- the number of a task that was found, or none
+abbrev pub number : FoundTask → Option ℕ
+number (FoundTask.At t) = some (t .0)
+number FoundTask.Nothing = none
 
 -- a store, and the task that was woken
-abbrev pub delivered : Store → Found → Delivery
+abbrev pub delivered : Store → FoundTask → Delivery
 delivered s w = record { store = s; woken = number w }
 
 -- where a gather's result goes on to

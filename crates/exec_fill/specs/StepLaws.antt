@@ -17,7 +17,8 @@ use Rattle.asyncio.specs.declared.TaskState.{TaskState}
 use Rattle.rows.specs.Tables.{task-at, object-at, object-put}
 use Rattle.rows.specs.TableLaws.{object-at-fits}
 use Rattle.queue.specs.declared.ReadyQueue.{ReadyQueue}
-use Rattle.scheduler.specs.declared.tasks.Found.{Found}
+use Rattle.asyncio.specs.Numbers.{task-id}
+use Rattle.scheduler.specs.declared.tasks.FoundTask.{FoundTask}
 use Rattle.machine.specs.Store.{Store, LogEntry, store-of, task, object, put-object, put-places, add-log}
 use Rattle.machine.specs.Scheduler.{as-awaited, make-ready}
 use Rattle.machine.specs.Delivery.{Filled, filled, fill-from, nobody-woken, deliver-to-task, resolve-left, resolve-awaited, resolve-child, fail-awaited, fail-gather}
@@ -28,11 +29,11 @@ use Rattle.exec_fill.specs.declared.gather.Onward.{Onward}
 
 module _ (ts os ps : List ℕ) (q : ReadyQueue) (l : List LogEntry) (t : ℕ) (x : TaskState) {b : Bool} (e : b ≡ is-blocked (task-at ts t .state)) where
   pub reaches : b ≡ true → {us : List ℕ} {r : ReadyQueue} → store-of us os ps r l ≡ make-ready (store-of ts os ps q l) t x
-      → delivered (store-of us os ps r (deliver-to-task (store-of ts os ps q l) t x .store .log)) (Found.At t) ≡ deliver-to-task (store-of ts os ps q l) t x
+      → delivered (store-of us os ps r (deliver-to-task (store-of ts os ps q l) t x .store .log)) (FoundTask.At (task-id t)) ≡ deliver-to-task (store-of ts os ps q l) t x
   unfolding deliver-to-task add-log task
   reaches k m = rw (← e, k, ← m)
 
-  pub reaches-not : b ≡ false → delivered (store-of ts os ps q (deliver-to-task (store-of ts os ps q l) t x .store .log)) Found.Nothing ≡ deliver-to-task (store-of ts os ps q l) t x
+  pub reaches-not : b ≡ false → delivered (store-of ts os ps q (deliver-to-task (store-of ts os ps q l) t x .store .log)) FoundTask.Nothing ≡ deliver-to-task (store-of ts os ps q l) t x
   unfolding deliver-to-task nobody-woken task
   reaches-not k = rw (← e, k)
 

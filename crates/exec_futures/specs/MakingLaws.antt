@@ -34,14 +34,14 @@ module _ (ts os ps : List ℕ) (q : ReadyQueue) (l : List LogEntry) {h : Header}
   added x n i u v = rw (v, i, u, e)
 
   pub allocated : us ≡ header-put os (record { made = h .made; used = h .used; calls = h .calls + 1; next = h .next; moment = h .moment })
-      → store-of ts us ps q l ≡ set-calls (store-of ts os ps q l) (h .calls + 1)
+      → {c : CallId} → c ≡ call-id (h .calls) → store-of ts us ps q l ≡ set-calls (store-of ts os ps q l) (c .0 + 1)
   unfolding set-calls put-header header
-  allocated u = rw (u, e)
+  allocated u j = rw (u, j, e)
 
 -- ---- a settled external
 
-module _ (os : List ℕ) (z : length os ≡ objects-length) (n : ℕ) (k : n < call-limit) {us : List ℕ}
-    (g : (ts ps : List ℕ) (q : ReadyQueue) (l : List LogEntry) → store-of ts us ps q l ≡ set-calls (store-of ts os ps q l) (n + 1)) where
+module _ (os : List ℕ) (z : length os ≡ objects-length) (c : CallId) (k : c .0 < call-limit) {us : List ℕ}
+    (g : (ts ps : List ℕ) (q : ReadyQueue) (l : List LogEntry) → store-of ts us ps q l ≡ set-calls (store-of ts os ps q l) (c .0 + 1)) where
   pub allocated-made : header-at us .made ≡ header-at os .made
   unfolding set-calls put-header header
   allocated-made =
@@ -50,14 +50,13 @@ module _ (os : List ℕ) (z : length os ≡ objects-length) (n : ℕ) (k : n < c
       (ap (λ (x : Header). x .made)
       (header-at-put os _ (record { made-fits = f .made-fits; used-fits = f .used-fits; calls-fit = omega arith; next-fits = f .next-fits; moment-fits = f .moment-fits }) (omega arith)))
 
-  pub settles : n ≡ header-at os .calls → (v : Value) {c : CallId} → c ≡ call-id n → (ts ps : List ℕ) (q : ReadyQueue) (l : List LogEntry)
+  pub settles : c .0 ≡ header-at os .calls → (v : Value) (ts ps : List ℕ) (q : ReadyQueue) (l : List LogEntry)
       → {vs : List ℕ} → store-of ts vs ps q l ≡ add-object (store-of ts us ps q l) (Object.ExternalFuture c (ExternalFutureState.Resolved v)) 0
       → store-of ts vs ps q l ≡ make-settled (store-of ts os ps q l) v
   unfolding make-settled header
-  settles i v {c} j ts ps q l a =
-      let b : add-object (set-calls (store-of ts os ps q l) (n + 1)) (Object.ExternalFuture c (ExternalFutureState.Resolved v)) 0
-      ≡ add-object (set-calls (store-of ts os ps q l) (header-at os .calls + 1)) (Object.ExternalFuture (call-id (header-at os .calls)) (ExternalFutureState.Resolved v)) 0 = rw (j, i) in
-      a ∙ ap (λ (s : Store). add-object s (Object.ExternalFuture c (ExternalFutureState.Resolved v)) 0) (g ts ps q l) ∙ b
+  settles i v ts ps q l a =
+      a ∙ ap (λ (s : Store). add-object s (Object.ExternalFuture c (ExternalFutureState.Resolved v)) 0) (g ts ps q l)
+      ∙ ap (λ (n : ℕ). add-object (set-calls (store-of ts os ps q l) (n + 1)) (Object.ExternalFuture (call-id n) (ExternalFutureState.Resolved v)) 0) i
 
 -- ---- a gather
 

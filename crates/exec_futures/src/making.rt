@@ -43,9 +43,9 @@ fn add_object(objects: &mut [u64], x: Object, n: u16) -> HeapId
 }
 
 // The next call's number is handed out.
-pub fn allocate_call_id(objects: &mut [u64]) -> u32
-    requires { ⌜ ObjectsLength objects ⌝ }
-    ensures { λ r. ⌜ (r ≡ header-at (now (objects .entry)) .calls) × ChangesObjects objects (λ s. set-calls s (r + 1)) ⌝ }
+pub fn allocate_call_id(objects: &mut [u64]) -> CallId
+    requires { ⌜ ObjectsLength objects × HasCall objects ⌝ }
+    ensures { λ r. ⌜ (r .0 ≡ header-at (now (objects .entry)) .calls) × ChangesObjects objects (λ s. set-calls s (r .0 + 1)) ⌝ }
 {
     let header = rows::tables::load_header(objects);
     let moment = header.moment;
@@ -60,7 +60,7 @@ pub fn allocate_call_id(objects: &mut [u64]) -> u32
             moment,
         },
     );
-    n
+    CallId::new(n as u16)
 }
 
 // A new coroutine of a function.
@@ -95,9 +95,9 @@ pub fn settled_awaitable(objects: &mut [u64], value: Value) -> HeapId
     requires { ⌜ ObjectsLength objects × HasRoom objects × HasCall objects ⌝ }
     ensures { λ r. ⌜ MakesObject objects (λ s. make-settled s value) r ⌝ }
 {
-    let n = allocate_call_id(objects);
+    let call = allocate_call_id(objects);
     let x = Object::ExternalFuture {
-        call: CallId::new(n as u16),
+        call,
         state: ExternalFutureState::Resolved(value),
     };
     add_object(objects, x, 0)

@@ -13,7 +13,7 @@ use Rattle.exec_switch.specs.declared.answer.Stepped.{Stepped}
 -- the answer: a wait with these calls
 abbrev pub answer-with : List ℕ → Answer → machine.Answer
 answer-with cs (Answer.Made o) = machine.Answer.made (o .0)
-answer-with cs (Answer.Called n) = machine.Answer.called n
+answer-with cs (Answer.Called n) = machine.Answer.called (n .0)
 answer-with cs (Answer.Switched c) = machine.Answer.control (control-with cs c)
 answer-with cs (Answer.Awaited c n) = machine.Answer.awaited (control-with cs c) n
 answer-with cs Answer.Done = machine.Answer.done

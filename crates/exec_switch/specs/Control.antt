@@ -11,7 +11,7 @@ use Rattle.machine.specs.Store.{Store, LogEntry}
 use Rattle.machine.specs.Scheduler.{pending-calls-in}
 use Rattle.machine.specs.Events as machine
 use Rattle.contract.specs.Contract.{Slice, kept, Does, DoesKeepingPlaces, DoesKeepingLogAt, DoesOfObjectsAndQueue}
-use Rattle.scheduler.specs.declared.tasks.Found.{Found}
+use Rattle.scheduler.specs.declared.tasks.FoundTask.{FoundTask}
 use Rattle.exec_switch.specs.declared.control.How.{How}
 use Rattle.exec_switch.specs.declared.control.Control.{Control}
 use Rattle.exec_switch.specs.declared.control.Switched.{Switched}
@@ -53,9 +53,9 @@ function-of none = NewFunction.None
 function-of (some f) = NewFunction.Some f
 
 -- a task that was found has a number in range
-abbrev pub FoundFits : Found → Type 0
-FoundFits (Found.At n) = n < task-limit
-FoundFits Found.Nothing = Unit {0}
+abbrev pub FoundFits : FoundTask → Type 0
+FoundFits (FoundTask.At t) = t .0 < task-limit
+FoundFits FoundTask.Nothing = Unit {0}
 
 -- ---- what a call does
 

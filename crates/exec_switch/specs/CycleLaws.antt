@@ -22,7 +22,7 @@ use Rattle.rows.specs.Tables.{task-at, task-put, object-at, object-put}
 use Rattle.rows.specs.TableLaws.{task-at-fits}
 use Rattle.queue.specs.declared.ReadyQueue.{ReadyQueue}
 use Rattle.queue.specs.Queue.{front-of, pop-front, remove}
-use Rattle.scheduler.specs.declared.tasks.Found.{Found}
+use Rattle.scheduler.specs.declared.tasks.FoundTask.{FoundTask}
 use Rattle.exec_fill.specs.Delivered.{number, delivered}
 use Rattle.exec_deliver.specs.ClimbLaws.{some-places, some-places-long}
 use Rattle.machine.specs.Store.{Store, LogEntry, exited, store-of, task, put-task, object, put-object, put-queue, add-log, absent, set-moment, set-state, put-header}
@@ -118,17 +118,17 @@ module _ (ts os ps : List ℕ) (q : ReadyQueue) (l : List LogEntry) where
 
   -- ---- resume_after_task_exit
 
-  pub exit-next : (m : Found) → m ≡ Found.Nothing → {ts′ os′ : List ℕ} {q′ : ReadyQueue} (c : Control)
+  pub exit-next : (m : FoundTask) → m ≡ FoundTask.Nothing → {ts′ os′ : List ℕ} {q′ : ReadyQueue} (c : Control)
       → switched-of (store-of ts′ os′ ps q′ (resume-next activate here .store .log)) c ≡ resume-next activate here
       → switched-of (store-of ts′ os′ ps q′ (resume-after-task-exit activate (delivered here m) .store .log)) c ≡ resume-after-task-exit activate (delivered here m)
   unfolding resume-after-task-exit
   exit-next m e c r = rw e r
 
-  pub exit-wakes : (m : Found) (n : ℕ) → m ≡ Found.At n → {t : TaskId} → t .0 ≡ n → {p : ReadyQueue} → p ≡ remove q (t .0) → {ts′ os′ : List ℕ} {q′ : ReadyQueue} (c : Control)
+  pub exit-wakes : (m : FoundTask) (t : TaskId) → m ≡ FoundTask.At t → {p : ReadyQueue} → p ≡ remove q (t .0) → {ts′ os′ : List ℕ} {q′ : ReadyQueue} (c : Control)
       → switched-of (store-of ts′ os′ ps q′ (activate (store-of ts os ps p l) (t .0) .store .log)) c ≡ activate (store-of ts os ps p l) (t .0)
       → switched-of (store-of ts′ os′ ps q′ (resume-after-task-exit activate (delivered here m) .store .log)) c ≡ resume-after-task-exit activate (delivered here m)
   unfolding resume-after-task-exit remove-from-ready-queue put-queue
-  exit-wakes m n e i g c r = rw (e, ← i, ← g) r
+  exit-wakes m t e g c r = rw (e, ← g) r
 
   -- ---- switch_or_yield
 
@@ -149,7 +149,7 @@ module _ (ts os ps : List ℕ) (q : ReadyQueue) (l : List LogEntry) where
 
   -- ---- handle_task_failure
 
-  module _ (t : ℕ) (x : Error) {a : Awaiter} (e : a ≡ task-at ts t .awaiter) {ts₁ os₁ : List ℕ} {q₁ : ReadyQueue} (m : Found)
+  module _ (t : ℕ) (x : Error) {a : Awaiter} (e : a ≡ task-at ts t .awaiter) {ts₁ os₁ : List ℕ} {q₁ : ReadyQueue} (m : FoundTask)
       (d : delivered (store-of ts₁ os₁ ps q₁ (deliver-awaiter-failure here a x .store .log)) m ≡ deliver-awaiter-failure here a x)
       {ts₂ : List ℕ} {q₂ : ReadyQueue} (r : (us rs : List ℕ) (k : List LogEntry) → store-of ts₂ us rs q₂ k ≡ remove-task (store-of ts₁ us rs q₁ k) t) where
     abbrev left-log : List LogEntry
@@ -190,7 +190,7 @@ start-falls ts t z h e f os q y =
 
 -- the words of the tasks when a task has failed: as many live as if it had just gone
 module _ (ts os : List ℕ) (q : ReadyQueue) (t : ℕ) (x : Error) (z : length ts ≡ tasks-length) (y : length os ≡ objects-length) (h : t < task-limit)
-    {a : Awaiter} (e : a ≡ task-at ts t .awaiter) {ts₁ os₁ : List ℕ} {q₁ : ReadyQueue} (m : Found)
+    {a : Awaiter} (e : a ≡ task-at ts t .awaiter) {ts₁ os₁ : List ℕ} {q₁ : ReadyQueue} (m : FoundTask)
     (d : delivered (store-of ts₁ os₁ some-places q₁ (deliver-awaiter-failure (store-of ts os some-places q []) a x .store .log)) m ≡ deliver-awaiter-failure (store-of ts os some-places q []) a x) where
   sized : Sized (store-of ts os some-places q [])
   sized = record { tasks-sized = z; objects-sized = y; places-sized = some-places-long }
@@ -211,7 +211,7 @@ module _ (ts os : List ℕ) (q : ReadyQueue) (t : ℕ) (x : Error) (z : length t
   pub failure-found : FoundFits m
   failure-found = by m (failure-woken (store-of ts os some-places q []) a x sized awaiter-fits .fits) (ap (λ (k : Delivery). k .woken) d)
     where
-      by : (n : Found) → ((u : ℕ) → deliver-awaiter-failure (store-of ts os some-places q []) a x .woken ≡ some u → u < task-limit)
+      by : (n : FoundTask) → ((u : ℕ) → deliver-awaiter-failure (store-of ts os some-places q []) a x .woken ≡ some u → u < task-limit)
           → number n ≡ deliver-awaiter-failure (store-of ts os some-places q []) a x .woken → FoundFits n
-      by (Found.At u) k g = k u (sym g)
-      by Found.Nothing k g = tt
+      by (FoundTask.At u) k g = k (u .0) (sym g)
+      by FoundTask.Nothing k g = tt

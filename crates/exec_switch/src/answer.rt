@@ -1,5 +1,6 @@
 // The answers of document 01. The calls of a wait are those pending in the store, and the places of a gather that is shown stand there too.
 use crate::control::Control;
+use asyncio::CallId;
 use asyncio::Error;
 use asyncio::HeapId;
 use asyncio::Value;
@@ -7,7 +8,7 @@ use queue::ReadyQueue;
 
 pub enum Answer {
     Made(HeapId),
-    Called(u32),
+    Called(CallId),
     Switched(Control),
     Awaited { control: Control, steps: u16 },
     Done,

@@ -12,7 +12,7 @@ use asyncio::TaskState;
 use exec_deliver::climb::deliver_awaiter_failure;
 use queue::ReadyQueue;
 use scheduler::states::remove_task;
-use scheduler::tasks::Found;
+use scheduler::tasks::FoundTask;
 ghost use mathlib.Core.Path.{_≡_};
 ghost use Prim.Native.Nat.{_<_};
 ghost use Rattle.asyncio.specs.Limits.{task-limit, object-limit};
@@ -126,18 +126,15 @@ pub fn resume_after_task_exit(
     tasks: &mut [u64],
     objects: &mut [u64],
     queue: ReadyQueue,
-    woken: Found,
+    woken: FoundTask,
 ) -> Switched
     requires { ⌜ Lengths₂And tasks objects (FoundFits woken) ⌝ }
     ensures { λ r. ⌜ SwitchesKeepingPlaces tasks objects queue
         (λ s. resume-after-task-exit activate (delivered s woken)) r ⌝ }
 {
     match woken {
-        Found::Nothing => switch_or_yield(tasks, objects, queue),
-        Found::At(n) => {
-            let t = TaskId::new(n);
-            activate_task(tasks, objects, queue.remove(t), t)
-        }
+        FoundTask::Nothing => switch_or_yield(tasks, objects, queue),
+        FoundTask::At(t) => activate_task(tasks, objects, queue.remove(t), t),
     }
 }
 

@@ -7,8 +7,12 @@ use Prim.Native.Nat.{ℕ, suc, _+_, _-_, _≤_, _<_}
 use native.Mathlib.Omega.{arith}
 use Rattle.asyncio.specs.declared.Header.{Header}
 use Rattle.rows.specs.Tables.{task-at, header-at}
-use Rattle.scheduler.specs.Search.{found}
-use Rattle.scheduler.specs.declared.tasks.Found.{Found}
+use Rattle.asyncio.specs.Numbers.{task-id, heap-id}
+use Rattle.asyncio.specs.declared.TaskId.{TaskId}
+use Rattle.asyncio.specs.declared.HeapId.{HeapId}
+use Rattle.scheduler.specs.Search.{found-task, found-object}
+use Rattle.scheduler.specs.declared.tasks.FoundTask.{FoundTask}
+use Rattle.scheduler.specs.declared.tasks.FoundObject.{FoundObject}
 use Rattle.machine.specs.Scheduler.{first-from, is-task-of, task-of-in, is-call, pending-external-in}
 
 -- j is the number that the code tested, i as a number of its type
@@ -35,10 +39,18 @@ unfolding pending-external-in
 pending-begins os call {h} e = let k : h .made - 0 ≡ h .made = omega arith in rw (k, e)
 
 -- what the code found is what the search gave
-pub found-at : (o : Option ℕ) (n : ℕ) → found o ≡ Found.At n → o ≡ some n
-found-at none n e = let z : _≡_ {A = ℕ} 0 1 = cc in absurd (omega arith)
-found-at (some m) n e = let z : m ≡ n = cc in ap some z
+pub task-found : (o : Option ℕ) (t : TaskId) → found-task o ≡ FoundTask.At t → o ≡ some (t .0)
+task-found none t e = let z : _≡_ {A = ℕ} 0 1 = cc in absurd (omega arith)
+task-found (some m) t e = let z : task-id m ≡ t = cc in ap (λ (x : TaskId). some (x .0)) z
 
-pub found-nothing : (o : Option ℕ) → found o ≡ Found.Nothing → o ≡ none
-found-nothing none e = refl
-found-nothing (some m) e = let z : _≡_ {A = ℕ} 0 1 = cc in absurd (omega arith)
+pub no-task : (o : Option ℕ) → found-task o ≡ FoundTask.Nothing → o ≡ none
+no-task none e = refl
+no-task (some m) e = let z : _≡_ {A = ℕ} 0 1 = cc in absurd (omega arith)
+
+pub object-found : (o : Option ℕ) (h : HeapId) → found-object o ≡ FoundObject.At h → o ≡ some (h .0)
+object-found none h e = let z : _≡_ {A = ℕ} 0 1 = cc in absurd (omega arith)
+object-found (some m) h e = let z : heap-id m ≡ h = cc in ap (λ (x : HeapId). some (x .0)) z
+
+pub no-object : (o : Option ℕ) → found-object o ≡ FoundObject.Nothing → o ≡ none
+no-object none e = refl
+no-object (some m) e = let z : _≡_ {A = ℕ} 0 1 = cc in absurd (omega arith)

@@ -6,34 +6,35 @@ use mathlib.Core.Option.{none, some}
 use Prim.Native.Nat.{ℕ, _≤_, _<_}
 use borrow.Author.Tests.{lt-ltb, le-ltb}
 use Rattle.asyncio.specs.Limits.{task-limit}
+use Rattle.asyncio.specs.declared.TaskId.{TaskId}
 use Rattle.asyncio.specs.declared.Header.{Header}
 use Rattle.rows.specs.Tables.{header-at}
 use Rattle.rows.specs.TableLaws.{header-at-fits}
 use Rattle.queue.specs.declared.ReadyQueue.{ReadyQueue}
 use Rattle.machine.specs.Store.{spawned, header}
 use Rattle.machine.specs.Scheduler.{task-of-in, task-of, spawn, spawn-unless}
-use Rattle.scheduler.specs.Search.{found}
-use Rattle.scheduler.specs.SearchLaws.{found-at, found-nothing}
+use Rattle.scheduler.specs.Search.{found-task}
+use Rattle.scheduler.specs.SearchLaws.{task-found, no-task}
 use Rattle.scheduler.specs.Spawn.{SpawnsAs, Spawns, done, not-done}
-use Rattle.scheduler.specs.declared.tasks.Found.{Found}
+use Rattle.scheduler.specs.declared.tasks.FoundTask.{FoundTask}
 
-module _ (ts os : List ℕ) (q : ReadyQueue) (c g : ℕ) {h : Header} {d : Found} (e : h ≡ header-at os) (f : d ≡ found (task-of-in ts (h .next) c)) where
-  pub spawn-taken : (n : ℕ) → d ≡ Found.At n → Spawns ts os q c g ts os q false
+module _ (ts os : List ℕ) (q : ReadyQueue) (c g : ℕ) {h : Header} {d : FoundTask} (e : h ≡ header-at os) (f : d ≡ found-task (task-of-in ts (h .next) c)) where
+  pub spawn-taken : (n : TaskId) → d ≡ FoundTask.At n → Spawns ts os q c g ts os q false
   unfolding spawn spawn-unless task-of header
   spawn-taken n t =
-      let k : task-of-in ts (header-at os .next) c ≡ some n = rw e at (found-at (task-of-in ts (h .next) c) n (sym f ∙ t)) in
+      let k : task-of-in ts (header-at os .next) c ≡ some (n .0) = rw e at (task-found (task-of-in ts (h .next) c) n (sym f ∙ t)) in
       not-done (λ ps l. rw k)
 
-  free : d ≡ Found.Nothing → task-of-in ts (header-at os .next) c ≡ none
-  free t = rw e at (found-nothing (task-of-in ts (h .next) c) (sym f ∙ t))
+  free : d ≡ FoundTask.Nothing → task-of-in ts (header-at os .next) c ≡ none
+  free t = rw e at (no-task (task-of-in ts (h .next) c) (sym f ∙ t))
 
-  pub spawn-full : d ≡ Found.Nothing → task-limit ≤ h .next → Spawns ts os q c g ts os q false
+  pub spawn-full : d ≡ FoundTask.Nothing → task-limit ≤ h .next → Spawns ts os q c g ts os q false
   unfolding spawn spawn-unless task-of header
   spawn-full t l =
       let k : task-limit ≤ header-at os .next = rw e at l in
       not-done (λ ps x. rw (free t, le-ltb (header-at os .next) task-limit k))
 
-  pub spawn-done : d ≡ Found.Nothing → h .next < task-limit → {ts′ os′ : List ℕ} {q′ : ReadyQueue} → SpawnsAs ts os q h c g ts′ os′ q′
+  pub spawn-done : d ≡ FoundTask.Nothing → h .next < task-limit → {ts′ os′ : List ℕ} {q′ : ReadyQueue} → SpawnsAs ts os q h c g ts′ os′ q′
       → Spawns ts os q c g ts′ os′ q′ true
   unfolding spawn spawn-unless task-of header
   spawn-done t l {ts′} {os′} {q′} r =

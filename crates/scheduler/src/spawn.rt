@@ -1,5 +1,5 @@
 // spawn: a task for a coroutine, one at a time.
-use crate::tasks::Found;
+use crate::tasks::FoundTask;
 use crate::tasks::task_of;
 use asyncio::Awaiter;
 use asyncio::Header;
@@ -70,8 +70,8 @@ pub fn spawn(
     let next = header.next;
     let d = task_of(tasks, next, c);
     match d {
-        Found::At(_) => Spawned { done: false, queue },
-        Found::Nothing => {
+        FoundTask::At(_) => Spawned { done: false, queue },
+        FoundTask::Nothing => {
             if next < 513 {
                 let q = spawn_as(tasks, objects, queue, header, c, g);
                 return Spawned {

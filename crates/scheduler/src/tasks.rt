@@ -6,12 +6,18 @@ ghost use Prim.Native.Nat.{_<_, _≤_};
 ghost use Rattle.asyncio.specs.Limits.{task-limit, object-limit};
 ghost use Rattle.rows.specs.Tables.{task-at};
 ghost use Rattle.machine.specs.Scheduler.{is-task-of, task-of-in, is-call, pending-external-in};
-ghost use Rattle.scheduler.specs.Search.{found};
+ghost use Rattle.scheduler.specs.Search.{found-task, found-object};
 ghost use Rattle.contract.specs.Contract.{TasksLength, ObjectsLength};
 
-// What a search found: a number, or nothing.
-pub enum Found {
-    At(u16),
+// What a search for a task found.
+pub enum FoundTask {
+    At(TaskId),
+    Nothing,
+}
+
+// What a search for an object found.
+pub enum FoundObject {
+    At(HeapId),
     Nothing,
 }
 
@@ -29,18 +35,19 @@ fn is_task_of(tasks: &[u64], t: TaskId, c: HeapId) -> bool
 }
 
 // The live spawned task below `next` that drives object `c`.
-pub fn task_of(tasks: &[u64], next: u16, c: HeapId) -> Found
+pub fn task_of(tasks: &[u64], next: u16, c: HeapId) -> FoundTask
     requires { ⌜ TasksLength tasks × (next ≤ task-limit) ⌝ }
-    ensures { λ r. ⌜ r ≡ found (task-of-in (now (tasks .entry)) next (c .0)) ⌝ }
+    ensures { λ r. ⌜ r ≡ found-task (task-of-in (now (tasks .entry)) next (c .0)) ⌝ }
 {
     let mut t: u16 = 1;
     while t < next {
-        if is_task_of(tasks, TaskId::new(t), c) {
-            return Found::At(t);
+        let id = TaskId::new(t);
+        if is_task_of(tasks, id, c) {
+            return FoundTask::At(id);
         }
         t += 1;
     }
-    Found::Nothing
+    FoundTask::Nothing
 }
 
 // Is object `o` a pending external of that call?
@@ -56,19 +63,21 @@ fn is_call(objects: &[u64], call: u32, o: HeapId) -> bool
     false
 }
 
-// The pending external of a call. A call number that was cut to nothing finds nothing: it is compared whole.
-pub fn take_pending_external(objects: &[u64], call: u32) -> Found
+// The pending external of a call. It only searches: nothing is taken out, and the store stays. The number is compared whole, so that one
+// above 65,535 finds nothing.
+pub fn take_pending_external(objects: &[u64], call: u32) -> FoundObject
     requires { ⌜ ObjectsLength objects ⌝ }
-    ensures { λ r. ⌜ r ≡ found (pending-external-in (now (objects .entry)) call) ⌝ }
+    ensures { λ r. ⌜ r ≡ found-object (pending-external-in (now (objects .entry)) call) ⌝ }
 {
     let header = rows::tables::load_header(objects);
     let made = header.made;
     let mut o: u16 = 0;
     while o < made {
-        if is_call(objects, call, HeapId::new(o)) {
-            return Found::At(o);
+        let id = HeapId::new(o);
+        if is_call(objects, call, id) {
+            return FoundObject::At(id);
         }
         o += 1;
     }
-    Found::Nothing
+    FoundObject::Nothing
 }

@@ -16,6 +16,7 @@ use Rattle.asyncio.specs.Parts.{first-of, count-of, awaiter-of, open-of}
 use Rattle.asyncio.specs.Numbers.{to-heap-id}
 use Rattle.asyncio.specs.Ranges.{ObjectFits, PlacesFit}
 use Rattle.asyncio.specs.declared.HeapId.{HeapId}
+use Rattle.asyncio.specs.declared.TaskId.{TaskId}
 use Rattle.asyncio.specs.declared.Awaiter.{Awaiter}
 use Rattle.asyncio.specs.declared.CoroutineState.{CoroutineState}
 use Rattle.asyncio.specs.declared.ExternalFutureState.{ExternalFutureState}
@@ -32,10 +33,11 @@ use Rattle.machine.specs.Scheduler.{AwaitedGather, as-awaited, is-some, blocked
 use Rattle.machine.specs.Scheduler.{Walk, reach-if, reach, remove-blocked, still-live, visit-by, visit, visit-place, visit-open, walk-gather, walk-next, walk-from, cancel-task}
 use Rattle.machine_laws.specs.Statements.{unmarked, walk-rest}
 use Rattle.machine_laws.specs.CycleLaws.{CountsKept, mark-falls, blocked-fits, blocked-counts-kept, place-counts-kept, gather-counts-kept, walk-once, all-unmarked, cancel-walks}
-use Rattle.scheduler.specs.Search.{found}
-use Rattle.scheduler.specs.SearchLaws.{found-at, found-nothing}
+use Rattle.scheduler.specs.Search.{found-task, found-object}
+use Rattle.scheduler.specs.SearchLaws.{task-found, no-task, object-found, no-object}
 use Rattle.scheduler_cancel.specs.Cancel.{tasks-of-in, below, walked, walk-of, Shows, awaited-places}
-use Rattle.scheduler.specs.declared.tasks.Found.{Found}
+use Rattle.scheduler.specs.declared.tasks.FoundTask.{FoundTask}
+use Rattle.scheduler.specs.declared.tasks.FoundObject.{FoundObject}
 use Rattle.scheduler_cancel.specs.declared.cancel.Walked.{Walked}
 
 -- ---- the stack
@@ -123,24 +125,25 @@ module _ (ds ts os ps : List ℕ) (q : ReadyQueue) (d : ℕ) (l : List LogEntry)
 -- ---- remove_blocked
 
 -- what a task is blocked on is in range
-pub blocked-object : (ts : List ℕ) (t : ℕ) {x : TaskState} {b : Found} (o : ℕ) → x ≡ task-at ts t .state → b ≡ found (blocked-on x) → b ≡ Found.At o → o < object-limit
+pub blocked-object : (ts : List ℕ) (t : ℕ) {x : TaskState} {b : FoundObject} (o : HeapId) → x ≡ task-at ts t .state → b ≡ found-object (blocked-on x) → b ≡ FoundObject.At o
+    → o .0 < object-limit
 blocked-object ts t {x} o e f g =
-    blocked-fits (task-at ts t .state) (task-at-fits ts t .state-fits) o (rw e at (found-at (blocked-on x) o (sym f ∙ g)))
+    blocked-fits (task-at ts t .state) (task-at-fits ts t .state-fits) (o .0) (rw e at (object-found (blocked-on x) o (sym f ∙ g)))
 
 module _ (ds ts os ps : List ℕ) (at : Walked) (l : List LogEntry) (ms : List Bool) (gs : List ℕ) (t : ℕ)
-    {x : TaskState} {b : Found} (e : x ≡ task-at ts t .state) (f : b ≡ found (blocked-on x)) {us : List ℕ} {r : ReadyQueue}
+    {x : TaskState} {b : FoundObject} (e : x ≡ task-at ts t .state) (f : b ≡ found-object (blocked-on x)) {us : List ℕ} {r : ReadyQueue}
     (h : store-of us os ps r l ≡ remove-task (store-of ts os ps (at .queue) l) t) where
-  pub removes-only : b ≡ Found.Nothing → Shows ds us os ps (walked r (at .depth)) ms gs (remove-blocked (walk-of ds ts os ps at l ms gs) t (blocked-on (task-at ts t .state)))
+  pub removes-only : b ≡ FoundObject.Nothing → Shows ds us os ps (walked r (at .depth)) ms gs (remove-blocked (walk-of ds ts os ps at l ms gs) t (blocked-on (task-at ts t .state)))
   unfolding remove-blocked cancel-one add-log
-  removes-only g = let k : blocked-on (task-at ts t .state) ≡ none = rw e at (found-nothing (blocked-on x) (sym f ∙ g)) in rw (k, ← h) (record { shows = refl })
+  removes-only g = let k : blocked-on (task-at ts t .state) ≡ none = rw e at (no-object (blocked-on x) (sym f ∙ g)) in rw (k, ← h) (record { shows = refl })
 
-  pub removes-blocked : (o : ℕ) → b ≡ Found.At o → {j : ℕ} → j ≡ o → {d : ℕ} {ns : List Bool} {hs : List ℕ}
-      → walk-of ds us os ps (walked r d) (removed t ∷ l) ns hs ≡ reach (walk-of ds us os ps (walked r (at .depth)) (removed t ∷ l) ms gs) j
+  pub removes-blocked : (o : HeapId) → b ≡ FoundObject.At o → {d : ℕ} {ns : List Bool} {hs : List ℕ}
+      → walk-of ds us os ps (walked r d) (removed t ∷ l) ns hs ≡ reach (walk-of ds us os ps (walked r (at .depth)) (removed t ∷ l) ms gs) (o .0)
       → Shows ds us os ps (walked r d) ns hs (remove-blocked (walk-of ds ts os ps at l ms gs) t (blocked-on (task-at ts t .state)))
   unfolding remove-blocked cancel-one add-log
-  removes-blocked o g i {d} {ns} {hs} p =
-      let k : blocked-on (task-at ts t .state) ≡ some o = rw e at (found-at (blocked-on x) o (sym f ∙ g)) in
-      rw (k, ← h, ← i) (shows-by ds us os ps (walked r d) (removed t ∷ l) ns hs p)
+  removes-blocked o g {d} {ns} {hs} p =
+      let k : blocked-on (task-at ts t .state) ≡ some (o .0) = rw e at (object-found (blocked-on x) o (sym f ∙ g)) in
+      rw (k, ← h) (shows-by ds us os ps (walked r d) (removed t ∷ l) ns hs p)
 
 -- ---- visit, visit_place, visit_open
 
@@ -148,18 +151,18 @@ pub item-fits : (ps : List ℕ) (p : ℕ) {h : HeapId} → h ≡ place-at ps p .
 item-fits ps p e = rw e (place-at-fits ps p .item-fits)
 
 module _ (ds ts os ps : List ℕ) (at : Walked) (l : List LogEntry) (ms : List Bool) (gs : List ℕ) where
-  module _ (o : ℕ) {d : Found} (e : d ≡ found (still-live ts (tasks-of-in ds o))) where
-    pub visit-driven : (t : ℕ) → d ≡ Found.At t → {j : ℕ} → j ≡ t → {us hs : List ℕ} {r : Walked} {ns : List Bool}
-        → Shows ds us os ps r ns hs (remove-blocked (walk-of ds ts os ps at l ms gs) j (blocked-on (task-at ts j .state)))
+  module _ (o : ℕ) {d : FoundTask} (e : d ≡ found-task (still-live ts (tasks-of-in ds o))) where
+    pub visit-driven : (t : TaskId) → d ≡ FoundTask.At t → {us hs : List ℕ} {r : Walked} {ns : List Bool}
+        → Shows ds us os ps r ns hs (remove-blocked (walk-of ds ts os ps at l ms gs) (t .0) (blocked-on (task-at ts (t .0) .state)))
         → Shows ds us os ps r ns hs (visit (walk-of ds ts os ps at l ms gs) o)
     unfolding visit visit-by task
-    visit-driven t f i s = rw (found-at (still-live ts (tasks-of-in ds o)) t (sym e ∙ f), ← i) s
+    visit-driven t f s = rw (task-found (still-live ts (tasks-of-in ds o)) t (sym e ∙ f)) s
 
-    pub visit-nested : d ≡ Found.Nothing → {n : ℕ} {ns : List Bool} {hs : List ℕ}
+    pub visit-nested : d ≡ FoundTask.Nothing → {n : ℕ} {ns : List Bool} {hs : List ℕ}
         → walk-of ds ts os ps (walked (at .queue) n) l ns hs ≡ reach (walk-of ds ts os ps at l ms gs) o
         → Shows ds ts os ps (walked (at .queue) n) ns hs (visit (walk-of ds ts os ps at l ms gs) o)
     unfolding visit visit-by
-    visit-nested f {n} {ns} {hs} h = rw (found-nothing (still-live ts (tasks-of-in ds o)) (sym e ∙ f)) (shows-by ds ts os ps (walked (at .queue) n) l ns hs h)
+    visit-nested f {n} {ns} {hs} h = rw (no-task (still-live ts (tasks-of-in ds o)) (sym e ∙ f)) (shows-by ds ts os ps (walked (at .queue) n) l ns hs h)
 
   module _ (p i m : ℕ) where
     pub place-shut : m / 2 ^ i % 2 ≡ 0 → Shows ds ts os ps at ms gs (visit-place (walk-of ds ts os ps at l ms gs) p i m)

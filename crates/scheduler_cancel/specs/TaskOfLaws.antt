@@ -21,10 +21,10 @@ use Rattle.asyncio.specs.declared.TaskState.{TaskState}
 use Rattle.rows.specs.Tables.{task-at}
 use Rattle.rows.specs.TableLaws.{task-at-fits}
 use Rattle.machine.specs.Scheduler.{first-from, is-task-of, task-of-in, still-live}
-use Rattle.scheduler.specs.Search.{found}
-use Rattle.scheduler.specs.SearchLaws.{found-at}
+use Rattle.scheduler.specs.Search.{found-task}
+use Rattle.scheduler.specs.SearchLaws.{task-found}
 use Rattle.scheduler_cancel.specs.Cancel.{named, tasks-of-in, put-task-of}
-use Rattle.scheduler.specs.declared.tasks.Found.{Found}
+use Rattle.scheduler.specs.declared.tasks.FoundTask.{FoundTask}
 
 named-task : (t : ℕ) → 0 < t → t < task-limit → named t ≡ some t
 unfolding named
@@ -71,16 +71,16 @@ module _ (ts ds : List ℕ) (o : ℕ) {u : TaskId} (e : u ≡ to-task-id (getD d
   number : getD ds o 0 % task-limit ≡ u .0
   number = sym (ap (λ (x : TaskId). x .0) e)
 
-  pub task-of-none : b ≡ true → Found.Nothing ≡ found (still-live ts (tasks-of-in ds o))
+  pub task-of-none : b ≡ true → FoundTask.Nothing ≡ found-task (still-live ts (tasks-of-in ds o))
   unfolding tasks-of-in named still-live
   task-of-none t = rw (number, ← f, t)
 
   module _ (n : b ≡ false) {x : TaskState} (g : x ≡ task-at ts (u .0) .state) {y : Bool} (h : y ≡ is-live x) where
-    pub task-of-lives : y ≡ true → Found.At (u .0) ≡ found (still-live ts (tasks-of-in ds o))
+    pub task-of-lives : y ≡ true → FoundTask.At u ≡ found-task (still-live ts (tasks-of-in ds o))
     unfolding tasks-of-in named still-live
     task-of-lives t = rw (number, ← f, n, ← g, ← h, t)
 
-    pub task-of-gone : y ≡ false → Found.Nothing ≡ found (still-live ts (tasks-of-in ds o))
+    pub task-of-gone : y ≡ false → FoundTask.Nothing ≡ found-task (still-live ts (tasks-of-in ds o))
     unfolding tasks-of-in named still-live
     task-of-gone t = rw (number, ← f, n, ← g, ← h, t)
 
@@ -89,9 +89,9 @@ abbrev NumberFits : Option ℕ → Type 0
 NumberFits none = Unit {0}
 NumberFits (some t) = t < task-limit
 
-pub task-of-fits : (ts ds : List ℕ) (o : ℕ) {d : Found} (t : ℕ) → d ≡ found (still-live ts (tasks-of-in ds o)) → d ≡ Found.At t → t < task-limit
+pub task-of-fits : (ts ds : List ℕ) (o : ℕ) {d : FoundTask} (t : TaskId) → d ≡ found-task (still-live ts (tasks-of-in ds o)) → d ≡ FoundTask.At t → t .0 < task-limit
 unfolding tasks-of-in
-task-of-fits ts ds o t e f = rw (found-at (still-live ts (tasks-of-in ds o)) t (sym e ∙ f)) at (lives (tasks-of-in ds o) (names (getD ds o 0)))
+task-of-fits ts ds o t e f = rw (task-found (still-live ts (tasks-of-in ds o)) t (sym e ∙ f)) at (lives (tasks-of-in ds o) (names (getD ds o 0)))
   where
     names : (n : ℕ) → NumberFits (named n)
     names n = unfold named in (pick-has NumberFits (eqb (to-task-id n .0) 0) tt (omega arith))

@@ -4,14 +4,15 @@ use asyncio::TaskId;
 use asyncio::TaskState;
 use queue::ReadyQueue;
 use scheduler::states::remove_task;
-use scheduler::tasks::Found;
+use scheduler::tasks::FoundObject;
+use scheduler::tasks::FoundTask;
 ghost use mathlib.Core.Path.{_≡_};
 ghost use Prim.Native.Nat.{ℕ, _<_, _≤_, _+_};
 ghost use Rattle.asyncio.specs.Limits.{task-limit, object-limit, place-limit, item-limit};
 ghost use Rattle.asyncio.specs.declared.Awaiter.{Awaiter};
 ghost use Rattle.rows.specs.Tables.{task-at, object-at};
 ghost use Rattle.machine.specs.Scheduler.{as-awaited, blocked-on, task-of-in, still-live, reach, remove-blocked, visit, visit-place, visit-open, walk-gather, cancel-task};
-ghost use Rattle.scheduler.specs.Search.{found};
+ghost use Rattle.scheduler.specs.Search.{found-task, found-object};
 ghost use Rattle.scheduler_cancel.specs.Cancel.{put-task-of, tasks-of-in, awaited-places, TableLength, MarksLength, Reaches, WalksOfTasks, WalksKeepingPlaces, Walks, HasRoom};
 ghost use Rattle.contract.specs.Contract.{TasksLength, ObjectsLength, PlacesLength, LengthsAnd, Changes};
 
@@ -45,20 +46,20 @@ fn find_tasks(tasks: &[u64], next: u16) -> [u64; 256]
 }
 
 // The task that drives object `o` by the table, if it still lives.
-fn live_task_of(tasks: &[u64], table: &[u64], o: HeapId) -> Found
+fn live_task_of(tasks: &[u64], table: &[u64], o: HeapId) -> FoundTask
     requires { ⌜ TasksLength tasks × TableLength table × (o .0 < object-limit) ⌝ }
-    ensures { λ r. ⌜ r ≡ found (still-live (now (tasks .entry)) (tasks-of-in (now (table .entry)) (o .0))) ⌝ }
+    ensures { λ r. ⌜ r ≡ found-task (still-live (now (tasks .entry)) (tasks-of-in (now (table .entry)) (o .0))) ⌝ }
 {
     let i = o.0 as usize;
     let t = TaskId::from_word(table[i]);
     if t.is_main() {
-        return Found::Nothing;
+        return FoundTask::Nothing;
     }
     let state = rows::parts::state_at(tasks, t);
     if state.is_live() {
-        return Found::At(t.0);
+        return FoundTask::At(t);
     }
-    Found::Nothing
+    FoundTask::Nothing
 }
 
 // ---- the walk: marks for the gathers that were reached, a stack of those still to be walked
@@ -70,16 +71,16 @@ pub struct Walked {
 }
 
 // What a task in that state is blocked on.
-fn blocked_on(state: TaskState) -> Found
-    ensures { λ r. ⌜ r ≡ found (blocked-on state) ⌝ }
+fn blocked_on(state: TaskState) -> FoundObject
+    ensures { λ r. ⌜ r ≡ found-object (blocked-on state) ⌝ }
 {
     match state {
-        TaskState::Absent => Found::Nothing,
-        TaskState::Unstarted => Found::Nothing,
-        TaskState::Running => Found::Nothing,
-        TaskState::Woken(_) => Found::Nothing,
-        TaskState::Raised(_) => Found::Nothing,
-        TaskState::Blocked(o) => Found::At(o.0),
+        TaskState::Absent => FoundObject::Nothing,
+        TaskState::Unstarted => FoundObject::Nothing,
+        TaskState::Running => FoundObject::Nothing,
+        TaskState::Woken(_) => FoundObject::Nothing,
+        TaskState::Raised(_) => FoundObject::Nothing,
+        TaskState::Blocked(o) => FoundObject::At(o),
     }
 }
 
@@ -120,11 +121,11 @@ fn remove_blocked(
     let ready = at.queue;
     let queue = remove_task(tasks, ready, t);
     match blocked {
-        Found::At(o) => {
-            let depth = reach(objects, marks, stack, at.depth, HeapId::new(o));
+        FoundObject::At(o) => {
+            let depth = reach(objects, marks, stack, at.depth, o);
             Walked { queue, depth }
         }
-        Found::Nothing => {
+        FoundObject::Nothing => {
             let depth = at.depth;
             Walked { queue, depth }
         }
@@ -147,8 +148,8 @@ fn visit(
 {
     let d = live_task_of(tasks, table, o);
     match d {
-        Found::At(t) => remove_blocked(tasks, objects, marks, stack, at, TaskId::new(t)),
-        Found::Nothing => {
+        FoundTask::At(t) => remove_blocked(tasks, objects, marks, stack, at, t),
+        FoundTask::Nothing => {
             let depth = reach(objects, marks, stack, at.depth, o);
             let queue = at.queue;
             Walked { queue, depth }

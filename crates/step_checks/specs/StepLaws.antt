@@ -10,6 +10,7 @@ use lib.ListN.{length}
 use borrow.Author.Tests.{le-leb, lt-leb, leb-false, lt-ltb, le-ltb, ltb-false}
 use Rattle.asyncio.specs.Limits.{object-limit, item-limit, place-limit, call-limit, result-limit, task-limit}
 use Rattle.asyncio.specs.Ranges.{HeaderFits, MomentFits}
+use Rattle.asyncio.specs.declared.CallId.{CallId}
 use Rattle.asyncio.specs.declared.HeapId.{HeapId}
 use Rattle.asyncio.specs.declared.TaskId.{TaskId}
 use Rattle.asyncio.specs.declared.Value.{Value}
@@ -20,9 +21,9 @@ use Rattle.asyncio.specs.declared.Header.{Header}
 use Rattle.rows.specs.Tables.{object-at, header-at}
 use Rattle.rows.specs.TableLaws.{header-at-fits}
 use Rattle.queue.specs.declared.ReadyQueue.{ReadyQueue}
-use Rattle.scheduler.specs.declared.tasks.Found.{Found}
-use Rattle.scheduler.specs.Search.{found}
-use Rattle.scheduler.specs.SearchLaws.{found-at, found-nothing}
+use Rattle.scheduler.specs.declared.tasks.FoundObject.{FoundObject}
+use Rattle.scheduler.specs.Search.{found-object}
+use Rattle.scheduler.specs.SearchLaws.{object-found, no-object}
 use Rattle.machine.specs.Store.{Store, LogEntry, store-of, object, header, set-calls}
 use Rattle.machine.specs.Scheduler.{is-some, pending-external-in, pending-external}
 use Rattle.machine.specs.Sound.{is-ended, value-known, option-known}
@@ -91,12 +92,12 @@ module _ (ts os ps : List ℕ) (q : ReadyQueue) (l : List LogEntry) {x : Turn} (
       unfolding refusals no-number header
       call-refused i = refused-by Event.call _ refl 7 (met 8 _ [] (sym e ∙ i))
 
-      pub call-given : b ≡ false → {os′ : List ℕ} {n : ℕ} → n ≡ header-at os .calls → store-of ts os′ ps q l ≡ set-calls here (n + 1)
+      pub call-given : b ≡ false → {os′ : List ℕ} {n : CallId} → n .0 ≡ header-at os .calls → store-of ts os′ ps q l ≡ set-calls here (n .0 + 1)
           → stepped-of (store-of ts os′ ps q l) (Answer.Called n) ≡ checked here Event.call
       call-given i {os′} {n} j m =
-          let a : accept here Event.call ≡ record { store = set-calls here (n + 1); answer = machine.Answer.called n } = unfold accept header in (rw (← j)) in
+          let a : accept here Event.call ≡ record { store = set-calls here (n .0 + 1); answer = machine.Answer.called (n .0) } = unfold accept header in (rw (← j)) in
           let d : checked here Event.call ≡ accept here Event.call = done Event.call ((8, no-number here) ∷ []) (unfold refusals in refl) (unmet 8 (no-number here) [] (unfold no-number header in (sym e ∙ i)) ∙ none-met) in
-          ap (λ (s : Store). record { store = s; answer = machine.Answer.called n }) m ∙ sym (d ∙ a)
+          ap (λ (s : Store). record { store = s; answer = machine.Answer.called (n .0) }) m ∙ sym (d ∙ a)
 
     -- ---- pending
 
@@ -127,19 +128,19 @@ module _ (ts os ps : List ℕ) (q : ReadyQueue) (l : List LogEntry) {x : Turn} (
         unfolding refusals header object
         pending-unknown k = refused-by (Event.pending c r) _ refl 4 (met 5 _ _ (or-second _ _ heard (rw (known-as, k))))
 
-        module _ (k : b ≡ true) {d : Found} (m : d ≡ found (pending-external-in os c)) where
+        module _ (k : b ≡ true) {d : FoundObject} (m : d ≡ found-object (pending-external-in os c)) where
           fine : (leb (header-at os .calls) c || not (option-known (header-at os .made) (object-at os) r)) ≡ false
           fine = or-none _ _ heard (rw (known-as, k))
 
-          pub pending-again : (n : ℕ) → d ≡ Found.At n → stepped-of here (Answer.Refused 6) ≡ checked here (Event.pending c r)
+          pub pending-again : (n : HeapId) → d ≡ FoundObject.At n → stepped-of here (Answer.Refused 6) ≡ checked here (Event.pending c r)
           unfolding refusals header object pending-external is-some
           pending-again n j =
-              refused-by (Event.pending c r) _ refl 5 (unmet 5 _ _ fine ∙ met 6 _ _ (rw (found-at (pending-external-in os c) n (sym m ∙ j))))
+              refused-by (Event.pending c r) _ refl 5 (unmet 5 _ _ fine ∙ met 6 _ _ (rw (object-found (pending-external-in os c) n (sym m ∙ j))))
 
-          module _ (j : d ≡ Found.Nothing) {u : Bool} (y : u ≡ leb object-limit (header-at os .made)) where
+          module _ (j : d ≡ FoundObject.Nothing) {u : Bool} (y : u ≡ leb object-limit (header-at os .made)) where
             free : is-some (pending-external-in os c) ≡ false
             unfolding is-some
-            free = rw (found-nothing (pending-external-in os c) (sym m ∙ j))
+            free = rw (no-object (pending-external-in os c) (sym m ∙ j))
 
             pub pending-full : u ≡ true → stepped-of here (Answer.Refused 7) ≡ checked here (Event.pending c r)
             unfolding refusals header object pending-external full

@@ -15,7 +15,7 @@ use exec_futures::making::settled_awaitable;
 use exec_switch::answer::Answer;
 use exec_switch::answer::Stepped;
 use queue::ReadyQueue;
-use scheduler::tasks::Found;
+use scheduler::tasks::FoundObject;
 use scheduler::tasks::take_pending_external;
 use sound_rows::values::option_known;
 use sound_rows::values::value_known;
@@ -107,18 +107,18 @@ pub fn pending(objects: &mut [u64], queue: ReadyQueue, call: u32, stored: Option
             if option_known(made, objects, stored) {
                 let found = take_pending_external(objects, call);
                 return match found {
-                    Found::At(_) => Stepped {
+                    FoundObject::At(_) => Stepped {
                         queue,
                         answer: Answer::Refused(6),
                     },
-                    Found::Nothing => {
+                    FoundObject::Nothing => {
                         if is_full(objects) {
                             return Stepped {
                                 queue,
                                 answer: Answer::Refused(7),
                             };
                         }
-                        let o = push_pending_future(objects, CallId(call as u16), stored);
+                        let o = push_pending_future(objects, CallId::new(call as u16), stored);
                         Stepped {
                             queue,
                             answer: Answer::Made(o),

@@ -75,7 +75,7 @@ fn result_unknown(objects: &[u64], made: u16, results: &[u8], at: usize) -> bool
         if endian::u8_at(results, at + 5) == 1 {
             let g = endian::u64_at(results, at + 6);
             if g < made as u64 {
-                let kind = rows::parts::kind_at(objects, HeapId(g as u16));
+                let kind = rows::parts::kind_at(objects, HeapId::new(g as u16));
                 return !kind.is_completed();
             }
             return true;

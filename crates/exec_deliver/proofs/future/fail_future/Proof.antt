@@ -1,7 +1,4 @@
 use denote.Ref.{now}
-use mathlib.Core.Path.{ap, _∙_}
-use native.Mathlib.Omega.{arith}
-use Rattle.asyncio.specs.declared.HeapId.{HeapId}
 use Rattle.exec_deliver.specs.FutureLaws.{fail-none, fail-found, found-below}
 use borrow.Author.Needs.{needs}
 use Rattle.exec_deliver.proofs.future.fail_future.Statement.{statement}
@@ -16,11 +13,8 @@ enum-told c = search needs
 enum-known-found : tie.Need-enum-known-found
 enum-known-found c = search needs
 
-new-requires : tie.Need-new-requires
-new-requires c κs = search needs
-
 fail-at-requires : tie.Need-fail-at-requires
-fail-at-requires c κs = (c .before .before .before .before .before .before .before .before .before .before .pre .0, c .before .before .before .before .before .before .before .before .before .before .pre .1, omega (arith, ap (λ (h : HeapId). h .0) (c .new .ensures), found-below (now (c .before .before .before .before .before .before .before .before .before .before .args .objects)) (c .before .before .before .before .before .before .before .before .before .before .args .call) (c .before .before .before .before .found .given .0 .0) (c .before .before .before .before .before .before .take-pending-external .ensures) (c .before .before .before .before .found .given .1)))
+fail-at-requires c κs = (c .before .before .before .before .before .before .before .before .before .pre .0, c .before .before .before .before .before .before .before .before .before .pre .1, found-below (now (c .before .before .before .before .before .before .before .before .before .args .objects)) (c .before .before .before .before .before .before .before .before .before .args .call) (c .before .before .before .found .given .0 .0) (c .before .before .before .before .before .take-pending-external .ensures) (c .before .before .before .found .given .1))
 
 same-length : tie.Need-same-length
 same-length c = search needs
@@ -35,7 +29,7 @@ same-length-3 : tie.Need-same-length-3
 same-length-3 c = search needs
 
 returns-2 : tie.Need-returns-2
-returns-2 c = λ ps l z. fail-found (now (c .before .before .before .before .before .before .before .before .before .before .before .before .before .before .before .args .tasks)) (now (c .before .before .before .before .before .before .before .before .before .before .before .before .before .before .before .args .objects)) ps (c .before .before .before .before .before .before .before .before .before .before .before .before .before .before .before .args .queue) l (c .before .before .before .before .before .before .before .before .before .before .before .before .before .before .before .args .call) (c .before .before .before .before .before .before .before .before .before .before .before .take-pending-external .ensures) (c .before .before .before .before .before .before .before .before .before .found .given .0 .0) (c .before .before .before .before .before .before .before .before .before .found .given .1) (ap (λ (h : HeapId). h .0) (c .before .before .before .before .before .new .ensures)) (c .before .before .before .before .before .before .before .before .before .before .before .before .before .before .before .args .error) (c .before .before .before .before .fail-at .ensures ps l z)
+returns-2 c = λ ps l z. fail-found (now (c .before .before .before .before .before .before .before .before .before .before .before .before .before .before .args .tasks)) (now (c .before .before .before .before .before .before .before .before .before .before .before .before .before .before .args .objects)) ps (c .before .before .before .before .before .before .before .before .before .before .before .before .before .before .args .queue) l (c .before .before .before .before .before .before .before .before .before .before .before .before .before .before .args .call) (c .before .before .before .before .before .before .before .before .before .before .take-pending-external .ensures) (c .before .before .before .before .before .before .before .before .found .given .0 .0) (c .before .before .before .before .before .before .before .before .found .given .1) (c .before .before .before .before .before .before .before .before .before .before .before .before .before .before .args .error) (c .before .before .before .before .fail-at .ensures ps l z)
 
 pub fail-future-spec : {M : Type 1} → statement M
 fail-future-spec =
@@ -44,7 +38,6 @@ fail-future-spec =
     take-pending-external-requires
     enum-told
     enum-known-found
-    new-requires
     fail-at-requires
     same-length
     returns

@@ -1,7 +1,4 @@
 use denote.Ref.{now}
-use mathlib.Core.Path.{ap, _∙_}
-use native.Mathlib.Omega.{arith}
-use Rattle.asyncio.specs.declared.HeapId.{HeapId}
 use Rattle.exec_deliver.specs.FutureLaws.{resolve-none, resolve-found, found-below}
 use borrow.Author.Needs.{needs}
 use Rattle.exec_deliver.proofs.future.resolve_future.Statement.{statement}
@@ -16,11 +13,8 @@ enum-told c = search needs
 enum-known-found : tie.Need-enum-known-found
 enum-known-found c = search needs
 
-new-requires : tie.Need-new-requires
-new-requires c κs = search needs
-
 resolve-at-requires : tie.Need-resolve-at-requires
-resolve-at-requires c κs = (c .before .before .before .before .before .before .before .before .before .before .before .before .pre .0, c .before .before .before .before .before .before .before .before .before .before .before .before .pre .1, c .before .before .before .before .before .before .before .before .before .before .before .before .pre .2, omega (arith, ap (λ (h : HeapId). h .0) (c .new .ensures), found-below (now (c .before .before .before .before .before .before .before .before .before .before .before .before .args .objects)) (c .before .before .before .before .before .before .before .before .before .before .before .before .args .call) (c .before .before .before .before .before .found .given .0 .0) (c .before .before .before .before .before .before .before .take-pending-external .ensures) (c .before .before .before .before .before .found .given .1)))
+resolve-at-requires c κs = (c .before .before .before .before .before .before .before .before .before .before .before .pre .0, c .before .before .before .before .before .before .before .before .before .before .before .pre .1, c .before .before .before .before .before .before .before .before .before .before .before .pre .2, found-below (now (c .before .before .before .before .before .before .before .before .before .before .before .args .objects)) (c .before .before .before .before .before .before .before .before .before .before .before .args .call) (c .before .before .before .before .found .given .0 .0) (c .before .before .before .before .before .before .take-pending-external .ensures) (c .before .before .before .before .found .given .1))
 
 same-length : tie.Need-same-length
 same-length c = search needs
@@ -38,7 +32,7 @@ same-length-4 : tie.Need-same-length-4
 same-length-4 c = search needs
 
 returns-2 : tie.Need-returns-2
-returns-2 c = λ l. resolve-found (now (c .before .before .before .before .before .before .before .before .before .before .before .before .before .before .before .before .before .before .before .args .tasks)) (now (c .before .before .before .before .before .before .before .before .before .before .before .before .before .before .before .before .before .before .before .args .objects)) (now (c .before .before .before .before .before .before .before .before .before .before .before .before .before .before .before .before .before .before .before .args .places)) (c .before .before .before .before .before .before .before .before .before .before .before .before .before .before .before .before .before .before .before .args .queue) l (c .before .before .before .before .before .before .before .before .before .before .before .before .before .before .before .before .before .before .before .args .call) (c .before .before .before .before .before .before .before .before .before .before .before .before .before .before .take-pending-external .ensures) (c .before .before .before .before .before .before .before .before .before .before .before .before .found .given .0 .0) (c .before .before .before .before .before .before .before .before .before .before .before .before .found .given .1) (ap (λ (h : HeapId). h .0) (c .before .before .before .before .before .before .before .new .ensures)) (c .before .before .before .before .before .before .before .before .before .before .before .before .before .before .before .before .before .before .before .args .value) (c .before .before .before .before .before .before .resolve-at .ensures l)
+returns-2 c = λ l. resolve-found (now (c .before .before .before .before .before .before .before .before .before .before .before .before .before .before .before .before .before .before .args .tasks)) (now (c .before .before .before .before .before .before .before .before .before .before .before .before .before .before .before .before .before .before .args .objects)) (now (c .before .before .before .before .before .before .before .before .before .before .before .before .before .before .before .before .before .before .args .places)) (c .before .before .before .before .before .before .before .before .before .before .before .before .before .before .before .before .before .before .args .queue) l (c .before .before .before .before .before .before .before .before .before .before .before .before .before .before .before .before .before .before .args .call) (c .before .before .before .before .before .before .before .before .before .before .before .before .before .take-pending-external .ensures) (c .before .before .before .before .before .before .before .before .before .before .before .found .given .0 .0) (c .before .before .before .before .before .before .before .before .before .before .before .found .given .1) (c .before .before .before .before .before .before .before .before .before .before .before .before .before .before .before .before .before .before .args .value) (c .before .before .before .before .before .before .resolve-at .ensures l)
 
 pub resolve-future-spec : {M : Type 1} → statement M
 resolve-future-spec =
@@ -47,7 +41,6 @@ resolve-future-spec =
     take-pending-external-requires
     enum-told
     enum-known-found
-    new-requires
     resolve-at-requires
     same-length
     returns

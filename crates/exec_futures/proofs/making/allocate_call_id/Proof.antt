@@ -4,6 +4,7 @@ use mathlib.Core.Path.{_≡_, ap, _∙_}
 use native.Mathlib.Omega.{arith}
 use denote.Ref.{now}
 use Rattle.asyncio.specs.declared.Header.{Header}
+use Rattle.asyncio.specs.declared.CallId.{CallId}
 use Rattle.exec_futures.specs.MakingLaws.{allocated}
 use borrow.Author.Needs.{needs}
 use Rattle.exec_futures.proofs.making.allocate_call_id.Statement.{statement}
@@ -18,12 +19,19 @@ add-t10 c = omega (arith, header-read _ (c .before .load-header .ensures) .calls
 store-header-requires : tie.Need-store-header-requires
 store-header-requires c κs = search needs
 
+cast-new : tie.Need-cast-new
+cast-new c = omega (arith, c .before .before .before .before .before .before .before .pre .1, ap (λ (h : Header). h .calls) (c .before .before .before .before .load-header .ensures))
+
+new-requires : tie.Need-new-requires
+new-requires c κs = search needs
+
 same-length : tie.Need-same-length
 same-length c = search needs
 
 returns : tie.Need-returns
-returns c = (ap (λ (h : Header). h .calls) (c .before .before .before .before .load-header .ensures), λ ts ps q l. allocated ts (now (c .before .before .before .before .before .before .before .args .objects)) ps q l (c .before .before .before .before .load-header .ensures) (c .before .before .store-header .ensures))
+returns c = (ap (λ (x : CallId). x .0) (c .new .ensures) ∙ ap (λ (h : Header). h .calls) (c .before .before .before .before .before .load-header .ensures), λ ts ps q l. allocated ts (now (c .before .before .before .before .before .before .before .before .args .objects)) ps q l (c .before .before .before .before .before .load-header .ensures) (c .before .before .before .store-header .ensures) (c .new .ensures))
 
 pub allocate-call-id-spec : {M : Type 1} → statement M
 allocate-call-id-spec =
-    tie.close (tie.spec load-header-requires add-t10 store-header-requires same-length returns)
+    tie.close
+    (tie.spec load-header-requires add-t10 store-header-requires cast-new new-requires same-length returns)

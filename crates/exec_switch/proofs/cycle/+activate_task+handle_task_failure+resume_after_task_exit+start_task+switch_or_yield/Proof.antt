@@ -32,7 +32,6 @@ use Rattle.exec_switch.proofs.cycle.+activate_task+handle_task_failure+
 use Rattle.exec_switch.proofs.cycle.switch_or_yield.Reads as switch-or-yield
 use Rattle.exec_switch.proofs.cycle.switch_or_yield.Kinds as switch-or-yield-kinds
 use Rattle.exec_switch.proofs.cycle.+activate_task+handle_task_failure+resume_after_task_exit+start_task+switch_or_yield.Lts-switch_or_yield as switch-or-yield-lts
-use Rattle.asyncio.proofs.TaskId.new.Reads as new-reads
 use Rattle.exec_deliver.proofs.climb.deliver_awaiter_failure.Reads as deliver-awaiter-failure-reads
 use Rattle.exec_switch.proofs.control.run.Reads as run-reads
 use Rattle.exec_switch.proofs.control.yield_control.Reads as yield-control-reads
@@ -604,8 +603,6 @@ handle-task-failure-returns t c = λ ps l w. failure-exits (now (c .before .befo
 resume-after-task-exit-enum-told : (t : ℕ) → resume-after-task-exit-lts.Need-enum-told (
   switch-or-yield-below t,
   switch-or-yield.Post,
-  new-reads.Asked,
-  new-reads.Learnt,
   remove-reads.Asked,
   remove-reads.Learnt,
   activate-task-below t,
@@ -617,8 +614,6 @@ resume-after-task-exit-switch-or-yield-requires :
     (t : ℕ) → resume-after-task-exit-lts.Need-switch-or-yield-requires (
       switch-or-yield-below t,
       switch-or-yield.Post,
-      new-reads.Asked,
-      new-reads.Learnt,
       remove-reads.Asked,
       remove-reads.Learnt,
       activate-task-below t,
@@ -630,8 +625,6 @@ resume-after-task-exit-enum-known-woken :
     (t : ℕ) → resume-after-task-exit-lts.Need-enum-known-woken (
       switch-or-yield-below t,
       switch-or-yield.Post,
-      new-reads.Asked,
-      new-reads.Learnt,
       remove-reads.Asked,
       remove-reads.Learnt,
       activate-task-below t,
@@ -639,23 +632,9 @@ resume-after-task-exit-enum-known-woken :
     ) (resume-after-task-exit-at t) resume-after-task-exit.Post
 resume-after-task-exit-enum-known-woken t c = search needs
 
-resume-after-task-exit-new-requires : (t : ℕ) → resume-after-task-exit-lts.Need-new-requires (
-  switch-or-yield-below t,
-  switch-or-yield.Post,
-  new-reads.Asked,
-  new-reads.Learnt,
-  remove-reads.Asked,
-  remove-reads.Learnt,
-  activate-task-below t,
-  activate-task.Post,
-) (resume-after-task-exit-at t) resume-after-task-exit.Post
-resume-after-task-exit-new-requires t c κs = search needs
-
 resume-after-task-exit-remove-requires : (t : ℕ) → resume-after-task-exit-lts.Need-remove-requires (
   switch-or-yield-below t,
   switch-or-yield.Post,
-  new-reads.Asked,
-  new-reads.Learnt,
   remove-reads.Asked,
   remove-reads.Learnt,
   activate-task-below t,
@@ -667,20 +646,16 @@ resume-after-task-exit-activate-task-requires :
     (t : ℕ) → resume-after-task-exit-lts.Need-activate-task-requires (
       switch-or-yield-below t,
       switch-or-yield.Post,
-      new-reads.Asked,
-      new-reads.Learnt,
       remove-reads.Asked,
       remove-reads.Learnt,
       activate-task-below t,
       activate-task.Post,
     ) (resume-after-task-exit-at t) resume-after-task-exit.Post
-resume-after-task-exit-activate-task-requires t c κs = (omega (arith, c .before .before .before .before .before .before .before .before .before .pre .0), (search needs, search needs, rw (c .before .before .before .new .ensures) (rw (c .before .before .before .before .before .woken .given .1) at (c .before .before .before .before .before .before .before .before .before .pre .1 .2))))
+resume-after-task-exit-activate-task-requires t c κs = (omega (arith, c .before .before .before .before .before .before .before .before .pre .0), (search needs, search needs, rw (c .before .before .before .before .woken .given .1) at (c .before .before .before .before .before .before .before .before .pre .1 .2)))
 
 resume-after-task-exit-same-length : (t : ℕ) → resume-after-task-exit-lts.Need-same-length (
   switch-or-yield-below t,
   switch-or-yield.Post,
-  new-reads.Asked,
-  new-reads.Learnt,
   remove-reads.Asked,
   remove-reads.Learnt,
   activate-task-below t,
@@ -691,8 +666,6 @@ resume-after-task-exit-same-length t c = search needs
 resume-after-task-exit-same-length-2 : (t : ℕ) → resume-after-task-exit-lts.Need-same-length-2 (
   switch-or-yield-below t,
   switch-or-yield.Post,
-  new-reads.Asked,
-  new-reads.Learnt,
   remove-reads.Asked,
   remove-reads.Learnt,
   activate-task-below t,
@@ -703,8 +676,6 @@ resume-after-task-exit-same-length-2 t c = search needs
 resume-after-task-exit-returns : (t : ℕ) → resume-after-task-exit-lts.Need-returns (
   switch-or-yield-below t,
   switch-or-yield.Post,
-  new-reads.Asked,
-  new-reads.Learnt,
   remove-reads.Asked,
   remove-reads.Learnt,
   activate-task-below t,
@@ -715,8 +686,6 @@ resume-after-task-exit-returns t c = λ ps l w. exit-next (now (c .before .befor
 resume-after-task-exit-same-length-3 : (t : ℕ) → resume-after-task-exit-lts.Need-same-length-3 (
   switch-or-yield-below t,
   switch-or-yield.Post,
-  new-reads.Asked,
-  new-reads.Learnt,
   remove-reads.Asked,
   remove-reads.Learnt,
   activate-task-below t,
@@ -727,8 +696,6 @@ resume-after-task-exit-same-length-3 t c = search needs
 resume-after-task-exit-same-length-4 : (t : ℕ) → resume-after-task-exit-lts.Need-same-length-4 (
   switch-or-yield-below t,
   switch-or-yield.Post,
-  new-reads.Asked,
-  new-reads.Learnt,
   remove-reads.Asked,
   remove-reads.Learnt,
   activate-task-below t,
@@ -739,14 +706,12 @@ resume-after-task-exit-same-length-4 t c = search needs
 resume-after-task-exit-returns-2 : (t : ℕ) → resume-after-task-exit-lts.Need-returns-2 (
   switch-or-yield-below t,
   switch-or-yield.Post,
-  new-reads.Asked,
-  new-reads.Learnt,
   remove-reads.Asked,
   remove-reads.Learnt,
   activate-task-below t,
   activate-task.Post,
 ) (resume-after-task-exit-at t) resume-after-task-exit.Post
-resume-after-task-exit-returns-2 t c = λ ps l w. exit-wakes (now (c .before .before .before .before .before .before .before .before .before .before .before .before .before .before .args .tasks)) (now (c .before .before .before .before .before .before .before .before .before .before .before .before .before .before .args .objects)) ps (c .before .before .before .before .before .before .before .before .before .before .before .before .before .before .args .queue) l _ (c .before .before .before .before .before .before .before .before .before .before .woken .given .0 .0) (c .before .before .before .before .before .before .before .before .before .before .woken .given .1) (ap (λ (t : TaskId). t .0) (c .before .before .before .before .before .before .before .before .new .ensures)) (c .before .before .before .before .before .remove .ensures) (c .before .before .before .before .activate-task .result .control) (c .before .before .before .before .activate-task .ensures ps l w)
+resume-after-task-exit-returns-2 t c = λ ps l w. exit-wakes (now (c .before .before .before .before .before .before .before .before .before .before .before .before .before .args .tasks)) (now (c .before .before .before .before .before .before .before .before .before .before .before .before .before .args .objects)) ps (c .before .before .before .before .before .before .before .before .before .before .before .before .before .args .queue) l _ (c .before .before .before .before .before .before .before .before .before .woken .given .0 .0) (c .before .before .before .before .before .before .before .before .before .woken .given .1) (c .before .before .before .before .before .remove .ensures) (c .before .before .before .before .activate-task .result .control) (c .before .before .before .before .activate-task .ensures ps l w)
 
 start-task-coroutine-at-requires : (t : ℕ) → start-task-lts.Need-coroutine-at-requires (
   coroutine-at-reads.Asked,
@@ -1113,8 +1078,6 @@ pub +activate-task+handle-task-failure+resume-after-task-exit+start-task+switch-
     (λ t. resume-after-task-exit-lts.spec (
       switch-or-yield-below t,
       switch-or-yield.Post,
-      new-reads.Asked,
-      new-reads.Learnt,
       remove-reads.Asked,
       remove-reads.Learnt,
       activate-task-below t,
@@ -1125,7 +1088,6 @@ pub +activate-task+handle-task-failure+resume-after-task-exit+start-task+switch-
     (resume-after-task-exit-enum-told t)
     (resume-after-task-exit-switch-or-yield-requires t)
     (resume-after-task-exit-enum-known-woken t)
-    (resume-after-task-exit-new-requires t)
     (resume-after-task-exit-remove-requires t)
     (resume-after-task-exit-activate-task-requires t)
     (resume-after-task-exit-same-length t)

@@ -5,7 +5,8 @@ use denote.Ref.{now}
 use borrow.Author.Needs.{needs}
 use Rattle.asyncio.specs.declared.HeapId.{HeapId}
 use Rattle.machine.specs.Scheduler.{first-from, is-call, pending-external-in}
-use Rattle.scheduler.specs.Search.{found}
+use Rattle.scheduler.specs.Search.{found-object}
+use Rattle.scheduler.specs.declared.tasks.FoundObject.{FoundObject}
 use Rattle.scheduler.specs.SearchLaws.{first-here, first-turn, first-end, pending-begins}
 use Rattle.asyncio.specs.Ranges.{HeaderFits}
 use Rattle.rows.specs.TableLaws.{header-read}
@@ -31,7 +32,7 @@ is-call-requires : tie.Need-is-call-requires Inv-loop μ-loop
 is-call-requires c κs = (c .before .before .before .before .before .pre, omega (arith, header-read _ (c .before .before .before .load-header .ensures) .made-fits, ap (λ (h : HeapId). h .0) (c .new .ensures)))
 
 returns : tie.Need-returns Inv-loop μ-loop
-returns c = ap found (sym (first-here (is-call (now (c .before .before .before .before .before .before .before .args .objects)) (c .before .before .before .before .before .before .before .args .call)) (c .before .before .before .before .loop .o) (c .before .before .before .before .before .load-header .result .made) (c .before .before .before .loop-test .taken) (ap (λ (h : HeapId). h .0) (c .before .before .new .ensures)) (sym (c .if1 .taken) ∙ c .before .is-call .ensures)) ∙ c .before .before .before .before .loop .inv)
+returns c = ap FoundObject.At (c .before .before .new .ensures) ∙ ap found-object (sym (first-here (is-call (now (c .before .before .before .before .before .before .before .args .objects)) (c .before .before .before .before .before .before .before .args .call)) (c .before .before .before .before .loop .o) (c .before .before .before .before .before .load-header .result .made) (c .before .before .before .loop-test .taken) (ap (λ (h : HeapId). h .0) (c .before .before .new .ensures)) (sym (c .if1 .taken) ∙ c .before .is-call .ensures)) ∙ c .before .before .before .before .loop .inv)
 
 add-o : tie.Need-add-o Inv-loop μ-loop
 add-o c = omega (arith, header-read _ (c .before .before .before .before .before .load-header .ensures) .made-fits)
@@ -43,7 +44,7 @@ loop-again : tie.Need-loop-again Inv-loop μ-loop
 loop-again c = first-turn (is-call (now (c .before .before .before .before .before .before .before .args .objects)) (c .before .before .before .before .before .before .before .args .call)) (c .before .before .before .before .loop .o) (c .before .before .before .before .before .load-header .result .made) (c .before .before .before .loop-test .taken) (ap (λ (h : HeapId). h .0) (c .before .before .new .ensures)) (sym (c .if1 .left) ∙ c .before .is-call .ensures) ∙ c .before .before .before .before .loop .inv
 
 returns-2 : tie.Need-returns-2 Inv-loop μ-loop
-returns-2 c = ap found (sym (first-end (is-call (now (c .before .before .before .before .args .objects)) (c .before .before .before .before .args .call)) (c .before .loop .o) (c .before .before .load-header .result .made) (c .loop-test .left)) ∙ c .before .loop .inv)
+returns-2 c = ap found-object (sym (first-end (is-call (now (c .before .before .before .before .args .objects)) (c .before .before .before .before .args .call)) (c .before .loop .o) (c .before .before .load-header .result .made) (c .loop-test .left)) ∙ c .before .loop .inv)
 
 pub take-pending-external-spec : {M : Type 1} → statement M
 take-pending-external-spec =

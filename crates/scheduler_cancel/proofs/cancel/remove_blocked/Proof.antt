@@ -1,8 +1,5 @@
-use mathlib.Core.Path.{ap}
 use mathlib.Core.List.{_∷_}
-use native.Mathlib.Omega.{arith}
 use denote.Ref.{now}
-use Rattle.asyncio.specs.declared.HeapId.{HeapId}
 use Rattle.machine.specs.Store.{removed}
 use Rattle.scheduler_cancel.specs.CancelLaws.{blocked-object, removes-only, removes-blocked}
 use borrow.Author.Needs.{needs}
@@ -21,11 +18,8 @@ remove-task-requires c κs = search needs
 enum-known-blocked : tie.Need-enum-known-blocked
 enum-known-blocked c = search needs
 
-new-requires : tie.Need-new-requires
-new-requires c κs = search needs
-
 reach-requires : tie.Need-reach-requires
-reach-requires c κs = (c .before .before .before .before .before .before .before .before .before .before .before .before .before .before .before .before .before .before .pre .1, c .before .before .before .before .before .before .before .before .before .before .before .before .before .before .before .before .before .before .pre .2, c .before .before .before .before .before .before .before .before .before .before .before .before .before .before .before .before .before .before .pre .3, c .before .before .before .before .before .before .before .before .before .before .before .before .before .before .before .before .before .before .pre .4, omega (arith, ap (λ (h : HeapId). h .0) (c .new .ensures), blocked-object (now (c .before .before .before .before .before .before .before .before .before .before .before .before .before .before .before .before .before .before .args .tasks)) (c .before .before .before .before .before .before .before .before .before .before .before .before .before .before .before .before .before .before .args .t .0) (c .before .before .before .before .blocked .given .0 .0) (c .before .before .before .before .before .before .before .before .before .before .before .before .state-at .ensures) (c .before .before .before .before .before .before .before .before .before .before .before .blocked-on .ensures) (c .before .before .before .before .blocked .given .1)))
+reach-requires c κs = (c .before .before .before .before .before .before .before .before .before .before .before .before .before .before .before .before .before .pre .1, c .before .before .before .before .before .before .before .before .before .before .before .before .before .before .before .before .before .pre .2, c .before .before .before .before .before .before .before .before .before .before .before .before .before .before .before .before .before .pre .3, c .before .before .before .before .before .before .before .before .before .before .before .before .before .before .before .before .before .pre .4, blocked-object (now (c .before .before .before .before .before .before .before .before .before .before .before .before .before .before .before .before .before .args .tasks)) (c .before .before .before .before .before .before .before .before .before .before .before .before .before .before .before .before .before .args .t .0) (c .before .before .before .blocked .given .0 .0) (c .before .before .before .before .before .before .before .before .before .before .before .state-at .ensures) (c .before .before .before .before .before .before .before .before .before .before .blocked-on .ensures) (c .before .before .before .blocked .given .1))
 
 enum-told : tie.Need-enum-told
 enum-told c = search needs
@@ -40,7 +34,7 @@ same-length-3 : tie.Need-same-length-3
 same-length-3 c = search needs
 
 returns : tie.Need-returns
-returns c = λ ds ps l. removes-blocked ds (now (c .before .before .before .before .before .before .before .before .before .before .before .before .before .before .before .before .before .before .before .before .before .before .before .args .tasks)) (now (c .before .before .before .before .before .before .before .before .before .before .before .before .before .before .before .before .before .before .before .before .before .before .before .args .objects)) ps (c .before .before .before .before .before .before .before .before .before .before .before .before .before .before .before .before .before .before .before .before .before .before .before .args .at) l (now (c .before .before .before .before .before .before .before .before .before .before .before .before .before .before .before .before .before .before .before .before .before .before .before .args .marks)) (now (c .before .before .before .before .before .before .before .before .before .before .before .before .before .before .before .before .before .before .before .before .before .before .before .args .stack)) (c .before .before .before .before .before .before .before .before .before .before .before .before .before .before .before .before .before .before .before .before .before .before .before .args .t .0) (c .before .before .before .before .before .before .before .before .before .before .before .before .before .before .before .before .before .state-at .ensures) (c .before .before .before .before .before .before .before .before .before .before .before .before .before .before .before .before .blocked-on .ensures) (c .before .before .before .before .before .before .before .before .before .before .before .before .before .remove-task .ensures (now (c .before .before .before .before .before .before .before .before .before .before .before .before .before .before .before .before .before .before .before .before .before .before .before .args .objects)) ps l) (c .before .before .before .before .before .before .before .before .before .blocked .given .0 .0) (c .before .before .before .before .before .before .before .before .before .blocked .given .1) (ap (λ (h : HeapId). h .0) (c .before .before .before .before .before .new .ensures)) (c .before .before .before .before .reach .ensures ds _ ps _ (removed (c .before .before .before .before .before .before .before .before .before .before .before .before .before .before .before .before .before .before .before .before .before .before .before .args .t .0) ∷ l))
+returns c = λ ds ps l. removes-blocked ds (now (c .before .before .before .before .before .before .before .before .before .before .before .before .before .before .before .before .before .before .before .before .before .before .args .tasks)) (now (c .before .before .before .before .before .before .before .before .before .before .before .before .before .before .before .before .before .before .before .before .before .before .args .objects)) ps (c .before .before .before .before .before .before .before .before .before .before .before .before .before .before .before .before .before .before .before .before .before .before .args .at) l (now (c .before .before .before .before .before .before .before .before .before .before .before .before .before .before .before .before .before .before .before .before .before .before .args .marks)) (now (c .before .before .before .before .before .before .before .before .before .before .before .before .before .before .before .before .before .before .before .before .before .before .args .stack)) (c .before .before .before .before .before .before .before .before .before .before .before .before .before .before .before .before .before .before .before .before .before .before .args .t .0) (c .before .before .before .before .before .before .before .before .before .before .before .before .before .before .before .before .state-at .ensures) (c .before .before .before .before .before .before .before .before .before .before .before .before .before .before .before .blocked-on .ensures) (c .before .before .before .before .before .before .before .before .before .before .before .before .remove-task .ensures (now (c .before .before .before .before .before .before .before .before .before .before .before .before .before .before .before .before .before .before .before .before .before .before .args .objects)) ps l) (c .before .before .before .before .before .before .before .before .blocked .given .0 .0) (c .before .before .before .before .before .before .before .before .blocked .given .1) (c .before .before .before .before .reach .ensures ds _ ps _ (removed (c .before .before .before .before .before .before .before .before .before .before .before .before .before .before .before .before .before .before .before .before .before .before .args .t .0) ∷ l))
 
 same-length-4 : tie.Need-same-length-4
 same-length-4 c = search needs
@@ -56,7 +50,6 @@ remove-blocked-spec =
     blocked-on-requires
     remove-task-requires
     enum-known-blocked
-    new-requires
     reach-requires
     enum-told
     same-length

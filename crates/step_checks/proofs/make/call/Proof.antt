@@ -1,5 +1,6 @@
 use mathlib.Core.Path.{_≡_, refl, sym, _∙_}
 use denote.Ref.{now}
+use borrow.Author.Tests.{leb-false}
 use Rattle.machine.specs.Machine.{refusals}
 use Rattle.step_checks.specs.StepLaws.{no-turn, call-refused, call-given}
 use borrow.Author.Needs.{needs}
@@ -25,7 +26,7 @@ returns : tie.Need-returns
 returns c = λ ts ps l. call-refused ts (now (c .before .before .before .before .before .before .before .before .args .objects)) ps (c .before .before .before .before .before .before .before .before .args .queue) l (c .before .before .before .before .before .running .ensures) _ (c .before .before .before .enum-told .given .1) (c .before .no-number .ensures) (c .if1 .taken)
 
 allocate-call-id-requires : tie.Need-allocate-call-id-requires
-allocate-call-id-requires c κs = search needs
+allocate-call-id-requires c κs = (c .before .before .before .before .before .before .before .before .before .pre, leb-false _ _ (sym (c .before .before .no-number .ensures) ∙ c .before .if1 .left))
 
 same-length-2 : tie.Need-same-length-2
 same-length-2 c = search needs

@@ -49,11 +49,14 @@ same-length-2 c = search needs
 returns-2 : tie.Need-returns-2
 returns-2 c = λ ts ps l. pending-full ts (now (c .before .before .before .before .before .before .before .before .before .before .before .before .before .before .before .before .before .before .before .args .objects)) ps (c .before .before .before .before .before .before .before .before .before .before .before .before .before .before .before .before .before .before .before .args .queue) l (c .before .before .before .before .before .before .before .before .before .before .before .before .before .before .before .before .running .ensures) _ (c .before .before .before .before .before .before .before .before .before .before .before .before .before .before .enum-told .given .1) (c .before .before .before .before .before .before .before .before .before .before .before .before .before .before .before .before .before .before .before .args .call) (c .before .before .before .before .before .before .before .before .before .before .before .before .before .before .before .before .before .before .before .args .stored) (c .before .before .before .before .before .before .before .before .before .before .before .before .load-header .ensures) (c .before .before .before .before .before .before .before .before .before .before .if1 .left) (c .before .before .before .before .before .before .before .before .option-known .ensures) (c .before .before .before .before .before .before .before .if2 .taken) (c .before .before .before .before .before .take-pending-external .ensures) (c .before .before .before .enum-told3 .given .1) (c .before .is-full .ensures) (c .if3 .taken)
 
-cast-t32 : tie.Need-cast-t32
-cast-t32 c = omega (arith, c .before .before .before .before .before .before .before .before .before .before .before .if1 .left, header-read _ (c .before .before .before .before .before .before .before .before .before .before .before .before .before .load-header .ensures) .calls-fit)
+cast-new : tie.Need-cast-new
+cast-new c = omega (arith, c .before .before .before .before .before .before .before .before .before .before .before .if1 .left, header-read _ (c .before .before .before .before .before .before .before .before .before .before .before .before .before .load-header .ensures) .calls-fit)
+
+new-requires : tie.Need-new-requires
+new-requires c κs = search needs
 
 push-pending-future-requires : tie.Need-push-pending-future-requires
-push-pending-future-requires c κs = (c .before .before .before .before .before .before .before .before .before .before .before .before .before .before .before .before .before .before .before .before .pre, leb-false _ _ (sym (c .before .before .is-full .ensures) ∙ c .before .if3 .left))
+push-pending-future-requires c κs = (c .before .before .before .before .before .before .before .before .before .before .before .before .before .before .before .before .before .before .before .before .before .pre, leb-false _ _ (sym (c .before .before .before .is-full .ensures) ∙ c .before .before .if3 .left))
 
 same-length-3 : tie.Need-same-length-3
 same-length-3 c = search needs
@@ -65,7 +68,7 @@ same-length-4 : tie.Need-same-length-4
 same-length-4 c = search needs
 
 returns-4 : tie.Need-returns-4
-returns-4 c = λ ts ps l. pending-made ts (now (c .before .before .before .before .before .before .before .before .before .before .before .before .before .before .before .before .before .before .before .before .before .before .before .args .objects)) ps (c .before .before .before .before .before .before .before .before .before .before .before .before .before .before .before .before .before .before .before .before .before .before .before .args .queue) l (c .before .before .before .before .before .before .before .before .before .before .before .before .before .before .before .before .before .before .before .before .running .ensures) _ (c .before .before .before .before .before .before .before .before .before .before .before .before .before .before .before .before .before .before .enum-told .given .1) (c .before .before .before .before .before .before .before .before .before .before .before .before .before .before .before .before .before .before .before .before .before .before .before .args .call) (c .before .before .before .before .before .before .before .before .before .before .before .before .before .before .before .before .before .before .before .before .before .before .before .args .stored) (c .before .before .before .before .before .before .before .before .before .before .before .before .before .before .before .before .load-header .ensures) (c .before .before .before .before .before .before .before .before .before .before .before .before .before .before .if1 .left) (c .before .before .before .before .before .before .before .before .before .before .before .before .option-known .ensures) (c .before .before .before .before .before .before .before .before .before .before .before .if2 .taken) (c .before .before .before .before .before .before .before .before .before .take-pending-external .ensures) (c .before .before .before .before .before .before .before .enum-told3 .given .1) (c .before .before .before .before .before .is-full .ensures) (c .before .before .before .before .if3 .left) (c .before .before .push-pending-future .ensures .0) (c .before .before .push-pending-future .ensures .1 ts ps (c .before .before .before .before .before .before .before .before .before .before .before .before .before .before .before .before .before .before .before .before .before .before .before .args .queue) l)
+returns-4 c = λ ts ps l. pending-made ts (now (c .before .before .before .before .before .before .before .before .before .before .before .before .before .before .before .before .before .before .before .before .before .before .before .before .args .objects)) ps (c .before .before .before .before .before .before .before .before .before .before .before .before .before .before .before .before .before .before .before .before .before .before .before .before .args .queue) l (c .before .before .before .before .before .before .before .before .before .before .before .before .before .before .before .before .before .before .before .before .before .running .ensures) _ (c .before .before .before .before .before .before .before .before .before .before .before .before .before .before .before .before .before .before .before .enum-told .given .1) (c .before .before .before .before .before .before .before .before .before .before .before .before .before .before .before .before .before .before .before .before .before .before .before .before .args .call) (c .before .before .before .before .before .before .before .before .before .before .before .before .before .before .before .before .before .before .before .before .before .before .before .before .args .stored) (c .before .before .before .before .before .before .before .before .before .before .before .before .before .before .before .before .before .load-header .ensures) (c .before .before .before .before .before .before .before .before .before .before .before .before .before .before .before .if1 .left) (c .before .before .before .before .before .before .before .before .before .before .before .before .before .option-known .ensures) (c .before .before .before .before .before .before .before .before .before .before .before .before .if2 .taken) (c .before .before .before .before .before .before .before .before .before .before .take-pending-external .ensures) (c .before .before .before .before .before .before .before .before .enum-told3 .given .1) (c .before .before .before .before .before .before .is-full .ensures) (c .before .before .before .before .before .if3 .left) (c .before .before .push-pending-future .ensures .0) (rw (c .before .before .before .new .ensures) at (c .before .before .push-pending-future .ensures .1 ts ps (c .before .before .before .before .before .before .before .before .before .before .before .before .before .before .before .before .before .before .before .before .before .before .before .before .args .queue) l))
 
 same-length-5 : tie.Need-same-length-5
 same-length-5 c = search needs
@@ -97,7 +100,8 @@ pending-spec =
     is-full-requires
     same-length-2
     returns-2
-    cast-t32
+    cast-new
+    new-requires
     push-pending-future-requires
     same-length-3
     returns-3
