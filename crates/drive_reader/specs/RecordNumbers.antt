@@ -1,12 +1,16 @@
 -- What document 01 calls each answer of the reader: its number in the table of refusals (0: none), and of a record its kind and what stands
 -- in it, in the record's order.
+use mathlib.Core.Path.{_≡_, ap}
 use Prim.Native.Nat.{ℕ}
 use mathlib.Core.List.{List, [], _∷_}
+use denote.Triple.Both.{Both}
+use denote.Ref.{RefT, now}
 use Rattle.asyncio.specs.Layout.{value-words}
 use Rattle.asyncio.specs.declared.Value.{Value}
 use Rattle.asyncio.specs.declared.OptionValue.{OptionValue}
 use Rattle.drive_reader.specs.declared.Record.{Record}
 use Rattle.drive_reader.specs.declared.Parsed.{Parsed}
+use Rattle.drive_reader.specs.Format.{parse}
 
 -- refusal 11: "wrong mark, unknown kind, short record, flag or, outside results, tag above 1"
 unfoldable pub parse-refusal : Parsed → ℕ
@@ -49,3 +53,33 @@ record-numbers Record.Resume = []
 record-numbers (Record.Cancel t) = t ∷ []
 record-numbers (Record.Show o) = o ∷ []
 record-numbers Record.Eager = []
+
+-- What the reader answers, and document 01's numbers for it.
+pub record ParsedAs : Type 0 where
+  pub parsed : Parsed
+  pub refusal : ℕ
+  pub kind : ℕ
+  pub values : List ℕ
+
+-- by what was read: of a record its kind and its values
+unfoldable pub parsed-kind : Parsed → ℕ
+parsed-kind Parsed.End = 0
+parsed-kind Parsed.Refused = 0
+parsed-kind (Parsed.Record r next) = record-kind r
+
+unfoldable pub parsed-values : Parsed → List ℕ
+parsed-values Parsed.End = []
+parsed-values Parsed.Refused = []
+parsed-values (Parsed.Record r next) = record-numbers r
+
+-- an answer of the reader as its caller gets it
+abbrev pub parsed-as : Parsed → ParsedAs
+parsed-as p = record { parsed = p; refusal = parse-refusal p; kind = parsed-kind p; values = parsed-values p }
+
+-- The call reads the record at a place of lent bytes: its answer, with document 01's numbers, is that of `parse`.
+abbrev pub Parses : Both (RefT (List ℕ)) (RefT (List ℕ)) → ℕ → Parsed → Type 0
+Parses src at r = parsed-as r ≡ parsed-as (parse (now (src .entry)) at)
+
+-- so it is what `parse` reads
+pub parsed-is : {p q : Parsed} → parsed-as p ≡ parsed-as q → p ≡ q
+parsed-is e = ap (λ (x : ParsedAs). x .parsed) e

@@ -15,7 +15,8 @@ fn item_at(s: &[u8], first: usize, i: usize) -> u16
     (low + high * 256) as u16
 }
 
-fn least(a: usize, b: usize) -> usize
+// The lesser of the two.
+pub fn least(a: usize, b: usize) -> usize
     ensures { λ r. ⌜ r ≡ min a b ⌝ }
 {
     if a < b { a } else { b }

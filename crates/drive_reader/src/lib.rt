@@ -8,9 +8,8 @@ mod parse; // the mark, the kind and the size
 use asyncio::OptionValue;
 use asyncio::Value;
 ghost use mathlib.Core.Path.{_≡_};
-ghost use Prim.Native.Nat.{_-_};
-ghost use lib.ListN.{length};
 ghost use Rattle.drive_reader.specs.Format.{parse};
+ghost use Rattle.drive_reader.specs.RecordNumbers.{Parses};
 
 // The records, kinds 1 to 13. Of a gather's items and of results it is told where they begin in the bytes and how many there are.
 pub enum Record {
@@ -44,25 +43,11 @@ pub struct Reader<'a> {
 }
 
 impl<'a> Reader<'a> {
-    // A reader of all bytes.
-    pub fn new(src: &'a [u8]) -> Reader<'a>
-        ensures { λ r. ⌜ (r .src ≡ src .entry) × (r .at ≡ 0) ⌝ }
+    // A reader of lent bytes, from a place on.
+    pub fn new(src: &'a [u8], at: usize) -> Reader<'a>
+        ensures { λ r. ⌜ (r .src ≡ src .entry) × (r .at ≡ at) ⌝ }
     {
-        Reader { src, at: 0 }
-    }
-
-    // The reader of the same bytes at another place.
-    pub fn moved(self, at: usize) -> Reader<'a>
-        ensures { λ r. ⌜ (r .src ≡ self .entry .src) × (r .at ≡ at) ⌝ }
-    {
-        Reader { src: self.src, at }
-    }
-
-    // How many bytes are left.
-    pub fn remaining(self) -> usize
-        ensures { λ r. ⌜ r ≡ length (now (self .entry .src)) - self .entry .at ⌝ }
-    {
-        bytes::left_at(self.src, self.at)
+        Reader { src, at }
     }
 
     // The next record.
@@ -73,10 +58,9 @@ impl<'a> Reader<'a> {
     }
 }
 
-// The record at a place of lent bytes.
+// The record at a place of lent bytes, by a reader made over them.
 pub fn parse_record(src: &[u8], at: usize) -> Parsed
-    ensures { λ r. ⌜ r ≡ parse (now (src .entry)) at ⌝ }
+    ensures { λ r. ⌜ Parses src at r ⌝ }
 {
-    let r = Reader { src, at };
-    r.record()
+    Reader::new(src, at).record()
 }
