@@ -1,9 +1,19 @@
 // The program of document 01: records from standard input, one line an event to standard output. It stops after an 11's line.
+use asyncio::OBJECTS;
+use asyncio::OBJECTS_LEN;
+use asyncio::PLACES_LEN;
+use asyncio::TASKS_LEN;
 use libc::STDIN_FILENO;
 use libc::STDOUT_FILENO;
 use queue::ReadyQueue;
 ghost use Prim.Native.Nat.{_≤_};
 ghost use lib.ListN.{length};
+
+// A record has at most so many bytes: results, 255 of 14 behind a head of 4.
+const RECORD_BYTES: usize = 3574;
+
+// A line has at most so many bytes (line-limit).
+const LINE_BYTES: usize = 8192;
 
 // The lesser of the two.
 fn within(n: usize, limit: usize) -> usize
@@ -41,12 +51,12 @@ struct Input {
     from: usize,
 }
 
-// More is read where a record could be cut short, unless the input has ended: then the buffer is not full. A record has at most 3,574 bytes.
+// More is read where a record could be cut short, unless the input has ended: then the buffer is not full.
 fn ready(src: &mut [u8], from: usize, filled: usize) -> Input
     requires { ⌜ filled ≤ length (now src) ⌝ }
     ensures { λ r. ⌜ r .filled ≤ length (now (src .exit)) ⌝ }
 {
-    if filled == src.len() && filled - within(from, filled) < 3574 {
+    if filled == src.len() && filled - within(from, filled) < RECORD_BYTES {
         return Input {
             filled: refill(src, from, filled),
             from: 0,
@@ -55,12 +65,12 @@ fn ready(src: &mut [u8], from: usize, filled: usize) -> Input
     Input { filled, from }
 }
 
-// Writes the lines out where there might be no room for another: a line has at most 8,192 bytes. Returns where the next one goes.
+// Writes the lines out where there might be no room for another. Returns where the next one goes.
 fn flush(out: &[u8], at: usize) -> usize
     ensures { λ r. ⌜ r ≤ length (now (out .entry)) ⌝ }
 {
     let end = within(at, out.len());
-    if 8192 <= out.len() - end {
+    if LINE_BYTES <= out.len() - end {
         return end;
     }
     io::write_all(STDOUT_FILENO, &out[..end]);
@@ -77,10 +87,10 @@ fn last_record(going: bool, number: u64, last: u64) -> u64
 
 // A fresh session, and its records until the input ends or one is refused with 11.
 fn run(src: &mut [u8], out: &mut [u8]) {
-    let mut tasks: [u64; 4104] = [0; 4104];
-    let mut objects: [u64; 2056] = [0; 2056];
-    let mut places: [u64; 2048] = [0; 2048];
-    let mut calls: [u64; 256] = [0; 256];
+    let mut tasks: [u64; TASKS_LEN] = [0; TASKS_LEN];
+    let mut objects: [u64; OBJECTS_LEN] = [0; OBJECTS_LEN];
+    let mut places: [u64; PLACES_LEN] = [0; PLACES_LEN];
+    let mut calls: [u64; OBJECTS] = [0; OBJECTS];
     let begun = session_begin::begin(&mut tasks, &mut objects, &mut places, ReadyQueue::new());
     let mut queue = begun.queue;
     let mut filled: usize = refill(src, 0, 0);

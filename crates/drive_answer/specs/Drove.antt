@@ -36,7 +36,7 @@ abbrev pub Writes : Slice → Slice → Slice → Slice → ReadyQueue → Slice
 Writes tasks objects places calls queue out at f r =
     (l : List LogEntry)
     → Drove (now (tasks .exit)) (now (objects .exit)) (now (places .exit)) (r .queue) (now (calls .exit)) (r .next) (r .going) (out-of (now (out .entry)) at)
-        (out-of (now (out .exit)) (r .at)) (f (before tasks objects places queue l) (now (calls .entry)))
+    (out-of (now (out .exit)) (r .at)) (f (before tasks objects places queue l) (now (calls .entry)))
 
 -- The call answers what is asked, and writes its line.
 abbrev pub WritesAnswer : Slice → Slice → Slice → Slice → ReadyQueue → Slice → ℕ → ℕ → ℕ → Asked → Driven → Type 0

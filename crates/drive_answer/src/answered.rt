@@ -1,5 +1,6 @@
 // What a record asks, answered by the library, and its line. The store is sound, as it is in a session: it is not checked at each record.
 use crate::asks::Asks;
+use asyncio::RESULT_BYTES;
 use queue::ReadyQueue;
 use step_event::Event;
 ghost use mathlib.Core.List.{List};
@@ -109,7 +110,7 @@ fn results_line(
     ensures { λ r. ⌜ WritesAnswer tasks objects places calls queue out at next number (Asked.event (machine.Event.results (results-at (now (src .entry)) first count))) r ⌝ }
 {
     let items: [u16; 1] = [0; 1];
-    let n = (count as usize) * 14;
+    let n = (count as usize) * RESULT_BYTES;
     event_line(
         tasks,
         objects,

@@ -123,7 +123,7 @@ fn put_answer(out: &mut [u8], at: usize, answer: Answer, calls: &[u64]) -> usize
 {
     match answer {
         Answer::Made(o) => put_named(out, at, b" made", o.word()),
-        Answer::Called(n) => put_named(out, at, b" call", n as u64),
+        Answer::Called(n) => put_named(out, at, b" call", n.word()),
         Answer::Switched(control) => put_control(out, at, control, calls),
         Answer::Awaited { control, steps } => put_awaited(out, at, control, steps, calls),
         Answer::Done => put_text(out, at, b" done"),

@@ -1,5 +1,7 @@
 // Events of the host: results, resume.
 use asyncio::Moment;
+use asyncio::RESULT_BYTES;
+use asyncio::RESULTS;
 use exec_events::ends::resume_with_resolved_futures;
 use exec_futures::results::apply_future_results;
 use exec_switch::answer::Answer;
@@ -53,7 +55,7 @@ pub fn results(
             answer: Answer::Refused(5),
         };
     }
-    if 64 < results.len() / 14 {
+    if RESULTS < results.len() / RESULT_BYTES {
         return Stepped {
             queue,
             answer: Answer::Refused(10),

@@ -23,8 +23,8 @@ enum-known-answer-2 c = search needs
 slice-aggregate-put-named-2 : tie.Need-slice-aggregate-put-named-2
 slice-aggregate-put-named-2 c = search needs
 
-cast-put-named : tie.Need-cast-put-named
-cast-put-named c = search needs
+word-requires-2 : tie.Need-word-requires-2
+word-requires-2 c κs = search needs
 
 put-named-requires-2 : tie.Need-put-named-requires-2
 put-named-requires-2 c κs = search needs
@@ -83,8 +83,8 @@ enum-known-answer-8 c = search needs
 slice-aggregate-put-named-3 : tie.Need-slice-aggregate-put-named-3
 slice-aggregate-put-named-3 c = search needs
 
-cast-put-named-2 : tie.Need-cast-put-named-2
-cast-put-named-2 c = search needs
+cast-put-named : tie.Need-cast-put-named
+cast-put-named c = search needs
 
 put-named-requires-3 : tie.Need-put-named-requires-3
 put-named-requires-3 c κs = search needs
@@ -101,7 +101,7 @@ same-length-2 c = search needs
 
 returns-2 : tie.Need-returns-2
 unfolding answer-text
-returns-2 c = rw (c .before .before .before .before .before .before .answer2 .given .1) (at-most (omega arith) (c .before .before .put-named2 .ensures))
+returns-2 c = rw (c .before .before .before .before .before .before .before .answer2 .given .1, ← c .before .before .before .word2 .ensures) (at-most (omega arith) (c .before .before .put-named2 .ensures))
 
 same-length-3 : tie.Need-same-length-3
 same-length-3 c = search needs
@@ -165,7 +165,7 @@ put-answer-spec =
     put-named-requires
     enum-known-answer-2
     slice-aggregate-put-named-2
-    cast-put-named
+    word-requires-2
     put-named-requires-2
     enum-known-answer-3
     put-control-requires
@@ -185,7 +185,7 @@ put-answer-spec =
     put-eager-requires
     enum-known-answer-8
     slice-aggregate-put-named-3
-    cast-put-named-2
+    cast-put-named
     put-named-requires-3
     same-length
     returns
