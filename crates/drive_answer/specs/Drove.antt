@@ -42,6 +42,10 @@ Writes tasks objects places calls queue out at f r =
 abbrev pub WritesAnswer : Slice → Slice → Slice → Slice → ReadyQueue → Slice → ℕ → ℕ → ℕ → Asked → Driven → Type 0
 WritesAnswer tasks objects places calls queue out at next number a r = Writes tasks objects places calls queue out at (λ s cs. answered s cs next number a) r
 
+-- The call is an event, and writes its line.
+abbrev pub WritesEvent : Slice → Slice → Slice → Slice → ReadyQueue → Slice → ℕ → ℕ → ℕ → machine.Event → Driven → Type 0
+WritesEvent tasks objects places calls queue out at next number e r = WritesAnswer tasks objects places calls queue out at next number (Asked.event e) r
+
 -- What a record asks, in the code's form: an event that has all it needs in its record, or where its items stand.
 unfoldable pub asks-of : Record → Asks
 asks-of (Record.Coroutine f) = Asks.Event (Event.Coroutine f)

@@ -12,7 +12,7 @@ ghost use Rattle.contract.specs.Entries.{SoundMemory, SoundMemoryAnd, SoundSlic
 ghost use Rattle.step_event.specs.EventOf.{event-of};
 ghost use Rattle.drive_reader.specs.Items.{items-at};
 ghost use Rattle.drive_answer.specs.Driver.{Asked, results-at, refused-11};
-ghost use Rattle.drive_answer.specs.Drove.{Writes, WritesAnswer, asked-of, InInput};
+ghost use Rattle.drive_answer.specs.Drove.{Writes, WritesAnswer, WritesEvent, asked-of, InInput};
 
 // The queue after a record, where the output stands, the place of the next record, and whether it is to be read: not after the end of
 // the input, and not after an 11.
@@ -39,7 +39,7 @@ fn event_line(
     number: u64,
 ) -> Driven
     requires { ⌜ SoundMemory tasks objects places calls queue ⌝ }
-    ensures { λ r. ⌜ WritesAnswer tasks objects places calls queue out at next number (Asked.event (event-of (now (items .entry)) (now (results .entry)) event)) r ⌝ }
+    ensures { λ r. ⌜ WritesEvent tasks objects places calls queue out at next number (event-of (now (items .entry)) (now (results .entry)) event) r ⌝ }
 {
     let stepped = step_event::step(tasks, objects, places, calls, queue, event, items, results);
     let q = stepped.queue;
@@ -70,7 +70,7 @@ fn gather_line(
     number: u64,
 ) -> Driven
     requires { ⌜ SoundMemory tasks objects places calls queue ⌝ }
-    ensures { λ r. ⌜ WritesAnswer tasks objects places calls queue out at next number (Asked.event (machine.Event.gather (items-at (now (src .entry)) first count))) r ⌝ }
+    ensures { λ r. ⌜ WritesEvent tasks objects places calls queue out at next number (machine.Event.gather (items-at (now (src .entry)) first count)) r ⌝ }
 {
     let mut items: [u16; 255] = [0; 255];
     let n = count as usize;
@@ -107,7 +107,7 @@ fn results_line(
     number: u64,
 ) -> Driven
     requires { ⌜ SoundMemoryAnd tasks objects places calls queue (first + count * 14 ≤ length (now src)) ⌝ }
-    ensures { λ r. ⌜ WritesAnswer tasks objects places calls queue out at next number (Asked.event (machine.Event.results (results-at (now (src .entry)) first count))) r ⌝ }
+    ensures { λ r. ⌜ WritesEvent tasks objects places calls queue out at next number (machine.Event.results (results-at (now (src .entry)) first count)) r ⌝ }
 {
     let items: [u16; 1] = [0; 1];
     let n = (count as usize) * RESULT_BYTES;

@@ -1,14 +1,17 @@
 -- What the small programs print of a store: a line for each row and for the queue.
 use mathlib.Core.List.{List, [], _++_}
-use Prim.Native.Nat.{ℕ, zero, suc, _+_, _*_}
+use Prim.Native.Nat.{ℕ, zero, suc, _+_, _*_, min}
 use Prim.Native.String.{String}
 use lib.Dec.{eqb, ltb}
-use lib.ListN.{getD}
+use lib.ListN.{getD, length}
+use denote.Triple.Both.{Both}
+use denote.Ref.{RefT, now}
 use Rattle.asyncio.specs.Layout.{object-words, task-words, place-words, header-words}
 use Rattle.asyncio.specs.Limits.{task-limit, object-limit}
 use Rattle.asyncio.specs.States.{pick}
 use Rattle.rows.specs.Tables.{object-at, task-at, place-at, header-at}
 use Rattle.queue.specs.declared.ReadyQueue.{ReadyQueue}
+use Rattle.drive_text.specs.Out.{Puts}
 use Rattle.drive_text.specs.Text.{bytes-of, newline, field, fields}
 
 -- a line: a name, and numbers each after a space
@@ -55,3 +58,17 @@ store-limit = 173 * task-limit + (175 * object-limit + 10779)
 unfoldable pub changed : List ℕ → List ℕ → ℕ → ℕ
 changed xs ys zero = 0
 changed xs ys (suc n) = changed xs ys n + pick (eqb (getD xs n 0) (getD ys n 0)) 0 1
+
+-- lent words or bytes
+abbrev Slice : Type 0
+Slice = Both (RefT (List ℕ)) (RefT (List ℕ))
+
+-- The call writes a line: a name, and numbers each after a space.
+abbrev pub PutsRow : Slice → ℕ → ℕ → Slice → Slice → Type 0
+PutsRow out at r name words =
+    Puts (length (now (name .entry)) + (21 * length (now (words .entry)) + 1)) out at r (now (name .entry) ++ (fields (now (words .entry)) ++ newline))
+
+-- The call writes how many words of two slices differ, of those that both have.
+abbrev pub PutsChanged : Slice → ℕ → ℕ → Slice → Slice → Type 0
+PutsChanged out at r before after =
+    Puts 21 out at r (field (changed (now (before .entry)) (now (after .entry)) (min (length (now (before .entry))) (length (now (after .entry))))))

@@ -22,11 +22,11 @@ ghost use Prim.Native.Nat.{_+_, _*_, _<_, _≤_, min};
 ghost use Rattle.asyncio.specs.Limits.{tasks-length, objects-length, places-length, task-limit, object-limit, place-limit};
 ghost use Rattle.drive_text.specs.Out.{Puts};
 ghost use Rattle.drive_text.specs.Text.{newline, field, fields};
-ghost use Rattle.test_print.specs.Printing.{task-text, object-text, place-text, header-text, entry-text, queue-text, rows-text, store-text, store-limit, changed};
+ghost use Rattle.test_print.specs.Printing.{task-text, object-text, place-text, header-text, entry-text, queue-text, rows-text, store-text, store-limit, changed, PutsRow, PutsChanged};
 
 // A line: a name and numbers.
 pub fn write_row(out: &mut [u8], at: usize, name: &[u8], words: &[u64]) -> usize
-    ensures { λ r. ⌜ Puts (length (now (name .entry)) + (21 * length (now (words .entry)) + 1)) out at r (now (name .entry) ++ (fields (now (words .entry)) ++ newline)) ⌝ }
+    ensures { λ r. ⌜ PutsRow out at r name words ⌝ }
 {
     let p = put_text(out, at, name);
     let q = put_numbers(out, p, words);
@@ -159,7 +159,7 @@ fn count_changed(before: &[u64], after: &[u64], n: usize) -> u64
 
 // How many words of a slice differ from what they were. What is longer than the other is not looked at.
 pub fn write_changed(out: &mut [u8], at: usize, before: &[u64], after: &[u64]) -> usize
-    ensures { λ r. ⌜ Puts 21 out at r (field (changed (now (before .entry)) (now (after .entry)) (min (length (now (before .entry))) (length (now (after .entry)))))) ⌝ }
+    ensures { λ r. ⌜ PutsChanged out at r before after ⌝ }
 {
     if before.len() < after.len() {
         return put_field(out, at, count_changed(before, after, before.len()));
