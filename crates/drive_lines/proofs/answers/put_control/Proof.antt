@@ -37,7 +37,7 @@ same-length-2 : tie.Need-same-length-2
 same-length-2 c = search needs
 
 returns-2 : tie.Need-returns-2
-returns-2 c = rw (c .before .before .before .before .enum-told .given .1) (c .before .before .put-wait .ensures)
+returns-2 c = rw (c .before .before .before .before .enum-told .given .1) (at-most (omega arith) (c .before .before .put-wait .ensures))
 
 pub put-control-spec : {M : Type 1} → statement M
 put-control-spec =

@@ -1,3 +1,4 @@
+use denote.Ref.{now}
 use Rattle.drive_lines.specs.LineLaws.{wait-wrote}
 use borrow.Author.Needs.{needs}
 use Rattle.drive_lines.proofs.answers.put_wait.Statement.{statement}
@@ -16,7 +17,7 @@ same-length : tie.Need-same-length
 same-length c = search needs
 
 returns : tie.Need-returns
-returns c = ?
+returns c = wait-wrote (now (c .before .before .before .before .before .before .before .before .before .before .before .args .calls)) (c .before .before .before .before .before .before .put-named .ensures) (c .before .before .put-numbers .ensures)
 
 pub put-wait-spec : {M : Type 1} → statement M
 put-wait-spec =
