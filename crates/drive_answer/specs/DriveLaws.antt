@@ -1,14 +1,19 @@
 -- Laws of the driver, one for each way to a line.
-use mathlib.Core.Path.{_≡_, refl, ap}
+use mathlib.Core.Path.{_≡_, refl, ap, _∙_}
 use mathlib.Core.Bool.{Bool, true, false}
 use mathlib.Core.List.{List, []}
-use Prim.Native.Nat.{ℕ, _+_, _-_, _*_}
+use Prim.Native.Nat.{ℕ, _+_, _-_, _*_, _≤_}
 use native.Mathlib.Omega.{arith}
+use lib.Dec.{leb}
 use lib.ListN.{length, take, drop}
+use borrow.Author.Tests.{leb-true}
+use Rattle.asyncio.specs.Limits.{object-limit}
 use Rattle.queue.specs.declared.ReadyQueue.{ReadyQueue}
 use Rattle.machine.specs.Store.{Store, LogEntry, store-of}
 use Rattle.machine.specs.Machine as machine
-use Rattle.machine.specs.Lent.{Lent, lent-step, lent-read}
+use Rattle.machine.specs.Lent.{Lent, slices-right, lengths-right, answer-calls, lent-step, lent-read}
+use Rattle.machine_laws.specs.TestLaws.{and-true}
+use Rattle.machine_laws.specs.MachineLaws.{lent-count, lent-calls, lent-length}
 use Rattle.exec_switch.specs.Answer.{answer-with, answer-of}
 use Rattle.exec_switch.specs.declared.answer.Answer.{Answer}
 use Rattle.step_checks.specs.Lent.{lent-of}
@@ -42,6 +47,14 @@ event-drove u l e next number a k {ts} {os} {ps} {cs} {q} h w = record {
   going-is = refl;
   wrote = wrote-event number (store-of ts os ps q (lent-step u l e .store .log)) u cs l a k e h w;
 }
+
+-- A wait's calls stand within the list, which has room for every wait.
+pub count-within : (u : Store) (l : List ℕ) (e : machine.Event) {x : Lent} → x ≡ lent-step u l e → lengths-right u l ≡ true → x .count ≤ length (x .list)
+count-within u l e {x} r h =
+    let k : x .count ≡ length (answer-calls (lent-step u l e .answer)) = ap (λ (y : Lent). y .count) r ∙ lent-count u l e in
+    let n : length (x .list) ≡ length l = ap (λ (y : Lent). length (y .list)) r ∙ lent-length u l e in
+    let room : object-limit ≤ length l = leb-true object-limit (length l) (unfold lengths-right in (and-true (slices-right u) (leb object-limit (length l)) h .1)) in
+    omega (arith, k, lent-calls u l e .few, n, room)
 
 -- A read of an object.
 pub show-drove : (ts os ps : List ℕ) (q : ReadyQueue) (k : List LogEntry) (l : List ℕ) (o next number : ℕ) (r : Reading) {x y : Out}

@@ -25,7 +25,7 @@ ghost use Rattle.machine.specs.Machine.{slot-value};
 ghost use Rattle.step_read.specs.Reads.{places-from, shown-of};
 ghost use Rattle.drive_text.specs.Out.{Puts};
 ghost use Rattle.drive_text.specs.Text.{word};
-ghost use Rattle.drive_lines.specs.Lines.{error-text, place-text, places-text, shown-text};
+ghost use Rattle.drive_lines.specs.Lines.{error-text, place-text, places-text, shown-text, line};
 ghost use Rattle.drive_shows.specs.Shows.{shown-count, PutsGather, PutsReading};
 
 // A coroutine: its state and its function.
@@ -136,7 +136,7 @@ fn put_shown(out: &mut [u8], at: usize, shown: Shown, places: &[u64]) -> usize
 }
 
 fn write_shown(out: &mut [u8], at: usize, number: u64, shown: Shown, places: &[u64]) -> usize
-    ensures { λ r. ⌜ PutsReading out at r number places (Reading.Shows shown) ⌝ }
+    ensures { λ r. ⌜ Puts (75 + 27 * shown-count shown) out at r (line number (machine.Answer.shows (shown-of (now (places .entry)) shown))) ⌝ }
 {
     let p = put_decimal(out, at, number);
     let q = put_text(out, p, b" shows");

@@ -1,8 +1,9 @@
-use mathlib.Core.Path.{_≡_, sym, _∙_}
+use mathlib.Core.List.{[]}
+use mathlib.Core.Path.{_≡_, ap, sym, _∙_}
 use lib.ListN.{length}
 use denote.Ref.{now}
 use Rattle.machine.specs.Machine.{Event}
-use Rattle.machine.specs.Lent.{slices-right}
+use Rattle.machine.specs.Lent.{slices-right, read-as}
 use Rattle.step_checks.specs.LentLaws.{slices-have}
 use Rattle.step_read.specs.ReadLaws.{read-length, read-unsound, read-sound}
 use borrow.Author.Needs.{needs}

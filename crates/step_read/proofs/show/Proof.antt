@@ -15,16 +15,19 @@ load-header-requires c κs = search needs
 returns : tie.Need-returns
 returns c = λ ts ps q l. show-unmade ts (now (c .before .before .before .before .args .objects)) ps q l (c .before .before .before .before .args .o) (c .before .before .load-header .ensures) (c .if1 .taken)
 
+new-requires : tie.Need-new-requires
+new-requires c κs = search needs
+
 load-object-requires : tie.Need-load-object-requires
-load-object-requires c κs = (c .before .before .before .before .pre, omega (arith, c .if1 .left, header-read _ (c .before .before .load-header .ensures) .made-fits))
+load-object-requires c κs = (c .before .before .before .before .before .pre, rw (c .new .ensures) (omega (arith, c .before .if1 .left, header-read _ (c .before .before .before .load-header .ensures) .made-fits)))
 
 show-object-requires : tie.Need-show-object-requires
 show-object-requires c κs = search needs
 
 returns-2 : tie.Need-returns-2
-returns-2 c = λ ts ps q l. show-gives ts (now (c .before .before .before .before .before .before .args .objects)) ps q l (c .before .before .before .before .before .before .args .o) (c .before .load-object .ensures) (c .show-object .ensures (store-of ts (now (c .before .before .before .before .before .before .args .objects)) ps q l)) ∙ read-done (store-of ts (now (c .before .before .before .before .before .before .args .objects)) ps q l) (Event.show (c .before .before .before .before .before .before .args .o)) (show-made ts (now (c .before .before .before .before .before .before .args .objects)) ps q l (c .before .before .before .before .before .before .args .o) (c .before .before .before .before .load-header .ensures) (c .before .before .if1 .left))
+returns-2 c = λ ts ps q l. show-gives ts (now (c .before .before .before .before .before .before .before .args .objects)) ps q l (c .before .before .before .before .before .before .before .args .o) (rw (c .before .before .new .ensures) at (c .before .load-object .ensures)) (c .show-object .ensures (store-of ts (now (c .before .before .before .before .before .before .before .args .objects)) ps q l)) ∙ read-done (store-of ts (now (c .before .before .before .before .before .before .before .args .objects)) ps q l) (Event.show (c .before .before .before .before .before .before .before .args .o)) (show-made ts (now (c .before .before .before .before .before .before .before .args .objects)) ps q l (c .before .before .before .before .before .before .before .args .o) (c .before .before .before .before .before .load-header .ensures) (c .before .before .before .if1 .left))
 
 pub show-spec : {M : Type 1} → statement M
 show-spec =
     tie.close
-    (tie.spec load-header-requires returns load-object-requires show-object-requires returns-2)
+    (tie.spec load-header-requires returns new-requires load-object-requires show-object-requires returns-2)

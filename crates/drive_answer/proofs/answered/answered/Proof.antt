@@ -6,193 +6,141 @@ use Rattle.drive_answer.specs.Drove.{asked-of}
 use borrow.Author.Needs.{needs}
 use Rattle.drive_answer.proofs.answered.answered.Statement.{statement}
 use Rattle.drive_answer.proofs.answered.answered.Tie as tie
-use Rattle.drive_answer.proofs.answered.answered.Reads as reads
-use Rattle.drive_answer.proofs.answered.answered.Lts as lts
-use Rattle.drive_answer.proofs.answered.cancel_line.Reads as cancel-line-reads
-use Rattle.drive_answer.proofs.answered.eager_line.Reads as eager-line-reads
-use Rattle.drive_answer.proofs.answered.event_line.Reads as event-line-reads
-use Rattle.drive_answer.proofs.answered.gather_line.Reads as gather-line-reads
-use Rattle.drive_answer.proofs.answered.results_line.Reads as results-line-reads
-use Rattle.drive_answer.proofs.answered.show_line.Reads as show-line-reads
 
--- src/answered.rt:214:21
 enum-known-asks : tie.Need-enum-known-asks
 enum-known-asks c = search needs
 
--- src/answered.rt:223:17
 slice-aggregate-event-line : tie.Need-slice-aggregate-event-line
 slice-aggregate-event-line c = search needs
 
--- src/answered.rt:216:13
 event-line-requires : tie.Need-event-line-requires
 event-line-requires c κs = search needs
 
--- src/answered.rt:231:24
 enum-known-asks-2 : tie.Need-enum-known-asks-2
 enum-known-asks-2 c = search needs
 
--- src/answered.rt:231:42
 gather-line-requires : tie.Need-gather-line-requires
 gather-line-requires c κs = search needs
 
--- src/answered.rt:245:25
 enum-known-asks-3 : tie.Need-enum-known-asks-3
 enum-known-asks-3 c = search needs
 
--- src/answered.rt:245:43
 results-line-requires : tie.Need-results-line-requires
 results-line-requires c κs = (c .before .before .before .before .before .before .before .before .before .before .before .before .before .before .pre .0, c .before .before .before .before .before .before .before .before .before .before .before .before .before .before .pre .1, rw (c .before .before .before .before .before .before .asks3 .given .1) at (c .before .before .before .before .before .before .before .before .before .before .before .before .before .before .pre .2))
 
--- src/answered.rt:259:20
 enum-known-asks-4 : tie.Need-enum-known-asks-4
 enum-known-asks-4 c = search needs
 
--- src/answered.rt:259:26
 show-line-requires : tie.Need-show-line-requires
 show-line-requires c κs = (right-slices (now (c .before .before .before .before .before .before .before .before .before .before .before .before .before .args .tasks)) (now (c .before .before .before .before .before .before .before .before .before .before .before .before .before .args .objects)) (now (c .before .before .before .before .before .before .before .before .before .before .before .before .before .args .places)) (c .before .before .before .before .before .before .before .before .before .before .before .before .before .args .queue) (now (c .before .before .before .before .before .before .before .before .before .before .before .before .before .args .calls)) (c .before .before .before .before .before .before .before .before .before .before .before .before .before .pre .0) [], c .before .before .before .before .before .before .before .before .before .before .before .before .before .pre .1)
 
--- src/answered.rt:260:35
 enum-told : tie.Need-enum-told
 enum-told c = search needs
 
--- src/answered.rt:260:24
 eager-line-requires : tie.Need-eager-line-requires
 eager-line-requires c κs = (right-slices (now (c .before .before .before .before .before .before .before .before .before .before .before .before .before .args .tasks)) (now (c .before .before .before .before .before .before .before .before .before .before .before .before .before .args .objects)) (now (c .before .before .before .before .before .before .before .before .before .before .before .before .before .args .places)) (c .before .before .before .before .before .before .before .before .before .before .before .before .before .args .queue) (now (c .before .before .before .before .before .before .before .before .before .before .before .before .before .args .calls)) (c .before .before .before .before .before .before .before .before .before .before .before .before .before .pre .0) [], c .before .before .before .before .before .before .before .before .before .before .before .before .before .pre .1)
 
--- src/answered.rt:261:50
 enum-told-2 : tie.Need-enum-told-2
 enum-told-2 c = search needs
 
--- src/answered.rt:261:25
 cancel-line-requires : tie.Need-cancel-line-requires
 cancel-line-requires c κs = search needs
 
--- src/answered.rt:197:1
 same-length : tie.Need-same-length
 same-length c = search needs
 
--- src/answered.rt:197:1
 same-length-2 : tie.Need-same-length-2
 same-length-2 c = search needs
 
--- src/answered.rt:197:1
 same-length-3 : tie.Need-same-length-3
 same-length-3 c = search needs
 
--- src/answered.rt:197:1
 same-length-4 : tie.Need-same-length-4
 same-length-4 c = search needs
 
--- src/answered.rt:197:1
 same-length-5 : tie.Need-same-length-5
 same-length-5 c = search needs
 
--- src/answered.rt:197:1
 returns : tie.Need-returns
 unfolding asked-of
 returns c = λ l. rw (c .before .before .before .before .before .before .before .before .before .before .before .before .before .before .before .before .before .before .asks .given .1) (c .before .before .before .before .before .before .before .before .before .before .event-line .ensures l)
 
--- src/answered.rt:197:1
 same-length-6 : tie.Need-same-length-6
 same-length-6 c = search needs
 
--- src/answered.rt:197:1
 same-length-7 : tie.Need-same-length-7
 same-length-7 c = search needs
 
--- src/answered.rt:197:1
 same-length-8 : tie.Need-same-length-8
 same-length-8 c = search needs
 
--- src/answered.rt:197:1
 same-length-9 : tie.Need-same-length-9
 same-length-9 c = search needs
 
--- src/answered.rt:197:1
 same-length-10 : tie.Need-same-length-10
 same-length-10 c = search needs
 
--- src/answered.rt:197:1
 returns-2 : tie.Need-returns-2
 unfolding asked-of
 returns-2 c = λ l. rw (c .before .before .before .before .before .before .before .before .before .before .before .before .before .before .before .before .before .asks2 .given .1) (c .before .before .before .before .before .before .before .before .before .before .gather-line .ensures l)
 
--- src/answered.rt:197:1
 same-length-11 : tie.Need-same-length-11
 same-length-11 c = search needs
 
--- src/answered.rt:197:1
 same-length-12 : tie.Need-same-length-12
 same-length-12 c = search needs
 
--- src/answered.rt:197:1
 same-length-13 : tie.Need-same-length-13
 same-length-13 c = search needs
 
--- src/answered.rt:197:1
 same-length-14 : tie.Need-same-length-14
 same-length-14 c = search needs
 
--- src/answered.rt:197:1
 same-length-15 : tie.Need-same-length-15
 same-length-15 c = search needs
 
--- src/answered.rt:197:1
 returns-3 : tie.Need-returns-3
 unfolding asked-of
 returns-3 c = λ l. rw (c .before .before .before .before .before .before .before .before .before .before .before .before .before .before .before .before .before .asks3 .given .1) (c .before .before .before .before .before .before .before .before .before .before .results-line .ensures l)
 
--- src/answered.rt:197:1
 same-length-16 : tie.Need-same-length-16
 same-length-16 c = search needs
 
--- src/answered.rt:197:1
 same-length-17 : tie.Need-same-length-17
 same-length-17 c = search needs
 
--- src/answered.rt:197:1
 same-length-18 : tie.Need-same-length-18
 same-length-18 c = search needs
 
--- src/answered.rt:197:1
 same-length-19 : tie.Need-same-length-19
 same-length-19 c = search needs
 
--- src/answered.rt:197:1
 returns-4 : tie.Need-returns-4
 unfolding asked-of
 returns-4 c = λ l. rw (c .before .before .before .before .before .before .before .before .asks4 .given .1) (c .before .before .show-line .ensures _ l)
 
--- src/answered.rt:197:1
 same-length-20 : tie.Need-same-length-20
 same-length-20 c = search needs
 
--- src/answered.rt:197:1
 same-length-21 : tie.Need-same-length-21
 same-length-21 c = search needs
 
--- src/answered.rt:197:1
 same-length-22 : tie.Need-same-length-22
 same-length-22 c = search needs
 
--- src/answered.rt:197:1
 same-length-23 : tie.Need-same-length-23
 same-length-23 c = search needs
 
--- src/answered.rt:197:1
 same-length-24 : tie.Need-same-length-24
 same-length-24 c = search needs
 
--- src/answered.rt:197:1
 returns-5 : tie.Need-returns-5
 unfolding asked-of
 returns-5 c = λ l. rw (c .before .before .before .before .before .before .before .before .enum-told .given .1) (c .before .before .eager-line .ensures l)
 
--- src/answered.rt:197:1
 same-length-25 : tie.Need-same-length-25
 same-length-25 c = search needs
 
--- src/answered.rt:197:1
 returns-6 : tie.Need-returns-6
 unfolding asked-of answered
 returns-6 c = λ l. rw (c .before .before .before .before .enum-told2 .given .1) (c .before .before .cancel-line .ensures _ _ _ _ l)

@@ -11,52 +11,37 @@ use Rattle.drive_answer.specs.DriveLaws.{same-event}
 use borrow.Author.Needs.{needs}
 use Rattle.drive_answer.proofs.answered.gather_line.Statement.{statement}
 use Rattle.drive_answer.proofs.answered.gather_line.Tie as tie
-use Rattle.drive_answer.proofs.answered.gather_line.Reads as reads
-use Rattle.drive_answer.proofs.answered.gather_line.Lts as lts
-use Rattle.drive_answer.proofs.answered.event_line.Reads as event-line-reads
-use Rattle.drive_reader.proofs.items.gather_items.Reads as gather-items-reads
 
--- src/answered.rt:80:48
 slice-aggregate-gather-items : tie.Need-slice-aggregate-gather-items
 slice-aggregate-gather-items c = search needs
 
--- src/answered.rt:80:5
 gather-items-requires : tie.Need-gather-items-requires
 gather-items-requires c κs = search needs
 
--- src/answered.rt:88:9
 array-share-prefix-items : tie.Need-array-share-prefix-items
 array-share-prefix-items c = search needs
 
--- src/answered.rt:88:9
 slice-aggregate-event-line : tie.Need-slice-aggregate-event-line
 slice-aggregate-event-line c = sym (length-take-le (c .before .before .before .before .before .before .before .before .before .before .before .before .before .before .args .count) (c .before .before .before .before .before .before .gather-items .last .1 .1 .1 .0) (omega (arith, c .before .before .before .before .before .before .gather-items .kept .1 .1 .1 .0)))
 
--- src/answered.rt:81:5
 event-line-requires : tie.Need-event-line-requires
 event-line-requires c κs = search needs
 
--- src/answered.rt:61:1
 same-length : tie.Need-same-length
 same-length c = search needs
 
--- src/answered.rt:61:1
 same-length-2 : tie.Need-same-length-2
 same-length-2 c = search needs
 
--- src/answered.rt:61:1
 same-length-3 : tie.Need-same-length-3
 same-length-3 c = search needs
 
--- src/answered.rt:61:1
 same-length-4 : tie.Need-same-length-4
 same-length-4 c = search needs
 
--- src/answered.rt:61:1
 same-length-5 : tie.Need-same-length-5
 same-length-5 c = search needs
 
--- src/answered.rt:61:1
 returns : tie.Need-returns
 returns c = λ l. same-event _ _ _ _ (ap (λ (is : List ℕ). machine.Event.gather is) (ap (take (c .before .before .before .before .before .before .before .before .before .before .before .before .before .before .before .before .before .before .before .before .before .before .before .before .before .before .args .count)) (c .before .before .before .before .before .before .before .before .before .before .before .before .before .before .before .before .before .before .gather-items .ensures) ∙ items-taken (now (c .before .before .before .before .before .before .before .before .before .before .before .before .before .before .before .before .before .before .before .before .before .before .before .before .before .before .args .src)) (c .before .before .before .before .before .before .before .before .before .before .before .before .before .before .before .before .before .before .before .before .before .before .before .before .before .before .args .first) (c .before .before .before .before .before .before .before .before .before .before .before .before .before .before .before .before .before .before .before .before .before .before .before .before .before .before .args .count) (replicate 255 0) (omega (arith, c .before .before .before .before .before .before .before .before .before .before .before .before .before .before .before .before .before .before .before .before .before .before .before .before .before .before .fits .count)))) (c .before .before .before .before .before .before .before .before .before .before .event-line .ensures l)
 

@@ -8,59 +8,43 @@ use Rattle.drive_answer.specs.DriveLaws.{same-event, part-is}
 use borrow.Author.Needs.{needs}
 use Rattle.drive_answer.proofs.answered.results_line.Statement.{statement}
 use Rattle.drive_answer.proofs.answered.results_line.Tie as tie
-use Rattle.drive_answer.proofs.answered.results_line.Reads as reads
-use Rattle.drive_answer.proofs.answered.results_line.Lts as lts
-use Rattle.drive_answer.proofs.answered.event_line.Reads as event-line-reads
 
--- src/answered.rt:116:13
 mul-n : tie.Need-mul-n
 mul-n c = search needs
 
--- src/answered.rt:124:9
 slice-aggregate-event-line : tie.Need-slice-aggregate-event-line
 slice-aggregate-event-line c = search needs
 
--- src/answered.rt:125:21
 add-event-line : tie.Need-add-event-line
 add-event-line c = search needs
 
--- src/answered.rt:125:9
 sub-event-line : tie.Need-sub-event-line
 sub-event-line c = search needs
 
--- src/answered.rt:125:9
 part-event-line-start : tie.Need-part-event-line-start
 part-event-line-start c = search needs
 
--- src/answered.rt:125:9
 part-event-line-end : tie.Need-part-event-line-end
 part-event-line-end c = search needs
 
--- src/answered.rt:117:5
 event-line-requires : tie.Need-event-line-requires
 event-line-requires c κs = search needs
 
--- src/answered.rt:98:1
 same-length : tie.Need-same-length
 same-length c = search needs
 
--- src/answered.rt:98:1
 same-length-2 : tie.Need-same-length-2
 same-length-2 c = search needs
 
--- src/answered.rt:98:1
 same-length-3 : tie.Need-same-length-3
 same-length-3 c = search needs
 
--- src/answered.rt:98:1
 same-length-4 : tie.Need-same-length-4
 same-length-4 c = search needs
 
--- src/answered.rt:98:1
 same-length-5 : tie.Need-same-length-5
 same-length-5 c = search needs
 
--- src/answered.rt:98:1
 returns : tie.Need-returns
 returns c = λ l. same-event _ _ _ _ (ap (λ (bs : List ℕ). machine.Event.results (results-in bs)) (part-is (now (c .before .before .before .before .before .before .before .before .before .before .before .before .before .before .before .before .before .before .before .before .before .before .before .before .args .src)) (c .before .before .before .before .before .before .before .before .before .before .before .before .before .before .before .before .before .before .before .before .before .before .before .before .args .first) (c .before .before .before .before .before .before .before .before .before .before .before .before .before .before .before .before .before .before .before .before .before .before .before .before .args .count * 14))) (c .before .before .before .before .before .before .before .before .before .before .event-line .ensures l)
 
