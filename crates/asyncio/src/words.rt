@@ -50,7 +50,7 @@ pub fn to_first(n: u64) -> u16
 }
 
 // The lower of two numbers.
-pub fn least(a: u64, b: u64) -> u64
+pub fn least(a: usize, b: usize) -> usize
     ensures { λ r. ⌜ r ≡ min a b ⌝ }
 {
     if a < b { a } else { b }
@@ -60,7 +60,7 @@ pub fn to_count(first: u16, n: u64) -> u16
     requires { ⌜ first ≤ place-limit ⌝ }
     ensures { λ r. ⌜ r ≡ to-count first n ⌝ }
 {
-    least(n % (ITEMS as u64 + 1), PLACES as u64 - first as u64) as u16
+    least(n as usize % (ITEMS + 1), PLACES - first as usize) as u16
 }
 
 // ---- values, errors, awaiters
@@ -83,7 +83,7 @@ pub fn to_value(tag: u64, n: u64) -> Value
     }
 }
 
-pub fn option_words(x: OptionValue) -> Words2
+fn option_words(x: OptionValue) -> Words2
     ensures { λ r. ⌜ r ≡ option-words x ⌝ }
 {
     match x {
@@ -132,7 +132,7 @@ pub fn to_error(tag: u64, n: u64) -> Error
     }
 }
 
-pub fn awaiter_words(w: Awaiter) -> Words3
+fn awaiter_words(w: Awaiter) -> Words3
     ensures { λ r. ⌜ r ≡ awaiter-words w ⌝ }
 {
     match w {
@@ -158,7 +158,7 @@ pub fn to_awaiter(tag: u64, a: u64, b: u64) -> Awaiter
 
 // ---- objects
 
-pub fn kind_word(k: Kind) -> u64
+fn kind_word(k: Kind) -> u64
     ensures { λ r. ⌜ r ≡ kind-word k ⌝ }
 {
     match k {
@@ -346,7 +346,7 @@ pub fn to_object(w: [u64; 8]) -> Object
 
 // ---- tasks
 
-pub fn state_words(s: TaskState) -> Words3
+fn state_words(s: TaskState) -> Words3
     ensures { λ r. ⌜ r ≡ state-words s ⌝ }
 {
     match s {
@@ -421,7 +421,7 @@ pub fn to_place(w: [u64; 4]) -> Place
     Place { item, result }
 }
 
-pub fn moment_words(m: Moment) -> Words2
+fn moment_words(m: Moment) -> Words2
     ensures { λ r. ⌜ r ≡ moment-words m ⌝ }
 {
     match m {
@@ -431,7 +431,7 @@ pub fn moment_words(m: Moment) -> Words2
     }
 }
 
-pub fn to_moment(tag: u64, t: u64) -> Moment
+fn to_moment(tag: u64, t: u64) -> Moment
     ensures { λ r. ⌜ r ≡ to-moment tag t ⌝ }
 {
     match tag {

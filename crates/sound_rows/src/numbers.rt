@@ -13,7 +13,7 @@ use rows::parts::open_at;
 use rows::parts::state_at;
 use rows::parts::task_awaiter_at;
 ghost use mathlib.Core.Path.{_≡_};
-ghost use Prim.Native.Nat.{_<_, _≤_, _^_};
+ghost use Prim.Native.Nat.{_*_, _<_, _≤_, _^_};
 ghost use lib.Dec.{ltb};
 ghost use Rattle.asyncio.specs.Limits.{task-limit, object-limit, item-limit};
 ghost use Rattle.asyncio.specs.Kinds.{kind, is-coroutine};
@@ -171,7 +171,7 @@ pub fn numbers_in_range(header: Header, tasks: &[u64], objects: &[u64]) -> bool
 // The places of the committed gathers below `made`.
 fn committed_places(objects: &[u64], made: u16) -> u16
     requires { ⌜ ObjectsLengthAnd objects (made ≤ object-limit) ⌝ }
-    ensures { λ r. ⌜ (r ≡ sum-below made (λ o. committed-places (object-in objects o))) × (r ≤ 8192) ⌝ }
+    ensures { λ r. ⌜ (r ≡ sum-below made (λ o. committed-places (object-in objects o))) × (r ≤ item-limit * object-limit) ⌝ }
 {
     let mut sum: u16 = 0;
     let mut o: u16 = 0;
