@@ -41,7 +41,7 @@ fn fill_one(
 }
 
 // Every open place of a gather that names `source` is filled, and its bit cleared. The gather has the `count` places from `first` on.
-pub fn fill_places(
+pub(crate) fn fill_places(
     places: &mut [u64],
     first: usize,
     count: usize,

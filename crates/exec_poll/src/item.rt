@@ -54,7 +54,8 @@ pub fn await_external(
     awaiter: Awaiter,
 ) -> Poll
     requires { ⌜ ObjectsLength objects × (o .0 < object-limit) ⌝ }
-    ensures { λ r. ⌜ PollsOfObjects objects (λ s. await-external s (o .0) call state awaiter) r ⌝ }
+    ensures { λ r. ⌜ PollsOfObjects objects
+        (λ s. await-external s (o .0) call state awaiter) r ⌝ }
 {
     match state {
         ExternalFutureState::Resolved(v) => Poll::Ready(v),
@@ -89,7 +90,8 @@ fn item_coroutine(
     state: CoroutineState,
 ) -> Polled
     requires { ⌜ Lengths₂ tasks objects ⌝ }
-    ensures { λ r. ⌜ Polls tasks objects queue (λ s. item-coroutine s (g .0) (o .0) state) r ⌝ }
+    ensures { λ r. ⌜ Polls tasks objects queue
+        (λ s. item-coroutine s (g .0) (o .0) state) r ⌝ }
 {
     match state {
         CoroutineState::New => {
@@ -225,7 +227,8 @@ pub fn item(
     o: HeapId,
 ) -> PolledItem
     requires { ⌜ LengthsAnd₂ tasks objects places (PlacesFit (w .first) (w .count)) (o .0 < object-limit) ⌝ }
-    ensures { λ r. ⌜ PollsItemOfPlaces tasks objects places queue (λ s. item-at s (g .0) (awaited-of w) (o .0)) r ⌝ }
+    ensures { λ r. ⌜ PollsItemOfPlaces tasks objects places queue
+        (λ s. item-at s (g .0) (awaited-of w) (o .0)) r ⌝ }
 {
     if is_open(places, w, o) {
         return PolledItem {

@@ -13,13 +13,22 @@ ghost use Rattle.exec_switch.specs.Answer.{answer-of};
 ghost use Rattle.step_checks.specs.Lent.{is-wait, slices-fit};
 ghost use Rattle.contract.specs.Contract.{ObjectsLength};
 
+// Words of the slices: 8 a task, 8 an object and as many for the header, 4 a place.
+const TASKS_LENGTH: usize = asyncio::TASKS as usize * 8;
+
+const OBJECTS: usize = asyncio::OBJECTS as usize;
+
+const OBJECTS_LENGTH: usize = 8 + OBJECTS * 8;
+
+const PLACES_LENGTH: usize = asyncio::PLACES as usize * 4;
+
 // Have the slices of the store their lengths?
 pub fn slices_right(tasks: &[u64], objects: &[u64], places: &[u64]) -> bool
     ensures { λ r. ⌜ r ≡ slices-fit tasks objects places ⌝ }
 {
-    if tasks.len() == 4104 {
-        if objects.len() == 2056 {
-            return places.len() == 2048;
+    if tasks.len() == TASKS_LENGTH {
+        if objects.len() == OBJECTS_LENGTH {
+            return places.len() == PLACES_LENGTH;
         }
         return false;
     }
@@ -31,7 +40,7 @@ pub fn lengths_right(tasks: &[u64], objects: &[u64], places: &[u64], calls: &[u6
     ensures { λ r. ⌜ r ≡ (slices-fit tasks objects places && leb object-limit (length (now (calls .entry)))) ⌝ }
 {
     if slices_right(tasks, objects, places) {
-        return 256 <= calls.len();
+        return OBJECTS <= calls.len();
     }
     false
 }
