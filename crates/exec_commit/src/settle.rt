@@ -76,7 +76,7 @@ pub(crate) fn settle_gather_commit(objects: &mut [u64], g: HeapId) -> Poll
     match a {
         OptionAwaited::None => Poll::Pending,
         OptionAwaited::Some(w) => {
-            if w.waiting == 0 {
+            if w.open_places == 0 {
                 set_gather(objects, g, GatherState::Completed);
                 return Poll::Ready(Value::List(g));
             }

@@ -51,14 +51,14 @@ pub struct Stopped {
 }
 
 // Bit `i` of the open places, set.
-fn with_bit(waiting: u32, i: usize) -> u32
+fn with_bit(open_places: u32, i: usize) -> u32
     requires { ⌜ i < item-limit ⌝ }
-    ensures { λ r. ⌜ r ≡ with-bit waiting i ⌝ }
+    ensures { λ r. ⌜ r ≡ with-bit «open_places» i ⌝ }
 {
-    if (waiting >> i) % 2 == 0 {
-        return waiting + (1u32 << i);
+    if (open_places >> i) % 2 == 0 {
+        return open_places + (1u32 << i);
     }
-    waiting
+    open_places
 }
 
 // Place `i` of gather `g`, which is `w`, is open.
@@ -67,7 +67,7 @@ pub(crate) fn open_place(objects: &mut [u64], g: HeapId, w: AwaitedGather, i: us
     ensures { λ _. ⌜ ChangesObjects objects (λ s. open-place s (g .0) (awaited-of w) i) ⌝ }
 {
     let awaiter = w.awaiter;
-    let open_places = with_bit(w.waiting, i);
+    let open_places = with_bit(w.open_places, i);
     rows::tables::store_object(
         objects,
         g,

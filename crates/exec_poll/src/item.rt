@@ -135,11 +135,11 @@ fn item_gather(o: HeapId, state: GatherState) -> ItemPoll
 }
 
 // Does place `p`, which is place `i` of a gather, wait for object `o`?
-fn is_open_here(places: &[u64], waiting: u32, p: usize, i: usize, o: HeapId) -> bool
+fn is_open_here(places: &[u64], open_places: u32, p: usize, i: usize, o: HeapId) -> bool
     requires { ⌜ PlacesLength places × (p < place-limit) × (i < item-limit) ⌝ }
-    ensures { λ r. ⌜ r ≡ open-here (now (places .entry)) waiting p i (o .0) ⌝ }
+    ensures { λ r. ⌜ r ≡ open-here (now (places .entry)) «open_places» p i (o .0) ⌝ }
 {
-    if (waiting >> i) % 2 == 0 {
+    if (open_places >> i) % 2 == 0 {
         return false;
     }
     let item = rows::parts::item_at(places, p);
@@ -155,7 +155,7 @@ fn is_open(places: &[u64], w: AwaitedGather, o: HeapId) -> bool
     let count = w.count as usize;
     let mut i: usize = 0;
     while i < count {
-        if is_open_here(places, w.waiting, first + i, i, o) {
+        if is_open_here(places, w.open_places, first + i, i, o) {
             return true;
         }
         i += 1;

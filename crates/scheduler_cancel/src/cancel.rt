@@ -171,13 +171,13 @@ fn visit_place(
     at: Walked,
     p: usize,
     i: usize,
-    waiting: u32,
+    open_places: u32,
 ) -> Walked
     requires { ⌜ TasksLength tasks × ObjectsLength objects × PlacesLength places × TableLength table × MarksLength marks
         × TableLength stack × HasRoom marks (at .depth) × (p < place-limit) × (i < item-limit) ⌝ }
-    ensures { λ r. ⌜ Walks table tasks objects places marks stack at (λ w. visit-place w p i waiting) r ⌝ }
+    ensures { λ r. ⌜ Walks table tasks objects places marks stack at (λ w. visit-place w p i «open_places») r ⌝ }
 {
-    if (waiting >> i) % 2 == 0 {
+    if (open_places >> i) % 2 == 0 {
         return at;
     }
     let o = rows::parts::item_at(places, p);
@@ -195,12 +195,12 @@ fn visit_open(
     at: Walked,
     first: usize,
     count: usize,
-    waiting: u32,
+    open_places: u32,
 ) -> Walked
     requires { ⌜ TasksLength tasks × ObjectsLength objects × PlacesLength places × TableLength table × MarksLength marks
         × TableLength stack × HasRoom marks (at .depth) × (first + count ≤ place-limit) × (count ≤ item-limit) ⌝ }
     ensures { λ r. ⌜ ((a : Awaiter) → Walks table tasks objects places marks stack at
-        (λ w. visit-open w (awaited-places first count a waiting) 0 count) r) ⌝ }
+        (λ w. visit-open w (awaited-places first count a «open_places») 0 count) r) ⌝ }
 {
     let mut w = at;
     let mut i: usize = 0;
@@ -215,7 +215,7 @@ fn visit_open(
             w,
             first + i,
             i,
-            waiting,
+            open_places,
         );
         i += 1;
     }
@@ -242,7 +242,7 @@ fn walk_gather(
     if kind.is_awaited() {
         let first = rows::parts::first_at(objects, g);
         let count = rows::parts::count_at(objects, g);
-        let waiting = rows::parts::open_at(objects, g);
+        let open_places = rows::parts::open_at(objects, g);
         return visit_open(
             tasks,
             objects,
@@ -253,7 +253,7 @@ fn walk_gather(
             at,
             first as usize,
             count as usize,
-            waiting,
+            open_places,
         );
     }
     at
