@@ -125,6 +125,6 @@ pub(crate) fn unwind_gather_commits(
     let mut d = depth;
     while 0 < d {
         d -= 1;
-        set_gather(objects, HeapId(gathers[d]), GatherState::Failed(error));
+        set_gather(objects, HeapId::new(gathers[d]), GatherState::Failed(error));
     }
 }
