@@ -157,3 +157,7 @@ ReadsObjectsAndQueue objects queue f r = (ts ps : List ℕ) (l : List LogEntry) 
 -- what is built with its own log equals y; so it equals x, where x is y
 pub same-log : {X : Type 0} {x y : X} (log : X → List LogEntry) (result : List LogEntry → X) → x ≡ y → result (log y) ≡ y → result (log x) ≡ x
 same-log log result e r = subst (λ z. result (log z) ≡ z) (sym e) r
+
+-- of a store
+pub same-store : {x y : Store} → x ≡ y → {ts os ps : List ℕ} {q : ReadyQueue} → store-of ts os ps q (y .log) ≡ y → store-of ts os ps q (x .log) ≡ x
+same-store e {ts} {os} {ps} {q} r = same-log (λ s. s .log) (λ l. store-of ts os ps q l) e r

@@ -35,14 +35,14 @@ module _ (ts os ps : List ℕ) (q : ReadyQueue) (l : List LogEntry) (g : ℕ) (a
 
   module _ (w : AwaitedGather) (f : a ≡ OptionAwaited.Some w) where
     -- no place is open
-    pub settle-done : w .waiting ≡ 0 → {us : List ℕ} → store-of ts us ps q l ≡ set-gather (store-of ts os ps q l) g GatherState.Completed
+    pub settle-done : w .«open_places» ≡ 0 → {us : List ℕ} → store-of ts us ps q l ≡ set-gather (store-of ts os ps q l) g GatherState.Completed
         → gives (store-of ts us ps q l) (ready (Value.List (heap-id g))) ≡ settle-gather-commit (store-of ts os ps q l) g
     unfolding settle-gather-commit settle-as object
-    settle-done z p = rw (← e, f, eq-eqb (w .waiting) 0 z, p)
+    settle-done z p = rw (← e, f, eq-eqb (w .«open_places») 0 z, p)
 
-    pub settle-waits : (w .waiting ≡ 0 → ⊥) → gives (store-of ts os ps q l) pending ≡ settle-gather-commit (store-of ts os ps q l) g
+    pub settle-waits : (w .«open_places» ≡ 0 → ⊥) → gives (store-of ts os ps q l) pending ≡ settle-gather-commit (store-of ts os ps q l) g
     unfolding settle-gather-commit settle-as object
-    settle-waits z = rw (← e, f, ne-eqb (w .waiting) 0 z)
+    settle-waits z = rw (← e, f, ne-eqb (w .«open_places») 0 z)
 
   -- ---- resuming
 

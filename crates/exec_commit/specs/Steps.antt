@@ -10,7 +10,7 @@ use Rattle.machine.specs.Commit.{at-end, at-nested, at-error, step-item, step-i
 use Rattle.machine.specs.Commit as machine
 use Rattle.contract.specs.Contract.{Slice, kept, before, after, Does}
 use Rattle.exec_commit.specs.declared.step.Step.{Step}
-use Rattle.exec_commit.specs.declared.step.Stepped.{Stepped}
+use Rattle.exec_commit.specs.declared.step.SteppedItem.{SteppedItem}
 use Rattle.exec_commit.specs.declared.step.Stop.{Stop}
 use Rattle.exec_commit.specs.declared.step.Stopped.{Stopped}
 
@@ -63,7 +63,7 @@ StepsPlace objects places i f r =
     stepped (after (kept ts) objects places q l) i r go ≡ f (before (kept ts) objects places q l) go
 
 -- The call steps the item of place i, as f does. What has happened does not hang on how the walk goes on.
-abbrev pub StepsTo : Slice → Slice → Slice → ReadyQueue → ℕ → (Store → Goes → machine.Stop) → Stepped → Type 0
+abbrev pub StepsTo : Slice → Slice → Slice → ReadyQueue → ℕ → (Store → Goes → machine.Stop) → SteppedItem → Type 0
 StepsTo tasks objects places queue i f r =
     (l : List LogEntry) (go : Goes) →
     stepped (after tasks objects places (r .queue) (stop-log (f (before tasks objects places queue l) at-end))) i (r .step) go

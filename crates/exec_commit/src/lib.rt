@@ -2,3 +2,5 @@
 pub mod step; // the items of one gather
 pub mod settle; // opening, settling and unwinding
 pub mod tree; // the walk through the gathers
+
+pub(crate) const OBJECTS: usize = asyncio::OBJECTS as usize;

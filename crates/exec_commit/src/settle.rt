@@ -1,4 +1,5 @@
 // The gathers of a commit: opened, settled, resumed, and failed when the commit fails.
+use crate::OBJECTS;
 use crate::step::fill_place;
 use crate::step::open_place;
 use asyncio::Awaiter;
@@ -52,7 +53,7 @@ fn set_gather(objects: &mut [u64], g: HeapId, state: GatherState)
 }
 
 // Gather `g` is awaited, with no place open yet.
-pub fn open_gather_commit(objects: &mut [u64], g: HeapId, awaiter: Awaiter)
+pub(crate) fn open_gather_commit(objects: &mut [u64], g: HeapId, awaiter: Awaiter)
     requires { ⌜ ObjectsLength objects × (g .0 < object-limit) ⌝ }
     ensures { λ _. ⌜ ChangesObjects objects (λ s. open-gather-commit s (g .0) awaiter) ⌝ }
 {
@@ -67,7 +68,7 @@ pub fn open_gather_commit(objects: &mut [u64], g: HeapId, awaiter: Awaiter)
 }
 
 // Gather `g`, whose items are all stepped: completed where no place is open, the empty gather included.
-pub fn settle_gather_commit(objects: &mut [u64], g: HeapId) -> Poll
+pub(crate) fn settle_gather_commit(objects: &mut [u64], g: HeapId) -> Poll
     requires { ⌜ ObjectsLength objects × (g .0 < object-limit) ⌝ }
     ensures { λ r. ⌜ PollsOfObjects objects (λ s. settle-gather-commit s (g .0)) r ⌝ }
 {
@@ -75,7 +76,7 @@ pub fn settle_gather_commit(objects: &mut [u64], g: HeapId) -> Poll
     match a {
         OptionAwaited::None => Poll::Pending,
         OptionAwaited::Some(w) => {
-            if w.waiting == 0 {
+            if w.open_places == 0 {
                 set_gather(objects, g, GatherState::Completed);
                 return Poll::Ready(Value::List(g));
             }
@@ -85,14 +86,15 @@ pub fn settle_gather_commit(objects: &mut [u64], g: HeapId) -> Poll
 }
 
 // The nested gather in place `next` of gather `g` was settled: the place is filled or open.
-pub fn resume_after_child(
+pub(crate) fn resume_after_child(
     objects: &mut [u64],
     places: &mut [u64],
     g: HeapId,
     next: usize,
     poll: Poll,
 )
-    requires { ⌜ ObjectsLength objects × PlacesLength places × (g .0 < object-limit) × (next < count-of (object-at (now objects) (g .0))) ⌝ }
+    requires { ⌜ ObjectsLength objects × PlacesLength places × (g .0 < object-limit)
+        × (next < count-of (object-at (now objects) (g .0))) ⌝ }
     ensures { λ _. ⌜ ChangesObjectsAndPlaces objects places
         (λ s. resume-after-child (frame (g .0) next) (gives s (poll-of poll))) ⌝ }
 {
@@ -108,20 +110,21 @@ pub fn resume_after_child(
 }
 
 // An error marks every gather of the commit failed, the innermost first: `g`, then the `depth` gathers below it.
-pub fn unwind_gather_commits(
+pub(crate) fn unwind_gather_commits(
     objects: &mut [u64],
     g: HeapId,
-    gathers: [u16; 256],
+    gathers: [u16; OBJECTS],
     depth: usize,
     error: Error,
 )
-    requires { ⌜ ObjectsLength objects × (g .0 < object-limit) × (depth ≤ object-limit) × GathersFit gathers depth ⌝ }
+    requires { ⌜ ObjectsLength objects × (g .0 < object-limit)
+        × (depth ≤ object-limit) × GathersFit gathers depth ⌝ }
     ensures { λ _. ⌜ Unwinds objects (g .0) gathers depth error ⌝ }
 {
     set_gather(objects, g, GatherState::Failed(error));
     let mut d = depth;
     while 0 < d {
         d -= 1;
-        set_gather(objects, HeapId(gathers[d]), GatherState::Failed(error));
+        set_gather(objects, HeapId::new(gathers[d]), GatherState::Failed(error));
     }
 }

@@ -32,7 +32,7 @@ pub enum Step {
 }
 
 // The queue after an item, and how the walk stands.
-pub struct Stepped {
+pub struct SteppedItem {
     pub queue: ReadyQueue,
     pub step: Step,
 }
@@ -51,23 +51,23 @@ pub struct Stopped {
 }
 
 // Bit `i` of the open places, set.
-fn with_bit(waiting: u32, i: usize) -> u32
+fn with_bit(open_places: u32, i: usize) -> u32
     requires { ⌜ i < item-limit ⌝ }
-    ensures { λ r. ⌜ r ≡ with-bit waiting i ⌝ }
+    ensures { λ r. ⌜ r ≡ with-bit «open_places» i ⌝ }
 {
-    if (waiting >> i) % 2 == 0 {
-        return waiting + (1u32 << i);
+    if (open_places >> i) % 2 == 0 {
+        return open_places + (1u32 << i);
     }
-    waiting
+    open_places
 }
 
 // Place `i` of gather `g`, which is `w`, is open.
-pub fn open_place(objects: &mut [u64], g: HeapId, w: AwaitedGather, i: usize)
+pub(crate) fn open_place(objects: &mut [u64], g: HeapId, w: AwaitedGather, i: usize)
     requires { ⌜ ObjectsLength objects × (g .0 < object-limit) × (i < item-limit) ⌝ }
     ensures { λ _. ⌜ ChangesObjects objects (λ s. open-place s (g .0) (awaited-of w) i) ⌝ }
 {
     let awaiter = w.awaiter;
-    let open_places = with_bit(w.waiting, i);
+    let open_places = with_bit(w.open_places, i);
     rows::tables::store_object(
         objects,
         g,
@@ -83,7 +83,7 @@ pub fn open_place(objects: &mut [u64], g: HeapId, w: AwaitedGather, i: usize)
 }
 
 // Place `i` of the gather `w` has a value.
-pub fn fill_place(places: &mut [u64], w: AwaitedGather, i: usize, value: Value)
+pub(crate) fn fill_place(places: &mut [u64], w: AwaitedGather, i: usize, value: Value)
     requires { ⌜ PlacesLength places × (w .first + i < place-limit) ⌝ }
     ensures { λ _. ⌜ ChangesPlaces places (λ s. fill-place s (awaited-of w) i value) ⌝ }
 {
@@ -108,8 +108,10 @@ fn put_polled(
     i: usize,
     poll: Poll,
 ) -> Step
-    requires { ⌜ ObjectsLength objects × PlacesLength places × (g .0 < object-limit) × (i < item-limit) × (w .first + i < place-limit) ⌝ }
-    ensures { λ r. ⌜ StepsPlace objects places i (λ s go. put-polled (g .0) (awaited-of w) i s (poll-of poll) go) r ⌝ }
+    requires { ⌜ ObjectsLength objects × PlacesLength places × (g .0 < object-limit)
+        × (i < item-limit) × (w .first + i < place-limit) ⌝ }
+    ensures { λ r. ⌜ StepsPlace objects places i
+        (λ s go. put-polled (g .0) (awaited-of w) i s (poll-of poll) go) r ⌝ }
 {
     match poll {
         Poll::Ready(v) => {
@@ -132,13 +134,14 @@ fn step_item(
     queue: ReadyQueue,
     g: HeapId,
     i: usize,
-) -> Stepped
+) -> SteppedItem
     requires { ⌜ LengthsAnd₂ tasks objects places (g .0 < object-limit) (i < count-of (object-at (now objects) (g .0))) ⌝ }
-    ensures { λ r. ⌜ StepsTo tasks objects places queue i (λ s go. step-at s (g .0) i go) r ⌝ }
+    ensures { λ r. ⌜ StepsTo tasks objects places queue i
+        (λ s go. step-at s (g .0) i go) r ⌝ }
 {
     let a = as_awaited(objects, g);
     match a {
-        OptionAwaited::None => Stepped {
+        OptionAwaited::None => SteppedItem {
             queue,
             step: Step::End,
         },
@@ -148,13 +151,13 @@ fn step_item(
             let q = r.queue;
             let polled = r.item;
             match polled {
-                ItemPoll::Nested => Stepped {
+                ItemPoll::Nested => SteppedItem {
                     queue: q,
                     step: Step::Nested(o),
                 },
                 ItemPoll::Polled(poll) => {
                     let step = put_polled(objects, places, g, w, i, poll);
-                    Stepped { queue: q, step }
+                    SteppedItem { queue: q, step }
                 }
             }
         }
@@ -162,7 +165,7 @@ fn step_item(
 }
 
 // The items of gather `g` from place `next` on, left to right, up to the end, a nested gather that must be committed first, or an error.
-pub fn step_gather_commit(
+pub(crate) fn step_gather_commit(
     tasks: &mut [u64],
     objects: &mut [u64],
     places: &mut [u64],
@@ -171,7 +174,8 @@ pub fn step_gather_commit(
     next: u16,
 ) -> Stopped
     requires { ⌜ LengthsAnd tasks objects places (g .0 < object-limit) ⌝ }
-    ensures { λ r. ⌜ StopsAt tasks objects places queue (λ s. step-gather-commit s (frame (g .0) next)) r ⌝ }
+    ensures { λ r. ⌜ StopsAt tasks objects places queue
+        (λ s. step-gather-commit s (frame (g .0) next)) r ⌝ }
 {
     let count = rows::parts::count_at(objects, g);
     let mut q = queue;

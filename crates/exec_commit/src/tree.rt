@@ -1,4 +1,5 @@
 // commit_gather_tree: the walk through a gather and the gathers nested in it.
+use crate::OBJECTS;
 use crate::settle::open_gather_commit;
 use crate::settle::resume_after_child;
 use crate::settle::settle_gather_commit;
@@ -23,7 +24,7 @@ pub struct Committed {
 }
 
 // Gather `root`, for its awaiter, and every gather nested in it. A frame is a gather and its place that is stepped next: the innermost
-// is in `g` and `next`, those below it in the arrays. A frame goes there when a pending gather is opened, so that 256 are enough.
+// is in `g` and `next`, those below it in the arrays. A frame goes there when a pending gather is opened, so that one for each object is enough.
 pub fn commit_gather_tree(
     tasks: &mut [u64],
     objects: &mut [u64],
@@ -33,11 +34,12 @@ pub fn commit_gather_tree(
     awaiter: Awaiter,
 ) -> Committed
     requires { ⌜ LengthsAnd tasks objects places (root .0 < object-limit) ⌝ }
-    ensures { λ r. ⌜ Commits tasks objects places queue (λ s. commit-gather-tree s (root .0) awaiter) r ⌝ }
+    ensures { λ r. ⌜ Commits tasks objects places queue
+        (λ s. commit-gather-tree s (root .0) awaiter) r ⌝ }
 {
     open_gather_commit(objects, root, awaiter);
-    let mut gathers = [0u16; 256];
-    let mut nexts = [0u16; 256];
+    let mut gathers = [0u16; OBJECTS];
+    let mut nexts = [0u16; OBJECTS];
     let mut depth: usize = 0;
     let mut g = root;
     let mut next: u16 = 0;

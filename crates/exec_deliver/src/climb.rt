@@ -25,7 +25,8 @@ pub fn deliver_awaiter_success(
     value: Value,
 ) -> Delivered
     requires { ⌜ LengthsAnd tasks objects places (AwaiterFits awaiter) ⌝ }
-    ensures { λ r. ⌜ Delivers tasks objects places queue (λ s. deliver-awaiter-success s awaiter value) r ⌝ }
+    ensures { λ r. ⌜ Delivers tasks objects places queue
+        (λ s. deliver-awaiter-success s awaiter value) r ⌝ }
 {
     let mut to = awaiter;
     let mut given = value;
@@ -66,7 +67,8 @@ pub fn deliver_awaiter_failure(
     error: Error,
 ) -> Delivered
     requires { ⌜ Lengths₂And tasks objects (AwaiterFits awaiter) ⌝ }
-    ensures { λ r. ⌜ DeliversKeepingPlaces tasks objects queue (λ s. deliver-awaiter-failure s awaiter error) r ⌝ }
+    ensures { λ r. ⌜ DeliversKeepingPlaces tasks objects queue
+        (λ s. deliver-awaiter-failure s awaiter error) r ⌝ }
 {
     let mut to = awaiter;
     loop {

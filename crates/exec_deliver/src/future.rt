@@ -81,7 +81,8 @@ pub fn resolve_future(
     value: Value,
 ) -> ReadyQueue
     requires { ⌜ Lengths tasks objects places ⌝ }
-    ensures { λ r. ⌜ Changes tasks objects places queue r (λ s. resolve-future s call value) ⌝ }
+    ensures { λ r. ⌜ Changes tasks objects places queue r
+        (λ s. resolve-future s call value) ⌝ }
 {
     let found = take_pending_external(objects, call);
     match found {
@@ -99,7 +100,8 @@ fn fail_at(
     error: Error,
 ) -> ReadyQueue
     requires { ⌜ Lengths₂And tasks objects (o .0 < object-limit) ⌝ }
-    ensures { λ r. ⌜ ChangesKeepingPlaces tasks objects queue r (λ s. fail-at s (o .0) error) ⌝ }
+    ensures { λ r. ⌜ ChangesKeepingPlaces tasks objects queue r
+        (λ s. fail-at s (o .0) error) ⌝ }
 {
     let x = rows::tables::load_object(objects, o);
     match x {
@@ -141,7 +143,8 @@ pub fn fail_future(
     error: Error,
 ) -> ReadyQueue
     requires { ⌜ Lengths₂ tasks objects ⌝ }
-    ensures { λ r. ⌜ ChangesKeepingPlaces tasks objects queue r (λ s. fail-future s call error) ⌝ }
+    ensures { λ r. ⌜ ChangesKeepingPlaces tasks objects queue r
+        (λ s. fail-future s call error) ⌝ }
 {
     let found = take_pending_external(objects, call);
     match found {

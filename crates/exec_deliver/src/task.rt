@@ -16,7 +16,7 @@ pub struct Delivered {
 }
 
 // A blocked task becomes ready with a value or an error. Any other receives nothing.
-pub fn deliver_to_task(
+pub(crate) fn deliver_to_task(
     tasks: &mut [u64],
     queue: ReadyQueue,
     t: TaskId,

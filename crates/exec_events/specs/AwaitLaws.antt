@@ -25,13 +25,9 @@ use Rattle.exec_poll.specs.Polls.{poll-of}
 use Rattle.exec_commit.specs.Frames.{Told, tells, told}
 use Rattle.exec_poll.specs.declared.item.Poll.{Poll}
 use Rattle.exec_switch.specs.Control.{switched-of, awaited-of}
+use Rattle.exec_switch.specs.LogLaws.{same-await}
 use Rattle.exec_switch.specs.declared.control.How.{How}
 use Rattle.exec_switch.specs.declared.control.Control.{Control}
-
--- an await that another one stands for
-same-await : {x y : Awaited} → x ≡ y → {ts os ps : List ℕ} {q : ReadyQueue} (c : Control) (n : ℕ) → awaited-of (store-of ts os ps q (y .store .log)) c n ≡ y
-    → awaited-of (store-of ts os ps q (x .store .log)) c n ≡ x
-same-await e c n r = rw e r
 
 module _ (ts os ps : List ℕ) (q : ReadyQueue) (l : List LogEntry) (t : TaskId) (o : HeapId) where
   abbrev here : Store

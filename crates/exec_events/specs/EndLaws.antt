@@ -29,7 +29,7 @@ use Rattle.machine.specs.Machine.{Step, is-empty, switched, end-main, task-comp
 use Rattle.machine_laws.specs.Views.{Sized}
 use Rattle.machine_laws.specs.WokenLaws.{WokenFits, success-woken}
 use Rattle.exec_switch.specs.Control.{switched-of, FoundFits}
-use Rattle.exec_switch.specs.CycleLaws.{same-switch}
+use Rattle.exec_switch.specs.LogLaws.{same-switch, same-step}
 use Rattle.exec_switch.specs.Answer.{stepped-of}
 use Rattle.exec_switch.specs.declared.control.Control.{Control}
 use Rattle.exec_switch.specs.declared.answer.Answer.{Answer}
@@ -74,11 +74,6 @@ module _ (ts os ps : List ℕ) (q : ReadyQueue) (l : List LogEntry) where
     completes c u = same-switch (begins ∙ ap gives (sym (g os₁ ps l)) ∙ leaves ∙ ap (λ (k : Delivery). resume-after-task-exit activate k) (sym d)) c u
 
 -- ---- answers
-
--- a step that another one stands for
-same-step : {x y : Step} → x ≡ y → {ts os ps : List ℕ} {q : ReadyQueue} (a : Answer) → stepped-of (store-of ts os ps q (y .store .log)) a ≡ y
-    → stepped-of (store-of ts os ps q (x .store .log)) a ≡ x
-same-step e a r = rw e r
 
 -- a switch is an answer
 switch-answers : (x : Switched) {ts os ps : List ℕ} {q : ReadyQueue} (c : Control) → switched-of (store-of ts os ps q (x .store .log)) c ≡ x

@@ -86,7 +86,8 @@ fn await_coroutine(
     state: CoroutineState,
 ) -> Awaited
     requires { ⌜ ObjectsLength objects × (o .0 < object-limit) ⌝ }
-    ensures { λ r. ⌜ AwaitsOfObjects objects queue (λ s. await-coroutine s (t .0) (o .0) function state) r ⌝ }
+    ensures { λ r. ⌜ AwaitsOfObjects objects queue
+        (λ s. await-coroutine s (t .0) (o .0) function state) r ⌝ }
 {
     match state {
         CoroutineState::New => {
@@ -155,7 +156,8 @@ fn await_gather_future(
     state: GatherState,
 ) -> Awaited
     requires { ⌜ LengthsAnd₂ tasks objects places (t .0 < task-limit) (o .0 < object-limit) ⌝ }
-    ensures { λ r. ⌜ Awaits tasks objects places queue (λ s. await-gather s (t .0) (o .0) state) r ⌝ }
+    ensures { λ r. ⌜ Awaits tasks objects places queue
+        (λ s. await-gather s (t .0) (o .0) state) r ⌝ }
 {
     match state {
         GatherState::Pending => {
@@ -191,7 +193,8 @@ pub fn exec_get_awaitable(
     o: HeapId,
 ) -> Awaited
     requires { ⌜ LengthsAnd₂ tasks objects places (t .0 < task-limit) (o .0 < object-limit) ⌝ }
-    ensures { λ r. ⌜ Awaits tasks objects places queue (λ s. exec-get-awaitable s (t .0) (o .0)) r ⌝ }
+    ensures { λ r. ⌜ Awaits tasks objects places queue
+        (λ s. exec-get-awaitable s (t .0) (o .0)) r ⌝ }
 {
     let x = rows::tables::load_object(objects, o);
     match x {

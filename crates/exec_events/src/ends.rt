@@ -56,7 +56,7 @@ fn complete_coroutine(objects: &mut [u64], c: HeapId)
 }
 
 // The task's coroutine is completed, the task goes, and its awaiter gets the value.
-pub fn handle_task_completion(
+fn handle_task_completion(
     tasks: &mut [u64],
     objects: &mut [u64],
     places: &mut [u64],
@@ -65,7 +65,8 @@ pub fn handle_task_completion(
     value: Value,
 ) -> Switched
     requires { ⌜ LengthsAnd tasks objects places (t .0 < task-limit) ⌝ }
-    ensures { λ r. ⌜ Switches tasks objects places queue (λ s. handle-task-completion s (t .0) value) r ⌝ }
+    ensures { λ r. ⌜ Switches tasks objects places queue
+        (λ s. handle-task-completion s (t .0) value) r ⌝ }
 {
     let task = rows::tables::load_task(tasks, t);
     let awaiter = task.awaiter;
@@ -88,7 +89,8 @@ pub fn complete(
     value: Value,
 ) -> Stepped
     requires { ⌜ LengthsAnd tasks objects places (t .0 < task-limit) ⌝ }
-    ensures { λ r. ⌜ Answers tasks objects places queue (λ s. task-completes s (t .0) value) r ⌝ }
+    ensures { λ r. ⌜ Answers tasks objects places queue
+        (λ s. task-completes s (t .0) value) r ⌝ }
 {
     if t.is_main() {
         let q = cleanup(tasks, objects);
@@ -115,7 +117,8 @@ pub fn fail(
     error: Error,
 ) -> Stepped
     requires { ⌜ Lengths₂And tasks objects (t .0 < task-limit) ⌝ }
-    ensures { λ r. ⌜ AnswersKeepingPlaces tasks objects queue (λ s. task-fails s (t .0) error) r ⌝ }
+    ensures { λ r. ⌜ AnswersKeepingPlaces tasks objects queue
+        (λ s. task-fails s (t .0) error) r ⌝ }
 {
     if t.is_main() {
         let q = cleanup(tasks, objects);

@@ -15,15 +15,15 @@ fn fill_one(
     places: &mut [u64],
     p: usize,
     i: usize,
-    waiting: u32,
+    open_places: u32,
     source: HeapId,
     value: Value,
 ) -> u32
     requires { ⌜ PlacesLength places × (p < place-limit) × (i < item-limit) ⌝ }
-    ensures { λ r. ⌜ filled (now (places .exit)) r ≡ fill-one (now (places .entry)) waiting p i (source .0) value ⌝ }
+    ensures { λ r. ⌜ filled (now (places .exit)) r ≡ fill-one (now (places .entry)) «open_places» p i (source .0) value ⌝ }
 {
-    if (waiting >> i) % 2 == 0 {
-        return waiting;
+    if (open_places >> i) % 2 == 0 {
+        return open_places;
     }
     let item = rows::parts::item_at(places, p);
     if item.0 == source.0 {
@@ -35,24 +35,24 @@ fn fill_one(
                 result: OptionValue::Some(value),
             },
         );
-        return waiting - (1u32 << i);
+        return open_places - (1u32 << i);
     }
-    waiting
+    open_places
 }
 
 // Every open place of a gather that names `source` is filled, and its bit cleared. The gather has the `count` places from `first` on.
-pub fn fill_places(
+pub(crate) fn fill_places(
     places: &mut [u64],
     first: usize,
     count: usize,
-    waiting: u32,
+    open_places: u32,
     source: HeapId,
     value: Value,
 ) -> u32
     requires { ⌜ PlacesLength places × (first + count ≤ place-limit) × (count ≤ item-limit) ⌝ }
-    ensures { λ r. ⌜ filled (now (places .exit)) r ≡ fill-from (now (places .entry)) waiting first (source .0) value 0 count ⌝ }
+    ensures { λ r. ⌜ filled (now (places .exit)) r ≡ fill-from (now (places .entry)) «open_places» first (source .0) value 0 count ⌝ }
 {
-    let mut left = waiting;
+    let mut left = open_places;
     let mut i: usize = 0;
     while i < count {
         left = fill_one(places, first + i, i, left, source, value);

@@ -27,7 +27,8 @@ pub fn resolve_child(
     value: Value,
 ) -> Onward
     requires { ⌜ ObjectsLength objects × PlacesLength places × (g .0 < object-limit) ⌝ }
-    ensures { λ r. ⌜ Settles objects places (λ s. resolve-child s (g .0) (source .0) value) r ⌝ }
+    ensures { λ r. ⌜ Settles objects places
+        (λ s. resolve-child s (g .0) (source .0) value) r ⌝ }
 {
     let o = rows::tables::load_object(objects, g);
     match o {

@@ -14,11 +14,8 @@ use Rattle.queue.specs.declared.ReadyQueue.{ReadyQueue}
 use Rattle.machine.specs.Store.{Store, LogEntry, store-of}
 use Rattle.machine.specs.Delivery.{resolve-future, fail-future}
 use Rattle.machine.specs.Events.{Result, apply-result, apply-future-results}
+use Rattle.contract.specs.Contract.{same-store}
 use Rattle.exec_futures.specs.Results.{result-at, results-from, results-in}
-
--- a store that another one stands for
-same-store : {x y : Store} → x ≡ y → {ts os ps : List ℕ} {q : ReadyQueue} → store-of ts os ps q (y .log) ≡ y → store-of ts os ps q (x .log) ≡ x
-same-store e r = rw e r
 
 module _ (ts os ps : List ℕ) (q : ReadyQueue) (l : List LogEntry) (r : Result) {call kind : ℕ} (c : call ≡ r .call) (k : kind ≡ r .kind) where
   abbrev here : Store

@@ -45,7 +45,8 @@ fn add_object(objects: &mut [u64], x: Object, n: u16) -> HeapId
 // The next call's number is handed out.
 pub fn allocate_call_id(objects: &mut [u64]) -> CallId
     requires { ⌜ ObjectsLength objects × HasCall objects ⌝ }
-    ensures { λ r. ⌜ (r .0 ≡ header-at (now (objects .entry)) .calls) × ChangesObjects objects (λ s. set-calls s (r .0 + 1)) ⌝ }
+    ensures { λ r. ⌜ (r .0 ≡ header-at (now (objects .entry)) .calls) × ChangesObjects objects
+        (λ s. set-calls s (r .0 + 1)) ⌝ }
 {
     let header = rows::tables::load_header(objects);
     let moment = header.moment;
@@ -124,7 +125,8 @@ fn put_items(places: &mut [u64], first: usize, items: &[u16])
 pub fn make_gather(objects: &mut [u64], places: &mut [u64], items: &[u16]) -> HeapId
     requires { ⌜ ObjectsLength objects × PlacesLength places × HasRoom objects × (length (now items) ≤ item-limit)
         × HasPlaces objects (length (now items)) ⌝ }
-    ensures { λ r. ⌜ MakesGather objects places (λ s. make-gather s (now (items .entry))) r ⌝ }
+    ensures { λ r. ⌜ MakesGather objects places
+        (λ s. make-gather s (now (items .entry))) r ⌝ }
 {
     let header = rows::tables::load_header(objects);
     let first = header.used;

@@ -11,6 +11,9 @@ ghost use Rattle.machine.specs.Events.{apply-result, apply-future-results};
 ghost use Rattle.exec_futures.specs.Results.{result-at, results-in};
 ghost use Rattle.contract.specs.Contract.{Lengths, LengthsAnd, Changes};
 
+// Bytes of one result.
+pub const RESULT_BYTES: usize = 14;
+
 // The result at byte `at`. Kinds: 0 return, 1 error, 2 still a future, 3 not found, 4 module file.
 fn apply_result(
     tasks: &mut [u64],
@@ -21,7 +24,8 @@ fn apply_result(
     at: usize,
 ) -> ReadyQueue
     requires { ⌜ LengthsAnd tasks objects places (at + 14 ≤ length (now results)) ⌝ }
-    ensures { λ r. ⌜ Changes tasks objects places queue r (λ s. apply-result s (result-at (now (results .entry)) at)) ⌝ }
+    ensures { λ r. ⌜ Changes tasks objects places queue r
+        (λ s. apply-result s (result-at (now (results .entry)) at)) ⌝ }
 {
     let call = endian::u32_at(results, at) as u32;
     let kind = endian::u8_at(results, at + 4);
@@ -55,11 +59,11 @@ pub fn apply_future_results(
     ensures { λ r. ⌜ Changes tasks objects places queue r
         (λ s. apply-future-results s (results-in (now (results .entry)))) ⌝ }
 {
-    let n = results.len() / 14;
+    let n = results.len() / RESULT_BYTES;
     let mut left = queue;
     let mut i: usize = 0;
     while i < n {
-        left = apply_result(tasks, objects, places, left, results, i * 14);
+        left = apply_result(tasks, objects, places, left, results, i * RESULT_BYTES);
         i += 1;
     }
     left

@@ -27,7 +27,7 @@ poll-of Poll.Pending = pending
 
 -- an awaited gather
 abbrev pub awaited-of : AwaitedGather → scheduler.AwaitedGather
-awaited-of w = record { first = w .first; count = w .count; awaiter = w .awaiter; open-places = w .waiting }
+awaited-of w = record { first = w .first; count = w .count; awaiter = w .awaiter; open-places = w .«open_places» }
 
 -- an awaited gather, or none
 abbrev pub option-awaited : OptionAwaited → Option scheduler.AwaitedGather

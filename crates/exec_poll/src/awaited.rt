@@ -16,7 +16,7 @@ pub struct AwaitedGather {
     pub first: u16,
     pub count: u16,
     pub awaiter: Awaiter,
-    pub waiting: u32,
+    pub open_places: u32,
 }
 
 pub enum OptionAwaited {
@@ -52,7 +52,7 @@ pub fn as_awaited(objects: &[u64], g: HeapId) -> OptionAwaited
                 first,
                 count,
                 awaiter,
-                waiting: open_places,
+                open_places,
             }),
         },
     }

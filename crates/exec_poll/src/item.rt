@@ -54,7 +54,8 @@ pub fn await_external(
     awaiter: Awaiter,
 ) -> Poll
     requires { ⌜ ObjectsLength objects × (o .0 < object-limit) ⌝ }
-    ensures { λ r. ⌜ PollsOfObjects objects (λ s. await-external s (o .0) call state awaiter) r ⌝ }
+    ensures { λ r. ⌜ PollsOfObjects objects
+        (λ s. await-external s (o .0) call state awaiter) r ⌝ }
 {
     match state {
         ExternalFutureState::Resolved(v) => Poll::Ready(v),
@@ -89,7 +90,8 @@ fn item_coroutine(
     state: CoroutineState,
 ) -> Polled
     requires { ⌜ Lengths₂ tasks objects ⌝ }
-    ensures { λ r. ⌜ Polls tasks objects queue (λ s. item-coroutine s (g .0) (o .0) state) r ⌝ }
+    ensures { λ r. ⌜ Polls tasks objects queue
+        (λ s. item-coroutine s (g .0) (o .0) state) r ⌝ }
 {
     match state {
         CoroutineState::New => {
@@ -133,11 +135,11 @@ fn item_gather(o: HeapId, state: GatherState) -> ItemPoll
 }
 
 // Does place `p`, which is place `i` of a gather, wait for object `o`?
-fn is_open_here(places: &[u64], waiting: u32, p: usize, i: usize, o: HeapId) -> bool
+fn is_open_here(places: &[u64], open_places: u32, p: usize, i: usize, o: HeapId) -> bool
     requires { ⌜ PlacesLength places × (p < place-limit) × (i < item-limit) ⌝ }
-    ensures { λ r. ⌜ r ≡ open-here (now (places .entry)) waiting p i (o .0) ⌝ }
+    ensures { λ r. ⌜ r ≡ open-here (now (places .entry)) «open_places» p i (o .0) ⌝ }
 {
-    if (waiting >> i) % 2 == 0 {
+    if (open_places >> i) % 2 == 0 {
         return false;
     }
     let item = rows::parts::item_at(places, p);
@@ -153,7 +155,7 @@ fn is_open(places: &[u64], w: AwaitedGather, o: HeapId) -> bool
     let count = w.count as usize;
     let mut i: usize = 0;
     while i < count {
-        if is_open_here(places, w.waiting, first + i, i, o) {
+        if is_open_here(places, w.open_places, first + i, i, o) {
             return true;
         }
         i += 1;
@@ -225,7 +227,8 @@ pub fn item(
     o: HeapId,
 ) -> PolledItem
     requires { ⌜ LengthsAnd₂ tasks objects places (PlacesFit (w .first) (w .count)) (o .0 < object-limit) ⌝ }
-    ensures { λ r. ⌜ PollsItemOfPlaces tasks objects places queue (λ s. item-at s (g .0) (awaited-of w) (o .0)) r ⌝ }
+    ensures { λ r. ⌜ PollsItemOfPlaces tasks objects places queue
+        (λ s. item-at s (g .0) (awaited-of w) (o .0)) r ⌝ }
 {
     if is_open(places, w, o) {
         return PolledItem {

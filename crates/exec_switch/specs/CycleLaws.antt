@@ -37,6 +37,7 @@ use Rattle.machine_laws.specs.CycleLaws.{live-falls}
 use Rattle.machine_laws.specs.WokenLaws.{WokenFits, failure-woken, activate-by, removed-same}
 use Rattle.exec_switch.specs.Control.{switched-of, function-of, FoundFits}
 use Rattle.exec_switch.specs.ControlLaws.{some-tasks, some-tasks-long}
+use Rattle.exec_switch.specs.LogLaws.{same-switch}
 use Rattle.exec_switch.specs.declared.control.Control.{Control}
 use Rattle.exec_switch.specs.declared.cycle.NewFunction.{NewFunction}
 
@@ -44,11 +45,6 @@ use Rattle.exec_switch.specs.declared.cycle.NewFunction.{NewFunction}
 pub front-fits : (q : ReadyQueue) → front-of q .0 < task-limit
 unfolding front-of
 front-fits q = mod-lt (getD (q .ids) 0 0) (omega arith)
-
--- a switch that another one stands for
-pub same-switch : {x y : Switched} → x ≡ y → {ts os ps : List ℕ} {q : ReadyQueue} (c : Control) → switched-of (store-of ts os ps q (y .store .log)) c ≡ y
-    → switched-of (store-of ts os ps q (x .store .log)) c ≡ x
-same-switch e c r = rw e r
 
 -- a task is run, or the host has control: nothing is logged
 module _ (s : Store) {ts os ps : List ℕ} {q : ReadyQueue} (c : Control) where

@@ -2,3 +2,4 @@ pub mod Control
 pub mod ControlLaws
 pub mod CycleLaws
 pub mod Answer
+pub mod LogLaws

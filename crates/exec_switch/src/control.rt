@@ -53,7 +53,7 @@ fn set_moment(objects: &mut [u64], moment: Moment)
 }
 
 // Task `t` runs.
-pub fn run(
+pub(crate) fn run(
     tasks: &mut [u64],
     objects: &mut [u64],
     queue: ReadyQueue,
@@ -61,7 +61,8 @@ pub fn run(
     how: How,
 ) -> Switched
     requires { ⌜ Lengths₂And tasks objects (t .0 < task-limit) ⌝ }
-    ensures { λ r. ⌜ SwitchesKeepingLog tasks objects queue (λ s. run s (t .0) (how-of how)) r ⌝ }
+    ensures { λ r. ⌜ SwitchesKeepingLog tasks objects queue
+        (λ s. run s (t .0) (how-of how)) r ⌝ }
 {
     scheduler::states::set_state(tasks, t, TaskState::Running);
     set_moment(objects, Moment::Running(t));
@@ -72,7 +73,7 @@ pub fn run(
 }
 
 // The host has control.
-pub fn yield_control(objects: &mut [u64], queue: ReadyQueue) -> Switched
+pub(crate) fn yield_control(objects: &mut [u64], queue: ReadyQueue) -> Switched
     requires { ⌜ ObjectsLength objects ⌝ }
     ensures { λ r. ⌜ SwitchesOfObjects objects queue yield r ⌝ }
 {

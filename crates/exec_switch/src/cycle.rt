@@ -50,12 +50,7 @@ fn new_function(objects: &[u64], c: HeapId) -> NewFunction
 }
 
 // A ready task runs on with what was delivered, or starts. No other is activated.
-pub fn activate_task(
-    tasks: &mut [u64],
-    objects: &mut [u64],
-    queue: ReadyQueue,
-    t: TaskId,
-) -> Switched
+fn activate_task(tasks: &mut [u64], objects: &mut [u64], queue: ReadyQueue, t: TaskId) -> Switched
     requires { ⌜ Lengths₂And tasks objects (t .0 < task-limit) ⌝ }
     ensures { λ r. ⌜ SwitchesKeepingPlaces tasks objects queue (λ s. activate s (t .0)) r ⌝ }
 {
@@ -73,7 +68,8 @@ pub fn activate_task(
 // The first run of a task: a coroutine that is not new any more fails it.
 fn start_task(tasks: &mut [u64], objects: &mut [u64], queue: ReadyQueue, t: TaskId) -> Switched
     requires { ⌜ Lengths₂And tasks objects (t .0 < task-limit) ⌝ }
-    ensures { λ r. ⌜ SwitchesKeepingPlaces tasks objects queue (λ s. start-task activate s (t .0)) r ⌝ }
+    ensures { λ r. ⌜ SwitchesKeepingPlaces tasks objects queue
+        (λ s. start-task activate s (t .0)) r ⌝ }
 {
     let c = rows::parts::coroutine_at(tasks, t);
     let f = new_function(objects, c);
@@ -111,7 +107,8 @@ pub fn handle_task_failure(
     error: Error,
 ) -> Switched
     requires { ⌜ Lengths₂And tasks objects (t .0 < task-limit) ⌝ }
-    ensures { λ r. ⌜ SwitchesKeepingPlaces tasks objects queue (λ s. handle-task-failure activate s (t .0) error) r ⌝ }
+    ensures { λ r. ⌜ SwitchesKeepingPlaces tasks objects queue
+        (λ s. handle-task-failure activate s (t .0) error) r ⌝ }
 {
     let awaiter = rows::parts::task_awaiter_at(tasks, t);
     let d = deliver_awaiter_failure(tasks, objects, queue, awaiter, error);
@@ -141,7 +138,8 @@ pub fn resume_after_task_exit(
 // The task at the queue's front, or the host.
 pub fn switch_or_yield(tasks: &mut [u64], objects: &mut [u64], queue: ReadyQueue) -> Switched
     requires { ⌜ Lengths₂ tasks objects ⌝ }
-    ensures { λ r. ⌜ SwitchesKeepingPlaces tasks objects queue (λ s. resume-next activate s) r ⌝ }
+    ensures { λ r. ⌜ SwitchesKeepingPlaces tasks objects queue
+        (λ s. resume-next activate s) r ⌝ }
 {
     if queue.len == 0 {
         return yield_control(objects, queue);

@@ -13,6 +13,8 @@ ghost use Rattle.asyncio.specs.Limits.{task-limit};
 ghost use Rattle.contract.specs.Contract.{Lengths₂, Lengths₂And};
 ghost use Rattle.scheduler.specs.Spawn.{SpawnsTaskAs, SpawnsTask};
 
+const TASKS: u16 = asyncio::TASKS as u16;
+
 // Whether a task was spawned, and the queue.
 pub struct Spawned {
     pub done: bool,
@@ -72,7 +74,7 @@ pub fn spawn(
     match d {
         FoundTask::At(_) => Spawned { done: false, queue },
         FoundTask::Nothing => {
-            if next < 513 {
+            if next < TASKS {
                 let q = spawn_as(tasks, objects, queue, header, c, g);
                 return Spawned {
                     done: true,

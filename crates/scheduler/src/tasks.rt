@@ -35,7 +35,7 @@ fn is_task_of(tasks: &[u64], t: TaskId, c: HeapId) -> bool
 }
 
 // The live spawned task below `next` that drives object `c`.
-pub fn task_of(tasks: &[u64], next: u16, c: HeapId) -> FoundTask
+pub(crate) fn task_of(tasks: &[u64], next: u16, c: HeapId) -> FoundTask
     requires { ⌜ TasksLength tasks × (next ≤ task-limit) ⌝ }
     ensures { λ r. ⌜ r ≡ found-task (task-of-in (now (tasks .entry)) next (c .0)) ⌝ }
 {

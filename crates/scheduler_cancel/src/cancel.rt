@@ -16,6 +16,8 @@ ghost use Rattle.scheduler.specs.Search.{found-task, found-object};
 ghost use Rattle.scheduler_cancel.specs.Cancel.{put-task-of, tasks-of-in, awaited-places, TableLength, MarksLength, Reaches, WalksOfTasks, WalksKeepingPlaces, Walks, HasRoom};
 ghost use Rattle.contract.specs.Contract.{TasksLength, ObjectsLength, PlacesLength, LengthsAnd, Changes};
 
+const OBJECTS: usize = asyncio::OBJECTS as usize;
+
 // ---- which task drives a coroutine: a table of one word for each object, 0 where no task does (task 0 is main)
 
 // Task `t` is noted at its coroutine, if it lives.
@@ -32,11 +34,11 @@ fn put_task_of(tasks: &[u64], table: &mut [u64], t: TaskId)
 }
 
 // The drivers of all objects, in one pass over the tasks: downward, so that the lowest number stays.
-fn find_tasks(tasks: &[u64], next: u16) -> [u64; 256]
+fn find_tasks(tasks: &[u64], next: u16) -> [u64; OBJECTS]
     requires { ⌜ TasksLength tasks × (next ≤ task-limit) ⌝ }
     ensures { λ r. ⌜ ((c : ℕ) → tasks-of-in r c ≡ task-of-in (now (tasks .entry)) next c) ⌝ }
 {
-    let mut table = [0u64; 256];
+    let mut table = [0u64; OBJECTS];
     let mut t = next;
     while 1 < t {
         t -= 1;
@@ -86,7 +88,8 @@ fn blocked_on(state: TaskState) -> FoundObject
 
 // Gather `g` is marked and put on the stack, if it is awaited and was not marked. The depth of the stack then.
 fn reach(objects: &[u64], marks: &mut [bool], stack: &mut [u64], depth: usize, g: HeapId) -> usize
-    requires { ⌜ ObjectsLength objects × MarksLength marks × TableLength stack × HasRoom marks depth × (g .0 < object-limit) ⌝ }
+    requires { ⌜ ObjectsLength objects × MarksLength marks × TableLength stack
+        × HasRoom marks depth × (g .0 < object-limit) ⌝ }
     ensures { λ r. ⌜ Reaches objects marks stack depth (λ w. reach w (g .0)) r ⌝ }
 {
     let i = g.0 as usize;
@@ -168,13 +171,13 @@ fn visit_place(
     at: Walked,
     p: usize,
     i: usize,
-    waiting: u32,
+    open_places: u32,
 ) -> Walked
     requires { ⌜ TasksLength tasks × ObjectsLength objects × PlacesLength places × TableLength table × MarksLength marks
         × TableLength stack × HasRoom marks (at .depth) × (p < place-limit) × (i < item-limit) ⌝ }
-    ensures { λ r. ⌜ Walks table tasks objects places marks stack at (λ w. visit-place w p i waiting) r ⌝ }
+    ensures { λ r. ⌜ Walks table tasks objects places marks stack at (λ w. visit-place w p i «open_places») r ⌝ }
 {
-    if (waiting >> i) % 2 == 0 {
+    if (open_places >> i) % 2 == 0 {
         return at;
     }
     let o = rows::parts::item_at(places, p);
@@ -192,12 +195,12 @@ fn visit_open(
     at: Walked,
     first: usize,
     count: usize,
-    waiting: u32,
+    open_places: u32,
 ) -> Walked
     requires { ⌜ TasksLength tasks × ObjectsLength objects × PlacesLength places × TableLength table × MarksLength marks
         × TableLength stack × HasRoom marks (at .depth) × (first + count ≤ place-limit) × (count ≤ item-limit) ⌝ }
     ensures { λ r. ⌜ ((a : Awaiter) → Walks table tasks objects places marks stack at
-        (λ w. visit-open w (awaited-places first count a waiting) 0 count) r) ⌝ }
+        (λ w. visit-open w (awaited-places first count a «open_places») 0 count) r) ⌝ }
 {
     let mut w = at;
     let mut i: usize = 0;
@@ -212,7 +215,7 @@ fn visit_open(
             w,
             first + i,
             i,
-            waiting,
+            open_places,
         );
         i += 1;
     }
@@ -239,7 +242,7 @@ fn walk_gather(
     if kind.is_awaited() {
         let first = rows::parts::first_at(objects, g);
         let count = rows::parts::count_at(objects, g);
-        let waiting = rows::parts::open_at(objects, g);
+        let open_places = rows::parts::open_at(objects, g);
         return visit_open(
             tasks,
             objects,
@@ -250,13 +253,13 @@ fn walk_gather(
             at,
             first as usize,
             count as usize,
-            waiting,
+            open_places,
         );
     }
     at
 }
 
-// Task `t` goes; then each gather on the stack is walked. A gather comes there once, so that 256 places are enough.
+// Task `t` goes; then each gather on the stack is walked. A gather comes there once, so that a place for each object is enough.
 pub fn cancel_task(
     tasks: &mut [u64],
     objects: &[u64],
@@ -269,8 +272,8 @@ pub fn cancel_task(
 {
     let header = rows::tables::load_header(objects);
     let table = find_tasks(tasks, header.next);
-    let mut marks = [false; 256];
-    let mut stack = [0u64; 256];
+    let mut marks = [false; OBJECTS];
+    let mut stack = [0u64; OBJECTS];
     let start = Walked { queue, depth: 0 };
     let mut w = remove_blocked(tasks, objects, &mut marks, &mut stack, start, t);
     while 0 < w.depth {

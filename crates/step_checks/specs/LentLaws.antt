@@ -19,6 +19,7 @@ use Rattle.machine.specs.Lent.{Lent, slices-right, lengths-right, write-calls, 
 use Rattle.machine_laws.specs.TestLaws.{and-true}
 use Rattle.machine_laws.specs.SoundLaws.{refusals-forget}
 use Rattle.exec_switch.specs.Answer.{answer-of, stepped-of}
+use Rattle.exec_switch.specs.LogLaws.{same-step}
 use Rattle.exec_switch.specs.declared.control.Control.{Control}
 use Rattle.exec_switch.specs.declared.answer.Answer.{Answer}
 use Rattle.step_checks.specs.Checked.{checked}
@@ -91,7 +92,7 @@ step-unsound s e h =
 
 -- where the log of a step stands does not matter
 pub logs : {x : Step} {ts os ps : List ℕ} {q : ReadyQueue} (l : List LogEntry) (a : Answer) → stepped-of (store-of ts os ps q l) a ≡ x → stepped-of (store-of ts os ps q (x .store .log)) a ≡ x
-logs {x} {ts} {os} {ps} {q} l a r = ap (λ (y : Step). stepped-of (store-of ts os ps q (y .store .log)) a) (sym r) ∙ r
+logs l a r = same-step (sym r) a refl
 
 -- a step, and the list of calls after it
 abbrev lent-from : Step → List ℕ → Lent

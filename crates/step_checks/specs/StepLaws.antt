@@ -33,6 +33,7 @@ use Rattle.machine.specs.Machine as machine
 use Rattle.machine.specs.Machine.{Event, Step, is-run, any-of, unmade, result-unknown, bad-result, full, no-number, in-running, in-waiting, in-both, first-refusal, refusals, accept, runner, answer-await, task-completes, task-fails, resume-with-resolved-futures}
 use Rattle.exec_switch.specs.Control.{awaited-of}
 use Rattle.exec_switch.specs.Answer.{stepped-of}
+use Rattle.exec_switch.specs.LogLaws.{same-step}
 use Rattle.exec_futures.specs.Results.{results-from, results-in}
 use Rattle.exec_switch.specs.declared.control.Control.{Control}
 use Rattle.exec_switch.specs.declared.answer.Answer.{Answer}
@@ -43,11 +44,6 @@ use Rattle.step_checks.specs.declared.refusals.Turn.{Turn}
 -- the running task's number is a task's
 pub runner-fits : (os : List ℕ) {x : Turn} → x ≡ turn-of (header-at os .moment) → (t : TaskId) → x ≡ Turn.Runs t → t .0 < task-limit
 runner-fits os f t h = let m : MomentFits (Moment.Running t) = rw (turn-runs os f t h) at (header-at-fits os .moment-fits) in m
-
--- a step that another one stands for
-same-step : {x y : Step} → x ≡ y → {ts os ps : List ℕ} {q : ReadyQueue} (a : Answer) → stepped-of (store-of ts os ps q (y .store .log)) a ≡ y
-    → stepped-of (store-of ts os ps q (x .store .log)) a ≡ x
-same-step e a r = rw e r
 
 -- refused: nothing is logged
 refused-logs : (s : Store) (e : Event) (a : Answer) → stepped-of s a ≡ checked s e → stepped-of (store-of (s .tasks) (s .objects) (s .places) (s .queue) (checked s e .store .log)) a ≡ checked s e

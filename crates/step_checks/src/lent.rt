@@ -11,13 +11,22 @@ ghost use Rattle.asyncio.specs.Limits.{object-limit};
 ghost use Rattle.contract.specs.Contract.{ObjectsLength};
 ghost use Rattle.step_checks.specs.Lent.{is-wait, slices-fit, WritesCalls};
 
+// Words of the slices: 8 a task, 8 an object and as many for the header, 4 a place.
+const TASKS_LENGTH: usize = asyncio::TASKS as usize * 8;
+
+const OBJECTS: usize = asyncio::OBJECTS as usize;
+
+const OBJECTS_LENGTH: usize = 8 + OBJECTS * 8;
+
+const PLACES_LENGTH: usize = asyncio::PLACES as usize * 4;
+
 // Have the slices of the store their lengths?
 pub fn slices_right(tasks: &[u64], objects: &[u64], places: &[u64]) -> bool
     ensures { λ r. ⌜ r ≡ slices-fit tasks objects places ⌝ }
 {
-    if tasks.len() == 4104 {
-        if objects.len() == 2056 {
-            return places.len() == 2048;
+    if tasks.len() == TASKS_LENGTH {
+        if objects.len() == OBJECTS_LENGTH {
+            return places.len() == PLACES_LENGTH;
         }
         return false;
     }
@@ -29,7 +38,7 @@ pub fn lengths_right(tasks: &[u64], objects: &[u64], places: &[u64], calls: &[u6
     ensures { λ r. ⌜ r ≡ (slices-fit tasks objects places && leb object-limit (length (now (calls .entry)))) ⌝ }
 {
     if slices_right(tasks, objects, places) {
-        return 256 <= calls.len();
+        return OBJECTS <= calls.len();
     }
     false
 }

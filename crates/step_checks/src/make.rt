@@ -30,10 +30,17 @@ ghost use Rattle.step_checks.specs.Checked.{checked};
 ghost use Rattle.contract.specs.Contract.{ObjectsLength, PlacesLength};
 ghost use Rattle.exec_switch.specs.Answer.{AnswersOfObjects, AnswersOfObjectsAndPlaces};
 
+const OBJECTS: u16 = asyncio::OBJECTS as u16;
+
+const ITEMS: usize = asyncio::ITEMS as usize;
+
+const PLACES: usize = asyncio::PLACES as usize;
+
 // A coroutine of a function is made.
 pub fn coroutine(objects: &mut [u64], queue: ReadyQueue, function: u32) -> Stepped
     requires { ⌜ ObjectsLength objects ⌝ }
-    ensures { λ r. ⌜ AnswersOfObjects objects queue (λ s. checked s (Event.coroutine function)) r ⌝ }
+    ensures { λ r. ⌜ AnswersOfObjects objects queue
+        (λ s. checked s (Event.coroutine function)) r ⌝ }
 {
     let turn = running(objects);
     match turn {
@@ -87,7 +94,8 @@ pub fn call(objects: &mut [u64], queue: ReadyQueue) -> Stepped
 // An external of a call is made pending, with a stored result or none.
 pub fn pending(objects: &mut [u64], queue: ReadyQueue, call: u32, stored: OptionValue) -> Stepped
     requires { ⌜ ObjectsLength objects ⌝ }
-    ensures { λ r. ⌜ AnswersOfObjects objects queue (λ s. checked s (Event.pending call stored)) r ⌝ }
+    ensures { λ r. ⌜ AnswersOfObjects objects queue
+        (λ s. checked s (Event.pending call stored)) r ⌝ }
 {
     let turn = running(objects);
     match turn {
@@ -137,7 +145,8 @@ pub fn pending(objects: &mut [u64], queue: ReadyQueue, call: u32, stored: Option
 // An external that has its value already.
 pub fn settled(objects: &mut [u64], queue: ReadyQueue, value: Value) -> Stepped
     requires { ⌜ ObjectsLength objects ⌝ }
-    ensures { λ r. ⌜ AnswersOfObjects objects queue (λ s. checked s (Event.settled value)) r ⌝ }
+    ensures { λ r. ⌜ AnswersOfObjects objects queue
+        (λ s. checked s (Event.settled value)) r ⌝ }
 {
     let turn = running(objects);
     match turn {
@@ -215,12 +224,12 @@ fn too_many(made: u16, used: u16, items: &[u16]) -> bool
     ensures { λ r. ⌜ r ≡ (leb object-limit made || ltb item-limit (length (now (items .entry)))
         || ltb place-limit (used + length (now (items .entry)))) ⌝ }
 {
-    if 256 <= made {
+    if OBJECTS <= made {
         return true;
     }
     let n = items.len();
-    if 32 < n {
+    if ITEMS < n {
         return true;
     }
-    512 < used as usize + n
+    PLACES < used as usize + n
 }

@@ -2,6 +2,7 @@
 use asyncio::HeapId;
 use asyncio::Moment;
 use asyncio::TaskId;
+use exec_futures::results::RESULT_BYTES;
 ghost use mathlib.Core.Path.{_≡_};
 ghost use Prim.Native.Nat.{_≤_, _+_};
 ghost use lib.Dec.{leb};
@@ -12,6 +13,13 @@ ghost use Rattle.step_checks.specs.Checked.{turn-of};
 ghost use Rattle.machine.specs.Machine.{any-of, result-unknown, bad-result};
 ghost use Rattle.exec_futures.specs.Results.{result-at, results-in};
 ghost use Rattle.contract.specs.Contract.{ObjectsLength, ReadsObjects};
+
+const OBJECTS: u16 = asyncio::OBJECTS as u16;
+
+const CALLS: u32 = asyncio::CALLS as u32;
+
+// How many error numbers there are: those of 32 bits.
+const ERROR_NUMBERS: u64 = 4294967296;
 
 // The running task, or why an event of running is refused.
 pub enum Turn {
@@ -33,26 +41,26 @@ pub fn running(objects: &[u64]) -> Turn
     }
 }
 
-// Are 256 objects made?
-pub fn is_full(objects: &[u64]) -> bool
+// Are all objects made that there are numbers for?
+pub(crate) fn is_full(objects: &[u64]) -> bool
     requires { ⌜ ObjectsLength objects ⌝ }
     ensures { λ r. ⌜ r ≡ leb object-limit (header-at (now (objects .entry)) .made) ⌝ }
 {
     let header = rows::tables::load_header(objects);
-    256 <= header.made
+    OBJECTS <= header.made
 }
 
-// Are the numbers 0 to 65,535 all handed out?
-pub fn no_number(objects: &[u64]) -> bool
+// Are all call numbers handed out?
+pub(crate) fn no_number(objects: &[u64]) -> bool
     requires { ⌜ ObjectsLength objects ⌝ }
     ensures { λ r. ⌜ r ≡ leb call-limit (header-at (now (objects .entry)) .calls) ⌝ }
 {
     let header = rows::tables::load_header(objects);
-    65536 <= header.calls
+    CALLS <= header.calls
 }
 
 // Is one of the items not made?
-pub fn any_unmade(made: u16, items: &[u16]) -> bool
+pub(crate) fn any_unmade(made: u16, items: &[u16]) -> bool
     ensures { λ r. ⌜ r ≡ any-of (leb made) (now (items .entry)) ⌝ }
 {
     let n = items.len();
@@ -68,8 +76,10 @@ pub fn any_unmade(made: u16, items: &[u16]) -> bool
 
 // Is the result at byte `at` a returned list of a gather that is not completed?
 fn result_unknown(objects: &[u64], made: u16, results: &[u8], at: usize) -> bool
-    requires { ⌜ ObjectsLength objects × (made ≤ object-limit) × (at + 14 ≤ length (now results)) × (header-at (now objects) .made ≡ made) ⌝ }
-    ensures { λ r. ⌜ ReadsObjects objects (λ s. result-unknown s (result-at (now (results .entry)) at)) r ⌝ }
+    requires { ⌜ ObjectsLength objects × (made ≤ object-limit)
+        × (at + 14 ≤ length (now results)) × (header-at (now objects) .made ≡ made) ⌝ }
+    ensures { λ r. ⌜ ReadsObjects objects
+        (λ s. result-unknown s (result-at (now (results .entry)) at)) r ⌝ }
 {
     if endian::u8_at(results, at + 4) == 0 {
         if endian::u8_at(results, at + 5) == 1 {
@@ -93,10 +103,10 @@ pub fn any_unknown(objects: &[u64], results: &[u8]) -> bool
 {
     let header = rows::tables::load_header(objects);
     let made = header.made;
-    let n = results.len() / 14;
+    let n = results.len() / RESULT_BYTES;
     let mut i: usize = 0;
     while i < n {
-        if result_unknown(objects, made, results, i * 14) {
+        if result_unknown(objects, made, results, i * RESULT_BYTES) {
             return true;
         }
         i += 1;
@@ -117,7 +127,7 @@ fn bad_result(results: &[u8], at: usize) -> bool
         return true;
     }
     if kind == 1 {
-        return 4294967296 <= endian::u64_at(results, at + 6);
+        return ERROR_NUMBERS <= endian::u64_at(results, at + 6);
     }
     false
 }
@@ -126,10 +136,10 @@ fn bad_result(results: &[u8], at: usize) -> bool
 pub fn any_bad(results: &[u8]) -> bool
     ensures { λ r. ⌜ r ≡ any-of bad-result (results-in (now (results .entry))) ⌝ }
 {
-    let n = results.len() / 14;
+    let n = results.len() / RESULT_BYTES;
     let mut i: usize = 0;
     while i < n {
-        if bad_result(results, i * 14) {
+        if bad_result(results, i * RESULT_BYTES) {
             return true;
         }
         i += 1;

@@ -3,6 +3,7 @@ use mathlib.Core.List.{List}
 use Prim.Native.Nat.{ℕ, _-_, _≤_}
 use native.Mathlib.Omega.{arith}
 use lib.ListN.{length}
+use borrow.Author.Needs.{needs}
 use denote.Ref.{now}
 use Rattle.asyncio.specs.Limits.{objects-length}
 use Rattle.queue.specs.declared.ReadyQueue.{ReadyQueue}
@@ -28,20 +29,23 @@ loop-holds c = ((λ ts ps ns q l. refl), refl, omega arith, c .before .before .s
 sub-d : tie.Need-sub-d Inv-loop μ-loop
 sub-d c = omega arith
 
-mul-t16 : tie.Need-mul-t16 Inv-loop μ-loop
-mul-t16 c = omega arith
+mul-new : tie.Need-mul-new Inv-loop μ-loop
+mul-new c = omega arith
 
-array-read-t19 : tie.Need-array-read-t19 Inv-loop μ-loop
-array-read-t19 c = omega arith
+array-read-new : tie.Need-array-read-new Inv-loop μ-loop
+array-read-new c = omega arith
+
+new-requires : tie.Need-new-requires Inv-loop μ-loop
+new-requires c κs = search needs
 
 set-gather-requires-2 : tie.Need-set-gather-requires-2 Inv-loop μ-loop
-set-gather-requires-2 c κs = (c .before .before .loop .inv .3, c .before .before .before .before .before .before .before .before .pre .3 _ (omega arith))
+set-gather-requires-2 c κs = (c .before .before .before .loop .inv .3, rw (c .new .ensures) (c .before .before .before .before .before .before .before .before .before .pre .3 _ (omega arith)))
 
 loop-less : tie.Need-loop-less Inv-loop μ-loop
 loop-less c = omega arith
 
 loop-again : tie.Need-loop-again Inv-loop μ-loop
-loop-again c = ((λ ts ps ns q l. unwind-turns ts (c .before .before .before .before .before .loop .objects) ps q l (c .before .before .before .before .before .before .before .before .before .before .before .args .t3) ns (c .before .before .before .before .before .before .before .before .before .before .before .args .error) (c .before .before .before .before .before .loop .d) (c .before .before .before .before .before .loop .d - 1) (omega arith) (c .before .before .set-gather2 .ensures ts ps q l) ∙ c .before .before .before .before .before .loop .inv .0 ts ps ns q l), c .before .before .set-gather2 .kept .0 ∙ c .before .before .before .before .before .loop .inv .1, omega arith, c .before .before .set-gather2 .kept .0 ∙ c .before .before .before .before .before .loop .inv .3)
+loop-again c = ((λ ts ps ns q l. unwind-turns ts (c .before .before .before .before .before .before .loop .objects) ps q l (c .before .before .before .before .before .before .before .before .before .before .before .before .args .t3) ns (c .before .before .before .before .before .before .before .before .before .before .before .before .args .error) (c .before .before .before .before .before .before .loop .d) (c .before .before .before .before .before .before .loop .d - 1) (omega arith) (rw (c .before .before .before .new .ensures) at (c .before .before .set-gather2 .ensures ts ps q l)) ∙ c .before .before .before .before .before .before .loop .inv .0 ts ps ns q l), c .before .before .set-gather2 .kept .0 ∙ c .before .before .before .before .before .before .loop .inv .1, omega arith, c .before .before .set-gather2 .kept .0 ∙ c .before .before .before .before .before .before .loop .inv .3)
 
 same-length : tie.Need-same-length Inv-loop μ-loop
 same-length c = c .before .loop .inv .1 ∙ c .before .before .before .before .set-gather .kept .0
@@ -58,8 +62,9 @@ unwind-gather-commits-spec =
     set-gather-requires
     loop-holds
     sub-d
-    mul-t16
-    array-read-t19
+    mul-new
+    array-read-new
+    new-requires
     set-gather-requires-2
     loop-less
     loop-again

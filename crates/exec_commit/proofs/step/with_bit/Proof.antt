@@ -18,7 +18,7 @@ shl-result : tie.Need-shl-result
 shl-result c = search needs
 
 add-result : tie.Need-add-result
-add-result c = omega (arith, shifted-one (c .before .args .i) (search needs), bit-room (c .before .args .waiting) (c .before .args .i) (search needs) (search needs) (c .if1 .taken))
+add-result c = omega (arith, shifted-one (c .before .args .i) (search needs), bit-room (c .before .args .open-places) (c .before .args .i) (search needs) (search needs) (c .if1 .taken))
 
 returns : tie.Need-returns
 returns c = rw (shifted-one (c .before .args .i) (search needs), eq-eqb _ 0 (c .if1 .taken))

@@ -9,10 +9,10 @@ use Rattle.exec_fill.proofs.fill.fill_places.Statement.{statement}
 use Rattle.exec_fill.proofs.fill.fill_places.Tie as tie
 
 abbrev Inv-loop : tie.InvT-loop
-Inv-loop places₀ first count waiting source value left₀ i₀ places left i = (fill-from places left first (source .0) value i (count - i) ≡ fill-from places₀ waiting first (source .0) value 0 count) × (length places ≡ length places₀) × (i ≤ count)
+Inv-loop places₀ first count open-places source value left₀ i₀ places left i = (fill-from places left first (source .0) value i (count - i) ≡ fill-from places₀ open-places first (source .0) value 0 count) × (length places ≡ length places₀) × (i ≤ count)
 
 abbrev μ-loop : tie.MeasureT-loop
-μ-loop places₀ first count waiting source value left₀ i₀ places left i = count - i
+μ-loop places₀ first count open-places source value left₀ i₀ places left i = count - i
 
 loop-holds : tie.Need-loop-holds Inv-loop μ-loop
 loop-holds c = (fill-begin _ _ _ _ _ _, refl, omega arith)

@@ -11,13 +11,13 @@ shr-if1 : tie.Need-shr-if1
 shr-if1 c = search needs
 
 returns : tie.Need-returns
-returns c = place-shut (now (c .before .before .args .places)) (c .before .before .args .waiting) (c .before .before .args .p) (c .before .before .args .i) (c .before .before .args .o .0) (c .if1 .taken)
+returns c = place-shut (now (c .before .before .args .places)) (c .before .before .args .open-places) (c .before .before .args .p) (c .before .before .args .i) (c .before .before .args .o .0) (c .if1 .taken)
 
 item-at-requires : tie.Need-item-at-requires
 item-at-requires c κs = search needs
 
 returns-2 : tie.Need-returns-2
-returns-2 c = place-named (now (c .before .before .before .before .before .args .places)) (c .before .before .before .before .before .args .waiting) (c .before .before .before .before .before .args .p) (c .before .before .before .before .before .args .i) (c .before .before .before .before .before .args .o .0) (c .before .before .before .if1 .left) (c .before .before .item-at .ensures)
+returns-2 c = place-named (now (c .before .before .before .before .before .args .places)) (c .before .before .before .before .before .args .open-places) (c .before .before .before .before .before .args .p) (c .before .before .before .before .before .args .i) (c .before .before .before .before .before .args .o .0) (c .before .before .before .if1 .left) (c .before .before .item-at .ensures)
 
 pub is-open-here-spec : {M : Type 1} → statement M
 is-open-here-spec = tie.close (tie.spec cast-if1 shr-if1 returns item-at-requires returns-2)
