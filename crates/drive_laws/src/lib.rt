@@ -1,1 +1,1 @@
-// No code: that a session keeps its store sound is proved in specs/.
+// `drive`'s store stays sound; a list number that is cut is answered the same (specs/).

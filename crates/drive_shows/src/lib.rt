@@ -1,2 +1,2 @@
-// The line of a read of an object.
+// The line of a show.
 pub mod shows;

@@ -1,3 +1,3 @@
-// The events of a running or waiting session (async_exec.rs).
+// exec_get_awaitable, handle_task_completion, the end of main, resume (async_exec.rs).
 pub mod ends; // handle_task_completion, the end of main, resume_with_resolved_futures
 pub mod awaits; // exec_get_awaitable

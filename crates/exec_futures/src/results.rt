@@ -1,5 +1,6 @@
 // Results of calls: apply_future_results.
 use asyncio::Error;
+use asyncio::RESULT_BYTES;
 use asyncio::words::to_error;
 use asyncio::words::to_value;
 use exec_deliver::future::fail_future;
@@ -10,9 +11,6 @@ ghost use lib.ListN.{length};
 ghost use Rattle.machine.specs.Events.{apply-result, apply-future-results};
 ghost use Rattle.exec_futures.specs.Results.{result-at, results-in};
 ghost use Rattle.contract.specs.Contract.{Lengths, LengthsAnd, Changes};
-
-// Bytes of one result.
-pub const RESULT_BYTES: usize = 14;
 
 // The result at byte `at`. Kinds: 0 return, 1 error, 2 still a future, 3 not found, 4 module file.
 fn apply_result(

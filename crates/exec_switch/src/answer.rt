@@ -1,4 +1,4 @@
-// The answers of document 01. The calls of a wait are those pending in the store, and the places of a gather that is shown stand there too.
+// The answers of document 01. The calls of a wait are those pending in the store.
 use crate::control::Control;
 use asyncio::CallId;
 use asyncio::Error;

@@ -65,7 +65,7 @@ unfoldable pub polled-spawn : Store → Option Store → Polled
 polled-spawn s none = gives s (raised Error.CoroutineReuse)
 polled-spawn s (some x) = gives x pending
 
--- a coroutine is spawned, if it is new and no live task drives it
+-- a coroutine is spawned, if it is new and it has no live task
 unfoldable pub item-coroutine : Store → ℕ → ℕ → CoroutineState → Polled
 item-coroutine s g o CoroutineState.New = polled-spawn s (spawn s o g)
 item-coroutine s g o CoroutineState.Running = gives s (raised Error.CoroutineReuse)

@@ -35,7 +35,7 @@ history es = history-from fresh es []
 
 -- Live: main at first, a spawned task from its spawning until its exit or removal.
 
--- is task t live after these happenings, b telling whether it was before?
+-- is task t live after these log entries, b telling whether it was before?
 unfoldable pub lives-by : Bool → List LogEntry → ℕ → Bool
 lives-by b [] t = b
 lives-by b (spawned u c ∷ hs) t = eqb u t || lives-by b hs t
@@ -51,7 +51,7 @@ lives (x ∷ h) t = lives-by (lives h t) (x .happened) t
 
 -- Blocked: left waiting by an await until a value or error reaches it.
 
--- is task t blocked after these happenings?
+-- is task t blocked after these log entries?
 unfoldable pub blocked-by : Bool → List LogEntry → ℕ → Bool
 blocked-by b [] t = b
 blocked-by b (spawned u c ∷ hs) t = blocked-by b hs t

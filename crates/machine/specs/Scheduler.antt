@@ -150,7 +150,7 @@ live-count s = live-in (s .tasks)
 unfoldable pub is-task-of : ℕ → Task → Bool
 is-task-of c r = pick (is-live (r .state)) (eqb (r .coroutine .0) c) false
 
--- the live spawned task below n that drives object c, if any, by the tasks' words (coroutine_to_task)
+-- the live spawned task below n of coroutine c, if any, by the tasks' words (coroutine_to_task)
 unfoldable pub task-of-in : List ℕ → ℕ → ℕ → Option ℕ
 task-of-in ts n c = first-from (λ t. is-task-of c (task-at ts t)) 1 (n - 1)
 
@@ -184,7 +184,7 @@ unfoldable pub cancel-one : Store → ℕ → Store
 cancel-one s t = add-log (remove-task s t) (removed t)
 
 -- A walk through awaited gathers: those reached are marked, so that each is walked once; those on the stack are still to be walked.
--- The drivers are those of the store in which the walk began, so that the tasks are searched once for the whole walk.
+-- The tasks of coroutines are those of the store in which the walk began, so that the tasks are searched once for the whole walk.
 pub record Walk : Type 0 where
   pub store : Store
   pub tasks-of : ℕ → Option ℕ

@@ -186,11 +186,11 @@ calls-distinct h os = is-ended (h .moment) || all-below (h .made) (call-new os)
 
 -- ---- 7. A coroutine has at most one live task.
 
--- row t is a live spawned task that drives c
+-- row t is a live spawned task of coroutine c
 unfoldable pub is-task-of-at : (ℕ → Task) → ℕ → ℕ → Bool
 is-task-of-at ts c t = not (eqb t 0) and is-task-of c (ts t)
 
--- no task before t drives what t drives
+-- no task before t is of t's coroutine
 unfoldable pub sole-task : (ℕ → Task) → ℕ → Bool
 sole-task ts t = implies (is-task-of-at ts (ts t .coroutine .0) t) (all-below t (λ u. not (is-task-of-at ts (ts t .coroutine .0) u)))
 

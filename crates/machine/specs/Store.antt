@@ -79,11 +79,11 @@ put-places s ps = record { tasks = s .tasks; objects = s .objects; places = ps; 
 unfoldable pub put-queue : Store → ReadyQueue → Store
 put-queue s q = record { tasks = s .tasks; objects = s .objects; places = s .places; queue = q; log = s .log }
 
--- one more happening
+-- one more log entry
 unfoldable pub add-log : Store → LogEntry → Store
 add-log s h = record { tasks = s .tasks; objects = s .objects; places = s .places; queue = s .queue; log = h ∷ s .log }
 
--- no happening yet
+-- no log entry yet
 unfoldable pub forget : Store → Store
 forget s = record { tasks = s .tasks; objects = s .objects; places = s .places; queue = s .queue; log = [] }
 

@@ -1,1 +1,1 @@
-// Cases of document 01, computed (specs/).
+// P1 to P12, other cases, sound and unsound stores, computed (specs/).

@@ -180,7 +180,7 @@ module _ (os : ℕ → Object) (n : ℕ) where
       let e : o ≡ p = h o p l (omega arith) (i .0) (i .1) (i .2) (i .3) (i .4) in
       not-suc-le-zero {n = 0} (omega arith))))
 
--- ---- clause 7: the driver of a coroutine
+-- ---- clause 7: the task of a coroutine
 
 is-task-of-it : (c : ℕ) (r : Task) → T (is-task-of c r) → r .coroutine .0 ≡ c
 unfolding is-task-of

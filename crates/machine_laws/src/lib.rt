@@ -1,1 +1,1 @@
-// No function stands here: laws of the machine's definitions, in specs/, for the proofs of code and for the theorems.
+// Laws of the definition, for proofs of code and for the theorems (specs/).

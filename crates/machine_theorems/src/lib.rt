@@ -1,1 +1,1 @@
-// No function stands here: the theorems about the machine of document 01, in specs/.
+// Soundness kept, no panic, bounds, gather as Python documents it (specs/).

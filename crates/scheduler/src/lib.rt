@@ -1,4 +1,4 @@
-// The scheduler (scheduler.rs).
+// spawn, make_ready, block, the searches, pending calls and cleanup (scheduler.rs).
 pub mod calls; // pending_call_ids
 pub mod tasks; // the searches
 pub mod states; // make_ready, is_blocked, block_current_on, removal

@@ -1,4 +1,4 @@
-// Searches: the task that drives a coroutine (coroutine_to_task), the pending external of a call (pending_externals).
+// Searches: the task of a coroutine (coroutine_to_task), the pending external of a call (pending_externals).
 use asyncio::HeapId;
 use asyncio::TaskId;
 ghost use mathlib.Core.Path.{_≡_};

@@ -1,4 +1,4 @@
--- cancel's walk as the code has it: a table of drivers, marks, and a stack of gathers with its depth.
+-- cancel's walk as the code has it: a table of the coroutines' tasks, marks, and a stack of gathers with its depth.
 use mathlib.Core.Path.{_≡_}
 use mathlib.Core.Bool.{Bool}
 use mathlib.Core.List.{List, [], _∷_}
@@ -20,13 +20,13 @@ use Rattle.machine_laws.specs.Statements.{unmarked}
 use Rattle.contract.specs.Contract.{Words, Slice, kept}
 use Rattle.scheduler_cancel.specs.declared.cancel.Walked.{Walked}
 
--- ---- the table of drivers: one word for each object
+-- ---- the table of the coroutines' tasks: one word for each object
 
 -- the task that a word names: main drives nothing, so that its number says that there is none
 unfoldable pub named : ℕ → Option ℕ
 named n = pick (eqb (to-task-id n .0) 0) none (some (to-task-id n .0))
 
--- the driver of each object, by the table
+-- the task of each object, by the table
 unfoldable pub tasks-of-in : List ℕ → ℕ → Option ℕ
 tasks-of-in ds c = named (getD ds c 0)
 
@@ -44,7 +44,7 @@ below gs (suc d) = to-heap-id (getD gs d 0) .0 ∷ below gs d
 abbrev pub walked : ReadyQueue → ℕ → Walked
 walked q d = record { queue = q; depth = d }
 
--- the walk of drivers ds over the lent slices, with marks ms and stack gs
+-- the walk with the table ds over the lent slices, with marks ms and stack gs
 abbrev pub walk-of : List ℕ → List ℕ → List ℕ → List ℕ → Walked → List LogEntry → List Bool → List ℕ → Walk
 walk-of ds ts os ps w l ms gs =
     record { store = store-of ts os ps (w .queue) l; tasks-of = λ c. tasks-of-in ds c; marks = ms; stack = below gs (w .depth) }

@@ -1,4 +1,4 @@
--- The table of drivers: how find_drivers fills it, and the ways through live_driver.
+-- The table of the coroutines' tasks: how find_tasks fills it, and the ways through live_task_of.
 use mathlib.Core.Path.{_≡_, refl, sym, ap, _∙_}
 use mathlib.Core.Bool.{Bool, true, false}
 use mathlib.Core.List.{List}
@@ -41,7 +41,7 @@ noted ds t r true m k h l c = by (eqb (r .coroutine .0) c) refl
     by false e = rw (getD-set-other ds (r .coroutine .0) c t 0 (λ q. eqb-false (r .coroutine .0) c e (sym q)))
 
 module _ (ts : List ℕ) (n : ℕ) where
-  -- the drivers among the tasks from t on, below n
+  -- the tasks of coroutines among the tasks from t on, below n
   pub tasks-of-turn : (ds : List ℕ) (u t : ℕ) → t ≡ u + 1 → t ≤ n → 0 < u → n ≤ task-limit → length ds ≡ object-limit
       → {j : ℕ} {es : List ℕ} → j ≡ u → es ≡ put-task-of ts j ds
       → ((c : ℕ) → tasks-of-in ds c ≡ first-from (λ v. is-task-of c (task-at ts v)) t (n - t))
@@ -66,7 +66,7 @@ module _ (ts : List ℕ) (n : ℕ) where
   tasks-of-end ds zero h l m f c = let a : n ≡ 0 = omega arith in f c ∙ rw a
   tasks-of-end ds (suc t) h l m f c = let a : t ≡ 0 = omega arith in f c ∙ rw a
 
--- the table's driver, as live_driver finds it
+-- the table's task, as live_task_of finds it
 module _ (ts ds : List ℕ) (o : ℕ) {u : TaskId} (e : u ≡ to-task-id (getD ds o 0)) {b : Bool} (f : b ≡ is-main u) where
   number : getD ds o 0 % task-limit ≡ u .0
   number = sym (ap (λ (x : TaskId). x .0) e)

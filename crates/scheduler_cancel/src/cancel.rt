@@ -33,7 +33,7 @@ fn put_task_of(tasks: &[u64], table: &mut [u64], t: TaskId)
     }
 }
 
-// The drivers of all objects, in one pass over the tasks: downward, so that the lowest number stays.
+// The tasks of all coroutines, in one pass over the tasks: downward, so that the lowest number stays.
 fn find_tasks(tasks: &[u64], next: u16) -> [u64; OBJECTS]
     requires { ⌜ TasksLength tasks × (next ≤ task-limit) ⌝ }
     ensures { λ r. ⌜ ((c : ℕ) → tasks-of-in r c ≡ task-of-in (now (tasks .entry)) next c) ⌝ }

@@ -1,2 +1,2 @@
-// Cancelling a task (scheduler.rs).
+// cancel_task (scheduler.rs): the task, and the tasks below what it waits for.
 pub mod cancel; // cancel_task

@@ -48,7 +48,7 @@ fn store_main(tasks: &mut [u64], objects: &mut [u64])
         Task {
             state: TaskState::Running,
             awaiter: Awaiter::Nobody,
-            coroutine: HeapId(0),
+            coroutine: HeapId::new(0),
         },
     );
 }

@@ -1,4 +1,4 @@
-// One event, whichever it is, on any memory.
+// Any event on any memory: refusals 1 and 2, then `step_event::step`.
 use exec_switch::answer::Answer;
 use queue::ReadyQueue;
 use sound::is_sound;

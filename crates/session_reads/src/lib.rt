@@ -1,4 +1,4 @@
-// Reads: show, eager. They meet 1, 2 and 5, and change nothing.
+// The reads show and eager on any memory: refusals 1, 2 and 5; they change nothing.
 use exec_switch::answer::Answer;
 use queue::ReadyQueue;
 use sound::is_sound;

@@ -1,4 +1,5 @@
-// The check of soundness (document 01: "A store is sound when"), clause by clause. It runs at every call: linear in the rows in use, and
+// Soundness: clauses 9 to 11, and `is_sound`, the whole (document 01: "A store is sound when").
+// Clause by clause; it runs at every call: linear in the rows in use, and
 // nothing past the counts is looked at. The words and clauses 1 to 8 are in `sound_rows` and `sound_tasks`.
 pub mod filled; // clause 9
 pub mod slots; // clause 10

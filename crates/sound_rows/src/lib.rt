@@ -1,4 +1,5 @@
-// The check of soundness, rows and numbers: what each row says by itself. Each clause is a loop that returns false at the first row that fails.
+// Soundness: canonical rows, and clauses 1 to 4.
+// What each row says by itself. Each clause is a loop that returns false at the first row that fails.
 pub mod words; // rows in use are the words of what they are read as
 pub mod numbers; // clauses 1 and 2
 pub mod values; // clauses 3 and 4

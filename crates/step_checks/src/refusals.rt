@@ -1,8 +1,8 @@
 // The tests of the table of refusals.
 use asyncio::HeapId;
 use asyncio::Moment;
+use asyncio::RESULT_BYTES;
 use asyncio::TaskId;
-use exec_futures::results::RESULT_BYTES;
 ghost use mathlib.Core.Path.{_≡_};
 ghost use Prim.Native.Nat.{_≤_, _+_};
 ghost use lib.Dec.{leb};

@@ -1,5 +1,5 @@
-// One event, whichever it is, of a sound store, with its refusals from 3 on in the order of document 01's table: `step` asks its caller for a sound
-// store, and checks nothing of it.
+// One event of a sound store, whichever it is, with refusals 3 to 10: `step`.
+// It asks its caller for a sound store, and checks nothing of it.
 pub mod host; // the host's events: results, resume
 pub mod running; // the running task's: await, complete, fail
 

@@ -39,7 +39,7 @@ pub fn await_object(
                     answer: Answer::Refused(5),
                 };
             }
-            let a = exec_get_awaitable(tasks, objects, places, queue, t, HeapId(o));
+            let a = exec_get_awaitable(tasks, objects, places, queue, t, HeapId::new(o));
             let q = a.queue;
             let control = a.control;
             let steps = a.steps;

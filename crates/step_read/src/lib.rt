@@ -1,4 +1,4 @@
-// Reads of a sound store: show, eager. Nothing is checked but 5, that the object is made.
+// show and eager behind the checks of lengths and soundness: refusal 5.
 use asyncio::CoroutineState;
 use asyncio::Error;
 use asyncio::ExternalFutureState;

@@ -1,4 +1,5 @@
-// Runs document 01's cases P8, P9, P11 and P12 on stores laid out by hand, in words (docs/LAYOUT.md), at the moment waiting. Printed for each
+// Runs P8, P9, P11 and P12 on stores laid out by hand (docs/LAYOUT.md).
+// The stores are in words, at the moment waiting. Printed for each
 // case: its name; the tasks, the objects and the queue (test_print::write_store), and again after each thing that is done; last, how many words
 // of tasks, objects and places then differ from what they were at first.
 use asyncio::Error;

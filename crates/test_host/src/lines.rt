@@ -10,9 +10,9 @@ fn write_out(out: &[u8], n: usize) {
 }
 
 // The answer of an event: the calls of a wait are the first `count` of the list.
-pub(crate) fn print_answer(number: u64, answer: Answer, calls: &[u64; 256], count: usize) {
+pub(crate) fn print_answer(number: u64, answer: Answer, calls: &[u64], count: usize) {
     let mut out = [0u8; 8192];
-    if count <= 256 {
+    if count <= calls.len() {
         let end = drive_lines::answers::write_line(&mut out, 0, number, answer, &calls[..count]);
         write_out(&out, end);
     }
@@ -25,7 +25,7 @@ pub(crate) fn print_eager(number: u64, answer: Answer) {
     write_out(&out, end);
 }
 
-pub(crate) fn print_shown(number: u64, reading: Reading, places: &[u64; 2048]) {
+pub(crate) fn print_shown(number: u64, reading: Reading, places: &[u64]) {
     let mut out = [0u8; 1024];
     let end = drive_shows::shows::write_reading(&mut out, 0, number, reading, places);
     write_out(&out, end);

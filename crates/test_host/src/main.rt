@@ -1,6 +1,7 @@
-// The host's example of docs/HOST.md: document 01's worked example, event by event through the entries of `session`, and what else a host meets:
-// refusals 1, 2 and others, a wait that is repeated, reads, a session that ends with an error. Each line is the answer as `drive` writes it; a line that
-// begins with 0 is that of a beginning.
+// The host's example of docs/HOST.md: every entry of `session`, and refusals.
+// Document 01's worked example goes event by event through the entries, and
+// then comes what else a host meets: a wait that is repeated, refusals 1, 2 and others, reads, a session that ends with an error. Each line is the
+// answer as `drive` writes it; a line that begins with 0 is that of a beginning.
 mod lines; // an answer's line
 mod memory; // the memory that the host lends, and keeps
 
@@ -14,7 +15,7 @@ use memory::enter_short;
 use memory::read;
 use session::Event;
 
-// Document 01's worked example, records 1 to 9. The gather is of objects 0, 1 and 0; the results are one: plain 5 for call 0.
+// Document 01's worked example to its record 8, and a resume more at 7, which repeats the wait. The gather is of objects 0, 1 and 0; the results are one: plain 5 for call 0.
 fn worked_example(fresh: Memory) -> Memory {
     let made = enter(fresh, 1, Event::Coroutine(7));
     let called = enter(made, 2, Event::Call);

@@ -34,7 +34,8 @@ pub(crate) fn begin() -> Memory {
     let begun = session::begin(&mut tasks, &mut objects, &mut places, ReadyQueue::new());
     let queue = begun.queue;
     let calls = [0u64; 256];
-    print_answer(0, begun.answer, &calls, 0);
+    let answer = begun.answer;
+    print_answer(0, answer, &calls, 0);
     Memory {
         tasks,
         objects,
@@ -93,7 +94,9 @@ pub(crate) fn enter(m: Memory, number: u64, event: Event) -> Memory {
         event,
     );
     let queue = r.queue;
-    print_answer(number, r.answer, &calls, r.calls);
+    let answer = r.answer;
+    let count = r.calls;
+    print_answer(number, answer, &calls, count);
     Memory {
         tasks,
         objects,
@@ -121,7 +124,9 @@ pub(crate) fn enter_short(m: Memory, number: u64, event: Event) -> Memory {
         &[0; 1],
     );
     let queue = r.queue;
-    print_answer(number, r.answer, &calls, r.calls);
+    let answer = r.answer;
+    let count = r.calls;
+    print_answer(number, answer, &calls, count);
     Memory {
         tasks,
         objects,

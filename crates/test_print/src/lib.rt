@@ -1,5 +1,5 @@
-// What the small programs print of a store, written into a lent buffer, a line for each row and for the queue: the words of docs/LAYOUT.md,
-// decimal, a space before each. Each function takes the place of the next byte and gives the place behind what it wrote.
+// What test programs print of a store, written into a lent buffer.
+// A line for each row and for the queue: the words of docs/LAYOUT.md, decimal, a space before each. Each function takes the place of the next byte and gives the place behind what it wrote.
 use asyncio::HeapId;
 use asyncio::TaskId;
 use asyncio::words::header_words;

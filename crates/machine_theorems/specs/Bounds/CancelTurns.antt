@@ -28,7 +28,7 @@ use Rattle.machine_theorems.specs.Bounds.Counts.{removals-in, Walks, wal
 
 -- ---- a walk that can go on
 
--- the lengths, and drivers that are task numbers
+-- the lengths, and tasks of coroutines that are task numbers
 pub record WalkInvariant (w : Walk) : Type 0 where
   pub sized : Sized (w .store)
   pub marked : length (w .marks) ≡ object-limit
