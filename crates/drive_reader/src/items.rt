@@ -1,7 +1,8 @@
 // The numbers of a gather's items.
 use crate::bytes::byte_past;
+use asyncio::words::least;
 ghost use mathlib.Core.Path.{_≡_};
-ghost use Prim.Native.Nat.{_<_, _+_, _*_, _^_, min};
+ghost use Prim.Native.Nat.{_<_, _+_, _*_, _^_};
 ghost use Rattle.endian.specs.Endian.{le2};
 ghost use Rattle.drive_reader.specs.Items.{items-copied};
 
@@ -13,13 +14,6 @@ fn item_at(s: &[u8], first: usize, i: usize) -> u16
     let low = byte_past(s, first, i * 2);
     let high = byte_past(s, first, i * 2 + 1);
     (low + high * 256) as u16
-}
-
-// The lesser of the two.
-pub fn least(a: usize, b: usize) -> usize
-    ensures { λ r. ⌜ r ≡ min a b ⌝ }
-{
-    if a < b { a } else { b }
 }
 
 // Copies `count` numbers of two bytes that begin at `first` to the front of `items`, or as many as there is room for. Bytes past the end

@@ -30,7 +30,7 @@ use Rattle.drive_text.specs.Out.{Out, Wrote}
 use Rattle.drive_text.specs.OutLaws.{at-most}
 use Rattle.drive_shows.specs.Shows.{shown-count, reading-count}
 use Rattle.drive_lines.specs.Lines.{line, line-limit}
-use Rattle.drive_shows.specs.PlaceLaws.{places-length}
+use Rattle.drive_shows.specs.PlaceLaws.{shown-length}
 
 -- ---- events
 
@@ -111,7 +111,7 @@ answer-places (machine.Answer.refused n) = 0
 answer-places (machine.Answer.shows x) = shown-places x
 
 show-length : (s : Store) (f m n : ℕ) → length (show-places s f m 0 n) ≡ n
-show-length s f m n = ap length (sym (shows-places s f m n 0)) ∙ places-length (s .places) f m n 0
+show-length s f m n = ap length (sym (shows-places s f m n 0)) ∙ shown-length (s .places) f m n 0
 
 shown-few : (s : Store) (x : Object) → ObjectFits x → shown-places (shown s x) ≤ item-limit
 unfolding shown-places shown
@@ -142,8 +142,8 @@ shows-count ps Shown.ExternalPending = refl
 shows-count ps (Shown.ExternalResolved v) = refl
 shows-count ps (Shown.ExternalFailed e) = refl
 shows-count ps Shown.GatherPending = refl
-shows-count ps (Shown.GatherAwaited f n m) = places-length ps f m n 0
-shows-count ps (Shown.GatherCompleted f n) = places-length ps f 0 n 0
+shows-count ps (Shown.GatherAwaited f n m) = shown-length ps f m n 0
+shows-count ps (Shown.GatherCompleted f n) = shown-length ps f 0 n 0
 shows-count ps (Shown.GatherFailed e) = refl
 shows-count ps Shown.Nothing = refl
 

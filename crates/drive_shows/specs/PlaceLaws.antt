@@ -32,10 +32,10 @@ places-more ps f m (suc n) i =
     (places-more ps f m n (i + 1) ∙ ap (λ (j : ℕ). places-from ps f m (i + 1) n ++ (place-shown ps f m j ∷ [])) e)
 
 -- as many as asked for
-pub places-length : (ps : List ℕ) (f m n i : ℕ) → length (places-from ps f m i n) ≡ n
+pub shown-length : (ps : List ℕ) (f m n i : ℕ) → length (places-from ps f m i n) ≡ n
 unfolding places-from
-places-length ps f m zero i = refl
-places-length ps f m (suc n) i = ap suc (places-length ps f m n (i + 1))
+shown-length ps f m zero i = refl
+shown-length ps f m (suc n) i = ap suc (shown-length ps f m n (i + 1))
 
 places-append : (xs ys : List (Option Value)) → places-text (xs ++ ys) ≡ places-text xs ++ places-text ys
 unfolding places-text

@@ -11,6 +11,7 @@ pub use exec_switch::answer::Stepped;
 pub use exec_switch::control::Control;
 pub use exec_switch::control::How;
 pub use queue::ReadyQueue;
+pub use rows::total::result_at;
 pub use session_begin::begin;
 pub use session_dispatch::dispatch;
 pub use session_events::await_object;

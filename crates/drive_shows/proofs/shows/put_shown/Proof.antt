@@ -2,7 +2,7 @@ use native.Mathlib.Omega.{arith}
 use Rattle.drive_text.specs.OutLaws.{at-most}
 use Rattle.drive_lines.specs.Lines.{shown-text}
 use Rattle.drive_shows.specs.Shows.{shown-count}
-use Rattle.drive_shows.specs.PlaceLaws.{places-length}
+use Rattle.drive_shows.specs.PlaceLaws.{shown-length}
 use borrow.Author.Needs.{needs}
 use Rattle.drive_shows.proofs.shows.put_shown.Statement.{statement}
 use Rattle.drive_shows.proofs.shows.put_shown.Tie as tie
@@ -122,14 +122,14 @@ same-length-6 c = search needs
 
 returns-6 : tie.Need-returns-6
 unfolding shown-text shown-count
-returns-6 c = rw (c .before .before .before .before .before .before .shown4 .given .1, places-length) (at-most (omega arith) (c .before .before .put-gather .ensures))
+returns-6 c = rw (c .before .before .before .before .before .before .shown4 .given .1, shown-length) (at-most (omega arith) (c .before .before .put-gather .ensures))
 
 same-length-7 : tie.Need-same-length-7
 same-length-7 c = search needs
 
 returns-7 : tie.Need-returns-7
 unfolding shown-text shown-count
-returns-7 c = rw (c .before .before .before .before .before .before .shown5 .given .1, places-length) (at-most (omega arith) (c .before .before .put-gather2 .ensures))
+returns-7 c = rw (c .before .before .before .before .before .before .shown5 .given .1, shown-length) (at-most (omega arith) (c .before .before .put-gather2 .ensures))
 
 same-length-8 : tie.Need-same-length-8
 same-length-8 c = search needs
