@@ -49,7 +49,7 @@ lent-of s cs a n =
     record { store = s; list = cs; answer = x; numbers = answer-numbers x; count = n }
 
 -- The call writes the calls of a wait at the list's front, as document 01 has it, and returns how many there are.
-abbrev pub WritesCalls : Slice → Slice → Answer → ℕ → Type 0
-WritesCalls objects calls answer r =
+abbrev pub WritesWait : Slice → Slice → Answer → ℕ → Type 0
+WritesWait objects calls answer r =
     let x : machine.Answer = answer-of (now (objects .entry)) answer in
     (now (calls .exit) ≡ written x (now (calls .entry))) × (r ≡ length (answer-calls x))

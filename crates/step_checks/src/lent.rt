@@ -9,7 +9,7 @@ ghost use lib.Dec.{leb};
 ghost use lib.ListN.{length};
 ghost use Rattle.asyncio.specs.Limits.{object-limit};
 ghost use Rattle.contract.specs.Contract.{ObjectsLength};
-ghost use Rattle.step_checks.specs.Lent.{is-wait, slices-fit, WritesCalls};
+ghost use Rattle.step_checks.specs.Lent.{is-wait, slices-fit, WritesWait};
 
 // Words of the slices: 8 a task, 8 an object and as many for the header, 4 a place.
 const TASKS_LENGTH: usize = asyncio::TASKS as usize * 8;
@@ -71,7 +71,7 @@ fn is_wait(answer: Answer) -> bool
 // there are 0.
 pub fn write_calls(objects: &[u64], calls: &mut [u64], answer: Answer) -> usize
     requires { ⌜ ObjectsLength objects × (object-limit ≤ length (now calls)) ⌝ }
-    ensures { λ r. ⌜ WritesCalls objects calls answer r ⌝ }
+    ensures { λ r. ⌜ WritesWait objects calls answer r ⌝ }
 {
     if is_wait(answer) {
         return pending_call_ids(objects, calls);
