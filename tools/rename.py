@@ -248,7 +248,9 @@ def main():
             after = inside(after, owners.get(owner, owner))
             after = renamed_names(after, crate(owner), path)
         else:
-            after = renamed_names(after, parts[1] if len(parts) > 1 else "", path)
+            # a prototype's crate stands in no folder `crates`: it is what holds specs/, src/ or proofs/
+            inner = [k for k, part in enumerate(parts) if part in ("specs", "src", "proofs") and k > 0]
+            after = renamed_names(after, crate(parts[inner[0] - 1]) if inner else "", path)
         if after != before:
             path.write_text(after)
 
