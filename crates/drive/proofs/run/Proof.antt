@@ -5,6 +5,8 @@ use native.Mathlib.Omega.{arith}
 use lib.ListN.{length}
 use lib.Seq.{length-take-le}
 use Rattle.machine.specs.Store.{store-of}
+use Rattle.machine.specs.Machine.{Step}
+use Rattle.machine.specs.Answers.{Numbers}
 use Rattle.machine_theorems.specs.Soundness.Stores.{SoundStore}
 use Rattle.drive_laws.specs.KeptLaws.{begun-sound-store, record-sound-store, sound-store-right, sound-store-is-sound}
 use borrow.Author.Needs.{needs}
@@ -38,7 +40,7 @@ refill-requires : tie.Need-refill-requires Inv-loop μ-loop
 refill-requires c κs = search needs
 
 loop-holds : tie.Need-loop-holds Inv-loop μ-loop
-loop-holds c = (begun-sound-store _ (c .before .before .before .before .before .before .before .before .begin .result .answer) refl refl refl (c .before .before .before .before .before .before .before .before .begin .ensures []), refl, c .before .before .refill .ensures, omega arith, refl, refl, omega arith)
+loop-holds c = (begun-sound-store _ (c .before .before .before .before .before .before .before .before .begin .result .answer) refl refl refl (ap (λ (x : Step × Numbers). x .0) (c .before .before .before .before .before .before .before .before .begin .ensures [])), refl, c .before .before .refill .ensures, omega arith, refl, refl, omega arith)
 
 add-number : tie.Need-add-number Inv-loop μ-loop
 add-number c = omega (arith, c .before .loop .inv .6)

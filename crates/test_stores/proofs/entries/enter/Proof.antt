@@ -56,11 +56,11 @@ returns-3 c = search needs
 cast-first : tie.Need-cast-first
 cast-first c = search needs
 
-add-t36 : tie.Need-add-t36
-add-t36 c = search needs
+add-t39 : tie.Need-add-t39
+add-t39 c = search needs
 
-add-t37 : tie.Need-add-t37
-add-t37 c = search needs
+add-t40 : tie.Need-add-t40
+add-t40 c = search needs
 
 event-of-requires : tie.Need-event-of-requires
 event-of-requires c κs = search needs
@@ -113,8 +113,8 @@ enter-spec =
     same-length-9
     returns-3
     cast-first
-    add-t36
-    add-t37
+    add-t39
+    add-t40
     event-of-requires
     array-share-prefix-items
     slice-aggregate-dispatch
