@@ -174,25 +174,25 @@ module _ (ts os ps : List ℕ) (q : ReadyQueue) (g i : ℕ) (a : length ts ≡ t
         let m : SameKinds (store-of us vs rs r (log-at [])) (store-of us vs₁ rs r (log-at [])) = rw (← f (log-at [])) at k in
         same-kinds-then (end-same e) m
 
-    module _ (gs ns : List ℕ) (n d : ℕ) (m : n ≡ suc d) (z : Placed (store-of ts os ps q []) (below gs ns n)) where
+    module _ (gs ns : List ℕ) (n d : ℕ) (m : n ≡ suc d) (z : Placed (store-of ts os ps q []) (below gs ns n)) {y : HeapId} (u : y ≡ heap-id (getD gs d 0)) where
       -- the gather below, and the place of it in which the settled one is nested
-      pub parent-range : getD gs d 0 < object-limit
+      pub parent-range : y .0 < object-limit
       unfolding Placed below
-      parent-range = (rw m at z) .0
+      parent-range = rw u ((rw m at z) .0)
 
-      pub child-range : getD ns d 0 < count-of (object-at vs₁ (getD gs d 0))
+      pub child-range : getD ns d 0 < count-of (object-at vs₁ (y .0))
       unfolding Placed below object
-      child-range = rw (settled-same .counts (getD gs d 0)) ((rw m at z) .1)
+      child-range = rw (u, settled-same .counts (getD gs d 0)) ((rw m at z) .1)
 
       pub child-few : getD ns d 0 < item-limit
-      child-few = omega (arith, child-range, count-fits vs₁ (getD gs d 0))
+      child-few = omega (arith, child-range, count-fits vs₁ (y .0))
 
       module _ (vs₂ rs₂ : List ℕ)
-          (t : (l : List LogEntry) → store-of us vs₂ rs₂ r l ≡ resume-after-child (frame (getD gs d 0) (getD ns d 0)) (gives (store-of us vs₁ rs r l) p)) where
+          (t : (l : List LogEntry) → store-of us vs₂ rs₂ r l ≡ resume-after-child (frame (y .0) (getD ns d 0)) (gives (store-of us vs₁ rs r l) p)) where
         popped-same : SameKinds (store-of ts os ps q []) (store-of us vs₂ rs₂ r (log-at []))
         popped-same =
-            let m : SameKinds (store-of us vs₁ rs r (log-at [])) (resume-after-child (frame (getD gs d 0) (getD ns d 0)) (gives (store-of us vs₁ rs r (log-at [])) p)) =
-            resume-kinds (frame (getD gs d 0) (getD ns d 0)) (gives (store-of us vs₁ rs r (log-at [])) p) (settled-same .sized) parent-range in
+            let m : SameKinds (store-of us vs₁ rs r (log-at [])) (resume-after-child (frame (y .0) (getD ns d 0)) (gives (store-of us vs₁ rs r (log-at [])) p)) =
+            resume-kinds (frame (y .0) (getD ns d 0)) (gives (store-of us vs₁ rs r (log-at [])) p) (settled-same .sized) parent-range in
             same-kinds-then settled-same (rw (← t (log-at [])) at m)
 
         -- as many pending gathers
@@ -243,17 +243,17 @@ module _ (ts os ps : List ℕ) (q : ReadyQueue) (g i : ℕ) (a : length ts ≡ t
         rw (k, ← t)
 
     -- a nested one was
-    pub tree-popped : x ≡ Stop.End → (k : ℕ) → d ≡ suc k → (vs₁ : List ℕ) (p : Poll) → ((l : List LogEntry) → gives (store-of us vs₁ rs r l) p ≡ settle-gather-commit (store-of us vs rs r l) g)
-        → (vs₂ rs₂ : List ℕ) → ((l : List LogEntry) → store-of us vs₂ rs₂ r l ≡ resume-after-child (frame (getD gs k 0) (getD ns k 0)) (gives (store-of us vs₁ rs r l) p))
-        → GoesOn M us vs₂ rs₂ r (frame (getD gs k 0) (getD ns k 0 + 1)) (below gs ns k) (n + 1)
+    pub tree-popped : x ≡ Stop.End → (k : ℕ) → d ≡ suc k → {y : HeapId} → y ≡ heap-id (getD gs k 0) → (vs₁ : List ℕ) (p : Poll) → ((l : List LogEntry) → gives (store-of us vs₁ rs r l) p ≡ settle-gather-commit (store-of us vs rs r l) g)
+        → (vs₂ rs₂ : List ℕ) → ((l : List LogEntry) → store-of us vs₂ rs₂ r l ≡ resume-after-child (frame (y .0) (getD ns k 0)) (gives (store-of us vs₁ rs r l) p))
+        → GoesOn M us vs₂ rs₂ r (frame (y .0) (getD ns k 0 + 1)) (below gs ns k) (n + 1)
     unfolding turn stopped below
-    tree-popped e k z vs₁ p f vs₂ rs₂ t = record {
+    tree-popped e k z u vs₁ p f vs₂ rs₂ t = record {
       log = log-now;
       opened = w .opened;
       settled = suc (w .settled);
       goes-on = λ l.
           let m : n + 1 ≡ suc n = omega arith in
-          rw (m, t (log-now l), f (log-now l)) (rw (e, z) at (turns l));
+          rw (m, t (log-now l), f (log-now l), u) (rw (e, z) at (turns l));
     }
 
     -- the commit fails

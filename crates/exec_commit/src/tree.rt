@@ -76,7 +76,7 @@ pub fn commit_gather_tree(
                     };
                 }
                 depth -= 1;
-                g = HeapId(gathers[depth]);
+                g = HeapId::new(gathers[depth]);
                 let child = nexts[depth];
                 resume_after_child(objects, places, g, child as usize, poll);
                 next = child + 1;
