@@ -3,13 +3,9 @@ use mathlib.Core.Path.{_≡_, refl, sym, ap, _∙_}
 use mathlib.Core.Bool.{Bool, true, false, true≢false}
 use mathlib.Core.List.{List}
 use mathlib.Core.Option.{none, some}
-use Prim.Native.Nat.{ℕ, suc, _+_, _-_, _/_, _%_, _^_, _≤_, _<_}
-use native.Mathlib.Omega.{arith}
-use lib.Dec.{eqb}
-use borrow.Author.Tests.{eq-eqb, ne-eqb}
+use Prim.Native.Nat.{ℕ}
 use Rattle.asyncio.specs.States.{is-nobody}
 use Rattle.asyncio.specs.Numbers.{heap-id}
-use Rattle.asyncio.specs.declared.HeapId.{HeapId}
 use Rattle.asyncio.specs.declared.CallId.{CallId}
 use Rattle.asyncio.specs.declared.Error.{Error}
 use Rattle.asyncio.specs.declared.Awaiter.{Awaiter}
@@ -25,8 +21,7 @@ use Rattle.machine.specs.Store.{Store, LogEntry, store-of, object, put-object, 
 use Rattle.machine.specs.Scheduler.{as-awaited}
 use Rattle.machine.specs.Scheduler as scheduler
 use Rattle.machine.specs.Commit.{raised, pending, Polled, gives, await-pending, await-external, polled-spawn, item-coroutine, polled, item-gather, item-object, open-from, item}
-use Rattle.exec_poll.specs.Polls.{poll-of, open-here, with-item, itemed, item-here, item-at}
-use Rattle.exec_poll.specs.declared.awaited.AwaitedGather.{AwaitedGather}
+use Rattle.exec_poll.specs.Polls.{poll-of, with-item, itemed, item-here, item-at}
 use Rattle.exec_poll.specs.declared.item.Poll.{Poll}
 use Rattle.exec_poll.specs.declared.item.ItemPoll.{ItemPoll}
 
@@ -109,33 +104,6 @@ module _ (ts os ps : List ℕ) (q : ReadyQueue) (l : List LogEntry) (g o : ℕ) 
     pub coroutine-driven : b ≡ false
         → gives (store-of us vs ps r (item-coroutine (store-of ts os ps q l) g o x .store .log)) (raised Error.CoroutineReuse) ≡ item-coroutine (store-of ts os ps q l) g o x
     coroutine-driven t = rw e (coroutine-not-done ts os q o g us vs r b h t ps l)
-
--- ---- the open places
-
-module _ (ps : List ℕ) (m p i o : ℕ) where
-  pub place-shut : m / 2 ^ i % 2 ≡ 0 → false ≡ open-here ps m p i o
-  place-shut e = rw (eq-eqb (m / 2 ^ i % 2) 0 e)
-
-  module _ (b : m / 2 ^ i % 2 ≡ 0 → ⊥) {h : HeapId} (e : h ≡ place-at ps p .item) where
-    pub place-named : eqb (h .0) o ≡ open-here ps m p i o
-    place-named = rw (ne-eqb (m / 2 ^ i % 2) 0 b, ← e)
-
-module _ (ps : List ℕ) (w : scheduler.AwaitedGather) (o i n : ℕ) where
-  pub open-found : i < n → true ≡ open-here ps (w .open-places) (w .first + i) i o → true ≡ open-from (λ p. place-at ps p) w o i (n - i)
-  unfolding open-from
-  open-found h e = let k : n - i ≡ suc (n - (i + 1)) = omega arith in rw (k, ← e)
-
-  pub open-turn : i < n → false ≡ open-here ps (w .open-places) (w .first + i) i o
-      → open-from (λ p. place-at ps p) w o (i + 1) (n - (i + 1)) ≡ open-from (λ p. place-at ps p) w o i (n - i)
-  unfolding open-from
-  open-turn h e = let k : n - i ≡ suc (n - (i + 1)) = omega arith in rw (k, ← e)
-
-  pub open-end : n ≤ i → false ≡ open-from (λ p. place-at ps p) w o i (n - i)
-  unfolding open-from
-  open-end h = let k : n - i ≡ 0 = omega arith in rw k
-
-pub open-begins : (ps : List ℕ) (w : scheduler.AwaitedGather) (o n : ℕ) → open-from (λ p. place-at ps p) w o 0 (n - 0) ≡ open-from (λ p. place-at ps p) w o 0 n
-open-begins ps w o n = let k : n - 0 ≡ n = omega arith in rw k
 
 -- ---- an item
 

@@ -1,13 +1,9 @@
 -- What the code answers, as the machine's data.
 use Prim.Native.Nat.{ℕ}
-use mathlib.Core.Bool.{Bool, _&&_}
 use mathlib.Core.List.{List}
 use mathlib.Core.Option.{Option, none, some}
-use lib.Dec.{eqb}
-use Rattle.rows.specs.Tables.{place-at}
 use Rattle.queue.specs.declared.ReadyQueue.{ReadyQueue}
 use Rattle.machine.specs.Store.{Store, object}
-use Rattle.machine.specs.Scheduler.{bit}
 use Rattle.machine.specs.Scheduler as scheduler
 use Rattle.machine.specs.Commit.{ready, raised, pending, gives, polled, nested, item-object, item}
 use Rattle.machine.specs.Commit as machine
@@ -33,10 +29,6 @@ awaited-of w = record { first = w .first; count = w .count; awaiter = w .awaiter
 abbrev pub option-awaited : OptionAwaited → Option scheduler.AwaitedGather
 option-awaited OptionAwaited.None = none
 option-awaited (OptionAwaited.Some w) = some (awaited-of w)
-
--- place p, which is place i of its gather, is open and names object o
-abbrev pub open-here : List ℕ → ℕ → ℕ → ℕ → ℕ → Bool
-open-here ps m p i o = bit m i && eqb (place-at ps p .item .0) o
 
 -- The store after an item, and what the item gave: nothing where it is a nested gather, which leaves the store as it is.
 pub record Itemed : Type 0 where

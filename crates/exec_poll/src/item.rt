@@ -10,15 +10,15 @@ use asyncio::HeapId;
 use asyncio::Object;
 use asyncio::Value;
 use queue::ReadyQueue;
+use scheduler::places::is_open;
 ghost use mathlib.Core.Path.{_≡_};
 ghost use Prim.Native.Nat.{_<_};
-ghost use Rattle.asyncio.specs.Limits.{object-limit, item-limit, place-limit};
+ghost use Rattle.asyncio.specs.Limits.{object-limit};
 ghost use Rattle.asyncio.specs.Ranges.{PlacesFit};
-ghost use Rattle.rows.specs.Tables.{place-at};
 ghost use Rattle.machine.specs.Store.{Store};
-ghost use Rattle.machine.specs.Commit.{await-external, item-coroutine, item-gather, open-from};
-ghost use Rattle.exec_poll.specs.Polls.{awaited-of, open-here, with-item, itemed, item-at, item-here, PollsOfObjects, Polls, PollsItem, PollsItemOfPlaces};
-ghost use Rattle.contract.specs.Contract.{ObjectsLength, PlacesLength, Lengths₂, Lengths₂And, LengthsAnd₂};
+ghost use Rattle.machine.specs.Commit.{await-external, item-coroutine, item-gather};
+ghost use Rattle.exec_poll.specs.Polls.{awaited-of, with-item, itemed, item-at, item-here, PollsOfObjects, Polls, PollsItem, PollsItemOfPlaces};
+ghost use Rattle.contract.specs.Contract.{ObjectsLength, Lengths₂, Lengths₂And, LengthsAnd₂};
 
 // What an awaitable gives at once: a value, an error, or nothing yet.
 pub enum Poll {
@@ -134,35 +134,6 @@ fn item_gather(o: HeapId, state: GatherState) -> ItemPoll
     }
 }
 
-// Does place `p`, which is place `i` of a gather, wait for object `o`?
-fn is_open_here(places: &[u64], open_places: u32, p: usize, i: usize, o: HeapId) -> bool
-    requires { ⌜ PlacesLength places × (p < place-limit) × (i < item-limit) ⌝ }
-    ensures { λ r. ⌜ r ≡ open-here (now (places .entry)) «open_places» p i (o .0) ⌝ }
-{
-    if (open_places >> i) % 2 == 0 {
-        return false;
-    }
-    let item = rows::parts::item_at(places, p);
-    item.0 == o.0
-}
-
-// Does an open place of the gather name object `o`?
-fn is_open(places: &[u64], w: AwaitedGather, o: HeapId) -> bool
-    requires { ⌜ PlacesLength places × PlacesFit (w .first) (w .count) ⌝ }
-    ensures { λ r. ⌜ r ≡ open-from (λ p. place-at (now (places .entry)) p) (awaited-of w) (o .0) 0 (w .count) ⌝ }
-{
-    let first = w.first as usize;
-    let count = w.count as usize;
-    let mut i: usize = 0;
-    while i < count {
-        if is_open_here(places, w.open_places, first + i, i, o) {
-            return true;
-        }
-        i += 1;
-    }
-    false
-}
-
 // Object `o` as an item of gather `g`, where no open place of it names the object.
 fn item_object(
     tasks: &mut [u64],
@@ -230,7 +201,7 @@ pub fn item(
     ensures { λ r. ⌜ PollsItemOfPlaces tasks objects places queue
         (λ s. item-at s (g .0) (awaited-of w) (o .0)) r ⌝ }
 {
-    if is_open(places, w, o) {
+    if is_open(places, w.first, w.count, w.open_places, o) {
         return PolledItem {
             queue,
             item: ItemPoll::Polled(Poll::Pending),

@@ -7,75 +7,47 @@ use rows::parts::awaiter_at;
 use rows::parts::coroutine_at;
 use rows::parts::count_at;
 use rows::parts::first_at;
-use rows::parts::item_at;
 use rows::parts::kind_at;
 use rows::parts::open_at;
 use rows::parts::state_at;
 use rows::parts::task_awaiter_at;
+use scheduler::places::is_open;
 ghost use mathlib.Core.Path.{_≡_};
-ghost use Prim.Native.Nat.{_<_, _+_, _≤_};
-ghost use Rattle.asyncio.specs.Limits.{task-limit, object-limit, item-limit, place-limit};
+ghost use Prim.Native.Nat.{_<_, _≤_};
+ghost use Rattle.asyncio.specs.Limits.{task-limit, object-limit};
 ghost use Rattle.asyncio.specs.Parts.{awaiter-of};
 ghost use Rattle.asyncio.specs.Ranges.{AwaiterFits};
 ghost use Rattle.rows.specs.Slices.{task-in, object-in, place-in};
 ghost use Rattle.contract.specs.Contract.{ObjectsLengthAnd, PlacesLengthAnd, LengthsAnd};
 ghost use Rattle.machine.specs.Tests.{all-below};
-ghost use Rattle.machine.specs.Commit.{open-from};
 ghost use Rattle.machine.specs.Sound.{slot-open, slots-open};
-ghost use Rattle.sound.specs.SlotLaws.{open-here, gather-parts, gather-holds, task-slot-open};
-
-// Place `k` of a gather whose places start at `first` is open in `m`, and names object `o`.
-fn place_open(places: &[u64], first: usize, m: u32, o: u16, k: usize) -> bool
-    requires { ⌜ PlacesLengthAnd places ((first + k < place-limit) × (k < item-limit)) ⌝ }
-    ensures { λ r. ⌜ r ≡ open-here (place-in places) first m o k ⌝ }
-{
-    if (m >> k) % 2 == 0 {
-        return false;
-    }
-    let item = item_at(places, first + k);
-    item.0 == o
-}
-
-// An open place of a gather names object `o`.
-fn source_open(places: &[u64], first: usize, n: usize, m: u32, o: u16) -> bool
-    requires { ⌜ PlacesLengthAnd places ((first + n ≤ place-limit) × (n ≤ item-limit)) ⌝ }
-    ensures { λ r. ⌜ r ≡ open-from (place-in places) (gather-parts first n m) o 0 n ⌝ }
-{
-    let mut k: usize = 0;
-    while k < n {
-        if place_open(places, first, m, o, k) {
-            return true;
-        }
-        k += 1;
-    }
-    false
-}
+ghost use Rattle.sound.specs.SlotLaws.{gather-holds, task-slot-open};
 
 // Gather `g` was committed and, if it is awaited, has object `o` open.
-fn gather_holds(objects: &[u64], places: &[u64], g: HeapId, o: u16) -> bool
+fn gather_holds(objects: &[u64], places: &[u64], g: HeapId, o: HeapId) -> bool
     requires { ⌜ ObjectsLengthAnd objects (PlacesLengthAnd places (g .0 < object-limit)) ⌝ }
-    ensures { λ r. ⌜ r ≡ gather-holds (object-in objects) (place-in places) (g .0) o ⌝ }
+    ensures { λ r. ⌜ r ≡ gather-holds (object-in objects) (place-in places) (g .0) (o .0) ⌝ }
 {
     let kind = kind_at(objects, g);
     if kind.is_awaited() {
         let first = first_at(objects, g);
         let count = count_at(objects, g);
-        let m = open_at(objects, g);
-        return source_open(places, first as usize, count as usize, m, o);
+        let open_places = open_at(objects, g);
+        return is_open(places, first, count, open_places, o);
     }
     kind.is_committed()
 }
 
 // The awaiter of the holder of object `o`.
-fn slot_open(objects: &[u64], places: &[u64], o: u16, w: Awaiter) -> bool
+fn slot_open(objects: &[u64], places: &[u64], o: HeapId, w: Awaiter) -> bool
     requires { ⌜ ObjectsLengthAnd objects (PlacesLengthAnd places (AwaiterFits w)) ⌝ }
-    ensures { λ r. ⌜ r ≡ slot-open (object-in objects) (place-in places) o w ⌝ }
+    ensures { λ r. ⌜ r ≡ slot-open (object-in objects) (place-in places) (o .0) w ⌝ }
 {
     match w {
         Awaiter::Nobody => true,
         Awaiter::Task(_) => true,
         Awaiter::GatherSlot { gather, source } => {
-            if source.0 == o {
+            if source.0 == o.0 {
                 return gather_holds(objects, places, gather, o);
             }
             false
@@ -90,7 +62,8 @@ fn object_slots(made: u16, objects: &[u64], places: &[u64]) -> bool
 {
     let mut o: u16 = 0;
     while o < made {
-        if slot_open(objects, places, o, awaiter_at(objects, HeapId::new(o))) {
+        let id = HeapId::new(o);
+        if slot_open(objects, places, id, awaiter_at(objects, id)) {
             o += 1;
         } else {
             return false;
@@ -107,7 +80,7 @@ fn task_slot(tasks: &[u64], objects: &[u64], places: &[u64], t: TaskId) -> bool
     let state = state_at(tasks, t);
     if state.is_live() {
         let coroutine = coroutine_at(tasks, t);
-        return slot_open(objects, places, coroutine.0, task_awaiter_at(tasks, t));
+        return slot_open(objects, places, coroutine, task_awaiter_at(tasks, t));
     }
     true
 }

@@ -22,17 +22,11 @@ count-at-requires c κs = search needs
 open-at-requires : tie.Need-open-at-requires
 open-at-requires c κs = search needs
 
-cast-source-open : tie.Need-cast-source-open
-cast-source-open c = search needs
-
-cast-source-open-2 : tie.Need-cast-source-open-2
-cast-source-open-2 c = search needs
-
-source-open-requires : tie.Need-source-open-requires
-source-open-requires c κs = (search needs, (omega (arith, places-fit (now (c .before .before .before .before .before .before .before .before .args .objects)) (c .before .before .before .before .before .before .before .before .args .g .0) (c .before .before .first-at .ensures) (c .before .count-at .ensures) .within), omega (arith, places-fit (now (c .before .before .before .before .before .before .before .before .args .objects)) (c .before .before .before .before .before .before .before .before .args .g .0) (c .before .before .first-at .ensures) (c .before .count-at .ensures) .at-most)))
+is-open-requires : tie.Need-is-open-requires
+is-open-requires c κs = (search needs, places-fit (now (c .before .before .before .before .before .before .before .before .args .objects)) (c .before .before .before .before .before .before .before .before .args .g .0) (c .before .before .first-at .ensures) (c .before .count-at .ensures))
 
 returns : tie.Need-returns
-returns c = holds-awaited _ _ _ _ (c .before .before .before .before .before .before .kind-at .ensures) (sym (c .before .before .before .before .before .is-awaited .ensures) ∙ c .before .before .before .before .if1 .taken) (c .before .before .before .first-at .ensures) (c .before .before .count-at .ensures) (c .before .open-at .ensures) (c .source-open .ensures)
+returns c = holds-awaited _ _ _ _ (c .before .before .before .before .before .before .kind-at .ensures) (sym (c .before .before .before .before .before .is-awaited .ensures) ∙ c .before .before .before .before .if1 .taken) (c .before .before .before .first-at .ensures) (c .before .before .count-at .ensures) (c .before .open-at .ensures) (c .is-open .ensures)
 
 is-committed-requires : tie.Need-is-committed-requires
 is-committed-requires c κs = search needs
@@ -49,9 +43,7 @@ gather-holds-spec =
     first-at-requires
     count-at-requires
     open-at-requires
-    cast-source-open
-    cast-source-open-2
-    source-open-requires
+    is-open-requires
     returns
     is-committed-requires
     returns-2)

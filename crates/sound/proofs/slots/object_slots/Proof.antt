@@ -1,4 +1,4 @@
-use mathlib.Core.Path.{_≡_, sym, ap, _∙_}
+use mathlib.Core.Path.{_≡_, sym, _∙_}
 use mathlib.Core.Bool.{true}
 use Prim.Native.Nat.{ℕ, _-_, _≤_}
 use native.Mathlib.Omega.{arith}
@@ -10,6 +10,7 @@ use Rattle.rows.specs.Tables.{object-at, place-at}
 use Rattle.asyncio.specs.Parts.{awaiter-of}
 use Rattle.machine.specs.Sound.{slot-open}
 use Rattle.sound_tasks.specs.AwaiterLaws.{awaiter-fits}
+use Rattle.sound.specs.SlotLaws.{object-slot}
 use Rattle.sound.proofs.slots.object_slots.Statement.{statement}
 use Rattle.sound.proofs.slots.object_slots.Tie as tie
 
@@ -38,10 +39,10 @@ loop-less : tie.Need-loop-less Inv-loop μ-loop
 loop-less c = omega arith
 
 loop-again : tie.Need-loop-again Inv-loop μ-loop
-loop-again c = (all-turn _ (c .before .before .before .before .before .loop .o) (sym (c .if1 .taken) ∙ c .before .slot-open .ensures ∙ ap (slot-open _ _ _) (rw (c .before .before .before .new .ensures) at (c .before .before .awaiter-at .ensures))) (c .before .before .before .before .before .loop .inv .0), omega arith)
+loop-again c = (all-turn _ (c .before .before .before .before .before .loop .o) (sym (c .if1 .taken) ∙ object-slot _ _ _ (c .before .before .before .new .ensures) (c .before .before .awaiter-at .ensures) (c .before .slot-open .ensures)) (c .before .before .before .before .before .loop .inv .0), omega arith)
 
 returns : tie.Need-returns Inv-loop μ-loop
-returns c = all-fails _ (c .before .before .before .before .before .loop .o) _ (c .before .before .before .before .loop-test .taken) (sym (c .if1 .left) ∙ c .before .slot-open .ensures ∙ ap (slot-open _ _ _) (rw (c .before .before .before .new .ensures) at (c .before .before .awaiter-at .ensures)))
+returns c = all-fails _ (c .before .before .before .before .before .loop .o) _ (c .before .before .before .before .loop-test .taken) (sym (c .if1 .left) ∙ object-slot _ _ _ (c .before .before .before .new .ensures) (c .before .before .awaiter-at .ensures) (c .before .slot-open .ensures))
 
 returns-2 : tie.Need-returns-2 Inv-loop μ-loop
 returns-2 c = all-end _ (c .before .loop .o) _ (omega arith) (c .loop-test .left) (c .before .loop .inv .0)

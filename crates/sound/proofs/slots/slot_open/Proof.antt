@@ -15,11 +15,11 @@ enum-known-w : tie.Need-enum-known-w
 enum-known-w c = search needs
 
 gather-holds-requires : tie.Need-gather-holds-requires
-gather-holds-requires c κs = (search needs, (search needs, (rw (c .before .before .before .w .given .1) at (c .before .before .before .before .before .before .before .pre .1 .1)) .0))
+gather-holds-requires c κs = (search needs, (search needs, (rw (c .before .before .before .before .w .given .1) at (c .before .before .before .before .before .before .before .before .pre .1 .1)) .0))
 
 returns : tie.Need-returns
 unfolding slot-open _and_
-returns c = rw (c .before .before .before .before .w .given .1, eq-eqb _ _ (c .before .if1 .taken)) (c .gather-holds .ensures)
+returns c = rw (c .before .before .before .before .before .w .given .1, eq-eqb _ _ (c .before .if1 .taken)) (c .gather-holds .ensures)
 
 returns-2 : tie.Need-returns-2
 unfolding slot-open
@@ -31,7 +31,7 @@ returns-3 c = rw (c .enum-told2 .given .1)
 
 returns-4 : tie.Need-returns-4
 unfolding slot-open _and_
-returns-4 c = rw (c .before .before .before .w .given .1, ne-eqb _ _ (c .if1 .left))
+returns-4 c = rw (c .before .before .before .before .w .given .1, ne-eqb _ _ (c .if1 .left))
 
 pub slot-open-spec : {M : Type 1} → statement M
 slot-open-spec =
