@@ -3,6 +3,7 @@ use asyncio::OBJECTS;
 use asyncio::OBJECTS_LEN;
 use asyncio::PLACES_LEN;
 use asyncio::TASKS_LEN;
+use asyncio::words::least;
 use libc::STDIN_FILENO;
 use libc::STDOUT_FILENO;
 use queue::ReadyQueue;
@@ -15,17 +16,10 @@ const RECORD_BYTES: usize = 3574;
 // A line has at most so many bytes (line-limit).
 const LINE_BYTES: usize = 8192;
 
-// The lesser of the two.
-fn within(n: usize, limit: usize) -> usize
-    ensures { λ r. ⌜ r ≤ limit ⌝ }
-{
-    if n < limit { n } else { limit }
-}
-
 // The bytes from `from` on, `count` of them or as many as there are, go to the front.
 fn move_up(src: &mut [u8], from: usize, count: usize) {
-    let start = within(from, src.len());
-    let n = within(count, src.len() - start);
+    let start = least(from, src.len());
+    let n = least(count, src.len() - start);
     let mut i: usize = 0;
     while i < n {
         src[i] = src[start + i];
@@ -38,11 +32,11 @@ fn move_up(src: &mut [u8], from: usize, count: usize) {
 fn refill(src: &mut [u8], from: usize, filled: usize) -> usize
     ensures { λ r. ⌜ r ≤ length (now (src .exit)) ⌝ }
 {
-    let start = within(from, filled);
-    let rest = within(filled - start, src.len());
+    let start = least(from, filled);
+    let rest = least(filled - start, src.len());
     move_up(src, start, rest);
     let got = io::read_full(STDIN_FILENO, &mut src[rest..]);
-    rest + within(got, src.len() - rest)
+    rest + least(got, src.len() - rest)
 }
 
 // The bytes read, and how many of them are used.
@@ -56,7 +50,7 @@ fn ready(src: &mut [u8], from: usize, filled: usize) -> Input
     requires { ⌜ filled ≤ length (now src) ⌝ }
     ensures { λ r. ⌜ r .filled ≤ length (now (src .exit)) ⌝ }
 {
-    if filled == src.len() && filled - within(from, filled) < RECORD_BYTES {
+    if filled == src.len() && filled - least(from, filled) < RECORD_BYTES {
         return Input {
             filled: refill(src, from, filled),
             from: 0,
@@ -69,7 +63,7 @@ fn ready(src: &mut [u8], from: usize, filled: usize) -> Input
 fn flush(out: &[u8], at: usize) -> usize
     ensures { λ r. ⌜ r ≤ length (now (out .entry)) ⌝ }
 {
-    let end = within(at, out.len());
+    let end = least(at, out.len());
     if LINE_BYTES <= out.len() - end {
         return end;
     }

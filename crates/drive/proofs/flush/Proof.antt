@@ -5,8 +5,8 @@ use borrow.Author.Needs.{needs}
 use Rattle.drive.proofs.flush.Statement.{statement}
 use Rattle.drive.proofs.flush.Tie as tie
 
-within-requires : tie.Need-within-requires
-within-requires c κs = search needs
+least-requires : tie.Need-least-requires
+least-requires c κs = search needs
 
 sub-if1 : tie.Need-sub-if1
 sub-if1 c = search needs
@@ -15,7 +15,7 @@ returns : tie.Need-returns
 returns c = search needs
 
 slice-aggregate-write-all : tie.Need-slice-aggregate-write-all
-slice-aggregate-write-all c = sym (length-take-le _ _ (c .before .before .within .ensures))
+slice-aggregate-write-all c = sym (length-take-le _ _ (omega (arith, c .before .before .least .ensures)))
 
 write-all-requires : tie.Need-write-all-requires
 write-all-requires c κs = search needs
@@ -27,7 +27,7 @@ pub flush-spec : {M : Type 1} → statement M
 flush-spec =
     tie.close
     (tie.spec
-    within-requires
+    least-requires
     sub-if1
     returns
     slice-aggregate-write-all

@@ -12,17 +12,17 @@ Inv-loop src₀ from count start n i₀ src i = (length src ≡ length src₀) �
 abbrev μ-loop : tie.MeasureT-loop
 μ-loop src₀ from count start n i₀ src i = n - i
 
-within-requires : tie.Need-within-requires Inv-loop μ-loop
-within-requires c κs = search needs
+least-requires : tie.Need-least-requires Inv-loop μ-loop
+least-requires c κs = search needs
 
-sub-within : tie.Need-sub-within Inv-loop μ-loop
-sub-within c = omega (arith, c .within .ensures)
+sub-least : tie.Need-sub-least Inv-loop μ-loop
+sub-least c = omega (arith, c .least .ensures)
 
-within-requires-2 : tie.Need-within-requires-2 Inv-loop μ-loop
-within-requires-2 c κs = search needs
+least-requires-2 : tie.Need-least-requires-2 Inv-loop μ-loop
+least-requires-2 c κs = search needs
 
 loop-holds : tie.Need-loop-holds Inv-loop μ-loop
-loop-holds c = (refl, omega arith, omega (arith, c .before .within .ensures, c .within2 .ensures))
+loop-holds c = (refl, omega arith, omega (arith, c .before .least .ensures, c .least2 .ensures))
 
 add-src : tie.Need-add-src Inv-loop μ-loop
 add-src c = omega (arith, c .before .loop .inv .0, c .before .loop .inv .1, c .before .loop .inv .2)
@@ -54,9 +54,9 @@ move-up-spec =
     (tie.spec
     Inv-loop
     μ-loop
-    within-requires
-    sub-within
-    within-requires-2
+    least-requires
+    sub-least
+    least-requires-2
     loop-holds
     add-src
     slice-read-src
