@@ -13,7 +13,7 @@ use Rattle.asyncio.specs.declared.CoroutineState.{CoroutineState}
 use Rattle.asyncio.specs.Numbers.{heap-id}
 use Rattle.machine.specs.Events.{start, value, raises, inline, runs, waits}
 use Rattle.machine.specs.Machine.{Answer, Shown}
-use Rattle.machine.specs.Cases.{Seen, seen, told, answer-of, cases}
+use Rattle.machine.specs.Cases.{Seen, seen, expected, turn-answer, cases}
 use Rattle.machine.specs.CasesHold.{no-row, cases-hold}
 use Rattle.drive_text.specs.Text.{bytes-of, digits, decimal, field, fields}
 use Rattle.drive_lines.specs.Lines.{value-text, error-text, how-text, control-text, state-text, place-text, places-text, shown-text, yes-no, answer-text, line, output}
@@ -99,10 +99,10 @@ example-text =
     bytes-of
     "1 made 0\n2 call 0\n3 made 1\n4 made 2\n5 runs 1 start 0 7 steps 1\n6 waits 1 0\n7 done\n8 runs 0 value list 2\n9 shows gather completed 3 plain 40 plain 5 plain 40\n10 finished plain 9\n"
 
-example-told : output 1 (told (getD cases 0 no-row) .answers) ≡ example-text
-unfolding prints cases told answer-of no-row
-example-told = refl
+example-expected : output 1 (expected (getD cases 0 no-row) .answers) ≡ example-text
+unfolding prints cases expected turn-answer no-row
+example-expected = refl
 
 -- The machine's answers to the ten records of document 01's example print as document 01's whole output.
 pub example-output : output 1 (seen (getD cases 0 no-row) .answers) ≡ example-text
-example-output = ap (λ (x : Seen). output 1 (x .answers)) (cases-hold 0) ∙ example-told
+example-output = ap (λ (x : Seen). output 1 (x .answers)) (cases-hold 0) ∙ example-expected

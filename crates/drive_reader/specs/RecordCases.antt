@@ -21,8 +21,8 @@ unfoldable pub seen : Case → Parsed
 seen c = parse (c .bytes) (c .at)
 
 -- what the row says
-unfoldable pub told : Case → Parsed
-told c = c .reads
+unfoldable pub expected : Case → Parsed
+expected c = c .reads
 
 -- ---- short names for the rows
 

@@ -1,4 +1,4 @@
--- The frames of a commit in two arrays and a depth, and what a commit tells.
+-- The frames of a commit in two arrays and a depth, and what a commit gives.
 use mathlib.Core.Path.{_≡_}
 use mathlib.Core.List.{List, [], _∷_}
 use Prim.Native.Nat.{ℕ, zero, suc, _<_}
@@ -25,20 +25,20 @@ below gs ns (suc d) = frame (getD gs d 0) (getD ns d 0) ∷ below gs ns d
 abbrev pub GathersFit : List ℕ → ℕ → Type 0
 GathersFit gs d = (i : ℕ) → i < d → getD gs i 0 < object-limit
 
--- What a commit tells: the store after it, what the await sees, and the number of commit steps. (The machine counts the gathers
+-- What a commit gives: the store after it, what the await sees, and the number of commit steps. (The machine counts the gathers
 -- opened and settled too: no code does.)
-pub record Told : Type 0 where
+pub record CommitResult : Type 0 where
   pub store : Store
   pub poll : Poll
   pub steps : ℕ
 
 -- the three
-abbrev pub tells : Store → Poll → ℕ → Told
-tells s p n = record { store = s; poll = p; steps = n }
+abbrev pub commit-result : Store → Poll → ℕ → CommitResult
+commit-result s p n = record { store = s; poll = p; steps = n }
 
--- what the machine's commit tells
-abbrev pub told : machine.Committed → Told
-told r = record { store = r .store; poll = r .poll; steps = r .steps }
+-- what the machine's commit gives
+abbrev pub result-of : machine.Committed → CommitResult
+result-of r = record { store = r .store; poll = r .poll; steps = r .steps }
 
 -- a commit that began as M goes on from frame f, with the frames fs below it, after n steps: for what had happened then there is what
 -- has happened now, and there are the two counts that no code has
@@ -59,4 +59,4 @@ Unwinds objects g gathers depth error =
 -- The call commits, as f does.
 abbrev pub Commits : Slice → Slice → Slice → ReadyQueue → (Store → machine.Committed) → Committed → Type 0
 Commits tasks objects places queue f r =
-    Does (λ x. x .store .log) tasks objects places queue (r .queue) (λ s. tells s (poll-of (r .poll)) (r .steps)) (λ s. told (f s))
+    Does (λ x. x .store .log) tasks objects places queue (r .queue) (λ s. commit-result s (poll-of (r .poll)) (r .steps)) (λ s. result-of (f s))

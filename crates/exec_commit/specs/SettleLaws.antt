@@ -14,7 +14,7 @@ use Rattle.queue.specs.declared.ReadyQueue.{ReadyQueue}
 use Rattle.machine.specs.Store.{LogEntry, store-of, object, put-object}
 use Rattle.machine.specs.Scheduler.{as-awaited}
 use Rattle.machine.specs.Commit.{ready, pending, gives, open-place, fill-place, with-state, set-gather, settle-as, settle-gather-commit, resume-in, resume-as, resume-after-child, unwind}
-use Rattle.exec_poll.specs.Polls.{poll-of, awaited-of, option-awaited}
+use Rattle.exec_poll.specs.Polls.{poll-of, awaited-gather-of, option-awaited}
 use Rattle.exec_commit.specs.Steps.{frame}
 use Rattle.exec_commit.specs.Frames.{below}
 use Rattle.exec_poll.specs.declared.awaited.AwaitedGather.{AwaitedGather}
@@ -52,7 +52,7 @@ module _ (ts os ps : List ℕ) (q : ReadyQueue) (l : List LogEntry) (g : ℕ) (a
     resume-none f = rw (← e, f)
 
     module _ (w : AwaitedGather) (f : a ≡ OptionAwaited.Some w) where
-      pub resume-ready : (v : Value) → p ≡ Poll.Ready v → {rs : List ℕ} → store-of ts os rs q l ≡ fill-place (store-of ts os ps q l) (awaited-of w) i v
+      pub resume-ready : (v : Value) → p ≡ Poll.Ready v → {rs : List ℕ} → store-of ts os rs q l ≡ fill-place (store-of ts os ps q l) (awaited-gather-of w) i v
           → store-of ts os rs q l ≡ resume-after-child (frame g i) (gives (store-of ts os ps q l) (poll-of p))
       unfolding resume-after-child resume-as resume-in object
       resume-ready v k b = rw (← e, f, k, b)
@@ -61,7 +61,7 @@ module _ (ts os ps : List ℕ) (q : ReadyQueue) (l : List LogEntry) (g : ℕ) (a
       unfolding resume-after-child resume-as resume-in object
       resume-raised x k = rw (← e, f, k)
 
-      pub resume-pending : p ≡ Poll.Pending → {us : List ℕ} → store-of ts us ps q l ≡ open-place (store-of ts os ps q l) g (awaited-of w) i
+      pub resume-pending : p ≡ Poll.Pending → {us : List ℕ} → store-of ts us ps q l ≡ open-place (store-of ts os ps q l) g (awaited-gather-of w) i
           → store-of ts us ps q l ≡ resume-after-child (frame g i) (gives (store-of ts os ps q l) (poll-of p))
       unfolding resume-after-child resume-as resume-in object
       resume-pending k b = rw (← e, f, k, b)

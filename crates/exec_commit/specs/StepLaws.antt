@@ -24,13 +24,13 @@ use Rattle.machine.specs.Commit as machine
 use Rattle.machine_laws.specs.Views.{Sized}
 use Rattle.machine_laws.specs.DeliveryLaws.{absurd-some, awaited-fits}
 use Rattle.machine_laws.specs.CommitLaws.{same-kinds-refl, awaited-count, StopKeeps, step-item-kinds}
-use Rattle.exec_poll.specs.Polls.{poll-of, awaited-of, option-awaited, Itemed, with-item, itemed, item-at}
+use Rattle.exec_poll.specs.Polls.{poll-of, awaited-gather-of, option-awaited, Itemed, with-item, itemed, item-at}
 use Rattle.exec_commit.specs.Steps.{Goes, with-bit, stepped, step-at, stopped, stop-log, WalksOn, frame}
 use Rattle.exec_poll.specs.declared.awaited.AwaitedGather.{AwaitedGather}
 use Rattle.exec_poll.specs.declared.awaited.OptionAwaited.{OptionAwaited}
 use Rattle.exec_poll.specs.declared.item.Poll.{Poll}
 use Rattle.exec_poll.specs.declared.item.ItemPoll.{ItemPoll}
-use Rattle.exec_commit.specs.declared.step.Step.{Step}
+use Rattle.exec_commit.specs.declared.step.ItemStep.{ItemStep}
 use Rattle.exec_commit.specs.declared.step.Stop.{Stop}
 
 -- ---- a place is opened or filled
@@ -38,28 +38,28 @@ use Rattle.exec_commit.specs.declared.step.Stop.{Stop}
 module _ (ts os ps : List ℕ) (q : ReadyQueue) (l : List LogEntry) (w : AwaitedGather) (i : ℕ) where
   pub place-opened : (g : ℕ) {m : ℕ} → m ≡ with-bit (w .«open_places») i
       → {us : List ℕ} → us ≡ object-put os g (Object.GatherFuture (w .first) (w .count) (GatherState.Awaited (w .awaiter) m))
-      → store-of ts us ps q l ≡ open-place (store-of ts os ps q l) g (awaited-of w) i
+      → store-of ts us ps q l ≡ open-place (store-of ts os ps q l) g (awaited-gather-of w) i
   unfolding open-place put-object
   place-opened g e p = rw (p, e)
 
   pub place-filled : (v : Value) {h : HeapId} → h ≡ place-at ps (w .first + i) .item
       → {rs : List ℕ} → rs ≡ place-put ps (w .first + i) (record { item = h; result = OptionValue.Some v })
-      → store-of ts os rs q l ≡ fill-place (store-of ts os ps q l) (awaited-of w) i v
+      → store-of ts os rs q l ≡ fill-place (store-of ts os ps q l) (awaited-gather-of w) i v
   unfolding fill-place put-place place
   place-filled v e p = rw (p, e)
 
   module _ (g : ℕ) {p : Poll} (go : Goes) where
-    pub put-ready : (v : Value) → p ≡ Poll.Ready v → {rs : List ℕ} → store-of ts os rs q l ≡ fill-place (store-of ts os ps q l) (awaited-of w) i v
-        → go (store-of ts os rs q l) ≡ put-polled g (awaited-of w) i (store-of ts os ps q l) (poll-of p) go
+    pub put-ready : (v : Value) → p ≡ Poll.Ready v → {rs : List ℕ} → store-of ts os rs q l ≡ fill-place (store-of ts os ps q l) (awaited-gather-of w) i v
+        → go (store-of ts os rs q l) ≡ put-polled g (awaited-gather-of w) i (store-of ts os ps q l) (poll-of p) go
     unfolding put-polled
     put-ready v e f = rw (e, ← f)
 
-    pub put-raised : (x : Error) → p ≡ Poll.Raised x → at-error (store-of ts os ps q l) x ≡ put-polled g (awaited-of w) i (store-of ts os ps q l) (poll-of p) go
+    pub put-raised : (x : Error) → p ≡ Poll.Raised x → at-error (store-of ts os ps q l) x ≡ put-polled g (awaited-gather-of w) i (store-of ts os ps q l) (poll-of p) go
     unfolding put-polled
     put-raised x e = rw e
 
-    pub put-pending : p ≡ Poll.Pending → {us : List ℕ} → store-of ts us ps q l ≡ open-place (store-of ts os ps q l) g (awaited-of w) i
-        → go (store-of ts us ps q l) ≡ put-polled g (awaited-of w) i (store-of ts os ps q l) (poll-of p) go
+    pub put-pending : p ≡ Poll.Pending → {us : List ℕ} → store-of ts us ps q l ≡ open-place (store-of ts os ps q l) g (awaited-gather-of w) i
+        → go (store-of ts us ps q l) ≡ put-polled g (awaited-gather-of w) i (store-of ts os ps q l) (poll-of p) go
     unfolding put-polled
     put-pending e f = rw (e, ← f)
 
@@ -69,7 +69,7 @@ module _ (ts os ps : List ℕ) (q : ReadyQueue) (l : List LogEntry) (w : Awaited
 pub awaited-range : (os : List ℕ) (g : ℕ) (a : OptionAwaited) (w : AwaitedGather) → option-awaited a ≡ as-awaited (object-at os g) → a ≡ OptionAwaited.Some w
     → PlacesFit (w .first) (w .count)
 unfolding object
-awaited-range os g a w e f = awaited-fits (store-of [] os [] (record { len = 0; ids = [] }) []) g (awaited-of w) (sym (rw f at e)) .0
+awaited-range os g a w e f = awaited-fits (store-of [] os [] (record { len = 0; ids = [] }) []) g (awaited-gather-of w) (sym (rw f at e)) .0
 
 -- a place of a gather, by the count in its row
 pub record InPlace (w : AwaitedGather) (i : ℕ) : Type 0 where
@@ -79,7 +79,7 @@ pub record InPlace (w : AwaitedGather) (i : ℕ) : Type 0 where
 pub place-range : (os : List ℕ) (g : ℕ) (a : OptionAwaited) (w : AwaitedGather) (i : ℕ) → option-awaited a ≡ as-awaited (object-at os g) → a ≡ OptionAwaited.Some w
     → i < count-of (object-at os g) → InPlace w i
 place-range os g a w i e f h =
-    let n : w .count ≡ count-of (object-at os g) = awaited-count (object-at os g) (awaited-of w) (sym (rw f at e)) in
+    let n : w .count ≡ count-of (object-at os g) = awaited-count (object-at os g) (awaited-gather-of w) (sym (rw f at e)) in
     let r : PlacesFit (w .first) (w .count) = awaited-range os g a w e f in
     record { in-places = omega (arith, r .within); in-items = omega (arith, r .at-most) }
 
@@ -99,14 +99,14 @@ itemed-polled s u p (polled r) e = ap polled (by (r .store) (r .poll) e)
 itemed-polled s u p nested e = absurd-some (sym (ap (λ (y : Itemed). y .poll) e))
 
 -- the log of a step is that of its store
-stepped-log : (s : Store) (i : ℕ) (x : Step) → stop-log (stepped s i x at-end) ≡ s .log
+stepped-log : (s : Store) (i : ℕ) (x : ItemStep) → stop-log (stepped s i x at-end) ≡ s .log
 unfolding stepped
-stepped-log s i Step.Next = refl
-stepped-log s i Step.End = refl
-stepped-log s i (Step.Nested o) = refl
-stepped-log s i (Step.Raised e) = refl
+stepped-log s i ItemStep.Next = refl
+stepped-log s i ItemStep.End = refl
+stepped-log s i (ItemStep.Nested o) = refl
+stepped-log s i (ItemStep.Raised e) = refl
 
-own-step : (us vs rs : List ℕ) (r : ReadyQueue) (k : List LogEntry) (i : ℕ) (x : Step) (m : Goes → machine.Stop)
+own-step : (us vs rs : List ℕ) (r : ReadyQueue) (k : List LogEntry) (i : ℕ) (x : ItemStep) (m : Goes → machine.Stop)
     → ((go : Goes) → stepped (store-of us vs rs r k) i x go ≡ m go) → (go : Goes) → stepped (store-of us vs rs r (stop-log (m at-end))) i x go ≡ m go
 own-step us vs rs r k i x m h go =
     let e : k ≡ stop-log (m at-end) = sym (stepped-log (store-of us vs rs r k) i x) ∙ ap stop-log (h at-end) in
@@ -117,32 +117,32 @@ module _ (ts os ps : List ℕ) (q : ReadyQueue) (l : List LogEntry) (g i : ℕ) 
   here = store-of ts os ps q l
 
   -- the gather is not awaited
-  pub step-none : a ≡ OptionAwaited.None → (go : Goes) → stepped (store-of ts os ps q (stop-log (step-at here g i at-end))) i Step.End go ≡ step-at here g i go
+  pub step-none : a ≡ OptionAwaited.None → (go : Goes) → stepped (store-of ts os ps q (stop-log (step-at here g i at-end))) i ItemStep.End go ≡ step-at here g i go
   unfolding step-item object stepped
-  step-none f = own-step ts os ps q l i Step.End (λ go. step-at here g i go) (λ go. rw (← e, f))
+  step-none f = own-step ts os ps q l i ItemStep.End (λ go. step-at here g i go) (λ go. rw (← e, f))
 
   module _ (w : AwaitedGather) (f : a ≡ OptionAwaited.Some w) {o : HeapId} (n : o ≡ place-at ps (w .first + i) .item)
       {us vs : List ℕ} {r : ReadyQueue} (x : ItemPoll)
-      (h : with-item (store-of us vs ps r (item-at here g (awaited-of w) (o .0) .store .log)) x ≡ item-at here g (awaited-of w) (o .0)) where
+      (h : with-item (store-of us vs ps r (item-at here g (awaited-gather-of w) (o .0) .store .log)) x ≡ item-at here g (awaited-gather-of w) (o .0)) where
     abbrev there : List LogEntry
-    there = item-at here g (awaited-of w) (o .0) .store .log
+    there = item-at here g (awaited-gather-of w) (o .0) .store .log
 
     -- a nested gather
     pub step-nested : x ≡ ItemPoll.Nested → (go : Goes)
-        → stepped (store-of us vs ps r (stop-log (step-at here g i at-end))) i (Step.Nested o) go ≡ step-at here g i go
+        → stepped (store-of us vs ps r (stop-log (step-at here g i at-end))) i (ItemStep.Nested o) go ≡ step-at here g i go
     unfolding step-item object place put-item stepped
     step-nested y =
-        let k : (item here g (awaited-of w) (o .0) ≡ nested) × (here ≡ store-of us vs ps r there) = itemed-nested here (store-of us vs ps r there) (item here g (awaited-of w) (o .0)) (rw y at h) in
-        own-step us vs ps r there i (Step.Nested o) (λ go. step-at here g i go) (λ go. rw (← e, f, ← n, k .0, ← k .1))
+        let k : (item here g (awaited-gather-of w) (o .0) ≡ nested) × (here ≡ store-of us vs ps r there) = itemed-nested here (store-of us vs ps r there) (item here g (awaited-gather-of w) (o .0)) (rw y at h) in
+        own-step us vs ps r there i (ItemStep.Nested o) (λ go. step-at here g i go) (λ go. rw (← e, f, ← n, k .0, ← k .1))
 
     -- what was polled is put into its place
-    pub step-polled : (p : Poll) → x ≡ ItemPoll.Polled p → (vs′ rs : List ℕ) (y : Step)
-        → ((k : List LogEntry) (go : Goes) → stepped (store-of us vs′ rs r k) i y go ≡ put-polled g (awaited-of w) i (store-of us vs ps r k) (poll-of p) go)
+    pub step-polled : (p : Poll) → x ≡ ItemPoll.Polled p → (vs′ rs : List ℕ) (y : ItemStep)
+        → ((k : List LogEntry) (go : Goes) → stepped (store-of us vs′ rs r k) i y go ≡ put-polled g (awaited-gather-of w) i (store-of us vs ps r k) (poll-of p) go)
         → (go : Goes) → stepped (store-of us vs′ rs r (stop-log (step-at here g i at-end))) i y go ≡ step-at here g i go
     unfolding step-item object place put-item
     step-polled p z vs′ rs y b =
-        let k : item here g (awaited-of w) (o .0) ≡ polled (gives (store-of us vs ps r there) (poll-of p)) =
-        itemed-polled here (store-of us vs ps r there) (poll-of p) (item here g (awaited-of w) (o .0)) (rw z at h) in
+        let k : item here g (awaited-gather-of w) (o .0) ≡ polled (gives (store-of us vs ps r there) (poll-of p)) =
+        itemed-polled here (store-of us vs ps r there) (poll-of p) (item here g (awaited-gather-of w) (o .0)) (rw z at h) in
         own-step us vs′ rs r there i y (λ go. step-at here g i go) (λ go. rw (← e, f, ← n, k) (b there go))
 
 -- ---- the items of a gather
@@ -173,7 +173,7 @@ module _ (M : List LogEntry → machine.Stop) (ts os ps : List ℕ) (q : ReadyQu
       let k : n - i ≡ 0 = omega arith in
       own-stop ts os ps q (c .log l) Stop.End (M l) (rw k at (c .walks-on l))
 
-  module _ (h : i < n) (us vs rs : List ℕ) (r : ReadyQueue) (x : Step)
+  module _ (h : i < n) (us vs rs : List ℕ) (r : ReadyQueue) (x : ItemStep)
       (s : (l : List LogEntry) (go : Goes) → stepped (store-of us vs rs r (stop-log (step-at (store-of ts os ps q l) g i at-end))) i x go ≡ step-at (store-of ts os ps q l) g i go) where
     abbrev log-now : List LogEntry → List LogEntry
     log-now l = stop-log (step-at (store-of ts os ps q (c .log l)) g i at-end)
@@ -185,27 +185,27 @@ module _ (M : List LogEntry → machine.Stop) (ts os ps : List ℕ) (q : ReadyQu
         let k : n - i ≡ suc (n - (i + 1)) = omega arith in
         s (c .log l) (λ y. step-items (n - (i + 1)) y g (i + 1)) ∙ (rw k at (c .walks-on l))
 
-    pub walk-turns : x ≡ Step.Next → WalksOn M us vs rs r g (i + 1) n
+    pub walk-turns : x ≡ ItemStep.Next → WalksOn M us vs rs r g (i + 1) n
     unfolding stepped
     walk-turns e = record { log = log-now; walks-on = λ l. rw e at (turns l) }
 
-    pub walk-cut : x ≡ Step.End → (l : List LogEntry) → stopped (store-of us vs rs r (stop-log (M l))) Stop.End ≡ M l
+    pub walk-cut : x ≡ ItemStep.End → (l : List LogEntry) → stopped (store-of us vs rs r (stop-log (M l))) Stop.End ≡ M l
     unfolding stepped stopped
     walk-cut e l = own-stop us vs rs r (log-now l) Stop.End (M l) (rw e at (turns l))
 
-    pub walk-nested : (o : HeapId) → x ≡ Step.Nested o → (l : List LogEntry) → stopped (store-of us vs rs r (stop-log (M l))) (Stop.Nested i o) ≡ M l
+    pub walk-nested : (o : HeapId) → x ≡ ItemStep.Nested o → (l : List LogEntry) → stopped (store-of us vs rs r (stop-log (M l))) (Stop.Nested i o) ≡ M l
     unfolding stepped stopped
     walk-nested o e l = own-stop us vs rs r (log-now l) (Stop.Nested i o) (M l) (rw e at (turns l))
 
-    pub walk-raised : (y : Error) → x ≡ Step.Raised y → (l : List LogEntry) → stopped (store-of us vs rs r (stop-log (M l))) (Stop.Raised y) ≡ M l
+    pub walk-raised : (y : Error) → x ≡ ItemStep.Raised y → (l : List LogEntry) → stopped (store-of us vs rs r (stop-log (M l))) (Stop.Raised y) ≡ M l
     unfolding stepped stopped
     walk-raised y e l = own-stop us vs rs r (log-now l) (Stop.Raised y) (M l) (rw e at (turns l))
 
 -- an item leaves its gather as many places
-pub walk-counts : (ts os ps : List ℕ) (q : ReadyQueue) (g i : ℕ) (us vs rs : List ℕ) (r : ReadyQueue) (x : Step)
+pub walk-counts : (ts os ps : List ℕ) (q : ReadyQueue) (g i : ℕ) (us vs rs : List ℕ) (r : ReadyQueue) (x : ItemStep)
     → length ts ≡ tasks-length → length os ≡ objects-length → length ps ≡ places-length → g < object-limit
     → ((l : List LogEntry) (go : Goes) → stepped (store-of us vs rs r (stop-log (step-at (store-of ts os ps q l) g i at-end))) i x go ≡ step-at (store-of ts os ps q l) g i go)
-    → x ≡ Step.Next → count-of (object-at vs g) ≡ count-of (object-at os g)
+    → x ≡ ItemStep.Next → count-of (object-at vs g) ≡ count-of (object-at os g)
 unfolding StopKeeps object stepped
 walk-counts ts os ps q g i us vs rs r x a b d h s e =
     let z : Sized (store-of ts os ps q []) = record { tasks-sized = a; objects-sized = b; places-sized = d } in

@@ -9,7 +9,7 @@ use Rattle.machine.specs.Scheduler.{bit, as-awaited}
 use Rattle.machine.specs.Commit.{at-end, at-nested, at-error, step-item, step-items, Frame}
 use Rattle.machine.specs.Commit as machine
 use Rattle.contract.specs.Contract.{Slice, kept, before, after, Does}
-use Rattle.exec_commit.specs.declared.step.Step.{Step}
+use Rattle.exec_commit.specs.declared.step.ItemStep.{ItemStep}
 use Rattle.exec_commit.specs.declared.step.SteppedItem.{SteppedItem}
 use Rattle.exec_commit.specs.declared.step.Stop.{Stop}
 use Rattle.exec_commit.specs.declared.step.Stopped.{Stopped}
@@ -23,11 +23,11 @@ abbrev pub Goes : Type 0
 Goes = Store → machine.Stop
 
 -- after the item in place i: `go` on with the store, or stopped there
-unfoldable pub stepped : Store → ℕ → Step → Goes → machine.Stop
-stepped s i Step.Next go = go s
-stepped s i Step.End go = at-end s
-stepped s i (Step.Nested o) go = at-nested s i (o .0)
-stepped s i (Step.Raised e) go = at-error s e
+unfoldable pub stepped : Store → ℕ → ItemStep → Goes → machine.Stop
+stepped s i ItemStep.Next go = go s
+stepped s i ItemStep.End go = at-end s
+stepped s i (ItemStep.Nested o) go = at-nested s i (o .0)
+stepped s i (ItemStep.Raised e) go = at-error s e
 
 -- the machine's item in place i of gather g, then `go` on
 abbrev pub step-at : Store → ℕ → ℕ → Goes → machine.Stop
@@ -57,7 +57,7 @@ frame g i = record { gather = g; next = i }
 -- ---- what a call does
 
 -- The call puts what the item of place i gave, as f does, however the walk goes on.
-abbrev pub StepsPlace : Slice → Slice → ℕ → (Store → Goes → machine.Stop) → Step → Type 0
+abbrev pub StepsPlace : Slice → Slice → ℕ → (Store → Goes → machine.Stop) → ItemStep → Type 0
 StepsPlace objects places i f r =
     (ts : List ℕ) (q : ReadyQueue) (l : List LogEntry) (go : Goes) →
     stepped (after (kept ts) objects places q l) i r go ≡ f (before (kept ts) objects places q l) go

@@ -28,7 +28,7 @@ use Rattle.machine_laws.specs.Views.{Sized}
 use Rattle.machine_laws.specs.Statements.{SameKinds, Placed, StopBelow, commit-rest}
 use Rattle.machine_laws.specs.CommitLaws.{same-kinds-then, same-pending-count, StopKeeps, step-kinds, step-below, set-counts, settle-kinds, resume-kinds, open-falls, placed-same, pending-most, commit-begins, commit-turns}
 use Rattle.exec_commit.specs.Steps.{stopped, stop-log, frame}
-use Rattle.exec_commit.specs.Frames.{below, GathersFit, tells, told, GoesOn}
+use Rattle.exec_commit.specs.Frames.{below, GathersFit, commit-result, result-of, GoesOn}
 use Rattle.exec_commit.specs.declared.step.Stop.{Stop}
 
 -- ---- the frames in the arrays
@@ -74,11 +74,11 @@ pub begins-few : (os : List ℕ) → 0 + (2 * pending-in os + 0) ≤ 512
 begins-few os = omega (arith, pending-most os)
 
 -- the commit of the root is that of its first frame
-pub tree-told : (ts os ps : List ℕ) (q : ReadyQueue) (g : ℕ) (a : Awaiter) (l : List LogEntry) {os′ : List ℕ}
+pub tree-result : (ts os ps : List ℕ) (q : ReadyQueue) (g : ℕ) (a : Awaiter) (l : List LogEntry) {os′ : List ℕ}
     → store-of ts os′ ps q l ≡ open-gather-commit (store-of ts os ps q l) g a → (us vs rs : List ℕ) (r : ReadyQueue) (p : Poll) (n : ℕ)
-    → tells (store-of us vs rs r (commit-rest (store-of ts os′ ps q l) (frame g 0) [] 0 1 0 .store .log)) p n ≡ told (commit-rest (store-of ts os′ ps q l) (frame g 0) [] 0 1 0)
-    → tells (store-of us vs rs r (commit-gather-tree (store-of ts os ps q l) g a .store .log)) p n ≡ told (commit-gather-tree (store-of ts os ps q l) g a)
-tree-told ts os ps q g a l {os′} e us vs rs r p n h =
+    → commit-result (store-of us vs rs r (commit-rest (store-of ts os′ ps q l) (frame g 0) [] 0 1 0 .store .log)) p n ≡ result-of (commit-rest (store-of ts os′ ps q l) (frame g 0) [] 0 1 0)
+    → commit-result (store-of us vs rs r (commit-gather-tree (store-of ts os ps q l) g a .store .log)) p n ≡ result-of (commit-gather-tree (store-of ts os ps q l) g a)
+tree-result ts os ps q g a l {os′} e us vs rs r p n h =
     let k : commit-rest (store-of ts os′ ps q l) (frame g 0) [] 0 1 0 ≡ commit-gather-tree (store-of ts os ps q l) g a =
     ap (λ (s : Store). commit-rest s (frame g 0) [] 0 1 0) e ∙ sym (commit-begins (store-of ts os ps q l) g a) in
     rw k at h
@@ -234,7 +234,7 @@ module _ (ts os ps : List ℕ) (q : ReadyQueue) (g i : ℕ) (a : length ts ≡ t
 
     -- the root was settled
     pub tree-root : x ≡ Stop.End → d ≡ 0 → (vs₁ : List ℕ) (p : Poll) → ((l : List LogEntry) → gives (store-of us vs₁ rs r l) p ≡ settle-gather-commit (store-of us vs rs r l) g)
-        → (l : List LogEntry) → tells (store-of us vs₁ rs r (M l .store .log)) p (n + 1) ≡ told (M l)
+        → (l : List LogEntry) → commit-result (store-of us vs₁ rs r (M l .store .log)) p (n + 1) ≡ result-of (M l)
     unfolding turn stopped below
     tree-root e z vs₁ p f l =
         let k : n + 1 ≡ suc n = omega arith in
@@ -259,7 +259,7 @@ module _ (ts os ps : List ℕ) (q : ReadyQueue) (g i : ℕ) (a : length ts ≡ t
     -- the commit fails
     pub tree-raised : (y : Error) → x ≡ Stop.Raised y → (vs₁ : List ℕ)
         → ((l : List LogEntry) → store-of us vs₁ rs r l ≡ unwind (store-of us vs rs r l) (frame g i ∷ below gs ns d) y)
-        → (l : List LogEntry) → tells (store-of us vs₁ rs r (M l .store .log)) (raised y) (n + 1) ≡ told (M l)
+        → (l : List LogEntry) → commit-result (store-of us vs₁ rs r (M l .store .log)) (raised y) (n + 1) ≡ result-of (M l)
     unfolding turn stopped
     tree-raised y e vs₁ p l =
         let k : n + 1 ≡ suc n = omega arith in

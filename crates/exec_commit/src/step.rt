@@ -19,12 +19,12 @@ ghost use Rattle.asyncio.specs.Limits.{object-limit, item-limit, place-limit};
 ghost use Rattle.asyncio.specs.Parts.{count-of};
 ghost use Rattle.rows.specs.Tables.{object-at};
 ghost use Rattle.machine.specs.Commit.{open-place, fill-place, put-polled, step-gather-commit};
-ghost use Rattle.exec_poll.specs.Polls.{poll-of, awaited-of};
+ghost use Rattle.exec_poll.specs.Polls.{poll-of, awaited-gather-of};
 ghost use Rattle.exec_commit.specs.Steps.{with-bit, step-at, frame, StepsPlace, StepsTo, StopsAt};
 ghost use Rattle.contract.specs.Contract.{ObjectsLength, PlacesLength, LengthsAnd, LengthsAnd₂, ChangesObjects, ChangesPlaces};
 
 // How a walk stands after an item: it goes on, or it stops because the gather is not awaited, at a nested gather, at an error.
-pub enum Step {
+pub enum ItemStep {
     Next,
     End,
     Nested(HeapId),
@@ -34,7 +34,7 @@ pub enum Step {
 // The queue after an item, and how the walk stands.
 pub struct SteppedItem {
     pub queue: ReadyQueue,
-    pub step: Step,
+    pub step: ItemStep,
 }
 
 // Where the walk through a gather's items stopped: at the end, at a nested gather in place `at`, at an error.
@@ -64,7 +64,7 @@ fn with_bit(open_places: u32, i: usize) -> u32
 // Place `i` of gather `g`, which is `w`, is open.
 pub(crate) fn open_place(objects: &mut [u64], g: HeapId, w: AwaitedGather, i: usize)
     requires { ⌜ ObjectsLength objects × (g .0 < object-limit) × (i < item-limit) ⌝ }
-    ensures { λ _. ⌜ ChangesObjects objects (λ s. open-place s (g .0) (awaited-of w) i) ⌝ }
+    ensures { λ _. ⌜ ChangesObjects objects (λ s. open-place s (g .0) (awaited-gather-of w) i) ⌝ }
 {
     let awaiter = w.awaiter;
     let open_places = with_bit(w.open_places, i);
@@ -85,7 +85,7 @@ pub(crate) fn open_place(objects: &mut [u64], g: HeapId, w: AwaitedGather, i: us
 // Place `i` of the gather `w` has a value.
 pub(crate) fn fill_place(places: &mut [u64], w: AwaitedGather, i: usize, value: Value)
     requires { ⌜ PlacesLength places × (w .first + i < place-limit) ⌝ }
-    ensures { λ _. ⌜ ChangesPlaces places (λ s. fill-place s (awaited-of w) i value) ⌝ }
+    ensures { λ _. ⌜ ChangesPlaces places (λ s. fill-place s (awaited-gather-of w) i value) ⌝ }
 {
     let p = w.first as usize + i;
     let item = rows::parts::item_at(places, p);
@@ -107,21 +107,21 @@ fn put_polled(
     w: AwaitedGather,
     i: usize,
     poll: Poll,
-) -> Step
+) -> ItemStep
     requires { ⌜ ObjectsLength objects × PlacesLength places × (g .0 < object-limit)
         × (i < item-limit) × (w .first + i < place-limit) ⌝ }
     ensures { λ r. ⌜ StepsPlace objects places i
-        (λ s go. put-polled (g .0) (awaited-of w) i s (poll-of poll) go) r ⌝ }
+        (λ s go. put-polled (g .0) (awaited-gather-of w) i s (poll-of poll) go) r ⌝ }
 {
     match poll {
         Poll::Ready(v) => {
             fill_place(places, w, i, v);
-            Step::Next
+            ItemStep::Next
         }
-        Poll::Raised(e) => Step::Raised(e),
+        Poll::Raised(e) => ItemStep::Raised(e),
         Poll::Pending => {
             open_place(objects, g, w, i);
-            Step::Next
+            ItemStep::Next
         }
     }
 }
@@ -143,7 +143,7 @@ fn step_item(
     match a {
         OptionAwaited::None => SteppedItem {
             queue,
-            step: Step::End,
+            step: ItemStep::End,
         },
         OptionAwaited::Some(w) => {
             let o = rows::parts::item_at(places, w.first as usize + i);
@@ -153,7 +153,7 @@ fn step_item(
             match polled {
                 ItemPoll::Nested => SteppedItem {
                     queue: q,
-                    step: Step::Nested(o),
+                    step: ItemStep::Nested(o),
                 },
                 ItemPoll::Polled(poll) => {
                     let step = put_polled(objects, places, g, w, i, poll);
@@ -185,20 +185,20 @@ pub(crate) fn step_gather_commit(
         let step = r.step;
         q = r.queue;
         match step {
-            Step::Next => i += 1,
-            Step::End => {
+            ItemStep::Next => i += 1,
+            ItemStep::End => {
                 return Stopped {
                     queue: q,
                     stop: Stop::End,
                 };
             }
-            Step::Nested(o) => {
+            ItemStep::Nested(o) => {
                 return Stopped {
                     queue: q,
                     stop: Stop::Nested { at: i, item: o },
                 };
             }
-            Step::Raised(e) => {
+            ItemStep::Raised(e) => {
                 return Stopped {
                     queue: q,
                     stop: Stop::Raised(e),

@@ -22,7 +22,7 @@ use Rattle.machine.specs.Commit.{Polled, gives, await-external, commit-gather-t
 use Rattle.machine.specs.Events as machine
 use Rattle.machine.specs.Events.{Switched, Awaited, raises, resume-next, activate, stays, go-on, await-coroutine, await-external-future, await-gather, await-object, exec-get-awaitable}
 use Rattle.exec_poll.specs.Polls.{poll-of}
-use Rattle.exec_commit.specs.Frames.{Told, tells, told}
+use Rattle.exec_commit.specs.Frames.{CommitResult, commit-result, result-of}
 use Rattle.exec_poll.specs.declared.item.Poll.{Poll}
 use Rattle.exec_switch.specs.Control.{switched-of, awaited-of}
 use Rattle.exec_switch.specs.LogLaws.{same-await}
@@ -85,7 +85,7 @@ module _ (ts os ps : List ℕ) (q : ReadyQueue) (l : List LogEntry) (t : TaskId)
   -- ---- await_gather_future
 
   pub gather-commits : (s : GatherState) → s ≡ GatherState.Pending → {ts₁ os₁ ps₁ : List ℕ} {q₁ : ReadyQueue} (p : Poll) (m : ℕ)
-      → tells (store-of ts₁ os₁ ps₁ q₁ (commit-gather-tree here (o .0) (Awaiter.Task t) .store .log)) (poll-of p) m ≡ told (commit-gather-tree here (o .0) (Awaiter.Task t))
+      → commit-result (store-of ts₁ os₁ ps₁ q₁ (commit-gather-tree here (o .0) (Awaiter.Task t) .store .log)) (poll-of p) m ≡ result-of (commit-gather-tree here (o .0) (Awaiter.Task t))
       → {ts′ os′ : List ℕ} {q′ : ReadyQueue} (k : Control) (n : ℕ)
       → awaited-of (store-of ts′ os′ ps₁ q′ (go-on (t .0) (o .0) m (store-of ts₁ os₁ ps₁ q₁ (commit-gather-tree here (o .0) (Awaiter.Task t) .store .log)) (poll-of p) .store .log)) k n
       ≡ go-on (t .0) (o .0) m (store-of ts₁ os₁ ps₁ q₁ (commit-gather-tree here (o .0) (Awaiter.Task t) .store .log)) (poll-of p)
@@ -97,7 +97,7 @@ module _ (ts os ps : List ℕ) (q : ReadyQueue) (l : List LogEntry) (t : TaskId)
 
       goes : go-on (t .0) (o .0) (commit-gather-tree here (o .0) (Awaiter.Task t) .steps) (commit-gather-tree here (o .0) (Awaiter.Task t) .store) (commit-gather-tree here (o .0) (Awaiter.Task t) .poll)
           ≡ go-on (t .0) (o .0) m (store-of ts₁ os₁ ps₁ q₁ (commit-gather-tree here (o .0) (Awaiter.Task t) .store .log)) (poll-of p)
-      goes = ap (λ (y : Told). go-on (t .0) (o .0) (y .steps) (y .store) (y .poll)) (sym h)
+      goes = ap (λ (y : CommitResult). go-on (t .0) (o .0) (y .steps) (y .store) (y .poll)) (sym h)
 
   -- a gather that is not pending: the task goes on at once
   pub gather-stays : (s y : GatherState) → s ≡ y → (h : machine.How) → await-gather here (t .0) (o .0) y ≡ stays here (t .0) h 0 → {q′ : ReadyQueue} (k : Control) (n : ℕ)

@@ -22,13 +22,13 @@ poll-of (Poll.Raised e) = raised e
 poll-of Poll.Pending = pending
 
 -- an awaited gather
-abbrev pub awaited-of : AwaitedGather → scheduler.AwaitedGather
-awaited-of w = record { first = w .first; count = w .count; awaiter = w .awaiter; open-places = w .«open_places» }
+abbrev pub awaited-gather-of : AwaitedGather → scheduler.AwaitedGather
+awaited-gather-of w = record { first = w .first; count = w .count; awaiter = w .awaiter; open-places = w .«open_places» }
 
 -- an awaited gather, or none
 abbrev pub option-awaited : OptionAwaited → Option scheduler.AwaitedGather
 option-awaited OptionAwaited.None = none
-option-awaited (OptionAwaited.Some w) = some (awaited-of w)
+option-awaited (OptionAwaited.Some w) = some (awaited-gather-of w)
 
 -- The store after an item, and what the item gave: nothing where it is a nested gather, which leaves the store as it is.
 pub record Itemed : Type 0 where

@@ -17,7 +17,7 @@ ghost use Rattle.asyncio.specs.Limits.{object-limit};
 ghost use Rattle.asyncio.specs.Ranges.{PlacesFit};
 ghost use Rattle.machine.specs.Store.{Store};
 ghost use Rattle.machine.specs.Commit.{await-external, item-coroutine, item-gather};
-ghost use Rattle.exec_poll.specs.Polls.{awaited-of, with-item, itemed, item-at, item-here, PollsOfObjects, Polls, PollsItem, PollsItemOfPlaces};
+ghost use Rattle.exec_poll.specs.Polls.{awaited-gather-of, with-item, itemed, item-at, item-here, PollsOfObjects, Polls, PollsItem, PollsItemOfPlaces};
 ghost use Rattle.contract.specs.Contract.{ObjectsLength, Lengths₂, Lengths₂And, LengthsAnd₂};
 
 // What an awaitable gives at once: a value, an error, or nothing yet.
@@ -199,7 +199,7 @@ pub fn item(
 ) -> PolledItem
     requires { ⌜ LengthsAnd₂ tasks objects places (PlacesFit (w .first) (w .count)) (o .0 < object-limit) ⌝ }
     ensures { λ r. ⌜ PollsItemOfPlaces tasks objects places queue
-        (λ s. item-at s (g .0) (awaited-of w) (o .0)) r ⌝ }
+        (λ s. item-at s (g .0) (awaited-gather-of w) (o .0)) r ⌝ }
 {
     if is_open(places, w.first, w.count, w.open_places, o) {
         return PolledItem {

@@ -22,12 +22,12 @@ pub data Turn : Type 0 where
   _⇒_ : Event → Answer → Turn
 
 -- the event of a turn
-unfoldable pub event-of : Turn → Event
-event-of (e ⇒ a) = e
+unfoldable pub turn-event : Turn → Event
+turn-event (e ⇒ a) = e
 
 -- the answer of a turn
-unfoldable pub answer-of : Turn → Answer
-answer-of (e ⇒ a) = a
+unfoldable pub turn-answer : Turn → Answer
+turn-answer (e ⇒ a) = a
 
 -- A session with its answers; or a session, and an event that is answered so and changes nothing.
 pub data Case : Type 0 where
@@ -46,15 +46,15 @@ same-store s u =
 
 -- what the machine does
 unfoldable pub seen : Case → Seen
-seen (answered ts) = record { answers = answers fresh (map event-of ts); kept = true }
+seen (answered ts) = record { answers = answers fresh (map turn-event ts); kept = true }
 seen (unchanged ts t) =
-    let s : Store = after fresh (map event-of ts) in
-    record { answers = step s (event-of t) .answer ∷ []; kept = same-store (step s (event-of t) .store) s }
+    let s : Store = after fresh (map turn-event ts) in
+    record { answers = step s (turn-event t) .answer ∷ []; kept = same-store (step s (turn-event t) .store) s }
 
 -- what the row says
-unfoldable pub told : Case → Seen
-told (answered ts) = record { answers = map answer-of ts; kept = true }
-told (unchanged ts t) = record { answers = answer-of t ∷ []; kept = true }
+unfoldable pub expected : Case → Seen
+expected (answered ts) = record { answers = map turn-answer ts; kept = true }
+expected (unchanged ts t) = record { answers = turn-answer t ∷ []; kept = true }
 
 -- ---- short names for the rows
 

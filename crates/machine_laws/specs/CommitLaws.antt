@@ -436,9 +436,9 @@ module _ (s : Store) (g : ℕ) (a : Awaiter) (z : Sized s) (l : g < object-limit
   unfolding open-gather-commit kind failed-count
   open-failed = set-same s g (GatherState.Awaited a 0) Kind.AwaitedGather z l gathers (λ f n. refl) is-failed-gather (ap is-failed-gather e) refl
 
-  open-here : phase (kind (object opens g)) ≡ Kind.AwaitedGather
+  opened-here : phase (kind (object opens g)) ≡ Kind.AwaitedGather
   unfolding open-gather-commit kind
-  open-here = ap phase (set-here s g (GatherState.Awaited a 0) Kind.AwaitedGather z l gathers (λ f n. refl))
+  opened-here = ap phase (set-here s g (GatherState.Awaited a 0) Kind.AwaitedGather z l gathers (λ f n. refl))
 
   open-kept : (fs : List Frame) → Opened s fs → Opened opens fs
   unfolding open-gather-commit kind
@@ -482,7 +482,7 @@ module _ (loop : Store → Frame → List Frame → ℕ → ℕ → ℕ → Comm
       let was : Opened u (f ∷ fs) = opened-same s u (f ∷ fs) (q .0) e in
       let kept : Opened x (f ∷ fs) = open-kept u o a z (q .1) (q .2) (f ∷ fs) was in
       let r = h x (record { gather = o; next = 0 }) (record { gather = f .gather; next = i } ∷ fs) (suc n) (suc j) k (omega arith) (open-sized u o a z (q .1) (q .2))
-      (q .1, open-here u o a z (q .1) (q .2), pending-apart u o (f ∷ fs) (q .2) was, kept) in
+      (q .1, opened-here u o a z (q .1) (q .2), pending-apart u o (f ∷ fs) (q .2) was, kept) in
       record { opens = omega (arith, r .opens); fails = rw fail at (r .fails) }
   turn-counts s f fs n j k (at-error u x) d q e =
       let w : Unwound u (unwind u (f ∷ fs) x) (suc (length fs)) = unwind-counts u (f ∷ fs) x (q .sized) (opened-same s u (f ∷ fs) q e) in
@@ -532,7 +532,7 @@ module _ (s : Store) (g : ℕ) (a : Awaiter) (z : Sized s) (l : g < object-limit
   tree-counts =
       let x : Store = open-gather-commit s g a in
       loop-counts (2 * pending-count x + 1) x (record { gather = g; next = 0 }) [] 0 1 0 refl (open-sized s g a z l e)
-      (unfold Opened NoFrame in (l, open-here s g a z l e, tt, tt))
+      (unfold Opened NoFrame in (l, opened-here s g a z l e, tt, tt))
 
   -- Document 01, module 4, "with n gathers opened": n is the number of gathers that were pending before and are not after.
   pub commit-opens : pending-count s ≡ pending-count (commit-gather-tree s g a .store) + commit-gather-tree s g a .opened

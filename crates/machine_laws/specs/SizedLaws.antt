@@ -207,8 +207,8 @@ record StepLeft (x : Step) : Type 0 where
   says : AnswerSays (x .store) (x .answer)
 
 -- an answer that tells no calls
-quiet : (s : Store) (a : Answer) → Sized s → AnswerSays s a → StepLeft (record { store = s; answer = a })
-quiet s a z q = record { sized = z; says = q }
+left-with : (s : Store) (a : Answer) → Sized s → AnswerSays s a → StepLeft (record { store = s; answer = a })
+left-with s a z q = record { sized = z; says = q }
 
 switched-left : (x : Switched) → SwitchLeft x → StepLeft (switched x)
 unfolding switched AnswerSays
@@ -216,7 +216,7 @@ switched-left x k = record { sized = k .sized; says = k .says }
 
 end-left : (s : Store) (a : Answer) → AnswerSays (cleanup s) a → Sized s → StepLeft (end-main s a)
 unfolding end-main
-end-left s a q z = quiet (cleanup s) a (cleanup-kept Sized sized-closed s z) q
+end-left s a q z = left-with (cleanup s) a (cleanup-kept Sized sized-closed s z) q
 
 completion-left : (s : Store) (t : ℕ) (v : Value) → Sized s → SwitchLeft (handle-task-completion s t v)
 unfolding handle-task-completion
@@ -232,26 +232,26 @@ repeat-left s (c ∷ cs) e = e
 resume-left : (s : Store) → Sized s → StepLeft (resume-with-resolved-futures s)
 unfolding resume-with-resolved-futures
 resume-left s z =
-    pick-has StepLeft (eqb (s .queue .len) 0) (quiet s _ z (repeat-left s (pending-call-ids s) refl)) (switched-left _ (next-left activate activate-left s z))
+    pick-has StepLeft (eqb (s .queue .len) 0) (left-with s _ z (repeat-left s (pending-call-ids s) refl)) (switched-left _ (next-left activate activate-left s z))
 
 accept-left : (s : Store) (e : Event) → first-refusal (refusals s e) ≡ 0 → Sized s → StepLeft (accept s e)
 unfolding accept make-coroutine make-pending make-settled make-gather answer-await exec-get-awaitable task-completes task-fails AnswerSays
-accept-left s (Event.coroutine f) r z = quiet _ _ (sized-add-object s _ 0 z) tt
-accept-left s Event.call r z = quiet _ _ (sized-set-calls s _ z) tt
-accept-left s (Event.pending c x) r z = quiet _ _ (sized-add-object s _ 0 z) tt
-accept-left s (Event.settled v) r z = quiet _ _ (sized-add-object _ _ 0 (sized-set-calls s _ z)) tt
-accept-left s (Event.gather os) r z = quiet _ _ (sized-add-object _ _ _ (items-sized os s _ z)) tt
+accept-left s (Event.coroutine f) r z = left-with _ _ (sized-add-object s _ 0 z) tt
+accept-left s Event.call r z = left-with _ _ (sized-set-calls s _ z) tt
+accept-left s (Event.pending c x) r z = left-with _ _ (sized-add-object s _ 0 z) tt
+accept-left s (Event.settled v) r z = left-with _ _ (sized-add-object _ _ 0 (sized-set-calls s _ z)) tt
+accept-left s (Event.gather os) r z = left-with _ _ (sized-add-object _ _ _ (items-sized os s _ z)) tt
 accept-left s (Event.await o) r z = let k = await-left s _ o (object s o) (await-low s o r) refl z in record { sized = k .sized; says = k .says }
 accept-left s (Event.complete v) r z =
     pick-has StepLeft (eqb (runner (header s .moment)) 0) (end-left s (Answer.finished v) (unfold AnswerSays in tt) z) (switched-left _ (completion-left s _ v z))
 accept-left s (Event.fail n) r z =
     pick-has StepLeft (eqb (runner (header s .moment)) 0) (end-left s (Answer.finished-error (Error.Script n)) (unfold AnswerSays in tt) z)
     (switched-left _ (failure-left activate activate-left s _ (Error.Script n) z))
-accept-left s (Event.results rs) r z = quiet _ _ (results-kept Sized sized-closed (sized-writes .settles) rs s z) tt
+accept-left s (Event.results rs) r z = left-with _ _ (results-kept Sized sized-closed (sized-writes .settles) rs s z) tt
 accept-left s Event.resume r z = resume-left s z
-accept-left s (Event.cancel t) r z = quiet _ _ (sized-cancel-task s t z) tt
-accept-left s (Event.show o) r z = quiet _ _ z tt
-accept-left s Event.eager r z = quiet _ _ z tt
+accept-left s (Event.cancel t) r z = left-with _ _ (sized-cancel-task s t z) tt
+accept-left s (Event.show o) r z = left-with _ _ z tt
+accept-left s Event.eager r z = left-with _ _ z tt
 
 step-left : (s : Store) (e : Event) → Sized s → StepLeft (step s e)
 unfolding step decide
@@ -259,7 +259,7 @@ step-left s e z = by (eqb (refusal s e) 0) refl
   where
     by : (b : Bool) → eqb (refusal s e) 0 ≡ b → StepLeft (pick b (accept (forget s) e) (record { store = forget s; answer = Answer.refused (refusal s e) }))
     by true q = accept-left (forget s) e (refusal-rest (forget s) e (refusal-forget s e ∙ eqb-true (refusal s e) 0 q)) (sized-forget s z)
-    by false q = quiet (forget s) (Answer.refused (refusal s e)) (sized-forget s z) (unfold AnswerSays in tt)
+    by false q = left-with (forget s) (Answer.refused (refusal s e)) (sized-forget s z) (unfold AnswerSays in tt)
 
 -- Document 01: "A wait writes the pending calls".
 pub step-says : (s : Store) (e : Event) → Sized s → AnswerSays (step s e .store) (step s e .answer)

@@ -34,7 +34,7 @@ pub fn set_state(tasks: &mut [u64], t: TaskId, state: TaskState)
     );
 }
 
-// Is task `t` waiting for an awaitable to settle?
+// Is task `t` blocked on an awaitable?
 pub fn is_blocked(tasks: &[u64], t: TaskId) -> bool
     requires { ⌜ TasksLength tasks × (t .0 < task-limit) ⌝ }
     ensures { λ r. ⌜ r ≡ is-blocked (task-at (now (tasks .entry)) (t .0) .state) ⌝ }

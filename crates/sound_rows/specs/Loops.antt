@@ -16,10 +16,10 @@ unfolding _and_
 and-false true = refl
 and-false false = refl
 
-pub and-true : (b : Bool) → b and true ≡ b
+pub and-unit : (b : Bool) → b and true ≡ b
 unfolding _and_
-and-true true = refl
-and-true false = refl
+and-unit true = refl
+and-unit false = refl
 
 pub and-assoc : (a b c : Bool) → (a and b) and c ≡ a and b and c
 unfolding _and_
@@ -66,7 +66,7 @@ module _ (p : ℕ → Bool) where
   -- the first number taken out
   pub all-first : (n : ℕ) → all-below (suc n) p ≡ p 0 and all-below n (λ i. p (suc i))
   unfolding all-below _and_
-  all-first zero = sym (and-true (p 0))
+  all-first zero = sym (and-unit (p 0))
   all-first (suc n) = rw (all-first n) (and-assoc (p 0) (all-below n (λ i. p (suc i))) (p (suc n)))
 
 -- tests that agree below n

@@ -10,7 +10,7 @@ use lib.ListN.{length, getD, set, replicate, getD-replicate, length-replicate, l
 use lib.Seq.{getD-set-same, getD-set-other}
 use borrow.Author.Tests.{eq-eqb, eqb-true, eqb-false}
 use Rattle.machine.specs.Tests.{_and_, all-below}
-use Rattle.sound_rows.specs.Loops.{and-false, and-true}
+use Rattle.sound_rows.specs.Loops.{and-false, and-unit}
 
 -- The table after the rows below i: the test of row i against those before it, read off at k.
 pub record Marks (seen : List ℕ) (size i : ℕ) (hits : ℕ → ℕ → Bool) : Type 0 where
@@ -35,10 +35,10 @@ module _ (size : ℕ) (hits : ℕ → ℕ → Bool) (seen : List ℕ) (i : ℕ) 
           let here : getD (set seen m 1) k 0 ≡ 1 = rw (← same) (getD-set-same seen m 1 0 (omega arith)) in
           rw (add-one, e k, q, here) (sym (and-false (all-below i (λ j. not (hits j k)))))
       at k l false q =
-          rw (add-one, e k, q, getD-set-other seen m k 1 0 (λ s. eqb-false m k q (sym s)), h .marked k l) (sym (and-true (all-below i (λ j. not (hits j k)))))
+          rw (add-one, e k, q, getD-set-other seen m k 1 0 (λ s. eqb-false m k q (sym s)), h .marked k l) (sym (and-unit (all-below i (λ j. not (hits j k)))))
 
   -- row i hits nothing
   pub marks-skip : ((k : ℕ) → hits i k ≡ false) → Marks seen size (i + 1) hits
   unfolding all-below _and_
   marks-skip e =
-      record { long = h .long; marked = λ k l. rw (add-one, e k) (h .marked k l ∙ sym (and-true (all-below i (λ j. not (hits j k))))) }
+      record { long = h .long; marked = λ k l. rw (add-one, e k) (h .marked k l ∙ sym (and-unit (all-below i (λ j. not (hits j k))))) }

@@ -1,7 +1,7 @@
 -- Cancel's walk: each turn is of an awaited gather that was not reached before, each task that goes lived; so there are at most as many
 -- turns as awaited gathers, and at most as many removals as live tasks.
 use mathlib.Core.Path.{_≡_, refl, sym, ap, _∙_}
-use mathlib.Core.Bool.{Bool, true, false, not, _&&_}
+use mathlib.Core.Bool.{Bool, true, false, not, _&&_, and-true}
 use mathlib.Core.List.{List, [], _∷_}
 use mathlib.Core.Option.{Option, none, some, Option·some-injective}
 use Prim.Native.Nat.{ℕ, zero, suc, _+_, _-_, _≤_, _<_}
@@ -36,15 +36,15 @@ pub record WalkInvariant (w : Walk) : Type 0 where
 
 -- what was reached since w stands on the stack, and each task that went since w lived
 pub record WalkKept (w x : Walk) : Type 0 where
-  pub fine : WalkInvariant x
+  pub invariant : WalkInvariant x
   pub gathers : unreached x + length (x .stack) ≡ unreached w + length (w .stack)
   pub tasks : removals-in (x .store .log) + live-count (x .store) ≡ removals-in (w .store .log) + live-count (w .store)
 
 walk-kept-here : (w : Walk) → WalkInvariant w → WalkKept w w
-walk-kept-here w f = record { fine = f; gathers = refl; tasks = refl }
+walk-kept-here w f = record { invariant = f; gathers = refl; tasks = refl }
 
 walk-kept-then : {w x y : Walk} → WalkKept w x → WalkKept x y → WalkKept w y
-walk-kept-then k l = record { fine = l .fine; gathers = l .gathers ∙ k .gathers; tasks = l .tasks ∙ k .tasks }
+walk-kept-then k l = record { invariant = l .invariant; gathers = l .gathers ∙ k .gathers; tasks = l .tasks ∙ k .tasks }
 
 -- ---- a gather is reached
 
@@ -71,7 +71,7 @@ reach-walk-kept w g f l = by (is-some (as-awaited (object (w .store) g))) (getD 
     by : (a b : Bool) → is-some (as-awaited (object (w .store) g)) ≡ a → getD (w .marks) g false ≡ b → WalkKept w (reach-if w g (a && not b))
     by true true p e = unfold reach-if in walk-kept-here w f
     by true false p e = record {
-      fine = unfold reach-if in record { sized = f .sized; marked = length-set (w .marks) g true ∙ f .marked; tasks-of-fit = f .tasks-of-fit };
+      invariant = unfold reach-if in record { sized = f .sized; marked = length-set (w .marks) g true ∙ f .marked; tasks-of-fit = f .tasks-of-fit };
       gathers = let fall : unreached w ≡ suc (unreached (reach-if w g true)) = reach-falls w g (f .marked) l p e in
           let stack : length (reach-if w g true .stack) ≡ suc (length (w .stack)) = unfold reach-if in refl in
           omega arith;
@@ -96,7 +96,7 @@ task-walk-kept w t f l e =
     let more : removals-in (cancel-one s t .log) ≡ suc (removals-in (s .log)) = unfold removals-in cancel-one add-log remove-task remove-from-ready-queue put-queue put-task in refl in
     let same : unreached (without w t) ≡ unreached w = unfold unreached cancel-one add-log remove-task remove-from-ready-queue put-queue put-task in refl in
     record {
-      fine = record { sized = sized-cancel-one s t (f .sized); marked = f .marked; tasks-of-fit = f .tasks-of-fit };
+      invariant = record { sized = sized-cancel-one s t (f .sized); marked = f .marked; tasks-of-fit = f .tasks-of-fit };
       gathers = ap (λ (n : ℕ). n + length (w .stack)) same;
       tasks = omega arith;
     }
@@ -105,7 +105,7 @@ remove-walk-kept : (w : Walk) (t : ℕ) (b : Option ℕ) → WalkInvariant w →
     → WalkKept w (remove-blocked w t b)
 unfolding remove-blocked
 remove-walk-kept w t none f l e h = task-walk-kept w t f l e
-remove-walk-kept w t (some o) f l e h = let k = task-walk-kept w t f l e in walk-kept-then k (reach-walk-kept (without w t) o (k .fine) (h o refl))
+remove-walk-kept w t (some o) f l e h = let k = task-walk-kept w t f l e in walk-kept-then k (reach-walk-kept (without w t) o (k .invariant) (h o refl))
 
 -- a live task that goes with what it is blocked on
 pub blocked-walk-kept : (w : Walk) (t : ℕ) → WalkInvariant w → t < task-limit → is-live (task (w .store) t .state) ≡ true → WalkKept w (remove-blocked w t (blocked-on (task (w .store) t .state)))
@@ -114,16 +114,16 @@ blocked-walk-kept w t f l e = remove-walk-kept w t _ f l e (blocked-fits (task (
 -- ---- the items of a gather
 
 -- a task that still lives
-record CommitsNone (s : Store) (d : Option ℕ) (t : ℕ) : Type 0 where
+record StillLive (s : Store) (d : Option ℕ) (t : ℕ) : Type 0 where
   same : d ≡ some t
   alive : is-live (task s t .state) ≡ true
 
-still-of : (s : Store) (d : Option ℕ) (t : ℕ) → still-live (s .tasks) d ≡ some t → CommitsNone s d t
+still-of : (s : Store) (d : Option ℕ) (t : ℕ) → still-live (s .tasks) d ≡ some t → StillLive s d t
 unfolding still-live task
 still-of s none t e = absurd-some e
 still-of s (some u) t e = by (is-live (task-at (s .tasks) u .state)) refl e
   where
-    by : (b : Bool) → is-live (task-at (s .tasks) u .state) ≡ b → _≡_ {A = Option ℕ} (pick b (some u) none) (some t) → CommitsNone s (some u) t
+    by : (b : Bool) → is-live (task-at (s .tasks) u .state) ≡ b → _≡_ {A = Option ℕ} (pick b (some u) none) (some t) → StillLive s (some u) t
     by true q p =
         let same : u ≡ t = Option·some-injective u t p in
         record { same = p; alive = ap (λ (v : ℕ). is-live (task-at (s .tasks) v .state)) (sym same) ∙ q }
@@ -149,7 +149,7 @@ unfolding visit-open
 open-walk-kept zero w a i f = walk-kept-here w f
 open-walk-kept (suc k) w a i f =
     let x = place-walk-kept w (a .first + i) i (a .open-places) f in
-    walk-kept-then x (open-walk-kept k _ a (i + 1) (x .fine))
+    walk-kept-then x (open-walk-kept k _ a (i + 1) (x .invariant))
 
 gather-walk-kept : (w : Walk) (a : Option AwaitedGather) → WalkInvariant w → WalkKept w (walk-gather w a)
 unfolding walk-gather
@@ -160,19 +160,19 @@ gather-walk-kept w (some a) f = open-walk-kept (a .count) w a 0 f
 
 -- n turns: as many gathers less to reach or to walk; and each task that went lived
 pub record Turned (w : Walk) (n : ℕ) (x : Walk) : Type 0 where
-  pub fine : WalkInvariant x
+  pub invariant : WalkInvariant x
   pub gathers : n + (unreached x + length (x .stack)) ≡ unreached w + length (w .stack)
   pub tasks : removals-in (x .store .log) + live-count (x .store) ≡ removals-in (w .store .log) + live-count (w .store)
 
 pub walks-turned : (w : Walk) (n : ℕ) (x : Walk) → WalkInvariant w → Walks w n x → Turned w n x
-walks-turned w₀ n₀ x₀ f (walks-here w) = record { fine = f; gathers = omega arith; tasks = refl }
+walks-turned w₀ n₀ x₀ f (walks-here w) = record { invariant = f; gathers = omega arith; tasks = refl }
 walks-turned w₀ n₀ x₀ f (walks-on w g gs n x e p) =
     let v : Walk = record { store = w .store; tasks-of = w .tasks-of; marks = w .marks; stack = gs } in
     let k = gather-walk-kept v (as-awaited (object (w .store) g)) (record { sized = f .sized; marked = f .marked; tasks-of-fit = f .tasks-of-fit }) in
-    let r = walks-turned (walk-gather v (as-awaited (object (w .store) g))) n x (k .fine) p in
+    let r = walks-turned (walk-gather v (as-awaited (object (w .store) g))) n x (k .invariant) p in
     let same : unreached v ≡ unreached w = unfold unreached in refl in
     let stack : length (w .stack) ≡ suc (length gs) = ap length e in
-    record { fine = r .fine; gathers = omega (arith, r .gathers, k .gathers, same, stack); tasks = r .tasks ∙ k .tasks }
+    record { invariant = r .invariant; gathers = omega (arith, r .gathers, k .gathers, same, stack); tasks = r .tasks ∙ k .tasks }
 
 -- the walk from the later turn on is the rest of the walk
 walks-rest : (w : Walk) (n : ℕ) (x : Walk) → WalkInvariant w → Walks w n x → walk-rest w ≡ walk-rest x
@@ -181,7 +181,7 @@ walks-rest w₀ n₀ x₀ f (walks-on w g gs n x e p) =
     let v : Walk = record { store = w .store; tasks-of = w .tasks-of; marks = w .marks; stack = gs } in
     let k = gather-walk-kept v (as-awaited (object (w .store) g)) (record { sized = f .sized; marked = f .marked; tasks-of-fit = f .tasks-of-fit }) in
     let here : walk-next walk-rest w (g ∷ gs) ≡ walk-rest (walk-gather v (as-awaited (object (w .store) g))) = unfold walk-next in refl in
-    walk-once w (f .marked) ∙ ap (walk-next walk-rest w) e ∙ here ∙ walks-rest (walk-gather v (as-awaited (object (w .store) g))) n x (k .fine) p
+    walk-once w (f .marked) ∙ ap (walk-next walk-rest w) e ∙ here ∙ walks-rest (walk-gather v (as-awaited (object (w .store) g))) n x (k .invariant) p
 
 -- ---- from the beginning of a cancel
 
@@ -196,19 +196,15 @@ unmarked-here zero o = refl
 unmarked-here (suc n) zero = refl
 unmarked-here (suc n) (suc o) = unmarked-here n o
 
-and-true : (b : Bool) → (b && true) ≡ b
-and-true true = refl
-and-true false = refl
-
 start-unreached : (s : Store) → unreached (walk-from s) ≡ awaited-count s
 unfolding unreached walk-from awaited-count awaited-in
 start-unreached s =
     count-same (λ o. is-awaited (kind (object-at (s .objects) o)) && not (getD (replicate object-limit false) o false)) (λ o. is-awaited (kind (object-at (s .objects) o))) object-limit
     (λ i l. rw (unmarked-here object-limit i) (and-true (is-awaited (kind (object-at (s .objects) i)))))
 
-start-fine : (s : Store) → Sized s → WalkInvariant (walk-from s)
+start-invariant : (s : Store) → Sized s → WalkInvariant (walk-from s)
 unfolding walk-from
-start-fine s z = record { sized = z; marked = length-replicate {A = Bool} object-limit false; tasks-of-fit = task-of-below s }
+start-invariant s z = record { sized = z; marked = length-replicate {A = Bool} object-limit false; tasks-of-fit = task-of-below s }
 
 -- The walk of a cancel of the live task t, as it stands when t has gone.
 module _ (s : Store) (t : ℕ) (z : Sized s) (l : t < task-limit) (e : is-live (task s t .state) ≡ true) where
@@ -217,7 +213,7 @@ module _ (s : Store) (t : ℕ) (z : Sized s) (l : t < task-limit) (e : is-live (
 
   begun-walk-kept : WalkKept (walk-from s) begun
   unfolding walk-from
-  begun-walk-kept = blocked-walk-kept (walk-from s) t (start-fine s z) l e
+  begun-walk-kept = blocked-walk-kept (walk-from s) t (start-invariant s z) l e
 
   start-empty : length (walk-from s .stack) ≡ 0
   unfolding walk-from
@@ -229,11 +225,11 @@ module _ (s : Store) (t : ℕ) (z : Sized s) (l : t < task-limit) (e : is-live (
 
   -- Each turn is of an awaited gather: those walked, those on the stack and those not reached are the awaited gathers.
   pub cancel-turns : (n : ℕ) (x : Walk) → Walks begun n x → n + (unreached x + length (x .stack)) ≡ awaited-count s
-  cancel-turns n x p = omega (arith, walks-turned begun n x (begun-walk-kept .fine) p .gathers, begun-walk-kept .gathers, start-empty, start-unreached s)
+  cancel-turns n x p = omega (arith, walks-turned begun n x (begun-walk-kept .invariant) p .gathers, begun-walk-kept .gathers, start-empty, start-unreached s)
 
   -- Each task that goes lived: as many removals more as live tasks less.
   pub cancel-removes : (n : ℕ) (x : Walk) → Walks begun n x → removals-in (x .store .log) + live-count (x .store) ≡ removals-in (s .log) + live-count s
-  cancel-removes n x p = walks-turned begun n x (begun-walk-kept .fine) p .tasks ∙ begun-walk-kept .tasks ∙ start-log
+  cancel-removes n x p = walks-turned begun n x (begun-walk-kept .invariant) p .tasks ∙ begun-walk-kept .tasks ∙ start-log
 
   -- Cancel takes at most as many turns and removals as there are awaited gathers and live tasks.
   pub cancel-bound : (n : ℕ) (x : Walk) → Walks begun n x → n + removals-in (x .store .log) ≤ removals-in (s .log) + (awaited-count s + live-count s)
@@ -242,9 +238,9 @@ module _ (s : Store) (t : ℕ) (z : Sized s) (l : t < task-limit) (e : is-live (
   -- Where the stack is empty the walk has ended, with the store that cancel leaves.
   pub cancel-ends : (n : ℕ) (x : Walk) → Walks begun n x → x .stack ≡ [] → cancel-task s t ≡ x .store
   cancel-ends n x p q =
-      let k = walks-turned begun n x (begun-walk-kept .fine) p in
+      let k = walks-turned begun n x (begun-walk-kept .invariant) p in
       let over : walk-next walk-rest x [] ≡ x .store = unfold walk-next in refl in
-      cancel-walks s t ∙ walks-rest begun n x (begun-walk-kept .fine) p ∙ walk-once x (k .fine .marked) ∙ ap (walk-next walk-rest x) q ∙ over
+      cancel-walks s t ∙ walks-rest begun n x (begun-walk-kept .invariant) p ∙ walk-once x (k .invariant .marked) ∙ ap (walk-next walk-rest x) q ∙ over
 
 -- ---- it ends
 
@@ -270,13 +266,13 @@ walk-ends (suc k) w f p = by (w .stack) refl (λ x g q. walk-ends k x g q)
         let r = gather-walk-kept v (as-awaited (object (w .store) g)) (record { sized = f .sized; marked = f .marked; tasks-of-fit = f .tasks-of-fit }) in
         let same : unreached v ≡ unreached w = unfold unreached in refl in
         let stack : length (w .stack) ≡ suc (length gs) = ap length e in
-        let x = h (walk-gather v (as-awaited (object (w .store) g))) (r .fine) (omega (arith, r .gathers, same, stack, p)) in
+        let x = h (walk-gather v (as-awaited (object (w .store) g))) (r .invariant) (omega (arith, r .gathers, same, stack, p)) in
         record { turns = suc (x .turns); last = x .last; walks = walks-on w g gs (x .turns) (x .last) e (x .walks); empty = x .empty }
 
 module _ (s : Store) (t : ℕ) (z : Sized s) (l : t < task-limit) (e : is-live (task s t .state) ≡ true) where
   -- The walk of a cancel ends; by `cancel-ends` with the store that cancel leaves, and by `cancel-bound` within the awaited gathers and the live tasks.
   pub cancel-terminates : Ends (begun s t z l e)
-  cancel-terminates = walk-ends (unreached (begun s t z l e) + length (begun s t z l e .stack)) (begun s t z l e) (begun-walk-kept s t z l e .fine) (omega arith)
+  cancel-terminates = walk-ends (unreached (begun s t z l e) + length (begun s t z l e .stack)) (begun s t z l e) (begun-walk-kept s t z l e .invariant) (omega arith)
 
   -- A whole cancel: as many removals more as live tasks less.
   pub cancel-spent : removals-in (cancel-task s t .log) + live-count (cancel-task s t) ≡ removals-in (s .log) + live-count s

@@ -56,7 +56,7 @@ use Rattle.machine_theorems.specs.Soundness.CommitItems.{AtNested, AtErr
 
 -- ---- the end of a commit: an answer for the task that awaits, or it is to block
 
-pub record Waits (root t : ℕ) (s : Store) : Type 0 where
+pub record BlocksOn (root t : ℕ) (s : Store) : Type 0 where
   pub ends : Ends t 0 (λ p. p ≡ root) s
   pub made : root < header s .made
   pub closes : Closes (view s) t root
@@ -64,7 +64,7 @@ pub record Waits (root t : ℕ) (s : Store) : Type 0 where
 abbrev pub EndOk : ℕ → ℕ → Store → Poll → Type 0
 EndOk root t s (ready v) = Ends t 0 Nothing s
 EndOk root t s (raised e) = Ends t 0 Nothing s
-EndOk root t s pending = Waits root t s
+EndOk root t s pending = BlocksOn root t s
 
 after-of : (root t k : ℕ) (Q : ℕ → Type 0) (v : View) (g i : ℕ) (fs : List Frame) → Inv root t k Q v g i fs → After t 0 Q v
 after-of root t k Q v g i fs h = record { but = lessen (omega arith) (h .but); runs = h .runs; low = h .low; moment = h .moment }
@@ -184,7 +184,7 @@ loop-keeps (suc fuel) root t s f fs n j k h =
 
 -- ---- the awaiting task blocks
 
-module _ (o t : ℕ) (x : Store) (a : Waits o t x) where
+module _ (o t : ℕ) (x : Store) (a : BlocksOn o t x) where
   af : After t 0 (λ p. p ≡ o) (view x)
   af = a .ends .after
 

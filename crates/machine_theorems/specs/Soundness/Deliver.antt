@@ -1,4 +1,4 @@
--- Delivery keeps soundness: an object settles, its awaiter is in flight, the climb through gathers, and the task at the end.
+-- Delivery keeps soundness: an object settles, its awaiter is detached from it, the climb through gathers, and the task at the end.
 use mathlib.Core.Path.{_≡_, refl, ap, sym, subst, _∙_}
 use mathlib.Core.Logic.{inl}
 use mathlib.Core.Bool.{Bool, true, false, not}
@@ -40,7 +40,7 @@ use Rattle.machine_theorems.specs.Soundness.PutTask.{with-task-queue, Ta
 use Rattle.machine_theorems.specs.Soundness.Stores.{Runs, SoundDuring, object-during, task-during, add-log-during}
 use Rattle.machine_theorems.specs.Soundness.SpawnTask.{awaiter-below}
 
--- A delivery is at its end: nothing is in flight, and a task that it woke is below the next number.
+-- A delivery is at its end: no awaiter is detached, and a task that it woke is below the next number.
 pub record DeliveryEnds (r : ℕ → Bool) (D : ℕ → Type 0) (hd : Header) (d : Delivery) : Type 0 where
   pub mid : SoundDuring Nothing r D hd (d .store)
   pub woken : (t : ℕ) → d .woken ≡ some t → t < hd .next
@@ -59,13 +59,13 @@ task-slot e = let z : _≡_ {A = ℕ} 0 1 = cc in omega arith
 pub task-same : {t u : ℕ} → Awaiter.Task (task-id t) ≡ Awaiter.Task (task-id u) → t ≡ u
 task-same {t} {u} e = let p : task-id t ≡ task-id u = cc in ap (λ (y : TaskId). y .0) p
 
--- ---- what is in flight
+-- ---- a detached awaiter
 
 -- the tasks that a delivery to awaiter a will wake
 abbrev pub Delivering : Awaiter → ℕ → Type 0
 Delivering a u = a ≡ Awaiter.Task (task-id u)
 
--- awaiter a of object o is in flight: o has it no more
+-- awaiter a of object o is detached: o has it no more, and the delivery goes to it next
 pub record Detached (v : View) (o : ℕ) (a : Awaiter) : Type 0 where
   pub made : o < v .header .made
   pub free : awaiter-of (v .objects o) ≡ Awaiter.Nobody
@@ -85,7 +85,7 @@ except-during s f h =
       head = h .head;
     }
 
--- nothing is in flight but a task's wake
+-- where the detached awaiter is no task, every blocked task is awaited
 pub landed : {a : Awaiter} {r : ℕ → Bool} {D : ℕ → Type 0} {hd : Header} (s : Store) → ((u : ℕ) → Delivering a u → ⊥) → SoundDuring (Delivering a) r D hd s → SoundDuring Nothing r D hd s
 landed s f h = except-during s (λ t o l d e z. f t z) h
 
@@ -157,7 +157,7 @@ module _ {r : ℕ → Bool} {D : ℕ → Type 0} {hd : Header} (s : Store) (o : 
   unfolding view
   settle-keeps = object-during s h o x f (settle-fits (view s) o x st)
 
-  -- and its awaiter is in flight then
+  -- and its awaiter is detached then
   pub detached-keeps : Detached (view (put-object s o x)) o (awaiter-of (object s o))
   unfolding view
   detached-keeps =
@@ -250,7 +250,7 @@ module _ {r : ℕ → Bool} {D : ℕ → Type 0} {hd : Header} (s : Store) (t o 
         task-during s h t row (push-back (s .queue) t) low (restated-fits (task s t) x (task-fits s t) f) (push-back-len (s .queue) t (h .kept .memory .fine .queue-fine))
         (push-back-length (s .queue) t ∙ h .kept .memory .ids) wake-fits wake-runs
 
-  -- The last step of a delivery, of a value or an error: the task in flight is woken if it is blocked.
+  -- The last step of a delivery, of a value or an error: the task that awaits is woken if it is blocked.
   pub reach-keeps : DeliveryEnds r D hd (deliver-to-task s t x)
   unfolding deliver-to-task make-ready push-ready set-state put-task
   reach-keeps = by (is-blocked (task s t .state)) refl
@@ -319,7 +319,7 @@ raised-resumes : (e : Error) → Resumes (TaskState.Raised e)
 unfolding blocked-on
 raised-resumes e = record { lives = tt; unblocked = refl; stands = refl; old = refl; ready = tt }
 
--- What the gather g of a slot of object o does: it sends nothing on, and nothing is in flight; or it sends to an awaiter, on the way to which R
+-- What the gather g of a slot of object o does: it sends nothing on, and no awaiter is detached; or it sends to an awaiter, on the way to which R
 -- holds, and it is higher than o.
 pub record Sends (r : ℕ → Bool) (D : ℕ → Type 0) (hd : Header) (R : Store → Awaiter → Type 0) (o g : ℕ) (y : Settled) : Type 0 where
   pub stays : y .onward ≡ none → SoundDuring Nothing r D hd (y .store)

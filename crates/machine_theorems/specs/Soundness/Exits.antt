@@ -312,8 +312,8 @@ end-keeps s h =
 -- ---- cancel: whoever is removed, the store stays sound
 
 module _ (D : ℕ → Type 0) (hd : Header) where
-  -- no task runs, and the drivers are tasks below the next number
-  record OnlyChanges (w : Walk) : Type 0 where
+  -- no task runs, and the tasks of coroutines are below the next number
+  record NoneRuns (w : Walk) : Type 0 where
     mid : SoundDuring Nothing idle D hd (w .store)
     low : (o t : ℕ) → w .tasks-of o ≡ some t → t < hd .next
 
@@ -321,62 +321,62 @@ module _ (D : ℕ → Type 0) (hd : Header) where
   unfolding cancel-one
   one-keeps s t low h = remove-keeps s t h (subst (λ (y : Header). t < y .next) (sym (h .head)) low) (removed t) idle refl (λ u d. refl)
 
-  reach-only-changes : (w : Walk) (g : ℕ) → OnlyChanges w → OnlyChanges (reach w g)
+  reach-none-runs : (w : Walk) (g : ℕ) → NoneRuns w → NoneRuns (reach w g)
   unfolding reach
-  reach-only-changes w g h = by (is-some (as-awaited (object (w .store) g)) && not (getD (w .marks) g false))
+  reach-none-runs w g h = by (is-some (as-awaited (object (w .store) g)) && not (getD (w .marks) g false))
     where
-      by : (b : Bool) → OnlyChanges (reach-if w g b)
+      by : (b : Bool) → NoneRuns (reach-if w g b)
       by true = unfold reach-if in (record { mid = h .mid; low = h .low })
       by false = unfold reach-if in h
 
-  blocked-only-changes : (w : Walk) (t : ℕ) (b : Option ℕ) → t < hd .next → OnlyChanges w → OnlyChanges (remove-blocked w t b)
+  blocked-none-runs : (w : Walk) (t : ℕ) (b : Option ℕ) → t < hd .next → NoneRuns w → NoneRuns (remove-blocked w t b)
   unfolding remove-blocked
-  blocked-only-changes w t none l h = record { mid = one-keeps (w .store) t l (h .mid); low = h .low }
-  blocked-only-changes w t (some b) l h = reach-only-changes _ b (record { mid = one-keeps (w .store) t l (h .mid); low = h .low })
+  blocked-none-runs w t none l h = record { mid = one-keeps (w .store) t l (h .mid); low = h .low }
+  blocked-none-runs w t (some b) l h = reach-none-runs _ b (record { mid = one-keeps (w .store) t l (h .mid); low = h .low })
 
-  visit-only-changes : (w : Walk) (o : ℕ) → OnlyChanges w → OnlyChanges (visit w o)
+  visit-none-runs : (w : Walk) (o : ℕ) → NoneRuns w → NoneRuns (visit w o)
   unfolding visit
-  visit-only-changes w o h = by (w .tasks-of o) refl
+  visit-none-runs w o h = by (w .tasks-of o) refl
     where
-      by-live : (t : ℕ) → t < hd .next → (b : Bool) → OnlyChanges (visit-by w o (pick b (some t) none))
-      by-live t l true = unfold visit-by in (blocked-only-changes w t _ l h)
-      by-live t l false = unfold visit-by in (reach-only-changes w o h)
+      by-live : (t : ℕ) → t < hd .next → (b : Bool) → NoneRuns (visit-by w o (pick b (some t) none))
+      by-live t l true = unfold visit-by in (blocked-none-runs w t _ l h)
+      by-live t l false = unfold visit-by in (reach-none-runs w o h)
 
-      by : (d : Option ℕ) → w .tasks-of o ≡ d → OnlyChanges (visit-by w o (still-live (w .store .tasks) d))
-      by none e = unfold still-live visit-by in (reach-only-changes w o h)
+      by : (d : Option ℕ) → w .tasks-of o ≡ d → NoneRuns (visit-by w o (still-live (w .store .tasks) d))
+      by none e = unfold still-live visit-by in (reach-none-runs w o h)
       by (some t) e = unfold still-live in (by-live t (h .low o t e) (is-live (task-at (w .store .tasks) t .state)))
 
-  place-only-changes : (w : Walk) (p i m : ℕ) → OnlyChanges w → OnlyChanges (visit-place w p i m)
+  place-none-runs : (w : Walk) (p i m : ℕ) → NoneRuns w → NoneRuns (visit-place w p i m)
   unfolding visit-place
-  place-only-changes w p i m h = by (bit m i)
+  place-none-runs w p i m h = by (bit m i)
     where
-      by : (b : Bool) → OnlyChanges (pick b (visit w (place (w .store) p .item .0)) w)
-      by true = visit-only-changes w (place (w .store) p .item .0) h
+      by : (b : Bool) → NoneRuns (pick b (visit w (place (w .store) p .item .0)) w)
+      by true = visit-none-runs w (place (w .store) p .item .0) h
       by false = h
 
-  open-only-changes : (k : ℕ) (w : Walk) (a : AwaitedGather) (i : ℕ) → OnlyChanges w → OnlyChanges (visit-open w a i k)
+  open-none-runs : (k : ℕ) (w : Walk) (a : AwaitedGather) (i : ℕ) → NoneRuns w → NoneRuns (visit-open w a i k)
   unfolding visit-open
-  open-only-changes zero w a i h = h
-  open-only-changes (suc k) w a i h = open-only-changes k (visit-place w (a .first + i) i (a .open-places)) a (i + 1) (place-only-changes w (a .first + i) i (a .open-places) h)
+  open-none-runs zero w a i h = h
+  open-none-runs (suc k) w a i h = open-none-runs k (visit-place w (a .first + i) i (a .open-places)) a (i + 1) (place-none-runs w (a .first + i) i (a .open-places) h)
 
-  gather-only-changes : (w : Walk) (a : Option AwaitedGather) → OnlyChanges w → OnlyChanges (walk-gather w a)
+  gather-none-runs : (w : Walk) (a : Option AwaitedGather) → NoneRuns w → NoneRuns (walk-gather w a)
   unfolding walk-gather
-  gather-only-changes w none h = h
-  gather-only-changes w (some a) h = open-only-changes (a .count) w a 0 h
+  gather-none-runs w none h = h
+  gather-none-runs w (some a) h = open-none-runs (a .count) w a 0 h
 
-  walk-only-changes : (k : ℕ) (w : Walk) → OnlyChanges w → SoundDuring Nothing idle D hd (walk k w)
+  walk-none-runs : (k : ℕ) (w : Walk) → NoneRuns w → SoundDuring Nothing idle D hd (walk k w)
   unfolding walk
-  walk-only-changes zero w h = h .mid
-  walk-only-changes (suc k) w h = by (w .stack) (λ x y. walk-only-changes k x y)
+  walk-none-runs zero w h = h .mid
+  walk-none-runs (suc k) w h = by (w .stack) (λ x y. walk-none-runs k x y)
     where
-      by : (gs : List ℕ) → ((x : Walk) → OnlyChanges x → SoundDuring Nothing idle D hd (walk k x)) → SoundDuring Nothing idle D hd (walk-next (λ x. walk k x) w gs)
+      by : (gs : List ℕ) → ((x : Walk) → NoneRuns x → SoundDuring Nothing idle D hd (walk k x)) → SoundDuring Nothing idle D hd (walk-next (λ x. walk k x) w gs)
       by [] go = unfold walk-next in (h .mid)
-      by (g ∷ gs) go = unfold walk-next in (go _ (gather-only-changes _ _ (record { mid = h .mid; low = h .low })))
+      by (g ∷ gs) go = unfold walk-next in (go _ (gather-none-runs _ _ (record { mid = h .mid; low = h .low })))
 
   pub cancel-during : (s : Store) (t : ℕ) → t < hd .next → SoundDuring Nothing idle D hd s → SoundDuring Nothing idle D hd (cancel-task s t)
   unfolding cancel-task walk-from task-of task-of-in
   cancel-during s t l h =
-      walk-only-changes object-limit (remove-blocked (walk-from s) t (blocked-on (task s t .state))) (blocked-only-changes (walk-from s) t _ l
+      walk-none-runs object-limit (remove-blocked (walk-from s) t (blocked-on (task s t .state))) (blocked-none-runs (walk-from s) t _ l
       (record { mid = h; low = λ o u e. omega (arith, first-below _ (header s .next - 1) 1 u e, ap (λ (y : Header). y .next) (h .head), h .kept .but .main) }))
 
 -- in waiting nobody runs
