@@ -46,26 +46,36 @@ pub record AwaitedBy (n : ℕ) (os : ℕ → Object) (t o : ℕ) : Type 0 where
 -- object of Q, a gather in the midst of its commit, may have an awaiter that is not blocked on it, places neither open nor filled, and
 -- a slot that is not open. Who runs is said apart.
 pub record SoundBut (k : ℕ) (P Q : ℕ → Type 0) (v : View) : Type 0 where
+  -- clause 1: numbers and counts lie in range
   pub fits : HeaderFits (v .header)
   pub main : 1 ≤ v .header .next
   pub all-used : v .header .used ≡ places-below (v .objects) (v .header .made)
   pub objects : (o : ℕ) → o < v .header .made → T (object-in-range (v .header) (places-below (v .objects) o) (v .objects o))
   pub awaiters : (o : ℕ) → o < v .header .made → T (awaiter-in-range (v .header) (awaiter-of (v .objects o)))
   pub tasks : (t : ℕ) → t < v .header .next → T (task-in-range (v .header) (v .objects) t (v .tasks t))
+  -- 2: no more tasks were spawned than committed gathers have places
   pub spawned : v .header .next + k ≤ suc (sum-below (v .header .made) (λ o. committed-places (v .objects o)))
+  -- 3: items are lower than their gather
   pub items : (g : ℕ) → g < v .header .made → T (items-below (v .places) g (v .objects g))
+  -- 4: list values name completed gathers
   pub object-lists : (o : ℕ) → o < v .header .made → T (object-values (v .header .made) (v .objects) (v .objects o))
   pub task-lists : (t : ℕ) → t < v .header .next → T (state-values (v .header .made) (v .objects) (v .tasks t .state))
   pub place-lists : (p : ℕ) → p < v .header .used → T (option-known (v .header .made) (v .objects) (v .places p .result))
+  -- 5: queue entries are distinct, live, unblocked and none is running
   pub entries : (i : ℕ) → i < length (v .queue) → T (entry-ready (v .header .next) (v .tasks) (v .queue) i)
+  -- 6: in a session not ended, pending calls and pending externals match one to one
   pub calls : is-ended (v .header .moment) ≡ false → (o p : ℕ) → o < v .header .made → p < v .header .made → (a b : PendingExternal)
       → as-pending (v .objects o) ≡ some a → as-pending (v .objects p) ≡ some b → a .call .0 ≡ b .call .0 → o ≡ p
+  -- 7: a coroutine has at most one live task
   pub task-of : (c t u : ℕ) → t < v .header .next → u < v .header .next → T (is-task-of-at (v .tasks) c t) → T (is-task-of-at (v .tasks) c u) → t ≡ u
+  -- 8: a blocked task is the awaiter of what it waits on, and a live awaiter task is blocked there
   pub awaits : (t : ℕ) → t < v .header .next → (P t → ⊥) → (o : ℕ) → blocked-on (v .tasks t .state) ≡ some o
       → AwaitedBy (v .header .made) (v .objects) t o
   pub awaited : (o : ℕ) → o < v .header .made → (Q o → ⊥) → (t : ℕ) → awaiter-of (v .objects o) ≡ Awaiter.Task (task-id t)
       → T (is-live (v .tasks t .state)) → blocked-on (v .tasks t .state) ≡ some o
+  -- 9: an awaited gather has an open place and the rest filled, a completed one has all filled
   pub filled : (g : ℕ) → g < v .header .made → (Q g → ⊥) → T (object-filled (v .places) (v .objects g))
+  -- 10: a slot awaiter's source is its holder's own object, and its gather was committed and, if still awaited, has that source open
   pub object-slots : (o : ℕ) → o < v .header .made → (Q o → ⊥) → (g x : ℕ) → awaiter-of (v .objects o) ≡ Awaiter.GatherSlot (heap-id g) (heap-id x)
       → Slotted (v .header .made) (v .objects) (v .places) o g x
   pub task-slots : (t : ℕ) → t < v .header .next → T (is-live (v .tasks t .state)) → (g x : ℕ)
@@ -79,6 +89,7 @@ Nothing i = ⊥
 -- the whole paragraph
 pub record SoundFacts (v : View) : Type 0 where
   pub but : SoundBut 0 Nothing Nothing v
+  -- clause 11: in running one live unblocked task runs, in waiting none
   pub runner : T (runner-in-range (v .header .next) (v .header .moment))
   pub runs : (t : ℕ) → t < v .header .next → is-running (v .tasks t .state) ≡ runs-now (v .header .moment) t
 
