@@ -39,6 +39,10 @@ abbrev pub value-words : Value → Words2
 value-words (Value.Plain n) = words2 0 n
 value-words (Value.List h) = words2 1 (h .0)
 
+-- the two in a list, as document 01's numbers
+unfoldable pub value-numbers : Value → List ℕ
+value-numbers v = value-words v .0 ∷ value-words v .1 ∷ []
+
 abbrev pub to-value : ℕ → ℕ → Value
 to-value tag n = pick (eqb tag 0) (Value.Plain n) (Value.List (to-heap-id n))
 

@@ -5,7 +5,7 @@ use Prim.Native.Nat.{ℕ}
 use mathlib.Core.List.{List, [], _∷_}
 use denote.Triple.Both.{Both}
 use denote.Ref.{RefT, now}
-use Rattle.asyncio.specs.Layout.{value-words}
+use Rattle.asyncio.specs.Layout.{value-numbers}
 use Rattle.asyncio.specs.declared.Value.{Value}
 use Rattle.asyncio.specs.declared.OptionValue.{OptionValue}
 use Rattle.drive_reader.specs.declared.Record.{Record}
@@ -32,10 +32,6 @@ record-kind Record.Resume = 10
 record-kind (Record.Cancel t) = 11
 record-kind (Record.Show o) = 12
 record-kind Record.Eager = 13
-
--- a value: its tag and its number
-unfoldable pub value-numbers : Value → List ℕ
-value-numbers v = value-words v .0 ∷ value-words v .1 ∷ []
 
 -- of a gather and of results: the count, and the place of the first item or result
 unfoldable pub record-numbers : Record → List ℕ

@@ -17,10 +17,8 @@ use Rattle.asyncio.specs.declared.HeapId.{HeapId}
 use Rattle.asyncio.specs.declared.Error.{Error}
 use Rattle.asyncio.specs.declared.Awaiter.{Awaiter}
 use Rattle.asyncio.specs.declared.GatherState.{GatherState}
-use Rattle.asyncio.specs.declared.Object.{Object}
-use Rattle.asyncio.specs.Ranges.{ObjectFits}
 use Rattle.rows.specs.Tables.{object-at}
-use Rattle.rows.specs.TableLaws.{object-at-fits}
+use Rattle.rows.specs.TableLaws.{places-fit}
 use Rattle.queue.specs.declared.ReadyQueue.{ReadyQueue}
 use Rattle.machine.specs.Store.{Store, LogEntry, store-of, object}
 use Rattle.machine.specs.Commit.{Poll, raised, Polled, gives, step-gather-commit, open-gather-commit, settle-gather-commit, resume-after-child, unwind, Committed, turn, pending-in, pending-count, commit-gather-tree}
@@ -84,16 +82,6 @@ tree-result ts os ps q g a l {os′} e us vs rs r p n h =
     rw k at h
 
 -- ---- a turn
-
-count-few : (x : Object) → ObjectFits x → count-of x ≤ item-limit
-unfolding count-of
-count-few Object.Unmade f = omega arith
-count-few (Object.Coroutine g x) f = omega arith
-count-few (Object.ExternalFuture c x) f = omega arith
-count-few (Object.GatherFuture i n x) f = f .0 .at-most
-
-count-fits : (os : List ℕ) (g : ℕ) → count-of (object-at os g) ≤ item-limit
-count-fits os g = count-few (object-at os g) (object-at-fits os g)
 
 module _ (ts os ps : List ℕ) (q : ReadyQueue) (g i : ℕ) (a : length ts ≡ tasks-length) (b : length os ≡ objects-length) (c : length ps ≡ places-length) (h : g < object-limit)
     (us vs rs : List ℕ) (r : ReadyQueue) (x : Stop)
@@ -185,7 +173,7 @@ module _ (ts os ps : List ℕ) (q : ReadyQueue) (g i : ℕ) (a : length ts ≡ t
       child-range = rw (u, settled-same .counts (getD gs d 0)) ((rw m at z) .1)
 
       pub child-few : getD ns d 0 < item-limit
-      child-few = omega (arith, child-range, count-fits vs₁ (y .0))
+      child-few = omega (arith, child-range, places-fit vs₁ (y .0) refl refl .at-most)
 
       module _ (vs₂ rs₂ : List ℕ)
           (t : (l : List LogEntry) → store-of us vs₂ rs₂ r l ≡ resume-after-child (frame (y .0) (getD ns d 0)) (gives (store-of us vs₁ rs r l) p)) where

@@ -1,14 +1,11 @@
 -- The ways through resolve_future and fail_future, in the shape of what the code knows there.
-use mathlib.Core.Path.{_≡_, refl, sym, ap, _∙_}
-use mathlib.Core.Bool.{Bool, true, false}
+use mathlib.Core.Path.{_≡_, sym, ap, _∙_}
 use mathlib.Core.List.{List}
-use mathlib.Core.Option.{Option, none, some, Option·some-injective}
-use Prim.Native.Nat.{ℕ, zero, suc, _+_, _≤_, _<_}
+use mathlib.Core.Option.{none, some}
+use Prim.Native.Nat.{ℕ, _<_}
 use native.Mathlib.Omega.{arith}
-use lib.ListN.{length}
-use Rattle.asyncio.specs.States.{pick}
-use Rattle.asyncio.specs.Limits.{object-limit, places-length}
-use Rattle.asyncio.specs.Ranges.{ObjectFits, AwaiterFits, HeaderFits}
+use Rattle.asyncio.specs.Limits.{object-limit}
+use Rattle.asyncio.specs.Ranges.{ObjectFits, AwaiterFits}
 use Rattle.asyncio.specs.declared.CallId.{CallId}
 use Rattle.asyncio.specs.declared.HeapId.{HeapId}
 use Rattle.asyncio.specs.declared.Value.{Value}
@@ -24,21 +21,12 @@ use Rattle.scheduler.specs.declared.tasks.FoundTask.{FoundTask}
 use Rattle.scheduler.specs.declared.tasks.FoundObject.{FoundObject}
 use Rattle.scheduler.specs.Search.{found-object}
 use Rattle.scheduler.specs.SearchLaws.{object-found, no-object}
-use Rattle.machine.specs.Store.{Store, LogEntry, store-of, object, put-object}
-use Rattle.machine.specs.Scheduler.{PendingExternal, as-pending, first-from, is-call, pending-external-in, pending-external}
+use Rattle.machine.specs.Store.{LogEntry, store-of, object, put-object}
+use Rattle.machine.specs.Scheduler.{as-pending, first-from, is-call, pending-external-in, pending-external}
 use Rattle.machine.specs.Delivery.{Delivery, value-or, settle-pending, settle-found, resolve-pending, fail-pending, resolve-future, fail-future, deliver-awaiter-success, deliver-awaiter-failure}
+use Rattle.machine_laws.specs.DeliveryLaws.{first-below}
 use Rattle.exec_fill.specs.Delivered.{delivered}
 use Rattle.exec_deliver.specs.Futures.{resolve-at, fail-at}
-
--- what a search finds is below its end
-first-below : (p : ℕ → Bool) (k i j : ℕ) → first-from p i k ≡ some j → j < i + k
-unfolding first-from
-first-below p zero i j e = let z : _≡_ {A = ℕ} 0 1 = cc in absurd (omega arith)
-first-below p (suc k) i j e = by (p i) e (first-below p k (i + 1) j)
-  where
-    by : (b : Bool) → pick b (some i) (first-from p (i + 1) k) ≡ some j → (first-from p (i + 1) k ≡ some j → j < i + 1 + k) → j < i + suc k
-    by true q f = let z : i ≡ j = Option·some-injective i j q in omega arith
-    by false q f = omega (arith, f q)
 
 -- the object that a call was found at
 pub found-below : (os : List ℕ) (call : ℕ) (n : HeapId) {d : FoundObject} → d ≡ found-object (pending-external-in os call) → d ≡ FoundObject.At n → n .0 < object-limit

@@ -9,7 +9,7 @@ use Rattle.asyncio.specs.declared.Value.{Value}
 use Rattle.asyncio.specs.declared.Error.{Error}
 use Rattle.asyncio.specs.declared.CoroutineState.{CoroutineState}
 use Rattle.asyncio.specs.declared.words.Words2.{Words2}
-use Rattle.asyncio.specs.Layout.{value-words, error-words}
+use Rattle.asyncio.specs.Layout.{value-numbers, error-words}
 use Rattle.machine.specs.Events.{How, start, value, raises, inline, Control, runs, waits}
 use Rattle.machine.specs.Machine.{Answer, Shown}
 
@@ -22,10 +22,6 @@ pub record Numbers : Type 0 where
 -- an answer of an accepted event: its word and its values
 abbrev pub says : ℕ → List ℕ → Numbers
 says w vs = record { refusal = 0; word = w; values = vs }
-
--- a value: 0 plain or 1 list, and its number
-unfoldable pub value-numbers : Value → List ℕ
-value-numbers v = value-words v .0 ∷ value-words v .1 ∷ []
 
 -- an error: its place in the list of errors, and its number, 0 where it has none
 unfoldable pub error-numbers : Error → List ℕ

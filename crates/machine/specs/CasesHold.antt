@@ -5,7 +5,8 @@ use mathlib.Core.List.{List, [], _∷_, map}
 use lib.ListN.{getD, List·getD-map}
 use Rattle.machine.specs.Cases.{Case, Seen, answered, turn-event, turn-answer, same-store, seen, expected, cases}
 use Rattle.machine.specs.Computes.{computes}
-use Rattle.machine.specs.Answers.{says, value-numbers, error-numbers, how-numbers, control-numbers, place-numbers, places-numbers, shown-numbers, answer-numbers}
+use Rattle.asyncio.specs.Layout.{value-numbers}
+use Rattle.machine.specs.Answers.{says, error-numbers, how-numbers, control-numbers, place-numbers, places-numbers, shown-numbers, answer-numbers}
 
 -- every row of this table
 pub all-rows : map seen cases ≡ map expected cases

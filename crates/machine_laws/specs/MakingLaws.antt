@@ -9,6 +9,8 @@ use native.Mathlib.Omega.{arith}
 use native.Mathlib.Decide.{ℕ-discrete, decLt}
 use lib.Dec.{T, eqb, eqb→eq, eqb-refl, ltb, ltb→lt, lt→ltb}
 use lib.ListN.{length}
+use Rattle.asyncio.specs.declared.TaskId.{TaskId}
+use Rattle.asyncio.specs.declared.HeapId.{HeapId}
 use Rattle.asyncio.specs.declared.Value.{Value}
 use Rattle.asyncio.specs.declared.OptionValue.{OptionValue}
 use Rattle.asyncio.specs.declared.TaskState.{TaskState}
@@ -164,10 +166,10 @@ module _ (u : ℕ) (ps qs : ℕ → Place) (same : (p : ℕ) → p < u → qs p 
 
 -- ---- an object is made
 
-nobody-task : {t : ℕ} → Awaiter.Nobody ≡ Awaiter.Task (task-id t) → ⊥
+pub nobody-task : {t : TaskId} → Awaiter.Nobody ≡ Awaiter.Task t → ⊥
 nobody-task e = let z : _≡_ {A = ℕ} 0 1 = cc in omega arith
 
-nobody-slot : {g x : ℕ} → Awaiter.Nobody ≡ Awaiter.GatherSlot (heap-id g) (heap-id x) → ⊥
+pub nobody-slot : {g x : HeapId} → Awaiter.Nobody ≡ Awaiter.GatherSlot g x → ⊥
 nobody-slot e = let z : _≡_ {A = ℕ} 0 1 = cc in omega arith
 
 module _ (v : View) (x : Object) (n : ℕ) (ps : ℕ → Place) (c : ℕ) (ft : AddFits v x n ps c) (h : SoundBut 0 Nothing Nothing v) where

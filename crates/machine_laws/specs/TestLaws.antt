@@ -27,6 +27,10 @@ pub and-true : (a b : Bool) → (a && b) ≡ true → (a ≡ true) × (b ≡ tru
 and-true true b e = (refl, e)
 and-true false b e = (e, absurd (true≢false (sym e)))
 
+pub or-second : (a b : Bool) → T b → T (a || b)
+or-second true b t = tt
+or-second false b t = t
+
 -- ---- both
 
 pub both : (a b : Bool) → T a → T b → T (a and b)

@@ -8,16 +8,13 @@ use Rattle.asyncio.specs.Numbers.{heap-id}
 use Rattle.asyncio.specs.Kinds.{kind, each-object, is-awaited, is-committed}
 use Rattle.asyncio.specs.Parts.{first-of, count-of, awaiter-of, open-of}
 use Rattle.asyncio.specs.declared.Awaiter.{Awaiter}
-use Rattle.asyncio.specs.declared.CoroutineState.{CoroutineState}
-use Rattle.asyncio.specs.declared.ExternalFutureState.{ExternalFutureState}
-use Rattle.asyncio.specs.declared.GatherState.{GatherState}
 use Rattle.asyncio.specs.declared.HeapId.{HeapId}
 use Rattle.asyncio.specs.declared.Kind.{Kind}
 use Rattle.asyncio.specs.declared.Object.{Object}
 use Rattle.asyncio.specs.declared.Place.{Place}
 use Rattle.asyncio.specs.declared.TaskState.{TaskState}
 use Rattle.asyncio.specs.declared.Task.{Task}
-use Rattle.rows.specs.Tables.{task-at, object-at, place-at}
+use Rattle.rows.specs.Tables.{task-at, object-at}
 use Rattle.machine.specs.Tests.{_and_, implies}
 use Rattle.machine.specs.Scheduler.{as-awaited}
 use Rattle.machine.specs.Commit.{open-from}

@@ -8,6 +8,7 @@ use lib.Dec.{eqb}
 use native.Mathlib.Decide.{ℕ-discrete}
 use borrow.Author.Tests.{eqb-true, eqb-false, eq-eqb, ne-eqb}
 use Rattle.machine.specs.Scheduler.{bit}
+use Rattle.machine_laws.specs.TestLaws.{is-true, not-not}
 use Rattle.machine_laws.specs.BitLaws.{bit-le}
 
 -- ---- a bit as a number
@@ -16,15 +17,11 @@ not-true : (b : Bool) → not b ≡ true → b ≡ false
 not-true true e = sym e
 not-true false e = refl
 
-not-false : (b : Bool) → not b ≡ false → b ≡ true
-not-false true e = refl
-not-false false e = sym e
-
 set-odd : (m i : ℕ) → bit m i ≡ true → m / 2 ^ i % 2 ≡ 0 → ⊥
 set-odd m i e = eqb-false (m / 2 ^ i % 2) 0 (not-true (eqb (m / 2 ^ i % 2) 0) e)
 
 clear-even : (m i : ℕ) → bit m i ≡ false → m / 2 ^ i % 2 ≡ 0
-clear-even m i e = eqb-true (m / 2 ^ i % 2) 0 (not-false (eqb (m / 2 ^ i % 2) 0) e)
+clear-even m i e = eqb-true (m / 2 ^ i % 2) 0 (is-true _ (not-not (eqb (m / 2 ^ i % 2) 0) e))
 
 half : (m j : ℕ) → m / 2 ^ suc j ≡ m / 2 / 2 ^ j
 half m j = rw (pow-succ' 2 j) (sym (div-div-eq-div-mul m 2 (2 ^ j)))

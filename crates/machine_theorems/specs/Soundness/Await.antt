@@ -33,11 +33,12 @@ use Rattle.machine_laws.specs.Views.{update, with-object}
 use Rattle.machine_laws.specs.Facts.{Slotted, Nothing}
 use Rattle.machine_laws.specs.StoreLaws.{update-case, task-fits, object-fits, object-put-object, header-put-object, view-put-object}
 use Rattle.machine_laws.specs.DeliveryLaws.{absurd-some, pending-object}
+use Rattle.machine_laws.specs.MakingLaws.{nobody-task}
 use Rattle.machine_theorems.specs.Soundness.ReadyTasks.{not-queued, queued-same}
 use Rattle.machine_theorems.specs.Soundness.PutObject.{Fits}
 use Rattle.machine_theorems.specs.Soundness.PutTask.{with-task-queue, Closes, TaskWrite}
 use Rattle.machine_theorems.specs.Soundness.Stores.{Kept, Runs, idle, SoundDuring, SoundStore, object-kept, task-kept, view-task-queue, add-log-during, object-during, during-of, sound-store-during}
-use Rattle.machine_theorems.specs.Soundness.Deliver.{nobody-task, restated-in-range, restated-fits}
+use Rattle.machine_theorems.specs.Soundness.Deliver.{restated-in-range, restated-fits}
 use Rattle.machine_theorems.specs.Soundness.Cycle.{coroutine-fits, next-keeps, activate-keeps}
 use Rattle.machine_theorems.specs.Soundness.Exits.{runner-low, runner-runs, others-commits-none, commits-none-on}
 

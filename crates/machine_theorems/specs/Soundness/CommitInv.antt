@@ -32,15 +32,16 @@ use Rattle.machine.specs.Commit.{Frame, with-state, set-gather}
 use Rattle.machine.specs.Sound.{awaiter-in-range, open-in-range, object-in-range, committed-places, items-below, value-known, option-known, object-values, is-filled, object-filled, is-task-of-at, runs-now}
 use Rattle.machine_laws.specs.Views.{update, with-object, with-place, with-places}
 use Rattle.machine_laws.specs.Facts.{Open, Slotted, SoundBut, Nothing}
-use Rattle.machine_laws.specs.TestLaws.{both, both-left}
+use Rattle.machine_laws.specs.TestLaws.{or-second, both, both-left}
 use Rattle.machine_laws.specs.StoreLaws.{update-same, update-other, update-case, view-put-object}
 use Rattle.machine_laws.specs.DeliveryLaws.{absurd-some, awaited-object, awaited-fits}
+use Rattle.machine_laws.specs.MakingLaws.{nobody-task}
 use Rattle.machine_theorems.specs.Soundness.ReadyTasks.{Queued}
 use Rattle.machine_theorems.specs.Soundness.PutObject.{Fits, object-keeps}
 use Rattle.machine_theorems.specs.Soundness.PutTask.{but-keeps, PlacesWrite, places-keep}
 use Rattle.machine_theorems.specs.Soundness.Stores.{Runs}
 use Rattle.machine_theorems.specs.Soundness.SpawnTask.{spawned-row, spawn-view, spawn-keeps}
-use Rattle.machine_theorems.specs.Soundness.Deliver.{nobody-task, task-slot, task-same, awaiter-is, Done}
+use Rattle.machine_theorems.specs.Soundness.Deliver.{task-slot, task-same, awaiter-is, Done}
 use Rattle.machine_theorems.specs.Soundness.Fill.{awaits-on, open-small}
 use Rattle.machine_theorems.specs.Soundness.Exits.{is-run-state}
 use Rattle.machine_theorems.specs.Soundness.Memory.{Memory, memory-object}
@@ -80,10 +81,6 @@ or-filled false b c f t = f t
 
 or-first : (a b : Bool) → a ≡ true → T (a || b)
 or-first a b e = rw e tt
-
-or-second : (a b : Bool) → T b → T (a || b)
-or-second true b t = tt
-or-second false b t = t
 
 -- places are filled
 stacked-places : {n : ℕ} {os : ℕ → Object} {ps : ℕ → Place} {root t g : ℕ} {a : Awaiter} {fs : List Frame} {k : ℕ} (qs : ℕ → Place) → ((p : ℕ) → qs p .item ≡ ps p .item)

@@ -21,9 +21,10 @@ use Rattle.machine.specs.Sound.{awaiter-in-range, open-in-range, object-in-rang
 use Rattle.machine_laws.specs.Facts.{Open, Slotted, SoundBut, Nothing}
 use Rattle.machine_laws.specs.TestLaws.{holds, both, both-left}
 use Rattle.machine_laws.specs.DeliveryLaws.{absurd-some, awaited-object}
+use Rattle.machine_laws.specs.MakingLaws.{nobody-task, nobody-slot}
 use Rattle.machine_theorems.specs.Bounds.Bits.{bit-set-other, bit-set-same, bit-set-small}
 use Rattle.machine_theorems.specs.Soundness.PutObject.{Fits}
-use Rattle.machine_theorems.specs.Soundness.Deliver.{nobody-task, nobody-slot, awaiter-is}
+use Rattle.machine_theorems.specs.Soundness.Deliver.{awaiter-is}
 
 -- ---- the open word with one place more
 

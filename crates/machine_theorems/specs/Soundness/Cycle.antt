@@ -41,11 +41,12 @@ use Rattle.machine_laws.specs.Facts.{SoundBut, Nothing}
 use Rattle.machine_laws.specs.TestLaws.{both, both-left, both-right, implies-use}
 use Rattle.machine_laws.specs.StoreLaws.{update-case, task-fits, object-fits, header-put-object}
 use Rattle.machine_laws.specs.DeliveryLaws.{absurd-some}
+use Rattle.machine_laws.specs.MakingLaws.{nobody-task, nobody-slot}
 use Rattle.machine_theorems.specs.Soundness.ReadyTasks.{Queued, to-queued, queued-same, queued-less, queued-remove, gone, was-there, head-gone}
 use Rattle.machine_theorems.specs.Soundness.PutObject.{Fits}
 use Rattle.machine_theorems.specs.Soundness.PutTask.{with-task-queue, TaskWrite}
 use Rattle.machine_theorems.specs.Soundness.Stores.{Runs, idle, SoundDuring, SoundStore, object-during, task-during, queue-during, add-log-during, moment-sound-store}
-use Rattle.machine_theorems.specs.Soundness.Deliver.{nobody-task, nobody-slot, DeliveryEnds, Detached, take-off, restated-in-range, restated-fits, ErrorRises, failure-keeps}
+use Rattle.machine_theorems.specs.Soundness.Deliver.{DeliveryEnds, Detached, take-off, restated-in-range, restated-fits, ErrorRises, failure-keeps}
 
 -- ---- a live spawned task
 

@@ -34,6 +34,7 @@ use Rattle.machine_laws.specs.Facts.{Open, Slotted, SoundBut, Nothing}
 use Rattle.machine_laws.specs.TestLaws.{both, both-left, both-right, below, implies-use, implies-give}
 use Rattle.machine_laws.specs.StoreLaws.{update-same, update-case, view-put-object, task-fits}
 use Rattle.machine_laws.specs.DeliveryLaws.{absurd-some, awaited-object, awaited-fits, failure-climbs}
+use Rattle.machine_laws.specs.MakingLaws.{nobody-task, nobody-slot}
 use Rattle.machine_theorems.specs.Soundness.ReadyTasks.{not-queued, queued-back}
 use Rattle.machine_theorems.specs.Soundness.PutObject.{by-object, Fits, slotted}
 use Rattle.machine_theorems.specs.Soundness.PutTask.{with-task-queue, TaskWrite, but-keeps}
@@ -46,12 +47,6 @@ pub record DeliveryEnds (r : ℕ → Bool) (D : ℕ → Type 0) (hd : Header) (d
   pub woken : (t : ℕ) → d .woken ≡ some t → t < hd .next
 
 -- ---- awaiters told apart
-
-pub nobody-task : {t : TaskId} → Awaiter.Nobody ≡ Awaiter.Task t → ⊥
-nobody-task e = let z : _≡_ {A = ℕ} 0 1 = cc in omega arith
-
-pub nobody-slot : {g x : HeapId} → Awaiter.Nobody ≡ Awaiter.GatherSlot g x → ⊥
-nobody-slot e = let z : _≡_ {A = ℕ} 0 1 = cc in omega arith
 
 pub task-slot : {t : TaskId} {g x : HeapId} → Awaiter.Task t ≡ Awaiter.GatherSlot g x → ⊥
 task-slot e = let z : _≡_ {A = ℕ} 0 1 = cc in omega arith

@@ -42,11 +42,12 @@ use Rattle.machine_laws.specs.Facts.{SoundBut, Nothing}
 use Rattle.machine_laws.specs.TestLaws.{holds, both, both-left, both-right}
 use Rattle.machine_laws.specs.StoreLaws.{update-case, update-same, update-other, object-fits}
 use Rattle.machine_laws.specs.DeliveryLaws.{absurd-some, first-below}
+use Rattle.machine_laws.specs.MakingLaws.{nobody-slot}
 use Rattle.machine_theorems.specs.Soundness.ReadyTasks.{Queued, none-ready}
 use Rattle.machine_theorems.specs.Soundness.PutObject.{by-object, by-task, value-stays}
 use Rattle.machine_theorems.specs.Soundness.PutTask.{is-task-of-give, with-task-queue, TaskWrite}
 use Rattle.machine_theorems.specs.Soundness.Stores.{Kept, Runs, idle, SoundDuring, SoundStore, view-task-queue, object-during, task-during, queue-during, add-log-during, during-of, sound-store-during, moment-sound-store}
-use Rattle.machine_theorems.specs.Soundness.Deliver.{nobody-slot, DeliveryEnds, Detached, take-off}
+use Rattle.machine_theorems.specs.Soundness.Deliver.{DeliveryEnds, Detached, take-off}
 use Rattle.machine_theorems.specs.Soundness.Fill.{Alone, ValueRises, success-keeps}
 use Rattle.machine_theorems.specs.Soundness.Cycle.{Spawned, spawned-of, not-a-task, coroutine-is, no-awaiter, task-detached, coroutine-fits, absent-in-range, absent-fits, remove-keeps, next-keeps, exit-keeps, failure-exit, activate-keeps}
 

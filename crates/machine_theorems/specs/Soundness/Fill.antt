@@ -35,15 +35,15 @@ use Rattle.machine.specs.Sound.{places-below, awaiter-in-range, open-in-range, 
 use Rattle.machine.specs.Sound.{value-known, option-known, object-values, state-values, is-filled, rest-filled, gather-filled, object-filled}
 use Rattle.machine_laws.specs.Views.{update, with-object, with-place}
 use Rattle.machine_laws.specs.Facts.{Open, Slotted, SoundBut, Nothing}
-use Rattle.machine_laws.specs.TestLaws.{holds, is-true, both, both-left, both-right, below, from-below, implies-use, sum-last, sum-more}
+use Rattle.machine_laws.specs.TestLaws.{holds, is-true, or-second, both, both-left, both-right, below, from-below, implies-use, sum-last, sum-more}
 use Rattle.machine_laws.specs.StoreLaws.{update-same, update-other, update-case, view-put-object, view-put-place, place-fits, object-put-object, header-put-object}
-use Rattle.machine_laws.specs.MakingLaws.{value-fits}
+use Rattle.machine_laws.specs.MakingLaws.{value-fits, nobody-task, nobody-slot}
 use Rattle.machine_laws.specs.DeliveryLaws.{absurd-some, awaited-object, awaited-fits, success-climbs}
 use Rattle.machine_theorems.specs.Bounds.Bits.{bit-clear}
 use Rattle.machine_theorems.specs.Soundness.PutObject.{Held, by-object, by-task, Fits}
 use Rattle.machine_theorems.specs.Soundness.PutTask.{PlacesWrite}
 use Rattle.machine_theorems.specs.Soundness.Stores.{SoundDuring, object-during, place-during}
-use Rattle.machine_theorems.specs.Soundness.Deliver.{nobody-task, nobody-slot, task-slot, DeliveryEnds, Delivering, Detached, landed, nobody-delivery-ends, Settles, settle-keeps, detached-keeps, Resumes, reach-keeps, awaiter-is, Done, gather-settles, open-lower}
+use Rattle.machine_theorems.specs.Soundness.Deliver.{task-slot, DeliveryEnds, Delivering, Detached, landed, nobody-delivery-ends, Settles, settle-keeps, detached-keeps, Resumes, reach-keeps, awaiter-is, Done, gather-settles, open-lower}
 use Rattle.machine_theorems.specs.Soundness.Deliver.{Sends, sends-nothing, sends-on}
 
 -- ---- what an awaited gather's row says
@@ -85,10 +85,6 @@ slot-task h os zero y g x e l k = absurd (subst (λ (a : Awaiter). T (is-nobody 
 slot-task h os (suc t) y g x e l k = both-right _ _ (both-right _ _ (both-right _ _ (implies-use (is-live (y .state)) _ l k)))
 
 -- ---- the places are filled, one after the other
-
-or-right-true : (a b : Bool) → T b → T (a || b)
-or-right-true true b t = tt
-or-right-true false b t = t
 
 -- One step of a value's climb: the open places of an awaited gather that name the source x are filled.
 module _ {r : ℕ → Bool} {D : ℕ → Type 0} {hd : Header} (s : Store) (g x : ℕ) (v : Value) (w : AwaitedGather) (h : SoundDuring Nothing r D hd s)
@@ -157,7 +153,7 @@ module _ {r : ℕ → Bool} {D : ℕ → Type 0} {hd : Header} (s : Store) (g x 
       where
         each : (j : ℕ) → j < w .count → Dec (j ≡ i) → T (bit (m - 2 ^ i) j || is-filled (place-at (place-put ps at row) (w .first + j) .result))
         each j z (yes q) =
-            or-right-true (bit (m - 2 ^ i) j) _ (subst (λ (y : Place). T (is-filled (y .result)))
+            or-second (bit (m - 2 ^ i) j) _ (subst (λ (y : Place). T (is-filled (y .result)))
             (sym (now (w .first + j) ∙ (ap (λ (n : ℕ). update (place-at ps) at row (w .first + n)) q ∙ update-same (place-at ps) at row))) (unfold is-filled in tt))
         each j z (no d) =
             subst (λ (b : Bool). T (b || is-filled (place-at (place-put ps at row) (w .first + j) .result))) (sym (bit-clear i m j open-i d))
