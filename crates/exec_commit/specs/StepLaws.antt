@@ -22,12 +22,14 @@ use Rattle.machine.specs.Scheduler.{as-awaited}
 use Rattle.machine.specs.Commit.{gives, polled, nested, item, open-place, fill-place, at-end, at-error, put-polled, put-item, step-item, step-items, step-gather-commit}
 use Rattle.machine.specs.Commit as machine
 use Rattle.machine_laws.specs.Views.{Sized}
-use Rattle.machine_laws.specs.DeliveryLaws.{absurd-some, awaited-fits}
+use Rattle.machine_laws.specs.DeliveryLaws.{absurd-some}
 use Rattle.machine_laws.specs.CommitLaws.{same-kinds-refl, awaited-count, StopKeeps, step-item-kinds}
-use Rattle.exec_poll.specs.Polls.{poll-of, awaited-gather-of, option-awaited, Itemed, with-item, itemed, item-at}
+use Rattle.scheduler.specs.Awaited.{awaited-gather-of, option-awaited}
+use Rattle.scheduler.specs.AwaitedLaws.{awaited-range}
+use Rattle.exec_poll.specs.Polls.{poll-of, Itemed, with-item, itemed, item-at}
 use Rattle.exec_commit.specs.Steps.{Goes, with-bit, stepped, step-at, stopped, stop-log, WalksOn, frame}
-use Rattle.exec_poll.specs.declared.awaited.AwaitedGather.{AwaitedGather}
-use Rattle.exec_poll.specs.declared.awaited.OptionAwaited.{OptionAwaited}
+use Rattle.scheduler.specs.declared.awaited.AwaitedGather.{AwaitedGather}
+use Rattle.scheduler.specs.declared.awaited.OptionAwaited.{OptionAwaited}
 use Rattle.exec_poll.specs.declared.item.Poll.{Poll}
 use Rattle.exec_poll.specs.declared.item.ItemPoll.{ItemPoll}
 use Rattle.exec_commit.specs.declared.step.ItemStep.{ItemStep}
@@ -64,12 +66,6 @@ module _ (ts os ps : List ℕ) (q : ReadyQueue) (l : List LogEntry) (w : Awaited
     put-pending e f = rw (e, ← f)
 
 -- ---- one item
-
--- the places of an awaited gather that was read are in range
-pub awaited-range : (os : List ℕ) (g : ℕ) (a : OptionAwaited) (w : AwaitedGather) → option-awaited a ≡ as-awaited (object-at os g) → a ≡ OptionAwaited.Some w
-    → PlacesFit (w .first) (w .count)
-unfolding object
-awaited-range os g a w e f = awaited-fits (store-of [] os [] (record { len = 0; ids = [] }) []) g (awaited-gather-of w) (sym (rw f at e)) .0
 
 -- a place of a gather, by the count in its row
 pub record InPlace (w : AwaitedGather) (i : ℕ) : Type 0 where

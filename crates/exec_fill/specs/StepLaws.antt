@@ -1,27 +1,25 @@
 -- The ways through deliver_to_task, resolve_child and fail, in the shape of what the code knows there.
-use mathlib.Core.Path.{_≡_, refl, sym, _∙_}
+use mathlib.Core.Path.{_≡_}
 use mathlib.Core.Bool.{Bool, true, false}
 use mathlib.Core.List.{List}
-use mathlib.Core.Option.{Option, none, some}
-use Prim.Native.Nat.{ℕ, _<_}
-use lib.Dec.{eqb}
+use Prim.Native.Nat.{ℕ}
 use borrow.Author.Tests.{eq-eqb, ne-eqb}
 use Rattle.asyncio.specs.States.{is-blocked}
-use Rattle.asyncio.specs.Ranges.{ObjectFits, PlacesFit}
 use Rattle.asyncio.specs.declared.Value.{Value}
 use Rattle.asyncio.specs.declared.Error.{Error}
-use Rattle.asyncio.specs.declared.Awaiter.{Awaiter}
 use Rattle.asyncio.specs.declared.GatherState.{GatherState}
 use Rattle.asyncio.specs.declared.Object.{Object}
 use Rattle.asyncio.specs.declared.TaskState.{TaskState}
 use Rattle.rows.specs.Tables.{task-at, object-at, object-put}
-use Rattle.rows.specs.TableLaws.{object-at-fits}
 use Rattle.queue.specs.declared.ReadyQueue.{ReadyQueue}
 use Rattle.asyncio.specs.Numbers.{task-id}
+use Rattle.scheduler.specs.Awaited.{option-awaited}
+use Rattle.scheduler.specs.declared.awaited.AwaitedGather.{AwaitedGather}
+use Rattle.scheduler.specs.declared.awaited.OptionAwaited.{OptionAwaited}
 use Rattle.scheduler.specs.declared.tasks.FoundTask.{FoundTask}
-use Rattle.machine.specs.Store.{Store, LogEntry, store-of, task, object, put-object, put-places, add-log}
+use Rattle.machine.specs.Store.{LogEntry, store-of, task, object, put-object, put-places, add-log}
 use Rattle.machine.specs.Scheduler.{as-awaited, make-ready}
-use Rattle.machine.specs.Delivery.{Filled, filled, fill-from, nobody-woken, deliver-to-task, resolve-left, resolve-awaited, resolve-child, fail-awaited, fail-gather}
+use Rattle.machine.specs.Delivery.{filled, fill-from, nobody-woken, deliver-to-task, resolve-left, resolve-awaited, resolve-child, fail-awaited, fail-gather}
 use Rattle.exec_fill.specs.Delivered.{delivered, settled}
 use Rattle.exec_fill.specs.declared.gather.Onward.{Onward}
 
@@ -39,35 +37,30 @@ module _ (ts os ps : List ℕ) (q : ReadyQueue) (l : List LogEntry) (t : ℕ) (x
 
 -- ---- into a gather
 
--- the places of a gather that was read are in range
-pub gather-range : (os : List ℕ) (g : ℕ) {o : Object} {i n : ℕ} {s : GatherState} → o ≡ object-at os g → o ≡ Object.GatherFuture i n s → PlacesFit i n
-gather-range os g {i = i} {n = n} {s = s} e f = let h : ObjectFits (Object.GatherFuture i n s) = rw (sym e ∙ f) at (object-at-fits os g) in h .0
-
-module _ (ts os ps : List ℕ) (q : ReadyQueue) (l : List LogEntry) (g : ℕ) {o : Object} (e : o ≡ object-at os g) where
+module _ (ts os ps : List ℕ) (q : ReadyQueue) (l : List LogEntry) (g : ℕ) {a : OptionAwaited} (e : option-awaited a ≡ as-awaited (object-at os g)) where
   module _ (source : ℕ) (v : Value) where
-    pub resolve-idle : (x : Object) → o ≡ x → as-awaited x ≡ none → settled (store-of ts os ps q l) Onward.Nowhere ≡ resolve-child (store-of ts os ps q l) g source v
+    pub resolve-idle : a ≡ OptionAwaited.None → settled (store-of ts os ps q l) Onward.Nowhere ≡ resolve-child (store-of ts os ps q l) g source v
     unfolding resolve-child resolve-awaited object
-    resolve-idle x f n = rw (← e, f, n)
+    resolve-idle f = rw (← e, f)
 
-    module _ (i n m : ℕ) (w : Awaiter) {s : GatherState} (f : o ≡ Object.GatherFuture i n s) (a : s ≡ GatherState.Awaited w m) {rs : List ℕ} {k : ℕ}
-        (fills : filled rs k ≡ fill-from ps m i source v 0 n) where
-      pub resolve-completes : k ≡ 0 → {us : List ℕ} → us ≡ object-put os g (Object.GatherFuture i n GatherState.Completed)
-          → settled (store-of ts us rs q l) (Onward.To w) ≡ resolve-child (store-of ts os ps q l) g source v
-      unfolding resolve-child resolve-awaited resolve-left as-awaited object put-places put-object
-      resolve-completes z p = rw (← e, f, a, ← fills, eq-eqb k 0 z, p)
+    module _ (w : AwaitedGather) (f : a ≡ OptionAwaited.Some w) {rs : List ℕ} {k : ℕ}
+        (fills : filled rs k ≡ fill-from ps (w .«open_places») (w .first) source v 0 (w .count)) where
+      pub resolve-completes : k ≡ 0 → {us : List ℕ} → us ≡ object-put os g (Object.GatherFuture (w .first) (w .count) GatherState.Completed)
+          → settled (store-of ts us rs q l) (Onward.To (w .awaiter)) ≡ resolve-child (store-of ts os ps q l) g source v
+      unfolding resolve-child resolve-awaited resolve-left object put-places put-object
+      resolve-completes z p = rw (← e, f, ← fills, eq-eqb k 0 z, p)
 
-      pub resolve-waits : (k ≡ 0 → ⊥) → {us : List ℕ} → us ≡ object-put os g (Object.GatherFuture i n (GatherState.Awaited w k))
+      pub resolve-waits : (k ≡ 0 → ⊥) → {us : List ℕ} → us ≡ object-put os g (Object.GatherFuture (w .first) (w .count) (GatherState.Awaited (w .awaiter) k))
           → settled (store-of ts us rs q l) Onward.Nowhere ≡ resolve-child (store-of ts os ps q l) g source v
-      unfolding resolve-child resolve-awaited resolve-left as-awaited object put-places put-object
-      resolve-waits z p = rw (← e, f, a, ← fills, ne-eqb k 0 z, p)
+      unfolding resolve-child resolve-awaited resolve-left object put-places put-object
+      resolve-waits z p = rw (← e, f, ← fills, ne-eqb k 0 z, p)
 
   module _ (x : Error) where
-    pub fail-idle : (y : Object) → o ≡ y → as-awaited y ≡ none → settled (store-of ts os ps q l) Onward.Nowhere ≡ fail-gather (store-of ts os ps q l) g x
+    pub fail-idle : a ≡ OptionAwaited.None → settled (store-of ts os ps q l) Onward.Nowhere ≡ fail-gather (store-of ts os ps q l) g x
     unfolding fail-gather fail-awaited object
-    fail-idle y f n = rw (← e, f, n)
+    fail-idle f = rw (← e, f)
 
-    pub fails : (i n m : ℕ) (w : Awaiter) {s : GatherState} → o ≡ Object.GatherFuture i n s → s ≡ GatherState.Awaited w m
-        → {us : List ℕ} → us ≡ object-put os g (Object.GatherFuture i n (GatherState.Failed x))
-        → settled (store-of ts us ps q l) (Onward.To w) ≡ fail-gather (store-of ts os ps q l) g x
-    unfolding fail-gather fail-awaited as-awaited object put-object
-    fails i n m w f a p = rw (← e, f, a, p)
+    pub fails : (w : AwaitedGather) → a ≡ OptionAwaited.Some w → {us : List ℕ} → us ≡ object-put os g (Object.GatherFuture (w .first) (w .count) (GatherState.Failed x))
+        → settled (store-of ts us ps q l) (Onward.To (w .awaiter)) ≡ fail-gather (store-of ts os ps q l) g x
+    unfolding fail-gather fail-awaited object put-object
+    fails w f p = rw (← e, f, p)

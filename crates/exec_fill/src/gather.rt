@@ -6,6 +6,9 @@ use asyncio::GatherState;
 use asyncio::HeapId;
 use asyncio::Object;
 use asyncio::Value;
+use rows::tables::store_object;
+use scheduler::awaited::OptionAwaited;
+use scheduler::awaited::as_awaited;
 ghost use Prim.Native.Nat.{_<_};
 ghost use Rattle.asyncio.specs.Limits.{object-limit};
 ghost use Rattle.machine.specs.Delivery.{resolve-child, fail-gather};
@@ -30,61 +33,49 @@ pub fn resolve_child(
     ensures { λ r. ⌜ Settles objects places
         (λ s. resolve-child s (g .0) (source .0) value) r ⌝ }
 {
-    let o = rows::tables::load_object(objects, g);
-    match o {
-        Object::Unmade => Onward::Nowhere,
-        Object::Coroutine {
-            function: _,
-            state: _,
-        } => Onward::Nowhere,
-        Object::ExternalFuture { call: _, state: _ } => Onward::Nowhere,
-        Object::GatherFuture {
-            first,
-            count,
-            state,
-        } => match state {
-            GatherState::Pending => Onward::Nowhere,
-            GatherState::Completed => Onward::Nowhere,
-            GatherState::Failed(_) => Onward::Nowhere,
-            GatherState::Awaited {
-                awaiter,
-                open_places,
-            } => {
-                let left = fill_places(
-                    places,
-                    first as usize,
-                    count as usize,
-                    open_places,
-                    source,
-                    value,
-                );
-                if left == 0 {
-                    rows::tables::store_object(
-                        objects,
-                        g,
-                        Object::GatherFuture {
-                            first,
-                            count,
-                            state: GatherState::Completed,
-                        },
-                    );
-                    return Onward::To(awaiter);
-                }
-                rows::tables::store_object(
+    let a = as_awaited(objects, g);
+    match a {
+        OptionAwaited::None => Onward::Nowhere,
+        OptionAwaited::Some(w) => {
+            let first = w.first;
+            let count = w.count;
+            let awaiter = w.awaiter;
+            let left = fill_places(
+                places,
+                first as usize,
+                count as usize,
+                w.open_places,
+                source,
+                value,
+            );
+            if left == 0 {
+                let state = GatherState::Completed;
+                store_object(
                     objects,
                     g,
                     Object::GatherFuture {
                         first,
                         count,
-                        state: GatherState::Awaited {
-                            awaiter,
-                            open_places: left,
-                        },
+                        state,
                     },
                 );
-                Onward::Nowhere
+                return Onward::To(awaiter);
             }
-        },
+            let state = GatherState::Awaited {
+                awaiter,
+                open_places: left,
+            };
+            store_object(
+                objects,
+                g,
+                Object::GatherFuture {
+                    first,
+                    count,
+                    state,
+                },
+            );
+            Onward::Nowhere
+        }
     }
 }
 
@@ -93,37 +84,22 @@ pub fn fail(objects: &mut [u64], g: HeapId, error: Error) -> Onward
     requires { ⌜ ObjectsLength objects × (g .0 < object-limit) ⌝ }
     ensures { λ r. ⌜ SettlesKeepingPlaces objects (λ s. fail-gather s (g .0) error) r ⌝ }
 {
-    let o = rows::tables::load_object(objects, g);
-    match o {
-        Object::Unmade => Onward::Nowhere,
-        Object::Coroutine {
-            function: _,
-            state: _,
-        } => Onward::Nowhere,
-        Object::ExternalFuture { call: _, state: _ } => Onward::Nowhere,
-        Object::GatherFuture {
-            first,
-            count,
-            state,
-        } => match state {
-            GatherState::Pending => Onward::Nowhere,
-            GatherState::Completed => Onward::Nowhere,
-            GatherState::Failed(_) => Onward::Nowhere,
-            GatherState::Awaited {
-                awaiter,
-                open_places: _,
-            } => {
-                rows::tables::store_object(
-                    objects,
-                    g,
-                    Object::GatherFuture {
-                        first,
-                        count,
-                        state: GatherState::Failed(error),
-                    },
-                );
-                Onward::To(awaiter)
-            }
-        },
+    let a = as_awaited(objects, g);
+    match a {
+        OptionAwaited::None => Onward::Nowhere,
+        OptionAwaited::Some(w) => {
+            let awaiter = w.awaiter;
+            let state = GatherState::Failed(error);
+            store_object(
+                objects,
+                g,
+                Object::GatherFuture {
+                    first: w.first,
+                    count: w.count,
+                    state,
+                },
+            );
+            Onward::To(awaiter)
+        }
     }
 }

@@ -2,7 +2,6 @@
 use mathlib.Core.Path.{_≡_, refl, sym, ap, _∙_}
 use mathlib.Core.Bool.{Bool, true, false, true≢false}
 use mathlib.Core.List.{List}
-use mathlib.Core.Option.{none, some}
 use Prim.Native.Nat.{ℕ}
 use Rattle.asyncio.specs.States.{is-nobody}
 use Rattle.asyncio.specs.Numbers.{heap-id}
@@ -18,23 +17,11 @@ use Rattle.rows.specs.Tables.{object-at, object-put, place-at}
 use Rattle.queue.specs.declared.ReadyQueue.{ReadyQueue}
 use Rattle.scheduler.specs.Spawn.{Spawns, done, not-done}
 use Rattle.machine.specs.Store.{Store, LogEntry, store-of, object, put-object, place}
-use Rattle.machine.specs.Scheduler.{as-awaited}
 use Rattle.machine.specs.Scheduler as scheduler
 use Rattle.machine.specs.Commit.{raised, pending, Polled, gives, await-pending, await-external, polled-spawn, item-coroutine, polled, item-gather, item-object, open-from, item}
 use Rattle.exec_poll.specs.Polls.{poll-of, with-item, itemed, item-here, item-at}
 use Rattle.exec_poll.specs.declared.item.Poll.{Poll}
 use Rattle.exec_poll.specs.declared.item.ItemPoll.{ItemPoll}
-
--- ---- a gather that is awaited
-
-module _ (os : List ℕ) (g : ℕ) {o : Object} (e : o ≡ object-at os g) where
-  pub not-awaited : (x : Object) → o ≡ x → as-awaited x ≡ none → none ≡ as-awaited (object-at os g)
-  not-awaited x f n = rw (← e, f, n)
-
-  pub is-awaited : (i n m : ℕ) (a : Awaiter) {s : GatherState} → o ≡ Object.GatherFuture i n s → s ≡ GatherState.Awaited a m
-      → some (record { first = i; count = n; awaiter = a; open-places = m }) ≡ as-awaited (object-at os g)
-  unfolding as-awaited
-  is-awaited i n m a f k = rw (← e, f, k)
 
 -- ---- an external
 

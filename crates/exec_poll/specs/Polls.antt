@@ -7,8 +7,6 @@ use Rattle.machine.specs.Scheduler as scheduler
 use Rattle.machine.specs.Commit.{ready, raised, pending, gives, polled, nested, item-object, item}
 use Rattle.machine.specs.Commit as machine
 use Rattle.contract.specs.Contract.{Slice, Does, DoesOfTasksAndObjects, DoesOfObjects}
-use Rattle.exec_poll.specs.declared.awaited.AwaitedGather.{AwaitedGather}
-use Rattle.exec_poll.specs.declared.awaited.OptionAwaited.{OptionAwaited}
 use Rattle.exec_poll.specs.declared.item.Poll.{Poll}
 use Rattle.exec_poll.specs.declared.item.Polled.{Polled}
 use Rattle.exec_poll.specs.declared.item.ItemPoll.{ItemPoll}
@@ -19,15 +17,6 @@ abbrev pub poll-of : Poll → machine.Poll
 poll-of (Poll.Ready v) = ready v
 poll-of (Poll.Raised e) = raised e
 poll-of Poll.Pending = pending
-
--- an awaited gather
-abbrev pub awaited-gather-of : AwaitedGather → scheduler.AwaitedGather
-awaited-gather-of w = record { first = w .first; count = w .count; awaiter = w .awaiter; open-places = w .«open_places» }
-
--- an awaited gather, or none
-abbrev pub option-awaited : OptionAwaited → Option scheduler.AwaitedGather
-option-awaited OptionAwaited.None = none
-option-awaited (OptionAwaited.Some w) = some (awaited-gather-of w)
 
 -- The store after an item, and what the item gave: nothing where it is a nested gather, which leaves the store as it is.
 pub record Itemed : Type 0 where

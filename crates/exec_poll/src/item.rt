@@ -1,5 +1,4 @@
 // One item of a gather: what it gives at once, or that it is a gather that must be committed first.
-use crate::awaited::AwaitedGather;
 use asyncio::Awaiter;
 use asyncio::CallId;
 use asyncio::CoroutineState;
@@ -10,6 +9,7 @@ use asyncio::HeapId;
 use asyncio::Object;
 use asyncio::Value;
 use queue::ReadyQueue;
+use scheduler::awaited::AwaitedGather;
 use scheduler::places::is_open;
 ghost use mathlib.Core.Path.{_≡_};
 ghost use Prim.Native.Nat.{_<_};
@@ -17,7 +17,8 @@ ghost use Rattle.asyncio.specs.Limits.{object-limit};
 ghost use Rattle.asyncio.specs.Ranges.{PlacesFit};
 ghost use Rattle.machine.specs.Store.{Store};
 ghost use Rattle.machine.specs.Commit.{await-external, item-coroutine, item-gather};
-ghost use Rattle.exec_poll.specs.Polls.{awaited-gather-of, with-item, itemed, item-at, item-here, PollsOfObjects, Polls, PollsItem, PollsItemOfPlaces};
+ghost use Rattle.scheduler.specs.Awaited.{awaited-gather-of};
+ghost use Rattle.exec_poll.specs.Polls.{with-item, itemed, item-at, item-here, PollsOfObjects, Polls, PollsItem, PollsItemOfPlaces};
 ghost use Rattle.contract.specs.Contract.{ObjectsLength, Lengths₂, Lengths₂And, LengthsAnd₂};
 
 // What an awaitable gives at once: a value, an error, or nothing yet.

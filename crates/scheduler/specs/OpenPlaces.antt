@@ -2,14 +2,9 @@
 use Prim.Native.Nat.{ℕ}
 use mathlib.Core.Bool.{Bool, _&&_}
 use lib.Dec.{eqb}
-use Rattle.asyncio.specs.declared.Awaiter.{Awaiter}
 use Rattle.asyncio.specs.declared.Place.{Place}
-use Rattle.machine.specs.Scheduler.{AwaitedGather, bit}
+use Rattle.machine.specs.Scheduler.{bit}
 
 -- place p, which is place i of its gather, is open and names object o
 abbrev pub open-here : (ℕ → Place) → ℕ → ℕ → ℕ → ℕ → Bool
 open-here ps m p i o = bit m i && eqb (ps p .item .0) o
-
--- an awaited gather by its parts
-abbrev pub awaited-gather : ℕ → ℕ → Awaiter → ℕ → AwaitedGather
-awaited-gather f n a m = record { first = f; count = n; awaiter = a; open-places = m }

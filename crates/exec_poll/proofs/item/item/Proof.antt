@@ -1,5 +1,5 @@
 use denote.Ref.{now}
-use Rattle.exec_poll.specs.Polls.{awaited-gather-of}
+use Rattle.scheduler.specs.Awaited.{awaited-gather-of}
 use Rattle.exec_poll.specs.ItemLaws.{item-open, item-first}
 use borrow.Author.Needs.{needs}
 use Rattle.exec_poll.proofs.item.item.Statement.{statement}

@@ -5,7 +5,7 @@ use borrow.Author.Needs.{needs}
 use Rattle.asyncio.specs.declared.Awaiter.{Awaiter}
 use Rattle.rows.specs.Tables.{place-at}
 use Rattle.machine.specs.Commit.{open-from}
-use Rattle.scheduler.specs.OpenPlaces.{awaited-gather}
+use Rattle.scheduler.specs.Awaited.{awaited-gather}
 use Rattle.scheduler.specs.OpenPlaceLaws.{open-found, open-turn, open-end, open-begins}
 use Rattle.scheduler.proofs.places.is_open.Statement.{statement}
 use Rattle.scheduler.proofs.places.is_open.Tie as tie
