@@ -1,9 +1,10 @@
 #!/usr/bin/env python3
-"""contracts.py BASE: holds the contracts of today's functions against those of a revision, one by one.
+"""contracts.py BASE [-v]: holds the contracts of today's functions against those of a revision, one by one, by what they say.
 
-Functions are matched by crate, module and name through the tables of rename.py. Told are: functions that are gone or new, contracts that have a
-`requires` now and had none, that lost an `ensures`, and those whose proof file changed (a contract in a form is the same statement where
-its proof stayed as it was: the forms are transparent). Lengths of contract lines are summed up at the end.
+Functions are matched by crate, module and name through the tables of rename.py and MOVED. A `requires` or `ensures` is read as a term, its
+abbreviations (the forms) are opened in its own revision, and the two terms are compared (terms.py). Told are: functions that are gone or new,
+those with a `requires` now and none before, those that lost an `ensures`, and each contract that says something else, with the two terms from
+where they differ (-v: whole). What is told is for a reader to judge. Lengths of contract lines are summed up at the end.
 """
 import pathlib
 import re
@@ -13,9 +14,27 @@ import sys
 
 sys.dont_write_bytecode = True  # nothing is left behind in tools/
 
+import terms
+
 ROOT = pathlib.Path(__file__).resolve().parent.parent
 TABLES = {}
 exec((ROOT / "tools/rename.py").read_text().rpartition("\nmain()")[0], TABLES)
+
+# functions that went to another crate or module, or got another name, since 0b03690
+MOVED = {
+    ("awaiting", "lib", "await_object"): ("session_events", "lib", "await_object"),
+    ("step_read", "lib", "show_sound"): ("step_read", "lib", "show"),
+    ("step_read", "lib", "eager_sound"): ("step_read", "lib", "eager"),
+    ("step_checks", "lent", "tell"): ("step_checks", "lent", "write_calls"),
+    ("exec_poll", "awaited", "as_awaited"): ("scheduler", "awaited", "as_awaited"),
+    ("exec_poll", "item", "is_open"): ("scheduler", "places", "is_open"),
+    ("exec_poll", "item", "is_open_here"): ("scheduler", "places", "is_open_here"),
+}
+for crate, names in (("externals", "call pending settled"), ("host", "results resume"), ("makers", "coroutine gather"), ("script", "complete fail")):
+    MOVED |= {(crate, "lib", name): ("session_events", "lib", name) for name in names.split()}
+MOVED |= {("step_event", "waiting", name): ("step_event", "host", name) for name in "results resume is_ended".split()}
+# a field that got another name
+FIELDS = {"waiting": "open-places"}
 
 
 def git(*words):
@@ -23,39 +42,81 @@ def git(*words):
 
 
 def contracts(text):
-    """Each function's name, with its `requires` and `ensures` lines."""
-    found, name, kind = {}, None, None
-    for line in text.split("\n"):
+    """Each function's name, with its `requires` and `ensures`, and how long their lines are."""
+    found, name, lines = {}, None, iter(text.split("\n"))
+    for line in lines:
         if m := re.match(r"\s*(?:pub(?:\(crate\))? )?fn (\w+)", line):
             name = m.group(1)
-            found[name] = {"requires": "", "ensures": "", "public": line.strip().startswith("pub fn")}
-        elif m := re.match(r"\s*(requires|ensures) (.*)", line):
-            found[name][m.group(1)] = line.strip()
+            found[name] = {"requires": "", "ensures": "", "public": line.strip().startswith("pub fn"), "lengths": [], "parameters": []}
+            signature = line
+            while ") " not in signature and not signature.endswith(")"):
+                signature += " " + next(lines).strip()
+            found[name]["parameters"] = re.findall(r"(\w+): ", signature.partition("(")[2])
+        elif m := re.match(r"\s*(requires|ensures) \{(.*)", line):
+            said, lengths = m.group(2), [len(line.strip())]
+            while not said.rstrip().endswith("⌝ }"):
+                line = next(lines)
+                said += " " + line.strip()
+                lengths.append(len(line.strip()))
+            found[name][m.group(1)] = said.rstrip().removesuffix("}").strip()
+            found[name]["lengths"] += lengths
     return found
+
+
+def renamed(path, text):
+    """A file of BASE in today's names."""
+    crate = path.split("/")[1]
+    text = TABLES["inside"](TABLES["renamed"](text, pathlib.Path(path).suffix), crate)
+    return TABLES["renamed_names"](text, TABLES["CRATES"].get(crate, crate), pathlib.Path(path))
 
 
 def place(path):
     """Crate, module of a source file, in today's names."""
     _, crate, _, *rest = path.split("/")
     module = rest[-1].removesuffix(".rt")
-    module = TABLES["MODULES"].get((crate, module), module)
-    return TABLES["CRATES"].get(crate, crate), module
+    return TABLES["CRATES"].get(crate, crate), TABLES["MODULES"].get((crate, module), module)
 
 
 def all_of(files, read):
-    out = {}
+    """Every contract, and the abbreviations of each crate over those of all."""
+    said, abbrevs, common = {}, {}, {}
     for path in files:
         if re.match(r"crates/[^/]+/src/.*\.rt$", path):
             crate, module = place(path)
             for name, contract in contracts(read(path)).items():
-                out[crate, module, TABLES["CODE"].get(name, name)] = contract
-    return out
+                key = crate, module, TABLES["CODE"].get(name, name)
+                said[MOVED.get(key, key)] = contract
+        elif re.match(r"crates/[^/]+/specs/.*\.antt$", path):
+            found = terms.abbreviations(read(path))
+            abbrevs.setdefault(place(path.replace("/specs/", "/src/"))[0], {}).update(found)
+            common = found | common
+    return said, {crate: common | own for crate, own in abbrevs.items()} | {None: common}
+
+
+def meaning(said, crate, abbrevs, names):
+    term = terms.put(terms.Reader(said).term(), {old: ("var", new) for old, new in names.items()})
+    text = terms.show(terms.opened(term, abbrevs.get(crate, abbrevs[None])))
+    return re.sub(r"(?<= \.)([\w-]+)|(?<=[{ ])([\w-]+)(?= = )", lambda m: FIELDS.get(m.group(0), m.group(0)), text)
+
+
+def today(before, after):
+    """Today's names of the parameters, where as many are there as before."""
+    old, new = before["parameters"], after["parameters"]
+    return {x: y.replace("_", "-") for x, y in zip(old, new)} if len(old) == len(new) else {}
+
+
+def differing(before, after, whole):
+    """The two texts from a little before the place where they differ."""
+    if whole:
+        return before, after
+    at = next((i for i, (x, y) in enumerate(zip(before, after)) if x != y), min(len(before), len(after)))
+    return tuple(text[max(0, at - 40) : at + 120] for text in (before, after))
 
 
 def main():
-    base = sys.argv[1]
-    before = all_of(git("ls-tree", "-r", "--name-only", base, "crates").split(), lambda p: git("show", f"{base}:{p}"))
-    after = all_of(git("ls-files", "crates").split(), lambda p: (ROOT / p).read_text())
+    base, whole = sys.argv[1], "-v" in sys.argv
+    before, abbrevs_before = all_of(git("ls-tree", "-r", "--name-only", base, "crates").split(), lambda p: renamed(p, git("show", f"{base}:{p}")))
+    after, abbrevs_after = all_of(git("ls-files", "crates").split(), lambda p: (ROOT / p).read_text())
     names = lambda keys: ", ".join("::".join(k) for k in sorted(keys)) or "none"
     print("gone:", names(before.keys() - after.keys()))
     print("new:", names(after.keys() - before.keys()))
@@ -64,10 +125,19 @@ def main():
     print("no requires now and one before:", names(k for k in both if before[k]["requires"] and not after[k]["requires"]))
     print("an ensures lost:", names(k for k in both if before[k]["ensures"] and not after[k]["ensures"]))
     print("public without an ensures:", names(k for k in after if after[k]["public"] and not after[k]["ensures"]))
-    same = sum(before[k] == after[k] for k in both)
-    print(f"{len(both)} functions in both; {same} with the same text")
+    same = 0
+    for key in sorted(both):
+        for kind in ("requires", "ensures"):
+            was, is_now = before[key][kind], after[key][kind]
+            if was and is_now:
+                was, is_now = meaning(was, key[0], abbrevs_before, today(before[key], after[key])), meaning(is_now, key[0], abbrevs_after, {})
+                same += was == is_now
+                if was != is_now:
+                    old, new = differing(was, is_now, whole)
+                    print(f"{'::'.join(key)} {kind}:\n    was {old}\n    now {new}")
+    print(f"{len(both)} functions in both; {same} requires and ensures say the same")
     for when, found in (("before", before), ("now", after)):
-        lines = [len(c[k]) for c in found.values() for k in ("requires", "ensures") if c[k]]
+        lines = [n for c in found.values() for n in c["lengths"]]
         print(f"{when}: {len(lines)} contract lines, median {statistics.median(lines)}, longest {max(lines)}, above 160: {sum(n > 160 for n in lines)}")
 
 
