@@ -152,6 +152,7 @@ impl Awaiter {
     }
 }
 
+// New: not run yet, though a task may be spawned for it. Running: for ever, where it was run inline. Completed: by the end of its task.
 pub enum CoroutineState {
     New,
     Running,

@@ -218,7 +218,7 @@ pub fn gather(objects: &mut [u64], places: &mut [u64], queue: ReadyQueue, items:
     }
 }
 
-// A 257th object, over 32 items, or over 512 item places in all.
+// 7: a 257th object, over 32 items, or over 512 item places in all.
 fn too_many(made: u16, used: u16, items: &[u16]) -> bool
     requires { ⌜ used ≤ place-limit ⌝ }
     ensures { λ r. ⌜ r ≡ (leb object-limit made || ltb item-limit (length (now (items .entry)))

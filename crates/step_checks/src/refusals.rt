@@ -1,4 +1,4 @@
-// The tests of the table of refusals.
+// The tests of the table of refusals, each with its number.
 use asyncio::HeapId;
 use asyncio::Moment;
 use asyncio::RESULT_BYTES;
@@ -41,7 +41,7 @@ pub fn running(objects: &[u64]) -> Turn
     }
 }
 
-// Are all objects made that there are numbers for?
+// 7: are all objects made that there are numbers for?
 pub(crate) fn is_full(objects: &[u64]) -> bool
     requires { ⌜ ObjectsLength objects ⌝ }
     ensures { λ r. ⌜ r ≡ leb object-limit (header-at (now (objects .entry)) .made) ⌝ }
@@ -50,7 +50,7 @@ pub(crate) fn is_full(objects: &[u64]) -> bool
     OBJECTS <= header.made
 }
 
-// Are all call numbers handed out?
+// 8: are all call numbers handed out?
 pub(crate) fn no_number(objects: &[u64]) -> bool
     requires { ⌜ ObjectsLength objects ⌝ }
     ensures { λ r. ⌜ r ≡ leb call-limit (header-at (now (objects .entry)) .calls) ⌝ }
@@ -59,7 +59,7 @@ pub(crate) fn no_number(objects: &[u64]) -> bool
     CALLS <= header.calls
 }
 
-// Is one of the items not made?
+// 5: is one of the items not made?
 pub(crate) fn any_unmade(made: u16, items: &[u16]) -> bool
     ensures { λ r. ⌜ r ≡ any-of (leb made) (now (items .entry)) ⌝ }
 {
@@ -114,7 +114,7 @@ pub fn any_unknown(objects: &[u64], results: &[u8]) -> bool
     false
 }
 
-// Has the result at byte `at` a kind above 4, a tag above 1, or an error number of 2^32 or more?
+// 10: has the result at byte `at` a kind above 4, a tag above 1, or an error number of 2^32 or more?
 fn bad_result(results: &[u8], at: usize) -> bool
     requires { ⌜ at + 14 ≤ length (now results) ⌝ }
     ensures { λ r. ⌜ r ≡ bad-result (result-at (now (results .entry)) at) ⌝ }
