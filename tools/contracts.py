@@ -49,9 +49,9 @@ def contracts(text):
             name = m.group(1)
             found[name] = {"requires": "", "ensures": "", "public": line.strip().startswith("pub fn"), "lengths": [], "parameters": []}
             signature = line
-            while ") " not in signature and not signature.endswith(")"):
+            while not re.search(r"\)( ->.*| \{)?$", signature):
                 signature += " " + next(lines).strip()
-            found[name]["parameters"] = re.findall(r"(\w+): ", signature.partition("(")[2])
+            found[name]["parameters"] = re.findall(r"(\w+): ", signature.partition(name + "(")[2])
         elif m := re.match(r"\s*(requires|ensures) \{(.*)", line):
             said, lengths = m.group(2), [len(line.strip())]
             while not said.rstrip().endswith("⌝ }"):
@@ -78,24 +78,25 @@ def place(path):
 
 
 def all_of(files, read):
-    """Every contract, and the abbreviations of each crate over those of all."""
-    said, abbrevs, common = {}, {}, {}
+    """Every contract, with where its names stand, and all abbreviations."""
+    said, abbrevs = {}, {}
     for path in files:
         if re.match(r"crates/[^/]+/src/.*\.rt$", path):
             crate, module = place(path)
-            for name, contract in contracts(read(path)).items():
+            text = read(path)
+            for name, contract in contracts(text).items():
                 key = crate, module, TABLES["CODE"].get(name, name)
-                said[MOVED.get(key, key)] = contract
-        elif re.match(r"crates/[^/]+/specs/.*\.antt$", path):
-            found = terms.abbreviations(read(path))
-            abbrevs.setdefault(place(path.replace("/specs/", "/src/"))[0], {}).update(found)
-            common = found | common
-    return said, {crate: common | own for crate, own in abbrevs.items()} | {None: common}
+                said[MOVED.get(key, key)] = contract | {"where": terms.imported(text)}
+        elif m := re.match(r"crates/([^/]+)/specs/(.*)\.antt$", path):
+            crate = TABLES["CRATES"].get(m.group(1), m.group(1))
+            abbrevs |= terms.abbreviations(read(path), f"{crate}/{m.group(2).replace('/', '.')}")
+    return said, abbrevs
 
 
-def meaning(said, crate, abbrevs, names):
-    term = terms.put(terms.Reader(said).term(), {old: ("var", new) for old, new in names.items()})
-    text = terms.show(terms.opened(term, abbrevs.get(crate, abbrevs[None])))
+def meaning(contract, kind, abbrevs, names):
+    term = terms.Reader(contract[kind]).term()
+    term = terms.put(terms.placed(term, contract["where"]), {old: ("var", new) for old, new in names.items()})
+    text = terms.show(terms.opened(term, abbrevs))
     return re.sub(r"(?<= \.)([\w-]+)|(?<=[{ ])([\w-]+)(?= = )", lambda m: FIELDS.get(m.group(0), m.group(0)), text)
 
 
@@ -128,9 +129,9 @@ def main():
     same = 0
     for key in sorted(both):
         for kind in ("requires", "ensures"):
-            was, is_now = before[key][kind], after[key][kind]
-            if was and is_now:
-                was, is_now = meaning(was, key[0], abbrevs_before, today(before[key], after[key])), meaning(is_now, key[0], abbrevs_after, {})
+            if before[key][kind] and after[key][kind]:
+                was = meaning(before[key], kind, abbrevs_before, today(before[key], after[key]))
+                is_now = meaning(after[key], kind, abbrevs_after, {})
                 same += was == is_now
                 if was != is_now:
                     old, new = differing(was, is_now, whole)

@@ -221,7 +221,7 @@ def opened_call(f, args, abbrevs):
         f = opened(f, abbrevs)
         if f[0] != "lam" or not args:
             args = [opened(a, abbrevs) for a in args]
-            if f == ("var", "now") and args and args[0][0] == "rec":  # what a lent slice holds
+            if f[0] == "var" and f[1].rpartition("/")[2] == "now" and args and args[0][0] == "rec":  # what a lent slice holds
                 return args[0][1]["now"]
             return applied(f, args)
         names, body = f[1], f[2]
@@ -244,7 +244,7 @@ def show(term, bound=None):
     bound = bound or {}
     sort = term[0]
     if sort == "var":
-        return bound.get(term[1], term[1].rpartition(".")[2] or term[1]).replace("_", "-")
+        return bound.get(term[1], re.split(r"[/.](?=.)", term[1])[-1]).replace("_", "-")
     if sort == "app":
         return f"({' '.join(show(x, bound) for x in [term[1], *term[2]])})"
     if sort == "field":
@@ -262,8 +262,23 @@ def show(term, bound=None):
     return f"(({names} : {show(term[2], bound)}) → {show(term[3], inner)})"
 
 
-def abbreviations(text):
-    """The abbreviations of a spec file that have one clause, with plain parameters: name, parameters, body."""
+def imported(text):
+    """The names that a file takes from specs, each with where it stands: CRATE/FILE/NAME."""
+    found = {}
+    for crate, path, names in re.findall(r"^(?:ghost )?use Rattle·(\w+)(?:·specs)?\.specs\.([\w.]+)\.\{([^}]*)\}", text, flags=re.M):
+        if not path.startswith("declared"):
+            found |= {name.strip(): f"{crate}/{path}/{name.strip()}" for name in names.split(",")}
+    return found
+
+
+def placed(term, where):
+    return put(term, {name: ("var", place) for name, place in where.items()})
+
+
+def abbreviations(text, place):
+    """The abbreviations of a spec file, `place` being CRATE/FILE, that have one clause with plain parameters: where it stands, parameters, body."""
+    own = re.findall(r"^abbrev (?:pub )?(\S+) :", text, flags=re.M)
+    where = imported(text) | {name: f"{place}/{name}" for name in own}
     found = {}
     clause = r"^abbrev (?:pub )?(\S+) : [^\n]*(?:\n    [^\n]*)*\n(?:unfolding[^\n]*\n)?((?:\1[ =][^\n]*\n(?:    [^\n]*\n)*)+)"
     for m in re.finditer(clause, text, flags=re.M):
@@ -272,7 +287,8 @@ def abbreviations(text):
         names = head.split()[1:]
         if len(clauses) == 1 and equals and all(re.match(r"^[^\s(){}]+$", n) for n in names):
             try:
-                found[m.group(1)] = (names, Reader(body).term())
+                body = placed(Reader(body).term(), {n: at for n, at in where.items() if n not in names})
+                found[where[m.group(1)]] = (names, body)
             except ValueError:
                 pass  # a form that contracts do not have
     return found
