@@ -9,8 +9,11 @@ use asyncio::Value;
 use rows::tables::store_object;
 use scheduler::awaited::OptionAwaited;
 use scheduler::awaited::as_awaited;
+ghost use mathlib.Core.Path.{_≡_};
 ghost use Prim.Native.Nat.{_<_};
 ghost use Rattle.asyncio.specs.Limits.{object-limit};
+ghost use Rattle.asyncio.specs.declared.Object.{Object};
+ghost use Rattle.rows.specs.Tables.{object-put};
 ghost use Rattle.machine.specs.Delivery.{resolve-child, fail-gather};
 ghost use Rattle.contract.specs.Contract.{ObjectsLength, PlacesLength};
 ghost use Rattle.exec_fill.specs.Delivered.{Settles, SettlesKeepingPlaces};
@@ -19,6 +22,22 @@ ghost use Rattle.exec_fill.specs.Delivered.{Settles, SettlesKeepingPlace
 pub enum Onward {
     Nowhere,
     To(Awaiter),
+}
+
+// Object `g` is a gather with these places, in that state.
+fn put_gather(objects: &mut [u64], g: HeapId, first: u16, count: u16, state: GatherState)
+    requires { ⌜ ObjectsLength objects × (g .0 < object-limit) ⌝ }
+    ensures { λ _. ⌜ now (objects .exit) ≡ object-put (now (objects .entry)) (g .0) (Object.GatherFuture first count state) ⌝ }
+{
+    store_object(
+        objects,
+        g,
+        Object::GatherFuture {
+            first,
+            count,
+            state,
+        },
+    );
 }
 
 // A child's value: it completes the gather when no place is open any more. A gather that is not awaited discards it.
@@ -49,31 +68,14 @@ pub fn resolve_child(
                 value,
             );
             if left == 0 {
-                let state = GatherState::Completed;
-                store_object(
-                    objects,
-                    g,
-                    Object::GatherFuture {
-                        first,
-                        count,
-                        state,
-                    },
-                );
+                put_gather(objects, g, first, count, GatherState::Completed);
                 return Onward::To(awaiter);
             }
             let state = GatherState::Awaited {
                 awaiter,
                 open_places: left,
             };
-            store_object(
-                objects,
-                g,
-                Object::GatherFuture {
-                    first,
-                    count,
-                    state,
-                },
-            );
+            put_gather(objects, g, first, count, state);
             Onward::Nowhere
         }
     }
@@ -90,15 +92,7 @@ pub fn fail(objects: &mut [u64], g: HeapId, error: Error) -> Onward
         OptionAwaited::Some(w) => {
             let awaiter = w.awaiter;
             let state = GatherState::Failed(error);
-            store_object(
-                objects,
-                g,
-                Object::GatherFuture {
-                    first: w.first,
-                    count: w.count,
-                    state,
-                },
-            );
+            put_gather(objects, g, w.first, w.count, state);
             Onward::To(awaiter)
         }
     }

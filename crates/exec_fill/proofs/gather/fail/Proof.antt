@@ -13,8 +13,8 @@ enum-told c = search needs
 enum-known-a : tie.Need-enum-known-a
 enum-known-a c = search needs
 
-store-object-requires : tie.Need-store-object-requires
-store-object-requires c κs = search needs
+put-gather-requires : tie.Need-put-gather-requires
+put-gather-requires c κs = search needs
 
 same-length : tie.Need-same-length
 same-length c = search needs
@@ -26,7 +26,7 @@ same-length-2 : tie.Need-same-length-2
 same-length-2 c = search needs
 
 returns-2 : tie.Need-returns-2
-returns-2 c = λ ts ps q l. fails ts (now (c .before .before .before .before .before .before .before .before .before .before .args .objects)) ps q l (c .before .before .before .before .before .before .before .before .before .before .args .g .0) (c .before .before .before .before .before .before .before .as-awaited .ensures) (c .before .before .before .before .before .before .before .before .before .before .args .error) _ (c .before .before .before .before .before .a .given .1) (c .before .before .store-object .ensures)
+returns-2 c = λ ts ps q l. fails ts (now (c .before .before .before .before .before .before .before .before .before .before .args .objects)) ps q l (c .before .before .before .before .before .before .before .before .before .before .args .g .0) (c .before .before .before .before .before .before .before .as-awaited .ensures) (c .before .before .before .before .before .before .before .before .before .before .args .error) _ (c .before .before .before .before .before .a .given .1) (c .before .before .put-gather .ensures)
 
 pub fail-spec : {M : Type 1} → statement M
 fail-spec =
@@ -35,7 +35,7 @@ fail-spec =
     as-awaited-requires
     enum-told
     enum-known-a
-    store-object-requires
+    put-gather-requires
     same-length
     returns
     same-length-2

@@ -23,8 +23,8 @@ cast-fill-places-2 c = search needs
 fill-places-requires : tie.Need-fill-places-requires
 fill-places-requires c κs = (c .before .before .before .before .before .before .before .before .pre .1, awaited-range _ _ _ _ (c .before .before .before .before .as-awaited .ensures) (c .before .before .a .given .1) .within, awaited-range _ _ _ _ (c .before .before .before .before .as-awaited .ensures) (c .before .before .a .given .1) .at-most)
 
-store-object-requires : tie.Need-store-object-requires
-store-object-requires c κs = search needs
+put-gather-requires : tie.Need-put-gather-requires
+put-gather-requires c κs = search needs
 
 same-length : tie.Need-same-length
 same-length c = search needs
@@ -33,10 +33,10 @@ same-length-2 : tie.Need-same-length-2
 same-length-2 c = search needs
 
 returns : tie.Need-returns
-returns c = λ ts q l. resolve-completes ts (now (c .before .before .before .before .before .before .before .before .before .before .before .before .before .before .before .before .args .objects)) (now (c .before .before .before .before .before .before .before .before .before .before .before .before .before .before .before .before .args .places)) q l (c .before .before .before .before .before .before .before .before .before .before .before .before .before .before .before .before .args .g .0) (c .before .before .before .before .before .before .before .before .before .before .before .before .as-awaited .ensures) (c .before .before .before .before .before .before .before .before .before .before .before .before .before .before .before .before .args .source .0) (c .before .before .before .before .before .before .before .before .before .before .before .before .before .before .before .before .args .value) _ (c .before .before .before .before .before .before .before .before .before .before .a .given .1) (c .before .before .before .before .before .before .before .fill-places .ensures) (c .before .before .before .before .if1 .taken) (c .before .before .store-object .ensures)
+returns c = λ ts q l. resolve-completes ts (now (c .before .before .before .before .before .before .before .before .before .before .before .before .before .before .before .before .args .objects)) (now (c .before .before .before .before .before .before .before .before .before .before .before .before .before .before .before .before .args .places)) q l (c .before .before .before .before .before .before .before .before .before .before .before .before .before .before .before .before .args .g .0) (c .before .before .before .before .before .before .before .before .before .before .before .before .as-awaited .ensures) (c .before .before .before .before .before .before .before .before .before .before .before .before .before .before .before .before .args .source .0) (c .before .before .before .before .before .before .before .before .before .before .before .before .before .before .before .before .args .value) _ (c .before .before .before .before .before .before .before .before .before .before .a .given .1) (c .before .before .before .before .before .before .before .fill-places .ensures) (c .before .before .before .before .if1 .taken) (c .before .before .put-gather .ensures)
 
-store-object-requires-2 : tie.Need-store-object-requires-2
-store-object-requires-2 c κs = search needs
+put-gather-requires-2 : tie.Need-put-gather-requires-2
+put-gather-requires-2 c κs = search needs
 
 same-length-3 : tie.Need-same-length-3
 same-length-3 c = search needs
@@ -51,7 +51,7 @@ same-length-5 : tie.Need-same-length-5
 same-length-5 c = search needs
 
 returns-3 : tie.Need-returns-3
-returns-3 c = λ ts q l. resolve-waits ts (now (c .before .before .before .before .before .before .before .before .before .before .before .before .before .before .before .before .args .objects)) (now (c .before .before .before .before .before .before .before .before .before .before .before .before .before .before .before .before .args .places)) q l (c .before .before .before .before .before .before .before .before .before .before .before .before .before .before .before .before .args .g .0) (c .before .before .before .before .before .before .before .before .before .before .before .before .as-awaited .ensures) (c .before .before .before .before .before .before .before .before .before .before .before .before .before .before .before .before .args .source .0) (c .before .before .before .before .before .before .before .before .before .before .before .before .before .before .before .before .args .value) _ (c .before .before .before .before .before .before .before .before .before .before .a .given .1) (c .before .before .before .before .before .before .before .fill-places .ensures) (c .before .before .before .before .if1 .left) (c .before .before .store-object2 .ensures)
+returns-3 c = λ ts q l. resolve-waits ts (now (c .before .before .before .before .before .before .before .before .before .before .before .before .before .before .before .before .args .objects)) (now (c .before .before .before .before .before .before .before .before .before .before .before .before .before .before .before .before .args .places)) q l (c .before .before .before .before .before .before .before .before .before .before .before .before .before .before .before .before .args .g .0) (c .before .before .before .before .before .before .before .before .before .before .before .before .as-awaited .ensures) (c .before .before .before .before .before .before .before .before .before .before .before .before .before .before .before .before .args .source .0) (c .before .before .before .before .before .before .before .before .before .before .before .before .before .before .before .before .args .value) _ (c .before .before .before .before .before .before .before .before .before .before .a .given .1) (c .before .before .before .before .before .before .before .fill-places .ensures) (c .before .before .before .before .if1 .left) (c .before .before .put-gather2 .ensures)
 
 pub resolve-child-spec : {M : Type 1} → statement M
 resolve-child-spec =
@@ -63,11 +63,11 @@ resolve-child-spec =
     cast-fill-places
     cast-fill-places-2
     fill-places-requires
-    store-object-requires
+    put-gather-requires
     same-length
     same-length-2
     returns
-    store-object-requires-2
+    put-gather-requires-2
     same-length-3
     returns-2
     same-length-4
