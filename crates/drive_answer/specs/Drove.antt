@@ -58,7 +58,7 @@ asks-of (Record.Complete v) = Asks.Event (Event.Complete v)
 asks-of (Record.Fail n) = Asks.Event (Event.Fail n)
 asks-of (Record.Results first count) = Asks.Results first count
 asks-of Record.Resume = Asks.Event Event.Resume
-asks-of (Record.Cancel t) = Asks.Cancel
+asks-of (Record.Cancel t) = Asks.Event (Event.Cancel t)
 asks-of (Record.Show o) = Asks.Show o
 asks-of Record.Eager = Asks.Eager
 
@@ -70,7 +70,6 @@ asked-of src (Asks.Gather first count) = Asked.event (machine.Event.gather (item
 asked-of src (Asks.Results first count) = Asked.event (machine.Event.results (results-at src first count))
 asked-of src (Asks.Show o) = Asked.read (machine.Event.show o)
 asked-of src Asks.Eager = Asked.read machine.Event.eager
-asked-of src Asks.Cancel = Asked.cancel
 
 -- results stand within the input
 abbrev pub InInput : List ℕ → Asks → Type 0
@@ -79,7 +78,6 @@ InInput src (Asks.Gather first count) = Unit {0}
 InInput src (Asks.Results first count) = first + count * 14 ≤ length src
 InInput src (Asks.Show o) = Unit {0}
 InInput src Asks.Eager = Unit {0}
-InInput src Asks.Cancel = Unit {0}
 
 -- the numbers that a record stores whole fit 32 bits
 abbrev pub RecordFits : Record → Type 0

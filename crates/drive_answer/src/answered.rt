@@ -11,8 +11,8 @@ ghost use Rattle.contract.specs.Contract.{kept};
 ghost use Rattle.contract.specs.Entries.{SoundMemory, SoundMemoryAnd, SoundSlices};
 ghost use Rattle.step_event.specs.EventOf.{event-of};
 ghost use Rattle.drive_reader.specs.Items.{items-at};
-ghost use Rattle.drive_answer.specs.Driver.{Asked, results-at, refused-11};
-ghost use Rattle.drive_answer.specs.Drove.{Writes, WritesAnswer, WritesEvent, asked-of, InInput};
+ghost use Rattle.drive_answer.specs.Driver.{Asked, results-at};
+ghost use Rattle.drive_answer.specs.Drove.{WritesAnswer, WritesEvent, asked-of, InInput};
 
 // The queue after a record, where the output stands, the place of the next record, and whether it is to be read: not after the end of
 // the input, and not after an 11.
@@ -177,19 +177,6 @@ fn eager_line(
     }
 }
 
-// Cancel is refused as an unknown kind is, until the library takes it.
-fn cancel_line(queue: ReadyQueue, next: usize, out: &mut [u8], at: usize, number: u64) -> Driven
-    ensures { λ r. ⌜ ((ts os ps cs : List ℕ) → Writes (kept ts) (kept os) (kept ps) (kept cs) queue out at (λ s l. refused-11 s l next number) r) ⌝ }
-{
-    let end = drive_lines::answers::write_refused(out, at, number, 11);
-    Driven {
-        queue,
-        at: end,
-        next,
-        going: false,
-    }
-}
-
 // Whatever is asked, and its line.
 pub fn answered(
     tasks: &mut [u64],
@@ -255,6 +242,5 @@ pub fn answered(
         ),
         Asks::Show(o) => show_line(tasks, objects, places, queue, o, next, out, at, number),
         Asks::Eager => eager_line(tasks, objects, places, calls, queue, next, out, at, number),
-        Asks::Cancel => cancel_line(queue, next, out, at, number),
     }
 }

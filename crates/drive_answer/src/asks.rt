@@ -4,15 +4,13 @@ use step_event::Event;
 ghost use mathlib.Core.Path.{_≡_};
 ghost use Rattle.drive_answer.specs.Drove.{asks-of, RecordFits};
 
-// An event that has all it needs in its record; a gather or results, whose items stand in the input; a read; or cancel, which the
-// library does not take yet.
+// An event that has all it needs in its record; a gather or results, whose items stand in the input; or a read.
 pub enum Asks {
     Event(Event),
     Gather { first: usize, count: u8 },
     Results { first: usize, count: u8 },
     Show(u16),
     Eager,
-    Cancel,
 }
 
 // What a record asks. That its numbers fit is the types' doing, and said so that soundness can be kept (`driverlaws`).
@@ -30,7 +28,7 @@ pub fn asked_by(what: Record) -> Asks
         Record::Fail(n) => Asks::Event(Event::Fail(n)),
         Record::Results { first, count } => Asks::Results { first, count },
         Record::Resume => Asks::Event(Event::Resume),
-        Record::Cancel(_) => Asks::Cancel,
+        Record::Cancel(t) => Asks::Event(Event::Cancel(t)),
         Record::Show(o) => Asks::Show(o),
         Record::Eager => Asks::Eager,
     }

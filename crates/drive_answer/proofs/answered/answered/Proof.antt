@@ -1,7 +1,6 @@
 use mathlib.Core.List.{[]}
 use denote.Ref.{now}
 use Rattle.step_event.specs.SoundStepLaws.{right-slices}
-use Rattle.drive_answer.specs.Driver.{answered}
 use Rattle.drive_answer.specs.Drove.{asked-of}
 use borrow.Author.Needs.{needs}
 use Rattle.drive_answer.proofs.answered.answered.Statement.{statement}
@@ -39,12 +38,6 @@ enum-told c = search needs
 
 eager-line-requires : tie.Need-eager-line-requires
 eager-line-requires c κs = (right-slices (now (c .before .before .before .before .before .before .before .before .before .before .before .before .before .args .tasks)) (now (c .before .before .before .before .before .before .before .before .before .before .before .before .before .args .objects)) (now (c .before .before .before .before .before .before .before .before .before .before .before .before .before .args .places)) (c .before .before .before .before .before .before .before .before .before .before .before .before .before .args .queue) (now (c .before .before .before .before .before .before .before .before .before .before .before .before .before .args .calls)) (c .before .before .before .before .before .before .before .before .before .before .before .before .before .pre .0) [], c .before .before .before .before .before .before .before .before .before .before .before .before .before .pre .1)
-
-enum-told-2 : tie.Need-enum-told-2
-enum-told-2 c = search needs
-
-cancel-line-requires : tie.Need-cancel-line-requires
-cancel-line-requires c κs = search needs
 
 same-length : tie.Need-same-length
 same-length c = search needs
@@ -138,13 +131,6 @@ returns-5 : tie.Need-returns-5
 unfolding asked-of
 returns-5 c = λ l. rw (c .before .before .before .before .before .before .before .before .enum-told .given .1) (c .before .before .eager-line .ensures l)
 
-same-length-25 : tie.Need-same-length-25
-same-length-25 c = search needs
-
-returns-6 : tie.Need-returns-6
-unfolding asked-of answered
-returns-6 c = λ l. rw (c .before .before .before .before .enum-told2 .given .1) (c .before .before .cancel-line .ensures _ _ _ _ l)
-
 pub answered-spec : {M : Type 1} → statement M
 answered-spec =
     tie.close
@@ -160,8 +146,6 @@ answered-spec =
     show-line-requires
     enum-told
     eager-line-requires
-    enum-told-2
-    cancel-line-requires
     same-length
     same-length-2
     same-length-3
@@ -190,6 +174,4 @@ answered-spec =
     same-length-22
     same-length-23
     same-length-24
-    returns-5
-    same-length-25
-    returns-6)
+    returns-5)

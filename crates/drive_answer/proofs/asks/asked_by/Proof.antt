@@ -34,14 +34,14 @@ enum-known-what-8 c = search needs
 enum-told-2 : tie.Need-enum-told-2
 enum-told-2 c = search needs
 
-enum-told-3 : tie.Need-enum-told-3
-enum-told-3 c = search needs
-
 enum-known-what-9 : tie.Need-enum-known-what-9
 enum-known-what-9 c = search needs
 
-enum-told-4 : tie.Need-enum-told-4
-enum-told-4 c = search needs
+enum-known-what-10 : tie.Need-enum-known-what-10
+enum-known-what-10 c = search needs
+
+enum-told-3 : tie.Need-enum-told-3
+enum-told-3 c = search needs
 
 returns : tie.Need-returns
 unfolding asks-of
@@ -85,15 +85,15 @@ returns-10 c = (rw (c .enum-told2 .given .1), rw (c .enum-told2 .given .1) tt)
 
 returns-11 : tie.Need-returns-11
 unfolding asks-of
-returns-11 c = (rw (c .enum-told3 .given .1), rw (c .enum-told3 .given .1) tt)
+returns-11 c = (rw (c .before .what9 .given .1), rw (c .before .what9 .given .1) tt)
 
 returns-12 : tie.Need-returns-12
 unfolding asks-of
-returns-12 c = (rw (c .before .what9 .given .1), rw (c .before .what9 .given .1) tt)
+returns-12 c = (rw (c .before .what10 .given .1), rw (c .before .what10 .given .1) tt)
 
 returns-13 : tie.Need-returns-13
 unfolding asks-of
-returns-13 c = (rw (c .enum-told4 .given .1), rw (c .enum-told4 .given .1) tt)
+returns-13 c = (rw (c .enum-told3 .given .1), rw (c .enum-told3 .given .1) tt)
 
 pub asked-by-spec : {M : Type 1} → statement M
 asked-by-spec =
@@ -109,9 +109,9 @@ asked-by-spec =
     enum-known-what-7
     enum-known-what-8
     enum-told-2
-    enum-told-3
     enum-known-what-9
-    enum-told-4
+    enum-known-what-10
+    enum-told-3
     returns
     returns-2
     returns-3
