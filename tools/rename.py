@@ -19,7 +19,7 @@ CRATES = {
     "beginning": "session_begin", "session": "session_dispatch", "reads": "session_reads",
     "driver": "drive_record", "answering": "drive_answer", "reader": "drive_reader", "lines": "drive_lines", "showing": "drive_shows",
     "texts": "drive_text", "driverlaws": "drive_laws",
-    "badstores": "test_stores", "cancelled": "test_cancel", "deliveries": "test_deliver", "printing": "test_print",
+    "badstores": "test_stores", "printing": "test_print",
     # merged into another crate: its names are found there
     "steps": "step_event", "readerlaws": "drive_laws",
 }
@@ -114,7 +114,7 @@ CODE = {
     "live_driver": "live_task_of", "one_driver": "one_task",
 }
 # the words of the driver (document 01's program) stay
-PROGRAM = {"drive", "drive_answer", "drive_record", "drive_reader", "drive_lines", "drive_shows", "drive_laws", "drive_text", "test_stores", "cancelled", "deliveries"}
+PROGRAM = {"drive", "drive_answer", "drive_record", "drive_reader", "drive_lines", "drive_shows", "drive_laws", "drive_text", "test_stores"}
 LISTS = {"step_checks", "awaiting", "externals", "host", "makers", "script"}
 SPECS = {
     ("scheduler_cancel", "DriverLaws"): "TaskOfLaws", ("sound_tasks", "DriverLaws"): "OneTaskLaws", ("sound", "Whole"): "Clauses",

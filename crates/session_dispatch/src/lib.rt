@@ -9,7 +9,7 @@ use step_event::step;
 ghost use Rattle.step_event.specs.EventOf.{event-of};
 ghost use Rattle.step_event.specs.LentStep.{LentStep};
 
-// Any event of kinds 1 to 10 on any memory: a slice of a wrong length is refused with 1, a store that is not sound with 2, and so on in the order of
+// Any event of kinds 1 to 11 on any memory: a slice of a wrong length is refused with 1, a store that is not sound with 2, and so on in the order of
 // document 01's table; a refused event leaves everything as it was.
 pub fn dispatch(
     tasks: &mut [u64],

@@ -1,15 +1,15 @@
--- What the small programs print of a store: a line for each row and for the queue.
+-- What `test_stores` prints of a store: a line for each row and for the queue.
 use mathlib.Core.List.{List, [], _++_}
-use Prim.Native.Nat.{ℕ, zero, suc, _+_, _*_, min}
+use Prim.Native.Nat.{ℕ, zero, suc, _+_, _*_}
 use Prim.Native.String.{String}
-use lib.Dec.{eqb, ltb}
+use lib.Dec.{ltb}
 use lib.ListN.{getD, length}
 use denote.Triple.Both.{Both}
 use denote.Ref.{RefT, now}
-use Rattle.asyncio.specs.Layout.{object-words, task-words, place-words, header-words}
+use Rattle.asyncio.specs.Layout.{object-words, task-words}
 use Rattle.asyncio.specs.Limits.{task-limit, object-limit}
 use Rattle.asyncio.specs.States.{pick}
-use Rattle.rows.specs.Tables.{object-at, task-at, place-at, header-at}
+use Rattle.rows.specs.Tables.{object-at, task-at, header-at}
 use Rattle.queue.specs.declared.ReadyQueue.{ReadyQueue}
 use Rattle.drive_text.specs.Out.{Puts}
 use Rattle.drive_text.specs.Text.{bytes-of, newline, field, fields}
@@ -25,14 +25,6 @@ task-text ts t = row-text "task" (task-words (task-at ts t))
 -- object o
 unfoldable pub object-text : List ℕ → ℕ → List ℕ
 object-text os o = row-text "object" (object-words (object-at os o))
-
--- place p
-unfoldable pub place-text : List ℕ → ℕ → List ℕ
-place-text ps p = row-text "place" (place-words (place-at ps p))
-
--- the header
-unfoldable pub header-text : List ℕ → List ℕ
-header-text os = row-text "header" (header-words (header-at os))
 
 -- the rows below n one after the other
 unfoldable pub rows-text : (ℕ → List ℕ) → ℕ → List ℕ
@@ -54,11 +46,6 @@ store-text ts os q = rows-text (task-text ts) (header-at os .next) ++ (rows-text
 abbrev pub store-limit : ℕ
 store-limit = 173 * task-limit + (175 * object-limit + 10779)
 
--- how many of the first n numbers of two lists differ
-unfoldable pub changed : List ℕ → List ℕ → ℕ → ℕ
-changed xs ys zero = 0
-changed xs ys (suc n) = changed xs ys n + pick (eqb (getD xs n 0) (getD ys n 0)) 0 1
-
 -- lent words or bytes
 abbrev Slice : Type 0
 Slice = Both (RefT (List ℕ)) (RefT (List ℕ))
@@ -67,8 +54,3 @@ Slice = Both (RefT (List ℕ)) (RefT (List ℕ))
 abbrev pub PutsRow : Slice → ℕ → ℕ → Slice → Slice → Type 0
 PutsRow out at r name words =
     Puts (length (now (name .entry)) + (21 * length (now (words .entry)) + 1)) out at r (now (name .entry) ++ (fields (now (words .entry)) ++ newline))
-
--- The call writes how many words of two slices differ, of those that both have.
-abbrev pub PutsChanged : Slice → ℕ → ℕ → Slice → Slice → Type 0
-PutsChanged out at r before after =
-    Puts 21 out at r (field (changed (now (before .entry)) (now (after .entry)) (min (length (now (before .entry))) (length (now (after .entry))))))

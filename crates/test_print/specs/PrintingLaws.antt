@@ -1,12 +1,12 @@
 -- The ways through the functions that write rows, in the shape of what the code knows there.
 use mathlib.Core.Path.{_≡_, refl, sym, ap, _∙_}
 use mathlib.Core.List.{List, [], _∷_, _++_, append-nil}
-use Prim.Native.Nat.{ℕ, zero, suc, _+_, _*_, _≤_, _<_, min}
+use Prim.Native.Nat.{ℕ, zero, suc, _+_, _*_, _≤_, _<_}
 use native.Mathlib.Numerals.{add-one}
 use native.Mathlib.Omega.{arith}
 use lib.ListN.{length, getD, take}
 use lib.Seq.{take-suc}
-use borrow.Author.Tests.{eq-eqb, ne-eqb, lt-ltb, le-ltb}
+use borrow.Author.Tests.{lt-ltb, le-ltb}
 use Rattle.asyncio.specs.Limits.{task-limit}
 use Rattle.asyncio.specs.Ranges.{HeaderFits}
 use Rattle.asyncio.specs.declared.Header.{Header}
@@ -18,7 +18,7 @@ use Rattle.drive_text.specs.Out.{Out, Wrote}
 use Rattle.drive_text.specs.OutLaws.{wrote-none, then, at-most}
 use Rattle.drive_text.specs.Text.{bytes-of, newline, field, fields}
 use Rattle.drive_text.specs.WriteLaws.{fields-append}
-use Rattle.test_print.specs.Printing.{row-text, task-text, object-text, rows-text, entry-text, queue-text, store-text, store-limit, changed}
+use Rattle.test_print.specs.Printing.{row-text, task-text, object-text, rows-text, entry-text, queue-text, store-text, store-limit}
 
 -- the line of k words that are known by another name
 pub row-wrote : (k : ℕ) (name : List ℕ) {x y : Out} {ws words : List ℕ} → words ≡ ws → length ws ≡ k
@@ -70,20 +70,3 @@ unfolding store-text
 store-wrote ts os q {x} {y} {z} {u} {h} e v w t =
     let f : HeaderFits h = header-read os e in
     rw (← e) (at-most (omega (arith, f .next-fits, f .made-fits)) (then v (then w t)))
-
--- ---- words that differ
-
-pub changed-more : (xs ys : List ℕ) (i : ℕ) {n : ℕ} → n ≡ changed xs ys i → (getD xs i 0 ≡ getD ys i 0 → ⊥) → n + 1 ≡ changed xs ys (i + 1)
-unfolding changed
-changed-more xs ys i e h = rw (add-one i, ne-eqb _ _ h, e)
-
-pub changed-same : (xs ys : List ℕ) (i : ℕ) {n : ℕ} → n ≡ changed xs ys i → getD xs i 0 ≡ getD ys i 0 → n ≡ changed xs ys (i + 1)
-unfolding changed
-changed-same xs ys i e h = rw (add-one i, eq-eqb _ _ h, e) (omega arith)
-
-pub changed-end : (xs ys : List ℕ) {m n i : ℕ} → n ≡ changed xs ys i → i ≤ m → m ≤ i → n ≡ changed xs ys m
-changed-end xs ys {m} {n} {i} e h g = let l : i ≡ m = omega arith in e ∙ ap (λ (j : ℕ). changed xs ys j) l
-
-pub changed-wrote : (xs ys : List ℕ) {m n : ℕ} {x y : Out} → n ≡ changed xs ys m → m ≡ min (length xs) (length ys) → Wrote 21 x y (field n)
-    → Wrote 21 x y (field (changed xs ys (min (length xs) (length ys))))
-changed-wrote xs ys e l w = rw (← l, ← e) w

@@ -1,10 +1,9 @@
-// What test programs print of a store, written into a lent buffer.
-// A line for each row and for the queue: the words of docs/LAYOUT.md, decimal, a space before each. Each function takes the place of the next byte and gives the place behind what it wrote.
+// What `test_stores` prints of a store, written into a lent buffer.
+// A line for each row and for the queue: the words of docs/LAYOUT.md, decimal, a space before each. Each function takes the place of the next byte
+// and gives the place behind what it wrote.
 use asyncio::HeapId;
 use asyncio::TaskId;
-use asyncio::words::header_words;
 use asyncio::words::object_words;
-use asyncio::words::place_words;
 use asyncio::words::task_words;
 use drive_text::put_byte;
 use drive_text::put_field;
@@ -13,16 +12,13 @@ use drive_text::put_text;
 use queue::ReadyQueue;
 use rows::tables::load_header;
 use rows::tables::load_object;
-use rows::tables::load_place;
 use rows::tables::load_task;
 ghost use mathlib.Core.Path.{_≡_};
-ghost use mathlib.Core.List.{_++_};
 ghost use lib.ListN.{length};
-ghost use Prim.Native.Nat.{_+_, _*_, _<_, _≤_, min};
-ghost use Rattle.asyncio.specs.Limits.{tasks-length, objects-length, places-length, task-limit, object-limit, place-limit};
+ghost use Prim.Native.Nat.{_*_, _<_, _≤_};
+ghost use Rattle.asyncio.specs.Limits.{tasks-length, objects-length, task-limit, object-limit};
 ghost use Rattle.drive_text.specs.Out.{Puts};
-ghost use Rattle.drive_text.specs.Text.{newline, field, fields};
-ghost use Rattle.test_print.specs.Printing.{task-text, object-text, place-text, header-text, entry-text, queue-text, rows-text, store-text, store-limit, changed, PutsRow, PutsChanged};
+ghost use Rattle.test_print.specs.Printing.{task-text, object-text, entry-text, queue-text, rows-text, store-text, store-limit, PutsRow};
 
 // A line: a name and numbers.
 pub fn write_row(out: &mut [u8], at: usize, name: &[u8], words: &[u64]) -> usize
@@ -31,14 +27,6 @@ pub fn write_row(out: &mut [u8], at: usize, name: &[u8], words: &[u64]) -> usize
     let p = put_text(out, at, name);
     let q = put_numbers(out, p, words);
     put_byte(out, q, 10)
-}
-
-pub fn write_header(out: &mut [u8], at: usize, objects: &[u64]) -> usize
-    requires { ⌜ length (now objects) ≡ objects-length ⌝ }
-    ensures { λ r. ⌜ Puts 175 out at r (header-text (now (objects .entry))) ⌝ }
-{
-    let words = header_words(load_header(objects));
-    write_row(out, at, b"header", &words)
 }
 
 pub fn write_object(out: &mut [u8], at: usize, objects: &[u64], o: HeapId) -> usize
@@ -55,14 +43,6 @@ pub fn write_task(out: &mut [u8], at: usize, tasks: &[u64], t: TaskId) -> usize
 {
     let words = task_words(load_task(tasks, t));
     write_row(out, at, b"task", &words)
-}
-
-pub fn write_place(out: &mut [u8], at: usize, places: &[u64], p: usize) -> usize
-    requires { ⌜ (length (now places) ≡ places-length) × (p < place-limit) ⌝ }
-    ensures { λ r. ⌜ Puts 90 out at r (place-text (now (places .entry)) p) ⌝ }
-{
-    let words = place_words(load_place(places, p));
-    write_row(out, at, b"place", &words)
 }
 
 // The numbers in a queue, each after a space.
@@ -137,32 +117,4 @@ pub fn write_store(
     let p = write_tasks(out, at, tasks, h.next);
     let q = write_objects(out, p, objects, h.made);
     write_queue(out, q, queue)
-}
-
-// How many of the first `n` words differ.
-fn count_changed(before: &[u64], after: &[u64], n: usize) -> u64
-    requires { ⌜ (n ≤ length (now before)) × (n ≤ length (now after)) ⌝ }
-    ensures { λ r. ⌜ r ≡ changed (now (before .entry)) (now (after .entry)) n ⌝ }
-{
-    let mut count: u64 = 0;
-    let mut i: usize = 0;
-    while i < n {
-        if before[i] != after[i] {
-            count += 1;
-            i += 1;
-        } else {
-            i += 1;
-        }
-    }
-    count
-}
-
-// How many words of a slice differ from what they were. What is longer than the other is not looked at.
-pub fn write_changed(out: &mut [u8], at: usize, before: &[u64], after: &[u64]) -> usize
-    ensures { λ r. ⌜ PutsChanged out at r before after ⌝ }
-{
-    if before.len() < after.len() {
-        return put_field(out, at, count_changed(before, after, before.len()));
-    }
-    put_field(out, at, count_changed(before, after, after.len()))
 }

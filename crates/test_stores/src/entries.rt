@@ -28,7 +28,8 @@ fn event_of(kind: u64, n: u64) -> Event {
         7 => Event::Complete(Value::Plain(n)),
         8 => Event::Fail((n % 4294967296) as u32),
         9 => Event::Results,
-        _ => Event::Resume,
+        10 => Event::Resume,
+        _ => Event::Cancel((n % 65536) as u16),
     }
 }
 
@@ -60,7 +61,7 @@ fn enter(
             calls: 0,
         };
     }
-    if kind == 11 {
+    if kind == 13 {
         let answer = eager(tasks, objects, places, queue);
         return Answered {
             queue,

@@ -7,8 +7,8 @@
 //   e          entry a is called with b
 //   : ,        prints the letter, a space, and what entry a answers to b; the store stays
 //   d .        prints the store; ends the line
-// Entry 0 begins a session, 1 to 10 are document 01's kinds of events, 11 is `eager`, 12 `show`. A line "changed" would follow where a refused
-// call changed something.
+// Entry 0 begins a session, the others are document 01's kinds: 1 to 11 the events, 12 `show`, 13 `eager`. A line "changed" would follow where a
+// refused call changed something.
 mod answers; // what an answer prints
 mod compare; // what a refused call changed
 mod entries; // an entry of the library, by its number
