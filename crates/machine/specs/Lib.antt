@@ -14,3 +14,5 @@ pub mod CasesHold
 pub mod SoundCases
 pub mod Gather
 pub mod History
+pub mod Sessions
+pub mod DemandThree

@@ -25,7 +25,7 @@ use Rattle.machine.specs.Store.{Store, task, object, place, header, forget}
 use Rattle.machine.specs.Delivery.{value-or}
 use Rattle.machine.specs.Events.{Control, Result}
 use Rattle.machine.specs.Machine.{Event, Answer, Step}
-use Rattle.machine.specs.History.{Entry, Making, Says, says, nothing-said, said, tells, is-at, reply-in, first-reply, later, making, runner-by, running, started-by, coroutine-of, running-coroutine, completed-value}
+use Rattle.machine.specs.History.{Entry, Making, Says, says, nothing-said, said, tells, is-at, reply-in, first-reply, reply-error, later, making, runner-by, running, started-by, coroutine-of, running-coroutine, completed-value}
 use Rattle.machine_sessions.specs.Told.{Frozen, unmade, co, pends, gave, broke, many, frozen, told, Holds, Told, told-like}
 use Rattle.machine_sessions.specs.ToldEnds.{told-as, told-now, Left, ended-left}
 
@@ -34,7 +34,7 @@ use Rattle.machine_sessions.specs.ToldEnds.{told-as, told-now, Left, end
 -- what a reply leaves of a pending external
 unfoldable pub reply-row : ℕ → OptionValue → Option Result → Frozen
 reply-row c r none = pends c r
-reply-row c r (some x) = pick (eqb (x .kind) 0) (gave (value-or r (to-value (x .tag) (x .number)))) broke
+reply-row c r (some x) = pick (eqb (x .kind) 0) (gave (value-or r (to-value (x .tag) (x .number)))) (broke (reply-error x))
 
 -- the items from place f on
 unfoldable pub ItemsAt : (ℕ → ℕ) → ℕ → List ℕ → Type 0

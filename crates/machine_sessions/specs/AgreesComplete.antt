@@ -34,7 +34,7 @@ use Rattle.machine.specs.Events.{Control, Result, Switched, activate, completed
 use Rattle.machine.specs.Machine.{Event, Answer, Step, switched, end-main, task-completes}
 use Rattle.machine.specs.Sound.{value-known, is-task-of-at}
 use Rattle.machine.specs.Tests.{_and_}
-use Rattle.machine.specs.History.{Entry, Making, Says, says, said, tells, done-only, is-at, reply-in, first-reply, later, making, runner-by, running, started-by, coroutine-of, running-coroutine, completed-value}
+use Rattle.machine.specs.History.{Entry, Making, Says, says, said, tells, done-only, is-at, reply-in, first-reply, reply-error, later, making, runner-by, running, started-by, coroutine-of, running-coroutine, completed-value}
 use Rattle.machine_laws.specs.Views.{Sized}
 use Rattle.machine_laws.specs.Facts.{Nothing}
 use Rattle.machine_laws.specs.StoreLaws.{header-fits, header-put-object, object-put-other, task-fits, live-put-task, task-put-other, sized-put-object, sized-put-task, sized-put-queue, sized-add-log}
@@ -43,7 +43,7 @@ use Rattle.machine_laws.specs.MakingLaws.{value-fits}
 use Rattle.machine_theorems.specs.Soundness.Stores.{SoundStore}
 use Rattle.machine_theorems.specs.Soundness.Exits.{runner-low, runner-runs, runner-live}
 use Rattle.machine_theorems.specs.Soundness.Cycle.{spawned-of, coroutine-is}
-use Rattle.machine_sessions.specs.LentSessions.{entry-of}
+use Rattle.machine.specs.Sessions.{entry-of}
 use Rattle.machine_sessions.specs.Waits.{said-accepted}
 use Rattle.machine_sessions.specs.Calls.{read-back}
 use Rattle.machine_sessions.specs.Told.{Frozen, unmade, co, pends, gave, broke, many, frozen, told, EndsTask, TaskTold, Holds, Told, Gives, gone-told}
@@ -79,7 +79,7 @@ IsCo unmade = ⊥
 IsCo (co b) = Unit {0}
 IsCo (pends c r) = ⊥
 IsCo (gave v) = ⊥
-IsCo broke = ⊥
+IsCo (broke e) = ⊥
 IsCo (many f n) = ⊥
 
 no-reply : (c : ℕ) (r : OptionValue) (x : Option Result) (b : Bool) → co b ≡ reply-row c r x → ⊥
@@ -87,7 +87,7 @@ unfolding reply-row
 no-reply c r none b e = subst IsCo e tt
 no-reply c r (some x) b e = by (eqb (x .kind) 0) e
   where
-    by : (a : Bool) → co b ≡ pick a (gave (value-or r (to-value (x .tag) (x .number)))) broke → ⊥
+    by : (a : Bool) → co b ≡ pick a (gave (value-or r (to-value (x .tag) (x .number)))) (broke (reply-error x)) → ⊥
     by true d = subst IsCo d tt
     by false d = subst IsCo d tt
 

@@ -36,7 +36,7 @@ use Rattle.machine_laws.specs.SoundLaws.{pass, running-rest, refusal-rest}
 use Rattle.machine_theorems.specs.Soundness.Stores.{idle, SoundDuring, SoundStore, during-of}
 use Rattle.machine_theorems.specs.Soundness.Exits.{runner-low, runner-runs, only-changes-of, cancel-during}
 use Rattle.machine_theorems.specs.Soundness.Preserved.{running, waiting, await-made}
-use Rattle.machine_sessions.specs.LentSessions.{entry-of}
+use Rattle.machine.specs.Sessions.{entry-of}
 use Rattle.machine_sessions.specs.Waits.{said-accepted, said-refused}
 use Rattle.machine_sessions.specs.Tracked.{live-low}
 use Rattle.machine_sessions.specs.Told.{Frozen, co, frozen, Told, told-like, header-told}

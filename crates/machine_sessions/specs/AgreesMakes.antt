@@ -44,7 +44,7 @@ use Rattle.machine_laws.specs.MakingLaws.{value-fits, option-fits, items-sized}
 use Rattle.machine_theorems.specs.Soundness.Stores.{SoundStore}
 use Rattle.machine_theorems.specs.Panics.NoPanicLaws.{place-used}
 use Rattle.machine_theorems.specs.Gather.ReceivedSessions.{items-header}
-use Rattle.machine_sessions.specs.LentSessions.{entry-of}
+use Rattle.machine.specs.Sessions.{entry-of}
 use Rattle.machine_sessions.specs.Waits.{said-accepted}
 use Rattle.machine_sessions.specs.Calls.{read-back}
 use Rattle.machine_sessions.specs.Told.{Frozen, unmade, co, pends, gave, broke, many, frozen, told, EndsTask, own-back, TaskTold, Holds, Told}
@@ -57,7 +57,7 @@ IsCo unmade = ⊥
 IsCo (co b) = Unit {0}
 IsCo (pends c r) = ⊥
 IsCo (gave v) = ⊥
-IsCo broke = ⊥
+IsCo (broke e) = ⊥
 IsCo (many f n) = ⊥
 
 abbrev NotMany : Frozen → Type 0
@@ -65,7 +65,7 @@ NotMany unmade = Unit {0}
 NotMany (co b) = Unit {0}
 NotMany (pends c r) = Unit {0}
 NotMany (gave v) = Unit {0}
-NotMany broke = Unit {0}
+NotMany (broke e) = Unit {0}
 NotMany (many f n) = ⊥
 
 -- ---- what is made stays what it is, with its places

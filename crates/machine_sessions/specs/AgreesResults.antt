@@ -37,7 +37,7 @@ use Rattle.machine.specs.Delivery.{value-or, resolve-pending, fail-pending, set
 use Rattle.machine.specs.Events.{Control, Result, apply-result, apply-future-results}
 use Rattle.machine.specs.Machine.{Event, Answer, Step, accept}
 use Rattle.machine.specs.Sound.{value-known, is-ended}
-use Rattle.machine.specs.History.{Entry, Making, Says, says, said, tells, done-only, is-at, reply-in, first-reply, later, making, runner-by, running, started-by, coroutine-of, completed-value}
+use Rattle.machine.specs.History.{Entry, Making, Says, says, said, tells, done-only, is-at, reply-in, first-reply, reply-error, later, making, runner-by, running, started-by, coroutine-of, completed-value}
 use Rattle.machine_laws.specs.Views.{Sized}
 use Rattle.machine_laws.specs.Facts.{Nothing}
 use Rattle.machine_laws.specs.StoreLaws.{header-fits, header-put-object, object-put-other, object-fits, sized-put-object}
@@ -46,7 +46,7 @@ use Rattle.machine_laws.specs.MakingLaws.{value-fits}
 use Rattle.machine_theorems.specs.Soundness.Stores.{SoundDuring, SoundStore, during-of}
 use Rattle.machine_theorems.specs.Soundness.Results.{resolve-delivering, MayApply, AllApply, host-fits, result-keeps, results-keep}
 use Rattle.machine_laws.specs.DeliveryLaws.{pending-object}
-use Rattle.machine_sessions.specs.LentSessions.{entry-of}
+use Rattle.machine.specs.Sessions.{entry-of}
 use Rattle.machine_sessions.specs.Waits.{said-accepted}
 use Rattle.machine_sessions.specs.Calls.{pending-call, read-back}
 use Rattle.machine_sessions.specs.CallEvents.{is-call-at, none-first, call-pending, pending-has, found-call}
@@ -63,7 +63,7 @@ answer-row xs unmade = unmade
 answer-row xs (co b) = co b
 answer-row xs (pends c r) = reply-row c r (reply-in xs c)
 answer-row xs (gave v) = gave v
-answer-row xs broke = broke
+answer-row xs (broke e) = broke e
 answer-row xs (many f n) = many f n
 
 abbrev NotPends : Frozen → Type 0
@@ -71,7 +71,7 @@ NotPends unmade = Unit {0}
 NotPends (co b) = Unit {0}
 NotPends (pends c r) = ⊥
 NotPends (gave v) = Unit {0}
-NotPends broke = Unit {0}
+NotPends (broke e) = Unit {0}
 NotPends (many f n) = Unit {0}
 
 reply-one : (x : Result) (xs : List Result) (c : ℕ) → reply-in (x ∷ xs) c ≡ elim (eqb (x .call) c && not (eqb (x .kind) 2)) [ true ↦ some x | false ↦ reply-in xs c ]
@@ -83,7 +83,7 @@ settled-stays : (xs : List Result) (c : ℕ) (r : OptionValue) (x : Result) → 
 unfolding reply-row answer-row
 settled-stays xs c r x = by (eqb (x .kind) 0)
   where
-    by : (b : Bool) → answer-row xs (pick b (gave (value-or r (to-value (x .tag) (x .number)))) broke) ≡ pick b (gave (value-or r (to-value (x .tag) (x .number)))) broke
+    by : (b : Bool) → answer-row xs (pick b (gave (value-or r (to-value (x .tag) (x .number)))) (broke (reply-error x))) ≡ pick b (gave (value-or r (to-value (x .tag) (x .number)))) (broke (reply-error x))
     by true = refl
     by false = refl
 
@@ -92,7 +92,7 @@ unfolding answer-row
 answer-then x xs unmade = refl
 answer-then x xs (co b) = refl
 answer-then x xs (gave v) = refl
-answer-then x xs broke = refl
+answer-then x xs (broke e) = refl
 answer-then x xs (many f n) = refl
 answer-then x xs (pends c r) = ap (λ (y : Option Result). answer-row xs (reply-row c r y)) (reply-one x [] c) ∙ (by (eqb (x .call) c && not (eqb (x .kind) 2)) ∙ ap (reply-row c r) (sym (reply-one x xs c)))
   where
@@ -106,7 +106,7 @@ unfolding answer-row
 answer-apart x unmade h = refl
 answer-apart x (co b) h = refl
 answer-apart x (gave v) h = refl
-answer-apart x broke h = refl
+answer-apart x (broke e) h = refl
 answer-apart x (many f n) h = refl
 answer-apart x (pends c r) h =
     ap (reply-row c r) (reply-one x [] c ∙ ap (λ (b : Bool). elim b [ true ↦ some x | false ↦ reply-in [] c ]) (h c r refl)) ∙ (unfold reply-in reply-row in refl)
@@ -290,7 +290,7 @@ module _ (n : ℕ) (i : ℕ → ℕ) (D : ℕ → Option Value) (S : ℕ → Opt
         free-resolved c v = unfold awaiter-of in refl
 
         reply-gave : (c : ℕ) (y : OptionValue) (x : Result) → eqb (x .kind) 0 ≡ true → reply-row c y (some x) ≡ gave (value-or y (to-value (x .tag) (x .number)))
-        reply-gave c y x e = unfold reply-row in (ap (λ (b : Bool). pick b (gave (value-or y (to-value (x .tag) (x .number)))) broke) e)
+        reply-gave c y x e = unfold reply-row in (ap (λ (b : Bool). pick b (gave (value-or y (to-value (x .tag) (x .number)))) (broke (reply-error x))) e)
 
         gave-told : (o : ℕ) (z : Frozen) (v : Value) → z ≡ gave v → told D o z ≡ some v
         gave-told o z v e = ap (told D o) e ∙ told-gave o v
@@ -298,41 +298,41 @@ module _ (n : ℕ) (i : ℕ → ℕ) (D : ℕ → Option Value) (S : ℕ → Opt
             told-gave : (o : ℕ) (v : Value) → told D o (gave v) ≡ some v
             told-gave o v = unfold told in refl
 
-    failed : (x : Result) (z : Error) → eqb (x .kind) 0 ≡ false → eqb (x .kind) 2 ≡ false → ErrorFits z → Answered (x ∷ []) (λ j. frozen (object s j)) (fail-future s (x .call) z)
+    failed : (x : Result) (z : Error) → reply-error x ≡ z → eqb (x .kind) 0 ≡ false → eqb (x .kind) 2 ≡ false → ErrorFits z → Answered (x ∷ []) (λ j. frozen (object s j)) (fail-future s (x .call) z)
     unfolding fail-future fail-pending
-    failed x z e0 e2 f =
+    failed x z ez e0 e2 f =
         found x _ e2 (λ o p l e ec alone.
         let y : Object = Object.ExternalFuture (p .call) (ExternalFutureState.Failed z) in
-        let bk : frozen (to-object (object-words y)) ≡ broke = ap frozen (object-back y (call-fits o p e .0, f)) ∙ frozen-broke (p .call) z in
-        delivered s k o p (object-low o l) e y broke bk (free-failed (p .call) z) x _ ec e2 (reply-broke (p .call .0) (p .stored) x e0) alone
-        (failure-tells _ n i D S (put-object s o y) (p .awaiter) z (awaiter-low s k o p (object-low o l) e y broke bk (free-failed (p .call) z)) (settled s k o p (object-low o l) e y broke bk (free-failed (p .call) z))))
+        let bk : frozen (to-object (object-words y)) ≡ broke z = ap frozen (object-back y (call-fits o p e .0, f)) ∙ frozen-broke (p .call) z in
+        delivered s k o p (object-low o l) e y (broke z) bk (free-failed (p .call) z) x _ ec e2 (reply-broke (p .call .0) (p .stored) x e0 ∙ ap broke ez) alone
+        (failure-tells _ n i D S (put-object s o y) (p .awaiter) z (awaiter-low s k o p (object-low o l) e y (broke z) bk (free-failed (p .call) z)) (settled s k o p (object-low o l) e y (broke z) bk (free-failed (p .call) z))))
       where
-        frozen-broke : (c : CallId) (v : Error) → frozen (Object.ExternalFuture c (ExternalFutureState.Failed v)) ≡ broke
+        frozen-broke : (c : CallId) (v : Error) → frozen (Object.ExternalFuture c (ExternalFutureState.Failed v)) ≡ broke v
         frozen-broke c v = unfold frozen in refl
 
         free-failed : (c : CallId) (v : Error) → awaiter-of (Object.ExternalFuture c (ExternalFutureState.Failed v)) ≡ Awaiter.Nobody
         free-failed c v = unfold awaiter-of in refl
 
-        reply-broke : (c : ℕ) (y : OptionValue) (x : Result) → eqb (x .kind) 0 ≡ false → reply-row c y (some x) ≡ broke
-        reply-broke c y x e = unfold reply-row in (ap (λ (b : Bool). pick b (gave (value-or y (to-value (x .tag) (x .number)))) broke) e)
+        reply-broke : (c : ℕ) (y : OptionValue) (x : Result) → eqb (x .kind) 0 ≡ false → reply-row c y (some x) ≡ broke (reply-error x)
+        reply-broke c y x e = unfold reply-row in (ap (λ (b : Bool). pick b (gave (value-or y (to-value (x .tag) (x .number)))) (broke (reply-error x))) e)
 
     result-tells : (x : Result) → MayApply (hd .made) G x → Answered (x ∷ []) (λ j. frozen (object s j)) (apply-result s x)
-    unfolding apply-result
-    result-tells x m = by (eqb (x .kind) 0) refl (eqb (x .kind) 1) refl (eqb (x .kind) 2) refl (eqb (x .kind) 3)
+    unfolding apply-result reply-error
+    result-tells x m = by (eqb (x .kind) 0) refl (eqb (x .kind) 1) refl (eqb (x .kind) 2) refl (eqb (x .kind) 3) refl
       where
-        by : (a : Bool) → eqb (x .kind) 0 ≡ a → (b : Bool) → eqb (x .kind) 1 ≡ b → (c : Bool) → eqb (x .kind) 2 ≡ c → (d : Bool) → Answered (x ∷ []) (λ j. frozen (object s j)) (pick a (resolve-future s (x .call) (to-value (x .tag) (x .number)))
+        by : (a : Bool) → eqb (x .kind) 0 ≡ a → (b : Bool) → eqb (x .kind) 1 ≡ b → (c : Bool) → eqb (x .kind) 2 ≡ c → (d : Bool) → eqb (x .kind) 3 ≡ d → Answered (x ∷ []) (λ j. frozen (object s j)) (pick a (resolve-future s (x .call) (to-value (x .tag) (x .number)))
             (pick b (fail-future s (x .call) (to-error 0 (x .number))) (pick c s (pick d (fail-future s (x .call) Error.NotFound) (fail-future s (x .call) Error.ModuleFile)))))
-        by true e b f c g d =
+        by true e b f c g d i =
             resolved x e (ne-eqb (x .kind) 2 (λ y. not-suc-le-zero {n = 0} (omega (arith, eqb-true (x .kind) 0 e))))
             (subst (λ (y : Header). T (value-known (y .made) (object s) (to-value (x .tag) (x .number)))) (sym (h .head)) (m (eqb-true (x .kind) 0 e) (object s) (h .done)))
-        by false e true f c g d = failed x (to-error 0 (x .number)) e (ne-eqb (x .kind) 2 (λ y. not-suc-le-zero {n = 0} (omega (arith, eqb-true (x .kind) 1 f)))) (host-fits (x .number))
-        by false e false f true g d = ignored x (λ j l c y p. ap (λ (b : Bool). eqb (x .call) c && not b) g ∙ and-no (eqb (x .call) c))
+        by false e true f c g d i = failed x (to-error 0 (x .number)) (ap (λ (b : Bool). pick b (to-error 0 (x .number)) (pick (eqb (x .kind) 3) Error.NotFound Error.ModuleFile)) f) e (ne-eqb (x .kind) 2 (λ y. not-suc-le-zero {n = 0} (omega (arith, eqb-true (x .kind) 1 f)))) (host-fits (x .number))
+        by false e false f true g d i = ignored x (λ j l c y p. ap (λ (b : Bool). eqb (x .call) c && not b) g ∙ and-no (eqb (x .call) c))
           where
             and-no : (b : Bool) → (b && false) ≡ false
             and-no true = refl
             and-no false = refl
-        by false e false f false g true = failed x Error.NotFound e g tt
-        by false e false f false g false = failed x Error.ModuleFile e g tt
+        by false e false f false g true i = failed x Error.NotFound (ap (λ (b : Bool). pick b (to-error 0 (x .number)) (pick (eqb (x .kind) 3) Error.NotFound Error.ModuleFile)) f ∙ ap (λ (b : Bool). pick b Error.NotFound Error.ModuleFile) i) e g tt
+        by false e false f false g false i = failed x Error.ModuleFile (ap (λ (b : Bool). pick b (to-error 0 (x .number)) (pick (eqb (x .kind) 3) Error.NotFound Error.ModuleFile)) f ∙ ap (λ (b : Bool). pick b Error.NotFound Error.ModuleFile) i) e g tt
 
   pub results-tell : {r : ℕ → Bool} {G : ℕ → Type 0} {hd : Header} (xs : List Result) (s : Store) → AllApply (hd .made) G xs → SoundDuring Nothing r G hd s → is-ended (hd .moment) ≡ false → K s
       → Answered xs (λ j. frozen (object s j)) (apply-future-results s xs)
@@ -344,7 +344,7 @@ module _ (n : ℕ) (i : ℕ → ℕ) (D : ℕ → Option Value) (S : ℕ → Opt
       none-said (co b) = unfold answer-row in refl
       none-said (pends c r) = unfold answer-row reply-in reply-row in refl
       none-said (gave v) = unfold answer-row in refl
-      none-said broke = unfold answer-row in refl
+      none-said (broke e) = unfold answer-row in refl
       none-said (many f m) = unfold answer-row in refl
   results-tell (x ∷ xs) s a h on k =
       let y : Answered (x ∷ []) (λ j. frozen (object s j)) (apply-result s x) = result-tells s h on k x (a .0) in

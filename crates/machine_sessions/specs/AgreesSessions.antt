@@ -43,10 +43,11 @@ use Rattle.machine_laws.specs.MachineLaws.{accepted-step, refused-step}
 use Rattle.machine_laws.specs.SoundLaws.{pass, running-rest, refusal-rest, refusal-forget}
 use Rattle.machine_laws.specs.TestLaws.{or-left, or-right}
 use Rattle.machine_theorems.specs.Soundness.Stores.{SoundStore}
-use Rattle.machine_theorems.specs.Soundness.Preserved.{InRange, waiting, await-made, complete-known, results-apply}
+use Rattle.machine_theorems.specs.Soundness.Preserved.{waiting, await-made, complete-known, results-apply}
+use Rattle.machine.specs.Sessions.{InRange}
 use Rattle.machine_theorems.specs.Soundness.Sessions.{forget-sound-store, step-sound-store, fresh-sound-store}
-use Rattle.machine_sessions.specs.LentSessions.{Sent, lent-any, entry-of, Session, begun, send, send-all, session}
-use Rattle.machine_sessions.specs.DemandThree.{AllSentInRange}
+use Rattle.machine.specs.Sessions.{Sent, lent-any, entry-of, Session, begun, send, send-all, session}
+use Rattle.machine.specs.Sessions.{AllSentInRange}
 use Rattle.machine_sessions.specs.Tracked.{live-low}
 use Rattle.machine_sessions.specs.Following.{Sends, stepped, short, sends, Following, send-following, session-follows}
 use Rattle.machine_sessions.specs.Told.{Frozen, co, frozen, EndsTask, Holds, Told, told-like}

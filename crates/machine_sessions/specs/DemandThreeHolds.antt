@@ -4,8 +4,8 @@ use mathlib.Core.Bool.{Bool, true, false}
 use mathlib.Core.List.{List}
 use Prim.Native.Nat.{ℕ}
 use Rattle.machine.specs.History.{cancelled}
-use Rattle.machine_sessions.specs.LentSessions.{Sent, session}
-use Rattle.machine_sessions.specs.DemandThree.{goes-on, Demand3, AllSentInRange, DemandThree}
+use Rattle.machine.specs.Sessions.{Sent, session, AllSentInRange}
+use Rattle.machine.specs.DemandThree.{goes-on, Demand3, DemandThree}
 use Rattle.machine_sessions.specs.AgreesSessions.{session-agrees}
 use Rattle.machine_sessions.specs.PlacesHold.{completed-right}
 use Rattle.machine_sessions.specs.Following.{queue-right, session-follows}

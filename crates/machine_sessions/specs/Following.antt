@@ -32,10 +32,10 @@ use Rattle.machine_laws.specs.MachineLaws.{accepted-step, refused-step}
 use Rattle.machine_laws.specs.SoundLaws.{refusal-forget}
 use Rattle.machine_theorems.specs.Soundness.ReadyTasks.{Queued, to-queued}
 use Rattle.machine_theorems.specs.Soundness.Stores.{SoundStore}
-use Rattle.machine_theorems.specs.Soundness.Preserved.{InRange}
+use Rattle.machine.specs.Sessions.{InRange, AllSentInRange}
 use Rattle.machine_theorems.specs.Soundness.Sessions.{forget-sound-store, step-sound-store, fresh-sound-store}
-use Rattle.machine_sessions.specs.LentSessions.{Sent, is-read, read-lent, lent-any, happened-by, entry-of, Session, begun, send, send-all, session}
-use Rattle.machine_sessions.specs.DemandThree.{QueueRight, AllSentInRange}
+use Rattle.machine.specs.Sessions.{Sent, is-read, read-lent, lent-any, happened-by, entry-of, Session, begun, send, send-all, session}
+use Rattle.machine.specs.DemandThree.{QueueRight}
 use Rattle.machine_sessions.specs.Tracked.{Tracked, live-is, live-low}
 use Rattle.machine_sessions.specs.TrackedEvents.{accept-tracked}
 

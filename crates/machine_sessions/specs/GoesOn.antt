@@ -29,10 +29,10 @@ use Rattle.machine_laws.specs.MachineLaws.{accepted-step, refused-step}
 use Rattle.machine_laws.specs.SizedLaws.{step-says}
 use Rattle.machine_laws.specs.SoundLaws.{pass, refusal-rest, refusal-forget}
 use Rattle.machine_theorems.specs.Soundness.Stores.{SoundStore}
-use Rattle.machine_theorems.specs.Soundness.Preserved.{InRange}
+use Rattle.machine.specs.Sessions.{InRange, AllSentInRange}
 use Rattle.machine_theorems.specs.Soundness.Sessions.{forget-sound-store, step-sound-store}
-use Rattle.machine_sessions.specs.LentSessions.{Sent, lent-any, entry-of, Session, begun, send, send-all, session}
-use Rattle.machine_sessions.specs.DemandThree.{empty-wait, is-stalled, goes-on, AllSentInRange}
+use Rattle.machine.specs.Sessions.{Sent, lent-any, entry-of, Session, begun, send, send-all, session}
+use Rattle.machine.specs.DemandThree.{empty-wait, is-stalled, goes-on}
 use Rattle.machine_sessions.specs.Calls.{pending-call, called, pends, pending-calls-are}
 use Rattle.machine_sessions.specs.Waits.{says-control, said-accepted, said-refused}
 use Rattle.machine_sessions.specs.Following.{accept-accepts, Sends, stepped, short, sends, Following, send-following, session-follows}

@@ -14,8 +14,6 @@ pub mod Named
 pub mod NamedClimb
 pub mod NamedRows
 pub mod NamedCommit
-pub mod LentSessions
-pub mod DemandThree
 pub mod Tracked
 pub mod TrackedEvents
 pub mod Following

@@ -12,6 +12,7 @@ use lib.Dec.{T, eqb, leb, ltb, ltb→lt}
 use lib.ListN.{length}
 use borrow.Author.Tests.{eq-eqb, ne-eqb, eqb-true, leb-false, lt-leb}
 use Rattle.asyncio.specs.declared.Value.{Value}
+use Rattle.asyncio.specs.declared.Error.{Error}
 use Rattle.asyncio.specs.declared.OptionValue.{OptionValue}
 use Rattle.asyncio.specs.declared.CoroutineState.{CoroutineState}
 use Rattle.asyncio.specs.declared.ExternalFutureState.{ExternalFutureState}
@@ -29,7 +30,8 @@ use Rattle.machine.specs.Events.{Result}
 use Rattle.machine.specs.Machine.{Event, Answer, Shown, Step, unmade, first-refusal, refusals, refusal, slot-value, show-places, shown, accept, step}
 use Rattle.machine.specs.Sound.{sound, items-below, value-known, option-known, is-filled, rest-filled, gather-filled, object-filled}
 use Rattle.machine.specs.Tests.{_and_}
-use Rattle.machine.specs.History.{Entry, Making, says, first-reply, returned, delivers, making, delivered, items, completed-value}
+use Rattle.machine.specs.Gather.{Outcome, returned, raised}
+use Rattle.machine.specs.History.{Entry, Making, says, first-reply, reply-error, coroutine-outcome, reply-outcome, shown-outcome, outcome-by, outcome, value-of, making, items, completed-value, failed-error}
 use Rattle.machine_laws.specs.Facts.{Nothing}
 use Rattle.machine_laws.specs.TestLaws.{below, both-left, both-right}
 use Rattle.machine_laws.specs.MachineLaws.{accepted-step, refused-step}
@@ -39,7 +41,7 @@ use Rattle.machine_theorems.specs.Bounds.Bits.{SetBelow, has-set, none-set}
 use Rattle.machine_theorems.specs.Gather.PremiseLaws.{sound-some-open, sound-no-other}
 use Rattle.machine_theorems.specs.Panics.NoPanicLaws.{place-used}
 use Rattle.machine_theorems.specs.Soundness.Stores.{SoundStore, sound-store-sound}
-use Rattle.machine_sessions.specs.DemandThree.{read, as-completed, tells-completed, makes-gather, gather-making, only-if, delivered-now, none-open, PlacesRight}
+use Rattle.machine.specs.DemandThree.{read, shown-by, look, delivered, none-open}
 use Rattle.machine_sessions.specs.Told.{Frozen, co, pends, gave, broke, many, frozen, told, Holds}
 use Rattle.machine_sessions.specs.Agrees.{reply-row, ItemsAt, Makes, MadeRight, Agrees}
 
@@ -114,8 +116,21 @@ shown-made s o x e = by (ℕ-discrete (refusal s (Event.show o)) 0)
     by (yes r) = (low r, shows-is _ _ (sym (unfold read in (read-accepted s o r)) ∙ e))
     by (no ne) = absurd (true≢false (sym (ap is-shown (sym (ap (λ (y : Step). y .answer) (refused-step s (Event.show o) (refusal s (Event.show o)) refl ne)) ∙ e)) ∙ refl))
 
--- ---- what an object has delivered, by its row
+-- ---- what an object has come to, by its row
 
+-- C has the outcomes of coroutines
+unfoldable pub row-outcome : (ℕ → Option (Outcome Value Error)) → ℕ → Object → Option (Outcome Value Error)
+row-outcome C o Object.Unmade = none
+row-outcome C o (Object.Coroutine f x) = C o
+row-outcome C o (Object.ExternalFuture c (ExternalFutureState.Pending a r)) = none
+row-outcome C o (Object.ExternalFuture c (ExternalFutureState.Resolved v)) = some (returned v)
+row-outcome C o (Object.ExternalFuture c (ExternalFutureState.Failed e)) = some (raised e)
+row-outcome C o (Object.GatherFuture f n GatherState.Pending) = none
+row-outcome C o (Object.GatherFuture f n (GatherState.Awaited a m)) = none
+row-outcome C o (Object.GatherFuture f n GatherState.Completed) = some (returned (Value.List (heap-id o)))
+row-outcome C o (Object.GatherFuture f n (GatherState.Failed e)) = some (raised e)
+
+-- the value of it
 unfoldable pub row-gives : (ℕ → Option Value) → ℕ → Object → Option Value
 row-gives D o Object.Unmade = none
 row-gives D o (Object.Coroutine f x) = D o
@@ -127,27 +142,25 @@ row-gives D o (Object.GatherFuture f n (GatherState.Awaited a m)) = none
 row-gives D o (Object.GatherFuture f n GatherState.Completed) = some (Value.List (heap-id o))
 row-gives D o (Object.GatherFuture f n (GatherState.Failed e)) = none
 
--- is it a completed gather?
-unfoldable done-gather : Object → Bool
-done-gather Object.Unmade = false
-done-gather (Object.Coroutine f x) = false
-done-gather (Object.ExternalFuture c x) = false
-done-gather (Object.GatherFuture f n GatherState.Pending) = false
-done-gather (Object.GatherFuture f n (GatherState.Awaited a m)) = false
-done-gather (Object.GatherFuture f n GatherState.Completed) = true
-done-gather (Object.GatherFuture f n (GatherState.Failed e)) = false
+row-value : (C : ℕ → Option (Outcome Value Error)) (D : ℕ → Option Value) (o : ℕ) (x : Object) → value-of (C o) ≡ D o → value-of (row-outcome C o x) ≡ row-gives D o x
+unfolding row-outcome row-gives value-of
+row-value C D o Object.Unmade e = refl
+row-value C D o (Object.Coroutine f x) e = e
+row-value C D o (Object.ExternalFuture c (ExternalFutureState.Pending a r)) e = refl
+row-value C D o (Object.ExternalFuture c (ExternalFutureState.Resolved v)) e = refl
+row-value C D o (Object.ExternalFuture c (ExternalFutureState.Failed x)) e = refl
+row-value C D o (Object.GatherFuture f n GatherState.Pending) e = refl
+row-value C D o (Object.GatherFuture f n (GatherState.Awaited a m)) e = refl
+row-value C D o (Object.GatherFuture f n GatherState.Completed) e = refl
+row-value C D o (Object.GatherFuture f n (GatherState.Failed x)) e = refl
 
-shown-done : (s : Store) (x : Object) → as-completed (shown s x) ≡ done-gather x
-unfolding shown as-completed done-gather
-shown-done s Object.Unmade = refl
-shown-done s (Object.Coroutine f x) = refl
-shown-done s (Object.ExternalFuture c (ExternalFutureState.Pending a r)) = refl
-shown-done s (Object.ExternalFuture c (ExternalFutureState.Resolved v)) = refl
-shown-done s (Object.ExternalFuture c (ExternalFutureState.Failed e)) = refl
-shown-done s (Object.GatherFuture f n GatherState.Pending) = refl
-shown-done s (Object.GatherFuture f n (GatherState.Awaited a m)) = refl
-shown-done s (Object.GatherFuture f n GatherState.Completed) = refl
-shown-done s (Object.GatherFuture f n (GatherState.Failed e)) = refl
+-- what is shown of a gather is its row's
+shown-row : (C : ℕ → Option (Outcome Value Error)) (s : Store) (o f n : ℕ) (x : GatherState) → shown-outcome o (shown s (Object.GatherFuture f n x)) ≡ row-outcome C o (Object.GatherFuture f n x)
+unfolding shown shown-outcome row-outcome
+shown-row C s o f n GatherState.Pending = refl
+shown-row C s o f n (GatherState.Awaited a m) = refl
+shown-row C s o f n GatherState.Completed = refl
+shown-row C s o f n (GatherState.Failed e) = refl
 
 -- by what is frozen: all but gathers
 abbrev NotMany : Frozen → Type 0
@@ -155,8 +168,39 @@ NotMany Frozen.unmade = Unit {0}
 NotMany (co b) = Unit {0}
 NotMany (pends c r) = Unit {0}
 NotMany (gave v) = Unit {0}
-NotMany broke = Unit {0}
+NotMany (broke e) = Unit {0}
 NotMany (many f n) = ⊥
+
+-- by what is frozen: all but gathers
+unfoldable frozen-outcome : (ℕ → Option (Outcome Value Error)) → ℕ → Frozen → Option (Outcome Value Error)
+frozen-outcome C o Frozen.unmade = none
+frozen-outcome C o (co b) = C o
+frozen-outcome C o (pends c r) = none
+frozen-outcome C o (gave v) = some (returned v)
+frozen-outcome C o (broke e) = some (raised e)
+frozen-outcome C o (many f n) = none
+
+plain-outcome : (C : ℕ → Option (Outcome Value Error)) (o : ℕ) (x : Object) → NotMany (frozen x) → row-outcome C o x ≡ frozen-outcome C o (frozen x)
+unfolding row-outcome frozen-outcome frozen
+plain-outcome C o Object.Unmade m = refl
+plain-outcome C o (Object.Coroutine f CoroutineState.New) m = refl
+plain-outcome C o (Object.Coroutine f CoroutineState.Running) m = refl
+plain-outcome C o (Object.Coroutine f CoroutineState.Completed) m = refl
+plain-outcome C o (Object.ExternalFuture c (ExternalFutureState.Pending a r)) m = refl
+plain-outcome C o (Object.ExternalFuture c (ExternalFutureState.Resolved v)) m = refl
+plain-outcome C o (Object.ExternalFuture c (ExternalFutureState.Failed e)) m = refl
+plain-outcome C o (Object.GatherFuture f n x) m = absurd m
+
+many-outcome : (C : ℕ → Option (Outcome Value Error)) (s : Store) (o f n : ℕ) (x : Object) → frozen x ≡ many f n → shown-outcome o (shown s x) ≡ row-outcome C o x
+unfolding frozen
+many-outcome C s o f n Object.Unmade e = absurd (subst NotMany e tt)
+many-outcome C s o f n (Object.Coroutine g CoroutineState.New) e = absurd (subst NotMany e tt)
+many-outcome C s o f n (Object.Coroutine g CoroutineState.Running) e = absurd (subst NotMany e tt)
+many-outcome C s o f n (Object.Coroutine g CoroutineState.Completed) e = absurd (subst NotMany e tt)
+many-outcome C s o f n (Object.ExternalFuture c (ExternalFutureState.Pending a r)) e = absurd (subst NotMany e tt)
+many-outcome C s o f n (Object.ExternalFuture c (ExternalFutureState.Resolved v)) e = absurd (subst NotMany e tt)
+many-outcome C s o f n (Object.ExternalFuture c (ExternalFutureState.Failed v)) e = absurd (subst NotMany e tt)
+many-outcome C s o f n (Object.GatherFuture g m x) e = shown-row C s o g m x
 
 plain-gives : (D : ℕ → Option Value) (o : ℕ) (x : Object) → NotMany (frozen x) → row-gives D o x ≡ told D o (frozen x)
 unfolding row-gives told frozen
@@ -169,36 +213,22 @@ plain-gives D o (Object.ExternalFuture c (ExternalFutureState.Resolved v)) m = r
 plain-gives D o (Object.ExternalFuture c (ExternalFutureState.Failed e)) m = refl
 plain-gives D o (Object.GatherFuture f n x) m = absurd m
 
-many-gives : (D : ℕ → Option Value) (o f n : ℕ) (x : Object) → frozen x ≡ many f n → row-gives D o x ≡ only-if (done-gather x) (some (Value.List (heap-id o)))
-unfolding row-gives frozen done-gather only-if
-many-gives D o f n Object.Unmade e = absurd (subst NotMany e tt)
-many-gives D o f n (Object.Coroutine g CoroutineState.New) e = absurd (subst NotMany e tt)
-many-gives D o f n (Object.Coroutine g CoroutineState.Running) e = absurd (subst NotMany e tt)
-many-gives D o f n (Object.Coroutine g CoroutineState.Completed) e = absurd (subst NotMany e tt)
-many-gives D o f n (Object.ExternalFuture c (ExternalFutureState.Pending a r)) e = absurd (subst NotMany e tt)
-many-gives D o f n (Object.ExternalFuture c (ExternalFutureState.Resolved v)) e = absurd (subst NotMany e tt)
-many-gives D o f n (Object.ExternalFuture c (ExternalFutureState.Failed v)) e = absurd (subst NotMany e tt)
-many-gives D o f n (Object.GatherFuture g m GatherState.Pending) e = refl
-many-gives D o f n (Object.GatherFuture g m (GatherState.Awaited a j)) e = refl
-many-gives D o f n (Object.GatherFuture g m GatherState.Completed) e = refl
-many-gives D o f n (Object.GatherFuture g m (GatherState.Failed v)) e = refl
-
 -- the reply of a pending external
-reply-told : (D : ℕ → Option Value) (o c : ℕ) (r : OptionValue) (x : Option Result) → _≡_ {A = Option Value} (elim (returned x) [ none ↦ none | some v ↦ some (value-or r v) ]) (told D o (reply-row c r x))
-unfolding returned told reply-row
-reply-told D o c r none = refl
-reply-told D o c r (some x) = by (eqb (x .kind) 0)
+reply-frozen : (C : ℕ → Option (Outcome Value Error)) (o c : ℕ) (r : OptionValue) (x : Option Result) → reply-outcome r x ≡ frozen-outcome C o (reply-row c r x)
+unfolding reply-outcome frozen-outcome reply-row
+reply-frozen C o c r none = refl
+reply-frozen C o c r (some x) = by (eqb (x .kind) 0)
   where
-    by : (b : Bool) → _≡_ {A = Option Value} (elim (elim b as (λ (z : Bool). Option Value) [ true ↦ some (to-value (x .tag) (x .number)) | false ↦ none ]) [ none ↦ none | some v ↦ some (value-or r v) ]) (told D o (pick b (gave (value-or r (to-value (x .tag) (x .number)))) broke))
-    by true = unfold told in refl
-    by false = unfold told in refl
+    by : (b : Bool) → some (pick b (returned (value-or r (to-value (x .tag) (x .number)))) (raised (reply-error x))) ≡ frozen-outcome C o (pick b (gave (value-or r (to-value (x .tag) (x .number)))) (broke (reply-error x)))
+    by true = unfold frozen-outcome in refl
+    by false = unfold frozen-outcome in refl
 
 reply-plain : (c : ℕ) (r : OptionValue) (x : Option Result) → NotMany (reply-row c r x)
 unfolding reply-row
 reply-plain c r none = tt
 reply-plain c r (some x) = by (eqb (x .kind) 0)
   where
-    by : (b : Bool) → NotMany (pick b (gave (value-or r (to-value (x .tag) (x .number)))) broke)
+    by : (b : Bool) → NotMany (pick b (gave (value-or r (to-value (x .tag) (x .number)))) (broke (reply-error x)))
     by true = tt
     by false = tt
 
@@ -206,41 +236,57 @@ module _ (h : List Entry) (s : Store) (w : SoundStore s) (k : Agrees h s) where
   abbrev D : ℕ → Option Value
   D = completed-value h
 
+  abbrev C : ℕ → Option (Outcome Value Error)
+  C o = coroutine-outcome (completed-value h o) (failed-error h o)
+
   -- by the making
-  plain-row : (o : ℕ) (y : Frozen) → frozen (object s o) ≡ y → NotMany y → row-gives D o (object s o) ≡ told D o y
-  plain-row o y e m = plain-gives D o (object s o) (subst NotMany (sym e) m) ∙ ap (told D o) e
+  plain-row : (o : ℕ) (y : Frozen) → frozen (object s o) ≡ y → NotMany y → frozen-outcome C o y ≡ row-outcome C o (object s o)
+  plain-row o y e m = sym (plain-outcome C o (object s o) (subst NotMany (sym e) m) ∙ ap (frozen-outcome C o) e)
 
-  done-read : (o : ℕ) → o < header s .made → tells-completed (read s o) ≡ done-gather (object s o)
-  unfolding tells-completed
-  done-read o l = ap tells-completed (shows-made s o w l) ∙ shown-done s (object s o)
+  look-made : (o : ℕ) → o < header s .made → look s o ≡ shown s (object s o)
+  unfolding look shown-by
+  look-made o l = ap shown-by (shows-made s o w l)
 
-  event-gives : (o : ℕ) → o < header s .made → (e : Event) (since : List Entry) → Makes e since (frozen (object s o)) (λ p. place s p .item .0)
-      → only-if (not (makes-gather e) || tells-completed (read s o)) (delivers h o e since) ≡ row-gives D o (object s o)
-  unfolding Makes only-if makes-gather delivers told
-  event-gives o l (Event.coroutine f) since y = sym (plain-row o (co (y .0)) (y .1) tt)
-  event-gives o l Event.call since y = absurd y
-  event-gives o l (Event.pending c r) since y = reply-told D o c r (first-reply since c) ∙ sym (plain-row o (reply-row c r (first-reply since c)) y (reply-plain c r (first-reply since c)))
-  event-gives o l (Event.settled v) since y = sym (plain-row o (gave v) y tt)
-  event-gives o l (Event.gather os) since y = ap (λ (b : Bool). only-if b (some (Value.List (heap-id o)))) (done-read o l) ∙ sym (many-gives D o (y .0) (length os) (object s o) (y .1))
-  event-gives o l (Event.await p) since y = absurd y
-  event-gives o l (Event.complete v) since y = absurd y
-  event-gives o l (Event.fail n) since y = absurd y
-  event-gives o l (Event.results rs) since y = absurd y
-  event-gives o l Event.resume since y = absurd y
-  event-gives o l (Event.cancel t) since y = absurd y
-  event-gives o l (Event.show p) since y = absurd y
-  event-gives o l Event.eager since y = absurd y
+  event-outcome : (o : ℕ) → o < header s .made → (e : Event) (since : List Entry) → Makes e since (frozen (object s o)) (λ p. place s p .item .0)
+      → outcome-by h (look s) o e since ≡ row-outcome C o (object s o)
+  unfolding Makes outcome-by frozen-outcome
+  event-outcome o l (Event.coroutine f) since y = plain-row o (co (y .0)) (y .1) tt
+  event-outcome o l Event.call since y = absurd y
+  event-outcome o l (Event.pending c r) since y = reply-frozen C o c r (first-reply since c) ∙ plain-row o (reply-row c r (first-reply since c)) y (reply-plain c r (first-reply since c))
+  event-outcome o l (Event.settled v) since y = plain-row o (gave v) y tt
+  event-outcome o l (Event.gather os) since y = ap (shown-outcome o) (look-made o l) ∙ many-outcome C s o (y .0) (length os) (object s o) (y .1)
+  event-outcome o l (Event.await p) since y = absurd y
+  event-outcome o l (Event.complete v) since y = absurd y
+  event-outcome o l (Event.fail n) since y = absurd y
+  event-outcome o l (Event.results rs) since y = absurd y
+  event-outcome o l Event.resume since y = absurd y
+  event-outcome o l (Event.cancel t) since y = absurd y
+  event-outcome o l (Event.show p) since y = absurd y
+  event-outcome o l Event.eager since y = absurd y
 
-  gives-by : (o : ℕ) → o < header s .made → (m : Option Making) → MadeRight m (header s .made) o (frozen (object s o)) (λ p. place s p .item .0)
-      → only-if (not (gather-making m) || tells-completed (read s o)) (elim m [ none ↦ none | some y ↦ delivers h o (y .event) (y .since) ]) ≡ row-gives D o (object s o)
-  unfolding MadeRight gather-making
-  gives-by o l none y = absurd (not-suc-le-zero {n = 0} (omega (arith, l, y)))
-  gives-by o l (some m) y = event-gives o l (m .event) (m .since) (y .1)
+  outcome-made : (o : ℕ) → o < header s .made → (m : Option Making) → MadeRight m (header s .made) o (frozen (object s o)) (λ p. place s p .item .0)
+      → elim m [ none ↦ none | some y ↦ outcome-by h (look s) o (y .event) (y .since) ] ≡ row-outcome C o (object s o)
+  unfolding MadeRight
+  outcome-made o l none y = absurd (not-suc-le-zero {n = 0} (omega (arith, l, y)))
+  outcome-made o l (some m) y = event-outcome o l (m .event) (m .since) (y .1)
 
-  -- What an object has delivered by the history is what its row gives.
-  pub delivered-row : (o : ℕ) → o < header s .made → delivered-now h s o ≡ row-gives D o (object s o)
-  unfolding delivered-now delivered
-  delivered-row o l = gives-by o l (making h o) (k .makes o)
+  -- What an object has come to by the history is what its row says.
+  pub outcome-row : (o : ℕ) → o < header s .made → outcome h (look s) o ≡ row-outcome C o (object s o)
+  unfolding outcome
+  outcome-row o l = outcome-made o l (making h o) (k .makes o)
+
+  coroutine-value : (o : ℕ) → value-of (C o) ≡ D o
+  coroutine-value o = by (completed-value h o) (failed-error h o)
+    where
+      by : (v : Option Value) (e : Option Error) → value-of (coroutine-outcome v e) ≡ v
+      by (some v) e = unfold coroutine-outcome value-of in refl
+      by none (some e) = unfold coroutine-outcome value-of in refl
+      by none none = unfold coroutine-outcome value-of in refl
+
+  -- and so of what it has delivered
+  pub delivered-row : (o : ℕ) → o < header s .made → delivered h s o ≡ row-gives D o (object s o)
+  unfolding delivered
+  delivered-row o l = ap value-of (outcome-row o l) ∙ row-value C D o (object s o) (coroutine-value o)
 
   -- ---- a gather's places
 
@@ -404,12 +450,12 @@ module _ (h : List Entry) (s : Store) (w : SoundStore s) (k : Agrees h s) where
       step f a = omega arith
 
   shown-right : (g f n m : ℕ) (x : GatherState) → g < header s .made → object s g ≡ Object.GatherFuture f n x
-      → ((a : ℕ) → a < n → slot-value (bit m a) (place s (f + a) .result) ≡ gives-now (place s (f + a) .item .0)) → show-places s f m 0 n ≡ map (delivered-now h s) (items h g)
+      → ((a : ℕ) → a < n → slot-value (bit m a) (place s (f + a) .result) ≡ gives-now (place s (f + a) .item .0)) → show-places s f m 0 n ≡ map (delivered h s) (items h g)
   shown-right g f n m x l e each =
       let it = gather-items g f n l (ap frozen e ∙ frozen-many f n x) in
       ap (show-places s f m 0) (it .0)
       ∙ (list-right gives-now f m (items h g) 0 (subst (λ (p : ℕ). ItemsAt (λ x. place s x .item .0) p (items h g)) (sym (plus f)) (it .1)) (λ a b c. each a (omega (arith, c, it .0)))
-      ∙ sym (map-same (delivered-now h s) gives-now f (items h g) (λ a b. delivered-row (place s (f + a) .item .0) (item-low g f n x l e a (omega (arith, b, it .0)))) (it .1)))
+      ∙ sym (map-same (delivered h s) gives-now f (items h g) (λ a b. delivered-row (place s (f + a) .item .0) (item-low g f n x l e a (omega (arith, b, it .0)))) (it .1)))
     where
       frozen-many : (f n : ℕ) (x : GatherState) → frozen (Object.GatherFuture f n x) ≡ many f n
       frozen-many f n x = unfold frozen in refl
@@ -432,7 +478,7 @@ module _ (h : List Entry) (s : Store) (w : SoundStore s) (k : Agrees h s) where
   unfolding view
   gather-fill g y l e = subst (λ (z : Object). T (object-filled (place s) z)) e (w .facts .but .filled g l (λ z. z))
 
-  completed-at : (g f n : ℕ) → g < header s .made → object s g ≡ Object.GatherFuture f n GatherState.Completed → (show-places s f 0 0 n ≡ map (delivered-now h s) (items h g)) × (none-open (show-places s f 0 0 n) ≡ true)
+  completed-at : (g f n : ℕ) → g < header s .made → object s g ≡ Object.GatherFuture f n GatherState.Completed → (show-places s f 0 0 n ≡ map (delivered h s) (items h g)) × (none-open (show-places s f 0 0 n) ≡ true)
   completed-at g f n l e = (
     shown-right g f n 0 GatherState.Completed l e (λ a b. let y = closed a b in slot-filled (bit 0 a) (place s (f + a) .result) (y .0) (none-set a) (y .1) ∙ sym (y .2)),
     all-closed f 0 0 n (λ a b c. let y = closed a (omega (arith, c)) in (y .0, slot-filled (bit 0 a) (place s (f + a) .result) (y .0) (none-set a) (y .1))),
@@ -448,7 +494,7 @@ module _ (h : List Entry) (s : Store) (w : SoundStore s) (k : Agrees h s) where
       closed a b = closed-filled g f n 0 GatherState.Completed l e full a b (none-set a)
 
   awaited-at : (g : ℕ) (v : AwaitedGather) → g < header s .made → as-awaited (object s g) ≡ some v → OpenNone g v
-      → (show-places s (v .first) (v .open-places) 0 (v .count) ≡ map (delivered-now h s) (items h g)) × (none-open (show-places s (v .first) (v .open-places) 0 (v .count)) ≡ false)
+      → (show-places s (v .first) (v .open-places) 0 (v .count) ≡ map (delivered h s) (items h g)) × (none-open (show-places s (v .first) (v .open-places) 0 (v .count)) ≡ false)
   awaited-at g v l e none-there = (
     shown-right g (v .first) (v .count) (v .open-places) (GatherState.Awaited (v .awaiter) (v .open-places)) l row (λ a b. each a b (bit (v .open-places) a) refl),
     (let y = has-set (v .count) (v .open-places) (sound-no-other s g v (w .facts .but) l e) (sound-some-open s g v (w .facts .but) l e) in
@@ -478,17 +524,28 @@ module _ (h : List Entry) (s : Store) (w : SoundStore s) (k : Agrees h s) where
   abbrev IsCompleted : List (Option Value) → Object → Type 0
   IsCompleted vs x = (f : ℕ) × (n : ℕ) × (x ≡ Object.GatherFuture f n GatherState.Completed) × (show-places s f 0 0 n ≡ vs)
 
+  shows-completed : Shown → Bool
+  shows-completed (Shown.a-coroutine x f) = false
+  shows-completed Shown.an-external-pending = false
+  shows-completed (Shown.an-external-resolved v) = false
+  shows-completed (Shown.an-external-failed e) = false
+  shows-completed Shown.a-gather-pending = false
+  shows-completed (Shown.a-gather-awaited vs) = false
+  shows-completed (Shown.a-gather-completed vs) = true
+  shows-completed (Shown.a-gather-failed e) = false
+  shows-completed Shown.nothing = false
+
   completed-shown : (vs : List (Option Value)) (x : Object) → shown s x ≡ Shown.a-gather-completed vs → IsCompleted vs x
-  unfolding shown as-completed
-  completed-shown vs Object.Unmade e = absurd (true≢false (sym (ap as-completed e)))
-  completed-shown vs (Object.Coroutine f x) e = absurd (true≢false (sym (ap as-completed e)))
-  completed-shown vs (Object.ExternalFuture c (ExternalFutureState.Pending a r)) e = absurd (true≢false (sym (ap as-completed e)))
-  completed-shown vs (Object.ExternalFuture c (ExternalFutureState.Resolved v)) e = absurd (true≢false (sym (ap as-completed e)))
-  completed-shown vs (Object.ExternalFuture c (ExternalFutureState.Failed v)) e = absurd (true≢false (sym (ap as-completed e)))
-  completed-shown vs (Object.GatherFuture f n GatherState.Pending) e = absurd (true≢false (sym (ap as-completed e)))
-  completed-shown vs (Object.GatherFuture f n (GatherState.Awaited a m)) e = absurd (true≢false (sym (ap as-completed e)))
+  unfolding shown shows-completed
+  completed-shown vs Object.Unmade e = absurd (true≢false (sym (ap shows-completed e)))
+  completed-shown vs (Object.Coroutine f x) e = absurd (true≢false (sym (ap shows-completed e)))
+  completed-shown vs (Object.ExternalFuture c (ExternalFutureState.Pending a r)) e = absurd (true≢false (sym (ap shows-completed e)))
+  completed-shown vs (Object.ExternalFuture c (ExternalFutureState.Resolved v)) e = absurd (true≢false (sym (ap shows-completed e)))
+  completed-shown vs (Object.ExternalFuture c (ExternalFutureState.Failed v)) e = absurd (true≢false (sym (ap shows-completed e)))
+  completed-shown vs (Object.GatherFuture f n GatherState.Pending) e = absurd (true≢false (sym (ap shows-completed e)))
+  completed-shown vs (Object.GatherFuture f n (GatherState.Awaited a m)) e = absurd (true≢false (sym (ap shows-completed e)))
   completed-shown vs (Object.GatherFuture f n GatherState.Completed) e = (f, n, refl, let q : show-places s f 0 0 n ≡ vs = cc in q)
-  completed-shown vs (Object.GatherFuture f n (GatherState.Failed v)) e = absurd (true≢false (sym (ap as-completed e)))
+  completed-shown vs (Object.GatherFuture f n (GatherState.Failed v)) e = absurd (true≢false (sym (ap shows-completed e)))
 
   as-open : Shown → Bool
   as-open (Shown.a-coroutine x f) = false
@@ -517,16 +574,16 @@ module _ (h : List Entry) (s : Store) (w : SoundStore s) (k : Agrees h s) where
   awaited-shown vs (Object.GatherFuture f n (GatherState.Failed v)) e = absurd (true≢false (sym (ap as-open e)))
 
   -- The completed half: no more is asked.
-  pub completed-right : (g : ℕ) (vs : List (Option Value)) → read s g ≡ Answer.shows (Shown.a-gather-completed vs) → (vs ≡ map (delivered-now h s) (items h g)) × (none-open vs ≡ true)
+  pub completed-right : (g : ℕ) (vs : List (Option Value)) → read s g ≡ Answer.shows (Shown.a-gather-completed vs) → (vs ≡ map (delivered h s) (items h g)) × (none-open vs ≡ true)
   completed-right g vs e =
       let m = shown-made s g _ e in
       let y = completed-shown vs (object s g) (m .1) in
-      subst (λ (us : List (Option Value)). (us ≡ map (delivered-now h s) (items h g)) × (none-open us ≡ true)) (y .3) (completed-at g (y .0) (y .1) (m .0) (y .2))
+      subst (λ (us : List (Option Value)). (us ≡ map (delivered h s) (items h g)) × (none-open us ≡ true)) (y .3) (completed-at g (y .0) (y .1) (m .0) (y .2))
 
   -- The awaited half, if the items of open places have delivered nothing.
   pub awaited-right : (g : ℕ) → ((v : AwaitedGather) → g < header s .made → as-awaited (object s g) ≡ some v → OpenNone g v) → (vs : List (Option Value)) → read s g ≡ Answer.shows (Shown.a-gather-awaited vs)
-      → (vs ≡ map (delivered-now h s) (items h g)) × (none-open vs ≡ false)
+      → (vs ≡ map (delivered h s) (items h g)) × (none-open vs ≡ false)
   awaited-right g o vs e =
       let m = shown-made s g _ e in
       let y = awaited-shown vs (object s g) (m .1) in
-      subst (λ (us : List (Option Value)). (us ≡ map (delivered-now h s) (items h g)) × (none-open us ≡ false)) (y .2) (awaited-at g (y .0) (m .0) (y .1) (o (y .0) (m .0) (y .1)))
+      subst (λ (us : List (Option Value)). (us ≡ map (delivered h s) (items h g)) × (none-open us ≡ false)) (y .2) (awaited-at g (y .0) (m .0) (y .1) (o (y .0) (m .0) (y .1)))

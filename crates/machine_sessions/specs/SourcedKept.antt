@@ -52,7 +52,8 @@ use Rattle.machine_theorems.specs.Soundness.Deliver.{open-lower}
 use Rattle.machine_theorems.specs.Soundness.Await.{wait-external}
 use Rattle.machine_theorems.specs.Soundness.AwaitGather.{EndOk, waits-blocks, commit-keeps}
 use Rattle.machine_theorems.specs.Panics.NoPanicLaws.{place-used}
-use Rattle.machine_theorems.specs.Soundness.Preserved.{InRange, running, waiting, await-made, complete-known, results-apply}
+use Rattle.machine_theorems.specs.Soundness.Preserved.{running, waiting, await-made, complete-known, results-apply}
+use Rattle.machine.specs.Sessions.{InRange}
 use Rattle.machine_theorems.specs.Gather.ReceivedSessions.{items-header}
 use Rattle.machine_laws.specs.Walk.{Commits, commit-kept}
 use Rattle.machine_sessions.specs.Tracked.{live-like, live-is, live-low, live-other, place-live, spawn-row, spawn-next}

@@ -49,7 +49,8 @@ use Rattle.machine_theorems.specs.Soundness.Stores.{idle, SoundDuring, SoundSto
 use Rattle.machine_theorems.specs.Soundness.Exits.{runner-low}
 use Rattle.machine_theorems.specs.Soundness.Await.{wait-external}
 use Rattle.machine_theorems.specs.Soundness.AwaitGather.{EndOk, waits-blocks, commit-keeps}
-use Rattle.machine_theorems.specs.Soundness.Preserved.{InRange, running, waiting, await-made, complete-known, results-apply}
+use Rattle.machine_theorems.specs.Soundness.Preserved.{running, waiting, await-made, complete-known, results-apply}
+use Rattle.machine.specs.Sessions.{InRange}
 use Rattle.machine_theorems.specs.Panics.NoPanicLaws.{made-awaitable}
 use Rattle.machine_theorems.specs.Gather.ReceivedEvents.{remove-sized}
 use Rattle.machine_theorems.specs.Gather.ReceivedSessions.{items-header}
@@ -57,7 +58,7 @@ use Rattle.machine_laws.specs.Walk.{Turns, Commits, commit-kept}
 use Rattle.machine_sessions.specs.Tracked.{spawn-next, spawn-row}
 use Rattle.machine_sessions.specs.TrackedEvents.{items-tasks}
 use Rattle.machine_sessions.specs.Room.{room-for}
-use Rattle.machine_sessions.specs.DemandThree.{is-stalled}
+use Rattle.machine.specs.DemandThree.{is-stalled}
 use Rattle.machine_sessions.specs.Standing.{Stands, stands-like, ready-put-task, Right, moment-head, not-waits, resume-right}
 use Rattle.machine_sessions.specs.StandingEvents.{OnlyChanges, StepRight, switched-right, awaited-right, row-stands, complete-right, failed-right, resume-step, results-stand}
 

@@ -51,10 +51,11 @@ use Rattle.machine_theorems.specs.Soundness.Fill.{ValueRises}
 use Rattle.machine_theorems.specs.Soundness.Exits.{runner-low, runner-runs, runner-live, others-commits-none, completion-delivering, completion-delivery-ends, only-changes-of}
 use Rattle.machine_theorems.specs.Soundness.Results.{low, resolve-delivering, fail-delivering, MayApply, AllApply, host-fits, result-keeps}
 use Rattle.machine_laws.specs.DeliveryLaws.{pending-object}
-use Rattle.machine_theorems.specs.Soundness.Preserved.{InRange, running, waiting, complete-known, results-apply}
+use Rattle.machine_theorems.specs.Soundness.Preserved.{running, waiting, complete-known, results-apply}
+use Rattle.machine.specs.Sessions.{InRange}
 use Rattle.machine_theorems.specs.Panics.NoPanicLaws.{Activated, starts, goes-on, raises-it}
 use Rattle.machine_theorems.specs.Panics.NoPanicWoken.{success-activated}
-use Rattle.machine_sessions.specs.DemandThree.{is-stalled}
+use Rattle.machine.specs.DemandThree.{is-stalled}
 use Rattle.machine_sessions.specs.Effects.{success-effect, failure-effect}
 use Rattle.machine_sessions.specs.Standing.{Stands, stands-like, delivered-stands, Right, removed-stands, resume-right, leave-right, fail-right}
 

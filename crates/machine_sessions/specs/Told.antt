@@ -14,6 +14,7 @@ use borrow.Author.Tests.{eqb-true}
 use Rattle.asyncio.specs.declared.HeapId.{HeapId}
 use Rattle.asyncio.specs.declared.CallId.{CallId}
 use Rattle.asyncio.specs.declared.Value.{Value}
+use Rattle.asyncio.specs.declared.Error.{Error}
 use Rattle.asyncio.specs.declared.OptionValue.{OptionValue}
 use Rattle.asyncio.specs.declared.Awaiter.{Awaiter}
 use Rattle.asyncio.specs.declared.TaskState.{TaskState}
@@ -56,7 +57,7 @@ pub data Frozen : Type 0 where
   -- a pending external of a call, with its stored result
   pends : ℕ → OptionValue → Frozen
   gave : Value → Frozen
-  broke : Frozen
+  broke : Error → Frozen
   -- a gather: its first place and how many
   many : ℕ → ℕ → Frozen
 
@@ -67,7 +68,7 @@ frozen (Object.Coroutine f CoroutineState.Running) = co false
 frozen (Object.Coroutine f CoroutineState.Completed) = co true
 frozen (Object.ExternalFuture c (ExternalFutureState.Pending a r)) = pends (c .0) r
 frozen (Object.ExternalFuture c (ExternalFutureState.Resolved v)) = gave v
-frozen (Object.ExternalFuture c (ExternalFutureState.Failed e)) = broke
+frozen (Object.ExternalFuture c (ExternalFutureState.Failed e)) = broke e
 frozen (Object.GatherFuture f n x) = many f n
 
 -- what object o has delivered; a gather its list, if anything
@@ -76,7 +77,7 @@ told D o unmade = none
 told D o (co b) = D o
 told D o (pends c r) = none
 told D o (gave v) = some v
-told D o broke = none
+told D o (broke e) = none
 told D o (many f n) = some (Value.List (heap-id o))
 
 unfoldable pub first-place : Frozen → ℕ
@@ -84,7 +85,7 @@ first-place unmade = 0
 first-place (co b) = 0
 first-place (pends c r) = 0
 first-place (gave v) = 0
-first-place broke = 0
+first-place (broke e) = 0
 first-place (many f n) = f
 
 unfoldable pub place-count : Frozen → ℕ
@@ -92,7 +93,7 @@ place-count unmade = 0
 place-count (co b) = 0
 place-count (pends c r) = 0
 place-count (gave v) = 0
-place-count broke = 0
+place-count (broke e) = 0
 place-count (many f n) = n
 
 -- a slot's source is the object o

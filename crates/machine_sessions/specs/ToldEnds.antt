@@ -43,7 +43,7 @@ told-same D E o unmade e = refl
 told-same D E o (co b) e = e
 told-same D E o (pends c r) e = refl
 told-same D E o (gave v) e = refl
-told-same D E o broke e = refl
+told-same D E o (broke x) e = refl
 told-same D E o (many f n) e = refl
 
 holds-same : (q p : ℕ → Frozen) (D E : ℕ → Option Value) (o : ℕ) (x : OptionValue) → p o ≡ q o → E o ≡ D o → Holds q D o x → Holds p E o x

@@ -34,8 +34,8 @@ use Rattle.machine_laws.specs.SoundLaws.{refusal-forget}
 use Rattle.machine_laws.specs.SizedLaws.{step-says}
 use Rattle.machine_theorems.specs.Soundness.Stores.{SoundStore}
 use Rattle.machine_theorems.specs.Soundness.Sessions.{forget-sound-store}
-use Rattle.machine_sessions.specs.LentSessions.{Sent, lent-any, entry-of, Session, begun, send, send-all, session}
-use Rattle.machine_sessions.specs.DemandThree.{Above, Rising, WaitRight, ControlRight, WaitsRight, AllSentInRange}
+use Rattle.machine.specs.Sessions.{Sent, lent-any, entry-of, Session, begun, send, send-all, session, AllSentInRange}
+use Rattle.machine.specs.DemandThree.{Above, Rising, WaitRight, ControlRight, WaitsRight}
 use Rattle.machine_sessions.specs.Following.{accept-accepts, Sends, stepped, short, sends, Following, send-following, session-follows}
 use Rattle.machine_sessions.specs.Calls.{pending-call, called, pends, pending-calls-are, in-insert, in-calls}
 use Rattle.machine_sessions.specs.CallEvents.{answered, called-none, at-some, later-pends, RowsDistinct, ControlDistinct, WaitDistinct, accept-pends, accept-distinct}

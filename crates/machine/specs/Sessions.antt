@@ -1,13 +1,14 @@
--- Sessions on lent memory: each event comes with any list of calls, short ones included, and reads may stand between. What a session leaves: the store
--- and the queue as the last event returned them, and its history, the last entry first.
-use Prim.Native.Nat.{ℕ}
+-- Sessions (document 01, "Demand 3"): an accepted beginning, then events, each with any list lent for the calls of a wait, short ones included; reads may
+-- stand between. What a session leaves: the store and the queue as the last event returned them, and its history, the last entry first.
+use Prim.Native.Nat.{ℕ, _<_}
 use mathlib.Core.Bool.{Bool, true, false}
 use mathlib.Core.List.{List, [], _∷_}
 use Rattle.asyncio.specs.States.{pick}
+use Rattle.asyncio.specs.Limits.{u32-limit}
 use Rattle.machine.specs.Store.{Store, LogEntry, fresh}
-use Rattle.machine.specs.Machine.{Event, Answer, Step, step}
+use Rattle.machine.specs.Machine.{Event, Answer, Step}
 use Rattle.machine.specs.Lent.{Lent, lent-as, lent-step, lent-read}
 use Rattle.machine.specs.History.{Entry, tells}
 
 -- An event as it is sent: with the list that is lent for the calls of a wait.
 pub record Sent : Type 0 where
@@ -52,7 +53,7 @@ pub record Session : Type 0 where
   pub store : Store
   pub history : List Entry
 
--- an accepted beginning
+-- what an accepted beginning leaves (`lent-begin`)
 unfoldable pub begun : Session
 begun = record { store = fresh; history = [] }
 
@@ -68,3 +69,24 @@ send-all x (e ∷ es) = send-all (send x e) es
 -- from the beginning
 unfoldable pub session : List Sent → Session
 session es = send-all begun es
+
+-- the numbers that an event stores whole are of 32 bits, as the code's types give
+unfoldable pub InRange : Event → Type 0
+InRange (Event.coroutine f) = f < u32-limit
+InRange Event.call = Unit {0}
+InRange (Event.pending c r) = Unit {0}
+InRange (Event.settled v) = Unit {0}
+InRange (Event.gather os) = Unit {0}
+InRange (Event.await o) = Unit {0}
+InRange (Event.complete v) = Unit {0}
+InRange (Event.fail n) = n < u32-limit
+InRange (Event.results rs) = Unit {0}
+InRange Event.resume = Unit {0}
+InRange (Event.cancel t) = Unit {0}
+InRange (Event.show o) = Unit {0}
+InRange Event.eager = Unit {0}
+
+-- those of every event
+unfoldable pub AllSentInRange : List Sent → Type 0
+AllSentInRange [] = Unit {0}
+AllSentInRange (e ∷ es) = InRange (e .event) × AllSentInRange es
