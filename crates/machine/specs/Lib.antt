@@ -16,3 +16,4 @@ pub mod Gather
 pub mod History
 pub mod Sessions
 pub mod DemandThree
+pub mod Honest
