@@ -13,7 +13,6 @@ use Rattle.asyncio.specs.declared.HeapId.{HeapId}
 use Rattle.asyncio.specs.Numbers.{heap-id}
 use Rattle.asyncio.specs.Layout.{to-value, to-error}
 use Rattle.machine.specs.Store.{Store, LogEntry, spawned, blocked, reached, exited, removed}
-use Rattle.machine.specs.Delivery.{value-or}
 use Rattle.machine.specs.Events.{How, start, value, raises, inline, Control, runs, waits, Result}
 use Rattle.machine.specs.Machine.{Event, Answer, Shown}
 use Rattle.machine.specs.Gather.{Outcome, returned, raised}
@@ -246,11 +245,16 @@ coroutine-outcome none none = none
 unfoldable pub reply-error : Result → Error
 reply-error r = pick (eqb (r .kind) 1) (to-error 0 (r .number)) (pick (eqb (r .kind) 3) Error.NotFound Error.ModuleFile)
 
--- a pending external, by the first result not of kind 2: the stored value or, without one, the result's; an error
+-- the stored value or, without one, the result's. (Document 01's words: the machine's own `value-or` is not used here.)
+unfoldable pub stored-or : OptionValue → Value → Value
+stored-or OptionValue.None v = v
+stored-or (OptionValue.Some x) v = x
+
+-- a pending external, by the first result not of kind 2
 unfoldable pub reply-outcome : OptionValue → Option Result → Option (Outcome Value Error)
 reply-outcome stored none = none
 reply-outcome stored (some r) =
-    some (pick (eqb (r .kind) 0) (returned (value-or stored (to-value (r .tag) (r .number)))) (raised (reply-error r)))
+    some (pick (eqb (r .kind) 0) (returned (stored-or stored (to-value (r .tag) (r .number)))) (raised (reply-error r)))
 
 -- a gather, by what is shown of it: its list once it is completed, its error once it has failed
 unfoldable pub shown-outcome : ℕ → Shown → Option (Outcome Value Error)

@@ -17,3 +17,5 @@ pub mod History
 pub mod Sessions
 pub mod DemandThree
 pub mod Honest
+pub mod DemandThreeTest
+pub mod DemandThreeCases

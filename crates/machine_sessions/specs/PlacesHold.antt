@@ -31,7 +31,7 @@ use Rattle.machine.specs.Machine.{Event, Answer, Shown, Step, unmade, first-ref
 use Rattle.machine.specs.Sound.{sound, items-below, value-known, option-known, is-filled, rest-filled, gather-filled, object-filled}
 use Rattle.machine.specs.Tests.{_and_}
 use Rattle.machine.specs.Gather.{Outcome, returned, raised}
-use Rattle.machine.specs.History.{Entry, Making, says, first-reply, reply-error, coroutine-outcome, reply-outcome, shown-outcome, outcome-by, outcome, value-of, making, items, completed-value, failed-error}
+use Rattle.machine.specs.History.{Entry, Making, says, first-reply, reply-error, stored-or, coroutine-outcome, reply-outcome, shown-outcome, outcome-by, outcome, value-of, making, items, completed-value, failed-error}
 use Rattle.machine_laws.specs.Facts.{Nothing}
 use Rattle.machine_laws.specs.TestLaws.{below, both-left, both-right}
 use Rattle.machine_laws.specs.MachineLaws.{accepted-step, refused-step}
@@ -214,13 +214,18 @@ plain-gives D o (Object.ExternalFuture c (ExternalFutureState.Failed e)) m = ref
 plain-gives D o (Object.GatherFuture f n x) m = absurd m
 
 -- the reply of a pending external
+stored-same : (r : OptionValue) (v : Value) → stored-or r v ≡ value-or r v
+unfolding stored-or value-or
+stored-same OptionValue.None v = refl
+stored-same (OptionValue.Some x) v = refl
+
 reply-frozen : (C : ℕ → Option (Outcome Value Error)) (o c : ℕ) (r : OptionValue) (x : Option Result) → reply-outcome r x ≡ frozen-outcome C o (reply-row c r x)
 unfolding reply-outcome frozen-outcome reply-row
 reply-frozen C o c r none = refl
 reply-frozen C o c r (some x) = by (eqb (x .kind) 0)
   where
-    by : (b : Bool) → some (pick b (returned (value-or r (to-value (x .tag) (x .number)))) (raised (reply-error x))) ≡ frozen-outcome C o (pick b (gave (value-or r (to-value (x .tag) (x .number)))) (broke (reply-error x)))
-    by true = unfold frozen-outcome in refl
+    by : (b : Bool) → some (pick b (returned (stored-or r (to-value (x .tag) (x .number)))) (raised (reply-error x))) ≡ frozen-outcome C o (pick b (gave (value-or r (to-value (x .tag) (x .number)))) (broke (reply-error x)))
+    by true = unfold frozen-outcome in (ap (λ (v : Value). some (returned v)) (stored-same r (to-value (x .tag) (x .number))))
     by false = unfold frozen-outcome in refl
 
 reply-plain : (c : ℕ) (r : OptionValue) (x : Option Result) → NotMany (reply-row c r x)
