@@ -119,8 +119,9 @@ goes-on (x ∷ h) = not (empty-wait (tells (x .answer) .control)) && not (is-sta
 
 -- ---- the claim
 
--- Demand 3 of a session.
+-- Demand 3 of a session. (No answer is a 2, so that what is said of answers is not said of refusals: nobody but the library writes the store.)
 pub record Demand3 (h : List Entry) (s : Store) : Type 0 where
+  pub sound : (e : Event) → step s e .answer ≡ Answer.refused 2 → ⊥
   pub queue : QueueRight h (entries (s .queue))
   pub places : (g : ℕ) → PlacesRight h s g
   pub waits-right : WaitsRight h

@@ -6,13 +6,13 @@ use mathlib.Core.Bool.{Bool, true, false, not, _&&_, _||_}
 use mathlib.Core.List.{List, [], _∷_, map}
 use mathlib.Core.Option.{Option, none, some}
 use lib.Dec.{eqb}
-use borrow.Author.Tests.{eq-eqb}
+use borrow.Author.Tests.{eqb-true, eq-eqb}
 use Rattle.asyncio.specs.declared.Value.{Value}
 use Rattle.queue.specs.Queue.{entries, occurrences, Distinct}
 use Rattle.machine.specs.Tests.{is-in}
 use Rattle.machine.specs.Store.{Store}
 use Rattle.machine.specs.Events.{Control, runs, waits}
-use Rattle.machine.specs.Machine.{Event, Answer, Shown}
+use Rattle.machine.specs.Machine.{Event, Answer, Shown, step}
 use Rattle.machine.specs.History.{Entry, tells, lives, stays-blocked, unanswered, items, cancelled}
 use Rattle.machine.specs.Sessions.{Sent, Session, session, AllSentInRange}
 use Rattle.machine.specs.DemandThree.{read, delivered, none-open, QueueRight, PlacesRight, WaitRight, ControlRight, WaitsRight, goes-on, Demand3, DemandThree}
@@ -71,7 +71,7 @@ answer-test ds (Answer.finished v) = true
 answer-test ds (Answer.finished-error e) = true
 answer-test ds (Answer.shows x) = shown-test ds x
 answer-test ds (Answer.is-eager b) = true
-answer-test ds (Answer.refused n) = true
+answer-test ds (Answer.refused n) = not (eqb n 2)
 
 -- of the objects below n
 unfoldable pub places-test : ℕ → List Entry → Store → Bool
@@ -146,36 +146,40 @@ queue-tested h (t ∷ ts) k =
     and-both _ _ (and-both _ _ (and-both _ _ (k .live t (head-in t ts)) (ap not (k .unblocked t (head-in t ts)))) (eq-eqb (occurrences ts t) 0 (k .distinct .0)))
     (queue-tested h ts (record { distinct = k .distinct .1; live = λ u e. k .live u (tail-in u t ts e); unblocked = λ u e. k .unblocked u (tail-in u t ts e) }))
 
-answer-tested : (h : List Entry) (s : Store) (g : ℕ) (a : Answer) → read s g ≡ a → PlacesRight h s g → answer-test (map (delivered h s) (items h g)) a ≡ true
-unfolding answer-test shown-test
-answer-tested h s g (Answer.made o) e k = refl
-answer-tested h s g (Answer.called n) e k = refl
-answer-tested h s g (Answer.control c) e k = refl
-answer-tested h s g (Answer.awaited c n) e k = refl
-answer-tested h s g Answer.done e k = refl
-answer-tested h s g Answer.stalled e k = refl
-answer-tested h s g (Answer.finished v) e k = refl
-answer-tested h s g (Answer.finished-error x) e k = refl
-answer-tested h s g (Answer.shows (Shown.a-coroutine x f)) e k = refl
-answer-tested h s g (Answer.shows Shown.an-external-pending) e k = refl
-answer-tested h s g (Answer.shows (Shown.an-external-resolved v)) e k = refl
-answer-tested h s g (Answer.shows (Shown.an-external-failed x)) e k = refl
-answer-tested h s g (Answer.shows Shown.a-gather-pending) e k = refl
-answer-tested h s g (Answer.shows (Shown.a-gather-awaited vs)) e k =
+answer-tested : (h : List Entry) (s : Store) (g : ℕ) (a : Answer) → read s g ≡ a → PlacesRight h s g → (step s (Event.show g) .answer ≡ Answer.refused 2 → ⊥) → answer-test (map (delivered h s) (items h g)) a ≡ true
+unfolding answer-test shown-test read
+answer-tested h s g (Answer.made o) e k n2 = refl
+answer-tested h s g (Answer.called n) e k n2 = refl
+answer-tested h s g (Answer.control c) e k n2 = refl
+answer-tested h s g (Answer.awaited c n) e k n2 = refl
+answer-tested h s g Answer.done e k n2 = refl
+answer-tested h s g Answer.stalled e k n2 = refl
+answer-tested h s g (Answer.finished v) e k n2 = refl
+answer-tested h s g (Answer.finished-error x) e k n2 = refl
+answer-tested h s g (Answer.shows (Shown.a-coroutine x f)) e k n2 = refl
+answer-tested h s g (Answer.shows Shown.an-external-pending) e k n2 = refl
+answer-tested h s g (Answer.shows (Shown.an-external-resolved v)) e k n2 = refl
+answer-tested h s g (Answer.shows (Shown.an-external-failed x)) e k n2 = refl
+answer-tested h s g (Answer.shows Shown.a-gather-pending) e k n2 = refl
+answer-tested h s g (Answer.shows (Shown.a-gather-awaited vs)) e k n2 =
     let y = k .awaited vs e in
     and-both _ _ (subst (λ (ds : List (Option Value)). same-places vs ds ≡ true) (y .0) (places-same vs)) (ap not (y .1))
-answer-tested h s g (Answer.shows (Shown.a-gather-completed vs)) e k =
+answer-tested h s g (Answer.shows (Shown.a-gather-completed vs)) e k n2 =
     let y = k .completed vs e in
     and-both _ _ (subst (λ (ds : List (Option Value)). same-places vs ds ≡ true) (y .0) (places-same vs)) (y .1)
-answer-tested h s g (Answer.shows (Shown.a-gather-failed x)) e k = refl
-answer-tested h s g (Answer.shows Shown.nothing) e k = refl
-answer-tested h s g (Answer.is-eager b) e k = refl
-answer-tested h s g (Answer.refused n) e k = refl
+answer-tested h s g (Answer.shows (Shown.a-gather-failed x)) e k n2 = refl
+answer-tested h s g (Answer.shows Shown.nothing) e k n2 = refl
+answer-tested h s g (Answer.is-eager b) e k n2 = refl
+answer-tested h s g (Answer.refused n) e k n2 = by (eqb n 2) refl
+  where
+    by : (b : Bool) → eqb n 2 ≡ b → not b ≡ true
+    by true q = absurd (n2 (e ∙ ap (λ (m : ℕ). Answer.refused m) (eqb-true n 2 q)))
+    by false q = refl
 
-places-tested : (n : ℕ) (h : List Entry) (s : Store) → ((g : ℕ) → PlacesRight h s g) → places-test n h s ≡ true
+places-tested : (n : ℕ) (h : List Entry) (s : Store) → ((e : Event) → step s e .answer ≡ Answer.refused 2 → ⊥) → ((g : ℕ) → PlacesRight h s g) → places-test n h s ≡ true
 unfolding places-test
-places-tested zero h s k = refl
-places-tested (suc g) h s k = and-both _ _ (answer-tested h s g (read s g) refl (k g)) (places-tested g h s k)
+places-tested zero h s u k = refl
+places-tested (suc g) h s u k = and-both _ _ (answer-tested h s g (read s g) refl (k g) (u (Event.show g))) (places-tested g h s u k)
 
 calls-tested : (n : ℕ) (h : List Entry) (cs : List ℕ) → WaitRight h cs → calls-test n h cs ≡ true
 unfolding calls-test
@@ -202,6 +206,6 @@ pub demand3-tested : (n : ℕ) (x : Session) → Demand3 (x .history) (x .store)
 unfolding demand3-test
 demand3-tested n x k =
     and-both _ _
-    (and-both _ _ (and-both _ _ (queue-tested (x .history) (entries (x .store .queue)) (k .queue)) (places-tested n (x .history) (x .store) (k .places)))
+    (and-both _ _ (and-both _ _ (queue-tested (x .history) (entries (x .store .queue)) (k .queue)) (places-tested n (x .history) (x .store) (k .sound) (k .places)))
     (waits-tested n (x .history) (k .waits-right)))
     (goes-tested (cancelled (x .history)) (goes-on (x .history)) (k .no-stall))
