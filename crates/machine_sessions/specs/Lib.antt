@@ -37,3 +37,4 @@ pub mod SourcedCommit
 pub mod SourcedKept
 pub mod GoesOn
 pub mod DemandThreeHolds
+pub mod CancelByMoment
