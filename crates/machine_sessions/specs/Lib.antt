@@ -38,3 +38,5 @@ pub mod SourcedKept
 pub mod GoesOn
 pub mod DemandThreeHolds
 pub mod CancelByMoment
+pub mod LogApart
+pub mod Batches
