@@ -37,3 +37,6 @@ pub mod SourcedCommit
 pub mod SourcedKept
 pub mod GoesOn
 pub mod DemandThreeHolds
+pub mod CancelByMoment
+pub mod LogApart
+pub mod Batches
