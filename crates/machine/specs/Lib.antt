@@ -19,3 +19,4 @@ pub mod DemandThree
 pub mod Honest
 pub mod DemandThreeTest
 pub mod DemandThreeCases
+pub mod DemandTwo

@@ -1,6 +1,5 @@
 -- Demand 3 holds.
 use mathlib.Core.Path.{_≡_, refl, sym, ap, _∙_}
-
 use mathlib.Core.Bool.{Bool, true, false, true≢false}
 use mathlib.Core.List.{List}
 use Prim.Native.Nat.{ℕ}
