@@ -14,6 +14,8 @@ pub mod Named
 pub mod NamedClimb
 pub mod NamedRows
 pub mod NamedCommit
+pub mod Given
+pub mod GivenCycle
 pub mod Tracked
 pub mod TrackedEvents
 pub mod Following
