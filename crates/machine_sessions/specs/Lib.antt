@@ -16,6 +16,7 @@ pub mod NamedRows
 pub mod NamedCommit
 pub mod Given
 pub mod GivenCycle
+pub mod GivenCommit
 pub mod Tracked
 pub mod TrackedEvents
 pub mod Following
