@@ -17,6 +17,7 @@ pub mod NamedCommit
 pub mod Given
 pub mod GivenCycle
 pub mod GivenCommit
+pub mod GivenAwait
 pub mod Tracked
 pub mod TrackedEvents
 pub mod Following
