@@ -18,6 +18,7 @@ pub mod Given
 pub mod GivenCycle
 pub mod GivenCommit
 pub mod GivenAwait
+pub mod GivenEvents
 pub mod Tracked
 pub mod TrackedEvents
 pub mod Following
