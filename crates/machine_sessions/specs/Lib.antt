@@ -19,6 +19,7 @@ pub mod GivenCycle
 pub mod GivenCommit
 pub mod GivenAwait
 pub mod GivenEvents
+pub mod GivenSessions
 pub mod Tracked
 pub mod TrackedEvents
 pub mod Following
