@@ -215,7 +215,7 @@ switch-given h e y q k =
 
 -- ---- what is not made
 
-abbrev IsUnmade : Frozen → Type 0
+abbrev pub IsUnmade : Frozen → Type 0
 IsUnmade Frozen.unmade = Unit {0}
 IsUnmade (co b) = ⊥
 IsUnmade (pends c r) = ⊥
@@ -223,7 +223,7 @@ IsUnmade (gave v) = ⊥
 IsUnmade (broke y) = ⊥
 IsUnmade (many f n) = ⊥
 
-unmade-loose : (o : ℕ) (y : Object) → IsUnmade (frozen y) → fate o y ≡ loose
+pub unmade-loose : (o : ℕ) (y : Object) → IsUnmade (frozen y) → fate o y ≡ loose
 unfolding frozen fate
 unmade-loose o Object.Unmade d = refl
 unmade-loose o (Object.Coroutine f y) d = refl

@@ -20,6 +20,7 @@ pub mod GivenCommit
 pub mod GivenAwait
 pub mod GivenEvents
 pub mod GivenSessions
+pub mod GivenHonest
 pub mod Tracked
 pub mod TrackedEvents
 pub mod Following
