@@ -1,16 +1,14 @@
--- What waiting tasks are given: a blocked task waits for the object that it awaited last, a woken one has what that object has come to. The claim `Given`, and
--- each write that keeps it. It asks for no soundness.
+-- What waiting tasks are given: a blocked task waits for what it awaited last, a woken one has what came of it. The claim, `Given`, and each write (no soundness asked).
 use mathlib.Core.Path.{_≡_, refl, sym, ap, subst, _∙_}
 use mathlib.Core.Logic.{_⊎_, inl, inr}
-use mathlib.Core.Bool.{Bool, true, false, true≢false}
+use mathlib.Core.Bool.{true, false, true≢false}
 use mathlib.Core.List.{List}
-use mathlib.Core.Option.{Option, none, some, Option·some-injective}
-use Prim.Native.Nat.{ℕ, zero, suc, _+_, _≤_, _<_}
+use mathlib.Core.Option.{Option, none, some}
+use Prim.Native.Nat.{ℕ, _+_, _≤_, _<_}
 use native.Mathlib.Nat.{not-suc-le-zero}
 use native.Mathlib.Omega.{arith}
 use native.Mathlib.Decide.{ℕ-discrete}
 use lib.ListN.{length}
-use Rattle.asyncio.specs.declared.CallId.{CallId}
 use Rattle.asyncio.specs.declared.Value.{Value}
 use Rattle.asyncio.specs.declared.Error.{Error}
 use Rattle.asyncio.specs.declared.OptionValue.{OptionValue}
@@ -29,14 +27,13 @@ use Rattle.asyncio.specs.Numbers.{heap-id, call-id}
 use Rattle.asyncio.specs.Ranges.{AwaiterFits, ValueFits, ErrorFits, StateFits, TaskFits, HeaderFits, MomentFits}
 use Rattle.asyncio.specs.RangeLaws.{object-back}
 use Rattle.asyncio.specs.Layout.{object-words, to-object}
-use Rattle.asyncio.specs.States.{is-live, is-blocked}
+use Rattle.asyncio.specs.States.{is-live}
 use Rattle.queue.specs.declared.ReadyQueue.{ReadyQueue}
 use Rattle.machine.specs.Store.{Store, LogEntry, task, object, header, put-task, put-header, put-object, put-place, put-places, put-queue, add-log, restate, set-state, set-moment, set-next, absent, spawned}
 use Rattle.machine.specs.Scheduler.{blocked-on, push-ready, remove-from-ready-queue, remove-task, spawn-as}
 use Rattle.machine_laws.specs.Views.{Sized}
 use Rattle.machine_laws.specs.StoreLaws.{task-fits, header-fits, header-put-header, header-put-object, object-put-other, object-put-header, task-put-task, task-put-other}
 use Rattle.machine_laws.specs.StoreLaws.{sized-put-task, sized-put-object, sized-put-place, sized-put-header, sized-put-places, sized-put-queue, sized-add-log, sized-set-next}
-use Rattle.machine_laws.specs.DeliveryLaws.{absurd-some}
 use Rattle.machine_sessions.specs.Calls.{read-back}
 
 -- ---- the fate of an object, by its row

@@ -1,7 +1,7 @@
 -- `Given` through an await of the running task t: it goes on with what has come of the object, or with a reuse error, or it blocks and another has control.
 use mathlib.Core.Path.{_≡_, refl, sym, ap, subst, _∙_}
 use mathlib.Core.Logic.{_⊎_, inl, inr}
-use mathlib.Core.Bool.{Bool, true, false}
+use mathlib.Core.Bool.{true}
 use mathlib.Core.Option.{Option, none, some, Option·some-injective}
 use Prim.Native.Nat.{ℕ, _≤_, _<_}
 use native.Mathlib.Nat.{not-suc-le-zero}
@@ -10,7 +10,6 @@ use native.Mathlib.Decide.{ℕ-discrete}
 use Rattle.asyncio.specs.declared.CallId.{CallId}
 use Rattle.asyncio.specs.declared.Value.{Value}
 use Rattle.asyncio.specs.declared.Error.{Error}
-use Rattle.asyncio.specs.declared.OptionValue.{OptionValue}
 use Rattle.asyncio.specs.declared.TaskState.{TaskState}
 use Rattle.asyncio.specs.declared.Task.{Task}
 use Rattle.asyncio.specs.declared.Awaiter.{Awaiter}
@@ -18,22 +17,21 @@ use Rattle.asyncio.specs.declared.CoroutineState.{CoroutineState}
 use Rattle.asyncio.specs.declared.ExternalFutureState.{ExternalFutureState}
 use Rattle.asyncio.specs.declared.GatherState.{GatherState}
 use Rattle.asyncio.specs.declared.Object.{Object}
-use Rattle.asyncio.specs.declared.Moment.{Moment}
 use Rattle.asyncio.specs.Limits.{object-limit, task-limit}
 use Rattle.asyncio.specs.Numbers.{heap-id, task-id}
 use Rattle.asyncio.specs.Ranges.{TaskFits}
 use Rattle.asyncio.specs.States.{is-live}
-use Rattle.machine.specs.Store.{Store, task, object, header, put-task, put-object, add-log, restate, set-state, blocked}
+use Rattle.machine.specs.Store.{Store, task, object, header, put-object, add-log, restate, set-state, blocked}
 use Rattle.machine.specs.Scheduler.{blocked-on}
-use Rattle.machine.specs.Commit.{Poll, ready, raised, pending, await-pending, await-external, Committed, commit-gather-tree}
-use Rattle.machine.specs.Events.{How, start, value, raises, inline, Control, runs, Switched, Awaited, resume-next, activate, stays, go-on, await-coroutine, await-external-future, await-gather, await-object, exec-get-awaitable}
+use Rattle.machine.specs.Commit.{Poll, ready, raised, pending, await-pending, await-external, commit-gather-tree}
+use Rattle.machine.specs.Events.{How, start, value, raises, inline, runs, Switched, Awaited, resume-next, activate, stays, go-on, await-coroutine, await-external-future, await-gather, await-object, exec-get-awaitable}
 use Rattle.machine.specs.Honest.{is-reuse}
 use Rattle.machine_laws.specs.StoreLaws.{task-fits, header-put-object, task-put-task}
 use Rattle.machine_laws.specs.DeliveryLaws.{absurd-some}
-use Rattle.machine_laws.specs.Walk.{Commits, commit-kept}
+use Rattle.machine_laws.specs.Walk.{commit-kept}
 use Rattle.machine_sessions.specs.Calls.{read-back}
 use Rattle.machine_sessions.specs.TellingAwait.{Row, row-commits}
-use Rattle.machine_sessions.specs.Given.{Fate, loose, held, ret, err, holder, fate, FateFits, fate-back, Came, Awaits, held-is, not-held, StateIs, Given, NoneBut, NoneYet, Unwaited}
+use Rattle.machine_sessions.specs.Given.{Fate, loose, held, ret, err, holder, fate, fate-back, Awaits, held-is, not-held, StateIs, Given, NoneBut, NoneYet}
 use Rattle.machine_sessions.specs.Given.{loose-unwaited, unwaited-given, state-given, log-given}
 use Rattle.machine_sessions.specs.GivenCycle.{none-yet, Left, resume-left}
 use Rattle.machine_sessions.specs.GivenCommit.{Takes, Ended, commit-given}

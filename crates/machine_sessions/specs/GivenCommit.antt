@@ -4,15 +4,13 @@ use mathlib.Core.Logic.{_⊎_, inl, inr}
 use mathlib.Core.Bool.{Bool, true, false}
 use mathlib.Core.List.{List, [], _∷_}
 use mathlib.Core.Option.{Option, none, some}
-use Prim.Native.Nat.{ℕ, zero, suc, _+_, _-_, _≤_, _<_}
-use native.Mathlib.Omega.{arith}
+use Prim.Native.Nat.{ℕ, zero, suc, _+_, _-_, _<_}
 use native.Mathlib.Decide.{ℕ-discrete}
 use lib.Dec.{eqb, ltb}
 use borrow.Author.Tests.{ltb-true}
 use Rattle.asyncio.specs.declared.CallId.{CallId}
 use Rattle.asyncio.specs.declared.Value.{Value}
 use Rattle.asyncio.specs.declared.Error.{Error}
-use Rattle.asyncio.specs.declared.OptionValue.{OptionValue}
 use Rattle.asyncio.specs.declared.Awaiter.{Awaiter}
 use Rattle.asyncio.specs.declared.CoroutineState.{CoroutineState}
 use Rattle.asyncio.specs.declared.ExternalFutureState.{ExternalFutureState}
@@ -30,7 +28,7 @@ use Rattle.machine.specs.Commit.{Poll, ready, raised, pending, Polled, await-pe
 use Rattle.machine.specs.Commit.{open-place, fill-place, Stop, at-end, at-nested, at-error, put-polled, put-item, step-item, step-items, Frame, step-gather-commit}
 use Rattle.machine.specs.Commit.{with-state, set-gather, open-gather-commit, settle-as, settle-gather-commit, resume-in, resume-as, resume-after-child, unwind, Committed, turn, commit-loop, commit-gather-tree}
 use Rattle.machine_laws.specs.StoreLaws.{object-fits, place-fits, object-put-other, object-put-header}
-use Rattle.machine_laws.specs.DeliveryLaws.{absurd-some, awaited-fits}
+use Rattle.machine_laws.specs.DeliveryLaws.{awaited-fits}
 use Rattle.machine_sessions.specs.Calls.{read-back}
 use Rattle.machine_sessions.specs.Telling.{not-external}
 use Rattle.machine_sessions.specs.Given.{Fate, loose, held, ret, err, holder, fate, FateFits, fate-back, Came, Unheld, came-unheld, held-is, not-held, NoTask, Given, NoneBut, NoneYet, Unwaited}

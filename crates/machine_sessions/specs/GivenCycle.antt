@@ -10,7 +10,6 @@ use native.Mathlib.Nat.{not-suc-le-zero}
 use native.Mathlib.Decide.{ℕ-discrete}
 use lib.Dec.{eqb}
 use lib.ListN.{getD}
-use Rattle.asyncio.specs.declared.HeapId.{HeapId}
 use Rattle.asyncio.specs.declared.Value.{Value}
 use Rattle.asyncio.specs.declared.Error.{Error}
 use Rattle.asyncio.specs.declared.TaskState.{TaskState}
@@ -28,20 +27,19 @@ use Rattle.asyncio.specs.Layout.{object-words, to-object}
 use Rattle.asyncio.specs.States.{pick, is-live, is-blocked}
 use Rattle.queue.specs.Queue.{front-of, pop-front, empty-queue}
 use Rattle.queue.specs.QueueLaws.{front-of-fits}
-use Rattle.machine.specs.Store.{Store, task, object, header, put-task, put-header, put-object, put-places, put-queue, add-log, restate, set-state, set-moment, absent, reached, exited, removed}
-use Rattle.machine.specs.Scheduler.{AwaitedGather, as-awaited, is-some, bit, blocked-on, live-count, remove-from-ready-queue, remove-task, make-ready, push-ready, cancel-one}
+use Rattle.machine.specs.Store.{Store, task, object, header, put-task, put-header, put-object, put-places, put-queue, add-log, restate, set-state, set-moment, reached, exited, removed}
+use Rattle.machine.specs.Scheduler.{AwaitedGather, as-awaited, is-some, bit, blocked-on, live-count, remove-from-ready-queue, make-ready, push-ready, cancel-one}
 use Rattle.machine.specs.Scheduler.{Walk, reach-if, reach, remove-blocked, visit-by, visit, visit-place, visit-open, walk-gather, walk-next, walk, walk-from, cancel-task, remove-from, cleanup}
 use Rattle.machine.specs.Delivery.{Delivery, nobody-woken, deliver-to-task, Filled, fill-from, Settled, resolve-left, resolve-awaited, resolve-child, fail-awaited, fail-gather}
 use Rattle.machine.specs.Delivery.{climb, awaited-count, send-value, climb-value, deliver-awaiter-success, send-error, climb-error, deliver-awaiter-failure}
 use Rattle.machine.specs.Events.{How, start, value, raises, inline, Control, runs, waits, Switched, run, yield, new-function, resume-next, resume-after-task-exit, handle-task-failure}
 use Rattle.machine.specs.Events.{start-by, start-task, activate-state, activate-within, activate}
-use Rattle.machine_laws.specs.Views.{Sized}
 use Rattle.machine_laws.specs.StoreLaws.{task-fits, header-fits, object-put-other, task-put-task}
 use Rattle.machine_laws.specs.DeliveryLaws.{absurd-some, awaited-object, awaited-fits, length-fill-from, resolve-sent, fail-sent}
 use Rattle.machine_laws.specs.WokenLaws.{WokenFits, success-woken, failure-woken}
 use Rattle.machine_sessions.specs.Calls.{read-back, moment-row}
 use Rattle.machine_sessions.specs.Telling.{new-object}
-use Rattle.machine_sessions.specs.Given.{Fate, loose, held, ret, err, holder, fate, FateFits, fate-back, Came, Awaits, Unheld, came-awaits, came-unheld, held-is, not-held, StateIs, NoTask, Given, NoneBut, NoneYet, Unwaited}
+use Rattle.machine_sessions.specs.Given.{Fate, held, ret, err, holder, fate, FateFits, fate-back, Came, Awaits, came-awaits, came-unheld, not-held, StateIs, NoTask, Given, NoneBut, NoneYet}
 use Rattle.machine_sessions.specs.Given.{given-less, loose-unwaited, row-given, unwaited-given, same-given, state-given, absent-given, queue-given, log-given, places-given, moved-given, gone-given}
 
 -- ---- what is on its way

@@ -1,9 +1,8 @@
 -- `Given` through what events write themselves: an object is made, a call number is handed out, results settle externals, a task completes or fails.
 use mathlib.Core.Path.{_≡_, refl, sym, ap, subst, _∙_}
-use mathlib.Core.Bool.{Bool, true, false}
 use mathlib.Core.List.{List, [], _∷_}
 use mathlib.Core.Option.{Option, none, some}
-use Prim.Native.Nat.{ℕ, suc, _+_, _%_, _≤_, _<_}
+use Prim.Native.Nat.{ℕ, _+_, _%_, _≤_, _<_}
 use native.Mathlib.Omega.{arith}
 use lib.Dec.{eqb}
 use lib.ListN.{length}
@@ -11,7 +10,6 @@ use Rattle.asyncio.specs.declared.CallId.{CallId}
 use Rattle.asyncio.specs.declared.Value.{Value}
 use Rattle.asyncio.specs.declared.Error.{Error}
 use Rattle.asyncio.specs.declared.OptionValue.{OptionValue}
-use Rattle.asyncio.specs.declared.Task.{Task}
 use Rattle.asyncio.specs.declared.Awaiter.{Awaiter}
 use Rattle.asyncio.specs.declared.CoroutineState.{CoroutineState}
 use Rattle.asyncio.specs.declared.ExternalFutureState.{ExternalFutureState}
@@ -22,18 +20,17 @@ use Rattle.asyncio.specs.Limits.{object-limit, task-limit, place-limit, call-li
 use Rattle.asyncio.specs.Numbers.{heap-id, call-id}
 use Rattle.asyncio.specs.Ranges.{AwaiterFits, ValueFits, OptionFits, ErrorFits, ObjectFits, HeaderFits}
 use Rattle.asyncio.specs.RangeLaws.{pick-has}
-use Rattle.asyncio.specs.Layout.{to-value, to-error}
-use Rattle.asyncio.specs.States.{pick}
-use Rattle.machine.specs.Store.{Store, task, object, header, put-object, put-header, put-place, put-queue, put-task, add-log, set-calls, add-object, exited}
-use Rattle.machine.specs.Scheduler.{PendingExternal, as-pending, pending-external, remove-task, remove-from-ready-queue}
+use Rattle.asyncio.specs.Layout.{to-value}
+use Rattle.machine.specs.Store.{Store, task, object, header, put-header, put-place, set-calls, add-object, exited}
+use Rattle.machine.specs.Scheduler.{PendingExternal, as-pending, pending-external}
 use Rattle.machine.specs.Delivery.{value-or, resolve-pending, fail-pending, settle-pending, settle-found, resolve-future, fail-future}
-use Rattle.machine.specs.Events.{Result, apply-result, apply-future-results, completed, handle-task-completion, activate, make-coroutine, make-pending, make-settled, put-items, make-gather}
+use Rattle.machine.specs.Events.{Result, apply-result, apply-future-results, completed, handle-task-completion, make-coroutine, make-pending, make-settled, put-items, make-gather}
 use Rattle.machine_laws.specs.StoreLaws.{task-fits, object-fits, header-fits, header-put-header, object-put-header}
 use Rattle.machine_laws.specs.DeliveryLaws.{pending-object}
 use Rattle.machine_theorems.specs.Soundness.Results.{host-fits}
 use Rattle.machine_theorems.specs.Gather.ReceivedSessions.{items-header}
 use Rattle.machine_sessions.specs.CallEvents.{found-call}
-use Rattle.machine_sessions.specs.Given.{Fate, loose, held, ret, err, holder, fate, FateFits, Unheld, not-held, NoTask, Given, NoneBut, NoneYet}
+use Rattle.machine_sessions.specs.Given.{loose, ret, err, holder, fate, FateFits, Unheld, not-held, Given, NoneBut, NoneYet}
 use Rattle.machine_sessions.specs.Given.{loose-unwaited, unwaited-given, same-given, place-given, header-given, gone-given}
 use Rattle.machine_sessions.specs.GivenCycle.{Left, settles-given, success-given, failure-given, completion-left}
 use Rattle.machine_sessions.specs.GivenCommit.{row-reads}

@@ -1,11 +1,10 @@
--- Two parts of `Honest`, for every session: a live task is blocked exactly when its last await left it waiting for what show gives as a pending external or an
--- awaited gather (`session-blocked`); a task that has control by a value or an error is told what has come of what it awaited last (`told-value`, `told-raises`).
+-- Two parts of `Honest`, for every session: who is blocked (`session-blocked`), and what a task is told that has control by a value or an error (`told-value`, `told-raises`).
 use mathlib.Core.Path.{_≡_, refl, sym, ap, ap₂, subst, _∙_}
 use mathlib.Core.Logic.{_⊎_, inl, inr}
 use mathlib.Core.Bool.{Bool, true, false, _&&_, true≢false}
-use mathlib.Core.List.{List, [], _∷_}
+use mathlib.Core.List.{List, _∷_}
 use mathlib.Core.Option.{Option, none, some, Option·some-injective}
-use Prim.Native.Nat.{ℕ, _≤_, _<_}
+use Prim.Native.Nat.{ℕ, _<_}
 use native.Mathlib.Omega.{arith}
 use native.Mathlib.Decide.{decLt}
 use Rattle.asyncio.specs.declared.Value.{Value}
@@ -21,18 +20,17 @@ use Rattle.asyncio.specs.States.{is-live, is-blocked}
 use Rattle.machine.specs.Store.{Store, task, object, header, forget}
 use Rattle.machine.specs.Scheduler.{live}
 use Rattle.machine.specs.Events.{value, raises, Control, runs}
-use Rattle.machine.specs.Machine.{Event, Answer, Shown, shown}
+use Rattle.machine.specs.Machine.{shown}
 use Rattle.machine.specs.Gather.{Outcome, returned, raised}
-use Rattle.machine.specs.History.{Entry, said, tells, running, lives-by, lives, blocked-by, stays-blocked, coroutine-outcome, completed-value, failed-error, outcome}
-use Rattle.machine.specs.Sessions.{Sent, Session, entry-of, send, session, InRange, AllSentInRange, lent-any}
-use Rattle.machine.specs.DemandThree.{read, shown-by, look}
+use Rattle.machine.specs.History.{Entry, said, tells, running, lives-by, lives, blocked-by, stays-blocked, outcome}
+use Rattle.machine.specs.Sessions.{Sent, entry-of, send, session, InRange, AllSentInRange, lent-any}
+use Rattle.machine.specs.DemandThree.{shown-by, look}
 use Rattle.machine.specs.Honest.{last-await, left-waiting, shows-waiting, waits-at, is-reuse, ToldHonest}
 use Rattle.machine_laws.specs.StoreLaws.{header-fits}
 use Rattle.machine_laws.specs.DeliveryLaws.{absurd-some}
 use Rattle.machine_theorems.specs.Soundness.Stores.{SoundStore}
-use Rattle.machine_sessions.specs.Tracked.{Tracked, live-low}
+use Rattle.machine_sessions.specs.Tracked.{live-low}
 use Rattle.machine_sessions.specs.Following.{Following, send-following, session-follows}
-use Rattle.machine_sessions.specs.Told.{Frozen, frozen}
 use Rattle.machine_sessions.specs.Agrees.{Agrees}
 use Rattle.machine_sessions.specs.AgreesSessions.{send-agrees, session-agrees}
 use Rattle.machine_sessions.specs.PlacesHold.{shows-made, row-outcome, outcome-row}
@@ -130,7 +128,7 @@ module _ (h : List Entry) (s : Store) (w : SoundStore s) (k : Agrees h s) where
         made-by (ret v) e c = fate-made o (ret v) (unfold tight in refl) e
         made-by (err x) e c = fate-made o (err x) (unfold tight in refl) e
 
-    -- nothing has come of what it waits for, if it waits: it does not wait
+    -- something has come of whatever it awaited: it does not wait any more
     not-waiting : ((o : ℕ) → waits-for h t ≡ some o → Came (fate o (object s o))) → (left-waiting h t && waits-at (look s) (last-await h t)) ≡ false
     unfolding waits-for waits-by waits-at
     not-waiting f = by (left-waiting h t) refl (last-await h t) refl

@@ -4,20 +4,17 @@ use mathlib.Core.Logic.{_⊎_, inl, inr}
 use mathlib.Core.Bool.{Bool, true, false, not, _||_, true≢false}
 use mathlib.Core.List.{List, [], _∷_}
 use mathlib.Core.Option.{Option, none, some}
-use Prim.Native.Nat.{ℕ, zero, suc, _+_, _≤_, _<_}
+use Prim.Native.Nat.{ℕ, zero, suc, _+_, _<_}
 use native.Mathlib.Nat.{not-suc-le-zero}
 use native.Mathlib.Omega.{arith}
 use native.Mathlib.Decide.{ℕ-discrete}
-use lib.Dec.{T, eqb, ltb, leb}
+use lib.Dec.{T, eqb, ltb}
 use lib.ListN.{length, getD, replicate}
 use borrow.Author.Tests.{eq-eqb, ne-eqb, eqb-true, leb-false, ltb-false}
-use Rattle.asyncio.specs.declared.TaskId.{TaskId}
 use Rattle.asyncio.specs.declared.Value.{Value}
 use Rattle.asyncio.specs.declared.Error.{Error}
-use Rattle.asyncio.specs.declared.OptionValue.{OptionValue}
 use Rattle.asyncio.specs.declared.TaskState.{TaskState}
 use Rattle.asyncio.specs.declared.Task.{Task}
-use Rattle.asyncio.specs.declared.CoroutineState.{CoroutineState}
 use Rattle.asyncio.specs.declared.ExternalFutureState.{ExternalFutureState}
 use Rattle.asyncio.specs.declared.Object.{Object}
 use Rattle.asyncio.specs.declared.Moment.{Moment}
@@ -31,10 +28,10 @@ use Rattle.asyncio.specs.Limits.{object-limit, task-limit, item-limit, place-li
 use Rattle.asyncio.specs.Numbers.{task-id}
 use Rattle.asyncio.specs.States.{pick}
 use Rattle.machine.specs.Store.{Store, view, task, object, header, put-header, forget, fresh, empty}
-use Rattle.machine.specs.Scheduler.{live, cleanup, pending-call-ids}
+use Rattle.machine.specs.Scheduler.{cleanup, pending-call-ids}
 use Rattle.machine.specs.Events.{How, start, value, raises, inline, Control, runs, waits, Switched, Awaited, exec-get-awaitable, handle-task-completion, handle-task-failure, activate, resume-next}
-use Rattle.machine.specs.Machine.{Event, Answer, Step, switched, answer-await, end-main, task-completes, task-fails, runner, repeat-wait, resume-with-resolved-futures, refusals, refusal, full, no-number, accept, step, in-running, in-waiting, in-both, any-of, unmade}
-use Rattle.machine.specs.Sound.{value-known, option-known, object-in-range, places-below}
+use Rattle.machine.specs.Machine.{Event, Answer, Step, switched, answer-await, end-main, task-completes, task-fails, runner, repeat-wait, resume-with-resolved-futures, refusals, refusal, full, no-number, accept, step, in-both}
+use Rattle.machine.specs.Sound.{value-known, object-in-range, places-below}
 use Rattle.machine.specs.History.{Entry, Says, says, nothing-said, said, tells, done-only, is-at, running}
 use Rattle.machine.specs.Sessions.{Sent, lent-any, entry-of, Session, begun, send, send-all, session, InRange, AllSentInRange}
 use Rattle.machine.specs.Honest.{runs-task, last-await, left-waiting, is-reuse}
@@ -49,13 +46,13 @@ use Rattle.machine_theorems.specs.Soundness.Exits.{runner-low, runner-runs}
 use Rattle.machine_theorems.specs.Soundness.Preserved.{waiting, await-made, complete-known}
 use Rattle.machine_theorems.specs.Soundness.Sessions.{forget-sound-store, fresh-sound-store}
 use Rattle.machine_sessions.specs.Waits.{said-accepted, said-refused}
-use Rattle.machine_sessions.specs.Following.{accept-accepts, Sends, stepped, short, sends, Following, send-following, session-follows}
+use Rattle.machine_sessions.specs.Following.{Sends, stepped, short, sends, Following, send-following, session-follows}
 use Rattle.machine_sessions.specs.Told.{Frozen, co, pends, gave, broke, many, frozen}
 use Rattle.machine_sessions.specs.Agrees.{Agrees}
 use Rattle.machine_sessions.specs.AgreesEvents.{forget-agrees}
 use Rattle.machine_sessions.specs.AgreesSessions.{send-agrees, session-agrees}
-use Rattle.machine_sessions.specs.Given.{Fate, loose, held, ret, err, fate, not-held, StateIs, NoTask, Given, NoneBut, NoneYet, given-like}
-use Rattle.machine_sessions.specs.GivenCycle.{TellsHow, TellsBy, Left, resume-left, fail-left, cancel-given, cleanup-given}
+use Rattle.machine_sessions.specs.Given.{loose, ret, err, fate, not-held, StateIs, NoTask, Given, NoneBut, NoneYet, given-like}
+use Rattle.machine_sessions.specs.GivenCycle.{TellsBy, Left, resume-left, fail-left, cancel-given, cleanup-given}
 use Rattle.machine_sessions.specs.GivenAwait.{given-free, StayTells, AwaitGiven, stayed, switches, await-given}
 use Rattle.machine_sessions.specs.GivenEvents.{calls-given, coroutine-given, pending-given, settled-given, gather-given, results-given, complete-left}
 
