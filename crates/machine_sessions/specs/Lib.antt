@@ -14,6 +14,13 @@ pub mod Named
 pub mod NamedClimb
 pub mod NamedRows
 pub mod NamedCommit
+pub mod Given
+pub mod GivenCycle
+pub mod GivenCommit
+pub mod GivenAwait
+pub mod GivenEvents
+pub mod GivenSessions
+pub mod GivenHonest
 pub mod Tracked
 pub mod TrackedEvents
 pub mod Following
