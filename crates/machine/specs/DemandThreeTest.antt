@@ -100,7 +100,7 @@ demand3-test n x =
 
 -- ---- a session of which the claim holds passes
 
-and-both : (a b : Bool) → a ≡ true → b ≡ true → (a && b) ≡ true
+pub and-both : (a b : Bool) → a ≡ true → b ≡ true → (a && b) ≡ true
 and-both true b e f = f
 and-both false b e f = e
 
@@ -115,7 +115,7 @@ or-right : (a b : Bool) → b ≡ true → (a || b) ≡ true
 or-right true b e = refl
 or-right false b e = e
 
-bits-same : (a b : Bool) → a ≡ b → same-bit a b ≡ true
+pub bits-same : (a b : Bool) → a ≡ b → same-bit a b ≡ true
 unfolding same-bit
 bits-same true b e = sym e
 bits-same false b e = ap not (sym e)

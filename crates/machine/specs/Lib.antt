@@ -18,5 +18,6 @@ pub mod Sessions
 pub mod DemandThree
 pub mod Honest
 pub mod DemandThreeTest
+pub mod HonestTest
 pub mod DemandThreeCases
 pub mod DemandTwo
