@@ -3,7 +3,7 @@
 -- A batch of results is taken result by result (`singles` of machine_sessions: a batch does what its results do one by one), so that an event has one result.
 use Prim.Native.Nat.{ℕ, _<_, _≤_}
 use mathlib.Core.Path.{_≡_}
-use mathlib.Core.Bool.{Bool, true, false, not}
+use mathlib.Core.Bool.{Bool, true, false}
 use mathlib.Core.List.{List, [], _∷_, _++_}
 use mathlib.Core.Option.{Option, none, some}
 use mathlib.Core.Logic.{_⊎_}
@@ -75,18 +75,19 @@ is-late (raised Error.GatherReuse) = false
 is-late (raised Error.NotFound) = false
 is-late (raised Error.ModuleFile) = false
 
--- the arrivals that are late, or are not
-unfoldable pub those : Bool → List (Arrival Value Error) → List (Arrival Value Error)
-those b [] = []
-those b (x ∷ xs) = elim (same b (is-late (x .outcome))) [ true ↦ x ∷ those b xs | false ↦ those b xs ]
-  where
-    same : Bool → Bool → Bool
-    same true c = c
-    same false c = not c
+-- those that do not
+unfoldable pub early : List (Arrival Value Error) → List (Arrival Value Error)
+early [] = []
+early (x ∷ xs) = elim (is-late (x .outcome)) [ true ↦ early xs | false ↦ x ∷ early xs ]
+
+-- those that do
+unfoldable pub late : List (Arrival Value Error) → List (Arrival Value Error)
+late [] = []
+late (x ∷ xs) = elim (is-late (x .outcome)) [ true ↦ x ∷ late xs | false ↦ late xs ]
 
 -- a task that fails at its first run does so after all else that the event does
 unfoldable pub in-turn : List (Arrival Value Error) → List (Arrival Value Error)
-in-turn xs = those false xs ++ those true xs
+in-turn xs = early xs ++ late xs
 
 -- In one event, which leads from session x to session y: at its own commit all items that are done arrive, from left to right (items are stepped left to
 -- right); later those that come to something in the event.

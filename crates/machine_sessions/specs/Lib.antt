@@ -43,6 +43,7 @@ pub mod SourcedCommitItems
 pub mod SourcedCommit
 pub mod SourcedKept
 pub mod GoesOn
+pub mod Arrivals
 pub mod DemandThreeHolds
 pub mod CancelByMoment
 pub mod LogApart
