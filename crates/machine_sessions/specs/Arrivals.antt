@@ -79,7 +79,7 @@ all-returned-++ (x ∷ xs) ys a b = (a .0, all-returned-++ xs ys (a .1) b)
 
 -- ---- what has come of an item, by the arrivals
 
-pub or-then : {A : Type 0} → Option A → Option A → Option A
+unfoldable pub or-then : {A : Type 0} → Option A → Option A → Option A
 or-then none y = y
 or-then (some x) y = some x
 
@@ -95,7 +95,7 @@ outcome-++ (x ∷ xs) ys o = by (eqb (x .awaitable) o) refl (outcome-++ xs ys o)
     by false q k = cons (xs ++ ys) false q ∙ (k ∙ sym (ap (λ (y : Came). or-then y (outcome-of ys o)) (cons xs false q)))
 
 -- what is new
-pub new-of : Came → Came → Came
+unfoldable pub new-of : Came → Came → Came
 new-of none y = y
 new-of (some z) y = none
 

@@ -44,6 +44,7 @@ pub mod SourcedCommit
 pub mod SourcedKept
 pub mod GoesOn
 pub mod Arrivals
+pub mod GatherSteps
 pub mod DemandThreeHolds
 pub mod CancelByMoment
 pub mod LogApart
