@@ -296,7 +296,7 @@ module _ (g : ℕ) (steps : (ps : List Sent) (s : Sent) → AllSentInRange ps �
   in-range-snoc (p ∷ ps) s a b = (a .0, in-range-snoc ps s (a .1) b)
 
   session-snoc : (ps : List Sent) (s : Sent) → session (ps ++ (s ∷ [])) ≡ send (session ps) s
-  unfolding session send-all
+  unfolding session send-all AllSentInRange
   session-snoc ps s = send-all-++ begun ps (s ∷ [])
 
   pub run-so-far : (ps es : List Sent) (xs : Arrivals) → AllSentInRange ps → AllSentInRange es → Single es → SoFar ps (session ps) g xs → SoFar (ps ++ es) (send-all (session ps) es) g (xs ++ arrivals-from (session ps) es g)
@@ -349,5 +349,5 @@ module _ (g : ℕ) (steps : (ps : List Sent) (s : Sent) → AllSentInRange ps �
   right-by es (is-failed e q (inr w)) c = inr (e, q, w)
 
   pub gather-right : committed (look (begun .store) g) ≡ false → (es : List Sent) → AllSentInRange es → Single es → committed (look (session es .store) g) ≡ true → GatherRight es g
-  unfolding session send-all
+  unfolding session send-all AllSentInRange
   gather-right u es a w c = right-by es (run-so-far [] es [] tt a w (uncommitted u refl)) c
