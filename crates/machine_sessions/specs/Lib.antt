@@ -36,4 +36,6 @@ pub mod SourcedCommitItems
 pub mod SourcedCommit
 pub mod SourcedKept
 pub mod GoesOn
+pub mod HonestWalk
+pub mod HonestCommit
 pub mod DemandThreeHolds
