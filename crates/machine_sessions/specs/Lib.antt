@@ -37,5 +37,7 @@ pub mod SourcedCommit
 pub mod SourcedKept
 pub mod GoesOn
 pub mod HonestWalk
+pub mod Spawned
+pub mod HonestLog
 pub mod HonestCommit
 pub mod DemandThreeHolds
