@@ -39,5 +39,6 @@ pub mod GoesOn
 pub mod HonestWalk
 pub mod Spawned
 pub mod HonestLog
+pub mod HonestEnds
 pub mod HonestCommit
 pub mod DemandThreeHolds
