@@ -121,7 +121,7 @@ pub gone-header : (s : Store) (t : ℕ) (x : LogEntry) → header (add-log (remo
 unfolding add-log remove-task remove-from-ready-queue put-queue put-task header
 gone-header s t x = refl
 
-wakes-header : (s : Store) (t : ℕ) (x : TaskState) → header (add-log (make-ready s t x) (reached t)) ≡ header s
+pub wakes-header : (s : Store) (t : ℕ) (x : TaskState) → header (add-log (make-ready s t x) (reached t)) ≡ header s
 unfolding add-log make-ready push-ready put-queue set-state put-task header
 wakes-header s t x = refl
 

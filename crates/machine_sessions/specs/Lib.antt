@@ -39,6 +39,7 @@ pub mod GoesOn
 pub mod HonestWalk
 pub mod Spawned
 pub mod HonestLog
+pub mod HonestIdle
 pub mod HonestEnds
 pub mod HonestCommit
 pub mod DemandThreeHolds
