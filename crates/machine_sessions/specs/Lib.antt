@@ -41,5 +41,6 @@ pub mod Spawned
 pub mod HonestLog
 pub mod HonestIdle
 pub mod HonestEnds
+pub mod HonestEvents
 pub mod HonestCommit
 pub mod DemandThreeHolds
