@@ -42,5 +42,6 @@ pub mod HonestLog
 pub mod HonestIdle
 pub mod HonestEnds
 pub mod HonestEvents
+pub mod HonestApart
 pub mod HonestCommit
 pub mod DemandThreeHolds

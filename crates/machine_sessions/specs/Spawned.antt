@@ -164,7 +164,7 @@ unstarted-words (TaskState.Woken v) = refl
 unstarted-words (TaskState.Raised e) = refl
 unstarted-words (TaskState.Blocked o) = refl
 
-task-back : (s : Store) (t : ℕ) (r : Task) → Sized s → t < task-limit → task (put-task s t r) t ≡ to-task (task-words r)
+pub task-back : (s : Store) (t : ℕ) (r : Task) → Sized s → t < task-limit → task (put-task s t r) t ≡ to-task (task-words r)
 unfolding task put-task task-at task-put
 task-back s t r z l = ap to-task (row-put-at task-codec (s .tasks) (task-start t) r (omega (arith, z .tasks-sized)))
 
