@@ -43,5 +43,6 @@ pub mod HonestIdle
 pub mod HonestEnds
 pub mod HonestEvents
 pub mod HonestApart
+pub mod HonestAwait
 pub mod HonestCommit
 pub mod DemandThreeHolds
