@@ -44,5 +44,6 @@ pub mod HonestEnds
 pub mod HonestEvents
 pub mod HonestApart
 pub mod HonestAwait
+pub mod HonestMakes
 pub mod HonestCommit
 pub mod DemandThreeHolds
