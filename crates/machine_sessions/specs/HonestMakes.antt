@@ -39,7 +39,7 @@ use Rattle.machine_sessions.specs.Calls.{read-back}
 use Rattle.machine_sessions.specs.Tracked.{live-like}
 use Rattle.machine_sessions.specs.TrackedEvents.{items-tasks, items-log}
 use Rattle.machine_sessions.specs.Told.{Frozen, frozen}
-use Rattle.machine_sessions.specs.Agrees.{Agrees}
+use Rattle.machine_sessions.specs.Agrees.{Agrees, none-made}
 use Rattle.machine_sessions.specs.Spawned.{Shape, shape, is-used, is-co, external-shape, TaskFrom, Spawned, SameSpawns, same-spawns, spawned-as}
 use Rattle.machine_sessions.specs.HonestLog.{LogRight, Origins}
 use Rattle.machine_sessions.specs.HonestEnds.{ControlLeft, Left, Leaves, none-plain, makes-later, spawns-later}
@@ -119,7 +119,7 @@ module _ (s : Store) (z : Sized s) where
         let f : HeaderFits (header s) = header-fits s in
         header-put-header s _ z (record { made-fits = f .made-fits; used-fits = f .used-fits; calls-fit = omega arith; next-fits = f .next-fits; moment-fits = f .moment-fits })
 
-    calls-object : (o : ℕ) → object (set-calls s (header s .calls + 1)) o ≡ object s o
+    pub calls-object : (o : ℕ) → object (set-calls s (header s .calls + 1)) o ≡ object s o
     unfolding set-calls
     calls-object o = object-put-header s _ o
 
@@ -194,7 +194,7 @@ module _ (s : Store) (z : Sized s) where
 -- ---- what it leaves
 
 -- an object that is made is new, or no coroutine
-co-used : (y : Shape) → is-co y ≡ false → is-used y ≡ false
+pub co-used : (y : Shape) → is-co y ≡ false → is-used y ≡ false
 co-used Shape.other e = refl
 co-used (Shape.new f) e = refl
 co-used (Shape.used f) e = e
@@ -299,3 +299,19 @@ module _ (h : List Entry) (s : Store) (k : Held h s) (ag : Agrees h s) where
             (subst (λ (m : Option Making). MakesCoroutine m f) (sym (making-here x h a mk)) (unfold MakesCoroutine in (nw f (subst (λ (m : ℕ). M m ≡ Shape.new f) q y))))
         made-by o f y (no ne) =
             subst (λ (m : Option Making). MakesCoroutine m f) (sym (making-there x h a o mk ne)) (makes-later x (making h o) f (k .origins .made-by o f (sym (there o ne) ∙ y)))
+
+    -- an event that makes nothing
+    pub adds-left : (x : Entry) → Leaves x none u → ((o : ℕ) → object u o ≡ object s o) → Left h x u
+    adds-left x l same =
+        record {
+          spawns-are = spawns-later h x u none M (l .happens) (l .controls) (spawned-as (spawned-for h) (spawned-for h) (coroutine-of h) (λ t. started-by none t (coroutine-of h t)) (spawns h) (spawns h) M M u (λ t. refl) (λ t. none-plain .begins t (coroutine-of h t)) refl (λ o. refl) made-spawns);
+          origins = record {
+            named-is = λ o. named-then o ∙ (k .origins .named-is o ∙ ap (λ (y : Object). is-used (shape y)) (sym (same o)));
+            made-by = λ o f q. subst (λ (m : Option Making). MakesCoroutine m f) (sym (none-made x h o (l .makes-none))) (makes-later x (making h o) f (k .origins .made-by o f (sym (ap shape (same o)) ∙ q)));
+          };
+          log-right = subst (LogRight h x) (sym (e .same-log ∙ k .empty-log)) (unfold LogRight in tt);
+          control-left = subst (ControlLeft h x (u .log)) (sym (l .controls)) (unfold ControlLeft in tt);
+        }
+      where
+        named-then : (o : ℕ) → named (x ∷ h) o ≡ named h o
+        named-then o = unfold named in (ap (λ (y : Option Control). names-by y o || named h o) (l .controls) ∙ (unfold names-by in refl))

@@ -45,5 +45,6 @@ pub mod HonestEvents
 pub mod HonestApart
 pub mod HonestAwait
 pub mod HonestMakes
+pub mod HonestHolds
 pub mod HonestCommit
 pub mod DemandThreeHolds
