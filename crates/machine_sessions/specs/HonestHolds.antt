@@ -20,7 +20,7 @@ use Rattle.asyncio.specs.States.{pick}
 use Rattle.queue.specs.Queue.{entries}
 use Rattle.machine.specs.Store.{Store, LogEntry, task, object, header, forget, set-calls}
 use Rattle.machine.specs.Scheduler.{live, pending-call-ids, cancel-task, cleanup}
-use Rattle.machine.specs.Events.{How, start, value, raises, inline, Control, runs, waits, Switched, Awaited, Result, activate, resume-next, handle-task-completion, handle-task-failure, exec-get-awaitable, apply-future-results}
+use Rattle.machine.specs.Events.{How, start, value, raises, inline, Control, runs, waits, Switched, Awaited, Result, activate, resume-next, handle-task-completion, handle-task-failure, exec-get-awaitable, apply-future-results, make-coroutine, make-pending, make-settled, make-gather}
 use Rattle.machine.specs.Machine.{Event, Answer, Shown, Step, switched, answer-await, end-main, task-completes, task-fails, runner, repeat-wait, resume-with-resolved-futures, refusals, refusal, full, no-number, accept, in-both}
 use Rattle.machine.specs.Sound.{is-ended}
 use Rattle.machine.specs.History.{Entry, Says, says, nothing-said, said, tells, done-only, is-none, lives-by, lives, blocked-by, stays-blocked, spawned-for, running, coroutine-of}
@@ -35,6 +35,7 @@ use Rattle.machine_laws.specs.TestLaws.{or-left, or-right}
 use Rattle.machine_theorems.specs.Soundness.Stores.{SoundStore}
 use Rattle.machine_theorems.specs.Soundness.Preserved.{waiting, await-made}
 use Rattle.machine_sessions.specs.Tracked.{Tracked, live-low}
+use Rattle.machine_sessions.specs.TrackedEvents.{accept-tracked}
 use Rattle.machine_sessions.specs.Following.{accept-accepts}
 use Rattle.machine_sessions.specs.Waits.{said-accepted}
 use Rattle.machine_sessions.specs.Standing.{Stands}
@@ -48,7 +49,7 @@ use Rattle.machine_sessions.specs.HonestIdle.{NoFresh, Idle, empty-begun
 use Rattle.machine_sessions.specs.HonestEnds.{StartTold, ControlLeft, Left, Leaves, none-plain, waits-plain}
 use Rattle.machine_sessions.specs.HonestEvents.{Held, WaitsThen, complete-ends, fail-ends, exit-left, exit-logged, exit-waits, resume-left, resume-waits, same-left, results-left, cancel-left, cancel-logged, cancel-idle, end-log-right, end-dead}
 use Rattle.machine_sessions.specs.HonestAwait.{await-left, await-blocks, await-waits}
-use Rattle.machine_sessions.specs.HonestMakes.{Adds, call-adds, settled-adds, settled-shape, coroutine-adds, coroutine-shape, pending-adds, pending-shape, gather-adds, gather-used, co-used, makes-left, adds-left}
+use Rattle.machine_sessions.specs.HonestMakes.{Adds, call-adds, settled-adds, settled-shape, coroutine-adds, coroutine-shape, pending-adds, pending-shape, gather-adds, gather-used, co-used, calls-object, makes-left, adds-left}
 
 -- ---- the last entry, but for what is handed to a task that runs on
 
@@ -196,8 +197,43 @@ not-waiting m t e q = let z : _≡_ {A = ℕ} 0 1 = cc in absurd (omega arith)
 same-some : (a b : ℕ) → _≡_ {A = Option ℕ} (some a) (some b) → a ≡ b
 same-some a b e = Option·some-injective a b e
 
-abbrev NoControl : Step → Type 0
-NoControl y = (tells (y .answer) .accepts ≡ true) × (tells (y .answer) .control ≡ none)
+-- an event that awaits, ends and cancels nothing
+unfoldable IsQuiet : Event → Type 0
+IsQuiet (Event.coroutine f) = Unit {0}
+IsQuiet Event.call = Unit {0}
+IsQuiet (Event.pending c r) = Unit {0}
+IsQuiet (Event.settled v) = Unit {0}
+IsQuiet (Event.gather os) = Unit {0}
+IsQuiet (Event.await o) = ⊥
+IsQuiet (Event.complete v) = ⊥
+IsQuiet (Event.fail n) = ⊥
+IsQuiet (Event.results rs) = Unit {0}
+IsQuiet Event.resume = Unit {0}
+IsQuiet (Event.cancel t) = ⊥
+IsQuiet (Event.show o) = Unit {0}
+IsQuiet Event.eager = Unit {0}
+
+quiet-of : (e : Event) → IsQuiet e → Quiet (says e)
+unfolding IsQuiet says nothing-said ends-task has-value is-none
+quiet-of (Event.coroutine f) k = record { no-await = refl; no-end = refl; no-cancel = refl }
+quiet-of Event.call k = record { no-await = refl; no-end = refl; no-cancel = refl }
+quiet-of (Event.pending c r) k = record { no-await = refl; no-end = refl; no-cancel = refl }
+quiet-of (Event.settled v) k = record { no-await = refl; no-end = refl; no-cancel = refl }
+quiet-of (Event.gather os) k = record { no-await = refl; no-end = refl; no-cancel = refl }
+quiet-of (Event.await o) k = absurd k
+quiet-of (Event.complete v) k = absurd k
+quiet-of (Event.fail n) k = absurd k
+quiet-of (Event.results rs) k = record { no-await = refl; no-end = refl; no-cancel = refl }
+quiet-of Event.resume k = record { no-await = refl; no-end = refl; no-cancel = refl }
+quiet-of (Event.cancel t) k = absurd k
+quiet-of (Event.show o) k = record { no-await = refl; no-end = refl; no-cancel = refl }
+quiet-of Event.eager k = record { no-await = refl; no-end = refl; no-cancel = refl }
+
+new-is : (f g : ℕ) → Shape.new f ≡ Shape.new g → f ≡ g
+new-is f g e = cc
+
+not-co : {A : Type 0} (y : Shape) (g : ℕ) → is-co y ≡ false → y ≡ Shape.new g → A
+not-co y g e q = absurd (true≢false (ap is-co (sym q) ∙ e))
 
 module _ (h : List Entry) (s : Store) (w : SoundStore s) (tr : Tracked (lives h) (stays-blocked h) s) (ag : Agrees h s) (same : forget s ≡ s) (kept : is-ended (header s .moment) ≡ false → Kept h s) where
   empty-log : s .log ≡ []
@@ -574,3 +610,150 @@ module _ (h : List Entry) (s : Store) (w : SoundStore s) (tr : Tracked (lives h)
 
       blocks : (u : ℕ) → running h ≡ some u → runs-task (some (z .control)) u ≡ false → blocks-in (z .store .log) u ≡ true
       blocks u r f = subst (λ (v : ℕ). runs-task (some (z .control)) v ≡ false → blocks-in (z .store .log) v ≡ true) (same-some t u (sym rn ∙ r)) (λ q. both ∙ ap not q) f
+
+  -- ---- every event
+
+  running-now : (rs : List (ℕ × Bool)) → Rattle.machine.specs.Machine.first-refusal (Rattle.machine.specs.Machine.in-running s rs) ≡ 0 → header s .moment ≡ Moment.Running (task-id (runner (header s .moment)))
+  running-now rs q = Rattle.machine_theorems.specs.Soundness.Preserved.running s w rs q
+
+  abbrev right : (e : Event) → InRange e → says e .cancels ≡ false → refusal s e ≡ 0 → is-ended (header s .moment) ≡ false → StepRight (accept s e)
+  right e i n r on = accept-right s w (kept on .idle .stood) e i n r
+
+  not-full : full s ≡ false → header s .made < object-limit
+  unfolding full
+  not-full q = leb-false object-limit (header s .made) q
+
+  number-left : no-number s ≡ false → header s .calls < call-limit
+  unfolding no-number
+  number-left q = leb-false call-limit (header s .calls) q
+
+  lives-then : (e : Event) (a : Answer) (u : Store) → tells a .accepts ≡ true → Tracked (lives h) (stays-blocked h) u → (t : ℕ) → lives (entry-of e a u ∷ h) t ≡ live u t
+  unfolding lives
+  lives-then e a u ok k t = ap (λ (l : List LogEntry). lives-by (lives h t) l t) (happens-all e a u ok) ∙ k .alive t
+
+  -- an event's branch
+  completes-as : (t : ℕ) (v : Value) → task-completes s (suc t) v ≡ switched (handle-task-completion s (suc t) v)
+  unfolding task-completes
+  completes-as t v = ap (λ (b : Bool). pick b (end-main s (Answer.finished v)) (switched (handle-task-completion s (suc t) v))) (ne-eqb (suc t) 0 (λ q. not-suc-le-zero {n = 0} (omega arith)))
+
+  fails-as : (t : ℕ) (x : Error) → task-fails s (suc t) x ≡ switched (handle-task-failure activate s (suc t) x)
+  unfolding task-fails
+  fails-as t x = ap (λ (b : Bool). pick b (end-main s (Answer.finished-error x)) (switched (handle-task-failure activate s (suc t) x))) (ne-eqb (suc t) 0 (λ q. not-suc-le-zero {n = 0} (omega arith)))
+
+  complete-no-cancel : (v : Value) → says (Event.complete v) .cancels ≡ false
+  unfolding says
+  complete-no-cancel v = refl
+
+  fail-no-cancel : (n : ℕ) → says (Event.fail n) .cancels ≡ false
+  unfolding says
+  fail-no-cancel n = refl
+
+  finished-tells : (v : Value) → (tells (Answer.finished v) .accepts ≡ true) × (tells (Answer.finished v) .control ≡ none)
+  unfolding tells done-only
+  finished-tells v = (refl, refl)
+
+  error-tells : (x : Error) → (tells (Answer.finished-error x) .accepts ≡ true) × (tells (Answer.finished-error x) .control ≡ none)
+  unfolding tells done-only
+  error-tells x = (refl, refl)
+
+  complete-by : (v : Value) (t : ℕ) → header s .moment ≡ Moment.Running (task-id t) → StepRight (task-completes s t v) → Tracked (lives h) (stays-blocked h) (task-completes s t v .store) → Stepped h (Event.complete v) (task-completes s t v)
+  unfolding task-completes end-main says ends-task has-value
+  complete-by v zero m sr k =
+      main-stepped (Event.complete v) (Answer.finished v) m refl refl refl (finished-tells v .0) (finished-tells v .1) (lives-then (Event.complete v) (Answer.finished v) (cleanup s) (finished-tells v .0) k)
+  complete-by v (suc t) m sr k = subst (Stepped h (Event.complete v)) (sym (completes-as t v)) (complete-stepped t v m (subst StepRight (completes-as t v) sr))
+
+  fail-by : (n t : ℕ) → header s .moment ≡ Moment.Running (task-id t) → StepRight (task-fails s t (Error.Script n)) → Tracked (lives h) (stays-blocked h) (task-fails s t (Error.Script n) .store) → Stepped h (Event.fail n) (task-fails s t (Error.Script n))
+  unfolding task-fails end-main says ends-task has-value is-none
+  fail-by n zero m sr k =
+      main-stepped (Event.fail n) (Answer.finished-error (Error.Script n)) m refl refl refl (error-tells (Error.Script n) .0) (error-tells (Error.Script n) .1)
+      (lives-then (Event.fail n) (Answer.finished-error (Error.Script n)) (cleanup s) (error-tells (Error.Script n) .0) k)
+  fail-by n (suc t) m sr k = subst (Stepped h (Event.fail n)) (sym (fails-as t (Error.Script n))) (fail-stepped t n m (subst StepRight (fails-as t (Error.Script n)) sr))
+
+  -- a wait is repeated
+  repeat-stepped : (cs : List ℕ) → Stepped h Event.resume (record { store = s; answer = repeat-wait cs })
+  unfolding repeat-wait
+  repeat-stepped [] = same-stepped Event.resume Answer.stalled (quiet-of Event.resume (unfold IsQuiet in tt)) (unfold tells done-only in refl) (unfold tells done-only in refl) (λ x. unfold tells done-only ControlLeft in tt) (unfold tells done-only in none-plain)
+  repeat-stepped (c ∷ cs) =
+      same-stepped Event.resume (Answer.control (waits (c ∷ cs))) (quiet-of Event.resume (unfold IsQuiet in tt)) (unfold tells in refl) (unfold tells in refl) (λ x. unfold tells ControlLeft in tt) (unfold tells in (waits-plain (c ∷ cs)))
+
+  resume-by : header s .moment ≡ Moment.Waiting → StepRight (resume-with-resolved-futures s) → Stepped h Event.resume (resume-with-resolved-futures s)
+  unfolding resume-with-resolved-futures
+  resume-by m sr = by (eqb (s .queue .len) 0) sr
+    where
+      by : (b : Bool) → StepRight (pick b (record { store = s; answer = repeat-wait (pending-call-ids s) }) (switched (resume-next activate s)))
+          → Stepped h Event.resume (pick b (record { store = s; answer = repeat-wait (pending-call-ids s) }) (switched (resume-next activate s)))
+      by true k = repeat-stepped (pending-call-ids s)
+      by false k = resume-stepped m k
+
+  read-stepped : (e : Event) (a : Answer) → Quiet (says e) → tells a .accepts ≡ true → tells a .makes ≡ none → tells a .control ≡ none → Stepped h e (record { store = s; answer = a })
+  read-stepped e a q ok mk ct =
+      same-stepped e a q ok mk (λ x. subst (ControlLeft h x (s .log)) (sym ct) (unfold ControlLeft in tt)) (subst Rattle.machine_sessions.specs.HonestEnds.Plain (sym ct) none-plain)
+
+  pub accept-stepped : (e : Event) → InRange e → refusal s e ≡ 0 → Stepped h e (accept s e)
+  unfolding refusals accept InRange answer-await in-both IsQuiet
+  accept-stepped (Event.coroutine f) i r =
+      let q = refusal-rest s (Event.coroutine f) r in
+      let on = running-now _ q in
+      let m : header s .made < object-limit = not-full (pass 6 (full s) [] (running-rest s _ q) .0) in
+      let sh : shape (object (make-coroutine s f) (header s .made)) ≡ Shape.new f = coroutine-shape s (w .memory .sized) f i m in
+      made-stepped (Event.coroutine f) _ 0 on (quiet-of (Event.coroutine f) tt) (right (Event.coroutine f) i (quiet-of (Event.coroutine f) tt .no-cancel) r (ended-not _ _ on)) (coroutine-adds s (w .memory .sized) f m) refl (ap is-used sh)
+      (λ g d. ap Event.coroutine (new-is f g (sym sh ∙ d)))
+  accept-stepped Event.call i r =
+      let q = refusal-rest s Event.call r in
+      let on = running-now _ q in
+      let c : header s .calls < call-limit = number-left (pass 7 (no-number s) [] (running-rest s _ q) .0) in
+      called-stepped Event.call _ 0 on (quiet-of Event.call tt) (right Event.call tt (quiet-of Event.call tt .no-cancel) r (ended-not _ _ on)) (call-adds s (w .memory .sized) c (header s .made)) (header s .calls) refl (calls-object s (w .memory .sized) c)
+  accept-stepped (Event.pending d v) i r =
+      let q = refusal-rest s (Event.pending d v) r in
+      let on = running-now _ q in
+      let m : header s .made < object-limit = not-full (pass 6 (full s) [] (pass 5 _ _ (pass 4 _ _ (running-rest s _ q) .1) .1) .0) in
+      let sh : shape (object (make-pending s d v) (header s .made)) ≡ Shape.other = pending-shape s (w .memory .sized) d v m in
+      made-stepped (Event.pending d v) _ 0 on (quiet-of (Event.pending d v) tt) (right (Event.pending d v) tt (quiet-of (Event.pending d v) tt .no-cancel) r (ended-not _ _ on)) (pending-adds s (w .memory .sized) d v m) refl (ap is-used sh)
+      (λ g z. not-co _ g (ap is-co sh) z)
+  accept-stepped (Event.settled v) i r =
+      let q = refusal-rest s (Event.settled v) r in
+      let on = running-now _ q in
+      let p = pass 6 (full s) _ (pass 4 _ _ (running-rest s _ q) .1) in
+      let m : header s .made < object-limit = not-full (p .0) in
+      let c : header s .calls < call-limit = number-left (pass 7 (no-number s) [] (p .1) .0) in
+      let sh : shape (object (make-settled s v) (header s .made)) ≡ Shape.other = settled-shape s (w .memory .sized) c v m in
+      made-stepped (Event.settled v) _ 0 on (quiet-of (Event.settled v) tt) (right (Event.settled v) tt (quiet-of (Event.settled v) tt .no-cancel) r (ended-not _ _ on)) (settled-adds s (w .memory .sized) c v m) refl (ap is-used sh)
+      (λ g z. not-co _ g (ap is-co sh) z)
+  accept-stepped (Event.gather os) i r =
+      let q = refusal-rest s (Event.gather os) r in
+      let on = running-now _ q in
+      let p = pass 6 (full s || ltb item-limit (length os) || ltb place-limit (header s .used + length os)) [] (pass 4 _ _ (running-rest s _ q) .1) .0 in
+      let m : header s .made < object-limit = not-full (or-left (full s) (ltb item-limit (length os)) (or-left (full s || ltb item-limit (length os)) (ltb place-limit (header s .used + length os)) p)) in
+      let l : header s .used + length os ≤ place-limit = ltb-false place-limit (header s .used + length os) (or-right (full s || ltb item-limit (length os)) (ltb place-limit (header s .used + length os)) p) in
+      let us : is-co (shape (object (make-gather s os) (header s .made))) ≡ false = gather-used s (w .memory .sized) os m l in
+      made-stepped (Event.gather os) _ 0 on (quiet-of (Event.gather os) tt) (right (Event.gather os) tt (quiet-of (Event.gather os) tt .no-cancel) r (ended-not _ _ on)) (gather-adds s (w .memory .sized) os m l) refl (co-used (shape (object (make-gather s os) (header s .made))) us)
+      (λ g z. not-co _ g us z)
+  accept-stepped (Event.await o) i r =
+      let q = refusal-rest s (Event.await o) r in
+      let on = running-now _ q in
+      await-stepped (runner (header s .moment)) o on (await-made s w o q) (right (Event.await o) tt await-no-cancel r (ended-not _ _ on))
+    where
+      await-no-cancel : says (Event.await o) .cancels ≡ false
+      await-no-cancel = unfold says in refl
+  accept-stepped (Event.complete v) i r =
+      let on = running-now _ (refusal-rest s (Event.complete v) r) in
+      complete-by v (runner (header s .moment)) on (right (Event.complete v) tt (complete-no-cancel v) r (ended-not _ _ on)) (accept-tracked (lives h) (stays-blocked h) s w (Event.complete v) r tr)
+  accept-stepped (Event.fail n) i r =
+      let on = running-now _ (refusal-rest s (Event.fail n) r) in
+      fail-by n (runner (header s .moment)) on (right (Event.fail n) i (fail-no-cancel n) r (ended-not _ _ on)) (accept-tracked (lives h) (stays-blocked h) s w (Event.fail n) r tr)
+  accept-stepped (Event.results rs) i r =
+      let q = pass 2 (is-ended (header s .moment)) _ (refusal-rest s (Event.results rs) r) in
+      results-stepped rs (q .0) (right (Event.results rs) tt (quiet-of (Event.results rs) tt .no-cancel) r (q .0))
+  accept-stepped Event.resume i r =
+      let m = waiting s w [] (refusal-rest s Event.resume r) .0 in
+      resume-by m (right Event.resume tt (quiet-of Event.resume tt .no-cancel) r (waiting-not _ m))
+  accept-stepped (Event.cancel t) i r =
+      let q = waiting s w _ (refusal-rest s (Event.cancel t) r) in
+      let l = pass 4 (not (live s t)) _ (q .1) in
+      cancel-stepped t (q .0) (omega (arith, eqb-false t 0 (pass 8 (eqb t 0) [] (l .1) .0)), omega (arith, live-low s t (is-true (live s t) (l .0)) .0, header-fits s .next-fits))
+    where
+      is-true : (b : Bool) → not b ≡ false → b ≡ true
+      is-true true e = refl
+      is-true false e = absurd (true≢false e)
+  accept-stepped (Event.show o) i r = read-stepped (Event.show o) _ (quiet-of (Event.show o) tt) (unfold tells done-only in refl) (unfold tells done-only in refl) (unfold tells done-only in refl)
+  accept-stepped Event.eager i r = read-stepped Event.eager _ (quiet-of Event.eager tt) (unfold tells done-only in refl) (unfold tells done-only in refl) (unfold tells done-only in refl)
