@@ -46,5 +46,6 @@ pub mod HonestApart
 pub mod HonestAwait
 pub mod HonestMakes
 pub mod HonestHolds
+pub mod HonestSessions
 pub mod HonestCommit
 pub mod DemandThreeHolds
