@@ -1,22 +1,17 @@
--- A task t that blocks is not woken by the same event. F are the gathers that were pending before it: only they lead up to t, only they lead into each other,
--- and the tasks spawned for their items have coroutines that are new; so an error of a task whose coroutine is not new goes elsewhere.
+-- A task that blocks is not woken by the same event: only gathers that were pending before it lead up to the task, and their tasks have new coroutines.
 use mathlib.Core.Path.{_≡_, refl, sym, ap, subst, _∙_}
 use mathlib.Core.Bool.{Bool, true, false, true≢false}
-use mathlib.Core.List.{List, [], _∷_}
-use mathlib.Core.Option.{Option, none, some, Option·some-injective}
+use mathlib.Core.Option.{none, some, Option·some-injective}
 use mathlib.Core.Logic.{_⊎_, inl, inr}
-use Prim.Native.Nat.{ℕ, zero, suc, _+_, _%_, _≤_, _<_}
-use native.Mathlib.Nat.{not-suc-le-zero, mod-eq-of-lt}
-use native.Mathlib.Omega.{arith}
+use Prim.Native.Nat.{ℕ, _<_}
+use native.Mathlib.Nat.{mod-eq-of-lt}
 use native.Mathlib.Decide.{ℕ-discrete}
-use lib.ListN.{length}
 use Rattle.asyncio.specs.declared.TaskId.{TaskId}
 use Rattle.asyncio.specs.declared.HeapId.{HeapId}
 use Rattle.asyncio.specs.declared.CallId.{CallId}
 use Rattle.asyncio.specs.declared.Awaiter.{Awaiter}
 use Rattle.asyncio.specs.declared.TaskState.{TaskState}
 use Rattle.asyncio.specs.declared.Task.{Task}
-use Rattle.asyncio.specs.declared.CoroutineState.{CoroutineState}
 use Rattle.asyncio.specs.declared.ExternalFutureState.{ExternalFutureState}
 use Rattle.asyncio.specs.declared.GatherState.{GatherState}
 use Rattle.asyncio.specs.declared.Object.{Object}
@@ -25,8 +20,8 @@ use Rattle.asyncio.specs.Numbers.{heap-id, task-id}
 use Rattle.asyncio.specs.Ranges.{AwaiterFits}
 use Rattle.asyncio.specs.Layout.{object-words, to-object, awaiter-words, to-awaiter, task-words, to-task}
 use Rattle.asyncio.specs.Kinds.{kind, is-pending-gather}
-use Rattle.asyncio.specs.States.{is-live, is-blocked}
-use Rattle.machine.specs.Store.{Store, LogEntry, task, object, header, put-task, put-object, restate, absent}
+use Rattle.asyncio.specs.States.{is-live}
+use Rattle.machine.specs.Store.{Store, task, object, header, put-task, put-object, restate, absent}
 use Rattle.machine.specs.Scheduler.{AwaitedGather, as-awaited, spawn-as}
 use Rattle.machine.specs.Commit.{with-state}
 use Rattle.machine_laws.specs.Views.{Sized}

@@ -11,11 +11,8 @@ use native.Mathlib.Decide.{ℕ-discrete}
 use lib.Dec.{T, eqb, leb}
 use lib.ListN.{length}
 use borrow.Author.Tests.{eq-eqb, ne-eqb, leb-true, leb-false}
-use Rattle.asyncio.specs.declared.TaskId.{TaskId}
-use Rattle.asyncio.specs.declared.HeapId.{HeapId}
 use Rattle.asyncio.specs.declared.CallId.{CallId}
 use Rattle.asyncio.specs.declared.Value.{Value}
-use Rattle.asyncio.specs.declared.Error.{Error}
 use Rattle.asyncio.specs.declared.OptionValue.{OptionValue}
 use Rattle.asyncio.specs.declared.Awaiter.{Awaiter}
 use Rattle.asyncio.specs.declared.TaskState.{TaskState}
@@ -32,40 +29,40 @@ use Rattle.asyncio.specs.Numbers.{heap-id, task-id}
 use Rattle.asyncio.specs.Ranges.{ObjectFits}
 use Rattle.asyncio.specs.RangeLaws.{object-back}
 use Rattle.machine_laws.specs.Walk.{Turns, takes}
-use Rattle.asyncio.specs.Layout.{to-value, object-words, to-object, place-words, to-place}
+use Rattle.asyncio.specs.Layout.{to-value, object-words, to-object, to-place}
 use Rattle.asyncio.specs.Kinds.{kind, is-pending-gather, is-committed}
 use Rattle.asyncio.specs.Parts.{awaiter-of, count-of}
 use Rattle.asyncio.specs.States.{pick, is-nobody, is-live, is-ready, is-blocked, is-unstarted}
 use Rattle.rows.specs.Tables.{place-at, place-put, place-codec, place-start, task-at}
 use Rattle.rows.specs.RowLaws.{row-put-at}
 use Rattle.machine.specs.Tests.{is-in}
-use Rattle.machine.specs.Store.{Store, LogEntry, spawned, blocked, reached, exited, view, task, object, place, header, put-task, put-object, put-place, put-places, put-queue, add-log, restate, set-state}
-use Rattle.machine.specs.Scheduler.{AwaitedGather, as-awaited, live, is-task-of, task-of, task-of-in, first-from, make-ready, remove-task, spawn-as}
+use Rattle.machine.specs.Store.{Store, LogEntry, blocked, reached, exited, view, task, object, place, header, put-task, put-object, put-place, put-places, put-queue, add-log, restate, set-state}
+use Rattle.machine.specs.Scheduler.{AwaitedGather, as-awaited, live, is-task-of, task-of, task-of-in, make-ready, spawn-as}
 use Rattle.machine.specs.Commit.{with-state, set-gather, fill-place}
-use Rattle.machine.specs.Events.{How, value, raises, inline, Control, runs, waits, Switched, Awaited, new-function, stays, exec-get-awaitable, Result}
+use Rattle.machine.specs.Events.{How, value, raises, inline, Control, runs, waits, Switched, Awaited, stays, exec-get-awaitable, Result}
 use Rattle.machine.specs.Machine.{Event}
 use Rattle.machine.specs.Sound.{object-in-range, places-below, is-slot, task-in-range}
 use Rattle.machine.specs.History.{Entry, Making, says, said, is-none, items, making, lives, stays-blocked, spawned-by, spawned-for, running, coroutine-of, first-reply, reply-error}
 use Rattle.machine.specs.Delivery.{value-or}
-use Rattle.machine.specs.Honest.{Below, item, deeper, MakesCoroutine, spawns, spawns-in, blocks-in, runs-task, SpawnHonest}
+use Rattle.machine.specs.Honest.{Below, item, deeper, spawns, blocks-in, runs-task, SpawnHonest}
 use Rattle.machine_laws.specs.Views.{Sized}
-use Rattle.machine_laws.specs.StoreLaws.{task-fits, object-fits, place-fits, header-fits, header-put-object, place-put-other, task-put-other, live-put-task, sized-put-object, sized-put-place, sized-set-state, sized-add-log}
+use Rattle.machine_laws.specs.StoreLaws.{object-fits, place-fits, header-fits, header-put-object, place-put-other, task-put-other, sized-put-place, sized-set-state, sized-add-log}
 use Rattle.machine_laws.specs.DeliveryLaws.{absurd-some, awaited-object, awaited-fits}
 use Rattle.machine_laws.specs.TestLaws.{both-left, both-right}
 use Rattle.machine_theorems.specs.Soundness.Stores.{SoundStore}
 use Rattle.machine_theorems.specs.Soundness.Cycle.{spawned-of}
 use Rattle.machine_theorems.specs.Soundness.Exits.{runner-low, runner-runs}
-use Rattle.machine_sessions.specs.Tracked.{Tracked, live-is, live-low, spawn-next, spawn-row, blocks-tracked, tracked-commits}
+use Rattle.machine_sessions.specs.Tracked.{live-low, blocks-tracked, tracked-commits}
 use Rattle.machine_sessions.specs.CallEvents.{none-first}
 use Rattle.machine_sessions.specs.Told.{Frozen, frozen}
 use Rattle.machine_sessions.specs.Agrees.{ItemsAt, reply-row, Makes, MadeRight, Agrees}
 use Rattle.machine_sessions.specs.TellingAwait.{Row, row-commits}
 use Rattle.machine_sessions.specs.Telling.{awaited-turns, state-turns}
-use Rattle.machine_sessions.specs.Spawned.{Shape, shape, is-used, is-co, gather-shape, external-shape, Spawned, live-below, same-spawns, spawned-like, state-spawned, spawn-spawned, spawn-log, spawn-object, task-back}
-use Rattle.machine_sessions.specs.HonestWalk.{Goes, waits-on, Delivers, Switching, Ends, waited, started, woke, raised-it, row-task, wakes-object, wakes-task}
-use Rattle.machine_sessions.specs.HonestLog.{BlockRight, LogRight, Origins, Logged, blocked-spawns, row-logged, gather-logged, external-logged, wakes-logged, reuse, logged-delivers, logged-switching, gone-task, gone-object, is-live-now}
-use Rattle.machine_sessions.specs.HonestCommit.{Closes, as-completed, as-failed, Committing, AwaitEnds, given, refused, inlined, switches, await-walk}
-use Rattle.machine_sessions.specs.HonestEnds.{Left, Leaves, value-plain, raises-plain, StartTold, ControlLeft, logged-left, control-plain, inline-left, ends-left}
+use Rattle.machine_sessions.specs.Spawned.{Shape, shape, is-used, gather-shape, live-below, same-spawns, spawned-like, state-spawned, spawn-spawned, spawn-log, spawn-object, task-back}
+use Rattle.machine_sessions.specs.HonestWalk.{waits-on, Delivers, Switching, Ends, waited, started, woke, raised-it, row-task, wakes-object, wakes-task}
+use Rattle.machine_sessions.specs.HonestLog.{LogRight, Logged, blocked-spawns, row-logged, gather-logged, external-logged, wakes-logged, reuse, logged-delivers, logged-switching, gone-task, gone-object, is-live-now}
+use Rattle.machine_sessions.specs.HonestCommit.{Committing, AwaitEnds, given, refused, inlined, switches, await-walk}
+use Rattle.machine_sessions.specs.HonestEnds.{Left, Leaves, value-plain, raises-plain, StartTold, logged-left, control-plain, inline-left, ends-left}
 use Rattle.machine_sessions.specs.HonestEvents.{Grows, with-delivers, with-switching, ends-map, ends-log, ends-waits, Held, begins-logged}
 use Rattle.machine_sessions.specs.HonestApart.{Away, KidOf, Apart, onward-away, kid-away, apart-like, goes-apart, free-apart, external-apart, closes-apart, state-apart, gone-apart, spawn-apart}
 

@@ -1,6 +1,5 @@
--- A commit and an await walked once more, with what each write knows: which gather it is of, what its item is, that a coroutine which is spawned is new and
--- has no live task. P is what is known of the gathers on the stack, Q of their items; `count` tells how many places each has.
-use mathlib.Core.Path.{_≡_, refl, sym, ap, subst, _∙_}
+-- A commit and an await walked with what each write knows: its gather, its item, and that a coroutine which is spawned is new and has no live task.
+use mathlib.Core.Path.{_≡_, refl, ap, _∙_}
 use mathlib.Core.Bool.{Bool, true, false}
 use mathlib.Core.List.{List, [], _∷_}
 use mathlib.Core.Option.{Option, none, some}
@@ -19,18 +18,19 @@ use Rattle.asyncio.specs.declared.ExternalFutureState.{ExternalFutureState}
 use Rattle.asyncio.specs.declared.GatherState.{GatherState}
 use Rattle.asyncio.specs.declared.Object.{Object}
 use Rattle.asyncio.specs.Limits.{object-limit, task-limit}
-use Rattle.asyncio.specs.Numbers.{heap-id, task-id}
+use Rattle.asyncio.specs.Numbers.{heap-id}
 use Rattle.asyncio.specs.RangeLaws.{pick-has}
 use Rattle.asyncio.specs.Parts.{count-of}
 use Rattle.asyncio.specs.States.{pick}
-use Rattle.machine.specs.Store.{Store, object, place, header, put-object, put-task, add-log, set-state, set-next, blocked}
-use Rattle.machine.specs.Scheduler.{AwaitedGather, as-awaited, bit, task-of, push-ready, spawn-as, spawn, spawn-unless}
+use Rattle.machine.specs.Store.{Store, object, place, header, put-object, add-log, set-state, blocked}
+use Rattle.machine.specs.Scheduler.{AwaitedGather, as-awaited, task-of, spawn-as, spawn, spawn-unless}
 use Rattle.machine.specs.Commit.{Poll, ready, raised, pending, Polled, await-pending, await-external, Item, polled, nested, polled-spawn, item-coroutine, item-gather, item-object, open-from, item}
 use Rattle.machine.specs.Commit.{open-place, fill-place, Stop, at-end, at-nested, at-error, put-polled, put-item, step-item, step-items, Frame, step-gather-commit}
 use Rattle.machine.specs.Commit.{set-gather, open-gather-commit, settle-as, settle-gather-commit, resume-in, resume-as, resume-after-child, unwind, Committed, turn, commit-loop, commit-gather-tree}
-use Rattle.machine.specs.Events.{How, value, raises, inline, Switched, Awaited, activate, resume-next, stays, go-on, await-coroutine, await-external-future, await-gather, await-object, exec-get-awaitable}
-use Rattle.machine_laws.specs.StoreLaws.{place-fits, object-put-other, object-put-header}
+use Rattle.machine.specs.Events.{value, raises, inline, Switched, Awaited, activate, resume-next, stays, go-on, await-coroutine, await-external-future, await-gather, await-object, exec-get-awaitable}
+use Rattle.machine_laws.specs.StoreLaws.{place-fits, object-put-other}
 use Rattle.machine_sessions.specs.Telling.{not-external}
+use Rattle.machine_sessions.specs.Spawned.{spawn-object}
 use Rattle.machine_sessions.specs.HonestWalk.{Delivers, Switching, Ends, resume-walk}
 
 -- a gather on the stack is completed, or fails
@@ -78,19 +78,12 @@ module _ (K : Store → Type 0) (P Q : ℕ → Type 0) (count : ℕ → ℕ) (ke
   await-still s g o c (ExternalFutureState.Resolved v) a ne = refl
   await-still s g o c (ExternalFutureState.Failed x) a ne = refl
 
-  pub spawn-still : (s : Store) (t c p g : ℕ) → object (spawn-as s t c p) g ≡ object s g
-  unfolding spawn-as push-ready add-log Rattle.machine.specs.Store.put-queue object
-  spawn-still s t c p g = unfold object in (moved-row (put-task s t _) (t + 1)) ∙ (unfold object put-task in refl)
-    where
-      moved-row : (u : Store) (n : ℕ) → object (set-next u n) g ≡ object u g
-      moved-row u n = unfold set-next in (object-put-header u _ g)
-
   spawn-walk : (s : Store) (g o f : ℕ) → o < object-limit → object s o ≡ Object.Coroutine f CoroutineState.New → Q o → K s → PolledKept s g (polled-spawn s (spawn s o g))
   unfolding spawn
   spawn-walk s g o f lo e q k = by (task-of s o) refl
     where
       room : (b : Bool) → ltb (header s .next) task-limit ≡ b → task-of s o ≡ none → PolledKept s g (polled-spawn s (pick b (some (spawn-as s (header s .next) o g)) none))
-      room true d n = unfold polled-spawn in (record { still = spawn-still s (header s .next) o g g; keeps = kept .spawns s o g f (ltb-true _ _ d) lo e n q k })
+      room true d n = unfold polled-spawn in (record { still = spawn-object s (header s .next) o g g; keeps = kept .spawns s o g f (ltb-true _ _ d) lo e n q k })
       room false d n = unfold polled-spawn in (same s g _ k)
 
       by : (d : Option ℕ) → task-of s o ≡ d → PolledKept s g (polled-spawn s (spawn-unless s o g d))

@@ -1,12 +1,9 @@
--- What an event leaves, by how it ends: the log is right, tasks are spawned for what the history says, new coroutines are those that no answer named, and who
--- has control is live, not blocked, and starts or runs inline what it may.
-use mathlib.Core.Path.{_≡_, refl, sym, ap, ap₂, subst, _∙_}
+-- What an event leaves, by how it ends: a right log, tasks and new coroutines as the history says, and who has control is live, not blocked, and may start.
+use mathlib.Core.Path.{_≡_, refl, sym, ap, subst, _∙_}
 use mathlib.Core.Bool.{Bool, true, false, _||_, true≢false}
-use mathlib.Core.List.{List, [], _∷_}
+use mathlib.Core.List.{List, _∷_}
 use mathlib.Core.Option.{Option, none, some}
-use Prim.Native.Nat.{ℕ, zero, suc, _+_, _≤_, _<_}
-use native.Mathlib.Nat.{not-suc-le-zero}
-use native.Mathlib.Omega.{arith}
+use Prim.Native.Nat.{ℕ, zero, suc, _+_, _<_}
 use native.Mathlib.Decide.{ℕ-discrete}
 use lib.Dec.{eqb}
 use borrow.Author.Tests.{eq-eqb, ne-eqb}
@@ -24,17 +21,16 @@ use Rattle.asyncio.specs.Ranges.{ObjectFits, MomentFits}
 use Rattle.asyncio.specs.States.{is-live, is-ready, is-blocked, is-unstarted}
 use Rattle.machine.specs.Store.{Store, LogEntry, task, object, header, put-task, put-header, put-object, restate, set-state, set-moment, forget}
 use Rattle.machine.specs.Scheduler.{live}
-use Rattle.machine.specs.Events.{How, start, value, raises, inline, Control, runs, waits, Switched, run, yield, new-function}
+use Rattle.machine.specs.Events.{How, start, value, raises, inline, Control, runs, waits, Switched, run, yield}
 use Rattle.machine.specs.History.{Entry, Making, said, tells, later, making, lives-by, lives, blocked-by, stays-blocked, spawned-by, spawned-for, running, started-by, coroutine-of}
 use Rattle.machine.specs.Honest.{names-by, named, MakesCoroutine, spawns, spawns-in}
-use Rattle.machine_laws.specs.Views.{Sized}
-use Rattle.machine_laws.specs.StoreLaws.{task-fits, object-fits, sized-set-state, sized-set-moment, sized-put-object, object-put-object, object-put-other, header-put-object}
+use Rattle.machine_laws.specs.StoreLaws.{task-fits, object-fits, sized-set-state, sized-set-moment, object-put-object, object-put-other}
 use Rattle.machine_sessions.specs.Calls.{moment-row}
-use Rattle.machine_sessions.specs.Tracked.{Tracked, live-is, tracked-closed}
+use Rattle.machine_sessions.specs.Tracked.{tracked-closed}
 use Rattle.machine_sessions.specs.Standing.{moment-head}
 use Rattle.machine_sessions.specs.Agrees.{none-made}
 use Rattle.machine_sessions.specs.Telling.{new-object}
-use Rattle.machine_sessions.specs.Spawned.{Shape, new, used, shape, is-used, is-co, new-shape, TaskFrom, Spawned, SameSpawns, same-spawns, live-below, spawned-like, runs-spawned, state-spawned, use-spawned, spawned-as, spawned-then}
+use Rattle.machine_sessions.specs.Spawned.{Shape, new, used, shape, is-used, TaskFrom, Spawned, same-spawns, live-below, spawned-like, runs-spawned, state-spawned, use-spawned, spawned-as, spawned-then}
 use Rattle.machine_sessions.specs.HonestWalk.{Ends, waited, started, woke, raised-it, row-task}
 use Rattle.machine_sessions.specs.HonestLog.{LogRight, Origins, Logged, row-log, is-live-now, lives-now, free-now}
 

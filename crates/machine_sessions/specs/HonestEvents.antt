@@ -1,15 +1,14 @@
 -- What completions, failures, resumes, results, cancels and main's end leave: `Left`, and what must happen has happened.
 use mathlib.Core.Path.{_≡_, refl, sym, ap, subst, _∙_}
-use mathlib.Core.Bool.{Bool, true, false, not, _||_, true≢false}
+use mathlib.Core.Bool.{Bool, true, false, _||_, true≢false}
 use mathlib.Core.List.{List, [], _∷_}
 use mathlib.Core.Option.{Option, none, some}
-use mathlib.Core.Logic.{_⊎_, inl, inr}
+use mathlib.Core.Logic.{inl, inr}
 use Prim.Native.Nat.{ℕ, zero, suc, _+_, _≤_, _<_}
 use native.Mathlib.Nat.{not-suc-le-zero}
 use native.Mathlib.Omega.{arith}
 use native.Mathlib.Decide.{ℕ-discrete}
-use lib.Dec.{T, eqb, ltb}
-use lib.ListN.{length}
+use lib.Dec.{eqb, ltb}
 use borrow.Author.Tests.{eq-eqb, ne-eqb, ltb-true}
 use Rattle.asyncio.specs.declared.TaskId.{TaskId}
 use Rattle.asyncio.specs.declared.Value.{Value}
@@ -21,31 +20,31 @@ use Rattle.asyncio.specs.declared.CoroutineState.{CoroutineState}
 use Rattle.asyncio.specs.declared.Object.{Object}
 use Rattle.asyncio.specs.declared.Header.{Header}
 use Rattle.asyncio.specs.declared.Moment.{Moment}
-use Rattle.asyncio.specs.Limits.{object-limit, task-limit, places-length}
+use Rattle.asyncio.specs.Limits.{task-limit}
 use Rattle.asyncio.specs.Numbers.{task-id}
-use Rattle.asyncio.specs.Ranges.{ObjectFits, MomentFits}
+use Rattle.asyncio.specs.Ranges.{ObjectFits}
 use Rattle.asyncio.specs.RangeLaws.{object-back}
 use Rattle.asyncio.specs.Layout.{object-words, to-object}
 use Rattle.asyncio.specs.States.{pick, is-live, is-blocked, is-unstarted}
 use Rattle.queue.specs.Queue.{empty-queue}
-use Rattle.machine.specs.Store.{Store, LogEntry, spawned, blocked, reached, exited, removed, task, object, header, put-task, put-header, put-object, put-queue, add-log, set-state, set-moment, absent}
+use Rattle.machine.specs.Store.{Store, LogEntry, reached, exited, removed, task, object, header, put-task, put-header, put-object, put-queue, add-log, set-state, set-moment, absent}
 use Rattle.machine.specs.Scheduler.{live, pending-call-ids, remove-task, cancel-task, remove-from, cleanup}
-use Rattle.machine.specs.Delivery.{deliver-awaiter-success, deliver-awaiter-failure}
-use Rattle.machine.specs.Events.{How, start, value, raises, Control, runs, waits, Switched, Result, run, yield, activate, resume-next, resume-after-task-exit, handle-task-failure, handle-task-completion, completed, apply-future-results}
+use Rattle.machine.specs.Delivery.{deliver-awaiter-failure}
+use Rattle.machine.specs.Events.{How, value, raises, Control, waits, Switched, Result, run, yield, activate, resume-next, handle-task-failure, handle-task-completion, completed, apply-future-results}
 use Rattle.machine.specs.History.{Entry, said, lives, stays-blocked, spawned-for, running, coroutine-of}
 use Rattle.machine.specs.Honest.{spawns, ends-task, exits-in, removes-in, ended, RemoveHonest}
 use Rattle.machine_laws.specs.Views.{Sized}
 use Rattle.machine_laws.specs.StoreLaws.{task-fits, object-fits, header-fits, live-put-task, task-put-other, sized-put-task, sized-add-log, sized-put-queue, sized-set-state}
-use Rattle.machine_laws.specs.WokenLaws.{WokenFits, success-woken, failure-woken}
+use Rattle.machine_laws.specs.WokenLaws.{failure-woken}
 use Rattle.machine_theorems.specs.Soundness.Stores.{SoundStore}
 use Rattle.machine_theorems.specs.Soundness.Exits.{runner-low, runner-runs}
 use Rattle.machine_theorems.specs.Gather.ReceivedEvents.{remove-sized}
 use Rattle.machine_sessions.specs.Standing.{moment-head}
-use Rattle.machine_sessions.specs.Tracked.{Tracked, live-is, live-low}
+use Rattle.machine_sessions.specs.Tracked.{Tracked, live-low}
 use Rattle.machine_sessions.specs.Spawned.{Shape, shape, is-used, used-old, Spawned}
 use Rattle.machine_sessions.specs.HonestWalk.{Delivers, Switching, Ends, waited, started, woke, raised-it, Fixed, IsSpawned, failure-fixed, resume-walk, leave-walk, completion-walk, results-walk, cancel-walk, row-task}
 use Rattle.machine_sessions.specs.HonestLog.{LogRight, Origins, Logged, row-log, wakes-log, gone-log, is-live-now, row-logged, exits-logged, goes-logged, settles-logged, logged-delivers, logged-switching}
-use Rattle.machine_sessions.specs.HonestIdle.{Idle, Begun, Cancels, goes-cancels}
+use Rattle.machine_sessions.specs.HonestIdle.{Idle, Cancels, goes-cancels}
 use Rattle.machine_sessions.specs.HonestEnds.{Left, Leaves, none-plain, ControlLeft, logged-left, ends-left}
 
 -- ---- K, and what is known of the log for good

@@ -1,44 +1,37 @@
--- What happened is what events and answers say, for each event that is accepted: all of `EntryHonest` but what is handed to a task that runs on.
+-- What happened is what events and answers say, for each accepted event: all of `EntryHonest` but what is handed to a task that runs on.
 use mathlib.Core.Path.{_≡_, refl, sym, ap, subst, _∙_}
-use mathlib.Core.Bool.{Bool, true, false, not, _&&_, _||_, true≢false}
+use mathlib.Core.Bool.{Bool, true, false, not, _||_, true≢false}
 use mathlib.Core.List.{List, [], _∷_}
 use mathlib.Core.Option.{Option, none, some, Option·some-injective}
 use Prim.Native.Nat.{ℕ, zero, suc, _+_, _≤_, _<_}
 use native.Mathlib.Nat.{not-suc-le-zero}
 use native.Mathlib.Omega.{arith}
-use lib.Dec.{T, eqb, ltb, leb}
+use lib.Dec.{eqb, ltb}
 use lib.ListN.{length}
-use borrow.Author.Tests.{ne-eqb, eqb-true, eqb-false, leb-false, ltb-false}
-use Rattle.asyncio.specs.declared.TaskId.{TaskId}
+use borrow.Author.Tests.{ne-eqb, eqb-false, leb-false, ltb-false}
 use Rattle.asyncio.specs.declared.Value.{Value}
 use Rattle.asyncio.specs.declared.Error.{Error}
 use Rattle.asyncio.specs.declared.Header.{Header}
 use Rattle.asyncio.specs.declared.Moment.{Moment}
-use Rattle.asyncio.specs.Limits.{object-limit, item-limit, place-limit, call-limit, task-limit}
+use Rattle.asyncio.specs.Limits.{object-limit, item-limit, place-limit, call-limit}
 use Rattle.asyncio.specs.Numbers.{task-id}
 use Rattle.asyncio.specs.States.{pick}
-use Rattle.queue.specs.Queue.{entries}
-use Rattle.machine.specs.Store.{Store, LogEntry, task, object, header, forget, set-calls}
+use Rattle.machine.specs.Store.{Store, LogEntry, object, header, forget}
 use Rattle.machine.specs.Scheduler.{live, pending-call-ids, cancel-task, cleanup}
 use Rattle.machine.specs.Events.{How, start, value, raises, inline, Control, runs, waits, Switched, Awaited, Result, activate, resume-next, handle-task-completion, handle-task-failure, exec-get-awaitable, apply-future-results, make-coroutine, make-pending, make-settled, make-gather}
 use Rattle.machine.specs.Machine.{Event, Answer, Shown, Step, switched, answer-await, end-main, task-completes, task-fails, runner, repeat-wait, resume-with-resolved-futures, refusals, refusal, full, no-number, accept, in-both}
 use Rattle.machine.specs.Sound.{is-ended}
-use Rattle.machine.specs.History.{Entry, Says, says, nothing-said, said, tells, done-only, is-none, lives-by, lives, blocked-by, stays-blocked, spawned-for, running, coroutine-of}
+use Rattle.machine.specs.History.{Entry, Says, says, nothing-said, said, tells, done-only, is-none, lives-by, lives, stays-blocked, spawned-for, running, coroutine-of}
 use Rattle.machine.specs.Sessions.{InRange, happened-by, entry-of}
 use Rattle.machine.specs.Honest.{has-value, ends-task, runs-task, spawns, blocks-in, exits-in, removes-in, LogHonest, ToldHonest, ControlHonest, EntryHonest}
-use Rattle.machine_laws.specs.Views.{Sized}
-use Rattle.machine_laws.specs.Facts.{Nothing}
 use Rattle.machine_laws.specs.StoreLaws.{header-fits}
-use Rattle.machine_laws.specs.DeliveryLaws.{absurd-some}
 use Rattle.machine_laws.specs.SoundLaws.{pass, running-rest, refusal-rest}
 use Rattle.machine_laws.specs.TestLaws.{or-left, or-right}
 use Rattle.machine_theorems.specs.Soundness.Stores.{SoundStore}
 use Rattle.machine_theorems.specs.Soundness.Preserved.{waiting, await-made}
 use Rattle.machine_sessions.specs.Tracked.{Tracked, live-low}
 use Rattle.machine_sessions.specs.TrackedEvents.{accept-tracked}
-use Rattle.machine_sessions.specs.Following.{accept-accepts}
 use Rattle.machine_sessions.specs.Waits.{said-accepted}
-use Rattle.machine_sessions.specs.Standing.{Stands}
 use Rattle.machine_sessions.specs.StandingEvents.{StepRight}
 use Rattle.machine_sessions.specs.StandingAwait.{accept-right, ends}
 use Rattle.machine_sessions.specs.Agrees.{Agrees}
@@ -47,7 +40,7 @@ use Rattle.machine_sessions.specs.HonestWalk.{Ends, IsSpawned}
 use Rattle.machine_sessions.specs.HonestLog.{BlockRight, LogRight, log-honest, Origins, Logged}
 use Rattle.machine_sessions.specs.HonestIdle.{NoFresh, Idle, empty-begun, Begun, results-begun}
 use Rattle.machine_sessions.specs.HonestEnds.{StartTold, ControlLeft, Left, Leaves, none-plain, waits-plain}
-use Rattle.machine_sessions.specs.HonestEvents.{Held, WaitsThen, complete-ends, fail-ends, exit-left, exit-logged, exit-waits, resume-left, resume-waits, same-left, results-left, cancel-left, cancel-logged, cancel-idle, end-log-right, end-dead}
+use Rattle.machine_sessions.specs.HonestEvents.{Held, complete-ends, fail-ends, exit-left, exit-logged, exit-waits, resume-left, resume-waits, same-left, results-left, cancel-left, cancel-logged, cancel-idle, end-log-right, end-dead}
 use Rattle.machine_sessions.specs.HonestAwait.{await-left, await-blocks, await-waits}
 use Rattle.machine_sessions.specs.HonestMakes.{Adds, call-adds, settled-adds, settled-shape, coroutine-adds, coroutine-shape, pending-adds, pending-shape, gather-adds, gather-used, co-used, calls-object, makes-left, adds-left}
 

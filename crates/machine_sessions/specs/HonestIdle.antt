@@ -1,34 +1,30 @@
 -- In waiting no task is unstarted; and a ready task stands in the queue, after a cancel too.
 use mathlib.Core.Path.{_≡_, refl, sym, ap, subst, _∙_}
-use mathlib.Core.Bool.{Bool, true, false, true≢false}
-use mathlib.Core.List.{List, [], _∷_}
-use mathlib.Core.Option.{Option, none, some}
-use Prim.Native.Nat.{ℕ, zero, suc, _+_, _≤_, _<_}
+use mathlib.Core.Bool.{false}
+use mathlib.Core.List.{List, []}
+use Prim.Native.Nat.{ℕ, _≤_, _<_}
 use native.Mathlib.Nat.{not-suc-le-zero}
 use native.Mathlib.Omega.{arith}
 use native.Mathlib.Decide.{ℕ-discrete}
 use lib.ListN.{length}
-use Rattle.asyncio.specs.declared.TaskId.{TaskId}
 use Rattle.asyncio.specs.declared.TaskState.{TaskState}
 use Rattle.asyncio.specs.declared.Task.{Task}
-use Rattle.asyncio.specs.declared.Object.{Object}
 use Rattle.asyncio.specs.declared.Header.{Header}
 use Rattle.asyncio.specs.declared.Moment.{Moment}
 use Rattle.asyncio.specs.Limits.{task-limit}
-use Rattle.asyncio.specs.States.{is-live, is-ready, is-unstarted}
+use Rattle.asyncio.specs.States.{is-ready, is-unstarted}
 use Rattle.queue.specs.declared.ReadyQueue.{ReadyQueue}
 use Rattle.queue.specs.Queue.{entries, occurrences, remove}
 use Rattle.queue.specs.QueueLaws.{remove-len, remove-length}
-use Rattle.machine.specs.Store.{Store, LogEntry, task, object, header, put-task, put-object, put-places, put-queue, add-log, restate, reached, removed, absent}
-use Rattle.machine.specs.Scheduler.{make-ready, remove-from-ready-queue, remove-task, cancel-task}
+use Rattle.machine.specs.Store.{Store, LogEntry, task, header, put-task, put-places, put-queue, add-log, restate, reached, removed, absent}
+use Rattle.machine.specs.Scheduler.{make-ready, remove-from-ready-queue, remove-task}
 use Rattle.machine.specs.Events.{Result, apply-future-results}
 use Rattle.machine_laws.specs.Views.{Sized}
 use Rattle.machine_laws.specs.Facts.{Nothing}
 use Rattle.machine_laws.specs.StoreLaws.{header-fits, header-put-object, task-put-other, sized-put-object, sized-put-places, sized-put-task, sized-put-queue, sized-add-log, sized-set-state}
-use Rattle.machine_theorems.specs.Soundness.Stores.{SoundStore}
 use Rattle.machine_sessions.specs.Standing.{Stands, removed-stands}
 use Rattle.machine_sessions.specs.Spawned.{unstarted-back}
-use Rattle.machine_sessions.specs.HonestWalk.{Delivers, IsSpawned, results-walk, cancel-walk, row-task, places-task, wakes-task}
+use Rattle.machine_sessions.specs.HonestWalk.{Delivers, IsSpawned, results-walk, row-task, places-task, wakes-task}
 use Rattle.machine_sessions.specs.HonestLog.{gone-task, gone-header, wakes-header}
 
 -- no task is unstarted

@@ -1,39 +1,32 @@
--- The log in the midst of an event: each entry is what the events and answers before it, and the entry of the event itself, say. `LogRight` is `LogHonest` but for
--- the answer to an await that blocks, which is not known yet; `Logged` has with it what a store must have, and is kept by deliveries, switches, results and cancels.
+-- `LogRight`, the log in the midst of an event (`LogHonest` but for the answer to an await that blocks), kept by deliveries, switches, results and cancels.
 use mathlib.Core.Path.{_≡_, refl, sym, ap, subst, _∙_}
-use mathlib.Core.Bool.{Bool, true, false, not, _&&_, _||_, true≢false}
+use mathlib.Core.Bool.{Bool, true, false, _||_, true≢false}
 use mathlib.Core.List.{List, [], _∷_}
 use mathlib.Core.Option.{Option, none, some}
-use mathlib.Core.Logic.{_⊎_, inl, inr}
-use Prim.Native.Nat.{ℕ, zero, suc, _+_, _≤_, _<_}
+use Prim.Native.Nat.{ℕ, zero, suc, _<_}
 use native.Mathlib.Nat.{not-suc-le-zero}
 use native.Mathlib.Omega.{arith}
 use lib.Dec.{eqb}
 use lib.ListN.{length}
 use borrow.Author.Tests.{eq-eqb, ne-eqb}
-use Rattle.asyncio.specs.declared.TaskId.{TaskId}
-use Rattle.asyncio.specs.declared.HeapId.{HeapId}
-use Rattle.asyncio.specs.declared.Awaiter.{Awaiter}
 use Rattle.asyncio.specs.declared.TaskState.{TaskState}
-use Rattle.asyncio.specs.declared.Task.{Task}
 use Rattle.asyncio.specs.declared.GatherState.{GatherState}
 use Rattle.asyncio.specs.declared.Object.{Object}
 use Rattle.asyncio.specs.Limits.{object-limit, task-limit, places-length}
-use Rattle.asyncio.specs.Ranges.{ObjectFits, PlacesFit}
 use Rattle.asyncio.specs.Layout.{object-words, to-object}
 use Rattle.asyncio.specs.States.{is-live, is-ready, is-blocked, is-unstarted}
 use Rattle.queue.specs.declared.ReadyQueue.{ReadyQueue}
-use Rattle.machine.specs.Store.{Store, LogEntry, spawned, blocked, reached, exited, removed, task, object, header, put-task, put-object, put-places, put-queue, add-log, restate, set-state, absent}
-use Rattle.machine.specs.Scheduler.{AwaitedGather, PendingExternal, as-awaited, as-pending, live, make-ready, push-ready, remove-from-ready-queue, remove-task, spawn-as}
+use Rattle.machine.specs.Store.{Store, LogEntry, spawned, blocked, reached, exited, removed, task, object, header, put-task, put-object, put-places, put-queue, add-log, set-state, absent}
+use Rattle.machine.specs.Scheduler.{AwaitedGather, PendingExternal, as-awaited, as-pending, live, make-ready, push-ready, remove-from-ready-queue, remove-task}
 use Rattle.machine.specs.Events.{new-function}
 use Rattle.machine.specs.History.{Entry, said, is-none, making, lives-by, lives, blocked-by, stays-blocked, spawned-by, spawned-for, running, coroutine-of, tells}
-use Rattle.machine.specs.Honest.{named, MakesCoroutine, spawns, spawns-in, blocks-in, runs-task, SpawnHonest, BlockHonest, ReachHonest, ExitReason, ended, reused, ExitHonest, RemoveHonest, LogHonest}
+use Rattle.machine.specs.Honest.{named, MakesCoroutine, spawns, spawns-in, blocks-in, runs-task, SpawnHonest, ReachHonest, ExitReason, reused, ExitHonest, RemoveHonest, LogHonest}
 use Rattle.machine_laws.specs.Views.{Sized}
-use Rattle.machine_laws.specs.StoreLaws.{object-fits, sized-put-places, sized-put-queue, sized-add-log, sized-set-state, sized-put-task}
+use Rattle.machine_laws.specs.StoreLaws.{sized-put-places, sized-put-queue}
 use Rattle.machine_laws.specs.DeliveryLaws.{awaited-object, awaited-fits, pending-object}
-use Rattle.machine_sessions.specs.Tracked.{Tracked, live-low, live-is, row-tracked, exits-tracked, tracked-closed}
-use Rattle.machine_sessions.specs.Spawned.{Shape, other, new, used, many, shape, is-used, is-co, gather-shape, external-shape, old-shape, TaskFrom, Spawned, SameSpawns, same-spawns, live-below, spawned-like, row-spawned, state-spawned, gone-spawned}
-use Rattle.machine_sessions.specs.HonestWalk.{Goes, Delivers, Switching, IsSpawned, row-task, places-task, places-object, wakes-object, wakes-task}
+use Rattle.machine_sessions.specs.Tracked.{Tracked, live-is, row-tracked, exits-tracked, tracked-closed}
+use Rattle.machine_sessions.specs.Spawned.{Shape, other, new, shape, is-used, is-co, gather-shape, external-shape, old-shape, TaskFrom, Spawned, SameSpawns, same-spawns, live-below, spawned-like, row-spawned, state-spawned, gone-spawned}
+use Rattle.machine_sessions.specs.HonestWalk.{Delivers, Switching, places-task, places-object, wakes-object, wakes-task}
 
 -- the running task blocks at an await
 abbrev pub BlockRight : List Entry → Entry → ℕ → Type 0

@@ -1,12 +1,11 @@
--- What the events that make an object, and the one that hands out a call number, leave: tasks as they were, and one coroutine more that is new, or none.
+-- What the events that make an object, and the one that hands out a call number, leave: tasks as they were, and one new coroutine more, or none.
 use mathlib.Core.Path.{_≡_, refl, sym, ap, subst, _∙_}
 use mathlib.Core.Bool.{Bool, true, false, _||_, true≢false}
 use mathlib.Core.List.{List, [], _∷_}
 use mathlib.Core.Option.{Option, none, some}
-use Prim.Native.Nat.{ℕ, zero, suc, _+_, _≤_, _<_}
+use Prim.Native.Nat.{ℕ, suc, _+_, _≤_, _<_}
 use native.Mathlib.Omega.{arith}
 use native.Mathlib.Decide.{ℕ-discrete}
-use lib.Dec.{eqb}
 use lib.ListN.{length}
 use borrow.Author.Tests.{eq-eqb, ne-eqb}
 use Rattle.asyncio.specs.declared.Value.{Value}
@@ -18,18 +17,16 @@ use Rattle.asyncio.specs.declared.ExternalFutureState.{ExternalFutureState}
 use Rattle.asyncio.specs.declared.GatherState.{GatherState}
 use Rattle.asyncio.specs.declared.Object.{Object}
 use Rattle.asyncio.specs.declared.Header.{Header}
-use Rattle.asyncio.specs.declared.Moment.{Moment}
 use Rattle.asyncio.specs.Limits.{object-limit, place-limit, call-limit, u32-limit}
 use Rattle.asyncio.specs.Numbers.{call-id, heap-id}
 use Rattle.asyncio.specs.Ranges.{HeaderFits}
 use Rattle.asyncio.specs.RangeLaws.{object-back}
 use Rattle.asyncio.specs.Layout.{object-words, to-object}
 use Rattle.asyncio.specs.States.{is-live, is-unstarted}
-use Rattle.machine.specs.Store.{Store, LogEntry, task, object, header, put-header, put-object, put-place, set-calls, add-object, forget}
-use Rattle.machine.specs.Scheduler.{live}
+use Rattle.machine.specs.Store.{Store, task, object, header, put-header, put-object, put-place, set-calls, add-object}
 use Rattle.machine.specs.Events.{Control, make-coroutine, make-pending, make-settled, put-items, make-gather}
 use Rattle.machine.specs.Machine.{Event}
-use Rattle.machine.specs.History.{Entry, Making, tells, is-at, later, making, spawned-by, spawned-for, started-by, coroutine-of}
+use Rattle.machine.specs.History.{Entry, Making, tells, is-at, later, making, spawned-for, started-by, coroutine-of}
 use Rattle.machine.specs.Honest.{names-by, named, MakesCoroutine, spawns}
 use Rattle.machine_laws.specs.Views.{Sized}
 use Rattle.machine_laws.specs.StoreLaws.{header-fits, header-put-header, header-put-object, object-put-other, object-put-header, sized-put-object, sized-put-header, sized-set-calls}
@@ -41,7 +38,7 @@ use Rattle.machine_sessions.specs.TrackedEvents.{items-tasks, items-log}
 use Rattle.machine_sessions.specs.Told.{Frozen, frozen}
 use Rattle.machine_sessions.specs.Agrees.{Agrees, none-made}
 use Rattle.machine_sessions.specs.Spawned.{Shape, shape, is-used, is-co, external-shape, TaskFrom, Spawned, SameSpawns, same-spawns, spawned-as}
-use Rattle.machine_sessions.specs.HonestLog.{LogRight, Origins}
+use Rattle.machine_sessions.specs.HonestLog.{LogRight}
 use Rattle.machine_sessions.specs.HonestEnds.{ControlLeft, Left, Leaves, none-plain, makes-later, spawns-later}
 use Rattle.machine_sessions.specs.HonestEvents.{Held}
 

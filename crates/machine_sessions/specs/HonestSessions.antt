@@ -1,5 +1,4 @@
--- What happened is what events and answers say, in every session: all of `EntryHonest` but what is handed to a task that runs on (`EntryLogged`, and
--- `entry-honest-from` with that), and in waiting a cancel is refused with 5 exactly for a task that is not live.
+-- What happened is what events and answers say, in every session: all of `Honest` but the word blocked and what is handed to a task that runs on.
 use mathlib.Core.Path.{_≡_, refl, sym, ap, subst, _∙_}
 use mathlib.Core.Bool.{Bool, true, false, not, _&&_, _||_, true≢false}
 use mathlib.Core.List.{List, [], _∷_}
@@ -14,26 +13,24 @@ use lib.ListN.{getD, replicate}
 use Rattle.asyncio.specs.declared.TaskState.{TaskState}
 use Rattle.asyncio.specs.declared.Task.{Task}
 use Rattle.asyncio.specs.declared.Object.{Object}
-use Rattle.asyncio.specs.declared.Header.{Header}
 use Rattle.asyncio.specs.declared.Moment.{Moment}
-use Rattle.asyncio.specs.Limits.{task-limit, tasks-length, objects-length}
+use Rattle.asyncio.specs.Limits.{tasks-length, objects-length}
 use Rattle.asyncio.specs.Numbers.{task-id}
 use Rattle.asyncio.specs.Layout.{to-object, to-task}
 use Rattle.rows.specs.Rows.{row-from}
 use Rattle.rows.specs.Tables.{object-at, task-at, object-start, task-start}
 use Rattle.asyncio.specs.States.{pick, is-live, is-ready, is-unstarted}
-use Rattle.machine.specs.Store.{Store, LogEntry, task, object, header, forget, fresh, empty, put-task, put-header}
+use Rattle.machine.specs.Store.{Store, task, object, header, forget, fresh, empty, put-task, put-header}
 use Rattle.machine.specs.Scheduler.{live}
 use Rattle.machine.specs.Events.{How, Control, runs}
-use Rattle.machine.specs.Machine.{Event, Answer, Shown, Step, is-run, first-refusal, in-waiting, refusals, refusal, accept, step}
+use Rattle.machine.specs.Machine.{Event, Answer, Shown, Step, is-run, first-refusal, in-waiting, refusals, refusal, step}
 use Rattle.machine.specs.Sound.{is-ended, sound}
 use Rattle.machine.specs.Lent.{Lent}
-use Rattle.machine.specs.History.{Entry, Making, Says, nothing-said, said, tells, is-none, later, making, lives-by, lives, stays-blocked, spawned-by, spawned-for, started-by, coroutine-of}
+use Rattle.machine.specs.History.{Entry, Making, Says, nothing-said, said, tells, is-none, making, lives-by, lives, stays-blocked, spawned-by, spawned-for, started-by, coroutine-of}
 use Rattle.machine.specs.Sessions.{Sent, happened-by, entry-of, lent-any, Session, begun, send, send-all, session, InRange, AllSentInRange}
-use Rattle.machine.specs.Honest.{has-value, ends-task, runs-task, names-by, named, MakesCoroutine, spawns, spawns-in, left-waiting, waits-at, last-await, ToldHonest, EntryHonest, StateHonest, LogHonest}
+use Rattle.machine.specs.Honest.{has-value, ends-task, names-by, named, MakesCoroutine, spawns, spawns-in, left-waiting, waits-at, last-await, ToldHonest, EntryHonest, StateHonest, LogHonest, HonestSessions}
 use Rattle.machine.specs.DemandThree.{look}
 use Rattle.machine.specs.Computes.{computes}
-use Rattle.machine_laws.specs.Facts.{Nothing}
 use Rattle.machine_laws.specs.DeliveryLaws.{absurd-some}
 use Rattle.machine_laws.specs.MachineLaws.{accepted-step, refused-step}
 use Rattle.machine_laws.specs.SoundLaws.{refusal-forget}
@@ -43,12 +40,11 @@ use Rattle.machine_theorems.specs.Soundness.Sessions.{forget-sound-store, fresh
 use Rattle.machine_sessions.specs.Tracked.{Tracked}
 use Rattle.machine_sessions.specs.Following.{accept-accepts, Sends, stepped, short, sends, Following, send-following, session-follows}
 use Rattle.machine_sessions.specs.Waits.{said-refused}
-use Rattle.machine_sessions.specs.Standing.{Stands, stands-like}
+use Rattle.machine_sessions.specs.Standing.{stands-like}
 use Rattle.machine_sessions.specs.Agrees.{Agrees, none-made}
 use Rattle.machine_sessions.specs.AgreesEvents.{forget-agrees}
 use Rattle.machine_sessions.specs.AgreesSessions.{send-agrees, session-agrees}
-use Rattle.machine_sessions.specs.Spawned.{Shape, shape, is-used, is-co, Spawned, spawned-as}
-use Rattle.machine_sessions.specs.HonestLog.{Origins}
+use Rattle.machine_sessions.specs.Spawned.{Shape, shape, is-used, is-co, spawned-as}
 use Rattle.machine_sessions.specs.HonestIdle.{Idle}
 use Rattle.machine_sessions.specs.HonestEnds.{ControlLeft, none-plain, makes-later, spawns-later}
 use Rattle.machine_sessions.specs.HonestHolds.{EntryLogged, IsHanded, entry-honest, Kept, Stepped, accept-stepped}
@@ -369,3 +365,12 @@ state-honest-from es i b =
       dead = λ t d. dead-refused (session es .store) t (f .whole) (sym (live-words (session es) f t) ∙ d);
       alive = λ t d. live-not-refused (session es .store) t (f .whole) (sym (live-words (session es) f t) ∙ d);
     }
+
+-- With both, what is asked of every session.
+pub honest-sessions-from :
+    ((es : List Sent) (e : Sent) → AllSentInRange es → InRange (e .event) → (t : ℕ) (a : How) → tells (sent-entry es e .answer) .control ≡ some (runs t a) → IsHanded a
+    → ToldHonest (session es .history) (sent-entry es e) (look (send (session es) e .store)) t a)
+    → ((es : List Sent) → AllSentInRange es → (t : ℕ) → lives (session es .history) t ≡ true
+    → stays-blocked (session es .history) t ≡ (left-waiting (session es .history) t && waits-at (look (session es .store)) (last-await (session es .history) t)))
+    → HonestSessions
+honest-sessions-from told stuck es e i j = (entry-honest-from es e (look (send (session es) e .store)) i j (told es e i j), state-honest-from es i (stuck es i))

@@ -1,12 +1,10 @@
--- Deliveries, switches, results and cancels walked once more, with what each write knows of the task and of the awaiter that it is for: which task exits,
--- and why; which awaiter a delivery goes to. `Ends` is what a switch ends with.
+-- Deliveries, switches, results and cancels walked with what each write knows: which awaiter a delivery goes to, which task exits, and why.
 use mathlib.Core.Path.{_≡_, refl, sym, ap, subst, _∙_}
 use mathlib.Core.Bool.{Bool, true, false, not, _&&_, true≢false}
 use mathlib.Core.List.{List, [], _∷_}
 use mathlib.Core.Option.{Option, none, some, Option·some-injective}
 use Prim.Native.Nat.{ℕ, zero, suc, _+_, _-_, _≤_, _<_}
 use native.Mathlib.Omega.{arith}
-use native.Mathlib.Nat.{not-suc-le-zero}
 use native.Mathlib.Decide.{ℕ-discrete}
 use lib.Dec.{eqb}
 use lib.ListN.{length, getD}
@@ -22,7 +20,6 @@ use Rattle.asyncio.specs.declared.ExternalFutureState.{ExternalFutureState}
 use Rattle.asyncio.specs.declared.GatherState.{GatherState}
 use Rattle.asyncio.specs.declared.Object.{Object}
 use Rattle.asyncio.specs.Limits.{object-limit, task-limit, places-length}
-use Rattle.asyncio.specs.Numbers.{heap-id, task-id}
 use Rattle.asyncio.specs.Ranges.{AwaiterFits, ObjectFits}
 use Rattle.asyncio.specs.RangeLaws.{pick-has}
 use Rattle.asyncio.specs.Layout.{object-words, to-object}
@@ -36,12 +33,12 @@ use Rattle.machine.specs.Scheduler.{Walk, reach-if, reach, remove-blocked, visi
 use Rattle.machine.specs.Delivery.{Delivery, nobody-woken, deliver-to-task, Filled, fill-from, resolve-left, resolve-awaited, resolve-child, fail-awaited, fail-gather}
 use Rattle.machine.specs.Delivery.{climb, awaited-count, send-value, climb-value, deliver-awaiter-success, send-error, climb-error, deliver-awaiter-failure}
 use Rattle.machine.specs.Delivery.{value-or, resolve-pending, fail-pending, settle-pending, settle-found, resolve-future, fail-future}
-use Rattle.machine.specs.Events.{How, start, value, raises, Switched, run, yield, new-function, resume-next, resume-after-task-exit, handle-task-failure, start-by, start-task, activate-state, activate-within, activate, Result, apply-result, apply-future-results}
+use Rattle.machine.specs.Events.{start, value, raises, Switched, run, yield, new-function, resume-next, resume-after-task-exit, handle-task-failure, start-by, start-task, activate-state, activate-within, activate, Result, apply-result, apply-future-results}
 use Rattle.rows.specs.Tables.{task-at, header-at}
 use Rattle.rows.specs.TableLaws.{header-at-fits}
 use Rattle.machine_laws.specs.Views.{Sized}
 use Rattle.machine_laws.specs.StoreLaws.{task-fits, object-fits, header-fits, task-put-other, object-put-other}
-use Rattle.machine_laws.specs.DeliveryLaws.{absurd-some, awaited-object, pending-object, first-below, length-fill-from, resolve-sent, fail-sent}
+use Rattle.machine_laws.specs.DeliveryLaws.{absurd-some, pending-object, first-below, length-fill-from, resolve-sent, fail-sent}
 use Rattle.machine_laws.specs.WokenLaws.{WokenFits, success-woken, failure-woken}
 use Rattle.machine_sessions.specs.Calls.{read-back}
 

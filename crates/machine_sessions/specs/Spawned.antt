@@ -1,16 +1,14 @@
--- Tasks and what they were spawned for: the tasks' rows say what the log says. `shape` is what of an object's row stays until a coroutine starts: a
--- coroutine's function and whether it is new, a gather's places.
-use mathlib.Core.Path.{_≡_, refl, sym, ap, ap₂, subst, _∙_}
-use mathlib.Core.Bool.{Bool, true, false, not, _&&_, _||_, true≢false}
-use mathlib.Core.List.{List, [], _∷_}
+-- The tasks' rows say what the log says of spawned tasks: their number, their coroutines, who has started, and that a new coroutine's task lives still.
+use mathlib.Core.Path.{_≡_, refl, sym, ap, subst, _∙_}
+use mathlib.Core.Bool.{Bool, true, false, true≢false}
+use mathlib.Core.List.{List, _∷_}
 use mathlib.Core.Option.{Option, none, some, Option·some-injective}
 use Prim.Native.Nat.{ℕ, zero, suc, _+_, _≤_, _<_}
 use native.Mathlib.Nat.{not-suc-le-zero, mod-eq-of-lt}
 use native.Mathlib.Omega.{arith}
 use native.Mathlib.Decide.{ℕ-discrete}
-use lib.Dec.{eqb, ltb}
+use lib.Dec.{ltb}
 use borrow.Author.Tests.{eq-eqb, ne-eqb, ltb-true, ltb-false}
-use Rattle.asyncio.specs.declared.HeapId.{HeapId}
 use Rattle.asyncio.specs.declared.CallId.{CallId}
 use Rattle.asyncio.specs.declared.Awaiter.{Awaiter}
 use Rattle.asyncio.specs.declared.TaskState.{TaskState}
@@ -20,29 +18,26 @@ use Rattle.asyncio.specs.declared.ExternalFutureState.{ExternalFutureState}
 use Rattle.asyncio.specs.declared.GatherState.{GatherState}
 use Rattle.asyncio.specs.declared.Object.{Object}
 use Rattle.asyncio.specs.declared.Header.{Header}
-use Rattle.asyncio.specs.declared.Moment.{Moment}
 use Rattle.asyncio.specs.Limits.{object-limit, task-limit, u32-limit}
 use Rattle.asyncio.specs.Numbers.{heap-id}
-use Rattle.asyncio.specs.Ranges.{PlacesFit, MomentFits, TaskFits}
+use Rattle.asyncio.specs.Ranges.{PlacesFit}
 use Rattle.asyncio.specs.RangeLaws.{object-back}
 use Rattle.asyncio.specs.Layout.{object-words, to-object, task-words, to-task, state-words, to-state}
 use Rattle.rows.specs.Tables.{task-at, task-put, task-codec, task-start}
 use Rattle.rows.specs.RowLaws.{row-put-at}
-use Rattle.asyncio.specs.States.{is-live, is-ready, is-blocked, is-unstarted}
-use Rattle.queue.specs.declared.ReadyQueue.{ReadyQueue}
-use Rattle.machine.specs.Store.{Store, LogEntry, spawned, blocked, reached, exited, removed, task, object, header, put-task, put-header, put-object, put-queue, add-log, restate, set-state, set-moment, set-next, absent, forget}
-use Rattle.machine.specs.Scheduler.{live, make-ready, push-ready, remove-from-ready-queue, remove-task, spawn-as}
+use Rattle.asyncio.specs.States.{is-live, is-unstarted}
+use Rattle.machine.specs.Store.{Store, LogEntry, spawned, task, object, header, put-task, put-header, put-object, put-queue, add-log, restate, set-next, absent, forget}
+use Rattle.machine.specs.Scheduler.{live, push-ready, spawn-as}
 use Rattle.machine.specs.Events.{new-function}
 use Rattle.machine.specs.History.{spawned-by}
 use Rattle.machine.specs.Honest.{spawns-in}
 use Rattle.machine_laws.specs.Views.{Sized}
-use Rattle.machine_laws.specs.StoreLaws.{task-fits, header-fits, header-put-object, object-put-header, object-put-object, live-put-task, task-put-other, object-put-other, sized-put-object, sized-put-task, sized-put-queue, sized-add-log, sized-set-state, sized-set-moment, sized-forget}
+use Rattle.machine_laws.specs.StoreLaws.{task-fits, header-fits, header-put-object, object-put-header, object-put-object, live-put-task, task-put-other, object-put-other, sized-put-object, sized-forget}
 use Rattle.machine_laws.specs.SizedLaws.{sized-spawn-as}
 use Rattle.machine_laws.specs.DeliveryLaws.{absurd-some}
-use Rattle.machine_sessions.specs.Calls.{read-back, moment-row}
+use Rattle.machine_sessions.specs.Calls.{read-back}
 use Rattle.machine_sessions.specs.Tracked.{live-like, live-low, live-is, live-other, spawn-row, spawn-next}
-use Rattle.machine_sessions.specs.Standing.{moment-head}
-use Rattle.machine_sessions.specs.HonestWalk.{row-task, wakes-object, wakes-task}
+use Rattle.machine_sessions.specs.HonestWalk.{row-task}
 
 -- ---- shapes
 
