@@ -16,7 +16,7 @@ use Rattle.machine.specs.Lent.{slices-right, lengths-right, lent-by, lent-step,
 use Rattle.machine_laws.specs.Views.{Sized}
 use Rattle.machine_laws.specs.TestLaws.{is-true}
 use Rattle.machine_theorems.specs.Soundness.Stores.{SoundStore, sound-store-sound}
-use Rattle.machine_theorems.specs.Soundness.Preserved.{InRange}
+use Rattle.machine.specs.Sessions.{InRange}
 use Rattle.machine_theorems.specs.Soundness.Sessions.{forget-sound-store, step-sound-store, fresh-sound-store}
 use Rattle.exec_switch.specs.Answer.{stepped-of}
 use Rattle.exec_switch.specs.declared.answer.Answer.{Answer}

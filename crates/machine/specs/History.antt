@@ -1,37 +1,27 @@
--- Sessions, and the words of demand 3: live, blocked, unanswered, delivered. They are read off the events, the answers and
--- what happened, and never off the store. A history has its last entry first.
+-- The words of demands 2 and 3: live, blocked, unanswered, items, outcomes. They are read off a session's history, its events, answers and what
+-- happened (modules 2 to 5 write it into the log), and never off the store. A history has its last entry first.
 use Prim.Native.Nat.{ℕ, zero, suc}
 use mathlib.Core.Bool.{Bool, true, false, not, _&&_, _||_}
 use mathlib.Core.List.{List, [], _∷_}
 use mathlib.Core.Option.{Option, none, some}
 use lib.Dec.{eqb}
 use Rattle.asyncio.specs.declared.Value.{Value}
+use Rattle.asyncio.specs.declared.Error.{Error}
+use Rattle.asyncio.specs.declared.OptionValue.{OptionValue}
+use Rattle.asyncio.specs.States.{pick}
 use Rattle.asyncio.specs.declared.HeapId.{HeapId}
 use Rattle.asyncio.specs.Numbers.{heap-id}
-use Rattle.asyncio.specs.Layout.{to-value}
-use Rattle.machine.specs.Store.{Store, LogEntry, spawned, blocked, reached, exited, removed, fresh}
-use Rattle.machine.specs.Delivery.{value-or}
+use Rattle.asyncio.specs.Layout.{to-value, to-error}
+use Rattle.machine.specs.Store.{Store, LogEntry, spawned, blocked, reached, exited, removed}
 use Rattle.machine.specs.Events.{How, start, value, raises, inline, Control, runs, waits, Result}
-use Rattle.machine.specs.Machine.{Event, Answer, Step, step}
+use Rattle.machine.specs.Machine.{Event, Answer, Shown}
+use Rattle.machine.specs.Gather.{Outcome, returned, raised}
 
 -- An event of a session, its answer, and what happened, the last first.
 pub record Entry : Type 0 where
   pub event : Event
   pub answer : Answer
   pub happened : List LogEntry
-
--- the entry of a step
-unfoldable pub entry : Event → Step → Entry
-entry e x = record { event = e; answer = x .answer; happened = x .store .log }
-
--- the entries of a session from a store on, before those of h
-unfoldable pub history-from : Store → List Event → List Entry → List Entry
-history-from s [] h = h
-history-from s (e ∷ es) h = history-from (step s e .store) es (entry e (step s e) ∷ h)
-
--- the entries of a session from the beginning
-unfoldable pub history : List Event → List Entry
-history es = history-from fresh es []
 
 -- Live: main at first, a spawned task from its spawning until its exit or removal.
 
@@ -67,31 +57,34 @@ stays-blocked (x ∷ h) t = blocked-by (stays-blocked h t) (x .happened) t
 
 -- From here on, events and answers alone.
 
--- what an event says: the results in it, the call that it makes pending, the value that it completes with, its items, a cancel
+-- what an event says: the results in it, the call that it makes pending, the object that it awaits, the value that it completes with, the number that
+-- it fails with, its items, a cancel
 pub record Says : Type 0 where
   pub results : List Result
   pub pends : Option ℕ
+  pub awaits : Option ℕ
   pub completes : Option Value
+  pub fails : Option ℕ
   pub items : List ℕ
   pub cancels : Bool
 
 -- an event that says none of these
 unfoldable pub nothing-said : Says
-nothing-said = record { results = []; pends = none; completes = none; items = []; cancels = false }
+nothing-said = record { results = []; pends = none; awaits = none; completes = none; fails = none; items = []; cancels = false }
 
 -- what each event says
 unfoldable pub says : Event → Says
 says (Event.coroutine f) = nothing-said
 says Event.call = nothing-said
-says (Event.pending c r) = record { results = []; pends = some c; completes = none; items = []; cancels = false }
+says (Event.pending c r) = record { results = []; pends = some c; awaits = none; completes = none; fails = none; items = []; cancels = false }
 says (Event.settled v) = nothing-said
-says (Event.gather os) = record { results = []; pends = none; completes = none; items = os; cancels = false }
-says (Event.await o) = nothing-said
-says (Event.complete v) = record { results = []; pends = none; completes = some v; items = []; cancels = false }
-says (Event.fail n) = nothing-said
-says (Event.results rs) = record { results = rs; pends = none; completes = none; items = []; cancels = false }
+says (Event.gather os) = record { results = []; pends = none; awaits = none; completes = none; fails = none; items = os; cancels = false }
+says (Event.await o) = record { results = []; pends = none; awaits = some o; completes = none; fails = none; items = []; cancels = false }
+says (Event.complete v) = record { results = []; pends = none; awaits = none; completes = some v; fails = none; items = []; cancels = false }
+says (Event.fail n) = record { results = []; pends = none; awaits = none; completes = none; fails = some n; items = []; cancels = false }
+says (Event.results rs) = record { results = rs; pends = none; awaits = none; completes = none; fails = none; items = []; cancels = false }
 says Event.resume = nothing-said
-says (Event.cancel t) = record { results = []; pends = none; completes = none; items = []; cancels = true }
+says (Event.cancel t) = record { results = []; pends = none; awaits = none; completes = none; fails = none; items = []; cancels = true }
 says (Event.show o) = nothing-said
 says Event.eager = nothing-said
 
@@ -200,30 +193,112 @@ completed-value (x ∷ h) c =
       | false ↦ completed-value h c
     ]
 
--- a return's value
-unfoldable pub returned : Option Result → Option Value
-returned none = none
-returned (some r) = elim (eqb (r .kind) 0) [ true ↦ some (to-value (r .tag) (r .number)) | false ↦ none ]
+-- the coroutine that a task was spawned for, b before these log entries
+unfoldable pub spawned-by : Option ℕ → List LogEntry → ℕ → Option ℕ
+spawned-by b [] t = b
+spawned-by b (spawned u c ∷ hs) t = elim (eqb u t) [ true ↦ some c | false ↦ spawned-by b hs t ]
+spawned-by b (blocked u ∷ hs) t = spawned-by b hs t
+spawned-by b (reached u ∷ hs) t = spawned-by b hs t
+spawned-by b (exited u ∷ hs) t = spawned-by b hs t
+spawned-by b (removed u ∷ hs) t = spawned-by b hs t
 
--- what an object made by the event delivers
-unfoldable pub delivers : List Entry → ℕ → Event → List Entry → Option Value
-delivers h o (Event.coroutine f) since = completed-value h o
-delivers h o Event.call since = none
-delivers h o (Event.pending c r) since = elim (returned (first-reply since c)) [ none ↦ none | some v ↦ some (value-or r v) ]
-delivers h o (Event.settled v) since = some v
-delivers h o (Event.gather os) since = some (Value.List (heap-id o))
-delivers h o (Event.await p) since = none
-delivers h o (Event.complete v) since = none
-delivers h o (Event.fail n) since = none
-delivers h o (Event.results rs) since = none
-delivers h o Event.resume since = none
-delivers h o (Event.cancel t) since = none
-delivers h o (Event.show p) since = none
-delivers h o Event.eager since = none
+-- the coroutine that task t was spawned for
+unfoldable pub spawned-for : List Entry → ℕ → Option ℕ
+spawned-for [] t = none
+spawned-for (x ∷ h) t = spawned-by (spawned-for h t) (x .happened) t
 
--- what object o delivers, by a history
-unfoldable pub delivered : List Entry → ℕ → Option Value
-delivered h o = elim (making h o) [ none ↦ none | some m ↦ delivers h o (m .event) (m .since) ]
+-- is there none?
+unfoldable pub is-none : Option ℕ → Bool
+is-none none = true
+is-none (some n) = false
+
+-- by the log entries, did a task that was spawned for c (by f) and had started none (by g) exit?
+unfoldable pub exits-unstarted : (ℕ → Option ℕ) → (ℕ → Option ℕ) → List LogEntry → ℕ → Bool
+exits-unstarted f g [] c = false
+exits-unstarted f g (spawned u d ∷ hs) c = exits-unstarted f g hs c
+exits-unstarted f g (blocked u ∷ hs) c = exits-unstarted f g hs c
+exits-unstarted f g (reached u ∷ hs) c = exits-unstarted f g hs c
+exits-unstarted f g (exited u ∷ hs) c = (is-at (f u) c && is-none (g u)) || exits-unstarted f g hs c
+exits-unstarted f g (removed u ∷ hs) c = exits-unstarted f g hs c
+
+-- The error that coroutine c's task ended with: script n if the task failed with n while it ran, coroutine-reuse if it failed at its first run.
+unfoldable pub failed-error : List Entry → ℕ → Option Error
+failed-error [] c = none
+failed-error (x ∷ h) c =
+    elim (exits-unstarted (spawned-for (x ∷ h)) (coroutine-of (x ∷ h)) (x .happened) c) [
+      | true ↦ some Error.CoroutineReuse
+      | false ↦ elim (is-at (running-coroutine h) c) [
+        | true ↦ elim (said x .fails) [ none ↦ failed-error h c | some n ↦ some (Error.Script n) ]
+        | false ↦ failed-error h c
+      ]
+    ]
+
+-- ---- Outcomes: what an object has come to, a value or an error. What it has delivered (document 01, "Demand 3") is the value.
+
+-- a coroutine: the value completed while its task ran, or the error that its task ended with
+unfoldable pub coroutine-outcome : Option Value → Option Error → Option (Outcome Value Error)
+coroutine-outcome (some v) e = some (returned v)
+coroutine-outcome none (some e) = some (raised e)
+coroutine-outcome none none = none
+
+-- the error of a result that is of kind 1, 3 or 4
+unfoldable pub reply-error : Result → Error
+reply-error r = pick (eqb (r .kind) 1) (to-error 0 (r .number)) (pick (eqb (r .kind) 3) Error.NotFound Error.ModuleFile)
+
+-- the stored value or, without one, the result's. (Document 01's words: the machine's own `value-or` is not used here.)
+unfoldable pub stored-or : OptionValue → Value → Value
+stored-or OptionValue.None v = v
+stored-or (OptionValue.Some x) v = x
+
+-- a pending external, by the first result not of kind 2
+unfoldable pub reply-outcome : OptionValue → Option Result → Option (Outcome Value Error)
+reply-outcome stored none = none
+reply-outcome stored (some r) =
+    some (pick (eqb (r .kind) 0) (returned (stored-or stored (to-value (r .tag) (r .number)))) (raised (reply-error r)))
+
+-- a gather, by what is shown of it: its list once it is completed, its error once it has failed
+unfoldable pub shown-outcome : ℕ → Shown → Option (Outcome Value Error)
+shown-outcome g (Shown.a-coroutine x f) = none
+shown-outcome g Shown.an-external-pending = none
+shown-outcome g (Shown.an-external-resolved v) = none
+shown-outcome g (Shown.an-external-failed e) = none
+shown-outcome g Shown.a-gather-pending = none
+shown-outcome g (Shown.a-gather-awaited vs) = none
+shown-outcome g (Shown.a-gather-completed vs) = some (returned (Value.List (heap-id g)))
+shown-outcome g (Shown.a-gather-failed e) = some (raised e)
+shown-outcome g Shown.nothing = none
+
+-- an object made by the event, so many entries ago; `look` is what show gives of an object now
+unfoldable pub outcome-by : List Entry → (ℕ → Shown) → ℕ → Event → List Entry → Option (Outcome Value Error)
+outcome-by h look o (Event.coroutine f) since = coroutine-outcome (completed-value h o) (failed-error h o)
+outcome-by h look o Event.call since = none
+outcome-by h look o (Event.pending c r) since = reply-outcome r (first-reply since c)
+outcome-by h look o (Event.settled v) since = some (returned v)
+outcome-by h look o (Event.gather os) since = shown-outcome o (look o)
+outcome-by h look o (Event.await p) since = none
+outcome-by h look o (Event.complete v) since = none
+outcome-by h look o (Event.fail n) since = none
+outcome-by h look o (Event.results rs) since = none
+outcome-by h look o Event.resume since = none
+outcome-by h look o (Event.cancel t) since = none
+outcome-by h look o (Event.show p) since = none
+outcome-by h look o Event.eager since = none
+
+-- what object o has come to, by a history and by what show gives now
+unfoldable pub outcome : List Entry → (ℕ → Shown) → ℕ → Option (Outcome Value Error)
+outcome h look o = elim (making h o) [ none ↦ none | some m ↦ outcome-by h look o (m .event) (m .since) ]
+
+-- the value of an outcome: what the object has delivered
+unfoldable pub value-of : Option (Outcome Value Error) → Option Value
+value-of none = none
+value-of (some (returned v)) = some v
+value-of (some (raised e)) = none
+
+-- the error of an outcome
+unfoldable pub error-of : Option (Outcome Value Error) → Option Error
+error-of none = none
+error-of (some (returned v)) = none
+error-of (some (raised e)) = some e
 
 -- the items of a gather, at its making
 unfoldable pub items : List Entry → ℕ → List ℕ

@@ -14,3 +14,10 @@ pub mod CasesHold
 pub mod SoundCases
 pub mod Gather
 pub mod History
+pub mod Sessions
+pub mod DemandThree
+pub mod Honest
+pub mod DemandThreeTest
+pub mod HonestTest
+pub mod DemandThreeCases
+pub mod DemandTwo

@@ -18,7 +18,7 @@ use Rattle.asyncio.specs.Limits.{task-limit}
 use Rattle.machine.specs.Store.{Store, fresh}
 use Rattle.machine.specs.Machine.{Event, step, after, answers}
 use Rattle.machine_laws.specs.Views.{Sized}
-use Rattle.machine_theorems.specs.Soundness.Preserved.{InRange}
+use Rattle.machine.specs.Sessions.{InRange}
 use Rattle.machine_theorems.specs.Soundness.Sessions.{AllInRange}
 use Rattle.machine_theorems.specs.Panics.Panic.{Panics}
 use Rattle.machine_theorems.specs.Panics.PanickingMachine.{step-or-panic, after-or-panic, answers-or-panic}

@@ -27,7 +27,7 @@ use Rattle.machine.specs.Store.{Store, fresh}
 use Rattle.machine.specs.Machine.{Event, refusal, step, after}
 use Rattle.machine.specs.Sound.{sound}
 use Rattle.machine_theorems.specs.Soundness.Stores.{SoundStore}
-use Rattle.machine_theorems.specs.Soundness.Preserved.{InRange}
+use Rattle.machine.specs.Sessions.{InRange}
 use Rattle.machine_theorems.specs.Soundness.Sessions.{AllInRange, step-sound-store, session-sound}
 use Rattle.machine_theorems.specs.Soundness.NeverUnsound.{never-unsound}
 

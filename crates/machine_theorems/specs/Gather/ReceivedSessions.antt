@@ -54,7 +54,8 @@ use Rattle.machine_theorems.specs.Soundness.Exits.{runner-low, runner-ru
 use Rattle.machine_theorems.specs.Soundness.Fill.{ValueRises}
 use Rattle.machine_theorems.specs.Soundness.Await.{wait-external}
 use Rattle.machine_theorems.specs.Soundness.AwaitGather.{EndOk, waits-blocks, commit-keeps}
-use Rattle.machine_theorems.specs.Soundness.Preserved.{InRange, running, waiting, await-made, complete-known, results-apply}
+use Rattle.machine_theorems.specs.Soundness.Preserved.{running, waiting, await-made, complete-known, results-apply}
+use Rattle.machine.specs.Sessions.{InRange}
 use Rattle.machine_theorems.specs.Soundness.Sessions.{forget-sound-store, step-sound-store, AllInRange}
 use Rattle.machine_theorems.specs.Panics.NoPanicLaws.{IsCoroutine, task-coroutine, place-used}
 use Rattle.machine_theorems.specs.Panics.NoPanicWoken.{success-activated}

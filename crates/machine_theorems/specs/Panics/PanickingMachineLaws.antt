@@ -26,7 +26,8 @@ use Rattle.machine_laws.specs.MachineLaws.{refused-step}
 use Rattle.machine_laws.specs.SizedLaws.{step-sized}
 use Rattle.machine_laws.specs.SoundLaws.{refusal-sound, refusal-rest, refusal-forget}
 use Rattle.machine_theorems.specs.Soundness.Stores.{SoundStore, sound-store-of, during-of}
-use Rattle.machine_theorems.specs.Soundness.Preserved.{InRange, running, waiting, await-made, complete-known, results-apply}
+use Rattle.machine_theorems.specs.Soundness.Preserved.{running, waiting, await-made, complete-known, results-apply}
+use Rattle.machine.specs.Sessions.{InRange}
 use Rattle.machine_theorems.specs.Soundness.Sessions.{forget-sound-store, step-sound-store, AllInRange, fresh-sound-store}
 use Rattle.machine_theorems.specs.Panics.NoPanicLaws.{registered-once}
 use Rattle.machine_theorems.specs.Panics.Panic.{Panics}

@@ -43,7 +43,7 @@ others s (Event.show o) = (λ e. omega (arith, e), tt)
 others s Event.eager = tt
 
 -- a sound store is not refused with 2
-not-two : (s : Store) (e : Event) → (b : Bool) → b ≡ sound s → T b → Other (refusal s e)
+pub not-two : (s : Store) (e : Event) → (b : Bool) → b ≡ sound s → T b → Other (refusal s e)
 unfolding refusal first-refusal
 not-two s e true h t = rw (← h) (first-other (refusals s e) (others s e))
 

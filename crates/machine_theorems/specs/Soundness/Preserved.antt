@@ -29,22 +29,7 @@ use Rattle.machine_theorems.specs.Soundness.Stores.{SoundStore, during-o
 use Rattle.machine_theorems.specs.Soundness.Results.{MayApply, AllApply, results-keep}
 use Rattle.machine_theorems.specs.Soundness.Exits.{completion-keeps, fail-keeps, end-keeps, cancel-keeps, resume-keeps}
 use Rattle.machine_theorems.specs.Soundness.AwaitGather.{await-keeps}
-
--- the numbers of an event are of 32 bits, as code has them: a function's, and an error's
-unfoldable pub InRange : Event → Type 0
-InRange (Event.coroutine f) = f < u32-limit
-InRange Event.call = Unit {0}
-InRange (Event.pending c r) = Unit {0}
-InRange (Event.settled v) = Unit {0}
-InRange (Event.gather os) = Unit {0}
-InRange (Event.await o) = Unit {0}
-InRange (Event.complete v) = Unit {0}
-InRange (Event.fail n) = n < u32-limit
-InRange (Event.results rs) = Unit {0}
-InRange Event.resume = Unit {0}
-InRange (Event.cancel t) = Unit {0}
-InRange (Event.show o) = Unit {0}
-InRange Event.eager = Unit {0}
+use Rattle.machine.specs.Sessions.{InRange}
 
 -- ---- what the table of refusals lets through
 

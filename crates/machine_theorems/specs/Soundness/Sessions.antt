@@ -22,7 +22,8 @@ use Rattle.machine_laws.specs.MachineLaws.{accepted-step, refused-step}
 use Rattle.machine_laws.specs.SizedLaws.{step-sized, fresh-sized}
 use Rattle.machine_laws.specs.SoundLaws.{refusal-sound, refusal-rest, refusal-forget, sound-forget, making-sound}
 use Rattle.machine_theorems.specs.Soundness.Stores.{SoundStore, sound-store-of, sound-store-sound}
-use Rattle.machine_theorems.specs.Soundness.Preserved.{InRange, Acting, accept-keeps}
+use Rattle.machine_theorems.specs.Soundness.Preserved.{Acting, accept-keeps}
+use Rattle.machine.specs.Sessions.{InRange}
 
 -- ---- an event that makes leaves the queue as it was
 

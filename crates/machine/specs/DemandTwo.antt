@@ -1,0 +1,152 @@
+-- Demand 2 over whole sessions: what show gives of a gather is the documentation's `gather` (Gather.antt) of its items and of what these came to, in the order
+-- of the session. Items and outcomes are read off the history and the answers of show (History: items, outcome); nothing here speaks of the store's rows.
+-- A batch of results is taken result by result (`singles` of machine_sessions: a batch does what its results do one by one), so that an event has one result.
+use Prim.Native.Nat.{ℕ, _<_, _≤_}
+use mathlib.Core.Path.{_≡_}
+use mathlib.Core.Bool.{Bool, true, false}
+use mathlib.Core.List.{List, [], _∷_, _++_}
+use mathlib.Core.Option.{Option, none, some}
+use mathlib.Core.Logic.{_⊎_}
+use lib.ListN.{length, getD}
+use Rattle.asyncio.specs.declared.Value.{Value}
+use Rattle.asyncio.specs.declared.Error.{Error}
+use Rattle.machine.specs.Events.{Result}
+use Rattle.machine.specs.Machine.{Event, Shown}
+use Rattle.machine.specs.Gather.{Outcome, returned, raised, Arrival, Gathered, waiting, listed, propagated, gather}
+use Rattle.machine.specs.History.{says, outcome, error-of, items}
+use Rattle.machine.specs.Sessions.{Sent, Session, begun, send, session, AllSentInRange}
+use Rattle.machine.specs.DemandThree.{look}
+
+-- what object o has come to after a session
+unfoldable pub came : Session → ℕ → Option (Outcome Value Error)
+came x o = outcome (x .history) (look (x .store)) o
+
+-- is it a gather that was committed?
+unfoldable pub committed : Shown → Bool
+committed (Shown.a-coroutine x f) = false
+committed Shown.an-external-pending = false
+committed (Shown.an-external-resolved v) = false
+committed (Shown.an-external-failed e) = false
+committed Shown.a-gather-pending = false
+committed (Shown.a-gather-awaited vs) = true
+committed (Shown.a-gather-completed vs) = true
+committed (Shown.a-gather-failed e) = true
+committed Shown.nothing = false
+
+-- the values of places
+unfoldable pub values : List (Option Value) → List Value
+values [] = []
+values (none ∷ vs) = values vs
+values (some v ∷ vs) = v ∷ values vs
+
+-- what is shown of a committed gather, as the documentation's waiting task sees it: nothing yet, the list, or an exception
+unfoldable pub seen : Shown → Gathered Value Error
+seen (Shown.a-coroutine x f) = waiting
+seen Shown.an-external-pending = waiting
+seen (Shown.an-external-resolved v) = waiting
+seen (Shown.an-external-failed e) = waiting
+seen Shown.a-gather-pending = waiting
+seen (Shown.a-gather-awaited vs) = waiting
+seen (Shown.a-gather-completed vs) = listed (values vs)
+seen (Shown.a-gather-failed e) = propagated e
+seen Shown.nothing = waiting
+
+-- ---- the arrivals at a gather
+
+-- an item that has come to something now, and had not before
+unfoldable pub arrives : Option (Outcome Value Error) → Option (Outcome Value Error) → ℕ → List (Arrival Value Error) → List (Arrival Value Error)
+arrives none none o xs = xs
+arrives none (some y) o xs = record { awaitable = o; outcome = y } ∷ xs
+arrives (some z) y o xs = xs
+
+-- of these items, from left to right
+unfoldable pub arrivals-of : (ℕ → Option (Outcome Value Error)) → (ℕ → Option (Outcome Value Error)) → List ℕ → List (Arrival Value Error)
+arrivals-of was now [] = []
+arrivals-of was now (o ∷ os) = arrives (was o) (now o) o (arrivals-of was now os)
+
+-- does it raise coroutine-reuse?
+unfoldable pub is-late : Outcome Value Error → Bool
+is-late (returned v) = false
+is-late (raised (Error.Host n)) = false
+is-late (raised (Error.Script n)) = false
+is-late (raised Error.CoroutineReuse) = true
+is-late (raised Error.FutureReuse) = false
+is-late (raised Error.GatherReuse) = false
+is-late (raised Error.NotFound) = false
+is-late (raised Error.ModuleFile) = false
+
+-- those that do not
+unfoldable pub early : List (Arrival Value Error) → List (Arrival Value Error)
+early [] = []
+early (x ∷ xs) = elim (is-late (x .outcome)) [ true ↦ early xs | false ↦ x ∷ early xs ]
+
+-- those that do
+unfoldable pub late : List (Arrival Value Error) → List (Arrival Value Error)
+late [] = []
+late (x ∷ xs) = elim (is-late (x .outcome)) [ true ↦ x ∷ late xs | false ↦ late xs ]
+
+-- a task that fails at its first run does so after all else that the event does
+unfoldable pub in-turn : List (Arrival Value Error) → List (Arrival Value Error)
+in-turn xs = early xs ++ late xs
+
+-- In one event, which leads from session x to session y: at its own commit all items that are done arrive, from left to right (items are stepped left to
+-- right); later those that come to something in the event.
+unfoldable pub arrivals-by : Bool → Bool → Session → Session → List ℕ → List (Arrival Value Error)
+arrivals-by true b x y os = in-turn (arrivals-of (came x) (came y) os)
+arrivals-by false true x y os = arrivals-of (λ o. none) (came y) os
+arrivals-by false false x y os = []
+
+-- at gather g
+unfoldable pub arrivals-in : Session → Session → ℕ → List (Arrival Value Error)
+arrivals-in x y g = arrivals-by (committed (look (x .store) g)) (committed (look (y .store) g)) x y (items (y .history) g)
+
+-- in the order of the session
+unfoldable pub arrivals-from : Session → List Sent → ℕ → List (Arrival Value Error)
+arrivals-from x [] g = []
+arrivals-from x (e ∷ es) g = arrivals-in x (send x e) g ++ arrivals-from (send x e) es g
+
+-- ---- the claim
+
+-- an event has one result
+unfoldable pub Single : List Sent → Type 0
+Single [] = Unit {0}
+Single (e ∷ es) = (length (says (e .event) .results) ≤ 1) × Single es
+
+-- the error that an await raises for an object in use: a coroutine, a pending external, an awaited gather
+unfoldable pub reuse-of : Shown → Option Error
+reuse-of (Shown.a-coroutine x f) = some Error.CoroutineReuse
+reuse-of Shown.an-external-pending = some Error.FutureReuse
+reuse-of (Shown.an-external-resolved v) = none
+reuse-of (Shown.an-external-failed e) = none
+reuse-of Shown.a-gather-pending = none
+reuse-of (Shown.a-gather-awaited vs) = some Error.GatherReuse
+reuse-of (Shown.a-gather-completed vs) = none
+reuse-of (Shown.a-gather-failed e) = none
+reuse-of Shown.nothing = none
+
+-- The exception (document 01, module 4): a commit that meets an item in use fails with the reuse error of that item. The items left of it have raised nothing.
+pub record ReuseAt (y : Session) (g : ℕ) (e : Error) : Type 0 where
+  pub at : ℕ
+  pub within : at < length (items (y .history) g)
+  pub left : (b : ℕ) → b < at → error-of (came y (getD (items (y .history) g) b 0)) ≡ none
+  pub in-use : reuse-of (look (y .store) (getD (items (y .history) g) at 0)) ≡ some e
+
+-- a gather that failed so, some events ago, in its own commit
+pub record Reused (es : List Sent) (g : ℕ) (e : Error) : Type 0 where
+  pub before : List Sent
+  pub commit : Sent
+  pub after : List Sent
+  pub parts : es ≡ before ++ (commit ∷ after)
+  pub uncommitted : committed (look (session before .store) g) ≡ false
+  pub failed : look (send (session before) commit .store) g ≡ Shown.a-gather-failed e
+  pub reuse : ReuseAt (send (session before) commit) g e
+
+-- What show gives of gather g after the events.
+abbrev pub GatherRight : List Sent → ℕ → Type 0
+GatherRight es g =
+    (seen (look (session es .store) g) ≡ gather (items (session es .history) g) (arrivals-from begun es g))
+    ⊎ ((e : Error) × (look (session es .store) g ≡ Shown.a-gather-failed e) × Reused es g e)
+
+-- For every list of events with single results, and every gather that was committed.
+abbrev pub DemandTwo : Type 0
+DemandTwo = (es : List Sent) → AllSentInRange es → Single es → (g : ℕ) → committed (look (session es .store) g) ≡ true → GatherRight es g
