@@ -127,9 +127,9 @@ ended-reads s Event.eager r d = record { same-store = refl; no-control = refl; n
 
 -- until the end, if no cancel was accepted
 abbrev pub Alive : Store → Type 0
-Alive s = is-ended (header s .moment) ≡ false → Stands Nothing s × Sourced s
+Alive s = is-ended (header s .moment) ≡ false → Stands Nothing s × Sourced Nothing s
 
-driven-of : (s : Store) → Stands Nothing s → Sourced s → Driven s
+driven-of : (s : Store) → Stands Nothing s → Sourced Nothing s → Driven s
 driven-of s st k = record { main = st .main; queued = λ t l r. st .stands t l r (λ z. z); sources = k .sources; rising = k .rising }
 
 only-changes-calls : (s : Store) → SoundStore s → Alive s → OnlyChanges s → Call s
@@ -139,9 +139,9 @@ only-changes-calls s w a q = let x = a (ap is-ended (q .0)) in some-call s w (dr
 pub accept-alive : (s : Store) (e : Event) → SoundStore s → InRange e → says e .cancels ≡ false → refusal s e ≡ 0 → Alive s → Alive (accept s e .store)
 accept-alive s e w i n r a on = by (is-ended (header s .moment)) refl
   where
-    by : (b : Bool) → is-ended (header s .moment) ≡ b → Stands Nothing (accept s e .store) × Sourced (accept s e .store)
+    by : (b : Bool) → is-ended (header s .moment) ≡ b → Stands Nothing (accept s e .store) × Sourced Nothing (accept s e .store)
     by true d = absurd (true≢false (sym d ∙ (sym (ap (λ (u : Store). is-ended (header u .moment)) (ended-reads s e r d .same-store)) ∙ on)))
-    by false d = let x = a d in (accept-right s w (x .0) e i n r .stood on, accept-sourced s w (x .1) e i n r (x .0) on)
+    by false d = let x = a d in (accept-right s w (x .0) e i n r .stood on, accept-sourced _ s w (x .1) e i n r (x .0) on)
 
 -- an answer is no empty wait and no stall
 control-goes : (u : Store) → SoundStore u → Alive u → (c : Option Control) → ((cs : List ℕ) → c ≡ some (waits cs) → OnlyChanges u) → ((x : Control) → c ≡ some x → SaysCalls u x) → empty-wait c ≡ false
@@ -194,7 +194,7 @@ forget-alive : (s : Store) → Alive s → Alive (forget s)
 forget-alive s a on =
     let x = a (same-moment ∙ on) in (
       stands-like s (forget s) (unfold forget in refl) (unfold forget in refl) (unfold header forget in refl) (x .0),
-      sourced-like s (forget s) (λ o. unfold object forget in refl) (λ t. unfold task forget in refl) (λ p. unfold place forget in refl) (unfold header forget in refl) (x .1),
+      sourced-like _ s (forget s) (λ o. unfold object forget in refl) (λ t. unfold task forget in refl) (λ p. unfold place forget in refl) (unfold header forget in refl) (x .1),
     )
   where
     same-moment : is-ended (header s .moment) ≡ is-ended (header (forget s) .moment)
@@ -291,7 +291,7 @@ fresh-going = record { alive = λ c on. (standing, sourced); goes = λ c. refl }
     standing : Stands Nothing fresh
     standing = record { main = fresh-main .0; stands = λ t l r n. absurd (true≢false (sym r ∙ subst (λ (v : ℕ). is-ready (task fresh v .state) ≡ false) (sym (only t l)) (fresh-main .1))) }
 
-    sourced : Sourced fresh
+    sourced : Sourced Nothing fresh
     sourced =
         record {
           sources = λ g o w l e op. absurd (not-suc-le-zero {n = 0} (omega (arith, subst (λ (n : ℕ). g < n) (fresh-head .0) l)));
