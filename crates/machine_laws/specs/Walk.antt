@@ -72,7 +72,7 @@ pub record Delivers (K : Store → Type 0) : Type 0 where
   pub sized : (s : Store) → K s → Sized s
   pub row : (s : Store) (o : ℕ) (x : Object) → o < object-limit → Turns (object s o) x → K s → K (put-object s o x)
   pub values-put : (s : Store) (ps : List ℕ) → length ps ≡ places-length → K s → K (put-places s ps)
-  pub wakes : (s : Store) (t : ℕ) (x : TaskState) → t < task-limit → is-blocked (task s t .state) ≡ true → is-ready x ≡ true → K s → K (add-log (make-ready s t x) (reached t))
+  pub wakes : (s : Store) (t : ℕ) (x : TaskState) → t < task-limit → is-blocked (task s t .state) ≡ true → is-ready x ≡ true → is-unstarted x ≡ false → K s → K (add-log (make-ready s t x) (reached t))
 
 -- by each write of a switch: a task that has started runs on; another starts its coroutine, which is new, or fails and goes, where it is not
 pub record Switches (K : Store → Type 0) : Type 0 where
@@ -140,12 +140,12 @@ found-low s c o e = omega (arith, first-below (is-call (s .objects) c) (header-a
 -- ---- delivery
 
 module _ (K : Store → Type 0) (kept : Delivers K) where
-  to-task : (s : Store) (t : ℕ) (x : TaskState) → t < task-limit → is-ready x ≡ true → K s → K (deliver-to-task s t x .store)
+  to-task : (s : Store) (t : ℕ) (x : TaskState) → t < task-limit → is-ready x ≡ true → is-unstarted x ≡ false → K s → K (deliver-to-task s t x .store)
   unfolding deliver-to-task nobody-woken
-  to-task s t x l r k = by (is-blocked (task s t .state)) refl
+  to-task s t x l r n k = by (is-blocked (task s t .state)) refl
     where
       by : (b : Bool) → is-blocked (task s t .state) ≡ b → K (pick b (record { store = add-log (make-ready s t x) (reached t); woken = some t }) (nobody-woken s) .store)
-      by true q = kept .wakes s t x l q r k
+      by true q = kept .wakes s t x l q r n k
       by false q = k
 
   resolves : (s : Store) (g x : ℕ) (v : Value) → g < object-limit → K s → K (resolve-child s g x v .store)
@@ -189,7 +189,7 @@ module _ (K : Store → Type 0) (kept : Delivers K) where
       → (s : Store) (a : Awaiter) (v : Value) → AwaiterFits a → K s → K (send-value go s a v .store)
   unfolding send-value nobody-woken
   sends-value go h s Awaiter.Nobody v f k = k
-  sends-value go h s (Awaiter.Task t) v f k = to-task s (t .0) (TaskState.Woken v) f refl k
+  sends-value go h s (Awaiter.Task t) v f k = to-task s (t .0) (TaskState.Woken v) f refl refl k
   sends-value go h s (Awaiter.GatherSlot g x) v f k =
       let r = resolve-sent s (g .0) (x .0) v (kept .sized s k) (f .0) in
       let k1 : K (resolve-child s (g .0) (x .0) v .store) = resolves s (g .0) (x .0) v (f .0) k in
@@ -209,7 +209,7 @@ module _ (K : Store → Type 0) (kept : Delivers K) where
       → (s : Store) (a : Awaiter) (e : Error) → AwaiterFits a → K s → K (send-error go s a e .store)
   unfolding send-error nobody-woken
   sends-error go h s Awaiter.Nobody e f k = k
-  sends-error go h s (Awaiter.Task t) e f k = to-task s (t .0) (TaskState.Raised e) f refl k
+  sends-error go h s (Awaiter.Task t) e f k = to-task s (t .0) (TaskState.Raised e) f refl refl k
   sends-error go h s (Awaiter.GatherSlot g x) e f k =
       let r = fail-sent s (g .0) e (kept .sized s k) (f .0) in
       let k1 : K (fail-gather s (g .0) e .store) = fails s (g .0) e (f .0) k in
@@ -624,7 +624,7 @@ module _ (K : Store → Type 0) (kept : Commits K) where
 
 module _ (K : Store → Type 0) (kept : Closed K) where
   delivers-of : Delivers K
-  delivers-of = record { sized = kept .sized; row = kept .row; values-put = kept .values-put; wakes = kept .wakes }
+  delivers-of = record { sized = kept .sized; row = kept .row; values-put = kept .values-put; wakes = λ s t x l b r n k. kept .wakes s t x l b r k }
 
   switches-of : Switches K
   switches-of =

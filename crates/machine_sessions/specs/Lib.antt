@@ -15,6 +15,8 @@ pub mod NamedClimb
 pub mod NamedRows
 pub mod NamedCommit
 pub mod Tracked
+pub mod Spawned
+pub mod SpawnedEvents
 pub mod TrackedEvents
 pub mod Following
 pub mod Calls

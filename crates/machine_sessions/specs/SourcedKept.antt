@@ -234,7 +234,7 @@ unfolding put-items
 items-places [] s p q l = refl
 items-places (o ∷ os) s p q l = items-places os (put-place s p _) (p + 1) q (omega arith) ∙ place-put-other s p q _ (λ e. not-suc-le-zero {n = 0} (omega (arith, l)))
 
-items-objects : (os : List ℕ) (s : Store) (p q : ℕ) → object (put-items s p os) q ≡ object s q
+pub items-objects : (os : List ℕ) (s : Store) (p q : ℕ) → object (put-items s p os) q ≡ object s q
 unfolding put-items object put-place
 items-objects [] s p q = refl
 items-objects (o ∷ os) s p q = items-objects os (put-place s p (record { item = heap-id o; result = OptionValue.None })) (p + 1) q
