@@ -17,6 +17,7 @@ pub mod NamedCommit
 pub mod Tracked
 pub mod Spawned
 pub mod SpawnedEvents
+pub mod WaitingTasks
 pub mod TrackedEvents
 pub mod Following
 pub mod Calls
