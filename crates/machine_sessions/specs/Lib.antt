@@ -38,5 +38,6 @@ pub mod SourcedCommitSteps
 pub mod SourcedCommitItems
 pub mod SourcedCommit
 pub mod SourcedKept
+pub mod Cancelled
 pub mod GoesOn
 pub mod DemandThreeHolds
