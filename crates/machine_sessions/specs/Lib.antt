@@ -16,6 +16,7 @@ pub mod NamedRows
 pub mod NamedCommit
 pub mod Tracked
 pub mod Spawned
+pub mod Outcomes
 pub mod SpawnedEvents
 pub mod WaitingTasks
 pub mod TrackedEvents
@@ -40,4 +41,6 @@ pub mod SourcedCommit
 pub mod SourcedKept
 pub mod Cancelled
 pub mod GoesOn
+pub mod Waiting
+pub mod WaitingEvents
 pub mod DemandThreeHolds

@@ -58,8 +58,7 @@ use Rattle.machine_theorems.specs.Gather.ReceivedSessions.{items-header}
 use Rattle.machine_laws.specs.Walk.{Commits, commit-kept}
 use Rattle.machine_sessions.specs.Tracked.{live-like, live-is, live-low, live-other, place-live, spawn-row, spawn-next}
 use Rattle.machine_sessions.specs.Calls.{read-back}
-use Rattle.machine_sessions.specs.StandingAwait.{ends}
-use Rattle.machine_sessions.specs.Standing.{Stands}
+use Rattle.machine_sessions.specs.StandingEvents.{MainEnds}
 use Rattle.machine_sessions.specs.NoStall.{Source, by-external, by-gather, by-nobody, by-task, Roots, root, above, Sourced, sourced-like}
 use Rattle.machine_sessions.specs.SourcedPlan.{SourcedBut, but-of, all-of, but-same}
 use Rattle.machine_sessions.specs.SourcedCycle.{plain-sourced, next-sourced, activate-sourced}
@@ -310,17 +309,17 @@ module _ (G : ℕ → Type 0) (s : Store) (h : SoundStore s) (k : Sourced G s) w
 
   -- ---- each event
 
-  complete-step : Stands Nothing s → (t : ℕ) (v : Value) → header s .moment ≡ Moment.Running (task-id t) → T (value-known (header s .made) (object s) v) → is-ended (header (task-completes s t v .store) .moment) ≡ false
+  complete-step : (t : ℕ) (v : Value) → header s .moment ≡ Moment.Running (task-id t) → T (value-known (header s .made) (object s) v) → (t ≡ 0 → ⊥)
       → Sourced G (task-completes s t v .store)
   unfolding task-completes end-main switched
-  complete-step st zero v m kn on = absurd (true≢false (sym (ends s h st) ∙ on))
-  complete-step st (suc t) v m kn on = rw (ne-eqb (suc t) 0 (λ e. not-suc-le-zero {n = 0} (omega arith))) (complete-sourced _ s h k t v m kn)
+  complete-step zero v m kn on = absurd (on refl)
+  complete-step (suc t) v m kn on = rw (ne-eqb (suc t) 0 (λ e. not-suc-le-zero {n = 0} (omega arith))) (complete-sourced _ s h k t v m kn)
 
-  fail-step : Stands Nothing s → (t n : ℕ) → header s .moment ≡ Moment.Running (task-id t) → n < u32-limit → is-ended (header (task-fails s t (Error.Script n) .store) .moment) ≡ false
+  fail-step : (t n : ℕ) → header s .moment ≡ Moment.Running (task-id t) → n < u32-limit → (t ≡ 0 → ⊥)
       → Sourced G (task-fails s t (Error.Script n) .store)
   unfolding task-fails end-main switched
-  fail-step st zero n m f on = absurd (true≢false (sym (ends s h st) ∙ on))
-  fail-step st (suc t) n m f on = rw (ne-eqb (suc t) 0 (λ e. not-suc-le-zero {n = 0} (omega arith))) (failed-sourced _ s h k t (Error.Script n) m f)
+  fail-step zero n m f on = absurd (on refl)
+  fail-step (suc t) n m f on = rw (ne-eqb (suc t) 0 (λ e. not-suc-le-zero {n = 0} (omega arith))) (failed-sourced _ s h k t (Error.Script n) m f)
 
   resume-step3 : header s .moment ≡ Moment.Waiting → Sourced G (resume-with-resolved-futures s .store)
   unfolding resume-with-resolved-futures switched
@@ -328,27 +327,27 @@ module _ (G : ℕ → Type 0) (s : Store) (h : SoundStore s) (k : Sourced G s) w
       pick-has (λ (x : Step). Sourced G (x .store)) (eqb (s .queue .len) 0) k
       (next-sourced _ (λ i. T (is-completed (kind (object s i)))) (header s) activate (activate-sourced _ (λ i. T (is-completed (kind (object s i)))) (header s)) s (only-changes-of s h m) k)
 
-  pub accept-sourced : (e : Event) → InRange e → says e .cancels ≡ false → refusal s e ≡ 0 → Stands Nothing s → is-ended (header (accept s e .store) .moment) ≡ false → Sourced G (accept s e .store)
-  unfolding accept refusals make-coroutine make-pending InRange says nothing-said answer-await
-  accept-sourced (Event.coroutine f) i n r st on =
+  pub accept-sourced : (e : Event) → InRange e → says e .cancels ≡ false → refusal s e ≡ 0 → (MainEnds s e → ⊥) → Sourced G (accept s e .store)
+  unfolding accept refusals make-coroutine make-pending InRange says nothing-said answer-await MainEnds
+  accept-sourced (Event.coroutine f) i n r on =
       added-sourced s _ (Object.Coroutine f CoroutineState.New) h (added s (Object.Coroutine f CoroutineState.New) 0 z (not-full (pass 6 (full s) [] (running-rest s _ (refusal-rest s (Event.coroutine f) r)) .0)) same-places) (unfold as-awaited in refl) k
-  accept-sourced Event.call i n r st on = calls-sourced (number-left (pass 7 (no-number s) [] (running-rest s _ (refusal-rest s Event.call r)) .0)) .0
-  accept-sourced (Event.pending d x) i n r st on =
+  accept-sourced Event.call i n r on = calls-sourced (number-left (pass 7 (no-number s) [] (running-rest s _ (refusal-rest s Event.call r)) .0)) .0
+  accept-sourced (Event.pending d x) i n r on =
       added-sourced s _ (Object.ExternalFuture (call-id d) (ExternalFutureState.Pending Awaiter.Nobody x)) h
       (added s (Object.ExternalFuture (call-id d) (ExternalFutureState.Pending Awaiter.Nobody x)) 0 z (not-full (pass 6 (full s) [] (pass 5 _ _ (pass 4 _ _ (running-rest s _ (refusal-rest s (Event.pending d x) r)) .1) .1) .0)) same-places)
       (unfold as-awaited in refl) k
-  accept-sourced (Event.settled v) i n r st on =
+  accept-sourced (Event.settled v) i n r on =
       let q = pass 6 (full s) _ (pass 4 _ _ (running-rest s _ (refusal-rest s (Event.settled v) r)) .1) in
       settled-sourced v (number-left (pass 7 (no-number s) [] (q .1) .0)) (not-full (q .0))
-  accept-sourced (Event.gather os) i n r st on =
+  accept-sourced (Event.gather os) i n r on =
       let q = pass 6 (full s || ltb item-limit (length os) || ltb place-limit (header s .used + length os)) [] (pass 4 _ _ (running-rest s _ (refusal-rest s (Event.gather os) r)) .1) .0 in
       gather-made os (not-full (or-left (full s) (ltb item-limit (length os)) (or-left (full s || ltb item-limit (length os)) (ltb place-limit (header s .used + length os)) q)))
       (ltb-false place-limit (header s .used + length os) (or-right (full s || ltb item-limit (length os)) (ltb place-limit (header s .used + length os)) q))
-  accept-sourced (Event.await o) i n r st on = let q = refusal-rest s (Event.await o) r in await-sourced _ s h k (runner (header s .moment)) (running s h _ q) o (await-made s h o q)
-  accept-sourced (Event.complete v) i n r st on = let q = refusal-rest s (Event.complete v) r in complete-step st (runner (header s .moment)) v (running s h _ q) (complete-known s h v q) on
-  accept-sourced (Event.fail m) i n r st on = fail-step st (runner (header s .moment)) m (running s h _ (refusal-rest s (Event.fail m) r)) i on
-  accept-sourced (Event.results rs) i n r st on = results-sourced rs s (results-apply s h rs (refusal-rest s (Event.results rs) r)) (during-of s h) k
-  accept-sourced Event.resume i n r st on = resume-step3 (waiting s h [] (refusal-rest s Event.resume r) .0)
-  accept-sourced (Event.cancel t) i n r st on = absurd (true≢false n)
-  accept-sourced (Event.show o) i n r st on = k
-  accept-sourced Event.eager i n r st on = k
+  accept-sourced (Event.await o) i n r on = let q = refusal-rest s (Event.await o) r in await-sourced _ s h k (runner (header s .moment)) (running s h _ q) o (await-made s h o q)
+  accept-sourced (Event.complete v) i n r on = let q = refusal-rest s (Event.complete v) r in complete-step (runner (header s .moment)) v (running s h _ q) (complete-known s h v q) on
+  accept-sourced (Event.fail m) i n r on = fail-step (runner (header s .moment)) m (running s h _ (refusal-rest s (Event.fail m) r)) i on
+  accept-sourced (Event.results rs) i n r on = results-sourced rs s (results-apply s h rs (refusal-rest s (Event.results rs) r)) (during-of s h) k
+  accept-sourced Event.resume i n r on = resume-step3 (waiting s h [] (refusal-rest s Event.resume r) .0)
+  accept-sourced (Event.cancel t) i n r on = absurd (true≢false n)
+  accept-sourced (Event.show o) i n r on = k
+  accept-sourced Event.eager i n r on = k

@@ -52,8 +52,8 @@ use Rattle.machine_theorems.specs.Soundness.Exits.{runner-low, runner-runs}
 use Rattle.machine_theorems.specs.Soundness.Preserved.{running, await-made}
 use Rattle.machine_theorems.specs.Gather.ReceivedSessions.{items-header}
 use Rattle.machine_sessions.specs.Calls.{read-back}
-use Rattle.machine_sessions.specs.Standing.{Stands, moment-head}
-use Rattle.machine_sessions.specs.StandingAwait.{ends}
+use Rattle.machine_sessions.specs.Standing.{moment-head}
+use Rattle.machine_sessions.specs.StandingEvents.{MainEnds}
 use Rattle.machine_sessions.specs.TrackedEvents.{items-tasks, items-log}
 use Rattle.machine_sessions.specs.SourcedKept.{items-objects}
 use Rattle.machine_sessions.specs.TellingAwait.{Row, row-commits}
@@ -454,41 +454,41 @@ module _ (F : ℕ → Option ℕ) (X : ℕ → Bool) where
     unfolding no-number
     number-left e = leb-false call-limit (header s .calls) e
 
-    complete-step : Stands Nothing s → (t : ℕ) (v : Value) → header s .moment ≡ Moment.Running (task-id t) → is-ended (header (task-completes s t v .store) .moment) ≡ false → K L (λ u. u ≡ t) (task-completes s t v .store)
+    complete-step : (t : ℕ) (v : Value) → header s .moment ≡ Moment.Running (task-id t) → (t ≡ 0 → ⊥) → K L (λ u. u ≡ t) (task-completes s t v .store)
     unfolding task-completes end-main switched
-    complete-step st zero v m on = absurd (true≢false (sym (ends s h st) ∙ on))
-    complete-step st (suc t) v m on = rw (ne-eqb (suc t) 0 (λ e. not-suc-le-zero {n = 0} (omega arith))) (completed-kept t m v)
+    complete-step zero v m on = absurd (on refl)
+    complete-step (suc t) v m on = rw (ne-eqb (suc t) 0 (λ e. not-suc-le-zero {n = 0} (omega arith))) (completed-kept t m v)
 
-    fail-step : Stands Nothing s → (t : ℕ) (x : Error) → header s .moment ≡ Moment.Running (task-id t) → is-ended (header (task-fails s t x .store) .moment) ≡ false → K L (λ u. u ≡ t) (task-fails s t x .store)
+    fail-step : (t : ℕ) (x : Error) → header s .moment ≡ Moment.Running (task-id t) → (t ≡ 0 → ⊥) → K L (λ u. u ≡ t) (task-fails s t x .store)
     unfolding task-fails end-main switched
-    fail-step st zero x m on = absurd (true≢false (sym (ends s h st) ∙ on))
-    fail-step st (suc t) x m on = rw (ne-eqb (suc t) 0 (λ e. not-suc-le-zero {n = 0} (omega arith))) (failed-kept t m x)
+    fail-step zero x m on = absurd (on refl)
+    fail-step (suc t) x m on = rw (ne-eqb (suc t) 0 (λ e. not-suc-le-zero {n = 0} (omega arith))) (failed-kept t m x)
 
     resume-step : K L Nothing (resume-with-resolved-futures s .store)
     unfolding resume-with-resolved-futures switched
     resume-step = pick-has (λ (x : Step). K L Nothing (x .store)) (eqb (s .queue .len) 0) k (next-task-kept (K L Nothing) (tasks-switches L Nothing) s k)
 
     -- Every event but cancel, until the end; the running task that completes or fails has exited.
-    pub accept-tasks : (e : Event) → says e .cancels ≡ false → refusal s e ≡ 0 → Stands Nothing s → is-ended (header (accept s e .store) .moment) ≡ false
+    pub accept-tasks : (e : Event) → says e .cancels ≡ false → refusal s e ≡ 0 → (MainEnds s e → ⊥)
         → Tasks F L (Exits s e) (S (accept s e .store)) (Y (accept s e .store)) (accept s e .store)
-    unfolding accept refusals make-coroutine make-pending says nothing-said answer-await Exits
-    accept-tasks (Event.coroutine f) n r st on = adds-kept L Nothing s _ 0 (not-full (pass 6 (full s) [] (running-rest s _ (refusal-rest s (Event.coroutine f) r)) .0)) same-places free free-used k
-    accept-tasks Event.call n r st on = calls-kept L Nothing s (number-left (pass 7 (no-number s) [] (running-rest s _ (refusal-rest s Event.call r)) .0)) k .0
-    accept-tasks (Event.pending d x) n r st on =
+    unfolding accept refusals make-coroutine make-pending says nothing-said answer-await Exits MainEnds
+    accept-tasks (Event.coroutine f) n r on = adds-kept L Nothing s _ 0 (not-full (pass 6 (full s) [] (running-rest s _ (refusal-rest s (Event.coroutine f) r)) .0)) same-places free free-used k
+    accept-tasks Event.call n r on = calls-kept L Nothing s (number-left (pass 7 (no-number s) [] (running-rest s _ (refusal-rest s Event.call r)) .0)) k .0
+    accept-tasks (Event.pending d x) n r on =
         adds-kept L Nothing s _ 0 (not-full (pass 6 (full s) [] (pass 5 _ _ (pass 4 _ _ (running-rest s _ (refusal-rest s (Event.pending d x) r)) .1) .1) .0)) same-places free free-used k
-    accept-tasks (Event.settled v) n r st on =
+    accept-tasks (Event.settled v) n r on =
         let q = pass 6 (full s) _ (pass 4 _ _ (running-rest s _ (refusal-rest s (Event.settled v) r)) .1) in
         settled-kept v (number-left (pass 7 (no-number s) [] (q .1) .0)) (not-full (q .0))
-    accept-tasks (Event.gather os) n r st on =
+    accept-tasks (Event.gather os) n r on =
         let q = pass 6 (full s || ltb item-limit (length os) || ltb place-limit (header s .used + length os)) [] (pass 4 _ _ (running-rest s _ (refusal-rest s (Event.gather os) r)) .1) .0 in
         gather-kept os (not-full (or-left (full s) (ltb item-limit (length os)) (or-left (full s || ltb item-limit (length os)) (ltb place-limit (header s .used + length os)) q)))
         (ltb-false place-limit (header s .used + length os) (or-right (full s || ltb item-limit (length os)) (ltb place-limit (header s .used + length os)) q))
-    accept-tasks (Event.await o) n r st on =
+    accept-tasks (Event.await o) n r on =
         let q = refusal-rest s (Event.await o) r in await-kept (runner (header s .moment)) o (running s h _ q) (omega (arith, await-made s h o q, header-fits s .made-fits))
-    accept-tasks (Event.complete v) n r st on = complete-step st (runner (header s .moment)) v (running s h _ (refusal-rest s (Event.complete v) r)) on
-    accept-tasks (Event.fail m) n r st on = fail-step st (runner (header s .moment)) (Error.Script m) (running s h _ (refusal-rest s (Event.fail m) r)) on
-    accept-tasks (Event.results rs) n r st on = batch-kept (K L Nothing) (tasks-delivers L Nothing) (settles-kept L Nothing) rs s k
-    accept-tasks Event.resume n r st on = resume-step
-    accept-tasks (Event.cancel t) n r st on = absurd (true≢false n)
-    accept-tasks (Event.show o) n r st on = k
-    accept-tasks Event.eager n r st on = k
+    accept-tasks (Event.complete v) n r on = complete-step (runner (header s .moment)) v (running s h _ (refusal-rest s (Event.complete v) r)) on
+    accept-tasks (Event.fail m) n r on = fail-step (runner (header s .moment)) (Error.Script m) (running s h _ (refusal-rest s (Event.fail m) r)) on
+    accept-tasks (Event.results rs) n r on = batch-kept (K L Nothing) (tasks-delivers L Nothing) (settles-kept L Nothing) rs s k
+    accept-tasks Event.resume n r on = resume-step
+    accept-tasks (Event.cancel t) n r on = absurd (true≢false n)
+    accept-tasks (Event.show o) n r on = k
+    accept-tasks Event.eager n r on = k

@@ -60,7 +60,7 @@ use Rattle.machine_sessions.specs.TrackedEvents.{items-tasks}
 use Rattle.machine_sessions.specs.Room.{room-for}
 use Rattle.machine.specs.DemandThree.{is-stalled}
 use Rattle.machine_sessions.specs.Standing.{Stands, stands-like, ready-put-task, Right, moment-head, not-waits, not-waiting, resume-right}
-use Rattle.machine_sessions.specs.StandingEvents.{OnlyChanges, StepRight, switched-right, awaited-right, row-stands, complete-right, failed-right, resume-step, results-stand}
+use Rattle.machine_sessions.specs.StandingEvents.{MainEnds, OnlyChanges, StepRight, switched-right, awaited-right, row-stands, complete-right, failed-right, resume-step, results-stand}
 
 -- ---- the running task blocks
 
@@ -267,12 +267,12 @@ module _ (s : Store) (h : SoundStore s) (st : Stands Nothing s) (t : ℕ) (m : h
 -- ---- the events that make
 
 -- an answer that tells neither who has control nor a stall
-only-changes-right : (u : Store) (a : Answer) → tells a .control ≡ none → is-stalled a ≡ false → Stands Nothing u → StepRight (record { store = u; answer = a })
+only-changes-right : {E : Type 0} (u : Store) (a : Answer) → tells a .control ≡ none → is-stalled a ≡ false → Stands Nothing u → StepRight E (record { store = u; answer = a })
 only-changes-right u a c n k = record { stood = λ e. k; waits-idle = λ cs q. absurd-some (sym c ∙ q); stalls-idle = λ q. absurd (true≢false (sym q ∙ n)) }
 
 -- the session has ended
-ended-right : (u : Store) (a : Answer) → tells a .control ≡ none → is-stalled a ≡ false → is-ended (header u .moment) ≡ true → StepRight (record { store = u; answer = a })
-ended-right u a c n e = record { stood = λ q. absurd (true≢false (sym e ∙ q)); waits-idle = λ cs q. absurd-some (sym c ∙ q); stalls-idle = λ q. absurd (true≢false (sym q ∙ n)) }
+ended-right : (u : Store) (a : Answer) → tells a .control ≡ none → is-stalled a ≡ false → StepRight (_≡_ {A = ℕ} 0 0) (record { store = u; answer = a })
+ended-right u a c n = record { stood = λ q. absurd (q refl); waits-idle = λ cs q. absurd-some (sym c ∙ q); stalls-idle = λ q. absurd (true≢false (sym q ∙ n)) }
 
 add-stands : (s : Store) (r : Object) (n : ℕ) → Sized s → header s .made < object-limit → header s .used + n ≤ place-limit → Stands Nothing s → Stands Nothing (add-object s r n)
 unfolding add-object
@@ -339,19 +339,19 @@ module _ (s : Store) (h : SoundStore s) (st : Stands Nothing s) where
   unfolding cleanup
   ends = ap is-ended (moment-head (put-queue (remove-from s 0 (header s .next)) empty-queue) Moment.Ended (sized-put-queue _ _ (remove-sized (header s .next) s 0 z)) tt .1) ∙ (unfold is-ended in refl)
 
-  complete-step : (t : ℕ) (v : Value) → header s .moment ≡ Moment.Running (task-id t) → T (value-known (header s .made) (object s) v) → StepRight (task-completes s t v)
+  complete-step : (t : ℕ) (v : Value) → header s .moment ≡ Moment.Running (task-id t) → T (value-known (header s .made) (object s) v) → StepRight (t ≡ 0) (task-completes s t v)
   unfolding task-completes end-main
-  complete-step zero v m k = ended-right (cleanup s) (Answer.finished v) (unfold tells done-only in refl) (unfold is-stalled in refl) ends
+  complete-step zero v m k = ended-right (cleanup s) (Answer.finished v) (unfold tells done-only in refl) (unfold is-stalled in refl)
   complete-step (suc t) v m k = rw (ne-eqb (suc t) 0 (λ e. not-suc-le-zero {n = 0} (omega arith))) (switched-right _ (complete-right s h st t v m k))
 
-  fail-step : (t n : ℕ) → header s .moment ≡ Moment.Running (task-id t) → n < u32-limit → StepRight (task-fails s t (Error.Script n))
+  fail-step : (t n : ℕ) → header s .moment ≡ Moment.Running (task-id t) → n < u32-limit → StepRight (t ≡ 0) (task-fails s t (Error.Script n))
   unfolding task-fails end-main
-  fail-step zero n m k = ended-right (cleanup s) (Answer.finished-error (Error.Script n)) (unfold tells done-only in refl) (unfold is-stalled in refl) ends
+  fail-step zero n m k = ended-right (cleanup s) (Answer.finished-error (Error.Script n)) (unfold tells done-only in refl) (unfold is-stalled in refl)
   fail-step (suc t) n m k = rw (ne-eqb (suc t) 0 (λ e. not-suc-le-zero {n = 0} (omega arith))) (switched-right _ (failed-right s h st t (Error.Script n) m k))
 
   -- Each event but cancel.
-  pub accept-right : (e : Event) → InRange e → says e .cancels ≡ false → refusal s e ≡ 0 → StepRight (accept s e)
-  unfolding accept refusals make-coroutine make-pending InRange says tells done-only is-stalled nothing-said
+  pub accept-right : (e : Event) → InRange e → says e .cancels ≡ false → refusal s e ≡ 0 → StepRight (MainEnds s e) (accept s e)
+  unfolding accept refusals make-coroutine make-pending InRange says tells done-only is-stalled nothing-said MainEnds
   accept-right (Event.coroutine f) i n r = only-changes-right _ _ refl refl (add-stands s _ 0 z (not-full (pass 6 (full s) [] (running-rest s _ (refusal-rest s (Event.coroutine f) r)) .0)) same-places st)
   accept-right Event.call i n r = only-changes-right _ _ refl refl (calls-stand (number-left (pass 7 (no-number s) [] (running-rest s _ (refusal-rest s Event.call r)) .0)))
   accept-right (Event.pending d x) i n r =
