@@ -3,21 +3,36 @@ use mathlib.Core.Path.{_≡_}
 use mathlib.Core.Bool.{Bool, true, false}
 use mathlib.Core.List.{List}
 use Prim.Native.Nat.{ℕ}
-use Rattle.machine.specs.History.{cancelled}
+use Rattle.machine.specs.Store.{Store}
+use Rattle.machine.specs.History.{Entry, cancelled}
 use Rattle.machine.specs.Sessions.{Sent, session, AllSentInRange}
 use Rattle.machine.specs.DemandThree.{goes-on, Demand3, DemandThree}
+use Rattle.machine_theorems.specs.Soundness.Stores.{SoundStore}
+use Rattle.machine_sessions.specs.Agrees.{Agrees}
 use Rattle.machine_sessions.specs.AgreesSessions.{session-agrees}
-use Rattle.machine_sessions.specs.PlacesHold.{completed-right}
+use Rattle.machine_sessions.specs.PlacesHold.{completed-right, awaited-right, nothing-gives}
 use Rattle.machine_sessions.specs.Following.{queue-right, session-follows}
 use Rattle.machine_sessions.specs.Waits.{session-answers}
-use Rattle.machine_sessions.specs.GoesOn.{session-goes}
+use Rattle.machine_sessions.specs.WaitingSessions.{waiting-items, session-goes}
 
 -- For every list of events, refused ones included, with any call lists.
 pub demand-three : DemandThree
 demand-three es i =
     record {
       queue = queue-right (session es) (session-follows es i);
-      places = λ g. record { completed = completed-right (session es .history) (session es .store) (session-follows es i .whole) (session-agrees es i) g };
+      places = λ g. record { completed = completed-right h s w k g; awaited = awaited-right h s w k g (λ v l e a b c. nothing-gives h s w k _ (waiting-items es i g v l e a b c)) };
       waits-right = session-answers es i .waits-are;
       no-stall = session-goes es i;
     }
+  where
+    s : Store
+    s = session es .store
+
+    h : List Entry
+    h = session es .history
+
+    w : SoundStore s
+    w = session-follows es i .whole
+
+    k : Agrees h s
+    k = session-agrees es i

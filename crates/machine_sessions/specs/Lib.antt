@@ -43,4 +43,5 @@ pub mod Cancelled
 pub mod GoesOn
 pub mod Waiting
 pub mod WaitingEvents
+pub mod WaitingSessions
 pub mod DemandThreeHolds

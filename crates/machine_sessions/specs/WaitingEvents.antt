@@ -73,7 +73,7 @@ unfolding exits entry-of happened-by
 exits-then e a u h t q = ap (λ (b : Bool). exits-by (exits h t) (happened-by b (u .log)) t) q
 
 -- where the entry ends no coroutine's task, a coroutine that has come to nothing has still
-still-nothing : (x : Entry) (h : List Entry) (c : ℕ) → ((v : Value) → running-coroutine h ≡ some c → said x .completes ≡ some v → ⊥) → ((n : ℕ) → running-coroutine h ≡ some c → said x .fails ≡ some n → ⊥)
+pub still-nothing : (x : Entry) (h : List Entry) (c : ℕ) → ((v : Value) → running-coroutine h ≡ some c → said x .completes ≡ some v → ⊥) → ((n : ℕ) → running-coroutine h ≡ some c → said x .fails ≡ some n → ⊥)
     → (exits-unstarted (spawned-for (x ∷ h)) (coroutine-of (x ∷ h)) (x .happened) c ≡ true → ⊥) → outcome-of h c ≡ none → outcome-of (x ∷ h) c ≡ none
 still-nothing x h c nv nf nu e = by (outcome-of (x ∷ h) c) refl
   where
@@ -197,11 +197,11 @@ cleanup-cleans s z =
 
 -- ---- which event ends a task
 
-record Ending (s : Store) (e : Event) : Type 0 where
-  runs : header s .moment ≡ Moment.Running (task-id (runner (header s .moment)))
-  exits-it : Exits s e (runner (header s .moment))
+pub record Ending (s : Store) (e : Event) : Type 0 where
+  pub runs : header s .moment ≡ Moment.Running (task-id (runner (header s .moment)))
+  pub exits-it : Exits s e (runner (header s .moment))
 
-completing : (s : Store) (e : Event) (v : Value) → SoundStore s → refusal s e ≡ 0 → says e .completes ≡ some v → Ending s e
+pub completing : (s : Store) (e : Event) (v : Value) → SoundStore s → refusal s e ≡ 0 → says e .completes ≡ some v → Ending s e
 unfolding says nothing-said
 completing s (Event.coroutine f) v w r q = absurd-some q
 completing s Event.call v w r q = absurd-some q
@@ -217,7 +217,7 @@ completing s (Event.cancel t) v w r q = absurd-some q
 completing s (Event.show o) v w r q = absurd-some q
 completing s Event.eager v w r q = absurd-some q
 
-failing : (s : Store) (e : Event) (n : ℕ) → SoundStore s → refusal s e ≡ 0 → says e .fails ≡ some n → Ending s e
+pub failing : (s : Store) (e : Event) (n : ℕ) → SoundStore s → refusal s e ≡ 0 → says e .fails ≡ some n → Ending s e
 unfolding says nothing-said
 failing s (Event.coroutine f) n w r q = absurd-some q
 failing s Event.call n w r q = absurd-some q
