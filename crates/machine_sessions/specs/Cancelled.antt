@@ -1,10 +1,10 @@
 -- What a cancel leaves: live tasks other than main have gone, from the queue too; all else is as it was. So what stands stands, and the places whose tasks
 -- have gone have nobody.
 use mathlib.Core.Logic.{_⊎_, inl, inr}
-use mathlib.Core.Path.{_≡_, refl, sym, ap, ap₂, subst, _∙_}
+use mathlib.Core.Path.{_≡_, refl, sym, ap, subst, _∙_}
 use mathlib.Core.Bool.{Bool, true, false, true≢false}
-use mathlib.Core.List.{List, [], _∷_}
-use mathlib.Core.Option.{Option, none, some, Option·some-injective}
+use mathlib.Core.List.{List}
+use mathlib.Core.Option.{Option, some, Option·some-injective}
 use Prim.Native.Nat.{ℕ, zero, suc, _+_, _-_, _≤_, _<_}
 use native.Mathlib.Nat.{not-suc-le-zero}
 use native.Mathlib.Omega.{arith}
@@ -16,7 +16,6 @@ use Rattle.asyncio.specs.declared.Task.{Task}
 use Rattle.asyncio.specs.declared.Awaiter.{Awaiter}
 use Rattle.asyncio.specs.declared.Place.{Place}
 use Rattle.asyncio.specs.declared.Header.{Header}
-use Rattle.asyncio.specs.declared.Moment.{Moment}
 use Rattle.asyncio.specs.Limits.{task-limit}
 use Rattle.asyncio.specs.Numbers.{heap-id}
 use Rattle.asyncio.specs.States.{is-live, is-ready, is-unstarted}
@@ -24,12 +23,12 @@ use Rattle.rows.specs.Tables.{object-at, header-at, place-at}
 use Rattle.queue.specs.Queue.{entries, occurrences, without, one-if-same, remove}
 use Rattle.queue.specs.QueueLaws.{entries-remove, occurrences-without, remove-len, remove-length}
 use Rattle.machine.specs.Store.{Store, task, object, place, header, put-task, put-queue, add-log, absent, removed}
-use Rattle.machine.specs.Scheduler.{AwaitedGather, as-awaited, as-pending, remove-from-ready-queue, remove-task, cancel-task}
+use Rattle.machine.specs.Scheduler.{as-awaited, as-pending, remove-from-ready-queue, remove-task, cancel-task}
 use Rattle.machine.specs.History.{spawned-by}
 use Rattle.machine_laws.specs.Views.{Sized}
-use Rattle.machine_laws.specs.Facts.{Open, Nothing}
+use Rattle.machine_laws.specs.Facts.{Nothing}
 use Rattle.machine_laws.specs.StoreLaws.{header-fits, live-put-task, task-put-other, sized-put-task, sized-put-queue, sized-add-log}
-use Rattle.machine_laws.specs.Walk.{Cancels, walked-kept}
+use Rattle.machine_laws.specs.Walk.{walked-kept}
 use Rattle.machine_sessions.specs.Standing.{Stands}
 use Rattle.machine_sessions.specs.NoStall.{Source, by-external, by-gather, by-nobody, by-task, Roots, root, above, Sourced}
 use Rattle.machine_sessions.specs.Spawned.{exits-by, used-coroutine, any-coroutine, Tasks}

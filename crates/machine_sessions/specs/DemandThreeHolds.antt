@@ -1,12 +1,9 @@
 -- Demand 3 holds.
-use mathlib.Core.Path.{_≡_}
-use mathlib.Core.Bool.{Bool, true, false}
 use mathlib.Core.List.{List}
-use Prim.Native.Nat.{ℕ}
 use Rattle.machine.specs.Store.{Store}
-use Rattle.machine.specs.History.{Entry, cancelled}
-use Rattle.machine.specs.Sessions.{Sent, session, AllSentInRange}
-use Rattle.machine.specs.DemandThree.{goes-on, Demand3, DemandThree}
+use Rattle.machine.specs.History.{Entry}
+use Rattle.machine.specs.Sessions.{session}
+use Rattle.machine.specs.DemandThree.{DemandThree}
 use Rattle.machine_theorems.specs.Soundness.Stores.{SoundStore}
 use Rattle.machine_sessions.specs.Agrees.{Agrees}
 use Rattle.machine_sessions.specs.AgreesSessions.{session-agrees}

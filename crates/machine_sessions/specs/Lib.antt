@@ -10,10 +10,6 @@ pub mod AgreesResults
 pub mod AgreesMakes
 pub mod AgreesSessions
 pub mod PlacesHold
-pub mod Named
-pub mod NamedClimb
-pub mod NamedRows
-pub mod NamedCommit
 pub mod Tracked
 pub mod Spawned
 pub mod Outcomes

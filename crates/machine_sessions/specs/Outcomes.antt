@@ -1,16 +1,16 @@
 -- A coroutine comes to something, a value or an error, only by the exit of a task that was spawned for it.
-use mathlib.Core.Path.{_≡_, refl, sym, ap, ap₂, subst, _∙_}
-use mathlib.Core.Bool.{Bool, true, false, not, _&&_, _||_, true≢false}
+use mathlib.Core.Path.{_≡_, refl, sym, ap, ap₂, _∙_}
+use mathlib.Core.Bool.{Bool, true, false, _&&_, _||_, true≢false}
 use mathlib.Core.List.{List, [], _∷_}
-use mathlib.Core.Option.{Option, none, some, Option·some-injective}
-use Prim.Native.Nat.{ℕ, zero, suc}
+use mathlib.Core.Option.{Option, none, some}
+use Prim.Native.Nat.{ℕ}
 use lib.Dec.{eqb}
 use borrow.Author.Tests.{eq-eqb, eqb-true}
 use Rattle.asyncio.specs.declared.Value.{Value}
 use Rattle.asyncio.specs.declared.Error.{Error}
-use Rattle.machine.specs.Store.{Store, LogEntry, spawned, blocked, reached, exited, removed}
+use Rattle.machine.specs.Store.{LogEntry, spawned, blocked, reached, exited, removed}
 use Rattle.machine.specs.Gather.{Outcome, returned, raised}
-use Rattle.machine.specs.History.{Entry, Says, said, is-at, running-coroutine, completed-value, spawned-for, coroutine-of, is-none, exits-unstarted, failed-error, coroutine-outcome}
+use Rattle.machine.specs.History.{Entry, said, is-at, running-coroutine, completed-value, spawned-for, coroutine-of, is-none, exits-unstarted, failed-error, coroutine-outcome}
 use Rattle.machine_laws.specs.DeliveryLaws.{absurd-some}
 use Rattle.machine_sessions.specs.Spawned.{exits-by}
 

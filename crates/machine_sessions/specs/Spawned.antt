@@ -2,7 +2,7 @@
 -- task is spawned for a coroutine, ever; a task that has exited lives no more; one that has gone without an exit never exits.
 use mathlib.Core.Logic.{_⊎_, inl, inr}
 use mathlib.Core.Path.{_≡_, refl, sym, ap, ap₂, subst, _∙_}
-use mathlib.Core.Bool.{Bool, true, false, not, _&&_, _||_, true≢false}
+use mathlib.Core.Bool.{Bool, true, false, _||_, true≢false}
 use mathlib.Core.List.{List, [], _∷_}
 use mathlib.Core.Option.{Option, none, some, Option·some-injective}
 use Prim.Native.Nat.{ℕ, zero, suc, _+_, _-_, _≤_, _<_}
@@ -10,31 +10,27 @@ use native.Mathlib.Nat.{not-suc-le-zero}
 use native.Mathlib.Omega.{arith}
 use native.Mathlib.Decide.{ℕ-discrete}
 use lib.Dec.{eqb}
-use lib.ListN.{length}
-use borrow.Author.Tests.{eq-eqb, ne-eqb, eqb-true}
+use borrow.Author.Tests.{eq-eqb, ne-eqb}
 use Rattle.asyncio.specs.declared.TaskState.{TaskState}
 use Rattle.asyncio.specs.declared.Task.{Task}
 use Rattle.asyncio.specs.declared.Awaiter.{Awaiter}
 use Rattle.asyncio.specs.declared.CoroutineState.{CoroutineState}
 use Rattle.asyncio.specs.declared.Object.{Object}
 use Rattle.asyncio.specs.declared.Header.{Header}
-use Rattle.asyncio.specs.declared.Moment.{Moment}
-use Rattle.asyncio.specs.Limits.{object-limit, task-limit, places-length}
+use Rattle.asyncio.specs.Limits.{object-limit, task-limit}
 use Rattle.asyncio.specs.Numbers.{heap-id}
-use Rattle.asyncio.specs.Ranges.{ObjectFits, HeaderFits, MomentFits}
+use Rattle.asyncio.specs.Ranges.{ObjectFits}
 use Rattle.asyncio.specs.RangeLaws.{object-back}
 use Rattle.asyncio.specs.Layout.{object-words, to-object}
-use Rattle.asyncio.specs.States.{pick, is-live, is-ready, is-blocked, is-unstarted}
+use Rattle.asyncio.specs.States.{pick, is-live, is-unstarted}
 use Rattle.rows.specs.Tables.{task-at}
-use Rattle.queue.specs.declared.ReadyQueue.{ReadyQueue}
-use Rattle.machine.specs.Store.{Store, LogEntry, spawned, blocked, reached, exited, removed, task, object, place, header, put-task, put-header, put-object, put-place, put-places, put-queue, add-log, restate, set-state, set-moment, set-next, absent}
-use Rattle.machine.specs.Scheduler.{make-ready, push-ready, remove-from-ready-queue, remove-task, spawn-as, is-task-of, task-of, task-of-in, first-from}
-use Rattle.machine.specs.History.{Entry, spawned-by, spawned-for}
+use Rattle.machine.specs.Store.{Store, LogEntry, spawned, blocked, reached, exited, removed, task, object, header, put-task, put-header, put-object, put-queue, add-log, restate, set-state, set-next, absent}
+use Rattle.machine.specs.Scheduler.{push-ready, remove-from-ready-queue, remove-task, spawn-as, is-task-of, task-of, task-of-in}
+use Rattle.machine.specs.History.{Entry}
 use Rattle.machine_laws.specs.Views.{Sized}
-use Rattle.machine_laws.specs.StoreLaws.{header-fits, header-put-header, header-put-object, object-fits, object-put-other, object-put-header, live-put-task, task-put-other, task-fits}
-use Rattle.machine_laws.specs.StoreLaws.{sized-put-task, sized-put-object, sized-put-place, sized-put-header, sized-put-places, sized-put-queue, sized-add-log, sized-set-state, sized-set-moment, sized-set-next}
+use Rattle.machine_laws.specs.StoreLaws.{header-fits, header-put-object, object-fits, object-put-other, object-put-header, live-put-task, task-put-other, task-fits}
+use Rattle.machine_laws.specs.StoreLaws.{sized-put-task, sized-put-object, sized-put-queue, sized-add-log}
 use Rattle.machine_laws.specs.SizedLaws.{sized-spawn-as}
-use Rattle.machine_laws.specs.DeliveryLaws.{absurd-some}
 use Rattle.machine_laws.specs.Walk.{Turns, same, takes, starts, turns}
 use Rattle.machine_sessions.specs.Calls.{read-back}
 use Rattle.machine_sessions.specs.CallEvents.{none-first}

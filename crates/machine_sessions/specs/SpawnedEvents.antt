@@ -1,52 +1,47 @@
 -- For whom each task was spawned and who has exited, through every event but cancel, until the end.
 use mathlib.Core.Logic.{_⊎_, inl, inr}
-use mathlib.Core.Path.{_≡_, refl, sym, ap, ap₂, subst, _∙_}
-use mathlib.Core.Bool.{Bool, true, false, not, _&&_, _||_, true≢false}
-use mathlib.Core.List.{List, [], _∷_}
-use mathlib.Core.Option.{Option, none, some, Option·some-injective}
+use mathlib.Core.Path.{_≡_, refl, sym, ap, subst, _∙_}
+use mathlib.Core.Bool.{Bool, true, false, _||_, true≢false}
+use mathlib.Core.List.{List, []}
+use mathlib.Core.Option.{Option, none, some}
 use Prim.Native.Nat.{ℕ, zero, suc, _+_, _-_, _≤_, _<_}
 use native.Mathlib.Nat.{not-suc-le-zero}
 use native.Mathlib.Omega.{arith}
 use native.Mathlib.Decide.{ℕ-discrete, decLt}
-use lib.Dec.{T, eqb, ltb}
+use lib.Dec.{eqb, ltb}
 use lib.ListN.{length}
-use borrow.Author.Tests.{eq-eqb, ne-eqb, leb-false, ltb-false}
-use Rattle.asyncio.specs.declared.CallId.{CallId}
+use borrow.Author.Tests.{ne-eqb, leb-false, ltb-false}
 use Rattle.asyncio.specs.declared.Value.{Value}
 use Rattle.asyncio.specs.declared.Error.{Error}
-use Rattle.asyncio.specs.declared.OptionValue.{OptionValue}
 use Rattle.asyncio.specs.declared.TaskState.{TaskState}
 use Rattle.asyncio.specs.declared.Task.{Task}
-use Rattle.asyncio.specs.declared.Awaiter.{Awaiter}
 use Rattle.asyncio.specs.declared.CoroutineState.{CoroutineState}
 use Rattle.asyncio.specs.declared.ExternalFutureState.{ExternalFutureState}
-use Rattle.asyncio.specs.declared.GatherState.{GatherState}
 use Rattle.asyncio.specs.declared.Object.{Object}
 use Rattle.asyncio.specs.declared.Header.{Header}
 use Rattle.asyncio.specs.declared.Moment.{Moment}
-use Rattle.asyncio.specs.Limits.{object-limit, task-limit, item-limit, place-limit, call-limit, u32-limit}
-use Rattle.asyncio.specs.Numbers.{heap-id, task-id, call-id}
-use Rattle.asyncio.specs.Ranges.{HeaderFits, MomentFits}
+use Rattle.asyncio.specs.Limits.{object-limit, task-limit, item-limit, place-limit, call-limit}
+use Rattle.asyncio.specs.Numbers.{heap-id, task-id}
+use Rattle.asyncio.specs.Ranges.{HeaderFits}
 use Rattle.asyncio.specs.RangeLaws.{pick-has}
 use Rattle.asyncio.specs.Layout.{object-words, to-object}
-use Rattle.asyncio.specs.States.{pick, is-live, is-ready, is-blocked, is-unstarted}
-use Rattle.machine.specs.Store.{Store, LogEntry, task, object, place, header, put-task, put-header, put-object, put-place, put-places, put-queue, add-log, set-state, restate, set-moment, set-next, set-calls, add-object, absent, spawned, blocked, reached, exited, removed}
+use Rattle.asyncio.specs.States.{is-live, is-ready, is-blocked, is-unstarted}
+use Rattle.machine.specs.Store.{Store, LogEntry, task, object, header, put-task, put-header, put-object, put-place, put-places, put-queue, add-log, set-state, restate, set-moment, set-next, set-calls, add-object, blocked, reached, exited}
 use Rattle.machine.specs.Scheduler.{PendingExternal, as-pending, make-ready, push-ready, remove-from-ready-queue, remove-task, spawn-as}
-use Rattle.machine.specs.Delivery.{deliver-awaiter-success, deliver-awaiter-failure}
-use Rattle.machine.specs.Events.{activate, new-function, resume-next, completed, handle-task-completion, handle-task-failure, exec-get-awaitable, put-items, make-coroutine, make-pending, make-settled, make-gather}
+use Rattle.machine.specs.Delivery.{deliver-awaiter-failure}
+use Rattle.machine.specs.Events.{activate, new-function, completed, handle-task-completion, handle-task-failure, exec-get-awaitable, put-items, make-coroutine, make-pending, make-settled, make-gather}
 use Rattle.machine.specs.Machine.{Event, Step, switched, answer-await, end-main, task-completes, task-fails, runner, resume-with-resolved-futures, refusals, refusal, full, no-number, accept}
-use Rattle.machine.specs.Sound.{is-ended}
 use Rattle.machine.specs.History.{says, nothing-said, spawned-by}
 use Rattle.machine_laws.specs.Views.{Sized}
 use Rattle.machine_laws.specs.Facts.{Nothing}
-use Rattle.machine_laws.specs.StoreLaws.{header-fits, header-put-header, header-put-object, object-put-other, object-put-header, task-fits, live-put-task, task-put-other}
-use Rattle.machine_laws.specs.StoreLaws.{sized-put-task, sized-put-object, sized-put-place, sized-put-header, sized-put-places, sized-put-queue, sized-add-log, sized-set-state, sized-set-moment, sized-set-calls}
+use Rattle.machine_laws.specs.StoreLaws.{header-fits, header-put-header, object-put-header, task-fits, live-put-task, task-put-other}
+use Rattle.machine_laws.specs.StoreLaws.{sized-put-object, sized-put-place, sized-put-header, sized-put-places, sized-put-queue, sized-add-log, sized-set-state, sized-set-moment, sized-set-calls}
 use Rattle.machine_laws.specs.DeliveryLaws.{absurd-some, pending-object}
 use Rattle.machine_laws.specs.WokenLaws.{success-woken}
 use Rattle.machine_laws.specs.MakingLaws.{items-sized}
 use Rattle.machine_laws.specs.SoundLaws.{pass, running-rest, refusal-rest}
 use Rattle.machine_laws.specs.TestLaws.{or-left, or-right}
-use Rattle.machine_laws.specs.Walk.{Turns, NewCommits, Delivers, Switches, value-kept, error-kept, batch-kept, next-task-kept, woken-task-kept, failed-task-kept, awaits-kept}
+use Rattle.machine_laws.specs.Walk.{NewCommits, Delivers, Switches, value-kept, error-kept, batch-kept, next-task-kept, woken-task-kept, failed-task-kept, awaits-kept}
 use Rattle.machine_theorems.specs.Soundness.Stores.{SoundStore}
 use Rattle.machine_theorems.specs.Soundness.Exits.{runner-low, runner-runs}
 use Rattle.machine_theorems.specs.Soundness.Preserved.{running, await-made}

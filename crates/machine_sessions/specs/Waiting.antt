@@ -1,17 +1,15 @@
 -- What a session has until it ends, cancels or not; and that it gives: an item that an open place of an awaited gather names has come to nothing, neither a
 -- value nor an error.
-use mathlib.Core.Path.{_≡_, refl, sym, ap, ap₂, subst, _∙_}
-use mathlib.Core.Bool.{Bool, true, false, true≢false}
-use mathlib.Core.List.{List, [], _∷_}
-use mathlib.Core.Option.{Option, none, some, Option·some-injective}
-use Prim.Native.Nat.{ℕ, zero, suc, _+_, _≤_, _<_}
+use mathlib.Core.Path.{_≡_, refl, sym, ap, subst, _∙_}
+use mathlib.Core.Bool.{true, false, true≢false}
+use mathlib.Core.List.{List}
+use mathlib.Core.Option.{Option, none, some}
+use Prim.Native.Nat.{ℕ, zero, suc, _+_, _<_}
 use lib.Dec.{T}
 use Rattle.asyncio.specs.declared.Value.{Value}
 use Rattle.asyncio.specs.declared.Error.{Error}
-use Rattle.asyncio.specs.declared.Task.{Task}
 use Rattle.asyncio.specs.declared.Awaiter.{Awaiter}
 use Rattle.asyncio.specs.declared.Object.{Object}
-use Rattle.asyncio.specs.declared.Header.{Header}
 use Rattle.asyncio.specs.Numbers.{heap-id}
 use Rattle.asyncio.specs.States.{is-live, is-nobody}
 use Rattle.machine.specs.Store.{Store, view, task, object, place, header}
@@ -19,7 +17,7 @@ use Rattle.machine.specs.Scheduler.{AwaitedGather, as-awaited, bit}
 use Rattle.machine.specs.Sound.{task-in-range}
 use Rattle.machine.specs.Gather.{Outcome}
 use Rattle.machine.specs.History.{Entry, spawned-for, cancelled}
-use Rattle.machine_laws.specs.Facts.{Nothing, Open}
+use Rattle.machine_laws.specs.Facts.{Nothing}
 use Rattle.machine_laws.specs.TestLaws.{both-left, both-right, holds}
 use Rattle.machine_laws.specs.DeliveryLaws.{awaited-object, pending-object}
 use Rattle.machine_theorems.specs.Soundness.Stores.{SoundStore}

@@ -1,18 +1,15 @@
 -- What a session has until it ends, through each event, cancel among them; and what its items have come to, at the end and behind it.
-use mathlib.Core.Path.{_≡_, refl, sym, ap, ap₂, subst, _∙_}
+use mathlib.Core.Path.{_≡_, refl, sym, ap, subst, _∙_}
 use mathlib.Core.Bool.{Bool, true, false, not, _||_, true≢false}
 use mathlib.Core.List.{List, [], _∷_}
-use mathlib.Core.Option.{Option, none, some, Option·some-injective}
+use mathlib.Core.Option.{Option, none, some}
 use Prim.Native.Nat.{ℕ, zero, suc, _+_, _≤_, _<_}
 use native.Mathlib.Nat.{not-suc-le-zero}
 use native.Mathlib.Omega.{arith}
-use native.Mathlib.Decide.{ℕ-discrete}
-use lib.Dec.{T, eqb}
+use lib.Dec.{eqb}
 use borrow.Author.Tests.{eq-eqb}
 use Rattle.asyncio.specs.declared.Value.{Value}
 use Rattle.asyncio.specs.declared.Error.{Error}
-use Rattle.asyncio.specs.declared.Task.{Task}
-use Rattle.asyncio.specs.declared.TaskId.{TaskId}
 use Rattle.asyncio.specs.declared.TaskState.{TaskState}
 use Rattle.asyncio.specs.declared.Awaiter.{Awaiter}
 use Rattle.asyncio.specs.declared.CoroutineState.{CoroutineState}
@@ -22,17 +19,16 @@ use Rattle.asyncio.specs.declared.Object.{Object}
 use Rattle.asyncio.specs.declared.Place.{Place}
 use Rattle.asyncio.specs.declared.Moment.{Moment}
 use Rattle.asyncio.specs.declared.Header.{Header}
-use Rattle.asyncio.specs.Limits.{object-limit}
 use Rattle.asyncio.specs.Numbers.{heap-id, task-id}
 use Rattle.asyncio.specs.Ranges.{HeaderFits}
 use Rattle.asyncio.specs.States.{pick, is-live, is-unstarted}
 use Rattle.rows.specs.Tables.{object-at, header-at, place-at}
 use Rattle.queue.specs.Queue.{empty-queue}
 use Rattle.machine.specs.Store.{Store, LogEntry, view, task, object, place, header, put-task, put-header, put-queue, add-log, set-moment, absent, removed}
-use Rattle.machine.specs.Scheduler.{AwaitedGather, as-awaited, live, cancel-task, remove-from, cleanup}
-use Rattle.machine.specs.Machine.{Event, Answer, runner, first-refusal, refusals, refusal, accept, in-running, in-waiting}
+use Rattle.machine.specs.Scheduler.{as-awaited, live, cancel-task, remove-from, cleanup}
+use Rattle.machine.specs.Machine.{Event, Answer, runner, first-refusal, refusals, refusal, accept}
 use Rattle.machine.specs.Gather.{Outcome}
-use Rattle.machine.specs.History.{Entry, Says, says, nothing-said, said, tells, done-only, is-at, running, running-coroutine, coroutine-of, spawned-by, spawned-for, exits-unstarted, cancelled}
+use Rattle.machine.specs.History.{Entry, Says, says, nothing-said, said, tells, running-coroutine, coroutine-of, spawned-by, spawned-for, exits-unstarted}
 use Rattle.machine.specs.Sessions.{InRange, entry-of, happened-by}
 use Rattle.machine_laws.specs.Views.{Sized}
 use Rattle.machine_laws.specs.Facts.{Nothing}
@@ -46,12 +42,12 @@ use Rattle.machine_theorems.specs.Soundness.Preserved.{waiting}
 use Rattle.machine_sessions.specs.Tracked.{live-low}
 use Rattle.machine_sessions.specs.Waits.{said-accepted}
 use Rattle.machine_sessions.specs.Following.{accept-accepts}
-use Rattle.machine_sessions.specs.Told.{Frozen, unmade, co, pends, gave, broke, many, frozen}
+use Rattle.machine_sessions.specs.Told.{unmade, frozen}
 use Rattle.machine_sessions.specs.Agrees.{Agrees}
 use Rattle.machine_sessions.specs.PlacesHold.{row-outcome}
-use Rattle.machine_sessions.specs.StandingEvents.{MainEnds, StepRight}
+use Rattle.machine_sessions.specs.StandingEvents.{MainEnds}
 use Rattle.machine_sessions.specs.StandingAwait.{accept-right}
-use Rattle.machine_sessions.specs.NoStall.{Sourced, sourced-more}
+use Rattle.machine_sessions.specs.NoStall.{sourced-more}
 use Rattle.machine_sessions.specs.SourcedKept.{accept-sourced}
 use Rattle.machine_sessions.specs.Spawned.{exits-by, exits, any-coroutine, Tasks, tasks-same}
 use Rattle.machine_sessions.specs.SpawnedEvents.{Exits, accept-tasks}

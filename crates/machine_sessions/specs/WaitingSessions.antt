@@ -1,16 +1,14 @@
 -- In every session an item that an open place of an awaited gather names has come to nothing; and where no cancel was accepted, no wait is for no call and no
 -- answer is stalled.
 use mathlib.Core.Logic.{_⊎_, inl, inr}
-use mathlib.Core.Path.{_≡_, refl, sym, ap, ap₂, subst, _∙_}
-use mathlib.Core.Bool.{Bool, true, false, _||_, true≢false}
+use mathlib.Core.Path.{_≡_, refl, sym, ap, subst, _∙_}
+use mathlib.Core.Bool.{Bool, true, false, true≢false}
 use mathlib.Core.List.{List, [], _∷_}
-use mathlib.Core.Option.{Option, none, some}
-use Prim.Native.Nat.{ℕ, zero, suc, _+_, _≤_, _<_}
+use mathlib.Core.Option.{none, some}
+use Prim.Native.Nat.{ℕ, suc, _+_, _<_}
 use native.Mathlib.Nat.{not-suc-le-zero}
 use native.Mathlib.Omega.{arith}
 use native.Mathlib.Decide.{ℕ-discrete}
-use Rattle.asyncio.specs.declared.Value.{Value}
-use Rattle.asyncio.specs.declared.Error.{Error}
 use Rattle.asyncio.specs.declared.Task.{Task}
 use Rattle.asyncio.specs.declared.Awaiter.{Awaiter}
 use Rattle.asyncio.specs.declared.Moment.{Moment}
@@ -20,11 +18,10 @@ use Rattle.asyncio.specs.Numbers.{heap-id, task-id}
 use Rattle.asyncio.specs.Layout.{to-task}
 use Rattle.asyncio.specs.States.{is-live, is-ready, is-unstarted}
 use Rattle.rows.specs.Tables.{task-at, task-start}
-use Rattle.machine.specs.Store.{Store, LogEntry, task, object, place, header, forget, fresh, empty, put-task, put-header}
+use Rattle.machine.specs.Store.{Store, LogEntry, task, object, place, header, forget, fresh, empty, put-header}
 use Rattle.machine.specs.Scheduler.{AwaitedGather, as-awaited, bit}
 use Rattle.machine.specs.Machine.{Event, Answer, Step, runner, refusal, accept, step}
 use Rattle.machine.specs.Sound.{is-ended}
-use Rattle.machine.specs.Gather.{Outcome}
 use Rattle.machine.specs.History.{Entry, Says, says, nothing-said, said, tells, spawned-by, spawned-for, coroutine-of, exits-unstarted, completed-value, failed-error, coroutine-outcome, outcome, error-of, cancelled}
 use Rattle.machine.specs.Sessions.{InRange, AllSentInRange, Sent, lent-any, entry-of, happened-by, Session, begun, send, send-all, session}
 use Rattle.machine.specs.DemandThree.{look, empty-wait, is-stalled, goes-on}
@@ -40,10 +37,10 @@ use Rattle.machine_theorems.specs.Soundness.Stores.{SoundStore}
 use Rattle.machine_theorems.specs.Soundness.Sessions.{forget-sound-store, step-sound-store, fresh-sound-store}
 use Rattle.machine_sessions.specs.Waits.{said-accepted, said-refused}
 use Rattle.machine_sessions.specs.Following.{accept-accepts, Sends, stepped, short, sends, Following, send-following, session-follows}
-use Rattle.machine_sessions.specs.Standing.{Stands, stands-like}
+use Rattle.machine_sessions.specs.Standing.{stands-like}
 use Rattle.machine_sessions.specs.StandingEvents.{MainEnds}
 use Rattle.machine_sessions.specs.StandingAwait.{accept-right, ends}
-use Rattle.machine_sessions.specs.NoStall.{Sourced, sourced-like, sourced-more}
+use Rattle.machine_sessions.specs.NoStall.{sourced-like, sourced-more}
 use Rattle.machine_sessions.specs.Agrees.{Agrees}
 use Rattle.machine_sessions.specs.AgreesEvents.{forget-agrees}
 use Rattle.machine_sessions.specs.AgreesSessions.{row-zeros, send-agrees, session-agrees}
@@ -51,7 +48,7 @@ use Rattle.machine_sessions.specs.PlacesHold.{row-outcome, outcome-row, 
 use Rattle.machine_sessions.specs.Spawned.{exits-by, exits, Tasks, tasks-same}
 use Rattle.machine_sessions.specs.Outcomes.{outcome-of, Came, was, completed, failed, unstarted, came}
 use Rattle.machine_sessions.specs.GoesOn.{Reads, ended-reads, accept-goes, Finished, main-finishes, or-none, cancelled-then, goes-then}
-use Rattle.machine_sessions.specs.Waiting.{Gone, Lost, Alive, ItemsWait, alive-items}
+use Rattle.machine_sessions.specs.Waiting.{Lost, Alive, ItemsWait, alive-items}
 use Rattle.machine_sessions.specs.WaitingEvents.{still-nothing, items-later, quiet-items, Ending, completing, failing, accept-alive, end-items, cancel-alive}
 
 pub record Waiting (h : List Entry) (s : Store) : Type 0 where

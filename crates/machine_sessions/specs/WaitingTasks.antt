@@ -1,8 +1,7 @@
 -- In waiting every live task has started its coroutine: through every event but cancel.
-use mathlib.Core.Path.{_≡_, refl, sym, ap, ap₂, subst, _∙_}
-use mathlib.Core.Bool.{Bool, true, false, not, _||_, true≢false}
-use mathlib.Core.List.{List, [], _∷_}
-use mathlib.Core.Option.{Option, none, some}
+use mathlib.Core.Path.{_≡_, refl, sym, ap, subst, _∙_}
+use mathlib.Core.Bool.{Bool, true, false, _||_, true≢false}
+use mathlib.Core.List.{List, []}
 use Prim.Native.Nat.{ℕ, zero, suc, _+_, _≤_, _<_}
 use native.Mathlib.Nat.{not-suc-le-zero}
 use native.Mathlib.Omega.{arith}
@@ -21,12 +20,12 @@ use Rattle.asyncio.specs.Limits.{object-limit, task-limit, item-limit, place-li
 use Rattle.asyncio.specs.Numbers.{task-id}
 use Rattle.asyncio.specs.Ranges.{HeaderFits}
 use Rattle.asyncio.specs.RangeLaws.{pick-has}
-use Rattle.asyncio.specs.States.{pick, is-live, is-ready, is-unstarted}
+use Rattle.asyncio.specs.States.{is-ready, is-unstarted}
 use Rattle.asyncio.specs.Kinds.{kind, is-completed}
 use Rattle.queue.specs.Queue.{entries, occurrences}
-use Rattle.machine.specs.Store.{Store, view, task, object, header, put-task, put-object, put-places, put-header, put-queue, add-log, restate, set-state, set-calls, add-object, reached}
+use Rattle.machine.specs.Store.{Store, task, object, header, put-task, put-object, put-places, put-header, put-queue, add-log, restate, set-state, set-calls, add-object, reached}
 use Rattle.machine.specs.Scheduler.{make-ready, push-ready}
-use Rattle.machine.specs.Events.{Switched, Awaited, Result, activate, resume-next, exec-get-awaitable, put-items, apply-future-results, make-coroutine, make-pending, make-settled, make-gather}
+use Rattle.machine.specs.Events.{Switched, Result, put-items, apply-future-results, make-coroutine, make-pending, make-settled, make-gather}
 use Rattle.machine.specs.Machine.{Event, Step, switched, answer-await, end-main, task-completes, task-fails, runner, resume-with-resolved-futures, refusals, refusal, full, no-number, accept}
 use Rattle.machine.specs.Sound.{is-ended, value-known}
 use Rattle.machine.specs.History.{says, nothing-said}
