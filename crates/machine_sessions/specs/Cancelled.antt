@@ -1,5 +1,4 @@
--- What a cancel leaves: live tasks other than main have gone, from the queue too; all else is as it was. So what stands stands, and the places whose tasks
--- have gone have nobody.
+-- What a cancel leaves: live tasks other than main have gone, all else is as it was; so what stands stands, and lost places have nobody.
 use mathlib.Core.Logic.{_⊎_, inl, inr}
 use mathlib.Core.Path.{_≡_, refl, sym, ap, subst, _∙_}
 use mathlib.Core.Bool.{Bool, true, false, true≢false}
@@ -32,7 +31,7 @@ use Rattle.machine_laws.specs.Walk.{walked-kept}
 use Rattle.machine_sessions.specs.Standing.{Stands}
 use Rattle.machine_sessions.specs.NoStall.{Source, by-external, by-gather, by-nobody, by-task, Roots, root, above, Sourced}
 use Rattle.machine_sessions.specs.Spawned.{exits-by, used-coroutine, any-coroutine, Tasks}
-use Rattle.machine_sessions.specs.WaitingTasks.{Begun}
+use Rattle.machine_sessions.specs.WaitingTasks.{AllStarted}
 
 pub record Removes (s u : Store) : Type 0 where
   pub sized : Sized u
@@ -179,8 +178,8 @@ module _ (s u : Store) (k : Removes s u) where
             k .queued t lv (st .stands t (subst (λ (y : Header). t < y .next) head-same l) (sym (ap (λ (x : Task). is-ready (x .state)) (live-same t lv)) ∙ r) n);
       }
 
-  pub removed-begun : Begun s → Begun u
-  removed-begun b m t l = by (is-unstarted (task u t .state)) refl
+  pub removed-started : AllStarted s → AllStarted u
+  removed-started b m t l = by (is-unstarted (task u t .state)) refl
     where
       by : (x : Bool) → is-unstarted (task u t .state) ≡ x → x ≡ false
       by true e =
@@ -188,7 +187,7 @@ module _ (s u : Store) (k : Removes s u) where
           ∙ b (ap (λ (y : Header). y .moment) (sym head-same) ∙ m) t (subst (λ (y : Header). t < y .next) head-same l))))
       by false e = refl
 
-  module _ (F : ℕ → Option ℕ) (L E : ℕ → Type 0) (S : ℕ → Option ℕ) (Y : ℕ → Bool) (begun : (t : ℕ) → t < header s .next → is-unstarted (task s t .state) ≡ false) where
+  module _ (F : ℕ → Option ℕ) (L E : ℕ → Type 0) (S : ℕ → Option ℕ) (Y : ℕ → Bool) (all-started : (t : ℕ) → t < header s .next → is-unstarted (task s t .state) ≡ false) where
     pub removed-tasks : Tasks F L E S Y s → Tasks F L E S Y u
     removed-tasks j =
         record {
@@ -217,7 +216,7 @@ module _ (s u : Store) (k : Removes s u) where
         used-by zero c e b a = absurd (not-suc-le-zero {n = 0} (j .born zero c e .0))
         used-by (suc t) c e true a =
             let l : suc t < header s .next = j .born (suc t) c e .1 in
-            subst (λ (m : ℕ). used-coroutine (object s m) ≡ true) (Option·some-injective (task s (suc t) .coroutine .0) c (sym (j .rows t l a) ∙ e)) (j .started t l a (begun (suc t) l))
+            subst (λ (m : ℕ). used-coroutine (object s m) ≡ true) (Option·some-injective (task s (suc t) .coroutine .0) c (sym (j .rows t l a) ∙ e)) (j .started t l a (all-started (suc t) l))
         used-by (suc t) c e false a = j .used (suc t) c e a
 
   -- G before, H after: the coroutines of the tasks that have gone are of H

@@ -1,5 +1,4 @@
--- Which task was spawned for which coroutine, and which tasks have exited: what the log says agrees with the rows, and each write keeps it. At most one
--- task is spawned for a coroutine, ever; a task that has exited lives no more; one that has gone without an exit never exits.
+-- For whom each task was spawned and who has exited: the log agrees with the rows, one task for a coroutine, ever; each write keeps it.
 use mathlib.Core.Logic.{_⊎_, inl, inr}
 use mathlib.Core.Path.{_≡_, refl, sym, ap, ap₂, subst, _∙_}
 use mathlib.Core.Bool.{Bool, true, false, _||_, true≢false}

@@ -1,5 +1,4 @@
--- What a session has until it ends, cancels or not; and that it gives: an item that an open place of an awaited gather names has come to nothing, neither a
--- value nor an error.
+-- What a session has until it ends, cancels or not, and that it gives: the items of open places have come to nothing.
 use mathlib.Core.Path.{_≡_, refl, sym, ap, subst, _∙_}
 use mathlib.Core.Bool.{true, false, true≢false}
 use mathlib.Core.List.{List}
@@ -26,7 +25,7 @@ use Rattle.machine_sessions.specs.NoStall.{Source, by-external, by-gathe
 use Rattle.machine_sessions.specs.PlacesHold.{row-outcome}
 use Rattle.machine_sessions.specs.Spawned.{exits, any-coroutine, Tasks}
 use Rattle.machine_sessions.specs.Outcomes.{outcome-of}
-use Rattle.machine_sessions.specs.WaitingTasks.{Begun}
+use Rattle.machine_sessions.specs.WaitingTasks.{AllStarted}
 
 -- task v has gone, without an exit
 pub record Gone (h : List Entry) (s : Store) (v : ℕ) : Type 0 where
@@ -46,7 +45,7 @@ pub record Alive (h : List Entry) (s : Store) : Type 0 where
   -- main lives, and a ready task stands in the queue
   pub stands : Stands Nothing s
   -- in waiting every live task has started
-  pub begun : Begun s
+  pub all-started : AllStarted s
   -- for whom each task was spawned, and who has exited
   pub tasks : Tasks (spawned-for h) Nothing Nothing (spawned-for h) (exits h) s
   -- an open place has a source, or its item's task was cancelled

@@ -52,8 +52,8 @@ use Rattle.machine_sessions.specs.SourcedKept.{accept-sourced}
 use Rattle.machine_sessions.specs.Spawned.{exits-by, exits, any-coroutine, Tasks, tasks-same}
 use Rattle.machine_sessions.specs.SpawnedEvents.{Exits, accept-tasks}
 use Rattle.machine_sessions.specs.Outcomes.{outcome-of, unstarted-exits, exits-on, Came, was, completed, failed, unstarted, came}
-use Rattle.machine_sessions.specs.WaitingTasks.{accept-begun}
-use Rattle.machine_sessions.specs.Cancelled.{Removes, cancel-removes, head-same, removed-stands, removed-begun, removed-tasks, removed-sourced}
+use Rattle.machine_sessions.specs.WaitingTasks.{accept-started}
+use Rattle.machine_sessions.specs.Cancelled.{Removes, cancel-removes, head-same, removed-stands, removed-started, removed-tasks, removed-sourced}
 use Rattle.machine_sessions.specs.GoesOn.{cancelled-then}
 use Rattle.machine_sessions.specs.Waiting.{Gone, Lost, Alive, ItemsWait}
 
@@ -360,7 +360,7 @@ module _ (h : List Entry) (s : Store) (w : SoundStore s) (ag : Agrees h s) (clea
         (tasks-same (spawned-for h) (Gone h s) Nothing s s (spawned-for h) (λ t. spawned-by (spawned-for h t) (s .log) t) (exits h) (λ t. exits-by (exits h t) (s .log) t) (k .tasks .sized) refl spawned-now exits-now (λ c q. q) (λ c q. q) (λ t. refl) from-gone) e n r on in
         record {
           stands = accept-right s w (k .stands) e i n r .stood on;
-          begun = accept-begun s w (k .stands) (k .begun) e i n r;
+          all-started = accept-started s w (k .stands) (k .all-started) e i n r;
           tasks = later-tasks (Gone h s) (Exits s e) j;
           sourced = sourced-more u (later-lost (Exits s e) j) (accept-sourced (Lost h s) s w (k .sourced) e i n r on);
           came = later-came (Gone h s) (Exits s e) j (λ t q. q);
@@ -408,7 +408,7 @@ module _ (h : List Entry) (s : Store) (w : SoundStore s) (ag : Agrees h s) (clea
   cancel-alive t r =
       record {
         stands = removed-stands s v rm (k .stands);
-        begun = removed-begun s v rm (k .begun);
+        all-started = removed-started s v rm (k .all-started);
         tasks = later-tasks (Event.cancel t) r (Gone h s) Nothing j;
         sourced = removed-sourced s v rm (Lost h s) (Lost (x (Event.cancel t) r ∷ h) v) (later-lost (Event.cancel t) r Nothing j) lost-now (k .sourced);
         came = later-came (Event.cancel t) r (Gone h s) Nothing j (λ a q. absurd (unfold Exits in q));
@@ -439,7 +439,7 @@ module _ (h : List Entry) (s : Store) (w : SoundStore s) (ag : Agrees h s) (clea
 
       j : Tasks (spawned-for h) (Gone h s) Nothing (λ a. spawned-by (spawned-for h a) (v .log) a) (λ a. exits-by (exits h a) (v .log) a) v
       j =
-          let y = removed-tasks s v rm (spawned-for h) (Gone h s) Nothing (spawned-for h) (exits h) (k .begun (q .0)) from-gone in
+          let y = removed-tasks s v rm (spawned-for h) (Gone h s) Nothing (spawned-for h) (exits h) (k .all-started (q .0)) from-gone in
           tasks-same (spawned-for h) (Gone h s) Nothing v v (spawned-for h) _ (exits h) _ (y .sized) refl (λ a. rm .spawned (spawned-for h a) a ∙ spawned-now a) (λ a. rm .exits (exits h a) a ∙ exits-now a) (λ c e. e) (λ c e. e) (λ a. refl) y
 
       lost-now : (a g o : ℕ) → a < header s .next → is-live (task s a .state) ≡ true → is-live (task v a .state) ≡ false → task s a .awaiter ≡ Awaiter.GatherSlot (heap-id g) (heap-id o) → Lost (x (Event.cancel t) r ∷ h) v o

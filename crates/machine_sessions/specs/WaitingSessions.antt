@@ -1,5 +1,4 @@
--- In every session an item that an open place of an awaited gather names has come to nothing; and where no cancel was accepted, no wait is for no call and no
--- answer is stalled.
+-- In every session the items of open places have come to nothing; and where no cancel was accepted, nothing stalls.
 use mathlib.Core.Logic.{_⊎_, inl, inr}
 use mathlib.Core.Path.{_≡_, refl, sym, ap, subst, _∙_}
 use mathlib.Core.Bool.{Bool, true, false, true≢false}
@@ -65,7 +64,7 @@ forget-alive : (h : List Entry) (s : Store) → Alive h s → Alive h (forget s)
 forget-alive h s k =
     record {
       stands = stands-like s (forget s) (unfold forget in refl) (unfold forget in refl) (unfold header forget in refl) (k .stands);
-      begun = λ m t l. unfold task forget in (unfold task in (k .begun (unfold header forget in m) t (unfold header forget in l)));
+      all-started = λ m t l. unfold task forget in (unfold task in (k .all-started (unfold header forget in m) t (unfold header forget in l)));
       tasks = tasks-same _ _ _ s (forget s) _ _ _ _ (sized-forget s (k .tasks .sized)) (unfold header forget in refl) (λ t. refl) (λ t. refl) (λ c e. unfold object forget in (unfold object in e)) (λ c e. unfold object forget in (unfold object in e))
           (λ t. unfold task forget in refl) (k .tasks);
       sourced = sourced-more (forget s) lost-now (sourced-like _ s (forget s) (λ o. unfold object forget in refl) (λ t. unfold task forget in refl) (λ p. unfold place forget in refl) (unfold header forget in refl) (k .sourced));
@@ -117,7 +116,7 @@ module _ (e : Event) (n : ℕ) (u : Store) (h : List Entry) where
       let j = k .tasks in
       record {
         stands = k .stands;
-        begun = k .begun;
+        all-started = k .all-started;
         tasks = record {
           sized = j .sized;
           main = j .main;
@@ -345,7 +344,7 @@ fresh-waiting =
     record {
       alive = λ on. record {
         stands = record { main = fresh-main .0; stands = λ t l r n. absurd (true≢false (sym r ∙ subst (λ (v : ℕ). is-ready (task fresh v .state) ≡ false) (sym (only t l)) (fresh-main .1))) };
-        begun = λ m t l. subst (λ (v : ℕ). is-unstarted (task fresh v .state) ≡ false) (sym (only t l)) (fresh-main .2);
+        all-started = λ m t l. subst (λ (v : ℕ). is-unstarted (task fresh v .state) ≡ false) (sym (only t l)) (fresh-main .2);
         tasks = fresh-tasks;
         sourced = record {
           sources = λ g o v l e op. absurd (none-made g l);

@@ -47,8 +47,8 @@ use Rattle.machine_sessions.specs.Standing.{Stands, Right, not-waiting, 
 use Rattle.machine_sessions.specs.StandingEvents.{complete-right, failed-right}
 use Rattle.machine_sessions.specs.StandingAwait.{await-right, ends}
 
-abbrev pub Begun : Store → Type 0
-Begun s = header s .moment ≡ Moment.Waiting → (t : ℕ) → t < header s .next → is-unstarted (task s t .state) ≡ false
+abbrev pub AllStarted : Store → Type 0
+AllStarted s = header s .moment ≡ Moment.Waiting → (t : ℕ) → t < header s .next → is-unstarted (task s t .state) ≡ false
 
 unstarted-ready : (x : TaskState) → is-unstarted x ≡ true → is-ready x ≡ true
 unstarted-ready TaskState.Absent e = absurd (true≢false (sym e))
@@ -59,25 +59,25 @@ unstarted-ready (TaskState.Raised x) e = refl
 unstarted-ready (TaskState.Blocked o) e = absurd (true≢false (sym e))
 
 -- where nothing is ready, everything that lives has started
-idle-begun : (u : Store) → Stands Nothing u → (header u .moment ≡ Moment.Waiting → entries (u .queue) ≡ []) → Begun u
+idle-started : (u : Store) → Stands Nothing u → (header u .moment ≡ Moment.Waiting → entries (u .queue) ≡ []) → AllStarted u
 unfolding occurrences
-idle-begun u st idle m t l = by (is-unstarted (task u t .state)) refl
+idle-started u st idle m t l = by (is-unstarted (task u t .state)) refl
   where
     by : (b : Bool) → is-unstarted (task u t .state) ≡ b → b ≡ false
     by true e = absurd (not-suc-le-zero {n = 0} (subst (λ (q : List ℕ). 1 ≤ occurrences q t) (idle m) (st .stands t l (unstarted-ready (task u t .state) e) (λ z. z))))
     by false e = refl
 
-right-begun : (x : Switched) → Right x → Begun (x .store)
-right-begun x k = idle-begun (x .store) (k .stood) (k .idle)
+right-started : (x : Switched) → Right x → AllStarted (x .store)
+right-started x k = idle-started (x .store) (k .stood) (k .idle)
 
 -- ---- a delivery starts nobody
 
-record AsBegun (s u : Store) : Type 0 where
+record AsStarted (s u : Store) : Type 0 where
   sized : Sized u
   as-before : (t : ℕ) → is-unstarted (task s t .state) ≡ false → is-unstarted (task u t .state) ≡ false
 
-as-begun-delivers : (s : Store) → Delivers (AsBegun s)
-as-begun-delivers s =
+as-started-delivers : (s : Store) → Delivers (AsStarted s)
+as-started-delivers s =
     record {
       sized = λ u k. k .sized;
       row = λ u o x l y k. record { sized = sized-put-object u o x (k .sized); as-before = λ t e. unfold task put-object in (unfold task in (k .as-before t e)) };
@@ -107,11 +107,11 @@ as-begun-delivers s =
 
 -- ---- a task runs: not waiting
 
-running-begun : (u : Store) (t : ℕ) → header u .moment ≡ Moment.Running (task-id t) → Begun u
-running-begun u t m q = not-waiting t (sym m ∙ q)
+running-started : (u : Store) (t : ℕ) → header u .moment ≡ Moment.Running (task-id t) → AllStarted u
+running-started u t m q = not-waiting t (sym m ∙ q)
 
-ended-begun : (u : Store) → is-ended (header u .moment) ≡ true → Begun u
-ended-begun u e q = absurd (true≢false (sym e ∙ (ap is-ended q ∙ (unfold is-ended in refl))))
+ended-started : (u : Store) → is-ended (header u .moment) ≡ true → AllStarted u
+ended-started u e q = absurd (true≢false (sym e ∙ (ap is-ended q ∙ (unfold is-ended in refl))))
 
 add-moment : (s : Store) (r : Object) (n : ℕ) → Sized s → header s .made < object-limit → header s .used + n ≤ place-limit → header (add-object s r n) .moment ≡ header s .moment
 unfolding add-object
@@ -130,7 +130,7 @@ calls-head s z c =
     let f : HeaderFits (header s) = header-fits s in
     header-put-header s _ z (record { made-fits = f .made-fits; used-fits = f .used-fits; calls-fit = omega arith; next-fits = f .next-fits; moment-fits = f .moment-fits })
 
-module _ (s : Store) (h : SoundStore s) (st : Stands Nothing s) (k : Begun s) where
+module _ (s : Store) (h : SoundStore s) (st : Stands Nothing s) (k : AllStarted s) where
   z : Sized s
   z = h .memory .sized
 
@@ -159,53 +159,53 @@ module _ (s : Store) (h : SoundStore s) (st : Stands Nothing s) (k : Begun s) wh
       add-moment (put-items s (header s .used) os) _ (length os) (items-sized os s (header s .used) z) (subst (λ (y : Header). y .made < object-limit) (sym hd) m) (subst (λ (y : Header). y .used + length os ≤ place-limit) (sym hd) u)
       ∙ ap (λ (y : Header). y .moment) hd
 
-  complete-begun : (t : ℕ) (v : Value) → header s .moment ≡ Moment.Running (task-id t) → T (value-known (header s .made) (object s) v) → Begun (task-completes s t v .store)
+  complete-started : (t : ℕ) (v : Value) → header s .moment ≡ Moment.Running (task-id t) → T (value-known (header s .made) (object s) v) → AllStarted (task-completes s t v .store)
   unfolding task-completes end-main switched
-  complete-begun zero v m kn = ended-begun _ (ends s h st)
-  complete-begun (suc t) v m kn = rw (ne-eqb (suc t) 0 (λ e. not-suc-le-zero {n = 0} (omega arith))) (right-begun _ (complete-right s h st t v m kn))
+  complete-started zero v m kn = ended-started _ (ends s h st)
+  complete-started (suc t) v m kn = rw (ne-eqb (suc t) 0 (λ e. not-suc-le-zero {n = 0} (omega arith))) (right-started _ (complete-right s h st t v m kn))
 
-  fail-begun : (t n : ℕ) → header s .moment ≡ Moment.Running (task-id t) → n < u32-limit → Begun (task-fails s t (Error.Script n) .store)
+  fail-started : (t n : ℕ) → header s .moment ≡ Moment.Running (task-id t) → n < u32-limit → AllStarted (task-fails s t (Error.Script n) .store)
   unfolding task-fails end-main switched
-  fail-begun zero n m f = ended-begun _ (ends s h st)
-  fail-begun (suc t) n m f = rw (ne-eqb (suc t) 0 (λ e. not-suc-le-zero {n = 0} (omega arith))) (right-begun _ (failed-right s h st t (Error.Script n) m f))
+  fail-started zero n m f = ended-started _ (ends s h st)
+  fail-started (suc t) n m f = rw (ne-eqb (suc t) 0 (λ e. not-suc-le-zero {n = 0} (omega arith))) (right-started _ (failed-right s h st t (Error.Script n) m f))
 
-  resume-begun : header s .moment ≡ Moment.Waiting → Begun (resume-with-resolved-futures s .store)
+  resume-started : header s .moment ≡ Moment.Waiting → AllStarted (resume-with-resolved-futures s .store)
   unfolding resume-with-resolved-futures switched
-  resume-begun m = pick-has (λ (x : Step). Begun (x .store)) (eqb (s .queue .len) 0) k (right-begun _ (resume-right (λ o. T (is-completed (kind (object s o)))) (header s) s (only-changes-of s h m) st))
+  resume-started m = pick-has (λ (x : Step). AllStarted (x .store)) (eqb (s .queue .len) 0) k (right-started _ (resume-right (λ o. T (is-completed (kind (object s o)))) (header s) s (only-changes-of s h m) st))
 
-  results-begun : (rs : List Result) → refusal s (Event.results rs) ≡ 0 → Begun (apply-future-results s rs)
-  results-begun rs r m t l =
+  results-started : (rs : List Result) → refusal s (Event.results rs) ≡ 0 → AllStarted (apply-future-results s rs)
+  results-started rs r m t l =
       let a = results-apply s h rs (refusal-rest s (Event.results rs) r) in
       let hd : header (apply-future-results s rs) ≡ header s = results-keep rs s a (during-of s h) .head in
-      batch-kept (AsBegun s) (as-begun-delivers s) (λ u o p y low pe j. record { sized = sized-put-object u o _ (j .sized); as-before = λ v e. unfold task put-object in (unfold task in (j .as-before v e)) })
+      batch-kept (AsStarted s) (as-started-delivers s) (λ u o p y low pe j. record { sized = sized-put-object u o _ (j .sized); as-before = λ v e. unfold task put-object in (unfold task in (j .as-before v e)) })
       rs s (record { sized = z; as-before = λ v e. e }) .as-before t (k (ap (λ (y : Header). y .moment) (sym hd) ∙ m) t (subst (λ (y : Header). t < y .next) hd l))
 
   -- Every event but cancel.
-  pub accept-begun : (e : Event) → InRange e → says e .cancels ≡ false → refusal s e ≡ 0 → Begun (accept s e .store)
+  pub accept-started : (e : Event) → InRange e → says e .cancels ≡ false → refusal s e ≡ 0 → AllStarted (accept s e .store)
   unfolding accept refusals make-coroutine make-pending InRange says nothing-said answer-await
-  accept-begun (Event.coroutine f) i n r =
+  accept-started (Event.coroutine f) i n r =
       let q = refusal-rest s (Event.coroutine f) r in
-      running-begun _ (runner (header s .moment)) (add-moment s _ 0 z (not-full (pass 6 (full s) [] (running-rest s _ q) .0)) same-places ∙ running s h _ q)
-  accept-begun Event.call i n r =
+      running-started _ (runner (header s .moment)) (add-moment s _ 0 z (not-full (pass 6 (full s) [] (running-rest s _ q) .0)) same-places ∙ running s h _ q)
+  accept-started Event.call i n r =
       let q = refusal-rest s Event.call r in
-      running-begun _ (runner (header s .moment)) (ap (λ (y : Header). y .moment) (calls-head s z (number-left (pass 7 (no-number s) [] (running-rest s _ q) .0))) ∙ running s h _ q)
-  accept-begun (Event.pending d x) i n r =
+      running-started _ (runner (header s .moment)) (ap (λ (y : Header). y .moment) (calls-head s z (number-left (pass 7 (no-number s) [] (running-rest s _ q) .0))) ∙ running s h _ q)
+  accept-started (Event.pending d x) i n r =
       let q = refusal-rest s (Event.pending d x) r in
-      running-begun _ (runner (header s .moment)) (add-moment s _ 0 z (not-full (pass 6 (full s) [] (pass 5 _ _ (pass 4 _ _ (running-rest s _ q) .1) .1) .0)) same-places ∙ running s h _ q)
-  accept-begun (Event.settled v) i n r =
+      running-started _ (runner (header s .moment)) (add-moment s _ 0 z (not-full (pass 6 (full s) [] (pass 5 _ _ (pass 4 _ _ (running-rest s _ q) .1) .1) .0)) same-places ∙ running s h _ q)
+  accept-started (Event.settled v) i n r =
       let q = refusal-rest s (Event.settled v) r in
       let p = pass 6 (full s) _ (pass 4 _ _ (running-rest s _ q) .1) in
-      running-begun _ (runner (header s .moment)) (settled-moment v (number-left (pass 7 (no-number s) [] (p .1) .0)) (not-full (p .0)) ∙ running s h _ q)
-  accept-begun (Event.gather os) i n r =
+      running-started _ (runner (header s .moment)) (settled-moment v (number-left (pass 7 (no-number s) [] (p .1) .0)) (not-full (p .0)) ∙ running s h _ q)
+  accept-started (Event.gather os) i n r =
       let q = refusal-rest s (Event.gather os) r in
       let p = pass 6 (full s || ltb item-limit (length os) || ltb place-limit (header s .used + length os)) [] (pass 4 _ _ (running-rest s _ q) .1) .0 in
-      running-begun _ (runner (header s .moment)) (gather-moment os (not-full (or-left (full s) (ltb item-limit (length os)) (or-left (full s || ltb item-limit (length os)) (ltb place-limit (header s .used + length os)) p)))
+      running-started _ (runner (header s .moment)) (gather-moment os (not-full (or-left (full s) (ltb item-limit (length os)) (or-left (full s || ltb item-limit (length os)) (ltb place-limit (header s .used + length os)) p)))
       (ltb-false place-limit (header s .used + length os) (or-right (full s || ltb item-limit (length os)) (ltb place-limit (header s .used + length os)) p)) ∙ running s h _ q)
-  accept-begun (Event.await o) i n r = let q = refusal-rest s (Event.await o) r in right-begun _ (await-right s h st (runner (header s .moment)) (running s h _ q) o (await-made s h o q))
-  accept-begun (Event.complete v) i n r = let q = refusal-rest s (Event.complete v) r in complete-begun (runner (header s .moment)) v (running s h _ q) (complete-known s h v q)
-  accept-begun (Event.fail m) i n r = fail-begun (runner (header s .moment)) m (running s h _ (refusal-rest s (Event.fail m) r)) i
-  accept-begun (Event.results rs) i n r = results-begun rs r
-  accept-begun Event.resume i n r = resume-begun (waiting s h [] (refusal-rest s Event.resume r) .0)
-  accept-begun (Event.cancel t) i n r = absurd (true≢false n)
-  accept-begun (Event.show o) i n r = k
-  accept-begun Event.eager i n r = k
+  accept-started (Event.await o) i n r = let q = refusal-rest s (Event.await o) r in right-started _ (await-right s h st (runner (header s .moment)) (running s h _ q) o (await-made s h o q))
+  accept-started (Event.complete v) i n r = let q = refusal-rest s (Event.complete v) r in complete-started (runner (header s .moment)) v (running s h _ q) (complete-known s h v q)
+  accept-started (Event.fail m) i n r = fail-started (runner (header s .moment)) m (running s h _ (refusal-rest s (Event.fail m) r)) i
+  accept-started (Event.results rs) i n r = results-started rs r
+  accept-started Event.resume i n r = resume-started (waiting s h [] (refusal-rest s Event.resume r) .0)
+  accept-started (Event.cancel t) i n r = absurd (true≢false n)
+  accept-started (Event.show o) i n r = k
+  accept-started Event.eager i n r = k
