@@ -30,7 +30,7 @@ use Rattle.machine_laws.specs.StoreLaws.{header-fits, live-put-task, task-put-o
 use Rattle.machine_laws.specs.Walk.{walked-kept}
 use Rattle.machine_sessions.specs.Standing.{Stands}
 use Rattle.machine_sessions.specs.NoStall.{Source, by-external, by-gather, by-nobody, by-task, Roots, root, above, Sourced}
-use Rattle.machine_sessions.specs.Spawned.{exits-by, used-coroutine, any-coroutine, Tasks}
+use Rattle.machine_sessions.specs.TaskLog.{exits-by, used-coroutine, any-coroutine, Tasks}
 use Rattle.machine_sessions.specs.WaitingTasks.{AllStarted}
 
 pub record Removes (s u : Store) : Type 0 where

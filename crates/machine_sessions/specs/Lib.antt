@@ -11,9 +11,9 @@ pub mod AgreesMakes
 pub mod AgreesSessions
 pub mod PlacesHold
 pub mod Tracked
-pub mod Spawned
+pub mod TaskLog
 pub mod Outcomes
-pub mod SpawnedEvents
+pub mod TaskLogEvents
 pub mod WaitingTasks
 pub mod TrackedEvents
 pub mod Following

@@ -12,7 +12,7 @@ use Rattle.machine.specs.Store.{LogEntry, spawned, blocked, reached, exited, re
 use Rattle.machine.specs.Gather.{Outcome, returned, raised}
 use Rattle.machine.specs.History.{Entry, said, is-at, running-coroutine, completed-value, spawned-for, coroutine-of, is-none, exits-unstarted, failed-error, coroutine-outcome}
 use Rattle.machine_laws.specs.DeliveryLaws.{absurd-some}
-use Rattle.machine_sessions.specs.Spawned.{exits-by}
+use Rattle.machine_sessions.specs.TaskLog.{exits-by}
 
 -- what coroutine c has come to
 abbrev pub outcome-of : List Entry → ℕ → Option (Outcome Value Error)

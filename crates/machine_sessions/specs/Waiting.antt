@@ -23,7 +23,7 @@ use Rattle.machine_theorems.specs.Soundness.Stores.{SoundStore}
 use Rattle.machine_sessions.specs.Standing.{Stands}
 use Rattle.machine_sessions.specs.NoStall.{Source, by-external, by-gather, by-nobody, by-task, Sourced}
 use Rattle.machine_sessions.specs.PlacesHold.{row-outcome}
-use Rattle.machine_sessions.specs.Spawned.{exits, any-coroutine, Tasks}
+use Rattle.machine_sessions.specs.TaskLog.{exits, any-coroutine, Tasks}
 use Rattle.machine_sessions.specs.Outcomes.{outcome-of}
 use Rattle.machine_sessions.specs.WaitingTasks.{AllStarted}
 

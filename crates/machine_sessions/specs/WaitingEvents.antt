@@ -49,8 +49,8 @@ use Rattle.machine_sessions.specs.StandingEvents.{MainEnds}
 use Rattle.machine_sessions.specs.StandingAwait.{accept-right}
 use Rattle.machine_sessions.specs.NoStall.{sourced-more}
 use Rattle.machine_sessions.specs.SourcedKept.{accept-sourced}
-use Rattle.machine_sessions.specs.Spawned.{exits-by, exits, any-coroutine, Tasks, tasks-same}
-use Rattle.machine_sessions.specs.SpawnedEvents.{Exits, accept-tasks}
+use Rattle.machine_sessions.specs.TaskLog.{exits-by, exits, any-coroutine, Tasks, tasks-same}
+use Rattle.machine_sessions.specs.TaskLogEvents.{Exits, accept-tasks}
 use Rattle.machine_sessions.specs.Outcomes.{outcome-of, unstarted-exits, exits-on, Came, was, completed, failed, unstarted, came}
 use Rattle.machine_sessions.specs.WaitingTasks.{accept-started}
 use Rattle.machine_sessions.specs.Cancelled.{Removes, cancel-removes, head-same, removed-stands, removed-started, removed-tasks, removed-sourced}

@@ -44,7 +44,7 @@ use Rattle.machine_sessions.specs.Agrees.{Agrees}
 use Rattle.machine_sessions.specs.AgreesEvents.{forget-agrees}
 use Rattle.machine_sessions.specs.AgreesSessions.{row-zeros, send-agrees, session-agrees}
 use Rattle.machine_sessions.specs.PlacesHold.{row-outcome, outcome-row, item-low, items-no-error}
-use Rattle.machine_sessions.specs.Spawned.{exits-by, exits, Tasks, tasks-same}
+use Rattle.machine_sessions.specs.TaskLog.{exits-by, exits, Tasks, tasks-same}
 use Rattle.machine_sessions.specs.Outcomes.{outcome-of, Came, was, completed, failed, unstarted, came}
 use Rattle.machine_sessions.specs.GoesOn.{Reads, ended-reads, accept-goes, Finished, main-finishes, or-none, cancelled-then, goes-then}
 use Rattle.machine_sessions.specs.Waiting.{Lost, Alive, ItemsWait, alive-items}

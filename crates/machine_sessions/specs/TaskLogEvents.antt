@@ -52,7 +52,7 @@ use Rattle.machine_sessions.specs.StandingEvents.{MainEnds}
 use Rattle.machine_sessions.specs.TrackedEvents.{items-tasks, items-log}
 use Rattle.machine_sessions.specs.SourcedKept.{items-objects}
 use Rattle.machine_sessions.specs.TellingAwait.{Row, row-commits}
-use Rattle.machine_sessions.specs.Spawned.{exits-by, any-coroutine, used-coroutine, used-row, Tasks, tasks-same, row-tasks, turns-tasks, state-tasks, exit-tasks, spawn-tasks}
+use Rattle.machine_sessions.specs.TaskLog.{exits-by, any-coroutine, used-coroutine, used-row, Tasks, tasks-same, row-tasks, turns-tasks, state-tasks, exit-tasks, spawn-tasks}
 
 ready-live : (x : TaskState) → is-ready x ≡ true → is-live x ≡ true
 ready-live TaskState.Absent e = absurd (true≢false (sym e))
