@@ -10,10 +10,6 @@ pub mod AgreesResults
 pub mod AgreesMakes
 pub mod AgreesSessions
 pub mod PlacesHold
-pub mod Named
-pub mod NamedClimb
-pub mod NamedRows
-pub mod NamedCommit
 pub mod Given
 pub mod GivenCycle
 pub mod GivenCommit
@@ -22,6 +18,10 @@ pub mod GivenEvents
 pub mod GivenSessions
 pub mod GivenHonest
 pub mod Tracked
+pub mod TaskLog
+pub mod Outcomes
+pub mod TaskLogEvents
+pub mod WaitingTasks
 pub mod TrackedEvents
 pub mod Following
 pub mod Calls
@@ -42,6 +42,7 @@ pub mod SourcedCommitSteps
 pub mod SourcedCommitItems
 pub mod SourcedCommit
 pub mod SourcedKept
+pub mod Cancelled
 pub mod GoesOn
 pub mod Arrivals
 pub mod GatherSteps
@@ -57,6 +58,9 @@ pub mod HonestMakes
 pub mod HonestHolds
 pub mod HonestSessions
 pub mod HonestCommit
+pub mod Waiting
+pub mod WaitingEvents
+pub mod WaitingSessions
 pub mod DemandThreeHolds
 pub mod CancelByMoment
 pub mod LogApart
