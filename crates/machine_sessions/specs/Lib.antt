@@ -36,4 +36,7 @@ pub mod SourcedCommitItems
 pub mod SourcedCommit
 pub mod SourcedKept
 pub mod GoesOn
+pub mod Failing
+pub mod FailingRows
+pub mod FailingClimb
 pub mod DemandThreeHolds
