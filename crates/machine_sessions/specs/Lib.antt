@@ -39,4 +39,5 @@ pub mod GoesOn
 pub mod Failing
 pub mod FailingRows
 pub mod FailingClimb
+pub mod FailingCycle
 pub mod DemandThreeHolds
