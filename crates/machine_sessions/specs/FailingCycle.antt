@@ -108,7 +108,7 @@ pub record LeftAs (K : Store → Type 0) (x : Switched) : Type 0 where
   pub failing : K (x .store)
   pub low : (t : ℕ) (h : How) → x .control ≡ runs t h → t < header (x .store) .next
   pub started : (t : ℕ) (h : How) → x .control ≡ runs t h → is-unstarted (task (x .store) t .state) ≡ false
-  pub used : (t c f : ℕ) → x .control ≡ runs t (start c f) → new-function (object (x .store) c) ≡ none
+  pub used : (t c f : ℕ) → x .control ≡ runs t (start c f) → object (x .store) c ≡ Object.Coroutine f CoroutineState.Running
 
 -- s is the store before the event, m the one where deliveries begin
 module _ (s m : Store) (Young : ℕ → Type 0) (B : Error → Type 0) (X : ℕ → Type 0) (R : ℕ → Error → Type 0) (P : ℕ → Type 0) (sound : SoundBut 0 P Nothing (view m))
@@ -149,14 +149,14 @@ module _ (s m : Store) (Young : ℕ → Type 0) (B : Error → Type 0) (X : ℕ 
       slotted-up s m Young B X (task m t .coroutine .0) (p .0) (x .0) (sound .task-slots t n (holds (is-live (task m t .state)) lv) (p .0) (x .0) e) (λ w d. apart t (p .0) (x .0) l n lv e)
 
   -- a live task runs
-  run-left : (u : Store) (t : ℕ) (h : How) → t < header m .next → is-live (task u t .state) ≡ true → ((c f : ℕ) → h ≡ start c f → new-function (object u c) ≡ none) → Over u → LeftAs Over (run u t h)
+  run-left : (u : Store) (t : ℕ) (h : How) → t < header m .next → is-live (task u t .state) ≡ true → ((c f : ℕ) → h ≡ start c f → object u c ≡ Object.Coroutine f CoroutineState.Running) → Over u → LeftAs Over (run u t h)
   unfolding run
   run-left u t h l lv used k =
       record {
         failing = k2;
         low = λ v i e. subst (λ (j : ℕ). j < header (set-moment (set-state u t TaskState.Running) (Moment.Running (task-id t))) .next) (same-task t v h i e) (subst (λ (j : ℕ). t < j) (sym (k2 .next)) l);
         started = λ v i e. subst (λ (j : ℕ). is-unstarted (task (set-moment (set-state u t TaskState.Running) (Moment.Running (task-id t))) j .state) ≡ false) (same-task t v h i e) on;
-        used = λ v c f e. ap new-function (rows c) ∙ used c f (same-how t v h (start c f) e);
+        used = λ v c f e. rows c ∙ used c f (same-how t v h (start c f) e);
       }
     where
       room : t < task-limit
@@ -229,7 +229,7 @@ module _ (s m : Store) (Young : ℕ → Type 0) (B : Error → Type 0) (X : ℕ 
             mid = remove-keeps (d .store) (suc t) (sent .mid) (subst (λ (y : Header). suc t < y .next) (sym (sent .mid .head)) l) (exited (suc t)) idle refl still;
             woken = sent .woken;
           }) (failure-activated u (suc t) e (k .sized) f free)
-          (failing-as s m Young B X Q R (Unit {0}) _ back (exit-failing s m Young B X Q (Unit {0}) (d .store) (suc t) (room-of u (suc t) l h) why k1))
+          (failing-as s m Young B X Q R (Unit {0}) _ back (exit-failing s m Young B X Q (Unit {0}) (d .store) (suc t) why k1))
 
       -- a task that has not started is started, or fails because its coroutine is not new
       start-left : (u : Store) (t : ℕ) → suc t < hd .next → task u (suc t) .state ≡ TaskState.Unstarted → SoundDuring Nothing idle D hd u → K u → LeftAs Over (start-task act u (suc t))
@@ -336,15 +336,16 @@ module _ (s m : Store) (Young : ℕ → Type 0) (B : Error → Type 0) (X : ℕ 
                   let row : object u c ≡ Object.Coroutine f CoroutineState.New = new-object (object u c) f q in
                   let fits : ObjectFits (Object.Coroutine f CoroutineState.Running) = subst ObjectFits row (object-fits u c) in
                   run-left (put-object u c (Object.Coroutine f CoroutineState.Running)) (suc t) (start c f) low (unfold task put-object in (unfold task in live))
-                  (λ d g e. subst (λ (j : ℕ). new-function (object (put-object u c (Object.Coroutine f CoroutineState.Running)) j) ≡ none) (same-start c d f g e) (started f (object-put-object u c _ (k .sized) (task-fits u (suc t) .coroutine-fits) fits)))
+                  (λ d g e. subst (λ (j : ℕ). object (put-object u c (Object.Coroutine f CoroutineState.Running)) j ≡ Object.Coroutine g CoroutineState.Running) (same-start c d f g e)
+                  (object-put-object u c (Object.Coroutine f CoroutineState.Running) (k .sized) (task-fits u (suc t) .coroutine-fits) fits ∙ ap (λ (j : ℕ). Object.Coroutine j CoroutineState.Running) (same-function c d f g e)))
                   (row-failing s m Young B X R ⊥ u c _ (task-fits u (suc t) .coroutine-fits) fits (subst (λ (x : Object). ClimbMoves x (Object.Coroutine f CoroutineState.Running)) (sym row) (refl, tt))
                   (λ g n e w p i. absurd (subst FailedRow (sym i) tt)) (λ z. absurd z) (over u k))
                 where
                   same-start : (c d f g : ℕ) → start c f ≡ start d g → c ≡ d
                   same-start c d f g e = cc
 
-                  started : (f : ℕ) {y : Object} → y ≡ Object.Coroutine f CoroutineState.Running → new-function y ≡ none
-                  started f e = ap new-function e ∙ (unfold new-function in refl)
+                  same-function : (c d f g : ℕ) → start c f ≡ start d g → f ≡ g
+                  same-function c d f g e = cc
 
       state-left : (u : Store) (t : ℕ) (x : TaskState) → t < hd .next → task u t .state ≡ x → Activated x → SoundDuring Nothing idle D hd u → K u → LeftAs Over (activate-state act u t x)
       unfolding activate-state view

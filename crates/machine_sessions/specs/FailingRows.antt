@@ -34,7 +34,7 @@ use Rattle.machine.specs.Events.{new-function}
 use Rattle.machine.specs.History.{spawned-by}
 use Rattle.machine.specs.Honest.{exits-in}
 use Rattle.machine_laws.specs.Views.{Sized}
-use Rattle.machine_laws.specs.StoreLaws.{task-fits, task-put-task, task-put-other, object-put-object, object-put-other, object-put-header, header-put-object, live-put-task}
+use Rattle.machine_laws.specs.StoreLaws.{header-fits, task-fits, task-put-task, task-put-other, object-put-object, object-put-other, object-put-header, header-put-object, live-put-task}
 use Rattle.machine_laws.specs.StoreLaws.{sized-put-task, sized-put-object, sized-put-places, sized-put-queue, sized-add-log, sized-set-state, sized-set-moment}
 use Rattle.machine_sessions.specs.Standing.{moment-head}
 use Rattle.machine_sessions.specs.Failing.{ClimbMoves, climb-then, climb-same, climb-failed, climb-stays-failed, climb-stays-broken, climb-used, failed-awaited}
@@ -65,11 +65,11 @@ pub data Raised (s : Store) (R : ℕ → Error → Type 0) (u : Store) (o : ℕ)
 -- one store of an event, then another: rows move, no task comes back, and what was logged is
 pub record Later (u v : Store) : Type 0 where
   pub rows : (o : ℕ) → ClimbMoves (object u o) (object v o)
-  pub gone : (t : ℕ) → is-live (task u t .state) ≡ false → is-live (task v t .state) ≡ false
+  pub gone : (t : ℕ) → t < task-limit → is-live (task u t .state) ≡ false → is-live (task v t .state) ≡ false
   pub logged : (t : ℕ) → exits-in (u .log) t ≡ true → exits-in (v .log) t ≡ true
 
 pub first-later : (s u v : Store) (t : ℕ) → Later u v → FirstRun s u t → FirstRun s v t
-first-later s u v t l k = record { low = k .low; was = k .was; gone = l .gone t (k .gone); logged = l .logged t (k .logged); used = climb-used (object u (task s t .coroutine .0)) (object v (task s t .coroutine .0)) (l .rows (task s t .coroutine .0)) (k .used) }
+first-later s u v t l k = record { low = k .low; was = k .was; gone = l .gone t (omega (arith, k .low, header-fits s .next-fits)) (k .gone); logged = l .logged t (k .logged); used = climb-used (object u (task s t .coroutine .0)) (object v (task s t .coroutine .0)) (l .rows (task s t .coroutine .0)) (k .used) }
 
 pub raised-later : (s : Store) (R : ℕ → Error → Type 0) (u v : Store) (o : ℕ) (e : Error) → Later u v → Raised s R u o e → Raised s R v o e
 raised-later s R u v o e l (by-external c q) = by-external c (climb-stays-broken (object v o) c e (subst (λ (x : Object). ClimbMoves x (object v o)) q (l .rows o)))
@@ -195,7 +195,7 @@ module _ (s m : Store) (Young : ℕ → Type 0) (B : Error → Type 0) (X : ℕ 
       → ((t : ℕ) → exits-in (v .log) t ≡ exits-in (u .log) t) → ((t : ℕ) (b : Option ℕ) → spawned-by b (v .log) t ≡ spawned-by b (u .log) t) → Failing R Fr u → Failing R Fr v
   failing-like R Fr u v z n os ts ex sp k =
       failing-step R Fr u v
-      (record { rows = λ o. subst (ClimbMoves (object u o)) (sym (os o)) (climb-same (object u o)); gone = λ t e. ap (λ (r : Task). is-live (r .state)) (ts t) ∙ e; logged = λ t e. ex t ∙ e })
+      (record { rows = λ o. subst (ClimbMoves (object u o)) (sym (os o)) (climb-same (object u o)); gone = λ t b e. ap (λ (r : Task). is-live (r .state)) (ts t) ∙ e; logged = λ t e. ex t ∙ e })
       z n (λ t b e. task-same u v t (ts t) e)
       (λ g f a e w p q. failed-awaited (object u g) f a e w (sym (os g) ∙ q) p)
       (λ t e. inl (sym (ex t) ∙ e)) (λ t b low. sp t b) (λ i c f e. os c ∙ e) k
@@ -243,7 +243,7 @@ module _ (s m : Store) (Young : ℕ → Type 0) (B : Error → Type 0) (X : ℕ 
       rows p (no ne) = subst (ClimbMoves (object u p)) (sym (object-put-other u o p x ne)) (climb-same (object u p))
 
       later : Later u v
-      later = record { rows = λ p. rows p (ℕ-discrete p o); gone = λ t e. unfold task put-object in (unfold task in e); logged = λ t e. unfold put-object in e }
+      later = record { rows = λ p. rows p (ℕ-discrete p o); gone = λ t b e. unfold task put-object in (unfold task in e); logged = λ t e. unfold put-object in e }
 
       by : (g f n : ℕ) (e : Error) (w : AwaitedGather) → as-awaited (object u g) ≡ some w → object v g ≡ Object.GatherFuture f n (GatherState.Failed e) → Dec (g ≡ o) → Because R v g e
       by g f n e w p q (yes d) =
@@ -258,7 +258,7 @@ module _ (s m : Store) (Young : ℕ → Type 0) (B : Error → Type 0) (X : ℕ 
   unfolding set-state
   state-failing R Fr u t x l fits lv on k =
       failing-step R Fr u v
-      (record { rows = λ o. subst (ClimbMoves (object u o)) (sym (same o)) (climb-same (object u o)); gone = λ i e. gone i e (ℕ-discrete i t); logged = λ i e. unfold put-task in e })
+      (record { rows = λ o. subst (ClimbMoves (object u o)) (sym (same o)) (climb-same (object u o)); gone = λ i b e. gone i b e (ℕ-discrete i t); logged = λ i e. unfold put-task in e })
       (sized-put-task u t r (k .sized)) (unfold header put-task in refl) (λ i b e. tasks i e (ℕ-discrete i t))
       (λ g f n e w p q. failed-awaited (object u g) f n e w (sym (same g) ∙ q) p) (λ i e. inl (unfold put-task in e)) (λ i b low. unfold put-task in refl) (λ i c f e. same c ∙ e) k
     where
@@ -277,9 +277,9 @@ module _ (s m : Store) (Young : ℕ → Type 0) (B : Error → Type 0) (X : ℕ 
       same : (o : ℕ) → object v o ≡ object u o
       same o = unfold object put-task in refl
 
-      gone : (i : ℕ) → is-live (task u i .state) ≡ false → Dec (i ≡ t) → is-live (task v i .state) ≡ false
-      gone i e (yes d) = absurd (true≢false (sym lv ∙ subst (λ (j : ℕ). is-live (task u j .state) ≡ false) d e))
-      gone i e (no ne) = ap (λ (y : Task). is-live (y .state)) (task-put-other u t i r ne) ∙ e
+      gone : (i : ℕ) → i < task-limit → is-live (task u i .state) ≡ false → Dec (i ≡ t) → is-live (task v i .state) ≡ false
+      gone i b e (yes d) = absurd (true≢false (sym lv ∙ subst (λ (j : ℕ). is-live (task u j .state) ≡ false) d e))
+      gone i b e (no ne) = ap (λ (y : Task). is-live (y .state)) (task-put-other u t i r ne) ∙ e
 
       here : TaskAs u v t
       here =
@@ -298,29 +298,29 @@ module _ (s m : Store) (Young : ℕ → Type 0) (B : Error → Type 0) (X : ℕ 
       tasks i e (no ne) = task-same u v i (task-put-other u t i r ne) e
 
   -- a task goes
-  removed-failing : (R : ℕ → Error → Type 0) (Fr : Type 0) (u v : Store) (t : ℕ) → t < task-limit → Sized v → header v .next ≡ header u .next → ((o : ℕ) → object v o ≡ object u o) → ((i : ℕ) → task v i ≡ task (put-task u t absent) i)
+  removed-failing : (R : ℕ → Error → Type 0) (Fr : Type 0) (u v : Store) (t : ℕ) → Sized v → header v .next ≡ header u .next → ((o : ℕ) → object v o ≡ object u o) → ((i : ℕ) → task v i ≡ task (put-task u t absent) i)
       → ((i : ℕ) → exits-in (u .log) i ≡ true → exits-in (v .log) i ≡ true) → ((i : ℕ) → exits-in (v .log) i ≡ true → (exits-in (u .log) i ≡ true) ⊎ ExitAs s X v i)
       → ((i : ℕ) (b : Option ℕ) → spawned-by b (v .log) i ≡ spawned-by b (u .log) i) → Failing R Fr u → Failing R Fr v
-  removed-failing R Fr u v t l z n os ts lg ex sp k =
+  removed-failing R Fr u v t z n os ts lg ex sp k =
       failing-step R Fr u v
-      (record { rows = λ o. subst (ClimbMoves (object u o)) (sym (os o)) (climb-same (object u o)); gone = λ i e. gone i e (ℕ-discrete i t); logged = lg })
-      z n (λ i b e. tasks i e (ℕ-discrete i t)) (λ g f a e w p q. failed-awaited (object u g) f a e w (sym (os g) ∙ q) p) ex (λ i b low. sp i b) (λ i c f e. os c ∙ e) k
+      (record { rows = λ o. subst (ClimbMoves (object u o)) (sym (os o)) (climb-same (object u o)); gone = λ i b e. gone i b e (ℕ-discrete i t); logged = lg })
+      z n (λ i b e. tasks i (omega (arith, b, header-fits m .next-fits)) e (ℕ-discrete i t)) (λ g f a e w p q. failed-awaited (object u g) f a e w (sym (os g) ∙ q) p) ex (λ i b low. sp i b) (λ i c f e. os c ∙ e) k
     where
-      dead : is-live (task v t .state) ≡ false
-      dead = ap (λ (r : Task). is-live (r .state)) (ts t) ∙ (live-put-task u t absent (k .sized) l ∙ (unfold absent in refl))
+      dead : t < task-limit → is-live (task v t .state) ≡ false
+      dead l = ap (λ (r : Task). is-live (r .state)) (ts t) ∙ (live-put-task u t absent (k .sized) l ∙ (unfold absent in refl))
 
-      gone : (i : ℕ) → is-live (task u i .state) ≡ false → Dec (i ≡ t) → is-live (task v i .state) ≡ false
-      gone i e (yes d) = subst (λ (j : ℕ). is-live (task v j .state) ≡ false) (sym d) dead
-      gone i e (no ne) = ap (λ (y : Task). is-live (y .state)) (ts i ∙ task-put-other u t i absent ne) ∙ e
+      gone : (i : ℕ) → i < task-limit → is-live (task u i .state) ≡ false → Dec (i ≡ t) → is-live (task v i .state) ≡ false
+      gone i b e (yes d) = subst (λ (j : ℕ). is-live (task v j .state) ≡ false) (sym d) (dead (subst (λ (j : ℕ). j < task-limit) d b))
+      gone i b e (no ne) = ap (λ (y : Task). is-live (y .state)) (ts i ∙ task-put-other u t i absent ne) ∙ e
 
-      tasks : (i : ℕ) → is-live (task v i .state) ≡ true → Dec (i ≡ t) → TaskAs u v i
-      tasks i e (yes d) = absurd (true≢false (sym (subst (λ (j : ℕ). is-live (task v j .state) ≡ true) d e) ∙ dead))
-      tasks i e (no ne) = task-same u v i (ts i ∙ task-put-other u t i absent ne) e
+      tasks : (i : ℕ) → i < task-limit → is-live (task v i .state) ≡ true → Dec (i ≡ t) → TaskAs u v i
+      tasks i b e (yes d) = absurd (true≢false (sym (subst (λ (j : ℕ). is-live (task v j .state) ≡ true) d e) ∙ dead (subst (λ (j : ℕ). j < task-limit) d b)))
+      tasks i b e (no ne) = task-same u v i (ts i ∙ task-put-other u t i absent ne) e
 
-  pub exit-failing : (R : ℕ → Error → Type 0) (Fr : Type 0) (u : Store) (t : ℕ) → t < task-limit → ExitAs s X (add-log (remove-task u t) (exited t)) t → Failing R Fr u → Failing R Fr (add-log (remove-task u t) (exited t))
+  pub exit-failing : (R : ℕ → Error → Type 0) (Fr : Type 0) (u : Store) (t : ℕ) → ExitAs s X (add-log (remove-task u t) (exited t)) t → Failing R Fr u → Failing R Fr (add-log (remove-task u t) (exited t))
   unfolding remove-task remove-from-ready-queue put-task
-  exit-failing R Fr u t l why k =
-      removed-failing R Fr u v t l (sized-add-log _ (exited t) (sized-put-queue _ _ (sized-put-task u t absent (k .sized)))) (unfold header add-log put-queue put-task in refl) (λ o. unfold object add-log put-queue put-task in refl)
+  exit-failing R Fr u t why k =
+      removed-failing R Fr u v t (sized-add-log _ (exited t) (sized-put-queue _ _ (sized-put-task u t absent (k .sized)))) (unfold header add-log put-queue put-task in refl) (λ o. unfold object add-log put-queue put-task in refl)
       (λ i. unfold task add-log put-queue in refl) (λ i e. logs i ∙ more (eqb t i) (exits-in (u .log) i) e) (λ i e. fewer i (eqb t i) refl (sym (logs i) ∙ e)) (λ i b. spawns i b) k
     where
       v : Store
@@ -340,17 +340,17 @@ module _ (s m : Store) (Young : ℕ → Type 0) (B : Error → Type 0) (X : ℕ 
       spawns : (i : ℕ) (b : Option ℕ) → spawned-by b (v .log) i ≡ spawned-by b (u .log) i
       spawns i b = unfold spawned-by add-log put-queue put-task in refl
 
-  pub goes-failing : (R : ℕ → Error → Type 0) (Fr : Type 0) (u : Store) (t : ℕ) → t < task-limit → Failing R Fr u → Failing R Fr (add-log (remove-task u t) (removed t))
+  pub goes-failing : (R : ℕ → Error → Type 0) (Fr : Type 0) (u : Store) (t : ℕ) → Failing R Fr u → Failing R Fr (add-log (remove-task u t) (removed t))
   unfolding remove-task remove-from-ready-queue put-task
-  goes-failing R Fr u t l k =
-      removed-failing R Fr u (add-log (put-queue (put-task u t absent) (remove (u .queue) t)) (removed t)) t l
+  goes-failing R Fr u t k =
+      removed-failing R Fr u (add-log (put-queue (put-task u t absent) (remove (u .queue) t)) (removed t)) t
       (sized-add-log _ (removed t) (sized-put-queue _ _ (sized-put-task u t absent (k .sized)))) (unfold header add-log put-queue put-task in refl) (λ o. unfold object add-log put-queue put-task in refl)
       (λ i. unfold task add-log put-queue in refl) (λ i e. unfold exits-in add-log put-queue put-task in e) (λ i e. inl (unfold exits-in add-log put-queue put-task in e))
       (λ i b. unfold spawned-by add-log put-queue put-task in refl) k
 
-  pub ends-failing : (R : ℕ → Error → Type 0) (Fr : Type 0) (u : Store) (t : ℕ) → t < task-limit → Failing R Fr u → Failing R Fr (add-log (put-task u t absent) (removed t))
-  ends-failing R Fr u t l k =
-      removed-failing R Fr u (add-log (put-task u t absent) (removed t)) t l
+  pub ends-failing : (R : ℕ → Error → Type 0) (Fr : Type 0) (u : Store) (t : ℕ) → Failing R Fr u → Failing R Fr (add-log (put-task u t absent) (removed t))
+  ends-failing R Fr u t k =
+      removed-failing R Fr u (add-log (put-task u t absent) (removed t)) t
       (sized-add-log _ (removed t) (sized-put-task u t absent (k .sized))) (unfold header add-log put-task in refl) (λ o. unfold object add-log put-task in refl)
       (λ i. unfold task add-log in refl) (λ i e. unfold exits-in add-log put-task in e) (λ i e. inl (unfold exits-in add-log put-task in e))
       (λ i b. unfold spawned-by add-log put-task in refl) k

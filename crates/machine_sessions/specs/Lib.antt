@@ -40,4 +40,6 @@ pub mod Failing
 pub mod FailingRows
 pub mod FailingClimb
 pub mod FailingCycle
+pub mod FailingStated
+pub mod FailingEvents
 pub mod DemandThreeHolds
