@@ -42,4 +42,5 @@ pub mod FailingClimb
 pub mod FailingCycle
 pub mod FailingStated
 pub mod FailingEvents
+pub mod FailingMakes
 pub mod DemandThreeHolds
