@@ -468,3 +468,46 @@ commit-failed x y f n e p d = by x (subst (CommitMoves x) d p)
 pub failed-awaited : {A : Type 0} (x : Object) (f n : ℕ) (e : Error) (w : AwaitedGather) → x ≡ Object.GatherFuture f n (GatherState.Failed e) → as-awaited x ≡ some w → A
 unfolding as-awaited
 failed-awaited x f n e w q p = absurd-some (sym (ap as-awaited q) ∙ p)
+
+-- ---- what a row was before a commit
+
+abbrev IsPending : GatherState → Type 0
+IsPending GatherState.Pending = Unit {0}
+IsPending (GatherState.Awaited a m) = ⊥
+IsPending GatherState.Completed = ⊥
+IsPending (GatherState.Failed e) = ⊥
+
+abbrev IsNobody : Awaiter → Type 0
+IsNobody Awaiter.Nobody = Unit {0}
+IsNobody (Awaiter.Task t) = ⊥
+IsNobody (Awaiter.GatherSlot g x) = ⊥
+
+-- a gather has its places
+pub commit-places : (x : Object) (f n : ℕ) (z : GatherState) → CommitMoves x (Object.GatherFuture f n z) → (first-of x ≡ f) × (count-of x ≡ n)
+unfolding first-of count-of
+commit-places Object.Unmade f n z p = absurd (subst IsUnmade (sym p) tt)
+commit-places (Object.Coroutine g y) f n z p = absurd p
+commit-places (Object.ExternalFuture c y) f n z p = absurd p
+commit-places (Object.GatherFuture g m y) f n z p = (sym (p .0), sym (p .1))
+
+-- a pending one was pending
+pub commit-pending : (x : Object) (f n : ℕ) → CommitMoves x (Object.GatherFuture f n GatherState.Pending) → x ≡ Object.GatherFuture f n GatherState.Pending
+commit-pending Object.Unmade f n p = absurd (subst IsUnmade (sym p) tt)
+commit-pending (Object.Coroutine g y) f n p = absurd p
+commit-pending (Object.ExternalFuture c y) f n p = absurd p
+commit-pending (Object.GatherFuture g m GatherState.Pending) f n p = let a : f ≡ g = p .0 in let b : n ≡ m = p .1 in cc
+commit-pending (Object.GatherFuture g m (GatherState.Awaited a k)) f n p = absurd (subst IsPending (p .2) tt)
+commit-pending (Object.GatherFuture g m GatherState.Completed) f n p = absurd (subst IsPending (p .2) tt)
+commit-pending (Object.GatherFuture g m (GatherState.Failed e)) f n p = absurd (subst IsPending (p .2) tt)
+
+-- a pending external without awaiter may take one
+pub commit-takes : (x : Object) (c : CallId) (r : OptionValue) (a : Awaiter) → CommitMoves x (Object.ExternalFuture c (ExternalFutureState.Pending Awaiter.Nobody r))
+    → CommitMoves x (Object.ExternalFuture c (ExternalFutureState.Pending a r))
+commit-takes Object.Unmade c r a p = absurd (subst IsUnmade (sym p) tt)
+commit-takes (Object.Coroutine g y) c r a p = absurd p
+commit-takes (Object.ExternalFuture d (ExternalFutureState.Pending Awaiter.Nobody q)) c r a p = (p .0, (tt, p .1 .1))
+commit-takes (Object.ExternalFuture d (ExternalFutureState.Pending (Awaiter.Task t) q)) c r a p = absurd (subst IsNobody (p .1 .0) tt)
+commit-takes (Object.ExternalFuture d (ExternalFutureState.Pending (Awaiter.GatherSlot g y) q)) c r a p = absurd (subst IsNobody (p .1 .0) tt)
+commit-takes (Object.ExternalFuture d (ExternalFutureState.Resolved v)) c r a p = absurd (subst PendingState (p .1) tt)
+commit-takes (Object.ExternalFuture d (ExternalFutureState.Failed e)) c r a p = absurd (subst PendingState (p .1) tt)
+commit-takes (Object.GatherFuture g m y) c r a p = absurd p

@@ -43,4 +43,5 @@ pub mod FailingCycle
 pub mod FailingStated
 pub mod FailingEvents
 pub mod FailingMakes
+pub mod FailingCommitSteps
 pub mod DemandThreeHolds
