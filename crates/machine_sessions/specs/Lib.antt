@@ -44,4 +44,5 @@ pub mod FailingStated
 pub mod FailingEvents
 pub mod FailingMakes
 pub mod FailingCommitSteps
+pub mod FailingCommitItems
 pub mod DemandThreeHolds
