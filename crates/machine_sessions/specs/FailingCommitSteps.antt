@@ -205,7 +205,7 @@ module _ (s : Store) where
     pub bits : (w : AwaitedGather) → as-awaited (object u g) ≡ some w → (j : ℕ) → bit (w .open-places) j ≡ true → j < i
 
   -- and those of the frames
-  pub Levels : (ℕ → Type 0) → Store → List Frame → Type 0
+  unfoldable pub Levels : (ℕ → Type 0) → Store → List Frame → Type 0
   Levels Q u [] = Unit {0}
   Levels Q u (f ∷ fs) = Level Q u (f .gather) (f .next) × Levels Q u fs
 

@@ -45,4 +45,5 @@ pub mod FailingEvents
 pub mod FailingMakes
 pub mod FailingCommitSteps
 pub mod FailingCommitItems
+pub mod FailingCommit
 pub mod DemandThreeHolds
