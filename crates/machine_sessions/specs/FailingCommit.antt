@@ -263,3 +263,238 @@ module _ (s : Store) where
       why : (a b n i d : ℕ) (y : Error) → object s a ≡ Object.GatherFuture b n GatherState.Pending → object v a ≡ Object.GatherFuture i d (GatherState.Failed y) → Dec (OnStack (f ∷ fs) a) → CommitFailed s v a y
       why a b n i d y p q (yes on) = let r = all-fall a on in subst (CommitFailed s v a) (same-error e y (r .first) (r .count) i d (sym (r .now) ∙ q)) (r .why)
       why a b n i d y p q (no off) = absurd (subst FailedRow (sym (commit-failed (object s a) (object x a) i d y (c .moves a) (sym (other a off) ∙ q)) ∙ p) tt)
+
+  -- ---- a gather not committed yet is opened, and comes on the stack
+
+  opened-going : (x : Store) (o f n : ℕ) (a : Awaiter) (g i : ℕ) (fs : List Frame) (Q : ℕ → Type 0) → Sized x → o < object-limit → AwaiterFits a → object x o ≡ Object.GatherFuture f n GatherState.Pending → Committing s x
+      → Levels s Q x fs → ((p : ℕ) → OnStack fs p → Q p) → ((p : ℕ) → OnStack fs p → p ≡ o → ⊥) → Going s (open-gather-commit x o a) o 0 fs
+  unfolding open-gather-commit set-gather with-state
+  opened-going x o f n a g i fs Q z l fa q c ls sub apart =
+      subst (λ (y : Object). Going s (put-object x o y) o 0 fs) (sym (ap (λ (y : Object). with-state y (GatherState.Awaited a 0)) q))
+      (record {
+        commits = committing-row s x o y z l fits (subst (λ (b : Object). CommitMoves b y) (sym was) (refl, refl, tt)) (λ d e. no-coroutine f n d (sym q ∙ e)) c;
+        top = record { first = f; count = n; was = was; left = λ j b. absurd (not-suc-le-zero b); bits = λ w e j b. absurd (true≢false (sym b ∙ none w e j)) };
+        below = levels-onward s Q (OnTop o fs) x v fs on off (λ p b. object-put-other x o p y (apart p b)) ls;
+      })
+    where
+      y : Object
+      y = Object.GatherFuture f n (GatherState.Awaited a 0)
+
+      v : Store
+      v = put-object x o y
+
+      old : ObjectFits (Object.GatherFuture f n GatherState.Pending)
+      old = subst ObjectFits q (object-fits x o)
+
+      fits : ObjectFits y
+      fits = (old .0, (fa, omega arith))
+
+      was : object s o ≡ Object.GatherFuture f n GatherState.Pending
+      was = commit-pending (object s o) f n (subst (CommitMoves (object s o)) q (c .moves o))
+
+      no-coroutine : (f n d : ℕ) → Object.GatherFuture f n GatherState.Pending ≡ Object.Coroutine d CoroutineState.New → ⊥
+      no-coroutine f n d e = let z : _≡_ {A = ℕ} 0 1 = cc in not-suc-le-zero {n = 0} (omega arith)
+
+      none : (w : AwaitedGather) → as-awaited (object v o) ≡ some w → (j : ℕ) → bit (w .open-places) j ≡ false
+      none w e j =
+          let same : record { first = f; count = n; awaiter = a; open-places = 0 } ≡ w =
+          Option·some-injective (record { first = f; count = n; awaiter = a; open-places = 0 }) w (sym (ap as-awaited (object-put-object x o y z l fits) ∙ (unfold as-awaited in refl)) ∙ e) in
+          ap (λ (b : AwaitedGather). bit (b .open-places) j) (sym same) ∙ none-set j
+
+      new : (p : ℕ) → Passed (object x p) → p ≡ o → ⊥
+      new p b d = subst Passed q (subst (λ (j : ℕ). Passed (object x j)) d b)
+
+      on : Onward s Q x v
+      on p b d = subst Passed (sym (object-put-other x o p y (new p d))) d
+
+      off : (p : ℕ) → Passed (object x p) → (Q p → ⊥) → OnTop o fs p → ⊥
+      off p b d (inl e) = new p b e
+      off p b d (inr e) = d (sub p e)
+
+  nested-going : (root t : ℕ) (f : Frame) (fs : List Frame) (x : Store) (i o : ℕ) → AtNested root t (f .gather) fs x i o → Going s x (f .gather) i fs
+      → Going s (open-gather-commit x o (Awaiter.GatherSlot (heap-id (f .gather)) (heap-id o))) o 0 (record { gather = f .gather; next = i } ∷ fs)
+  unfolding view Levels
+  nested-going root t f fs x i o h k =
+      opened-going x o (h .first) (h .count) (Awaiter.GatherSlot (heap-id (f .gather)) (heap-id o)) (f .gather) i (record { gather = f .gather; next = i } ∷ fs) (OnTop (f .gather) fs) (h .memory .sized) low-o (low-g, low-o) (h .is-new)
+      (k .commits) (unfold Levels in (k .top, k .below)) (λ p z. z) apart
+    where
+      low-g : f .gather < object-limit
+      low-g = omega (arith, h .inv .opened .made, header-fits x .made-fits)
+
+      low-o : o < object-limit
+      low-o = omega (arith, h .lower, low-g)
+
+      apart : (p : ℕ) → OnStack (record { gather = f .gather; next = i } ∷ fs) p → p ≡ o → ⊥
+      apart p (inl d) e = not-suc-le-zero {n = 0} (omega (arith, h .lower, d, e))
+      apart p (inr z) e = not-suc-le-zero {n = 0} (omega (arith, h .lower, e, stack-above (h .inv .stack) p z))
+
+  -- ---- a gather whose items are all stepped leaves the stack
+
+  -- completed
+  completed-commits : (x : Store) (g i : ℕ) (fs : List Frame) (w : AwaitedGather) → Sized x → g < object-limit → as-awaited (object x g) ≡ some w → Going s x g i fs → Committing s (set-gather x g GatherState.Completed)
+  unfolding set-gather
+  completed-commits x g i fs w z l e k =
+      subst (λ (y : Object). Committing s (put-object x g y)) (sym (with-state-is (object x g) w GatherState.Completed e))
+      (committing-row s x g (Object.GatherFuture (w .first) (w .count) GatherState.Completed) z l (awaited-fits x g w e .0, tt)
+      (opened-moves (object s g) (object x g) (k .top .first) (k .top .count) w GatherState.Completed (k .top .was) e (k .commits .moves g) tt) (λ f q. not-coroutine (object x g) w f CoroutineState.New e q) (k .commits))
+
+  -- where a commit ends
+  abbrev pub EndFails : Store → Poll → Type 0
+  EndFails u (ready v) = Committing s u
+  EndFails u (raised e) = Unwound u
+  EndFails u pending = Committing s u
+
+  root-fails : (root t : ℕ) (x : Store) (g i j : ℕ) → Memory x → Inv root t 0 (OnTop g []) (view x) g i [] → Going s x g j [] → EndFails (settle-gather-commit x g .store) (settle-gather-commit x g .poll)
+  unfolding settle-gather-commit view
+  root-fails root t x g i j mem h k =
+      subst (λ (o : Option AwaitedGather). EndFails (settle-as x g o .store) (settle-as x g o .poll)) (sym (h .opened .awaited)) (unfold settle-as in (by (eqb (h .w .open-places) 0)))
+    where
+      by : (b : Bool) → EndFails (pick b (gives (set-gather x g GatherState.Completed) (ready (Value.List (heap-id g)))) (gives x pending) .store)
+          (pick b (gives (set-gather x g GatherState.Completed) (ready (Value.List (heap-id g)))) (gives x pending) .poll)
+      by true = completed-commits x g j [] (h .w) (mem .sized) (omega (arith, h .opened .made, header-fits x .made-fits)) (h .opened .awaited) k
+      by false = k .commits
+
+  module _ (root t : ℕ) (x : Store) (g i j : ℕ) (p : Frame) (ps : List Frame) (mem : Memory x) (h : Inv root t 0 (OnTop g (p ∷ ps)) (view x) g i (p ∷ ps)) (k : Going s x g j (p ∷ ps)) where
+    abbrev Next : Store → Type 0
+    Next y = Going s y (p .gather) (p .next + 1) ps
+
+    made : g < header x .made
+    unfolding view
+    made = h .opened .made
+
+    top : as-awaited (object x g) ≡ some (h .w)
+    unfolding view
+    top = h .opened .awaited
+
+    low : g < object-limit
+    low = omega (arith, made, header-fits x .made-fits)
+
+    higher : (q : ℕ) → OnStack (p ∷ ps) q → g < q
+    unfolding view
+    higher q z = stack-above (h .stack) q z
+
+    off-g : OnTop (p .gather) ps g → ⊥
+    off-g z = not-suc-le-zero {n = 0} (omega (arith, higher g z))
+
+    abbrev done : Object
+    done = Object.GatherFuture (h .w .first) (h .w .count) GatherState.Completed
+
+    abbrev x1 : Store
+    x1 = put-object x g done
+
+    full-fits : ObjectFits done
+    full-fits = (awaited-fits x g (h .w) top .0, tt)
+
+    x1-sized : Sized x1
+    x1-sized = sized-put-object x g done (mem .sized)
+
+    x1-other : (q : ℕ) → OnStack (p ∷ ps) q → object x1 q ≡ object x q
+    x1-other q z = object-put-other x g q done (λ d. not-suc-le-zero {n = 0} (omega (arith, d, higher q z)))
+
+    completed-same : set-gather x g GatherState.Completed ≡ x1
+    unfolding set-gather
+    completed-same = ap (put-object x g) (with-state-is (object x g) (h .w) GatherState.Completed top)
+
+    -- the one below is on top again
+    parked : Going s x (p .gather) (p .next) ps
+    unfolding Levels
+    parked =
+        record {
+          commits = k .commits;
+          top = level-onward s (OnTop g (p ∷ ps)) (OnTop (p .gather) ps) x x (p .gather) (p .next) (λ o n y. y) (λ q y n z. n (inr z)) (k .below .0 .bits) (k .below .0);
+          below = levels-onward s (OnTop g (p ∷ ps)) (OnTop (p .gather) ps) x x ps (λ o n y. y) (λ q y n z. n (inr z)) (λ q z. refl) (unfold Levels in (k .below .1));
+        }
+
+    filled : Going s x1 (p .gather) (p .next) ps
+    unfolding Levels
+    filled =
+        record {
+          commits = subst (Committing s) completed-same (completed-commits x g j (p ∷ ps) (h .w) (mem .sized) low top k);
+          top = level-onward s (OnTop g (p ∷ ps)) (OnTop (p .gather) ps) x x1 (p .gather) (p .next) on (λ q y n z. n (inr z))
+              (λ w e. k .below .0 .bits w (sym (ap as-awaited (x1-other (p .gather) (inl refl))) ∙ e)) (k .below .0);
+          below = levels-onward s (OnTop g (p ∷ ps)) (OnTop (p .gather) ps) x x1 ps on (λ q y n z. n (inr z)) (λ q z. x1-other q (inr z)) (unfold Levels in (k .below .1));
+        }
+      where
+        on : Onward s (OnTop g (p ∷ ps)) x x1
+        on o n y = subst Passed (sym (object-put-other x g o done (λ d. n (inl d)))) y
+
+    -- its next place names g
+    item-is : (w : AwaitedGather) → as-awaited (object x (p .gather)) ≡ some w → place x (w .first + p .next) .item .0 ≡ g → g ≡ item-at s (p .gather) (p .next)
+    item-is w e nm =
+        sym nm ∙ (k .commits .items (w .first + p .next)
+        ∙ ap (λ (n : ℕ). place s (n + p .next) .item .0)
+        (sym (commit-places (object s (p .gather)) (w .first) (w .count) (GatherState.Awaited (w .awaiter) (w .open-places)) (subst (CommitMoves (object s (p .gather))) (awaited-object (object x (p .gather)) w e) (k .commits .moves (p .gather))) .0)))
+
+    filled-next : Next (resume-after-child p (gives x1 (ready (Value.List (heap-id g)))))
+    unfolding view resume-after-child
+    filled-next = by (h .stack)
+      where
+        by : {a : Awaiter} {n : ℕ} → Stacked (header x .made) (object x) (place x) root t g a (p ∷ ps) n → Next (resume-as p (gives x1 (ready (Value.List (heap-id g)))) (as-awaited (object x1 (p .gather))))
+        by (above w i op lt nm lo aw rm rest) =
+            subst (λ (o : Option AwaitedGather). Next (resume-as p (gives x1 (ready (Value.List (heap-id g)))) o)) (sym (ap as-awaited (x1-other (p .gather) (inl refl)) ∙ op .awaited))
+            (unfold resume-as resume-in in
+            (going-fills s x1 (p .gather) (p .next) ps w (Value.List (heap-id g)) x1-sized (omega (arith, gather-within (p .gather) w (h .but) (op .made) (op .awaited), lt, h .but .fits .used-fits)) low
+            (subst (Calm s (OnTop (p .gather) ps) x1) (item-is w (op .awaited) nm) (record { passed = subst Passed (sym (object-put-object x g done (mem .sized) low full-fits)) tt; off = off-g })) filled))
+
+    parked-next : Next (resume-after-child p (gives x pending))
+    unfolding view resume-after-child
+    parked-next = by (h .stack)
+      where
+        by : {a : Awaiter} {n : ℕ} → Stacked (header x .made) (object x) (place x) root t g a (p ∷ ps) n → Next (resume-as p (gives x pending) (as-awaited (object x (p .gather))))
+        by (above w i op lt nm lo aw rm rest) =
+            subst (λ (o : Option AwaitedGather). Next (resume-as p (gives x pending) o)) (sym (op .awaited))
+            (unfold resume-as resume-in in
+            (going-opens s x (p .gather) (p .next) ps w (mem .sized) (omega (arith, op .made, header-fits x .made-fits))
+            (awaits-fits x (p .gather) w (op .awaited) (wider w (p .next)) (wider-small w (p .next) lt (open-small (p .gather) w (h .but) (op .made) (op .awaited)))) (op .awaited)
+            (λ q z d. not-suc-le-zero {n = 0} (omega (arith, d, stack-above rest q z)))
+            (subst (Calm s (OnTop (p .gather) ps) x) (item-is w (op .awaited) nm) (record { passed = subst Passed (sym (awaited-object (object x g) (h .w) top)) tt; off = off-g })) parked))
+
+    pub resumed-going : Next (resume-after-child p (settle-gather-commit x g))
+    unfolding settle-gather-commit
+    resumed-going = subst (λ (o : Option AwaitedGather). Next (resume-after-child p (settle-as x g o))) (sym top) (unfold settle-as in (by (eqb (h .w .open-places) 0)))
+      where
+        by : (b : Bool) → Next (resume-after-child p (pick b (gives (set-gather x g GatherState.Completed) (ready (Value.List (heap-id g)))) (gives x pending)))
+        by true = subst (λ (y : Store). Next (resume-after-child p (gives y (ready (Value.List (heap-id g)))))) (sym completed-same) filled-next
+        by false = parked-next
+
+  -- ---- the turns
+
+  abbrev LoopFails : ℕ → ℕ → ℕ → (Store → Frame → List Frame → ℕ → ℕ → ℕ → Committed) → Type 0
+  LoopFails root t fuel loop =
+      (x : Store) (f : Frame) (fs : List Frame) (n j k : ℕ) → 2 * pending-count x + suc (length fs) ≤ fuel → Commits root t (f .gather) (f .next) fs x → Going s x (f .gather) (f .next) fs
+      → EndFails (loop x f fs n j k .store) (loop x f fs n j k .poll)
+
+  turn-fails : (root t fuel : ℕ) (loop : Store → Frame → List Frame → ℕ → ℕ → ℕ → Committed) → LoopFails root t fuel loop → (y : Store) (f : Frame) (fs : List Frame) (n j k : ℕ) (x : Stop) → 2 * pending-count y + length fs ≤ fuel
+      → f .gather < object-limit → StopKeeps y x → StopOk root t (f .gather) fs x → StopFails s (f .gather) fs x → EndFails (turn loop f fs n j k x .store) (turn loop f fs n j k x .poll)
+  unfolding turn view
+  turn-fails root t fuel loop go y f fs n j k (at-nested x i o) b l q h r =
+      go _ (record { gather = o; next = 0 }) (record { gather = f .gather; next = i } ∷ fs) (suc n) (suc j) k (omega (arith, b, nested-fuel y x f fs i o q)) (nested-commits root t f fs x i o h) (nested-going root t f fs x i o h r)
+  turn-fails root t fuel loop go y f fs n j k (at-error x e) b l q h r = error-fails root t f fs x e h r
+  turn-fails root t fuel loop go y f [] n j k (at-end x) b l q h r = root-fails root t x (f .gather) (h .i) (r .i) (h .memory) (h .inv) (r .going)
+  turn-fails root t fuel loop go y f (p ∷ ps) n j k (at-end x) b l q h r =
+      go _ (record { gather = p .gather; next = p .next + 1 }) ps (suc n) j (suc k) (omega (arith, b, settled-fuel y x f p ps q l (below-low (h .inv .stack))))
+      (settle-next root t x (f .gather) (h .i) p ps (h .memory) (h .inv) (h .end)) (resumed-going root t x (f .gather) (h .i) (r .i) p ps (h .memory) (h .inv) (r .going))
+    where
+      below-low : {g : ℕ} {a : Awaiter} {m : ℕ} → Stacked (header x .made) (object x) (place x) root t g a (p ∷ ps) m → p .gather < object-limit
+      below-low (above w i op lt nm lo aw rm rest) = omega (arith, op .made, header-fits x .made-fits)
+
+  loop-fails : (fuel root t : ℕ) → LoopFails root t fuel (commit-loop fuel)
+  unfolding commit-loop step-gather-commit view
+  loop-fails zero root t x f fs n j k b h r = absurd (not-suc-le-zero {n = 0} (omega (arith, b)))
+  loop-fails (suc fuel) root t x f fs n j k b h r =
+      turn-fails root t fuel (λ y g gs m i h. commit-loop fuel y g gs m i h) (loop-fails fuel root t) x f fs n j k (step-gather-commit x f) (omega (arith, b)) low (step-kinds x f (h .memory .sized) low)
+      (frame-stops root t x f fs h)
+      (items-fails s (count-of (object x (f .gather)) - f .next) root t (f .gather) (f .next) fs x (h .memory) (h .inv)
+      (omega (arith, h .inv .opened .under, inv-count root t (f .next) (f .gather) 0 (OnTop (f .gather) fs) fs x (h .inv))) r)
+    where
+      low : f .gather < object-limit
+      low = omega (arith, h .inv .opened .made, header-fits x .made-fits)
+
+  -- What a commit leaves.
+  pub commit-fails : (t g f n : ℕ) → SoundStore s → header s .moment ≡ Moment.Running (task-id t) → g < header s .made → object s g ≡ Object.GatherFuture f n GatherState.Pending
+      → EndFails (commit-gather-tree s g (Awaiter.Task (task-id t)) .store) (commit-gather-tree s g (Awaiter.Task (task-id t)) .poll)
+  unfolding commit-gather-tree Levels
+  commit-fails t g f n w m l q =
+      loop-fails _ g t (open-gather-commit s g (Awaiter.Task (task-id t))) (record { gather = g; next = 0 }) [] 0 1 0 (omega arith) (commit-begins s t w m g f n l q)
+      (opened-going s g f n (Awaiter.Task (task-id t)) g 0 [] (λ p. ⊥) (w .memory .sized) (omega (arith, l, header-fits s .made-fits)) (omega (arith, runner-low s t w m, header-fits s .next-fits)) q (committing-begins s)
+      (unfold Levels in tt) (λ p z. absurd z) (λ p z. absurd z))
