@@ -511,3 +511,23 @@ commit-takes (Object.ExternalFuture d (ExternalFutureState.Pending (Awaiter.Gath
 commit-takes (Object.ExternalFuture d (ExternalFutureState.Resolved v)) c r a p = absurd (subst PendingState (p .1) tt)
 commit-takes (Object.ExternalFuture d (ExternalFutureState.Failed e)) c r a p = absurd (subst PendingState (p .1) tt)
 commit-takes (Object.GatherFuture g m y) c r a p = absurd p
+
+-- an awaited one was so, or was pending
+pub commit-was : (x y : Object) (w : AwaitedGather) → CommitMoves x y → as-awaited y ≡ some w → (as-awaited x ≡ some w) ⊎ ((f : ℕ) × (n : ℕ) × (x ≡ Object.GatherFuture f n GatherState.Pending))
+unfolding as-awaited
+commit-was x y w p e = by x (subst (CommitMoves x) (awaited-object y w e) p)
+  where
+    by : (x : Object) → CommitMoves x (Object.GatherFuture (w .first) (w .count) (GatherState.Awaited (w .awaiter) (w .open-places))) → (as-awaited x ≡ some w) ⊎ ((f : ℕ) × (n : ℕ) × (x ≡ Object.GatherFuture f n GatherState.Pending))
+    by Object.Unmade q = absurd (subst IsUnmade (sym q) tt)
+    by (Object.Coroutine f z) q = absurd q
+    by (Object.ExternalFuture c z) q = absurd q
+    by (Object.GatherFuture f n GatherState.Pending) q = inr (f, n, refl)
+    by (Object.GatherFuture f n (GatherState.Awaited a m)) q = inl (same f n a m (q .0) (q .1) (q .2))
+      where
+        same : (f n : ℕ) (a : Awaiter) (m : ℕ) → w .first ≡ f → w .count ≡ n → GatherState.Awaited (w .awaiter) (w .open-places) ≡ GatherState.Awaited a m → as-awaited (Object.GatherFuture f n (GatherState.Awaited a m)) ≡ some w
+        same f n a m p q s =
+            let b : w .awaiter ≡ a = cc in
+            let c : w .open-places ≡ m = cc in
+            unfold as-awaited in (ap (λ (x : AwaitedGather). some x) (λ j. record { first = sym p j; count = sym q j; awaiter = sym b j; open-places = sym c j }))
+    by (Object.GatherFuture f n GatherState.Completed) q = absurd (subst AwaitedState (q .2) tt)
+    by (Object.GatherFuture f n (GatherState.Failed z)) q = absurd (subst AwaitedState (q .2) tt)

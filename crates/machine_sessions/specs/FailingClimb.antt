@@ -80,14 +80,14 @@ module _ (s m : Store) (Young : ℕ → Type 0) (B : Error → Type 0) (X : ℕ 
   )
 
   module _ (P : ℕ → Type 0) (sound : SoundBut 0 P Nothing (view m))
-      (up : (g p x : ℕ) (w : AwaitedGather) → as-awaited (object m g) ≡ some w → w .awaiter ≡ Awaiter.GatherSlot (heap-id p) (heap-id x) → Young p → Young g) where
+      (up : (g p x : ℕ) (w : AwaitedGather) → g < header m .made → as-awaited (object m g) ≡ some w → w .awaiter ≡ Awaiter.GatherSlot (heap-id p) (heap-id x) → Young p → Young g) where
     -- by the awaiter of a gather of m that the event has not committed
     gather-up : (g : ℕ) (w : AwaitedGather) (a : Awaiter) → g < header m .made → as-awaited (object m g) ≡ some w → (Young g → ⊥) → w .awaiter ≡ a → Up g a
     unfolding view
     gather-up g w Awaiter.Nobody l e old q = tt
     gather-up g w (Awaiter.Task t) l e old q = tt
     gather-up g w (Awaiter.GatherSlot p x) l e old q =
-        slotted-up g (p .0) (x .0) (sound .object-slots g l (λ z. z) (p .0) (x .0) (awaiter-is (object m g) w e ∙ q)) (λ v d y. old (up g (p .0) (x .0) w e q y))
+        slotted-up g (p .0) (x .0) (sound .object-slots g l (λ z. z) (p .0) (x .0) (awaiter-is (object m g) w e ∙ q)) (λ v d y. old (up g (p .0) (x .0) w l e q y))
 
     module _ (R : ℕ → Error → Type 0) (Fr : Type 0) where
       abbrev K : Store → Type 0

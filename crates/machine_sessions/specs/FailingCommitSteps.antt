@@ -25,7 +25,7 @@ use Rattle.asyncio.specs.declared.Place.{Place}
 use Rattle.asyncio.specs.declared.Header.{Header}
 use Rattle.asyncio.specs.Limits.{object-limit, task-limit, place-limit}
 use Rattle.asyncio.specs.Numbers.{heap-id}
-use Rattle.asyncio.specs.Ranges.{ObjectFits, ValueFits, TaskFits}
+use Rattle.asyncio.specs.Ranges.{ObjectFits, ValueFits, TaskFits, HeaderFits}
 use Rattle.asyncio.specs.Parts.{first-of, count-of}
 use Rattle.asyncio.specs.States.{pick}
 use Rattle.machine.specs.Store.{Store, LogEntry, task, object, place, header, put-task, put-object, put-place, put-queue, put-header, add-log, set-next, spawned}
@@ -34,7 +34,7 @@ use Rattle.machine.specs.Commit.{Frame, open-place, fill-place}
 use Rattle.machine.specs.History.{spawned-by}
 use Rattle.machine.specs.Honest.{exits-in}
 use Rattle.machine_laws.specs.Views.{Sized}
-use Rattle.machine_laws.specs.StoreLaws.{header-put-object, object-put-object, object-put-other, object-put-header, place-put-place, place-put-other, place-fits, task-put-task, sized-put-task}
+use Rattle.machine_laws.specs.StoreLaws.{header-fits, header-put-header, header-put-object, object-put-object, object-put-other, object-put-header, place-put-place, place-put-other, place-fits, task-put-task, sized-put-task}
 use Rattle.machine_laws.specs.DeliveryLaws.{absurd-some, awaited-object}
 use Rattle.machine_theorems.specs.Bounds.Bits.{bit-set-other}
 use Rattle.machine_theorems.specs.Soundness.Fill.{awaits-on}
@@ -62,6 +62,7 @@ module _ (s : Store) where
   pub record Committing (u : Store) : Type 0 where
     pub moves : (o : ℕ) → CommitMoves (object s o) (object u o)
     pub items : (p : ℕ) → place u p .item .0 ≡ place s p .item .0
+    pub made : header u .made ≡ header s .made
     pub grows : header s .next ≤ header u .next
     pub tasks : (t : ℕ) → t < header s .next → task u t ≡ task s t
     pub fresh : (t : ℕ) → header s .next ≤ t → t < header u .next → (f : ℕ) × (object u (task u t .coroutine .0) ≡ Object.Coroutine f CoroutineState.New)
@@ -73,6 +74,7 @@ module _ (s : Store) where
       record {
         moves = λ o. commit-same (object s o);
         items = λ p. refl;
+        made = refl;
         grows = omega arith;
         tasks = λ t l. refl;
         fresh = λ t a b. absurd (not-suc-le-zero {n = 0} (omega arith));
@@ -87,6 +89,7 @@ module _ (s : Store) where
       record {
         moves = λ p. by p (ℕ-discrete p o);
         items = λ p. unfold place put-object in (unfold place in (k .items p));
+        made = ap (λ (h : Header). h .made) (header-put-object u o y) ∙ k .made;
         grows = subst (λ (h : Header). header s .next ≤ h .next) (sym (header-put-object u o y)) (k .grows);
         tasks = λ t b. unfold task put-object in (unfold task in (k .tasks t b));
         fresh = λ t a b. new t a (subst (λ (h : Header). t < h .next) (header-put-object u o y) b);
@@ -113,6 +116,7 @@ module _ (s : Store) where
       record {
         moves = λ o. unfold object put-place in (unfold object in (k .moves o));
         items = λ p. by p (ℕ-discrete p (w .first + i)) ∙ k .items p;
+        made = unfold header put-place in (unfold header in (k .made));
         grows = unfold header put-place in (unfold header in (k .grows));
         tasks = λ t b. unfold task put-place in (unfold task in (k .tasks t b));
         fresh = λ t a b. unfold task object header put-place in (unfold task object header in (k .fresh t a b));
@@ -137,12 +141,25 @@ module _ (s : Store) where
       moved-row : (v : Store) (n : ℕ) → object (set-next v n) o ≡ object v o
       moved-row v n = unfold set-next in (object-put-header v _ o)
 
+  next-made : (u : Store) (n : ℕ) → Sized u → n ≤ task-limit → header (set-next u n) .made ≡ header u .made
+  unfolding set-next
+  next-made u n z k =
+      let f : HeaderFits (header u) = header-fits u in
+      ap (λ (h : Header). h .made) (header-put-header u _ z (record { made-fits = f .made-fits; used-fits = f .used-fits; calls-fit = f .calls-fit; next-fits = k; moment-fits = f .moment-fits }))
+
+  spawn-made : (u : Store) (t c g : ℕ) → Sized u → t + 1 ≤ task-limit → header (spawn-as u t c g) .made ≡ header u .made
+  spawn-made u t c g z b = unfold spawn-as push-ready header add-log put-queue in (unfold header in (next-made (put-task u t _) (t + 1) (sized-put-task u t _ z) b ∙ same-head u t _))
+    where
+      same-head : (u : Store) (t : ℕ) (r : Task) → header (put-task u t r) .made ≡ header u .made
+      same-head u t r = unfold header put-task in refl
+
   pub committing-spawn : (u : Store) (c g f : ℕ) → Sized u → header u .next < task-limit → c < object-limit → g < object-limit → object u c ≡ Object.Coroutine f CoroutineState.New → Committing u
       → Committing (spawn-as u (header u .next) c g)
   committing-spawn u c g f z room lc lg e k =
       record {
         moves = λ o. subst (CommitMoves (object s o)) (sym (rows o)) (k .moves o);
         items = λ p. same-item p ∙ k .items p;
+        made = same-made ∙ k .made;
         grows = omega (arith, next, k .grows);
         tasks = λ t l. spawn-row u n c g t (λ d. not-suc-le-zero {n = 0} (omega (arith, d, l, k .grows))) ∙ k .tasks t l;
         fresh = λ t a b. new t a b (ℕ-discrete t n);
@@ -158,6 +175,9 @@ module _ (s : Store) where
 
       next : header v .next ≡ n + 1
       next = spawn-next u n c g z room
+
+      same-made : header v .made ≡ header u .made
+      same-made = spawn-made u n c g z (omega (arith, room))
 
       rows : (o : ℕ) → object v o ≡ object u o
       rows o = spawn-rows u n c g o

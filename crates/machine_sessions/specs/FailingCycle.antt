@@ -112,7 +112,7 @@ pub record LeftAs (K : Store → Type 0) (x : Switched) : Type 0 where
 
 -- s is the store before the event, m the one where deliveries begin
 module _ (s m : Store) (Young : ℕ → Type 0) (B : Error → Type 0) (X : ℕ → Type 0) (R : ℕ → Error → Type 0) (P : ℕ → Type 0) (sound : SoundBut 0 P Nothing (view m))
-    (up : (g p x : ℕ) (w : AwaitedGather) → as-awaited (object m g) ≡ some w → w .awaiter ≡ Awaiter.GatherSlot (heap-id p) (heap-id x) → Young p → Young g)
+    (up : (g p x : ℕ) (w : AwaitedGather) → g < header m .made → as-awaited (object m g) ≡ some w → w .awaiter ≡ Awaiter.GatherSlot (heap-id p) (heap-id x) → Young p → Young g)
     -- a task that is older than the event is as it was, and its slot is in no gather that the event has committed
     (older : (t : ℕ) → t < header s .next → t < header m .next → is-unstarted (task m t .state) ≡ true → task m t ≡ task s t)
     (apart : (t p x : ℕ) → t < header s .next → t < header m .next → is-live (task m t .state) ≡ true → task m t .awaiter ≡ Awaiter.GatherSlot (heap-id p) (heap-id x) → Young p → ⊥)

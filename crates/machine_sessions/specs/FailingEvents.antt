@@ -221,7 +221,7 @@ module _ (ev : Event) (s : Store) (w : SoundStore s) where
         found c _ (λ o p l e.
         let i = resolve-delivering u h v g o p l e in
         let fv : ValueFits (value-or (p .stored) v) = value-fits _ _ _ (i .mid .kept .but .fits .made-fits) (i .known) in
-        success-failing s s (λ g. ⊥) (Brings ev) (RunnerEnds ev s) Nothing (w .facts .but) (λ a b d x q z y. y) (RunnerFails ev s) (Unit {0}) _ (p .awaiter) (value-or (p .stored) v) (call-fits o p e .1 .0) fv
+        success-failing s s (λ g. ⊥) (Brings ev) (RunnerEnds ev s) Nothing (w .facts .but) (λ a b d x l q z y. y) (RunnerFails ev s) (Unit {0}) _ (p .awaiter) (value-or (p .stored) v) (call-fits o p e .1 .0) fv
         (settles o p (ExternalFutureState.Resolved (value-or (p .stored) v)) l e (call-fits o p e .0, fv) (refl, tt)))
 
     breaks : (c : ℕ) (x : Error) → ErrorFits x → Brings ev x → J (fail-future u c x)
@@ -229,7 +229,7 @@ module _ (ev : Event) (s : Store) (w : SoundStore s) where
     breaks c x f b =
         found c _ (λ o p l e.
         let fit : ObjectFits (Object.ExternalFuture (p .call) (ExternalFutureState.Failed x)) = (call-fits o p e .0, f) in
-        failure-failing s s (λ g. ⊥) (Brings ev) (RunnerEnds ev s) Nothing (w .facts .but) (λ a b d x q z y. y) (RunnerFails ev s) (Unit {0}) x f b _ o (p .awaiter) (call-fits o p e .1 .0) (rises o p l e)
+        failure-failing s s (λ g. ⊥) (Brings ev) (RunnerEnds ev s) Nothing (w .facts .but) (λ a b d x l q z y. y) (RunnerFails ev s) (Unit {0}) x f b _ o (p .awaiter) (call-fits o p e .1 .0) (rises o p l e)
         (by-external (p .call) (object-put-object u o _ (k .sized) (low-as o l) fit))
         (settles o p (ExternalFutureState.Failed x) l e fit (refl, tt)))
 
@@ -271,8 +271,8 @@ results-fails rs s w a =
 
 module _ (ev : Event) (s : Store) (w : SoundStore s) where
   -- no gather is committed in the event
-  never : (g p x : ℕ) (v : AwaitedGather) → as-awaited (object s g) ≡ some v → v .awaiter ≡ Awaiter.GatherSlot (heap-id p) (heap-id x) → ⊥ → ⊥
-  never g p x v e a y = y
+  never : (g p x : ℕ) (v : AwaitedGather) → g < header s .made → as-awaited (object s g) ≡ some v → v .awaiter ≡ Awaiter.GatherSlot (heap-id p) (heap-id x) → ⊥ → ⊥
+  never g p x v l e a y = y
 
   rows-same : (t : ℕ) → t < header s .next → t < header s .next → is-unstarted (task s t .state) ≡ true → task s t ≡ task s t
   rows-same t a b c = refl

@@ -46,4 +46,5 @@ pub mod FailingMakes
 pub mod FailingCommitSteps
 pub mod FailingCommitItems
 pub mod FailingCommit
+pub mod FailingAwait
 pub mod DemandThreeHolds
