@@ -417,3 +417,56 @@ module _ (o : ℕ) (s : Store) (w : SoundStore s) (t : ℕ) (m : header s .momen
         by (Object.Coroutine f x) e = coroutine-awaited f x e
         by (Object.ExternalFuture c x) e = external-awaited c x e
         by (Object.GatherFuture f n x) e = gather-awaited f n x e
+
+-- ---- each event
+
+module _ (s : Store) (w : SoundStore s) where
+  not-full : full s ≡ false → header s .made < object-limit
+  unfolding full
+  not-full e = leb-false object-limit (header s .made) e
+
+  number-left : no-number s ≡ false → header s .calls < call-limit
+  unfolding no-number
+  number-left e = leb-false call-limit (header s .calls) e
+
+  completes-fails : (t : ℕ) (v : Value) → header s .moment ≡ Moment.Running (task-id t) → T (value-known (header s .made) (object s) v) → EventFails (Event.complete v) s (task-completes s t v)
+  unfolding task-completes tells done-only
+  completes-fails zero v m k = end-fails (Event.complete v) s (Answer.finished v) w refl
+  completes-fails (suc t) v m k = rw (ne-eqb (suc t) 0 (λ e. not-suc-le-zero {n = 0} (omega arith))) (completion-fails s w t v m k)
+
+  fails-fails : (t n : ℕ) → header s .moment ≡ Moment.Running (task-id t) → ErrorFits (Error.Script n) → EventFails (Event.fail n) s (task-fails s t (Error.Script n))
+  unfolding task-fails tells done-only
+  fails-fails zero n m k = end-fails (Event.fail n) s (Answer.finished-error (Error.Script n)) w refl
+  fails-fails (suc t) n m k = rw (ne-eqb (suc t) 0 (λ e. not-suc-le-zero {n = 0} (omega arith))) (failure-fails s w t n m k)
+
+  -- What an accepted event does to every gather.
+  pub accept-fails : (e : Event) → InRange e → refusal s e ≡ 0 → EventFails e s (accept s e)
+  unfolding refusals InRange in-both
+  accept-fails (Event.coroutine f) i r = coroutine-fails s f (w .memory .sized) (not-full (pass 6 (full s) [] (running-rest s _ (refusal-rest s (Event.coroutine f) r)) .0))
+  accept-fails Event.call i r = call-fails s (w .memory .sized) (number-left (pass 7 (no-number s) [] (running-rest s _ (refusal-rest s Event.call r)) .0))
+  accept-fails (Event.pending c x) i r =
+      let q = running-rest s _ (refusal-rest s (Event.pending c x) r) in
+      let five = pass 4 (leb (header s .calls) c || not (option-known (header s .made) (object s) x)) _ q in
+      pending-fails s c x (w .memory .sized) (not-full (pass 6 (full s) [] (pass 5 _ _ (five .1) .1) .0))
+  accept-fails (Event.settled v) i r =
+      let five = pass 4 (not (value-known (header s .made) (object s) v)) _ (running-rest s _ (refusal-rest s (Event.settled v) r)) in
+      let seven = pass 6 (full s) _ (five .1) in
+      settled-fails s (w .memory .sized) (number-left (pass 7 (no-number s) [] (seven .1) .0)) v (not-full (seven .0))
+  accept-fails (Event.gather os) i r =
+      let five = pass 4 (any-of (unmade s) os) _ (running-rest s _ (refusal-rest s (Event.gather os) r)) in
+      let q = pass 6 (full s || ltb item-limit (length os) || ltb place-limit (header s .used + length os)) [] (five .1) .0 in
+      let q1 = or-left (full s || ltb item-limit (length os)) (ltb place-limit (header s .used + length os)) q in
+      gather-fails s os (w .memory .sized) (not-full (or-left (full s) (ltb item-limit (length os)) q1))
+      (ltb-false place-limit (header s .used + length os) (or-right (full s || ltb item-limit (length os)) (ltb place-limit (header s .used + length os)) q))
+  accept-fails (Event.await o) i r =
+      let q = refusal-rest s (Event.await o) r in
+      unfold accept in (await-fails o s w (runner (header s .moment)) (running s w _ q) (await-made s w o q))
+  accept-fails (Event.complete v) i r =
+      let q = refusal-rest s (Event.complete v) r in
+      unfold accept in (completes-fails (runner (header s .moment)) v (running s w _ q) (complete-known s w v q))
+  accept-fails (Event.fail n) i r = unfold accept in (fails-fails (runner (header s .moment)) n (running s w _ (refusal-rest s (Event.fail n) r)) i)
+  accept-fails (Event.results rs) i r = unfold accept in (results-fails rs s w (results-apply s w rs (refusal-rest s (Event.results rs) r)))
+  accept-fails Event.resume i r = unfold accept in (resume-fails s w (waiting s w [] (refusal-rest s Event.resume r) .0))
+  accept-fails (Event.cancel t) i r = unfold accept in (cancel-fails s t w)
+  accept-fails (Event.show o) i r = unfold accept in (read-fails (Event.show o) s _ (unfold tells done-only in refl))
+  accept-fails Event.eager i r = unfold accept in (read-fails Event.eager s _ (unfold tells done-only in refl))
