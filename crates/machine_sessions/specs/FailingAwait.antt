@@ -119,6 +119,7 @@ module _ (o : ℕ) (s : Store) (w : SoundStore s) (t : ℕ) (m : header s .momen
         spawned = k .spawned;
         low = λ v i e. omega (arith, runner-low s t w m, k .grows, same-task t v h i e);
         started = λ v i e. subst (λ (j : ℕ). is-unstarted (task u j .state) ≡ false) (same-task t v h i e) on;
+        alive = λ v i e. subst (λ (j : ℕ). is-live (task u j .state) ≡ true) (same-task t v h i e) lives;
         starts = λ v c f e. absurd (subst NoStart (same-how t v h (start c f) e) ns);
       }
     where
@@ -127,6 +128,9 @@ module _ (o : ℕ) (s : Store) (w : SoundStore s) (t : ℕ) (m : header s .momen
 
       same-how : (t v : ℕ) (h i : How) → some (runs t h) ≡ some (runs v i) → h ≡ i
       same-how t v h i e = cc
+
+      lives : is-live (task u t .state) ≡ true
+      lives = ap (λ (r : Task). is-live (r .state)) (k .tasks t (runner-low s t w m)) ∙ ap is-live (runner-runs s t w m)
 
       on : is-unstarted (task u t .state) ≡ false
       on = ap (λ (r : Task). is-unstarted (r .state)) (k .tasks t (runner-low s t w m)) ∙ ap is-unstarted (runner-runs s t w m)
@@ -259,6 +263,7 @@ module _ (o : ℕ) (s : Store) (w : SoundStore s) (t : ℕ) (m : header s .momen
           spawned = k .spawned;
           low = λ v i e. left .low v i (Option·some-injective _ _ e);
           started = λ v i e. left .started v i (Option·some-injective _ _ e);
+          alive = λ v i e. left .alive v i (Option·some-injective _ _ e);
           starts = λ v i f e. left .used v i f (Option·some-injective _ _ e);
         }
       where

@@ -108,6 +108,7 @@ pub record LeftAs (K : Store → Type 0) (x : Switched) : Type 0 where
   pub failing : K (x .store)
   pub low : (t : ℕ) (h : How) → x .control ≡ runs t h → t < header (x .store) .next
   pub started : (t : ℕ) (h : How) → x .control ≡ runs t h → is-unstarted (task (x .store) t .state) ≡ false
+  pub alive : (t : ℕ) (h : How) → x .control ≡ runs t h → is-live (task (x .store) t .state) ≡ true
   pub used : (t c f : ℕ) → x .control ≡ runs t (start c f) → object (x .store) c ≡ Object.Coroutine f CoroutineState.Running
 
 -- s is the store before the event, m the one where deliveries begin
@@ -138,7 +139,7 @@ module _ (s m : Store) (Young : ℕ → Type 0) (B : Error → Type 0) (X : ℕ 
   yields : (u : Store) → K u → LeftAs Over (yield u)
   unfolding yield
   yields u k =
-      record { failing = over _ (moment-failing s m Young B X R (Unit {0}) u Moment.Waiting tt k); low = λ t h e. not-runs t h _ e; started = λ t h e. not-runs t h _ e; used = λ t c f e. not-runs t (start c f) _ e }
+      record { failing = over _ (moment-failing s m Young B X R (Unit {0}) u Moment.Waiting tt k); low = λ t h e. not-runs t h _ e; started = λ t h e. not-runs t h _ e; alive = λ t h e. not-runs t h _ e; used = λ t c f e. not-runs t (start c f) _ e }
 
   -- what a live task of m ends with goes up to gathers that its coroutine is an item of
   pub task-up : (t : ℕ) (a : Awaiter) → t < header s .next → t < header m .next → is-live (task m t .state) ≡ true → task m t .awaiter ≡ a → Up s m Young B X (task m t .coroutine .0) a
@@ -156,6 +157,7 @@ module _ (s m : Store) (Young : ℕ → Type 0) (B : Error → Type 0) (X : ℕ 
         failing = k2;
         low = λ v i e. subst (λ (j : ℕ). j < header (set-moment (set-state u t TaskState.Running) (Moment.Running (task-id t))) .next) (same-task t v h i e) (subst (λ (j : ℕ). t < j) (sym (k2 .next)) l);
         started = λ v i e. subst (λ (j : ℕ). is-unstarted (task (set-moment (set-state u t TaskState.Running) (Moment.Running (task-id t))) j .state) ≡ false) (same-task t v h i e) on;
+        alive = λ v i e. subst (λ (j : ℕ). is-live (task (set-moment (set-state u t TaskState.Running) (Moment.Running (task-id t))) j .state) ≡ true) (same-task t v h i e) lives;
         used = λ v c f e. rows c ∙ used c f (same-how t v h (start c f) e);
       }
     where
@@ -182,6 +184,12 @@ module _ (s m : Store) (Young : ℕ → Type 0) (B : Error → Type 0) (X : ℕ 
 
       r-fits : TaskFits r
       r-fits = unfold restate in (record { state-fits = tt; awaiter-fits = task-fits u t .awaiter-fits; coroutine-fits = task-fits u t .coroutine-fits })
+
+      lives : is-live (task (set-moment (set-state u t TaskState.Running) (Moment.Running (task-id t))) t .state) ≡ true
+      lives = same-row ∙ (ap (λ (y : Task). is-live (y .state)) (task-put-task u t r (k .sized) room r-fits) ∙ (unfold restate in refl))
+        where
+          same-row : is-live (task (set-moment (set-state u t TaskState.Running) (Moment.Running (task-id t))) t .state) ≡ is-live (task (put-task u t r) t .state)
+          same-row = unfold task set-moment put-header set-state in refl
 
       on : is-unstarted (task (set-moment (set-state u t TaskState.Running) (Moment.Running (task-id t))) t .state) ≡ false
       on = same-row ∙ (ap (λ (y : Task). is-unstarted (y .state)) (task-put-task u t r (k .sized) room r-fits) ∙ (unfold restate in refl))

@@ -115,8 +115,9 @@ module _ (e : Event) (s : Store) where
   -- what has been done
   pub ends : (Fr : Type 0) (x : Step) → K Fr (x .store) → ((t : ℕ) (h : How) → tells (x .answer) .control ≡ some (runs t h) → t < header (x .store) .next)
       → ((t : ℕ) (h : How) → tells (x .answer) .control ≡ some (runs t h) → is-unstarted (task (x .store) t .state) ≡ false)
+      → ((t : ℕ) (h : How) → tells (x .answer) .control ≡ some (runs t h) → is-live (task (x .store) t .state) ≡ true)
       → ((t c f : ℕ) → tells (x .answer) .control ≡ some (runs t (start c f)) → object (x .store) c ≡ Object.Coroutine f CoroutineState.Running) → EventFails e s x
-  ends Fr x k a b c =
+  ends Fr x k a b al c =
       record {
         moves = λ o l. climb-moves (object s o) (object (x .store) o) (k .moves o);
         awaited = λ g f n y w l p q. let r = k .because g f n y w p q in record { error = r .error; item = r .item; among = r .among; raised = r .raised };
@@ -127,6 +128,7 @@ module _ (e : Event) (s : Store) where
         spawned = k .spawned;
         low = a;
         started = b;
+        alive = al;
         starts = c;
       }
 
@@ -134,14 +136,14 @@ module _ (e : Event) (s : Store) where
   pub switch-ends : (x : Switched) → LeftAs (K ⊥) x → EventFails e s (switched x)
   unfolding switched tells
   switch-ends x l =
-      ends ⊥ (record { store = x .store; answer = Answer.control (x .control) }) (l .failing) (λ t h p. l .low t h (same-control _ _ p)) (λ t h p. l .started t h (same-control _ _ p)) (λ t c f p. l .used t c f (same-control _ _ p))
+      ends ⊥ (record { store = x .store; answer = Answer.control (x .control) }) (l .failing) (λ t h p. l .low t h (same-control _ _ p)) (λ t h p. l .started t h (same-control _ _ p)) (λ t h p. l .alive t h (same-control _ _ p)) (λ t c f p. l .used t c f (same-control _ _ p))
     where
       same-control : (a b : Control) → some a ≡ some b → a ≡ b
       same-control a b p = Option·some-injective a b p
 
   -- where nobody is given control
   pub quiet-ends : (Fr : Type 0) (x : Step) → tells (x .answer) .control ≡ none → K Fr (x .store) → EventFails e s x
-  quiet-ends Fr x n k = ends Fr x k (λ t h p. absurd-some (sym n ∙ p)) (λ t h p. absurd-some (sym n ∙ p)) (λ t c f p. absurd-some (sym n ∙ p))
+  quiet-ends Fr x n k = ends Fr x k (λ t h p. absurd-some (sym n ∙ p)) (λ t h p. absurd-some (sym n ∙ p)) (λ t h p. absurd-some (sym n ∙ p)) (λ t c f p. absurd-some (sym n ∙ p))
 
   -- rows that are made, tasks and log as they were
   pub same-ends : (x : Step) → tells (x .answer) .control ≡ none → ((o : ℕ) → o < header s .made → object (x .store) o ≡ object s o) → ((t : ℕ) → task (x .store) t ≡ task s t)
@@ -157,6 +159,7 @@ module _ (e : Event) (s : Store) where
         spawned = λ t b l. ap (λ (y : List LogEntry). spawned-by b y t) lg;
         low = λ t h p. absurd-some (sym c ∙ p);
         started = λ t h p. absurd-some (sym c ∙ p);
+        alive = λ t h p. absurd-some (sym c ∙ p);
         starts = λ t i f p. absurd-some (sym c ∙ p);
       }
 
@@ -371,7 +374,7 @@ resume-fails s w m =
     repeats [] = unfold repeat-wait in (quiet-ends Event.resume s (Unit {0}) (record { store = s; answer = Answer.stalled }) (unfold tells done-only in refl) (begins Event.resume s (w .memory .sized)))
     repeats (c ∷ cs) = unfold repeat-wait in
         (ends Event.resume s (Unit {0}) (record { store = s; answer = Answer.control (waits (c ∷ cs)) }) (begins Event.resume s (w .memory .sized)) (λ t h e. not-runs t h (c ∷ cs) (unfold tells in e))
-        (λ t h e. not-runs t h (c ∷ cs) (unfold tells in e)) (λ t d f e. not-runs t (start d f) (c ∷ cs) (unfold tells in e)))
+        (λ t h e. not-runs t h (c ∷ cs) (unfold tells in e)) (λ t h e. not-runs t h (c ∷ cs) (unfold tells in e)) (λ t d f e. not-runs t (start d f) (c ∷ cs) (unfold tells in e)))
 
 -- ---- cancel and the end
 

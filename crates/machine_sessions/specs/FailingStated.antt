@@ -19,7 +19,7 @@ use Rattle.asyncio.specs.declared.Object.{Object}
 use Rattle.asyncio.specs.declared.Moment.{Moment}
 use Rattle.asyncio.specs.Numbers.{task-id}
 use Rattle.asyncio.specs.Parts.{first-of, count-of}
-use Rattle.asyncio.specs.States.{is-unstarted}
+use Rattle.asyncio.specs.States.{is-live, is-unstarted}
 use Rattle.machine.specs.Store.{Store, task, object, place, header}
 use Rattle.machine.specs.Scheduler.{AwaitedGather, as-awaited}
 use Rattle.machine.specs.Events.{How, start, Control, runs, Result}
@@ -112,7 +112,8 @@ pub record EventFails (e : Event) (s : Store) (x : Step) : Type 0 where
   pub unstarted : (t : ℕ) → t < header (x .store) .next → is-unstarted (task (x .store) t .state) ≡ true → (header s .next ≤ t) ⊎ (is-unstarted (task s t .state) ≡ true)
   pub exits : (t : ℕ) → exits-in (x .store .log) t ≡ true → ExitAs s (RunnerEnds e s) (x .store) t
   pub spawned : (t : ℕ) (b : Option ℕ) → t < header s .next → spawned-by b (x .store .log) t ≡ spawned-by b (s .log) t
-  -- who has control has started
+  -- who has control lives and has started
   pub low : (t : ℕ) (h : How) → tells (x .answer) .control ≡ some (runs t h) → t < header (x .store) .next
   pub started : (t : ℕ) (h : How) → tells (x .answer) .control ≡ some (runs t h) → is-unstarted (task (x .store) t .state) ≡ false
+  pub alive : (t : ℕ) (h : How) → tells (x .answer) .control ≡ some (runs t h) → is-live (task (x .store) t .state) ≡ true
   pub starts : (t c f : ℕ) → tells (x .answer) .control ≡ some (runs t (start c f)) → object (x .store) c ≡ Object.Coroutine f CoroutineState.Running
