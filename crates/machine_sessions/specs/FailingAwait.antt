@@ -55,7 +55,7 @@ use Rattle.machine_theorems.specs.Soundness.Preserved.{running, waiting, await-
 use Rattle.machine_sessions.specs.Failing.{RowMoves, CommitMoves, ClimbMoves, FailedRow, AwaitedState, IsUnmade, row-same, climb-same, climb-failed, commit-then, commit-moves, commit-awaited, commit-was, commit-failed, commit-takes, failed-awaited}
 use Rattle.machine_sessions.specs.FailingRows.{ItemAt, Raised, ExitAs, before, TaskAs, Because, Failing}
 use Rattle.machine_sessions.specs.FailingCycle.{LeftAs, resume-left}
-use Rattle.machine_sessions.specs.FailingStated.{Brings, reuse, RunnerFails, RunnerEnds, FailedBy, CommitFailed, EventFails}
+use Rattle.machine_sessions.specs.FailingStated.{Brings, reuse, RunnerFails, RunnerEnds, FailedBy, CommitFailed, TaskFrom, lived, is-new, EventFails}
 use Rattle.machine_sessions.specs.FailingEvents.{results-fails, failure-fails, completion-fails, resume-fails, cancel-fails, end-fails}
 use Rattle.machine_sessions.specs.FailingMakes.{coroutine-fails, pending-fails, call-fails, settled-fails, gather-fails, read-fails}
 use Rattle.machine_sessions.specs.FailingCommitSteps.{Committing, committing-begins, committing-row}
@@ -73,6 +73,7 @@ same-unwound s =
       tasks = λ t l. refl;
       exits = λ t. refl;
       spawned = λ t b l. refl;
+      for-it = λ t b a l. absurd (not-suc-le-zero {n = 0} (omega arith));
     }
 
 -- a commit without an error
@@ -86,6 +87,7 @@ commits-unwound s u k =
       tasks = k .tasks;
       exits = k .exits;
       spawned = k .spawned;
+      for-it = k .for-it;
     }
 
 old-or-new : (n t : ℕ) → (t < n) ⊎ (n ≤ t)
@@ -114,6 +116,7 @@ module _ (o : ℕ) (s : Store) (w : SoundStore s) (t : ℕ) (m : header s .momen
         awaited = λ g f c y v l p q. absurd (k .awaited g f c y v p q);
         pending = λ g f c i j y l p q. k .pending g f c i j y p q;
         grows = k .grows;
+        tasks = λ v l e. from v l e (old-or-new (header s .next) v);
         unstarted = λ v l e. by v e (old-or-new (header s .next) v);
         exits = λ v e. before (sym (k .exits v) ∙ e);
         spawned = k .spawned;
@@ -134,6 +137,10 @@ module _ (o : ℕ) (s : Store) (w : SoundStore s) (t : ℕ) (m : header s .momen
 
       on : is-unstarted (task u t .state) ≡ false
       on = ap (λ (r : Task). is-unstarted (r .state)) (k .tasks t (runner-low s t w m)) ∙ ap is-unstarted (runner-runs s t w m)
+
+      from : (v : ℕ) → v < header u .next → is-live (task u v .state) ≡ true → (v < header s .next) ⊎ (header s .next ≤ v) → TaskFrom s u v
+      from v l e (inl a) = lived a (sym (ap (λ (r : Task). is-live (r .state)) (k .tasks v a)) ∙ e) (ap (λ (r : Task). r .coroutine .0) (k .tasks v a))
+      from v l e (inr a) = is-new a (λ b. k .for-it v b a l)
 
       by : (v : ℕ) → is-unstarted (task u v .state) ≡ true → (v < header s .next) ⊎ (header s .next ≤ v) → (header s .next ≤ v) ⊎ (is-unstarted (task s v .state) ≡ true)
       by v e (inl l) = inr (sym (ap (λ (r : Task). is-unstarted (r .state)) (k .tasks v l)) ∙ e)
@@ -237,12 +244,9 @@ module _ (o : ℕ) (s : Store) (w : SoundStore s) (t : ℕ) (m : header s .momen
           because = λ g f n y i p q. failed-awaited (object b g) f n y i q p;
           exits = λ v e. before (sym (c .exits v) ∙ (unfold add-log set-state put-task in e));
           fresh = λ i v l n. let y = c .fresh v l (subst (λ (j : Header). v < j .next) head n) in (y .0, row-of v l ∙ y .1);
-          spawned = λ v i l. same-log v i ∙ c .spawned v i l;
+          spawned = λ v i. refl;
         }
       where
-        same-log : (v : ℕ) (i : Option ℕ) → spawned-by i (b .log) v ≡ spawned-by i (x .log) v
-        same-log v i = unfold spawned-by add-log set-state put-task in refl
-
         row-of : (v : ℕ) → header s .next ≤ v → object b (task b v .coroutine .0) ≡ object x (task x v .coroutine .0)
         row-of v l = ap (λ (y : Task). object b (y .coroutine .0)) (other v (λ d. not-suc-le-zero {n = 0} (omega (arith, l, d, t-low)))) ∙ rows (task x v .coroutine .0)
 
@@ -258,9 +262,10 @@ module _ (o : ℕ) (s : Store) (w : SoundStore s) (t : ℕ) (m : header s .momen
           awaited = λ g f a y v l p q. why g f a y v p q;
           pending = λ g f a i j y l p q. never g f a i j y p q;
           grows = subst (λ (j : ℕ). header s .next ≤ j) (sym (k .next ∙ ap (λ (i : Header). i .next) head)) (c .grows);
+          tasks = λ v l e. from v e (subst (λ (j : ℕ). v < j) (k .next) l) (old-or-new (header s .next) v);
           unstarted = λ v l e. by v e (subst (λ (j : ℕ). v < j) (k .next) l) (old-or-new (header s .next) v);
           exits = k .exits;
-          spawned = k .spawned;
+          spawned = λ v i l. k .spawned v i ∙ (same-log v i ∙ c .spawned v i l);
           low = λ v i e. left .low v i (Option·some-injective _ _ e);
           started = λ v i e. left .started v i (Option·some-injective _ _ e);
           alive = λ v i e. left .alive v i (Option·some-injective _ _ e);
@@ -307,6 +312,24 @@ module _ (o : ℕ) (s : Store) (w : SoundStore s) (t : ℕ) (m : header s .momen
             at (inl d) = absurd (subst FailedRow (sym (commit-failed (object s g) (object b g) i j y (moved g) d) ∙ p) tt)
             at (inr v) = absurd (k .because g i j y (v .0) (v .1) q .old (f, a, p))
 
+        same-log : (v : ℕ) (i : Option ℕ) → spawned-by i (b .log) v ≡ spawned-by i (x .log) v
+        same-log v i = unfold spawned-by add-log set-state put-task in refl
+
+        coroutine-as : (v : ℕ) → task b v .coroutine .0 ≡ task x v .coroutine .0
+        coroutine-as v = at (ℕ-discrete v t)
+          where
+            at : Dec (v ≡ t) → task b v .coroutine .0 ≡ task x v .coroutine .0
+            at (yes d) = subst (λ (j : ℕ). task b j .coroutine .0 ≡ task x j .coroutine .0) (sym d) (ap (λ (y : Task). y .coroutine .0) here ∙ (unfold restate in refl))
+            at (no ne) = ap (λ (y : Task). y .coroutine .0) (other v ne)
+
+        from : (v : ℕ) → is-live (task u v .state) ≡ true → v < header b .next → (v < header s .next) ⊎ (header s .next ≤ v) → TaskFrom s u v
+        from v e n (inl l) =
+            let y = k .tasks v n e in
+            lived l (live-was v l (y .live)) (ap (λ (i : HeapId). i .0) (y .coroutine) ∙ (coroutine-as v ∙ ap (λ (i : Task). i .coroutine .0) (c .tasks v l)))
+        from v e n (inr l) =
+            let y = k .tasks v n e in
+            is-new l (λ i. k .spawned v i ∙ (same-log v i ∙ (c .for-it v i l (subst (λ (j : Header). v < j .next) head n) ∙ ap (λ (j : ℕ). some j) (sym (ap (λ (i : HeapId). i .0) (y .coroutine) ∙ coroutine-as v)))))
+
         unstarted-live : (y : TaskState) → is-unstarted y ≡ true → is-live y ≡ true
         unstarted-live TaskState.Absent e = absurd (true≢false (sym e))
         unstarted-live TaskState.Unstarted e = refl
@@ -341,6 +364,7 @@ module _ (o : ℕ) (s : Store) (w : SoundStore s) (t : ℕ) (m : header s .momen
           tasks = λ v l. unfold task put-object in refl;
           exits = λ v. unfold put-object in refl;
           spawned = λ v b l. unfold put-object in refl;
+          for-it = λ v b a l. absurd (not-suc-le-zero {n = 0} (omega (arith, a, subst (λ (h : Header). v < h .next) (header-put-object s o y0) l)));
         }
       where
         y0 : Object

@@ -17,6 +17,7 @@ use Rattle.asyncio.specs.declared.CoroutineState.{CoroutineState}
 use Rattle.asyncio.specs.declared.GatherState.{GatherState}
 use Rattle.asyncio.specs.declared.Object.{Object}
 use Rattle.asyncio.specs.declared.Place.{Place}
+use Rattle.asyncio.specs.declared.Task.{Task}
 use Rattle.asyncio.specs.declared.Moment.{Moment}
 use Rattle.asyncio.specs.declared.Header.{Header}
 use Rattle.asyncio.specs.Limits.{object-limit, place-limit}
@@ -128,6 +129,7 @@ module _ (s : Store) where
     pub tasks : (t : ℕ) → t < header s .next → task u t ≡ task s t
     pub exits : (t : ℕ) → exits-in (u .log) t ≡ exits-in (s .log) t
     pub spawned : (t : ℕ) (b : Option ℕ) → t < header s .next → spawned-by b (u .log) t ≡ spawned-by b (s .log) t
+    pub for-it : (t : ℕ) (b : Option ℕ) → header s .next ≤ t → t < header u .next → spawned-by b (u .log) t ≡ some (task u t .coroutine .0)
 
   -- a gather of the stack has failed
   record Falls (u : Store) (e : Error) (g : ℕ) : Type 0 where
@@ -210,6 +212,7 @@ module _ (s : Store) where
         tasks = λ i l. same-task i ∙ c .tasks i l;
         exits = λ v. ap (λ (y : List LogEntry). exits-in y v) (same .1) ∙ c .exits v;
         spawned = λ v b l. ap (λ (y : List LogEntry). spawned-by b y v) (same .1) ∙ c .spawned v b l;
+        for-it = λ i b a l. ap (λ (y : List LogEntry). spawned-by b y i) (same .1) ∙ (c .for-it i b a (subst (λ (y : Header). i < y .next) (same .2) l) ∙ ap (λ (y : Task). some (y .coroutine .0)) (sym (same-task i)));
       }
     where
       g : ℕ

@@ -10,7 +10,7 @@ use native.Mathlib.Nat.{not-suc-le-zero}
 use native.Mathlib.Omega.{arith}
 use native.Mathlib.Decide.{ℕ-discrete}
 use lib.Dec.{eqb, ltb}
-use borrow.Author.Tests.{ne-eqb}
+use borrow.Author.Tests.{eq-eqb, ne-eqb}
 use Rattle.asyncio.specs.declared.Value.{Value}
 use Rattle.asyncio.specs.declared.Error.{Error}
 use Rattle.asyncio.specs.declared.OptionValue.{OptionValue}
@@ -68,6 +68,7 @@ module _ (s : Store) where
     pub fresh : (t : ℕ) → header s .next ≤ t → t < header u .next → (f : ℕ) × (object u (task u t .coroutine .0) ≡ Object.Coroutine f CoroutineState.New)
     pub exits : (t : ℕ) → exits-in (u .log) t ≡ exits-in (s .log) t
     pub spawned : (t : ℕ) (b : Option ℕ) → t < header s .next → spawned-by b (u .log) t ≡ spawned-by b (s .log) t
+    pub for-it : (t : ℕ) (b : Option ℕ) → header s .next ≤ t → t < header u .next → spawned-by b (u .log) t ≡ some (task u t .coroutine .0)
 
   pub committing-begins : Committing s
   committing-begins =
@@ -80,6 +81,7 @@ module _ (s : Store) where
         fresh = λ t a b. absurd (not-suc-le-zero {n = 0} (omega arith));
         exits = λ t. refl;
         spawned = λ t b l. refl;
+        for-it = λ t b a l. absurd (not-suc-le-zero {n = 0} (omega arith));
       }
 
   -- an object's row, of no new coroutine
@@ -95,6 +97,7 @@ module _ (s : Store) where
         fresh = λ t a b. new t a (subst (λ (h : Header). t < h .next) (header-put-object u o y) b);
         exits = λ t. unfold put-object in (k .exits t);
         spawned = λ t b i. unfold put-object in (k .spawned t b i);
+        for-it = λ t b a l. unfold task put-object in (unfold task in (k .for-it t b a (subst (λ (h : Header). t < h .next) (header-put-object u o y) l)));
       }
     where
       by : (p : ℕ) → Dec (p ≡ o) → CommitMoves (object s p) (object (put-object u o y) p)
@@ -122,6 +125,7 @@ module _ (s : Store) where
         fresh = λ t a b. unfold task object header put-place in (unfold task object header in (k .fresh t a b));
         exits = λ t. unfold put-place in (k .exits t);
         spawned = λ t b j. unfold put-place in (k .spawned t b j);
+        for-it = λ t b a l. unfold task header put-place in (unfold task header in (k .for-it t b a l));
       }
     where
       row : Place
@@ -165,6 +169,7 @@ module _ (s : Store) where
         fresh = λ t a b. new t a b (ℕ-discrete t n);
         exits = λ t. same-exits t ∙ k .exits t;
         spawned = λ t b l. logs t b l ∙ k .spawned t b l;
+        for-it = λ t b a l. mine t b a l (ℕ-discrete t n);
       }
     where
       n : ℕ
@@ -203,11 +208,19 @@ module _ (s : Store) where
           let y = k .fresh t a (omega (arith, b, next, ne)) in
           (y .0, ap (λ (j : Task). object v (j .coroutine .0)) (spawn-row u n c g t ne) ∙ (rows (task u t .coroutine .0) ∙ y .1))
 
+      first : (t : ℕ) (b : Option ℕ) → spawned-by b (v .log) t ≡ elim (eqb n t) [ true ↦ some c | false ↦ spawned-by b (u .log) t ]
+      first t b = unfold spawned-by spawn-as push-ready add-log put-queue set-next put-header put-task in refl
+
+      mine : (t : ℕ) (b : Option ℕ) → header s .next ≤ t → t < header v .next → Dec (t ≡ n) → spawned-by b (v .log) t ≡ some (task v t .coroutine .0)
+      mine t b a l (yes d) =
+          first t b ∙ (ap (λ (x : Bool). elim x [ true ↦ some c | false ↦ spawned-by b (u .log) t ]) (eq-eqb n t (sym d))
+          ∙ ap (λ (j : ℕ). some j) (sym (ap (λ (j : ℕ). task v j .coroutine .0) d ∙ ap (λ (y : Task). y .coroutine .0) here)))
+      mine t b a l (no ne) =
+          first t b ∙ (ap (λ (x : Bool). elim x [ true ↦ some c | false ↦ spawned-by b (u .log) t ]) (ne-eqb n t (λ d. ne (sym d)))
+          ∙ (k .for-it t b a (omega (arith, l, next, ne)) ∙ ap (λ (y : Task). some (y .coroutine .0)) (sym (spawn-row u n c g t ne))))
+
       logs : (t : ℕ) (b : Option ℕ) → t < header s .next → spawned-by b (v .log) t ≡ spawned-by b (u .log) t
-      logs t b l = first ∙ ap (λ (x : Bool). elim x [ true ↦ some c | false ↦ spawned-by b (u .log) t ]) (ne-eqb n t (λ d. not-suc-le-zero {n = 0} (omega (arith, d, l, k .grows))))
-        where
-          first : spawned-by b (v .log) t ≡ elim (eqb n t) [ true ↦ some c | false ↦ spawned-by b (u .log) t ]
-          first = unfold spawned-by spawn-as push-ready add-log put-queue set-next put-header put-task in refl
+      logs t b l = first t b ∙ ap (λ (x : Bool). elim x [ true ↦ some c | false ↦ spawned-by b (u .log) t ]) (ne-eqb n t (λ d. not-suc-le-zero {n = 0} (omega (arith, d, l, k .grows))))
 
   -- ---- what a gather on the stack has gone past; Q is the stack
 

@@ -12,6 +12,7 @@ use lib.Dec.{T, eqb}
 use lib.ListN.{length, getD}
 use borrow.Author.Tests.{eqb-true, ne-eqb}
 use Rattle.asyncio.specs.declared.CallId.{CallId}
+use Rattle.asyncio.specs.declared.HeapId.{HeapId}
 use Rattle.asyncio.specs.declared.Value.{Value}
 use Rattle.asyncio.specs.declared.Error.{Error}
 use Rattle.asyncio.specs.declared.OptionValue.{OptionValue}
@@ -57,7 +58,7 @@ use Rattle.machine_sessions.specs.Failing.{ClimbMoves, RowMoves, FailedR
 use Rattle.machine_sessions.specs.FailingRows.{ItemAt, Raised, by-external, by-task, ExitAs, before, as-runner, TaskAs, Because, Failing, row-failing, queue-failing, moment-failing, goes-failing, ends-failing, exit-failing, failing-over}
 use Rattle.machine_sessions.specs.FailingClimb.{Up, slotted-up, success-failing, failure-failing}
 use Rattle.machine_sessions.specs.FailingCycle.{LeftAs, task-up, failed-left, exit-left, activate-left, resume-left}
-use Rattle.machine_sessions.specs.FailingStated.{ResultIn, Brings, reuse, script, answer, RunnerFails, RunnerEnds, completes, fails, FailedBy, CommitFailed, EventFails}
+use Rattle.machine_sessions.specs.FailingStated.{ResultIn, Brings, reuse, script, answer, RunnerFails, RunnerEnds, completes, fails, FailedBy, CommitFailed, lived, EventFails}
 
 -- ---- a row that is pending has not failed, and does not in deliveries
 
@@ -95,7 +96,7 @@ module _ (e : Event) (s : Store) where
         because = λ g f n x w p q. failed-awaited (object s g) f n x w q p;
         exits = λ t b. before b;
         fresh = λ i t a b. absurd (not-suc-le-zero {n = 0} (omega arith));
-        spawned = λ t b l. refl;
+        spawned = λ t b. refl;
       }
 
   -- no task is spawned
@@ -123,9 +124,10 @@ module _ (e : Event) (s : Store) where
         awaited = λ g f n y w l p q. let r = k .because g f n y w p q in record { error = r .error; item = r .item; among = r .among; raised = r .raised };
         pending = λ g f n h j y l p q. pending-climbs (object s g) (object (x .store) g) f n h j y (k .moves g) p q;
         grows = omega (arith, k .next);
+        tasks = λ t l d. let y = k .tasks t (omega (arith, l, k .next)) d in lived (omega (arith, l, k .next)) (y .live) (ap (λ (i : HeapId). i .0) (y .coroutine));
         unstarted = λ t l d. inr (k .tasks t (omega (arith, l, k .next)) (unstarted-live (task (x .store) t .state) d) .unstarted d);
         exits = k .exits;
-        spawned = k .spawned;
+        spawned = λ t d l. k .spawned t d;
         low = a;
         started = b;
         alive = al;
@@ -154,6 +156,7 @@ module _ (e : Event) (s : Store) where
         awaited = λ g f k y w l p q. failed-awaited (object s g) f k y w (sym (os g l) ∙ q) p;
         pending = λ g f k h j y l p q. absurd (subst FailedRow (sym (sym (os g l) ∙ q) ∙ p) tt);
         grows = omega (arith, n);
+        tasks = λ t l d. lived (omega (arith, l, n)) (sym (ap (λ (r : Task). is-live (r .state)) (ts t)) ∙ d) (ap (λ (r : Task). r .coroutine .0) (ts t));
         unstarted = λ t l d. inr (sym (ap (λ (r : Task). is-unstarted (r .state)) (ts t)) ∙ d);
         exits = λ t d. before (subst (λ (y : List LogEntry). exits-in y t ≡ true) lg d);
         spawned = λ t b l. ap (λ (y : List LogEntry). spawned-by b y t) lg;

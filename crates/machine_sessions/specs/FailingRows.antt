@@ -133,7 +133,7 @@ module _ (s m : Store) (Young : ℕ → Type 0) (B : Error → Type 0) (X : ℕ 
     pub exits : (t : ℕ) → exits-in (u .log) t ≡ true → ExitAs s X u t
     -- a task that the event has spawned is for a new coroutine
     pub fresh : Fr → (t : ℕ) → header s .next ≤ t → t < header m .next → (f : ℕ) × (object u (task m t .coroutine .0) ≡ Object.Coroutine f CoroutineState.New)
-    pub spawned : (t : ℕ) (b : Option ℕ) → t < header s .next → spawned-by b (u .log) t ≡ spawned-by b (s .log) t
+    pub spawned : (t : ℕ) (b : Option ℕ) → spawned-by b (u .log) t ≡ spawned-by b (m .log) t
 
   because-later : (R : ℕ → Error → Type 0) (u v : Store) (g : ℕ) (e : Error) → Later u v → Because R u g e → Because R v g e
   because-later R u v g e l k = record { error = k .error; old = k .old; item = k .item; among = k .among; raised = raised-later s R u v (k .item) e l (k .raised) }
@@ -164,7 +164,7 @@ module _ (s m : Store) (Young : ℕ → Type 0) (B : Error → Type 0) (X : ℕ 
   pub failing-step : (R : ℕ → Error → Type 0) (Fr : Type 0) (u v : Store) → Later u v → Sized v → header v .next ≡ header u .next → ((t : ℕ) → t < header m .next → is-live (task v t .state) ≡ true → TaskAs u v t)
       → ((g f n : ℕ) (e : Error) (w : AwaitedGather) → as-awaited (object u g) ≡ some w → object v g ≡ Object.GatherFuture f n (GatherState.Failed e) → Because R v g e)
       → ((t : ℕ) → exits-in (v .log) t ≡ true → (exits-in (u .log) t ≡ true) ⊎ ExitAs s X v t)
-      → ((t : ℕ) (b : Option ℕ) → t < header s .next → spawned-by b (v .log) t ≡ spawned-by b (u .log) t)
+      → ((t : ℕ) (b : Option ℕ) → spawned-by b (v .log) t ≡ spawned-by b (u .log) t)
       → (Fr → (c f : ℕ) → object u c ≡ Object.Coroutine f CoroutineState.New → object v c ≡ Object.Coroutine f CoroutineState.New)
       → Failing R Fr u → Failing R Fr v
   failing-step R Fr u v l z n ts new ex sp fr k =
@@ -176,7 +176,7 @@ module _ (s m : Store) (Young : ℕ → Type 0) (B : Error → Type 0) (X : ℕ 
         because = λ g f a e w p q. by g f a e w p q (climb-failed (object u g) (object v g) f a e (l .rows g) q);
         exits = λ t e. exit t (ex t e);
         fresh = λ i t a b. let y = k .fresh i t a b in (y .0, fr i _ (y .0) (y .1));
-        spawned = λ t b low. sp t b low ∙ k .spawned t b low;
+        spawned = λ t b. sp t b ∙ k .spawned t b;
       }
     where
       by : (g f a : ℕ) (e : Error) (w : AwaitedGather) → as-awaited (object m g) ≡ some w → object v g ≡ Object.GatherFuture f a (GatherState.Failed e)
@@ -198,7 +198,7 @@ module _ (s m : Store) (Young : ℕ → Type 0) (B : Error → Type 0) (X : ℕ 
       (record { rows = λ o. subst (ClimbMoves (object u o)) (sym (os o)) (climb-same (object u o)); gone = λ t b e. ap (λ (r : Task). is-live (r .state)) (ts t) ∙ e; logged = λ t e. ex t ∙ e })
       z n (λ t b e. task-same u v t (ts t) e)
       (λ g f a e w p q. failed-awaited (object u g) f a e w (sym (os g) ∙ q) p)
-      (λ t e. inl (sym (ex t) ∙ e)) (λ t b low. sp t b) (λ i c f e. os c ∙ e) k
+      (λ t e. inl (sym (ex t) ∙ e)) sp (λ i c f e. os c ∙ e) k
 
   pub queue-failing : (R : ℕ → Error → Type 0) (Fr : Type 0) (u : Store) (q : ReadyQueue) → Failing R Fr u → Failing R Fr (put-queue u q)
   queue-failing R Fr u q k =
@@ -229,7 +229,7 @@ module _ (s m : Store) (Young : ℕ → Type 0) (B : Error → Type 0) (X : ℕ 
   row-failing R Fr u o x l fits c new fr k =
       failing-step R Fr u v later
       (sized-put-object u o x (k .sized)) (ap (λ (h : Header). h .next) (header-put-object u o x)) (λ t b e. task-same u v t (unfold task put-object in refl) e)
-      (λ g f n e w p q. by g f n e w p q (ℕ-discrete g o)) (λ t e. inl (unfold put-object in e)) (λ t b low. unfold put-object in refl)
+      (λ g f n e w p q. by g f n e w p q (ℕ-discrete g o)) (λ t e. inl (unfold put-object in e)) (λ t b. unfold put-object in refl)
       (λ i c f e. object-put-other u o c x (λ d. fr i f (subst (λ (j : ℕ). object u j ≡ Object.Coroutine f CoroutineState.New) d e)) ∙ e) k
     where
       v : Store
@@ -260,7 +260,7 @@ module _ (s m : Store) (Young : ℕ → Type 0) (B : Error → Type 0) (X : ℕ 
       failing-step R Fr u v
       (record { rows = λ o. subst (ClimbMoves (object u o)) (sym (same o)) (climb-same (object u o)); gone = λ i b e. gone i b e (ℕ-discrete i t); logged = λ i e. unfold put-task in e })
       (sized-put-task u t r (k .sized)) (unfold header put-task in refl) (λ i b e. tasks i e (ℕ-discrete i t))
-      (λ g f n e w p q. failed-awaited (object u g) f n e w (sym (same g) ∙ q) p) (λ i e. inl (unfold put-task in e)) (λ i b low. unfold put-task in refl) (λ i c f e. same c ∙ e) k
+      (λ g f n e w p q. failed-awaited (object u g) f n e w (sym (same g) ∙ q) p) (λ i e. inl (unfold put-task in e)) (λ i b. unfold put-task in refl) (λ i c f e. same c ∙ e) k
     where
       r : Task
       r = restate (task u t) x
@@ -304,7 +304,7 @@ module _ (s m : Store) (Young : ℕ → Type 0) (B : Error → Type 0) (X : ℕ 
   removed-failing R Fr u v t z n os ts lg ex sp k =
       failing-step R Fr u v
       (record { rows = λ o. subst (ClimbMoves (object u o)) (sym (os o)) (climb-same (object u o)); gone = λ i b e. gone i b e (ℕ-discrete i t); logged = lg })
-      z n (λ i b e. tasks i (omega (arith, b, header-fits m .next-fits)) e (ℕ-discrete i t)) (λ g f a e w p q. failed-awaited (object u g) f a e w (sym (os g) ∙ q) p) ex (λ i b low. sp i b) (λ i c f e. os c ∙ e) k
+      z n (λ i b e. tasks i (omega (arith, b, header-fits m .next-fits)) e (ℕ-discrete i t)) (λ g f a e w p q. failed-awaited (object u g) f a e w (sym (os g) ∙ q) p) ex sp (λ i c f e. os c ∙ e) k
     where
       dead : t < task-limit → is-live (task v t .state) ≡ false
       dead l = ap (λ (r : Task). is-live (r .state)) (ts t) ∙ (live-put-task u t absent (k .sized) l ∙ (unfold absent in refl))

@@ -101,6 +101,11 @@ pub record CommitFailed (s u : Store) (g : ℕ) (x : Error) : Type 0 where
 
 -- ---- the event
 
+-- a task that lives after the event lived before it, with the same coroutine; or the event has spawned it, for its coroutine
+pub data TaskFrom (s u : Store) (t : ℕ) : Type 0 where
+  lived : t < header s .next → is-live (task s t .state) ≡ true → task u t .coroutine .0 ≡ task s t .coroutine .0 → TaskFrom s u t
+  is-new : header s .next ≤ t → ((b : Option ℕ) → spawned-by b (u .log) t ≡ some (task u t .coroutine .0)) → TaskFrom s u t
+
 pub record EventFails (e : Event) (s : Store) (x : Step) : Type 0 where
   pub moves : (o : ℕ) → o < header s .made → RowMoves (object s o) (object (x .store) o)
   pub awaited : (g f n : ℕ) (y : Error) (w : AwaitedGather) → g < header s .made → as-awaited (object s g) ≡ some w → object (x .store) g ≡ Object.GatherFuture f n (GatherState.Failed y)
@@ -109,6 +114,7 @@ pub record EventFails (e : Event) (s : Store) (x : Step) : Type 0 where
       → CommitFailed s (x .store) g y
   -- who is unstarted was, or is new; a task exits that ends with the event, or that was unstarted; who is spawned is new
   pub grows : header s .next ≤ header (x .store) .next
+  pub tasks : (t : ℕ) → t < header (x .store) .next → is-live (task (x .store) t .state) ≡ true → TaskFrom s (x .store) t
   pub unstarted : (t : ℕ) → t < header (x .store) .next → is-unstarted (task (x .store) t .state) ≡ true → (header s .next ≤ t) ⊎ (is-unstarted (task s t .state) ≡ true)
   pub exits : (t : ℕ) → exits-in (x .store .log) t ≡ true → ExitAs s (RunnerEnds e s) (x .store) t
   pub spawned : (t : ℕ) (b : Option ℕ) → t < header s .next → spawned-by b (x .store .log) t ≡ spawned-by b (s .log) t
