@@ -47,4 +47,5 @@ pub mod FailingCommitSteps
 pub mod FailingCommitItems
 pub mod FailingCommit
 pub mod FailingAwait
+pub mod FailingHistory
 pub mod DemandThreeHolds
