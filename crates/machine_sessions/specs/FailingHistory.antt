@@ -28,22 +28,27 @@ use Rattle.asyncio.specs.Kinds.{kind, is-coroutine}
 use Rattle.asyncio.specs.States.{is-live, is-unstarted}
 use Rattle.machine.specs.Store.{Store, LogEntry, spawned, blocked, reached, exited, removed, view, task, object, place, header, forget}
 use Rattle.machine.specs.Events.{How, start, value, raises, inline, Control, runs, waits, new-function}
-use Rattle.machine.specs.Machine.{Event, Answer, Step}
-use Rattle.machine.specs.History.{Entry, Says, says, said, nothing-said, tells, is-at, is-none, started-by, coroutine-of, running, running-coroutine, completed-value, spawned-by, spawned-for, exits-unstarted, failed-error}
+use Rattle.machine.specs.Machine.{Event, Answer, Step, runner, in-running, refusals, refusal}
+use Rattle.machine.specs.History.{Entry, Says, says, said, nothing-said, tells, is-at, is-none, started-by, coroutine-of, running, running-coroutine, completed-value, spawned-by, spawned-for, exits-unstarted, failed-error, coroutine-outcome}
 use Rattle.machine.specs.Honest.{exits-in}
+use Rattle.machine.specs.Gather.{Outcome}
+use Rattle.machine.specs.Sound.{is-task-of-at}
 use Rattle.machine.specs.Sessions.{entry-of, happened-by}
 use Rattle.machine_laws.specs.DeliveryLaws.{absurd-some}
-use Rattle.machine_laws.specs.TestLaws.{holds}
+use Rattle.machine_laws.specs.TestLaws.{holds, both}
+use Rattle.machine_laws.specs.SoundLaws.{refusal-rest}
+use Rattle.machine_theorems.specs.Soundness.PutTask.{is-task-of-give}
 use Rattle.machine_theorems.specs.Soundness.Stores.{SoundStore}
 use Rattle.machine_theorems.specs.Soundness.Exits.{runner-low, runner-runs}
 use Rattle.machine_theorems.specs.Soundness.Cycle.{Spawned, spawned-of}
 use Rattle.machine_theorems.specs.Panics.NoPanicLaws.{main-started}
 use Rattle.machine_sessions.specs.Told.{Frozen, co, pends, gave, broke, many, frozen}
-use Rattle.machine_sessions.specs.Agrees.{Agrees}
+use Rattle.machine_sessions.specs.Agrees.{Agrees, no-value}
+use Rattle.machine_sessions.specs.PlacesHold.{row-outcome}
 use Rattle.machine_sessions.specs.Waits.{said-accepted, said-refused}
 use Rattle.machine_sessions.specs.Failing.{RowMoves, CoroutineMoves}
-use Rattle.machine_sessions.specs.FailingRows.{FirstRun, ExitAs, before, as-runner, at-first}
-use Rattle.machine_sessions.specs.FailingStated.{RunnerEnds, completes, fails, TaskFrom, lived, is-new, EventFails}
+use Rattle.machine_sessions.specs.FailingRows.{FirstRun, Raised, by-external, by-gather, by-task, by-first-run, ExitAs, before, as-runner, at-first}
+use Rattle.machine_sessions.specs.FailingStated.{RunnerFails, RunnerEnds, completes, fails, TaskFrom, lived, is-new, EventFails}
 
 -- ---- a coroutine that is not new
 
@@ -233,6 +238,76 @@ failed-cases x h c e q = by (exits-unstarted (spawned-for (x ∷ h)) (coroutine-
     by true d r = inl d
     by false d r = at (is-at (running-coroutine h) c) refl r
 
+failed-by-runner : (x : Entry) (h : List Entry) (o n : ℕ) → exits-unstarted (spawned-for (x ∷ h)) (coroutine-of (x ∷ h)) (x .happened) o ≡ false → running-coroutine h ≡ some o → said x .fails ≡ some n
+    → failed-error (x ∷ h) o ≡ some (Error.Script n)
+unfolding failed-error
+failed-by-runner x h o n p q f =
+    ap (λ (b : Bool). elim b [ true ↦ some Error.CoroutineReuse | false ↦ elim (is-at (running-coroutine h) o) [ true ↦ elim (said x .fails) [ none ↦ failed-error h o | some i ↦ some (Error.Script i) ] | false ↦ failed-error h o ] ]) p
+    ∙ (ap (λ (b : Bool). elim b [ true ↦ elim (said x .fails) [ none ↦ failed-error h o | some i ↦ some (Error.Script i) ] | false ↦ failed-error h o ]) (some-is-at (running-coroutine h) o q)
+    ∙ ap (λ (b : Option ℕ). elim b [ none ↦ failed-error h o | some i ↦ some (Error.Script i) ]) f)
+
+failed-by-exit : (x : Entry) (h : List Entry) (o : ℕ) → exits-unstarted (spawned-for (x ∷ h)) (coroutine-of (x ∷ h)) (x .happened) o ≡ true → failed-error (x ∷ h) o ≡ some Error.CoroutineReuse
+unfolding failed-error
+failed-by-exit x h o p =
+    ap (λ (b : Bool). elim b [ true ↦ some Error.CoroutineReuse | false ↦ elim (is-at (running-coroutine h) o) [ true ↦ elim (said x .fails) [ none ↦ failed-error h o | some i ↦ some (Error.Script i) ] | false ↦ failed-error h o ] ]) p
+
+running-is : (h : List Entry) (t c : ℕ) → running h ≡ some t → coroutine-of h t ≡ some c → running-coroutine h ≡ some c
+unfolding running-coroutine
+running-is h t c p q = ap (λ (b : Option ℕ). elim b [ none ↦ none | some i ↦ coroutine-of h i ]) p ∙ q
+
+running-runs : (h : List Entry) (t : ℕ) → running h ≡ some t → running-coroutine h ≡ coroutine-of h t
+unfolding running-coroutine
+running-runs h t p = ap (λ (b : Option ℕ). elim b [ none ↦ none | some i ↦ coroutine-of h i ]) p
+
+-- no value yet, if none is completed by this coroutine
+value-none : (x : Entry) (h : List Entry) (c : ℕ) → completed-value h c ≡ none → ((v : Value) → said x .completes ≡ some v → running-coroutine h ≡ some c → ⊥) → completed-value (x ∷ h) c ≡ none
+unfolding completed-value
+value-none x h c p n = by (is-at (running-coroutine h) c) refl
+  where
+    at : (v : Option Value) → said x .completes ≡ v → running-coroutine h ≡ some c → _≡_ {A = Option Value} (elim v [ none ↦ completed-value h c | some i ↦ some i ]) none
+    at none d r = p
+    at (some v) d r = absurd (n v d r)
+
+    by : (b : Bool) → is-at (running-coroutine h) c ≡ b → _≡_ {A = Option Value} (elim b [ true ↦ elim (said x .completes) [ none ↦ completed-value h c | some v ↦ some v ] | false ↦ completed-value h c ]) none
+    by true d = at (said x .completes) refl (is-at-some (running-coroutine h) c d)
+    by false d = p
+
+completes-is : (e : Event) (v : Value) → says e .completes ≡ some v → e ≡ Event.complete v
+unfolding says nothing-said
+completes-is (Event.coroutine f) v q = absurd-some q
+completes-is Event.call v q = absurd-some q
+completes-is (Event.pending c r) v q = absurd-some q
+completes-is (Event.settled i) v q = absurd-some q
+completes-is (Event.gather os) v q = absurd-some q
+completes-is (Event.await o) v q = absurd-some q
+completes-is (Event.complete i) v q = ap Event.complete (Option·some-injective i v q)
+completes-is (Event.fail n) v q = absurd-some q
+completes-is (Event.results rs) v q = absurd-some q
+completes-is Event.resume v q = absurd-some q
+completes-is (Event.cancel t) v q = absurd-some q
+completes-is (Event.show o) v q = absurd-some q
+completes-is Event.eager v q = absurd-some q
+
+coroutine-outcomes : (C : ℕ → Option (Outcome Value Error)) (o : ℕ) (x y : Object) → T (is-coroutine (kind x)) → RowMoves x y → row-outcome C o y ≡ C o
+unfolding kind row-outcome
+coroutine-outcomes C o Object.Unmade y c p = absurd c
+coroutine-outcomes C o (Object.Coroutine f z) Object.Unmade c p = absurd p
+coroutine-outcomes C o (Object.Coroutine f z) (Object.Coroutine g a) c p = refl
+coroutine-outcomes C o (Object.Coroutine f z) (Object.ExternalFuture d a) c p = absurd p
+coroutine-outcomes C o (Object.Coroutine f z) (Object.GatherFuture g n a) c p = absurd p
+coroutine-outcomes C o (Object.ExternalFuture d (ExternalFutureState.Pending a r)) y c p = absurd c
+coroutine-outcomes C o (Object.ExternalFuture d (ExternalFutureState.Resolved v)) y c p = absurd c
+coroutine-outcomes C o (Object.ExternalFuture d (ExternalFutureState.Failed v)) y c p = absurd c
+coroutine-outcomes C o (Object.GatherFuture f n GatherState.Pending) y c p = absurd c
+coroutine-outcomes C o (Object.GatherFuture f n (GatherState.Awaited a m)) y c p = absurd c
+coroutine-outcomes C o (Object.GatherFuture f n GatherState.Completed) y c p = absurd c
+coroutine-outcomes C o (Object.GatherFuture f n (GatherState.Failed v)) y c p = absurd c
+
+-- a completion that is accepted is of the running task
+complete-runs : (s : Store) → SoundStore s → (v : Value) → refusal s (Event.complete v) ≡ 0 → header s .moment ≡ Moment.Running (task-id (runner (header s .moment)))
+unfolding refusals in-running
+complete-runs s w v r = Rattle.machine_theorems.specs.Soundness.Preserved.running s w _ (refusal-rest s (Event.complete v) r)
+
 -- ---- what is known of tasks
 
 pub record Knows (h : List Entry) (s : Store) : Type 0 where
@@ -250,7 +325,7 @@ old-or-new n t = by (ltb t n) refl
     by false e = inr (ltb-false t n e)
 
 -- an event from s, which has logged nothing
-module _ (h : List Entry) (s : Store) (w : SoundStore s) (a : Agrees h s) (k : Knows h s) (fresh : s .log ≡ []) (e : Event) (x : Step) (fl : EventFails e s x) (ok : tells (x .answer) .accepts ≡ true) where
+module _ (h : List Entry) (s : Store) (w : SoundStore s) (a : Agrees h s) (k : Knows h s) (fresh : s .log ≡ []) (e : Event) (x : Step) (fl : EventFails e s x) (ok : tells (x .answer) .accepts ≡ true) (rf : refusal s e ≡ 0) where
   abbrev u : Store
   u = x .store
 
@@ -379,3 +454,117 @@ module _ (h : List Entry) (s : Store) (w : SoundStore s) (a : Agrees h s) (k : K
           (coroutine-used (object s (task s (suc (i .0)) .coroutine .0)) (object u (task s (suc (i .0)) .coroutine .0)) (sp .1) (fl .moves (task s (suc (i .0)) .coroutine .0) (sp .0)) (i .1 .used))
       by-error c r (inr (inl q)) = let i = running-started c q in used-still c (k .used (i .0) c (i .1))
       by-error c r (inr (inr q)) = used-still c (k .failed c r q)
+
+  -- ---- a coroutine whose task has ended with an error has come to it
+
+  -- two live tasks of one coroutine are one
+  one-task : (t v : ℕ) → suc t < header s .next → suc v < header s .next → is-live (task s (suc t) .state) ≡ true → is-live (task s (suc v) .state) ≡ true → task s (suc t) .coroutine .0 ≡ task s (suc v) .coroutine .0 → suc t ≡ suc v
+  unfolding view
+  one-task t v l m p q c = w .facts .but .task-of (task s (suc v) .coroutine .0) (suc t) (suc v) l m (it t p c) (it v q refl)
+    where
+      it : (i : ℕ) → is-live (task s (suc i) .state) ≡ true → task s (suc i) .coroutine .0 ≡ task s (suc v) .coroutine .0 → T (is-task-of-at (task s) (task s (suc v) .coroutine .0) (suc i))
+      it i lv d = unfold is-task-of-at in (both _ _ (holds _ (ap not (ne-eqb (suc i) 0 (λ j. not-suc-le-zero {n = 0} (omega arith))))) (is-task-of-give _ (task s (suc i)) (holds _ lv) d))
+
+  -- one that runs is not unstarted
+  not-both : {A : Type 0} (t v : ℕ) → header s .moment ≡ Moment.Running (task-id (suc t)) → suc v < header s .next → task s (suc v) .state ≡ TaskState.Unstarted → task s (suc v) .coroutine .0 ≡ task s (suc t) .coroutine .0 → A
+  not-both t v m l q c =
+      let d : suc v ≡ suc t = one-task v t l (runner-low s (suc t) w m) (ap is-live q) (ap is-live (runner-runs s (suc t) w m)) c in
+      absurd (true≢false (sym (ap is-unstarted q) ∙ (ap (λ (j : ℕ). is-unstarted (task s j .state)) d ∙ ap is-unstarted (runner-runs s (suc t) w m))))
+
+  abbrev pub Outcomes : ℕ → Option (Outcome Value Error)
+  Outcomes o = coroutine-outcome (completed-value (y ∷ h) o) (failed-error (y ∷ h) o)
+
+  -- the coroutine of task t is one
+  coroutine-row : (t : ℕ) → suc t < header s .next → is-live (task s (suc t) .state) ≡ true → row-outcome Outcomes (task s (suc t) .coroutine .0) (object u (task s (suc t) .coroutine .0)) ≡ Outcomes (task s (suc t) .coroutine .0)
+  coroutine-row t l lv =
+      let r = row-coroutine t l lv in
+      coroutine-outcomes Outcomes (task s (suc t) .coroutine .0) (object s (task s (suc t) .coroutine .0)) (object u (task s (suc t) .coroutine .0)) (r .1) (fl .moves (task s (suc t) .coroutine .0) (r .0))
+
+  come-to : (o : ℕ) (r : Error) → completed-value (y ∷ h) o ≡ none → failed-error (y ∷ h) o ≡ some r → Outcomes o ≡ some (Outcome.raised r)
+  come-to o r p q = ap (λ (v : Option Value). coroutine-outcome v (failed-error (y ∷ h) o)) p ∙ (ap (coroutine-outcome none) q ∙ (unfold coroutine-outcome in refl))
+
+  -- a failure's error, where no unstarted task of the coroutine exits
+  failed-runs : (o n : ℕ) → exits-unstarted (spawned-for (y ∷ h)) (coroutine-of (y ∷ h)) (y .happened) o ≡ false → running-coroutine h ≡ some o → said y .fails ≡ some n → failed-error (y ∷ h) o ≡ some (Error.Script n)
+  failed-runs o n p q f = failed-by-runner y h o n p q f
+
+  -- the runner fails
+  runner-error : (o : ℕ) (r : Error) → RunnerFails e s o r → row-outcome Outcomes o (object u o) ≡ some (Outcome.raised r)
+  runner-error o r z =
+      subst (λ (j : ℕ). row-outcome Outcomes j (object u j) ≡ some (Outcome.raised r)) (z .coroutine)
+      (coroutine-row (z .runner) low live ∙ come-to c r no-value-now (failed-runs c (z .number) alone runs-it says-it ∙ ap (λ (i : Error). some i) (sym (z .error))))
+    where
+      t : ℕ
+      t = z .runner
+
+      c : ℕ
+      c = task s (suc (z .runner)) .coroutine .0
+
+      low : suc (z .runner) < header s .next
+      low = runner-low s (suc (z .runner)) w (z .runs-it)
+
+      live : is-live (task s (suc (z .runner)) .state) ≡ true
+      live = ap is-live (runner-runs s (suc (z .runner)) w (z .runs-it))
+
+      says-it : said y .fails ≡ some (z .number)
+      says-it = ap (λ (i : Says). i .fails) said-is ∙ (ap (λ (i : Event). says i .fails) (z .fails) ∙ (unfold says in refl))
+
+      no-value-now : completed-value (y ∷ h) c ≡ none
+      no-value-now =
+          no-value y h c (ap (λ (i : Says). i .completes) said-is ∙ (ap (λ (i : Event). says i .completes) (z .fails) ∙ none-completes (z .number)))
+          ∙ a .told .tasks (z .runner) low live .undelivered
+        where
+          none-completes : (n : ℕ) → says (Event.fail n) .completes ≡ none
+          none-completes n = unfold says in refl
+
+      runs-it : running-coroutine h ≡ some c
+      runs-it = running-is h (suc (z .runner)) c (a .runner (task-id (suc (z .runner))) (z .runs-it)) (runner-coroutine (z .runner) (z .runs-it))
+
+      alone : exits-unstarted (spawned-for (y ∷ h)) (coroutine-of (y ∷ h)) (y .happened) c ≡ false
+      alone = by (exits-unstarted (spawned-for (y ∷ h)) (coroutine-of (y ∷ h)) (y .happened) c) refl
+        where
+          by : (b : Bool) → exits-unstarted (spawned-for (y ∷ h)) (coroutine-of (y ∷ h)) (y .happened) c ≡ b → b ≡ false
+          by true q = let i = exit-first c q in not-both (z .runner) (i .0) (z .runs-it) (i .1 .low) (i .1 .was) (i .2)
+          by false q = refl
+
+  -- a task fails at its first run
+  first-error : (t : ℕ) → FirstRun s u (suc t) → row-outcome Outcomes (task s (suc t) .coroutine .0) (object u (task s (suc t) .coroutine .0)) ≡ some (Outcome.raised Error.CoroutineReuse)
+  first-error t r = coroutine-row t (r .low) live ∙ come-to c Error.CoroutineReuse no-value-now error
+    where
+      c : ℕ
+      c = task s (suc t) .coroutine .0
+
+      live : is-live (task s (suc t) .state) ≡ true
+      live = ap is-live (r .was)
+
+      none-started : coroutine-of (y ∷ h) (suc t) ≡ none
+      none-started =
+          coroutine-is (suc t) ∙ (started-none (tells (x .answer) .control) (suc t) (coroutine-of h (suc t)) (λ d f q. true≢false (sym (fl .alive (suc t) (start d f) q) ∙ r .gone))
+          ∙ k .unstarted (suc t) (r .low) (ap is-unstarted (r .was)))
+
+      error : failed-error (y ∷ h) c ≡ some Error.CoroutineReuse
+      error = failed-by-exit y h c
+          (exits-there (spawned-for (y ∷ h)) (coroutine-of (y ∷ h)) (y .happened) c (suc t) (subst (λ (i : List LogEntry). exits-in i (suc t) ≡ true) (sym happened-is) (r .logged)) (spawned-old (suc t) (r .low) ∙ k .spawned t (r .low) live) none-started)
+
+      was-none : completed-value h c ≡ none
+      was-none = a .told .tasks t (r .low) live .undelivered
+
+      -- a completion of the running task is of another coroutine
+      apart : (v : Value) → e ≡ Event.complete v → running-coroutine h ≡ some c → ⊥
+      apart v q i = by (runner (header s .moment)) (complete-runs s w v (subst (λ (j : Event). refusal s j ≡ 0) q rf))
+        where
+          by : (n : ℕ) → header s .moment ≡ Moment.Running (task-id n) → ⊥
+          by zero m = absurd-some (sym (a .main) ∙ (sym (running-runs h 0 (a .runner (task-id 0) m)) ∙ i))
+          by (suc n) m =
+              not-both n t m (r .low) (r .was) (Option·some-injective c (task s (suc n) .coroutine .0) (sym i ∙ (running-runs h (suc n) (a .runner (task-id (suc n)) m) ∙ runner-coroutine n m)))
+
+      no-value-now : completed-value (y ∷ h) c ≡ none
+      no-value-now = value-none y h c was-none (λ v p q. apart v (completes-is e v (sym (ap (λ (i : Says). i .completes) said-is) ∙ p)) q)
+
+  -- what an item has raised, it has come to
+  pub raised-outcome : (o : ℕ) (r : Error) → Raised s (RunnerFails e s) u o r → row-outcome Outcomes o (object u o) ≡ some (Outcome.raised r)
+  raised-outcome o r (by-external c q) = ap (row-outcome Outcomes o) q ∙ (unfold row-outcome in refl)
+  raised-outcome o r (by-gather f n q) = ap (row-outcome Outcomes o) q ∙ (unfold row-outcome in refl)
+  raised-outcome o r (by-task z) = runner-error o r z
+  raised-outcome o r (by-first-run zero z q d) = absurd (main-started (w .facts .but) (unfold view in (z .was)))
+  raised-outcome o r (by-first-run (suc t) z q d) =
+      subst (λ (j : ℕ). row-outcome Outcomes j (object u j) ≡ some (Outcome.raised r)) q (first-error t z ∙ ap (λ (i : Error). some (Outcome.raised i)) (sym d))
