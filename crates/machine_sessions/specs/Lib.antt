@@ -48,4 +48,5 @@ pub mod FailingCommitItems
 pub mod FailingCommit
 pub mod FailingAwait
 pub mod FailingHistory
+pub mod FailingSessions
 pub mod DemandThreeHolds
