@@ -21,17 +21,21 @@ use Rattle.asyncio.specs.declared.GatherState.{GatherState}
 use Rattle.asyncio.specs.declared.Object.{Object}
 use Rattle.asyncio.specs.declared.Moment.{Moment}
 use Rattle.asyncio.specs.declared.Header.{Header}
+use Rattle.asyncio.specs.declared.OptionValue.{OptionValue}
 use Rattle.asyncio.specs.Numbers.{task-id}
+use Rattle.asyncio.specs.Layout.{to-value}
+use Rattle.asyncio.specs.RangeLaws.{pick-has}
 use Rattle.asyncio.specs.Parts.{first-of, count-of}
 use Rattle.asyncio.specs.States.{pick, is-live, is-unstarted}
 use Rattle.machine.specs.Store.{Store, view, task, object, place, header, forget, fresh}
-use Rattle.machine.specs.Scheduler.{AwaitedGather, as-awaited}
-use Rattle.machine.specs.Events.{How, Control, Switched}
-use Rattle.machine.specs.Machine.{Event, Answer, Step, Shown, switched, answer-await, end-main, task-completes, task-fails, repeat-wait, resume-with-resolved-futures, unmade, first-refusal, refusals, refusal, shown, accept, step}
+use Rattle.machine.specs.Scheduler.{AwaitedGather, as-awaited, pending-call-ids}
+use Rattle.machine.specs.Delivery.{value-or}
+use Rattle.machine.specs.Events.{How, Control, Switched, Result, activate, handle-task-completion, handle-task-failure, resume-next}
+use Rattle.machine.specs.Machine.{Event, Answer, Step, Shown, switched, answer-await, end-main, task-completes, task-fails, repeat-wait, resume-with-resolved-futures, runner, unmade, first-refusal, refusals, refusal, shown, accept, step}
 use Rattle.machine.specs.Sound.{items-below, object-in-range, places-below}
 use Rattle.machine.specs.Tests.{is-in}
 use Rattle.machine.specs.Gather.{Outcome, returned, raised}
-use Rattle.machine.specs.History.{Entry, Making, says, tells, done-only, is-at, later, making, items, outcome, error-of, coroutine-outcome, completed-value, failed-error}
+use Rattle.machine.specs.History.{Entry, Making, says, tells, done-only, is-at, later, making, items, outcome, error-of, coroutine-outcome, completed-value, failed-error, first-reply, reply-error}
 use Rattle.machine.specs.Sessions.{Sent, Session, InRange, AllSentInRange, lent-any, entry-of, begun, send, send-all, session}
 use Rattle.machine.specs.DemandThree.{read, shown-by, look}
 use Rattle.machine_laws.specs.TestLaws.{below}
@@ -42,7 +46,7 @@ use Rattle.machine_theorems.specs.Soundness.Stores.{SoundStore}
 use Rattle.machine_theorems.specs.Soundness.Sessions.{forget-sound-store, step-sound-store}
 use Rattle.machine_sessions.specs.Following.{Sends, stepped, short, sends, Following, accept-accepts, session-follows}
 use Rattle.machine_sessions.specs.Told.{Frozen, co, pends, gave, broke, many, frozen}
-use Rattle.machine_sessions.specs.Agrees.{ItemsAt, Makes, MadeRight, Agrees}
+use Rattle.machine_sessions.specs.Agrees.{reply-row, ItemsAt, Makes, MadeRight, Agrees}
 use Rattle.machine_sessions.specs.AgreesEvents.{refused-agrees, forget-agrees}
 use Rattle.machine_sessions.specs.AgreesSessions.{accept-agrees, session-agrees}
 use Rattle.machine_sessions.specs.PlacesHold.{row-outcome, outcome-row, shows-made}
@@ -164,3 +168,249 @@ moved-shown s u (Object.GatherFuture f n (GatherState.Awaited a j)) (Object.Gath
 moved-shown s u (Object.GatherFuture f n (GatherState.Awaited a j)) (Object.GatherFuture g m (GatherState.Failed e)) p = tt
 moved-shown s u (Object.GatherFuture f n GatherState.Completed) (Object.GatherFuture g m y) p = (_, ap (λ (z : GatherState). shown u (Object.GatherFuture g m z)) (p .2))
 moved-shown s u (Object.GatherFuture f n (GatherState.Failed e)) (Object.GatherFuture g m y) p = ap (λ (z : GatherState). shown u (Object.GatherFuture g m z)) (p .2)
+
+-- by what is shown
+abbrev IsAwaited : Shown → Type 0
+IsAwaited (Shown.a-coroutine x f) = ⊥
+IsAwaited Shown.an-external-pending = ⊥
+IsAwaited (Shown.an-external-resolved v) = ⊥
+IsAwaited (Shown.an-external-failed e) = ⊥
+IsAwaited Shown.a-gather-pending = ⊥
+IsAwaited (Shown.a-gather-awaited vs) = Unit {0}
+IsAwaited (Shown.a-gather-completed vs) = ⊥
+IsAwaited (Shown.a-gather-failed e) = ⊥
+IsAwaited Shown.nothing = ⊥
+
+abbrev IsPending : Shown → Type 0
+IsPending (Shown.a-coroutine x f) = ⊥
+IsPending Shown.an-external-pending = ⊥
+IsPending (Shown.an-external-resolved v) = ⊥
+IsPending (Shown.an-external-failed e) = ⊥
+IsPending Shown.a-gather-pending = Unit {0}
+IsPending (Shown.a-gather-awaited vs) = ⊥
+IsPending (Shown.a-gather-completed vs) = ⊥
+IsPending (Shown.a-gather-failed e) = ⊥
+IsPending Shown.nothing = ⊥
+
+abbrev IsFailed : Shown → Type 0
+IsFailed (Shown.a-coroutine x f) = ⊥
+IsFailed Shown.an-external-pending = ⊥
+IsFailed (Shown.an-external-resolved v) = ⊥
+IsFailed (Shown.an-external-failed e) = ⊥
+IsFailed Shown.a-gather-pending = ⊥
+IsFailed (Shown.a-gather-awaited vs) = ⊥
+IsFailed (Shown.a-gather-completed vs) = ⊥
+IsFailed (Shown.a-gather-failed e) = Unit {0}
+IsFailed Shown.nothing = ⊥
+
+row-awaited : (s : Store) (x : Object) → IsAwaited (shown s x) → (w : AwaitedGather) × (as-awaited x ≡ some w)
+unfolding shown as-awaited
+row-awaited s Object.Unmade k = absurd k
+row-awaited s (Object.Coroutine f x) k = absurd k
+row-awaited s (Object.ExternalFuture c (ExternalFutureState.Pending a r)) k = absurd k
+row-awaited s (Object.ExternalFuture c (ExternalFutureState.Resolved v)) k = absurd k
+row-awaited s (Object.ExternalFuture c (ExternalFutureState.Failed e)) k = absurd k
+row-awaited s (Object.GatherFuture f n GatherState.Pending) k = absurd k
+row-awaited s (Object.GatherFuture f n (GatherState.Awaited a m)) k = (record { first = f; count = n; awaiter = a; open-places = m }, refl)
+row-awaited s (Object.GatherFuture f n GatherState.Completed) k = absurd k
+row-awaited s (Object.GatherFuture f n (GatherState.Failed e)) k = absurd k
+
+row-pending : (s : Store) (x : Object) → IsPending (shown s x) → (f : ℕ) × (n : ℕ) × (x ≡ Object.GatherFuture f n GatherState.Pending)
+unfolding shown
+row-pending s Object.Unmade k = absurd k
+row-pending s (Object.Coroutine f x) k = absurd k
+row-pending s (Object.ExternalFuture c (ExternalFutureState.Pending a r)) k = absurd k
+row-pending s (Object.ExternalFuture c (ExternalFutureState.Resolved v)) k = absurd k
+row-pending s (Object.ExternalFuture c (ExternalFutureState.Failed e)) k = absurd k
+row-pending s (Object.GatherFuture f n GatherState.Pending) k = (f, n, refl)
+row-pending s (Object.GatherFuture f n (GatherState.Awaited a m)) k = absurd k
+row-pending s (Object.GatherFuture f n GatherState.Completed) k = absurd k
+row-pending s (Object.GatherFuture f n (GatherState.Failed e)) k = absurd k
+
+row-failed : (s : Store) (x : Object) (r : Error) → shown s x ≡ Shown.a-gather-failed r → (f : ℕ) × (n : ℕ) × (x ≡ Object.GatherFuture f n (GatherState.Failed r))
+unfolding shown
+row-failed s Object.Unmade r k = absurd (subst IsFailed (sym k) tt)
+row-failed s (Object.Coroutine f x) r k = absurd (subst IsFailed (sym k) tt)
+row-failed s (Object.ExternalFuture c (ExternalFutureState.Pending a q)) r k = absurd (subst IsFailed (sym k) tt)
+row-failed s (Object.ExternalFuture c (ExternalFutureState.Resolved v)) r k = absurd (subst IsFailed (sym k) tt)
+row-failed s (Object.ExternalFuture c (ExternalFutureState.Failed e)) r k = absurd (subst IsFailed (sym k) tt)
+row-failed s (Object.GatherFuture f n GatherState.Pending) r k = absurd (subst IsFailed (sym k) tt)
+row-failed s (Object.GatherFuture f n (GatherState.Awaited a m)) r k = absurd (subst IsFailed (sym k) tt)
+row-failed s (Object.GatherFuture f n GatherState.Completed) r k = absurd (subst IsFailed (sym k) tt)
+row-failed s (Object.GatherFuture f n (GatherState.Failed e)) r k = (f, n, let q : e ≡ r = cc in ap (λ (z : Error). Object.GatherFuture f n (GatherState.Failed z)) q)
+
+-- what show gives: of an object that is made its row, of another nothing
+pub look-row : (s : Store) (o : ℕ) → SoundStore s → ((o < header s .made) × (look s o ≡ shown s (object s o))) ⊎ ((header s .made ≤ o) × (look s o ≡ Shown.nothing))
+unfolding look shown-by
+look-row s o w = by (ltb o (header s .made)) refl
+  where
+    passes : header s .made ≤ o → refusal s (Event.show o) ≡ 0 → ⊥
+    passes l r = high (refusal-rest s (Event.show o) r)
+      where
+        high : first-refusal (refusals s (Event.show o)) ≡ 0 → ⊥
+        high q = not-suc-le-zero {n = 0} (omega (arith, l, leb-false (header s .made) o (unfold refusals unmade in (pass 4 (leb (header s .made) o) [] q .0))))
+
+    refused : header s .made ≤ o → look s o ≡ Shown.nothing
+    refused l = unfold look read shown-by in (ap (λ (x : Step). shown-by (x .answer)) (refused-step s (Event.show o) (refusal s (Event.show o)) refl (passes l)))
+
+    by : (b : Bool) → ltb o (header s .made) ≡ b → ((o < header s .made) × (look s o ≡ shown s (object s o))) ⊎ ((header s .made ≤ o) × (look s o ≡ Shown.nothing))
+    by true e = let l : o < header s .made = ltb-true o (header s .made) e in inl (l, unfold look in (ap shown-by (shows-made s o w l)))
+    by false e = let l : header s .made ≤ o = ltb-false o (header s .made) e in inr (l, refused l)
+
+-- ---- the items of a gather
+
+abbrev IsMany : Frozen → Type 0
+IsMany Frozen.unmade = ⊥
+IsMany (co b) = ⊥
+IsMany (pends c r) = ⊥
+IsMany (gave v) = ⊥
+IsMany (broke e) = ⊥
+IsMany (many f n) = Unit {0}
+
+reply-not-many : (c : ℕ) (r : OptionValue) (x : Option Result) → IsMany (reply-row c r x) → ⊥
+unfolding reply-row
+reply-not-many c r none k = k
+reply-not-many c r (some x) k = by (eqb (x .kind) 0) k
+  where
+    by : (b : Bool) → IsMany (pick b (gave (value-or r (to-value (x .tag) (x .number)))) (broke (reply-error x))) → ⊥
+    by true i = i
+    by false i = i
+
+module _ (h : List Entry) (s : Store) (k : Agrees h s) where
+  list-by : (g f n : ℕ) → frozen (object s g) ≡ many f n → (e : Event) (since : List Entry) → Makes e since (frozen (object s g)) (λ p. place s p .item .0) → (n ≡ length (says e .items)) × ItemsAt (λ p. place s p .item .0) f (says e .items)
+  unfolding Makes says
+  list-by g f n q (Event.coroutine a) since y = absurd (subst IsMany (sym q ∙ y .1) tt)
+  list-by g f n q Event.call since y = absurd y
+  list-by g f n q (Event.pending c r) since y = absurd (reply-not-many c r (first-reply since c) (subst IsMany (sym q ∙ y) tt))
+  list-by g f n q (Event.settled v) since y = absurd (subst IsMany (sym q ∙ y) tt)
+  list-by g f n q (Event.gather os) since y =
+      let p : _≡_ {A = Frozen} (many f n) (many (y .0) (length os)) = sym q ∙ y .1 in
+      let a : f ≡ y .0 = cc in
+      let b : n ≡ length os = cc in
+      (b, subst (λ (m : ℕ). ItemsAt (λ p. place s p .item .0) m os) (sym a) (y .2))
+  list-by g f n q (Event.await p) since y = absurd y
+  list-by g f n q (Event.complete v) since y = absurd y
+  list-by g f n q (Event.fail m) since y = absurd y
+  list-by g f n q (Event.results rs) since y = absurd y
+  list-by g f n q Event.resume since y = absurd y
+  list-by g f n q (Event.cancel t) since y = absurd y
+  list-by g f n q (Event.show p) since y = absurd y
+  list-by g f n q Event.eager since y = absurd y
+
+  -- as they were named at its making
+  gather-list : (g f n : ℕ) → g < header s .made → frozen (object s g) ≡ many f n → (n ≡ length (items h g)) × ItemsAt (λ p. place s p .item .0) f (items h g)
+  unfolding items MadeRight
+  gather-list g f n l q = by (making h g) (k .makes g)
+    where
+      by : (m : Option Making) → MadeRight m (header s .made) g (frozen (object s g)) (λ p. place s p .item .0)
+          → (n ≡ length {A = ℕ} (elim m as (λ (z : Option Making). List ℕ) [ none ↦ [] | some y ↦ says (y .event) .items ])) × ItemsAt (λ p. place s p .item .0) f (elim m as (λ (z : Option Making). List ℕ) [ none ↦ [] | some y ↦ says (y .event) .items ])
+      by none y = absurd (not-suc-le-zero {n = 0} (omega (arith, l, y)))
+      by (some m) y = list-by g f n q (m .event) (m .since) (y .1)
+
+-- the items to the left of place a, its own, and those to its right
+record Split (i : ℕ → ℕ) (f : ℕ) (os : List ℕ) (a : ℕ) : Type 0 where
+  left : List ℕ
+  right : List ℕ
+  whole : os ≡ left ++ (i (f + a) ∷ right)
+  named : (o : ℕ) → is-in o left ≡ true → (j : ℕ) × (j < a) × (i (f + j) ≡ o)
+
+split-at : (i : ℕ → ℕ) (f : ℕ) (os : List ℕ) (a : ℕ) → ItemsAt i f os → a < length os → Split i f os a
+unfolding ItemsAt is-in
+split-at i f [] a it l = absurd (not-suc-le-zero l)
+split-at i f (o ∷ os) zero it l = record { left = []; right = os; whole = ap (λ (j : ℕ). j ∷ os) (sym (it .0) ∙ ap i (plus f)); named = λ p q. absurd (true≢false (sym q)) }
+  where
+    plus : (f : ℕ) → f ≡ f + 0
+    plus f = omega arith
+split-at i f (o ∷ os) (suc a) it l = by (split-at i (f + 1) os a (it .1) (omega (arith, l)))
+  where
+    next : (f j : ℕ) → f + 1 + j ≡ f + suc j
+    next f j = omega arith
+
+    plus : (f : ℕ) → f + 0 ≡ f
+    plus f = omega arith
+
+    by : Split i (f + 1) os a → Split i f (o ∷ os) (suc a)
+    by r =
+        record {
+          left = o ∷ r .left;
+          right = r .right;
+          whole = ap (λ (l : List ℕ). o ∷ l) (r .whole ∙ ap (λ (j : ℕ). r .left ++ (i j ∷ r .right)) (next f a));
+          named = λ p q. at p (eqb o p) refl (unfold is-in in q);
+        }
+      where
+        at : (p : ℕ) (b : Bool) → eqb o p ≡ b → (b || is-in p (r .left)) ≡ true → (j : ℕ) × (j < suc a) × (i (f + j) ≡ p)
+        at p true d q = (0, omega arith, ap i (plus f) ∙ (it .0 ∙ eqb-true o p d))
+        at p false d q = let y = r .named p q in (suc (y .0), omega (arith, y .1), ap i (sym (next f (y .0))) ∙ y .2)
+
+-- the item in place a is one of them
+item-in : (i : ℕ → ℕ) (f : ℕ) (os : List ℕ) (a : ℕ) → ItemsAt i f os → a < length os → is-in (i (f + a)) os ≡ true
+unfolding ItemsAt is-in
+item-in i f [] a it l = absurd (not-suc-le-zero l)
+item-in i f (o ∷ os) zero it l = ap (λ (b : Bool). b || is-in (i (f + 0)) os) (eq-eqb o (i (f + 0)) (sym (it .0) ∙ ap i (plus f)))
+  where
+    plus : (f : ℕ) → f ≡ f + 0
+    plus f = omega arith
+item-in i f (o ∷ os) (suc a) it l = or-true (eqb o (i (f + suc a))) (is-in (i (f + suc a)) os) (subst (λ (j : ℕ). is-in (i j) os ≡ true) (next f a) (item-in i (f + 1) os a (it .1) (omega (arith, l))))
+  where
+    next : (f j : ℕ) → f + 1 + j ≡ f + suc j
+    next f j = omega arith
+
+    or-true : (a b : Bool) → b ≡ true → (a || b) ≡ true
+    or-true true b e = refl
+    or-true false b e = e
+
+-- ---- the items stay
+
+making-later : (x : Entry) (h : List Entry) (g : ℕ) → is-at (tells (x .answer) .makes) g ≡ false → making (x ∷ h) g ≡ later x (making h g)
+unfolding making
+making-later x h g e = ap (λ (b : Bool). elim b [ true ↦ some (record { event = x .event; since = [] }) | false ↦ later x (making h g) ]) e
+
+listed : Option Making → List ℕ
+listed none = []
+listed (some m) = says (m .event) .items
+
+items-listed : (h : List Entry) (g : ℕ) → items h g ≡ listed (making h g)
+unfolding items listed
+items-listed h g = by (making h g)
+  where
+    by : (m : Option Making) → _≡_ {A = List ℕ} (elim m [ none ↦ [] | some y ↦ says (y .event) .items ]) (listed m)
+    by none = unfold listed in refl
+    by (some m) = unfold listed in refl
+
+listed-later : (x : Entry) (m : Option Making) → listed (later x m) ≡ listed m
+unfolding listed later
+listed-later x none = refl
+listed-later x (some m) = refl
+
+items-later : (x : Entry) (h : List Entry) (g : ℕ) → is-at (tells (x .answer) .makes) g ≡ false → items (x ∷ h) g ≡ items h g
+items-later x h g e = items-listed (x ∷ h) g ∙ (ap listed (making-later x h g e) ∙ (listed-later x (making h g) ∙ sym (items-listed h g)))
+
+-- an accepted event makes the next object, if any
+abbrev MakesAt : ℕ → Option ℕ → Type 0
+MakesAt n none = Unit {0}
+MakesAt n (some o) = o ≡ n
+
+accept-makes : (s : Store) (e : Event) → MakesAt (header s .made) (tells (accept s e .answer) .makes)
+unfolding accept tells done-only answer-await task-completes task-fails end-main switched resume-with-resolved-futures
+accept-makes s (Event.coroutine f) = refl
+accept-makes s Event.call = tt
+accept-makes s (Event.pending c r) = refl
+accept-makes s (Event.settled v) = refl
+accept-makes s (Event.gather os) = refl
+accept-makes s (Event.await o) = tt
+accept-makes s (Event.complete v) = pick-has (λ (x : Step). MakesAt (header s .made) (tells (x .answer) .makes)) (eqb (runner (header s .moment)) 0) tt tt
+accept-makes s (Event.fail n) = pick-has (λ (x : Step). MakesAt (header s .made) (tells (x .answer) .makes)) (eqb (runner (header s .moment)) 0) tt tt
+accept-makes s (Event.results rs) = tt
+accept-makes s Event.resume = pick-has (λ (x : Step). MakesAt (header s .made) (tells (x .answer) .makes)) (eqb (s .queue .len) 0) (by (pending-call-ids s)) tt
+  where
+    by : (cs : List ℕ) → MakesAt (header s .made) (tells (repeat-wait cs) .makes)
+    by [] = unfold repeat-wait tells done-only in tt
+    by (c ∷ cs) = unfold repeat-wait tells in tt
+accept-makes s (Event.cancel t) = tt
+accept-makes s (Event.show o) = tt
+accept-makes s Event.eager = tt
+
+made-apart : (n g : ℕ) (m : Option ℕ) → MakesAt n m → g < n → is-at m g ≡ false
+unfolding is-at
+made-apart n g none k l = refl
+made-apart n g (some o) k l = ne-eqb o g (λ d. not-suc-le-zero {n = 0} (omega (arith, d, k, l)))
