@@ -39,7 +39,7 @@ use Rattle.machine.specs.History.{Entry, Making, says, tells, done-only, is-at,
 use Rattle.machine.specs.Sessions.{Sent, Session, InRange, AllSentInRange, lent-any, entry-of, begun, send, send-all, session}
 use Rattle.machine.specs.DemandThree.{read, shown-by, look}
 use Rattle.machine_laws.specs.TestLaws.{below}
-use Rattle.machine_laws.specs.DeliveryLaws.{absurd-some}
+use Rattle.machine_laws.specs.DeliveryLaws.{absurd-some, awaited-object}
 use Rattle.machine_laws.specs.MachineLaws.{accepted-step, refused-step}
 use Rattle.machine_laws.specs.SoundLaws.{pass, refusal-rest, refusal-forget}
 use Rattle.machine_theorems.specs.Soundness.Stores.{SoundStore}
@@ -414,3 +414,203 @@ made-apart : (n g : ℕ) (m : Option ℕ) → MakesAt n m → g < n → is-at m 
 unfolding is-at
 made-apart n g none k l = refl
 made-apart n g (some o) k l = ne-eqb o g (λ d. not-suc-le-zero {n = 0} (omega (arith, d, k, l)))
+
+-- ---- an accepted event
+
+abbrev IsUnmade : Frozen → Type 0
+IsUnmade Frozen.unmade = Unit {0}
+IsUnmade (co b) = ⊥
+IsUnmade (pends c r) = ⊥
+IsUnmade (gave v) = ⊥
+IsUnmade (broke e) = ⊥
+IsUnmade (many f n) = ⊥
+
+moved-made : (x y : Object) → RowMoves x y → (x ≡ Object.Unmade → ⊥) → frozen y ≡ Frozen.unmade → ⊥
+unfolding frozen
+moved-made x Object.Unmade p n e = by x p n
+  where
+    by : (x : Object) → RowMoves x Object.Unmade → (x ≡ Object.Unmade → ⊥) → ⊥
+    by Object.Unmade q m = m refl
+    by (Object.Coroutine f z) q m = q
+    by (Object.ExternalFuture c z) q m = q
+    by (Object.GatherFuture f k z) q m = q
+moved-made x (Object.Coroutine f CoroutineState.New) p n e = subst IsUnmade (sym e) tt
+moved-made x (Object.Coroutine f CoroutineState.Running) p n e = subst IsUnmade (sym e) tt
+moved-made x (Object.Coroutine f CoroutineState.Completed) p n e = subst IsUnmade (sym e) tt
+moved-made x (Object.ExternalFuture c (ExternalFutureState.Pending a r)) p n e = subst IsUnmade (sym e) tt
+moved-made x (Object.ExternalFuture c (ExternalFutureState.Resolved v)) p n e = subst IsUnmade (sym e) tt
+moved-made x (Object.ExternalFuture c (ExternalFutureState.Failed v)) p n e = subst IsUnmade (sym e) tt
+moved-made x (Object.GatherFuture f m z) p n e = subst IsUnmade (sym e) tt
+
+-- a gather's row
+frozen-gather : (f n : ℕ) (x : GatherState) → frozen (Object.GatherFuture f n x) ≡ many f n
+frozen-gather f n x = unfold frozen in refl
+
+awaited-many : (x : Object) (v : AwaitedGather) → as-awaited x ≡ some v → frozen x ≡ many (first-of x) (count-of x)
+unfolding frozen first-of count-of
+awaited-many x v e = ap frozen (awaited-object x v e) ∙ ap (λ (y : Object). many (first-of y) (count-of y)) (sym (awaited-object x v e))
+
+pending-many : (x : Object) (f n : ℕ) → x ≡ Object.GatherFuture f n GatherState.Pending → frozen x ≡ many (first-of x) (count-of x)
+unfolding frozen first-of count-of
+pending-many x f n e = ap frozen e ∙ ap (λ (y : Object). many (first-of y) (count-of y)) (sym e)
+
+module _ (h : List Entry) (s : Store) (w : SoundStore s) (a : Agrees h s) (k : Knows h s) (blank : s .log ≡ []) (e : Event) (i : InRange e) (rf : refusal s e ≡ 0) (w' : SoundStore (accept s e .store)) where
+  abbrev u : Store
+  u = accept s e .store
+
+  abbrev y : Entry
+  y = entry-of e (accept s e .answer) (accept s e .store)
+
+  fl : EventFails e s (accept s e)
+  fl = accept-fails s w e i rf
+
+  agreed : Agrees (y ∷ h) u
+  agreed = accept-agrees h s w a e rf
+
+  known : Knows (y ∷ h) u
+  known = step-knows h s w a k blank e (accept s e) fl (accept-accepts s e) rf
+
+  -- what is made stays made
+  made-still : (o : ℕ) → o < header s .made → o < header u .made
+  unfolding view object-in-range
+  made-still o l = by (ltb o (header u .made)) refl
+    where
+      was : object s o ≡ Object.Unmade → ⊥
+      was q = subst (λ (x : Object). T (object-in-range (header s) (places-below (object s) o) x)) q (w .facts .but .objects o l)
+
+      by : (b : Bool) → ltb o (header u .made) ≡ b → o < header u .made
+      by true q = ltb-true o (header u .made) q
+      by false q = absurd (moved-made (object s o) (object u o) (fl .moves o l) was (agreed .behind o (ltb-false o (header u .made) q)))
+
+  look-now : (o : ℕ) → o < header s .made → look u o ≡ shown u (object u o)
+  look-now o l = by (look-row u o w')
+    where
+      by : ((o < header u .made) × (look u o ≡ shown u (object u o))) ⊎ ((header u .made ≤ o) × (look u o ≡ Shown.nothing)) → look u o ≡ shown u (object u o)
+      by (inl q) = q .1
+      by (inr q) = absurd (not-suc-le-zero {n = 0} (omega (arith, q .0, made-still o l)))
+
+  abbrev C : ℕ → Option (Outcome Value Error)
+  C o = coroutine-outcome (completed-value (y ∷ h) o) (failed-error (y ∷ h) o)
+
+  outcome-now : (o : ℕ) → o < header s .made → outcome (y ∷ h) (look u) o ≡ row-outcome C o (object u o)
+  outcome-now o l = outcome-row (y ∷ h) u w' agreed o (made-still o l)
+
+  items-now : (g : ℕ) → g < header s .made → items (y ∷ h) g ≡ items h g
+  unfolding entry-of
+  items-now g l = items-later y h g (made-apart (header s .made) g (tells (accept s e .answer) .makes) (accept-makes s e) l)
+
+  -- the items of a gather are lower
+  item-low : (g j f n : ℕ) (z : GatherState) → g < header s .made → object s g ≡ Object.GatherFuture f n z → j < count-of (object s g) → item-at s g j < header s .made
+  unfolding view items-below first-of count-of
+  item-low g j f n z l q b =
+      let low : T (items-below (place s) g (Object.GatherFuture f n z)) = subst (λ (x : Object). T (items-below (place s) g x)) q (w .facts .but .items g l) in
+      let less : place s (f + j) .item .0 < g = ltb→lt _ g (below n _ low j (subst (λ (m : ℕ). j < m) (ap count-of q) b)) in
+      omega (arith, l, subst (λ (m : ℕ). place s (m + j) .item .0 < g) (sym (ap first-of q)) less)
+
+  -- ---- a gather that was awaited
+
+  was-awaited : (g f n : ℕ) (r : Error) (v : AwaitedGather) → g < header s .made → as-awaited (object s g) ≡ some v → object u g ≡ Object.GatherFuture f n (GatherState.Failed r) → FailedItem e (y ∷ h) (look u) g r
+  was-awaited g f n r v l p q =
+      let b : FailedBy e s u g r = fl .awaited g f n r v l p q in
+      let m = gather-list h s a g (first-of (object s g)) (count-of (object s g)) l (awaited-many (object s g) v p) in
+      let low : b .item < header s .made =
+      subst (λ (j : ℕ). j < header s .made) (b .among .names) (item-low g (b .among .at) (v .first) (v .count) (GatherState.Awaited (v .awaiter) (v .open-places)) l (awaited-object (object s g) v p) (b .among .under)) in
+      record {
+        item = b .item;
+        among = ap (is-in (b .item)) (items-now g l)
+            ∙ subst (λ (j : ℕ). is-in j (items h g) ≡ true) (b .among .names) (item-in (λ j. place s j .item .0) (first-of (object s g)) (items h g) (b .among .at) (m .1) (subst (λ (j : ℕ). b .among .at < j) (m .0) (b .among .under)));
+        raised-it = outcome-now (b .item) low ∙ raised-outcome h s w a k blank e (accept s e) fl (accept-accepts s e) rf (b .item) r (b .raised);
+        error = b .error;
+      }
+
+  -- ---- a gather that was pending
+
+  -- what has been passed has not raised
+  passed-unraised : (o : ℕ) (x : Object) → object u o ≡ x → Passed x → error-of (row-outcome C o x) ≡ none
+  unfolding row-outcome error-of
+  passed-unraised o Object.Unmade q p = absurd p
+  passed-unraised o (Object.Coroutine f CoroutineState.New) q p = by (failed-error (y ∷ h) o) refl
+    where
+      by : (z : Option Error) → failed-error (y ∷ h) o ≡ z → error-of (coroutine-outcome (completed-value (y ∷ h) o) z) ≡ none
+      by none d = none-error (completed-value (y ∷ h) o)
+        where
+          none-error : (v : Option Value) → error-of (coroutine-outcome v none) ≡ none
+          none-error none = unfold coroutine-outcome error-of in refl
+          none-error (some v) = unfold coroutine-outcome error-of in refl
+      by (some z) d = absurd (subst UsedRow q (known .failed o z d))
+  passed-unraised o (Object.Coroutine f CoroutineState.Running) q p = absurd p
+  passed-unraised o (Object.Coroutine f CoroutineState.Completed) q p = absurd p
+  passed-unraised o (Object.ExternalFuture c (ExternalFutureState.Pending b r)) q p = refl
+  passed-unraised o (Object.ExternalFuture c (ExternalFutureState.Resolved v)) q p = refl
+  passed-unraised o (Object.ExternalFuture c (ExternalFutureState.Failed v)) q p = absurd p
+  passed-unraised o (Object.GatherFuture f n GatherState.Pending) q p = absurd p
+  passed-unraised o (Object.GatherFuture f n (GatherState.Awaited b m)) q p = refl
+  passed-unraised o (Object.GatherFuture f n GatherState.Completed) q p = refl
+  passed-unraised o (Object.GatherFuture f n (GatherState.Failed v)) q p = absurd p
+
+  -- what raises has come to the error, or is reused
+  raises-shown : (o : ℕ) (x : Object) (r : Error) → PollRaises x r → (row-outcome C o x ≡ some (raised r)) ⊎ Reused (shown u x) r
+  unfolding row-outcome shown
+  raises-shown o _ _ (broken c r) = inl refl
+  raises-shown o _ _ (failed f n r) = inl refl
+  raises-shown o _ _ (coroutine-reused f x) = inr (a-coroutine x f)
+  raises-shown o _ _ (future-reused c b r) = inr an-external
+  raises-shown o _ _ (gather-reused f n b m) = inr (a-gather _)
+
+  was-pending : (g f n j m : ℕ) (r : Error) → g < header s .made → object s g ≡ Object.GatherFuture f n GatherState.Pending → object u g ≡ Object.GatherFuture j m (GatherState.Failed r) → FirstFailed (y ∷ h) (look u) g r
+  was-pending g f n j m r l p q =
+      record {
+        left = sp .left;
+        item = it;
+        right = sp .right;
+        split = items-now g l ∙ sp .whole;
+        raises = raising (raises-shown it (object u it) r (b .raises));
+        unraised = λ o z. let t = sp .named o z in subst (λ (v : ℕ). error-of (outcome (y ∷ h) (look u) v) ≡ none) (t .2) (unraised-at (t .0) (t .1));
+      }
+    where
+      b : CommitFailed s u g r
+      b = fl .pending g f n j m r l p q
+
+      it : ℕ
+      it = item-at s g (b .at)
+
+      list : (count-of (object s g) ≡ length (items h g)) × ItemsAt (λ v. place s v .item .0) (first-of (object s g)) (items h g)
+      list = gather-list h s a g (first-of (object s g)) (count-of (object s g)) l (pending-many (object s g) f n p)
+
+      sp : Split (λ v. place s v .item .0) (first-of (object s g)) (items h g) (b .at)
+      sp = split-at (λ v. place s v .item .0) (first-of (object s g)) (items h g) (b .at) (list .1) (subst (λ (v : ℕ). b .at < v) (list .0) (b .under))
+
+      low : (v : ℕ) → v < count-of (object s g) → item-at s g v < header s .made
+      low v c = item-low g v f n GatherState.Pending l p c
+
+      raising : (row-outcome C it (object u it) ≡ some (raised r)) ⊎ Reused (shown u (object u it)) r → (outcome (y ∷ h) (look u) it ≡ some (raised r)) ⊎ Reused (look u it) r
+      raising (inl z) = inl (outcome-now it (low (b .at) (b .under)) ∙ z)
+      raising (inr z) = inr (subst (λ (v : Shown). Reused v r) (sym (look-now it (low (b .at) (b .under)))) z)
+
+      unraised-at : (v : ℕ) → v < b .at → error-of (outcome (y ∷ h) (look u) (item-at s g v)) ≡ none
+      unraised-at v c = ap error-of (outcome-now (item-at s g v) (low v (omega (arith, c, b .under)))) ∙ passed-unraised (item-at s g v) (object u (item-at s g v)) refl (b .left v c)
+
+  -- ---- every gather
+
+  pub accepted-gather : (g : ℕ) → GatherFails e (look s g) (y ∷ h) (look u) g
+  accepted-gather g = by (look-row s g w)
+    where
+      by : ((g < header s .made) × (look s g ≡ shown s (object s g))) ⊎ ((header s .made ≤ g) × (look s g ≡ Shown.nothing)) → GatherFails e (look s g) (y ∷ h) (look u) g
+      by (inl z) =
+          record {
+            moves = subst (λ (v : Shown). ShownMoves v (look u g)) (sym (z .1)) (subst (ShownMoves (shown s (object s g))) (sym (look-now g (z .0))) (moved-shown s u (object s g) (object u g) (fl .moves g (z .0))));
+            awaited = λ vs r p q.
+                let v = row-awaited s (object s g) (subst IsAwaited (sym (sym (z .1) ∙ p)) tt) in
+                let o = row-failed u (object u g) r (sym (look-now g (z .0)) ∙ q) in
+                was-awaited g (o .0) (o .1) r (v .0) (z .0) (v .1) (o .2);
+            pending = λ r p q.
+                let v = row-pending s (object s g) (subst IsPending (sym (sym (z .1) ∙ p)) tt) in
+                let o = row-failed u (object u g) r (sym (look-now g (z .0)) ∙ q) in
+                was-pending g (v .0) (v .1) (o .0) (o .1) r (z .0) (v .2) (o .2);
+          }
+      by (inr z) =
+          record {
+            moves = subst (λ (v : Shown). ShownMoves v (look u g)) (sym (z .1)) tt;
+            awaited = λ vs r p q. absurd (subst IsAwaited (sym p ∙ z .1) tt);
+            pending = λ r p q. absurd (subst IsPending (sym p ∙ z .1) tt);
+          }
