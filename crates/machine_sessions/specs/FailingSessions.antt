@@ -1,5 +1,5 @@
 -- What one more event of a session does to every gather, in the words of show and of outcomes.
-use mathlib.Core.Path.{_≡_, refl, ap, sym, subst, _∙_}
+use mathlib.Core.Path.{_≡_, refl, ap, ap₂, sym, subst, _∙_}
 use mathlib.Core.Logic.{_⊎_, inl, inr}
 use mathlib.Core.Bool.{Bool, true, false, not, _&&_, _||_, true≢false}
 use mathlib.Core.List.{List, [], _∷_, _++_}
@@ -28,15 +28,16 @@ use Rattle.asyncio.specs.RangeLaws.{pick-has}
 use Rattle.asyncio.specs.Parts.{first-of, count-of}
 use Rattle.asyncio.specs.States.{pick, is-live, is-unstarted}
 use Rattle.machine.specs.Store.{Store, view, task, object, place, header, forget, fresh}
-use Rattle.machine.specs.Scheduler.{AwaitedGather, as-awaited, pending-call-ids}
+use Rattle.machine.specs.Scheduler.{AwaitedGather, as-awaited, bit, pending-call-ids}
 use Rattle.machine.specs.Delivery.{value-or}
 use Rattle.machine.specs.Events.{How, Control, Switched, Result, activate, handle-task-completion, handle-task-failure, resume-next}
-use Rattle.machine.specs.Machine.{Event, Answer, Step, Shown, switched, answer-await, end-main, task-completes, task-fails, repeat-wait, resume-with-resolved-futures, runner, unmade, first-refusal, refusals, refusal, shown, accept, step}
+use Rattle.machine.specs.Machine.{Event, Answer, Step, Shown, switched, answer-await, end-main, task-completes, task-fails, repeat-wait, resume-with-resolved-futures, runner, unmade, first-refusal, refusals, refusal, slot-value, show-places, shown, accept, step}
 use Rattle.machine.specs.Sound.{items-below, object-in-range, places-below}
 use Rattle.machine.specs.Tests.{is-in}
 use Rattle.machine.specs.Gather.{Outcome, returned, raised}
-use Rattle.machine.specs.History.{Entry, Making, says, tells, done-only, is-at, later, making, items, outcome, error-of, coroutine-outcome, completed-value, failed-error, first-reply, reply-error}
-use Rattle.machine.specs.Sessions.{Sent, Session, InRange, AllSentInRange, lent-any, entry-of, begun, send, send-all, session}
+use Rattle.machine.specs.Computes.{computes}
+use Rattle.machine.specs.History.{Entry, Making, says, said, nothing-said, tells, done-only, spawned-by, spawned-for, started-by, coroutine-of, running-coroutine, exits-unstarted, is-at, later, making, items, outcome, error-of, coroutine-outcome, completed-value, failed-error, first-reply, reply-error}
+use Rattle.machine.specs.Sessions.{Sent, Session, InRange, AllSentInRange, lent-any, happened-by, entry-of, begun, send, send-all, session}
 use Rattle.machine.specs.DemandThree.{read, shown-by, look}
 use Rattle.machine_laws.specs.TestLaws.{below}
 use Rattle.machine_laws.specs.DeliveryLaws.{absurd-some, awaited-object}
@@ -44,11 +45,11 @@ use Rattle.machine_laws.specs.MachineLaws.{accepted-step, refused-step}
 use Rattle.machine_laws.specs.SoundLaws.{pass, refusal-rest, refusal-forget}
 use Rattle.machine_theorems.specs.Soundness.Stores.{SoundStore}
 use Rattle.machine_theorems.specs.Soundness.Sessions.{forget-sound-store, step-sound-store}
-use Rattle.machine_sessions.specs.Following.{Sends, stepped, short, sends, Following, accept-accepts, session-follows}
+use Rattle.machine_sessions.specs.Following.{Sends, stepped, short, sends, Following, accept-accepts, send-following, session-follows}
 use Rattle.machine_sessions.specs.Told.{Frozen, co, pends, gave, broke, many, frozen}
 use Rattle.machine_sessions.specs.Agrees.{reply-row, ItemsAt, Makes, MadeRight, Agrees}
 use Rattle.machine_sessions.specs.AgreesEvents.{refused-agrees, forget-agrees}
-use Rattle.machine_sessions.specs.AgreesSessions.{accept-agrees, session-agrees}
+use Rattle.machine_sessions.specs.AgreesSessions.{accept-agrees, send-agrees, session-agrees}
 use Rattle.machine_sessions.specs.PlacesHold.{row-outcome, outcome-row, shows-made}
 use Rattle.machine_sessions.specs.Failing.{RowMoves, CoroutineMoves}
 use Rattle.machine_sessions.specs.FailingRows.{ItemAt, Raised}
@@ -614,3 +615,181 @@ module _ (h : List Entry) (s : Store) (w : SoundStore s) (a : Agrees h s) (k : K
             awaited = λ vs r p q. absurd (subst IsAwaited (sym p ∙ z .1) tt);
             pending = λ r p q. absurd (subst IsPending (sym p ∙ z .1) tt);
           }
+
+-- ---- a refused event
+
+refused-words : (h : List Entry) (e : Event) (n : ℕ) (u : Store) (t : ℕ) → (spawned-for (entry-of e (Answer.refused n) u ∷ h) t ≡ spawned-for h t) × (coroutine-of (entry-of e (Answer.refused n) u ∷ h) t ≡ coroutine-of h t)
+unfolding spawned-for spawned-by coroutine-of started-by entry-of happened-by tells
+refused-words h e n u t = (refl, refl)
+
+refused-error : (h : List Entry) (e : Event) (n : ℕ) (u : Store) (c : ℕ) → failed-error (entry-of e (Answer.refused n) u ∷ h) c ≡ failed-error h c
+unfolding failed-error exits-unstarted entry-of happened-by tells said nothing-said
+refused-error h e n u c = by (is-at (running-coroutine h) c)
+  where
+    by : (b : Bool) → _≡_ {A = Option Error} (elim b [ true ↦ failed-error h c | false ↦ failed-error h c ]) (failed-error h c)
+    by true = refl
+    by false = refl
+
+refused-knows : (h : List Entry) (s u : Store) (e : Event) (n : ℕ) → header u ≡ header s → ((t : ℕ) → task u t ≡ task s t) → ((o : ℕ) → object u o ≡ object s o) → Knows h s → Knows (entry-of e (Answer.refused n) u ∷ h) u
+refused-knows h s u e n hd ts os k =
+    record {
+      spawned = λ t l v. refused-words h e n u (suc t) .0
+          ∙ (k .spawned t (subst (λ (y : Header). suc t < y .next) hd l) (sym (ap (λ (r : Task). is-live (r .state)) (ts (suc t))) ∙ v) ∙ ap (λ (r : Task). some (r .coroutine .0)) (sym (ts (suc t))));
+      unstarted = λ t l v. refused-words h e n u t .1 ∙ k .unstarted t (subst (λ (y : Header). t < y .next) hd l) (sym (ap (λ (r : Task). is-unstarted (r .state)) (ts t)) ∙ v);
+      unborn = λ t l. refused-words h e n u t .1 ∙ k .unborn t (subst (λ (y : Header). y .next ≤ t) hd l);
+      used = λ t c q. subst UsedRow (sym (os c)) (k .used t c (sym (refused-words h e n u t .1) ∙ q));
+      failed = λ c r q. subst UsedRow (sym (os c)) (k .failed c r (sym (refused-error h e n u c) ∙ q));
+    }
+
+forget-knows : (h : List Entry) (s : Store) → Knows h s → Knows h (forget s)
+unfolding forget task object header
+forget-knows h s k = record { spawned = k .spawned; unstarted = k .unstarted; unborn = k .unborn; used = k .used; failed = k .failed }
+
+-- what is shown twice goes no way
+shown-same : (x : Shown) → ShownMoves x x
+shown-same (Shown.a-coroutine x f) = (refl, stays x)
+  where
+    stays : (z : CoroutineState) → CoroutineMoves z z
+    stays CoroutineState.New = tt
+    stays CoroutineState.Running = tt
+    stays CoroutineState.Completed = refl
+shown-same Shown.an-external-pending = tt
+shown-same (Shown.an-external-resolved v) = refl
+shown-same (Shown.an-external-failed e) = refl
+shown-same Shown.a-gather-pending = inl refl
+shown-same (Shown.a-gather-awaited vs) = tt
+shown-same (Shown.a-gather-completed vs) = (vs, refl)
+shown-same (Shown.a-gather-failed e) = refl
+shown-same Shown.nothing = tt
+
+-- where nothing is shown otherwise, nothing has failed
+same-gather : (e : Event) (was : Shown) (h : List Entry) (shows : ℕ → Shown) (g : ℕ) → shows g ≡ was → GatherFails e was h shows g
+same-gather e was h shows g q =
+    record {
+      moves = subst (ShownMoves was) (sym q) (shown-same was);
+      awaited = λ vs r p z. absurd (subst IsAwaited (sym p ∙ (sym q ∙ z)) tt);
+      pending = λ r p z. absurd (subst IsPending (sym p ∙ (sym q ∙ z)) tt);
+    }
+
+-- the log is not shown
+places-forget : (s : Store) (f m j c : ℕ) → show-places (forget s) f m j c ≡ show-places s f m j c
+unfolding show-places
+places-forget s f m j zero = refl
+places-forget s f m j (suc c) = ap₂ (λ (x : Option Value) (y : List (Option Value)). x ∷ y) (unfold place forget in refl) (places-forget s f m (j + 1) c)
+
+shown-forget : (s : Store) (x : Object) → shown (forget s) x ≡ shown s x
+unfolding shown
+shown-forget s Object.Unmade = refl
+shown-forget s (Object.Coroutine f x) = refl
+shown-forget s (Object.ExternalFuture c (ExternalFutureState.Pending a r)) = refl
+shown-forget s (Object.ExternalFuture c (ExternalFutureState.Resolved v)) = refl
+shown-forget s (Object.ExternalFuture c (ExternalFutureState.Failed e)) = refl
+shown-forget s (Object.GatherFuture f n GatherState.Pending) = refl
+shown-forget s (Object.GatherFuture f n (GatherState.Awaited a m)) = ap Shown.a-gather-awaited (places-forget s f m 0 n)
+shown-forget s (Object.GatherFuture f n GatherState.Completed) = ap Shown.a-gather-completed (places-forget s f 0 0 n)
+shown-forget s (Object.GatherFuture f n (GatherState.Failed e)) = refl
+
+look-forget : (s : Store) (g : ℕ) → SoundStore s → look (forget s) g ≡ look s g
+look-forget s g w = by (look-row s g w) (look-row (forget s) g (forget-sound-store s w))
+  where
+    same-made : header (forget s) .made ≡ header s .made
+    same-made = unfold header forget in refl
+
+    same-row : object (forget s) g ≡ object s g
+    same-row = unfold object forget in refl
+
+    by : ((g < header s .made) × (look s g ≡ shown s (object s g))) ⊎ ((header s .made ≤ g) × (look s g ≡ Shown.nothing))
+        → ((g < header (forget s) .made) × (look (forget s) g ≡ shown (forget s) (object (forget s) g))) ⊎ ((header (forget s) .made ≤ g) × (look (forget s) g ≡ Shown.nothing)) → look (forget s) g ≡ look s g
+    by (inl p) (inl q) = q .1 ∙ (ap (shown (forget s)) same-row ∙ (shown-forget s (object s g) ∙ sym (p .1)))
+    by (inl p) (inr q) = absurd (not-suc-le-zero {n = 0} (omega (arith, p .0, q .0, same-made)))
+    by (inr p) (inl q) = absurd (not-suc-le-zero {n = 0} (omega (arith, p .0, q .0, same-made)))
+    by (inr p) (inr q) = q .1 ∙ sym (p .1)
+
+-- ---- one step
+
+record StepFails (h : List Entry) (s : Store) (e : Event) (x : Step) : Type 0 where
+  knows : Knows (entry-of e (x .answer) (x .store) ∷ h) (x .store)
+  gathers : (g : ℕ) → GatherFails e (look s g) (entry-of e (x .answer) (x .store) ∷ h) (look (x .store)) g
+
+step-fails : (h : List Entry) (s : Store) (e : Event) → SoundStore s → Agrees h s → Knows h s → InRange e → StepFails h s e (step s e)
+step-fails h s e w a k i = by (ℕ-discrete (refusal s e) 0)
+  where
+    z : Store
+    z = forget s
+
+    wz : SoundStore z
+    wz = forget-sound-store s w
+
+    blank : z .log ≡ []
+    blank = unfold forget in refl
+
+    by : Dec (refusal s e ≡ 0) → StepFails h s e (step s e)
+    by (yes r) =
+        subst (StepFails h s e) (sym (accepted-step s e r))
+        (record {
+          knows = step-knows h z wz (forget-agrees h s a) (forget-knows h s k) blank e (accept z e) (accept-fails z wz e i rz) (accept-accepts z e) rz;
+          gathers = λ g. subst (λ (v : Shown). GatherFails e v (entry-of e (accept z e .answer) (accept z e .store) ∷ h) (look (accept z e .store)) g) (look-forget s g w)
+              (accepted-gather h z wz (forget-agrees h s a) (forget-knows h s k) blank e i rz sound g);
+        })
+      where
+        rz : refusal z e ≡ 0
+        rz = refusal-forget s e ∙ r
+
+        sound : SoundStore (accept z e .store)
+        sound = subst (λ (x : Step). SoundStore (x .store)) (accepted-step s e r) (step-sound-store s w e i)
+    by (no ne) =
+        subst (StepFails h s e) (sym (refused-step s e (refusal s e) refl ne))
+        (record {
+          knows = refused-knows h s z e (refusal s e) (unfold header forget in refl) (λ t. unfold task forget in refl) (λ o. unfold object forget in refl) k;
+          gathers = λ g. same-gather e (look s g) _ (look z) g (look-forget s g w);
+        })
+
+-- ---- sessions
+
+send-fails : (x : Session) (e : Sent) → InRange (e .event) → Following x → Agrees (x .history) (x .store) → Knows (x .history) (x .store)
+    → Knows (send x e .history) (send x e .store) × ((g : ℕ) → GatherFails (e .event) (look (x .store) g) (send x e .history) (look (send x e .store)) g)
+unfolding send
+send-fails x e i f a k = by (sends s e (f .whole .memory .sized))
+  where
+    s : Store
+    s = x .store
+
+    h : List Entry
+    h = x .history
+
+    by : Sends s e → Knows (entry-of (e .event) (lent-any s e .answer) (lent-any s e .store) ∷ h) (lent-any s e .store)
+        × ((g : ℕ) → GatherFails (e .event) (look s g) (entry-of (e .event) (lent-any s e .answer) (lent-any s e .store) ∷ h) (look (lent-any s e .store)) g)
+    by (stepped p q) =
+        subst (λ (c : Answer). Knows (entry-of (e .event) c (lent-any s e .store) ∷ h) (lent-any s e .store) × ((g : ℕ) → GatherFails (e .event) (look s g) (entry-of (e .event) c (lent-any s e .store) ∷ h) (look (lent-any s e .store)) g)) (sym q)
+        (subst (λ (u : Store). Knows (entry-of (e .event) (step s (e .event) .answer) u ∷ h) u × ((g : ℕ) → GatherFails (e .event) (look s g) (entry-of (e .event) (step s (e .event) .answer) u ∷ h) (look u) g)) (sym p)
+        (let r = step-fails h s (e .event) (f .whole) a k i in (r .knows, r .gathers)))
+    by (short p q) =
+        subst (λ (c : Answer). Knows (entry-of (e .event) c (lent-any s e .store) ∷ h) (lent-any s e .store) × ((g : ℕ) → GatherFails (e .event) (look s g) (entry-of (e .event) c (lent-any s e .store) ∷ h) (look (lent-any s e .store)) g)) (sym q)
+        (subst (λ (u : Store). Knows (entry-of (e .event) (Answer.refused 1) u ∷ h) u × ((g : ℕ) → GatherFails (e .event) (look s g) (entry-of (e .event) (Answer.refused 1) u ∷ h) (look u) g)) (sym p)
+        (refused-knows h s s (e .event) 1 refl (λ t. refl) (λ o. refl) k, λ g. same-gather (e .event) (look s g) _ (look s) g refl))
+
+begun-knows : Knows [] fresh
+unfolding computes coroutine-of failed-error
+begun-knows =
+    record {
+      spawned = λ t l v. absurd (not-suc-le-zero {n = 0} (omega (arith, l)));
+      unstarted = λ t l v. refl;
+      unborn = λ t l. refl;
+      used = λ t c q. absurd-some q;
+      failed = λ c r q. absurd-some q;
+    }
+
+-- what is known after every session
+all-know : (es : List Sent) (x : Session) → AllSentInRange es → Following x → Agrees (x .history) (x .store) → Knows (x .history) (x .store) → Knows (send-all x es .history) (send-all x es .store)
+unfolding send-all AllSentInRange
+all-know [] x i f a k = k
+all-know (e ∷ es) x i f a k = all-know es (send x e) (i .1) (send-following x e (i .0) f) (send-agrees x e (i .0) f a) (send-fails x e (i .0) f a k .0)
+
+pub session-knows : (es : List Sent) → AllSentInRange es → Knows (session es .history) (session es .store)
+unfolding session begun AllSentInRange send-all
+session-knows es i = all-know es begun i (session-follows [] tt) (session-agrees [] tt) begun-knows
+
+-- One more event, in any session: what it does to every gather.
+pub session-fails : (es : List Sent) (e : Sent) → AllSentInRange es → InRange (e .event) → (g : ℕ)
+    → GatherFails (e .event) (look (session es .store) g) (send (session es) e .history) (look (send (session es) e .store)) g
+session-fails es e i j g = send-fails (session es) e j (session-follows es i) (session-agrees es i) (session-knows es i) .1 g
