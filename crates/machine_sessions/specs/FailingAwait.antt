@@ -37,7 +37,7 @@ use Rattle.machine.specs.Commit.{Poll, ready, raised, pending, await-pending, a
 use Rattle.machine.specs.Events.{How, start, value, raises, inline, Control, runs, Switched, Awaited, Result, activate, resume-next, stays, go-on, await-coroutine, await-external-future, await-gather, await-object, exec-get-awaitable}
 use Rattle.machine.specs.Machine.{Event, Answer, Step, answer-await, task-completes, task-fails, runner, end-main, switched, refusals, refusal, full, no-number, unmade, any-of, accept, in-running, in-waiting, in-both}
 use Rattle.machine.specs.Sound.{is-ended, value-known, option-known, object-in-range, places-below}
-use Rattle.machine.specs.History.{tells, done-only, spawned-by}
+use Rattle.machine.specs.History.{says, tells, is-none, done-only, spawned-by}
 use Rattle.machine.specs.Honest.{exits-in}
 use Rattle.machine.specs.Sessions.{InRange}
 use Rattle.machine_laws.specs.Views.{Sized}
@@ -60,6 +60,11 @@ use Rattle.machine_sessions.specs.FailingEvents.{results-fails, failure-
 use Rattle.machine_sessions.specs.FailingMakes.{coroutine-fails, pending-fails, call-fails, settled-fails, gather-fails, read-fails}
 use Rattle.machine_sessions.specs.FailingCommitSteps.{Committing, committing-begins, committing-row}
 use Rattle.machine_sessions.specs.FailingCommit.{Unwound, EndFails, commit-fails}
+
+-- an await says so
+await-commits : (o : ℕ) → is-none (says (Event.await o) .awaits) ≡ false
+unfolding says is-none
+await-commits o = refl
 
 -- ---- the same task runs on
 
@@ -115,6 +120,7 @@ module _ (o : ℕ) (s : Store) (w : SoundStore s) (t : ℕ) (m : header s .momen
         moves = λ p l. k .moves p;
         awaited = λ g f c y v l p q. absurd (k .awaited g f c y v p q);
         pending = λ g f c i j y l p q. k .pending g f c i j y p q;
+        committing = λ g f c i j y l p q. await-commits o;
         grows = k .grows;
         tasks = λ v l e. from v l e (old-or-new (header s .next) v);
         unstarted = λ v l e. by v e (old-or-new (header s .next) v);
@@ -261,6 +267,7 @@ module _ (o : ℕ) (s : Store) (w : SoundStore s) (t : ℕ) (m : header s .momen
           moves = λ p l. commit-then (object s p) (object b p) (object u p) (moved p) (k .moves p);
           awaited = λ g f a y v l p q. why g f a y v p q;
           pending = λ g f a i j y l p q. never g f a i j y p q;
+          committing = λ g f a i j y l p q. await-commits o;
           grows = subst (λ (j : ℕ). header s .next ≤ j) (sym (k .next ∙ ap (λ (i : Header). i .next) head)) (c .grows);
           tasks = λ v l e. from v e (subst (λ (j : ℕ). v < j) (k .next) l) (old-or-new (header s .next) v);
           unstarted = λ v l e. by v e (subst (λ (j : ℕ). v < j) (k .next) l) (old-or-new (header s .next) v);

@@ -123,6 +123,7 @@ module _ (e : Event) (s : Store) where
         moves = λ o l. climb-moves (object s o) (object (x .store) o) (k .moves o);
         awaited = λ g f n y w l p q. let r = k .because g f n y w p q in record { error = r .error; item = r .item; among = r .among; raised = r .raised };
         pending = λ g f n h j y l p q. pending-climbs (object s g) (object (x .store) g) f n h j y (k .moves g) p q;
+        committing = λ g f n h j y l p q. pending-climbs (object s g) (object (x .store) g) f n h j y (k .moves g) p q;
         grows = omega (arith, k .next);
         tasks = λ t l d. let y = k .tasks t (omega (arith, l, k .next)) d in lived (omega (arith, l, k .next)) (y .live) (ap (λ (i : HeapId). i .0) (y .coroutine));
         unstarted = λ t l d. inr (k .tasks t (omega (arith, l, k .next)) (unstarted-live (task (x .store) t .state) d) .unstarted d);
@@ -155,6 +156,7 @@ module _ (e : Event) (s : Store) where
         moves = λ o l. subst (RowMoves (object s o)) (sym (os o l)) (row-same (object s o));
         awaited = λ g f k y w l p q. failed-awaited (object s g) f k y w (sym (os g l) ∙ q) p;
         pending = λ g f k h j y l p q. absurd (subst FailedRow (sym (sym (os g l) ∙ q) ∙ p) tt);
+        committing = λ g f k h j y l p q. absurd (subst FailedRow (sym (sym (os g l) ∙ q) ∙ p) tt);
         grows = omega (arith, n);
         tasks = λ t l d. lived (omega (arith, l, n)) (sym (ap (λ (r : Task). is-live (r .state)) (ts t)) ∙ d) (ap (λ (r : Task). r .coroutine .0) (ts t));
         unstarted = λ t l d. inr (sym (ap (λ (r : Task). is-unstarted (r .state)) (ts t)) ∙ d);

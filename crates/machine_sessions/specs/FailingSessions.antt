@@ -36,7 +36,7 @@ use Rattle.machine.specs.Sound.{items-below, object-in-range, places-below}
 use Rattle.machine.specs.Tests.{is-in}
 use Rattle.machine.specs.Gather.{Outcome, returned, raised}
 use Rattle.machine.specs.Computes.{computes}
-use Rattle.machine.specs.History.{Entry, Making, says, said, nothing-said, tells, done-only, spawned-by, spawned-for, started-by, coroutine-of, running-coroutine, exits-unstarted, is-at, later, making, items, outcome, error-of, coroutine-outcome, completed-value, failed-error, first-reply, reply-error}
+use Rattle.machine.specs.History.{Entry, Making, says, said, nothing-said, tells, is-none, done-only, spawned-by, spawned-for, started-by, coroutine-of, running-coroutine, exits-unstarted, is-at, later, making, items, outcome, error-of, coroutine-outcome, completed-value, failed-error, first-reply, reply-error}
 use Rattle.machine.specs.Sessions.{Sent, Session, InRange, AllSentInRange, lent-any, happened-by, entry-of, begun, send, send-all, session}
 use Rattle.machine.specs.DemandThree.{read, shown-by, look}
 use Rattle.machine_laws.specs.TestLaws.{below}
@@ -132,6 +132,8 @@ pub record GatherFails (e : Event) (was : Shown) (h : List Entry) (shows : ℕ �
   pub moves : ShownMoves was (shows g)
   pub awaited : (vs : List (Option Value)) (r : Error) → was ≡ Shown.a-gather-awaited vs → shows g ≡ Shown.a-gather-failed r → FailedItem e h shows g r
   pub pending : (r : Error) → was ≡ Shown.a-gather-pending → shows g ≡ Shown.a-gather-failed r → FirstFailed h shows g r
+  -- only an await commits
+  pub committing : (r : Error) → was ≡ Shown.a-gather-pending → shows g ≡ Shown.a-gather-failed r → is-none (says e .awaits) ≡ false
 
 -- ---- what is shown, by rows
 
@@ -608,12 +610,17 @@ module _ (h : List Entry) (s : Store) (w : SoundStore s) (a : Agrees h s) (k : K
                 let v = row-pending s (object s g) (subst IsPending (sym (sym (z .1) ∙ p)) tt) in
                 let o = row-failed u (object u g) r (sym (look-now g (z .0)) ∙ q) in
                 was-pending g (v .0) (v .1) (o .0) (o .1) r (z .0) (v .2) (o .2);
+            committing = λ r p q.
+                let v = row-pending s (object s g) (subst IsPending (sym (sym (z .1) ∙ p)) tt) in
+                let o = row-failed u (object u g) r (sym (look-now g (z .0)) ∙ q) in
+                fl .committing g (v .0) (v .1) (o .0) (o .1) r (z .0) (v .2) (o .2);
           }
       by (inr z) =
           record {
             moves = subst (λ (v : Shown). ShownMoves v (look u g)) (sym (z .1)) tt;
             awaited = λ vs r p q. absurd (subst IsAwaited (sym p ∙ z .1) tt);
             pending = λ r p q. absurd (subst IsPending (sym p ∙ z .1) tt);
+            committing = λ r p q. absurd (subst IsPending (sym p ∙ z .1) tt);
           }
 
 -- ---- a refused event
@@ -669,6 +676,7 @@ same-gather e was h shows g q =
       moves = subst (ShownMoves was) (sym q) (shown-same was);
       awaited = λ vs r p z. absurd (subst IsAwaited (sym p ∙ (sym q ∙ z)) tt);
       pending = λ r p z. absurd (subst IsPending (sym p ∙ (sym q ∙ z)) tt);
+      committing = λ r p z. absurd (subst IsPending (sym p ∙ (sym q ∙ z)) tt);
     }
 
 -- the log is not shown

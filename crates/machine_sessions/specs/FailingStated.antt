@@ -24,7 +24,7 @@ use Rattle.machine.specs.Store.{Store, task, object, place, header}
 use Rattle.machine.specs.Scheduler.{AwaitedGather, as-awaited}
 use Rattle.machine.specs.Events.{How, start, Control, runs, Result}
 use Rattle.machine.specs.Machine.{Event, Answer, Step}
-use Rattle.machine.specs.History.{tells, spawned-by, reply-error}
+use Rattle.machine.specs.History.{says, tells, is-none, spawned-by, reply-error}
 use Rattle.machine.specs.Honest.{exits-in}
 use Rattle.machine_sessions.specs.Failing.{RowMoves}
 use Rattle.machine_sessions.specs.FailingRows.{ItemAt, Raised, ExitAs}
@@ -112,6 +112,9 @@ pub record EventFails (e : Event) (s : Store) (x : Step) : Type 0 where
       → FailedBy e s (x .store) g y
   pub pending : (g f n h k : ℕ) (y : Error) → g < header s .made → object s g ≡ Object.GatherFuture f n GatherState.Pending → object (x .store) g ≡ Object.GatherFuture h k (GatherState.Failed y)
       → CommitFailed s (x .store) g y
+  -- only an await commits
+  pub committing : (g f n h k : ℕ) (y : Error) → g < header s .made → object s g ≡ Object.GatherFuture f n GatherState.Pending → object (x .store) g ≡ Object.GatherFuture h k (GatherState.Failed y)
+      → is-none (says e .awaits) ≡ false
   -- who is unstarted was, or is new; a task exits that ends with the event, or that was unstarted; who is spawned is new
   pub grows : header s .next ≤ header (x .store) .next
   pub tasks : (t : ℕ) → t < header (x .store) .next → is-live (task (x .store) t .state) ≡ true → TaskFrom s (x .store) t
