@@ -206,7 +206,7 @@ IsFailed (Shown.a-gather-completed vs) = ⊥
 IsFailed (Shown.a-gather-failed e) = Unit {0}
 IsFailed Shown.nothing = ⊥
 
-row-awaited : (s : Store) (x : Object) → IsAwaited (shown s x) → (w : AwaitedGather) × (as-awaited x ≡ some w)
+pub row-awaited : (s : Store) (x : Object) → IsAwaited (shown s x) → (w : AwaitedGather) × (as-awaited x ≡ some w)
 unfolding shown as-awaited
 row-awaited s Object.Unmade k = absurd k
 row-awaited s (Object.Coroutine f x) k = absurd k
@@ -218,7 +218,7 @@ row-awaited s (Object.GatherFuture f n (GatherState.Awaited a m)) k = (record { 
 row-awaited s (Object.GatherFuture f n GatherState.Completed) k = absurd k
 row-awaited s (Object.GatherFuture f n (GatherState.Failed e)) k = absurd k
 
-row-pending : (s : Store) (x : Object) → IsPending (shown s x) → (f : ℕ) × (n : ℕ) × (x ≡ Object.GatherFuture f n GatherState.Pending)
+pub row-pending : (s : Store) (x : Object) → IsPending (shown s x) → (f : ℕ) × (n : ℕ) × (x ≡ Object.GatherFuture f n GatherState.Pending)
 unfolding shown
 row-pending s Object.Unmade k = absurd k
 row-pending s (Object.Coroutine f x) k = absurd k
@@ -230,7 +230,7 @@ row-pending s (Object.GatherFuture f n (GatherState.Awaited a m)) k = absurd k
 row-pending s (Object.GatherFuture f n GatherState.Completed) k = absurd k
 row-pending s (Object.GatherFuture f n (GatherState.Failed e)) k = absurd k
 
-row-failed : (s : Store) (x : Object) (r : Error) → shown s x ≡ Shown.a-gather-failed r → (f : ℕ) × (n : ℕ) × (x ≡ Object.GatherFuture f n (GatherState.Failed r))
+pub row-failed : (s : Store) (x : Object) (r : Error) → shown s x ≡ Shown.a-gather-failed r → (f : ℕ) × (n : ℕ) × (x ≡ Object.GatherFuture f n (GatherState.Failed r))
 unfolding shown
 row-failed s Object.Unmade r k = absurd (subst IsFailed (sym k) tt)
 row-failed s (Object.Coroutine f x) r k = absurd (subst IsFailed (sym k) tt)
@@ -301,7 +301,7 @@ module _ (h : List Entry) (s : Store) (k : Agrees h s) where
   list-by g f n q Event.eager since y = absurd y
 
   -- as they were named at its making
-  gather-list : (g f n : ℕ) → g < header s .made → frozen (object s g) ≡ many f n → (n ≡ length (items h g)) × ItemsAt (λ p. place s p .item .0) f (items h g)
+  pub gather-list : (g f n : ℕ) → g < header s .made → frozen (object s g) ≡ many f n → (n ≡ length (items h g)) × ItemsAt (λ p. place s p .item .0) f (items h g)
   unfolding items MadeRight
   gather-list g f n l q = by (making h g) (k .makes g)
     where
@@ -385,7 +385,7 @@ unfolding listed later
 listed-later x none = refl
 listed-later x (some m) = refl
 
-items-later : (x : Entry) (h : List Entry) (g : ℕ) → is-at (tells (x .answer) .makes) g ≡ false → items (x ∷ h) g ≡ items h g
+pub items-later : (x : Entry) (h : List Entry) (g : ℕ) → is-at (tells (x .answer) .makes) g ≡ false → items (x ∷ h) g ≡ items h g
 items-later x h g e = items-listed (x ∷ h) g ∙ (ap listed (making-later x h g e) ∙ (listed-later x (making h g) ∙ sym (items-listed h g)))
 
 -- an accepted event makes the next object, if any
@@ -393,7 +393,7 @@ abbrev MakesAt : ℕ → Option ℕ → Type 0
 MakesAt n none = Unit {0}
 MakesAt n (some o) = o ≡ n
 
-accept-makes : (s : Store) (e : Event) → MakesAt (header s .made) (tells (accept s e .answer) .makes)
+pub accept-makes : (s : Store) (e : Event) → MakesAt (header s .made) (tells (accept s e .answer) .makes)
 unfolding accept tells done-only answer-await task-completes task-fails end-main switched resume-with-resolved-futures
 accept-makes s (Event.coroutine f) = refl
 accept-makes s Event.call = tt
@@ -413,7 +413,7 @@ accept-makes s (Event.cancel t) = tt
 accept-makes s (Event.show o) = tt
 accept-makes s Event.eager = tt
 
-made-apart : (n g : ℕ) (m : Option ℕ) → MakesAt n m → g < n → is-at m g ≡ false
+pub made-apart : (n g : ℕ) (m : Option ℕ) → MakesAt n m → g < n → is-at m g ≡ false
 unfolding is-at
 made-apart n g none k l = refl
 made-apart n g (some o) k l = ne-eqb o g (λ d. not-suc-le-zero {n = 0} (omega (arith, d, k, l)))
@@ -449,7 +449,7 @@ moved-made x (Object.GatherFuture f m z) p n e = subst IsUnmade (sym e) tt
 frozen-gather : (f n : ℕ) (x : GatherState) → frozen (Object.GatherFuture f n x) ≡ many f n
 frozen-gather f n x = unfold frozen in refl
 
-awaited-many : (x : Object) (v : AwaitedGather) → as-awaited x ≡ some v → frozen x ≡ many (first-of x) (count-of x)
+pub awaited-many : (x : Object) (v : AwaitedGather) → as-awaited x ≡ some v → frozen x ≡ many (first-of x) (count-of x)
 unfolding frozen first-of count-of
 awaited-many x v e = ap frozen (awaited-object x v e) ∙ ap (λ (y : Object). many (first-of y) (count-of y)) (sym (awaited-object x v e))
 
@@ -464,17 +464,17 @@ module _ (h : List Entry) (s : Store) (w : SoundStore s) (a : Agrees h s) (k : K
   abbrev y : Entry
   y = entry-of e (accept s e .answer) (accept s e .store)
 
-  fl : EventFails e s (accept s e)
+  pub fl : EventFails e s (accept s e)
   fl = accept-fails s w e i rf
 
-  agreed : Agrees (y ∷ h) u
+  pub agreed : Agrees (y ∷ h) u
   agreed = accept-agrees h s w a e rf
 
-  known : Knows (y ∷ h) u
+  pub known : Knows (y ∷ h) u
   known = step-knows h s w a k blank e (accept s e) fl (accept-accepts s e) rf
 
   -- what is made stays made
-  made-still : (o : ℕ) → o < header s .made → o < header u .made
+  pub made-still : (o : ℕ) → o < header s .made → o < header u .made
   unfolding view object-in-range
   made-still o l = by (ltb o (header u .made)) refl
     where
@@ -485,7 +485,7 @@ module _ (h : List Entry) (s : Store) (w : SoundStore s) (a : Agrees h s) (k : K
       by true q = ltb-true o (header u .made) q
       by false q = absurd (moved-made (object s o) (object u o) (fl .moves o l) was (agreed .behind o (ltb-false o (header u .made) q)))
 
-  look-now : (o : ℕ) → o < header s .made → look u o ≡ shown u (object u o)
+  pub look-now : (o : ℕ) → o < header s .made → look u o ≡ shown u (object u o)
   look-now o l = by (look-row u o w')
     where
       by : ((o < header u .made) × (look u o ≡ shown u (object u o))) ⊎ ((header u .made ≤ o) × (look u o ≡ Shown.nothing)) → look u o ≡ shown u (object u o)
@@ -495,10 +495,10 @@ module _ (h : List Entry) (s : Store) (w : SoundStore s) (a : Agrees h s) (k : K
   abbrev C : ℕ → Option (Outcome Value Error)
   C o = coroutine-outcome (completed-value (y ∷ h) o) (failed-error (y ∷ h) o)
 
-  outcome-now : (o : ℕ) → o < header s .made → outcome (y ∷ h) (look u) o ≡ row-outcome C o (object u o)
+  pub outcome-now : (o : ℕ) → o < header s .made → outcome (y ∷ h) (look u) o ≡ row-outcome C o (object u o)
   outcome-now o l = outcome-row (y ∷ h) u w' agreed o (made-still o l)
 
-  items-now : (g : ℕ) → g < header s .made → items (y ∷ h) g ≡ items h g
+  pub items-now : (g : ℕ) → g < header s .made → items (y ∷ h) g ≡ items h g
   unfolding entry-of
   items-now g l = items-later y h g (made-apart (header s .made) g (tells (accept s e .answer) .makes) (accept-makes s e) l)
 
@@ -648,7 +648,7 @@ refused-knows h s u e n hd ts os k =
       failed = λ c r q. subst UsedRow (sym (os c)) (k .failed c r (sym (refused-error h e n u c) ∙ q));
     }
 
-forget-knows : (h : List Entry) (s : Store) → Knows h s → Knows h (forget s)
+pub forget-knows : (h : List Entry) (s : Store) → Knows h s → Knows h (forget s)
 unfolding forget task object header
 forget-knows h s k = record { spawned = k .spawned; unstarted = k .unstarted; unborn = k .unborn; used = k .used; failed = k .failed }
 
@@ -697,7 +697,7 @@ shown-forget s (Object.GatherFuture f n (GatherState.Awaited a m)) = ap Shown.a-
 shown-forget s (Object.GatherFuture f n GatherState.Completed) = ap Shown.a-gather-completed (places-forget s f 0 0 n)
 shown-forget s (Object.GatherFuture f n (GatherState.Failed e)) = refl
 
-look-forget : (s : Store) (g : ℕ) → SoundStore s → look (forget s) g ≡ look s g
+pub look-forget : (s : Store) (g : ℕ) → SoundStore s → look (forget s) g ≡ look s g
 look-forget s g w = by (look-row s g w) (look-row (forget s) g (forget-sound-store s w))
   where
     same-made : header (forget s) .made ≡ header s .made

@@ -74,6 +74,7 @@ pub mod FailingCommit
 pub mod FailingAwait
 pub mod FailingHistory
 pub mod FailingSessions
+pub mod OutcomesStay
 pub mod DemandThreeHolds
 pub mod CancelByMoment
 pub mod LogApart
