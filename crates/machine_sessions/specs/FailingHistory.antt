@@ -101,7 +101,7 @@ IsMade (gave v) = Unit {0}
 IsMade (broke e) = Unit {0}
 IsMade (many f n) = Unit {0}
 
-used-made : (x : Object) → UsedRow x → frozen x ≡ Frozen.unmade → ⊥
+pub used-made : (x : Object) → UsedRow x → frozen x ≡ Frozen.unmade → ⊥
 unfolding frozen
 used-made Object.Unmade k e = k
 used-made (Object.Coroutine f CoroutineState.New) k e = k

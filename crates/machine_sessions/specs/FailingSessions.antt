@@ -173,7 +173,7 @@ moved-shown s u (Object.GatherFuture f n GatherState.Completed) (Object.GatherFu
 moved-shown s u (Object.GatherFuture f n (GatherState.Failed e)) (Object.GatherFuture g m y) p = ap (λ (z : GatherState). shown u (Object.GatherFuture g m z)) (p .2)
 
 -- by what is shown
-abbrev IsAwaited : Shown → Type 0
+abbrev pub IsAwaited : Shown → Type 0
 IsAwaited (Shown.a-coroutine x f) = ⊥
 IsAwaited Shown.an-external-pending = ⊥
 IsAwaited (Shown.an-external-resolved v) = ⊥
@@ -184,7 +184,7 @@ IsAwaited (Shown.a-gather-completed vs) = ⊥
 IsAwaited (Shown.a-gather-failed e) = ⊥
 IsAwaited Shown.nothing = ⊥
 
-abbrev IsPending : Shown → Type 0
+abbrev pub IsPending : Shown → Type 0
 IsPending (Shown.a-coroutine x f) = ⊥
 IsPending Shown.an-external-pending = ⊥
 IsPending (Shown.an-external-resolved v) = ⊥
@@ -195,7 +195,7 @@ IsPending (Shown.a-gather-completed vs) = ⊥
 IsPending (Shown.a-gather-failed e) = ⊥
 IsPending Shown.nothing = ⊥
 
-abbrev IsFailed : Shown → Type 0
+abbrev pub IsFailed : Shown → Type 0
 IsFailed (Shown.a-coroutine x f) = ⊥
 IsFailed Shown.an-external-pending = ⊥
 IsFailed (Shown.an-external-resolved v) = ⊥
@@ -262,7 +262,7 @@ look-row s o w = by (ltb o (header s .made)) refl
 
 -- ---- the items of a gather
 
-abbrev IsMany : Frozen → Type 0
+abbrev pub IsMany : Frozen → Type 0
 IsMany Frozen.unmade = ⊥
 IsMany (co b) = ⊥
 IsMany (pends c r) = ⊥
@@ -270,7 +270,7 @@ IsMany (gave v) = ⊥
 IsMany (broke e) = ⊥
 IsMany (many f n) = Unit {0}
 
-reply-not-many : (c : ℕ) (r : OptionValue) (x : Option Result) → IsMany (reply-row c r x) → ⊥
+pub reply-not-many : (c : ℕ) (r : OptionValue) (x : Option Result) → IsMany (reply-row c r x) → ⊥
 unfolding reply-row
 reply-not-many c r none k = k
 reply-not-many c r (some x) k = by (eqb (x .kind) 0) k
@@ -364,7 +364,7 @@ item-in i f (o ∷ os) (suc a) it l = or-true (eqb o (i (f + suc a))) (is-in (i 
 
 -- ---- the items stay
 
-making-later : (x : Entry) (h : List Entry) (g : ℕ) → is-at (tells (x .answer) .makes) g ≡ false → making (x ∷ h) g ≡ later x (making h g)
+pub making-later : (x : Entry) (h : List Entry) (g : ℕ) → is-at (tells (x .answer) .makes) g ≡ false → making (x ∷ h) g ≡ later x (making h g)
 unfolding making
 making-later x h g e = ap (λ (b : Bool). elim b [ true ↦ some (record { event = x .event; since = [] }) | false ↦ later x (making h g) ]) e
 
@@ -389,7 +389,7 @@ pub items-later : (x : Entry) (h : List Entry) (g : ℕ) → is-at (tells (x .an
 items-later x h g e = items-listed (x ∷ h) g ∙ (ap listed (making-later x h g e) ∙ (listed-later x (making h g) ∙ sym (items-listed h g)))
 
 -- an accepted event makes the next object, if any
-abbrev MakesAt : ℕ → Option ℕ → Type 0
+abbrev pub MakesAt : ℕ → Option ℕ → Type 0
 MakesAt n none = Unit {0}
 MakesAt n (some o) = o ≡ n
 

@@ -301,16 +301,16 @@ module _ (ps : List Sent) (s : Sent) (g : ℕ) where
 
 -- ---- all events
 
+pub in-range-snoc : (ps : List Sent) (s : Sent) → AllSentInRange ps → InRange (s .event) → AllSentInRange (ps ++ (s ∷ []))
+unfolding AllSentInRange
+in-range-snoc [] s a b = (b, tt)
+in-range-snoc (p ∷ ps) s a b = (a .0, in-range-snoc ps s (a .1) b)
+
+pub session-snoc : (ps : List Sent) (s : Sent) → session (ps ++ (s ∷ [])) ≡ send (session ps) s
+unfolding session send-all
+session-snoc ps s = send-all-++ begun ps (s ∷ [])
+
 module _ (g : ℕ) (steps : (ps : List Sent) (s : Sent) → AllSentInRange ps → InRange (s .event) → Single (s ∷ []) → GatherStep (session ps) (send (session ps) s) g) where
-  in-range-snoc : (ps : List Sent) (s : Sent) → AllSentInRange ps → InRange (s .event) → AllSentInRange (ps ++ (s ∷ []))
-  unfolding AllSentInRange
-  in-range-snoc [] s a b = (b, tt)
-  in-range-snoc (p ∷ ps) s a b = (a .0, in-range-snoc ps s (a .1) b)
-
-  session-snoc : (ps : List Sent) (s : Sent) → session (ps ++ (s ∷ [])) ≡ send (session ps) s
-  unfolding session send-all AllSentInRange
-  session-snoc ps s = send-all-++ begun ps (s ∷ [])
-
   -- with what arrives in the events
   pub record After (ps es : List Sent) (xs : Arrivals) : Type 0 where
     pub news : Arrivals

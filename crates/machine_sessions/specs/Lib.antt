@@ -75,7 +75,9 @@ pub mod FailingAwait
 pub mod FailingHistory
 pub mod FailingSessions
 pub mod OutcomesStay
+pub mod GatherEvents
 pub mod DemandThreeHolds
+pub mod DemandTwoHolds
 pub mod CancelByMoment
 pub mod LogApart
 pub mod Batches

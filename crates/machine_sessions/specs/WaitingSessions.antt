@@ -60,7 +60,7 @@ StepWaiting h e x = Waiting (entry-of e (x .answer) (x .store) ∷ h) (x .store)
 
 -- ---- the log is no row
 
-forget-alive : (h : List Entry) (s : Store) → Alive h s → Alive h (forget s)
+pub forget-alive : (h : List Entry) (s : Store) → Alive h s → Alive h (forget s)
 forget-alive h s k =
     record {
       stands = stands-like s (forget s) (unfold forget in refl) (unfold forget in refl) (unfold header forget in refl) (k .stands);
