@@ -57,6 +57,7 @@ use Rattle.machine_sessions.specs.FailingStated.{Brings, FailedBy, Passe
 use Rattle.machine_sessions.specs.FailingAwait.{accept-fails}
 use Rattle.machine_sessions.specs.FailingHistory.{Knows, UsedRow, step-knows, raised-outcome, used-made}
 use Rattle.machine.specs.History.{value-of}
+use lib.ListN.{getD}
 use Rattle.machine_sessions.specs.Outcomes.{outcome-of}
 use Rattle.machine.specs.DemandThree.{read, shown-by, delivered, none-open, Demand3}
 use Rattle.machine.specs.DemandTwo.{came, committed, is-late, Single, reuse-of, ReuseAt, GatherRight, DemandTwo}
@@ -65,7 +66,7 @@ use Rattle.machine_sessions.specs.WaitingSessions.{awaited-items-no-erro
 use Rattle.machine_sessions.specs.Arrivals.{head-in, tail-in, in-cons}
 use Rattle.machine_sessions.specs.GatherSteps.{Delivered, NoneRaised, FailsLater, FailsAtCommit, GatherStep, Which, w-awaited, w-completed, w-failed, which, in-range-snoc, session-snoc, gather-right}
 use Rattle.machine_sessions.specs.GatherEvents.{Stays, session-stays}
-use Rattle.machine_sessions.specs.FailingSessions.{ShownMoves, FailedItem, FirstFailed, GatherFails, session-fails, making-later, look-row, row-awaited, row-failed, gather-list, awaited-many, IsAwaited, IsPending, IsFailed, session-knows}
+use Rattle.machine_sessions.specs.FailingSessions.{ShownMoves, ShowsCommitted, FailedItem, FirstFailed, Reused, a-coroutine, an-external, a-gather, GatherFails, session-fails, making-later, look-row, row-awaited, row-failed, gather-list, awaited-many, IsAwaited, IsPending, IsFailed, session-knows}
 
 -- ---- what show answers
 
@@ -334,6 +335,27 @@ failed-row-raises : (C : ℕ → Option (Outcome Value Error)) (o f n : ℕ) (r 
 unfolding row-outcome
 failed-row-raises C o f n r = refl
 
+-- ---- items by their places
+
+named-at : (l : List ℕ) (x : ℕ) (r : List ℕ) → getD (l ++ (x ∷ r)) (length l) 0 ≡ x
+named-at [] x r = refl
+named-at (a ∷ l) x r = named-at l x r
+
+left-short : (l : List ℕ) (x : ℕ) (r : List ℕ) → length l < length (l ++ (x ∷ r))
+left-short [] x r = omega arith
+left-short (a ∷ l) x r = omega (arith, left-short l x r)
+
+left-named : (l r : List ℕ) (b : ℕ) → b < length l → is-in (getD (l ++ r) b 0) l ≡ true
+left-named [] r b q = absurd (not-suc-le-zero {n = 0} (omega (arith, q)))
+left-named (a ∷ l) r zero q = head-in a l
+left-named (a ∷ l) r (suc b) q = tail-in (getD (l ++ r) b 0) a l (left-named l r b (omega (arith, q)))
+
+reused-of : (l : Shown) (e : Error) → Reused l e → reuse-of l ≡ some e
+unfolding reuse-of
+reused-of l e (a-coroutine x f) = refl
+reused-of l e an-external = refl
+reused-of l e (a-gather vs) = refl
+
 -- ---- one event
 
 late-is : (e : Error) → is-late (raised e) ≡ true → e ≡ Error.CoroutineReuse
@@ -495,3 +517,177 @@ module _ (ps : List Sent) (s : Sent) (j : AllSentInRange ps) (i : InRange (s .ev
           of (Event.cancel t) e c = absurd-some c
           of (Event.show p) e c = absurd-some c
           of Event.eager e c = absurd-some c
+
+  -- ---- gather g
+
+  module _ (g : ℕ) (few : length (says (s .event) .results) ≤ 1) where
+    abbrev fs : GatherFails (s .event) (look (session ps .store) g) (send (session ps) s .history) (look (send (session ps) s .store)) g
+    fs = session-fails ps s j i g
+
+    made-low : committed (look (x .store) g) ≡ true → g < header (x .store) .made
+    made-low c = by (look-row (x .store) g (session-follows ps j .whole))
+      where
+        by : ((g < header (x .store) .made) × (look (x .store) g ≡ shown (x .store) (object (x .store) g))) ⊎ ((header (x .store) .made ≤ g) × (look (x .store) g ≡ Shown.nothing)) → g < header (x .store) .made
+        by (inl b) = b .0
+        by (inr b) = absurd (true≢false (sym c ∙ (ap committed (b .1) ∙ nothing-not)))
+          where
+            nothing-not : committed Shown.nothing ≡ false
+            nothing-not = unfold committed in refl
+
+    stays-now : (o : ℕ) (z : Out) → came x o ≡ some z → came y o ≡ some z
+    unfolding came send
+    stays-now o z q = session-stays ps s j i .outcomes o z q
+
+    same-items : committed (look (x .store) g) ≡ true → items (y .history) g ≡ items (x .history) g
+    unfolding send
+    same-items c = session-stays ps s j i .same-items g (made-low c)
+
+    after-right : StateRight y g
+    after-right = subst (λ (z : Session). StateRight z g) (session-snoc ps s) (state-right (ps ++ (s ∷ [])) (in-range-snoc ps s j i) g)
+
+    moved : (l : Shown) → look (x .store) g ≡ l → ShownMoves l (look (y .store) g)
+    moved l e = subst (λ (v : Shown). ShownMoves v (look (y .store) g)) e (fs .moves)
+
+    committed-on : (l : Shown) → ShowsCommitted l → committed l ≡ true
+    unfolding committed
+    committed-on (Shown.a-coroutine c f) k = absurd k
+    committed-on Shown.an-external-pending k = absurd k
+    committed-on (Shown.an-external-resolved v) k = absurd k
+    committed-on (Shown.an-external-failed e) k = absurd k
+    committed-on Shown.a-gather-pending k = absurd k
+    committed-on (Shown.a-gather-awaited vs) k = refl
+    committed-on (Shown.a-gather-completed vs) k = refl
+    committed-on (Shown.a-gather-failed e) k = refl
+    committed-on Shown.nothing k = absurd k
+
+    stays-committed : committed (look (x .store) g) ≡ true → committed (look (y .store) g) ≡ true
+    stays-committed c = by (which (look (x .store) g) c)
+      where
+        by : Which (look (x .store) g) → committed (look (y .store) g) ≡ true
+        by (w-awaited vs q) = committed-on (look (y .store) g) (moved (Shown.a-gather-awaited vs) q)
+        by (w-completed vs q) = let k = moved (Shown.a-gather-completed vs) q in ap committed (k .1) ∙ committed-on (Shown.a-gather-completed (k .0)) tt
+        by (w-failed e q) = ap committed (moved (Shown.a-gather-failed e) q) ∙ committed-on (Shown.a-gather-failed e) tt
+
+    -- an item that had not raised, and has
+    was-none : (o : ℕ) (e : Error) → error-of (came x o) ≡ none → came y o ≡ some (raised e) → came x o ≡ none
+    was-none o e n q = by (came x o) refl n
+      where
+        by : (v : Option Out) → came x o ≡ v → error-of v ≡ none → v ≡ none
+        by none d m = refl
+        by (some (raised z)) d m = absurd-some (sym m ∙ error-some z)
+          where
+            error-some : (z : Error) → error-of (some (raised z)) ≡ some z
+            error-some z = unfold error-of in refl
+        by (some (returned v)) d m = absurd-some (error-none v ∙ (ap error-of (sym (stays-now o (returned v) d) ∙ q) ∙ error-some e))
+          where
+            error-none : (v : Value) → none ≡ error-of (some (returned v))
+            error-none v = unfold error-of in refl
+
+            error-some : (z : Error) → error-of (some (raised z)) ≡ some z
+            error-some z = unfold error-of in refl
+
+    fails-behind : (e : Error) (vs : List (Option Value)) → look (x .store) g ≡ Shown.a-gather-awaited vs → look (y .store) g ≡ Shown.a-gather-failed e → FailsLater x y g e
+    fails-behind e vs p q =
+        record {
+          item = f .item;
+          named = f .among;
+          fresh = was-none (f .item) e (quiet (f .item) (subst (λ (os : List ℕ). is-in (f .item) os ≡ true) (same-items c) (f .among))) raises;
+          raises = raises;
+          others = λ o z n a b. by o z a b (is-late (raised e)) refl (is-late (raised z)) refl;
+        }
+      where
+        f : FailedItem (s .event) (y .history) (look (y .store)) g e
+        f = fs .awaited vs e p q
+
+        c : committed (look (x .store) g) ≡ true
+        c = ap committed p ∙ (unfold committed in refl)
+
+        quiet : NoneRaised x g
+        quiet = state-right ps j g .1 vs p .2
+
+        raises : came y (f .item) ≡ some (raised e)
+        raises = unfold came in (f .raised-it)
+
+        by : (o : ℕ) (z : Error) → came x o ≡ none → came y o ≡ some (raised z) → (l : Bool) → is-late (raised e) ≡ l → (m : Bool) → is-late (raised z) ≡ m → (z ≡ e) ⊎ (is-late (raised z) ≡ not (is-late (raised e)))
+        by o z a b true l true m = inl (late-is z m ∙ sym (late-is e l))
+        by o z a b true l false m = inr (m ∙ ap not (sym l))
+        by o z a b false l true m = inr (m ∙ ap not (sym l))
+        by o z a b false l false m = inl (of (new-error o z a b))
+          where
+            of : Brings (s .event) z ⊎ (is-none (says (s .event) .awaits) ≡ false) → z ≡ e
+            of (inl k) = own-same (s .event) e z few (f .error) k l m
+            of (inr k) = absurd (true≢false (sym (await-late (s .event) e (f .error) k) ∙ l))
+
+    fails-later : (e : Error) → committed (look (x .store) g) ≡ true → look (y .store) g ≡ Shown.a-gather-failed e → (look (x .store) g ≡ Shown.a-gather-failed e) ⊎ FailsLater x y g e
+    fails-later e c q = by (which (look (x .store) g) c)
+      where
+        same-error : (a b : Error) → Shown.a-gather-failed a ≡ Shown.a-gather-failed b → a ≡ b
+        same-error a b d = cc
+
+        by : Which (look (x .store) g) → (look (x .store) g ≡ Shown.a-gather-failed e) ⊎ FailsLater x y g e
+        by (w-awaited vs p) = inr (fails-behind e vs p q)
+        by (w-completed vs p) = let k = moved (Shown.a-gather-completed vs) p in absurd (subst IsFailed (sym q ∙ k .1) tt)
+        by (w-failed r p) = inl (p ∙ ap Shown.a-gather-failed (same-error r e (sym (moved (Shown.a-gather-failed r) p) ∙ q)))
+
+    fails-at-commit : (e : Error) → committed (look (x .store) g) ≡ false → look (y .store) g ≡ Shown.a-gather-failed e → ReuseAt y g e ⊎ FailsAtCommit y g e
+    fails-at-commit e c q = by (look (x .store) g) refl
+      where
+        not-moved : {l : Shown} → Shown.a-gather-failed e ≡ l → (IsFailed l → ⊥) → ⊥
+        not-moved w n = n (subst IsFailed w tt)
+
+        at-commit : FirstFailed (y .history) (look (y .store)) g e → ReuseAt y g e ⊎ FailsAtCommit y g e
+        at-commit f = of (f .raises)
+          where
+            it : getD (items (y .history) g) (length (f .left)) 0 ≡ f .item
+            it = ap (λ (os : List ℕ). getD os (length (f .left)) 0) (f .split) ∙ named-at (f .left) (f .item) (f .right)
+
+            low : length (f .left) < length (items (y .history) g)
+            low = subst (λ (os : List ℕ). length (f .left) < length os) (sym (f .split)) (left-short (f .left) (f .item) (f .right))
+
+            quiet : (b : ℕ) → b < length (f .left) → error-of (came y (getD (items (y .history) g) b 0)) ≡ none
+            quiet b l =
+                subst (λ (os : List ℕ). error-of (came y (getD os b 0)) ≡ none) (sym (f .split))
+                (unfold came in (f .unraised (getD (f .left ++ (f .item ∷ f .right)) b 0) (left-named (f .left) (f .item ∷ f .right) b l)))
+
+            of : (outcome (y .history) (look (y .store)) (f .item) ≡ some (raised e)) ⊎ Reused (look (y .store) (f .item)) e → ReuseAt y g e ⊎ FailsAtCommit y g e
+            of (inl k) = inr (record { at = length (f .left); within = low; raises = ap (came y) it ∙ (unfold came in k); left = quiet })
+            of (inr k) = inl (record { at = length (f .left); within = low; left = quiet; in-use = ap (λ (o : ℕ). reuse-of (look (y .store) o)) it ∙ reused-of (look (y .store) (f .item)) e k })
+
+        by : (l : Shown) → look (x .store) g ≡ l → ReuseAt y g e ⊎ FailsAtCommit y g e
+        by (Shown.a-coroutine k f) w = absurd (subst (ShownMoves (Shown.a-coroutine k f)) q (moved _ w))
+        by Shown.an-external-pending w = absurd (subst (ShownMoves Shown.an-external-pending) q (moved _ w))
+        by (Shown.an-external-resolved v) w = absurd (not-moved (subst (ShownMoves (Shown.an-external-resolved v)) q (moved _ w)) (λ z. z))
+        by (Shown.an-external-failed r) w = absurd (not-moved (subst (ShownMoves (Shown.an-external-failed r)) q (moved _ w)) (λ z. z))
+        by Shown.a-gather-pending w = at-commit (fs .pending e w q)
+        by (Shown.a-gather-awaited vs) w = absurd (true≢false (sym (committed-on (Shown.a-gather-awaited vs) tt) ∙ (ap committed (sym w) ∙ c)))
+        by (Shown.a-gather-completed vs) w = absurd (true≢false (sym (committed-on (Shown.a-gather-completed vs) tt) ∙ (ap committed (sym w) ∙ c)))
+        by (Shown.a-gather-failed r) w = absurd (true≢false (sym (committed-on (Shown.a-gather-failed r) tt) ∙ (ap committed (sym w) ∙ c)))
+        by Shown.nothing w = absurd (session-stays ps s j i .not-failed g e w (unfold send in q))
+
+    pub gather-step : GatherStep x y g
+    gather-step =
+        record {
+          stays = stays-now;
+          items-stay = same-items;
+          stays-committed = stays-committed;
+          stays-failed = λ e q. moved (Shown.a-gather-failed e) q;
+          completed = after-right .0;
+          awaited = after-right .1;
+          fails-later = fails-later;
+          fails-at-commit = fails-at-commit;
+        }
+
+-- a fresh session has no gather
+fresh-not : (g : ℕ) → committed (look (begun .store) g) ≡ false
+unfolding making MadeRight session send-all committed AllSentInRange begun
+fresh-not g = by (look-row (begun .store) g (session-follows [] tt .whole)) (session-agrees [] tt .makes g)
+  where
+    by : ((g < header (begun .store) .made) × (look (begun .store) g ≡ shown (begun .store) (object (begun .store) g))) ⊎ ((header (begun .store) .made ≤ g) × (look (begun .store) g ≡ Shown.nothing))
+        → header (begun .store) .made ≤ g → committed (look (begun .store) g) ≡ false
+    by (inl b) l = absurd (not-suc-le-zero {n = 0} (omega (arith, b .0, l)))
+    by (inr b) l = ap committed (b .1)
+
+-- For every list of events with single results, and every gather that was committed.
+pub demand-two : DemandTwo
+unfolding Single
+demand-two es i w g c = gather-right g (λ ps s a b d. gather-step ps s a b g (d .0)) (fresh-not g) es i w c
