@@ -3,7 +3,7 @@
 use mathlib.Core.Path.{_≡_, refl, sym, ap, subst, _∙_}
 use mathlib.Core.Bool.{Bool, true, false, not, _&&_}
 use mathlib.Core.List.{List, [], _∷_}
-use mathlib.Core.Option.{Option, none, some}
+use mathlib.Core.Option.{Option, none, some, Option·some-injective}
 use Prim.Native.Nat.{ℕ, zero, suc, _+_, _≤_, _<_}
 use native.Mathlib.Omega.{arith}
 use lib.Dec.{eqb, ltb}
@@ -24,12 +24,12 @@ use Rattle.asyncio.specs.Limits.{object-limit, task-limit, places-length}
 use Rattle.asyncio.specs.Numbers.{heap-id, task-id}
 use Rattle.asyncio.specs.Ranges.{AwaiterFits, MomentFits}
 use Rattle.asyncio.specs.RangeLaws.{pick-has}
-use Rattle.asyncio.specs.States.{pick, is-live, is-ready, is-blocked}
+use Rattle.asyncio.specs.States.{pick, is-live, is-ready, is-blocked, is-unstarted}
 use Rattle.queue.specs.declared.ReadyQueue.{ReadyQueue}
 use Rattle.queue.specs.Queue.{front-of, pop-front, empty-queue}
 use Rattle.queue.specs.QueueLaws.{front-of-fits}
 use Rattle.machine.specs.Store.{Store, task, object, place, header, put-task, put-object, put-place, put-places, put-queue, add-log, set-state, set-moment, set-next, absent, blocked, reached, exited, removed}
-use Rattle.machine.specs.Scheduler.{AwaitedGather, as-awaited, is-some, bit, task-of, live-count, make-ready, push-ready, remove-from-ready-queue, spawn-as, spawn, spawn-unless, remove-task, cancel-one}
+use Rattle.machine.specs.Scheduler.{AwaitedGather, as-awaited, is-some, bit, first-from, task-of, task-of-in, still-live, live-count, make-ready, push-ready, remove-from-ready-queue, spawn-as, spawn, spawn-unless, remove-task, cancel-one}
 use Rattle.machine.specs.Scheduler.{Walk, reach-if, reach, remove-blocked, visit-by, visit, visit-place, visit-open, walk-gather, walk-next, walk, walk-from, cancel-task, remove-from, cleanup}
 use Rattle.machine.specs.Delivery.{Delivery, nobody-woken, deliver-to-task, Filled, fill-from, resolve-left, resolve-awaited, resolve-child, fail-awaited, fail-gather}
 use Rattle.machine.specs.Delivery.{climb, awaited-count, send-value, climb-value, deliver-awaiter-success, send-error, climb-error, deliver-awaiter-failure}
@@ -41,7 +41,7 @@ use Rattle.machine.specs.Events.{start-by, start-task, activate-state, activate
 use Rattle.machine.specs.Scheduler.{PendingExternal, as-pending, pending-external, pending-external-in, is-call}
 use Rattle.machine.specs.Delivery.{value-or, resolve-pending, fail-pending, settle-pending, settle-found, resolve-future, fail-future}
 use Rattle.machine.specs.Events.{Result, apply-result, apply-future-results}
-use Rattle.rows.specs.Tables.{header-at}
+use Rattle.rows.specs.Tables.{header-at, task-at}
 use Rattle.machine_laws.specs.Views.{Sized}
 use Rattle.machine_laws.specs.StoreLaws.{task-fits, object-fits, place-fits, header-fits, object-put-other, object-put-header}
 use Rattle.machine_laws.specs.DeliveryLaws.{absurd-some, awaited-object, pending-object, first-below, length-fill-from, resolve-sent, fail-sent}
@@ -60,7 +60,36 @@ pub record Commits (K : Store → Type 0) : Type 0 where
   pub value-put : (s : Store) (p : ℕ) (v : Value) → K s → K (put-place s p (record { item = place s p .item; result = OptionValue.Some v }))
   pub spawns : (s : Store) (c g : ℕ) → header s .next < task-limit → K s → K (spawn-as s (header s .next) c g)
 
--- and by each other write
+-- the same, where a task is spawned for a new coroutine without a live task
+pub record NewCommits (K : Store → Type 0) : Type 0 where
+  pub row : (s : Store) (o : ℕ) (x : Object) → o < object-limit → Turns (object s o) x → K s → K (put-object s o x)
+  pub value-put : (s : Store) (p : ℕ) (v : Value) → K s → K (put-place s p (record { item = place s p .item; result = OptionValue.Some v }))
+  pub spawns : (s : Store) (c g f : ℕ) → header s .next < task-limit → c < object-limit → object s c ≡ Object.Coroutine f CoroutineState.New → task-of s c ≡ none → K s
+      → K (spawn-as s (header s .next) c g)
+
+-- by each write of a delivery
+pub record Delivers (K : Store → Type 0) : Type 0 where
+  pub sized : (s : Store) → K s → Sized s
+  pub row : (s : Store) (o : ℕ) (x : Object) → o < object-limit → Turns (object s o) x → K s → K (put-object s o x)
+  pub values-put : (s : Store) (ps : List ℕ) → length ps ≡ places-length → K s → K (put-places s ps)
+  pub wakes : (s : Store) (t : ℕ) (x : TaskState) → t < task-limit → is-blocked (task s t .state) ≡ true → is-ready x ≡ true → is-unstarted x ≡ false → K s → K (add-log (make-ready s t x) (reached t))
+
+-- by each write of a switch: a task that has started runs on; another starts its coroutine, which is new, or fails and goes, where it is not
+pub record Switches (K : Store → Type 0) : Type 0 where
+  pub delivers : Delivers K
+  pub queued : (s : Store) (q : ReadyQueue) → K s → K (put-queue s q)
+  pub moved : (s : Store) (m : Moment) → MomentFits m → K s → K (set-moment s m)
+  pub runs-on : (s : Store) (t : ℕ) → t < task-limit → is-ready (task s t .state) ≡ true → is-unstarted (task s t .state) ≡ false → K s → K (set-state s t TaskState.Running)
+  pub begins : (s : Store) (t f : ℕ) → t < task-limit → task s t .state ≡ TaskState.Unstarted → object s (task s t .coroutine .0) ≡ Object.Coroutine f CoroutineState.New → K s
+      → K (set-state (put-object s (task s t .coroutine .0) (Object.Coroutine f CoroutineState.Running)) t TaskState.Running)
+  pub fails : (s : Store) (t : ℕ) (e : Error) → t < task-limit → task s t .state ≡ TaskState.Unstarted → new-function (object s (task s t .coroutine .0)) ≡ none → K s
+      → K (deliver-awaiter-failure s (task s t .awaiter) e .store) → K (add-log (remove-task (deliver-awaiter-failure s (task s t .awaiter) e .store) t) (exited t))
+
+-- by each write of a cancel: a live task that is not main goes
+pub record Cancels (K : Store → Type 0) : Type 0 where
+  pub goes : (s : Store) (t : ℕ) → is-live (task s t .state) ≡ true → 1 ≤ t → K s → K (add-log (remove-task s t) (removed t))
+
+-- by each write but a commit's, with no more said of it
 pub record Closed (K : Store → Type 0) : Type 0 where
   pub sized : (s : Store) → K s → Sized s
   pub row : (s : Store) (o : ℕ) (x : Object) → o < object-limit → Turns (object s o) x → K s → K (put-object s o x)
@@ -108,15 +137,15 @@ found-low : (s : Store) (c o : ℕ) → pending-external s c ≡ some o → o < 
 unfolding pending-external pending-external-in
 found-low s c o e = omega (arith, first-below (is-call (s .objects) c) (header-at (s .objects) .made) 0 o e, made-low s)
 
-module _ (K : Store → Type 0) (kept : Closed K) where
-  -- ---- delivery
+-- ---- delivery
 
-  to-task : (s : Store) (t : ℕ) (x : TaskState) → t < task-limit → is-ready x ≡ true → K s → K (deliver-to-task s t x .store)
+module _ (K : Store → Type 0) (kept : Delivers K) where
+  to-task : (s : Store) (t : ℕ) (x : TaskState) → t < task-limit → is-ready x ≡ true → is-unstarted x ≡ false → K s → K (deliver-to-task s t x .store)
   unfolding deliver-to-task nobody-woken
-  to-task s t x l r k = by (is-blocked (task s t .state)) refl
+  to-task s t x l r n k = by (is-blocked (task s t .state)) refl
     where
       by : (b : Bool) → is-blocked (task s t .state) ≡ b → K (pick b (record { store = add-log (make-ready s t x) (reached t); woken = some t }) (nobody-woken s) .store)
-      by true q = kept .wakes s t x l q r k
+      by true q = kept .wakes s t x l q r n k
       by false q = k
 
   resolves : (s : Store) (g x : ℕ) (v : Value) → g < object-limit → K s → K (resolve-child s g x v .store)
@@ -160,7 +189,7 @@ module _ (K : Store → Type 0) (kept : Closed K) where
       → (s : Store) (a : Awaiter) (v : Value) → AwaiterFits a → K s → K (send-value go s a v .store)
   unfolding send-value nobody-woken
   sends-value go h s Awaiter.Nobody v f k = k
-  sends-value go h s (Awaiter.Task t) v f k = to-task s (t .0) (TaskState.Woken v) f refl k
+  sends-value go h s (Awaiter.Task t) v f k = to-task s (t .0) (TaskState.Woken v) f refl refl k
   sends-value go h s (Awaiter.GatherSlot g x) v f k =
       let r = resolve-sent s (g .0) (x .0) v (kept .sized s k) (f .0) in
       let k1 : K (resolve-child s (g .0) (x .0) v .store) = resolves s (g .0) (x .0) v (f .0) k in
@@ -172,15 +201,15 @@ module _ (K : Store → Type 0) (kept : Closed K) where
   climbs-value (suc n) s a v f k = sends-value (λ y b w. climb-value n y b w) (λ y b w. climbs-value n y b w) s a v f k
 
   -- a value goes up
-  pub success-kept : (s : Store) (a : Awaiter) (v : Value) → AwaiterFits a → K s → K (deliver-awaiter-success s a v .store)
+  pub value-kept : (s : Store) (a : Awaiter) (v : Value) → AwaiterFits a → K s → K (deliver-awaiter-success s a v .store)
   unfolding deliver-awaiter-success
-  success-kept s a v f k = sends-value (λ y b w. climb-value (awaited-count s) y b w) (λ y b w. climbs-value (awaited-count s) y b w) s a v f k
+  value-kept s a v f k = sends-value (λ y b w. climb-value (awaited-count s) y b w) (λ y b w. climbs-value (awaited-count s) y b w) s a v f k
 
   sends-error : (go : Store → Awaiter → Error → Delivery) → ((s : Store) (a : Awaiter) (e : Error) → AwaiterFits a → K s → K (go s a e .store))
       → (s : Store) (a : Awaiter) (e : Error) → AwaiterFits a → K s → K (send-error go s a e .store)
   unfolding send-error nobody-woken
   sends-error go h s Awaiter.Nobody e f k = k
-  sends-error go h s (Awaiter.Task t) e f k = to-task s (t .0) (TaskState.Raised e) f refl k
+  sends-error go h s (Awaiter.Task t) e f k = to-task s (t .0) (TaskState.Raised e) f refl refl k
   sends-error go h s (Awaiter.GatherSlot g x) e f k =
       let r = fail-sent s (g .0) e (kept .sized s k) (f .0) in
       let k1 : K (fail-gather s (g .0) e .store) = fails s (g .0) e (f .0) k in
@@ -192,19 +221,62 @@ module _ (K : Store → Type 0) (kept : Closed K) where
   climbs-error (suc n) s a e f k = sends-error (λ y b w. climb-error n y b w) (λ y b w. climbs-error n y b w) s a e f k
 
   -- an error goes up
-  pub failure-kept : (s : Store) (a : Awaiter) (e : Error) → AwaiterFits a → K s → K (deliver-awaiter-failure s a e .store)
+  pub error-kept : (s : Store) (a : Awaiter) (e : Error) → AwaiterFits a → K s → K (deliver-awaiter-failure s a e .store)
   unfolding deliver-awaiter-failure
-  failure-kept s a e f k = sends-error (λ y b w. climb-error (awaited-count s) y b w) (λ y b w. climbs-error (awaited-count s) y b w) s a e f k
+  error-kept s a e f k = sends-error (λ y b w. climb-error (awaited-count s) y b w) (λ y b w. climbs-error (awaited-count s) y b w) s a e f k
 
-  -- ---- switches
+  -- results, where an external that settles keeps K
 
+  module _ (settles : (s : Store) (o : ℕ) (p : PendingExternal) (y : ExternalFutureState) → o < object-limit → as-pending (object s o) ≡ some p → K s → K (put-object s o (Object.ExternalFuture (p .call) y))) where
+    -- the pending external of a call
+    found-kept : (s : Store) (c : ℕ) (f : ℕ → PendingExternal → Store) → ((o : ℕ) (p : PendingExternal) → o < object-limit → as-pending (object s o) ≡ some p → K (f o p)) → K s
+        → K (settle-found s (pending-external s c) f)
+    unfolding settle-found
+    found-kept s c f h k = by (pending-external s c) refl
+      where
+        row : (o : ℕ) → o < object-limit → (p : Option PendingExternal) → as-pending (object s o) ≡ p → K (settle-pending s p (f o))
+        row o l none e = unfold settle-pending in k
+        row o l (some p) e = unfold settle-pending in (h o p l e)
+
+        by : (o : Option ℕ) → pending-external s c ≡ o → K (settle-found s o f)
+        by none e = unfold settle-found in k
+        by (some o) e = unfold settle-found in (row o (found-low s c o e) (as-pending (object s o)) refl)
+
+    awaiter-low : (s : Store) (o : ℕ) (p : PendingExternal) → as-pending (object s o) ≡ some p → AwaiterFits (p .awaiter)
+    awaiter-low s o p e = (rw (pending-object (object s o) p e) at (object-fits s o)) .1 .0
+
+    resolve-future-kept : (s : Store) (c : ℕ) (v : Value) → K s → K (resolve-future s c v)
+    unfolding resolve-future resolve-pending
+    resolve-future-kept s c v k =
+        found-kept s c _ (λ o p l e. value-kept _ (p .awaiter) _ (awaiter-low s o p e) (settles s o p (ExternalFutureState.Resolved (value-or (p .stored) v)) l e k)) k
+
+    fail-future-kept : (s : Store) (c : ℕ) (x : Error) → K s → K (fail-future s c x)
+    unfolding fail-future fail-pending
+    fail-future-kept s c x k =
+        found-kept s c _ (λ o p l e. error-kept _ (p .awaiter) x (awaiter-low s o p e) (settles s o p (ExternalFutureState.Failed x) l e k)) k
+
+    result-kept : (s : Store) (r : Result) → K s → K (apply-result s r)
+    unfolding apply-result
+    result-kept s r k =
+        pick-has K (eqb (r .kind) 0) (resolve-future-kept s _ _ k) (pick-has K (eqb (r .kind) 1) (fail-future-kept s _ _ k)
+        (pick-has K (eqb (r .kind) 2) k (pick-has K (eqb (r .kind) 3) (fail-future-kept s _ _ k) (fail-future-kept s _ _ k))))
+
+    -- a batch of results
+    pub batch-kept : (rs : List Result) (s : Store) → K s → K (apply-future-results s rs)
+    unfolding apply-future-results
+    batch-kept [] s k = k
+    batch-kept (r ∷ rs) s k = batch-kept rs (apply-result s r) (result-kept s r k)
+
+-- ---- switches
+
+module _ (K : Store → Type 0) (kept : Switches K) where
   yields : (s : Store) → K s → K (yield s .store)
   unfolding yield
   yields s k = kept .moved s Moment.Waiting tt k
 
-  runs-kept : (s : Store) (t : ℕ) (h : How) → t < task-limit → is-ready (task s t .state) ≡ true → K s → K (run s t h .store)
+  runs-kept : (s : Store) (t : ℕ) (h : How) → t < task-limit → is-ready (task s t .state) ≡ true → is-unstarted (task s t .state) ≡ false → K s → K (run s t h .store)
   unfolding run
-  runs-kept s t h l r k = kept .moved _ (Moment.Running (task-id t)) l (kept .runs-on s t l r k)
+  runs-kept s t h l r n k = kept .moved _ (Moment.Running (task-id t)) l (kept .runs-on s t l r n k)
 
   abbrev SwitchKept : Switched → Type 0
   SwitchKept x = K (x .store)
@@ -223,36 +295,29 @@ module _ (K : Store → Type 0) (kept : Closed K) where
         by none e = next-kept (d .store) k
         by (some t) e = h _ t (m .fits t e) (kept .queued (d .store) _ k)
 
-    failure-exits : (s : Store) (t : ℕ) (e : Error) → K s → K (handle-task-failure go s t e .store)
+    -- a task fails and goes
+    left-kept : (s : Store) (t : ℕ) (e : Error) → Sized s → K (add-log (remove-task (deliver-awaiter-failure s (task s t .awaiter) e .store) t) (exited t)) → K (handle-task-failure go s t e .store)
     unfolding handle-task-failure
-    failure-exits s t e k =
-        let a : Awaiter = task s t .awaiter in
-        let f : AwaiterFits a = task-fits s t .awaiter-fits in
-        let w : WokenFits (deliver-awaiter-failure s a e) = failure-woken s a e (kept .sized s k) f in
-        exit-kept _ (record { fits = w .fits }) (kept .exits (deliver-awaiter-failure s a e .store) t (failure-kept s a e f k))
+    left-kept s t e z k = exit-kept _ (record { fits = failure-woken s (task s t .awaiter) e z (task-fits s t .awaiter-fits) .fits }) k
 
-    start-kept : (s : Store) (t : ℕ) → t < task-limit → is-ready (task s t .state) ≡ true → K s → K (start-task go s t .store)
-    unfolding start-task start-by
+    start-kept : (s : Store) (t : ℕ) → t < task-limit → task s t .state ≡ TaskState.Unstarted → K s → K (start-task go s t .store)
+    unfolding start-task start-by run
     start-kept s t l r k = by (new-function (object s o)) refl
       where
         o : ℕ
         o = task s t .coroutine .0
 
         by : (n : Option ℕ) → new-function (object s o) ≡ n → K (start-by go s t o n .store)
-        by none e = failure-exits s t Error.CoroutineReuse k
-        by (some f) e =
-            let u : Store = put-object s o (Object.Coroutine f CoroutineState.Running) in
-            let k1 : K u = kept .row s o _ (task-fits s t .coroutine-fits) (subst (λ (x : Object). Turns x (Object.Coroutine f CoroutineState.Running)) (sym (new-object (object s o) f e)) (starts f)) k in
-            let r1 : is-ready (task u t .state) ≡ true = unfold task put-object in r in
-            runs-kept u t (start o f) l r1 k1
+        by none e = left-kept s t Error.CoroutineReuse (kept .delivers .sized s k) (kept .fails s t Error.CoroutineReuse l r e k (error-kept K (kept .delivers) s (task s t .awaiter) Error.CoroutineReuse (task-fits s t .awaiter-fits) k))
+        by (some f) e = kept .moved _ (Moment.Running (task-id t)) l (kept .begins s t f l r (new-object (object s o) f e) k)
 
     state-kept : (s : Store) (t : ℕ) (x : TaskState) → t < task-limit → task s t .state ≡ x → K s → K (activate-state go s t x .store)
     unfolding activate-state
     state-kept s t TaskState.Absent l e k = yields s k
-    state-kept s t TaskState.Unstarted l e k = start-kept s t l (ap is-ready e) k
+    state-kept s t TaskState.Unstarted l e k = start-kept s t l e k
     state-kept s t TaskState.Running l e k = yields s k
-    state-kept s t (TaskState.Woken v) l e k = runs-kept s t (value v) l (ap is-ready e) k
-    state-kept s t (TaskState.Raised x) l e k = runs-kept s t (raises x) l (ap is-ready e) k
+    state-kept s t (TaskState.Woken v) l e k = runs-kept s t (value v) l (ap is-ready e) (ap is-unstarted e) k
+    state-kept s t (TaskState.Raised x) l e k = runs-kept s t (raises x) l (ap is-ready e) (ap is-unstarted e) k
     state-kept s t (TaskState.Blocked o) l e k = yields s k
 
   within-kept : (n : ℕ) (s : Store) (t : ℕ) → t < task-limit → K s → K (activate-within n s t .store)
@@ -261,25 +326,25 @@ module _ (K : Store → Type 0) (kept : Closed K) where
   within-kept (suc n) s t l k = state-kept (λ x u. activate-within n x u) (λ x u. within-kept n x u) s t (task s t .state) l refl k
 
   -- a task is activated
-  pub activate-kept : (s : Store) (t : ℕ) → t < task-limit → K s → K (activate s t .store)
+  pub task-kept : (s : Store) (t : ℕ) → t < task-limit → K s → K (activate s t .store)
   unfolding activate
-  activate-kept s t l k = within-kept (live-count s) s t l k
+  task-kept s t l k = within-kept (live-count s) s t l k
 
   -- the next one is
-  pub resume-kept : (s : Store) → K s → K (resume-next activate s .store)
-  resume-kept s k = next-kept activate activate-kept s k
+  pub next-task-kept : (s : Store) → K s → K (resume-next activate s .store)
+  next-task-kept s k = next-kept activate task-kept s k
 
-  -- a task fails
-  pub fail-kept : (s : Store) (t : ℕ) (e : Error) → K s → K (handle-task-failure activate s t e .store)
-  fail-kept s t e k = failure-exits activate activate-kept s t e k
+  -- the one that was woken is, or the next one
+  pub woken-task-kept : (d : Delivery) → WokenFits d → K (d .store) → K (resume-after-task-exit activate d .store)
+  woken-task-kept d m k = exit-kept activate task-kept d m k
 
-  -- a task has gone, with a value for its awaiter
-  pub completion-kept : (left : Store) (a : Awaiter) (v : Value) → AwaiterFits a → K left → K (resume-after-task-exit activate (deliver-awaiter-success left a v) .store)
-  completion-kept left a v f k = exit-kept activate activate-kept _ (success-woken left a v (kept .sized left k) f) (success-kept left a v f k)
+  -- a task fails and goes
+  pub failed-task-kept : (s : Store) (t : ℕ) (e : Error) → Sized s → K (add-log (remove-task (deliver-awaiter-failure s (task s t .awaiter) e .store) t) (exited t)) → K (handle-task-failure activate s t e .store)
+  failed-task-kept s t e z k = left-kept activate task-kept s t e z k
 
 -- ---- the commit
 
-module _ (K : Store → Type 0) (kept : Commits K) where
+module _ (K : Store → Type 0) (kept : NewCommits K) where
   -- what is polled of an item of g leaves the gather's row
   record PolledKept (s : Store) (g : ℕ) (r : Polled) : Type 0 where
     still : object (r .store) g ≡ object s g
@@ -293,11 +358,11 @@ module _ (K : Store → Type 0) (kept : Commits K) where
   await-pending-kept s o c r (Awaiter.GatherSlot g x) a l e k = k
 
   -- an external is polled
-  pub await-external-kept : (s : Store) (o : ℕ) (c : CallId) (x : ExternalFutureState) (a : Awaiter) → o < object-limit → object s o ≡ Object.ExternalFuture c x → K s → K (await-external s o c x a .store)
+  pub external-kept : (s : Store) (o : ℕ) (c : CallId) (x : ExternalFutureState) (a : Awaiter) → o < object-limit → object s o ≡ Object.ExternalFuture c x → K s → K (await-external s o c x a .store)
   unfolding await-external
-  await-external-kept s o c (ExternalFutureState.Pending b r) a l e k = await-pending-kept s o c r b a l e k
-  await-external-kept s o c (ExternalFutureState.Resolved v) a l e k = k
-  await-external-kept s o c (ExternalFutureState.Failed x) a l e k = k
+  external-kept s o c (ExternalFutureState.Pending b r) a l e k = await-pending-kept s o c r b a l e k
+  external-kept s o c (ExternalFutureState.Resolved v) a l e k = k
+  external-kept s o c (ExternalFutureState.Failed x) a l e k = k
 
   await-still : (s : Store) (g o : ℕ) (c : CallId) (x : ExternalFutureState) (a : Awaiter) → (g ≡ o → ⊥) → object (await-external s o c x a .store) g ≡ object s g
   unfolding await-external await-pending
@@ -314,23 +379,23 @@ module _ (K : Store → Type 0) (kept : Commits K) where
       moved-row : (u : Store) (n : ℕ) → object (set-next u n) g ≡ object u g
       moved-row u n = unfold set-next in (object-put-header u _ g)
 
-  spawn-kept : (s : Store) (g o p : ℕ) → K s → PolledKept s g (polled-spawn s (spawn s o p))
+  spawn-kept : (s : Store) (g o p f : ℕ) → o < object-limit → object s o ≡ Object.Coroutine f CoroutineState.New → K s → PolledKept s g (polled-spawn s (spawn s o p))
   unfolding spawn
-  spawn-kept s g o p k = by (task-of s o)
+  spawn-kept s g o p f l q k = by (task-of s o) refl
     where
-      room : (b : Bool) → ltb (header s .next) task-limit ≡ b → PolledKept s g (polled-spawn s (pick b (some (spawn-as s (header s .next) o p)) none))
-      room true e = unfold polled-spawn in (record { still = spawn-still s (header s .next) o p g; keeps = kept .spawns s o p (ltb-true _ _ e) k })
-      room false e = unfold polled-spawn in (record { still = refl; keeps = k })
+      room : (b : Bool) → ltb (header s .next) task-limit ≡ b → task-of s o ≡ none → PolledKept s g (polled-spawn s (pick b (some (spawn-as s (header s .next) o p)) none))
+      room true e n = unfold polled-spawn in (record { still = spawn-still s (header s .next) o p g; keeps = kept .spawns s o p f (ltb-true _ _ e) l q n k })
+      room false e n = unfold polled-spawn in (record { still = refl; keeps = k })
 
-      by : (d : Option ℕ) → PolledKept s g (polled-spawn s (spawn-unless s o p d))
-      by (some t) = unfold spawn-unless polled-spawn in (record { still = refl; keeps = k })
-      by none = unfold spawn-unless in (room (ltb (header s .next) task-limit) refl)
+      by : (d : Option ℕ) → task-of s o ≡ d → PolledKept s g (polled-spawn s (spawn-unless s o p d))
+      by (some t) n = unfold spawn-unless polled-spawn in (record { still = refl; keeps = k })
+      by none n = unfold spawn-unless in (room (ltb (header s .next) task-limit) refl n)
 
-  coroutine-kept : (s : Store) (g o : ℕ) (x : CoroutineState) → K s → PolledKept s g (item-coroutine s g o x)
+  coroutine-kept : (s : Store) (g o f : ℕ) (x : CoroutineState) → o < object-limit → object s o ≡ Object.Coroutine f x → K s → PolledKept s g (item-coroutine s g o x)
   unfolding item-coroutine
-  coroutine-kept s g o CoroutineState.New k = spawn-kept s g o g k
-  coroutine-kept s g o CoroutineState.Running k = record { still = refl; keeps = k }
-  coroutine-kept s g o CoroutineState.Completed k = record { still = refl; keeps = k }
+  coroutine-kept s g o f CoroutineState.New l q k = spawn-kept s g o g f l q k
+  coroutine-kept s g o f CoroutineState.Running l q k = record { still = refl; keeps = k }
+  coroutine-kept s g o f CoroutineState.Completed l q k = record { still = refl; keeps = k }
 
   ItemKept : Store → ℕ → Item → Type 0
   ItemKept s g nested = Unit {0}
@@ -339,11 +404,11 @@ module _ (K : Store → Type 0) (kept : Commits K) where
   item-object-kept : (s : Store) (g o : ℕ) (w : AwaitedGather) (x : Object) → o < object-limit → as-awaited (object s g) ≡ some w → object s o ≡ x → K s → ItemKept s g (item-object s g o x)
   unfolding item-object item-gather ItemKept
   item-object-kept s g o w Object.Unmade l e q k = record { still = refl; keeps = k }
-  item-object-kept s g o w (Object.Coroutine f x) l e q k = coroutine-kept s g o x k
+  item-object-kept s g o w (Object.Coroutine f x) l e q k = coroutine-kept s g o f x l q k
   item-object-kept s g o w (Object.ExternalFuture c x) l e q k =
       record {
         still = await-still s g o c x _ (λ d. not-external (object s g) w c x e (ap (object s) d ∙ q));
-        keeps = await-external-kept s o c x _ l q k;
+        keeps = external-kept s o c x _ l q k;
       }
   item-object-kept s g o w (Object.GatherFuture f n GatherState.Pending) l e q k = tt
   item-object-kept s g o w (Object.GatherFuture f n (GatherState.Awaited a m)) l e q k = record { still = refl; keeps = k }
@@ -441,19 +506,19 @@ module _ (K : Store → Type 0) (kept : Commits K) where
       (items-kept _ s (f .gather) (f .next) (low-first f fs l) k)
 
   -- a gather is committed
-  pub commit-kept : (s : Store) (g : ℕ) (a : Awaiter) → g < object-limit → K s → K (commit-gather-tree s g a .store)
+  pub tree-kept : (s : Store) (g : ℕ) (a : Awaiter) → g < object-limit → K s → K (commit-gather-tree s g a .store)
   unfolding commit-gather-tree open-gather-commit
-  commit-kept s g a l k = loop-kept _ _ _ [] 0 1 0 (unfold Low in (l, tt)) (set-kept s g _ l k)
+  tree-kept s g a l k = loop-kept _ _ _ [] 0 1 0 (unfold Low in (l, tt)) (set-kept s g _ l k)
 
 -- ---- await, by a task t: J holds until it blocks, K from there on
 
-module _ (J K : Store → Type 0) (first : Commits J) (then : Closed K) (over : (u : Store) → J u → K u) (t o : ℕ) (low : o < object-limit)
+module _ (J K : Store → Type 0) (first : NewCommits J) (then : Switches K) (over : (u : Store) → J u → K u) (t o : ℕ) (low : o < object-limit)
     (blocks : (u : Store) → J u → K (add-log (set-state u t (TaskState.Blocked (heap-id o))) (blocked t))) where
   go-on-kept : (n : ℕ) (s : Store) (p : Poll) → J s → K (go-on t o n s p .store)
   unfolding go-on stays
   go-on-kept n s (ready v) k = over s k
   go-on-kept n s (raised e) k = over s k
-  go-on-kept n s pending k = resume-kept K then _ (blocks s k)
+  go-on-kept n s pending k = next-task-kept K then _ (blocks s k)
 
   await-by : (s : Store) (x : Object) → object s o ≡ x → J s → K (await-object s t o x .store)
   unfolding await-object await-coroutine await-external-future await-gather stays
@@ -461,45 +526,67 @@ module _ (J K : Store → Type 0) (first : Commits J) (then : Closed K) (over : 
   await-by s (Object.Coroutine f CoroutineState.New) e k = over _ (first .row s o _ low (subst (λ (x : Object). Turns x (Object.Coroutine f CoroutineState.Running)) (sym e) (starts f)) k)
   await-by s (Object.Coroutine f CoroutineState.Running) e k = over s k
   await-by s (Object.Coroutine f CoroutineState.Completed) e k = over s k
-  await-by s (Object.ExternalFuture c x) e k = go-on-kept 0 _ _ (await-external-kept J first s o c x _ low e k)
-  await-by s (Object.GatherFuture f n GatherState.Pending) e k = go-on-kept _ _ _ (commit-kept J first s o _ low k)
+  await-by s (Object.ExternalFuture c x) e k = go-on-kept 0 _ _ (external-kept J first s o c x _ low e k)
+  await-by s (Object.GatherFuture f n GatherState.Pending) e k = go-on-kept _ _ _ (tree-kept J first s o _ low k)
   await-by s (Object.GatherFuture f n (GatherState.Awaited a m)) e k = over s k
   await-by s (Object.GatherFuture f n GatherState.Completed) e k = over s k
   await-by s (Object.GatherFuture f n (GatherState.Failed x)) e k = over s k
 
   -- the running task awaits an object
-  pub await-kept : (s : Store) → J s → K (exec-get-awaitable s t o .store)
+  pub awaits-kept : (s : Store) → J s → K (exec-get-awaitable s t o .store)
   unfolding exec-get-awaitable
-  await-kept s k = await-by s (object s o) refl k
+  awaits-kept s k = await-by s (object s o) refl k
 
--- ---- cancel and the end
+-- ---- cancel
 
-module _ (K : Store → Type 0) (kept : Closed K) where
-  abbrev WalkKept : Walk → Type 0
-  WalkKept w = K (w .store)
+first-above : (p : ℕ → Bool) (k i o : ℕ) → first-from p i k ≡ some o → i ≤ o
+unfolding first-from
+first-above p zero i o e = absurd-some e
+first-above p (suc k) i o e = by (p i) e (λ q. first-above p k (i + 1) o q)
+  where
+    by : (b : Bool) → pick b (some i) (first-from p (i + 1) k) ≡ some o → (first-from p (i + 1) k ≡ some o → i + 1 ≤ o) → i ≤ o
+    by true q h = let d : i ≡ o = Option·some-injective i o q in omega (arith, d)
+    by false q h = omega (arith, h q)
+
+-- the task of a coroutine is not main
+pub task-of-spawned : (s : Store) (c t : ℕ) → task-of s c ≡ some t → 1 ≤ t
+unfolding task-of task-of-in
+task-of-spawned s c t e = first-above _ _ 1 t e
+
+module _ (K : Store → Type 0) (kept : Cancels K) (tasks : ℕ → Option ℕ) (spawned : (o t : ℕ) → tasks o ≡ some t → 1 ≤ t) where
+  record WalkKept (w : Walk) : Type 0 where
+    keeps : K (w .store)
+    same-tasks : w .tasks-of ≡ tasks
 
   reach-kept : (w : Walk) (g : ℕ) → WalkKept w → WalkKept (reach w g)
   unfolding reach
   reach-kept w g k = by (is-some (as-awaited (object (w .store) g)) && not (getD (w .marks) g false))
     where
       by : (b : Bool) → WalkKept (reach-if w g b)
-      by true = unfold reach-if in k
+      by true = unfold reach-if in (record { keeps = k .keeps; same-tasks = k .same-tasks })
       by false = unfold reach-if in k
 
-  removes : (w : Walk) (t : ℕ) (b : Option ℕ) → WalkKept w → WalkKept (remove-blocked w t b)
-  unfolding remove-blocked cancel-one
-  removes w t none k = kept .goes (w .store) t k
-  removes w t (some b) k = reach-kept _ b (kept .goes (w .store) t k)
+  removes : (w : Walk) (t : ℕ) (b : Option ℕ) → K (cancel-one (w .store) t) → w .tasks-of ≡ tasks → WalkKept (remove-blocked w t b)
+  unfolding remove-blocked
+  removes w t none k e = record { keeps = k; same-tasks = e }
+  removes w t (some b) k e = reach-kept _ b (record { keeps = k; same-tasks = e })
 
-  visits : (w : Walk) (o : ℕ) (d : Option ℕ) → WalkKept w → WalkKept (visit-by w o d)
-  unfolding visit-by
-  visits w o none k = reach-kept w o k
-  visits w o (some t) k = removes w t _ k
+  visits : (w : Walk) (o : ℕ) → WalkKept w → WalkKept (visit w o)
+  unfolding visit
+  visits w o k = found (w .tasks-of o) refl
+    where
+      live-by : (t : ℕ) (b : Bool) → is-live (task (w .store) t .state) ≡ b → 1 ≤ t → WalkKept (visit-by w o (pick b (some t) none))
+      live-by t true e n = unfold visit-by in (removes w t _ (unfold cancel-one in (kept .goes (w .store) t e n (k .keeps))) (k .same-tasks))
+      live-by t false e n = unfold visit-by in (reach-kept w o k)
+
+      found : (d : Option ℕ) → w .tasks-of o ≡ d → WalkKept (visit-by w o (still-live (w .store .tasks) d))
+      found none e = unfold still-live visit-by in (reach-kept w o k)
+      found (some t) e = unfold still-live in (live-by t (is-live (task-at (w .store .tasks) t .state)) (unfold task in refl) (spawned o t (ap (λ (f : ℕ → Option ℕ). f o) (sym (k .same-tasks)) ∙ e)))
 
   visits-open : (n : ℕ) (w : Walk) (a : AwaitedGather) (i : ℕ) → WalkKept w → WalkKept (visit-open w a i n)
-  unfolding visit-open visit-place visit
+  unfolding visit-open visit-place
   visits-open zero w a i k = k
-  visits-open (suc n) w a i k = visits-open n _ a (i + 1) (pick-has WalkKept (bit (a .open-places) i) (visits w _ _ k) k)
+  visits-open (suc n) w a i k = visits-open n _ a (i + 1) (pick-has WalkKept (bit (a .open-places) i) (visits w _ k) k)
 
   walk-gather-kept : (w : Walk) (a : Option AwaitedGather) → WalkKept w → WalkKept (walk-gather w a)
   unfolding walk-gather
@@ -508,18 +595,79 @@ module _ (K : Store → Type 0) (kept : Closed K) where
 
   walk-next-kept : (go : Walk → Store) → ((w : Walk) → WalkKept w → K (go w)) → (w : Walk) (gs : List ℕ) → WalkKept w → K (walk-next go w gs)
   unfolding walk-next
-  walk-next-kept go h w [] k = k
-  walk-next-kept go h w (g ∷ gs) k = h _ (walk-gather-kept _ _ k)
+  walk-next-kept go h w [] k = k .keeps
+  walk-next-kept go h w (g ∷ gs) k = h _ (walk-gather-kept _ _ (record { keeps = k .keeps; same-tasks = k .same-tasks }))
 
   walk-kept : (n : ℕ) (w : Walk) → WalkKept w → K (walk n w)
   unfolding walk
-  walk-kept zero w k = k
+  walk-kept zero w k = k .keeps
   walk-kept (suc n) w k = walk-next-kept (λ x. walk n x) (λ x y. walk-kept n x y) w (w .stack) k
+
+-- task t goes, and then those below it
+pub walked-kept : (K : Store → Type 0) → Cancels K → (s : Store) (t : ℕ) → K (add-log (remove-task s t) (removed t)) → K (cancel-task s t)
+unfolding cancel-task walk-from cancel-one
+walked-kept K kept s t k = walk-kept K kept (task-of s) (task-of-spawned s) object-limit _ (removes K kept (task-of s) (task-of-spawned s) (walk-from s) t _ k refl)
+
+-- ---- where no more is said of a write
+
+module _ (K : Store → Type 0) (kept : Commits K) where
+  commits-of : NewCommits K
+  commits-of = record { row = kept .row; value-put = kept .value-put; spawns = λ s c g f l m e n k. kept .spawns s c g l k }
+
+  -- an external is polled
+  pub await-external-kept : (s : Store) (o : ℕ) (c : CallId) (x : ExternalFutureState) (a : Awaiter) → o < object-limit → object s o ≡ Object.ExternalFuture c x → K s → K (await-external s o c x a .store)
+  await-external-kept s o c x a l e k = external-kept K commits-of s o c x a l e k
+
+  -- a gather is committed
+  pub commit-kept : (s : Store) (g : ℕ) (a : Awaiter) → g < object-limit → K s → K (commit-gather-tree s g a .store)
+  commit-kept s g a l k = tree-kept K commits-of s g a l k
+
+module _ (K : Store → Type 0) (kept : Closed K) where
+  delivers-of : Delivers K
+  delivers-of = record { sized = kept .sized; row = kept .row; values-put = kept .values-put; wakes = λ s t x l b r n k. kept .wakes s t x l b r k }
+
+  switches-of : Switches K
+  switches-of =
+      record {
+        delivers = delivers-of;
+        queued = kept .queued;
+        moved = kept .moved;
+        runs-on = λ s t l r n k. kept .runs-on s t l r k;
+        begins = λ s t f l e n k. starts-on s t f l e n k;
+        fails = λ s t e l q n k d. kept .exits _ t d;
+      }
+    where
+      starts-on : (s : Store) (t f : ℕ) → t < task-limit → task s t .state ≡ TaskState.Unstarted → object s (task s t .coroutine .0) ≡ Object.Coroutine f CoroutineState.New → K s
+          → K (set-state (put-object s (task s t .coroutine .0) (Object.Coroutine f CoroutineState.Running)) t TaskState.Running)
+      starts-on s t f l e n k = kept .runs-on _ t l (unfold task put-object in (unfold task in (ap is-ready e))) (kept .row s _ _ (task-fits s t .coroutine-fits) (subst (λ (x : Object). Turns x (Object.Coroutine f CoroutineState.Running)) (sym n) (starts f)) k)
+
+  -- a value goes up
+  pub success-kept : (s : Store) (a : Awaiter) (v : Value) → AwaiterFits a → K s → K (deliver-awaiter-success s a v .store)
+  success-kept s a v f k = value-kept K delivers-of s a v f k
+
+  -- an error goes up
+  pub failure-kept : (s : Store) (a : Awaiter) (e : Error) → AwaiterFits a → K s → K (deliver-awaiter-failure s a e .store)
+  failure-kept s a e f k = error-kept K delivers-of s a e f k
+
+  -- a task is activated
+  pub activate-kept : (s : Store) (t : ℕ) → t < task-limit → K s → K (activate s t .store)
+  activate-kept s t l k = task-kept K switches-of s t l k
+
+  -- the next one is
+  pub resume-kept : (s : Store) → K s → K (resume-next activate s .store)
+  resume-kept s k = next-task-kept K switches-of s k
+
+  -- a task fails
+  pub fail-kept : (s : Store) (t : ℕ) (e : Error) → K s → K (handle-task-failure activate s t e .store)
+  fail-kept s t e k = failed-task-kept K switches-of s t e (kept .sized s k) (kept .exits _ t (failure-kept s (task s t .awaiter) e (task-fits s t .awaiter-fits) k))
+
+  -- a task has gone, with a value for its awaiter
+  pub completion-kept : (left : Store) (a : Awaiter) (v : Value) → AwaiterFits a → K left → K (resume-after-task-exit activate (deliver-awaiter-success left a v) .store)
+  completion-kept left a v f k = woken-task-kept K switches-of _ (success-woken left a v (kept .sized left k) f) (success-kept left a v f k)
 
   -- a task is cancelled
   pub cancel-kept : (s : Store) (t : ℕ) → K s → K (cancel-task s t)
-  unfolding cancel-task walk-from
-  cancel-kept s t k = walk-kept object-limit _ (removes _ t _ k)
+  cancel-kept s t k = walked-kept K (record { goes = λ u v l n y. kept .goes u v y }) s t (kept .goes s t k)
 
   remove-from-kept : (n : ℕ) (s : Store) (t : ℕ) → K s → K (remove-from s t n)
   unfolding remove-from
@@ -531,44 +679,12 @@ module _ (K : Store → Type 0) (kept : Closed K) where
   unfolding cleanup
   cleanup-kept s k = kept .moved _ Moment.Ended tt (kept .queued _ empty-queue (remove-from-kept (header s .next) s 0 k))
 
-  -- ---- results, where an external that settles keeps K
+  -- a batch of results
+  pub results-kept : ((s : Store) (o : ℕ) (p : PendingExternal) (y : ExternalFutureState) → o < object-limit → as-pending (object s o) ≡ some p → K s → K (put-object s o (Object.ExternalFuture (p .call) y)))
+      → (rs : List Result) (s : Store) → K s → K (apply-future-results s rs)
+  results-kept settles rs s k = batch-kept K delivers-of settles rs s k
 
-  module _ (settles : (s : Store) (o : ℕ) (p : PendingExternal) (y : ExternalFutureState) → o < object-limit → as-pending (object s o) ≡ some p → K s → K (put-object s o (Object.ExternalFuture (p .call) y))) where
-    -- the pending external of a call
-    found-kept : (s : Store) (c : ℕ) (f : ℕ → PendingExternal → Store) → ((o : ℕ) (p : PendingExternal) → o < object-limit → as-pending (object s o) ≡ some p → K (f o p)) → K s
-        → K (settle-found s (pending-external s c) f)
-    unfolding settle-found
-    found-kept s c f h k = by (pending-external s c) refl
-      where
-        row : (o : ℕ) → o < object-limit → (p : Option PendingExternal) → as-pending (object s o) ≡ p → K (settle-pending s p (f o))
-        row o l none e = unfold settle-pending in k
-        row o l (some p) e = unfold settle-pending in (h o p l e)
-
-        by : (o : Option ℕ) → pending-external s c ≡ o → K (settle-found s o f)
-        by none e = unfold settle-found in k
-        by (some o) e = unfold settle-found in (row o (found-low s c o e) (as-pending (object s o)) refl)
-
-    awaiter-low : (s : Store) (o : ℕ) (p : PendingExternal) → as-pending (object s o) ≡ some p → AwaiterFits (p .awaiter)
-    awaiter-low s o p e = (rw (pending-object (object s o) p e) at (object-fits s o)) .1 .0
-
-    resolve-future-kept : (s : Store) (c : ℕ) (v : Value) → K s → K (resolve-future s c v)
-    unfolding resolve-future resolve-pending
-    resolve-future-kept s c v k =
-        found-kept s c _ (λ o p l e. success-kept K kept _ (p .awaiter) _ (awaiter-low s o p e) (settles s o p (ExternalFutureState.Resolved (value-or (p .stored) v)) l e k)) k
-
-    fail-future-kept : (s : Store) (c : ℕ) (x : Error) → K s → K (fail-future s c x)
-    unfolding fail-future fail-pending
-    fail-future-kept s c x k =
-        found-kept s c _ (λ o p l e. failure-kept K kept _ (p .awaiter) x (awaiter-low s o p e) (settles s o p (ExternalFutureState.Failed x) l e k)) k
-
-    result-kept : (s : Store) (r : Result) → K s → K (apply-result s r)
-    unfolding apply-result
-    result-kept s r k =
-        pick-has K (eqb (r .kind) 0) (resolve-future-kept s _ _ k) (pick-has K (eqb (r .kind) 1) (fail-future-kept s _ _ k)
-        (pick-has K (eqb (r .kind) 2) k (pick-has K (eqb (r .kind) 3) (fail-future-kept s _ _ k) (fail-future-kept s _ _ k))))
-
-    -- a batch of results
-    pub results-kept : (rs : List Result) (s : Store) → K s → K (apply-future-results s rs)
-    unfolding apply-future-results
-    results-kept [] s k = k
-    results-kept (r ∷ rs) s k = results-kept rs (apply-result s r) (result-kept s r k)
+-- the running task awaits an object
+pub await-kept : (J K : Store → Type 0) → Commits J → Closed K → ((u : Store) → J u → K u) → (t o : ℕ) → o < object-limit → ((u : Store) → J u → K (add-log (set-state u t (TaskState.Blocked (heap-id o))) (blocked t)))
+    → (s : Store) → J s → K (exec-get-awaitable s t o .store)
+await-kept J K first then over t o low blocks s k = awaits-kept J K (commits-of J first) (switches-of K then) over t o low blocks s k

@@ -68,7 +68,7 @@ value-then x h o = by (is-at (running-coroutine h) o) (said x .completes)
     by true (some v) = unfold value-by in refl
     by false y = unfold value-by in refl
 
-runs-coroutine : (h : List Entry) (t : ℕ) → running h ≡ some t → running-coroutine h ≡ coroutine-of h t
+pub runs-coroutine : (h : List Entry) (t : ℕ) → running h ≡ some t → running-coroutine h ≡ coroutine-of h t
 unfolding running-coroutine
 runs-coroutine h t e = ap (λ (y : Option ℕ). elim y [ none ↦ none | some u ↦ coroutine-of h u ]) e
 

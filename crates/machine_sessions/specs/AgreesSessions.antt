@@ -165,7 +165,7 @@ zeros zero k = refl
 zeros (suc n) zero = refl
 zeros (suc n) (suc k) = zeros n k
 
-row-zeros : (n b j m : ℕ) → row-from (replicate {A = ℕ} n 0) b j m ≡ replicate {A = ℕ} m 0
+pub row-zeros : (n b j m : ℕ) → row-from (replicate {A = ℕ} n 0) b j m ≡ replicate {A = ℕ} m 0
 row-zeros n b j zero = refl
 row-zeros n b j (suc m) = rw (zeros n (b + j), row-zeros n b (suc j) m)
 

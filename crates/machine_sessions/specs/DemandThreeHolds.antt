@@ -8,17 +8,18 @@ use native.Mathlib.Decide.{ℕ-discrete}
 use Rattle.machine.specs.Store.{Store, forget}
 use Rattle.machine.specs.Sound.{sound}
 use Rattle.machine.specs.Machine.{Event, Answer, Step, refusal, step}
-use Rattle.machine.specs.History.{tells}
 use Rattle.machine.specs.Sessions.{Sent, session, AllSentInRange}
 use Rattle.machine.specs.DemandThree.{Demand3, DemandThree}
 use Rattle.machine_laws.specs.MachineLaws.{refused-step, accepted-step}
 use Rattle.machine_theorems.specs.Soundness.Stores.{SoundStore, sound-store-sound}
 use Rattle.machine_theorems.specs.Soundness.NeverUnsound.{not-two}
 use Rattle.machine_sessions.specs.AgreesSessions.{session-agrees}
-use Rattle.machine_sessions.specs.PlacesHold.{completed-right}
 use Rattle.machine_sessions.specs.Following.{queue-right, session-follows, accept-accepts}
+use Rattle.machine.specs.History.{Entry, tells}
+use Rattle.machine_sessions.specs.Agrees.{Agrees}
+use Rattle.machine_sessions.specs.PlacesHold.{completed-right, awaited-right, nothing-gives}
 use Rattle.machine_sessions.specs.Waits.{session-answers}
-use Rattle.machine_sessions.specs.GoesOn.{session-goes}
+use Rattle.machine_sessions.specs.WaitingSessions.{waiting-items, session-goes}
 
 -- a sound store refuses nothing with 2
 never-two : (s : Store) → SoundStore s → (e : Event) → step s e .answer ≡ Answer.refused 2 → ⊥
@@ -40,7 +41,19 @@ demand-three es i =
     record {
       sound = never-two (session es .store) (session-follows es i .whole);
       queue = queue-right (session es) (session-follows es i);
-      places = λ g. record { completed = completed-right (session es .history) (session es .store) (session-follows es i .whole) (session-agrees es i) g };
+      places = λ g. record { completed = completed-right h s w k g; awaited = awaited-right h s w k g (λ v l e a b c. nothing-gives h s w k _ (waiting-items es i g v l e a b c)) };
       waits-right = session-answers es i .waits-are;
       no-stall = session-goes es i;
     }
+  where
+    s : Store
+    s = session es .store
+
+    h : List Entry
+    h = session es .history
+
+    w : SoundStore s
+    w = session-follows es i .whole
+
+    k : Agrees h s
+    k = session-agrees es i

@@ -32,7 +32,10 @@ use Rattle.machine_theorems.specs.Soundness.Preserved.{waiting, await-made}
 use Rattle.machine_sessions.specs.Tracked.{Tracked, live-low}
 use Rattle.machine_sessions.specs.TrackedEvents.{accept-tracked}
 use Rattle.machine_sessions.specs.Waits.{said-accepted}
-use Rattle.machine_sessions.specs.StandingEvents.{StepRight}
+use Rattle.machine_sessions.specs.StandingEvents.{MainEnds, StepRight}
+use Rattle.machine_sessions.specs.GoesOn.{Finished, main-finishes}
+use Rattle.machine_laws.specs.Facts.{Nothing}
+use Rattle.machine_sessions.specs.Standing.{Stands}
 use Rattle.machine_sessions.specs.StandingAwait.{accept-right, ends}
 use Rattle.machine_sessions.specs.Agrees.{Agrees}
 use Rattle.machine_sessions.specs.Spawned.{Shape, shape, is-used, is-co, Spawned}
@@ -166,15 +169,25 @@ module _ (h : List Entry) (e : Event) (y : Step) (ok : tells (y .answer) .accept
 
 -- ---- each event
 
+-- what an event leaves, if the session has not ended there
+abbrev StepLeft : Step → Type 0
+StepLeft y = StepRight (is-ended (header (y .store) .moment) ≡ true) y
+
+left-by : (s : Store) (e : Event) → SoundStore s → Stands Nothing s → StepRight (MainEnds s e) (accept s e) → StepLeft (accept s e)
+left-by s e w st k = record { stood = λ n. k .stood (λ m. n (ended m)); waits-idle = k .waits-idle; stalls-idle = k .stalls-idle }
+  where
+    ended : MainEnds s e → is-ended (header (accept s e .store) .moment) ≡ true
+    ended m = ap (λ (u : Store). is-ended (header u .moment)) (main-finishes s e m .store-is) ∙ ends s w st
+
 kept-of : (h : List Entry) (x : Entry) (u : Store) → Left h x u → Idle u → Kept (x ∷ h) u
 kept-of h x u l i = record { spawns-are = l .spawns-are; origins = l .origins; idle = i }
 
-idle-by : (y : Step) → StepRight y → is-ended (header (y .store) .moment) ≡ false → (header (y .store) .moment ≡ Moment.Waiting → NoFresh (y .store)) → Idle (y .store)
-idle-by y k on f = record { stood = k .stood on; begun = f }
+idle-by : (y : Step) → StepLeft y → is-ended (header (y .store) .moment) ≡ false → (header (y .store) .moment ≡ Moment.Waiting → NoFresh (y .store)) → Idle (y .store)
+idle-by y k on f = record { stood = k .stood (λ z. true≢false (sym z ∙ on)); begun = f }
 
 -- in waiting, the answer is a wait
-idle-waits : (y : Step) → StepRight y → is-ended (header (y .store) .moment) ≡ false → (header (y .store) .moment ≡ Moment.Waiting → (cs : List ℕ) × (tells (y .answer) .control ≡ some (waits cs))) → Idle (y .store)
-idle-waits y k on f = idle-by y k on (λ m. let c = f m in empty-begun (y .store) (k .stood on) (k .waits-idle (c .0) (c .1) .1))
+idle-waits : (y : Step) → StepLeft y → is-ended (header (y .store) .moment) ≡ false → (header (y .store) .moment ≡ Moment.Waiting → (cs : List ℕ) × (tells (y .answer) .control ≡ some (waits cs))) → Idle (y .store)
+idle-waits y k on f = idle-by y k on (λ m. let c = f m in empty-begun (y .store) (k .stood (λ z. true≢false (sym z ∙ on))) (k .waits-idle (c .0) (c .1) .1))
 
 ended-not : (m : Moment) (t : ℕ) → m ≡ Moment.Running (task-id t) → is-ended m ≡ false
 unfolding is-ended
@@ -247,7 +260,7 @@ module _ (h : List Entry) (s : Store) (w : SoundStore s) (tr : Tracked (lives h)
 
   -- ---- making
 
-  module _ (e : Event) (y : Step) (a : ℕ) (on : header s .moment ≡ Moment.Running (task-id (runner (header s .moment)))) (q : Quiet (says e)) (sr : StepRight y) (ad : Adds s (y .store) (header s .made)) where
+  module _ (e : Event) (y : Step) (a : ℕ) (on : header s .moment ≡ Moment.Running (task-id (runner (header s .moment)))) (q : Quiet (says e)) (sr : StepLeft y) (ad : Adds s (y .store) (header s .made)) where
     pub made-stepped : y .answer ≡ Answer.made (header s .made) → is-used (shape (object (y .store) (header s .made))) ≡ false
         → ((f : ℕ) → shape (object (y .store) (header s .made)) ≡ Shape.new f → e ≡ Event.coroutine f) → Stepped h e y
     made-stepped an us nw =
@@ -342,7 +355,7 @@ module _ (h : List Entry) (s : Store) (w : SoundStore s) (tr : Tracked (lives h)
     makes-of = sw-makes
 
     -- by what it leaves
-    exit-stepped : Ends (λ u. Logged h xs (λ o. shape (object s o)) u × (exits-in (u .log) (suc t) ≡ true)) z → StepRight sw → Stepped h e sw
+    exit-stepped : Ends (λ u. Logged h xs (λ o. shape (object s o)) u × (exits-in (u .log) (suc t) ≡ true)) z → StepLeft sw → Stepped h e sw
     exit-stepped ends-so sr =
         record {
           entry = record {
@@ -367,14 +380,14 @@ module _ (h : List Entry) (s : Store) (w : SoundStore s) (tr : Tracked (lives h)
         no-await : is-none (said xs .awaits) ≡ false → ⊥
         no-await d = none-is (said xs .awaits) (ap (λ (k : Says). k .awaits) (said-accepted e (sw .answer) (sw .store) sw-ok) ∙ na) d
 
-  pub complete-stepped : (t : ℕ) (v : Value) → header s .moment ≡ Moment.Running (task-id (suc t)) → StepRight (switched (handle-task-completion s (suc t) v)) → Stepped h (Event.complete v) (switched (handle-task-completion s (suc t) v))
+  pub complete-stepped : (t : ℕ) (v : Value) → header s .moment ≡ Moment.Running (task-id (suc t)) → StepLeft (switched (handle-task-completion s (suc t) v)) → Stepped h (Event.complete v) (switched (handle-task-completion s (suc t) v))
   unfolding says ends-task has-value
   complete-stepped t v m sr =
       let z : Switched = handle-task-completion s (suc t) v in
       exit-stepped (Event.complete v) t m refl refl refl z
       (complete-ends h s w (held (ended-not _ _ m)) _ t m (runs-it (Event.complete v) t m refl refl refl z) (ends-it (Event.complete v) t m refl refl refl z) v) sr
 
-  pub fail-stepped : (t n : ℕ) → header s .moment ≡ Moment.Running (task-id (suc t)) → StepRight (switched (handle-task-failure activate s (suc t) (Error.Script n)))
+  pub fail-stepped : (t n : ℕ) → header s .moment ≡ Moment.Running (task-id (suc t)) → StepLeft (switched (handle-task-failure activate s (suc t) (Error.Script n)))
       → Stepped h (Event.fail n) (switched (handle-task-failure activate s (suc t) (Error.Script n)))
   unfolding says ends-task has-value is-none
   fail-stepped t n m sr =
@@ -422,7 +435,7 @@ module _ (h : List Entry) (s : Store) (w : SoundStore s) (tr : Tracked (lives h)
 
   -- ---- resume
 
-  pub resume-stepped : header s .moment ≡ Moment.Waiting → StepRight (switched (resume-next activate s)) → Stepped h Event.resume (switched (resume-next activate s))
+  pub resume-stepped : header s .moment ≡ Moment.Waiting → StepLeft (switched (resume-next activate s)) → Stepped h Event.resume (switched (resume-next activate s))
   resume-stepped m sr =
       record {
         entry = quiet-left h Event.resume y ok q l;
@@ -452,7 +465,7 @@ module _ (h : List Entry) (s : Store) (w : SoundStore s) (tr : Tracked (lives h)
 
   -- ---- results
 
-  pub results-stepped : (rs : List Result) → is-ended (header s .moment) ≡ false → StepRight (accept s (Event.results rs)) → Stepped h (Event.results rs) (record { store = apply-future-results s rs; answer = Answer.done })
+  pub results-stepped : (rs : List Result) → is-ended (header s .moment) ≡ false → StepLeft (accept s (Event.results rs)) → Stepped h (Event.results rs) (record { store = apply-future-results s rs; answer = Answer.done })
   unfolding accept
   results-stepped rs on sr =
       record {
@@ -532,7 +545,7 @@ module _ (h : List Entry) (s : Store) (w : SoundStore s) (tr : Tracked (lives h)
 
   -- ---- await
 
-  pub await-stepped : (t o : ℕ) → header s .moment ≡ Moment.Running (task-id t) → o < header s .made → StepRight (answer-await (exec-get-awaitable s t o)) → Stepped h (Event.await o) (answer-await (exec-get-awaitable s t o))
+  pub await-stepped : (t o : ℕ) → header s .moment ≡ Moment.Running (task-id t) → o < header s .made → StepLeft (answer-await (exec-get-awaitable s t o)) → Stepped h (Event.await o) (answer-await (exec-get-awaitable s t o))
   await-stepped t o m lo sr =
       record {
         entry = record {
@@ -609,8 +622,8 @@ module _ (h : List Entry) (s : Store) (w : SoundStore s) (tr : Tracked (lives h)
   running-now : (rs : List (ℕ × Bool)) → Rattle.machine.specs.Machine.first-refusal (Rattle.machine.specs.Machine.in-running s rs) ≡ 0 → header s .moment ≡ Moment.Running (task-id (runner (header s .moment)))
   running-now rs q = Rattle.machine_theorems.specs.Soundness.Preserved.running s w rs q
 
-  abbrev right : (e : Event) → InRange e → says e .cancels ≡ false → refusal s e ≡ 0 → is-ended (header s .moment) ≡ false → StepRight (accept s e)
-  right e i n r on = accept-right s w (kept on .idle .stood) e i n r
+  abbrev right : (e : Event) → InRange e → says e .cancels ≡ false → refusal s e ≡ 0 → is-ended (header s .moment) ≡ false → StepLeft (accept s e)
+  right e i n r on = left-by s e w (kept on .idle .stood) (accept-right s w (kept on .idle .stood) e i n r)
 
   not-full : full s ≡ false → header s .made < object-limit
   unfolding full
@@ -649,18 +662,18 @@ module _ (h : List Entry) (s : Store) (w : SoundStore s) (tr : Tracked (lives h)
   unfolding tells done-only
   error-tells x = (refl, refl)
 
-  complete-by : (v : Value) (t : ℕ) → header s .moment ≡ Moment.Running (task-id t) → StepRight (task-completes s t v) → Tracked (lives h) (stays-blocked h) (task-completes s t v .store) → Stepped h (Event.complete v) (task-completes s t v)
+  complete-by : (v : Value) (t : ℕ) → header s .moment ≡ Moment.Running (task-id t) → StepLeft (task-completes s t v) → Tracked (lives h) (stays-blocked h) (task-completes s t v .store) → Stepped h (Event.complete v) (task-completes s t v)
   unfolding task-completes end-main says ends-task has-value
   complete-by v zero m sr k =
       main-stepped (Event.complete v) (Answer.finished v) m refl refl refl (finished-tells v .0) (finished-tells v .1) (lives-then (Event.complete v) (Answer.finished v) (cleanup s) (finished-tells v .0) k)
-  complete-by v (suc t) m sr k = subst (Stepped h (Event.complete v)) (sym (completes-as t v)) (complete-stepped t v m (subst StepRight (completes-as t v) sr))
+  complete-by v (suc t) m sr k = subst (Stepped h (Event.complete v)) (sym (completes-as t v)) (complete-stepped t v m (subst StepLeft (completes-as t v) sr))
 
-  fail-by : (n t : ℕ) → header s .moment ≡ Moment.Running (task-id t) → StepRight (task-fails s t (Error.Script n)) → Tracked (lives h) (stays-blocked h) (task-fails s t (Error.Script n) .store) → Stepped h (Event.fail n) (task-fails s t (Error.Script n))
+  fail-by : (n t : ℕ) → header s .moment ≡ Moment.Running (task-id t) → StepLeft (task-fails s t (Error.Script n)) → Tracked (lives h) (stays-blocked h) (task-fails s t (Error.Script n) .store) → Stepped h (Event.fail n) (task-fails s t (Error.Script n))
   unfolding task-fails end-main says ends-task has-value is-none
   fail-by n zero m sr k =
       main-stepped (Event.fail n) (Answer.finished-error (Error.Script n)) m refl refl refl (error-tells (Error.Script n) .0) (error-tells (Error.Script n) .1)
       (lives-then (Event.fail n) (Answer.finished-error (Error.Script n)) (cleanup s) (error-tells (Error.Script n) .0) k)
-  fail-by n (suc t) m sr k = subst (Stepped h (Event.fail n)) (sym (fails-as t (Error.Script n))) (fail-stepped t n m (subst StepRight (fails-as t (Error.Script n)) sr))
+  fail-by n (suc t) m sr k = subst (Stepped h (Event.fail n)) (sym (fails-as t (Error.Script n))) (fail-stepped t n m (subst StepLeft (fails-as t (Error.Script n)) sr))
 
   -- a wait is repeated
   repeat-stepped : (cs : List ℕ) → Stepped h Event.resume (record { store = s; answer = repeat-wait cs })
@@ -669,11 +682,11 @@ module _ (h : List Entry) (s : Store) (w : SoundStore s) (tr : Tracked (lives h)
   repeat-stepped (c ∷ cs) =
       same-stepped Event.resume (Answer.control (waits (c ∷ cs))) (quiet-of Event.resume (unfold IsQuiet in tt)) (unfold tells in refl) (unfold tells in refl) (λ x. unfold tells ControlLeft in tt) (unfold tells in (waits-plain (c ∷ cs)))
 
-  resume-by : header s .moment ≡ Moment.Waiting → StepRight (resume-with-resolved-futures s) → Stepped h Event.resume (resume-with-resolved-futures s)
+  resume-by : header s .moment ≡ Moment.Waiting → StepLeft (resume-with-resolved-futures s) → Stepped h Event.resume (resume-with-resolved-futures s)
   unfolding resume-with-resolved-futures
   resume-by m sr = by (eqb (s .queue .len) 0) sr
     where
-      by : (b : Bool) → StepRight (pick b (record { store = s; answer = repeat-wait (pending-call-ids s) }) (switched (resume-next activate s)))
+      by : (b : Bool) → StepLeft (pick b (record { store = s; answer = repeat-wait (pending-call-ids s) }) (switched (resume-next activate s)))
           → Stepped h Event.resume (pick b (record { store = s; answer = repeat-wait (pending-call-ids s) }) (switched (resume-next activate s)))
       by true k = repeat-stepped (pending-call-ids s)
       by false k = resume-stepped m k

@@ -37,11 +37,13 @@ use Rattle.machine_theorems.specs.Soundness.Deliver.{open-lower}
 use Rattle.machine_theorems.specs.Soundness.Stores.{SoundStore}
 use Rattle.machine_laws.specs.DeliveryLaws.{pending-object}
 
--- What will deliver to the open places of gather g that name o: a pending external or an awaited gather with that slot, a live task with that slot.
-pub data Source (s : Store) (g o : ℕ) : Type 0 where
-  by-external : (p : PendingExternal) → as-pending (object s o) ≡ some p → p .awaiter ≡ Awaiter.GatherSlot (heap-id g) (heap-id o) → Source s g o
-  by-gather : (w : AwaitedGather) → as-awaited (object s o) ≡ some w → w .awaiter ≡ Awaiter.GatherSlot (heap-id g) (heap-id o) → Source s g o
-  by-task : (t : ℕ) → t < header s .next → is-live (task s t .state) ≡ true → task s t .awaiter ≡ Awaiter.GatherSlot (heap-id g) (heap-id o) → Source s g o
+-- What will deliver to the open places of gather g that name o: a pending external or an awaited gather with that slot, a live task with that slot; or
+-- nobody, where o is one of G, the coroutines whose task was cancelled.
+pub data Source (G : ℕ → Type 0) (s : Store) (g o : ℕ) : Type 0 where
+  by-external : (p : PendingExternal) → as-pending (object s o) ≡ some p → p .awaiter ≡ Awaiter.GatherSlot (heap-id g) (heap-id o) → Source G s g o
+  by-gather : (w : AwaitedGather) → as-awaited (object s o) ≡ some w → w .awaiter ≡ Awaiter.GatherSlot (heap-id g) (heap-id o) → Source G s g o
+  by-task : (t : ℕ) → t < header s .next → is-live (task s t .state) ≡ true → task s t .awaiter ≡ Awaiter.GatherSlot (heap-id g) (heap-id o) → Source G s g o
+  by-nobody : G o → Source G s g o
 
 -- task t is at the top of the gathers above g
 pub data Roots (s : Store) : ℕ → ℕ → Type 0 where
@@ -55,20 +57,31 @@ pub record Driven (s : Store) : Type 0 where
   -- a ready task stands in the queue
   pub queued : (t : ℕ) → t < header s .next → is-ready (task s t .state) ≡ true → 1 ≤ occurrences (entries (s .queue)) t
   -- an open place names a source that will deliver there
-  pub sources : (g o : ℕ) (w : AwaitedGather) → g < header s .made → as-awaited (object s g) ≡ some w → Open (place s) w o → Source s g o
+  pub sources : (g o : ℕ) (w : AwaitedGather) → g < header s .made → as-awaited (object s g) ≡ some w → Open (place s) w o → Source Nothing s g o
   -- a task is above the task that waits for its gather
   pub rising : (u g x t : ℕ) → u < header s .next → is-live (task s u .state) ≡ true → task s u .awaiter ≡ Awaiter.GatherSlot (heap-id g) (heap-id x) → Roots s g t → t < u
 
 -- its two halves: what the queue and main say, and what the open places say
-pub record Sourced (s : Store) : Type 0 where
-  pub sources : (g o : ℕ) (w : AwaitedGather) → g < header s .made → as-awaited (object s g) ≡ some w → Open (place s) w o → Source s g o
+pub record Sourced (G : ℕ → Type 0) (s : Store) : Type 0 where
+  pub sources : (g o : ℕ) (w : AwaitedGather) → g < header s .made → as-awaited (object s g) ≡ some w → Open (place s) w o → Source G s g o
   pub rising : (u g x t : ℕ) → u < header s .next → is-live (task s u .state) ≡ true → task s u .awaiter ≡ Awaiter.GatherSlot (heap-id g) (heap-id x) → Roots s g t → t < u
 
+-- G may grow
+pub sourced-more : {G H : ℕ → Type 0} (s : Store) → ((o : ℕ) → G o → H o) → Sourced G s → Sourced H s
+sourced-more {G} {H} s f k = record { sources = λ g o w l e op. more g o (k .sources g o w l e op); rising = k .rising }
+  where
+    more : (g o : ℕ) → Source G s g o → Source H s g o
+    more g o (by-external p e a) = by-external p e a
+    more g o (by-gather w e a) = by-gather w e a
+    more g o (by-nobody j) = by-nobody (f o j)
+    more g o (by-task t l lv a) = by-task t l lv a
+
 -- tasks, objects, places and counts as they were
-module _ (s u : Store) (objects : (o : ℕ) → object u o ≡ object s o) (tasks : (t : ℕ) → task u t ≡ task s t) (places : (p : ℕ) → place u p ≡ place s p) (head : header u ≡ header s) where
-  source-like : (g o : ℕ) → Source s g o → Source u g o
+module _ (G : ℕ → Type 0) (s u : Store) (objects : (o : ℕ) → object u o ≡ object s o) (tasks : (t : ℕ) → task u t ≡ task s t) (places : (p : ℕ) → place u p ≡ place s p) (head : header u ≡ header s) where
+  source-like : (g o : ℕ) → Source G s g o → Source G u g o
   source-like g o (by-external p e a) = by-external p (ap as-pending (objects o) ∙ e) a
   source-like g o (by-gather w e a) = by-gather w (ap as-awaited (objects o) ∙ e) a
+  source-like g o (by-nobody j) = by-nobody j
   source-like g o (by-task t l lv a) =
       by-task t (subst (λ (h : Header). t < h .next) (sym head) l) (ap (λ (r : Task). is-live (r .state)) (tasks t) ∙ lv) (ap (λ (r : Task). r .awaiter) (tasks t) ∙ a)
 
@@ -76,7 +89,7 @@ module _ (s u : Store) (objects : (o : ℕ) → object u o ≡ object s o) (task
   roots-back (root g t w e a) = root g t w (sym (ap as-awaited (objects g)) ∙ e) a
   roots-back (above g t p x w e a r) = above g t p x w (sym (ap as-awaited (objects g)) ∙ e) a (roots-back r)
 
-  pub sourced-like : Sourced s → Sourced u
+  pub sourced-like : Sourced G s → Sourced G u
   sourced-like k =
       record {
         sources = λ g o w l e op.
@@ -160,9 +173,10 @@ module _ (s : Store) (h : SoundStore s) (d : Driven s) (waiting : header s .mome
           low : x .0 < g
           low = open-lower g w (x .0) b m e (x .1)
 
-          on : Source s g (x .0) → Call s
+          on : Source Nothing s g (x .0) → Call s
           on (by-external p q a) = record { object-is = x .0; made = omega (arith, low, m); external = p; pending = q }
           on (by-gather v q a) = down (x .0) v (omega (arith, low, l)) (omega (arith, low, m)) q (above (x .0) t g (x .0) v q a r)
+          on (by-nobody j) = absurd j
           on (by-task u lu live a) = more u (d .rising u g (x .0) t lu live a r) lu live
 
   -- from a live task down

@@ -31,7 +31,7 @@ use Rattle.machine.specs.Machine.{Event, Answer, Shown, Step, unmade, first-ref
 use Rattle.machine.specs.Sound.{sound, items-below, value-known, option-known, is-filled, rest-filled, gather-filled, object-filled}
 use Rattle.machine.specs.Tests.{_and_}
 use Rattle.machine.specs.Gather.{Outcome, returned, raised}
-use Rattle.machine.specs.History.{Entry, Making, says, first-reply, reply-error, stored-or, coroutine-outcome, reply-outcome, shown-outcome, outcome-by, outcome, value-of, making, items, completed-value, failed-error}
+use Rattle.machine.specs.History.{Entry, Making, says, first-reply, reply-error, stored-or, coroutine-outcome, reply-outcome, shown-outcome, outcome-by, outcome, value-of, error-of, making, items, completed-value, failed-error}
 use Rattle.machine_laws.specs.Facts.{Nothing}
 use Rattle.machine_laws.specs.TestLaws.{below, both-left, both-right}
 use Rattle.machine_laws.specs.MachineLaws.{accepted-step, refused-step}
@@ -357,7 +357,7 @@ module _ (h : List Entry) (s : Store) (w : SoundStore s) (k : Agrees h s) where
       by (no ne) (some v) q go = go (omega (arith, lo, ne))
 
   -- a closed place of a gather holds what its item's row gives
-  item-low : (g f n : ℕ) (x : GatherState) → g < header s .made → object s g ≡ Object.GatherFuture f n x → (a : ℕ) → a < n → place s (f + a) .item .0 < header s .made
+  pub item-low : (g f n : ℕ) (x : GatherState) → g < header s .made → object s g ≡ Object.GatherFuture f n x → (a : ℕ) → a < n → place s (f + a) .item .0 < header s .made
   unfolding view items-below
   item-low g f n x l e a b =
       let y : T (items-below (place s) g (Object.GatherFuture f n x)) = subst (λ (z : Object). T (items-below (place s) g z)) e (w .facts .but .items g l) in
@@ -498,13 +498,10 @@ module _ (h : List Entry) (s : Store) (w : SoundStore s) (k : Agrees h s) where
       closed : (a : ℕ) → a < n → (v : Value) × (place s (f + a) .result ≡ OptionValue.Some v) × (gives-now (place s (f + a) .item .0) ≡ some v)
       closed a b = closed-filled g f n 0 GatherState.Completed l e full a b (none-set a)
 
-  awaited-at : (g : ℕ) (v : AwaitedGather) → g < header s .made → as-awaited (object s g) ≡ some v → OpenNone g v
-      → (show-places s (v .first) (v .open-places) 0 (v .count) ≡ map (delivered h s) (items h g)) × (none-open (show-places s (v .first) (v .open-places) 0 (v .count)) ≡ false)
-  awaited-at g v l e none-there = (
-    shown-right g (v .first) (v .count) (v .open-places) (GatherState.Awaited (v .awaiter) (v .open-places)) l row (λ a b. each a b (bit (v .open-places) a) refl),
-    (let y = has-set (v .count) (v .open-places) (sound-no-other s g v (w .facts .but) l e) (sound-some-open s g v (w .facts .but) l e) in
-        one-open (v .first) (v .open-places) (v .count) 0 (y .at) (omega arith) (omega (arith, y .under)) (y .is-set)),
-  )
+  -- a closed place of an awaited gather has what its item has delivered
+  awaited-closed : (g : ℕ) (v : AwaitedGather) → g < header s .made → as-awaited (object s g) ≡ some v → (a : ℕ) → a < v .count → bit (v .open-places) a ≡ false
+      → (x : Value) × (place s (v .first + a) .result ≡ OptionValue.Some x) × (gives-now (place s (v .first + a) .item .0) ≡ some x)
+  awaited-closed g v l e a b c = closed-filled g (v .first) (v .count) (v .open-places) (GatherState.Awaited (v .awaiter) (v .open-places)) l row full a b c
     where
       row : object s g ≡ Object.GatherFuture (v .first) (v .count) (GatherState.Awaited (v .awaiter) (v .open-places))
       row = awaited-object (object s g) v e
@@ -518,10 +515,21 @@ module _ (h : List Entry) (s : Store) (w : SoundStore s) (k : Agrees h s) where
               second : T (not (eqb (v .open-places) 0) and rest-filled (place s) (v .first) (v .count) (v .open-places)) → T (rest-filled (place s) (v .first) (v .count) (v .open-places))
               second z = both-right (not (eqb (v .open-places) 0)) _ z
 
+  awaited-at : (g : ℕ) (v : AwaitedGather) → g < header s .made → as-awaited (object s g) ≡ some v → OpenNone g v
+      → (show-places s (v .first) (v .open-places) 0 (v .count) ≡ map (delivered h s) (items h g)) × (none-open (show-places s (v .first) (v .open-places) 0 (v .count)) ≡ false)
+  awaited-at g v l e none-there = (
+    shown-right g (v .first) (v .count) (v .open-places) (GatherState.Awaited (v .awaiter) (v .open-places)) l row (λ a b. each a b (bit (v .open-places) a) refl),
+    (let y = has-set (v .count) (v .open-places) (sound-no-other s g v (w .facts .but) l e) (sound-some-open s g v (w .facts .but) l e) in
+        one-open (v .first) (v .open-places) (v .count) 0 (y .at) (omega arith) (omega (arith, y .under)) (y .is-set)),
+  )
+    where
+      row : object s g ≡ Object.GatherFuture (v .first) (v .count) (GatherState.Awaited (v .awaiter) (v .open-places))
+      row = awaited-object (object s g) v e
+
       each : (a : ℕ) → a < v .count → (b : Bool) → bit (v .open-places) a ≡ b → slot-value (bit (v .open-places) a) (place s (v .first + a) .result) ≡ gives-now (place s (v .first + a) .item .0)
       each a b true c = slot-open (bit (v .open-places) a) (place s (v .first + a) .result) c ∙ sym (none-there a b c)
       each a b false c =
-          let y = closed-filled g (v .first) (v .count) (v .open-places) (GatherState.Awaited (v .awaiter) (v .open-places)) l row full a b c in
+          let y = awaited-closed g v l e a b c in
           slot-filled (bit (v .open-places) a) (place s (v .first + a) .result) (y .0) c (y .1) ∙ sym (y .2)
 
   -- ---- what is shown
@@ -592,3 +600,30 @@ module _ (h : List Entry) (s : Store) (w : SoundStore s) (k : Agrees h s) where
       let m = shown-made s g _ e in
       let y = awaited-shown vs (object s g) (m .1) in
       subst (λ (us : List (Option Value)). (us ≡ map (delivered h s) (items h g)) × (none-open us ≡ false)) (y .2) (awaited-at g (y .0) (m .0) (y .1) (o (y .0) (m .0) (y .1)))
+
+  -- ---- items that have come to nothing, or to a value
+
+  -- what has come to nothing gives nothing
+  pub nothing-gives : (o : ℕ) → row-outcome C o (object s o) ≡ none → gives-now o ≡ none
+  nothing-gives o e = sym (row-value C D o (object s o) (coroutine-value o)) ∙ (ap value-of e ∙ (unfold value-of in refl))
+
+  -- what gives a value has not raised
+  given-no-error : (o : ℕ) (x : Value) → gives-now o ≡ some x → error-of (row-outcome C o (object s o)) ≡ none
+  unfolding value-of error-of
+  given-no-error o x e = by (row-outcome C o (object s o)) (row-value C D o (object s o) (coroutine-value o) ∙ e)
+    where
+      by : (r : Option (Outcome Value Error)) → value-of r ≡ some x → error-of r ≡ none
+      by none q = absurd-some q
+      by (some (returned v)) q = refl
+      by (some (raised v)) q = absurd-some q
+
+  -- No item of an awaited gather has raised, if the items of its open places have come to nothing.
+  pub items-no-error : (g : ℕ) (v : AwaitedGather) → g < header s .made → as-awaited (object s g) ≡ some v
+      → ((a : ℕ) → a < v .count → bit (v .open-places) a ≡ true → row-outcome C (place s (v .first + a) .item .0) (object s (place s (v .first + a) .item .0)) ≡ none)
+      → (a : ℕ) → a < v .count → error-of (outcome h (look s) (place s (v .first + a) .item .0)) ≡ none
+  items-no-error g v l e f a b =
+      ap error-of (outcome-row (place s (v .first + a) .item .0) (item-low g (v .first) (v .count) (GatherState.Awaited (v .awaiter) (v .open-places)) l (awaited-object (object s g) v e) a b)) ∙ by (bit (v .open-places) a) refl
+    where
+      by : (x : Bool) → bit (v .open-places) a ≡ x → error-of (row-outcome C (place s (v .first + a) .item .0) (object s (place s (v .first + a) .item .0))) ≡ none
+      by true c = ap error-of (f a b c) ∙ (unfold error-of in refl)
+      by false c = let y = awaited-closed g v l e a b c in given-no-error _ (y .0) (y .2)

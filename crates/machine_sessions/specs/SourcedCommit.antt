@@ -82,24 +82,24 @@ slot-awaited w e same (above u j op lt nm lo aw rm rest) q (inr z) v c p x s = s
 
 -- ---- a gather not committed yet is opened
 
-opened-lit : (s : Store) (Q R : ℕ → Type 0) (n o f c : ℕ) (a : Awaiter) → Sized s → o < header s .made → ObjectFits (Object.GatherFuture f c (GatherState.Awaited a 0))
+opened-lit : {G : ℕ → Type 0} (s : Store) (Q R : ℕ → Type 0) (n o f c : ℕ) (a : Awaiter) → Sized s → o < header s .made → ObjectFits (Object.GatherFuture f c (GatherState.Awaited a 0))
     → object s o ≡ Object.GatherFuture f c GatherState.Pending → SoundBut n Nothing Q (view s)
     → ((p : ℕ) (w : AwaitedGather) → p < header s .made → as-awaited (object s p) ≡ some w → (x : ℕ) → w .awaiter ≡ Awaiter.GatherSlot (heap-id o) (heap-id x) → ⊥)
-    → ((q : ℕ) → R q → (q ≡ o) ⊎ Q q) → Lit Q s → Lit R (open-gather-commit s o a)
+    → ((q : ℕ) → R q → (q ≡ o) ⊎ Q q) → Lit G Q s → Lit G R (open-gather-commit s o a)
 unfolding open-gather-commit set-gather with-state
-opened-lit s Q R n o f c a z l fits was b slots stack k =
-    subst (λ (y : Object). Lit R (put-object s o y)) (sym (ap (λ (y : Object). with-state y (GatherState.Awaited a 0)) was))
-    (open-sourced s Q R n o f c a z (omega (arith, l, header-fits s .made-fits)) fits was b slots stack k)
+opened-lit {G} s Q R n o f c a z l fits was b slots stack k =
+    subst (λ (y : Object). Lit G R (put-object s o y)) (sym (ap (λ (y : Object). with-state y (GatherState.Awaited a 0)) was))
+    (open-sourced _ s Q R n o f c a z (omega (arith, l, header-fits s .made-fits)) fits was b slots stack k)
 
 -- a slot in a gather is in a committed one
 pending-slot : (s : Store) (o f c : ℕ) → object s o ≡ Object.GatherFuture f c GatherState.Pending → T (is-committed (kind (object s o))) → ⊥
 unfolding kind
 pending-slot s o f c was k = subst (λ (y : Object). T (is-committed (kind y))) was k
 
-nested-lit : (root t : ℕ) (f : Frame) (fs : List Frame) (x : Store) (i q : ℕ) → AtNested root t (f .gather) fs x i q → Lit (OnTop (f .gather) fs) x
-    → Lit (OnTop q (record { gather = f .gather; next = i } ∷ fs)) (open-gather-commit x q (Awaiter.GatherSlot (heap-id (f .gather)) (heap-id q)))
+nested-lit : {G : ℕ → Type 0} (root t : ℕ) (f : Frame) (fs : List Frame) (x : Store) (i q : ℕ) → AtNested root t (f .gather) fs x i q → Lit G (OnTop (f .gather) fs) x
+    → Lit G (OnTop q (record { gather = f .gather; next = i } ∷ fs)) (open-gather-commit x q (Awaiter.GatherSlot (heap-id (f .gather)) (heap-id q)))
 unfolding view
-nested-lit root t f fs x i q h k =
+nested-lit {G} root t f fs x i q h k =
     opened-lit x (OnTop (f .gather) fs) (OnTop q (record { gather = f .gather; next = i } ∷ fs)) _ q (h .first) (h .count) (Awaiter.GatherSlot (heap-id (f .gather)) (heap-id q)) (h .memory .sized) low-q fits
     (h .is-new) (h .inv .but) (λ p w l e y a. slots p w l e y a (on-stack (record { gather = f .gather; next = i } ∷ fs) p)) (λ p r. r) k
   where
@@ -122,11 +122,11 @@ nested-lit root t f fs x i q h k =
 
 -- ---- a gather leaves the stack, settled
 
-left-lit : (Q R : ℕ → Type 0) (s : Store) (g : ℕ) (w : AwaitedGather) (y : GatherState) → Sized s → g < object-limit → ObjectFits (Object.GatherFuture (w .first) (w .count) y)
-    → as-awaited (object s g) ≡ some w → as-awaited (Object.GatherFuture (w .first) (w .count) y) ≡ none → Q g → ((q : ℕ) → R q → Q q) → Lit Q s → Lit R (set-gather s g y)
+left-lit : {G : ℕ → Type 0} (Q R : ℕ → Type 0) (s : Store) (g : ℕ) (w : AwaitedGather) (y : GatherState) → Sized s → g < object-limit → ObjectFits (Object.GatherFuture (w .first) (w .count) y)
+    → as-awaited (object s g) ≡ some w → as-awaited (Object.GatherFuture (w .first) (w .count) y) ≡ none → Q g → ((q : ℕ) → R q → Q q) → Lit G Q s → Lit G R (set-gather s g y)
 unfolding set-gather
-left-lit Q R s g w y z low fits was settled on fewer k =
-    subst (λ (x : Object). Lit R (put-object s g x)) (sym (with-state-is (object s g) w y was))
+left-lit {G} Q R s g w y z low fits was settled on fewer k =
+    subst (λ (x : Object). Lit G R (put-object s g x)) (sym (with-state-is (object s g) w y was))
     (leave-sourced Q R s g w (Object.GatherFuture (w .first) (w .count) y) z low fits was settled on fewer k)
 
 memory-set : (s : Store) (g : ℕ) (w : AwaitedGather) (y : GatherState) → Memory s → g < header s .made → as-awaited (object s g) ≡ some w → ObjectFits (Object.GatherFuture (w .first) (w .count) y) → Memory (set-gather s g y)
@@ -139,12 +139,12 @@ unfolding set-gather
 set-other s g p y ne = object-put-other s g p _ ne
 
 -- an error: every gather on the stack fails
-unwind-lit : (fs : List Frame) (s : Store) (root t j g i : ℕ) (w : AwaitedGather) (e : Error) → ErrorFits e → Memory s → g < header s .made → as-awaited (object s g) ≡ some w
-    → Stacked (header s .made) (object s) (place s) root t g (w .awaiter) fs j → Lit (OnTop g fs) s → Lit Nothing (unwind s (record { gather = g; next = i } ∷ fs) e)
+unwind-lit : {G : ℕ → Type 0} (fs : List Frame) (s : Store) (root t j g i : ℕ) (w : AwaitedGather) (e : Error) → ErrorFits e → Memory s → g < header s .made → as-awaited (object s g) ≡ some w
+    → Stacked (header s .made) (object s) (place s) root t g (w .awaiter) fs j → Lit G (OnTop g fs) s → Lit G Nothing (unwind s (record { gather = g; next = i } ∷ fs) e)
 unfolding unwind
 unwind-lit [] s root t j g i w e ok m l q st k =
     left-lit (OnTop g []) Nothing s g w (GatherState.Failed e) (m .sized) (omega (arith, l, header-fits s .made-fits)) (awaited-fits s g w q .0, ok) q (unfold as-awaited in refl) (inl refl) (λ p z. absurd z) k
-unwind-lit (f ∷ fs) s root t j g i w e ok m l q st k =
+unwind-lit {G} (f ∷ fs) s root t j g i w e ok m l q st k =
     by (stacked-set s g w (GatherState.Failed e) m l q (awaited-fits s g w q .0, ok) st)
     (λ j' w' l' q' st'. unwind-lit fs (set-gather s g (GatherState.Failed e)) root t j' (f .gather) (f .next) w' e ok (memory-set s g w (GatherState.Failed e) m l q (awaited-fits s g w q .0, ok)) l' q' st'
     (left-lit (OnTop g (f ∷ fs)) (OnTop (f .gather) fs) s g w (GatherState.Failed e) (m .sized) (omega (arith, l, header-fits s .made-fits)) (awaited-fits s g w q .0, ok) q (unfold as-awaited in refl) (inl refl) (λ p z. inr z) k))
@@ -154,11 +154,11 @@ unwind-lit (f ∷ fs) s root t j g i w e ok m l q st k =
 
     by : {a : Awaiter} {n : ℕ} → Stacked (header s1 .made) (object s1) (place s1) root t g a (f ∷ fs) n
         → ((j' : ℕ) (w' : AwaitedGather) → f .gather < header s1 .made → as-awaited (object s1 (f .gather)) ≡ some w' → Stacked (header s1 .made) (object s1) (place s1) root t (f .gather) (w' .awaiter) fs j'
-        → Lit Nothing (unwind s1 (f ∷ fs) e))
-        → Lit Nothing (unwind s1 (f ∷ fs) e)
+        → Lit G Nothing (unwind s1 (f ∷ fs) e))
+        → Lit G Nothing (unwind s1 (f ∷ fs) e)
     by (above w' j' op lt nm lo aw rm rest) go = go j' w' (op .made) (op .awaited) rest
 
-error-lit : (root t : ℕ) (f : Frame) (fs : List Frame) (x : Store) (e : Error) → AtError root t (f .gather) fs x e → Lit (OnTop (f .gather) fs) x → Sourced (unwind x (f ∷ fs) e)
+error-lit : {G : ℕ → Type 0} (root t : ℕ) (f : Frame) (fs : List Frame) (x : Store) (e : Error) → AtError root t (f .gather) fs x e → Lit G (OnTop (f .gather) fs) x → Sourced G (unwind x (f ∷ fs) e)
 unfolding view
 error-lit root t f fs x e h k =
     unwind-lit fs x root t (h .inv .k) (f .gather) (f .next) (h .inv .w) e (h .fits) (h .memory) (h .inv .opened .made) (h .inv .opened .awaited) (h .inv .stack) k .sourced
@@ -166,20 +166,20 @@ error-lit root t f fs x e h k =
 -- ---- a gather whose items are all stepped
 
 -- the root: it completes, or stays awaited
-root-lit : (root t : ℕ) (x : Store) (g i : ℕ) → Memory x → Inv root t 0 (OnTop g []) (view x) g i [] → Lit (OnTop g []) x → Sourced (settle-gather-commit x g .store)
+root-lit : {G : ℕ → Type 0} (root t : ℕ) (x : Store) (g i : ℕ) → Memory x → Inv root t 0 (OnTop g []) (view x) g i [] → Lit G (OnTop g []) x → Sourced G (settle-gather-commit x g .store)
 unfolding settle-gather-commit view
-root-lit root t x g i mem h k = subst (λ (o : Option AwaitedGather). Sourced (settle-as x g o .store)) (sym (h .opened .awaited)) (unfold settle-as in (by (eqb (h .w .open-places) 0)))
+root-lit {G} root t x g i mem h k = subst (λ (o : Option AwaitedGather). Sourced G (settle-as x g o .store)) (sym (h .opened .awaited)) (unfold settle-as in (by (eqb (h .w .open-places) 0)))
   where
-    by : (b : Bool) → Sourced (pick b (gives (set-gather x g GatherState.Completed) (ready (Value.List (heap-id g)))) (gives x pending) .store)
+    by : (b : Bool) → Sourced G (pick b (gives (set-gather x g GatherState.Completed) (ready (Value.List (heap-id g)))) (gives x pending) .store)
     by true =
         left-lit (OnTop g []) Nothing x g (h .w) GatherState.Completed (mem .sized) (omega (arith, h .opened .made, header-fits x .made-fits)) (awaited-fits x g (h .w) (h .opened .awaited) .0, tt) (h .opened .awaited)
         (unfold as-awaited in refl) (inl refl) (λ p z. absurd z) k .sourced
     by false = k .sourced
 
 -- a nested one: it completes, and its list is in the place below; or it stays awaited, and is the source of that place, which is open
-module _ (root t : ℕ) (x : Store) (g i : ℕ) (p : Frame) (ps : List Frame) (mem : Memory x) (h : Inv root t 0 (OnTop g (p ∷ ps)) (view x) g i (p ∷ ps)) (k : Lit (OnTop g (p ∷ ps)) x) where
+module _ (G : ℕ → Type 0) (root t : ℕ) (x : Store) (g i : ℕ) (p : Frame) (ps : List Frame) (mem : Memory x) (h : Inv root t 0 (OnTop g (p ∷ ps)) (view x) g i (p ∷ ps)) (k : Lit G (OnTop g (p ∷ ps)) x) where
   abbrev Next : Store → Type 0
-  Next y = Lit (OnTop (p .gather) ps) y
+  Next y = Lit G (OnTop (p .gather) ps) y
 
   made : g < header x .made
   unfolding view
@@ -239,11 +239,11 @@ module _ (root t : ℕ) (x : Store) (g i : ℕ) (p : Frame) (ps : List Frame) (m
 
 -- ---- the turns
 
-abbrev LoopLit : ℕ → ℕ → (Store → Frame → List Frame → ℕ → ℕ → ℕ → Committed) → Type 0
-LoopLit root t loop = (s : Store) (f : Frame) (fs : List Frame) (n j k : ℕ) → Commits root t (f .gather) (f .next) fs s → Lit (OnTop (f .gather) fs) s → Sourced (loop s f fs n j k .store)
+abbrev LoopLit : (G : ℕ → Type 0) → ℕ → ℕ → (Store → Frame → List Frame → ℕ → ℕ → ℕ → Committed) → Type 0
+LoopLit G root t loop = (s : Store) (f : Frame) (fs : List Frame) (n j k : ℕ) → Commits root t (f .gather) (f .next) fs s → Lit G (OnTop (f .gather) fs) s → Sourced G (loop s f fs n j k .store)
 
-turn-lit : (root t : ℕ) (loop : Store → Frame → List Frame → ℕ → ℕ → ℕ → Committed) → LoopLit root t loop → (f : Frame) (fs : List Frame) (n j k : ℕ) (x : Stop) → StopOk root t (f .gather) fs x
-    → StopLit (f .gather) fs x → Sourced (turn loop f fs n j k x .store)
+turn-lit : {G : ℕ → Type 0} (root t : ℕ) (loop : Store → Frame → List Frame → ℕ → ℕ → ℕ → Committed) → LoopLit G root t loop → (f : Frame) (fs : List Frame) (n j k : ℕ) (x : Stop) → StopOk root t (f .gather) fs x
+    → StopLit G (f .gather) fs x → Sourced G (turn loop f fs n j k x .store)
 unfolding turn
 turn-lit root t loop go f fs n j k (at-nested x i q) h l =
     go _ (record { gather = q; next = 0 }) (record { gather = f .gather; next = i } ∷ fs) (suc n) (suc j) k (nested-commits root t f fs x i q h) (nested-lit root t f fs x i q h l)
@@ -251,9 +251,9 @@ turn-lit root t loop go f fs n j k (at-error x e) h l = error-lit root t f fs x 
 turn-lit root t loop go f [] n j k (at-end x) h l = root-lit root t x (f .gather) (h .i) (h .memory) (h .inv) l
 turn-lit root t loop go f (p ∷ ps) n j k (at-end x) h l =
     go _ (record { gather = p .gather; next = p .next + 1 }) ps (suc n) j (suc k) (settle-next root t x (f .gather) (h .i) p ps (h .memory) (h .inv) (h .end))
-    (resumed-lit root t x (f .gather) (h .i) p ps (h .memory) (h .inv) l)
+    (resumed-lit _ root t x (f .gather) (h .i) p ps (h .memory) (h .inv) l)
 
-loop-lit : (fuel root t : ℕ) → LoopLit root t (commit-loop fuel)
+loop-lit : {G : ℕ → Type 0} (fuel root t : ℕ) → LoopLit G root t (commit-loop fuel)
 unfolding commit-loop step-gather-commit turn view
 loop-lit zero root t s f fs n j k h l = error-lit root t f fs s Error.GatherReuse (record { i = f .next; memory = h .memory; inv = h .inv; fits = tt }) l
 loop-lit (suc fuel) root t s f fs n j k h l =
@@ -262,10 +262,10 @@ loop-lit (suc fuel) root t s f fs n j k h l =
     (omega (arith, h .inv .opened .under, inv-count root t (f .next) (f .gather) 0 (OnTop (f .gather) fs) fs s (h .inv))) l)
 
 -- A commit keeps it.
-pub commit-sourced : (s : Store) (t g f n : ℕ) → SoundStore s → header s .moment ≡ Moment.Running (task-id t) → g < header s .made → object s g ≡ Object.GatherFuture f n GatherState.Pending → Sourced s
-    → Sourced (commit-gather-tree s g (Awaiter.Task (task-id t)) .store)
+pub commit-sourced : {G : ℕ → Type 0} (s : Store) (t g f n : ℕ) → SoundStore s → header s .moment ≡ Moment.Running (task-id t) → g < header s .made → object s g ≡ Object.GatherFuture f n GatherState.Pending → Sourced G s
+    → Sourced G (commit-gather-tree s g (Awaiter.Task (task-id t)) .store)
 unfolding commit-gather-tree
-commit-sourced s t g f n h m l e k =
+commit-sourced {G} s t g f n h m l e k =
     loop-lit _ g t (open-gather-commit s g (Awaiter.Task (task-id t))) (record { gather = g; next = 0 }) [] 0 1 0 (commit-begins s t h m g f n l e)
     (opened-lit s Nothing (OnTop g []) 0 g f n (Awaiter.Task (task-id t)) (h .memory .sized) l fits e (h .facts .but) slots (λ q r. r) (record { sourced = k; unnamed = λ q p w z. absurd z }))
   where

@@ -50,12 +50,12 @@ stack-awaited {os = os} w e (above v j op lt nm lo aw rm rest) q (inl z) = (w, s
 stack-awaited w e (above v j op lt nm lo aw rm rest) q (inr z) = stack-awaited v (op .awaited) rest q z
 
 -- where the walk stops
-abbrev pub StopLit : ℕ → List Frame → Stop → Type 0
-StopLit g fs (at-end x) = Lit (OnTop g fs) x
-StopLit g fs (at-nested x i o) = Lit (OnTop g fs) x
-StopLit g fs (at-error x e) = Lit (OnTop g fs) x
+abbrev pub StopLit : (G : ℕ → Type 0) → ℕ → List Frame → Stop → Type 0
+StopLit G g fs (at-end x) = Lit G (OnTop g fs) x
+StopLit G g fs (at-nested x i o) = Lit G (OnTop g fs) x
+StopLit G g fs (at-error x e) = Lit G (OnTop g fs) x
 
-module _ (root t g : ℕ) (fs : List Frame) (i : ℕ) (s : Store) (mem : Memory s) (h : Inv root t 0 (OnTop g fs) (view s) g i fs) (less : i < h .w .count) (k : Lit (OnTop g fs) s) where
+module _ (G : ℕ → Type 0) (root t g : ℕ) (fs : List Frame) (i : ℕ) (s : Store) (mem : Memory s) (h : Inv root t 0 (OnTop g fs) (view s) g i fs) (less : i < h .w .count) (k : Lit G (OnTop g fs) s) where
   abbrev w : AwaitedGather
   w = h .w
 
@@ -67,9 +67,9 @@ module _ (root t g : ℕ) (fs : List Frame) (i : ℕ) (s : Store) (mem : Memory 
 
   -- what the item in place i gave, put into it
   abbrev PollLit : Store → Poll → Type 0
-  PollLit x (ready v) = Lit Q (fill-place x w i v)
-  PollLit x (raised e) = Lit Q x
-  PollLit x pending = Lit Q (open-place x g w i)
+  PollLit x (ready v) = Lit G Q (fill-place x w i v)
+  PollLit x (raised e) = Lit G Q x
+  PollLit x pending = Lit G Q (open-place x g w i)
 
   abbrev ItemLit : Item → Type 0
   ItemLit nested = Unit {0}
@@ -125,7 +125,7 @@ module _ (root t g : ℕ) (fs : List Frame) (i : ℕ) (s : Store) (mem : Memory 
       (ap as-awaited (object-put-other s o g x (λ q. apart q)) ∙ top) (unfold place put-object in refl)
       (by-external (record { call = p .call; awaiter = Awaiter.GatherSlot (heap-id g) (heap-id o); stored = p .stored })
       (ap as-pending (object-put-object s o x (mem .sized) low-o fit) ∙ (unfold as-pending in refl)) refl)
-      (not-on none-w) (takes-lit Q s o p x (mem .sized) low-o fit e free (unfold as-awaited in refl) k)
+      (λ q. absurd (not-on none-w q)) (takes-lit Q s o p x (mem .sized) low-o fit e free (unfold as-awaited in refl) k)
     where
       x : Object
       x = Object.ExternalFuture (p .call) (ExternalFutureState.Pending (Awaiter.GatherSlot (heap-id g) (heap-id o)) (p .stored))
@@ -149,10 +149,10 @@ module _ (root t g : ℕ) (fs : List Frame) (i : ℕ) (s : Store) (mem : Memory 
       spawned-lit : header s .next < task-limit → ItemLit (polled (polled-spawn s (some (spawn-as s (header s .next) o g))))
       spawned-lit room = unfold polled-spawn in
           (place-sourced Q (spawn-as s (header s .next) o g) g w i o (sized-spawn-as s (header s .next) o g (mem .sized))
-          (subst (λ (y : Header). g < y .made) (sym (spawn-header s Q _ o g mem room low-o low-g made (h .but))) made) low-g wide-fits
-          (ap as-awaited (spawn-object s Q _ o g mem room low-o low-g made (h .but) g) ∙ top)
-          (ap (λ (y : Place). y .item .0) (spawn-place s Q _ o g mem room low-o low-g made (h .but) (w .first + i)))
-          (spawn-source s Q _ o g mem room low-o low-g made (h .but)) (not-on none-w) (spawn-sourced s Q _ o g mem room low-o low-g made (h .but) k))
+          (subst (λ (y : Header). g < y .made) (sym (spawn-header G s Q _ o g mem room low-o low-g made (h .but))) made) low-g wide-fits
+          (ap as-awaited (spawn-object G s Q _ o g mem room low-o low-g made (h .but) g) ∙ top)
+          (ap (λ (y : Place). y .item .0) (spawn-place G s Q _ o g mem room low-o low-g made (h .but) (w .first + i)))
+          (spawn-source G s Q _ o g mem room low-o low-g made (h .but)) (λ q. absurd (not-on none-w q)) (spawn-sourced G s Q _ o g mem room low-o low-g made (h .but) k))
 
       room-or : (b : Bool) → ltb (header s .next) task-limit ≡ b → ItemLit (polled (polled-spawn s (pick b (some (spawn-as s (header s .next) o g)) none)))
       room-or true z = spawned-lit (ltb-true (header s .next) task-limit z)
@@ -194,26 +194,26 @@ module _ (root t g : ℕ) (fs : List Frame) (i : ℕ) (s : Store) (mem : Memory 
       by false e = item-lit (object s o) refl
 
   -- so the walk stops where it is said to, if it does from the next place on
-  put-lit : (go : Store → Stop) → ((y : Store) → Goes root t g fs i (w .count) y → Lit Q y → StopLit g fs (go y)) → (x : Item) → ItemOk root t g fs w i o s x → ItemLit x
-      → StopLit g fs (put-item g w i o s x go)
+  put-lit : (go : Store → Stop) → ((y : Store) → Goes root t g fs i (w .count) y → Lit G Q y → StopLit G g fs (go y)) → (x : Item) → ItemOk root t g fs w i o s x → ItemLit x
+      → StopLit G g fs (put-item g w i o s x go)
   unfolding put-item put-polled
   put-lit go f nested ok l = k
   put-lit go f (polled r) ok l = by (r .poll) ok l
     where
-      by : (p : Poll) → PollOk root t g fs w i (r .store) p → PollLit (r .store) p → StopLit g fs (put-polled g w i (r .store) p go)
+      by : (p : Poll) → PollOk root t g fs w i (r .store) p → PollLit (r .store) p → StopLit G g fs (put-polled g w i (r .store) p go)
       by (ready v) ok l = f _ ok l
       by (raised e) ok l = l
       by pending ok l = f _ ok l
 
-  pub step-lit : (go : Store → Stop) → ((y : Store) → Goes root t g fs i (w .count) y → Lit Q y → StopLit g fs (go y)) → StopLit g fs (put-item g w i o s (item s g w o) go)
+  pub step-lit : (go : Store → Stop) → ((y : Store) → Goes root t g fs i (w .count) y → Lit G Q y → StopLit G g fs (go y)) → StopLit G g fs (put-item g w i o s (item s g w o) go)
   step-lit go f = put-lit go f (item s g w o) (one-keeps root t g fs i s mem h less) one-lit
 
 -- The walk through the items.
-pub items-lit : (n : ℕ) (root t g i : ℕ) (fs : List Frame) (s : Store) → Memory s → (h : Inv root t 0 (OnTop g fs) (view s) g i fs) → i + n ≡ h .w .count → Lit (OnTop g fs) s
-    → StopLit g fs (step-items n s g i)
+pub items-lit : {G : ℕ → Type 0} (n : ℕ) (root t g i : ℕ) (fs : List Frame) (s : Store) → Memory s → (h : Inv root t 0 (OnTop g fs) (view s) g i fs) → i + n ≡ h .w .count → Lit G (OnTop g fs) s
+    → StopLit G g fs (step-items n s g i)
 unfolding step-items step-item view
 items-lit zero root t g i fs s mem h e k = k
-items-lit (suc n) root t g i fs s mem h e k =
-    subst (λ (o : Option AwaitedGather). StopLit g fs (step-item g i s o (λ x. step-items n x g (i + 1)))) (sym (h .opened .awaited))
-    (step-lit root t g fs i s mem h (omega arith) k (λ x. step-items n x g (i + 1))
+items-lit {G} (suc n) root t g i fs s mem h e k =
+    subst (λ (o : Option AwaitedGather). StopLit G g fs (step-item g i s o (λ x. step-items n x g (i + 1)))) (sym (h .opened .awaited))
+    (step-lit _ root t g fs i s mem h (omega arith) k (λ x. step-items n x g (i + 1))
     (λ y c l. items-lit n root t g (i + 1) fs y (c .memory) (c .inv) (goes-length root t g i fs (h .w .count) n y e c) l))

@@ -38,18 +38,18 @@ use Rattle.machine_theorems.specs.Soundness.Memory.{Memory}
 use Rattle.machine_theorems.specs.Soundness.Fill.{awaits-on}
 use Rattle.machine_theorems.specs.Soundness.CommitSteps.{wider}
 use Rattle.machine_theorems.specs.Soundness.CommitItems.{spawn-store-view}
-use Rattle.machine_sessions.specs.NoStall.{Source, by-external, by-gather, by-task, Roots, root, above, Sourced}
+use Rattle.machine_sessions.specs.NoStall.{Source, by-external, by-gather, by-nobody, by-task, Roots, root, above, Sourced}
 use Rattle.machine_sessions.specs.SourcedPlan.{SourcedBut, OnWay, but-of, all-of}
 use Rattle.machine_sessions.specs.SourcedClimb.{settle-sourced, apart}
 use Rattle.machine_sessions.specs.SourcedEvents.{takes-sourced}
 
--- In the midst of a commit, whose stack is Q.
-pub record Lit (Q : ℕ → Type 0) (s : Store) : Type 0 where
-  pub sourced : Sourced s
-  pub unnamed : (q p : ℕ) (w : AwaitedGather) → Q q → p < header s .made → as-awaited (object s p) ≡ some w → Open (place s) w q → ⊥
+-- In the midst of a commit, whose stack is Q. (None of G is a gather; a place that names one of G has its source, nobody.)
+pub record Lit (G : ℕ → Type 0) (Q : ℕ → Type 0) (s : Store) : Type 0 where
+  pub sourced : Sourced G s
+  pub unnamed : (q p : ℕ) (w : AwaitedGather) → Q q → p < header s .made → as-awaited (object s p) ≡ some w → Open (place s) w q → G q
 
 -- with fewer on the stack
-pub lit-fewer : {Q R : ℕ → Type 0} {s : Store} → ((q : ℕ) → R q → Q q) → Lit Q s → Lit R s
+pub lit-fewer : {G : ℕ → Type 0} {Q R : ℕ → Type 0} {s : Store} → ((q : ℕ) → R q → Q q) → Lit G Q s → Lit G R s
 lit-fewer f k = record { sourced = k .sourced; unnamed = λ q p w r l e op. k .unnamed q p w (f q r) l e op }
 
 slot-gather : Awaiter → ℕ
@@ -79,14 +79,15 @@ slot-made hd a g x k e = ltb→lt g (hd .made) (subst (λ (b : Awaiter). T (awai
 
 module _ (s : Store) (n : ℕ) (P Q : ℕ → Type 0) (b : SoundBut n P Q (view s)) where
   -- a gather not committed yet is nobody's source
-  pub pending-source : (p o f m : ℕ) → object s o ≡ Object.GatherFuture f m GatherState.Pending → Source s p o → ⊥
+  pub pending-source : {G : ℕ → Type 0} (p o f m : ℕ) → object s o ≡ Object.GatherFuture f m GatherState.Pending → Source G s p o → G o
   unfolding view as-pending as-awaited kind
   pending-source p o f m e (by-external x q a) = absurd-some (sym (ap as-pending e) ∙ q)
   pending-source p o f m e (by-gather x q a) = absurd-some (sym (ap as-awaited e) ∙ q)
+  pending-source p o f m e (by-nobody j) = j
   pending-source p o f m e (by-task t l lv a) =
       let own : o ≡ task s t .coroutine .0 = b .task-slots t l (holds _ lv) p o a .own in
       let co : T (is-coroutine (kind (object s (task s t .coroutine .0)))) = coroutine-at (header s) (object s) t (task s t) p o (b .tasks t l) (holds _ lv) a in
-      subst (λ (y : Object). T (is-coroutine (kind y))) e (subst (λ (j : ℕ). T (is-coroutine (kind (object s j)))) (sym own) co)
+      absurd (subst (λ (y : Object). T (is-coroutine (kind y))) e (subst (λ (j : ℕ). T (is-coroutine (kind (object s j)))) (sym own) co))
 
   -- the gather above a made one is made
   pub parent-made : (p q x : ℕ) (w : AwaitedGather) → p < header s .made → as-awaited (object s p) ≡ some w → w .awaiter ≡ Awaiter.GatherSlot (heap-id q) (heap-id x) → q < header s .made
@@ -101,7 +102,7 @@ module _ (s : Store) (n : ℕ) (P Q : ℕ → Type 0) (b : SoundBut n P Q (view 
 
 -- ---- a gather not committed yet is opened: nobody named it, and no slot is in it
 
-module _ (s : Store) (Q R : ℕ → Type 0) (n o f c : ℕ) (a : Awaiter) (z : Sized s) (low : o < object-limit) (fits : ObjectFits (Object.GatherFuture f c (GatherState.Awaited a 0)))
+module _ (G : ℕ → Type 0) (s : Store) (Q R : ℕ → Type 0) (n o f c : ℕ) (a : Awaiter) (z : Sized s) (low : o < object-limit) (fits : ObjectFits (Object.GatherFuture f c (GatherState.Awaited a 0)))
     (was : object s o ≡ Object.GatherFuture f c GatherState.Pending) (b : SoundBut n Nothing Q (view s))
     (slots : (p : ℕ) (w : AwaitedGather) → p < header s .made → as-awaited (object s p) ≡ some w → (x : ℕ) → w .awaiter ≡ Awaiter.GatherSlot (heap-id o) (heap-id x) → ⊥)
     (stack : (q : ℕ) → R q → (q ≡ o) ⊎ Q q) where
@@ -131,14 +132,15 @@ module _ (s : Store) (Q R : ℕ → Type 0) (n o f c : ℕ) (a : Awaiter) (z : S
   unfolding u0
   places-as w x op = record { at = op .at; under = op .under; is-open = op .is-open; names = unfold place put-object in (op .names) }
 
-  still : (p x : ℕ) → Source s p x → Source u0 p x
+  still : (p x : ℕ) → Source G s p x → Source G u0 p x
   unfolding u0 y0
   still p x k = by (ℕ-discrete x o) k
     where
-      by : Dec (x ≡ o) → Source s p x → Source (put-object s o y0) p x
-      by (yes d) k = absurd (pending-source s n Nothing Q b p o f c was (subst (λ (j : ℕ). Source s p j) d k))
+      by : Dec (x ≡ o) → Source G s p x → Source G (put-object s o y0) p x
+      by (yes d) k = by-nobody (subst G (sym d) (pending-source s n Nothing Q b p o f c was (subst (λ (j : ℕ). Source G s p j) d k)))
       by (no ne) (by-external y e q) = by-external y (ap as-pending (object-put-other s o x y0 ne) ∙ e) q
       by (no ne) (by-gather y e q) = by-gather y (ap as-awaited (object-put-other s o x y0 ne) ∙ e) q
+      by (no ne) (by-nobody j) = by-nobody j
       by (no ne) (by-task t l lv q) = by-task t (subst (λ (h : Header). t < h .next) (sym (header-put-object s o y0)) l) (unfold task put-object in lv) (unfold task put-object in q)
 
   roots-was : {p t : ℕ} → p < header s .made → (p ≡ o → ⊥) → Roots u0 p t → Roots s p t
@@ -155,7 +157,7 @@ module _ (s : Store) (Q R : ℕ → Type 0) (n o f c : ℕ) (a : Awaiter) (z : S
       let sl = b .task-slots t l (holds _ lv) g x q in
       (sl .made, λ d. unfold kind in (subst (λ (y : Object). T (is-committed (kind y))) was (subst (λ (j : ℕ). T (is-committed (kind (object s j)))) d (sl .committed))))
 
-  pub open-sourced : Lit Q s → Lit R (put-object s o (Object.GatherFuture f c (GatherState.Awaited a 0)))
+  pub open-sourced : Lit G Q s → Lit G R (put-object s o (Object.GatherFuture f c (GatherState.Awaited a 0)))
   unfolding u0 y0
   open-sourced k =
       record {
@@ -171,25 +173,25 @@ module _ (s : Store) (Q R : ℕ → Type 0) (n o f c : ℕ) (a : Awaiter) (z : S
         unnamed = λ q p w r l e op. none-names q p w r l e op (ℕ-discrete p o);
       }
     where
-      at : (p x : ℕ) (w : AwaitedGather) → p < header u0 .made → as-awaited (object u0 p) ≡ some w → Open (place u0) w x → Dec (p ≡ o) → Source u0 p x
+      at : (p x : ℕ) (w : AwaitedGather) → p < header u0 .made → as-awaited (object u0 p) ≡ some w → Open (place u0) w x → Dec (p ≡ o) → Source G u0 p x
       at p x w l e op (yes d) = absurd (closed w x (subst (λ (j : ℕ). as-awaited (object u0 j) ≡ some w) d e) (places-as w x op))
       at p x w l e op (no ne) = still p x (k .sourced .sources p x w (made-as p l) (other p w ne e) (places-as w x op))
 
-      none-names : (q p : ℕ) (w : AwaitedGather) → R q → p < header u0 .made → as-awaited (object u0 p) ≡ some w → Open (place u0) w q → Dec (p ≡ o) → ⊥
-      none-names q p w r l e op (yes d) = closed w q (subst (λ (j : ℕ). as-awaited (object u0 j) ≡ some w) d e) (places-as w q op)
+      none-names : (q p : ℕ) (w : AwaitedGather) → R q → p < header u0 .made → as-awaited (object u0 p) ≡ some w → Open (place u0) w q → Dec (p ≡ o) → G q
+      none-names q p w r l e op (yes d) = absurd (closed w q (subst (λ (j : ℕ). as-awaited (object u0 j) ≡ some w) d e) (places-as w q op))
       none-names q p w r l e op (no ne) = by (stack q r)
         where
-          by : (q ≡ o) ⊎ Q q → ⊥
+          by : (q ≡ o) ⊎ Q q → G q
           by (inl d) =
-              pending-source s n Nothing Q b p o f c was (subst (λ (j : ℕ). Source s p j) d
-              (k .sourced .sources p q w (made-as p l) (other p w ne e) (places-as w q op)))
+              subst G (sym d) (pending-source s n Nothing Q b p o f c was (subst (λ (j : ℕ). Source G s p j) d
+              (k .sourced .sources p q w (made-as p l) (other p w ne e) (places-as w q op))))
           by (inr m) = k .unnamed q p w m (made-as p l) (other p w ne e) (places-as w q op)
 
 -- ---- a place is filled
 
-pub fill-sourced : (Q : ℕ → Type 0) (s : Store) (w : AwaitedGather) (i : ℕ) (v : Value) → Sized s → w .first + i < place-limit → ValueFits v → Lit Q s → Lit Q (fill-place s w i v)
+pub fill-sourced : {G : ℕ → Type 0} (Q : ℕ → Type 0) (s : Store) (w : AwaitedGather) (i : ℕ) (v : Value) → Sized s → w .first + i < place-limit → ValueFits v → Lit G Q s → Lit G Q (fill-place s w i v)
 unfolding fill-place
-fill-sourced Q s w i v z low fits k =
+fill-sourced {G} Q s w i v z low fits k =
     record {
       sourced = record {
         sources = λ g o x l e op. still g o (k .sourced .sources g o x (unfold header put-place in l) (unfold object put-place in e) (was x o op));
@@ -216,9 +218,10 @@ fill-sourced Q s w i v z low fits k =
     was : (x : AwaitedGather) (o : ℕ) → Open (place u) x o → Open (place s) x o
     was x o op = record { at = op .at; under = op .under; is-open = op .is-open; names = sym (item (x .first + op .at)) ∙ op .names }
 
-    still : (g o : ℕ) → Source s g o → Source u g o
+    still : (g o : ℕ) → Source G s g o → Source G u g o
     still g o (by-external p e a) = by-external p (unfold object put-place in e) a
     still g o (by-gather p e a) = by-gather p (unfold object put-place in e) a
+    still g o (by-nobody j) = by-nobody j
     still g o (by-task t l lv a) = by-task t (unfold header put-place in l) (unfold task put-place in lv) (unfold task put-place in a)
 
     roots-was : {g t : ℕ} → Roots u g t → Roots s g t
@@ -227,19 +230,19 @@ fill-sourced Q s w i v z low fits k =
 
 -- ---- a gather leaves the stack, completed or failed: no open place names it
 
-pub leave-sourced : (Q R : ℕ → Type 0) (s : Store) (g : ℕ) (w : AwaitedGather) (y : Object) → Sized s → g < object-limit → ObjectFits y → as-awaited (object s g) ≡ some w → as-awaited y ≡ none → Q g
-    → ((q : ℕ) → R q → Q q) → Lit Q s → Lit R (put-object s g y)
-leave-sourced Q R s g w y z low fits was settled on fewer k =
+pub leave-sourced : {G : ℕ → Type 0} (Q R : ℕ → Type 0) (s : Store) (g : ℕ) (w : AwaitedGather) (y : Object) → Sized s → g < object-limit → ObjectFits y → as-awaited (object s g) ≡ some w → as-awaited y ≡ none → Q g
+    → ((q : ℕ) → R q → Q q) → Lit G Q s → Lit G R (put-object s g y)
+leave-sourced {G} Q R s g w y z low fits was settled on fewer k =
     record {
-      sourced = all-of u (record { sources = λ p o v l e op n. c .sources p o v l e op (λ d. named p o v l e op (d .1)); rising = c .rising });
+      sourced = all-of u (record { sources = λ p o v l e op n. by p o v l e op (ℕ-discrete o g); rising = c .rising });
       unnamed = λ q p v r l e op. k .unnamed q p v (fewer q r) (made-as p l) (before p v e) (places-as v q op);
     }
   where
     u : Store
     u = put-object s g y
 
-    c : SourcedBut (OnWay (w .awaiter) g) u
-    c = settle-sourced (λ p o. ⊥) s g w y z low fits was settled (λ p o d. absurd d) (but-of s (k .sourced))
+    c : SourcedBut G (OnWay (w .awaiter) g) u
+    c = settle-sourced _ (λ p o. ⊥) s g w y z low fits was settled (λ p o d. absurd d) (but-of s (k .sourced))
 
     made-as : (p : ℕ) → p < header u .made → p < header s .made
     made-as p l = subst (λ (h : Header). p < h .made) (header-put-object s g y) l
@@ -254,18 +257,22 @@ leave-sourced Q R s g w y z low fits was settled on fewer k =
     places-as : (v : AwaitedGather) (x : ℕ) → Open (place u) v x → Open (place s) v x
     places-as v x op = record { at = op .at; under = op .under; is-open = op .is-open; names = unfold place put-object in (op .names) }
 
-    named : (p o : ℕ) (v : AwaitedGather) → p < header u .made → as-awaited (object u p) ≡ some v → Open (place u) v o → o ≡ g → ⊥
+    named : (p o : ℕ) (v : AwaitedGather) → p < header u .made → as-awaited (object u p) ≡ some v → Open (place u) v o → o ≡ g → G g
     named p o v l e op d = k .unnamed g p v on (made-as p l) (before p v e) (subst (λ (j : ℕ). Open (place s) v j) d (places-as v o op))
+
+    by : (p o : ℕ) (v : AwaitedGather) → p < header u .made → as-awaited (object u p) ≡ some v → Open (place u) v o → Dec (o ≡ g) → Source G u p o
+    by p o v l e op (yes d) = by-nobody (subst G (sym d) (named p o v l e op d))
+    by p o v l e op (no ne) = c .sources p o v l e op (λ d. ne (d .1))
 
 -- ---- a gather on the stack opens a place, whose source is there
 
-module _ (Q : ℕ → Type 0) (s : Store) (g : ℕ) (w v : AwaitedGather) (y : Object) (z : Sized s) (made : g < header s .made) (low : g < object-limit) (fits : ObjectFits y)
+module _ (G : ℕ → Type 0) (Q : ℕ → Type 0) (s : Store) (g : ℕ) (w v : AwaitedGather) (y : Object) (z : Sized s) (made : g < header s .made) (low : g < object-limit) (fits : ObjectFits y)
     (was : as-awaited (object s g) ≡ some w) (now : as-awaited y ≡ some v) (same-awaiter : v .awaiter ≡ w .awaiter)
-    (more : (q : ℕ) → Open (place s) v q → Open (place s) w q ⊎ (Source s g q × (Q q → ⊥))) where
+    (more : (q : ℕ) → Open (place s) v q → Open (place s) w q ⊎ (Source G s g q × (Q q → G q))) where
   row-now : as-awaited (object (put-object s g y) g) ≡ some v
   row-now = ap as-awaited (object-put-object s g y z low fits) ∙ now
 
-  pub wider-sourced : Lit Q s → Lit Q (put-object s g y)
+  pub wider-sourced : Lit G Q s → Lit G Q (put-object s g y)
   wider-sourced k =
       record {
         sourced = record {
@@ -287,29 +294,30 @@ module _ (Q : ℕ → Type 0) (s : Store) (g : ℕ) (w v : AwaitedGather) (y : O
       same : (p : ℕ) (x : AwaitedGather) → p ≡ g → as-awaited (object u p) ≡ some x → v ≡ x
       same p x d e = Option·some-injective v x (sym row-now ∙ subst (λ (m : ℕ). as-awaited (object u m) ≡ some x) d e)
 
-      still : (p q : ℕ) → Source s p q → Source u p q
+      still : (p q : ℕ) → Source G s p q → Source G u p q
       still p q (by-external x e a) = by-external x (ap as-pending (object-put-other s g q y (λ d. apart (object s g) x w (subst (λ (m : ℕ). as-pending (object s m) ≡ some x) d e) was)) ∙ e) a
       still p q (by-gather x e a) = at (ℕ-discrete q g)
         where
-          at : Dec (q ≡ g) → Source u p q
+          at : Dec (q ≡ g) → Source G u p q
           at (yes d) =
               let same : w ≡ x = Option·some-injective w x (sym was ∙ subst (λ (m : ℕ). as-awaited (object s m) ≡ some x) d e) in
               by-gather v (subst (λ (m : ℕ). as-awaited (object u m) ≡ some v) (sym d) row-now) (same-awaiter ∙ (ap (λ (j : AwaitedGather). j .awaiter) same ∙ a))
           at (no ne) = by-gather x (ap as-awaited (object-put-other s g q y ne) ∙ e) a
+      still p q (by-nobody j) = by-nobody j
       still p q (by-task t l lv a) = by-task t (subst (λ (h : Header). t < h .next) (sym (header-put-object s g y)) l) (unfold task put-object in lv) (unfold task put-object in a)
 
-      by : (p q : ℕ) (x : AwaitedGather) → p < header s .made → as-awaited (object u p) ≡ some x → Open (place s) x q → Dec (p ≡ g) → Source u p q
-      by p q x l e op (yes d) = still p q (subst (λ (j : ℕ). Source s j q) (sym d) (on (more q (subst (λ (j : AwaitedGather). Open (place s) j q) (sym (same p x d e)) op))))
+      by : (p q : ℕ) (x : AwaitedGather) → p < header s .made → as-awaited (object u p) ≡ some x → Open (place s) x q → Dec (p ≡ g) → Source G u p q
+      by p q x l e op (yes d) = still p q (subst (λ (j : ℕ). Source G s j q) (sym d) (on (more q (subst (λ (j : AwaitedGather). Open (place s) j q) (sym (same p x d e)) op))))
         where
-          on : Open (place s) w q ⊎ (Source s g q × (Q q → ⊥)) → Source s g q
+          on : Open (place s) w q ⊎ (Source G s g q × (Q q → G q)) → Source G s g q
           on (inl o) = k .sourced .sources g q w made was o
           on (inr c) = c .0
       by p q x l e op (no ne) = still p q (k .sourced .sources p q x l (sym (ap as-awaited (object-put-other s g p y ne)) ∙ e) op)
 
-      un : (q p : ℕ) (x : AwaitedGather) → Q q → p < header s .made → as-awaited (object u p) ≡ some x → Open (place s) x q → Dec (p ≡ g) → ⊥
+      un : (q p : ℕ) (x : AwaitedGather) → Q q → p < header s .made → as-awaited (object u p) ≡ some x → Open (place s) x q → Dec (p ≡ g) → G q
       un q p x r l e op (yes d) = on (more q (subst (λ (j : AwaitedGather). Open (place s) j q) (sym (same p x d e)) op))
         where
-          on : Open (place s) w q ⊎ (Source s g q × (Q q → ⊥)) → ⊥
+          on : Open (place s) w q ⊎ (Source G s g q × (Q q → G q)) → G q
           on (inl o) = k .unnamed q g w r made was o
           on (inr c) = c .1 r
       un q p x r l e op (no ne) = k .unnamed q p x r l (sym (ap as-awaited (object-put-other s g p y ne)) ∙ e) op
@@ -335,25 +343,25 @@ wider-was w i j e ne = by (bit (w .open-places) i) refl e
     by true q e = e
     by false q e = sym (bit-set-other i (w .open-places) j q ne) ∙ e
 
-pub place-sourced : (Q : ℕ → Type 0) (s : Store) (g : ℕ) (w : AwaitedGather) (i o : ℕ) → Sized s → g < header s .made → g < object-limit → ObjectFits (awaits-on w (wider w i)) → as-awaited (object s g) ≡ some w
-    → place s (w .first + i) .item .0 ≡ o → Source s g o → (Q o → ⊥) → Lit Q s → Lit Q (open-place s g w i)
+pub place-sourced : {G : ℕ → Type 0} (Q : ℕ → Type 0) (s : Store) (g : ℕ) (w : AwaitedGather) (i o : ℕ) → Sized s → g < header s .made → g < object-limit → ObjectFits (awaits-on w (wider w i)) → as-awaited (object s g) ≡ some w
+    → place s (w .first + i) .item .0 ≡ o → Source G s g o → (Q o → G o) → Lit G Q s → Lit G Q (open-place s g w i)
 unfolding open-place wider
-place-sourced Q s g w i o z made low fits was names src off k =
-    wider-sourced Q s g w v (awaits-on w (wider w i)) z made low fits was (unfold as-awaited in refl) refl (λ q op. by q op (ℕ-discrete (op .at) i)) k
+place-sourced {G} Q s g w i o z made low fits was names src off k =
+    wider-sourced _ Q s g w v (awaits-on w (wider w i)) z made low fits was (unfold as-awaited in refl) refl (λ q op. by q op (ℕ-discrete (op .at) i)) k
   where
     v : AwaitedGather
     v = record { first = w .first; count = w .count; awaiter = w .awaiter; open-places = wider w i }
 
-    by : (q : ℕ) (op : Open (place s) v q) → Dec (op .at ≡ i) → Open (place s) w q ⊎ (Source s g q × (Q q → ⊥))
+    by : (q : ℕ) (op : Open (place s) v q) → Dec (op .at ≡ i) → Open (place s) w q ⊎ (Source G s g q × (Q q → G q))
     by q op (yes d) =
         let e : o ≡ q = sym names ∙ (ap (λ (j : ℕ). place s (w .first + j) .item .0) (sym d) ∙ op .names) in
-        inr (subst (λ (j : ℕ). Source s g j) e src, subst (λ (j : ℕ). Q j → ⊥) e off)
+        inr (subst (λ (j : ℕ). Source G s g j) e src, subst (λ (j : ℕ). Q j → G j) e off)
     by q op (no ne) = inl (record { at = op .at; under = op .under; is-open = wider-was w i (op .at) (op .is-open) ne; names = op .names })
 
 -- ---- a pending external without awaiter takes one
 
-pub takes-lit : (Q : ℕ → Type 0) (s : Store) (o : ℕ) (p : PendingExternal) (x : Object) → Sized s → o < object-limit → ObjectFits x → as-pending (object s o) ≡ some p → p .awaiter ≡ Awaiter.Nobody → as-awaited x ≡ none
-    → Lit Q s → Lit Q (put-object s o x)
+pub takes-lit : {G : ℕ → Type 0} (Q : ℕ → Type 0) (s : Store) (o : ℕ) (p : PendingExternal) (x : Object) → Sized s → o < object-limit → ObjectFits x → as-pending (object s o) ≡ some p → p .awaiter ≡ Awaiter.Nobody → as-awaited x ≡ none
+    → Lit G Q s → Lit G Q (put-object s o x)
 takes-lit Q s o p x z low fits was free xa k =
     record {
       sourced = takes-sourced s o p x z low fits was free xa (k .sourced);
@@ -367,7 +375,7 @@ takes-lit Q s o p x z low fits was free xa k =
 
 -- ---- a task is spawned: its number is above those of all that wait
 
-module _ (s : Store) (Q : ℕ → Type 0) (n c g : ℕ) (mem : Memory s) (room : header s .next < task-limit) (low-c : c < object-limit) (low-g : g < object-limit) (made : g < header s .made)
+module _ (G : ℕ → Type 0) (s : Store) (Q : ℕ → Type 0) (n c g : ℕ) (mem : Memory s) (room : header s .next < task-limit) (low-c : c < object-limit) (low-g : g < object-limit) (made : g < header s .made)
     (b : SoundBut n Nothing Q (view s)) where
   abbrev s2 : Store
   s2 = spawn-as s (header s .next) c g
@@ -405,12 +413,12 @@ module _ (s : Store) (Q : ℕ → Type 0) (n c g : ℕ) (mem : Memory s) (room :
   spawn-roots (above p t q x w e a r) = above p t q x w (sym (ap as-awaited (spawn-object p)) ∙ e) a (spawn-roots r)
 
   -- it will deliver
-  pub spawn-source : Source (spawn-as s (header s .next) c g) g c
+  pub spawn-source : Source G (spawn-as s (header s .next) c g) g c
   spawn-source =
       by-task (header s .next) (subst (λ (h : Header). header s .next < h .next) (sym spawn-header) (omega arith)) (ap (λ (r : Task). is-live (r .state)) new-task ∙ refl)
       (ap (λ (r : Task). r .awaiter) new-task)
 
-  pub spawn-sourced : Lit Q s → Lit Q (spawn-as s (header s .next) c g)
+  pub spawn-sourced : Lit G Q s → Lit G Q (spawn-as s (header s .next) c g)
   spawn-sourced k =
       record {
         sourced = record {
@@ -423,9 +431,10 @@ module _ (s : Store) (Q : ℕ → Type 0) (n c g : ℕ) (mem : Memory s) (room :
       made-as : (p : ℕ) → p < header s2 .made → p < header s .made
       made-as p l = subst (λ (h : Header). p < h .made) spawn-header l
 
-      still : (p x : ℕ) → Source s p x → Source s2 p x
+      still : (p x : ℕ) → Source G s p x → Source G s2 p x
       still p x (by-external y e a) = by-external y (ap as-pending (spawn-object x) ∙ e) a
       still p x (by-gather y e a) = by-gather y (ap as-awaited (spawn-object x) ∙ e) a
+      still p x (by-nobody j) = by-nobody j
       still p x (by-task t l lv a) =
           let same : task s2 t ≡ task s t = old-task t (λ d. omega arith) in
           by-task t (subst (λ (h : Header). t < h .next) (sym spawn-header) (omega arith)) (ap (λ (r : Task). is-live (r .state)) same ∙ lv) (ap (λ (r : Task). r .awaiter) same ∙ a)

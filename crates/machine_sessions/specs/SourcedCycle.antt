@@ -35,7 +35,7 @@ use Rattle.machine_theorems.specs.Soundness.Deliver.{DeliveryEnds, failure-keep
 use Rattle.machine_theorems.specs.Soundness.Cycle.{task-delivering, remove-keeps, next-by, exit-by}
 use Rattle.machine_theorems.specs.Panics.NoPanicLaws.{Activated, starts, goes-on, raises-it, ready-activated, main-started}
 use Rattle.machine_theorems.specs.Panics.NoPanicWoken.{failure-activated}
-use Rattle.machine_sessions.specs.NoStall.{Source, by-external, by-gather, by-task, Roots, root, above, Sourced}
+use Rattle.machine_sessions.specs.NoStall.{Source, by-external, by-gather, by-nobody, by-task, Roots, root, above, Sourced}
 use Rattle.machine_sessions.specs.SourcedPlan.{SourcedBut, OnWay, but-of, all-of, but-same}
 use Rattle.machine_sessions.specs.SourcedClimb.{failure-sourced, awaiter-kept}
 use Rattle.machine_sessions.specs.Calls.{moment-row}
@@ -100,9 +100,9 @@ module _ (g : ℕ) where
 
 -- ---- a task goes: what it was the source of lies in X
 
-pub removed-but : {X : ℕ → ℕ → Type 0} (s : Store) (t : ℕ) (y : LogEntry) → Sized s → t < task-limit
-    → ((g o : ℕ) (w : AwaitedGather) → as-awaited (object s g) ≡ some w → task s t .awaiter ≡ Awaiter.GatherSlot (heap-id g) (heap-id o) → X g o) → Sourced s → SourcedBut X (add-log (remove-task s t) y)
-removed-but {X} s t y z low none-there k =
+pub removed-but : {G : ℕ → Type 0} {X : ℕ → ℕ → Type 0} (s : Store) (t : ℕ) (y : LogEntry) → Sized s → t < task-limit
+    → ((g o : ℕ) (w : AwaitedGather) → as-awaited (object s g) ≡ some w → task s t .awaiter ≡ Awaiter.GatherSlot (heap-id g) (heap-id o) → X g o) → Sourced G s → SourcedBut G X (add-log (remove-task s t) y)
+removed-but {G} {X} s t y z low none-there k =
     record {
       sources = λ g o w l e op n. still g o w n (was g w e) (k .sources g o w (unfold header add-log remove-task remove-from-ready-queue put-queue put-task in l) (was g w e)
           (record { at = op .at; under = op .under; is-open = op .is-open; names = unfold place add-log remove-task remove-from-ready-queue put-queue put-task in (op .names) }));
@@ -124,12 +124,13 @@ removed-but {X} s t y z low none-there k =
     dead : is-live (task u t .state) ≡ false
     dead = ap (λ (r : Task). is-live (r .state)) (rows t) ∙ (live-put-task s t absent z low ∙ (unfold absent in refl))
 
-    still : (g o : ℕ) (w : AwaitedGather) → (X g o → ⊥) → as-awaited (object s g) ≡ some w → Source s g o → Source u g o
+    still : (g o : ℕ) (w : AwaitedGather) → (X g o → ⊥) → as-awaited (object s g) ≡ some w → Source G s g o → Source G u g o
     still g o w n e (by-external p q a) = by-external p (unfold object add-log remove-task remove-from-ready-queue put-queue put-task in (unfold object in q)) a
     still g o w n e (by-gather v q a) = by-gather v (unfold object add-log remove-task remove-from-ready-queue put-queue put-task in (unfold object in q)) a
+    still g o w n e (by-nobody j) = by-nobody j
     still g o w n e (by-task v l lv a) = by (ℕ-discrete v t)
       where
-        by : Dec (v ≡ t) → Source u g o
+        by : Dec (v ≡ t) → Source G u g o
         by (yes q) = absurd (n (none-there g o w e (subst (λ (m : ℕ). task s m .awaiter ≡ Awaiter.GatherSlot (heap-id g) (heap-id o)) q a)))
         by (no ne) = by-task v (unfold header add-log remove-task remove-from-ready-queue put-queue put-task in l) (ap (λ (r : Task). is-live (r .state)) (other v ne) ∙ lv) (ap (λ (r : Task). r .awaiter) (other v ne) ∙ a)
 
@@ -143,14 +144,14 @@ removed-but {X} s t y z low none-there k =
         k .rising v g x r (unfold header add-log remove-task remove-from-ready-queue put-queue put-task in l) (sym (ap (λ (w : Task). is-live (w .state)) (other v ne)) ∙ lv)
         (sym (ap (λ (w : Task). w .awaiter) (other v ne)) ∙ a) (roots-was q)
 
-pub removed-sourced : (s : Store) (t : ℕ) (y : LogEntry) → Sized s → t < task-limit
-    → ((g o : ℕ) (w : AwaitedGather) → as-awaited (object s g) ≡ some w → task s t .awaiter ≡ Awaiter.GatherSlot (heap-id g) (heap-id o) → ⊥) → Sourced s → Sourced (add-log (remove-task s t) y)
+pub removed-sourced : {G : ℕ → Type 0} (s : Store) (t : ℕ) (y : LogEntry) → Sized s → t < task-limit
+    → ((g o : ℕ) (w : AwaitedGather) → as-awaited (object s g) ≡ some w → task s t .awaiter ≡ Awaiter.GatherSlot (heap-id g) (heap-id o) → ⊥) → Sourced G s → Sourced G (add-log (remove-task s t) y)
 removed-sourced s t y z low none-there k = all-of _ (removed-but s t y z low none-there k)
 
 -- ---- a row that is neither a pending external nor an awaited gather, before and after
 
-pub plain-sourced : (s : Store) (o : ℕ) (x : Object) → Sized s → o < object-limit → ObjectFits x → as-pending (object s o) ≡ none → as-awaited (object s o) ≡ none → as-awaited x ≡ none → Sourced s → Sourced (put-object s o x)
-plain-sourced s o x z low fits np na xa k =
+pub plain-sourced : {G : ℕ → Type 0} (s : Store) (o : ℕ) (x : Object) → Sized s → o < object-limit → ObjectFits x → as-pending (object s o) ≡ none → as-awaited (object s o) ≡ none → as-awaited x ≡ none → Sourced G s → Sourced G (put-object s o x)
+plain-sourced {G} s o x z low fits np na xa k =
     record {
       sources = λ g p w l e op. still g p (k .sources g p w (subst (λ (h : Header). g < h .made) (header-put-object s o x) l) (was g w e)
           (record { at = op .at; under = op .under; is-open = op .is-open; names = unfold place put-object in (op .names) }));
@@ -167,9 +168,10 @@ plain-sourced s o x z low fits np na xa k =
         by (yes q) = absurd-some (sym xa ∙ (sym (ap as-awaited (object-put-object s o x z low fits)) ∙ subst (λ (m : ℕ). as-awaited (object u m) ≡ some w) q e))
         by (no ne) = sym (ap as-awaited (object-put-other s o g x ne)) ∙ e
 
-    still : (g p : ℕ) → Source s g p → Source u g p
+    still : (g p : ℕ) → Source G s g p → Source G u g p
     still g p (by-external q e a) = by-external q (ap as-pending (object-put-other s o p x (λ d. absurd-some (sym np ∙ subst (λ (m : ℕ). as-pending (object s m) ≡ some q) d e))) ∙ e) a
     still g p (by-gather v e a) = by-gather v (ap as-awaited (object-put-other s o p x (λ d. absurd-some (sym na ∙ subst (λ (m : ℕ). as-awaited (object s m) ≡ some v) d e))) ∙ e) a
+    still g p (by-nobody j) = by-nobody j
     still g p (by-task t l lv a) = by-task t (subst (λ (h : Header). t < h .next) (sym (header-put-object s o x)) l) (unfold task put-object in lv) (unfold task put-object in a)
 
     roots-was : {g t : ℕ} → Roots u g t → Roots s g t
@@ -178,9 +180,9 @@ plain-sourced s o x z low fits np na xa k =
 
 -- ---- the cycle
 
-moment-sourced : (s : Store) (m : Moment) → Sized s → MomentFits m → Sourced s → Sourced (set-moment s m)
+moment-sourced : {G : ℕ → Type 0} (s : Store) (m : Moment) → Sized s → MomentFits m → Sourced G s → Sourced G (set-moment s m)
 moment-sourced s m z f k =
-    all-of _ (but-same s (set-moment s m) (λ o. moment-row s m o) (λ t. unfold task set-moment put-header in refl) (λ t. unfold task set-moment put-header in refl) (λ p. unfold place set-moment put-header in refl)
+    all-of _ (but-same _ s (set-moment s m) (λ o. moment-row s m o) (λ t. unfold task set-moment put-header in refl) (λ t. unfold task set-moment put-header in refl) (λ p. unfold place set-moment put-header in refl)
     (head .0) (head .1) (but-of s k))
   where
     head : (header (set-moment s m) .made ≡ header s .made) × (header (set-moment s m) .next ≡ header s .next)
@@ -190,9 +192,9 @@ moment-sourced s m z f k =
         unfold set-moment in (header-put-header s _ z (record { made-fits = h .made-fits; used-fits = h .used-fits; calls-fit = h .calls-fit; next-fits = h .next-fits; moment-fits = f })) in
         (ap (λ (y : Header). y .made) e, ap (λ (y : Header). y .next) e)
 
-queue-sourced : (s : Store) (q : ReadyQueue) → Sourced s → Sourced (put-queue s q)
+queue-sourced : {G : ℕ → Type 0} (s : Store) (q : ReadyQueue) → Sourced G s → Sourced G (put-queue s q)
 queue-sourced s q k =
-    all-of _ (but-same s (put-queue s q) (λ o. unfold object put-queue in refl) (λ t. unfold task put-queue in refl) (λ t. unfold task put-queue in refl) (λ p. unfold place put-queue in refl)
+    all-of _ (but-same _ s (put-queue s q) (λ o. unfold object put-queue in refl) (λ t. unfold task put-queue in refl) (λ t. unfold task put-queue in refl) (λ p. unfold place put-queue in refl)
     (unfold header put-queue in refl) (unfold header put-queue in refl) (but-of s k))
 
 state-lives : (s : Store) (t v : ℕ) (x : TaskState) → Sized s → t < task-limit → is-live x ≡ is-live (task s t .state) → is-live (task (set-state s t x) v .state) ≡ is-live (task s v .state)
@@ -206,16 +208,16 @@ state-lives s t v x z l e = by (ℕ-discrete v t)
     by (yes q) = subst (λ (m : ℕ). is-live (task (put-task s t r) m .state) ≡ is-live (task s m .state)) (sym q) (live-put-task s t r z l ∙ e)
     by (no ne) = ap (λ (y : Task). is-live (y .state)) (task-put-other s t v r ne)
 
-pub state-sourced : (s : Store) (t : ℕ) (x : TaskState) → Sized s → t < task-limit → StateFits x → is-live x ≡ is-live (task s t .state) → Sourced s → Sourced (set-state s t x)
+pub state-sourced : {G : ℕ → Type 0} (s : Store) (t : ℕ) (x : TaskState) → Sized s → t < task-limit → StateFits x → is-live x ≡ is-live (task s t .state) → Sourced G s → Sourced G (set-state s t x)
 state-sourced s t x z l f e k =
-    all-of _ (but-same s (set-state s t x) (λ o. unfold object set-state put-task in refl) (λ v. state-lives s t v x z l e) (λ v. awaiter-kept s t v x z l f) (λ p. unfold place set-state put-task in refl)
+    all-of _ (but-same _ s (set-state s t x) (λ o. unfold object set-state put-task in refl) (λ v. state-lives s t v x z l e) (λ v. awaiter-kept s t v x z l f) (λ p. unfold place set-state put-task in refl)
     (unfold header set-state put-task in refl) (unfold header set-state put-task in refl) (but-of s k))
 
-run-sourced : (s : Store) (t : ℕ) (h : How) → Sized s → t < task-limit → is-live (task s t .state) ≡ true → Sourced s → Sourced (run s t h .store)
+run-sourced : {G : ℕ → Type 0} (s : Store) (t : ℕ) (h : How) → Sized s → t < task-limit → is-live (task s t .state) ≡ true → Sourced G s → Sourced G (run s t h .store)
 unfolding run
 run-sourced s t h z l e k = moment-sourced (set-state s t TaskState.Running) (Moment.Running (task-id t)) (sized-set-state s t TaskState.Running z) l (state-sourced s t TaskState.Running z l tt (sym e) k)
 
-yield-sourced : (s : Store) → Sized s → Sourced s → Sourced (yield s .store)
+yield-sourced : {G : ℕ → Type 0} (s : Store) → Sized s → Sourced G s → Sourced G (yield s .store)
 unfolding yield
 yield-sourced s z k = moment-sourced s Moment.Waiting z tt k
 
@@ -237,31 +239,31 @@ new-low (Object.Coroutine g CoroutineState.Completed) f e h = absurd-some e
 new-low (Object.ExternalFuture c x) f e h = absurd-some e
 new-low (Object.GatherFuture g n x) f e h = absurd-some e
 
-module _ (D : ℕ → Type 0) (hd : Header) where
+module _ (G : ℕ → Type 0) (D : ℕ → Type 0) (hd : Header) where
   room-of : {P : ℕ → Type 0} {r : ℕ → Bool} (s : Store) (t : ℕ) → t < hd .next → SoundDuring P r D hd s → t < task-limit
   unfolding view
   room-of s t l h = omega (arith, subst (λ (y : Header). t < y .next) (sym (h .head)) l, h .kept .but .fits .next-fits)
 
   pub Keeps : (Store → ℕ → Switched) → Type 0
-  Keeps act = (s : Store) (t : ℕ) → t < hd .next → Activated (task s t .state) → SoundDuring Nothing idle D hd s → Sourced s → Sourced (act s t .store)
+  Keeps act = (s : Store) (t : ℕ) → t < hd .next → Activated (task s t .state) → SoundDuring Nothing idle D hd s → Sourced G s → Sourced G (act s t .store)
 
   module _ (act : Store → ℕ → Switched) (go : Keeps act) where
-    pub next-sourced : (s : Store) → SoundDuring Nothing idle D hd s → Sourced s → Sourced (resume-next act s .store)
+    pub next-sourced : (s : Store) → SoundDuring Nothing idle D hd s → Sourced G s → Sourced G (resume-next act s .store)
     unfolding Keeps put-queue task
     next-sourced s h k =
-        next-by D hd (λ x y. Sourced (x .store)) act act s h (yield-sourced s (h .kept .memory .sized) k)
+        next-by D hd (λ x y. Sourced G (x .store)) act act s h (yield-sourced s (h .kept .memory .sized) k)
         (λ q u l off r m. go (put-queue s q) u l (ready-activated _ r) m (queue-sourced s q k))
 
-    pub exit-sourced : (d : Delivery) → DeliveryEnds idle D hd d → ((u : ℕ) → d .woken ≡ some u → Activated (task (remove-from-ready-queue (d .store) u) u .state)) → Sourced (d .store)
-        → Sourced (resume-after-task-exit act d .store)
+    pub exit-sourced : (d : Delivery) → DeliveryEnds idle D hd d → ((u : ℕ) → d .woken ≡ some u → Activated (task (remove-from-ready-queue (d .store) u) u .state)) → Sourced G (d .store)
+        → Sourced G (resume-after-task-exit act d .store)
     unfolding Keeps remove-from-ready-queue put-queue task
     exit-sourced d h active k =
-        exit-by D hd (λ x y. Sourced (x .store)) act act d h (yield-sourced (d .store) (h .mid .kept .memory .sized) k)
+        exit-by D hd (λ x y. Sourced G (x .store)) act act d h (yield-sourced (d .store) (h .mid .kept .memory .sized) k)
         (λ q u l off r m. go (put-queue (d .store) q) u l (ready-activated _ r) m (queue-sourced (d .store) q k))
         (λ q u e l off m. go (put-queue (d .store) q) u l (active u e) m (queue-sourced (d .store) q k))
 
     pub fails-sourced : (s : Store) (t : ℕ) (e : Error) (r : ℕ → Bool) → ErrorFits e → suc t < hd .next → T (is-live (task s (suc t) .state)) → is-blocked (task s (suc t) .state) ≡ false
-        → ((u : ℕ) → (u ≡ suc t → ⊥) → r u ≡ false) → SoundDuring Nothing r D hd s → Sourced s → Sourced (handle-task-failure act s (suc t) e .store)
+        → ((u : ℕ) → (u ≡ suc t → ⊥) → r u ≡ false) → SoundDuring Nothing r D hd s → Sourced G s → Sourced G (handle-task-failure act s (suc t) e .store)
     unfolding handle-task-failure
     fails-sourced s t e r f l live free still h k =
         let a : Awaiter = task s (suc t) .awaiter in
@@ -269,7 +271,7 @@ module _ (D : ℕ → Type 0) (hd : Header) where
         let d : Delivery = deliver-awaiter-failure s a e in
         let rises = task-delivering s t h l live in
         let sent : DeliveryEnds r D hd d = failure-keeps r D hd e f s (task s (suc t) .coroutine .0) a rises in
-        let k1 : Sourced (d .store) = failure-sourced r D hd e f s (task s (suc t) .coroutine .0) a rises (but-of s k) in
+        let k1 : Sourced G (d .store) = failure-sourced _ r D hd e f s (task s (suc t) .coroutine .0) a rises (but-of s k) in
         exit-sourced _ (record {
           mid = remove-keeps (d .store) (suc t) (sent .mid) (subst (λ (y : Header). suc t < y .next) (sym (sent .mid .head)) l) (exited (suc t)) idle refl still;
           woken = sent .woken;
@@ -294,7 +296,7 @@ module _ (D : ℕ → Type 0) (hd : Header) where
         gone s g o e z f a q af =
             subst (λ (b : Awaiter). as-awaited (object (deliver-awaiter-failure s b e .store) g) ≡ none) (sym q) (failure-settles g s o e z (subst AwaiterFits q af .0) f)
 
-    start-sourced : (s : Store) (t : ℕ) → suc t < hd .next → task s (suc t) .state ≡ TaskState.Unstarted → SoundDuring Nothing idle D hd s → Sourced s → Sourced (start-task act s (suc t) .store)
+    start-sourced : (s : Store) (t : ℕ) → suc t < hd .next → task s (suc t) .state ≡ TaskState.Unstarted → SoundDuring Nothing idle D hd s → Sourced G s → Sourced G (start-task act s (suc t) .store)
     unfolding start-task
     start-sourced s t l fr h k = by (new-function (object s o)) refl
       where
@@ -310,16 +312,16 @@ module _ (D : ℕ → Type 0) (hd : Header) where
             same : (x : Object) → is-live (task (put-object s o x) (suc t) .state) ≡ is-live (task s (suc t) .state)
             same x = unfold task put-object in refl
 
-        by : (n : Option ℕ) → new-function (object s o) ≡ n → Sourced (start-by act s (suc t) o n .store)
+        by : (n : Option ℕ) → new-function (object s o) ≡ n → Sourced G (start-by act s (suc t) o n .store)
         by none e = unfold start-by in (fails-sourced s t Error.CoroutineReuse idle tt l (rw fr tt) (rw fr) (λ u d. refl) h k)
         by (some f) e =
             let x : Object = Object.Coroutine f CoroutineState.Running in
             let p = new-plain (object s o) f e in
-            let k1 : Sourced (put-object s o x) = plain-sourced s o x z (task-fits s (suc t) .coroutine-fits) (new-low (object s o) f e (object-fits s o)) (p .0) (p .1) (unfold as-awaited in refl) k in
-            let k2 : Sourced (run (put-object s o x) (suc t) (start o f) .store) = run-sourced (put-object s o x) (suc t) (start o f) (sized-put-object s o x z) (room-of s (suc t) l h) (live-row x) k1 in
+            let k1 : Sourced G (put-object s o x) = plain-sourced s o x z (task-fits s (suc t) .coroutine-fits) (new-low (object s o) f e (object-fits s o)) (p .0) (p .1) (unfold as-awaited in refl) k in
+            let k2 : Sourced G (run (put-object s o x) (suc t) (start o f) .store) = run-sourced (put-object s o x) (suc t) (start o f) (sized-put-object s o x z) (room-of s (suc t) l h) (live-row x) k1 in
             unfold start-by in k2
 
-    state-kept3 : (s : Store) (t : ℕ) (x : TaskState) → t < hd .next → task s t .state ≡ x → Activated x → SoundDuring Nothing idle D hd s → Sourced s → Sourced (activate-state act s t x .store)
+    state-kept3 : (s : Store) (t : ℕ) (x : TaskState) → t < hd .next → task s t .state ≡ x → Activated x → SoundDuring Nothing idle D hd s → Sourced G s → Sourced G (activate-state act s t x .store)
     unfolding activate-state view
     state-kept3 s zero _ l e starts h k = absurd (main-started (h .kept .but) e)
     state-kept3 s (suc t) _ l e starts h k = start-sourced s t l e h k

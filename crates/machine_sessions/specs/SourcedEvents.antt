@@ -46,7 +46,7 @@ use Rattle.machine_theorems.specs.Soundness.Cycle.{spawned-of, coroutine-is}
 use Rattle.machine_theorems.specs.Soundness.Results.{low, resolve-delivering, fail-delivering, MayApply, AllApply, host-fits, result-keeps}
 use Rattle.machine_laws.specs.DeliveryLaws.{pending-object}
 use Rattle.machine_theorems.specs.Panics.NoPanicWoken.{success-activated}
-use Rattle.machine_sessions.specs.NoStall.{Source, by-external, by-gather, by-task, Roots, root, above, Sourced, sourced-like}
+use Rattle.machine_sessions.specs.NoStall.{Source, by-external, by-gather, by-nobody, by-task, Roots, root, above, Sourced, sourced-like}
 use Rattle.machine_sessions.specs.SourcedPlan.{SourcedBut, OnWay, but-of, all-of, but-same}
 use Rattle.machine_sessions.specs.SourcedClimb.{failure-sourced, apart}
 use Rattle.machine_sessions.specs.SourcedFill.{success-sourced}
@@ -54,9 +54,9 @@ use Rattle.machine_sessions.specs.SourcedCycle.{removed-but, plain-sourc
 
 -- ---- an external settles: its own place is on its way
 
-pub external-sourced : (s : Store) (o : ℕ) (p : PendingExternal) (x : Object) → Sized s → o < object-limit → ObjectFits x → as-pending (object s o) ≡ some p → as-awaited x ≡ none → Sourced s
-    → SourcedBut (OnWay (p .awaiter) o) (put-object s o x)
-external-sourced s o p x z low fits was xa k =
+pub external-sourced : {G : ℕ → Type 0} (s : Store) (o : ℕ) (p : PendingExternal) (x : Object) → Sized s → o < object-limit → ObjectFits x → as-pending (object s o) ≡ some p → as-awaited x ≡ none → Sourced G s
+    → SourcedBut G (OnWay (p .awaiter) o) (put-object s o x)
+external-sourced {G} s o p x z low fits was xa k =
     record {
       sources = λ g q w l e op n. still g q n (k .sources g q w (subst (λ (h : Header). g < h .made) (header-put-object s o x) l) (before g w e)
           (record { at = op .at; under = op .under; is-open = op .is-open; names = unfold place put-object in (op .names) }));
@@ -77,56 +77,57 @@ external-sourced s o p x z low fits was xa k =
     roots-was (root g t w e a) = root g t w (before g w e) a
     roots-was (above g t j y w e a q) = above g t j y w (before g w e) a (roots-was q)
 
-    still : (g q : ℕ) → (OnWay (p .awaiter) o g q → ⊥) → Source s g q → Source u g q
+    still : (g q : ℕ) → (OnWay (p .awaiter) o g q → ⊥) → Source G s g q → Source G u g q
     still g q n (by-external y e a) = by (ℕ-discrete q o)
       where
-        by : Dec (q ≡ o) → Source u g q
+        by : Dec (q ≡ o) → Source G u g q
         by (yes d) =
             let same : p ≡ y = Option·some-injective p y (sym was ∙ subst (λ (m : ℕ). as-pending (object s m) ≡ some y) d e) in
             absurd (n (ap (λ (j : PendingExternal). j .awaiter) same ∙ (a ∙ ap (λ (m : ℕ). Awaiter.GatherSlot (heap-id g) (heap-id m)) d), d))
         by (no ne) = by-external y (ap as-pending (object-put-other s o q x ne) ∙ e) a
     still g q n (by-gather v e a) = by-gather v (ap as-awaited (object-put-other s o q x (λ d. apart (object s o) p v was (subst (λ (m : ℕ). as-awaited (object s m) ≡ some v) d e))) ∙ e) a
+    still g q n (by-nobody j) = by-nobody j
     still g q n (by-task t l lv a) = by-task t (subst (λ (h : Header). t < h .next) (sym (header-put-object s o x)) l) (unfold task put-object in lv) (unfold task put-object in a)
 
 -- ---- results
 
-module _ {r : ℕ → Bool} {D : ℕ → Type 0} {hd : Header} (s : Store) (h : SoundDuring Nothing r D hd s) (k : Sourced s) where
-  found-sourced : (c : ℕ) (f : ℕ → PendingExternal → Store) → ((o : ℕ) (p : PendingExternal) → o < header s .made → as-pending (object s o) ≡ some p → Sourced (f o p)) → Sourced (settle-found s (pending-external s c) f)
+module _ (G : ℕ → Type 0) {r : ℕ → Bool} {D : ℕ → Type 0} {hd : Header} (s : Store) (h : SoundDuring Nothing r D hd s) (k : Sourced G s) where
+  found-sourced : (c : ℕ) (f : ℕ → PendingExternal → Store) → ((o : ℕ) (p : PendingExternal) → o < header s .made → as-pending (object s o) ≡ some p → Sourced G (f o p)) → Sourced G (settle-found s (pending-external s c) f)
   found-sourced c f g = by (pending-external s c) refl
     where
-      at : (o : ℕ) → o < header s .made → (p : Option PendingExternal) → as-pending (object s o) ≡ p → Sourced (settle-pending s p (f o))
+      at : (o : ℕ) → o < header s .made → (p : Option PendingExternal) → as-pending (object s o) ≡ p → Sourced G (settle-pending s p (f o))
       at o l none e = unfold settle-pending in k
       at o l (some p) e = unfold settle-pending in (g o p l e)
 
-      by : (o : Option ℕ) → pending-external s c ≡ o → Sourced (settle-found s o f)
+      by : (o : Option ℕ) → pending-external s c ≡ o → Sourced G (settle-found s o f)
       by none e = unfold settle-found in k
       by (some o) e = unfold settle-found in (at o (low s h c o e) (as-pending (object s o)) refl)
 
   call-fits : (o : ℕ) (p : PendingExternal) → as-pending (object s o) ≡ some p → ObjectFits (Object.ExternalFuture (p .call) (ExternalFutureState.Pending (p .awaiter) (p .stored)))
   call-fits o p e = subst ObjectFits (pending-object (object s o) p e) (object-fits s o)
 
-  resolve-sourced : (c : ℕ) (v : Value) → T (value-known (header s .made) (object s) v) → Sourced (resolve-future s c v)
+  resolve-sourced : (c : ℕ) (v : Value) → T (value-known (header s .made) (object s) v) → Sourced G (resolve-future s c v)
   unfolding resolve-future resolve-pending view
   resolve-sourced c v g =
       found-sourced c _ (λ o p l e.
       let i = resolve-delivering s h v g o p l e in
       let m : o < object-limit = omega (arith, l, header-fits s .made-fits) in
-      success-sourced r D hd _ o (p .awaiter) (value-or (p .stored) v) i
+      success-sourced _ r D hd _ o (p .awaiter) (value-or (p .stored) v) i
       (external-sourced s o p _ (h .kept .memory .sized) m (call-fits o p e .0, value-fits _ _ _ (i .mid .kept .but .fits .made-fits) (i .known)) e (unfold as-awaited in refl) k))
 
-  fail-future-sourced : (c : ℕ) (x : Error) → ErrorFits x → Sourced (fail-future s c x)
+  fail-future-sourced : (c : ℕ) (x : Error) → ErrorFits x → Sourced G (fail-future s c x)
   unfolding fail-future fail-pending
   fail-future-sourced c x f =
       found-sourced c _ (λ o p l e.
       let i = fail-delivering s h x f o p l e in
       let m : o < object-limit = omega (arith, l, header-fits s .made-fits) in
-      failure-sourced r D hd x f _ o (p .awaiter) i (external-sourced s o p _ (h .kept .memory .sized) m (call-fits o p e .0, f) e (unfold as-awaited in refl) k))
+      failure-sourced _ r D hd x f _ o (p .awaiter) i (external-sourced s o p _ (h .kept .memory .sized) m (call-fits o p e .0, f) e (unfold as-awaited in refl) k))
 
-  result-sourced : (x : Result) → MayApply (hd .made) D x → Sourced (apply-result s x)
+  result-sourced : (x : Result) → MayApply (hd .made) D x → Sourced G (apply-result s x)
   unfolding apply-result
   result-sourced x m = by (eqb (x .kind) 0) refl (eqb (x .kind) 1) (eqb (x .kind) 2) (eqb (x .kind) 3)
     where
-      by : (a : Bool) → eqb (x .kind) 0 ≡ a → (b c d : Bool) → Sourced (pick a (resolve-future s (x .call) (to-value (x .tag) (x .number)))
+      by : (a : Bool) → eqb (x .kind) 0 ≡ a → (b c d : Bool) → Sourced G (pick a (resolve-future s (x .call) (to-value (x .tag) (x .number)))
           (pick b (fail-future s (x .call) (to-error 0 (x .number))) (pick c s (pick d (fail-future s (x .call) Error.NotFound) (fail-future s (x .call) Error.ModuleFile)))))
       by true e b c d =
           resolve-sourced (x .call) (to-value (x .tag) (x .number))
@@ -136,27 +137,27 @@ module _ {r : ℕ → Bool} {D : ℕ → Type 0} {hd : Header} (s : Store) (h : 
       by false e false false true = fail-future-sourced (x .call) Error.NotFound tt
       by false e false false false = fail-future-sourced (x .call) Error.ModuleFile tt
 
-pub results-sourced : {r : ℕ → Bool} {D : ℕ → Type 0} {hd : Header} (xs : List Result) (s : Store) → AllApply (hd .made) D xs → SoundDuring Nothing r D hd s → Sourced s → Sourced (apply-future-results s xs)
+pub results-sourced : {G : ℕ → Type 0} {r : ℕ → Bool} {D : ℕ → Type 0} {hd : Header} (xs : List Result) (s : Store) → AllApply (hd .made) D xs → SoundDuring Nothing r D hd s → Sourced G s → Sourced G (apply-future-results s xs)
 unfolding apply-future-results AllApply
 results-sourced [] s a h k = k
-results-sourced (x ∷ xs) s a h k = results-sourced xs (apply-result s x) (a .1) (result-keeps s x (a .0) h) (result-sourced s h k x (a .0))
+results-sourced (x ∷ xs) s a h k = results-sourced xs (apply-result s x) (a .1) (result-keeps s x (a .0) h) (result-sourced _ s h k x (a .0))
 
 -- ---- a failure of the running task
 
-module _ (s : Store) (h : SoundStore s) (k : Sourced s) where
-  pub failed-sourced : (t : ℕ) (e : Error) → header s .moment ≡ Moment.Running (task-id (suc t)) → ErrorFits e → Sourced (handle-task-failure activate s (suc t) e .store)
+module _ (G : ℕ → Type 0) (s : Store) (h : SoundStore s) (k : Sourced G s) where
+  pub failed-sourced : (t : ℕ) (e : Error) → header s .moment ≡ Moment.Running (task-id (suc t)) → ErrorFits e → Sourced G (handle-task-failure activate s (suc t) e .store)
   failed-sourced t e m f =
-      fails-sourced (λ o. T (is-completed (kind (object s o)))) (header s) activate (activate-sourced (λ o. T (is-completed (kind (object s o)))) (header s)) s t e (runs-now (header s .moment)) f
+      fails-sourced _ (λ o. T (is-completed (kind (object s o)))) (header s) activate (activate-sourced _ (λ o. T (is-completed (kind (object s o)))) (header s)) s t e (runs-now (header s .moment)) f
       (runner-low s (suc t) h m) (runner-live s (suc t) h m) (ap is-blocked (runner-runs s (suc t) h m)) (others-commits-none s (suc t) h m) (during-of s h) k
 
   -- ---- a completion
 
-  pub complete-sourced : (t : ℕ) (v : Value) → header s .moment ≡ Moment.Running (task-id (suc t)) → T (value-known (header s .made) (object s) v) → Sourced (handle-task-completion s (suc t) v .store)
+  pub complete-sourced : (t : ℕ) (v : Value) → header s .moment ≡ Moment.Running (task-id (suc t)) → T (value-known (header s .made) (object s) v) → Sourced G (handle-task-completion s (suc t) v .store)
   unfolding handle-task-completion view
   complete-sourced t v m kn =
-      exit-sourced D0 (header s) activate (activate-sourced D0 (header s)) (deliver-awaiter-success left a v) (completion-delivery-ends s t v h m kn)
+      exit-sourced _ D0 (header s) activate (activate-sourced _ D0 (header s)) (deliver-awaiter-success left a v) (completion-delivery-ends s t v h m kn)
       (success-activated left a v (rises .mid .kept .memory .sized) (task-fits s (suc t) .awaiter-fits) (value-fits (header s .made) (object s) v (h .facts .but .fits .made-fits) kn))
-      (success-sourced idle D0 (header s) left o a v rises but)
+      (success-sourced _ idle D0 (header s) left o a v rises but)
     where
       D0 : ℕ → Type 0
       D0 o = T (is-completed (kind (object s o)))
@@ -179,10 +180,10 @@ module _ (s : Store) (h : SoundStore s) (k : Sourced s) where
       live : T (is-live (task s (suc t) .state))
       live = runner-live s (suc t) h m
 
-      done-sourced : Sourced done
+      done-sourced : Sourced G done
       done-sourced = by (coroutine-is (object s o) (spawned-of t (h .facts .but) (runner-low s (suc t) h m) live .coroutine))
         where
-          by : (f : ℕ) × (y : CoroutineState) × (object s o ≡ Object.Coroutine f y) → Sourced done
+          by : (f : ℕ) × (y : CoroutineState) × (object s o ≡ Object.Coroutine f y) → Sourced G done
           by x =
               let e : object s o ≡ Object.Coroutine (x .0) (x .1) = x .2 in
               plain-sourced s o (completed (object s o)) (h .memory .sized) (task-fits s (suc t) .coroutine-fits)
@@ -195,7 +196,7 @@ module _ (s : Store) (h : SoundStore s) (k : Sourced s) where
               none-awaited : (f : ℕ) (y : CoroutineState) → as-awaited (completed (Object.Coroutine f y)) ≡ none
               none-awaited f y = unfold completed as-awaited in refl
 
-      but : SourcedBut (OnWay a o) left
+      but : SourcedBut G (OnWay a o) left
       but =
           removed-but done (suc t) (exited (suc t)) (sized-put-object s o _ (h .memory .sized)) (omega (arith, runner-low s (suc t) h m, header-fits s .next-fits))
           (λ g p w e b. own g p (unfold task put-object in b)) done-sourced
@@ -207,8 +208,8 @@ module _ (s : Store) (h : SoundStore s) (k : Sourced s) where
 
 -- ---- an external takes an awaiter; a task blocks
 
-pub takes-sourced : (s : Store) (o : ℕ) (p : PendingExternal) (x : Object) → Sized s → o < object-limit → ObjectFits x → as-pending (object s o) ≡ some p → p .awaiter ≡ Awaiter.Nobody → as-awaited x ≡ none → Sourced s
-    → Sourced (put-object s o x)
+pub takes-sourced : {G : ℕ → Type 0} (s : Store) (o : ℕ) (p : PendingExternal) (x : Object) → Sized s → o < object-limit → ObjectFits x → as-pending (object s o) ≡ some p → p .awaiter ≡ Awaiter.Nobody → as-awaited x ≡ none → Sourced G s
+    → Sourced G (put-object s o x)
 takes-sourced s o p x z low fits was free xa k =
     let b = external-sourced s o p x z low fits was xa k in
     all-of _ (record { sources = λ g q w l e op n. b .sources g q w l e op (λ d. not-nobody g o (sym free ∙ d .0)); rising = b .rising })
@@ -216,7 +217,7 @@ takes-sourced s o p x z low fits was free xa k =
     not-nobody : (g o : ℕ) → Awaiter.Nobody ≡ Awaiter.GatherSlot (heap-id g) (heap-id o) → ⊥
     not-nobody g o q = let v : _≡_ {A = ℕ} 0 1 = cc in omega arith
 
-pub blocks-sourced : (s : Store) (t o : ℕ) → Sized s → t < task-limit → o < object-limit → is-live (task s t .state) ≡ true → Sourced s → Sourced (add-log (set-state s t (TaskState.Blocked (heap-id o))) (blocked t))
-blocks-sourced s t o z l m e k =
-    let j : Sourced (set-state s t (TaskState.Blocked (heap-id o))) = state-sourced s t (TaskState.Blocked (heap-id o)) z l m (sym e) k in
-    sourced-like (set-state s t (TaskState.Blocked (heap-id o))) _ (λ p. unfold object add-log in refl) (λ v. unfold task add-log in refl) (λ p. unfold place add-log in refl) (unfold header add-log in refl) j
+pub blocks-sourced : {G : ℕ → Type 0} (s : Store) (t o : ℕ) → Sized s → t < task-limit → o < object-limit → is-live (task s t .state) ≡ true → Sourced G s → Sourced G (add-log (set-state s t (TaskState.Blocked (heap-id o))) (blocked t))
+blocks-sourced {G} s t o z l m e k =
+    let j : Sourced G (set-state s t (TaskState.Blocked (heap-id o))) = state-sourced s t (TaskState.Blocked (heap-id o)) z l m (sym e) k in
+    sourced-like _ (set-state s t (TaskState.Blocked (heap-id o))) _ (λ p. unfold object add-log in refl) (λ v. unfold task add-log in refl) (λ p. unfold place add-log in refl) (unfold header add-log in refl) j

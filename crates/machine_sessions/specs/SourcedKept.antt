@@ -58,9 +58,8 @@ use Rattle.machine_theorems.specs.Gather.ReceivedSessions.{items-header}
 use Rattle.machine_laws.specs.Walk.{Commits, commit-kept}
 use Rattle.machine_sessions.specs.Tracked.{live-like, live-is, live-low, live-other, place-live, spawn-row, spawn-next}
 use Rattle.machine_sessions.specs.Calls.{read-back}
-use Rattle.machine_sessions.specs.StandingAwait.{ends}
-use Rattle.machine_sessions.specs.Standing.{Stands}
-use Rattle.machine_sessions.specs.NoStall.{Source, by-external, by-gather, by-task, Roots, root, above, Sourced, sourced-like}
+use Rattle.machine_sessions.specs.StandingEvents.{MainEnds}
+use Rattle.machine_sessions.specs.NoStall.{Source, by-external, by-gather, by-nobody, by-task, Roots, root, above, Sourced, sourced-like}
 use Rattle.machine_sessions.specs.SourcedPlan.{SourcedBut, but-of, all-of, but-same}
 use Rattle.machine_sessions.specs.SourcedCycle.{plain-sourced, next-sourced, activate-sourced}
 use Rattle.machine_sessions.specs.SourcedCommit.{commit-sourced}
@@ -86,21 +85,21 @@ lives-commits t =
 
 -- ---- await
 
-module _ (s : Store) (h : SoundStore s) (k : Sourced s) (t : ℕ) (m : header s .moment ≡ Moment.Running (task-id t)) where
+module _ (G : ℕ → Type 0) (s : Store) (h : SoundStore s) (k : Sourced G s) (t : ℕ) (m : header s .moment ≡ Moment.Running (task-id t)) where
   t-low : t < task-limit
   t-low = omega (arith, runner-low s t h m, header-fits s .next-fits)
 
   t-live : live s t ≡ true
   t-live = live-is s t (runner-low s t h m) (ap is-live (runner-runs s t h m))
 
-  go-on-sourced : (o n : ℕ) → o < object-limit → (x : Store) (p : Poll) → EndOk o t x p → Sized x → live x t ≡ true → Sourced x → Sourced (go-on t o n x p .store)
+  go-on-sourced : (o n : ℕ) → o < object-limit → (x : Store) (p : Poll) → EndOk o t x p → Sized x → live x t ≡ true → Sourced G x → Sourced G (go-on t o n x p .store)
   unfolding go-on stays
   go-on-sourced o n l x (ready v) e z lv c = c
   go-on-sourced o n l x (raised v) e z lv c = c
   go-on-sourced o n l x pending e z lv c =
-      next-sourced Nothing (header x) activate (activate-sourced Nothing (header x)) _ (waits-blocks o t x e) (blocks-sourced x t o z t-low l (live-low x t lv .1) c)
+      next-sourced _ Nothing (header x) activate (activate-sourced _ Nothing (header x)) _ (waits-blocks o t x e) (blocks-sourced x t o z t-low l (live-low x t lv .1) c)
 
-  external-sourced3 : (o : ℕ) (d : CallId) (x : ExternalFutureState) → o < header s .made → object s o ≡ Object.ExternalFuture d x → Sourced (await-external-future s t o d x .store)
+  external-sourced3 : (o : ℕ) (d : CallId) (x : ExternalFutureState) → o < header s .made → object s o ≡ Object.ExternalFuture d x → Sourced G (await-external-future s t o d x .store)
   unfolding await-external-future await-external await-pending go-on stays
   external-sourced3 o d (ExternalFutureState.Pending Awaiter.Nobody r) l e =
       let y : Object = Object.ExternalFuture d (ExternalFutureState.Pending (Awaiter.Task (task-id t)) r) in
@@ -108,8 +107,8 @@ module _ (s : Store) (h : SoundStore s) (k : Sourced s) (t : ℕ) (m : header s 
       let q : as-pending (object s o) ≡ some p = ap as-pending e ∙ (unfold as-pending in refl) in
       let low : o < object-limit = omega (arith, l, header-fits s .made-fits) in
       let f : ObjectFits (Object.ExternalFuture d (ExternalFutureState.Pending Awaiter.Nobody r)) = subst ObjectFits e (object-fits s o) in
-      let k1 : Sourced (put-object s o y) = takes-sourced s o p y (h .memory .sized) low (f .0, (t-low, f .1 .1)) q refl (unfold as-awaited in refl) k in
-      next-sourced (λ i. T (is-completed (kind (object s i)))) (header s) activate (activate-sourced (λ i. T (is-completed (kind (object s i)))) (header s)) _
+      let k1 : Sourced G (put-object s o y) = takes-sourced s o p y (h .memory .sized) low (f .0, (t-low, f .1 .1)) q refl (unfold as-awaited in refl) k in
+      next-sourced _ (λ i. T (is-completed (kind (object s i)))) (header s) activate (activate-sourced _ (λ i. T (is-completed (kind (object s i)))) (header s)) _
       (wait-external s t h m o p l q refl) (blocks-sourced (put-object s o y) t o (sized-put-object s o y (h .memory .sized)) t-low low (row-live o y) k1)
     where
       row-live : (o : ℕ) (y : Object) → is-live (task (put-object s o y) t .state) ≡ true
@@ -122,7 +121,7 @@ module _ (s : Store) (h : SoundStore s) (k : Sourced s) (t : ℕ) (m : header s 
   external-sourced3 o d (ExternalFutureState.Resolved v) l e = k
   external-sourced3 o d (ExternalFutureState.Failed v) l e = k
 
-  gather-sourced : (o f n : ℕ) (x : GatherState) → o < header s .made → object s o ≡ Object.GatherFuture f n x → Sourced (await-gather s t o x .store)
+  gather-sourced : (o f n : ℕ) (x : GatherState) → o < header s .made → object s o ≡ Object.GatherFuture f n x → Sourced G (await-gather s t o x .store)
   unfolding await-gather stays
   gather-sourced o f n GatherState.Pending l e =
       let low : o < object-limit = omega (arith, l, header-fits s .made-fits) in
@@ -133,7 +132,7 @@ module _ (s : Store) (h : SoundStore s) (k : Sourced s) (t : ℕ) (m : header s 
   gather-sourced o f n GatherState.Completed l e = k
   gather-sourced o f n (GatherState.Failed x) l e = k
 
-  coroutine-sourced : (o f : ℕ) (x : CoroutineState) → o < header s .made → object s o ≡ Object.Coroutine f x → Sourced (await-coroutine s t o f x .store)
+  coroutine-sourced : (o f : ℕ) (x : CoroutineState) → o < header s .made → object s o ≡ Object.Coroutine f x → Sourced G (await-coroutine s t o f x .store)
   unfolding await-coroutine stays
   coroutine-sourced o f CoroutineState.New l e =
       plain-sourced s o (Object.Coroutine f CoroutineState.Running) (h .memory .sized) (omega (arith, l, header-fits s .made-fits)) (subst ObjectFits e (object-fits s o))
@@ -141,11 +140,11 @@ module _ (s : Store) (h : SoundStore s) (k : Sourced s) (t : ℕ) (m : header s 
   coroutine-sourced o f CoroutineState.Running l e = k
   coroutine-sourced o f CoroutineState.Completed l e = k
 
-  await-sourced : (o : ℕ) → o < header s .made → Sourced (exec-get-awaitable s t o .store)
+  await-sourced : (o : ℕ) → o < header s .made → Sourced G (exec-get-awaitable s t o .store)
   unfolding exec-get-awaitable await-object
   await-sourced o l = by (object s o) refl
     where
-      by : (x : Object) → object s o ≡ x → Sourced (await-object s t o x .store)
+      by : (x : Object) → object s o ≡ x → Sourced G (await-object s t o x .store)
       by Object.Unmade e = k
       by (Object.Coroutine f x) e = coroutine-sourced o f x l e
       by (Object.ExternalFuture d x) e = external-sourced3 o d x l e
@@ -153,11 +152,11 @@ module _ (s : Store) (h : SoundStore s) (k : Sourced s) (t : ℕ) (m : header s 
 
 -- ---- an object is made
 
-made-sourced : (s u : Store) → SoundStore s → header u .made ≡ suc (header s .made) → header u .next ≡ header s .next → ((o : ℕ) → o < header s .made → object u o ≡ object s o)
+made-sourced : {G : ℕ → Type 0} (s u : Store) → SoundStore s → header u .made ≡ suc (header s .made) → header u .next ≡ header s .next → ((o : ℕ) → o < header s .made → object u o ≡ object s o)
     → as-awaited (object u (header s .made)) ≡ none → ((t : ℕ) → task u t ≡ task s t) → ((p : ℕ) → p < header s .used → place u p ≡ place s p)
-    → ((o : ℕ) → header s .made < o → as-awaited (object u o) ≡ as-awaited (object s o)) → Sourced s → Sourced u
+    → ((o : ℕ) → header s .made < o → as-awaited (object u o) ≡ as-awaited (object s o)) → Sourced G s → Sourced G u
 unfolding view
-made-sourced s u h made next rows new tasks places behind k =
+made-sourced {G} s u h made next rows new tasks places behind k =
     record {
       sources = λ g o w l e op.
           let gl : g < header s .made = low g w (subst (λ (n : ℕ). g < n) made l) e in
@@ -188,9 +187,10 @@ made-sourced s u h made next rows new tasks places behind k =
     roots-was (root g t w e a) = root g t w (was g w e) a
     roots-was (above g t p x w e a r) = above g t p x w (was g w e) a (roots-was r)
 
-    still : (g o : ℕ) → o < header s .made → Source s g o → Source u g o
+    still : (g o : ℕ) → o < header s .made → Source G s g o → Source G u g o
     still g o l (by-external p e a) = by-external p (ap as-pending (rows o l) ∙ e) a
     still g o l (by-gather w e a) = by-gather w (ap as-awaited (rows o l) ∙ e) a
+    still g o l (by-nobody j) = by-nobody j
     still g o l (by-task t m lv a) = by-task t (subst (λ (n : ℕ). t < n) (sym next) m) (ap (λ (y : Task). is-live (y .state)) (tasks t) ∙ lv) (ap (λ (y : Task). y .awaiter) (tasks t) ∙ a)
 
 -- what `add-object` leaves
@@ -223,7 +223,7 @@ added s r n z m u =
         header-put-object (put-header s i) (header s .made) r
         ∙ header-put-header s i z (record { made-fits = omega arith; used-fits = u; calls-fit = f .calls-fit; next-fits = f .next-fits; moment-fits = f .moment-fits })
 
-added-sourced : (s u : Store) (r : Object) → SoundStore s → Added s u r → as-awaited (to-object (object-words r)) ≡ none → Sourced s → Sourced u
+added-sourced : {G : ℕ → Type 0} (s u : Store) (r : Object) → SoundStore s → Added s u r → as-awaited (to-object (object-words r)) ≡ none → Sourced G s → Sourced G u
 added-sourced s u r h a n k =
     made-sourced s u h (a .made) (a .next) (λ o l. a .other o (λ q. not-suc-le-zero {n = 0} (omega (arith, l)))) (ap as-awaited (a .row) ∙ n) (a .tasks) (λ p l. a .places p)
     (λ o l. ap as-awaited (a .other o (λ q. not-suc-le-zero {n = 0} (omega (arith, l))))) k
@@ -233,7 +233,7 @@ unfolding put-items
 items-places [] s p q l = refl
 items-places (o ∷ os) s p q l = items-places os (put-place s p _) (p + 1) q (omega arith) ∙ place-put-other s p q _ (λ e. not-suc-le-zero {n = 0} (omega (arith, l)))
 
-items-objects : (os : List ℕ) (s : Store) (p q : ℕ) → object (put-items s p os) q ≡ object s q
+pub items-objects : (os : List ℕ) (s : Store) (p q : ℕ) → object (put-items s p os) q ≡ object s q
 unfolding put-items object put-place
 items-objects [] s p q = refl
 items-objects (o ∷ os) s p q = items-objects os (put-place s p (record { item = heap-id o; result = OptionValue.None })) (p + 1) q
@@ -243,7 +243,7 @@ unfolding put-items task put-place
 items-rows3 [] s p t = refl
 items-rows3 (o ∷ os) s p t = items-rows3 os (put-place s p (record { item = heap-id o; result = OptionValue.None })) (p + 1) t
 
-module _ (s : Store) (h : SoundStore s) (k : Sourced s) where
+module _ (G : ℕ → Type 0) (s : Store) (h : SoundStore s) (k : Sourced G s) where
   z : Sized s
   z = h .memory .sized
 
@@ -258,9 +258,9 @@ module _ (s : Store) (h : SoundStore s) (k : Sourced s) where
   same-places : header s .used + 0 ≤ place-limit
   same-places = omega (arith, header-fits s .used-fits)
 
-  calls-sourced : header s .calls < call-limit → (Sourced (set-calls s (header s .calls + 1))) × (header (set-calls s (header s .calls + 1)) ≡ record { made = header s .made; used = header s .used; calls = header s .calls + 1; next = header s .next; moment = header s .moment })
+  calls-sourced : header s .calls < call-limit → (Sourced G (set-calls s (header s .calls + 1))) × (header (set-calls s (header s .calls + 1)) ≡ record { made = header s .made; used = header s .used; calls = header s .calls + 1; next = header s .next; moment = header s .moment })
   calls-sourced c = (
-    all-of _ (but-same s (set-calls s (header s .calls + 1)) (λ o. rows o) (λ t. unfold task set-calls put-header in refl) (λ t. unfold task set-calls put-header in refl)
+    all-of _ (but-same _ s (set-calls s (header s .calls + 1)) (λ o. rows o) (λ t. unfold task set-calls put-header in refl) (λ t. unfold task set-calls put-header in refl)
         (λ p. unfold place set-calls put-header in refl) (ap (λ (y : Header). y .made) head) (ap (λ (y : Header). y .next) head) (but-of s k)),
     head,
   )
@@ -273,7 +273,7 @@ module _ (s : Store) (h : SoundStore s) (k : Sourced s) where
           let f : HeaderFits (header s) = header-fits s in
           unfold set-calls in (header-put-header s _ z (record { made-fits = f .made-fits; used-fits = f .used-fits; calls-fit = omega arith; next-fits = f .next-fits; moment-fits = f .moment-fits }))
 
-  settled-sourced : (v : Value) → header s .calls < call-limit → header s .made < object-limit → Sourced (make-settled s v)
+  settled-sourced : (v : Value) → header s .calls < call-limit → header s .made < object-limit → Sourced G (make-settled s v)
   unfolding make-settled
   settled-sourced v c m =
       let hd = calls-sourced c .1 in
@@ -293,7 +293,7 @@ module _ (s : Store) (h : SoundStore s) (k : Sourced s) where
       rows : (o : ℕ) → object (set-calls s (header s .calls + 1)) o ≡ object s o
       rows o = unfold set-calls in (object-put-header s _ o)
 
-  gather-made : (os : List ℕ) → header s .made < object-limit → header s .used + length os ≤ place-limit → Sourced (make-gather s os)
+  gather-made : (os : List ℕ) → header s .made < object-limit → header s .used + length os ≤ place-limit → Sourced G (make-gather s os)
   unfolding make-gather
   gather-made os m u =
       let s1 : Store = put-items s (header s .used) os in
@@ -309,45 +309,45 @@ module _ (s : Store) (h : SoundStore s) (k : Sourced s) where
 
   -- ---- each event
 
-  complete-step : Stands Nothing s → (t : ℕ) (v : Value) → header s .moment ≡ Moment.Running (task-id t) → T (value-known (header s .made) (object s) v) → is-ended (header (task-completes s t v .store) .moment) ≡ false
-      → Sourced (task-completes s t v .store)
+  complete-step : (t : ℕ) (v : Value) → header s .moment ≡ Moment.Running (task-id t) → T (value-known (header s .made) (object s) v) → (t ≡ 0 → ⊥)
+      → Sourced G (task-completes s t v .store)
   unfolding task-completes end-main switched
-  complete-step st zero v m kn on = absurd (true≢false (sym (ends s h st) ∙ on))
-  complete-step st (suc t) v m kn on = rw (ne-eqb (suc t) 0 (λ e. not-suc-le-zero {n = 0} (omega arith))) (complete-sourced s h k t v m kn)
+  complete-step zero v m kn on = absurd (on refl)
+  complete-step (suc t) v m kn on = rw (ne-eqb (suc t) 0 (λ e. not-suc-le-zero {n = 0} (omega arith))) (complete-sourced _ s h k t v m kn)
 
-  fail-step : Stands Nothing s → (t n : ℕ) → header s .moment ≡ Moment.Running (task-id t) → n < u32-limit → is-ended (header (task-fails s t (Error.Script n) .store) .moment) ≡ false
-      → Sourced (task-fails s t (Error.Script n) .store)
+  fail-step : (t n : ℕ) → header s .moment ≡ Moment.Running (task-id t) → n < u32-limit → (t ≡ 0 → ⊥)
+      → Sourced G (task-fails s t (Error.Script n) .store)
   unfolding task-fails end-main switched
-  fail-step st zero n m f on = absurd (true≢false (sym (ends s h st) ∙ on))
-  fail-step st (suc t) n m f on = rw (ne-eqb (suc t) 0 (λ e. not-suc-le-zero {n = 0} (omega arith))) (failed-sourced s h k t (Error.Script n) m f)
+  fail-step zero n m f on = absurd (on refl)
+  fail-step (suc t) n m f on = rw (ne-eqb (suc t) 0 (λ e. not-suc-le-zero {n = 0} (omega arith))) (failed-sourced _ s h k t (Error.Script n) m f)
 
-  resume-step3 : header s .moment ≡ Moment.Waiting → Sourced (resume-with-resolved-futures s .store)
+  resume-step3 : header s .moment ≡ Moment.Waiting → Sourced G (resume-with-resolved-futures s .store)
   unfolding resume-with-resolved-futures switched
   resume-step3 m =
-      pick-has (λ (x : Step). Sourced (x .store)) (eqb (s .queue .len) 0) k
-      (next-sourced (λ i. T (is-completed (kind (object s i)))) (header s) activate (activate-sourced (λ i. T (is-completed (kind (object s i)))) (header s)) s (only-changes-of s h m) k)
+      pick-has (λ (x : Step). Sourced G (x .store)) (eqb (s .queue .len) 0) k
+      (next-sourced _ (λ i. T (is-completed (kind (object s i)))) (header s) activate (activate-sourced _ (λ i. T (is-completed (kind (object s i)))) (header s)) s (only-changes-of s h m) k)
 
-  pub accept-sourced : (e : Event) → InRange e → says e .cancels ≡ false → refusal s e ≡ 0 → Stands Nothing s → is-ended (header (accept s e .store) .moment) ≡ false → Sourced (accept s e .store)
-  unfolding accept refusals make-coroutine make-pending InRange says nothing-said answer-await
-  accept-sourced (Event.coroutine f) i n r st on =
+  pub accept-sourced : (e : Event) → InRange e → says e .cancels ≡ false → refusal s e ≡ 0 → (MainEnds s e → ⊥) → Sourced G (accept s e .store)
+  unfolding accept refusals make-coroutine make-pending InRange says nothing-said answer-await MainEnds
+  accept-sourced (Event.coroutine f) i n r on =
       added-sourced s _ (Object.Coroutine f CoroutineState.New) h (added s (Object.Coroutine f CoroutineState.New) 0 z (not-full (pass 6 (full s) [] (running-rest s _ (refusal-rest s (Event.coroutine f) r)) .0)) same-places) (unfold as-awaited in refl) k
-  accept-sourced Event.call i n r st on = calls-sourced (number-left (pass 7 (no-number s) [] (running-rest s _ (refusal-rest s Event.call r)) .0)) .0
-  accept-sourced (Event.pending d x) i n r st on =
+  accept-sourced Event.call i n r on = calls-sourced (number-left (pass 7 (no-number s) [] (running-rest s _ (refusal-rest s Event.call r)) .0)) .0
+  accept-sourced (Event.pending d x) i n r on =
       added-sourced s _ (Object.ExternalFuture (call-id d) (ExternalFutureState.Pending Awaiter.Nobody x)) h
       (added s (Object.ExternalFuture (call-id d) (ExternalFutureState.Pending Awaiter.Nobody x)) 0 z (not-full (pass 6 (full s) [] (pass 5 _ _ (pass 4 _ _ (running-rest s _ (refusal-rest s (Event.pending d x) r)) .1) .1) .0)) same-places)
       (unfold as-awaited in refl) k
-  accept-sourced (Event.settled v) i n r st on =
+  accept-sourced (Event.settled v) i n r on =
       let q = pass 6 (full s) _ (pass 4 _ _ (running-rest s _ (refusal-rest s (Event.settled v) r)) .1) in
       settled-sourced v (number-left (pass 7 (no-number s) [] (q .1) .0)) (not-full (q .0))
-  accept-sourced (Event.gather os) i n r st on =
+  accept-sourced (Event.gather os) i n r on =
       let q = pass 6 (full s || ltb item-limit (length os) || ltb place-limit (header s .used + length os)) [] (pass 4 _ _ (running-rest s _ (refusal-rest s (Event.gather os) r)) .1) .0 in
       gather-made os (not-full (or-left (full s) (ltb item-limit (length os)) (or-left (full s || ltb item-limit (length os)) (ltb place-limit (header s .used + length os)) q)))
       (ltb-false place-limit (header s .used + length os) (or-right (full s || ltb item-limit (length os)) (ltb place-limit (header s .used + length os)) q))
-  accept-sourced (Event.await o) i n r st on = let q = refusal-rest s (Event.await o) r in await-sourced s h k (runner (header s .moment)) (running s h _ q) o (await-made s h o q)
-  accept-sourced (Event.complete v) i n r st on = let q = refusal-rest s (Event.complete v) r in complete-step st (runner (header s .moment)) v (running s h _ q) (complete-known s h v q) on
-  accept-sourced (Event.fail m) i n r st on = fail-step st (runner (header s .moment)) m (running s h _ (refusal-rest s (Event.fail m) r)) i on
-  accept-sourced (Event.results rs) i n r st on = results-sourced rs s (results-apply s h rs (refusal-rest s (Event.results rs) r)) (during-of s h) k
-  accept-sourced Event.resume i n r st on = resume-step3 (waiting s h [] (refusal-rest s Event.resume r) .0)
-  accept-sourced (Event.cancel t) i n r st on = absurd (true≢false n)
-  accept-sourced (Event.show o) i n r st on = k
-  accept-sourced Event.eager i n r st on = k
+  accept-sourced (Event.await o) i n r on = let q = refusal-rest s (Event.await o) r in await-sourced _ s h k (runner (header s .moment)) (running s h _ q) o (await-made s h o q)
+  accept-sourced (Event.complete v) i n r on = let q = refusal-rest s (Event.complete v) r in complete-step (runner (header s .moment)) v (running s h _ q) (complete-known s h v q) on
+  accept-sourced (Event.fail m) i n r on = fail-step (runner (header s .moment)) m (running s h _ (refusal-rest s (Event.fail m) r)) i on
+  accept-sourced (Event.results rs) i n r on = results-sourced rs s (results-apply s h rs (refusal-rest s (Event.results rs) r)) (during-of s h) k
+  accept-sourced Event.resume i n r on = resume-step3 (waiting s h [] (refusal-rest s Event.resume r) .0)
+  accept-sourced (Event.cancel t) i n r on = absurd (true≢false n)
+  accept-sourced (Event.show o) i n r on = k
+  accept-sourced Event.eager i n r on = k

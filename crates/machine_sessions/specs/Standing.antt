@@ -167,6 +167,7 @@ module _ {P : ℕ → Type 0} {r : ℕ → Bool} {D : ℕ → Type 0} {hd : Head
 pub record Right (x : Switched) : Type 0 where
   pub stood : Stands Nothing (x .store)
   pub waits-idle : (cs : List ℕ) → x .control ≡ waits cs → (header (x .store) .moment ≡ Moment.Waiting) × (entries (x .store .queue) ≡ [])
+  pub idle : header (x .store) .moment ≡ Moment.Waiting → entries (x .store .queue) ≡ []
 
 pub moment-head : (s : Store) (m : Moment) → Sized s → MomentFits m → (header (set-moment s m) .next ≡ header s .next) × (header (set-moment s m) .moment ≡ m)
 unfolding set-moment
@@ -185,6 +186,7 @@ yield-right s z e k =
     record {
       stood = stands-like s (set-moment s Moment.Waiting) (words .0) (words .1) (moment-head s Moment.Waiting z tt .0) k;
       waits-idle = λ cs q. (moment-head s Moment.Waiting z tt .1, ap entries (words .1) ∙ entries-none (s .queue) e);
+      idle = λ q. ap entries (words .1) ∙ entries-none (s .queue) e;
     }
   where
     words : (set-moment s Moment.Waiting .tasks ≡ s .tasks) × (set-moment s Moment.Waiting .queue ≡ s .queue)
@@ -192,6 +194,9 @@ yield-right s z e k =
 
 pub not-waits : {A : Type 0} (t : ℕ) (h : How) (cs : List ℕ) → runs t h ≡ waits cs → A
 not-waits t h cs e = let z : _≡_ {A = ℕ} 0 1 = cc in absurd (omega arith)
+
+pub not-waiting : {A : Type 0} (t : ℕ) → Moment.Running (task-id t) ≡ Moment.Waiting → A
+not-waiting t e = let z : _≡_ {A = ℕ} 0 1 = cc in absurd (omega arith)
 
 -- the exempt task runs
 run-right : (s : Store) (t : ℕ) (h : How) → Sized s → t < task-limit → is-live (task s t .state) ≡ true → Stands (λ u. u ≡ t) s → Right (run s t h)
@@ -201,6 +206,7 @@ run-right s t h z l lv k =
       stood = stands-like u (set-moment u (Moment.Running (task-id t))) (words .0) (words .1) (moment-head u (Moment.Running (task-id t)) (sized-set-state s t TaskState.Running z) l .0)
           (record { main = main-by (ℕ-discrete 0 t); stands = λ v m y n. by v m y (ℕ-discrete v t) });
       waits-idle = λ cs q. not-waits t h cs q;
+      idle = λ q. not-waiting t (sym (moment-head u (Moment.Running (task-id t)) (sized-set-state s t TaskState.Running z) l .1) ∙ q);
     }
   where
     r : Task

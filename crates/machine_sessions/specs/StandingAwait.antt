@@ -59,8 +59,8 @@ use Rattle.machine_sessions.specs.Tracked.{spawn-next, spawn-row}
 use Rattle.machine_sessions.specs.TrackedEvents.{items-tasks}
 use Rattle.machine_sessions.specs.Room.{room-for}
 use Rattle.machine.specs.DemandThree.{is-stalled}
-use Rattle.machine_sessions.specs.Standing.{Stands, stands-like, ready-put-task, Right, moment-head, not-waits, resume-right}
-use Rattle.machine_sessions.specs.StandingEvents.{OnlyChanges, StepRight, switched-right, awaited-right, row-stands, complete-right, failed-right, resume-step, results-stand}
+use Rattle.machine_sessions.specs.Standing.{Stands, stands-like, ready-put-task, Right, moment-head, not-waits, not-waiting, resume-right}
+use Rattle.machine_sessions.specs.StandingEvents.{MainEnds, OnlyChanges, StepRight, switched-right, awaited-right, row-stands, complete-right, failed-right, resume-step, results-stand}
 
 -- ---- the running task blocks
 
@@ -192,9 +192,9 @@ lined-commits =
 abbrev AwaitRight : Awaited → Type 0
 AwaitRight x = Right (record { store = x .store; control = x .control })
 
-stays-right : (s : Store) (t : ℕ) (h : How) (n : ℕ) → Stands Nothing s → AwaitRight (stays s t h n)
+stays-right : (s : Store) (t : ℕ) (h : How) (n : ℕ) → header s .moment ≡ Moment.Running (task-id t) → Stands Nothing s → AwaitRight (stays s t h n)
 unfolding stays
-stays-right s t h n k = record { stood = k; waits-idle = λ cs q. not-waits t h cs q }
+stays-right s t h n m k = record { stood = k; waits-idle = λ cs q. not-waits t h cs q; idle = λ q. not-waiting t (sym m ∙ q) }
 
 module _ (s : Store) (h : SoundStore s) (st : Stands Nothing s) (t : ℕ) (m : header s .moment ≡ Moment.Running (task-id t)) where
   t-low : t < task-limit
@@ -213,10 +213,10 @@ module _ (s : Store) (h : SoundStore s) (st : Stands Nothing s) (t : ℕ) (m : h
       }
 
   go-on-right : (o n : ℕ) (x : Store) (p : Poll) → EndOk o t x p → Lined x → AwaitRight (go-on t o n x p)
-  unfolding go-on
-  go-on-right o n x (ready v) e k = stays-right x t (value v) n (k .stood)
-  go-on-right o n x (raised v) e k = stays-right x t (raises v) n (k .stood)
-  go-on-right o n x pending e k = let r = resume-right Nothing (header x) b (waits-blocks o t x e) (blocks-stand x t o (k .sized) t-low (k .stood)) in record { stood = r .stood; waits-idle = r .waits-idle }
+  unfolding go-on view
+  go-on-right o n x (ready v) e k = stays-right x t (value v) n (e .after .moment) (k .stood)
+  go-on-right o n x (raised v) e k = stays-right x t (raises v) n (e .after .moment) (k .stood)
+  go-on-right o n x pending e k = let r = resume-right Nothing (header x) b (waits-blocks o t x e) (blocks-stand x t o (k .sized) t-low (k .stood)) in record { stood = r .stood; waits-idle = r .waits-idle; idle = r .idle }
     where
       b : Store
       b = add-log (set-state x t (TaskState.Blocked (heap-id o))) (blocked t)
@@ -229,32 +229,32 @@ module _ (s : Store) (h : SoundStore s) (st : Stands Nothing s) (t : ℕ) (m : h
       let w = resume-right (λ p. T (is-completed (kind (object s p)))) (header s) (add-log (set-state u t (TaskState.Blocked (heap-id o))) (blocked t))
       (wait-external s t h m o (record { call = c; awaiter = Awaiter.Nobody; stored = r }) l (ap as-pending e ∙ (unfold as-pending in refl)) refl)
       (blocks-stand u t o (sized-put-object s o y (h .memory .sized)) t-low (row-stands s o y st)) in
-      record { stood = w .stood; waits-idle = w .waits-idle }
-  external-right o c (ExternalFutureState.Pending (Awaiter.Task u) r) l e = stays-right s t _ 0 st
-  external-right o c (ExternalFutureState.Pending (Awaiter.GatherSlot g y) r) l e = stays-right s t _ 0 st
-  external-right o c (ExternalFutureState.Resolved v) l e = stays-right s t _ 0 st
-  external-right o c (ExternalFutureState.Failed v) l e = stays-right s t _ 0 st
+      record { stood = w .stood; waits-idle = w .waits-idle; idle = w .idle }
+  external-right o c (ExternalFutureState.Pending (Awaiter.Task u) r) l e = stays-right s t _ 0 m st
+  external-right o c (ExternalFutureState.Pending (Awaiter.GatherSlot g y) r) l e = stays-right s t _ 0 m st
+  external-right o c (ExternalFutureState.Resolved v) l e = stays-right s t _ 0 m st
+  external-right o c (ExternalFutureState.Failed v) l e = stays-right s t _ 0 m st
 
   gather-right : (o f n : ℕ) (x : GatherState) → o < header s .made → object s o ≡ Object.GatherFuture f n x → AwaitRight (await-gather s t o x)
   unfolding await-gather
   gather-right o f n GatherState.Pending l e =
       go-on-right o _ (commit-gather-tree s o (Awaiter.Task (task-id t)) .store) (commit-gather-tree s o (Awaiter.Task (task-id t)) .poll) (commit-keeps s t h m o f n l e)
       (commit-kept Lined lined-commits s o (Awaiter.Task (task-id t)) (omega (arith, l, header-fits s .made-fits)) lined-now)
-  gather-right o f n (GatherState.Awaited a k) l e = stays-right s t _ 0 st
-  gather-right o f n GatherState.Completed l e = stays-right s t _ 0 st
-  gather-right o f n (GatherState.Failed x) l e = stays-right s t _ 0 st
+  gather-right o f n (GatherState.Awaited a k) l e = stays-right s t _ 0 m st
+  gather-right o f n GatherState.Completed l e = stays-right s t _ 0 m st
+  gather-right o f n (GatherState.Failed x) l e = stays-right s t _ 0 m st
 
   coroutine-right : (o f : ℕ) (x : CoroutineState) → AwaitRight (await-coroutine s t o f x)
   unfolding await-coroutine
-  coroutine-right o f CoroutineState.New = stays-right (put-object s o (Object.Coroutine f CoroutineState.Running)) t (inline o) 0 (row-stands s o (Object.Coroutine f CoroutineState.Running) st)
-  coroutine-right o f CoroutineState.Running = stays-right s t _ 0 st
-  coroutine-right o f CoroutineState.Completed = stays-right s t _ 0 st
+  coroutine-right o f CoroutineState.New = stays-right (put-object s o (Object.Coroutine f CoroutineState.Running)) t (inline o) 0 (ap (λ (y : Header). y .moment) (header-put-object s o (Object.Coroutine f CoroutineState.Running)) ∙ m) (row-stands s o (Object.Coroutine f CoroutineState.Running) st)
+  coroutine-right o f CoroutineState.Running = stays-right s t _ 0 m st
+  coroutine-right o f CoroutineState.Completed = stays-right s t _ 0 m st
 
   unmade-not : (o : ℕ) → o < header s .made → object s o ≡ Object.Unmade → ⊥
   unfolding view
   unmade-not o l e = made-awaitable (h .facts .but) o l e
 
-  await-right : (o : ℕ) → o < header s .made → AwaitRight (exec-get-awaitable s t o)
+  pub await-right : (o : ℕ) → o < header s .made → AwaitRight (exec-get-awaitable s t o)
   unfolding exec-get-awaitable await-object
   await-right o l = by (object s o) refl
     where
@@ -267,12 +267,12 @@ module _ (s : Store) (h : SoundStore s) (st : Stands Nothing s) (t : ℕ) (m : h
 -- ---- the events that make
 
 -- an answer that tells neither who has control nor a stall
-only-changes-right : (u : Store) (a : Answer) → tells a .control ≡ none → is-stalled a ≡ false → Stands Nothing u → StepRight (record { store = u; answer = a })
+only-changes-right : {E : Type 0} (u : Store) (a : Answer) → tells a .control ≡ none → is-stalled a ≡ false → Stands Nothing u → StepRight E (record { store = u; answer = a })
 only-changes-right u a c n k = record { stood = λ e. k; waits-idle = λ cs q. absurd-some (sym c ∙ q); stalls-idle = λ q. absurd (true≢false (sym q ∙ n)) }
 
 -- the session has ended
-ended-right : (u : Store) (a : Answer) → tells a .control ≡ none → is-stalled a ≡ false → is-ended (header u .moment) ≡ true → StepRight (record { store = u; answer = a })
-ended-right u a c n e = record { stood = λ q. absurd (true≢false (sym e ∙ q)); waits-idle = λ cs q. absurd-some (sym c ∙ q); stalls-idle = λ q. absurd (true≢false (sym q ∙ n)) }
+ended-right : (u : Store) (a : Answer) → tells a .control ≡ none → is-stalled a ≡ false → StepRight (_≡_ {A = ℕ} 0 0) (record { store = u; answer = a })
+ended-right u a c n = record { stood = λ q. absurd (q refl); waits-idle = λ cs q. absurd-some (sym c ∙ q); stalls-idle = λ q. absurd (true≢false (sym q ∙ n)) }
 
 add-stands : (s : Store) (r : Object) (n : ℕ) → Sized s → header s .made < object-limit → header s .used + n ≤ place-limit → Stands Nothing s → Stands Nothing (add-object s r n)
 unfolding add-object
@@ -339,19 +339,19 @@ module _ (s : Store) (h : SoundStore s) (st : Stands Nothing s) where
   unfolding cleanup
   ends = ap is-ended (moment-head (put-queue (remove-from s 0 (header s .next)) empty-queue) Moment.Ended (sized-put-queue _ _ (remove-sized (header s .next) s 0 z)) tt .1) ∙ (unfold is-ended in refl)
 
-  complete-step : (t : ℕ) (v : Value) → header s .moment ≡ Moment.Running (task-id t) → T (value-known (header s .made) (object s) v) → StepRight (task-completes s t v)
+  complete-step : (t : ℕ) (v : Value) → header s .moment ≡ Moment.Running (task-id t) → T (value-known (header s .made) (object s) v) → StepRight (t ≡ 0) (task-completes s t v)
   unfolding task-completes end-main
-  complete-step zero v m k = ended-right (cleanup s) (Answer.finished v) (unfold tells done-only in refl) (unfold is-stalled in refl) ends
+  complete-step zero v m k = ended-right (cleanup s) (Answer.finished v) (unfold tells done-only in refl) (unfold is-stalled in refl)
   complete-step (suc t) v m k = rw (ne-eqb (suc t) 0 (λ e. not-suc-le-zero {n = 0} (omega arith))) (switched-right _ (complete-right s h st t v m k))
 
-  fail-step : (t n : ℕ) → header s .moment ≡ Moment.Running (task-id t) → n < u32-limit → StepRight (task-fails s t (Error.Script n))
+  fail-step : (t n : ℕ) → header s .moment ≡ Moment.Running (task-id t) → n < u32-limit → StepRight (t ≡ 0) (task-fails s t (Error.Script n))
   unfolding task-fails end-main
-  fail-step zero n m k = ended-right (cleanup s) (Answer.finished-error (Error.Script n)) (unfold tells done-only in refl) (unfold is-stalled in refl) ends
+  fail-step zero n m k = ended-right (cleanup s) (Answer.finished-error (Error.Script n)) (unfold tells done-only in refl) (unfold is-stalled in refl)
   fail-step (suc t) n m k = rw (ne-eqb (suc t) 0 (λ e. not-suc-le-zero {n = 0} (omega arith))) (switched-right _ (failed-right s h st t (Error.Script n) m k))
 
   -- Each event but cancel.
-  pub accept-right : (e : Event) → InRange e → says e .cancels ≡ false → refusal s e ≡ 0 → StepRight (accept s e)
-  unfolding accept refusals make-coroutine make-pending InRange says tells done-only is-stalled nothing-said
+  pub accept-right : (e : Event) → InRange e → says e .cancels ≡ false → refusal s e ≡ 0 → StepRight (MainEnds s e) (accept s e)
+  unfolding accept refusals make-coroutine make-pending InRange says tells done-only is-stalled nothing-said MainEnds
   accept-right (Event.coroutine f) i n r = only-changes-right _ _ refl refl (add-stands s _ 0 z (not-full (pass 6 (full s) [] (running-rest s _ (refusal-rest s (Event.coroutine f) r)) .0)) same-places st)
   accept-right Event.call i n r = only-changes-right _ _ refl refl (calls-stand (number-left (pass 7 (no-number s) [] (running-rest s _ (refusal-rest s Event.call r)) .0)))
   accept-right (Event.pending d x) i n r =

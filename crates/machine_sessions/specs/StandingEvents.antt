@@ -63,18 +63,34 @@ use Rattle.machine_sessions.specs.Standing.{Stands, stands-like, deliver
 abbrev pub OnlyChanges : Store → Type 0
 OnlyChanges u = (header u .moment ≡ Moment.Waiting) × (entries (u .queue) ≡ [])
 
--- what an event leaves
-pub record StepRight (x : Step) : Type 0 where
-  pub stood : is-ended (header (x .store) .moment) ≡ false → Stands Nothing (x .store)
+-- main ends the session
+unfoldable pub MainEnds : Store → Event → Type 0
+MainEnds s (Event.coroutine f) = ⊥
+MainEnds s Event.call = ⊥
+MainEnds s (Event.pending c r) = ⊥
+MainEnds s (Event.settled v) = ⊥
+MainEnds s (Event.gather os) = ⊥
+MainEnds s (Event.await o) = ⊥
+MainEnds s (Event.complete v) = runner (header s .moment) ≡ 0
+MainEnds s (Event.fail n) = runner (header s .moment) ≡ 0
+MainEnds s (Event.results rs) = ⊥
+MainEnds s Event.resume = ⊥
+MainEnds s (Event.cancel t) = ⊥
+MainEnds s (Event.show o) = ⊥
+MainEnds s Event.eager = ⊥
+
+-- what an event leaves, if main does not end there (E)
+pub record StepRight (E : Type 0) (x : Step) : Type 0 where
+  pub stood : (E → ⊥) → Stands Nothing (x .store)
   pub waits-idle : (cs : List ℕ) → tells (x .answer) .control ≡ some (waits cs) → OnlyChanges (x .store)
   pub stalls-idle : is-stalled (x .answer) ≡ true → OnlyChanges (x .store)
 
-pub switched-right : (x : Switched) → Right x → StepRight (switched x)
+pub switched-right : {E : Type 0} (x : Switched) → Right x → StepRight E (switched x)
 unfolding switched tells is-stalled
 switched-right x k =
     record { stood = λ e. k .stood; waits-idle = λ cs q. k .waits-idle cs (Option·some-injective (x .control) (waits cs) q); stalls-idle = λ q. absurd (true≢false (sym q)) }
 
-pub awaited-right : (x : Awaited) → Right (record { store = x .store; control = x .control }) → StepRight (answer-await x)
+pub awaited-right : {E : Type 0} (x : Awaited) → Right (record { store = x .store; control = x .control }) → StepRight E (answer-await x)
 unfolding answer-await tells is-stalled
 awaited-right x k =
     record { stood = λ e. k .stood; waits-idle = λ cs q. k .waits-idle cs (Option·some-injective (x .control) (waits cs) q); stalls-idle = λ q. absurd (true≢false (sym q)) }
@@ -131,14 +147,14 @@ module _ (s : Store) (h : SoundStore s) (st : Stands Nothing s) where
 
   -- ---- resume
 
-  pub resume-step : header s .moment ≡ Moment.Waiting → StepRight (resume-with-resolved-futures s)
+  pub resume-step : {E : Type 0} → header s .moment ≡ Moment.Waiting → StepRight E (resume-with-resolved-futures s)
   unfolding resume-with-resolved-futures
-  resume-step m = by (eqb (s .queue .len) 0) refl
+  resume-step {E} m = by (eqb (s .queue .len) 0) refl
     where
       none-there : s .queue .len ≡ 0 → entries (s .queue) ≡ []
       none-there e = unfold entries in (ap (λ (n : ℕ). take n (s .queue .ids)) e)
 
-      by : (b : Bool) → eqb (s .queue .len) 0 ≡ b → StepRight (pick b (record { store = s; answer = repeat-wait (pending-call-ids s) }) (switched (resume-next activate s)))
+      by : (b : Bool) → eqb (s .queue .len) 0 ≡ b → StepRight E (pick b (record { store = s; answer = repeat-wait (pending-call-ids s) }) (switched (resume-next activate s)))
       by true e =
           record {
             stood = λ x. st;

@@ -147,14 +147,14 @@ unstarted-words (TaskState.Woken v) = refl
 unstarted-words (TaskState.Raised e) = refl
 unstarted-words (TaskState.Blocked o) = refl
 
-task-back : (s : Store) (t : ℕ) (r : Task) → Sized s → t < task-limit → task (put-task s t r) t ≡ to-task (task-words r)
+pub task-back : (s : Store) (t : ℕ) (r : Task) → Sized s → t < task-limit → task (put-task s t r) t ≡ to-task (task-words r)
 unfolding task put-task task-at task-put
 task-back s t r z l = ap to-task (row-put-at task-codec (s .tasks) (task-start t) r (omega (arith, z .tasks-sized)))
 
-unstarted-back : (s : Store) (t : ℕ) (r : Task) → Sized s → t < task-limit → is-unstarted (task (put-task s t r) t .state) ≡ is-unstarted (r .state)
+pub unstarted-back : (s : Store) (t : ℕ) (r : Task) → Sized s → t < task-limit → is-unstarted (task (put-task s t r) t .state) ≡ is-unstarted (r .state)
 unstarted-back s t r z l = ap (λ (y : Task). is-unstarted (y .state)) (task-back s t r z l) ∙ unstarted-words (r .state)
 
-coroutine-back : (s : Store) (t : ℕ) (r : Task) → Sized s → t < task-limit → r .coroutine .0 < object-limit → task (put-task s t r) t .coroutine .0 ≡ r .coroutine .0
+pub coroutine-back : (s : Store) (t : ℕ) (r : Task) → Sized s → t < task-limit → r .coroutine .0 < object-limit → task (put-task s t r) t .coroutine .0 ≡ r .coroutine .0
 coroutine-back s t r z l f = ap (λ (y : Task). y .coroutine .0) (task-back s t r z l) ∙ mod-eq-of-lt f
 
 task-own-back : (s : Store) (t : ℕ) (r : Task) (c : ℕ) → Sized s → t < task-limit → c < object-limit → EndsTask c (r .awaiter) → EndsTask c (task (put-task s t r) t .awaiter)
