@@ -32,9 +32,13 @@ fn drive(program: &Path, input: &[u8]) -> String {
     lines
 }
 
-/// The Rust's lines, or that it panicked.
+/// The Rust's lines, or that it panicked; and what it cancelled.
+fn rust_and_cancels(input: &[u8]) -> (String, BTreeMap<&'static str, u64>) {
+    panic::catch_unwind(AssertUnwindSafe(|| session::run(input))).unwrap_or_else(|_| ("the Rust panicked\n".into(), BTreeMap::new()))
+}
+
 fn rust(input: &[u8]) -> String {
-    panic::catch_unwind(AssertUnwindSafe(|| session::lines(input))).unwrap_or_else(|_| "the Rust panicked\n".into())
+    rust_and_cancels(input).0
 }
 
 /// The records of an input, as far as they can be read; what is left is one piece more.
@@ -75,10 +79,11 @@ fn cut_down(program: &Path, input: &[u8]) -> Vec<u8> {
 /// Compares `count` files of `seed`; says what was in them; true if no line differs.
 pub(crate) fn compare(program: &Path, seed: u64, count: u64, folder: &Path) -> bool {
     let mut words: BTreeMap<String, u64> = BTreeMap::new();
+    let mut cancels: BTreeMap<&'static str, u64> = BTreeMap::new();
     let mut records = 0;
     for number in 0..count {
         let input = generate::file(seed, number);
-        let expected = rust(&input);
+        let (expected, cancelled) = rust_and_cancels(&input);
         let got = drive(program, &input);
         if got != expected {
             println!("file {number} of seed {seed}: the lines differ");
@@ -89,14 +94,23 @@ pub(crate) fn compare(program: &Path, seed: u64, count: u64, folder: &Path) -> b
             println!("the Rust:\n{}drive:\n{}", rust(&short), drive(program, &short));
             return false;
         }
-        for line in expected.lines() {
+        for (line, record) in expected.lines().zip(pieces(&input)) {
             records += 1;
             *words.entry(kind(line)).or_default() += 1;
+            if record.get(2) == Some(&11) {
+                *words.entry(format!("cancel: {}", kind(line))).or_default() += 1;
+            }
+        }
+        for (what, times) in cancelled {
+            *cancels.entry(what).or_default() += times;
         }
     }
     println!("{count} files of seed {seed}, {records} records: no line differs");
     for (word, times) in words {
         println!("  {times:>8} {word}");
+    }
+    for (what, times) in cancels {
+        println!("  {times:>8} cancels {what}");
     }
     true
 }

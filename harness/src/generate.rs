@@ -4,7 +4,7 @@ use std::{fs, path::Path};
 
 use crate::{
     asyncio::CallId,
-    records::{Reader, Record},
+    records::Reader,
     session::{Moment, Session, lines, with_session},
 };
 
@@ -52,9 +52,11 @@ enum Style {
     Deep,
     /// the limits of document 01's "Run:" line
     Limits,
+    /// tasks below tasks, cancelled while the host waits
+    Cancels,
 }
 
-const STYLES: [Style; 4] = [Style::Sensible, Style::Wild, Style::Deep, Style::Limits];
+const STYLES: [Style; 5] = [Style::Sensible, Style::Wild, Style::Deep, Style::Limits, Style::Cancels];
 
 /// One file being made.
 struct File<'s, 'h> {
@@ -62,6 +64,10 @@ struct File<'s, 'h> {
     session: &'s mut Session<'h>,
     bytes: Vec<u8>,
     records: u64,
+    /// the task that the last cancel was of
+    cancelled: u16,
+    /// an external that has failed
+    failed: Option<u16>,
 }
 
 impl File<'_, '_> {
@@ -128,6 +134,11 @@ impl File<'_, '_> {
 
     fn resume(&mut self) {
         self.record(10, &[]);
+    }
+
+    fn cancel(&mut self, task: u16) {
+        self.cancelled = task;
+        self.record(11, &task.to_le_bytes());
     }
 
     fn show(&mut self, object: u16) {
@@ -220,17 +231,19 @@ impl File<'_, '_> {
     fn sensible(&mut self) {
         match self.session.moment {
             Moment::Running => self.sensible_running(),
-            Moment::Waiting => match self.random.weighted(&[45, 40, 8, 3, 4]) {
+            Moment::Waiting => match self.random.weighted(&[45, 40, 8, 3, 4, 6]) {
                 0 => self.some_results(4),
                 1 => self.resume(),
                 2 => self.some_show(),
                 3 => self.eager(),
-                _ => self.sensible_running(),
+                4 => self.sensible_running(),
+                _ => self.some_cancel(),
             },
-            Moment::Ended => match self.random.below(3) {
+            Moment::Ended => match self.random.weighted(&[30, 30, 30, 5]) {
                 0 => self.some_show(),
                 1 => self.eager(),
-                _ => self.sensible_running(),
+                2 => self.sensible_running(),
+                _ => self.some_cancel(),
             },
         }
     }
@@ -246,10 +259,29 @@ impl File<'_, '_> {
         self.show(object);
     }
 
+    /// Mostly a live task, a lower one more often, which has more below it; else the last one again, main, a dead one, or a number that no task has.
+    fn some_cancel(&mut self) {
+        let tasks = self.session.spawned_tasks();
+        let made = self.made();
+        let task = match self.random.weighted(&[if tasks.is_empty() { 0 } else { 80 }, 6, 4, 6, 2, 2]) {
+            0 => {
+                let one = self.random.below(tasks.len() as u64);
+                let other = self.random.below(tasks.len() as u64);
+                tasks[if self.random.chance(40) { one.min(other) } else { one } as usize]
+            }
+            1 => self.cancelled,
+            2 => 0,
+            3 => self.random.below(made + 2) as u16,
+            4 => (510 + self.random.below(6)) as u16,
+            _ => self.random.next() as u16,
+        };
+        self.cancel(task);
+    }
+
     fn sensible_running(&mut self) {
         let is_main = self.session.moment == Moment::Running && self.session.running().is_main();
         let ends = if is_main { [1, 0] } else { [160, 40] };
-        match self.random.weighted(&[110, 90, 110, 30, 110, 260, ends[0], ends[1], 50, 60, 10, 5]) {
+        match self.random.weighted(&[110, 90, 110, 30, 110, 260, ends[0], ends[1], 50, 60, 10, 5, 4]) {
             0 => self.coroutine(),
             1 => self.call(),
             2 => self.some_pending(),
@@ -267,7 +299,8 @@ impl File<'_, '_> {
             8 => self.some_results(3),
             9 => self.some_show(),
             10 => self.eager(),
-            _ => self.resume(),
+            11 => self.resume(),
+            _ => self.some_cancel(),
         }
     }
 
@@ -304,7 +337,7 @@ impl File<'_, '_> {
             value[0] = 1;
             value[1..].copy_from_slice(&near(&mut self.random, made).to_le_bytes());
         }
-        match self.random.below(13) {
+        match self.random.below(14) {
             0 => self.coroutine(),
             1 => self.call(),
             2 => {
@@ -343,6 +376,7 @@ impl File<'_, '_> {
             }
             10 => self.resume(),
             11 => self.show(object),
+            12 => self.some_cancel(),
             _ => self.eager(),
         }
     }
@@ -360,7 +394,7 @@ impl File<'_, '_> {
             }
             let height = 1 + self.random.below(most);
             for _ in 0..height {
-                let top = (self.made().max(1) - 1) as u16;
+                let top = self.last();
                 let mut items = vec![top];
                 while self.random.chance(40) && items.len() < 6 {
                     let item = self.object();
@@ -371,11 +405,87 @@ impl File<'_, '_> {
                 }
                 self.gather(&items);
             }
-            let top = (self.made().max(1) - 1) as u16;
-            self.await_object(top);
+            self.await_last();
         } else {
             self.sensible();
         }
+    }
+
+    /// The object made last; 0 if none is.
+    fn last(&self) -> u16 {
+        (self.made().max(1) - 1) as u16
+    }
+
+    fn await_last(&mut self) {
+        let top = self.last();
+        self.await_object(top);
+    }
+
+    /// Tasks that wait for the tasks below them, or for a call; and while the host waits, cancels among replies. Main mostly waits for calls,
+    /// so that it can go on after a cancel, and its tasks are orphans.
+    fn cancels(&mut self) {
+        match self.session.moment {
+            Moment::Running if self.made() < 230 => {
+                let is_main = self.session.running().is_main();
+                match self.random.weighted(&if is_main { [40, 8, 45, 7] } else { [3, 17, 65, 15] }) {
+                    0 => self.family(true),
+                    1 => self.family(false),
+                    2 => {
+                        self.some_pending();
+                        self.await_last();
+                    }
+                    _ => self.sensible_running(),
+                }
+            }
+            Moment::Waiting => {
+                let of_main_alone = self.session.spawned_tasks().is_empty();
+                match self.random.weighted(&[25, 18, if of_main_alone { 5 } else { 45 }, 12]) {
+                    0 => self.some_results(2),
+                    1 => self.resume(),
+                    2 => self.some_cancel(),
+                    _ => self.sensible(),
+                }
+            }
+            _ => self.sensible(),
+        }
+    }
+
+    /// New coroutines and calls below a gather, or below gathers in gathers, each with a new item beside; awaited at the top. With `fails` a
+    /// failed external stands last in the innermost gather: the await raises, and the tasks spawned are orphans.
+    fn family(&mut self, fails: bool) {
+        let failed = if fails { Some(self.failed_external()) } else { None };
+        let first = self.made() as u16;
+        let leaves = 1 + self.random.below(4);
+        for _ in 0..leaves {
+            if self.random.chance(80) { self.coroutine() } else { self.some_pending() }
+        }
+        let mut items: Vec<u16> = (first..self.made() as u16).collect();
+        if self.random.chance(20) {
+            items.extend(items.first().copied());
+        }
+        items.extend(failed);
+        self.gather(&items);
+        while self.random.chance(40) {
+            let mut items = vec![self.last()];
+            if self.random.chance(50) {
+                self.coroutine();
+                items.insert(self.random.below(2) as usize, self.last());
+            }
+            self.gather(&items);
+        }
+        self.await_last();
+    }
+
+    /// A failed external: the first of this file, or a new one.
+    fn failed_external(&mut self) -> u16 {
+        if self.failed.is_none() {
+            self.call();
+            let call = self.session.calls_handed_out - 1;
+            self.record(3, &[&call.to_le_bytes()[..], &[0; 10]].concat());
+            self.failed = Some(self.last());
+            self.results(&[[&call.to_le_bytes()[..], &[1, 0, 9, 0, 0, 0, 0, 0, 0, 0]].concat()]);
+        }
+        self.failed.unwrap_or(0)
     }
 
     /// Steps towards a limit and one past it, then sensible events.
@@ -447,8 +557,13 @@ impl File<'_, '_> {
                 Style::Wild => self.wild(),
                 Style::Deep => self.deep(height),
                 Style::Limits => self.limits(),
+                Style::Cancels => self.cancels(),
             }
             if self.session.moment == Moment::Ended && self.random.chance(10) {
+                break;
+            }
+            // what can still come is stalled: main waits for what a cancel took away
+            if self.session.moment == Moment::Waiting && self.session.vm.scheduler.can_await_eagerly() && self.random.chance(20) {
                 break;
             }
         }
@@ -472,28 +587,17 @@ impl File<'_, '_> {
     }
 }
 
-/// The bytes before the first cancel, which a damaged file may have: `drive` does not take it yet.
-fn before_cancel(bytes: &[u8]) -> usize {
-    let mut reader = Reader { bytes };
-    loop {
-        let at = bytes.len() - reader.bytes.len();
-        match reader.record() {
-            Some(Record::Cancel { .. }) => return at,
-            Some(_) => {}
-            None => return bytes.len(),
-        }
-    }
-}
-
-/// File `number` of `seed`. Every fifth is damaged; file 3 hands out all call numbers.
+/// File `number` of `seed`. Every sixth is damaged; file 3 hands out all call numbers.
 pub(crate) fn file(seed: u64, number: u64) -> Vec<u8> {
     with_session(|session| {
         let mut random = Random(seed.wrapping_mul(0x1000_0000_01B3) ^ number);
         random.next();
-        let style = STYLES[(if number % 5 == 4 { random.below(4) } else { number % 5 }) as usize];
+        let damaged = number % 6 == 5;
+        let style = STYLES[(if damaged { random.below(5) } else { number % 6 }) as usize];
         let length = match style {
             Style::Wild => 40 + random.below(360),
             Style::Limits => 100 + random.below(600),
+            Style::Cancels => 100 + random.below(400),
             _ => 60 + random.below(240),
         };
         let mut file = File {
@@ -501,17 +605,17 @@ pub(crate) fn file(seed: u64, number: u64) -> Vec<u8> {
             session,
             bytes: Vec::new(),
             records: 0,
+            cancelled: 1,
+            failed: None,
         };
         if number == 3 {
             file.all_calls();
         }
         let length = file.records + length;
         file.fill(style, length);
-        if number % 5 == 4 {
+        if damaged {
             file.damage();
         }
-        let end = before_cancel(&file.bytes);
-        file.bytes.truncate(end);
         file.bytes
     })
 }

@@ -2,6 +2,7 @@
 //! and state comes from the published code behind `VM`.
 
 use std::{
+    collections::BTreeMap,
     fmt::{Debug, Write as _},
     panic,
 };
@@ -9,7 +10,7 @@ use std::{
 use monty_types::{ExcType, MontyException};
 
 use crate::{
-    asyncio::{CallId, Coroutine, CoroutineState, ExternalFutureState, GatherFuture, GatherState, TaskId},
+    asyncio::{Awaiter, CallId, Coroutine, CoroutineState, ExternalFutureState, GatherFuture, GatherState, TaskId},
     bytecode::vm::{AwaitResult, FrameExit, VM},
     exception_private::{RunError, RunResult, SimpleException},
     heap::{DropWithContext, HeapData, HeapId, HeapReader},
@@ -43,6 +44,8 @@ pub(crate) struct Session<'h> {
     pub moment: Moment,
     pub calls_handed_out: u32,
     pub places: usize,
+    /// Of the accepted cancels: what the task was, and what went with it.
+    pub cancels: BTreeMap<&'static str, u64>,
 }
 
 impl<'h> Session<'h> {
@@ -53,6 +56,7 @@ impl<'h> Session<'h> {
             moment: Moment::Running,
             calls_handed_out: 0,
             places: 0,
+            cancels: BTreeMap::new(),
         }
     }
 
@@ -188,7 +192,12 @@ impl<'h> Session<'h> {
                 let task = TaskId::new(u32::from(task));
                 refuse(!self.is_live(task), 5)?;
                 refuse(task.is_main(), 9)?;
+                self.note_cancel(task);
+                let live = self.vm.scheduler.task_count();
                 self.vm.scheduler.cancel_task(task, self.vm.heap);
+                if live - self.vm.scheduler.task_count() > 1 {
+                    self.note("that removed other tasks too");
+                }
                 // "The VM must discard this task's loaded context before activating another."
                 if self.vm.scheduler.current_task_id().is_none() {
                     self.vm.cleanup_current_task();
@@ -287,6 +296,61 @@ impl<'h> Session<'h> {
     /// The published scheduler keeps its tasks to itself, and `get_task_mut` panics on a dead one.
     fn is_live(&mut self, task: TaskId) -> bool {
         quietly(|| self.vm.scheduler.get_task_mut(task).id == task)
+    }
+
+    // ---- cancels ----
+
+    /// The live tasks but main, ascending. The published scheduler keeps them to itself, so they are read from its `Debug` text.
+    pub fn spawned_tasks(&self) -> Vec<u16> {
+        let text = format!("{:?}", self.vm.scheduler);
+        let numbers = text.split(": Task { id: TaskId(").skip(1).map(|task| task.split(')').next().expect("a number ends"));
+        let mut tasks: Vec<u16> = numbers.map(|n| n.parse().expect("a task's number")).filter(|&n| n != 0).collect();
+        tasks.sort_unstable();
+        tasks
+    }
+
+    fn note(&mut self, what: &'static str) {
+        *self.cancels.entry(what).or_default() += 1;
+    }
+
+    fn note_cancel(&mut self, task: TaskId) {
+        let text = format!("{:?}", self.vm.scheduler.get_task_mut(task));
+        let state = text.split("state: ").last().expect("a task has a state").to_owned();
+        let gather = match self.vm.scheduler.get_task_mut(task).awaiter {
+            Some(Awaiter::GatherSlot { gather, .. }) => gather,
+            _ => panic!("a spawned task's result goes to a gather"),
+        };
+        self.note("accepted");
+        self.note(match state.strip_prefix("Blocked(").map(|id| id.chars().filter(char::is_ascii_digit).collect::<String>()) {
+            None => "of a ready task",
+            Some(id) if self.is_gather(&id) => "of a task blocked on a gather",
+            Some(_) => "of a task blocked on a call",
+        });
+        match self.vm.heap.data(gather) {
+            HeapData::GatherFuture(it) if matches!(it.state, GatherState::Awaited(_)) => {
+                if self.objects.iter().any(|&id| self.holds(id, gather)) {
+                    self.note("of a task below a nested gather");
+                }
+            }
+            _ => self.note("of an orphan: its gather has failed"),
+        }
+    }
+
+    /// Whether the object of that heap number, as text, is a gather.
+    fn is_gather(&self, heap_number: &str) -> bool {
+        let of = |&&id: &&HeapId| number(&id) == heap_number;
+        self.objects.iter().find(of).is_some_and(|&id| matches!(self.vm.heap.data(id), HeapData::GatherFuture(_)))
+    }
+
+    /// Whether `id` is an awaited gather with `item` among its open items.
+    fn holds(&self, id: HeapId, item: HeapId) -> bool {
+        match self.vm.heap.data(id) {
+            HeapData::GatherFuture(it) => match &it.state {
+                GatherState::Awaited(awaited) => awaited.pending_children.keys().any(|&child| child == item),
+                _ => false,
+            },
+            _ => false,
+        }
     }
 
     // ---- refusals ----
@@ -439,6 +503,11 @@ pub(crate) fn with_session<T>(f: impl FnOnce(&mut Session) -> T) -> T {
 
 /// The lines of one input, as document 01's driver prints them.
 pub(crate) fn lines(bytes: &[u8]) -> String {
+    run(bytes).0
+}
+
+/// The lines, and what was cancelled.
+pub(crate) fn run(bytes: &[u8]) -> (String, BTreeMap<&'static str, u64>) {
     with_session(|session| {
         let mut reader = Reader { bytes };
         let mut out = String::new();
@@ -455,6 +524,6 @@ pub(crate) fn lines(bytes: &[u8]) -> String {
             }
             .expect("writing to a string");
         }
-        out
+        (out, std::mem::take(&mut session.cancels))
     })
 }

@@ -1,7 +1,7 @@
 -- Laws of the driver, one for each way to a line.
-use mathlib.Core.Path.{_≡_, refl, ap, _∙_}
+use mathlib.Core.Path.{_≡_, refl, sym, ap, _∙_}
 use mathlib.Core.Bool.{Bool, true, false}
-use mathlib.Core.List.{List, []}
+use mathlib.Core.List.{List, [], _∷_}
 use Prim.Native.Nat.{ℕ, _+_, _-_, _*_, _≤_}
 use native.Mathlib.Omega.{arith}
 use lib.Dec.{leb}
@@ -29,8 +29,9 @@ use Rattle.drive_shows.specs.Shows.{reading-count}
 use Rattle.drive_shows.specs.AnswerLaws.{wrote-event, wrote-eager, wrote-show}
 use Rattle.drive_lines.specs.Lines.{line}
 use Rattle.drive_answer.specs.Driver.{Asked, asked, Drives, refused-11, answered, drive-by, drive-one}
-use Rattle.drive_answer.specs.Drove.{Drove, asks-of, asked-of, InInput}
-use Rattle.drive_answer.specs.declared.asks.Asks.{Asks}
+use Rattle.step_event.specs.declared.Event.{Event}
+use Rattle.step_event.specs.EventOf.{event-of}
+use Rattle.drive_answer.specs.Drove.{Drove, InInput, RecordFits}
 
 -- ---- lines
 
@@ -108,42 +109,33 @@ part-is src first n = let e : first + n - first ≡ n = omega arith in rw e
 
 -- ---- what a record asks
 
--- the code's form says what the record asks
-pub asks-asked : (src : List ℕ) (r : Record) → asked-of src (asks-of r) ≡ asked src r
-unfolding asks-of asked-of asked
-asks-asked src (Record.Coroutine f) = refl
-asks-asked src Record.Call = refl
-asks-asked src (Record.Pending c x) = refl
-asks-asked src (Record.Settled v) = refl
-asks-asked src (Record.Gather first count) = refl
-asks-asked src (Record.Await o) = refl
-asks-asked src (Record.Complete v) = refl
-asks-asked src (Record.Fail n) = refl
-asks-asked src (Record.Results first count) = refl
-asks-asked src Record.Resume = refl
-asks-asked src (Record.Cancel t) = refl
-asks-asked src (Record.Show o) = refl
-asks-asked src Record.Eager = refl
-
-inside : (src : List ℕ) (from : ℕ) (r : Record) {next : ℕ} → parse src from ≡ Parsed.Record r next → InInput src (asks-of r)
-unfolding asks-of
-inside src from (Record.Coroutine f) e = tt
-inside src from Record.Call e = tt
-inside src from (Record.Pending c x) e = tt
-inside src from (Record.Settled v) e = tt
-inside src from (Record.Gather first count) e = tt
-inside src from (Record.Await o) e = tt
-inside src from (Record.Complete v) e = tt
-inside src from (Record.Fail n) e = tt
-inside src from (Record.Results first count) e = results-inside src from e
-inside src from Record.Resume e = tt
-inside src from (Record.Cancel t) e = tt
-inside src from (Record.Show o) e = tt
-inside src from Record.Eager e = tt
-
 -- what a record that was read asks stands in the input
-pub asks-inside : (src : List ℕ) (from : ℕ) {r : Record} {next : ℕ} {a : Asks} → parse src from ≡ Parsed.Record r next → a ≡ asks-of r → InInput src a
-asks-inside src from {r} e h = rw h (inside src from r e)
+pub asks-inside : (src : List ℕ) (from : ℕ) (r : Record) {next : ℕ} → parse src from ≡ Parsed.Record r next → InInput src r
+asks-inside src from (Record.Coroutine f) e = tt
+asks-inside src from Record.Call e = tt
+asks-inside src from (Record.Pending c x) e = tt
+asks-inside src from (Record.Settled v) e = tt
+asks-inside src from (Record.Gather first count) e = tt
+asks-inside src from (Record.Await o) e = tt
+asks-inside src from (Record.Complete v) e = tt
+asks-inside src from (Record.Fail n) e = tt
+asks-inside src from (Record.Results first count) e = results-inside src from e
+asks-inside src from Record.Resume e = tt
+asks-inside src from (Record.Cancel t) e = tt
+asks-inside src from (Record.Show o) e = tt
+asks-inside src from Record.Eager e = tt
+
+-- A record that is an event of the code and has all it needs in itself: no items and no results are looked at.
+pub record AsksEvent (src : List ℕ) (r : Record) (e : Event) : Type 0 where
+  pub is-event : asked src r ≡ Asked.event (event-of (0 ∷ []) src e)
+  pub fits : RecordFits r
+
+-- its line is the record's
+pub asks-drove : (src : List ℕ) {r : Record} {e : Event} (u : Store) (l : List ℕ) (next number : ℕ) {ts os ps cs : List ℕ} {q : ReadyQueue} {after : ℕ} {going : Bool} {x y : Out}
+    → AsksEvent src r e
+    → Drove ts os ps q cs after going x y (answered u l next number (Asked.event (event-of (0 ∷ []) src e)))
+    → Drove ts os ps q cs after going x y (answered u l next number (asked src r))
+asks-drove src u l next number a w = same-drives (ap (answered u l next number) (sym (a .is-event))) w
 
 -- ---- one record
 
@@ -163,8 +155,8 @@ unfolding drive-one drive-by
 none-drove ts os ps q k l src from number e w = rw e (refused-drove ts os ps q k l from number w)
 
 -- a record is what it asks, answered
-pub record-drives : (u : Store) (l src : List ℕ) (from number : ℕ) {r : Record} {next : ℕ} {a : Asks}
-    → parse src from ≡ Parsed.Record r next → a ≡ asks-of r
-    → answered u l next number (asked-of src a) ≡ drive-one u l src from number
+pub record-drives : (u : Store) (l src : List ℕ) (from number : ℕ) {r : Record} {next : ℕ}
+    → parse src from ≡ Parsed.Record r next
+    → answered u l next number (asked src r) ≡ drive-one u l src from number
 unfolding drive-one drive-by
-record-drives u l src from number {r} {next} e h = rw (e, h, asks-asked src r)
+record-drives u l src from number e = rw e

@@ -16,12 +16,10 @@ use Rattle.drive_lines.specs.Lines.{line}
 
 -- What a record asks of the machine.
 pub data Asked : Type 0 where
-  -- kinds 1 to 10
+  -- kinds 1 to 11
   event : Event → Asked
   -- show and eager, which change nothing
   read : Event → Asked
-  -- cancel, which the library does not take yet (demand 3)
-  cancel : Asked
 
 -- results stand in the input, 14 bytes each
 abbrev pub results-at : List ℕ → ℕ → ℕ → List Result
@@ -39,7 +37,7 @@ asked src (Record.Complete v) = Asked.event (Event.complete v)
 asked src (Record.Fail n) = Asked.event (Event.fail n)
 asked src (Record.Results first count) = Asked.event (Event.results (results-at src first count))
 asked src Record.Resume = Asked.event Event.resume
-asked src (Record.Cancel t) = Asked.cancel
+asked src (Record.Cancel t) = Asked.event (Event.cancel t)
 asked src (Record.Show o) = Asked.read (Event.show o)
 asked src Record.Eager = Asked.read Event.eager
 
@@ -56,14 +54,12 @@ pub record Drives : Type 0 where
 unfoldable pub refused-11 : Store → List ℕ → ℕ → ℕ → Drives
 refused-11 s l next number = record { store = s; list = l; text = line number (Answer.refused 11); next = next; going = false }
 
--- What is asked, answered by the library, and its line; `next` is the place behind the record. Until the library takes cancel, its record is
--- answered as one of an unknown kind is.
+-- What is asked, answered by the library, and its line; `next` is the place behind the record.
 unfoldable pub answered : Store → List ℕ → ℕ → ℕ → Asked → Drives
 answered s l next number (Asked.event e) =
     let x : Lent = lent-step s l e in
     record { store = x .store; list = x .list; text = line number (x .answer); next = next; going = true }
 answered s l next number (Asked.read e) = record { store = s; list = l; text = line number (lent-read s e .answer); next = next; going = true }
-answered s l next number Asked.cancel = refused-11 s l next number
 
 -- by what was read: at the end of the input there is no line; what is no record is refused
 unfoldable pub drive-by : Store → List ℕ → List ℕ → ℕ → ℕ → Parsed → Drives

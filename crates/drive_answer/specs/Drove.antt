@@ -1,7 +1,7 @@
--- What the code has after a record, and the code's own form of what a record asks.
+-- What the code has after a record, and what it asks of one.
 use mathlib.Core.Path.{_≡_}
 use mathlib.Core.Bool.{Bool}
-use mathlib.Core.List.{List, [], _∷_}
+use mathlib.Core.List.{List}
 use Prim.Native.Nat.{ℕ, _+_, _*_, _≤_, _<_}
 use lib.ListN.{length}
 use denote.Ref.{now}
@@ -12,15 +12,11 @@ use Rattle.machine.specs.Machine as machine
 use Rattle.drive_reader.specs.declared.Record.{Record}
 use Rattle.drive_reader.specs.declared.Parsed.{Parsed}
 use Rattle.drive_reader.specs.Format.{parse}
-use Rattle.drive_reader.specs.Items.{items-at}
-use Rattle.step_event.specs.declared.Event.{Event}
-use Rattle.step_event.specs.EventOf.{event-of}
 use Rattle.contract.specs.Contract.{Slice, before}
 use Rattle.drive_text.specs.Out.{Out, out-of, Wrote}
 use Rattle.drive_lines.specs.Lines.{line-limit}
-use Rattle.drive_answer.specs.Driver.{Asked, Drives, answered, results-at, drive-one}
+use Rattle.drive_answer.specs.Driver.{Asked, Drives, answered, drive-one}
 use Rattle.drive_answer.specs.declared.answered.Driven.{Driven}
-use Rattle.drive_answer.specs.declared.asks.Asks.{Asks}
 
 -- What the code has is x: the three slices and the queue are x's store (the log, which the code has not, is x's own), then the call list,
 -- the place of the next record and whether it is to be read; and from `before` to `after` the bytes of x were written, at most 8,192.
@@ -46,40 +42,21 @@ WritesAnswer tasks objects places calls queue out at next number a r = Writes ta
 abbrev pub WritesEvent : Slice → Slice → Slice → Slice → ReadyQueue → Slice → ℕ → ℕ → ℕ → machine.Event → Driven → Type 0
 WritesEvent tasks objects places calls queue out at next number e r = WritesAnswer tasks objects places calls queue out at next number (Asked.event e) r
 
--- What a record asks, in the code's form: an event that has all it needs in its record, or where its items stand.
-unfoldable pub asks-of : Record → Asks
-asks-of (Record.Coroutine f) = Asks.Event (Event.Coroutine f)
-asks-of Record.Call = Asks.Event Event.Call
-asks-of (Record.Pending c x) = Asks.Event (Event.Pending c x)
-asks-of (Record.Settled v) = Asks.Event (Event.Settled v)
-asks-of (Record.Gather first count) = Asks.Gather first count
-asks-of (Record.Await o) = Asks.Event (Event.Await o)
-asks-of (Record.Complete v) = Asks.Event (Event.Complete v)
-asks-of (Record.Fail n) = Asks.Event (Event.Fail n)
-asks-of (Record.Results first count) = Asks.Results first count
-asks-of Record.Resume = Asks.Event Event.Resume
-asks-of (Record.Cancel t) = Asks.Cancel
-asks-of (Record.Show o) = Asks.Show o
-asks-of Record.Eager = Asks.Eager
-
--- and what it says in the machine's form. (An event of the first sort is no gather and no results, so that the lists beside it are not looked
--- at: `asks-asked`.)
-unfoldable pub asked-of : List ℕ → Asks → Asked
-asked-of src (Asks.Event e) = Asked.event (event-of (0 ∷ []) src e)
-asked-of src (Asks.Gather first count) = Asked.event (machine.Event.gather (items-at src first count))
-asked-of src (Asks.Results first count) = Asked.event (machine.Event.results (results-at src first count))
-asked-of src (Asks.Show o) = Asked.read (machine.Event.show o)
-asked-of src Asks.Eager = Asked.read machine.Event.eager
-asked-of src Asks.Cancel = Asked.cancel
-
--- results stand within the input
-abbrev pub InInput : List ℕ → Asks → Type 0
-InInput src (Asks.Event e) = Unit {0}
-InInput src (Asks.Gather first count) = Unit {0}
-InInput src (Asks.Results first count) = first + count * 14 ≤ length src
-InInput src (Asks.Show o) = Unit {0}
-InInput src Asks.Eager = Unit {0}
-InInput src Asks.Cancel = Unit {0}
+-- the results of a record stand within the input
+abbrev pub InInput : List ℕ → Record → Type 0
+InInput src (Record.Coroutine f) = Unit {0}
+InInput src Record.Call = Unit {0}
+InInput src (Record.Pending c x) = Unit {0}
+InInput src (Record.Settled v) = Unit {0}
+InInput src (Record.Gather first count) = Unit {0}
+InInput src (Record.Await o) = Unit {0}
+InInput src (Record.Complete v) = Unit {0}
+InInput src (Record.Fail n) = Unit {0}
+InInput src (Record.Results first count) = first + count * 14 ≤ length src
+InInput src Record.Resume = Unit {0}
+InInput src (Record.Cancel t) = Unit {0}
+InInput src (Record.Show o) = Unit {0}
+InInput src Record.Eager = Unit {0}
 
 -- the numbers that a record stores whole fit 32 bits
 abbrev pub RecordFits : Record → Type 0

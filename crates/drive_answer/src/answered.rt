@@ -1,6 +1,6 @@
 // What a record asks, answered by the library, and its line. The store is sound, as it is in a session: it is not checked at each record.
-use crate::asks::Asks;
 use asyncio::RESULT_BYTES;
+use drive_reader::Record;
 use queue::ReadyQueue;
 use step_event::Event;
 ghost use mathlib.Core.List.{List};
@@ -11,8 +11,8 @@ ghost use Rattle.contract.specs.Contract.{kept};
 ghost use Rattle.contract.specs.Entries.{SoundMemory, SoundMemoryAnd, SoundSlices};
 ghost use Rattle.step_event.specs.EventOf.{event-of};
 ghost use Rattle.drive_reader.specs.Items.{items-at};
-ghost use Rattle.drive_answer.specs.Driver.{Asked, results-at, refused-11};
-ghost use Rattle.drive_answer.specs.Drove.{Writes, WritesAnswer, WritesEvent, asked-of, InInput};
+ghost use Rattle.drive_answer.specs.Driver.{Asked, asked, results-at};
+ghost use Rattle.drive_answer.specs.Drove.{WritesAnswer, WritesEvent, InInput, RecordFits};
 
 // The queue after a record, where the output stands, the place of the next record, and whether it is to be read: not after the end of
 // the input, and not after an 11.
@@ -177,20 +177,7 @@ fn eager_line(
     }
 }
 
-// Cancel is refused as an unknown kind is, until the library takes it.
-fn cancel_line(queue: ReadyQueue, next: usize, out: &mut [u8], at: usize, number: u64) -> Driven
-    ensures { λ r. ⌜ ((ts os ps cs : List ℕ) → Writes (kept ts) (kept os) (kept ps) (kept cs) queue out at (λ s l. refused-11 s l next number) r) ⌝ }
-{
-    let end = drive_lines::answers::write_refused(out, at, number, 11);
-    Driven {
-        queue,
-        at: end,
-        next,
-        going: false,
-    }
-}
-
-// Whatever is asked, and its line.
+// Whatever a record asks, and its line. That the record's numbers fit is the types' doing, and said so that soundness can be kept (`drive_laws`).
 pub fn answered(
     tasks: &mut [u64],
     objects: &mut [u64],
@@ -198,63 +185,77 @@ pub fn answered(
     calls: &mut [u64],
     queue: ReadyQueue,
     src: &[u8],
-    asks: Asks,
+    what: Record,
     next: usize,
     out: &mut [u8],
     at: usize,
     number: u64,
 ) -> Driven
-    requires { ⌜ SoundMemoryAnd tasks objects places calls queue (InInput (now src) asks) ⌝ }
-    ensures { λ r. ⌜ WritesAnswer tasks objects places calls queue out at next number (asked-of (now (src .entry)) asks) r ⌝ }
+    requires { ⌜ SoundMemoryAnd tasks objects places calls queue (InInput (now src) what) ⌝ }
+    ensures { λ r. ⌜ WritesAnswer tasks objects places calls queue out at next number (asked (now (src .entry)) what) r × RecordFits what ⌝ }
 {
-    match asks {
-        Asks::Event(event) => {
-            let items: [u16; 1] = [0; 1];
-            event_line(
+    let event = match what {
+        Record::Coroutine(f) => Event::Coroutine(f),
+        Record::Call => Event::Call,
+        Record::Pending { call, stored } => Event::Pending { call, stored },
+        Record::Settled(v) => Event::Settled(v),
+        Record::Gather { first, count } => {
+            return gather_line(
                 tasks,
                 objects,
                 places,
                 calls,
                 queue,
-                event,
-                &items,
                 src,
+                first,
+                count,
                 next,
                 out,
                 at,
                 number,
-            )
+            );
         }
-        Asks::Gather { first, count } => gather_line(
-            tasks,
-            objects,
-            places,
-            calls,
-            queue,
-            src,
-            first,
-            count,
-            next,
-            out,
-            at,
-            number,
-        ),
-        Asks::Results { first, count } => results_line(
-            tasks,
-            objects,
-            places,
-            calls,
-            queue,
-            src,
-            first,
-            count,
-            next,
-            out,
-            at,
-            number,
-        ),
-        Asks::Show(o) => show_line(tasks, objects, places, queue, o, next, out, at, number),
-        Asks::Eager => eager_line(tasks, objects, places, calls, queue, next, out, at, number),
-        Asks::Cancel => cancel_line(queue, next, out, at, number),
-    }
+        Record::Await(o) => Event::Await(o),
+        Record::Complete(v) => Event::Complete(v),
+        Record::Fail(n) => Event::Fail(n),
+        Record::Results { first, count } => {
+            return results_line(
+                tasks,
+                objects,
+                places,
+                calls,
+                queue,
+                src,
+                first,
+                count,
+                next,
+                out,
+                at,
+                number,
+            );
+        }
+        Record::Resume => Event::Resume,
+        Record::Cancel(t) => Event::Cancel(t),
+        Record::Show(o) => {
+            return show_line(tasks, objects, places, queue, o, next, out, at, number);
+        }
+        Record::Eager => {
+            return eager_line(tasks, objects, places, calls, queue, next, out, at, number);
+        }
+    };
+    let items: [u16; 1] = [0; 1];
+    event_line(
+        tasks,
+        objects,
+        places,
+        calls,
+        queue,
+        event,
+        &items,
+        src,
+        next,
+        out,
+        at,
+        number,
+    )
 }

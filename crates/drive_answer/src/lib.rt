@@ -1,3 +1,2 @@
 // What a record asks of the library, and the line of its answer.
-pub mod asks; // what a record asks of the library
 pub mod answered; // what is asked, and its line

@@ -42,7 +42,6 @@ lent-sound-store s l e h i = by (lengths-right s l)
 abbrev AskedFits : Asked → Type 0
 AskedFits (Asked.event e) = InRange e
 AskedFits (Asked.read e) = Unit {0}
-AskedFits Asked.cancel = Unit {0}
 
 asked-fits : (src : List ℕ) (r : Record) → RecordFits r → AskedFits (asked src r)
 unfolding asked InRange
@@ -61,10 +60,9 @@ asked-fits src (Record.Show o) i = tt
 asked-fits src Record.Eager i = tt
 
 answered-sound-store : (s : Store) (l : List ℕ) (next number : ℕ) (a : Asked) → SoundStore s → AskedFits a → SoundStore (answered s l next number a .store)
-unfolding answered refused-11
+unfolding answered
 answered-sound-store s l next number (Asked.event e) h i = lent-sound-store s l e h i
 answered-sound-store s l next number (Asked.read e) h i = h
-answered-sound-store s l next number Asked.cancel h i = h
 
 -- A record leaves a sound store sound.
 pub drives-sound-store : (s : Store) (l src : List ℕ) (from number : ℕ) → SoundStore s → ParsedFits (parse src from) → SoundStore (drive-one s l src from number .store)

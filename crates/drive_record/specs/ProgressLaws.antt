@@ -21,10 +21,9 @@ pub record Onward (src : List ℕ) (from next : ℕ) : Type 0 where
   pub within : next ≤ length src
 
 answered-next : (s : Store) (l : List ℕ) (next number : ℕ) (a : Asked) → answered s l next number a .next ≡ next
-unfolding answered refused-11
+unfolding answered
 answered-next s l next number (Asked.event e) = refl
 answered-next s l next number (Asked.read e) = refl
-answered-next s l next number Asked.cancel = refl
 
 -- Where the driver goes on, it goes on behind the record that it read.
 pub going-on : (s : Store) (l src : List ℕ) (from number : ℕ) → drive-one s l src from number .going ≡ true → Onward src from (drive-one s l src from number .next)

@@ -95,10 +95,9 @@ module _ (s : List ℕ) (k : ℕ) where
   asked-rest Record.Eager = refl
 
   answered-moved : (u : Store) (l : List ℕ) (next number : ℕ) (a : Asked) → answered u l (k + next) number a ≡ moved k (answered u l next number a)
-  unfolding answered refused-11 moved
+  unfolding answered moved
   answered-moved u l next number (Asked.event e) = refl
   answered-moved u l next number (Asked.read e) = refl
-  answered-moved u l next number Asked.cancel = refl
 
   -- A record of the whole input is the record of the rest, driven at the place counted from there.
   pub drive-moved : (u : Store) (l : List ℕ) (at number : ℕ) → drive-one u l s (k + at) number ≡ moved k (drive-one u l (drop k s) at number)

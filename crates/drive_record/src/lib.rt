@@ -39,21 +39,18 @@ pub fn drive_record(
                 going: false,
             }
         }
-        Parsed::Record { what, next } => {
-            let asks = drive_answer::asks::asked_by(what);
-            drive_answer::answered::answered(
-                tasks,
-                objects,
-                places,
-                calls,
-                queue,
-                src,
-                asks,
-                next,
-                out,
-                at,
-                number,
-            )
-        }
+        Parsed::Record { what, next } => drive_answer::answered::answered(
+            tasks,
+            objects,
+            places,
+            calls,
+            queue,
+            src,
+            what,
+            next,
+            out,
+            at,
+            number,
+        ),
     }
 }

@@ -16,6 +16,7 @@ pub use session_begin::begin;
 pub use session_dispatch::dispatch;
 pub use session_events::await_object;
 pub use session_events::call;
+pub use session_events::cancel;
 pub use session_events::complete;
 pub use session_events::coroutine;
 pub use session_events::fail;

@@ -1,4 +1,4 @@
-// The entries of a session's events, one for each kind 1 to 10 of document 01. All of them lend the same memory and ask nothing of their caller: a slice of
+// The entries of a session's events, one for each kind 1 to 11 of document 01. All of them lend the same memory and ask nothing of their caller: a slice of
 // the wrong length is refused with 1, a store that is not sound with 2, and so on in the order of document 01's table; a refused event leaves the
 // slices, the list of calls and the queue as they were. What an entry answers is in `Answered`: the queue to pass back, the answer, and of a wait how
 // many calls stand at the list's front.
@@ -208,4 +208,19 @@ pub fn resume(
     ensures { λ r. ⌜ LentStep tasks objects places calls queue machine.Event.resume r ⌝ }
 {
     plain(tasks, objects, places, calls, queue, Event::Resume)
+}
+
+// The operator cancels task `t`: it goes, and with it the live tasks of the open items of the gather that it is blocked on, through nested gathers.
+// Done. What a task that went awaited stays awaited, a gather too. Refused with 3, 4, 5 (the task is not live), 9 (it is main).
+pub fn cancel(
+    tasks: &mut [u64],
+    objects: &mut [u64],
+    places: &mut [u64],
+    calls: &mut [u64],
+    queue: ReadyQueue,
+    t: u16,
+) -> Answered
+    ensures { λ r. ⌜ LentStep tasks objects places calls queue (machine.Event.cancel t) r ⌝ }
+{
+    plain(tasks, objects, places, calls, queue, Event::Cancel(t))
 }

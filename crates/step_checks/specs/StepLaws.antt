@@ -5,9 +5,9 @@ use mathlib.Core.List.{List, [], _∷_}
 use mathlib.Core.Option.{Option, none, some}
 use Prim.Native.Nat.{ℕ, zero, suc, _+_, _/_, _≤_, _<_}
 use native.Mathlib.Omega.{arith}
-use lib.Dec.{ltb, leb}
+use lib.Dec.{eqb, ltb, leb}
 use lib.ListN.{length}
-use borrow.Author.Tests.{le-leb, lt-leb, leb-false, lt-ltb, le-ltb, ltb-false}
+use borrow.Author.Tests.{eq-eqb, ne-eqb, le-leb, lt-leb, leb-false, lt-ltb, le-ltb, ltb-true, ltb-false}
 use Rattle.asyncio.specs.Limits.{object-limit, item-limit, place-limit, call-limit, result-limit, task-limit}
 use Rattle.asyncio.specs.Ranges.{HeaderFits, MomentFits}
 use Rattle.asyncio.specs.declared.CallId.{CallId}
@@ -18,14 +18,16 @@ use Rattle.asyncio.specs.declared.Error.{Error}
 use Rattle.asyncio.specs.declared.OptionValue.{OptionValue}
 use Rattle.asyncio.specs.declared.Moment.{Moment}
 use Rattle.asyncio.specs.declared.Header.{Header}
-use Rattle.rows.specs.Tables.{object-at, header-at}
+use Rattle.asyncio.specs.declared.TaskState.{TaskState}
+use Rattle.asyncio.specs.States.{pick, is-live}
+use Rattle.rows.specs.Tables.{task-at, object-at, header-at}
 use Rattle.rows.specs.TableLaws.{header-at-fits}
 use Rattle.queue.specs.declared.ReadyQueue.{ReadyQueue}
 use Rattle.scheduler.specs.declared.tasks.FoundObject.{FoundObject}
 use Rattle.scheduler.specs.Search.{found-object}
 use Rattle.scheduler.specs.SearchLaws.{object-found, no-object}
-use Rattle.machine.specs.Store.{Store, LogEntry, store-of, object, header, set-calls}
-use Rattle.machine.specs.Scheduler.{is-some, pending-external-in, pending-external}
+use Rattle.machine.specs.Store.{Store, LogEntry, store-of, task, object, header, set-calls}
+use Rattle.machine.specs.Scheduler.{is-some, pending-external-in, pending-external, live, cancel-task}
 use Rattle.machine.specs.Sound.{is-ended, value-known, option-known}
 use Rattle.machine.specs.Events as machine-events
 use Rattle.machine.specs.Events.{Awaited, Result, make-coroutine, make-pending, make-settled, make-gather, exec-get-awaitable, apply-future-results}
@@ -300,34 +302,104 @@ module _ (ts os ps : List ℕ) (q : ReadyQueue) (l : List LogEntry) (bs : List �
             gives : accept waiting batch ≡ record { store = apply-future-results waiting (results-in bs); answer = machine.Answer.done }
             gives = unfold accept in refl
 
--- ---- resume
+-- ---- events of waiting: resume and cancel
 
 module _ (ts os ps : List ℕ) (q : ReadyQueue) (l : List LogEntry) {v : Header} (g : v ≡ header-at os) where
   abbrev asked : Store
   asked = store-of ts os ps q l
 
+  module _ (e : Event) (rs : List (ℕ × Bool)) (k : refusals asked e ≡ in-waiting asked rs) where
+    waiting-ended : v .moment ≡ Moment.Ended → stepped-of (store-of ts os ps q (checked asked e .store .log)) (Answer.Refused 3) ≡ checked asked e
+    waiting-ended h = refused-logs asked e (Answer.Refused 3) (refuses asked e 2 ends)
+      where
+        ends : first-refusal (refusals asked e) ≡ 3
+        ends = unfold in-waiting header first-refusal is-ended is-run in (rw (k, ← g, h))
+
+    waiting-running : (t : TaskId) → v .moment ≡ Moment.Running t → stepped-of (store-of ts os ps q (checked asked e .store .log)) (Answer.Refused 4) ≡ checked asked e
+    waiting-running t h = refused-logs asked e (Answer.Refused 4) (refuses asked e 3 runs)
+      where
+        runs : first-refusal (refusals asked e) ≡ 4
+        runs = unfold in-waiting header first-refusal is-ended is-run in (rw (k, ← g, h))
+
+    -- the host has control: the other checks
+    waiting-left : v .moment ≡ Moment.Waiting → first-refusal (refusals asked e) ≡ first-refusal rs
+    waiting-left h = unfold in-waiting header first-refusal is-ended is-run in (rw (k, ← g, h))
+
+  resume-checks : refusals asked Event.resume ≡ in-waiting asked []
+  unfolding refusals
+  resume-checks = refl
+
   pub resume-ended : v .moment ≡ Moment.Ended → stepped-of (store-of ts os ps q (checked asked Event.resume .store .log)) (Answer.Refused 3) ≡ checked asked Event.resume
-  resume-ended e = refused-logs asked Event.resume (Answer.Refused 3) (refuses asked Event.resume 2 ends)
-    where
-      ends : first-refusal (refusals asked Event.resume) ≡ 3
-      ends = unfold refusals in-waiting header first-refusal is-ended is-run in (rw (← g, e))
+  resume-ended h = waiting-ended Event.resume [] resume-checks h
 
   pub resume-running : (t : TaskId) → v .moment ≡ Moment.Running t → stepped-of (store-of ts os ps q (checked asked Event.resume .store .log)) (Answer.Refused 4) ≡ checked asked Event.resume
-  resume-running t e = refused-logs asked Event.resume (Answer.Refused 4) (refuses asked Event.resume 3 runs)
-    where
-      runs : first-refusal (refusals asked Event.resume) ≡ 4
-      runs = unfold refusals in-waiting header first-refusal is-ended is-run in (rw (← g, e))
+  resume-running t h = waiting-running Event.resume [] resume-checks t h
 
   pub resume-goes : v .moment ≡ Moment.Waiting → {ts′ os′ ps′ : List ℕ} {q′ : ReadyQueue} (a : Answer)
       → stepped-of (store-of ts′ os′ ps′ q′ (resume-with-resolved-futures asked .store .log)) a ≡ resume-with-resolved-futures asked
       → stepped-of (store-of ts′ os′ ps′ q′ (checked asked Event.resume .store .log)) a ≡ checked asked Event.resume
-  resume-goes e a r = same-step (accepts asked Event.resume waits ∙ gives) a r
+  resume-goes h a r = same-step (accepts asked Event.resume (waiting-left Event.resume [] resume-checks h ∙ none-met) ∙ gives) a r
     where
-      waits : first-refusal (refusals asked Event.resume) ≡ 0
-      waits = unfold refusals in-waiting header first-refusal is-ended is-run in (rw (← g, e))
-
       gives : accept asked Event.resume ≡ resume-with-resolved-futures asked
       gives = unfold accept in refl
+
+  module _ (t : ℕ) where
+    abbrev stop : Event
+    stop = Event.cancel t
+
+    abbrev stop-checks : List (ℕ × Bool)
+    stop-checks = (5, not (live asked t)) ∷ (9, eqb t 0) ∷ []
+
+    cancel-checks : refusals asked stop ≡ in-waiting asked stop-checks
+    unfolding refusals
+    cancel-checks = refl
+
+    pub cancel-ended : v .moment ≡ Moment.Ended → stepped-of (store-of ts os ps q (checked asked stop .store .log)) (Answer.Refused 3) ≡ checked asked stop
+    cancel-ended h = waiting-ended stop stop-checks cancel-checks h
+
+    pub cancel-running : (u : TaskId) → v .moment ≡ Moment.Running u → stepped-of (store-of ts os ps q (checked asked stop .store .log)) (Answer.Refused 4) ≡ checked asked stop
+    cancel-running u h = waiting-running stop stop-checks cancel-checks u h
+
+    module _ (h : v .moment ≡ Moment.Waiting) {b : Bool} (d : b ≡ not (live asked t)) where
+      pub cancel-dead : b ≡ true → stepped-of (store-of ts os ps q (checked asked stop .store .log)) (Answer.Refused 5) ≡ checked asked stop
+      cancel-dead i = refused-logs asked stop (Answer.Refused 5) (refuses asked stop 4 (waiting-left stop stop-checks cancel-checks h ∙ met 5 _ _ (sym d ∙ i)))
+
+      module _ (i : b ≡ false) where
+        lives : first-refusal (refusals asked stop) ≡ first-refusal ((9, eqb t 0) ∷ [])
+        lives = waiting-left stop stop-checks cancel-checks h ∙ unmet 5 _ _ (sym d ∙ i)
+
+        pub cancel-main : t ≡ 0 → stepped-of (store-of ts os ps q (checked asked stop .store .log)) (Answer.Refused 9) ≡ checked asked stop
+        cancel-main z = refused-logs asked stop (Answer.Refused 9) (refuses asked stop 8 (lives ∙ met 9 _ _ (eq-eqb t 0 z)))
+
+        pub cancel-goes : (t ≡ 0 → ⊥) → {ts′ os′ ps′ : List ℕ} {q′ : ReadyQueue}
+            → store-of ts′ os′ ps′ q′ (cancel-task asked t .log) ≡ cancel-task asked t
+            → stepped-of (store-of ts′ os′ ps′ q′ (checked asked stop .store .log)) Answer.Done ≡ checked asked stop
+        cancel-goes n r = same-step (accepts asked stop (lives ∙ unmet 9 _ _ (ne-eqb t 0 n) ∙ none-met) ∙ gives) Answer.Done (ap (λ (s : Store). record { store = s; answer = machine.Answer.done }) r)
+          where
+            gives : accept asked stop ≡ record { store = cancel-task asked t; answer = machine.Answer.done }
+            gives = unfold accept in refl
+
+-- ---- a task's number
+
+-- a number at or past the next one is no live task's
+pub past-next : (ts os ps : List ℕ) (q : ReadyQueue) (l : List LogEntry) (t : ℕ) {v : Header} → v ≡ header-at os → v .next ≤ t → true ≡ not (live (store-of ts os ps q l) t)
+unfolding live header
+past-next ts os ps q l t g i = let n : header-at os .next ≤ t = rw g at i in rw (le-ltb t (header-at os .next) n)
+
+-- one below it is, if its row says so
+pub below-next : (ts os ps : List ℕ) (q : ReadyQueue) (l : List LogEntry) (t : ℕ) {v : Header} → v ≡ header-at os → t < v .next
+    → {x : TaskState} → x ≡ task-at ts t .state → {b : Bool} → b ≡ is-live x → not b ≡ not (live (store-of ts os ps q l) t)
+unfolding live header task
+below-next ts os ps q l t g i e f = let n : t < header-at os .next = rw g at i in rw (lt-ltb t (header-at os .next) n, ← e, ← f)
+
+-- a live task's number is a task's
+pub live-fits : (ts os ps : List ℕ) (q : ReadyQueue) (l : List LogEntry) (t : ℕ) {b : Bool} → b ≡ not (live (store-of ts os ps q l) t) → b ≡ false → t < task-limit
+unfolding live header task
+live-fits ts os ps q l t d i = by (ltb t (header-at os .next)) refl
+  where
+    by : (c : Bool) → ltb t (header-at os .next) ≡ c → t < task-limit
+    by true e = omega (arith, ltb-true t (header-at os .next) e, header-at-fits os .next-fits)
+    by false e = absurd (true≢false (let z : not (pick (ltb t (header-at os .next)) (is-live (task-at ts t .state)) false) ≡ false = sym d ∙ i in rw e at z))
 
 -- ---- room for a gather
 

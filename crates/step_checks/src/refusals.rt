@@ -4,15 +4,20 @@ use asyncio::Moment;
 use asyncio::RESULT_BYTES;
 use asyncio::TaskId;
 ghost use mathlib.Core.Path.{_≡_};
-ghost use Prim.Native.Nat.{_≤_, _+_};
+ghost use mathlib.Core.Bool.{not};
+ghost use mathlib.Core.List.{List};
+ghost use Prim.Native.Nat.{ℕ, _≤_, _+_};
 ghost use lib.Dec.{leb};
 ghost use lib.ListN.{length};
 ghost use Rattle.asyncio.specs.Limits.{object-limit, call-limit};
 ghost use Rattle.rows.specs.Tables.{header-at};
+ghost use Rattle.queue.specs.declared.ReadyQueue.{ReadyQueue};
+ghost use Rattle.machine.specs.Store.{LogEntry};
+ghost use Rattle.machine.specs.Scheduler.{live};
 ghost use Rattle.step_checks.specs.Checked.{turn-of};
 ghost use Rattle.machine.specs.Machine.{any-of, result-unknown, bad-result};
 ghost use Rattle.exec_futures.specs.Results.{result-at, results-in};
-ghost use Rattle.contract.specs.Contract.{ObjectsLength, ReadsObjects};
+ghost use Rattle.contract.specs.Contract.{ObjectsLength, Lengths₂, kept, before, ReadsObjects};
 
 const OBJECTS: u16 = asyncio::OBJECTS as u16;
 
@@ -72,6 +77,20 @@ pub(crate) fn any_unmade(made: u16, items: &[u16]) -> bool
         i += 1;
     }
     false
+}
+
+// Is task `t` not live? A number that no task has is not, however large it is.
+pub fn not_live(tasks: &[u64], objects: &[u64], t: u16) -> bool
+    requires { ⌜ Lengths₂ tasks objects ⌝ }
+    ensures { λ r. ⌜ ((ps : List ℕ) (q : ReadyQueue) (l : List LogEntry)
+        → r ≡ not (live (before tasks objects (kept ps) q l) t)) ⌝ }
+{
+    let header = rows::tables::load_header(objects);
+    if header.next <= t {
+        return true;
+    }
+    let state = rows::parts::state_at(tasks, TaskId::new(t));
+    !state.is_live()
 }
 
 // Is the result at byte `at` a returned list of a gather that is not completed?

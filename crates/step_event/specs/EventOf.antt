@@ -17,3 +17,4 @@ event-of items bytes (Event.Complete v) = machine.Event.complete v
 event-of items bytes (Event.Fail n) = machine.Event.fail n
 event-of items bytes Event.Results = machine.Event.results (results-in bytes)
 event-of items bytes Event.Resume = machine.Event.resume
+event-of items bytes (Event.Cancel t) = machine.Event.cancel t

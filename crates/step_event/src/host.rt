@@ -1,14 +1,17 @@
-// Events of the host: results, resume.
+// Events of the host: results, resume, cancel.
 use asyncio::Moment;
 use asyncio::RESULT_BYTES;
 use asyncio::RESULTS;
+use asyncio::TaskId;
 use exec_events::ends::resume_with_resolved_futures;
 use exec_futures::results::apply_future_results;
 use exec_switch::answer::Answer;
 use exec_switch::answer::Stepped;
 use queue::ReadyQueue;
+use scheduler_cancel::cancel::cancel_task;
 use step_checks::refusals::any_bad;
 use step_checks::refusals::any_unknown;
+use step_checks::refusals::not_live;
 ghost use mathlib.Core.Path.{_≡_};
 ghost use Rattle.rows.specs.Tables.{header-at};
 ghost use Rattle.machine.specs.Sound.{is-ended};
@@ -91,5 +94,52 @@ pub fn resume(tasks: &mut [u64], objects: &mut [u64], queue: ReadyQueue) -> Step
             answer: Answer::Refused(4),
         },
         Moment::Waiting => resume_with_resolved_futures(tasks, objects, queue),
+    }
+}
+
+// The operator cancels task `t`: it goes, and with it the live tasks of the open items of the gather that it is blocked on, through nested gathers.
+// Done. Refused with 3 after the session's end, 4 while a task runs, 5 where `t` is not live, 9 where it is main. The objects and the places stay as
+// they were, refused or not: what a task that went awaited stays awaited.
+pub fn cancel(
+    tasks: &mut [u64],
+    objects: &[u64],
+    places: &[u64],
+    queue: ReadyQueue,
+    t: u16,
+) -> Stepped
+    requires { ⌜ Lengths tasks objects places ⌝ }
+    ensures { λ r. ⌜ Answers tasks objects places queue (λ s. checked s (Event.cancel t)) r ⌝ }
+{
+    let header = rows::tables::load_header(objects);
+    let moment = header.moment;
+    match moment {
+        Moment::Ended => Stepped {
+            queue,
+            answer: Answer::Refused(3),
+        },
+        Moment::Running(_) => Stepped {
+            queue,
+            answer: Answer::Refused(4),
+        },
+        Moment::Waiting => {
+            let dead = not_live(tasks, objects, t);
+            if dead {
+                return Stepped {
+                    queue,
+                    answer: Answer::Refused(5),
+                };
+            }
+            if t == 0 {
+                return Stepped {
+                    queue,
+                    answer: Answer::Refused(9),
+                };
+            }
+            let q = cancel_task(tasks, objects, places, queue, TaskId::new(t));
+            Stepped {
+                queue: q,
+                answer: Answer::Done,
+            }
+        }
     }
 }

@@ -1,6 +1,6 @@
 // One event of a sound store, whichever it is, with refusals 3 to 10: `step`.
 // It asks its caller for a sound store, and checks nothing of it.
-pub mod host; // the host's events: results, resume
+pub mod host; // the host's events: results, resume, cancel
 pub mod running; // the running task's: await, complete, fail
 
 use asyncio::OptionValue;
@@ -15,7 +15,7 @@ ghost use Rattle.step_checks.specs.Checked.{checked};
 ghost use Rattle.step_event.specs.EventOf.{event-of};
 ghost use Rattle.step_event.specs.LentStep.{LentStep};
 
-// The events of kinds 1 to 10. The items of a gather and the results of a batch stand in slices of their own.
+// The events of kinds 1 to 11. The items of a gather and the results of a batch stand in slices of their own.
 pub enum Event {
     Coroutine(u32),
     Call,
@@ -27,6 +27,7 @@ pub enum Event {
     Fail(u32),
     Results,
     Resume,
+    Cancel(u16),
 }
 
 // What a caller gets: the queue to pass back at the next call, the answer, and of a wait how many calls stand at the front of the list (0: it is no wait).
@@ -60,6 +61,7 @@ fn checked(
         Event::Fail(n) => running::fail(tasks, objects, queue, n),
         Event::Results => host::results(tasks, objects, places, queue, results),
         Event::Resume => host::resume(tasks, objects, queue),
+        Event::Cancel(t) => host::cancel(tasks, objects, places, queue, t),
     }
 }
 

@@ -7,6 +7,7 @@ use session::Event;
 use session::ReadyQueue;
 use session::await_object;
 use session::call;
+use session::cancel;
 use session::complete;
 use session::coroutine;
 use session::dispatch;
@@ -76,6 +77,7 @@ fn entered(
             results(tasks, objects, places, calls, queue, &plain_5)
         }
         Event::Resume => resume(tasks, objects, places, calls, queue),
+        Event::Cancel(t) => cancel(tasks, objects, places, calls, queue, t),
     }
 }
 

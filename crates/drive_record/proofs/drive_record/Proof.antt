@@ -21,11 +21,8 @@ write-refused-requires c κs = search needs
 enum-known-what : tie.Need-enum-known-what
 enum-known-what c = search needs
 
-asked-by-requires : tie.Need-asked-by-requires
-asked-by-requires c κs = search needs
-
 answered-requires : tie.Need-answered-requires
-answered-requires c κs = (c .before .before .before .before .before .before .before .before .before .before .before .before .before .before .before .before .pre .0, c .before .before .before .before .before .before .before .before .before .before .before .before .before .before .before .before .pre .1, asks-inside (now (c .before .before .before .before .before .before .before .before .before .before .before .before .before .before .before .before .args .src)) (c .before .before .before .before .before .before .before .before .before .before .before .before .before .before .before .before .args .from) (sym (parsed-is (c .before .before .before .before .before .before .before .before .before .parse-record .ensures)) ∙ c .before .before .before .before .before .before .before .what .given .1) (c .before .before .before .before .before .asked-by .ensures .0))
+answered-requires c κs = (c .before .before .before .before .before .before .before .before .before .before .before .before .before .before .before .pre .0, c .before .before .before .before .before .before .before .before .before .before .before .before .before .before .before .pre .1, asks-inside (now (c .before .before .before .before .before .before .before .before .before .before .before .before .before .before .before .args .src)) (c .before .before .before .before .before .before .before .before .before .before .before .before .before .before .before .args .from) _ (sym (parsed-is (c .before .before .before .before .before .before .before .before .parse-record .ensures)) ∙ c .before .before .before .before .before .before .what .given .1))
 
 returns : tie.Need-returns
 returns c = (λ l. end-drove _ _ _ _ l _ (now (c .before .before .before .before .before .before .before .before .before .args .src)) (c .before .before .before .before .before .before .before .before .before .args .from) (c .before .before .before .before .before .before .before .before .before .args .number) (sym (parsed-is (c .before .before .parse-record .ensures)) ∙ c .enum-told .given .1), rw (sym (parsed-is (c .before .before .parse-record .ensures)) ∙ c .enum-told .given .1) tt)
@@ -52,7 +49,7 @@ same-length-6 : tie.Need-same-length-6
 same-length-6 c = search needs
 
 returns-3 : tie.Need-returns-3
-returns-3 c = (λ l. same-drives (record-drives _ _ (now (c .before .before .before .before .before .before .before .before .before .before .before .before .before .before .before .before .before .before .before .before .before .before .before .before .before .before .before .args .src)) (c .before .before .before .before .before .before .before .before .before .before .before .before .before .before .before .before .before .before .before .before .before .before .before .before .before .before .before .args .from) (c .before .before .before .before .before .before .before .before .before .before .before .before .before .before .before .before .before .before .before .before .before .before .before .before .before .before .before .args .number) (sym (parsed-is (c .before .before .before .before .before .before .before .before .before .before .before .before .before .before .before .before .before .before .before .before .parse-record .ensures)) ∙ c .before .before .before .before .before .before .before .before .before .before .before .before .before .before .before .before .before .before .what .given .1) (c .before .before .before .before .before .before .before .before .before .before .before .before .before .before .before .before .asked-by .ensures .0)) (c .before .before .before .before .before .before .before .before .before .before .answered .ensures l), rw (sym (parsed-is (c .before .before .before .before .before .before .before .before .before .before .before .before .before .before .before .before .before .before .before .before .parse-record .ensures)) ∙ c .before .before .before .before .before .before .before .before .before .before .before .before .before .before .before .before .before .before .what .given .1) (c .before .before .before .before .before .before .before .before .before .before .before .before .before .before .before .before .asked-by .ensures .1))
+returns-3 c = (λ l. same-drives (record-drives _ _ (now (c .before .before .before .before .before .before .before .before .before .before .before .before .before .before .before .before .before .before .before .before .before .before .before .before .before .before .args .src)) (c .before .before .before .before .before .before .before .before .before .before .before .before .before .before .before .before .before .before .before .before .before .before .before .before .before .before .args .from) (c .before .before .before .before .before .before .before .before .before .before .before .before .before .before .before .before .before .before .before .before .before .before .before .before .before .before .args .number) (sym (parsed-is (c .before .before .before .before .before .before .before .before .before .before .before .before .before .before .before .before .before .before .before .parse-record .ensures)) ∙ c .before .before .before .before .before .before .before .before .before .before .before .before .before .before .before .before .before .what .given .1)) (c .before .before .before .before .before .before .before .before .before .before .answered .ensures .0 l), rw (sym (parsed-is (c .before .before .before .before .before .before .before .before .before .before .before .before .before .before .before .before .before .before .before .parse-record .ensures)) ∙ c .before .before .before .before .before .before .before .before .before .before .before .before .before .before .before .before .before .what .given .1) (c .before .before .before .before .before .before .before .before .before .before .answered .ensures .1))
 
 pub drive-record-spec : {M : Type 1} → statement M
 drive-record-spec =
@@ -63,7 +60,6 @@ drive-record-spec =
     enum-told-2
     write-refused-requires
     enum-known-what
-    asked-by-requires
     answered-requires
     returns
     same-length

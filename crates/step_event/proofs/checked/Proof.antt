@@ -65,6 +65,12 @@ enum-told-4 c = search needs
 resume-requires : tie.Need-resume-requires
 resume-requires c κs = search needs
 
+enum-known-event-7 : tie.Need-enum-known-event-7
+enum-known-event-7 c = search needs
+
+cancel-requires : tie.Need-cancel-requires
+cancel-requires c κs = search needs
+
 same-length : tie.Need-same-length
 same-length c = search needs
 
@@ -152,6 +158,18 @@ same-length-19 c = search needs
 returns-10 : tie.Need-returns-10
 returns-10 c = λ l. rw (c .before .before .before .before .before .before .before .enum-told4 .given .1) (c .before .before .before .before .resume .ensures _ l (c .before .before .before .before .before .before .before .before .before .before .before .before .before .before .pre .2))
 
+same-length-20 : tie.Need-same-length-20
+same-length-20 c = search needs
+
+same-length-21 : tie.Need-same-length-21
+same-length-21 c = search needs
+
+same-length-22 : tie.Need-same-length-22
+same-length-22 c = search needs
+
+returns-11 : tie.Need-returns-11
+returns-11 c = λ l. rw (c .before .before .before .before .before .before .before .event7 .given .1) (c .before .before .cancel .ensures l)
+
 pub checked-spec : {M : Type 1} → statement M
 checked-spec =
     tie.close
@@ -176,6 +194,8 @@ checked-spec =
     results-requires
     enum-told-4
     resume-requires
+    enum-known-event-7
+    cancel-requires
     same-length
     returns
     same-length-2
@@ -204,4 +224,8 @@ checked-spec =
     returns-9
     same-length-18
     same-length-19
-    returns-10)
+    returns-10
+    same-length-20
+    same-length-21
+    same-length-22
+    returns-11)

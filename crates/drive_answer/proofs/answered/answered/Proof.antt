@@ -1,50 +1,32 @@
+use mathlib.Core.Path.{refl}
+use mathlib.Core.Logic.{⊎-elim}
+use native.Mathlib.Omega.{arith}
+use Rattle.drive_answer.specs.DriveLaws.{AsksEvent, asks-drove}
 use mathlib.Core.List.{[]}
 use denote.Ref.{now}
 use Rattle.step_event.specs.SoundStepLaws.{right-slices}
-use Rattle.drive_answer.specs.Driver.{answered}
-use Rattle.drive_answer.specs.Drove.{asked-of}
+use Rattle.drive_answer.specs.Driver.{asked}
 use borrow.Author.Needs.{needs}
 use Rattle.drive_answer.proofs.answered.answered.Statement.{statement}
 use Rattle.drive_answer.proofs.answered.answered.Tie as tie
 
-enum-known-asks : tie.Need-enum-known-asks
-enum-known-asks c = search needs
-
-slice-aggregate-event-line : tie.Need-slice-aggregate-event-line
-slice-aggregate-event-line c = search needs
-
-event-line-requires : tie.Need-event-line-requires
-event-line-requires c κs = search needs
-
-enum-known-asks-2 : tie.Need-enum-known-asks-2
-enum-known-asks-2 c = search needs
-
-gather-line-requires : tie.Need-gather-line-requires
-gather-line-requires c κs = search needs
-
-enum-known-asks-3 : tie.Need-enum-known-asks-3
-enum-known-asks-3 c = search needs
-
-results-line-requires : tie.Need-results-line-requires
-results-line-requires c κs = (c .before .before .before .before .before .before .before .before .before .before .before .before .before .before .pre .0, c .before .before .before .before .before .before .before .before .before .before .before .before .before .before .pre .1, rw (c .before .before .before .before .before .before .asks3 .given .1) at (c .before .before .before .before .before .before .before .before .before .before .before .before .before .before .pre .2))
-
-enum-known-asks-4 : tie.Need-enum-known-asks-4
-enum-known-asks-4 c = search needs
-
-show-line-requires : tie.Need-show-line-requires
-show-line-requires c κs = (right-slices (now (c .before .before .before .before .before .before .before .before .before .before .before .before .before .args .tasks)) (now (c .before .before .before .before .before .before .before .before .before .before .before .before .before .args .objects)) (now (c .before .before .before .before .before .before .before .before .before .before .before .before .before .args .places)) (c .before .before .before .before .before .before .before .before .before .before .before .before .before .args .queue) (now (c .before .before .before .before .before .before .before .before .before .before .before .before .before .args .calls)) (c .before .before .before .before .before .before .before .before .before .before .before .before .before .pre .0) [], c .before .before .before .before .before .before .before .before .before .before .before .before .before .pre .1)
+enum-known-what : tie.Need-enum-known-what
+enum-known-what c = search needs
 
 enum-told : tie.Need-enum-told
 enum-told c = search needs
 
-eager-line-requires : tie.Need-eager-line-requires
-eager-line-requires c κs = (right-slices (now (c .before .before .before .before .before .before .before .before .before .before .before .before .before .args .tasks)) (now (c .before .before .before .before .before .before .before .before .before .before .before .before .before .args .objects)) (now (c .before .before .before .before .before .before .before .before .before .before .before .before .before .args .places)) (c .before .before .before .before .before .before .before .before .before .before .before .before .before .args .queue) (now (c .before .before .before .before .before .before .before .before .before .before .before .before .before .args .calls)) (c .before .before .before .before .before .before .before .before .before .before .before .before .before .pre .0) [], c .before .before .before .before .before .before .before .before .before .before .before .before .before .pre .1)
+enum-known-what-2 : tie.Need-enum-known-what-2
+enum-known-what-2 c = search needs
 
-enum-told-2 : tie.Need-enum-told-2
-enum-told-2 c = search needs
+enum-known-what-3 : tie.Need-enum-known-what-3
+enum-known-what-3 c = search needs
 
-cancel-line-requires : tie.Need-cancel-line-requires
-cancel-line-requires c κs = search needs
+enum-known-what-4 : tie.Need-enum-known-what-4
+enum-known-what-4 c = search needs
+
+gather-line-requires : tie.Need-gather-line-requires
+gather-line-requires c κs = search needs
 
 same-length : tie.Need-same-length
 same-length c = search needs
@@ -62,8 +44,23 @@ same-length-5 : tie.Need-same-length-5
 same-length-5 c = search needs
 
 returns : tie.Need-returns
-unfolding asked-of
-returns c = λ l. rw (c .before .before .before .before .before .before .before .before .before .before .before .before .before .before .before .before .before .before .asks .given .1) (c .before .before .before .before .before .before .before .before .before .before .event-line .ensures l)
+unfolding asked
+returns c = (λ l. rw (c .before .before .before .before .before .before .before .before .before .before .before .before .before .before .before .before .before .what4 .given .1) (c .before .before .before .before .before .before .before .before .before .before .gather-line .ensures l), rw (c .before .before .before .before .before .before .before .before .before .before .before .before .before .before .before .before .before .what4 .given .1) tt)
+
+enum-known-what-5 : tie.Need-enum-known-what-5
+enum-known-what-5 c = search needs
+
+enum-known-what-6 : tie.Need-enum-known-what-6
+enum-known-what-6 c = search needs
+
+enum-known-what-7 : tie.Need-enum-known-what-7
+enum-known-what-7 c = search needs
+
+enum-known-what-8 : tie.Need-enum-known-what-8
+enum-known-what-8 c = search needs
+
+results-line-requires : tie.Need-results-line-requires
+results-line-requires c κs = (c .before .before .before .before .before .before .before .before .before .before .before .before .before .before .pre .0, c .before .before .before .before .before .before .before .before .before .before .before .before .before .before .pre .1, rw (c .before .before .before .before .before .before .what8 .given .1) at (c .before .before .before .before .before .before .before .before .before .before .before .before .before .before .pre .2))
 
 same-length-6 : tie.Need-same-length-6
 same-length-6 c = search needs
@@ -81,8 +78,20 @@ same-length-10 : tie.Need-same-length-10
 same-length-10 c = search needs
 
 returns-2 : tie.Need-returns-2
-unfolding asked-of
-returns-2 c = λ l. rw (c .before .before .before .before .before .before .before .before .before .before .before .before .before .before .before .before .before .asks2 .given .1) (c .before .before .before .before .before .before .before .before .before .before .gather-line .ensures l)
+unfolding asked
+returns-2 c = (λ l. rw (c .before .before .before .before .before .before .before .before .before .before .before .before .before .before .before .before .before .what8 .given .1) (c .before .before .before .before .before .before .before .before .before .before .results-line .ensures l), rw (c .before .before .before .before .before .before .before .before .before .before .before .before .before .before .before .before .before .what8 .given .1) tt)
+
+enum-told-2 : tie.Need-enum-told-2
+enum-told-2 c = search needs
+
+enum-known-what-9 : tie.Need-enum-known-what-9
+enum-known-what-9 c = search needs
+
+enum-known-what-10 : tie.Need-enum-known-what-10
+enum-known-what-10 c = search needs
+
+show-line-requires : tie.Need-show-line-requires
+show-line-requires c κs = (right-slices (now (c .before .before .before .before .before .before .before .before .before .before .before .before .before .args .tasks)) (now (c .before .before .before .before .before .before .before .before .before .before .before .before .before .args .objects)) (now (c .before .before .before .before .before .before .before .before .before .before .before .before .before .args .places)) (c .before .before .before .before .before .before .before .before .before .before .before .before .before .args .queue) (now (c .before .before .before .before .before .before .before .before .before .before .before .before .before .args .calls)) (c .before .before .before .before .before .before .before .before .before .before .before .before .before .pre .0) [], c .before .before .before .before .before .before .before .before .before .before .before .before .before .pre .1)
 
 same-length-11 : tie.Need-same-length-11
 same-length-11 c = search needs
@@ -96,12 +105,18 @@ same-length-13 c = search needs
 same-length-14 : tie.Need-same-length-14
 same-length-14 c = search needs
 
+returns-3 : tie.Need-returns-3
+unfolding asked
+returns-3 c = (λ l. rw (c .before .before .before .before .before .before .before .before .what10 .given .1) (c .before .before .show-line .ensures _ l), rw (c .before .before .before .before .before .before .before .before .what10 .given .1) tt)
+
+enum-told-3 : tie.Need-enum-told-3
+enum-told-3 c = search needs
+
+eager-line-requires : tie.Need-eager-line-requires
+eager-line-requires c κs = (right-slices (now (c .before .before .before .before .before .before .before .before .before .before .before .before .before .args .tasks)) (now (c .before .before .before .before .before .before .before .before .before .before .before .before .before .args .objects)) (now (c .before .before .before .before .before .before .before .before .before .before .before .before .before .args .places)) (c .before .before .before .before .before .before .before .before .before .before .before .before .before .args .queue) (now (c .before .before .before .before .before .before .before .before .before .before .before .before .before .args .calls)) (c .before .before .before .before .before .before .before .before .before .before .before .before .before .pre .0) [], c .before .before .before .before .before .before .before .before .before .before .before .before .before .pre .1)
+
 same-length-15 : tie.Need-same-length-15
 same-length-15 c = search needs
-
-returns-3 : tie.Need-returns-3
-unfolding asked-of
-returns-3 c = λ l. rw (c .before .before .before .before .before .before .before .before .before .before .before .before .before .before .before .before .before .asks3 .given .1) (c .before .before .before .before .before .before .before .before .before .before .results-line .ensures l)
 
 same-length-16 : tie.Need-same-length-16
 same-length-16 c = search needs
@@ -116,8 +131,14 @@ same-length-19 : tie.Need-same-length-19
 same-length-19 c = search needs
 
 returns-4 : tie.Need-returns-4
-unfolding asked-of
-returns-4 c = λ l. rw (c .before .before .before .before .before .before .before .before .asks4 .given .1) (c .before .before .show-line .ensures _ l)
+unfolding asked
+returns-4 c = (λ l. rw (c .before .before .before .before .before .before .before .before .enum-told3 .given .1) (c .before .before .eager-line .ensures l), rw (c .before .before .before .before .before .before .before .before .enum-told3 .given .1) tt)
+
+slice-aggregate-event-line : tie.Need-slice-aggregate-event-line
+slice-aggregate-event-line c = search needs
+
+event-line-requires : tie.Need-event-line-requires
+event-line-requires c κs = search needs
 
 same-length-20 : tie.Need-same-length-20
 same-length-20 c = search needs
@@ -135,61 +156,67 @@ same-length-24 : tie.Need-same-length-24
 same-length-24 c = search needs
 
 returns-5 : tie.Need-returns-5
-unfolding asked-of
-returns-5 c = λ l. rw (c .before .before .before .before .before .before .before .before .enum-told .given .1) (c .before .before .eager-line .ensures l)
-
-same-length-25 : tie.Need-same-length-25
-same-length-25 c = search needs
-
-returns-6 : tie.Need-returns-6
-unfolding asked-of answered
-returns-6 c = λ l. rw (c .before .before .before .before .enum-told2 .given .1) (c .before .before .cancel-line .ensures _ _ _ _ l)
+unfolding asked
+returns-5 c = let a : AsksEvent (now (c .before .before .before .before .before .before .before .before .before .before .before .before .before .before .before .before .before .before .before .before .before .before .before .before .args .src)) (c .before .before .before .before .before .before .before .before .before .before .before .before .before .before .before .before .before .before .before .before .before .before .before .before .args .what) (c .before .before .before .before .before .before .before .before .before .before .before .before .before .before .before .before .before .match .event) = ⊎-elim (λ w. rw (w .1 .given .1, w .3) (record { is-event = refl; fits = omega (arith, w .2 .given) }))
+    (⊎-elim (λ w. rw (w .1 .given .1, w .2) (record { is-event = refl; fits = tt }))
+    (⊎-elim (λ w. rw (w .1 .given .1, w .3) (record { is-event = refl; fits = tt }))
+    (⊎-elim (λ w. rw (w .1 .given .1, w .3) (record { is-event = refl; fits = tt }))
+    (⊎-elim (λ w. rw (w .1 .given .1, w .3) (record { is-event = refl; fits = tt }))
+    (⊎-elim (λ w. rw (w .1 .given .1, w .3) (record { is-event = refl; fits = tt }))
+    (⊎-elim (λ w. rw (w .1 .given .1, w .3) (record { is-event = refl; fits = omega (arith, w .2 .given) }))
+    (⊎-elim (λ w. rw (w .1 .given .1, w .2) (record { is-event = refl; fits = tt }))
+    (λ w. rw (w .1 .given .1, w .3) (record { is-event = refl; fits = tt }))))))))) (c .before .before .before .before .before .before .before .before .before .before .before .before .before .before .before .before .before .match .came)
+    in (λ l. asks-drove (now (c .before .before .before .before .before .before .before .before .before .before .before .before .before .before .before .before .before .before .before .before .before .before .before .before .args .src)) _ _ _ _ a (c .before .before .before .before .before .before .before .before .before .before .event-line .ensures l), a .fits)
 
 pub answered-spec : {M : Type 1} → statement M
 answered-spec =
     tie.close
     (tie.spec
-    enum-known-asks
-    slice-aggregate-event-line
-    event-line-requires
-    enum-known-asks-2
-    gather-line-requires
-    enum-known-asks-3
-    results-line-requires
-    enum-known-asks-4
-    show-line-requires
+    enum-known-what
     enum-told
-    eager-line-requires
-    enum-told-2
-    cancel-line-requires
+    enum-known-what-2
+    enum-known-what-3
+    enum-known-what-4
+    gather-line-requires
     same-length
     same-length-2
     same-length-3
     same-length-4
     same-length-5
     returns
+    enum-known-what-5
+    enum-known-what-6
+    enum-known-what-7
+    enum-known-what-8
+    results-line-requires
     same-length-6
     same-length-7
     same-length-8
     same-length-9
     same-length-10
     returns-2
+    enum-told-2
+    enum-known-what-9
+    enum-known-what-10
+    show-line-requires
     same-length-11
     same-length-12
     same-length-13
     same-length-14
-    same-length-15
     returns-3
+    enum-told-3
+    eager-line-requires
+    same-length-15
     same-length-16
     same-length-17
     same-length-18
     same-length-19
     returns-4
+    slice-aggregate-event-line
+    event-line-requires
     same-length-20
     same-length-21
     same-length-22
     same-length-23
     same-length-24
-    returns-5
-    same-length-25
-    returns-6)
+    returns-5)
