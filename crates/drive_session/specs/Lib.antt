@@ -1,0 +1,4 @@
+pub mod Fold
+pub mod FoldLaws
+pub mod Session
+pub mod LeftLaws
