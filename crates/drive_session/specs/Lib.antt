@@ -2,3 +2,6 @@ pub mod Fold
 pub mod FoldLaws
 pub mod Session
 pub mod LeftLaws
+pub mod SessionLaws
+pub mod ByteLaws
+pub mod DemandThreeDriven

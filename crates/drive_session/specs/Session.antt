@@ -35,7 +35,8 @@ ended-at d bytes number = record { queue = d .queue; refusal = stop-refusal byte
 -- The call leaves, returns and writes what x says.
 abbrev pub LeavesAll : Slice → Slice → Slice → Slice → Slice → DrivenSession → DrivesAll → Type 0
 LeavesAll tasks objects places calls out r x =
-    DroveAll (now (tasks .exit)) (now (objects .exit)) (now (places .exit)) (now (calls .exit)) r (out-of (now (out .entry)) 0) (out-of (now (out .exit)) (r .at)) x
+    DroveAll (now (tasks .exit)) (now (objects .exit)) (now (places .exit)) (now (calls .exit)) r (out-of (now (out .entry)) 0)
+    (out-of (now (out .exit)) (r .at)) x
 
 -- A session that has just begun, and a list with room for every wait.
 abbrev pub Begun : Words → Words → Words → Words → ReadyQueue → Type 0
@@ -48,4 +49,5 @@ DrivesRecords tasks objects places calls src out r = LeavesAll tasks objects pla
 -- The call begins a session and takes its records; all is unchanged where a length is wrong. With every log before it.
 abbrev pub DrivesSession : Slice → Slice → Slice → Slice → Slice → Slice → DrivenSession → Type 0
 DrivesSession tasks objects places calls src out r =
-    (l : List LogEntry) → LeavesAll tasks objects places calls out r (lent-session (before tasks objects places empty-queue l) (now (calls .entry)) (now (src .entry)))
+    (l : List LogEntry)
+    → LeavesAll tasks objects places calls out r (lent-session (before tasks objects places empty-queue l) (now (calls .entry)) (now (src .entry)))
