@@ -1,4 +1,6 @@
 -- In every session a wait names exactly the calls that are unanswered then, each once and ascending.
+pub mod Calls
+pub mod CallEvents
 use mathlib.Core.Path.{_≡_, refl, sym, ap, subst, _∙_}
 use mathlib.Core.Bool.{Bool, true, false, not, _&&_, _||_, true≢false}
 use mathlib.Core.List.{List, [], _∷_}
@@ -36,9 +38,9 @@ use Rattle.machine_theorems.specs.Soundness.Stores.{SoundStore}
 use Rattle.machine_theorems.specs.Soundness.Sessions.{forget-sound-store}
 use Rattle.machine.specs.Sessions.{Sent, lent-any, entry-of, Session, begun, send, send-all, session, AllSentInRange}
 use Rattle.machine.specs.DemandThree.{Above, Rising, WaitRight, ControlRight, WaitsRight}
-use Rattle.machine_sessions.specs.Following.{accept-accepts, Sends, stepped, short, sends, Following, send-following, session-follows}
-use Rattle.machine_sessions.specs.Calls.{pending-call, called, pends, pending-calls-are, in-insert, in-calls}
-use Rattle.machine_sessions.specs.CallEvents.{answered, called-none, at-some, later-pends, RowsDistinct, ControlDistinct, WaitDistinct, accept-pends, accept-distinct}
+use Rattle.machine_sessions.specs.Queue.Following.{accept-accepts, Sends, stepped, short, sends, Following, send-following, session-follows}
+use Rattle.machine_sessions.specs.Waits.Calls.{pending-call, called, pends, pending-calls-are, in-insert, in-calls}
+use Rattle.machine_sessions.specs.Waits.CallEvents.{answered, called-none, at-some, later-pends, RowsDistinct, ControlDistinct, WaitDistinct, accept-pends, accept-distinct}
 
 -- ---- the list rises
 

@@ -19,6 +19,7 @@ pub mod AwaitGather
 pub mod Preserved
 pub mod Sessions
 pub mod NeverUnsound
+pub mod RowFacts
 pub mod FillLaws
 use mathlib.Core.Path.{_≡_}
 use mathlib.Core.List.{List}

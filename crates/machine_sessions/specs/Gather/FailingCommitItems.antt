@@ -1,0 +1,275 @@
+-- The walk through the items of a gather on the commit's stack: it stops at the first one that raises.
+use mathlib.Core.Path.{_≡_, refl, ap, sym, subst, _∙_}
+use mathlib.Core.Logic.{inl, inr}
+use mathlib.Core.Bool.{Bool, true, false}
+use mathlib.Core.List.{List, [], _∷_}
+use mathlib.Core.Option.{Option, none, some}
+use Prim.Native.Nat.{ℕ, zero, suc, _+_, _≤_, _<_}
+use native.Mathlib.Nat.{not-suc-le-zero}
+use native.Mathlib.Omega.{arith}
+use lib.Dec.{T, ltb, ltb→lt}
+use borrow.Author.Tests.{ltb-true}
+use Rattle.asyncio.specs.declared.CallId.{CallId}
+use Rattle.asyncio.specs.declared.Error.{Error}
+use Rattle.asyncio.specs.declared.OptionValue.{OptionValue}
+use Rattle.asyncio.specs.Parts.{first-of, count-of}
+use Rattle.asyncio.specs.declared.Value.{Value}
+use Rattle.asyncio.specs.declared.Awaiter.{Awaiter}
+use Rattle.asyncio.specs.declared.CoroutineState.{CoroutineState}
+use Rattle.asyncio.specs.declared.ExternalFutureState.{ExternalFutureState}
+use Rattle.asyncio.specs.declared.GatherState.{GatherState}
+use Rattle.asyncio.specs.declared.Object.{Object}
+use Rattle.asyncio.specs.declared.Place.{Place}
+use Rattle.asyncio.specs.declared.Header.{Header}
+use Rattle.asyncio.specs.Limits.{object-limit, place-limit, task-limit}
+use Rattle.asyncio.specs.Ranges.{ObjectFits, ValueFits}
+use Rattle.asyncio.specs.Numbers.{heap-id}
+use Rattle.asyncio.specs.States.{pick}
+use Rattle.machine.specs.Store.{Store, view, object, place, header, put-object}
+use Rattle.machine.specs.Scheduler.{AwaitedGather, PendingExternal, as-awaited, as-pending, task-of, spawn-as, spawn-unless, spawn}
+use Rattle.machine.specs.Commit.{Poll, ready, raised, pending, gives, await-pending, await-external, Item, polled, nested, polled-spawn, item-coroutine, item-gather, item-object, open-from, item}
+use Rattle.machine.specs.Commit.{open-place, fill-place, Stop, at-end, at-nested, at-error, put-polled, put-item, step-item, step-items, Frame}
+use Rattle.machine.specs.Sound.{places-below, items-below, object-in-range}
+use Rattle.machine_laws.specs.Facts.{Open}
+use Rattle.machine_laws.specs.FactLaws.{open-found}
+use Rattle.machine_laws.specs.TestLaws.{holds, below}
+use Rattle.machine_laws.specs.StoreLaws.{sized-put-object, header-put-object, object-put-object, object-put-other, object-fits, place-fits, header-fits}
+use Rattle.machine_laws.specs.SizedLaws.{sized-spawn-as}
+use Rattle.machine_laws.specs.DeliveryLaws.{absurd-some, awaited-object}
+use Rattle.machine_theorems.specs.Soundness.Fill.{gather-within, open-small, awaits-on}
+use Rattle.machine_theorems.specs.Soundness.Memory.{Memory}
+use Rattle.machine_theorems.specs.Soundness.CommitSteps.{wider, wider-small}
+use Rattle.machine_theorems.specs.Soundness.CommitInv.{OnStack, OnTop, Stacked, bottom, above, Inv}
+use Rattle.machine_theorems.specs.Soundness.CommitLoop.{awaits-fits}
+use Rattle.machine_theorems.specs.Soundness.CommitItems.{Goes, PollOk, ItemOk, goes-length, one-keeps}
+use Rattle.machine_laws.specs.DeliveryLaws.{pending-object}
+use Rattle.machine_sessions.specs.Gather.Failing.{CommitMoves, commit-places, commit-takes}
+use Rattle.machine_sessions.specs.Gather.FailingStated.{Passed, PollRaises, broken, failed, coroutine-reused, future-reused, gather-reused, item-at}
+use Rattle.machine_sessions.specs.Gather.FailingCommitSteps.{Committing, committing-spawn, spawn-rows, Calm, Level, Levels, Going, going-same, going-opens, going-fills, going-lower}
+
+-- ---- the stack
+
+-- the gathers on it are not lower than the top
+pub stack-high : {n : ℕ} {os : ℕ → Object} {ps : ℕ → Place} {root t g : ℕ} {a : Awaiter} {fs : List Frame} {k : ℕ} → Stacked n os ps root t g a fs k → (q : ℕ) → OnTop g fs q → g ≤ q
+stack-high (bottom d a) q (inl z) = omega arith
+stack-high (bottom d a) q (inr z) = absurd z
+stack-high (above v j op lt nm lo aw rm rest) q (inl z) = omega arith
+stack-high (above v j op lt nm lo aw rm rest) q (inr z) = omega (arith, lo, stack-high rest q z)
+
+-- those below it are higher
+pub stack-above : {n : ℕ} {os : ℕ → Object} {ps : ℕ → Place} {root t g : ℕ} {a : Awaiter} {fs : List Frame} {k : ℕ} → Stacked n os ps root t g a fs k → (q : ℕ) → OnStack fs q → g < q
+stack-above (bottom d a) q z = absurd z
+stack-above (above v j op lt nm lo aw rm rest) q z = omega (arith, lo, stack-high rest q z)
+
+-- ---- where the walk stops
+
+module _ (s : Store) where
+  -- at an error: the item in place i raises it
+  pub record AtRaise (u : Store) (g : ℕ) (fs : List Frame) (e : Error) : Type 0 where
+    pub i : ℕ
+    pub going : Going s u g i fs
+    pub under : i < count-of (object s g)
+    pub raises : PollRaises (object u (item-at s g i)) e
+    pub off : OnTop g fs (item-at s g i) → ⊥
+
+  -- at the end
+  pub record AtDone (u : Store) (g : ℕ) (fs : List Frame) : Type 0 where
+    pub i : ℕ
+    pub going : Going s u g i fs
+
+  abbrev pub StopFails : ℕ → List Frame → Stop → Type 0
+  StopFails g fs (at-end u) = AtDone u g fs
+  StopFails g fs (at-nested u i o) = Going s u g i fs
+  StopFails g fs (at-error u e) = AtRaise u g fs e
+
+  module _ (root t g : ℕ) (fs : List Frame) (i : ℕ) (u : Store) (mem : Memory u) (h : Inv root t 0 (OnTop g fs) (view u) g i fs) (less : i < h .w .count) (k : Going s u g i fs) where
+    abbrev w : AwaitedGather
+    w = h .w
+
+    abbrev o : ℕ
+    o = place u (w .first + i) .item .0
+
+    -- what the item in place i gave, put into it
+    abbrev PollFails : Store → Poll → Type 0
+    PollFails x (ready v) = Going s (fill-place x w i v) g (i + 1) fs
+    PollFails x (raised e) = AtRaise x g fs e
+    PollFails x pending = Going s (open-place x g w i) g (i + 1) fs
+
+    abbrev ItemFails : Item → Type 0
+    ItemFails nested = Unit {0}
+    ItemFails (polled r) = PollFails (r .store) (r .poll)
+
+    top : as-awaited (object u g) ≡ some w
+    unfolding view
+    top = h .opened .awaited
+
+    made : g < header u .made
+    unfolding view
+    made = h .opened .made
+
+    low-g : g < object-limit
+    low-g = omega (arith, made, header-fits u .made-fits)
+
+    low-o : o < object-limit
+    low-o = place-fits u (w .first + i) .item-fits
+
+    lower : o < g
+    unfolding view items-below
+    lower =
+        let low : T (items-below (place u) g (Object.GatherFuture (w .first) (w .count) (GatherState.Awaited (w .awaiter) (w .open-places)))) =
+        subst (λ (y : Object). T (items-below (place u) g y)) (awaited-object (object u g) w top) (h .but .items g made) in
+        ltb→lt _ g (below (w .count) _ low i less)
+
+    wide-fits : ObjectFits (awaits-on w (wider w i))
+    unfolding view
+    wide-fits = awaits-fits u g w top (wider w i) (wider-small w i less (open-small g w (h .but) made top))
+
+    low-place : w .first + i < place-limit
+    unfolding view
+    low-place = omega (arith, gather-within g w (h .but) made top, less, h .but .fits .used-fits)
+
+    -- no item is on the stack
+    off-stack : OnTop g fs o → ⊥
+    unfolding view
+    off-stack q = not-suc-le-zero {n = 0} (omega (arith, lower, stack-high (h .stack) o q))
+
+    apart : (p : ℕ) → OnStack fs p → p ≡ g → ⊥
+    unfolding view
+    apart p q d = not-suc-le-zero {n = 0} (omega (arith, d, stack-above (h .stack) p q))
+
+    -- places and items are as before the commit
+    spot : (first-of (object s g) ≡ w .first) × (count-of (object s g) ≡ w .count)
+    spot = commit-places (object s g) (w .first) (w .count) (GatherState.Awaited (w .awaiter) (w .open-places)) (subst (CommitMoves (object s g)) (awaited-object (object u g) w top) (k .commits .moves g))
+
+    item-is : (j : ℕ) → place u (w .first + j) .item .0 ≡ item-at s g j
+    item-is j = k .commits .items (w .first + j) ∙ ap (λ (n : ℕ). place s (n + j) .item .0) (sym (spot .0))
+
+    calm : Passed (object u o) → Calm s (OnTop g fs) u (item-at s g i)
+    calm p = subst (Calm s (OnTop g fs) u) (item-is i) (record { passed = p; off = off-stack })
+
+    -- it raises
+    err : (e : Error) → PollRaises (object u o) e → ItemFails (polled (gives u (raised e)))
+    err e p = record {
+      i = i;
+      going = k;
+      under = subst (λ (n : ℕ). i < n) (sym (spot .1)) less;
+      raises = subst (λ (j : ℕ). PollRaises (object u j) e) (item-is i) p;
+      off = subst (λ (j : ℕ). OnTop g fs j → ⊥) (item-is i) off-stack;
+    }
+
+    -- another place of an item that is open
+    again : Open (place u) w o → ItemFails (polled (gives u pending))
+    again op =
+        going-opens s u g i fs w (mem .sized) low-g wide-fits top apart
+        (subst (Calm s (OnTop g fs) u) (sym (item-is (op .at)) ∙ (op .names ∙ item-is i)) (k .top .left (op .at) (k .top .bits w top (op .at) (op .is-open)))) k
+
+    fills : (v : Value) → ValueFits v → Passed (object u o) → ItemFails (polled (gives u (ready v)))
+    fills v f p = going-fills s u g i fs w v (mem .sized) low-place f (calm p) k
+
+    -- a pending external without awaiter takes the slot
+    takes : (c : CallId) (r : OptionValue) → object u o ≡ Object.ExternalFuture c (ExternalFutureState.Pending Awaiter.Nobody r)
+        → ItemFails (polled (gives (put-object u o (Object.ExternalFuture c (ExternalFutureState.Pending (Awaiter.GatherSlot (heap-id g) (heap-id o)) r))) pending))
+    takes c r e =
+        going-opens s u2 g i fs w (sized-put-object u o x (mem .sized)) low-g wide-fits (ap as-awaited (object-put-other u o g x (λ d. not-suc-le-zero {n = 0} (omega (arith, lower, d)))) ∙ top) apart
+        (subst (Calm s (OnTop g fs) u2) (item-is i) (record { passed = subst Passed (sym (object-put-object u o x (mem .sized) low-o fit)) tt; off = off-stack }))
+        (going-lower s u g i fs o x (mem .sized) low-o fit (commit-takes (object s o) c r (Awaiter.GatherSlot (heap-id g) (heap-id o)) (subst (CommitMoves (object s o)) e (k .commits .moves o)))
+        (λ f q. no-coroutine c r f (sym e ∙ q)) off-stack tt k)
+      where
+        x : Object
+        x = Object.ExternalFuture c (ExternalFutureState.Pending (Awaiter.GatherSlot (heap-id g) (heap-id o)) r)
+
+        u2 : Store
+        u2 = put-object u o x
+
+        no-coroutine : (c : CallId) (r : OptionValue) (f : ℕ) → Object.ExternalFuture c (ExternalFutureState.Pending Awaiter.Nobody r) ≡ Object.Coroutine f CoroutineState.New → ⊥
+        no-coroutine c r f q = let z : _≡_ {A = ℕ} 0 1 = cc in not-suc-le-zero {n = 0} (omega arith)
+
+        fit : ObjectFits x
+        fit =
+            let old : ObjectFits (Object.ExternalFuture c (ExternalFutureState.Pending Awaiter.Nobody r)) = subst ObjectFits e (object-fits u o) in
+            (old .0, ((low-g, low-o), old .1 .1))
+
+    -- a task is spawned for a new coroutine
+    spawns : (f : ℕ) → object u o ≡ Object.Coroutine f CoroutineState.New → ItemFails (polled (polled-spawn u (spawn u o g)))
+    unfolding spawn
+    spawns f e = by (task-of u o)
+      where
+        reused : ItemFails (polled (gives u (raised Error.CoroutineReuse)))
+        reused = err Error.CoroutineReuse (subst (λ (y : Object). PollRaises y Error.CoroutineReuse) (sym e) (coroutine-reused f CoroutineState.New))
+
+        spawned-fails : header u .next < task-limit → ItemFails (polled (polled-spawn u (some (spawn-as u (header u .next) o g))))
+        spawned-fails room = unfold polled-spawn in
+            (going-opens s v g i fs w (sized-spawn-as u (header u .next) o g (mem .sized)) low-g wide-fits (ap as-awaited (spawn-rows s u (header u .next) o g g) ∙ top) apart
+            (subst (Calm s (OnTop g fs) v) (item-is i) (record { passed = subst Passed (sym (spawn-rows s u (header u .next) o g o ∙ e)) tt; off = off-stack }))
+            (going-same s u v g i fs (committing-spawn s u o g f (mem .sized) room low-o low-g e (k .commits)) (λ p. spawn-rows s u (header u .next) o g p) k))
+          where
+            v : Store
+            v = spawn-as u (header u .next) o g
+
+        room-or : (b : Bool) → ltb (header u .next) task-limit ≡ b → ItemFails (polled (polled-spawn u (pick b (some (spawn-as u (header u .next) o g)) none)))
+        room-or true z = spawned-fails (ltb-true (header u .next) task-limit z)
+        room-or false z = unfold polled-spawn in reused
+
+        by : (d : Option ℕ) → ItemFails (polled (polled-spawn u (spawn-unless u o g d)))
+        by (some v) = unfold spawn-unless polled-spawn in reused
+        by none = unfold spawn-unless in (room-or (ltb (header u .next) task-limit) refl)
+
+    -- every item is made
+    no-unmade : object u o ≡ Object.Unmade → ⊥
+    unfolding view object-in-range
+    no-unmade e = subst (λ (y : Object). T (object-in-range (header u) (places-below (object u) o) y)) e (h .but .objects o (omega (arith, lower, made)))
+
+    raising : (e : Error) (x : Object) → object u o ≡ x → PollRaises x e → ItemFails (polled (gives u (raised e)))
+    raising e x q p = err e (subst (λ (y : Object). PollRaises y e) (sym q) p)
+
+    passes : (x : Object) → object u o ≡ x → Passed x → Passed (object u o)
+    passes x q p = subst Passed (sym q) p
+
+    -- every item
+    item-fails : (x : Object) → object u o ≡ x → ItemFails (item-object u g o x)
+    unfolding item-object item-gather await-external await-pending item-coroutine
+    item-fails Object.Unmade e = absurd (no-unmade e)
+    item-fails (Object.Coroutine f CoroutineState.New) e = spawns f e
+    item-fails (Object.Coroutine f CoroutineState.Running) e = raising Error.CoroutineReuse _ e (coroutine-reused f CoroutineState.Running)
+    item-fails (Object.Coroutine f CoroutineState.Completed) e = raising Error.CoroutineReuse _ e (coroutine-reused f CoroutineState.Completed)
+    item-fails (Object.ExternalFuture c (ExternalFutureState.Pending Awaiter.Nobody r)) e = takes c r e
+    item-fails (Object.ExternalFuture c (ExternalFutureState.Pending (Awaiter.Task v) r)) e = raising Error.FutureReuse _ e (future-reused c (Awaiter.Task v) r)
+    item-fails (Object.ExternalFuture c (ExternalFutureState.Pending (Awaiter.GatherSlot f y) r)) e = raising Error.FutureReuse _ e (future-reused c (Awaiter.GatherSlot f y) r)
+    item-fails (Object.ExternalFuture c (ExternalFutureState.Resolved x)) e = fills x (subst ObjectFits e (object-fits u o) .1) (passes _ e tt)
+    item-fails (Object.ExternalFuture c (ExternalFutureState.Failed x)) e = raising x _ e (broken c x)
+    item-fails (Object.GatherFuture f m GatherState.Pending) e = tt
+    item-fails (Object.GatherFuture f m (GatherState.Awaited a j)) e = raising Error.GatherReuse _ e (gather-reused f m a j)
+    item-fails (Object.GatherFuture f m GatherState.Completed) e = fills (Value.List (heap-id o)) low-o (passes _ e tt)
+    item-fails (Object.GatherFuture f m (GatherState.Failed x)) e = raising x _ e (failed f m x)
+
+    one-fails : ItemFails (item u g w o)
+    unfolding item
+    one-fails = by (open-from (place u) w o 0 (w .count)) refl
+      where
+        by : (b : Bool) → open-from (place u) w o 0 (w .count) ≡ b → ItemFails (pick b (polled (gives u pending)) (item-object u g o (object u o)))
+        by true e = again (open-found (place u) w o (w .count) 0 (omega arith) (holds _ e))
+        by false e = item-fails (object u o) refl
+
+    put-fails : (go : Store → Stop) → ((y : Store) → Goes root t g fs i (w .count) y → Going s y g (i + 1) fs → StopFails g fs (go y)) → (x : Item) → ItemOk root t g fs w i o u x → ItemFails x
+        → StopFails g fs (put-item g w i o u x go)
+    unfolding put-item put-polled
+    put-fails go f nested ok l = k
+    put-fails go f (polled r) ok l = by (r .poll) ok l
+      where
+        by : (p : Poll) → PollOk root t g fs w i (r .store) p → PollFails (r .store) p → StopFails g fs (put-polled g w i (r .store) p go)
+        by (ready v) ok l = f _ ok l
+        by (raised e) ok l = l
+        by pending ok l = f _ ok l
+
+    pub step-fails : (go : Store → Stop) → ((y : Store) → Goes root t g fs i (w .count) y → Going s y g (i + 1) fs → StopFails g fs (go y)) → StopFails g fs (put-item g w i o u (item u g w o) go)
+    step-fails go f = put-fails go f (item u g w o) (one-keeps root t g fs i u mem h less) one-fails
+
+  -- The walk through the items.
+  pub items-fails : (n : ℕ) (root t g i : ℕ) (fs : List Frame) (u : Store) → Memory u → (h : Inv root t 0 (OnTop g fs) (view u) g i fs) → i + n ≡ h .w .count → Going s u g i fs
+      → StopFails g fs (step-items n u g i)
+  unfolding step-items step-item view
+  items-fails zero root t g i fs u mem h e k = record { i = i; going = k }
+  items-fails (suc n) root t g i fs u mem h e k =
+      subst (λ (o : Option AwaitedGather). StopFails g fs (step-item g i u o (λ x. step-items n x g (i + 1)))) (sym (h .opened .awaited))
+      (step-fails root t g fs i u mem h (omega arith) k (λ x. step-items n x g (i + 1))
+      (λ y c l. items-fails n root t g (i + 1) fs y (c .memory) (c .inv) (goes-length root t g i fs (h .w .count) n y e c) l))

@@ -1,0 +1,376 @@
+-- Demand 2 over sessions, from what one event does to a gather (`GatherStep`): what show gives of a committed gather is the documentation's gather of the
+-- arrivals so far, event by event.
+use Prim.Native.Nat.{ℕ, zero, suc, _<_, _≤_}
+use mathlib.Core.Path.{_≡_, refl, sym, ap, ap₂, subst, _∙_}
+use mathlib.Core.Bool.{Bool, true, false, not, _&&_, true≢false}
+use mathlib.Core.List.{List, [], _∷_, _++_, map}
+use mathlib.Core.Option.{Option, none, some}
+use mathlib.Core.Logic.{_⊎_, inl, inr}
+use lib.ListN.{length, getD}
+use Rattle.asyncio.specs.declared.Value.{Value}
+use Rattle.asyncio.specs.declared.Error.{Error}
+use Rattle.machine_laws.specs.DeliveryLaws.{absurd-some}
+use Rattle.machine.specs.Tests.{is-in}
+use Rattle.machine.specs.Machine.{Shown}
+use Rattle.machine.specs.Gather.{Outcome, returned, raised, Arrival, Gathered, waiting, listed, propagated, outcome-of, first-raised, in-order, gather}
+use Rattle.machine.specs.History.{value-of, error-of, items}
+use Rattle.machine.specs.Sessions.{Sent, Session, begun, send, send-all, session, InRange, AllSentInRange}
+use Rattle.machine.specs.DemandThree.{look, none-open}
+use Rattle.machine.specs.DemandTwo.{came, committed, values, seen, arrivals-of, is-late, early, late, InTurn, late-behind, ArriveBy, ArriveIn, Arrive, no-more, and-then, Single, ReuseAt, Reused, GatherRight}
+use Rattle.machine_sessions.specs.Gather.Arrivals.{in-cons, Came, Arrivals, AllReturned, none-raised, all-returned-++, or-then, outcome-++, new-of, outcome-new, new-returned, in-turn-all, All, all-++, Raises, Quiet, first-behind, first-stays, Turn, first-in-turn, all-own, raises-own, first-from-left, listed-all, waiting-one}
+
+-- ---- what one event does to gather g
+
+-- the places of a gather that is shown so are what its items have delivered
+abbrev pub Delivered : Session → ℕ → List (Option Value) → Type 0
+Delivered y g vs = vs ≡ map (λ o. value-of (came y o)) (items (y .history) g)
+
+-- no item has raised
+abbrev pub NoneRaised : Session → ℕ → Type 0
+NoneRaised y g = (o : ℕ) → is-in o (items (y .history) g) ≡ true → error-of (came y o) ≡ none
+
+-- why it fails: an item has come to its error; what other items have come to in the event is that error too, or one of the two is late and the other is not
+pub record FailsLater (x y : Session) (g : ℕ) (e : Error) : Type 0 where
+  pub item : ℕ
+  pub named : is-in item (items (y .history) g) ≡ true
+  pub fresh : came x item ≡ none
+  pub raises : came y item ≡ some (raised e)
+  pub others : (o : ℕ) (z : Error) → is-in o (items (y .history) g) ≡ true → came x o ≡ none → came y o ≡ some (raised z) → (z ≡ e) ⊎ (is-late (raised z) ≡ not (is-late (raised e)))
+
+-- at its commit: the first item from the left that has raised
+pub record FailsAtCommit (y : Session) (g : ℕ) (e : Error) : Type 0 where
+  pub at : ℕ
+  pub within : at < length (items (y .history) g)
+  pub raises : came y (getD (items (y .history) g) at 0) ≡ some (raised e)
+  pub left : (b : ℕ) → b < at → error-of (came y (getD (items (y .history) g) b 0)) ≡ none
+
+pub record GatherStep (x y : Session) (g : ℕ) : Type 0 where
+  -- what has come of an object stays
+  pub stays : (o : ℕ) (z : Outcome Value Error) → came x o ≡ some z → came y o ≡ some z
+  -- of a gather that was committed: its items stay, it stays committed; settled ones stay
+  pub items-stay : committed (look (x .store) g) ≡ true → items (y .history) g ≡ items (x .history) g
+  pub stays-committed : committed (look (x .store) g) ≡ true → committed (look (y .store) g) ≡ true
+  pub stays-failed : (e : Error) → look (x .store) g ≡ Shown.a-gather-failed e → look (y .store) g ≡ Shown.a-gather-failed e
+  -- what is shown afterwards
+  pub completed : (vs : List (Option Value)) → look (y .store) g ≡ Shown.a-gather-completed vs → Delivered y g vs × (none-open vs ≡ true)
+  pub awaited : (vs : List (Option Value)) → look (y .store) g ≡ Shown.a-gather-awaited vs → Delivered y g vs × (none-open vs ≡ false) × NoneRaised y g
+  -- why it fails
+  pub fails-later : (e : Error) → committed (look (x .store) g) ≡ true → look (y .store) g ≡ Shown.a-gather-failed e → (look (x .store) g ≡ Shown.a-gather-failed e) ⊎ FailsLater x y g e
+  pub fails-at-commit : (e : Error) → committed (look (x .store) g) ≡ false → look (y .store) g ≡ Shown.a-gather-failed e → ReuseAt y g e ⊎ FailsAtCommit y g e
+
+-- ---- what holds after some events
+
+-- the arrivals so far: nothing has raised, and they say what has come of the items
+pub record Quietly (x : Session) (g : ℕ) (xs : Arrivals) : Type 0 where
+  pub all-returned : AllReturned xs
+  pub own : All (λ a. came x (a .awaitable) ≡ some (a .outcome)) xs
+  pub known : (o : ℕ) → is-in o (items (x .history) g) ≡ true → outcome-of xs o ≡ came x o
+  pub none-raised : NoneRaised x g
+
+pub data SoFar (ps : List Sent) (x : Session) (g : ℕ) (xs : Arrivals) : Type 0 where
+  uncommitted : committed (look (x .store) g) ≡ false → xs ≡ [] → SoFar ps x g xs
+  is-awaited : (vs : List (Option Value)) → look (x .store) g ≡ Shown.a-gather-awaited vs → Delivered x g vs → none-open vs ≡ false → Quietly x g xs → SoFar ps x g xs
+  is-completed : (vs : List (Option Value)) → look (x .store) g ≡ Shown.a-gather-completed vs → Delivered x g vs → none-open vs ≡ true → Quietly x g xs → SoFar ps x g xs
+  is-failed : (e : Error) → look (x .store) g ≡ Shown.a-gather-failed e → (first-raised (items (x .history) g) [] xs ≡ some e) ⊎ Reused ps g e → SoFar ps x g xs
+
+-- which of the three a committed gather is
+pub data Which (l : Shown) : Type 0 where
+  w-awaited : (vs : List (Option Value)) → l ≡ Shown.a-gather-awaited vs → Which l
+  w-completed : (vs : List (Option Value)) → l ≡ Shown.a-gather-completed vs → Which l
+  w-failed : (e : Error) → l ≡ Shown.a-gather-failed e → Which l
+
+pub which : (l : Shown) → committed l ≡ true → Which l
+unfolding committed
+which (Shown.a-coroutine x f) e = absurd (true≢false (sym e))
+which Shown.an-external-pending e = absurd (true≢false (sym e))
+which (Shown.an-external-resolved v) e = absurd (true≢false (sym e))
+which (Shown.an-external-failed z) e = absurd (true≢false (sym e))
+which Shown.a-gather-pending e = absurd (true≢false (sym e))
+which (Shown.a-gather-awaited vs) e = w-awaited vs refl
+which (Shown.a-gather-completed vs) e = w-completed vs refl
+which (Shown.a-gather-failed z) e = w-failed z refl
+which Shown.nothing e = absurd (true≢false (sym e))
+
+-- is it shown as anything but failed?
+not-failed : Shown → Bool
+not-failed (Shown.a-coroutine x f) = true
+not-failed Shown.an-external-pending = true
+not-failed (Shown.an-external-resolved v) = true
+not-failed (Shown.an-external-failed e) = true
+not-failed Shown.a-gather-pending = true
+not-failed (Shown.a-gather-awaited vs) = true
+not-failed (Shown.a-gather-completed vs) = true
+not-failed (Shown.a-gather-failed e) = false
+not-failed Shown.nothing = true
+
+-- every value there, so nothing raised
+split-open : (y : Came) (vs : List (Option Value)) → none-open (value-of y ∷ vs) ≡ true → (error-of y ≡ none) × (none-open vs ≡ true)
+unfolding none-open value-of error-of
+split-open none vs e = absurd (true≢false (sym e))
+split-open (some (raised z)) vs e = absurd (true≢false (sym e))
+split-open (some (returned v)) vs e = (refl, e)
+
+values-quiet : (c : ℕ → Came) (os : List ℕ) → none-open (map (λ o. value-of (c o)) os) ≡ true → (o : ℕ) → is-in o os ≡ true → error-of (c o) ≡ none
+unfolding is-in
+values-quiet c [] e o i = absurd (true≢false (sym i))
+values-quiet c (p ∷ os) e o i = by (in-cons o p os i) (λ j. values-quiet c os (split-open (c p) _ e .1) o j)
+  where
+    by : (p ≡ o) ⊎ (is-in o os ≡ true) → (is-in o os ≡ true → error-of (c o) ≡ none) → error-of (c o) ≡ none
+    by (inl q) go = subst (λ (m : ℕ). error-of (c m) ≡ none) q (split-open (c p) _ e .0)
+    by (inr j) go = go j
+
+-- ---- lists of events
+
+pub send-all-++ : (x : Session) (es fs : List Sent) → send-all x (es ++ fs) ≡ send-all (send-all x es) fs
+unfolding send-all
+send-all-++ x [] fs = refl
+send-all-++ x (e ∷ es) fs = send-all-++ (send x e) es fs
+
+++-assoc : (ls bs cs : List Sent) → (ls ++ bs) ++ cs ≡ ls ++ (bs ++ cs)
+++-assoc [] bs cs = refl
+++-assoc (a ∷ ls) bs cs = ap (λ (zs : List Sent). a ∷ zs) (++-assoc ls bs cs)
+
+arrivals-assoc : (ls bs cs : Arrivals) → (ls ++ bs) ++ cs ≡ ls ++ (bs ++ cs)
+arrivals-assoc [] bs cs = refl
+arrivals-assoc (a ∷ ls) bs cs = ap (λ (zs : Arrivals). a ∷ zs) (arrivals-assoc ls bs cs)
+
+-- a gather that failed in its own commit, one event later
+reused-later : (ps : List Sent) (s : Sent) (g : ℕ) (e : Error) → Reused ps g e → Reused (ps ++ (s ∷ [])) g e
+reused-later ps s g e r =
+    record {
+      before = r .before;
+      commit = r .commit;
+      after = r .after ++ (s ∷ []);
+      parts = ap (λ (zs : List Sent). zs ++ (s ∷ [])) (r .parts) ∙ ++-assoc (r .before) (r .commit ∷ r .after) (s ∷ []);
+      uncommitted = r .uncommitted;
+      failed = r .failed;
+      reuse = r .reuse;
+    }
+
+-- ---- one event
+
+module _ (ps : List Sent) (s : Sent) (g : ℕ) where
+  abbrev x : Session
+  x = session ps
+
+  abbrev y : Session
+  y = send (session ps) s
+
+  abbrev os : List ℕ
+  os = items (y .history) g
+
+  -- with what arrives in the event
+  pub record Next (xs : Arrivals) : Type 0 where
+    pub news : Arrivals
+    pub arrive : ArriveIn x y g news
+    pub so-far : SoFar (ps ++ (s ∷ [])) y g (xs ++ news)
+
+  module _ (k : GatherStep x y g) where
+    -- what arrives in the event, by whether the gather is committed before and after it
+    arrive-by : (a b : Bool) (zs : Arrivals) → committed (look (x .store) g) ≡ a → committed (look (y .store) g) ≡ b → ArriveBy a b x y os zs → ArriveIn x y g zs
+    arrive-by a b zs p q k = subst (λ (c : Bool). ArriveBy c (committed (look (y .store) g)) x y os zs) (sym p) (subst (λ (c : Bool). ArriveBy a c x y os zs) (sym q) k)
+
+    in-commit : committed (look (x .store) g) ≡ false → committed (look (y .store) g) ≡ true → ArriveIn x y g (arrivals-of (λ o. none) (came y) os)
+    unfolding ArriveBy
+    in-commit c d = arrive-by false true _ c d refl
+
+    behind-commit : (zs : Arrivals) → committed (look (x .store) g) ≡ true → committed (look (y .store) g) ≡ true → InTurn (arrivals-of (came x) (came y) os) zs → ArriveIn x y g zs
+    unfolding ArriveBy
+    behind-commit zs c d k = arrive-by true true zs c d k
+
+    before-commit : committed (look (x .store) g) ≡ false → committed (look (y .store) g) ≡ false → ArriveIn x y g []
+    unfolding ArriveBy
+    before-commit c d = arrive-by false false [] c d refl
+
+    own-later : (xs : Arrivals) → All (λ a. came x (a .awaitable) ≡ some (a .outcome)) xs → All (λ a. came y (a .awaitable) ≡ some (a .outcome)) xs
+    unfolding All
+    own-later [] a = tt
+    own-later (z ∷ xs) a = (k .stays (z .awaitable) (z .outcome) (a .0), own-later xs (a .1))
+
+    own-new : (was : ℕ → Came) → All (λ a. came y (a .awaitable) ≡ some (a .outcome)) (arrivals-of was (came y) os)
+    own-new was = all-own was (came y) (λ a. came y (a .awaitable) ≡ some (a .outcome)) os (λ o z i f q. q)
+
+    -- ---- it is committed in this event
+
+    new-items : NoneRaised y g → Quietly y g (arrivals-of (λ o. none) (came y) os)
+    new-items n =
+        record {
+          all-returned = new-returned (λ o. none) (came y) os n;
+          own = own-new (λ o. none);
+          known = λ o i. outcome-new (λ o. none) (came y) o os i ∙ (unfold new-of in refl);
+          none-raised = n;
+        }
+
+    committed-now : committed (look (x .store) g) ≡ false → (xs : Arrivals) → xs ≡ [] → committed (look (y .store) g) ≡ true → Next xs
+    committed-now c xs e d =
+        record { news = arrivals-of (λ o. none) (came y) os; arrive = in-commit c d; so-far = subst (λ (zs : Arrivals). SoFar (ps ++ (s ∷ [])) y g (zs ++ arrivals-of (λ o. none) (came y) os)) (sym e) (by (which (look (y .store) g) d)) }
+      where
+        by : Which (look (y .store) g) → SoFar (ps ++ (s ∷ [])) y g (arrivals-of (λ o. none) (came y) os)
+        by (w-awaited vs q) = let w = k .awaited vs q in is-awaited vs q (w .0) (w .1) (new-items (w .2))
+        by (w-completed vs q) = let w = k .completed vs q in is-completed vs q (w .0) (w .1) (new-items (values-quiet (came y) os (subst (λ (us : List (Option Value)). none-open us ≡ true) (w .0) (w .1))))
+        by (w-failed z q) = is-failed z q (why (k .fails-at-commit z c q))
+          where
+            why : ReuseAt y g z ⊎ FailsAtCommit y g z → (first-raised os [] (arrivals-of (λ o. none) (came y) os) ≡ some z) ⊎ Reused (ps ++ (s ∷ [])) g z
+            why (inl r) = inr (record { before = ps; commit = s; after = []; parts = refl; uncommitted = c; failed = q; reuse = r })
+            why (inr r) = inl (first-from-left (came y) os z os [] (r .at) (λ o i. i) nobody (r .within) (r .raises) (r .left))
+              where
+                nobody : Quiet (came y) os []
+                nobody = unfold Quiet is-in in (λ o i. absurd (true≢false (sym i)))
+
+    -- ---- it was committed before, and nothing had raised
+
+    module _ (c : committed (look (x .store) g) ≡ true) (xs : Arrivals) (was : Quietly x g xs) where
+      abbrev new : Arrivals
+      new = arrivals-of (came x) (came y) os
+
+      same-items : os ≡ items (x .history) g
+      same-items = k .items-stay c
+
+      known-then : (o : ℕ) → is-in o os ≡ true → outcome-of xs o ≡ came x o
+      known-then o i = was .known o (subst (λ (zs : List ℕ). is-in o zs ≡ true) same-items i)
+
+      known-now : (o : ℕ) → is-in o os ≡ true → outcome-of (xs ++ new) o ≡ came y o
+      known-now o i = outcome-++ xs new o ∙ (ap₂ or-then (known-then o i) (outcome-new (came x) (came y) o os i) ∙ by (came x o) refl)
+        where
+          by : (z : Came) → came x o ≡ z → or-then z (new-of z (came y o)) ≡ came y o
+          by none q = unfold or-then new-of in refl
+          by (some z) q = unfold or-then in (sym (k .stays o z q))
+
+      quiet-now : NoneRaised y g → Quietly y g (xs ++ new)
+      quiet-now n =
+          record {
+            all-returned = all-returned-++ xs new (was .all-returned) (new-returned (came x) (came y) os n);
+            own = all-++ _ xs new (own-later xs (was .own)) (own-new (came x));
+            known = known-now;
+            none-raised = n;
+          }
+
+      nobody : Quiet (came y) os []
+      nobody = unfold Quiet is-in in (λ o i. absurd (true≢false (sym i)))
+
+      go-on : ((e : Error) → look (x .store) g ≡ Shown.a-gather-failed e → ⊥) → Next xs
+      go-on not-failed = by (which (look (y .store) g) d)
+        where
+          d : committed (look (y .store) g) ≡ true
+          d = k .stays-committed c
+
+          quiet : (NoneRaised y g) → (Quietly y g (xs ++ new) → SoFar (ps ++ (s ∷ [])) y g (xs ++ new)) → Next xs
+          quiet n f = record { news = new; arrive = behind-commit new c d (in-turn-all new (new-returned (came x) (came y) os n)); so-far = f (quiet-now n) }
+
+          fails-now : (e : Error) → look (y .store) g ≡ Shown.a-gather-failed e → FailsLater x y g e → Next xs
+          fails-now e q f =
+              let z = first-in-turn (came y) os e new
+              (all-own (came x) (came y) (Turn (came y) os e) os (λ o z i a b. record { item = i; own = b; only = λ w d. f .others o w i a (b ∙ ap (λ (u : Outcome Value Error). some u) d) }))
+              (raises-own (came x) (came y) e (f .item) os (f .named) (f .fresh) (f .raises)) in
+              record {
+                news = z .0;
+                arrive = behind-commit (z .0) c d (z .1);
+                so-far = is-failed e q (inl (first-behind (came y) os e xs (z .0) [] (was .all-returned) nobody (own-later xs (was .own)) (z .2)));
+              }
+
+          by : Which (look (y .store) g) → Next xs
+          by (w-awaited vs q) = let w = k .awaited vs q in quiet (w .2) (λ z. is-awaited vs q (w .0) (w .1) z)
+          by (w-completed vs q) = let w = k .completed vs q in quiet (values-quiet (came y) os (subst (λ (us : List (Option Value)). none-open us ≡ true) (w .0) (w .1))) (λ z. is-completed vs q (w .0) (w .1) z)
+          by (w-failed e q) = why (k .fails-later e c q)
+            where
+              why : (look (x .store) g ≡ Shown.a-gather-failed e) ⊎ FailsLater x y g e → Next xs
+              why (inl w) = absurd (not-failed e w)
+              why (inr w) = fails-now e q w
+
+    pub next-so-far : (xs : Arrivals) → SoFar ps x g xs → Next xs
+    unfolding not-failed
+    next-so-far xs (uncommitted c e) = by (committed (look (y .store) g)) refl
+      where
+        by : (b : Bool) → committed (look (y .store) g) ≡ b → Next xs
+        by true d = committed-now c xs e d
+        by false d = record { news = []; arrive = before-commit c d; so-far = uncommitted d (ap (λ (a : Arrivals). a ++ []) e) }
+    next-so-far xs (is-awaited vs q d o w) = go-on (ap committed q ∙ (unfold committed in refl)) xs w (λ e z. true≢false (ap not-failed (sym q ∙ z)))
+    next-so-far xs (is-completed vs q d o w) = go-on (ap committed q ∙ (unfold committed in refl)) xs w (λ e z. true≢false (ap not-failed (sym q ∙ z)))
+    next-so-far xs (is-failed e q w) =
+        record { news = new; arrive = behind-commit new c (k .stays-committed c) late-behind; so-far = is-failed e (k .stays-failed e q) (by w) }
+      where
+        c : committed (look (x .store) g) ≡ true
+        c = ap committed q ∙ (unfold committed in refl)
+
+        new : Arrivals
+        new = early (arrivals-of (came x) (came y) os) ++ late (arrivals-of (came x) (came y) os)
+
+        by : (first-raised (items (x .history) g) [] xs ≡ some e) ⊎ Reused ps g e → (first-raised os [] (xs ++ new) ≡ some e) ⊎ Reused (ps ++ (s ∷ [])) g e
+        by (inl z) = inl (first-stays os e xs new [] (subst (λ (zs : List ℕ). first-raised zs [] xs ≡ some e) (sym (k .items-stay c)) z))
+        by (inr z) = inr (reused-later ps s g e z)
+
+-- ---- all events
+
+pub in-range-snoc : (ps : List Sent) (s : Sent) → AllSentInRange ps → InRange (s .event) → AllSentInRange (ps ++ (s ∷ []))
+unfolding AllSentInRange
+in-range-snoc [] s a b = (b, tt)
+in-range-snoc (p ∷ ps) s a b = (a .0, in-range-snoc ps s (a .1) b)
+
+pub session-snoc : (ps : List Sent) (s : Sent) → session (ps ++ (s ∷ [])) ≡ send (session ps) s
+unfolding session send-all
+session-snoc ps s = send-all-++ begun ps (s ∷ [])
+
+module _ (g : ℕ) (steps : (ps : List Sent) (s : Sent) → AllSentInRange ps → InRange (s .event) → Single (s ∷ []) → GatherStep (session ps) (send (session ps) s) g) where
+  -- with what arrives in the events
+  pub record After (ps es : List Sent) (xs : Arrivals) : Type 0 where
+    pub news : Arrivals
+    pub arrive : Arrive g (session ps) es news
+    pub so-far : SoFar (ps ++ es) (send-all (session ps) es) g (xs ++ news)
+
+  pub run-so-far : (ps es : List Sent) (xs : Arrivals) → AllSentInRange ps → AllSentInRange es → Single es → SoFar ps (session ps) g xs → After ps es xs
+  unfolding AllSentInRange Single send-all
+  run-so-far ps [] xs a b w k =
+      record { news = []; arrive = no-more (session ps); so-far = subst (λ (zs : List Sent). SoFar zs (session ps) g (xs ++ [])) (sym (nil ps)) (subst (SoFar ps (session ps) g) (sym (nil-a xs)) k) }
+    where
+      nil : (zs : List Sent) → zs ++ [] ≡ zs
+      nil [] = refl
+      nil (z ∷ zs) = ap (λ (ws : List Sent). z ∷ ws) (nil zs)
+
+      nil-a : (zs : Arrivals) → zs ++ [] ≡ zs
+      nil-a [] = refl
+      nil-a (z ∷ zs) = ap (λ (ws : Arrivals). z ∷ ws) (nil-a zs)
+  run-so-far ps (e ∷ es) xs a b w k =
+      let y : Session = send (session ps) e in
+      let j : Next ps e g xs = next-so-far ps e g (steps ps e a (b .0) (w .0, tt)) xs k in
+      let r : After (ps ++ (e ∷ [])) es (xs ++ j .news) = run-so-far (ps ++ (e ∷ [])) es (xs ++ j .news) (in-range-snoc ps e a (b .0)) (b .1) (w .1)
+      (subst (λ (z : Session). SoFar (ps ++ (e ∷ [])) z g (xs ++ j .news)) (sym (session-snoc ps e)) (j .so-far)) in
+      record {
+        news = j .news ++ r .news;
+        arrive = and-then (session ps) e es (j .news) (r .news) (j .arrive) (subst (λ (z : Session). Arrive g z es (r .news)) (session-snoc ps e) (r .arrive));
+        so-far = subst (λ (zs : List Sent). SoFar zs (send-all y es) g (xs ++ (j .news ++ r .news))) (++-assoc ps (e ∷ []) es)
+            (subst (SoFar ((ps ++ (e ∷ [])) ++ es) (send-all y es) g) (arrivals-assoc xs (j .news) (r .news))
+            (subst (λ (z : Session). SoFar ((ps ++ (e ∷ [])) ++ es) (send-all z es) g ((xs ++ j .news) ++ r .news)) (session-snoc ps e) (r .so-far)));
+      }
+
+  abbrev Gathers : List Sent → Arrivals → Gathered Value Error → Type 0
+  Gathers es xs z = z ≡ gather (items (session es .history) g) xs
+
+  seen-awaited : (vs : List (Option Value)) → seen (Shown.a-gather-awaited vs) ≡ waiting
+  seen-awaited vs = unfold seen in refl
+
+  seen-completed : (vs : List (Option Value)) → seen (Shown.a-gather-completed vs) ≡ listed (values vs)
+  seen-completed vs = unfold seen in refl
+
+  seen-failed : (e : Error) → seen (Shown.a-gather-failed e) ≡ propagated e
+  seen-failed e = unfold seen in refl
+
+  -- by what is raised first
+  gathered : (ls : List ℕ) (xs : Arrivals) (z : Option Error) → first-raised ls [] xs ≡ z → gather ls xs ≡ elim z [ none ↦ in-order xs ls | some e ↦ propagated e ]
+  gathered ls xs z q = unfold gather in (ap (λ (w : Option Error). elim w [ none ↦ in-order xs ls | some e ↦ propagated e ]) q)
+
+  -- What show gives of the gather after the events.
+  right-by : (es : List Sent) (xs : Arrivals) → Arrive g begun es xs → SoFar es (session es) g xs → committed (look (session es .store) g) ≡ true → GatherRight es g
+  right-by es xs ar (uncommitted c e) d = absurd (true≢false (sym d ∙ c))
+  right-by es xs ar (is-awaited vs q d o w) c =
+      let r : Gathers es xs waiting = sym (gathered _ _ none (none-raised _ _ (w .all-returned) []) ∙ waiting-one _ (came (session es)) _ (w .known) (w .none-raised) (subst (λ (us : List (Option Value)). none-open us ≡ false) d o)) in
+      inl (xs, ar, ap seen q ∙ (seen-awaited vs ∙ r))
+  right-by es xs ar (is-completed vs q d o w) c =
+      let r : Gathers es xs (listed (values (map (λ n. value-of (came (session es) n)) (items (session es .history) g)))) =
+      sym (gathered _ _ none (none-raised _ _ (w .all-returned) []) ∙ listed-all _ (came (session es)) _ (w .known) (subst (λ (us : List (Option Value)). none-open us ≡ true) d o)) in
+      inl (xs, ar, ap seen q ∙ (seen-completed vs ∙ (ap (λ (us : List (Option Value)). listed (values us)) d ∙ r)))
+  right-by es xs ar (is-failed e q (inl w)) c = inl (xs, ar, ap seen q ∙ (seen-failed e ∙ sym (gathered _ _ (some e) w)))
+  right-by es xs ar (is-failed e q (inr w)) c = inr (e, q, w)
+
+  pub gather-right : committed (look (begun .store) g) ≡ false → (es : List Sent) → AllSentInRange es → Single es → committed (look (session es .store) g) ≡ true → GatherRight es g
+  unfolding session send-all AllSentInRange
+  gather-right u es a w c = let r : After [] es [] = run-so-far [] es [] tt a w (uncommitted u refl) in right-by es (r .news) (r .arrive) (r .so-far) c
