@@ -18,26 +18,26 @@ use Rattle.machine.specs.Honest.{runs-task, last-await, left-waiting, sh
 use Rattle.machine.specs.HonestTest.{is-five, live-test, state-test}
 
 -- an event with a list that is long enough
-abbrev e : Event → Sent
+abbrev pub e : Event → Sent
 e x = record { event = x; list = replicate 256 7 }
 
 -- a result: call, kind and number
-abbrev res : ℕ → ℕ → ℕ → Result
+abbrev pub res : ℕ → ℕ → ℕ → Result
 res c k n = record { call = c; kind = k; tag = 0; number = n }
 
-abbrev pend : ℕ → Event
+abbrev pub pend : ℕ → Event
 pend c = Event.pending c OptionValue.None
 
 -- A repeat, an external with a stored result, a settled one, a nested gather, a call that nobody awaits; one reply of two. (Objects: coroutine 0, externals 1
 -- to 4, gathers 5 and 6.)
-abbrev some-open : List Sent
+abbrev pub some-open : List Sent
 some-open =
     e (Event.coroutine 7) ∷ e Event.call ∷ e (Event.pending 0 (OptionValue.Some (Value.Plain 8))) ∷ e Event.call ∷ e (pend 1) ∷ e (Event.settled (Value.Plain 3))
     ∷ e Event.call ∷ e (pend 3) ∷ e (Event.gather (2 ∷ 3 ∷ [])) ∷ e (Event.gather (0 ∷ 1 ∷ 0 ∷ 5 ∷ [])) ∷ e (Event.await 6) ∷ e (Event.complete (Value.Plain 40))
     ∷ e (Event.results (res 0 0 5 ∷ [])) ∷ []
 
 -- and the other reply: both gathers are completed, and main is in the queue
-abbrev all-done : List Sent
+abbrev pub all-done : List Sent
 all-done = some-open ++ (e (Event.results (res 1 0 9 ∷ [])) ∷ [])
 
 -- a task waits for a call, which is answered; it is resumed
@@ -57,7 +57,7 @@ runs-on =
     ∷ e (Event.fail 5) ∷ e (Event.await 4) ∷ []
 
 -- the statements and their tests compute
-unfoldable computes3 : Unit {0}
+unfoldable pub computes3 : Unit {0}
 unfolding computes slices-right lengths-right write-calls control-calls answer-calls written lent-by lent-step lent-read lent-begin lives-by lives blocked-by stays-blocked nothing-said says done-only tells said is-at reply-in unanswered later making first-reply runner-by running started-by coroutine-of running-coroutine completed-value spawned-by spawned-for is-none exits-unstarted failed-error coroutine-outcome reply-error stored-or reply-outcome shown-outcome outcome-by outcome value-of error-of items cancelled is-read read-lent lent-any happened-by entry-of begun send send-all session read shown-by look delivered none-open empty-wait is-stalled goes-on same-bit same-value same-place same-places queue-test shown-test answer-test places-test calls-test control-test waits-test demand3-test runs-task last-await left-waiting shows-waiting waits-at is-five live-test state-test
 computes3 = tt
 

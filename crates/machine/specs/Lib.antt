@@ -21,3 +21,4 @@ pub mod DemandThreeTest
 pub mod HonestTest
 pub mod DemandThreeCases
 pub mod DemandTwo
+pub mod DemandTwoCases
