@@ -11,12 +11,12 @@ use Rattle.asyncio.specs.declared.Error.{Error}
 use Rattle.asyncio.specs.declared.OptionValue.{OptionValue}
 use Rattle.machine.specs.Events.{Result}
 use Rattle.machine.specs.Machine.{Event}
-use Rattle.machine.specs.Gather.{Arrival, Gathered, waiting, listed, propagated, outcome-of, first-raised, put-first, in-order, gather}
+use Rattle.machine.specs.Gather.{Arrival, Gathered, propagated, outcome-of, first-raised, put-first, in-order, gather}
 use Rattle.machine.specs.History.{items}
 use Rattle.machine.specs.Sessions.{Sent, Session, begun, send, session}
 use Rattle.machine.specs.DemandThree.{look}
 use Rattle.machine.specs.DemandTwo.{came, committed, values, seen, arrives, arrivals-of, is-late, early, late}
-use Rattle.machine.specs.DemandThreeCases.{e, res, pend, some-open, all-done, computes3}
+use Rattle.machine.specs.DemandThreeCases.{e, res, pend, computes3}
 
 -- what arrives in an event, the late ones behind
 unfoldable arrivals-by : Bool → Bool → Session → Session → List ℕ → List (Arrival Value Error)
@@ -54,7 +54,3 @@ first-is-shown = refl
 commit-is-shown : shown-and-documented failed-before 1 ≡ (propagated (Error.Host 7), propagated (Error.Host 7))
 unfolding computes2
 commit-is-shown = refl
-
-waiting-is-shown : shown-and-documented some-open 6 ≡ (waiting, waiting)
-unfolding computes2
-waiting-is-shown = refl
