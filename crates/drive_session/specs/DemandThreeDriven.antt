@@ -21,6 +21,7 @@ use Rattle.drive_session.specs.declared.DrivenSession.{DrivenSession}
 use Rattle.drive_session.specs.Fold.{DrivesAll, drive-all, sent-by, lent-session}
 use Rattle.drive_session.specs.Session.{DroveAll}
 use Rattle.drive_session.specs.SessionLaws.{answers-in, last-line, IsSession, step-alike, driven-is-session}
+use Rattle.machine_sessions.specs.DemandThree.{demand-three}
 
 -- ---- demand 3 sees nothing of the log
 
@@ -62,6 +63,10 @@ module _ (h : List Entry) (s u : Store) (q : forget s ≡ forget u) where
 pub driven-demand-three : DemandThree → (l src : List ℕ) → AllSentInRange (sent-by src l) → Demand3 (session (sent-by src l) .history) (drive-all l src .store)
 driven-demand-three d l src i = demand-alike _ _ (session (sent-by src l) .store) (driven-is-session l src .store-is) (d (sent-by src l) i)
 
+-- and so it holds
+pub driven-holds : (l src : List ℕ) → AllSentInRange (sent-by src l) → Demand3 (session (sent-by src l) .history) (drive-all l src .store)
+driven-holds l src i = driven-demand-three demand-three l src i
+
 -- ---- what a caller of `drive_session` has
 
 -- Where the lengths are right the call was the session of the records' events, whose numbers are in range: the slices and the queue are its store, and the
@@ -101,3 +106,7 @@ module _ (s : Store) (l src : List ℕ) (right : lengths-right s l ≡ true) {ts
   call-demand-three d k =
       let f : forget (store-of ts os ps (r .queue) k) ≡ store-of ts os ps (r .queue) [] = unfold forget in refl in
       demand-alike _ _ (session (sent-by src l) .store) (f ∙ call-is-session .store-is) (d (sent-by src l) (call-is-session .in-range))
+
+  -- Demand 3 of what a caller has after the call.
+  pub call-holds : (k : List LogEntry) → Demand3 (session (sent-by src l) .history) (store-of ts os ps (r .queue) k)
+  call-holds k = call-demand-three demand-three k
