@@ -1,1 +1,1 @@
-// Soundness kept, no panic, bounds, gather as Python documents it (specs/).
+// Soundness kept, no panic, bounds (specs/).
