@@ -19,10 +19,8 @@ use Rattle.asyncio.specs.declared.Place.{Place}
 use Rattle.asyncio.specs.States.{pick}
 use Rattle.asyncio.specs.Numbers.{heap-id}
 use Rattle.asyncio.specs.Kinds.{kind, is-pending-gather}
-use Rattle.asyncio.specs.Limits.{object-limit}
 use Rattle.asyncio.specs.Parts.{count-of}
-use Rattle.machine.specs.Tests.{count}
-use Rattle.rows.specs.Tables.{object-at}
+use Rattle.rows.specs.Tables.{count-objects}
 use Rattle.machine.specs.Store.{Store, object, put-object, place, put-place}
 use Rattle.machine.specs.Scheduler.{AwaitedGather, as-awaited, bit, spawn}
 
@@ -225,7 +223,7 @@ commit-loop (suc fuel) s f fs n j k = turn (λ x g gs m i h. commit-loop fuel x 
 
 -- how many gathers are pending
 unfoldable pub pending-in : List ℕ → ℕ
-pending-in os = count (λ o. is-pending-gather (kind (object-at os o))) object-limit
+pending-in os = count-objects (λ r. is-pending-gather (kind r)) os
 
 -- of a store
 unfoldable pub pending-count : Store → ℕ

@@ -19,9 +19,7 @@ use Rattle.asyncio.specs.declared.Place.{Place}
 use Rattle.asyncio.specs.States.{pick}
 use Rattle.asyncio.specs.States.{is-blocked}
 use Rattle.asyncio.specs.Kinds.{kind, is-awaited}
-use Rattle.asyncio.specs.Limits.{object-limit}
-use Rattle.machine.specs.Tests.{count}
-use Rattle.rows.specs.Tables.{place-at, place-put, object-at}
+use Rattle.rows.specs.Tables.{place-at, place-put, count-objects}
 use Rattle.machine.specs.Store.{Store, task, object, put-object, put-places, add-log, reached}
 use Rattle.machine.specs.Scheduler.{AwaitedGather, PendingExternal, as-awaited, as-pending, bit, make-ready, pending-external}
 
@@ -108,7 +106,7 @@ climb go s (some a) = go s a
 
 -- how many gathers are awaited: a delivery goes on only where it settles one of them, so this is its fuel
 unfoldable pub awaited-in : List ℕ → ℕ
-awaited-in os = count (λ o. is-awaited (kind (object-at os o))) object-limit
+awaited-in os = count-objects (λ r. is-awaited (kind r)) os
 
 -- of a store
 unfoldable pub awaited-count : Store → ℕ

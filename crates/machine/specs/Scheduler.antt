@@ -21,10 +21,10 @@ use Rattle.asyncio.specs.States.{pick}
 use Rattle.asyncio.specs.Numbers.{heap-id}
 use Rattle.asyncio.specs.States.{is-live}
 use Rattle.asyncio.specs.Limits.{task-limit, object-limit}
-use Rattle.machine.specs.Tests.{count}
+use Rattle.rows.specs.Rows.{count-rows}
 use Rattle.asyncio.specs.Kinds.{kind, is-pending-external}
 use Rattle.asyncio.specs.Parts.{call-of}
-use Rattle.rows.specs.Tables.{task-at, object-at, header-at}
+use Rattle.rows.specs.Tables.{task-codec, task-at, object-at, header-at}
 use Rattle.queue.specs.Queue.{empty-queue, push-back, remove}
 use Rattle.machine.specs.Store.{Store, task, put-task, object, place, header, put-queue, absent, set-state, set-next, set-moment, add-log, LogEntry, spawned, removed}
 
@@ -140,7 +140,7 @@ live s t = pick (ltb t (header s .next)) (is-live (task s t .state)) false
 
 -- how many rows of tasks live: each failed start makes it one less
 unfoldable pub live-in : List ℕ → ℕ
-live-in ts = count (λ t. is-live (task-at ts t .state)) task-limit
+live-in ts = count-rows task-codec (λ r. is-live (r .state)) task-limit ts
 
 -- of a store
 unfoldable pub live-count : Store → ℕ

@@ -1,6 +1,6 @@
 -- Laws of the commit. Its steps are 2 n - 1 on success and n + k on an error, for the counters that it carries; n is the number of
 -- gathers that were pending before and are not after, and n - k have failed: so the steps can be read off the two stores.
-use mathlib.Core.Path.{_≡_, refl, sym, ap, _∙_}
+use mathlib.Core.Path.{_≡_, refl, sym, ap, subst, _∙_}
 use mathlib.Core.Bool.{Bool, true, false, true≢false}
 use mathlib.Core.List.{List, [], _∷_}
 use mathlib.Core.Option.{Option, none, some}
@@ -28,7 +28,7 @@ use Rattle.asyncio.specs.Parts.{count-of}
 use Rattle.asyncio.specs.Ranges.{ObjectFits, PlacesFit}
 use Rattle.asyncio.specs.RangeLaws.{pick-has}
 use Rattle.rows.specs.Tables.{object-at}
-use Rattle.machine_laws.specs.CountLaws.{count-same, count-drop, count-most}
+use Rattle.machine_laws.specs.CountLaws.{count-same, count-drop, count-most, pending-counted}
 use Rattle.machine.specs.Store.{Store, object, put-object, place, put-place, header, put-task, set-next, put-queue, add-log, spawned}
 use Rattle.machine.specs.Scheduler.{AwaitedGather, as-awaited, spawn, spawn-unless, spawn-as, task-of, push-ready}
 use Rattle.machine.specs.Commit.{Poll, ready, raised, pending, Polled, gives, await-pending, await-external, Item, polled, nested, polled-spawn, item-coroutine, item-gather, item-object, open-from, item}
@@ -98,8 +98,8 @@ unfolding kinds-in
 kinds-in-fall p os us g l e q h = count-drop (λ o. p (kind (object-at os o))) (λ o. p (kind (object-at us o))) object-limit g l e q h
 
 pending-kinds : (s : Store) → pending-count s ≡ kinds-in is-pending-gather (s .objects)
-unfolding pending-count pending-in kinds-in
-pending-kinds s = refl
+unfolding pending-count kinds-in
+pending-kinds s = pending-counted (s .objects)
 
 same-kinds-in : (p : Kind → Bool) → p Kind.AwaitedGather ≡ p Kind.CompletedGather → (s u : Store) → SameKinds s u → kinds-in p (u .objects) ≡ kinds-in p (s .objects)
 unfolding object
@@ -603,8 +603,7 @@ commit-turns s f fs n j k z l e =
 -- ---- frames and places
 
 pub pending-most : (os : List ℕ) → pending-in os ≤ object-limit
-unfolding pending-in
-pending-most os = count-most (λ o. is-pending-gather (kind (object-at os o))) object-limit
+pending-most os = subst (λ (n : ℕ). n ≤ object-limit) (sym (pending-counted os)) (count-most (λ o. is-pending-gather (kind (object-at os o))) object-limit)
 
 -- the frames' places are as they were where the gathers have as many
 pub placed-same : (s u : Store) (fs : List Frame) → ((o : ℕ) → count-of (object u o) ≡ count-of (object s o)) → Placed s fs → Placed u fs

@@ -16,7 +16,8 @@ use Rattle.asyncio.specs.Ranges.{StateFits}
 use Rattle.asyncio.specs.RangeLaws.{pick-has}
 use Rattle.rows.specs.Tables.{task-at}
 use Rattle.queue.specs.Queue.{pop-front, front-of}
-use Rattle.machine_laws.specs.CountLaws.{count-drop}
+use Rattle.machine_laws.specs.CountLaws.{count-drop, live-counted, one-less}
+use Rattle.machine.specs.Tests.{count}
 use Rattle.machine.specs.Store.{Store, task, put-task, object, put-queue, add-log, exited, absent}
 use Rattle.machine.specs.Scheduler.{AwaitedGather, as-awaited, is-some, blocked-on, bit, live-in, live-count, remove-task, remove-from-ready-queue, cancel-one}
 use Rattle.machine.specs.Scheduler.{Walk, reach-if, reach, remove-blocked, visit-by, visit, visit-place, visit-open, walk-gather, walk-next, walk, walk-from, cancel-task}
@@ -31,8 +32,9 @@ use Rattle.machine_laws.specs.DeliveryLaws.{absurd-some, failure-same, s
 
 live-in-falls : (ts us : List ℕ) (t : ℕ) → t < task-limit → is-live (task-at ts t .state) ≡ true → is-live (task-at us t .state) ≡ false
     → ((u : ℕ) → (u ≡ t → ⊥) → is-live (task-at us u .state) ≡ is-live (task-at ts u .state)) → live-in ts ≡ suc (live-in us)
-unfolding live-in
-live-in-falls ts us t l e q h = count-drop (λ u. is-live (task-at ts u .state)) (λ u. is-live (task-at us u .state)) task-limit t l e q h
+live-in-falls ts us t l e q h =
+    one-less (live-in ts) (count (λ u. is-live (task-at ts u .state)) task-limit) (count (λ u. is-live (task-at us u .state)) task-limit) (live-in us) (live-counted ts)
+    (count-drop (λ u. is-live (task-at ts u .state)) (λ u. is-live (task-at us u .state)) task-limit t l e q h) (live-counted us)
 
 -- a live task that goes: one live task less
 pub live-falls : (s : Store) (t : ℕ) → Sized s → t < task-limit → is-live (task s t .state) ≡ true → live-count s ≡ suc (live-count (put-task s t absent))

@@ -25,7 +25,8 @@ use Rattle.asyncio.specs.Ranges.{ObjectFits, AwaiterFits}
 use Rattle.asyncio.specs.RangeLaws.{pick-has}
 use Rattle.rows.specs.Tables.{task-at, object-at, object-put, place-at}
 use Rattle.rows.specs.TableLaws.{object-at-other, length-place-put}
-use Rattle.machine_laws.specs.CountLaws.{count-same, count-drop}
+use Rattle.machine_laws.specs.CountLaws.{count-same, count-drop, live-counted, awaited-counted, one-less}
+use Rattle.machine.specs.Tests.{count}
 use Rattle.machine.specs.Store.{Store, task, put-task, object, put-object, put-places, header, restate, set-state, add-log, put-queue, reached}
 use Rattle.machine.specs.Scheduler.{AwaitedGather, PendingExternal, as-awaited, as-pending, first-from, bit, live, live-in, live-count, make-ready, push-ready}
 use Rattle.machine.specs.Delivery.{Delivery, nobody-woken, deliver-to-task, Filled, fill-one, fill-from}
@@ -128,10 +129,16 @@ awaited-fits s g w e = rw (awaited-object (object s g) w e) at (object-fits s g)
 -- an awaited gather gets a state that is not awaited: one awaited gather less
 awaited-in-falls : (os : List ℕ) (g : ℕ) (r : Object) → length os ≡ objects-length → g < object-limit → is-awaited (kind (object-at os g)) ≡ true
     → is-awaited (kind r) ≡ false → awaited-in os ≡ suc (awaited-in (object-put os g r))
-unfolding awaited-in
 awaited-in-falls os g r z l e q =
-    count-drop (λ o. is-awaited (kind (object-at os o))) (λ o. is-awaited (kind (object-at (object-put os g r) o))) object-limit g l
-    e (rw (kind-at-put os g r z l) q) (λ i ne. rw (object-at-other os g i r ne))
+    one-less (awaited-in os) (count before object-limit) (count behind object-limit) (awaited-in (object-put os g r)) (awaited-counted os)
+    (count-drop before behind object-limit g l e (rw (kind-at-put os g r z l) q) (λ i ne. rw (object-at-other os g i r ne)))
+    (awaited-counted (object-put os g r))
+  where
+    before : ℕ → Bool
+    before o = is-awaited (kind (object-at os o))
+
+    behind : ℕ → Bool
+    behind o = is-awaited (kind (object-at (object-put os g r) o))
 
 -- also where the places have changed
 awaited-falls : (s : Store) (ps : List ℕ) (g : ℕ) (w : AwaitedGather) (r : Object) → Sized s → g < object-limit → as-awaited (object s g) ≡ some w
@@ -272,8 +279,8 @@ unfolding live
 same-live s u t k = rw (k .same-header, k .lives t)
 
 live-in-same : (ts us : List ℕ) → ((t : ℕ) → is-live (task-at us t .state) ≡ is-live (task-at ts t .state)) → live-in us ≡ live-in ts
-unfolding live-in
-live-in-same ts us h = count-same (λ t. is-live (task-at us t .state)) (λ t. is-live (task-at ts t .state)) task-limit (λ t l. h t)
+live-in-same ts us h =
+    live-counted us ∙ (count-same (λ t. is-live (task-at us t .state)) (λ t. is-live (task-at ts t .state)) task-limit (λ t l. h t) ∙ sym (live-counted ts))
 
 pub same-live-count : (s u : Store) → SameLive s u → live-count u ≡ live-count s
 unfolding live-count task

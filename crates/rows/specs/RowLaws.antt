@@ -6,9 +6,9 @@ use mathlib.Core.List.{List, [], _∷_}
 use Prim.Native.Nat.{ℕ, zero, suc, _+_, _≤_, _<_}
 use native.Mathlib.Nat.{add-suc, suc-add, add-zero, zero-add}
 use native.Mathlib.Omega.{arith}
-use lib.ListN.{length, getD, set, length-set}
+use lib.ListN.{length, getD, set, drop, length-set}
 use lib.Seq.{getD-set-same, getD-set-other}
-use Rattle.rows.specs.Rows.{row-from, put-from, Codec, read-at, put-at}
+use Rattle.rows.specs.Rows.{row-from, put-from, split-row, Codec, read-at, put-at}
 
 pub length-put-from : (w : List ℕ) (b j : ℕ) (vs : List ℕ) → length (put-from w b j vs) ≡ length w
 length-put-from w b j [] = refl
@@ -66,6 +66,47 @@ row-listed k vs e = rw (← e) (row-tail vs vs 0 (λ i. rw (zero-add, zero-add))
 -- what straight-line code leaves that stores the elements of an array in turn
 pub put-listed : (k : ℕ) (w : List ℕ) (b : ℕ) (vs : List ℕ) → length vs ≡ k → put-from w b 0 (row-from vs 0 0 k) ≡ put-from w b 0 vs
 put-listed k w b vs e = ap (put-from w b 0) (row-listed k vs e)
+
+-- ---- rows in turn
+
+row-shift : (x : ℕ) (w : List ℕ) (j k : ℕ) → row-from (x ∷ w) 0 (suc j) k ≡ row-from w 0 j k
+row-shift x w j zero = refl
+row-shift x w j (suc k) = rw (zero-add (suc j), zero-add j, row-shift x w (suc j) k)
+
+row-empty : (j k : ℕ) → row-from [] 0 (suc j) k ≡ row-from [] 0 j k
+row-empty j zero = refl
+row-empty j (suc k) = ap (λ (r : List ℕ). 0 ∷ r) (row-empty (suc j) k)
+
+drop-empty : (k : ℕ) → drop {A = ℕ} k [] ≡ []
+drop-empty zero = refl
+drop-empty (suc k) = refl
+
+-- the first k words are a row, and the rest is what is left
+pub split-row-is : {A : Type 0} (k : ℕ) (f : List ℕ → List ℕ) (w : List ℕ) (go : List ℕ → List ℕ → A)
+    → split-row k f w go ≡ go (f (row-from w 0 0 k)) (drop k w)
+split-row-is zero f w go = refl
+split-row-is (suc k) f [] go =
+    split-row-is k (λ r. f (0 ∷ r)) [] go ∙ rw (row-empty 0 k, drop-empty k)
+split-row-is (suc k) f (x ∷ w) go =
+    split-row-is k (λ r. f (x ∷ r)) w go ∙ rw (row-shift x w 0 k)
+
+getD-drop : (w : List ℕ) (b i : ℕ) → getD (drop b w) i 0 ≡ getD w (b + i) 0
+getD-drop w zero i = rw (zero-add i)
+getD-drop [] (suc b) i = refl
+getD-drop (x ∷ w) (suc b) i = getD-drop w b i ∙ rw (suc-add b i)
+
+row-drop-from : (w : List ℕ) (b j k : ℕ) → row-from (drop b w) 0 j k ≡ row-from w b j k
+row-drop-from w b j zero = refl
+row-drop-from w b j (suc k) = rw (zero-add j, getD-drop w b j, row-drop-from w b (suc j) k)
+
+-- the row at b is the first of what is left behind b words
+pub row-drop : (w : List ℕ) (b k : ℕ) → row-from (drop b w) 0 0 k ≡ row-from w b 0 k
+row-drop w b k = row-drop-from w b 0 k
+
+pub drop-drop : (a b : ℕ) (w : List ℕ) → drop a (drop b w) ≡ drop (b + a) w
+drop-drop a zero w = rw (zero-add a)
+drop-drop a (suc b) [] = drop-empty a ∙ rw (suc-add b a)
+drop-drop a (suc b) (x ∷ w) = drop-drop a b w ∙ rw (suc-add b a)
 
 module _ {R : Type 0} (C : Codec R) where
   pub length-put-at : (w : List ℕ) (b : ℕ) (r : R) → length (put-at C w b r) ≡ length w

@@ -3,11 +3,13 @@
 use mathlib.Core.Path.{refl}
 use mathlib.Core.List.{List}
 use Prim.Native.Nat.{ℕ, _+_, _*_}
-use Rattle.asyncio.specs.Limits.{task-width, object-width, place-width}
+use mathlib.Core.Bool.{Bool}
+use lib.ListN.{drop}
+use Rattle.asyncio.specs.Limits.{task-width, object-width, place-width, object-limit}
 use Rattle.asyncio.specs.Layout.{object-words, to-object, task-words, to-task, place-words, to-place, header-words, to-header}
 use Rattle.asyncio.specs.Ranges.{ObjectFits, TaskFits, PlaceFits, HeaderFits}
 use Rattle.asyncio.specs.RangeLaws.{object-back, task-back, place-back, header-back, object-wide, to-object-fits, to-task-fits, to-place-fits, to-header-fits}
-use Rattle.rows.specs.Rows.{Codec, read-at, put-at}
+use Rattle.rows.specs.Rows.{Codec, read-at, put-at, count-rows}
 use Rattle.asyncio.specs.declared.Object.{Object}
 use Rattle.asyncio.specs.declared.Task.{Task}
 use Rattle.asyncio.specs.declared.Place.{Place}
@@ -62,3 +64,7 @@ header-at w = read-at header-codec w 0
 
 unfoldable pub header-put : List ℕ → Header → List ℕ
 header-put w h = put-at header-codec w 0 h
+
+-- how many objects' rows pass; the header's stands before them
+abbrev pub count-objects : (Object → Bool) → List ℕ → ℕ
+count-objects p w = count-rows object-codec p object-limit (drop object-width w)

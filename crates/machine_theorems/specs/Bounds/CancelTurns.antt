@@ -20,7 +20,7 @@ use Rattle.machine.specs.Scheduler.{Walk, reach-if, reach, remove-blocked, stil
 use Rattle.machine.specs.Delivery.{awaited-in, awaited-count}
 use Rattle.machine_laws.specs.Views.{Sized}
 use Rattle.machine_laws.specs.Statements.{walk-rest}
-use Rattle.machine_laws.specs.CountLaws.{count-same, count-drop}
+use Rattle.machine_laws.specs.CountLaws.{count-same, count-drop, awaited-counted}
 use Rattle.machine_laws.specs.StoreLaws.{task-fits, place-fits, header-fits, sized-put-task, sized-put-queue, sized-add-log}
 use Rattle.machine_laws.specs.DeliveryLaws.{absurd-some, first-below}
 use Rattle.machine_laws.specs.CycleLaws.{live-falls, blocked-fits, walk-once, cancel-walks}
@@ -197,10 +197,11 @@ unmarked-here (suc n) zero = refl
 unmarked-here (suc n) (suc o) = unmarked-here n o
 
 start-unreached : (s : Store) → unreached (walk-from s) ≡ awaited-count s
-unfolding unreached walk-from awaited-count awaited-in
+unfolding unreached walk-from awaited-count
 start-unreached s =
     count-same (λ o. is-awaited (kind (object-at (s .objects) o)) && not (getD (replicate object-limit false) o false)) (λ o. is-awaited (kind (object-at (s .objects) o))) object-limit
     (λ i l. rw (unmarked-here object-limit i) (and-true (is-awaited (kind (object-at (s .objects) i)))))
+    ∙ sym (awaited-counted (s .objects))
 
 start-invariant : (s : Store) → Sized s → WalkInvariant (walk-from s)
 unfolding walk-from

@@ -30,7 +30,7 @@ use Rattle.machine.specs.Events.{Switched, How, start, value, raises, run, yiel
 use Rattle.machine.specs.Events.{stays, go-on, await-gather, await-object, exec-get-awaitable}
 use Rattle.machine_laws.specs.Views.{Sized}
 use Rattle.machine_laws.specs.Statements.{SameLive}
-use Rattle.machine_laws.specs.CountLaws.{count-same}
+use Rattle.machine_laws.specs.CountLaws.{count-same, pending-counted}
 use Rattle.machine_laws.specs.StoreLaws.{task-fits, kind-put-object, object-put-other, object-put-header, sized-put-queue, sized-set-state, sized-add-log}
 use Rattle.machine_laws.specs.DeliveryLaws.{absurd-some, awaited-object, fail-sent, failure-same}
 use Rattle.machine_laws.specs.WokenLaws.{WokenFits, failure-woken}
@@ -50,8 +50,13 @@ pending-then : {s u x : Store} → SamePending s u → SamePending u x → SameP
 pending-then k l = record { same = l .same ∙ k .same }
 
 kinds-pending : (s u : Store) → ((o : ℕ) → is-pending-gather (kind (object u o)) ≡ is-pending-gather (kind (object s o))) → SamePending s u
-unfolding pending-count pending-in object
-kinds-pending s u h = record { same = count-same (λ o. is-pending-gather (kind (object-at (u .objects) o))) (λ o. is-pending-gather (kind (object-at (s .objects) o))) object-limit (λ o l. h o) }
+unfolding pending-count object
+kinds-pending s u h =
+    record {
+      same = pending-counted (u .objects)
+          ∙ (count-same (λ o. is-pending-gather (kind (object-at (u .objects) o))) (λ o. is-pending-gather (kind (object-at (s .objects) o))) object-limit (λ o l. h o)
+          ∙ sym (pending-counted (s .objects)));
+    }
 
 words-pending : (s u : Store) → u .objects ≡ s .objects → SamePending s u
 unfolding pending-count
