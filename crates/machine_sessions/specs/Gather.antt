@@ -12,6 +12,7 @@ pub mod FailingCommitSteps
 pub mod FailingCommitItems
 pub mod FailingCommit
 pub mod FailingAwait
+pub mod OwnFirst
 pub mod FailingHistory
 pub mod FailingSessions
 pub mod OutcomesStay

@@ -81,23 +81,27 @@ unstarted-live (TaskState.Woken v) e = refl
 unstarted-live (TaskState.Raised v) e = refl
 unstarted-live (TaskState.Blocked o) e = refl
 
+-- before anything is done, whatever errors the event brings
+pub begins-with : (s : Store) (B : Error → Type 0) (X : ℕ → Type 0) (R : ℕ → Error → Type 0) → Sized s → Failing s s (λ g. ⊥) B X R Unit s
+begins-with s B X R z =
+    record {
+      sized = z;
+      next = refl;
+      moves = λ o. climb-same (object s o);
+      tasks = λ t l b. record { live = b; awaiter = refl; coroutine = refl; unstarted = λ d. d };
+      because = λ g f n x w p q. failed-awaited (object s g) f n x w q p;
+      exits = λ t b. before b;
+      fresh = λ i t a b. absurd (not-suc-le-zero {n = 0} (omega arith));
+      spawned = λ t b. refl;
+    }
+
 module _ (e : Event) (s : Store) where
   abbrev K : Type 0 → Store → Type 0
   K Fr u = Failing s s (λ g. ⊥) (Brings e) (RunnerEnds e s) (RunnerFails e s) Fr u
 
   -- before anything is done
   pub begins : Sized s → K Unit s
-  begins z =
-      record {
-        sized = z;
-        next = refl;
-        moves = λ o. climb-same (object s o);
-        tasks = λ t l b. record { live = b; awaiter = refl; coroutine = refl; unstarted = λ d. d };
-        because = λ g f n x w p q. failed-awaited (object s g) f n x w q p;
-        exits = λ t b. before b;
-        fresh = λ i t a b. absurd (not-suc-le-zero {n = 0} (omega arith));
-        spawned = λ t b. refl;
-      }
+  begins z = begins-with s (Brings e) (RunnerEnds e s) (RunnerFails e s) z
 
   -- no task is spawned
   anew : (Fr Gr : Type 0) (u : Store) → K Fr u → K Gr u
@@ -288,7 +292,7 @@ module _ (ev : Event) (s : Store) (w : SoundStore s) where
   never-slot : (t p x : ℕ) → t < header s .next → t < header s .next → is-live (task s t .state) ≡ true → task s t .awaiter ≡ Awaiter.GatherSlot (heap-id p) (heap-id x) → ⊥ → ⊥
   never-slot t p x a b c d y = y
 
-  runner-up : (t : ℕ) → header s .moment ≡ Moment.Running (task-id t) → Up s s (λ g. ⊥) (Brings ev) (RunnerEnds ev s) (task s t .coroutine .0) (task s t .awaiter)
+  pub runner-up : (t : ℕ) → header s .moment ≡ Moment.Running (task-id t) → Up s s (λ g. ⊥) (Brings ev) (RunnerEnds ev s) (task s t .coroutine .0) (task s t .awaiter)
   runner-up t m =
       task-up s s (λ g. ⊥) (Brings ev) (RunnerEnds ev s) (RunnerFails ev s) Nothing (w .facts .but) never rows-same never-slot reuse t (task s t .awaiter) (runner-low s t w m) (runner-low s t w m) (ap is-live (runner-runs s t w m)) refl
 
