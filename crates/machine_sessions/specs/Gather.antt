@@ -17,6 +17,7 @@ pub mod FailingHistory
 pub mod FailingSessions
 pub mod OutcomesStay
 pub mod GatherEvents
+pub mod LateLast
 pub mod LogApart
 pub mod Batches
 use mathlib.Core.Path.{_≡_, refl, ap, ap₂, sym, subst, _∙_}
