@@ -2,9 +2,9 @@
 use mathlib.Core.Path.{_≡_, refl, sym, ap, subst, _∙_}
 use mathlib.Core.Bool.{Bool, true, false, true≢false}
 use mathlib.Core.List.{List, [], _∷_}
-use mathlib.Core.Option.{Option, none, some, Option·some-injective}
+use mathlib.Core.Option.{Option, none, some}
 use mathlib.Core.Logic.{_⊎_, inl, inr}
-use Prim.Native.Nat.{ℕ, zero, suc, _+_, _≤_, _<_}
+use Prim.Native.Nat.{ℕ, suc, _+_, _≤_, _<_}
 use native.Mathlib.Omega.{arith}
 use native.Mathlib.Decide.{ℕ-discrete}
 use lib.ListN.{length}
@@ -22,9 +22,8 @@ use Rattle.machine.specs.Machine.{Event, Step, Shown, shown, refusal, accept, s
 use Rattle.machine.specs.Sound.{is-ended}
 use Rattle.machine.specs.Tests.{is-in}
 use Rattle.machine.specs.History.{Entry, spawned-for, running-coroutine, items, outcome}
-use Rattle.machine.specs.Sessions.{Sent, Session, InRange, AllSentInRange, lent-any, send, session}
+use Rattle.machine.specs.Sessions.{Sent, InRange, AllSentInRange, lent-any, send, session}
 use Rattle.machine.specs.DemandThree.{look}
-use Rattle.machine_laws.specs.Facts.{Open}
 use Rattle.machine_laws.specs.DeliveryLaws.{absurd-some, awaited-object, pending-object}
 use Rattle.machine_laws.specs.MachineLaws.{accepted-step, refused-step}
 use Rattle.machine_laws.specs.SoundLaws.{refusal-forget}

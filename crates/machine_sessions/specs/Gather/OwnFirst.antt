@@ -12,7 +12,6 @@ use lib.Dec.{T}
 use borrow.Author.Tests.{ne-eqb}
 use Rattle.asyncio.specs.declared.Error.{Error}
 use Rattle.asyncio.specs.declared.Awaiter.{Awaiter}
-use Rattle.asyncio.specs.declared.TaskId.{TaskId}
 use Rattle.asyncio.specs.declared.TaskState.{TaskState}
 use Rattle.asyncio.specs.declared.GatherState.{GatherState}
 use Rattle.asyncio.specs.declared.Object.{Object}
@@ -22,17 +21,17 @@ use Rattle.asyncio.specs.Limits.{object-limit}
 use Rattle.asyncio.specs.Numbers.{heap-id, task-id}
 use Rattle.asyncio.specs.Ranges.{ErrorFits, AwaiterFits}
 use Rattle.asyncio.specs.Kinds.{kind, is-completed}
-use Rattle.asyncio.specs.States.{pick, is-live, is-blocked}
+use Rattle.asyncio.specs.States.{pick, is-blocked}
 use Rattle.machine.specs.Store.{Store, view, task, object, header, put-object, put-task, put-queue, add-log, set-state, reached, exited}
 use Rattle.machine.specs.Scheduler.{AwaitedGather, as-awaited, make-ready, push-ready, remove-from-ready-queue, remove-task, cleanup}
-use Rattle.machine.specs.Delivery.{Delivery, nobody-woken, deliver-to-task, Settled, fail-gather, climb, send-error, deliver-awaiter-failure}
-use Rattle.machine.specs.Events.{resume-after-task-exit, handle-task-failure, activate}
-use Rattle.machine.specs.Machine.{Event, Step, Answer, switched, end-main, task-fails, accept, refusal, refusals, runner}
+use Rattle.machine.specs.Delivery.{nobody-woken, deliver-to-task, Settled, fail-gather, climb, send-error, deliver-awaiter-failure}
+use Rattle.machine.specs.Events.{handle-task-failure, activate}
+use Rattle.machine.specs.Machine.{Event, Answer, switched, end-main, task-fails, accept, refusal, refusals, runner}
 use Rattle.machine.specs.Sound.{runs-now}
 use Rattle.machine.specs.Sessions.{InRange}
 use Rattle.machine_laws.specs.Views.{Sized}
 use Rattle.machine_laws.specs.Facts.{Nothing}
-use Rattle.machine_laws.specs.StoreLaws.{header-fits, object-put-other, task-fits}
+use Rattle.machine_laws.specs.StoreLaws.{object-put-other, task-fits}
 use Rattle.machine_laws.specs.DeliveryLaws.{absurd-some, awaited-fits, failure-climbs}
 use Rattle.machine_laws.specs.SoundLaws.{refusal-rest}
 use Rattle.machine_theorems.specs.Soundness.Stores.{idle, SoundDuring, SoundStore, during-of}
