@@ -85,27 +85,27 @@ unfoldable pub late : List (Arrival Value Error) → List (Arrival Value Error)
 late [] = []
 late (x ∷ xs) = elim (is-late (x .outcome)) [ true ↦ x ∷ late xs | false ↦ late xs ]
 
--- Both in one event: the error of a task that fails, and coroutine-reuse of tasks that fail at their first run in its wake. Which of the two comes to a gather
--- first is not said; nothing else of the order is left open.
-pub data InTurn (xs : List (Arrival Value Error)) : List (Arrival Value Error) → Type 0 where
-  late-behind : InTurn xs (early xs ++ late xs)
-  late-before : InTurn xs (late xs ++ early xs)
+-- In one event the late ones come behind. Document 01, module 5: "A task's end hands control to the waiter it woke, ahead of the queue"; so the error that a
+-- task ends with has gone up (module 3: "failure marks each awaited gather failed and climbs") before another one "whose coroutine is no longer new when it
+-- first runs fails with coroutine-reuse".
+unfoldable pub in-turn : List (Arrival Value Error) → List (Arrival Value Error)
+in-turn xs = early xs ++ late xs
 
 -- In one event, which leads from session x to session y: at its own commit all items that are done arrive, from left to right (items are stepped left to
 -- right); later those that come to something in the event.
-unfoldable pub ArriveBy : Bool → Bool → Session → Session → List ℕ → List (Arrival Value Error) → Type 0
-ArriveBy true b x y os xs = InTurn (arrivals-of (came x) (came y) os) xs
-ArriveBy false true x y os xs = xs ≡ arrivals-of (λ o. none) (came y) os
-ArriveBy false false x y os xs = xs ≡ []
+unfoldable pub arrivals-by : Bool → Bool → Session → Session → List ℕ → List (Arrival Value Error)
+arrivals-by true b x y os = in-turn (arrivals-of (came x) (came y) os)
+arrivals-by false true x y os = arrivals-of (λ o. none) (came y) os
+arrivals-by false false x y os = []
 
 -- at gather g
-abbrev pub ArriveIn : Session → Session → ℕ → List (Arrival Value Error) → Type 0
-ArriveIn x y g xs = ArriveBy (committed (look (x .store) g)) (committed (look (y .store) g)) x y (items (y .history) g) xs
+unfoldable pub arrivals-in : Session → Session → ℕ → List (Arrival Value Error)
+arrivals-in x y g = arrivals-by (committed (look (x .store) g)) (committed (look (y .store) g)) x y (items (y .history) g)
 
 -- in the order of the session
-pub data Arrive (g : ℕ) : Session → List Sent → List (Arrival Value Error) → Type 0 where
-  no-more : (x : Session) → Arrive g x [] []
-  and-then : (x : Session) (e : Sent) (es : List Sent) (xs ys : List (Arrival Value Error)) → ArriveIn x (send x e) g xs → Arrive g (send x e) es ys → Arrive g x (e ∷ es) (xs ++ ys)
+unfoldable pub arrivals-from : Session → List Sent → ℕ → List (Arrival Value Error)
+arrivals-from x [] g = []
+arrivals-from x (e ∷ es) g = let y : Session = send x e in arrivals-in x y g ++ arrivals-from y es g
 
 -- ---- the claim
 
@@ -146,7 +146,7 @@ pub record Reused (es : List Sent) (g : ℕ) (e : Error) : Type 0 where
 -- What show gives of gather g after the events.
 abbrev pub GatherRight : List Sent → ℕ → Type 0
 GatherRight es g =
-    ((xs : List (Arrival Value Error)) × Arrive g begun es xs × (seen (look (session es .store) g) ≡ gather (items (session es .history) g) xs))
+    (seen (look (session es .store) g) ≡ gather (items (session es .history) g) (arrivals-from begun es g))
     ⊎ ((e : Error) × (look (session es .store) g ≡ Shown.a-gather-failed e) × Reused es g e)
 
 -- For every list of events with single results, and every gather that was committed.

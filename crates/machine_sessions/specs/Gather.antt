@@ -12,10 +12,12 @@ pub mod FailingCommitSteps
 pub mod FailingCommitItems
 pub mod FailingCommit
 pub mod FailingAwait
+pub mod OwnFirst
 pub mod FailingHistory
 pub mod FailingSessions
 pub mod OutcomesStay
 pub mod GatherEvents
+pub mod LateLast
 pub mod LogApart
 pub mod Batches
 use mathlib.Core.Path.{_≡_, refl, ap, ap₂, sym, subst, _∙_}
@@ -42,11 +44,10 @@ use Rattle.asyncio.specs.declared.Moment.{Moment}
 use Rattle.asyncio.specs.declared.Header.{Header}
 use Rattle.asyncio.specs.declared.OptionValue.{OptionValue}
 use Rattle.asyncio.specs.Numbers.{task-id, heap-id}
-use Rattle.asyncio.specs.Layout.{to-value}
+use Rattle.asyncio.specs.Layout.{to-value, to-error}
 use Rattle.asyncio.specs.RangeLaws.{pick-has}
-use Rattle.asyncio.specs.Parts.{first-of, count-of}
 use Rattle.asyncio.specs.States.{pick, is-live, is-unstarted}
-use Rattle.machine.specs.Store.{Store, view, task, object, place, header, forget, fresh}
+use Rattle.machine.specs.Store.{Store, view, task, object, header, forget, fresh}
 use Rattle.machine.specs.Scheduler.{AwaitedGather, as-awaited, bit, pending-call-ids}
 use Rattle.machine.specs.Delivery.{value-or}
 use Rattle.machine.specs.Events.{How, Control, Switched, Result, activate, handle-task-completion, handle-task-failure, resume-next}
@@ -55,18 +56,18 @@ use Rattle.machine.specs.Sound.{items-below, object-in-range, places-below}
 use Rattle.machine.specs.Tests.{is-in}
 use Rattle.machine.specs.Gather.{Outcome, returned, raised}
 use Rattle.machine.specs.Computes.{computes}
-use Rattle.machine.specs.History.{Entry, Making, says, said, nothing-said, tells, is-none, done-only, spawned-by, spawned-for, started-by, coroutine-of, running-coroutine, exits-unstarted, is-at, later, making, items, outcome, error-of, coroutine-outcome, completed-value, failed-error, first-reply, reply-error, Says, reply-in, reply-outcome, stored-or, shown-outcome, outcome-by}
+use Rattle.machine.specs.History.{Entry, Making, says, said, nothing-said, tells, done-only, spawned-by, spawned-for, started-by, coroutine-of, running-coroutine, exits-unstarted, is-at, later, making, items, outcome, error-of, coroutine-outcome, completed-value, failed-error, first-reply, reply-error, Says, reply-in, reply-outcome, stored-or, shown-outcome, outcome-by}
 use Rattle.machine.specs.Sessions.{Sent, Session, InRange, AllSentInRange, lent-any, happened-by, entry-of, begun, send, send-all, session}
 use Rattle.machine.specs.DemandThree.{read, shown-by, look}
 use Rattle.machine_laws.specs.TestLaws.{below}
-use Rattle.machine_laws.specs.DeliveryLaws.{absurd-some, awaited-object}
+use Rattle.machine_laws.specs.DeliveryLaws.{absurd-some}
 use Rattle.machine_laws.specs.MachineLaws.{accepted-step, refused-step}
 use Rattle.machine_laws.specs.SoundLaws.{pass, refusal-rest, refusal-forget}
 use Rattle.machine_theorems.specs.Soundness.Stores.{SoundStore}
 use Rattle.machine_theorems.specs.Soundness.Sessions.{forget-sound-store, step-sound-store}
 use Rattle.machine_sessions.specs.Queue.Following.{Sends, stepped, short, sends, Following, accept-accepts, send-following, session-follows}
 use Rattle.machine_sessions.specs.Places.Told.{Frozen, co, pends, gave, broke, many, frozen}
-use Rattle.machine_sessions.specs.Places.Agrees.{reply-row, ItemsAt, Makes, MadeRight, Agrees}
+use Rattle.machine_sessions.specs.Places.Agrees.{reply-row, Makes, MadeRight, Agrees}
 use Rattle.machine_sessions.specs.Places.AgreesEvents.{refused-agrees, forget-agrees}
 use Rattle.machine_sessions.specs.Places.AgreesSessions.{accept-agrees, send-agrees, session-agrees}
 use Rattle.machine_sessions.specs.Places.PlacesHold.{row-outcome, outcome-row, shows-made}
@@ -77,15 +78,16 @@ use Rattle.machine_sessions.specs.Gather.FailingAwait.{accept-fails}
 use Rattle.machine_sessions.specs.Gather.FailingHistory.{Knows, UsedRow, step-knows, raised-outcome, used-made}
 use Rattle.machine.specs.History.{value-of}
 use lib.ListN.{getD}
-use Rattle.machine_sessions.specs.Stall.Outcomes.{outcome-of}
+use Rattle.machine_sessions.specs.Stall.Outcomes.{outcome-of, is-there}
 use Rattle.machine.specs.DemandThree.{read, shown-by, delivered, none-open, Demand3}
 use Rattle.machine.specs.DemandTwo.{came, committed, is-late, Single, reuse-of, ReuseAt, GatherRight, DemandTwo}
 use Rattle.machine_sessions.specs.DemandThree.{demand-three}
 use Rattle.machine_sessions.specs.Stall.WaitingSessions.{awaited-items-no-error}
-use Rattle.machine_sessions.specs.Gather.Arrivals.{head-in, tail-in, in-cons}
+use Rattle.machine_sessions.specs.Gather.Arrivals.{head-in, tail-in}
 use Rattle.machine_sessions.specs.Gather.GatherSteps.{Delivered, NoneRaised, FailsLater, FailsAtCommit, GatherStep, Which, w-awaited, w-completed, w-failed, which, in-range-snoc, session-snoc, gather-right}
 use Rattle.machine_sessions.specs.Gather.GatherEvents.{Stays, session-stays}
-use Rattle.machine_sessions.specs.Gather.FailingSessions.{ShownMoves, ShowsCommitted, FailedItem, FirstFailed, Reused, a-coroutine, an-external, a-gather, GatherFails, session-fails, making-later, look-row, row-awaited, row-failed, gather-list, awaited-many, IsAwaited, IsPending, IsFailed, session-knows}
+use Rattle.machine_sessions.specs.Gather.LateLast.{InPlace, item-place, item-committed, item-not-runner, item-late}
+use Rattle.machine_sessions.specs.Gather.FailingSessions.{ShownMoves, ShowsCommitted, FailedItem, FirstFailed, Reused, a-coroutine, an-external, a-gather, GatherFails, session-fails, making-later, look-row, row-failed, IsPending, IsFailed, session-knows}
 
 -- ---- what show answers
 
@@ -106,25 +108,6 @@ committed-read (Answer.refused n) l e c = absurd (true≢false (sym c ∙ ap com
 look-read : (s : Store) (g : ℕ) (l : Shown) → look s g ≡ l → committed l ≡ true → read s g ≡ Answer.shows l
 unfolding look
 look-read s g l e c = committed-read (read s g) l e c
-
--- a named item stands in a place
-in-places : (i : ℕ → ℕ) (f : ℕ) (os : List ℕ) (o : ℕ) → ItemsAt i f os → is-in o os ≡ true → (a : ℕ) × (a < length os) × (i (f + a) ≡ o)
-unfolding ItemsAt is-in
-in-places i f [] o k e = absurd (true≢false (sym e))
-in-places i f (p ∷ os) o k e = by (in-cons o p os e) (λ j. in-places i (f + 1) os o (k .1) j)
-  where
-    Found : ℕ → List ℕ → Type 0
-    Found c ps = (a : ℕ) × (a < length ps) × (i (c + a) ≡ o)
-
-    by : (p ≡ o) ⊎ (is-in o os ≡ true) → (is-in o os ≡ true → Found (f + 1) os) → Found f (p ∷ os)
-    by (inl q) go = (0, omega arith, subst (λ (c : ℕ). i c ≡ o) (zero-more f) (k .0 ∙ q))
-      where
-        zero-more : (f : ℕ) → f ≡ f + 0
-        zero-more f = omega arith
-    by (inr j) go = let x = go j in (suc (x .0), omega (arith, x .1), subst (λ (c : ℕ). i c ≡ o) (one-more f (x .0)) (x .2))
-      where
-        one-more : (f a : ℕ) → f + 1 + a ≡ f + suc a
-        one-more f a = omega arith
 
 -- ---- what stands after a session
 
@@ -152,23 +135,9 @@ state-right es i g = (done, waits)
     done vs e = let k = demand-three es i .places g .completed vs (look-read s g _ e (unfold committed in refl)) in (as-came vs (k .0), k .1)
 
     quiet : (vs : List (Option Value)) → look s g ≡ Shown.a-gather-awaited vs → NoneRaised (session es) g
-    quiet vs e o z = by (look-row s g (session-follows es i .whole))
-      where
-        by : ((g < header s .made) × (look s g ≡ shown s (object s g))) ⊎ ((header s .made ≤ g) × (look s g ≡ Shown.nothing)) → error-of (came (session es) o) ≡ none
-        by (inr b) = absurd (subst IsAwaited (sym e ∙ b .1) tt)
-        by (inl b) =
-            let v = row-awaited s (object s g) (subst IsAwaited (sym (sym (b .1) ∙ e)) tt) in
-            let m = gather-list h s (session-agrees es i) g (first-of (object s g)) (count-of (object s g)) (b .0) (awaited-many (object s g) (v .0) (v .1)) in
-            let row : object s g ≡ Object.GatherFuture (v .0 .first) (v .0 .count) (GatherState.Awaited (v .0 .awaiter) (v .0 .open-places)) = awaited-object (object s g) (v .0) (v .1) in
-            let a = in-places (λ p. place s p .item .0) (first-of (object s g)) (items h g) o (m .1) z in
-            let low : a .0 < v .0 .count = subst (λ (n : ℕ). a .0 < n) (sym (m .0) ∙ count-is row) (a .1) in
-            ap error-of (came-is o) ∙ subst (λ (n : ℕ). error-of (outcome h (look s) n) ≡ none) (ap (λ (f : ℕ). place s (f + a .0) .item .0) (sym (first-is row)) ∙ a .2) (awaited-items-no-error es i g (v .0) (b .0) (v .1) (a .0) low)
-          where
-            count-is : {x : Object} {f n : ℕ} {y : GatherState} → x ≡ Object.GatherFuture f n y → count-of x ≡ n
-            count-is q = ap count-of q ∙ (unfold count-of in refl)
-
-            first-is : {x : Object} {f n : ℕ} {y : GatherState} → x ≡ Object.GatherFuture f n y → first-of x ≡ f
-            first-is q = ap first-of q ∙ (unfold first-of in refl)
+    quiet vs e o z =
+        let a : InPlace s g o = item-place h s (session-follows es i .whole) (session-agrees es i) g o vs e z in
+        ap error-of (came-is o) ∙ subst (λ (n : ℕ). error-of (outcome h (look s) n) ≡ none) (a .names) (awaited-items-no-error es i g (a .row) (a .made) (a .awaited) (a .at) (a .under))
 
     waits : (vs : List (Option Value)) → look s g ≡ Shown.a-gather-awaited vs → Delivered (session es) g vs × (none-open vs ≡ false) × NoneRaised (session es) g
     waits vs e = let k = demand-three es i .places g .awaited vs (look-read s g _ e (unfold committed in refl)) in (as-came vs (k .0), k .1, quiet vs e)
@@ -227,6 +196,10 @@ fails-is (Event.cancel t) n k = absurd-some k
 fails-is (Event.show o) n k = absurd-some k
 fails-is Event.eager n k = absurd-some k
 
+says-fails : (n : ℕ) → says (Event.fail n) .fails ≡ some n
+unfolding says
+says-fails n = refl
+
 -- what is said is what the event says, or nothing
 said-or : (x : Entry) → (said x ≡ says (x .event)) ⊎ (said x ≡ nothing-said)
 unfolding said
@@ -248,11 +221,15 @@ no-outcome : (r : OptionValue) → reply-outcome r none ≡ none
 unfolding reply-outcome
 no-outcome r = refl
 
--- a coroutine's error
-coroutine-error : (x : Entry) (h : List Entry) (c : ℕ) (z : Error) → failed-error (x ∷ h) c ≡ some z → Brings (x .event) z ⊎ (failed-error h c ≡ some z)
+-- a coroutine's error: coroutine-reuse, that of its running task's failure, or an earlier one
+coroutine-error : (x : Entry) (h : List Entry) (c : ℕ) (z : Error) → failed-error (x ∷ h) c ≡ some z
+    → (z ≡ Error.CoroutineReuse) ⊎ (((n : ℕ) × (running-coroutine h ≡ some c) × (x .event ≡ Event.fail n) × (z ≡ Error.Script n)) ⊎ (failed-error h c ≡ some z))
 unfolding failed-error
-coroutine-error x h c z q = by (exits-unstarted (spawned-for (x ∷ h)) (coroutine-of (x ∷ h)) (x .happened) c) (is-at (running-coroutine h) c) (said x .fails) refl q
+coroutine-error x h c z q = by (exits-unstarted (spawned-for (x ∷ h)) (coroutine-of (x ∷ h)) (x .happened) c) (is-at (running-coroutine h) c) refl (said x .fails) refl q
   where
+    Why : Type 0
+    Why = (z ≡ Error.CoroutineReuse) ⊎ (((n : ℕ) × (running-coroutine h ≡ some c) × (x .event ≡ Event.fail n) × (z ≡ Error.Script n)) ⊎ (failed-error h c ≡ some z))
+
     fails-now : (n : ℕ) → said x .fails ≡ some n → x .event ≡ Event.fail n
     fails-now n k = of (said-or x)
       where
@@ -260,19 +237,20 @@ coroutine-error x h c z q = by (exits-unstarted (spawned-for (x ∷ h)) (corouti
         of (inl d) = fails-is (x .event) n (ap (λ (y : Says). y .fails) (sym d) ∙ k)
         of (inr d) = absurd-some (sym (ap (λ (y : Says). y .fails) d ∙ no-fails) ∙ k)
 
-    by : (a b : Bool) (v : Option ℕ) → said x .fails ≡ v
-        → elim a [ true ↦ some Error.CoroutineReuse | false ↦ elim b [ true ↦ elim v [ none ↦ failed-error h c | some n ↦ some (Error.Script n) ] | false ↦ failed-error h c ] ] ≡ some z → Brings (x .event) z ⊎ (failed-error h c ≡ some z)
-    by true b v k d = inl (subst (Brings (x .event)) (Option·some-injective Error.CoroutineReuse z d) reuse)
-    by false true none k d = inr d
-    by false true (some n) k d = inl (subst (Brings (x .event)) (Option·some-injective (Error.Script n) z d) (script n (fails-now n k)))
-    by false false v k d = inr d
+    by : (a b : Bool) → is-at (running-coroutine h) c ≡ b → (v : Option ℕ) → said x .fails ≡ v
+        → elim a [ true ↦ some Error.CoroutineReuse | false ↦ elim b [ true ↦ elim v [ none ↦ failed-error h c | some n ↦ some (Error.Script n) ] | false ↦ failed-error h c ] ] ≡ some z → Why
+    by true b r v k d = inl (sym (Option·some-injective Error.CoroutineReuse z d))
+    by false true r none k d = inr (inr d)
+    by false true r (some n) k d = inr (inl (n, is-there (running-coroutine h) c r, fails-now n k, sym (Option·some-injective (Error.Script n) z d)))
+    by false false r v k d = inr (inr d)
 
--- an external's
-reply-brings : (x : Entry) (since : List Entry) (c : ℕ) (r : OptionValue) (z : Error) → reply-outcome r (first-reply since c) ≡ none → reply-outcome r (first-reply (x ∷ since) c) ≡ some (raised z) → Brings (x .event) z
+-- an external's, in an event that is no failure
+reply-brings : (x : Entry) (since : List Entry) (c : ℕ) (r : OptionValue) (z : Error) → reply-outcome r (first-reply since c) ≡ none → reply-outcome r (first-reply (x ∷ since) c) ≡ some (raised z)
+    → Brings (x .event) z × (says (x .event) .fails ≡ none)
 unfolding first-reply
 reply-brings x since c r z a b = by (first-reply since c) a b
   where
-    brings : (y : Result) → reply-in (said x .results) c ≡ some y → reply-outcome r (some y) ≡ some (raised z) → Brings (x .event) z
+    brings : (y : Result) → reply-in (said x .results) c ≡ some y → reply-outcome r (some y) ≡ some (raised z) → Brings (x .event) z × (says (x .event) .fails ≡ none)
     brings y k d = of (said-or x)
       where
         not-zero : (eqb (y .kind) 0 ≡ false) × (reply-error y ≡ z)
@@ -289,18 +267,18 @@ reply-brings x since c r z a b = by (first-reply since c) a b
                     IsReturned (raised e) = ⊥
             kinds false e j = (e, raised-same (reply-error y) z (Option·some-injective _ _ j))
 
-        of : (said x ≡ says (x .event)) ⊎ (said x ≡ nothing-said) → Brings (x .event) z
+        of : (said x ≡ says (x .event)) ⊎ (said x ≡ nothing-said) → Brings (x .event) z × (says (x .event) .fails ≡ none)
         of (inl d) =
             let k2 = replied (says (x .event) .results) c y (ap (λ (u : Says). reply-in (u .results) c) (sym d) ∙ k) in
             let k3 = results-are (x .event) y (k2 .0) in
-            subst (Brings (x .event)) (not-zero .1) (answer (k3 .0) y (k3 .1) (k3 .2) (not-zero .0) (k2 .1))
+            (subst (Brings (x .event)) (not-zero .1) (answer (k3 .0) y (k3 .1) (k3 .2) (not-zero .0) (k2 .1)), ap (λ (e : Event). says e .fails) (k3 .1) ∙ (unfold says nothing-said in refl))
         of (inr d) = absurd-some (sym (ap (λ (u : Says). reply-in (u .results) c) d ∙ no-reply c) ∙ k)
 
-    by : (v : Option Result) → reply-outcome r v ≡ none → reply-outcome r (elim v [ some y ↦ some y | none ↦ reply-in (said x .results) c ]) ≡ some (raised z) → Brings (x .event) z
+    by : (v : Option Result) → reply-outcome r v ≡ none → reply-outcome r (elim v [ some y ↦ some y | none ↦ reply-in (said x .results) c ]) ≡ some (raised z) → Brings (x .event) z × (says (x .event) .fails ≡ none)
     by (some y) p d = absurd-some (sym p ∙ d)
     by none p d = found (reply-in (said x .results) c) refl d
       where
-        found : (v : Option Result) → reply-in (said x .results) c ≡ v → reply-outcome r v ≡ some (raised z) → Brings (x .event) z
+        found : (v : Option Result) → reply-in (said x .results) c ≡ v → reply-outcome r v ≡ some (raised z) → Brings (x .event) z × (says (x .event) .fails ≡ none)
         found none k j = absurd-some (sym (no-outcome r) ∙ j)
         found (some y) k j = brings y k j
 
@@ -398,21 +376,33 @@ one-result (x ∷ (y ∷ rs)) a b l p q = absurd (not-suc-le-zero {n = 0} (omega
 
 own-same : (v : Event) (e z : Error) → length (says v .results) ≤ 1 → Brings v e → Brings v z → is-late (raised e) ≡ false → is-late (raised z) ≡ false → z ≡ e
 unfolding says nothing-said is-late
-own-same v e z l reuse b p q = absurd (true≢false p)
-own-same v e z l (script n d) reuse p q = absurd (true≢false q)
+own-same v e z l (reuse n) b p q = absurd (true≢false p)
+own-same v e z l (script n d) (reuse a) p q = absurd (true≢false q)
 own-same v e z l (script n d) (script m c) p q = ap Error.Script (Option·some-injective m n (ap (λ (x : Event). says x .fails) (sym c ∙ d)))
 own-same v e z l (script n d) (answer rs r c i j k) p q = absurd-some (ap (λ (x : Event). says x .fails) (sym c ∙ d))
-own-same v e z l (answer rs r c i j k) reuse p q = absurd (true≢false q)
+own-same v e z l (answer rs r c i j k) (reuse a) p q = absurd (true≢false q)
 own-same v e z l (answer rs r c i j k) (script m d) p q = absurd-some (ap (λ (x : Event). says x .fails) (sym c ∙ d))
 own-same v e z l (answer rs r c i j k) (answer ts t d x y w) p q =
     ap reply-error (one-result rs t r (subst (λ (u : Event). length (says u .results) ≤ 1) c l) (subst (ResultIn t) (ap (λ (u : Event). says u .results) (sym d ∙ c)) x) i)
 
--- no await brings any but coroutine-reuse
-await-late : (v : Event) (e : Error) → Brings v e → is-none (says v .awaits) ≡ false → is-late (raised e) ≡ true
-unfolding says nothing-said is-late is-none
-await-late v e reuse n = refl
-await-late v e (script m d) n = absurd (true≢false (ap (λ (x : Event). is-none (says x .awaits)) (sym d) ∙ n))
-await-late v e (answer rs r d i j k) n = absurd (true≢false (ap (λ (x : Event). is-none (says x .awaits)) (sym d) ∙ n))
+-- a reply is not late
+reply-early : (r : Result) → is-late (raised (reply-error r)) ≡ false
+unfolding reply-error is-late
+reply-early r = by (eqb (r .kind) 1) (eqb (r .kind) 3)
+  where
+    by : (a b : Bool) → is-late (raised (pick a (to-error 0 (r .number)) (pick b Error.NotFound Error.ModuleFile))) ≡ false
+    by true b = refl
+    by false true = refl
+    by false false = refl
+
+-- an event that brings late and other errors is a failure
+late-and-early : (v : Event) (e z : Error) → Brings v e → Brings v z → is-late (raised e) ≡ true → is-late (raised z) ≡ false → (n : ℕ) × (v ≡ Event.fail n)
+unfolding says nothing-said ResultIn is-late
+late-and-early v e z a (reuse n) p q = absurd (true≢false q)
+late-and-early v e z a (script n d) p q = (n, d)
+late-and-early v e z (reuse n) (answer rs r d i j k) p q = let o : rs ≡ [] = ap (λ (x : Event). says x .results) (sym d) ∙ n in absurd (subst (ResultIn r) o i)
+late-and-early v e z (script m c) (answer rs r d i j k) p q = absurd (true≢false (sym p))
+late-and-early v e z (answer ts t c x y w) (answer rs r d i j k) p q = absurd (true≢false (sym p ∙ reply-early t))
 
 module _ (ps : List Sent) (s : Sent) (j : AllSentInRange ps) (i : InRange (s .event)) where
   abbrev x : Session
@@ -427,8 +417,15 @@ module _ (ps : List Sent) (s : Sent) (j : AllSentInRange ps) (i : InRange (s .ev
   abbrev X : Entry
   X = entry-of (s .event) (lent-any (session ps .store) s .answer) (lent-any (session ps .store) s .store)
 
-  -- an object that has come to an error in the event
-  new-error : (o : ℕ) (z : Error) → came x o ≡ none → came y o ≡ some (raised z) → Brings (s .event) z ⊎ (is-none (says (s .event) .awaits) ≡ false)
+  -- why an object has come to an error in the event: its task failed at its first run, or ran and failed; a reply; it is a gather, which was awaited or not
+  data NewError (o : ℕ) (z : Error) : Type 0 where
+    at-first-run : z ≡ Error.CoroutineReuse → NewError o z
+    of-runner : (n : ℕ) → running-coroutine (session ps .history) ≡ some o → s .event ≡ Event.fail n → z ≡ Error.Script n → NewError o z
+    by-reply : Brings (s .event) z → says (s .event) .fails ≡ none → NewError o z
+    of-awaited : (us : List (Option Value)) → look (session ps .store) o ≡ Shown.a-gather-awaited us → look (send (session ps) s .store) o ≡ Shown.a-gather-failed z → Brings (s .event) z → NewError o z
+    of-pending : look (session ps .store) o ≡ Shown.a-gather-pending → NewError o z
+
+  new-error : (o : ℕ) (z : Error) → came x o ≡ none → came y o ≡ some (raised z) → NewError o z
   unfolding came send outcome outcome-by entry-of first-reply error-of later making
   new-error o z a b = by (making (X ∷ h) o) refl b
     where
@@ -456,7 +453,7 @@ module _ (ps : List Sent) (s : Sent) (j : AllSentInRange ps) (i : InRange (s .ev
           was-by : Option Making → Option Out
           was-by w = elim w [ none ↦ none | some m ↦ outcome-by h (look (session ps .store)) o (m .event) (m .since) ]
 
-      by : (m : Option Making) → making (X ∷ h) o ≡ m → _≡_ {A = Option Out} (elim m [ none ↦ none | some k ↦ outcome-by (X ∷ h) L o (k .event) (k .since) ]) (some (raised z)) → Brings (s .event) z ⊎ (is-none (says (s .event) .awaits) ≡ false)
+      by : (m : Option Making) → making (X ∷ h) o ≡ m → _≡_ {A = Option Out} (elim m [ none ↦ none | some k ↦ outcome-by (X ∷ h) L o (k .event) (k .since) ]) (some (raised z)) → NewError o z
       by none q d = absurd-some d
       by (some m) q d = of (m .event) refl d
         where
@@ -485,19 +482,19 @@ module _ (ps : List Sent) (s : Sent) (j : AllSentInRange ps) (i : InRange (s .ev
               at (inr l) = used-made (object ss o) used (session-agrees ps j .behind o l)
 
           -- a gather
-          shown-failed : L o ≡ Shown.a-gather-failed z → Brings (s .event) z ⊎ (is-none (says (s .event) .awaits) ≡ false)
+          shown-failed : L o ≡ Shown.a-gather-failed z → NewError o z
           shown-failed e = at (look ss o) refl (session-fails ps s j i o .moves)
             where
               not-moved : {l : Shown} → Shown.a-gather-failed z ≡ l → (IsFailed l → ⊥) → ⊥
               not-moved w n = n (subst IsFailed w tt)
 
-              at : (l : Shown) → look ss o ≡ l → ShownMoves (look ss o) (L o) → Brings (s .event) z ⊎ (is-none (says (s .event) .awaits) ≡ false)
+              at : (l : Shown) → look ss o ≡ l → ShownMoves (look ss o) (L o) → NewError o z
               at (Shown.a-coroutine c f) w k = absurd (subst (ShownMoves (Shown.a-coroutine c f)) e (subst (λ (v : Shown). ShownMoves v (L o)) w k))
               at Shown.an-external-pending w k = absurd (subst (ShownMoves Shown.an-external-pending) e (subst (λ (v : Shown). ShownMoves v (L o)) w k))
               at (Shown.an-external-resolved v) w k = absurd (not-moved (subst (ShownMoves (Shown.an-external-resolved v)) e (subst (λ (u : Shown). ShownMoves u (L o)) w k)) (λ x. x))
               at (Shown.an-external-failed r) w k = absurd (not-moved (subst (ShownMoves (Shown.an-external-failed r)) e (subst (λ (u : Shown). ShownMoves u (L o)) w k)) (λ x. x))
-              at Shown.a-gather-pending w k = inr (session-fails ps s j i o .committing z w e)
-              at (Shown.a-gather-awaited vs) w k = inl (session-fails ps s j i o .awaited vs z w e .error)
+              at Shown.a-gather-pending w k = of-pending w
+              at (Shown.a-gather-awaited vs) w k = of-awaited vs w e (session-fails ps s j i o .awaited vs z w e .error)
               at (Shown.a-gather-completed vs) w k = let p = subst (λ (u : Shown). ShownMoves u (L o)) w k in absurd (not-moved (sym e ∙ p .1) (λ x. x))
               at (Shown.a-gather-failed r) w k = absurd (failed-before (look-row ss o (session-follows ps j .whole)))
                 where
@@ -508,24 +505,24 @@ module _ (ps : List Sent) (s : Sent) (j : AllSentInRange ps) (i : InRange (s .ev
                   failed-before (inr b) = subst IsFailed (sym w ∙ b .1) tt
               at Shown.nothing w k = absurd (session-stays ps s j i .not-failed o z w e)
 
-          of : (v : Event) → m .event ≡ v → outcome-by (X ∷ h) L o v (m .since) ≡ some (raised z) → Brings (s .event) z ⊎ (is-none (says (s .event) .awaits) ≡ false)
+          of : (v : Event) → m .event ≡ v → outcome-by (X ∷ h) L o v (m .since) ≡ some (raised z) → NewError o z
           of (Event.coroutine f) e c = cases (coroutine-error X h o z (only-error _ _ z c))
             where
-              cases : Brings (X .event) z ⊎ (failed-error h o ≡ some z) → Brings (s .event) z ⊎ (is-none (says (s .event) .awaits) ≡ false)
-              cases (inl k) = inl k
-              cases (inr k) = absurd (no-old k)
+              cases : (z ≡ Error.CoroutineReuse) ⊎ (((n : ℕ) × (running-coroutine h ≡ some o) × (X .event ≡ Event.fail n) × (z ≡ Error.Script n)) ⊎ (failed-error h o ≡ some z)) → NewError o z
+              cases (inl k) = at-first-run k
+              cases (inr (inl k)) = of-runner (k .0) (k .1) (k .2) (k .3)
+              cases (inr (inr k)) = absurd (no-old k)
           of Event.call e c = absurd-some c
           of (Event.pending n r) e c = cases (before m q)
             where
               Reply : List Entry → Type 0
               Reply l = reply-outcome r (first-reply l n) ≡ some (raised z)
 
-              cases : (m .since ≡ []) ⊎ ((k : Making) × (making h o ≡ some k) × (m .event ≡ k .event) × (m .since ≡ X ∷ k .since)) → Brings (s .event) z ⊎ (is-none (says (s .event) .awaits) ≡ false)
+              cases : (m .since ≡ []) ⊎ ((k : Making) × (making h o ≡ some k) × (m .event ≡ k .event) × (m .since ≡ X ∷ k .since)) → NewError o z
               cases (inl d) = absurd-some (sym (no-outcome r) ∙ subst Reply d c)
               cases (inr k) =
-                  inl (reply-brings X (k .0 .since) n r z
-                  (subst (λ (v : Event). outcome-by h (look ss) o v (k .0 .since) ≡ none) (sym (k .2) ∙ e) (was-none (k .0) (k .1)))
-                  (subst Reply (k .3) c))
+                  let d = reply-brings X (k .0 .since) n r z (subst (λ (v : Event). outcome-by h (look ss) o v (k .0 .since) ≡ none) (sym (k .2) ∙ e) (was-none (k .0) (k .1))) (subst Reply (k .3) c) in
+                  by-reply (d .0) (d .1)
           of (Event.settled v) e c = absurd-some (ap error-of c)
           of (Event.gather os) e c = shown-failed (shown-raised o (L o) z c)
           of (Event.await p) e c = absurd-some c
@@ -605,6 +602,40 @@ module _ (ps : List Sent) (s : Sent) (j : AllSentInRange ps) (i : InRange (s .ev
             error-some : (z : Error) → error-of (some (raised z)) ≡ some z
             error-some z = unfold error-of in refl
 
+    -- g was awaited and fails with e, and its item o comes to an error z that is not late
+    module _ (e : Error) (vs : List (Option Value)) (p : look (x .store) g ≡ Shown.a-gather-awaited vs) (q : look (y .store) g ≡ Shown.a-gather-failed e) (o : ℕ) (z : Error)
+        (n : is-in o (items (y .history) g) ≡ true) (a : came x o ≡ none) (m : is-late (raised z) ≡ false) where
+      brought : Brings (s .event) e
+      brought = fs .awaited vs e p q .error
+
+      named : is-in o (items (session ps .history) g) ≡ true
+      named = subst (λ (os : List ℕ). is-in o os ≡ true) (same-items (ap committed p ∙ (unfold committed in refl))) n
+
+      nothing : outcome (session ps .history) (look (session ps .store)) o ≡ none
+      nothing = unfold came in a
+
+      not-late : {A : Type 0} → z ≡ Error.CoroutineReuse → A
+      not-late d = absurd (true≢false (sym reuse-late ∙ (ap (λ (v : Error). is-late (raised v)) (sym d) ∙ m)))
+        where
+          reuse-late : is-late (raised Error.CoroutineReuse) ≡ true
+          reuse-late = unfold is-late in refl
+
+      -- then e is not late
+      none-early : NewError o z → is-late (raised e) ≡ true → ⊥
+      none-early (at-first-run d) l = not-late d
+      none-early (of-runner k r d w) l = item-not-runner ps s j i g o vs e p q named nothing k d (late-is e l) r
+      none-early (by-reply d w) l = let k = late-and-early (s .event) e z brought d l m in absurd-some (sym w ∙ (ap (λ (v : Event). says v .fails) (k .1) ∙ says-fails (k .0)))
+      none-early (of-awaited us r d w) l = let k = late-and-early (s .event) e z brought w l m in not-late (item-late ps s j i g o vs e p q named nothing (k .0) (k .1) (late-is e l) us z r d)
+      none-early (of-pending d) l = item-committed ps s j i g o vs e p q named nothing d
+
+      -- and z is e
+      early-same : NewError o z → is-late (raised e) ≡ false → z ≡ e
+      early-same (at-first-run d) l = not-late d
+      early-same (of-runner k r d w) l = own-same (s .event) e z few brought (subst (Brings (s .event)) (sym w) (script k d)) l m
+      early-same (by-reply d w) l = own-same (s .event) e z few brought d l m
+      early-same (of-awaited us r d w) l = own-same (s .event) e z few brought w l m
+      early-same (of-pending d) l = absurd (item-committed ps s j i g o vs e p q named nothing d)
+
     fails-behind : (e : Error) (vs : List (Option Value)) → look (x .store) g ≡ Shown.a-gather-awaited vs → look (y .store) g ≡ Shown.a-gather-failed e → FailsLater x y g e
     fails-behind e vs p q =
         record {
@@ -612,7 +643,7 @@ module _ (ps : List Sent) (s : Sent) (j : AllSentInRange ps) (i : InRange (s .ev
           named = f .among;
           fresh = was-none (f .item) e (quiet (f .item) (subst (λ (os : List ℕ). is-in (f .item) os ≡ true) (same-items c) (f .among))) raises;
           raises = raises;
-          others = λ o z n a b. by o z a b (is-late (raised e)) refl (is-late (raised z)) refl;
+          others = λ o z n a b. by o z n a b (is-late (raised e)) refl (is-late (raised z)) refl;
         }
       where
         f : FailedItem (s .event) (y .history) (look (y .store)) g e
@@ -627,15 +658,12 @@ module _ (ps : List Sent) (s : Sent) (j : AllSentInRange ps) (i : InRange (s .ev
         raises : came y (f .item) ≡ some (raised e)
         raises = unfold came in (f .raised-it)
 
-        by : (o : ℕ) (z : Error) → came x o ≡ none → came y o ≡ some (raised z) → (l : Bool) → is-late (raised e) ≡ l → (m : Bool) → is-late (raised z) ≡ m → (z ≡ e) ⊎ (is-late (raised z) ≡ not (is-late (raised e)))
-        by o z a b true l true m = inl (late-is z m ∙ sym (late-is e l))
-        by o z a b true l false m = inr (m ∙ ap not (sym l))
-        by o z a b false l true m = inr (m ∙ ap not (sym l))
-        by o z a b false l false m = inl (of (new-error o z a b))
-          where
-            of : Brings (s .event) z ⊎ (is-none (says (s .event) .awaits) ≡ false) → z ≡ e
-            of (inl k) = own-same (s .event) e z few (f .error) k l m
-            of (inr k) = absurd (true≢false (sym (await-late (s .event) e (f .error) k) ∙ l))
+        by : (o : ℕ) (z : Error) → is-in o (items (y .history) g) ≡ true → came x o ≡ none → came y o ≡ some (raised z) → (l : Bool) → is-late (raised e) ≡ l → (m : Bool) → is-late (raised z) ≡ m
+            → (z ≡ e) ⊎ ((is-late (raised z) ≡ true) × (is-late (raised e) ≡ false))
+        by o z n a b true l true m = inl (late-is z m ∙ sym (late-is e l))
+        by o z n a b true l false m = absurd (none-early e vs p q o z n a m (new-error o z a b) l)
+        by o z n a b false l true m = inr (m, l)
+        by o z n a b false l false m = inl (early-same e vs p q o z n a m (new-error o z a b) l)
 
     fails-later : (e : Error) → committed (look (x .store) g) ≡ true → look (y .store) g ≡ Shown.a-gather-failed e → (look (x .store) g ≡ Shown.a-gather-failed e) ⊎ FailsLater x y g e
     fails-later e c q = by (which (look (x .store) g) c)

@@ -17,7 +17,7 @@ use Rattle.machine.specs.Tests.{is-in}
 use Rattle.machine.specs.Gather.{Outcome, returned, raised, Arrival, Gathered, waiting, listed, propagated, outcome-of, first-raised, put-first, in-order, gather}
 use Rattle.machine.specs.History.{value-of, error-of}
 use Rattle.machine.specs.DemandThree.{none-open}
-use Rattle.machine.specs.DemandTwo.{values, arrives, arrivals-of, is-late, early, late, InTurn, late-behind, late-before}
+use Rattle.machine.specs.DemandTwo.{values, arrives, arrivals-of, is-late, early, late, in-turn}
 
 abbrev pub Came : Type 0
 Came = Option (Outcome Value Error)
@@ -183,9 +183,9 @@ late-none (x ∷ xs) k = late-cons x xs false (not-late (x .outcome) (k .0)) ∙
 ++-nil [] = refl
 ++-nil (x ∷ xs) = ap (λ (zs : Arrivals). x ∷ zs) (++-nil xs)
 
--- then it does not matter who is late
-pub in-turn-all : (xs : Arrivals) → AllReturned xs → InTurn xs xs
-in-turn-all xs k = subst (InTurn xs) (ap₂ (λ (a b : Arrivals). a ++ b) (early-all xs k) (late-none xs k) ∙ ++-nil xs) late-behind
+pub in-turn-all : (xs : Arrivals) → AllReturned xs → in-turn xs ≡ xs
+unfolding in-turn
+in-turn-all xs k = ap₂ (λ (a b : Arrivals). a ++ b) (early-all xs k) (late-none xs k) ∙ ++-nil xs
 
 -- ---- what an arrival satisfies
 
@@ -351,52 +351,50 @@ first-stays os e (x ∷ xs) ys seen q = by (is-in (x .awaitable) os && not (is-i
     by true (raised z) c w go = cons (xs ++ ys) true (raised z) c w ∙ (sym (cons xs true (raised z) c w) ∙ q)
     by false y c w go = cons (xs ++ ys) false y c w ∙ go seen (sym (cons xs false y c w) ∙ q)
 
--- ---- in one event, late ones and the others
+-- ---- in one event, late ones behind the others
 
 module _ (now : ℕ → Came) (os : List ℕ) where
-  -- an arrival of an item, with what has come of it: an error is e, or one of the two is late and the other is not
+  -- an arrival of an item, with what has come of it: an error is e, or is late where e is not
   pub record Turn (e : Error) (x : Arrival Value Error) : Type 0 where
     pub item : is-in (x .awaitable) os ≡ true
     pub own : now (x .awaitable) ≡ some (x .outcome)
-    pub only : (z : Error) → x .outcome ≡ raised z → (z ≡ e) ⊎ (is-late (raised z) ≡ not (is-late (raised e)))
+    pub only : (z : Error) → x .outcome ≡ raised z → (z ≡ e) ⊎ ((is-late (raised z) ≡ true) × (is-late (raised e) ≡ false))
 
-  not-not-late : (b c : Bool) → b ≡ not c → b ≡ c → ⊥
-  not-not-late b true e q = true≢false (sym q ∙ e)
-  not-not-late b false e q = true≢false (sym e ∙ q)
-
-  -- those that are late as e is
-  one-fine : (e : Error) (x : Arrival Value Error) → is-late (x .outcome) ≡ is-late (raised e) → Turn e x → Fine now os e x
-  one-fine e x l a = record { item = a .item; own = a .own; only = λ z q. one z q (a .only z q) }
-    where
-      one : (z : Error) → x .outcome ≡ raised z → (z ≡ e) ⊎ (is-late (raised z) ≡ not (is-late (raised e))) → z ≡ e
-      one z q (inl w) = w
-      one z q (inr w) = absurd (not-not-late (is-late (raised z)) (is-late (raised e)) w (sym (ap is-late q) ∙ l))
-
-  late-fine : (e : Error) → is-late (raised e) ≡ true → (xs : Arrivals) → All (Turn e) xs → All (Fine now os e) (late xs)
+  all-fine : (e : Error) → is-late (raised e) ≡ true → (xs : Arrivals) → All (Turn e) xs → All (Fine now os e) xs
   unfolding All
-  late-fine e l [] a = unfold late in tt
-  late-fine e l (x ∷ xs) a = by (is-late (x .outcome)) refl (late-fine e l xs (a .1))
+  all-fine e l [] a = tt
+  all-fine e l (x ∷ xs) a = (record { item = a .0 .item; own = a .0 .own; only = λ z q. by z (a .0 .only z q) }, all-fine e l xs (a .1))
     where
-      by : (b : Bool) → is-late (x .outcome) ≡ b → All (Fine now os e) (late xs) → All (Fine now os e) (late (x ∷ xs))
-      by true q k = subst (All (Fine now os e)) (sym (late-cons x xs true q)) (one-fine e x (q ∙ sym l) (a .0), k)
-      by false q k = subst (All (Fine now os e)) (sym (late-cons x xs false q)) k
+      by : (z : Error) → (z ≡ e) ⊎ ((is-late (raised z) ≡ true) × (is-late (raised e) ≡ false)) → z ≡ e
+      by z (inl w) = w
+      by z (inr w) = absurd (true≢false (sym l ∙ w .1))
 
-  early-fine : (e : Error) → is-late (raised e) ≡ false → (xs : Arrivals) → All (Turn e) xs → All (Fine now os e) (early xs)
+  early-fine : (e : Error) (xs : Arrivals) → All (Turn e) xs → All (Fine now os e) (early xs)
   unfolding All
-  early-fine e l [] a = unfold early in tt
-  early-fine e l (x ∷ xs) a = by (is-late (x .outcome)) refl (early-fine e l xs (a .1))
+  early-fine e [] a = unfold early in tt
+  early-fine e (x ∷ xs) a = by (is-late (x .outcome)) refl (early-fine e xs (a .1))
     where
-      by : (b : Bool) → is-late (x .outcome) ≡ b → All (Fine now os e) (early xs) → All (Fine now os e) (early (x ∷ xs))
+      here : is-late (x .outcome) ≡ false → Fine now os e x
+      here l = record { item = a .0 .item; own = a .0 .own; only = λ z q. one z q (a .0 .only z q) }
+        where
+          one : (z : Error) → x .outcome ≡ raised z → (z ≡ e) ⊎ ((is-late (raised z) ≡ true) × (is-late (raised e) ≡ false)) → z ≡ e
+          one z q (inl w) = w
+          one z q (inr w) = absurd (true≢false (sym (w .0) ∙ (sym (ap is-late q) ∙ l)))
+
+      by : (l : Bool) → is-late (x .outcome) ≡ l → All (Fine now os e) (early xs) → All (Fine now os e) (early (x ∷ xs))
       by true q k = subst (All (Fine now os e)) (sym (early-cons x xs true q)) k
-      by false q k = subst (All (Fine now os e)) (sym (early-cons x xs false q)) (one-fine e x (q ∙ sym l) (a .0), k)
+      by false q k = subst (All (Fine now os e)) (sym (early-cons x xs false q)) (here q, k)
 
-  -- in one of the two orders e is raised first
-  pub first-in-turn : (e : Error) (xs : Arrivals) → All (Turn e) xs → Raises e xs → (ys : Arrivals) × InTurn xs ys × ((seen : List ℕ) → Quiet now os seen → first-raised os seen ys ≡ some e)
-  first-in-turn e xs a r = by (is-late (raised e)) refl
+  pub first-in-turn : (e : Error) (xs : Arrivals) (seen : List ℕ) → Quiet now os seen → All (Turn e) xs → Raises e xs → first-raised os seen (in-turn xs) ≡ some e
+  unfolding in-turn
+  first-in-turn e xs seen k a r = by (is-late (raised e)) refl
     where
-      by : (l : Bool) → is-late (raised e) ≡ l → (ys : Arrivals) × InTurn xs ys × ((seen : List ℕ) → Quiet now os seen → first-raised os seen ys ≡ some e)
-      by true q = (late xs ++ early xs, late-before, λ sn k. first-stays os e (late xs) (early xs) sn (first-is now os e (late xs) sn k (late-fine e q xs a) (raises-late e xs q r)))
-      by false q = (early xs ++ late xs, late-behind, λ sn k. first-stays os e (early xs) (late xs) sn (first-is now os e (early xs) sn k (early-fine e q xs a) (raises-early e xs q r)))
+      by : (l : Bool) → is-late (raised e) ≡ l → first-raised os seen (early xs ++ late xs) ≡ some e
+      by true q =
+          first-is now os e (early xs ++ late xs) seen k
+          (all-++ (Fine now os e) (early xs) (late xs) (all-early (Fine now os e) xs (all-fine e q xs a)) (all-late (Fine now os e) xs (all-fine e q xs a)))
+          (raises-right e (early xs) (late xs) (raises-late e xs q r))
+      by false q = first-stays os e (early xs) (late xs) seen (first-is now os e (early xs) seen k (early-fine e xs a) (raises-early e xs q r))
 
 -- ---- the arrivals of items
 

@@ -37,7 +37,7 @@ use Rattle.machine.specs.Commit.{Poll, ready, raised, pending, await-pending, a
 use Rattle.machine.specs.Events.{How, start, value, raises, inline, Control, runs, Switched, Awaited, Result, activate, resume-next, stays, go-on, await-coroutine, await-external-future, await-gather, await-object, exec-get-awaitable}
 use Rattle.machine.specs.Machine.{Event, Answer, Step, answer-await, task-completes, task-fails, runner, end-main, switched, refusals, refusal, full, no-number, unmade, any-of, accept, in-running, in-waiting, in-both}
 use Rattle.machine.specs.Sound.{is-ended, value-known, option-known, object-in-range, places-below}
-use Rattle.machine.specs.History.{says, tells, is-none, done-only, spawned-by}
+use Rattle.machine.specs.History.{nothing-said, says, tells, is-none, done-only, spawned-by}
 use Rattle.machine.specs.Honest.{exits-in}
 use Rattle.machine.specs.Sessions.{InRange}
 use Rattle.machine_laws.specs.Views.{Sized}
@@ -256,9 +256,13 @@ module _ (o : ℕ) (s : Store) (w : SoundStore s) (t : ℕ) (m : header s .momen
         row-of : (v : ℕ) → header s .next ≤ v → object b (task b v .coroutine .0) ≡ object x (task x v .coroutine .0)
         row-of v l = ap (λ (y : Task). object b (y .coroutine .0)) (other v (λ d. not-suc-le-zero {n = 0} (omega (arith, l, d, t-low)))) ∙ rows (task x v .coroutine .0)
 
+    await-reuse : Brings ev Error.CoroutineReuse
+    unfolding says nothing-said
+    await-reuse = reuse refl
+
     left : LeftAs (Failing s b Young (Brings ev) (RunnerEnds ev s) (RunnerFails ev s) ⊥) (resume-next activate b)
     left =
-        resume-left s b Young (Brings ev) (RunnerEnds ev s) (RunnerFails ev s) Nothing (h .kept .but) up older apart reuse D hd (same-next ∙ ap (λ (i : Header). i .next) (sym head)) b h begins
+        resume-left s b Young (Brings ev) (RunnerEnds ev s) (RunnerFails ev s) Nothing (h .kept .but) up older apart await-reuse D hd (same-next ∙ ap (λ (i : Header). i .next) (sym head)) b h begins
 
     blocks-fails : (n : ℕ) → EventFails ev s (answer-await (record { store = resume-next activate b .store; control = resume-next activate b .control; steps = n }))
     unfolding answer-await tells

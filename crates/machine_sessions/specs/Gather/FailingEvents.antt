@@ -41,7 +41,7 @@ use Rattle.machine.specs.Delivery.{value-or, deliver-awaiter-success, resolve-p
 use Rattle.machine.specs.Events.{How, start, Control, runs, waits, Switched, Result, activate, resume-next, handle-task-failure, completed, handle-task-completion, apply-result, apply-future-results, put-items, make-coroutine, make-pending, make-settled, make-gather}
 use Rattle.machine.specs.Machine.{Event, Answer, Step, switched, end-main, task-completes, task-fails, repeat-wait, resume-with-resolved-futures}
 use Rattle.machine.specs.Sound.{value-known, runs-now}
-use Rattle.machine.specs.History.{tells, done-only, spawned-by, reply-error}
+use Rattle.machine.specs.History.{says, nothing-said, tells, done-only, spawned-by, reply-error}
 use Rattle.machine.specs.Honest.{exits-in}
 use Rattle.machine_laws.specs.Views.{Sized}
 use Rattle.machine_laws.specs.Facts.{SoundBut, Nothing}
@@ -81,23 +81,27 @@ unstarted-live (TaskState.Woken v) e = refl
 unstarted-live (TaskState.Raised v) e = refl
 unstarted-live (TaskState.Blocked o) e = refl
 
+-- before anything is done, whatever errors the event brings
+pub begins-with : (s : Store) (B : Error → Type 0) (X : ℕ → Type 0) (R : ℕ → Error → Type 0) → Sized s → Failing s s (λ g. ⊥) B X R Unit s
+begins-with s B X R z =
+    record {
+      sized = z;
+      next = refl;
+      moves = λ o. climb-same (object s o);
+      tasks = λ t l b. record { live = b; awaiter = refl; coroutine = refl; unstarted = λ d. d };
+      because = λ g f n x w p q. failed-awaited (object s g) f n x w q p;
+      exits = λ t b. before b;
+      fresh = λ i t a b. absurd (not-suc-le-zero {n = 0} (omega arith));
+      spawned = λ t b. refl;
+    }
+
 module _ (e : Event) (s : Store) where
   abbrev K : Type 0 → Store → Type 0
   K Fr u = Failing s s (λ g. ⊥) (Brings e) (RunnerEnds e s) (RunnerFails e s) Fr u
 
   -- before anything is done
   pub begins : Sized s → K Unit s
-  begins z =
-      record {
-        sized = z;
-        next = refl;
-        moves = λ o. climb-same (object s o);
-        tasks = λ t l b. record { live = b; awaiter = refl; coroutine = refl; unstarted = λ d. d };
-        because = λ g f n x w p q. failed-awaited (object s g) f n x w q p;
-        exits = λ t b. before b;
-        fresh = λ i t a b. absurd (not-suc-le-zero {n = 0} (omega arith));
-        spawned = λ t b. refl;
-      }
+  begins z = begins-with s (Brings e) (RunnerEnds e s) (RunnerFails e s) z
 
   -- no task is spawned
   anew : (Fr Gr : Type 0) (u : Store) → K Fr u → K Gr u
@@ -275,6 +279,20 @@ results-fails rs s w a =
     quiet-ends (Event.results rs) s (Unit {0}) (record { store = apply-future-results s rs; answer = Answer.done }) refl
     (all (Event.results rs) s w rs rs s refl (λ x z. z) a (during-of s w) (begins (Event.results rs) s (w .memory .sized)))
 
+-- ---- events that may start tasks bring coroutine-reuse
+
+fail-reuse : (n : ℕ) → Brings (Event.fail n) Error.CoroutineReuse
+unfolding says nothing-said
+fail-reuse n = reuse refl
+
+complete-reuse : (v : Value) → Brings (Event.complete v) Error.CoroutineReuse
+unfolding says nothing-said
+complete-reuse v = reuse refl
+
+resume-reuse : Brings Event.resume Error.CoroutineReuse
+unfolding says nothing-said
+resume-reuse = reuse refl
+
 -- ---- the end of the running task
 
 module _ (ev : Event) (s : Store) (w : SoundStore s) where
@@ -288,16 +306,16 @@ module _ (ev : Event) (s : Store) (w : SoundStore s) where
   never-slot : (t p x : ℕ) → t < header s .next → t < header s .next → is-live (task s t .state) ≡ true → task s t .awaiter ≡ Awaiter.GatherSlot (heap-id p) (heap-id x) → ⊥ → ⊥
   never-slot t p x a b c d y = y
 
-  runner-up : (t : ℕ) → header s .moment ≡ Moment.Running (task-id t) → Up s s (λ g. ⊥) (Brings ev) (RunnerEnds ev s) (task s t .coroutine .0) (task s t .awaiter)
+  pub runner-up : (t : ℕ) → header s .moment ≡ Moment.Running (task-id t) → Up s s (λ g. ⊥) (Brings ev) (RunnerEnds ev s) (task s t .coroutine .0) (task s t .awaiter)
   runner-up t m =
-      task-up s s (λ g. ⊥) (Brings ev) (RunnerEnds ev s) (RunnerFails ev s) Nothing (w .facts .but) never rows-same never-slot reuse t (task s t .awaiter) (runner-low s t w m) (runner-low s t w m) (ap is-live (runner-runs s t w m)) refl
+      task-up s s (λ g. ⊥) (λ y. Unit {0}) (RunnerEnds ev s) (RunnerFails ev s) Nothing (w .facts .but) never rows-same never-slot tt t (task s t .awaiter) (runner-low s t w m) (runner-low s t w m) (ap is-live (runner-runs s t w m)) refl
 
 pub failure-fails : (s : Store) → SoundStore s → (t n : ℕ) → header s .moment ≡ Moment.Running (task-id (suc t)) → ErrorFits (Error.Script n) → EventFails (Event.fail n) s (switched (handle-task-failure activate s (suc t) (Error.Script n)))
 failure-fails s w t n m f =
     switch-ends (Event.fail n) s (handle-task-failure activate s (suc t) (Error.Script n))
-    (failed-left s s (λ g. ⊥) (Brings (Event.fail n)) (RunnerEnds (Event.fail n) s) R Nothing (w .facts .but) (never (Event.fail n) s w) (rows-same (Event.fail n) s w) (never-slot (Event.fail n) s w) reuse
+    (failed-left s s (λ g. ⊥) (Brings (Event.fail n)) (RunnerEnds (Event.fail n) s) R Nothing (w .facts .but) (never (Event.fail n) s w) (rows-same (Event.fail n) s w) (never-slot (Event.fail n) s w) (fail-reuse n)
     (λ o. T (is-completed (kind (object s o)))) (header s) refl activate
-    (activate-left s s (λ g. ⊥) (Brings (Event.fail n)) (RunnerEnds (Event.fail n) s) R Nothing (w .facts .but) (never (Event.fail n) s w) (rows-same (Event.fail n) s w) (never-slot (Event.fail n) s w) reuse
+    (activate-left s s (λ g. ⊥) (Brings (Event.fail n)) (RunnerEnds (Event.fail n) s) R Nothing (w .facts .but) (never (Event.fail n) s w) (rows-same (Event.fail n) s w) (never-slot (Event.fail n) s w) (fail-reuse n)
     (λ o. T (is-completed (kind (object s o)))) (header s) refl)
     R s t (Error.Script n) (runs-now (header s .moment)) f (script n refl) (runner-low s (suc t) w m) (runner-live s (suc t) w m) (ap is-blocked (runner-runs s (suc t) w m)) (others-commits-none s (suc t) w m) (during-of s w)
     (runner-up (Event.fail n) s w (suc t) m) (record { runner = t; number = n; fails = refl; runs-it = m; coroutine = refl; error = refl }) (as-runner (fails n t refl refl m)) (λ o d r. by-task r)
@@ -319,8 +337,8 @@ pub completion-fails : (s : Store) → SoundStore s → (t : ℕ) (v : Value) �
 unfolding handle-task-completion view
 completion-fails s w t v m kn =
     switch-ends ev s _
-    (exit-left s s (λ g. ⊥) (Brings ev) (RunnerEnds ev s) R Nothing (w .facts .but) (never ev s w) (rows-same ev s w) (never-slot ev s w) reuse D (header s) refl activate
-    (activate-left s s (λ g. ⊥) (Brings ev) (RunnerEnds ev s) R Nothing (w .facts .but) (never ev s w) (rows-same ev s w) (never-slot ev s w) reuse D (header s) refl)
+    (exit-left s s (λ g. ⊥) (Brings ev) (RunnerEnds ev s) R Nothing (w .facts .but) (never ev s w) (rows-same ev s w) (never-slot ev s w) (complete-reuse v) D (header s) refl activate
+    (activate-left s s (λ g. ⊥) (Brings ev) (RunnerEnds ev s) R Nothing (w .facts .but) (never ev s w) (rows-same ev s w) (never-slot ev s w) (complete-reuse v) D (header s) refl)
     (deliver-awaiter-success left a v) (completion-delivery-ends s t v w m kn) (success-activated left a v (k2 .sized) (task-fits s (suc t) .awaiter-fits) fv)
     (success-failing s s (λ g. ⊥) (Brings ev) (RunnerEnds ev s) Nothing (w .facts .but) (never ev s w) R (Unit {0}) left a v (task-fits s (suc t) .awaiter-fits) fv k2))
   where
@@ -369,7 +387,7 @@ unfolding resume-with-resolved-futures
 resume-fails s w m =
     pick-has (EventFails Event.resume s) (eqb (s .queue .len) 0) (repeats (pending-call-ids s))
     (switch-ends Event.resume s (resume-next activate s)
-    (resume-left s s (λ g. ⊥) (Brings Event.resume) (RunnerEnds Event.resume s) (RunnerFails Event.resume s) Nothing (w .facts .but) (never Event.resume s w) (rows-same Event.resume s w) (never-slot Event.resume s w) reuse
+    (resume-left s s (λ g. ⊥) (Brings Event.resume) (RunnerEnds Event.resume s) (RunnerFails Event.resume s) Nothing (w .facts .but) (never Event.resume s w) (rows-same Event.resume s w) (never-slot Event.resume s w) resume-reuse
     (λ o. T (is-completed (kind (object s o)))) (header s) refl s (only-changes-of s w m) (begins Event.resume s (w .memory .sized))))
   where
     not-runs : {A : Type 0} (t : ℕ) (h : How) (cs : List ℕ) → some (waits cs) ≡ some (runs t h) → A

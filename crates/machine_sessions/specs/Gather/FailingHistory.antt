@@ -46,6 +46,7 @@ use Rattle.machine_sessions.specs.Places.Told.{Frozen, co, pends, gave, 
 use Rattle.machine_sessions.specs.Places.Agrees.{Agrees, no-value}
 use Rattle.machine_sessions.specs.Places.PlacesHold.{row-outcome}
 use Rattle.machine_sessions.specs.Waits.{said-accepted, said-refused}
+use Rattle.machine_sessions.specs.Stall.Outcomes.{is-there}
 use Rattle.machine_sessions.specs.Gather.Failing.{RowMoves, CoroutineMoves}
 use Rattle.machine_sessions.specs.Gather.FailingRows.{FirstRun, Raised, by-external, by-gather, by-task, by-first-run, ExitAs, before, as-runner, at-first}
 use Rattle.machine_sessions.specs.Gather.FailingStated.{RunnerFails, RunnerEnds, completes, fails, TaskFrom, lived, is-new, EventFails}
@@ -151,11 +152,6 @@ started-keeps (some (runs u (raises v))) t r d p e = absurd-some (sym e ∙ p)
 started-keeps (some (runs u (inline v))) t r d p e = absurd-some (sym e ∙ p)
 started-keeps (some (waits cs)) t r d p e = absurd-some (sym e ∙ p)
 
-is-at-some : (x : Option ℕ) (c : ℕ) → is-at x c ≡ true → x ≡ some c
-unfolding is-at
-is-at-some none c e = absurd (true≢false (sym e))
-is-at-some (some b) c e = ap (λ (j : ℕ). some j) (eqb-true b c e)
-
 pub some-is-at : (x : Option ℕ) (c : ℕ) → x ≡ some c → is-at x c ≡ true
 unfolding is-at
 some-is-at x c e = ap (λ (y : Option ℕ). is-at y c) e ∙ eq-eqb c c refl
@@ -194,7 +190,7 @@ exits-found f g (exited u ∷ hs) c e = by (is-at (f u) c && is-none (g u)) refl
     by : (b : Bool) → (is-at (f u) c && is-none (g u)) ≡ b → (b || exits-unstarted f g hs c) ≡ true → (exits-unstarted f g hs c ≡ true → ExitsOf f g hs c) → ExitsOf f g (exited u ∷ hs) c
     by true q e ih =
         let y = both-true (is-at (f u) c) (is-none (g u)) q in
-        record { who = u; exits = unfold exits-in in (ap (λ (b : Bool). b || exits-in hs u) (eq-eqb u u refl)); for-it = is-at-some (f u) c (y .0); none-started = none-is (g u) (y .1) }
+        record { who = u; exits = unfold exits-in in (ap (λ (b : Bool). b || exits-in hs u) (eq-eqb u u refl)); for-it = is-there (f u) c (y .0); none-started = none-is (g u) (y .1) }
     by false q e ih = exits-later (exited u) (λ t i. more (eqb u t) (exits-in hs t) i) (ih e)
       where
         more : (a b : Bool) → b ≡ true → (a || b) ≡ true
@@ -229,7 +225,7 @@ failed-cases x h c e q = by (exits-unstarted (spawned-for (x ∷ h)) (coroutine-
   where
     at : (b : Bool) → is-at (running-coroutine h) c ≡ b → elim b [ true ↦ elim (said x .fails) [ none ↦ failed-error h c | some n ↦ some (Error.Script n) ] | false ↦ failed-error h c ] ≡ some e
         → (exits-unstarted (spawned-for (x ∷ h)) (coroutine-of (x ∷ h)) (x .happened) c ≡ true) ⊎ ((running-coroutine h ≡ some c) ⊎ (failed-error h c ≡ some e))
-    at true d r = inr (inl (is-at-some (running-coroutine h) c d))
+    at true d r = inr (inl (is-there (running-coroutine h) c d))
     at false d r = inr (inr r)
 
     by : (b : Bool) → exits-unstarted (spawned-for (x ∷ h)) (coroutine-of (x ∷ h)) (x .happened) c ≡ b
@@ -269,7 +265,7 @@ value-none x h c p n = by (is-at (running-coroutine h) c) refl
     at (some v) d r = absurd (n v d r)
 
     by : (b : Bool) → is-at (running-coroutine h) c ≡ b → _≡_ {A = Option Value} (elim b [ true ↦ elim (said x .completes) [ none ↦ completed-value h c | some v ↦ some v ] | false ↦ completed-value h c ]) none
-    by true d = at (said x .completes) refl (is-at-some (running-coroutine h) c d)
+    by true d = at (said x .completes) refl (is-there (running-coroutine h) c d)
     by false d = p
 
 completes-is : (e : Event) (v : Value) → says e .completes ≡ some v → e ≡ Event.complete v

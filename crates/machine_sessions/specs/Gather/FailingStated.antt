@@ -36,9 +36,9 @@ unfoldable pub ResultIn : Result → List Result → Type 0
 ResultIn r [] = ⊥
 ResultIn r (x ∷ xs) = (r ≡ x) ⊎ ResultIn r xs
 
--- coroutine-reuse, at a first run; that of a failure; those of the results that are of kind 1, 3 or 4
+-- coroutine-reuse, at a first run, which no results bring; that of a failure; those of the results that are of kind 1, 3 or 4
 pub data Brings (e : Event) : Error → Type 0 where
-  reuse : Brings e Error.CoroutineReuse
+  reuse : says e .results ≡ [] → Brings e Error.CoroutineReuse
   script : (n : ℕ) → e ≡ Event.fail n → Brings e (Error.Script n)
   answer : (rs : List Result) (r : Result) → e ≡ Event.results rs → ResultIn r rs → eqb (r .kind) 0 ≡ false → eqb (r .kind) 2 ≡ false → Brings e (reply-error r)
 

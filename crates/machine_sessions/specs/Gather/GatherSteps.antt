@@ -2,7 +2,7 @@
 -- arrivals so far, event by event.
 use Prim.Native.Nat.{ℕ, zero, suc, _<_, _≤_}
 use mathlib.Core.Path.{_≡_, refl, sym, ap, ap₂, subst, _∙_}
-use mathlib.Core.Bool.{Bool, true, false, not, _&&_, true≢false}
+use mathlib.Core.Bool.{Bool, true, false, _&&_, true≢false}
 use mathlib.Core.List.{List, [], _∷_, _++_, map}
 use mathlib.Core.Option.{Option, none, some}
 use mathlib.Core.Logic.{_⊎_, inl, inr}
@@ -16,7 +16,7 @@ use Rattle.machine.specs.Gather.{Outcome, returned, raised, Arrival, Gathered, 
 use Rattle.machine.specs.History.{value-of, error-of, items}
 use Rattle.machine.specs.Sessions.{Sent, Session, begun, send, send-all, session, InRange, AllSentInRange}
 use Rattle.machine.specs.DemandThree.{look, none-open}
-use Rattle.machine.specs.DemandTwo.{came, committed, values, seen, arrivals-of, is-late, early, late, InTurn, late-behind, ArriveBy, ArriveIn, Arrive, no-more, and-then, Single, ReuseAt, Reused, GatherRight}
+use Rattle.machine.specs.DemandTwo.{came, committed, values, seen, arrivals-of, is-late, in-turn, arrivals-by, arrivals-in, arrivals-from, Single, ReuseAt, Reused, GatherRight}
 use Rattle.machine_sessions.specs.Gather.Arrivals.{in-cons, Came, Arrivals, AllReturned, none-raised, all-returned-++, or-then, outcome-++, new-of, outcome-new, new-returned, in-turn-all, All, all-++, Raises, Quiet, first-behind, first-stays, Turn, first-in-turn, all-own, raises-own, first-from-left, listed-all, waiting-one}
 
 -- ---- what one event does to gather g
@@ -29,13 +29,13 @@ Delivered y g vs = vs ≡ map (λ o. value-of (came y o)) (items (y .history) g)
 abbrev pub NoneRaised : Session → ℕ → Type 0
 NoneRaised y g = (o : ℕ) → is-in o (items (y .history) g) ≡ true → error-of (came y o) ≡ none
 
--- why it fails: an item has come to its error; what other items have come to in the event is that error too, or one of the two is late and the other is not
+-- why it fails: an item has come to its error; what other items have come to in the event is that error too, or is late where it is not
 pub record FailsLater (x y : Session) (g : ℕ) (e : Error) : Type 0 where
   pub item : ℕ
   pub named : is-in item (items (y .history) g) ≡ true
   pub fresh : came x item ≡ none
   pub raises : came y item ≡ some (raised e)
-  pub others : (o : ℕ) (z : Error) → is-in o (items (y .history) g) ≡ true → came x o ≡ none → came y o ≡ some (raised z) → (z ≡ e) ⊎ (is-late (raised z) ≡ not (is-late (raised e)))
+  pub others : (o : ℕ) (z : Error) → is-in o (items (y .history) g) ≡ true → came x o ≡ none → came y o ≡ some (raised z) → (z ≡ e) ⊎ ((is-late (raised z) ≡ true) × (is-late (raised e) ≡ false))
 
 -- at its commit: the first item from the left that has raised
 pub record FailsAtCommit (y : Session) (g : ℕ) (e : Error) : Type 0 where
@@ -159,28 +159,25 @@ module _ (ps : List Sent) (s : Sent) (g : ℕ) where
   abbrev os : List ℕ
   os = items (y .history) g
 
-  -- with what arrives in the event
-  pub record Next (xs : Arrivals) : Type 0 where
-    pub news : Arrivals
-    pub arrive : ArriveIn x y g news
-    pub so-far : SoFar (ps ++ (s ∷ [])) y g (xs ++ news)
+  abbrev Next : Arrivals → Type 0
+  Next xs = SoFar (ps ++ (s ∷ [])) y g (xs ++ arrivals-in x y g)
 
   module _ (k : GatherStep x y g) where
-    -- what arrives in the event, by whether the gather is committed before and after it
-    arrive-by : (a b : Bool) (zs : Arrivals) → committed (look (x .store) g) ≡ a → committed (look (y .store) g) ≡ b → ArriveBy a b x y os zs → ArriveIn x y g zs
-    arrive-by a b zs p q k = subst (λ (c : Bool). ArriveBy c (committed (look (y .store) g)) x y os zs) (sym p) (subst (λ (c : Bool). ArriveBy a c x y os zs) (sym q) k)
+    -- the arrivals of one event, by whether the gather is committed before and after it
+    at-step : (a b : Bool) → committed (look (x .store) g) ≡ a → committed (look (y .store) g) ≡ b → arrivals-in x y g ≡ arrivals-by a b x y os
+    at-step a b p q = unfold arrivals-in in (ap₂ (λ (c d : Bool). arrivals-by c d x y os) p q)
 
-    in-commit : committed (look (x .store) g) ≡ false → committed (look (y .store) g) ≡ true → ArriveIn x y g (arrivals-of (λ o. none) (came y) os)
-    unfolding ArriveBy
-    in-commit c d = arrive-by false true _ c d refl
+    in-commit : committed (look (x .store) g) ≡ false → committed (look (y .store) g) ≡ true → arrivals-in x y g ≡ arrivals-of (λ o. none) (came y) os
+    unfolding arrivals-by
+    in-commit c d = at-step false true c d
 
-    behind-commit : (zs : Arrivals) → committed (look (x .store) g) ≡ true → committed (look (y .store) g) ≡ true → InTurn (arrivals-of (came x) (came y) os) zs → ArriveIn x y g zs
-    unfolding ArriveBy
-    behind-commit zs c d k = arrive-by true true zs c d k
+    behind-commit : committed (look (x .store) g) ≡ true → committed (look (y .store) g) ≡ true → arrivals-in x y g ≡ in-turn (arrivals-of (came x) (came y) os)
+    unfolding arrivals-by
+    behind-commit c d = at-step true true c d
 
-    before-commit : committed (look (x .store) g) ≡ false → committed (look (y .store) g) ≡ false → ArriveIn x y g []
-    unfolding ArriveBy
-    before-commit c d = arrive-by false false [] c d refl
+    before-commit : committed (look (x .store) g) ≡ false → committed (look (y .store) g) ≡ false → arrivals-in x y g ≡ []
+    unfolding arrivals-by
+    before-commit c d = at-step false false c d
 
     own-later : (xs : Arrivals) → All (λ a. came x (a .awaitable) ≡ some (a .outcome)) xs → All (λ a. came y (a .awaitable) ≡ some (a .outcome)) xs
     unfolding All
@@ -203,7 +200,8 @@ module _ (ps : List Sent) (s : Sent) (g : ℕ) where
 
     committed-now : committed (look (x .store) g) ≡ false → (xs : Arrivals) → xs ≡ [] → committed (look (y .store) g) ≡ true → Next xs
     committed-now c xs e d =
-        record { news = arrivals-of (λ o. none) (came y) os; arrive = in-commit c d; so-far = subst (λ (zs : Arrivals). SoFar (ps ++ (s ∷ [])) y g (zs ++ arrivals-of (λ o. none) (came y) os)) (sym e) (by (which (look (y .store) g) d)) }
+        subst (λ (zs : Arrivals). SoFar (ps ++ (s ∷ [])) y g (zs ++ arrivals-in x y g)) (sym e)
+        (subst (SoFar (ps ++ (s ∷ [])) y g) (sym (in-commit c d)) (by (which (look (y .store) g) d)))
       where
         by : Which (look (y .store) g) → SoFar (ps ++ (s ∷ [])) y g (arrivals-of (λ o. none) (came y) os)
         by (w-awaited vs q) = let w = k .awaited vs q in is-awaited vs q (w .0) (w .1) (new-items (w .2))
@@ -236,46 +234,40 @@ module _ (ps : List Sent) (s : Sent) (g : ℕ) where
           by none q = unfold or-then new-of in refl
           by (some z) q = unfold or-then in (sym (k .stays o z q))
 
-      quiet-now : NoneRaised y g → Quietly y g (xs ++ new)
+      quiet-now : NoneRaised y g → Quietly y g (xs ++ in-turn new)
       quiet-now n =
-          record {
-            all-returned = all-returned-++ xs new (was .all-returned) (new-returned (came x) (came y) os n);
+          let r : AllReturned new = new-returned (came x) (came y) os n in
+          subst (λ (zs : Arrivals). Quietly y g (xs ++ zs)) (sym (in-turn-all new r))
+          (record {
+            all-returned = all-returned-++ xs new (was .all-returned) r;
             own = all-++ _ xs new (own-later xs (was .own)) (own-new (came x));
             known = known-now;
             none-raised = n;
-          }
+          })
 
       nobody : Quiet (came y) os []
       nobody = unfold Quiet is-in in (λ o i. absurd (true≢false (sym i)))
 
+      fails-now : (e : Error) → FailsLater x y g e → first-raised os [] (xs ++ in-turn new) ≡ some e
+      fails-now e f =
+          first-behind (came y) os e xs (in-turn new) [] (was .all-returned) nobody (own-later xs (was .own))
+          (λ sn q. first-in-turn (came y) os e new sn q
+          (all-own (came x) (came y) (Turn (came y) os e) os (λ o z i a b. record { item = i; own = b; only = λ w d. f .others o w i a (b ∙ ap (λ (u : Outcome Value Error). some u) d) }))
+          (raises-own (came x) (came y) e (f .item) os (f .named) (f .fresh) (f .raises)))
+
       go-on : ((e : Error) → look (x .store) g ≡ Shown.a-gather-failed e → ⊥) → Next xs
-      go-on not-failed = by (which (look (y .store) g) d)
+      go-on not-failed =
+          let d : committed (look (y .store) g) ≡ true = k .stays-committed c in
+          subst (λ (zs : Arrivals). SoFar (ps ++ (s ∷ [])) y g (xs ++ zs)) (sym (behind-commit c d)) (by (which (look (y .store) g) d))
         where
-          d : committed (look (y .store) g) ≡ true
-          d = k .stays-committed c
-
-          quiet : (NoneRaised y g) → (Quietly y g (xs ++ new) → SoFar (ps ++ (s ∷ [])) y g (xs ++ new)) → Next xs
-          quiet n f = record { news = new; arrive = behind-commit new c d (in-turn-all new (new-returned (came x) (came y) os n)); so-far = f (quiet-now n) }
-
-          fails-now : (e : Error) → look (y .store) g ≡ Shown.a-gather-failed e → FailsLater x y g e → Next xs
-          fails-now e q f =
-              let z = first-in-turn (came y) os e new
-              (all-own (came x) (came y) (Turn (came y) os e) os (λ o z i a b. record { item = i; own = b; only = λ w d. f .others o w i a (b ∙ ap (λ (u : Outcome Value Error). some u) d) }))
-              (raises-own (came x) (came y) e (f .item) os (f .named) (f .fresh) (f .raises)) in
-              record {
-                news = z .0;
-                arrive = behind-commit (z .0) c d (z .1);
-                so-far = is-failed e q (inl (first-behind (came y) os e xs (z .0) [] (was .all-returned) nobody (own-later xs (was .own)) (z .2)));
-              }
-
-          by : Which (look (y .store) g) → Next xs
-          by (w-awaited vs q) = let w = k .awaited vs q in quiet (w .2) (λ z. is-awaited vs q (w .0) (w .1) z)
-          by (w-completed vs q) = let w = k .completed vs q in quiet (values-quiet (came y) os (subst (λ (us : List (Option Value)). none-open us ≡ true) (w .0) (w .1))) (λ z. is-completed vs q (w .0) (w .1) z)
-          by (w-failed e q) = why (k .fails-later e c q)
+          by : Which (look (y .store) g) → SoFar (ps ++ (s ∷ [])) y g (xs ++ in-turn new)
+          by (w-awaited vs q) = let w = k .awaited vs q in is-awaited vs q (w .0) (w .1) (quiet-now (w .2))
+          by (w-completed vs q) = let w = k .completed vs q in is-completed vs q (w .0) (w .1) (quiet-now (values-quiet (came y) os (subst (λ (us : List (Option Value)). none-open us ≡ true) (w .0) (w .1))))
+          by (w-failed e q) = is-failed e q (inl (why (k .fails-later e c q)))
             where
-              why : (look (x .store) g ≡ Shown.a-gather-failed e) ⊎ FailsLater x y g e → Next xs
+              why : (look (x .store) g ≡ Shown.a-gather-failed e) ⊎ FailsLater x y g e → first-raised os [] (xs ++ in-turn new) ≡ some e
               why (inl w) = absurd (not-failed e w)
-              why (inr w) = fails-now e q w
+              why (inr w) = fails-now e w
 
     pub next-so-far : (xs : Arrivals) → SoFar ps x g xs → Next xs
     unfolding not-failed
@@ -283,20 +275,16 @@ module _ (ps : List Sent) (s : Sent) (g : ℕ) where
       where
         by : (b : Bool) → committed (look (y .store) g) ≡ b → Next xs
         by true d = committed-now c xs e d
-        by false d = record { news = []; arrive = before-commit c d; so-far = uncommitted d (ap (λ (a : Arrivals). a ++ []) e) }
+        by false d = uncommitted d (ap₂ (λ (a b : Arrivals). a ++ b) e (before-commit c d))
     next-so-far xs (is-awaited vs q d o w) = go-on (ap committed q ∙ (unfold committed in refl)) xs w (λ e z. true≢false (ap not-failed (sym q ∙ z)))
     next-so-far xs (is-completed vs q d o w) = go-on (ap committed q ∙ (unfold committed in refl)) xs w (λ e z. true≢false (ap not-failed (sym q ∙ z)))
-    next-so-far xs (is-failed e q w) =
-        record { news = new; arrive = behind-commit new c (k .stays-committed c) late-behind; so-far = is-failed e (k .stays-failed e q) (by w) }
+    next-so-far xs (is-failed e q w) = is-failed e (k .stays-failed e q) (by w)
       where
         c : committed (look (x .store) g) ≡ true
         c = ap committed q ∙ (unfold committed in refl)
 
-        new : Arrivals
-        new = early (arrivals-of (came x) (came y) os) ++ late (arrivals-of (came x) (came y) os)
-
-        by : (first-raised (items (x .history) g) [] xs ≡ some e) ⊎ Reused ps g e → (first-raised os [] (xs ++ new) ≡ some e) ⊎ Reused (ps ++ (s ∷ [])) g e
-        by (inl z) = inl (first-stays os e xs new [] (subst (λ (zs : List ℕ). first-raised zs [] xs ≡ some e) (sym (k .items-stay c)) z))
+        by : (first-raised (items (x .history) g) [] xs ≡ some e) ⊎ Reused ps g e → (first-raised os [] (xs ++ arrivals-in x y g) ≡ some e) ⊎ Reused (ps ++ (s ∷ [])) g e
+        by (inl z) = inl (first-stays os e xs (arrivals-in x y g) [] (subst (λ (zs : List ℕ). first-raised zs [] xs ≡ some e) (sym (k .items-stay c)) z))
         by (inr z) = inr (reused-later ps s g e z)
 
 -- ---- all events
@@ -311,16 +299,9 @@ unfolding session send-all
 session-snoc ps s = send-all-++ begun ps (s ∷ [])
 
 module _ (g : ℕ) (steps : (ps : List Sent) (s : Sent) → AllSentInRange ps → InRange (s .event) → Single (s ∷ []) → GatherStep (session ps) (send (session ps) s) g) where
-  -- with what arrives in the events
-  pub record After (ps es : List Sent) (xs : Arrivals) : Type 0 where
-    pub news : Arrivals
-    pub arrive : Arrive g (session ps) es news
-    pub so-far : SoFar (ps ++ es) (send-all (session ps) es) g (xs ++ news)
-
-  pub run-so-far : (ps es : List Sent) (xs : Arrivals) → AllSentInRange ps → AllSentInRange es → Single es → SoFar ps (session ps) g xs → After ps es xs
-  unfolding AllSentInRange Single send-all
-  run-so-far ps [] xs a b w k =
-      record { news = []; arrive = no-more (session ps); so-far = subst (λ (zs : List Sent). SoFar zs (session ps) g (xs ++ [])) (sym (nil ps)) (subst (SoFar ps (session ps) g) (sym (nil-a xs)) k) }
+  pub run-so-far : (ps es : List Sent) (xs : Arrivals) → AllSentInRange ps → AllSentInRange es → Single es → SoFar ps (session ps) g xs → SoFar (ps ++ es) (send-all (session ps) es) g (xs ++ arrivals-from (session ps) es g)
+  unfolding AllSentInRange Single send-all arrivals-from
+  run-so-far ps [] xs a b w k = subst (λ (zs : List Sent). SoFar zs (session ps) g (xs ++ [])) (sym (nil ps)) (subst (SoFar ps (session ps) g) (sym (nil-a xs)) k)
     where
       nil : (zs : List Sent) → zs ++ [] ≡ zs
       nil [] = refl
@@ -331,19 +312,15 @@ module _ (g : ℕ) (steps : (ps : List Sent) (s : Sent) → AllSentInRange ps �
       nil-a (z ∷ zs) = ap (λ (ws : Arrivals). z ∷ ws) (nil-a zs)
   run-so-far ps (e ∷ es) xs a b w k =
       let y : Session = send (session ps) e in
-      let j : Next ps e g xs = next-so-far ps e g (steps ps e a (b .0) (w .0, tt)) xs k in
-      let r : After (ps ++ (e ∷ [])) es (xs ++ j .news) = run-so-far (ps ++ (e ∷ [])) es (xs ++ j .news) (in-range-snoc ps e a (b .0)) (b .1) (w .1)
-      (subst (λ (z : Session). SoFar (ps ++ (e ∷ [])) z g (xs ++ j .news)) (sym (session-snoc ps e)) (j .so-far)) in
-      record {
-        news = j .news ++ r .news;
-        arrive = and-then (session ps) e es (j .news) (r .news) (j .arrive) (subst (λ (z : Session). Arrive g z es (r .news)) (session-snoc ps e) (r .arrive));
-        so-far = subst (λ (zs : List Sent). SoFar zs (send-all y es) g (xs ++ (j .news ++ r .news))) (++-assoc ps (e ∷ []) es)
-            (subst (SoFar ((ps ++ (e ∷ [])) ++ es) (send-all y es) g) (arrivals-assoc xs (j .news) (r .news))
-            (subst (λ (z : Session). SoFar ((ps ++ (e ∷ [])) ++ es) (send-all z es) g ((xs ++ j .news) ++ r .news)) (session-snoc ps e) (r .so-far)));
-      }
+      let j : SoFar (ps ++ (e ∷ [])) y g (xs ++ arrivals-in (session ps) y g) = next-so-far ps e g (steps ps e a (b .0) (w .0, tt)) xs k in
+      let r = run-so-far (ps ++ (e ∷ [])) es (xs ++ arrivals-in (session ps) y g) (in-range-snoc ps e a (b .0)) (b .1) (w .1)
+      (subst (λ (z : Session). SoFar (ps ++ (e ∷ [])) z g (xs ++ arrivals-in (session ps) y g)) (sym (session-snoc ps e)) j) in
+      subst (λ (zs : List Sent). SoFar zs (send-all y es) g (xs ++ (arrivals-in (session ps) y g ++ arrivals-from y es g))) (++-assoc ps (e ∷ []) es)
+      (subst (SoFar ((ps ++ (e ∷ [])) ++ es) (send-all y es) g) (arrivals-assoc xs (arrivals-in (session ps) y g) (arrivals-from y es g))
+      (subst (λ (z : Session). SoFar ((ps ++ (e ∷ [])) ++ es) (send-all z es) g ((xs ++ arrivals-in (session ps) y g) ++ arrivals-from z es g)) (session-snoc ps e) r))
 
-  abbrev Gathers : List Sent → Arrivals → Gathered Value Error → Type 0
-  Gathers es xs z = z ≡ gather (items (session es .history) g) xs
+  abbrev Gathers : List Sent → Gathered Value Error → Type 0
+  Gathers es z = z ≡ gather (items (session es .history) g) (arrivals-from begun es g)
 
   seen-awaited : (vs : List (Option Value)) → seen (Shown.a-gather-awaited vs) ≡ waiting
   seen-awaited vs = unfold seen in refl
@@ -359,18 +336,18 @@ module _ (g : ℕ) (steps : (ps : List Sent) (s : Sent) → AllSentInRange ps �
   gathered ls xs z q = unfold gather in (ap (λ (w : Option Error). elim w [ none ↦ in-order xs ls | some e ↦ propagated e ]) q)
 
   -- What show gives of the gather after the events.
-  right-by : (es : List Sent) (xs : Arrivals) → Arrive g begun es xs → SoFar es (session es) g xs → committed (look (session es .store) g) ≡ true → GatherRight es g
-  right-by es xs ar (uncommitted c e) d = absurd (true≢false (sym d ∙ c))
-  right-by es xs ar (is-awaited vs q d o w) c =
-      let r : Gathers es xs waiting = sym (gathered _ _ none (none-raised _ _ (w .all-returned) []) ∙ waiting-one _ (came (session es)) _ (w .known) (w .none-raised) (subst (λ (us : List (Option Value)). none-open us ≡ false) d o)) in
-      inl (xs, ar, ap seen q ∙ (seen-awaited vs ∙ r))
-  right-by es xs ar (is-completed vs q d o w) c =
-      let r : Gathers es xs (listed (values (map (λ n. value-of (came (session es) n)) (items (session es .history) g)))) =
+  right-by : (es : List Sent) → SoFar es (session es) g (arrivals-from begun es g) → committed (look (session es .store) g) ≡ true → GatherRight es g
+  right-by es (uncommitted c e) d = absurd (true≢false (sym d ∙ c))
+  right-by es (is-awaited vs q d o w) c =
+      let r : Gathers es waiting = sym (gathered _ _ none (none-raised _ _ (w .all-returned) []) ∙ waiting-one _ (came (session es)) _ (w .known) (w .none-raised) (subst (λ (us : List (Option Value)). none-open us ≡ false) d o)) in
+      inl (ap seen q ∙ (seen-awaited vs ∙ r))
+  right-by es (is-completed vs q d o w) c =
+      let r : Gathers es (listed (values (map (λ n. value-of (came (session es) n)) (items (session es .history) g)))) =
       sym (gathered _ _ none (none-raised _ _ (w .all-returned) []) ∙ listed-all _ (came (session es)) _ (w .known) (subst (λ (us : List (Option Value)). none-open us ≡ true) d o)) in
-      inl (xs, ar, ap seen q ∙ (seen-completed vs ∙ (ap (λ (us : List (Option Value)). listed (values us)) d ∙ r)))
-  right-by es xs ar (is-failed e q (inl w)) c = inl (xs, ar, ap seen q ∙ (seen-failed e ∙ sym (gathered _ _ (some e) w)))
-  right-by es xs ar (is-failed e q (inr w)) c = inr (e, q, w)
+      inl (ap seen q ∙ (seen-completed vs ∙ (ap (λ (us : List (Option Value)). listed (values us)) d ∙ r)))
+  right-by es (is-failed e q (inl w)) c = inl (ap seen q ∙ (seen-failed e ∙ sym (gathered _ _ (some e) w)))
+  right-by es (is-failed e q (inr w)) c = inr (e, q, w)
 
   pub gather-right : committed (look (begun .store) g) ≡ false → (es : List Sent) → AllSentInRange es → Single es → committed (look (session es .store) g) ≡ true → GatherRight es g
   unfolding session send-all AllSentInRange
-  gather-right u es a w c = let r : After [] es [] = run-so-far [] es [] tt a w (uncommitted u refl) in right-by es (r .news) (r .arrive) (r .so-far) c
+  gather-right u es a w c = right-by es (run-so-far [] es [] tt a w (uncommitted u refl)) c

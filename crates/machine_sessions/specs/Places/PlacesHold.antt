@@ -627,3 +627,14 @@ module _ (h : List Entry) (s : Store) (w : SoundStore s) (k : Agrees h s) where
       by : (x : Bool) → bit (v .open-places) a ≡ x → error-of (row-outcome C (place s (v .first + a) .item .0) (object s (place s (v .first + a) .item .0))) ≡ none
       by true c = ap error-of (f a b c) ∙ (unfold error-of in refl)
       by false c = let y = awaited-closed g v l e a b c in given-no-error _ (y .0) (y .2)
+
+  -- An item that has come to nothing stands in an open place.
+  pub nothing-open : (g : ℕ) (v : AwaitedGather) → g < header s .made → as-awaited (object s g) ≡ some v → (a : ℕ) → a < v .count → outcome h (look s) (place s (v .first + a) .item .0) ≡ none
+      → bit (v .open-places) a ≡ true
+  nothing-open g v l e a b q = by (bit (v .open-places) a) refl
+    where
+      by : (x : Bool) → bit (v .open-places) a ≡ x → x ≡ true
+      by true c = refl
+      by false c =
+          let low = item-low g (v .first) (v .count) (GatherState.Awaited (v .awaiter) (v .open-places)) l (awaited-object (object s g) v e) a b in
+          absurd-some (sym (nothing-gives _ (sym (outcome-row _ low) ∙ q)) ∙ awaited-closed g v l e a b c .2)

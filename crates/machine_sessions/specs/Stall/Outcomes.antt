@@ -18,7 +18,7 @@ use Rattle.machine_sessions.specs.Stall.TaskLog.{exits-by}
 abbrev pub outcome-of : List Entry → ℕ → Option (Outcome Value Error)
 outcome-of h c = coroutine-outcome (completed-value h c) (failed-error h c)
 
-is-there : (b : Option ℕ) (c : ℕ) → is-at b c ≡ true → b ≡ some c
+pub is-there : (b : Option ℕ) (c : ℕ) → is-at b c ≡ true → b ≡ some c
 unfolding is-at
 is-there none c e = absurd (true≢false (sym e))
 is-there (some b) c e = ap (λ (n : ℕ). some n) (eqb-true b c e)

@@ -142,6 +142,14 @@ to-all : {G : ℕ → Type 0} (s : Store) (t : TaskId) (e : Error) → SourcedBu
 unfolding deliver-awaiter-failure send-error
 to-all s t e c = all-of _ c
 
+-- an error in a gather that is not awaited, and in one that is
+pub fail-off : (s : Store) (g : ℕ) (e : Error) → as-awaited (object s g) ≡ none → fail-gather s g e ≡ record { store = s; onward = none }
+fail-off s g e q = unfold fail-gather in (ap (fail-awaited s g e) q ∙ (unfold fail-awaited in refl))
+
+pub fail-on : (s : Store) (g : ℕ) (e : Error) (w : AwaitedGather) → as-awaited (object s g) ≡ some w
+    → fail-gather s g e ≡ record { store = put-object s g (Object.GatherFuture (w .first) (w .count) (GatherState.Failed e)); onward = some (w .awaiter) }
+fail-on s g e w q = unfold fail-gather in (ap (fail-awaited s g e) q ∙ (unfold fail-awaited in refl))
+
 module _ (G : ℕ → Type 0) (r : ℕ → Bool) (D : ℕ → Type 0) (hd : Header) (e : Error) (k : ErrorFits e) where
   -- what an error leaves: everything has its source
   failure-slot : (n : ℕ) (s : Store) (o g x : ℕ) → object-limit ≤ suc n + o → ErrorRises r D hd o s (Awaiter.GatherSlot (heap-id g) (heap-id x)) → SourcedBut G (OnWay (Awaiter.GatherSlot (heap-id g) (heap-id x)) o) s
@@ -164,19 +172,13 @@ module _ (G : ℕ → Type 0) (r : ℕ → Bool) (D : ℕ → Type 0) (hd : Head
           slot-of (Awaiter.Task t) = 0
           slot-of (Awaiter.GatherSlot a b) = a .0
 
-      nothing-on : as-awaited (object s g) ≡ none → fail-gather s g e ≡ record { store = s; onward = none }
-      nothing-on q = unfold fail-gather in (ap (fail-awaited s g e) q ∙ (unfold fail-awaited in refl))
-
-      on : (w : AwaitedGather) → as-awaited (object s g) ≡ some w → fail-gather s g e ≡ record { store = put-object s g (Object.GatherFuture (w .first) (w .count) (GatherState.Failed e)); onward = some (w .awaiter) }
-      on w q = unfold fail-gather in (ap (fail-awaited s g e) q ∙ (unfold fail-awaited in refl))
-
       by : (w : Option AwaitedGather) → as-awaited (object s g) ≡ w → Sourced G (deliver-awaiter-failure s (Awaiter.GatherSlot (heap-id g) (heap-id x)) e .store)
-      by none q = unfold deliver-awaiter-failure send-error in (rw (nothing-on q) (unfold climb nobody-woken in (all-of s (record { sources = λ p v w l y op n. c .sources p v w l y op (λ d. absurd-some (sym (subst (λ (m : ℕ). as-awaited (object s m) ≡ none) (sym (slot-same p (d .0))) q) ∙ y)); rising = c .rising }))))
+      by none q = unfold deliver-awaiter-failure send-error in (rw (fail-off s g e q) (unfold climb nobody-woken in (all-of s (record { sources = λ p v w l y op n. c .sources p v w l y op (λ d. absurd-some (sym (subst (λ (m : ℕ). as-awaited (object s m) ≡ none) (sym (slot-same p (d .0))) q) ∙ y)); rising = c .rising }))))
       by (some w) q =
           let y : Object = Object.GatherFuture (w .first) (w .count) (GatherState.Failed e) in
           let z : Sized s = i .mid .kept .memory .sized in
-          let a : fail-gather s g e .onward ≡ some (w .awaiter) = ap (λ (t : Settled). t .onward) (on w q) in
-          let st : fail-gather s g e .store ≡ put-object s g y = ap (λ (t : Settled). t .store) (on w q) in
+          let a : fail-gather s g e .onward ≡ some (w .awaiter) = ap (λ (t : Settled). t .onward) (fail-on s g e w q) in
+          let st : fail-gather s g e .store ≡ put-object s g y = ap (λ (t : Settled). t .store) (fail-on s g e w q) in
           let k1 : SourcedBut G (OnWay (w .awaiter) g) (put-object s g y) =
           settle-sourced _ (OnWay (Awaiter.GatherSlot (heap-id g) (heap-id x)) o) s g w y z low (awaited-fits s g w q .0, k) q (unfold as-awaited in refl) (λ p v d. slot-same p (d .0)) c in
           rw (failure-climbs s (heap-id g) (heap-id x) e (w .awaiter) z low a)

@@ -80,20 +80,23 @@ module _ (h : List Entry) (s : Store) (w : SoundStore s) (k : Alive h s) where
       by none q = refl
       by (some r) q = let y = k .came c r q in absurd (n (subst (λ (m : ℕ). exits h m ≡ true) (k .tasks .alone (y .0) v c (y .1) e) (y .2)))
 
-  source-none : (g o : ℕ) → Source (Lost h s) s g o → row-outcome (outcome-of h) o (object s o) ≡ none
-  source-none g o (by-external p e a) = ap (row-outcome (outcome-of h) o) (pending-object (object s o) p e) ∙ (unfold row-outcome in refl)
-  source-none g o (by-gather v e a) = ap (row-outcome (outcome-of h) o) (awaited-object (object s o) v e) ∙ (unfold row-outcome in refl)
-  source-none g o (by-nobody j) = nothing-yet (j .its-task) o (j .spawned) (λ q. true≢false (sym q ∙ j .gone .unexited))
-  source-none g o (by-task t l lv a) = by (slot-spawned s t g o w l a)
+  -- a live task with a slot was spawned for the coroutine that it brings there
+  pub slot-task : (t g o : ℕ) → t < header s .next → is-live (task s t .state) ≡ true → task s t .awaiter ≡ Awaiter.GatherSlot (heap-id g) (heap-id o) → spawned-for h t ≡ some o
+  slot-task t g o l lv a = by (slot-spawned s t g o w l a)
     where
       own : o ≡ task s t .coroutine .0
       own = unfold view in (w .facts .but .task-slots t l (holds _ lv) g o a .own)
 
-      by : (m : ℕ) × (t ≡ suc m) → row-outcome (outcome-of h) o (object s o) ≡ none
+      by : (m : ℕ) × (t ≡ suc m) → spawned-for h t ≡ some o
       by x =
-          let e : spawned-for h t ≡ some (task s t .coroutine .0) =
-          subst (λ (m : ℕ). spawned-for h m ≡ some (task s m .coroutine .0)) (sym (x .1)) (k .tasks .rows (x .0) (subst (λ (m : ℕ). m < header s .next) (x .1) l) (subst (λ (m : ℕ). is-live (task s m .state) ≡ true) (x .1) lv)) in
-          subst (λ (c : ℕ). row-outcome (outcome-of h) c (object s c) ≡ none) (sym own) (nothing-yet t (task s t .coroutine .0) e (λ q. true≢false (sym lv ∙ k .tasks .ended t q .1)))
+          subst (λ (m : ℕ). spawned-for h m ≡ some (task s m .coroutine .0)) (sym (x .1)) (k .tasks .rows (x .0) (subst (λ (m : ℕ). m < header s .next) (x .1) l) (subst (λ (m : ℕ). is-live (task s m .state) ≡ true) (x .1) lv))
+          ∙ ap (λ (m : ℕ). some m) (sym own)
+
+  source-none : (g o : ℕ) → Source (Lost h s) s g o → row-outcome (outcome-of h) o (object s o) ≡ none
+  source-none g o (by-external p e a) = ap (row-outcome (outcome-of h) o) (pending-object (object s o) p e) ∙ (unfold row-outcome in refl)
+  source-none g o (by-gather v e a) = ap (row-outcome (outcome-of h) o) (awaited-object (object s o) v e) ∙ (unfold row-outcome in refl)
+  source-none g o (by-nobody j) = nothing-yet (j .its-task) o (j .spawned) (λ q. true≢false (sym q ∙ j .gone .unexited))
+  source-none g o (by-task t l lv a) = nothing-yet t o (slot-task t g o l lv a) (λ q. true≢false (sym lv ∙ k .tasks .ended t q .1))
 
   pub alive-items : ItemsWait h s
   alive-items g v l e a b c = source-none g _ (k .sourced .sources g _ v l e (record { at = a; under = b; is-open = c; names = refl }))

@@ -137,13 +137,13 @@ cleans-from (suc n) s u t k = cleans-from n s _ (t + 1) (by (is-live (task u t .
         tells-it b v = unfold add-log put-task exits-by in refl
     by false = k
 
-record Cleaned (s u : Store) : Type 0 where
-  rows : (o : ℕ) → object u o ≡ object s o
-  places : (p : ℕ) → place u p ≡ place s p
-  made : header u .made ≡ header s .made
-  exited-none : (b : Bool) (t : ℕ) → exits-by b (u .log) t ≡ exits-by b (s .log) t
+pub record Cleaned (s u : Store) : Type 0 where
+  pub rows : (o : ℕ) → object u o ≡ object s o
+  pub places : (p : ℕ) → place u p ≡ place s p
+  pub made : header u .made ≡ header s .made
+  pub exited-none : (b : Bool) (t : ℕ) → exits-by b (u .log) t ≡ exits-by b (s .log) t
 
-cleanup-cleans : (s : Store) → Sized s → Cleaned s (cleanup s)
+pub cleanup-cleans : (s : Store) → Sized s → Cleaned s (cleanup s)
 unfolding cleanup
 cleanup-cleans s z =
     record {
@@ -269,7 +269,7 @@ module _ (h : List Entry) (s : Store) (w : SoundStore s) (ag : Agrees h s) (clea
       }
 
   -- the coroutine of the running task is the one that it was spawned for
-  ran : (t c : ℕ) → header s .moment ≡ Moment.Running (task-id t) → running-coroutine h ≡ some c → spawned-for h t ≡ some c
+  pub ran : (t c : ℕ) → header s .moment ≡ Moment.Running (task-id t) → running-coroutine h ≡ some c → spawned-for h t ≡ some c
   ran zero c m e = absurd-some (sym (is-running zero m ∙ ag .main) ∙ e)
     where
       is-running : (t : ℕ) → header s .moment ≡ Moment.Running (task-id t) → running-coroutine h ≡ coroutine-of h t
