@@ -31,8 +31,7 @@ use Rattle.machine.specs.Delivery.{Delivery, deliver-awaiter-failure}
 use Rattle.machine.specs.Events.{Switched, How, start, run, yield, new-function, start-by, start-task, handle-task-failure, resume-after-task-exit, resume-next, activate-state, activate}
 use Rattle.machine_laws.specs.Views.{Sized}
 use Rattle.machine_laws.specs.Statements.{SameLive}
-use Rattle.machine_laws.specs.CountLaws.{count-same, live-counted}
-use Rattle.machine_laws.specs.DeliveryLaws.{failure-same}
+use Rattle.machine_laws.specs.DeliveryLaws.{failure-same, live-in-same}
 use Rattle.machine_laws.specs.CycleLaws.{live-falls}
 use Rattle.machine_laws.specs.WokenLaws.{WokenFits, failure-woken, activate-by, removed-same}
 use Rattle.exec_switch.specs.Control.{switched-of, function-of, FoundFits}
@@ -201,10 +200,8 @@ module _ (ts os : List ℕ) (q : ReadyQueue) (t : ℕ) (x : Error) (z : length t
       → live-in ts₂ ≡ live-in (task-put ts t absent)
   unfolding remove-task remove-from-ready-queue put-queue put-task task
   failure-falls {ts₂} r =
-      live-counted ts₂
-      ∙ (rw (ap (λ (s : Store). s .tasks) (r [] [] []))
-      (count-same _ _ task-limit (λ v l. removed-same (store-of ts os some-places q []) _ t sized h same v))
-      ∙ sym (live-counted (task-put ts t absent)))
+      ap (λ (s : Store). live-in (s .tasks)) (r [] [] [])
+      ∙ live-in-same (task-put ts t absent) (remove-task (store-of ts₁ [] [] q₁ []) t .tasks) (λ v. removed-same (store-of ts os some-places q []) _ t sized h same v)
 
   pub failure-found : FoundFits m
   failure-found = by m (failure-woken (store-of ts os some-places q []) a x sized awaiter-fits .fits) (ap (λ (k : Delivery). k .woken) d)

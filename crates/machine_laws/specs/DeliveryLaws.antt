@@ -278,7 +278,8 @@ pub same-live : (s u : Store) (t : ℕ) → SameLive s u → live u t ≡ live s
 unfolding live
 same-live s u t k = rw (k .same-header, k .lives t)
 
-live-in-same : (ts us : List ℕ) → ((t : ℕ) → is-live (task-at us t .state) ≡ is-live (task-at ts t .state)) → live-in us ≡ live-in ts
+-- as many live where each task lives as it did
+pub live-in-same : (ts us : List ℕ) → ((t : ℕ) → is-live (task-at us t .state) ≡ is-live (task-at ts t .state)) → live-in us ≡ live-in ts
 live-in-same ts us h =
     live-counted us ∙ (count-same (λ t. is-live (task-at us t .state)) (λ t. is-live (task-at ts t .state)) task-limit (λ t l. h t) ∙ sym (live-counted ts))
 
