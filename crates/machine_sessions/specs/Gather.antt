@@ -53,7 +53,8 @@ use Rattle.machine.specs.Events.{How, Control, Switched, Result, activate, hand
 use Rattle.machine.specs.Machine.{Event, Answer, Step, Shown, switched, answer-await, end-main, task-completes, task-fails, repeat-wait, resume-with-resolved-futures, runner, unmade, first-refusal, refusals, refusal, slot-value, show-places, shown, accept, step}
 use Rattle.machine.specs.Sound.{items-below, object-in-range, places-below}
 use Rattle.machine.specs.Tests.{is-in}
-use Rattle.machine.specs.Gather.{Outcome, returned, raised}
+use Rattle.machine.specs.Gather.{Outcome, returned, raised, gather}
+use Rattle.machine.specs.Singles.{singles}
 use Rattle.machine.specs.Computes.{computes}
 use Rattle.machine.specs.History.{Entry, Making, says, said, nothing-said, tells, is-none, done-only, spawned-by, spawned-for, started-by, coroutine-of, running-coroutine, exits-unstarted, is-at, later, making, items, outcome, error-of, coroutine-outcome, completed-value, failed-error, first-reply, reply-error, Says, reply-in, reply-outcome, stored-or, shown-outcome, outcome-by}
 use Rattle.machine.specs.Sessions.{Sent, Session, InRange, AllSentInRange, lent-any, happened-by, entry-of, begun, send, send-all, session}
@@ -79,13 +80,14 @@ use Rattle.machine.specs.History.{value-of}
 use lib.ListN.{getD}
 use Rattle.machine_sessions.specs.Stall.Outcomes.{outcome-of}
 use Rattle.machine.specs.DemandThree.{read, shown-by, delivered, none-open, Demand3}
-use Rattle.machine.specs.DemandTwo.{came, committed, is-late, Single, reuse-of, ReuseAt, GatherRight, DemandTwo}
+use Rattle.machine.specs.DemandTwo.{came, committed, seen, is-late, reuse-of, ReuseAt, GatherRight, DemandTwo}
 use Rattle.machine_sessions.specs.DemandThree.{demand-three}
 use Rattle.machine_sessions.specs.Stall.WaitingSessions.{awaited-items-no-error}
 use Rattle.machine_sessions.specs.Gather.Arrivals.{head-in, tail-in, in-cons}
 use Rattle.machine_sessions.specs.Gather.GatherSteps.{Delivered, NoneRaised, FailsLater, FailsAtCommit, GatherStep, Which, w-awaited, w-completed, w-failed, which, in-range-snoc, session-snoc, gather-right}
 use Rattle.machine_sessions.specs.Gather.GatherEvents.{Stays, session-stays}
-use Rattle.machine_sessions.specs.Gather.FailingSessions.{ShownMoves, ShowsCommitted, FailedItem, FirstFailed, Reused, a-coroutine, an-external, a-gather, GatherFails, session-fails, making-later, look-row, row-awaited, row-failed, gather-list, awaited-many, IsAwaited, IsPending, IsFailed, session-knows}
+use Rattle.machine_sessions.specs.Gather.Batches.{Single, singles-in-range, singles-single, singles-leave}
+use Rattle.machine_sessions.specs.Gather.FailingSessions.{ShownMoves, ShowsCommitted, FailedItem, FirstFailed, Reused, a-coroutine, an-external, a-gather, GatherFails, session-fails, making-later, look-forget, look-row, row-awaited, row-failed, gather-list, awaited-many, IsAwaited, IsPending, IsFailed, session-knows}
 
 -- ---- what show answers
 
@@ -537,9 +539,18 @@ module _ (ps : List Sent) (s : Sent) (j : AllSentInRange ps) (i : InRange (s .ev
           of (Event.show p) e c = absurd-some c
           of Event.eager e c = absurd-some c
 
+  -- what is said, and what is shown after a refusal
+  said-says : tells (X .answer) .accepts ≡ true → said X ≡ says (s .event)
+  unfolding said entry-of
+  said-says a = ap (λ (b : Bool). elim b as (λ (c : Bool). Says) [ true ↦ says (s .event) | false ↦ nothing-said ]) a
+
+  unchanged : tells (X .answer) .accepts ≡ false → (g : ℕ) → look (y .store) g ≡ look (x .store) g
+  unfolding entry-of send
+  unchanged a g = session-stays ps s j i .refused-same a g
+
   -- ---- gather g
 
-  module _ (g : ℕ) (few : length (says (s .event) .results) ≤ 1) where
+  module _ (g : ℕ) (few : length (said X .results) ≤ 1) where
     abbrev fs : GatherFails (s .event) (look (session ps .store) g) (send (session ps) s .history) (look (send (session ps) s .store)) g
     fs = session-fails ps s j i g
 
@@ -627,6 +638,11 @@ module _ (ps : List Sent) (s : Sent) (j : AllSentInRange ps) (i : InRange (s .ev
         raises : came y (f .item) ≡ some (raised e)
         raises = unfold came in (f .raised-it)
 
+        -- it is accepted, for it changes what is shown
+        few-in : (b : Bool) → tells (X .answer) .accepts ≡ b → length (says (s .event) .results) ≤ 1
+        few-in true a = subst (λ (v : Says). length (v .results) ≤ 1) (said-says a) few
+        few-in false a = absurd (subst IsFailed (sym q ∙ (unchanged a g ∙ p)) tt)
+
         by : (o : ℕ) (z : Error) → came x o ≡ none → came y o ≡ some (raised z) → (l : Bool) → is-late (raised e) ≡ l → (m : Bool) → is-late (raised z) ≡ m → (z ≡ e) ⊎ (is-late (raised z) ≡ not (is-late (raised e)))
         by o z a b true l true m = inl (late-is z m ∙ sym (late-is e l))
         by o z a b true l false m = inr (m ∙ ap not (sym l))
@@ -634,7 +650,7 @@ module _ (ps : List Sent) (s : Sent) (j : AllSentInRange ps) (i : InRange (s .ev
         by o z a b false l false m = inl (of (new-error o z a b))
           where
             of : Brings (s .event) z ⊎ (is-none (says (s .event) .awaits) ≡ false) → z ≡ e
-            of (inl k) = own-same (s .event) e z few (f .error) k l m
+            of (inl k) = own-same (s .event) e z (few-in (tells (X .answer) .accepts) refl) (f .error) k l m
             of (inr k) = absurd (true≢false (sym (await-late (s .event) e (f .error) k) ∙ l))
 
     fails-later : (e : Error) → committed (look (x .store) g) ≡ true → look (y .store) g ≡ Shown.a-gather-failed e → (look (x .store) g ≡ Shown.a-gather-failed e) ⊎ FailsLater x y g e
@@ -706,7 +722,64 @@ fresh-not g = by (look-row (begun .store) g (session-follows [] tt .whole)) (ses
     by (inl b) l = absurd (not-suc-le-zero {n = 0} (omega (arith, b .0, l)))
     by (inr b) l = ap committed (b .1)
 
--- For every list of events with single results, and every gather that was committed.
+-- ---- every list of events
+
+-- single results
+single-right : (es : List Sent) → AllSentInRange es → Single es → (g : ℕ) → committed (look (session es .store) g) ≡ true → GatherRight (session es) es g
+single-right es i w g c = gather-right g (λ ps s a b d. gather-step ps s a b g d) (fresh-not g) es i w c
+
+-- the lists that stand in the same places are the same
+same-list : (i : ℕ → ℕ) (f : ℕ) (os ps : List ℕ) → length os ≡ length ps → ItemsAt i f os → ItemsAt i f ps → os ≡ ps
+unfolding ItemsAt
+same-list i f [] [] l a b = refl
+same-list i f [] (p ∷ ps) l a b = absurd (not-suc-le-zero {n = 0} (omega (arith, l)))
+same-list i f (o ∷ os) [] l a b = absurd (not-suc-le-zero {n = 0} (omega (arith, l)))
+same-list i f (o ∷ os) (p ∷ ps) l a b = rw (sym (a .0) ∙ b .0, same-list i (f + 1) os ps (omega (arith, l)) (a .1) (b .1))
+
+-- the items of a committed gather stand in its places
+abbrev Listed : Store → ℕ → List ℕ → Type 0
+Listed s g os = (count-of (object s g) ≡ length os) × ItemsAt (λ p. place s p .item .0) (first-of (object s g)) os
+
+committed-many : (s : Store) (x : Object) → committed (shown s x) ≡ true → frozen x ≡ many (first-of x) (count-of x)
+unfolding committed shown frozen first-of count-of
+committed-many s Object.Unmade c = absurd (true≢false (sym c))
+committed-many s (Object.Coroutine f x) c = absurd (true≢false (sym c))
+committed-many s (Object.ExternalFuture n (ExternalFutureState.Pending a r)) c = absurd (true≢false (sym c))
+committed-many s (Object.ExternalFuture n (ExternalFutureState.Resolved v)) c = absurd (true≢false (sym c))
+committed-many s (Object.ExternalFuture n (ExternalFutureState.Failed e)) c = absurd (true≢false (sym c))
+committed-many s (Object.GatherFuture f n x) c = refl
+
+items-listed : (es : List Sent) → AllSentInRange es → (g : ℕ) → committed (look (session es .store) g) ≡ true → Listed (session es .store) g (items (session es .history) g)
+items-listed es i g c = by (look-row s g (session-follows es i .whole))
+  where
+    s : Store
+    s = session es .store
+
+    by : ((g < header s .made) × (look s g ≡ shown s (object s g))) ⊎ ((header s .made ≤ g) × (look s g ≡ Shown.nothing)) → Listed s g (items (session es .history) g)
+    by (inl b) = gather-list (session es .history) s (session-agrees es i) g (first-of (object s g)) (count-of (object s g)) (b .0) (committed-many s (object s g) (ap committed (sym (b .1)) ∙ c))
+    by (inr b) = absurd (true≢false (sym c ∙ (ap committed (b .1) ∙ (unfold committed in refl))))
+
+-- stores that are the same but for the log
+listed-alike : (s u : Store) (g : ℕ) (os : List ℕ) → forget s ≡ forget u → Listed s g os → Listed u g os
+unfolding object place forget
+listed-alike s u g os q k = subst (λ (z : Store). Listed z g os) q k
+
+module _ (es : List Sent) (i : AllSentInRange es) (g : ℕ) where
+  -- what is shown, and the items, with the batches cut
+  singles-look : look (session (singles es) .store) g ≡ look (session es .store) g
+  singles-look = sym (look-forget (session (singles es) .store) g) ∙ (ap (λ (z : Store). look z g) (singles-leave es i) ∙ look-forget (session es .store) g)
+
+  singles-items : committed (look (session es .store) g) ≡ true → items (session (singles es) .history) g ≡ items (session es .history) g
+  singles-items c =
+      let a = listed-alike (session (singles es) .store) (session es .store) g (items (session (singles es) .history) g) (singles-leave es i)
+      (items-listed (singles es) (singles-in-range es i) g (ap committed singles-look ∙ c)) in
+      let b = items-listed es i g c in
+      same-list (λ p. place (session es .store) p .item .0) (first-of (object (session es .store) g)) (items (session (singles es) .history) g) (items (session es .history) g) (sym (a .0) ∙ b .0) (a .1) (b .1)
+
+-- For every list of events, and every gather that was committed.
 pub demand-two : DemandTwo
-unfolding Single
-demand-two es i w g c = gather-right g (λ ps s a b d. gather-step ps s a b g (d .0)) (fresh-not g) es i w c
+demand-two es i g c = by (single-right (singles es) (singles-in-range es i) (singles-single es i) g (ap committed (singles-look es i g) ∙ c))
+  where
+    by : GatherRight (session (singles es)) (singles es) g → GatherRight (session es) (singles es) g
+    by (inl x) = inl (x .0, x .1, ap seen (sym (singles-look es i g)) ∙ (x .2 ∙ ap (λ (os : List ℕ). gather os (x .0)) (singles-items es i g c)))
+    by (inr x) = inr (x .0, sym (singles-look es i g) ∙ x .1, x .2)

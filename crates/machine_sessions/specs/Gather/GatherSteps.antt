@@ -13,10 +13,11 @@ use Rattle.machine_laws.specs.DeliveryLaws.{absurd-some}
 use Rattle.machine.specs.Tests.{is-in}
 use Rattle.machine.specs.Machine.{Shown}
 use Rattle.machine.specs.Gather.{Outcome, returned, raised, Arrival, Gathered, waiting, listed, propagated, outcome-of, first-raised, in-order, gather}
-use Rattle.machine.specs.History.{value-of, error-of, items}
+use Rattle.machine.specs.History.{said, value-of, error-of, items}
 use Rattle.machine.specs.Sessions.{Sent, Session, begun, send, send-all, session, InRange, AllSentInRange}
 use Rattle.machine.specs.DemandThree.{look, none-open}
-use Rattle.machine.specs.DemandTwo.{came, committed, values, seen, arrivals-of, is-late, early, late, InTurn, late-behind, ArriveBy, ArriveIn, Arrive, no-more, and-then, Single, ReuseAt, Reused, GatherRight}
+use Rattle.machine.specs.DemandTwo.{came, committed, values, seen, arrivals-of, is-late, early, late, InTurn, late-behind, ArriveBy, ArriveIn, Arrive, no-more, and-then, ReuseAt, Reused, GatherRight}
+use Rattle.machine_sessions.specs.Gather.Batches.{lent-entry, SingleFrom, Single}
 use Rattle.machine_sessions.specs.Gather.Arrivals.{in-cons, Came, Arrivals, AllReturned, none-raised, all-returned-++, or-then, outcome-++, new-of, outcome-new, new-returned, in-turn-all, All, all-++, Raises, Quiet, first-behind, first-stays, Turn, first-in-turn, all-own, raises-own, first-from-left, listed-all, waiting-one}
 
 -- ---- what one event does to gather g
@@ -310,15 +311,15 @@ pub session-snoc : (ps : List Sent) (s : Sent) → session (ps ++ (s ∷ [])) �
 unfolding session send-all
 session-snoc ps s = send-all-++ begun ps (s ∷ [])
 
-module _ (g : ℕ) (steps : (ps : List Sent) (s : Sent) → AllSentInRange ps → InRange (s .event) → Single (s ∷ []) → GatherStep (session ps) (send (session ps) s) g) where
+module _ (g : ℕ) (steps : (ps : List Sent) (s : Sent) → AllSentInRange ps → InRange (s .event) → length (said (lent-entry (session ps .store) s) .results) ≤ 1 → GatherStep (session ps) (send (session ps) s) g) where
   -- with what arrives in the events
   pub record After (ps es : List Sent) (xs : Arrivals) : Type 0 where
     pub news : Arrivals
     pub arrive : Arrive g (session ps) es news
     pub so-far : SoFar (ps ++ es) (send-all (session ps) es) g (xs ++ news)
 
-  pub run-so-far : (ps es : List Sent) (xs : Arrivals) → AllSentInRange ps → AllSentInRange es → Single es → SoFar ps (session ps) g xs → After ps es xs
-  unfolding AllSentInRange Single send-all
+  pub run-so-far : (ps es : List Sent) (xs : Arrivals) → AllSentInRange ps → AllSentInRange es → SingleFrom (session ps) es → SoFar ps (session ps) g xs → After ps es xs
+  unfolding AllSentInRange SingleFrom send-all
   run-so-far ps [] xs a b w k =
       record { news = []; arrive = no-more (session ps); so-far = subst (λ (zs : List Sent). SoFar zs (session ps) g (xs ++ [])) (sym (nil ps)) (subst (SoFar ps (session ps) g) (sym (nil-a xs)) k) }
     where
@@ -331,8 +332,8 @@ module _ (g : ℕ) (steps : (ps : List Sent) (s : Sent) → AllSentInRange ps �
       nil-a (z ∷ zs) = ap (λ (ws : Arrivals). z ∷ ws) (nil-a zs)
   run-so-far ps (e ∷ es) xs a b w k =
       let y : Session = send (session ps) e in
-      let j : Next ps e g xs = next-so-far ps e g (steps ps e a (b .0) (w .0, tt)) xs k in
-      let r : After (ps ++ (e ∷ [])) es (xs ++ j .news) = run-so-far (ps ++ (e ∷ [])) es (xs ++ j .news) (in-range-snoc ps e a (b .0)) (b .1) (w .1)
+      let j : Next ps e g xs = next-so-far ps e g (steps ps e a (b .0) (w .0)) xs k in
+      let r : After (ps ++ (e ∷ [])) es (xs ++ j .news) = run-so-far (ps ++ (e ∷ [])) es (xs ++ j .news) (in-range-snoc ps e a (b .0)) (b .1) (subst (λ (z : Session). SingleFrom z es) (sym (session-snoc ps e)) (w .1))
       (subst (λ (z : Session). SoFar (ps ++ (e ∷ [])) z g (xs ++ j .news)) (sym (session-snoc ps e)) (j .so-far)) in
       record {
         news = j .news ++ r .news;
@@ -359,7 +360,7 @@ module _ (g : ℕ) (steps : (ps : List Sent) (s : Sent) → AllSentInRange ps �
   gathered ls xs z q = unfold gather in (ap (λ (w : Option Error). elim w [ none ↦ in-order xs ls | some e ↦ propagated e ]) q)
 
   -- What show gives of the gather after the events.
-  right-by : (es : List Sent) (xs : Arrivals) → Arrive g begun es xs → SoFar es (session es) g xs → committed (look (session es .store) g) ≡ true → GatherRight es g
+  right-by : (es : List Sent) (xs : Arrivals) → Arrive g begun es xs → SoFar es (session es) g xs → committed (look (session es .store) g) ≡ true → GatherRight (session es) es g
   right-by es xs ar (uncommitted c e) d = absurd (true≢false (sym d ∙ c))
   right-by es xs ar (is-awaited vs q d o w) c =
       let r : Gathers es xs waiting = sym (gathered _ _ none (none-raised _ _ (w .all-returned) []) ∙ waiting-one _ (came (session es)) _ (w .known) (w .none-raised) (subst (λ (us : List (Option Value)). none-open us ≡ false) d o)) in
@@ -371,6 +372,6 @@ module _ (g : ℕ) (steps : (ps : List Sent) (s : Sent) → AllSentInRange ps �
   right-by es xs ar (is-failed e q (inl w)) c = inl (xs, ar, ap seen q ∙ (seen-failed e ∙ sym (gathered _ _ (some e) w)))
   right-by es xs ar (is-failed e q (inr w)) c = inr (e, q, w)
 
-  pub gather-right : committed (look (begun .store) g) ≡ false → (es : List Sent) → AllSentInRange es → Single es → committed (look (session es .store) g) ≡ true → GatherRight es g
-  unfolding session send-all AllSentInRange
+  pub gather-right : committed (look (begun .store) g) ≡ false → (es : List Sent) → AllSentInRange es → Single es → committed (look (session es .store) g) ≡ true → GatherRight (session es) es g
+  unfolding session send-all AllSentInRange Single
   gather-right u es a w c = let r : After [] es [] = run-so-far [] es [] tt a w (uncommitted u refl) in right-by es (r .news) (r .arrive) (r .so-far) c
