@@ -139,12 +139,12 @@ pub record Reused (es : List Sent) (g : ℕ) (e : Error) : Type 0 where
   pub failed : look (send (session before) commit .store) g ≡ Shown.a-gather-failed e
   pub reuse : ReuseAt (send (session before) commit) g e
 
--- What show gives of gather g after session x; in which order its items arrived is read off the events es.
-abbrev pub GatherRight : Session → List Sent → ℕ → Type 0
-GatherRight x es g =
-    ((xs : List (Arrival Value Error)) × Arrive g begun es xs × (seen (look (x .store) g) ≡ gather (items (x .history) g) xs))
-    ⊎ ((e : Error) × (look (x .store) g ≡ Shown.a-gather-failed e) × Reused es g e)
+-- What show gives of gather g after the events es; in which order its items arrived is read off the events fs.
+abbrev pub GatherRight : List Sent → List Sent → ℕ → Type 0
+GatherRight es fs g =
+    ((xs : List (Arrival Value Error)) × Arrive g begun fs xs × (seen (look (session es .store) g) ≡ gather (items (session es .history) g) xs))
+    ⊎ ((e : Error) × (look (session es .store) g ≡ Shown.a-gather-failed e) × Reused es g e)
 
 -- For every list of events, with any batches, refused ones included, and every gather that was committed.
 abbrev pub DemandTwo : Type 0
-DemandTwo = (es : List Sent) → AllSentInRange es → (g : ℕ) → committed (look (session es .store) g) ≡ true → GatherRight (session es) (singles es) g
+DemandTwo = (es : List Sent) → AllSentInRange es → (g : ℕ) → committed (look (session es .store) g) ≡ true → GatherRight es (singles es) g

@@ -18,6 +18,8 @@ pub mod OutcomesStay
 pub mod GatherEvents
 pub mod LogApart
 pub mod Batches
+pub mod CutOutcomes
+pub mod CutGathers
 use mathlib.Core.Path.{_≡_, refl, ap, ap₂, sym, subst, _∙_}
 use mathlib.Core.Logic.{_⊎_, inl, inr}
 use mathlib.Core.Bool.{Bool, true, false, not, _&&_, _||_, true≢false}
@@ -66,6 +68,7 @@ use Rattle.machine_laws.specs.SoundLaws.{pass, refusal-rest, refusal-forget}
 use Rattle.machine_theorems.specs.Soundness.Stores.{SoundStore}
 use Rattle.machine_theorems.specs.Soundness.Sessions.{forget-sound-store, step-sound-store}
 use Rattle.machine_sessions.specs.Queue.Following.{Sends, stepped, short, sends, Following, accept-accepts, send-following, session-follows}
+use Rattle.machine_sessions.specs.Waits.{said-accepted}
 use Rattle.machine_sessions.specs.Places.Told.{Frozen, co, pends, gave, broke, many, frozen}
 use Rattle.machine_sessions.specs.Places.Agrees.{reply-row, ItemsAt, Makes, MadeRight, Agrees}
 use Rattle.machine_sessions.specs.Places.AgreesEvents.{refused-agrees, forget-agrees}
@@ -86,8 +89,10 @@ use Rattle.machine_sessions.specs.Stall.WaitingSessions.{awaited-items-n
 use Rattle.machine_sessions.specs.Gather.Arrivals.{head-in, tail-in, in-cons}
 use Rattle.machine_sessions.specs.Gather.GatherSteps.{Delivered, NoneRaised, FailsLater, FailsAtCommit, GatherStep, Which, w-awaited, w-completed, w-failed, which, in-range-snoc, session-snoc, gather-right}
 use Rattle.machine_sessions.specs.Gather.GatherEvents.{Stays, session-stays}
-use Rattle.machine_sessions.specs.Gather.Batches.{Single, singles-in-range, singles-single, singles-leave}
-use Rattle.machine_sessions.specs.Gather.FailingSessions.{ShownMoves, ShowsCommitted, FailedItem, FirstFailed, Reused, a-coroutine, an-external, a-gather, GatherFails, session-fails, making-later, look-forget, look-row, row-awaited, row-failed, gather-list, awaited-many, IsAwaited, IsPending, IsFailed, session-knows}
+use Rattle.machine_sessions.specs.Gather.Batches.{lent-entry, batch, Single, few-said, singles-in-range, singles-single}
+use Rattle.machine_sessions.specs.Gather.CutOutcomes.{singles-look}
+use Rattle.machine_sessions.specs.Gather.CutGathers.{singles-items, singles-reused}
+use Rattle.machine_sessions.specs.Gather.FailingSessions.{ShownMoves, ShowsCommitted, FailedItem, FirstFailed, Reused, a-coroutine, an-external, a-gather, GatherFails, session-fails, making-later, look-row, row-awaited, row-failed, gather-list, awaited-many, IsAwaited, IsPending, IsFailed, session-knows}
 
 -- ---- what show answers
 
@@ -541,8 +546,8 @@ module _ (ps : List Sent) (s : Sent) (j : AllSentInRange ps) (i : InRange (s .ev
 
   -- what is said, and what is shown after a refusal
   said-says : tells (X .answer) .accepts ≡ true → said X ≡ says (s .event)
-  unfolding said entry-of
-  said-says a = ap (λ (b : Bool). elim b as (λ (c : Bool). Says) [ true ↦ says (s .event) | false ↦ nothing-said ]) a
+  unfolding entry-of
+  said-says a = said-accepted (s .event) (lent-any (session ps .store) s .answer) (lent-any (session ps .store) s .store) a
 
   unchanged : tells (X .answer) .accepts ≡ false → (g : ℕ) → look (y .store) g ≡ look (x .store) g
   unfolding entry-of send
@@ -664,12 +669,27 @@ module _ (ps : List Sent) (s : Sent) (j : AllSentInRange ps) (i : InRange (s .ev
         by (w-completed vs p) = let k = moved (Shown.a-gather-completed vs) p in absurd (subst IsFailed (sym q ∙ k .1) tt)
         by (w-failed r p) = inl (p ∙ ap Shown.a-gather-failed (same-error r e (sym (moved (Shown.a-gather-failed r) p) ∙ q)))
 
-    fails-at-commit : (e : Error) → committed (look (x .store) g) ≡ false → look (y .store) g ≡ Shown.a-gather-failed e → ReuseAt y g e ⊎ FailsAtCommit y g e
-    fails-at-commit e c q = by (look (x .store) g) refl
+    -- a gather that fails at its commit was pending
+    pub pending-before : (e : Error) → committed (look (x .store) g) ≡ false → look (y .store) g ≡ Shown.a-gather-failed e → look (x .store) g ≡ Shown.a-gather-pending
+    pending-before e c q = by (look (x .store) g) refl
       where
         not-moved : {l : Shown} → Shown.a-gather-failed e ≡ l → (IsFailed l → ⊥) → ⊥
         not-moved w n = n (subst IsFailed w tt)
 
+        by : (l : Shown) → look (x .store) g ≡ l → look (x .store) g ≡ Shown.a-gather-pending
+        by (Shown.a-coroutine k f) w = absurd (subst (ShownMoves (Shown.a-coroutine k f)) q (moved _ w))
+        by Shown.an-external-pending w = absurd (subst (ShownMoves Shown.an-external-pending) q (moved _ w))
+        by (Shown.an-external-resolved v) w = absurd (not-moved (subst (ShownMoves (Shown.an-external-resolved v)) q (moved _ w)) (λ z. z))
+        by (Shown.an-external-failed r) w = absurd (not-moved (subst (ShownMoves (Shown.an-external-failed r)) q (moved _ w)) (λ z. z))
+        by Shown.a-gather-pending w = w
+        by (Shown.a-gather-awaited vs) w = absurd (true≢false (sym (committed-on (Shown.a-gather-awaited vs) tt) ∙ (ap committed (sym w) ∙ c)))
+        by (Shown.a-gather-completed vs) w = absurd (true≢false (sym (committed-on (Shown.a-gather-completed vs) tt) ∙ (ap committed (sym w) ∙ c)))
+        by (Shown.a-gather-failed r) w = absurd (true≢false (sym (committed-on (Shown.a-gather-failed r) tt) ∙ (ap committed (sym w) ∙ c)))
+        by Shown.nothing w = absurd (session-stays ps s j i .not-failed g e w (unfold send in q))
+
+    fails-at-commit : (e : Error) → committed (look (x .store) g) ≡ false → look (y .store) g ≡ Shown.a-gather-failed e → ReuseAt y g e ⊎ FailsAtCommit y g e
+    fails-at-commit e c q = at-commit (fs .pending e (pending-before e c q) q)
+      where
         at-commit : FirstFailed (y .history) (look (y .store)) g e → ReuseAt y g e ⊎ FailsAtCommit y g e
         at-commit f = of (f .raises)
           where
@@ -687,17 +707,6 @@ module _ (ps : List Sent) (s : Sent) (j : AllSentInRange ps) (i : InRange (s .ev
             of : (outcome (y .history) (look (y .store)) (f .item) ≡ some (raised e)) ⊎ Reused (look (y .store) (f .item)) e → ReuseAt y g e ⊎ FailsAtCommit y g e
             of (inl k) = inr (record { at = length (f .left); within = low; raises = ap (came y) it ∙ (unfold came in k); left = quiet })
             of (inr k) = inl (record { at = length (f .left); within = low; left = quiet; in-use = ap (λ (o : ℕ). reuse-of (look (y .store) o)) it ∙ reused-of (look (y .store) (f .item)) e k })
-
-        by : (l : Shown) → look (x .store) g ≡ l → ReuseAt y g e ⊎ FailsAtCommit y g e
-        by (Shown.a-coroutine k f) w = absurd (subst (ShownMoves (Shown.a-coroutine k f)) q (moved _ w))
-        by Shown.an-external-pending w = absurd (subst (ShownMoves Shown.an-external-pending) q (moved _ w))
-        by (Shown.an-external-resolved v) w = absurd (not-moved (subst (ShownMoves (Shown.an-external-resolved v)) q (moved _ w)) (λ z. z))
-        by (Shown.an-external-failed r) w = absurd (not-moved (subst (ShownMoves (Shown.an-external-failed r)) q (moved _ w)) (λ z. z))
-        by Shown.a-gather-pending w = at-commit (fs .pending e w q)
-        by (Shown.a-gather-awaited vs) w = absurd (true≢false (sym (committed-on (Shown.a-gather-awaited vs) tt) ∙ (ap committed (sym w) ∙ c)))
-        by (Shown.a-gather-completed vs) w = absurd (true≢false (sym (committed-on (Shown.a-gather-completed vs) tt) ∙ (ap committed (sym w) ∙ c)))
-        by (Shown.a-gather-failed r) w = absurd (true≢false (sym (committed-on (Shown.a-gather-failed r) tt) ∙ (ap committed (sym w) ∙ c)))
-        by Shown.nothing w = absurd (session-stays ps s j i .not-failed g e w (unfold send in q))
 
     pub gather-step : GatherStep x y g
     gather-step =
@@ -725,61 +734,21 @@ fresh-not g = by (look-row (begun .store) g (session-follows [] tt .whole)) (ses
 -- ---- every list of events
 
 -- single results
-single-right : (es : List Sent) → AllSentInRange es → Single es → (g : ℕ) → committed (look (session es .store) g) ≡ true → GatherRight (session es) es g
+single-right : (es : List Sent) → AllSentInRange es → Single es → (g : ℕ) → committed (look (session es .store) g) ≡ true → GatherRight es es g
 single-right es i w g c = gather-right g (λ ps s a b d. gather-step ps s a b g d) (fresh-not g) es i w c
 
--- the lists that stand in the same places are the same
-same-list : (i : ℕ → ℕ) (f : ℕ) (os ps : List ℕ) → length os ≡ length ps → ItemsAt i f os → ItemsAt i f ps → os ≡ ps
-unfolding ItemsAt
-same-list i f [] [] l a b = refl
-same-list i f [] (p ∷ ps) l a b = absurd (not-suc-le-zero {n = 0} (omega (arith, l)))
-same-list i f (o ∷ os) [] l a b = absurd (not-suc-le-zero {n = 0} (omega (arith, l)))
-same-list i f (o ∷ os) (p ∷ ps) l a b = rw (sym (a .0) ∙ b .0, same-list i (f + 1) os ps (omega (arith, l)) (a .1) (b .1))
-
--- the items of a committed gather stand in its places
-abbrev Listed : Store → ℕ → List ℕ → Type 0
-Listed s g os = (count-of (object s g) ≡ length os) × ItemsAt (λ p. place s p .item .0) (first-of (object s g)) os
-
-committed-many : (s : Store) (x : Object) → committed (shown s x) ≡ true → frozen x ≡ many (first-of x) (count-of x)
-unfolding committed shown frozen first-of count-of
-committed-many s Object.Unmade c = absurd (true≢false (sym c))
-committed-many s (Object.Coroutine f x) c = absurd (true≢false (sym c))
-committed-many s (Object.ExternalFuture n (ExternalFutureState.Pending a r)) c = absurd (true≢false (sym c))
-committed-many s (Object.ExternalFuture n (ExternalFutureState.Resolved v)) c = absurd (true≢false (sym c))
-committed-many s (Object.ExternalFuture n (ExternalFutureState.Failed e)) c = absurd (true≢false (sym c))
-committed-many s (Object.GatherFuture f n x) c = refl
-
-items-listed : (es : List Sent) → AllSentInRange es → (g : ℕ) → committed (look (session es .store) g) ≡ true → Listed (session es .store) g (items (session es .history) g)
-items-listed es i g c = by (look-row s g (session-follows es i .whole))
-  where
-    s : Store
-    s = session es .store
-
-    by : ((g < header s .made) × (look s g ≡ shown s (object s g))) ⊎ ((header s .made ≤ g) × (look s g ≡ Shown.nothing)) → Listed s g (items (session es .history) g)
-    by (inl b) = gather-list (session es .history) s (session-agrees es i) g (first-of (object s g)) (count-of (object s g)) (b .0) (committed-many s (object s g) (ap committed (sym (b .1)) ∙ c))
-    by (inr b) = absurd (true≢false (sym c ∙ (ap committed (b .1) ∙ (unfold committed in refl))))
-
--- stores that are the same but for the log
-listed-alike : (s u : Store) (g : ℕ) (os : List ℕ) → forget s ≡ forget u → Listed s g os → Listed u g os
-unfolding object place forget
-listed-alike s u g os q k = subst (λ (z : Store). Listed z g os) q k
-
-module _ (es : List Sent) (i : AllSentInRange es) (g : ℕ) where
-  -- what is shown, and the items, with the batches cut
-  singles-look : look (session (singles es) .store) g ≡ look (session es .store) g
-  singles-look = sym (look-forget (session (singles es) .store) g) ∙ (ap (λ (z : Store). look z g) (singles-leave es i) ∙ look-forget (session es .store) g)
-
-  singles-items : committed (look (session es .store) g) ≡ true → items (session (singles es) .history) g ≡ items (session es .history) g
-  singles-items c =
-      let a = listed-alike (session (singles es) .store) (session es .store) g (items (session (singles es) .history) g) (singles-leave es i)
-      (items-listed (singles es) (singles-in-range es i) g (ap committed singles-look ∙ c)) in
-      let b = items-listed es i g c in
-      same-list (λ p. place (session es .store) p .item .0) (first-of (object (session es .store) g)) (items (session (singles es) .history) g) (items (session es .history) g) (sym (a .0) ∙ b .0) (a .1) (b .1)
+-- no result commits a gather
+result-commits-none : (ps : List Sent) (r : Result) (l : List ℕ) (g : ℕ) (e : Error) → AllSentInRange ps → committed (look (session ps .store) g) ≡ false
+    → look (send (session ps) (batch (r ∷ []) l) .store) g ≡ Shown.a-gather-failed e → ⊥
+unfolding InRange entry-of says is-none
+result-commits-none ps r l g e j c q =
+    true≢false (session-fails ps (batch (r ∷ []) l) j tt g .committing e
+    (pending-before ps (batch (r ∷ []) l) j tt g (few-said (lent-entry (session ps .store) (batch (r ∷ []) l)) (λ a. omega arith)) e c q) q)
 
 -- For every list of events, and every gather that was committed.
 pub demand-two : DemandTwo
 demand-two es i g c = by (single-right (singles es) (singles-in-range es i) (singles-single es i) g (ap committed (singles-look es i g) ∙ c))
   where
-    by : GatherRight (session (singles es)) (singles es) g → GatherRight (session es) (singles es) g
+    by : GatherRight (singles es) (singles es) g → GatherRight es (singles es) g
     by (inl x) = inl (x .0, x .1, ap seen (sym (singles-look es i g)) ∙ (x .2 ∙ ap (λ (os : List ℕ). gather os (x .0)) (singles-items es i g c)))
-    by (inr x) = inr (x .0, sym (singles-look es i g) ∙ x .1, x .2)
+    by (inr x) = inr (x .0, sym (singles-look es i g) ∙ x .1, singles-reused es i g (x .0) (λ ps r l j. result-commits-none ps r l g (x .0) j) (x .2))

@@ -249,7 +249,7 @@ entry-alike s u e q = sym (lent-twin s e .entry) ∙ (ap (λ (z : Store). lent-e
 -- ---- one event of the session, and its pieces
 
 -- a batch as it is sent
-abbrev batch : List Result → List ℕ → Sent
+abbrev pub batch : List Result → List ℕ → Sent
 batch rs l = record { event = Event.results rs; list = l }
 
 -- on memory of its lengths, with a list of its length, a batch that no refusal meets
@@ -354,7 +354,7 @@ batch-is-results (Event.show o) rs q = absurd-some q
 batch-is-results Event.eager rs q = absurd-some q
 
 -- an accepted batch is one, and accepted
-accepted-batch-is : (a : Answer) (e : Event) (rs : List Result) → accepted-batch a e ≡ some rs → (tells a .accepts ≡ true) × (e ≡ Event.results rs)
+pub accepted-batch-is : (a : Answer) (e : Event) (rs : List Result) → accepted-batch a e ≡ some rs → (tells a .accepts ≡ true) × (e ≡ Event.results rs)
 unfolding accepted-batch
 accepted-batch-is a e rs q = by (tells a .accepts) refl q
   where
@@ -417,7 +417,7 @@ module _ (x y : Session) (h : SoundStore (x .store)) (c : IsCut y x) where
             ∙ (ap (λ (k : List LogEntry). step (x .store) (Event.results rs) .store .log ++ k) (c .same-happened) ∙ sym (happened-entry _ _ (x .history) entry));
       }
 
-  cut-does : (e : Sent) → IsCut (send-all y (cut (x .store) e)) (send x e)
+  pub cut-does : (e : Sent) → IsCut (send-all y (cut (x .store) e)) (send x e)
   unfolding cut cut-by send-all
   cut-does e = by (accepted-batch (lent-any (x .store) e .answer) (e .event)) refl
     where
@@ -432,14 +432,14 @@ module _ (x y : Session) (h : SoundStore (x .store)) (c : IsCut y x) where
 -- ---- all events
 
 -- the store of a session stays sound
-send-sound : (s : Store) (e : Sent) → SoundStore s → InRange (e .event) → SoundStore (lent-any s e .store)
+pub send-sound : (s : Store) (e : Sent) → SoundStore s → InRange (e .event) → SoundStore (lent-any s e .store)
 send-sound s e h i = by (sends s e (h .memory .sized))
   where
     by : Sends s e → SoundStore (lent-any s e .store)
     by (stepped p q) = subst SoundStore (sym p) (step-sound-store s h (e .event) i)
     by (short p q) = subst SoundStore (sym p) h
 
-send-append : (es fs : List Sent) (x : Session) → send-all x (es ++ fs) ≡ send-all (send-all x es) fs
+pub send-append : (es fs : List Sent) (x : Session) → send-all x (es ++ fs) ≡ send-all (send-all x es) fs
 unfolding send-all
 send-append [] fs x = refl
 send-append (e ∷ es) fs x = send-append es fs (send x e)
@@ -453,7 +453,7 @@ singles-cut (e ∷ es) x y i h c =
     (singles-cut es (send x e) n (i .1) (send-sound (x .store) e h (i .0)) (cut-does x y h c e))
 
 -- the beginning
-begun-cut : IsCut begun begun
+pub begun-cut : IsCut begun begun
 unfolding begun talk cut-talk
 begun-cut = record { same-store = refl; same-talk = refl; same-happened = refl }
 
@@ -525,7 +525,7 @@ no-results (Event.show o) q = omega arith
 no-results Event.eager q = omega arith
 
 -- what is said: what the event says, or nothing
-few-said : (x : Entry) → (tells (x .answer) .accepts ≡ true → length (says (x .event) .results) ≤ 1) → length (said x .results) ≤ 1
+pub few-said : (x : Entry) → (tells (x .answer) .accepts ≡ true → length (says (x .event) .results) ≤ 1) → length (said x .results) ≤ 1
 unfolding said nothing-said
 few-said x k = by (tells (x .answer) .accepts) refl
   where

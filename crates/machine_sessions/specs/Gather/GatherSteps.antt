@@ -360,7 +360,7 @@ module _ (g : ℕ) (steps : (ps : List Sent) (s : Sent) → AllSentInRange ps �
   gathered ls xs z q = unfold gather in (ap (λ (w : Option Error). elim w [ none ↦ in-order xs ls | some e ↦ propagated e ]) q)
 
   -- What show gives of the gather after the events.
-  right-by : (es : List Sent) (xs : Arrivals) → Arrive g begun es xs → SoFar es (session es) g xs → committed (look (session es .store) g) ≡ true → GatherRight (session es) es g
+  right-by : (es : List Sent) (xs : Arrivals) → Arrive g begun es xs → SoFar es (session es) g xs → committed (look (session es .store) g) ≡ true → GatherRight es es g
   right-by es xs ar (uncommitted c e) d = absurd (true≢false (sym d ∙ c))
   right-by es xs ar (is-awaited vs q d o w) c =
       let r : Gathers es xs waiting = sym (gathered _ _ none (none-raised _ _ (w .all-returned) []) ∙ waiting-one _ (came (session es)) _ (w .known) (w .none-raised) (subst (λ (us : List (Option Value)). none-open us ≡ false) d o)) in
@@ -372,6 +372,6 @@ module _ (g : ℕ) (steps : (ps : List Sent) (s : Sent) → AllSentInRange ps �
   right-by es xs ar (is-failed e q (inl w)) c = inl (xs, ar, ap seen q ∙ (seen-failed e ∙ sym (gathered _ _ (some e) w)))
   right-by es xs ar (is-failed e q (inr w)) c = inr (e, q, w)
 
-  pub gather-right : committed (look (begun .store) g) ≡ false → (es : List Sent) → AllSentInRange es → Single es → committed (look (session es .store) g) ≡ true → GatherRight (session es) es g
+  pub gather-right : committed (look (begun .store) g) ≡ false → (es : List Sent) → AllSentInRange es → Single es → committed (look (session es .store) g) ≡ true → GatherRight es es g
   unfolding session send-all AllSentInRange Single
   gather-right u es a w c = let r : After [] es [] = run-so-far [] es [] tt a w (uncommitted u refl) in right-by es (r .news) (r .arrive) (r .so-far) c
