@@ -11,12 +11,12 @@ use lib.ListN.{length, length-append}
 use Rattle.asyncio.specs.Limits.{object-limit}
 use Rattle.asyncio.specs.States.{pick}
 use Rattle.machine.specs.Store.{Store, forget, fresh}
-use Rattle.machine.specs.Machine.{Event, Answer, Step, decide, step}
+use Rattle.machine.specs.Machine.{Event, Answer, Step, step}
 use Rattle.machine.specs.Lent.{Lent, slices-right, lengths-right, written, lent-as, lent-by, lent-step, lent-read}
 use Rattle.machine.specs.History.{Entry}
 use Rattle.machine.specs.Sessions.{Sent, is-read, read-lent, lent-any, entry-of, Session, begun, send, send-all, session}
 use Rattle.machine_laws.specs.MachineLaws.{show-step, eager-step}
-use Rattle.machine_laws.specs.SoundLaws.{refusal-forget}
+use Rattle.machine_laws.specs.SoundLaws.{step-forget}
 use Rattle.drive_reader.specs.declared.Record.{Record}
 use Rattle.drive_reader.specs.declared.Parsed.{Parsed}
 use Rattle.drive_reader.specs.Format.{parse}
@@ -43,11 +43,7 @@ pub record IsSession (x : DrivesAll) : Type 0 where
   pub store-is : forget (x .store) ≡ forget (session (x .sent) .store)
   pub text-is : x .text ≡ output 1 (answers-in (session (x .sent) .history)) ++ last-line (x .refusal) (suc (length (x .sent)))
 
--- ---- an event sees nothing of the log (`Batches` of machine_sessions says so of its entry too; this crate does not stand on that one)
-
-step-forget : (s : Store) (e : Event) → step (forget s) e ≡ step s e
-unfolding step forget
-step-forget s e = ap (λ (n : ℕ). decide n (forget s) e) (refusal-forget s e)
+-- ---- an event sees nothing of the log (`step-forget` of machine_laws)
 
 forget-twice : (s : Store) → forget (forget s) ≡ forget s
 unfolding forget

@@ -1,7 +1,7 @@
 -- Demand 2 over whole sessions: what show gives of a gather is the documentation's `gather` (Gather.antt) of its items and of what these came to, in the order
 -- of the session. Items and outcomes are read off the history and the answers of show (History: items, outcome); nothing here speaks of the store's rows.
--- A batch of results is taken result by result (`singles` of machine_sessions: a batch does what its results do one by one), so that an event has one result.
-use Prim.Native.Nat.{ℕ, _<_, _≤_}
+-- A batch of results is taken result by result, in its order (Singles.antt): that is the order in which its items arrive.
+use Prim.Native.Nat.{ℕ, _<_}
 use mathlib.Core.Path.{_≡_}
 use mathlib.Core.Bool.{Bool, true, false}
 use mathlib.Core.List.{List, [], _∷_, _++_}
@@ -13,8 +13,9 @@ use Rattle.asyncio.specs.declared.Error.{Error}
 use Rattle.machine.specs.Events.{Result}
 use Rattle.machine.specs.Machine.{Event, Shown}
 use Rattle.machine.specs.Gather.{Outcome, returned, raised, Arrival, Gathered, waiting, listed, propagated, gather}
-use Rattle.machine.specs.History.{says, outcome, error-of, items}
+use Rattle.machine.specs.History.{outcome, error-of, items}
 use Rattle.machine.specs.Sessions.{Sent, Session, begun, send, session, AllSentInRange}
+use Rattle.machine.specs.Singles.{singles}
 use Rattle.machine.specs.DemandThree.{look}
 
 -- what object o has come to after a session
@@ -109,11 +110,6 @@ arrivals-from x (e ∷ es) g = let y : Session = send x e in arrivals-in x y g +
 
 -- ---- the claim
 
--- an event has one result
-unfoldable pub Single : List Sent → Type 0
-Single [] = Unit {0}
-Single (e ∷ es) = (length (says (e .event) .results) ≤ 1) × Single es
-
 -- the error that an await raises for an object in use: a coroutine, a pending external, an awaited gather
 unfoldable pub reuse-of : Shown → Option Error
 reuse-of (Shown.a-coroutine x f) = some Error.CoroutineReuse
@@ -143,12 +139,12 @@ pub record Reused (es : List Sent) (g : ℕ) (e : Error) : Type 0 where
   pub failed : look (send (session before) commit .store) g ≡ Shown.a-gather-failed e
   pub reuse : ReuseAt (send (session before) commit) g e
 
--- What show gives of gather g after the events.
-abbrev pub GatherRight : List Sent → ℕ → Type 0
-GatherRight es g =
-    (seen (look (session es .store) g) ≡ gather (items (session es .history) g) (arrivals-from begun es g))
+-- What show gives of gather g after the events es; in which order its items arrived is read off the events fs.
+abbrev pub GatherRight : List Sent → List Sent → ℕ → Type 0
+GatherRight es fs g =
+    (seen (look (session es .store) g) ≡ gather (items (session es .history) g) (arrivals-from begun fs g))
     ⊎ ((e : Error) × (look (session es .store) g ≡ Shown.a-gather-failed e) × Reused es g e)
 
--- For every list of events with single results, and every gather that was committed.
+-- For every list of events, with any batches, refused ones included, and every gather that was committed.
 abbrev pub DemandTwo : Type 0
-DemandTwo = (es : List Sent) → AllSentInRange es → Single es → (g : ℕ) → committed (look (session es .store) g) ≡ true → GatherRight es g
+DemandTwo = (es : List Sent) → AllSentInRange es → (g : ℕ) → committed (look (session es .store) g) ≡ true → GatherRight es (singles es) g

@@ -220,6 +220,8 @@ pub record EntryHonest (h : List Entry) (x : Entry) (look : ℕ → Shown) : Typ
   pub ends : (t : ℕ) → running h ≡ some 0 → ends-task (said x) ≡ true → lives (x ∷ h) t ≡ false
   pub removes : (t : ℕ) → x .event ≡ Event.cancel t → tells (x .answer) .accepts ≡ true → removes-in (x .happened) t ≡ true
   pub control : ControlHonest h x look (tells (x .answer) .control)
+  -- a resume starts no task: in waiting every live one has started
+  pub resumes : (t c f : ℕ) → x .event ≡ Event.resume → tells (x .answer) .control ≡ some (runs t (start c f)) → ⊥
 
 -- ---- what stands after a session
 

@@ -20,5 +20,6 @@ pub mod Honest
 pub mod DemandThreeTest
 pub mod HonestTest
 pub mod DemandThreeCases
+pub mod Singles
 pub mod DemandTwo
 pub mod DemandTwoCases

@@ -36,7 +36,7 @@ use Rattle.machine_laws.specs.FactLaws.{to-facts, to-test}
 use Rattle.machine_laws.specs.WordLaws.{words-facts, words-test, fine-put-object, fine-put-place, fine-put-header}
 use Rattle.machine_laws.specs.MakingLaws.{called-at, added-to, added-fits, blank, next-calls, next-header, next-sized, items-view, items-sized, value-fits, option-fits}
 use Rattle.machine_laws.specs.MakingLaws.{call-keeps, coroutine-keeps, pending-keeps, settled-keeps, gather-keeps}
-use Rattle.machine.specs.Machine.{Event, is-run, any-of, first-refusal, accept, step, in-running, in-waiting, in-both, unmade, result-unknown, full, no-number, refusals, refusal}
+use Rattle.machine.specs.Machine.{Event, is-run, any-of, first-refusal, accept, decide, step, in-running, in-waiting, in-both, unmade, result-unknown, full, no-number, refusals, refusal}
 
 -- ---- the words, when an object is added
 
@@ -184,6 +184,11 @@ sound-forget s = refl
 pub refusal-forget : (s : Store) (e : Event) → refusal (forget s) e ≡ refusal s e
 unfolding refusal
 refusal-forget s e = rw (refusals-forget s e, sound-forget s)
+
+-- An event sees nothing of the log.
+pub step-forget : (s : Store) (e : Event) → step (forget s) e ≡ step s e
+unfolding step forget
+step-forget s e = ap (λ (n : ℕ). decide n (forget s) e) (refusal-forget s e)
 
 -- ---- what leaves the store as it was leaves it sound
 

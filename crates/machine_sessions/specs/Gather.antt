@@ -20,6 +20,8 @@ pub mod GatherEvents
 pub mod LateLast
 pub mod LogApart
 pub mod Batches
+pub mod CutOutcomes
+pub mod CutGathers
 use mathlib.Core.Path.{_≡_, refl, ap, ap₂, sym, subst, _∙_}
 use mathlib.Core.Logic.{_⊎_, inl, inr}
 use mathlib.Core.Bool.{Bool, true, false, not, _&&_, _||_, true≢false}
@@ -54,9 +56,10 @@ use Rattle.machine.specs.Events.{How, Control, Switched, Result, activate, hand
 use Rattle.machine.specs.Machine.{Event, Answer, Step, Shown, switched, answer-await, end-main, task-completes, task-fails, repeat-wait, resume-with-resolved-futures, runner, unmade, first-refusal, refusals, refusal, slot-value, show-places, shown, accept, step}
 use Rattle.machine.specs.Sound.{items-below, object-in-range, places-below}
 use Rattle.machine.specs.Tests.{is-in}
-use Rattle.machine.specs.Gather.{Outcome, returned, raised}
+use Rattle.machine.specs.Gather.{Outcome, returned, raised, gather}
+use Rattle.machine.specs.Singles.{singles}
 use Rattle.machine.specs.Computes.{computes}
-use Rattle.machine.specs.History.{Entry, Making, says, said, nothing-said, tells, done-only, spawned-by, spawned-for, started-by, coroutine-of, running-coroutine, exits-unstarted, is-at, later, making, items, outcome, error-of, coroutine-outcome, completed-value, failed-error, first-reply, reply-error, Says, reply-in, reply-outcome, stored-or, shown-outcome, outcome-by}
+use Rattle.machine.specs.History.{Entry, Making, says, said, nothing-said, tells, is-none, done-only, spawned-by, spawned-for, started-by, coroutine-of, running-coroutine, exits-unstarted, is-at, later, making, items, outcome, error-of, coroutine-outcome, completed-value, failed-error, first-reply, reply-error, Says, reply-in, reply-outcome, stored-or, shown-outcome, outcome-by}
 use Rattle.machine.specs.Sessions.{Sent, Session, InRange, AllSentInRange, lent-any, happened-by, entry-of, begun, send, send-all, session}
 use Rattle.machine.specs.DemandThree.{read, shown-by, look}
 use Rattle.machine_laws.specs.TestLaws.{below}
@@ -66,6 +69,7 @@ use Rattle.machine_laws.specs.SoundLaws.{pass, refusal-rest, refusal-forget}
 use Rattle.machine_theorems.specs.Soundness.Stores.{SoundStore}
 use Rattle.machine_theorems.specs.Soundness.Sessions.{forget-sound-store, step-sound-store}
 use Rattle.machine_sessions.specs.Queue.Following.{Sends, stepped, short, sends, Following, accept-accepts, send-following, session-follows}
+use Rattle.machine_sessions.specs.Waits.{said-accepted}
 use Rattle.machine_sessions.specs.Places.Told.{Frozen, co, pends, gave, broke, many, frozen}
 use Rattle.machine_sessions.specs.Places.Agrees.{reply-row, Makes, MadeRight, Agrees}
 use Rattle.machine_sessions.specs.Places.AgreesEvents.{refused-agrees, forget-agrees}
@@ -80,13 +84,16 @@ use Rattle.machine.specs.History.{value-of}
 use lib.ListN.{getD}
 use Rattle.machine_sessions.specs.Stall.Outcomes.{outcome-of, is-there}
 use Rattle.machine.specs.DemandThree.{read, shown-by, delivered, none-open, Demand3}
-use Rattle.machine.specs.DemandTwo.{came, committed, is-late, Single, reuse-of, ReuseAt, GatherRight, DemandTwo}
+use Rattle.machine.specs.DemandTwo.{came, committed, seen, is-late, arrivals-from, reuse-of, ReuseAt, GatherRight, DemandTwo}
 use Rattle.machine_sessions.specs.DemandThree.{demand-three}
 use Rattle.machine_sessions.specs.Stall.WaitingSessions.{awaited-items-no-error}
 use Rattle.machine_sessions.specs.Gather.Arrivals.{head-in, tail-in}
 use Rattle.machine_sessions.specs.Gather.GatherSteps.{Delivered, NoneRaised, FailsLater, FailsAtCommit, GatherStep, Which, w-awaited, w-completed, w-failed, which, in-range-snoc, session-snoc, gather-right}
 use Rattle.machine_sessions.specs.Gather.GatherEvents.{Stays, session-stays}
 use Rattle.machine_sessions.specs.Gather.LateLast.{InPlace, item-place, item-committed, item-not-runner, item-late}
+use Rattle.machine_sessions.specs.Gather.Batches.{lent-entry, batch, Single, few-said, singles-in-range, singles-single}
+use Rattle.machine_sessions.specs.Gather.CutOutcomes.{singles-look}
+use Rattle.machine_sessions.specs.Gather.CutGathers.{singles-items, singles-reused}
 use Rattle.machine_sessions.specs.Gather.FailingSessions.{ShownMoves, ShowsCommitted, FailedItem, FirstFailed, Reused, a-coroutine, an-external, a-gather, GatherFails, session-fails, making-later, look-row, row-failed, IsPending, IsFailed, session-knows}
 
 -- ---- what show answers
@@ -534,9 +541,18 @@ module _ (ps : List Sent) (s : Sent) (j : AllSentInRange ps) (i : InRange (s .ev
           of (Event.show p) e c = absurd-some c
           of Event.eager e c = absurd-some c
 
+  -- what is said, and what is shown after a refusal
+  said-says : tells (X .answer) .accepts ≡ true → said X ≡ says (s .event)
+  unfolding entry-of
+  said-says a = said-accepted (s .event) (lent-any (session ps .store) s .answer) (lent-any (session ps .store) s .store) a
+
+  unchanged : tells (X .answer) .accepts ≡ false → (g : ℕ) → look (y .store) g ≡ look (x .store) g
+  unfolding entry-of send
+  unchanged a g = session-stays ps s j i .refused-same a g
+
   -- ---- gather g
 
-  module _ (g : ℕ) (few : length (says (s .event) .results) ≤ 1) where
+  module _ (g : ℕ) (few : length (said X .results) ≤ 1) where
     abbrev fs : GatherFails (s .event) (look (session ps .store) g) (send (session ps) s .history) (look (send (session ps) s .store)) g
     fs = session-fails ps s j i g
 
@@ -611,6 +627,14 @@ module _ (ps : List Sent) (s : Sent) (j : AllSentInRange ps) (i : InRange (s .ev
       named : is-in o (items (session ps .history) g) ≡ true
       named = subst (λ (os : List ℕ). is-in o os ≡ true) (same-items (ap committed p ∙ (unfold committed in refl))) n
 
+      -- the event is accepted, for it changes what is shown
+      few-in : (b : Bool) → tells (X .answer) .accepts ≡ b → length (says (s .event) .results) ≤ 1
+      few-in true k = subst (λ (v : Says). length (v .results) ≤ 1) (said-says k) few
+      few-in false k = absurd (subst IsFailed (sym q ∙ (unchanged k g ∙ p)) tt)
+
+      few-results : length (says (s .event) .results) ≤ 1
+      few-results = few-in (tells (X .answer) .accepts) refl
+
       nothing : outcome (session ps .history) (look (session ps .store)) o ≡ none
       nothing = unfold came in a
 
@@ -631,9 +655,9 @@ module _ (ps : List Sent) (s : Sent) (j : AllSentInRange ps) (i : InRange (s .ev
       -- and z is e
       early-same : NewError o z → is-late (raised e) ≡ false → z ≡ e
       early-same (at-first-run d) l = not-late d
-      early-same (of-runner k r d w) l = own-same (s .event) e z few brought (subst (Brings (s .event)) (sym w) (script k d)) l m
-      early-same (by-reply d w) l = own-same (s .event) e z few brought d l m
-      early-same (of-awaited us r d w) l = own-same (s .event) e z few brought w l m
+      early-same (of-runner k r d w) l = own-same (s .event) e z few-results brought (subst (Brings (s .event)) (sym w) (script k d)) l m
+      early-same (by-reply d w) l = own-same (s .event) e z few-results brought d l m
+      early-same (of-awaited us r d w) l = own-same (s .event) e z few-results brought w l m
       early-same (of-pending d) l = absurd (item-committed ps s j i g o vs e p q named nothing d)
 
     fails-behind : (e : Error) (vs : List (Option Value)) → look (x .store) g ≡ Shown.a-gather-awaited vs → look (y .store) g ≡ Shown.a-gather-failed e → FailsLater x y g e
@@ -676,12 +700,27 @@ module _ (ps : List Sent) (s : Sent) (j : AllSentInRange ps) (i : InRange (s .ev
         by (w-completed vs p) = let k = moved (Shown.a-gather-completed vs) p in absurd (subst IsFailed (sym q ∙ k .1) tt)
         by (w-failed r p) = inl (p ∙ ap Shown.a-gather-failed (same-error r e (sym (moved (Shown.a-gather-failed r) p) ∙ q)))
 
-    fails-at-commit : (e : Error) → committed (look (x .store) g) ≡ false → look (y .store) g ≡ Shown.a-gather-failed e → ReuseAt y g e ⊎ FailsAtCommit y g e
-    fails-at-commit e c q = by (look (x .store) g) refl
+    -- a gather that fails at its commit was pending
+    pub pending-before : (e : Error) → committed (look (x .store) g) ≡ false → look (y .store) g ≡ Shown.a-gather-failed e → look (x .store) g ≡ Shown.a-gather-pending
+    pending-before e c q = by (look (x .store) g) refl
       where
         not-moved : {l : Shown} → Shown.a-gather-failed e ≡ l → (IsFailed l → ⊥) → ⊥
         not-moved w n = n (subst IsFailed w tt)
 
+        by : (l : Shown) → look (x .store) g ≡ l → look (x .store) g ≡ Shown.a-gather-pending
+        by (Shown.a-coroutine k f) w = absurd (subst (ShownMoves (Shown.a-coroutine k f)) q (moved _ w))
+        by Shown.an-external-pending w = absurd (subst (ShownMoves Shown.an-external-pending) q (moved _ w))
+        by (Shown.an-external-resolved v) w = absurd (not-moved (subst (ShownMoves (Shown.an-external-resolved v)) q (moved _ w)) (λ z. z))
+        by (Shown.an-external-failed r) w = absurd (not-moved (subst (ShownMoves (Shown.an-external-failed r)) q (moved _ w)) (λ z. z))
+        by Shown.a-gather-pending w = w
+        by (Shown.a-gather-awaited vs) w = absurd (true≢false (sym (committed-on (Shown.a-gather-awaited vs) tt) ∙ (ap committed (sym w) ∙ c)))
+        by (Shown.a-gather-completed vs) w = absurd (true≢false (sym (committed-on (Shown.a-gather-completed vs) tt) ∙ (ap committed (sym w) ∙ c)))
+        by (Shown.a-gather-failed r) w = absurd (true≢false (sym (committed-on (Shown.a-gather-failed r) tt) ∙ (ap committed (sym w) ∙ c)))
+        by Shown.nothing w = absurd (session-stays ps s j i .not-failed g e w (unfold send in q))
+
+    fails-at-commit : (e : Error) → committed (look (x .store) g) ≡ false → look (y .store) g ≡ Shown.a-gather-failed e → ReuseAt y g e ⊎ FailsAtCommit y g e
+    fails-at-commit e c q = at-commit (fs .pending e (pending-before e c q) q)
+      where
         at-commit : FirstFailed (y .history) (look (y .store)) g e → ReuseAt y g e ⊎ FailsAtCommit y g e
         at-commit f = of (f .raises)
           where
@@ -699,17 +738,6 @@ module _ (ps : List Sent) (s : Sent) (j : AllSentInRange ps) (i : InRange (s .ev
             of : (outcome (y .history) (look (y .store)) (f .item) ≡ some (raised e)) ⊎ Reused (look (y .store) (f .item)) e → ReuseAt y g e ⊎ FailsAtCommit y g e
             of (inl k) = inr (record { at = length (f .left); within = low; raises = ap (came y) it ∙ (unfold came in k); left = quiet })
             of (inr k) = inl (record { at = length (f .left); within = low; left = quiet; in-use = ap (λ (o : ℕ). reuse-of (look (y .store) o)) it ∙ reused-of (look (y .store) (f .item)) e k })
-
-        by : (l : Shown) → look (x .store) g ≡ l → ReuseAt y g e ⊎ FailsAtCommit y g e
-        by (Shown.a-coroutine k f) w = absurd (subst (ShownMoves (Shown.a-coroutine k f)) q (moved _ w))
-        by Shown.an-external-pending w = absurd (subst (ShownMoves Shown.an-external-pending) q (moved _ w))
-        by (Shown.an-external-resolved v) w = absurd (not-moved (subst (ShownMoves (Shown.an-external-resolved v)) q (moved _ w)) (λ z. z))
-        by (Shown.an-external-failed r) w = absurd (not-moved (subst (ShownMoves (Shown.an-external-failed r)) q (moved _ w)) (λ z. z))
-        by Shown.a-gather-pending w = at-commit (fs .pending e w q)
-        by (Shown.a-gather-awaited vs) w = absurd (true≢false (sym (committed-on (Shown.a-gather-awaited vs) tt) ∙ (ap committed (sym w) ∙ c)))
-        by (Shown.a-gather-completed vs) w = absurd (true≢false (sym (committed-on (Shown.a-gather-completed vs) tt) ∙ (ap committed (sym w) ∙ c)))
-        by (Shown.a-gather-failed r) w = absurd (true≢false (sym (committed-on (Shown.a-gather-failed r) tt) ∙ (ap committed (sym w) ∙ c)))
-        by Shown.nothing w = absurd (session-stays ps s j i .not-failed g e w (unfold send in q))
 
     pub gather-step : GatherStep x y g
     gather-step =
@@ -734,7 +762,24 @@ fresh-not g = by (look-row (begun .store) g (session-follows [] tt .whole)) (ses
     by (inl b) l = absurd (not-suc-le-zero {n = 0} (omega (arith, b .0, l)))
     by (inr b) l = ap committed (b .1)
 
--- For every list of events with single results, and every gather that was committed.
+-- ---- every list of events
+
+-- single results
+single-right : (es : List Sent) → AllSentInRange es → Single es → (g : ℕ) → committed (look (session es .store) g) ≡ true → GatherRight es es g
+single-right es i w g c = gather-right g (λ ps s a b d. gather-step ps s a b g d) (fresh-not g) es i w c
+
+-- no result commits a gather
+result-commits-none : (ps : List Sent) (r : Result) (l : List ℕ) (g : ℕ) (e : Error) → AllSentInRange ps → committed (look (session ps .store) g) ≡ false
+    → look (send (session ps) (batch (r ∷ []) l) .store) g ≡ Shown.a-gather-failed e → ⊥
+unfolding InRange entry-of says is-none
+result-commits-none ps r l g e j c q =
+    true≢false (session-fails ps (batch (r ∷ []) l) j tt g .committing e
+    (pending-before ps (batch (r ∷ []) l) j tt g (few-said (lent-entry (session ps .store) (batch (r ∷ []) l)) (λ a. omega arith)) e c q) q)
+
+-- For every list of events, and every gather that was committed.
 pub demand-two : DemandTwo
-unfolding Single
-demand-two es i w g c = gather-right g (λ ps s a b d. gather-step ps s a b g (d .0)) (fresh-not g) es i w c
+demand-two es i g c = by (single-right (singles es) (singles-in-range es i) (singles-single es i) g (ap committed (singles-look es i g) ∙ c))
+  where
+    by : GatherRight (singles es) (singles es) g → GatherRight es (singles es) g
+    by (inl x) = inl (ap seen (sym (singles-look es i g)) ∙ (x ∙ ap (λ (os : List ℕ). gather os (arrivals-from begun (singles es) g)) (singles-items es i g c)))
+    by (inr x) = inr (x .0, sym (singles-look es i g) ∙ x .1, singles-reused es i g (x .0) (λ ps r l j. result-commits-none ps r l g (x .0) j) (x .2))

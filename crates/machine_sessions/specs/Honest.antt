@@ -17,6 +17,7 @@ pub mod HonestAwait
 pub mod HonestMakes
 pub mod HonestHolds
 pub mod HonestEntries
+pub mod HonestResume
 pub mod HonestCommit
 use mathlib.Core.Path.{_≡_, ap, sym, _∙_}
 use mathlib.Core.List.{List}
@@ -31,6 +32,7 @@ use Rattle.machine.specs.Honest.{ToldHonest, HonestSessions}
 use Rattle.machine_sessions.specs.Honest.GivenHonest.{session-blocked, told-value, told-raises}
 use Rattle.machine_sessions.specs.Honest.HonestHolds.{IsHanded}
 use Rattle.machine_sessions.specs.Honest.HonestEntries.{sent-entry, honest-sessions-from}
+use Rattle.machine_sessions.specs.Honest.HonestResume.{resume-starts-none}
 
 -- what a task is handed: a value or an error
 told : (es : List Sent) (e : Sent) → AllSentInRange es → InRange (e .event) → (t : ℕ) (a : How) → tells (sent-entry es e .answer) .control ≡ some (runs t a) → IsHanded a
@@ -43,4 +45,5 @@ told es e i j t (inline c) q h = absurd h
 
 -- For every list of events and one more, refused ones included, with any call lists.
 pub honest-sessions : HonestSessions
-honest-sessions = honest-sessions-from told session-blocked
+unfolding entry-of
+honest-sessions = honest-sessions-from told session-blocked (λ es e i j t c f q. resume-starts-none es e i j t c f q)

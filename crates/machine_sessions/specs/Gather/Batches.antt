@@ -17,22 +17,23 @@ use Rattle.asyncio.specs.States.{pick}
 use Rattle.asyncio.specs.Kinds.{kind, is-completed}
 use Rattle.machine.specs.Store.{Store, LogEntry, object, header, forget}
 use Rattle.machine.specs.Events.{Result, apply-result, apply-future-results}
-use Rattle.machine.specs.Machine.{Event, Answer, Step, in-both, any-of, result-unknown, bad-result, refusals, first-refusal, refusal, accept, decide, step}
+use Rattle.machine.specs.Machine.{Event, Answer, Step, in-both, any-of, result-unknown, bad-result, refusals, first-refusal, refusal, accept, step}
 use Rattle.machine.specs.Sound.{sound, is-ended, value-known, runs-now}
 use Rattle.machine_laws.specs.Views.{Sized}
 use Rattle.machine_laws.specs.Facts.{Nothing}
 use Rattle.machine_laws.specs.TestLaws.{is-true, not-not, and-true, or-left, or-right}
 use Rattle.machine_laws.specs.DeliveryLaws.{absurd-some}
 use Rattle.machine_laws.specs.MachineLaws.{accepted-step, refused-step}
-use Rattle.machine_laws.specs.SoundLaws.{pass, refusal-sound, refusal-rest, refusal-forget}
+use Rattle.machine_laws.specs.SoundLaws.{pass, refusal-sound, refusal-rest, refusal-forget, step-forget}
 use Rattle.machine_theorems.specs.Soundness.PutObject.{value-stays}
 use Rattle.machine_theorems.specs.Soundness.Stores.{SoundStore, SoundDuring, during-of, sound-store-sound}
 use Rattle.machine_theorems.specs.Soundness.Results.{AllApply, result-keeps}
 use Rattle.machine_theorems.specs.Soundness.Preserved.{results-apply}
 use Rattle.machine_theorems.specs.Soundness.Sessions.{forget-sound-store, step-sound-store, fresh-sound-store}
 use Rattle.machine.specs.Lent.{Lent, slices-right, lengths-right, written, lent-as, lent-by, lent-step, lent-read}
-use Rattle.machine.specs.History.{Entry, tells, done-only}
+use Rattle.machine.specs.History.{Entry, Says, says, nothing-said, said, tells, done-only}
 use Rattle.machine.specs.Sessions.{InRange, AllSentInRange, Sent, is-read, read-lent, lent-any, happened-by, entry-of, Session, begun, send, send-all, session}
+use Rattle.machine.specs.Singles.{batch-of, accepted-batch, each-alone, cut-by, cut, singles-from, singles}
 use Rattle.machine_sessions.specs.Queue.Following.{Sends, stepped, short, sends}
 use Rattle.machine_sessions.specs.Gather.LogApart.{onto, results-onto, forgotten-onto}
 
@@ -164,51 +165,6 @@ pub batch-happens : (s : Store) (r : Result) (rs : List Result) → SoundStore s
     → step s (Event.results (r ∷ rs)) .store .log ≡ step (step s (Event.results (r ∷ [])) .store) (Event.results rs) .store .log ++ step s (Event.results (r ∷ [])) .store .log
 batch-happens s r rs h e = ap (λ (u : Store). u .log) (batch-is s r rs h e)
 
--- ---- sessions: the events, with each accepted batch cut
-
--- the results of a batch
-unfoldable pub batch-of : Event → Option (List Result)
-batch-of (Event.coroutine f) = none
-batch-of Event.call = none
-batch-of (Event.pending c r) = none
-batch-of (Event.settled v) = none
-batch-of (Event.gather os) = none
-batch-of (Event.await o) = none
-batch-of (Event.complete v) = none
-batch-of (Event.fail n) = none
-batch-of (Event.results rs) = some rs
-batch-of Event.resume = none
-batch-of (Event.cancel t) = none
-batch-of (Event.show o) = none
-batch-of Event.eager = none
-
--- of one that the answer accepts
-unfoldable pub accepted-batch : Answer → Event → Option (List Result)
-accepted-batch a e = pick (tells a .accepts) (batch-of e) none
-
--- each result in a batch of its own, with the same list lent
-unfoldable pub each-alone : List Result → List ℕ → List Sent
-each-alone [] l = []
-each-alone (r ∷ rs) l = record { event = Event.results (r ∷ []); list = l } ∷ each-alone rs l
-
--- an event that is no accepted batch stays
-unfoldable pub cut-by : Sent → Option (List Result) → List Sent
-cut-by e none = e ∷ []
-cut-by e (some rs) = each-alone rs (e .list)
-
--- an event sent to the store s
-unfoldable pub cut : Store → Sent → List Sent
-cut s e = cut-by e (accepted-batch (lent-any s e .answer) (e .event))
-
--- the events sent one after the other, the first to the store s
-unfoldable pub singles-from : Store → List Sent → List Sent
-singles-from s [] = []
-singles-from s (e ∷ es) = cut s e ++ singles-from (lent-any s e .store) es
-
--- the events of a session
-unfoldable pub singles : List Sent → List Sent
-singles es = singles-from (begun .store) es
-
 -- ---- what is said and what happens in a session
 
 -- events and their answers, the last first
@@ -248,10 +204,6 @@ pub record IsCut (y x : Session) : Type 0 where
 -- what an event adds to the history
 abbrev pub lent-entry : Store → Sent → Entry
 lent-entry s e = entry-of (e .event) (lent-any s e .answer) (lent-any s e .store)
-
-pub step-forget : (s : Store) (e : Event) → step (forget s) e ≡ step s e
-unfolding step forget
-step-forget s e = ap (λ (n : ℕ). decide n (forget s) e) (refusal-forget s e)
 
 -- two events that leave the same but for the log, and add the same entry
 record Twin (e : Event) (x y : Lent) : Type 0 where
@@ -297,7 +249,7 @@ entry-alike s u e q = sym (lent-twin s e .entry) ∙ (ap (λ (z : Store). lent-e
 -- ---- one event of the session, and its pieces
 
 -- a batch as it is sent
-abbrev batch : List Result → List ℕ → Sent
+abbrev pub batch : List Result → List ℕ → Sent
 batch rs l = record { event = Event.results rs; list = l }
 
 -- on memory of its lengths, with a list of its length, a batch that no refusal meets
@@ -402,7 +354,7 @@ batch-is-results (Event.show o) rs q = absurd-some q
 batch-is-results Event.eager rs q = absurd-some q
 
 -- an accepted batch is one, and accepted
-accepted-batch-is : (a : Answer) (e : Event) (rs : List Result) → accepted-batch a e ≡ some rs → (tells a .accepts ≡ true) × (e ≡ Event.results rs)
+pub accepted-batch-is : (a : Answer) (e : Event) (rs : List Result) → accepted-batch a e ≡ some rs → (tells a .accepts ≡ true) × (e ≡ Event.results rs)
 unfolding accepted-batch
 accepted-batch-is a e rs q = by (tells a .accepts) refl q
   where
@@ -465,7 +417,7 @@ module _ (x y : Session) (h : SoundStore (x .store)) (c : IsCut y x) where
             ∙ (ap (λ (k : List LogEntry). step (x .store) (Event.results rs) .store .log ++ k) (c .same-happened) ∙ sym (happened-entry _ _ (x .history) entry));
       }
 
-  cut-does : (e : Sent) → IsCut (send-all y (cut (x .store) e)) (send x e)
+  pub cut-does : (e : Sent) → IsCut (send-all y (cut (x .store) e)) (send x e)
   unfolding cut cut-by send-all
   cut-does e = by (accepted-batch (lent-any (x .store) e .answer) (e .event)) refl
     where
@@ -480,14 +432,14 @@ module _ (x y : Session) (h : SoundStore (x .store)) (c : IsCut y x) where
 -- ---- all events
 
 -- the store of a session stays sound
-send-sound : (s : Store) (e : Sent) → SoundStore s → InRange (e .event) → SoundStore (lent-any s e .store)
+pub send-sound : (s : Store) (e : Sent) → SoundStore s → InRange (e .event) → SoundStore (lent-any s e .store)
 send-sound s e h i = by (sends s e (h .memory .sized))
   where
     by : Sends s e → SoundStore (lent-any s e .store)
     by (stepped p q) = subst SoundStore (sym p) (step-sound-store s h (e .event) i)
     by (short p q) = subst SoundStore (sym p) h
 
-send-append : (es fs : List Sent) (x : Session) → send-all x (es ++ fs) ≡ send-all (send-all x es) fs
+pub send-append : (es fs : List Sent) (x : Session) → send-all x (es ++ fs) ≡ send-all (send-all x es) fs
 unfolding send-all
 send-append [] fs x = refl
 send-append (e ∷ es) fs x = send-append es fs (send x e)
@@ -500,11 +452,16 @@ singles-cut (e ∷ es) x y i h c =
     subst (λ (z : Session). IsCut z (send-all (send x e) es)) (sym (send-append (cut (x .store) e) (singles-from (lent-any (x .store) e .store) es) y))
     (singles-cut es (send x e) n (i .1) (send-sound (x .store) e h (i .0)) (cut-does x y h c e))
 
+-- the beginning
+pub begun-cut : IsCut begun begun
+unfolding begun talk cut-talk
+begun-cut = record { same-store = refl; same-talk = refl; same-happened = refl }
+
 -- A session, and the one with each accepted batch cut into single results (an empty one into none): the stores are the same but for the log, the answers are
 -- the same, and the same happens.
 pub session-cut : (es : List Sent) → AllSentInRange es → IsCut (session (singles es)) (session es)
 unfolding session singles begun
-session-cut es i = singles-cut es _ _ i fresh-sound-store (record { same-store = refl; same-talk = unfold talk cut-talk in refl; same-happened = refl })
+session-cut es i = singles-cut es begun begun i fresh-sound-store begun-cut
 
 -- numbers that are in range stay so
 append-in-range : (es fs : List Sent) → AllSentInRange es → AllSentInRange fs → AllSentInRange (es ++ fs)
@@ -533,6 +490,77 @@ from-in-range (e ∷ es) s i =
 pub singles-in-range : (es : List Sent) → AllSentInRange es → AllSentInRange (singles es)
 unfolding singles
 singles-in-range es i = from-in-range es _ i
+
+-- ---- single results
+
+-- every event says one result at most, the first sent to session x; what a refused one names is not said
+unfoldable pub SingleFrom : Session → List Sent → Type 0
+SingleFrom x [] = Unit {0}
+SingleFrom x (e ∷ es) = (length (said (lent-entry (x .store) e) .results) ≤ 1) × SingleFrom (send x e) es
+
+-- the events of a session
+unfoldable pub Single : List Sent → Type 0
+Single es = SingleFrom begun es
+
+single-append : (es fs : List Sent) (x : Session) → SingleFrom x es → SingleFrom (send-all x es) fs → SingleFrom x (es ++ fs)
+unfolding SingleFrom send-all
+single-append [] fs x a b = b
+single-append (e ∷ es) fs x a b = (a .0, single-append es fs (send x e) (a .1) b)
+
+-- an event that is no batch
+no-results : (e : Event) → batch-of e ≡ none → length (says e .results) ≤ 1
+unfolding batch-of says nothing-said
+no-results (Event.coroutine f) q = omega arith
+no-results Event.call q = omega arith
+no-results (Event.pending c r) q = omega arith
+no-results (Event.settled v) q = omega arith
+no-results (Event.gather os) q = omega arith
+no-results (Event.await o) q = omega arith
+no-results (Event.complete v) q = omega arith
+no-results (Event.fail n) q = omega arith
+no-results (Event.results rs) q = absurd-some (sym q)
+no-results Event.resume q = omega arith
+no-results (Event.cancel t) q = omega arith
+no-results (Event.show o) q = omega arith
+no-results Event.eager q = omega arith
+
+-- what is said: what the event says, or nothing
+pub few-said : (x : Entry) → (tells (x .answer) .accepts ≡ true → length (says (x .event) .results) ≤ 1) → length (said x .results) ≤ 1
+unfolding said nothing-said
+few-said x k = by (tells (x .answer) .accepts) refl
+  where
+    by : (b : Bool) → tells (x .answer) .accepts ≡ b → length ((elim b as (λ (c : Bool). Says) [ true ↦ says (x .event) | false ↦ nothing-said ]) .results) ≤ 1
+    by true q = k q
+    by false q = omega arith
+
+-- an entry of no accepted batch
+uncut-said : (x : Entry) → accepted-batch (x .answer) (x .event) ≡ none → length (said x .results) ≤ 1
+unfolding accepted-batch
+uncut-said x q = few-said x (λ a. no-results (x .event) (ap (λ (b : Bool). pick b (batch-of (x .event)) none) (sym a) ∙ q))
+
+alone-single : (rs : List Result) (l : List ℕ) (y : Session) → SingleFrom y (each-alone rs l)
+unfolding SingleFrom each-alone entry-of says
+alone-single [] l y = tt
+alone-single (r ∷ rs) l y = (few-said (lent-entry (y .store) (batch (r ∷ []) l)) (λ a. omega arith), alone-single rs l (send y (batch (r ∷ []) l)))
+
+cut-single : (e : Sent) (b : Option (List Result)) (y : Session) → (b ≡ none → length (said (lent-entry (y .store) e) .results) ≤ 1) → SingleFrom y (cut-by e b)
+unfolding SingleFrom cut-by
+cut-single e none y k = (k refl, tt)
+cut-single e (some rs) y k = alone-single rs (e .list) y
+
+from-single : (es : List Sent) (x y : Session) → AllSentInRange es → SoundStore (x .store) → IsCut y x → SingleFrom y (singles-from (x .store) es)
+unfolding SingleFrom singles-from AllSentInRange send cut
+from-single [] x y i h c = tt
+from-single (e ∷ es) x y i h c =
+    single-append (cut (x .store) e) (singles-from (lent-any (x .store) e .store) es) y
+    (cut-single e (accepted-batch (lent-any (x .store) e .answer) (e .event)) y
+    (λ q. subst (λ (z : Entry). length (said z .results) ≤ 1) (sym (entry-alike (y .store) (x .store) e (c .same-store))) (uncut-said (lent-entry (x .store) e) (unfold entry-of in q))))
+    (from-single es (send x e) (send-all y (cut (x .store) e)) (i .1) (send-sound (x .store) e h (i .0)) (cut-does x y h c e))
+
+-- A session with its batches cut says one result at a time.
+pub singles-single : (es : List Sent) → AllSentInRange es → Single (singles es)
+unfolding Single singles begun
+singles-single es i = from-single es begun begun i fresh-sound-store begun-cut
 
 -- The stores.
 pub singles-leave : (es : List Sent) → AllSentInRange es → forget (session (singles es) .store) ≡ forget (session es .store)

@@ -1,5 +1,5 @@
 -- What one more event of a session does to every gather, in the words of show and of outcomes.
-use mathlib.Core.Path.{_≡_, refl, ap, ap₂, sym, subst, _∙_}
+use mathlib.Core.Path.{_≡_, refl, ap, sym, subst, _∙_}
 use mathlib.Core.Logic.{_⊎_, inl, inr}
 use mathlib.Core.Bool.{Bool, true, false, not, _&&_, _||_, true≢false}
 use mathlib.Core.List.{List, [], _∷_, _++_}
@@ -31,7 +31,7 @@ use Rattle.machine.specs.Store.{Store, view, task, object, place, header, forge
 use Rattle.machine.specs.Scheduler.{AwaitedGather, as-awaited, bit, pending-call-ids}
 use Rattle.machine.specs.Delivery.{value-or}
 use Rattle.machine.specs.Events.{How, Control, Switched, Result, activate, handle-task-completion, handle-task-failure, resume-next}
-use Rattle.machine.specs.Machine.{Event, Answer, Step, Shown, switched, answer-await, end-main, task-completes, task-fails, repeat-wait, resume-with-resolved-futures, runner, unmade, first-refusal, refusals, refusal, slot-value, show-places, shown, accept, step}
+use Rattle.machine.specs.Machine.{Event, Answer, Step, Shown, switched, answer-await, end-main, task-completes, task-fails, repeat-wait, resume-with-resolved-futures, runner, unmade, first-refusal, refusals, refusal, slot-value, shown, accept, step}
 use Rattle.machine.specs.Sound.{items-below, object-in-range, places-below}
 use Rattle.machine.specs.Tests.{is-in}
 use Rattle.machine.specs.Gather.{Outcome, returned, raised}
@@ -42,7 +42,7 @@ use Rattle.machine.specs.DemandThree.{read, shown-by, look}
 use Rattle.machine_laws.specs.TestLaws.{below}
 use Rattle.machine_laws.specs.DeliveryLaws.{absurd-some, awaited-object}
 use Rattle.machine_laws.specs.MachineLaws.{accepted-step, refused-step}
-use Rattle.machine_laws.specs.SoundLaws.{pass, refusal-rest, refusal-forget}
+use Rattle.machine_laws.specs.SoundLaws.{pass, refusal-rest, refusal-forget, step-forget}
 use Rattle.machine_theorems.specs.Soundness.Stores.{SoundStore}
 use Rattle.machine_theorems.specs.Soundness.Sessions.{forget-sound-store, step-sound-store}
 use Rattle.machine_sessions.specs.Queue.Following.{Sends, stepped, short, sends, Following, accept-accepts, send-following, session-follows}
@@ -680,38 +680,9 @@ same-gather e was h shows g q =
     }
 
 -- the log is not shown
-places-forget : (s : Store) (f m j c : ℕ) → show-places (forget s) f m j c ≡ show-places s f m j c
-unfolding show-places
-places-forget s f m j zero = refl
-places-forget s f m j (suc c) = ap₂ (λ (x : Option Value) (y : List (Option Value)). x ∷ y) (unfold place forget in refl) (places-forget s f m (j + 1) c)
-
-shown-forget : (s : Store) (x : Object) → shown (forget s) x ≡ shown s x
-unfolding shown
-shown-forget s Object.Unmade = refl
-shown-forget s (Object.Coroutine f x) = refl
-shown-forget s (Object.ExternalFuture c (ExternalFutureState.Pending a r)) = refl
-shown-forget s (Object.ExternalFuture c (ExternalFutureState.Resolved v)) = refl
-shown-forget s (Object.ExternalFuture c (ExternalFutureState.Failed e)) = refl
-shown-forget s (Object.GatherFuture f n GatherState.Pending) = refl
-shown-forget s (Object.GatherFuture f n (GatherState.Awaited a m)) = ap Shown.a-gather-awaited (places-forget s f m 0 n)
-shown-forget s (Object.GatherFuture f n GatherState.Completed) = ap Shown.a-gather-completed (places-forget s f 0 0 n)
-shown-forget s (Object.GatherFuture f n (GatherState.Failed e)) = refl
-
-pub look-forget : (s : Store) (g : ℕ) → SoundStore s → look (forget s) g ≡ look s g
-look-forget s g w = by (look-row s g w) (look-row (forget s) g (forget-sound-store s w))
-  where
-    same-made : header (forget s) .made ≡ header s .made
-    same-made = unfold header forget in refl
-
-    same-row : object (forget s) g ≡ object s g
-    same-row = unfold object forget in refl
-
-    by : ((g < header s .made) × (look s g ≡ shown s (object s g))) ⊎ ((header s .made ≤ g) × (look s g ≡ Shown.nothing))
-        → ((g < header (forget s) .made) × (look (forget s) g ≡ shown (forget s) (object (forget s) g))) ⊎ ((header (forget s) .made ≤ g) × (look (forget s) g ≡ Shown.nothing)) → look (forget s) g ≡ look s g
-    by (inl p) (inl q) = q .1 ∙ (ap (shown (forget s)) same-row ∙ (shown-forget s (object s g) ∙ sym (p .1)))
-    by (inl p) (inr q) = absurd (not-suc-le-zero {n = 0} (omega (arith, p .0, q .0, same-made)))
-    by (inr p) (inl q) = absurd (not-suc-le-zero {n = 0} (omega (arith, p .0, q .0, same-made)))
-    by (inr p) (inr q) = q .1 ∙ sym (p .1)
+pub look-forget : (s : Store) (g : ℕ) → look (forget s) g ≡ look s g
+unfolding look read
+look-forget s g = ap (λ (x : Step). shown-by (x .answer)) (step-forget s (Event.show g))
 
 -- ---- one step
 
@@ -736,7 +707,7 @@ step-fails h s e w a k i = by (ℕ-discrete (refusal s e) 0)
         subst (StepFails h s e) (sym (accepted-step s e r))
         (record {
           knows = step-knows h z wz (forget-agrees h s a) (forget-knows h s k) blank e (accept z e) (accept-fails z wz e i rz) (accept-accepts z e) rz;
-          gathers = λ g. subst (λ (v : Shown). GatherFails e v (entry-of e (accept z e .answer) (accept z e .store) ∷ h) (look (accept z e .store)) g) (look-forget s g w)
+          gathers = λ g. subst (λ (v : Shown). GatherFails e v (entry-of e (accept z e .answer) (accept z e .store) ∷ h) (look (accept z e .store)) g) (look-forget s g)
               (accepted-gather h z wz (forget-agrees h s a) (forget-knows h s k) blank e i rz sound g);
         })
       where
@@ -749,7 +720,7 @@ step-fails h s e w a k i = by (ℕ-discrete (refusal s e) 0)
         subst (StepFails h s e) (sym (refused-step s e (refusal s e) refl ne))
         (record {
           knows = refused-knows h s z e (refusal s e) (unfold header forget in refl) (λ t. unfold task forget in refl) (λ o. unfold object forget in refl) k;
-          gathers = λ g. same-gather e (look s g) _ (look z) g (look-forget s g w);
+          gathers = λ g. same-gather e (look s g) _ (look z) g (look-forget s g);
         })
 
 -- ---- sessions

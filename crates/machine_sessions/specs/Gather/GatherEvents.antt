@@ -1,4 +1,5 @@
--- What one event of a session does to what has come of objects and to the items of gathers: `came-stays`, `items-stay`; and a gather that is made does not fail.
+-- What one event of a session does to what has come of objects and to the items of gathers: `came-stays`, `items-stay`; a gather that is made does not fail, and
+-- a refused event changes nothing that is shown.
 use mathlib.Core.Path.{_≡_, refl, ap, ap₂, sym, subst, _∙_}
 use mathlib.Core.Logic.{_⊎_, inl, inr}
 use mathlib.Core.Bool.{Bool, true, false, not, _&&_, _||_, true≢false}
@@ -116,6 +117,7 @@ module _ (h : List Entry) (s : Store) (w : SoundStore s) (ag : Agrees h s) (k : 
     pub outcomes : (o : ℕ) (z : Outcome Value Error) → outcome h (look s) o ≡ some z → outcome (at-end a u ∷ h) (look u) o ≡ some z
     pub same-items : (g : ℕ) → g < header s .made → items (at-end a u ∷ h) g ≡ items h g
     pub not-failed : (g : ℕ) (r : Error) → look s g ≡ Shown.nothing → look u g ≡ Shown.a-gather-failed r → ⊥
+    pub refused-same : tells a .accepts ≡ false → (g : ℕ) → look u g ≡ look s g
 
   -- refused: rows as they were
   refused-stays : (n : ℕ) (u : Store) → SoundStore u → Agrees (at-end (Answer.refused n) u ∷ h) u → ((o : ℕ) → object u o ≡ object s o) → header u .made ≡ header s .made → ((o : ℕ) → look u o ≡ look s o) → Stays (Answer.refused n) u
@@ -124,6 +126,7 @@ module _ (h : List Entry) (s : Store) (w : SoundStore s) (ag : Agrees h s) (k : 
         outcomes = λ o z q. by o z q (ltb o (header s .made)) refl;
         same-items = λ g l. items-later (at-end (Answer.refused n) u) h g (none-at g);
         not-failed = λ g r p q. not-nothing (sym (sym p ∙ (sym (lk g) ∙ q)));
+        refused-same = λ n g. lk g;
       }
     where
       none-at : (g : ℕ) → is-at (tells (at-end (Answer.refused n) u .answer) .makes) g ≡ false
@@ -275,6 +278,7 @@ module _ (h : List Entry) (s : Store) (w : SoundStore s) (ag : Agrees h s) (k : 
         outcomes = accepted-stays h s w ag k blank e i rf w' al;
         same-items = λ g l. unfold entry-of in (items-later z h g (made-apart (header s .made) g (tells (accept s e .answer) .makes) (accept-makes s e) l));
         not-failed = accepted-failed;
+        refused-same = λ n g. absurd (true≢false (sym (accept-accepts s e) ∙ n));
       }
 
 -- ---- sessions
@@ -284,7 +288,7 @@ module _ (h : List Entry) (s : Store) (w : SoundStore s) (ag : Agrees h s) (k : 
   zs = forget s
 
   same-look : look zs ≡ look s
-  same-look = fun-ext (λ g. look-forget s g w)
+  same-look = fun-ext (λ g. look-forget s g)
 
   step-stays : Agrees (entry-of e (step s e .answer) (step s e .store) ∷ h) (step s e .store) → Stays h s w ag k al e (step s e .answer) (step s e .store)
   unfolding forget header
@@ -294,7 +298,7 @@ module _ (h : List Entry) (s : Store) (w : SoundStore s) (ag : Agrees h s) (k : 
       Left x = Agrees (entry-of e (x .answer) (x .store) ∷ h) (x .store) → Stays h s w ag k al e (x .answer) (x .store)
 
       by : Dec (refusal s e ≡ 0) → Left (step s e)
-      by (yes r) = subst Left (sym (accepted-step s e r)) (λ a. record { outcomes = λ o z q. x .outcomes o z (ap (λ (f : ℕ → Shown). outcome h f o) same-look ∙ q); same-items = x .same-items; not-failed = λ g z p q. x .not-failed g z (ap (λ (f : ℕ → Shown). f g) same-look ∙ p) q })
+      by (yes r) = subst Left (sym (accepted-step s e r)) (λ a. record { outcomes = λ o z q. x .outcomes o z (ap (λ (f : ℕ → Shown). outcome h f o) same-look ∙ q); same-items = x .same-items; not-failed = λ g z p q. x .not-failed g z (ap (λ (f : ℕ → Shown). f g) same-look ∙ p) q; refused-same = λ n g. x .refused-same n g ∙ ap (λ (f : ℕ → Shown). f g) same-look })
         where
           rz : refusal zs e ≡ 0
           rz = refusal-forget s e ∙ r

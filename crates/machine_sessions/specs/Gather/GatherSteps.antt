@@ -13,10 +13,11 @@ use Rattle.machine_laws.specs.DeliveryLaws.{absurd-some}
 use Rattle.machine.specs.Tests.{is-in}
 use Rattle.machine.specs.Machine.{Shown}
 use Rattle.machine.specs.Gather.{Outcome, returned, raised, Arrival, Gathered, waiting, listed, propagated, outcome-of, first-raised, in-order, gather}
-use Rattle.machine.specs.History.{value-of, error-of, items}
+use Rattle.machine.specs.History.{said, value-of, error-of, items}
 use Rattle.machine.specs.Sessions.{Sent, Session, begun, send, send-all, session, InRange, AllSentInRange}
 use Rattle.machine.specs.DemandThree.{look, none-open}
-use Rattle.machine.specs.DemandTwo.{came, committed, values, seen, arrivals-of, is-late, in-turn, arrivals-by, arrivals-in, arrivals-from, Single, ReuseAt, Reused, GatherRight}
+use Rattle.machine.specs.DemandTwo.{came, committed, values, seen, arrivals-of, is-late, in-turn, arrivals-by, arrivals-in, arrivals-from, ReuseAt, Reused, GatherRight}
+use Rattle.machine_sessions.specs.Gather.Batches.{lent-entry, SingleFrom, Single}
 use Rattle.machine_sessions.specs.Gather.Arrivals.{in-cons, Came, Arrivals, AllReturned, none-raised, all-returned-++, or-then, outcome-++, new-of, outcome-new, new-returned, in-turn-all, All, all-++, Raises, Quiet, first-behind, first-stays, Turn, first-in-turn, all-own, raises-own, first-from-left, listed-all, waiting-one}
 
 -- ---- what one event does to gather g
@@ -298,9 +299,9 @@ pub session-snoc : (ps : List Sent) (s : Sent) → session (ps ++ (s ∷ [])) �
 unfolding session send-all
 session-snoc ps s = send-all-++ begun ps (s ∷ [])
 
-module _ (g : ℕ) (steps : (ps : List Sent) (s : Sent) → AllSentInRange ps → InRange (s .event) → Single (s ∷ []) → GatherStep (session ps) (send (session ps) s) g) where
-  pub run-so-far : (ps es : List Sent) (xs : Arrivals) → AllSentInRange ps → AllSentInRange es → Single es → SoFar ps (session ps) g xs → SoFar (ps ++ es) (send-all (session ps) es) g (xs ++ arrivals-from (session ps) es g)
-  unfolding AllSentInRange Single send-all arrivals-from
+module _ (g : ℕ) (steps : (ps : List Sent) (s : Sent) → AllSentInRange ps → InRange (s .event) → length (said (lent-entry (session ps .store) s) .results) ≤ 1 → GatherStep (session ps) (send (session ps) s) g) where
+  pub run-so-far : (ps es : List Sent) (xs : Arrivals) → AllSentInRange ps → AllSentInRange es → SingleFrom (session ps) es → SoFar ps (session ps) g xs → SoFar (ps ++ es) (send-all (session ps) es) g (xs ++ arrivals-from (session ps) es g)
+  unfolding AllSentInRange SingleFrom send-all arrivals-from
   run-so-far ps [] xs a b w k = subst (λ (zs : List Sent). SoFar zs (session ps) g (xs ++ [])) (sym (nil ps)) (subst (SoFar ps (session ps) g) (sym (nil-a xs)) k)
     where
       nil : (zs : List Sent) → zs ++ [] ≡ zs
@@ -312,8 +313,8 @@ module _ (g : ℕ) (steps : (ps : List Sent) (s : Sent) → AllSentInRange ps �
       nil-a (z ∷ zs) = ap (λ (ws : Arrivals). z ∷ ws) (nil-a zs)
   run-so-far ps (e ∷ es) xs a b w k =
       let y : Session = send (session ps) e in
-      let j : SoFar (ps ++ (e ∷ [])) y g (xs ++ arrivals-in (session ps) y g) = next-so-far ps e g (steps ps e a (b .0) (w .0, tt)) xs k in
-      let r = run-so-far (ps ++ (e ∷ [])) es (xs ++ arrivals-in (session ps) y g) (in-range-snoc ps e a (b .0)) (b .1) (w .1)
+      let j : SoFar (ps ++ (e ∷ [])) y g (xs ++ arrivals-in (session ps) y g) = next-so-far ps e g (steps ps e a (b .0) (w .0)) xs k in
+      let r = run-so-far (ps ++ (e ∷ [])) es (xs ++ arrivals-in (session ps) y g) (in-range-snoc ps e a (b .0)) (b .1) (subst (λ (z : Session). SingleFrom z es) (sym (session-snoc ps e)) (w .1))
       (subst (λ (z : Session). SoFar (ps ++ (e ∷ [])) z g (xs ++ arrivals-in (session ps) y g)) (sym (session-snoc ps e)) j) in
       subst (λ (zs : List Sent). SoFar zs (send-all y es) g (xs ++ (arrivals-in (session ps) y g ++ arrivals-from y es g))) (++-assoc ps (e ∷ []) es)
       (subst (SoFar ((ps ++ (e ∷ [])) ++ es) (send-all y es) g) (arrivals-assoc xs (arrivals-in (session ps) y g) (arrivals-from y es g))
@@ -336,7 +337,7 @@ module _ (g : ℕ) (steps : (ps : List Sent) (s : Sent) → AllSentInRange ps �
   gathered ls xs z q = unfold gather in (ap (λ (w : Option Error). elim w [ none ↦ in-order xs ls | some e ↦ propagated e ]) q)
 
   -- What show gives of the gather after the events.
-  right-by : (es : List Sent) → SoFar es (session es) g (arrivals-from begun es g) → committed (look (session es .store) g) ≡ true → GatherRight es g
+  right-by : (es : List Sent) → SoFar es (session es) g (arrivals-from begun es g) → committed (look (session es .store) g) ≡ true → GatherRight es es g
   right-by es (uncommitted c e) d = absurd (true≢false (sym d ∙ c))
   right-by es (is-awaited vs q d o w) c =
       let r : Gathers es waiting = sym (gathered _ _ none (none-raised _ _ (w .all-returned) []) ∙ waiting-one _ (came (session es)) _ (w .known) (w .none-raised) (subst (λ (us : List (Option Value)). none-open us ≡ false) d o)) in
@@ -348,6 +349,6 @@ module _ (g : ℕ) (steps : (ps : List Sent) (s : Sent) → AllSentInRange ps �
   right-by es (is-failed e q (inl w)) c = inl (ap seen q ∙ (seen-failed e ∙ sym (gathered _ _ (some e) w)))
   right-by es (is-failed e q (inr w)) c = inr (e, q, w)
 
-  pub gather-right : committed (look (begun .store) g) ≡ false → (es : List Sent) → AllSentInRange es → Single es → committed (look (session es .store) g) ≡ true → GatherRight es g
-  unfolding session send-all AllSentInRange
+  pub gather-right : committed (look (begun .store) g) ≡ false → (es : List Sent) → AllSentInRange es → Single es → committed (look (session es .store) g) ≡ true → GatherRight es es g
+  unfolding session send-all AllSentInRange Single
   gather-right u es a w c = right-by es (run-so-far [] es [] tt a w (uncommitted u refl)) c

@@ -47,7 +47,7 @@ use Rattle.machine_sessions.specs.Places.AgreesSessions.{send-agrees, se
 use Rattle.machine_sessions.specs.Honest.Spawned.{Shape, shape, is-used, is-co, spawned-as}
 use Rattle.machine_sessions.specs.Honest.HonestIdle.{Idle}
 use Rattle.machine_sessions.specs.Honest.HonestEnds.{ControlLeft, none-plain, makes-later, spawns-later}
-use Rattle.machine_sessions.specs.Honest.HonestHolds.{EntryLogged, IsHanded, entry-honest, Kept, Stepped, accept-stepped}
+use Rattle.machine_sessions.specs.Honest.HonestHolds.{EntryLogged, IsHanded, ResumesOn, entry-honest, Kept, Stepped, accept-stepped}
 
 -- ---- a refused event
 
@@ -344,13 +344,13 @@ sent-entry es e = entry-of (e .event) (lent-any (session es .store) e .answer) (
 pub entry-logged : (es : List Sent) (e : Sent) → AllSentInRange es → InRange (e .event) → EntryLogged (session es .history) (sent-entry es e)
 entry-logged es e i j = sent-on (session es) e j (session-honest es i) .entry
 
--- With what is handed to a task that runs on, all of it.
+-- With what is handed to a task that runs on, and what a resume does, all of it.
 pub entry-honest-from : (es : List Sent) (e : Sent) (look : ℕ → Shown) → AllSentInRange es → InRange (e .event)
     → ((t : ℕ) (a : How) → tells (sent-entry es e .answer) .control ≡ some (runs t a) → IsHanded a → ToldHonest (session es .history) (sent-entry es e) look t a)
-    → EntryHonest (session es .history) (sent-entry es e) look
-entry-honest-from es e look i j g = entry-honest (session es .history) (sent-entry es e) look g (entry-logged es e i j)
+    → ResumesOn (sent-entry es e) → EntryHonest (session es .history) (sent-entry es e) look
+entry-honest-from es e look i j g r = entry-honest (session es .history) (sent-entry es e) look g r (entry-logged es e i j)
 
-live-words : (x : Session) → Following x → (t : ℕ) → lives (x .history) t ≡ live (x .store) t
+pub live-words : (x : Session) → Following x → (t : ℕ) → lives (x .history) t ≡ live (x .store) t
 unfolding lives-by forget live header task
 live-words x f t = f .tracked .alive t
 
@@ -366,11 +366,12 @@ state-honest-from es i b =
       alive = λ t d. live-not-refused (session es .store) t (f .whole) (sym (live-words (session es) f t) ∙ d);
     }
 
--- With both, what is asked of every session.
+-- With all three, what is asked of every session.
 pub honest-sessions-from :
     ((es : List Sent) (e : Sent) → AllSentInRange es → InRange (e .event) → (t : ℕ) (a : How) → tells (sent-entry es e .answer) .control ≡ some (runs t a) → IsHanded a
     → ToldHonest (session es .history) (sent-entry es e) (look (send (session es) e .store)) t a)
     → ((es : List Sent) → AllSentInRange es → (t : ℕ) → lives (session es .history) t ≡ true
     → stays-blocked (session es .history) t ≡ (left-waiting (session es .history) t && waits-at (look (session es .store)) (last-await (session es .history) t)))
+    → ((es : List Sent) (e : Sent) → AllSentInRange es → InRange (e .event) → ResumesOn (sent-entry es e))
     → HonestSessions
-honest-sessions-from told stuck es e i j = (entry-honest-from es e (look (send (session es) e .store)) i j (told es e i j), state-honest-from es i (stuck es i))
+honest-sessions-from told stuck on es e i j = (entry-honest-from es e (look (send (session es) e .store)) i j (told es e i j) (on es e i j), state-honest-from es i (stuck es i))

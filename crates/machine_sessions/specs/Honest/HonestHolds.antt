@@ -77,9 +77,14 @@ control-by h x look none g k = tt
 control-by h x look (some (runs t a)) g k = (k .0, k .1, told-by h x look t a (g t a refl) (k .2))
 control-by h x look (some (waits cs)) g k = tt
 
--- With it, all of the last entry is honest.
-pub entry-honest : (h : List Entry) (x : Entry) (look : ℕ → Shown) → ((t : ℕ) (a : How) → tells (x .answer) .control ≡ some (runs t a) → IsHanded a → ToldHonest h x look t a) → EntryLogged h x → EntryHonest h x look
-entry-honest h x look g k =
+-- no resume starts a task
+abbrev pub ResumesOn : Entry → Type 0
+ResumesOn x = (t c f : ℕ) → x .event ≡ Event.resume → tells (x .answer) .control ≡ some (runs t (start c f)) → ⊥
+
+-- With both, all of the last entry is honest.
+pub entry-honest : (h : List Entry) (x : Entry) (look : ℕ → Shown) → ((t : ℕ) (a : How) → tells (x .answer) .control ≡ some (runs t a) → IsHanded a → ToldHonest h x look t a) → ResumesOn x → EntryLogged h x
+    → EntryHonest h x look
+entry-honest h x look g r k =
     record {
       log = k .log;
       blocks = k .blocks;
@@ -87,6 +92,7 @@ entry-honest h x look g k =
       ends = k .ends;
       removes = k .removes;
       control = control-by h x look (tells (x .answer) .control) g (k .control);
+      resumes = r;
     }
 
 -- ---- what a session has until it ends
