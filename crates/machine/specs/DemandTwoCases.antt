@@ -2,41 +2,77 @@
 -- refutes `DemandTwo` (must-fail/).
 use Prim.Native.Nat.{ℕ}
 use mathlib.Core.Path.{_≡_, refl}
-use mathlib.Core.List.{List, [], _∷_}
+use mathlib.Core.List.{List, [], _∷_, map}
 use lib.ListN.{replicate}
 use Rattle.asyncio.specs.declared.Value.{Value}
 use Rattle.asyncio.specs.declared.Error.{Error}
 use Rattle.asyncio.specs.declared.OptionValue.{OptionValue}
 use Rattle.machine.specs.Events.{Result}
 use Rattle.machine.specs.Machine.{Event}
-use Rattle.machine.specs.Gather.{Gathered, propagated, outcome-of, first-raised, put-first, in-order, gather}
+use Rattle.machine.specs.Gather.{Gathered, listed, propagated, outcome-of, first-raised, put-first, in-order, gather}
 use Rattle.machine.specs.History.{items}
 use Rattle.machine.specs.Sessions.{Sent, begun, session}
+use Rattle.machine.specs.Singles.{batch-of, accepted-batch, each-alone, cut-by, cut, singles-from, singles}
 use Rattle.machine.specs.DemandThree.{look}
 use Rattle.machine.specs.DemandTwo.{came, committed, values, seen, arrives, arrivals-of, is-late, early, late, in-turn, arrivals-by, arrivals-in, arrivals-from}
 use Rattle.machine.specs.DemandThreeCases.{e, res, pend, computes3}
 
--- gather g after the events: as it is shown, and as the documentation has it
-unfoldable shown-and-documented : List Sent → ℕ → Gathered Value Error × Gathered Value Error
-shown-and-documented es g = (seen (look (session es .store) g), gather (items (session es .history) g) (arrivals-from begun es g))
+-- a session, and a gather of it
+pub record Gathering : Type 0 where
+  pub events : List Sent
+  pub gathered : ℕ
+
+-- the gather after the events: as it is shown, and as the documentation has it
+unfoldable pub shown-and-documented : Gathering → Gathered Value Error × Gathered Value Error
+shown-and-documented x =
+    (seen (look (session (x .events) .store) (x .gathered)), gather (items (session (x .events) .history) (x .gathered)) (arrivals-from begun (singles (x .events)) (x .gathered)))
 
 unfoldable computes2 : Unit {0}
-unfolding computes3 came committed values seen arrives arrivals-of is-late early late in-turn arrivals-by arrivals-in arrivals-from outcome-of first-raised put-first in-order gather shown-and-documented
+unfolding computes3 came committed values seen arrives arrivals-of is-late early late in-turn arrivals-by arrivals-in arrivals-from outcome-of first-raised put-first in-order gather batch-of accepted-batch each-alone cut-by cut singles-from singles shown-and-documented
 computes2 = tt
 
--- P11: two calls fail, the first reply first
-abbrev first-fails : List Sent
-first-fails =
-    e Event.call ∷ e (pend 0) ∷ e Event.call ∷ e (pend 1) ∷ e (Event.gather (1 ∷ 0 ∷ [])) ∷ e (Event.await 2) ∷ e (Event.results (res 0 1 7 ∷ [])) ∷ e (Event.results (res 1 1 8 ∷ [])) ∷ []
+-- calls 0 and 1 in a gather, call 1 first; then these events
+abbrev two-calls : List Sent → Gathering
+two-calls es =
+    record {
+      events = e Event.call ∷ e (pend 0) ∷ e Event.call ∷ e (pend 1) ∷ e (Event.gather (1 ∷ 0 ∷ [])) ∷ e (Event.await 2) ∷ es;
+      gathered = 2;
+    }
 
 -- an item that has failed before the commit
-abbrev failed-before : List Sent
-failed-before = e Event.call ∷ e (pend 0) ∷ e (Event.results (res 0 1 7 ∷ [])) ∷ e (Event.gather (0 ∷ [])) ∷ e (Event.await 1) ∷ []
+abbrev failed-before : Gathering
+failed-before =
+    record {
+      events = e Event.call ∷ e (pend 0) ∷ e (Event.results (res 0 1 7 ∷ [])) ∷ e (Event.gather (0 ∷ [])) ∷ e (Event.await 1) ∷ [];
+      gathered = 1;
+    }
 
-first-is-shown : shown-and-documented first-fails 2 ≡ (propagated (Error.Host 7), propagated (Error.Host 7))
-unfolding computes2
-first-is-shown = refl
+-- Task 1 fails, and task 2, whose coroutine main has awaited in the meantime, fails at its first run in the same event: both are of gather 2. (The outer
+-- gather 4 has failed before, so that the first error wakes nobody.)
+abbrev both-errors : Gathering
+both-errors =
+    record {
+      events = e (Event.coroutine 7) ∷ e (Event.coroutine 8) ∷ e (Event.gather (0 ∷ 1 ∷ [])) ∷ e Event.call ∷ e (pend 0) ∷ e (Event.gather (2 ∷ 3 ∷ [])) ∷ e (Event.await 4)
+          ∷ e (Event.await 1) ∷ e (Event.results (res 0 1 7 ∷ [])) ∷ e (Event.fail 5) ∷ [];
+      gathered = 2;
+    }
 
-commit-is-shown : shown-and-documented failed-before 1 ≡ (propagated (Error.Host 7), propagated (Error.Host 7))
+-- P11, in two batches and in one; two values in one batch
+abbrev gatherings : List Gathering
+gatherings =
+    two-calls (e (Event.results (res 0 1 7 ∷ [])) ∷ e (Event.results (res 1 1 8 ∷ [])) ∷ [])
+    ∷ two-calls (e (Event.results (res 0 1 7 ∷ res 1 1 8 ∷ [])) ∷ [])
+    ∷ two-calls (e (Event.results (res 0 0 7 ∷ res 1 0 8 ∷ [])) ∷ [])
+    ∷ failed-before
+    ∷ both-errors
+    ∷ []
+
+-- what is shown and what is documented
+abbrev alike : Gathered Value Error → Gathered Value Error × Gathered Value Error
+alike x = (x, x)
+
+pub gatherings-right : map shown-and-documented gatherings ≡
+    alike (propagated (Error.Host 7)) ∷ alike (propagated (Error.Host 7)) ∷ alike (listed (Value.Plain 8 ∷ Value.Plain 7 ∷ [])) ∷ alike (propagated (Error.Host 7))
+    ∷ alike (propagated (Error.Script 5)) ∷ []
 unfolding computes2
-commit-is-shown = refl
+gatherings-right = refl
