@@ -22,7 +22,7 @@ exec((ROOT / "tools/rename.py").read_text().rpartition("\nmain()")[0], TABLES)
 
 # functions that went to another crate or module, or got another name, since 0b03690
 MOVED = {
-    ("awaiting", "lib", "await_object"): ("session_events", "lib", "await_object"),
+    ("awaiting", "lib", "await_object"): ("session_run", "lib", "await_object"),
     ("step_read", "lib", "show_sound"): ("step_read", "lib", "show"),
     ("step_read", "lib", "eager_sound"): ("step_read", "lib", "eager"),
     ("step_checks", "lent", "tell"): ("step_checks", "lent", "write_calls"),
@@ -30,8 +30,13 @@ MOVED = {
     ("exec_poll", "item", "is_open"): ("scheduler", "places", "is_open"),
     ("exec_poll", "item", "is_open_here"): ("scheduler", "places", "is_open_here"),
 }
-for crate, names in (("externals", "call pending settled"), ("host", "results resume"), ("makers", "coroutine gather"), ("script", "complete fail")):
-    MOVED |= {(crate, "lib", name): ("session_events", "lib", name) for name in names.split()}
+for crate, names, now in (
+    ("externals", "call pending settled", "session_make"),
+    ("host", "results resume", "session_host"),
+    ("makers", "coroutine gather", "session_make"),
+    ("script", "complete fail", "session_run"),
+):
+    MOVED |= {(crate, "lib", name): (now, "lib", name) for name in names.split()}
 MOVED |= {("step_event", "waiting", name): ("step_event", "host", name) for name in "results resume is_ended".split()}
 # a field that got another name
 FIELDS = {"waiting": "open-places"}

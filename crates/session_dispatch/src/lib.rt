@@ -6,6 +6,7 @@ use step_checks::lent::lengths_right;
 use step_event::Answered;
 use step_event::Event;
 use step_event::step;
+ghost use mathlib.Core.List.{[], _∷_};
 ghost use Rattle.step_event.specs.EventOf.{event-of};
 ghost use Rattle.step_event.specs.LentStep.{LentStep};
 
@@ -38,4 +39,27 @@ pub fn dispatch(
         answer: Answer::Refused(1),
         calls: 0,
     }
+}
+
+// The same for an event that has no items and no results.
+pub fn dispatch_plain(
+    tasks: &mut [u64],
+    objects: &mut [u64],
+    places: &mut [u64],
+    calls: &mut [u64],
+    queue: ReadyQueue,
+    event: Event,
+) -> Answered
+    ensures { λ r. ⌜ LentStep tasks objects places calls queue (event-of (0 ∷ []) (0 ∷ []) event) r ⌝ }
+{
+    dispatch(
+        tasks,
+        objects,
+        places,
+        calls,
+        queue,
+        event,
+        &[0; 1],
+        &[0; 1],
+    )
 }
