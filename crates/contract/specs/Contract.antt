@@ -7,6 +7,7 @@ use lib.ListN.{length}
 use denote.Triple.Both.{Both}
 use denote.Ref.{RefT, now}
 use Rattle.asyncio.specs.Limits.{tasks-length, objects-length, places-length}
+use Rattle.queue.specs.Queue.{queue-of}
 use Rattle.queue.specs.declared.ReadyQueue.{ReadyQueue}
 use Rattle.machine.specs.Store.{Store, LogEntry, store-of}
 
@@ -23,6 +24,20 @@ Slice = Both Words Words
 -- one that the call does not take, and so leaves
 abbrev pub kept : List ℕ → Slice
 kept ws = let x : Words = record { ptr = (0, 0); name = 0; now = ws } in record { entry = x; exit = x }
+
+-- ---- a lent queue: its array and its count
+
+-- the count
+abbrev pub Count : Type 0
+Count = Both (RefT ℕ) (RefT ℕ)
+
+-- the queue before the call
+abbrev pub queue-before : Slice → Count → ReadyQueue
+queue-before ids len = queue-of (now (ids .entry)) (now (len .entry))
+
+-- the queue after the call
+abbrev pub queue-after : Slice → Count → ReadyQueue
+queue-after ids len = queue-of (now (ids .exit)) (now (len .exit))
 
 -- ---- what a call asks: the slices have document 01's lengths
 

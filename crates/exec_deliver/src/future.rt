@@ -7,15 +7,16 @@ use asyncio::HeapId;
 use asyncio::Object;
 use asyncio::OptionValue;
 use asyncio::Value;
-use queue::ReadyQueue;
 use scheduler::tasks::FoundObject;
+use scheduler::tasks::FoundTask;
 use scheduler::tasks::take_pending_external;
 ghost use mathlib.Core.Path.{_≡_};
 ghost use Prim.Native.Nat.{_<_};
 ghost use Rattle.asyncio.specs.Limits.{object-limit};
 ghost use Rattle.machine.specs.Delivery.{value-or, resolve-future, fail-future};
 ghost use Rattle.exec_deliver.specs.Futures.{resolve-at, fail-at};
-ghost use Rattle.contract.specs.Contract.{Lengths₂, Lengths, Lengths₂And, LengthsAnd, Changes, ChangesKeepingPlaces};
+ghost use Rattle.exec_deliver.specs.Delivers.{Wakes, WakesKeepingPlaces};
+ghost use Rattle.contract.specs.Contract.{Lengths₂, Lengths, Lengths₂And, LengthsAnd};
 
 // A stored result replaces the host's value.
 fn value_or(stored: OptionValue, value: Value) -> Value
@@ -27,33 +28,32 @@ fn value_or(stored: OptionValue, value: Value) -> Value
     }
 }
 
-// Object `o`, if it is a pending external, is resolved, and its awaiter served.
+// Object `o`, if it is a pending external, is resolved, and its awaiter served: the task that was woken.
 fn resolve_at(
     tasks: &mut [u64],
     objects: &mut [u64],
     places: &mut [u64],
-    queue: ReadyQueue,
     o: HeapId,
     value: Value,
-) -> ReadyQueue
+) -> FoundTask
     requires { ⌜ LengthsAnd tasks objects places (o .0 < object-limit) ⌝ }
-    ensures { λ r. ⌜ Changes tasks objects places queue r (λ s. resolve-at s (o .0) value) ⌝ }
+    ensures { λ r. ⌜ Wakes tasks objects places (λ s. resolve-at s (o .0) value) r ⌝ }
 {
     let x = rows::tables::load_object(objects, o);
     match x {
-        Object::Unmade => queue,
+        Object::Unmade => FoundTask::Nothing,
         Object::Coroutine {
             function: _,
             state: _,
-        } => queue,
+        } => FoundTask::Nothing,
         Object::GatherFuture {
             first: _,
             count: _,
             state: _,
-        } => queue,
+        } => FoundTask::Nothing,
         Object::ExternalFuture { call, state } => match state {
-            ExternalFutureState::Resolved(_) => queue,
-            ExternalFutureState::Failed(_) => queue,
+            ExternalFutureState::Resolved(_) => FoundTask::Nothing,
+            ExternalFutureState::Failed(_) => FoundTask::Nothing,
             ExternalFutureState::Pending { awaiter, stored } => {
                 let v = value_or(stored, value);
                 rows::tables::store_object(
@@ -64,60 +64,52 @@ fn resolve_at(
                         state: ExternalFutureState::Resolved(v),
                     },
                 );
-                let d = deliver_awaiter_success(tasks, objects, places, queue, awaiter, v);
-                d.queue
+                deliver_awaiter_success(tasks, objects, places, awaiter, v)
             }
         },
     }
 }
 
-// A call that is not pending is ignored.
+// The task that the call's end woke, whom the caller queues. A call that is not pending is ignored.
 pub fn resolve_future(
     tasks: &mut [u64],
     objects: &mut [u64],
     places: &mut [u64],
-    queue: ReadyQueue,
     call: u32,
     value: Value,
-) -> ReadyQueue
+) -> FoundTask
     requires { ⌜ Lengths tasks objects places ⌝ }
-    ensures { λ r. ⌜ Changes tasks objects places queue r
-        (λ s. resolve-future s call value) ⌝ }
+    ensures { λ r. ⌜ Wakes tasks objects places
+        (λ s. resolve-future s call value) r ⌝ }
 {
     let found = take_pending_external(objects, call);
     match found {
-        FoundObject::Nothing => queue,
-        FoundObject::At(o) => resolve_at(tasks, objects, places, queue, o, value),
+        FoundObject::Nothing => FoundTask::Nothing,
+        FoundObject::At(o) => resolve_at(tasks, objects, places, o, value),
     }
 }
 
-// Object `o`, if it is a pending external, has failed, and its awaiter is served. A stored result is dropped.
-fn fail_at(
-    tasks: &mut [u64],
-    objects: &mut [u64],
-    queue: ReadyQueue,
-    o: HeapId,
-    error: Error,
-) -> ReadyQueue
+// Object `o`, if it is a pending external, has failed, and its awaiter is served: the task that was woken. A stored result is dropped.
+fn fail_at(tasks: &mut [u64], objects: &mut [u64], o: HeapId, error: Error) -> FoundTask
     requires { ⌜ Lengths₂And tasks objects (o .0 < object-limit) ⌝ }
-    ensures { λ r. ⌜ ChangesKeepingPlaces tasks objects queue r
-        (λ s. fail-at s (o .0) error) ⌝ }
+    ensures { λ r. ⌜ WakesKeepingPlaces tasks objects
+        (λ s. fail-at s (o .0) error) r ⌝ }
 {
     let x = rows::tables::load_object(objects, o);
     match x {
-        Object::Unmade => queue,
+        Object::Unmade => FoundTask::Nothing,
         Object::Coroutine {
             function: _,
             state: _,
-        } => queue,
+        } => FoundTask::Nothing,
         Object::GatherFuture {
             first: _,
             count: _,
             state: _,
-        } => queue,
+        } => FoundTask::Nothing,
         Object::ExternalFuture { call, state } => match state {
-            ExternalFutureState::Resolved(_) => queue,
-            ExternalFutureState::Failed(_) => queue,
+            ExternalFutureState::Resolved(_) => FoundTask::Nothing,
+            ExternalFutureState::Failed(_) => FoundTask::Nothing,
             ExternalFutureState::Pending { awaiter, stored: _ } => {
                 rows::tables::store_object(
                     objects,
@@ -127,28 +119,21 @@ fn fail_at(
                         state: ExternalFutureState::Failed(error),
                     },
                 );
-                let d = deliver_awaiter_failure(tasks, objects, queue, awaiter, error);
-                d.queue
+                deliver_awaiter_failure(tasks, objects, awaiter, error)
             }
         },
     }
 }
 
-// A call that is not pending is ignored.
-pub fn fail_future(
-    tasks: &mut [u64],
-    objects: &mut [u64],
-    queue: ReadyQueue,
-    call: u32,
-    error: Error,
-) -> ReadyQueue
+// The task that the call's end woke, whom the caller queues. A call that is not pending is ignored.
+pub fn fail_future(tasks: &mut [u64], objects: &mut [u64], call: u32, error: Error) -> FoundTask
     requires { ⌜ Lengths₂ tasks objects ⌝ }
-    ensures { λ r. ⌜ ChangesKeepingPlaces tasks objects queue r
-        (λ s. fail-future s call error) ⌝ }
+    ensures { λ r. ⌜ WakesKeepingPlaces tasks objects
+        (λ s. fail-future s call error) r ⌝ }
 {
     let found = take_pending_external(objects, call);
     match found {
-        FoundObject::Nothing => queue,
-        FoundObject::At(o) => fail_at(tasks, objects, queue, o, error),
+        FoundObject::Nothing => FoundTask::Nothing,
+        FoundObject::At(o) => fail_at(tasks, objects, o, error),
     }
 }

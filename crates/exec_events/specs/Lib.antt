@@ -1,3 +1,4 @@
+pub mod Ends
 pub mod EndLaws
 pub mod AwaitLaws
 pub mod Awaits

@@ -64,9 +64,10 @@ fn go_on(
         },
         Poll::Pending => {
             block_current_on(tasks, t, o);
-            let s = switch_or_yield(tasks, objects, queue);
-            let q = s.queue;
-            let control = s.control;
+            let mut q = queue;
+            let mut n = q.len;
+            let control = switch_or_yield(tasks, objects, &mut q.ids, &mut n);
+            q.len = n;
             Awaited {
                 queue: q,
                 control,

@@ -6,10 +6,10 @@ use asyncio::Object;
 use asyncio::TaskId;
 use asyncio::Value;
 use exec_deliver::climb::deliver_awaiter_success;
+use exec_deliver::task::queue_woken;
 use exec_switch::answer::Answer;
 use exec_switch::answer::Stepped;
 use exec_switch::control::Control;
-use exec_switch::control::Switched;
 use exec_switch::cycle::handle_task_failure;
 use exec_switch::cycle::resume_after_task_exit;
 use exec_switch::cycle::switch_or_yield;
@@ -24,8 +24,14 @@ ghost use Rattle.rows.specs.Tables.{object-at, object-put};
 ghost use Rattle.machine.specs.Events.{completed, handle-task-completion};
 ghost use Rattle.machine.specs.Machine.{task-completes, task-fails, resume-with-resolved-futures};
 ghost use Rattle.contract.specs.Contract.{ObjectsLength, Lengths₂, Lengths₂And, LengthsAnd};
-ghost use Rattle.exec_switch.specs.Control.{Switches};
 ghost use Rattle.exec_switch.specs.Answer.{Answers, AnswersKeepingPlaces};
+ghost use Rattle.exec_events.specs.Ends.{Switches};
+
+// The queue after a switch, and who has control.
+pub struct Switched {
+    pub queue: ReadyQueue,
+    pub control: Control,
+}
 
 // A coroutine that has completed. Any other object stays.
 fn completed(x: Object) -> Object
@@ -72,11 +78,13 @@ fn handle_task_completion(
     let awaiter = task.awaiter;
     let coroutine = task.coroutine;
     complete_coroutine(objects, coroutine);
-    let left = remove_task(tasks, queue, t);
-    let d = deliver_awaiter_success(tasks, objects, places, left, awaiter, value);
-    let given = d.queue;
-    let woken = d.woken;
-    resume_after_task_exit(tasks, objects, given, woken)
+    let mut q = remove_task(tasks, queue, t);
+    let woken = deliver_awaiter_success(tasks, objects, places, awaiter, value);
+    let mut n = q.len;
+    queue_woken(&mut q.ids, &mut n, woken);
+    let control = resume_after_task_exit(tasks, objects, &mut q.ids, &mut n, woken);
+    q.len = n;
+    Switched { queue: q, control }
 }
 
 // Task `t` completes. Main's end is the session's.
@@ -127,9 +135,10 @@ pub fn fail(
             answer: Answer::FinishedError(error),
         };
     }
-    let s = handle_task_failure(tasks, objects, queue, t, error);
-    let q = s.queue;
-    let control = s.control;
+    let mut q = queue;
+    let mut n = q.len;
+    let control = handle_task_failure(tasks, objects, &mut q.ids, &mut n, t, error);
+    q.len = n;
     Stepped {
         queue: q,
         answer: Answer::Switched(control),
@@ -157,9 +166,10 @@ pub fn resume_with_resolved_futures(
             answer: Answer::Switched(Control::Waits),
         };
     }
-    let s = switch_or_yield(tasks, objects, queue);
-    let q = s.queue;
-    let control = s.control;
+    let mut q = queue;
+    let mut n = q.len;
+    let control = switch_or_yield(tasks, objects, &mut q.ids, &mut n);
+    q.len = n;
     Stepped {
         queue: q,
         answer: Answer::Switched(control),

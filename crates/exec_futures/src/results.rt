@@ -6,46 +6,47 @@ use asyncio::words::to_value;
 use exec_deliver::future::fail_future;
 use exec_deliver::future::resolve_future;
 use queue::ReadyQueue;
+use scheduler::tasks::FoundTask;
 ghost use Prim.Native.Nat.{_≤_, _+_};
 ghost use lib.ListN.{length};
 ghost use Rattle.machine.specs.Events.{apply-result, apply-future-results};
 ghost use Rattle.exec_futures.specs.Results.{result-at, results-in};
+ghost use Rattle.exec_deliver.specs.Delivers.{Wakes};
 ghost use Rattle.contract.specs.Contract.{Lengths, LengthsAnd, Changes};
 
-// The result at byte `at`. Kinds: 0 return, 1 error, 2 still a future, 3 not found, 4 module file.
+// The result at byte `at`, applied: the task that it woke. Kinds: 0 return, 1 error, 2 still a future, 3 not found, 4 module file.
 fn apply_result(
     tasks: &mut [u64],
     objects: &mut [u64],
     places: &mut [u64],
-    queue: ReadyQueue,
     results: &[u8],
     at: usize,
-) -> ReadyQueue
+) -> FoundTask
     requires { ⌜ LengthsAnd tasks objects places (at + 14 ≤ length (now results)) ⌝ }
-    ensures { λ r. ⌜ Changes tasks objects places queue r
-        (λ s. apply-result s (result-at (now (results .entry)) at)) ⌝ }
+    ensures { λ r. ⌜ Wakes tasks objects places
+        (λ s. apply-result s (result-at (now (results .entry)) at)) r ⌝ }
 {
     let call = endian::u32_at(results, at) as u32;
     let kind = endian::u8_at(results, at + 4);
     if kind == 0 {
         let tag = endian::u8_at(results, at + 5);
         let number = endian::u64_at(results, at + 6);
-        return resolve_future(tasks, objects, places, queue, call, to_value(tag, number));
+        return resolve_future(tasks, objects, places, call, to_value(tag, number));
     }
     if kind == 1 {
         let number = endian::u64_at(results, at + 6);
-        return fail_future(tasks, objects, queue, call, to_error(0, number));
+        return fail_future(tasks, objects, call, to_error(0, number));
     }
     if kind == 2 {
-        return queue;
+        return FoundTask::Nothing;
     }
     if kind == 3 {
-        return fail_future(tasks, objects, queue, call, Error::NotFound);
+        return fail_future(tasks, objects, call, Error::NotFound);
     }
-    fail_future(tasks, objects, queue, call, Error::ModuleFile)
+    fail_future(tasks, objects, call, Error::ModuleFile)
 }
 
-// One result after the other, read where they stand.
+// One result after the other, read where they stand; whom each woke goes to the queue's back.
 pub fn apply_future_results(
     tasks: &mut [u64],
     objects: &mut [u64],
@@ -61,7 +62,11 @@ pub fn apply_future_results(
     let mut left = queue;
     let mut i: usize = 0;
     while i < n {
-        left = apply_result(tasks, objects, places, left, results, i * RESULT_BYTES);
+        let woken = apply_result(tasks, objects, places, results, i * RESULT_BYTES);
+        match woken {
+            FoundTask::Nothing => {}
+            FoundTask::At(t) => left = left.push_back(t),
+        }
         i += 1;
     }
     left

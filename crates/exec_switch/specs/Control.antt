@@ -10,11 +10,10 @@ use Rattle.queue.specs.declared.ReadyQueue.{ReadyQueue}
 use Rattle.machine.specs.Store.{Store, LogEntry}
 use Rattle.machine.specs.Scheduler.{pending-calls-in}
 use Rattle.machine.specs.Events as machine
-use Rattle.contract.specs.Contract.{Slice, kept, Does, DoesKeepingPlaces, DoesKeepingLogAt, DoesOfObjectsAndQueue}
+use Rattle.contract.specs.Contract.{Slice, Count, queue-before, queue-after, kept, DoesKeepingPlaces, DoesKeepingLogAt, DoesOfObjects}
 use Rattle.scheduler.specs.declared.tasks.FoundTask.{FoundTask}
 use Rattle.exec_switch.specs.declared.control.How.{How}
 use Rattle.exec_switch.specs.declared.control.Control.{Control}
-use Rattle.exec_switch.specs.declared.control.Switched.{Switched}
 use Rattle.exec_switch.specs.declared.cycle.NewFunction.{NewFunction}
 
 -- the objects' words with another moment
@@ -59,20 +58,16 @@ FoundFits FoundTask.Nothing = Unit {0}
 
 -- ---- what a call does
 
--- The call gives control to whom f gives it.
-abbrev pub Switches : Slice → Slice → Slice → ReadyQueue → (Store → machine.Switched) → Switched → Type 0
-Switches tasks objects places queue f r = Does (λ x. x .store .log) tasks objects places queue (r .queue) (λ s. switched-of s (r .control)) f
+-- The call gives control to whom f gives it, with a lent queue, and does not take the places.
+abbrev pub SwitchesKeepingPlaces : Slice → Slice → Slice → Count → (Store → machine.Switched) → Control → Type 0
+SwitchesKeepingPlaces tasks objects ids len f r =
+    DoesKeepingPlaces (λ x. x .store .log) tasks objects (queue-before ids len) (queue-after ids len) (λ s. switched-of s r) f
 
--- The same of a call that does not take the places.
-abbrev pub SwitchesKeepingPlaces : Slice → Slice → ReadyQueue → (Store → machine.Switched) → Switched → Type 0
-SwitchesKeepingPlaces tasks objects queue f r =
-    DoesKeepingPlaces (λ x. x .store .log) tasks objects queue (r .queue) (λ s. switched-of s (r .control)) f
-
--- and logs nothing
-abbrev pub SwitchesKeepingLog : Slice → Slice → ReadyQueue → (Store → machine.Switched) → Switched → Type 0
-SwitchesKeepingLog tasks objects queue f r =
-    (ps : List ℕ) (l : List LogEntry) → DoesKeepingLogAt l tasks objects (kept ps) queue (r .queue) (λ s. switched-of s (r .control)) f
+-- The same of a call that takes no queue, and logs nothing.
+abbrev pub SwitchesKeepingLog : Slice → Slice → (Store → machine.Switched) → Control → Type 0
+SwitchesKeepingLog tasks objects f r =
+    (ps : List ℕ) (q : ReadyQueue) (l : List LogEntry) → DoesKeepingLogAt l tasks objects (kept ps) q q (λ s. switched-of s r) f
 
 -- and does not take the tasks either
-abbrev pub SwitchesOfObjects : Slice → ReadyQueue → (Store → machine.Switched) → Switched → Type 0
-SwitchesOfObjects objects queue f r = DoesOfObjectsAndQueue objects queue (r .queue) (λ s. switched-of s (r .control)) f
+abbrev pub SwitchesOfObjects : Slice → (Store → machine.Switched) → Control → Type 0
+SwitchesOfObjects objects f r = DoesOfObjects objects (λ s. switched-of s r) f

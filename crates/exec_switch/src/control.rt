@@ -6,7 +6,6 @@ use asyncio::Moment;
 use asyncio::TaskId;
 use asyncio::TaskState;
 use asyncio::Value;
-use queue::ReadyQueue;
 ghost use mathlib.Core.Path.{_≡_};
 ghost use Prim.Native.Nat.{_<_};
 ghost use Rattle.asyncio.specs.Limits.{task-limit};
@@ -28,12 +27,6 @@ pub enum Control {
     Waits,
 }
 
-// The queue after a switch, and who has control.
-pub struct Switched {
-    pub queue: ReadyQueue,
-    pub control: Control,
-}
-
 // The moment of the session.
 fn set_moment(objects: &mut [u64], moment: Moment)
     requires { ⌜ ObjectsLength objects ⌝ }
@@ -53,33 +46,21 @@ fn set_moment(objects: &mut [u64], moment: Moment)
 }
 
 // Task `t` runs.
-pub(crate) fn run(
-    tasks: &mut [u64],
-    objects: &mut [u64],
-    queue: ReadyQueue,
-    t: TaskId,
-    how: How,
-) -> Switched
+pub(crate) fn run(tasks: &mut [u64], objects: &mut [u64], t: TaskId, how: How) -> Control
     requires { ⌜ Lengths₂And tasks objects (t .0 < task-limit) ⌝ }
-    ensures { λ r. ⌜ SwitchesKeepingLog tasks objects queue
+    ensures { λ r. ⌜ SwitchesKeepingLog tasks objects
         (λ s. run s (t .0) (how-of how)) r ⌝ }
 {
     scheduler::states::set_state(tasks, t, TaskState::Running);
     set_moment(objects, Moment::Running(t));
-    Switched {
-        queue,
-        control: Control::Runs { task: t, how },
-    }
+    Control::Runs { task: t, how }
 }
 
 // The host has control.
-pub(crate) fn yield_control(objects: &mut [u64], queue: ReadyQueue) -> Switched
+pub(crate) fn yield_control(objects: &mut [u64]) -> Control
     requires { ⌜ ObjectsLength objects ⌝ }
-    ensures { λ r. ⌜ SwitchesOfObjects objects queue yield r ⌝ }
+    ensures { λ r. ⌜ SwitchesOfObjects objects yield r ⌝ }
 {
     set_moment(objects, Moment::Waiting);
-    Switched {
-        queue,
-        control: Control::Waits,
-    }
+    Control::Waits
 }

@@ -1,17 +1,22 @@
 // Starting a task, failing it and resuming the next call each other; at each failed start one live task less is left.
+// The queue is lent as its array and its count: by value each level would hold several queues, and a sound chain of failures would end a thread of 2 MB.
+use crate::control::Control;
 use crate::control::How;
-use crate::control::Switched;
 use crate::control::run;
 use crate::control::yield_control;
 use asyncio::CoroutineState;
 use asyncio::Error;
 use asyncio::HeapId;
 use asyncio::Object;
+use asyncio::TASKS;
 use asyncio::TaskId;
 use asyncio::TaskState;
 use exec_deliver::climb::deliver_awaiter_failure;
-use queue::ReadyQueue;
-use scheduler::states::remove_task;
+use exec_deliver::task::queue_woken;
+use queue::front_lent;
+use queue::pop_lent;
+use queue::remove_lent;
+use scheduler::states::remove_task_lent;
 use scheduler::tasks::FoundTask;
 ghost use mathlib.Core.Path.{_≡_};
 ghost use Prim.Native.Nat.{_<_};
@@ -50,31 +55,50 @@ fn new_function(objects: &[u64], c: HeapId) -> NewFunction
 }
 
 // A ready task runs on with what was delivered, or starts. No other is activated.
-fn activate_task(tasks: &mut [u64], objects: &mut [u64], queue: ReadyQueue, t: TaskId) -> Switched
+fn activate_task(
+    tasks: &mut [u64],
+    objects: &mut [u64],
+    ids: &mut [u16; TASKS],
+    len: &mut usize,
+    t: TaskId,
+) -> Control
     requires { ⌜ Lengths₂And tasks objects (t .0 < task-limit) ⌝ }
-    ensures { λ r. ⌜ SwitchesKeepingPlaces tasks objects queue (λ s. activate s (t .0)) r ⌝ }
+    ensures { λ r. ⌜ SwitchesKeepingPlaces tasks objects ids len (λ s. activate s (t .0)) r ⌝ }
 {
     let state = rows::parts::state_at(tasks, t);
     match state {
-        TaskState::Absent => yield_control(objects, queue),
-        TaskState::Unstarted => start_task(tasks, objects, queue, t),
-        TaskState::Running => yield_control(objects, queue),
-        TaskState::Woken(v) => run(tasks, objects, queue, t, How::Value(v)),
-        TaskState::Raised(e) => run(tasks, objects, queue, t, How::Raised(e)),
-        TaskState::Blocked(_) => yield_control(objects, queue),
+        TaskState::Absent => yield_control(objects),
+        TaskState::Unstarted => start_task(tasks, objects, ids, len, t),
+        TaskState::Running => yield_control(objects),
+        TaskState::Woken(v) => run(tasks, objects, t, How::Value(v)),
+        TaskState::Raised(e) => run(tasks, objects, t, How::Raised(e)),
+        TaskState::Blocked(_) => yield_control(objects),
     }
 }
 
 // The first run of a task: a coroutine that is not new any more fails it.
-fn start_task(tasks: &mut [u64], objects: &mut [u64], queue: ReadyQueue, t: TaskId) -> Switched
+fn start_task(
+    tasks: &mut [u64],
+    objects: &mut [u64],
+    ids: &mut [u16; TASKS],
+    len: &mut usize,
+    t: TaskId,
+) -> Control
     requires { ⌜ Lengths₂And tasks objects (t .0 < task-limit) ⌝ }
-    ensures { λ r. ⌜ SwitchesKeepingPlaces tasks objects queue
+    ensures { λ r. ⌜ SwitchesKeepingPlaces tasks objects ids len
         (λ s. start-task activate s (t .0)) r ⌝ }
 {
     let c = rows::parts::coroutine_at(tasks, t);
     let f = new_function(objects, c);
     match f {
-        NewFunction::None => handle_task_failure(tasks, objects, queue, t, Error::CoroutineReuse),
+        NewFunction::None => handle_task_failure(
+            tasks,
+            objects,
+            ids,
+            len,
+            t,
+            Error::CoroutineReuse,
+        ),
         NewFunction::Some(function) => {
             rows::tables::store_object(
                 objects,
@@ -87,7 +111,6 @@ fn start_task(tasks: &mut [u64], objects: &mut [u64], queue: ReadyQueue, t: Task
             run(
                 tasks,
                 objects,
-                queue,
                 t,
                 How::Start {
                     coroutine: c,
@@ -102,48 +125,59 @@ fn start_task(tasks: &mut [u64], objects: &mut [u64], queue: ReadyQueue, t: Task
 pub fn handle_task_failure(
     tasks: &mut [u64],
     objects: &mut [u64],
-    queue: ReadyQueue,
+    ids: &mut [u16; TASKS],
+    len: &mut usize,
     t: TaskId,
     error: Error,
-) -> Switched
+) -> Control
     requires { ⌜ Lengths₂And tasks objects (t .0 < task-limit) ⌝ }
-    ensures { λ r. ⌜ SwitchesKeepingPlaces tasks objects queue
+    ensures { λ r. ⌜ SwitchesKeepingPlaces tasks objects ids len
         (λ s. handle-task-failure activate s (t .0) error) r ⌝ }
 {
     let awaiter = rows::parts::task_awaiter_at(tasks, t);
-    let d = deliver_awaiter_failure(tasks, objects, queue, awaiter, error);
-    let given = d.queue;
-    let woken = d.woken;
-    let left = remove_task(tasks, given, t);
-    resume_after_task_exit(tasks, objects, left, woken)
+    let woken = deliver_awaiter_failure(tasks, objects, awaiter, error);
+    queue_woken(ids, len, woken);
+    remove_task_lent(tasks, ids, len, t);
+    resume_after_task_exit(tasks, objects, ids, len, woken)
 }
 
 // The task that an exit woke goes ahead of the queue.
 pub fn resume_after_task_exit(
     tasks: &mut [u64],
     objects: &mut [u64],
-    queue: ReadyQueue,
+    ids: &mut [u16; TASKS],
+    len: &mut usize,
     woken: FoundTask,
-) -> Switched
+) -> Control
     requires { ⌜ Lengths₂And tasks objects (FoundFits woken) ⌝ }
-    ensures { λ r. ⌜ SwitchesKeepingPlaces tasks objects queue
+    ensures { λ r. ⌜ SwitchesKeepingPlaces tasks objects ids len
         (λ s. resume-after-task-exit activate (delivered s woken)) r ⌝ }
 {
     match woken {
-        FoundTask::Nothing => switch_or_yield(tasks, objects, queue),
-        FoundTask::At(t) => activate_task(tasks, objects, queue.remove(t), t),
+        FoundTask::Nothing => switch_or_yield(tasks, objects, ids, len),
+        FoundTask::At(t) => {
+            remove_lent(ids, len, t);
+            activate_task(tasks, objects, ids, len, t)
+        }
     }
 }
 
 // The task at the queue's front, or the host.
-pub fn switch_or_yield(tasks: &mut [u64], objects: &mut [u64], queue: ReadyQueue) -> Switched
+pub fn switch_or_yield(
+    tasks: &mut [u64],
+    objects: &mut [u64],
+    ids: &mut [u16; TASKS],
+    len: &mut usize,
+) -> Control
     requires { ⌜ Lengths₂ tasks objects ⌝ }
-    ensures { λ r. ⌜ SwitchesKeepingPlaces tasks objects queue
+    ensures { λ r. ⌜ SwitchesKeepingPlaces tasks objects ids len
         (λ s. resume-next activate s) r ⌝ }
 {
-    if queue.len == 0 {
-        return yield_control(objects, queue);
+    let n = *len;
+    if n == 0 {
+        return yield_control(objects);
     }
-    let t = queue.front();
-    activate_task(tasks, objects, queue.pop_front(), t)
+    let t = front_lent(ids);
+    pop_lent(ids, len);
+    activate_task(tasks, objects, ids, len, t)
 }

@@ -1,10 +1,12 @@
 // The states of tasks: make_ready, is_blocked, block_current_on, and a task's removal.
 use asyncio::Awaiter;
 use asyncio::HeapId;
+use asyncio::TASKS;
 use asyncio::Task;
 use asyncio::TaskId;
 use asyncio::TaskState;
 use queue::ReadyQueue;
+use queue::remove_lent;
 ghost use mathlib.Core.Path.{_≡_};
 ghost use Prim.Native.Nat.{_<_};
 ghost use Rattle.asyncio.specs.Limits.{task-limit};
@@ -12,8 +14,8 @@ ghost use Rattle.asyncio.specs.States.{is-blocked};
 ghost use Rattle.rows.specs.Tables.{task-at};
 ghost use Rattle.machine.specs.Scheduler.{make-ready, remove-task};
 ghost use Rattle.asyncio.specs.declared.TaskState.{TaskState};
-ghost use Rattle.contract.specs.Contract.{TasksLength, ChangesTasks};
-ghost use Rattle.scheduler.specs.States.{Restates};
+ghost use Rattle.contract.specs.Contract.{TasksLength, ChangesTasks, queue-before, queue-after};
+ghost use Rattle.scheduler.specs.States.{Restates, MakesReady};
 
 // Task `t` in another state.
 pub fn set_state(tasks: &mut [u64], t: TaskId, state: TaskState)
@@ -43,13 +45,12 @@ pub fn is_blocked(tasks: &[u64], t: TaskId) -> bool
     state.is_blocked()
 }
 
-// Task `t` is given a value or an error, and goes to the queue's back.
-pub fn make_ready(tasks: &mut [u64], queue: ReadyQueue, t: TaskId, state: TaskState) -> ReadyQueue
+// Task `t` is given a value or an error. The caller puts it at the queue's back.
+pub fn make_ready(tasks: &mut [u64], t: TaskId, state: TaskState)
     requires { ⌜ TasksLength tasks × (t .0 < task-limit) ⌝ }
-    ensures { λ r. ⌜ ChangesTasks tasks queue r (λ s. make-ready s (t .0) state) ⌝ }
+    ensures { λ _. ⌜ MakesReady tasks (t .0) state ⌝ }
 {
     set_state(tasks, t, state);
-    queue.push_back(t)
 }
 
 // Task `t` waits for object `o`.
@@ -60,10 +61,11 @@ pub fn block_current_on(tasks: &mut [u64], t: TaskId, o: HeapId)
     set_state(tasks, t, TaskState::Blocked(o));
 }
 
-// Task `t` is live no more, and not ready.
-pub fn remove_task(tasks: &mut [u64], queue: ReadyQueue, t: TaskId) -> ReadyQueue
+// Task `t` is live no more, and not ready. The queue is lent.
+pub fn remove_task_lent(tasks: &mut [u64], ids: &mut [u16; TASKS], len: &mut usize, t: TaskId)
     requires { ⌜ TasksLength tasks × (t .0 < task-limit) ⌝ }
-    ensures { λ r. ⌜ ChangesTasks tasks queue r (λ s. remove-task s (t .0)) ⌝ }
+    ensures { λ _. ⌜ ChangesTasks tasks (queue-before ids len) (queue-after ids len)
+        (λ s. remove-task s (t .0)) ⌝ }
 {
     let absent = Task {
         state: TaskState::Absent,
@@ -71,5 +73,16 @@ pub fn remove_task(tasks: &mut [u64], queue: ReadyQueue, t: TaskId) -> ReadyQueu
         coroutine: HeapId::new(0),
     };
     rows::tables::store_task(tasks, t, absent);
-    queue.remove(t)
+    remove_lent(ids, len, t);
+}
+
+// The same of a queue that is handed over and back.
+pub fn remove_task(tasks: &mut [u64], mut queue: ReadyQueue, t: TaskId) -> ReadyQueue
+    requires { ⌜ TasksLength tasks × (t .0 < task-limit) ⌝ }
+    ensures { λ r. ⌜ ChangesTasks tasks queue r (λ s. remove-task s (t .0)) ⌝ }
+{
+    let mut n = queue.len;
+    remove_task_lent(tasks, &mut queue.ids, &mut n, t);
+    queue.len = n;
+    queue
 }

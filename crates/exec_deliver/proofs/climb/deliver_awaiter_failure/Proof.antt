@@ -6,6 +6,8 @@ use lib.ListN.{length}
 use borrow.Author.Needs.{needs}
 use Rattle.asyncio.specs.Limits.{places-length}
 use Rattle.asyncio.specs.Ranges.{AwaiterFits}
+use Rattle.queue.specs.Queue.{empty-queue}
+use Rattle.queue.specs.declared.ReadyQueue.{ReadyQueue}
 use Rattle.machine.specs.Store.{LogEntry, store-of}
 use Rattle.machine.specs.Delivery.{deliver-awaiter-failure, awaited-in}
 use Rattle.exec_deliver.specs.ClimbLaws.{error-nobody, error-to-task, error-stays, error-climbs, error-fits, error-falls, some-places, some-places-long}
@@ -13,13 +15,13 @@ use Rattle.exec_deliver.proofs.climb.deliver_awaiter_failure.Statement.
 use Rattle.exec_deliver.proofs.climb.deliver_awaiter_failure.Tie as tie
 
 abbrev Inv-loop : tie.InvT-loop
-Inv-loop tasks₀ objects₀ queue error to₀ tasks objects to = ((ps : List ℕ) (l : List LogEntry) → length ps ≡ places-length → deliver-awaiter-failure (store-of tasks objects ps queue l) to error ≡ deliver-awaiter-failure (store-of tasks₀ objects₀ ps queue l) to₀ error) × (length tasks ≡ length tasks₀) × (length objects ≡ length objects₀) × AwaiterFits to
+Inv-loop tasks₀ objects₀ error to₀ tasks objects to = ((q : ReadyQueue) (ps : List ℕ) (l : List LogEntry) → length ps ≡ places-length → deliver-awaiter-failure (store-of tasks objects ps q l) to error ≡ deliver-awaiter-failure (store-of tasks₀ objects₀ ps q l) to₀ error) × (length tasks ≡ length tasks₀) × (length objects ≡ length objects₀) × AwaiterFits to
 
 abbrev μ-loop : tie.MeasureT-loop
-μ-loop tasks₀ objects₀ queue error to₀ tasks objects to = awaited-in objects
+μ-loop tasks₀ objects₀ error to₀ tasks objects to = awaited-in objects
 
 loop-holds : tie.Need-loop-holds Inv-loop μ-loop
-loop-holds c = ((λ ps l z. refl), refl, refl, c .before .before .pre .2)
+loop-holds c = ((λ q ps l z. refl), refl, refl, c .before .before .pre .2)
 
 enum-told : tie.Need-enum-told Inv-loop μ-loop
 enum-told c = search needs
@@ -31,7 +33,7 @@ same-length-2 : tie.Need-same-length-2 Inv-loop μ-loop
 same-length-2 c = c .before .before .loop .inv .2
 
 returns : tie.Need-returns Inv-loop μ-loop
-returns c = λ ps l z. error-nobody (c .before .before .loop .tasks) (c .before .before .loop .objects) ps (c .before .before .before .before .before .args .queue) (c .before .before .before .before .before .args .error) l (rw (c .enum-told .given .1) at (c .before .before .loop .inv .0 ps l z))
+returns c = λ q ps l z. error-nobody (c .before .before .loop .tasks) (c .before .before .loop .objects) ps q (c .before .before .before .before .before .args .error) l (rw (c .enum-told .given .1) at (c .before .before .loop .inv .0 q ps l z))
 
 enum-known-to : tie.Need-enum-known-to Inv-loop μ-loop
 enum-known-to c = search needs
@@ -46,7 +48,7 @@ same-length-4 : tie.Need-same-length-4 Inv-loop μ-loop
 same-length-4 c = c .before .before .before .before .before .before .before .loop .inv .2
 
 returns-2 : tie.Need-returns-2 Inv-loop μ-loop
-returns-2 c = λ ps l z. error-to-task (c .before .before .before .before .before .before .before .loop .tasks) (c .before .before .before .before .before .before .before .loop .objects) ps (c .before .before .before .before .before .before .before .before .before .before .args .queue) (c .before .before .before .before .before .before .before .before .before .before .args .error) l (c .before .before .before .before .before .to .given .0 .0) (rw (c .before .before .before .before .before .to .given .1) at (c .before .before .before .before .before .before .before .loop .inv .0 ps l z)) (c .before .before .deliver-to-task .result .woken) (c .before .before .deliver-to-task .ensures (c .before .before .before .before .before .before .before .loop .objects) ps l)
+returns-2 c = λ q ps l z. error-to-task (c .before .before .before .before .before .before .before .loop .tasks) (c .before .before .before .before .before .before .before .loop .objects) ps q (c .before .before .before .before .before .before .before .before .before .before .args .error) l (c .before .before .before .before .before .to .given .0 .0) (rw (c .before .before .before .before .before .to .given .1) at (c .before .before .before .before .before .before .before .loop .inv .0 q ps l z)) (c .before .before .deliver-to-task .result) (c .before .before .deliver-to-task .ensures q (c .before .before .before .before .before .before .before .loop .objects) ps l)
 
 enum-known-to-2 : tie.Need-enum-known-to-2 Inv-loop μ-loop
 enum-known-to-2 c = search needs
@@ -64,16 +66,16 @@ same-length-6 : tie.Need-same-length-6 Inv-loop μ-loop
 same-length-6 c = c .before .before .before .before .fail .kept .0 ∙ c .before .before .before .before .before .before .before .before .before .loop .inv .2
 
 returns-3 : tie.Need-returns-3 Inv-loop μ-loop
-returns-3 c = λ ps l z. error-stays (c .before .before .before .before .before .before .before .before .before .loop .tasks) (c .before .before .before .before .before .before .before .before .before .loop .objects) ps (c .before .before .before .before .before .before .before .before .before .before .before .before .args .queue) (c .before .before .before .before .before .before .before .before .before .before .before .before .args .error) (c .before .before .before .before .before .before .before .to2 .given .0 .0) (c .before .before .before .before .before .before .before .to2 .given .0 .1 .0) l (rw (c .before .before .before .before .before .before .before .to2 .given .1) at (c .before .before .before .before .before .before .before .before .before .loop .inv .0 ps l z)) (rw (c .enum-told2 .given .1) at (c .before .before .before .before .fail .ensures (c .before .before .before .before .before .before .before .before .before .loop .tasks) ps (c .before .before .before .before .before .before .before .before .before .before .before .before .args .queue) l))
+returns-3 c = λ q ps l z. error-stays (c .before .before .before .before .before .before .before .before .before .loop .tasks) (c .before .before .before .before .before .before .before .before .before .loop .objects) ps q (c .before .before .before .before .before .before .before .before .before .before .before .before .args .error) (c .before .before .before .before .before .before .before .to2 .given .0 .0) (c .before .before .before .before .before .before .before .to2 .given .0 .1 .0) l (rw (c .before .before .before .before .before .before .before .to2 .given .1) at (c .before .before .before .before .before .before .before .before .before .loop .inv .0 q ps l z)) (rw (c .enum-told2 .given .1) at (c .before .before .before .before .fail .ensures (c .before .before .before .before .before .before .before .before .before .loop .tasks) ps q l))
 
 enum-known-onward : tie.Need-enum-known-onward Inv-loop μ-loop
 enum-known-onward c = search needs
 
 loop-less : tie.Need-loop-less Inv-loop μ-loop
-loop-less c = omega (arith, error-falls (c .before .before .before .before .before .before .before .before .before .before .loop .tasks) (c .before .before .before .before .before .before .before .before .before .before .loop .objects) some-places (c .before .before .before .before .before .before .before .before .before .before .before .before .before .args .queue) (c .before .before .before .before .before .before .before .before .before .before .before .before .before .args .error) (c .before .before .before .before .before .before .before .before .to2 .given .0 .0) (c .before .before .before .before .before .before .before .before .to2 .given .0 .1 .0) (c .before .onward .given .0 .0) (c .before .before .before .before .before .before .before .before .before .before .loop .inv .1 ∙ c .before .before .before .before .before .before .before .before .before .before .before .before .before .pre .0) (c .before .before .before .before .before .before .before .before .before .before .loop .inv .2 ∙ c .before .before .before .before .before .before .before .before .before .before .before .before .before .pre .1) some-places-long ((rw (c .before .before .before .before .before .before .before .before .to2 .given .1) at (c .before .before .before .before .before .before .before .before .before .before .loop .inv .3)) .0) [] (rw (c .before .onward .given .1) at (c .before .before .before .before .before .fail .ensures (c .before .before .before .before .before .before .before .before .before .before .loop .tasks) some-places (c .before .before .before .before .before .before .before .before .before .before .before .before .before .args .queue) [])))
+loop-less c = omega (arith, error-falls (c .before .before .before .before .before .before .before .before .before .before .loop .tasks) (c .before .before .before .before .before .before .before .before .before .before .loop .objects) some-places empty-queue (c .before .before .before .before .before .before .before .before .before .before .before .before .before .args .error) (c .before .before .before .before .before .before .before .before .to2 .given .0 .0) (c .before .before .before .before .before .before .before .before .to2 .given .0 .1 .0) (c .before .onward .given .0 .0) (c .before .before .before .before .before .before .before .before .before .before .loop .inv .1 ∙ c .before .before .before .before .before .before .before .before .before .before .before .before .before .pre .0) (c .before .before .before .before .before .before .before .before .before .before .loop .inv .2 ∙ c .before .before .before .before .before .before .before .before .before .before .before .before .before .pre .1) some-places-long ((rw (c .before .before .before .before .before .before .before .before .to2 .given .1) at (c .before .before .before .before .before .before .before .before .before .before .loop .inv .3)) .0) [] (rw (c .before .onward .given .1) at (c .before .before .before .before .before .fail .ensures (c .before .before .before .before .before .before .before .before .before .before .loop .tasks) some-places empty-queue [])))
 
 loop-again : tie.Need-loop-again Inv-loop μ-loop
-loop-again c = ((λ ps l z. error-climbs (c .before .before .before .before .before .before .before .before .before .before .loop .tasks) (c .before .before .before .before .before .before .before .before .before .before .loop .objects) ps (c .before .before .before .before .before .before .before .before .before .before .before .before .before .args .queue) (c .before .before .before .before .before .before .before .before .before .before .before .before .before .args .error) (c .before .before .before .before .before .before .before .before .to2 .given .0 .0) (c .before .before .before .before .before .before .before .before .to2 .given .0 .1 .0) (c .before .onward .given .0 .0) (c .before .before .before .before .before .before .before .before .before .before .loop .inv .1 ∙ c .before .before .before .before .before .before .before .before .before .before .before .before .before .pre .0) (c .before .before .before .before .before .before .before .before .before .before .loop .inv .2 ∙ c .before .before .before .before .before .before .before .before .before .before .before .before .before .pre .1) z ((rw (c .before .before .before .before .before .before .before .before .to2 .given .1) at (c .before .before .before .before .before .before .before .before .before .before .loop .inv .3)) .0) l (rw (c .before .onward .given .1) at (c .before .before .before .before .before .fail .ensures (c .before .before .before .before .before .before .before .before .before .before .loop .tasks) ps (c .before .before .before .before .before .before .before .before .before .before .before .before .before .args .queue) l)) ∙ (rw (c .before .before .before .before .before .before .before .before .to2 .given .1) at (c .before .before .before .before .before .before .before .before .before .before .loop .inv .0 ps l z))), c .before .before .before .before .before .before .before .before .before .before .loop .inv .1, c .before .before .before .before .before .fail .kept .0 ∙ c .before .before .before .before .before .before .before .before .before .before .loop .inv .2, error-fits (c .before .before .before .before .before .before .before .before .before .before .loop .tasks) (c .before .before .before .before .before .before .before .before .before .before .loop .objects) some-places (c .before .before .before .before .before .before .before .before .before .before .before .before .before .args .queue) (c .before .before .before .before .before .before .before .before .before .before .before .before .before .args .error) (c .before .before .before .before .before .before .before .before .to2 .given .0 .0) (c .before .before .before .before .before .before .before .before .to2 .given .0 .1 .0) (c .before .onward .given .0 .0) (c .before .before .before .before .before .before .before .before .before .before .loop .inv .1 ∙ c .before .before .before .before .before .before .before .before .before .before .before .before .before .pre .0) (c .before .before .before .before .before .before .before .before .before .before .loop .inv .2 ∙ c .before .before .before .before .before .before .before .before .before .before .before .before .before .pre .1) some-places-long ((rw (c .before .before .before .before .before .before .before .before .to2 .given .1) at (c .before .before .before .before .before .before .before .before .before .before .loop .inv .3)) .0) [] (rw (c .before .onward .given .1) at (c .before .before .before .before .before .fail .ensures (c .before .before .before .before .before .before .before .before .before .before .loop .tasks) some-places (c .before .before .before .before .before .before .before .before .before .before .before .before .before .args .queue) [])))
+loop-again c = ((λ q ps l z. error-climbs (c .before .before .before .before .before .before .before .before .before .before .loop .tasks) (c .before .before .before .before .before .before .before .before .before .before .loop .objects) ps q (c .before .before .before .before .before .before .before .before .before .before .before .before .before .args .error) (c .before .before .before .before .before .before .before .before .to2 .given .0 .0) (c .before .before .before .before .before .before .before .before .to2 .given .0 .1 .0) (c .before .onward .given .0 .0) (c .before .before .before .before .before .before .before .before .before .before .loop .inv .1 ∙ c .before .before .before .before .before .before .before .before .before .before .before .before .before .pre .0) (c .before .before .before .before .before .before .before .before .before .before .loop .inv .2 ∙ c .before .before .before .before .before .before .before .before .before .before .before .before .before .pre .1) z ((rw (c .before .before .before .before .before .before .before .before .to2 .given .1) at (c .before .before .before .before .before .before .before .before .before .before .loop .inv .3)) .0) l (rw (c .before .onward .given .1) at (c .before .before .before .before .before .fail .ensures (c .before .before .before .before .before .before .before .before .before .before .loop .tasks) ps q l)) ∙ (rw (c .before .before .before .before .before .before .before .before .to2 .given .1) at (c .before .before .before .before .before .before .before .before .before .before .loop .inv .0 q ps l z))), c .before .before .before .before .before .before .before .before .before .before .loop .inv .1, c .before .before .before .before .before .fail .kept .0 ∙ c .before .before .before .before .before .before .before .before .before .before .loop .inv .2, error-fits (c .before .before .before .before .before .before .before .before .before .before .loop .tasks) (c .before .before .before .before .before .before .before .before .before .before .loop .objects) some-places empty-queue (c .before .before .before .before .before .before .before .before .before .before .before .before .before .args .error) (c .before .before .before .before .before .before .before .before .to2 .given .0 .0) (c .before .before .before .before .before .before .before .before .to2 .given .0 .1 .0) (c .before .onward .given .0 .0) (c .before .before .before .before .before .before .before .before .before .before .loop .inv .1 ∙ c .before .before .before .before .before .before .before .before .before .before .before .before .before .pre .0) (c .before .before .before .before .before .before .before .before .before .before .loop .inv .2 ∙ c .before .before .before .before .before .before .before .before .before .before .before .before .before .pre .1) some-places-long ((rw (c .before .before .before .before .before .before .before .before .to2 .given .1) at (c .before .before .before .before .before .before .before .before .before .before .loop .inv .3)) .0) [] (rw (c .before .onward .given .1) at (c .before .before .before .before .before .fail .ensures (c .before .before .before .before .before .before .before .before .before .before .loop .tasks) some-places empty-queue [])))
 
 pub deliver-awaiter-failure-spec : {M : Type 1} → statement M
 deliver-awaiter-failure-spec =

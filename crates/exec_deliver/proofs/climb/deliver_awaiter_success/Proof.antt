@@ -4,6 +4,8 @@ use native.Mathlib.Omega.{arith}
 use lib.ListN.{length}
 use borrow.Author.Needs.{needs}
 use Rattle.asyncio.specs.Ranges.{AwaiterFits}
+use Rattle.queue.specs.Queue.{empty-queue}
+use Rattle.queue.specs.declared.ReadyQueue.{ReadyQueue}
 use Rattle.machine.specs.Store.{LogEntry, store-of}
 use Rattle.machine.specs.Delivery.{deliver-awaiter-success, awaited-in}
 use Rattle.exec_deliver.specs.ClimbLaws.{nobody, to-task, stays, climbs, climb-fits, climb-falls}
@@ -11,13 +13,13 @@ use Rattle.exec_deliver.proofs.climb.deliver_awaiter_success.Statement.
 use Rattle.exec_deliver.proofs.climb.deliver_awaiter_success.Tie as tie
 
 abbrev Inv-loop : tie.InvT-loop
-Inv-loop tasks₀ objects₀ places₀ queue to₀ given₀ tasks objects places to given = ((l : List LogEntry) → deliver-awaiter-success (store-of tasks objects places queue l) to given ≡ deliver-awaiter-success (store-of tasks₀ objects₀ places₀ queue l) to₀ given₀) × (length tasks ≡ length tasks₀) × (length objects ≡ length objects₀) × (length places ≡ length places₀) × AwaiterFits to
+Inv-loop tasks₀ objects₀ places₀ to₀ given₀ tasks objects places to given = ((q : ReadyQueue) (l : List LogEntry) → deliver-awaiter-success (store-of tasks objects places q l) to given ≡ deliver-awaiter-success (store-of tasks₀ objects₀ places₀ q l) to₀ given₀) × (length tasks ≡ length tasks₀) × (length objects ≡ length objects₀) × (length places ≡ length places₀) × AwaiterFits to
 
 abbrev μ-loop : tie.MeasureT-loop
-μ-loop tasks₀ objects₀ places₀ queue to₀ given₀ tasks objects places to given = awaited-in objects
+μ-loop tasks₀ objects₀ places₀ to₀ given₀ tasks objects places to given = awaited-in objects
 
 loop-holds : tie.Need-loop-holds Inv-loop μ-loop
-loop-holds c = ((λ l. refl), refl, refl, refl, c .before .before .before .pre .3)
+loop-holds c = ((λ q l. refl), refl, refl, refl, c .before .before .before .pre .3)
 
 enum-told : tie.Need-enum-told Inv-loop μ-loop
 enum-told c = search needs
@@ -32,7 +34,7 @@ same-length-3 : tie.Need-same-length-3 Inv-loop μ-loop
 same-length-3 c = c .before .before .loop .inv .3
 
 returns : tie.Need-returns Inv-loop μ-loop
-returns c = λ l. nobody (c .before .before .loop .tasks) (c .before .before .loop .objects) (c .before .before .loop .places) (c .before .before .before .before .before .before .args .queue) l (c .before .before .loop .given) (rw (c .enum-told .given .1) at (c .before .before .loop .inv .0 l))
+returns c = λ q l. nobody (c .before .before .loop .tasks) (c .before .before .loop .objects) (c .before .before .loop .places) q l (c .before .before .loop .given) (rw (c .enum-told .given .1) at (c .before .before .loop .inv .0 q l))
 
 enum-known-to : tie.Need-enum-known-to Inv-loop μ-loop
 enum-known-to c = search needs
@@ -50,7 +52,7 @@ same-length-6 : tie.Need-same-length-6 Inv-loop μ-loop
 same-length-6 c = c .before .before .before .before .before .before .before .loop .inv .3
 
 returns-2 : tie.Need-returns-2 Inv-loop μ-loop
-returns-2 c = λ l. to-task (c .before .before .before .before .before .before .before .loop .tasks) (c .before .before .before .before .before .before .before .loop .objects) (c .before .before .before .before .before .before .before .loop .places) (c .before .before .before .before .before .before .before .before .before .before .before .args .queue) l (c .before .before .before .before .before .to .given .0 .0) (c .before .before .before .before .before .before .before .loop .given) (rw (c .before .before .before .before .before .to .given .1) at (c .before .before .before .before .before .before .before .loop .inv .0 l)) (c .before .before .deliver-to-task .result .woken) (c .before .before .deliver-to-task .ensures (c .before .before .before .before .before .before .before .loop .objects) (c .before .before .before .before .before .before .before .loop .places) l)
+returns-2 c = λ q l. to-task (c .before .before .before .before .before .before .before .loop .tasks) (c .before .before .before .before .before .before .before .loop .objects) (c .before .before .before .before .before .before .before .loop .places) q l (c .before .before .before .before .before .to .given .0 .0) (c .before .before .before .before .before .before .before .loop .given) (rw (c .before .before .before .before .before .to .given .1) at (c .before .before .before .before .before .before .before .loop .inv .0 q l)) (c .before .before .deliver-to-task .result) (c .before .before .deliver-to-task .ensures q (c .before .before .before .before .before .before .before .loop .objects) (c .before .before .before .before .before .before .before .loop .places) l)
 
 enum-known-to-2 : tie.Need-enum-known-to-2 Inv-loop μ-loop
 enum-known-to-2 c = search needs
@@ -71,16 +73,16 @@ same-length-9 : tie.Need-same-length-9 Inv-loop μ-loop
 same-length-9 c = c .before .before .before .before .before .before .resolve-child .kept .1 .0 ∙ c .before .before .before .before .before .before .before .before .before .before .before .before .loop .inv .3
 
 returns-3 : tie.Need-returns-3 Inv-loop μ-loop
-returns-3 c = λ l. stays (c .before .before .before .before .before .before .before .before .before .before .before .before .loop .tasks) (c .before .before .before .before .before .before .before .before .before .before .before .before .loop .objects) (c .before .before .before .before .before .before .before .before .before .before .before .before .loop .places) (c .before .before .before .before .before .before .before .before .before .before .before .before .before .before .before .before .args .queue) (c .before .before .before .before .before .before .before .before .before .before .to2 .given .0 .0) (c .before .before .before .before .before .before .before .before .before .before .to2 .given .0 .1 .0) (c .before .before .before .before .before .before .before .before .before .before .before .before .loop .given) l (rw (c .before .before .before .before .before .before .before .before .before .before .to2 .given .1) at (c .before .before .before .before .before .before .before .before .before .before .before .before .loop .inv .0 l)) (rw (c .enum-told2 .given .1) at (c .before .before .before .before .before .before .resolve-child .ensures (c .before .before .before .before .before .before .before .before .before .before .before .before .loop .tasks) (c .before .before .before .before .before .before .before .before .before .before .before .before .before .before .before .before .args .queue) l))
+returns-3 c = λ q l. stays (c .before .before .before .before .before .before .before .before .before .before .before .before .loop .tasks) (c .before .before .before .before .before .before .before .before .before .before .before .before .loop .objects) (c .before .before .before .before .before .before .before .before .before .before .before .before .loop .places) q (c .before .before .before .before .before .before .before .before .before .before .to2 .given .0 .0) (c .before .before .before .before .before .before .before .before .before .before .to2 .given .0 .1 .0) (c .before .before .before .before .before .before .before .before .before .before .before .before .loop .given) l (rw (c .before .before .before .before .before .before .before .before .before .before .to2 .given .1) at (c .before .before .before .before .before .before .before .before .before .before .before .before .loop .inv .0 q l)) (rw (c .enum-told2 .given .1) at (c .before .before .before .before .before .before .resolve-child .ensures (c .before .before .before .before .before .before .before .before .before .before .before .before .loop .tasks) q l))
 
 enum-known-onward : tie.Need-enum-known-onward Inv-loop μ-loop
 enum-known-onward c = search needs
 
 loop-less : tie.Need-loop-less Inv-loop μ-loop
-loop-less c = omega (arith, climb-falls (c .before .before .before .before .before .before .before .before .before .before .before .before .before .loop .tasks) (c .before .before .before .before .before .before .before .before .before .before .before .before .before .loop .objects) (c .before .before .before .before .before .before .before .before .before .before .before .before .before .loop .places) (c .before .before .before .before .before .before .before .before .before .before .before .before .before .before .before .before .before .args .queue) (c .before .before .before .before .before .before .before .before .before .before .before .to2 .given .0 .0) (c .before .before .before .before .before .before .before .before .before .before .before .to2 .given .0 .1 .0) (c .before .before .before .before .before .before .before .before .before .before .before .before .before .loop .given) (c .before .onward .given .0 .0) (c .before .before .before .before .before .before .before .before .before .before .before .before .before .loop .inv .1 ∙ c .before .before .before .before .before .before .before .before .before .before .before .before .before .before .before .before .before .pre .0) (c .before .before .before .before .before .before .before .before .before .before .before .before .before .loop .inv .2 ∙ c .before .before .before .before .before .before .before .before .before .before .before .before .before .before .before .before .before .pre .1) (c .before .before .before .before .before .before .before .before .before .before .before .before .before .loop .inv .3 ∙ c .before .before .before .before .before .before .before .before .before .before .before .before .before .before .before .before .before .pre .2) ((rw (c .before .before .before .before .before .before .before .before .before .before .before .to2 .given .1) at (c .before .before .before .before .before .before .before .before .before .before .before .before .before .loop .inv .4)) .0) [] (rw (c .before .onward .given .1) at (c .before .before .before .before .before .before .before .resolve-child .ensures (c .before .before .before .before .before .before .before .before .before .before .before .before .before .loop .tasks) (c .before .before .before .before .before .before .before .before .before .before .before .before .before .before .before .before .before .args .queue) [])))
+loop-less c = omega (arith, climb-falls (c .before .before .before .before .before .before .before .before .before .before .before .before .before .loop .tasks) (c .before .before .before .before .before .before .before .before .before .before .before .before .before .loop .objects) (c .before .before .before .before .before .before .before .before .before .before .before .before .before .loop .places) empty-queue (c .before .before .before .before .before .before .before .before .before .before .before .to2 .given .0 .0) (c .before .before .before .before .before .before .before .before .before .before .before .to2 .given .0 .1 .0) (c .before .before .before .before .before .before .before .before .before .before .before .before .before .loop .given) (c .before .onward .given .0 .0) (c .before .before .before .before .before .before .before .before .before .before .before .before .before .loop .inv .1 ∙ c .before .before .before .before .before .before .before .before .before .before .before .before .before .before .before .before .before .pre .0) (c .before .before .before .before .before .before .before .before .before .before .before .before .before .loop .inv .2 ∙ c .before .before .before .before .before .before .before .before .before .before .before .before .before .before .before .before .before .pre .1) (c .before .before .before .before .before .before .before .before .before .before .before .before .before .loop .inv .3 ∙ c .before .before .before .before .before .before .before .before .before .before .before .before .before .before .before .before .before .pre .2) ((rw (c .before .before .before .before .before .before .before .before .before .before .before .to2 .given .1) at (c .before .before .before .before .before .before .before .before .before .before .before .before .before .loop .inv .4)) .0) [] (rw (c .before .onward .given .1) at (c .before .before .before .before .before .before .before .resolve-child .ensures (c .before .before .before .before .before .before .before .before .before .before .before .before .before .loop .tasks) empty-queue [])))
 
 loop-again : tie.Need-loop-again Inv-loop μ-loop
-loop-again c = ((λ l. climbs (c .before .before .before .before .before .before .before .before .before .before .before .before .before .loop .tasks) (c .before .before .before .before .before .before .before .before .before .before .before .before .before .loop .objects) (c .before .before .before .before .before .before .before .before .before .before .before .before .before .loop .places) (c .before .before .before .before .before .before .before .before .before .before .before .before .before .before .before .before .before .args .queue) (c .before .before .before .before .before .before .before .before .before .before .before .to2 .given .0 .0) (c .before .before .before .before .before .before .before .before .before .before .before .to2 .given .0 .1 .0) (c .before .before .before .before .before .before .before .before .before .before .before .before .before .loop .given) (c .before .onward .given .0 .0) (c .before .before .before .before .before .before .before .before .before .before .before .before .before .loop .inv .1 ∙ c .before .before .before .before .before .before .before .before .before .before .before .before .before .before .before .before .before .pre .0) (c .before .before .before .before .before .before .before .before .before .before .before .before .before .loop .inv .2 ∙ c .before .before .before .before .before .before .before .before .before .before .before .before .before .before .before .before .before .pre .1) (c .before .before .before .before .before .before .before .before .before .before .before .before .before .loop .inv .3 ∙ c .before .before .before .before .before .before .before .before .before .before .before .before .before .before .before .before .before .pre .2) ((rw (c .before .before .before .before .before .before .before .before .before .before .before .to2 .given .1) at (c .before .before .before .before .before .before .before .before .before .before .before .before .before .loop .inv .4)) .0) l (rw (c .before .onward .given .1) at (c .before .before .before .before .before .before .before .resolve-child .ensures (c .before .before .before .before .before .before .before .before .before .before .before .before .before .loop .tasks) (c .before .before .before .before .before .before .before .before .before .before .before .before .before .before .before .before .before .args .queue) l)) ∙ (rw (c .before .before .before .before .before .before .before .before .before .before .before .to2 .given .1) at (c .before .before .before .before .before .before .before .before .before .before .before .before .before .loop .inv .0 l))), c .before .before .before .before .before .before .before .before .before .before .before .before .before .loop .inv .1, c .before .before .before .before .before .before .before .resolve-child .kept .0 ∙ c .before .before .before .before .before .before .before .before .before .before .before .before .before .loop .inv .2, c .before .before .before .before .before .before .before .resolve-child .kept .1 .0 ∙ c .before .before .before .before .before .before .before .before .before .before .before .before .before .loop .inv .3, climb-fits (c .before .before .before .before .before .before .before .before .before .before .before .before .before .loop .tasks) (c .before .before .before .before .before .before .before .before .before .before .before .before .before .loop .objects) (c .before .before .before .before .before .before .before .before .before .before .before .before .before .loop .places) (c .before .before .before .before .before .before .before .before .before .before .before .before .before .before .before .before .before .args .queue) (c .before .before .before .before .before .before .before .before .before .before .before .to2 .given .0 .0) (c .before .before .before .before .before .before .before .before .before .before .before .to2 .given .0 .1 .0) (c .before .before .before .before .before .before .before .before .before .before .before .before .before .loop .given) (c .before .onward .given .0 .0) (c .before .before .before .before .before .before .before .before .before .before .before .before .before .loop .inv .1 ∙ c .before .before .before .before .before .before .before .before .before .before .before .before .before .before .before .before .before .pre .0) (c .before .before .before .before .before .before .before .before .before .before .before .before .before .loop .inv .2 ∙ c .before .before .before .before .before .before .before .before .before .before .before .before .before .before .before .before .before .pre .1) (c .before .before .before .before .before .before .before .before .before .before .before .before .before .loop .inv .3 ∙ c .before .before .before .before .before .before .before .before .before .before .before .before .before .before .before .before .before .pre .2) ((rw (c .before .before .before .before .before .before .before .before .before .before .before .to2 .given .1) at (c .before .before .before .before .before .before .before .before .before .before .before .before .before .loop .inv .4)) .0) [] (rw (c .before .onward .given .1) at (c .before .before .before .before .before .before .before .resolve-child .ensures (c .before .before .before .before .before .before .before .before .before .before .before .before .before .loop .tasks) (c .before .before .before .before .before .before .before .before .before .before .before .before .before .before .before .before .before .args .queue) [])))
+loop-again c = ((λ q l. climbs (c .before .before .before .before .before .before .before .before .before .before .before .before .before .loop .tasks) (c .before .before .before .before .before .before .before .before .before .before .before .before .before .loop .objects) (c .before .before .before .before .before .before .before .before .before .before .before .before .before .loop .places) q (c .before .before .before .before .before .before .before .before .before .before .before .to2 .given .0 .0) (c .before .before .before .before .before .before .before .before .before .before .before .to2 .given .0 .1 .0) (c .before .before .before .before .before .before .before .before .before .before .before .before .before .loop .given) (c .before .onward .given .0 .0) (c .before .before .before .before .before .before .before .before .before .before .before .before .before .loop .inv .1 ∙ c .before .before .before .before .before .before .before .before .before .before .before .before .before .before .before .before .before .pre .0) (c .before .before .before .before .before .before .before .before .before .before .before .before .before .loop .inv .2 ∙ c .before .before .before .before .before .before .before .before .before .before .before .before .before .before .before .before .before .pre .1) (c .before .before .before .before .before .before .before .before .before .before .before .before .before .loop .inv .3 ∙ c .before .before .before .before .before .before .before .before .before .before .before .before .before .before .before .before .before .pre .2) ((rw (c .before .before .before .before .before .before .before .before .before .before .before .to2 .given .1) at (c .before .before .before .before .before .before .before .before .before .before .before .before .before .loop .inv .4)) .0) l (rw (c .before .onward .given .1) at (c .before .before .before .before .before .before .before .resolve-child .ensures (c .before .before .before .before .before .before .before .before .before .before .before .before .before .loop .tasks) q l)) ∙ (rw (c .before .before .before .before .before .before .before .before .before .before .before .to2 .given .1) at (c .before .before .before .before .before .before .before .before .before .before .before .before .before .loop .inv .0 q l))), c .before .before .before .before .before .before .before .before .before .before .before .before .before .loop .inv .1, c .before .before .before .before .before .before .before .resolve-child .kept .0 ∙ c .before .before .before .before .before .before .before .before .before .before .before .before .before .loop .inv .2, c .before .before .before .before .before .before .before .resolve-child .kept .1 .0 ∙ c .before .before .before .before .before .before .before .before .before .before .before .before .before .loop .inv .3, climb-fits (c .before .before .before .before .before .before .before .before .before .before .before .before .before .loop .tasks) (c .before .before .before .before .before .before .before .before .before .before .before .before .before .loop .objects) (c .before .before .before .before .before .before .before .before .before .before .before .before .before .loop .places) empty-queue (c .before .before .before .before .before .before .before .before .before .before .before .to2 .given .0 .0) (c .before .before .before .before .before .before .before .before .before .before .before .to2 .given .0 .1 .0) (c .before .before .before .before .before .before .before .before .before .before .before .before .before .loop .given) (c .before .onward .given .0 .0) (c .before .before .before .before .before .before .before .before .before .before .before .before .before .loop .inv .1 ∙ c .before .before .before .before .before .before .before .before .before .before .before .before .before .before .before .before .before .pre .0) (c .before .before .before .before .before .before .before .before .before .before .before .before .before .loop .inv .2 ∙ c .before .before .before .before .before .before .before .before .before .before .before .before .before .before .before .before .before .pre .1) (c .before .before .before .before .before .before .before .before .before .before .before .before .before .loop .inv .3 ∙ c .before .before .before .before .before .before .before .before .before .before .before .before .before .before .before .before .before .pre .2) ((rw (c .before .before .before .before .before .before .before .before .before .before .before .to2 .given .1) at (c .before .before .before .before .before .before .before .before .before .before .before .before .before .loop .inv .4)) .0) [] (rw (c .before .onward .given .1) at (c .before .before .before .before .before .before .before .resolve-child .ensures (c .before .before .before .before .before .before .before .before .before .before .before .before .before .loop .tasks) empty-queue [])))
 
 pub deliver-awaiter-success-spec : {M : Type 1} → statement M
 deliver-awaiter-success-spec =

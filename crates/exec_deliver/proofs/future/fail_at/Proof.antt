@@ -41,35 +41,35 @@ same-length c = search needs
 
 returns : tie.Need-returns
 unfolding as-pending
-returns c = λ ps l z. fail-nothing (now (c .before .before .before .before .before .before .args .tasks)) (now (c .before .before .before .before .before .before .args .objects)) ps (c .before .before .before .before .before .before .args .queue) l (c .before .before .before .before .before .before .args .o .0) (c .before .before .load-object .ensures) (c .before .before .before .before .before .before .args .error) _ (c .enum-told .given .1) refl
+returns c = λ q ps l z. fail-nothing (now (c .before .before .before .before .before .before .args .tasks)) (now (c .before .before .before .before .before .before .args .objects)) ps q l (c .before .before .before .before .before .before .args .o .0) (c .before .before .load-object .ensures) (c .before .before .before .before .before .before .args .error) _ (c .enum-told .given .1) refl
 
 same-length-2 : tie.Need-same-length-2
 same-length-2 c = search needs
 
 returns-2 : tie.Need-returns-2
 unfolding as-pending
-returns-2 c = λ ps l z. fail-nothing (now (c .before .before .before .before .before .before .args .tasks)) (now (c .before .before .before .before .before .before .args .objects)) ps (c .before .before .before .before .before .before .args .queue) l (c .before .before .before .before .before .before .args .o .0) (c .before .before .load-object .ensures) (c .before .before .before .before .before .before .args .error) _ (c .enum-told2 .given .1) refl
+returns-2 c = λ q ps l z. fail-nothing (now (c .before .before .before .before .before .before .args .tasks)) (now (c .before .before .before .before .before .before .args .objects)) ps q l (c .before .before .before .before .before .before .args .o .0) (c .before .before .load-object .ensures) (c .before .before .before .before .before .before .args .error) _ (c .enum-told2 .given .1) refl
 
 same-length-3 : tie.Need-same-length-3
 same-length-3 c = search needs
 
 returns-3 : tie.Need-returns-3
 unfolding as-pending
-returns-3 c = λ ps l z. fail-nothing (now (c .before .before .before .before .before .before .args .tasks)) (now (c .before .before .before .before .before .before .args .objects)) ps (c .before .before .before .before .before .before .args .queue) l (c .before .before .before .before .before .before .args .o .0) (c .before .before .load-object .ensures) (c .before .before .before .before .before .before .args .error) _ (c .enum-told3 .given .1) refl
+returns-3 c = λ q ps l z. fail-nothing (now (c .before .before .before .before .before .before .args .tasks)) (now (c .before .before .before .before .before .before .args .objects)) ps q l (c .before .before .before .before .before .before .args .o .0) (c .before .before .load-object .ensures) (c .before .before .before .before .before .before .args .error) _ (c .enum-told3 .given .1) refl
 
 same-length-4 : tie.Need-same-length-4
 same-length-4 c = search needs
 
 returns-4 : tie.Need-returns-4
 unfolding as-pending
-returns-4 c = λ ps l z. fail-nothing (now (c .before .before .before .before .before .before .before .before .before .args .tasks)) (now (c .before .before .before .before .before .before .before .before .before .args .objects)) ps (c .before .before .before .before .before .before .before .before .before .args .queue) l (c .before .before .before .before .before .before .before .before .before .args .o .0) (c .before .before .before .before .before .load-object .ensures) (c .before .before .before .before .before .before .before .before .before .args .error) _ (c .before .before .before .x .given .1) (rw (c .enum-told4 .given .1))
+returns-4 c = λ q ps l z. fail-nothing (now (c .before .before .before .before .before .before .before .before .before .args .tasks)) (now (c .before .before .before .before .before .before .before .before .before .args .objects)) ps q l (c .before .before .before .before .before .before .before .before .before .args .o .0) (c .before .before .before .before .before .load-object .ensures) (c .before .before .before .before .before .before .before .before .before .args .error) _ (c .before .before .before .x .given .1) (rw (c .enum-told4 .given .1))
 
 same-length-5 : tie.Need-same-length-5
 same-length-5 c = search needs
 
 returns-5 : tie.Need-returns-5
 unfolding as-pending
-returns-5 c = λ ps l z. fail-nothing (now (c .before .before .before .before .before .before .before .before .before .args .tasks)) (now (c .before .before .before .before .before .before .before .before .before .args .objects)) ps (c .before .before .before .before .before .before .before .before .before .args .queue) l (c .before .before .before .before .before .before .before .before .before .args .o .0) (c .before .before .before .before .before .load-object .ensures) (c .before .before .before .before .before .before .before .before .before .args .error) _ (c .before .before .before .x .given .1) (rw (c .enum-told5 .given .1))
+returns-5 c = λ q ps l z. fail-nothing (now (c .before .before .before .before .before .before .before .before .before .args .tasks)) (now (c .before .before .before .before .before .before .before .before .before .args .objects)) ps q l (c .before .before .before .before .before .before .before .before .before .args .o .0) (c .before .before .before .before .before .load-object .ensures) (c .before .before .before .before .before .before .before .before .before .args .error) _ (c .before .before .before .x .given .1) (rw (c .enum-told5 .given .1))
 
 same-length-6 : tie.Need-same-length-6
 same-length-6 c = search needs
@@ -78,7 +78,7 @@ same-length-7 : tie.Need-same-length-7
 same-length-7 c = search needs
 
 returns-6 : tie.Need-returns-6
-returns-6 c = λ ps l z. fails-at (now (c .before .before .before .before .before .before .before .before .before .before .before .before .before .before .before .before .before .before .before .before .before .before .args .tasks)) (now (c .before .before .before .before .before .before .before .before .before .before .before .before .before .before .before .before .before .before .before .before .before .before .args .objects)) ps (c .before .before .before .before .before .before .before .before .before .before .before .before .before .before .before .before .before .before .before .before .before .before .args .queue) l (c .before .before .before .before .before .before .before .before .before .before .before .before .before .before .before .before .before .before .before .before .before .before .args .o .0) (c .before .before .before .before .before .before .before .before .before .before .before .before .before .before .before .before .before .before .load-object .ensures) (c .before .before .before .before .before .before .before .before .before .before .before .before .before .before .before .before .x .given .0 .0) (c .before .before .before .before .before .before .before .before .before .before .before .before .before .state .given .0 .0) (c .before .before .before .before .before .before .before .before .before .before .before .before .before .state .given .0 .1 .0) (c .before .before .before .before .before .before .before .before .before .before .before .before .before .before .before .before .x .given .1) (c .before .before .before .before .before .before .before .before .before .before .before .before .before .state .given .1) (c .before .before .before .before .before .before .before .before .before .before .before .before .before .before .before .before .before .before .before .before .before .before .args .error) (c .before .before .before .before .before .before .before .before .before .before .store-object .ensures) (c .before .before .before .before .before .deliver-awaiter-failure .result .woken) (c .before .before .before .before .before .deliver-awaiter-failure .ensures ps l z)
+returns-6 c = λ q ps l z. fails-at (now (c .before .before .before .before .before .before .before .before .before .before .before .before .before .before .before .before .before .before .before .before .before .args .tasks)) (now (c .before .before .before .before .before .before .before .before .before .before .before .before .before .before .before .before .before .before .before .before .before .args .objects)) ps q l (c .before .before .before .before .before .before .before .before .before .before .before .before .before .before .before .before .before .before .before .before .before .args .o .0) (c .before .before .before .before .before .before .before .before .before .before .before .before .before .before .before .before .before .load-object .ensures) (c .before .before .before .before .before .before .before .before .before .before .before .before .before .before .before .x .given .0 .0) (c .before .before .before .before .before .before .before .before .before .before .before .before .state .given .0 .0) (c .before .before .before .before .before .before .before .before .before .before .before .before .state .given .0 .1 .0) (c .before .before .before .before .before .before .before .before .before .before .before .before .before .before .before .x .given .1) (c .before .before .before .before .before .before .before .before .before .before .before .before .state .given .1) (c .before .before .before .before .before .before .before .before .before .before .before .before .before .before .before .before .before .before .before .before .before .args .error) (c .before .before .before .before .before .before .before .before .before .store-object .ensures) (c .before .before .before .before .deliver-awaiter-failure .result) (c .before .before .before .before .deliver-awaiter-failure .ensures q ps l z)
 
 pub fail-at-spec : {M : Type 1} → statement M
 fail-at-spec =

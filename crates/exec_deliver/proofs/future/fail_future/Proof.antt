@@ -20,7 +20,7 @@ same-length : tie.Need-same-length
 same-length c = search needs
 
 returns : tie.Need-returns
-returns c = λ ps l z. fail-none (now (c .before .before .before .before .before .before .args .tasks)) (now (c .before .before .before .before .before .before .args .objects)) ps (c .before .before .before .before .before .before .args .queue) l (c .before .before .before .before .before .before .args .call) (c .before .before .take-pending-external .ensures) (c .before .before .before .before .before .before .args .error) (c .enum-told .given .1)
+returns c = λ q ps l z. fail-none (now (c .before .before .before .before .before .before .args .tasks)) (now (c .before .before .before .before .before .before .args .objects)) ps q l (c .before .before .before .before .before .before .args .call) (c .before .before .take-pending-external .ensures) (c .before .before .before .before .before .before .args .error) (c .enum-told .given .1)
 
 same-length-2 : tie.Need-same-length-2
 same-length-2 c = search needs
@@ -29,7 +29,7 @@ same-length-3 : tie.Need-same-length-3
 same-length-3 c = search needs
 
 returns-2 : tie.Need-returns-2
-returns-2 c = λ ps l z. fail-found (now (c .before .before .before .before .before .before .before .before .before .before .before .before .before .before .args .tasks)) (now (c .before .before .before .before .before .before .before .before .before .before .before .before .before .before .args .objects)) ps (c .before .before .before .before .before .before .before .before .before .before .before .before .before .before .args .queue) l (c .before .before .before .before .before .before .before .before .before .before .before .before .before .before .args .call) (c .before .before .before .before .before .before .before .before .before .before .take-pending-external .ensures) (c .before .before .before .before .before .before .before .before .found .given .0 .0) (c .before .before .before .before .before .before .before .before .found .given .1) (c .before .before .before .before .before .before .before .before .before .before .before .before .before .before .args .error) (c .before .before .before .before .fail-at .ensures ps l z)
+returns-2 c = λ q ps l z. fail-found (now (c .before .before .before .before .before .before .before .before .before .before .before .before .before .before .args .tasks)) (now (c .before .before .before .before .before .before .before .before .before .before .before .before .before .before .args .objects)) ps q l (c .before .before .before .before .before .before .before .before .before .before .before .before .before .before .args .call) (c .before .before .before .before .before .before .before .before .before .before .take-pending-external .ensures) (c .before .before .before .before .before .before .before .before .found .given .0 .0) (c .before .before .before .before .before .before .before .before .found .given .1) (c .before .before .before .before .before .before .before .before .before .before .before .before .before .before .args .error) (c .before .before .before .before .fail-at .ensures q ps l z)
 
 pub fail-future-spec : {M : Type 1} → statement M
 fail-future-spec =

@@ -44,35 +44,35 @@ same-length c = search needs
 
 returns : tie.Need-returns
 unfolding as-pending
-returns c = λ l. resolve-nothing (now (c .before .before .before .before .before .before .before .args .tasks)) (now (c .before .before .before .before .before .before .before .args .objects)) (now (c .before .before .before .before .before .before .before .args .places)) (c .before .before .before .before .before .before .before .args .queue) l (c .before .before .before .before .before .before .before .args .o .0) (c .before .before .load-object .ensures) (c .before .before .before .before .before .before .before .args .value) _ (c .enum-told .given .1) refl
+returns c = λ q l. resolve-nothing (now (c .before .before .before .before .before .before .before .args .tasks)) (now (c .before .before .before .before .before .before .before .args .objects)) (now (c .before .before .before .before .before .before .before .args .places)) q l (c .before .before .before .before .before .before .before .args .o .0) (c .before .before .load-object .ensures) (c .before .before .before .before .before .before .before .args .value) _ (c .enum-told .given .1) refl
 
 same-length-2 : tie.Need-same-length-2
 same-length-2 c = search needs
 
 returns-2 : tie.Need-returns-2
 unfolding as-pending
-returns-2 c = λ l. resolve-nothing (now (c .before .before .before .before .before .before .before .args .tasks)) (now (c .before .before .before .before .before .before .before .args .objects)) (now (c .before .before .before .before .before .before .before .args .places)) (c .before .before .before .before .before .before .before .args .queue) l (c .before .before .before .before .before .before .before .args .o .0) (c .before .before .load-object .ensures) (c .before .before .before .before .before .before .before .args .value) _ (c .enum-told2 .given .1) refl
+returns-2 c = λ q l. resolve-nothing (now (c .before .before .before .before .before .before .before .args .tasks)) (now (c .before .before .before .before .before .before .before .args .objects)) (now (c .before .before .before .before .before .before .before .args .places)) q l (c .before .before .before .before .before .before .before .args .o .0) (c .before .before .load-object .ensures) (c .before .before .before .before .before .before .before .args .value) _ (c .enum-told2 .given .1) refl
 
 same-length-3 : tie.Need-same-length-3
 same-length-3 c = search needs
 
 returns-3 : tie.Need-returns-3
 unfolding as-pending
-returns-3 c = λ l. resolve-nothing (now (c .before .before .before .before .before .before .before .args .tasks)) (now (c .before .before .before .before .before .before .before .args .objects)) (now (c .before .before .before .before .before .before .before .args .places)) (c .before .before .before .before .before .before .before .args .queue) l (c .before .before .before .before .before .before .before .args .o .0) (c .before .before .load-object .ensures) (c .before .before .before .before .before .before .before .args .value) _ (c .enum-told3 .given .1) refl
+returns-3 c = λ q l. resolve-nothing (now (c .before .before .before .before .before .before .before .args .tasks)) (now (c .before .before .before .before .before .before .before .args .objects)) (now (c .before .before .before .before .before .before .before .args .places)) q l (c .before .before .before .before .before .before .before .args .o .0) (c .before .before .load-object .ensures) (c .before .before .before .before .before .before .before .args .value) _ (c .enum-told3 .given .1) refl
 
 same-length-4 : tie.Need-same-length-4
 same-length-4 c = search needs
 
 returns-4 : tie.Need-returns-4
 unfolding as-pending
-returns-4 c = λ l. resolve-nothing (now (c .before .before .before .before .before .before .before .before .before .before .args .tasks)) (now (c .before .before .before .before .before .before .before .before .before .before .args .objects)) (now (c .before .before .before .before .before .before .before .before .before .before .args .places)) (c .before .before .before .before .before .before .before .before .before .before .args .queue) l (c .before .before .before .before .before .before .before .before .before .before .args .o .0) (c .before .before .before .before .before .load-object .ensures) (c .before .before .before .before .before .before .before .before .before .before .args .value) _ (c .before .before .before .x .given .1) (rw (c .enum-told4 .given .1))
+returns-4 c = λ q l. resolve-nothing (now (c .before .before .before .before .before .before .before .before .before .before .args .tasks)) (now (c .before .before .before .before .before .before .before .before .before .before .args .objects)) (now (c .before .before .before .before .before .before .before .before .before .before .args .places)) q l (c .before .before .before .before .before .before .before .before .before .before .args .o .0) (c .before .before .before .before .before .load-object .ensures) (c .before .before .before .before .before .before .before .before .before .before .args .value) _ (c .before .before .before .x .given .1) (rw (c .enum-told4 .given .1))
 
 same-length-5 : tie.Need-same-length-5
 same-length-5 c = search needs
 
 returns-5 : tie.Need-returns-5
 unfolding as-pending
-returns-5 c = λ l. resolve-nothing (now (c .before .before .before .before .before .before .before .before .before .before .args .tasks)) (now (c .before .before .before .before .before .before .before .before .before .before .args .objects)) (now (c .before .before .before .before .before .before .before .before .before .before .args .places)) (c .before .before .before .before .before .before .before .before .before .before .args .queue) l (c .before .before .before .before .before .before .before .before .before .before .args .o .0) (c .before .before .before .before .before .load-object .ensures) (c .before .before .before .before .before .before .before .before .before .before .args .value) _ (c .before .before .before .x .given .1) (rw (c .enum-told5 .given .1))
+returns-5 c = λ q l. resolve-nothing (now (c .before .before .before .before .before .before .before .before .before .before .args .tasks)) (now (c .before .before .before .before .before .before .before .before .before .before .args .objects)) (now (c .before .before .before .before .before .before .before .before .before .before .args .places)) q l (c .before .before .before .before .before .before .before .before .before .before .args .o .0) (c .before .before .before .before .before .load-object .ensures) (c .before .before .before .before .before .before .before .before .before .before .args .value) _ (c .before .before .before .x .given .1) (rw (c .enum-told5 .given .1))
 
 same-length-6 : tie.Need-same-length-6
 same-length-6 c = search needs
@@ -84,7 +84,7 @@ same-length-8 : tie.Need-same-length-8
 same-length-8 c = search needs
 
 returns-6 : tie.Need-returns-6
-returns-6 c = λ l. resolves (now (c .before .before .before .before .before .before .before .before .before .before .before .before .before .before .before .before .before .before .before .before .before .before .before .before .before .before .before .args .tasks)) (now (c .before .before .before .before .before .before .before .before .before .before .before .before .before .before .before .before .before .before .before .before .before .before .before .before .before .before .before .args .objects)) (now (c .before .before .before .before .before .before .before .before .before .before .before .before .before .before .before .before .before .before .before .before .before .before .before .before .before .before .before .args .places)) (c .before .before .before .before .before .before .before .before .before .before .before .before .before .before .before .before .before .before .before .before .before .before .before .before .before .before .before .args .queue) l (c .before .before .before .before .before .before .before .before .before .before .before .before .before .before .before .before .before .before .before .before .before .before .before .before .before .before .before .args .o .0) (c .before .before .before .before .before .before .before .before .before .before .before .before .before .before .before .before .before .before .before .before .before .before .load-object .ensures) (c .before .before .before .before .before .before .before .before .before .before .before .before .before .before .before .before .before .before .before .before .x .given .0 .0) (c .before .before .before .before .before .before .before .before .before .before .before .before .before .before .before .before .before .state .given .0 .0) (c .before .before .before .before .before .before .before .before .before .before .before .before .before .before .before .before .before .state .given .0 .1 .0) (c .before .before .before .before .before .before .before .before .before .before .before .before .before .before .before .before .before .before .before .before .x .given .1) (c .before .before .before .before .before .before .before .before .before .before .before .before .before .before .before .before .before .state .given .1) (c .before .before .before .before .before .before .before .before .before .before .before .before .before .before .before .before .before .before .before .before .before .before .before .before .before .before .before .args .value) (c .before .before .before .before .before .before .before .before .before .before .before .before .before .before .before .value-or .ensures) (c .before .before .before .before .before .before .before .before .before .before .before .before .before .store-object .ensures) (c .before .before .before .before .before .before .before .deliver-awaiter-success .result .woken) (c .before .before .before .before .before .before .before .deliver-awaiter-success .ensures l)
+returns-6 c = λ q l. resolves (now (c .before .before .before .before .before .before .before .before .before .before .before .before .before .before .before .before .before .before .before .before .before .before .before .before .before .before .args .tasks)) (now (c .before .before .before .before .before .before .before .before .before .before .before .before .before .before .before .before .before .before .before .before .before .before .before .before .before .before .args .objects)) (now (c .before .before .before .before .before .before .before .before .before .before .before .before .before .before .before .before .before .before .before .before .before .before .before .before .before .before .args .places)) q l (c .before .before .before .before .before .before .before .before .before .before .before .before .before .before .before .before .before .before .before .before .before .before .before .before .before .before .args .o .0) (c .before .before .before .before .before .before .before .before .before .before .before .before .before .before .before .before .before .before .before .before .before .load-object .ensures) (c .before .before .before .before .before .before .before .before .before .before .before .before .before .before .before .before .before .before .before .x .given .0 .0) (c .before .before .before .before .before .before .before .before .before .before .before .before .before .before .before .before .state .given .0 .0) (c .before .before .before .before .before .before .before .before .before .before .before .before .before .before .before .before .state .given .0 .1 .0) (c .before .before .before .before .before .before .before .before .before .before .before .before .before .before .before .before .before .before .before .x .given .1) (c .before .before .before .before .before .before .before .before .before .before .before .before .before .before .before .before .state .given .1) (c .before .before .before .before .before .before .before .before .before .before .before .before .before .before .before .before .before .before .before .before .before .before .before .before .before .before .args .value) (c .before .before .before .before .before .before .before .before .before .before .before .before .before .before .value-or .ensures) (c .before .before .before .before .before .before .before .before .before .before .before .before .store-object .ensures) (c .before .before .before .before .before .before .deliver-awaiter-success .result) (c .before .before .before .before .before .before .deliver-awaiter-success .ensures q l)
 
 pub resolve-at-spec : {M : Type 1} → statement M
 resolve-at-spec =

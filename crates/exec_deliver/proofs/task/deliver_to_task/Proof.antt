@@ -14,13 +14,13 @@ same-length : tie.Need-same-length
 same-length c = search needs
 
 returns : tie.Need-returns
-returns c = λ os ps l. reaches (now (c .before .before .before .before .before .before .before .before .args .tasks)) os ps (c .before .before .before .before .before .before .before .before .args .queue) l (c .before .before .before .before .before .before .before .before .args .t .0) (c .before .before .before .before .before .before .before .before .args .state) (c .before .before .before .before .before .is-blocked .ensures) (c .before .before .before .before .if1 .taken) (c .before .before .make-ready .ensures os ps l)
+returns c = λ q os ps l. reaches (now (c .before .before .before .before .before .before .before .before .args .tasks)) os ps q l (c .before .before .before .before .before .before .before .before .args .t .0) (c .before .before .before .before .before .before .before .before .args .state) (c .before .before .before .before .before .is-blocked .ensures) (c .before .before .before .before .if1 .taken) (c .before .before .make-ready .ensures q os ps l)
 
 same-length-2 : tie.Need-same-length-2
 same-length-2 c = search needs
 
 returns-2 : tie.Need-returns-2
-returns-2 c = λ os ps l. reaches-not (now (c .before .before .before .before .args .tasks)) os ps (c .before .before .before .before .args .queue) l (c .before .before .before .before .args .t .0) (c .before .before .before .before .args .state) (c .before .is-blocked .ensures) (c .if1 .left)
+returns-2 c = λ q os ps l. reaches-not (now (c .before .before .before .before .args .tasks)) os ps q l (c .before .before .before .before .args .t .0) (c .before .before .before .before .args .state) (c .before .is-blocked .ensures) (c .if1 .left)
 
 pub deliver-to-task-spec : {M : Type 1} → statement M
 deliver-to-task-spec =

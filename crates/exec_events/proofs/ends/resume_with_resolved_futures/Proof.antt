@@ -29,7 +29,7 @@ same-length-4 : tie.Need-same-length-4
 same-length-4 c = search needs
 
 returns-3 : tie.Need-returns-3
-returns-3 c = λ ps l w. resume-goes (now (c .before .before .before .before .before .before .before .before .before .before .before .before .args .tasks)) (now (c .before .before .before .before .before .before .before .before .before .before .before .before .args .objects)) ps (c .before .before .before .before .before .before .before .before .before .before .before .before .args .queue) l (c .before .before .before .before .before .before .before .before .if1 .left) (c .before .before .before .before .before .switch-or-yield .result .control) (c .before .before .before .before .before .switch-or-yield .ensures ps l w)
+returns-3 c = λ ps l w. resume-goes (now (c .before .before .before .before .before .before .before .before .before .before .before .before .before .args .tasks)) (now (c .before .before .before .before .before .before .before .before .before .before .before .before .before .args .objects)) ps (c .before .before .before .before .before .before .before .before .before .before .before .before .before .args .queue) l (c .before .before .before .before .before .before .before .before .before .if1 .left) (c .before .before .before .before .switch-or-yield .result) (c .before .before .before .before .switch-or-yield .ensures ps l w)
 
 pub resume-with-resolved-futures-spec : {M : Type 1} → statement M
 resume-with-resolved-futures-spec =

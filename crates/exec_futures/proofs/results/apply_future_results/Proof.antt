@@ -1,10 +1,12 @@
 use Prim.Native.Nat.{ℕ, _≤_, _-_, _+_, _*_}
 use mathlib.Core.Path.{_≡_, refl, ap, _∙_}
+use mathlib.Core.Logic.{⊎-elim}
 use mathlib.Core.List.{List}
 use native.Mathlib.Omega.{arith}
 use lib.ListN.{length}
 use denote.Ref.{now}
 use borrow.Author.Needs.{needs}
+use Rattle.exec_deliver.specs.Delivers.{queued}
 use Rattle.machine.specs.Store.{LogEntry, store-of}
 use Rattle.machine.specs.Events.{apply-future-results}
 use Rattle.exec_futures.specs.Results.{results-from, results-in}
@@ -27,6 +29,15 @@ mul-apply-result c = omega arith
 apply-result-requires : tie.Need-apply-result-requires Inv-loop μ-loop
 apply-result-requires c κs = (c .before .before .before .before .loop .inv .1 ∙ c .before .before .before .before .before .before .before .before .before .pre .0, c .before .before .before .before .loop .inv .2 ∙ c .before .before .before .before .before .before .before .before .before .pre .1, c .before .before .before .before .loop .inv .3 ∙ c .before .before .before .before .before .before .before .before .before .pre .2, omega arith)
 
+enum-told : tie.Need-enum-told Inv-loop μ-loop
+enum-told c = search needs
+
+enum-known-woken : tie.Need-enum-known-woken Inv-loop μ-loop
+enum-known-woken c = search needs
+
+push-back-requires : tie.Need-push-back-requires Inv-loop μ-loop
+push-back-requires c κs = search needs
+
 add-i : tie.Need-add-i Inv-loop μ-loop
 add-i c = omega arith
 
@@ -34,7 +45,7 @@ loop-less : tie.Need-loop-less Inv-loop μ-loop
 loop-less c = omega arith
 
 loop-again : tie.Need-loop-again Inv-loop μ-loop
-loop-again c = ((λ l. results-turn (now (c .before .before .before .before .before .before .before .before .before .before .before .before .before .before .before .before .args .results)) (store-of (now (c .before .before .before .before .before .before .before .before .before .before .before .before .before .before .before .before .args .tasks)) (now (c .before .before .before .before .before .before .before .before .before .before .before .before .before .before .before .before .args .objects)) (now (c .before .before .before .before .before .before .before .before .before .before .before .before .before .before .before .before .args .places)) (c .before .before .before .before .before .before .before .before .before .before .before .before .before .before .before .before .args .queue) l) (c .before .before .before .before .before .before .before .before .before .before .before .loop .i) (c .before .before .before .before .before .before .before .before .before .before .before .loop .inv .0 l) (c .before .before .before .before .before .before .apply-result .ensures)), c .before .before .before .before .before .before .apply-result .kept .0 ∙ c .before .before .before .before .before .before .before .before .before .before .before .loop .inv .1, c .before .before .before .before .before .before .apply-result .kept .1 .0 ∙ c .before .before .before .before .before .before .before .before .before .before .before .loop .inv .2, c .before .before .before .before .before .before .apply-result .kept .1 .1 .0 ∙ c .before .before .before .before .before .before .before .before .before .before .before .loop .inv .3, omega arith)
+loop-again c = let e : c .match .left ≡ queued (c .before .before .before .before .before .before .before .before .before .before .before .before .loop .left) (c .before .before .before .before .before .before .before .apply-result .result) = ⊎-elim (λ w. rw (w .1 .given .1) (w .2)) (λ w. rw (w .1 .given .1) (w .4 ∙ w .3 .ensures)) (c .match .came) in ((λ l. results-turn (now (c .before .before .before .before .before .before .before .before .before .before .before .before .before .before .before .before .before .args .results)) (store-of (now (c .before .before .before .before .before .before .before .before .before .before .before .before .before .before .before .before .before .args .tasks)) (now (c .before .before .before .before .before .before .before .before .before .before .before .before .before .before .before .before .before .args .objects)) (now (c .before .before .before .before .before .before .before .before .before .before .before .before .before .before .before .before .before .args .places)) (c .before .before .before .before .before .before .before .before .before .before .before .before .before .before .before .before .before .args .queue) l) (c .before .before .before .before .before .before .before .before .before .before .before .before .loop .i) (c .before .before .before .before .before .before .before .before .before .before .before .before .loop .inv .0 l) (λ k. rw e (c .before .before .before .before .before .before .before .apply-result .ensures (c .before .before .before .before .before .before .before .before .before .before .before .before .loop .left) k))), c .before .before .before .before .before .before .before .apply-result .kept .0 ∙ c .before .before .before .before .before .before .before .before .before .before .before .before .loop .inv .1, c .before .before .before .before .before .before .before .apply-result .kept .1 .0 ∙ c .before .before .before .before .before .before .before .before .before .before .before .before .loop .inv .2, c .before .before .before .before .before .before .before .apply-result .kept .1 .1 .0 ∙ c .before .before .before .before .before .before .before .before .before .before .before .before .loop .inv .3, omega arith)
 
 same-length : tie.Need-same-length Inv-loop μ-loop
 same-length c = c .before .loop .inv .1
@@ -57,6 +68,9 @@ apply-future-results-spec =
     loop-holds
     mul-apply-result
     apply-result-requires
+    enum-told
+    enum-known-woken
+    push-back-requires
     add-i
     loop-less
     loop-again

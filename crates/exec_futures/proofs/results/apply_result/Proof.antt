@@ -45,7 +45,7 @@ same-length-3 : tie.Need-same-length-3
 same-length-3 c = search needs
 
 returns : tie.Need-returns
-returns c = λ l. applies-value (now (c .before .before .before .before .before .before .before .before .before .before .before .before .before .before .before .before .before .before .before .before .args .tasks)) (now (c .before .before .before .before .before .before .before .before .before .before .before .before .before .before .before .before .before .before .before .before .args .objects)) (now (c .before .before .before .before .before .before .before .before .before .before .before .before .before .before .before .before .before .before .before .before .args .places)) (c .before .before .before .before .before .before .before .before .before .before .before .before .before .before .before .before .before .before .before .before .args .queue) l (result-at (now (c .before .before .before .before .before .before .before .before .before .before .before .before .before .before .before .before .before .before .before .before .args .results)) (c .before .before .before .before .before .before .before .before .before .before .before .before .before .before .before .before .before .before .before .before .args .at)) (c .before .before .before .before .before .before .before .before .before .before .before .before .before .before .before .u32-at .ensures .0) (c .before .before .before .before .before .before .before .before .before .before .before .before .before .before .u8-at .ensures .0) (c .before .before .before .before .before .before .before .before .before .before .before .before .before .if1 .taken) (c .before .before .before .before .before .before .before .before .before .before .before .before .u8-at2 .ensures .0) (c .before .before .before .before .before .before .before .before .before .before .before .u64-at .ensures) (c .before .before .before .before .before .before .before .to-value .ensures) (c .before .before .before .before .before .before .resolve-future .ensures l)
+returns c = λ q l. applies-value (now (c .before .before .before .before .before .before .before .before .before .before .before .before .before .before .before .before .before .before .before .before .args .tasks)) (now (c .before .before .before .before .before .before .before .before .before .before .before .before .before .before .before .before .before .before .before .before .args .objects)) (now (c .before .before .before .before .before .before .before .before .before .before .before .before .before .before .before .before .before .before .before .before .args .places)) q l (result-at (now (c .before .before .before .before .before .before .before .before .before .before .before .before .before .before .before .before .before .before .before .before .args .results)) (c .before .before .before .before .before .before .before .before .before .before .before .before .before .before .before .before .before .before .before .before .args .at)) (c .before .before .before .before .before .before .before .before .before .before .before .before .before .before .before .u32-at .ensures .0) (c .before .before .before .before .before .before .before .before .before .before .before .before .before .before .u8-at .ensures .0) (c .before .before .before .before .before .before .before .before .before .before .before .before .before .if1 .taken) (c .before .before .before .before .before .before .before .before .before .before .before .before .u8-at2 .ensures .0) (c .before .before .before .before .before .before .before .before .before .before .before .u64-at .ensures) (c .before .before .before .before .before .before .before .to-value .ensures) (c .before .before .before .before .before .before .resolve-future .ensures q l)
 
 add-u64-at-2 : tie.Need-add-u64-at-2
 add-u64-at-2 c = search needs
@@ -66,10 +66,10 @@ same-length-5 : tie.Need-same-length-5
 same-length-5 c = search needs
 
 returns-2 : tie.Need-returns-2
-returns-2 c = λ l. applies-error (now (c .before .before .before .before .before .before .before .before .before .before .before .before .before .before .before .before .before .args .tasks)) (now (c .before .before .before .before .before .before .before .before .before .before .before .before .before .before .before .before .before .args .objects)) (now (c .before .before .before .before .before .before .before .before .before .before .before .before .before .before .before .before .before .args .places)) (c .before .before .before .before .before .before .before .before .before .before .before .before .before .before .before .before .before .args .queue) l (result-at (now (c .before .before .before .before .before .before .before .before .before .before .before .before .before .before .before .before .before .args .results)) (c .before .before .before .before .before .before .before .before .before .before .before .before .before .before .before .before .before .args .at)) (c .before .before .before .before .before .before .before .before .before .before .before .before .u32-at .ensures .0) (c .before .before .before .before .before .before .before .before .before .before .before .u8-at .ensures .0) (c .before .before .before .before .before .before .before .before .before .before .if1 .left) (c .before .before .before .before .before .before .before .before .before .if2 .taken) (c .before .before .before .before .before .before .before .before .u64-at2 .ensures) (c .before .before .before .before .before .to-error .ensures) (c .before .before .before .before .fail-future .ensures (now (c .before .before .before .before .before .before .before .before .before .before .before .before .before .before .before .before .before .args .places)) l (c .before .before .before .before .before .before .before .before .before .before .before .before .before .before .before .before .before .pre .2))
+returns-2 c = λ q l. applies-error (now (c .before .before .before .before .before .before .before .before .before .before .before .before .before .before .before .before .before .args .tasks)) (now (c .before .before .before .before .before .before .before .before .before .before .before .before .before .before .before .before .before .args .objects)) (now (c .before .before .before .before .before .before .before .before .before .before .before .before .before .before .before .before .before .args .places)) q l (result-at (now (c .before .before .before .before .before .before .before .before .before .before .before .before .before .before .before .before .before .args .results)) (c .before .before .before .before .before .before .before .before .before .before .before .before .before .before .before .before .before .args .at)) (c .before .before .before .before .before .before .before .before .before .before .before .before .u32-at .ensures .0) (c .before .before .before .before .before .before .before .before .before .before .before .u8-at .ensures .0) (c .before .before .before .before .before .before .before .before .before .before .if1 .left) (c .before .before .before .before .before .before .before .before .before .if2 .taken) (c .before .before .before .before .before .before .before .before .u64-at2 .ensures) (c .before .before .before .before .before .to-error .ensures) (c .before .before .before .before .fail-future .ensures q (now (c .before .before .before .before .before .before .before .before .before .before .before .before .before .before .before .before .before .args .places)) l (c .before .before .before .before .before .before .before .before .before .before .before .before .before .before .before .before .before .pre .2))
 
 returns-3 : tie.Need-returns-3
-returns-3 c = λ l. applies-nothing (now (c .before .before .before .before .before .before .before .before .before .args .tasks)) (now (c .before .before .before .before .before .before .before .before .before .args .objects)) (now (c .before .before .before .before .before .before .before .before .before .args .places)) (c .before .before .before .before .before .before .before .before .before .args .queue) l (result-at (now (c .before .before .before .before .before .before .before .before .before .args .results)) (c .before .before .before .before .before .before .before .before .before .args .at)) (c .before .before .before .before .u32-at .ensures .0) (c .before .before .before .u8-at .ensures .0) (c .before .before .if1 .left) (c .before .if2 .left) (c .if3 .taken)
+returns-3 c = λ q l. applies-nothing (now (c .before .before .before .before .before .before .before .before .before .args .tasks)) (now (c .before .before .before .before .before .before .before .before .before .args .objects)) (now (c .before .before .before .before .before .before .before .before .before .args .places)) q l (result-at (now (c .before .before .before .before .before .before .before .before .before .args .results)) (c .before .before .before .before .before .before .before .before .before .args .at)) (c .before .before .before .before .u32-at .ensures .0) (c .before .before .before .u8-at .ensures .0) (c .before .before .if1 .left) (c .before .if2 .left) (c .if3 .taken)
 
 fail-future-requires-2 : tie.Need-fail-future-requires-2
 fail-future-requires-2 c κs = search needs
@@ -81,7 +81,7 @@ same-length-7 : tie.Need-same-length-7
 same-length-7 c = search needs
 
 returns-4 : tie.Need-returns-4
-returns-4 c = λ l. applies-not-found (now (c .before .before .before .before .before .before .before .before .before .before .before .before .before .before .before .before .before .args .tasks)) (now (c .before .before .before .before .before .before .before .before .before .before .before .before .before .before .before .before .before .args .objects)) (now (c .before .before .before .before .before .before .before .before .before .before .before .before .before .before .before .before .before .args .places)) (c .before .before .before .before .before .before .before .before .before .before .before .before .before .before .before .before .before .args .queue) l (result-at (now (c .before .before .before .before .before .before .before .before .before .before .before .before .before .before .before .before .before .args .results)) (c .before .before .before .before .before .before .before .before .before .before .before .before .before .before .before .before .before .args .at)) (c .before .before .before .before .before .before .before .before .before .before .before .before .u32-at .ensures .0) (c .before .before .before .before .before .before .before .before .before .before .before .u8-at .ensures .0) (c .before .before .before .before .before .before .before .before .before .before .if1 .left) (c .before .before .before .before .before .before .before .before .before .if2 .left) (c .before .before .before .before .before .before .before .before .if3 .left) (c .before .before .before .before .before .before .before .if4 .taken) (c .before .before .before .before .fail-future2 .ensures (now (c .before .before .before .before .before .before .before .before .before .before .before .before .before .before .before .before .before .args .places)) l (c .before .before .before .before .before .before .before .before .before .before .before .before .before .before .before .before .before .pre .2))
+returns-4 c = λ q l. applies-not-found (now (c .before .before .before .before .before .before .before .before .before .before .before .before .before .before .before .before .before .args .tasks)) (now (c .before .before .before .before .before .before .before .before .before .before .before .before .before .before .before .before .before .args .objects)) (now (c .before .before .before .before .before .before .before .before .before .before .before .before .before .before .before .before .before .args .places)) q l (result-at (now (c .before .before .before .before .before .before .before .before .before .before .before .before .before .before .before .before .before .args .results)) (c .before .before .before .before .before .before .before .before .before .before .before .before .before .before .before .before .before .args .at)) (c .before .before .before .before .before .before .before .before .before .before .before .before .u32-at .ensures .0) (c .before .before .before .before .before .before .before .before .before .before .before .u8-at .ensures .0) (c .before .before .before .before .before .before .before .before .before .before .if1 .left) (c .before .before .before .before .before .before .before .before .before .if2 .left) (c .before .before .before .before .before .before .before .before .if3 .left) (c .before .before .before .before .before .before .before .if4 .taken) (c .before .before .before .before .fail-future2 .ensures q (now (c .before .before .before .before .before .before .before .before .before .before .before .before .before .before .before .before .before .args .places)) l (c .before .before .before .before .before .before .before .before .before .before .before .before .before .before .before .before .before .pre .2))
 
 fail-future-requires-3 : tie.Need-fail-future-requires-3
 fail-future-requires-3 c κs = search needs
@@ -93,7 +93,7 @@ same-length-9 : tie.Need-same-length-9
 same-length-9 c = search needs
 
 returns-5 : tie.Need-returns-5
-returns-5 c = λ l. applies-module-file (now (c .before .before .before .before .before .before .before .before .before .before .before .before .before .before .before .before .before .args .tasks)) (now (c .before .before .before .before .before .before .before .before .before .before .before .before .before .before .before .before .before .args .objects)) (now (c .before .before .before .before .before .before .before .before .before .before .before .before .before .before .before .before .before .args .places)) (c .before .before .before .before .before .before .before .before .before .before .before .before .before .before .before .before .before .args .queue) l (result-at (now (c .before .before .before .before .before .before .before .before .before .before .before .before .before .before .before .before .before .args .results)) (c .before .before .before .before .before .before .before .before .before .before .before .before .before .before .before .before .before .args .at)) (c .before .before .before .before .before .before .before .before .before .before .before .before .u32-at .ensures .0) (c .before .before .before .before .before .before .before .before .before .before .before .u8-at .ensures .0) (c .before .before .before .before .before .before .before .before .before .before .if1 .left) (c .before .before .before .before .before .before .before .before .before .if2 .left) (c .before .before .before .before .before .before .before .before .if3 .left) (c .before .before .before .before .before .before .before .if4 .left) (c .before .before .before .before .fail-future3 .ensures (now (c .before .before .before .before .before .before .before .before .before .before .before .before .before .before .before .before .before .args .places)) l (c .before .before .before .before .before .before .before .before .before .before .before .before .before .before .before .before .before .pre .2))
+returns-5 c = λ q l. applies-module-file (now (c .before .before .before .before .before .before .before .before .before .before .before .before .before .before .before .before .before .args .tasks)) (now (c .before .before .before .before .before .before .before .before .before .before .before .before .before .before .before .before .before .args .objects)) (now (c .before .before .before .before .before .before .before .before .before .before .before .before .before .before .before .before .before .args .places)) q l (result-at (now (c .before .before .before .before .before .before .before .before .before .before .before .before .before .before .before .before .before .args .results)) (c .before .before .before .before .before .before .before .before .before .before .before .before .before .before .before .before .before .args .at)) (c .before .before .before .before .before .before .before .before .before .before .before .before .u32-at .ensures .0) (c .before .before .before .before .before .before .before .before .before .before .before .u8-at .ensures .0) (c .before .before .before .before .before .before .before .before .before .before .if1 .left) (c .before .before .before .before .before .before .before .before .before .if2 .left) (c .before .before .before .before .before .before .before .before .if3 .left) (c .before .before .before .before .before .before .before .if4 .left) (c .before .before .before .before .fail-future3 .ensures q (now (c .before .before .before .before .before .before .before .before .before .before .before .before .before .before .before .before .before .args .places)) l (c .before .before .before .before .before .before .before .before .before .before .before .before .before .before .before .before .before .pre .2))
 
 pub apply-result-spec : {M : Type 1} → statement M
 apply-result-spec =

@@ -17,7 +17,7 @@ same-length-2 : tie.Need-same-length-2
 same-length-2 c = search needs
 
 returns : tie.Need-returns
-returns c = λ ps l. runs-now (now (c .before .before .before .before .before .before .before .before .before .before .args .tasks)) (now (c .before .before .before .before .before .before .before .before .before .before .args .objects)) ps (c .before .before .before .before .before .before .before .before .before .before .args .queue) l (c .before .before .before .before .before .before .before .before .before .before .args .t) (c .before .before .before .before .before .before .before .before .before .before .args .how) (c .before .before .before .before .before .before .set-state .ensures) (c .before .before .set-moment .ensures)
+returns c = λ ps q l. runs-now (now (c .before .before .before .before .before .before .before .before .before .before .args .tasks)) (now (c .before .before .before .before .before .before .before .before .before .before .args .objects)) ps q l (c .before .before .before .before .before .before .before .before .before .before .args .t) (c .before .before .before .before .before .before .before .before .before .before .args .how) (c .before .before .before .before .before .before .set-state .ensures) (c .before .before .set-moment .ensures)
 
 pub run-spec : {M : Type 1} → statement M
 run-spec =

@@ -11,7 +11,7 @@ same-length : tie.Need-same-length
 same-length c = search needs
 
 returns : tie.Need-returns
-returns c = λ ts ps l. yields ts (now (c .before .before .before .before .before .args .objects)) ps (c .before .before .before .before .before .args .queue) l (c .before .before .before .before .before .pre) (c .before .before .set-moment .ensures)
+returns c = λ ts ps q l. yields ts (now (c .before .before .before .before .before .args .objects)) ps q l (c .before .before .before .before .before .pre) (c .before .before .set-moment .ensures)
 
 pub yield-control-spec : {M : Type 1} → statement M
 yield-control-spec = tie.close (tie.spec set-moment-requires same-length returns)

@@ -7,15 +7,12 @@ use Rattle.scheduler.proofs.states.make_ready.Tie as tie
 set-state-requires : tie.Need-set-state-requires
 set-state-requires c κs = search needs
 
-push-back-requires : tie.Need-push-back-requires
-push-back-requires c κs = search needs
-
 same-length : tie.Need-same-length
 same-length c = search needs
 
 returns : tie.Need-returns
 unfolding make-ready push-ready set-state put-task put-queue task
-returns c = λ os ps l. rw (c .push-back .ensures, c .before .before .before .set-state .ensures)
+returns c = λ q os ps l. rw (c .before .before .set-state .ensures)
 
 pub make-ready-spec : {M : Type 1} → statement M
-make-ready-spec = tie.close (tie.spec set-state-requires push-back-requires same-length returns)
+make-ready-spec = tie.close (tie.spec set-state-requires same-length returns)
