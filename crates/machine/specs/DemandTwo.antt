@@ -120,15 +120,14 @@ pub record Elsewhere (y : Session) (g o : ℕ) : Type 0 where
   pub among : is-in o (items (y .history) user) ≡ true
 
 -- Who uses item o of gather g, by what is shown of it, and the error for that: a coroutine has started, or has a live task, which another gather has spawned;
--- a pending external was awaited, or is another gather's; a gather is awaited.
+-- a pending external, or an awaited gather, was awaited by a task, or another gather has it.
 pub data InUse (y : Session) (g o : ℕ) : Shown → Error → Type 0 where
   is-running : (f : ℕ) → InUse y g o (Shown.a-coroutine CoroutineState.Running f) Error.CoroutineReuse
   is-completed : (f : ℕ) → InUse y g o (Shown.a-coroutine CoroutineState.Completed f) Error.CoroutineReuse
   has-task : (f t : ℕ) → lives (y .history) t ≡ true → spawned-for (y .history) t ≡ some o → Elsewhere y g o
       → InUse y g o (Shown.a-coroutine CoroutineState.New f) Error.CoroutineReuse
-  was-awaited : awaited-before (y .history) o ≡ true → InUse y g o Shown.an-external-pending Error.FutureReuse
-  has-slot : Elsewhere y g o → InUse y g o Shown.an-external-pending Error.FutureReuse
-  is-awaited : (vs : List (Option Value)) → InUse y g o (Shown.a-gather-awaited vs) Error.GatherReuse
+  is-pending : (awaited-before (y .history) o ≡ true) ⊎ Elsewhere y g o → InUse y g o Shown.an-external-pending Error.FutureReuse
+  is-awaited : (vs : List (Option Value)) → (awaited-before (y .history) o ≡ true) ⊎ Elsewhere y g o → InUse y g o (Shown.a-gather-awaited vs) Error.GatherReuse
 
 -- The exception (document 01, module 4): a commit that meets an item in use fails with the reuse error of that item. The items left of it have raised nothing,
 -- and are other objects ("An item already open gets another place").

@@ -17,11 +17,11 @@ use Rattle.machine.specs.Events.{Result}
 use Rattle.machine.specs.Machine.{Shown, shown}
 use Rattle.machine.specs.Scheduler.{live}
 use Rattle.machine.specs.Tests.{is-in}
-use Rattle.machine.specs.History.{items, error-of, lives, spawned-for}
+use Rattle.machine.specs.History.{items, error-of, lives, spawned-for, awaited-before}
 use Rattle.machine.specs.Sessions.{Sent, Session, AllSentInRange, lent-any, begun, send, session}
 use Rattle.machine.specs.Singles.{accepted-batch, each-alone, cut-by, cut, singles-from, singles}
 use Rattle.machine.specs.DemandThree.{look}
-use Rattle.machine.specs.DemandTwo.{came, committed, Elsewhere, InUse, is-running, is-completed, has-task, was-awaited, has-slot, is-awaited, ReuseAt, Reused}
+use Rattle.machine.specs.DemandTwo.{came, committed, Elsewhere, InUse, is-running, is-completed, has-task, is-pending, is-awaited, ReuseAt, Reused}
 use Rattle.machine_sessions.specs.Queue.Following.{session-follows}
 use Rattle.machine_sessions.specs.Places.Told.{many, frozen}
 use Rattle.machine_sessions.specs.Places.Agrees.{ItemsAt}
@@ -96,13 +96,16 @@ module _ (es : List Sent) (i : AllSentInRange es) (g o : ℕ) where
       let c : committed (look (session es .store) (k .user)) ≡ true = ap committed (sym (singles-look es i (k .user))) ∙ k .was-committed in
       record { user = k .user; other = k .other; was-committed = c; among = ap (is-in o) (sym (singles-items es i (k .user) c)) ∙ k .among }
 
+  singles-taken : (awaited-before (session (singles es) .history) o ≡ true) ⊎ Elsewhere (session (singles es)) g o → (awaited-before (session es .history) o ≡ true) ⊎ Elsewhere (session es) g o
+  singles-taken (inl k) = inl (sym (session-same es i .awaits o) ∙ k)
+  singles-taken (inr k) = inr (singles-elsewhere k)
+
   singles-in-use : (v : Shown) (e : Error) → InUse (session (singles es)) g o v e → InUse (session es) g o v e
   singles-in-use _ _ (is-running f) = is-running f
   singles-in-use _ _ (is-completed f) = is-completed f
   singles-in-use _ _ (has-task f t l s k) = has-task f t (sym (singles-lives es i t) ∙ l) (sym (session-same es i .spawns t) ∙ s) (singles-elsewhere k)
-  singles-in-use _ _ (was-awaited k) = was-awaited (sym (session-same es i .awaits o) ∙ k)
-  singles-in-use _ _ (has-slot k) = has-slot (singles-elsewhere k)
-  singles-in-use _ _ (is-awaited vs) = is-awaited vs
+  singles-in-use _ _ (is-pending k) = is-pending (singles-taken k)
+  singles-in-use _ _ (is-awaited vs k) = is-awaited vs (singles-taken k)
 
 singles-reuse-at : (es : List Sent) (i : AllSentInRange es) (g : ℕ) (e : Error) → committed (look (session es .store) g) ≡ true → ReuseAt (session (singles es)) g e → ReuseAt (session es) g e
 singles-reuse-at es i g e c r =

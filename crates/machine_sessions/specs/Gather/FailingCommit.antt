@@ -47,8 +47,8 @@ use Rattle.machine_theorems.specs.Soundness.CommitLoop.{awaits-fits, Commits, s
 use Rattle.machine_theorems.specs.Soundness.CommitItems.{AtEnd, AtNested, AtError, StopOk, inv-count}
 use Rattle.machine_theorems.specs.Soundness.AwaitGather.{nested-commits, frame-stops, commit-begins}
 use Rattle.machine_sessions.specs.Gather.Failing.{RowMoves, CommitMoves, FailedRow, commit-moves, commit-failed, commit-pending, commit-places, failed-awaited}
-use Rattle.machine_sessions.specs.Gather.FailingStated.{Passed, Settled, Other, TaskFor, Busy, Reuses, coroutine-reused, future-reused, gather-reused, PollRaises, broken, failed, reuses, item-at, ItemSlot, Took, CommitFailed}
-use Rattle.machine_sessions.specs.Gather.FailingCommitSteps.{Committing, committing-begins, committing-row, opened-moves, not-coroutine, Taking, taking-begins, taking-gather, Calm, Level, Levels, Going, Onward, keeps-same, level-onward, levels-onward, going-opens, going-fills}
+use Rattle.machine_sessions.specs.Gather.FailingStated.{Passed, Settled, Other, TaskFor, Busy, Reuses, coroutine-reused, future-reused, gather-reused, PollRaises, broken, failed, reuses, item-at, ItemSlot, Took, SlotIn, Opens, CommitFailed}
+use Rattle.machine_sessions.specs.Gather.FailingCommitSteps.{Committing, committing-begins, committing-row, opened-moves, not-coroutine, Taking, taking-begins, taking-gather, Opening, opening-begins, opening-row, Calm, Level, Levels, Going, Onward, keeps-same, level-onward, levels-onward, going-opens, going-fills}
 use Rattle.machine_sessions.specs.Gather.FailingCommitItems.{AtRaise, AtDone, StopFails, items-fails, stack-above}
 
 -- a pending gather is not awaited
@@ -136,7 +136,7 @@ module _ (x v : Store) (g o : ℕ) (ts : (t : ℕ) → task v t ≡ task x t) (h
   reuses-same : (y : Object) (e : Error) → Reuses x g o y e → Reuses v g o y e
   reuses-same _ _ (coroutine-reused f z b) = coroutine-reused f z (busy-same z b)
   reuses-same _ _ (future-reused c a r d) = future-reused c a r d
-  reuses-same _ _ (gather-reused f n a m) = gather-reused f n a m
+  reuses-same _ _ (gather-reused f n a m d) = gather-reused f n a m d
 
   polls-same : (y : Object) (e : Error) → PollRaises x g o y e → PollRaises v g o y e
   polls-same _ _ (broken c e) = broken c e
@@ -156,6 +156,7 @@ module _ (s : Store) where
     pub for-it : (t : ℕ) (b : Option ℕ) → header s .next ≤ t → t < header u .next → spawned-by b (u .log) t ≡ some (task u t .coroutine .0)
     pub slot : (t : ℕ) → header s .next ≤ t → t < header u .next → ItemSlot s (task u t .coroutine .0) (task u t .awaiter)
     pub takes : Taking s u
+    pub opens : Opening s (λ p. ⊥) u
 
   -- a gather of the stack has failed
   record Falls (u : Store) (e : Error) (g : ℕ) : Type 0 where
@@ -250,6 +251,7 @@ module _ (s : Store) where
         for-it = λ i b a l. ap (λ (y : List LogEntry). spawned-by b y i) (same .1) ∙ (c .for-it i b a (subst (λ (y : Header). i < y .next) (same .2) l) ∙ ap (λ (y : Task). some (y .coroutine .0)) (sym (same-task i)));
         slot = λ i a l. subst (λ (y : Task). ItemSlot s (y .coroutine .0) (y .awaiter)) (sym (same-task i)) (c .slot i a (subst (λ (y : Header). i < y .next) (same .2) l));
         takes = λ o r q. took o r q (on-stack (f ∷ fs) o);
+        opens = λ o a b q. opened o a q (on-stack (f ∷ fs) o);
       }
     where
       g : ℕ
@@ -292,6 +294,10 @@ module _ (s : Store) where
       took o r q (yes i) = absurd-some (sym (ap as-pending (all-fall o i .now) ∙ (unfold as-pending in refl)) ∙ q)
       took o r q (no n) = k .going .taking o r (sym (ap as-pending (other o n)) ∙ q)
 
+      opened : (o : ℕ) (a : AwaitedGather) → as-awaited (object v o) ≡ some a → Dec (OnStack (f ∷ fs) o) → Opens s o (a .awaiter)
+      opened o a q (yes i) = absurd-some (sym (ap as-awaited (all-fall o i .now) ∙ (unfold as-awaited in refl)) ∙ q)
+      opened o a q (no n) = k .going .opening o a n (sym (ap as-awaited (other o n)) ∙ q)
+
       moved : (o : ℕ) → Dec (OnStack (f ∷ fs) o) → RowMoves (object s o) (object v o)
       moved o (yes i) =
           let y = all-fall o i in
@@ -311,14 +317,15 @@ module _ (s : Store) where
 
   -- ---- a gather not committed yet is opened, and comes on the stack
 
-  opened-going : (x : Store) (o f n : ℕ) (a : Awaiter) (g i : ℕ) (fs : List Frame) (Q : ℕ → Type 0) → Sized x → o < object-limit → AwaiterFits a → object x o ≡ Object.GatherFuture f n GatherState.Pending → Committing s x → Taking s x
-      → Levels s Q x fs → ((p : ℕ) → OnStack fs p → Q p) → ((p : ℕ) → OnStack fs p → p ≡ o → ⊥) → Going s (open-gather-commit x o a) o 0 fs
+  opened-going : (x : Store) (o f n : ℕ) (a : Awaiter) (g i : ℕ) (fs : List Frame) (Q : ℕ → Type 0) → Sized x → o < object-limit → AwaiterFits a → object x o ≡ Object.GatherFuture f n GatherState.Pending → Committing s x → Taking s x → Opening s Q x
+      → Levels s Q x fs → ((p : ℕ) → OnStack fs p → Q p) → ((p : ℕ) → Q p → OnStack fs p) → ((p : ℕ) → OnStack fs p → p ≡ o → ⊥) → Going s (open-gather-commit x o a) o 0 fs
   unfolding open-gather-commit set-gather with-state
-  opened-going x o f n a g i fs Q z l fa q c t ls sub apart =
+  opened-going x o f n a g i fs Q z l fa q c t op ls sub back apart =
       subst (λ (y : Object). Going s (put-object x o y) o 0 fs) (sym (ap (λ (y : Object). with-state y (GatherState.Awaited a 0)) q))
       (record {
         commits = committing-row s x o y z l fits (subst (λ (b : Object). CommitMoves b y) (sym was) (refl, refl, tt)) (λ d e. no-coroutine f n d (sym q ∙ e)) c;
         taking = taking-gather s x o f n (GatherState.Awaited a 0) z l fits t;
+        opening = opening-row s Q (OnTop o fs) x o y z l fits (λ v b e. absurd (b (inl refl))) (λ p d b e. b (inr (back p e))) op;
         top = record {
           first = f;
           count = n;
@@ -368,7 +375,7 @@ module _ (s : Store) where
   unfolding view Levels
   nested-going root t f fs x i o h k =
       opened-going x o (h .first) (h .count) (Awaiter.GatherSlot (heap-id (f .gather)) (heap-id o)) (f .gather) i (record { gather = f .gather; next = i } ∷ fs) (OnTop (f .gather) fs) (h .memory .sized) low-o (low-g, low-o) (h .is-new)
-      (k .commits) (k .taking) (unfold Levels in (k .top, k .below)) (λ p z. z) apart
+      (k .commits) (k .taking) (k .opening) (unfold Levels in (k .top, k .below)) (λ p z. z) (λ p z. z) apart
     where
       low-g : f .gather < object-limit
       low-g = omega (arith, h .inv .opened .made, header-fits x .made-fits)
@@ -396,23 +403,41 @@ module _ (s : Store) where
       subst (λ (y : Object). Taking s (put-object x g y)) (sym (with-state-is (object x g) w GatherState.Completed e))
       (taking-gather s x g (w .first) (w .count) GatherState.Completed z l (awaited-fits x g w e .0, tt) t)
 
-  -- where a commit ends
-  abbrev pub EndFails : Store → Poll → Type 0
-  EndFails u (ready v) = Committing s u × Taking s u
-  EndFails u (raised e) = Unwound u
-  EndFails u pending = Committing s u × Taking s u
+  -- where a commit of gather `root` for task t ends
+  abbrev pub EndFails : ℕ → ℕ → Store → Poll → Type 0
+  EndFails root t u (ready v) = Committing s u × Taking s u × Opening s (λ p. ⊥) u
+  EndFails root t u (raised e) = Unwound u
+  EndFails root t u pending = Committing s u × Taking s u × Opening s (λ p. p ≡ root) u × ((v : AwaitedGather) → as-awaited (object u root) ≡ some v → v .awaiter ≡ Awaiter.Task (task-id t))
 
-  root-fails : (root t : ℕ) (x : Store) (g i j : ℕ) → Memory x → Inv root t 0 (OnTop g []) (view x) g i [] → Going s x g j [] → EndFails (settle-gather-commit x g .store) (settle-gather-commit x g .poll)
+  -- the gather on top leaves the stack completed
+  completed-opens : (x : Store) (g : ℕ) (Q R : ℕ → Type 0) (w : AwaitedGather) → Sized x → g < object-limit → as-awaited (object x g) ≡ some w → ((p : ℕ) → (p ≡ g → ⊥) → (R p → ⊥) → Q p → ⊥) → Opening s Q x → Opening s R (set-gather x g GatherState.Completed)
+  unfolding set-gather as-awaited
+  completed-opens x g Q R w z l e off k =
+      subst (λ (y : Object). Opening s R (put-object x g y)) (sym (with-state-is (object x g) w GatherState.Completed e))
+      (opening-row s Q R x g (Object.GatherFuture (w .first) (w .count) GatherState.Completed) z l (awaited-fits x g w e .0, tt) (λ v n q. absurd-some q) off k)
+
+  root-fails : (root t : ℕ) (x : Store) (g i j : ℕ) → Memory x → Inv root t 0 (OnTop g []) (view x) g i [] → Going s x g j [] → EndFails root t (settle-gather-commit x g .store) (settle-gather-commit x g .poll)
   unfolding settle-gather-commit view
   root-fails root t x g i j mem h k =
-      subst (λ (o : Option AwaitedGather). EndFails (settle-as x g o .store) (settle-as x g o .poll)) (sym (h .opened .awaited)) (unfold settle-as in (by (eqb (h .w .open-places) 0)))
+      subst (λ (o : Option AwaitedGather). EndFails root t (settle-as x g o .store) (settle-as x g o .poll)) (sym (h .opened .awaited)) (unfold settle-as in (by (eqb (h .w .open-places) 0)))
     where
-      by : (b : Bool) → EndFails (pick b (gives (set-gather x g GatherState.Completed) (ready (Value.List (heap-id g)))) (gives x pending) .store)
+      alone : (p : ℕ) → (p ≡ g → ⊥) → (⊥ → ⊥) → OnTop g [] p → ⊥
+      alone p n z (inl d) = n d
+      alone p n z (inr d) = d
+
+      is-root : {a : Awaiter} {n : ℕ} → Stacked (header x .made) (object x) (place x) root t g a [] n → (g ≡ root) × (a ≡ Awaiter.Task (task-id t))
+      is-root (bottom d q) = (d, q)
+
+      only : (p : ℕ) → OnTop g [] p → p ≡ root
+      only p (inl d) = d ∙ is-root (h .stack) .0
+      only p (inr d) = absurd d
+
+      by : (b : Bool) → EndFails root t (pick b (gives (set-gather x g GatherState.Completed) (ready (Value.List (heap-id g)))) (gives x pending) .store)
           (pick b (gives (set-gather x g GatherState.Completed) (ready (Value.List (heap-id g)))) (gives x pending) .poll)
       by true =
           let low : g < object-limit = omega (arith, h .opened .made, header-fits x .made-fits) in
-          (completed-commits x g j [] (h .w) (mem .sized) low (h .opened .awaited) k, completed-takes x g (h .w) (mem .sized) low (h .opened .awaited) (k .taking))
-      by false = (k .commits, k .taking)
+          (completed-commits x g j [] (h .w) (mem .sized) low (h .opened .awaited) k, completed-takes x g (h .w) (mem .sized) low (h .opened .awaited) (k .taking), completed-opens x g (OnTop g []) (λ p. ⊥) (h .w) (mem .sized) low (h .opened .awaited) alone (k .opening))
+      by false = (k .commits, k .taking, λ o v n e. k .opening o v (λ z. n (only o z)) e, λ v e. ap (λ (y : AwaitedGather). y .awaiter) (sym (Option·some-injective (h .w) v (sym (h .opened .awaited) ∙ (ap (λ (p : ℕ). as-awaited (object x p)) (is-root (h .stack) .0) ∙ e)))) ∙ is-root (h .stack) .1)
 
   module _ (root t : ℕ) (x : Store) (g i j : ℕ) (p : Frame) (ps : List Frame) (mem : Memory x) (h : Inv root t 0 (OnTop g (p ∷ ps)) (view x) g i (p ∷ ps)) (k : Going s x g j (p ∷ ps)) where
     abbrev Next : Store → Type 0
@@ -455,6 +480,32 @@ module _ (s : Store) where
     unfolding set-gather
     completed-same = ap (put-object x g) (with-state-is (object x g) (h .w) GatherState.Completed top)
 
+    -- its next place names g
+    item-is : (w : AwaitedGather) → as-awaited (object x (p .gather)) ≡ some w → place x (w .first + p .next) .item .0 ≡ g → g ≡ item-at s (p .gather) (p .next)
+    item-is w e nm =
+        sym nm ∙ (k .commits .items (w .first + p .next)
+        ∙ ap (λ (n : ℕ). place s (n + p .next) .item .0)
+        (sym (commit-places (object s (p .gather)) (w .first) (w .count) (GatherState.Awaited (w .awaiter) (w .open-places)) (subst (CommitMoves (object s (p .gather))) (awaited-object (object x (p .gather)) w e) (k .commits .moves (p .gather))) .0)))
+
+    off-rest : (q : ℕ) → (q ≡ g → ⊥) → (OnTop (p .gather) ps q → ⊥) → OnTop g (p ∷ ps) q → ⊥
+    off-rest q n m (inl d) = n d
+    off-rest q n m (inr z) = m z
+
+    -- g has left the stack, awaited by the gather below it
+    parked-opens : (o : ℕ) (v : AwaitedGather) → (OnTop (p .gather) ps o → ⊥) → as-awaited (object x o) ≡ some v → Dec (o ≡ g) → Opens s o (v .awaiter)
+    unfolding view
+    parked-opens o v n e (no ne) = k .opening o v (off-rest o ne n) e
+    parked-opens o v n e (yes d) = by (h .stack)
+      where
+        by : {m : ℕ} → Stacked (header x .made) (object x) (place x) root t g (h .w .awaiter) (p ∷ ps) m → Opens s o (v .awaiter)
+        by (above w i op lt nm lo aw rm rest) =
+            subst (Opens s o) (sym (ap (λ (y : AwaitedGather). y .awaiter) (sym (Option·some-injective (h .w) v (sym top ∙ subst (λ (j : ℕ). as-awaited (object x j) ≡ some v) d e))) ∙ aw))
+            (inr (record {
+              at = p .next;
+              under = subst (λ (c : ℕ). p .next < c) (sym (commit-places (object s (p .gather)) (w .first) (w .count) (GatherState.Awaited (w .awaiter) (w .open-places)) (subst (CommitMoves (object s (p .gather))) (awaited-object (object x (p .gather)) w (op .awaited)) (k .commits .moves (p .gather))) .1)) lt;
+              names = sym (item-is w (op .awaited) nm) ∙ sym d;
+            }))
+
     -- the one below is on top again
     parked : Going s x (p .gather) (p .next) ps
     unfolding Levels
@@ -462,6 +513,7 @@ module _ (s : Store) where
         record {
           commits = k .commits;
           taking = k .taking;
+          opening = λ o v n e. parked-opens o v n e (ℕ-discrete o g);
           top = level-onward s (OnTop g (p ∷ ps)) (OnTop (p .gather) ps) x x (p .gather) (p .next) (λ o n y. (y, λ z. z)) (λ q y n z. n (inr z)) refl (k .below .0);
           below = levels-onward s (OnTop g (p ∷ ps)) (OnTop (p .gather) ps) x x ps (λ o n y. (y, λ z. z)) (λ q y n z. n (inr z)) (λ q z. refl) (unfold Levels in (k .below .1));
         }
@@ -472,6 +524,7 @@ module _ (s : Store) where
         record {
           commits = subst (Committing s) completed-same (completed-commits x g j (p ∷ ps) (h .w) (mem .sized) low top k);
           taking = subst (Taking s) completed-same (completed-takes x g (h .w) (mem .sized) low top (k .taking));
+          opening = subst (Opening s (OnTop (p .gather) ps)) completed-same (completed-opens x g (OnTop g (p ∷ ps)) (OnTop (p .gather) ps) (h .w) (mem .sized) low top off-rest (k .opening));
           top = level-onward s (OnTop g (p ∷ ps)) (OnTop (p .gather) ps) x x1 (p .gather) (p .next) on (λ q y n z. n (inr z))
               (ap as-awaited (x1-other (p .gather) (inl refl))) (k .below .0);
           below = levels-onward s (OnTop g (p ∷ ps)) (OnTop (p .gather) ps) x x1 ps on (λ q y n z. n (inr z)) (λ q z. x1-other q (inr z)) (unfold Levels in (k .below .1));
@@ -479,13 +532,6 @@ module _ (s : Store) where
       where
         on : Onward s (OnTop g (p ∷ ps)) x x1
         on o n y = keeps-same s (object x o) (object x1 o) (object-put-other x g o done (λ d. n (inl d))) y
-
-    -- its next place names g
-    item-is : (w : AwaitedGather) → as-awaited (object x (p .gather)) ≡ some w → place x (w .first + p .next) .item .0 ≡ g → g ≡ item-at s (p .gather) (p .next)
-    item-is w e nm =
-        sym nm ∙ (k .commits .items (w .first + p .next)
-        ∙ ap (λ (n : ℕ). place s (n + p .next) .item .0)
-        (sym (commit-places (object s (p .gather)) (w .first) (w .count) (GatherState.Awaited (w .awaiter) (w .open-places)) (subst (CommitMoves (object s (p .gather))) (awaited-object (object x (p .gather)) w e) (k .commits .moves (p .gather))) .0)))
 
     filled-next : Next (resume-after-child p (gives x1 (ready (Value.List (heap-id g)))))
     unfolding view resume-after-child
@@ -525,10 +571,10 @@ module _ (s : Store) where
   abbrev LoopFails : ℕ → ℕ → ℕ → (Store → Frame → List Frame → ℕ → ℕ → ℕ → Committed) → Type 0
   LoopFails root t fuel loop =
       (x : Store) (f : Frame) (fs : List Frame) (n j k : ℕ) → 2 * pending-count x + suc (length fs) ≤ fuel → Commits root t (f .gather) (f .next) fs x → Going s x (f .gather) (f .next) fs
-      → EndFails (loop x f fs n j k .store) (loop x f fs n j k .poll)
+      → EndFails root t (loop x f fs n j k .store) (loop x f fs n j k .poll)
 
   turn-fails : (root t fuel : ℕ) (loop : Store → Frame → List Frame → ℕ → ℕ → ℕ → Committed) → LoopFails root t fuel loop → (y : Store) (f : Frame) (fs : List Frame) (n j k : ℕ) (x : Stop) → 2 * pending-count y + length fs ≤ fuel
-      → f .gather < object-limit → StopKeeps y x → StopOk root t (f .gather) fs x → StopFails s (f .gather) fs x → EndFails (turn loop f fs n j k x .store) (turn loop f fs n j k x .poll)
+      → f .gather < object-limit → StopKeeps y x → StopOk root t (f .gather) fs x → StopFails s (f .gather) fs x → EndFails root t (turn loop f fs n j k x .store) (turn loop f fs n j k x .poll)
   unfolding turn view
   turn-fails root t fuel loop go y f fs n j k (at-nested x i o) b l q h r =
       go _ (record { gather = o; next = 0 }) (record { gather = f .gather; next = i } ∷ fs) (suc n) (suc j) k (omega (arith, b, nested-fuel y x f fs i o q)) (nested-commits root t f fs x i o h) (nested-going root t f fs x i o h r)
@@ -555,9 +601,9 @@ module _ (s : Store) where
 
   -- What a commit leaves.
   pub commit-fails : (t g f n : ℕ) → SoundStore s → header s .moment ≡ Moment.Running (task-id t) → g < header s .made → object s g ≡ Object.GatherFuture f n GatherState.Pending
-      → EndFails (commit-gather-tree s g (Awaiter.Task (task-id t)) .store) (commit-gather-tree s g (Awaiter.Task (task-id t)) .poll)
+      → EndFails g t (commit-gather-tree s g (Awaiter.Task (task-id t)) .store) (commit-gather-tree s g (Awaiter.Task (task-id t)) .poll)
   unfolding commit-gather-tree Levels
   commit-fails t g f n w m l q =
       loop-fails _ g t (open-gather-commit s g (Awaiter.Task (task-id t))) (record { gather = g; next = 0 }) [] 0 1 0 (omega arith) (commit-begins s t w m g f n l q)
-      (opened-going s g f n (Awaiter.Task (task-id t)) g 0 [] (λ p. ⊥) (w .memory .sized) (omega (arith, l, header-fits s .made-fits)) (omega (arith, runner-low s t w m, header-fits s .next-fits)) q (committing-begins s) (taking-begins s)
-      (unfold Levels in tt) (λ p z. absurd z) (λ p z. absurd z))
+      (opened-going s g f n (Awaiter.Task (task-id t)) g 0 [] (λ p. ⊥) (w .memory .sized) (omega (arith, l, header-fits s .made-fits)) (omega (arith, runner-low s t w m, header-fits s .next-fits)) q (committing-begins s) (taking-begins s) (opening-begins s (λ p. ⊥))
+      (unfold Levels in tt) (λ p z. absurd z) (λ p z. absurd z) (λ p z. absurd z))

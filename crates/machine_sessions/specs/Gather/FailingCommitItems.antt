@@ -50,7 +50,7 @@ use Rattle.machine_theorems.specs.Panics.NoPanicLaws.{spawn-left}
 use Rattle.machine_sessions.specs.Waits.CallEvents.{first-holds}
 use Rattle.machine_sessions.specs.Gather.FailingRows.{ItemAt}
 use Rattle.machine_sessions.specs.Gather.Failing.{CommitMoves, commit-places, commit-takes}
-use Rattle.machine_sessions.specs.Gather.FailingStated.{Passed, Settled, Other, TaskFor, Reuses, coroutine-reused, future-reused, gather-reused, PollRaises, broken, failed, reuses, item-at, Took}
+use Rattle.machine_sessions.specs.Gather.FailingStated.{Passed, Settled, Other, NoSlot, TaskFor, Reuses, coroutine-reused, future-reused, gather-reused, PollRaises, broken, failed, reuses, item-at, Took}
 use Rattle.machine_sessions.specs.Gather.FailingCommitSteps.{Committing, committing-spawn, spawn-rows, Calm, Level, Levels, Going, going-same, going-opens, going-fills, going-lower}
 
 -- ---- the stack
@@ -185,7 +185,7 @@ module _ (s : Store) where
         going-opens s u2 g i fs w (sized-put-object u o x (mem .sized)) low-g wide-fits (ap as-awaited (object-put-other u o g x (λ d. not-suc-le-zero {n = 0} (omega (arith, lower, d)))) ∙ top) apart
         (subst (Calm s (OnTop g fs) u2) (item-is i) (record { passed = subst Passed (sym (object-put-object u o x (mem .sized) low-o fit)) tt; off = off-stack }))
         (going-lower s u g i fs o x (mem .sized) low-o fit (commit-takes (object s o) c r (Awaiter.GatherSlot (heap-id g) (heap-id o)) (subst (CommitMoves (object s o)) e (k .commits .moves o)))
-        (λ f q. no-coroutine c r f (sym e ∙ q)) off-stack tt (λ z. subst Settled e z) slotted k)
+        (λ f q. no-coroutine c r f (sym e ∙ q)) off-stack tt (λ z. subst Settled e z) slotted (unfold as-awaited in refl) k)
       where
         x : Object
         x = Object.ExternalFuture c (ExternalFutureState.Pending (Awaiter.GatherSlot (heap-id g) (heap-id o)) r)
@@ -289,6 +289,13 @@ module _ (s : Store) where
       taken : (c : CallId) (a : Awaiter) (r : OptionValue) → object u o ≡ Object.ExternalFuture c (ExternalFutureState.Pending a r) → Other g a → ItemFails (polled (gives u (raised Error.FutureReuse)))
       taken c a r e d = raising Error.FutureReuse _ e (reuses _ _ (future-reused c a r d)) (λ z. z)
 
+      -- an awaited gather's awaiter is no slot of this one
+      parent : {f m j : ℕ} (a : Awaiter) → object u o ≡ Object.GatherFuture f m (GatherState.Awaited a j) → NoSlot g a
+      unfolding view
+      parent Awaiter.Nobody e = tt
+      parent (Awaiter.Task v) e = tt
+      parent (Awaiter.GatherSlot f y) e = slot-other o (f .0) (y .0) refl (h .but .object-slots o (omega (arith, lower, made)) off-stack (f .0) (y .0) (ap awaiter-of e ∙ (unfold awaiter-of in refl)))
+
       -- every item
       item-fails : (x : Object) → object u o ≡ x → ItemFails (item-object u g o x)
       unfolding item-object item-gather await-external await-pending item-coroutine view
@@ -303,7 +310,7 @@ module _ (s : Store) where
       item-fails (Object.ExternalFuture c (ExternalFutureState.Resolved x)) e = fills x _ e (subst ObjectFits e (object-fits u o) .1) tt tt
       item-fails (Object.ExternalFuture c (ExternalFutureState.Failed x)) e = raising x _ e (broken c x) (λ z. z)
       item-fails (Object.GatherFuture f m GatherState.Pending) e = tt
-      item-fails (Object.GatherFuture f m (GatherState.Awaited a j)) e = raising Error.GatherReuse _ e (reuses _ _ (gather-reused f m a j)) (λ z. z)
+      item-fails (Object.GatherFuture f m (GatherState.Awaited a j)) e = raising Error.GatherReuse _ e (reuses _ _ (gather-reused f m a j (parent a e))) (λ z. z)
       item-fails (Object.GatherFuture f m GatherState.Completed) e = fills (Value.List (heap-id o)) _ e low-o tt tt
       item-fails (Object.GatherFuture f m (GatherState.Failed x)) e = raising x _ e (failed f m x) (λ z. z)
 

@@ -43,7 +43,7 @@ use Rattle.machine_theorems.specs.Soundness.CommitInv.{OnStack, OnTop}
 use Rattle.machine_sessions.specs.Queue.Tracked.{spawn-row, spawn-next}
 use Rattle.machine_sessions.specs.Gather.Failing.{CommitMoves, GatherCommits, commit-same, commit-places, commit-coroutine}
 use Rattle.machine_sessions.specs.Gather.FailingRows.{ItemAt}
-use Rattle.machine_sessions.specs.Gather.FailingStated.{Passed, Settled, item-at, ItemSlot, Took}
+use Rattle.machine_sessions.specs.Gather.FailingStated.{Passed, Settled, item-at, ItemSlot, Took, SlotIn, Opens}
 
 -- a gather that was pending and is awaited may come to any state that is not failed
 pub opened-moves : (x y : Object) (f n : ℕ) (w : AwaitedGather) (z : GatherState) → x ≡ Object.GatherFuture f n GatherState.Pending → as-awaited y ≡ some w → CommitMoves x y → GatherCommits GatherState.Pending z
@@ -260,6 +260,29 @@ module _ (s : Store) where
   unfolding as-pending
   taking-gather u o f n y z l fits k = taking-row u o (Object.GatherFuture f n y) z l fits (λ r e. absurd-some e) k
 
+  -- ---- the awaiters of awaited gathers that are not on the stack Q
+
+  abbrev pub Opening : (ℕ → Type 0) → Store → Type 0
+  Opening Q u = (o : ℕ) (v : AwaitedGather) → (Q o → ⊥) → as-awaited (object u o) ≡ some v → Opens s o (v .awaiter)
+
+  pub opening-begins : (Q : ℕ → Type 0) → Opening Q s
+  opening-begins Q o v n e = inl (v, e, refl)
+
+  -- rows as they were
+  pub opening-same : (Q : ℕ → Type 0) (u v : Store) → ((p : ℕ) → object v p ≡ object u p) → Opening Q u → Opening Q v
+  opening-same Q u v same k o w n e = k o w n (sym (ap as-awaited (same o)) ∙ e)
+
+  -- a row is written; the stack may be another
+  pub opening-row : (Q R : ℕ → Type 0) (u : Store) (o : ℕ) (y : Object) → Sized u → o < object-limit → ObjectFits y
+      → ((v : AwaitedGather) → (R o → ⊥) → as-awaited y ≡ some v → Opens s o (v .awaiter)) → ((p : ℕ) → (p ≡ o → ⊥) → (R p → ⊥) → Q p → ⊥) → Opening Q u → Opening R (put-object u o y)
+  opening-row Q R u o y z l fits t off k p v n e = by (ℕ-discrete p o)
+    where
+      by : Dec (p ≡ o) → Opens s p (v .awaiter)
+      by (yes d) =
+          subst (λ (j : ℕ). Opens s j (v .awaiter)) (sym d)
+          (t v (subst (λ (j : ℕ). R j → ⊥) d n) (sym (ap as-awaited (object-put-object u o y z l fits)) ∙ subst (λ (j : ℕ). as-awaited (object (put-object u o y) j) ≡ some v) d e))
+      by (no d) = k p v (off p d n) (sym (ap as-awaited (object-put-other u o p y d)) ∙ e)
+
   -- ---- what a gather on the stack has gone past; Q is the stack
 
   -- the object has not raised, and is not on the stack
@@ -347,16 +370,18 @@ module _ (s : Store) where
   pub record Going (u : Store) (g i : ℕ) (fs : List Frame) : Type 0 where
     pub commits : Committing u
     pub taking : Taking u
+    pub opening : Opening (OnTop g fs) u
     pub top : Level (OnTop g fs) u g i
     pub below : Levels (OnTop g fs) u fs
 
   -- a row is written that is not one of the stack
-  pub going-onward : (u v : Store) (g i : ℕ) (fs : List Frame) → Committing v → Taking v → Onward (OnTop g fs) u v → ((p : ℕ) → OnStack fs p → object v p ≡ object u p)
+  pub going-onward : (u v : Store) (g i : ℕ) (fs : List Frame) → Committing v → Taking v → Opening (OnTop g fs) v → Onward (OnTop g fs) u v → ((p : ℕ) → OnStack fs p → object v p ≡ object u p)
       → as-awaited (object v g) ≡ as-awaited (object u g) → Going u g i fs → Going v g i fs
-  going-onward u v g i fs c t on same top k =
+  going-onward u v g i fs c t op on same top k =
       record {
         commits = c;
         taking = t;
+        opening = op;
         top = level-onward (OnTop g fs) (OnTop g fs) u v g i on (λ p y n. n) top (k .top);
         below = levels-onward (OnTop g fs) (OnTop g fs) u v fs on (λ p y n. n) same (k .below);
       }
@@ -364,11 +389,11 @@ module _ (s : Store) where
   -- rows as they were
   pub going-same : (u v : Store) (g i : ℕ) (fs : List Frame) → Committing v → ((p : ℕ) → object v p ≡ object u p) → Going u g i fs → Going v g i fs
   going-same u v g i fs c same k =
-      going-onward u v g i fs c (taking-same u v same (k .taking)) (λ o n y. keeps-same (object u o) (object v o) (same o) y) (λ p z. same p) (ap as-awaited (same g)) k
+      going-onward u v g i fs c (taking-same u v same (k .taking)) (opening-same (OnTop g fs) u v same (k .opening)) (λ o n y. keeps-same (object u o) (object v o) (same o) y) (λ p z. same p) (ap as-awaited (same g)) k
 
   -- place i is done
   pub going-more : (u : Store) (g i : ℕ) (fs : List Frame) → Calm (OnTop g fs) u (item-at s g i) → Settled (object u (item-at s g i)) → Going u g i fs → Going u g (i + 1) fs
-  going-more u g i fs c z k = record { commits = k .commits; taking = k .taking; top = level-more (OnTop g fs) u g i (k .top) c z; below = k .below }
+  going-more u g i fs c z k = record { commits = k .commits; taking = k .taking; opening = k .opening; top = level-more (OnTop g fs) u g i (k .top) c z; below = k .below }
 
   -- a bit of the wider word is one that was, or the new one
   wider-was : (w : AwaitedGather) (i j : ℕ) → bit (wider w i) j ≡ true → (j ≡ i → ⊥) → bit (w .open-places) j ≡ true
@@ -388,6 +413,7 @@ module _ (s : Store) where
         commits = committing-row u g y z l fits (opened-moves (object s g) (object u g) (k .top .first) (k .top .count) w (GatherState.Awaited (w .awaiter) (wider w i)) (k .top .was) e (k .commits .moves g) tt)
             (λ f q. not-coroutine (object u g) w f CoroutineState.New e q) (k .commits);
         taking = taking-gather u g (w .first) (w .count) (GatherState.Awaited (w .awaiter) (wider w i)) z l fits (k .taking);
+        opening = opening-row (OnTop g fs) (OnTop g fs) u g y z l fits (λ v n q. absurd (n (inl refl))) (λ p d n. n) (k .opening);
         top = record {
           first = k .top .first;
           count = k .top .count;
@@ -433,9 +459,10 @@ module _ (s : Store) where
 
   -- a lower row that has given no value is written, which is passed then if it was
   pub going-lower : (u : Store) (g i : ℕ) (fs : List Frame) (o : ℕ) (y : Object) → Sized u → o < object-limit → ObjectFits y → CommitMoves (object s o) y → ((f : ℕ) → object u o ≡ Object.Coroutine f CoroutineState.New → ⊥)
-      → (OnTop g fs o → ⊥) → Passed y → (Settled (object u o) → ⊥) → ((r : PendingExternal) → as-pending y ≡ some r → Took s o (r .awaiter)) → Going u g i fs → Going (put-object u o y) g i fs
-  going-lower u g i fs o y z l fits c ne off p un t k =
-      going-onward u (put-object u o y) g i fs (committing-row u o y z l fits c ne (k .commits)) (taking-row u o y z l fits t (k .taking)) (λ q n a. by q a (ℕ-discrete q o))
+      → (OnTop g fs o → ⊥) → Passed y → (Settled (object u o) → ⊥) → ((r : PendingExternal) → as-pending y ≡ some r → Took s o (r .awaiter)) → as-awaited y ≡ none → Going u g i fs → Going (put-object u o y) g i fs
+  going-lower u g i fs o y z l fits c ne off p un t no-gather k =
+      going-onward u (put-object u o y) g i fs (committing-row u o y z l fits c ne (k .commits)) (taking-row u o y z l fits t (k .taking))
+      (opening-row (OnTop g fs) (OnTop g fs) u o y z l fits (λ v n q. absurd-some (sym no-gather ∙ q)) (λ q d n. n) (k .opening)) (λ q n a. by q a (ℕ-discrete q o))
       (λ q a. object-put-other u o q y (λ d. off (inr (subst (OnStack fs) d a)))) (ap as-awaited (object-put-other u o g y (λ d. off (inl (sym d))))) k
     where
       by : (q : ℕ) → Passed (object u q) → Dec (q ≡ o) → Keeps (object u q) (object (put-object u o y) q)

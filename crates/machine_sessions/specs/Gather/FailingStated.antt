@@ -77,6 +77,12 @@ Other g Awaiter.Nobody = ⊥
 Other g (Awaiter.Task t) = Unit {0}
 Other g (Awaiter.GatherSlot f x) = f .0 ≡ g → ⊥
 
+-- the awaiter is no slot of gather g
+abbrev pub NoSlot : ℕ → Awaiter → Type 0
+NoSlot g Awaiter.Nobody = Unit {0}
+NoSlot g (Awaiter.Task t) = Unit {0}
+NoSlot g (Awaiter.GatherSlot f x) = f .0 ≡ g → ⊥
+
 -- a live spawned task of coroutine o, whose result goes to another gather than g
 pub record TaskFor (u : Store) (g o : ℕ) : Type 0 where
   pub who : ℕ
@@ -95,7 +101,7 @@ Busy u g o CoroutineState.Completed = Unit {0}
 pub data Reuses (u : Store) (g o : ℕ) : Object → Error → Type 0 where
   coroutine-reused : (f : ℕ) (x : CoroutineState) → Busy u g o x → Reuses u g o (Object.Coroutine f x) Error.CoroutineReuse
   future-reused : (c : CallId) (a : Awaiter) (r : OptionValue) → Other g a → Reuses u g o (Object.ExternalFuture c (ExternalFutureState.Pending a r)) Error.FutureReuse
-  gather-reused : (f n : ℕ) (a : Awaiter) (m : ℕ) → Reuses u g o (Object.GatherFuture f n (GatherState.Awaited a m)) Error.GatherReuse
+  gather-reused : (f n : ℕ) (a : Awaiter) (m : ℕ) → NoSlot g a → Reuses u g o (Object.GatherFuture f n (GatherState.Awaited a m)) Error.GatherReuse
 
 -- it raises the error: it has failed with it, or is in use
 pub data PollRaises (u : Store) (g o : ℕ) : Object → Error → Type 0 where
@@ -153,7 +159,21 @@ HadAwaiter s o a = (p : PendingExternal) × (as-pending (object s o) ≡ some p)
 abbrev pub Took : Store → ℕ → Awaiter → Type 0
 Took s o a = HadAwaiter s o a ⊎ ItemSlot s o a
 
--- the awaiter is a task, and the event awaits external o
+-- gather o was awaited, by this awaiter
+abbrev pub HadOpen : Store → ℕ → Awaiter → Type 0
+HadOpen s o a = (v : AwaitedGather) × (as-awaited (object s o) ≡ some v) × (v .awaiter ≡ a)
+
+-- the awaiter is a slot of a gather that has object o among its items
+abbrev pub SlotIn : Store → ℕ → Awaiter → Type 0
+SlotIn s o Awaiter.Nobody = ⊥
+SlotIn s o (Awaiter.Task t) = ⊥
+SlotIn s o (Awaiter.GatherSlot f x) = ItemAt s (f .0) o
+
+-- it was, or it is an item of the gather whose slot that is
+abbrev pub Opens : Store → ℕ → Awaiter → Type 0
+Opens s o a = HadOpen s o a ⊎ SlotIn s o a
+
+-- the awaiter is a task, and the event awaits object o
 abbrev pub TookTask : Event → ℕ → Awaiter → Type 0
 TookTask e o Awaiter.Nobody = ⊥
 TookTask e o (Awaiter.Task t) = says e .awaits ≡ some o
@@ -177,6 +197,8 @@ pub record EventFails (e : Event) (s : Store) (x : Step) : Type 0 where
       → is-none (says e .awaits) ≡ false
   -- a pending external took its awaiter from a gather that has it among its items, or the event awaits it; or it had it
   pub takes : (o : ℕ) (r : PendingExternal) → as-pending (object (x .store) o) ≡ some r → Took s o (r .awaiter) ⊎ TookTask e o (r .awaiter)
+  -- an awaited gather likewise
+  pub opens : (o : ℕ) (v : AwaitedGather) → as-awaited (object (x .store) o) ≡ some v → Opens s o (v .awaiter) ⊎ TookTask e o (v .awaiter)
   -- who is unstarted was, or is new; a task exits that ends with the event, or that was unstarted; who is spawned is new
   pub grows : header s .next ≤ header (x .store) .next
   pub tasks : (t : ℕ) → t < header (x .store) .next → is-live (task (x .store) t .state) ≡ true → TaskFrom s (x .store) t

@@ -1,5 +1,5 @@
--- Who uses what a commit found in use: a pending external's awaiter, and that of a live task, are known by the history (`session-uses`), so an item that is
--- reused is in use by somebody, in the words of demand 2 (`reused-in-use`).
+-- Who uses what a commit found in use: the awaiters of pending externals, of awaited gathers and of live tasks are known by the history (`session-uses`), so an
+-- item that is reused is in use by somebody, in the words of demand 2 (`reused-in-use`).
 use mathlib.Core.Path.{_≡_, refl, ap, sym, subst, _∙_}
 use mathlib.Core.Logic.{_⊎_, inl, inr}
 use mathlib.Core.Bool.{Bool, true, false, _||_, true≢false}
@@ -28,7 +28,7 @@ use Rattle.asyncio.specs.Kinds.{kind, is-committed}
 use Rattle.asyncio.specs.Parts.{awaiter-of, first-of, count-of}
 use Rattle.asyncio.specs.States.{is-live}
 use Rattle.machine.specs.Store.{Store, view, task, object, place, header, forget, fresh}
-use Rattle.machine.specs.Scheduler.{PendingExternal, as-pending, live}
+use Rattle.machine.specs.Scheduler.{AwaitedGather, PendingExternal, as-awaited, as-pending, live}
 use Rattle.machine.specs.Machine.{Event, Answer, Step, Shown, shown, refusal, accept, step}
 use Rattle.machine.specs.Tests.{is-in}
 use Rattle.machine.specs.Sound.{is-slot}
@@ -36,7 +36,7 @@ use Rattle.machine.specs.Computes.{computes}
 use Rattle.machine.specs.History.{Entry, Says, says, said, nothing-said, tells, is-at, items, lives, lives-by, awaited-before}
 use Rattle.machine.specs.Sessions.{Sent, Session, InRange, AllSentInRange, lent-any, entry-of, begun, send, send-all, session}
 use Rattle.machine.specs.DemandThree.{look}
-use Rattle.machine.specs.DemandTwo.{committed, Elsewhere, InUse, is-running, is-completed, has-task, was-awaited, has-slot, is-awaited}
+use Rattle.machine.specs.DemandTwo.{committed, Elsewhere, InUse, is-running, is-completed, has-task, is-pending, is-awaited}
 use Rattle.machine_laws.specs.Facts.{Slotted}
 use Rattle.machine_laws.specs.TestLaws.{holds}
 use Rattle.machine_laws.specs.DeliveryLaws.{absurd-some}
@@ -53,7 +53,7 @@ use Rattle.machine_sessions.specs.Places.Agrees.{Agrees}
 use Rattle.machine_sessions.specs.Places.AgreesEvents.{forget-agrees}
 use Rattle.machine_sessions.specs.Places.AgreesSessions.{send-agrees, session-agrees}
 use Rattle.machine_sessions.specs.Gather.FailingRows.{ItemAt}
-use Rattle.machine_sessions.specs.Gather.FailingStated.{Other, TaskFor, Reuses, coroutine-reused, future-reused, gather-reused, ItemSlot, HadAwaiter, Took, TookTask, TaskFrom, lived, is-new, EventFails}
+use Rattle.machine_sessions.specs.Gather.FailingStated.{Other, NoSlot, TaskFor, Reuses, coroutine-reused, future-reused, gather-reused, ItemSlot, HadAwaiter, Took, SlotIn, HadOpen, Opens, TookTask, TaskFrom, lived, is-new, EventFails}
 use Rattle.machine_sessions.specs.Gather.FailingHistory.{Knows, some-is-at}
 use Rattle.machine_sessions.specs.Gather.FailingAwait.{accept-fails}
 use Rattle.machine_sessions.specs.Gather.FailingSessions.{gather-list, item-in, items-later, items-now, made-still, forget-knows, look-row, send-fails, session-knows}
@@ -67,9 +67,16 @@ Known h n o Awaiter.Nobody = Unit {0}
 Known h n o (Awaiter.Task t) = awaited-before h o ≡ true
 Known h n o (Awaiter.GatherSlot f x) = (f .0 < n) × (is-in o (items h (f .0)) ≡ true)
 
--- of the awaiters of pending externals, and of live spawned tasks for their coroutines
+-- and it is somebody
+abbrev Somebody : Awaiter → Type 0
+Somebody Awaiter.Nobody = ⊥
+Somebody (Awaiter.Task t) = Unit {0}
+Somebody (Awaiter.GatherSlot f x) = Unit {0}
+
+-- of the awaiters of pending externals, of awaited gathers, and of live spawned tasks for their coroutines
 pub record Uses (h : List Entry) (s : Store) : Type 0 where
   pub externals : (o : ℕ) (r : PendingExternal) → as-pending (object s o) ≡ some r → Known h (header s .made) o (r .awaiter)
+  pub gathers : (o : ℕ) (v : AwaitedGather) → as-awaited (object s o) ≡ some v → Somebody (v .awaiter) × Known h (header s .made) o (v .awaiter)
   pub tasks : (t : ℕ) → suc t < header s .next → is-live (task s (suc t) .state) ≡ true → Known h (header s .made) (task s (suc t) .coroutine .0) (task s (suc t) .awaiter)
 
 -- ---- the words one entry later
@@ -156,6 +163,7 @@ module _ (h : List Entry) (s : Store) (w : SoundStore s) (a : Agrees h s) (k : K
   accepted-uses =
       record {
         externals = λ o r q. took o (r .awaiter) (fl .takes o r q);
+        gathers = λ o v q. opened o (v .awaiter) (fl .opens o v q);
         tasks = λ t l q. from t (fl .tasks (suc t) l q);
       }
     where
@@ -163,6 +171,23 @@ module _ (h : List Entry) (s : Store) (w : SoundStore s) (a : Agrees h s) (k : K
       took o b (inl (inl q)) = known-later o b (subst (Known h (header s .made) o) (q .2) (us .externals o (q .0) (q .1)))
       took o b (inl (inr q)) = known-slot o b q
       took o b (inr q) = known-task o b q
+
+      slot-somebody : (o : ℕ) (b : Awaiter) → SlotIn s o b → Somebody b × Known (y ∷ h) (header u .made) o b
+      slot-somebody o Awaiter.Nobody q = absurd q
+      slot-somebody o (Awaiter.Task t) q = absurd q
+      slot-somebody o (Awaiter.GatherSlot f z) q = (tt, known-slot o (Awaiter.GatherSlot f z) q)
+
+      task-somebody : (o : ℕ) (b : Awaiter) → TookTask e o b → Somebody b × Known (y ∷ h) (header u .made) o b
+      task-somebody o Awaiter.Nobody q = absurd q
+      task-somebody o (Awaiter.Task t) q = (tt, known-task o (Awaiter.Task t) q)
+      task-somebody o (Awaiter.GatherSlot f z) q = absurd q
+
+      opened : (o : ℕ) (b : Awaiter) → Opens s o b ⊎ TookTask e o b → Somebody b × Known (y ∷ h) (header u .made) o b
+      opened o b (inl (inl q)) =
+          let z = us .gathers o (q .0) (q .1) in
+          (subst Somebody (q .2) (z .0), known-later o b (subst (Known h (header s .made) o) (q .2) (z .1)))
+      opened o b (inl (inr q)) = slot-somebody o b q
+      opened o b (inr q) = task-somebody o b q
 
       from : (t : ℕ) → TaskFrom s u (suc t) → Known (y ∷ h) (header u .made) (task u (suc t) .coroutine .0) (task u (suc t) .awaiter)
       from t (lived l q c b) =
@@ -186,6 +211,9 @@ refused-uses : (h : List Entry) (s u : Store) (e : Event) (n : ℕ) → header u
 refused-uses h s u e n hd ts os k =
     record {
       externals = λ o r q. refused-known h s u e n hd o (r .awaiter) (k .externals o r (sym (ap as-pending (os o)) ∙ q));
+      gathers = λ o v q.
+          let z = k .gathers o v (sym (ap as-awaited (os o)) ∙ q) in
+          (z .0, refused-known h s u e n hd o (v .awaiter) (z .1));
       tasks = λ t l q.
           subst (λ (r : Task). Known (entry-of e (Answer.refused n) u ∷ h) (header u .made) (r .coroutine .0) (r .awaiter)) (sym (ts (suc t)))
           (refused-known h s u e n hd (task s (suc t) .coroutine .0) (task s (suc t) .awaiter)
@@ -194,7 +222,7 @@ refused-uses h s u e n hd ts os k =
 
 forget-uses : (h : List Entry) (s : Store) → Uses h s → Uses h (forget s)
 unfolding forget task object header
-forget-uses h s k = record { externals = k .externals; tasks = k .tasks }
+forget-uses h s k = record { externals = k .externals; gathers = k .gathers; tasks = k .tasks }
 
 -- ---- sessions
 
@@ -249,6 +277,13 @@ all-use (e ∷ es) x i f a k us =
     all-use es (send x e) (i .1) (send-following x e (i .0) f) (send-agrees x e (i .0) f a) (send-fails x e (i .0) f a k .0) (send-uses x e (i .0) f a k us)
 
 -- nothing is pending at first
+unmade-shut : {A : Type 0} (x : Object) (v : AwaitedGather) → frozen x ≡ Frozen.unmade → as-awaited x ≡ some v → A
+unfolding frozen as-awaited
+unmade-shut Object.Unmade v q e = absurd-some e
+unmade-shut (Object.Coroutine f x) v q e = absurd-some e
+unmade-shut (Object.ExternalFuture c x) v q e = absurd-some e
+unmade-shut (Object.GatherFuture f n x) v q e = absurd (subst IsUnmade (sym q) tt)
+
 unmade-idle : {A : Type 0} (x : Object) (r : PendingExternal) → frozen x ≡ Frozen.unmade → as-pending x ≡ some r → A
 unfolding frozen as-pending
 unmade-idle Object.Unmade r q e = absurd-some e
@@ -271,6 +306,7 @@ unfolding session begun AllSentInRange send-all
 begun-uses =
     record {
       externals = λ o r q. unmade-idle (object fresh o) r (session-agrees [] tt .behind o (omega (arith, fresh-made))) q;
+      gathers = λ o v q. unmade-shut (object fresh o) v (session-agrees [] tt .behind o (omega (arith, fresh-made))) q;
       tasks = λ t l q. absurd (not-suc-le-zero {n = 0} (omega (arith, l, fresh-next)));
     }
 
@@ -286,15 +322,28 @@ not-task : (s : Store) (t : ℕ) (v : TaskId) → SoundStore s → suc t < heade
 unfolding view is-slot
 not-task s t v w l e q = subst (λ (b : Awaiter). T (is-slot b)) q (spawned-of t (w .facts .but) l (holds _ e) .slot)
 
+-- a pending external; an awaited gather
 pending-is : (c : CallId) (b : Awaiter) (v : OptionValue) → as-pending (Object.ExternalFuture c (ExternalFutureState.Pending b v)) ≡ some (record { call = c; awaiter = b; stored = v })
 unfolding as-pending
 pending-is c b v = refl
 
--- the slot that a pending external's awaiter is
-slotted : (s : Store) → SoundStore s → (o : ℕ) → o < header s .made → (c : CallId) (f y : HeapId) (v : OptionValue) → object s o ≡ Object.ExternalFuture c (ExternalFutureState.Pending (Awaiter.GatherSlot f y) v)
-    → Slotted (header s .made) (object s) (place s) o (f .0) (y .0)
-unfolding view awaiter-of
-slotted s w o l c f y v q = w .facts .but .object-slots o l (λ i. i) (f .0) (y .0) (ap awaiter-of q)
+open-is : (f n : ℕ) (b : Awaiter) (m : ℕ) → as-awaited (Object.GatherFuture f n (GatherState.Awaited b m)) ≡ some (record { first = f; count = n; awaiter = b; open-places = m })
+unfolding as-awaited
+open-is f n b m = refl
+
+-- their awaiters
+external-awaiter : (c : CallId) (b : Awaiter) (v : OptionValue) → awaiter-of (Object.ExternalFuture c (ExternalFutureState.Pending b v)) ≡ b
+unfolding awaiter-of
+external-awaiter c b v = refl
+
+gather-awaiter : (f n : ℕ) (b : Awaiter) (m : ℕ) → awaiter-of (Object.GatherFuture f n (GatherState.Awaited b m)) ≡ b
+unfolding awaiter-of
+gather-awaiter f n b m = refl
+
+-- the slot that an object's awaiter is
+slotted : (s : Store) → SoundStore s → (o : ℕ) → o < header s .made → (f y : HeapId) → awaiter-of (object s o) ≡ Awaiter.GatherSlot f y → Slotted (header s .made) (object s) (place s) o (f .0) (y .0)
+unfolding view
+slotted s w o l f y q = w .facts .but .object-slots o l (λ i. i) (f .0) (y .0) q
 
 committed-shown : (s : Store) (x : Object) → T (is-committed (kind x)) → committed (shown s x) ≡ true
 unfolding committed shown kind
@@ -355,28 +404,38 @@ module _ (es : List Sent) (i : AllSentInRange es) (g : ℕ) where
       by : (b : Awaiter) → task (x .store) t .awaiter ≡ b → Other g (task (x .store) t .awaiter) → Known (x .history) (header (x .store) .made) o (task (x .store) t .awaiter) → Elsewhere x g o
       by Awaiter.Nobody q d n = absurd (subst (Other g) q d)
       by (Awaiter.Task v) q d n = absurd (not-task (x .store) (k .who) v w (k .low) (k .live) q)
-      by (Awaiter.GatherSlot f y) q d n =
-          elsewhere o (task (x .store) t .coroutine .0) f y (subst (Other g) q d) (w .facts .but .task-slots t (k .low) (holds _ (k .live)) (f .0) (y .0) q) (subst (Known (x .history) (header (x .store) .made) o) q n)
+      by (Awaiter.GatherSlot f p) q d n =
+          elsewhere o (task (x .store) t .coroutine .0) f p (subst (Other g) q d) (w .facts .but .task-slots t (k .low) (holds _ (k .live)) (f .0) (p .0) q) (subst (Known (x .history) (header (x .store) .made) o) q n)
 
   -- An item that is reused is in use.
   pub reused-in-use : (o : ℕ) (r : Error) → o < header (x .store) .made → Reuses (x .store) g o (object (x .store) o) r → InUse x g o (look (x .store) o) r
   reused-in-use o r l k = subst (λ (v : Shown). InUse x g o v r) (sym (look-is o l)) (by (object (x .store) o) r refl k)
     where
-      taken : (c : CallId) (b : Awaiter) (v : OptionValue) → object (x .store) o ≡ Object.ExternalFuture c (ExternalFutureState.Pending b v) → Other g b → Known (x .history) (header (x .store) .made) o b → InUse x g o Shown.an-external-pending Error.FutureReuse
-      taken c Awaiter.Nobody v q d n = absurd d
-      taken c (Awaiter.Task t) v q d n = was-awaited n
-      taken c (Awaiter.GatherSlot f y) v q d n = has-slot (elsewhere o o f y d (slot-of c f y v q) n)
-        where
-          slot-of : (c : CallId) (f y : HeapId) (v : OptionValue) → object (x .store) o ≡ Object.ExternalFuture c (ExternalFutureState.Pending (Awaiter.GatherSlot f y) v)
-              → Slotted (header (x .store) .made) (object (x .store)) (place (x .store)) o (f .0) (y .0)
-          slot-of c f y v q = slotted (x .store) w o l c f y v q
+      taken : (b : Awaiter) → awaiter-of (object (x .store) o) ≡ b → Somebody b → NoSlot g b → Known (x .history) (header (x .store) .made) o b → (awaited-before (x .history) o ≡ true) ⊎ Elsewhere x g o
+      taken Awaiter.Nobody q z d n = absurd z
+      taken (Awaiter.Task t) q z d n = inl n
+      taken (Awaiter.GatherSlot f p) q z d n = inr (elsewhere o o f p d (slotted (x .store) w o l f p q) n)
 
-      by : (y : Object) (e : Error) → object (x .store) o ≡ y → Reuses (x .store) g o y e → InUse x g o (shown (x .store) y) e
+      somebody : (b : Awaiter) → Other g b → Somebody b × NoSlot g b
+      somebody Awaiter.Nobody d = absurd d
+      somebody (Awaiter.Task t) d = (tt, tt)
+      somebody (Awaiter.GatherSlot f p) d = (tt, d)
+
+      external-used : (c : CallId) (b : Awaiter) (v : OptionValue) → object (x .store) o ≡ Object.ExternalFuture c (ExternalFutureState.Pending b v) → Other g b → (awaited-before (x .history) o ≡ true) ⊎ Elsewhere x g o
+      external-used c b v q d =
+          taken b (ap awaiter-of q ∙ external-awaiter c b v) (somebody b d .0) (somebody b d .1) (us .externals o (record { call = c; awaiter = b; stored = v }) (ap as-pending q ∙ pending-is c b v))
+
+      gather-used : (f n : ℕ) (b : Awaiter) (m : ℕ) → object (x .store) o ≡ Object.GatherFuture f n (GatherState.Awaited b m) → NoSlot g b → (awaited-before (x .history) o ≡ true) ⊎ Elsewhere x g o
+      gather-used f n b m q d =
+          let z : Somebody b × Known (x .history) (header (x .store) .made) o b = us .gathers o (record { first = f; count = n; awaiter = b; open-places = m }) (ap as-awaited q ∙ open-is f n b m) in
+          taken b (ap awaiter-of q ∙ gather-awaiter f n b m) (z .0) d (z .1)
+
+      by : (z : Object) (e : Error) → object (x .store) o ≡ z → Reuses (x .store) g o z e → InUse x g o (shown (x .store) z) e
       by _ _ q (coroutine-reused f CoroutineState.New d) = unfold shown in (tasked o f d)
       by _ _ q (coroutine-reused f CoroutineState.Running d) = unfold shown in (is-running f)
       by _ _ q (coroutine-reused f CoroutineState.Completed d) = unfold shown in (is-completed f)
-      by _ _ q (future-reused c b v d) = unfold shown in (taken c b v q d (us .externals o (record { call = c; awaiter = b; stored = v }) (ap as-pending q ∙ pending-is c b v)))
-      by _ _ q (gather-reused f n b m) = unfold shown in (is-awaited _)
+      by _ _ q (future-reused c b v d) = unfold shown in (is-pending (external-used c b v q d))
+      by _ _ q (gather-reused f n b m d) = unfold shown in (is-awaited _ (gather-used f n b m q d))
 
 -- So it is after one more event.
 pub sent-in-use : (es : List Sent) (e : Sent) → AllSentInRange es → InRange (e .event) → (g o : ℕ) (r : Error) → o < header (send (session es) e .store) .made
