@@ -19,6 +19,7 @@ use Rattle.machine.specs.History.{outcome, error-of, items, lives, spawn
 use Rattle.machine.specs.Sessions.{Sent, Session, begun, send, session, AllSentInRange}
 use Rattle.machine.specs.Singles.{singles}
 use Rattle.machine.specs.DemandThree.{look}
+use Rattle.machine.specs.Honest.{named}
 
 -- what object o has come to after a session
 unfoldable pub came : Session → ℕ → Option (Outcome Value Error)
@@ -119,11 +120,11 @@ pub record Elsewhere (y : Session) (g o : ℕ) : Type 0 where
   pub was-committed : committed (look (y .store) user) ≡ true
   pub among : is-in o (items (y .history) user) ≡ true
 
--- Who uses item o of gather g, by what is shown of it, and the error for that: a coroutine has started, or has a live task, which another gather has spawned;
--- a pending external, or an awaited gather, was awaited by a task, or another gather has it.
+-- Who uses item o of gather g, by what is shown of it, and the error for that: an answer has started the coroutine, or it has a live task, and another gather has
+-- it; a task has awaited the pending external, or the awaited gather, or another gather has it.
 pub data InUse (y : Session) (g o : ℕ) : Shown → Error → Type 0 where
-  is-running : (f : ℕ) → InUse y g o (Shown.a-coroutine CoroutineState.Running f) Error.CoroutineReuse
-  is-completed : (f : ℕ) → InUse y g o (Shown.a-coroutine CoroutineState.Completed f) Error.CoroutineReuse
+  is-running : (f : ℕ) → named (y .history) o ≡ true → InUse y g o (Shown.a-coroutine CoroutineState.Running f) Error.CoroutineReuse
+  is-completed : (f : ℕ) → named (y .history) o ≡ true → InUse y g o (Shown.a-coroutine CoroutineState.Completed f) Error.CoroutineReuse
   has-task : (f t : ℕ) → lives (y .history) t ≡ true → spawned-for (y .history) t ≡ some o → Elsewhere y g o
       → InUse y g o (Shown.a-coroutine CoroutineState.New f) Error.CoroutineReuse
   is-pending : (awaited-before (y .history) o ≡ true) ⊎ Elsewhere y g o → InUse y g o Shown.an-external-pending Error.FutureReuse

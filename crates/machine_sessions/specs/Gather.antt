@@ -736,7 +736,7 @@ module _ (ps : List Sent) (s : Sent) (j : AllSentInRange ps) (i : InRange (s .ev
                 f .first (subst (λ (o : ℕ). is-in o (f .left) ≡ true) (ap (λ (os : List ℕ). getD os b 0) (sym (f .split)) ∙ (d ∙ it)) (left-named (f .left) (f .item ∷ f .right) b l))
 
             used : Reuses (y .store) g (f .item) (object (y .store) (f .item)) e → InUse y g (getD (items (y .history) g) (length (f .left)) 0) (look (y .store) (getD (items (y .history) g) (length (f .left)) 0)) e
-            used k = subst (λ (o : ℕ). InUse y g o (look (y .store) o) e) (sym it) (sent-in-use ps s j i g (f .item) e (f .made) k)
+            used k = subst (λ (o : ℕ). InUse y g o (look (y .store) o) e) (sym it) (sent-in-use ps s j i g (f .item) e (f .on) (f .made) k)
 
             of : (outcome (y .history) (look (y .store)) (f .item) ≡ some (raised e)) ⊎ Reuses (y .store) g (f .item) (object (y .store) (f .item)) e → ReuseAt y g e ⊎ FailsAtCommit y g e
             of (inl k) = inr (record { at = length (f .left); within = low; raises = ap (came y) it ∙ (unfold came in k); left = quiet })

@@ -101,8 +101,8 @@ module _ (es : List Sent) (i : AllSentInRange es) (g o : ℕ) where
   singles-taken (inr k) = inr (singles-elsewhere k)
 
   singles-in-use : (v : Shown) (e : Error) → InUse (session (singles es)) g o v e → InUse (session es) g o v e
-  singles-in-use _ _ (is-running f) = is-running f
-  singles-in-use _ _ (is-completed f) = is-completed f
+  singles-in-use _ _ (is-running f k) = is-running f (sym (session-same es i .names o) ∙ k)
+  singles-in-use _ _ (is-completed f k) = is-completed f (sym (session-same es i .names o) ∙ k)
   singles-in-use _ _ (has-task f t l s k) = has-task f t (sym (singles-lives es i t) ∙ l) (sym (session-same es i .spawns t) ∙ s) (singles-elsewhere k)
   singles-in-use _ _ (is-pending k) = is-pending (singles-taken k)
   singles-in-use _ _ (is-awaited vs k) = is-awaited vs (singles-taken k)

@@ -18,6 +18,7 @@ use Rattle.machine.specs.Events.{Result, apply-future-results}
 use Rattle.machine.specs.Machine.{Event, Answer, Step, refusal, accept, step}
 use Rattle.machine.specs.Gather.{Outcome}
 use Rattle.machine.specs.History.{Entry, says, nothing-said, said, tells, done-only, is-at, runner-by, running, started-by, coroutine-of, running-coroutine, completed-value, spawned-by, spawned-for, exits-unstarted, failed-error, coroutine-outcome, outcome, awaited-before}
+use Rattle.machine.specs.Honest.{names-by, named}
 use Rattle.machine.specs.Sessions.{Sent, Session, InRange, AllSentInRange, lent-any, happened-by, entry-of, begun, send, send-all, session}
 use Rattle.machine.specs.Singles.{accepted-batch, each-alone, cut-by, cut, singles-from, singles}
 use Rattle.machine.specs.DemandThree.{look}
@@ -46,6 +47,7 @@ pub record SameTasks (h k : List Entry) : Type 0 where
   pub completes : (c : ℕ) → completed-value h c ≡ completed-value k c
   pub fails : (c : ℕ) → failed-error h c ≡ failed-error k c
   pub awaits : (o : ℕ) → awaited-before h o ≡ awaited-before k o
+  pub names : (c : ℕ) → named h c ≡ named k c
 
 same-through : {h k l : List Entry} → SameTasks h k → SameTasks k l → SameTasks h l
 same-through a b =
@@ -56,10 +58,11 @@ same-through a b =
       completes = λ c. a .completes c ∙ b .completes c;
       fails = λ c. a .fails c ∙ b .fails c;
       awaits = λ o. a .awaits o ∙ b .awaits o;
+      names = λ c. a .names c ∙ b .names c;
     }
 
 same-back : {h k : List Entry} → SameTasks h k → SameTasks k h
-same-back a = record { runs = sym (a .runs); starts = λ t. sym (a .starts t); spawns = λ t. sym (a .spawns t); completes = λ c. sym (a .completes c); fails = λ c. sym (a .fails c); awaits = λ o. sym (a .awaits o) }
+same-back a = record { runs = sym (a .runs); starts = λ t. sym (a .starts t); spawns = λ t. sym (a .spawns t); completes = λ c. sym (a .completes c); fails = λ c. sym (a .fails c); awaits = λ o. sym (a .awaits o); names = λ c. sym (a .names c) }
 
 same-runner : (h k : List Entry) → SameTasks h k → running-coroutine h ≡ running-coroutine k
 unfolding running-coroutine
@@ -77,7 +80,7 @@ error-by x c f g r v =
     ]
 
 same-then : (x : Entry) (h k : List Entry) → SameTasks h k → SameTasks (x ∷ h) (x ∷ k)
-unfolding running coroutine-of spawned-for completed-value failed-error awaited-before
+unfolding running coroutine-of spawned-for completed-value failed-error awaited-before named
 same-then x h k a =
     record {
       runs = ap (runner-by (tells (x .answer) .control)) (a .runs);
@@ -87,6 +90,7 @@ same-then x h k a =
       fails = λ c. ap₂ (λ (f g : ℕ → Option ℕ). error-by x c f g (running-coroutine h) (failed-error h c)) (fun-ext born) (fun-ext started)
           ∙ ap₂ (error-by x c (spawned-for (x ∷ k)) (coroutine-of (x ∷ k))) (same-runner h k a) (a .fails c);
       awaits = λ o. ap (λ (b : Bool). is-at (said x .awaits) o || b) (a .awaits o);
+      names = λ c. ap (λ (b : Bool). names-by (tells (x .answer) .control) c || b) (a .names c);
     }
   where
     started : (t : ℕ) → coroutine-of (x ∷ h) t ≡ coroutine-of (x ∷ k) t
@@ -133,7 +137,7 @@ record OnlyWakes (x : Entry) : Type 0 where
   log : AllReached (x .happened)
 
 wakes-then : (x : Entry) (h : List Entry) → OnlyWakes x → SameTasks (x ∷ h) h
-unfolding running coroutine-of spawned-for failed-error runner-by started-by awaited-before is-at
+unfolding running coroutine-of spawned-for failed-error runner-by started-by awaited-before is-at named names-by
 wakes-then x h k =
     record {
       runs = ap (λ (y : _). runner-by y (running h)) (k .control);
@@ -142,6 +146,7 @@ wakes-then x h k =
       completes = λ c. no-value x h c (k .completes);
       fails = error;
       awaits = λ o. ap (λ (b : Option ℕ). is-at b o || awaited-before h o) (k .awaits);
+      names = λ c. ap (λ (y : _). names-by y c || named h c) (k .control);
     }
   where
     by : (b : Bool) (v : Option Error) → _≡_ {A = Option Error} (elim b [ true ↦ v | false ↦ v ]) v
@@ -213,7 +218,7 @@ alone-sound y r l h = send-sound (y .store) (batch (r ∷ []) l) h tt
 
 alone-same : (rs : List Result) (l : List ℕ) (y : Session) → SoundStore (y .store) → SameTasks (send-all y (each-alone rs l) .history) (y .history) × SoundStore (send-all y (each-alone rs l) .store)
 unfolding each-alone send-all
-alone-same [] l y h = (record { runs = refl; starts = λ t. refl; spawns = λ t. refl; completes = λ c. refl; fails = λ c. refl; awaits = λ o. refl }, h)
+alone-same [] l y h = (record { runs = refl; starts = λ t. refl; spawns = λ t. refl; completes = λ c. refl; fails = λ c. refl; awaits = λ o. refl; names = λ c. refl }, h)
 alone-same (r ∷ rs) l y h = let k = alone-same rs l (send y (batch (r ∷ []) l)) (alone-sound y r l h) in (same-through (k .0) (batch-same y (r ∷ []) l (h .memory .sized)), k .1)
 
 -- a session and its cut, event by event
@@ -257,7 +262,7 @@ all-same (e ∷ es) x y i k =
 
 pub session-same : (es : List Sent) → AllSentInRange es → SameTasks (session (singles es) .history) (session es .history)
 unfolding session singles
-session-same es i = all-same es begun begun i (record { cuts = begun-cut; first-sound = begun-sound; second-sound = begun-sound; tasks = record { runs = refl; starts = λ t. refl; spawns = λ t. refl; completes = λ c. refl; fails = λ c. refl; awaits = λ o. refl } }) .tasks
+session-same es i = all-same es begun begun i (record { cuts = begun-cut; first-sound = begun-sound; second-sound = begun-sound; tasks = record { runs = refl; starts = λ t. refl; spawns = λ t. refl; completes = λ c. refl; fails = λ c. refl; awaits = λ o. refl; names = λ c. refl } }) .tasks
   where
     begun-sound : SoundStore (begun .store)
     begun-sound = unfold begun in fresh-sound-store

@@ -30,6 +30,7 @@ use Rattle.rows.specs.Tables.{task-at}
 use Rattle.machine.specs.Scheduler.{AwaitedGather, PendingExternal, as-awaited, as-pending, bit}
 use Rattle.machine.specs.Commit.{Poll, ready, raised, pending, gives, open-place, fill-place, Stop, at-end, at-nested, at-error, Frame, with-state, set-gather, open-gather-commit}
 use Rattle.machine.specs.Commit.{step-gather-commit, settle-as, settle-gather-commit, resume-in, resume-as, resume-after-child, unwind, Committed, turn, commit-loop, pending-count, commit-gather-tree}
+use Rattle.machine.specs.Sound.{is-ended}
 use Rattle.machine.specs.History.{spawned-by}
 use Rattle.machine.specs.Honest.{exits-in}
 use Rattle.machine_laws.specs.Views.{Sized}
@@ -143,6 +144,11 @@ module _ (x v : Store) (g o : ℕ) (ts : (t : ℕ) → task v t ≡ task x t) (h
   polls-same _ _ (failed f n e) = failed f n e
   polls-same y e (reuses _ _ k) = reuses y e (reuses-same y e k)
 
+-- a session in which a task runs goes on
+running-on : (m : Moment) (t : ℕ) → m ≡ Moment.Running (task-id t) → is-ended m ≡ false
+unfolding is-ended
+running-on m t e = ap is-ended e
+
 module _ (s : Store) where
   -- what a commit that ends in an error leaves
   pub record Unwound (u : Store) : Type 0 where
@@ -166,7 +172,7 @@ module _ (s : Store) where
     now : object u g ≡ Object.GatherFuture first count (GatherState.Failed e)
     why : CommitFailed s u g e
 
-  module _ (x : Store) (e : Error) (all : List Frame) (z : Sized x) (fits : ErrorFits e) (c : Committing s x) where
+  module _ (x : Store) (e : Error) (all : List Frame) (z : Sized x) (fits : ErrorFits e) (on-still : is-ended (header x .moment) ≡ false) (c : Committing s x) where
     abbrev u : Store
     u = unwind x all e
 
@@ -185,6 +191,7 @@ module _ (s : Store) where
             raises = r;
             left = quiet;
             first = λ j b. f j b (quiet j b);
+            on = ap (λ (y : Header). is-ended (y .moment)) (unwind-tasks all x e .2) ∙ on-still;
           };
         }
       where
@@ -275,12 +282,15 @@ module _ (s : Store) where
       made : g < header x .made
       made = h .inv .opened .made
 
+      goes-on : is-ended (header x .moment) ≡ false
+      goes-on = running-on (header x .moment) t (h .inv .moment)
+
       other : (o : ℕ) → (OnStack (f ∷ fs) o → ⊥) → object v o ≡ object x o
       other o n = unwind-other (f ∷ fs) x e o n
 
       top : Falls v e g
       top =
-          level-falls x e (f ∷ fs) z (h .fits) c g (k .i) (h .inv .w) (k .going .top) (h .inv .opened .awaited) (omega (arith, made, header-fits x .made-fits)) (inl refl)
+          level-falls x e (f ∷ fs) z (h .fits) goes-on c g (k .i) (h .inv .w) (k .going .top) (h .inv .opened .awaited) (omega (arith, made, header-fits x .made-fits)) (inl refl)
           (subst (λ (n : ℕ). k .i < n) (commit-places (object s g) (h .inv .w .first) (h .inv .w .count) (GatherState.Awaited (h .inv .w .awaiter) (h .inv .w .open-places))
           (subst (CommitMoves (object s g)) (awaited-object (object x g) (h .inv .w) (h .inv .opened .awaited)) (c .moves g)) .1) (k .under))
           (subst (λ (y : Object). PollRaises v g (item-at s g (k .i)) y e) (sym (other (item-at s g (k .i)) (k .off))) (polls-same x v g (item-at s g (k .i)) same-task (same .2) (object x (item-at s g (k .i))) e (k .raises)))
@@ -288,7 +298,7 @@ module _ (s : Store) where
 
       all-fall : (o : ℕ) → OnStack (f ∷ fs) o → Falls v e o
       all-fall o (inl d) = subst (Falls v e) (sym d) top
-      all-fall o (inr i) = below-falls x e (f ∷ fs) z (h .fits) c (h .inv .stack) (k .going .below) (λ p y. inr y) top o i
+      all-fall o (inr i) = below-falls x e (f ∷ fs) z (h .fits) goes-on c (h .inv .stack) (k .going .below) (λ p y. inr y) top o i
 
       took : (o : ℕ) (r : PendingExternal) → as-pending (object v o) ≡ some r → Dec (OnStack (f ∷ fs) o) → Took s o (r .awaiter)
       took o r q (yes i) = absurd-some (sym (ap as-pending (all-fall o i .now) ∙ (unfold as-pending in refl)) ∙ q)

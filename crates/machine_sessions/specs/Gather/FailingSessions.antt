@@ -32,7 +32,7 @@ use Rattle.machine.specs.Scheduler.{AwaitedGather, as-awaited, bit, pending-cal
 use Rattle.machine.specs.Delivery.{value-or}
 use Rattle.machine.specs.Events.{How, Control, Switched, Result, activate, handle-task-completion, handle-task-failure, resume-next}
 use Rattle.machine.specs.Machine.{Event, Answer, Step, Shown, switched, answer-await, end-main, task-completes, task-fails, repeat-wait, resume-with-resolved-futures, runner, unmade, first-refusal, refusals, refusal, slot-value, shown, accept, step}
-use Rattle.machine.specs.Sound.{items-below, object-in-range, places-below}
+use Rattle.machine.specs.Sound.{is-ended, items-below, object-in-range, places-below}
 use Rattle.machine.specs.Tests.{is-in}
 use Rattle.machine.specs.Gather.{Outcome, returned, raised}
 use Rattle.machine.specs.Computes.{computes}
@@ -122,6 +122,7 @@ pub record FirstFailed (h : List Entry) (u : Store) (g : ℕ) (r : Error) : Type
   pub raises : (outcome h (look u) item ≡ some (raised r)) ⊎ Reuses u g item (object u item) r
   pub unraised : (o : ℕ) → is-in o left ≡ true → error-of (outcome h (look u) o) ≡ none
   pub first : is-in item left ≡ true → ⊥
+  pub on : is-ended (header u .moment) ≡ false
 
 -- What an event does to gather g: `was` is what show gave of it before, h the history after the event, u the store then.
 pub record GatherFails (e : Event) (was : Shown) (h : List Entry) (u : Store) (g : ℕ) : Type 0 where
@@ -565,6 +566,7 @@ module _ (h : List Entry) (s : Store) (w : SoundStore s) (a : Agrees h s) (k : K
         raises = raising (raises-came g it (object u it) r (b .raises));
         unraised = λ o z. let t = sp .named o z in subst (λ (v : ℕ). error-of (outcome (y ∷ h) (look u) v) ≡ none) (t .2) (unraised-at (t .0) (t .1));
         first = λ z. let t = sp .named it z in b .first (t .0) (t .1) (t .2);
+        on = b .on;
       }
     where
       b : CommitFailed s u g r

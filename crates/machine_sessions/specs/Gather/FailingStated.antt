@@ -26,6 +26,7 @@ use Rattle.machine.specs.Scheduler.{AwaitedGather, PendingExternal, as-awaited,
 use Rattle.machine.specs.Events.{How, start, Control, runs, Result}
 use Rattle.machine.specs.Machine.{Event, Answer, Step}
 use Rattle.machine.specs.History.{says, tells, is-none, spawned-by, reply-error}
+use Rattle.machine.specs.Sound.{is-ended}
 use Rattle.machine.specs.Honest.{exits-in}
 use Rattle.machine_sessions.specs.Gather.Failing.{RowMoves}
 use Rattle.machine_sessions.specs.Gather.FailingRows.{ItemAt, Raised, ExitAs}
@@ -142,6 +143,8 @@ pub record CommitFailed (s u : Store) (g : ℕ) (x : Error) : Type 0 where
   pub raises : PollRaises u g (item-at s g at) (object u (item-at s g at)) x
   pub left : (j : ℕ) → j < at → Passed (object u (item-at s g j))
   pub first : (j : ℕ) → j < at → item-at s g j ≡ item-at s g at → ⊥
+  -- the session goes on
+  pub on : is-ended (header u .moment) ≡ false
 
 -- ---- who came to be an awaiter
 

@@ -31,7 +31,8 @@ use Rattle.machine.specs.Store.{Store, view, task, object, place, header, forge
 use Rattle.machine.specs.Scheduler.{AwaitedGather, PendingExternal, as-awaited, as-pending, live}
 use Rattle.machine.specs.Machine.{Event, Answer, Step, Shown, shown, refusal, accept, step}
 use Rattle.machine.specs.Tests.{is-in}
-use Rattle.machine.specs.Sound.{is-slot}
+use Rattle.machine.specs.Sound.{is-ended, is-slot}
+use Rattle.machine.specs.Honest.{named}
 use Rattle.machine.specs.Computes.{computes}
 use Rattle.machine.specs.History.{Entry, Says, says, said, nothing-said, tells, is-at, items, lives, lives-by, awaited-before}
 use Rattle.machine.specs.Sessions.{Sent, Session, InRange, AllSentInRange, lent-any, entry-of, begun, send, send-all, session}
@@ -52,6 +53,8 @@ use Rattle.machine_sessions.specs.Places.Told.{Frozen, co, pends, gave, 
 use Rattle.machine_sessions.specs.Places.Agrees.{Agrees}
 use Rattle.machine_sessions.specs.Places.AgreesEvents.{forget-agrees}
 use Rattle.machine_sessions.specs.Places.AgreesSessions.{send-agrees, session-agrees}
+use Rattle.machine_sessions.specs.Honest.Spawned.{shape, is-used}
+use Rattle.machine_sessions.specs.Honest.HonestEntries.{session-honest}
 use Rattle.machine_sessions.specs.Gather.FailingRows.{ItemAt}
 use Rattle.machine_sessions.specs.Gather.FailingStated.{Other, NoSlot, TaskFor, Reuses, coroutine-reused, future-reused, gather-reused, ItemSlot, HadAwaiter, Took, SlotIn, HadOpen, Opens, TookTask, TaskFrom, lived, is-new, EventFails}
 use Rattle.machine_sessions.specs.Gather.FailingHistory.{Knows, some-is-at}
@@ -322,6 +325,18 @@ not-task : (s : Store) (t : ℕ) (v : TaskId) → SoundStore s → suc t < heade
 unfolding view is-slot
 not-task s t v w l e q = subst (λ (b : Awaiter). T (is-slot b)) q (spawned-of t (w .facts .but) l (holds _ e) .slot)
 
+-- a coroutine that has started
+abbrev started : CoroutineState → Bool
+started CoroutineState.New = false
+started CoroutineState.Running = true
+started CoroutineState.Completed = true
+
+shape-started : (f : ℕ) (z : CoroutineState) → is-used (shape (Object.Coroutine f z)) ≡ started z
+unfolding shape
+shape-started f CoroutineState.New = refl
+shape-started f CoroutineState.Running = refl
+shape-started f CoroutineState.Completed = refl
+
 -- a pending external; an awaited gather
 pending-is : (c : CallId) (b : Awaiter) (v : OptionValue) → as-pending (Object.ExternalFuture c (ExternalFutureState.Pending b v)) ≡ some (record { call = c; awaiter = b; stored = v })
 unfolding as-pending
@@ -408,9 +423,15 @@ module _ (es : List Sent) (i : AllSentInRange es) (g : ℕ) where
           elsewhere o (task (x .store) t .coroutine .0) f p (subst (Other g) q d) (w .facts .but .task-slots t (k .low) (holds _ (k .live)) (f .0) (p .0) q) (subst (Known (x .history) (header (x .store) .made) o) q n)
 
   -- An item that is reused is in use.
-  pub reused-in-use : (o : ℕ) (r : Error) → o < header (x .store) .made → Reuses (x .store) g o (object (x .store) o) r → InUse x g o (look (x .store) o) r
-  reused-in-use o r l k = subst (λ (v : Shown). InUse x g o v r) (sym (look-is o l)) (by (object (x .store) o) r refl k)
+  pub reused-in-use : (o : ℕ) (r : Error) → is-ended (header (x .store) .moment) ≡ false → o < header (x .store) .made → Reuses (x .store) g o (object (x .store) o) r → InUse x g o (look (x .store) o) r
+  reused-in-use o r on l k = subst (λ (v : Shown). InUse x g o v r) (sym (look-is o l)) (by (object (x .store) o) r refl k)
     where
+      named-used : is-used (shape (object (x .store) o)) ≡ true → named (x .history) o ≡ true
+      named-used e = session-honest es i .kept on .origins .named-is o ∙ e
+
+      named-by : {f : ℕ} (z : CoroutineState) → object (x .store) o ≡ Object.Coroutine f z → started z ≡ true → named (x .history) o ≡ true
+      named-by {f} z q e = named-used (ap (λ (p : Object). is-used (shape p)) q ∙ (shape-started f z ∙ e))
+
       taken : (b : Awaiter) → awaiter-of (object (x .store) o) ≡ b → Somebody b → NoSlot g b → Known (x .history) (header (x .store) .made) o b → (awaited-before (x .history) o ≡ true) ⊎ Elsewhere x g o
       taken Awaiter.Nobody q z d n = absurd z
       taken (Awaiter.Task t) q z d n = inl n
@@ -432,14 +453,14 @@ module _ (es : List Sent) (i : AllSentInRange es) (g : ℕ) where
 
       by : (z : Object) (e : Error) → object (x .store) o ≡ z → Reuses (x .store) g o z e → InUse x g o (shown (x .store) z) e
       by _ _ q (coroutine-reused f CoroutineState.New d) = unfold shown in (tasked o f d)
-      by _ _ q (coroutine-reused f CoroutineState.Running d) = unfold shown in (is-running f)
-      by _ _ q (coroutine-reused f CoroutineState.Completed d) = unfold shown in (is-completed f)
+      by _ _ q (coroutine-reused f CoroutineState.Running d) = unfold shown in (is-running f (named-by CoroutineState.Running q refl))
+      by _ _ q (coroutine-reused f CoroutineState.Completed d) = unfold shown in (is-completed f (named-by CoroutineState.Completed q refl))
       by _ _ q (future-reused c b v d) = unfold shown in (is-pending (external-used c b v q d))
       by _ _ q (gather-reused f n b m d) = unfold shown in (is-awaited _ (gather-used f n b m q d))
 
 -- So it is after one more event.
-pub sent-in-use : (es : List Sent) (e : Sent) → AllSentInRange es → InRange (e .event) → (g o : ℕ) (r : Error) → o < header (send (session es) e .store) .made
+pub sent-in-use : (es : List Sent) (e : Sent) → AllSentInRange es → InRange (e .event) → (g o : ℕ) (r : Error) → is-ended (header (send (session es) e .store) .moment) ≡ false → o < header (send (session es) e .store) .made
     → Reuses (send (session es) e .store) g o (object (send (session es) e .store) o) r → InUse (send (session es) e) g o (look (send (session es) e .store) o) r
 sent-in-use es e i j g o r =
-    subst (λ (y : Session). o < header (y .store) .made → Reuses (y .store) g o (object (y .store) o) r → InUse y g o (look (y .store) o) r) (session-snoc es e)
+    subst (λ (y : Session). is-ended (header (y .store) .moment) ≡ false → o < header (y .store) .made → Reuses (y .store) g o (object (y .store) o) r → InUse y g o (look (y .store) o) r) (session-snoc es e)
     (reused-in-use (es ++ (e ∷ [])) (in-range-snoc es e i j) g o r)
