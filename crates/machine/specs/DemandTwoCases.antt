@@ -5,7 +5,7 @@ use native.Mathlib.Nat.{not-suc-le-zero}
 use native.Mathlib.Omega.{arith}
 use mathlib.Core.Path.{_≡_, refl}
 use mathlib.Core.List.{List, [], _∷_, _++_, map}
-use mathlib.Core.Bool.{true, _||_}
+use mathlib.Core.Bool.{_||_}
 use mathlib.Core.Logic.{inr}
 use lib.ListN.{replicate}
 use Rattle.asyncio.specs.declared.Value.{Value}
@@ -19,7 +19,7 @@ use Rattle.machine.specs.History.{items}
 use Rattle.machine.specs.Sessions.{Sent, begun, session}
 use Rattle.machine.specs.Singles.{batch-of, accepted-batch, each-alone, cut-by, cut, singles-from, singles}
 use Rattle.machine.specs.DemandThree.{look}
-use Rattle.machine.specs.DemandTwo.{came, committed, values, seen, arrives, arrivals-of, is-late, early, late, in-turn, arrivals-by, arrivals-in, arrivals-from, Elsewhere, has-task, is-pending, ReuseAt, Reused}
+use Rattle.machine.specs.DemandTwo.{came, committed, values, seen, arrives, arrivals-of, is-late, early, late, in-turn, arrivals-by, arrivals-in, arrivals-from, has-task, is-pending, Reused}
 use Rattle.machine.specs.DemandThreeCases.{e, res, pend, computes3}
 
 -- a session, and a gather of it

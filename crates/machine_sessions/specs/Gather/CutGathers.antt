@@ -17,7 +17,7 @@ use Rattle.machine.specs.Events.{Result}
 use Rattle.machine.specs.Machine.{Shown, shown}
 use Rattle.machine.specs.Scheduler.{live}
 use Rattle.machine.specs.Tests.{is-in}
-use Rattle.machine.specs.History.{items, error-of, lives, spawned-for, awaited-before}
+use Rattle.machine.specs.History.{items, error-of, lives, awaited-before}
 use Rattle.machine.specs.Sessions.{Sent, Session, AllSentInRange, lent-any, begun, send, session}
 use Rattle.machine.specs.Singles.{accepted-batch, each-alone, cut-by, cut, singles-from, singles}
 use Rattle.machine.specs.DemandThree.{look}

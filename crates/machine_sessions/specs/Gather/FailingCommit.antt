@@ -48,7 +48,7 @@ use Rattle.machine_theorems.specs.Soundness.CommitLoop.{awaits-fits, Commits, s
 use Rattle.machine_theorems.specs.Soundness.CommitItems.{AtEnd, AtNested, AtError, StopOk, inv-count}
 use Rattle.machine_theorems.specs.Soundness.AwaitGather.{nested-commits, frame-stops, commit-begins}
 use Rattle.machine_sessions.specs.Gather.Failing.{RowMoves, CommitMoves, FailedRow, commit-moves, commit-failed, commit-pending, commit-places, failed-awaited}
-use Rattle.machine_sessions.specs.Gather.FailingStated.{Passed, Settled, Other, TaskFor, Busy, Reuses, coroutine-reused, future-reused, gather-reused, PollRaises, broken, failed, reuses, item-at, ItemSlot, Took, SlotIn, Opens, CommitFailed}
+use Rattle.machine_sessions.specs.Gather.FailingStated.{Passed, Settled, Other, Busy, Reuses, coroutine-reused, future-reused, gather-reused, PollRaises, broken, failed, reuses, item-at, ItemSlot, Took, Opens, CommitFailed}
 use Rattle.machine_sessions.specs.Gather.FailingCommitSteps.{Committing, committing-begins, committing-row, opened-moves, not-coroutine, Taking, taking-begins, taking-gather, Opening, opening-begins, opening-row, Calm, Level, Levels, Going, Onward, keeps-same, level-onward, levels-onward, going-opens, going-fills}
 use Rattle.machine_sessions.specs.Gather.FailingCommitItems.{AtRaise, AtDone, StopFails, items-fails, stack-above}
 

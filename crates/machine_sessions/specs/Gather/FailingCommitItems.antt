@@ -7,7 +7,7 @@ use mathlib.Core.Option.{Option, none, some, Option·some-injective}
 use Prim.Native.Nat.{ℕ, zero, suc, _+_, _-_, _≤_, _<_}
 use native.Mathlib.Nat.{not-suc-le-zero}
 use native.Mathlib.Omega.{arith}
-use lib.Dec.{T, eqb, ltb, ltb→lt}
+use lib.Dec.{T, eqb, ltb→lt}
 use borrow.Author.Tests.{eqb-true, lt-ltb}
 use Rattle.asyncio.specs.declared.CallId.{CallId}
 use Rattle.asyncio.specs.declared.Error.{Error}
@@ -50,7 +50,7 @@ use Rattle.machine_theorems.specs.Panics.NoPanicLaws.{spawn-left}
 use Rattle.machine_sessions.specs.Waits.CallEvents.{first-holds}
 use Rattle.machine_sessions.specs.Gather.FailingRows.{ItemAt}
 use Rattle.machine_sessions.specs.Gather.Failing.{CommitMoves, commit-places, commit-takes}
-use Rattle.machine_sessions.specs.Gather.FailingStated.{Passed, Settled, Other, NoSlot, TaskFor, Reuses, coroutine-reused, future-reused, gather-reused, PollRaises, broken, failed, reuses, item-at, Took}
+use Rattle.machine_sessions.specs.Gather.FailingStated.{Passed, Settled, Other, NoSlot, TaskFor, coroutine-reused, future-reused, gather-reused, PollRaises, broken, failed, reuses, item-at, Took}
 use Rattle.machine_sessions.specs.Gather.FailingCommitSteps.{Committing, committing-spawn, spawn-rows, Calm, Level, Levels, Going, going-same, going-opens, going-fills, going-lower}
 
 -- ---- the stack

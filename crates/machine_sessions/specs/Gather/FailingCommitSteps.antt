@@ -43,7 +43,7 @@ use Rattle.machine_theorems.specs.Soundness.CommitInv.{OnStack, OnTop}
 use Rattle.machine_sessions.specs.Queue.Tracked.{spawn-row, spawn-next}
 use Rattle.machine_sessions.specs.Gather.Failing.{CommitMoves, GatherCommits, commit-same, commit-places, commit-coroutine}
 use Rattle.machine_sessions.specs.Gather.FailingRows.{ItemAt}
-use Rattle.machine_sessions.specs.Gather.FailingStated.{Passed, Settled, item-at, ItemSlot, Took, SlotIn, Opens}
+use Rattle.machine_sessions.specs.Gather.FailingStated.{Passed, Settled, item-at, ItemSlot, Took, Opens}
 
 -- a gather that was pending and is awaited may come to any state that is not failed
 pub opened-moves : (x y : Object) (f n : ℕ) (w : AwaitedGather) (z : GatherState) → x ≡ Object.GatherFuture f n GatherState.Pending → as-awaited y ≡ some w → CommitMoves x y → GatherCommits GatherState.Pending z

@@ -179,7 +179,7 @@ module _ (e : Event) (s : Store) where
 
 -- ---- results
 
-pending-awaiter : (x : Object) (p : PendingExternal) → as-pending x ≡ some p → awaiter-of x ≡ p .awaiter
+pub pending-awaiter : (x : Object) (p : PendingExternal) → as-pending x ≡ some p → awaiter-of x ≡ p .awaiter
 unfolding awaiter-of
 pending-awaiter x p e = ap awaiter-of (pending-object x p e)
 

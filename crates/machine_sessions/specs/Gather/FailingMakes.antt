@@ -27,23 +27,18 @@ use Rattle.machine.specs.Machine.{Event, Answer, Step, accept}
 use Rattle.machine.specs.History.{tells, done-only}
 use Rattle.machine_laws.specs.Views.{Sized}
 use Rattle.machine_laws.specs.StoreLaws.{header-fits, header-put-header, header-put-object, object-put-header, object-put-other, sized-put-header, sized-set-calls}
-use Rattle.machine_laws.specs.DeliveryLaws.{absurd-some, pending-object}
+use Rattle.machine_laws.specs.DeliveryLaws.{absurd-some}
 use Rattle.machine_laws.specs.MakingLaws.{items-sized}
 use Rattle.machine_theorems.specs.Soundness.RowFacts.{items-header}
 use Rattle.machine_sessions.specs.Queue.TrackedEvents.{items-tasks, items-log}
 use Rattle.machine_sessions.specs.Waits.Calls.{read-back}
 use Rattle.machine_sessions.specs.Gather.FailingStated.{Took, Opens, EventFails}
-use Rattle.machine_sessions.specs.Gather.FailingEvents.{same-ends}
+use Rattle.machine_sessions.specs.Gather.FailingEvents.{same-ends, pending-awaiter}
 
 items-objects : (os : List ℕ) (s : Store) (p o : ℕ) → object (put-items s p os) o ≡ object s o
 unfolding put-items object put-place
 items-objects [] s p o = refl
 items-objects (x ∷ os) s p o = items-objects os (put-place s p (record { item = heap-id x; result = OptionValue.None })) (p + 1) o
-
--- the awaiter of a pending external
-pending-awaiter : (x : Object) (p : PendingExternal) → as-pending x ≡ some p → awaiter-of x ≡ p .awaiter
-unfolding awaiter-of
-pending-awaiter x p e = ap awaiter-of (pending-object x p e)
 
 -- rows as they were: awaiters too
 same-takes : (s u : Store) → ((o : ℕ) → object u o ≡ object s o) → (o : ℕ) (r : PendingExternal) → as-pending (object u o) ≡ some r → Took s o (r .awaiter)

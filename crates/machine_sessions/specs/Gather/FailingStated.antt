@@ -8,7 +8,6 @@ use mathlib.Core.Logic.{_⊎_}
 use Prim.Native.Nat.{ℕ, suc, _+_, _≤_, _<_}
 use lib.Dec.{eqb}
 use Rattle.asyncio.specs.declared.CallId.{CallId}
-use Rattle.asyncio.specs.declared.HeapId.{HeapId}
 use Rattle.asyncio.specs.declared.Error.{Error}
 use Rattle.asyncio.specs.declared.Value.{Value}
 use Rattle.asyncio.specs.declared.OptionValue.{OptionValue}

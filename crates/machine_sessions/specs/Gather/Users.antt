@@ -2,16 +2,15 @@
 -- item that is reused is in use by somebody, in the words of demand 2 (`reused-in-use`).
 use mathlib.Core.Path.{_≡_, refl, ap, sym, subst, _∙_}
 use mathlib.Core.Logic.{_⊎_, inl, inr}
-use mathlib.Core.Bool.{Bool, true, false, _||_, true≢false}
+use mathlib.Core.Bool.{Bool, true, false, _||_}
 use mathlib.Core.List.{List, [], _∷_, _++_}
-use mathlib.Core.Option.{Option, none, some}
-use Prim.Native.Nat.{ℕ, zero, suc, _+_, _≤_, _<_}
+use mathlib.Core.Option.{some}
+use Prim.Native.Nat.{ℕ, suc, _+_, _≤_, _<_}
 use native.Mathlib.Nat.{not-suc-le-zero}
 use native.Mathlib.Omega.{arith}
 use native.Mathlib.Decide.{ℕ-discrete}
 use lib.Dec.{T, ltb}
-use lib.ListN.{length}
-use borrow.Author.Tests.{eq-eqb, ltb-true, ltb-false}
+use borrow.Author.Tests.{ltb-true, ltb-false}
 use Rattle.asyncio.specs.declared.HeapId.{HeapId}
 use Rattle.asyncio.specs.declared.TaskId.{TaskId}
 use Rattle.asyncio.specs.declared.CallId.{CallId}
@@ -34,7 +33,7 @@ use Rattle.machine.specs.Tests.{is-in}
 use Rattle.machine.specs.Sound.{is-ended, is-slot}
 use Rattle.machine.specs.Honest.{named}
 use Rattle.machine.specs.Computes.{computes}
-use Rattle.machine.specs.History.{Entry, Says, says, said, nothing-said, tells, is-at, items, lives, lives-by, awaited-before}
+use Rattle.machine.specs.History.{Entry, Says, said, tells, is-at, items, lives, lives-by, awaited-before}
 use Rattle.machine.specs.Sessions.{Sent, Session, InRange, AllSentInRange, lent-any, entry-of, begun, send, send-all, session}
 use Rattle.machine.specs.DemandThree.{look}
 use Rattle.machine.specs.DemandTwo.{committed, Elsewhere, InUse, is-running, is-completed, has-task, is-pending, is-awaited}
@@ -48,18 +47,18 @@ use Rattle.machine_theorems.specs.Soundness.Cycle.{spawned-of}
 use Rattle.machine_theorems.specs.Soundness.Sessions.{forget-sound-store, step-sound-store}
 use Rattle.machine_sessions.specs.Queue.Tracked.{live-is}
 use Rattle.machine_sessions.specs.Queue.Following.{Sends, stepped, short, sends, Following, accept-accepts, send-following, session-follows}
-use Rattle.machine_sessions.specs.Waits.{said-accepted, said-refused}
-use Rattle.machine_sessions.specs.Places.Told.{Frozen, co, pends, gave, broke, many, frozen}
+use Rattle.machine_sessions.specs.Waits.{said-accepted}
+use Rattle.machine_sessions.specs.Places.Told.{many, frozen}
 use Rattle.machine_sessions.specs.Places.Agrees.{Agrees}
 use Rattle.machine_sessions.specs.Places.AgreesEvents.{forget-agrees}
-use Rattle.machine_sessions.specs.Places.AgreesSessions.{send-agrees, session-agrees}
+use Rattle.machine_sessions.specs.Places.AgreesSessions.{fresh-object, send-agrees, session-agrees}
 use Rattle.machine_sessions.specs.Honest.Spawned.{shape, is-used}
 use Rattle.machine_sessions.specs.Honest.HonestEntries.{session-honest}
 use Rattle.machine_sessions.specs.Gather.FailingRows.{ItemAt}
-use Rattle.machine_sessions.specs.Gather.FailingStated.{Other, NoSlot, TaskFor, Reuses, coroutine-reused, future-reused, gather-reused, ItemSlot, HadAwaiter, Took, SlotIn, HadOpen, Opens, TookTask, TaskFrom, lived, is-new, EventFails}
+use Rattle.machine_sessions.specs.Gather.FailingStated.{Other, NoSlot, TaskFor, Reuses, coroutine-reused, future-reused, gather-reused, ItemSlot, Took, SlotIn, Opens, TookTask, TaskFrom, lived, is-new, EventFails}
 use Rattle.machine_sessions.specs.Gather.FailingHistory.{Knows, some-is-at}
 use Rattle.machine_sessions.specs.Gather.FailingAwait.{accept-fails}
-use Rattle.machine_sessions.specs.Gather.FailingSessions.{gather-list, item-in, items-later, items-now, made-still, forget-knows, look-row, send-fails, session-knows}
+use Rattle.machine_sessions.specs.Gather.FailingSessions.{IsMany, gather-list, item-in, items-later, items-now, made-still, forget-knows, look-row, send-fails, session-knows}
 use Rattle.machine_sessions.specs.Gather.GatherSteps.{in-range-snoc, session-snoc}
 
 -- ---- what is known of awaiters
@@ -97,22 +96,6 @@ unfolding awaited-before
 awaited-now x h o e = ap (λ (b : Bool). b || awaited-before h o) (some-is-at (said x .awaits) o e)
 
 -- ---- a gather that has an item is made
-
-abbrev IsUnmade : Frozen → Type 0
-IsUnmade Frozen.unmade = Unit {0}
-IsUnmade (co b) = ⊥
-IsUnmade (pends c r) = ⊥
-IsUnmade (gave v) = ⊥
-IsUnmade (broke e) = ⊥
-IsUnmade (many f n) = ⊥
-
-abbrev IsMany : Frozen → Type 0
-IsMany Frozen.unmade = ⊥
-IsMany (co b) = ⊥
-IsMany (pends c r) = ⊥
-IsMany (gave v) = ⊥
-IsMany (broke e) = ⊥
-IsMany (many f n) = Unit {0}
 
 counted-many : (x : Object) (n : ℕ) → n < count-of x → frozen x ≡ many (first-of x) (count-of x)
 unfolding count-of first-of frozen
@@ -279,38 +262,14 @@ all-use [] x i f a k us = us
 all-use (e ∷ es) x i f a k us =
     all-use es (send x e) (i .1) (send-following x e (i .0) f) (send-agrees x e (i .0) f a) (send-fails x e (i .0) f a k .0) (send-uses x e (i .0) f a k us)
 
--- nothing is pending at first
-unmade-shut : {A : Type 0} (x : Object) (v : AwaitedGather) → frozen x ≡ Frozen.unmade → as-awaited x ≡ some v → A
-unfolding frozen as-awaited
-unmade-shut Object.Unmade v q e = absurd-some e
-unmade-shut (Object.Coroutine f x) v q e = absurd-some e
-unmade-shut (Object.ExternalFuture c x) v q e = absurd-some e
-unmade-shut (Object.GatherFuture f n x) v q e = absurd (subst IsUnmade (sym q) tt)
-
-unmade-idle : {A : Type 0} (x : Object) (r : PendingExternal) → frozen x ≡ Frozen.unmade → as-pending x ≡ some r → A
-unfolding frozen as-pending
-unmade-idle Object.Unmade r q e = absurd-some e
-unmade-idle (Object.Coroutine f x) r q e = absurd-some e
-unmade-idle (Object.ExternalFuture c (ExternalFutureState.Pending a v)) r q e = absurd (subst IsUnmade (sym q) tt)
-unmade-idle (Object.ExternalFuture c (ExternalFutureState.Resolved v)) r q e = absurd-some e
-unmade-idle (Object.ExternalFuture c (ExternalFutureState.Failed v)) r q e = absurd-some e
-unmade-idle (Object.GatherFuture f n x) r q e = absurd-some e
-
-fresh-made : header fresh .made ≡ 0
-unfolding computes
-fresh-made = refl
-
-fresh-next : header fresh .next ≡ 1
-unfolding computes
-fresh-next = refl
-
+-- nothing is awaited at first
 begun-uses : Uses [] fresh
-unfolding session begun AllSentInRange send-all
+unfolding computes as-pending as-awaited
 begun-uses =
     record {
-      externals = λ o r q. unmade-idle (object fresh o) r (session-agrees [] tt .behind o (omega (arith, fresh-made))) q;
-      gathers = λ o v q. unmade-shut (object fresh o) v (session-agrees [] tt .behind o (omega (arith, fresh-made))) q;
-      tasks = λ t l q. absurd (not-suc-le-zero {n = 0} (omega (arith, l, fresh-next)));
+      externals = λ o r q. absurd-some (sym (ap as-pending (fresh-object o)) ∙ q);
+      gathers = λ o v q. absurd-some (sym (ap as-awaited (fresh-object o)) ∙ q);
+      tasks = λ t l q. absurd (not-suc-le-zero {n = 0} (omega (arith, l)));
     }
 
 -- what is known of awaiters after every session
