@@ -10,13 +10,16 @@ use mathlib.Core.Logic.{_⊎_}
 use lib.ListN.{length, getD}
 use Rattle.asyncio.specs.declared.Value.{Value}
 use Rattle.asyncio.specs.declared.Error.{Error}
+use Rattle.asyncio.specs.declared.CoroutineState.{CoroutineState}
+use Rattle.machine.specs.Tests.{is-in}
 use Rattle.machine.specs.Events.{Result}
 use Rattle.machine.specs.Machine.{Event, Shown}
 use Rattle.machine.specs.Gather.{Outcome, returned, raised, Arrival, Gathered, waiting, listed, propagated, gather}
-use Rattle.machine.specs.History.{outcome, error-of, items}
+use Rattle.machine.specs.History.{outcome, error-of, items, lives, spawned-for, awaited-before}
 use Rattle.machine.specs.Sessions.{Sent, Session, begun, send, session, AllSentInRange}
 use Rattle.machine.specs.Singles.{singles}
 use Rattle.machine.specs.DemandThree.{look}
+use Rattle.machine.specs.Honest.{named}
 
 -- what object o has come to after a session
 unfoldable pub came : Session → ℕ → Option (Outcome Value Error)
@@ -110,24 +113,31 @@ arrivals-from x (e ∷ es) g = let y : Session = send x e in arrivals-in x y g +
 
 -- ---- the claim
 
--- the error that an await raises for an object in use: a coroutine, a pending external, an awaited gather
-unfoldable pub reuse-of : Shown → Option Error
-reuse-of (Shown.a-coroutine x f) = some Error.CoroutineReuse
-reuse-of Shown.an-external-pending = some Error.FutureReuse
-reuse-of (Shown.an-external-resolved v) = none
-reuse-of (Shown.an-external-failed e) = none
-reuse-of Shown.a-gather-pending = none
-reuse-of (Shown.a-gather-awaited vs) = some Error.GatherReuse
-reuse-of (Shown.a-gather-completed vs) = none
-reuse-of (Shown.a-gather-failed e) = none
-reuse-of Shown.nothing = none
+-- another gather than g, which was committed, has object o among its items
+pub record Elsewhere (y : Session) (g o : ℕ) : Type 0 where
+  pub user : ℕ
+  pub other : user ≡ g → ⊥
+  pub was-committed : committed (look (y .store) user) ≡ true
+  pub among : is-in o (items (y .history) user) ≡ true
 
--- The exception (document 01, module 4): a commit that meets an item in use fails with the reuse error of that item. The items left of it have raised nothing.
+-- Who uses item o of gather g, by what is shown of it, and the error for that: an answer has started the coroutine, or it has a live task, and another gather has
+-- it; a task has awaited the pending external, or the awaited gather, or another gather has it.
+pub data InUse (y : Session) (g o : ℕ) : Shown → Error → Type 0 where
+  is-running : (f : ℕ) → named (y .history) o ≡ true → InUse y g o (Shown.a-coroutine CoroutineState.Running f) Error.CoroutineReuse
+  is-completed : (f : ℕ) → named (y .history) o ≡ true → InUse y g o (Shown.a-coroutine CoroutineState.Completed f) Error.CoroutineReuse
+  has-task : (f t : ℕ) → lives (y .history) t ≡ true → spawned-for (y .history) t ≡ some o → Elsewhere y g o
+      → InUse y g o (Shown.a-coroutine CoroutineState.New f) Error.CoroutineReuse
+  is-pending : (awaited-before (y .history) o ≡ true) ⊎ Elsewhere y g o → InUse y g o Shown.an-external-pending Error.FutureReuse
+  is-awaited : (vs : List (Option Value)) → (awaited-before (y .history) o ≡ true) ⊎ Elsewhere y g o → InUse y g o (Shown.a-gather-awaited vs) Error.GatherReuse
+
+-- The exception (document 01, module 4): a commit that meets an item in use fails with the reuse error of that item. The items left of it have raised nothing,
+-- and are other objects ("An item already open gets another place").
 pub record ReuseAt (y : Session) (g : ℕ) (e : Error) : Type 0 where
   pub at : ℕ
   pub within : at < length (items (y .history) g)
   pub left : (b : ℕ) → b < at → error-of (came y (getD (items (y .history) g) b 0)) ≡ none
-  pub in-use : reuse-of (look (y .store) (getD (items (y .history) g) at 0)) ≡ some e
+  pub first : (b : ℕ) → b < at → getD (items (y .history) g) b 0 ≡ getD (items (y .history) g) at 0 → ⊥
+  pub in-use : InUse y g (getD (items (y .history) g) at 0) (look (y .store) (getD (items (y .history) g) at 0)) e
 
 -- a gather that failed so, some events ago, in its own commit
 pub record Reused (es : List Sent) (g : ℕ) (e : Error) : Type 0 where

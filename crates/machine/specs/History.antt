@@ -304,6 +304,11 @@ error-of (some (raised e)) = some e
 unfoldable pub items : List Entry → ℕ → List ℕ
 items h o = elim (making h o) [ none ↦ [] | some m ↦ says (m .event) .items ]
 
+-- was an await of object o accepted?
+unfoldable pub awaited-before : List Entry → ℕ → Bool
+awaited-before [] o = false
+awaited-before (x ∷ h) o = is-at (said x .awaits) o || awaited-before h o
+
 -- was a cancel accepted?
 unfoldable pub cancelled : List Entry → Bool
 cancelled [] = false

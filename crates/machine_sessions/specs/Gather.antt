@@ -15,6 +15,7 @@ pub mod FailingAwait
 pub mod OwnFirst
 pub mod FailingHistory
 pub mod FailingSessions
+pub mod Users
 pub mod OutcomesStay
 pub mod GatherEvents
 pub mod LateLast
@@ -77,14 +78,14 @@ use Rattle.machine_sessions.specs.Places.AgreesSessions.{accept-agrees, 
 use Rattle.machine_sessions.specs.Places.PlacesHold.{row-outcome, outcome-row, shows-made}
 use Rattle.machine_sessions.specs.Gather.Failing.{RowMoves, CoroutineMoves}
 use Rattle.machine_sessions.specs.Gather.FailingRows.{ItemAt, Raised}
-use Rattle.machine_sessions.specs.Gather.FailingStated.{Brings, FailedBy, Passed, PollRaises, broken, failed, coroutine-reused, future-reused, gather-reused, item-at, CommitFailed, EventFails, ResultIn, reuse, script, answer}
+use Rattle.machine_sessions.specs.Gather.FailingStated.{Brings, FailedBy, Reuses, item-at, CommitFailed, EventFails, ResultIn, reuse, script, answer}
 use Rattle.machine_sessions.specs.Gather.FailingAwait.{accept-fails}
 use Rattle.machine_sessions.specs.Gather.FailingHistory.{Knows, UsedRow, step-knows, raised-outcome, used-made}
 use Rattle.machine.specs.History.{value-of}
 use lib.ListN.{getD}
 use Rattle.machine_sessions.specs.Stall.Outcomes.{outcome-of, is-there}
 use Rattle.machine.specs.DemandThree.{read, shown-by, delivered, none-open, Demand3}
-use Rattle.machine.specs.DemandTwo.{came, committed, seen, is-late, arrivals-from, reuse-of, ReuseAt, GatherRight, DemandTwo}
+use Rattle.machine.specs.DemandTwo.{came, committed, seen, is-late, arrivals-from, InUse, ReuseAt, GatherRight, DemandTwo}
 use Rattle.machine_sessions.specs.DemandThree.{demand-three}
 use Rattle.machine_sessions.specs.Stall.WaitingSessions.{awaited-items-no-error}
 use Rattle.machine_sessions.specs.Gather.Arrivals.{head-in, tail-in}
@@ -92,9 +93,10 @@ use Rattle.machine_sessions.specs.Gather.GatherSteps.{Delivered, NoneRai
 use Rattle.machine_sessions.specs.Gather.GatherEvents.{Stays, session-stays}
 use Rattle.machine_sessions.specs.Gather.LateLast.{InPlace, item-place, item-committed, item-not-runner, item-late}
 use Rattle.machine_sessions.specs.Gather.Batches.{lent-entry, batch, Single, few-said, singles-in-range, singles-single}
+use Rattle.machine_sessions.specs.Gather.Users.{sent-in-use}
 use Rattle.machine_sessions.specs.Gather.CutOutcomes.{singles-look}
 use Rattle.machine_sessions.specs.Gather.CutGathers.{singles-items, singles-reused}
-use Rattle.machine_sessions.specs.Gather.FailingSessions.{ShownMoves, ShowsCommitted, FailedItem, FirstFailed, Reused, a-coroutine, an-external, a-gather, GatherFails, session-fails, making-later, look-row, row-failed, IsPending, IsFailed, session-knows}
+use Rattle.machine_sessions.specs.Gather.FailingSessions.{ShownMoves, ShowsCommitted, FailedItem, FirstFailed, GatherFails, session-fails, making-later, look-row, row-failed, IsPending, IsFailed, session-knows}
 
 -- ---- what show answers
 
@@ -354,12 +356,6 @@ left-named [] r b q = absurd (not-suc-le-zero {n = 0} (omega (arith, q)))
 left-named (a ∷ l) r zero q = head-in a l
 left-named (a ∷ l) r (suc b) q = tail-in (getD (l ++ r) b 0) a l (left-named l r b (omega (arith, q)))
 
-reused-of : (l : Shown) (e : Error) → Reused l e → reuse-of l ≡ some e
-unfolding reuse-of
-reused-of l e (a-coroutine x f) = refl
-reused-of l e an-external = refl
-reused-of l e (a-gather vs) = refl
-
 -- ---- one event
 
 late-is : (e : Error) → is-late (raised e) ≡ true → e ≡ Error.CoroutineReuse
@@ -553,7 +549,7 @@ module _ (ps : List Sent) (s : Sent) (j : AllSentInRange ps) (i : InRange (s .ev
   -- ---- gather g
 
   module _ (g : ℕ) (few : length (said X .results) ≤ 1) where
-    abbrev fs : GatherFails (s .event) (look (session ps .store) g) (send (session ps) s .history) (look (send (session ps) s .store)) g
+    abbrev fs : GatherFails (s .event) (look (session ps .store) g) (send (session ps) s .history) (send (session ps) s .store) g
     fs = session-fails ps s j i g
 
     made-low : committed (look (x .store) g) ≡ true → g < header (x .store) .made
@@ -721,7 +717,7 @@ module _ (ps : List Sent) (s : Sent) (j : AllSentInRange ps) (i : InRange (s .ev
     fails-at-commit : (e : Error) → committed (look (x .store) g) ≡ false → look (y .store) g ≡ Shown.a-gather-failed e → ReuseAt y g e ⊎ FailsAtCommit y g e
     fails-at-commit e c q = at-commit (fs .pending e (pending-before e c q) q)
       where
-        at-commit : FirstFailed (y .history) (look (y .store)) g e → ReuseAt y g e ⊎ FailsAtCommit y g e
+        at-commit : FirstFailed (y .history) (y .store) g e → ReuseAt y g e ⊎ FailsAtCommit y g e
         at-commit f = of (f .raises)
           where
             it : getD (items (y .history) g) (length (f .left)) 0 ≡ f .item
@@ -735,9 +731,16 @@ module _ (ps : List Sent) (s : Sent) (j : AllSentInRange ps) (i : InRange (s .ev
                 subst (λ (os : List ℕ). error-of (came y (getD os b 0)) ≡ none) (sym (f .split))
                 (unfold came in (f .unraised (getD (f .left ++ (f .item ∷ f .right)) b 0) (left-named (f .left) (f .item ∷ f .right) b l)))
 
-            of : (outcome (y .history) (look (y .store)) (f .item) ≡ some (raised e)) ⊎ Reused (look (y .store) (f .item)) e → ReuseAt y g e ⊎ FailsAtCommit y g e
+            apart : (b : ℕ) → b < length (f .left) → getD (items (y .history) g) b 0 ≡ getD (items (y .history) g) (length (f .left)) 0 → ⊥
+            apart b l d =
+                f .first (subst (λ (o : ℕ). is-in o (f .left) ≡ true) (ap (λ (os : List ℕ). getD os b 0) (sym (f .split)) ∙ (d ∙ it)) (left-named (f .left) (f .item ∷ f .right) b l))
+
+            used : Reuses (y .store) g (f .item) (object (y .store) (f .item)) e → InUse y g (getD (items (y .history) g) (length (f .left)) 0) (look (y .store) (getD (items (y .history) g) (length (f .left)) 0)) e
+            used k = subst (λ (o : ℕ). InUse y g o (look (y .store) o) e) (sym it) (sent-in-use ps s j i g (f .item) e (f .on) (f .made) k)
+
+            of : (outcome (y .history) (look (y .store)) (f .item) ≡ some (raised e)) ⊎ Reuses (y .store) g (f .item) (object (y .store) (f .item)) e → ReuseAt y g e ⊎ FailsAtCommit y g e
             of (inl k) = inr (record { at = length (f .left); within = low; raises = ap (came y) it ∙ (unfold came in k); left = quiet })
-            of (inr k) = inl (record { at = length (f .left); within = low; left = quiet; in-use = ap (λ (o : ℕ). reuse-of (look (y .store) o)) it ∙ reused-of (look (y .store) (f .item)) e k })
+            of (inr k) = inl (record { at = length (f .left); within = low; left = quiet; first = apart; in-use = used k })
 
     pub gather-step : GatherStep x y g
     gather-step =

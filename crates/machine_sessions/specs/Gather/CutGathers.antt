@@ -12,14 +12,16 @@ use Rattle.asyncio.specs.declared.Error.{Error}
 use Rattle.asyncio.specs.declared.ExternalFutureState.{ExternalFutureState}
 use Rattle.asyncio.specs.declared.Object.{Object}
 use Rattle.asyncio.specs.Parts.{first-of, count-of}
-use Rattle.machine.specs.Store.{Store, object, place, header, forget}
+use Rattle.machine.specs.Store.{Store, task, object, place, header, forget}
 use Rattle.machine.specs.Events.{Result}
 use Rattle.machine.specs.Machine.{Shown, shown}
-use Rattle.machine.specs.History.{items, error-of}
+use Rattle.machine.specs.Scheduler.{live}
+use Rattle.machine.specs.Tests.{is-in}
+use Rattle.machine.specs.History.{items, error-of, lives, awaited-before}
 use Rattle.machine.specs.Sessions.{Sent, Session, AllSentInRange, lent-any, begun, send, session}
 use Rattle.machine.specs.Singles.{accepted-batch, each-alone, cut-by, cut, singles-from, singles}
 use Rattle.machine.specs.DemandThree.{look}
-use Rattle.machine.specs.DemandTwo.{came, committed, reuse-of, ReuseAt, Reused}
+use Rattle.machine.specs.DemandTwo.{came, committed, Elsewhere, InUse, is-running, is-completed, has-task, is-pending, is-awaited, ReuseAt, Reused}
 use Rattle.machine_sessions.specs.Queue.Following.{session-follows}
 use Rattle.machine_sessions.specs.Places.Told.{many, frozen}
 use Rattle.machine_sessions.specs.Places.Agrees.{ItemsAt}
@@ -27,7 +29,8 @@ use Rattle.machine_sessions.specs.Places.AgreesSessions.{session-agrees}
 use Rattle.machine_sessions.specs.Gather.FailingSessions.{look-row, gather-list}
 use Rattle.machine_sessions.specs.Gather.GatherSteps.{session-snoc}
 use Rattle.machine_sessions.specs.Gather.Batches.{batch, singles-in-range, singles-leave}
-use Rattle.machine_sessions.specs.Gather.CutOutcomes.{singles-look, singles-came}
+use Rattle.machine_sessions.specs.Gather.CutOutcomes.{session-same, singles-look, singles-came}
+use Rattle.machine_sessions.specs.Gather.Users.{lives-live}
 
 -- ---- its items
 
@@ -77,17 +80,49 @@ singles-items es i g c =
 
 -- ---- the item in use that it failed by
 
+-- who lives
+lives-alike : (s u : Store) (t : ℕ) → forget s ≡ forget u → live s t ≡ live u t
+unfolding live header task forget
+lives-alike s u t q = ap (λ (z : Store). live z t) q
+
+singles-lives : (es : List Sent) → AllSentInRange es → (t : ℕ) → lives (session (singles es) .history) t ≡ lives (session es .history) t
+singles-lives es i t =
+    lives-live (singles es) (singles-in-range es i) t ∙ (lives-alike (session (singles es) .store) (session es .store) t (singles-leave es i) ∙ sym (lives-live es i t))
+
+module _ (es : List Sent) (i : AllSentInRange es) (g o : ℕ) where
+  -- another gather that has it among its items
+  singles-elsewhere : Elsewhere (session (singles es)) g o → Elsewhere (session es) g o
+  singles-elsewhere k =
+      let c : committed (look (session es .store) (k .user)) ≡ true = ap committed (sym (singles-look es i (k .user))) ∙ k .was-committed in
+      record { user = k .user; other = k .other; was-committed = c; among = ap (is-in o) (sym (singles-items es i (k .user) c)) ∙ k .among }
+
+  singles-taken : (awaited-before (session (singles es) .history) o ≡ true) ⊎ Elsewhere (session (singles es)) g o → (awaited-before (session es .history) o ≡ true) ⊎ Elsewhere (session es) g o
+  singles-taken (inl k) = inl (sym (session-same es i .awaits o) ∙ k)
+  singles-taken (inr k) = inr (singles-elsewhere k)
+
+  singles-in-use : (v : Shown) (e : Error) → InUse (session (singles es)) g o v e → InUse (session es) g o v e
+  singles-in-use _ _ (is-running f k) = is-running f (sym (session-same es i .names o) ∙ k)
+  singles-in-use _ _ (is-completed f k) = is-completed f (sym (session-same es i .names o) ∙ k)
+  singles-in-use _ _ (has-task f t l s k) = has-task f t (sym (singles-lives es i t) ∙ l) (sym (session-same es i .spawns t) ∙ s) (singles-elsewhere k)
+  singles-in-use _ _ (is-pending k) = is-pending (singles-taken k)
+  singles-in-use _ _ (is-awaited vs k) = is-awaited vs (singles-taken k)
+
 singles-reuse-at : (es : List Sent) (i : AllSentInRange es) (g : ℕ) (e : Error) → committed (look (session es .store) g) ≡ true → ReuseAt (session (singles es)) g e → ReuseAt (session es) g e
 singles-reuse-at es i g e c r =
     record {
       at = r .at;
       within = subst (λ (os : List ℕ). r .at < length os) same (r .within);
       left = λ b l. ap (λ (os : List ℕ). error-of (came (session es) (getD os b 0))) (sym same) ∙ (ap error-of (sym (singles-came es i _)) ∙ r .left b l);
-      in-use = ap (λ (os : List ℕ). reuse-of (look (session es .store) (getD os (r .at) 0))) (sym same) ∙ (ap reuse-of (sym (singles-look es i _)) ∙ r .in-use);
+      first = λ b l q. r .first b l (ap (λ (os : List ℕ). getD os b 0) same ∙ (q ∙ ap (λ (os : List ℕ). getD os (r .at) 0) (sym same)));
+      in-use = subst (λ (os : List ℕ). InUse (session es) g (getD os (r .at) 0) (look (session es .store) (getD os (r .at) 0)) e) same
+          (subst (λ (v : Shown). InUse (session es) g o v e) (singles-look es i o) (singles-in-use es i g o (look (session (singles es) .store) o) e (r .in-use)));
     }
   where
     same : items (session (singles es) .history) g ≡ items (session es .history) g
     same = singles-items es i g c
+
+    o : ℕ
+    o = getD (items (session (singles es) .history) g) (r .at) 0
 
 -- ---- an event of the cut session
 

@@ -1,7 +1,7 @@
 -- What objects have come to is the same in a session and in the one with its batches cut (`singles-came`): a batch of results wakes tasks and does nothing else
 -- that the outcomes of coroutines are read off.
 use mathlib.Core.Path.{_≡_, refl, ap, ap₂, sym, subst, _∙_, fun-ext}
-use mathlib.Core.Bool.{Bool, true, false}
+use mathlib.Core.Bool.{Bool, true, false, _||_}
 use mathlib.Core.List.{List, [], _∷_}
 use mathlib.Core.Option.{Option, none, some}
 use Prim.Native.Nat.{ℕ, _≤_, _<_}
@@ -17,7 +17,8 @@ use Rattle.machine.specs.Scheduler.{make-ready, push-ready}
 use Rattle.machine.specs.Events.{Result, apply-future-results}
 use Rattle.machine.specs.Machine.{Event, Answer, Step, refusal, accept, step}
 use Rattle.machine.specs.Gather.{Outcome}
-use Rattle.machine.specs.History.{Entry, says, nothing-said, said, tells, done-only, is-at, runner-by, running, started-by, coroutine-of, running-coroutine, completed-value, spawned-by, spawned-for, exits-unstarted, failed-error, coroutine-outcome, outcome}
+use Rattle.machine.specs.History.{Entry, says, nothing-said, said, tells, done-only, is-at, runner-by, running, started-by, coroutine-of, running-coroutine, completed-value, spawned-by, spawned-for, exits-unstarted, failed-error, coroutine-outcome, outcome, awaited-before}
+use Rattle.machine.specs.Honest.{names-by, named}
 use Rattle.machine.specs.Sessions.{Sent, Session, InRange, AllSentInRange, lent-any, happened-by, entry-of, begun, send, send-all, session}
 use Rattle.machine.specs.Singles.{accepted-batch, each-alone, cut-by, cut, singles-from, singles}
 use Rattle.machine.specs.DemandThree.{look}
@@ -39,12 +40,14 @@ use Rattle.machine_sessions.specs.Gather.Batches.{lent-entry, batch, acc
 
 -- ---- histories that tell the same of coroutines and their tasks
 
-record SameTasks (h k : List Entry) : Type 0 where
-  runs : running h ≡ running k
-  starts : (t : ℕ) → coroutine-of h t ≡ coroutine-of k t
-  spawns : (t : ℕ) → spawned-for h t ≡ spawned-for k t
-  completes : (c : ℕ) → completed-value h c ≡ completed-value k c
-  fails : (c : ℕ) → failed-error h c ≡ failed-error k c
+pub record SameTasks (h k : List Entry) : Type 0 where
+  pub runs : running h ≡ running k
+  pub starts : (t : ℕ) → coroutine-of h t ≡ coroutine-of k t
+  pub spawns : (t : ℕ) → spawned-for h t ≡ spawned-for k t
+  pub completes : (c : ℕ) → completed-value h c ≡ completed-value k c
+  pub fails : (c : ℕ) → failed-error h c ≡ failed-error k c
+  pub awaits : (o : ℕ) → awaited-before h o ≡ awaited-before k o
+  pub names : (c : ℕ) → named h c ≡ named k c
 
 same-through : {h k l : List Entry} → SameTasks h k → SameTasks k l → SameTasks h l
 same-through a b =
@@ -54,10 +57,12 @@ same-through a b =
       spawns = λ t. a .spawns t ∙ b .spawns t;
       completes = λ c. a .completes c ∙ b .completes c;
       fails = λ c. a .fails c ∙ b .fails c;
+      awaits = λ o. a .awaits o ∙ b .awaits o;
+      names = λ c. a .names c ∙ b .names c;
     }
 
 same-back : {h k : List Entry} → SameTasks h k → SameTasks k h
-same-back a = record { runs = sym (a .runs); starts = λ t. sym (a .starts t); spawns = λ t. sym (a .spawns t); completes = λ c. sym (a .completes c); fails = λ c. sym (a .fails c) }
+same-back a = record { runs = sym (a .runs); starts = λ t. sym (a .starts t); spawns = λ t. sym (a .spawns t); completes = λ c. sym (a .completes c); fails = λ c. sym (a .fails c); awaits = λ o. sym (a .awaits o); names = λ c. sym (a .names c) }
 
 same-runner : (h k : List Entry) → SameTasks h k → running-coroutine h ≡ running-coroutine k
 unfolding running-coroutine
@@ -75,7 +80,7 @@ error-by x c f g r v =
     ]
 
 same-then : (x : Entry) (h k : List Entry) → SameTasks h k → SameTasks (x ∷ h) (x ∷ k)
-unfolding running coroutine-of spawned-for completed-value failed-error
+unfolding running coroutine-of spawned-for completed-value failed-error awaited-before named
 same-then x h k a =
     record {
       runs = ap (runner-by (tells (x .answer) .control)) (a .runs);
@@ -84,6 +89,8 @@ same-then x h k a =
       completes = λ c. ap₂ (value-by x c) (same-runner h k a) (a .completes c);
       fails = λ c. ap₂ (λ (f g : ℕ → Option ℕ). error-by x c f g (running-coroutine h) (failed-error h c)) (fun-ext born) (fun-ext started)
           ∙ ap₂ (error-by x c (spawned-for (x ∷ k)) (coroutine-of (x ∷ k))) (same-runner h k a) (a .fails c);
+      awaits = λ o. ap (λ (b : Bool). is-at (said x .awaits) o || b) (a .awaits o);
+      names = λ c. ap (λ (b : Bool). names-by (tells (x .answer) .control) c || b) (a .names c);
     }
   where
     started : (t : ℕ) → coroutine-of (x ∷ h) t ≡ coroutine-of (x ∷ k) t
@@ -126,10 +133,11 @@ record OnlyWakes (x : Entry) : Type 0 where
   control : tells (x .answer) .control ≡ none
   completes : said x .completes ≡ none
   fails : said x .fails ≡ none
+  awaits : said x .awaits ≡ none
   log : AllReached (x .happened)
 
 wakes-then : (x : Entry) (h : List Entry) → OnlyWakes x → SameTasks (x ∷ h) h
-unfolding running coroutine-of spawned-for failed-error runner-by started-by
+unfolding running coroutine-of spawned-for failed-error runner-by started-by awaited-before is-at named names-by
 wakes-then x h k =
     record {
       runs = ap (λ (y : _). runner-by y (running h)) (k .control);
@@ -137,6 +145,8 @@ wakes-then x h k =
       spawns = λ t. reached-spawns (spawned-for h t) (x .happened) t (k .log);
       completes = λ c. no-value x h c (k .completes);
       fails = error;
+      awaits = λ o. ap (λ (b : Option ℕ). is-at b o || awaited-before h o) (k .awaits);
+      names = λ c. ap (λ (y : _). names-by y c || named h c) (k .control);
     }
   where
     by : (b : Bool) (v : Option Error) → _≡_ {A = Option Error} (elim b [ true ↦ v | false ↦ v ]) v
@@ -172,11 +182,11 @@ results-woke rs s k = batch-kept Woke woke-delivers (λ u o p y l e j. record { 
 
 refused-wakes : (e : Event) (n : ℕ) (u : Store) → OnlyWakes (entry-of e (Answer.refused n) u)
 unfolding tells entry-of happened-by said nothing-said
-refused-wakes e n u = record { control = refl; completes = refl; fails = refl; log = tt }
+refused-wakes e n u = record { control = refl; completes = refl; fails = refl; awaits = refl; log = tt }
 
 done-wakes : (rs : List Result) (u : Store) → AllReached (u .log) → OnlyWakes (entry-of (Event.results rs) Answer.done u)
 unfolding tells done-only entry-of happened-by said says
-done-wakes rs u k = record { control = refl; completes = refl; fails = refl; log = k }
+done-wakes rs u k = record { control = refl; completes = refl; fails = refl; awaits = refl; log = k }
 
 -- a batch, accepted or not
 batch-wakes : (s : Store) (rs : List Result) (l : List ℕ) → Sized s → OnlyWakes (lent-entry s (batch rs l))
@@ -208,7 +218,7 @@ alone-sound y r l h = send-sound (y .store) (batch (r ∷ []) l) h tt
 
 alone-same : (rs : List Result) (l : List ℕ) (y : Session) → SoundStore (y .store) → SameTasks (send-all y (each-alone rs l) .history) (y .history) × SoundStore (send-all y (each-alone rs l) .store)
 unfolding each-alone send-all
-alone-same [] l y h = (record { runs = refl; starts = λ t. refl; spawns = λ t. refl; completes = λ c. refl; fails = λ c. refl }, h)
+alone-same [] l y h = (record { runs = refl; starts = λ t. refl; spawns = λ t. refl; completes = λ c. refl; fails = λ c. refl; awaits = λ o. refl; names = λ c. refl }, h)
 alone-same (r ∷ rs) l y h = let k = alone-same rs l (send y (batch (r ∷ []) l)) (alone-sound y r l h) in (same-through (k .0) (batch-same y (r ∷ []) l (h .memory .sized)), k .1)
 
 -- a session and its cut, event by event
@@ -250,9 +260,9 @@ all-same (e ∷ es) x y i k =
     subst (λ (z : Session). CutSame z (send-all (send x e) es)) (sym (send-append (cut (x .store) e) (singles-from (lent-any (x .store) e .store) es) y))
     (all-same es (send x e) (send-all y (cut (x .store) e)) (i .1) (cut-same x y e (i .0) k))
 
-session-same : (es : List Sent) → AllSentInRange es → SameTasks (session (singles es) .history) (session es .history)
+pub session-same : (es : List Sent) → AllSentInRange es → SameTasks (session (singles es) .history) (session es .history)
 unfolding session singles
-session-same es i = all-same es begun begun i (record { cuts = begun-cut; first-sound = begun-sound; second-sound = begun-sound; tasks = record { runs = refl; starts = λ t. refl; spawns = λ t. refl; completes = λ c. refl; fails = λ c. refl } }) .tasks
+session-same es i = all-same es begun begun i (record { cuts = begun-cut; first-sound = begun-sound; second-sound = begun-sound; tasks = record { runs = refl; starts = λ t. refl; spawns = λ t. refl; completes = λ c. refl; fails = λ c. refl; awaits = λ o. refl; names = λ c. refl } }) .tasks
   where
     begun-sound : SoundStore (begun .store)
     begun-sound = unfold begun in fresh-sound-store

@@ -52,19 +52,33 @@ use Rattle.machine_theorems.specs.Soundness.Exits.{runner-low, runner-runs, run
 use Rattle.machine_theorems.specs.Soundness.Await.{wait-external}
 use Rattle.machine_theorems.specs.Soundness.AwaitGather.{EndOk, waits-blocks, commit-keeps}
 use Rattle.machine_theorems.specs.Soundness.Preserved.{running, waiting, await-made, complete-known, results-apply}
-use Rattle.machine_sessions.specs.Gather.Failing.{RowMoves, CommitMoves, ClimbMoves, FailedRow, AwaitedState, IsUnmade, row-same, climb-same, climb-failed, commit-then, commit-moves, commit-awaited, commit-was, commit-failed, commit-takes, failed-awaited}
+use Rattle.machine_sessions.specs.Gather.Failing.{RowMoves, CommitMoves, ClimbMoves, FailedRow, AwaitedState, IsUnmade, row-same, climb-same, climb-failed, climb-awaited, climb-pending, commit-then, commit-moves, commit-awaited, commit-was, commit-failed, commit-takes, failed-awaited}
 use Rattle.machine_sessions.specs.Gather.FailingRows.{ItemAt, Raised, ExitAs, before, TaskAs, Because, Failing}
 use Rattle.machine_sessions.specs.Gather.FailingCycle.{LeftAs, resume-left}
-use Rattle.machine_sessions.specs.Gather.FailingStated.{Brings, reuse, RunnerFails, RunnerEnds, FailedBy, CommitFailed, TaskFrom, lived, is-new, EventFails}
+use Rattle.machine_sessions.specs.Gather.FailingStated.{Brings, reuse, RunnerFails, RunnerEnds, FailedBy, CommitFailed, ItemSlot, Took, Opens, TookTask, TaskFrom, lived, is-new, EventFails}
 use Rattle.machine_sessions.specs.Gather.FailingEvents.{results-fails, failure-fails, completion-fails, resume-fails, cancel-fails, end-fails}
 use Rattle.machine_sessions.specs.Gather.FailingMakes.{coroutine-fails, pending-fails, call-fails, settled-fails, gather-fails, read-fails}
-use Rattle.machine_sessions.specs.Gather.FailingCommitSteps.{Committing, committing-begins, committing-row}
+use Rattle.machine_sessions.specs.Gather.FailingCommitSteps.{Committing, committing-begins, committing-row, Taking, taking-begins, taking-row, Opening, opening-begins, opening-row}
 use Rattle.machine_sessions.specs.Gather.FailingCommit.{Unwound, EndFails, commit-fails}
 
 -- an await says so
 await-commits : (o : ℕ) → is-none (says (Event.await o) .awaits) ≡ false
 unfolding says is-none
 await-commits o = refl
+
+await-says : (o : ℕ) → says (Event.await o) .awaits ≡ some o
+unfolding says
+await-says o = refl
+
+-- a coroutine is no pending external
+not-pending : {A : Type 0} (f : ℕ) (r : PendingExternal) → as-pending (Object.Coroutine f CoroutineState.Running) ≡ some r → A
+unfolding as-pending
+not-pending f r q = absurd-some q
+
+-- nor an awaited gather
+not-awaited : {A : Type 0} (f : ℕ) (v : AwaitedGather) → as-awaited (Object.Coroutine f CoroutineState.Running) ≡ some v → A
+unfolding as-awaited
+not-awaited f v q = absurd-some q
 
 -- ---- the same task runs on
 
@@ -79,11 +93,14 @@ same-unwound s =
       exits = λ t. refl;
       spawned = λ t b l. refl;
       for-it = λ t b a l. absurd (not-suc-le-zero {n = 0} (omega arith));
+      slot = λ t a l. absurd (not-suc-le-zero {n = 0} (omega arith));
+      takes = taking-begins s;
+      opens = opening-begins s (λ p. ⊥);
     }
 
 -- a commit without an error
-pub commits-unwound : (s u : Store) → Committing s u → Unwound s u
-commits-unwound s u k =
+pub commits-unwound : (s u : Store) → Committing s u → Taking s u → Opening s (λ p. ⊥) u → Unwound s u
+commits-unwound s u k t op =
     record {
       moves = λ o. commit-moves (object s o) (object u o) (k .moves o);
       awaited = λ g f n y w p q. failed-awaited (object s g) f n y w (commit-failed (object s g) (object u g) f n y (k .moves g) q) p;
@@ -93,6 +110,9 @@ commits-unwound s u k =
       exits = k .exits;
       spawned = k .spawned;
       for-it = k .for-it;
+      slot = k .slot;
+      takes = t;
+      opens = op;
     }
 
 old-or-new : (n t : ℕ) → (t < n) ⊎ (n ≤ t)
@@ -121,6 +141,8 @@ module _ (o : ℕ) (s : Store) (w : SoundStore s) (t : ℕ) (m : header s .momen
         awaited = λ g f c y v l p q. absurd (k .awaited g f c y v p q);
         pending = λ g f c i j y l p q. k .pending g f c i j y p q;
         committing = λ g f c i j y l p q. await-commits o;
+        takes = λ p r e. inl (k .takes p r e);
+        opens = λ p v e. inl (k .opens p v (λ z. z) e);
         grows = k .grows;
         tasks = λ v l e. from v l e (old-or-new (header s .next) v);
         unstarted = λ v l e. by v e (old-or-new (header s .next) v);
@@ -145,8 +167,8 @@ module _ (o : ℕ) (s : Store) (w : SoundStore s) (t : ℕ) (m : header s .momen
       on = ap (λ (r : Task). is-unstarted (r .state)) (k .tasks t (runner-low s t w m)) ∙ ap is-unstarted (runner-runs s t w m)
 
       from : (v : ℕ) → v < header u .next → is-live (task u v .state) ≡ true → (v < header s .next) ⊎ (header s .next ≤ v) → TaskFrom s u v
-      from v l e (inl a) = lived a (sym (ap (λ (r : Task). is-live (r .state)) (k .tasks v a)) ∙ e) (ap (λ (r : Task). r .coroutine .0) (k .tasks v a))
-      from v l e (inr a) = is-new a (λ b. k .for-it v b a l)
+      from v l e (inl a) = lived a (sym (ap (λ (r : Task). is-live (r .state)) (k .tasks v a)) ∙ e) (ap (λ (r : Task). r .coroutine .0) (k .tasks v a)) (ap (λ (r : Task). r .awaiter) (k .tasks v a))
+      from v l e (inr a) = is-new a (λ b. k .for-it v b a l) (k .slot v a l)
 
       by : (v : ℕ) → is-unstarted (task u v .state) ≡ true → (v < header s .next) ⊎ (header s .next ≤ v) → (header s .next ≤ v) ⊎ (is-unstarted (task s v .state) ≡ true)
       by v e (inl l) = inr (sym (ap (λ (r : Task). is-unstarted (r .state)) (k .tasks v l)) ∙ e)
@@ -165,7 +187,8 @@ module _ (o : ℕ) (s : Store) (w : SoundStore s) (t : ℕ) (m : header s .momen
       old : (f n : ℕ) → T (is-committed (kind (Object.GatherFuture f n GatherState.Pending))) → ⊥
       old f n k = unfold kind in k
 
-  module _ (x : Store) (z : Sized x) (c : Committing s x) (low-o : o < object-limit) (D : ℕ → Type 0) (hd : Header) (same-next : hd .next ≡ header x .next)
+  module _ (x : Store) (z : Sized x) (c : Committing s x) (tk : (p : ℕ) (r : PendingExternal) → as-pending (object x p) ≡ some r → Took s p (r .awaiter) ⊎ TookTask ev p (r .awaiter))
+      (ok : (p : ℕ) (v : AwaitedGather) → as-awaited (object x p) ≡ some v → Opens s p (v .awaiter) ⊎ TookTask ev p (v .awaiter)) (low-o : o < object-limit) (D : ℕ → Type 0) (hd : Header) (same-next : hd .next ≡ header x .next)
       (h : SoundDuring Nothing idle D hd (add-log (set-state x t (TaskState.Blocked (heap-id o))) (blocked t))) where
     abbrev b : Store
     b = add-log (set-state x t (TaskState.Blocked (heap-id o))) (blocked t)
@@ -272,6 +295,10 @@ module _ (o : ℕ) (s : Store) (w : SoundStore s) (t : ℕ) (m : header s .momen
           awaited = λ g f a y v l p q. why g f a y v p q;
           pending = λ g f a i j y l p q. never g f a i j y p q;
           committing = λ g f a i j y l p q. await-commits o;
+          takes = λ p r e. tk p r (sym (ap as-pending (rows p)) ∙ climb-pending (object b p) (object u p) r (k .moves p) e);
+          opens = λ p v e.
+              let r = climb-awaited (object b p) (object u p) v (k .moves p) e in
+              subst (λ (i : Awaiter). Opens s p i ⊎ TookTask ev p i) (r .awaiter) (ok p (r .was) (sym (ap as-awaited (rows p)) ∙ r .awaited));
           grows = subst (λ (j : ℕ). header s .next ≤ j) (sym (k .next ∙ ap (λ (i : Header). i .next) head)) (c .grows);
           tasks = λ v l e. from v e (subst (λ (j : ℕ). v < j) (k .next) l) (old-or-new (header s .next) v);
           unstarted = λ v l e. by v e (subst (λ (j : ℕ). v < j) (k .next) l) (old-or-new (header s .next) v);
@@ -333,13 +360,18 @@ module _ (o : ℕ) (s : Store) (w : SoundStore s) (t : ℕ) (m : header s .momen
             at (yes d) = subst (λ (j : ℕ). task b j .coroutine .0 ≡ task x j .coroutine .0) (sym d) (ap (λ (y : Task). y .coroutine .0) here ∙ (unfold restate in refl))
             at (no ne) = ap (λ (y : Task). y .coroutine .0) (other v ne)
 
+        new-awaiter : (v : ℕ) → header s .next ≤ v → task b v .awaiter ≡ task x v .awaiter
+        new-awaiter v l = ap (λ (y : Task). y .awaiter) (other v (λ d. not-suc-le-zero {n = 0} (omega (arith, l, d, t-low))))
+
         from : (v : ℕ) → is-live (task u v .state) ≡ true → v < header b .next → (v < header s .next) ⊎ (header s .next ≤ v) → TaskFrom s u v
         from v e n (inl l) =
             let y = k .tasks v n e in
-            lived l (live-was v l (y .live)) (ap (λ (i : HeapId). i .0) (y .coroutine) ∙ (coroutine-as v ∙ ap (λ (i : Task). i .coroutine .0) (c .tasks v l)))
+            lived l (live-was v l (y .live)) (ap (λ (i : HeapId). i .0) (y .coroutine) ∙ (coroutine-as v ∙ ap (λ (i : Task). i .coroutine .0) (c .tasks v l))) (y .awaiter ∙ awaiter-same v l)
         from v e n (inr l) =
             let y = k .tasks v n e in
             is-new l (λ i. k .spawned v i ∙ (same-log v i ∙ (c .for-it v i l (subst (λ (j : Header). v < j .next) head n) ∙ ap (λ (j : ℕ). some j) (sym (ap (λ (i : HeapId). i .0) (y .coroutine) ∙ coroutine-as v)))))
+            (subst (λ (i : Awaiter). ItemSlot s (task u v .coroutine .0) i) (sym (y .awaiter ∙ new-awaiter v l))
+            (subst (λ (j : ℕ). ItemSlot s j (task x v .awaiter)) (sym (ap (λ (i : HeapId). i .0) (y .coroutine) ∙ coroutine-as v)) (c .slot v l (subst (λ (j : Header). v < j .next) head n))))
 
         unstarted-live : (y : TaskState) → is-unstarted y ≡ true → is-live y ≡ true
         unstarted-live TaskState.Absent e = absurd (true≢false (sym e))
@@ -376,6 +408,9 @@ module _ (o : ℕ) (s : Store) (w : SoundStore s) (t : ℕ) (m : header s .momen
           exits = λ v. unfold put-object in refl;
           spawned = λ v b l. unfold put-object in refl;
           for-it = λ v b a l. absurd (not-suc-le-zero {n = 0} (omega (arith, a, subst (λ (h : Header). v < h .next) (header-put-object s o y0) l)));
+          slot = λ v a l. absurd (not-suc-le-zero {n = 0} (omega (arith, a, subst (λ (h : Header). v < h .next) (header-put-object s o y0) l)));
+          takes = taking-row s s o y0 (w .memory .sized) low-o (subst ObjectFits e (object-fits s o)) (λ r q. not-pending f r q) (taking-begins s);
+          opens = opening-row s (λ p. ⊥) (λ p. ⊥) s o y0 (w .memory .sized) low-o (subst ObjectFits e (object-fits s o)) (λ v n q. not-awaited f v q) (λ p d n. n) (opening-begins s (λ p. ⊥));
         }
       where
         y0 : Object
@@ -410,7 +445,7 @@ module _ (o : ℕ) (s : Store) (w : SoundStore s) (t : ℕ) (m : header s .momen
     external-awaited : (c : CallId) (x : ExternalFutureState) → object s o ≡ Object.ExternalFuture c x → Fails (await-external-future s t o c x)
     unfolding await-external-future await-external await-pending go-on
     external-awaited c (ExternalFutureState.Pending Awaiter.Nobody r) e =
-        blocks-fails (put-object s o y) (sized-put-object s o y (w .memory .sized)) commits low-o (λ p. T (is-completed (kind (object s p)))) (header s) (ap (λ (h : Header). h .next) (sym (header-put-object s o y)))
+        blocks-fails (put-object s o y) (sized-put-object s o y (w .memory .sized)) commits (λ p q d. took p q d (ℕ-discrete p o)) (λ p v d. opened p v d (ℕ-discrete p o)) low-o (λ p. T (is-completed (kind (object s p)))) (header s) (ap (λ (h : Header). h .next) (sym (header-put-object s o y)))
         (wait-external s t w m o (record { call = c; awaiter = Awaiter.Nobody; stored = r }) made (ap as-pending e ∙ (unfold as-pending in refl)) refl) 0
       where
         y : Object
@@ -423,6 +458,21 @@ module _ (o : ℕ) (s : Store) (w : SoundStore s) (t : ℕ) (m : header s .momen
 
         no-coroutine : (c : CallId) (r : OptionValue) (f : ℕ) → Object.ExternalFuture c (ExternalFutureState.Pending Awaiter.Nobody r) ≡ Object.Coroutine f CoroutineState.New → ⊥
         no-coroutine c r f q = let z : _≡_ {A = ℕ} 0 1 = cc in not-suc-le-zero {n = 0} (omega arith)
+
+        not-open : as-awaited y ≡ none
+        not-open = unfold as-awaited in refl
+
+        opened : (p : ℕ) (v : AwaitedGather) → as-awaited (object (put-object s o y) p) ≡ some v → Dec (p ≡ o) → Opens s p (v .awaiter) ⊎ TookTask ev p (v .awaiter)
+        opened p v d (yes j) =
+            absurd-some (sym (ap as-awaited (object-put-object s o y (w .memory .sized) low-o fits) ∙ not-open) ∙ subst (λ (n : ℕ). as-awaited (object (put-object s o y) n) ≡ some v) j d)
+        opened p v d (no ne) = inl (inl (v, sym (ap as-awaited (object-put-other s o p y ne)) ∙ d, refl))
+
+        pending-is : some (record { call = c; awaiter = Awaiter.Task (task-id t); stored = r }) ≡ as-pending y
+        pending-is = unfold as-pending in refl
+
+        took : (p : ℕ) (q : PendingExternal) → as-pending (object (put-object s o y) p) ≡ some q → Dec (p ≡ o) → Took s p (q .awaiter) ⊎ TookTask ev p (q .awaiter)
+        took p q d (yes j) = inr (subst (λ (z : PendingExternal). TookTask ev p (z .awaiter)) (Option·some-injective _ q (pending-is ∙ (sym (ap as-pending (object-put-object s o y (w .memory .sized) low-o fits)) ∙ subst (λ (n : ℕ). as-pending (object (put-object s o y) n) ≡ some q) j d))) (await-says o ∙ ap (λ (n : ℕ). some n) (sym j)))
+        took p q d (no ne) = inl (inl (q, sym (ap as-pending (object-put-other s o p y ne)) ∙ d, refl))
 
         commits : Committing s (put-object s o y)
         commits =
@@ -437,13 +487,19 @@ module _ (o : ℕ) (s : Store) (w : SoundStore s) (t : ℕ) (m : header s .momen
     unfolding await-gather
     gather-awaited f n GatherState.Pending e = by (commit-gather-tree s o (Awaiter.Task (task-id t))) (commit-keeps s t w m o f n made e) (commit-fails s t o f n w m made e)
       where
-        by : (c : Committed) → EndOk o t (c .store) (c .poll) → EndFails s (c .store) (c .poll) → Fails (go-on t o (c .steps) (c .store) (c .poll))
+        opened : (u : Store) → Opening s (λ p. p ≡ o) u → ((v : AwaitedGather) → as-awaited (object u o) ≡ some v → v .awaiter ≡ Awaiter.Task (task-id t)) → (p : ℕ) (v : AwaitedGather)
+            → as-awaited (object u p) ≡ some v → Dec (p ≡ o) → Opens s p (v .awaiter) ⊎ TookTask ev p (v .awaiter)
+        opened u q z p v e (yes d) =
+            inr (subst (TookTask ev p) (sym (z v (subst (λ (n : ℕ). as-awaited (object u n) ≡ some v) d e))) (await-says o ∙ ap (λ (n : ℕ). some n) (sym d)))
+        opened u q z p v e (no ne) = inl (q p v ne e)
+
+        by : (c : Committed) → EndOk o t (c .store) (c .poll) → EndFails s o t (c .store) (c .poll) → Fails (go-on t o (c .steps) (c .store) (c .poll))
         by c h k = at (c .poll) h k
           where
-            at : (p : Poll) → EndOk o t (c .store) p → EndFails s (c .store) p → Fails (go-on t o (c .steps) (c .store) p)
-            at (ready v) h k = unfold go-on in (stays-fails (c .store) (value v) (c .steps) tt (commits-unwound s (c .store) k))
+            at : (p : Poll) → EndOk o t (c .store) p → EndFails s o t (c .store) p → Fails (go-on t o (c .steps) (c .store) p)
+            at (ready v) h k = unfold go-on in (stays-fails (c .store) (value v) (c .steps) tt (commits-unwound s (c .store) (k .0) (k .1) (k .2)))
             at (raised v) h k = unfold go-on in (stays-fails (c .store) (raises v) (c .steps) tt k)
-            at pending h k = unfold go-on in (blocks-fails (c .store) (h .ends .memory .sized) k low-o Nothing (header (c .store)) refl (waits-blocks o t (c .store) h) (c .steps))
+            at pending h k = unfold go-on in (blocks-fails (c .store) (h .ends .memory .sized) (k .0) (λ p r e. inl (k .1 p r e)) (λ p v e. opened (c .store) (k .2) (k .3) p v e (ℕ-discrete p o)) low-o Nothing (header (c .store)) refl (waits-blocks o t (c .store) h) (c .steps))
     gather-awaited f n (GatherState.Awaited a k) e = stays-fails s (raises Error.GatherReuse) 0 tt (same-unwound s)
     gather-awaited f n GatherState.Completed e = stays-fails s (value (Value.List (heap-id o))) 0 tt (same-unwound s)
     gather-awaited f n (GatherState.Failed x) e = stays-fails s (raises x) 0 tt (same-unwound s)

@@ -24,12 +24,13 @@ use Rattle.asyncio.specs.Limits.{object-limit, place-limit}
 use Rattle.asyncio.specs.Numbers.{heap-id, task-id}
 use Rattle.asyncio.specs.Ranges.{ObjectFits, ErrorFits, AwaiterFits, PlacesFit}
 use Rattle.asyncio.specs.Parts.{first-of, count-of}
-use Rattle.asyncio.specs.States.{pick}
+use Rattle.asyncio.specs.States.{pick, is-live}
 use Rattle.machine.specs.Store.{Store, LogEntry, view, task, object, place, header, put-object}
 use Rattle.rows.specs.Tables.{task-at}
-use Rattle.machine.specs.Scheduler.{AwaitedGather, as-awaited, bit}
+use Rattle.machine.specs.Scheduler.{AwaitedGather, PendingExternal, as-awaited, as-pending, bit}
 use Rattle.machine.specs.Commit.{Poll, ready, raised, pending, gives, open-place, fill-place, Stop, at-end, at-nested, at-error, Frame, with-state, set-gather, open-gather-commit}
 use Rattle.machine.specs.Commit.{step-gather-commit, settle-as, settle-gather-commit, resume-in, resume-as, resume-after-child, unwind, Committed, turn, commit-loop, pending-count, commit-gather-tree}
+use Rattle.machine.specs.Sound.{is-ended}
 use Rattle.machine.specs.History.{spawned-by}
 use Rattle.machine.specs.Honest.{exits-in}
 use Rattle.machine_laws.specs.Views.{Sized}
@@ -47,8 +48,8 @@ use Rattle.machine_theorems.specs.Soundness.CommitLoop.{awaits-fits, Commits, s
 use Rattle.machine_theorems.specs.Soundness.CommitItems.{AtEnd, AtNested, AtError, StopOk, inv-count}
 use Rattle.machine_theorems.specs.Soundness.AwaitGather.{nested-commits, frame-stops, commit-begins}
 use Rattle.machine_sessions.specs.Gather.Failing.{RowMoves, CommitMoves, FailedRow, commit-moves, commit-failed, commit-pending, commit-places, failed-awaited}
-use Rattle.machine_sessions.specs.Gather.FailingStated.{Passed, PollRaises, failed, item-at, CommitFailed}
-use Rattle.machine_sessions.specs.Gather.FailingCommitSteps.{Committing, committing-begins, committing-row, opened-moves, not-coroutine, Calm, Level, Levels, Going, Onward, level-onward, levels-onward, going-opens, going-fills}
+use Rattle.machine_sessions.specs.Gather.FailingStated.{Passed, Settled, Other, Busy, Reuses, coroutine-reused, future-reused, gather-reused, PollRaises, broken, failed, reuses, item-at, ItemSlot, Took, Opens, CommitFailed}
+use Rattle.machine_sessions.specs.Gather.FailingCommitSteps.{Committing, committing-begins, committing-row, opened-moves, not-coroutine, Taking, taking-begins, taking-gather, Opening, opening-begins, opening-row, Calm, Level, Levels, Going, Onward, keeps-same, level-onward, levels-onward, going-opens, going-fills}
 use Rattle.machine_sessions.specs.Gather.FailingCommitItems.{AtRaise, AtDone, StopFails, items-fails, stack-above}
 
 -- a pending gather is not awaited
@@ -119,6 +120,35 @@ unwind-tasks (f ∷ fs) x e =
     let r = unwind-tasks fs v e in
     (r .0 ∙ (unfold put-object in refl), r .1 ∙ (unfold put-object in refl), r .2 ∙ header-put-object x (f .gather) (with-state (object x (f .gather)) (GatherState.Failed e)))
 
+-- what is in use, and what raises, is so in a store with the same tasks
+module _ (x v : Store) (g o : ℕ) (ts : (t : ℕ) → task v t ≡ task x t) (hd : header v ≡ header x) where
+  busy-same : (z : CoroutineState) → Busy x g o z → Busy v g o z
+  busy-same CoroutineState.New k =
+      record {
+        who = k .who;
+        low = subst (λ (h : Header). suc (k .who) < h .next) (sym hd) (k .low);
+        live = ap (λ (r : Task). is-live (r .state)) (ts (suc (k .who))) ∙ k .live;
+        coroutine = ap (λ (r : Task). r .coroutine .0) (ts (suc (k .who))) ∙ k .coroutine;
+        awaiter = subst (λ (r : Task). Other g (r .awaiter)) (sym (ts (suc (k .who)))) (k .awaiter);
+      }
+  busy-same CoroutineState.Running k = tt
+  busy-same CoroutineState.Completed k = tt
+
+  reuses-same : (y : Object) (e : Error) → Reuses x g o y e → Reuses v g o y e
+  reuses-same _ _ (coroutine-reused f z b) = coroutine-reused f z (busy-same z b)
+  reuses-same _ _ (future-reused c a r d) = future-reused c a r d
+  reuses-same _ _ (gather-reused f n a m d) = gather-reused f n a m d
+
+  polls-same : (y : Object) (e : Error) → PollRaises x g o y e → PollRaises v g o y e
+  polls-same _ _ (broken c e) = broken c e
+  polls-same _ _ (failed f n e) = failed f n e
+  polls-same y e (reuses _ _ k) = reuses y e (reuses-same y e k)
+
+-- a session in which a task runs goes on
+running-on : (m : Moment) (t : ℕ) → m ≡ Moment.Running (task-id t) → is-ended m ≡ false
+unfolding is-ended
+running-on m t e = ap is-ended e
+
 module _ (s : Store) where
   -- what a commit that ends in an error leaves
   pub record Unwound (u : Store) : Type 0 where
@@ -130,6 +160,9 @@ module _ (s : Store) where
     pub exits : (t : ℕ) → exits-in (u .log) t ≡ exits-in (s .log) t
     pub spawned : (t : ℕ) (b : Option ℕ) → t < header s .next → spawned-by b (u .log) t ≡ spawned-by b (s .log) t
     pub for-it : (t : ℕ) (b : Option ℕ) → header s .next ≤ t → t < header u .next → spawned-by b (u .log) t ≡ some (task u t .coroutine .0)
+    pub slot : (t : ℕ) → header s .next ≤ t → t < header u .next → ItemSlot s (task u t .coroutine .0) (task u t .awaiter)
+    pub takes : Taking s u
+    pub opens : Opening s (λ p. ⊥) u
 
   -- a gather of the stack has failed
   record Falls (u : Store) (e : Error) (g : ℕ) : Type 0 where
@@ -139,13 +172,14 @@ module _ (s : Store) where
     now : object u g ≡ Object.GatherFuture first count (GatherState.Failed e)
     why : CommitFailed s u g e
 
-  module _ (x : Store) (e : Error) (all : List Frame) (z : Sized x) (fits : ErrorFits e) (c : Committing s x) where
+  module _ (x : Store) (e : Error) (all : List Frame) (z : Sized x) (fits : ErrorFits e) (on-still : is-ended (header x .moment) ≡ false) (c : Committing s x) where
     abbrev u : Store
     u = unwind x all e
 
     -- a gather on the stack whose place i raises
-    level-falls : (g i : ℕ) (w : AwaitedGather) → Level s (OnStack all) x g i → as-awaited (object x g) ≡ some w → g < object-limit → OnStack all g → i < w .count → PollRaises (object u (item-at s g i)) e → Falls u e g
-    level-falls g i w k q l on less r =
+    level-falls : (g i : ℕ) (w : AwaitedGather) → Level s (OnStack all) x g i → as-awaited (object x g) ≡ some w → g < object-limit → OnStack all g → i < w .count → PollRaises u g (item-at s g i) (object u (item-at s g i)) e
+        → ((j : ℕ) → j < i → Passed (object u (item-at s g j)) → item-at s g j ≡ item-at s g i → ⊥) → Falls u e g
+    level-falls g i w k q l on less r f =
         record {
           first = w .first;
           count = w .count;
@@ -155,10 +189,15 @@ module _ (s : Store) where
             at = i;
             under = subst (λ (n : ℕ). i < n) (sym (spot .1)) less;
             raises = r;
-            left = λ j b. let y = k .left j b in subst Passed (sym (unwind-other all x e (item-at s g j) (y .off))) (y .passed);
+            left = quiet;
+            first = λ j b. f j b (quiet j b);
+            on = ap (λ (y : Header). is-ended (y .moment)) (unwind-tasks all x e .2) ∙ on-still;
           };
         }
       where
+        quiet : (j : ℕ) → j < i → Passed (object u (item-at s g j))
+        quiet j b = let y = k .left j b in subst Passed (sym (unwind-other all x e (item-at s g j) (y .off))) (y .passed)
+
         moved : CommitMoves (object s g) (Object.GatherFuture (w .first) (w .count) (GatherState.Awaited (w .awaiter) (w .open-places)))
         moved = subst (CommitMoves (object s g)) (awaited-object (object x g) w q) (c .moves g)
 
@@ -181,8 +220,8 @@ module _ (s : Store) where
         ∙ ap (λ (n : ℕ). place s (n + i) .item .0)
         (sym (commit-places (object s g) (w .first) (w .count) (GatherState.Awaited (w .awaiter) (w .open-places)) (subst (CommitMoves (object s g)) (awaited-object (object x g) w q) (c .moves g)) .0))
 
-    raised-by : (g f n : ℕ) → object u g ≡ Object.GatherFuture f n (GatherState.Failed e) → PollRaises (object u g) e
-    raised-by g f n q = subst (λ (y : Object). PollRaises y e) (sym q) (failed f n e)
+    raised-by : (p g f n : ℕ) → object u g ≡ Object.GatherFuture f n (GatherState.Failed e) → PollRaises u p g (object u g) e
+    raised-by p g f n q = subst (λ (y : Object). PollRaises u p g y e) (sym q) (failed f n e)
 
     -- the gathers below one that has failed
     below-falls : {root t g : ℕ} {a : Awaiter} {fs : List Frame} {k : ℕ} → Stacked (header x .made) (object x) (place x) root t g a fs k → Levels s (OnStack all) x fs → ((p : ℕ) → OnStack fs p → OnStack all p) → Falls u e g
@@ -194,7 +233,11 @@ module _ (s : Store) where
         here : Falls u e (f .gather)
         here =
             level-falls (f .gather) (f .next) w (ls .0) (op .awaited) (omega (arith, op .made, header-fits x .made-fits)) (on (f .gather) (inl refl)) lt
-            (subst (λ (j : ℕ). PollRaises (object u j) e) (sym nm ∙ item-was (f .gather) (f .next) w (op .awaited)) (raised-by g (fl .first) (fl .count) (fl .now)))
+            (subst (λ (j : ℕ). PollRaises u (f .gather) j (object u j) e) named (raised-by (f .gather) g (fl .first) (fl .count) (fl .now)))
+            (λ j b p d. subst Passed (ap (object u) (d ∙ sym named) ∙ fl .now) p)
+          where
+            named : g ≡ item-at s (f .gather) (f .next)
+            named = sym nm ∙ item-was (f .gather) (f .next) w (op .awaited)
 
         by : OnStack (f ∷ gs) o → (Falls u e (f .gather) → (o : ℕ) → OnStack gs o → Falls u e o) → Falls u e o
         by (inl d) ih = subst (Falls u e) (sym d) here
@@ -213,6 +256,9 @@ module _ (s : Store) where
         exits = λ v. ap (λ (y : List LogEntry). exits-in y v) (same .1) ∙ c .exits v;
         spawned = λ v b l. ap (λ (y : List LogEntry). spawned-by b y v) (same .1) ∙ c .spawned v b l;
         for-it = λ i b a l. ap (λ (y : List LogEntry). spawned-by b y i) (same .1) ∙ (c .for-it i b a (subst (λ (y : Header). i < y .next) (same .2) l) ∙ ap (λ (y : Task). some (y .coroutine .0)) (sym (same-task i)));
+        slot = λ i a l. subst (λ (y : Task). ItemSlot s (y .coroutine .0) (y .awaiter)) (sym (same-task i)) (c .slot i a (subst (λ (y : Header). i < y .next) (same .2) l));
+        takes = λ o r q. took o r q (on-stack (f ∷ fs) o);
+        opens = λ o a b q. opened o a q (on-stack (f ∷ fs) o);
       }
     where
       g : ℕ
@@ -236,19 +282,31 @@ module _ (s : Store) where
       made : g < header x .made
       made = h .inv .opened .made
 
+      goes-on : is-ended (header x .moment) ≡ false
+      goes-on = running-on (header x .moment) t (h .inv .moment)
+
       other : (o : ℕ) → (OnStack (f ∷ fs) o → ⊥) → object v o ≡ object x o
       other o n = unwind-other (f ∷ fs) x e o n
 
       top : Falls v e g
       top =
-          level-falls x e (f ∷ fs) z (h .fits) c g (k .i) (h .inv .w) (k .going .top) (h .inv .opened .awaited) (omega (arith, made, header-fits x .made-fits)) (inl refl)
+          level-falls x e (f ∷ fs) z (h .fits) goes-on c g (k .i) (h .inv .w) (k .going .top) (h .inv .opened .awaited) (omega (arith, made, header-fits x .made-fits)) (inl refl)
           (subst (λ (n : ℕ). k .i < n) (commit-places (object s g) (h .inv .w .first) (h .inv .w .count) (GatherState.Awaited (h .inv .w .awaiter) (h .inv .w .open-places))
           (subst (CommitMoves (object s g)) (awaited-object (object x g) (h .inv .w) (h .inv .opened .awaited)) (c .moves g)) .1) (k .under))
-          (subst (λ (y : Object). PollRaises y e) (sym (other (item-at s g (k .i)) (k .off))) (k .raises))
+          (subst (λ (y : Object). PollRaises v g (item-at s g (k .i)) y e) (sym (other (item-at s g (k .i)) (k .off))) (polls-same x v g (item-at s g (k .i)) same-task (same .2) (object x (item-at s g (k .i))) e (k .raises)))
+          (λ j b p d. k .first j b d)
 
       all-fall : (o : ℕ) → OnStack (f ∷ fs) o → Falls v e o
       all-fall o (inl d) = subst (Falls v e) (sym d) top
-      all-fall o (inr i) = below-falls x e (f ∷ fs) z (h .fits) c (h .inv .stack) (k .going .below) (λ p y. inr y) top o i
+      all-fall o (inr i) = below-falls x e (f ∷ fs) z (h .fits) goes-on c (h .inv .stack) (k .going .below) (λ p y. inr y) top o i
+
+      took : (o : ℕ) (r : PendingExternal) → as-pending (object v o) ≡ some r → Dec (OnStack (f ∷ fs) o) → Took s o (r .awaiter)
+      took o r q (yes i) = absurd-some (sym (ap as-pending (all-fall o i .now) ∙ (unfold as-pending in refl)) ∙ q)
+      took o r q (no n) = k .going .taking o r (sym (ap as-pending (other o n)) ∙ q)
+
+      opened : (o : ℕ) (a : AwaitedGather) → as-awaited (object v o) ≡ some a → Dec (OnStack (f ∷ fs) o) → Opens s o (a .awaiter)
+      opened o a q (yes i) = absurd-some (sym (ap as-awaited (all-fall o i .now) ∙ (unfold as-awaited in refl)) ∙ q)
+      opened o a q (no n) = k .going .opening o a n (sym (ap as-awaited (other o n)) ∙ q)
 
       moved : (o : ℕ) → Dec (OnStack (f ∷ fs) o) → RowMoves (object s o) (object v o)
       moved o (yes i) =
@@ -269,14 +327,22 @@ module _ (s : Store) where
 
   -- ---- a gather not committed yet is opened, and comes on the stack
 
-  opened-going : (x : Store) (o f n : ℕ) (a : Awaiter) (g i : ℕ) (fs : List Frame) (Q : ℕ → Type 0) → Sized x → o < object-limit → AwaiterFits a → object x o ≡ Object.GatherFuture f n GatherState.Pending → Committing s x
-      → Levels s Q x fs → ((p : ℕ) → OnStack fs p → Q p) → ((p : ℕ) → OnStack fs p → p ≡ o → ⊥) → Going s (open-gather-commit x o a) o 0 fs
+  opened-going : (x : Store) (o f n : ℕ) (a : Awaiter) (g i : ℕ) (fs : List Frame) (Q : ℕ → Type 0) → Sized x → o < object-limit → AwaiterFits a → object x o ≡ Object.GatherFuture f n GatherState.Pending → Committing s x → Taking s x → Opening s Q x
+      → Levels s Q x fs → ((p : ℕ) → OnStack fs p → Q p) → ((p : ℕ) → Q p → OnStack fs p) → ((p : ℕ) → OnStack fs p → p ≡ o → ⊥) → Going s (open-gather-commit x o a) o 0 fs
   unfolding open-gather-commit set-gather with-state
-  opened-going x o f n a g i fs Q z l fa q c ls sub apart =
+  opened-going x o f n a g i fs Q z l fa q c t op ls sub back apart =
       subst (λ (y : Object). Going s (put-object x o y) o 0 fs) (sym (ap (λ (y : Object). with-state y (GatherState.Awaited a 0)) q))
       (record {
         commits = committing-row s x o y z l fits (subst (λ (b : Object). CommitMoves b y) (sym was) (refl, refl, tt)) (λ d e. no-coroutine f n d (sym q ∙ e)) c;
-        top = record { first = f; count = n; was = was; left = λ j b. absurd (not-suc-le-zero b); bits = λ w e j b. absurd (true≢false (sym b ∙ none w e j)) };
+        taking = taking-gather s x o f n (GatherState.Awaited a 0) z l fits t;
+        opening = opening-row s Q (OnTop o fs) x o y z l fits (λ v b e. absurd (b (inl refl))) (λ p d b e. b (inr (back p e))) op;
+        top = record {
+          first = f;
+          count = n;
+          was = was;
+          left = λ j b. absurd (not-suc-le-zero b);
+          marks = λ w e. (λ j b. absurd (true≢false (sym b ∙ none w e j)), λ j b. absurd (not-suc-le-zero b));
+        };
         below = levels-onward s Q (OnTop o fs) x v fs on off (λ p b. object-put-other x o p y (apart p b)) ls;
       })
     where
@@ -308,7 +374,7 @@ module _ (s : Store) where
       new p b d = subst Passed q (subst (λ (j : ℕ). Passed (object x j)) d b)
 
       on : Onward s Q x v
-      on p b d = subst Passed (sym (object-put-other x o p y (new p d))) d
+      on p b d = keeps-same s (object x p) (object v p) (object-put-other x o p y (new p d)) d
 
       off : (p : ℕ) → Passed (object x p) → (Q p → ⊥) → OnTop o fs p → ⊥
       off p b d (inl e) = new p b e
@@ -319,7 +385,7 @@ module _ (s : Store) where
   unfolding view Levels
   nested-going root t f fs x i o h k =
       opened-going x o (h .first) (h .count) (Awaiter.GatherSlot (heap-id (f .gather)) (heap-id o)) (f .gather) i (record { gather = f .gather; next = i } ∷ fs) (OnTop (f .gather) fs) (h .memory .sized) low-o (low-g, low-o) (h .is-new)
-      (k .commits) (unfold Levels in (k .top, k .below)) (λ p z. z) apart
+      (k .commits) (k .taking) (k .opening) (unfold Levels in (k .top, k .below)) (λ p z. z) (λ p z. z) apart
     where
       low-g : f .gather < object-limit
       low-g = omega (arith, h .inv .opened .made, header-fits x .made-fits)
@@ -341,21 +407,47 @@ module _ (s : Store) where
       (committing-row s x g (Object.GatherFuture (w .first) (w .count) GatherState.Completed) z l (awaited-fits x g w e .0, tt)
       (opened-moves (object s g) (object x g) (k .top .first) (k .top .count) w GatherState.Completed (k .top .was) e (k .commits .moves g) tt) (λ f q. not-coroutine (object x g) w f CoroutineState.New e q) (k .commits))
 
-  -- where a commit ends
-  abbrev pub EndFails : Store → Poll → Type 0
-  EndFails u (ready v) = Committing s u
-  EndFails u (raised e) = Unwound u
-  EndFails u pending = Committing s u
+  completed-takes : (x : Store) (g : ℕ) (w : AwaitedGather) → Sized x → g < object-limit → as-awaited (object x g) ≡ some w → Taking s x → Taking s (set-gather x g GatherState.Completed)
+  unfolding set-gather
+  completed-takes x g w z l e t =
+      subst (λ (y : Object). Taking s (put-object x g y)) (sym (with-state-is (object x g) w GatherState.Completed e))
+      (taking-gather s x g (w .first) (w .count) GatherState.Completed z l (awaited-fits x g w e .0, tt) t)
 
-  root-fails : (root t : ℕ) (x : Store) (g i j : ℕ) → Memory x → Inv root t 0 (OnTop g []) (view x) g i [] → Going s x g j [] → EndFails (settle-gather-commit x g .store) (settle-gather-commit x g .poll)
+  -- where a commit of gather `root` for task t ends
+  abbrev pub EndFails : ℕ → ℕ → Store → Poll → Type 0
+  EndFails root t u (ready v) = Committing s u × Taking s u × Opening s (λ p. ⊥) u
+  EndFails root t u (raised e) = Unwound u
+  EndFails root t u pending = Committing s u × Taking s u × Opening s (λ p. p ≡ root) u × ((v : AwaitedGather) → as-awaited (object u root) ≡ some v → v .awaiter ≡ Awaiter.Task (task-id t))
+
+  -- the gather on top leaves the stack completed
+  completed-opens : (x : Store) (g : ℕ) (Q R : ℕ → Type 0) (w : AwaitedGather) → Sized x → g < object-limit → as-awaited (object x g) ≡ some w → ((p : ℕ) → (p ≡ g → ⊥) → (R p → ⊥) → Q p → ⊥) → Opening s Q x → Opening s R (set-gather x g GatherState.Completed)
+  unfolding set-gather as-awaited
+  completed-opens x g Q R w z l e off k =
+      subst (λ (y : Object). Opening s R (put-object x g y)) (sym (with-state-is (object x g) w GatherState.Completed e))
+      (opening-row s Q R x g (Object.GatherFuture (w .first) (w .count) GatherState.Completed) z l (awaited-fits x g w e .0, tt) (λ v n q. absurd-some q) off k)
+
+  root-fails : (root t : ℕ) (x : Store) (g i j : ℕ) → Memory x → Inv root t 0 (OnTop g []) (view x) g i [] → Going s x g j [] → EndFails root t (settle-gather-commit x g .store) (settle-gather-commit x g .poll)
   unfolding settle-gather-commit view
   root-fails root t x g i j mem h k =
-      subst (λ (o : Option AwaitedGather). EndFails (settle-as x g o .store) (settle-as x g o .poll)) (sym (h .opened .awaited)) (unfold settle-as in (by (eqb (h .w .open-places) 0)))
+      subst (λ (o : Option AwaitedGather). EndFails root t (settle-as x g o .store) (settle-as x g o .poll)) (sym (h .opened .awaited)) (unfold settle-as in (by (eqb (h .w .open-places) 0)))
     where
-      by : (b : Bool) → EndFails (pick b (gives (set-gather x g GatherState.Completed) (ready (Value.List (heap-id g)))) (gives x pending) .store)
+      alone : (p : ℕ) → (p ≡ g → ⊥) → (⊥ → ⊥) → OnTop g [] p → ⊥
+      alone p n z (inl d) = n d
+      alone p n z (inr d) = d
+
+      is-root : {a : Awaiter} {n : ℕ} → Stacked (header x .made) (object x) (place x) root t g a [] n → (g ≡ root) × (a ≡ Awaiter.Task (task-id t))
+      is-root (bottom d q) = (d, q)
+
+      only : (p : ℕ) → OnTop g [] p → p ≡ root
+      only p (inl d) = d ∙ is-root (h .stack) .0
+      only p (inr d) = absurd d
+
+      by : (b : Bool) → EndFails root t (pick b (gives (set-gather x g GatherState.Completed) (ready (Value.List (heap-id g)))) (gives x pending) .store)
           (pick b (gives (set-gather x g GatherState.Completed) (ready (Value.List (heap-id g)))) (gives x pending) .poll)
-      by true = completed-commits x g j [] (h .w) (mem .sized) (omega (arith, h .opened .made, header-fits x .made-fits)) (h .opened .awaited) k
-      by false = k .commits
+      by true =
+          let low : g < object-limit = omega (arith, h .opened .made, header-fits x .made-fits) in
+          (completed-commits x g j [] (h .w) (mem .sized) low (h .opened .awaited) k, completed-takes x g (h .w) (mem .sized) low (h .opened .awaited) (k .taking), completed-opens x g (OnTop g []) (λ p. ⊥) (h .w) (mem .sized) low (h .opened .awaited) alone (k .opening))
+      by false = (k .commits, k .taking, λ o v n e. k .opening o v (λ z. n (only o z)) e, λ v e. ap (λ (y : AwaitedGather). y .awaiter) (sym (Option·some-injective (h .w) v (sym (h .opened .awaited) ∙ (ap (λ (p : ℕ). as-awaited (object x p)) (is-root (h .stack) .0) ∙ e)))) ∙ is-root (h .stack) .1)
 
   module _ (root t : ℕ) (x : Store) (g i j : ℕ) (p : Frame) (ps : List Frame) (mem : Memory x) (h : Inv root t 0 (OnTop g (p ∷ ps)) (view x) g i (p ∷ ps)) (k : Going s x g j (p ∷ ps)) where
     abbrev Next : Store → Type 0
@@ -398,14 +490,42 @@ module _ (s : Store) where
     unfolding set-gather
     completed-same = ap (put-object x g) (with-state-is (object x g) (h .w) GatherState.Completed top)
 
+    -- its next place names g
+    item-is : (w : AwaitedGather) → as-awaited (object x (p .gather)) ≡ some w → place x (w .first + p .next) .item .0 ≡ g → g ≡ item-at s (p .gather) (p .next)
+    item-is w e nm =
+        sym nm ∙ (k .commits .items (w .first + p .next)
+        ∙ ap (λ (n : ℕ). place s (n + p .next) .item .0)
+        (sym (commit-places (object s (p .gather)) (w .first) (w .count) (GatherState.Awaited (w .awaiter) (w .open-places)) (subst (CommitMoves (object s (p .gather))) (awaited-object (object x (p .gather)) w e) (k .commits .moves (p .gather))) .0)))
+
+    off-rest : (q : ℕ) → (q ≡ g → ⊥) → (OnTop (p .gather) ps q → ⊥) → OnTop g (p ∷ ps) q → ⊥
+    off-rest q n m (inl d) = n d
+    off-rest q n m (inr z) = m z
+
+    -- g has left the stack, awaited by the gather below it
+    parked-opens : (o : ℕ) (v : AwaitedGather) → (OnTop (p .gather) ps o → ⊥) → as-awaited (object x o) ≡ some v → Dec (o ≡ g) → Opens s o (v .awaiter)
+    unfolding view
+    parked-opens o v n e (no ne) = k .opening o v (off-rest o ne n) e
+    parked-opens o v n e (yes d) = by (h .stack)
+      where
+        by : {m : ℕ} → Stacked (header x .made) (object x) (place x) root t g (h .w .awaiter) (p ∷ ps) m → Opens s o (v .awaiter)
+        by (above w i op lt nm lo aw rm rest) =
+            subst (Opens s o) (sym (ap (λ (y : AwaitedGather). y .awaiter) (sym (Option·some-injective (h .w) v (sym top ∙ subst (λ (j : ℕ). as-awaited (object x j) ≡ some v) d e))) ∙ aw))
+            (inr (record {
+              at = p .next;
+              under = subst (λ (c : ℕ). p .next < c) (sym (commit-places (object s (p .gather)) (w .first) (w .count) (GatherState.Awaited (w .awaiter) (w .open-places)) (subst (CommitMoves (object s (p .gather))) (awaited-object (object x (p .gather)) w (op .awaited)) (k .commits .moves (p .gather))) .1)) lt;
+              names = sym (item-is w (op .awaited) nm) ∙ sym d;
+            }))
+
     -- the one below is on top again
     parked : Going s x (p .gather) (p .next) ps
     unfolding Levels
     parked =
         record {
           commits = k .commits;
-          top = level-onward s (OnTop g (p ∷ ps)) (OnTop (p .gather) ps) x x (p .gather) (p .next) (λ o n y. y) (λ q y n z. n (inr z)) (k .below .0 .bits) (k .below .0);
-          below = levels-onward s (OnTop g (p ∷ ps)) (OnTop (p .gather) ps) x x ps (λ o n y. y) (λ q y n z. n (inr z)) (λ q z. refl) (unfold Levels in (k .below .1));
+          taking = k .taking;
+          opening = λ o v n e. parked-opens o v n e (ℕ-discrete o g);
+          top = level-onward s (OnTop g (p ∷ ps)) (OnTop (p .gather) ps) x x (p .gather) (p .next) (λ o n y. (y, λ z. z)) (λ q y n z. n (inr z)) refl (k .below .0);
+          below = levels-onward s (OnTop g (p ∷ ps)) (OnTop (p .gather) ps) x x ps (λ o n y. (y, λ z. z)) (λ q y n z. n (inr z)) (λ q z. refl) (unfold Levels in (k .below .1));
         }
 
     filled : Going s x1 (p .gather) (p .next) ps
@@ -413,20 +533,15 @@ module _ (s : Store) where
     filled =
         record {
           commits = subst (Committing s) completed-same (completed-commits x g j (p ∷ ps) (h .w) (mem .sized) low top k);
+          taking = subst (Taking s) completed-same (completed-takes x g (h .w) (mem .sized) low top (k .taking));
+          opening = subst (Opening s (OnTop (p .gather) ps)) completed-same (completed-opens x g (OnTop g (p ∷ ps)) (OnTop (p .gather) ps) (h .w) (mem .sized) low top off-rest (k .opening));
           top = level-onward s (OnTop g (p ∷ ps)) (OnTop (p .gather) ps) x x1 (p .gather) (p .next) on (λ q y n z. n (inr z))
-              (λ w e. k .below .0 .bits w (sym (ap as-awaited (x1-other (p .gather) (inl refl))) ∙ e)) (k .below .0);
+              (ap as-awaited (x1-other (p .gather) (inl refl))) (k .below .0);
           below = levels-onward s (OnTop g (p ∷ ps)) (OnTop (p .gather) ps) x x1 ps on (λ q y n z. n (inr z)) (λ q z. x1-other q (inr z)) (unfold Levels in (k .below .1));
         }
       where
         on : Onward s (OnTop g (p ∷ ps)) x x1
-        on o n y = subst Passed (sym (object-put-other x g o done (λ d. n (inl d)))) y
-
-    -- its next place names g
-    item-is : (w : AwaitedGather) → as-awaited (object x (p .gather)) ≡ some w → place x (w .first + p .next) .item .0 ≡ g → g ≡ item-at s (p .gather) (p .next)
-    item-is w e nm =
-        sym nm ∙ (k .commits .items (w .first + p .next)
-        ∙ ap (λ (n : ℕ). place s (n + p .next) .item .0)
-        (sym (commit-places (object s (p .gather)) (w .first) (w .count) (GatherState.Awaited (w .awaiter) (w .open-places)) (subst (CommitMoves (object s (p .gather))) (awaited-object (object x (p .gather)) w e) (k .commits .moves (p .gather))) .0)))
+        on o n y = keeps-same s (object x o) (object x1 o) (object-put-other x g o done (λ d. n (inl d))) y
 
     filled-next : Next (resume-after-child p (gives x1 (ready (Value.List (heap-id g)))))
     unfolding view resume-after-child
@@ -437,7 +552,8 @@ module _ (s : Store) where
             subst (λ (o : Option AwaitedGather). Next (resume-as p (gives x1 (ready (Value.List (heap-id g)))) o)) (sym (ap as-awaited (x1-other (p .gather) (inl refl)) ∙ op .awaited))
             (unfold resume-as resume-in in
             (going-fills s x1 (p .gather) (p .next) ps w (Value.List (heap-id g)) x1-sized (omega (arith, gather-within (p .gather) w (h .but) (op .made) (op .awaited), lt, h .but .fits .used-fits)) low
-            (subst (Calm s (OnTop (p .gather) ps) x1) (item-is w (op .awaited) nm) (record { passed = subst Passed (sym (object-put-object x g done (mem .sized) low full-fits)) tt; off = off-g })) filled))
+            (subst (Calm s (OnTop (p .gather) ps) x1) (item-is w (op .awaited) nm) (record { passed = subst Passed (sym (object-put-object x g done (mem .sized) low full-fits)) tt; off = off-g }))
+            (subst (λ (j : ℕ). Settled (object x1 j)) (item-is w (op .awaited) nm) (subst Settled (sym (object-put-object x g done (mem .sized) low full-fits)) tt)) filled))
 
     parked-next : Next (resume-after-child p (gives x pending))
     unfolding view resume-after-child
@@ -465,10 +581,10 @@ module _ (s : Store) where
   abbrev LoopFails : ℕ → ℕ → ℕ → (Store → Frame → List Frame → ℕ → ℕ → ℕ → Committed) → Type 0
   LoopFails root t fuel loop =
       (x : Store) (f : Frame) (fs : List Frame) (n j k : ℕ) → 2 * pending-count x + suc (length fs) ≤ fuel → Commits root t (f .gather) (f .next) fs x → Going s x (f .gather) (f .next) fs
-      → EndFails (loop x f fs n j k .store) (loop x f fs n j k .poll)
+      → EndFails root t (loop x f fs n j k .store) (loop x f fs n j k .poll)
 
   turn-fails : (root t fuel : ℕ) (loop : Store → Frame → List Frame → ℕ → ℕ → ℕ → Committed) → LoopFails root t fuel loop → (y : Store) (f : Frame) (fs : List Frame) (n j k : ℕ) (x : Stop) → 2 * pending-count y + length fs ≤ fuel
-      → f .gather < object-limit → StopKeeps y x → StopOk root t (f .gather) fs x → StopFails s (f .gather) fs x → EndFails (turn loop f fs n j k x .store) (turn loop f fs n j k x .poll)
+      → f .gather < object-limit → StopKeeps y x → StopOk root t (f .gather) fs x → StopFails s (f .gather) fs x → EndFails root t (turn loop f fs n j k x .store) (turn loop f fs n j k x .poll)
   unfolding turn view
   turn-fails root t fuel loop go y f fs n j k (at-nested x i o) b l q h r =
       go _ (record { gather = o; next = 0 }) (record { gather = f .gather; next = i } ∷ fs) (suc n) (suc j) k (omega (arith, b, nested-fuel y x f fs i o q)) (nested-commits root t f fs x i o h) (nested-going root t f fs x i o h r)
@@ -495,9 +611,9 @@ module _ (s : Store) where
 
   -- What a commit leaves.
   pub commit-fails : (t g f n : ℕ) → SoundStore s → header s .moment ≡ Moment.Running (task-id t) → g < header s .made → object s g ≡ Object.GatherFuture f n GatherState.Pending
-      → EndFails (commit-gather-tree s g (Awaiter.Task (task-id t)) .store) (commit-gather-tree s g (Awaiter.Task (task-id t)) .poll)
+      → EndFails g t (commit-gather-tree s g (Awaiter.Task (task-id t)) .store) (commit-gather-tree s g (Awaiter.Task (task-id t)) .poll)
   unfolding commit-gather-tree Levels
   commit-fails t g f n w m l q =
       loop-fails _ g t (open-gather-commit s g (Awaiter.Task (task-id t))) (record { gather = g; next = 0 }) [] 0 1 0 (omega arith) (commit-begins s t w m g f n l q)
-      (opened-going s g f n (Awaiter.Task (task-id t)) g 0 [] (λ p. ⊥) (w .memory .sized) (omega (arith, l, header-fits s .made-fits)) (omega (arith, runner-low s t w m, header-fits s .next-fits)) q (committing-begins s)
-      (unfold Levels in tt) (λ p z. absurd z) (λ p z. absurd z))
+      (opened-going s g f n (Awaiter.Task (task-id t)) g 0 [] (λ p. ⊥) (w .memory .sized) (omega (arith, l, header-fits s .made-fits)) (omega (arith, runner-low s t w m, header-fits s .next-fits)) q (committing-begins s) (taking-begins s) (opening-begins s (λ p. ⊥))
+      (unfold Levels in tt) (λ p z. absurd z) (λ p z. absurd z) (λ p z. absurd z))

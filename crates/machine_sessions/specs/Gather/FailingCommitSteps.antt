@@ -29,7 +29,7 @@ use Rattle.asyncio.specs.Ranges.{ObjectFits, ValueFits, TaskFits, HeaderFits}
 use Rattle.asyncio.specs.Parts.{first-of, count-of}
 use Rattle.asyncio.specs.States.{pick}
 use Rattle.machine.specs.Store.{Store, LogEntry, task, object, place, header, put-task, put-object, put-place, put-queue, put-header, add-log, set-next, spawned}
-use Rattle.machine.specs.Scheduler.{AwaitedGather, as-awaited, bit, push-ready, spawn-as}
+use Rattle.machine.specs.Scheduler.{AwaitedGather, PendingExternal, as-awaited, as-pending, bit, push-ready, spawn-as}
 use Rattle.machine.specs.Commit.{Frame, open-place, fill-place}
 use Rattle.machine.specs.History.{spawned-by}
 use Rattle.machine.specs.Honest.{exits-in}
@@ -38,11 +38,12 @@ use Rattle.machine_laws.specs.StoreLaws.{header-fits, header-put-header, header
 use Rattle.machine_laws.specs.DeliveryLaws.{absurd-some, awaited-object}
 use Rattle.machine_theorems.specs.Bounds.Bits.{bit-set-other}
 use Rattle.machine_theorems.specs.Soundness.Fill.{awaits-on}
-use Rattle.machine_theorems.specs.Soundness.CommitSteps.{wider}
+use Rattle.machine_theorems.specs.Soundness.CommitSteps.{wider, wider-opens, wider-keeps}
 use Rattle.machine_theorems.specs.Soundness.CommitInv.{OnStack, OnTop}
 use Rattle.machine_sessions.specs.Queue.Tracked.{spawn-row, spawn-next}
 use Rattle.machine_sessions.specs.Gather.Failing.{CommitMoves, GatherCommits, commit-same, commit-places, commit-coroutine}
-use Rattle.machine_sessions.specs.Gather.FailingStated.{Passed, item-at}
+use Rattle.machine_sessions.specs.Gather.FailingRows.{ItemAt}
+use Rattle.machine_sessions.specs.Gather.FailingStated.{Passed, Settled, item-at, ItemSlot, Took, Opens}
 
 -- a gather that was pending and is awaited may come to any state that is not failed
 pub opened-moves : (x y : Object) (f n : ℕ) (w : AwaitedGather) (z : GatherState) → x ≡ Object.GatherFuture f n GatherState.Pending → as-awaited y ≡ some w → CommitMoves x y → GatherCommits GatherState.Pending z
@@ -69,6 +70,7 @@ module _ (s : Store) where
     pub exits : (t : ℕ) → exits-in (u .log) t ≡ exits-in (s .log) t
     pub spawned : (t : ℕ) (b : Option ℕ) → t < header s .next → spawned-by b (u .log) t ≡ spawned-by b (s .log) t
     pub for-it : (t : ℕ) (b : Option ℕ) → header s .next ≤ t → t < header u .next → spawned-by b (u .log) t ≡ some (task u t .coroutine .0)
+    pub slot : (t : ℕ) → header s .next ≤ t → t < header u .next → ItemSlot s (task u t .coroutine .0) (task u t .awaiter)
 
   pub committing-begins : Committing s
   committing-begins =
@@ -82,6 +84,7 @@ module _ (s : Store) where
         exits = λ t. refl;
         spawned = λ t b l. refl;
         for-it = λ t b a l. absurd (not-suc-le-zero {n = 0} (omega arith));
+        slot = λ t a l. absurd (not-suc-le-zero {n = 0} (omega arith));
       }
 
   -- an object's row, of no new coroutine
@@ -98,6 +101,7 @@ module _ (s : Store) where
         exits = λ t. unfold put-object in (k .exits t);
         spawned = λ t b i. unfold put-object in (k .spawned t b i);
         for-it = λ t b a l. unfold task put-object in (unfold task in (k .for-it t b a (subst (λ (h : Header). t < h .next) (header-put-object u o y) l)));
+        slot = λ t a l. unfold task put-object in (unfold task in (k .slot t a (subst (λ (h : Header). t < h .next) (header-put-object u o y) l)));
       }
     where
       by : (p : ℕ) → Dec (p ≡ o) → CommitMoves (object s p) (object (put-object u o y) p)
@@ -126,6 +130,7 @@ module _ (s : Store) where
         exits = λ t. unfold put-place in (k .exits t);
         spawned = λ t b j. unfold put-place in (k .spawned t b j);
         for-it = λ t b a l. unfold task header put-place in (unfold task header in (k .for-it t b a l));
+        slot = λ t a l. unfold task header put-place in (unfold task header in (k .slot t a l));
       }
     where
       row : Place
@@ -157,9 +162,9 @@ module _ (s : Store) where
       same-head : (u : Store) (t : ℕ) (r : Task) → header (put-task u t r) .made ≡ header u .made
       same-head u t r = unfold header put-task in refl
 
-  pub committing-spawn : (u : Store) (c g f : ℕ) → Sized u → header u .next < task-limit → c < object-limit → g < object-limit → object u c ≡ Object.Coroutine f CoroutineState.New → Committing u
+  pub committing-spawn : (u : Store) (c g f : ℕ) → Sized u → header u .next < task-limit → c < object-limit → g < object-limit → object u c ≡ Object.Coroutine f CoroutineState.New → ItemAt s g c → Committing u
       → Committing (spawn-as u (header u .next) c g)
-  committing-spawn u c g f z room lc lg e k =
+  committing-spawn u c g f z room lc lg e it k =
       record {
         moves = λ o. subst (CommitMoves (object s o)) (sym (rows o)) (k .moves o);
         items = λ p. same-item p ∙ k .items p;
@@ -170,6 +175,7 @@ module _ (s : Store) where
         exits = λ t. same-exits t ∙ k .exits t;
         spawned = λ t b l. logs t b l ∙ k .spawned t b l;
         for-it = λ t b a l. mine t b a l (ℕ-discrete t n);
+        slot = λ t a l. item t a l (ℕ-discrete t n);
       }
     where
       n : ℕ
@@ -219,8 +225,63 @@ module _ (s : Store) where
           first t b ∙ (ap (λ (x : Bool). elim x [ true ↦ some c | false ↦ spawned-by b (u .log) t ]) (ne-eqb n t (λ d. ne (sym d)))
           ∙ (k .for-it t b a (omega (arith, l, next, ne)) ∙ ap (λ (y : Task). some (y .coroutine .0)) (sym (spawn-row u n c g t ne))))
 
+      item : (t : ℕ) → header s .next ≤ t → t < header v .next → Dec (t ≡ n) → ItemSlot s (task v t .coroutine .0) (task v t .awaiter)
+      item t a l (yes d) =
+          subst (λ (j : ℕ). ItemSlot s (task v j .coroutine .0) (task v j .awaiter)) (sym d) (subst (λ (y : Task). ItemSlot s (y .coroutine .0) (y .awaiter)) (sym here) it)
+      item t a l (no ne) = subst (λ (y : Task). ItemSlot s (y .coroutine .0) (y .awaiter)) (sym (spawn-row u n c g t ne)) (k .slot t a (omega (arith, l, next, ne)))
+
       logs : (t : ℕ) (b : Option ℕ) → t < header s .next → spawned-by b (v .log) t ≡ spawned-by b (u .log) t
       logs t b l = first t b ∙ ap (λ (x : Bool). elim x [ true ↦ some c | false ↦ spawned-by b (u .log) t ]) (ne-eqb n t (λ d. not-suc-le-zero {n = 0} (omega (arith, d, l, k .grows))))
+
+  -- ---- the awaiters of pending externals
+
+  abbrev pub Taking : Store → Type 0
+  Taking u = (o : ℕ) (r : PendingExternal) → as-pending (object u o) ≡ some r → Took s o (r .awaiter)
+
+  pub taking-begins : Taking s
+  taking-begins o r e = inl (r, e, refl)
+
+  -- rows as they were
+  pub taking-same : (u v : Store) → ((p : ℕ) → object v p ≡ object u p) → Taking u → Taking v
+  taking-same u v same k o r e = k o r (sym (ap as-pending (same o)) ∙ e)
+
+  -- a row is written
+  pub taking-row : (u : Store) (o : ℕ) (y : Object) → Sized u → o < object-limit → ObjectFits y → ((r : PendingExternal) → as-pending y ≡ some r → Took s o (r .awaiter)) → Taking u → Taking (put-object u o y)
+  taking-row u o y z l fits t k p r e = by (ℕ-discrete p o)
+    where
+      by : Dec (p ≡ o) → Took s p (r .awaiter)
+      by (yes d) =
+          subst (λ (j : ℕ). Took s j (r .awaiter)) (sym d)
+          (t r (sym (ap as-pending (object-put-object u o y z l fits)) ∙ subst (λ (j : ℕ). as-pending (object (put-object u o y) j) ≡ some r) d e))
+      by (no n) = k p r (sym (ap as-pending (object-put-other u o p y n)) ∙ e)
+
+  -- that of a gather
+  pub taking-gather : (u : Store) (o f n : ℕ) (y : GatherState) → Sized u → o < object-limit → ObjectFits (Object.GatherFuture f n y) → Taking u → Taking (put-object u o (Object.GatherFuture f n y))
+  unfolding as-pending
+  taking-gather u o f n y z l fits k = taking-row u o (Object.GatherFuture f n y) z l fits (λ r e. absurd-some e) k
+
+  -- ---- the awaiters of awaited gathers that are not on the stack Q
+
+  abbrev pub Opening : (ℕ → Type 0) → Store → Type 0
+  Opening Q u = (o : ℕ) (v : AwaitedGather) → (Q o → ⊥) → as-awaited (object u o) ≡ some v → Opens s o (v .awaiter)
+
+  pub opening-begins : (Q : ℕ → Type 0) → Opening Q s
+  opening-begins Q o v n e = inl (v, e, refl)
+
+  -- rows as they were
+  pub opening-same : (Q : ℕ → Type 0) (u v : Store) → ((p : ℕ) → object v p ≡ object u p) → Opening Q u → Opening Q v
+  opening-same Q u v same k o w n e = k o w n (sym (ap as-awaited (same o)) ∙ e)
+
+  -- a row is written; the stack may be another
+  pub opening-row : (Q R : ℕ → Type 0) (u : Store) (o : ℕ) (y : Object) → Sized u → o < object-limit → ObjectFits y
+      → ((v : AwaitedGather) → (R o → ⊥) → as-awaited y ≡ some v → Opens s o (v .awaiter)) → ((p : ℕ) → (p ≡ o → ⊥) → (R p → ⊥) → Q p → ⊥) → Opening Q u → Opening R (put-object u o y)
+  opening-row Q R u o y z l fits t off k p v n e = by (ℕ-discrete p o)
+    where
+      by : Dec (p ≡ o) → Opens s p (v .awaiter)
+      by (yes d) =
+          subst (λ (j : ℕ). Opens s j (v .awaiter)) (sym d)
+          (t v (subst (λ (j : ℕ). R j → ⊥) d n) (sym (ap as-awaited (object-put-object u o y z l fits)) ∙ subst (λ (j : ℕ). as-awaited (object (put-object u o y) j) ≡ some v) d e))
+      by (no d) = k p v (off p d n) (sym (ap as-awaited (object-put-other u o p y d)) ∙ e)
 
   -- ---- what a gather on the stack has gone past; Q is the stack
 
@@ -229,72 +290,110 @@ module _ (s : Store) where
     pub passed : Passed (object u o)
     pub off : Q o → ⊥
 
+  -- a bit of gather g is of a place below i, and each of these is open, or its item has given a value
+  abbrev pub Marks : Store → ℕ → ℕ → Type 0
+  Marks u g i =
+      (w : AwaitedGather) → as-awaited (object u g) ≡ some w
+      → ((j : ℕ) → bit (w .open-places) j ≡ true → j < i) × ((j : ℕ) → j < i → (bit (w .open-places) j ≡ true) ⊎ Settled (object u (item-at s g j)))
+
   -- gather g, its places below i being done
   pub record Level (Q : ℕ → Type 0) (u : Store) (g i : ℕ) : Type 0 where
     pub first : ℕ
     pub count : ℕ
     pub was : object s g ≡ Object.GatherFuture first count GatherState.Pending
     pub left : (j : ℕ) → j < i → Calm Q u (item-at s g j)
-    pub bits : (w : AwaitedGather) → as-awaited (object u g) ≡ some w → (j : ℕ) → bit (w .open-places) j ≡ true → j < i
+    pub marks : Marks u g i
 
   -- and those of the frames
   unfoldable pub Levels : (ℕ → Type 0) → Store → List Frame → Type 0
   Levels Q u [] = Unit {0}
   Levels Q u (f ∷ fs) = Level Q u (f .gather) (f .next) × Levels Q u fs
 
-  -- what is passed stays so
+  -- what is passed stays so, and what has given a value
+  abbrev pub Keeps : Object → Object → Type 0
+  Keeps x y = Passed y × (Settled x → Settled y)
+
   abbrev pub Onward : (ℕ → Type 0) → Store → Store → Type 0
-  Onward Q u v = (o : ℕ) → (Q o → ⊥) → Passed (object u o) → Passed (object v o)
+  Onward Q u v = (o : ℕ) → (Q o → ⊥) → Passed (object u o) → Keeps (object u o) (object v o)
+
+  pub keeps-same : (x y : Object) → y ≡ x → Passed x → Keeps x y
+  keeps-same x y e p = (subst Passed (sym e) p, λ z. subst Settled (sym e) z)
 
   pub calm-onward : (Q R : ℕ → Type 0) (u v : Store) (o : ℕ) → Onward Q u v → ((p : ℕ) → Passed (object u p) → (Q p → ⊥) → R p → ⊥) → Calm Q u o → Calm R v o
-  calm-onward Q R u v o on off k = record { passed = on o (k .off) (k .passed); off = off o (k .passed) (k .off) }
+  calm-onward Q R u v o on off k = record { passed = on o (k .off) (k .passed) .0; off = off o (k .passed) (k .off) }
+
+  marks-onward : (Q : ℕ → Type 0) (u v : Store) (g i : ℕ) → Onward Q u v → as-awaited (object v g) ≡ as-awaited (object u g) → Level Q u g i → Marks v g i
+  marks-onward Q u v g i on same k w e = let m = k .marks w (sym same ∙ e) in (m .0, λ j l. stays j l (m .1 j l))
+    where
+      stays : (j : ℕ) → j < i → (bit (w .open-places) j ≡ true) ⊎ Settled (object u (item-at s g j)) → (bit (w .open-places) j ≡ true) ⊎ Settled (object v (item-at s g j))
+      stays j l (inl b) = inl b
+      stays j l (inr z) = inr (on (item-at s g j) (k .left j l .off) (k .left j l .passed) .1 z)
 
   pub level-onward : (Q R : ℕ → Type 0) (u v : Store) (g i : ℕ) → Onward Q u v → ((p : ℕ) → Passed (object u p) → (Q p → ⊥) → R p → ⊥)
-      → ((w : AwaitedGather) → as-awaited (object v g) ≡ some w → (j : ℕ) → bit (w .open-places) j ≡ true → j < i) → Level Q u g i → Level R v g i
-  level-onward Q R u v g i on off bits k = record { first = k .first; count = k .count; was = k .was; left = λ j l. calm-onward Q R u v (item-at s g j) on off (k .left j l); bits = bits }
+      → as-awaited (object v g) ≡ as-awaited (object u g) → Level Q u g i → Level R v g i
+  level-onward Q R u v g i on off same k =
+      record { first = k .first; count = k .count; was = k .was; left = λ j l. calm-onward Q R u v (item-at s g j) on off (k .left j l); marks = marks-onward Q u v g i on same k }
 
   pub levels-onward : (Q R : ℕ → Type 0) (u v : Store) (fs : List Frame) → Onward Q u v → ((p : ℕ) → Passed (object u p) → (Q p → ⊥) → R p → ⊥) → ((p : ℕ) → OnStack fs p → object v p ≡ object u p)
       → Levels Q u fs → Levels R v fs
   unfolding Levels
   levels-onward Q R u v [] on off same k = tt
   levels-onward Q R u v (f ∷ fs) on off same k = (
-    level-onward Q R u v (f .gather) (f .next) on off (λ w e. k .0 .bits w (sym (ap as-awaited (same (f .gather) (inl refl))) ∙ e)) (k .0),
+    level-onward Q R u v (f .gather) (f .next) on off (ap as-awaited (same (f .gather) (inl refl))) (k .0),
     unfold Levels in (levels-onward Q R u v fs on off (λ p z. same p (inr z)) (k .1)),
   )
 
-  -- one place more is done
-  pub level-more : (Q : ℕ → Type 0) (u : Store) (g i : ℕ) → Level Q u g i → Calm Q u (item-at s g i) → Level Q u g (i + 1)
-  level-more Q u g i k c =
-      record { first = k .first; count = k .count; was = k .was; left = λ j l. by j l (ℕ-discrete j i); bits = λ w e j b. omega (arith, k .bits w e j b) }
+  left-more : (Q : ℕ → Type 0) (u : Store) (g i : ℕ) → Level Q u g i → Calm Q u (item-at s g i) → (j : ℕ) → j < i + 1 → Calm Q u (item-at s g j)
+  left-more Q u g i k c j l = by (ℕ-discrete j i)
     where
-      by : (j : ℕ) → j < i + 1 → Dec (j ≡ i) → Calm Q u (item-at s g j)
-      by j l (yes d) = subst (λ (n : ℕ). Calm Q u (item-at s g n)) (sym d) c
-      by j l (no ne) = k .left j (omega (arith, l, ne))
+      by : Dec (j ≡ i) → Calm Q u (item-at s g j)
+      by (yes d) = subst (λ (n : ℕ). Calm Q u (item-at s g n)) (sym d) c
+      by (no ne) = k .left j (omega (arith, l, ne))
+
+  -- one place more is done, whose item has given a value
+  pub level-more : (Q : ℕ → Type 0) (u : Store) (g i : ℕ) → Level Q u g i → Calm Q u (item-at s g i) → Settled (object u (item-at s g i)) → Level Q u g (i + 1)
+  level-more Q u g i k c z =
+      record {
+        first = k .first;
+        count = k .count;
+        was = k .was;
+        left = left-more Q u g i k c;
+        marks = λ w e. let m = k .marks w e in (λ j b. omega (arith, m .0 j b), λ j l. by w (m .1) j l (ℕ-discrete j i));
+      }
+    where
+      by : (w : AwaitedGather) → ((j : ℕ) → j < i → (bit (w .open-places) j ≡ true) ⊎ Settled (object u (item-at s g j))) → (j : ℕ) → j < i + 1 → Dec (j ≡ i)
+          → (bit (w .open-places) j ≡ true) ⊎ Settled (object u (item-at s g j))
+      by w m j l (yes d) = inr (subst (λ (n : ℕ). Settled (object u (item-at s g n))) (sym d) z)
+      by w m j l (no ne) = m j (omega (arith, l, ne))
 
   -- In the midst of a commit: gather g is on top, its places below i are done.
   pub record Going (u : Store) (g i : ℕ) (fs : List Frame) : Type 0 where
     pub commits : Committing u
+    pub taking : Taking u
+    pub opening : Opening (OnTop g fs) u
     pub top : Level (OnTop g fs) u g i
     pub below : Levels (OnTop g fs) u fs
 
-  -- a row is written that is not one of the stack below
-  pub going-onward : (u v : Store) (g i : ℕ) (fs : List Frame) → Committing v → Onward (OnTop g fs) u v → ((p : ℕ) → OnStack fs p → object v p ≡ object u p)
-      → ((w : AwaitedGather) → as-awaited (object v g) ≡ some w → (j : ℕ) → bit (w .open-places) j ≡ true → j < i) → Going u g i fs → Going v g i fs
-  going-onward u v g i fs c on same bits k =
+  -- a row is written that is not one of the stack
+  pub going-onward : (u v : Store) (g i : ℕ) (fs : List Frame) → Committing v → Taking v → Opening (OnTop g fs) v → Onward (OnTop g fs) u v → ((p : ℕ) → OnStack fs p → object v p ≡ object u p)
+      → as-awaited (object v g) ≡ as-awaited (object u g) → Going u g i fs → Going v g i fs
+  going-onward u v g i fs c t op on same top k =
       record {
         commits = c;
-        top = level-onward (OnTop g fs) (OnTop g fs) u v g i on (λ p y n. n) bits (k .top);
+        taking = t;
+        opening = op;
+        top = level-onward (OnTop g fs) (OnTop g fs) u v g i on (λ p y n. n) top (k .top);
         below = levels-onward (OnTop g fs) (OnTop g fs) u v fs on (λ p y n. n) same (k .below);
       }
 
   -- rows as they were
   pub going-same : (u v : Store) (g i : ℕ) (fs : List Frame) → Committing v → ((p : ℕ) → object v p ≡ object u p) → Going u g i fs → Going v g i fs
   going-same u v g i fs c same k =
-      going-onward u v g i fs c (λ o n y. subst Passed (sym (same o)) y) (λ p z. same p) (λ w e. k .top .bits w (sym (ap as-awaited (same g)) ∙ e)) k
+      going-onward u v g i fs c (taking-same u v same (k .taking)) (opening-same (OnTop g fs) u v same (k .opening)) (λ o n y. keeps-same (object u o) (object v o) (same o) y) (λ p z. same p) (ap as-awaited (same g)) k
 
   -- place i is done
-  pub going-more : (u : Store) (g i : ℕ) (fs : List Frame) → Calm (OnTop g fs) u (item-at s g i) → Going u g i fs → Going u g (i + 1) fs
-  going-more u g i fs c k = record { commits = k .commits; top = level-more (OnTop g fs) u g i (k .top) c; below = k .below }
+  pub going-more : (u : Store) (g i : ℕ) (fs : List Frame) → Calm (OnTop g fs) u (item-at s g i) → Settled (object u (item-at s g i)) → Going u g i fs → Going u g (i + 1) fs
+  going-more u g i fs c z k = record { commits = k .commits; taking = k .taking; opening = k .opening; top = level-more (OnTop g fs) u g i (k .top) c z; below = k .below }
 
   -- a bit of the wider word is one that was, or the new one
   wider-was : (w : AwaitedGather) (i j : ℕ) → bit (wider w i) j ≡ true → (j ≡ i → ⊥) → bit (w .open-places) j ≡ true
@@ -313,7 +412,15 @@ module _ (s : Store) where
       record {
         commits = committing-row u g y z l fits (opened-moves (object s g) (object u g) (k .top .first) (k .top .count) w (GatherState.Awaited (w .awaiter) (wider w i)) (k .top .was) e (k .commits .moves g) tt)
             (λ f q. not-coroutine (object u g) w f CoroutineState.New e q) (k .commits);
-        top = level-onward (OnTop g fs) (OnTop g fs) u v g (i + 1) on (λ p a n. n) bits (level-more (OnTop g fs) u g i (k .top) c);
+        taking = taking-gather u g (w .first) (w .count) (GatherState.Awaited (w .awaiter) (wider w i)) z l fits (k .taking);
+        opening = opening-row (OnTop g fs) (OnTop g fs) u g y z l fits (λ v n q. absurd (n (inl refl))) (λ p d n. n) (k .opening);
+        top = record {
+          first = k .top .first;
+          count = k .top .count;
+          was = k .top .was;
+          left = λ j b. calm-onward (OnTop g fs) (OnTop g fs) u v (item-at s g j) on (λ p a n. n) (left-more (OnTop g fs) u g i (k .top) c j b);
+          marks = marked;
+        };
         below = levels-onward (OnTop g fs) (OnTop g fs) u v fs on (λ p a n. n) (λ p a. object-put-other u g p y (λ d. apart p a d)) (k .below);
       }
     where
@@ -324,31 +431,40 @@ module _ (s : Store) where
       v = put-object u g y
 
       on : Onward (OnTop g fs) u v
-      on o n p = subst Passed (sym (object-put-other u g o y (λ d. n (inl d)))) p
+      on o n p = keeps-same (object u o) (object v o) (object-put-other u g o y (λ d. n (inl d))) p
 
-      bits : (x : AwaitedGather) → as-awaited (object v g) ≡ some x → (j : ℕ) → bit (x .open-places) j ≡ true → j < i + 1
-      bits x q j b = by (ℕ-discrete j i)
+      marked : Marks v g (i + 1)
+      marked x q = (λ j b. bits j b (ℕ-discrete j i), λ j b. done j b (ℕ-discrete j i))
         where
           same : record { first = w .first; count = w .count; awaiter = w .awaiter; open-places = wider w i } ≡ x
           same = Option·some-injective (record { first = w .first; count = w .count; awaiter = w .awaiter; open-places = wider w i }) x (sym (ap as-awaited (object-put-object u g y z l fits) ∙ (unfold as-awaited in refl)) ∙ q)
 
-          by : Dec (j ≡ i) → j < i + 1
-          by (yes d) = omega (arith, d)
-          by (no ne) = omega (arith, k .top .bits w e j (wider-was w i j (ap (λ (a : AwaitedGather). bit (a .open-places) j) same ∙ b) ne))
+          bits : (j : ℕ) → bit (x .open-places) j ≡ true → Dec (j ≡ i) → j < i + 1
+          bits j b (yes d) = omega (arith, d)
+          bits j b (no ne) = omega (arith, k .top .marks w e .0 j (wider-was w i j (ap (λ (a : AwaitedGather). bit (a .open-places) j) same ∙ b) ne))
+
+          still : (j : ℕ) → j < i → (bit (w .open-places) j ≡ true) ⊎ Settled (object u (item-at s g j)) → (bit (x .open-places) j ≡ true) ⊎ Settled (object v (item-at s g j))
+          still j b (inl a) = inl (ap (λ (r : AwaitedGather). bit (r .open-places) j) (sym same) ∙ wider-keeps w i j a)
+          still j b (inr a) = inr (on (item-at s g j) (k .top .left j b .off) (k .top .left j b .passed) .1 a)
+
+          done : (j : ℕ) → j < i + 1 → Dec (j ≡ i) → (bit (x .open-places) j ≡ true) ⊎ Settled (object v (item-at s g j))
+          done j b (yes d) = inl (subst (λ (n : ℕ). bit (x .open-places) n ≡ true) (sym d) (ap (λ (r : AwaitedGather). bit (r .open-places) i) (sym same) ∙ wider-opens w i))
+          done j b (no ne) = let m : j < i = omega (arith, b, ne) in still j m (k .top .marks w e .1 j m)
 
   -- it fills place i
-  pub going-fills : (u : Store) (g i : ℕ) (fs : List Frame) (w : AwaitedGather) (x : Value) → Sized u → w .first + i < place-limit → ValueFits x → Calm (OnTop g fs) u (item-at s g i) → Going u g i fs
-      → Going (fill-place u w i x) g (i + 1) fs
-  going-fills u g i fs w x z l fits c k =
-      going-same u (fill-place u w i x) g (i + 1) fs (committing-fill u w i x z l fits (k .commits)) (λ p. unfold object fill-place put-place in refl) (going-more u g i fs c k)
+  pub going-fills : (u : Store) (g i : ℕ) (fs : List Frame) (w : AwaitedGather) (x : Value) → Sized u → w .first + i < place-limit → ValueFits x → Calm (OnTop g fs) u (item-at s g i)
+      → Settled (object u (item-at s g i)) → Going u g i fs → Going (fill-place u w i x) g (i + 1) fs
+  going-fills u g i fs w x z l fits c a k =
+      going-same u (fill-place u w i x) g (i + 1) fs (committing-fill u w i x z l fits (k .commits)) (λ p. unfold object fill-place put-place in refl) (going-more u g i fs c a k)
 
-  -- a lower row is written, which is passed then if it was
+  -- a lower row that has given no value is written, which is passed then if it was
   pub going-lower : (u : Store) (g i : ℕ) (fs : List Frame) (o : ℕ) (y : Object) → Sized u → o < object-limit → ObjectFits y → CommitMoves (object s o) y → ((f : ℕ) → object u o ≡ Object.Coroutine f CoroutineState.New → ⊥)
-      → (OnTop g fs o → ⊥) → Passed y → Going u g i fs → Going (put-object u o y) g i fs
-  going-lower u g i fs o y z l fits c ne off p k =
-      going-onward u (put-object u o y) g i fs (committing-row u o y z l fits c ne (k .commits)) (λ q n a. by q a (ℕ-discrete q o)) (λ q a. object-put-other u o q y (λ d. off (inr (subst (OnStack fs) d a))))
-      (λ w e. k .top .bits w (sym (ap as-awaited (object-put-other u o g y (λ d. off (inl (sym d))))) ∙ e)) k
+      → (OnTop g fs o → ⊥) → Passed y → (Settled (object u o) → ⊥) → ((r : PendingExternal) → as-pending y ≡ some r → Took s o (r .awaiter)) → as-awaited y ≡ none → Going u g i fs → Going (put-object u o y) g i fs
+  going-lower u g i fs o y z l fits c ne off p un t no-gather k =
+      going-onward u (put-object u o y) g i fs (committing-row u o y z l fits c ne (k .commits)) (taking-row u o y z l fits t (k .taking))
+      (opening-row (OnTop g fs) (OnTop g fs) u o y z l fits (λ v n q. absurd-some (sym no-gather ∙ q)) (λ q d n. n) (k .opening)) (λ q n a. by q a (ℕ-discrete q o))
+      (λ q a. object-put-other u o q y (λ d. off (inr (subst (OnStack fs) d a)))) (ap as-awaited (object-put-other u o g y (λ d. off (inl (sym d))))) k
     where
-      by : (q : ℕ) → Passed (object u q) → Dec (q ≡ o) → Passed (object (put-object u o y) q)
-      by q a (yes d) = subst (λ (j : ℕ). Passed (object (put-object u o y) j)) (sym d) (subst Passed (sym (object-put-object u o y z l fits)) p)
-      by q a (no n) = subst Passed (sym (object-put-other u o q y n)) a
+      by : (q : ℕ) → Passed (object u q) → Dec (q ≡ o) → Keeps (object u q) (object (put-object u o y) q)
+      by q a (yes d) = subst (λ (j : ℕ). Keeps (object u j) (object (put-object u o y) j)) (sym d) (subst Passed (sym (object-put-object u o y z l fits)) p, λ b. absurd (un b))
+      by q a (no n) = keeps-same (object u q) (object (put-object u o y) q) (object-put-other u o q y n) a

@@ -54,11 +54,11 @@ use Rattle.machine_theorems.specs.Soundness.Exits.{runner-low, runner-runs, run
 use Rattle.machine_theorems.specs.Soundness.Cycle.{spawned-of, coroutine-is}
 use Rattle.machine_theorems.specs.Soundness.Results.{resolve-delivering, MayApply, AllApply, host-fits, result-keeps}
 use Rattle.machine_theorems.specs.Panics.NoPanicWoken.{success-activated}
-use Rattle.machine_sessions.specs.Gather.Failing.{ClimbMoves, RowMoves, FailedRow, climb-same, climb-moves, climb-pending, climb-failed, failed-awaited, row-same}
+use Rattle.machine_sessions.specs.Gather.Failing.{ClimbMoves, RowMoves, FailedRow, climb-same, climb-moves, climb-awaited, climb-pending, climb-failed, failed-awaited, row-same}
 use Rattle.machine_sessions.specs.Gather.FailingRows.{ItemAt, Raised, by-external, by-task, ExitAs, before, as-runner, TaskAs, Because, Failing, row-failing, queue-failing, moment-failing, goes-failing, ends-failing, exit-failing, failing-over}
 use Rattle.machine_sessions.specs.Gather.FailingClimb.{Up, slotted-up, success-failing, failure-failing}
 use Rattle.machine_sessions.specs.Gather.FailingCycle.{LeftAs, task-up, failed-left, exit-left, activate-left, resume-left}
-use Rattle.machine_sessions.specs.Gather.FailingStated.{ResultIn, Brings, reuse, script, answer, RunnerFails, RunnerEnds, completes, fails, FailedBy, CommitFailed, lived, EventFails}
+use Rattle.machine_sessions.specs.Gather.FailingStated.{ResultIn, Brings, reuse, script, answer, RunnerFails, RunnerEnds, completes, fails, FailedBy, CommitFailed, Took, Opens, lived, EventFails}
 
 -- ---- a row that is pending has not failed, and does not in deliveries
 
@@ -128,8 +128,10 @@ module _ (e : Event) (s : Store) where
         awaited = λ g f n y w l p q. let r = k .because g f n y w p q in record { error = r .error; item = r .item; among = r .among; raised = r .raised };
         pending = λ g f n h j y l p q. pending-climbs (object s g) (object (x .store) g) f n h j y (k .moves g) p q;
         committing = λ g f n h j y l p q. pending-climbs (object s g) (object (x .store) g) f n h j y (k .moves g) p q;
+        takes = λ o r p. inl (inl (r, climb-pending (object s o) (object (x .store) o) r (k .moves o) p, refl));
+        opens = λ o v p. let r = climb-awaited (object s o) (object (x .store) o) v (k .moves o) p in inl (inl (r .was, r .awaited, r .awaiter));
         grows = omega (arith, k .next);
-        tasks = λ t l d. let y = k .tasks t (omega (arith, l, k .next)) d in lived (omega (arith, l, k .next)) (y .live) (ap (λ (i : HeapId). i .0) (y .coroutine));
+        tasks = λ t l d. let y = k .tasks t (omega (arith, l, k .next)) d in lived (omega (arith, l, k .next)) (y .live) (ap (λ (i : HeapId). i .0) (y .coroutine)) (y .awaiter);
         unstarted = λ t l d. inr (k .tasks t (omega (arith, l, k .next)) (unstarted-live (task (x .store) t .state) d) .unstarted d);
         exits = k .exits;
         spawned = λ t d l. k .spawned t d;
@@ -154,15 +156,18 @@ module _ (e : Event) (s : Store) where
 
   -- rows that are made, tasks and log as they were
   pub same-ends : (x : Step) → tells (x .answer) .control ≡ none → ((o : ℕ) → o < header s .made → object (x .store) o ≡ object s o) → ((t : ℕ) → task (x .store) t ≡ task s t)
-      → header (x .store) .next ≡ header s .next → x .store .log ≡ s .log → EventFails e s x
-  same-ends x c os ts n lg =
+      → header (x .store) .next ≡ header s .next → x .store .log ≡ s .log → ((o : ℕ) (r : PendingExternal) → as-pending (object (x .store) o) ≡ some r → Took s o (r .awaiter))
+      → ((o : ℕ) (v : AwaitedGather) → as-awaited (object (x .store) o) ≡ some v → Opens s o (v .awaiter)) → EventFails e s x
+  same-ends x c os ts n lg tk op =
       record {
         moves = λ o l. subst (RowMoves (object s o)) (sym (os o l)) (row-same (object s o));
         awaited = λ g f k y w l p q. failed-awaited (object s g) f k y w (sym (os g l) ∙ q) p;
         pending = λ g f k h j y l p q. absurd (subst FailedRow (sym (sym (os g l) ∙ q) ∙ p) tt);
         committing = λ g f k h j y l p q. absurd (subst FailedRow (sym (sym (os g l) ∙ q) ∙ p) tt);
+        takes = λ o r p. inl (tk o r p);
+        opens = λ o v p. inl (op o v p);
         grows = omega (arith, n);
-        tasks = λ t l d. lived (omega (arith, l, n)) (sym (ap (λ (r : Task). is-live (r .state)) (ts t)) ∙ d) (ap (λ (r : Task). r .coroutine .0) (ts t));
+        tasks = λ t l d. lived (omega (arith, l, n)) (sym (ap (λ (r : Task). is-live (r .state)) (ts t)) ∙ d) (ap (λ (r : Task). r .coroutine .0) (ts t)) (ap (λ (r : Task). r .awaiter) (ts t));
         unstarted = λ t l d. inr (sym (ap (λ (r : Task). is-unstarted (r .state)) (ts t)) ∙ d);
         exits = λ t d. before (subst (λ (y : List LogEntry). exits-in y t ≡ true) lg d);
         spawned = λ t b l. ap (λ (y : List LogEntry). spawned-by b y t) lg;
@@ -174,7 +179,7 @@ module _ (e : Event) (s : Store) where
 
 -- ---- results
 
-pending-awaiter : (x : Object) (p : PendingExternal) → as-pending x ≡ some p → awaiter-of x ≡ p .awaiter
+pub pending-awaiter : (x : Object) (p : PendingExternal) → as-pending x ≡ some p → awaiter-of x ≡ p .awaiter
 unfolding awaiter-of
 pending-awaiter x p e = ap awaiter-of (pending-object x p e)
 

@@ -423,8 +423,8 @@ module _ (h : List Entry) (s : Store) (w : SoundStore s) (a : Agrees h s) (k : K
       }
     where
       spawned-by-it : (t : ℕ) → suc t < header u .next → TaskFrom s u (suc t) → spawned-for (y ∷ h) (suc t) ≡ some (task u (suc t) .coroutine .0)
-      spawned-by-it t l (lived b lv q) = spawned-old (suc t) b ∙ (k .spawned t b lv ∙ ap (λ (j : ℕ). some j) (sym q))
-      spawned-by-it t l (is-new b q) = spawned-is (suc t) ∙ q (spawned-for h (suc t))
+      spawned-by-it t l (lived b lv q z) = spawned-old (suc t) b ∙ (k .spawned t b lv ∙ ap (λ (j : ℕ). some j) (sym q))
+      spawned-by-it t l (is-new b q z) = spawned-is (suc t) ∙ q (spawned-for h (suc t))
 
       was-none : (t : ℕ) → (header s .next ≤ t) ⊎ (is-unstarted (task s t .state) ≡ true) → (t < header s .next) ⊎ (header s .next ≤ t) → coroutine-of h t ≡ none
       was-none t (inl l) i = k .unborn t l

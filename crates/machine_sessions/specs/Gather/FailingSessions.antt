@@ -32,7 +32,7 @@ use Rattle.machine.specs.Scheduler.{AwaitedGather, as-awaited, bit, pending-cal
 use Rattle.machine.specs.Delivery.{value-or}
 use Rattle.machine.specs.Events.{How, Control, Switched, Result, activate, handle-task-completion, handle-task-failure, resume-next}
 use Rattle.machine.specs.Machine.{Event, Answer, Step, Shown, switched, answer-await, end-main, task-completes, task-fails, repeat-wait, resume-with-resolved-futures, runner, unmade, first-refusal, refusals, refusal, slot-value, shown, accept, step}
-use Rattle.machine.specs.Sound.{items-below, object-in-range, places-below}
+use Rattle.machine.specs.Sound.{is-ended, items-below, object-in-range, places-below}
 use Rattle.machine.specs.Tests.{is-in}
 use Rattle.machine.specs.Gather.{Outcome, returned, raised}
 use Rattle.machine.specs.Computes.{computes}
@@ -53,7 +53,7 @@ use Rattle.machine_sessions.specs.Places.AgreesSessions.{accept-agrees, 
 use Rattle.machine_sessions.specs.Places.PlacesHold.{row-outcome, outcome-row, shows-made}
 use Rattle.machine_sessions.specs.Gather.Failing.{RowMoves, CoroutineMoves}
 use Rattle.machine_sessions.specs.Gather.FailingRows.{ItemAt, Raised}
-use Rattle.machine_sessions.specs.Gather.FailingStated.{Brings, FailedBy, Passed, PollRaises, broken, failed, coroutine-reused, future-reused, gather-reused, item-at, CommitFailed, EventFails}
+use Rattle.machine_sessions.specs.Gather.FailingStated.{Brings, FailedBy, Passed, Reuses, PollRaises, broken, failed, reuses, item-at, CommitFailed, EventFails}
 use Rattle.machine_sessions.specs.Gather.FailingAwait.{accept-fails}
 use Rattle.machine_sessions.specs.Gather.FailingHistory.{Knows, UsedRow, step-knows, raised-outcome}
 
@@ -112,28 +112,25 @@ pub record FailedItem (e : Event) (h : List Entry) (shows : ℕ → Shown) (g : 
   pub raised-it : outcome h shows item ≡ some (raised r)
   pub error : Brings e r
 
--- an object that is so shown raises the reuse error when it is polled
-pub data Reused : Shown → Error → Type 0 where
-  a-coroutine : (x : CoroutineState) (f : ℕ) → Reused (Shown.a-coroutine x f) Error.CoroutineReuse
-  an-external : Reused Shown.an-external-pending Error.FutureReuse
-  a-gather : (vs : List (Option Value)) → Reused (Shown.a-gather-awaited vs) Error.GatherReuse
-
--- an item of gather g raises r, and none to its left has raised
-pub record FirstFailed (h : List Entry) (shows : ℕ → Shown) (g : ℕ) (r : Error) : Type 0 where
+-- An item of gather g raises r, none to its left is the same object, and none has raised; u is the store that the event left.
+pub record FirstFailed (h : List Entry) (u : Store) (g : ℕ) (r : Error) : Type 0 where
   pub left : List ℕ
   pub item : ℕ
   pub right : List ℕ
   pub split : items h g ≡ left ++ (item ∷ right)
-  pub raises : (outcome h shows item ≡ some (raised r)) ⊎ Reused (shows item) r
-  pub unraised : (o : ℕ) → is-in o left ≡ true → error-of (outcome h shows o) ≡ none
+  pub made : item < header u .made
+  pub raises : (outcome h (look u) item ≡ some (raised r)) ⊎ Reuses u g item (object u item) r
+  pub unraised : (o : ℕ) → is-in o left ≡ true → error-of (outcome h (look u) o) ≡ none
+  pub first : is-in item left ≡ true → ⊥
+  pub on : is-ended (header u .moment) ≡ false
 
--- What an event does to gather g: `was` is what show gave of it before, h the history after the event, `shows` what show gives then.
-pub record GatherFails (e : Event) (was : Shown) (h : List Entry) (shows : ℕ → Shown) (g : ℕ) : Type 0 where
-  pub moves : ShownMoves was (shows g)
-  pub awaited : (vs : List (Option Value)) (r : Error) → was ≡ Shown.a-gather-awaited vs → shows g ≡ Shown.a-gather-failed r → FailedItem e h shows g r
-  pub pending : (r : Error) → was ≡ Shown.a-gather-pending → shows g ≡ Shown.a-gather-failed r → FirstFailed h shows g r
+-- What an event does to gather g: `was` is what show gave of it before, h the history after the event, u the store then.
+pub record GatherFails (e : Event) (was : Shown) (h : List Entry) (u : Store) (g : ℕ) : Type 0 where
+  pub moves : ShownMoves was (look u g)
+  pub awaited : (vs : List (Option Value)) (r : Error) → was ≡ Shown.a-gather-awaited vs → look u g ≡ Shown.a-gather-failed r → FailedItem e h (look u) g r
+  pub pending : (r : Error) → was ≡ Shown.a-gather-pending → look u g ≡ Shown.a-gather-failed r → FirstFailed h u g r
   -- only an await commits
-  pub committing : (r : Error) → was ≡ Shown.a-gather-pending → shows g ≡ Shown.a-gather-failed r → is-none (says e .awaits) ≡ false
+  pub committing : (r : Error) → was ≡ Shown.a-gather-pending → look u g ≡ Shown.a-gather-failed r → is-none (says e .awaits) ≡ false
 
 -- ---- what is shown, by rows
 
@@ -346,7 +343,7 @@ split-at i f (o ∷ os) (suc a) it l = by (split-at i (f + 1) os a (it .1) (omeg
         at p false d q = let y = r .named p q in (suc (y .0), omega (arith, y .1), ap i (sym (next f (y .0))) ∙ y .2)
 
 -- the item in place a is one of them
-item-in : (i : ℕ → ℕ) (f : ℕ) (os : List ℕ) (a : ℕ) → ItemsAt i f os → a < length os → is-in (i (f + a)) os ≡ true
+pub item-in : (i : ℕ → ℕ) (f : ℕ) (os : List ℕ) (a : ℕ) → ItemsAt i f os → a < length os → is-in (i (f + a)) os ≡ true
 unfolding ItemsAt is-in
 item-in i f [] a it l = absurd (not-suc-le-zero l)
 item-in i f (o ∷ os) zero it l = ap (λ (b : Bool). b || is-in (i (f + 0)) os) (eq-eqb o (i (f + 0)) (sym (it .0) ∙ ap i (plus f)))
@@ -551,24 +548,25 @@ module _ (h : List Entry) (s : Store) (w : SoundStore s) (a : Agrees h s) (k : K
   passed-unraised o (Object.GatherFuture f n GatherState.Completed) q p = refl
   passed-unraised o (Object.GatherFuture f n (GatherState.Failed v)) q p = absurd p
 
-  -- what raises has come to the error, or is reused
-  raises-shown : (o : ℕ) (x : Object) (r : Error) → PollRaises x r → (row-outcome C o x ≡ some (raised r)) ⊎ Reused (shown u x) r
-  unfolding row-outcome shown
-  raises-shown o _ _ (broken c r) = inl refl
-  raises-shown o _ _ (failed f n r) = inl refl
-  raises-shown o _ _ (coroutine-reused f x) = inr (a-coroutine x f)
-  raises-shown o _ _ (future-reused c b r) = inr an-external
-  raises-shown o _ _ (gather-reused f n b m) = inr (a-gather _)
+  -- what raises has come to the error, or is in use
+  raises-came : (g o : ℕ) (x : Object) (r : Error) → PollRaises u g o x r → (row-outcome C o x ≡ some (raised r)) ⊎ Reuses u g o x r
+  unfolding row-outcome
+  raises-came g o _ _ (broken c r) = inl refl
+  raises-came g o _ _ (failed f n r) = inl refl
+  raises-came g o x r (reuses _ _ k) = inr k
 
-  was-pending : (g f n j m : ℕ) (r : Error) → g < header s .made → object s g ≡ Object.GatherFuture f n GatherState.Pending → object u g ≡ Object.GatherFuture j m (GatherState.Failed r) → FirstFailed (y ∷ h) (look u) g r
+  was-pending : (g f n j m : ℕ) (r : Error) → g < header s .made → object s g ≡ Object.GatherFuture f n GatherState.Pending → object u g ≡ Object.GatherFuture j m (GatherState.Failed r) → FirstFailed (y ∷ h) u g r
   was-pending g f n j m r l p q =
       record {
         left = sp .left;
         item = it;
         right = sp .right;
         split = items-now g l ∙ sp .whole;
-        raises = raising (raises-shown it (object u it) r (b .raises));
+        made = made-still it (low (b .at) (b .under));
+        raises = raising (raises-came g it (object u it) r (b .raises));
         unraised = λ o z. let t = sp .named o z in subst (λ (v : ℕ). error-of (outcome (y ∷ h) (look u) v) ≡ none) (t .2) (unraised-at (t .0) (t .1));
+        first = λ z. let t = sp .named it z in b .first (t .0) (t .1) (t .2);
+        on = b .on;
       }
     where
       b : CommitFailed s u g r
@@ -586,19 +584,19 @@ module _ (h : List Entry) (s : Store) (w : SoundStore s) (a : Agrees h s) (k : K
       low : (v : ℕ) → v < count-of (object s g) → item-at s g v < header s .made
       low v c = item-low g v f n GatherState.Pending l p c
 
-      raising : (row-outcome C it (object u it) ≡ some (raised r)) ⊎ Reused (shown u (object u it)) r → (outcome (y ∷ h) (look u) it ≡ some (raised r)) ⊎ Reused (look u it) r
+      raising : (row-outcome C it (object u it) ≡ some (raised r)) ⊎ Reuses u g it (object u it) r → (outcome (y ∷ h) (look u) it ≡ some (raised r)) ⊎ Reuses u g it (object u it) r
       raising (inl z) = inl (outcome-now it (low (b .at) (b .under)) ∙ z)
-      raising (inr z) = inr (subst (λ (v : Shown). Reused v r) (sym (look-now it (low (b .at) (b .under)))) z)
+      raising (inr z) = inr z
 
       unraised-at : (v : ℕ) → v < b .at → error-of (outcome (y ∷ h) (look u) (item-at s g v)) ≡ none
       unraised-at v c = ap error-of (outcome-now (item-at s g v) (low v (omega (arith, c, b .under)))) ∙ passed-unraised (item-at s g v) (object u (item-at s g v)) refl (b .left v c)
 
   -- ---- every gather
 
-  pub accepted-gather : (g : ℕ) → GatherFails e (look s g) (y ∷ h) (look u) g
+  pub accepted-gather : (g : ℕ) → GatherFails e (look s g) (y ∷ h) u g
   accepted-gather g = by (look-row s g w)
     where
-      by : ((g < header s .made) × (look s g ≡ shown s (object s g))) ⊎ ((header s .made ≤ g) × (look s g ≡ Shown.nothing)) → GatherFails e (look s g) (y ∷ h) (look u) g
+      by : ((g < header s .made) × (look s g ≡ shown s (object s g))) ⊎ ((header s .made ≤ g) × (look s g ≡ Shown.nothing)) → GatherFails e (look s g) (y ∷ h) u g
       by (inl z) =
           record {
             moves = subst (λ (v : Shown). ShownMoves v (look u g)) (sym (z .1)) (subst (ShownMoves (shown s (object s g))) (sym (look-now g (z .0))) (moved-shown s u (object s g) (object u g) (fl .moves g (z .0))));
@@ -670,8 +668,8 @@ shown-same (Shown.a-gather-failed e) = refl
 shown-same Shown.nothing = tt
 
 -- where nothing is shown otherwise, nothing has failed
-same-gather : (e : Event) (was : Shown) (h : List Entry) (shows : ℕ → Shown) (g : ℕ) → shows g ≡ was → GatherFails e was h shows g
-same-gather e was h shows g q =
+same-gather : (e : Event) (was : Shown) (h : List Entry) (u : Store) (g : ℕ) → look u g ≡ was → GatherFails e was h u g
+same-gather e was h u g q =
     record {
       moves = subst (ShownMoves was) (sym q) (shown-same was);
       awaited = λ vs r p z. absurd (subst IsAwaited (sym p ∙ (sym q ∙ z)) tt);
@@ -688,7 +686,7 @@ look-forget s g = ap (λ (x : Step). shown-by (x .answer)) (step-forget s (Event
 
 record StepFails (h : List Entry) (s : Store) (e : Event) (x : Step) : Type 0 where
   knows : Knows (entry-of e (x .answer) (x .store) ∷ h) (x .store)
-  gathers : (g : ℕ) → GatherFails e (look s g) (entry-of e (x .answer) (x .store) ∷ h) (look (x .store)) g
+  gathers : (g : ℕ) → GatherFails e (look s g) (entry-of e (x .answer) (x .store) ∷ h) (x .store) g
 
 step-fails : (h : List Entry) (s : Store) (e : Event) → SoundStore s → Agrees h s → Knows h s → InRange e → StepFails h s e (step s e)
 step-fails h s e w a k i = by (ℕ-discrete (refusal s e) 0)
@@ -707,7 +705,7 @@ step-fails h s e w a k i = by (ℕ-discrete (refusal s e) 0)
         subst (StepFails h s e) (sym (accepted-step s e r))
         (record {
           knows = step-knows h z wz (forget-agrees h s a) (forget-knows h s k) blank e (accept z e) (accept-fails z wz e i rz) (accept-accepts z e) rz;
-          gathers = λ g. subst (λ (v : Shown). GatherFails e v (entry-of e (accept z e .answer) (accept z e .store) ∷ h) (look (accept z e .store)) g) (look-forget s g)
+          gathers = λ g. subst (λ (v : Shown). GatherFails e v (entry-of e (accept z e .answer) (accept z e .store) ∷ h) (accept z e .store) g) (look-forget s g)
               (accepted-gather h z wz (forget-agrees h s a) (forget-knows h s k) blank e i rz sound g);
         })
       where
@@ -720,13 +718,13 @@ step-fails h s e w a k i = by (ℕ-discrete (refusal s e) 0)
         subst (StepFails h s e) (sym (refused-step s e (refusal s e) refl ne))
         (record {
           knows = refused-knows h s z e (refusal s e) (unfold header forget in refl) (λ t. unfold task forget in refl) (λ o. unfold object forget in refl) k;
-          gathers = λ g. same-gather e (look s g) _ (look z) g (look-forget s g);
+          gathers = λ g. same-gather e (look s g) _ z g (look-forget s g);
         })
 
 -- ---- sessions
 
-send-fails : (x : Session) (e : Sent) → InRange (e .event) → Following x → Agrees (x .history) (x .store) → Knows (x .history) (x .store)
-    → Knows (send x e .history) (send x e .store) × ((g : ℕ) → GatherFails (e .event) (look (x .store) g) (send x e .history) (look (send x e .store)) g)
+pub send-fails : (x : Session) (e : Sent) → InRange (e .event) → Following x → Agrees (x .history) (x .store) → Knows (x .history) (x .store)
+    → Knows (send x e .history) (send x e .store) × ((g : ℕ) → GatherFails (e .event) (look (x .store) g) (send x e .history) (send x e .store) g)
 unfolding send
 send-fails x e i f a k = by (sends s e (f .whole .memory .sized))
   where
@@ -737,15 +735,15 @@ send-fails x e i f a k = by (sends s e (f .whole .memory .sized))
     h = x .history
 
     by : Sends s e → Knows (entry-of (e .event) (lent-any s e .answer) (lent-any s e .store) ∷ h) (lent-any s e .store)
-        × ((g : ℕ) → GatherFails (e .event) (look s g) (entry-of (e .event) (lent-any s e .answer) (lent-any s e .store) ∷ h) (look (lent-any s e .store)) g)
+        × ((g : ℕ) → GatherFails (e .event) (look s g) (entry-of (e .event) (lent-any s e .answer) (lent-any s e .store) ∷ h) (lent-any s e .store) g)
     by (stepped p q) =
-        subst (λ (c : Answer). Knows (entry-of (e .event) c (lent-any s e .store) ∷ h) (lent-any s e .store) × ((g : ℕ) → GatherFails (e .event) (look s g) (entry-of (e .event) c (lent-any s e .store) ∷ h) (look (lent-any s e .store)) g)) (sym q)
-        (subst (λ (u : Store). Knows (entry-of (e .event) (step s (e .event) .answer) u ∷ h) u × ((g : ℕ) → GatherFails (e .event) (look s g) (entry-of (e .event) (step s (e .event) .answer) u ∷ h) (look u) g)) (sym p)
+        subst (λ (c : Answer). Knows (entry-of (e .event) c (lent-any s e .store) ∷ h) (lent-any s e .store) × ((g : ℕ) → GatherFails (e .event) (look s g) (entry-of (e .event) c (lent-any s e .store) ∷ h) (lent-any s e .store) g)) (sym q)
+        (subst (λ (u : Store). Knows (entry-of (e .event) (step s (e .event) .answer) u ∷ h) u × ((g : ℕ) → GatherFails (e .event) (look s g) (entry-of (e .event) (step s (e .event) .answer) u ∷ h) u g)) (sym p)
         (let r = step-fails h s (e .event) (f .whole) a k i in (r .knows, r .gathers)))
     by (short p q) =
-        subst (λ (c : Answer). Knows (entry-of (e .event) c (lent-any s e .store) ∷ h) (lent-any s e .store) × ((g : ℕ) → GatherFails (e .event) (look s g) (entry-of (e .event) c (lent-any s e .store) ∷ h) (look (lent-any s e .store)) g)) (sym q)
-        (subst (λ (u : Store). Knows (entry-of (e .event) (Answer.refused 1) u ∷ h) u × ((g : ℕ) → GatherFails (e .event) (look s g) (entry-of (e .event) (Answer.refused 1) u ∷ h) (look u) g)) (sym p)
-        (refused-knows h s s (e .event) 1 refl (λ t. refl) (λ o. refl) k, λ g. same-gather (e .event) (look s g) _ (look s) g refl))
+        subst (λ (c : Answer). Knows (entry-of (e .event) c (lent-any s e .store) ∷ h) (lent-any s e .store) × ((g : ℕ) → GatherFails (e .event) (look s g) (entry-of (e .event) c (lent-any s e .store) ∷ h) (lent-any s e .store) g)) (sym q)
+        (subst (λ (u : Store). Knows (entry-of (e .event) (Answer.refused 1) u ∷ h) u × ((g : ℕ) → GatherFails (e .event) (look s g) (entry-of (e .event) (Answer.refused 1) u ∷ h) u g)) (sym p)
+        (refused-knows h s s (e .event) 1 refl (λ t. refl) (λ o. refl) k, λ g. same-gather (e .event) (look s g) _ s g refl))
 
 begun-knows : Knows [] fresh
 unfolding computes coroutine-of failed-error
@@ -770,5 +768,5 @@ session-knows es i = all-know es begun i (session-follows [] tt) (session-agrees
 
 -- One more event, in any session: what it does to every gather.
 pub session-fails : (es : List Sent) (e : Sent) → AllSentInRange es → InRange (e .event) → (g : ℕ)
-    → GatherFails (e .event) (look (session es .store) g) (send (session es) e .history) (look (send (session es) e .store)) g
+    → GatherFails (e .event) (look (session es .store) g) (send (session es) e .history) (send (session es) e .store) g
 session-fails es e i j g = send-fails (session es) e j (session-follows es i) (session-agrees es i) (session-knows es i) .1 g

@@ -21,10 +21,11 @@ use Rattle.asyncio.specs.Numbers.{task-id}
 use Rattle.asyncio.specs.Parts.{first-of, count-of}
 use Rattle.asyncio.specs.States.{is-live, is-unstarted}
 use Rattle.machine.specs.Store.{Store, task, object, place, header}
-use Rattle.machine.specs.Scheduler.{AwaitedGather, as-awaited}
+use Rattle.machine.specs.Scheduler.{AwaitedGather, PendingExternal, as-awaited, as-pending}
 use Rattle.machine.specs.Events.{How, start, Control, runs, Result}
 use Rattle.machine.specs.Machine.{Event, Answer, Step}
 use Rattle.machine.specs.History.{says, tells, is-none, spawned-by, reply-error}
+use Rattle.machine.specs.Sound.{is-ended}
 use Rattle.machine.specs.Honest.{exits-in}
 use Rattle.machine_sessions.specs.Gather.Failing.{RowMoves}
 use Rattle.machine_sessions.specs.Gather.FailingRows.{ItemAt, Raised, ExitAs}
@@ -70,13 +71,43 @@ pub record FailedBy (e : Event) (s u : Store) (g : ℕ) (x : Error) : Type 0 whe
 abbrev pub item-at : Store → ℕ → ℕ → ℕ
 item-at s g j = place s (first-of (object s g) + j) .item .0
 
--- such an object raises the error when it is polled
-pub data PollRaises : Object → Error → Type 0 where
-  broken : (c : CallId) (e : Error) → PollRaises (Object.ExternalFuture c (ExternalFutureState.Failed e)) e
-  failed : (f n : ℕ) (e : Error) → PollRaises (Object.GatherFuture f n (GatherState.Failed e)) e
-  coroutine-reused : (f : ℕ) (x : CoroutineState) → PollRaises (Object.Coroutine f x) Error.CoroutineReuse
-  future-reused : (c : CallId) (a : Awaiter) (r : OptionValue) → PollRaises (Object.ExternalFuture c (ExternalFutureState.Pending a r)) Error.FutureReuse
-  gather-reused : (f n : ℕ) (a : Awaiter) (m : ℕ) → PollRaises (Object.GatherFuture f n (GatherState.Awaited a m)) Error.GatherReuse
+-- the awaiter is somebody, and no slot of gather g
+abbrev pub Other : ℕ → Awaiter → Type 0
+Other g Awaiter.Nobody = ⊥
+Other g (Awaiter.Task t) = Unit {0}
+Other g (Awaiter.GatherSlot f x) = f .0 ≡ g → ⊥
+
+-- the awaiter is no slot of gather g
+abbrev pub NoSlot : ℕ → Awaiter → Type 0
+NoSlot g Awaiter.Nobody = Unit {0}
+NoSlot g (Awaiter.Task t) = Unit {0}
+NoSlot g (Awaiter.GatherSlot f x) = f .0 ≡ g → ⊥
+
+-- a live spawned task of coroutine o, whose result goes to another gather than g
+pub record TaskFor (u : Store) (g o : ℕ) : Type 0 where
+  pub who : ℕ
+  pub low : suc who < header u .next
+  pub live : is-live (task u (suc who) .state) ≡ true
+  pub coroutine : task u (suc who) .coroutine .0 ≡ o
+  pub awaiter : Other g (task u (suc who) .awaiter)
+
+-- coroutine o is in use: it is not new, or has such a task
+abbrev pub Busy : Store → ℕ → ℕ → CoroutineState → Type 0
+Busy u g o CoroutineState.New = TaskFor u g o
+Busy u g o CoroutineState.Running = Unit {0}
+Busy u g o CoroutineState.Completed = Unit {0}
+
+-- object o, so in u, is in use when gather g polls it, and raises the error
+pub data Reuses (u : Store) (g o : ℕ) : Object → Error → Type 0 where
+  coroutine-reused : (f : ℕ) (x : CoroutineState) → Busy u g o x → Reuses u g o (Object.Coroutine f x) Error.CoroutineReuse
+  future-reused : (c : CallId) (a : Awaiter) (r : OptionValue) → Other g a → Reuses u g o (Object.ExternalFuture c (ExternalFutureState.Pending a r)) Error.FutureReuse
+  gather-reused : (f n : ℕ) (a : Awaiter) (m : ℕ) → NoSlot g a → Reuses u g o (Object.GatherFuture f n (GatherState.Awaited a m)) Error.GatherReuse
+
+-- it raises the error: it has failed with it, or is in use
+pub data PollRaises (u : Store) (g o : ℕ) : Object → Error → Type 0 where
+  broken : (c : CallId) (e : Error) → PollRaises u g o (Object.ExternalFuture c (ExternalFutureState.Failed e)) e
+  failed : (f n : ℕ) (e : Error) → PollRaises u g o (Object.GatherFuture f n (GatherState.Failed e)) e
+  reuses : (x : Object) (e : Error) → Reuses u g o x e → PollRaises u g o x e
 
 -- such an object did not raise: a new coroutine, an external that has not failed, a gather that is awaited or completed
 abbrev pub Passed : Object → Type 0
@@ -92,19 +123,70 @@ Passed (Object.GatherFuture f n (GatherState.Awaited a m)) = Unit {0}
 Passed (Object.GatherFuture f n GatherState.Completed) = Unit {0}
 Passed (Object.GatherFuture f n (GatherState.Failed e)) = ⊥
 
--- the item in place `at` raises x, and none to its left has raised
+-- such an object has given a value: a resolved external, a completed gather
+abbrev pub Settled : Object → Type 0
+Settled Object.Unmade = ⊥
+Settled (Object.Coroutine f x) = ⊥
+Settled (Object.ExternalFuture c (ExternalFutureState.Pending a r)) = ⊥
+Settled (Object.ExternalFuture c (ExternalFutureState.Resolved v)) = Unit {0}
+Settled (Object.ExternalFuture c (ExternalFutureState.Failed e)) = ⊥
+Settled (Object.GatherFuture f n GatherState.Pending) = ⊥
+Settled (Object.GatherFuture f n (GatherState.Awaited a m)) = ⊥
+Settled (Object.GatherFuture f n GatherState.Completed) = Unit {0}
+Settled (Object.GatherFuture f n (GatherState.Failed e)) = ⊥
+
+-- the item in place `at`, which no place to its left names, raises x, and none to its left has raised
 pub record CommitFailed (s u : Store) (g : ℕ) (x : Error) : Type 0 where
   pub at : ℕ
   pub under : at < count-of (object s g)
-  pub raises : PollRaises (object u (item-at s g at)) x
+  pub raises : PollRaises u g (item-at s g at) (object u (item-at s g at)) x
   pub left : (j : ℕ) → j < at → Passed (object u (item-at s g j))
+  pub first : (j : ℕ) → j < at → item-at s g j ≡ item-at s g at → ⊥
+  -- the session goes on
+  pub on : is-ended (header u .moment) ≡ false
+
+-- ---- who came to be an awaiter
+
+-- the awaiter is a slot of a gather that has object o among its items (or nobody)
+abbrev pub ItemSlot : Store → ℕ → Awaiter → Type 0
+ItemSlot s o Awaiter.Nobody = Unit {0}
+ItemSlot s o (Awaiter.Task t) = ⊥
+ItemSlot s o (Awaiter.GatherSlot f x) = ItemAt s (f .0) o
+
+-- external o was pending with this awaiter
+abbrev pub HadAwaiter : Store → ℕ → Awaiter → Type 0
+HadAwaiter s o a = (p : PendingExternal) × (as-pending (object s o) ≡ some p) × (p .awaiter ≡ a)
+
+-- it had it, or is an item of the gather whose slot that is
+abbrev pub Took : Store → ℕ → Awaiter → Type 0
+Took s o a = HadAwaiter s o a ⊎ ItemSlot s o a
+
+-- gather o was awaited, by this awaiter
+abbrev pub HadOpen : Store → ℕ → Awaiter → Type 0
+HadOpen s o a = (v : AwaitedGather) × (as-awaited (object s o) ≡ some v) × (v .awaiter ≡ a)
+
+-- the awaiter is a slot of a gather that has object o among its items
+abbrev pub SlotIn : Store → ℕ → Awaiter → Type 0
+SlotIn s o Awaiter.Nobody = ⊥
+SlotIn s o (Awaiter.Task t) = ⊥
+SlotIn s o (Awaiter.GatherSlot f x) = ItemAt s (f .0) o
+
+-- it was, or it is an item of the gather whose slot that is
+abbrev pub Opens : Store → ℕ → Awaiter → Type 0
+Opens s o a = HadOpen s o a ⊎ SlotIn s o a
+
+-- the awaiter is a task, and the event awaits object o
+abbrev pub TookTask : Event → ℕ → Awaiter → Type 0
+TookTask e o Awaiter.Nobody = ⊥
+TookTask e o (Awaiter.Task t) = says e .awaits ≡ some o
+TookTask e o (Awaiter.GatherSlot f x) = ⊥
 
 -- ---- the event
 
--- a task that lives after the event lived before it, with the same coroutine; or the event has spawned it, for its coroutine
+-- a task that lives after the event lived before it, with the same coroutine and awaiter; or the event has spawned it, for its coroutine, an item of its gather
 pub data TaskFrom (s u : Store) (t : ℕ) : Type 0 where
-  lived : t < header s .next → is-live (task s t .state) ≡ true → task u t .coroutine .0 ≡ task s t .coroutine .0 → TaskFrom s u t
-  is-new : header s .next ≤ t → ((b : Option ℕ) → spawned-by b (u .log) t ≡ some (task u t .coroutine .0)) → TaskFrom s u t
+  lived : t < header s .next → is-live (task s t .state) ≡ true → task u t .coroutine .0 ≡ task s t .coroutine .0 → task u t .awaiter ≡ task s t .awaiter → TaskFrom s u t
+  is-new : header s .next ≤ t → ((b : Option ℕ) → spawned-by b (u .log) t ≡ some (task u t .coroutine .0)) → ItemSlot s (task u t .coroutine .0) (task u t .awaiter) → TaskFrom s u t
 
 pub record EventFails (e : Event) (s : Store) (x : Step) : Type 0 where
   pub moves : (o : ℕ) → o < header s .made → RowMoves (object s o) (object (x .store) o)
@@ -115,6 +197,10 @@ pub record EventFails (e : Event) (s : Store) (x : Step) : Type 0 where
   -- only an await commits
   pub committing : (g f n h k : ℕ) (y : Error) → g < header s .made → object s g ≡ Object.GatherFuture f n GatherState.Pending → object (x .store) g ≡ Object.GatherFuture h k (GatherState.Failed y)
       → is-none (says e .awaits) ≡ false
+  -- a pending external took its awaiter from a gather that has it among its items, or the event awaits it; or it had it
+  pub takes : (o : ℕ) (r : PendingExternal) → as-pending (object (x .store) o) ≡ some r → Took s o (r .awaiter) ⊎ TookTask e o (r .awaiter)
+  -- an awaited gather likewise
+  pub opens : (o : ℕ) (v : AwaitedGather) → as-awaited (object (x .store) o) ≡ some v → Opens s o (v .awaiter) ⊎ TookTask e o (v .awaiter)
   -- who is unstarted was, or is new; a task exits that ends with the event, or that was unstarted; who is spawned is new
   pub grows : header s .next ≤ header (x .store) .next
   pub tasks : (t : ℕ) → t < header (x .store) .next → is-live (task (x .store) t .state) ≡ true → TaskFrom s (x .store) t

@@ -53,7 +53,7 @@ use Rattle.machine_sessions.specs.Places.AgreesSessions.{accept-agrees, 
 use Rattle.machine_sessions.specs.Places.PlacesHold.{row-outcome, outcome-row, shows-made}
 use Rattle.machine_sessions.specs.Gather.Failing.{RowMoves, CoroutineMoves}
 use Rattle.machine_sessions.specs.Gather.FailingRows.{ItemAt, Raised}
-use Rattle.machine_sessions.specs.Gather.FailingStated.{Brings, FailedBy, Passed, PollRaises, broken, failed, coroutine-reused, future-reused, gather-reused, item-at, CommitFailed, EventFails}
+use Rattle.machine_sessions.specs.Gather.FailingStated.{Brings, FailedBy, item-at, CommitFailed, EventFails}
 use Rattle.machine_sessions.specs.Gather.FailingAwait.{accept-fails}
 use Rattle.machine_sessions.specs.Gather.FailingHistory.{Knows, UsedRow, step-knows, raised-outcome}
 use Rattle.machine_theorems.specs.Soundness.Exits.{runner-low, runner-runs}

@@ -169,7 +169,7 @@ pub row-zeros : (n b j m : ℕ) → row-from (replicate {A = ℕ} n 0) b j m ≡
 row-zeros n b j zero = refl
 row-zeros n b j (suc m) = rw (zeros n (b + j), row-zeros n b (suc j) m)
 
-fresh-object : (o : ℕ) → object fresh o ≡ Object.Unmade
+pub fresh-object : (o : ℕ) → object fresh o ≡ Object.Unmade
 fresh-object o = by-header ∙ zero-row
   where
     by-header : object fresh o ≡ object empty o
