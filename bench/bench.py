@@ -29,28 +29,9 @@ SIZES = (16, 64, 128, 256)
 
 # ---- sessions, as texts of records
 
-def small():
-    """A gather of five: two coroutines and three calls, whose replies come out of turn."""
-    texts = ["coroutine 1", "coroutine 2"]
-    for i in range(3):
-        texts += ["call", f"pending {i}"]
-    texts += ["gather 0 2 1 3 4", "await 5", "complete plain 10", "complete plain 20"]
-    texts += [f"results {i} return plain {i}" for i in (2, 0, 1)]
-    return texts + ["resume", "show 5", "complete list 5"]
-
-
-def full():
-    """14 gathers of 32 places in a 15th: 112 tasks, 112 calls, 239 objects, 462 places."""
-    texts = [f"coroutine {i}" for i in range(112)]
-    for i in range(112):
-        texts += ["call", f"pending {i}"]
-    for g in range(14):
-        own = list(range(g * 8, g * 8 + 8)) + list(range(112 + g * 8, 112 + g * 8 + 8))
-        texts.append("gather " + " ".join(str(o) for o in own + own))
-    texts += ["gather " + " ".join(str(224 + g) for g in range(14)), "await 238"]
-    texts += [f"complete plain {i}" for i in range(112)]
-    texts += [f"results {i} return plain {i}" for i in reversed(range(112))]
-    return texts + ["resume", "show 238", "complete list 238"]
+def stored(name):
+    """The records of a stored session: bench/small.txt is a gather of five with replies out of turn, bench/full.txt 14 gathers of 32 places and 112 tasks."""
+    return [encoded for encoded, _ in records.records((ROOT / f"bench/{name}.txt").read_text())]
 
 
 def waits(order):
@@ -99,7 +80,7 @@ def waiting(objects):
 # ---- measuring
 
 def data_of(texts):
-    return b"".join(records.record(text) for text in texts)
+    return b"".join(text if isinstance(text, bytes) else records.record(text) for text in texts)
 
 
 def output(command, data, lines):
@@ -183,8 +164,8 @@ def main(words):
         rust = [str(ROOT / "harness/target/bench-rust/harness"), "lines"]
         table = Table({"drive": [drive], "rust": rust, "checked": [checked_drive(room)]})
         print("| session | `drive` | the Rust | ratio | unit |\n|---|---|---|---|---|")
-        table.whole(f"small, {len(small())} records", small())
-        table.whole(f"full, {len(full())} records", full())
+        for name in ("small", "full"):
+            table.whole(f"{name}, {len(stored(name))} records", stored(name))
         shuffled = list(range(256))
         random.Random(1).shuffle(shuffled)
         for name, order in (("ascending", range(256)), ("descending", range(255, -1, -1)), ("shuffled", shuffled)):
