@@ -125,9 +125,9 @@ pub record AddFits (v : View) (x : Object) (n : ℕ) (ps : ℕ → Place) (c : �
 -- ---- the words, which no view shows
 
 -- the rows in use (next tasks, made objects, used places) are canonical, and the queue's count is within its places
-pub record WordsFine (next made used : ℕ) (s : Store) : Type 0 where
-  pub header-fine : T (header-canonical (s .objects))
-  pub tasks-fine : (t : ℕ) → t < next → T (task-canonical (s .tasks) t)
-  pub objects-fine : (o : ℕ) → o < made → T (object-canonical (s .objects) o)
-  pub places-fine : (p : ℕ) → p < used → T (place-canonical (s .places) p)
-  pub queue-fine : s .queue .len ≤ task-limit
+pub record WordsInRange (next made used : ℕ) (s : Store) : Type 0 where
+  pub header-right : T (header-canonical (s .objects))
+  pub tasks-right : (t : ℕ) → t < next → T (task-canonical (s .tasks) t)
+  pub objects-right : (o : ℕ) → o < made → T (object-canonical (s .objects) o)
+  pub places-right : (p : ℕ) → p < used → T (place-canonical (s .places) p)
+  pub queue-short : s .queue .len ≤ task-limit

@@ -28,12 +28,12 @@ use Rattle.machine.specs.Sound.{sound, words-in-range, is-ended, value-known, o
 use Rattle.machine.specs.Events.{make-coroutine, make-pending, make-settled, put-items, make-gather}
 use Rattle.machine_laws.specs.Views.{Sized, with-places}
 use Rattle.machine_laws.specs.Statements.{AllBelow, Making}
-use Rattle.machine_laws.specs.Facts.{SoundFacts, WordsFine}
+use Rattle.machine_laws.specs.Facts.{SoundFacts, WordsInRange}
 use Rattle.machine_laws.specs.TestLaws.{is-true, not-not, both, both-left, both-right, or-left, or-right}
 use Rattle.machine_laws.specs.StoreLaws.{sized-forget, sized-put-header, sized-put-place, header-put-header, header-put-object, header-fits}
 use Rattle.machine_laws.specs.MachineLaws.{accepted-step, refused-step, show-step, eager-step}
 use Rattle.machine_laws.specs.FactLaws.{to-facts, to-test}
-use Rattle.machine_laws.specs.WordLaws.{words-facts, words-test, fine-put-object, fine-put-place, fine-put-header}
+use Rattle.machine_laws.specs.WordLaws.{words-facts, words-test, words-put-object, words-put-place, words-put-header}
 use Rattle.machine_laws.specs.MakingLaws.{called-at, added-to, added-fits, blank, next-calls, next-header, next-sized, items-view, items-sized, value-fits, option-fits}
 use Rattle.machine_laws.specs.MakingLaws.{call-keeps, coroutine-keeps, pending-keeps, settled-keeps, gather-keeps}
 use Rattle.machine.specs.Machine.{Event, is-run, any-of, first-refusal, accept, decide, step, in-running, in-waiting, in-both, unmade, result-unknown, full, no-number, refusals, refusal}
@@ -46,24 +46,24 @@ module _ (s : Store) (x : Object) (n : ℕ) (z : Sized s) (l : header s .made < 
   header-add = header-put-object (put-header s (added-to (header s) n)) (header s .made) x ∙ header-put-header s (added-to (header s) n) z (added-fits s n l r)
 
   -- the places that it is given are canonical already
-  add-words : WordsFine (header s .next) (header s .made) (header s .used + n) s → T (words-in-range (add-object s x n))
-  add-words k = words-test (add-object s x n) (subst (λ (h : Header). WordsFine (h .next) (h .made) (h .used) (add-object s x n)) (sym header-add) added)
+  add-words : WordsInRange (header s .next) (header s .made) (header s .used + n) s → T (words-in-range (add-object s x n))
+  add-words k = words-test (add-object s x n) (subst (λ (h : Header). WordsInRange (h .next) (h .made) (h .used) (add-object s x n)) (sym header-add) added)
     where
-      added : WordsFine (header s .next) (header s .made + 1) (header s .used + n) (add-object s x n)
+      added : WordsInRange (header s .next) (header s .made + 1) (header s .used + n) (add-object s x n)
       added = unfold add-object in
-          (fine-put-object _ _ _ (put-header s (added-to (header s) n)) (sized-put-header s (added-to (header s) n) z)
-          (fine-put-header _ _ _ s z k (added-to (header s) n) (added-fits s n l r)) (header s .made + 1) (header s .made) x l f (λ p m ne. omega arith))
+          (words-put-object _ _ _ (put-header s (added-to (header s) n)) (sized-put-header s (added-to (header s) n) z)
+          (words-put-header _ _ _ s z k (added-to (header s) n) (added-fits s n l r)) (header s .made + 1) (header s .made) x l f (λ p m ne. omega arith))
 
 -- the places of the items
-items-words : (os : List ℕ) (s : Store) (p next made : ℕ) → Sized s → p + length os ≤ place-limit → AllBelow object-limit os → WordsFine next made p s
-    → WordsFine next made (p + length os) (put-items s p os)
+items-words : (os : List ℕ) (s : Store) (p next made : ℕ) → Sized s → p + length os ≤ place-limit → AllBelow object-limit os → WordsInRange next made p s
+    → WordsInRange next made (p + length os) (put-items s p os)
 unfolding put-items AllBelow
 items-words [] s p next made z r a k = rw add-zero k
 items-words (o ∷ os) s p next made z r a k =
     let e : p + 1 + length os ≡ p + suc (length os) = omega arith in
-    subst (λ (n : ℕ). WordsFine next made n (put-items (put-place s p (blank o)) (p + 1) os)) e
+    subst (λ (n : ℕ). WordsInRange next made n (put-items (put-place s p (blank o)) (p + 1) os)) e
     (items-words os (put-place s p (blank o)) (p + 1) next made (sized-put-place s p (blank o) z) (omega arith) (a .1)
-    (fine-put-place next made p s z k (p + 1) p (blank o) (omega arith) (record { item-fits = a .0; result-fits = tt }) (λ q m ne. omega arith)))
+    (words-put-place next made p s z k (p + 1) p (blank o) (omega arith) (record { item-fits = a .0; result-fits = tt }) (λ q m ne. omega arith)))
 
 all-below-more : (m n : ℕ) (os : List ℕ) → m ≤ n → AllBelow m os → AllBelow n os
 unfolding AllBelow
@@ -84,12 +84,12 @@ module _ (s : Store) (z : Sized s) (h : T (sound s)) where
   facts : SoundFacts (view s)
   facts = sound-facts s h
 
-  words : WordsFine (header s .next) (header s .made) (header s .used) s
+  words : WordsInRange (header s .next) (header s .made) (header s .used) s
   unfolding sound
   words = words-facts s (both-left _ _ h)
 
-  words-none : WordsFine (header s .next) (header s .made) (header s .used + 0) s
-  words-none = let e : header s .used ≡ header s .used + 0 = omega arith in subst (λ (u : ℕ). WordsFine (header s .next) (header s .made) u s) e words
+  words-none : WordsInRange (header s .next) (header s .made) (header s .used + 0) s
+  words-none = let e : header s .used ≡ header s .used + 0 = omega arith in subst (λ (u : ℕ). WordsInRange (header s .next) (header s .made) u s) e words
 
   no-room : header s .used + 0 ≤ place-limit
   no-room = omega (arith, header-fits s .used-fits)
@@ -98,8 +98,8 @@ module _ (s : Store) (z : Sized s) (h : T (sound s)) where
   unfolding next-calls set-calls
   call-words k =
       let f : HeaderFits (header s) = header-fits s in
-      words-test (next-calls s z) (subst (λ (y : Header). WordsFine (y .next) (y .made) (y .used) (next-calls s z)) (sym (next-header s z k))
-      (fine-put-header _ _ _ s z words _ (record {
+      words-test (next-calls s z) (subst (λ (y : Header). WordsInRange (y .next) (y .made) (y .used) (next-calls s z)) (sym (next-header s z k))
+      (words-put-header _ _ _ s z words _ (record {
         made-fits = f .made-fits;
         used-fits = f .used-fits;
         calls-fit = omega arith;
@@ -132,15 +132,15 @@ module _ (s : Store) (z : Sized s) (h : T (sound s)) where
         e : header u ≡ called-at (header s) (header s .calls + 1) (header s .moment)
         e = next-header s z k
 
-        fine : WordsFine (header u .next) (header u .made) (header u .used + 0) u
-        fine =
+        words-right : WordsInRange (header u .next) (header u .made) (header u .used + 0) u
+        words-right =
             let q : header u .used ≡ header u .used + 0 = omega arith in
-            subst (λ (n : ℕ). WordsFine (header u .next) (header u .made) n u) q (words-facts u (call-words k))
+            subst (λ (n : ℕ). WordsInRange (header u .next) (header u .made) n u) q (words-facts u (call-words k))
 
         settled-words : T (words-in-range (make-settled s v))
         settled-words = unfold make-settled next-calls in
             (add-words u _ 0 (next-sized s z) (subst (λ (y : Header). y .made < object-limit) (sym e) l) (omega (arith, header-fits u .used-fits))
-            (omega arith, value-fits _ (object s) v (omega arith) t) fine)
+            (omega arith, value-fits _ (object s) v (omega arith) t) words-right)
 
     gather-sound : (os : List ℕ) → length os ≤ item-limit → header s .used + length os ≤ place-limit → AllBelow (header s .made) os → T (sound (make-gather s os))
     gather-sound os few r low = sound-from (make-gather s os) gather-words (gather-keeps s os z facts l few r low)
@@ -151,14 +151,14 @@ module _ (s : Store) (z : Sized s) (h : T (sound s)) where
         e : header u ≡ header s
         e = unfold view with-places in (ap (λ (v : View). v .header) (items-view os s (header s .used)))
 
-        fine : WordsFine (header s .next) (header s .made) (header s .used + length os) u
-        fine = items-words os s (header s .used) (header s .next) (header s .made) z r (all-below-more _ object-limit os (omega arith) low) words
+        words-right : WordsInRange (header s .next) (header s .made) (header s .used + length os) u
+        words-right = items-words os s (header s .used) (header s .next) (header s .made) z r (all-below-more _ object-limit os (omega arith) low) words
 
         gather-words : T (words-in-range (make-gather s os))
         gather-words = unfold make-gather in
             (add-words u _ (length os) (items-sized os s (header s .used) z) (subst (λ (y : Header). y .made < object-limit) (sym e) l)
             (subst (λ (y : Header). y .used + length os ≤ place-limit) (sym e) r) (record { within = r; at-most = few }, tt)
-            (subst (λ (y : Header). WordsFine (y .next) (y .made) (y .used + length os) u) (sym e) fine))
+            (subst (λ (y : Header). WordsInRange (y .next) (y .made) (y .used + length os) u) (sym e) words-right))
 
 -- what has happened meets no check
 pub refusals-forget : (s : Store) (e : Event) → refusals (forget s) e ≡ refusals s e

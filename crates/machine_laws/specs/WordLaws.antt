@@ -24,30 +24,30 @@ use Rattle.machine.specs.Tests.{all-below}
 use Rattle.machine.specs.Store.{Store, header, put-task, put-object, put-place, put-header, put-queue, add-log, forget, LogEntry}
 use Rattle.machine.specs.Sound.{words-in-range}
 use Rattle.machine_laws.specs.Views.{Sized}
-use Rattle.machine_laws.specs.Facts.{WordsFine}
+use Rattle.machine_laws.specs.Facts.{WordsInRange}
 use Rattle.machine_laws.specs.TestLaws.{holds, both, both-left, both-right, below, from-below}
 
 -- ---- the test and the facts
 
-pub words-facts : (s : Store) → T (words-in-range s) → WordsFine (header s .next) (header s .made) (header s .used) s
+pub words-facts : (s : Store) → T (words-in-range s) → WordsInRange (header s .next) (header s .made) (header s .used) s
 unfolding words-in-range
 words-facts s h =
     let h2 = both-right (header-canonical (s .objects)) _ h in
     let h3 = both-right (all-below (header s .next) (λ t. task-canonical (s .tasks) t)) _ h2 in
     let h4 = both-right (all-below (header s .made) (λ o. object-canonical (s .objects) o)) _ h3 in
     record {
-      header-fine = both-left _ _ h;
-      tasks-fine = below (header s .next) _ (both-left _ _ h2);
-      objects-fine = below (header s .made) _ (both-left _ _ h3);
-      places-fine = below (header s .used) _ (both-left _ _ h4);
-      queue-fine = leb→le (s .queue .len) task-limit (both-right (all-below (header s .used) (λ p. place-canonical (s .places) p)) _ h4);
+      header-right = both-left _ _ h;
+      tasks-right = below (header s .next) _ (both-left _ _ h2);
+      objects-right = below (header s .made) _ (both-left _ _ h3);
+      places-right = below (header s .used) _ (both-left _ _ h4);
+      queue-short = leb→le (s .queue .len) task-limit (both-right (all-below (header s .used) (λ p. place-canonical (s .places) p)) _ h4);
     }
 
-pub words-test : (s : Store) → WordsFine (header s .next) (header s .made) (header s .used) s → T (words-in-range s)
+pub words-test : (s : Store) → WordsInRange (header s .next) (header s .made) (header s .used) s → T (words-in-range s)
 unfolding words-in-range
 words-test s h =
-    both _ _ (h .header-fine) (both _ _ (from-below (header s .next) _ (h .tasks-fine)) (both _ _ (from-below (header s .made) _ (h .objects-fine))
-    (both _ _ (from-below (header s .used) _ (h .places-fine)) (le→leb (s .queue .len) task-limit (h .queue-fine)))))
+    both _ _ (h .header-right) (both _ _ (from-below (header s .next) _ (h .tasks-right)) (both _ _ (from-below (header s .made) _ (h .objects-right))
+    (both _ _ (from-below (header s .used) _ (h .places-right)) (le→leb (s .queue .len) task-limit (h .queue-short)))))
 
 -- ---- rows
 
@@ -100,74 +100,74 @@ header-row w h l f = holds _ (canonical-put header-codec w 0 h f l)
 
 -- ---- the store: the rows in use are then those that were, and the one that was written
 
-module _ (next made used : ℕ) (s : Store) (z : Sized s) (k : WordsFine next made used s) where
-  pub fine-put-task : (n t : ℕ) (r : Task) → t < task-limit → TaskFits r → ((u : ℕ) → u < n → (u ≡ t → ⊥) → u < next) → WordsFine n made used (put-task s t r)
+module _ (next made used : ℕ) (s : Store) (z : Sized s) (k : WordsInRange next made used s) where
+  pub words-put-task : (n t : ℕ) (r : Task) → t < task-limit → TaskFits r → ((u : ℕ) → u < n → (u ≡ t → ⊥) → u < next) → WordsInRange n made used (put-task s t r)
   unfolding put-task
-  fine-put-task n t r l f h = record {
-    header-fine = k .header-fine;
-    tasks-fine = λ u m. task-row (s .tasks) t u r (omega (arith, z .tasks-sized)) f (λ ne. k .tasks-fine u (h u m ne));
-    objects-fine = k .objects-fine;
-    places-fine = k .places-fine;
-    queue-fine = k .queue-fine;
+  words-put-task n t r l f h = record {
+    header-right = k .header-right;
+    tasks-right = λ u m. task-row (s .tasks) t u r (omega (arith, z .tasks-sized)) f (λ ne. k .tasks-right u (h u m ne));
+    objects-right = k .objects-right;
+    places-right = k .places-right;
+    queue-short = k .queue-short;
   }
 
-  pub fine-put-object : (n o : ℕ) (r : Object) → o < object-limit → ObjectFits r → ((p : ℕ) → p < n → (p ≡ o → ⊥) → p < made)
-      → WordsFine next n used (put-object s o r)
+  pub words-put-object : (n o : ℕ) (r : Object) → o < object-limit → ObjectFits r → ((p : ℕ) → p < n → (p ≡ o → ⊥) → p < made)
+      → WordsInRange next n used (put-object s o r)
   unfolding put-object
-  fine-put-object n o r l f h = record {
-    header-fine = subst T (sym (header-row-object (s .objects) o r)) (k .header-fine);
-    tasks-fine = k .tasks-fine;
-    objects-fine = λ p m. object-row (s .objects) o p r (omega (arith, z .objects-sized)) f (λ ne. k .objects-fine p (h p m ne));
-    places-fine = k .places-fine;
-    queue-fine = k .queue-fine;
+  words-put-object n o r l f h = record {
+    header-right = subst T (sym (header-row-object (s .objects) o r)) (k .header-right);
+    tasks-right = k .tasks-right;
+    objects-right = λ p m. object-row (s .objects) o p r (omega (arith, z .objects-sized)) f (λ ne. k .objects-right p (h p m ne));
+    places-right = k .places-right;
+    queue-short = k .queue-short;
   }
 
-  pub fine-put-place : (n p : ℕ) (r : Place) → p < place-limit → PlaceFits r → ((q : ℕ) → q < n → (q ≡ p → ⊥) → q < used) → WordsFine next made n (put-place s p r)
+  pub words-put-place : (n p : ℕ) (r : Place) → p < place-limit → PlaceFits r → ((q : ℕ) → q < n → (q ≡ p → ⊥) → q < used) → WordsInRange next made n (put-place s p r)
   unfolding put-place
-  fine-put-place n p r l f h = record {
-    header-fine = k .header-fine;
-    tasks-fine = k .tasks-fine;
-    objects-fine = k .objects-fine;
-    places-fine = λ q m. place-row (s .places) p q r (omega (arith, z .places-sized)) f (λ ne. k .places-fine q (h q m ne));
-    queue-fine = k .queue-fine;
+  words-put-place n p r l f h = record {
+    header-right = k .header-right;
+    tasks-right = k .tasks-right;
+    objects-right = k .objects-right;
+    places-right = λ q m. place-row (s .places) p q r (omega (arith, z .places-sized)) f (λ ne. k .places-right q (h q m ne));
+    queue-short = k .queue-short;
   }
 
-  pub fine-put-header : (h : Header) → HeaderFits h → WordsFine next made used (put-header s h)
+  pub words-put-header : (h : Header) → HeaderFits h → WordsInRange next made used (put-header s h)
   unfolding put-header
-  fine-put-header h f = record {
-    header-fine = header-row (s .objects) h (omega (arith, z .objects-sized)) f;
-    tasks-fine = k .tasks-fine;
-    objects-fine = λ o m. subst T (sym (object-row-header (s .objects) o h)) (k .objects-fine o m);
-    places-fine = k .places-fine;
-    queue-fine = k .queue-fine;
+  words-put-header h f = record {
+    header-right = header-row (s .objects) h (omega (arith, z .objects-sized)) f;
+    tasks-right = k .tasks-right;
+    objects-right = λ o m. subst T (sym (object-row-header (s .objects) o h)) (k .objects-right o m);
+    places-right = k .places-right;
+    queue-short = k .queue-short;
   }
 
-  pub fine-put-queue : (q : ReadyQueue) → q .len ≤ task-limit → WordsFine next made used (put-queue s q)
+  pub words-put-queue : (q : ReadyQueue) → q .len ≤ task-limit → WordsInRange next made used (put-queue s q)
   unfolding put-queue
-  fine-put-queue q l = record {
-    header-fine = k .header-fine;
-    tasks-fine = k .tasks-fine;
-    objects-fine = k .objects-fine;
-    places-fine = k .places-fine;
-    queue-fine = l;
+  words-put-queue q l = record {
+    header-right = k .header-right;
+    tasks-right = k .tasks-right;
+    objects-right = k .objects-right;
+    places-right = k .places-right;
+    queue-short = l;
   }
 
-  pub fine-add-log : (x : LogEntry) → WordsFine next made used (add-log s x)
+  pub words-add-log : (x : LogEntry) → WordsInRange next made used (add-log s x)
   unfolding add-log
-  fine-add-log x = record {
-    header-fine = k .header-fine;
-    tasks-fine = k .tasks-fine;
-    objects-fine = k .objects-fine;
-    places-fine = k .places-fine;
-    queue-fine = k .queue-fine;
+  words-add-log x = record {
+    header-right = k .header-right;
+    tasks-right = k .tasks-right;
+    objects-right = k .objects-right;
+    places-right = k .places-right;
+    queue-short = k .queue-short;
   }
 
-  pub fine-forget : WordsFine next made used (forget s)
+  pub words-forget : WordsInRange next made used (forget s)
   unfolding forget
-  fine-forget = record {
-    header-fine = k .header-fine;
-    tasks-fine = k .tasks-fine;
-    objects-fine = k .objects-fine;
-    places-fine = k .places-fine;
-    queue-fine = k .queue-fine;
+  words-forget = record {
+    header-right = k .header-right;
+    tasks-right = k .tasks-right;
+    objects-right = k .objects-right;
+    places-right = k .places-right;
+    queue-short = k .queue-short;
   }

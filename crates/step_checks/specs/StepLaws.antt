@@ -127,13 +127,13 @@ module _ (ts os ps : List ℕ) (q : ReadyQueue) (l : List LogEntry) {x : Turn} (
         pending-unknown k = refused-by (Event.pending c r) _ refl 4 (met 5 _ _ (or-second _ _ heard (rw (known-as, k))))
 
         module _ (k : b ≡ true) {d : FoundObject} (m : d ≡ found-object (pending-external-in os c)) where
-          fine : (leb (header-at os .calls) c || not (option-known (header-at os .made) (object-at os) r)) ≡ false
-          fine = or-none _ _ heard (rw (known-as, k))
+          words-right : (leb (header-at os .calls) c || not (option-known (header-at os .made) (object-at os) r)) ≡ false
+          words-right = or-none _ _ heard (rw (known-as, k))
 
           pub pending-again : (n : HeapId) → d ≡ FoundObject.At n → stepped-of here (Answer.Refused 6) ≡ checked here (Event.pending c r)
           unfolding refusals header object pending-external is-some
           pending-again n j =
-              refused-by (Event.pending c r) _ refl 5 (unmet 5 _ _ fine ∙ met 6 _ _ (rw (object-found (pending-external-in os c) n (sym m ∙ j))))
+              refused-by (Event.pending c r) _ refl 5 (unmet 5 _ _ words-right ∙ met 6 _ _ (rw (object-found (pending-external-in os c) n (sym m ∙ j))))
 
           module _ (j : d ≡ FoundObject.Nothing) {u : Bool} (y : u ≡ leb object-limit (header-at os .made)) where
             free : is-some (pending-external-in os c) ≡ false
@@ -142,12 +142,12 @@ module _ (ts os ps : List ℕ) (q : ReadyQueue) (l : List LogEntry) {x : Turn} (
 
             pub pending-full : u ≡ true → stepped-of here (Answer.Refused 7) ≡ checked here (Event.pending c r)
             unfolding refusals header object pending-external full
-            pending-full z = refused-by (Event.pending c r) _ refl 6 (unmet 5 _ _ fine ∙ unmet 6 _ _ free ∙ met 7 _ [] (sym y ∙ z))
+            pending-full z = refused-by (Event.pending c r) _ refl 6 (unmet 5 _ _ words-right ∙ unmet 6 _ _ free ∙ met 7 _ [] (sym y ∙ z))
 
             pub pending-made : u ≡ false → {os′ : List ℕ} {o : HeapId} → o .0 ≡ header-at os .made → store-of ts os′ ps q l ≡ make-pending here c r
                 → stepped-of (store-of ts os′ ps q l) (Answer.Made o) ≡ checked here (Event.pending c r)
             unfolding refusals header object pending-external full accept
-            pending-made z n s = made-answers s n ∙ sym (done (Event.pending c r) _ refl (unmet 5 _ _ fine ∙ unmet 6 _ _ free ∙ unmet 7 _ [] (sym y ∙ z) ∙ none-met))
+            pending-made z n s = made-answers s n ∙ sym (done (Event.pending c r) _ refl (unmet 5 _ _ words-right ∙ unmet 6 _ _ free ∙ unmet 7 _ [] (sym y ∙ z) ∙ none-met))
 
     -- ---- settled
 

@@ -262,7 +262,7 @@ error-is z = refl
 
 module _ (now : ℕ → Came) (os : List ℕ) where
   -- an arrival of an item, with what has come of it, which is e if it is an error
-  pub record Fine (e : Error) (x : Arrival Value Error) : Type 0 where
+  pub record ArrivesWith (e : Error) (x : Arrival Value Error) : Type 0 where
     pub item : is-in (x .awaitable) os ≡ true
     pub own : now (x .awaitable) ≡ some (x .outcome)
     pub only : (z : Error) → x .outcome ≡ raised z → z ≡ e
@@ -279,7 +279,7 @@ module _ (now : ℕ → Came) (os : List ℕ) where
       by (inl z) = ap error-of (ap now (sym z) ∙ q) ∙ (unfold error-of in refl)
       by (inr z) = k p z
 
-  pub first-is : (e : Error) (xs : Arrivals) (seen : List ℕ) → Quiet seen → All (Fine e) xs → Raises e xs → first-raised os seen xs ≡ some e
+  pub first-is : (e : Error) (xs : Arrivals) (seen : List ℕ) → Quiet seen → All (ArrivesWith e) xs → Raises e xs → first-raised os seen xs ≡ some e
   unfolding All Raises Quiet
   first-is e [] seen k a r = absurd r
   first-is e (x ∷ xs) seen k a r = by (x .outcome) refl r (λ sn l w. first-is e xs sn l (a .1) w)
@@ -360,30 +360,30 @@ module _ (now : ℕ → Came) (os : List ℕ) where
     pub own : now (x .awaitable) ≡ some (x .outcome)
     pub only : (z : Error) → x .outcome ≡ raised z → (z ≡ e) ⊎ ((is-late (raised z) ≡ true) × (is-late (raised e) ≡ false))
 
-  all-fine : (e : Error) → is-late (raised e) ≡ true → (xs : Arrivals) → All (Turn e) xs → All (Fine now os e) xs
+  all-arrive-with : (e : Error) → is-late (raised e) ≡ true → (xs : Arrivals) → All (Turn e) xs → All (ArrivesWith now os e) xs
   unfolding All
-  all-fine e l [] a = tt
-  all-fine e l (x ∷ xs) a = (record { item = a .0 .item; own = a .0 .own; only = λ z q. by z (a .0 .only z q) }, all-fine e l xs (a .1))
+  all-arrive-with e l [] a = tt
+  all-arrive-with e l (x ∷ xs) a = (record { item = a .0 .item; own = a .0 .own; only = λ z q. by z (a .0 .only z q) }, all-arrive-with e l xs (a .1))
     where
       by : (z : Error) → (z ≡ e) ⊎ ((is-late (raised z) ≡ true) × (is-late (raised e) ≡ false)) → z ≡ e
       by z (inl w) = w
       by z (inr w) = absurd (true≢false (sym l ∙ w .1))
 
-  early-fine : (e : Error) (xs : Arrivals) → All (Turn e) xs → All (Fine now os e) (early xs)
+  early-arrive-with : (e : Error) (xs : Arrivals) → All (Turn e) xs → All (ArrivesWith now os e) (early xs)
   unfolding All
-  early-fine e [] a = unfold early in tt
-  early-fine e (x ∷ xs) a = by (is-late (x .outcome)) refl (early-fine e xs (a .1))
+  early-arrive-with e [] a = unfold early in tt
+  early-arrive-with e (x ∷ xs) a = by (is-late (x .outcome)) refl (early-arrive-with e xs (a .1))
     where
-      here : is-late (x .outcome) ≡ false → Fine now os e x
+      here : is-late (x .outcome) ≡ false → ArrivesWith now os e x
       here l = record { item = a .0 .item; own = a .0 .own; only = λ z q. one z q (a .0 .only z q) }
         where
           one : (z : Error) → x .outcome ≡ raised z → (z ≡ e) ⊎ ((is-late (raised z) ≡ true) × (is-late (raised e) ≡ false)) → z ≡ e
           one z q (inl w) = w
           one z q (inr w) = absurd (true≢false (sym (w .0) ∙ (sym (ap is-late q) ∙ l)))
 
-      by : (l : Bool) → is-late (x .outcome) ≡ l → All (Fine now os e) (early xs) → All (Fine now os e) (early (x ∷ xs))
-      by true q k = subst (All (Fine now os e)) (sym (early-cons x xs true q)) k
-      by false q k = subst (All (Fine now os e)) (sym (early-cons x xs false q)) (here q, k)
+      by : (l : Bool) → is-late (x .outcome) ≡ l → All (ArrivesWith now os e) (early xs) → All (ArrivesWith now os e) (early (x ∷ xs))
+      by true q k = subst (All (ArrivesWith now os e)) (sym (early-cons x xs true q)) k
+      by false q k = subst (All (ArrivesWith now os e)) (sym (early-cons x xs false q)) (here q, k)
 
   pub first-in-turn : (e : Error) (xs : Arrivals) (seen : List ℕ) → Quiet now os seen → All (Turn e) xs → Raises e xs → first-raised os seen (in-turn xs) ≡ some e
   unfolding in-turn
@@ -392,9 +392,9 @@ module _ (now : ℕ → Came) (os : List ℕ) where
       by : (l : Bool) → is-late (raised e) ≡ l → first-raised os seen (early xs ++ late xs) ≡ some e
       by true q =
           first-is now os e (early xs ++ late xs) seen k
-          (all-++ (Fine now os e) (early xs) (late xs) (all-early (Fine now os e) xs (all-fine e q xs a)) (all-late (Fine now os e) xs (all-fine e q xs a)))
+          (all-++ (ArrivesWith now os e) (early xs) (late xs) (all-early (ArrivesWith now os e) xs (all-arrive-with e q xs a)) (all-late (ArrivesWith now os e) xs (all-arrive-with e q xs a)))
           (raises-right e (early xs) (late xs) (raises-late e xs q r))
-      by false q = first-stays os e (early xs) (late xs) seen (first-is now os e (early xs) seen k (early-fine e xs a) (raises-early e xs q r))
+      by false q = first-stays os e (early xs) (late xs) seen (first-is now os e (early xs) seen k (early-arrive-with e xs a) (raises-early e xs q r))
 
 -- ---- the arrivals of items
 

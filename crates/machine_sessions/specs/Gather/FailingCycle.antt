@@ -234,7 +234,7 @@ module _ (s m : Store) (Young : ℕ → Type 0) (B : Error → Type 0) (X : ℕ 
           let sent : DeliveryEnds r D hd d = failure-keeps r D hd e f u o a (task-delivering u t h l live) in
           let k1 : Failing s m Young B X Q Unit (d .store) = failure-failing s m Young B X P sound up Q (Unit {0}) e f b u o a (task-fits u (suc t) .awaiter-fits) i (by-task q) k in
           exit-left _ (record {
-            mid = remove-keeps (d .store) (suc t) (sent .mid) (subst (λ (y : Header). suc t < y .next) (sym (sent .mid .head)) l) (exited (suc t)) idle refl still;
+            during = remove-keeps (d .store) (suc t) (sent .during) (subst (λ (y : Header). suc t < y .next) (sym (sent .during .head)) l) (exited (suc t)) idle refl still;
             woken = sent .woken;
           }) (failure-activated u (suc t) e (k .sized) f free)
           (failing-as s m Young B X Q R (Unit {0}) _ back (exit-failing s m Young B X Q (Unit {0}) (d .store) (suc t) why k1))
@@ -285,7 +285,7 @@ module _ (s m : Store) (Young : ℕ → Type 0) (B : Error → Type 0) (X : ℕ 
 
           fails : new-function (object u c) ≡ none → LeftAs Over (handle-task-failure act u (suc t) Error.CoroutineReuse)
           fails q =
-              failed-left Q u t Error.CoroutineReuse idle tt reuse l (holds _ live) module-free (λ v d. refl) h rises (inr (refl, refl)) (at-first first) back
+              failed-left Q u t Error.CoroutineReuse idle tt reuse l (holds _ live) module-free (λ v d. refl) h delivers-on (inr (refl, refl)) (at-first first) back
               (failing-as s m Young B X R Q (Unit {0}) u (λ o e r. by-task (inl r)) k)
             where
               Q : ℕ → Error → Type 0
@@ -303,8 +303,8 @@ module _ (s m : Store) (Young : ℕ → Type 0) (B : Error → Type 0) (X : ℕ 
               a : Awaiter
               a = task u (suc t) .awaiter
 
-              rises : Up s m Young B X c a
-              rises = subst (λ (j : ℕ). Up s m Young B X j a) (ap (λ (i : HeapId). i .0) (sym (was .coroutine))) (task-up (suc t) a old low (was .live) (sym (was .awaiter)))
+              delivers-on : Up s m Young B X c a
+              delivers-on = subst (λ (j : ℕ). Up s m Young B X j a) (ap (λ (i : HeapId). i .0) (sym (was .coroutine))) (task-up (suc t) a old low (was .live) (sym (was .awaiter)))
 
               d : Store
               d = deliver-awaiter-failure u a Error.CoroutineReuse .store

@@ -49,7 +49,7 @@ use Rattle.machine_laws.specs.StoreLaws.{header-fits, header-put-header, header
 use Rattle.machine_laws.specs.DeliveryLaws.{absurd-some, pending-object}
 use Rattle.machine_laws.specs.MakingLaws.{value-fits}
 use Rattle.machine_theorems.specs.Soundness.Stores.{idle, SoundDuring, SoundStore, during-of}
-use Rattle.machine_theorems.specs.Soundness.Fill.{ValueRises}
+use Rattle.machine_theorems.specs.Soundness.Fill.{DeliveringValue}
 use Rattle.machine_theorems.specs.Soundness.Exits.{runner-low, runner-runs, runner-live, others-commits-none, completion-delivering, completion-delivery-ends, only-changes-of}
 use Rattle.machine_theorems.specs.Soundness.Cycle.{spawned-of, coroutine-is}
 use Rattle.machine_theorems.specs.Soundness.Results.{resolve-delivering, MayApply, AllApply, host-fits, result-keeps}
@@ -229,15 +229,15 @@ module _ (ev : Event) (s : Store) (w : SoundStore s) where
         row-failing s s (λ g. ⊥) (Brings ev) (RunnerEnds ev s) (RunnerFails ev s) (Unit {0}) u o _ (low-as o l) f (subst (λ (x : Object). ClimbMoves x (Object.ExternalFuture (p .call) y)) (sym (pending-object (object u o) p e)) c)
         (λ a b d v q i. absurd (subst FailedRow (sym i) tt)) (λ i a q. pending-coroutine (object u o) p a CoroutineState.New e q) k
 
-    rises : (o : ℕ) (p : PendingExternal) → o < header u .made → as-pending (object u o) ≡ some p → Goes o (p .awaiter)
-    rises o p l e = external-up o (p .awaiter) (made-as o l) (pending-awaiter (object s o) p (climb-pending (object s o) (object u o) p (k .moves o) e))
+    delivers-on : (o : ℕ) (p : PendingExternal) → o < header u .made → as-pending (object u o) ≡ some p → Goes o (p .awaiter)
+    delivers-on o p l e = external-up o (p .awaiter) (made-as o l) (pending-awaiter (object s o) p (climb-pending (object s o) (object u o) p (k .moves o) e))
 
     resolves : (c : ℕ) (v : Value) → T (value-known (header u .made) (object u) v) → J (resolve-future u c v)
     unfolding resolve-future resolve-pending view
     resolves c v g =
         found c _ (λ o p l e.
         let i = resolve-delivering u h v g o p l e in
-        let fv : ValueFits (value-or (p .stored) v) = value-fits _ _ _ (i .mid .kept .but .fits .made-fits) (i .known) in
+        let fv : ValueFits (value-or (p .stored) v) = value-fits _ _ _ (i .during .kept .but .fits .made-fits) (i .known) in
         success-failing s s (λ g. ⊥) (Brings ev) (RunnerEnds ev s) Nothing (w .facts .but) (λ a b d x l q z y. y) (RunnerFails ev s) (Unit {0}) _ (p .awaiter) (value-or (p .stored) v) (call-fits o p e .1 .0) fv
         (settles o p (ExternalFutureState.Resolved (value-or (p .stored) v)) l e (call-fits o p e .0, fv) (refl, tt)))
 
@@ -246,7 +246,7 @@ module _ (ev : Event) (s : Store) (w : SoundStore s) where
     breaks c x f b =
         found c _ (λ o p l e.
         let fit : ObjectFits (Object.ExternalFuture (p .call) (ExternalFutureState.Failed x)) = (call-fits o p e .0, f) in
-        failure-failing s s (λ g. ⊥) (Brings ev) (RunnerEnds ev s) Nothing (w .facts .but) (λ a b d x l q z y. y) (RunnerFails ev s) (Unit {0}) x f b _ o (p .awaiter) (call-fits o p e .1 .0) (rises o p l e)
+        failure-failing s s (λ g. ⊥) (Brings ev) (RunnerEnds ev s) Nothing (w .facts .but) (λ a b d x l q z y. y) (RunnerFails ev s) (Unit {0}) x f b _ o (p .awaiter) (call-fits o p e .1 .0) (delivers-on o p l e)
         (by-external (p .call) (object-put-object u o _ (k .sized) (low-as o l) fit))
         (settles o p (ExternalFutureState.Failed x) l e fit (refl, tt)))
 

@@ -35,7 +35,7 @@ use Rattle.machine_laws.specs.StoreLaws.{object-put-other, task-fits}
 use Rattle.machine_laws.specs.DeliveryLaws.{absurd-some, awaited-fits, failure-climbs}
 use Rattle.machine_laws.specs.SoundLaws.{refusal-rest}
 use Rattle.machine_theorems.specs.Soundness.Stores.{idle, SoundDuring, SoundStore, during-of}
-use Rattle.machine_theorems.specs.Soundness.Deliver.{Sends, ErrorRises, error-sends, DeliveryEnds, failure-keeps}
+use Rattle.machine_theorems.specs.Soundness.Deliver.{Sends, DeliveringError, error-sends, DeliveryEnds, failure-keeps}
 use Rattle.machine_theorems.specs.Soundness.Cycle.{task-delivering, remove-keeps}
 use Rattle.machine_theorems.specs.Soundness.Exits.{runner-low, runner-runs, runner-live, others-commits-none}
 use Rattle.machine_theorems.specs.Soundness.Preserved.{running}
@@ -70,19 +70,19 @@ to-task-rises s t x = by (is-blocked (task s t .state))
 
 module _ (r : ℕ → Bool) (D : ℕ → Type 0) (hd : Header) (e : Error) (k : ErrorFits e) where
   -- into gather g, and on from there
-  rises-slot : (n : ℕ) (s : Store) (q g x : ℕ) → object-limit ≤ suc n + q → ErrorRises r D hd q s (Awaiter.GatherSlot (heap-id g) (heap-id x))
-      → ((s : Store) (q : ℕ) (a : Awaiter) → object-limit ≤ n + q → ErrorRises r D hd q s a → Rises s (deliver-awaiter-failure s a e .store)) → Rises s (deliver-awaiter-failure s (Awaiter.GatherSlot (heap-id g) (heap-id x)) e .store)
+  rises-slot : (n : ℕ) (s : Store) (q g x : ℕ) → object-limit ≤ suc n + q → DeliveringError r D hd q s (Awaiter.GatherSlot (heap-id g) (heap-id x))
+      → ((s : Store) (q : ℕ) (a : Awaiter) → object-limit ≤ n + q → DeliveringError r D hd q s a → Rises s (deliver-awaiter-failure s a e .store)) → Rises s (deliver-awaiter-failure s (Awaiter.GatherSlot (heap-id g) (heap-id x)) e .store)
   unfolding view
   rises-slot n s q g x f i go = by (as-awaited (object s g)) refl
     where
-      sent : Sends r D hd (ErrorRises r D hd g) q g (fail-gather s g e)
+      sent : Sends r D hd (DeliveringError r D hd g) q g (fail-gather s g e)
       sent = error-sends r D hd e k s q g x i
 
       low : g < object-limit
-      low = omega (arith, i .flight .slot g x refl .made, i .mid .kept .but .fits .made-fits)
+      low = omega (arith, i .detached .slot g x refl .made, i .during .kept .but .fits .made-fits)
 
       z : Sized s
-      z = i .mid .kept .memory .sized
+      z = i .during .kept .memory .sized
 
       by : (w : Option AwaitedGather) → as-awaited (object s g) ≡ w → Rises s (deliver-awaiter-failure s (Awaiter.GatherSlot (heap-id g) (heap-id x)) e .store)
       by none d = unfold deliver-awaiter-failure send-error in (rw (fail-off s g e d) (unfold climb nobody-woken in (same-rises s s (λ o. refl))))
@@ -97,8 +97,8 @@ module _ (r : ℕ → Bool) (D : ℕ → Type 0) (hd : Header) (e : Error) (k : 
           is-put : y ≡ put-object s g (Object.GatherFuture (w .first) (w .count) (GatherState.Failed e))
           is-put = ap (λ (t : Settled). t .store) (fail-on s g e w d)
 
-          next : ErrorRises r D hd g y (w .awaiter)
-          next = sent .rises (w .awaiter) onward
+          next : DeliveringError r D hd g y (w .awaiter)
+          next = sent .delivers-on (w .awaiter) onward
 
           at : Rises s (deliver-awaiter-failure y (w .awaiter) e .store)
           at o p j v a b c = of (ℕ-discrete o g)
@@ -108,20 +108,20 @@ module _ (r : ℕ → Bool) (D : ℕ → Type 0) (hd : Header) (e : Error) (k : 
                   let same : w ≡ v = Option·some-injective w v (sym d ∙ subst (λ (m : ℕ). as-awaited (object s m) ≡ some v) h a) in
                   let to : w .awaiter ≡ Awaiter.GatherSlot (heap-id p) (heap-id j) = ap (λ (t : AwaitedGather). t .awaiter) same ∙ b in
                   subst (λ (t : Awaiter). as-awaited (object (deliver-awaiter-failure y t e .store) p) ≡ none) (sym to)
-                  (failure-settles p y j e (next .mid .kept .memory .sized) (subst AwaiterFits to (awaited-fits s g w d .1 .0) .0) k)
+                  (failure-settles p y j e (next .during .kept .memory .sized) (subst AwaiterFits to (awaited-fits s g w d .1 .0) .0) k)
               of (no ne) =
                   go y g (w .awaiter) (omega (arith, f, sent .up (w .awaiter) onward)) next o p j v
                   (ap (λ (t : Store). as-awaited (object t o)) is-put ∙ (ap as-awaited (object-put-other s g o _ ne) ∙ a)) b c
 
-  rises-climb : (n : ℕ) (s : Store) (q : ℕ) (a : Awaiter) → object-limit ≤ n + q → ErrorRises r D hd q s a → Rises s (deliver-awaiter-failure s a e .store)
+  rises-climb : (n : ℕ) (s : Store) (q : ℕ) (a : Awaiter) → object-limit ≤ n + q → DeliveringError r D hd q s a → Rises s (deliver-awaiter-failure s a e .store)
   unfolding view
-  rises-climb zero s q a f i = absurd (not-suc-le-zero {n = 0} (omega (arith, f, i .flight .made, i .mid .kept .but .fits .made-fits)))
+  rises-climb zero s q a f i = absurd (not-suc-le-zero {n = 0} (omega (arith, f, i .detached .made, i .during .kept .but .fits .made-fits)))
   rises-climb (suc n) s q Awaiter.Nobody f i = unfold deliver-awaiter-failure send-error nobody-woken in (same-rises s s (λ o. refl))
   rises-climb (suc n) s q (Awaiter.Task t) f i = unfold deliver-awaiter-failure send-error in (to-task-rises s (t .0) (TaskState.Raised e))
   rises-climb (suc n) s q (Awaiter.GatherSlot g x) f i = rises-slot n s q (g .0) (x .0) f i (λ y p b j m. rises-climb n y p b j m)
 
   -- An error of object q goes to its awaiter.
-  failure-rises : (s : Store) (q : ℕ) (a : Awaiter) → ErrorRises r D hd q s a → Rises s (deliver-awaiter-failure s a e .store)
+  failure-rises : (s : Store) (q : ℕ) (a : Awaiter) → DeliveringError r D hd q s a → Rises s (deliver-awaiter-failure s a e .store)
   failure-rises s q a i = rises-climb object-limit s q a (omega arith) i
 
 -- ---- a failure of the running task
@@ -145,11 +145,11 @@ module _ (s : Store) (w : SoundStore s) (t n : ℕ) (m : header s .moment ≡ Mo
   a = task s (suc t) .awaiter
 
   -- the error has gone up; the task is gone; others have run
-  abbrev mid : Store
-  mid = deliver-awaiter-failure s (task s (suc t) .awaiter) (Error.Script n) .store
+  abbrev during : Store
+  during = deliver-awaiter-failure s (task s (suc t) .awaiter) (Error.Script n) .store
 
   abbrev left : Store
-  left = add-log (remove-task mid (suc t)) (exited (suc t))
+  left = add-log (remove-task during (suc t)) (exited (suc t))
 
   abbrev end : Store
   end = handle-task-failure activate s (suc t) (Error.Script n) .store
@@ -157,7 +157,7 @@ module _ (s : Store) (w : SoundStore s) (t n : ℕ) (m : header s .moment ≡ Mo
   z : Sized s
   z = w .memory .sized
 
-  rising : ErrorRises (runs-now (header s .moment)) Done (header s) (task s (suc t) .coroutine .0) s a
+  rising : DeliveringError (runs-now (header s .moment)) Done (header s) (task s (suc t) .coroutine .0) s a
   rising = task-delivering s t (during-of s w) (runner-low s (suc t) w m) (runner-live s (suc t) w m)
 
   sent : DeliveryEnds (runs-now (header s .moment)) Done (header s) (deliver-awaiter-failure s a e)
@@ -165,10 +165,10 @@ module _ (s : Store) (w : SoundStore s) (t n : ℕ) (m : header s .moment ≡ Mo
 
   gone : SoundDuring Nothing idle Done (header s) left
   gone =
-      remove-keeps mid (suc t) (sent .mid) (subst (λ (y : Header). suc t < y .next) (sym (sent .mid .head)) (runner-low s (suc t) w m)) (exited (suc t)) idle refl (others-commits-none s (suc t) w m)
+      remove-keeps during (suc t) (sent .during) (subst (λ (y : Header). suc t < y .next) (sym (sent .during .head)) (runner-low s (suc t) w m)) (exited (suc t)) idle refl (others-commits-none s (suc t) w m)
 
   -- up to there only the task's own error fails gathers
-  own : Failing s s (λ g. ⊥) (λ y. y ≡ e) (λ v. ⊥) (λ o y. Unit {0}) Unit mid
+  own : Failing s s (λ g. ⊥) (λ y. y ≡ e) (λ v. ⊥) (λ o y. Unit {0}) Unit during
   own =
       failure-failing s s (λ g. ⊥) (λ y. y ≡ e) (λ v. ⊥) Nothing (w .facts .but) (λ g p x v l d b y. y) (λ o y. Unit {0}) (Unit {0}) e f refl s (task s (suc t) .coroutine .0) a (task-fits s (suc t) .awaiter-fits)
       (runner-up (Event.fail n) s w (suc t) m) (by-task tt) (begins-with s (λ y. y ≡ e) (λ v. ⊥) (λ o y. Unit {0}) z)
@@ -179,7 +179,7 @@ module _ (s : Store) (w : SoundStore s) (t n : ℕ) (m : header s .moment ≡ Mo
   others =
       exit-left left left (λ g. ⊥) B (λ v. ⊥) (λ o y. ⊥) Nothing (gone .kept .but) (λ g p x v l d b y. y) (λ v l j d. refl) (λ v p x l j d b y. y) refl Done (header s) next activate
       (activate-left left left (λ g. ⊥) B (λ v. ⊥) (λ o y. ⊥) Nothing (gone .kept .but) (λ g p x v l d b y. y) (λ v l j d. refl) (λ v p x l j d b y. y) refl Done (header s) next)
-      _ (record { mid = gone; woken = sent .woken }) (failure-activated s (suc t) e z f (ap is-blocked (runner-runs s (suc t) w m)))
+      _ (record { during = gone; woken = sent .woken }) (failure-activated s (suc t) e z f (ap is-blocked (runner-runs s (suc t) w m)))
       (begins-with left B (λ v. ⊥) (λ o y. ⊥) (gone .kept .memory .sized))
     where
       B : Error → Type 0
@@ -189,7 +189,7 @@ module _ (s : Store) (w : SoundStore s) (t n : ℕ) (m : header s .moment ≡ Mo
       next = ap (λ (y : Header). y .next) (sym (gone .head))
 
   -- the task goes, its gathers stay
-  same-row : (o : ℕ) → object left o ≡ object mid o
+  same-row : (o : ℕ) → object left o ≡ object during o
   same-row o = unfold object add-log remove-task remove-from-ready-queue put-queue put-task in refl
 
   not-own : {A : Type 0} → Error.CoroutineReuse ≡ Error.Script n → A
@@ -200,7 +200,7 @@ module _ (s : Store) (w : SoundStore s) (t n : ℕ) (m : header s .moment ≡ Mo
 
   module _ (g i j : ℕ) (v : AwaitedGather) (p : as-awaited (object s g) ≡ some v) (q : object end g ≡ Object.GatherFuture i j (GatherState.Failed Error.CoroutineReuse)) where
     -- it was still awaited when the error had gone up
-    still : as-awaited (object mid g) ≡ none → ⊥
+    still : as-awaited (object during g) ≡ none → ⊥
     still d = by (climb-failed (object left g) (object end g) i j Error.CoroutineReuse (others .failing .moves g) q)
       where
         by : (object left g ≡ Object.GatherFuture i j (GatherState.Failed Error.CoroutineReuse)) ⊎ ((u : AwaitedGather) × (as-awaited (object left g) ≡ some u)) → ⊥
@@ -219,7 +219,7 @@ module _ (s : Store) (w : SoundStore s) (t n : ℕ) (m : header s .moment ≡ Mo
           where
             by : (object left o ≡ Object.GatherFuture c d (GatherState.Failed y)) ⊎ ((u : AwaitedGather) × (as-awaited (object left o) ≡ some u)) → y ≡ Error.CoroutineReuse
             by (inl l) =
-                absurd (still (failure-rises (runs-now (header s .moment)) Done (header s) e f s (task s (suc t) .coroutine .0) a rising o g x u k b (failed-off (object mid o) c d y (sym (same-row o) ∙ l))))
+                absurd (still (failure-rises (runs-now (header s .moment)) Done (header s) e f s (task s (suc t) .coroutine .0) a rising o g x u k b (failed-off (object during o) c d y (sym (same-row o) ∙ l))))
             by (inr l) = others .failing .because o c d y (l .0) (l .1) h .error
 
 -- ---- an accepted failure

@@ -283,7 +283,7 @@ module _ (h : List Entry) (s : Store) (w : SoundStore s) (k : Held h s) (x : Ent
     at-first : R s
     at-first = (
       begins-logged,
-      record { begun = record { sized = w .memory .sized; head = refl; started = λ q v b. idle .begun q v b }; ids = w .memory .ids; len = w .memory .fine .queue-fine; stood = idle .stood },
+      record { begun = record { sized = w .memory .sized; head = refl; started = λ q v b. idle .begun q v b }; ids = w .memory .ids; len = w .memory .words-right .queue-short; stood = idle .stood },
     )
 
     cancelled-all : Removed (cancel-task s t)

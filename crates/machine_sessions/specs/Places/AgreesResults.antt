@@ -274,7 +274,7 @@ module _ (n : ℕ) (i : ℕ → ℕ) (D : ℕ → Option Value) (S : ℕ → Opt
         let v : Value = value-or (p .stored) (to-value (x .tag) (x .number)) in
         let y : Object = Object.ExternalFuture (p .call) (ExternalFutureState.Resolved v) in
         let i0 = resolve-delivering s h (to-value (x .tag) (x .number)) kn o p l e in
-        let vf : ValueFits v = value-fits _ _ _ (i0 .mid .kept .but .fits .made-fits) (i0 .known) in
+        let vf : ValueFits v = value-fits _ _ _ (i0 .during .kept .but .fits .made-fits) (i0 .known) in
         let bk : frozen (to-object (object-words y)) ≡ gave v = ap frozen (object-back y (call-fits o p e .0, vf)) ∙ frozen-gave (p .call) v in
         let k1 = settled s k o p (object-low o l) e y (gave v) bk (free-resolved (p .call) v) in
         let own0 : EndsTask o (p .awaiter) = awaiter-own s k o p (object-low o l) e y (gave v) bk (free-resolved (p .call) v) in

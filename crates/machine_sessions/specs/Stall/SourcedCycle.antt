@@ -258,7 +258,7 @@ module _ (G : ℕ → Type 0) (D : ℕ → Type 0) (hd : Header) where
         → Sourced G (resume-after-task-exit act d .store)
     unfolding Keeps remove-from-ready-queue put-queue task
     exit-sourced d h active k =
-        exit-by D hd (λ x y. Sourced G (x .store)) act act d h (yield-sourced (d .store) (h .mid .kept .memory .sized) k)
+        exit-by D hd (λ x y. Sourced G (x .store)) act act d h (yield-sourced (d .store) (h .during .kept .memory .sized) k)
         (λ q u l off r m. go (put-queue (d .store) q) u l (ready-activated _ r) m (queue-sourced (d .store) q k))
         (λ q u e l off m. go (put-queue (d .store) q) u l (active u e) m (queue-sourced (d .store) q k))
 
@@ -269,14 +269,14 @@ module _ (G : ℕ → Type 0) (D : ℕ → Type 0) (hd : Header) where
         let a : Awaiter = task s (suc t) .awaiter in
         let z : Sized s = h .kept .memory .sized in
         let d : Delivery = deliver-awaiter-failure s a e in
-        let rises = task-delivering s t h l live in
-        let sent : DeliveryEnds r D hd d = failure-keeps r D hd e f s (task s (suc t) .coroutine .0) a rises in
-        let k1 : Sourced G (d .store) = failure-sourced _ r D hd e f s (task s (suc t) .coroutine .0) a rises (but-of s k) in
+        let delivers-on = task-delivering s t h l live in
+        let sent : DeliveryEnds r D hd d = failure-keeps r D hd e f s (task s (suc t) .coroutine .0) a delivers-on in
+        let k1 : Sourced G (d .store) = failure-sourced _ r D hd e f s (task s (suc t) .coroutine .0) a delivers-on (but-of s k) in
         exit-sourced _ (record {
-          mid = remove-keeps (d .store) (suc t) (sent .mid) (subst (λ (y : Header). suc t < y .next) (sym (sent .mid .head)) l) (exited (suc t)) idle refl still;
+          during = remove-keeps (d .store) (suc t) (sent .during) (subst (λ (y : Header). suc t < y .next) (sym (sent .during .head)) l) (exited (suc t)) idle refl still;
           woken = sent .woken;
         }) (failure-activated s (suc t) e z f free)
-        (removed-sourced (d .store) (suc t) (exited (suc t)) (sent .mid .kept .memory .sized) (room-of s (suc t) l h)
+        (removed-sourced (d .store) (suc t) (exited (suc t)) (sent .during .kept .memory .sized) (room-of s (suc t) l h)
         (λ g o w q b.
         let sl : a ≡ Awaiter.GatherSlot (heap-id g) (heap-id o) = sym (same-awaiter s a e z (failure-effect s a e z (task-fits s (suc t) .awaiter-fits))) ∙ b in
         absurd-some (sym (gone s g o e z f a sl (task-fits s (suc t) .awaiter-fits)) ∙ q)) k1)

@@ -40,7 +40,7 @@ use Rattle.machine_laws.specs.StoreLaws.{header-fits, header-put-object, object
 use Rattle.machine_laws.specs.DeliveryLaws.{absurd-some}
 use Rattle.machine_laws.specs.MakingLaws.{value-fits}
 use Rattle.machine_theorems.specs.Soundness.Stores.{idle, SoundDuring, SoundStore, during-of}
-use Rattle.machine_theorems.specs.Soundness.Fill.{ValueRises}
+use Rattle.machine_theorems.specs.Soundness.Fill.{DeliveringValue}
 use Rattle.machine_theorems.specs.Soundness.Exits.{runner-low, runner-runs, runner-live, others-commits-none, completion-delivering, completion-delivery-ends}
 use Rattle.machine_theorems.specs.Soundness.Cycle.{spawned-of, coroutine-is}
 use Rattle.machine_theorems.specs.Soundness.Results.{low, resolve-delivering, fail-delivering, MayApply, AllApply, host-fits, result-keeps}
@@ -113,7 +113,7 @@ module _ (G : ℕ → Type 0) {r : ℕ → Bool} {D : ℕ → Type 0} {hd : Head
       let i = resolve-delivering s h v g o p l e in
       let m : o < object-limit = omega (arith, l, header-fits s .made-fits) in
       success-sourced _ r D hd _ o (p .awaiter) (value-or (p .stored) v) i
-      (external-sourced s o p _ (h .kept .memory .sized) m (call-fits o p e .0, value-fits _ _ _ (i .mid .kept .but .fits .made-fits) (i .known)) e (unfold as-awaited in refl) k))
+      (external-sourced s o p _ (h .kept .memory .sized) m (call-fits o p e .0, value-fits _ _ _ (i .during .kept .but .fits .made-fits) (i .known)) e (unfold as-awaited in refl) k))
 
   fail-future-sourced : (c : ℕ) (x : Error) → ErrorFits x → Sourced G (fail-future s c x)
   unfolding fail-future fail-pending
@@ -156,8 +156,8 @@ module _ (G : ℕ → Type 0) (s : Store) (h : SoundStore s) (k : Sourced G s) w
   unfolding handle-task-completion view
   complete-sourced t v m kn =
       exit-sourced _ D0 (header s) activate (activate-sourced _ D0 (header s)) (deliver-awaiter-success left a v) (completion-delivery-ends s t v h m kn)
-      (success-activated left a v (rises .mid .kept .memory .sized) (task-fits s (suc t) .awaiter-fits) (value-fits (header s .made) (object s) v (h .facts .but .fits .made-fits) kn))
-      (success-sourced _ idle D0 (header s) left o a v rises but)
+      (success-activated left a v (delivers-on .during .kept .memory .sized) (task-fits s (suc t) .awaiter-fits) (value-fits (header s .made) (object s) v (h .facts .but .fits .made-fits) kn))
+      (success-sourced _ idle D0 (header s) left o a v delivers-on but)
     where
       D0 : ℕ → Type 0
       D0 o = T (is-completed (kind (object s o)))
@@ -174,8 +174,8 @@ module _ (G : ℕ → Type 0) (s : Store) (h : SoundStore s) (k : Sourced G s) w
       left : Store
       left = add-log (remove-task done (suc t)) (exited (suc t))
 
-      rises : ValueRises idle D0 (header s) o v left a
-      rises = completion-delivering s t v h m kn
+      delivers-on : DeliveringValue idle D0 (header s) o v left a
+      delivers-on = completion-delivering s t v h m kn
 
       live : T (is-live (task s (suc t) .state))
       live = runner-live s (suc t) h m

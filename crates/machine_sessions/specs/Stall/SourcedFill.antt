@@ -36,8 +36,8 @@ use Rattle.machine_laws.specs.StoreLaws.{header-fits, header-put-object, object
 use Rattle.machine_laws.specs.DeliveryLaws.{absurd-some, awaited-object, awaited-fits, length-fill-from, success-climbs, success-same}
 use Rattle.machine_laws.specs.MakingLaws.{value-fits}
 use Rattle.machine_theorems.specs.Soundness.Stores.{SoundDuring}
-use Rattle.machine_theorems.specs.Soundness.Deliver.{Detached, Sends, landed, task-slot}
-use Rattle.machine_theorems.specs.Soundness.Fill.{ValueRises, value-sends, all-filled}
+use Rattle.machine_theorems.specs.Soundness.Deliver.{Detached, Sends, delivery-ends, task-slot}
+use Rattle.machine_theorems.specs.Soundness.Fill.{DeliveringValue, value-sends, all-filled}
 use Rattle.machine_theorems.specs.Soundness.FillLaws.{hit, Stays, Fills, fill-stays, fill-fills, fill-less}
 use Rattle.machine_sessions.specs.Stall.NoStall.{Source, by-external, by-gather, by-nobody, by-task, Roots, root, above, Sourced}
 use Rattle.machine_sessions.specs.Stall.SourcedPlan.{SourcedBut, OnWay, but-of, all-of, but-same}
@@ -165,29 +165,29 @@ left-open s w x v j z r f l e = by (hit (s .places) (w .open-places) (w .first) 
         (b, λ q. true≢false (sym (eq-eqb _ x q) ∙ both-true (bit (w .open-places) j) _ h b))
 
 module _ (G : ℕ → Type 0) (r : ℕ → Bool) (D : ℕ → Type 0) (hd : Header) where
-  success-slot : (n : ℕ) (s : Store) (o g x : ℕ) (v : Value) → object-limit ≤ suc n + o → ValueRises r D hd o v s (Awaiter.GatherSlot (heap-id g) (heap-id x)) → SourcedBut G (OnWay (Awaiter.GatherSlot (heap-id g) (heap-id x)) o) s
-      → ((s : Store) (o : ℕ) (a : Awaiter) (v : Value) → object-limit ≤ n + o → ValueRises r D hd o v s a → SourcedBut G (OnWay a o) s → Sourced G (deliver-awaiter-success s a v .store))
+  success-slot : (n : ℕ) (s : Store) (o g x : ℕ) (v : Value) → object-limit ≤ suc n + o → DeliveringValue r D hd o v s (Awaiter.GatherSlot (heap-id g) (heap-id x)) → SourcedBut G (OnWay (Awaiter.GatherSlot (heap-id g) (heap-id x)) o) s
+      → ((s : Store) (o : ℕ) (a : Awaiter) (v : Value) → object-limit ≤ n + o → DeliveringValue r D hd o v s a → SourcedBut G (OnWay a o) s → Sourced G (deliver-awaiter-success s a v .store))
       → Sourced G (deliver-awaiter-success s (Awaiter.GatherSlot (heap-id g) (heap-id x)) v .store)
   unfolding view
   success-slot n s o g x v f i c go = by (as-awaited (object s g)) refl
     where
       z : Sized s
-      z = i .mid .kept .memory .sized
+      z = i .during .kept .memory .sized
 
       h : SoundDuring Nothing r D hd s
-      h = landed s (λ u q. task-slot (sym q)) (i .mid)
+      h = delivery-ends s (λ u q. task-slot (sym q)) (i .during)
 
       sl : Slotted (header s .made) (object s) (place s) o g x
-      sl = i .flight .slot g x refl
+      sl = i .detached .slot g x refl
 
-      sent : Sends r D hd (ValueRises r D hd g (Value.List (heap-id g))) o g (resolve-child s g x v)
+      sent : Sends r D hd (DeliveringValue r D hd g (Value.List (heap-id g))) o g (resolve-child s g x v)
       sent = value-sends r D hd s o g x v i
 
       low : g < object-limit
-      low = omega (arith, sl .made, i .mid .kept .but .fits .made-fits)
+      low = omega (arith, sl .made, i .during .kept .but .fits .made-fits)
 
       vf : ValueFits v
-      vf = value-fits (header s .made) (object s) v (i .mid .kept .but .fits .made-fits) (i .known)
+      vf = value-fits (header s .made) (object s) v (i .during .kept .but .fits .made-fits) (i .known)
 
       by : (w : Option AwaitedGather) → as-awaited (object s g) ≡ w → Sourced G (deliver-awaiter-success s (Awaiter.GatherSlot (heap-id g) (heap-id x)) v .store)
       by none q =
@@ -224,7 +224,7 @@ module _ (G : ℕ → Type 0) (r : ℕ → Bool) (D : ℕ → Type 0) (hd : Head
               let k1 : SourcedBut G (OnWay (w .awaiter) g) (put-object md g y) =
               settle-sourced _ (OnWay (Awaiter.GatherSlot (heap-id g) (heap-id x)) o) md g w y zmd low (shape .0, tt) was (unfold as-awaited in refl) (λ p m d. same-slot g x p o (d .0)) kmd in
               rw (success-climbs s (heap-id g) (heap-id x) v (w .awaiter) z low a)
-              (go (resolve-child s g x v .store) g (w .awaiter) (Value.List (heap-id g)) (omega (arith, sent .up (w .awaiter) a)) (sent .rises (w .awaiter) a)
+              (go (resolve-child s g x v .store) g (w .awaiter) (Value.List (heap-id g)) (omega (arith, sent .up (w .awaiter) a)) (sent .delivers-on (w .awaiter) a)
               (subst (SourcedBut G (OnWay (w .awaiter) g)) (sym (ap (λ (t : Settled). t .store) rc)) k1))
           left false e =
               let y : Object = Object.GatherFuture (w .first) (w .count) (GatherState.Awaited (w .awaiter) (F .open-places)) in
@@ -243,17 +243,17 @@ module _ (G : ℕ → Type 0) (r : ℕ → Bool) (D : ℕ → Type 0) (hd : Head
                   item-was : (j : ℕ) → place-at (s .places) (w .first + j) .item .0 ≡ place md (w .first + j) .item .0
                   item-was j = sym (ap (λ (t : HeapId). t .0) (unfold place put-places in (all-filled s g x v w h (sl .made) q (i .known) .item (w .first + j)) ∙ (unfold place in refl)))
 
-  success-climb : (n : ℕ) (s : Store) (o : ℕ) (a : Awaiter) (v : Value) → object-limit ≤ n + o → ValueRises r D hd o v s a → SourcedBut G (OnWay a o) s → Sourced G (deliver-awaiter-success s a v .store)
+  success-climb : (n : ℕ) (s : Store) (o : ℕ) (a : Awaiter) (v : Value) → object-limit ≤ n + o → DeliveringValue r D hd o v s a → SourcedBut G (OnWay a o) s → Sourced G (deliver-awaiter-success s a v .store)
   unfolding view
-  success-climb zero s o a v f i c = absurd (not-suc-le-zero {n = 0} (omega (arith, f, i .flight .made, i .mid .kept .but .fits .made-fits)))
+  success-climb zero s o a v f i c = absurd (not-suc-le-zero {n = 0} (omega (arith, f, i .detached .made, i .during .kept .but .fits .made-fits)))
   success-climb (suc n) s o Awaiter.Nobody v f i c = nobody-all s v (all-of s (no-way s o Awaiter.Nobody (λ g q. nobody-no g o q) c))
   success-climb (suc n) s o (Awaiter.Task t) v f i c =
-      let fits : t .0 < task-limit = omega (arith, task-low s t (i .flight .range), i .mid .kept .but .fits .next-fits) in
-      let same : SameLive s (deliver-awaiter-success s (Awaiter.Task t) v .store) = success-same s (Awaiter.Task t) v (i .mid .kept .memory .sized) fits in
-      to-all s t v (to-task-sourced s (t .0) (TaskState.Woken v) (i .mid .kept .memory .sized) fits (value-fits (header s .made) (object s) v (i .mid .kept .but .fits .made-fits) (i .known))
+      let fits : t .0 < task-limit = omega (arith, task-low s t (i .detached .range), i .during .kept .but .fits .next-fits) in
+      let same : SameLive s (deliver-awaiter-success s (Awaiter.Task t) v .store) = success-same s (Awaiter.Task t) v (i .during .kept .memory .sized) fits in
+      to-all s t v (to-task-sourced s (t .0) (TaskState.Woken v) (i .during .kept .memory .sized) fits (value-fits (header s .made) (object s) v (i .during .kept .but .fits .made-fits) (i .known))
       (λ m. to-lives s t v m (same .lives m)) (no-way s o (Awaiter.Task t) (λ g q. task-no t g o q) c))
   success-climb (suc n) s o (Awaiter.GatherSlot g x) v f i c = success-slot n s o (g .0) (x .0) v f i c (λ y p b w j m d. success-climb n y p b w j m d)
 
   -- A value of object o goes to its awaiter.
-  pub success-sourced : (s : Store) (o : ℕ) (a : Awaiter) (v : Value) → ValueRises r D hd o v s a → SourcedBut G (OnWay a o) s → Sourced G (deliver-awaiter-success s a v .store)
+  pub success-sourced : (s : Store) (o : ℕ) (a : Awaiter) (v : Value) → DeliveringValue r D hd o v s a → SourcedBut G (OnWay a o) s → Sourced G (deliver-awaiter-success s a v .store)
   success-sourced s o a v i c = success-climb object-limit s o a v (omega arith) i c

@@ -139,7 +139,7 @@ module _ {P : ℕ → Type 0} {r : ℕ → Bool} {D : ℕ → Type 0} {hd : Head
 
       room : s .queue .len < task-limit
       room =
-          room-for (s .queue) t (h .kept .memory .ids) (h .kept .memory .fine .queue-fine) (header-fits s .next-fits) the-queue (e .low)
+          room-for (s .queue) t (h .kept .memory .ids) (h .kept .memory .words-right .queue-short) (header-fits s .next-fits) the-queue (e .low)
           (not-queued t (blocked-unready (task s t .state) blocked-now) the-queue)
 
       pushed : (v : ℕ) → occurrences (entries (u .queue)) v ≡ occurrences (entries (s .queue)) v + one-if-same t v
@@ -294,7 +294,7 @@ module _ (D : ℕ → Type 0) (hd : Header) where
         q = s .queue
 
         len : q .len ≤ task-limit
-        len = h .kept .memory .fine .queue-fine
+        len = h .kept .memory .words-right .queue-short
 
         Next : ℕ → Type 0
         Next u = Right (act (put-queue s (pop-front q)) u)
@@ -335,15 +335,15 @@ module _ (D : ℕ → Type 0) (hd : Header) where
         s = d .store
 
         len : s .queue .len ≤ task-limit
-        len = h .mid .kept .memory .fine .queue-fine
+        len = h .during .kept .memory .words-right .queue-short
 
         by : (w : Option ℕ) → d .woken ≡ w → Right (elim w [ none ↦ resume-next act (d .store) | some t ↦ act (remove-from-ready-queue (d .store) t) t ])
-        by none e = next-right s (h .mid) c st
+        by none e = next-right s (h .during) c st
         by (some t) e =
-            let gone-from : entries (remove (s .queue) t) ≡ without (entries (s .queue)) t = entries-remove (s .queue) t (h .mid .kept .memory .ids) len in
-            let was : Queued (header s .next) (task s) (entries (s .queue)) = the-queue s (h .mid) in
+            let gone-from : entries (remove (s .queue) t) ≡ without (entries (s .queue)) t = entries-remove (s .queue) t (h .during .kept .memory .ids) len in
+            let was : Queued (header s .next) (task s) (entries (s .queue)) = the-queue s (h .during) in
             go (put-queue s (remove (s .queue) t)) t (h .woken t e) (queue-ready s (remove (s .queue) t) t (woken t e))
-            (queue-during s (h .mid) (remove (s .queue) t) (remove-len (s .queue) t len) (remove-length (s .queue) t ∙ h .mid .kept .memory .ids)
+            (queue-during s (h .during) (remove (s .queue) t) (remove-len (s .queue) t len) (remove-length (s .queue) t ∙ h .during .kept .memory .ids)
             (λ z. subst (Queued (header s .next) (task s)) (sym gone-from)
             (queued-less (was-there (entries (s .queue)) t) (distinct-without (entries (s .queue)) t (z .distinct)) z)))
             (subst (λ (n : ℕ). n ≤ k) (sym (queue-live s (remove (s .queue) t))) c)
@@ -362,7 +362,7 @@ module _ (D : ℕ → Type 0) (hd : Header) where
     fails-right s t e r f low lv free still h c st =
         exit-right _
         (record {
-          mid = remove-keeps d (suc t) (sent .mid) (subst (λ (y : Header). suc t < y .next) (sym (sent .mid .head)) low) (exited (suc t)) idle refl still;
+          during = remove-keeps d (suc t) (sent .during) (subst (λ (y : Header). suc t < y .next) (sym (sent .during .head)) low) (exited (suc t)) idle refl still;
           woken = sent .woken;
         })
         (λ u q. activated-ready _ (subst Activated (queue-row u) (failure-activated s (suc t) e z f free u q)))
@@ -401,7 +401,7 @@ module _ (D : ℕ → Type 0) (hd : Header) where
             omega arith
 
         gone-stands : Stands (λ u. u ≡ suc t) d → Stands Nothing left
-        gone-stands k1 = removed-stands d (suc t) (exited (suc t)) (same .sized) (sent .mid .kept .memory .ids) (sent .mid .kept .memory .fine .queue-fine) room (λ q. not-suc-le-zero {n = 0} (omega arith)) k1
+        gone-stands k1 = removed-stands d (suc t) (exited (suc t)) (same .sized) (sent .during .kept .memory .ids) (sent .during .kept .memory .words-right .queue-short) room (λ q. not-suc-le-zero {n = 0} (omega arith)) k1
 
     start-right : (s : Store) (t : ℕ) → suc t < hd .next → task s (suc t) .state ≡ TaskState.Unstarted → SoundDuring Nothing idle D hd s → live-count s ≤ suc k → Stands (λ u. u ≡ suc t) s
         → Right (start-task act s (suc t))

@@ -207,7 +207,7 @@ module _ (s : Store) (h : SoundStore s) (st : Stands Nothing s) (t : ℕ) (m : h
         sized = h .memory .sized;
         one = h .facts .but .main;
         ids = h .memory .ids;
-        len = h .memory .fine .queue-fine;
+        len = h .memory .words-right .queue-short;
         queued = to-queued (header s .next) (task s) (entries (s .queue)) (h .facts .but .entries);
         stood = st;
       }

@@ -47,7 +47,7 @@ use Rattle.machine_laws.specs.SoundLaws.{pass, running-rest, refusal-rest}
 use Rattle.machine_laws.specs.MakingLaws.{value-fits}
 use Rattle.machine_theorems.specs.Soundness.Stores.{idle, SoundDuring, SoundStore, during-of}
 use Rattle.machine_theorems.specs.Soundness.Deliver.{DeliveryEnds}
-use Rattle.machine_theorems.specs.Soundness.Fill.{ValueRises}
+use Rattle.machine_theorems.specs.Soundness.Fill.{DeliveringValue}
 use Rattle.machine_theorems.specs.Soundness.Exits.{runner-low, runner-runs, runner-live, others-commits-none, completion-delivering, completion-delivery-ends, only-changes-of}
 use Rattle.machine_theorems.specs.Soundness.Results.{low, resolve-delivering, fail-delivering, MayApply, AllApply, host-fits, result-keeps}
 use Rattle.machine_laws.specs.DeliveryLaws.{pending-object}
@@ -117,9 +117,9 @@ module _ (s : Store) (h : SoundStore s) (st : Stands Nothing s) where
   complete-right t v m k =
       leave-right D0 (header s) (deliver-awaiter-success left a v) (completion-delivery-ends s t v h m k)
       (λ u e. activated-ready _ (subst Activated (queue-row u)
-      (success-activated left a v (rises .mid .kept .memory .sized) (task-fits s (suc t) .awaiter-fits) (value-fits (header s .made) (object s) v (h .facts .but .fits .made-fits) k) u e)))
-      (delivered-stands left (rises .mid) (deliver-awaiter-success left a v) (success-effect left a v (rises .mid .kept .memory .sized) (task-fits s (suc t) .awaiter-fits))
-      (removed-stands done (suc t) (exited (suc t)) (sized-put-object s o _ (h .memory .sized)) (unfold put-object in (h .memory .ids)) (unfold put-object in (h .memory .fine .queue-fine))
+      (success-activated left a v (delivers-on .during .kept .memory .sized) (task-fits s (suc t) .awaiter-fits) (value-fits (header s .made) (object s) v (h .facts .but .fits .made-fits) k) u e)))
+      (delivered-stands left (delivers-on .during) (deliver-awaiter-success left a v) (success-effect left a v (delivers-on .during .kept .memory .sized) (task-fits s (suc t) .awaiter-fits))
+      (removed-stands done (suc t) (exited (suc t)) (sized-put-object s o _ (h .memory .sized)) (unfold put-object in (h .memory .ids)) (unfold put-object in (h .memory .words-right .queue-short))
       (omega (arith, runner-low s (suc t) h m, header-fits s .next-fits)) (λ q. not-suc-le-zero {n = 0} (omega arith)) (row-stands s o (completed (object s o)) (some-exempt s st))))
     where
       o : ℕ
@@ -134,8 +134,8 @@ module _ (s : Store) (h : SoundStore s) (st : Stands Nothing s) where
       left : Store
       left = add-log (remove-task done (suc t)) (exited (suc t))
 
-      rises : ValueRises idle D0 (header s) o v left a
-      rises = completion-delivering s t v h m k
+      delivers-on : DeliveringValue idle D0 (header s) o v left a
+      delivers-on = completion-delivering s t v h m k
 
       queue-row : (u : ℕ) → task (remove-from-ready-queue (deliver-awaiter-success left a v .store) u) u .state ≡ task (deliver-awaiter-success left a v .store) u .state
       queue-row u = unfold remove-from-ready-queue put-queue task in refl
@@ -184,14 +184,14 @@ module _ {r : ℕ → Bool} {D : ℕ → Type 0} {hd : Header} (s : Store) (h : 
   unfolding resolve-future resolve-pending
   resolve-stands c v k =
       found-stands c _ (λ o p l e.
-      let m = resolve-delivering s h v k o p l e .mid in
+      let m = resolve-delivering s h v k o p l e .during in
       delivered-stands _ m _ (success-effect _ (p .awaiter) (value-or (p .stored) v) (m .kept .memory .sized) (awaiter-low o p e)) (row-stands s o _ st))
 
   fail-stands : (c : ℕ) (x : Error) → ErrorFits x → Stands Nothing (fail-future s c x)
   unfolding fail-future fail-pending
   fail-stands c x k =
       found-stands c _ (λ o p l e.
-      let m = fail-delivering s h x k o p l e .mid in
+      let m = fail-delivering s h x k o p l e .during in
       delivered-stands _ m _ (failure-effect _ (p .awaiter) x (m .kept .memory .sized) (awaiter-low o p e)) (row-stands s o _ st))
 
   result-stands : (x : Result) → MayApply (hd .made) D x → Stands Nothing (apply-result s x)

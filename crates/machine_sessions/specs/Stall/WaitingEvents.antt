@@ -435,7 +435,7 @@ module _ (h : List Entry) (s : Store) (w : SoundStore s) (ag : Agrees h s) (clea
           by (suc t) e = omega arith
 
       rm : Removes s v
-      rm = cancel-removes s (k .tasks .behind) t (w .memory .sized) (w .memory .ids) (w .memory .fine .queue-fine) (lives .1) spawned-it
+      rm = cancel-removes s (k .tasks .behind) t (w .memory .sized) (w .memory .ids) (w .memory .words-right .queue-short) (lives .1) spawned-it
 
       j : Tasks (spawned-for h) (Gone h s) Nothing (λ a. spawned-by (spawned-for h a) (v .log) a) (λ a. exits-by (exits h a) (v .log) a) v
       j =

@@ -98,7 +98,7 @@ unfolding view
 front-activated s h ne = by (entries (s .queue)) refl
   where
     len : s .queue .len ≤ task-limit
-    len = h .memory .fine .queue-fine
+    len = h .memory .words-right .queue-short
 
     by : (us : List ℕ) → entries (s .queue) ≡ us → (front-of (s .queue) .0 < header s .next) × Activated (task s (front-of (s .queue) .0) .state)
     by [] e = absurd (eqb-false (s .queue .len) 0 ne (sym (length-entries (s .queue) (h .memory .ids) len) ∙ ap length e))

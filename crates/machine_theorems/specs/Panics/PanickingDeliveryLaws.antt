@@ -37,8 +37,8 @@ use Rattle.machine_laws.specs.TestLaws.{is-true}
 use Rattle.machine_laws.specs.StoreLaws.{header-fits}
 use Rattle.machine_laws.specs.DeliveryLaws.{Sent, resolve-sent, fail-sent}
 use Rattle.machine_theorems.specs.Soundness.Stores.{SoundDuring}
-use Rattle.machine_theorems.specs.Soundness.Deliver.{Detached, task-slot, landed, Sends, ErrorRises, error-sends}
-use Rattle.machine_theorems.specs.Soundness.Fill.{all-filled, ValueRises, value-sends}
+use Rattle.machine_theorems.specs.Soundness.Deliver.{Detached, task-slot, delivery-ends, Sends, DeliveringError, error-sends}
+use Rattle.machine_theorems.specs.Soundness.Fill.{all-filled, DeliveringValue, value-sends}
 use Rattle.machine_theorems.specs.Soundness.Results.{resolve-delivering, fail-delivering, MayApply, AllApply, host-fits, result-keeps}
 use Rattle.machine_theorems.specs.Panics.NoPanicLaws.{slot-registered, PendingOf, found-pending}
 use Rattle.machine_theorems.specs.Panics.Panic.{Panics}
@@ -100,16 +100,16 @@ module _ (panic : Panics) where
         rw (found, fill-same (w .count) (s .places) (w .open-places) (w .first) (w .count) x v 0 (omega arith)) (left-same (eqb (f .open-places) 0) refl)
 
   -- the value goes into the gather of its slot
-  child-same : (r : ℕ → Bool) (D : ℕ → Type 0) (hd : Header) (s : Store) (o g x : ℕ) (v : Value) → ValueRises r D hd o v s (Awaiter.GatherSlot (heap-id g) (heap-id x))
+  child-same : (r : ℕ → Bool) (D : ℕ → Type 0) (hd : Header) (s : Store) (o g x : ℕ) (v : Value) → DeliveringValue r D hd o v s (Awaiter.GatherSlot (heap-id g) (heap-id x))
       → child-or-panic panic s g x v (object s g) ≡ resolve-child s g x v
   unfolding resolve-child view
   child-same r D hd s o g x v i = by (object s g) refl
     where
       h : SoundDuring Nothing r D hd s
-      h = landed s (λ u z. task-slot (sym z)) (i .mid)
+      h = delivery-ends s (λ u z. task-slot (sym z)) (i .during)
 
       sl : Slotted (header s .made) (object s) (place s) o g x
-      sl = i .flight .slot g x refl
+      sl = i .detached .slot g x refl
 
       never : (y : Object) → object s g ≡ y → (T (is-committed (kind y)) → ⊥) → child-or-panic panic s g x v y ≡ resolve-awaited s g x v (as-awaited y)
       never y e n = absurd (n (subst (λ (z : Object). T (is-committed (kind z))) e (sl .committed)))
@@ -131,13 +131,13 @@ module _ (panic : Panics) where
       by (Object.GatherFuture f n (GatherState.Failed y)) e = unfold child-or-panic resolve-awaited as-awaited in refl
 
   -- an error fails it
-  gather-same : (r : ℕ → Bool) (D : ℕ → Type 0) (hd : Header) (s : Store) (o g x : ℕ) (e : Error) → ErrorRises r D hd o s (Awaiter.GatherSlot (heap-id g) (heap-id x))
+  gather-same : (r : ℕ → Bool) (D : ℕ → Type 0) (hd : Header) (s : Store) (o g x : ℕ) (e : Error) → DeliveringError r D hd o s (Awaiter.GatherSlot (heap-id g) (heap-id x))
       → gather-or-panic panic s g e (object s g) ≡ fail-gather s g e
   unfolding fail-gather view
   gather-same r D hd s o g x v i = by (object s g) refl
     where
       never : (y : Object) → object s g ≡ y → (T (is-committed (kind y)) → ⊥) → gather-or-panic panic s g v y ≡ fail-awaited s g v (as-awaited y)
-      never y e n = absurd (n (subst (λ (z : Object). T (is-committed (kind z))) e (i .flight .slot g x refl .committed)))
+      never y e n = absurd (n (subst (λ (z : Object). T (is-committed (kind z))) e (i .detached .slot g x refl .committed)))
 
       by : (y : Object) → object s g ≡ y → gather-or-panic panic s g v y ≡ fail-awaited s g v (as-awaited y)
       by Object.Unmade e = never Object.Unmade e (unfold kind in (λ z. z))
@@ -168,22 +168,22 @@ module _ (panic : Panics) where
       where
         by : (b : Option Awaiter) → y .onward ≡ b → climb go (y .store) b ≡ climb other (y .store) b
         by none e = unfold climb in refl
-        by (some a) e = unfold climb in (same a e (k .rises a e))
+        by (some a) e = unfold climb in (same a e (k .delivers-on a e))
 
     -- two ways to go on do the same with one awaited gather less than m
     value-same : (m : ℕ) (go other : Store → Awaiter → Value → Delivery)
-        → ((s : Store) (o : ℕ) (a : Awaiter) (v : Value) → m ≡ suc (awaited-count s) → ValueRises r D hd o v s a → go s a v ≡ other s a v)
-        → (s : Store) (o : ℕ) (a : Awaiter) (v : Value) → m ≡ awaited-count s → ValueRises r D hd o v s a → value-or-panic panic go s a v ≡ send-value other s a v
+        → ((s : Store) (o : ℕ) (a : Awaiter) (v : Value) → m ≡ suc (awaited-count s) → DeliveringValue r D hd o v s a → go s a v ≡ other s a v)
+        → (s : Store) (o : ℕ) (a : Awaiter) (v : Value) → m ≡ awaited-count s → DeliveringValue r D hd o v s a → value-or-panic panic go s a v ≡ send-value other s a v
     unfolding value-or-panic send-value
     value-same m go other same s o Awaiter.Nobody v q i = refl
     value-same m go other same s o (Awaiter.Task t) v q i = to-task-same s (t .0) (TaskState.Woken v)
     value-same m go other same s o (Awaiter.GatherSlot g x) v q i =
-        let sent : Sent s (resolve-child s (g .0) (x .0) v) = resolve-sent s (g .0) (x .0) v (i .mid .kept .memory .sized) (slot-low s o (g .0) (x .0) (i .flight)) in
+        let sent : Sent s (resolve-child s (g .0) (x .0) v) = resolve-sent s (g .0) (x .0) v (i .during .kept .memory .sized) (slot-low s o (g .0) (x .0) (i .detached)) in
         ap (λ (y : Settled). climb (λ z a. go z a (Value.List g)) (y .store) (y .onward)) (child-same r D hd s o (g .0) (x .0) v i)
-        ∙ climb-same (ValueRises r D hd (g .0) (Value.List g)) o (g .0) (λ z a. go z a (Value.List g)) (λ z a. other z a (Value.List g)) (resolve-child s (g .0) (x .0) v)
+        ∙ climb-same (DeliveringValue r D hd (g .0) (Value.List g)) o (g .0) (λ z a. go z a (Value.List g)) (λ z a. other z a (Value.List g)) (resolve-child s (g .0) (x .0) v)
         (value-sends r D hd s o (g .0) (x .0) v i) (λ a p k. same _ (g .0) a (Value.List g) (q ∙ sent .falls a p) k)
 
-    climb-value-same : (n : ℕ) (s : Store) (o : ℕ) (a : Awaiter) (v : Value) → n ≡ suc (awaited-count s) → ValueRises r D hd o v s a
+    climb-value-same : (n : ℕ) (s : Store) (o : ℕ) (a : Awaiter) (v : Value) → n ≡ suc (awaited-count s) → DeliveringValue r D hd o v s a
         → climb-value-or-panic panic n s a v ≡ climb-value n s a v
     unfolding climb-value-or-panic climb-value
     climb-value-same zero s o a v q i = absurd (not-suc-le-zero {n = 0} (omega arith))
@@ -191,7 +191,7 @@ module _ (panic : Panics) where
         value-same n (λ x b w. climb-value-or-panic panic n x b w) (λ x b w. climb-value n x b w) (λ x p b w c j. climb-value-same n x p b w c j) s o a v (omega arith) i
 
     -- A value of object o reaches its awaiter without a panic.
-    pub success-safe : (s : Store) (o : ℕ) (a : Awaiter) (v : Value) → ValueRises r D hd o v s a → success-or-panic panic s a v ≡ deliver-awaiter-success s a v
+    pub success-safe : (s : Store) (o : ℕ) (a : Awaiter) (v : Value) → DeliveringValue r D hd o v s a → success-or-panic panic s a v ≡ deliver-awaiter-success s a v
     unfolding success-or-panic deliver-awaiter-success
     success-safe s o a v i =
         value-same (awaited-count s) (λ x b w. climb-value-or-panic panic (awaited-count s) x b w) (λ x b w. climb-value (awaited-count s) x b w)
@@ -199,18 +199,18 @@ module _ (panic : Panics) where
 
     module _ (e : Error) (k : ErrorFits e) where
       error-same : (m : ℕ) (go other : Store → Awaiter → Error → Delivery)
-          → ((s : Store) (o : ℕ) (a : Awaiter) → m ≡ suc (awaited-count s) → ErrorRises r D hd o s a → go s a e ≡ other s a e)
-          → (s : Store) (o : ℕ) (a : Awaiter) → m ≡ awaited-count s → ErrorRises r D hd o s a → error-or-panic panic go s a e ≡ send-error other s a e
+          → ((s : Store) (o : ℕ) (a : Awaiter) → m ≡ suc (awaited-count s) → DeliveringError r D hd o s a → go s a e ≡ other s a e)
+          → (s : Store) (o : ℕ) (a : Awaiter) → m ≡ awaited-count s → DeliveringError r D hd o s a → error-or-panic panic go s a e ≡ send-error other s a e
       unfolding error-or-panic send-error
       error-same m go other same s o Awaiter.Nobody q i = refl
       error-same m go other same s o (Awaiter.Task t) q i = to-task-same s (t .0) (TaskState.Raised e)
       error-same m go other same s o (Awaiter.GatherSlot g x) q i =
-          let sent : Sent s (fail-gather s (g .0) e) = fail-sent s (g .0) e (i .mid .kept .memory .sized) (slot-low s o (g .0) (x .0) (i .flight)) in
+          let sent : Sent s (fail-gather s (g .0) e) = fail-sent s (g .0) e (i .during .kept .memory .sized) (slot-low s o (g .0) (x .0) (i .detached)) in
           ap (λ (y : Settled). climb (λ z a. go z a e) (y .store) (y .onward)) (gather-same r D hd s o (g .0) (x .0) e i)
-          ∙ climb-same (ErrorRises r D hd (g .0)) o (g .0) (λ z a. go z a e) (λ z a. other z a e) (fail-gather s (g .0) e)
+          ∙ climb-same (DeliveringError r D hd (g .0)) o (g .0) (λ z a. go z a e) (λ z a. other z a e) (fail-gather s (g .0) e)
           (error-sends r D hd e k s o (g .0) (x .0) i) (λ a p j. same _ (g .0) a (q ∙ sent .falls a p) j)
 
-      climb-error-same : (n : ℕ) (s : Store) (o : ℕ) (a : Awaiter) → n ≡ suc (awaited-count s) → ErrorRises r D hd o s a
+      climb-error-same : (n : ℕ) (s : Store) (o : ℕ) (a : Awaiter) → n ≡ suc (awaited-count s) → DeliveringError r D hd o s a
           → climb-error-or-panic panic n s a e ≡ climb-error n s a e
       unfolding climb-error-or-panic climb-error
       climb-error-same zero s o a q i = absurd (not-suc-le-zero {n = 0} (omega arith))
@@ -218,7 +218,7 @@ module _ (panic : Panics) where
           error-same n (λ x b f. climb-error-or-panic panic n x b f) (λ x b f. climb-error n x b f) (λ x p b c j. climb-error-same n x p b c j) s o a (omega arith) i
 
       -- And so does an error.
-      pub failure-safe : (s : Store) (o : ℕ) (a : Awaiter) → ErrorRises r D hd o s a → failure-or-panic panic s a e ≡ deliver-awaiter-failure s a e
+      pub failure-safe : (s : Store) (o : ℕ) (a : Awaiter) → DeliveringError r D hd o s a → failure-or-panic panic s a e ≡ deliver-awaiter-failure s a e
       unfolding failure-or-panic deliver-awaiter-failure
       failure-safe s o a i =
           error-same (awaited-count s) (λ x b f. climb-error-or-panic panic (awaited-count s) x b f) (λ x b f. climb-error (awaited-count s) x b f)

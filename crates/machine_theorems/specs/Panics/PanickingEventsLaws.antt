@@ -37,8 +37,8 @@ use Rattle.machine_laws.specs.StoreLaws.{task-fits, header-fits}
 use Rattle.machine_laws.specs.CycleLaws.{live-falls, failure-falls}
 use Rattle.machine_laws.specs.MakingLaws.{value-fits}
 use Rattle.machine_theorems.specs.Soundness.Stores.{idle, SoundDuring, SoundStore, during-of}
-use Rattle.machine_theorems.specs.Soundness.Deliver.{DeliveryEnds, ErrorRises, failure-keeps}
-use Rattle.machine_theorems.specs.Soundness.Fill.{ValueRises}
+use Rattle.machine_theorems.specs.Soundness.Deliver.{DeliveryEnds, DeliveringError, failure-keeps}
+use Rattle.machine_theorems.specs.Soundness.Fill.{DeliveringValue}
 use Rattle.machine_theorems.specs.Soundness.Cycle.{task-delivering, remove-keeps, next-by, exit-by}
 use Rattle.machine_theorems.specs.Soundness.Exits.{runner-low, runner-runs, runner-live, others-commits-none, completion-delivering, completion-delivery-ends, only-changes-of}
 use Rattle.machine_theorems.specs.Soundness.Await.{wait-external}
@@ -91,13 +91,13 @@ module _ (panic : Panics) (D : ℕ → Type 0) (hd : Header) where
     unfolding handle-task-failure fails-or-panic
     failure-same s t e r k low l free still less h =
         let room : suc t < task-limit = task-low s (suc t) low h in
-        let up : ErrorRises r D hd (task s (suc t) .coroutine .0) s (task s (suc t) .awaiter) = task-delivering s t h low l in
+        let up : DeliveringError r D hd (task s (suc t) .coroutine .0) s (task s (suc t) .awaiter) = task-delivering s t h low l in
         let sent : DeliveryEnds r D hd (deliver-awaiter-failure s (task s (suc t) .awaiter) e) =
         failure-keeps r D hd e k s (task s (suc t) .coroutine .0) (task s (suc t) .awaiter) up in
         rw (is-true (is-live (task s (suc t) .state)) l, failure-safe panic r D hd e k s (task s (suc t) .coroutine .0) (task s (suc t) .awaiter) up)
         (exit-same _ (less _ (failure-falls s (suc t) e (h .kept .memory .sized) room (is-true (is-live (task s (suc t) .state)) l))) (record {
-          mid = remove-keeps (deliver-awaiter-failure s (task s (suc t) .awaiter) e .store) (suc t) (sent .mid)
-              (subst (λ (y : Header). suc t < y .next) (sym (sent .mid .head)) low) (exited (suc t)) idle refl still;
+          during = remove-keeps (deliver-awaiter-failure s (task s (suc t) .awaiter) e .store) (suc t) (sent .during)
+              (subst (λ (y : Header). suc t < y .next) (sym (sent .during .head)) low) (exited (suc t)) idle refl still;
           woken = sent .woken;
         }) (failure-activated s (suc t) e (h .kept .memory .sized) k free))
 
@@ -150,9 +150,9 @@ module _ (panic : Panics) (D : ℕ → Type 0) (hd : Header) where
   next-safe s h = next-same (λ n. Unit {0}) (activate-or-panic panic) activate activate-same s tt h
 
   -- Nor where the value of a task that has completed was delivered.
-  pub landed-safe : (s : Store) (a : Awaiter) (v : Value) → Sized s → AwaiterFits a → ValueFits v → DeliveryEnds idle D hd (deliver-awaiter-success s a v)
+  pub success-ends : (s : Store) (a : Awaiter) (v : Value) → Sized s → AwaiterFits a → ValueFits v → DeliveryEnds idle D hd (deliver-awaiter-success s a v)
       → resume-after-task-exit (activate-or-panic panic) (deliver-awaiter-success s a v) ≡ resume-after-task-exit activate (deliver-awaiter-success s a v)
-  landed-safe s a v z f k h = exit-same (λ n. Unit {0}) (activate-or-panic panic) activate activate-same (deliver-awaiter-success s a v) tt h (success-activated s a v z f k)
+  success-ends s a v z f k h = exit-same (λ n. Unit {0}) (activate-or-panic panic) activate activate-same (deliver-awaiter-success s a v) tt h (success-activated s a v z f k)
 
   -- Nor where a running task blocks.
   pub blocks-safe : (t o n : ℕ) (s : Store) → task s t .state ≡ TaskState.Running → SoundDuring Nothing idle D hd (add-log (set-state s t (TaskState.Blocked (heap-id o))) (blocked t))
@@ -185,8 +185,8 @@ module _ (panic : Panics) (s : Store) (h : SoundStore s) where
   unfolding completes-or-panic handle-task-completion view
   complete-safe t v m k =
       rw (is-true (is-live (task s (suc t) .state)) live)
-      (sends ∙ (ap (resume-after-task-exit (activate-or-panic panic)) (success-safe panic idle D0 (header s) left c a v rises)
-      ∙ landed-safe panic D0 (header s) left a v (rises .mid .kept .memory .sized) (task-fits s (suc t) .awaiter-fits)
+      (sends ∙ (ap (resume-after-task-exit (activate-or-panic panic)) (success-safe panic idle D0 (header s) left c a v delivers-on)
+      ∙ success-ends panic D0 (header s) left a v (delivers-on .during .kept .memory .sized) (task-fits s (suc t) .awaiter-fits)
       (value-fits (header s .made) (object s) v (h .facts .but .fits .made-fits) k) (completion-delivery-ends s t v h m k)))
     where
       c : ℕ
@@ -201,8 +201,8 @@ module _ (panic : Panics) (s : Store) (h : SoundStore s) where
       live : T (is-live (task s (suc t) .state))
       live = runner-live s (suc t) h m
 
-      rises : ValueRises idle D0 (header s) c v left a
-      rises = completion-delivering s t v h m k
+      delivers-on : DeliveringValue idle D0 (header s) c v left a
+      delivers-on = completion-delivering s t v h m k
 
       is-one : IsCoroutine (view s) c
       is-one = task-coroutine (h .facts .but) t (runner-low s (suc t) h m) live

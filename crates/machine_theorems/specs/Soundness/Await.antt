@@ -89,7 +89,7 @@ module _ (s : Store) (t o : ℕ) (r : ℕ → Bool) (low : t < header s .next) (
   pub block-keeps : {D : ℕ → Type 0} {hd : Header} → ((u : ℕ) → (u ≡ t → ⊥) → r u ≡ false) → Runs r (view s) → ((p : ℕ) → D p → T (is-completed (kind (object s p))))
       → header s ≡ hd → SoundDuring Nothing idle D hd (add-log (set-state s t (TaskState.Blocked (heap-id o))) (blocked t))
   unfolding set-state put-task put-queue
-  block-keeps {D} {hd} still rn dn head = add-log-during (put-task s t row) mid (blocked t)
+  block-keeps {D} {hd} still rn dn head = add-log-during (put-task s t row) during (blocked t)
     where
       room : t < task-limit
       room = unfold view in (omega (arith, low, h .but .fits .next-fits))
@@ -98,11 +98,11 @@ module _ (s : Store) (t o : ℕ) (r : ℕ → Bool) (low : t < header s .next) (
       now u l = unfold with-task-queue view restate in
           (update-case (task s) t row (λ (y : Task). is-running (y .state) ≡ false) u (λ q. refl) (λ d. rn u l ∙ still u d))
 
-      mid : SoundDuring Nothing idle D hd (put-queue (put-task s t row) (s .queue))
-      mid =
+      during : SoundDuring Nothing idle D hd (put-queue (put-task s t row) (s .queue))
+      during =
           record {
             kept = task-kept s h t row (s .queue) low (restated-fits (task s t) (TaskState.Blocked (heap-id o)) (task-fits s t) (unfold view in (omega (arith, made, h .but .fits .made-fits))))
-                (h .memory .fine .queue-fine) (h .memory .ids) block-fits;
+                (h .memory .words-right .queue-short) (h .memory .ids) block-fits;
             runs = subst (Runs idle) (sym (view-task-queue s h t row (s .queue) room (restated-fits (task s t) (TaskState.Blocked (heap-id o)) (task-fits s t) (unfold view in (omega (arith, made, h .but .fits .made-fits)))))) now;
             done = λ p d. unfold object put-task in (dn p d);
             head = unfold header put-task in head;

@@ -34,11 +34,11 @@ use Rattle.machine.specs.Commit.{Poll, ready, raised, pending, gives, await-pen
 use Rattle.machine.specs.Commit.{open-place, fill-place, Stop, at-end, at-nested, at-error, put-polled, put-item, step-item, step-items, Frame}
 use Rattle.machine.specs.Sound.{awaiter-in-range, items-below, value-known, object-values, is-task-of-at}
 use Rattle.machine_laws.specs.Views.{Sized, update, with-task, with-object, with-header}
-use Rattle.machine_laws.specs.Facts.{Open, Slotted, Nothing, WordsFine}
+use Rattle.machine_laws.specs.Facts.{Open, Slotted, Nothing, WordsInRange}
 use Rattle.machine_laws.specs.TestLaws.{both, both-left, both-right, below}
 use Rattle.machine_laws.specs.StoreLaws.{update-same, update-other, sized-put-task, sized-put-header, sized-put-queue, object-fits, header-fits, header-put-object, object-put-object}
 use Rattle.machine_laws.specs.StoreLaws.{view-put-task, view-put-object, view-put-header}
-use Rattle.machine_laws.specs.WordLaws.{fine-put-task, fine-put-header, fine-put-queue, fine-add-log}
+use Rattle.machine_laws.specs.WordLaws.{words-put-task, words-put-header, words-put-queue, words-add-log}
 use Rattle.machine_laws.specs.SizedLaws.{sized-spawn-as}
 use Rattle.machine_laws.specs.DeliveryLaws.{absurd-some, awaited-object, pending-object}
 use Rattle.machine_theorems.specs.Soundness.ReadyTasks.{none-queued, queued-back}
@@ -156,22 +156,22 @@ module _ (s : Store) (c g : ℕ) (mem : Memory s) (room : header s .next < task-
   unfolding view spawn-view
   header-then = ap (λ (v : View). v .header) spawn-store-view
 
-  words : WordsFine (t0 + 1) (header s .made) (header s .used) (spawn-as s t0 c g)
+  words : WordsInRange (t0 + 1) (header s .made) (header s .used) (spawn-as s t0 c g)
   unfolding spawn-as add-log push-ready put-queue set-next header put-task put-header u x
   words =
-      fine-add-log (t0 + 1) (header s .made) (header s .used) (put-queue x (push-back (s .queue) t0)) (sized-put-queue x (push-back (s .queue) t0) (sized-put-header u (one-more (header s)) u-sized))
-      (fine-put-queue (t0 + 1) (header s .made) (header s .used) x (sized-put-header u (one-more (header s)) u-sized)
-      (fine-put-header (t0 + 1) (header s .made) (header s .used) u u-sized
-      (fine-put-task _ _ _ s (mem .sized) (mem .fine) (t0 + 1) t0 (spawned-row c g) room row-fits (λ j m ne. omega arith))
+      words-add-log (t0 + 1) (header s .made) (header s .used) (put-queue x (push-back (s .queue) t0)) (sized-put-queue x (push-back (s .queue) t0) (sized-put-header u (one-more (header s)) u-sized))
+      (words-put-queue (t0 + 1) (header s .made) (header s .used) x (sized-put-header u (one-more (header s)) u-sized)
+      (words-put-header (t0 + 1) (header s .made) (header s .used) u u-sized
+      (words-put-task _ _ _ s (mem .sized) (mem .words-right) (t0 + 1) t0 (spawned-row c g) room row-fits (λ j m ne. omega arith))
       (one-more (header s)) more-fits)
-      (push-back (s .queue) t0) (push-back-len (s .queue) t0 (mem .fine .queue-fine))) (spawned t0 c)
+      (push-back (s .queue) t0) (push-back-len (s .queue) t0 (mem .words-right .queue-short))) (spawned t0 c)
 
   pub spawn-memory : Memory (spawn-as s t0 c g)
   spawn-memory =
       record {
         sized = sized-spawn-as s t0 c g (mem .sized);
         ids = unfold spawn-as add-log push-ready put-queue set-next put-header put-task in (push-back-length (s .queue) t0 ∙ mem .ids);
-        fine = subst (λ (y : Header). WordsFine (y .next) (y .made) (y .used) (spawn-as s t0 c g)) (sym header-then) words;
+        words-right = subst (λ (y : Header). WordsInRange (y .next) (y .made) (y .used) (spawn-as s t0 c g)) (sym header-then) words;
       }
 
 -- ---- one item of the gather on top

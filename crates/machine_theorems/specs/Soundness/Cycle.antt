@@ -46,7 +46,7 @@ use Rattle.machine_theorems.specs.Soundness.ReadyTasks.{Queued, to-queue
 use Rattle.machine_theorems.specs.Soundness.PutObject.{Fits}
 use Rattle.machine_theorems.specs.Soundness.PutTask.{with-task-queue, TaskWrite}
 use Rattle.machine_theorems.specs.Soundness.Stores.{Runs, idle, SoundDuring, SoundStore, object-during, task-during, queue-during, add-log-during, moment-sound-store}
-use Rattle.machine_theorems.specs.Soundness.Deliver.{DeliveryEnds, Detached, take-off, restated-in-range, restated-fits, ErrorRises, failure-keeps}
+use Rattle.machine_theorems.specs.Soundness.Deliver.{DeliveryEnds, Detached, take-off, restated-in-range, restated-fits, DeliveringError, failure-keeps}
 
 -- ---- a live spawned task
 
@@ -108,9 +108,9 @@ task-detached s t h low l =
 
 -- and an error for it
 pub task-delivering : {r : ℕ → Bool} {D : ℕ → Type 0} {hd : Header} (s : Store) (t : ℕ) → SoundDuring Nothing r D hd s → suc t < hd .next → T (is-live (task s (suc t) .state))
-    → ErrorRises r D hd (task s (suc t) .coroutine .0) s (task s (suc t) .awaiter)
+    → DeliveringError r D hd (task s (suc t) .coroutine .0) s (task s (suc t) .awaiter)
 task-delivering s t h low l =
-    record { flight = task-detached s t h (subst (λ (y : Header). suc t < y .next) (sym (h .head)) low) l; mid = take-off s (task s (suc t) .awaiter) h }
+    record { detached = task-detached s t h (subst (λ (y : Header). suc t < y .next) (sym (h .head)) low) l; during = take-off s (task s (suc t) .awaiter) h }
 
 -- ---- a coroutine's state is written
 
@@ -183,7 +183,7 @@ module _ {r : ℕ → Bool} {D : ℕ → Type 0} {hd : Header} (s : Store) (t : 
         coroutine = λ z. absurd z;
         range = λ z. absent-in-range (header s) (object s) t;
         known = tt;
-        queue = λ z. queued-remove (s .queue) (h .kept .memory .ids) t absent (h .kept .memory .fine .queue-fine) z;
+        queue = λ z. queued-remove (s .queue) (h .kept .memory .ids) t absent (h .kept .memory .words-right .queue-short) z;
         awaits = λ d o e. absurd-some e;
         awaited = λ l. absurd l;
         in-commit = λ p n. inl n;
@@ -195,7 +195,7 @@ module _ {r : ℕ → Bool} {D : ℕ → Type 0} {hd : Header} (s : Store) (t : 
   unfolding remove-task remove-from-ready-queue put-task
   remove-keeps x z zt rz =
       add-log-during (put-queue (put-task s t absent) (remove (s .queue) t))
-      (task-during s h t absent (remove (s .queue) t) low absent-fits (remove-len (s .queue) t (h .kept .memory .fine .queue-fine)) (remove-length (s .queue) t ∙ h .kept .memory .ids)
+      (task-during s h t absent (remove (s .queue) t) low absent-fits (remove-len (s .queue) t (h .kept .memory .words-right .queue-short)) (remove-length (s .queue) t ∙ h .kept .memory .ids)
       remove-fits now) x
     where
       now : Runs z (with-task-queue (view s) t absent (entries (remove (s .queue) t)))
@@ -237,7 +237,7 @@ module _ {D : ℕ → Type 0} {hd : Header} (s : Store) (t : ℕ) (h : SoundDuri
   run-keeps on how =
       moment-sound-store {D = D} {hd = hd} (set-state s t TaskState.Running) (Moment.Running (task-id t)) (omega (arith, low, h .kept .but .fits .next-fits))
       (lt→ltb t (hd .next) low-hd) (λ z. on)
-      (task-during s h t running (s .queue) low (restated-fits (task s t) TaskState.Running (task-fits s t) tt) (h .kept .memory .fine .queue-fine) (h .kept .memory .ids) run-fits run-runs)
+      (task-during s h t running (s .queue) low (restated-fits (task s t) TaskState.Running (task-fits s t) tt) (h .kept .memory .words-right .queue-short) (h .kept .memory .ids) run-fits run-runs)
 
 -- ---- the cycle
 
@@ -260,7 +260,7 @@ module _ (D : ℕ → Type 0) (hd : Header) (R : Switched → Switched → Type 
       q = s .queue
 
       len : q .len ≤ task-limit
-      len = h .kept .memory .fine .queue-fine
+      len = h .kept .memory .words-right .queue-short
 
       Next : ℕ → Type 0
       Next u = R (act (put-queue s (pop-front q)) u) (other (put-queue s (pop-front q)) u)
@@ -299,18 +299,18 @@ module _ (D : ℕ → Type 0) (hd : Header) (R : Switched → Switched → Type 
       s = d .store
 
       len : s .queue .len ≤ task-limit
-      len = h .mid .kept .memory .fine .queue-fine
+      len = h .during .kept .memory .words-right .queue-short
 
       by : (w : Option ℕ) → d .woken ≡ w
           → R (elim w [ none ↦ resume-next act (d .store) | some t ↦ act (remove-from-ready-queue (d .store) t) t ])
           (elim w [ none ↦ resume-next other (d .store) | some t ↦ other (remove-from-ready-queue (d .store) t) t ])
-      by none e = next-by s (h .mid) y next
+      by none e = next-by s (h .during) y next
       by (some t) e =
-          let gone-from : entries (remove (s .queue) t) ≡ without (entries (s .queue)) t = entries-remove (s .queue) t (h .mid .kept .memory .ids) len in
-          let was : Queued (header s .next) (task s) (entries (s .queue)) = queue-of s (h .mid) in
+          let gone-from : entries (remove (s .queue) t) ≡ without (entries (s .queue)) t = entries-remove (s .queue) t (h .during .kept .memory .ids) len in
+          let was : Queued (header s .next) (task s) (entries (s .queue)) = queue-of s (h .during) in
           woke (remove (s .queue) t) t e (h .woken t e)
           (rw gone-from (gone (entries (s .queue)) t (was .distinct)))
-          (queue-during s (h .mid) (remove (s .queue) t) (remove-len (s .queue) t len) (remove-length (s .queue) t ∙ h .mid .kept .memory .ids)
+          (queue-during s (h .during) (remove (s .queue) t) (remove-len (s .queue) t len) (remove-length (s .queue) t ∙ h .during .kept .memory .ids)
           (λ z. subst (Queued (header s .next) (task s)) (sym gone-from)
           (queued-less (was-there (entries (s .queue)) t) (distinct-without (entries (s .queue)) t (z .distinct)) z)))
 
@@ -336,7 +336,7 @@ module _ (D : ℕ → Type 0) (hd : Header) (on : is-ended (hd .moment) ≡ fals
     pub exit-keeps : (d : Delivery) → DeliveryEnds idle D hd d → SoundStore (resume-after-task-exit act d .store)
     unfolding Activates put-queue
     exit-keeps d h =
-        exit-by D hd (λ x y. Good x) act act d h (yield-keeps (d .store) (h .mid)) (λ q u low off r m. go (put-queue (d .store) q) u low off m)
+        exit-by D hd (λ x y. Good x) act act d h (yield-keeps (d .store) (h .during)) (λ q u low off r m. go (put-queue (d .store) q) u low off m)
         (λ q u e low off m. go (put-queue (d .store) q) u low off m)
 
     -- a live spawned task fails: no other task runs
@@ -347,8 +347,8 @@ module _ (D : ℕ → Type 0) (hd : Header) (on : is-ended (hd .moment) ≡ fals
         let sent : DeliveryEnds r D hd (deliver-awaiter-failure s (task s (suc t) .awaiter) e) =
         failure-keeps r D hd e k s (task s (suc t) .coroutine .0) (task s (suc t) .awaiter) (task-delivering s t h low l) in
         exit-keeps _ (record {
-          mid = remove-keeps (deliver-awaiter-failure s (task s (suc t) .awaiter) e .store) (suc t) (sent .mid)
-              (subst (λ (y : Header). suc t < y .next) (sym (sent .mid .head)) low) (exited (suc t)) idle refl other;
+          during = remove-keeps (deliver-awaiter-failure s (task s (suc t) .awaiter) e .store) (suc t) (sent .during)
+              (subst (λ (y : Header). suc t < y .next) (sym (sent .during .head)) low) (exited (suc t)) idle refl other;
           woken = sent .woken;
         })
 

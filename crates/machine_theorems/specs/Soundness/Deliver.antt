@@ -43,7 +43,7 @@ use Rattle.machine_theorems.specs.Soundness.SpawnTask.{awaiter-below}
 
 -- A delivery is at its end: no awaiter is detached, and a task that it woke is below the next number.
 pub record DeliveryEnds (r : ℕ → Bool) (D : ℕ → Type 0) (hd : Header) (d : Delivery) : Type 0 where
-  pub mid : SoundDuring Nothing r D hd (d .store)
+  pub during : SoundDuring Nothing r D hd (d .store)
   pub woken : (t : ℕ) → d .woken ≡ some t → t < hd .next
 
 -- ---- awaiters told apart
@@ -81,12 +81,12 @@ except-during s f h =
     }
 
 -- where the detached awaiter is no task, every blocked task is awaited
-pub landed : {a : Awaiter} {r : ℕ → Bool} {D : ℕ → Type 0} {hd : Header} (s : Store) → ((u : ℕ) → Delivering a u → ⊥) → SoundDuring (Delivering a) r D hd s → SoundDuring Nothing r D hd s
-landed s f h = except-during s (λ t o l d e z. f t z) h
+pub delivery-ends : {a : Awaiter} {r : ℕ → Bool} {D : ℕ → Type 0} {hd : Header} (s : Store) → ((u : ℕ) → Delivering a u → ⊥) → SoundDuring (Delivering a) r D hd s → SoundDuring Nothing r D hd s
+delivery-ends s f h = except-during s (λ t o l d e z. f t z) h
 
 pub nobody-delivery-ends : {r : ℕ → Bool} {D : ℕ → Type 0} {hd : Header} (s : Store) → SoundDuring Nothing r D hd s → DeliveryEnds r D hd (nobody-woken s)
 unfolding nobody-woken
-nobody-delivery-ends s h = record { mid = h; woken = λ t e. absurd-some e }
+nobody-delivery-ends s h = record { during = h; woken = λ t e. absurd-some e }
 
 -- nothing is excepted, so nothing in particular
 pub take-off : {r : ℕ → Bool} {D : ℕ → Type 0} {hd : Header} (s : Store) (a : Awaiter) → SoundDuring Nothing r D hd s → SoundDuring (Delivering a) r D hd s
@@ -242,7 +242,7 @@ module _ {r : ℕ → Bool} {D : ℕ → Type 0} {hd : Header} (s : Store) (t o 
 
     woken : SoundDuring Nothing r D hd (put-queue (put-task s t row) (push-back (s .queue) t))
     woken =
-        task-during s h t row (push-back (s .queue) t) low (restated-fits (task s t) x (task-fits s t) f) (push-back-len (s .queue) t (h .kept .memory .fine .queue-fine))
+        task-during s h t row (push-back (s .queue) t) low (restated-fits (task s t) x (task-fits s t) f) (push-back-len (s .queue) t (h .kept .memory .words-right .queue-short))
         (push-back-length (s .queue) t ∙ h .kept .memory .ids) wake-fits wake-runs
 
   -- The last step of a delivery, of a value or an error: the task that awaits is woken if it is blocked.
@@ -254,7 +254,7 @@ module _ {r : ℕ → Bool} {D : ℕ → Type 0} {hd : Header} (s : Store) (t o 
       by true e =
           let i = is-the-block (task s t .state) e in
           record {
-            mid = add-log-during (put-queue (put-task s t row) (push-back (s .queue) t)) (woken (i .0) (i .1)) (reached t);
+            during = add-log-during (put-queue (put-task s t row) (push-back (s .queue) t)) (woken (i .0) (i .1)) (reached t);
             woken = λ u q. subst (λ (j : ℕ). j < hd .next) (Option·some-injective t u q) (subst (λ (y : Header). t < y .next) (h .head) low);
           }
       by false e =
@@ -318,71 +318,71 @@ raised-resumes e = record { lives = tt; unblocked = refl; stands = refl; old = r
 -- holds, and it is higher than o.
 pub record Sends (r : ℕ → Bool) (D : ℕ → Type 0) (hd : Header) (R : Store → Awaiter → Type 0) (o g : ℕ) (y : Settled) : Type 0 where
   pub stays : y .onward ≡ none → SoundDuring Nothing r D hd (y .store)
-  pub rises : (b : Awaiter) → y .onward ≡ some b → R (y .store) b
+  pub delivers-on : (b : Awaiter) → y .onward ≡ some b → R (y .store) b
   pub up : (b : Awaiter) → y .onward ≡ some b → o < g
 
 module _ (r : ℕ → Bool) (D : ℕ → Type 0) (hd : Header) where
   pub sends-nothing : (R : Store → Awaiter → Type 0) (o g : ℕ) (s : Store) → SoundDuring Nothing r D hd s → Sends r D hd R o g (record { store = s; onward = none })
-  sends-nothing R o g s h = record { stays = λ e. h; rises = λ b e. absurd-some e; up = λ b e. absurd-some e }
+  sends-nothing R o g s h = record { stays = λ e. h; delivers-on = λ b e. absurd-some e; up = λ b e. absurd-some e }
 
   pub sends-on : (R : Store → Awaiter → Type 0) (o g : ℕ) (s : Store) (a : Awaiter) → R s a → o < g → Sends r D hd R o g (record { store = s; onward = some a })
-  sends-on R o g s a h l = record { stays = λ e. absurd-some (sym e); rises = λ b e. subst (R s) (Option·some-injective a b e) h; up = λ b e. l }
+  sends-on R o g s a h l = record { stays = λ e. absurd-some (sym e); delivers-on = λ b e. subst (R s) (Option·some-injective a b e) h; up = λ b e. l }
 
 -- an error of object o on its way to awaiter a
-pub record ErrorRises (r : ℕ → Bool) (D : ℕ → Type 0) (hd : Header) (o : ℕ) (s : Store) (a : Awaiter) : Type 0 where
-  pub flight : Detached (view s) o a
-  pub mid : SoundDuring (Delivering a) r D hd s
+pub record DeliveringError (r : ℕ → Bool) (D : ℕ → Type 0) (hd : Header) (o : ℕ) (s : Store) (a : Awaiter) : Type 0 where
+  pub detached : Detached (view s) o a
+  pub during : SoundDuring (Delivering a) r D hd s
 
 module _ (r : ℕ → Bool) (D : ℕ → Type 0) (hd : Header) (e : Error) (k : ErrorFits e) where
   -- it fails the gather of a slot, if that is still awaited
-  pub error-sends : (s : Store) (o g x : ℕ) → ErrorRises r D hd o s (Awaiter.GatherSlot (heap-id g) (heap-id x)) → Sends r D hd (ErrorRises r D hd g) o g (fail-gather s g e)
+  pub error-sends : (s : Store) (o g x : ℕ) → DeliveringError r D hd o s (Awaiter.GatherSlot (heap-id g) (heap-id x)) → Sends r D hd (DeliveringError r D hd g) o g (fail-gather s g e)
   unfolding view fail-gather fail-awaited
   error-sends s o g x i = by (as-awaited (object s g)) refl
     where
       h : SoundDuring Nothing r D hd s
-      h = landed s (λ u z. task-slot (sym z)) (i .mid)
+      h = delivery-ends s (λ u z. task-slot (sym z)) (i .during)
 
       sl : Slotted (header s .made) (object s) (place s) o g x
-      sl = i .flight .slot g x refl
+      sl = i .detached .slot g x refl
 
-      by : (w : Option AwaitedGather) → as-awaited (object s g) ≡ w → Sends r D hd (ErrorRises r D hd g) o g (fail-awaited s g e w)
-      by none q = sends-nothing r D hd (ErrorRises r D hd g) o g s h
+      by : (w : Option AwaitedGather) → as-awaited (object s g) ≡ w → Sends r D hd (DeliveringError r D hd g) o g (fail-awaited s g e w)
+      by none q = sends-nothing r D hd (DeliveringError r D hd g) o g s h
       by (some w) q =
           let y : Object = Object.GatherFuture (w .first) (w .count) (GatherState.Failed e) in
           let st : Settles (view s) g y = gather-settles (view s) g w (GatherState.Failed e) (sl .made) q (failed-done (place s) (w .first) (w .count) e) in
           let aw : awaiter-of (object s g) ≡ w .awaiter = awaiter-is (object s g) w q in
           let fit : ObjectFits y = (awaited-fits s g w q .0, k) in
-          sends-on r D hd (ErrorRises r D hd g) o g (put-object s g y) (w .awaiter)
+          sends-on r D hd (DeliveringError r D hd g) o g (put-object s g y) (w .awaiter)
           (record {
-            flight = subst (λ (a : Awaiter). Detached (view (put-object s g y)) g a) aw (detached-keeps s g y fit st h);
-            mid = subst (λ (a : Awaiter). SoundDuring (Delivering a) r D hd (put-object s g y)) aw (settle-keeps s g y fit st h);
+            detached = subst (λ (a : Awaiter). Detached (view (put-object s g y)) g a) aw (detached-keeps s g y fit st h);
+            during = subst (λ (a : Awaiter). SoundDuring (Delivering a) r D hd (put-object s g y)) aw (settle-keeps s g y fit st h);
           }) (open-lower g w o (h .kept .but) (sl .made) q (sl .opens w q))
 
-  failure-slot : (n : ℕ) (s : Store) (o g x : ℕ) → object-limit ≤ suc n + o → ErrorRises r D hd o s (Awaiter.GatherSlot (heap-id g) (heap-id x))
-      → ((s : Store) (o : ℕ) (a : Awaiter) → object-limit ≤ n + o → ErrorRises r D hd o s a → DeliveryEnds r D hd (deliver-awaiter-failure s a e))
+  failure-slot : (n : ℕ) (s : Store) (o g x : ℕ) → object-limit ≤ suc n + o → DeliveringError r D hd o s (Awaiter.GatherSlot (heap-id g) (heap-id x))
+      → ((s : Store) (o : ℕ) (a : Awaiter) → object-limit ≤ n + o → DeliveringError r D hd o s a → DeliveryEnds r D hd (deliver-awaiter-failure s a e))
       → DeliveryEnds r D hd (deliver-awaiter-failure s (Awaiter.GatherSlot (heap-id g) (heap-id x)) e)
   unfolding view
   failure-slot n s o g x f i go = by (fail-gather s g e .onward) refl
     where
-      sent : Sends r D hd (ErrorRises r D hd g) o g (fail-gather s g e)
+      sent : Sends r D hd (DeliveringError r D hd g) o g (fail-gather s g e)
       sent = error-sends s o g x i
 
       low : g < object-limit
-      low = omega (arith, i .flight .slot g x refl .made, i .mid .kept .but .fits .made-fits)
+      low = omega (arith, i .detached .slot g x refl .made, i .during .kept .but .fits .made-fits)
 
       by : (b : Option Awaiter) → fail-gather s g e .onward ≡ b → DeliveryEnds r D hd (deliver-awaiter-failure s (Awaiter.GatherSlot (heap-id g) (heap-id x)) e)
       by none q = unfold deliver-awaiter-failure send-error in (rw q (unfold climb in (nobody-delivery-ends _ (sent .stays q))))
-      by (some a) q = rw (failure-climbs s (heap-id g) (heap-id x) e a (i .mid .kept .memory .sized) low q) (go _ g a (omega (arith, sent .up a q)) (sent .rises a q))
+      by (some a) q = rw (failure-climbs s (heap-id g) (heap-id x) e a (i .during .kept .memory .sized) low q) (go _ g a (omega (arith, sent .up a q)) (sent .delivers-on a q))
 
   -- fuel is no matter: see failure-climbs
-  failure-climb : (n : ℕ) (s : Store) (o : ℕ) (a : Awaiter) → object-limit ≤ n + o → ErrorRises r D hd o s a → DeliveryEnds r D hd (deliver-awaiter-failure s a e)
+  failure-climb : (n : ℕ) (s : Store) (o : ℕ) (a : Awaiter) → object-limit ≤ n + o → DeliveringError r D hd o s a → DeliveryEnds r D hd (deliver-awaiter-failure s a e)
   unfolding view
-  failure-climb zero s o a f i = absurd (not-suc-le-zero {n = 0} (omega (arith, f, i .flight .made, i .mid .kept .but .fits .made-fits)))
-  failure-climb (suc n) s o Awaiter.Nobody f i = unfold deliver-awaiter-failure send-error in (nobody-delivery-ends s (landed s (λ u z. nobody-task z) (i .mid)))
+  failure-climb zero s o a f i = absurd (not-suc-le-zero {n = 0} (omega (arith, f, i .detached .made, i .during .kept .but .fits .made-fits)))
+  failure-climb (suc n) s o Awaiter.Nobody f i = unfold deliver-awaiter-failure send-error in (nobody-delivery-ends s (delivery-ends s (λ u z. nobody-task z) (i .during)))
   failure-climb (suc n) s o (Awaiter.Task t) f i = unfold deliver-awaiter-failure send-error in
-      (reach-keeps s (t .0) o (TaskState.Raised e) (raised-resumes e) k (unfold state-values in tt) (i .flight) (i .mid))
+      (reach-keeps s (t .0) o (TaskState.Raised e) (raised-resumes e) k (unfold state-values in tt) (i .detached) (i .during))
   failure-climb (suc n) s o (Awaiter.GatherSlot g x) f i = failure-slot n s o (g .0) (x .0) f i (λ y p b j m. failure-climb n y p b j m)
 
   -- A failure of object o goes to its awaiter.
-  pub failure-keeps : (s : Store) (o : ℕ) (a : Awaiter) → ErrorRises r D hd o s a → DeliveryEnds r D hd (deliver-awaiter-failure s a e)
+  pub failure-keeps : (s : Store) (o : ℕ) (a : Awaiter) → DeliveringError r D hd o s a → DeliveryEnds r D hd (deliver-awaiter-failure s a e)
   failure-keeps s o a i = failure-climb object-limit s o a (omega arith) i

@@ -48,7 +48,7 @@ use Rattle.machine_theorems.specs.Soundness.PutObject.{by-object, by-tas
 use Rattle.machine_theorems.specs.Soundness.PutTask.{is-task-of-give, with-task-queue, TaskWrite}
 use Rattle.machine_theorems.specs.Soundness.Stores.{Kept, Runs, idle, SoundDuring, SoundStore, view-task-queue, object-during, task-during, queue-during, add-log-during, during-of, sound-store-during, moment-sound-store}
 use Rattle.machine_theorems.specs.Soundness.Deliver.{DeliveryEnds, Detached, take-off}
-use Rattle.machine_theorems.specs.Soundness.Fill.{Alone, ValueRises, success-keeps}
+use Rattle.machine_theorems.specs.Soundness.Fill.{Alone, DeliveringValue, success-keeps}
 use Rattle.machine_theorems.specs.Soundness.Cycle.{Spawned, spawned-of, not-a-task, coroutine-is, no-awaiter, task-detached, coroutine-fits, absent-in-range, absent-fits, remove-keeps, next-keeps, exit-keeps, failure-exit, activate-keeps}
 
 -- ---- the running task
@@ -171,15 +171,15 @@ module _ (s : Store) (t : ℕ) (v : Value) (h : SoundStore s) (m : header s .mom
   unfolding task put-object
   live1 = runner-live s (suc t) h m
 
-  pub completion-delivering : ValueRises idle (λ o. T (is-completed (kind (object s o)))) (header s) c v left-by (task s (suc t) .awaiter)
+  pub completion-delivering : DeliveringValue idle (λ o. T (is-completed (kind (object s o)))) (header s) c v left-by (task s (suc t) .awaiter)
   unfolding view task put-object
   completion-delivering =
       record {
         known = subst (λ (y : Header). T (value-known (y .made) (object left-by) v)) (sym (mid2 .head)) (value-stays (header s .made) (object s) (object left-by) (mid2 .done) v k);
-        flight = remove-detached done (suc t) c (exited (suc t)) (task s (suc t) .awaiter) (sp .slot) (task-detached done t mid1 low1 live1);
+        detached = remove-detached done (suc t) c (exited (suc t)) (task s (suc t) .awaiter) (sp .slot) (task-detached done t mid1 low1 live1);
         alone = subst (λ (u : View). Alone u c) (sym (remove-view done (suc t) (exited (suc t)) (mid1 .kept) low1))
             (remove-alone (view done) t (entries (remove (done .queue) (suc t))) (mid1 .kept .but) low1 live1);
-        mid = take-off left-by (task s (suc t) .awaiter) mid2;
+        during = take-off left-by (task s (suc t) .awaiter) mid2;
       }
 
   -- It reaches its awaiter.
@@ -233,7 +233,7 @@ module _ {D : ℕ → Type 0} {hd : Header} where
       → SoundDuring Nothing (but-for r t) D hd (add-log (put-task s t absent) (removed t))
   unfolding put-queue put-task
   end-one {r} s t e low h =
-      add-log-during (put-task s t absent) (task-during s h t absent (s .queue) low absent-fits (h .kept .memory .fine .queue-fine) (h .kept .memory .ids) write now) (removed t)
+      add-log-during (put-task s t absent) (task-during s h t absent (s .queue) low absent-fits (h .kept .memory .words-right .queue-short) (h .kept .memory .ids) write now) (removed t)
     where
       none-queued : Queued (header s .next) (update (task s) t absent) (entries (s .queue))
       none-queued =
@@ -315,7 +315,7 @@ end-keeps s h =
 module _ (D : ℕ → Type 0) (hd : Header) where
   -- no task runs, and the tasks of coroutines are below the next number
   record NoneRuns (w : Walk) : Type 0 where
-    mid : SoundDuring Nothing idle D hd (w .store)
+    during : SoundDuring Nothing idle D hd (w .store)
     low : (o t : ℕ) → w .tasks-of o ≡ some t → t < hd .next
 
   one-keeps : (s : Store) (t : ℕ) → t < hd .next → SoundDuring Nothing idle D hd s → SoundDuring Nothing idle D hd (cancel-one s t)
@@ -327,13 +327,13 @@ module _ (D : ℕ → Type 0) (hd : Header) where
   reach-none-runs w g h = by (is-some (as-awaited (object (w .store) g)) && not (getD (w .marks) g false))
     where
       by : (b : Bool) → NoneRuns (reach-if w g b)
-      by true = unfold reach-if in (record { mid = h .mid; low = h .low })
+      by true = unfold reach-if in (record { during = h .during; low = h .low })
       by false = unfold reach-if in h
 
   blocked-none-runs : (w : Walk) (t : ℕ) (b : Option ℕ) → t < hd .next → NoneRuns w → NoneRuns (remove-blocked w t b)
   unfolding remove-blocked
-  blocked-none-runs w t none l h = record { mid = one-keeps (w .store) t l (h .mid); low = h .low }
-  blocked-none-runs w t (some b) l h = reach-none-runs _ b (record { mid = one-keeps (w .store) t l (h .mid); low = h .low })
+  blocked-none-runs w t none l h = record { during = one-keeps (w .store) t l (h .during); low = h .low }
+  blocked-none-runs w t (some b) l h = reach-none-runs _ b (record { during = one-keeps (w .store) t l (h .during); low = h .low })
 
   visit-none-runs : (w : Walk) (o : ℕ) → NoneRuns w → NoneRuns (visit w o)
   unfolding visit
@@ -367,18 +367,18 @@ module _ (D : ℕ → Type 0) (hd : Header) where
 
   walk-none-runs : (k : ℕ) (w : Walk) → NoneRuns w → SoundDuring Nothing idle D hd (walk k w)
   unfolding walk
-  walk-none-runs zero w h = h .mid
+  walk-none-runs zero w h = h .during
   walk-none-runs (suc k) w h = by (w .stack) (λ x y. walk-none-runs k x y)
     where
       by : (gs : List ℕ) → ((x : Walk) → NoneRuns x → SoundDuring Nothing idle D hd (walk k x)) → SoundDuring Nothing idle D hd (walk-next (λ x. walk k x) w gs)
-      by [] go = unfold walk-next in (h .mid)
-      by (g ∷ gs) go = unfold walk-next in (go _ (gather-none-runs _ _ (record { mid = h .mid; low = h .low })))
+      by [] go = unfold walk-next in (h .during)
+      by (g ∷ gs) go = unfold walk-next in (go _ (gather-none-runs _ _ (record { during = h .during; low = h .low })))
 
   pub cancel-during : (s : Store) (t : ℕ) → t < hd .next → SoundDuring Nothing idle D hd s → SoundDuring Nothing idle D hd (cancel-task s t)
   unfolding cancel-task walk-from task-of task-of-in
   cancel-during s t l h =
       walk-none-runs object-limit (remove-blocked (walk-from s) t (blocked-on (task s t .state))) (blocked-none-runs (walk-from s) t _ l
-      (record { mid = h; low = λ o u e. omega (arith, first-below _ (header s .next - 1) 1 u e, ap (λ (y : Header). y .next) (h .head), h .kept .but .main) }))
+      (record { during = h; low = λ o u e. omega (arith, first-below _ (header s .next - 1) 1 u e, ap (λ (y : Header). y .next) (h .head), h .kept .but .main) }))
 
 -- in waiting nobody runs
 none-runs : (s : Store) → header s .moment ≡ Moment.Waiting → (u : ℕ) → runs-now (header s .moment) u ≡ false

@@ -43,7 +43,7 @@ use Rattle.machine_theorems.specs.Bounds.Bits.{bit-clear}
 use Rattle.machine_theorems.specs.Soundness.PutObject.{Held, by-object, by-task, Fits}
 use Rattle.machine_theorems.specs.Soundness.PutTask.{PlacesWrite}
 use Rattle.machine_theorems.specs.Soundness.Stores.{SoundDuring, object-during, place-during}
-use Rattle.machine_theorems.specs.Soundness.Deliver.{task-slot, DeliveryEnds, Delivering, Detached, landed, nobody-delivery-ends, Settles, settle-keeps, detached-keeps, Resumes, reach-keeps, awaiter-is, Done, gather-settles, open-lower}
+use Rattle.machine_theorems.specs.Soundness.Deliver.{task-slot, DeliveryEnds, Delivering, Detached, delivery-ends, nobody-delivery-ends, Settles, settle-keeps, detached-keeps, Resumes, reach-keeps, awaiter-is, Done, gather-settles, open-lower}
 use Rattle.machine_theorems.specs.Soundness.Deliver.{Sends, sends-nothing, sends-on}
 
 -- ---- what an awaited gather's row says
@@ -91,7 +91,7 @@ module _ {r : ℕ → Bool} {D : ℕ → Type 0} {hd : Header} (s : Store) (g x 
     (l : g < header s .made) (e : as-awaited (object s g) ≡ some w) (k : T (value-known (header s .made) (object s) v)) where
   -- the places' words and the open word while places are filled
   pub record Filling (ps : List ℕ) (m : ℕ) : Type 0 where
-    pub mid : SoundDuring Nothing r D hd (put-places s ps)
+    pub during : SoundDuring Nothing r D hd (put-places s ps)
     pub item : (p : ℕ) → place-at ps p .item ≡ place s p .item
     pub less : m ≤ w .open-places
     pub rest : T (rest-filled (place-at ps) (w .first) (w .count) m)
@@ -100,7 +100,7 @@ module _ {r : ℕ → Bool} {D : ℕ → Type 0} {hd : Header} (s : Store) (g x 
   begins : Filling (s .places) (w .open-places)
   unfolding put-places place view
   begins =
-      record { mid = h; item = λ p. refl; less = le-refl _; rest = rest-of g w (h .kept .but) l e; kept = λ j b ne. b }
+      record { during = h; item = λ p. refl; less = le-refl _; rest = rest-of g w (h .kept .but) l e; kept = λ j b ne. b }
 
   within : w .first + w .count ≤ header s .used
   unfolding view
@@ -137,12 +137,12 @@ module _ {r : ℕ → Bool} {D : ℕ → Type 0} {hd : Header} (s : Store) (g x 
 
     now : (p : ℕ) → place-at (place-put ps at row) p ≡ update (place-at ps) at row p
     unfolding view with-place place put-place put-places
-    now p = ap (λ (y : View). y .places p) (view-put-place u at row (f .mid .kept .memory .sized) (omega (arith, low-used, f .mid .kept .but .fits .used-fits)) row-fits)
+    now p = ap (λ (y : View). y .places p) (view-put-place u at row (f .during .kept .memory .sized) (omega (arith, low-used, f .during .kept .but .fits .used-fits)) row-fits)
 
     written : Filling (place-put ps at row) (m - 2 ^ i)
     written =
         record {
-          mid = unfold put-places put-place in (place-during u (f .mid) at row low-used row-fits row-write);
+          during = unfold put-places put-place in (place-during u (f .during) at row low-used row-fits row-write);
           item = λ p. ap (λ (y : Place). y .item) (now p)
               ∙ update-case (place-at ps) at row (λ (y : Place). y .item ≡ place s p .item) p (λ q. ap (λ (j : ℕ). place-at ps j .item) (sym q) ∙ f .item p) (λ d. f .item p);
           less = omega (arith, f .less);
@@ -306,9 +306,9 @@ module _ {r : ℕ → Bool} {D : ℕ → Type 0} {hd : Header} (s : Store) (g x 
   unfolding middle object put-places
   same-object o = refl
 
-  mid : SoundDuring Nothing r D hd middle
+  during : SoundDuring Nothing r D hd middle
   unfolding middle
-  mid = fills .mid
+  during = fills .during
 
   made : g < header middle .made
   made = subst (λ (y : Header). g < y .made) (sym same-header) l
@@ -337,14 +337,14 @@ module _ {r : ℕ → Bool} {D : ℕ → Type 0} {hd : Header} (s : Store) (g x 
   list-known =
       both _ _ (lt→ltb g _ (subst (λ (y : Header). g < y .made) (sym (header-put-object middle g full)) made))
       (subst (λ (y : Object). T (is-completed (kind y)))
-      (sym (object-put-object middle g full (mid .kept .memory .sized) (omega (arith, made, mid .kept .but .fits .made-fits)) full-fits)) (unfold full kind in tt))
+      (sym (object-put-object middle g full (during .kept .memory .sized) (omega (arith, made, during .kept .but .fits .made-fits)) full-fits)) (unfold full kind in tt))
 
   -- it waits on
   waits-keeps : (mask ≡ 0 → ⊥) → ((z : ℕ) → Held Nothing (view s) g z → z ≡ x → ⊥) → SoundDuring Nothing r D hd (put-object middle g (awaits-on w mask))
   unfolding view
   waits-keeps some-open alone =
-      object-during middle mid g (awaits-on w mask) (old-fits .0, (old-fits .1 .0, omega (arith, fills .less, old-fits .1 .1)))
-      (mask-fits (view middle) g mask w (mid .kept .but) made awaited small (holds _ (ap not (ne-eqb mask 0 some-open))) rest
+      object-during middle during g (awaits-on w mask) (old-fits .0, (old-fits .1 .0, omega (arith, fills .less, old-fits .1 .1)))
+      (mask-fits (view middle) g mask w (during .kept .but) made awaited small (holds _ (ap not (ne-eqb mask 0 some-open))) rest
       (λ z t i b n. fills .kept i b (λ y. alone z (unfold middle in (held-places s (after s g x v w h l e k .places) g z t)) (sym n ∙ (item-same (w .first + i) ∙ y)))))
     where
       old-fits : ObjectFits (awaits-on w (w .open-places))
@@ -368,27 +368,27 @@ module _ {r : ℕ → Bool} {D : ℕ → Type 0} {hd : Header} (s : Store) (g x 
 -- ---- a value climbs through each gather that it completes
 
 -- a value of object o on its way to awaiter a; no other holder has o for its source
-pub record ValueRises (r : ℕ → Bool) (D : ℕ → Type 0) (hd : Header) (o : ℕ) (v : Value) (s : Store) (a : Awaiter) : Type 0 where
+pub record DeliveringValue (r : ℕ → Bool) (D : ℕ → Type 0) (hd : Header) (o : ℕ) (v : Value) (s : Store) (a : Awaiter) : Type 0 where
   pub known : T (value-known (header s .made) (object s) v)
-  pub flight : Detached (view s) o a
+  pub detached : Detached (view s) o a
   pub alone : Alone (view s) o
-  pub mid : SoundDuring (Delivering a) r D hd s
+  pub during : SoundDuring (Delivering a) r D hd s
 
 module _ (r : ℕ → Bool) (D : ℕ → Type 0) (hd : Header) where
   -- it fills its places in the gather of a slot, if that is still awaited
-  pub value-sends : (s : Store) (o g x : ℕ) (v : Value) → ValueRises r D hd o v s (Awaiter.GatherSlot (heap-id g) (heap-id x))
-      → Sends r D hd (ValueRises r D hd g (Value.List (heap-id g))) o g (resolve-child s g x v)
+  pub value-sends : (s : Store) (o g x : ℕ) (v : Value) → DeliveringValue r D hd o v s (Awaiter.GatherSlot (heap-id g) (heap-id x))
+      → Sends r D hd (DeliveringValue r D hd g (Value.List (heap-id g))) o g (resolve-child s g x v)
   unfolding view
   value-sends s o g x v i = by (as-awaited (object s g)) refl
     where
       R : Store → Awaiter → Type 0
-      R = ValueRises r D hd g (Value.List (heap-id g))
+      R = DeliveringValue r D hd g (Value.List (heap-id g))
 
       h : SoundDuring Nothing r D hd s
-      h = landed s (λ u z. task-slot (sym z)) (i .mid)
+      h = delivery-ends s (λ u z. task-slot (sym z)) (i .during)
 
       sl : Slotted (header s .made) (object s) (place s) o g x
-      sl = i .flight .slot g x refl
+      sl = i .detached .slot g x refl
 
       k : T (value-known (header s .made) (object s) v)
       k = i .known
@@ -413,45 +413,45 @@ module _ (r : ℕ → Bool) (D : ℕ → Type 0) (hd : Header) where
           left true z =
               let st : Settles (view md) g fu = all-settles s g x v w h (sl .made) q k (eqb-true mk 0 z) in
               let fit : ObjectFits fu = full-fits s g x v w h (sl .made) q k in
-              let keep : SoundDuring Nothing r D hd md = mid s g x v w h (sl .made) q k in
+              let keep : SoundDuring Nothing r D hd md = during s g x v w h (sl .made) q k in
               subst (Sends r D hd R o g) (sym (resolved s g x v w h (sl .made) q k z))
               (sends-on r D hd R o g (put-object md g fu) (w .awaiter)
               (record {
                 known = list-known s g x v w h (sl .made) q k;
-                flight = subst (λ (a : Awaiter). Detached (view (put-object md g fu)) g a) aw (detached-keeps md g fu fit st keep);
+                detached = subst (λ (a : Awaiter). Detached (view (put-object md g fu)) g a) aw (detached-keeps md g fu fit st keep);
                 alone = alone-keeps md g fu fit st (unfold full kind in refl) keep;
-                mid = subst (λ (a : Awaiter). SoundDuring (Delivering a) r D hd (put-object md g fu)) aw (settle-keeps md g fu fit st keep);
+                during = subst (λ (a : Awaiter). SoundDuring (Delivering a) r D hd (put-object md g fu)) aw (settle-keeps md g fu fit st keep);
               }) (open-lower g w o (h .kept .but) (sl .made) q (sl .opens w q)))
           left false z =
               subst (Sends r D hd R o g) (sym (resolved-on s g x v w h (sl .made) q k z))
               (sends-nothing r D hd R o g _ (waits-keeps s g x v w h (sl .made) q k (eqb-false mk 0 z) (λ y t p. i .alone g y t (p ∙ sl .own))))
 
-  success-slot : (n : ℕ) (s : Store) (o g x : ℕ) (v : Value) → object-limit ≤ suc n + o → ValueRises r D hd o v s (Awaiter.GatherSlot (heap-id g) (heap-id x))
-      → ((s : Store) (o : ℕ) (a : Awaiter) (v : Value) → object-limit ≤ n + o → ValueRises r D hd o v s a → DeliveryEnds r D hd (deliver-awaiter-success s a v))
+  success-slot : (n : ℕ) (s : Store) (o g x : ℕ) (v : Value) → object-limit ≤ suc n + o → DeliveringValue r D hd o v s (Awaiter.GatherSlot (heap-id g) (heap-id x))
+      → ((s : Store) (o : ℕ) (a : Awaiter) (v : Value) → object-limit ≤ n + o → DeliveringValue r D hd o v s a → DeliveryEnds r D hd (deliver-awaiter-success s a v))
       → DeliveryEnds r D hd (deliver-awaiter-success s (Awaiter.GatherSlot (heap-id g) (heap-id x)) v)
   unfolding view
   success-slot n s o g x v f i go = by (resolve-child s g x v .onward) refl
     where
-      sent : Sends r D hd (ValueRises r D hd g (Value.List (heap-id g))) o g (resolve-child s g x v)
+      sent : Sends r D hd (DeliveringValue r D hd g (Value.List (heap-id g))) o g (resolve-child s g x v)
       sent = value-sends s o g x v i
 
       low : g < object-limit
-      low = omega (arith, i .flight .slot g x refl .made, i .mid .kept .but .fits .made-fits)
+      low = omega (arith, i .detached .slot g x refl .made, i .during .kept .but .fits .made-fits)
 
       by : (b : Option Awaiter) → resolve-child s g x v .onward ≡ b → DeliveryEnds r D hd (deliver-awaiter-success s (Awaiter.GatherSlot (heap-id g) (heap-id x)) v)
       by none q = unfold deliver-awaiter-success send-value in (rw q (unfold climb in (nobody-delivery-ends _ (sent .stays q))))
       by (some a) q =
-          rw (success-climbs s (heap-id g) (heap-id x) v a (i .mid .kept .memory .sized) low q) (go _ g a (Value.List (heap-id g)) (omega (arith, sent .up a q)) (sent .rises a q))
+          rw (success-climbs s (heap-id g) (heap-id x) v a (i .during .kept .memory .sized) low q) (go _ g a (Value.List (heap-id g)) (omega (arith, sent .up a q)) (sent .delivers-on a q))
 
-  success-climb : (n : ℕ) (s : Store) (o : ℕ) (a : Awaiter) (v : Value) → object-limit ≤ n + o → ValueRises r D hd o v s a → DeliveryEnds r D hd (deliver-awaiter-success s a v)
+  success-climb : (n : ℕ) (s : Store) (o : ℕ) (a : Awaiter) (v : Value) → object-limit ≤ n + o → DeliveringValue r D hd o v s a → DeliveryEnds r D hd (deliver-awaiter-success s a v)
   unfolding view
-  success-climb zero s o a v f i = absurd (not-suc-le-zero {n = 0} (omega (arith, f, i .flight .made, i .mid .kept .but .fits .made-fits)))
-  success-climb (suc n) s o Awaiter.Nobody v f i = unfold deliver-awaiter-success send-value in (nobody-delivery-ends s (landed s (λ u z. nobody-task z) (i .mid)))
+  success-climb zero s o a v f i = absurd (not-suc-le-zero {n = 0} (omega (arith, f, i .detached .made, i .during .kept .but .fits .made-fits)))
+  success-climb (suc n) s o Awaiter.Nobody v f i = unfold deliver-awaiter-success send-value in (nobody-delivery-ends s (delivery-ends s (λ u z. nobody-task z) (i .during)))
   success-climb (suc n) s o (Awaiter.Task t) v f i = unfold deliver-awaiter-success send-value in
-      (reach-keeps s (t .0) o (TaskState.Woken v) (woken-resumes v) (value-fits (header s .made) (object s) v (i .mid .kept .but .fits .made-fits) (i .known))
-      (unfold state-values in (i .known)) (i .flight) (i .mid))
+      (reach-keeps s (t .0) o (TaskState.Woken v) (woken-resumes v) (value-fits (header s .made) (object s) v (i .during .kept .but .fits .made-fits) (i .known))
+      (unfold state-values in (i .known)) (i .detached) (i .during))
   success-climb (suc n) s o (Awaiter.GatherSlot g x) v f i = success-slot n s o (g .0) (x .0) v f i (λ y p b w j m. success-climb n y p b w j m)
 
   -- A value of object o goes to its awaiter.
-  pub success-keeps : (s : Store) (o : ℕ) (a : Awaiter) (v : Value) → ValueRises r D hd o v s a → DeliveryEnds r D hd (deliver-awaiter-success s a v)
+  pub success-keeps : (s : Store) (o : ℕ) (a : Awaiter) (v : Value) → DeliveringValue r D hd o v s a → DeliveryEnds r D hd (deliver-awaiter-success s a v)
   success-keeps s o a v i = success-climb object-limit s o a v (omega arith) i

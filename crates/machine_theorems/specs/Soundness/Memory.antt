@@ -10,23 +10,23 @@ use Rattle.asyncio.specs.Limits.{task-limit}
 use Rattle.asyncio.specs.Ranges.{ObjectFits, PlaceFits}
 use Rattle.machine.specs.Store.{Store, header, put-object, put-place}
 use Rattle.machine_laws.specs.Views.{Sized}
-use Rattle.machine_laws.specs.Facts.{WordsFine}
+use Rattle.machine_laws.specs.Facts.{WordsInRange}
 use Rattle.machine_laws.specs.StoreLaws.{sized-put-object, sized-put-place, header-put-object, header-fits}
-use Rattle.machine_laws.specs.WordLaws.{fine-put-object, fine-put-place}
+use Rattle.machine_laws.specs.WordLaws.{words-put-object, words-put-place}
 
 -- the memory is of its lengths, and the rows in use are canonical
 pub record Memory (s : Store) : Type 0 where
   pub sized : Sized s
   pub ids : length (s .queue .ids) ≡ task-limit
-  pub fine : WordsFine (header s .next) (header s .made) (header s .used) s
+  pub words-right : WordsInRange (header s .next) (header s .made) (header s .used) s
 
 pub memory-object : (s : Store) (o : ℕ) (x : Object) → o < header s .made → ObjectFits x → Memory s → Memory (put-object s o x)
 memory-object s o x l f h =
     record {
       sized = sized-put-object s o x (h .sized);
       ids = unfold put-object in (h .ids);
-      fine = subst (λ (y : Header). WordsFine (y .next) (y .made) (y .used) (put-object s o x)) (sym (header-put-object s o x))
-          (fine-put-object _ _ _ s (h .sized) (h .fine) (header s .made) o x (omega (arith, header-fits s .made-fits)) f (λ p m ne. m));
+      words-right = subst (λ (y : Header). WordsInRange (y .next) (y .made) (y .used) (put-object s o x)) (sym (header-put-object s o x))
+          (words-put-object _ _ _ s (h .sized) (h .words-right) (header s .made) o x (omega (arith, header-fits s .made-fits)) f (λ p m ne. m));
     }
 
 pub memory-place : (s : Store) (p : ℕ) (x : Place) → p < header s .used → PlaceFits x → Memory s → Memory (put-place s p x)
@@ -35,5 +35,5 @@ memory-place s p x l f h =
     record {
       sized = sized-put-place s p x (h .sized);
       ids = h .ids;
-      fine = fine-put-place (header s .next) (header s .made) (header s .used) s (h .sized) (h .fine) (header s .used) p x (omega (arith, l, header-fits s .used-fits)) f (λ q m ne. m);
+      words-right = words-put-place (header s .next) (header s .made) (header s .used) s (h .sized) (h .words-right) (header s .used) p x (omega (arith, l, header-fits s .used-fits)) f (λ q m ne. m);
     }

@@ -31,8 +31,8 @@ use Rattle.machine_laws.specs.MakingLaws.{value-fits}
 use Rattle.machine_laws.specs.DeliveryLaws.{pending-object, first-below}
 use Rattle.machine_theorems.specs.Soundness.PutObject.{value-stays}
 use Rattle.machine_theorems.specs.Soundness.Stores.{SoundDuring}
-use Rattle.machine_theorems.specs.Soundness.Deliver.{Delivering, Detached, Settles, settle-keeps, detached-keeps, ErrorRises, failure-keeps}
-use Rattle.machine_theorems.specs.Soundness.Fill.{alone-keeps, ValueRises, success-keeps}
+use Rattle.machine_theorems.specs.Soundness.Deliver.{Delivering, Detached, Settles, settle-keeps, detached-keeps, DeliveringError, failure-keeps}
+use Rattle.machine_theorems.specs.Soundness.Fill.{alone-keeps, DeliveringValue, success-keeps}
 
 -- ---- a pending external settles
 
@@ -121,7 +121,7 @@ module _ {r : ℕ → Bool} {D : ℕ → Type 0} {hd : Header} (s : Store) (h : 
 
   -- the pending external o is settled with the host's value, or what is stored, which is on its way then
   pub resolve-delivering : (v : Value) → T (value-known (header s .made) (object s) v) → (o : ℕ) (p : PendingExternal) → o < header s .made → as-pending (object s o) ≡ some p
-      → ValueRises r D hd o (value-or (p .stored) v) (put-object s o (Object.ExternalFuture (p .call) (ExternalFutureState.Resolved (value-or (p .stored) v)))) (p .awaiter)
+      → DeliveringValue r D hd o (value-or (p .stored) v) (put-object s o (Object.ExternalFuture (p .call) (ExternalFutureState.Resolved (value-or (p .stored) v)))) (p .awaiter)
   unfolding view
   resolve-delivering v k o p l e =
       let x : Value = value-or (p .stored) v in
@@ -132,9 +132,9 @@ module _ {r : ℕ → Bool} {D : ℕ → Type 0} {hd : Header} (s : Store) (h : 
       let aw : awaiter-of (object s o) ≡ p .awaiter = pending-awaiter (object s o) p e in
       record {
         known = known-settled o y x fit st known;
-        flight = subst (λ (a : Awaiter). Detached (view (put-object s o y)) o a) aw (detached-keeps s o y fit st h);
+        detached = subst (λ (a : Awaiter). Detached (view (put-object s o y)) o a) aw (detached-keeps s o y fit st h);
         alone = alone-keeps s o y fit st (unfold kind in refl) h;
-        mid = subst (λ (a : Awaiter). SoundDuring (Delivering a) r D hd (put-object s o y)) aw (settle-keeps s o y fit st h);
+        during = subst (λ (a : Awaiter). SoundDuring (Delivering a) r D hd (put-object s o y)) aw (settle-keeps s o y fit st h);
       }
 
   -- the row is written
@@ -150,11 +150,11 @@ module _ {r : ℕ → Bool} {D : ℕ → Type 0} {hd : Header} (s : Store) (h : 
   unfolding resolve-future resolve-pending
   resolve-keeps call v k =
       found-keeps (pending-external s call) _ (low call)
-      (λ o p l e. success-keeps r D hd _ o (p .awaiter) (value-or (p .stored) v) (resolve-delivering v k o p l e) .mid)
+      (λ o p l e. success-keeps r D hd _ o (p .awaiter) (value-or (p .stored) v) (resolve-delivering v k o p l e) .during)
 
   -- with an error
   pub fail-delivering : (x : Error) → ErrorFits x → (o : ℕ) (p : PendingExternal) → o < header s .made → as-pending (object s o) ≡ some p
-      → ErrorRises r D hd o (put-object s o (Object.ExternalFuture (p .call) (ExternalFutureState.Failed x))) (p .awaiter)
+      → DeliveringError r D hd o (put-object s o (Object.ExternalFuture (p .call) (ExternalFutureState.Failed x))) (p .awaiter)
   unfolding view
   fail-delivering x k o p l e =
       let y : Object = Object.ExternalFuture (p .call) (ExternalFutureState.Failed x) in
@@ -162,8 +162,8 @@ module _ {r : ℕ → Bool} {D : ℕ → Type 0} {hd : Header} (s : Store) (h : 
       let fit : ObjectFits y = (pending-fits s o p e .0, k) in
       let aw : awaiter-of (object s o) ≡ p .awaiter = pending-awaiter (object s o) p e in
       record {
-        flight = subst (λ (a : Awaiter). Detached (view (put-object s o y)) o a) aw (detached-keeps s o y fit st h);
-        mid = subst (λ (a : Awaiter). SoundDuring (Delivering a) r D hd (put-object s o y)) aw (settle-keeps s o y fit st h);
+        detached = subst (λ (a : Awaiter). Detached (view (put-object s o y)) o a) aw (detached-keeps s o y fit st h);
+        during = subst (λ (a : Awaiter). SoundDuring (Delivering a) r D hd (put-object s o y)) aw (settle-keeps s o y fit st h);
       }
 
   pub fail-row : (x : Error) → ErrorFits x → (o : ℕ) (p : PendingExternal) → o < header s .made → as-pending (object s o) ≡ some p
@@ -174,7 +174,7 @@ module _ {r : ℕ → Bool} {D : ℕ → Type 0} {hd : Header} (s : Store) (h : 
   pub fail-future-keeps : (call : ℕ) (x : Error) → ErrorFits x → SoundDuring Nothing r D hd (fail-future s call x)
   unfolding fail-future fail-pending
   fail-future-keeps call x k =
-      found-keeps (pending-external s call) _ (low call) (λ o p l e. failure-keeps r D hd x k _ o (p .awaiter) (fail-delivering x k o p l e) .mid)
+      found-keeps (pending-external s call) _ (low call) (λ o p l e. failure-keeps r D hd x k _ o (p .awaiter) (fail-delivering x k o p l e) .during)
 
 -- ---- the event `results`
 

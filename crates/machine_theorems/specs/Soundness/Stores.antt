@@ -20,11 +20,11 @@ use Rattle.queue.specs.Queue.{entries}
 use Rattle.machine.specs.Store.{Store, View, view, task, object, place, header, put-task, put-object, put-place, put-header, put-queue, add-log, set-moment, LogEntry}
 use Rattle.machine.specs.Sound.{is-ended, runs-now, runner-in-range, sound}
 use Rattle.machine_laws.specs.Views.{Sized, update, with-task, with-object, with-place, with-places, with-header, with-queue}
-use Rattle.machine_laws.specs.Facts.{SoundBut, Nothing, SoundFacts, WordsFine}
+use Rattle.machine_laws.specs.Facts.{SoundBut, Nothing, SoundFacts, WordsInRange}
 use Rattle.machine_laws.specs.TestLaws.{both, both-left}
 use Rattle.machine_laws.specs.StoreLaws.{update-case, sized-put-task, sized-put-header, sized-put-queue, sized-add-log, header-put-header, header-put-object}
 use Rattle.machine_laws.specs.StoreLaws.{view-put-task, view-put-object, view-put-place, view-put-header, view-put-queue, view-add-log}
-use Rattle.machine_laws.specs.WordLaws.{words-facts, words-test, fine-put-task, fine-put-header, fine-put-queue, fine-add-log}
+use Rattle.machine_laws.specs.WordLaws.{words-facts, words-test, words-put-task, words-put-header, words-put-queue, words-add-log}
 use Rattle.machine_laws.specs.FactLaws.{to-test}
 use Rattle.machine_laws.specs.MakingLaws.{called-at, header-keeps}
 use Rattle.machine_laws.specs.SoundLaws.{sound-facts}
@@ -60,11 +60,11 @@ pub record SoundStore (s : Store) : Type 0 where
 
 pub sound-store-of : (s : Store) → Sized s → length (s .queue .ids) ≡ task-limit → T (sound s) → SoundStore s
 unfolding sound
-sound-store-of s z i h = record { memory = record { sized = z; ids = i; fine = words-facts s (both-left _ _ h) }; facts = sound-facts s h }
+sound-store-of s z i h = record { memory = record { sized = z; ids = i; words-right = words-facts s (both-left _ _ h) }; facts = sound-facts s h }
 
 pub sound-store-sound : (s : Store) → SoundStore s → T (sound s)
 unfolding sound
-sound-store-sound s h = both _ _ (words-test s (h .memory .fine)) (to-test (view s) (h .facts))
+sound-store-sound s h = both _ _ (words-test s (h .memory .words-right)) (to-test (view s) (h .facts))
 
 -- ---- each write
 
@@ -91,9 +91,9 @@ module _ {k : ℕ} {P Q : ℕ → Type 0} (s : Store) (h : Kept k P Q s) where
         memory = record {
           sized = sized-put-queue (put-task s t r) q (sized-put-task s t r (h .memory .sized));
           ids = unfold put-queue in ids;
-          fine = unfold header put-queue put-task in
-              (fine-put-queue (header s .next) (header s .made) (header s .used) (put-task s t r) (sized-put-task s t r (h .memory .sized))
-              (fine-put-task _ _ _ s (h .memory .sized) (h .memory .fine) (header s .next) t r room f (λ u m ne. m)) q len);
+          words-right = unfold header put-queue put-task in
+              (words-put-queue (header s .next) (header s .made) (header s .used) (put-task s t r) (sized-put-task s t r (h .memory .sized))
+              (words-put-task _ _ _ s (h .memory .sized) (h .memory .words-right) (header s .next) t r room f (λ u m ne. m)) q len);
         };
         but = subst (SoundBut k P' Q') (sym (view-task-queue t r q room f)) (task-keeps k P Q P' Q' (view s) t r (entries q) ft (h .but));
       }
@@ -105,7 +105,7 @@ module _ {k : ℕ} {P Q : ℕ → Type 0} (s : Store) (h : Kept k P Q s) where
         memory = record {
           sized = sized-put-queue s q (h .memory .sized);
           ids = unfold put-queue in ids;
-          fine = unfold header put-queue in (fine-put-queue (header s .next) (header s .made) (header s .used) s (h .memory .sized) (h .memory .fine) q len);
+          words-right = unfold header put-queue in (words-put-queue (header s .next) (header s .made) (header s .used) s (h .memory .sized) (h .memory .words-right) q len);
         };
         but = subst (SoundBut k P Q) (sym (view-put-queue s q)) (unfold view in (queue-keeps (entries q) f (h .but)));
       }
@@ -124,7 +124,7 @@ module _ {k : ℕ} {P Q : ℕ → Type 0} (s : Store) (h : Kept k P Q s) where
         memory = record {
           sized = sized-add-log s x (h .memory .sized);
           ids = unfold add-log in (h .memory .ids);
-          fine = unfold header add-log in (fine-add-log (header s .next) (header s .made) (header s .used) s (h .memory .sized) (h .memory .fine) x);
+          words-right = unfold header add-log in (words-add-log (header s .next) (header s .made) (header s .used) s (h .memory .sized) (h .memory .words-right) x);
         };
         but = subst (SoundBut k P Q) (sym (view-add-log s x)) (h .but);
       }
@@ -219,8 +219,8 @@ moment-sound-store {D} {hd} s m f k e h =
       memory = record {
         sized = sized-put-header s i z;
         ids = unfold put-header in (h .kept .memory .ids);
-        fine = subst (λ (y : Header). WordsFine (y .next) (y .made) (y .used) (put-header s i)) (sym (header-put-header s i z (but .fits)))
-            (fine-put-header _ _ _ s z (h .kept .memory .fine) i (but .fits));
+        words-right = subst (λ (y : Header). WordsInRange (y .next) (y .made) (y .used) (put-header s i)) (sym (header-put-header s i z (but .fits)))
+            (words-put-header _ _ _ s z (h .kept .memory .words-right) i (but .fits));
       };
       facts = subst SoundFacts (sym (view-put-header s i z (but .fits)))
           (record { but = but; runner = subst (λ (y : Header). T (runner-in-range (y .next) m)) (sym (h .head)) k; runs = h .runs });
