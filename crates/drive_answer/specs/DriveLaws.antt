@@ -4,19 +4,25 @@ use mathlib.Core.Bool.{Bool, true, false}
 use mathlib.Core.List.{List, [], _∷_}
 use Prim.Native.Nat.{ℕ, _+_, _-_, _*_, _≤_}
 use native.Mathlib.Omega.{arith}
-use lib.Dec.{leb}
+use lib.Dec.{eqb, leb}
 use lib.ListN.{length, take, drop}
 use borrow.Author.Tests.{leb-true}
 use Rattle.asyncio.specs.Limits.{object-limit}
+use Rattle.asyncio.specs.States.{pick}
 use Rattle.queue.specs.declared.ReadyQueue.{ReadyQueue}
-use Rattle.machine.specs.Store.{Store, LogEntry, store-of}
+use Rattle.machine.specs.Store.{Store, LogEntry, store-of, header}
+use Rattle.machine.specs.Sound.{sound}
+use Rattle.machine.specs.Events.{make-gather}
 use Rattle.machine.specs.Machine as machine
-use Rattle.machine.specs.Lent.{Lent, slices-right, lengths-right, answer-calls, lent-step, lent-read}
+use Rattle.machine.specs.Machine.{first-refusal, refusals, accept, decide}
+use Rattle.machine.specs.Lent.{Lent, slices-right, lengths-right, write-calls, answer-calls, written, lent-step, lent-read}
 use Rattle.machine_laws.specs.TestLaws.{and-true}
 use Rattle.machine_laws.specs.MachineLaws.{lent-count, lent-calls, lent-length}
-use Rattle.exec_switch.specs.Answer.{answer-with, answer-of}
+use Rattle.exec_switch.specs.Answer.{answer-with, answer-of, stepped-of}
 use Rattle.exec_switch.specs.declared.answer.Answer.{Answer}
+use Rattle.step_checks.specs.Checked.{checked}
 use Rattle.step_checks.specs.Lent.{lent-of}
+use Rattle.step_checks.specs.LentLaws.{logs}
 use Rattle.step_read.specs.Reads.{show-answer}
 use Rattle.step_read.specs.declared.Reading.{Reading}
 use Rattle.drive_reader.specs.declared.Record.{Record}
@@ -29,8 +35,9 @@ use Rattle.drive_shows.specs.Shows.{reading-count}
 use Rattle.drive_shows.specs.AnswerLaws.{wrote-event, wrote-eager, wrote-show}
 use Rattle.drive_lines.specs.Lines.{line}
 use Rattle.drive_answer.specs.Driver.{Asked, asked, Drives, refused-11, answered, drive-by, drive-one}
-use Rattle.step_event.specs.declared.Event.{Event}
+use Rattle.drive_answer.specs.declared.answered.Asks.{Asks}
 use Rattle.step_event.specs.EventOf.{event-of}
+use Rattle.step_event.specs.SoundStepLaws.{steps-soundly}
 use Rattle.drive_answer.specs.Drove.{Drove, InInput, RecordFits}
 
 -- ---- lines
@@ -56,6 +63,36 @@ count-within u l e {x} r h =
     let n : length (x .list) ≡ length l = ap (λ (y : Lent). length (y .list)) r ∙ lent-length u l e in
     let room : object-limit ≤ length l = leb-true object-limit (length l) (unfold lengths-right in (and-true (slices-right u) (leb object-limit (length l)) h .1)) in
     omega (arith, k, lent-calls u l e .few, n, room)
+
+-- A gather's answer is no wait, done or refused: the list of calls stays.
+picked-keeps : (b : Bool) (s s′ : Store) (o n : ℕ) (cs : List ℕ)
+    → let a : machine.Answer = pick {A = machine.Step} b (record { store = s; answer = machine.Answer.made o }) (record { store = s′; answer = machine.Answer.refused n }) .answer in
+    (cs ≡ written a cs) × (0 ≡ length (answer-calls a))
+unfolding written write-calls answer-calls
+picked-keeps true s s′ o n cs = (refl, refl)
+picked-keeps false s s′ o n cs = (refl, refl)
+
+gather-keeps : (s : Store) (is cs : List ℕ)
+    → let a : machine.Answer = checked s (machine.Event.gather is) .answer in
+    (cs ≡ written a cs) × (0 ≡ length (answer-calls a))
+unfolding checked decide accept
+gather-keeps s is cs =
+    let n : ℕ = first-refusal (refusals s (machine.Event.gather is)) in
+    picked-keeps (eqb n 0) (make-gather s is) s (header s .made) n cs
+
+-- A gather: what it makes, and the line that was written.
+pub gather-drove : (ts os ps : List ℕ) (q : ReadyQueue) (cs : List ℕ) (l : List LogEntry) (is : List ℕ) (next number : ℕ) (a : Answer) {os′ ps′ : List ℕ} {x y : Out}
+    → lengths-right (store-of ts os ps q []) cs ≡ true
+    → sound (store-of ts os ps q []) ≡ true
+    → stepped-of (store-of ts os′ ps′ q []) a ≡ checked (store-of ts os ps q []) (machine.Event.gather is)
+    → Wrote (123 + 21 * 0) x y (line number (answer-with [] a))
+    → Drove ts os′ ps′ q cs next true x y (answered (store-of ts os ps q l) cs next number (Asked.event (machine.Event.gather is)))
+gather-drove ts os ps q cs l is next number a {os′} {ps′} i k r w =
+    let e : checked (store-of ts os ps q []) (machine.Event.gather is) .answer ≡ answer-of os′ a = sym (ap (λ (z : machine.Step). z .answer) r) in
+    let f = gather-keeps (store-of ts os ps q []) is cs in
+    let n : (cs ≡ written (answer-of os′ a) cs) × (0 ≡ length (answer-calls (answer-of os′ a))) =
+    (f .0 ∙ ap (λ (z : machine.Answer). written z cs) e, f .1 ∙ ap (λ (z : machine.Answer). length (answer-calls z)) e) in
+    event-drove (store-of ts os ps q l) cs (machine.Event.gather is) next number a 0 (steps-soundly ts os ps q cs l (machine.Event.gather is) i k a (logs [] a r) n) w
 
 -- A read of an object.
 pub show-drove : (ts os ps : List ℕ) (q : ReadyQueue) (k : List LogEntry) (l : List ℕ) (o next number : ℕ) (r : Reading) {x y : Out}
@@ -125,17 +162,22 @@ asks-inside src from (Record.Cancel t) e = tt
 asks-inside src from (Record.Show o) e = tt
 asks-inside src from Record.Eager e = tt
 
--- A record that is an event of the code and has all it needs in itself: no items and no results are looked at.
-pub record AsksEvent (src : List ℕ) (r : Record) (e : Event) : Type 0 where
-  pub is-event : asked src r ≡ Asked.event (event-of (0 ∷ []) src e)
+-- A record that is an event of the code: no items are looked at, and its results stand within the input.
+pub record AsksEvent (src : List ℕ) (r : Record) (x : Asks) : Type 0 where
+  pub is-event : asked src r ≡ Asked.event (event-of (0 ∷ []) (take (x .count * 14) (drop (x .first) src)) (x .event))
+  pub inside : x .first + x .count * 14 ≤ length src
   pub fits : RecordFits r
 
 -- its line is the record's
-pub asks-drove : (src : List ℕ) {r : Record} {e : Event} (u : Store) (l : List ℕ) (next number : ℕ) {ts os ps cs : List ℕ} {q : ReadyQueue} {after : ℕ} {going : Bool} {x y : Out}
-    → AsksEvent src r e
-    → Drove ts os ps q cs after going x y (answered u l next number (Asked.event (event-of (0 ∷ []) src e)))
-    → Drove ts os ps q cs after going x y (answered u l next number (asked src r))
-asks-drove src u l next number a w = same-drives (ap (answered u l next number) (sym (a .is-event))) w
+pub asks-drove : (src : List ℕ) {r : Record} {x : Asks} (u : Store) (l : List ℕ) (next number : ℕ) {ts os ps cs : List ℕ} {q : ReadyQueue} {after : ℕ} {going : Bool} {b e : Out}
+    → AsksEvent src r x
+    → Drove ts os ps q cs after going b e (answered u l next number (Asked.event (event-of (0 ∷ []) (take (x .first + x .count * 14 - x .first) (drop (x .first) src)) (x .event))))
+    → Drove ts os ps q cs after going b e (answered u l next number (asked src r))
+asks-drove src {r} {x} u l next number a w =
+    same-drives
+    (ap (λ (bs : List ℕ). answered u l next number (Asked.event (event-of (0 ∷ []) bs (x .event)))) (part-is src (x .first) (x .count * 14))
+    ∙ ap (answered u l next number) (sym (a .is-event)))
+    w
 
 -- ---- one record
 

@@ -23,6 +23,13 @@ pub struct Driven {
     pub going: bool,
 }
 
+// An event as its record has it. The results of a batch stand in the input, `count` of 14 bytes each from byte `first` on; the others have none.
+pub struct Asks {
+    pub event: Event,
+    pub first: usize,
+    pub count: u8,
+}
+
 // An event and its line.
 fn event_line(
     tasks: &mut [u64],
@@ -54,12 +61,12 @@ fn event_line(
     }
 }
 
-// A gather: its items are copied out of the input.
+// A gather: its items are copied out of the input. It makes an object or is refused, so the queue and the list of calls stay.
 fn gather_line(
-    tasks: &mut [u64],
+    tasks: &[u64],
     objects: &mut [u64],
     places: &mut [u64],
-    calls: &mut [u64],
+    calls: &[u64],
     queue: ReadyQueue,
     src: &[u8],
     first: usize,
@@ -75,56 +82,14 @@ fn gather_line(
     let mut items: [u16; 255] = [0; 255];
     let n = count as usize;
     drive_reader::items::gather_items(src, first, n, &mut items);
-    event_line(
-        tasks,
-        objects,
-        places,
-        calls,
+    let answer = step_checks::make::gather(objects, places, &items[..n]);
+    let end = drive_lines::answers::write_line(out, at, number, answer, &calls[..0]);
+    Driven {
         queue,
-        Event::Gather,
-        &items[..n],
-        src,
+        at: end,
         next,
-        out,
-        at,
-        number,
-    )
-}
-
-// Results: 14 bytes each, as they stand in the input.
-fn results_line(
-    tasks: &mut [u64],
-    objects: &mut [u64],
-    places: &mut [u64],
-    calls: &mut [u64],
-    queue: ReadyQueue,
-    src: &[u8],
-    first: usize,
-    count: u8,
-    next: usize,
-    out: &mut [u8],
-    at: usize,
-    number: u64,
-) -> Driven
-    requires { ⌜ SoundMemoryAnd tasks objects places calls queue (first + count * 14 ≤ length (now src)) ⌝ }
-    ensures { λ r. ⌜ WritesEvent tasks objects places calls queue out at next number (machine.Event.results (results-at (now (src .entry)) first count)) r ⌝ }
-{
-    let items: [u16; 1] = [0; 1];
-    let n = (count as usize) * RESULT_BYTES;
-    event_line(
-        tasks,
-        objects,
-        places,
-        calls,
-        queue,
-        Event::Results,
-        &items,
-        &src[first..first + n],
-        next,
-        out,
-        at,
-        number,
-    )
+        going: true,
+    }
 }
 
 // A read of an object, and its line.
@@ -194,11 +159,27 @@ pub fn answered(
     requires { ⌜ SoundMemoryAnd tasks objects places calls queue (InInput (now src) what) ⌝ }
     ensures { λ r. ⌜ WritesAnswer tasks objects places calls queue out at next number (asked (now (src .entry)) what) r × RecordFits what ⌝ }
 {
-    let event = match what {
-        Record::Coroutine(f) => Event::Coroutine(f),
-        Record::Call => Event::Call,
-        Record::Pending { call, stored } => Event::Pending { call, stored },
-        Record::Settled(v) => Event::Settled(v),
+    let asks = match what {
+        Record::Coroutine(f) => Asks {
+            event: Event::Coroutine(f),
+            first: 0,
+            count: 0,
+        },
+        Record::Call => Asks {
+            event: Event::Call,
+            first: 0,
+            count: 0,
+        },
+        Record::Pending { call, stored } => Asks {
+            event: Event::Pending { call, stored },
+            first: 0,
+            count: 0,
+        },
+        Record::Settled(v) => Asks {
+            event: Event::Settled(v),
+            first: 0,
+            count: 0,
+        },
         Record::Gather { first, count } => {
             return gather_line(
                 tasks,
@@ -215,27 +196,36 @@ pub fn answered(
                 number,
             );
         }
-        Record::Await(o) => Event::Await(o),
-        Record::Complete(v) => Event::Complete(v),
-        Record::Fail(n) => Event::Fail(n),
-        Record::Results { first, count } => {
-            return results_line(
-                tasks,
-                objects,
-                places,
-                calls,
-                queue,
-                src,
-                first,
-                count,
-                next,
-                out,
-                at,
-                number,
-            );
-        }
-        Record::Resume => Event::Resume,
-        Record::Cancel(t) => Event::Cancel(t),
+        Record::Await(o) => Asks {
+            event: Event::Await(o),
+            first: 0,
+            count: 0,
+        },
+        Record::Complete(v) => Asks {
+            event: Event::Complete(v),
+            first: 0,
+            count: 0,
+        },
+        Record::Fail(n) => Asks {
+            event: Event::Fail(n),
+            first: 0,
+            count: 0,
+        },
+        Record::Results { first, count } => Asks {
+            event: Event::Results,
+            first,
+            count,
+        },
+        Record::Resume => Asks {
+            event: Event::Resume,
+            first: 0,
+            count: 0,
+        },
+        Record::Cancel(t) => Asks {
+            event: Event::Cancel(t),
+            first: 0,
+            count: 0,
+        },
         Record::Show(o) => {
             return show_line(tasks, objects, places, queue, o, next, out, at, number);
         }
@@ -244,6 +234,9 @@ pub fn answered(
         }
     };
     let items: [u16; 1] = [0; 1];
+    let event = asks.event;
+    let first = asks.first;
+    let n = (asks.count as usize) * RESULT_BYTES;
     event_line(
         tasks,
         objects,
@@ -252,7 +245,7 @@ pub fn answered(
         queue,
         event,
         &items,
-        src,
+        &src[first..first + n],
         next,
         out,
         at,

@@ -2,10 +2,10 @@
 use Prim.Native.Nat.{ℕ}
 use mathlib.Core.List.{List}
 use Rattle.queue.specs.declared.ReadyQueue.{ReadyQueue}
-use Rattle.machine.specs.Store.{Store, LogEntry}
+use Rattle.machine.specs.Store.{Store}
 use Rattle.machine.specs.Scheduler.{pending-calls-in}
 use Rattle.machine.specs.Machine as machine
-use Rattle.contract.specs.Contract.{Slice, kept, Does, DoesKeepingPlaces, DoesKeepingLogAt, DoesOfObjectsAndQueue}
+use Rattle.contract.specs.Contract.{Slice, Does, DoesKeepingPlaces, DoesOfObjects, DoesOfObjectsAndPlaces}
 use Rattle.exec_switch.specs.Control.{control-with}
 use Rattle.exec_switch.specs.declared.answer.Answer.{Answer}
 use Rattle.exec_switch.specs.declared.answer.Stepped.{Stepped}
@@ -39,11 +39,10 @@ Answers tasks objects places queue f r = Does (λ x. x .store .log) tasks object
 abbrev pub AnswersKeepingPlaces : Slice → Slice → ReadyQueue → (Store → machine.Step) → Stepped → Type 0
 AnswersKeepingPlaces tasks objects queue f r = DoesKeepingPlaces (λ x. x .store .log) tasks objects queue (r .queue) (λ s. stepped-of s (r .answer)) f
 
--- The same of a call that takes the objects alone, and logs nothing.
-abbrev pub AnswersOfObjects : Slice → ReadyQueue → (Store → machine.Step) → Stepped → Type 0
-AnswersOfObjects objects queue f r = DoesOfObjectsAndQueue objects queue (r .queue) (λ s. stepped-of s (r .answer)) f
+-- The same of a call that takes the objects alone, and logs nothing: with every queue.
+abbrev pub AnswersOfObjects : Slice → (Store → machine.Step) → Answer → Type 0
+AnswersOfObjects objects f r = DoesOfObjects objects (λ s. stepped-of s r) f
 
 -- and of one that takes the places, too
-abbrev pub AnswersOfObjectsAndPlaces : Slice → Slice → ReadyQueue → (Store → machine.Step) → Stepped → Type 0
-AnswersOfObjectsAndPlaces objects places queue f r =
-    (ts : List ℕ) (l : List LogEntry) → DoesKeepingLogAt l (kept ts) objects places queue (r .queue) (λ s. stepped-of s (r .answer)) f
+abbrev pub AnswersOfObjectsAndPlaces : Slice → Slice → (Store → machine.Step) → Answer → Type 0
+AnswersOfObjectsAndPlaces objects places f r = DoesOfObjectsAndPlaces objects places (λ s. stepped-of s r) f

@@ -13,8 +13,6 @@ use exec_futures::making::make_gather;
 use exec_futures::making::push_pending_future;
 use exec_futures::making::settled_awaitable;
 use exec_switch::answer::Answer;
-use exec_switch::answer::Stepped;
-use queue::ReadyQueue;
 use scheduler::tasks::FoundObject;
 use scheduler::tasks::take_pending_external;
 use sound_rows::values::option_known;
@@ -37,183 +35,120 @@ const ITEMS: usize = asyncio::ITEMS as usize;
 const PLACES: usize = asyncio::PLACES as usize;
 
 // A coroutine of a function is made.
-pub fn coroutine(objects: &mut [u64], queue: ReadyQueue, function: u32) -> Stepped
+pub fn coroutine(objects: &mut [u64], function: u32) -> Answer
     requires { ⌜ ObjectsLength objects ⌝ }
-    ensures { λ r. ⌜ AnswersOfObjects objects queue
+    ensures { λ r. ⌜ AnswersOfObjects objects
         (λ s. checked s (Event.coroutine function)) r ⌝ }
 {
     let turn = running(objects);
     match turn {
-        Turn::Refused(n) => Stepped {
-            queue,
-            answer: Answer::Refused(n),
-        },
+        Turn::Refused(n) => Answer::Refused(n),
         Turn::Runs(_) => {
             if is_full(objects) {
-                return Stepped {
-                    queue,
-                    answer: Answer::Refused(7),
-                };
+                return Answer::Refused(7);
             }
             let o = make_coroutine(objects, function);
-            Stepped {
-                queue,
-                answer: Answer::Made(o),
-            }
+            Answer::Made(o)
         }
     }
 }
 
 // A call number is handed out.
-pub fn call(objects: &mut [u64], queue: ReadyQueue) -> Stepped
+pub fn call(objects: &mut [u64]) -> Answer
     requires { ⌜ ObjectsLength objects ⌝ }
-    ensures { λ r. ⌜ AnswersOfObjects objects queue (λ s. checked s Event.call) r ⌝ }
+    ensures { λ r. ⌜ AnswersOfObjects objects (λ s. checked s Event.call) r ⌝ }
 {
     let turn = running(objects);
     match turn {
-        Turn::Refused(n) => Stepped {
-            queue,
-            answer: Answer::Refused(n),
-        },
+        Turn::Refused(n) => Answer::Refused(n),
         Turn::Runs(_) => {
             if no_number(objects) {
-                return Stepped {
-                    queue,
-                    answer: Answer::Refused(8),
-                };
+                return Answer::Refused(8);
             }
             let n = allocate_call_id(objects);
-            Stepped {
-                queue,
-                answer: Answer::Called(n),
-            }
+            Answer::Called(n)
         }
     }
 }
 
 // An external of a call is made pending, with a stored result or none.
-pub fn pending(objects: &mut [u64], queue: ReadyQueue, call: u32, stored: OptionValue) -> Stepped
+pub fn pending(objects: &mut [u64], call: u32, stored: OptionValue) -> Answer
     requires { ⌜ ObjectsLength objects ⌝ }
-    ensures { λ r. ⌜ AnswersOfObjects objects queue
+    ensures { λ r. ⌜ AnswersOfObjects objects
         (λ s. checked s (Event.pending call stored)) r ⌝ }
 {
     let turn = running(objects);
     match turn {
-        Turn::Refused(n) => Stepped {
-            queue,
-            answer: Answer::Refused(n),
-        },
+        Turn::Refused(n) => Answer::Refused(n),
         Turn::Runs(_) => {
             let header = rows::tables::load_header(objects);
             let made = header.made;
             if header.calls <= call {
-                return Stepped {
-                    queue,
-                    answer: Answer::Refused(5),
-                };
+                return Answer::Refused(5);
             }
             if option_known(made, objects, stored) {
                 let found = take_pending_external(objects, call);
                 return match found {
-                    FoundObject::At(_) => Stepped {
-                        queue,
-                        answer: Answer::Refused(6),
-                    },
+                    FoundObject::At(_) => Answer::Refused(6),
                     FoundObject::Nothing => {
                         if is_full(objects) {
-                            return Stepped {
-                                queue,
-                                answer: Answer::Refused(7),
-                            };
+                            return Answer::Refused(7);
                         }
                         let o = push_pending_future(objects, CallId::new(call as u16), stored);
-                        Stepped {
-                            queue,
-                            answer: Answer::Made(o),
-                        }
+                        Answer::Made(o)
                     }
                 };
             }
-            Stepped {
-                queue,
-                answer: Answer::Refused(5),
-            }
+            Answer::Refused(5)
         }
     }
 }
 
 // An external that has its value already.
-pub fn settled(objects: &mut [u64], queue: ReadyQueue, value: Value) -> Stepped
+pub fn settled(objects: &mut [u64], value: Value) -> Answer
     requires { ⌜ ObjectsLength objects ⌝ }
-    ensures { λ r. ⌜ AnswersOfObjects objects queue
+    ensures { λ r. ⌜ AnswersOfObjects objects
         (λ s. checked s (Event.settled value)) r ⌝ }
 {
     let turn = running(objects);
     match turn {
-        Turn::Refused(n) => Stepped {
-            queue,
-            answer: Answer::Refused(n),
-        },
+        Turn::Refused(n) => Answer::Refused(n),
         Turn::Runs(_) => {
             let header = rows::tables::load_header(objects);
             if value_known(header.made, objects, value) {
                 if is_full(objects) {
-                    return Stepped {
-                        queue,
-                        answer: Answer::Refused(7),
-                    };
+                    return Answer::Refused(7);
                 }
                 if no_number(objects) {
-                    return Stepped {
-                        queue,
-                        answer: Answer::Refused(8),
-                    };
+                    return Answer::Refused(8);
                 }
                 let o = settled_awaitable(objects, value);
-                return Stepped {
-                    queue,
-                    answer: Answer::Made(o),
-                };
+                return Answer::Made(o);
             }
-            Stepped {
-                queue,
-                answer: Answer::Refused(5),
-            }
+            Answer::Refused(5)
         }
     }
 }
 
 // A gather of objects.
-pub fn gather(objects: &mut [u64], places: &mut [u64], queue: ReadyQueue, items: &[u16]) -> Stepped
+pub fn gather(objects: &mut [u64], places: &mut [u64], items: &[u16]) -> Answer
     requires { ⌜ ObjectsLength objects × PlacesLength places ⌝ }
-    ensures { λ r. ⌜ AnswersOfObjectsAndPlaces objects places queue
+    ensures { λ r. ⌜ AnswersOfObjectsAndPlaces objects places
         (λ s. checked s (Event.gather (now (items .entry)))) r ⌝ }
 {
     let turn = running(objects);
     match turn {
-        Turn::Refused(n) => Stepped {
-            queue,
-            answer: Answer::Refused(n),
-        },
+        Turn::Refused(n) => Answer::Refused(n),
         Turn::Runs(_) => {
             let header = rows::tables::load_header(objects);
             if any_unmade(header.made, items) {
-                return Stepped {
-                    queue,
-                    answer: Answer::Refused(5),
-                };
+                return Answer::Refused(5);
             }
             if too_many(header.made, header.used, items) {
-                return Stepped {
-                    queue,
-                    answer: Answer::Refused(7),
-                };
+                return Answer::Refused(7);
             }
             let o = make_gather(objects, places, items);
-            Stepped {
-                queue,
-                answer: Answer::Made(o),
-            }
+            Answer::Made(o)
         }
     }
 }

@@ -51,11 +51,26 @@ fn checked(
     ensures { λ r. ⌜ Answers tasks objects places queue (λ s. checked s (event-of (now (items .entry)) (now (results .entry)) event)) r ⌝ }
 {
     match event {
-        Event::Coroutine(f) => step_checks::make::coroutine(objects, queue, f),
-        Event::Call => step_checks::make::call(objects, queue),
-        Event::Pending { call, stored } => step_checks::make::pending(objects, queue, call, stored),
-        Event::Settled(v) => step_checks::make::settled(objects, queue, v),
-        Event::Gather => step_checks::make::gather(objects, places, queue, items),
+        Event::Coroutine(f) => {
+            let answer = step_checks::make::coroutine(objects, f);
+            Stepped { queue, answer }
+        }
+        Event::Call => {
+            let answer = step_checks::make::call(objects);
+            Stepped { queue, answer }
+        }
+        Event::Pending { call, stored } => {
+            let answer = step_checks::make::pending(objects, call, stored);
+            Stepped { queue, answer }
+        }
+        Event::Settled(v) => {
+            let answer = step_checks::make::settled(objects, v);
+            Stepped { queue, answer }
+        }
+        Event::Gather => {
+            let answer = step_checks::make::gather(objects, places, items);
+            Stepped { queue, answer }
+        }
         Event::Await(o) => running::await_object(tasks, objects, places, queue, o),
         Event::Complete(v) => running::complete(tasks, objects, places, queue, v),
         Event::Fail(n) => running::fail(tasks, objects, queue, n),

@@ -75,25 +75,25 @@ same-length : tie.Need-same-length
 same-length c = search needs
 
 returns : tie.Need-returns
-returns c = λ l. rw (c .before .before .before .before .before .event .given .1) (logs l (c .before .before .coroutine .result .answer) (c .before .before .coroutine .ensures _ _ l))
+returns c = λ l. rw (c .before .before .before .before .before .event .given .1) (logs l (c .before .before .coroutine .result) (c .before .before .coroutine .ensures _ _ _ l))
 
 same-length-2 : tie.Need-same-length-2
 same-length-2 c = search needs
 
 returns-2 : tie.Need-returns-2
-returns-2 c = λ l. rw (c .before .before .before .before .enum-told .given .1) (logs l (c .before .before .call .result .answer) (c .before .before .call .ensures _ _ l))
+returns-2 c = λ l. rw (c .before .before .before .before .enum-told .given .1) (logs l (c .before .before .call .result) (c .before .before .call .ensures _ _ _ l))
 
 same-length-3 : tie.Need-same-length-3
 same-length-3 c = search needs
 
 returns-3 : tie.Need-returns-3
-returns-3 c = λ l. rw (c .before .before .before .before .before .event2 .given .1) (logs l (c .before .before .pending .result .answer) (c .before .before .pending .ensures _ _ l))
+returns-3 c = λ l. rw (c .before .before .before .before .before .event2 .given .1) (logs l (c .before .before .pending .result) (c .before .before .pending .ensures _ _ _ l))
 
 same-length-4 : tie.Need-same-length-4
 same-length-4 c = search needs
 
 returns-4 : tie.Need-returns-4
-returns-4 c = λ l. rw (c .before .before .before .before .before .event3 .given .1) (logs l (c .before .before .settled .result .answer) (c .before .before .settled .ensures _ _ l))
+returns-4 c = λ l. rw (c .before .before .before .before .before .event3 .given .1) (logs l (c .before .before .settled .result) (c .before .before .settled .ensures _ _ _ l))
 
 same-length-5 : tie.Need-same-length-5
 same-length-5 c = search needs
@@ -102,7 +102,7 @@ same-length-6 : tie.Need-same-length-6
 same-length-6 c = search needs
 
 returns-5 : tie.Need-returns-5
-returns-5 c = λ l. rw (c .before .before .before .before .before .before .before .enum-told2 .given .1) (logs l (c .before .before .before .before .gather .result .answer) (c .before .before .before .before .gather .ensures _ l))
+returns-5 c = λ l. rw (c .before .before .before .before .before .before .before .enum-told2 .given .1) (logs l (c .before .before .before .before .gather .result) (c .before .before .before .before .gather .ensures _ _ l))
 
 same-length-7 : tie.Need-same-length-7
 same-length-7 c = search needs
