@@ -1,10 +1,9 @@
 // Canonical rows: each row in use is decoded and encoded, and its words have to come back.
+use crate::groups::is_object;
 use asyncio::words::header_words;
-use asyncio::words::object_words;
 use asyncio::words::place_words;
 use asyncio::words::task_words;
 use asyncio::words::to_header;
-use asyncio::words::to_object;
 use asyncio::words::to_place;
 use asyncio::words::to_task;
 use rows::tables::header_row;
@@ -68,7 +67,7 @@ fn object_same(objects: &[u64], o: usize) -> bool
     ensures { λ r. ⌜ r ≡ object-canonical (now (objects .entry)) o ⌝ }
 {
     let row = object_row(objects, o);
-    same8(object_words(to_object(row)), row)
+    is_object(row)
 }
 
 fn place_same(places: &[u64], p: usize) -> bool
