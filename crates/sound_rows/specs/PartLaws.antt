@@ -13,6 +13,7 @@ use Rattle.asyncio.specs.States.{pick}
 use Rattle.asyncio.specs.Limits.{task-limit, object-limit, place-limit, item-limit, call-limit}
 use Rattle.asyncio.specs.Numbers.{to-u32, to-first, to-count}
 use Rattle.asyncio.specs.Layout.{value-words, to-value, option-words, to-option, error-words, to-error, awaiter-words, to-awaiter, object-words, to-object, row-object, to-kind}
+use Rattle.asyncio.specs.Layout.{state-words, to-state, task-words, to-task, place-words, to-place}
 use Rattle.asyncio.specs.declared.Kind.{Kind}
 use Rattle.rows.specs.Canonical.{same-words}
 use Rattle.machine.specs.Tests.{_and_}
@@ -44,6 +45,12 @@ awaiter-same tag a b =
 -- the first place of a gather, and how many it has
 unfoldable pub stretch-same : ℕ → ℕ → Bool
 stretch-same i n = eqb (to-first i) i and eqb (to-count (to-first i) n) n
+
+-- the three words of a task's state
+unfoldable pub state-same : ℕ → ℕ → ℕ → Bool
+state-same tag a b =
+    let s = state-words (to-state tag a b) in
+    eqb (s .0) tag and eqb (s .1) a and eqb (s .2) b
 
 -- ---- the groups of an object's row behind its kind
 
@@ -231,6 +238,33 @@ stretch-long i n p q =
     let e : to-first i ≡ i = omega arith in
     rw (e, eq-eqb i i refl, ne-eqb (to-count i n) n (λ x. omega arith))
 
+-- ---- states
+
+-- absent, unstarted, running
+pub state-bare : (tag a b : ℕ) → tag < 3 → zeros 0 a b ≡ state-same tag a b
+unfolding state-same zeros _and_
+state-bare zero a b p = refl
+state-bare (suc zero) a b p = refl
+state-bare (suc (suc zero)) a b p = refl
+state-bare (suc (suc (suc k))) a b p = absurd (omega arith)
+
+pub state-woken : {tag : ℕ} (a b : ℕ) → tag ≡ 3 → value-same a b ≡ state-same tag a b
+unfolding state-same value-same _and_
+state-woken a b e = rw e
+
+pub state-raised : {tag : ℕ} (a b : ℕ) → tag ≡ 4 → error-same a b ≡ state-same tag a b
+unfolding state-same error-same _and_
+state-raised a b e = rw e
+
+pub state-blocked : {tag : ℕ} (a b : ℕ) → tag ≡ 5 → ltb a object-limit and eqb 0 b ≡ state-same tag a b
+unfolding state-same _and_
+state-blocked a b e = rw (e, object-below a)
+
+pub state-else : {tag : ℕ} (a b : ℕ) → 6 ≤ tag → false ≡ state-same tag a b
+unfolding state-same _and_
+state-else {tag} a b p =
+    rw (ne-eqb tag 0 (λ e. omega arith), ne-eqb tag 1 (λ e. omega arith), ne-eqb tag 2 (λ e. omega arith), ne-eqb tag 3 (λ e. omega arith), ne-eqb tag 4 (λ e. omega arith), ne-eqb 5 tag (λ e. omega arith))
+
 -- ---- rows
 
 -- a row of eight words, word by word
@@ -294,6 +328,63 @@ pairs true true true true false f g = refl
 pairs true true true true true false g = refl
 pairs true true true true true true false = refl
 pairs true true true true true true true = refl
+
+-- a task's row: its awaiter, its coroutine, its state in three words that stand apart, one word
+parts-apart : (a b c d e f g h : Bool) → (b and c and d) and e and (a and f and g) and h ≡ pick a (pick b (pick c (pick d (pick e (pick f (pick g (pick h true false) false) false) false) false) false) false) false
+unfolding _and_
+parts-apart true false c d e f g h = refl
+parts-apart false false c d e f g h = refl
+parts-apart true true false d e f g h = refl
+parts-apart false true false d e f g h = refl
+parts-apart true true true false e f g h = refl
+parts-apart false true true false e f g h = refl
+parts-apart true true true true false f g h = refl
+parts-apart false true true true false f g h = refl
+parts-apart false true true true true f g h = refl
+parts-apart true true true true true false g h = refl
+parts-apart true true true true true true false h = refl
+parts-apart true true true true true true true false = refl
+parts-apart true true true true true true true true = refl
+
+-- a place's row: one word, two, one
+fours : (a b c d : Bool) → a and (b and c) and d ≡ pick a (pick b (pick c (pick d true false) false) false) false
+unfolding _and_
+fours false b c d = refl
+fours true false c d = refl
+fours true true false d = refl
+fours true true true false = refl
+fours true true true true = refl
+
+-- a row of four words, word by word
+listed4 : (w : List ℕ) → length w ≡ 4 → w ≡ getD w 0 0 ∷ getD w 1 0 ∷ getD w 2 0 ∷ getD w 3 0 ∷ []
+listed4 [] l = absurd (omega arith)
+listed4 (a ∷ []) l = absurd (omega arith)
+listed4 (a ∷ b ∷ []) l = absurd (omega arith)
+listed4 (a ∷ b ∷ c ∷ []) l = absurd (omega arith)
+listed4 (a ∷ b ∷ c ∷ d ∷ []) l = refl
+listed4 (a ∷ b ∷ c ∷ d ∷ x ∷ xs) l = absurd (omega arith)
+
+-- the words of a task's row, and of a place's, are those of what it is read as
+abbrev pub task-row-same : List ℕ → Bool
+task-row-same w = same-words (task-words (to-task w)) w
+
+abbrev pub place-row-same : List ℕ → Bool
+place-row-same w = same-words (place-words (to-place w)) w
+
+pub row-task : (w : List ℕ) → length w ≡ 8
+    → awaiter-same (getD w 1 0) (getD w 2 0) (getD w 3 0) and ltb (getD w 4 0) object-limit and state-same (getD w 0 0) (getD w 5 0) (getD w 6 0) and eqb 0 (getD w 7 0)
+    ≡ task-row-same w
+unfolding same-words awaiter-same state-same
+row-task w l =
+    rw (object-below (getD w 4 0))
+    (parts-apart _ _ _ _ _ _ _ _ ∙ sym (ap (λ (x : List ℕ). same-words (task-words (to-task w)) x) (listed w l)))
+
+pub row-place : (w : List ℕ) → length w ≡ 4
+    → ltb (getD w 0 0) object-limit and option-same (getD w 1 0) (getD w 2 0) and eqb 0 (getD w 3 0) ≡ place-row-same w
+unfolding same-words option-same
+row-place w l =
+    rw (object-below (getD w 0 0))
+    (fours _ _ _ _ ∙ sym (ap (λ (x : List ℕ). same-words (place-words (to-place w)) x) (listed4 w l)))
 
 -- the words of an object's row are those of what it is read as
 abbrev pub object-row-same : List ℕ → Bool

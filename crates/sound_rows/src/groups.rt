@@ -1,4 +1,4 @@
-// Canonical groups of words: each is tested by its tag and the limit of its number, and an object's row by its kind's groups.
+// Canonical groups of words: each is tested by its tag and the limit of its number, and a row by its groups, an object's by its kind.
 use asyncio::CALLS;
 use asyncio::ITEMS;
 use asyncio::OBJECTS;
@@ -8,7 +8,7 @@ use asyncio::words::to_u32;
 ghost use mathlib.Core.Path.{_≡_};
 ghost use Rattle.asyncio.specs.Numbers.{to-u32};
 ghost use lib.Dec.{eqb};
-ghost use Rattle.sound_rows.specs.PartLaws.{zeros, value-same, option-same, error-same, awaiter-same, stretch-same, object-row-same};
+ghost use Rattle.sound_rows.specs.PartLaws.{zeros, value-same, option-same, error-same, awaiter-same, stretch-same, state-same, object-row-same, task-row-same, place-row-same};
 ghost use Rattle.sound_rows.specs.PartLaws.{unmade-same, coroutine-same, pending-same, resolved-same, failed-same, resting-same, awaited-same, broken-same};
 
 // ---- groups
@@ -104,6 +104,59 @@ fn is_stretch(first: u64, n: u64) -> bool
     if first <= PLACES as u64 {
         if n <= ITEMS as u64 {
             return first + n <= PLACES as u64;
+        }
+        return false;
+    }
+    false
+}
+
+// The three words of a task's state.
+fn is_state(tag: u64, a: u64, b: u64) -> bool
+    ensures { λ r. ⌜ r ≡ state-same tag a b ⌝ }
+{
+    if tag < 3 {
+        return are_zero(0, a, b);
+    }
+    if tag == 3 {
+        return is_value(a, b);
+    }
+    if tag == 4 {
+        return is_error(a, b);
+    }
+    if tag == 5 {
+        if a < OBJECTS as u64 {
+            return b == 0;
+        }
+        return false;
+    }
+    false
+}
+
+// ---- tasks and places
+
+// A task's row.
+pub fn is_task(w: [u64; 8]) -> bool
+    ensures { λ r. ⌜ r ≡ task-row-same w ⌝ }
+{
+    if is_awaiter(w[1], w[2], w[3]) {
+        if w[4] < OBJECTS as u64 {
+            if is_state(w[0], w[5], w[6]) {
+                return w[7] == 0;
+            }
+            return false;
+        }
+        return false;
+    }
+    false
+}
+
+// A place's row.
+pub fn is_place(w: [u64; 4]) -> bool
+    ensures { λ r. ⌜ r ≡ place-row-same w ⌝ }
+{
+    if w[0] < OBJECTS as u64 {
+        if is_option(w[1], w[2]) {
+            return w[3] == 0;
         }
         return false;
     }
