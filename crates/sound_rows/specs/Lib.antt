@@ -3,3 +3,4 @@ pub mod Words
 pub mod Numbers
 pub mod NumberLaws
 pub mod ValueLaws
+pub mod PartLaws

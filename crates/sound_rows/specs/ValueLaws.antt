@@ -1,19 +1,21 @@
--- Clauses 3 and 4: the items of an object by its places, and the values of an object by its kind.
+-- Clauses 3 and 4: the items of an object by its places, and the values of an object by its row's words.
 use mathlib.Core.Path.{_≡_, refl, _∙_}
-use mathlib.Core.Bool.{Bool, true, false, true≢false}
+use mathlib.Core.Bool.{Bool, true}
 use mathlib.Core.List.{List}
 use Prim.Native.Nat.{ℕ, _+_}
-use lib.Dec.{ltb}
-use Rattle.asyncio.specs.Kinds.{kind, is-external}
+use lib.Dec.{eqb, ltb}
+use lib.ListN.{getD}
+use borrow.Author.Tests.{ne-eqb}
+use Rattle.asyncio.specs.Layout.{to-value, to-option, to-kind, row-object, to-object}
 use Rattle.asyncio.specs.Parts.{first-of, count-of}
-use Rattle.asyncio.specs.declared.CallId.{CallId}
-use Rattle.asyncio.specs.declared.CoroutineState.{CoroutineState}
-use Rattle.asyncio.specs.declared.ExternalFutureState.{ExternalFutureState}
-use Rattle.asyncio.specs.declared.GatherState.{GatherState}
+use Rattle.asyncio.specs.RangeLaws.{pick-has}
 use Rattle.asyncio.specs.declared.Kind.{Kind}
 use Rattle.asyncio.specs.declared.Object.{Object}
+use Rattle.asyncio.specs.declared.OptionValue.{OptionValue}
 use Rattle.asyncio.specs.declared.Place.{Place}
-use Rattle.rows.specs.Tables.{object-at}
+use Rattle.asyncio.specs.declared.Value.{Value}
+use Rattle.rows.specs.Rows.{row-from}
+use Rattle.rows.specs.Tables.{object-at, object-start}
 use Rattle.machine.specs.Tests.{all-below}
 use Rattle.machine.specs.Sound.{items-below, value-known, option-known, object-values}
 use Rattle.sound_rows.specs.Loops.{all-none}
@@ -33,45 +35,30 @@ items-read os ps g e f h = h ∙ rw (e, f) (items-by ps g (object-at os g))
 
 -- ---- 4. values
 
--- what an external holds
-unfoldable pub external-values : ℕ → (ℕ → Object) → ExternalFutureState → Bool
-external-values made os (ExternalFutureState.Pending w x) = option-known made os x
-external-values made os (ExternalFutureState.Resolved v) = value-known made os v
-external-values made os (ExternalFutureState.Failed e) = true
+-- an object whose kind's word is neither 4, a pending external, nor 5, a resolved one, holds none
+other-kind : (made : ℕ) (os : ℕ → Object) (w : List ℕ) (n : ℕ) → (n ≡ 4 → ⊥) → (n ≡ 5 → ⊥) → true ≡ object-values made os (row-object (to-kind n) w)
+unfolding object-values
+other-kind made os w n p q =
+    let P : Kind → Type 0 = λ (k : Kind). true ≡ object-values made os (row-object k w) in
+    rw (ne-eqb n 4 p, ne-eqb n 5 q)
+    (pick-has P (eqb n 0) refl (pick-has P (eqb n 1) refl (pick-has P (eqb n 2) refl (pick-has P (eqb n 3) refl
+    (pick-has P (eqb n 6) refl (pick-has P (eqb n 7) refl (pick-has P (eqb n 8) refl (pick-has P (eqb n 9) refl refl))))))))
 
-pub values-external : (made : ℕ) (os : ℕ → Object) (c : CallId) (s : ExternalFutureState) → external-values made os s ≡ object-values made os (Object.ExternalFuture c s)
-unfolding external-values object-values
-values-external made os c (ExternalFutureState.Pending w x) = refl
-values-external made os c (ExternalFutureState.Resolved v) = refl
-values-external made os c (ExternalFutureState.Failed e) = refl
+-- by the words of its row
+module _ (made : ℕ) (os : List ℕ) (o : ℕ) {row : List ℕ} (e : row ≡ row-from os (object-start o) 0 8) where
+  read-from : object-at os o ≡ to-object row
+  unfolding object-at
+  read-from = rw e
 
--- other objects hold none
-values-none : (made : ℕ) (os : ℕ → Object) (x : Object) → is-external (kind x) ≡ false → true ≡ object-values made os x
-unfolding object-values kind
-values-none made os Object.Unmade e = refl
-values-none made os (Object.Coroutine f s) e = refl
-values-none made os (Object.ExternalFuture c (ExternalFutureState.Pending w x)) e = absurd (true≢false e)
-values-none made os (Object.ExternalFuture c (ExternalFutureState.Resolved v)) e = absurd (true≢false e)
-values-none made os (Object.ExternalFuture c (ExternalFutureState.Failed x)) e = absurd (true≢false e)
-values-none made os (Object.GatherFuture i n s) e = refl
+  pub values-pending : {x : OptionValue} {r : Bool} → getD row 0 0 ≡ 4 → x ≡ to-option (getD row 5 0) (getD row 6 0) → r ≡ option-known made (object-at os) x
+      → r ≡ object-values made (object-at os) (object-at os o)
+  unfolding object-values
+  values-pending k q h = rw (read-from, k) (h ∙ rw q)
 
-module _ (made : ℕ) (os : List ℕ) (o : ℕ) where
-  pub values-other : {k : Kind} → k ≡ kind (object-at os o) → is-external k ≡ false → true ≡ object-values made (object-at os) (object-at os o)
-  values-other e t = values-none made (object-at os) (object-at os o) (rw (← e) t)
+  pub values-resolved : {v : Value} {r : Bool} → getD row 0 0 ≡ 5 → v ≡ to-value (getD row 5 0) (getD row 6 0) → r ≡ value-known made (object-at os) v
+      → r ≡ object-values made (object-at os) (object-at os o)
+  unfolding object-values
+  values-resolved k q h = rw (read-from, k) (h ∙ rw q)
 
-  module _ {x : Object} (e : x ≡ object-at os o) where
-    pub values-read : {c : CallId} {s : ExternalFutureState} {r : Bool} → x ≡ Object.ExternalFuture c s → r ≡ external-values made (object-at os) s
-        → r ≡ object-values made (object-at os) (object-at os o)
-    values-read {c} {s} f h = rw (← e, f) (h ∙ values-external made (object-at os) c s)
-
-    pub values-unmade : x ≡ Object.Unmade → true ≡ object-values made (object-at os) (object-at os o)
-    unfolding object-values
-    values-unmade f = rw (← e, f)
-
-    pub values-coroutine : {n : ℕ} {s : CoroutineState} → x ≡ Object.Coroutine n s → true ≡ object-values made (object-at os) (object-at os o)
-    unfolding object-values
-    values-coroutine f = rw (← e, f)
-
-    pub values-gather : {i n : ℕ} {s : GatherState} → x ≡ Object.GatherFuture i n s → true ≡ object-values made (object-at os) (object-at os o)
-    unfolding object-values
-    values-gather f = rw (← e, f)
+  pub values-none : (getD row 0 0 ≡ 4 → ⊥) → (getD row 0 0 ≡ 5 → ⊥) → true ≡ object-values made (object-at os) (object-at os o)
+  values-none p q = rw read-from (other-kind made (object-at os) row (getD row 0 0) p q)

@@ -1,19 +1,19 @@
 // Clauses 3 and 4: items are lower than their gather, and list values name completed gathers.
-use asyncio::ExternalFutureState;
 use asyncio::Header;
 use asyncio::HeapId;
-use asyncio::Object;
 use asyncio::OptionValue;
 use asyncio::TaskId;
 use asyncio::TaskState;
 use asyncio::Value;
+use asyncio::words::to_option;
+use asyncio::words::to_value;
 use rows::parts::count_at;
 use rows::parts::first_at;
 use rows::parts::item_at;
 use rows::parts::kind_at;
 use rows::parts::result_at;
 use rows::parts::state_at;
-use rows::tables::load_object;
+use rows::tables::object_row;
 ghost use mathlib.Core.Path.{_≡_};
 ghost use Prim.Native.Nat.{_<_, _+_, _≤_};
 ghost use lib.Dec.{ltb};
@@ -23,7 +23,6 @@ ghost use Rattle.contract.specs.Contract.{ObjectsLengthAnd, PlacesLengthAnd, Le
 ghost use Rattle.machine.specs.Tests.{all-below};
 ghost use Rattle.machine.specs.Sound.{items-lower, value-known, option-known, object-values, state-values, lists-completed};
 ghost use Rattle.asyncio.specs.Ranges.{HeaderFits};
-ghost use Rattle.sound_rows.specs.ValueLaws.{external-values};
 
 // ---- 3. Items are lower than their gather.
 
@@ -93,39 +92,18 @@ pub fn option_known(made: u16, objects: &[u64], x: OptionValue) -> bool
     }
 }
 
-// The stored result of a pending external, the value of a resolved one.
-fn external_values(made: u16, objects: &[u64], state: ExternalFutureState) -> bool
-    requires { ⌜ ObjectsLengthAnd objects (made ≤ object-limit) ⌝ }
-    ensures { λ r. ⌜ r ≡ external-values made (object-in objects) state ⌝ }
-{
-    match state {
-        ExternalFutureState::Pending { awaiter: _, stored } => option_known(made, objects, stored),
-        ExternalFutureState::Resolved(v) => value_known(made, objects, v),
-        ExternalFutureState::Failed(_) => true,
-    }
-}
-
-// The value or stored result that object `o` holds. Only externals hold one: other rows are not read whole.
+// The value or stored result that object `o` holds, read from its own two words: a pending external (kind 4) holds the one, a resolved
+// external (kind 5) the other. Other objects hold none.
 fn object_values(made: u16, objects: &[u64], o: HeapId) -> bool
     requires { ⌜ ObjectsLengthAnd objects ((made ≤ object-limit) × (o .0 < object-limit)) ⌝ }
     ensures { λ r. ⌜ r ≡ object-values made (object-in objects) (object-in objects (o .0)) ⌝ }
 {
-    let kind = kind_at(objects, o);
-    if kind.is_external() {
-        let x = load_object(objects, o);
-        return match x {
-            Object::Unmade => true,
-            Object::Coroutine {
-                function: _,
-                state: _,
-            } => true,
-            Object::ExternalFuture { call: _, state } => external_values(made, objects, state),
-            Object::GatherFuture {
-                first: _,
-                count: _,
-                state: _,
-            } => true,
-        };
+    let row = object_row(objects, o.0 as usize);
+    if row[0] == 4 {
+        return option_known(made, objects, to_option(row[5], row[6]));
+    }
+    if row[0] == 5 {
+        return value_known(made, objects, to_value(row[5], row[6]));
     }
     true
 }

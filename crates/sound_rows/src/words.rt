@@ -1,12 +1,9 @@
-// Canonical rows: each row in use is decoded and encoded, and its words have to come back.
+// Canonical rows: each row in use is tested by its groups of words; the header is decoded and encoded, and its words have to come back.
+use crate::groups::is_object;
+use crate::groups::is_place;
+use crate::groups::is_task;
 use asyncio::words::header_words;
-use asyncio::words::object_words;
-use asyncio::words::place_words;
-use asyncio::words::task_words;
 use asyncio::words::to_header;
-use asyncio::words::to_object;
-use asyncio::words::to_place;
-use asyncio::words::to_task;
 use rows::tables::header_row;
 use rows::tables::object_row;
 use rows::tables::place_row;
@@ -33,20 +30,6 @@ fn same8(a: [u64; 8], b: [u64; 8]) -> bool
     true
 }
 
-fn same4(a: [u64; 4], b: [u64; 4]) -> bool
-    ensures { λ r. ⌜ r ≡ same-words a b ⌝ }
-{
-    let mut i: usize = 0;
-    while i < 4 {
-        if a[i] == b[i] {
-            i += 1;
-        } else {
-            return false;
-        }
-    }
-    true
-}
-
 pub fn header_same(objects: &[u64]) -> bool
     requires { ⌜ ObjectsLength objects ⌝ }
     ensures { λ r. ⌜ r ≡ header-canonical (now (objects .entry)) ⌝ }
@@ -60,7 +43,7 @@ fn task_same(tasks: &[u64], t: usize) -> bool
     ensures { λ r. ⌜ r ≡ task-canonical (now (tasks .entry)) t ⌝ }
 {
     let row = task_row(tasks, t);
-    same8(task_words(to_task(row)), row)
+    is_task(row)
 }
 
 fn object_same(objects: &[u64], o: usize) -> bool
@@ -68,7 +51,7 @@ fn object_same(objects: &[u64], o: usize) -> bool
     ensures { λ r. ⌜ r ≡ object-canonical (now (objects .entry)) o ⌝ }
 {
     let row = object_row(objects, o);
-    same8(object_words(to_object(row)), row)
+    is_object(row)
 }
 
 fn place_same(places: &[u64], p: usize) -> bool
@@ -76,7 +59,7 @@ fn place_same(places: &[u64], p: usize) -> bool
     ensures { λ r. ⌜ r ≡ place-canonical (now (places .entry)) p ⌝ }
 {
     let row = place_row(places, p);
-    same4(place_words(to_place(row)), row)
+    is_place(row)
 }
 
 pub fn tasks_same(tasks: &[u64], n: usize) -> bool
