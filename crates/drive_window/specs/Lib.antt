@@ -1,0 +1,4 @@
+pub mod Window
+pub mod WindowLaws
+pub mod Contracts
+pub mod TakenLaws
