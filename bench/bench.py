@@ -7,7 +7,8 @@ Instructions are callgrind's, less those of an empty input: they do not depend o
 200,000 records, less that of an empty one; compare them within one run only. --quick leaves the times out.
 
 A session is measured whole (what a member's projection costs), or by what it goes on with (an event in a session of so many objects). `checked` is drive with
-the entry `session_dispatch::dispatch` in place of `step_event::step`: what an entry costs that checks the store that is lent to it.
+the entry `session_dispatch::dispatch` in place of `step_event::step`: what an entry costs that checks the store that is lent to it. (A gather's record is made
+without it; no turn that is measured has one.)
 """
 import pathlib
 import random
