@@ -82,7 +82,7 @@ fn gather_line(
     let mut items: [u16; 255] = [0; 255];
     let n = count as usize;
     drive_reader::items::gather_items(src, first, n, &mut items);
-    let answer = step_checks::make::gather(objects, places, &items[..n]);
+    let answer = step_make::gather(objects, places, &items[..n]);
     let end = drive_lines::answers::write_line(out, at, number, answer, &calls[..0]);
     Driven {
         queue,

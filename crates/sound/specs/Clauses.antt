@@ -17,7 +17,7 @@ use Rattle.queue.specs.declared.ReadyQueue.{ReadyQueue}
 use Rattle.machine.specs.Tests.{_and_, all-below}
 use Rattle.machine.specs.Store.{LogEntry, store-of, task, object, place, header, view}
 use Rattle.machine.specs.Sound.{words-in-range, numbers-in-range, spawned-in-range, items-lower, lists-completed, queue-ready, calls-distinct, one-task, blocked-match, places-filled, slots-open, one-runs, sound-view, sound}
-use Rattle.sound_rows.specs.Loops.{pass, stop}
+use Rattle.sound_words.specs.Loops.{pass, stop}
 
 -- every row in use is canonical, for the header h
 unfoldable pub rows-canonical : Header → List ℕ → List ℕ → List ℕ → Bool

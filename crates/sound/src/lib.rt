@@ -26,10 +26,10 @@ fn rows_canonical(header: Header, tasks: &[u64], objects: &[u64], places: &[u64]
     requires { ⌜ LengthsAnd tasks objects places (HeaderFits header) ⌝ }
     ensures { λ r. ⌜ r ≡ rows-canonical header (now (tasks .entry)) (now (objects .entry)) (now (places .entry)) ⌝ }
 {
-    if sound_rows::words::header_same(objects) {
-        if sound_rows::words::tasks_same(tasks, header.next as usize) {
-            if sound_rows::words::objects_same(objects, header.made as usize) {
-                return sound_rows::words::places_same(places, header.used as usize);
+    if sound_words::header_same(objects) {
+        if sound_words::tasks_same(tasks, header.next as usize) {
+            if sound_words::objects_same(objects, header.made as usize) {
+                return sound_words::places_same(places, header.used as usize);
             }
             return false;
         }

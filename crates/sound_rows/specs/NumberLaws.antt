@@ -29,7 +29,7 @@ use Rattle.rows.specs.Tables.{task-at, object-at}
 use Rattle.machine.specs.Tests.{_and_, implies, all-below, sum-below}
 use Rattle.machine.specs.Sound.{awaiter-in-range, is-slot, open-in-range, object-in-range, task-in-range, counts-in-range, places-below, numbers-in-range, committed-places, spawned-in-range}
 use Rattle.rows.specs.TableLaws.{places-fit}
-use Rattle.sound_rows.specs.Loops.{and-assoc, all-and, pass, stop, sum-none, sum-turn}
+use Rattle.sound_words.specs.Loops.{and-assoc, all-and, pass, stop, sum-none, sum-turn}
 use Rattle.sound_rows.specs.Numbers.{object-ranged, objects-ranged}
 
 -- `1u64 << n`, as the machine has it

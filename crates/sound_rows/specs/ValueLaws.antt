@@ -18,7 +18,7 @@ use Rattle.rows.specs.Rows.{row-from}
 use Rattle.rows.specs.Tables.{object-at, object-start}
 use Rattle.machine.specs.Tests.{all-below}
 use Rattle.machine.specs.Sound.{items-below, value-known, option-known, object-values}
-use Rattle.sound_rows.specs.Loops.{all-none}
+use Rattle.sound_words.specs.Loops.{all-none}
 
 -- ---- 3. items
 

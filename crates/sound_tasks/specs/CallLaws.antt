@@ -24,7 +24,7 @@ use Rattle.rows.specs.Tables.{object-at}
 use Rattle.machine.specs.Tests.{all-below}
 use Rattle.machine.specs.Scheduler.{as-pending, PendingExternal}
 use Rattle.machine.specs.Sound.{same-call, call-new, calls-distinct, is-ended}
-use Rattle.sound_rows.specs.Loops.{all-of, all-same}
+use Rattle.sound_words.specs.Loops.{all-of, all-same}
 
 -- one more than the call, 0 for none
 unfoldable pub number-of : Option PendingExternal → ℕ

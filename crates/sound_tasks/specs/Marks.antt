@@ -10,7 +10,7 @@ use lib.ListN.{length, getD, set, replicate, getD-replicate, length-replicate, l
 use lib.Seq.{getD-set-same, getD-set-other}
 use borrow.Author.Tests.{eq-eqb, eqb-true, eqb-false}
 use Rattle.machine.specs.Tests.{_and_, all-below}
-use Rattle.sound_rows.specs.Loops.{and-false, and-unit}
+use Rattle.sound_words.specs.Loops.{and-false, and-unit}
 
 -- The table after the rows below i: the test of row i against those before it, read off at k.
 pub record Marks (seen : List ℕ) (size i : ℕ) (hits : ℕ → ℕ → Bool) : Type 0 where

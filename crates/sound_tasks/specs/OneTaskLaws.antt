@@ -15,7 +15,7 @@ use Rattle.rows.specs.TableLaws.{coroutine-fits}
 use Rattle.machine.specs.Scheduler.{is-task-of}
 use Rattle.machine.specs.Tests.{_and_, implies}
 use Rattle.machine.specs.Sound.{is-task-of-at, sole-task}
-use Rattle.sound_rows.specs.Loops.{and-false}
+use Rattle.sound_words.specs.Loops.{and-false}
 use Rattle.sound_tasks.specs.Marks.{Marks, marks-turn, marks-skip}
 
 -- task t drives coroutine c

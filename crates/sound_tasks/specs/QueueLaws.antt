@@ -15,7 +15,7 @@ use Rattle.asyncio.specs.declared.Task.{Task}
 use Rattle.rows.specs.Tables.{task-at}
 use Rattle.machine.specs.Tests.{_and_, all-below}
 use Rattle.machine.specs.Sound.{entry-ready, queue-ready}
-use Rattle.sound_rows.specs.Loops.{and-false}
+use Rattle.sound_words.specs.Loops.{and-false}
 use Rattle.sound_tasks.specs.Marks.{Marks, marks-turn}
 
 -- entry j is task k

@@ -47,7 +47,7 @@ pub fn running(objects: &[u64]) -> Turn
 }
 
 // 7: are all objects made that there are numbers for?
-pub(crate) fn is_full(objects: &[u64]) -> bool
+pub fn is_full(objects: &[u64]) -> bool
     requires { ⌜ ObjectsLength objects ⌝ }
     ensures { λ r. ⌜ r ≡ leb object-limit (header-at (now (objects .entry)) .made) ⌝ }
 {
@@ -56,7 +56,7 @@ pub(crate) fn is_full(objects: &[u64]) -> bool
 }
 
 // 8: are all call numbers handed out?
-pub(crate) fn no_number(objects: &[u64]) -> bool
+pub fn no_number(objects: &[u64]) -> bool
     requires { ⌜ ObjectsLength objects ⌝ }
     ensures { λ r. ⌜ r ≡ leb call-limit (header-at (now (objects .entry)) .calls) ⌝ }
 {
@@ -65,7 +65,7 @@ pub(crate) fn no_number(objects: &[u64]) -> bool
 }
 
 // 5: is one of the items not made?
-pub(crate) fn any_unmade(made: u16, items: &[u16]) -> bool
+pub fn any_unmade(made: u16, items: &[u16]) -> bool
     ensures { λ r. ⌜ r ≡ any-of (leb made) (now (items .entry)) ⌝ }
 {
     let n = items.len();

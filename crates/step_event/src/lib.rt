@@ -52,23 +52,23 @@ fn checked(
 {
     match event {
         Event::Coroutine(f) => {
-            let answer = step_checks::make::coroutine(objects, f);
+            let answer = step_make::coroutine(objects, f);
             Stepped { queue, answer }
         }
         Event::Call => {
-            let answer = step_checks::make::call(objects);
+            let answer = step_make::call(objects);
             Stepped { queue, answer }
         }
         Event::Pending { call, stored } => {
-            let answer = step_checks::make::pending(objects, call, stored);
+            let answer = step_make::pending(objects, call, stored);
             Stepped { queue, answer }
         }
         Event::Settled(v) => {
-            let answer = step_checks::make::settled(objects, v);
+            let answer = step_make::settled(objects, v);
             Stepped { queue, answer }
         }
         Event::Gather => {
-            let answer = step_checks::make::gather(objects, places, items);
+            let answer = step_make::gather(objects, places, items);
             Stepped { queue, answer }
         }
         Event::Await(o) => running::await_object(tasks, objects, places, queue, o),

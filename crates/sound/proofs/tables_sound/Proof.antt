@@ -1,5 +1,5 @@
 use mathlib.Core.Path.{sym, _∙_}
-use Rattle.sound_rows.specs.Loops.{pass, stop}
+use Rattle.sound_words.specs.Loops.{pass, stop}
 use Rattle.sound.specs.Clauses.{tables-sound}
 use borrow.Author.Needs.{needs}
 use Rattle.sound.proofs.tables_sound.Statement.{statement}

@@ -16,7 +16,7 @@ use Rattle.drive_answer.proofs.answered.gather_line.Reads as reads
 use Rattle.drive_answer.proofs.answered.gather_line.Lts as lts
 use Rattle.drive_lines.proofs.answers.write_line.Reads as write-line-reads
 use Rattle.drive_reader.proofs.items.gather_items.Reads as gather-items-reads
-use Rattle.step_checks.proofs.make.gather.Reads as gather-reads
+use Rattle.step_make.proofs.gather.Reads as gather-reads
 
 -- src/answered.rt:84:54
 slice-aggregate-gather-items : tie.Need-slice-aggregate-gather-items

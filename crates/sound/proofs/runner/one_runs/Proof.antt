@@ -1,6 +1,6 @@
 use mathlib.Core.Path.{sym, _∙_}
 use Rattle.machine.specs.Sound.{one-runs}
-use Rattle.sound_rows.specs.Loops.{pass, stop}
+use Rattle.sound_words.specs.Loops.{pass, stop}
 use borrow.Author.Needs.{needs}
 use Rattle.sound.proofs.runner.one_runs.Statement.{statement}
 use Rattle.sound.proofs.runner.one_runs.Tie as tie

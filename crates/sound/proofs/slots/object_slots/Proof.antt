@@ -5,7 +5,7 @@ use native.Mathlib.Omega.{arith}
 use Rattle.sound_rows.specs.NumberLaws.{heap-number}
 use borrow.Author.Needs.{needs}
 use Rattle.machine.specs.Tests.{all-below}
-use Rattle.sound_rows.specs.Loops.{all-none, all-turn, all-fails, all-end}
+use Rattle.sound_words.specs.Loops.{all-none, all-turn, all-fails, all-end}
 use Rattle.rows.specs.Tables.{object-at, place-at}
 use Rattle.asyncio.specs.Parts.{awaiter-of}
 use Rattle.machine.specs.Sound.{slot-open}

@@ -1,6 +1,6 @@
 use mathlib.Core.Path.{sym, _∙_}
 use Rattle.machine.specs.Sound.{slots-open}
-use Rattle.sound_rows.specs.Loops.{pass, stop}
+use Rattle.sound_words.specs.Loops.{pass, stop}
 use borrow.Author.Needs.{needs}
 use Rattle.sound.proofs.slots.slots_open.Statement.{statement}
 use Rattle.sound.proofs.slots.slots_open.Tie as tie

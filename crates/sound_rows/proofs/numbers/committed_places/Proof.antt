@@ -7,7 +7,7 @@ use denote.Ref.{now}
 use Rattle.rows.specs.Tables.{object-at}
 use Rattle.machine.specs.Tests.{sum-below}
 use Rattle.machine.specs.Sound.{committed-places}
-use Rattle.sound_rows.specs.Loops.{sum-none}
+use Rattle.sound_words.specs.Loops.{sum-none}
 use Rattle.sound_rows.specs.NumberLaws.{count-fits, committed-turn, committed-skip}
 use Rattle.sound_rows.proofs.numbers.committed_places.Statement.{statement}
 use Rattle.sound_rows.proofs.numbers.committed_places.Tie as tie

@@ -1,6 +1,6 @@
 use mathlib.Core.Path.{sym}
 use borrow.Author.Tests.{lt-ltb, le-ltb}
-use Rattle.sound_rows.specs.Loops.{pass, stop}
+use Rattle.sound_words.specs.Loops.{pass, stop}
 use borrow.Author.Needs.{needs}
 use Rattle.sound_rows.proofs.numbers.coroutine_made.Statement.{statement}
 use Rattle.sound_rows.proofs.numbers.coroutine_made.Tie as tie

@@ -8,7 +8,7 @@ use denote.Ref.{now}
 use Rattle.rows.specs.Tables.{object-at}
 use Rattle.machine.specs.Tests.{all-below}
 use Rattle.machine.specs.Sound.{places-below}
-use Rattle.sound_rows.specs.Loops.{all-none, all-turn, all-fails, all-end}
+use Rattle.sound_words.specs.Loops.{all-none, all-turn, all-fails, all-end}
 use Rattle.sound_rows.specs.Numbers.{object-ranged}
 use Rattle.sound_rows.specs.NumberLaws.{count-fits, row-passes, row-stops, places-turn, places-none, objects-fail, objects-end}
 use Rattle.sound_rows.proofs.numbers.objects_in_range.Statement.{statement}

@@ -7,7 +7,7 @@ use borrow.Author.Tests.{lt-ltb, le-ltb}
 use borrow.Author.Needs.{needs}
 use Rattle.rows.specs.Tables.{place-at}
 use Rattle.machine.specs.Tests.{all-below}
-use Rattle.sound_rows.specs.Loops.{all-none, all-turn, all-fails, all-end}
+use Rattle.sound_words.specs.Loops.{all-none, all-turn, all-fails, all-end}
 use Rattle.sound_rows.proofs.values.items_below.Statement.{statement}
 use Rattle.sound_rows.proofs.values.items_below.Tie as tie
 

@@ -6,7 +6,7 @@ use Rattle.sound_rows.specs.NumberLaws.{heap-number}
 use borrow.Author.Needs.{needs}
 use denote.Ref.{now}
 use Rattle.machine.specs.Tests.{all-below}
-use Rattle.sound_rows.specs.Loops.{all-none, all-turn, all-fails, all-end}
+use Rattle.sound_words.specs.Loops.{all-none, all-turn, all-fails, all-end}
 use Rattle.rows.specs.Tables.{object-at, place-at}
 use Rattle.machine.specs.Sound.{items-below, items-lower}
 use Rattle.rows.specs.TableLaws.{places-fit}

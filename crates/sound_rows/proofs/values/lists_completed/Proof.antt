@@ -1,7 +1,7 @@
 use mathlib.Core.Path.{sym, _∙_}
 use borrow.Author.Needs.{needs}
 use Rattle.machine.specs.Sound.{lists-completed}
-use Rattle.sound_rows.specs.Loops.{pass, stop}
+use Rattle.sound_words.specs.Loops.{pass, stop}
 use Rattle.sound_rows.proofs.values.lists_completed.Statement.{statement}
 use Rattle.sound_rows.proofs.values.lists_completed.Tie as tie
 

@@ -1,6 +1,6 @@
 use mathlib.Core.Path.{sym, _∙_}
 use Rattle.machine.specs.Sound.{blocked-match}
-use Rattle.sound_rows.specs.Loops.{pass, stop}
+use Rattle.sound_words.specs.Loops.{pass, stop}
 use borrow.Author.Needs.{needs}
 use Rattle.sound_tasks.proofs.blocked.blocked_match.Statement.{statement}
 use Rattle.sound_tasks.proofs.blocked.blocked_match.Tie as tie

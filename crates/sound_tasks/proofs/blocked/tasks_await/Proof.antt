@@ -5,7 +5,7 @@ use native.Mathlib.Omega.{arith}
 use Rattle.sound_rows.specs.NumberLaws.{task-number}
 use borrow.Author.Needs.{needs}
 use Rattle.machine.specs.Tests.{all-below}
-use Rattle.sound_rows.specs.Loops.{all-none, all-turn, all-fails, all-end}
+use Rattle.sound_words.specs.Loops.{all-none, all-turn, all-fails, all-end}
 use Rattle.rows.specs.Tables.{task-at, object-at}
 use Rattle.machine.specs.Sound.{blocked-awaits}
 use Rattle.machine.specs.Scheduler.{blocked-on}

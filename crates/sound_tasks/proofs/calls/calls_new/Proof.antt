@@ -7,7 +7,7 @@ use borrow.Author.Needs.{needs}
 use Rattle.rows.specs.Tables.{object-at}
 use Rattle.machine.specs.Tests.{all-below}
 use Rattle.machine.specs.Sound.{call-new}
-use Rattle.sound_rows.specs.Loops.{all-none, all-turn, all-fails, all-end}
+use Rattle.sound_words.specs.Loops.{all-none, all-turn, all-fails, all-end}
 use Rattle.sound_tasks.specs.CallLaws.{Highest, highest-none, highest-turn, call-none, call-high, call-looked}
 use Rattle.sound_tasks.proofs.calls.calls_new.Statement.{statement}
 use Rattle.sound_tasks.proofs.calls.calls_new.Tie as tie

@@ -6,7 +6,7 @@ use Rattle.sound_rows.specs.NumberLaws.{heap-number}
 use borrow.Author.Tests.{eq-eqb, ne-eqb}
 use borrow.Author.Needs.{needs}
 use Rattle.machine.specs.Tests.{all-below}
-use Rattle.sound_rows.specs.Loops.{all-none, all-turn, all-fails, all-end}
+use Rattle.sound_words.specs.Loops.{all-none, all-turn, all-fails, all-end}
 use Rattle.sound_tasks.specs.CallLaws.{other-call}
 use Rattle.sound_tasks.proofs.calls.others_differ.Statement.{statement}
 use Rattle.sound_tasks.proofs.calls.others_differ.Tie as tie

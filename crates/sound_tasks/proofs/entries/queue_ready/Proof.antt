@@ -11,7 +11,7 @@ use Rattle.rows.specs.Tables.{task-at}
 use lib.ListN.{take}
 use Rattle.machine.specs.Tests.{all-below}
 use Rattle.machine.specs.Sound.{entry-ready}
-use Rattle.sound_rows.specs.Loops.{all-none, all-turn, all-fails, all-end}
+use Rattle.sound_words.specs.Loops.{all-none, all-turn, all-fails, all-end}
 use Rattle.sound_tasks.specs.Marks.{Marks, marks-zeros}
 use Rattle.sound_tasks.specs.QueueLaws.{entry-is, entry-at, queue-told, entry-out, entry-seen, entry-idle, entry-good, entry-marks}
 use Rattle.sound_tasks.proofs.entries.queue_ready.Statement.{statement}

@@ -8,7 +8,7 @@ use Rattle.asyncio.specs.Limits.{object-limit}
 use Rattle.rows.specs.Tables.{task-at}
 use Rattle.machine.specs.Tests.{all-below}
 use Rattle.machine.specs.Sound.{one-task, sole-task}
-use Rattle.sound_rows.specs.Loops.{all-none, all-turn, all-fails, all-end}
+use Rattle.sound_words.specs.Loops.{all-none, all-turn, all-fails, all-end}
 use Rattle.sound_tasks.specs.Marks.{Marks, marks-zeros}
 use Rattle.rows.specs.TableLaws.{coroutine-fits}
 use Rattle.sound_tasks.specs.OneTaskLaws.{driven, task-of-main, marks-main, task-of-dead, marks-dead, task-of-second, task-of-first, marks-live}
