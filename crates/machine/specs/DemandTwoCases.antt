@@ -1,25 +1,20 @@
 -- Sessions of which demand 2 is computed: what show gives of a gather, and the documentation's gather of the arrivals. A machine that fails one of these
--- refutes `DemandTwo` (must-fail/).
-use Prim.Native.Nat.{ℕ, _<_}
-use native.Mathlib.Nat.{not-suc-le-zero}
-use native.Mathlib.Omega.{arith}
+-- refutes `DemandTwo` (must-fail/). The exception's sessions are in `machine_cases`.
+use Prim.Native.Nat.{ℕ}
 use mathlib.Core.Path.{_≡_, refl}
-use mathlib.Core.List.{List, [], _∷_, _++_, map}
-use mathlib.Core.Bool.{_||_}
-use mathlib.Core.Logic.{inr}
+use mathlib.Core.List.{List, [], _∷_, map}
 use lib.ListN.{replicate}
 use Rattle.asyncio.specs.declared.Value.{Value}
 use Rattle.asyncio.specs.declared.Error.{Error}
 use Rattle.asyncio.specs.declared.OptionValue.{OptionValue}
 use Rattle.machine.specs.Events.{Result}
 use Rattle.machine.specs.Machine.{Event}
-use Rattle.machine.specs.Tests.{is-in}
 use Rattle.machine.specs.Gather.{Gathered, waiting, listed, propagated, outcome-of, first-raised, put-first, in-order, gather}
 use Rattle.machine.specs.History.{items}
-use Rattle.machine.specs.Sessions.{Sent, begun, session}
+use Rattle.machine.specs.Sessions.{Sent, Session, begun, session}
 use Rattle.machine.specs.Singles.{batch-of, accepted-batch, each-alone, cut-by, cut, singles-from, singles}
 use Rattle.machine.specs.DemandThree.{look}
-use Rattle.machine.specs.DemandTwo.{came, committed, values, seen, arrives, arrivals-of, is-late, early, late, in-turn, arrivals-by, arrivals-in, arrivals-from, has-task, is-pending, Reused}
+use Rattle.machine.specs.DemandTwo.{came, committed, values, seen, arrives, arrivals-of, is-late, early, late, in-turn, arrivals-by, arrivals-in, arrivals-from}
 use Rattle.machine.specs.DemandThreeCases.{e, res, pend, computes3}
 
 -- a session, and a gather of it
@@ -30,9 +25,9 @@ pub record Gathering : Type 0 where
 -- the gather after the events: as it is shown, and as the documentation has it
 unfoldable pub shown-and-documented : Gathering → Gathered Value Error × Gathered Value Error
 shown-and-documented x =
-    (seen (look (session (x .events) .store) (x .gathered)), gather (items (session (x .events) .history) (x .gathered)) (arrivals-from begun (singles (x .events)) (x .gathered)))
+    let s : Session = session (x .events) in (seen (look (s .store) (x .gathered)), gather (items (s .history) (x .gathered)) (arrivals-from begun (singles (x .events)) (x .gathered)))
 
-unfoldable computes2 : Unit {0}
+unfoldable pub computes2 : Unit {0}
 unfolding computes3 came committed values seen arrives arrivals-of is-late early late in-turn arrivals-by arrivals-in arrivals-from outcome-of first-raised put-first in-order gather batch-of accepted-batch each-alone cut-by cut singles-from singles shown-and-documented
 computes2 = tt
 
@@ -90,50 +85,3 @@ pub gatherings-right : map shown-and-documented gatherings ≡
     ∷ alike (propagated (Error.Script 5)) ∷ alike waiting ∷ []
 unfolding computes2
 gatherings-right = refl
-
--- ---- the exception
-
--- gather 3 of coroutines 0 and 1 and of call 0 (objects 0, 1, 2), awaited; the task of coroutine 0 makes another gather of one of them
-abbrev in-two-gathers : ℕ → List Sent
-in-two-gathers o =
-    e (Event.coroutine 7) ∷ e (Event.coroutine 8) ∷ e Event.call ∷ e (pend 0) ∷ e (Event.gather (0 ∷ 1 ∷ 2 ∷ [])) ∷ e (Event.await 3) ∷ e (Event.gather (o ∷ [])) ∷ []
-
--- and awaits it: coroutine 1 is new, and its task 2 lives
-pub coroutine-in-use : Reused (in-two-gathers 1 ++ (e (Event.await 4) ∷ [])) 4 Error.CoroutineReuse
-unfolding computes2 is-in
-coroutine-in-use =
-    record {
-      before = in-two-gathers 1;
-      commit = e (Event.await 4);
-      after = [];
-      parts = refl;
-      uncommitted = refl;
-      failed = refl;
-      reuse = record {
-        at = 0;
-        within = omega arith;
-        left = λ b l. absurd (not-suc-le-zero l);
-        first = λ b l. absurd (not-suc-le-zero l);
-        in-use = has-task 8 2 refl refl (record { user = 3; other = λ q. not-suc-le-zero {n = 0} (omega (arith, q)); was-committed = refl; among = refl });
-      };
-    }
-
--- call 0 is pending, and gather 3 has it
-pub external-in-use : Reused (in-two-gathers 2 ++ (e (Event.await 4) ∷ [])) 4 Error.FutureReuse
-unfolding computes2 is-in
-external-in-use =
-    record {
-      before = in-two-gathers 2;
-      commit = e (Event.await 4);
-      after = [];
-      parts = refl;
-      uncommitted = refl;
-      failed = refl;
-      reuse = record {
-        at = 0;
-        within = omega arith;
-        left = λ b l. absurd (not-suc-le-zero l);
-        first = λ b l. absurd (not-suc-le-zero l);
-        in-use = is-pending (inr (record { user = 3; other = λ q. not-suc-le-zero {n = 0} (omega (arith, q)); was-committed = refl; among = refl }));
-      };
-    }

@@ -2,3 +2,4 @@ pub mod MoreCases
 pub mod AllCases
 pub mod LayoutCase
 pub mod MoreSoundCases
+pub mod ReuseCases
