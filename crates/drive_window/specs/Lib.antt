@@ -5,3 +5,5 @@ pub mod TakenLaws
 pub mod OnwardLaws
 pub mod Input
 pub mod InputLaws
+pub mod Run
+pub mod RunLaws
