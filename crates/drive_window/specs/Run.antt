@@ -1,12 +1,13 @@
--- The program's loop as a list of turns: each is a window of its buffer, whose lines are written, and then more is read.
+-- The program's loop, turn by turn: each takes a window of the buffer, whose lines are written, and then more is read.
 use mathlib.Core.Path.{_≡_}
-use mathlib.Core.Bool.{true, false}
+use mathlib.Core.Bool.{true}
 use mathlib.Core.List.{List, [], _++_}
-use Prim.Native.Nat.{ℕ, _≤_, _<_}
+use Prim.Native.Nat.{ℕ, _≤_}
 use lib.Dec.{ltb}
 use lib.ListN.{length, take, replicate}
 use Rattle.asyncio.specs.Limits.{object-limit}
-use Rattle.machine.specs.Store.{Store, fresh}
+use Rattle.queue.specs.declared.ReadyQueue.{ReadyQueue}
+use Rattle.machine.specs.Store.{Store, LogEntry, store-of, fresh}
 use Rattle.drive_window.specs.Window.{DrivesWindow, drive-window}
 use Rattle.drive_window.specs.WindowLaws.{Bytes}
 use Rattle.drive_window.specs.Input.{Refilled, Readied}
@@ -15,49 +16,57 @@ use Rattle.drive_window.specs.Input.{Refilled, Readied}
 pub record Turn : Type 0 where
   pub store : Store
   pub list : List ℕ
+  pub number : ℕ
   pub buffer : List ℕ
   pub from : ℕ
   pub filled : ℕ
-  pub number : ℕ
   pub in-order : from ≤ filled
   pub within : filled ≤ length buffer
-  pub bytes : Bytes (take filled buffer)
+  pub bytes : Bytes buffer
 
 -- its window: the input has ended where the buffer is not full
 abbrev pub window-of : ℕ → Turn → DrivesWindow
 window-of size t = drive-window (ltb (t .filled) (length (t .buffer))) size (t .store) (t .list) (take (t .filled) (t .buffer)) (t .from) (t .number)
 
--- the first turn of a session, after the first reading
-abbrev pub first-turn : {empty buffer : List ℕ} {from filled : ℕ} → Refilled empty buffer 0 0 from filled → Bytes (take filled buffer) → Turn
-first-turn {buffer = buffer} {from = from} {filled = filled} r b = record {
-  store = fresh;
-  list = replicate object-limit 0;
-  buffer = buffer;
+-- the turn after a reading
+abbrev pub turn-of : Store → List ℕ → ℕ → {before after : List ℕ} {from filled from′ filled′ : ℕ} → Refilled before after from filled from′ filled′ → Bytes after → Turn
+turn-of s l number {after = after} {from′ = from} {filled′ = filled} r b = record {
+  store = s;
+  list = l;
+  number = number;
+  buffer = after;
   from = from;
   filled = filled;
-  number = 1;
   in-order = r .in-order;
   within = r .within;
   bytes = b;
 }
 
--- the next turn, after more was read
-abbrev pub next-turn : (w : DrivesWindow) {before after : List ℕ} {filled from′ filled′ : ℕ} → Readied before after (w .next) filled from′ filled′ → Bytes (take filled′ after) → Turn
-next-turn w {after = after} {from′ = from} {filled′ = filled} r b = record {
-  store = w .store;
-  list = w .list;
-  buffer = after;
-  from = from;
-  filled = filled;
-  number = w .number;
-  in-order = r .refilled .in-order;
-  within = r .refilled .within;
-  bytes = b;
-}
+-- A session comes to this turn, with an output buffer of `size` bytes: these bytes were read so far, and these were handed out to be written.
+pub data Reached (size : ℕ) : Turn → List ℕ → List ℕ → Type 0 where
+  begins : (empty buffer : List ℕ) (from filled : ℕ) (r : Refilled empty buffer 0 0 from filled) (b : Bytes buffer)
+      → Reached size (turn-of fresh (replicate object-limit 0) 1 r b) (r .more) []
+  goes : (t : Turn) (read wrote after : List ℕ) (from′ filled′ : ℕ) → Reached size t read wrote → window-of size t .going ≡ true
+      → (r : Readied (t .buffer) after (window-of size t .next) (t .filled) from′ filled′) (b : Bytes after)
+      → Reached size (turn-of (window-of size t .store) (window-of size t .list) (window-of size t .number) (r .refilled) b) (read ++ r .refilled .more)
+      (wrote ++ window-of size t .text)
 
--- The turns from t on, where no write fails: `later` is what is left of the input behind the buffer, and `text` all that they write.
-pub data Runs (size : ℕ) : Turn → List ℕ → List ℕ → Type 0 where
-  stops : (t : Turn) (later : List ℕ) → window-of size t .going ≡ false → (t .filled < length (t .buffer) → later ≡ []) → Runs size t later (window-of size t .text)
-  goes : (t : Turn) (after : List ℕ) (from′ filled′ : ℕ) (later text : List ℕ) → window-of size t .going ≡ true
-      → (r : Readied (t .buffer) after (window-of size t .next) (t .filled) from′ filled′) (b : Bytes (take filled′ after))
-      → Runs size (next-turn (window-of size t) r b) later text → Runs size t (r .refilled .more ++ later) (window-of size t .text ++ text)
+-- The code's memory is that of such a turn (the log, which the code has not, is some log).
+pub record Stands (size : ℕ) (ts os ps cs src : List ℕ) (q : ReadyQueue) (from filled number : ℕ) : Type 0 where
+  pub log : List LogEntry
+  pub read : List ℕ
+  pub wrote : List ℕ
+  pub in-order : from ≤ filled
+  pub within : filled ≤ length src
+  pub bytes : Bytes src
+  pub reached : Reached size (record {
+    store = store-of ts os ps q log;
+    list = cs;
+    number = number;
+    buffer = src;
+    from = from;
+    filled = filled;
+    in-order = in-order;
+    within = within;
+    bytes = bytes;
+  }) read wrote
