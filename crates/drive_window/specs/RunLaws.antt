@@ -113,7 +113,7 @@ pub stands-goes-on : {size : ℕ} {ts os ps cs src : List ℕ} {q : ReadyQueue} 
     → DroveWindow ts′ os′ ps′ cs′ out w (drive-window (ltb filled (length src)) size′ (store-of ts os ps q l) cs (take filled src) from number))
     → w .going ≡ true → Readied src after (w .next) filled from′ filled′ → Bytes after
     → Stands size ts′ os′ ps′ cs′ after (w .queue) from′ filled′ (w .number)
-stands-goes-on {size} {ts} {os} {ps} {cs} {src} {q} {from} {filled} {number} h {ts′ = ts′} {os′ = os′} {ps′ = ps′} {cs′ = cs′} {out = out} {after = after} {w = w} {from′ = from′} {filled′ = filled′} size′ same d′ g r′ b =
+stands-goes-on {size} {ts} {os} {ps} {cs} {src} {q} {from} {filled} {number} h {ts′} {os′} {ps′} {cs′} {out} {after} {w} {from′} {filled′} size′ same d′ g r′ b =
     let x : DrivesWindow = drive-window (ltb filled (length src)) size (store-of ts os ps q (h .log)) cs (take filled src) from number in
     let d : DroveWindow ts′ os′ ps′ cs′ out w x =
     subst (λ (n : ℕ). DroveWindow ts′ os′ ps′ cs′ out w (drive-window (ltb filled (length src)) n (store-of ts os ps q (h .log)) cs (take filled src) from number)) same (d′ (h .log)) in
