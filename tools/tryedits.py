@@ -25,8 +25,13 @@ def depends_on(crate):
     sys.exit(f"crates.txt has no {crate}")
 
 
+def root_of(folder):
+    """A library's lib.rt, or a program's main.rt."""
+    return next(p for p in (folder / "src/lib.rt", folder / "src/main.rt") if p.exists())
+
+
 def check(crate, folder):
-    words = ["rattle", "check", "--crate-name", crate, str(folder / "src/lib.rt"), "--extern", f"std={OWN}/rlib/std.rlib"]
+    words = ["rattle", "check", "--crate-name", crate, str(root_of(folder)), "--extern", f"std={OWN}/rlib/std.rlib"]
     for d in depends_on(crate):
         own = ROOT / "target/rlib" / f"{d}.rlib"
         words += ["--extern", f"{d}={own if own.exists() else OWN / 'rlib' / (d + '.rlib')}"]

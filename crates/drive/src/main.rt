@@ -1,119 +1,106 @@
-// The program of document 01: records from standard input, one line an event to standard output. It stops after an 11's line.
+// The program of document 01: records from standard input, one line an event to standard output. It stops after an 11's line, and where a write fails.
 use asyncio::OBJECTS;
 use asyncio::OBJECTS_LEN;
 use asyncio::PLACES_LEN;
 use asyncio::TASKS_LEN;
-use asyncio::words::least;
+use drive_window::RECORD_BYTES;
 use libc::STDIN_FILENO;
 use libc::STDOUT_FILENO;
 use queue::ReadyQueue;
-ghost use Prim.Native.Nat.{_≤_};
-ghost use lib.ListN.{length};
+ghost use Prim.Native.Nat.{_+_, _≤_};
+ghost use mathlib.Core.Path.{_≡_};
+ghost use lib.ListN.{length, drop};
+ghost use lib.Seq.{paste};
+ghost use Rattle.drive_lines.specs.Lines.{line-limit};
+ghost use Rattle.drive_reader.specs.Windows.{record-limit};
+ghost use Rattle.drive_window.specs.Input.{Refilled, Readied};
 
-// A record has at most so many bytes: results, 255 of 14 behind a head of 4.
-const RECORD_BYTES: usize = 3574;
+// The bytes of the buffer that are read and not used: from `from` up to `filled`.
+struct Input {
+    from: usize,
+    filled: usize,
+}
 
-// A line has at most so many bytes (line-limit).
-const LINE_BYTES: usize = 8192;
-
-// The bytes from `from` on, `count` of them or as many as there are, go to the front.
-fn move_up(src: &mut [u8], from: usize, count: usize) {
-    let start = least(from, src.len());
-    let n = least(count, src.len() - start);
+// The bytes from `from` on, `count` of them, go to the front; those behind them stay.
+fn move_up(src: &mut [u8], from: usize, count: usize)
+    requires { ⌜ from + count ≤ length (now src) ⌝ }
+    ensures { λ _. ⌜ now (src .exit) ≡ paste (now (src .entry)) 0 (drop from (now (src .entry))) count ⌝ }
+{
     let mut i: usize = 0;
-    while i < n {
-        src[i] = src[start + i];
+    while i < count {
+        src[i] = src[from + i];
         i += 1;
     }
 }
 
-// What was read up to `filled` and not used up to `from` goes to the front, and the buffer is filled behind it unless the input ends first.
-// Returns how many bytes there are.
-fn refill(src: &mut [u8], from: usize, filled: usize) -> usize
-    ensures { λ r. ⌜ r ≤ length (now (src .exit)) ⌝ }
+// What is read and not used goes to the front, and the buffer is filled behind it unless the input ends first.
+fn refill(src: &mut [u8], from: usize, filled: usize) -> Input
+    requires { ⌜ from ≤ filled ⌝ }
+    requires { ⌜ filled ≤ length (now src) ⌝ }
+    ensures { λ r. ⌜ Refilled (now (src .entry)) (now (src .exit)) from filled (r .from) (r .filled) ⌝ }
 {
-    let start = least(from, filled);
-    let rest = least(filled - start, src.len());
-    move_up(src, start, rest);
+    let rest = filled - from;
+    move_up(src, from, rest);
     let got = io::read_full(STDIN_FILENO, &mut src[rest..]);
-    rest + least(got, src.len() - rest)
-}
-
-// The bytes read, and how many of them are used.
-struct Input {
-    filled: usize,
-    from: usize,
+    Input {
+        from: 0,
+        filled: rest + got,
+    }
 }
 
 // More is read where a record could be cut short, unless the input has ended: then the buffer is not full.
 fn ready(src: &mut [u8], from: usize, filled: usize) -> Input
+    requires { ⌜ from ≤ filled ⌝ }
     requires { ⌜ filled ≤ length (now src) ⌝ }
-    ensures { λ r. ⌜ r .filled ≤ length (now (src .exit)) ⌝ }
+    ensures { λ r. ⌜ Readied (now (src .entry)) (now (src .exit)) from filled (r .from) (r .filled) ⌝ }
 {
-    if filled == src.len() && filled - least(from, filled) < RECORD_BYTES {
-        return Input {
-            filled: refill(src, from, filled),
-            from: 0,
-        };
+    if filled == src.len() {
+        if filled - from < RECORD_BYTES {
+            return refill(src, from, filled);
+        }
     }
-    Input { filled, from }
+    Input { from, filled }
 }
 
-// Writes the lines out where there might be no room for another. Returns where the next one goes.
-fn flush(out: &[u8], at: usize) -> usize
-    ensures { λ r. ⌜ r ≤ length (now (out .entry)) ⌝ }
+// A fresh session, and its records window by window, until the input ends, one is refused with 11, or a write fails. The loop's own end is never met before the
+// numbers of 64 bits are used up: each window takes a record or is the last (`window-goes-up`; the loop's measure rests on it). Its invariant
+// says that the windows so far are those of the input that was read (`Stands`): their lines together are the driver's (`program-is-drive`).
+fn run(src: &mut [u8], out: &mut [u8])
+    requires { ⌜ record-limit ≤ length (now src) ⌝ }
+    requires { ⌜ line-limit ≤ length (now out) ⌝ }
 {
-    let end = least(at, out.len());
-    if LINE_BYTES <= out.len() - end {
-        return end;
-    }
-    io::write_all(STDOUT_FILENO, &out[..end]);
-    0
-}
-
-// The number of the last record: this one, unless there is another.
-fn last_record(going: bool, number: u64, last: u64) -> u64
-    requires { ⌜ number ≤ last ⌝ }
-    ensures { λ r. ⌜ r ≤ last ⌝ }
-{
-    if going { last } else { number }
-}
-
-// A fresh session, and its records until the input ends or one is refused with 11.
-fn run(src: &mut [u8], out: &mut [u8]) {
     let mut tasks: [u64; TASKS_LEN] = [0; TASKS_LEN];
     let mut objects: [u64; OBJECTS_LEN] = [0; OBJECTS_LEN];
     let mut places: [u64; PLACES_LEN] = [0; PLACES_LEN];
     let mut calls: [u64; OBJECTS] = [0; OBJECTS];
     let begun = session_begin::begin(&mut tasks, &mut objects, &mut places, ReadyQueue::new());
     let mut queue = begun.queue;
-    let mut filled: usize = refill(src, 0, 0);
-    let mut from: usize = 0;
-    let mut at: usize = 0;
-    let mut number: u64 = 0;
-    let mut last: u64 = u64::MAX;
-    while number < last {
-        number += 1;
-        let driven = drive_record::drive_record(
+    let mut input = refill(src, 0, 0);
+    let mut number: u64 = 1;
+    while number < u64::MAX {
+        let ended = input.filled < src.len();
+        let window = drive_window::drive_window(
             &mut tasks,
             &mut objects,
             &mut places,
             &mut calls,
             queue,
-            &src[..filled],
-            from,
+            &src[..input.filled],
+            input.from,
+            ended,
             out,
-            at,
             number,
         );
-        queue = driven.queue;
-        last = last_record(driven.going, number, last);
-        at = flush(out, driven.at);
-        let input = ready(src, driven.next, filled);
-        filled = input.filled;
-        from = input.from;
+        if !io::write_all(STDOUT_FILENO, &out[..window.at]) {
+            return;
+        }
+        if !window.going {
+            return;
+        }
+        queue = window.queue;
+        number = window.number;
+        input = ready(src, window.next, input.filled);
     }
-    io::write_all(STDOUT_FILENO, &out[..at]);
 }
 
 fn main() {

@@ -102,11 +102,16 @@ module _ {ts os ps : List ℕ} {q : ReadyQueue} where
   record-sound-store s l src from number h i d = unlogged (drive-one s l src from number .store) (drives-sound-store s l src from number h i) (d .store-is)
 
   -- at the beginning
-  pub begun-sound-store : (s : Store) (a : Answer) → length (s .tasks) ≡ tasks-length → length (s .objects) ≡ objects-length → length (s .places) ≡ places-length
-      → stepped-of (store-of ts os ps q (lent-begin s .store .log)) a ≡ lent-begin s → SoundStore (store-of ts os ps q [])
-  begun-sound-store s a t o p e =
-      let b : lent-begin s .store ≡ fresh = begins-fresh s (sized-right s (record { tasks-sized = t; objects-sized = o; places-sized = p })) in
-      unlogged (lent-begin s .store) (subst SoundStore (sym b) fresh-sound-store) (ap (λ (x : Step). x .store) e)
+  module _ (s : Store) (a : Answer) (t : length (s .tasks) ≡ tasks-length) (o : length (s .objects) ≡ objects-length) (p : length (s .places) ≡ places-length)
+      (e : stepped-of (store-of ts os ps q (lent-begin s .store .log)) a ≡ lent-begin s) where
+    begun : lent-begin s .store ≡ fresh
+    begun = begins-fresh s (sized-right s (record { tasks-sized = t; objects-sized = o; places-sized = p }))
+
+    pub begun-fresh : store-of ts os ps q (lent-begin s .store .log) ≡ fresh
+    begun-fresh = ap (λ (x : Step). x .store) e ∙ begun
+
+    pub begun-sound-store : SoundStore (store-of ts os ps q [])
+    begun-sound-store = unlogged (lent-begin s .store) (subst SoundStore (sym begun) fresh-sound-store) (ap (λ (x : Step). x .store) e)
 
   -- The lengths, and soundness, as the code asks them.
   module _ (h : SoundStore (store-of ts os ps q [])) where

@@ -7,6 +7,7 @@ use native.Mathlib.Numerals.{add-one}
 use native.Mathlib.Omega.{arith}
 use lib.Dec.{leb}
 use lib.ListN.{length, length-append}
+use borrow.Author.Tests.{not-true, not-false}
 use Rattle.asyncio.specs.Limits.{object-limit}
 use Rattle.queue.specs.declared.ReadyQueue.{ReadyQueue}
 use Rattle.queue.specs.Queue.{empty-queue}
@@ -92,14 +93,6 @@ behind-none y = refl
 
 -- ---- the loop
 
-is-going : (b : Bool) → not b ≡ false → b ≡ true
-is-going true e = refl
-is-going false e = sym e
-
-not-going : (b : Bool) → not b ≡ true → b ≡ false
-not-going true e = sym e
-not-going false e = refl
-
 -- Before the record `number` at `from`: with some log, what is left to do gives, behind the lines and events so far, what the whole input gives. The lines so
 -- far are written. Each record took a byte or more.
 pub record Left (l src : List ℕ) (start : Out) (ts os ps cs : List ℕ) (q : ReadyQueue) (from number : ℕ) (here : Out) : Type 0 where
@@ -137,12 +130,12 @@ module _ {l src : List ℕ} {start here : Out} {ts os ps cs : List ℕ} {q : Rea
 
   -- one record was read, and the driver goes on
   pub left-onward : not going ≡ false → Onward src from next
-  left-onward g = subst (Onward src from) (sym (d (h .log) .next-is)) (going-on _ cs src from number (sym (d (h .log) .going-is) ∙ is-going going g))
+  left-onward g = subst (Onward src from) (sym (d (h .log) .next-is)) (going-on _ cs src from number (sym (d (h .log) .going-is) ∙ not-false going g))
 
   pub left-turn : ParsedFits (parse src from) → not going ≡ false → Left l src start ts′ os′ ps′ cs′ q′ next (number + 1) there
   left-turn i g =
       let w = d (h .log) in
-      let goes : one .going ≡ true = sym (w .going-is) ∙ is-going going g in
+      let goes : one .going ≡ true = sym (w .going-is) ∙ not-false going g in
       let more : List Sent = sent-of cs src (parse src from) in
       let count : length (h .sent ++ more) ≡ suc (length (h .sent)) =
       length-append (h .sent) more ∙ ap (λ (n : ℕ). length (h .sent) + n) (one-sent _ cs src from number goes) ∙ add-one _ in
@@ -170,7 +163,7 @@ module _ {l src : List ℕ} {start here : Out} {ts os ps cs : List ℕ} {q : Rea
   unfolding behind stopped AllSentInRange
   all-done g at =
       let w = d (h .log) in
-      let stops : one .going ≡ false = sym (w .going-is) ∙ not-going going g in
+      let stops : one .going ≡ false = sym (w .going-is) ∙ not-true going g in
       let none : length (h .sent ++ []) ≡ length (h .sent) = ap length (append-nil (h .sent)) in
       let whole-is : behind (h .text) (h .sent) (stopped (parse-refusal (parse src from)) one) ≡ drive-all l src =
       ap (behind (h .text) (h .sent)) (sym (all-stops _ cs src from number stops)) ∙ h .rest-is in

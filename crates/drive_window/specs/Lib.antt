@@ -2,3 +2,8 @@ pub mod Window
 pub mod WindowLaws
 pub mod Contracts
 pub mod TakenLaws
+pub mod OnwardLaws
+pub mod Input
+pub mod InputLaws
+pub mod Run
+pub mod RunLaws

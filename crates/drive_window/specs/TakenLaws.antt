@@ -7,7 +7,7 @@ use native.Mathlib.Nat.{zero-add}
 use native.Mathlib.Omega.{arith}
 use lib.Dec.{leb, ltb}
 use lib.ListN.{length, take, drop, length-append}
-use borrow.Author.Tests.{le-leb, lt-leb, lt-ltb, le-ltb, leb-true, ltb-true}
+use borrow.Author.Tests.{le-leb, lt-leb, lt-ltb, le-ltb, leb-true, ltb-true, not-true, not-false}
 use Rattle.asyncio.specs.States.{pick}
 use Rattle.queue.specs.declared.ReadyQueue.{ReadyQueue}
 use Rattle.machine.specs.Store.{Store, LogEntry, store-of}
@@ -68,14 +68,6 @@ behind-none w = refl
 take-front : (t z : List ℕ) → take (length t) (t ++ z) ≡ t
 take-front [] z = refl
 take-front (x ∷ t) z = ap (λ (y : List ℕ). x ∷ y) (take-front t z)
-
-is-going : (b : Bool) → not b ≡ false → b ≡ true
-is-going true e = refl
-is-going false e = sym e
-
-not-going : (b : Bool) → not b ≡ true → b ≡ false
-not-going true e = sym e
-not-going false e = refl
 
 -- ---- the loop
 
@@ -144,13 +136,13 @@ module _ {ended : Bool} {start : List ℕ} {w : DrivesWindow} {src ts os ps cs o
 
     -- where the driver goes on, the place is behind the record
     pub taken-onward : not going ≡ false → Onward src next next′
-    taken-onward g = subst (Onward src next) (sym (d (h .log) .next-is)) (going-on _ cs src next number (sym (d (h .log) .going-is) ∙ is-going going g))
+    taken-onward g = subst (Onward src next) (sym (d (h .log) .next-is)) (going-on _ cs src next number (sym (d (h .log) .going-is) ∙ not-false going g))
 
     -- one record was taken
     pub taken-turn : not going ≡ false → Taken ended start w src ts′ os′ ps′ cs′ out′ q′ next′ at′ (number + 1)
     taken-turn g =
         let x = d (h .log) in
-        let goes : one .going ≡ true = sym (x .going-is) ∙ is-going going g in
+        let goes : one .going ≡ true = sym (x .going-is) ∙ not-false going g in
         let rest : window-rest ended (length start) (store-of ts′ os′ ps′ q′ (one .store .log)) cs′ src next′ at′ (number + 1)
         ≡ window-rest ended (length start) (one .store) (one .list) src (one .next) (at + length (one .text)) (number + 1) =
         ap (λ (s : Store). window-rest ended (length start) s cs′ src next′ at′ (number + 1)) (x .store-is)
@@ -174,7 +166,7 @@ module _ {ended : Bool} {start : List ℕ} {w : DrivesWindow} {src ts os ps cs o
         → DroveWindow ts′ os′ ps′ cs′ out′ r w
     taken-stops g r eq en ea ec eg =
         let x = d (h .log) in
-        let ends : one .going ≡ false = sym (x .going-is) ∙ not-going going g in
+        let ends : one .going ≡ false = sym (x .going-is) ∙ not-true going g in
         let whole : behind (h .text) (stops one number) ≡ w =
         ap (behind (h .text)) (sym (window-turn ended (length start) (store-of ts os ps q (h .log)) cs src next at number ∙ (rw (t, ends)))) ∙ h .rest-is in
         subst (DroveWindow ts′ os′ ps′ cs′ out′ r) whole (unfold behind stops in (record {

@@ -1,6 +1,7 @@
 // A window of the driver's input: the records that are whole in it and have room for their lines.
 
 use asyncio::words::least;
+use drive_answer::answered::Driven;
 use queue::ReadyQueue;
 ghost use mathlib.Core.Path.{_≡_};
 ghost use Prim.Native.Nat.{_-_};
@@ -62,41 +63,44 @@ pub fn drive_window(
     requires { ⌜ SoundSession tasks objects places calls queue ⌝ }
     ensures { λ r. ⌜ DrivesOneWindow tasks objects places calls queue src from ended out number r ⌝ }
 {
-    let mut left_queue = queue;
-    let mut next = from;
-    let mut at: usize = 0;
+    let mut driven = Driven {
+        queue,
+        at: 0,
+        next: from,
+        going: true,
+    };
     let mut count = number;
-    while takes(ended, src.len(), next, out.len(), at, count) {
-        let driven = drive_record::drive_record(
+    while takes(ended, src.len(), driven.next, out.len(), driven.at, count) {
+        let left_queue = driven.queue;
+        driven = drive_record::drive_record(
             tasks,
             objects,
             places,
             calls,
             left_queue,
             src,
-            next,
+            driven.next,
             out,
-            at,
+            driven.at,
             count,
         );
-        left_queue = driven.queue;
-        next = driven.next;
-        at = driven.at;
         if !driven.going {
+            let last_queue = driven.queue;
             return Window {
-                queue: left_queue,
-                next,
-                at,
+                queue: last_queue,
+                next: driven.next,
+                at: driven.at,
                 number: count,
                 going: false,
             };
         }
         count += 1;
     }
+    let last_queue = driven.queue;
     Window {
-        queue: left_queue,
-        next,
-        at,
+        queue: last_queue,
+        next: driven.next,
+        at: driven.at,
         number: count,
         going: true,
     }
