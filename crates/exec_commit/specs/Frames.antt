@@ -11,7 +11,7 @@ use Rattle.machine.specs.Store.{Store, LogEntry, store-of}
 use Rattle.machine.specs.Commit.{Poll, Frame, unwind}
 use Rattle.machine.specs.Commit as machine
 use Rattle.machine_laws.specs.Statements.{commit-rest}
-use Rattle.contract.specs.Contract.{Slice, Does}
+use Rattle.contract.specs.Contract.{Slice, Count, queue-before, queue-after, Does}
 use Rattle.exec_poll.specs.Polls.{poll-of}
 use Rattle.exec_commit.specs.Steps.{frame}
 use Rattle.exec_commit.specs.declared.tree.Committed.{Committed}
@@ -56,7 +56,8 @@ Unwinds objects g gathers depth error =
     (ts ps ns : List ℕ) (n : ℕ) (q : ReadyQueue) (l : List LogEntry) →
     store-of ts (now (objects .exit)) ps q l ≡ unwind (store-of ts (now (objects .entry)) ps q l) (frame g n ∷ below gathers ns depth) error
 
--- The call commits, as f does.
-abbrev pub Commits : Slice → Slice → Slice → ReadyQueue → (Store → machine.Committed) → Committed → Type 0
-Commits tasks objects places queue f r =
-    Does (λ x. x .store .log) tasks objects places queue (r .queue) (λ s. commit-result s (poll-of (r .poll)) (r .steps)) (λ s. result-of (f s))
+-- The call commits, as f does, with a lent queue.
+abbrev pub Commits : Slice → Slice → Slice → Slice → Count → (Store → machine.Committed) → Committed → Type 0
+Commits tasks objects places ids len f r =
+    Does (λ x. x .store .log) tasks objects places (queue-before ids len) (queue-after ids len)
+    (λ s. commit-result s (poll-of (r .poll)) (r .steps)) (λ s. result-of (f s))

@@ -8,11 +8,9 @@ use Rattle.machine.specs.Store.{Store, LogEntry, store-of, object}
 use Rattle.machine.specs.Scheduler.{bit, as-awaited}
 use Rattle.machine.specs.Commit.{at-end, at-nested, at-error, step-item, step-items, Frame}
 use Rattle.machine.specs.Commit as machine
-use Rattle.contract.specs.Contract.{Slice, kept, before, after, Does}
+use Rattle.contract.specs.Contract.{Slice, Count, queue-before, queue-after, kept, before, after, Does}
 use Rattle.exec_commit.specs.declared.step.ItemStep.{ItemStep}
-use Rattle.exec_commit.specs.declared.step.SteppedItem.{SteppedItem}
 use Rattle.exec_commit.specs.declared.step.Stop.{Stop}
-use Rattle.exec_commit.specs.declared.step.Stopped.{Stopped}
 
 -- bit i set
 abbrev pub with-bit : ℕ → ℕ → ℕ
@@ -62,13 +60,13 @@ StepsPlace objects places i f r =
     (ts : List ℕ) (q : ReadyQueue) (l : List LogEntry) (go : Goes) →
     stepped (after (kept ts) objects places q l) i r go ≡ f (before (kept ts) objects places q l) go
 
--- The call steps the item of place i, as f does. What has happened does not hang on how the walk goes on.
-abbrev pub StepsTo : Slice → Slice → Slice → ReadyQueue → ℕ → (Store → Goes → machine.Stop) → SteppedItem → Type 0
-StepsTo tasks objects places queue i f r =
+-- The call steps the item of place i, as f does, with a lent queue. What has happened does not hang on how the walk goes on.
+abbrev pub StepsTo : Slice → Slice → Slice → Slice → Count → ℕ → (Store → Goes → machine.Stop) → ItemStep → Type 0
+StepsTo tasks objects places ids len i f r =
     (l : List LogEntry) (go : Goes) →
-    stepped (after tasks objects places (r .queue) (stop-log (f (before tasks objects places queue l) at-end))) i (r .step) go
-    ≡ f (before tasks objects places queue l) go
+    stepped (after tasks objects places (queue-after ids len) (stop-log (f (before tasks objects places (queue-before ids len) l) at-end))) i r go
+    ≡ f (before tasks objects places (queue-before ids len) l) go
 
 -- The call walks through the items of a gather and stops, as f does.
-abbrev pub StopsAt : Slice → Slice → Slice → ReadyQueue → (Store → machine.Stop) → Stopped → Type 0
-StopsAt tasks objects places queue f r = Does stop-log tasks objects places queue (r .queue) (λ s. stopped s (r .stop)) f
+abbrev pub StopsAt : Slice → Slice → Slice → Slice → Count → (Store → machine.Stop) → Stop → Type 0
+StopsAt tasks objects places ids len f r = Does stop-log tasks objects places (queue-before ids len) (queue-after ids len) (λ s. stopped s r) f

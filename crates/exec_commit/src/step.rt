@@ -5,11 +5,11 @@ use asyncio::HeapId;
 use asyncio::Object;
 use asyncio::OptionValue;
 use asyncio::Place;
+use asyncio::TASKS;
 use asyncio::Value;
 use exec_poll::item::ItemPoll;
 use exec_poll::item::Poll;
 use exec_poll::item::item;
-use queue::ReadyQueue;
 use scheduler::awaited::AwaitedGather;
 use scheduler::awaited::OptionAwaited;
 use scheduler::awaited::as_awaited;
@@ -32,23 +32,11 @@ pub enum ItemStep {
     Raised(Error),
 }
 
-// The queue after an item, and how the walk stands.
-pub struct SteppedItem {
-    pub queue: ReadyQueue,
-    pub step: ItemStep,
-}
-
 // Where the walk through a gather's items stopped: at the end, at a nested gather in place `at`, at an error.
 pub enum Stop {
     End,
     Nested { at: u16, item: HeapId },
     Raised(Error),
-}
-
-// The queue after a walk, and where it stopped.
-pub struct Stopped {
-    pub queue: ReadyQueue,
-    pub stop: Stop,
 }
 
 // Bit `i` of the open places, set.
@@ -132,34 +120,24 @@ fn step_item(
     tasks: &mut [u64],
     objects: &mut [u64],
     places: &mut [u64],
-    queue: ReadyQueue,
+    ids: &mut [u16; TASKS],
+    len: &mut usize,
     g: HeapId,
     i: usize,
-) -> SteppedItem
+) -> ItemStep
     requires { ⌜ LengthsAnd₂ tasks objects places (g .0 < object-limit) (i < count-of (object-at (now objects) (g .0))) ⌝ }
-    ensures { λ r. ⌜ StepsTo tasks objects places queue i
+    ensures { λ r. ⌜ StepsTo tasks objects places ids len i
         (λ s go. step-at s (g .0) i go) r ⌝ }
 {
     let a = as_awaited(objects, g);
     match a {
-        OptionAwaited::None => SteppedItem {
-            queue,
-            step: ItemStep::End,
-        },
+        OptionAwaited::None => ItemStep::End,
         OptionAwaited::Some(w) => {
             let o = rows::parts::item_at(places, w.first as usize + i);
-            let r = item(tasks, objects, places, queue, g, w, o);
-            let q = r.queue;
-            let polled = r.item;
+            let polled = item(tasks, objects, places, ids, len, g, w, o);
             match polled {
-                ItemPoll::Nested => SteppedItem {
-                    queue: q,
-                    step: ItemStep::Nested(o),
-                },
-                ItemPoll::Polled(poll) => {
-                    let step = put_polled(objects, places, g, w, i, poll);
-                    SteppedItem { queue: q, step }
-                }
+                ItemPoll::Nested => ItemStep::Nested(o),
+                ItemPoll::Polled(poll) => put_polled(objects, places, g, w, i, poll),
             }
         }
     }
@@ -170,45 +148,25 @@ pub(crate) fn step_gather_commit(
     tasks: &mut [u64],
     objects: &mut [u64],
     places: &mut [u64],
-    queue: ReadyQueue,
+    ids: &mut [u16; TASKS],
+    len: &mut usize,
     g: HeapId,
     next: u16,
-) -> Stopped
+) -> Stop
     requires { ⌜ LengthsAnd tasks objects places (g .0 < object-limit) ⌝ }
-    ensures { λ r. ⌜ StopsAt tasks objects places queue
+    ensures { λ r. ⌜ StopsAt tasks objects places ids len
         (λ s. step-gather-commit s (frame (g .0) next)) r ⌝ }
 {
     let count = rows::parts::count_at(objects, g);
-    let mut q = queue;
     let mut i = next;
     while i < count {
-        let r = step_item(tasks, objects, places, q, g, i as usize);
-        let step = r.step;
-        q = r.queue;
+        let step = step_item(tasks, objects, places, ids, len, g, i as usize);
         match step {
             ItemStep::Next => i += 1,
-            ItemStep::End => {
-                return Stopped {
-                    queue: q,
-                    stop: Stop::End,
-                };
-            }
-            ItemStep::Nested(o) => {
-                return Stopped {
-                    queue: q,
-                    stop: Stop::Nested { at: i, item: o },
-                };
-            }
-            ItemStep::Raised(e) => {
-                return Stopped {
-                    queue: q,
-                    stop: Stop::Raised(e),
-                };
-            }
+            ItemStep::End => return Stop::End,
+            ItemStep::Nested(o) => return Stop::Nested { at: i, item: o },
+            ItemStep::Raised(e) => return Stop::Raised(e),
         }
     }
-    Stopped {
-        queue: q,
-        stop: Stop::End,
-    }
+    Stop::End
 }

@@ -8,17 +8,16 @@ use crate::step::Stop;
 use crate::step::step_gather_commit;
 use asyncio::Awaiter;
 use asyncio::HeapId;
+use asyncio::TASKS;
 use exec_poll::item::Poll;
-use queue::ReadyQueue;
 ghost use Prim.Native.Nat.{_<_};
 ghost use Rattle.asyncio.specs.Limits.{object-limit};
 ghost use Rattle.machine.specs.Commit.{commit-gather-tree};
 ghost use Rattle.contract.specs.Contract.{LengthsAnd};
 ghost use Rattle.exec_commit.specs.Frames.{Commits};
 
-// The queue after a commit, what the await sees, and the number of commit steps.
+// What the await sees after a commit, and the number of commit steps.
 pub struct Committed {
-    pub queue: ReadyQueue,
     pub poll: Poll,
     pub steps: u16,
 }
@@ -29,12 +28,13 @@ pub fn commit_gather_tree(
     tasks: &mut [u64],
     objects: &mut [u64],
     places: &mut [u64],
-    queue: ReadyQueue,
+    ids: &mut [u16; TASKS],
+    len: &mut usize,
     root: HeapId,
     awaiter: Awaiter,
 ) -> Committed
     requires { ⌜ LengthsAnd tasks objects places (root .0 < object-limit) ⌝ }
-    ensures { λ r. ⌜ Commits tasks objects places queue
+    ensures { λ r. ⌜ Commits tasks objects places ids len
         (λ s. commit-gather-tree s (root .0) awaiter) r ⌝ }
 {
     open_gather_commit(objects, root, awaiter);
@@ -43,12 +43,9 @@ pub fn commit_gather_tree(
     let mut depth: usize = 0;
     let mut g = root;
     let mut next: u16 = 0;
-    let mut q = queue;
     let mut steps: u16 = 0;
     loop {
-        let r = step_gather_commit(tasks, objects, places, q, g, next);
-        let stop = r.stop;
-        q = r.queue;
+        let stop = step_gather_commit(tasks, objects, places, ids, len, g, next);
         steps += 1;
         match stop {
             Stop::Nested { at, item } => {
@@ -69,11 +66,7 @@ pub fn commit_gather_tree(
             Stop::End => {
                 let poll = settle_gather_commit(objects, g);
                 if depth == 0 {
-                    return Committed {
-                        queue: q,
-                        poll,
-                        steps,
-                    };
+                    return Committed { poll, steps };
                 }
                 depth -= 1;
                 g = HeapId::new(gathers[depth]);
@@ -84,7 +77,6 @@ pub fn commit_gather_tree(
             Stop::Raised(e) => {
                 unwind_gather_commits(objects, g, gathers, depth, e);
                 return Committed {
-                    queue: q,
                     poll: Poll::Raised(e),
                     steps,
                 };

@@ -7,6 +7,7 @@ use asyncio::ExternalFutureState;
 use asyncio::GatherState;
 use asyncio::HeapId;
 use asyncio::Object;
+use asyncio::TASKS;
 use asyncio::TaskId;
 use asyncio::Value;
 use exec_commit::tree::commit_gather_tree;
@@ -15,18 +16,16 @@ use exec_poll::item::await_external;
 use exec_switch::control::Control;
 use exec_switch::control::How;
 use exec_switch::cycle::switch_or_yield;
-use queue::ReadyQueue;
 use scheduler::states::block_current_on;
 ghost use Prim.Native.Nat.{_<_};
 ghost use Rattle.asyncio.specs.Limits.{task-limit, object-limit};
 ghost use Rattle.machine.specs.Events.{stays, raises, go-on, await-coroutine, await-external-future, await-gather, exec-get-awaitable};
 ghost use Rattle.exec_poll.specs.Polls.{poll-of};
 ghost use Rattle.contract.specs.Contract.{ObjectsLength, Lengths₂And, Lengths₂And₂, LengthsAnd₂};
-ghost use Rattle.exec_events.specs.Awaits.{AwaitsKeepingPlaces, AwaitsOfObjects, AwaitsOfQueue, Awaits};
+ghost use Rattle.exec_events.specs.Awaits.{AwaitsKeepingPlaces, AwaitsOfObjects, AwaitsOfNothing, Awaits};
 
-// The queue after an await, who has control, and the number of commit steps.
+// Who has control after an await, and the number of commit steps.
 pub struct Awaited {
-    pub queue: ReadyQueue,
     pub control: Control,
     pub steps: u16,
 }
@@ -35,19 +34,19 @@ pub struct Awaited {
 fn go_on(
     tasks: &mut [u64],
     objects: &mut [u64],
-    queue: ReadyQueue,
+    ids: &mut [u16; TASKS],
+    len: &mut usize,
     t: TaskId,
     o: HeapId,
     steps: u16,
     poll: Poll,
 ) -> Awaited
     requires { ⌜ Lengths₂And tasks objects (t .0 < task-limit) ⌝ }
-    ensures { λ r. ⌜ AwaitsKeepingPlaces tasks objects queue
+    ensures { λ r. ⌜ AwaitsKeepingPlaces tasks objects ids len
         (λ s. go-on (t .0) (o .0) steps s (poll-of poll)) r ⌝ }
 {
     match poll {
         Poll::Ready(v) => Awaited {
-            queue,
             control: Control::Runs {
                 task: t,
                 how: How::Value(v),
@@ -55,7 +54,6 @@ fn go_on(
             steps,
         },
         Poll::Raised(e) => Awaited {
-            queue,
             control: Control::Runs {
                 task: t,
                 how: How::Raised(e),
@@ -64,15 +62,8 @@ fn go_on(
         },
         Poll::Pending => {
             block_current_on(tasks, t, o);
-            let mut q = queue;
-            let mut n = q.len;
-            let control = switch_or_yield(tasks, objects, &mut q.ids, &mut n);
-            q.len = n;
-            Awaited {
-                queue: q,
-                control,
-                steps,
-            }
+            let control = switch_or_yield(tasks, objects, ids, len);
+            Awaited { control, steps }
         }
     }
 }
@@ -80,14 +71,13 @@ fn go_on(
 // A new coroutine runs inline.
 fn await_coroutine(
     objects: &mut [u64],
-    queue: ReadyQueue,
     t: TaskId,
     o: HeapId,
     function: u32,
     state: CoroutineState,
 ) -> Awaited
     requires { ⌜ ObjectsLength objects × (o .0 < object-limit) ⌝ }
-    ensures { λ r. ⌜ AwaitsOfObjects objects queue
+    ensures { λ r. ⌜ AwaitsOfObjects objects
         (λ s. await-coroutine s (t .0) (o .0) function state) r ⌝ }
 {
     match state {
@@ -101,7 +91,6 @@ fn await_coroutine(
                 },
             );
             Awaited {
-                queue,
                 control: Control::Runs {
                     task: t,
                     how: How::Inline(o),
@@ -109,17 +98,16 @@ fn await_coroutine(
                 steps: 0,
             }
         }
-        CoroutineState::Running => raise(queue, t, Error::CoroutineReuse),
-        CoroutineState::Completed => raise(queue, t, Error::CoroutineReuse),
+        CoroutineState::Running => raise(t, Error::CoroutineReuse),
+        CoroutineState::Completed => raise(t, Error::CoroutineReuse),
     }
 }
 
 // The task goes on with an error, at once and without a commit.
-fn raise(queue: ReadyQueue, t: TaskId, error: Error) -> Awaited
-    ensures { λ r. ⌜ AwaitsOfQueue queue (λ s. stays s (t .0) (raises error) 0) r ⌝ }
+fn raise(t: TaskId, error: Error) -> Awaited
+    ensures { λ r. ⌜ AwaitsOfNothing (λ s. stays s (t .0) (raises error) 0) r ⌝ }
 {
     Awaited {
-        queue,
         control: Control::Runs {
             task: t,
             how: How::Raised(error),
@@ -132,18 +120,19 @@ fn raise(queue: ReadyQueue, t: TaskId, error: Error) -> Awaited
 fn await_external_future(
     tasks: &mut [u64],
     objects: &mut [u64],
-    queue: ReadyQueue,
+    ids: &mut [u16; TASKS],
+    len: &mut usize,
     t: TaskId,
     o: HeapId,
     call: CallId,
     state: ExternalFutureState,
 ) -> Awaited
     requires { ⌜ Lengths₂And₂ tasks objects (t .0 < task-limit) (o .0 < object-limit) ⌝ }
-    ensures { λ r. ⌜ AwaitsKeepingPlaces tasks objects queue
+    ensures { λ r. ⌜ AwaitsKeepingPlaces tasks objects ids len
         (λ s. await-external-future s (t .0) (o .0) call state) r ⌝ }
 {
     let poll = await_external(objects, o, call, state, Awaiter::Task(t));
-    go_on(tasks, objects, queue, t, o, 0, poll)
+    go_on(tasks, objects, ids, len, t, o, 0, poll)
 }
 
 // A pending gather is committed. A settled one gives what it has.
@@ -151,36 +140,35 @@ fn await_gather_future(
     tasks: &mut [u64],
     objects: &mut [u64],
     places: &mut [u64],
-    queue: ReadyQueue,
+    ids: &mut [u16; TASKS],
+    len: &mut usize,
     t: TaskId,
     o: HeapId,
     state: GatherState,
 ) -> Awaited
     requires { ⌜ LengthsAnd₂ tasks objects places (t .0 < task-limit) (o .0 < object-limit) ⌝ }
-    ensures { λ r. ⌜ Awaits tasks objects places queue
+    ensures { λ r. ⌜ Awaits tasks objects places ids len
         (λ s. await-gather s (t .0) (o .0) state) r ⌝ }
 {
     match state {
         GatherState::Pending => {
-            let c = commit_gather_tree(tasks, objects, places, queue, o, Awaiter::Task(t));
-            let q = c.queue;
+            let c = commit_gather_tree(tasks, objects, places, ids, len, o, Awaiter::Task(t));
             let poll = c.poll;
             let steps = c.steps;
-            go_on(tasks, objects, q, t, o, steps, poll)
+            go_on(tasks, objects, ids, len, t, o, steps, poll)
         }
         GatherState::Awaited {
             awaiter: _,
             open_places: _,
-        } => raise(queue, t, Error::GatherReuse),
+        } => raise(t, Error::GatherReuse),
         GatherState::Completed => Awaited {
-            queue,
             control: Control::Runs {
                 task: t,
                 how: How::Value(Value::List(o)),
             },
             steps: 0,
         },
-        GatherState::Failed(e) => raise(queue, t, e),
+        GatherState::Failed(e) => raise(t, e),
     }
 }
 
@@ -189,31 +177,29 @@ pub fn exec_get_awaitable(
     tasks: &mut [u64],
     objects: &mut [u64],
     places: &mut [u64],
-    queue: ReadyQueue,
+    ids: &mut [u16; TASKS],
+    len: &mut usize,
     t: TaskId,
     o: HeapId,
 ) -> Awaited
     requires { ⌜ LengthsAnd₂ tasks objects places (t .0 < task-limit) (o .0 < object-limit) ⌝ }
-    ensures { λ r. ⌜ Awaits tasks objects places queue
+    ensures { λ r. ⌜ Awaits tasks objects places ids len
         (λ s. exec-get-awaitable s (t .0) (o .0)) r ⌝ }
 {
     let x = rows::tables::load_object(objects, o);
     match x {
         Object::Unmade => Awaited {
-            queue,
             control: Control::Waits,
             steps: 0,
         },
-        Object::Coroutine { function, state } => {
-            await_coroutine(objects, queue, t, o, function, state)
-        }
+        Object::Coroutine { function, state } => { await_coroutine(objects, t, o, function, state) }
         Object::ExternalFuture { call, state } => {
-            await_external_future(tasks, objects, queue, t, o, call, state)
+            await_external_future(tasks, objects, ids, len, t, o, call, state)
         }
         Object::GatherFuture {
             first: _,
             count: _,
             state,
-        } => await_gather_future(tasks, objects, places, queue, t, o, state),
+        } => await_gather_future(tasks, objects, places, ids, len, t, o, state),
     }
 }

@@ -3,6 +3,7 @@ use asyncio::CoroutineState;
 use asyncio::Error;
 use asyncio::HeapId;
 use asyncio::Object;
+use asyncio::TASKS;
 use asyncio::TaskId;
 use asyncio::Value;
 use exec_deliver::climb::deliver_awaiter_success;
@@ -16,7 +17,7 @@ use exec_switch::cycle::switch_or_yield;
 use queue::ReadyQueue;
 use scheduler::cleanup::cleanup;
 use scheduler::cleanup::no_call_pending;
-use scheduler::states::remove_task;
+use scheduler::states::remove_task_lent;
 ghost use mathlib.Core.Path.{_≡_};
 ghost use Prim.Native.Nat.{_<_};
 ghost use Rattle.asyncio.specs.Limits.{task-limit, object-limit};
@@ -26,12 +27,6 @@ ghost use Rattle.machine.specs.Machine.{task-completes, task-fails, resume-with
 ghost use Rattle.contract.specs.Contract.{ObjectsLength, Lengths₂, Lengths₂And, LengthsAnd};
 ghost use Rattle.exec_switch.specs.Answer.{Answers, AnswersKeepingPlaces};
 ghost use Rattle.exec_events.specs.Ends.{Switches};
-
-// The queue after a switch, and who has control.
-pub struct Switched {
-    pub queue: ReadyQueue,
-    pub control: Control,
-}
 
 // A coroutine that has completed. Any other object stays.
 fn completed(x: Object) -> Object
@@ -61,30 +56,28 @@ fn complete_coroutine(objects: &mut [u64], c: HeapId)
     rows::tables::store_object(objects, c, completed(x));
 }
 
-// The task's coroutine is completed, the task goes, and its awaiter gets the value.
+// The task's coroutine is completed, the task goes, and its awaiter gets the value. The queue is lent.
 fn handle_task_completion(
     tasks: &mut [u64],
     objects: &mut [u64],
     places: &mut [u64],
-    queue: ReadyQueue,
+    ids: &mut [u16; TASKS],
+    len: &mut usize,
     t: TaskId,
     value: Value,
-) -> Switched
+) -> Control
     requires { ⌜ LengthsAnd tasks objects places (t .0 < task-limit) ⌝ }
-    ensures { λ r. ⌜ Switches tasks objects places queue
+    ensures { λ r. ⌜ Switches tasks objects places ids len
         (λ s. handle-task-completion s (t .0) value) r ⌝ }
 {
     let task = rows::tables::load_task(tasks, t);
     let awaiter = task.awaiter;
     let coroutine = task.coroutine;
     complete_coroutine(objects, coroutine);
-    let mut q = remove_task(tasks, queue, t);
+    remove_task_lent(tasks, ids, len, t);
     let woken = deliver_awaiter_success(tasks, objects, places, awaiter, value);
-    let mut n = q.len;
-    queue_woken(&mut q.ids, &mut n, woken);
-    let control = resume_after_task_exit(tasks, objects, &mut q.ids, &mut n, woken);
-    q.len = n;
-    Switched { queue: q, control }
+    queue_woken(ids, len, woken);
+    resume_after_task_exit(tasks, objects, ids, len, woken)
 }
 
 // Task `t` completes. Main's end is the session's.
@@ -107,9 +100,10 @@ pub fn complete(
             answer: Answer::Finished(value),
         };
     }
-    let s = handle_task_completion(tasks, objects, places, queue, t, value);
-    let q = s.queue;
-    let control = s.control;
+    let mut q = queue;
+    let mut n = q.len;
+    let control = handle_task_completion(tasks, objects, places, &mut q.ids, &mut n, t, value);
+    q.len = n;
     Stepped {
         queue: q,
         answer: Answer::Switched(control),

@@ -1,16 +1,13 @@
 -- What the code answers, as the machine's data.
 use Prim.Native.Nat.{ℕ}
 use mathlib.Core.Option.{Option, none, some}
-use Rattle.queue.specs.declared.ReadyQueue.{ReadyQueue}
 use Rattle.machine.specs.Store.{Store, object}
 use Rattle.machine.specs.Scheduler as scheduler
 use Rattle.machine.specs.Commit.{ready, raised, pending, gives, polled, nested, item-object, item}
 use Rattle.machine.specs.Commit as machine
-use Rattle.contract.specs.Contract.{Slice, Does, DoesOfTasksAndObjects, DoesOfObjects}
+use Rattle.contract.specs.Contract.{Slice, Count, queue-before, queue-after, Does, DoesOfTasksAndObjects, DoesOfObjects}
 use Rattle.exec_poll.specs.declared.item.Poll.{Poll}
-use Rattle.exec_poll.specs.declared.item.Polled.{Polled}
 use Rattle.exec_poll.specs.declared.item.ItemPoll.{ItemPoll}
-use Rattle.exec_poll.specs.declared.item.PolledItem.{PolledItem}
 
 -- what an awaitable gives at once
 abbrev pub poll-of : Poll → machine.Poll
@@ -47,21 +44,21 @@ item-at s g w o = itemed s (item s g w o)
 
 -- ---- what a call does
 
--- The call polls an awaitable, as f does.
-abbrev pub Polls : Slice → Slice → ReadyQueue → (Store → machine.Polled) → Polled → Type 0
-Polls tasks objects queue f r =
-    DoesOfTasksAndObjects (λ x. x .store .log) tasks objects queue (r .queue) (λ s. gives s (poll-of (r .poll))) f
+-- The call polls an awaitable, as f does, with a lent queue.
+abbrev pub Polls : Slice → Slice → Slice → Count → (Store → machine.Polled) → Poll → Type 0
+Polls tasks objects ids len f r =
+    DoesOfTasksAndObjects (λ x. x .store .log) tasks objects (queue-before ids len) (queue-after ids len) (λ s. gives s (poll-of r)) f
 
 -- The same of a call that takes the objects alone.
 abbrev pub PollsOfObjects : Slice → (Store → machine.Polled) → Poll → Type 0
 PollsOfObjects objects f r = DoesOfObjects objects (λ s. gives s (poll-of r)) f
 
--- The call polls an item, as f does.
-abbrev pub PollsItem : Slice → Slice → ReadyQueue → (Store → Itemed) → PolledItem → Type 0
-PollsItem tasks objects queue f r =
-    DoesOfTasksAndObjects (λ x. x .store .log) tasks objects queue (r .queue) (λ s. with-item s (r .item)) f
+-- The call polls an item, as f does, with a lent queue.
+abbrev pub PollsItem : Slice → Slice → Slice → Count → (Store → Itemed) → ItemPoll → Type 0
+PollsItem tasks objects ids len f r =
+    DoesOfTasksAndObjects (λ x. x .store .log) tasks objects (queue-before ids len) (queue-after ids len) (λ s. with-item s r) f
 
 -- The same of a call that takes the places, too.
-abbrev pub PollsItemOfPlaces : Slice → Slice → Slice → ReadyQueue → (Store → Itemed) → PolledItem → Type 0
-PollsItemOfPlaces tasks objects places queue f r =
-    Does (λ x. x .store .log) tasks objects places queue (r .queue) (λ s. with-item s (r .item)) f
+abbrev pub PollsItemOfPlaces : Slice → Slice → Slice → Slice → Count → (Store → Itemed) → ItemPoll → Type 0
+PollsItemOfPlaces tasks objects places ids len f r =
+    Does (λ x. x .store .log) tasks objects places (queue-before ids len) (queue-after ids len) (λ s. with-item s r) f

@@ -7,8 +7,8 @@ use asyncio::ExternalFutureState;
 use asyncio::GatherState;
 use asyncio::HeapId;
 use asyncio::Object;
+use asyncio::TASKS;
 use asyncio::Value;
-use queue::ReadyQueue;
 use scheduler::awaited::AwaitedGather;
 use scheduler::places::is_open;
 ghost use mathlib.Core.Path.{_≡_};
@@ -28,22 +28,10 @@ pub enum Poll {
     Pending,
 }
 
-// The queue after a poll, and what it gave.
-pub struct Polled {
-    pub queue: ReadyQueue,
-    pub poll: Poll,
-}
-
 // One item of a gather: polled, or a nested gather that must be committed first.
 pub enum ItemPoll {
     Polled(Poll),
     Nested,
-}
-
-// The queue after an item, and what the item gave.
-pub struct PolledItem {
-    pub queue: ReadyQueue,
-    pub item: ItemPoll,
 }
 
 // External `o` of that call and in that state: settled, or it takes the awaiter if it has none (await_external_future).
@@ -85,38 +73,26 @@ pub fn await_external(
 fn item_coroutine(
     tasks: &mut [u64],
     objects: &mut [u64],
-    queue: ReadyQueue,
+    ids: &mut [u16; TASKS],
+    len: &mut usize,
     g: HeapId,
     o: HeapId,
     state: CoroutineState,
-) -> Polled
+) -> Poll
     requires { ⌜ Lengths₂ tasks objects ⌝ }
-    ensures { λ r. ⌜ Polls tasks objects queue
+    ensures { λ r. ⌜ Polls tasks objects ids len
         (λ s. item-coroutine s (g .0) (o .0) state) r ⌝ }
 {
     match state {
         CoroutineState::New => {
-            let spawned = scheduler::spawn::spawn(tasks, objects, queue, o, g);
-            let q = spawned.queue;
-            if spawned.done {
-                return Polled {
-                    queue: q,
-                    poll: Poll::Pending,
-                };
+            let spawned = scheduler::spawn::spawn(tasks, objects, ids, len, o, g);
+            if spawned {
+                return Poll::Pending;
             }
-            Polled {
-                queue: q,
-                poll: Poll::Raised(Error::CoroutineReuse),
-            }
+            Poll::Raised(Error::CoroutineReuse)
         }
-        CoroutineState::Running => Polled {
-            queue,
-            poll: Poll::Raised(Error::CoroutineReuse),
-        },
-        CoroutineState::Completed => Polled {
-            queue,
-            poll: Poll::Raised(Error::CoroutineReuse),
-        },
+        CoroutineState::Running => Poll::Raised(Error::CoroutineReuse),
+        CoroutineState::Completed => Poll::Raised(Error::CoroutineReuse),
     }
 }
 
@@ -139,27 +115,20 @@ fn item_gather(o: HeapId, state: GatherState) -> ItemPoll
 fn item_object(
     tasks: &mut [u64],
     objects: &mut [u64],
-    queue: ReadyQueue,
+    ids: &mut [u16; TASKS],
+    len: &mut usize,
     g: HeapId,
     o: HeapId,
-) -> PolledItem
+) -> ItemPoll
     requires { ⌜ Lengths₂And tasks objects (o .0 < object-limit) ⌝ }
-    ensures { λ r. ⌜ PollsItem tasks objects queue (λ s. item-here s (g .0) (o .0)) r ⌝ }
+    ensures { λ r. ⌜ PollsItem tasks objects ids len (λ s. item-here s (g .0) (o .0)) r ⌝ }
 {
     let x = rows::tables::load_object(objects, o);
     match x {
-        Object::Unmade => PolledItem {
-            queue,
-            item: ItemPoll::Polled(Poll::Pending),
-        },
+        Object::Unmade => ItemPoll::Polled(Poll::Pending),
         Object::Coroutine { function: _, state } => {
-            let r = item_coroutine(tasks, objects, queue, g, o, state);
-            let q = r.queue;
-            let poll = r.poll;
-            PolledItem {
-                queue: q,
-                item: ItemPoll::Polled(poll),
-            }
+            let poll = item_coroutine(tasks, objects, ids, len, g, o, state);
+            ItemPoll::Polled(poll)
         }
         Object::ExternalFuture { call, state } => {
             let poll = await_external(
@@ -172,19 +141,13 @@ fn item_object(
                     source: o,
                 },
             );
-            PolledItem {
-                queue,
-                item: ItemPoll::Polled(poll),
-            }
+            ItemPoll::Polled(poll)
         }
         Object::GatherFuture {
             first: _,
             count: _,
             state,
-        } => {
-            let item = item_gather(o, state);
-            PolledItem { queue, item }
-        }
+        } => item_gather(o, state),
     }
 }
 
@@ -193,20 +156,18 @@ pub fn item(
     tasks: &mut [u64],
     objects: &mut [u64],
     places: &[u64],
-    queue: ReadyQueue,
+    ids: &mut [u16; TASKS],
+    len: &mut usize,
     g: HeapId,
     w: AwaitedGather,
     o: HeapId,
-) -> PolledItem
+) -> ItemPoll
     requires { ⌜ LengthsAnd₂ tasks objects places (PlacesFit (w .first) (w .count)) (o .0 < object-limit) ⌝ }
-    ensures { λ r. ⌜ PollsItemOfPlaces tasks objects places queue
+    ensures { λ r. ⌜ PollsItemOfPlaces tasks objects places ids len
         (λ s. item-at s (g .0) (awaited-gather-of w) (o .0)) r ⌝ }
 {
     if is_open(places, w.first, w.count, w.open_places, o) {
-        return PolledItem {
-            queue,
-            item: ItemPoll::Polled(Poll::Pending),
-        };
+        return ItemPoll::Polled(Poll::Pending);
     }
-    item_object(tasks, objects, queue, g, o)
+    item_object(tasks, objects, ids, len, g, o)
 }

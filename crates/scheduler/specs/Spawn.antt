@@ -1,4 +1,4 @@
--- What spawn does to the lent slices and the queue.
+-- What spawn does to the lent slices and the lent queue.
 use mathlib.Core.Path.{_≡_}
 use mathlib.Core.Bool.{Bool, true, false}
 use mathlib.Core.List.{List, _∷_}
@@ -10,7 +10,7 @@ use Rattle.rows.specs.Tables.{header-at}
 use Rattle.queue.specs.declared.ReadyQueue.{ReadyQueue}
 use Rattle.machine.specs.Store.{LogEntry, spawned, store-of}
 use Rattle.machine.specs.Scheduler.{spawn, spawn-as}
-use Rattle.contract.specs.Contract.{Slice}
+use Rattle.contract.specs.Contract.{Slice, Count, queue-before, queue-after}
 
 -- from ts, os and q to ts′, os′ and q′, where the header of os is h: the machine's spawn-as
 pub record SpawnsAs (ts os : List ℕ) (q : ReadyQueue) (h : Header) (c g : ℕ) (ts′ os′ : List ℕ) (q′ : ReadyQueue) : Type 0 where
@@ -25,10 +25,10 @@ pub data Spawns (ts os : List ℕ) (q : ReadyQueue) (c g : ℕ) : List ℕ → L
   not-done : ((ps : List ℕ) (l : List LogEntry) → spawn (store-of ts os ps q l) c g ≡ none) → Spawns ts os q c g ts os q false
 
 -- both, of a call
-abbrev pub SpawnsTaskAs : Slice → Slice → ReadyQueue → Header → ℕ → ℕ → ReadyQueue → Type 0
-SpawnsTaskAs tasks objects queue h c g left =
-    SpawnsAs (now (tasks .entry)) (now (objects .entry)) queue h c g (now (tasks .exit)) (now (objects .exit)) left
+abbrev pub SpawnsTaskAs : Slice → Slice → Slice → Count → Header → ℕ → ℕ → Type 0
+SpawnsTaskAs tasks objects ids len h c g =
+    SpawnsAs (now (tasks .entry)) (now (objects .entry)) (queue-before ids len) h c g (now (tasks .exit)) (now (objects .exit)) (queue-after ids len)
 
-abbrev pub SpawnsTask : Slice → Slice → ReadyQueue → ℕ → ℕ → ReadyQueue → Bool → Type 0
-SpawnsTask tasks objects queue c g left b =
-    Spawns (now (tasks .entry)) (now (objects .entry)) queue c g (now (tasks .exit)) (now (objects .exit)) left b
+abbrev pub SpawnsTask : Slice → Slice → Slice → Count → ℕ → ℕ → Bool → Type 0
+SpawnsTask tasks objects ids len c g b =
+    Spawns (now (tasks .entry)) (now (objects .entry)) (queue-before ids len) c g (now (tasks .exit)) (now (objects .exit)) (queue-after ids len) b

@@ -4,34 +4,30 @@ use crate::tasks::task_of;
 use asyncio::Awaiter;
 use asyncio::Header;
 use asyncio::HeapId;
+use asyncio::TASKS;
 use asyncio::Task;
 use asyncio::TaskId;
 use asyncio::TaskState;
-use queue::ReadyQueue;
+use queue::push_lent;
 ghost use Prim.Native.Nat.{_<_};
 ghost use Rattle.asyncio.specs.Limits.{task-limit};
 ghost use Rattle.contract.specs.Contract.{Lengths₂, Lengths₂And};
 ghost use Rattle.scheduler.specs.Spawn.{SpawnsTaskAs, SpawnsTask};
 
-const TASKS: u16 = asyncio::TASKS as u16;
-
-// Whether a task was spawned, and the queue.
-pub struct Spawned {
-    pub done: bool,
-    pub queue: ReadyQueue,
-}
+const LIMIT: u16 = TASKS as u16;
 
 // Task `header.next` is spawned: ready and not yet run, its result goes to the places of gather `g` that name coroutine `c`.
 fn spawn_as(
     tasks: &mut [u64],
     objects: &mut [u64],
-    queue: ReadyQueue,
+    ids: &mut [u16; TASKS],
+    len: &mut usize,
     header: Header,
     c: HeapId,
     g: HeapId,
-) -> ReadyQueue
+)
     requires { ⌜ Lengths₂And tasks objects (header .next < task-limit) ⌝ }
-    ensures { λ r. ⌜ SpawnsTaskAs tasks objects queue header (c .0) (g .0) r ⌝ }
+    ensures { λ _. ⌜ SpawnsTaskAs tasks objects ids len header (c .0) (g .0) ⌝ }
 {
     let t = TaskId::new(header.next);
     let moment = header.moment;
@@ -54,34 +50,32 @@ fn spawn_as(
             moment,
         },
     );
-    queue.push_back(t)
+    push_lent(ids, len, t);
 }
 
-// Nothing where the coroutine already has a live task.
+// Whether a task was spawned: none where the coroutine already has a live task. The queue is lent.
 pub fn spawn(
     tasks: &mut [u64],
     objects: &mut [u64],
-    queue: ReadyQueue,
+    ids: &mut [u16; TASKS],
+    len: &mut usize,
     c: HeapId,
     g: HeapId,
-) -> Spawned
+) -> bool
     requires { ⌜ Lengths₂ tasks objects ⌝ }
-    ensures { λ r. ⌜ SpawnsTask tasks objects queue (c .0) (g .0) (r .queue) (r .done) ⌝ }
+    ensures { λ r. ⌜ SpawnsTask tasks objects ids len (c .0) (g .0) r ⌝ }
 {
     let header = rows::tables::load_header(objects);
     let next = header.next;
     let d = task_of(tasks, next, c);
     match d {
-        FoundTask::At(_) => Spawned { done: false, queue },
+        FoundTask::At(_) => false,
         FoundTask::Nothing => {
-            if next < TASKS {
-                let q = spawn_as(tasks, objects, queue, header, c, g);
-                return Spawned {
-                    done: true,
-                    queue: q,
-                };
+            if next < LIMIT {
+                spawn_as(tasks, objects, ids, len, header, c, g);
+                return true;
             }
-            Spawned { done: false, queue }
+            false
         }
     }
 }

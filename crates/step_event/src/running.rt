@@ -39,8 +39,18 @@ pub fn await_object(
                     answer: Answer::Refused(5),
                 };
             }
-            let a = exec_get_awaitable(tasks, objects, places, queue, t, HeapId::new(o));
-            let q = a.queue;
+            let mut q = queue;
+            let mut n = q.len;
+            let a = exec_get_awaitable(
+                tasks,
+                objects,
+                places,
+                &mut q.ids,
+                &mut n,
+                t,
+                HeapId::new(o),
+            );
+            q.len = n;
             let control = a.control;
             let steps = a.steps;
             Stepped {

@@ -1,3 +1,4 @@
+use Rattle.machine.specs.Store.{store-of}
 use denote.Ref.{now}
 use Rattle.machine.specs.Events.{await-coroutine}
 use Rattle.exec_events.specs.AwaitLaws.{coroutine-runs}
@@ -27,15 +28,15 @@ same-length : tie.Need-same-length
 same-length c = search needs
 
 returns : tie.Need-returns
-returns c = λ ts ps l. coroutine-runs ts (now (c .before .before .before .before .before .before .before .args .objects)) ps (c .before .before .before .before .before .before .before .args .queue) l (c .before .before .before .before .before .before .before .args .t) (c .before .before .before .before .before .before .before .args .o) (c .before .before .before .before .before .before .before .args .function) _ (c .before .before .before .before .enum-told .given .1) (c .before .before .store-object .ensures)
+returns c = λ ts ps q l. coroutine-runs ts (now (c .before .before .before .before .before .before .before .args .objects)) ps q l (c .before .before .before .before .before .before .before .args .t) (c .before .before .before .before .before .before .before .args .o) (c .before .before .before .before .before .before .before .args .function) _ (c .before .before .before .before .enum-told .given .1) (c .before .before .store-object .ensures)
 
 returns-2 : tie.Need-returns-2
 unfolding await-coroutine
-returns-2 c = λ ts ps l. rw (c .before .enum-told2 .given .1) (c .raise .ensures ts (now (c .before .before .before .before .args .objects)) ps l)
+returns-2 c = λ ts ps q l. rw (c .before .enum-told2 .given .1) (c .raise .ensures (store-of ts (now (c .before .before .before .before .args .objects)) ps q l))
 
 returns-3 : tie.Need-returns-3
 unfolding await-coroutine
-returns-3 c = λ ts ps l. rw (c .before .enum-told3 .given .1) (c .raise2 .ensures ts (now (c .before .before .before .before .args .objects)) ps l)
+returns-3 c = λ ts ps q l. rw (c .before .enum-told3 .given .1) (c .raise2 .ensures (store-of ts (now (c .before .before .before .before .args .objects)) ps q l))
 
 pub await-coroutine-spec : {M : Type 1} → statement M
 await-coroutine-spec =

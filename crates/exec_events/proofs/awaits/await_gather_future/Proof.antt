@@ -1,3 +1,5 @@
+use Rattle.queue.specs.Queue.{queue-of}
+use Rattle.machine.specs.Store.{store-of}
 use denote.Ref.{now}
 use mathlib.Core.Path.{_≡_, refl, _∙_}
 use Rattle.machine.specs.Events.{await-gather, stays}
@@ -40,11 +42,11 @@ same-length-3 : tie.Need-same-length-3
 same-length-3 c = search needs
 
 returns : tie.Need-returns
-returns c = λ l. gather-commits (now (c .before .before .before .before .before .before .before .before .before .before .before .before .before .before .before .before .before .before .before .before .before .before .before .args .tasks)) (now (c .before .before .before .before .before .before .before .before .before .before .before .before .before .before .before .before .before .before .before .before .before .before .before .args .objects)) (now (c .before .before .before .before .before .before .before .before .before .before .before .before .before .before .before .before .before .before .before .before .before .before .before .args .places)) (c .before .before .before .before .before .before .before .before .before .before .before .before .before .before .before .before .before .before .before .before .before .before .before .args .queue) l (c .before .before .before .before .before .before .before .before .before .before .before .before .before .before .before .before .before .before .before .before .before .before .before .args .t) (c .before .before .before .before .before .before .before .before .before .before .before .before .before .before .before .before .before .before .before .before .before .before .before .args .o) _ (c .before .before .before .before .before .before .before .before .before .before .before .before .before .before .before .before .before .before .enum-told .given .1) (c .before .before .before .before .before .before .before .before .before .before .before .before .before .before .commit-gather-tree .result .poll) (c .before .before .before .before .before .before .before .before .before .before .before .before .before .before .commit-gather-tree .result .steps) (c .before .before .before .before .before .before .before .before .before .before .before .before .before .before .commit-gather-tree .ensures l) (c .before .before .before .before .go-on .result .control) (c .before .before .before .before .go-on .result .steps) (c .before .before .before .before .go-on .ensures _ _ (c .before .before .before .before .before .before .before .before .before .before .before .before .before .before .commit-gather-tree .kept .1 .1 .0 ∙ c .before .before .before .before .before .before .before .before .before .before .before .before .before .before .before .before .before .before .before .before .before .before .before .pre .2))
+returns c = λ l. gather-commits (now (c .before .before .before .before .before .before .before .before .before .before .before .before .before .before .before .before .before .before .before .before .before .before .before .before .before .before .args .tasks)) (now (c .before .before .before .before .before .before .before .before .before .before .before .before .before .before .before .before .before .before .before .before .before .before .before .before .before .before .args .objects)) (now (c .before .before .before .before .before .before .before .before .before .before .before .before .before .before .before .before .before .before .before .before .before .before .before .before .before .before .args .places)) (queue-of (now (c .before .before .before .before .before .before .before .before .before .before .before .before .before .before .before .before .before .before .before .before .before .before .before .before .before .before .args .ids)) (now (c .before .before .before .before .before .before .before .before .before .before .before .before .before .before .before .before .before .before .before .before .before .before .before .before .before .before .args .len))) l (c .before .before .before .before .before .before .before .before .before .before .before .before .before .before .before .before .before .before .before .before .before .before .before .before .before .before .args .t) (c .before .before .before .before .before .before .before .before .before .before .before .before .before .before .before .before .before .before .before .before .before .before .before .before .before .before .args .o) _ (c .before .before .before .before .before .before .before .before .before .before .before .before .before .before .before .before .before .before .before .before .before .enum-told .given .1) (c .before .before .before .before .before .before .before .before .before .before .before .before .before .before .before .commit-gather-tree .result .poll) (c .before .before .before .before .before .before .before .before .before .before .before .before .before .before .before .commit-gather-tree .result .steps) (c .before .before .before .before .before .before .before .before .before .before .before .before .before .before .before .commit-gather-tree .ensures l) (c .before .before .before .before .go-on .result .control) (c .before .before .before .before .go-on .result .steps) (c .before .before .before .before .go-on .ensures _ _ (c .before .before .before .before .before .before .before .before .before .before .before .before .before .before .before .commit-gather-tree .kept .1 .1 .0 ∙ c .before .before .before .before .before .before .before .before .before .before .before .before .before .before .before .before .before .before .before .before .before .before .before .before .before .before .pre .2))
 
 returns-2 : tie.Need-returns-2
 unfolding await-gather
-returns-2 c = λ l. gather-stays (now (c .before .before .before .before .before .before .args .tasks)) (now (c .before .before .before .before .before .before .args .objects)) (now (c .before .before .before .before .before .before .args .places)) (c .before .before .before .before .before .before .args .queue) l (c .before .before .before .before .before .before .args .t) (c .before .before .before .before .before .before .args .o) _ _ (c .before .enum-told2 .given .1) _ refl (c .raise .result .control) (c .raise .result .steps) (c .raise .ensures (now (c .before .before .before .before .before .before .args .tasks)) (now (c .before .before .before .before .before .before .args .objects)) (now (c .before .before .before .before .before .before .args .places)) l)
+returns-2 c = λ l. gather-stays (now (c .before .before .before .before .before .before .args .tasks)) (now (c .before .before .before .before .before .before .args .objects)) (now (c .before .before .before .before .before .before .args .places)) (queue-of (now (c .before .before .before .before .before .before .args .ids)) (now (c .before .before .before .before .before .before .args .len))) l (c .before .before .before .before .before .before .args .t) (c .before .before .before .before .before .before .args .o) _ _ (c .before .enum-told2 .given .1) _ refl (c .raise .result .control) (c .raise .result .steps) (c .raise .ensures (store-of (now (c .before .before .before .before .before .before .args .tasks)) (now (c .before .before .before .before .before .before .args .objects)) (now (c .before .before .before .before .before .before .args .places)) (queue-of (now (c .before .before .before .before .before .before .args .ids)) (now (c .before .before .before .before .before .before .args .len))) l))
 
 returns-3 : tie.Need-returns-3
 unfolding await-gather stays
@@ -52,7 +54,7 @@ returns-3 c = λ l. rw (c .enum-told3 .given .1)
 
 returns-4 : tie.Need-returns-4
 unfolding await-gather
-returns-4 c = λ l. gather-stays (now (c .before .before .before .before .before .before .before .args .tasks)) (now (c .before .before .before .before .before .before .before .args .objects)) (now (c .before .before .before .before .before .before .before .args .places)) (c .before .before .before .before .before .before .before .args .queue) l (c .before .before .before .before .before .before .before .args .t) (c .before .before .before .before .before .before .before .args .o) _ _ (c .before .before .state .given .1) _ refl (c .raise2 .result .control) (c .raise2 .result .steps) (c .raise2 .ensures (now (c .before .before .before .before .before .before .before .args .tasks)) (now (c .before .before .before .before .before .before .before .args .objects)) (now (c .before .before .before .before .before .before .before .args .places)) l)
+returns-4 c = λ l. gather-stays (now (c .before .before .before .before .before .before .before .args .tasks)) (now (c .before .before .before .before .before .before .before .args .objects)) (now (c .before .before .before .before .before .before .before .args .places)) (queue-of (now (c .before .before .before .before .before .before .before .args .ids)) (now (c .before .before .before .before .before .before .before .args .len))) l (c .before .before .before .before .before .before .before .args .t) (c .before .before .before .before .before .before .before .args .o) _ _ (c .before .before .state .given .1) _ refl (c .raise2 .result .control) (c .raise2 .result .steps) (c .raise2 .ensures (store-of (now (c .before .before .before .before .before .before .before .args .tasks)) (now (c .before .before .before .before .before .before .before .args .objects)) (now (c .before .before .before .before .before .before .before .args .places)) (queue-of (now (c .before .before .before .before .before .before .before .args .ids)) (now (c .before .before .before .before .before .before .before .args .len))) l))
 
 pub await-gather-future-spec : {M : Type 1} → statement M
 await-gather-future-spec =

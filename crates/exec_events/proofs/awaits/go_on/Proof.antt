@@ -1,3 +1,4 @@
+use Rattle.queue.specs.Queue.{queue-of}
 use denote.Ref.{now}
 use mathlib.Core.List.{_∷_}
 use Rattle.machine.specs.Store.{blocked}
@@ -22,10 +23,10 @@ switch-or-yield-requires : tie.Need-switch-or-yield-requires
 switch-or-yield-requires c κs = search needs
 
 returns : tie.Need-returns
-returns c = λ ps l w. goes-ready (now (c .before .before .before .before .before .args .tasks)) (now (c .before .before .before .before .before .args .objects)) ps (c .before .before .before .before .before .args .queue) l (c .before .before .before .before .before .args .t) (c .before .before .before .before .before .args .o) (c .before .before .before .before .before .args .steps) _ (c .before .poll .given .0 .0) (c .before .poll .given .1)
+returns c = λ ps l w. goes-ready (now (c .before .before .before .before .before .args .tasks)) (now (c .before .before .before .before .before .args .objects)) ps (queue-of (now (c .before .before .before .before .before .args .ids)) (now (c .before .before .before .before .before .args .len))) l (c .before .before .before .before .before .args .t) (c .before .before .before .before .before .args .o) (c .before .before .before .before .before .args .steps) _ (c .before .poll .given .0 .0) (c .before .poll .given .1)
 
 returns-2 : tie.Need-returns-2
-returns-2 c = λ ps l w. goes-raised (now (c .before .before .before .before .before .args .tasks)) (now (c .before .before .before .before .before .args .objects)) ps (c .before .before .before .before .before .args .queue) l (c .before .before .before .before .before .args .t) (c .before .before .before .before .before .args .o) (c .before .before .before .before .before .args .steps) _ (c .before .poll2 .given .0 .0) (c .before .poll2 .given .1)
+returns-2 c = λ ps l w. goes-raised (now (c .before .before .before .before .before .args .tasks)) (now (c .before .before .before .before .before .args .objects)) ps (queue-of (now (c .before .before .before .before .before .args .ids)) (now (c .before .before .before .before .before .args .len))) l (c .before .before .before .before .before .args .t) (c .before .before .before .before .before .args .o) (c .before .before .before .before .before .args .steps) _ (c .before .poll2 .given .0 .0) (c .before .poll2 .given .1)
 
 same-length : tie.Need-same-length
 same-length c = search needs
@@ -34,7 +35,7 @@ same-length-2 : tie.Need-same-length-2
 same-length-2 c = search needs
 
 returns-3 : tie.Need-returns-3
-returns-3 c = λ ps l w. goes-blocked (now (c .before .before .before .before .before .before .before .before .before .before .before .before .before .before .before .before .before .args .tasks)) (now (c .before .before .before .before .before .before .before .before .before .before .before .before .before .before .before .before .before .args .objects)) ps (c .before .before .before .before .before .before .before .before .before .before .before .before .before .before .before .before .before .args .queue) l (c .before .before .before .before .before .before .before .before .before .before .before .before .before .before .before .before .before .args .t) (c .before .before .before .before .before .before .before .before .before .before .before .before .before .before .before .before .before .args .o) (c .before .before .before .before .before .before .before .before .before .before .before .before .before .before .before .before .before .args .steps) _ (c .before .before .before .before .before .before .before .before .before .before .before .before .before .enum-told .given .1) (c .before .before .before .before .before .before .before .before .before .before .before .block-current-on .ensures) (c .before .before .before .before .switch-or-yield .result) (c .before .before .before .before .switch-or-yield .ensures ps (blocked (c .before .before .before .before .before .before .before .before .before .before .before .before .before .before .before .before .before .args .t .0) ∷ l) w)
+returns-3 c = λ ps l w. goes-blocked (now (c .before .before .before .before .before .before .before .before .before .before .before .before .before .before .before .before .before .args .tasks)) (now (c .before .before .before .before .before .before .before .before .before .before .before .before .before .before .before .before .before .args .objects)) ps (queue-of (now (c .before .before .before .before .before .before .before .before .before .before .before .before .before .before .before .before .before .args .ids)) (now (c .before .before .before .before .before .before .before .before .before .before .before .before .before .before .before .before .before .args .len))) l (c .before .before .before .before .before .before .before .before .before .before .before .before .before .before .before .before .before .args .t) (c .before .before .before .before .before .before .before .before .before .before .before .before .before .before .before .before .before .args .o) (c .before .before .before .before .before .before .before .before .before .before .before .before .before .before .before .before .before .args .steps) _ (c .before .before .before .before .before .before .before .before .before .before .before .before .before .enum-told .given .1) (c .before .before .before .before .before .before .before .before .before .before .before .block-current-on .ensures) (c .before .before .before .before .switch-or-yield .result) (c .before .before .before .before .switch-or-yield .ensures ps (blocked (c .before .before .before .before .before .before .before .before .before .before .before .before .before .before .before .before .before .args .t .0) ∷ l) w)
 
 pub go-on-spec : {M : Type 1} → statement M
 go-on-spec =

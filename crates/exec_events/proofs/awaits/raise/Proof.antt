@@ -5,7 +5,7 @@ use Rattle.exec_events.proofs.awaits.raise.Tie as tie
 
 returns : tie.Need-returns
 unfolding stays
-returns c = λ ts os ps l. refl
+returns c = λ s. refl
 
 pub raise-spec : {M : Type 1} → statement M
 raise-spec = tie.close (tie.spec returns)

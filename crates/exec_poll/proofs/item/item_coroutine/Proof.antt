@@ -1,3 +1,4 @@
+use Rattle.queue.specs.Queue.{queue-of}
 use mathlib.Core.Path.{refl}
 use denote.Ref.{now}
 use Rattle.machine.specs.Commit.{item-coroutine}
@@ -19,7 +20,7 @@ same-length-2 : tie.Need-same-length-2
 same-length-2 c = search needs
 
 returns : tie.Need-returns
-returns c = λ ps l. coroutine-spawned (now (c .before .before .before .before .before .before .before .before .before .before .before .before .before .args .tasks)) (now (c .before .before .before .before .before .before .before .before .before .before .before .before .before .args .objects)) ps (c .before .before .before .before .before .before .before .before .before .before .before .before .before .args .queue) l (c .before .before .before .before .before .before .before .before .before .before .before .before .before .args .g .0) (c .before .before .before .before .before .before .before .before .before .before .before .before .before .args .o .0) (c .before .before .before .before .before .before .before .before .before .enum-told .given .1) (c .before .before .before .before .before .before .spawn .ensures) (c .if1 .taken)
+returns c = λ ps l. coroutine-spawned (now (c .before .before .before .before .before .before .before .before .before .before .before .before .before .before .args .tasks)) (now (c .before .before .before .before .before .before .before .before .before .before .before .before .before .before .args .objects)) ps (queue-of (now (c .before .before .before .before .before .before .before .before .before .before .before .before .before .before .args .ids)) (now (c .before .before .before .before .before .before .before .before .before .before .before .before .before .before .args .len))) l (c .before .before .before .before .before .before .before .before .before .before .before .before .before .before .args .g .0) (c .before .before .before .before .before .before .before .before .before .before .before .before .before .before .args .o .0) (c .before .before .before .before .before .before .before .before .before .before .enum-told .given .1) (c .before .before .before .before .before .spawn .ensures) (c .if1 .taken)
 
 enum-told-2 : tie.Need-enum-told-2
 enum-told-2 c = search needs
@@ -34,15 +35,15 @@ same-length-4 : tie.Need-same-length-4
 same-length-4 c = search needs
 
 returns-2 : tie.Need-returns-2
-returns-2 c = λ ps l. coroutine-driven (now (c .before .before .before .before .before .before .before .before .before .before .before .before .before .args .tasks)) (now (c .before .before .before .before .before .before .before .before .before .before .before .before .before .args .objects)) ps (c .before .before .before .before .before .before .before .before .before .before .before .before .before .args .queue) l (c .before .before .before .before .before .before .before .before .before .before .before .before .before .args .g .0) (c .before .before .before .before .before .before .before .before .before .before .before .before .before .args .o .0) (c .before .before .before .before .before .before .before .before .before .enum-told .given .1) (c .before .before .before .before .before .before .spawn .ensures) (c .if1 .left)
+returns-2 c = λ ps l. coroutine-driven (now (c .before .before .before .before .before .before .before .before .before .before .before .before .before .before .args .tasks)) (now (c .before .before .before .before .before .before .before .before .before .before .before .before .before .before .args .objects)) ps (queue-of (now (c .before .before .before .before .before .before .before .before .before .before .before .before .before .before .args .ids)) (now (c .before .before .before .before .before .before .before .before .before .before .before .before .before .before .args .len))) l (c .before .before .before .before .before .before .before .before .before .before .before .before .before .before .args .g .0) (c .before .before .before .before .before .before .before .before .before .before .before .before .before .before .args .o .0) (c .before .before .before .before .before .before .before .before .before .before .enum-told .given .1) (c .before .before .before .before .before .spawn .ensures) (c .if1 .left)
 
 returns-3 : tie.Need-returns-3
 unfolding item-coroutine
-returns-3 c = λ ps l. coroutine-reused (now (c .before .before .before .before .args .tasks)) (now (c .before .before .before .before .args .objects)) ps (c .before .before .before .before .args .queue) l (c .before .before .before .before .args .g .0) (c .before .before .before .before .args .o .0) _ (c .enum-told2 .given .1) refl
+returns-3 c = λ ps l. coroutine-reused (now (c .before .before .before .before .args .tasks)) (now (c .before .before .before .before .args .objects)) ps (queue-of (now (c .before .before .before .before .args .ids)) (now (c .before .before .before .before .args .len))) l (c .before .before .before .before .args .g .0) (c .before .before .before .before .args .o .0) _ (c .enum-told2 .given .1) refl
 
 returns-4 : tie.Need-returns-4
 unfolding item-coroutine
-returns-4 c = λ ps l. coroutine-reused (now (c .before .before .before .before .args .tasks)) (now (c .before .before .before .before .args .objects)) ps (c .before .before .before .before .args .queue) l (c .before .before .before .before .args .g .0) (c .before .before .before .before .args .o .0) _ (c .enum-told3 .given .1) refl
+returns-4 c = λ ps l. coroutine-reused (now (c .before .before .before .before .args .tasks)) (now (c .before .before .before .before .args .objects)) ps (queue-of (now (c .before .before .before .before .args .ids)) (now (c .before .before .before .before .args .len))) l (c .before .before .before .before .args .g .0) (c .before .before .before .before .args .o .0) _ (c .enum-told3 .given .1) refl
 
 pub item-coroutine-spec : {M : Type 1} → statement M
 item-coroutine-spec =

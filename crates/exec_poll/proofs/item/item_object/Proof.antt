@@ -1,3 +1,4 @@
+use Rattle.queue.specs.Queue.{queue-of}
 use denote.Ref.{now}
 use Rattle.exec_poll.specs.ItemLaws.{item-unmade, item-spawns, item-awaits, item-nests}
 use borrow.Author.Needs.{needs}
@@ -32,7 +33,7 @@ same-length : tie.Need-same-length
 same-length c = search needs
 
 returns : tie.Need-returns
-returns c = λ ps l. item-unmade (now (c .before .before .before .before .before .before .args .tasks)) (now (c .before .before .before .before .before .before .args .objects)) ps (c .before .before .before .before .before .before .args .queue) l (c .before .before .before .before .before .before .args .g .0) (c .before .before .before .before .before .before .args .o .0) (c .before .before .load-object .ensures) (c .enum-told .given .1)
+returns c = λ ps l. item-unmade (now (c .before .before .before .before .before .before .args .tasks)) (now (c .before .before .before .before .before .before .args .objects)) ps (queue-of (now (c .before .before .before .before .before .before .args .ids)) (now (c .before .before .before .before .before .before .args .len))) l (c .before .before .before .before .before .before .args .g .0) (c .before .before .before .before .before .before .args .o .0) (c .before .before .load-object .ensures) (c .enum-told .given .1)
 
 same-length-2 : tie.Need-same-length-2
 same-length-2 c = search needs
@@ -41,19 +42,19 @@ same-length-3 : tie.Need-same-length-3
 same-length-3 c = search needs
 
 returns-2 : tie.Need-returns-2
-returns-2 c = λ ps l. item-spawns (now (c .before .before .before .before .before .before .before .before .before .before .before .before .before .before .before .args .tasks)) (now (c .before .before .before .before .before .before .before .before .before .before .before .before .before .before .before .args .objects)) ps (c .before .before .before .before .before .before .before .before .before .before .before .before .before .before .before .args .queue) l (c .before .before .before .before .before .before .before .before .before .before .before .before .before .before .before .args .g .0) (c .before .before .before .before .before .before .before .before .before .before .before .before .before .before .before .args .o .0) (c .before .before .before .before .before .before .before .before .before .before .before .load-object .ensures) _ _ (c .before .before .before .before .before .before .before .before .before .x .given .1) (c .before .before .before .before .before .item-coroutine .result .poll) (c .before .before .before .before .before .item-coroutine .ensures ps l)
+returns-2 c = λ ps l. item-spawns (now (c .before .before .before .before .before .before .before .before .before .before .before .before .before .before .before .before .args .tasks)) (now (c .before .before .before .before .before .before .before .before .before .before .before .before .before .before .before .before .args .objects)) ps (queue-of (now (c .before .before .before .before .before .before .before .before .before .before .before .before .before .before .before .before .args .ids)) (now (c .before .before .before .before .before .before .before .before .before .before .before .before .before .before .before .before .args .len))) l (c .before .before .before .before .before .before .before .before .before .before .before .before .before .before .before .before .args .g .0) (c .before .before .before .before .before .before .before .before .before .before .before .before .before .before .before .before .args .o .0) (c .before .before .before .before .before .before .before .before .before .before .before .before .load-object .ensures) _ _ (c .before .before .before .before .before .before .before .before .before .before .x .given .1) (c .before .before .before .before .item-coroutine .result) (c .before .before .before .before .item-coroutine .ensures ps l)
 
 same-length-4 : tie.Need-same-length-4
 same-length-4 c = search needs
 
 returns-3 : tie.Need-returns-3
-returns-3 c = λ ps l. item-awaits (now (c .before .before .before .before .before .before .before .before .before .before .before .args .tasks)) (now (c .before .before .before .before .before .before .before .before .before .before .before .args .objects)) ps (c .before .before .before .before .before .before .before .before .before .before .before .args .queue) l (c .before .before .before .before .before .before .before .before .before .before .before .args .g .0) (c .before .before .before .before .before .before .before .before .before .before .before .args .o .0) (c .before .before .before .before .before .before .before .load-object .ensures) _ _ (c .before .before .before .before .before .x2 .given .1) (c .before .before .await-external .result) (c .before .before .await-external .ensures (now (c .before .before .before .before .before .before .before .before .before .before .before .args .tasks)) ps (c .before .before .before .before .before .before .before .before .before .before .before .args .queue) l)
+returns-3 c = λ ps l. item-awaits (now (c .before .before .before .before .before .before .before .before .before .before .before .args .tasks)) (now (c .before .before .before .before .before .before .before .before .before .before .before .args .objects)) ps (queue-of (now (c .before .before .before .before .before .before .before .before .before .before .before .args .ids)) (now (c .before .before .before .before .before .before .before .before .before .before .before .args .len))) l (c .before .before .before .before .before .before .before .before .before .before .before .args .g .0) (c .before .before .before .before .before .before .before .before .before .before .before .args .o .0) (c .before .before .before .before .before .before .before .load-object .ensures) _ _ (c .before .before .before .before .before .x2 .given .1) (c .before .before .await-external .result) (c .before .before .await-external .ensures (now (c .before .before .before .before .before .before .before .before .before .before .before .args .tasks)) ps (queue-of (now (c .before .before .before .before .before .before .before .before .before .before .before .args .ids)) (now (c .before .before .before .before .before .before .before .before .before .before .before .args .len))) l)
 
 same-length-5 : tie.Need-same-length-5
 same-length-5 c = search needs
 
 returns-4 : tie.Need-returns-4
-returns-4 c = λ ps l. item-nests (now (c .before .before .before .before .before .before .before .before .args .tasks)) (now (c .before .before .before .before .before .before .before .before .args .objects)) ps (c .before .before .before .before .before .before .before .before .args .queue) l (c .before .before .before .before .before .before .before .before .args .g .0) (c .before .before .before .before .before .before .before .before .args .o .0) (c .before .before .before .before .load-object .ensures) _ _ _ (c .before .before .x3 .given .1) (c .item-gather .result) (c .item-gather .ensures _)
+returns-4 c = λ ps l. item-nests (now (c .before .before .before .before .before .before .before .before .args .tasks)) (now (c .before .before .before .before .before .before .before .before .args .objects)) ps (queue-of (now (c .before .before .before .before .before .before .before .before .args .ids)) (now (c .before .before .before .before .before .before .before .before .args .len))) l (c .before .before .before .before .before .before .before .before .args .g .0) (c .before .before .before .before .before .before .before .before .args .o .0) (c .before .before .before .before .load-object .ensures) _ _ _ (c .before .before .x3 .given .1) (c .item-gather .result) (c .item-gather .ensures _)
 
 pub item-object-spec : {M : Type 1} → statement M
 item-object-spec =

@@ -13,14 +13,14 @@ new-requires c κs = search needs
 store-task-requires : tie.Need-store-task-requires
 store-task-requires c κs = (search needs, omega (arith, ap (λ (t : TaskId). t .0) (c .before .new .ensures)))
 
-add-t17 : tie.Need-add-t17
-add-t17 c = search needs
+add-t18 : tie.Need-add-t18
+add-t18 c = search needs
 
 store-header-requires : tie.Need-store-header-requires
 store-header-requires c κs = search needs
 
-push-back-requires : tie.Need-push-back-requires
-push-back-requires c κs = search needs
+push-lent-requires : tie.Need-push-lent-requires
+push-lent-requires c κs = search needs
 
 same-length : tie.Need-same-length
 same-length c = search needs
@@ -30,7 +30,7 @@ same-length-2 c = search needs
 
 returns : tie.Need-returns
 unfolding spawn-as push-ready set-next put-task put-header put-queue add-log header
-returns c = record { spawns = λ e ps l. rw (e, c .push-back .ensures, c .before .before .before .store-header .ensures, c .before .before .before .before .before .before .before .before .store-task .ensures, c .before .before .before .before .before .before .before .before .before .before .new .ensures) }
+returns c = record { spawns = λ e ps l. rw (e, c .push-lent .ensures, c .before .before .before .before .before .store-header .ensures, c .before .before .before .before .before .before .before .before .before .before .store-task .ensures, c .before .before .before .before .before .before .before .before .before .before .before .before .new .ensures) }
 
 pub spawn-as-spec : {M : Type 1} → statement M
 spawn-as-spec =
@@ -38,9 +38,9 @@ spawn-as-spec =
     (tie.spec
     new-requires
     store-task-requires
-    add-t17
+    add-t18
     store-header-requires
-    push-back-requires
+    push-lent-requires
     same-length
     same-length-2
     returns)

@@ -31,7 +31,7 @@ new-requires : tie.Need-new-requires
 new-requires c κs = search needs
 
 exec-get-awaitable-requires : tie.Need-exec-get-awaitable-requires
-exec-get-awaitable-requires c κs = (c .before .before .before .before .before .before .before .before .before .before .before .before .before .before .before .before .pre .0, c .before .before .before .before .before .before .before .before .before .before .before .before .before .before .before .before .pre .1, c .before .before .before .before .before .before .before .before .before .before .before .before .before .before .before .before .pre .2, runner-fits (now (c .before .before .before .before .before .before .before .before .before .before .before .before .before .before .before .before .args .objects)) (c .before .before .before .before .before .before .before .before .before .before .before .running .ensures) _ (c .before .before .before .before .before .before .before .before .before .turn2 .given .1), rw (c .new .ensures) (omega (arith, c .before .before .before .before .if1 .left, header-read _ (c .before .before .before .before .before .before .load-header .ensures) .made-fits)))
+exec-get-awaitable-requires c κs = (c .before .before .before .before .before .before .before .before .before .before .before .before .before .before .before .before .before .before .pre .0, c .before .before .before .before .before .before .before .before .before .before .before .before .before .before .before .before .before .before .pre .1, c .before .before .before .before .before .before .before .before .before .before .before .before .before .before .before .before .before .before .pre .2, runner-fits (now (c .before .before .before .before .before .before .before .before .before .before .before .before .before .before .before .before .before .before .args .objects)) (c .before .before .before .before .before .before .before .before .before .before .before .before .before .running .ensures) _ (c .before .before .before .before .before .before .before .before .before .before .before .turn2 .given .1), rw (c .new .ensures) (omega (arith, c .before .before .before .before .before .before .if1 .left, header-read _ (c .before .before .before .before .before .before .before .before .load-header .ensures) .made-fits)))
 
 same-length-2 : tie.Need-same-length-2
 same-length-2 c = search needs
@@ -50,7 +50,7 @@ same-length-5 : tie.Need-same-length-5
 same-length-5 c = search needs
 
 returns-3 : tie.Need-returns-3
-returns-3 c = λ l. await-goes (now (c .before .before .before .before .before .before .before .before .before .before .before .before .before .before .before .before .before .before .before .before .before .before .before .before .args .tasks)) (now (c .before .before .before .before .before .before .before .before .before .before .before .before .before .before .before .before .before .before .before .before .before .before .before .before .args .objects)) (now (c .before .before .before .before .before .before .before .before .before .before .before .before .before .before .before .before .before .before .before .before .before .before .before .before .args .places)) (c .before .before .before .before .before .before .before .before .before .before .before .before .before .before .before .before .before .before .before .before .before .before .before .before .args .queue) l (c .before .before .before .before .before .before .before .before .before .before .before .before .before .before .before .before .before .before .before .running .ensures) _ (c .before .before .before .before .before .before .before .before .before .before .before .before .before .before .before .before .before .turn2 .given .1) (c .before .before .before .before .before .before .before .before .before .before .before .before .before .before .before .before .before .before .before .before .before .before .before .before .args .o) (c .before .before .before .before .before .before .before .before .before .before .before .before .before .before .load-header .ensures) (c .before .before .before .before .before .before .before .before .before .before .before .before .if1 .left) (c .before .before .before .before .before .before .before .exec-get-awaitable .result .control) (c .before .before .before .before .before .before .before .exec-get-awaitable .result .steps) (rw (c .before .before .before .before .before .before .before .before .new .ensures) at (c .before .before .before .before .before .before .before .exec-get-awaitable .ensures l))
+returns-3 c = λ l. await-goes (now (c .before .before .before .before .before .before .before .before .before .before .before .before .before .before .before .before .before .before .before .before .before .before .before .before .before .args .tasks)) (now (c .before .before .before .before .before .before .before .before .before .before .before .before .before .before .before .before .before .before .before .before .before .before .before .before .before .args .objects)) (now (c .before .before .before .before .before .before .before .before .before .before .before .before .before .before .before .before .before .before .before .before .before .before .before .before .before .args .places)) (c .before .before .before .before .before .before .before .before .before .before .before .before .before .before .before .before .before .before .before .before .before .before .before .before .before .args .queue) l (c .before .before .before .before .before .before .before .before .before .before .before .before .before .before .before .before .before .before .before .before .running .ensures) _ (c .before .before .before .before .before .before .before .before .before .before .before .before .before .before .before .before .before .before .turn2 .given .1) (c .before .before .before .before .before .before .before .before .before .before .before .before .before .before .before .before .before .before .before .before .before .before .before .before .before .args .o) (c .before .before .before .before .before .before .before .before .before .before .before .before .before .before .before .load-header .ensures) (c .before .before .before .before .before .before .before .before .before .before .before .before .before .if1 .left) (c .before .before .before .before .before .before .exec-get-awaitable .result .control) (c .before .before .before .before .before .before .exec-get-awaitable .result .steps) (rw (c .before .before .before .before .before .before .before .new .ensures) at (c .before .before .before .before .before .before .exec-get-awaitable .ensures l))
 
 pub await-object-spec : {M : Type 1} → statement M
 await-object-spec =
