@@ -1,7 +1,5 @@
 // One event of a sound store, whichever it is, with refusals 3 to 10: `step`.
 // It asks its caller for a sound store, and checks nothing of it.
-pub mod host; // the host's events: results, resume, cancel
-pub mod running; // the running task's: await, complete, fail
 
 use asyncio::OptionValue;
 use asyncio::Value;
@@ -71,12 +69,12 @@ fn checked(
             let answer = step_make::gather(objects, places, items);
             Stepped { queue, answer }
         }
-        Event::Await(o) => running::await_object(tasks, objects, places, queue, o),
-        Event::Complete(v) => running::complete(tasks, objects, places, queue, v),
-        Event::Fail(n) => running::fail(tasks, objects, queue, n),
-        Event::Results => host::results(tasks, objects, places, queue, results),
-        Event::Resume => host::resume(tasks, objects, queue),
-        Event::Cancel(t) => host::cancel(tasks, objects, places, queue, t),
+        Event::Await(o) => step_run::await_object(tasks, objects, places, queue, o),
+        Event::Complete(v) => step_run::complete(tasks, objects, places, queue, v),
+        Event::Fail(n) => step_run::fail(tasks, objects, queue, n),
+        Event::Results => step_host::results(tasks, objects, places, queue, results),
+        Event::Resume => step_host::resume(tasks, objects, queue),
+        Event::Cancel(t) => step_host::cancel(tasks, objects, places, queue, t),
     }
 }
 

@@ -1,4 +1,0 @@
-pub mod Ends
-pub mod EndLaws
-pub mod AwaitLaws
-pub mod Awaits
