@@ -131,11 +131,6 @@ abbrev pub DoesOfObjects : {X : Type 0} → Slice → (Store → X) → (Store �
 DoesOfObjects objects result f =
     (ts ps : List ℕ) (q : ReadyQueue) (l : List LogEntry) → DoesKeepingLogAt l (kept ts) objects (kept ps) q q result f
 
--- of the objects and the queue
-abbrev pub DoesOfObjectsAndQueue : {X : Type 0} → Slice → ReadyQueue → ReadyQueue → (Store → X) → (Store → X) → Type 0
-DoesOfObjectsAndQueue objects queue left result f =
-    (ts ps : List ℕ) (l : List LogEntry) → DoesKeepingLogAt l (kept ts) objects (kept ps) queue left result f
-
 -- of the objects and the places
 abbrev pub DoesOfObjectsAndPlaces : {X : Type 0} → Slice → Slice → (Store → X) → (Store → X) → Type 0
 DoesOfObjectsAndPlaces objects places result f =

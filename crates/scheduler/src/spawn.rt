@@ -53,7 +53,7 @@ fn spawn_as(
     push_lent(ids, len, t);
 }
 
-// Whether a task was spawned: none where the coroutine already has a live task. The queue is lent.
+// Whether a task was spawned: none where the coroutine already has a live task, or no number is left. The queue is lent.
 pub fn spawn(
     tasks: &mut [u64],
     objects: &mut [u64],
