@@ -89,7 +89,7 @@ length-insert c (d ∷ ds) =
     pick-has (λ (l : List ℕ). length l ≡ suc (suc (length ds))) (leb c d) (ap suc (length-insert d ds)) (ap suc (length-insert c ds))
 
 -- one object more, and its call if it is a pending external
-calls-ascend : (os : List ℕ) (n : ℕ) → Ascending (calls-below os n)
+pub calls-ascend : (os : List ℕ) (n : ℕ) → Ascending (calls-below os n)
 unfolding calls-below Ascending
 calls-ascend os zero = tt
 calls-ascend os (suc o) =

@@ -2,6 +2,8 @@ pub mod Calls
 pub mod CallLaws
 pub mod Search
 pub mod SearchLaws
+pub mod Skips
+pub mod SkipLaws
 pub mod Awaited
 pub mod AwaitedLaws
 pub mod OpenPlaces

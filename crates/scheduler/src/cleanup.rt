@@ -22,7 +22,7 @@ pub fn no_call_pending(objects: &[u64]) -> bool
 {
     let header = rows::tables::load_header(objects);
     let made = header.made;
-    let mut o: u16 = 0;
+    let mut o: u16 = crate::skip::skip_not_pending(objects, made);
     while o < made {
         let kind = rows::parts::kind_at(objects, HeapId::new(o));
         if kind.is_pending_external() {

@@ -6,3 +6,4 @@ pub mod places; // the search for an open place
 pub mod states; // make_ready, is_blocked, block_current_on, removal
 pub mod spawn; // spawn
 pub mod cleanup; // can_await_eagerly, cleanup
+mod skip; // where a search begins: objects passed over, several at a time

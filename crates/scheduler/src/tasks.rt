@@ -51,7 +51,7 @@ pub(crate) fn task_of(tasks: &[u64], next: u16, c: HeapId) -> FoundTask
 }
 
 // Is object `o` a pending external of that call?
-fn is_call(objects: &[u64], call: u32, o: HeapId) -> bool
+pub(crate) fn is_call(objects: &[u64], call: u32, o: HeapId) -> bool
     requires { ⌜ ObjectsLength objects × (o .0 < object-limit) ⌝ }
     ensures { λ r. ⌜ r ≡ is-call (now (objects .entry)) call (o .0) ⌝ }
 {
@@ -71,7 +71,7 @@ pub fn take_pending_external(objects: &[u64], call: u32) -> FoundObject
 {
     let header = rows::tables::load_header(objects);
     let made = header.made;
-    let mut o: u16 = 0;
+    let mut o: u16 = crate::skip::skip_other_calls(objects, call, made);
     while o < made {
         let id = HeapId::new(o);
         if is_call(objects, call, id) {
