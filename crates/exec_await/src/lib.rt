@@ -16,7 +16,7 @@ use exec_poll::item::await_external;
 use exec_switch::control::Control;
 use exec_switch::control::How;
 use exec_switch::cycle::switch_or_yield;
-use scheduler::states::block_current_on;
+use scheduler_states::states::block_current_on;
 ghost use Prim.Native.Nat.{_<_};
 ghost use Rattle.asyncio.specs.Limits.{task-limit, object-limit};
 ghost use Rattle.machine.specs.Events.{stays, raises, go-on, await-coroutine, await-external-future, await-gather, exec-get-awaitable};

@@ -14,12 +14,12 @@ use Rattle.queue.specs.declared.ReadyQueue.{ReadyQueue}
 use Rattle.machine.specs.Store.{LogEntry, store-of, object, put-object}
 use Rattle.machine.specs.Scheduler.{as-awaited}
 use Rattle.machine.specs.Commit.{ready, pending, gives, open-place, fill-place, with-state, set-gather, settle-as, settle-gather-commit, resume-in, resume-as, resume-after-child, unwind}
-use Rattle.scheduler.specs.Awaited.{awaited-gather-of, option-awaited}
+use Rattle.scheduler_states.specs.Awaited.{awaited-gather-of, option-awaited}
 use Rattle.exec_poll.specs.Polls.{poll-of}
 use Rattle.exec_commit.specs.Steps.{frame}
 use Rattle.exec_commit.specs.Frames.{below}
-use Rattle.scheduler.specs.declared.awaited.AwaitedGather.{AwaitedGather}
-use Rattle.scheduler.specs.declared.awaited.OptionAwaited.{OptionAwaited}
+use Rattle.scheduler_states.specs.declared.awaited.AwaitedGather.{AwaitedGather}
+use Rattle.scheduler_states.specs.declared.awaited.OptionAwaited.{OptionAwaited}
 use Rattle.exec_poll.specs.declared.item.Poll.{Poll}
 
 pub gather-set : (ts os ps : List ℕ) (q : ReadyQueue) (l : List LogEntry) (g : ℕ) (y : GatherState) {o x : Object} {us : List ℕ}

@@ -24,12 +24,12 @@ use Rattle.machine.specs.Commit as machine
 use Rattle.machine_laws.specs.Views.{Sized}
 use Rattle.machine_laws.specs.DeliveryLaws.{absurd-some}
 use Rattle.machine_laws.specs.CommitLaws.{same-kinds-refl, awaited-count, StopKeeps, step-item-kinds}
-use Rattle.scheduler.specs.Awaited.{awaited-gather-of, option-awaited}
-use Rattle.scheduler.specs.AwaitedLaws.{awaited-range}
+use Rattle.scheduler_states.specs.Awaited.{awaited-gather-of, option-awaited}
+use Rattle.scheduler_states.specs.AwaitedLaws.{awaited-range}
 use Rattle.exec_poll.specs.Polls.{poll-of, Itemed, with-item, itemed, item-at}
 use Rattle.exec_commit.specs.Steps.{Goes, with-bit, stepped, step-at, stopped, stop-log, WalksOn, frame}
-use Rattle.scheduler.specs.declared.awaited.AwaitedGather.{AwaitedGather}
-use Rattle.scheduler.specs.declared.awaited.OptionAwaited.{OptionAwaited}
+use Rattle.scheduler_states.specs.declared.awaited.AwaitedGather.{AwaitedGather}
+use Rattle.scheduler_states.specs.declared.awaited.OptionAwaited.{OptionAwaited}
 use Rattle.exec_poll.specs.declared.item.Poll.{Poll}
 use Rattle.exec_poll.specs.declared.item.ItemPoll.{ItemPoll}
 use Rattle.exec_commit.specs.declared.step.ItemStep.{ItemStep}

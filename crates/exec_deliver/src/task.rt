@@ -16,8 +16,8 @@ pub(crate) fn deliver_to_task(tasks: &mut [u64], t: TaskId, state: TaskState) ->
     requires { ⌜ TasksLength tasks × (t .0 < task-limit) ⌝ }
     ensures { λ r. ⌜ DeliversOfTasks tasks (λ s. deliver-to-task s (t .0) state) r ⌝ }
 {
-    if scheduler::states::is_blocked(tasks, t) {
-        scheduler::states::make_ready(tasks, t, state);
+    if scheduler_states::states::is_blocked(tasks, t) {
+        scheduler_states::states::make_ready(tasks, t, state);
         return FoundTask::At(t);
     }
     FoundTask::Nothing

@@ -17,7 +17,7 @@ use exec_switch::cycle::switch_or_yield;
 use queue::ReadyQueue;
 use scheduler::cleanup::cleanup;
 use scheduler::cleanup::no_call_pending;
-use scheduler::states::remove_task_lent;
+use scheduler_states::states::remove_task_lent;
 ghost use mathlib.Core.Path.{_≡_};
 ghost use Prim.Native.Nat.{_<_};
 ghost use Rattle.asyncio.specs.Limits.{task-limit, object-limit};

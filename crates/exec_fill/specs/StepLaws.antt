@@ -13,9 +13,9 @@ use Rattle.asyncio.specs.declared.TaskState.{TaskState}
 use Rattle.rows.specs.Tables.{task-at, object-at, object-put}
 use Rattle.queue.specs.declared.ReadyQueue.{ReadyQueue}
 use Rattle.asyncio.specs.Numbers.{task-id}
-use Rattle.scheduler.specs.Awaited.{option-awaited}
-use Rattle.scheduler.specs.declared.awaited.AwaitedGather.{AwaitedGather}
-use Rattle.scheduler.specs.declared.awaited.OptionAwaited.{OptionAwaited}
+use Rattle.scheduler_states.specs.Awaited.{option-awaited}
+use Rattle.scheduler_states.specs.declared.awaited.AwaitedGather.{AwaitedGather}
+use Rattle.scheduler_states.specs.declared.awaited.OptionAwaited.{OptionAwaited}
 use Rattle.scheduler.specs.declared.tasks.FoundTask.{FoundTask}
 use Rattle.machine.specs.Store.{LogEntry, store-of, task, object, put-object, put-places, add-log}
 use Rattle.machine.specs.Scheduler.{as-awaited, make-ready}

@@ -9,15 +9,15 @@ use asyncio::HeapId;
 use asyncio::Object;
 use asyncio::TASKS;
 use asyncio::Value;
-use scheduler::awaited::AwaitedGather;
-use scheduler::places::is_open;
+use scheduler_states::awaited::AwaitedGather;
+use scheduler_states::places::is_open;
 ghost use mathlib.Core.Path.{_≡_};
 ghost use Prim.Native.Nat.{_<_};
 ghost use Rattle.asyncio.specs.Limits.{object-limit};
 ghost use Rattle.asyncio.specs.Ranges.{PlacesFit};
 ghost use Rattle.machine.specs.Store.{Store};
 ghost use Rattle.machine.specs.Commit.{await-external, item-coroutine, item-gather};
-ghost use Rattle.scheduler.specs.Awaited.{awaited-gather-of};
+ghost use Rattle.scheduler_states.specs.Awaited.{awaited-gather-of};
 ghost use Rattle.exec_poll.specs.Polls.{with-item, itemed, item-at, item-here, PollsOfObjects, Polls, PollsItem, PollsItemOfPlaces};
 ghost use Rattle.contract.specs.Contract.{ObjectsLength, Lengths₂, Lengths₂And, LengthsAnd₂};
 

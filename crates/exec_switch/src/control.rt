@@ -51,7 +51,7 @@ pub(crate) fn run(tasks: &mut [u64], objects: &mut [u64], t: TaskId, how: How) -
     ensures { λ r. ⌜ SwitchesKeepingLog tasks objects
         (λ s. run s (t .0) (how-of how)) r ⌝ }
 {
-    scheduler::states::set_state(tasks, t, TaskState::Running);
+    scheduler_states::states::set_state(tasks, t, TaskState::Running);
     set_moment(objects, Moment::Running(t));
     Control::Runs { task: t, how }
 }

@@ -4,12 +4,7 @@ pub mod Search
 pub mod SearchLaws
 pub mod Skips
 pub mod SkipLaws
-pub mod Awaited
-pub mod AwaitedLaws
-pub mod OpenPlaces
-pub mod OpenPlaceLaws
 pub mod Spawn
 pub mod SpawnLaws
 pub mod Ends
 pub mod EndLaws
-pub mod States

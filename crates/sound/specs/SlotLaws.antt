@@ -19,7 +19,7 @@ use Rattle.machine.specs.Tests.{_and_, implies}
 use Rattle.machine.specs.Scheduler.{as-awaited}
 use Rattle.machine.specs.Commit.{open-from}
 use Rattle.machine.specs.Sound.{source-open, slot-open}
-use Rattle.scheduler.specs.Awaited.{awaited-gather}
+use Rattle.scheduler_states.specs.Awaited.{awaited-gather}
 
 -- gather g was committed and, if it is awaited, has object o open
 abbrev pub gather-holds : (ℕ → Object) → (ℕ → Place) → ℕ → ℕ → Bool

@@ -11,7 +11,7 @@ use rows::parts::kind_at;
 use rows::parts::open_at;
 use rows::parts::state_at;
 use rows::parts::task_awaiter_at;
-use scheduler::places::is_open;
+use scheduler_states::places::is_open;
 ghost use mathlib.Core.Path.{_≡_};
 ghost use Prim.Native.Nat.{_<_, _≤_};
 ghost use Rattle.asyncio.specs.Limits.{task-limit, object-limit};

@@ -2,7 +2,7 @@ use Rattle.queue.specs.Queue.{queue-of}
 use mathlib.Core.Path.{_∙_}
 use native.Mathlib.Omega.{arith}
 use denote.Ref.{now}
-use Rattle.scheduler.specs.AwaitedLaws.{awaited-range}
+use Rattle.scheduler_states.specs.AwaitedLaws.{awaited-range}
 use Rattle.exec_commit.specs.StepLaws.{place-range, item-range, step-none, step-nested, step-polled}
 use borrow.Author.Needs.{needs}
 use Rattle.exec_commit.proofs.step.step_item.Statement.{statement}

@@ -1,5 +1,5 @@
 use denote.Ref.{now}
-use Rattle.scheduler.specs.AwaitedLaws.{awaited-range}
+use Rattle.scheduler_states.specs.AwaitedLaws.{awaited-range}
 use Rattle.exec_fill.specs.StepLaws.{resolve-idle, resolve-completes, resolve-waits}
 use borrow.Author.Needs.{needs}
 use Rattle.exec_fill.proofs.gather.resolve_child.Statement.{statement}

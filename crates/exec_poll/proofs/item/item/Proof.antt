@@ -1,6 +1,6 @@
 use Rattle.queue.specs.Queue.{queue-of}
 use denote.Ref.{now}
-use Rattle.scheduler.specs.Awaited.{awaited-gather-of}
+use Rattle.scheduler_states.specs.Awaited.{awaited-gather-of}
 use Rattle.exec_poll.specs.ItemLaws.{item-open, item-first}
 use borrow.Author.Needs.{needs}
 use Rattle.exec_poll.proofs.item.item.Statement.{statement}

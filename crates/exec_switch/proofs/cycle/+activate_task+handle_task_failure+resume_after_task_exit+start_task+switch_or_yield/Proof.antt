@@ -44,7 +44,7 @@ use Rattle.rows.proofs.parts.coroutine_at.Reads as coroutine-at-reads
 use Rattle.rows.proofs.parts.state_at.Reads as state-at-reads
 use Rattle.rows.proofs.parts.task_awaiter_at.Reads as task-awaiter-at-reads
 use Rattle.rows.proofs.tables.store_object.Reads as store-object-reads
-use Rattle.scheduler.proofs.states.remove_task_lent.Reads as remove-task-lent-reads
+use Rattle.scheduler_states.proofs.states.remove_task_lent.Reads as remove-task-lent-reads
 use Rattle.exec_switch.proofs.cycle.+activate_task+handle_task_failure+resume_after_task_exit+start_task+switch_or_yield.{
   statement,
 }

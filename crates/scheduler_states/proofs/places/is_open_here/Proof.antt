@@ -1,9 +1,9 @@
 use denote.Ref.{now}
 use Rattle.rows.specs.Tables.{place-at}
-use Rattle.scheduler.specs.OpenPlaceLaws.{place-shut, place-named}
+use Rattle.scheduler_states.specs.OpenPlaceLaws.{place-shut, place-named}
 use borrow.Author.Needs.{needs}
-use Rattle.scheduler.proofs.places.is_open_here.Statement.{statement}
-use Rattle.scheduler.proofs.places.is_open_here.Tie as tie
+use Rattle.scheduler_states.proofs.places.is_open_here.Statement.{statement}
+use Rattle.scheduler_states.proofs.places.is_open_here.Tie as tie
 
 cast-if1 : tie.Need-cast-if1
 cast-if1 c = search needs

@@ -15,7 +15,7 @@ ghost use Rattle.rows.specs.Tables.{task-at};
 ghost use Rattle.machine.specs.Scheduler.{make-ready, remove-task};
 ghost use Rattle.asyncio.specs.declared.TaskState.{TaskState};
 ghost use Rattle.contract.specs.Contract.{TasksLength, ChangesTasks, queue-before, queue-after};
-ghost use Rattle.scheduler.specs.States.{Restates, MakesReady};
+ghost use Rattle.scheduler_states.specs.States.{Restates, MakesReady};
 
 // Task `t` in another state.
 pub fn set_state(tasks: &mut [u64], t: TaskId, state: TaskState)

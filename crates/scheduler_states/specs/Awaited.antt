@@ -3,8 +3,8 @@ use Prim.Native.Nat.{ℕ}
 use mathlib.Core.Option.{Option, none, some}
 use Rattle.asyncio.specs.declared.Awaiter.{Awaiter}
 use Rattle.machine.specs.Scheduler as scheduler
-use Rattle.scheduler.specs.declared.awaited.AwaitedGather.{AwaitedGather}
-use Rattle.scheduler.specs.declared.awaited.OptionAwaited.{OptionAwaited}
+use Rattle.scheduler_states.specs.declared.awaited.AwaitedGather.{AwaitedGather}
+use Rattle.scheduler_states.specs.declared.awaited.OptionAwaited.{OptionAwaited}
 
 -- by its parts
 abbrev pub awaited-gather : ℕ → ℕ → Awaiter → ℕ → scheduler.AwaitedGather

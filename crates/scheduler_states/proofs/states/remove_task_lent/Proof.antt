@@ -1,8 +1,8 @@
 use Rattle.machine.specs.Store.{put-task, put-queue, absent}
 use Rattle.machine.specs.Scheduler.{remove-from-ready-queue, remove-task}
 use borrow.Author.Needs.{needs}
-use Rattle.scheduler.proofs.states.remove_task_lent.Statement.{statement}
-use Rattle.scheduler.proofs.states.remove_task_lent.Tie as tie
+use Rattle.scheduler_states.proofs.states.remove_task_lent.Statement.{statement}
+use Rattle.scheduler_states.proofs.states.remove_task_lent.Tie as tie
 
 new-requires : tie.Need-new-requires
 new-requires c κs = search needs

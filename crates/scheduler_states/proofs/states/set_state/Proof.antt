@@ -1,7 +1,7 @@
 use Rattle.machine.specs.Store.{restate}
 use borrow.Author.Needs.{needs}
-use Rattle.scheduler.proofs.states.set_state.Statement.{statement}
-use Rattle.scheduler.proofs.states.set_state.Tie as tie
+use Rattle.scheduler_states.proofs.states.set_state.Statement.{statement}
+use Rattle.scheduler_states.proofs.states.set_state.Tie as tie
 
 load-task-requires : tie.Need-load-task-requires
 load-task-requires c κs = search needs

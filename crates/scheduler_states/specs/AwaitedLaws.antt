@@ -11,9 +11,9 @@ use Rattle.rows.specs.Tables.{object-at}
 use Rattle.machine.specs.Store.{store-of, object}
 use Rattle.machine.specs.Scheduler.{as-awaited}
 use Rattle.machine_laws.specs.DeliveryLaws.{awaited-fits}
-use Rattle.scheduler.specs.Awaited.{awaited-gather, awaited-gather-of, option-awaited}
-use Rattle.scheduler.specs.declared.awaited.AwaitedGather.{AwaitedGather}
-use Rattle.scheduler.specs.declared.awaited.OptionAwaited.{OptionAwaited}
+use Rattle.scheduler_states.specs.Awaited.{awaited-gather, awaited-gather-of, option-awaited}
+use Rattle.scheduler_states.specs.declared.awaited.AwaitedGather.{AwaitedGather}
+use Rattle.scheduler_states.specs.declared.awaited.OptionAwaited.{OptionAwaited}
 
 module _ (os : List ℕ) (g : ℕ) {o : Object} (e : o ≡ object-at os g) where
   pub not-awaited : (x : Object) → o ≡ x → as-awaited x ≡ none → none ≡ as-awaited (object-at os g)

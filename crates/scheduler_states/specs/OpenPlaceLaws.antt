@@ -9,7 +9,7 @@ use Rattle.asyncio.specs.declared.HeapId.{HeapId}
 use Rattle.asyncio.specs.declared.Place.{Place}
 use Rattle.machine.specs.Scheduler.{AwaitedGather}
 use Rattle.machine.specs.Commit.{open-from}
-use Rattle.scheduler.specs.OpenPlaces.{open-here}
+use Rattle.scheduler_states.specs.OpenPlaces.{open-here}
 
 -- ---- a place
 

@@ -7,8 +7,8 @@ ghost use Rattle.asyncio.specs.Ranges.{PlacesFit};
 ghost use Rattle.asyncio.specs.declared.Awaiter.{Awaiter};
 ghost use Rattle.rows.specs.Slices.{place-in};
 ghost use Rattle.machine.specs.Commit.{open-from};
-ghost use Rattle.scheduler.specs.Awaited.{awaited-gather};
-ghost use Rattle.scheduler.specs.OpenPlaces.{open-here};
+ghost use Rattle.scheduler_states.specs.Awaited.{awaited-gather};
+ghost use Rattle.scheduler_states.specs.OpenPlaces.{open-here};
 ghost use Rattle.contract.specs.Contract.{PlacesLength};
 
 // Is place `p`, which is place `i` of its gather, open, and does it name object `o`?

@@ -8,7 +8,7 @@ ghost use Prim.Native.Nat.{_<_};
 ghost use Rattle.asyncio.specs.Limits.{object-limit};
 ghost use Rattle.rows.specs.Tables.{object-at};
 ghost use Rattle.machine.specs.Scheduler.{as-awaited};
-ghost use Rattle.scheduler.specs.Awaited.{option-awaited};
+ghost use Rattle.scheduler_states.specs.Awaited.{option-awaited};
 ghost use Rattle.contract.specs.Contract.{ObjectsLength};
 
 // An awaited gather: its places, its awaiter, and the bits of the places that wait for their items.

@@ -1,6 +1,6 @@
 use borrow.Author.Needs.{needs}
-use Rattle.scheduler.proofs.states.is_blocked.Statement.{statement}
-use Rattle.scheduler.proofs.states.is_blocked.Tie as tie
+use Rattle.scheduler_states.proofs.states.is_blocked.Statement.{statement}
+use Rattle.scheduler_states.proofs.states.is_blocked.Tie as tie
 
 state-at-requires : tie.Need-state-at-requires
 state-at-requires c κs = search needs

@@ -5,10 +5,10 @@ use borrow.Author.Needs.{needs}
 use Rattle.asyncio.specs.declared.Awaiter.{Awaiter}
 use Rattle.rows.specs.Tables.{place-at}
 use Rattle.machine.specs.Commit.{open-from}
-use Rattle.scheduler.specs.Awaited.{awaited-gather}
-use Rattle.scheduler.specs.OpenPlaceLaws.{open-found, open-turn, open-end, open-begins}
-use Rattle.scheduler.proofs.places.is_open.Statement.{statement}
-use Rattle.scheduler.proofs.places.is_open.Tie as tie
+use Rattle.scheduler_states.specs.Awaited.{awaited-gather}
+use Rattle.scheduler_states.specs.OpenPlaceLaws.{open-found, open-turn, open-end, open-begins}
+use Rattle.scheduler_states.proofs.places.is_open.Statement.{statement}
+use Rattle.scheduler_states.proofs.places.is_open.Tie as tie
 
 abbrev Inv-loop : tie.InvT-loop
 Inv-loop places first count open-places o from n i₀ i = ((a : Awaiter) → open-from (place-at places) (awaited-gather first count a open-places) (o .0) i (n - i) ≡ open-from (place-at places) (awaited-gather first count a open-places) (o .0) 0 count) × (i ≤ n)

@@ -1,10 +1,10 @@
 use mathlib.Core.Path.{refl}
 use denote.Ref.{now}
 use Rattle.machine.specs.Scheduler.{as-awaited}
-use Rattle.scheduler.specs.AwaitedLaws.{not-awaited, is-awaited}
+use Rattle.scheduler_states.specs.AwaitedLaws.{not-awaited, is-awaited}
 use borrow.Author.Needs.{needs}
-use Rattle.scheduler.proofs.awaited.as_awaited.Statement.{statement}
-use Rattle.scheduler.proofs.awaited.as_awaited.Tie as tie
+use Rattle.scheduler_states.proofs.awaited.as_awaited.Statement.{statement}
+use Rattle.scheduler_states.proofs.awaited.as_awaited.Tie as tie
 
 load-object-requires : tie.Need-load-object-requires
 load-object-requires c κs = search needs

@@ -1,8 +1,8 @@
 use Rattle.machine.specs.Store.{task, put-task, put-queue, set-state}
 use Rattle.machine.specs.Scheduler.{push-ready, make-ready}
 use borrow.Author.Needs.{needs}
-use Rattle.scheduler.proofs.states.make_ready.Statement.{statement}
-use Rattle.scheduler.proofs.states.make_ready.Tie as tie
+use Rattle.scheduler_states.proofs.states.make_ready.Statement.{statement}
+use Rattle.scheduler_states.proofs.states.make_ready.Tie as tie
 
 set-state-requires : tie.Need-set-state-requires
 set-state-requires c κs = search needs

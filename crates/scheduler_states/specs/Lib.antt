@@ -1,0 +1,5 @@
+pub mod States
+pub mod Awaited
+pub mod AwaitedLaws
+pub mod OpenPlaces
+pub mod OpenPlaceLaws
