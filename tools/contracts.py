@@ -38,6 +38,24 @@ for crate, names, now in (
 ):
     MOVED |= {(crate, "lib", name): (now, "lib", name) for name in names.split()}
 MOVED |= {("step_event", "waiting", name): ("step_event", "host", name) for name in "results resume is_ended".split()}
+for names, now in (("coroutine call pending settled gather", "session_make"), ("await_object complete fail", "session_run"), ("results resume cancel", "session_host")):
+    MOVED |= {("session_events", "lib", name): (now, "lib", name) for name in names.split()}
+MOVED[("session_events", "lib", "plain")] = ("session_dispatch", "lib", "dispatch_plain")
+# modules that became a crate, or went to one (DECISIONS 101), and the spec files that went with them
+CUT = {
+    ("step_checks", "make"): ("step_make", "lib"),
+    ("step_event", "running"): ("step_run", "lib"),
+    ("step_event", "host"): ("step_host", "lib"),
+    ("exec_events", "awaits"): ("exec_await", "lib"),
+    ("exec_events", "ends"): ("exec_ends", "lib"),
+    ("sound_rows", "words"): ("sound_words", "lib"),
+    ("sound_rows", "groups"): ("sound_words", "groups"),
+} | {("scheduler", module): ("scheduler_states", module) for module in ("states", "places", "awaited")}
+SPECS = {
+    "exec_events": {"exec_await": "Awaits AwaitLaws", "exec_ends": "Ends EndLaws"},
+    "sound_rows": {"sound_words": "Words PartLaws Loops"},
+    "scheduler": {"scheduler_states": "States Awaited AwaitedLaws OpenPlaces OpenPlaceLaws"},
+}
 # a field that got another name
 FIELDS = {"waiting": "open-places"}
 
@@ -91,7 +109,8 @@ def all_of(files, read):
             text = read(path)
             for name, contract in contracts(text).items():
                 key = crate, module, TABLES["CODE"].get(name, name)
-                said[MOVED.get(key, key)] = contract | {"where": terms.imported(text)}
+                crate_now, module_now, name_now = MOVED.get(key, key)
+                said[*CUT.get((crate_now, module_now), (crate_now, module_now)), name_now] = contract | {"where": terms.imported(text)}
         elif m := re.match(r"crates/([^/]+)/specs/(.*)\.antt$", path):
             crate = TABLES["CRATES"].get(m.group(1), m.group(1))
             abbrevs |= terms.abbreviations(read(path), f"{crate}/{m.group(2).replace('/', '.')}")
@@ -102,6 +121,9 @@ def meaning(contract, kind, abbrevs, names):
     term = terms.Reader(contract[kind]).term()
     term = terms.put(terms.placed(term, contract["where"]), {old: ("var", new) for old, new in names.items()})
     text = terms.show(terms.opened(term, abbrevs))
+    for old, parts in SPECS.items():
+        for new, files in parts.items():
+            text = re.sub(rf"\b{old}/({'|'.join(files.split())})/", rf"{new}/\1/", text)
     return re.sub(r"(?<= \.)([\w-]+)|(?<=[{ ])([\w-]+)(?= = )", lambda m: FIELDS.get(m.group(0), m.group(0)), text)
 
 
