@@ -30,6 +30,11 @@ def values(words):
     return found
 
 
+def plain(value):
+    """`plain 5` as `5`; `list 3` as it is."""
+    return value[6:] if value.startswith("plain ") else value
+
+
 def places(state):
     """The places of a gather's state, or [] where it shows none."""
     words = state.split()
@@ -104,6 +109,7 @@ class Model:
         self.coroutine_task = {}
         self.moments = Lane(None)
         self.said = collections.defaultdict(list)
+        self.actors = []
         self.refusals, self.doubts = [], []
         self.taken, self.handed, self.running = set(), 0, 0
         self.last_wait, self.finish = None, None
@@ -116,6 +122,7 @@ class Model:
 
     def record(self, at, column):
         """One column: the event, what it did to objects, then who goes on."""
+        self.actors.append(self.who())
         if column.line is None:
             return
         if column.refused is not None:
@@ -141,7 +148,7 @@ class Model:
         return f"call {what} (object {number})" if kind == "call" else f"{kind} {number}"
 
     def who(self):
-        return "main" if self.running == 0 else f"task {self.running}"
+        return "nobody" if self.running is None else "main" if self.running == 0 else f"task {self.running}"
 
     # ---- making
 
@@ -240,10 +247,10 @@ class Model:
         task.mark(at, how, what)
         task.ending = how
         task.blocked_on = None
-        name = "main" if task.number == 0 else f"task {task.number}"
-        self.say(at, {"completed": f"{name} ends with {what}", "failed": f"{name} fails with {what}",
-                      "died": f"{name} dies at its first run: its coroutine was begun elsewhere (coroutine-reuse)",
-                      "cancelled": f"{name} is cancelled", "removed": f"{name} is removed: the session has ended"}[how])
+        said = {"died": "dies at its first run: its coroutine was begun elsewhere (coroutine-reuse)", "cancelled": "is cancelled",
+                "removed": "is removed: the session has ended"}
+        if how in said:
+            self.say(at, f"task {task.number} {said[how]}")
 
     # ---- the host's events
 
@@ -270,11 +277,11 @@ class Model:
     def answer(self, at, call):
         """A reply that is taken; late if a resume found nothing ready while the call was missing."""
         _, word, *what = self.now[call.object].split()
-        late = f", late: {call.waits} times a resume found nothing ready before it" if call.waits > 1 else ", late: a resume found nothing ready before it"
+        late = f", late: {'a resume' if call.waits == 1 else f'{call.waits} resumes'} found nothing ready before it"
         call.turn(at, "answered")
         call.mark(at, ("late-" if call.waits else "") + ("error" if word == "failed" else "reply"), " ".join(what))
         call.answered = at
-        self.say(at, f"call {call.number} is answered with {' '.join(what)}{late if call.waits else ''}")
+        self.say(at, f"call {call.number} is answered with {plain(' '.join(what))}{late if call.waits else ''}")
         if not self.waiters(call.object, self.before):
             self.say(at, f"nobody waits for call {call.number} now")
 
@@ -316,6 +323,7 @@ class Model:
             if task.state == "blocked" and settled(self.now[task.blocked_on]):
                 task.since, task.blocked_on = at, None
                 task.turn(at, "ready", "woken")
+                self.say(at, f"{'main' if task.number == 0 else f'task {task.number}'} is woken")
 
     def tell_gather(self, at, number, state):
         """A gather's new state, and the places that were filled."""
@@ -327,8 +335,8 @@ class Model:
         filled = [place for place, value in enumerate(new) if value != "open" and (not old or old[place] == "open")]
         for place in filled:
             lane.mark(at, f"place {place}", new[place])
-            self.say(at, f"place {place} of gather {number} is filled with {new[place]}")
-        if word != "pending":
+            self.say(at, f"place {place} of gather {number} is filled with {plain(new[place])}")
+        if state_word(self.before.get(number, state)) != word:
             self.say(at, f"gather {number} is {state.partition(' ')[2] if word == 'failed' else word}")
 
     def waiters(self, number, states):
@@ -350,7 +358,8 @@ class Model:
             seen.add(here)
             for step in self.waiters(here, states):
                 found.append((here, step))
-                left.append(step[1] if step[0] == "place" else self.tasks[step[1]].coroutine)
+                above = step[1] if step[0] == "place" else self.tasks[step[1]].coroutine
+                left += [] if above is None else [above]
         return found
 
     # ---- who goes on
@@ -364,7 +373,7 @@ class Model:
             steps = words.index("steps") if "steps" in words else len(words)
             self.last_wait = (at, [int(number) for number in words[2:steps]])
             self.deaths(at, None)
-            self.moments.turn(at, "waiting", f"waits for {words[1]}")
+            self.moments.turn(at, "waiting", "waits for 1 call" if words[1] == "1" else f"waits for {words[1]} calls")
             self.running = None
             if any(task.state == "ready" for task in self.tasks.values()):
                 self.doubts.append((at, "a wait although a task is ready"))
