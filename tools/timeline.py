@@ -13,9 +13,10 @@ import sys
 
 from timeline import model, page, source
 
-LARGE = """Large files: drive is asked for every object's state behind every record that can change one, at most 256 shows each (some
-5,000 such records a second). Ten or more equal records that change nothing are one column. Only the last N columns are drawn and listed;
-what stood before them is counted in one row of the table, and its effects are known."""
+LARGE = """Large files: drive is asked for every object's state behind every record that can change one, at most 256 shows each (measured: a page
+of 10,000 such records with 256 objects in 2.5 s and 72 MB). Ten or more equal records that change nothing are one column. Only the last N
+columns are drawn and listed; those before them are one row of the table, and what they did is known. On paper there is no drawing of more
+than 250 columns, only the table."""
 
 
 def make(path, program, last):

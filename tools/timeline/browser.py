@@ -87,11 +87,11 @@ def try_keys(browser):
         if browser.value("document.activeElement.classList.contains('col')"):
             break
     expect("Tab goes to the first record", focus, ids[0])
-    at = 0
-    for key, to in [("ArrowRight", 1), ("ArrowRight", 2), ("ArrowLeft", 1), ("End", len(ids) - 1), ("ArrowRight", len(ids) - 1), ("PageUp", max(0, len(ids) - 11)),
-                    ("Home", 0), ("ArrowLeft", 0), ("PageDown", min(10, len(ids) - 1))]:
+    last = len(ids) - 1
+    for key, to in [("ArrowRight", 1), ("ArrowRight", 2), ("ArrowLeft", 1), ("End", last), ("ArrowRight", last), ("PageUp", last - 10),
+                    ("Home", 0), ("ArrowLeft", 0), ("PageDown", 10)]:
         browser.press(key)
-        at = max(0, min(len(ids) - 1, to))
+        at = max(0, min(last, to))
         expect(f"{key} moves to {ids[at]}", focus, ids[at])
         expect(f"{key}: the panel tells it", panel, "Record " + browser.value(f"document.querySelector('#r{ids[at][1:]} th').textContent"))
         expect(f"{key}: one record is selected", "document.querySelectorAll('.col[aria-selected=true]').length", 1)
@@ -99,9 +99,11 @@ def try_keys(browser):
         expect(f"{key}: it is in sight", f"(() => {{ const b = box.getBoundingClientRect(), r = document.getElementById('{ids[at]}').getBoundingClientRect();"
                " return r.right > b.left && r.left < b.right })()", True)
     browser.press("Home")
-    place = browser.value("(() => { box.scrollLeft = 0; const r = document.getElementById('%s').getBoundingClientRect(); return [r.x + r.width / 2, Math.max(r.y, 0) + 40] })()" % ids[min(3, len(ids) - 1)])
+    near = ids[min(3, len(ids) - 1)]
+    place = browser.value(f"(() => {{ box.scrollLeft = 0; const r = document.getElementById('{near}').getBoundingClientRect();"
+                          " return [r.x + r.width / 2, Math.max(r.y, 0) + 40] })()")
     browser.send("Input.dispatchMouseEvent", type="mouseMoved", x=place[0], y=place[1])
-    expect("the pointer shows a record", panel, "Record " + browser.value(f"document.querySelector('#r{ids[min(3, len(ids) - 1)][1:]} th').textContent"))
+    expect("the pointer shows a record", panel, "Record " + browser.value(f"document.querySelector('#r{near[1:]} th').textContent"))
     expect("nothing hangs out at the side", "document.documentElement.scrollWidth <= innerWidth", True)
     return faults
 

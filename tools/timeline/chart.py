@@ -6,7 +6,7 @@ from . import model, words
 
 SYMBOLS = {
     "start": '<path class="ink" d="M-4-6 6 0-4 6z"/>',
-    "inline": '<path class="line" d="M-4-5v5h8M1-3l3 3-3 3"/>',
+    "inline": '<path class="halo" d="M-4-5v5h8M1-3l3 3-3 3"/><path class="line" d="M-4-5v5h8M1-3l3 3-3 3"/>',
     "completed": '<circle class="ink" r="5.5"/>',
     "failed": '<circle class="back" r="6.5"/><path class="line bad" d="M-4-4 4 4M4-4-4 4"/>',
     "died": '<circle class="back" r="6.5"/><path class="line bad" d="M-4-4 4 4M4-4-4 4"/>',
@@ -18,7 +18,7 @@ SYMBOLS = {
     "error": '<path class="back line" d="M0-7 7 0 0 7-7 0z"/><path class="line bad" d="M-2.5-2.5l5 5m0-5l-5 5"/>',
     "late-error": '<path class="back line" d="M0-7 7 0 0 7-7 0z"/><path class="line bad" d="M-2.5-2.5l5 5m0-5l-5 5"/><path class="line" d="M-10-9v18"/>',
     "twice": '<path class="back line" d="M0-7 7 0 0 7-7 0z"/><path class="line" d="M-3-1.8h6M-3 1.8h6"/>',
-    "unknown": '<path class="back line" d="M0-7 7 0 0 7-7 0z"/><text class="small" y="3.5" text-anchor="middle">?</text>',
+    "unknown": '<path class="back line" d="M0-7 7 0 0 7-7 0z"/><path class="line round" d="M-1.9-1.5a1.9 1.9 0 1 1 2.6 1.8q-.7.3-.7 1.1M0 3.5v.1"/>',
     "future": '<circle class="back" r="6"/><circle class="ink" cx="-4" r="1.5"/><circle class="ink" r="1.5"/><circle class="ink" cx="4" r="1.5"/>',
     "filled": '<path class="ink" d="M-4-4h8v8h-8z"/>',
     "refused": '<path class="refused" d="M-3.5-8.5h7l5 5v7l-5 5h-7l-5-5v-7z"/>',
@@ -114,7 +114,7 @@ def place_row(known, lane, place, item):
 def sections(known):
     """All rows, in their sections."""
     found = [("Session", session_rows(known)), ("Tasks", list(task_rows(known))), ("External calls", list(call_rows(known))),
-             ("Gathers and their places", list(gather_rows(known)))]
+             ("Gathers, places", list(gather_rows(known)))]
     return [(name, rows) for name, rows in found if rows]
 
 
@@ -136,11 +136,13 @@ class Canvas:
         self.out.append(f'<text class="{kind}" x="{x}" y="{y}">{html.escape(text)}</text>')
 
     def head(self):
-        """A section's head: the records' numbers."""
-        step = 1 if self.width >= 21 else 5
+        """A section's head: the records' numbers, where there is room for them."""
+        step, free = 1 if self.width >= 21 else 5, -99
         for at in range(self.first, self.last + 1):
             number = self.columns[at].first
-            if step == 1 or number % step == 0 or at == self.first:
+            half = len(str(number)) * 3.3
+            if (step == 1 or number % step == 0 or at == self.first) and self.x(at) - half > free:
+                free = self.x(at) + half + 4
                 self.out.append(f'<text class="tick" x="{self.x(at)}" y="{self.y + 24}" text-anchor="middle">{number}</text>')
         self.y += 32
 
@@ -191,7 +193,7 @@ class Canvas:
 
 
 def draw(columns, parts, first, last, width, over=""):
-    """The labels (HTML) and the drawing (SVG) of some sections."""
+    """The labels (HTML) and the drawing (SVG) of some sections; `over` gives the SVG's attributes and what lies on top of it."""
     canvas, labels = Canvas(columns, first, last, width), []
     lines = []
     for name, rows in parts:
@@ -201,12 +203,14 @@ def draw(columns, parts, first, last, width, over=""):
             full = f"{row.label}: {row.note}" if row.note else row.label
             note = f' <span class="of">{html.escape(row.note)}</span>' if row.note else ""
             ends = f' <b class="none">{row.ends}</b>' if row.ends else ""
-            labels.append(f'<div class="label {row.kind}" style="height:{row.height}px" title="{html.escape(full)}">{html.escape(row.label)}{ends}{note}</div>')
+            labels.append(f'<div class="label {row.kind}" style="height:{row.height}px" title="{html.escape(full)}">'
+                          f'{html.escape(row.label)}{ends}{note}</div>')
             lines.append(f"M0 {canvas.y}H{canvas.edge}")
             canvas.row(row)
     height, wide = canvas.y + 8, canvas.edge + END
     drawing = f'<g aria-hidden="true">{canvas.grid(20)}<path class="rule" d="{"".join(lines)}"/>{"".join(canvas.out)}</g>'
-    return "".join(labels), f'<svg width="{wide}" height="{height}" viewBox="0 0 {wide} {height}" {over[0] if over else ""}>{drawing}{over[1](canvas) if over else ""}</svg>'
+    attributes, focus = (over[0], over[1](canvas)) if over else ("", "")
+    return "".join(labels), f'<svg width="{wide}" height="{height}" viewBox="0 0 {wide} {height}" {attributes}>{drawing}{focus}</svg>'
 
 
 def symbols():

@@ -5,6 +5,7 @@
   const panel = document.getElementById("panel");
   if (!columns.length) return;
   let chosen = null;
+  if (innerWidth < 640) document.querySelector(".legend").open = false;
 
   // what the panel tells stands in the table's row
   function show(column) {

@@ -15,7 +15,7 @@ LEGEND = [
     (None, "unknown", "a reply to no pending call: ignored"), (None, "future", "“still to come”: nothing changes"), (None, "missing", "no reply yet"),
     (None, "filled", "a place gets its value"), (None, "refused", "a refused record, its number"),
 ]
-KEPT_BANDS = 12
+KEPT_BANDS = 5
 BAND = 50
 
 
@@ -47,24 +47,29 @@ def columns_over(known, first):
             column = known.columns[at]
             name = f"record {column.numbers}: {column.text}; line: {column.line or 'none'}"
             out.append(f'<g id="c{column.first}" class="col" role="option" tabindex="{0 if at == first else -1}" aria-selected="false" '
-                       f'aria-label="{esc(name)}" data-row="r{column.first}"><title>{esc(column.numbers)} {esc(column.text)} ⇒ {esc(column.line or "no line")}</title>'
+                       f'aria-label="{esc(name)}" data-row="r{column.first}">'
+                       f'<title>{esc(column.numbers)} {esc(column.text)} ⇒ {esc(column.line or "no line")}</title>'
                        f'<rect x="{round((at - canvas.first) * canvas.width, 1)}" y="0" width="{canvas.width}" height="{canvas.y + 8}"/></g>')
         return f'<g role="listbox" aria-label="Records, in order; arrow keys move" aria-orientation="horizontal">{"".join(out)}</g>'
     return ('role="group" aria-labelledby="chart-title"', options)
 
 
-def missing_box(known):
-    """The box on top."""
+def missing_box(known, skipped):
+    """The box on top; it links to records that are drawn."""
     head, text, calls = words.ending(known)
-    kind = "well" if known.finish and not known.finish[1].startswith("error") else "hung"
+    kind = "cut" if known.running is not None else "hung"
+    if known.finish:
+        kind = "hung" if known.finish[1].startswith("error") else "well"
     items = []
     for number, note, asked, steps in calls:
         more = [f"and {len(steps) - 12} more steps up to main"] if len(steps) > 12 else []
         chain = "".join(f"<li>{esc(step)}</li>" for step in steps[:12] + more)
         of = f" <q>{esc(note)}</q>" if note else ""
-        items.append(f'<li class="call" data-call="{number}"><strong>call {number}</strong>{of}, asked for at <a href="#c{asked}">record {asked}</a><ol>{chain}</ol></li>')
+        there = f'<a href="#c{asked}">record {asked}</a>' if asked >= known.columns[skipped].first else f"record {asked}"
+        items.append(f'<li class="call" data-call="{number}"><strong>call {number}</strong>{of}, asked for at {there}<ol>{chain}</ol></li>')
     listed = f'<ul class="calls">{"".join(items)}</ul>' if items else ""
-    return f'<section class="missing {kind}" aria-labelledby="missing-title"><h2 id="missing-title">What is missing</h2><p class="what">{esc(head)}</p><p>{esc(text)}</p>{listed}</section>'
+    return (f'<section class="missing {kind}" aria-labelledby="missing-title"><h2 id="missing-title">What is missing</h2>'
+            f'<p class="what">{esc(head)}</p><p>{esc(text)}</p>{listed}</section>')
 
 
 def notes(known, skipped):
@@ -89,7 +94,8 @@ def table(known, skipped):
     if skipped:
         last = known.columns[skipped - 1].last
         refused = len([1 for at, _ in known.refusals if at < skipped])
-        rows.append(f'<tr data-first="1" data-last="{last}"><th scope="row">1–{last}</th><td colspan="{3 + noted}">not drawn; {words.amount(refused, "refusal")} among them</td></tr>')
+        rows.append(f'<tr data-first="1" data-last="{last}"><th scope="row">1–{last}</th>'
+                    f'<td colspan="{3 + noted}">not drawn; {words.amount(refused, "refusal")} among them</td></tr>')
     for at in range(skipped, len(known.columns)):
         column = known.columns[at]
         said = column_words(known, at)
@@ -97,8 +103,10 @@ def table(known, skipped):
         refused = ' class="is-refused"' if column.refused is not None else ""
         badge = f'<b class="badge">refused {column.refused}</b>' if column.refused is not None else f"<code>{esc(column.line or '')}</code>"
         wrong = f'<br>the file says: <code>{esc(column.stored)}</code>' if differs(column) else ""
-        rows.append(f'<tr id="r{column.first}" data-first="{column.first}" data-last="{column.last}"{refused}><th scope="row"><a href="#c{column.first}">{column.numbers}</a></th>'
-                    f'<td><code>{esc(column.text)}</code></td><td>{badge}{wrong}</td><td><p>{esc(said[0])}</p>{f"<ul>{more}</ul>" if more else ""}</td>{f"<td>{esc(column.note)}</td>" if noted else ""}</tr>')
+        rows.append(f'<tr id="r{column.first}" data-first="{column.first}" data-last="{column.last}"{refused}>'
+                    f'<th scope="row"><a href="#c{column.first}">{column.numbers}</a></th>'
+                    f'<td><code>{esc(column.text)}</code></td><td>{badge}{wrong}</td>'
+                    f'<td><p>{esc(said[0])}</p>{f"<ul>{more}</ul>" if more else ""}</td>{f"<td>{esc(column.note)}</td>" if noted else ""}</tr>')
     return ('<table><caption>Every record, its line and what it means</caption><thead><tr><th scope="col">no.</th><th scope="col">record</th>'
             '<th scope="col">line</th><th scope="col">in plain words</th>' + ('<th scope="col">the file’s note</th>' if noted else "") + '</tr></thead>'
             f'<tbody>{"".join(rows)}</tbody></table>')
@@ -138,7 +146,8 @@ def drawing(known, parts, skipped):
     width = max(16, min(34, 890 // max(count, 1)))
     labels, svg = chart.draw(known.columns, parts, skipped, len(known.columns) - 1, width, columns_over(known, skipped))
     return (f'<div class="chart screen"><div class="labels" aria-hidden="true">{labels}</div><div class="box" id="box">{svg}</div></div>'
-            '<section class="panel" id="panel" aria-live="polite" aria-label="The record that is looked at"><p class="hint">Point at a record, or press Tab and '
+            '<section class="panel" id="panel" aria-live="polite" aria-label="The record that is looked at">'
+            '<p class="hint">Point at a record, or press Tab and '
             'then the arrow keys (Home, End and Page keys too), to read it here.</p></section>')
 
 
@@ -147,9 +156,10 @@ def page(known, name, last):
     skipped = max(0, len(known.columns) - last)
     parts = chart.sections(known)
     drawn = drawing(known, parts, skipped) + print_bands(known, parts, skipped) if known.columns else "<p>There is no record in this file.</p>"
-    body = (f'<header><h1>{esc(name)}</h1><p class="sum">{summary(known)}</p></header><main>{missing_box(known)}{notes(known, skipped)}'
+    body = (f'<header><h1>{esc(name)}</h1><p class="sum">{summary(known)}</p></header><main>{missing_box(known, skipped)}{notes(known, skipped)}'
             f'<section class="time" aria-labelledby="chart-title"><h2 id="chart-title">Timeline</h2>{legend()}{drawn}</section>'
-            f'<section aria-labelledby="table-title"><h2 id="table-title">Records and lines</h2><div class="wide" tabindex="0" role="region" aria-label="Table of records">{table(known, skipped)}</div></section></main>'
+            f'<section aria-labelledby="table-title"><h2 id="table-title">Records and lines</h2>'
+            f'<div class="wide" tabindex="0" role="region" aria-label="Table of records">{table(known, skipped)}</div></section></main>'
             f'<footer>Made by tools/timeline.py from the event file and drive’s lines.</footer>')
     style, script = (HERE / "page.css").read_text(), (HERE / "page.js").read_text()
     return (f'<!doctype html>\n<html lang="en"><head><meta charset="utf-8"><meta name="viewport" content="width=device-width, initial-scale=1">'

@@ -59,9 +59,9 @@ def read(path):
     found = []
     for number, line in enumerate(data.decode().splitlines(), 1):
         note = line.partition("#")[2].strip()
-        made = list(texts.records(line, f"{path}, line {number}"))
-        for encoded, answer in made:
-            found.append(Record(texts.one_text(encoded, 0)[0], encoded, answer, note))
+        for encoded, answer in texts.records(line, f"{path}, line {number}"):
+            repeated = bool(found) and found[-1].data is encoded
+            found.append(Record(found[-1].text if repeated else texts.one_text(encoded, 0)[0], encoded, answer, note))
     return found
 
 
@@ -129,24 +129,36 @@ def same(one, two):
 
 def states(program, found, drawn):
     """For each column, the objects whose state it changed, as drive shows them: a list of {object: state}."""
-    parts, asked, made = [], [], 0
-    for column in drawn:
-        parts += [record.data for record in found[column.first - 1:column.last]]
-        shown = []
-        if column.line and column.line.startswith("made "):
-            shown, made = [made], made + 1
-        elif column.line and column.refused is None and column.event.split()[0] in CHANGING:
-            shown = range(made)
-        parts += [texts.record(f"show {number}") for number in shown]
-        asked.append((column.last - column.first + 1, shown))
-    lines, at, known, changed = ask(program, parts), 0, {}, []
+    shows, asked, made = [texts.record(f"show {number}") for number in range(256)], [], 0
+    with tempfile.TemporaryFile() as copy:
+        for column in drawn:
+            copy.writelines(record.data for record in found[column.first - 1:column.last])
+            shown = range(0)
+            if column.line and column.line.startswith("made "):
+                shown, made = range(made, made + 1), made + 1
+            elif column.line and column.refused is None and column.event.split()[0] in CHANGING:
+                shown = range(made)
+            copy.writelines(shows[shown.start:shown.stop])
+            asked.append((column.last - column.first + 1, shown))
+        copy.seek(0)
+        with subprocess.Popen([str(program)], stdin=copy, stdout=subprocess.PIPE) as run:
+            changed = list(changes(run.stdout, asked))
+            run.stdout.read()
+    if run.returncode:
+        sys.exit(f"timeline: drive ended with {run.returncode}")
+    return changed
+
+
+def changes(lines, asked):
+    """The shows' lines, column by column: which objects have another state than before. A line is `NUMBER shows STATE`."""
+    known = {}
     for size, shown in asked:
-        at += size
+        for _ in range(size):
+            next(lines, None)
         new = {}
         for number in shown:
-            state = lines[at].partition(" ")[2]
+            state = next(lines).split(b" ", 2)[2]
             if known.get(number) != state:
-                known[number] = new[number] = state
-            at += 1
-        changed.append(new)
-    return changed
+                known[number] = state
+                new[number] = state.decode().strip()
+        yield new

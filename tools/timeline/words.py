@@ -78,6 +78,16 @@ def line_words(line):
     return control_words(words) + steps
 
 
+def shown(state):
+    """An object's state as drive shows it, in words."""
+    sort, word, *rest = state.split()
+    said = {"coroutine": f"coroutine of function {rest[0] if rest else ''}: {word}", "external": f"call: {word} {value(' '.join(rest))}".strip()}
+    if sort in said:
+        return said[sort]
+    held = series(value(place) for place in model.places(state))
+    return f"gather: {word}" + (f" with {' '.join(rest)}" if word == "failed" else f"; its places: {held}" if held else "")
+
+
 def control_words(words):
     """The answer without its steps."""
     word, rest = words[0], words[1:]
@@ -94,8 +104,10 @@ def control_words(words):
         return f"Refused with {rest[0]}: {REFUSALS[int(rest[0])]}. Nothing has changed."
     if word == "finished":
         return f"Main has ended, and the session with it: {'error ' if rest[0] == 'error' else ''}{value(' '.join(rest[rest[0] == 'error':]))}."
+    if word == "shows":
+        return f"It is a {shown(' '.join(rest))}."
     return {"made": "It is object {}.", "call": "It is call {}.", "stalled": "Nothing is ready and no call is pending: the session is stalled.",
-            "done": "Done.", "eager": "The answer is {}.", "shows": "It is: {}."}[word].format(" ".join(rest))
+            "done": "Done.", "eager": "The answer is {}."}[word].format(" ".join(rest))
 
 
 # ---- what is missing
