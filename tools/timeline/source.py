@@ -56,10 +56,12 @@ def read(path):
     data = pathlib.Path(path).read_bytes()
     if data.startswith(texts.MARK):
         return read_bytes(data)
-    found = []
-    for number, line in enumerate(data.decode().splitlines(), 1):
+    found, text = [], data.decode()
+    for _ in texts.records(text, path):
+        pass  # it stops with the line's number where a line is no record
+    for line in text.splitlines():
         note = line.partition("#")[2].strip()
-        for encoded, answer in texts.records(line, f"{path}, line {number}"):
+        for encoded, answer in texts.records(line, path):
             repeated = bool(found) and found[-1].data is encoded
             found.append(Record(found[-1].text if repeated else texts.one_text(encoded, 0)[0], encoded, answer, note))
     return found
