@@ -150,7 +150,7 @@ def waiting(known):
         text = f"{capital(series(task_name(task) for task in ready))} can go on as soon as the host resumes."
         return "A resume", text + (f" No reply yet: {series(left)}." if left else ""), missing_calls(known, left)
     if not left:
-        text = f"Since record {number} nothing is ready and no call is pending: no reply can wake a task. " + " ".join(stuck(known))
+        text = f"By record {number} nothing is ready and no call is pending: no reply can wake a task. " + " ".join(stuck(known))
         return "Nothing that could come: the session is stuck", text, []
     head = f"{'The reply to call' if len(left) == 1 else 'The replies to calls'} {series(left)}"
     return head, f"The session waits since record {since(known, at)}; the last wait (record {number}) names {amount(len(named), 'call')}.", missing_calls(known, left)
