@@ -52,7 +52,7 @@
 //!
 //! # Threads and stack
 //!
-//! A session is [`Send`] and [`Sync`]; one thread at a time changes it. 512 KB of stack are enough for any event
+//! A session is [`Send`] and [`Sync`]; one thread at a time changes it. 256 KB of stack are enough for any event
 //! (docs/HOST.md, "Stack"); a Rust thread has 2 MB where nothing else is said.
 //!
 //! ```

@@ -1,18 +1,18 @@
 //! The stored cases through the crate: line for line, from snapshots, from damaged snapshots, on a small stack.
 mod common;
 
-use common::{cases, events, replay, session_after, Case};
+use common::{cases, events, hold, replay, session_after, Case};
 use sozgarru::{CallId, Event, HeapId, NotASession, Outcome, Refusal, Session, TaskId, Value};
 use std::thread::Builder;
 
 /// What docs/HOST.md says an event needs at most.
-const STACK: usize = 512 * 1024;
+const STACK: usize = 256 * 1024;
 
 #[test]
 fn every_case_line_for_line() {
     for case in cases() {
         for checked in [false, true] {
-            replay(&mut Session::new(), checked, &case, 0);
+            replay(&mut Session::new(), checked, &case, 0..case.lines.len());
         }
     }
 }
@@ -22,7 +22,7 @@ fn every_case_on_the_documented_stack() {
     let run = || {
         for case in cases() {
             for checked in [false, true] {
-                replay(&mut Session::new(), checked, &case, 0);
+                replay(&mut Session::new(), checked, &case, 0..case.lines.len());
             }
             let session = session_after(&case, case.lines.len());
             let again = Session::restore(&session.clone().snapshot()).expect("a snapshot");
@@ -32,19 +32,21 @@ fn every_case_on_the_documented_stack() {
     Builder::new().stack_size(STACK).spawn(run).expect("a thread").join().expect("no panic");
 }
 
-/// A session restored at a cut goes on as the one that was never stored. Of long cases some 40 cuts.
+/// A session restored at a cut goes on as the one that was never stored. Of a long case some 40 cuts, each with the 200
+/// records behind it.
 #[test]
 fn snapshots_at_every_cut() {
     for case in cases() {
         let every = case.lines.len() / 40 + 1;
         let mut session = Session::new();
-        for (cut, event) in events(&case.records).iter().enumerate() {
+        let events = events(&case.records);
+        for (cut, event) in events.iter().enumerate() {
             if cut % every == 0 {
                 let bytes = session.snapshot();
                 let mut again =
                     Session::restore(&bytes).unwrap_or_else(|error| panic!("{}, record {cut}: {error}", case.name));
                 assert!(again.snapshot() == bytes);
-                replay(&mut again, false, &case, cut);
+                hold(&mut again, false, &case, cut, &events[cut..events.len().min(cut + 200)]);
             }
             if let Some(event) = event {
                 let _ = session.dispatch(event);
@@ -151,7 +153,7 @@ fn damaged_snapshots_are_refused_or_sound() {
     for case in cases() {
         let snapshot = session_after(&case, case.lines.len()).snapshot();
         let in_use = bytes_in_use(&snapshot);
-        for turn in 0..400 {
+        for turn in 0..100 {
             let mut bytes = snapshot.clone();
             for _ in 0..=turn % 3 {
                 let anywhere = turn % 10 == 9;

@@ -1,6 +1,7 @@
 //! Records and their lines, as the tests replay them.
 #![allow(dead_code)] // each test file uses a part of it
 use sozgarru::{Event, Line, Session};
+use std::ops::Range;
 use std::path::PathBuf;
 use std::{env, fs};
 
@@ -62,13 +63,18 @@ pub fn line(session: &mut Session, checked: bool, event: Option<&Event<'_>>) -> 
     }
 }
 
-/// Holds the lines of a session to those of the case from record `from` on.
-pub fn replay(session: &mut Session, checked: bool, case: &Case, from: usize) {
+/// Holds the lines of a session to those of a part of the case.
+pub fn replay(session: &mut Session, checked: bool, case: &Case, part: Range<usize>) {
     let events = events(&case.records);
     assert_eq!(events.len(), case.lines.len(), "{}: a line for each record", case.name);
-    for (number, (event, wanted)) in events.iter().zip(&case.lines).enumerate().skip(from) {
+    hold(session, checked, case, part.start, &events[part]);
+}
+
+/// Holds the lines of a session to those of the case, from record `first` on, for these events.
+pub fn hold(session: &mut Session, checked: bool, case: &Case, first: usize, events: &[Option<Event<'_>>]) {
+    for (number, event) in (first..).zip(events) {
         let line = line(session, checked, event.as_ref());
-        if let Some(wanted) = wanted {
+        if let Some(wanted) = &case.lines[number] {
             assert_eq!(line, *wanted, "{}, record {}", case.name, number + 1);
         }
     }
