@@ -416,7 +416,10 @@ class Session:
 
     def results(self, replies):
         """The host answers calls: pairs of a call and its value, Error("host", n), Error("not-found"), Error("module-file") or FUTURE."""
-        data = b"".join(_result_bytes(call, outcome) for call, outcome in replies)
+        return self.result_bytes(b"".join(_result_bytes(call, outcome) for call, outcome in replies))
+
+    def result_bytes(self, data):
+        """The same from document 01's bytes, 14 for each result; a rest of 1 to 13 bytes is not read."""
         return self._event("results", (ctypes.c_uint8 * len(data))(*data), len(data))
 
     def result(self, call, outcome):

@@ -145,6 +145,15 @@ fn try_damaged(case: &Case, bytes: &[u8], tries: &[Event<'_>]) -> bool {
     true
 }
 
+/// How many damages each case gets: fewer in a build that is not optimised, which is slow at it.
+fn turns() -> usize {
+    if cfg!(debug_assertions) {
+        40
+    } else {
+        1000
+    }
+}
+
 /// One bit, then up to three, of the last state of every case.
 #[test]
 fn damaged_snapshots_are_refused_or_sound() {
@@ -153,7 +162,7 @@ fn damaged_snapshots_are_refused_or_sound() {
     for case in cases() {
         let snapshot = session_after(&case, case.lines.len()).snapshot();
         let in_use = bytes_in_use(&snapshot);
-        for turn in 0..100 {
+        for turn in 0..turns() {
             let mut bytes = snapshot.clone();
             for _ in 0..=turn % 3 {
                 let anywhere = turn % 10 == 9;
