@@ -1,5 +1,5 @@
 #!/usr/bin/env python3
-"""The Rust crate beside the published Rust, each event at 16 and at 256 objects, with and without the check of the store: one command, one table.
+"""The Rust crate beside the published Rust, each event at 16 and at 256 objects, with and without the check of the store: one command.
 
     python3 bench/host.py [--quick]      --quick leaves out the times of long files
 
@@ -90,12 +90,12 @@ class Programs:
         out = subprocess.run([self.measure, *map(str, files)], capture_output=True, check=True).stdout
         return map(int, out.split())
 
-    def event(self, name, objects, before, measured):
+    def event(self, before, measured):
+        """ns, and instructions, of one event"""
         self.same(before + measured)
         nothing, all_of_it = self.instructions(before), self.instructions(before + measured)
         crate, checked, rust = ((all_of_it[n] - nothing[n]) / len(measured) for n in ("crate", "checked", "rust"))
-        times = " | ".join(f"{time:,}" for time in self.nanoseconds(before, measured))
-        print(f"| {name} | {objects} | {times} | {crate:,.0f} | {checked:,.0f} | {rust:,.0f} | {crate / rust:.2f} |", flush=True)
+        return list(self.nanoseconds(before, measured)), [f"{crate:,.0f}", f"{checked:,.0f}", f"{rust:,.0f}", f"{crate / rust:.2f}"]
 
     def whole(self, name, texts):
         self.same(texts)
@@ -114,10 +114,17 @@ class Programs:
 def main(words):
     with tempfile.TemporaryDirectory() as room:
         programs = Programs(room)
-        print("| event | objects | ns | ns, checked | instructions | checked | the Rust | ratio |\n|---|---|---|---|---|---|---|---|")
+        found = {}
         for objects in (16, 256):
             for name, before, measured in rows(objects):
-                programs.event(name, objects, before, measured)
+                found.setdefault(name, []).append(programs.event(before, measured))
+        print("| ns, event to answer | 16 objects | checked | 256 objects | checked |\n|---|---|---|---|---|")
+        for name, figures in found.items():
+            print(f"| {name} | " + " | ".join(f"{time:,}" for times, _ in figures for time in times) + " |")
+        sizes = " | ".join(f"{objects} objects | checked | the Rust | ratio" for objects in (16, 256))
+        print(f"\n| instructions, record to line | {sizes} |\n|---|---|---|---|---|---|---|---|---|")
+        for name, figures in found.items():
+            print(f"| {name} | " + " | ".join(count for _, counts in figures for count in counts) + " |", flush=True)
         print("\n| session, instructions | the crate | checked | the Rust | ratio | checked |\n|---|---|---|---|---|---|")
         programs.whole(f"a member's projection, {len(PROJECTION)} records", PROJECTION)
         for name in ("small", "full"):

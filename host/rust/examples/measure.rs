@@ -62,7 +62,7 @@ fn measure_events(setup: &[u8], measured: &[u8]) {
     println!("{} {}", run(false), run(true));
 }
 
-/// A member's projection: three tasks, a call each, answered last call first. A beginning and 21 events.
+/// A member's projection: three tasks, a call each, answered last call first. A beginning and 25 events.
 fn projection() -> Result<Session, Refusal> {
     let mut s = Session::new();
     let items = [s.coroutine(1)?, s.coroutine(2)?, s.coroutine(3)?];

@@ -3,7 +3,7 @@
 //!
 //!     stack KB [--checked] < FILE.bin
 //!
-//! The system gives a thread 16 KB at least, whatever is asked.
+//! A thread gets some 24 KB at least, whatever is asked.
 use sozgarru::{Event, Session};
 use std::io::Read;
 use std::thread::Builder;

@@ -208,8 +208,8 @@ impl Display for TaskEnd {
 pub enum Resumed {
     /// The session goes on, or waits again.
     Control(Control),
-    /// Nothing is ready and no call is pending: only a cancel brings this about, and no event goes on from here but
-    /// making an end of it.
+    /// Nothing is ready and no call is pending: what main waits for will not come, as after a cancel of a task that its
+    /// gather needs.
     Stalled,
 }
 

@@ -63,7 +63,7 @@ impl Desk {
 pub enum End {
     /// Main returned or raised.
     Finished(Result<Value, Error>),
-    /// Nothing is ready and no call is pending: a cancelled branch leaves its gather open for ever.
+    /// Nothing is ready and no call is pending: what main waits for will not come.
     Stalled,
     /// Nobody answers any more.
     Waiting(Vec<CallId>),
