@@ -85,7 +85,8 @@ same() {
 }
 
 quietly crate test --release || fail "a test of the crate fails (optimised)"
-told "cargo test --release: $(grep -c . <(ls "$room"/cases/*.bin)) stored cases, doc tests"
+cases=("$room"/cases/*.bin)
+told "cargo test --release: ${#cases[@]} stored cases, doc tests"
 quietly crate test --tests stack || fail "a case needs more stack than docs/HOST.md says (not optimised)"
 told "cargo test: the documented stack, not optimised"
 

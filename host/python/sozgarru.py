@@ -109,7 +109,8 @@ def _library():
 
 
 def _load():
-    library = ctypes.CDLL(_library())
+    # a call keeps Python's lock: it takes less than a microsecond, and no two threads change one session at once
+    library = ctypes.PyDLL(_library())
     for name, (gives, takes) in declarations.FUNCTIONS.items():
         function = getattr(library, name)
         function.restype, function.argtypes = gives, takes

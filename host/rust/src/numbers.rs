@@ -5,13 +5,10 @@
 use crate::raw::Numbers;
 use crate::{Answer, Awaited, CallId, Control, CoroutineState, Error, HeapId, How, Refusal, Shown, TaskId, Value};
 
-/// The answer that the numbers are. `calls` is the list as the event left it; `place` reads one place of the gather
-/// that is shown.
+/// The answer that the numbers are. `calls` is the list as the event left it; `place` reads one place of the gather that
+/// is shown.
 pub(crate) fn answer(numbers: &Numbers, calls: &[u64], place: impl Fn(u16) -> Numbers) -> Result<Answer, Refusal> {
-    if numbers.refusal != 0 {
-        return Err(refusal(numbers.refusal));
-    }
-    let mut values = Values::of(numbers);
+    let mut values = accepted(numbers)?;
     Ok(match numbers.word {
         1 => Answer::Made(values.object()),
         2 => Answer::Call(CallId::new(values.short())),
@@ -26,10 +23,18 @@ pub(crate) fn answer(numbers: &Numbers, calls: &[u64], place: impl Fn(u16) -> Nu
         5 => Answer::Done,
         6 => Answer::Stalled,
         7 => Answer::Finished(values.finished()),
-        8 => Answer::Eager(values.next() == 1),
+        8 => Answer::Eager(values.yes()),
         10 => Answer::Shows(values.shown(place)),
         word => impossible("an answer's word", word),
     })
+}
+
+/// The values of an accepted answer.
+fn accepted(numbers: &Numbers) -> Result<Values<'_>, Refusal> {
+    match numbers.refusal {
+        0 => Ok(Values::of(numbers)),
+        number => Err(refusal(number)),
+    }
 }
 
 fn refusal(number: u64) -> Refusal {
@@ -57,6 +62,14 @@ impl<'a> Values<'a> {
         let Some((first, rest)) = self.rest.split_first() else { impossible("enough values", 0) };
         self.rest = rest;
         *first
+    }
+
+    fn yes(&mut self) -> bool {
+        match self.next() {
+            0 => false,
+            1 => true,
+            number => impossible("yes or no", number),
+        }
     }
 
     fn short(&mut self) -> u16 {

@@ -63,7 +63,7 @@ impl SoundMemory {
         &self.0
     }
 
-    /// An event. (A read goes by `read`.)
+    /// An event or a read.
     pub(crate) fn event(&mut self, check: bool, event: &Event<'_>) -> Numbers {
         let m = &mut *self.0;
         // SAFETY: six disjoint pieces of memory of the lengths that the functions take; a slice goes as its pointer and
@@ -105,31 +105,30 @@ impl SoundMemory {
                 }
                 Event::Resume => lend!(check, m, sozgarru_resume, sozgarru_resume_unchecked),
                 Event::Cancel(task) => lend!(check, m, sozgarru_cancel, sozgarru_cancel_unchecked, task.number()),
-                Event::Show(_) | Event::Eager => self.read(check, event),
+                Event::Show(object) => self.show(check, *object),
+                Event::Eager => self.eager(check),
             }
         }
     }
 
-    /// A read.
-    ///
-    /// # Panics
-    /// At an event, which needs the memory to itself.
-    pub(crate) fn read(&self, check: bool, event: &Event<'_>) -> Numbers {
+    /// What an object is and has.
+    pub(crate) fn show(&self, check: bool, object: HeapId) -> Numbers {
         let m = &*self.0;
         // SAFETY: as for `event`, and nothing is written.
-        unsafe {
-            match event {
-                Event::Show(object) => read!(check, m, sozgarru_show, sozgarru_show_unchecked, object.number()),
-                Event::Eager => read!(check, m, sozgarru_eager, sozgarru_eager_unchecked),
-                event => unreachable!("{event:?} is no read"),
-            }
-        }
+        unsafe { read!(check, m, sozgarru_show, sozgarru_show_unchecked, object.number()) }
+    }
+
+    /// May a call be answered at once?
+    pub(crate) fn eager(&self, check: bool) -> Numbers {
+        let m = &*self.0;
+        // SAFETY: as for `show`.
+        unsafe { read!(check, m, sozgarru_eager, sozgarru_eager_unchecked) }
     }
 
     /// A place of an awaited or completed gather.
     pub(crate) fn place(&self, gather: HeapId, place: u16) -> Numbers {
         let m = &*self.0;
-        // SAFETY: as for `read`.
+        // SAFETY: as for `show`.
         unsafe { read!(false, m, sozgarru_place, sozgarru_place_unchecked, gather.number(), place) }
     }
 }

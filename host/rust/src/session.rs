@@ -1,5 +1,5 @@
 //! A session: one method an event.
-use crate::raw::SoundMemory;
+use crate::raw::{Numbers, SoundMemory};
 use crate::{
     numbers, Answer, Awaited, CallId, Event, HeapId, Outcome, Refusal, Resumed, Shown, TaskEnd, TaskId, Value,
 };
@@ -78,22 +78,19 @@ impl Session {
     }
 
     fn go(&mut self, check: bool, event: &Event<'_>) -> Result<Answer, Refusal> {
-        if event.is_read() {
-            return self.read(check, event);
-        }
-        if let Some(trace) = &mut self.trace {
+        if let Some(trace) = self.trace.as_mut().filter(|_| !event.is_read()) {
             // an event that has no record is refused: without it the records leave the same session
             let _ = event.write_record(trace);
         }
         let given = self.memory.event(check, event);
-        numbers::answer(&given, &self.memory.memory().calls, |_| given)
+        self.answer(&given, event)
     }
 
-    fn read(&self, check: bool, event: &Event<'_>) -> Result<Answer, Refusal> {
-        let given = self.memory.read(check, event);
-        numbers::answer(&given, &[], |place| match event {
+    /// The numbers that an event gave, as its answer.
+    fn answer(&self, given: &Numbers, event: &Event<'_>) -> Result<Answer, Refusal> {
+        numbers::answer(given, &self.memory.memory().calls, |place| match event {
             Event::Show(gather) => self.memory.place(*gather, place),
-            _ => given,
+            other => unreachable!("{other:?} shows nothing"),
         })
     }
 
@@ -237,7 +234,7 @@ impl Session {
     /// [`Refusal::Unknown`], where it is not made.
     pub fn show(&self, object: HeapId) -> Result<Shown, Refusal> {
         let event = Event::Show(object);
-        match self.read(false, &event)? {
+        match self.answer(&self.memory.show(false, object), &event)? {
             Answer::Shows(shown) => Ok(shown),
             other => unexpected(&event, &other),
         }
@@ -245,7 +242,7 @@ impl Session {
 
     /// May a call be answered at once: is no task ready and no call pending?
     pub fn eager(&self) -> bool {
-        self.read(false, &Event::Eager) == Ok(Answer::Eager(true))
+        self.answer(&self.memory.eager(false), &Event::Eager) == Ok(Answer::Eager(true))
     }
 }
 
