@@ -58,6 +58,14 @@ impl SoundMemory {
         sound.then_some(SoundMemory(memory))
     }
 
+    /// Memory that is not sound, to see that it is refused: only what checks may be called on it.
+    #[cfg(test)]
+    pub(crate) fn unsound() -> SoundMemory {
+        let mut memory = SoundMemory::begin();
+        memory.0.objects[0] = 300; // so many objects are never made
+        memory
+    }
+
     /// What it holds, to read.
     pub(crate) fn memory(&self) -> &Memory {
         &self.0

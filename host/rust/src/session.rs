@@ -262,3 +262,32 @@ impl fmt::Debug for Session {
 fn unexpected(event: &Event<'_>, answer: &Answer) -> ! {
     panic!("{event:?} answered {answer}: the linked libsozgarru.a is not the one of this crate's declarations")
 }
+
+#[cfg(test)]
+mod tests {
+    use super::*;
+
+    /// What `dispatch_checked` calls does check: no session of a host can show it, since its memory is sound.
+    #[test]
+    fn every_checked_event_refuses_memory_that_is_not_sound() {
+        let values = [Value::Plain(1), Value::List(HeapId::new(0))];
+        let mut events = vec![Event::Coroutine(1), Event::Call, Event::Pending { call: 0, stored: None }];
+        events.extend(values.map(|value| Event::Pending { call: 0, stored: Some(value) }));
+        events.extend(values.map(Event::Settled));
+        events.extend(values.map(Event::Complete));
+        events.extend([
+            Event::Gather(Cow::Borrowed(&[])),
+            Event::Await(HeapId::new(0)),
+            Event::Fail(1),
+            Event::results(&[]),
+        ]);
+        events.extend([Event::Resume, Event::Cancel(TaskId::new(1)), Event::Show(HeapId::new(0)), Event::Eager]);
+        let mut session = Session::of(SoundMemory::unsound());
+        let before = session.snapshot();
+        for event in events {
+            assert_eq!(session.dispatch_checked(&event), Err(Refusal::Unsound), "{event:?}");
+        }
+        assert!(session.snapshot() == before, "a refused event changes nothing");
+        assert!(Session::restore(&before).is_err());
+    }
+}

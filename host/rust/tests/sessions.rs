@@ -2,8 +2,8 @@
 mod common;
 
 use sozgarru::{
-    Answer, Awaited, CallId, Control, Error, Event, HeapId, How, Outcome, Refusal, Resumed, Session, Shown, TaskEnd,
-    TaskId, Value,
+    Answer, Awaited, CallId, Control, CoroutineState, Error, Event, HeapId, How, Outcome, Refusal, Resumed, Session,
+    Shown, TaskEnd, TaskId, Value,
 };
 use std::thread;
 
@@ -183,6 +183,39 @@ fn values_and_results_of_every_sort() -> Result<(), Refusal> {
         assert_eq!(s.show(future)?, Shown::ExternalFailed(error));
     }
     assert_eq!(s.complete(list)?, TaskEnd::Finished(Ok(list)));
+    Ok(())
+}
+
+/// Numbers go in and come back whole.
+#[test]
+fn the_greatest_numbers() -> Result<(), Refusal> {
+    let mut s = Session::new();
+    let coroutine = s.coroutine(u32::MAX)?;
+    let state = CoroutineState::New;
+    assert_eq!(s.show(coroutine)?, Shown::Coroutine { state, function: u32::MAX });
+    let gather = s.gather(&[coroutine])?;
+    let how = How::Start { coroutine, function: u32::MAX };
+    assert_eq!(s.await_object(gather)?.control, Control::Runs { task: TaskId::new(1), how });
+    let how = How::Raised(Error::Script(u32::MAX));
+    assert_eq!(s.fail(u32::MAX)?, TaskEnd::Control(Control::Runs { task: TaskId::MAIN, how }));
+    assert_eq!(s.show(gather)?, Shown::GatherFailed(Error::Script(u32::MAX)));
+    assert_eq!(s.complete(Value::Plain(u64::MAX))?, TaskEnd::Finished(Ok(Value::Plain(u64::MAX))));
+    Ok(())
+}
+
+/// A record has 8 bytes for a list's gather: one above 16 bits is no gather, and not the one of its lower bits.
+#[test]
+fn a_list_above_every_gather_is_refused() -> Result<(), Refusal> {
+    let mut s = Session::new();
+    let gather = s.gather(&[])?;
+    s.await_object(gather)?;
+    for number in [65_536_u64, 1 << 32, u64::MAX - 65_535] {
+        let record = [&[0xC3, 0x59, 7, 1][..], &number.to_le_bytes()].concat();
+        let (event, length) = Event::read_record(&record).expect("a record");
+        assert_eq!(length, 12);
+        assert_eq!(s.dispatch(&event), Err(Refusal::Unknown));
+    }
+    assert_eq!(s.complete(Value::List(gather))?, TaskEnd::Finished(Ok(Value::List(gather))));
     Ok(())
 }
 
