@@ -30,7 +30,7 @@ use Rattle.drive_text.specs.Out.{Out, Wrote}
 use Rattle.drive_text.specs.OutLaws.{at-most}
 use Rattle.drive_shows.specs.Shows.{shown-count, reading-count}
 use Rattle.drive_lines.specs.Lines.{line, line-limit}
-use Rattle.drive_shows.specs.PlaceLaws.{shown-length}
+use Rattle.step_read.specs.ReadLaws.{shown-length}
 
 -- ---- events
 

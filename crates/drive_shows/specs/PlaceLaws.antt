@@ -31,12 +31,6 @@ places-more ps f m (suc n) i =
     ap (λ (xs : List (Option Value)). place-shown ps f m i ∷ xs)
     (places-more ps f m n (i + 1) ∙ ap (λ (j : ℕ). places-from ps f m (i + 1) n ++ (place-shown ps f m j ∷ [])) e)
 
--- as many as asked for
-pub shown-length : (ps : List ℕ) (f m n i : ℕ) → length (places-from ps f m i n) ≡ n
-unfolding places-from
-shown-length ps f m zero i = refl
-shown-length ps f m (suc n) i = ap suc (shown-length ps f m n (i + 1))
-
 places-append : (xs ys : List (Option Value)) → places-text (xs ++ ys) ≡ places-text xs ++ places-text ys
 unfolding places-text
 places-append [] ys = refl

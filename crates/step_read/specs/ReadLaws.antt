@@ -25,6 +25,12 @@ use Rattle.step_checks.specs.Lent.{are-slices}
 use Rattle.step_checks.specs.LentLaws.{step-checked, step-unsound}
 use Rattle.step_read.specs.Reads.{places-from}
 
+-- as many as asked for
+pub shown-length : (ps : List ℕ) (f m n i : ℕ) → length (places-from ps f m i n) ≡ n
+unfolding places-from
+shown-length ps f m zero i = refl
+shown-length ps f m (suc n) i = ap suc (shown-length ps f m n (i + 1))
+
 -- the places that the machine shows
 pub shows-places : (s : Store) (f m : ℕ) (n i : ℕ) → places-from (s .places) f m i n ≡ show-places s f m i n
 unfolding places-from show-places place

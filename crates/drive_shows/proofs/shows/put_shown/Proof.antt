@@ -2,7 +2,7 @@ use native.Mathlib.Omega.{arith}
 use Rattle.drive_text.specs.OutLaws.{at-most}
 use Rattle.drive_lines.specs.Lines.{shown-text}
 use Rattle.drive_shows.specs.Shows.{shown-count}
-use Rattle.drive_shows.specs.PlaceLaws.{shown-length}
+use Rattle.step_read.specs.ReadLaws.{shown-length}
 use borrow.Author.Needs.{needs}
 use Rattle.drive_shows.proofs.shows.put_shown.Statement.{statement}
 use Rattle.drive_shows.proofs.shows.put_shown.Tie as tie

@@ -1,0 +1,45 @@
+#!/usr/bin/env python3
+"""One self-contained page of a session: tasks, calls and gathers over its records, refusals, and what is missing at its end.
+
+    timeline.py FILE [-o OUT.html] [--drive PATH] [--last N]
+
+FILE is an event file: the text form of tools/records.py, or records as bytes (they begin with the mark C3 59). The lines and the objects'
+states come from drive; where the file names another answer, the page says so. Without -o the page is FILE's name with .html, in the
+present folder. docs/TIMELINE.md tells how to read it.
+"""
+import argparse
+import pathlib
+import sys
+
+from timeline import model, page, source
+
+LARGE = """Large files: drive is asked for every object's state behind every record that can change one, at most 256 shows each (measured: a page
+of 10,000 such records with 256 objects in 2.5 s and 72 MB). Ten or more equal records that change nothing are one column. Only the last N
+columns are drawn and listed; those before them are one row of the table, and what they did is known. On paper there is no drawing of more
+than 250 columns, only the table."""
+
+
+def make(path, program, last):
+    """The page of a file, as text."""
+    found = source.read(path)
+    lines = source.ask(program, [record.data for record in found])
+    columns = source.columns(found, lines)
+    known = model.Model(columns, source.states(program, found, columns))
+    return page.page(known, pathlib.Path(path).name, last)
+
+
+def main(arguments):
+    parser = argparse.ArgumentParser(description=__doc__, epilog=LARGE, formatter_class=argparse.RawDescriptionHelpFormatter)
+    parser.add_argument("file")
+    parser.add_argument("-o", "--out", help="where the page goes")
+    parser.add_argument("--drive", help="the program drive; without it tools/quickbuild.sh builds one, in seconds")
+    parser.add_argument("--last", type=int, default=2000, metavar="N", help="draw the last N columns (2000)")
+    given = parser.parse_args(arguments)
+    program, room = (given.drive, None) if given.drive else source.build()
+    out = pathlib.Path(given.out or pathlib.Path(given.file).with_suffix(".html").name)
+    out.write_text(make(given.file, program, max(1, given.last)), encoding="utf-8")
+    print(out)
+
+
+if __name__ == "__main__":
+    sys.exit(main(sys.argv[1:]))
