@@ -109,7 +109,9 @@ programs=$CARGO_TARGET_DIR/release/examples
 for example in projection late_replies cancel eight_members; do
     same host/stdout/$example.txt "$programs/$example"
 done
-told "the examples in Rust"
+"$programs/projection" "$room/trace" >/dev/null && "$programs/records" <"$room/trace" >"$room/lines" || fail "the projection writes no trace"
+[ "$(tail -n 1 "$room/lines")" = "24 finished plain 1678950" ] || fail "the projection's trace does not replay: $(tail -n 1 "$room/lines")"
+told "the examples in Rust, and a trace replayed"
 
 if command -v gcc >/dev/null; then
     gcc -std=c11 -Wall -Wextra -Werror -o "$room/worked" host/c/worked.c "$archive" || fail "host/c/worked.c does not compile"

@@ -1,10 +1,10 @@
 //! A branch hangs: another office does not answer. The lines say which call is missing and which place is open; the
 //! operator cancels the branch and takes the values that are there.
 //!
-//!     cargo run --example cancel
+//!     cargo run --example cancel [TRACE.bin]
 mod common;
 
-use common::{money, plain, run, Desk, End, Function, Input, Turn};
+use common::{money, plain, run, write_trace, Desk, End, Function, Input, Turn};
 use sozgarru::{CallId, HeapId, Outcome, Refusal, Resumed, Shown, TaskId, Value};
 
 const OWN_PENSION: u32 = 1;
@@ -64,5 +64,7 @@ fn main() -> Result<(), Refusal> {
     desk.session.result(CallId::new(0), Outcome::Return(Value::Plain(124_000)))?;
     assert_eq!(desk.session.resume()?, Resumed::Stalled);
     println!("nothing is left to run; the statement has what is there:");
-    print_places(&desk, gather)
+    print_places(&desk, gather)?;
+    write_trace(&desk.session);
+    Ok(())
 }

@@ -1,10 +1,10 @@
 //! A member's projection: salary, accrual rate and annuity factor are gathered, each in its own place, although the
 //! services answer last call first. Prints the member's statement.
 //!
-//!     cargo run --example projection
+//!     cargo run --example projection [TRACE.bin]
 mod common;
 
-use common::{capital, factor, money, pension, plain, rate, run, Desk, End, Function, Input, Turn};
+use common::{capital, factor, money, pension, plain, rate, run, write_trace, Desk, End, Function, Input, Turn};
 use sozgarru::{CallId, Outcome, Refusal, Shown, Value};
 
 /// What is gathered, in the script's order; the function that fills a place has the place's number.
@@ -70,5 +70,6 @@ fn main() -> Result<(), Refusal> {
         End::Finished(Ok(value)) => println!("the session finished with {value}"),
         end => println!("no projection: {end:?}"),
     }
+    write_trace(&desk.session);
     Ok(())
 }

@@ -7,6 +7,7 @@
 
 use sozgarru::{CallId, Control, Error, HeapId, How, Outcome, Refusal, Resumed, Session, TaskEnd, TaskId, Value};
 use std::collections::HashMap;
+use std::{env, fs};
 
 /// What a function goes on with.
 #[derive(Clone, Copy, Debug)]
@@ -41,7 +42,7 @@ pub struct Desk {
 
 impl Desk {
     pub fn new() -> Desk {
-        Desk { session: Session::new(), asked: Vec::new() }
+        Desk { session: Session::with_trace(), asked: Vec::new() }
     }
 
     /// Asks a service: the future of its answer.
@@ -55,6 +56,14 @@ impl Desk {
     pub fn asked_for(&self, call: CallId) -> &'static str {
         let found = self.asked.iter().find(|(asked, _)| *asked == call);
         found.map_or("unknown", |(_, what)| what)
+    }
+}
+
+/// Writes the session's events to the file that the command line names, if it names one: records that `drive` replays
+/// and that `tools/timeline.py` draws.
+pub fn write_trace(session: &Session) {
+    if let Some(path) = env::args().nth(1) {
+        fs::write(&path, session.trace()).unwrap_or_else(|error| panic!("{path}: {error}"));
     }
 }
 
