@@ -84,6 +84,14 @@ same() {
     }
 }
 
+if command -v gcc >/dev/null; then
+    export SOZGARRU_PYTHON_SNAPSHOT=$room/snapshot
+    PYTHONPATH=host/python python3 -c '
+import sys, sozgarru
+s = sozgarru.Session()
+s.coroutine(7), s.call(), s.pending(0), s.gather(0, 1, 0), s.await_object(2), s.complete(40)
+sys.stdout.buffer.write(s.snapshot())' >"$SOZGARRU_PYTHON_SNAPSHOT"
+fi
 quietly crate test --release || fail "a test of the crate fails (optimised)"
 cases=("$room"/cases/*.bin)
 told "cargo test --release: ${#cases[@]} stored cases, doc tests"

@@ -4,6 +4,7 @@ mod common;
 use common::{cases, events, hold, replay, session_after, Case};
 use sozgarru::{CallId, Event, HeapId, NotASession, Outcome, Refusal, Session, TaskId, Value};
 use std::thread::Builder;
+use std::{env, fs};
 
 /// What docs/HOST.md says an event needs at most.
 const STACK: usize = 256 * 1024;
@@ -53,6 +54,20 @@ fn snapshots_at_every_cut() {
             }
         }
     }
+}
+
+/// A snapshot that Python wrote, at the worked example's wait: `tools/host.sh` names its file.
+#[test]
+fn a_snapshot_of_the_python_side_goes_on() {
+    let Some(path) = env::var_os("SOZGARRU_PYTHON_SNAPSHOT") else {
+        println!("SOZGARRU_PYTHON_SNAPSHOT names no file: nothing is restored");
+        return;
+    };
+    let bytes = fs::read(path).expect("the file");
+    let mut session = Session::restore(&bytes).expect("a snapshot");
+    assert!(session.snapshot() == bytes);
+    session.result(CallId::new(0), Outcome::Return(Value::Plain(5))).expect("the call is pending");
+    assert_eq!(session.resume().expect("the host waits").to_string(), "runs 0 value list 2");
 }
 
 #[test]
