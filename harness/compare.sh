@@ -10,9 +10,10 @@ if [ -z "$drive" ]; then
     drive=$room/drive
     bash tools/quickbuild.sh drive "$drive"
 fi
-(cd harness && cargo build --release --offline --quiet)
+target=$(realpath -m "${CARGO_TARGET_DIR:-harness/target}")
+(cd harness && cargo build --release --offline --quiet --target-dir "$target")
 mkdir "$room/differs"
-if ! harness/target/release/harness compare "$drive" "$seed" "$count" "$room/differs"; then
+if ! "$target/release/harness" compare "$drive" "$seed" "$count" "$room/differs"; then
     for file in "$room"/differs/*.bin; do
         echo "as text:"
         python3 tools/records.py text "$file"

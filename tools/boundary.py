@@ -10,6 +10,7 @@ know. Each event is exported twice: with the check of refusal 2, and with the su
 """
 import os
 import sys
+import textwrap
 
 ROOT = os.path.dirname(os.path.dirname(os.path.abspath(__file__)))
 # the version of the boundary and of the layout (docs/LAYOUT.md): one more at each change that a host has to know of
@@ -157,10 +158,11 @@ def rattle():
 C_ELEMENT = {"u64": "uint64_t", "u32": "uint32_t", "u16": "uint16_t", "u8": "uint8_t", "usize": "size_t"}
 C_HEAD = f"""/* The library for C: the functions that libsozgarru.a has. {MADE}
  *
- * A session's memory is the host's. sozgarru_begin fills it; every event gets it as the last one left it. An answer is a sozgarru_numbers: the number of the
- * refusal (0: accepted), the answer's word (1 made, 2 call, 3 runs, 4 waits, 5 done, 6 stalled, 7 finished, 8 eager, 9 refused, 10 shows), how many values it
- * has, and the values in the order of document 01's line; values behind them are 0. The calls of a wait stand at the front of `calls`.
- * A refused event changes nothing. Stack: docs/HOST.md. Nothing here allocates, prints or keeps a state of its own.
+ * A session's memory is the host's. sozgarru_begin fills it; every event gets it as the last one left it. An answer is a sozgarru_numbers:
+ * the number of the refusal (0: accepted), the answer's word (1 made, 2 call, 3 runs, 4 waits, 5 done, 6 stalled, 7 finished, 8 eager,
+ * 9 refused, 10 shows), how many values it has, and the values in the order of document 01's line; values behind them are 0. The calls of
+ * a wait stand at the front of `calls`. A refused event changes nothing. Stack: docs/HOST.md. Nothing here allocates, prints or keeps a
+ * state of its own.
  */
 #ifndef SOZGARRU_H
 #define SOZGARRU_H
@@ -215,13 +217,26 @@ def c_parameter(name, kind):
     return f"{C_ELEMENT[kind]} {name}"
 
 
+def c_function(gives, name, params):
+    """a declaration: the memory in one line, what an event takes besides in the next"""
+    memory = {n for n, _, _ in MEMORY}
+    lent = ", ".join(c_parameter(n, t) for n, t in params if n in memory)
+    own = ", ".join(c_parameter(n, t) for n, t in params if n not in memory)
+    takes = ",\n    ".join(part for part in (lent, own) if part)
+    return f"{gives} sozgarru_{name}({chr(10) + '    ' if params else ''}{takes or 'void'});\n"
+
+
+def c_comment(lines):
+    """one comment in lines of at most 140 characters"""
+    return "/* " + "\n * ".join(textwrap.wrap(" ".join(lines), 134)) + " */\n"
+
+
 def header():
     fields = "".join(f"    {C_ELEMENT[e]} {n}{f'[{k}]' if k else ''};\n" for n, e, k in MEMORY)
     out = []
     for name, params, result, comment in functions():
         gives = {"Numbers": "sozgarru_numbers", "u64": "uint64_t", "bool": "bool", "": "void"}[result]
-        takes = ", ".join(c_parameter(n, t) for n, t in params) or "void"
-        out.append("\n".join(f"/* {c} */" for c in comment) + f"\n{gives} sozgarru_{name}({takes});\n")
+        out.append(c_comment(comment) + c_function(gives, name, params))
     return C_HEAD + fields + C_MIDDLE + "\n".join(out) + C_FOOT
 
 
@@ -244,7 +259,6 @@ pub(crate) struct Numbers {{
 }}
 
 /// The memory of a session (docs/LAYOUT.md), with the list of calls that a wait writes.
-#[derive(Clone)]
 pub(crate) struct Memory {{
 """
 
@@ -265,7 +279,7 @@ def declarations():
     for name, params, result, comment in functions():
         takes = "".join(f"        {p},\n" for p in rust_parameters(params))
         gives = f" -> {result}" if result else ""
-        doc = "\n".join(f"    /// {c}" for c in comment)
+        doc = "\n".join(f"    /// {line}" for line in textwrap.wrap(" ".join(comment), 112))
         out.append(f"{doc}\n    pub(crate) fn sozgarru_{name}({chr(10) + takes + '    ' if takes else ''}){gives};\n")
     return RUST_HEAD + fields + '}\n\nunsafe extern "C" {\n' + "\n".join(out) + "}\n"
 
@@ -292,6 +306,10 @@ class Memory(Structure):
 '''
 
 
+PYTHON_LENT = "    ]\n\n\n# the memory, as an event takes it, as sozgarru_begin takes it, and as a read takes it\n"
+PYTHON_FUNCTIONS = "\n# what each function gives and takes\nFUNCTIONS = {\n"
+
+
 def python_parameters(params):
     """a slice is a pointer and a count"""
     for _, kind in params:
@@ -304,13 +322,24 @@ def python_parameters(params):
             yield PYTHON_ELEMENT[plain]
 
 
+def python_takes(lent, params):
+    """the name of the memory at the front, and the parameters behind it"""
+    for name, front in lent:
+        if params[:len(front)] == front:
+            own = ", ".join(python_parameters(params[len(front):]))
+            return f"{name} + [{own}]" if own else name
+    return f"[{', '.join(python_parameters(params))}]"
+
+
 def binding():
     fields = "".join(f'        ("{n}", {PYTHON_ELEMENT[e]}{f" * {k}" if k else ""}),\n' for n, e, k in MEMORY)
+    lent = [("LENT", LENT), ("BEGUN", BEGUN), ("READ", read_only())]
+    memory = "".join(f"{name} = [{', '.join(python_parameters(params))}]\n" for name, params in lent)
     rows = []
     for name, params, result, _ in functions():
         gives = {"Numbers": "Numbers", "": "None"}.get(result) or PYTHON_ELEMENT[result]
-        rows.append(f'    "sozgarru_{name}": ({gives}, [{", ".join(python_parameters(params))}]),\n')
-    return PYTHON_HEAD + fields + "    ]\n\n\n# what each function gives and takes\nFUNCTIONS = {\n" + "".join(rows) + "}\n"
+        rows.append(f'    "sozgarru_{name}": ({gives}, {python_takes(lent, params)}),\n')
+    return PYTHON_HEAD + fields + PYTHON_LENT + memory + PYTHON_FUNCTIONS + "".join(rows) + "}\n"
 
 
 FILES = [("crates/boundary/src/lib.rt", rattle), ("host/c/sozgarru.h", header), ("host/rust/src/declarations.rs", declarations), ("host/python/declarations.py", binding)]

@@ -15,7 +15,6 @@ pub(crate) struct Numbers {
 }
 
 /// The memory of a session (docs/LAYOUT.md), with the list of calls that a wait writes.
-#[derive(Clone)]
 pub(crate) struct Memory {
     pub(crate) tasks: [u64; 4104],
     pub(crate) objects: [u64; 2056],
@@ -47,8 +46,8 @@ unsafe extern "C" {
         len: usize,
     ) -> bool;
 
-    /// The running task makes a coroutine of a function. Made: its object.
-    /// Refused with 3 the session has ended, 4 no task runs, 7 a 257th object. Refused also with 2, where the store is not sound.
+    /// The running task makes a coroutine of a function. Made: its object. Refused with 3 the session has ended, 4 no
+    /// task runs, 7 a 257th object. Refused also with 2, where the store is not sound.
     pub(crate) fn sozgarru_coroutine(
         tasks: &mut [u64; 4104],
         objects: &mut [u64; 2056],
@@ -59,8 +58,8 @@ unsafe extern "C" {
         function: u32,
     ) -> Numbers;
 
-    /// The running task calls the host. Call: the call's number.
-    /// Refused with 3 the session has ended, 4 no task runs, 8 all numbers are handed out. Refused also with 2, where the store is not sound.
+    /// The running task calls the host. Call: the call's number. Refused with 3 the session has ended, 4 no task runs,
+    /// 8 all numbers are handed out. Refused also with 2, where the store is not sound.
     pub(crate) fn sozgarru_call(
         tasks: &mut [u64; 4104],
         objects: &mut [u64; 2056],
@@ -70,8 +69,9 @@ unsafe extern "C" {
         len: &mut usize,
     ) -> Numbers;
 
-    /// The external future of a call, without a stored result. Made: its object.
-    /// Refused with 3 the session has ended, 4 no task runs, 5 the number was not handed out, 6 it is pending already, 7. Refused also with 2, where the store is not sound.
+    /// The external future of a call, without a stored result. Made: its object. Refused with 3 the session has ended,
+    /// 4 no task runs, 5 the number was not handed out, 6 it is pending already, 7. Refused also with 2, where the
+    /// store is not sound.
     pub(crate) fn sozgarru_pending(
         tasks: &mut [u64; 4104],
         objects: &mut [u64; 2056],
@@ -82,8 +82,8 @@ unsafe extern "C" {
         call: u32,
     ) -> Numbers;
 
-    /// The external future of a call, with a stored plain value, which replaces the host's. Made: its object.
-    /// Refused with 3 the session has ended, 4 no task runs, 5, 6, 7. Refused also with 2, where the store is not sound.
+    /// The external future of a call, with a stored plain value, which replaces the host's. Made: its object. Refused
+    /// with 3 the session has ended, 4 no task runs, 5, 6, 7. Refused also with 2, where the store is not sound.
     pub(crate) fn sozgarru_pending_plain(
         tasks: &mut [u64; 4104],
         objects: &mut [u64; 2056],
@@ -95,8 +95,9 @@ unsafe extern "C" {
         number: u64,
     ) -> Numbers;
 
-    /// The external future of a call, with the list of a gather stored. Made: its object.
-    /// Refused with 3 the session has ended, 4 no task runs, 5 also: the gather is not completed, 6, 7. Refused also with 2, where the store is not sound.
+    /// The external future of a call, with the list of a gather stored. Made: its object. Refused with 3 the session
+    /// has ended, 4 no task runs, 5 also: the gather is not completed, 6, 7. Refused also with 2, where the store is
+    /// not sound.
     pub(crate) fn sozgarru_pending_list(
         tasks: &mut [u64; 4104],
         objects: &mut [u64; 2056],
@@ -108,8 +109,8 @@ unsafe extern "C" {
         gather: u16,
     ) -> Numbers;
 
-    /// An external future that has a plain value already; it is handed a call number too. Made: its object.
-    /// Refused with 3 the session has ended, 4 no task runs, 7, 8. Refused also with 2, where the store is not sound.
+    /// An external future that has a plain value already; it is handed a call number too. Made: its object. Refused
+    /// with 3 the session has ended, 4 no task runs, 7, 8. Refused also with 2, where the store is not sound.
     pub(crate) fn sozgarru_settled_plain(
         tasks: &mut [u64; 4104],
         objects: &mut [u64; 2056],
@@ -120,8 +121,8 @@ unsafe extern "C" {
         number: u64,
     ) -> Numbers;
 
-    /// An external future that has the list of a gather already. Made: its object.
-    /// Refused with 3 the session has ended, 4 no task runs, 5 the gather is not completed, 7, 8. Refused also with 2, where the store is not sound.
+    /// An external future that has the list of a gather already. Made: its object. Refused with 3 the session has
+    /// ended, 4 no task runs, 5 the gather is not completed, 7, 8. Refused also with 2, where the store is not sound.
     pub(crate) fn sozgarru_settled_list(
         tasks: &mut [u64; 4104],
         objects: &mut [u64; 2056],
@@ -132,8 +133,9 @@ unsafe extern "C" {
         gather: u16,
     ) -> Numbers;
 
-    /// A gather of objects, by their numbers, however many. Made: its object.
-    /// Refused with 3 the session has ended, 4 no task runs, 5 an object is not made, 7 (also over 32 items, over 512 places). Refused also with 2, where the store is not sound.
+    /// A gather of objects, by their numbers, however many. Made: its object. Refused with 3 the session has ended, 4
+    /// no task runs, 5 an object is not made, 7 (also over 32 items, over 512 places). Refused also with 2, where the
+    /// store is not sound.
     pub(crate) fn sozgarru_gather(
         tasks: &mut [u64; 4104],
         objects: &mut [u64; 2056],
@@ -145,8 +147,8 @@ unsafe extern "C" {
         items_count: usize,
     ) -> Numbers;
 
-    /// The running task awaits an object. Runs or waits, and the commit steps.
-    /// Refused with 3 the session has ended, 4 no task runs, 5 the object is not made. Refused also with 2, where the store is not sound.
+    /// The running task awaits an object. Runs or waits, and the commit steps. Refused with 3 the session has ended, 4
+    /// no task runs, 5 the object is not made. Refused also with 2, where the store is not sound.
     pub(crate) fn sozgarru_await(
         tasks: &mut [u64; 4104],
         objects: &mut [u64; 2056],
@@ -157,8 +159,8 @@ unsafe extern "C" {
         object: u16,
     ) -> Numbers;
 
-    /// The running task returns a plain value. Runs or waits; of main: finished.
-    /// Refused with 3 the session has ended, 4 no task runs. Refused also with 2, where the store is not sound.
+    /// The running task returns a plain value. Runs or waits; of main: finished. Refused with 3 the session has ended,
+    /// 4 no task runs. Refused also with 2, where the store is not sound.
     pub(crate) fn sozgarru_complete_plain(
         tasks: &mut [u64; 4104],
         objects: &mut [u64; 2056],
@@ -169,8 +171,8 @@ unsafe extern "C" {
         number: u64,
     ) -> Numbers;
 
-    /// The running task returns the list of a gather. Runs or waits; of main: finished.
-    /// Refused with 3 the session has ended, 4 no task runs, 5 the gather is not completed. Refused also with 2, where the store is not sound.
+    /// The running task returns the list of a gather. Runs or waits; of main: finished. Refused with 3 the session has
+    /// ended, 4 no task runs, 5 the gather is not completed. Refused also with 2, where the store is not sound.
     pub(crate) fn sozgarru_complete_list(
         tasks: &mut [u64; 4104],
         objects: &mut [u64; 2056],
@@ -181,8 +183,8 @@ unsafe extern "C" {
         gather: u16,
     ) -> Numbers;
 
-    /// The running task raises the error script n. Runs or waits; of main: finished.
-    /// Refused with 3 the session has ended, 4 no task runs. Refused also with 2, where the store is not sound.
+    /// The running task raises the error script n. Runs or waits; of main: finished. Refused with 3 the session has
+    /// ended, 4 no task runs. Refused also with 2, where the store is not sound.
     pub(crate) fn sozgarru_fail(
         tasks: &mut [u64; 4104],
         objects: &mut [u64; 2056],
@@ -193,8 +195,9 @@ unsafe extern "C" {
         number: u32,
     ) -> Numbers;
 
-    /// The host answers calls: 14 bytes each (call 4, kind 1, tag 1, value 8), a rest of 1 to 13 bytes is not read. Done.
-    /// Refused with 3 the session has ended, 5 a list of a gather not completed, 10 over 64 results or one that is none; then nothing is applied. Refused also with 2, where the store is not sound.
+    /// The host answers calls: 14 bytes each (call 4, kind 1, tag 1, value 8), a rest of 1 to 13 bytes is not read.
+    /// Done. Refused with 3 the session has ended, 5 a list of a gather not completed, 10 over 64 results or one that
+    /// is none; then nothing is applied. Refused also with 2, where the store is not sound.
     pub(crate) fn sozgarru_results(
         tasks: &mut [u64; 4104],
         objects: &mut [u64; 2056],
@@ -217,8 +220,9 @@ unsafe extern "C" {
         len: &mut usize,
     ) -> Numbers;
 
-    /// The operator cancels a task, and the tasks below the gather that it waits for. Done.
-    /// Refused with 3 the session has ended, 4 a task runs, 5 the task is not live, 9 it is main. Refused also with 2, where the store is not sound.
+    /// The operator cancels a task, and the tasks below the gather that it waits for. Done. Refused with 3 the session
+    /// has ended, 4 a task runs, 5 the task is not live, 9 it is main. Refused also with 2, where the store is not
+    /// sound.
     pub(crate) fn sozgarru_cancel(
         tasks: &mut [u64; 4104],
         objects: &mut [u64; 2056],
@@ -229,8 +233,8 @@ unsafe extern "C" {
         task: u16,
     ) -> Numbers;
 
-    /// May the host answer a call at once: is no task ready and no call pending? Eager: 1 yes, 0 no.
-    /// Refused also with 2, where the store is not sound.
+    /// May the host answer a call at once: is no task ready and no call pending? Eager: 1 yes, 0 no. Refused also with
+    /// 2, where the store is not sound.
     pub(crate) fn sozgarru_eager(
         tasks: &[u64; 4104],
         objects: &[u64; 2056],
@@ -239,8 +243,8 @@ unsafe extern "C" {
         len: usize,
     ) -> Numbers;
 
-    /// What an object is and has. Shows: sort, state, and what document 01 lists; of an awaited or completed gather how many places it has.
-    /// Refused with 5 the object is not made. Refused also with 2, where the store is not sound.
+    /// What an object is and has. Shows: sort, state, and what document 01 lists; of an awaited or completed gather how
+    /// many places it has. Refused with 5 the object is not made. Refused also with 2, where the store is not sound.
     pub(crate) fn sozgarru_show(
         tasks: &[u64; 4104],
         objects: &[u64; 2056],
@@ -251,7 +255,8 @@ unsafe extern "C" {
     ) -> Numbers;
 
     /// A place of an awaited or completed gather, from 0. Shows: 0 where it is open; 1 and the value's tag and number.
-    /// Refused with 5 the object is not made, or shows no such place. Refused also with 2, where the store is not sound.
+    /// Refused with 5 the object is not made, or shows no such place. Refused also with 2, where the store is not
+    /// sound.
     pub(crate) fn sozgarru_place(
         tasks: &[u64; 4104],
         objects: &[u64; 2056],
@@ -262,8 +267,8 @@ unsafe extern "C" {
         place: u16,
     ) -> Numbers;
 
-    /// The running task makes a coroutine of a function. Made: its object.
-    /// Refused with 3 the session has ended, 4 no task runs, 7 a 257th object. The caller owes a sound store: nothing is checked.
+    /// The running task makes a coroutine of a function. Made: its object. Refused with 3 the session has ended, 4 no
+    /// task runs, 7 a 257th object. The caller owes a sound store: nothing is checked.
     pub(crate) fn sozgarru_coroutine_unchecked(
         tasks: &mut [u64; 4104],
         objects: &mut [u64; 2056],
@@ -274,8 +279,8 @@ unsafe extern "C" {
         function: u32,
     ) -> Numbers;
 
-    /// The running task calls the host. Call: the call's number.
-    /// Refused with 3 the session has ended, 4 no task runs, 8 all numbers are handed out. The caller owes a sound store: nothing is checked.
+    /// The running task calls the host. Call: the call's number. Refused with 3 the session has ended, 4 no task runs,
+    /// 8 all numbers are handed out. The caller owes a sound store: nothing is checked.
     pub(crate) fn sozgarru_call_unchecked(
         tasks: &mut [u64; 4104],
         objects: &mut [u64; 2056],
@@ -285,8 +290,9 @@ unsafe extern "C" {
         len: &mut usize,
     ) -> Numbers;
 
-    /// The external future of a call, without a stored result. Made: its object.
-    /// Refused with 3 the session has ended, 4 no task runs, 5 the number was not handed out, 6 it is pending already, 7. The caller owes a sound store: nothing is checked.
+    /// The external future of a call, without a stored result. Made: its object. Refused with 3 the session has ended,
+    /// 4 no task runs, 5 the number was not handed out, 6 it is pending already, 7. The caller owes a sound store:
+    /// nothing is checked.
     pub(crate) fn sozgarru_pending_unchecked(
         tasks: &mut [u64; 4104],
         objects: &mut [u64; 2056],
@@ -297,8 +303,8 @@ unsafe extern "C" {
         call: u32,
     ) -> Numbers;
 
-    /// The external future of a call, with a stored plain value, which replaces the host's. Made: its object.
-    /// Refused with 3 the session has ended, 4 no task runs, 5, 6, 7. The caller owes a sound store: nothing is checked.
+    /// The external future of a call, with a stored plain value, which replaces the host's. Made: its object. Refused
+    /// with 3 the session has ended, 4 no task runs, 5, 6, 7. The caller owes a sound store: nothing is checked.
     pub(crate) fn sozgarru_pending_plain_unchecked(
         tasks: &mut [u64; 4104],
         objects: &mut [u64; 2056],
@@ -310,8 +316,9 @@ unsafe extern "C" {
         number: u64,
     ) -> Numbers;
 
-    /// The external future of a call, with the list of a gather stored. Made: its object.
-    /// Refused with 3 the session has ended, 4 no task runs, 5 also: the gather is not completed, 6, 7. The caller owes a sound store: nothing is checked.
+    /// The external future of a call, with the list of a gather stored. Made: its object. Refused with 3 the session
+    /// has ended, 4 no task runs, 5 also: the gather is not completed, 6, 7. The caller owes a sound store: nothing is
+    /// checked.
     pub(crate) fn sozgarru_pending_list_unchecked(
         tasks: &mut [u64; 4104],
         objects: &mut [u64; 2056],
@@ -323,8 +330,8 @@ unsafe extern "C" {
         gather: u16,
     ) -> Numbers;
 
-    /// An external future that has a plain value already; it is handed a call number too. Made: its object.
-    /// Refused with 3 the session has ended, 4 no task runs, 7, 8. The caller owes a sound store: nothing is checked.
+    /// An external future that has a plain value already; it is handed a call number too. Made: its object. Refused
+    /// with 3 the session has ended, 4 no task runs, 7, 8. The caller owes a sound store: nothing is checked.
     pub(crate) fn sozgarru_settled_plain_unchecked(
         tasks: &mut [u64; 4104],
         objects: &mut [u64; 2056],
@@ -335,8 +342,8 @@ unsafe extern "C" {
         number: u64,
     ) -> Numbers;
 
-    /// An external future that has the list of a gather already. Made: its object.
-    /// Refused with 3 the session has ended, 4 no task runs, 5 the gather is not completed, 7, 8. The caller owes a sound store: nothing is checked.
+    /// An external future that has the list of a gather already. Made: its object. Refused with 3 the session has
+    /// ended, 4 no task runs, 5 the gather is not completed, 7, 8. The caller owes a sound store: nothing is checked.
     pub(crate) fn sozgarru_settled_list_unchecked(
         tasks: &mut [u64; 4104],
         objects: &mut [u64; 2056],
@@ -347,8 +354,9 @@ unsafe extern "C" {
         gather: u16,
     ) -> Numbers;
 
-    /// A gather of objects, by their numbers, however many. Made: its object.
-    /// Refused with 3 the session has ended, 4 no task runs, 5 an object is not made, 7 (also over 32 items, over 512 places). The caller owes a sound store: nothing is checked.
+    /// A gather of objects, by their numbers, however many. Made: its object. Refused with 3 the session has ended, 4
+    /// no task runs, 5 an object is not made, 7 (also over 32 items, over 512 places). The caller owes a sound store:
+    /// nothing is checked.
     pub(crate) fn sozgarru_gather_unchecked(
         tasks: &mut [u64; 4104],
         objects: &mut [u64; 2056],
@@ -360,8 +368,8 @@ unsafe extern "C" {
         items_count: usize,
     ) -> Numbers;
 
-    /// The running task awaits an object. Runs or waits, and the commit steps.
-    /// Refused with 3 the session has ended, 4 no task runs, 5 the object is not made. The caller owes a sound store: nothing is checked.
+    /// The running task awaits an object. Runs or waits, and the commit steps. Refused with 3 the session has ended, 4
+    /// no task runs, 5 the object is not made. The caller owes a sound store: nothing is checked.
     pub(crate) fn sozgarru_await_unchecked(
         tasks: &mut [u64; 4104],
         objects: &mut [u64; 2056],
@@ -372,8 +380,8 @@ unsafe extern "C" {
         object: u16,
     ) -> Numbers;
 
-    /// The running task returns a plain value. Runs or waits; of main: finished.
-    /// Refused with 3 the session has ended, 4 no task runs. The caller owes a sound store: nothing is checked.
+    /// The running task returns a plain value. Runs or waits; of main: finished. Refused with 3 the session has ended,
+    /// 4 no task runs. The caller owes a sound store: nothing is checked.
     pub(crate) fn sozgarru_complete_plain_unchecked(
         tasks: &mut [u64; 4104],
         objects: &mut [u64; 2056],
@@ -384,8 +392,8 @@ unsafe extern "C" {
         number: u64,
     ) -> Numbers;
 
-    /// The running task returns the list of a gather. Runs or waits; of main: finished.
-    /// Refused with 3 the session has ended, 4 no task runs, 5 the gather is not completed. The caller owes a sound store: nothing is checked.
+    /// The running task returns the list of a gather. Runs or waits; of main: finished. Refused with 3 the session has
+    /// ended, 4 no task runs, 5 the gather is not completed. The caller owes a sound store: nothing is checked.
     pub(crate) fn sozgarru_complete_list_unchecked(
         tasks: &mut [u64; 4104],
         objects: &mut [u64; 2056],
@@ -396,8 +404,8 @@ unsafe extern "C" {
         gather: u16,
     ) -> Numbers;
 
-    /// The running task raises the error script n. Runs or waits; of main: finished.
-    /// Refused with 3 the session has ended, 4 no task runs. The caller owes a sound store: nothing is checked.
+    /// The running task raises the error script n. Runs or waits; of main: finished. Refused with 3 the session has
+    /// ended, 4 no task runs. The caller owes a sound store: nothing is checked.
     pub(crate) fn sozgarru_fail_unchecked(
         tasks: &mut [u64; 4104],
         objects: &mut [u64; 2056],
@@ -408,8 +416,9 @@ unsafe extern "C" {
         number: u32,
     ) -> Numbers;
 
-    /// The host answers calls: 14 bytes each (call 4, kind 1, tag 1, value 8), a rest of 1 to 13 bytes is not read. Done.
-    /// Refused with 3 the session has ended, 5 a list of a gather not completed, 10 over 64 results or one that is none; then nothing is applied. The caller owes a sound store: nothing is checked.
+    /// The host answers calls: 14 bytes each (call 4, kind 1, tag 1, value 8), a rest of 1 to 13 bytes is not read.
+    /// Done. Refused with 3 the session has ended, 5 a list of a gather not completed, 10 over 64 results or one that
+    /// is none; then nothing is applied. The caller owes a sound store: nothing is checked.
     pub(crate) fn sozgarru_results_unchecked(
         tasks: &mut [u64; 4104],
         objects: &mut [u64; 2056],
@@ -432,8 +441,9 @@ unsafe extern "C" {
         len: &mut usize,
     ) -> Numbers;
 
-    /// The operator cancels a task, and the tasks below the gather that it waits for. Done.
-    /// Refused with 3 the session has ended, 4 a task runs, 5 the task is not live, 9 it is main. The caller owes a sound store: nothing is checked.
+    /// The operator cancels a task, and the tasks below the gather that it waits for. Done. Refused with 3 the session
+    /// has ended, 4 a task runs, 5 the task is not live, 9 it is main. The caller owes a sound store: nothing is
+    /// checked.
     pub(crate) fn sozgarru_cancel_unchecked(
         tasks: &mut [u64; 4104],
         objects: &mut [u64; 2056],
@@ -444,8 +454,8 @@ unsafe extern "C" {
         task: u16,
     ) -> Numbers;
 
-    /// May the host answer a call at once: is no task ready and no call pending? Eager: 1 yes, 0 no.
-    /// The caller owes a sound store: nothing is checked.
+    /// May the host answer a call at once: is no task ready and no call pending? Eager: 1 yes, 0 no. The caller owes a
+    /// sound store: nothing is checked.
     pub(crate) fn sozgarru_eager_unchecked(
         tasks: &[u64; 4104],
         objects: &[u64; 2056],
@@ -454,8 +464,8 @@ unsafe extern "C" {
         len: usize,
     ) -> Numbers;
 
-    /// What an object is and has. Shows: sort, state, and what document 01 lists; of an awaited or completed gather how many places it has.
-    /// Refused with 5 the object is not made. The caller owes a sound store: nothing is checked.
+    /// What an object is and has. Shows: sort, state, and what document 01 lists; of an awaited or completed gather how
+    /// many places it has. Refused with 5 the object is not made. The caller owes a sound store: nothing is checked.
     pub(crate) fn sozgarru_show_unchecked(
         tasks: &[u64; 4104],
         objects: &[u64; 2056],
@@ -466,7 +476,8 @@ unsafe extern "C" {
     ) -> Numbers;
 
     /// A place of an awaited or completed gather, from 0. Shows: 0 where it is open; 1 and the value's tag and number.
-    /// Refused with 5 the object is not made, or shows no such place. The caller owes a sound store: nothing is checked.
+    /// Refused with 5 the object is not made, or shows no such place. The caller owes a sound store: nothing is
+    /// checked.
     pub(crate) fn sozgarru_place_unchecked(
         tasks: &[u64; 4104],
         objects: &[u64; 2056],

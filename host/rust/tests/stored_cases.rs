@@ -1,0 +1,196 @@
+//! The stored cases through the crate: line for line, from snapshots, from damaged snapshots, on a small stack.
+mod common;
+
+use common::{cases, events, hold, replay, session_after, Case};
+use sozgarru::{CallId, Event, HeapId, NotASession, Outcome, Refusal, Session, TaskId, Value};
+use std::thread::Builder;
+use std::{env, fs};
+
+/// What docs/HOST.md says an event needs at most.
+const STACK: usize = 256 * 1024;
+
+#[test]
+fn every_case_line_for_line() {
+    for case in cases() {
+        for checked in [false, true] {
+            replay(&mut Session::new(), checked, &case, 0..case.lines.len());
+        }
+    }
+}
+
+#[test]
+fn every_case_on_the_documented_stack() {
+    let run = || {
+        for case in cases() {
+            for checked in [false, true] {
+                replay(&mut Session::new(), checked, &case, 0..case.lines.len());
+            }
+            let session = session_after(&case, case.lines.len());
+            let again = Session::restore(&session.clone().snapshot()).expect("a snapshot");
+            assert!(again.snapshot() == session.snapshot());
+        }
+    };
+    Builder::new().stack_size(STACK).spawn(run).expect("a thread").join().expect("no panic");
+}
+
+/// A session restored at a cut goes on as the one that was never stored. Of a long case some 40 cuts, each with the 200
+/// records behind it.
+#[test]
+fn snapshots_at_every_cut() {
+    for case in cases() {
+        let every = case.lines.len() / 40 + 1;
+        let mut session = Session::new();
+        let events = events(&case.records);
+        for (cut, event) in events.iter().enumerate() {
+            if cut % every == 0 {
+                let bytes = session.snapshot();
+                let mut again =
+                    Session::restore(&bytes).unwrap_or_else(|error| panic!("{}, record {cut}: {error}", case.name));
+                assert!(again.snapshot() == bytes);
+                hold(&mut again, false, &case, cut, &events[cut..events.len().min(cut + 200)]);
+            }
+            if let Some(event) = event {
+                let _ = session.dispatch(event);
+            }
+        }
+    }
+}
+
+/// A snapshot that Python wrote, at the worked example's wait: `tools/host.sh` names its file.
+#[test]
+fn a_snapshot_of_the_python_side_goes_on() {
+    let Some(path) = env::var_os("SOZGARRU_PYTHON_SNAPSHOT") else {
+        println!("SOZGARRU_PYTHON_SNAPSHOT names no file: nothing is restored");
+        return;
+    };
+    let bytes = fs::read(path).expect("the file");
+    let mut session = Session::restore(&bytes).expect("a snapshot");
+    assert!(session.snapshot() == bytes);
+    session.result(CallId::new(0), Outcome::Return(Value::Plain(5))).expect("the call is pending");
+    assert_eq!(session.resume().expect("the host waits").to_string(), "runs 0 value list 2");
+}
+
+#[test]
+fn what_is_no_snapshot_is_refused() {
+    let bytes = Session::new().snapshot();
+    let refused = |bytes: &[u8]| Session::restore(bytes).err();
+    assert_eq!(refused(&bytes), None);
+    assert_eq!(refused(&bytes[1..]), Some(NotASession::Length));
+    assert_eq!(refused(&[]), Some(NotASession::Length));
+    assert_eq!(refused(&[&bytes[..], &[0]].concat()), Some(NotASession::Length));
+    let damaged = |at: usize, byte: u8| {
+        let mut bytes = bytes.clone();
+        bytes[at] = byte;
+        refused(&bytes)
+    };
+    assert_eq!(damaged(0, b's'), Some(NotASession::Mark));
+    assert_eq!(damaged(8, 200), Some(NotASession::Version));
+    assert_eq!(damaged(16, 9), Some(NotASession::Unsound), "no such state of main");
+    assert_eq!(damaged(bytes.len() - 1, 1), Some(NotASession::Unsound), "a count above every count");
+}
+
+/// Where the parts of a snapshot begin, in bytes.
+const TASKS: usize = 16;
+const OBJECTS: usize = TASKS + 8 * 4104;
+const PLACES: usize = OBJECTS + 8 * 2056;
+const QUEUE: usize = PLACES + 8 * 2048;
+
+/// The bytes that rows in use have, at least: where a damage matters.
+fn bytes_in_use(snapshot: &[u8]) -> Vec<usize> {
+    let header = |word: usize| {
+        let at = OBJECTS + 8 * word;
+        usize::from(u16::from_le_bytes([snapshot[at], snapshot[at + 1]]))
+    };
+    let (objects, places, tasks) = (header(0), header(1), header(3));
+    let rows = [
+        (TASKS, 64 * tasks),
+        (OBJECTS, 64 + 64 * objects),
+        (PLACES, 32 * places),
+        (QUEUE, 16),
+        (snapshot.len() - 8, 8),
+    ];
+    rows.into_iter().flat_map(|(from, length)| from..from + length).collect()
+}
+
+/// A sequence of numbers that looks like chance and is the same in every run.
+struct Chance(u64);
+
+impl Chance {
+    fn below(&mut self, count: usize) -> usize {
+        self.0 = self.0.wrapping_mul(6_364_136_223_846_793_005).wrapping_add(1_442_695_040_888_963_407);
+        usize::try_from(self.0 >> 33).expect("31 bits") % count
+    }
+}
+
+/// Events of every kind, on a session of which nothing is known but that it is sound.
+fn tries() -> Vec<Event<'static>> {
+    let objects = [0, 1, 2, 5, 100, 255].map(HeapId::new);
+    let mut tries =
+        vec![Event::Eager, Event::Resume, Event::Coroutine(1), Event::Call, Event::Settled(Value::Plain(1))];
+    tries.push(Event::results(&[
+        (CallId::new(0), Outcome::Return(Value::Plain(5))),
+        (CallId::new(1), Outcome::Error(1)),
+    ]));
+    tries.push(Event::Resume);
+    tries.push(Event::Pending { call: 0, stored: Some(Value::List(objects[2])) });
+    tries.push(Event::Gather(objects[..3].to_vec().into()));
+    tries.extend(objects.map(Event::Show));
+    tries.extend(objects.map(Event::Await));
+    tries.extend([2, 1].map(|task| Event::Cancel(TaskId::new(task))));
+    tries.extend([
+        Event::Complete(Value::Plain(2)),
+        Event::Resume,
+        Event::Fail(3),
+        Event::Resume,
+        Event::Complete(Value::List(objects[1])),
+    ]);
+    tries
+}
+
+/// Restores damaged bytes: they are refused, or they are a sound store, and then every event keeps it so.
+fn try_damaged(case: &Case, bytes: &[u8], tries: &[Event<'_>]) -> bool {
+    let Ok(mut session) = Session::restore(bytes) else {
+        return false;
+    };
+    for event in tries {
+        let answer = session.dispatch_checked(event);
+        assert_ne!(answer, Err(Refusal::Unsound), "{}: {event:?}", case.name);
+    }
+    assert!(Session::restore(&session.snapshot()).is_ok(), "{}", case.name);
+    true
+}
+
+/// How many damages each case gets: fewer in a build that is not optimised, which is slow at it.
+fn turns() -> usize {
+    if cfg!(debug_assertions) {
+        40
+    } else {
+        1000
+    }
+}
+
+/// One bit, then up to three, of the last state of every case.
+#[test]
+fn damaged_snapshots_are_refused_or_sound() {
+    let (tries, mut chance) = (tries(), Chance(1));
+    let (mut refused, mut sound) = (0, 0);
+    for case in cases() {
+        let snapshot = session_after(&case, case.lines.len()).snapshot();
+        let in_use = bytes_in_use(&snapshot);
+        for turn in 0..turns() {
+            let mut bytes = snapshot.clone();
+            for _ in 0..=turn % 3 {
+                let anywhere = turn % 10 == 9;
+                let at = if anywhere { chance.below(bytes.len()) } else { in_use[chance.below(in_use.len())] };
+                bytes[at] ^= 1 << chance.below(8);
+            }
+            if try_damaged(&case, &bytes, &tries) {
+                sound += 1;
+            } else {
+                refused += 1;
+            }
+        }
+    }
+    println!("{refused} damaged snapshots refused, {sound} are sound stores");
+    assert!(refused > 0 && sound > 0);
+}
