@@ -5,6 +5,7 @@ change nothing, so the other lines stay what they were.
 """
 import dataclasses
 import pathlib
+import shutil
 import subprocess
 import sys
 import tempfile
@@ -78,13 +79,20 @@ def read_bytes(data):
 
 
 def build():
-    """drive, built without its proof, in a folder that is removed at the end of the run."""
+    """drive, built without its proof; where there is no kit, `records` of the Rust crate, which writes the same lines. In a folder that is removed at the
+    end of the run."""
     room = tempfile.TemporaryDirectory()
-    program = pathlib.Path(room.name) / "drive"
+    if shutil.which("rt"):
+        program = pathlib.Path(room.name) / "drive"
+        command = ["bash", str(TOOLS / "quickbuild.sh"), "drive", str(program)]
+    else:
+        program = pathlib.Path(room.name) / "release/examples/records"
+        crate = TOOLS.parent / "host/rust/Cargo.toml"
+        command = ["cargo", "build", "--release", "--offline", "--quiet", "--example", "records", f"--manifest-path={crate}", f"--target-dir={room.name}"]
     try:
-        subprocess.run(["bash", str(TOOLS / "quickbuild.sh"), "drive", str(program)], check=True, stdout=subprocess.DEVNULL)
-    except subprocess.CalledProcessError:
-        sys.exit("timeline: drive does not compile here; --drive names one that is there")
+        subprocess.run(command, check=True, stdout=subprocess.DEVNULL)
+    except (OSError, subprocess.CalledProcessError):
+        sys.exit("timeline: neither drive (by the kit) nor host/rust (by cargo) compiles here; --drive names a program that is there")
     return program, room
 
 
