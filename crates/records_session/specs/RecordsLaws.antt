@@ -140,7 +140,7 @@ module _ (m : Records) where
         let n = header-at (m .objects) .next in
         let unsound : sound (laid-out n) ≡ false = misfit-unsound (m .tasks) t f (m .objects) (m .places) (m .queue) [] h in
         let core : lent-of (store-of (rows-of (m .tasks) n) (m .objects) (m .places) (m .queue) (lent-step (laid-out n) cs e .store .log)) cs (Answer.Refused 2) 0 ≡ lent-step (laid-out n) cs e
-            = not-sound (rows-of (m .tasks) n) (m .objects) (m .places) (m .queue) cs [] e (all-right cs lc n) refl refl unsound in
+        = not-sound (rows-of (m .tasks) n) (m .objects) (m .places) (m .queue) cs [] e (all-right cs lc n) refl refl unsound in
         ap (λ (b : Bool). pick b (gone-back (m .tasks) (lent-step (laid-out (next-in (m .objects))) cs e)) (refused-as m cs 1)) (eq-eqb _ _ l)
         ∙ ap (λ (k : ℕ). gone-back (m .tasks) (lent-step (laid-out k) cs e)) next-is
         ∙ sym (ap (gone-back (m .tasks)) core)

@@ -68,15 +68,44 @@ use types.Kit
 use Rattle.records_session.proofs.Made.Element as El
 
 abbrev pub ps : List.List (Kinds.PK 3)
-ps = List._∷_ (MutSlice.pMutS El.row 0 tt) (List._∷_ (MutSlice.pMutS (Referent.rtF (Referent.fInt Syntax.w64)) 1 tt) (List._∷_ (MutSlice.pMutS (Referent.rtF (Referent.fInt Syntax.w64)) 2 tt) (List._∷_ (Value.pVal record { ty =
-    Declared.row ReadyQueue.the-type; one = Path'.refl; val = Laws'3.val ReadyQueue.the-type Laws'.the-laws; tells = Laws'3.tells ReadyQueue.the-type Laws'.the-laws; still = Laws'3.still ReadyQueue.the-type Laws'.the-copy Exit.yes; row
-    = Rows'.whole (Declared.row ReadyQueue.the-type); rd = λ x. x; mk = λ x. x; } λ M 𝓤 H A W. record { copies = Laws'3.copy ReadyQueue.the-type Laws'.the-copy 𝓤 H A W; lawful = Laws'3.lawful ReadyQueue.the-type Laws'.the-laws 𝓤 H A W;
-    makes = Laws'3.makes ReadyQueue.the-type Laws'.the-plain 𝓤 H A; in-mem = Local.mem-whole 𝓤 H A W (Declared.row ReadyQueue.the-type); of-mem = Local.whole-mem 𝓤 H A W (Declared.row ReadyQueue.the-type); }) List.[])))
+ps = List._∷_ (MutSlice.pMutS El.row 0 tt) (List._∷_ (MutSlice.pMutS (Referent.rtF (Referent.fInt Syntax.w64)) 1 tt) (List._∷_ (MutSlice.pMutS (Referent.rtF (Referent.fInt Syntax.w64)) 2 tt) (List._∷_ (Value.pVal record {
+  ty =
+      Declared.row ReadyQueue.the-type;
+  one = Path'.refl;
+  val = Laws'3.val ReadyQueue.the-type Laws'.the-laws;
+  tells = Laws'3.tells ReadyQueue.the-type Laws'.the-laws;
+  still = Laws'3.still ReadyQueue.the-type Laws'.the-copy Exit.yes;
+  row
+      = Rows'.whole (Declared.row ReadyQueue.the-type);
+  rd = λ x. x;
+  mk = λ x. x;
+} λ M 𝓤 H A W. record {
+  copies = Laws'3.copy ReadyQueue.the-type Laws'.the-copy 𝓤 H A W;
+  lawful = Laws'3.lawful ReadyQueue.the-type Laws'.the-laws 𝓤 H A W;
+  makes = Laws'3.makes ReadyQueue.the-type Laws'.the-plain 𝓤 H A;
+  in-mem = Local.mem-whole 𝓤 H A W (Declared.row ReadyQueue.the-type);
+  of-mem = Local.whole-mem 𝓤 H A W (Declared.row ReadyQueue.the-type);
+}) List.[])))
 
 abbrev pub r : Kinds.RK 3
-r = Value.rVal record { ty = Declared.row Stepped.the-type; one = Path'.refl; val = Laws'3.val Stepped.the-type Laws.the-laws; tells = Laws'3.tells Stepped.the-type Laws.the-laws; still = Laws'3.still Stepped.the-type Laws.the-copy
-    Exit.yes; row = Rows'.whole (Declared.row Stepped.the-type); rd = λ x. x; mk = λ x. x; } λ M 𝓤 H A W. record { copies = Laws'3.copy Stepped.the-type Laws.the-copy 𝓤 H A W; lawful = Laws'3.lawful Stepped.the-type Laws.the-laws 𝓤 H A
-    W; makes = Laws'3.makes Stepped.the-type Laws.the-plain 𝓤 H A; in-mem = Local.mem-whole 𝓤 H A W (Declared.row Stepped.the-type); of-mem = Local.whole-mem 𝓤 H A W (Declared.row Stepped.the-type); }
+r = Value.rVal record {
+  ty = Declared.row Stepped.the-type;
+  one = Path'.refl;
+  val = Laws'3.val Stepped.the-type Laws.the-laws;
+  tells = Laws'3.tells Stepped.the-type Laws.the-laws;
+  still = Laws'3.still Stepped.the-type Laws.the-copy
+      Exit.yes;
+  row = Rows'.whole (Declared.row Stepped.the-type);
+  rd = λ x. x;
+  mk = λ x. x;
+} λ M 𝓤 H A W. record {
+  copies = Laws'3.copy Stepped.the-type Laws.the-copy 𝓤 H A W;
+  lawful = Laws'3.lawful Stepped.the-type Laws.the-laws 𝓤 H A
+      W;
+  makes = Laws'3.makes Stepped.the-type Laws.the-plain 𝓤 H A;
+  in-mem = Local.mem-whole 𝓤 H A W (Declared.row Stepped.the-type);
+  of-mem = Local.whole-mem 𝓤 H A W (Declared.row Stepped.the-type);
+}
 
 abbrev pub xs : List.List Syntax.Ty
 xs = List._∷_ El.word (List._∷_ (Syntax.tyArray El.word 4104) (List._∷_ El.Begun (List._∷_ (Syntax.tyRef Syntax.erased Syntax.mut (Syntax.tyArray El.word 4104)) (List._∷_ (Syntax.tyStruct (List._∷_ 38 (List._∷_ 91 (List._∷_ 93 List.[])))
@@ -91,15 +120,44 @@ m = 5
 
 abbrev pub ps·0 : List.List (Kinds.PK 3)
 ps·0 = List._∷_ (Num.pNum Syntax.w64) (List._∷_ (MutSlice.pMutS (Referent.rtF (Referent.fInt Syntax.w64)) 0 tt) (List._∷_ (MutSlice.pMutS (Referent.rtF (Referent.fInt Syntax.w64)) 1 tt) (List._∷_ (MutSlice.pMutS (Referent.rtF
-    (Referent.fInt Syntax.w64)) 2 tt) (List._∷_ (Value.pVal record { ty = Declared.row ReadyQueue.the-type; one = Path'.refl; val = Laws'3.val ReadyQueue.the-type Laws'.the-laws; tells = Laws'3.tells ReadyQueue.the-type Laws'.the-laws;
-    still = Laws'3.still ReadyQueue.the-type Laws'.the-copy Exit.yes; row = Rows'.whole (Declared.row ReadyQueue.the-type); rd = λ x. x; mk = λ x. x; } λ M 𝓤 H A W. record { copies = Laws'3.copy ReadyQueue.the-type Laws'.the-copy 𝓤 H A
-    W; lawful = Laws'3.lawful ReadyQueue.the-type Laws'.the-laws 𝓤 H A W; makes = Laws'3.makes ReadyQueue.the-type Laws'.the-plain 𝓤 H A; in-mem = Local.mem-whole 𝓤 H A W (Declared.row ReadyQueue.the-type); of-mem = Local.whole-mem 𝓤 H
-    A W (Declared.row ReadyQueue.the-type); }) List.[]))))
+    (Referent.fInt Syntax.w64)) 2 tt) (List._∷_ (Value.pVal record {
+      ty = Declared.row ReadyQueue.the-type;
+      one = Path'.refl;
+      val = Laws'3.val ReadyQueue.the-type Laws'.the-laws;
+      tells = Laws'3.tells ReadyQueue.the-type Laws'.the-laws;
+      still = Laws'3.still ReadyQueue.the-type Laws'.the-copy Exit.yes;
+      row = Rows'.whole (Declared.row ReadyQueue.the-type);
+      rd = λ x. x;
+      mk = λ x. x;
+    } λ M 𝓤 H A W. record {
+      copies = Laws'3.copy ReadyQueue.the-type Laws'.the-copy 𝓤 H A
+          W;
+      lawful = Laws'3.lawful ReadyQueue.the-type Laws'.the-laws 𝓤 H A W;
+      makes = Laws'3.makes ReadyQueue.the-type Laws'.the-plain 𝓤 H A;
+      in-mem = Local.mem-whole 𝓤 H A W (Declared.row ReadyQueue.the-type);
+      of-mem = Local.whole-mem 𝓤 H
+          A W (Declared.row ReadyQueue.the-type);
+    }) List.[]))))
 
 abbrev pub r·0 : Kinds.RK 3
-r·0 = Value.rVal record { ty = Declared.row Begun.the-type; one = Path'.refl; val = Laws'3.val Begun.the-type Laws''.the-laws; tells = Laws'3.tells Begun.the-type Laws''.the-laws; still = Laws'3.still Begun.the-type Laws''.the-copy
-    Exit.yes; row = Rows'.whole (Declared.row Begun.the-type); rd = λ x. x; mk = λ x. x; } λ M 𝓤 H A W. record { copies = Laws'3.copy Begun.the-type Laws''.the-copy 𝓤 H A W; lawful = Laws'3.lawful Begun.the-type Laws''.the-laws 𝓤 H A
-    W; makes = Laws'3.makes Begun.the-type Laws''.the-plain 𝓤 H A; in-mem = Local.mem-whole 𝓤 H A W (Declared.row Begun.the-type); of-mem = Local.whole-mem 𝓤 H A W (Declared.row Begun.the-type); }
+r·0 = Value.rVal record {
+  ty = Declared.row Begun.the-type;
+  one = Path'.refl;
+  val = Laws'3.val Begun.the-type Laws''.the-laws;
+  tells = Laws'3.tells Begun.the-type Laws''.the-laws;
+  still = Laws'3.still Begun.the-type Laws''.the-copy
+      Exit.yes;
+  row = Rows'.whole (Declared.row Begun.the-type);
+  rd = λ x. x;
+  mk = λ x. x;
+} λ M 𝓤 H A W. record {
+  copies = Laws'3.copy Begun.the-type Laws''.the-copy 𝓤 H A W;
+  lawful = Laws'3.lawful Begun.the-type Laws''.the-laws 𝓤 H A
+      W;
+  makes = Laws'3.makes Begun.the-type Laws''.the-plain 𝓤 H A;
+  in-mem = Local.mem-whole 𝓤 H A W (Declared.row Begun.the-type);
+  of-mem = Local.whole-mem 𝓤 H A W (Declared.row Begun.the-type);
+}
 
 abbrev pub ps·1 : List.List (Kinds.PK 2)
 ps·1 = List._∷_ (MutSlice.pMutS El.row 0 tt) (List._∷_ (ShrSlice.pShrS (Referent.rtF (Referent.fInt Syntax.w64)) 1 tt) (List._∷_ (Num.pNum Syntax.w16) List.[]))
@@ -214,188 +272,470 @@ abbrev pub Claims : Type 1
 Claims = Kinds.In 3 ps·0 × Kinds.Out 3 ps·0 r·0 × Kinds.In 2 ps·1 × Kinds.Out 2 ps·1 r·1
 
 abbrev pub t0 : List.List Row.Entry
-t0 = List._∷_ (0, Rows'.any-gone El.Stepped) (List._∷_ (1, Mut.mslice El.row (Syntax.tyRef (Syntax.named 0) Syntax.mut El.named) 0) (List._∷_ (2, Mut.mslice (Referent.rtF (Referent.fInt Syntax.w64)) (Syntax.tyRef (Syntax.named 1)
-    Syntax.mut El.word) 1) (List._∷_ (3, Mut.mslice (Referent.rtF (Referent.fInt Syntax.w64)) (Syntax.tyRef (Syntax.named 2) Syntax.mut El.word) 2) (List._∷_ (4, Rows'.whole (Declared.row ReadyQueue.the-type)) (List._∷_ (5,
-    Rows'.any-gone El.word) (List._∷_ (6, Rows'.any-gone (Syntax.tyArray El.word 4104)) (List._∷_ (7, Rows'.any-gone El.Begun) (List._∷_ (8, Rows'.any-gone (Syntax.tyRef Syntax.erased Syntax.mut (Syntax.tyArray El.word 4104))) (List._∷_
-    (9, Rows'.any-gone (Syntax.tyStruct (List._∷_ 38 (List._∷_ 91 (List._∷_ 93 List.[]))) (Syntax.tcons (Syntax.tyRef Syntax.erased Syntax.mut El.word) (Syntax.tcons El.word Syntax.tnil)))) (List._∷_ (10, Rows'.any-gone (Syntax.tyRef
-    Syntax.erased Syntax.mut El.word)) (List._∷_ (11, Rows'.any-gone (Syntax.tyStruct (List._∷_ 38 (List._∷_ 91 (List._∷_ 93 List.[]))) (Syntax.tcons (Syntax.tyRef Syntax.erased Syntax.mut El.word) (Syntax.tcons El.word Syntax.tnil))))
-    (List._∷_ (12, Rows'.any-gone (Syntax.tyRef Syntax.erased Syntax.mut El.word)) (List._∷_ (13, Rows'.any-gone (Syntax.tyStruct (List._∷_ 38 (List._∷_ 91 (List._∷_ 93 List.[]))) (Syntax.tcons (Syntax.tyRef Syntax.erased Syntax.mut
-    El.word) (Syntax.tcons El.word Syntax.tnil)))) (List._∷_ (14, Rows'.any-gone Syntax.tyUnit) (List._∷_ (15, Rows'.any-gone (Syntax.tyRef Syntax.erased Syntax.mut El.named)) List.[])))))))))))))))
+t0 = List._∷_ (0, Rows'.any-gone El.Stepped) (List._∷_ (1, Mut.mslice El.row (Syntax.tyRef (Syntax.named 0) Syntax.mut El.named) 0) (List._∷_ (
+  2,
+  Mut.mslice (Referent.rtF (Referent.fInt Syntax.w64)) (Syntax.tyRef (Syntax.named 1)
+      Syntax.mut El.word) 1,
+) (List._∷_ (3, Mut.mslice (Referent.rtF (Referent.fInt Syntax.w64)) (Syntax.tyRef (Syntax.named 2) Syntax.mut El.word) 2) (List._∷_ (4, Rows'.whole (Declared.row ReadyQueue.the-type)) (List._∷_ (
+  5,
+  Rows'.any-gone El.word,
+) (List._∷_ (6, Rows'.any-gone (Syntax.tyArray El.word 4104)) (List._∷_ (7, Rows'.any-gone El.Begun) (List._∷_ (8, Rows'.any-gone (Syntax.tyRef Syntax.erased Syntax.mut (Syntax.tyArray El.word 4104))) (List._∷_
+    (9, Rows'.any-gone (Syntax.tyStruct (List._∷_ 38 (List._∷_ 91 (List._∷_ 93 List.[]))) (Syntax.tcons (Syntax.tyRef Syntax.erased Syntax.mut El.word) (Syntax.tcons El.word Syntax.tnil)))) (List._∷_ (
+      10,
+      Rows'.any-gone (Syntax.tyRef
+          Syntax.erased Syntax.mut El.word),
+    ) (List._∷_ (11, Rows'.any-gone (Syntax.tyStruct (List._∷_ 38 (List._∷_ 91 (List._∷_ 93 List.[]))) (Syntax.tcons (Syntax.tyRef Syntax.erased Syntax.mut El.word) (Syntax.tcons El.word Syntax.tnil))))
+    (List._∷_ (12, Rows'.any-gone (Syntax.tyRef Syntax.erased Syntax.mut El.word)) (List._∷_ (
+      13,
+      Rows'.any-gone (Syntax.tyStruct (List._∷_ 38 (List._∷_ 91 (List._∷_ 93 List.[]))) (Syntax.tcons (Syntax.tyRef Syntax.erased Syntax.mut
+          El.word) (Syntax.tcons El.word Syntax.tnil))),
+    ) (List._∷_ (14, Rows'.any-gone Syntax.tyUnit) (List._∷_ (15, Rows'.any-gone (Syntax.tyRef Syntax.erased Syntax.mut El.named)) List.[])))))))))))))))
 
 abbrev pub t1 : List.List Row.Entry
-t1 = List._∷_ (16, Rows'.any-gone (Syntax.tyStruct (List._∷_ 38 (List._∷_ 91 (List._∷_ 93 List.[]))) (Syntax.tcons (Syntax.tyRef Syntax.erased Syntax.mut El.named) (Syntax.tcons El.word Syntax.tnil)))) (List._∷_ (17, Rows'.any-gone
-    (Syntax.tyRef Syntax.erased Syntax.imm (Syntax.tyArray El.word 4104))) (List._∷_ (18, Rows'.any-gone (Syntax.tyStruct (List._∷_ 38 (List._∷_ 91 (List._∷_ 93 List.[]))) (Syntax.tcons (Syntax.tyRef Syntax.erased Syntax.imm El.word)
-    (Syntax.tcons El.word Syntax.tnil)))) List.[]))
+t1 = List._∷_ (16, Rows'.any-gone (Syntax.tyStruct (List._∷_ 38 (List._∷_ 91 (List._∷_ 93 List.[]))) (Syntax.tcons (Syntax.tyRef Syntax.erased Syntax.mut El.named) (Syntax.tcons El.word Syntax.tnil)))) (List._∷_ (
+  17,
+  Rows'.any-gone
+      (Syntax.tyRef Syntax.erased Syntax.imm (Syntax.tyArray El.word 4104)),
+) (List._∷_ (
+  18,
+  Rows'.any-gone (Syntax.tyStruct (List._∷_ 38 (List._∷_ 91 (List._∷_ 93 List.[]))) (Syntax.tcons (Syntax.tyRef Syntax.erased Syntax.imm El.word)
+      (Syntax.tcons El.word Syntax.tnil))),
+) List.[]))
 
 abbrev pub t2 : List.List Row.Entry
-t2 = List._∷_ (0, Rows'.whole (Declared.row Stepped.the-type)) (List._∷_ (1, Mut.mslice El.row (Syntax.tyRef (Syntax.named 0) Syntax.mut El.named) 0) (List._∷_ (2, Mut.mslice (Referent.rtF (Referent.fInt Syntax.w64)) (Syntax.tyRef
-    (Syntax.named 1) Syntax.mut El.word) 1) (List._∷_ (3, Mut.mslice (Referent.rtF (Referent.fInt Syntax.w64)) (Syntax.tyRef (Syntax.named 2) Syntax.mut El.word) 2) (List._∷_ (4, Rows'.any-gone El.ReadyQueue) (List._∷_ (5, Rows'.any-gone
-    El.word) (List._∷_ (6, Rows'.any-gone (Syntax.tyArray El.word 4104)) (List._∷_ (7, Rows'.any-gone El.Begun) (List._∷_ (8, Rows'.any-gone (Syntax.tyRef Syntax.erased Syntax.mut (Syntax.tyArray El.word 4104))) (List._∷_ (9,
-    Rows'.any-gone (Syntax.tyStruct (List._∷_ 38 (List._∷_ 91 (List._∷_ 93 List.[]))) (Syntax.tcons (Syntax.tyRef Syntax.erased Syntax.mut El.word) (Syntax.tcons El.word Syntax.tnil)))) (List._∷_ (10, Rows'.any-gone (Syntax.tyRef
-    Syntax.erased Syntax.mut El.word)) (List._∷_ (11, Rows'.any-gone (Syntax.tyStruct (List._∷_ 38 (List._∷_ 91 (List._∷_ 93 List.[]))) (Syntax.tcons (Syntax.tyRef Syntax.erased Syntax.mut El.word) (Syntax.tcons El.word Syntax.tnil))))
-    (List._∷_ (12, Rows'.any-gone (Syntax.tyRef Syntax.erased Syntax.mut El.word)) (List._∷_ (13, Rows'.any-gone (Syntax.tyStruct (List._∷_ 38 (List._∷_ 91 (List._∷_ 93 List.[]))) (Syntax.tcons (Syntax.tyRef Syntax.erased Syntax.mut
-    El.word) (Syntax.tcons El.word Syntax.tnil)))) (List._∷_ (14, Rows'.any-gone Syntax.tyUnit) (List._∷_ (15, Rows'.any-gone (Syntax.tyRef Syntax.erased Syntax.mut El.named)) List.[])))))))))))))))
+t2 = List._∷_ (0, Rows'.whole (Declared.row Stepped.the-type)) (List._∷_ (1, Mut.mslice El.row (Syntax.tyRef (Syntax.named 0) Syntax.mut El.named) 0) (List._∷_ (
+  2,
+  Mut.mslice (Referent.rtF (Referent.fInt Syntax.w64)) (Syntax.tyRef
+      (Syntax.named 1) Syntax.mut El.word) 1,
+) (List._∷_ (3, Mut.mslice (Referent.rtF (Referent.fInt Syntax.w64)) (Syntax.tyRef (Syntax.named 2) Syntax.mut El.word) 2) (List._∷_ (4, Rows'.any-gone El.ReadyQueue) (List._∷_ (
+  5,
+  Rows'.any-gone
+      El.word,
+) (List._∷_ (6, Rows'.any-gone (Syntax.tyArray El.word 4104)) (List._∷_ (7, Rows'.any-gone El.Begun) (List._∷_ (8, Rows'.any-gone (Syntax.tyRef Syntax.erased Syntax.mut (Syntax.tyArray El.word 4104))) (List._∷_ (
+  9,
+  Rows'.any-gone (Syntax.tyStruct (List._∷_ 38 (List._∷_ 91 (List._∷_ 93 List.[]))) (Syntax.tcons (Syntax.tyRef Syntax.erased Syntax.mut El.word) (Syntax.tcons El.word Syntax.tnil))),
+) (List._∷_ (
+  10,
+  Rows'.any-gone (Syntax.tyRef
+      Syntax.erased Syntax.mut El.word),
+) (List._∷_ (11, Rows'.any-gone (Syntax.tyStruct (List._∷_ 38 (List._∷_ 91 (List._∷_ 93 List.[]))) (Syntax.tcons (Syntax.tyRef Syntax.erased Syntax.mut El.word) (Syntax.tcons El.word Syntax.tnil))))
+    (List._∷_ (12, Rows'.any-gone (Syntax.tyRef Syntax.erased Syntax.mut El.word)) (List._∷_ (
+      13,
+      Rows'.any-gone (Syntax.tyStruct (List._∷_ 38 (List._∷_ 91 (List._∷_ 93 List.[]))) (Syntax.tcons (Syntax.tyRef Syntax.erased Syntax.mut
+          El.word) (Syntax.tcons El.word Syntax.tnil))),
+    ) (List._∷_ (14, Rows'.any-gone Syntax.tyUnit) (List._∷_ (15, Rows'.any-gone (Syntax.tyRef Syntax.erased Syntax.mut El.named)) List.[])))))))))))))))
 
 abbrev pub t3 : List.List Row.Entry
-t3 = List._∷_ (0, Rows'.any-gone El.Stepped) (List._∷_ (1, Mut.mslice El.row (Syntax.tyRef (Syntax.named 0) Syntax.mut El.named) 0) (List._∷_ (2, Mut.mslice (Referent.rtF (Referent.fInt Syntax.w64)) (Syntax.tyRef (Syntax.named 1)
-    Syntax.mut El.word) 1) (List._∷_ (3, Mut.mslice (Referent.rtF (Referent.fInt Syntax.w64)) (Syntax.tyRef (Syntax.named 2) Syntax.mut El.word) 2) (List._∷_ (4, Rows'.whole (Declared.row ReadyQueue.the-type)) (List._∷_ (5, Rows'.sc-here
-    (Row.sInt Syntax.w64)) (List._∷_ (6, Rows'.any-gone (Syntax.tyArray El.word 4104)) (List._∷_ (7, Rows'.any-gone El.Begun) (List._∷_ (8, Rows'.any-gone (Syntax.tyRef Syntax.erased Syntax.mut (Syntax.tyArray El.word 4104))) (List._∷_
-    (9, Rows'.any-gone (Syntax.tyStruct (List._∷_ 38 (List._∷_ 91 (List._∷_ 93 List.[]))) (Syntax.tcons (Syntax.tyRef Syntax.erased Syntax.mut El.word) (Syntax.tcons El.word Syntax.tnil)))) (List._∷_ (10, Rows'.any-gone (Syntax.tyRef
-    Syntax.erased Syntax.mut El.word)) (List._∷_ (11, Rows'.any-gone (Syntax.tyStruct (List._∷_ 38 (List._∷_ 91 (List._∷_ 93 List.[]))) (Syntax.tcons (Syntax.tyRef Syntax.erased Syntax.mut El.word) (Syntax.tcons El.word Syntax.tnil))))
-    (List._∷_ (12, Rows'.any-gone (Syntax.tyRef Syntax.erased Syntax.mut El.word)) (List._∷_ (13, Rows'.any-gone (Syntax.tyStruct (List._∷_ 38 (List._∷_ 91 (List._∷_ 93 List.[]))) (Syntax.tcons (Syntax.tyRef Syntax.erased Syntax.mut
-    El.word) (Syntax.tcons El.word Syntax.tnil)))) (List._∷_ (14, Rows'.any-gone Syntax.tyUnit) (List._∷_ (15, Rows'.any-gone (Syntax.tyRef Syntax.erased Syntax.mut El.named)) List.[])))))))))))))))
+t3 = List._∷_ (0, Rows'.any-gone El.Stepped) (List._∷_ (1, Mut.mslice El.row (Syntax.tyRef (Syntax.named 0) Syntax.mut El.named) 0) (List._∷_ (
+  2,
+  Mut.mslice (Referent.rtF (Referent.fInt Syntax.w64)) (Syntax.tyRef (Syntax.named 1)
+      Syntax.mut El.word) 1,
+) (List._∷_ (3, Mut.mslice (Referent.rtF (Referent.fInt Syntax.w64)) (Syntax.tyRef (Syntax.named 2) Syntax.mut El.word) 2) (List._∷_ (4, Rows'.whole (Declared.row ReadyQueue.the-type)) (List._∷_ (
+  5,
+  Rows'.sc-here
+      (Row.sInt Syntax.w64),
+) (List._∷_ (6, Rows'.any-gone (Syntax.tyArray El.word 4104)) (List._∷_ (7, Rows'.any-gone El.Begun) (List._∷_ (8, Rows'.any-gone (Syntax.tyRef Syntax.erased Syntax.mut (Syntax.tyArray El.word 4104))) (List._∷_
+    (9, Rows'.any-gone (Syntax.tyStruct (List._∷_ 38 (List._∷_ 91 (List._∷_ 93 List.[]))) (Syntax.tcons (Syntax.tyRef Syntax.erased Syntax.mut El.word) (Syntax.tcons El.word Syntax.tnil)))) (List._∷_ (
+      10,
+      Rows'.any-gone (Syntax.tyRef
+          Syntax.erased Syntax.mut El.word),
+    ) (List._∷_ (11, Rows'.any-gone (Syntax.tyStruct (List._∷_ 38 (List._∷_ 91 (List._∷_ 93 List.[]))) (Syntax.tcons (Syntax.tyRef Syntax.erased Syntax.mut El.word) (Syntax.tcons El.word Syntax.tnil))))
+    (List._∷_ (12, Rows'.any-gone (Syntax.tyRef Syntax.erased Syntax.mut El.word)) (List._∷_ (
+      13,
+      Rows'.any-gone (Syntax.tyStruct (List._∷_ 38 (List._∷_ 91 (List._∷_ 93 List.[]))) (Syntax.tcons (Syntax.tyRef Syntax.erased Syntax.mut
+          El.word) (Syntax.tcons El.word Syntax.tnil))),
+    ) (List._∷_ (14, Rows'.any-gone Syntax.tyUnit) (List._∷_ (15, Rows'.any-gone (Syntax.tyRef Syntax.erased Syntax.mut El.named)) List.[])))))))))))))))
 
 abbrev pub t4 : List.List Row.Entry
-t4 = List._∷_ (0, Rows'.any-gone El.Stepped) (List._∷_ (1, Mut.mslice El.row (Syntax.tyRef (Syntax.named 0) Syntax.mut El.named) 0) (List._∷_ (2, Mut.mslice (Referent.rtF (Referent.fInt Syntax.w64)) (Syntax.tyRef (Syntax.named 1)
-    Syntax.mut El.word) 1) (List._∷_ (3, Mut.mslice (Referent.rtF (Referent.fInt Syntax.w64)) (Syntax.tyRef (Syntax.named 2) Syntax.mut El.word) 2) (List._∷_ (4, Rows'.whole (Declared.row ReadyQueue.the-type)) (List._∷_ (5, Rows'.sc-here
-    (Row.sInt Syntax.w64)) (List._∷_ (6, Rows'.whole (Array.Array (Referent.rtF (Referent.fInt Syntax.w64)) 4104)) (List._∷_ (7, Rows'.any-gone El.Begun) (List._∷_ (8, Rows'.any-gone (Syntax.tyRef Syntax.erased Syntax.mut
-    (Syntax.tyArray El.word 4104))) (List._∷_ (9, Rows'.any-gone (Syntax.tyStruct (List._∷_ 38 (List._∷_ 91 (List._∷_ 93 List.[]))) (Syntax.tcons (Syntax.tyRef Syntax.erased Syntax.mut El.word) (Syntax.tcons El.word Syntax.tnil))))
-    (List._∷_ (10, Rows'.any-gone (Syntax.tyRef Syntax.erased Syntax.mut El.word)) (List._∷_ (11, Rows'.any-gone (Syntax.tyStruct (List._∷_ 38 (List._∷_ 91 (List._∷_ 93 List.[]))) (Syntax.tcons (Syntax.tyRef Syntax.erased Syntax.mut
-    El.word) (Syntax.tcons El.word Syntax.tnil)))) (List._∷_ (12, Rows'.any-gone (Syntax.tyRef Syntax.erased Syntax.mut El.word)) (List._∷_ (13, Rows'.any-gone (Syntax.tyStruct (List._∷_ 38 (List._∷_ 91 (List._∷_ 93 List.[])))
-    (Syntax.tcons (Syntax.tyRef Syntax.erased Syntax.mut El.word) (Syntax.tcons El.word Syntax.tnil)))) (List._∷_ (14, Rows'.any-gone Syntax.tyUnit) (List._∷_ (15, Rows'.any-gone (Syntax.tyRef Syntax.erased Syntax.mut El.named))
+t4 = List._∷_ (0, Rows'.any-gone El.Stepped) (List._∷_ (1, Mut.mslice El.row (Syntax.tyRef (Syntax.named 0) Syntax.mut El.named) 0) (List._∷_ (
+  2,
+  Mut.mslice (Referent.rtF (Referent.fInt Syntax.w64)) (Syntax.tyRef (Syntax.named 1)
+      Syntax.mut El.word) 1,
+) (List._∷_ (3, Mut.mslice (Referent.rtF (Referent.fInt Syntax.w64)) (Syntax.tyRef (Syntax.named 2) Syntax.mut El.word) 2) (List._∷_ (4, Rows'.whole (Declared.row ReadyQueue.the-type)) (List._∷_ (
+  5,
+  Rows'.sc-here
+      (Row.sInt Syntax.w64),
+) (List._∷_ (6, Rows'.whole (Array.Array (Referent.rtF (Referent.fInt Syntax.w64)) 4104)) (List._∷_ (7, Rows'.any-gone El.Begun) (List._∷_ (
+  8,
+  Rows'.any-gone (Syntax.tyRef Syntax.erased Syntax.mut
+      (Syntax.tyArray El.word 4104)),
+) (List._∷_ (9, Rows'.any-gone (Syntax.tyStruct (List._∷_ 38 (List._∷_ 91 (List._∷_ 93 List.[]))) (Syntax.tcons (Syntax.tyRef Syntax.erased Syntax.mut El.word) (Syntax.tcons El.word Syntax.tnil))))
+    (List._∷_ (10, Rows'.any-gone (Syntax.tyRef Syntax.erased Syntax.mut El.word)) (List._∷_ (
+      11,
+      Rows'.any-gone (Syntax.tyStruct (List._∷_ 38 (List._∷_ 91 (List._∷_ 93 List.[]))) (Syntax.tcons (Syntax.tyRef Syntax.erased Syntax.mut
+          El.word) (Syntax.tcons El.word Syntax.tnil))),
+    ) (List._∷_ (12, Rows'.any-gone (Syntax.tyRef Syntax.erased Syntax.mut El.word)) (List._∷_ (
+      13,
+      Rows'.any-gone (Syntax.tyStruct (List._∷_ 38 (List._∷_ 91 (List._∷_ 93 List.[])))
+          (Syntax.tcons (Syntax.tyRef Syntax.erased Syntax.mut El.word) (Syntax.tcons El.word Syntax.tnil))),
+    ) (List._∷_ (14, Rows'.any-gone Syntax.tyUnit) (List._∷_ (15, Rows'.any-gone (Syntax.tyRef Syntax.erased Syntax.mut El.named))
     List.[])))))))))))))))
 
 abbrev pub t5 : List.List Row.Entry
-t5 = List._∷_ (0, Rows'.any-gone El.Stepped) (List._∷_ (1, Mut.mslice El.row (Syntax.tyRef (Syntax.named 0) Syntax.mut El.named) 0) (List._∷_ (2, Mut.mslice (Referent.rtF (Referent.fInt Syntax.w64)) (Syntax.tyRef (Syntax.named 1)
-    Syntax.mut El.word) 1) (List._∷_ (3, Mut.mslice (Referent.rtF (Referent.fInt Syntax.w64)) (Syntax.tyRef (Syntax.named 2) Syntax.mut El.word) 2) (List._∷_ (4, Rows'.whole (Declared.row ReadyQueue.the-type)) (List._∷_ (5, Rows'.sc-here
-    (Row.sInt Syntax.w64)) (List._∷_ (6, Rows.arrF (Referent.rtF (Referent.fInt Syntax.w64)) 4104 0) (List._∷_ (7, Rows'.any-gone El.Begun) (List._∷_ (8, Rows'.any-gone (Syntax.tyRef Syntax.erased Syntax.mut (Syntax.tyArray El.word
-    4104))) (List._∷_ (9, Rows'.any-gone (Syntax.tyStruct (List._∷_ 38 (List._∷_ 91 (List._∷_ 93 List.[]))) (Syntax.tcons (Syntax.tyRef Syntax.erased Syntax.mut El.word) (Syntax.tcons El.word Syntax.tnil)))) (List._∷_ (10, Rows'.any-gone
-    (Syntax.tyRef Syntax.erased Syntax.mut El.word)) (List._∷_ (11, Rows'.any-gone (Syntax.tyStruct (List._∷_ 38 (List._∷_ 91 (List._∷_ 93 List.[]))) (Syntax.tcons (Syntax.tyRef Syntax.erased Syntax.mut El.word) (Syntax.tcons El.word
-    Syntax.tnil)))) (List._∷_ (12, Rows'.any-gone (Syntax.tyRef Syntax.erased Syntax.mut El.word)) (List._∷_ (13, Rows'.any-gone (Syntax.tyStruct (List._∷_ 38 (List._∷_ 91 (List._∷_ 93 List.[]))) (Syntax.tcons (Syntax.tyRef
-    Syntax.erased Syntax.mut El.word) (Syntax.tcons El.word Syntax.tnil)))) (List._∷_ (14, Rows'.any-gone Syntax.tyUnit) (List._∷_ (15, Rows'.any-gone (Syntax.tyRef Syntax.erased Syntax.mut El.named)) List.[])))))))))))))))
+t5 = List._∷_ (0, Rows'.any-gone El.Stepped) (List._∷_ (1, Mut.mslice El.row (Syntax.tyRef (Syntax.named 0) Syntax.mut El.named) 0) (List._∷_ (
+  2,
+  Mut.mslice (Referent.rtF (Referent.fInt Syntax.w64)) (Syntax.tyRef (Syntax.named 1)
+      Syntax.mut El.word) 1,
+) (List._∷_ (3, Mut.mslice (Referent.rtF (Referent.fInt Syntax.w64)) (Syntax.tyRef (Syntax.named 2) Syntax.mut El.word) 2) (List._∷_ (4, Rows'.whole (Declared.row ReadyQueue.the-type)) (List._∷_ (
+  5,
+  Rows'.sc-here
+      (Row.sInt Syntax.w64),
+) (List._∷_ (6, Rows.arrF (Referent.rtF (Referent.fInt Syntax.w64)) 4104 0) (List._∷_ (7, Rows'.any-gone El.Begun) (List._∷_ (
+  8,
+  Rows'.any-gone (Syntax.tyRef Syntax.erased Syntax.mut (Syntax.tyArray El.word
+      4104)),
+) (List._∷_ (9, Rows'.any-gone (Syntax.tyStruct (List._∷_ 38 (List._∷_ 91 (List._∷_ 93 List.[]))) (Syntax.tcons (Syntax.tyRef Syntax.erased Syntax.mut El.word) (Syntax.tcons El.word Syntax.tnil)))) (List._∷_ (
+  10,
+  Rows'.any-gone
+      (Syntax.tyRef Syntax.erased Syntax.mut El.word),
+) (List._∷_ (
+  11,
+  Rows'.any-gone (Syntax.tyStruct (List._∷_ 38 (List._∷_ 91 (List._∷_ 93 List.[]))) (Syntax.tcons (Syntax.tyRef Syntax.erased Syntax.mut El.word) (Syntax.tcons El.word
+      Syntax.tnil))),
+) (List._∷_ (12, Rows'.any-gone (Syntax.tyRef Syntax.erased Syntax.mut El.word)) (List._∷_ (
+  13,
+  Rows'.any-gone (Syntax.tyStruct (List._∷_ 38 (List._∷_ 91 (List._∷_ 93 List.[]))) (Syntax.tcons (Syntax.tyRef
+      Syntax.erased Syntax.mut El.word) (Syntax.tcons El.word Syntax.tnil))),
+) (List._∷_ (14, Rows'.any-gone Syntax.tyUnit) (List._∷_ (15, Rows'.any-gone (Syntax.tyRef Syntax.erased Syntax.mut El.named)) List.[])))))))))))))))
 
 abbrev pub t6 : List.List Row.Entry
-t6 = List._∷_ (0, Rows'.any-gone El.Stepped) (List._∷_ (1, Mut.mslice El.row (Syntax.tyRef (Syntax.named 0) Syntax.mut El.named) 0) (List._∷_ (2, Mut.mslice (Referent.rtF (Referent.fInt Syntax.w64)) (Syntax.tyRef (Syntax.named 1)
-    Syntax.mut El.word) 1) (List._∷_ (3, Mut.mslice (Referent.rtF (Referent.fInt Syntax.w64)) (Syntax.tyRef (Syntax.named 2) Syntax.mut El.word) 2) (List._∷_ (4, Rows'.whole (Declared.row ReadyQueue.the-type)) (List._∷_ (5, Rows'.sc-here
-    (Row.sInt Syntax.w64)) (List._∷_ (6, Rows.arr-owed (Referent.rtF (Referent.fInt Syntax.w64)) 4104 3) (List._∷_ (7, Rows'.any-gone El.Begun) (List._∷_ (8, Relend.msptr (Referent.rtF (Referent.fInt Syntax.w64)) (Syntax.tyRef
-    Syntax.erased Syntax.mut (Syntax.tyArray El.word 4104)) 3) (List._∷_ (9, Rows'.any-gone (Syntax.tyStruct (List._∷_ 38 (List._∷_ 91 (List._∷_ 93 List.[]))) (Syntax.tcons (Syntax.tyRef Syntax.erased Syntax.mut El.word) (Syntax.tcons
-    El.word Syntax.tnil)))) (List._∷_ (10, Rows'.any-gone (Syntax.tyRef Syntax.erased Syntax.mut El.word)) (List._∷_ (11, Rows'.any-gone (Syntax.tyStruct (List._∷_ 38 (List._∷_ 91 (List._∷_ 93 List.[]))) (Syntax.tcons (Syntax.tyRef
-    Syntax.erased Syntax.mut El.word) (Syntax.tcons El.word Syntax.tnil)))) (List._∷_ (12, Rows'.any-gone (Syntax.tyRef Syntax.erased Syntax.mut El.word)) (List._∷_ (13, Rows'.any-gone (Syntax.tyStruct (List._∷_ 38 (List._∷_ 91 (List._∷_
-    93 List.[]))) (Syntax.tcons (Syntax.tyRef Syntax.erased Syntax.mut El.word) (Syntax.tcons El.word Syntax.tnil)))) (List._∷_ (14, Rows'.any-gone Syntax.tyUnit) (List._∷_ (15, Rows'.any-gone (Syntax.tyRef Syntax.erased Syntax.mut
-    El.named)) List.[])))))))))))))))
+t6 = List._∷_ (0, Rows'.any-gone El.Stepped) (List._∷_ (1, Mut.mslice El.row (Syntax.tyRef (Syntax.named 0) Syntax.mut El.named) 0) (List._∷_ (
+  2,
+  Mut.mslice (Referent.rtF (Referent.fInt Syntax.w64)) (Syntax.tyRef (Syntax.named 1)
+      Syntax.mut El.word) 1,
+) (List._∷_ (3, Mut.mslice (Referent.rtF (Referent.fInt Syntax.w64)) (Syntax.tyRef (Syntax.named 2) Syntax.mut El.word) 2) (List._∷_ (4, Rows'.whole (Declared.row ReadyQueue.the-type)) (List._∷_ (
+  5,
+  Rows'.sc-here
+      (Row.sInt Syntax.w64),
+) (List._∷_ (6, Rows.arr-owed (Referent.rtF (Referent.fInt Syntax.w64)) 4104 3) (List._∷_ (7, Rows'.any-gone El.Begun) (List._∷_ (
+  8,
+  Relend.msptr (Referent.rtF (Referent.fInt Syntax.w64)) (Syntax.tyRef
+      Syntax.erased Syntax.mut (Syntax.tyArray El.word 4104)) 3,
+) (List._∷_ (
+  9,
+  Rows'.any-gone (Syntax.tyStruct (List._∷_ 38 (List._∷_ 91 (List._∷_ 93 List.[]))) (Syntax.tcons (Syntax.tyRef Syntax.erased Syntax.mut El.word) (Syntax.tcons
+      El.word Syntax.tnil))),
+) (List._∷_ (10, Rows'.any-gone (Syntax.tyRef Syntax.erased Syntax.mut El.word)) (List._∷_ (
+  11,
+  Rows'.any-gone (Syntax.tyStruct (List._∷_ 38 (List._∷_ 91 (List._∷_ 93 List.[]))) (Syntax.tcons (Syntax.tyRef
+      Syntax.erased Syntax.mut El.word) (Syntax.tcons El.word Syntax.tnil))),
+) (List._∷_ (12, Rows'.any-gone (Syntax.tyRef Syntax.erased Syntax.mut El.word)) (List._∷_ (
+  13,
+  Rows'.any-gone (Syntax.tyStruct (List._∷_ 38 (List._∷_ 91 (List._∷_
+      93 List.[]))) (Syntax.tcons (Syntax.tyRef Syntax.erased Syntax.mut El.word) (Syntax.tcons El.word Syntax.tnil))),
+) (List._∷_ (14, Rows'.any-gone Syntax.tyUnit) (List._∷_ (
+  15,
+  Rows'.any-gone (Syntax.tyRef Syntax.erased Syntax.mut
+      El.named),
+) List.[])))))))))))))))
 
 abbrev pub t7 : List.List Row.Entry
-t7 = List._∷_ (0, Rows'.any-gone El.Stepped) (List._∷_ (1, Mut.mslice El.row (Syntax.tyRef (Syntax.named 0) Syntax.mut El.named) 0) (List._∷_ (2, Mut.mslice (Referent.rtF (Referent.fInt Syntax.w64)) (Syntax.tyRef (Syntax.named 1)
-    Syntax.mut El.word) 1) (List._∷_ (3, Mut.mslice (Referent.rtF (Referent.fInt Syntax.w64)) (Syntax.tyRef (Syntax.named 2) Syntax.mut El.word) 2) (List._∷_ (4, Rows'.whole (Declared.row ReadyQueue.the-type)) (List._∷_ (5, Rows'.sc-here
-    (Row.sInt Syntax.w64)) (List._∷_ (6, Rows.arr-owed (Referent.rtF (Referent.fInt Syntax.w64)) 4104 3) (List._∷_ (7, Rows'.any-gone El.Begun) (List._∷_ (8, Rows'.any-gone (Syntax.tyRef Syntax.erased Syntax.mut (Syntax.tyArray El.word
-    4104))) (List._∷_ (9, Mut.mslice (Referent.rtF (Referent.fInt Syntax.w64)) (Syntax.tyRef Syntax.erased Syntax.mut El.word) 3) (List._∷_ (10, Rows'.any-gone (Syntax.tyRef Syntax.erased Syntax.mut El.word)) (List._∷_ (11,
-    Rows'.any-gone (Syntax.tyStruct (List._∷_ 38 (List._∷_ 91 (List._∷_ 93 List.[]))) (Syntax.tcons (Syntax.tyRef Syntax.erased Syntax.mut El.word) (Syntax.tcons El.word Syntax.tnil)))) (List._∷_ (12, Rows'.any-gone (Syntax.tyRef
-    Syntax.erased Syntax.mut El.word)) (List._∷_ (13, Rows'.any-gone (Syntax.tyStruct (List._∷_ 38 (List._∷_ 91 (List._∷_ 93 List.[]))) (Syntax.tcons (Syntax.tyRef Syntax.erased Syntax.mut El.word) (Syntax.tcons El.word Syntax.tnil))))
+t7 = List._∷_ (0, Rows'.any-gone El.Stepped) (List._∷_ (1, Mut.mslice El.row (Syntax.tyRef (Syntax.named 0) Syntax.mut El.named) 0) (List._∷_ (
+  2,
+  Mut.mslice (Referent.rtF (Referent.fInt Syntax.w64)) (Syntax.tyRef (Syntax.named 1)
+      Syntax.mut El.word) 1,
+) (List._∷_ (3, Mut.mslice (Referent.rtF (Referent.fInt Syntax.w64)) (Syntax.tyRef (Syntax.named 2) Syntax.mut El.word) 2) (List._∷_ (4, Rows'.whole (Declared.row ReadyQueue.the-type)) (List._∷_ (
+  5,
+  Rows'.sc-here
+      (Row.sInt Syntax.w64),
+) (List._∷_ (6, Rows.arr-owed (Referent.rtF (Referent.fInt Syntax.w64)) 4104 3) (List._∷_ (7, Rows'.any-gone El.Begun) (List._∷_ (
+  8,
+  Rows'.any-gone (Syntax.tyRef Syntax.erased Syntax.mut (Syntax.tyArray El.word
+      4104)),
+) (List._∷_ (9, Mut.mslice (Referent.rtF (Referent.fInt Syntax.w64)) (Syntax.tyRef Syntax.erased Syntax.mut El.word) 3) (List._∷_ (10, Rows'.any-gone (Syntax.tyRef Syntax.erased Syntax.mut El.word)) (List._∷_ (
+  11,
+  Rows'.any-gone (Syntax.tyStruct (List._∷_ 38 (List._∷_ 91 (List._∷_ 93 List.[]))) (Syntax.tcons (Syntax.tyRef Syntax.erased Syntax.mut El.word) (Syntax.tcons El.word Syntax.tnil))),
+) (List._∷_ (
+  12,
+  Rows'.any-gone (Syntax.tyRef
+      Syntax.erased Syntax.mut El.word),
+) (List._∷_ (13, Rows'.any-gone (Syntax.tyStruct (List._∷_ 38 (List._∷_ 91 (List._∷_ 93 List.[]))) (Syntax.tcons (Syntax.tyRef Syntax.erased Syntax.mut El.word) (Syntax.tcons El.word Syntax.tnil))))
     (List._∷_ (14, Rows'.any-gone Syntax.tyUnit) (List._∷_ (15, Rows'.any-gone (Syntax.tyRef Syntax.erased Syntax.mut El.named)) List.[])))))))))))))))
 
 abbrev pub t8 : List.List Row.Entry
-t8 = List._∷_ (0, Rows'.any-gone El.Stepped) (List._∷_ (1, Mut.mslice El.row (Syntax.tyRef (Syntax.named 0) Syntax.mut El.named) 0) (List._∷_ (2, Relend.mslice-owed (Referent.rtF (Referent.fInt Syntax.w64)) (Syntax.tyRef (Syntax.named 1)
-    Syntax.mut El.word) 1 4 Row.off) (List._∷_ (3, Mut.mslice (Referent.rtF (Referent.fInt Syntax.w64)) (Syntax.tyRef (Syntax.named 2) Syntax.mut El.word) 2) (List._∷_ (4, Rows'.whole (Declared.row ReadyQueue.the-type)) (List._∷_ (5,
-    Rows'.sc-here (Row.sInt Syntax.w64)) (List._∷_ (6, Rows.arr-owed (Referent.rtF (Referent.fInt Syntax.w64)) 4104 3) (List._∷_ (7, Rows'.any-gone El.Begun) (List._∷_ (8, Rows'.any-gone (Syntax.tyRef Syntax.erased Syntax.mut
-    (Syntax.tyArray El.word 4104))) (List._∷_ (9, Mut.mslice (Referent.rtF (Referent.fInt Syntax.w64)) (Syntax.tyRef Syntax.erased Syntax.mut El.word) 3) (List._∷_ (10, Relend.msptr (Referent.rtF (Referent.fInt Syntax.w64)) (Syntax.tyRef
-    Syntax.erased Syntax.mut El.word) 4) (List._∷_ (11, Rows'.any-gone (Syntax.tyStruct (List._∷_ 38 (List._∷_ 91 (List._∷_ 93 List.[]))) (Syntax.tcons (Syntax.tyRef Syntax.erased Syntax.mut El.word) (Syntax.tcons El.word Syntax.tnil))))
-    (List._∷_ (12, Rows'.any-gone (Syntax.tyRef Syntax.erased Syntax.mut El.word)) (List._∷_ (13, Rows'.any-gone (Syntax.tyStruct (List._∷_ 38 (List._∷_ 91 (List._∷_ 93 List.[]))) (Syntax.tcons (Syntax.tyRef Syntax.erased Syntax.mut
-    El.word) (Syntax.tcons El.word Syntax.tnil)))) (List._∷_ (14, Rows'.any-gone Syntax.tyUnit) (List._∷_ (15, Rows'.any-gone (Syntax.tyRef Syntax.erased Syntax.mut El.named)) List.[])))))))))))))))
+t8 = List._∷_ (0, Rows'.any-gone El.Stepped) (List._∷_ (1, Mut.mslice El.row (Syntax.tyRef (Syntax.named 0) Syntax.mut El.named) 0) (List._∷_ (
+  2,
+  Relend.mslice-owed (Referent.rtF (Referent.fInt Syntax.w64)) (Syntax.tyRef (Syntax.named 1)
+      Syntax.mut El.word) 1 4 Row.off,
+) (List._∷_ (3, Mut.mslice (Referent.rtF (Referent.fInt Syntax.w64)) (Syntax.tyRef (Syntax.named 2) Syntax.mut El.word) 2) (List._∷_ (4, Rows'.whole (Declared.row ReadyQueue.the-type)) (List._∷_ (
+  5,
+  Rows'.sc-here (Row.sInt Syntax.w64),
+) (List._∷_ (6, Rows.arr-owed (Referent.rtF (Referent.fInt Syntax.w64)) 4104 3) (List._∷_ (7, Rows'.any-gone El.Begun) (List._∷_ (
+  8,
+  Rows'.any-gone (Syntax.tyRef Syntax.erased Syntax.mut
+      (Syntax.tyArray El.word 4104)),
+) (List._∷_ (9, Mut.mslice (Referent.rtF (Referent.fInt Syntax.w64)) (Syntax.tyRef Syntax.erased Syntax.mut El.word) 3) (List._∷_ (
+  10,
+  Relend.msptr (Referent.rtF (Referent.fInt Syntax.w64)) (Syntax.tyRef
+      Syntax.erased Syntax.mut El.word) 4,
+) (List._∷_ (11, Rows'.any-gone (Syntax.tyStruct (List._∷_ 38 (List._∷_ 91 (List._∷_ 93 List.[]))) (Syntax.tcons (Syntax.tyRef Syntax.erased Syntax.mut El.word) (Syntax.tcons El.word Syntax.tnil))))
+    (List._∷_ (12, Rows'.any-gone (Syntax.tyRef Syntax.erased Syntax.mut El.word)) (List._∷_ (
+      13,
+      Rows'.any-gone (Syntax.tyStruct (List._∷_ 38 (List._∷_ 91 (List._∷_ 93 List.[]))) (Syntax.tcons (Syntax.tyRef Syntax.erased Syntax.mut
+          El.word) (Syntax.tcons El.word Syntax.tnil))),
+    ) (List._∷_ (14, Rows'.any-gone Syntax.tyUnit) (List._∷_ (15, Rows'.any-gone (Syntax.tyRef Syntax.erased Syntax.mut El.named)) List.[])))))))))))))))
 
 abbrev pub t9 : List.List Row.Entry
-t9 = List._∷_ (0, Rows'.any-gone El.Stepped) (List._∷_ (1, Mut.mslice El.row (Syntax.tyRef (Syntax.named 0) Syntax.mut El.named) 0) (List._∷_ (2, Relend.mslice-owed (Referent.rtF (Referent.fInt Syntax.w64)) (Syntax.tyRef (Syntax.named 1)
-    Syntax.mut El.word) 1 4 Row.off) (List._∷_ (3, Mut.mslice (Referent.rtF (Referent.fInt Syntax.w64)) (Syntax.tyRef (Syntax.named 2) Syntax.mut El.word) 2) (List._∷_ (4, Rows'.whole (Declared.row ReadyQueue.the-type)) (List._∷_ (5,
-    Rows'.sc-here (Row.sInt Syntax.w64)) (List._∷_ (6, Rows.arr-owed (Referent.rtF (Referent.fInt Syntax.w64)) 4104 3) (List._∷_ (7, Rows'.any-gone El.Begun) (List._∷_ (8, Rows'.any-gone (Syntax.tyRef Syntax.erased Syntax.mut
-    (Syntax.tyArray El.word 4104))) (List._∷_ (9, Mut.mslice (Referent.rtF (Referent.fInt Syntax.w64)) (Syntax.tyRef Syntax.erased Syntax.mut El.word) 3) (List._∷_ (10, Rows'.any-gone (Syntax.tyRef Syntax.erased Syntax.mut El.word))
-    (List._∷_ (11, Mut.mslice (Referent.rtF (Referent.fInt Syntax.w64)) (Syntax.tyRef Syntax.erased Syntax.mut El.word) 4) (List._∷_ (12, Rows'.any-gone (Syntax.tyRef Syntax.erased Syntax.mut El.word)) (List._∷_ (13, Rows'.any-gone
-    (Syntax.tyStruct (List._∷_ 38 (List._∷_ 91 (List._∷_ 93 List.[]))) (Syntax.tcons (Syntax.tyRef Syntax.erased Syntax.mut El.word) (Syntax.tcons El.word Syntax.tnil)))) (List._∷_ (14, Rows'.any-gone Syntax.tyUnit) (List._∷_ (15,
-    Rows'.any-gone (Syntax.tyRef Syntax.erased Syntax.mut El.named)) List.[])))))))))))))))
+t9 = List._∷_ (0, Rows'.any-gone El.Stepped) (List._∷_ (1, Mut.mslice El.row (Syntax.tyRef (Syntax.named 0) Syntax.mut El.named) 0) (List._∷_ (
+  2,
+  Relend.mslice-owed (Referent.rtF (Referent.fInt Syntax.w64)) (Syntax.tyRef (Syntax.named 1)
+      Syntax.mut El.word) 1 4 Row.off,
+) (List._∷_ (3, Mut.mslice (Referent.rtF (Referent.fInt Syntax.w64)) (Syntax.tyRef (Syntax.named 2) Syntax.mut El.word) 2) (List._∷_ (4, Rows'.whole (Declared.row ReadyQueue.the-type)) (List._∷_ (
+  5,
+  Rows'.sc-here (Row.sInt Syntax.w64),
+) (List._∷_ (6, Rows.arr-owed (Referent.rtF (Referent.fInt Syntax.w64)) 4104 3) (List._∷_ (7, Rows'.any-gone El.Begun) (List._∷_ (
+  8,
+  Rows'.any-gone (Syntax.tyRef Syntax.erased Syntax.mut
+      (Syntax.tyArray El.word 4104)),
+) (List._∷_ (9, Mut.mslice (Referent.rtF (Referent.fInt Syntax.w64)) (Syntax.tyRef Syntax.erased Syntax.mut El.word) 3) (List._∷_ (10, Rows'.any-gone (Syntax.tyRef Syntax.erased Syntax.mut El.word))
+    (List._∷_ (11, Mut.mslice (Referent.rtF (Referent.fInt Syntax.w64)) (Syntax.tyRef Syntax.erased Syntax.mut El.word) 4) (List._∷_ (12, Rows'.any-gone (Syntax.tyRef Syntax.erased Syntax.mut El.word)) (List._∷_ (
+      13,
+      Rows'.any-gone
+          (Syntax.tyStruct (List._∷_ 38 (List._∷_ 91 (List._∷_ 93 List.[]))) (Syntax.tcons (Syntax.tyRef Syntax.erased Syntax.mut El.word) (Syntax.tcons El.word Syntax.tnil))),
+    ) (List._∷_ (14, Rows'.any-gone Syntax.tyUnit) (List._∷_ (
+      15,
+      Rows'.any-gone (Syntax.tyRef Syntax.erased Syntax.mut El.named),
+    ) List.[])))))))))))))))
 
 abbrev pub t10 : List.List Row.Entry
-t10 = List._∷_ (0, Rows'.any-gone El.Stepped) (List._∷_ (1, Mut.mslice El.row (Syntax.tyRef (Syntax.named 0) Syntax.mut El.named) 0) (List._∷_ (2, Relend.mslice-owed (Referent.rtF (Referent.fInt Syntax.w64)) (Syntax.tyRef (Syntax.named 1)
-    Syntax.mut El.word) 1 4 Row.off) (List._∷_ (3, Relend.mslice-owed (Referent.rtF (Referent.fInt Syntax.w64)) (Syntax.tyRef (Syntax.named 2) Syntax.mut El.word) 2 5 Row.off) (List._∷_ (4, Rows'.whole (Declared.row ReadyQueue.the-type))
-    (List._∷_ (5, Rows'.sc-here (Row.sInt Syntax.w64)) (List._∷_ (6, Rows.arr-owed (Referent.rtF (Referent.fInt Syntax.w64)) 4104 3) (List._∷_ (7, Rows'.any-gone El.Begun) (List._∷_ (8, Rows'.any-gone (Syntax.tyRef Syntax.erased
-    Syntax.mut (Syntax.tyArray El.word 4104))) (List._∷_ (9, Mut.mslice (Referent.rtF (Referent.fInt Syntax.w64)) (Syntax.tyRef Syntax.erased Syntax.mut El.word) 3) (List._∷_ (10, Rows'.any-gone (Syntax.tyRef Syntax.erased Syntax.mut
-    El.word)) (List._∷_ (11, Mut.mslice (Referent.rtF (Referent.fInt Syntax.w64)) (Syntax.tyRef Syntax.erased Syntax.mut El.word) 4) (List._∷_ (12, Relend.msptr (Referent.rtF (Referent.fInt Syntax.w64)) (Syntax.tyRef Syntax.erased
-    Syntax.mut El.word) 5) (List._∷_ (13, Rows'.any-gone (Syntax.tyStruct (List._∷_ 38 (List._∷_ 91 (List._∷_ 93 List.[]))) (Syntax.tcons (Syntax.tyRef Syntax.erased Syntax.mut El.word) (Syntax.tcons El.word Syntax.tnil)))) (List._∷_ (14,
-    Rows'.any-gone Syntax.tyUnit) (List._∷_ (15, Rows'.any-gone (Syntax.tyRef Syntax.erased Syntax.mut El.named)) List.[])))))))))))))))
+t10 = List._∷_ (0, Rows'.any-gone El.Stepped) (List._∷_ (1, Mut.mslice El.row (Syntax.tyRef (Syntax.named 0) Syntax.mut El.named) 0) (List._∷_ (
+  2,
+  Relend.mslice-owed (Referent.rtF (Referent.fInt Syntax.w64)) (Syntax.tyRef (Syntax.named 1)
+      Syntax.mut El.word) 1 4 Row.off,
+) (List._∷_ (3, Relend.mslice-owed (Referent.rtF (Referent.fInt Syntax.w64)) (Syntax.tyRef (Syntax.named 2) Syntax.mut El.word) 2 5 Row.off) (List._∷_ (4, Rows'.whole (Declared.row ReadyQueue.the-type))
+    (List._∷_ (5, Rows'.sc-here (Row.sInt Syntax.w64)) (List._∷_ (6, Rows.arr-owed (Referent.rtF (Referent.fInt Syntax.w64)) 4104 3) (List._∷_ (7, Rows'.any-gone El.Begun) (List._∷_ (
+      8,
+      Rows'.any-gone (Syntax.tyRef Syntax.erased
+          Syntax.mut (Syntax.tyArray El.word 4104)),
+    ) (List._∷_ (9, Mut.mslice (Referent.rtF (Referent.fInt Syntax.w64)) (Syntax.tyRef Syntax.erased Syntax.mut El.word) 3) (List._∷_ (
+      10,
+      Rows'.any-gone (Syntax.tyRef Syntax.erased Syntax.mut
+          El.word),
+    ) (List._∷_ (11, Mut.mslice (Referent.rtF (Referent.fInt Syntax.w64)) (Syntax.tyRef Syntax.erased Syntax.mut El.word) 4) (List._∷_ (
+      12,
+      Relend.msptr (Referent.rtF (Referent.fInt Syntax.w64)) (Syntax.tyRef Syntax.erased
+          Syntax.mut El.word) 5,
+    ) (List._∷_ (13, Rows'.any-gone (Syntax.tyStruct (List._∷_ 38 (List._∷_ 91 (List._∷_ 93 List.[]))) (Syntax.tcons (Syntax.tyRef Syntax.erased Syntax.mut El.word) (Syntax.tcons El.word Syntax.tnil)))) (List._∷_ (
+      14,
+      Rows'.any-gone Syntax.tyUnit,
+    ) (List._∷_ (15, Rows'.any-gone (Syntax.tyRef Syntax.erased Syntax.mut El.named)) List.[])))))))))))))))
 
 abbrev pub t11 : List.List Row.Entry
-t11 = List._∷_ (0, Rows'.any-gone El.Stepped) (List._∷_ (1, Mut.mslice El.row (Syntax.tyRef (Syntax.named 0) Syntax.mut El.named) 0) (List._∷_ (2, Relend.mslice-owed (Referent.rtF (Referent.fInt Syntax.w64)) (Syntax.tyRef (Syntax.named 1)
-    Syntax.mut El.word) 1 4 Row.off) (List._∷_ (3, Relend.mslice-owed (Referent.rtF (Referent.fInt Syntax.w64)) (Syntax.tyRef (Syntax.named 2) Syntax.mut El.word) 2 5 Row.off) (List._∷_ (4, Rows'.whole (Declared.row ReadyQueue.the-type))
-    (List._∷_ (5, Rows'.sc-here (Row.sInt Syntax.w64)) (List._∷_ (6, Rows.arr-owed (Referent.rtF (Referent.fInt Syntax.w64)) 4104 3) (List._∷_ (7, Rows'.any-gone El.Begun) (List._∷_ (8, Rows'.any-gone (Syntax.tyRef Syntax.erased
-    Syntax.mut (Syntax.tyArray El.word 4104))) (List._∷_ (9, Mut.mslice (Referent.rtF (Referent.fInt Syntax.w64)) (Syntax.tyRef Syntax.erased Syntax.mut El.word) 3) (List._∷_ (10, Rows'.any-gone (Syntax.tyRef Syntax.erased Syntax.mut
-    El.word)) (List._∷_ (11, Mut.mslice (Referent.rtF (Referent.fInt Syntax.w64)) (Syntax.tyRef Syntax.erased Syntax.mut El.word) 4) (List._∷_ (12, Rows'.any-gone (Syntax.tyRef Syntax.erased Syntax.mut El.word)) (List._∷_ (13, Mut.mslice
-    (Referent.rtF (Referent.fInt Syntax.w64)) (Syntax.tyRef Syntax.erased Syntax.mut El.word) 5) (List._∷_ (14, Rows'.any-gone Syntax.tyUnit) (List._∷_ (15, Rows'.any-gone (Syntax.tyRef Syntax.erased Syntax.mut El.named))
+t11 = List._∷_ (0, Rows'.any-gone El.Stepped) (List._∷_ (1, Mut.mslice El.row (Syntax.tyRef (Syntax.named 0) Syntax.mut El.named) 0) (List._∷_ (
+  2,
+  Relend.mslice-owed (Referent.rtF (Referent.fInt Syntax.w64)) (Syntax.tyRef (Syntax.named 1)
+      Syntax.mut El.word) 1 4 Row.off,
+) (List._∷_ (3, Relend.mslice-owed (Referent.rtF (Referent.fInt Syntax.w64)) (Syntax.tyRef (Syntax.named 2) Syntax.mut El.word) 2 5 Row.off) (List._∷_ (4, Rows'.whole (Declared.row ReadyQueue.the-type))
+    (List._∷_ (5, Rows'.sc-here (Row.sInt Syntax.w64)) (List._∷_ (6, Rows.arr-owed (Referent.rtF (Referent.fInt Syntax.w64)) 4104 3) (List._∷_ (7, Rows'.any-gone El.Begun) (List._∷_ (
+      8,
+      Rows'.any-gone (Syntax.tyRef Syntax.erased
+          Syntax.mut (Syntax.tyArray El.word 4104)),
+    ) (List._∷_ (9, Mut.mslice (Referent.rtF (Referent.fInt Syntax.w64)) (Syntax.tyRef Syntax.erased Syntax.mut El.word) 3) (List._∷_ (
+      10,
+      Rows'.any-gone (Syntax.tyRef Syntax.erased Syntax.mut
+          El.word),
+    ) (List._∷_ (11, Mut.mslice (Referent.rtF (Referent.fInt Syntax.w64)) (Syntax.tyRef Syntax.erased Syntax.mut El.word) 4) (List._∷_ (12, Rows'.any-gone (Syntax.tyRef Syntax.erased Syntax.mut El.word)) (List._∷_ (
+      13,
+      Mut.mslice
+          (Referent.rtF (Referent.fInt Syntax.w64)) (Syntax.tyRef Syntax.erased Syntax.mut El.word) 5,
+    ) (List._∷_ (14, Rows'.any-gone Syntax.tyUnit) (List._∷_ (15, Rows'.any-gone (Syntax.tyRef Syntax.erased Syntax.mut El.named))
     List.[])))))))))))))))
 
 abbrev pub t12 : List.List Row.Entry
-t12 = List._∷_ (0, Rows'.any-gone El.Stepped) (List._∷_ (1, Mut.mslice El.row (Syntax.tyRef (Syntax.named 0) Syntax.mut El.named) 0) (List._∷_ (2, Relend.mslice-owed (Referent.rtF (Referent.fInt Syntax.w64)) (Syntax.tyRef (Syntax.named 1)
-    Syntax.mut El.word) 1 4 Row.off) (List._∷_ (3, Relend.mslice-owed (Referent.rtF (Referent.fInt Syntax.w64)) (Syntax.tyRef (Syntax.named 2) Syntax.mut El.word) 2 5 Row.off) (List._∷_ (4, Rows'.whole (Declared.row ReadyQueue.the-type))
-    (List._∷_ (5, Rows'.sc-here (Row.sInt Syntax.w64)) (List._∷_ (6, Rows.arr-owed (Referent.rtF (Referent.fInt Syntax.w64)) 4104 3) (List._∷_ (7, Rows'.whole (Declared.row Begun.the-type)) (List._∷_ (8, Rows'.any-gone (Syntax.tyRef
-    Syntax.erased Syntax.mut (Syntax.tyArray El.word 4104))) (List._∷_ (9, Mut.msleft (Referent.rtF (Referent.fInt Syntax.w64)) (Syntax.tyRef Syntax.erased Syntax.mut El.word)) (List._∷_ (10, Rows'.any-gone (Syntax.tyRef Syntax.erased
-    Syntax.mut El.word)) (List._∷_ (11, Mut.msleft (Referent.rtF (Referent.fInt Syntax.w64)) (Syntax.tyRef Syntax.erased Syntax.mut El.word)) (List._∷_ (12, Rows'.any-gone (Syntax.tyRef Syntax.erased Syntax.mut El.word)) (List._∷_ (13,
-    Mut.msleft (Referent.rtF (Referent.fInt Syntax.w64)) (Syntax.tyRef Syntax.erased Syntax.mut El.word)) (List._∷_ (14, Rows'.any-gone Syntax.tyUnit) (List._∷_ (15, Rows'.any-gone (Syntax.tyRef Syntax.erased Syntax.mut El.named))
+t12 = List._∷_ (0, Rows'.any-gone El.Stepped) (List._∷_ (1, Mut.mslice El.row (Syntax.tyRef (Syntax.named 0) Syntax.mut El.named) 0) (List._∷_ (
+  2,
+  Relend.mslice-owed (Referent.rtF (Referent.fInt Syntax.w64)) (Syntax.tyRef (Syntax.named 1)
+      Syntax.mut El.word) 1 4 Row.off,
+) (List._∷_ (3, Relend.mslice-owed (Referent.rtF (Referent.fInt Syntax.w64)) (Syntax.tyRef (Syntax.named 2) Syntax.mut El.word) 2 5 Row.off) (List._∷_ (4, Rows'.whole (Declared.row ReadyQueue.the-type))
+    (List._∷_ (5, Rows'.sc-here (Row.sInt Syntax.w64)) (List._∷_ (6, Rows.arr-owed (Referent.rtF (Referent.fInt Syntax.w64)) 4104 3) (List._∷_ (7, Rows'.whole (Declared.row Begun.the-type)) (List._∷_ (
+      8,
+      Rows'.any-gone (Syntax.tyRef
+          Syntax.erased Syntax.mut (Syntax.tyArray El.word 4104)),
+    ) (List._∷_ (9, Mut.msleft (Referent.rtF (Referent.fInt Syntax.w64)) (Syntax.tyRef Syntax.erased Syntax.mut El.word)) (List._∷_ (
+      10,
+      Rows'.any-gone (Syntax.tyRef Syntax.erased
+          Syntax.mut El.word),
+    ) (List._∷_ (11, Mut.msleft (Referent.rtF (Referent.fInt Syntax.w64)) (Syntax.tyRef Syntax.erased Syntax.mut El.word)) (List._∷_ (12, Rows'.any-gone (Syntax.tyRef Syntax.erased Syntax.mut El.word)) (List._∷_ (
+      13,
+      Mut.msleft (Referent.rtF (Referent.fInt Syntax.w64)) (Syntax.tyRef Syntax.erased Syntax.mut El.word),
+    ) (List._∷_ (14, Rows'.any-gone Syntax.tyUnit) (List._∷_ (15, Rows'.any-gone (Syntax.tyRef Syntax.erased Syntax.mut El.named))
     List.[])))))))))))))))
 
 abbrev pub t13 : List.List Row.Entry
-t13 = List._∷_ (0, Rows'.any-gone El.Stepped) (List._∷_ (1, Mut.mslice El.row (Syntax.tyRef (Syntax.named 0) Syntax.mut El.named) 0) (List._∷_ (2, Relend.mslice-owed (Referent.rtF (Referent.fInt Syntax.w64)) (Syntax.tyRef (Syntax.named 1)
-    Syntax.mut El.word) 1 4 Row.off) (List._∷_ (3, Relend.mslice-owed (Referent.rtF (Referent.fInt Syntax.w64)) (Syntax.tyRef (Syntax.named 2) Syntax.mut El.word) 2 5 Row.off) (List._∷_ (4, Rows'.any-gone El.ReadyQueue) (List._∷_ (5,
-    Rows'.sc-here (Row.sInt Syntax.w64)) (List._∷_ (6, Rows.arr-owed (Referent.rtF (Referent.fInt Syntax.w64)) 4104 3) (List._∷_ (7, Rows'.whole (Declared.row Begun.the-type)) (List._∷_ (8, Rows'.any-gone (Syntax.tyRef Syntax.erased
-    Syntax.mut (Syntax.tyArray El.word 4104))) (List._∷_ (9, Mut.msleft (Referent.rtF (Referent.fInt Syntax.w64)) (Syntax.tyRef Syntax.erased Syntax.mut El.word)) (List._∷_ (10, Rows'.any-gone (Syntax.tyRef Syntax.erased Syntax.mut
-    El.word)) (List._∷_ (11, Mut.msleft (Referent.rtF (Referent.fInt Syntax.w64)) (Syntax.tyRef Syntax.erased Syntax.mut El.word)) (List._∷_ (12, Rows'.any-gone (Syntax.tyRef Syntax.erased Syntax.mut El.word)) (List._∷_ (13, Mut.msleft
-    (Referent.rtF (Referent.fInt Syntax.w64)) (Syntax.tyRef Syntax.erased Syntax.mut El.word)) (List._∷_ (14, Rows'.any-gone Syntax.tyUnit) (List._∷_ (15, Rows'.any-gone (Syntax.tyRef Syntax.erased Syntax.mut El.named))
+t13 = List._∷_ (0, Rows'.any-gone El.Stepped) (List._∷_ (1, Mut.mslice El.row (Syntax.tyRef (Syntax.named 0) Syntax.mut El.named) 0) (List._∷_ (
+  2,
+  Relend.mslice-owed (Referent.rtF (Referent.fInt Syntax.w64)) (Syntax.tyRef (Syntax.named 1)
+      Syntax.mut El.word) 1 4 Row.off,
+) (List._∷_ (3, Relend.mslice-owed (Referent.rtF (Referent.fInt Syntax.w64)) (Syntax.tyRef (Syntax.named 2) Syntax.mut El.word) 2 5 Row.off) (List._∷_ (4, Rows'.any-gone El.ReadyQueue) (List._∷_ (
+  5,
+  Rows'.sc-here (Row.sInt Syntax.w64),
+) (List._∷_ (6, Rows.arr-owed (Referent.rtF (Referent.fInt Syntax.w64)) 4104 3) (List._∷_ (7, Rows'.whole (Declared.row Begun.the-type)) (List._∷_ (
+  8,
+  Rows'.any-gone (Syntax.tyRef Syntax.erased
+      Syntax.mut (Syntax.tyArray El.word 4104)),
+) (List._∷_ (9, Mut.msleft (Referent.rtF (Referent.fInt Syntax.w64)) (Syntax.tyRef Syntax.erased Syntax.mut El.word)) (List._∷_ (
+  10,
+  Rows'.any-gone (Syntax.tyRef Syntax.erased Syntax.mut
+      El.word),
+) (List._∷_ (11, Mut.msleft (Referent.rtF (Referent.fInt Syntax.w64)) (Syntax.tyRef Syntax.erased Syntax.mut El.word)) (List._∷_ (12, Rows'.any-gone (Syntax.tyRef Syntax.erased Syntax.mut El.word)) (List._∷_ (
+  13,
+  Mut.msleft
+      (Referent.rtF (Referent.fInt Syntax.w64)) (Syntax.tyRef Syntax.erased Syntax.mut El.word),
+) (List._∷_ (14, Rows'.any-gone Syntax.tyUnit) (List._∷_ (15, Rows'.any-gone (Syntax.tyRef Syntax.erased Syntax.mut El.named))
     List.[])))))))))))))))
 
 abbrev pub t14 : List.List Row.Entry
-t14 = List._∷_ (0, Rows'.any-gone El.Stepped) (List._∷_ (1, Mut.mslice El.row (Syntax.tyRef (Syntax.named 0) Syntax.mut El.named) 0) (List._∷_ (2, Relend.mslice-owed (Referent.rtF (Referent.fInt Syntax.w64)) (Syntax.tyRef (Syntax.named 1)
-    Syntax.mut El.word) 1 4 Row.off) (List._∷_ (3, Relend.mslice-owed (Referent.rtF (Referent.fInt Syntax.w64)) (Syntax.tyRef (Syntax.named 2) Syntax.mut El.word) 2 5 Row.off) (List._∷_ (4, Rows'.any-gone El.ReadyQueue) (List._∷_ (5,
-    Rows'.sc-here (Row.sInt Syntax.w64)) (List._∷_ (6, Rows.arrF (Referent.rtF (Referent.fInt Syntax.w64)) 4104 0) (List._∷_ (7, Rows'.whole (Declared.row Begun.the-type)) (List._∷_ (8, Rows'.any-gone (Syntax.tyRef Syntax.erased
-    Syntax.mut (Syntax.tyArray El.word 4104))) (List._∷_ (9, Rows'.any-gone (Syntax.tyStruct (List._∷_ 38 (List._∷_ 91 (List._∷_ 93 List.[]))) (Syntax.tcons (Syntax.tyRef Syntax.erased Syntax.mut El.word) (Syntax.tcons El.word
-    Syntax.tnil)))) (List._∷_ (10, Rows'.any-gone (Syntax.tyRef Syntax.erased Syntax.mut El.word)) (List._∷_ (11, Mut.msleft (Referent.rtF (Referent.fInt Syntax.w64)) (Syntax.tyRef Syntax.erased Syntax.mut El.word)) (List._∷_ (12,
-    Rows'.any-gone (Syntax.tyRef Syntax.erased Syntax.mut El.word)) (List._∷_ (13, Mut.msleft (Referent.rtF (Referent.fInt Syntax.w64)) (Syntax.tyRef Syntax.erased Syntax.mut El.word)) (List._∷_ (14, Rows'.any-gone Syntax.tyUnit)
+t14 = List._∷_ (0, Rows'.any-gone El.Stepped) (List._∷_ (1, Mut.mslice El.row (Syntax.tyRef (Syntax.named 0) Syntax.mut El.named) 0) (List._∷_ (
+  2,
+  Relend.mslice-owed (Referent.rtF (Referent.fInt Syntax.w64)) (Syntax.tyRef (Syntax.named 1)
+      Syntax.mut El.word) 1 4 Row.off,
+) (List._∷_ (3, Relend.mslice-owed (Referent.rtF (Referent.fInt Syntax.w64)) (Syntax.tyRef (Syntax.named 2) Syntax.mut El.word) 2 5 Row.off) (List._∷_ (4, Rows'.any-gone El.ReadyQueue) (List._∷_ (
+  5,
+  Rows'.sc-here (Row.sInt Syntax.w64),
+) (List._∷_ (6, Rows.arrF (Referent.rtF (Referent.fInt Syntax.w64)) 4104 0) (List._∷_ (7, Rows'.whole (Declared.row Begun.the-type)) (List._∷_ (
+  8,
+  Rows'.any-gone (Syntax.tyRef Syntax.erased
+      Syntax.mut (Syntax.tyArray El.word 4104)),
+) (List._∷_ (
+  9,
+  Rows'.any-gone (Syntax.tyStruct (List._∷_ 38 (List._∷_ 91 (List._∷_ 93 List.[]))) (Syntax.tcons (Syntax.tyRef Syntax.erased Syntax.mut El.word) (Syntax.tcons El.word
+      Syntax.tnil))),
+) (List._∷_ (10, Rows'.any-gone (Syntax.tyRef Syntax.erased Syntax.mut El.word)) (List._∷_ (11, Mut.msleft (Referent.rtF (Referent.fInt Syntax.w64)) (Syntax.tyRef Syntax.erased Syntax.mut El.word)) (List._∷_ (
+  12,
+  Rows'.any-gone (Syntax.tyRef Syntax.erased Syntax.mut El.word),
+) (List._∷_ (13, Mut.msleft (Referent.rtF (Referent.fInt Syntax.w64)) (Syntax.tyRef Syntax.erased Syntax.mut El.word)) (List._∷_ (14, Rows'.any-gone Syntax.tyUnit)
     (List._∷_ (15, Rows'.any-gone (Syntax.tyRef Syntax.erased Syntax.mut El.named)) List.[])))))))))))))))
 
 abbrev pub t15 : List.List Row.Entry
-t15 = List._∷_ (0, Rows'.any-gone El.Stepped) (List._∷_ (1, Mut.mslice El.row (Syntax.tyRef (Syntax.named 0) Syntax.mut El.named) 0) (List._∷_ (2, Mut.mslice (Referent.rtF (Referent.fInt Syntax.w64)) (Syntax.tyRef (Syntax.named 1)
-    Syntax.mut El.word) 1) (List._∷_ (3, Relend.mslice-owed (Referent.rtF (Referent.fInt Syntax.w64)) (Syntax.tyRef (Syntax.named 2) Syntax.mut El.word) 2 5 Row.off) (List._∷_ (4, Rows'.any-gone El.ReadyQueue) (List._∷_ (5, Rows'.sc-here
-    (Row.sInt Syntax.w64)) (List._∷_ (6, Rows.arrF (Referent.rtF (Referent.fInt Syntax.w64)) 4104 0) (List._∷_ (7, Rows'.whole (Declared.row Begun.the-type)) (List._∷_ (8, Rows'.any-gone (Syntax.tyRef Syntax.erased Syntax.mut
-    (Syntax.tyArray El.word 4104))) (List._∷_ (9, Rows'.any-gone (Syntax.tyStruct (List._∷_ 38 (List._∷_ 91 (List._∷_ 93 List.[]))) (Syntax.tcons (Syntax.tyRef Syntax.erased Syntax.mut El.word) (Syntax.tcons El.word Syntax.tnil))))
-    (List._∷_ (10, Rows'.any-gone (Syntax.tyRef Syntax.erased Syntax.mut El.word)) (List._∷_ (11, Rows'.any-gone (Syntax.tyStruct (List._∷_ 38 (List._∷_ 91 (List._∷_ 93 List.[]))) (Syntax.tcons (Syntax.tyRef Syntax.erased Syntax.mut
-    El.word) (Syntax.tcons El.word Syntax.tnil)))) (List._∷_ (12, Rows'.any-gone (Syntax.tyRef Syntax.erased Syntax.mut El.word)) (List._∷_ (13, Mut.msleft (Referent.rtF (Referent.fInt Syntax.w64)) (Syntax.tyRef Syntax.erased Syntax.mut
-    El.word)) (List._∷_ (14, Rows'.any-gone Syntax.tyUnit) (List._∷_ (15, Rows'.any-gone (Syntax.tyRef Syntax.erased Syntax.mut El.named)) List.[])))))))))))))))
+t15 = List._∷_ (0, Rows'.any-gone El.Stepped) (List._∷_ (1, Mut.mslice El.row (Syntax.tyRef (Syntax.named 0) Syntax.mut El.named) 0) (List._∷_ (
+  2,
+  Mut.mslice (Referent.rtF (Referent.fInt Syntax.w64)) (Syntax.tyRef (Syntax.named 1)
+      Syntax.mut El.word) 1,
+) (List._∷_ (3, Relend.mslice-owed (Referent.rtF (Referent.fInt Syntax.w64)) (Syntax.tyRef (Syntax.named 2) Syntax.mut El.word) 2 5 Row.off) (List._∷_ (4, Rows'.any-gone El.ReadyQueue) (List._∷_ (
+  5,
+  Rows'.sc-here
+      (Row.sInt Syntax.w64),
+) (List._∷_ (6, Rows.arrF (Referent.rtF (Referent.fInt Syntax.w64)) 4104 0) (List._∷_ (7, Rows'.whole (Declared.row Begun.the-type)) (List._∷_ (
+  8,
+  Rows'.any-gone (Syntax.tyRef Syntax.erased Syntax.mut
+      (Syntax.tyArray El.word 4104)),
+) (List._∷_ (9, Rows'.any-gone (Syntax.tyStruct (List._∷_ 38 (List._∷_ 91 (List._∷_ 93 List.[]))) (Syntax.tcons (Syntax.tyRef Syntax.erased Syntax.mut El.word) (Syntax.tcons El.word Syntax.tnil))))
+    (List._∷_ (10, Rows'.any-gone (Syntax.tyRef Syntax.erased Syntax.mut El.word)) (List._∷_ (
+      11,
+      Rows'.any-gone (Syntax.tyStruct (List._∷_ 38 (List._∷_ 91 (List._∷_ 93 List.[]))) (Syntax.tcons (Syntax.tyRef Syntax.erased Syntax.mut
+          El.word) (Syntax.tcons El.word Syntax.tnil))),
+    ) (List._∷_ (12, Rows'.any-gone (Syntax.tyRef Syntax.erased Syntax.mut El.word)) (List._∷_ (
+      13,
+      Mut.msleft (Referent.rtF (Referent.fInt Syntax.w64)) (Syntax.tyRef Syntax.erased Syntax.mut
+          El.word),
+    ) (List._∷_ (14, Rows'.any-gone Syntax.tyUnit) (List._∷_ (15, Rows'.any-gone (Syntax.tyRef Syntax.erased Syntax.mut El.named)) List.[])))))))))))))))
 
 abbrev pub t16 : List.List Row.Entry
-t16 = List._∷_ (0, Rows'.any-gone El.Stepped) (List._∷_ (1, Mut.mslice El.row (Syntax.tyRef (Syntax.named 0) Syntax.mut El.named) 0) (List._∷_ (2, Mut.mslice (Referent.rtF (Referent.fInt Syntax.w64)) (Syntax.tyRef (Syntax.named 1)
-    Syntax.mut El.word) 1) (List._∷_ (3, Mut.mslice (Referent.rtF (Referent.fInt Syntax.w64)) (Syntax.tyRef (Syntax.named 2) Syntax.mut El.word) 2) (List._∷_ (4, Rows'.any-gone El.ReadyQueue) (List._∷_ (5, Rows'.sc-here (Row.sInt
-    Syntax.w64)) (List._∷_ (6, Rows.arrF (Referent.rtF (Referent.fInt Syntax.w64)) 4104 0) (List._∷_ (7, Rows'.whole (Declared.row Begun.the-type)) (List._∷_ (8, Rows'.any-gone (Syntax.tyRef Syntax.erased Syntax.mut (Syntax.tyArray
-    El.word 4104))) (List._∷_ (9, Rows'.any-gone (Syntax.tyStruct (List._∷_ 38 (List._∷_ 91 (List._∷_ 93 List.[]))) (Syntax.tcons (Syntax.tyRef Syntax.erased Syntax.mut El.word) (Syntax.tcons El.word Syntax.tnil)))) (List._∷_ (10,
-    Rows'.any-gone (Syntax.tyRef Syntax.erased Syntax.mut El.word)) (List._∷_ (11, Rows'.any-gone (Syntax.tyStruct (List._∷_ 38 (List._∷_ 91 (List._∷_ 93 List.[]))) (Syntax.tcons (Syntax.tyRef Syntax.erased Syntax.mut El.word)
-    (Syntax.tcons El.word Syntax.tnil)))) (List._∷_ (12, Rows'.any-gone (Syntax.tyRef Syntax.erased Syntax.mut El.word)) (List._∷_ (13, Rows'.any-gone (Syntax.tyStruct (List._∷_ 38 (List._∷_ 91 (List._∷_ 93 List.[]))) (Syntax.tcons
-    (Syntax.tyRef Syntax.erased Syntax.mut El.word) (Syntax.tcons El.word Syntax.tnil)))) (List._∷_ (14, Rows'.any-gone Syntax.tyUnit) (List._∷_ (15, Rows'.any-gone (Syntax.tyRef Syntax.erased Syntax.mut El.named)) List.[])))))))))))))))
+t16 = List._∷_ (0, Rows'.any-gone El.Stepped) (List._∷_ (1, Mut.mslice El.row (Syntax.tyRef (Syntax.named 0) Syntax.mut El.named) 0) (List._∷_ (
+  2,
+  Mut.mslice (Referent.rtF (Referent.fInt Syntax.w64)) (Syntax.tyRef (Syntax.named 1)
+      Syntax.mut El.word) 1,
+) (List._∷_ (3, Mut.mslice (Referent.rtF (Referent.fInt Syntax.w64)) (Syntax.tyRef (Syntax.named 2) Syntax.mut El.word) 2) (List._∷_ (4, Rows'.any-gone El.ReadyQueue) (List._∷_ (
+  5,
+  Rows'.sc-here (Row.sInt
+      Syntax.w64),
+) (List._∷_ (6, Rows.arrF (Referent.rtF (Referent.fInt Syntax.w64)) 4104 0) (List._∷_ (7, Rows'.whole (Declared.row Begun.the-type)) (List._∷_ (
+  8,
+  Rows'.any-gone (Syntax.tyRef Syntax.erased Syntax.mut (Syntax.tyArray
+      El.word 4104)),
+) (List._∷_ (9, Rows'.any-gone (Syntax.tyStruct (List._∷_ 38 (List._∷_ 91 (List._∷_ 93 List.[]))) (Syntax.tcons (Syntax.tyRef Syntax.erased Syntax.mut El.word) (Syntax.tcons El.word Syntax.tnil)))) (List._∷_ (
+  10,
+  Rows'.any-gone (Syntax.tyRef Syntax.erased Syntax.mut El.word),
+) (List._∷_ (
+  11,
+  Rows'.any-gone (Syntax.tyStruct (List._∷_ 38 (List._∷_ 91 (List._∷_ 93 List.[]))) (Syntax.tcons (Syntax.tyRef Syntax.erased Syntax.mut El.word)
+      (Syntax.tcons El.word Syntax.tnil))),
+) (List._∷_ (12, Rows'.any-gone (Syntax.tyRef Syntax.erased Syntax.mut El.word)) (List._∷_ (
+  13,
+  Rows'.any-gone (Syntax.tyStruct (List._∷_ 38 (List._∷_ 91 (List._∷_ 93 List.[]))) (Syntax.tcons
+      (Syntax.tyRef Syntax.erased Syntax.mut El.word) (Syntax.tcons El.word Syntax.tnil))),
+) (List._∷_ (14, Rows'.any-gone Syntax.tyUnit) (List._∷_ (15, Rows'.any-gone (Syntax.tyRef Syntax.erased Syntax.mut El.named)) List.[])))))))))))))))
 
 abbrev pub t17 : List.List Row.Entry
-t17 = List._∷_ (0, Rows'.any-gone El.Stepped) (List._∷_ (1, Relend.mslice-owed El.row (Syntax.tyRef (Syntax.named 0) Syntax.mut El.named) 0 6 Row.off) (List._∷_ (2, Mut.mslice (Referent.rtF (Referent.fInt Syntax.w64)) (Syntax.tyRef
-    (Syntax.named 1) Syntax.mut El.word) 1) (List._∷_ (3, Mut.mslice (Referent.rtF (Referent.fInt Syntax.w64)) (Syntax.tyRef (Syntax.named 2) Syntax.mut El.word) 2) (List._∷_ (4, Rows'.any-gone El.ReadyQueue) (List._∷_ (5, Rows'.sc-here
-    (Row.sInt Syntax.w64)) (List._∷_ (6, Rows.arrF (Referent.rtF (Referent.fInt Syntax.w64)) 4104 0) (List._∷_ (7, Rows'.whole (Declared.row Begun.the-type)) (List._∷_ (8, Rows'.any-gone (Syntax.tyRef Syntax.erased Syntax.mut
-    (Syntax.tyArray El.word 4104))) (List._∷_ (9, Rows'.any-gone (Syntax.tyStruct (List._∷_ 38 (List._∷_ 91 (List._∷_ 93 List.[]))) (Syntax.tcons (Syntax.tyRef Syntax.erased Syntax.mut El.word) (Syntax.tcons El.word Syntax.tnil))))
-    (List._∷_ (10, Rows'.any-gone (Syntax.tyRef Syntax.erased Syntax.mut El.word)) (List._∷_ (11, Rows'.any-gone (Syntax.tyStruct (List._∷_ 38 (List._∷_ 91 (List._∷_ 93 List.[]))) (Syntax.tcons (Syntax.tyRef Syntax.erased Syntax.mut
-    El.word) (Syntax.tcons El.word Syntax.tnil)))) (List._∷_ (12, Rows'.any-gone (Syntax.tyRef Syntax.erased Syntax.mut El.word)) (List._∷_ (13, Rows'.any-gone (Syntax.tyStruct (List._∷_ 38 (List._∷_ 91 (List._∷_ 93 List.[])))
-    (Syntax.tcons (Syntax.tyRef Syntax.erased Syntax.mut El.word) (Syntax.tcons El.word Syntax.tnil)))) (List._∷_ (14, Rows'.any-gone Syntax.tyUnit) (List._∷_ (15, Relend.msptr El.row (Syntax.tyRef Syntax.erased Syntax.mut El.named) 6)
+t17 = List._∷_ (0, Rows'.any-gone El.Stepped) (List._∷_ (1, Relend.mslice-owed El.row (Syntax.tyRef (Syntax.named 0) Syntax.mut El.named) 0 6 Row.off) (List._∷_ (
+  2,
+  Mut.mslice (Referent.rtF (Referent.fInt Syntax.w64)) (Syntax.tyRef
+      (Syntax.named 1) Syntax.mut El.word) 1,
+) (List._∷_ (3, Mut.mslice (Referent.rtF (Referent.fInt Syntax.w64)) (Syntax.tyRef (Syntax.named 2) Syntax.mut El.word) 2) (List._∷_ (4, Rows'.any-gone El.ReadyQueue) (List._∷_ (
+  5,
+  Rows'.sc-here
+      (Row.sInt Syntax.w64),
+) (List._∷_ (6, Rows.arrF (Referent.rtF (Referent.fInt Syntax.w64)) 4104 0) (List._∷_ (7, Rows'.whole (Declared.row Begun.the-type)) (List._∷_ (
+  8,
+  Rows'.any-gone (Syntax.tyRef Syntax.erased Syntax.mut
+      (Syntax.tyArray El.word 4104)),
+) (List._∷_ (9, Rows'.any-gone (Syntax.tyStruct (List._∷_ 38 (List._∷_ 91 (List._∷_ 93 List.[]))) (Syntax.tcons (Syntax.tyRef Syntax.erased Syntax.mut El.word) (Syntax.tcons El.word Syntax.tnil))))
+    (List._∷_ (10, Rows'.any-gone (Syntax.tyRef Syntax.erased Syntax.mut El.word)) (List._∷_ (
+      11,
+      Rows'.any-gone (Syntax.tyStruct (List._∷_ 38 (List._∷_ 91 (List._∷_ 93 List.[]))) (Syntax.tcons (Syntax.tyRef Syntax.erased Syntax.mut
+          El.word) (Syntax.tcons El.word Syntax.tnil))),
+    ) (List._∷_ (12, Rows'.any-gone (Syntax.tyRef Syntax.erased Syntax.mut El.word)) (List._∷_ (
+      13,
+      Rows'.any-gone (Syntax.tyStruct (List._∷_ 38 (List._∷_ 91 (List._∷_ 93 List.[])))
+          (Syntax.tcons (Syntax.tyRef Syntax.erased Syntax.mut El.word) (Syntax.tcons El.word Syntax.tnil))),
+    ) (List._∷_ (14, Rows'.any-gone Syntax.tyUnit) (List._∷_ (15, Relend.msptr El.row (Syntax.tyRef Syntax.erased Syntax.mut El.named) 6)
     List.[])))))))))))))))
 
 abbrev pub t18 : List.List Row.Entry
-t18 = List._∷_ (0, Rows'.any-gone El.Stepped) (List._∷_ (1, Relend.mslice-owed El.row (Syntax.tyRef (Syntax.named 0) Syntax.mut El.named) 0 6 Row.off) (List._∷_ (2, Mut.mslice (Referent.rtF (Referent.fInt Syntax.w64)) (Syntax.tyRef
-    (Syntax.named 1) Syntax.mut El.word) 1) (List._∷_ (3, Mut.mslice (Referent.rtF (Referent.fInt Syntax.w64)) (Syntax.tyRef (Syntax.named 2) Syntax.mut El.word) 2) (List._∷_ (4, Rows'.any-gone El.ReadyQueue) (List._∷_ (5, Rows'.sc-here
-    (Row.sInt Syntax.w64)) (List._∷_ (6, Rows.arrF (Referent.rtF (Referent.fInt Syntax.w64)) 4104 0) (List._∷_ (7, Rows'.whole (Declared.row Begun.the-type)) (List._∷_ (8, Rows'.any-gone (Syntax.tyRef Syntax.erased Syntax.mut
-    (Syntax.tyArray El.word 4104))) (List._∷_ (9, Rows'.any-gone (Syntax.tyStruct (List._∷_ 38 (List._∷_ 91 (List._∷_ 93 List.[]))) (Syntax.tcons (Syntax.tyRef Syntax.erased Syntax.mut El.word) (Syntax.tcons El.word Syntax.tnil))))
-    (List._∷_ (10, Rows'.any-gone (Syntax.tyRef Syntax.erased Syntax.mut El.word)) (List._∷_ (11, Rows'.any-gone (Syntax.tyStruct (List._∷_ 38 (List._∷_ 91 (List._∷_ 93 List.[]))) (Syntax.tcons (Syntax.tyRef Syntax.erased Syntax.mut
-    El.word) (Syntax.tcons El.word Syntax.tnil)))) (List._∷_ (12, Rows'.any-gone (Syntax.tyRef Syntax.erased Syntax.mut El.word)) (List._∷_ (13, Rows'.any-gone (Syntax.tyStruct (List._∷_ 38 (List._∷_ 91 (List._∷_ 93 List.[])))
-    (Syntax.tcons (Syntax.tyRef Syntax.erased Syntax.mut El.word) (Syntax.tcons El.word Syntax.tnil)))) (List._∷_ (14, Rows'.any-gone Syntax.tyUnit) (List._∷_ (15, Rows'.any-gone (Syntax.tyRef Syntax.erased Syntax.mut El.named))
+t18 = List._∷_ (0, Rows'.any-gone El.Stepped) (List._∷_ (1, Relend.mslice-owed El.row (Syntax.tyRef (Syntax.named 0) Syntax.mut El.named) 0 6 Row.off) (List._∷_ (
+  2,
+  Mut.mslice (Referent.rtF (Referent.fInt Syntax.w64)) (Syntax.tyRef
+      (Syntax.named 1) Syntax.mut El.word) 1,
+) (List._∷_ (3, Mut.mslice (Referent.rtF (Referent.fInt Syntax.w64)) (Syntax.tyRef (Syntax.named 2) Syntax.mut El.word) 2) (List._∷_ (4, Rows'.any-gone El.ReadyQueue) (List._∷_ (
+  5,
+  Rows'.sc-here
+      (Row.sInt Syntax.w64),
+) (List._∷_ (6, Rows.arrF (Referent.rtF (Referent.fInt Syntax.w64)) 4104 0) (List._∷_ (7, Rows'.whole (Declared.row Begun.the-type)) (List._∷_ (
+  8,
+  Rows'.any-gone (Syntax.tyRef Syntax.erased Syntax.mut
+      (Syntax.tyArray El.word 4104)),
+) (List._∷_ (9, Rows'.any-gone (Syntax.tyStruct (List._∷_ 38 (List._∷_ 91 (List._∷_ 93 List.[]))) (Syntax.tcons (Syntax.tyRef Syntax.erased Syntax.mut El.word) (Syntax.tcons El.word Syntax.tnil))))
+    (List._∷_ (10, Rows'.any-gone (Syntax.tyRef Syntax.erased Syntax.mut El.word)) (List._∷_ (
+      11,
+      Rows'.any-gone (Syntax.tyStruct (List._∷_ 38 (List._∷_ 91 (List._∷_ 93 List.[]))) (Syntax.tcons (Syntax.tyRef Syntax.erased Syntax.mut
+          El.word) (Syntax.tcons El.word Syntax.tnil))),
+    ) (List._∷_ (12, Rows'.any-gone (Syntax.tyRef Syntax.erased Syntax.mut El.word)) (List._∷_ (
+      13,
+      Rows'.any-gone (Syntax.tyStruct (List._∷_ 38 (List._∷_ 91 (List._∷_ 93 List.[])))
+          (Syntax.tcons (Syntax.tyRef Syntax.erased Syntax.mut El.word) (Syntax.tcons El.word Syntax.tnil))),
+    ) (List._∷_ (14, Rows'.any-gone Syntax.tyUnit) (List._∷_ (15, Rows'.any-gone (Syntax.tyRef Syntax.erased Syntax.mut El.named))
     List.[])))))))))))))))
 
 abbrev pub t19 : List.List Row.Entry
-t19 = List._∷_ (16, Mut.mslice El.row (Syntax.tyRef Syntax.erased Syntax.mut El.named) 6) (List._∷_ (17, Rows'.any-gone (Syntax.tyRef Syntax.erased Syntax.imm (Syntax.tyArray El.word 4104))) (List._∷_ (18, Rows'.any-gone (Syntax.tyStruct
-    (List._∷_ 38 (List._∷_ 91 (List._∷_ 93 List.[]))) (Syntax.tcons (Syntax.tyRef Syntax.erased Syntax.imm El.word) (Syntax.tcons El.word Syntax.tnil)))) List.[]))
+t19 = List._∷_ (16, Mut.mslice El.row (Syntax.tyRef Syntax.erased Syntax.mut El.named) 6) (List._∷_ (17, Rows'.any-gone (Syntax.tyRef Syntax.erased Syntax.imm (Syntax.tyArray El.word 4104))) (List._∷_ (
+  18,
+  Rows'.any-gone (Syntax.tyStruct
+      (List._∷_ 38 (List._∷_ 91 (List._∷_ 93 List.[]))) (Syntax.tcons (Syntax.tyRef Syntax.erased Syntax.imm El.word) (Syntax.tcons El.word Syntax.tnil))),
+) List.[]))
 
 abbrev pub t20 : List.List Row.Entry
-t20 = List._∷_ (0, Rows'.any-gone El.Stepped) (List._∷_ (1, Relend.mslice-owed El.row (Syntax.tyRef (Syntax.named 0) Syntax.mut El.named) 0 6 Row.off) (List._∷_ (2, Mut.mslice (Referent.rtF (Referent.fInt Syntax.w64)) (Syntax.tyRef
-    (Syntax.named 1) Syntax.mut El.word) 1) (List._∷_ (3, Mut.mslice (Referent.rtF (Referent.fInt Syntax.w64)) (Syntax.tyRef (Syntax.named 2) Syntax.mut El.word) 2) (List._∷_ (4, Rows'.any-gone El.ReadyQueue) (List._∷_ (5, Rows'.sc-here
-    (Row.sInt Syntax.w64)) (List._∷_ (6, Rows.arr-shr (Referent.rtF (Referent.fInt Syntax.w64)) 4104 7) (List._∷_ (7, Rows'.whole (Declared.row Begun.the-type)) (List._∷_ (8, Rows'.any-gone (Syntax.tyRef Syntax.erased Syntax.mut
-    (Syntax.tyArray El.word 4104))) (List._∷_ (9, Rows'.any-gone (Syntax.tyStruct (List._∷_ 38 (List._∷_ 91 (List._∷_ 93 List.[]))) (Syntax.tcons (Syntax.tyRef Syntax.erased Syntax.mut El.word) (Syntax.tcons El.word Syntax.tnil))))
-    (List._∷_ (10, Rows'.any-gone (Syntax.tyRef Syntax.erased Syntax.mut El.word)) (List._∷_ (11, Rows'.any-gone (Syntax.tyStruct (List._∷_ 38 (List._∷_ 91 (List._∷_ 93 List.[]))) (Syntax.tcons (Syntax.tyRef Syntax.erased Syntax.mut
-    El.word) (Syntax.tcons El.word Syntax.tnil)))) (List._∷_ (12, Rows'.any-gone (Syntax.tyRef Syntax.erased Syntax.mut El.word)) (List._∷_ (13, Rows'.any-gone (Syntax.tyStruct (List._∷_ 38 (List._∷_ 91 (List._∷_ 93 List.[])))
-    (Syntax.tcons (Syntax.tyRef Syntax.erased Syntax.mut El.word) (Syntax.tcons El.word Syntax.tnil)))) (List._∷_ (14, Rows'.any-gone Syntax.tyUnit) (List._∷_ (15, Rows'.any-gone (Syntax.tyRef Syntax.erased Syntax.mut El.named))
+t20 = List._∷_ (0, Rows'.any-gone El.Stepped) (List._∷_ (1, Relend.mslice-owed El.row (Syntax.tyRef (Syntax.named 0) Syntax.mut El.named) 0 6 Row.off) (List._∷_ (
+  2,
+  Mut.mslice (Referent.rtF (Referent.fInt Syntax.w64)) (Syntax.tyRef
+      (Syntax.named 1) Syntax.mut El.word) 1,
+) (List._∷_ (3, Mut.mslice (Referent.rtF (Referent.fInt Syntax.w64)) (Syntax.tyRef (Syntax.named 2) Syntax.mut El.word) 2) (List._∷_ (4, Rows'.any-gone El.ReadyQueue) (List._∷_ (
+  5,
+  Rows'.sc-here
+      (Row.sInt Syntax.w64),
+) (List._∷_ (6, Rows.arr-shr (Referent.rtF (Referent.fInt Syntax.w64)) 4104 7) (List._∷_ (7, Rows'.whole (Declared.row Begun.the-type)) (List._∷_ (
+  8,
+  Rows'.any-gone (Syntax.tyRef Syntax.erased Syntax.mut
+      (Syntax.tyArray El.word 4104)),
+) (List._∷_ (9, Rows'.any-gone (Syntax.tyStruct (List._∷_ 38 (List._∷_ 91 (List._∷_ 93 List.[]))) (Syntax.tcons (Syntax.tyRef Syntax.erased Syntax.mut El.word) (Syntax.tcons El.word Syntax.tnil))))
+    (List._∷_ (10, Rows'.any-gone (Syntax.tyRef Syntax.erased Syntax.mut El.word)) (List._∷_ (
+      11,
+      Rows'.any-gone (Syntax.tyStruct (List._∷_ 38 (List._∷_ 91 (List._∷_ 93 List.[]))) (Syntax.tcons (Syntax.tyRef Syntax.erased Syntax.mut
+          El.word) (Syntax.tcons El.word Syntax.tnil))),
+    ) (List._∷_ (12, Rows'.any-gone (Syntax.tyRef Syntax.erased Syntax.mut El.word)) (List._∷_ (
+      13,
+      Rows'.any-gone (Syntax.tyStruct (List._∷_ 38 (List._∷_ 91 (List._∷_ 93 List.[])))
+          (Syntax.tcons (Syntax.tyRef Syntax.erased Syntax.mut El.word) (Syntax.tcons El.word Syntax.tnil))),
+    ) (List._∷_ (14, Rows'.any-gone Syntax.tyUnit) (List._∷_ (15, Rows'.any-gone (Syntax.tyRef Syntax.erased Syntax.mut El.named))
     List.[])))))))))))))))
 
 abbrev pub t21 : List.List Row.Entry
@@ -403,62 +743,151 @@ t21 = List._∷_ (16, Mut.mslice El.row (Syntax.tyRef Syntax.erased Syntax.mut E
     (List._∷_ (18, Rows'.any-gone (Syntax.tyStruct (List._∷_ 38 (List._∷_ 91 (List._∷_ 93 List.[]))) (Syntax.tcons (Syntax.tyRef Syntax.erased Syntax.imm El.word) (Syntax.tcons El.word Syntax.tnil)))) List.[]))
 
 abbrev pub t22 : List.List Row.Entry
-t22 = List._∷_ (16, Mut.mslice El.row (Syntax.tyRef Syntax.erased Syntax.mut El.named) 6) (List._∷_ (17, Rows'.any-gone (Syntax.tyRef Syntax.erased Syntax.imm (Syntax.tyArray El.word 4104))) (List._∷_ (18, Rows'.sslice (Referent.rtF
-    (Referent.fInt Syntax.w64)) (Syntax.tyRef Syntax.erased Syntax.imm El.word) 7) List.[]))
+t22 = List._∷_ (16, Mut.mslice El.row (Syntax.tyRef Syntax.erased Syntax.mut El.named) 6) (List._∷_ (17, Rows'.any-gone (Syntax.tyRef Syntax.erased Syntax.imm (Syntax.tyArray El.word 4104))) (List._∷_ (
+  18,
+  Rows'.sslice (Referent.rtF
+      (Referent.fInt Syntax.w64)) (Syntax.tyRef Syntax.erased Syntax.imm El.word) 7,
+) List.[]))
 
 abbrev pub t23 : List.List Row.Entry
-t23 = List._∷_ (0, Rows'.any-gone El.Stepped) (List._∷_ (1, Relend.mslice-owed El.row (Syntax.tyRef (Syntax.named 0) Syntax.mut El.named) 0 6 Row.off) (List._∷_ (2, Mut.mslice (Referent.rtF (Referent.fInt Syntax.w64)) (Syntax.tyRef
-    (Syntax.named 1) Syntax.mut El.word) 1) (List._∷_ (3, Mut.mslice (Referent.rtF (Referent.fInt Syntax.w64)) (Syntax.tyRef (Syntax.named 2) Syntax.mut El.word) 2) (List._∷_ (4, Rows'.any-gone El.ReadyQueue) (List._∷_ (5, Rows'.sc-here
-    (Row.sInt Syntax.w64)) (List._∷_ (6, Rows.arr-shr (Referent.rtF (Referent.fInt Syntax.w64)) 4104 7) (List._∷_ (7, Rows'.whole (Declared.row Begun.the-type)) (List._∷_ (8, Rows'.any-gone (Syntax.tyRef Syntax.erased Syntax.mut
-    (Syntax.tyArray El.word 4104))) (List._∷_ (9, Rows'.any-gone (Syntax.tyStruct (List._∷_ 38 (List._∷_ 91 (List._∷_ 93 List.[]))) (Syntax.tcons (Syntax.tyRef Syntax.erased Syntax.mut El.word) (Syntax.tcons El.word Syntax.tnil))))
-    (List._∷_ (10, Rows'.any-gone (Syntax.tyRef Syntax.erased Syntax.mut El.word)) (List._∷_ (11, Rows'.any-gone (Syntax.tyStruct (List._∷_ 38 (List._∷_ 91 (List._∷_ 93 List.[]))) (Syntax.tcons (Syntax.tyRef Syntax.erased Syntax.mut
-    El.word) (Syntax.tcons El.word Syntax.tnil)))) (List._∷_ (12, Rows'.any-gone (Syntax.tyRef Syntax.erased Syntax.mut El.word)) (List._∷_ (13, Rows'.any-gone (Syntax.tyStruct (List._∷_ 38 (List._∷_ 91 (List._∷_ 93 List.[])))
-    (Syntax.tcons (Syntax.tyRef Syntax.erased Syntax.mut El.word) (Syntax.tcons El.word Syntax.tnil)))) (List._∷_ (14, Rows'.sc-here Row.sUnit) (List._∷_ (15, Rows'.any-gone (Syntax.tyRef Syntax.erased Syntax.mut El.named))
+t23 = List._∷_ (0, Rows'.any-gone El.Stepped) (List._∷_ (1, Relend.mslice-owed El.row (Syntax.tyRef (Syntax.named 0) Syntax.mut El.named) 0 6 Row.off) (List._∷_ (
+  2,
+  Mut.mslice (Referent.rtF (Referent.fInt Syntax.w64)) (Syntax.tyRef
+      (Syntax.named 1) Syntax.mut El.word) 1,
+) (List._∷_ (3, Mut.mslice (Referent.rtF (Referent.fInt Syntax.w64)) (Syntax.tyRef (Syntax.named 2) Syntax.mut El.word) 2) (List._∷_ (4, Rows'.any-gone El.ReadyQueue) (List._∷_ (
+  5,
+  Rows'.sc-here
+      (Row.sInt Syntax.w64),
+) (List._∷_ (6, Rows.arr-shr (Referent.rtF (Referent.fInt Syntax.w64)) 4104 7) (List._∷_ (7, Rows'.whole (Declared.row Begun.the-type)) (List._∷_ (
+  8,
+  Rows'.any-gone (Syntax.tyRef Syntax.erased Syntax.mut
+      (Syntax.tyArray El.word 4104)),
+) (List._∷_ (9, Rows'.any-gone (Syntax.tyStruct (List._∷_ 38 (List._∷_ 91 (List._∷_ 93 List.[]))) (Syntax.tcons (Syntax.tyRef Syntax.erased Syntax.mut El.word) (Syntax.tcons El.word Syntax.tnil))))
+    (List._∷_ (10, Rows'.any-gone (Syntax.tyRef Syntax.erased Syntax.mut El.word)) (List._∷_ (
+      11,
+      Rows'.any-gone (Syntax.tyStruct (List._∷_ 38 (List._∷_ 91 (List._∷_ 93 List.[]))) (Syntax.tcons (Syntax.tyRef Syntax.erased Syntax.mut
+          El.word) (Syntax.tcons El.word Syntax.tnil))),
+    ) (List._∷_ (12, Rows'.any-gone (Syntax.tyRef Syntax.erased Syntax.mut El.word)) (List._∷_ (
+      13,
+      Rows'.any-gone (Syntax.tyStruct (List._∷_ 38 (List._∷_ 91 (List._∷_ 93 List.[])))
+          (Syntax.tcons (Syntax.tyRef Syntax.erased Syntax.mut El.word) (Syntax.tcons El.word Syntax.tnil))),
+    ) (List._∷_ (14, Rows'.sc-here Row.sUnit) (List._∷_ (15, Rows'.any-gone (Syntax.tyRef Syntax.erased Syntax.mut El.named))
     List.[])))))))))))))))
 
 abbrev pub t24 : List.List Row.Entry
-t24 = List._∷_ (16, Mut.msleft El.row (Syntax.tyRef Syntax.erased Syntax.mut El.named)) (List._∷_ (17, Rows'.any-gone (Syntax.tyRef Syntax.erased Syntax.imm (Syntax.tyArray El.word 4104))) (List._∷_ (18, Rows'.sslice (Referent.rtF
-    (Referent.fInt Syntax.w64)) (Syntax.tyRef Syntax.erased Syntax.imm El.word) 7) List.[]))
+t24 = List._∷_ (16, Mut.msleft El.row (Syntax.tyRef Syntax.erased Syntax.mut El.named)) (List._∷_ (17, Rows'.any-gone (Syntax.tyRef Syntax.erased Syntax.imm (Syntax.tyArray El.word 4104))) (List._∷_ (
+  18,
+  Rows'.sslice (Referent.rtF
+      (Referent.fInt Syntax.w64)) (Syntax.tyRef Syntax.erased Syntax.imm El.word) 7,
+) List.[]))
 
 abbrev pub t25 : List.List Row.Entry
-t25 = List._∷_ (16, Mut.msleft El.row (Syntax.tyRef Syntax.erased Syntax.mut El.named)) (List._∷_ (17, Rows'.any-gone (Syntax.tyRef Syntax.erased Syntax.imm (Syntax.tyArray El.word 4104))) (List._∷_ (18, Rows'.any-gone (Syntax.tyStruct
-    (List._∷_ 38 (List._∷_ 91 (List._∷_ 93 List.[]))) (Syntax.tcons (Syntax.tyRef Syntax.erased Syntax.imm El.word) (Syntax.tcons El.word Syntax.tnil)))) List.[]))
+t25 = List._∷_ (16, Mut.msleft El.row (Syntax.tyRef Syntax.erased Syntax.mut El.named)) (List._∷_ (17, Rows'.any-gone (Syntax.tyRef Syntax.erased Syntax.imm (Syntax.tyArray El.word 4104))) (List._∷_ (
+  18,
+  Rows'.any-gone (Syntax.tyStruct
+      (List._∷_ 38 (List._∷_ 91 (List._∷_ 93 List.[]))) (Syntax.tcons (Syntax.tyRef Syntax.erased Syntax.imm El.word) (Syntax.tcons El.word Syntax.tnil))),
+) List.[]))
 
 abbrev pub t26 : List.List Row.Entry
-t26 = List._∷_ (0, Rows'.any-gone El.Stepped) (List._∷_ (1, Mut.mslice El.row (Syntax.tyRef (Syntax.named 0) Syntax.mut El.named) 0) (List._∷_ (2, Mut.mslice (Referent.rtF (Referent.fInt Syntax.w64)) (Syntax.tyRef (Syntax.named 1)
-    Syntax.mut El.word) 1) (List._∷_ (3, Mut.mslice (Referent.rtF (Referent.fInt Syntax.w64)) (Syntax.tyRef (Syntax.named 2) Syntax.mut El.word) 2) (List._∷_ (4, Rows'.any-gone El.ReadyQueue) (List._∷_ (5, Rows'.sc-here (Row.sInt
-    Syntax.w64)) (List._∷_ (6, Rows.arr-shr (Referent.rtF (Referent.fInt Syntax.w64)) 4104 7) (List._∷_ (7, Rows'.whole (Declared.row Begun.the-type)) (List._∷_ (8, Rows'.any-gone (Syntax.tyRef Syntax.erased Syntax.mut (Syntax.tyArray
-    El.word 4104))) (List._∷_ (9, Rows'.any-gone (Syntax.tyStruct (List._∷_ 38 (List._∷_ 91 (List._∷_ 93 List.[]))) (Syntax.tcons (Syntax.tyRef Syntax.erased Syntax.mut El.word) (Syntax.tcons El.word Syntax.tnil)))) (List._∷_ (10,
-    Rows'.any-gone (Syntax.tyRef Syntax.erased Syntax.mut El.word)) (List._∷_ (11, Rows'.any-gone (Syntax.tyStruct (List._∷_ 38 (List._∷_ 91 (List._∷_ 93 List.[]))) (Syntax.tcons (Syntax.tyRef Syntax.erased Syntax.mut El.word)
-    (Syntax.tcons El.word Syntax.tnil)))) (List._∷_ (12, Rows'.any-gone (Syntax.tyRef Syntax.erased Syntax.mut El.word)) (List._∷_ (13, Rows'.any-gone (Syntax.tyStruct (List._∷_ 38 (List._∷_ 91 (List._∷_ 93 List.[]))) (Syntax.tcons
-    (Syntax.tyRef Syntax.erased Syntax.mut El.word) (Syntax.tcons El.word Syntax.tnil)))) (List._∷_ (14, Rows'.any-gone Syntax.tyUnit) (List._∷_ (15, Rows'.any-gone (Syntax.tyRef Syntax.erased Syntax.mut El.named)) List.[])))))))))))))))
+t26 = List._∷_ (0, Rows'.any-gone El.Stepped) (List._∷_ (1, Mut.mslice El.row (Syntax.tyRef (Syntax.named 0) Syntax.mut El.named) 0) (List._∷_ (
+  2,
+  Mut.mslice (Referent.rtF (Referent.fInt Syntax.w64)) (Syntax.tyRef (Syntax.named 1)
+      Syntax.mut El.word) 1,
+) (List._∷_ (3, Mut.mslice (Referent.rtF (Referent.fInt Syntax.w64)) (Syntax.tyRef (Syntax.named 2) Syntax.mut El.word) 2) (List._∷_ (4, Rows'.any-gone El.ReadyQueue) (List._∷_ (
+  5,
+  Rows'.sc-here (Row.sInt
+      Syntax.w64),
+) (List._∷_ (6, Rows.arr-shr (Referent.rtF (Referent.fInt Syntax.w64)) 4104 7) (List._∷_ (7, Rows'.whole (Declared.row Begun.the-type)) (List._∷_ (
+  8,
+  Rows'.any-gone (Syntax.tyRef Syntax.erased Syntax.mut (Syntax.tyArray
+      El.word 4104)),
+) (List._∷_ (9, Rows'.any-gone (Syntax.tyStruct (List._∷_ 38 (List._∷_ 91 (List._∷_ 93 List.[]))) (Syntax.tcons (Syntax.tyRef Syntax.erased Syntax.mut El.word) (Syntax.tcons El.word Syntax.tnil)))) (List._∷_ (
+  10,
+  Rows'.any-gone (Syntax.tyRef Syntax.erased Syntax.mut El.word),
+) (List._∷_ (
+  11,
+  Rows'.any-gone (Syntax.tyStruct (List._∷_ 38 (List._∷_ 91 (List._∷_ 93 List.[]))) (Syntax.tcons (Syntax.tyRef Syntax.erased Syntax.mut El.word)
+      (Syntax.tcons El.word Syntax.tnil))),
+) (List._∷_ (12, Rows'.any-gone (Syntax.tyRef Syntax.erased Syntax.mut El.word)) (List._∷_ (
+  13,
+  Rows'.any-gone (Syntax.tyStruct (List._∷_ 38 (List._∷_ 91 (List._∷_ 93 List.[]))) (Syntax.tcons
+      (Syntax.tyRef Syntax.erased Syntax.mut El.word) (Syntax.tcons El.word Syntax.tnil))),
+) (List._∷_ (14, Rows'.any-gone Syntax.tyUnit) (List._∷_ (15, Rows'.any-gone (Syntax.tyRef Syntax.erased Syntax.mut El.named)) List.[])))))))))))))))
 
 abbrev pub t27 : List.List Row.Entry
-t27 = List._∷_ (0, Rows'.any-gone El.Stepped) (List._∷_ (1, Mut.mslice El.row (Syntax.tyRef (Syntax.named 0) Syntax.mut El.named) 0) (List._∷_ (2, Mut.mslice (Referent.rtF (Referent.fInt Syntax.w64)) (Syntax.tyRef (Syntax.named 1)
-    Syntax.mut El.word) 1) (List._∷_ (3, Mut.mslice (Referent.rtF (Referent.fInt Syntax.w64)) (Syntax.tyRef (Syntax.named 2) Syntax.mut El.word) 2) (List._∷_ (4, Rows'.any-gone El.ReadyQueue) (List._∷_ (5, Rows'.sc-here (Row.sInt
-    Syntax.w64)) (List._∷_ (6, Rows'.any-gone (Syntax.tyArray El.word 4104)) (List._∷_ (7, Rows'.whole (Declared.row Begun.the-type)) (List._∷_ (8, Rows'.any-gone (Syntax.tyRef Syntax.erased Syntax.mut (Syntax.tyArray El.word 4104)))
-    (List._∷_ (9, Rows'.any-gone (Syntax.tyStruct (List._∷_ 38 (List._∷_ 91 (List._∷_ 93 List.[]))) (Syntax.tcons (Syntax.tyRef Syntax.erased Syntax.mut El.word) (Syntax.tcons El.word Syntax.tnil)))) (List._∷_ (10, Rows'.any-gone
-    (Syntax.tyRef Syntax.erased Syntax.mut El.word)) (List._∷_ (11, Rows'.any-gone (Syntax.tyStruct (List._∷_ 38 (List._∷_ 91 (List._∷_ 93 List.[]))) (Syntax.tcons (Syntax.tyRef Syntax.erased Syntax.mut El.word) (Syntax.tcons El.word
-    Syntax.tnil)))) (List._∷_ (12, Rows'.any-gone (Syntax.tyRef Syntax.erased Syntax.mut El.word)) (List._∷_ (13, Rows'.any-gone (Syntax.tyStruct (List._∷_ 38 (List._∷_ 91 (List._∷_ 93 List.[]))) (Syntax.tcons (Syntax.tyRef
-    Syntax.erased Syntax.mut El.word) (Syntax.tcons El.word Syntax.tnil)))) (List._∷_ (14, Rows'.any-gone Syntax.tyUnit) (List._∷_ (15, Rows'.any-gone (Syntax.tyRef Syntax.erased Syntax.mut El.named)) List.[])))))))))))))))
+t27 = List._∷_ (0, Rows'.any-gone El.Stepped) (List._∷_ (1, Mut.mslice El.row (Syntax.tyRef (Syntax.named 0) Syntax.mut El.named) 0) (List._∷_ (
+  2,
+  Mut.mslice (Referent.rtF (Referent.fInt Syntax.w64)) (Syntax.tyRef (Syntax.named 1)
+      Syntax.mut El.word) 1,
+) (List._∷_ (3, Mut.mslice (Referent.rtF (Referent.fInt Syntax.w64)) (Syntax.tyRef (Syntax.named 2) Syntax.mut El.word) 2) (List._∷_ (4, Rows'.any-gone El.ReadyQueue) (List._∷_ (
+  5,
+  Rows'.sc-here (Row.sInt
+      Syntax.w64),
+) (List._∷_ (6, Rows'.any-gone (Syntax.tyArray El.word 4104)) (List._∷_ (7, Rows'.whole (Declared.row Begun.the-type)) (List._∷_ (8, Rows'.any-gone (Syntax.tyRef Syntax.erased Syntax.mut (Syntax.tyArray El.word 4104)))
+    (List._∷_ (9, Rows'.any-gone (Syntax.tyStruct (List._∷_ 38 (List._∷_ 91 (List._∷_ 93 List.[]))) (Syntax.tcons (Syntax.tyRef Syntax.erased Syntax.mut El.word) (Syntax.tcons El.word Syntax.tnil)))) (List._∷_ (
+      10,
+      Rows'.any-gone
+          (Syntax.tyRef Syntax.erased Syntax.mut El.word),
+    ) (List._∷_ (
+      11,
+      Rows'.any-gone (Syntax.tyStruct (List._∷_ 38 (List._∷_ 91 (List._∷_ 93 List.[]))) (Syntax.tcons (Syntax.tyRef Syntax.erased Syntax.mut El.word) (Syntax.tcons El.word
+          Syntax.tnil))),
+    ) (List._∷_ (12, Rows'.any-gone (Syntax.tyRef Syntax.erased Syntax.mut El.word)) (List._∷_ (
+      13,
+      Rows'.any-gone (Syntax.tyStruct (List._∷_ 38 (List._∷_ 91 (List._∷_ 93 List.[]))) (Syntax.tcons (Syntax.tyRef
+          Syntax.erased Syntax.mut El.word) (Syntax.tcons El.word Syntax.tnil))),
+    ) (List._∷_ (14, Rows'.any-gone Syntax.tyUnit) (List._∷_ (15, Rows'.any-gone (Syntax.tyRef Syntax.erased Syntax.mut El.named)) List.[])))))))))))))))
 
 abbrev pub t28 : List.List Row.Entry
-t28 = List._∷_ (0, Rows'.whole (Declared.row Stepped.the-type)) (List._∷_ (1, Mut.mslice El.row (Syntax.tyRef (Syntax.named 0) Syntax.mut El.named) 0) (List._∷_ (2, Mut.mslice (Referent.rtF (Referent.fInt Syntax.w64)) (Syntax.tyRef
-    (Syntax.named 1) Syntax.mut El.word) 1) (List._∷_ (3, Mut.mslice (Referent.rtF (Referent.fInt Syntax.w64)) (Syntax.tyRef (Syntax.named 2) Syntax.mut El.word) 2) (List._∷_ (4, Rows'.any-gone El.ReadyQueue) (List._∷_ (5, Rows'.sc-here
-    (Row.sInt Syntax.w64)) (List._∷_ (6, Rows'.any-gone (Syntax.tyArray El.word 4104)) (List._∷_ (7, Rows'.whole (Declared.row Begun.the-type)) (List._∷_ (8, Rows'.any-gone (Syntax.tyRef Syntax.erased Syntax.mut (Syntax.tyArray El.word
-    4104))) (List._∷_ (9, Rows'.any-gone (Syntax.tyStruct (List._∷_ 38 (List._∷_ 91 (List._∷_ 93 List.[]))) (Syntax.tcons (Syntax.tyRef Syntax.erased Syntax.mut El.word) (Syntax.tcons El.word Syntax.tnil)))) (List._∷_ (10, Rows'.any-gone
-    (Syntax.tyRef Syntax.erased Syntax.mut El.word)) (List._∷_ (11, Rows'.any-gone (Syntax.tyStruct (List._∷_ 38 (List._∷_ 91 (List._∷_ 93 List.[]))) (Syntax.tcons (Syntax.tyRef Syntax.erased Syntax.mut El.word) (Syntax.tcons El.word
-    Syntax.tnil)))) (List._∷_ (12, Rows'.any-gone (Syntax.tyRef Syntax.erased Syntax.mut El.word)) (List._∷_ (13, Rows'.any-gone (Syntax.tyStruct (List._∷_ 38 (List._∷_ 91 (List._∷_ 93 List.[]))) (Syntax.tcons (Syntax.tyRef
-    Syntax.erased Syntax.mut El.word) (Syntax.tcons El.word Syntax.tnil)))) (List._∷_ (14, Rows'.any-gone Syntax.tyUnit) (List._∷_ (15, Rows'.any-gone (Syntax.tyRef Syntax.erased Syntax.mut El.named)) List.[])))))))))))))))
+t28 = List._∷_ (0, Rows'.whole (Declared.row Stepped.the-type)) (List._∷_ (1, Mut.mslice El.row (Syntax.tyRef (Syntax.named 0) Syntax.mut El.named) 0) (List._∷_ (
+  2,
+  Mut.mslice (Referent.rtF (Referent.fInt Syntax.w64)) (Syntax.tyRef
+      (Syntax.named 1) Syntax.mut El.word) 1,
+) (List._∷_ (3, Mut.mslice (Referent.rtF (Referent.fInt Syntax.w64)) (Syntax.tyRef (Syntax.named 2) Syntax.mut El.word) 2) (List._∷_ (4, Rows'.any-gone El.ReadyQueue) (List._∷_ (
+  5,
+  Rows'.sc-here
+      (Row.sInt Syntax.w64),
+) (List._∷_ (6, Rows'.any-gone (Syntax.tyArray El.word 4104)) (List._∷_ (7, Rows'.whole (Declared.row Begun.the-type)) (List._∷_ (
+  8,
+  Rows'.any-gone (Syntax.tyRef Syntax.erased Syntax.mut (Syntax.tyArray El.word
+      4104)),
+) (List._∷_ (9, Rows'.any-gone (Syntax.tyStruct (List._∷_ 38 (List._∷_ 91 (List._∷_ 93 List.[]))) (Syntax.tcons (Syntax.tyRef Syntax.erased Syntax.mut El.word) (Syntax.tcons El.word Syntax.tnil)))) (List._∷_ (
+  10,
+  Rows'.any-gone
+      (Syntax.tyRef Syntax.erased Syntax.mut El.word),
+) (List._∷_ (
+  11,
+  Rows'.any-gone (Syntax.tyStruct (List._∷_ 38 (List._∷_ 91 (List._∷_ 93 List.[]))) (Syntax.tcons (Syntax.tyRef Syntax.erased Syntax.mut El.word) (Syntax.tcons El.word
+      Syntax.tnil))),
+) (List._∷_ (12, Rows'.any-gone (Syntax.tyRef Syntax.erased Syntax.mut El.word)) (List._∷_ (
+  13,
+  Rows'.any-gone (Syntax.tyStruct (List._∷_ 38 (List._∷_ 91 (List._∷_ 93 List.[]))) (Syntax.tcons (Syntax.tyRef
+      Syntax.erased Syntax.mut El.word) (Syntax.tcons El.word Syntax.tnil))),
+) (List._∷_ (14, Rows'.any-gone Syntax.tyUnit) (List._∷_ (15, Rows'.any-gone (Syntax.tyRef Syntax.erased Syntax.mut El.named)) List.[])))))))))))))))
 
 abbrev pub t29 : List.List Row.Entry
-t29 = List._∷_ (0, Rows'.whole (Declared.row Stepped.the-type)) (List._∷_ (1, Mut.mslice El.row (Syntax.tyRef (Syntax.named 0) Syntax.mut El.named) 0) (List._∷_ (2, Mut.mslice (Referent.rtF (Referent.fInt Syntax.w64)) (Syntax.tyRef
-    (Syntax.named 1) Syntax.mut El.word) 1) (List._∷_ (3, Mut.mslice (Referent.rtF (Referent.fInt Syntax.w64)) (Syntax.tyRef (Syntax.named 2) Syntax.mut El.word) 2) (List._∷_ (4, Rows'.any-gone El.ReadyQueue) (List._∷_ (5, Rows'.any-gone
-    El.word) (List._∷_ (6, Rows'.any-gone (Syntax.tyArray El.word 4104)) (List._∷_ (7, Rows'.whole (Declared.row Begun.the-type)) (List._∷_ (8, Rows'.any-gone (Syntax.tyRef Syntax.erased Syntax.mut (Syntax.tyArray El.word 4104)))
-    (List._∷_ (9, Rows'.any-gone (Syntax.tyStruct (List._∷_ 38 (List._∷_ 91 (List._∷_ 93 List.[]))) (Syntax.tcons (Syntax.tyRef Syntax.erased Syntax.mut El.word) (Syntax.tcons El.word Syntax.tnil)))) (List._∷_ (10, Rows'.any-gone
-    (Syntax.tyRef Syntax.erased Syntax.mut El.word)) (List._∷_ (11, Rows'.any-gone (Syntax.tyStruct (List._∷_ 38 (List._∷_ 91 (List._∷_ 93 List.[]))) (Syntax.tcons (Syntax.tyRef Syntax.erased Syntax.mut El.word) (Syntax.tcons El.word
-    Syntax.tnil)))) (List._∷_ (12, Rows'.any-gone (Syntax.tyRef Syntax.erased Syntax.mut El.word)) (List._∷_ (13, Rows'.any-gone (Syntax.tyStruct (List._∷_ 38 (List._∷_ 91 (List._∷_ 93 List.[]))) (Syntax.tcons (Syntax.tyRef
-    Syntax.erased Syntax.mut El.word) (Syntax.tcons El.word Syntax.tnil)))) (List._∷_ (14, Rows'.any-gone Syntax.tyUnit) (List._∷_ (15, Rows'.any-gone (Syntax.tyRef Syntax.erased Syntax.mut El.named)) List.[])))))))))))))))
+t29 = List._∷_ (0, Rows'.whole (Declared.row Stepped.the-type)) (List._∷_ (1, Mut.mslice El.row (Syntax.tyRef (Syntax.named 0) Syntax.mut El.named) 0) (List._∷_ (
+  2,
+  Mut.mslice (Referent.rtF (Referent.fInt Syntax.w64)) (Syntax.tyRef
+      (Syntax.named 1) Syntax.mut El.word) 1,
+) (List._∷_ (3, Mut.mslice (Referent.rtF (Referent.fInt Syntax.w64)) (Syntax.tyRef (Syntax.named 2) Syntax.mut El.word) 2) (List._∷_ (4, Rows'.any-gone El.ReadyQueue) (List._∷_ (
+  5,
+  Rows'.any-gone
+      El.word,
+) (List._∷_ (6, Rows'.any-gone (Syntax.tyArray El.word 4104)) (List._∷_ (7, Rows'.whole (Declared.row Begun.the-type)) (List._∷_ (8, Rows'.any-gone (Syntax.tyRef Syntax.erased Syntax.mut (Syntax.tyArray El.word 4104)))
+    (List._∷_ (9, Rows'.any-gone (Syntax.tyStruct (List._∷_ 38 (List._∷_ 91 (List._∷_ 93 List.[]))) (Syntax.tcons (Syntax.tyRef Syntax.erased Syntax.mut El.word) (Syntax.tcons El.word Syntax.tnil)))) (List._∷_ (
+      10,
+      Rows'.any-gone
+          (Syntax.tyRef Syntax.erased Syntax.mut El.word),
+    ) (List._∷_ (
+      11,
+      Rows'.any-gone (Syntax.tyStruct (List._∷_ 38 (List._∷_ 91 (List._∷_ 93 List.[]))) (Syntax.tcons (Syntax.tyRef Syntax.erased Syntax.mut El.word) (Syntax.tcons El.word
+          Syntax.tnil))),
+    ) (List._∷_ (12, Rows'.any-gone (Syntax.tyRef Syntax.erased Syntax.mut El.word)) (List._∷_ (
+      13,
+      Rows'.any-gone (Syntax.tyStruct (List._∷_ 38 (List._∷_ 91 (List._∷_ 93 List.[]))) (Syntax.tcons (Syntax.tyRef
+          Syntax.erased Syntax.mut El.word) (Syntax.tcons El.word Syntax.tnil))),
+    ) (List._∷_ (14, Rows'.any-gone Syntax.tyUnit) (List._∷_ (15, Rows'.any-gone (Syntax.tyRef Syntax.erased Syntax.mut El.named)) List.[])))))))))))))))
 
 abbrev pub T0 : Row.Cx
 T0 = record { locals = List._++_ t0 t1; slots = List.[] }
@@ -600,8 +1029,21 @@ module _ (claims· : Claims) where
       El.word) (λ x. x) (Scalar.oFld 3 (List._∷_ (Syntax.field 1) List.[]) El.word 8 λ v. Shared.lenV (v .0))
 
   abbrev s14 : (bs : List.List Nat.ℕ) → Typed.Both T15 T16
-  s14 = λ bs. Call.callB ps·0 r·0 (claims· .0) (claims· .1) T15 (Num.vAt 5 λ x. x, (record { pos = 9; ty = Syntax.tyRef Syntax.erased Syntax.mut El.word; ref = λ x. x; }, (record { pos = 11; ty = Syntax.tyRef Syntax.erased Syntax.mut
-      El.word; ref = λ x. x; }, (record { pos = 13; ty = Syntax.tyRef Syntax.erased Syntax.mut El.word; ref = λ x. x; }, (record { pos = 4; st = List.[]; d = 0; at = λ x. x }, tt))))) 7 (List._∷_ 3 (List._∷_ 4 (List._∷_ 5 List.[])))
+  s14 = λ bs. Call.callB ps·0 r·0 (claims· .0) (claims· .1) T15 (
+    Num.vAt 5 λ x. x,
+    (
+      record { pos = 9; ty = Syntax.tyRef Syntax.erased Syntax.mut El.word; ref = λ x. x },
+      (
+        record {
+          pos = 11;
+          ty = Syntax.tyRef Syntax.erased Syntax.mut
+              El.word;
+          ref = λ x. x;
+        },
+        (record { pos = 13; ty = Syntax.tyRef Syntax.erased Syntax.mut El.word; ref = λ x. x }, (record { pos = 4; st = List.[]; d = 0; at = λ x. x }, tt)),
+      ),
+    ),
+  ) 7 (List._∷_ 3 (List._∷_ 4 (List._∷_ 5 List.[])))
       El.Begun
 
   abbrev s15 : (bs : List.List Nat.ℕ) → Typed.Mo T16 → Typed.Mo T17
@@ -637,8 +1079,18 @@ module _ (claims· : Claims) where
       Syntax.erased Syntax.imm El.word) (λ x. x) (Scalar.oBig Syntax.w64 4104)
 
   abbrev s33 : (bs : List.List Nat.ℕ) → Typed.Both T34 T35
-  s33 = λ bs. Call.callB ps·1 r·1 (claims· .2) (claims· .3) T34 (record { pos = 16; ty = Syntax.tyRef Syntax.erased Syntax.mut El.named; ref = λ x. x; }, (record { pos = 18; ty = Syntax.tyRef Syntax.erased Syntax.imm El.word; ref = λ x.
-      x; }, (Num.vFld 7 (List._∷_ (Syntax.field 1) List.[]) 1088 λ x. Begun.struct .as-values x .1 .0, tt))) 14 (List._∷_ 6 (List._∷_ 7 List.[])) Syntax.tyUnit
+  s33 = λ bs. Call.callB ps·1 r·1 (claims· .2) (claims· .3) T34 (
+    record { pos = 16; ty = Syntax.tyRef Syntax.erased Syntax.mut El.named; ref = λ x. x },
+    (
+      record {
+        pos = 18;
+        ty = Syntax.tyRef Syntax.erased Syntax.imm El.word;
+        ref = λ x.
+            x;
+      },
+      (Num.vFld 7 (List._∷_ (Syntax.field 1) List.[]) 1088 λ x. Begun.struct .as-values x .1 .0, tt),
+    ),
+  ) 14 (List._∷_ 6 (List._∷_ 7 List.[])) Syntax.tyUnit
 
   abbrev s34 : (bs : List.List Nat.ℕ) → Typed.Mo T35 → Typed.Mo T36
   s34 = λ bs. Scalar.n-room T35 18 (Syntax.tyStruct (List._∷_ 38 (List._∷_ 91 (List._∷_ 93 List.[]))) (Syntax.tcons (Syntax.tyRef Syntax.erased Syntax.imm El.word) (Syntax.tcons El.word Syntax.tnil)))
@@ -657,7 +1109,7 @@ module _ (claims· : Claims) where
 
   abbrev s43 : (bs : List.List Nat.ℕ) → Typed.Both T44 T45
   s43 = λ bs. WayStmt.k-way-copy-out T44 (Row.out 7 (T44 .locals)) (λ u. Row.drop 7 (T44 .locals) u) 0 (Rows'.whole (Declared.row Stepped.the-type)) (λ u. At.getAt (Begun.the-type .parts) 0 (Begun.struct .as-values (u .1 .1 .1 .1 .1 .1
-      .1 .0))) (λ T′. record { locals = Row.setRow 7 (7, Rows'.whole (Declared.row Begun.the-type)) T′; slots = List.[]; }) (λ u T′ m′. Row.set 7 (7, Rows'.whole (Declared.row Begun.the-type)) (u .1 .1 .1 .1 .1 .1 .1 .0) T′ m′) (λ u.
+      .1 .0))) (λ T′. record { locals = Row.setRow 7 (7, Rows'.whole (Declared.row Begun.the-type)) T′; slots = List.[] }) (λ u T′ m′. Row.set 7 (7, Rows'.whole (Declared.row Begun.the-type)) (u .1 .1 .1 .1 .1 .1 .1 .0) T′ m′) (λ u.
       Unit) λ u. Unit
 
   abbrev s44 : (bs : List.List Nat.ℕ) → Typed.Mo T45 → Typed.Mo T46
@@ -823,311 +1275,647 @@ module _ (claims· : Claims) where
 
       module _ (κs : Lifetimes.Lfts 3) (qs : Lifetimes.Shares 3) where
         abbrev g8 : List.List Row.Entry
-        g8 = List._∷_ (0, Rows'.any-gone El.Stepped) (List._∷_ (1, Mut.mslice El.row (Syntax.tyRef (Syntax.named 0) Syntax.mut El.named) 0) (List._∷_ (2, Relend.mslice-owed (Referent.rtF (Referent.fInt Syntax.w64)) (Syntax.tyRef
-            (Syntax.named 1) Syntax.mut El.word) 1 4 (Row.lease (κs .1 .0) (qs .1 .0))) (List._∷_ (3, Mut.mslice (Referent.rtF (Referent.fInt Syntax.w64)) (Syntax.tyRef (Syntax.named 2) Syntax.mut El.word) 2) (List._∷_ (4, Rows'.whole
-            (Declared.row ReadyQueue.the-type)) (List._∷_ (5, Rows'.sc-here (Row.sInt Syntax.w64)) (List._∷_ (6, Rows.arr-owed (Referent.rtF (Referent.fInt Syntax.w64)) 4104 3) (List._∷_ (7, Rows'.any-gone El.Begun) (List._∷_ (8,
-            Rows'.any-gone (Syntax.tyRef Syntax.erased Syntax.mut (Syntax.tyArray El.word 4104))) (List._∷_ (9, Mut.mslice (Referent.rtF (Referent.fInt Syntax.w64)) (Syntax.tyRef Syntax.erased Syntax.mut El.word) 3) (List._∷_ (10,
-            Relend.msptr (Referent.rtF (Referent.fInt Syntax.w64)) (Syntax.tyRef Syntax.erased Syntax.mut El.word) 4) (List._∷_ (11, Rows'.any-gone (Syntax.tyStruct (List._∷_ 38 (List._∷_ 91 (List._∷_ 93 List.[]))) (Syntax.tcons
-            (Syntax.tyRef Syntax.erased Syntax.mut El.word) (Syntax.tcons El.word Syntax.tnil)))) (List._∷_ (12, Rows'.any-gone (Syntax.tyRef Syntax.erased Syntax.mut El.word)) (List._∷_ (13, Rows'.any-gone (Syntax.tyStruct (List._∷_ 38
-            (List._∷_ 91 (List._∷_ 93 List.[]))) (Syntax.tcons (Syntax.tyRef Syntax.erased Syntax.mut El.word) (Syntax.tcons El.word Syntax.tnil)))) (List._∷_ (14, Rows'.any-gone Syntax.tyUnit) (List._∷_ (15, Rows'.any-gone (Syntax.tyRef
-            Syntax.erased Syntax.mut El.named)) List.[])))))))))))))))
+        g8 = List._∷_ (0, Rows'.any-gone El.Stepped) (List._∷_ (1, Mut.mslice El.row (Syntax.tyRef (Syntax.named 0) Syntax.mut El.named) 0) (List._∷_ (
+          2,
+          Relend.mslice-owed (Referent.rtF (Referent.fInt Syntax.w64)) (Syntax.tyRef
+              (Syntax.named 1) Syntax.mut El.word) 1 4 (Row.lease (κs .1 .0) (qs .1 .0)),
+        ) (List._∷_ (3, Mut.mslice (Referent.rtF (Referent.fInt Syntax.w64)) (Syntax.tyRef (Syntax.named 2) Syntax.mut El.word) 2) (List._∷_ (
+          4,
+          Rows'.whole
+              (Declared.row ReadyQueue.the-type),
+        ) (List._∷_ (5, Rows'.sc-here (Row.sInt Syntax.w64)) (List._∷_ (6, Rows.arr-owed (Referent.rtF (Referent.fInt Syntax.w64)) 4104 3) (List._∷_ (7, Rows'.any-gone El.Begun) (List._∷_ (
+          8,
+          Rows'.any-gone (Syntax.tyRef Syntax.erased Syntax.mut (Syntax.tyArray El.word 4104)),
+        ) (List._∷_ (9, Mut.mslice (Referent.rtF (Referent.fInt Syntax.w64)) (Syntax.tyRef Syntax.erased Syntax.mut El.word) 3) (List._∷_ (
+          10,
+          Relend.msptr (Referent.rtF (Referent.fInt Syntax.w64)) (Syntax.tyRef Syntax.erased Syntax.mut El.word) 4,
+        ) (List._∷_ (
+          11,
+          Rows'.any-gone (Syntax.tyStruct (List._∷_ 38 (List._∷_ 91 (List._∷_ 93 List.[]))) (Syntax.tcons
+              (Syntax.tyRef Syntax.erased Syntax.mut El.word) (Syntax.tcons El.word Syntax.tnil))),
+        ) (List._∷_ (12, Rows'.any-gone (Syntax.tyRef Syntax.erased Syntax.mut El.word)) (List._∷_ (
+          13,
+          Rows'.any-gone (Syntax.tyStruct (List._∷_ 38
+              (List._∷_ 91 (List._∷_ 93 List.[]))) (Syntax.tcons (Syntax.tyRef Syntax.erased Syntax.mut El.word) (Syntax.tcons El.word Syntax.tnil))),
+        ) (List._∷_ (14, Rows'.any-gone Syntax.tyUnit) (List._∷_ (
+          15,
+          Rows'.any-gone (Syntax.tyRef
+              Syntax.erased Syntax.mut El.named),
+        ) List.[])))))))))))))))
 
         abbrev g9 : List.List Row.Entry
-        g9 = List._∷_ (0, Rows'.any-gone El.Stepped) (List._∷_ (1, Mut.mslice El.row (Syntax.tyRef (Syntax.named 0) Syntax.mut El.named) 0) (List._∷_ (2, Relend.mslice-owed (Referent.rtF (Referent.fInt Syntax.w64)) (Syntax.tyRef
-            (Syntax.named 1) Syntax.mut El.word) 1 4 (Row.lease (κs .1 .0) (qs .1 .0))) (List._∷_ (3, Mut.mslice (Referent.rtF (Referent.fInt Syntax.w64)) (Syntax.tyRef (Syntax.named 2) Syntax.mut El.word) 2) (List._∷_ (4, Rows'.whole
-            (Declared.row ReadyQueue.the-type)) (List._∷_ (5, Rows'.sc-here (Row.sInt Syntax.w64)) (List._∷_ (6, Rows.arr-owed (Referent.rtF (Referent.fInt Syntax.w64)) 4104 3) (List._∷_ (7, Rows'.any-gone El.Begun) (List._∷_ (8,
-            Rows'.any-gone (Syntax.tyRef Syntax.erased Syntax.mut (Syntax.tyArray El.word 4104))) (List._∷_ (9, Mut.mslice (Referent.rtF (Referent.fInt Syntax.w64)) (Syntax.tyRef Syntax.erased Syntax.mut El.word) 3) (List._∷_ (10,
-            Rows'.any-gone (Syntax.tyRef Syntax.erased Syntax.mut El.word)) (List._∷_ (11, Mut.mslice (Referent.rtF (Referent.fInt Syntax.w64)) (Syntax.tyRef Syntax.erased Syntax.mut El.word) 4) (List._∷_ (12, Rows'.any-gone
-            (Syntax.tyRef Syntax.erased Syntax.mut El.word)) (List._∷_ (13, Rows'.any-gone (Syntax.tyStruct (List._∷_ 38 (List._∷_ 91 (List._∷_ 93 List.[]))) (Syntax.tcons (Syntax.tyRef Syntax.erased Syntax.mut El.word) (Syntax.tcons
-            El.word Syntax.tnil)))) (List._∷_ (14, Rows'.any-gone Syntax.tyUnit) (List._∷_ (15, Rows'.any-gone (Syntax.tyRef Syntax.erased Syntax.mut El.named)) List.[])))))))))))))))
+        g9 = List._∷_ (0, Rows'.any-gone El.Stepped) (List._∷_ (1, Mut.mslice El.row (Syntax.tyRef (Syntax.named 0) Syntax.mut El.named) 0) (List._∷_ (
+          2,
+          Relend.mslice-owed (Referent.rtF (Referent.fInt Syntax.w64)) (Syntax.tyRef
+              (Syntax.named 1) Syntax.mut El.word) 1 4 (Row.lease (κs .1 .0) (qs .1 .0)),
+        ) (List._∷_ (3, Mut.mslice (Referent.rtF (Referent.fInt Syntax.w64)) (Syntax.tyRef (Syntax.named 2) Syntax.mut El.word) 2) (List._∷_ (
+          4,
+          Rows'.whole
+              (Declared.row ReadyQueue.the-type),
+        ) (List._∷_ (5, Rows'.sc-here (Row.sInt Syntax.w64)) (List._∷_ (6, Rows.arr-owed (Referent.rtF (Referent.fInt Syntax.w64)) 4104 3) (List._∷_ (7, Rows'.any-gone El.Begun) (List._∷_ (
+          8,
+          Rows'.any-gone (Syntax.tyRef Syntax.erased Syntax.mut (Syntax.tyArray El.word 4104)),
+        ) (List._∷_ (9, Mut.mslice (Referent.rtF (Referent.fInt Syntax.w64)) (Syntax.tyRef Syntax.erased Syntax.mut El.word) 3) (List._∷_ (
+          10,
+          Rows'.any-gone (Syntax.tyRef Syntax.erased Syntax.mut El.word),
+        ) (List._∷_ (11, Mut.mslice (Referent.rtF (Referent.fInt Syntax.w64)) (Syntax.tyRef Syntax.erased Syntax.mut El.word) 4) (List._∷_ (
+          12,
+          Rows'.any-gone
+              (Syntax.tyRef Syntax.erased Syntax.mut El.word),
+        ) (List._∷_ (
+          13,
+          Rows'.any-gone (Syntax.tyStruct (List._∷_ 38 (List._∷_ 91 (List._∷_ 93 List.[]))) (Syntax.tcons (Syntax.tyRef Syntax.erased Syntax.mut El.word) (Syntax.tcons
+              El.word Syntax.tnil))),
+        ) (List._∷_ (14, Rows'.any-gone Syntax.tyUnit) (List._∷_ (15, Rows'.any-gone (Syntax.tyRef Syntax.erased Syntax.mut El.named)) List.[])))))))))))))))
 
         abbrev g10 : List.List Row.Entry
-        g10 = List._∷_ (0, Rows'.any-gone El.Stepped) (List._∷_ (1, Mut.mslice El.row (Syntax.tyRef (Syntax.named 0) Syntax.mut El.named) 0) (List._∷_ (2, Relend.mslice-owed (Referent.rtF (Referent.fInt Syntax.w64)) (Syntax.tyRef
-            (Syntax.named 1) Syntax.mut El.word) 1 4 (Row.lease (κs .1 .0) (qs .1 .0))) (List._∷_ (3, Relend.mslice-owed (Referent.rtF (Referent.fInt Syntax.w64)) (Syntax.tyRef (Syntax.named 2) Syntax.mut El.word) 2 5 (Row.lease (κs .1
-            .1 .0) (qs .1 .1 .0))) (List._∷_ (4, Rows'.whole (Declared.row ReadyQueue.the-type)) (List._∷_ (5, Rows'.sc-here (Row.sInt Syntax.w64)) (List._∷_ (6, Rows.arr-owed (Referent.rtF (Referent.fInt Syntax.w64)) 4104 3) (List._∷_
-            (7, Rows'.any-gone El.Begun) (List._∷_ (8, Rows'.any-gone (Syntax.tyRef Syntax.erased Syntax.mut (Syntax.tyArray El.word 4104))) (List._∷_ (9, Mut.mslice (Referent.rtF (Referent.fInt Syntax.w64)) (Syntax.tyRef Syntax.erased
-            Syntax.mut El.word) 3) (List._∷_ (10, Rows'.any-gone (Syntax.tyRef Syntax.erased Syntax.mut El.word)) (List._∷_ (11, Mut.mslice (Referent.rtF (Referent.fInt Syntax.w64)) (Syntax.tyRef Syntax.erased Syntax.mut El.word) 4)
-            (List._∷_ (12, Relend.msptr (Referent.rtF (Referent.fInt Syntax.w64)) (Syntax.tyRef Syntax.erased Syntax.mut El.word) 5) (List._∷_ (13, Rows'.any-gone (Syntax.tyStruct (List._∷_ 38 (List._∷_ 91 (List._∷_ 93 List.[])))
-            (Syntax.tcons (Syntax.tyRef Syntax.erased Syntax.mut El.word) (Syntax.tcons El.word Syntax.tnil)))) (List._∷_ (14, Rows'.any-gone Syntax.tyUnit) (List._∷_ (15, Rows'.any-gone (Syntax.tyRef Syntax.erased Syntax.mut El.named))
+        g10 = List._∷_ (0, Rows'.any-gone El.Stepped) (List._∷_ (1, Mut.mslice El.row (Syntax.tyRef (Syntax.named 0) Syntax.mut El.named) 0) (List._∷_ (
+          2,
+          Relend.mslice-owed (Referent.rtF (Referent.fInt Syntax.w64)) (Syntax.tyRef
+              (Syntax.named 1) Syntax.mut El.word) 1 4 (Row.lease (κs .1 .0) (qs .1 .0)),
+        ) (List._∷_ (
+          3,
+          Relend.mslice-owed (Referent.rtF (Referent.fInt Syntax.w64)) (Syntax.tyRef (Syntax.named 2) Syntax.mut El.word) 2 5 (Row.lease (κs .1
+              .1 .0) (qs .1 .1 .0)),
+        ) (List._∷_ (4, Rows'.whole (Declared.row ReadyQueue.the-type)) (List._∷_ (5, Rows'.sc-here (Row.sInt Syntax.w64)) (List._∷_ (6, Rows.arr-owed (Referent.rtF (Referent.fInt Syntax.w64)) 4104 3) (List._∷_
+            (7, Rows'.any-gone El.Begun) (List._∷_ (8, Rows'.any-gone (Syntax.tyRef Syntax.erased Syntax.mut (Syntax.tyArray El.word 4104))) (List._∷_ (
+              9,
+              Mut.mslice (Referent.rtF (Referent.fInt Syntax.w64)) (Syntax.tyRef Syntax.erased
+                  Syntax.mut El.word) 3,
+            ) (List._∷_ (10, Rows'.any-gone (Syntax.tyRef Syntax.erased Syntax.mut El.word)) (List._∷_ (11, Mut.mslice (Referent.rtF (Referent.fInt Syntax.w64)) (Syntax.tyRef Syntax.erased Syntax.mut El.word) 4)
+            (List._∷_ (12, Relend.msptr (Referent.rtF (Referent.fInt Syntax.w64)) (Syntax.tyRef Syntax.erased Syntax.mut El.word) 5) (List._∷_ (
+              13,
+              Rows'.any-gone (Syntax.tyStruct (List._∷_ 38 (List._∷_ 91 (List._∷_ 93 List.[])))
+                  (Syntax.tcons (Syntax.tyRef Syntax.erased Syntax.mut El.word) (Syntax.tcons El.word Syntax.tnil))),
+            ) (List._∷_ (14, Rows'.any-gone Syntax.tyUnit) (List._∷_ (15, Rows'.any-gone (Syntax.tyRef Syntax.erased Syntax.mut El.named))
             List.[])))))))))))))))
 
         abbrev g11 : List.List Row.Entry
-        g11 = List._∷_ (0, Rows'.any-gone El.Stepped) (List._∷_ (1, Mut.mslice El.row (Syntax.tyRef (Syntax.named 0) Syntax.mut El.named) 0) (List._∷_ (2, Relend.mslice-owed (Referent.rtF (Referent.fInt Syntax.w64)) (Syntax.tyRef
-            (Syntax.named 1) Syntax.mut El.word) 1 4 (Row.lease (κs .1 .0) (qs .1 .0))) (List._∷_ (3, Relend.mslice-owed (Referent.rtF (Referent.fInt Syntax.w64)) (Syntax.tyRef (Syntax.named 2) Syntax.mut El.word) 2 5 (Row.lease (κs .1
-            .1 .0) (qs .1 .1 .0))) (List._∷_ (4, Rows'.whole (Declared.row ReadyQueue.the-type)) (List._∷_ (5, Rows'.sc-here (Row.sInt Syntax.w64)) (List._∷_ (6, Rows.arr-owed (Referent.rtF (Referent.fInt Syntax.w64)) 4104 3) (List._∷_
-            (7, Rows'.any-gone El.Begun) (List._∷_ (8, Rows'.any-gone (Syntax.tyRef Syntax.erased Syntax.mut (Syntax.tyArray El.word 4104))) (List._∷_ (9, Mut.mslice (Referent.rtF (Referent.fInt Syntax.w64)) (Syntax.tyRef Syntax.erased
-            Syntax.mut El.word) 3) (List._∷_ (10, Rows'.any-gone (Syntax.tyRef Syntax.erased Syntax.mut El.word)) (List._∷_ (11, Mut.mslice (Referent.rtF (Referent.fInt Syntax.w64)) (Syntax.tyRef Syntax.erased Syntax.mut El.word) 4)
-            (List._∷_ (12, Rows'.any-gone (Syntax.tyRef Syntax.erased Syntax.mut El.word)) (List._∷_ (13, Mut.mslice (Referent.rtF (Referent.fInt Syntax.w64)) (Syntax.tyRef Syntax.erased Syntax.mut El.word) 5) (List._∷_ (14,
-            Rows'.any-gone Syntax.tyUnit) (List._∷_ (15, Rows'.any-gone (Syntax.tyRef Syntax.erased Syntax.mut El.named)) List.[])))))))))))))))
+        g11 = List._∷_ (0, Rows'.any-gone El.Stepped) (List._∷_ (1, Mut.mslice El.row (Syntax.tyRef (Syntax.named 0) Syntax.mut El.named) 0) (List._∷_ (
+          2,
+          Relend.mslice-owed (Referent.rtF (Referent.fInt Syntax.w64)) (Syntax.tyRef
+              (Syntax.named 1) Syntax.mut El.word) 1 4 (Row.lease (κs .1 .0) (qs .1 .0)),
+        ) (List._∷_ (
+          3,
+          Relend.mslice-owed (Referent.rtF (Referent.fInt Syntax.w64)) (Syntax.tyRef (Syntax.named 2) Syntax.mut El.word) 2 5 (Row.lease (κs .1
+              .1 .0) (qs .1 .1 .0)),
+        ) (List._∷_ (4, Rows'.whole (Declared.row ReadyQueue.the-type)) (List._∷_ (5, Rows'.sc-here (Row.sInt Syntax.w64)) (List._∷_ (6, Rows.arr-owed (Referent.rtF (Referent.fInt Syntax.w64)) 4104 3) (List._∷_
+            (7, Rows'.any-gone El.Begun) (List._∷_ (8, Rows'.any-gone (Syntax.tyRef Syntax.erased Syntax.mut (Syntax.tyArray El.word 4104))) (List._∷_ (
+              9,
+              Mut.mslice (Referent.rtF (Referent.fInt Syntax.w64)) (Syntax.tyRef Syntax.erased
+                  Syntax.mut El.word) 3,
+            ) (List._∷_ (10, Rows'.any-gone (Syntax.tyRef Syntax.erased Syntax.mut El.word)) (List._∷_ (11, Mut.mslice (Referent.rtF (Referent.fInt Syntax.w64)) (Syntax.tyRef Syntax.erased Syntax.mut El.word) 4)
+            (List._∷_ (12, Rows'.any-gone (Syntax.tyRef Syntax.erased Syntax.mut El.word)) (List._∷_ (13, Mut.mslice (Referent.rtF (Referent.fInt Syntax.w64)) (Syntax.tyRef Syntax.erased Syntax.mut El.word) 5) (List._∷_ (
+              14,
+              Rows'.any-gone Syntax.tyUnit,
+            ) (List._∷_ (15, Rows'.any-gone (Syntax.tyRef Syntax.erased Syntax.mut El.named)) List.[])))))))))))))))
 
         abbrev g12 : List.List Row.Entry
-        g12 = List._∷_ (0, Rows'.any-gone El.Stepped) (List._∷_ (1, Mut.mslice El.row (Syntax.tyRef (Syntax.named 0) Syntax.mut El.named) 0) (List._∷_ (2, Relend.mslice-owed (Referent.rtF (Referent.fInt Syntax.w64)) (Syntax.tyRef
-            (Syntax.named 1) Syntax.mut El.word) 1 4 (Row.lease (κs .1 .0) (qs .1 .0))) (List._∷_ (3, Relend.mslice-owed (Referent.rtF (Referent.fInt Syntax.w64)) (Syntax.tyRef (Syntax.named 2) Syntax.mut El.word) 2 5 (Row.lease (κs .1
-            .1 .0) (qs .1 .1 .0))) (List._∷_ (4, Rows'.whole (Declared.row ReadyQueue.the-type)) (List._∷_ (5, Rows'.sc-here (Row.sInt Syntax.w64)) (List._∷_ (6, Rows.arr-owed (Referent.rtF (Referent.fInt Syntax.w64)) 4104 3) (List._∷_
-            (7, Rows'.whole (Declared.row Begun.the-type)) (List._∷_ (8, Rows'.any-gone (Syntax.tyRef Syntax.erased Syntax.mut (Syntax.tyArray El.word 4104))) (List._∷_ (9, Mut.msleft (Referent.rtF (Referent.fInt Syntax.w64))
-            (Syntax.tyRef Syntax.erased Syntax.mut El.word)) (List._∷_ (10, Rows'.any-gone (Syntax.tyRef Syntax.erased Syntax.mut El.word)) (List._∷_ (11, Mut.msleft (Referent.rtF (Referent.fInt Syntax.w64)) (Syntax.tyRef Syntax.erased
-            Syntax.mut El.word)) (List._∷_ (12, Rows'.any-gone (Syntax.tyRef Syntax.erased Syntax.mut El.word)) (List._∷_ (13, Mut.msleft (Referent.rtF (Referent.fInt Syntax.w64)) (Syntax.tyRef Syntax.erased Syntax.mut El.word)) (List._∷_
+        g12 = List._∷_ (0, Rows'.any-gone El.Stepped) (List._∷_ (1, Mut.mslice El.row (Syntax.tyRef (Syntax.named 0) Syntax.mut El.named) 0) (List._∷_ (
+          2,
+          Relend.mslice-owed (Referent.rtF (Referent.fInt Syntax.w64)) (Syntax.tyRef
+              (Syntax.named 1) Syntax.mut El.word) 1 4 (Row.lease (κs .1 .0) (qs .1 .0)),
+        ) (List._∷_ (
+          3,
+          Relend.mslice-owed (Referent.rtF (Referent.fInt Syntax.w64)) (Syntax.tyRef (Syntax.named 2) Syntax.mut El.word) 2 5 (Row.lease (κs .1
+              .1 .0) (qs .1 .1 .0)),
+        ) (List._∷_ (4, Rows'.whole (Declared.row ReadyQueue.the-type)) (List._∷_ (5, Rows'.sc-here (Row.sInt Syntax.w64)) (List._∷_ (6, Rows.arr-owed (Referent.rtF (Referent.fInt Syntax.w64)) 4104 3) (List._∷_
+            (7, Rows'.whole (Declared.row Begun.the-type)) (List._∷_ (8, Rows'.any-gone (Syntax.tyRef Syntax.erased Syntax.mut (Syntax.tyArray El.word 4104))) (List._∷_ (
+              9,
+              Mut.msleft (Referent.rtF (Referent.fInt Syntax.w64))
+                  (Syntax.tyRef Syntax.erased Syntax.mut El.word),
+            ) (List._∷_ (10, Rows'.any-gone (Syntax.tyRef Syntax.erased Syntax.mut El.word)) (List._∷_ (
+              11,
+              Mut.msleft (Referent.rtF (Referent.fInt Syntax.w64)) (Syntax.tyRef Syntax.erased
+                  Syntax.mut El.word),
+            ) (List._∷_ (12, Rows'.any-gone (Syntax.tyRef Syntax.erased Syntax.mut El.word)) (List._∷_ (13, Mut.msleft (Referent.rtF (Referent.fInt Syntax.w64)) (Syntax.tyRef Syntax.erased Syntax.mut El.word)) (List._∷_
             (14, Rows'.any-gone Syntax.tyUnit) (List._∷_ (15, Rows'.any-gone (Syntax.tyRef Syntax.erased Syntax.mut El.named)) List.[])))))))))))))))
 
         abbrev g13 : List.List Row.Entry
-        g13 = List._∷_ (0, Rows'.any-gone El.Stepped) (List._∷_ (1, Mut.mslice El.row (Syntax.tyRef (Syntax.named 0) Syntax.mut El.named) 0) (List._∷_ (2, Relend.mslice-owed (Referent.rtF (Referent.fInt Syntax.w64)) (Syntax.tyRef
-            (Syntax.named 1) Syntax.mut El.word) 1 4 (Row.lease (κs .1 .0) (qs .1 .0))) (List._∷_ (3, Relend.mslice-owed (Referent.rtF (Referent.fInt Syntax.w64)) (Syntax.tyRef (Syntax.named 2) Syntax.mut El.word) 2 5 (Row.lease (κs .1
-            .1 .0) (qs .1 .1 .0))) (List._∷_ (4, Rows'.any-gone El.ReadyQueue) (List._∷_ (5, Rows'.sc-here (Row.sInt Syntax.w64)) (List._∷_ (6, Rows.arr-owed (Referent.rtF (Referent.fInt Syntax.w64)) 4104 3) (List._∷_ (7, Rows'.whole
-            (Declared.row Begun.the-type)) (List._∷_ (8, Rows'.any-gone (Syntax.tyRef Syntax.erased Syntax.mut (Syntax.tyArray El.word 4104))) (List._∷_ (9, Mut.msleft (Referent.rtF (Referent.fInt Syntax.w64)) (Syntax.tyRef
-            Syntax.erased Syntax.mut El.word)) (List._∷_ (10, Rows'.any-gone (Syntax.tyRef Syntax.erased Syntax.mut El.word)) (List._∷_ (11, Mut.msleft (Referent.rtF (Referent.fInt Syntax.w64)) (Syntax.tyRef Syntax.erased Syntax.mut
-            El.word)) (List._∷_ (12, Rows'.any-gone (Syntax.tyRef Syntax.erased Syntax.mut El.word)) (List._∷_ (13, Mut.msleft (Referent.rtF (Referent.fInt Syntax.w64)) (Syntax.tyRef Syntax.erased Syntax.mut El.word)) (List._∷_ (14,
-            Rows'.any-gone Syntax.tyUnit) (List._∷_ (15, Rows'.any-gone (Syntax.tyRef Syntax.erased Syntax.mut El.named)) List.[])))))))))))))))
+        g13 = List._∷_ (0, Rows'.any-gone El.Stepped) (List._∷_ (1, Mut.mslice El.row (Syntax.tyRef (Syntax.named 0) Syntax.mut El.named) 0) (List._∷_ (
+          2,
+          Relend.mslice-owed (Referent.rtF (Referent.fInt Syntax.w64)) (Syntax.tyRef
+              (Syntax.named 1) Syntax.mut El.word) 1 4 (Row.lease (κs .1 .0) (qs .1 .0)),
+        ) (List._∷_ (
+          3,
+          Relend.mslice-owed (Referent.rtF (Referent.fInt Syntax.w64)) (Syntax.tyRef (Syntax.named 2) Syntax.mut El.word) 2 5 (Row.lease (κs .1
+              .1 .0) (qs .1 .1 .0)),
+        ) (List._∷_ (4, Rows'.any-gone El.ReadyQueue) (List._∷_ (5, Rows'.sc-here (Row.sInt Syntax.w64)) (List._∷_ (6, Rows.arr-owed (Referent.rtF (Referent.fInt Syntax.w64)) 4104 3) (List._∷_ (
+          7,
+          Rows'.whole
+              (Declared.row Begun.the-type),
+        ) (List._∷_ (8, Rows'.any-gone (Syntax.tyRef Syntax.erased Syntax.mut (Syntax.tyArray El.word 4104))) (List._∷_ (
+          9,
+          Mut.msleft (Referent.rtF (Referent.fInt Syntax.w64)) (Syntax.tyRef
+              Syntax.erased Syntax.mut El.word),
+        ) (List._∷_ (10, Rows'.any-gone (Syntax.tyRef Syntax.erased Syntax.mut El.word)) (List._∷_ (
+          11,
+          Mut.msleft (Referent.rtF (Referent.fInt Syntax.w64)) (Syntax.tyRef Syntax.erased Syntax.mut
+              El.word),
+        ) (List._∷_ (12, Rows'.any-gone (Syntax.tyRef Syntax.erased Syntax.mut El.word)) (List._∷_ (13, Mut.msleft (Referent.rtF (Referent.fInt Syntax.w64)) (Syntax.tyRef Syntax.erased Syntax.mut El.word)) (List._∷_ (
+          14,
+          Rows'.any-gone Syntax.tyUnit,
+        ) (List._∷_ (15, Rows'.any-gone (Syntax.tyRef Syntax.erased Syntax.mut El.named)) List.[])))))))))))))))
 
         abbrev g14 : List.List Row.Entry
-        g14 = List._∷_ (0, Rows'.any-gone El.Stepped) (List._∷_ (1, Mut.mslice El.row (Syntax.tyRef (Syntax.named 0) Syntax.mut El.named) 0) (List._∷_ (2, Relend.mslice-owed (Referent.rtF (Referent.fInt Syntax.w64)) (Syntax.tyRef
-            (Syntax.named 1) Syntax.mut El.word) 1 4 (Row.lease (κs .1 .0) (qs .1 .0))) (List._∷_ (3, Relend.mslice-owed (Referent.rtF (Referent.fInt Syntax.w64)) (Syntax.tyRef (Syntax.named 2) Syntax.mut El.word) 2 5 (Row.lease (κs .1
-            .1 .0) (qs .1 .1 .0))) (List._∷_ (4, Rows'.any-gone El.ReadyQueue) (List._∷_ (5, Rows'.sc-here (Row.sInt Syntax.w64)) (List._∷_ (6, Rows.arrF (Referent.rtF (Referent.fInt Syntax.w64)) 4104 0) (List._∷_ (7, Rows'.whole
-            (Declared.row Begun.the-type)) (List._∷_ (8, Rows'.any-gone (Syntax.tyRef Syntax.erased Syntax.mut (Syntax.tyArray El.word 4104))) (List._∷_ (9, Rows'.any-gone (Syntax.tyStruct (List._∷_ 38 (List._∷_ 91 (List._∷_ 93
-            List.[]))) (Syntax.tcons (Syntax.tyRef Syntax.erased Syntax.mut El.word) (Syntax.tcons El.word Syntax.tnil)))) (List._∷_ (10, Rows'.any-gone (Syntax.tyRef Syntax.erased Syntax.mut El.word)) (List._∷_ (11, Mut.msleft
-            (Referent.rtF (Referent.fInt Syntax.w64)) (Syntax.tyRef Syntax.erased Syntax.mut El.word)) (List._∷_ (12, Rows'.any-gone (Syntax.tyRef Syntax.erased Syntax.mut El.word)) (List._∷_ (13, Mut.msleft (Referent.rtF (Referent.fInt
-            Syntax.w64)) (Syntax.tyRef Syntax.erased Syntax.mut El.word)) (List._∷_ (14, Rows'.any-gone Syntax.tyUnit) (List._∷_ (15, Rows'.any-gone (Syntax.tyRef Syntax.erased Syntax.mut El.named)) List.[])))))))))))))))
+        g14 = List._∷_ (0, Rows'.any-gone El.Stepped) (List._∷_ (1, Mut.mslice El.row (Syntax.tyRef (Syntax.named 0) Syntax.mut El.named) 0) (List._∷_ (
+          2,
+          Relend.mslice-owed (Referent.rtF (Referent.fInt Syntax.w64)) (Syntax.tyRef
+              (Syntax.named 1) Syntax.mut El.word) 1 4 (Row.lease (κs .1 .0) (qs .1 .0)),
+        ) (List._∷_ (
+          3,
+          Relend.mslice-owed (Referent.rtF (Referent.fInt Syntax.w64)) (Syntax.tyRef (Syntax.named 2) Syntax.mut El.word) 2 5 (Row.lease (κs .1
+              .1 .0) (qs .1 .1 .0)),
+        ) (List._∷_ (4, Rows'.any-gone El.ReadyQueue) (List._∷_ (5, Rows'.sc-here (Row.sInt Syntax.w64)) (List._∷_ (6, Rows.arrF (Referent.rtF (Referent.fInt Syntax.w64)) 4104 0) (List._∷_ (
+          7,
+          Rows'.whole
+              (Declared.row Begun.the-type),
+        ) (List._∷_ (8, Rows'.any-gone (Syntax.tyRef Syntax.erased Syntax.mut (Syntax.tyArray El.word 4104))) (List._∷_ (
+          9,
+          Rows'.any-gone (Syntax.tyStruct (List._∷_ 38 (List._∷_ 91 (List._∷_ 93
+              List.[]))) (Syntax.tcons (Syntax.tyRef Syntax.erased Syntax.mut El.word) (Syntax.tcons El.word Syntax.tnil))),
+        ) (List._∷_ (10, Rows'.any-gone (Syntax.tyRef Syntax.erased Syntax.mut El.word)) (List._∷_ (
+          11,
+          Mut.msleft
+              (Referent.rtF (Referent.fInt Syntax.w64)) (Syntax.tyRef Syntax.erased Syntax.mut El.word),
+        ) (List._∷_ (12, Rows'.any-gone (Syntax.tyRef Syntax.erased Syntax.mut El.word)) (List._∷_ (
+          13,
+          Mut.msleft (Referent.rtF (Referent.fInt
+              Syntax.w64)) (Syntax.tyRef Syntax.erased Syntax.mut El.word),
+        ) (List._∷_ (14, Rows'.any-gone Syntax.tyUnit) (List._∷_ (15, Rows'.any-gone (Syntax.tyRef Syntax.erased Syntax.mut El.named)) List.[])))))))))))))))
 
         abbrev g15 : List.List Row.Entry
-        g15 = List._∷_ (0, Rows'.any-gone El.Stepped) (List._∷_ (1, Mut.mslice El.row (Syntax.tyRef (Syntax.named 0) Syntax.mut El.named) 0) (List._∷_ (2, Mut.mslice (Referent.rtF (Referent.fInt Syntax.w64)) (Syntax.tyRef (Syntax.named 1)
-            Syntax.mut El.word) 1) (List._∷_ (3, Relend.mslice-owed (Referent.rtF (Referent.fInt Syntax.w64)) (Syntax.tyRef (Syntax.named 2) Syntax.mut El.word) 2 5 (Row.lease (κs .1 .1 .0) (qs .1 .1 .0))) (List._∷_ (4, Rows'.any-gone
-            El.ReadyQueue) (List._∷_ (5, Rows'.sc-here (Row.sInt Syntax.w64)) (List._∷_ (6, Rows.arrF (Referent.rtF (Referent.fInt Syntax.w64)) 4104 0) (List._∷_ (7, Rows'.whole (Declared.row Begun.the-type)) (List._∷_ (8,
-            Rows'.any-gone (Syntax.tyRef Syntax.erased Syntax.mut (Syntax.tyArray El.word 4104))) (List._∷_ (9, Rows'.any-gone (Syntax.tyStruct (List._∷_ 38 (List._∷_ 91 (List._∷_ 93 List.[]))) (Syntax.tcons (Syntax.tyRef Syntax.erased
-            Syntax.mut El.word) (Syntax.tcons El.word Syntax.tnil)))) (List._∷_ (10, Rows'.any-gone (Syntax.tyRef Syntax.erased Syntax.mut El.word)) (List._∷_ (11, Rows'.any-gone (Syntax.tyStruct (List._∷_ 38 (List._∷_ 91 (List._∷_ 93
-            List.[]))) (Syntax.tcons (Syntax.tyRef Syntax.erased Syntax.mut El.word) (Syntax.tcons El.word Syntax.tnil)))) (List._∷_ (12, Rows'.any-gone (Syntax.tyRef Syntax.erased Syntax.mut El.word)) (List._∷_ (13, Mut.msleft
-            (Referent.rtF (Referent.fInt Syntax.w64)) (Syntax.tyRef Syntax.erased Syntax.mut El.word)) (List._∷_ (14, Rows'.any-gone Syntax.tyUnit) (List._∷_ (15, Rows'.any-gone (Syntax.tyRef Syntax.erased Syntax.mut El.named))
+        g15 = List._∷_ (0, Rows'.any-gone El.Stepped) (List._∷_ (1, Mut.mslice El.row (Syntax.tyRef (Syntax.named 0) Syntax.mut El.named) 0) (List._∷_ (
+          2,
+          Mut.mslice (Referent.rtF (Referent.fInt Syntax.w64)) (Syntax.tyRef (Syntax.named 1)
+              Syntax.mut El.word) 1,
+        ) (List._∷_ (3, Relend.mslice-owed (Referent.rtF (Referent.fInt Syntax.w64)) (Syntax.tyRef (Syntax.named 2) Syntax.mut El.word) 2 5 (Row.lease (κs .1 .1 .0) (qs .1 .1 .0))) (List._∷_ (
+          4,
+          Rows'.any-gone
+              El.ReadyQueue,
+        ) (List._∷_ (5, Rows'.sc-here (Row.sInt Syntax.w64)) (List._∷_ (6, Rows.arrF (Referent.rtF (Referent.fInt Syntax.w64)) 4104 0) (List._∷_ (7, Rows'.whole (Declared.row Begun.the-type)) (List._∷_ (
+          8,
+          Rows'.any-gone (Syntax.tyRef Syntax.erased Syntax.mut (Syntax.tyArray El.word 4104)),
+        ) (List._∷_ (
+          9,
+          Rows'.any-gone (Syntax.tyStruct (List._∷_ 38 (List._∷_ 91 (List._∷_ 93 List.[]))) (Syntax.tcons (Syntax.tyRef Syntax.erased
+              Syntax.mut El.word) (Syntax.tcons El.word Syntax.tnil))),
+        ) (List._∷_ (10, Rows'.any-gone (Syntax.tyRef Syntax.erased Syntax.mut El.word)) (List._∷_ (
+          11,
+          Rows'.any-gone (Syntax.tyStruct (List._∷_ 38 (List._∷_ 91 (List._∷_ 93
+              List.[]))) (Syntax.tcons (Syntax.tyRef Syntax.erased Syntax.mut El.word) (Syntax.tcons El.word Syntax.tnil))),
+        ) (List._∷_ (12, Rows'.any-gone (Syntax.tyRef Syntax.erased Syntax.mut El.word)) (List._∷_ (
+          13,
+          Mut.msleft
+              (Referent.rtF (Referent.fInt Syntax.w64)) (Syntax.tyRef Syntax.erased Syntax.mut El.word),
+        ) (List._∷_ (14, Rows'.any-gone Syntax.tyUnit) (List._∷_ (15, Rows'.any-gone (Syntax.tyRef Syntax.erased Syntax.mut El.named))
             List.[])))))))))))))))
 
         abbrev g17 : List.List Row.Entry
-        g17 = List._∷_ (0, Rows'.any-gone El.Stepped) (List._∷_ (1, Relend.mslice-owed El.row (Syntax.tyRef (Syntax.named 0) Syntax.mut El.named) 0 6 (Row.lease (κs .0) (qs .0))) (List._∷_ (2, Mut.mslice (Referent.rtF (Referent.fInt
-            Syntax.w64)) (Syntax.tyRef (Syntax.named 1) Syntax.mut El.word) 1) (List._∷_ (3, Mut.mslice (Referent.rtF (Referent.fInt Syntax.w64)) (Syntax.tyRef (Syntax.named 2) Syntax.mut El.word) 2) (List._∷_ (4, Rows'.any-gone
-            El.ReadyQueue) (List._∷_ (5, Rows'.sc-here (Row.sInt Syntax.w64)) (List._∷_ (6, Rows.arrF (Referent.rtF (Referent.fInt Syntax.w64)) 4104 0) (List._∷_ (7, Rows'.whole (Declared.row Begun.the-type)) (List._∷_ (8,
-            Rows'.any-gone (Syntax.tyRef Syntax.erased Syntax.mut (Syntax.tyArray El.word 4104))) (List._∷_ (9, Rows'.any-gone (Syntax.tyStruct (List._∷_ 38 (List._∷_ 91 (List._∷_ 93 List.[]))) (Syntax.tcons (Syntax.tyRef Syntax.erased
-            Syntax.mut El.word) (Syntax.tcons El.word Syntax.tnil)))) (List._∷_ (10, Rows'.any-gone (Syntax.tyRef Syntax.erased Syntax.mut El.word)) (List._∷_ (11, Rows'.any-gone (Syntax.tyStruct (List._∷_ 38 (List._∷_ 91 (List._∷_ 93
-            List.[]))) (Syntax.tcons (Syntax.tyRef Syntax.erased Syntax.mut El.word) (Syntax.tcons El.word Syntax.tnil)))) (List._∷_ (12, Rows'.any-gone (Syntax.tyRef Syntax.erased Syntax.mut El.word)) (List._∷_ (13, Rows'.any-gone
-            (Syntax.tyStruct (List._∷_ 38 (List._∷_ 91 (List._∷_ 93 List.[]))) (Syntax.tcons (Syntax.tyRef Syntax.erased Syntax.mut El.word) (Syntax.tcons El.word Syntax.tnil)))) (List._∷_ (14, Rows'.any-gone Syntax.tyUnit) (List._∷_
+        g17 = List._∷_ (0, Rows'.any-gone El.Stepped) (List._∷_ (1, Relend.mslice-owed El.row (Syntax.tyRef (Syntax.named 0) Syntax.mut El.named) 0 6 (Row.lease (κs .0) (qs .0))) (List._∷_ (
+          2,
+          Mut.mslice (Referent.rtF (Referent.fInt
+              Syntax.w64)) (Syntax.tyRef (Syntax.named 1) Syntax.mut El.word) 1,
+        ) (List._∷_ (3, Mut.mslice (Referent.rtF (Referent.fInt Syntax.w64)) (Syntax.tyRef (Syntax.named 2) Syntax.mut El.word) 2) (List._∷_ (
+          4,
+          Rows'.any-gone
+              El.ReadyQueue,
+        ) (List._∷_ (5, Rows'.sc-here (Row.sInt Syntax.w64)) (List._∷_ (6, Rows.arrF (Referent.rtF (Referent.fInt Syntax.w64)) 4104 0) (List._∷_ (7, Rows'.whole (Declared.row Begun.the-type)) (List._∷_ (
+          8,
+          Rows'.any-gone (Syntax.tyRef Syntax.erased Syntax.mut (Syntax.tyArray El.word 4104)),
+        ) (List._∷_ (
+          9,
+          Rows'.any-gone (Syntax.tyStruct (List._∷_ 38 (List._∷_ 91 (List._∷_ 93 List.[]))) (Syntax.tcons (Syntax.tyRef Syntax.erased
+              Syntax.mut El.word) (Syntax.tcons El.word Syntax.tnil))),
+        ) (List._∷_ (10, Rows'.any-gone (Syntax.tyRef Syntax.erased Syntax.mut El.word)) (List._∷_ (
+          11,
+          Rows'.any-gone (Syntax.tyStruct (List._∷_ 38 (List._∷_ 91 (List._∷_ 93
+              List.[]))) (Syntax.tcons (Syntax.tyRef Syntax.erased Syntax.mut El.word) (Syntax.tcons El.word Syntax.tnil))),
+        ) (List._∷_ (12, Rows'.any-gone (Syntax.tyRef Syntax.erased Syntax.mut El.word)) (List._∷_ (
+          13,
+          Rows'.any-gone
+              (Syntax.tyStruct (List._∷_ 38 (List._∷_ 91 (List._∷_ 93 List.[]))) (Syntax.tcons (Syntax.tyRef Syntax.erased Syntax.mut El.word) (Syntax.tcons El.word Syntax.tnil))),
+        ) (List._∷_ (14, Rows'.any-gone Syntax.tyUnit) (List._∷_
             (15, Relend.msptr El.row (Syntax.tyRef Syntax.erased Syntax.mut El.named) 6) List.[])))))))))))))))
 
         abbrev g18 : List.List Row.Entry
-        g18 = List._∷_ (0, Rows'.any-gone El.Stepped) (List._∷_ (1, Relend.mslice-owed El.row (Syntax.tyRef (Syntax.named 0) Syntax.mut El.named) 0 6 (Row.lease (κs .0) (qs .0))) (List._∷_ (2, Mut.mslice (Referent.rtF (Referent.fInt
-            Syntax.w64)) (Syntax.tyRef (Syntax.named 1) Syntax.mut El.word) 1) (List._∷_ (3, Mut.mslice (Referent.rtF (Referent.fInt Syntax.w64)) (Syntax.tyRef (Syntax.named 2) Syntax.mut El.word) 2) (List._∷_ (4, Rows'.any-gone
-            El.ReadyQueue) (List._∷_ (5, Rows'.sc-here (Row.sInt Syntax.w64)) (List._∷_ (6, Rows.arrF (Referent.rtF (Referent.fInt Syntax.w64)) 4104 0) (List._∷_ (7, Rows'.whole (Declared.row Begun.the-type)) (List._∷_ (8,
-            Rows'.any-gone (Syntax.tyRef Syntax.erased Syntax.mut (Syntax.tyArray El.word 4104))) (List._∷_ (9, Rows'.any-gone (Syntax.tyStruct (List._∷_ 38 (List._∷_ 91 (List._∷_ 93 List.[]))) (Syntax.tcons (Syntax.tyRef Syntax.erased
-            Syntax.mut El.word) (Syntax.tcons El.word Syntax.tnil)))) (List._∷_ (10, Rows'.any-gone (Syntax.tyRef Syntax.erased Syntax.mut El.word)) (List._∷_ (11, Rows'.any-gone (Syntax.tyStruct (List._∷_ 38 (List._∷_ 91 (List._∷_ 93
-            List.[]))) (Syntax.tcons (Syntax.tyRef Syntax.erased Syntax.mut El.word) (Syntax.tcons El.word Syntax.tnil)))) (List._∷_ (12, Rows'.any-gone (Syntax.tyRef Syntax.erased Syntax.mut El.word)) (List._∷_ (13, Rows'.any-gone
-            (Syntax.tyStruct (List._∷_ 38 (List._∷_ 91 (List._∷_ 93 List.[]))) (Syntax.tcons (Syntax.tyRef Syntax.erased Syntax.mut El.word) (Syntax.tcons El.word Syntax.tnil)))) (List._∷_ (14, Rows'.any-gone Syntax.tyUnit) (List._∷_
+        g18 = List._∷_ (0, Rows'.any-gone El.Stepped) (List._∷_ (1, Relend.mslice-owed El.row (Syntax.tyRef (Syntax.named 0) Syntax.mut El.named) 0 6 (Row.lease (κs .0) (qs .0))) (List._∷_ (
+          2,
+          Mut.mslice (Referent.rtF (Referent.fInt
+              Syntax.w64)) (Syntax.tyRef (Syntax.named 1) Syntax.mut El.word) 1,
+        ) (List._∷_ (3, Mut.mslice (Referent.rtF (Referent.fInt Syntax.w64)) (Syntax.tyRef (Syntax.named 2) Syntax.mut El.word) 2) (List._∷_ (
+          4,
+          Rows'.any-gone
+              El.ReadyQueue,
+        ) (List._∷_ (5, Rows'.sc-here (Row.sInt Syntax.w64)) (List._∷_ (6, Rows.arrF (Referent.rtF (Referent.fInt Syntax.w64)) 4104 0) (List._∷_ (7, Rows'.whole (Declared.row Begun.the-type)) (List._∷_ (
+          8,
+          Rows'.any-gone (Syntax.tyRef Syntax.erased Syntax.mut (Syntax.tyArray El.word 4104)),
+        ) (List._∷_ (
+          9,
+          Rows'.any-gone (Syntax.tyStruct (List._∷_ 38 (List._∷_ 91 (List._∷_ 93 List.[]))) (Syntax.tcons (Syntax.tyRef Syntax.erased
+              Syntax.mut El.word) (Syntax.tcons El.word Syntax.tnil))),
+        ) (List._∷_ (10, Rows'.any-gone (Syntax.tyRef Syntax.erased Syntax.mut El.word)) (List._∷_ (
+          11,
+          Rows'.any-gone (Syntax.tyStruct (List._∷_ 38 (List._∷_ 91 (List._∷_ 93
+              List.[]))) (Syntax.tcons (Syntax.tyRef Syntax.erased Syntax.mut El.word) (Syntax.tcons El.word Syntax.tnil))),
+        ) (List._∷_ (12, Rows'.any-gone (Syntax.tyRef Syntax.erased Syntax.mut El.word)) (List._∷_ (
+          13,
+          Rows'.any-gone
+              (Syntax.tyStruct (List._∷_ 38 (List._∷_ 91 (List._∷_ 93 List.[]))) (Syntax.tcons (Syntax.tyRef Syntax.erased Syntax.mut El.word) (Syntax.tcons El.word Syntax.tnil))),
+        ) (List._∷_ (14, Rows'.any-gone Syntax.tyUnit) (List._∷_
             (15, Rows'.any-gone (Syntax.tyRef Syntax.erased Syntax.mut El.named)) List.[])))))))))))))))
 
         abbrev g20 : List.List Row.Entry
-        g20 = List._∷_ (0, Rows'.any-gone El.Stepped) (List._∷_ (1, Relend.mslice-owed El.row (Syntax.tyRef (Syntax.named 0) Syntax.mut El.named) 0 6 (Row.lease (κs .0) (qs .0))) (List._∷_ (2, Mut.mslice (Referent.rtF (Referent.fInt
-            Syntax.w64)) (Syntax.tyRef (Syntax.named 1) Syntax.mut El.word) 1) (List._∷_ (3, Mut.mslice (Referent.rtF (Referent.fInt Syntax.w64)) (Syntax.tyRef (Syntax.named 2) Syntax.mut El.word) 2) (List._∷_ (4, Rows'.any-gone
-            El.ReadyQueue) (List._∷_ (5, Rows'.sc-here (Row.sInt Syntax.w64)) (List._∷_ (6, Rows.arr-shr (Referent.rtF (Referent.fInt Syntax.w64)) 4104 7) (List._∷_ (7, Rows'.whole (Declared.row Begun.the-type)) (List._∷_ (8,
-            Rows'.any-gone (Syntax.tyRef Syntax.erased Syntax.mut (Syntax.tyArray El.word 4104))) (List._∷_ (9, Rows'.any-gone (Syntax.tyStruct (List._∷_ 38 (List._∷_ 91 (List._∷_ 93 List.[]))) (Syntax.tcons (Syntax.tyRef Syntax.erased
-            Syntax.mut El.word) (Syntax.tcons El.word Syntax.tnil)))) (List._∷_ (10, Rows'.any-gone (Syntax.tyRef Syntax.erased Syntax.mut El.word)) (List._∷_ (11, Rows'.any-gone (Syntax.tyStruct (List._∷_ 38 (List._∷_ 91 (List._∷_ 93
-            List.[]))) (Syntax.tcons (Syntax.tyRef Syntax.erased Syntax.mut El.word) (Syntax.tcons El.word Syntax.tnil)))) (List._∷_ (12, Rows'.any-gone (Syntax.tyRef Syntax.erased Syntax.mut El.word)) (List._∷_ (13, Rows'.any-gone
-            (Syntax.tyStruct (List._∷_ 38 (List._∷_ 91 (List._∷_ 93 List.[]))) (Syntax.tcons (Syntax.tyRef Syntax.erased Syntax.mut El.word) (Syntax.tcons El.word Syntax.tnil)))) (List._∷_ (14, Rows'.any-gone Syntax.tyUnit) (List._∷_
+        g20 = List._∷_ (0, Rows'.any-gone El.Stepped) (List._∷_ (1, Relend.mslice-owed El.row (Syntax.tyRef (Syntax.named 0) Syntax.mut El.named) 0 6 (Row.lease (κs .0) (qs .0))) (List._∷_ (
+          2,
+          Mut.mslice (Referent.rtF (Referent.fInt
+              Syntax.w64)) (Syntax.tyRef (Syntax.named 1) Syntax.mut El.word) 1,
+        ) (List._∷_ (3, Mut.mslice (Referent.rtF (Referent.fInt Syntax.w64)) (Syntax.tyRef (Syntax.named 2) Syntax.mut El.word) 2) (List._∷_ (
+          4,
+          Rows'.any-gone
+              El.ReadyQueue,
+        ) (List._∷_ (5, Rows'.sc-here (Row.sInt Syntax.w64)) (List._∷_ (6, Rows.arr-shr (Referent.rtF (Referent.fInt Syntax.w64)) 4104 7) (List._∷_ (7, Rows'.whole (Declared.row Begun.the-type)) (List._∷_ (
+          8,
+          Rows'.any-gone (Syntax.tyRef Syntax.erased Syntax.mut (Syntax.tyArray El.word 4104)),
+        ) (List._∷_ (
+          9,
+          Rows'.any-gone (Syntax.tyStruct (List._∷_ 38 (List._∷_ 91 (List._∷_ 93 List.[]))) (Syntax.tcons (Syntax.tyRef Syntax.erased
+              Syntax.mut El.word) (Syntax.tcons El.word Syntax.tnil))),
+        ) (List._∷_ (10, Rows'.any-gone (Syntax.tyRef Syntax.erased Syntax.mut El.word)) (List._∷_ (
+          11,
+          Rows'.any-gone (Syntax.tyStruct (List._∷_ 38 (List._∷_ 91 (List._∷_ 93
+              List.[]))) (Syntax.tcons (Syntax.tyRef Syntax.erased Syntax.mut El.word) (Syntax.tcons El.word Syntax.tnil))),
+        ) (List._∷_ (12, Rows'.any-gone (Syntax.tyRef Syntax.erased Syntax.mut El.word)) (List._∷_ (
+          13,
+          Rows'.any-gone
+              (Syntax.tyStruct (List._∷_ 38 (List._∷_ 91 (List._∷_ 93 List.[]))) (Syntax.tcons (Syntax.tyRef Syntax.erased Syntax.mut El.word) (Syntax.tcons El.word Syntax.tnil))),
+        ) (List._∷_ (14, Rows'.any-gone Syntax.tyUnit) (List._∷_
             (15, Rows'.any-gone (Syntax.tyRef Syntax.erased Syntax.mut El.named)) List.[])))))))))))))))
 
         abbrev g23 : List.List Row.Entry
-        g23 = List._∷_ (0, Rows'.any-gone El.Stepped) (List._∷_ (1, Relend.mslice-owed El.row (Syntax.tyRef (Syntax.named 0) Syntax.mut El.named) 0 6 (Row.lease (κs .0) (qs .0))) (List._∷_ (2, Mut.mslice (Referent.rtF (Referent.fInt
-            Syntax.w64)) (Syntax.tyRef (Syntax.named 1) Syntax.mut El.word) 1) (List._∷_ (3, Mut.mslice (Referent.rtF (Referent.fInt Syntax.w64)) (Syntax.tyRef (Syntax.named 2) Syntax.mut El.word) 2) (List._∷_ (4, Rows'.any-gone
-            El.ReadyQueue) (List._∷_ (5, Rows'.sc-here (Row.sInt Syntax.w64)) (List._∷_ (6, Rows.arr-shr (Referent.rtF (Referent.fInt Syntax.w64)) 4104 7) (List._∷_ (7, Rows'.whole (Declared.row Begun.the-type)) (List._∷_ (8,
-            Rows'.any-gone (Syntax.tyRef Syntax.erased Syntax.mut (Syntax.tyArray El.word 4104))) (List._∷_ (9, Rows'.any-gone (Syntax.tyStruct (List._∷_ 38 (List._∷_ 91 (List._∷_ 93 List.[]))) (Syntax.tcons (Syntax.tyRef Syntax.erased
-            Syntax.mut El.word) (Syntax.tcons El.word Syntax.tnil)))) (List._∷_ (10, Rows'.any-gone (Syntax.tyRef Syntax.erased Syntax.mut El.word)) (List._∷_ (11, Rows'.any-gone (Syntax.tyStruct (List._∷_ 38 (List._∷_ 91 (List._∷_ 93
-            List.[]))) (Syntax.tcons (Syntax.tyRef Syntax.erased Syntax.mut El.word) (Syntax.tcons El.word Syntax.tnil)))) (List._∷_ (12, Rows'.any-gone (Syntax.tyRef Syntax.erased Syntax.mut El.word)) (List._∷_ (13, Rows'.any-gone
-            (Syntax.tyStruct (List._∷_ 38 (List._∷_ 91 (List._∷_ 93 List.[]))) (Syntax.tcons (Syntax.tyRef Syntax.erased Syntax.mut El.word) (Syntax.tcons El.word Syntax.tnil)))) (List._∷_ (14, Rows'.sc-here Row.sUnit) (List._∷_ (15,
-            Rows'.any-gone (Syntax.tyRef Syntax.erased Syntax.mut El.named)) List.[])))))))))))))))
+        g23 = List._∷_ (0, Rows'.any-gone El.Stepped) (List._∷_ (1, Relend.mslice-owed El.row (Syntax.tyRef (Syntax.named 0) Syntax.mut El.named) 0 6 (Row.lease (κs .0) (qs .0))) (List._∷_ (
+          2,
+          Mut.mslice (Referent.rtF (Referent.fInt
+              Syntax.w64)) (Syntax.tyRef (Syntax.named 1) Syntax.mut El.word) 1,
+        ) (List._∷_ (3, Mut.mslice (Referent.rtF (Referent.fInt Syntax.w64)) (Syntax.tyRef (Syntax.named 2) Syntax.mut El.word) 2) (List._∷_ (
+          4,
+          Rows'.any-gone
+              El.ReadyQueue,
+        ) (List._∷_ (5, Rows'.sc-here (Row.sInt Syntax.w64)) (List._∷_ (6, Rows.arr-shr (Referent.rtF (Referent.fInt Syntax.w64)) 4104 7) (List._∷_ (7, Rows'.whole (Declared.row Begun.the-type)) (List._∷_ (
+          8,
+          Rows'.any-gone (Syntax.tyRef Syntax.erased Syntax.mut (Syntax.tyArray El.word 4104)),
+        ) (List._∷_ (
+          9,
+          Rows'.any-gone (Syntax.tyStruct (List._∷_ 38 (List._∷_ 91 (List._∷_ 93 List.[]))) (Syntax.tcons (Syntax.tyRef Syntax.erased
+              Syntax.mut El.word) (Syntax.tcons El.word Syntax.tnil))),
+        ) (List._∷_ (10, Rows'.any-gone (Syntax.tyRef Syntax.erased Syntax.mut El.word)) (List._∷_ (
+          11,
+          Rows'.any-gone (Syntax.tyStruct (List._∷_ 38 (List._∷_ 91 (List._∷_ 93
+              List.[]))) (Syntax.tcons (Syntax.tyRef Syntax.erased Syntax.mut El.word) (Syntax.tcons El.word Syntax.tnil))),
+        ) (List._∷_ (12, Rows'.any-gone (Syntax.tyRef Syntax.erased Syntax.mut El.word)) (List._∷_ (
+          13,
+          Rows'.any-gone
+              (Syntax.tyStruct (List._∷_ 38 (List._∷_ 91 (List._∷_ 93 List.[]))) (Syntax.tcons (Syntax.tyRef Syntax.erased Syntax.mut El.word) (Syntax.tcons El.word Syntax.tnil))),
+        ) (List._∷_ (14, Rows'.sc-here Row.sUnit) (List._∷_ (
+          15,
+          Rows'.any-gone (Syntax.tyRef Syntax.erased Syntax.mut El.named),
+        ) List.[])))))))))))))))
 
         abbrev G0 : Row.Cx
-        G0 = record { locals = List._++_ t0 t1; slots = List._∷_ (Row.lease (κs .0) (qs .0)) (List._∷_ (Row.lease (κs .1 .0) (qs .1 .0)) (List._∷_ (Row.lease (κs .1 .1 .0) (qs .1 .1 .0)) (List._∷_ Row.off (List._∷_ Row.off (List._∷_
-            Row.off (List._∷_ Row.off (List._∷_ Row.off List.[]))))))); }
+        G0 = record {
+          locals = List._++_ t0 t1;
+          slots = List._∷_ (Row.lease (κs .0) (qs .0)) (List._∷_ (Row.lease (κs .1 .0) (qs .1 .0)) (List._∷_ (Row.lease (κs .1 .1 .0) (qs .1 .1 .0)) (List._∷_ Row.off (List._∷_ Row.off (List._∷_
+              Row.off (List._∷_ Row.off (List._∷_ Row.off List.[])))))));
+        }
 
         abbrev G1 : Row.Cx
-        G1 = record { locals = List._++_ t2 t1; slots = List._∷_ (Row.lease (κs .0) (qs .0)) (List._∷_ (Row.lease (κs .1 .0) (qs .1 .0)) (List._∷_ (Row.lease (κs .1 .1 .0) (qs .1 .1 .0)) (List._∷_ Row.off (List._∷_ Row.off (List._∷_
-            Row.off (List._∷_ Row.off (List._∷_ Row.off List.[]))))))); }
+        G1 = record {
+          locals = List._++_ t2 t1;
+          slots = List._∷_ (Row.lease (κs .0) (qs .0)) (List._∷_ (Row.lease (κs .1 .0) (qs .1 .0)) (List._∷_ (Row.lease (κs .1 .1 .0) (qs .1 .1 .0)) (List._∷_ Row.off (List._∷_ Row.off (List._∷_
+              Row.off (List._∷_ Row.off (List._∷_ Row.off List.[])))))));
+        }
 
         abbrev G2 : Row.Cx
-        G2 = record { locals = List._++_ t0 t1; slots = List._∷_ (Row.lease (κs .0) (qs .0)) (List._∷_ (Row.lease (κs .1 .0) (qs .1 .0)) (List._∷_ (Row.lease (κs .1 .1 .0) (qs .1 .1 .0)) (List._∷_ Row.off (List._∷_ Row.off (List._∷_
-            Row.off (List._∷_ Row.off (List._∷_ Row.off List.[]))))))); }
+        G2 = record {
+          locals = List._++_ t0 t1;
+          slots = List._∷_ (Row.lease (κs .0) (qs .0)) (List._∷_ (Row.lease (κs .1 .0) (qs .1 .0)) (List._∷_ (Row.lease (κs .1 .1 .0) (qs .1 .1 .0)) (List._∷_ Row.off (List._∷_ Row.off (List._∷_
+              Row.off (List._∷_ Row.off (List._∷_ Row.off List.[])))))));
+        }
 
         abbrev G3 : Row.Cx
-        G3 = record { locals = List._++_ t0 t1; slots = List._∷_ (Row.lease (κs .0) (qs .0)) (List._∷_ (Row.lease (κs .1 .0) (qs .1 .0)) (List._∷_ (Row.lease (κs .1 .1 .0) (qs .1 .1 .0)) (List._∷_ Row.off (List._∷_ Row.off (List._∷_
-            Row.off (List._∷_ Row.off (List._∷_ Row.off List.[]))))))); }
+        G3 = record {
+          locals = List._++_ t0 t1;
+          slots = List._∷_ (Row.lease (κs .0) (qs .0)) (List._∷_ (Row.lease (κs .1 .0) (qs .1 .0)) (List._∷_ (Row.lease (κs .1 .1 .0) (qs .1 .1 .0)) (List._∷_ Row.off (List._∷_ Row.off (List._∷_
+              Row.off (List._∷_ Row.off (List._∷_ Row.off List.[])))))));
+        }
 
         abbrev G4 : Row.Cx
-        G4 = record { locals = List._++_ t3 t1; slots = List._∷_ (Row.lease (κs .0) (qs .0)) (List._∷_ (Row.lease (κs .1 .0) (qs .1 .0)) (List._∷_ (Row.lease (κs .1 .1 .0) (qs .1 .1 .0)) (List._∷_ Row.off (List._∷_ Row.off (List._∷_
-            Row.off (List._∷_ Row.off (List._∷_ Row.off List.[]))))))); }
+        G4 = record {
+          locals = List._++_ t3 t1;
+          slots = List._∷_ (Row.lease (κs .0) (qs .0)) (List._∷_ (Row.lease (κs .1 .0) (qs .1 .0)) (List._∷_ (Row.lease (κs .1 .1 .0) (qs .1 .1 .0)) (List._∷_ Row.off (List._∷_ Row.off (List._∷_
+              Row.off (List._∷_ Row.off (List._∷_ Row.off List.[])))))));
+        }
 
         abbrev G5 : Row.Cx
-        G5 = record { locals = List._++_ t4 t1; slots = List._∷_ (Row.lease (κs .0) (qs .0)) (List._∷_ (Row.lease (κs .1 .0) (qs .1 .0)) (List._∷_ (Row.lease (κs .1 .1 .0) (qs .1 .1 .0)) (List._∷_ Row.off (List._∷_ Row.off (List._∷_
-            Row.off (List._∷_ Row.off (List._∷_ Row.off List.[]))))))); }
+        G5 = record {
+          locals = List._++_ t4 t1;
+          slots = List._∷_ (Row.lease (κs .0) (qs .0)) (List._∷_ (Row.lease (κs .1 .0) (qs .1 .0)) (List._∷_ (Row.lease (κs .1 .1 .0) (qs .1 .1 .0)) (List._∷_ Row.off (List._∷_ Row.off (List._∷_
+              Row.off (List._∷_ Row.off (List._∷_ Row.off List.[])))))));
+        }
 
         abbrev G6 : Row.Cx
-        G6 = record { locals = List._++_ t5 t1; slots = List._∷_ (Row.lease (κs .0) (qs .0)) (List._∷_ (Row.lease (κs .1 .0) (qs .1 .0)) (List._∷_ (Row.lease (κs .1 .1 .0) (qs .1 .1 .0)) (List._∷_ Row.off (List._∷_ Row.off (List._∷_
-            Row.off (List._∷_ Row.off (List._∷_ Row.off List.[]))))))); }
+        G6 = record {
+          locals = List._++_ t5 t1;
+          slots = List._∷_ (Row.lease (κs .0) (qs .0)) (List._∷_ (Row.lease (κs .1 .0) (qs .1 .0)) (List._∷_ (Row.lease (κs .1 .1 .0) (qs .1 .1 .0)) (List._∷_ Row.off (List._∷_ Row.off (List._∷_
+              Row.off (List._∷_ Row.off (List._∷_ Row.off List.[])))))));
+        }
 
         abbrev G7 : Row.Cx
-        G7 = record { locals = List._++_ t5 t1; slots = List._∷_ (Row.lease (κs .0) (qs .0)) (List._∷_ (Row.lease (κs .1 .0) (qs .1 .0)) (List._∷_ (Row.lease (κs .1 .1 .0) (qs .1 .1 .0)) (List._∷_ Row.alive (List._∷_ Row.off (List._∷_
-            Row.off (List._∷_ Row.off (List._∷_ Row.off List.[]))))))); }
+        G7 = record {
+          locals = List._++_ t5 t1;
+          slots = List._∷_ (Row.lease (κs .0) (qs .0)) (List._∷_ (Row.lease (κs .1 .0) (qs .1 .0)) (List._∷_ (Row.lease (κs .1 .1 .0) (qs .1 .1 .0)) (List._∷_ Row.alive (List._∷_ Row.off (List._∷_
+              Row.off (List._∷_ Row.off (List._∷_ Row.off List.[])))))));
+        }
 
         abbrev G8 : Row.Cx
-        G8 = record { locals = List._++_ t6 t1; slots = List._∷_ (Row.lease (κs .0) (qs .0)) (List._∷_ (Row.lease (κs .1 .0) (qs .1 .0)) (List._∷_ (Row.lease (κs .1 .1 .0) (qs .1 .1 .0)) (List._∷_ Row.alive (List._∷_ Row.off (List._∷_
-            Row.off (List._∷_ Row.off (List._∷_ Row.off List.[]))))))); }
+        G8 = record {
+          locals = List._++_ t6 t1;
+          slots = List._∷_ (Row.lease (κs .0) (qs .0)) (List._∷_ (Row.lease (κs .1 .0) (qs .1 .0)) (List._∷_ (Row.lease (κs .1 .1 .0) (qs .1 .1 .0)) (List._∷_ Row.alive (List._∷_ Row.off (List._∷_
+              Row.off (List._∷_ Row.off (List._∷_ Row.off List.[])))))));
+        }
 
         abbrev G9 : Row.Cx
-        G9 = record { locals = List._++_ t7 t1; slots = List._∷_ (Row.lease (κs .0) (qs .0)) (List._∷_ (Row.lease (κs .1 .0) (qs .1 .0)) (List._∷_ (Row.lease (κs .1 .1 .0) (qs .1 .1 .0)) (List._∷_ Row.alive (List._∷_ Row.off (List._∷_
-            Row.off (List._∷_ Row.off (List._∷_ Row.off List.[]))))))); }
+        G9 = record {
+          locals = List._++_ t7 t1;
+          slots = List._∷_ (Row.lease (κs .0) (qs .0)) (List._∷_ (Row.lease (κs .1 .0) (qs .1 .0)) (List._∷_ (Row.lease (κs .1 .1 .0) (qs .1 .1 .0)) (List._∷_ Row.alive (List._∷_ Row.off (List._∷_
+              Row.off (List._∷_ Row.off (List._∷_ Row.off List.[])))))));
+        }
 
         abbrev G10 : Row.Cx
-        G10 = record { locals = List._++_ t7 t1; slots = List._∷_ (Row.lease (κs .0) (qs .0)) (List._∷_ (Row.lease (κs .1 .0) (qs .1 .0)) (List._∷_ (Row.lease (κs .1 .1 .0) (qs .1 .1 .0)) (List._∷_ Row.alive (List._∷_ Row.alive
-            (List._∷_ Row.off (List._∷_ Row.off (List._∷_ Row.off List.[]))))))); }
+        G10 = record {
+          locals = List._++_ t7 t1;
+          slots = List._∷_ (Row.lease (κs .0) (qs .0)) (List._∷_ (Row.lease (κs .1 .0) (qs .1 .0)) (List._∷_ (Row.lease (κs .1 .1 .0) (qs .1 .1 .0)) (List._∷_ Row.alive (List._∷_ Row.alive
+              (List._∷_ Row.off (List._∷_ Row.off (List._∷_ Row.off List.[])))))));
+        }
 
         abbrev G11 : Row.Cx
-        G11 = record { locals = List._++_ g8 t1; slots = List._∷_ (Row.lease (κs .0) (qs .0)) (List._∷_ Row.off (List._∷_ (Row.lease (κs .1 .1 .0) (qs .1 .1 .0)) (List._∷_ Row.alive (List._∷_ Row.alive (List._∷_ Row.off (List._∷_
-            Row.off (List._∷_ Row.off List.[]))))))); }
+        G11 = record {
+          locals = List._++_ g8 t1;
+          slots = List._∷_ (Row.lease (κs .0) (qs .0)) (List._∷_ Row.off (List._∷_ (Row.lease (κs .1 .1 .0) (qs .1 .1 .0)) (List._∷_ Row.alive (List._∷_ Row.alive (List._∷_ Row.off (List._∷_
+              Row.off (List._∷_ Row.off List.[])))))));
+        }
 
         abbrev G12 : Row.Cx
-        G12 = record { locals = List._++_ g9 t1; slots = List._∷_ (Row.lease (κs .0) (qs .0)) (List._∷_ Row.off (List._∷_ (Row.lease (κs .1 .1 .0) (qs .1 .1 .0)) (List._∷_ Row.alive (List._∷_ Row.alive (List._∷_ Row.off (List._∷_
-            Row.off (List._∷_ Row.off List.[]))))))); }
+        G12 = record {
+          locals = List._++_ g9 t1;
+          slots = List._∷_ (Row.lease (κs .0) (qs .0)) (List._∷_ Row.off (List._∷_ (Row.lease (κs .1 .1 .0) (qs .1 .1 .0)) (List._∷_ Row.alive (List._∷_ Row.alive (List._∷_ Row.off (List._∷_
+              Row.off (List._∷_ Row.off List.[])))))));
+        }
 
         abbrev G13 : Row.Cx
-        G13 = record { locals = List._++_ g9 t1; slots = List._∷_ (Row.lease (κs .0) (qs .0)) (List._∷_ Row.off (List._∷_ (Row.lease (κs .1 .1 .0) (qs .1 .1 .0)) (List._∷_ Row.alive (List._∷_ Row.alive (List._∷_ Row.alive (List._∷_
-            Row.off (List._∷_ Row.off List.[]))))))); }
+        G13 = record {
+          locals = List._++_ g9 t1;
+          slots = List._∷_ (Row.lease (κs .0) (qs .0)) (List._∷_ Row.off (List._∷_ (Row.lease (κs .1 .1 .0) (qs .1 .1 .0)) (List._∷_ Row.alive (List._∷_ Row.alive (List._∷_ Row.alive (List._∷_
+              Row.off (List._∷_ Row.off List.[])))))));
+        }
 
         abbrev G14 : Row.Cx
-        G14 = record { locals = List._++_ g10 t1; slots = List._∷_ (Row.lease (κs .0) (qs .0)) (List._∷_ Row.off (List._∷_ Row.off (List._∷_ Row.alive (List._∷_ Row.alive (List._∷_ Row.alive (List._∷_ Row.off (List._∷_ Row.off
-            List.[]))))))); }
+        G14 = record {
+          locals = List._++_ g10 t1;
+          slots = List._∷_ (Row.lease (κs .0) (qs .0)) (List._∷_ Row.off (List._∷_ Row.off (List._∷_ Row.alive (List._∷_ Row.alive (List._∷_ Row.alive (List._∷_ Row.off (List._∷_ Row.off
+              List.[])))))));
+        }
 
         abbrev G15 : Row.Cx
-        G15 = record { locals = List._++_ g11 t1; slots = List._∷_ (Row.lease (κs .0) (qs .0)) (List._∷_ Row.off (List._∷_ Row.off (List._∷_ Row.alive (List._∷_ Row.alive (List._∷_ Row.alive (List._∷_ Row.off (List._∷_ Row.off
-            List.[]))))))); }
+        G15 = record {
+          locals = List._++_ g11 t1;
+          slots = List._∷_ (Row.lease (κs .0) (qs .0)) (List._∷_ Row.off (List._∷_ Row.off (List._∷_ Row.alive (List._∷_ Row.alive (List._∷_ Row.alive (List._∷_ Row.off (List._∷_ Row.off
+              List.[])))))));
+        }
 
         abbrev G16 : Row.Cx
-        G16 = record { locals = List._++_ g12 t1; slots = List._∷_ (Row.lease (κs .0) (qs .0)) (List._∷_ Row.off (List._∷_ Row.off (List._∷_ Row.alive (List._∷_ Row.alive (List._∷_ Row.alive (List._∷_ Row.off (List._∷_ Row.off
-            List.[]))))))); }
+        G16 = record {
+          locals = List._++_ g12 t1;
+          slots = List._∷_ (Row.lease (κs .0) (qs .0)) (List._∷_ Row.off (List._∷_ Row.off (List._∷_ Row.alive (List._∷_ Row.alive (List._∷_ Row.alive (List._∷_ Row.off (List._∷_ Row.off
+              List.[])))))));
+        }
 
         abbrev G17 : Row.Cx
-        G17 = record { locals = List._++_ g13 t1; slots = List._∷_ (Row.lease (κs .0) (qs .0)) (List._∷_ Row.off (List._∷_ Row.off (List._∷_ Row.alive (List._∷_ Row.alive (List._∷_ Row.alive (List._∷_ Row.off (List._∷_ Row.off
-            List.[]))))))); }
+        G17 = record {
+          locals = List._++_ g13 t1;
+          slots = List._∷_ (Row.lease (κs .0) (qs .0)) (List._∷_ Row.off (List._∷_ Row.off (List._∷_ Row.alive (List._∷_ Row.alive (List._∷_ Row.alive (List._∷_ Row.off (List._∷_ Row.off
+              List.[])))))));
+        }
 
         abbrev G18 : Row.Cx
-        G18 = record { locals = List._++_ g13 t1; slots = List._∷_ (Row.lease (κs .0) (qs .0)) (List._∷_ Row.off (List._∷_ Row.off (List._∷_ Row.dead (List._∷_ Row.alive (List._∷_ Row.alive (List._∷_ Row.off (List._∷_ Row.off
-            List.[]))))))); }
+        G18 = record {
+          locals = List._++_ g13 t1;
+          slots = List._∷_ (Row.lease (κs .0) (qs .0)) (List._∷_ Row.off (List._∷_ Row.off (List._∷_ Row.dead (List._∷_ Row.alive (List._∷_ Row.alive (List._∷_ Row.off (List._∷_ Row.off
+              List.[])))))));
+        }
 
         abbrev G19 : Row.Cx
-        G19 = record { locals = List._++_ g14 t1; slots = List._∷_ (Row.lease (κs .0) (qs .0)) (List._∷_ Row.off (List._∷_ Row.off (List._∷_ Row.dead (List._∷_ Row.alive (List._∷_ Row.alive (List._∷_ Row.off (List._∷_ Row.off
-            List.[]))))))); }
+        G19 = record {
+          locals = List._++_ g14 t1;
+          slots = List._∷_ (Row.lease (κs .0) (qs .0)) (List._∷_ Row.off (List._∷_ Row.off (List._∷_ Row.dead (List._∷_ Row.alive (List._∷_ Row.alive (List._∷_ Row.off (List._∷_ Row.off
+              List.[])))))));
+        }
 
         abbrev G20 : Row.Cx
-        G20 = record { locals = List._++_ g14 t1; slots = List._∷_ (Row.lease (κs .0) (qs .0)) (List._∷_ Row.off (List._∷_ Row.off (List._∷_ Row.off (List._∷_ Row.alive (List._∷_ Row.alive (List._∷_ Row.off (List._∷_ Row.off
-            List.[]))))))); }
+        G20 = record {
+          locals = List._++_ g14 t1;
+          slots = List._∷_ (Row.lease (κs .0) (qs .0)) (List._∷_ Row.off (List._∷_ Row.off (List._∷_ Row.off (List._∷_ Row.alive (List._∷_ Row.alive (List._∷_ Row.off (List._∷_ Row.off
+              List.[])))))));
+        }
 
         abbrev G21 : Row.Cx
-        G21 = record { locals = List._++_ g14 t1; slots = List._∷_ (Row.lease (κs .0) (qs .0)) (List._∷_ Row.off (List._∷_ Row.off (List._∷_ Row.off (List._∷_ Row.dead (List._∷_ Row.alive (List._∷_ Row.off (List._∷_ Row.off
-            List.[]))))))); }
+        G21 = record {
+          locals = List._++_ g14 t1;
+          slots = List._∷_ (Row.lease (κs .0) (qs .0)) (List._∷_ Row.off (List._∷_ Row.off (List._∷_ Row.off (List._∷_ Row.dead (List._∷_ Row.alive (List._∷_ Row.off (List._∷_ Row.off
+              List.[])))))));
+        }
 
         abbrev G22 : Row.Cx
-        G22 = record { locals = List._++_ g15 t1; slots = List._∷_ (Row.lease (κs .0) (qs .0)) (List._∷_ (Row.lease (κs .1 .0) (qs .1 .0)) (List._∷_ Row.off (List._∷_ Row.off (List._∷_ Row.dead (List._∷_ Row.alive (List._∷_ Row.off
-            (List._∷_ Row.off List.[]))))))); }
+        G22 = record {
+          locals = List._++_ g15 t1;
+          slots = List._∷_ (Row.lease (κs .0) (qs .0)) (List._∷_ (Row.lease (κs .1 .0) (qs .1 .0)) (List._∷_ Row.off (List._∷_ Row.off (List._∷_ Row.dead (List._∷_ Row.alive (List._∷_ Row.off
+              (List._∷_ Row.off List.[])))))));
+        }
 
         abbrev G23 : Row.Cx
-        G23 = record { locals = List._++_ g15 t1; slots = List._∷_ (Row.lease (κs .0) (qs .0)) (List._∷_ (Row.lease (κs .1 .0) (qs .1 .0)) (List._∷_ Row.off (List._∷_ Row.off (List._∷_ Row.dead (List._∷_ Row.alive (List._∷_ Row.off
-            (List._∷_ Row.off List.[]))))))); }
+        G23 = record {
+          locals = List._++_ g15 t1;
+          slots = List._∷_ (Row.lease (κs .0) (qs .0)) (List._∷_ (Row.lease (κs .1 .0) (qs .1 .0)) (List._∷_ Row.off (List._∷_ Row.off (List._∷_ Row.dead (List._∷_ Row.alive (List._∷_ Row.off
+              (List._∷_ Row.off List.[])))))));
+        }
 
         abbrev G24 : Row.Cx
-        G24 = record { locals = List._++_ g15 t1; slots = List._∷_ (Row.lease (κs .0) (qs .0)) (List._∷_ (Row.lease (κs .1 .0) (qs .1 .0)) (List._∷_ Row.off (List._∷_ Row.off (List._∷_ Row.off (List._∷_ Row.alive (List._∷_ Row.off
-            (List._∷_ Row.off List.[]))))))); }
+        G24 = record {
+          locals = List._++_ g15 t1;
+          slots = List._∷_ (Row.lease (κs .0) (qs .0)) (List._∷_ (Row.lease (κs .1 .0) (qs .1 .0)) (List._∷_ Row.off (List._∷_ Row.off (List._∷_ Row.off (List._∷_ Row.alive (List._∷_ Row.off
+              (List._∷_ Row.off List.[])))))));
+        }
 
         abbrev G25 : Row.Cx
-        G25 = record { locals = List._++_ g15 t1; slots = List._∷_ (Row.lease (κs .0) (qs .0)) (List._∷_ (Row.lease (κs .1 .0) (qs .1 .0)) (List._∷_ Row.off (List._∷_ Row.off (List._∷_ Row.off (List._∷_ Row.dead (List._∷_ Row.off
-            (List._∷_ Row.off List.[]))))))); }
+        G25 = record {
+          locals = List._++_ g15 t1;
+          slots = List._∷_ (Row.lease (κs .0) (qs .0)) (List._∷_ (Row.lease (κs .1 .0) (qs .1 .0)) (List._∷_ Row.off (List._∷_ Row.off (List._∷_ Row.off (List._∷_ Row.dead (List._∷_ Row.off
+              (List._∷_ Row.off List.[])))))));
+        }
 
         abbrev G26 : Row.Cx
-        G26 = record { locals = List._++_ t16 t1; slots = List._∷_ (Row.lease (κs .0) (qs .0)) (List._∷_ (Row.lease (κs .1 .0) (qs .1 .0)) (List._∷_ (Row.lease (κs .1 .1 .0) (qs .1 .1 .0)) (List._∷_ Row.off (List._∷_ Row.off (List._∷_
-            Row.dead (List._∷_ Row.off (List._∷_ Row.off List.[]))))))); }
+        G26 = record {
+          locals = List._++_ t16 t1;
+          slots = List._∷_ (Row.lease (κs .0) (qs .0)) (List._∷_ (Row.lease (κs .1 .0) (qs .1 .0)) (List._∷_ (Row.lease (κs .1 .1 .0) (qs .1 .1 .0)) (List._∷_ Row.off (List._∷_ Row.off (List._∷_
+              Row.dead (List._∷_ Row.off (List._∷_ Row.off List.[])))))));
+        }
 
         abbrev G27 : Row.Cx
-        G27 = record { locals = List._++_ t16 t1; slots = List._∷_ (Row.lease (κs .0) (qs .0)) (List._∷_ (Row.lease (κs .1 .0) (qs .1 .0)) (List._∷_ (Row.lease (κs .1 .1 .0) (qs .1 .1 .0)) (List._∷_ Row.off (List._∷_ Row.off (List._∷_
-            Row.dead (List._∷_ Row.off (List._∷_ Row.off List.[]))))))); }
+        G27 = record {
+          locals = List._++_ t16 t1;
+          slots = List._∷_ (Row.lease (κs .0) (qs .0)) (List._∷_ (Row.lease (κs .1 .0) (qs .1 .0)) (List._∷_ (Row.lease (κs .1 .1 .0) (qs .1 .1 .0)) (List._∷_ Row.off (List._∷_ Row.off (List._∷_
+              Row.dead (List._∷_ Row.off (List._∷_ Row.off List.[])))))));
+        }
 
         abbrev G28 : Row.Cx
-        G28 = record { locals = List._++_ t16 t1; slots = List._∷_ (Row.lease (κs .0) (qs .0)) (List._∷_ (Row.lease (κs .1 .0) (qs .1 .0)) (List._∷_ (Row.lease (κs .1 .1 .0) (qs .1 .1 .0)) (List._∷_ Row.off (List._∷_ Row.off (List._∷_
-            Row.off (List._∷_ Row.off (List._∷_ Row.off List.[]))))))); }
+        G28 = record {
+          locals = List._++_ t16 t1;
+          slots = List._∷_ (Row.lease (κs .0) (qs .0)) (List._∷_ (Row.lease (κs .1 .0) (qs .1 .0)) (List._∷_ (Row.lease (κs .1 .1 .0) (qs .1 .1 .0)) (List._∷_ Row.off (List._∷_ Row.off (List._∷_
+              Row.off (List._∷_ Row.off (List._∷_ Row.off List.[])))))));
+        }
 
         abbrev G29 : Row.Cx
-        G29 = record { locals = List._++_ t16 t1; slots = List._∷_ (Row.lease (κs .0) (qs .0)) (List._∷_ (Row.lease (κs .1 .0) (qs .1 .0)) (List._∷_ (Row.lease (κs .1 .1 .0) (qs .1 .1 .0)) (List._∷_ Row.off (List._∷_ Row.off (List._∷_
-            Row.off (List._∷_ Row.alive (List._∷_ Row.off List.[]))))))); }
+        G29 = record {
+          locals = List._++_ t16 t1;
+          slots = List._∷_ (Row.lease (κs .0) (qs .0)) (List._∷_ (Row.lease (κs .1 .0) (qs .1 .0)) (List._∷_ (Row.lease (κs .1 .1 .0) (qs .1 .1 .0)) (List._∷_ Row.off (List._∷_ Row.off (List._∷_
+              Row.off (List._∷_ Row.alive (List._∷_ Row.off List.[])))))));
+        }
 
         abbrev G30 : Row.Cx
-        G30 = record { locals = List._++_ g17 t1; slots = List._∷_ Row.off (List._∷_ (Row.lease (κs .1 .0) (qs .1 .0)) (List._∷_ (Row.lease (κs .1 .1 .0) (qs .1 .1 .0)) (List._∷_ Row.off (List._∷_ Row.off (List._∷_ Row.off (List._∷_
-            Row.alive (List._∷_ Row.off List.[]))))))); }
+        G30 = record {
+          locals = List._++_ g17 t1;
+          slots = List._∷_ Row.off (List._∷_ (Row.lease (κs .1 .0) (qs .1 .0)) (List._∷_ (Row.lease (κs .1 .1 .0) (qs .1 .1 .0)) (List._∷_ Row.off (List._∷_ Row.off (List._∷_ Row.off (List._∷_
+              Row.alive (List._∷_ Row.off List.[])))))));
+        }
 
         abbrev G31 : Row.Cx
-        G31 = record { locals = List._++_ g18 t19; slots = List._∷_ Row.off (List._∷_ (Row.lease (κs .1 .0) (qs .1 .0)) (List._∷_ (Row.lease (κs .1 .1 .0) (qs .1 .1 .0)) (List._∷_ Row.off (List._∷_ Row.off (List._∷_ Row.off (List._∷_
-            Row.alive (List._∷_ Row.off List.[]))))))); }
+        G31 = record {
+          locals = List._++_ g18 t19;
+          slots = List._∷_ Row.off (List._∷_ (Row.lease (κs .1 .0) (qs .1 .0)) (List._∷_ (Row.lease (κs .1 .1 .0) (qs .1 .1 .0)) (List._∷_ Row.off (List._∷_ Row.off (List._∷_ Row.off (List._∷_
+              Row.alive (List._∷_ Row.off List.[])))))));
+        }
 
         abbrev G32 : Row.Cx
-        G32 = record { locals = List._++_ g18 t19; slots = List._∷_ Row.off (List._∷_ (Row.lease (κs .1 .0) (qs .1 .0)) (List._∷_ (Row.lease (κs .1 .1 .0) (qs .1 .1 .0)) (List._∷_ Row.off (List._∷_ Row.off (List._∷_ Row.off (List._∷_
-            Row.alive (List._∷_ Row.alive List.[]))))))); }
+        G32 = record {
+          locals = List._++_ g18 t19;
+          slots = List._∷_ Row.off (List._∷_ (Row.lease (κs .1 .0) (qs .1 .0)) (List._∷_ (Row.lease (κs .1 .1 .0) (qs .1 .1 .0)) (List._∷_ Row.off (List._∷_ Row.off (List._∷_ Row.off (List._∷_
+              Row.alive (List._∷_ Row.alive List.[])))))));
+        }
 
         abbrev G33 : Row.Cx
-        G33 = record { locals = List._++_ g20 t21; slots = List._∷_ Row.off (List._∷_ (Row.lease (κs .1 .0) (qs .1 .0)) (List._∷_ (Row.lease (κs .1 .1 .0) (qs .1 .1 .0)) (List._∷_ Row.off (List._∷_ Row.off (List._∷_ Row.off (List._∷_
-            Row.alive (List._∷_ Row.alive List.[]))))))); }
+        G33 = record {
+          locals = List._++_ g20 t21;
+          slots = List._∷_ Row.off (List._∷_ (Row.lease (κs .1 .0) (qs .1 .0)) (List._∷_ (Row.lease (κs .1 .1 .0) (qs .1 .1 .0)) (List._∷_ Row.off (List._∷_ Row.off (List._∷_ Row.off (List._∷_
+              Row.alive (List._∷_ Row.alive List.[])))))));
+        }
 
         abbrev G34 : Row.Cx
-        G34 = record { locals = List._++_ g20 t22; slots = List._∷_ Row.off (List._∷_ (Row.lease (κs .1 .0) (qs .1 .0)) (List._∷_ (Row.lease (κs .1 .1 .0) (qs .1 .1 .0)) (List._∷_ Row.off (List._∷_ Row.off (List._∷_ Row.off (List._∷_
-            Row.alive (List._∷_ Row.alive List.[]))))))); }
+        G34 = record {
+          locals = List._++_ g20 t22;
+          slots = List._∷_ Row.off (List._∷_ (Row.lease (κs .1 .0) (qs .1 .0)) (List._∷_ (Row.lease (κs .1 .1 .0) (qs .1 .1 .0)) (List._∷_ Row.off (List._∷_ Row.off (List._∷_ Row.off (List._∷_
+              Row.alive (List._∷_ Row.alive List.[])))))));
+        }
 
         abbrev G35 : Row.Cx
-        G35 = record { locals = List._++_ g23 t24; slots = List._∷_ Row.off (List._∷_ (Row.lease (κs .1 .0) (qs .1 .0)) (List._∷_ (Row.lease (κs .1 .1 .0) (qs .1 .1 .0)) (List._∷_ Row.off (List._∷_ Row.off (List._∷_ Row.off (List._∷_
-            Row.alive (List._∷_ Row.alive List.[]))))))); }
+        G35 = record {
+          locals = List._++_ g23 t24;
+          slots = List._∷_ Row.off (List._∷_ (Row.lease (κs .1 .0) (qs .1 .0)) (List._∷_ (Row.lease (κs .1 .1 .0) (qs .1 .1 .0)) (List._∷_ Row.off (List._∷_ Row.off (List._∷_ Row.off (List._∷_
+              Row.alive (List._∷_ Row.alive List.[])))))));
+        }
 
         abbrev G36 : Row.Cx
-        G36 = record { locals = List._++_ g23 t25; slots = List._∷_ Row.off (List._∷_ (Row.lease (κs .1 .0) (qs .1 .0)) (List._∷_ (Row.lease (κs .1 .1 .0) (qs .1 .1 .0)) (List._∷_ Row.off (List._∷_ Row.off (List._∷_ Row.off (List._∷_
-            Row.alive (List._∷_ Row.alive List.[]))))))); }
+        G36 = record {
+          locals = List._++_ g23 t25;
+          slots = List._∷_ Row.off (List._∷_ (Row.lease (κs .1 .0) (qs .1 .0)) (List._∷_ (Row.lease (κs .1 .1 .0) (qs .1 .1 .0)) (List._∷_ Row.off (List._∷_ Row.off (List._∷_ Row.off (List._∷_
+              Row.alive (List._∷_ Row.alive List.[])))))));
+        }
 
         abbrev G37 : Row.Cx
-        G37 = record { locals = List._++_ g20 t25; slots = List._∷_ Row.off (List._∷_ (Row.lease (κs .1 .0) (qs .1 .0)) (List._∷_ (Row.lease (κs .1 .1 .0) (qs .1 .1 .0)) (List._∷_ Row.off (List._∷_ Row.off (List._∷_ Row.off (List._∷_
-            Row.alive (List._∷_ Row.alive List.[]))))))); }
+        G37 = record {
+          locals = List._++_ g20 t25;
+          slots = List._∷_ Row.off (List._∷_ (Row.lease (κs .1 .0) (qs .1 .0)) (List._∷_ (Row.lease (κs .1 .1 .0) (qs .1 .1 .0)) (List._∷_ Row.off (List._∷_ Row.off (List._∷_ Row.off (List._∷_
+              Row.alive (List._∷_ Row.alive List.[])))))));
+        }
 
         abbrev G38 : Row.Cx
-        G38 = record { locals = List._++_ g20 t25; slots = List._∷_ Row.off (List._∷_ (Row.lease (κs .1 .0) (qs .1 .0)) (List._∷_ (Row.lease (κs .1 .1 .0) (qs .1 .1 .0)) (List._∷_ Row.off (List._∷_ Row.off (List._∷_ Row.off (List._∷_
-            Row.dead (List._∷_ Row.alive List.[]))))))); }
+        G38 = record {
+          locals = List._++_ g20 t25;
+          slots = List._∷_ Row.off (List._∷_ (Row.lease (κs .1 .0) (qs .1 .0)) (List._∷_ (Row.lease (κs .1 .1 .0) (qs .1 .1 .0)) (List._∷_ Row.off (List._∷_ Row.off (List._∷_ Row.off (List._∷_
+              Row.dead (List._∷_ Row.alive List.[])))))));
+        }
 
         abbrev G39 : Row.Cx
-        G39 = record { locals = List._++_ t26 t1; slots = List._∷_ (Row.lease (κs .0) (qs .0)) (List._∷_ (Row.lease (κs .1 .0) (qs .1 .0)) (List._∷_ (Row.lease (κs .1 .1 .0) (qs .1 .1 .0)) (List._∷_ Row.off (List._∷_ Row.off (List._∷_
-            Row.off (List._∷_ Row.dead (List._∷_ Row.alive List.[]))))))); }
+        G39 = record {
+          locals = List._++_ t26 t1;
+          slots = List._∷_ (Row.lease (κs .0) (qs .0)) (List._∷_ (Row.lease (κs .1 .0) (qs .1 .0)) (List._∷_ (Row.lease (κs .1 .1 .0) (qs .1 .1 .0)) (List._∷_ Row.off (List._∷_ Row.off (List._∷_
+              Row.off (List._∷_ Row.dead (List._∷_ Row.alive List.[])))))));
+        }
 
         abbrev G40 : Row.Cx
-        G40 = record { locals = List._++_ t26 t1; slots = List._∷_ (Row.lease (κs .0) (qs .0)) (List._∷_ (Row.lease (κs .1 .0) (qs .1 .0)) (List._∷_ (Row.lease (κs .1 .1 .0) (qs .1 .1 .0)) (List._∷_ Row.off (List._∷_ Row.off (List._∷_
-            Row.off (List._∷_ Row.off (List._∷_ Row.alive List.[]))))))); }
+        G40 = record {
+          locals = List._++_ t26 t1;
+          slots = List._∷_ (Row.lease (κs .0) (qs .0)) (List._∷_ (Row.lease (κs .1 .0) (qs .1 .0)) (List._∷_ (Row.lease (κs .1 .1 .0) (qs .1 .1 .0)) (List._∷_ Row.off (List._∷_ Row.off (List._∷_
+              Row.off (List._∷_ Row.off (List._∷_ Row.alive List.[])))))));
+        }
 
         abbrev G41 : Row.Cx
-        G41 = record { locals = List._++_ t26 t1; slots = List._∷_ (Row.lease (κs .0) (qs .0)) (List._∷_ (Row.lease (κs .1 .0) (qs .1 .0)) (List._∷_ (Row.lease (κs .1 .1 .0) (qs .1 .1 .0)) (List._∷_ Row.off (List._∷_ Row.off (List._∷_
-            Row.off (List._∷_ Row.off (List._∷_ Row.dead List.[]))))))); }
+        G41 = record {
+          locals = List._++_ t26 t1;
+          slots = List._∷_ (Row.lease (κs .0) (qs .0)) (List._∷_ (Row.lease (κs .1 .0) (qs .1 .0)) (List._∷_ (Row.lease (κs .1 .1 .0) (qs .1 .1 .0)) (List._∷_ Row.off (List._∷_ Row.off (List._∷_
+              Row.off (List._∷_ Row.off (List._∷_ Row.dead List.[])))))));
+        }
 
         abbrev G42 : Row.Cx
-        G42 = record { locals = List._++_ t16 t1; slots = List._∷_ (Row.lease (κs .0) (qs .0)) (List._∷_ (Row.lease (κs .1 .0) (qs .1 .0)) (List._∷_ (Row.lease (κs .1 .1 .0) (qs .1 .1 .0)) (List._∷_ Row.off (List._∷_ Row.off (List._∷_
-            Row.off (List._∷_ Row.off (List._∷_ Row.dead List.[]))))))); }
+        G42 = record {
+          locals = List._++_ t16 t1;
+          slots = List._∷_ (Row.lease (κs .0) (qs .0)) (List._∷_ (Row.lease (κs .1 .0) (qs .1 .0)) (List._∷_ (Row.lease (κs .1 .1 .0) (qs .1 .1 .0)) (List._∷_ Row.off (List._∷_ Row.off (List._∷_
+              Row.off (List._∷_ Row.off (List._∷_ Row.dead List.[])))))));
+        }
 
         abbrev G43 : Row.Cx
-        G43 = record { locals = List._++_ t16 t1; slots = List._∷_ (Row.lease (κs .0) (qs .0)) (List._∷_ (Row.lease (κs .1 .0) (qs .1 .0)) (List._∷_ (Row.lease (κs .1 .1 .0) (qs .1 .1 .0)) (List._∷_ Row.off (List._∷_ Row.off (List._∷_
-            Row.off (List._∷_ Row.off (List._∷_ Row.off List.[]))))))); }
+        G43 = record {
+          locals = List._++_ t16 t1;
+          slots = List._∷_ (Row.lease (κs .0) (qs .0)) (List._∷_ (Row.lease (κs .1 .0) (qs .1 .0)) (List._∷_ (Row.lease (κs .1 .1 .0) (qs .1 .1 .0)) (List._∷_ Row.off (List._∷_ Row.off (List._∷_
+              Row.off (List._∷_ Row.off (List._∷_ Row.off List.[])))))));
+        }
 
         abbrev G44 : Row.Cx
-        G44 = record { locals = List._++_ t27 t1; slots = List._∷_ (Row.lease (κs .0) (qs .0)) (List._∷_ (Row.lease (κs .1 .0) (qs .1 .0)) (List._∷_ (Row.lease (κs .1 .1 .0) (qs .1 .1 .0)) (List._∷_ Row.off (List._∷_ Row.off (List._∷_
-            Row.off (List._∷_ Row.off (List._∷_ Row.off List.[]))))))); }
+        G44 = record {
+          locals = List._++_ t27 t1;
+          slots = List._∷_ (Row.lease (κs .0) (qs .0)) (List._∷_ (Row.lease (κs .1 .0) (qs .1 .0)) (List._∷_ (Row.lease (κs .1 .1 .0) (qs .1 .1 .0)) (List._∷_ Row.off (List._∷_ Row.off (List._∷_
+              Row.off (List._∷_ Row.off (List._∷_ Row.off List.[])))))));
+        }
 
         abbrev G45 : Row.Cx
-        G45 = record { locals = List._++_ t28 t1; slots = List._∷_ (Row.lease (κs .0) (qs .0)) (List._∷_ (Row.lease (κs .1 .0) (qs .1 .0)) (List._∷_ (Row.lease (κs .1 .1 .0) (qs .1 .1 .0)) (List._∷_ Row.off (List._∷_ Row.off (List._∷_
-            Row.off (List._∷_ Row.off (List._∷_ Row.off List.[]))))))); }
+        G45 = record {
+          locals = List._++_ t28 t1;
+          slots = List._∷_ (Row.lease (κs .0) (qs .0)) (List._∷_ (Row.lease (κs .1 .0) (qs .1 .0)) (List._∷_ (Row.lease (κs .1 .1 .0) (qs .1 .1 .0)) (List._∷_ Row.off (List._∷_ Row.off (List._∷_
+              Row.off (List._∷_ Row.off (List._∷_ Row.off List.[])))))));
+        }
 
         abbrev G46 : Row.Cx
-        G46 = record { locals = List._++_ t29 t1; slots = List._∷_ (Row.lease (κs .0) (qs .0)) (List._∷_ (Row.lease (κs .1 .0) (qs .1 .0)) (List._∷_ (Row.lease (κs .1 .1 .0) (qs .1 .1 .0)) (List._∷_ Row.off (List._∷_ Row.off (List._∷_
-            Row.off (List._∷_ Row.off (List._∷_ Row.off List.[]))))))); }
+        G46 = record {
+          locals = List._++_ t29 t1;
+          slots = List._∷_ (Row.lease (κs .0) (qs .0)) (List._∷_ (Row.lease (κs .1 .0) (qs .1 .0)) (List._∷_ (Row.lease (κs .1 .1 .0) (qs .1 .1 .0)) (List._∷_ Row.off (List._∷_ Row.off (List._∷_
+              Row.off (List._∷_ Row.off (List._∷_ Row.off List.[])))))));
+        }
 
         abbrev G47 : Row.Cx
-        G47 = record { locals = List._++_ t2 t1; slots = List._∷_ (Row.lease (κs .0) (qs .0)) (List._∷_ (Row.lease (κs .1 .0) (qs .1 .0)) (List._∷_ (Row.lease (κs .1 .1 .0) (qs .1 .1 .0)) (List._∷_ Row.off (List._∷_ Row.off (List._∷_
-            Row.off (List._∷_ Row.off (List._∷_ Row.off List.[]))))))); }
+        G47 = record {
+          locals = List._++_ t2 t1;
+          slots = List._∷_ (Row.lease (κs .0) (qs .0)) (List._∷_ (Row.lease (κs .1 .0) (qs .1 .0)) (List._∷_ (Row.lease (κs .1 .1 .0) (qs .1 .1 .0)) (List._∷_ Row.off (List._∷_ Row.off (List._∷_
+              Row.off (List._∷_ Row.off (List._∷_ Row.off List.[])))))));
+        }
 
         abbrev Δ0 : Typed.Outs
         Δ0 = record { next = Option.none; exits = List.[]; returns = Option.some G1 }
@@ -1148,15 +1936,21 @@ module _ (claims· : Claims) where
           d3 : Typed.Typed 𝓤 H A 𝓣 E G44 b16 Δ0 (at3 bs)
           d3 = Typed.s-seq 𝓤 H A W 𝓣 E G44 G45 b14 b15 Δ0 (Typed.both (s43 bs)) (at2 bs) (WayStmt.t-way-copy-out 𝓤 H A W E 𝓣 (Declared.row Stepped.the-type) Path'.refl (Copies.cStruct Stepped.the-type Laws.the-laws Laws.the-copy .copy
               𝓤 H A W) (λ ρ. Unit) G44 (Row.out 7 (G44 .locals)) (λ u. Row.drop 7 (G44 .locals) u) (G44 .slots) 7 (λ t. List._∷_ (Syntax.field 0) t) El.Stepped El.Stepped 0 (Rows'.whole (Declared.row Stepped.the-type)) (λ x. x) (λ u.
-              At.getAt (Begun.the-type .parts) 0 (Begun.struct .as-values (u .1 .1 .1 .1 .1 .1 .1 .0))) (λ u. (Row.hd 0 (Row.tl (Row.tl (Row.tl (Row.tl (Row.tl (Row.tl (Row.tl bs))))))), Nat._+_ 0 0)) (λ T′. record { locals =
-              Row.setRow 7 (7, Rows'.whole (Declared.row Begun.the-type)) T′; slots = G44 .slots; }) (λ u T′ m′. Row.set 7 (7, Rows'.whole (Declared.row Begun.the-type)) (u .1 .1 .1 .1 .1 .1 .1 .0) T′ m′) (λ u. Unit) (λ x. Unit)
+              At.getAt (Begun.the-type .parts) 0 (Begun.struct .as-values (u .1 .1 .1 .1 .1 .1 .1 .0))) (λ u. (Row.hd 0 (Row.tl (Row.tl (Row.tl (Row.tl (Row.tl (Row.tl (Row.tl bs))))))), Nat._+_ 0 0)) (λ T′. record {
+                locals =
+                    Row.setRow 7 (7, Rows'.whole (Declared.row Begun.the-type)) T′;
+                slots = G44 .slots;
+              }) (λ u T′ m′. Row.set 7 (7, Rows'.whole (Declared.row Begun.the-type)) (u .1 .1 .1 .1 .1 .1 .1 .0) T′ m′) (λ u. Unit) (λ x. Unit)
               (Own.told-none 𝓤 H A (G44 .slots)) (DerefMove.learns-nothing 𝓤 H A (Declared.row Stepped.the-type)) (λ ρ told u asked. Way'.w-partˢ 𝓤 H A W E (Declared.row Begun.the-type) (Declared.row Stepped.the-type) El.Begun El.Stepped
               0 0 (u .1 .1 .1 .1 .1 .1 .1 .0) (At.getAt (Begun.the-type .parts) 0 (Begun.struct .as-values (u .1 .1 .1 .1 .1 .1 .1 .0))) (Row.hd 0 (Row.tl (Row.tl (Row.tl (Row.tl (Row.tl (Row.tl (Row.tl bs))))))), 0) (Way.w-look 𝓤 H A
               W E (Way.w-local 𝓤 H A W E G44 ρ u (G44 .slots) 7 (Declared.row Begun.the-type) (Rows'.whole (Declared.row Begun.the-type)) (λ x. x) (λ x. x) (u .1 .1 .1 .1 .1 .1 .1 .0) (Local.mem-whole 𝓤 H A W (Declared.row
               Begun.the-type) ρ (u .1 .1 .1 .1 .1 .1 .1 .0) (Row.hd 0 (Row.tl (Row.tl (Row.tl (Row.tl (Row.tl (Row.tl (Row.tl bs))))))))) (Local.whole-mem 𝓤 H A W (Declared.row Begun.the-type) ρ (u .1 .1 .1 .1 .1 .1 .1 .0) (Row.hd 0
               (Row.tl (Row.tl (Row.tl (Row.tl (Row.tl (Row.tl (Row.tl bs))))))))))) Path'.refl λ q. Inner.cut-record 𝓤 H A q (Declared.row Begun.the-type) Stepped.the-type 0 (u .1 .1 .1 .1 .1 .1 .1 .0) (u .1 .1 .1 .1 .1 .1 .1 .0)
-              (At.getAt (Begun.the-type .parts) 0 (Begun.struct .as-values (u .1 .1 .1 .1 .1 .1 .1 .0))) (At.getAt (Begun.the-type .parts) 0 (Begun.struct .as-values (u .1 .1 .1 .1 .1 .1 .1 .0))) (Row.hd 0 (Row.tl (Row.tl (Row.tl
-              (Row.tl (Row.tl (Row.tl (Row.tl bs))))))), 0) (Behind.look-at 𝓤 H A W q Begun.the-type Laws''.the-laws 0 0 Path'.refl Path'.refl (Row.hd 0 (Row.tl (Row.tl (Row.tl (Row.tl (Row.tl (Row.tl (Row.tl bs))))))), 0) (u .1 .1 .1
+              (At.getAt (Begun.the-type .parts) 0 (Begun.struct .as-values (u .1 .1 .1 .1 .1 .1 .1 .0))) (At.getAt (Begun.the-type .parts) 0 (Begun.struct .as-values (u .1 .1 .1 .1 .1 .1 .1 .0))) (
+                Row.hd 0 (Row.tl (Row.tl (Row.tl
+                    (Row.tl (Row.tl (Row.tl (Row.tl bs))))))),
+                0,
+              ) (Behind.look-at 𝓤 H A W q Begun.the-type Laws''.the-laws 0 0 Path'.refl Path'.refl (Row.hd 0 (Row.tl (Row.tl (Row.tl (Row.tl (Row.tl (Row.tl (Row.tl bs))))))), 0) (u .1 .1 .1
               .1 .1 .1 .1 .0) (Begun.struct .as-values (u .1 .1 .1 .1 .1 .1 .1 .0)) Path'.refl)) (Reads'.room-gone 𝓤 H A El.Stepped) (Yields.makes-mem 𝓤 H A W (λ ρ. Unit) (Declared.row Stepped.the-type) Path'.refl (Rows'.whole
               (Declared.row Stepped.the-type)) (λ x. x) λ ρ told. Local.whole-mem 𝓤 H A W (Declared.row Stepped.the-type) ρ) Path'.refl Path'.refl Path'.refl) d2
 
@@ -1193,12 +1987,40 @@ module _ (claims· : Claims) where
               Syntax.imm El.word) (Syntax.tcons El.word Syntax.tnil))) (Shared.room-sslice 𝓤 H A W (Referent.rtF (Referent.fInt Syntax.w64)) (Syntax.tyRef Syntax.erased Syntax.imm El.word) 7)) d11
 
           d13 : Typed.Typed 𝓤 H A 𝓣 E G34 b17 Δ0 (at13 bs)
-          d13 = Typed.s-seq 𝓤 H A W 𝓣 E G34 G35 b13 b16 Δ0 (Typed.both (s33 bs)) (at12 bs) (Plain.t-call-plain 𝓤 H A W 𝓣 2 ps·1 r·1 (claims· .2) (claims· .3) "records_tasks::save" (known .1) E (λ pos β. β) G34 (record { pos = 16; ty =
-              Syntax.tyRef Syntax.erased Syntax.mut El.named; ref = λ x. x; }, (record { pos = 18; ty = Syntax.tyRef Syntax.erased Syntax.imm El.word; ref = λ x. x; }, (Num.vFld 7 (List._∷_ (Syntax.field 1) List.[]) 1088 λ x.
-              Begun.struct .as-values x .1 .0, tt))) 14 (List._∷_ 6 (List._∷_ 7 List.[])) (Call.sub-id 𝓤 H A W (G34 .slots)) (Reads'.as-is 𝓤 H A (Mut.mslice El.row (Syntax.tyRef Syntax.erased Syntax.mut El.named) 6), Mut.reads-mslice 𝓤 H
-              A W El.row (Syntax.tyRef Syntax.erased Syntax.mut El.named) 6, Path'.refl, (ShrSlice.spares-sslice 𝓤 H A W (Referent.rtF (Referent.fInt Syntax.w64)) (Syntax.tyRef Syntax.erased Syntax.imm El.word) 7, Shared.reads-sslice 𝓤 H
-              A W (Referent.rtF (Referent.fInt Syntax.w64)) (Syntax.tyRef Syntax.erased Syntax.imm El.word) 7, Path'.refl, ((Reads.reads-field 𝓤 H A W Begun.the-type Laws''.the-laws 1 (Syntax.tyInt Syntax.w16) 1088 Path'.refl,
-              Path'.refl), tt))) (Reads'.room-gone 𝓤 H A Syntax.tyUnit) (tt, (tt, tt)) Path'.refl) d12
+          d13 = Typed.s-seq 𝓤 H A W 𝓣 E G34 G35 b13 b16 Δ0 (Typed.both (s33 bs)) (at12 bs) (Plain.t-call-plain 𝓤 H A W 𝓣 2 ps·1 r·1 (claims· .2) (claims· .3) "records_tasks::save" (known .1) E (λ pos β. β) G34 (
+            record {
+              pos = 16;
+              ty =
+                  Syntax.tyRef Syntax.erased Syntax.mut El.named;
+              ref = λ x. x;
+            },
+            (
+              record { pos = 18; ty = Syntax.tyRef Syntax.erased Syntax.imm El.word; ref = λ x. x },
+              (
+                Num.vFld 7 (List._∷_ (Syntax.field 1) List.[]) 1088 λ x.
+                    Begun.struct .as-values x .1 .0,
+                tt,
+              ),
+            ),
+          ) 14 (List._∷_ 6 (List._∷_ 7 List.[])) (Call.sub-id 𝓤 H A W (G34 .slots)) (
+            Reads'.as-is 𝓤 H A (Mut.mslice El.row (Syntax.tyRef Syntax.erased Syntax.mut El.named) 6),
+            Mut.reads-mslice 𝓤 H
+                A W El.row (Syntax.tyRef Syntax.erased Syntax.mut El.named) 6,
+            Path'.refl,
+            (
+              ShrSlice.spares-sslice 𝓤 H A W (Referent.rtF (Referent.fInt Syntax.w64)) (Syntax.tyRef Syntax.erased Syntax.imm El.word) 7,
+              Shared.reads-sslice 𝓤 H
+                  A W (Referent.rtF (Referent.fInt Syntax.w64)) (Syntax.tyRef Syntax.erased Syntax.imm El.word) 7,
+              Path'.refl,
+              (
+                (
+                  Reads.reads-field 𝓤 H A W Begun.the-type Laws''.the-laws 1 (Syntax.tyInt Syntax.w16) 1088 Path'.refl,
+                  Path'.refl,
+                ),
+                tt,
+              ),
+            ),
+          ) (Reads'.room-gone 𝓤 H A Syntax.tyUnit) (tt, (tt, tt)) Path'.refl) d12
 
           d14 : Typed.Typed 𝓤 H A 𝓣 E G33 b18 Δ0 (at14 bs)
           d14 = Typed.s-seq 𝓤 H A W 𝓣 E G33 G34 b12 b17 Δ0 (Typed.ask (s32 bs)) (at13 bs) (Relend.t-sl-aggregate 𝓤 H A W E (Referent.rtF (Referent.fInt Syntax.w64)) 𝓣 (Relend.asShr (Referent.rtF (Referent.fInt Syntax.w64))) G33 17 18 7
@@ -1217,8 +2039,11 @@ module _ (claims· : Claims) where
           d17 : Typed.Typed 𝓤 H A 𝓣 E G30 b20 Δ0 (at17 bs)
           d17 = Typed.s-seq 𝓤 H A W 𝓣 E G30 G31 b10 b19 Δ0 (Typed.ask (s29 bs)) (at16 bs) (Relend.t-sl-aggregate 𝓤 H A W E El.row 𝓣 (Relend.asMut El.row) G30 15 16 6 (Syntax.tyRef Syntax.erased Syntax.mut El.named) (Syntax.tyRef
               Syntax.erased Syntax.mut El.named) (λ x. x) (Scalar.oFld 1 (List._∷_ (Syntax.field 1) List.[]) El.word 8 λ v. Shared.lenV (v .0)) (Reads'.as-is 𝓤 H A (Relend.msptr El.row (Syntax.tyRef Syntax.erased Syntax.mut El.named) 6))
-              (Reads'.room-gone 𝓤 H A (Syntax.tyStruct (List._∷_ 38 (List._∷_ 91 (List._∷_ 93 List.[]))) (Syntax.tcons (Syntax.tyRef Syntax.erased Syntax.mut El.named) (Syntax.tcons El.word Syntax.tnil)))) (Relend.reads-owed-len 𝓤 H A W
-              El.row (Syntax.tyRef (Syntax.named 0) Syntax.mut El.named) 0 6 (Row.lease (κs .0) (qs .0)) 8 Path'.refl, Path'.refl) Path'.refl Path'.refl λ b o k. tt) d16
+              (Reads'.room-gone 𝓤 H A (Syntax.tyStruct (List._∷_ 38 (List._∷_ 91 (List._∷_ 93 List.[]))) (Syntax.tcons (Syntax.tyRef Syntax.erased Syntax.mut El.named) (Syntax.tcons El.word Syntax.tnil)))) (
+                Relend.reads-owed-len 𝓤 H A W
+                    El.row (Syntax.tyRef (Syntax.named 0) Syntax.mut El.named) 0 6 (Row.lease (κs .0) (qs .0)) 8 Path'.refl,
+                Path'.refl,
+              ) Path'.refl Path'.refl λ b o k. tt) d16
 
           d18 : Typed.Typed 𝓤 H A 𝓣 E G29 b21 Δ0 (at18 bs)
           d18 = Typed.s-seq 𝓤 H A W 𝓣 E G29 G30 b9 b20 Δ0 (Typed.give (s28 bs)) (at17 bs) (Relend.t-sl-relend 𝓤 H A W E El.row 𝓣 G29 1 15 0 6 (Syntax.tyRef (Syntax.named 0) Syntax.mut El.named) (Syntax.tyRef Syntax.erased Syntax.mut
@@ -1273,22 +2098,67 @@ module _ (claims· : Claims) where
           d31 = Typed.g-pre 𝓤 H A W 𝓣 E G16 G17 b21 Δ0 (Typed.pass T16 T17 (s15 bs)) (at30 bs) (Scalar.g-room 𝓤 H A W E G16 4 El.ReadyQueue (Local.room-whole 𝓤 H A W (Declared.row ReadyQueue.the-type) El.ReadyQueue Path'.refl)) d30
 
           d32 : Typed.Typed 𝓤 H A 𝓣 E G15 b22 Δ0 (at32 bs)
-          d32 = Typed.s-seq 𝓤 H A W 𝓣 E G15 G16 b8 b21 Δ0 (Typed.both (s14 bs)) (at31 bs) (Plain.t-call-plain 𝓤 H A W 𝓣 3 ps·0 r·0 (claims· .0) (claims· .1) "records_words::begin" (known .0) E (λ pos β. β) G15 (Num.vAt 5 λ x. x,
-              (record { pos = 9; ty = Syntax.tyRef Syntax.erased Syntax.mut El.word; ref = λ x. x; }, (record { pos = 11; ty = Syntax.tyRef Syntax.erased Syntax.mut El.word; ref = λ x. x; }, (record { pos = 13; ty = Syntax.tyRef
-              Syntax.erased Syntax.mut El.word; ref = λ x. x; }, (record { pos = 4; st = List.[]; d = 0; at = λ x. x }, tt))))) 7 (List._∷_ 3 (List._∷_ 4 (List._∷_ 5 List.[]))) (Call.sub-id 𝓤 H A W (G15 .slots)) ((Scalar.reads-sc 𝓤 H A
-              W (Row.sInt Syntax.w64), Path'.refl), (Reads'.as-is 𝓤 H A (Mut.mslice (Referent.rtF (Referent.fInt Syntax.w64)) (Syntax.tyRef Syntax.erased Syntax.mut El.word) 3), Mut.reads-mslice 𝓤 H A W (Referent.rtF (Referent.fInt
-              Syntax.w64)) (Syntax.tyRef Syntax.erased Syntax.mut El.word) 3, Path'.refl, (Reads'.as-is 𝓤 H A (Mut.mslice (Referent.rtF (Referent.fInt Syntax.w64)) (Syntax.tyRef Syntax.erased Syntax.mut El.word) 4), Mut.reads-mslice 𝓤 H
-              A W (Referent.rtF (Referent.fInt Syntax.w64)) (Syntax.tyRef Syntax.erased Syntax.mut El.word) 4, Path'.refl, (Reads'.as-is 𝓤 H A (Mut.mslice (Referent.rtF (Referent.fInt Syntax.w64)) (Syntax.tyRef Syntax.erased Syntax.mut
-              El.word) 5), Mut.reads-mslice 𝓤 H A W (Referent.rtF (Referent.fInt Syntax.w64)) (Syntax.tyRef Syntax.erased Syntax.mut El.word) 5, Path'.refl, ((Yields.yields-copy 𝓤 H A W (λ ρ. Unit) (Declared.row ReadyQueue.the-type)
-              Path'.refl (Copies.cStruct ReadyQueue.the-type Laws'.the-laws Laws'.the-copy .copy 𝓤 H A W) (Rows'.whole (Declared.row ReadyQueue.the-type)) (λ x. x) (λ x. x) (λ ρ told. Local.mem-whole 𝓤 H A W (Declared.row
-              ReadyQueue.the-type) ρ) λ ρ told. Local.whole-mem 𝓤 H A W (Declared.row ReadyQueue.the-type) ρ, Path'.refl), tt))))) (Reads'.room-gone 𝓤 H A El.Begun) (tt, (tt, (tt, tt))) Path'.refl) d31
+          d32 = Typed.s-seq 𝓤 H A W 𝓣 E G15 G16 b8 b21 Δ0 (Typed.both (s14 bs)) (at31 bs) (Plain.t-call-plain 𝓤 H A W 𝓣 3 ps·0 r·0 (claims· .0) (claims· .1) "records_words::begin" (known .0) E (λ pos β. β) G15 (
+            Num.vAt 5 λ x. x,
+            (
+              record { pos = 9; ty = Syntax.tyRef Syntax.erased Syntax.mut El.word; ref = λ x. x },
+              (
+                record { pos = 11; ty = Syntax.tyRef Syntax.erased Syntax.mut El.word; ref = λ x. x },
+                (
+                  record {
+                    pos = 13;
+                    ty = Syntax.tyRef
+                        Syntax.erased Syntax.mut El.word;
+                    ref = λ x. x;
+                  },
+                  (record { pos = 4; st = List.[]; d = 0; at = λ x. x }, tt),
+                ),
+              ),
+            ),
+          ) 7 (List._∷_ 3 (List._∷_ 4 (List._∷_ 5 List.[]))) (Call.sub-id 𝓤 H A W (G15 .slots)) (
+            (
+              Scalar.reads-sc 𝓤 H A
+                  W (Row.sInt Syntax.w64),
+              Path'.refl,
+            ),
+            (
+              Reads'.as-is 𝓤 H A (Mut.mslice (Referent.rtF (Referent.fInt Syntax.w64)) (Syntax.tyRef Syntax.erased Syntax.mut El.word) 3),
+              Mut.reads-mslice 𝓤 H A W (Referent.rtF (Referent.fInt
+                  Syntax.w64)) (Syntax.tyRef Syntax.erased Syntax.mut El.word) 3,
+              Path'.refl,
+              (
+                Reads'.as-is 𝓤 H A (Mut.mslice (Referent.rtF (Referent.fInt Syntax.w64)) (Syntax.tyRef Syntax.erased Syntax.mut El.word) 4),
+                Mut.reads-mslice 𝓤 H
+                    A W (Referent.rtF (Referent.fInt Syntax.w64)) (Syntax.tyRef Syntax.erased Syntax.mut El.word) 4,
+                Path'.refl,
+                (
+                  Reads'.as-is 𝓤 H A (Mut.mslice (Referent.rtF (Referent.fInt Syntax.w64)) (Syntax.tyRef Syntax.erased Syntax.mut
+                      El.word) 5),
+                  Mut.reads-mslice 𝓤 H A W (Referent.rtF (Referent.fInt Syntax.w64)) (Syntax.tyRef Syntax.erased Syntax.mut El.word) 5,
+                  Path'.refl,
+                  (
+                    (
+                      Yields.yields-copy 𝓤 H A W (λ ρ. Unit) (Declared.row ReadyQueue.the-type)
+                          Path'.refl (Copies.cStruct ReadyQueue.the-type Laws'.the-laws Laws'.the-copy .copy 𝓤 H A W) (Rows'.whole (Declared.row ReadyQueue.the-type)) (λ x. x) (λ x. x) (λ ρ told. Local.mem-whole 𝓤 H A W (Declared.row
+                          ReadyQueue.the-type) ρ) λ ρ told. Local.whole-mem 𝓤 H A W (Declared.row ReadyQueue.the-type) ρ,
+                      Path'.refl,
+                    ),
+                    tt,
+                  ),
+                ),
+              ),
+            ),
+          ) (Reads'.room-gone 𝓤 H A El.Begun) (tt, (tt, (tt, tt))) Path'.refl) d31
 
           d33 : Typed.Typed 𝓤 H A 𝓣 E G14 b23 Δ0 (at33 bs)
           d33 = Typed.s-seq 𝓤 H A W 𝓣 E G14 G15 b7 b22 Δ0 (Typed.ask (s13 bs)) (at32 bs) (Relend.t-sl-aggregate 𝓤 H A W E (Referent.rtF (Referent.fInt Syntax.w64)) 𝓣 (Relend.asMut (Referent.rtF (Referent.fInt Syntax.w64))) G14 12 13 5
               (Syntax.tyRef Syntax.erased Syntax.mut El.word) (Syntax.tyRef Syntax.erased Syntax.mut El.word) (λ x. x) (Scalar.oFld 3 (List._∷_ (Syntax.field 1) List.[]) El.word 8 λ v. Shared.lenV (v .0)) (Reads'.as-is 𝓤 H A (Relend.msptr
               (Referent.rtF (Referent.fInt Syntax.w64)) (Syntax.tyRef Syntax.erased Syntax.mut El.word) 5)) (Reads'.room-gone 𝓤 H A (Syntax.tyStruct (List._∷_ 38 (List._∷_ 91 (List._∷_ 93 List.[]))) (Syntax.tcons (Syntax.tyRef
-              Syntax.erased Syntax.mut El.word) (Syntax.tcons El.word Syntax.tnil)))) (Relend.reads-owed-len 𝓤 H A W (Referent.rtF (Referent.fInt Syntax.w64)) (Syntax.tyRef (Syntax.named 2) Syntax.mut El.word) 2 5 (Row.lease (κs .1 .1 .0)
-              (qs .1 .1 .0)) 8 Path'.refl, Path'.refl) Path'.refl Path'.refl λ b o k. tt) d32
+              Syntax.erased Syntax.mut El.word) (Syntax.tcons El.word Syntax.tnil)))) (
+                Relend.reads-owed-len 𝓤 H A W (Referent.rtF (Referent.fInt Syntax.w64)) (Syntax.tyRef (Syntax.named 2) Syntax.mut El.word) 2 5 (Row.lease (κs .1 .1 .0)
+                    (qs .1 .1 .0)) 8 Path'.refl,
+                Path'.refl,
+              ) Path'.refl Path'.refl λ b o k. tt) d32
 
           d34 : Typed.Typed 𝓤 H A 𝓣 E G13 b24 Δ0 (at34 bs)
           d34 = Typed.s-seq 𝓤 H A W 𝓣 E G13 G14 b6 b23 Δ0 (Typed.give (s12 bs)) (at33 bs) (Relend.t-sl-relend 𝓤 H A W E (Referent.rtF (Referent.fInt Syntax.w64)) 𝓣 G13 3 12 2 5 (Syntax.tyRef (Syntax.named 2) Syntax.mut El.word)
@@ -1302,8 +2172,11 @@ module _ (claims· : Claims) where
           d36 = Typed.s-seq 𝓤 H A W 𝓣 E G11 G12 b5 b24 Δ0 (Typed.ask (s10 bs)) (at35 bs) (Relend.t-sl-aggregate 𝓤 H A W E (Referent.rtF (Referent.fInt Syntax.w64)) 𝓣 (Relend.asMut (Referent.rtF (Referent.fInt Syntax.w64))) G11 10 11 4
               (Syntax.tyRef Syntax.erased Syntax.mut El.word) (Syntax.tyRef Syntax.erased Syntax.mut El.word) (λ x. x) (Scalar.oFld 2 (List._∷_ (Syntax.field 1) List.[]) El.word 8 λ v. Shared.lenV (v .0)) (Reads'.as-is 𝓤 H A (Relend.msptr
               (Referent.rtF (Referent.fInt Syntax.w64)) (Syntax.tyRef Syntax.erased Syntax.mut El.word) 4)) (Reads'.room-gone 𝓤 H A (Syntax.tyStruct (List._∷_ 38 (List._∷_ 91 (List._∷_ 93 List.[]))) (Syntax.tcons (Syntax.tyRef
-              Syntax.erased Syntax.mut El.word) (Syntax.tcons El.word Syntax.tnil)))) (Relend.reads-owed-len 𝓤 H A W (Referent.rtF (Referent.fInt Syntax.w64)) (Syntax.tyRef (Syntax.named 1) Syntax.mut El.word) 1 4 (Row.lease (κs .1 .0)
-              (qs .1 .0)) 8 Path'.refl, Path'.refl) Path'.refl Path'.refl λ b o k. tt) d35
+              Syntax.erased Syntax.mut El.word) (Syntax.tcons El.word Syntax.tnil)))) (
+                Relend.reads-owed-len 𝓤 H A W (Referent.rtF (Referent.fInt Syntax.w64)) (Syntax.tyRef (Syntax.named 1) Syntax.mut El.word) 1 4 (Row.lease (κs .1 .0)
+                    (qs .1 .0)) 8 Path'.refl,
+                Path'.refl,
+              ) Path'.refl Path'.refl λ b o k. tt) d35
 
           d37 : Typed.Typed 𝓤 H A 𝓣 E G10 b26 Δ0 (at37 bs)
           d37 = Typed.s-seq 𝓤 H A W 𝓣 E G10 G11 b4 b25 Δ0 (Typed.give (s9 bs)) (at36 bs) (Relend.t-sl-relend 𝓤 H A W E (Referent.rtF (Referent.fInt Syntax.w64)) 𝓣 G10 2 10 1 4 (Syntax.tyRef (Syntax.named 1) Syntax.mut El.word)
@@ -1356,10 +2229,24 @@ module _ (claims· : Claims) where
           pub tasks : Kinds.Den {n = 3} κs (MutSlice.pMutS El.row 0 tt)
           pub objects : Kinds.Den {n = 3} κs (MutSlice.pMutS (Referent.rtF (Referent.fInt Syntax.w64)) 1 tt)
           pub places : Kinds.Den {n = 3} κs (MutSlice.pMutS (Referent.rtF (Referent.fInt Syntax.w64)) 2 tt)
-          pub queue : Kinds.Den {n = 3} κs (Value.pVal record { ty = Declared.row ReadyQueue.the-type; one = Path'.refl; val = Laws'3.val ReadyQueue.the-type Laws'.the-laws; tells = Laws'3.tells ReadyQueue.the-type Laws'.the-laws;
-              still = Laws'3.still ReadyQueue.the-type Laws'.the-copy Exit.yes; row = Rows'.whole (Declared.row ReadyQueue.the-type); rd = λ x. x; mk = λ x. x; } λ M 𝓤 H A W. record { copies = Laws'3.copy ReadyQueue.the-type
-              Laws'.the-copy 𝓤 H A W; lawful = Laws'3.lawful ReadyQueue.the-type Laws'.the-laws 𝓤 H A W; makes = Laws'3.makes ReadyQueue.the-type Laws'.the-plain 𝓤 H A; in-mem = Local.mem-whole 𝓤 H A W (Declared.row
-              ReadyQueue.the-type); of-mem = Local.whole-mem 𝓤 H A W (Declared.row ReadyQueue.the-type); })
+          pub queue : Kinds.Den {n = 3} κs (Value.pVal record {
+            ty = Declared.row ReadyQueue.the-type;
+            one = Path'.refl;
+            val = Laws'3.val ReadyQueue.the-type Laws'.the-laws;
+            tells = Laws'3.tells ReadyQueue.the-type Laws'.the-laws;
+            still = Laws'3.still ReadyQueue.the-type Laws'.the-copy Exit.yes;
+            row = Rows'.whole (Declared.row ReadyQueue.the-type);
+            rd = λ x. x;
+            mk = λ x. x;
+          } λ M 𝓤 H A W. record {
+            copies = Laws'3.copy ReadyQueue.the-type
+                Laws'.the-copy 𝓤 H A W;
+            lawful = Laws'3.lawful ReadyQueue.the-type Laws'.the-laws 𝓤 H A W;
+            makes = Laws'3.makes ReadyQueue.the-type Laws'.the-plain 𝓤 H A;
+            in-mem = Local.mem-whole 𝓤 H A W (Declared.row
+                ReadyQueue.the-type);
+            of-mem = Local.whole-mem 𝓤 H A W (Declared.row ReadyQueue.the-type);
+          })
 
         abbrev pub dens : (a : Args) → Kinds.Dens κs ps
         dens = λ a. (a .tasks, (a .objects, (a .places, (a .queue, tt))))
@@ -1368,8 +2255,12 @@ module _ (claims· : Claims) where
       m0 = λ κs args blocks. (tt, Enter.partsP κs 1 ps xs (dens κs args))
 
       abbrev W0 : (κs : Lifetimes.Lfts 3) → (args : Args κs) → (blocks : List.List Nat.ℕ) → Typed.Want O0
-      W0 = λ κs args blocks. (λ u. ⊥, tt, λ u. Enter.Fixs κs 1 ps xs (dens κs args) (u .1) × Post· κs (dens κs args) (Function.resV r κs (u .0)) (Clauses.atExit (Kinds.endedOf 3 ps r) κs (dens κs args) (Enter.lastsP κs 1 ps xs (dens κs
-          args) (u .1))))
+      W0 = λ κs args blocks. (
+        λ u. ⊥,
+        tt,
+        λ u. Enter.Fixs κs 1 ps xs (dens κs args) (u .1) × Post· κs (dens κs args) (Function.resV r κs (u .0)) (Clauses.atExit (Kinds.endedOf 3 ps r) κs (dens κs args) (Enter.lastsP κs 1 ps xs (dens κs
+            args) (u .1))),
+      )
 
       pub record Start : Type 0 where
         pub κs : Lifetimes.Lfts 3
@@ -1462,8 +2353,21 @@ module _ (claims· : Claims) where
 
       module _ (before· : After-begin-arg2) where
         abbrev pub After-begin·own : Type 0
-        After-begin·own = Called.Called ps·0 r·0 (claims· .1) T15 (Num.vAt 5 λ x. x, (record { pos = 9; ty = Syntax.tyRef Syntax.erased Syntax.mut El.word; ref = λ x. x; }, (record { pos = 11; ty = Syntax.tyRef Syntax.erased Syntax.mut
-            El.word; ref = λ x. x; }, (record { pos = 13; ty = Syntax.tyRef Syntax.erased Syntax.mut El.word; ref = λ x. x; }, (record { pos = 4; st = List.[]; d = 0; at = λ x. x }, tt))))) (m11 (before· .before) (before· .begin-arg2
+        After-begin·own = Called.Called ps·0 r·0 (claims· .1) T15 (
+          Num.vAt 5 λ x. x,
+          (
+            record { pos = 9; ty = Syntax.tyRef Syntax.erased Syntax.mut El.word; ref = λ x. x },
+            (
+              record {
+                pos = 11;
+                ty = Syntax.tyRef Syntax.erased Syntax.mut
+                    El.word;
+                ref = λ x. x;
+              },
+              (record { pos = 13; ty = Syntax.tyRef Syntax.erased Syntax.mut El.word; ref = λ x. x }, (record { pos = 4; st = List.[]; d = 0; at = λ x. x }, tt)),
+            ),
+          ),
+        ) (m11 (before· .before) (before· .begin-arg2
             .given))
 
       pub record After-begin : Type 0 where
@@ -1471,8 +2375,21 @@ module _ (claims· : Claims) where
         pub begin : After-begin·own before
 
       abbrev pub After-begin·gave : (c : After-begin) → s14 (c .before .before .before .before .before .before .blocks) .gives (m11 (c .before .before) (c .before .begin-arg2 .given))
-      After-begin·gave = λ c. Called.given ps·0 r·0 (claims· .1) T15 (Num.vAt 5 λ x. x, (record { pos = 9; ty = Syntax.tyRef Syntax.erased Syntax.mut El.word; ref = λ x. x; }, (record { pos = 11; ty = Syntax.tyRef Syntax.erased
-          Syntax.mut El.word; ref = λ x. x; }, (record { pos = 13; ty = Syntax.tyRef Syntax.erased Syntax.mut El.word; ref = λ x. x; }, (record { pos = 4; st = List.[]; d = 0; at = λ x. x }, tt))))) (m11 (c .before .before) (c .before
+      After-begin·gave = λ c. Called.given ps·0 r·0 (claims· .1) T15 (
+        Num.vAt 5 λ x. x,
+        (
+          record { pos = 9; ty = Syntax.tyRef Syntax.erased Syntax.mut El.word; ref = λ x. x },
+          (
+            record {
+              pos = 11;
+              ty = Syntax.tyRef Syntax.erased
+                  Syntax.mut El.word;
+              ref = λ x. x;
+            },
+            (record { pos = 13; ty = Syntax.tyRef Syntax.erased Syntax.mut El.word; ref = λ x. x }, (record { pos = 4; st = List.[]; d = 0; at = λ x. x }, tt)),
+          ),
+        ),
+      ) (m11 (c .before .before) (c .before
           .begin-arg2 .given)) (c .begin)
 
       abbrev pub m13 : (before : After-begin-arg2) → (given : s14 (before .before .before .before .before .before .blocks) .gives (m11 (before .before) (before .begin-arg2 .given))) → Typed.Mo T17
@@ -1577,8 +2494,18 @@ module _ (claims· : Claims) where
 
       module _ (before· : After-words3) where
         abbrev pub After-save·own : Type 0
-        After-save·own = Called.Called ps·1 r·1 (claims· .3) T34 (record { pos = 16; ty = Syntax.tyRef Syntax.erased Syntax.mut El.named; ref = λ x. x; }, (record { pos = 18; ty = Syntax.tyRef Syntax.erased Syntax.imm El.word; ref = λ x.
-            x; }, (Num.vFld 7 (List._∷_ (Syntax.field 1) List.[]) 1088 λ x. Begun.struct .as-values x .1 .0, tt))) (m22 (before· .before) (before· .words3 .given))
+        After-save·own = Called.Called ps·1 r·1 (claims· .3) T34 (
+          record { pos = 16; ty = Syntax.tyRef Syntax.erased Syntax.mut El.named; ref = λ x. x },
+          (
+            record {
+              pos = 18;
+              ty = Syntax.tyRef Syntax.erased Syntax.imm El.word;
+              ref = λ x.
+                  x;
+            },
+            (Num.vFld 7 (List._∷_ (Syntax.field 1) List.[]) 1088 λ x. Begun.struct .as-values x .1 .0, tt),
+          ),
+        ) (m22 (before· .before) (before· .words3 .given))
 
       pub record After-save : Type 0 where
         pub before : After-words3
@@ -1586,8 +2513,18 @@ module _ (claims· : Claims) where
 
       abbrev pub After-save·gave : (c : After-save) → s33 (c .before .before .before .before .before .before .before .before .before .before .before .before .before .before .blocks) .gives (m22 (c .before .before) (c .before .words3
           .given))
-      After-save·gave = λ c. Called.given ps·1 r·1 (claims· .3) T34 (record { pos = 16; ty = Syntax.tyRef Syntax.erased Syntax.mut El.named; ref = λ x. x; }, (record { pos = 18; ty = Syntax.tyRef Syntax.erased Syntax.imm El.word; ref = λ
-          x. x; }, (Num.vFld 7 (List._∷_ (Syntax.field 1) List.[]) 1088 λ x. Begun.struct .as-values x .1 .0, tt))) (m22 (c .before .before) (c .before .words3 .given)) (c .save)
+      After-save·gave = λ c. Called.given ps·1 r·1 (claims· .3) T34 (
+        record { pos = 16; ty = Syntax.tyRef Syntax.erased Syntax.mut El.named; ref = λ x. x },
+        (
+          record {
+            pos = 18;
+            ty = Syntax.tyRef Syntax.erased Syntax.imm El.word;
+            ref = λ
+                x. x;
+          },
+          (Num.vFld 7 (List._∷_ (Syntax.field 1) List.[]) 1088 λ x. Begun.struct .as-values x .1 .0, tt),
+        ),
+      ) (m22 (c .before .before) (c .before .words3 .given)) (c .save)
 
       abbrev pub m24 : (before : After-words3) → (given : s33 (before .before .before .before .before .before .before .before .before .before .before .before .before .before .blocks) .gives (m22 (before .before) (before .words3
           .given))) → Typed.Mo T36
@@ -1664,48 +2601,254 @@ module _ (claims· : Claims) where
         lay2 : (c : After-save) → at12 (c .before .before .before .before .before .before .before .before .before .before .before .before .before .before .blocks) (W0 (c .before .before .before .before .before .before .before .before
             .before .before .before .before .before .before .κs) (c .before .before .before .before .before .before .before .before .before .before .before .before .before .before .args) (c .before .before .before .before .before
             .before .before .before .before .before .before .before .before .before .blocks)) (m23 (c .before) (After-save·gave c))
-        lay2 = λ c. (Path'.refl, λ g. (tt, λ g'. ((MutSlice.fix-len (Row.get 1 (T47 .locals) (m31 record { before = record { before = c .before; save = c .save }; tasks = record { given = g }; } g') .ptr) (Row.get 1 (T47 .locals) (m31
-            record { before = record { before = c .before; save = c .save }; tasks = record { given = g }; } g') .name) (Row.get 1 (T47 .locals) (m31 record { before = record { before = c .before; save = c .save }; tasks = record {
-            given = g }; } g') .now) (dens (c .before .before .before .before .before .before .before .before .before .before .before .before .before .before .κs) (c .before .before .before .before .before .before .before .before
-            .before .before .before .before .before .before .args) .0 .now) (same-length record { before = record { before = record { before = c .before; save = c .save }; tasks = record { given = g }; }; result = record { given = g'
-            }; }), (MutSlice.fix-len (Row.get 2 (T47 .locals) (m31 record { before = record { before = c .before; save = c .save }; tasks = record { given = g }; } g') .ptr) (Row.get 2 (T47 .locals) (m31 record { before = record {
-            before = c .before; save = c .save }; tasks = record { given = g }; } g') .name) (Row.get 2 (T47 .locals) (m31 record { before = record { before = c .before; save = c .save }; tasks = record { given = g }; } g') .now) (dens
-            (c .before .before .before .before .before .before .before .before .before .before .before .before .before .before .κs) (c .before .before .before .before .before .before .before .before .before .before .before .before
-            .before .before .args) .1 .0 .now) (same-length-2 record { before = record { before = record { before = c .before; save = c .save }; tasks = record { given = g }; }; result = record { given = g' }; }), (MutSlice.fix-len
-            (Row.get 3 (T47 .locals) (m31 record { before = record { before = c .before; save = c .save }; tasks = record { given = g }; } g') .ptr) (Row.get 3 (T47 .locals) (m31 record { before = record { before = c .before; save = c
-            .save }; tasks = record { given = g }; } g') .name) (Row.get 3 (T47 .locals) (m31 record { before = record { before = c .before; save = c .save }; tasks = record { given = g }; } g') .now) (dens (c .before .before .before
-            .before .before .before .before .before .before .before .before .before .before .before .κs) (c .before .before .before .before .before .before .before .before .before .before .before .before .before .before .args) .1 .1 .0
-            .now) (same-length-3 record { before = record { before = record { before = c .before; save = c .save }; tasks = record { given = g }; }; result = record { given = g' }; }), (tt, tt)))), returns record { before = record {
-            before = record { before = c .before; save = c .save }; tasks = record { given = g }; }; result = record { given = g' }; })))
+        lay2 = λ c. (
+          Path'.refl,
+          λ g. (
+            tt,
+            λ g'. (
+              (
+                MutSlice.fix-len (Row.get 1 (T47 .locals) (m31 record { before = record { before = c .before; save = c .save }; tasks = record { given = g } } g') .ptr) (Row.get 1 (T47 .locals) (m31
+                    record { before = record { before = c .before; save = c .save }; tasks = record { given = g } } g') .name) (Row.get 1 (T47 .locals) (m31 record {
+                      before = record { before = c .before; save = c .save };
+                      tasks = record {
+                        given = g;
+                      };
+                    } g') .now) (dens (c .before .before .before .before .before .before .before .before .before .before .before .before .before .before .κs) (c .before .before .before .before .before .before .before .before
+                    .before .before .before .before .before .before .args) .0 .now) (same-length record {
+                      before = record { before = record { before = c .before; save = c .save }; tasks = record { given = g } };
+                      result = record {
+                        given = g';
+                      };
+                    }),
+                (
+                  MutSlice.fix-len (Row.get 2 (T47 .locals) (m31 record { before = record { before = c .before; save = c .save }; tasks = record { given = g } } g') .ptr) (Row.get 2 (T47 .locals) (m31 record {
+                    before = record {
+                      before = c .before;
+                      save = c .save;
+                    };
+                    tasks = record { given = g };
+                  } g') .name) (Row.get 2 (T47 .locals) (m31 record { before = record { before = c .before; save = c .save }; tasks = record { given = g } } g') .now) (dens
+                      (c .before .before .before .before .before .before .before .before .before .before .before .before .before .before .κs) (c .before .before .before .before .before .before .before .before .before .before .before .before
+                      .before .before .args) .1 .0 .now) (same-length-2 record { before = record { before = record { before = c .before; save = c .save }; tasks = record { given = g } }; result = record { given = g' } }),
+                  (
+                    MutSlice.fix-len
+                        (Row.get 3 (T47 .locals) (m31 record { before = record { before = c .before; save = c .save }; tasks = record { given = g } } g') .ptr) (Row.get 3 (T47 .locals) (m31 record {
+                          before = record {
+                            before = c .before;
+                            save = c
+                                .save;
+                          };
+                          tasks = record { given = g };
+                        } g') .name) (Row.get 3 (T47 .locals) (m31 record { before = record { before = c .before; save = c .save }; tasks = record { given = g } } g') .now) (dens (c .before .before .before
+                        .before .before .before .before .before .before .before .before .before .before .before .κs) (c .before .before .before .before .before .before .before .before .before .before .before .before .before .before .args) .1 .1 .0
+                        .now) (same-length-3 record { before = record { before = record { before = c .before; save = c .save }; tasks = record { given = g } }; result = record { given = g' } }),
+                    (tt, tt),
+                  ),
+                ),
+              ),
+              returns record {
+                before = record {
+                  before = record { before = c .before; save = c .save };
+                  tasks = record { given = g };
+                };
+                result = record { given = g' };
+              },
+            ),
+          ),
+        )
 
         lay1 : (c : After-begin) → at31 (c .before .before .before .before .before .before .blocks) (W0 (c .before .before .before .before .before .before .κs) (c .before .before .before .before .before .before .args) (c .before
             .before .before .before .before .before .blocks)) (m12 (c .before) (After-begin·gave c))
-        lay1 = λ c. (Path'.refl, λ g. (Path'.refl, λ g'. λ g''. (Path'.refl, λ g'3. λ g'4. λ g'5. (Path'.refl, λ g'6. (Relend.count-is T33 17 18 (λ x. x) (λ u. 4104) (m21 record { before = record { before = record { before = record {
-            before = record { before = record { before = record { before = c .before; begin = c .begin }; words2 = record { given = g }; }; objects = record { given = g' }; }; slice-known3 = record { given = g'' }; }; places = record {
-            given = g'3 }; }; slice-known4 = record { given = g'4 }; }; save-arg = record { given = g'5 }; } g'6) (slice-aggregate-save record { before = record { before = record { before = record { before = record { before = record {
-            before = record { before = record { before = c .before; begin = c .begin }; words2 = record { given = g }; }; objects = record { given = g' }; }; slice-known3 = record { given = g'' }; }; places = record { given = g'3 }; };
-            slice-known4 = record { given = g'4 }; }; save-arg = record { given = g'5 }; }; words3 = record { given = g'6 }; }), (save-requires record { before = record { before = record { before = record { before = record { before =
-            record { before = record { before = record { before = c .before; begin = c .begin }; words2 = record { given = g }; }; objects = record { given = g' }; }; slice-known3 = record { given = g'' }; }; places = record { given =
-            g'3 }; }; slice-known4 = record { given = g'4 }; }; save-arg = record { given = g'5 }; }; words3 = record { given = g'6 }; }, λ g'7. lay2 record { before = record { before = record { before = record { before = record {
-            before = record { before = record { before = record { before = record { before = c .before; begin = c .begin }; words2 = record { given = g }; }; objects = record { given = g' }; }; slice-known3 = record { given = g'' }; };
-            places = record { given = g'3 }; }; slice-known4 = record { given = g'4 }; }; save-arg = record { given = g'5 }; }; words3 = record { given = g'6 }; }; save = Called.called ps·1 r·1 (claims· .3) T34 (record { pos = 16; ty =
-            Syntax.tyRef Syntax.erased Syntax.mut El.named; ref = λ x. x; }, (record { pos = 18; ty = Syntax.tyRef Syntax.erased Syntax.imm El.word; ref = λ x. x; }, (Num.vFld 7 (List._∷_ (Syntax.field 1) List.[]) 1088 λ x. Begun.struct
-            .as-values x .1 .0, tt))) (m22 record { before = record { before = record { before = record { before = record { before = record { before = record { before = c .before; begin = c .begin }; words2 = record { given = g }; };
-            objects = record { given = g' }; }; slice-known3 = record { given = g'' }; }; places = record { given = g'3 }; }; slice-known4 = record { given = g'4 }; }; save-arg = record { given = g'5 }; } g'6) g'7; }))))))
+        lay1 = λ c. (
+          Path'.refl,
+          λ g. (
+            Path'.refl,
+            λ g'. λ g''. (
+              Path'.refl,
+              λ g'3. λ g'4. λ g'5. (
+                Path'.refl,
+                λ g'6. (
+                  Relend.count-is T33 17 18 (λ x. x) (λ u. 4104) (m21 record {
+                    before = record {
+                      before = record {
+                        before = record {
+                          before = record { before = record { before = record { before = c .before; begin = c .begin }; words2 = record { given = g } }; objects = record { given = g' } };
+                          slice-known3 = record { given = g'' };
+                        };
+                        places = record {
+                          given = g'3;
+                        };
+                      };
+                      slice-known4 = record { given = g'4 };
+                    };
+                    save-arg = record { given = g'5 };
+                  } g'6) (slice-aggregate-save record {
+                    before = record {
+                      before = record {
+                        before = record {
+                          before = record {
+                            before = record {
+                              before = record { before = record { before = c .before; begin = c .begin }; words2 = record { given = g } };
+                              objects = record { given = g' };
+                            };
+                            slice-known3 = record { given = g'' };
+                          };
+                          places = record { given = g'3 };
+                        };
+                        slice-known4 = record { given = g'4 };
+                      };
+                      save-arg = record { given = g'5 };
+                    };
+                    words3 = record { given = g'6 };
+                  }),
+                  (
+                    save-requires record {
+                      before = record {
+                        before = record {
+                          before = record {
+                            before = record {
+                              before =
+                                  record { before = record { before = record { before = c .before; begin = c .begin }; words2 = record { given = g } }; objects = record { given = g' } };
+                              slice-known3 = record { given = g'' };
+                            };
+                            places = record {
+                              given =
+                                  g'3;
+                            };
+                          };
+                          slice-known4 = record { given = g'4 };
+                        };
+                        save-arg = record { given = g'5 };
+                      };
+                      words3 = record { given = g'6 };
+                    },
+                    λ g'7. lay2 record {
+                      before = record {
+                        before = record {
+                          before = record {
+                            before = record {
+                              before = record { before = record { before = record { before = record { before = c .before; begin = c .begin }; words2 = record { given = g } }; objects = record { given = g' } }; slice-known3 = record { given = g'' } };
+                              places = record { given = g'3 };
+                            };
+                            slice-known4 = record { given = g'4 };
+                          };
+                          save-arg = record { given = g'5 };
+                        };
+                        words3 = record { given = g'6 };
+                      };
+                      save = Called.called ps·1 r·1 (claims· .3) T34 (
+                        record {
+                          pos = 16;
+                          ty =
+                              Syntax.tyRef Syntax.erased Syntax.mut El.named;
+                          ref = λ x. x;
+                        },
+                        (
+                          record { pos = 18; ty = Syntax.tyRef Syntax.erased Syntax.imm El.word; ref = λ x. x },
+                          (
+                            Num.vFld 7 (List._∷_ (Syntax.field 1) List.[]) 1088 λ x. Begun.struct
+                                .as-values x .1 .0,
+                            tt,
+                          ),
+                        ),
+                      ) (m22 record {
+                        before = record {
+                          before = record {
+                            before = record {
+                              before = record {
+                                before = record { before = record { before = c .before; begin = c .begin }; words2 = record { given = g } };
+                                objects = record { given = g' };
+                              };
+                              slice-known3 = record { given = g'' };
+                            };
+                            places = record { given = g'3 };
+                          };
+                          slice-known4 = record { given = g'4 };
+                        };
+                        save-arg = record { given = g'5 };
+                      } g'6) g'7;
+                    },
+                  ),
+                ),
+              ),
+            ),
+          ),
+        )
 
         pub laid : (c : Start) → at46 (c .blocks) (W0 (c .κs) (c .args) (c .blocks)) (m0 (c .κs) (c .args) (c .blocks))
-        laid = λ c. λ g. λ g'. λ g''. (Relend.count-is T8 8 9 (λ x. x) (λ u. 4104) (m6 record { before = record { before = c; slice-known = record { given = g } }; slice-known2 = record { given = g' }; } g'') (slice-aggregate-begin
-            record { before = record { before = record { before = c; slice-known = record { given = g } }; slice-known2 = record { given = g' }; }; words = record { given = g'' }; }), λ g'3. (Path'.refl, λ g'4. (Path'.refl,
-            (begin-requires record { before = record { before = record { before = record { before = record { before = c; slice-known = record { given = g } }; slice-known2 = record { given = g' }; }; words = record { given = g'' }; };
-            begin-arg = record { given = g'3 }; }; begin-arg2 = record { given = g'4 }; }, λ g'5. lay1 record { before = record { before = record { before = record { before = record { before = record { before = c; slice-known = record
-            { given = g } }; slice-known2 = record { given = g' }; }; words = record { given = g'' }; }; begin-arg = record { given = g'3 }; }; begin-arg2 = record { given = g'4 }; }; begin = Called.called ps·0 r·0 (claims· .1) T15
-            (Num.vAt 5 λ x. x, (record { pos = 9; ty = Syntax.tyRef Syntax.erased Syntax.mut El.word; ref = λ x. x; }, (record { pos = 11; ty = Syntax.tyRef Syntax.erased Syntax.mut El.word; ref = λ x. x; }, (record { pos = 13; ty =
-            Syntax.tyRef Syntax.erased Syntax.mut El.word; ref = λ x. x; }, (record { pos = 4; st = List.[]; d = 0; at = λ x. x }, tt))))) (m11 record { before = record { before = record { before = record { before = c; slice-known =
-            record { given = g } }; slice-known2 = record { given = g' }; }; words = record { given = g'' }; }; begin-arg = record { given = g'3 }; } g'4) g'5; }))))
+        laid = λ c. λ g. λ g'. λ g''. (
+          Relend.count-is T8 8 9 (λ x. x) (λ u. 4104) (m6 record { before = record { before = c; slice-known = record { given = g } }; slice-known2 = record { given = g' } } g'') (slice-aggregate-begin
+              record { before = record { before = record { before = c; slice-known = record { given = g } }; slice-known2 = record { given = g' } }; words = record { given = g'' } }),
+          λ g'3. (
+            Path'.refl,
+            λ g'4. (
+              Path'.refl,
+              (
+                begin-requires record {
+                  before = record {
+                    before = record { before = record { before = record { before = c; slice-known = record { given = g } }; slice-known2 = record { given = g' } }; words = record { given = g'' } };
+                    begin-arg = record { given = g'3 };
+                  };
+                  begin-arg2 = record { given = g'4 };
+                },
+                λ g'5. lay1 record {
+                  before = record {
+                    before = record {
+                      before = record {
+                        before = record {
+                          before = record {
+                            before = c;
+                            slice-known = record
+                                { given = g };
+                          };
+                          slice-known2 = record { given = g' };
+                        };
+                        words = record { given = g'' };
+                      };
+                      begin-arg = record { given = g'3 };
+                    };
+                    begin-arg2 = record { given = g'4 };
+                  };
+                  begin = Called.called ps·0 r·0 (claims· .1) T15 (
+                    Num.vAt 5 λ x. x,
+                    (
+                      record { pos = 9; ty = Syntax.tyRef Syntax.erased Syntax.mut El.word; ref = λ x. x },
+                      (
+                        record { pos = 11; ty = Syntax.tyRef Syntax.erased Syntax.mut El.word; ref = λ x. x },
+                        (
+                          record {
+                            pos = 13;
+                            ty =
+                                Syntax.tyRef Syntax.erased Syntax.mut El.word;
+                            ref = λ x. x;
+                          },
+                          (record { pos = 4; st = List.[]; d = 0; at = λ x. x }, tt),
+                        ),
+                      ),
+                    ),
+                  ) (m11 record {
+                    before = record {
+                      before = record {
+                        before = record {
+                          before = c;
+                          slice-known =
+                              record { given = g };
+                        };
+                        slice-known2 = record { given = g' };
+                      };
+                      words = record { given = g'' };
+                    };
+                    begin-arg = record { given = g'3 };
+                  } g'4) g'5;
+                },
+              ),
+            ),
+          ),
+        )
 
         module _ (κs : Lifetimes.Lfts 3) (qs : Lifetimes.Shares 3) where
           pub asked : (a : Kinds.Dens κs ps) → (good : Kinds.GoodsP κs ps a) → (pre : Pre· κs a) → (bs : List.List Nat.ℕ) → Φ bs (Any.wantQ 3 ps r xs m κs qs a (Post· κs a)) (Function.init 3 ps r xs m κs qs a)
-          asked = λ a good pre bs. laid record { κs = κs; args = record { tasks = a .0; objects = a .1 .0; places = a .1 .1 .0; queue = a .1 .1 .1 .0; }; blocks = bs; good = good; pre = pre; }
+          asked = λ a good pre bs. laid record { κs = κs; args = record { tasks = a .0; objects = a .1 .0; places = a .1 .1 .0; queue = a .1 .1 .1 .0 }; blocks = bs; good = good; pre = pre }
 
         module _ {M : Type 1} (𝓤 : URA.URA M) (H : Wp.Heap 𝓤) (A : Atoms.Atoms 𝓤) (W : Kit.Given 𝓤 H A) (𝓣 : Wp.Tables 𝓤 H) (known0 : Plain.Known 𝓤 H A W 𝓣 3 ps·0 r·0 (claims· .0) (claims· .1) "records_words::begin") (known1 :
             Plain.Known 𝓤 H A W 𝓣 2 ps·1 r·1 (claims· .2) (claims· .3) "records_tasks::save") where

@@ -74,19 +74,62 @@ use Rattle.records_session.proofs.Made.Element as El
 
 abbrev pub ps : List.List (Kinds.PK 6)
 ps = List._∷_ (MutSlice.pMutS El.row 0 tt) (List._∷_ (MutSlice.pMutS (Referent.rtF (Referent.fInt Syntax.w64)) 1 tt) (List._∷_ (MutSlice.pMutS (Referent.rtF (Referent.fInt Syntax.w64)) 2 tt) (List._∷_ (MutSlice.pMutS (Referent.rtF
-    (Referent.fInt Syntax.w64)) 3 tt) (List._∷_ (Value.pVal record { ty = Declared'.row ReadyQueue.the-type; one = Path'.refl; val = Laws'5.val ReadyQueue.the-type Laws.the-laws; tells = Laws'5.tells ReadyQueue.the-type Laws.the-laws;
-    still = Laws'5.still ReadyQueue.the-type Laws.the-copy Exit.yes; row = Rows'.whole (Declared'.row ReadyQueue.the-type); rd = λ x. x; mk = λ x. x; } λ M 𝓤 H A W. record { copies = Laws'5.copy ReadyQueue.the-type Laws.the-copy 𝓤 H A
-    W; lawful = Laws'5.lawful ReadyQueue.the-type Laws.the-laws 𝓤 H A W; makes = Laws'5.makes ReadyQueue.the-type Laws.the-plain 𝓤 H A; in-mem = Local.mem-whole 𝓤 H A W (Declared'.row ReadyQueue.the-type); of-mem = Local.whole-mem 𝓤 H
-    A W (Declared'.row ReadyQueue.the-type); }) (List._∷_ (Value.pVal record { ty = Declared.row Event.the-type; one = Path'.refl; val = Laws'4.val Event.the-type Laws'3.the-laws; tells = Laws'4.tells Event.the-type Laws'3.the-laws;
-    still = Laws'4.still Event.the-type Laws'3.the-copy Exit.yes; row = Rows'.whole (Declared.row Event.the-type); rd = λ x. x; mk = λ x. x; } λ M 𝓤 H A W. record { copies = Laws'4.copy Event.the-type Laws'3.the-copy 𝓤 H A W; lawful =
-    Laws'4.lawful Event.the-type Laws'3.the-laws 𝓤 H A W tt; makes = Laws'4.makes Event.the-type Laws'3.the-plain 𝓤 H A; in-mem = Local.mem-whole 𝓤 H A W (Declared.row Event.the-type); of-mem = Local.whole-mem 𝓤 H A W (Declared.row
-    Event.the-type); }) (List._∷_ (ShrSlice.pShrS (Referent.rtF (Referent.fInt Syntax.w16)) 4 tt) (List._∷_ (ShrSlice.pShrS (Referent.rtF (Referent.fInt Syntax.w8)) 5 tt) List.[])))))))
+    (Referent.fInt Syntax.w64)) 3 tt) (List._∷_ (Value.pVal record {
+      ty = Declared'.row ReadyQueue.the-type;
+      one = Path'.refl;
+      val = Laws'5.val ReadyQueue.the-type Laws.the-laws;
+      tells = Laws'5.tells ReadyQueue.the-type Laws.the-laws;
+      still = Laws'5.still ReadyQueue.the-type Laws.the-copy Exit.yes;
+      row = Rows'.whole (Declared'.row ReadyQueue.the-type);
+      rd = λ x. x;
+      mk = λ x. x;
+    } λ M 𝓤 H A W. record {
+      copies = Laws'5.copy ReadyQueue.the-type Laws.the-copy 𝓤 H A
+          W;
+      lawful = Laws'5.lawful ReadyQueue.the-type Laws.the-laws 𝓤 H A W;
+      makes = Laws'5.makes ReadyQueue.the-type Laws.the-plain 𝓤 H A;
+      in-mem = Local.mem-whole 𝓤 H A W (Declared'.row ReadyQueue.the-type);
+      of-mem = Local.whole-mem 𝓤 H
+          A W (Declared'.row ReadyQueue.the-type);
+    }) (List._∷_ (Value.pVal record {
+      ty = Declared.row Event.the-type;
+      one = Path'.refl;
+      val = Laws'4.val Event.the-type Laws'3.the-laws;
+      tells = Laws'4.tells Event.the-type Laws'3.the-laws;
+      still = Laws'4.still Event.the-type Laws'3.the-copy Exit.yes;
+      row = Rows'.whole (Declared.row Event.the-type);
+      rd = λ x. x;
+      mk = λ x. x;
+    } λ M 𝓤 H A W. record {
+      copies = Laws'4.copy Event.the-type Laws'3.the-copy 𝓤 H A W;
+      lawful =
+          Laws'4.lawful Event.the-type Laws'3.the-laws 𝓤 H A W tt;
+      makes = Laws'4.makes Event.the-type Laws'3.the-plain 𝓤 H A;
+      in-mem = Local.mem-whole 𝓤 H A W (Declared.row Event.the-type);
+      of-mem = Local.whole-mem 𝓤 H A W (Declared.row
+          Event.the-type);
+    }) (List._∷_ (ShrSlice.pShrS (Referent.rtF (Referent.fInt Syntax.w16)) 4 tt) (List._∷_ (ShrSlice.pShrS (Referent.rtF (Referent.fInt Syntax.w8)) 5 tt) List.[])))))))
 
 abbrev pub r : Kinds.RK 6
-r = Value.rVal record { ty = Declared'.row Answered.the-type; one = Path'.refl; val = Laws'5.val Answered.the-type Laws''.the-laws; tells = Laws'5.tells Answered.the-type Laws''.the-laws; still = Laws'5.still Answered.the-type
-    Laws''.the-copy Exit.yes; row = Rows'.whole (Declared'.row Answered.the-type); rd = λ x. x; mk = λ x. x; } λ M 𝓤 H A W. record { copies = Laws'5.copy Answered.the-type Laws''.the-copy 𝓤 H A W; lawful = Laws'5.lawful
-    Answered.the-type Laws''.the-laws 𝓤 H A W; makes = Laws'5.makes Answered.the-type Laws''.the-plain 𝓤 H A; in-mem = Local.mem-whole 𝓤 H A W (Declared'.row Answered.the-type); of-mem = Local.whole-mem 𝓤 H A W (Declared'.row
-    Answered.the-type); }
+r = Value.rVal record {
+  ty = Declared'.row Answered.the-type;
+  one = Path'.refl;
+  val = Laws'5.val Answered.the-type Laws''.the-laws;
+  tells = Laws'5.tells Answered.the-type Laws''.the-laws;
+  still = Laws'5.still Answered.the-type
+      Laws''.the-copy Exit.yes;
+  row = Rows'.whole (Declared'.row Answered.the-type);
+  rd = λ x. x;
+  mk = λ x. x;
+} λ M 𝓤 H A W. record {
+  copies = Laws'5.copy Answered.the-type Laws''.the-copy 𝓤 H A W;
+  lawful = Laws'5.lawful
+      Answered.the-type Laws''.the-laws 𝓤 H A W;
+  makes = Laws'5.makes Answered.the-type Laws''.the-plain 𝓤 H A;
+  in-mem = Local.mem-whole 𝓤 H A W (Declared'.row Answered.the-type);
+  of-mem = Local.whole-mem 𝓤 H A W (Declared'.row
+      Answered.the-type);
+}
 
 abbrev pub xs : List.List Syntax.Ty
 xs = List._∷_ El.word (List._∷_ (Syntax.tyInt Syntax.w16) (List._∷_ (Syntax.tyArray El.word 4104) (List._∷_ El.Worked (List._∷_ (Syntax.tyRef Syntax.erased Syntax.imm El.word) (List._∷_ (Syntax.tyStruct (List._∷_ 38 (List._∷_ 91 (List._∷_
@@ -117,19 +160,64 @@ r·1 = Array.rArr (Array.eInt Syntax.w64) (Array.eInt-laws Syntax.w64) 4104
 
 abbrev pub ps·2 : List.List (Kinds.PK 6)
 ps·2 = List._∷_ (Num.pNum Syntax.w64) (List._∷_ (MutSlice.pMutS (Referent.rtF (Referent.fInt Syntax.w64)) 0 tt) (List._∷_ (MutSlice.pMutS (Referent.rtF (Referent.fInt Syntax.w64)) 1 tt) (List._∷_ (MutSlice.pMutS (Referent.rtF
-    (Referent.fInt Syntax.w64)) 2 tt) (List._∷_ (MutSlice.pMutS (Referent.rtF (Referent.fInt Syntax.w64)) 3 tt) (List._∷_ (Value.pVal record { ty = Declared'.row ReadyQueue.the-type; one = Path'.refl; val = Laws'5.val
-    ReadyQueue.the-type Laws.the-laws; tells = Laws'5.tells ReadyQueue.the-type Laws.the-laws; still = Laws'5.still ReadyQueue.the-type Laws.the-copy Exit.yes; row = Rows'.whole (Declared'.row ReadyQueue.the-type); rd = λ x. x; mk = λ
-    x. x; } λ M 𝓤 H A W. record { copies = Laws'5.copy ReadyQueue.the-type Laws.the-copy 𝓤 H A W; lawful = Laws'5.lawful ReadyQueue.the-type Laws.the-laws 𝓤 H A W; makes = Laws'5.makes ReadyQueue.the-type Laws.the-plain 𝓤 H A; in-mem =
-    Local.mem-whole 𝓤 H A W (Declared'.row ReadyQueue.the-type); of-mem = Local.whole-mem 𝓤 H A W (Declared'.row ReadyQueue.the-type); }) (List._∷_ (Value.pVal record { ty = Declared.row Event.the-type; one = Path'.refl; val =
-    Laws'4.val Event.the-type Laws'3.the-laws; tells = Laws'4.tells Event.the-type Laws'3.the-laws; still = Laws'4.still Event.the-type Laws'3.the-copy Exit.yes; row = Rows'.whole (Declared.row Event.the-type); rd = λ x. x; mk = λ x.
-    x; } λ M 𝓤 H A W. record { copies = Laws'4.copy Event.the-type Laws'3.the-copy 𝓤 H A W; lawful = Laws'4.lawful Event.the-type Laws'3.the-laws 𝓤 H A W tt; makes = Laws'4.makes Event.the-type Laws'3.the-plain 𝓤 H A; in-mem =
-    Local.mem-whole 𝓤 H A W (Declared.row Event.the-type); of-mem = Local.whole-mem 𝓤 H A W (Declared.row Event.the-type); }) (List._∷_ (ShrSlice.pShrS (Referent.rtF (Referent.fInt Syntax.w16)) 4 tt) (List._∷_ (ShrSlice.pShrS
+    (Referent.fInt Syntax.w64)) 2 tt) (List._∷_ (MutSlice.pMutS (Referent.rtF (Referent.fInt Syntax.w64)) 3 tt) (List._∷_ (Value.pVal record {
+      ty = Declared'.row ReadyQueue.the-type;
+      one = Path'.refl;
+      val = Laws'5.val
+          ReadyQueue.the-type Laws.the-laws;
+      tells = Laws'5.tells ReadyQueue.the-type Laws.the-laws;
+      still = Laws'5.still ReadyQueue.the-type Laws.the-copy Exit.yes;
+      row = Rows'.whole (Declared'.row ReadyQueue.the-type);
+      rd = λ x. x;
+      mk = λ
+          x. x;
+    } λ M 𝓤 H A W. record {
+      copies = Laws'5.copy ReadyQueue.the-type Laws.the-copy 𝓤 H A W;
+      lawful = Laws'5.lawful ReadyQueue.the-type Laws.the-laws 𝓤 H A W;
+      makes = Laws'5.makes ReadyQueue.the-type Laws.the-plain 𝓤 H A;
+      in-mem =
+          Local.mem-whole 𝓤 H A W (Declared'.row ReadyQueue.the-type);
+      of-mem = Local.whole-mem 𝓤 H A W (Declared'.row ReadyQueue.the-type);
+    }) (List._∷_ (Value.pVal record {
+      ty = Declared.row Event.the-type;
+      one = Path'.refl;
+      val =
+          Laws'4.val Event.the-type Laws'3.the-laws;
+      tells = Laws'4.tells Event.the-type Laws'3.the-laws;
+      still = Laws'4.still Event.the-type Laws'3.the-copy Exit.yes;
+      row = Rows'.whole (Declared.row Event.the-type);
+      rd = λ x. x;
+      mk = λ x.
+          x;
+    } λ M 𝓤 H A W. record {
+      copies = Laws'4.copy Event.the-type Laws'3.the-copy 𝓤 H A W;
+      lawful = Laws'4.lawful Event.the-type Laws'3.the-laws 𝓤 H A W tt;
+      makes = Laws'4.makes Event.the-type Laws'3.the-plain 𝓤 H A;
+      in-mem =
+          Local.mem-whole 𝓤 H A W (Declared.row Event.the-type);
+      of-mem = Local.whole-mem 𝓤 H A W (Declared.row Event.the-type);
+    }) (List._∷_ (ShrSlice.pShrS (Referent.rtF (Referent.fInt Syntax.w16)) 4 tt) (List._∷_ (ShrSlice.pShrS
     (Referent.rtF (Referent.fInt Syntax.w8)) 5 tt) List.[]))))))))
 
 abbrev pub r·2 : Kinds.RK 6
-r·2 = Value.rVal record { ty = Declared'.row Worked.the-type; one = Path'.refl; val = Laws'5.val Worked.the-type Laws'.the-laws; tells = Laws'5.tells Worked.the-type Laws'.the-laws; still = Laws'5.still Worked.the-type Laws'.the-copy
-    Exit.yes; row = Rows'.whole (Declared'.row Worked.the-type); rd = λ x. x; mk = λ x. x; } λ M 𝓤 H A W. record { copies = Laws'5.copy Worked.the-type Laws'.the-copy 𝓤 H A W; lawful = Laws'5.lawful Worked.the-type Laws'.the-laws 𝓤 H A
-    W; makes = Laws'5.makes Worked.the-type Laws'.the-plain 𝓤 H A; in-mem = Local.mem-whole 𝓤 H A W (Declared'.row Worked.the-type); of-mem = Local.whole-mem 𝓤 H A W (Declared'.row Worked.the-type); }
+r·2 = Value.rVal record {
+  ty = Declared'.row Worked.the-type;
+  one = Path'.refl;
+  val = Laws'5.val Worked.the-type Laws'.the-laws;
+  tells = Laws'5.tells Worked.the-type Laws'.the-laws;
+  still = Laws'5.still Worked.the-type Laws'.the-copy
+      Exit.yes;
+  row = Rows'.whole (Declared'.row Worked.the-type);
+  rd = λ x. x;
+  mk = λ x. x;
+} λ M 𝓤 H A W. record {
+  copies = Laws'5.copy Worked.the-type Laws'.the-copy 𝓤 H A W;
+  lawful = Laws'5.lawful Worked.the-type Laws'.the-laws 𝓤 H A
+      W;
+  makes = Laws'5.makes Worked.the-type Laws'.the-plain 𝓤 H A;
+  in-mem = Local.mem-whole 𝓤 H A W (Declared'.row Worked.the-type);
+  of-mem = Local.whole-mem 𝓤 H A W (Declared'.row Worked.the-type);
+}
 
 abbrev pub ps·3 : List.List (Kinds.PK 2)
 ps·3 = List._∷_ (MutSlice.pMutS El.row 0 tt) (List._∷_ (ShrSlice.pShrS (Referent.rtF (Referent.fInt Syntax.w64)) 1 tt) (List._∷_ (Num.pNum Syntax.w16) List.[]))
@@ -295,522 +383,1434 @@ abbrev pub Claims : Type 1
 Claims = Kinds.In 1 ps·0 × Kinds.Out 1 ps·0 r·0 × Kinds.In 1 ps·1 × Kinds.Out 1 ps·1 r·1 × Kinds.In 6 ps·2 × Kinds.Out 6 ps·2 r·2 × Kinds.In 2 ps·3 × Kinds.Out 2 ps·3 r·3
 
 abbrev pub t0 : List.List Row.Entry
-t0 = List._∷_ (0, Rows'.any-gone El.Answered) (List._∷_ (1, Mut.mslice El.row (Syntax.tyRef (Syntax.named 0) Syntax.mut El.named) 0) (List._∷_ (2, Mut.mslice (Referent.rtF (Referent.fInt Syntax.w64)) (Syntax.tyRef (Syntax.named 1)
-    Syntax.mut El.word) 1) (List._∷_ (3, Mut.mslice (Referent.rtF (Referent.fInt Syntax.w64)) (Syntax.tyRef (Syntax.named 2) Syntax.mut El.word) 2) (List._∷_ (4, Mut.mslice (Referent.rtF (Referent.fInt Syntax.w64)) (Syntax.tyRef
-    (Syntax.named 3) Syntax.mut El.word) 3) (List._∷_ (5, Rows'.whole (Declared'.row ReadyQueue.the-type)) (List._∷_ (6, Rows'.whole (Declared.row Event.the-type)) (List._∷_ (7, Rows'.sslice (Referent.rtF (Referent.fInt Syntax.w16))
-    (Syntax.tyRef (Syntax.named 4) Syntax.imm (Syntax.tyInt Syntax.w16)) 4) (List._∷_ (8, Rows'.sslice (Referent.rtF (Referent.fInt Syntax.w8)) (Syntax.tyRef (Syntax.named 5) Syntax.imm (Syntax.tyInt Syntax.w8)) 5) (List._∷_ (9,
-    Rows'.any-gone El.word) (List._∷_ (10, Rows'.any-gone (Syntax.tyInt Syntax.w16)) (List._∷_ (11, Rows'.any-gone (Syntax.tyArray El.word 4104)) (List._∷_ (12, Rows'.any-gone El.Worked) (List._∷_ (13, Rows'.any-gone (Syntax.tyRef
-    Syntax.erased Syntax.imm El.word)) (List._∷_ (14, Rows'.any-gone (Syntax.tyStruct (List._∷_ 38 (List._∷_ 91 (List._∷_ 93 List.[]))) (Syntax.tcons (Syntax.tyRef Syntax.erased Syntax.imm El.word) (Syntax.tcons El.word Syntax.tnil))))
+t0 = List._∷_ (0, Rows'.any-gone El.Answered) (List._∷_ (1, Mut.mslice El.row (Syntax.tyRef (Syntax.named 0) Syntax.mut El.named) 0) (List._∷_ (
+  2,
+  Mut.mslice (Referent.rtF (Referent.fInt Syntax.w64)) (Syntax.tyRef (Syntax.named 1)
+      Syntax.mut El.word) 1,
+) (List._∷_ (3, Mut.mslice (Referent.rtF (Referent.fInt Syntax.w64)) (Syntax.tyRef (Syntax.named 2) Syntax.mut El.word) 2) (List._∷_ (
+  4,
+  Mut.mslice (Referent.rtF (Referent.fInt Syntax.w64)) (Syntax.tyRef
+      (Syntax.named 3) Syntax.mut El.word) 3,
+) (List._∷_ (5, Rows'.whole (Declared'.row ReadyQueue.the-type)) (List._∷_ (6, Rows'.whole (Declared.row Event.the-type)) (List._∷_ (
+  7,
+  Rows'.sslice (Referent.rtF (Referent.fInt Syntax.w16))
+      (Syntax.tyRef (Syntax.named 4) Syntax.imm (Syntax.tyInt Syntax.w16)) 4,
+) (List._∷_ (8, Rows'.sslice (Referent.rtF (Referent.fInt Syntax.w8)) (Syntax.tyRef (Syntax.named 5) Syntax.imm (Syntax.tyInt Syntax.w8)) 5) (List._∷_ (
+  9,
+  Rows'.any-gone El.word,
+) (List._∷_ (10, Rows'.any-gone (Syntax.tyInt Syntax.w16)) (List._∷_ (11, Rows'.any-gone (Syntax.tyArray El.word 4104)) (List._∷_ (12, Rows'.any-gone El.Worked) (List._∷_ (
+  13,
+  Rows'.any-gone (Syntax.tyRef
+      Syntax.erased Syntax.imm El.word),
+) (List._∷_ (14, Rows'.any-gone (Syntax.tyStruct (List._∷_ 38 (List._∷_ 91 (List._∷_ 93 List.[]))) (Syntax.tcons (Syntax.tyRef Syntax.erased Syntax.imm El.word) (Syntax.tcons El.word Syntax.tnil))))
     (List._∷_ (15, Rows'.any-gone (Syntax.tyArray El.word 4104)) List.[])))))))))))))))
 
 abbrev pub t1 : List.List Row.Entry
-t1 = List._∷_ (16, Rows'.any-gone (Syntax.tyRef Syntax.erased Syntax.imm El.named)) (List._∷_ (17, Rows'.any-gone (Syntax.tyStruct (List._∷_ 38 (List._∷_ 91 (List._∷_ 93 List.[]))) (Syntax.tcons (Syntax.tyRef Syntax.erased Syntax.imm
-    El.named) (Syntax.tcons El.word Syntax.tnil)))) (List._∷_ (18, Rows'.any-gone (Syntax.tyRef Syntax.erased Syntax.mut (Syntax.tyArray El.word 4104))) (List._∷_ (19, Rows'.any-gone (Syntax.tyStruct (List._∷_ 38 (List._∷_ 91 (List._∷_ 93
-    List.[]))) (Syntax.tcons (Syntax.tyRef Syntax.erased Syntax.mut El.word) (Syntax.tcons El.word Syntax.tnil)))) (List._∷_ (20, Rows'.any-gone (Syntax.tyRef Syntax.erased Syntax.mut El.word)) (List._∷_ (21, Rows'.any-gone
-    (Syntax.tyStruct (List._∷_ 38 (List._∷_ 91 (List._∷_ 93 List.[]))) (Syntax.tcons (Syntax.tyRef Syntax.erased Syntax.mut El.word) (Syntax.tcons El.word Syntax.tnil)))) (List._∷_ (22, Rows'.any-gone (Syntax.tyRef Syntax.erased
-    Syntax.mut El.word)) (List._∷_ (23, Rows'.any-gone (Syntax.tyStruct (List._∷_ 38 (List._∷_ 91 (List._∷_ 93 List.[]))) (Syntax.tcons (Syntax.tyRef Syntax.erased Syntax.mut El.word) (Syntax.tcons El.word Syntax.tnil)))) (List._∷_ (24,
-    Rows'.any-gone (Syntax.tyRef Syntax.erased Syntax.mut El.word)) (List._∷_ (25, Rows'.any-gone (Syntax.tyStruct (List._∷_ 38 (List._∷_ 91 (List._∷_ 93 List.[]))) (Syntax.tcons (Syntax.tyRef Syntax.erased Syntax.mut El.word)
-    (Syntax.tcons El.word Syntax.tnil)))) (List._∷_ (26, Rows'.any-gone Syntax.tyUnit) (List._∷_ (27, Rows'.any-gone (Syntax.tyRef Syntax.erased Syntax.mut El.named)) (List._∷_ (28, Rows'.any-gone (Syntax.tyStruct (List._∷_ 38 (List._∷_
-    91 (List._∷_ 93 List.[]))) (Syntax.tcons (Syntax.tyRef Syntax.erased Syntax.mut El.named) (Syntax.tcons El.word Syntax.tnil)))) (List._∷_ (29, Rows'.any-gone (Syntax.tyRef Syntax.erased Syntax.imm (Syntax.tyArray El.word 4104)))
+t1 = List._∷_ (16, Rows'.any-gone (Syntax.tyRef Syntax.erased Syntax.imm El.named)) (List._∷_ (
+  17,
+  Rows'.any-gone (Syntax.tyStruct (List._∷_ 38 (List._∷_ 91 (List._∷_ 93 List.[]))) (Syntax.tcons (Syntax.tyRef Syntax.erased Syntax.imm
+      El.named) (Syntax.tcons El.word Syntax.tnil))),
+) (List._∷_ (18, Rows'.any-gone (Syntax.tyRef Syntax.erased Syntax.mut (Syntax.tyArray El.word 4104))) (List._∷_ (
+  19,
+  Rows'.any-gone (Syntax.tyStruct (List._∷_ 38 (List._∷_ 91 (List._∷_ 93
+      List.[]))) (Syntax.tcons (Syntax.tyRef Syntax.erased Syntax.mut El.word) (Syntax.tcons El.word Syntax.tnil))),
+) (List._∷_ (20, Rows'.any-gone (Syntax.tyRef Syntax.erased Syntax.mut El.word)) (List._∷_ (
+  21,
+  Rows'.any-gone
+      (Syntax.tyStruct (List._∷_ 38 (List._∷_ 91 (List._∷_ 93 List.[]))) (Syntax.tcons (Syntax.tyRef Syntax.erased Syntax.mut El.word) (Syntax.tcons El.word Syntax.tnil))),
+) (List._∷_ (
+  22,
+  Rows'.any-gone (Syntax.tyRef Syntax.erased
+      Syntax.mut El.word),
+) (List._∷_ (23, Rows'.any-gone (Syntax.tyStruct (List._∷_ 38 (List._∷_ 91 (List._∷_ 93 List.[]))) (Syntax.tcons (Syntax.tyRef Syntax.erased Syntax.mut El.word) (Syntax.tcons El.word Syntax.tnil)))) (List._∷_ (
+  24,
+  Rows'.any-gone (Syntax.tyRef Syntax.erased Syntax.mut El.word),
+) (List._∷_ (
+  25,
+  Rows'.any-gone (Syntax.tyStruct (List._∷_ 38 (List._∷_ 91 (List._∷_ 93 List.[]))) (Syntax.tcons (Syntax.tyRef Syntax.erased Syntax.mut El.word)
+      (Syntax.tcons El.word Syntax.tnil))),
+) (List._∷_ (26, Rows'.any-gone Syntax.tyUnit) (List._∷_ (27, Rows'.any-gone (Syntax.tyRef Syntax.erased Syntax.mut El.named)) (List._∷_ (
+  28,
+  Rows'.any-gone (Syntax.tyStruct (List._∷_ 38 (List._∷_
+      91 (List._∷_ 93 List.[]))) (Syntax.tcons (Syntax.tyRef Syntax.erased Syntax.mut El.named) (Syntax.tcons El.word Syntax.tnil))),
+) (List._∷_ (29, Rows'.any-gone (Syntax.tyRef Syntax.erased Syntax.imm (Syntax.tyArray El.word 4104)))
     (List._∷_ (30, Rows'.any-gone (Syntax.tyStruct (List._∷_ 38 (List._∷_ 91 (List._∷_ 93 List.[]))) (Syntax.tcons (Syntax.tyRef Syntax.erased Syntax.imm El.word) (Syntax.tcons El.word Syntax.tnil)))) List.[]))))))))))))))
 
 abbrev pub t2 : List.List Row.Entry
-t2 = List._∷_ (0, Rows'.whole (Declared'.row Answered.the-type)) (List._∷_ (1, Mut.mslice El.row (Syntax.tyRef (Syntax.named 0) Syntax.mut El.named) 0) (List._∷_ (2, Mut.mslice (Referent.rtF (Referent.fInt Syntax.w64)) (Syntax.tyRef
-    (Syntax.named 1) Syntax.mut El.word) 1) (List._∷_ (3, Mut.mslice (Referent.rtF (Referent.fInt Syntax.w64)) (Syntax.tyRef (Syntax.named 2) Syntax.mut El.word) 2) (List._∷_ (4, Mut.mslice (Referent.rtF (Referent.fInt Syntax.w64))
-    (Syntax.tyRef (Syntax.named 3) Syntax.mut El.word) 3) (List._∷_ (5, Rows'.any-gone El.ReadyQueue) (List._∷_ (6, Rows'.any-gone El.Event) (List._∷_ (7, Rows'.sslice (Referent.rtF (Referent.fInt Syntax.w16)) (Syntax.tyRef (Syntax.named
-    4) Syntax.imm (Syntax.tyInt Syntax.w16)) 4) (List._∷_ (8, Rows'.sslice (Referent.rtF (Referent.fInt Syntax.w8)) (Syntax.tyRef (Syntax.named 5) Syntax.imm (Syntax.tyInt Syntax.w8)) 5) (List._∷_ (9, Rows'.any-gone El.word) (List._∷_
+t2 = List._∷_ (0, Rows'.whole (Declared'.row Answered.the-type)) (List._∷_ (1, Mut.mslice El.row (Syntax.tyRef (Syntax.named 0) Syntax.mut El.named) 0) (List._∷_ (
+  2,
+  Mut.mslice (Referent.rtF (Referent.fInt Syntax.w64)) (Syntax.tyRef
+      (Syntax.named 1) Syntax.mut El.word) 1,
+) (List._∷_ (3, Mut.mslice (Referent.rtF (Referent.fInt Syntax.w64)) (Syntax.tyRef (Syntax.named 2) Syntax.mut El.word) 2) (List._∷_ (
+  4,
+  Mut.mslice (Referent.rtF (Referent.fInt Syntax.w64))
+      (Syntax.tyRef (Syntax.named 3) Syntax.mut El.word) 3,
+) (List._∷_ (5, Rows'.any-gone El.ReadyQueue) (List._∷_ (6, Rows'.any-gone El.Event) (List._∷_ (
+  7,
+  Rows'.sslice (Referent.rtF (Referent.fInt Syntax.w16)) (Syntax.tyRef (Syntax.named
+      4) Syntax.imm (Syntax.tyInt Syntax.w16)) 4,
+) (List._∷_ (8, Rows'.sslice (Referent.rtF (Referent.fInt Syntax.w8)) (Syntax.tyRef (Syntax.named 5) Syntax.imm (Syntax.tyInt Syntax.w8)) 5) (List._∷_ (9, Rows'.any-gone El.word) (List._∷_
     (10, Rows'.any-gone (Syntax.tyInt Syntax.w16)) (List._∷_ (11, Rows'.any-gone (Syntax.tyArray El.word 4104)) (List._∷_ (12, Rows'.any-gone El.Worked) (List._∷_ (13, Rows'.any-gone (Syntax.tyRef Syntax.erased Syntax.imm El.word))
-    (List._∷_ (14, Rows'.any-gone (Syntax.tyStruct (List._∷_ 38 (List._∷_ 91 (List._∷_ 93 List.[]))) (Syntax.tcons (Syntax.tyRef Syntax.erased Syntax.imm El.word) (Syntax.tcons El.word Syntax.tnil)))) (List._∷_ (15, Rows'.any-gone
-    (Syntax.tyArray El.word 4104)) List.[])))))))))))))))
+    (List._∷_ (14, Rows'.any-gone (Syntax.tyStruct (List._∷_ 38 (List._∷_ 91 (List._∷_ 93 List.[]))) (Syntax.tcons (Syntax.tyRef Syntax.erased Syntax.imm El.word) (Syntax.tcons El.word Syntax.tnil)))) (List._∷_ (
+      15,
+      Rows'.any-gone
+          (Syntax.tyArray El.word 4104),
+    ) List.[])))))))))))))))
 
 abbrev pub t3 : List.List Row.Entry
-t3 = List._∷_ (0, Rows'.any-gone El.Answered) (List._∷_ (1, Mut.mslice El.row (Syntax.tyRef (Syntax.named 0) Syntax.mut El.named) 0) (List._∷_ (2, Mut.mslice (Referent.rtF (Referent.fInt Syntax.w64)) (Syntax.tyRef (Syntax.named 1)
-    Syntax.mut El.word) 1) (List._∷_ (3, Mut.mslice (Referent.rtF (Referent.fInt Syntax.w64)) (Syntax.tyRef (Syntax.named 2) Syntax.mut El.word) 2) (List._∷_ (4, Mut.mslice (Referent.rtF (Referent.fInt Syntax.w64)) (Syntax.tyRef
-    (Syntax.named 3) Syntax.mut El.word) 3) (List._∷_ (5, Rows'.whole (Declared'.row ReadyQueue.the-type)) (List._∷_ (6, Rows'.whole (Declared.row Event.the-type)) (List._∷_ (7, Rows'.sslice (Referent.rtF (Referent.fInt Syntax.w16))
-    (Syntax.tyRef (Syntax.named 4) Syntax.imm (Syntax.tyInt Syntax.w16)) 4) (List._∷_ (8, Rows'.sslice (Referent.rtF (Referent.fInt Syntax.w8)) (Syntax.tyRef (Syntax.named 5) Syntax.imm (Syntax.tyInt Syntax.w8)) 5) (List._∷_ (9,
-    Rows'.sc-here (Row.sInt Syntax.w64)) (List._∷_ (10, Rows'.any-gone (Syntax.tyInt Syntax.w16)) (List._∷_ (11, Rows'.any-gone (Syntax.tyArray El.word 4104)) (List._∷_ (12, Rows'.any-gone El.Worked) (List._∷_ (13, Rows'.any-gone
-    (Syntax.tyRef Syntax.erased Syntax.imm El.word)) (List._∷_ (14, Rows'.any-gone (Syntax.tyStruct (List._∷_ 38 (List._∷_ 91 (List._∷_ 93 List.[]))) (Syntax.tcons (Syntax.tyRef Syntax.erased Syntax.imm El.word) (Syntax.tcons El.word
-    Syntax.tnil)))) (List._∷_ (15, Rows'.any-gone (Syntax.tyArray El.word 4104)) List.[])))))))))))))))
+t3 = List._∷_ (0, Rows'.any-gone El.Answered) (List._∷_ (1, Mut.mslice El.row (Syntax.tyRef (Syntax.named 0) Syntax.mut El.named) 0) (List._∷_ (
+  2,
+  Mut.mslice (Referent.rtF (Referent.fInt Syntax.w64)) (Syntax.tyRef (Syntax.named 1)
+      Syntax.mut El.word) 1,
+) (List._∷_ (3, Mut.mslice (Referent.rtF (Referent.fInt Syntax.w64)) (Syntax.tyRef (Syntax.named 2) Syntax.mut El.word) 2) (List._∷_ (
+  4,
+  Mut.mslice (Referent.rtF (Referent.fInt Syntax.w64)) (Syntax.tyRef
+      (Syntax.named 3) Syntax.mut El.word) 3,
+) (List._∷_ (5, Rows'.whole (Declared'.row ReadyQueue.the-type)) (List._∷_ (6, Rows'.whole (Declared.row Event.the-type)) (List._∷_ (
+  7,
+  Rows'.sslice (Referent.rtF (Referent.fInt Syntax.w16))
+      (Syntax.tyRef (Syntax.named 4) Syntax.imm (Syntax.tyInt Syntax.w16)) 4,
+) (List._∷_ (8, Rows'.sslice (Referent.rtF (Referent.fInt Syntax.w8)) (Syntax.tyRef (Syntax.named 5) Syntax.imm (Syntax.tyInt Syntax.w8)) 5) (List._∷_ (
+  9,
+  Rows'.sc-here (Row.sInt Syntax.w64),
+) (List._∷_ (10, Rows'.any-gone (Syntax.tyInt Syntax.w16)) (List._∷_ (11, Rows'.any-gone (Syntax.tyArray El.word 4104)) (List._∷_ (12, Rows'.any-gone El.Worked) (List._∷_ (
+  13,
+  Rows'.any-gone
+      (Syntax.tyRef Syntax.erased Syntax.imm El.word),
+) (List._∷_ (
+  14,
+  Rows'.any-gone (Syntax.tyStruct (List._∷_ 38 (List._∷_ 91 (List._∷_ 93 List.[]))) (Syntax.tcons (Syntax.tyRef Syntax.erased Syntax.imm El.word) (Syntax.tcons El.word
+      Syntax.tnil))),
+) (List._∷_ (15, Rows'.any-gone (Syntax.tyArray El.word 4104)) List.[])))))))))))))))
 
 abbrev pub t4 : List.List Row.Entry
-t4 = List._∷_ (0, Rows'.any-gone El.Answered) (List._∷_ (1, Mut.mslice El.row (Syntax.tyRef (Syntax.named 0) Syntax.mut El.named) 0) (List._∷_ (2, Reshare.mslice-owedS (Referent.rtF (Referent.fInt Syntax.w64)) (Syntax.tyRef (Syntax.named
-    1) Syntax.mut El.word) 1 6 Row.off) (List._∷_ (3, Mut.mslice (Referent.rtF (Referent.fInt Syntax.w64)) (Syntax.tyRef (Syntax.named 2) Syntax.mut El.word) 2) (List._∷_ (4, Mut.mslice (Referent.rtF (Referent.fInt Syntax.w64))
-    (Syntax.tyRef (Syntax.named 3) Syntax.mut El.word) 3) (List._∷_ (5, Rows'.whole (Declared'.row ReadyQueue.the-type)) (List._∷_ (6, Rows'.whole (Declared.row Event.the-type)) (List._∷_ (7, Rows'.sslice (Referent.rtF (Referent.fInt
-    Syntax.w16)) (Syntax.tyRef (Syntax.named 4) Syntax.imm (Syntax.tyInt Syntax.w16)) 4) (List._∷_ (8, Rows'.sslice (Referent.rtF (Referent.fInt Syntax.w8)) (Syntax.tyRef (Syntax.named 5) Syntax.imm (Syntax.tyInt Syntax.w8)) 5)
-    (List._∷_ (9, Rows'.sc-here (Row.sInt Syntax.w64)) (List._∷_ (10, Rows'.any-gone (Syntax.tyInt Syntax.w16)) (List._∷_ (11, Rows'.any-gone (Syntax.tyArray El.word 4104)) (List._∷_ (12, Rows'.any-gone El.Worked) (List._∷_ (13,
-    Relend.ssptr (Referent.rtF (Referent.fInt Syntax.w64)) (Syntax.tyRef Syntax.erased Syntax.imm El.word) 6) (List._∷_ (14, Rows'.any-gone (Syntax.tyStruct (List._∷_ 38 (List._∷_ 91 (List._∷_ 93 List.[]))) (Syntax.tcons (Syntax.tyRef
-    Syntax.erased Syntax.imm El.word) (Syntax.tcons El.word Syntax.tnil)))) (List._∷_ (15, Rows'.any-gone (Syntax.tyArray El.word 4104)) List.[])))))))))))))))
+t4 = List._∷_ (0, Rows'.any-gone El.Answered) (List._∷_ (1, Mut.mslice El.row (Syntax.tyRef (Syntax.named 0) Syntax.mut El.named) 0) (List._∷_ (
+  2,
+  Reshare.mslice-owedS (Referent.rtF (Referent.fInt Syntax.w64)) (Syntax.tyRef (Syntax.named
+      1) Syntax.mut El.word) 1 6 Row.off,
+) (List._∷_ (3, Mut.mslice (Referent.rtF (Referent.fInt Syntax.w64)) (Syntax.tyRef (Syntax.named 2) Syntax.mut El.word) 2) (List._∷_ (
+  4,
+  Mut.mslice (Referent.rtF (Referent.fInt Syntax.w64))
+      (Syntax.tyRef (Syntax.named 3) Syntax.mut El.word) 3,
+) (List._∷_ (5, Rows'.whole (Declared'.row ReadyQueue.the-type)) (List._∷_ (6, Rows'.whole (Declared.row Event.the-type)) (List._∷_ (
+  7,
+  Rows'.sslice (Referent.rtF (Referent.fInt
+      Syntax.w16)) (Syntax.tyRef (Syntax.named 4) Syntax.imm (Syntax.tyInt Syntax.w16)) 4,
+) (List._∷_ (8, Rows'.sslice (Referent.rtF (Referent.fInt Syntax.w8)) (Syntax.tyRef (Syntax.named 5) Syntax.imm (Syntax.tyInt Syntax.w8)) 5)
+    (List._∷_ (9, Rows'.sc-here (Row.sInt Syntax.w64)) (List._∷_ (10, Rows'.any-gone (Syntax.tyInt Syntax.w16)) (List._∷_ (11, Rows'.any-gone (Syntax.tyArray El.word 4104)) (List._∷_ (12, Rows'.any-gone El.Worked) (List._∷_ (
+      13,
+      Relend.ssptr (Referent.rtF (Referent.fInt Syntax.w64)) (Syntax.tyRef Syntax.erased Syntax.imm El.word) 6,
+    ) (List._∷_ (
+      14,
+      Rows'.any-gone (Syntax.tyStruct (List._∷_ 38 (List._∷_ 91 (List._∷_ 93 List.[]))) (Syntax.tcons (Syntax.tyRef
+          Syntax.erased Syntax.imm El.word) (Syntax.tcons El.word Syntax.tnil))),
+    ) (List._∷_ (15, Rows'.any-gone (Syntax.tyArray El.word 4104)) List.[])))))))))))))))
 
 abbrev pub t5 : List.List Row.Entry
-t5 = List._∷_ (0, Rows'.any-gone El.Answered) (List._∷_ (1, Mut.mslice El.row (Syntax.tyRef (Syntax.named 0) Syntax.mut El.named) 0) (List._∷_ (2, Reshare.mslice-owedS (Referent.rtF (Referent.fInt Syntax.w64)) (Syntax.tyRef (Syntax.named
-    1) Syntax.mut El.word) 1 6 Row.off) (List._∷_ (3, Mut.mslice (Referent.rtF (Referent.fInt Syntax.w64)) (Syntax.tyRef (Syntax.named 2) Syntax.mut El.word) 2) (List._∷_ (4, Mut.mslice (Referent.rtF (Referent.fInt Syntax.w64))
-    (Syntax.tyRef (Syntax.named 3) Syntax.mut El.word) 3) (List._∷_ (5, Rows'.whole (Declared'.row ReadyQueue.the-type)) (List._∷_ (6, Rows'.whole (Declared.row Event.the-type)) (List._∷_ (7, Rows'.sslice (Referent.rtF (Referent.fInt
-    Syntax.w16)) (Syntax.tyRef (Syntax.named 4) Syntax.imm (Syntax.tyInt Syntax.w16)) 4) (List._∷_ (8, Rows'.sslice (Referent.rtF (Referent.fInt Syntax.w8)) (Syntax.tyRef (Syntax.named 5) Syntax.imm (Syntax.tyInt Syntax.w8)) 5)
-    (List._∷_ (9, Rows'.sc-here (Row.sInt Syntax.w64)) (List._∷_ (10, Rows'.any-gone (Syntax.tyInt Syntax.w16)) (List._∷_ (11, Rows'.any-gone (Syntax.tyArray El.word 4104)) (List._∷_ (12, Rows'.any-gone El.Worked) (List._∷_ (13,
-    Rows'.any-gone (Syntax.tyRef Syntax.erased Syntax.imm El.word)) (List._∷_ (14, Rows'.sslice (Referent.rtF (Referent.fInt Syntax.w64)) (Syntax.tyRef Syntax.erased Syntax.imm El.word) 6) (List._∷_ (15, Rows'.any-gone (Syntax.tyArray
-    El.word 4104)) List.[])))))))))))))))
+t5 = List._∷_ (0, Rows'.any-gone El.Answered) (List._∷_ (1, Mut.mslice El.row (Syntax.tyRef (Syntax.named 0) Syntax.mut El.named) 0) (List._∷_ (
+  2,
+  Reshare.mslice-owedS (Referent.rtF (Referent.fInt Syntax.w64)) (Syntax.tyRef (Syntax.named
+      1) Syntax.mut El.word) 1 6 Row.off,
+) (List._∷_ (3, Mut.mslice (Referent.rtF (Referent.fInt Syntax.w64)) (Syntax.tyRef (Syntax.named 2) Syntax.mut El.word) 2) (List._∷_ (
+  4,
+  Mut.mslice (Referent.rtF (Referent.fInt Syntax.w64))
+      (Syntax.tyRef (Syntax.named 3) Syntax.mut El.word) 3,
+) (List._∷_ (5, Rows'.whole (Declared'.row ReadyQueue.the-type)) (List._∷_ (6, Rows'.whole (Declared.row Event.the-type)) (List._∷_ (
+  7,
+  Rows'.sslice (Referent.rtF (Referent.fInt
+      Syntax.w16)) (Syntax.tyRef (Syntax.named 4) Syntax.imm (Syntax.tyInt Syntax.w16)) 4,
+) (List._∷_ (8, Rows'.sslice (Referent.rtF (Referent.fInt Syntax.w8)) (Syntax.tyRef (Syntax.named 5) Syntax.imm (Syntax.tyInt Syntax.w8)) 5)
+    (List._∷_ (9, Rows'.sc-here (Row.sInt Syntax.w64)) (List._∷_ (10, Rows'.any-gone (Syntax.tyInt Syntax.w16)) (List._∷_ (11, Rows'.any-gone (Syntax.tyArray El.word 4104)) (List._∷_ (12, Rows'.any-gone El.Worked) (List._∷_ (
+      13,
+      Rows'.any-gone (Syntax.tyRef Syntax.erased Syntax.imm El.word),
+    ) (List._∷_ (14, Rows'.sslice (Referent.rtF (Referent.fInt Syntax.w64)) (Syntax.tyRef Syntax.erased Syntax.imm El.word) 6) (List._∷_ (
+      15,
+      Rows'.any-gone (Syntax.tyArray
+          El.word 4104),
+    ) List.[])))))))))))))))
 
 abbrev pub t6 : List.List Row.Entry
-t6 = List._∷_ (0, Rows'.any-gone El.Answered) (List._∷_ (1, Mut.mslice El.row (Syntax.tyRef (Syntax.named 0) Syntax.mut El.named) 0) (List._∷_ (2, Reshare.mslice-owedS (Referent.rtF (Referent.fInt Syntax.w64)) (Syntax.tyRef (Syntax.named
-    1) Syntax.mut El.word) 1 6 Row.off) (List._∷_ (3, Mut.mslice (Referent.rtF (Referent.fInt Syntax.w64)) (Syntax.tyRef (Syntax.named 2) Syntax.mut El.word) 2) (List._∷_ (4, Mut.mslice (Referent.rtF (Referent.fInt Syntax.w64))
-    (Syntax.tyRef (Syntax.named 3) Syntax.mut El.word) 3) (List._∷_ (5, Rows'.whole (Declared'.row ReadyQueue.the-type)) (List._∷_ (6, Rows'.whole (Declared.row Event.the-type)) (List._∷_ (7, Rows'.sslice (Referent.rtF (Referent.fInt
-    Syntax.w16)) (Syntax.tyRef (Syntax.named 4) Syntax.imm (Syntax.tyInt Syntax.w16)) 4) (List._∷_ (8, Rows'.sslice (Referent.rtF (Referent.fInt Syntax.w8)) (Syntax.tyRef (Syntax.named 5) Syntax.imm (Syntax.tyInt Syntax.w8)) 5)
-    (List._∷_ (9, Rows'.sc-here (Row.sInt Syntax.w64)) (List._∷_ (10, Rows'.sc-here (Row.sInt Syntax.w16)) (List._∷_ (11, Rows'.any-gone (Syntax.tyArray El.word 4104)) (List._∷_ (12, Rows'.any-gone El.Worked) (List._∷_ (13,
-    Rows'.any-gone (Syntax.tyRef Syntax.erased Syntax.imm El.word)) (List._∷_ (14, Rows'.sslice (Referent.rtF (Referent.fInt Syntax.w64)) (Syntax.tyRef Syntax.erased Syntax.imm El.word) 6) (List._∷_ (15, Rows'.any-gone (Syntax.tyArray
-    El.word 4104)) List.[])))))))))))))))
+t6 = List._∷_ (0, Rows'.any-gone El.Answered) (List._∷_ (1, Mut.mslice El.row (Syntax.tyRef (Syntax.named 0) Syntax.mut El.named) 0) (List._∷_ (
+  2,
+  Reshare.mslice-owedS (Referent.rtF (Referent.fInt Syntax.w64)) (Syntax.tyRef (Syntax.named
+      1) Syntax.mut El.word) 1 6 Row.off,
+) (List._∷_ (3, Mut.mslice (Referent.rtF (Referent.fInt Syntax.w64)) (Syntax.tyRef (Syntax.named 2) Syntax.mut El.word) 2) (List._∷_ (
+  4,
+  Mut.mslice (Referent.rtF (Referent.fInt Syntax.w64))
+      (Syntax.tyRef (Syntax.named 3) Syntax.mut El.word) 3,
+) (List._∷_ (5, Rows'.whole (Declared'.row ReadyQueue.the-type)) (List._∷_ (6, Rows'.whole (Declared.row Event.the-type)) (List._∷_ (
+  7,
+  Rows'.sslice (Referent.rtF (Referent.fInt
+      Syntax.w16)) (Syntax.tyRef (Syntax.named 4) Syntax.imm (Syntax.tyInt Syntax.w16)) 4,
+) (List._∷_ (8, Rows'.sslice (Referent.rtF (Referent.fInt Syntax.w8)) (Syntax.tyRef (Syntax.named 5) Syntax.imm (Syntax.tyInt Syntax.w8)) 5)
+    (List._∷_ (9, Rows'.sc-here (Row.sInt Syntax.w64)) (List._∷_ (10, Rows'.sc-here (Row.sInt Syntax.w16)) (List._∷_ (11, Rows'.any-gone (Syntax.tyArray El.word 4104)) (List._∷_ (12, Rows'.any-gone El.Worked) (List._∷_ (
+      13,
+      Rows'.any-gone (Syntax.tyRef Syntax.erased Syntax.imm El.word),
+    ) (List._∷_ (14, Rows'.sslice (Referent.rtF (Referent.fInt Syntax.w64)) (Syntax.tyRef Syntax.erased Syntax.imm El.word) 6) (List._∷_ (
+      15,
+      Rows'.any-gone (Syntax.tyArray
+          El.word 4104),
+    ) List.[])))))))))))))))
 
 abbrev pub t7 : List.List Row.Entry
-t7 = List._∷_ (0, Rows'.any-gone El.Answered) (List._∷_ (1, Mut.mslice El.row (Syntax.tyRef (Syntax.named 0) Syntax.mut El.named) 0) (List._∷_ (2, Reshare.mslice-owedS (Referent.rtF (Referent.fInt Syntax.w64)) (Syntax.tyRef (Syntax.named
-    1) Syntax.mut El.word) 1 6 Row.off) (List._∷_ (3, Mut.mslice (Referent.rtF (Referent.fInt Syntax.w64)) (Syntax.tyRef (Syntax.named 2) Syntax.mut El.word) 2) (List._∷_ (4, Mut.mslice (Referent.rtF (Referent.fInt Syntax.w64))
-    (Syntax.tyRef (Syntax.named 3) Syntax.mut El.word) 3) (List._∷_ (5, Rows'.whole (Declared'.row ReadyQueue.the-type)) (List._∷_ (6, Rows'.whole (Declared.row Event.the-type)) (List._∷_ (7, Rows'.sslice (Referent.rtF (Referent.fInt
-    Syntax.w16)) (Syntax.tyRef (Syntax.named 4) Syntax.imm (Syntax.tyInt Syntax.w16)) 4) (List._∷_ (8, Rows'.sslice (Referent.rtF (Referent.fInt Syntax.w8)) (Syntax.tyRef (Syntax.named 5) Syntax.imm (Syntax.tyInt Syntax.w8)) 5)
-    (List._∷_ (9, Rows'.sc-here (Row.sInt Syntax.w64)) (List._∷_ (10, Rows'.sc-here (Row.sInt Syntax.w16)) (List._∷_ (11, Rows'.any-gone (Syntax.tyArray El.word 4104)) (List._∷_ (12, Rows'.any-gone El.Worked) (List._∷_ (13,
-    Rows'.any-gone (Syntax.tyRef Syntax.erased Syntax.imm El.word)) (List._∷_ (14, Rows'.any-gone (Syntax.tyStruct (List._∷_ 38 (List._∷_ 91 (List._∷_ 93 List.[]))) (Syntax.tcons (Syntax.tyRef Syntax.erased Syntax.imm El.word)
-    (Syntax.tcons El.word Syntax.tnil)))) (List._∷_ (15, Rows'.any-gone (Syntax.tyArray El.word 4104)) List.[])))))))))))))))
+t7 = List._∷_ (0, Rows'.any-gone El.Answered) (List._∷_ (1, Mut.mslice El.row (Syntax.tyRef (Syntax.named 0) Syntax.mut El.named) 0) (List._∷_ (
+  2,
+  Reshare.mslice-owedS (Referent.rtF (Referent.fInt Syntax.w64)) (Syntax.tyRef (Syntax.named
+      1) Syntax.mut El.word) 1 6 Row.off,
+) (List._∷_ (3, Mut.mslice (Referent.rtF (Referent.fInt Syntax.w64)) (Syntax.tyRef (Syntax.named 2) Syntax.mut El.word) 2) (List._∷_ (
+  4,
+  Mut.mslice (Referent.rtF (Referent.fInt Syntax.w64))
+      (Syntax.tyRef (Syntax.named 3) Syntax.mut El.word) 3,
+) (List._∷_ (5, Rows'.whole (Declared'.row ReadyQueue.the-type)) (List._∷_ (6, Rows'.whole (Declared.row Event.the-type)) (List._∷_ (
+  7,
+  Rows'.sslice (Referent.rtF (Referent.fInt
+      Syntax.w16)) (Syntax.tyRef (Syntax.named 4) Syntax.imm (Syntax.tyInt Syntax.w16)) 4,
+) (List._∷_ (8, Rows'.sslice (Referent.rtF (Referent.fInt Syntax.w8)) (Syntax.tyRef (Syntax.named 5) Syntax.imm (Syntax.tyInt Syntax.w8)) 5)
+    (List._∷_ (9, Rows'.sc-here (Row.sInt Syntax.w64)) (List._∷_ (10, Rows'.sc-here (Row.sInt Syntax.w16)) (List._∷_ (11, Rows'.any-gone (Syntax.tyArray El.word 4104)) (List._∷_ (12, Rows'.any-gone El.Worked) (List._∷_ (
+      13,
+      Rows'.any-gone (Syntax.tyRef Syntax.erased Syntax.imm El.word),
+    ) (List._∷_ (
+      14,
+      Rows'.any-gone (Syntax.tyStruct (List._∷_ 38 (List._∷_ 91 (List._∷_ 93 List.[]))) (Syntax.tcons (Syntax.tyRef Syntax.erased Syntax.imm El.word)
+          (Syntax.tcons El.word Syntax.tnil))),
+    ) (List._∷_ (15, Rows'.any-gone (Syntax.tyArray El.word 4104)) List.[])))))))))))))))
 
 abbrev pub t8 : List.List Row.Entry
-t8 = List._∷_ (0, Rows'.any-gone El.Answered) (List._∷_ (1, Mut.mslice El.row (Syntax.tyRef (Syntax.named 0) Syntax.mut El.named) 0) (List._∷_ (2, Mut.mslice (Referent.rtF (Referent.fInt Syntax.w64)) (Syntax.tyRef (Syntax.named 1)
-    Syntax.mut El.word) 1) (List._∷_ (3, Mut.mslice (Referent.rtF (Referent.fInt Syntax.w64)) (Syntax.tyRef (Syntax.named 2) Syntax.mut El.word) 2) (List._∷_ (4, Mut.mslice (Referent.rtF (Referent.fInt Syntax.w64)) (Syntax.tyRef
-    (Syntax.named 3) Syntax.mut El.word) 3) (List._∷_ (5, Rows'.whole (Declared'.row ReadyQueue.the-type)) (List._∷_ (6, Rows'.whole (Declared.row Event.the-type)) (List._∷_ (7, Rows'.sslice (Referent.rtF (Referent.fInt Syntax.w16))
-    (Syntax.tyRef (Syntax.named 4) Syntax.imm (Syntax.tyInt Syntax.w16)) 4) (List._∷_ (8, Rows'.sslice (Referent.rtF (Referent.fInt Syntax.w8)) (Syntax.tyRef (Syntax.named 5) Syntax.imm (Syntax.tyInt Syntax.w8)) 5) (List._∷_ (9,
-    Rows'.sc-here (Row.sInt Syntax.w64)) (List._∷_ (10, Rows'.sc-here (Row.sInt Syntax.w16)) (List._∷_ (11, Rows'.any-gone (Syntax.tyArray El.word 4104)) (List._∷_ (12, Rows'.any-gone El.Worked) (List._∷_ (13, Rows'.any-gone
-    (Syntax.tyRef Syntax.erased Syntax.imm El.word)) (List._∷_ (14, Rows'.any-gone (Syntax.tyStruct (List._∷_ 38 (List._∷_ 91 (List._∷_ 93 List.[]))) (Syntax.tcons (Syntax.tyRef Syntax.erased Syntax.imm El.word) (Syntax.tcons El.word
-    Syntax.tnil)))) (List._∷_ (15, Rows'.any-gone (Syntax.tyArray El.word 4104)) List.[])))))))))))))))
+t8 = List._∷_ (0, Rows'.any-gone El.Answered) (List._∷_ (1, Mut.mslice El.row (Syntax.tyRef (Syntax.named 0) Syntax.mut El.named) 0) (List._∷_ (
+  2,
+  Mut.mslice (Referent.rtF (Referent.fInt Syntax.w64)) (Syntax.tyRef (Syntax.named 1)
+      Syntax.mut El.word) 1,
+) (List._∷_ (3, Mut.mslice (Referent.rtF (Referent.fInt Syntax.w64)) (Syntax.tyRef (Syntax.named 2) Syntax.mut El.word) 2) (List._∷_ (
+  4,
+  Mut.mslice (Referent.rtF (Referent.fInt Syntax.w64)) (Syntax.tyRef
+      (Syntax.named 3) Syntax.mut El.word) 3,
+) (List._∷_ (5, Rows'.whole (Declared'.row ReadyQueue.the-type)) (List._∷_ (6, Rows'.whole (Declared.row Event.the-type)) (List._∷_ (
+  7,
+  Rows'.sslice (Referent.rtF (Referent.fInt Syntax.w16))
+      (Syntax.tyRef (Syntax.named 4) Syntax.imm (Syntax.tyInt Syntax.w16)) 4,
+) (List._∷_ (8, Rows'.sslice (Referent.rtF (Referent.fInt Syntax.w8)) (Syntax.tyRef (Syntax.named 5) Syntax.imm (Syntax.tyInt Syntax.w8)) 5) (List._∷_ (
+  9,
+  Rows'.sc-here (Row.sInt Syntax.w64),
+) (List._∷_ (10, Rows'.sc-here (Row.sInt Syntax.w16)) (List._∷_ (11, Rows'.any-gone (Syntax.tyArray El.word 4104)) (List._∷_ (12, Rows'.any-gone El.Worked) (List._∷_ (
+  13,
+  Rows'.any-gone
+      (Syntax.tyRef Syntax.erased Syntax.imm El.word),
+) (List._∷_ (
+  14,
+  Rows'.any-gone (Syntax.tyStruct (List._∷_ 38 (List._∷_ 91 (List._∷_ 93 List.[]))) (Syntax.tcons (Syntax.tyRef Syntax.erased Syntax.imm El.word) (Syntax.tcons El.word
+      Syntax.tnil))),
+) (List._∷_ (15, Rows'.any-gone (Syntax.tyArray El.word 4104)) List.[])))))))))))))))
 
 abbrev pub t9 : List.List Row.Entry
-t9 = List._∷_ (0, Rows'.any-gone El.Answered) (List._∷_ (1, Reshare.mslice-owedS El.row (Syntax.tyRef (Syntax.named 0) Syntax.mut El.named) 0 7 Row.off) (List._∷_ (2, Mut.mslice (Referent.rtF (Referent.fInt Syntax.w64)) (Syntax.tyRef
-    (Syntax.named 1) Syntax.mut El.word) 1) (List._∷_ (3, Mut.mslice (Referent.rtF (Referent.fInt Syntax.w64)) (Syntax.tyRef (Syntax.named 2) Syntax.mut El.word) 2) (List._∷_ (4, Mut.mslice (Referent.rtF (Referent.fInt Syntax.w64))
-    (Syntax.tyRef (Syntax.named 3) Syntax.mut El.word) 3) (List._∷_ (5, Rows'.whole (Declared'.row ReadyQueue.the-type)) (List._∷_ (6, Rows'.whole (Declared.row Event.the-type)) (List._∷_ (7, Rows'.sslice (Referent.rtF (Referent.fInt
-    Syntax.w16)) (Syntax.tyRef (Syntax.named 4) Syntax.imm (Syntax.tyInt Syntax.w16)) 4) (List._∷_ (8, Rows'.sslice (Referent.rtF (Referent.fInt Syntax.w8)) (Syntax.tyRef (Syntax.named 5) Syntax.imm (Syntax.tyInt Syntax.w8)) 5)
-    (List._∷_ (9, Rows'.sc-here (Row.sInt Syntax.w64)) (List._∷_ (10, Rows'.sc-here (Row.sInt Syntax.w16)) (List._∷_ (11, Rows'.any-gone (Syntax.tyArray El.word 4104)) (List._∷_ (12, Rows'.any-gone El.Worked) (List._∷_ (13,
-    Rows'.any-gone (Syntax.tyRef Syntax.erased Syntax.imm El.word)) (List._∷_ (14, Rows'.any-gone (Syntax.tyStruct (List._∷_ 38 (List._∷_ 91 (List._∷_ 93 List.[]))) (Syntax.tcons (Syntax.tyRef Syntax.erased Syntax.imm El.word)
-    (Syntax.tcons El.word Syntax.tnil)))) (List._∷_ (15, Rows'.any-gone (Syntax.tyArray El.word 4104)) List.[])))))))))))))))
+t9 = List._∷_ (0, Rows'.any-gone El.Answered) (List._∷_ (1, Reshare.mslice-owedS El.row (Syntax.tyRef (Syntax.named 0) Syntax.mut El.named) 0 7 Row.off) (List._∷_ (
+  2,
+  Mut.mslice (Referent.rtF (Referent.fInt Syntax.w64)) (Syntax.tyRef
+      (Syntax.named 1) Syntax.mut El.word) 1,
+) (List._∷_ (3, Mut.mslice (Referent.rtF (Referent.fInt Syntax.w64)) (Syntax.tyRef (Syntax.named 2) Syntax.mut El.word) 2) (List._∷_ (
+  4,
+  Mut.mslice (Referent.rtF (Referent.fInt Syntax.w64))
+      (Syntax.tyRef (Syntax.named 3) Syntax.mut El.word) 3,
+) (List._∷_ (5, Rows'.whole (Declared'.row ReadyQueue.the-type)) (List._∷_ (6, Rows'.whole (Declared.row Event.the-type)) (List._∷_ (
+  7,
+  Rows'.sslice (Referent.rtF (Referent.fInt
+      Syntax.w16)) (Syntax.tyRef (Syntax.named 4) Syntax.imm (Syntax.tyInt Syntax.w16)) 4,
+) (List._∷_ (8, Rows'.sslice (Referent.rtF (Referent.fInt Syntax.w8)) (Syntax.tyRef (Syntax.named 5) Syntax.imm (Syntax.tyInt Syntax.w8)) 5)
+    (List._∷_ (9, Rows'.sc-here (Row.sInt Syntax.w64)) (List._∷_ (10, Rows'.sc-here (Row.sInt Syntax.w16)) (List._∷_ (11, Rows'.any-gone (Syntax.tyArray El.word 4104)) (List._∷_ (12, Rows'.any-gone El.Worked) (List._∷_ (
+      13,
+      Rows'.any-gone (Syntax.tyRef Syntax.erased Syntax.imm El.word),
+    ) (List._∷_ (
+      14,
+      Rows'.any-gone (Syntax.tyStruct (List._∷_ 38 (List._∷_ 91 (List._∷_ 93 List.[]))) (Syntax.tcons (Syntax.tyRef Syntax.erased Syntax.imm El.word)
+          (Syntax.tcons El.word Syntax.tnil))),
+    ) (List._∷_ (15, Rows'.any-gone (Syntax.tyArray El.word 4104)) List.[])))))))))))))))
 
 abbrev pub t10 : List.List Row.Entry
-t10 = List._∷_ (16, Relend.ssptr El.row (Syntax.tyRef Syntax.erased Syntax.imm El.named) 7) (List._∷_ (17, Rows'.any-gone (Syntax.tyStruct (List._∷_ 38 (List._∷_ 91 (List._∷_ 93 List.[]))) (Syntax.tcons (Syntax.tyRef Syntax.erased
-    Syntax.imm El.named) (Syntax.tcons El.word Syntax.tnil)))) (List._∷_ (18, Rows'.any-gone (Syntax.tyRef Syntax.erased Syntax.mut (Syntax.tyArray El.word 4104))) (List._∷_ (19, Rows'.any-gone (Syntax.tyStruct (List._∷_ 38 (List._∷_ 91
-    (List._∷_ 93 List.[]))) (Syntax.tcons (Syntax.tyRef Syntax.erased Syntax.mut El.word) (Syntax.tcons El.word Syntax.tnil)))) (List._∷_ (20, Rows'.any-gone (Syntax.tyRef Syntax.erased Syntax.mut El.word)) (List._∷_ (21, Rows'.any-gone
-    (Syntax.tyStruct (List._∷_ 38 (List._∷_ 91 (List._∷_ 93 List.[]))) (Syntax.tcons (Syntax.tyRef Syntax.erased Syntax.mut El.word) (Syntax.tcons El.word Syntax.tnil)))) (List._∷_ (22, Rows'.any-gone (Syntax.tyRef Syntax.erased
-    Syntax.mut El.word)) (List._∷_ (23, Rows'.any-gone (Syntax.tyStruct (List._∷_ 38 (List._∷_ 91 (List._∷_ 93 List.[]))) (Syntax.tcons (Syntax.tyRef Syntax.erased Syntax.mut El.word) (Syntax.tcons El.word Syntax.tnil)))) (List._∷_ (24,
-    Rows'.any-gone (Syntax.tyRef Syntax.erased Syntax.mut El.word)) (List._∷_ (25, Rows'.any-gone (Syntax.tyStruct (List._∷_ 38 (List._∷_ 91 (List._∷_ 93 List.[]))) (Syntax.tcons (Syntax.tyRef Syntax.erased Syntax.mut El.word)
-    (Syntax.tcons El.word Syntax.tnil)))) (List._∷_ (26, Rows'.any-gone Syntax.tyUnit) (List._∷_ (27, Rows'.any-gone (Syntax.tyRef Syntax.erased Syntax.mut El.named)) (List._∷_ (28, Rows'.any-gone (Syntax.tyStruct (List._∷_ 38 (List._∷_
-    91 (List._∷_ 93 List.[]))) (Syntax.tcons (Syntax.tyRef Syntax.erased Syntax.mut El.named) (Syntax.tcons El.word Syntax.tnil)))) (List._∷_ (29, Rows'.any-gone (Syntax.tyRef Syntax.erased Syntax.imm (Syntax.tyArray El.word 4104)))
+t10 = List._∷_ (16, Relend.ssptr El.row (Syntax.tyRef Syntax.erased Syntax.imm El.named) 7) (List._∷_ (
+  17,
+  Rows'.any-gone (Syntax.tyStruct (List._∷_ 38 (List._∷_ 91 (List._∷_ 93 List.[]))) (Syntax.tcons (Syntax.tyRef Syntax.erased
+      Syntax.imm El.named) (Syntax.tcons El.word Syntax.tnil))),
+) (List._∷_ (18, Rows'.any-gone (Syntax.tyRef Syntax.erased Syntax.mut (Syntax.tyArray El.word 4104))) (List._∷_ (
+  19,
+  Rows'.any-gone (Syntax.tyStruct (List._∷_ 38 (List._∷_ 91
+      (List._∷_ 93 List.[]))) (Syntax.tcons (Syntax.tyRef Syntax.erased Syntax.mut El.word) (Syntax.tcons El.word Syntax.tnil))),
+) (List._∷_ (20, Rows'.any-gone (Syntax.tyRef Syntax.erased Syntax.mut El.word)) (List._∷_ (
+  21,
+  Rows'.any-gone
+      (Syntax.tyStruct (List._∷_ 38 (List._∷_ 91 (List._∷_ 93 List.[]))) (Syntax.tcons (Syntax.tyRef Syntax.erased Syntax.mut El.word) (Syntax.tcons El.word Syntax.tnil))),
+) (List._∷_ (
+  22,
+  Rows'.any-gone (Syntax.tyRef Syntax.erased
+      Syntax.mut El.word),
+) (List._∷_ (23, Rows'.any-gone (Syntax.tyStruct (List._∷_ 38 (List._∷_ 91 (List._∷_ 93 List.[]))) (Syntax.tcons (Syntax.tyRef Syntax.erased Syntax.mut El.word) (Syntax.tcons El.word Syntax.tnil)))) (List._∷_ (
+  24,
+  Rows'.any-gone (Syntax.tyRef Syntax.erased Syntax.mut El.word),
+) (List._∷_ (
+  25,
+  Rows'.any-gone (Syntax.tyStruct (List._∷_ 38 (List._∷_ 91 (List._∷_ 93 List.[]))) (Syntax.tcons (Syntax.tyRef Syntax.erased Syntax.mut El.word)
+      (Syntax.tcons El.word Syntax.tnil))),
+) (List._∷_ (26, Rows'.any-gone Syntax.tyUnit) (List._∷_ (27, Rows'.any-gone (Syntax.tyRef Syntax.erased Syntax.mut El.named)) (List._∷_ (
+  28,
+  Rows'.any-gone (Syntax.tyStruct (List._∷_ 38 (List._∷_
+      91 (List._∷_ 93 List.[]))) (Syntax.tcons (Syntax.tyRef Syntax.erased Syntax.mut El.named) (Syntax.tcons El.word Syntax.tnil))),
+) (List._∷_ (29, Rows'.any-gone (Syntax.tyRef Syntax.erased Syntax.imm (Syntax.tyArray El.word 4104)))
     (List._∷_ (30, Rows'.any-gone (Syntax.tyStruct (List._∷_ 38 (List._∷_ 91 (List._∷_ 93 List.[]))) (Syntax.tcons (Syntax.tyRef Syntax.erased Syntax.imm El.word) (Syntax.tcons El.word Syntax.tnil)))) List.[]))))))))))))))
 
 abbrev pub t11 : List.List Row.Entry
-t11 = List._∷_ (16, Rows'.any-gone (Syntax.tyRef Syntax.erased Syntax.imm El.named)) (List._∷_ (17, Rows'.sslice El.row (Syntax.tyRef Syntax.erased Syntax.imm El.named) 7) (List._∷_ (18, Rows'.any-gone (Syntax.tyRef Syntax.erased
-    Syntax.mut (Syntax.tyArray El.word 4104))) (List._∷_ (19, Rows'.any-gone (Syntax.tyStruct (List._∷_ 38 (List._∷_ 91 (List._∷_ 93 List.[]))) (Syntax.tcons (Syntax.tyRef Syntax.erased Syntax.mut El.word) (Syntax.tcons El.word
-    Syntax.tnil)))) (List._∷_ (20, Rows'.any-gone (Syntax.tyRef Syntax.erased Syntax.mut El.word)) (List._∷_ (21, Rows'.any-gone (Syntax.tyStruct (List._∷_ 38 (List._∷_ 91 (List._∷_ 93 List.[]))) (Syntax.tcons (Syntax.tyRef
-    Syntax.erased Syntax.mut El.word) (Syntax.tcons El.word Syntax.tnil)))) (List._∷_ (22, Rows'.any-gone (Syntax.tyRef Syntax.erased Syntax.mut El.word)) (List._∷_ (23, Rows'.any-gone (Syntax.tyStruct (List._∷_ 38 (List._∷_ 91 (List._∷_
-    93 List.[]))) (Syntax.tcons (Syntax.tyRef Syntax.erased Syntax.mut El.word) (Syntax.tcons El.word Syntax.tnil)))) (List._∷_ (24, Rows'.any-gone (Syntax.tyRef Syntax.erased Syntax.mut El.word)) (List._∷_ (25, Rows'.any-gone
-    (Syntax.tyStruct (List._∷_ 38 (List._∷_ 91 (List._∷_ 93 List.[]))) (Syntax.tcons (Syntax.tyRef Syntax.erased Syntax.mut El.word) (Syntax.tcons El.word Syntax.tnil)))) (List._∷_ (26, Rows'.any-gone Syntax.tyUnit) (List._∷_ (27,
-    Rows'.any-gone (Syntax.tyRef Syntax.erased Syntax.mut El.named)) (List._∷_ (28, Rows'.any-gone (Syntax.tyStruct (List._∷_ 38 (List._∷_ 91 (List._∷_ 93 List.[]))) (Syntax.tcons (Syntax.tyRef Syntax.erased Syntax.mut El.named)
-    (Syntax.tcons El.word Syntax.tnil)))) (List._∷_ (29, Rows'.any-gone (Syntax.tyRef Syntax.erased Syntax.imm (Syntax.tyArray El.word 4104))) (List._∷_ (30, Rows'.any-gone (Syntax.tyStruct (List._∷_ 38 (List._∷_ 91 (List._∷_ 93
-    List.[]))) (Syntax.tcons (Syntax.tyRef Syntax.erased Syntax.imm El.word) (Syntax.tcons El.word Syntax.tnil)))) List.[]))))))))))))))
+t11 = List._∷_ (16, Rows'.any-gone (Syntax.tyRef Syntax.erased Syntax.imm El.named)) (List._∷_ (17, Rows'.sslice El.row (Syntax.tyRef Syntax.erased Syntax.imm El.named) 7) (List._∷_ (
+  18,
+  Rows'.any-gone (Syntax.tyRef Syntax.erased
+      Syntax.mut (Syntax.tyArray El.word 4104)),
+) (List._∷_ (
+  19,
+  Rows'.any-gone (Syntax.tyStruct (List._∷_ 38 (List._∷_ 91 (List._∷_ 93 List.[]))) (Syntax.tcons (Syntax.tyRef Syntax.erased Syntax.mut El.word) (Syntax.tcons El.word
+      Syntax.tnil))),
+) (List._∷_ (20, Rows'.any-gone (Syntax.tyRef Syntax.erased Syntax.mut El.word)) (List._∷_ (
+  21,
+  Rows'.any-gone (Syntax.tyStruct (List._∷_ 38 (List._∷_ 91 (List._∷_ 93 List.[]))) (Syntax.tcons (Syntax.tyRef
+      Syntax.erased Syntax.mut El.word) (Syntax.tcons El.word Syntax.tnil))),
+) (List._∷_ (22, Rows'.any-gone (Syntax.tyRef Syntax.erased Syntax.mut El.word)) (List._∷_ (
+  23,
+  Rows'.any-gone (Syntax.tyStruct (List._∷_ 38 (List._∷_ 91 (List._∷_
+      93 List.[]))) (Syntax.tcons (Syntax.tyRef Syntax.erased Syntax.mut El.word) (Syntax.tcons El.word Syntax.tnil))),
+) (List._∷_ (24, Rows'.any-gone (Syntax.tyRef Syntax.erased Syntax.mut El.word)) (List._∷_ (
+  25,
+  Rows'.any-gone
+      (Syntax.tyStruct (List._∷_ 38 (List._∷_ 91 (List._∷_ 93 List.[]))) (Syntax.tcons (Syntax.tyRef Syntax.erased Syntax.mut El.word) (Syntax.tcons El.word Syntax.tnil))),
+) (List._∷_ (26, Rows'.any-gone Syntax.tyUnit) (List._∷_ (
+  27,
+  Rows'.any-gone (Syntax.tyRef Syntax.erased Syntax.mut El.named),
+) (List._∷_ (
+  28,
+  Rows'.any-gone (Syntax.tyStruct (List._∷_ 38 (List._∷_ 91 (List._∷_ 93 List.[]))) (Syntax.tcons (Syntax.tyRef Syntax.erased Syntax.mut El.named)
+      (Syntax.tcons El.word Syntax.tnil))),
+) (List._∷_ (29, Rows'.any-gone (Syntax.tyRef Syntax.erased Syntax.imm (Syntax.tyArray El.word 4104))) (List._∷_ (
+  30,
+  Rows'.any-gone (Syntax.tyStruct (List._∷_ 38 (List._∷_ 91 (List._∷_ 93
+      List.[]))) (Syntax.tcons (Syntax.tyRef Syntax.erased Syntax.imm El.word) (Syntax.tcons El.word Syntax.tnil))),
+) List.[]))))))))))))))
 
 abbrev pub t12 : List.List Row.Entry
-t12 = List._∷_ (0, Rows'.any-gone El.Answered) (List._∷_ (1, Reshare.mslice-owedS El.row (Syntax.tyRef (Syntax.named 0) Syntax.mut El.named) 0 7 Row.off) (List._∷_ (2, Mut.mslice (Referent.rtF (Referent.fInt Syntax.w64)) (Syntax.tyRef
-    (Syntax.named 1) Syntax.mut El.word) 1) (List._∷_ (3, Mut.mslice (Referent.rtF (Referent.fInt Syntax.w64)) (Syntax.tyRef (Syntax.named 2) Syntax.mut El.word) 2) (List._∷_ (4, Mut.mslice (Referent.rtF (Referent.fInt Syntax.w64))
-    (Syntax.tyRef (Syntax.named 3) Syntax.mut El.word) 3) (List._∷_ (5, Rows'.whole (Declared'.row ReadyQueue.the-type)) (List._∷_ (6, Rows'.whole (Declared.row Event.the-type)) (List._∷_ (7, Rows'.sslice (Referent.rtF (Referent.fInt
-    Syntax.w16)) (Syntax.tyRef (Syntax.named 4) Syntax.imm (Syntax.tyInt Syntax.w16)) 4) (List._∷_ (8, Rows'.sslice (Referent.rtF (Referent.fInt Syntax.w8)) (Syntax.tyRef (Syntax.named 5) Syntax.imm (Syntax.tyInt Syntax.w8)) 5)
-    (List._∷_ (9, Rows'.sc-here (Row.sInt Syntax.w64)) (List._∷_ (10, Rows'.sc-here (Row.sInt Syntax.w16)) (List._∷_ (11, Rows'.any-gone (Syntax.tyArray El.word 4104)) (List._∷_ (12, Rows'.any-gone El.Worked) (List._∷_ (13,
-    Rows'.any-gone (Syntax.tyRef Syntax.erased Syntax.imm El.word)) (List._∷_ (14, Rows'.any-gone (Syntax.tyStruct (List._∷_ 38 (List._∷_ 91 (List._∷_ 93 List.[]))) (Syntax.tcons (Syntax.tyRef Syntax.erased Syntax.imm El.word)
-    (Syntax.tcons El.word Syntax.tnil)))) (List._∷_ (15, Rows.arrF (Referent.rtF (Referent.fInt Syntax.w64)) 4104 0) List.[])))))))))))))))
+t12 = List._∷_ (0, Rows'.any-gone El.Answered) (List._∷_ (1, Reshare.mslice-owedS El.row (Syntax.tyRef (Syntax.named 0) Syntax.mut El.named) 0 7 Row.off) (List._∷_ (
+  2,
+  Mut.mslice (Referent.rtF (Referent.fInt Syntax.w64)) (Syntax.tyRef
+      (Syntax.named 1) Syntax.mut El.word) 1,
+) (List._∷_ (3, Mut.mslice (Referent.rtF (Referent.fInt Syntax.w64)) (Syntax.tyRef (Syntax.named 2) Syntax.mut El.word) 2) (List._∷_ (
+  4,
+  Mut.mslice (Referent.rtF (Referent.fInt Syntax.w64))
+      (Syntax.tyRef (Syntax.named 3) Syntax.mut El.word) 3,
+) (List._∷_ (5, Rows'.whole (Declared'.row ReadyQueue.the-type)) (List._∷_ (6, Rows'.whole (Declared.row Event.the-type)) (List._∷_ (
+  7,
+  Rows'.sslice (Referent.rtF (Referent.fInt
+      Syntax.w16)) (Syntax.tyRef (Syntax.named 4) Syntax.imm (Syntax.tyInt Syntax.w16)) 4,
+) (List._∷_ (8, Rows'.sslice (Referent.rtF (Referent.fInt Syntax.w8)) (Syntax.tyRef (Syntax.named 5) Syntax.imm (Syntax.tyInt Syntax.w8)) 5)
+    (List._∷_ (9, Rows'.sc-here (Row.sInt Syntax.w64)) (List._∷_ (10, Rows'.sc-here (Row.sInt Syntax.w16)) (List._∷_ (11, Rows'.any-gone (Syntax.tyArray El.word 4104)) (List._∷_ (12, Rows'.any-gone El.Worked) (List._∷_ (
+      13,
+      Rows'.any-gone (Syntax.tyRef Syntax.erased Syntax.imm El.word),
+    ) (List._∷_ (
+      14,
+      Rows'.any-gone (Syntax.tyStruct (List._∷_ 38 (List._∷_ 91 (List._∷_ 93 List.[]))) (Syntax.tcons (Syntax.tyRef Syntax.erased Syntax.imm El.word)
+          (Syntax.tcons El.word Syntax.tnil))),
+    ) (List._∷_ (15, Rows.arrF (Referent.rtF (Referent.fInt Syntax.w64)) 4104 0) List.[])))))))))))))))
 
 abbrev pub t13 : List.List Row.Entry
-t13 = List._∷_ (0, Rows'.any-gone El.Answered) (List._∷_ (1, Mut.mslice El.row (Syntax.tyRef (Syntax.named 0) Syntax.mut El.named) 0) (List._∷_ (2, Mut.mslice (Referent.rtF (Referent.fInt Syntax.w64)) (Syntax.tyRef (Syntax.named 1)
-    Syntax.mut El.word) 1) (List._∷_ (3, Mut.mslice (Referent.rtF (Referent.fInt Syntax.w64)) (Syntax.tyRef (Syntax.named 2) Syntax.mut El.word) 2) (List._∷_ (4, Mut.mslice (Referent.rtF (Referent.fInt Syntax.w64)) (Syntax.tyRef
-    (Syntax.named 3) Syntax.mut El.word) 3) (List._∷_ (5, Rows'.whole (Declared'.row ReadyQueue.the-type)) (List._∷_ (6, Rows'.whole (Declared.row Event.the-type)) (List._∷_ (7, Rows'.sslice (Referent.rtF (Referent.fInt Syntax.w16))
-    (Syntax.tyRef (Syntax.named 4) Syntax.imm (Syntax.tyInt Syntax.w16)) 4) (List._∷_ (8, Rows'.sslice (Referent.rtF (Referent.fInt Syntax.w8)) (Syntax.tyRef (Syntax.named 5) Syntax.imm (Syntax.tyInt Syntax.w8)) 5) (List._∷_ (9,
-    Rows'.sc-here (Row.sInt Syntax.w64)) (List._∷_ (10, Rows'.sc-here (Row.sInt Syntax.w16)) (List._∷_ (11, Rows'.any-gone (Syntax.tyArray El.word 4104)) (List._∷_ (12, Rows'.any-gone El.Worked) (List._∷_ (13, Rows'.any-gone
-    (Syntax.tyRef Syntax.erased Syntax.imm El.word)) (List._∷_ (14, Rows'.any-gone (Syntax.tyStruct (List._∷_ 38 (List._∷_ 91 (List._∷_ 93 List.[]))) (Syntax.tcons (Syntax.tyRef Syntax.erased Syntax.imm El.word) (Syntax.tcons El.word
-    Syntax.tnil)))) (List._∷_ (15, Rows.arrF (Referent.rtF (Referent.fInt Syntax.w64)) 4104 0) List.[])))))))))))))))
+t13 = List._∷_ (0, Rows'.any-gone El.Answered) (List._∷_ (1, Mut.mslice El.row (Syntax.tyRef (Syntax.named 0) Syntax.mut El.named) 0) (List._∷_ (
+  2,
+  Mut.mslice (Referent.rtF (Referent.fInt Syntax.w64)) (Syntax.tyRef (Syntax.named 1)
+      Syntax.mut El.word) 1,
+) (List._∷_ (3, Mut.mslice (Referent.rtF (Referent.fInt Syntax.w64)) (Syntax.tyRef (Syntax.named 2) Syntax.mut El.word) 2) (List._∷_ (
+  4,
+  Mut.mslice (Referent.rtF (Referent.fInt Syntax.w64)) (Syntax.tyRef
+      (Syntax.named 3) Syntax.mut El.word) 3,
+) (List._∷_ (5, Rows'.whole (Declared'.row ReadyQueue.the-type)) (List._∷_ (6, Rows'.whole (Declared.row Event.the-type)) (List._∷_ (
+  7,
+  Rows'.sslice (Referent.rtF (Referent.fInt Syntax.w16))
+      (Syntax.tyRef (Syntax.named 4) Syntax.imm (Syntax.tyInt Syntax.w16)) 4,
+) (List._∷_ (8, Rows'.sslice (Referent.rtF (Referent.fInt Syntax.w8)) (Syntax.tyRef (Syntax.named 5) Syntax.imm (Syntax.tyInt Syntax.w8)) 5) (List._∷_ (
+  9,
+  Rows'.sc-here (Row.sInt Syntax.w64),
+) (List._∷_ (10, Rows'.sc-here (Row.sInt Syntax.w16)) (List._∷_ (11, Rows'.any-gone (Syntax.tyArray El.word 4104)) (List._∷_ (12, Rows'.any-gone El.Worked) (List._∷_ (
+  13,
+  Rows'.any-gone
+      (Syntax.tyRef Syntax.erased Syntax.imm El.word),
+) (List._∷_ (
+  14,
+  Rows'.any-gone (Syntax.tyStruct (List._∷_ 38 (List._∷_ 91 (List._∷_ 93 List.[]))) (Syntax.tcons (Syntax.tyRef Syntax.erased Syntax.imm El.word) (Syntax.tcons El.word
+      Syntax.tnil))),
+) (List._∷_ (15, Rows.arrF (Referent.rtF (Referent.fInt Syntax.w64)) 4104 0) List.[])))))))))))))))
 
 abbrev pub t14 : List.List Row.Entry
-t14 = List._∷_ (0, Rows'.any-gone El.Answered) (List._∷_ (1, Mut.mslice El.row (Syntax.tyRef (Syntax.named 0) Syntax.mut El.named) 0) (List._∷_ (2, Mut.mslice (Referent.rtF (Referent.fInt Syntax.w64)) (Syntax.tyRef (Syntax.named 1)
-    Syntax.mut El.word) 1) (List._∷_ (3, Mut.mslice (Referent.rtF (Referent.fInt Syntax.w64)) (Syntax.tyRef (Syntax.named 2) Syntax.mut El.word) 2) (List._∷_ (4, Mut.mslice (Referent.rtF (Referent.fInt Syntax.w64)) (Syntax.tyRef
-    (Syntax.named 3) Syntax.mut El.word) 3) (List._∷_ (5, Rows'.whole (Declared'.row ReadyQueue.the-type)) (List._∷_ (6, Rows'.whole (Declared.row Event.the-type)) (List._∷_ (7, Rows'.sslice (Referent.rtF (Referent.fInt Syntax.w16))
-    (Syntax.tyRef (Syntax.named 4) Syntax.imm (Syntax.tyInt Syntax.w16)) 4) (List._∷_ (8, Rows'.sslice (Referent.rtF (Referent.fInt Syntax.w8)) (Syntax.tyRef (Syntax.named 5) Syntax.imm (Syntax.tyInt Syntax.w8)) 5) (List._∷_ (9,
-    Rows'.sc-here (Row.sInt Syntax.w64)) (List._∷_ (10, Rows'.sc-here (Row.sInt Syntax.w16)) (List._∷_ (11, Rows.arrF (Referent.rtF (Referent.fInt Syntax.w64)) 4104 0) (List._∷_ (12, Rows'.any-gone El.Worked) (List._∷_ (13,
-    Rows'.any-gone (Syntax.tyRef Syntax.erased Syntax.imm El.word)) (List._∷_ (14, Rows'.any-gone (Syntax.tyStruct (List._∷_ 38 (List._∷_ 91 (List._∷_ 93 List.[]))) (Syntax.tcons (Syntax.tyRef Syntax.erased Syntax.imm El.word)
-    (Syntax.tcons El.word Syntax.tnil)))) (List._∷_ (15, Rows.arrF (Referent.rtF (Referent.fInt Syntax.w64)) 4104 0) List.[])))))))))))))))
+t14 = List._∷_ (0, Rows'.any-gone El.Answered) (List._∷_ (1, Mut.mslice El.row (Syntax.tyRef (Syntax.named 0) Syntax.mut El.named) 0) (List._∷_ (
+  2,
+  Mut.mslice (Referent.rtF (Referent.fInt Syntax.w64)) (Syntax.tyRef (Syntax.named 1)
+      Syntax.mut El.word) 1,
+) (List._∷_ (3, Mut.mslice (Referent.rtF (Referent.fInt Syntax.w64)) (Syntax.tyRef (Syntax.named 2) Syntax.mut El.word) 2) (List._∷_ (
+  4,
+  Mut.mslice (Referent.rtF (Referent.fInt Syntax.w64)) (Syntax.tyRef
+      (Syntax.named 3) Syntax.mut El.word) 3,
+) (List._∷_ (5, Rows'.whole (Declared'.row ReadyQueue.the-type)) (List._∷_ (6, Rows'.whole (Declared.row Event.the-type)) (List._∷_ (
+  7,
+  Rows'.sslice (Referent.rtF (Referent.fInt Syntax.w16))
+      (Syntax.tyRef (Syntax.named 4) Syntax.imm (Syntax.tyInt Syntax.w16)) 4,
+) (List._∷_ (8, Rows'.sslice (Referent.rtF (Referent.fInt Syntax.w8)) (Syntax.tyRef (Syntax.named 5) Syntax.imm (Syntax.tyInt Syntax.w8)) 5) (List._∷_ (
+  9,
+  Rows'.sc-here (Row.sInt Syntax.w64),
+) (List._∷_ (10, Rows'.sc-here (Row.sInt Syntax.w16)) (List._∷_ (11, Rows.arrF (Referent.rtF (Referent.fInt Syntax.w64)) 4104 0) (List._∷_ (12, Rows'.any-gone El.Worked) (List._∷_ (
+  13,
+  Rows'.any-gone (Syntax.tyRef Syntax.erased Syntax.imm El.word),
+) (List._∷_ (
+  14,
+  Rows'.any-gone (Syntax.tyStruct (List._∷_ 38 (List._∷_ 91 (List._∷_ 93 List.[]))) (Syntax.tcons (Syntax.tyRef Syntax.erased Syntax.imm El.word)
+      (Syntax.tcons El.word Syntax.tnil))),
+) (List._∷_ (15, Rows.arrF (Referent.rtF (Referent.fInt Syntax.w64)) 4104 0) List.[])))))))))))))))
 
 abbrev pub t15 : List.List Row.Entry
-t15 = List._∷_ (0, Rows'.any-gone El.Answered) (List._∷_ (1, Mut.mslice El.row (Syntax.tyRef (Syntax.named 0) Syntax.mut El.named) 0) (List._∷_ (2, Mut.mslice (Referent.rtF (Referent.fInt Syntax.w64)) (Syntax.tyRef (Syntax.named 1)
-    Syntax.mut El.word) 1) (List._∷_ (3, Mut.mslice (Referent.rtF (Referent.fInt Syntax.w64)) (Syntax.tyRef (Syntax.named 2) Syntax.mut El.word) 2) (List._∷_ (4, Mut.mslice (Referent.rtF (Referent.fInt Syntax.w64)) (Syntax.tyRef
-    (Syntax.named 3) Syntax.mut El.word) 3) (List._∷_ (5, Rows'.whole (Declared'.row ReadyQueue.the-type)) (List._∷_ (6, Rows'.whole (Declared.row Event.the-type)) (List._∷_ (7, Rows'.sslice (Referent.rtF (Referent.fInt Syntax.w16))
-    (Syntax.tyRef (Syntax.named 4) Syntax.imm (Syntax.tyInt Syntax.w16)) 4) (List._∷_ (8, Rows'.sslice (Referent.rtF (Referent.fInt Syntax.w8)) (Syntax.tyRef (Syntax.named 5) Syntax.imm (Syntax.tyInt Syntax.w8)) 5) (List._∷_ (9,
-    Rows'.sc-here (Row.sInt Syntax.w64)) (List._∷_ (10, Rows'.sc-here (Row.sInt Syntax.w16)) (List._∷_ (11, Rows.arrF (Referent.rtF (Referent.fInt Syntax.w64)) 4104 0) (List._∷_ (12, Rows'.any-gone El.Worked) (List._∷_ (13,
-    Rows'.any-gone (Syntax.tyRef Syntax.erased Syntax.imm El.word)) (List._∷_ (14, Rows'.any-gone (Syntax.tyStruct (List._∷_ 38 (List._∷_ 91 (List._∷_ 93 List.[]))) (Syntax.tcons (Syntax.tyRef Syntax.erased Syntax.imm El.word)
-    (Syntax.tcons El.word Syntax.tnil)))) (List._∷_ (15, Rows'.any-gone (Syntax.tyArray El.word 4104)) List.[])))))))))))))))
+t15 = List._∷_ (0, Rows'.any-gone El.Answered) (List._∷_ (1, Mut.mslice El.row (Syntax.tyRef (Syntax.named 0) Syntax.mut El.named) 0) (List._∷_ (
+  2,
+  Mut.mslice (Referent.rtF (Referent.fInt Syntax.w64)) (Syntax.tyRef (Syntax.named 1)
+      Syntax.mut El.word) 1,
+) (List._∷_ (3, Mut.mslice (Referent.rtF (Referent.fInt Syntax.w64)) (Syntax.tyRef (Syntax.named 2) Syntax.mut El.word) 2) (List._∷_ (
+  4,
+  Mut.mslice (Referent.rtF (Referent.fInt Syntax.w64)) (Syntax.tyRef
+      (Syntax.named 3) Syntax.mut El.word) 3,
+) (List._∷_ (5, Rows'.whole (Declared'.row ReadyQueue.the-type)) (List._∷_ (6, Rows'.whole (Declared.row Event.the-type)) (List._∷_ (
+  7,
+  Rows'.sslice (Referent.rtF (Referent.fInt Syntax.w16))
+      (Syntax.tyRef (Syntax.named 4) Syntax.imm (Syntax.tyInt Syntax.w16)) 4,
+) (List._∷_ (8, Rows'.sslice (Referent.rtF (Referent.fInt Syntax.w8)) (Syntax.tyRef (Syntax.named 5) Syntax.imm (Syntax.tyInt Syntax.w8)) 5) (List._∷_ (
+  9,
+  Rows'.sc-here (Row.sInt Syntax.w64),
+) (List._∷_ (10, Rows'.sc-here (Row.sInt Syntax.w16)) (List._∷_ (11, Rows.arrF (Referent.rtF (Referent.fInt Syntax.w64)) 4104 0) (List._∷_ (12, Rows'.any-gone El.Worked) (List._∷_ (
+  13,
+  Rows'.any-gone (Syntax.tyRef Syntax.erased Syntax.imm El.word),
+) (List._∷_ (
+  14,
+  Rows'.any-gone (Syntax.tyStruct (List._∷_ 38 (List._∷_ 91 (List._∷_ 93 List.[]))) (Syntax.tcons (Syntax.tyRef Syntax.erased Syntax.imm El.word)
+      (Syntax.tcons El.word Syntax.tnil))),
+) (List._∷_ (15, Rows'.any-gone (Syntax.tyArray El.word 4104)) List.[])))))))))))))))
 
 abbrev pub t16 : List.List Row.Entry
-t16 = List._∷_ (0, Rows'.any-gone El.Answered) (List._∷_ (1, Mut.mslice El.row (Syntax.tyRef (Syntax.named 0) Syntax.mut El.named) 0) (List._∷_ (2, Mut.mslice (Referent.rtF (Referent.fInt Syntax.w64)) (Syntax.tyRef (Syntax.named 1)
-    Syntax.mut El.word) 1) (List._∷_ (3, Mut.mslice (Referent.rtF (Referent.fInt Syntax.w64)) (Syntax.tyRef (Syntax.named 2) Syntax.mut El.word) 2) (List._∷_ (4, Mut.mslice (Referent.rtF (Referent.fInt Syntax.w64)) (Syntax.tyRef
-    (Syntax.named 3) Syntax.mut El.word) 3) (List._∷_ (5, Rows'.whole (Declared'.row ReadyQueue.the-type)) (List._∷_ (6, Rows'.whole (Declared.row Event.the-type)) (List._∷_ (7, Rows'.sslice (Referent.rtF (Referent.fInt Syntax.w16))
-    (Syntax.tyRef (Syntax.named 4) Syntax.imm (Syntax.tyInt Syntax.w16)) 4) (List._∷_ (8, Rows'.sslice (Referent.rtF (Referent.fInt Syntax.w8)) (Syntax.tyRef (Syntax.named 5) Syntax.imm (Syntax.tyInt Syntax.w8)) 5) (List._∷_ (9,
-    Rows'.sc-here (Row.sInt Syntax.w64)) (List._∷_ (10, Rows'.sc-here (Row.sInt Syntax.w16)) (List._∷_ (11, Rows.arr-owed (Referent.rtF (Referent.fInt Syntax.w64)) 4104 8) (List._∷_ (12, Rows'.any-gone El.Worked) (List._∷_ (13,
-    Rows'.any-gone (Syntax.tyRef Syntax.erased Syntax.imm El.word)) (List._∷_ (14, Rows'.any-gone (Syntax.tyStruct (List._∷_ 38 (List._∷_ 91 (List._∷_ 93 List.[]))) (Syntax.tcons (Syntax.tyRef Syntax.erased Syntax.imm El.word)
-    (Syntax.tcons El.word Syntax.tnil)))) (List._∷_ (15, Rows'.any-gone (Syntax.tyArray El.word 4104)) List.[])))))))))))))))
+t16 = List._∷_ (0, Rows'.any-gone El.Answered) (List._∷_ (1, Mut.mslice El.row (Syntax.tyRef (Syntax.named 0) Syntax.mut El.named) 0) (List._∷_ (
+  2,
+  Mut.mslice (Referent.rtF (Referent.fInt Syntax.w64)) (Syntax.tyRef (Syntax.named 1)
+      Syntax.mut El.word) 1,
+) (List._∷_ (3, Mut.mslice (Referent.rtF (Referent.fInt Syntax.w64)) (Syntax.tyRef (Syntax.named 2) Syntax.mut El.word) 2) (List._∷_ (
+  4,
+  Mut.mslice (Referent.rtF (Referent.fInt Syntax.w64)) (Syntax.tyRef
+      (Syntax.named 3) Syntax.mut El.word) 3,
+) (List._∷_ (5, Rows'.whole (Declared'.row ReadyQueue.the-type)) (List._∷_ (6, Rows'.whole (Declared.row Event.the-type)) (List._∷_ (
+  7,
+  Rows'.sslice (Referent.rtF (Referent.fInt Syntax.w16))
+      (Syntax.tyRef (Syntax.named 4) Syntax.imm (Syntax.tyInt Syntax.w16)) 4,
+) (List._∷_ (8, Rows'.sslice (Referent.rtF (Referent.fInt Syntax.w8)) (Syntax.tyRef (Syntax.named 5) Syntax.imm (Syntax.tyInt Syntax.w8)) 5) (List._∷_ (
+  9,
+  Rows'.sc-here (Row.sInt Syntax.w64),
+) (List._∷_ (10, Rows'.sc-here (Row.sInt Syntax.w16)) (List._∷_ (11, Rows.arr-owed (Referent.rtF (Referent.fInt Syntax.w64)) 4104 8) (List._∷_ (12, Rows'.any-gone El.Worked) (List._∷_ (
+  13,
+  Rows'.any-gone (Syntax.tyRef Syntax.erased Syntax.imm El.word),
+) (List._∷_ (
+  14,
+  Rows'.any-gone (Syntax.tyStruct (List._∷_ 38 (List._∷_ 91 (List._∷_ 93 List.[]))) (Syntax.tcons (Syntax.tyRef Syntax.erased Syntax.imm El.word)
+      (Syntax.tcons El.word Syntax.tnil))),
+) (List._∷_ (15, Rows'.any-gone (Syntax.tyArray El.word 4104)) List.[])))))))))))))))
 
 abbrev pub t17 : List.List Row.Entry
-t17 = List._∷_ (16, Rows'.any-gone (Syntax.tyRef Syntax.erased Syntax.imm El.named)) (List._∷_ (17, Rows'.any-gone (Syntax.tyStruct (List._∷_ 38 (List._∷_ 91 (List._∷_ 93 List.[]))) (Syntax.tcons (Syntax.tyRef Syntax.erased Syntax.imm
-    El.named) (Syntax.tcons El.word Syntax.tnil)))) (List._∷_ (18, Relend.msptr (Referent.rtF (Referent.fInt Syntax.w64)) (Syntax.tyRef Syntax.erased Syntax.mut (Syntax.tyArray El.word 4104)) 8) (List._∷_ (19, Rows'.any-gone
-    (Syntax.tyStruct (List._∷_ 38 (List._∷_ 91 (List._∷_ 93 List.[]))) (Syntax.tcons (Syntax.tyRef Syntax.erased Syntax.mut El.word) (Syntax.tcons El.word Syntax.tnil)))) (List._∷_ (20, Rows'.any-gone (Syntax.tyRef Syntax.erased
-    Syntax.mut El.word)) (List._∷_ (21, Rows'.any-gone (Syntax.tyStruct (List._∷_ 38 (List._∷_ 91 (List._∷_ 93 List.[]))) (Syntax.tcons (Syntax.tyRef Syntax.erased Syntax.mut El.word) (Syntax.tcons El.word Syntax.tnil)))) (List._∷_ (22,
-    Rows'.any-gone (Syntax.tyRef Syntax.erased Syntax.mut El.word)) (List._∷_ (23, Rows'.any-gone (Syntax.tyStruct (List._∷_ 38 (List._∷_ 91 (List._∷_ 93 List.[]))) (Syntax.tcons (Syntax.tyRef Syntax.erased Syntax.mut El.word)
-    (Syntax.tcons El.word Syntax.tnil)))) (List._∷_ (24, Rows'.any-gone (Syntax.tyRef Syntax.erased Syntax.mut El.word)) (List._∷_ (25, Rows'.any-gone (Syntax.tyStruct (List._∷_ 38 (List._∷_ 91 (List._∷_ 93 List.[]))) (Syntax.tcons
-    (Syntax.tyRef Syntax.erased Syntax.mut El.word) (Syntax.tcons El.word Syntax.tnil)))) (List._∷_ (26, Rows'.any-gone Syntax.tyUnit) (List._∷_ (27, Rows'.any-gone (Syntax.tyRef Syntax.erased Syntax.mut El.named)) (List._∷_ (28,
-    Rows'.any-gone (Syntax.tyStruct (List._∷_ 38 (List._∷_ 91 (List._∷_ 93 List.[]))) (Syntax.tcons (Syntax.tyRef Syntax.erased Syntax.mut El.named) (Syntax.tcons El.word Syntax.tnil)))) (List._∷_ (29, Rows'.any-gone (Syntax.tyRef
-    Syntax.erased Syntax.imm (Syntax.tyArray El.word 4104))) (List._∷_ (30, Rows'.any-gone (Syntax.tyStruct (List._∷_ 38 (List._∷_ 91 (List._∷_ 93 List.[]))) (Syntax.tcons (Syntax.tyRef Syntax.erased Syntax.imm El.word) (Syntax.tcons
-    El.word Syntax.tnil)))) List.[]))))))))))))))
+t17 = List._∷_ (16, Rows'.any-gone (Syntax.tyRef Syntax.erased Syntax.imm El.named)) (List._∷_ (
+  17,
+  Rows'.any-gone (Syntax.tyStruct (List._∷_ 38 (List._∷_ 91 (List._∷_ 93 List.[]))) (Syntax.tcons (Syntax.tyRef Syntax.erased Syntax.imm
+      El.named) (Syntax.tcons El.word Syntax.tnil))),
+) (List._∷_ (18, Relend.msptr (Referent.rtF (Referent.fInt Syntax.w64)) (Syntax.tyRef Syntax.erased Syntax.mut (Syntax.tyArray El.word 4104)) 8) (List._∷_ (
+  19,
+  Rows'.any-gone
+      (Syntax.tyStruct (List._∷_ 38 (List._∷_ 91 (List._∷_ 93 List.[]))) (Syntax.tcons (Syntax.tyRef Syntax.erased Syntax.mut El.word) (Syntax.tcons El.word Syntax.tnil))),
+) (List._∷_ (
+  20,
+  Rows'.any-gone (Syntax.tyRef Syntax.erased
+      Syntax.mut El.word),
+) (List._∷_ (21, Rows'.any-gone (Syntax.tyStruct (List._∷_ 38 (List._∷_ 91 (List._∷_ 93 List.[]))) (Syntax.tcons (Syntax.tyRef Syntax.erased Syntax.mut El.word) (Syntax.tcons El.word Syntax.tnil)))) (List._∷_ (
+  22,
+  Rows'.any-gone (Syntax.tyRef Syntax.erased Syntax.mut El.word),
+) (List._∷_ (
+  23,
+  Rows'.any-gone (Syntax.tyStruct (List._∷_ 38 (List._∷_ 91 (List._∷_ 93 List.[]))) (Syntax.tcons (Syntax.tyRef Syntax.erased Syntax.mut El.word)
+      (Syntax.tcons El.word Syntax.tnil))),
+) (List._∷_ (24, Rows'.any-gone (Syntax.tyRef Syntax.erased Syntax.mut El.word)) (List._∷_ (
+  25,
+  Rows'.any-gone (Syntax.tyStruct (List._∷_ 38 (List._∷_ 91 (List._∷_ 93 List.[]))) (Syntax.tcons
+      (Syntax.tyRef Syntax.erased Syntax.mut El.word) (Syntax.tcons El.word Syntax.tnil))),
+) (List._∷_ (26, Rows'.any-gone Syntax.tyUnit) (List._∷_ (27, Rows'.any-gone (Syntax.tyRef Syntax.erased Syntax.mut El.named)) (List._∷_ (
+  28,
+  Rows'.any-gone (Syntax.tyStruct (List._∷_ 38 (List._∷_ 91 (List._∷_ 93 List.[]))) (Syntax.tcons (Syntax.tyRef Syntax.erased Syntax.mut El.named) (Syntax.tcons El.word Syntax.tnil))),
+) (List._∷_ (
+  29,
+  Rows'.any-gone (Syntax.tyRef
+      Syntax.erased Syntax.imm (Syntax.tyArray El.word 4104)),
+) (List._∷_ (
+  30,
+  Rows'.any-gone (Syntax.tyStruct (List._∷_ 38 (List._∷_ 91 (List._∷_ 93 List.[]))) (Syntax.tcons (Syntax.tyRef Syntax.erased Syntax.imm El.word) (Syntax.tcons
+      El.word Syntax.tnil))),
+) List.[]))))))))))))))
 
 abbrev pub t18 : List.List Row.Entry
-t18 = List._∷_ (16, Rows'.any-gone (Syntax.tyRef Syntax.erased Syntax.imm El.named)) (List._∷_ (17, Rows'.any-gone (Syntax.tyStruct (List._∷_ 38 (List._∷_ 91 (List._∷_ 93 List.[]))) (Syntax.tcons (Syntax.tyRef Syntax.erased Syntax.imm
-    El.named) (Syntax.tcons El.word Syntax.tnil)))) (List._∷_ (18, Rows'.any-gone (Syntax.tyRef Syntax.erased Syntax.mut (Syntax.tyArray El.word 4104))) (List._∷_ (19, Mut.mslice (Referent.rtF (Referent.fInt Syntax.w64)) (Syntax.tyRef
-    Syntax.erased Syntax.mut El.word) 8) (List._∷_ (20, Rows'.any-gone (Syntax.tyRef Syntax.erased Syntax.mut El.word)) (List._∷_ (21, Rows'.any-gone (Syntax.tyStruct (List._∷_ 38 (List._∷_ 91 (List._∷_ 93 List.[]))) (Syntax.tcons
-    (Syntax.tyRef Syntax.erased Syntax.mut El.word) (Syntax.tcons El.word Syntax.tnil)))) (List._∷_ (22, Rows'.any-gone (Syntax.tyRef Syntax.erased Syntax.mut El.word)) (List._∷_ (23, Rows'.any-gone (Syntax.tyStruct (List._∷_ 38 (List._∷_
-    91 (List._∷_ 93 List.[]))) (Syntax.tcons (Syntax.tyRef Syntax.erased Syntax.mut El.word) (Syntax.tcons El.word Syntax.tnil)))) (List._∷_ (24, Rows'.any-gone (Syntax.tyRef Syntax.erased Syntax.mut El.word)) (List._∷_ (25,
-    Rows'.any-gone (Syntax.tyStruct (List._∷_ 38 (List._∷_ 91 (List._∷_ 93 List.[]))) (Syntax.tcons (Syntax.tyRef Syntax.erased Syntax.mut El.word) (Syntax.tcons El.word Syntax.tnil)))) (List._∷_ (26, Rows'.any-gone Syntax.tyUnit)
-    (List._∷_ (27, Rows'.any-gone (Syntax.tyRef Syntax.erased Syntax.mut El.named)) (List._∷_ (28, Rows'.any-gone (Syntax.tyStruct (List._∷_ 38 (List._∷_ 91 (List._∷_ 93 List.[]))) (Syntax.tcons (Syntax.tyRef Syntax.erased Syntax.mut
-    El.named) (Syntax.tcons El.word Syntax.tnil)))) (List._∷_ (29, Rows'.any-gone (Syntax.tyRef Syntax.erased Syntax.imm (Syntax.tyArray El.word 4104))) (List._∷_ (30, Rows'.any-gone (Syntax.tyStruct (List._∷_ 38 (List._∷_ 91 (List._∷_ 93
-    List.[]))) (Syntax.tcons (Syntax.tyRef Syntax.erased Syntax.imm El.word) (Syntax.tcons El.word Syntax.tnil)))) List.[]))))))))))))))
+t18 = List._∷_ (16, Rows'.any-gone (Syntax.tyRef Syntax.erased Syntax.imm El.named)) (List._∷_ (
+  17,
+  Rows'.any-gone (Syntax.tyStruct (List._∷_ 38 (List._∷_ 91 (List._∷_ 93 List.[]))) (Syntax.tcons (Syntax.tyRef Syntax.erased Syntax.imm
+      El.named) (Syntax.tcons El.word Syntax.tnil))),
+) (List._∷_ (18, Rows'.any-gone (Syntax.tyRef Syntax.erased Syntax.mut (Syntax.tyArray El.word 4104))) (List._∷_ (
+  19,
+  Mut.mslice (Referent.rtF (Referent.fInt Syntax.w64)) (Syntax.tyRef
+      Syntax.erased Syntax.mut El.word) 8,
+) (List._∷_ (20, Rows'.any-gone (Syntax.tyRef Syntax.erased Syntax.mut El.word)) (List._∷_ (
+  21,
+  Rows'.any-gone (Syntax.tyStruct (List._∷_ 38 (List._∷_ 91 (List._∷_ 93 List.[]))) (Syntax.tcons
+      (Syntax.tyRef Syntax.erased Syntax.mut El.word) (Syntax.tcons El.word Syntax.tnil))),
+) (List._∷_ (22, Rows'.any-gone (Syntax.tyRef Syntax.erased Syntax.mut El.word)) (List._∷_ (
+  23,
+  Rows'.any-gone (Syntax.tyStruct (List._∷_ 38 (List._∷_
+      91 (List._∷_ 93 List.[]))) (Syntax.tcons (Syntax.tyRef Syntax.erased Syntax.mut El.word) (Syntax.tcons El.word Syntax.tnil))),
+) (List._∷_ (24, Rows'.any-gone (Syntax.tyRef Syntax.erased Syntax.mut El.word)) (List._∷_ (
+  25,
+  Rows'.any-gone (Syntax.tyStruct (List._∷_ 38 (List._∷_ 91 (List._∷_ 93 List.[]))) (Syntax.tcons (Syntax.tyRef Syntax.erased Syntax.mut El.word) (Syntax.tcons El.word Syntax.tnil))),
+) (List._∷_ (26, Rows'.any-gone Syntax.tyUnit)
+    (List._∷_ (27, Rows'.any-gone (Syntax.tyRef Syntax.erased Syntax.mut El.named)) (List._∷_ (
+      28,
+      Rows'.any-gone (Syntax.tyStruct (List._∷_ 38 (List._∷_ 91 (List._∷_ 93 List.[]))) (Syntax.tcons (Syntax.tyRef Syntax.erased Syntax.mut
+          El.named) (Syntax.tcons El.word Syntax.tnil))),
+    ) (List._∷_ (29, Rows'.any-gone (Syntax.tyRef Syntax.erased Syntax.imm (Syntax.tyArray El.word 4104))) (List._∷_ (
+      30,
+      Rows'.any-gone (Syntax.tyStruct (List._∷_ 38 (List._∷_ 91 (List._∷_ 93
+          List.[]))) (Syntax.tcons (Syntax.tyRef Syntax.erased Syntax.imm El.word) (Syntax.tcons El.word Syntax.tnil))),
+    ) List.[]))))))))))))))
 
 abbrev pub t19 : List.List Row.Entry
-t19 = List._∷_ (0, Rows'.any-gone El.Answered) (List._∷_ (1, Mut.mslice El.row (Syntax.tyRef (Syntax.named 0) Syntax.mut El.named) 0) (List._∷_ (2, Relend.mslice-owed (Referent.rtF (Referent.fInt Syntax.w64)) (Syntax.tyRef (Syntax.named
-    1) Syntax.mut El.word) 1 9 Row.off) (List._∷_ (3, Mut.mslice (Referent.rtF (Referent.fInt Syntax.w64)) (Syntax.tyRef (Syntax.named 2) Syntax.mut El.word) 2) (List._∷_ (4, Mut.mslice (Referent.rtF (Referent.fInt Syntax.w64))
-    (Syntax.tyRef (Syntax.named 3) Syntax.mut El.word) 3) (List._∷_ (5, Rows'.whole (Declared'.row ReadyQueue.the-type)) (List._∷_ (6, Rows'.whole (Declared.row Event.the-type)) (List._∷_ (7, Rows'.sslice (Referent.rtF (Referent.fInt
-    Syntax.w16)) (Syntax.tyRef (Syntax.named 4) Syntax.imm (Syntax.tyInt Syntax.w16)) 4) (List._∷_ (8, Rows'.sslice (Referent.rtF (Referent.fInt Syntax.w8)) (Syntax.tyRef (Syntax.named 5) Syntax.imm (Syntax.tyInt Syntax.w8)) 5)
+t19 = List._∷_ (0, Rows'.any-gone El.Answered) (List._∷_ (1, Mut.mslice El.row (Syntax.tyRef (Syntax.named 0) Syntax.mut El.named) 0) (List._∷_ (
+  2,
+  Relend.mslice-owed (Referent.rtF (Referent.fInt Syntax.w64)) (Syntax.tyRef (Syntax.named
+      1) Syntax.mut El.word) 1 9 Row.off,
+) (List._∷_ (3, Mut.mslice (Referent.rtF (Referent.fInt Syntax.w64)) (Syntax.tyRef (Syntax.named 2) Syntax.mut El.word) 2) (List._∷_ (
+  4,
+  Mut.mslice (Referent.rtF (Referent.fInt Syntax.w64))
+      (Syntax.tyRef (Syntax.named 3) Syntax.mut El.word) 3,
+) (List._∷_ (5, Rows'.whole (Declared'.row ReadyQueue.the-type)) (List._∷_ (6, Rows'.whole (Declared.row Event.the-type)) (List._∷_ (
+  7,
+  Rows'.sslice (Referent.rtF (Referent.fInt
+      Syntax.w16)) (Syntax.tyRef (Syntax.named 4) Syntax.imm (Syntax.tyInt Syntax.w16)) 4,
+) (List._∷_ (8, Rows'.sslice (Referent.rtF (Referent.fInt Syntax.w8)) (Syntax.tyRef (Syntax.named 5) Syntax.imm (Syntax.tyInt Syntax.w8)) 5)
     (List._∷_ (9, Rows'.sc-here (Row.sInt Syntax.w64)) (List._∷_ (10, Rows'.sc-here (Row.sInt Syntax.w16)) (List._∷_ (11, Rows.arr-owed (Referent.rtF (Referent.fInt Syntax.w64)) 4104 8) (List._∷_ (12, Rows'.any-gone El.Worked) (List._∷_
-    (13, Rows'.any-gone (Syntax.tyRef Syntax.erased Syntax.imm El.word)) (List._∷_ (14, Rows'.any-gone (Syntax.tyStruct (List._∷_ 38 (List._∷_ 91 (List._∷_ 93 List.[]))) (Syntax.tcons (Syntax.tyRef Syntax.erased Syntax.imm El.word)
-    (Syntax.tcons El.word Syntax.tnil)))) (List._∷_ (15, Rows'.any-gone (Syntax.tyArray El.word 4104)) List.[])))))))))))))))
+    (13, Rows'.any-gone (Syntax.tyRef Syntax.erased Syntax.imm El.word)) (List._∷_ (
+      14,
+      Rows'.any-gone (Syntax.tyStruct (List._∷_ 38 (List._∷_ 91 (List._∷_ 93 List.[]))) (Syntax.tcons (Syntax.tyRef Syntax.erased Syntax.imm El.word)
+          (Syntax.tcons El.word Syntax.tnil))),
+    ) (List._∷_ (15, Rows'.any-gone (Syntax.tyArray El.word 4104)) List.[])))))))))))))))
 
 abbrev pub t20 : List.List Row.Entry
-t20 = List._∷_ (16, Rows'.any-gone (Syntax.tyRef Syntax.erased Syntax.imm El.named)) (List._∷_ (17, Rows'.any-gone (Syntax.tyStruct (List._∷_ 38 (List._∷_ 91 (List._∷_ 93 List.[]))) (Syntax.tcons (Syntax.tyRef Syntax.erased Syntax.imm
-    El.named) (Syntax.tcons El.word Syntax.tnil)))) (List._∷_ (18, Rows'.any-gone (Syntax.tyRef Syntax.erased Syntax.mut (Syntax.tyArray El.word 4104))) (List._∷_ (19, Mut.mslice (Referent.rtF (Referent.fInt Syntax.w64)) (Syntax.tyRef
-    Syntax.erased Syntax.mut El.word) 8) (List._∷_ (20, Relend.msptr (Referent.rtF (Referent.fInt Syntax.w64)) (Syntax.tyRef Syntax.erased Syntax.mut El.word) 9) (List._∷_ (21, Rows'.any-gone (Syntax.tyStruct (List._∷_ 38 (List._∷_ 91
-    (List._∷_ 93 List.[]))) (Syntax.tcons (Syntax.tyRef Syntax.erased Syntax.mut El.word) (Syntax.tcons El.word Syntax.tnil)))) (List._∷_ (22, Rows'.any-gone (Syntax.tyRef Syntax.erased Syntax.mut El.word)) (List._∷_ (23, Rows'.any-gone
-    (Syntax.tyStruct (List._∷_ 38 (List._∷_ 91 (List._∷_ 93 List.[]))) (Syntax.tcons (Syntax.tyRef Syntax.erased Syntax.mut El.word) (Syntax.tcons El.word Syntax.tnil)))) (List._∷_ (24, Rows'.any-gone (Syntax.tyRef Syntax.erased
-    Syntax.mut El.word)) (List._∷_ (25, Rows'.any-gone (Syntax.tyStruct (List._∷_ 38 (List._∷_ 91 (List._∷_ 93 List.[]))) (Syntax.tcons (Syntax.tyRef Syntax.erased Syntax.mut El.word) (Syntax.tcons El.word Syntax.tnil)))) (List._∷_ (26,
-    Rows'.any-gone Syntax.tyUnit) (List._∷_ (27, Rows'.any-gone (Syntax.tyRef Syntax.erased Syntax.mut El.named)) (List._∷_ (28, Rows'.any-gone (Syntax.tyStruct (List._∷_ 38 (List._∷_ 91 (List._∷_ 93 List.[]))) (Syntax.tcons
-    (Syntax.tyRef Syntax.erased Syntax.mut El.named) (Syntax.tcons El.word Syntax.tnil)))) (List._∷_ (29, Rows'.any-gone (Syntax.tyRef Syntax.erased Syntax.imm (Syntax.tyArray El.word 4104))) (List._∷_ (30, Rows'.any-gone (Syntax.tyStruct
-    (List._∷_ 38 (List._∷_ 91 (List._∷_ 93 List.[]))) (Syntax.tcons (Syntax.tyRef Syntax.erased Syntax.imm El.word) (Syntax.tcons El.word Syntax.tnil)))) List.[]))))))))))))))
+t20 = List._∷_ (16, Rows'.any-gone (Syntax.tyRef Syntax.erased Syntax.imm El.named)) (List._∷_ (
+  17,
+  Rows'.any-gone (Syntax.tyStruct (List._∷_ 38 (List._∷_ 91 (List._∷_ 93 List.[]))) (Syntax.tcons (Syntax.tyRef Syntax.erased Syntax.imm
+      El.named) (Syntax.tcons El.word Syntax.tnil))),
+) (List._∷_ (18, Rows'.any-gone (Syntax.tyRef Syntax.erased Syntax.mut (Syntax.tyArray El.word 4104))) (List._∷_ (
+  19,
+  Mut.mslice (Referent.rtF (Referent.fInt Syntax.w64)) (Syntax.tyRef
+      Syntax.erased Syntax.mut El.word) 8,
+) (List._∷_ (20, Relend.msptr (Referent.rtF (Referent.fInt Syntax.w64)) (Syntax.tyRef Syntax.erased Syntax.mut El.word) 9) (List._∷_ (
+  21,
+  Rows'.any-gone (Syntax.tyStruct (List._∷_ 38 (List._∷_ 91
+      (List._∷_ 93 List.[]))) (Syntax.tcons (Syntax.tyRef Syntax.erased Syntax.mut El.word) (Syntax.tcons El.word Syntax.tnil))),
+) (List._∷_ (22, Rows'.any-gone (Syntax.tyRef Syntax.erased Syntax.mut El.word)) (List._∷_ (
+  23,
+  Rows'.any-gone
+      (Syntax.tyStruct (List._∷_ 38 (List._∷_ 91 (List._∷_ 93 List.[]))) (Syntax.tcons (Syntax.tyRef Syntax.erased Syntax.mut El.word) (Syntax.tcons El.word Syntax.tnil))),
+) (List._∷_ (
+  24,
+  Rows'.any-gone (Syntax.tyRef Syntax.erased
+      Syntax.mut El.word),
+) (List._∷_ (25, Rows'.any-gone (Syntax.tyStruct (List._∷_ 38 (List._∷_ 91 (List._∷_ 93 List.[]))) (Syntax.tcons (Syntax.tyRef Syntax.erased Syntax.mut El.word) (Syntax.tcons El.word Syntax.tnil)))) (List._∷_ (
+  26,
+  Rows'.any-gone Syntax.tyUnit,
+) (List._∷_ (27, Rows'.any-gone (Syntax.tyRef Syntax.erased Syntax.mut El.named)) (List._∷_ (
+  28,
+  Rows'.any-gone (Syntax.tyStruct (List._∷_ 38 (List._∷_ 91 (List._∷_ 93 List.[]))) (Syntax.tcons
+      (Syntax.tyRef Syntax.erased Syntax.mut El.named) (Syntax.tcons El.word Syntax.tnil))),
+) (List._∷_ (29, Rows'.any-gone (Syntax.tyRef Syntax.erased Syntax.imm (Syntax.tyArray El.word 4104))) (List._∷_ (
+  30,
+  Rows'.any-gone (Syntax.tyStruct
+      (List._∷_ 38 (List._∷_ 91 (List._∷_ 93 List.[]))) (Syntax.tcons (Syntax.tyRef Syntax.erased Syntax.imm El.word) (Syntax.tcons El.word Syntax.tnil))),
+) List.[]))))))))))))))
 
 abbrev pub t21 : List.List Row.Entry
-t21 = List._∷_ (16, Rows'.any-gone (Syntax.tyRef Syntax.erased Syntax.imm El.named)) (List._∷_ (17, Rows'.any-gone (Syntax.tyStruct (List._∷_ 38 (List._∷_ 91 (List._∷_ 93 List.[]))) (Syntax.tcons (Syntax.tyRef Syntax.erased Syntax.imm
-    El.named) (Syntax.tcons El.word Syntax.tnil)))) (List._∷_ (18, Rows'.any-gone (Syntax.tyRef Syntax.erased Syntax.mut (Syntax.tyArray El.word 4104))) (List._∷_ (19, Mut.mslice (Referent.rtF (Referent.fInt Syntax.w64)) (Syntax.tyRef
-    Syntax.erased Syntax.mut El.word) 8) (List._∷_ (20, Rows'.any-gone (Syntax.tyRef Syntax.erased Syntax.mut El.word)) (List._∷_ (21, Mut.mslice (Referent.rtF (Referent.fInt Syntax.w64)) (Syntax.tyRef Syntax.erased Syntax.mut El.word) 9)
-    (List._∷_ (22, Rows'.any-gone (Syntax.tyRef Syntax.erased Syntax.mut El.word)) (List._∷_ (23, Rows'.any-gone (Syntax.tyStruct (List._∷_ 38 (List._∷_ 91 (List._∷_ 93 List.[]))) (Syntax.tcons (Syntax.tyRef Syntax.erased Syntax.mut
-    El.word) (Syntax.tcons El.word Syntax.tnil)))) (List._∷_ (24, Rows'.any-gone (Syntax.tyRef Syntax.erased Syntax.mut El.word)) (List._∷_ (25, Rows'.any-gone (Syntax.tyStruct (List._∷_ 38 (List._∷_ 91 (List._∷_ 93 List.[])))
-    (Syntax.tcons (Syntax.tyRef Syntax.erased Syntax.mut El.word) (Syntax.tcons El.word Syntax.tnil)))) (List._∷_ (26, Rows'.any-gone Syntax.tyUnit) (List._∷_ (27, Rows'.any-gone (Syntax.tyRef Syntax.erased Syntax.mut El.named)) (List._∷_
-    (28, Rows'.any-gone (Syntax.tyStruct (List._∷_ 38 (List._∷_ 91 (List._∷_ 93 List.[]))) (Syntax.tcons (Syntax.tyRef Syntax.erased Syntax.mut El.named) (Syntax.tcons El.word Syntax.tnil)))) (List._∷_ (29, Rows'.any-gone (Syntax.tyRef
-    Syntax.erased Syntax.imm (Syntax.tyArray El.word 4104))) (List._∷_ (30, Rows'.any-gone (Syntax.tyStruct (List._∷_ 38 (List._∷_ 91 (List._∷_ 93 List.[]))) (Syntax.tcons (Syntax.tyRef Syntax.erased Syntax.imm El.word) (Syntax.tcons
-    El.word Syntax.tnil)))) List.[]))))))))))))))
+t21 = List._∷_ (16, Rows'.any-gone (Syntax.tyRef Syntax.erased Syntax.imm El.named)) (List._∷_ (
+  17,
+  Rows'.any-gone (Syntax.tyStruct (List._∷_ 38 (List._∷_ 91 (List._∷_ 93 List.[]))) (Syntax.tcons (Syntax.tyRef Syntax.erased Syntax.imm
+      El.named) (Syntax.tcons El.word Syntax.tnil))),
+) (List._∷_ (18, Rows'.any-gone (Syntax.tyRef Syntax.erased Syntax.mut (Syntax.tyArray El.word 4104))) (List._∷_ (
+  19,
+  Mut.mslice (Referent.rtF (Referent.fInt Syntax.w64)) (Syntax.tyRef
+      Syntax.erased Syntax.mut El.word) 8,
+) (List._∷_ (20, Rows'.any-gone (Syntax.tyRef Syntax.erased Syntax.mut El.word)) (List._∷_ (21, Mut.mslice (Referent.rtF (Referent.fInt Syntax.w64)) (Syntax.tyRef Syntax.erased Syntax.mut El.word) 9)
+    (List._∷_ (22, Rows'.any-gone (Syntax.tyRef Syntax.erased Syntax.mut El.word)) (List._∷_ (
+      23,
+      Rows'.any-gone (Syntax.tyStruct (List._∷_ 38 (List._∷_ 91 (List._∷_ 93 List.[]))) (Syntax.tcons (Syntax.tyRef Syntax.erased Syntax.mut
+          El.word) (Syntax.tcons El.word Syntax.tnil))),
+    ) (List._∷_ (24, Rows'.any-gone (Syntax.tyRef Syntax.erased Syntax.mut El.word)) (List._∷_ (
+      25,
+      Rows'.any-gone (Syntax.tyStruct (List._∷_ 38 (List._∷_ 91 (List._∷_ 93 List.[])))
+          (Syntax.tcons (Syntax.tyRef Syntax.erased Syntax.mut El.word) (Syntax.tcons El.word Syntax.tnil))),
+    ) (List._∷_ (26, Rows'.any-gone Syntax.tyUnit) (List._∷_ (27, Rows'.any-gone (Syntax.tyRef Syntax.erased Syntax.mut El.named)) (List._∷_
+    (28, Rows'.any-gone (Syntax.tyStruct (List._∷_ 38 (List._∷_ 91 (List._∷_ 93 List.[]))) (Syntax.tcons (Syntax.tyRef Syntax.erased Syntax.mut El.named) (Syntax.tcons El.word Syntax.tnil)))) (List._∷_ (
+      29,
+      Rows'.any-gone (Syntax.tyRef
+          Syntax.erased Syntax.imm (Syntax.tyArray El.word 4104)),
+    ) (List._∷_ (
+      30,
+      Rows'.any-gone (Syntax.tyStruct (List._∷_ 38 (List._∷_ 91 (List._∷_ 93 List.[]))) (Syntax.tcons (Syntax.tyRef Syntax.erased Syntax.imm El.word) (Syntax.tcons
+          El.word Syntax.tnil))),
+    ) List.[]))))))))))))))
 
 abbrev pub t22 : List.List Row.Entry
-t22 = List._∷_ (0, Rows'.any-gone El.Answered) (List._∷_ (1, Mut.mslice El.row (Syntax.tyRef (Syntax.named 0) Syntax.mut El.named) 0) (List._∷_ (2, Relend.mslice-owed (Referent.rtF (Referent.fInt Syntax.w64)) (Syntax.tyRef (Syntax.named
-    1) Syntax.mut El.word) 1 9 Row.off) (List._∷_ (3, Relend.mslice-owed (Referent.rtF (Referent.fInt Syntax.w64)) (Syntax.tyRef (Syntax.named 2) Syntax.mut El.word) 2 10 Row.off) (List._∷_ (4, Mut.mslice (Referent.rtF (Referent.fInt
-    Syntax.w64)) (Syntax.tyRef (Syntax.named 3) Syntax.mut El.word) 3) (List._∷_ (5, Rows'.whole (Declared'.row ReadyQueue.the-type)) (List._∷_ (6, Rows'.whole (Declared.row Event.the-type)) (List._∷_ (7, Rows'.sslice (Referent.rtF
-    (Referent.fInt Syntax.w16)) (Syntax.tyRef (Syntax.named 4) Syntax.imm (Syntax.tyInt Syntax.w16)) 4) (List._∷_ (8, Rows'.sslice (Referent.rtF (Referent.fInt Syntax.w8)) (Syntax.tyRef (Syntax.named 5) Syntax.imm (Syntax.tyInt
-    Syntax.w8)) 5) (List._∷_ (9, Rows'.sc-here (Row.sInt Syntax.w64)) (List._∷_ (10, Rows'.sc-here (Row.sInt Syntax.w16)) (List._∷_ (11, Rows.arr-owed (Referent.rtF (Referent.fInt Syntax.w64)) 4104 8) (List._∷_ (12, Rows'.any-gone
-    El.Worked) (List._∷_ (13, Rows'.any-gone (Syntax.tyRef Syntax.erased Syntax.imm El.word)) (List._∷_ (14, Rows'.any-gone (Syntax.tyStruct (List._∷_ 38 (List._∷_ 91 (List._∷_ 93 List.[]))) (Syntax.tcons (Syntax.tyRef Syntax.erased
-    Syntax.imm El.word) (Syntax.tcons El.word Syntax.tnil)))) (List._∷_ (15, Rows'.any-gone (Syntax.tyArray El.word 4104)) List.[])))))))))))))))
+t22 = List._∷_ (0, Rows'.any-gone El.Answered) (List._∷_ (1, Mut.mslice El.row (Syntax.tyRef (Syntax.named 0) Syntax.mut El.named) 0) (List._∷_ (
+  2,
+  Relend.mslice-owed (Referent.rtF (Referent.fInt Syntax.w64)) (Syntax.tyRef (Syntax.named
+      1) Syntax.mut El.word) 1 9 Row.off,
+) (List._∷_ (3, Relend.mslice-owed (Referent.rtF (Referent.fInt Syntax.w64)) (Syntax.tyRef (Syntax.named 2) Syntax.mut El.word) 2 10 Row.off) (List._∷_ (
+  4,
+  Mut.mslice (Referent.rtF (Referent.fInt
+      Syntax.w64)) (Syntax.tyRef (Syntax.named 3) Syntax.mut El.word) 3,
+) (List._∷_ (5, Rows'.whole (Declared'.row ReadyQueue.the-type)) (List._∷_ (6, Rows'.whole (Declared.row Event.the-type)) (List._∷_ (
+  7,
+  Rows'.sslice (Referent.rtF
+      (Referent.fInt Syntax.w16)) (Syntax.tyRef (Syntax.named 4) Syntax.imm (Syntax.tyInt Syntax.w16)) 4,
+) (List._∷_ (
+  8,
+  Rows'.sslice (Referent.rtF (Referent.fInt Syntax.w8)) (Syntax.tyRef (Syntax.named 5) Syntax.imm (Syntax.tyInt
+      Syntax.w8)) 5,
+) (List._∷_ (9, Rows'.sc-here (Row.sInt Syntax.w64)) (List._∷_ (10, Rows'.sc-here (Row.sInt Syntax.w16)) (List._∷_ (11, Rows.arr-owed (Referent.rtF (Referent.fInt Syntax.w64)) 4104 8) (List._∷_ (
+  12,
+  Rows'.any-gone
+      El.Worked,
+) (List._∷_ (13, Rows'.any-gone (Syntax.tyRef Syntax.erased Syntax.imm El.word)) (List._∷_ (
+  14,
+  Rows'.any-gone (Syntax.tyStruct (List._∷_ 38 (List._∷_ 91 (List._∷_ 93 List.[]))) (Syntax.tcons (Syntax.tyRef Syntax.erased
+      Syntax.imm El.word) (Syntax.tcons El.word Syntax.tnil))),
+) (List._∷_ (15, Rows'.any-gone (Syntax.tyArray El.word 4104)) List.[])))))))))))))))
 
 abbrev pub t23 : List.List Row.Entry
-t23 = List._∷_ (16, Rows'.any-gone (Syntax.tyRef Syntax.erased Syntax.imm El.named)) (List._∷_ (17, Rows'.any-gone (Syntax.tyStruct (List._∷_ 38 (List._∷_ 91 (List._∷_ 93 List.[]))) (Syntax.tcons (Syntax.tyRef Syntax.erased Syntax.imm
-    El.named) (Syntax.tcons El.word Syntax.tnil)))) (List._∷_ (18, Rows'.any-gone (Syntax.tyRef Syntax.erased Syntax.mut (Syntax.tyArray El.word 4104))) (List._∷_ (19, Mut.mslice (Referent.rtF (Referent.fInt Syntax.w64)) (Syntax.tyRef
-    Syntax.erased Syntax.mut El.word) 8) (List._∷_ (20, Rows'.any-gone (Syntax.tyRef Syntax.erased Syntax.mut El.word)) (List._∷_ (21, Mut.mslice (Referent.rtF (Referent.fInt Syntax.w64)) (Syntax.tyRef Syntax.erased Syntax.mut El.word) 9)
-    (List._∷_ (22, Relend.msptr (Referent.rtF (Referent.fInt Syntax.w64)) (Syntax.tyRef Syntax.erased Syntax.mut El.word) 10) (List._∷_ (23, Rows'.any-gone (Syntax.tyStruct (List._∷_ 38 (List._∷_ 91 (List._∷_ 93 List.[]))) (Syntax.tcons
-    (Syntax.tyRef Syntax.erased Syntax.mut El.word) (Syntax.tcons El.word Syntax.tnil)))) (List._∷_ (24, Rows'.any-gone (Syntax.tyRef Syntax.erased Syntax.mut El.word)) (List._∷_ (25, Rows'.any-gone (Syntax.tyStruct (List._∷_ 38 (List._∷_
-    91 (List._∷_ 93 List.[]))) (Syntax.tcons (Syntax.tyRef Syntax.erased Syntax.mut El.word) (Syntax.tcons El.word Syntax.tnil)))) (List._∷_ (26, Rows'.any-gone Syntax.tyUnit) (List._∷_ (27, Rows'.any-gone (Syntax.tyRef Syntax.erased
-    Syntax.mut El.named)) (List._∷_ (28, Rows'.any-gone (Syntax.tyStruct (List._∷_ 38 (List._∷_ 91 (List._∷_ 93 List.[]))) (Syntax.tcons (Syntax.tyRef Syntax.erased Syntax.mut El.named) (Syntax.tcons El.word Syntax.tnil)))) (List._∷_ (29,
-    Rows'.any-gone (Syntax.tyRef Syntax.erased Syntax.imm (Syntax.tyArray El.word 4104))) (List._∷_ (30, Rows'.any-gone (Syntax.tyStruct (List._∷_ 38 (List._∷_ 91 (List._∷_ 93 List.[]))) (Syntax.tcons (Syntax.tyRef Syntax.erased
-    Syntax.imm El.word) (Syntax.tcons El.word Syntax.tnil)))) List.[]))))))))))))))
+t23 = List._∷_ (16, Rows'.any-gone (Syntax.tyRef Syntax.erased Syntax.imm El.named)) (List._∷_ (
+  17,
+  Rows'.any-gone (Syntax.tyStruct (List._∷_ 38 (List._∷_ 91 (List._∷_ 93 List.[]))) (Syntax.tcons (Syntax.tyRef Syntax.erased Syntax.imm
+      El.named) (Syntax.tcons El.word Syntax.tnil))),
+) (List._∷_ (18, Rows'.any-gone (Syntax.tyRef Syntax.erased Syntax.mut (Syntax.tyArray El.word 4104))) (List._∷_ (
+  19,
+  Mut.mslice (Referent.rtF (Referent.fInt Syntax.w64)) (Syntax.tyRef
+      Syntax.erased Syntax.mut El.word) 8,
+) (List._∷_ (20, Rows'.any-gone (Syntax.tyRef Syntax.erased Syntax.mut El.word)) (List._∷_ (21, Mut.mslice (Referent.rtF (Referent.fInt Syntax.w64)) (Syntax.tyRef Syntax.erased Syntax.mut El.word) 9)
+    (List._∷_ (22, Relend.msptr (Referent.rtF (Referent.fInt Syntax.w64)) (Syntax.tyRef Syntax.erased Syntax.mut El.word) 10) (List._∷_ (
+      23,
+      Rows'.any-gone (Syntax.tyStruct (List._∷_ 38 (List._∷_ 91 (List._∷_ 93 List.[]))) (Syntax.tcons
+          (Syntax.tyRef Syntax.erased Syntax.mut El.word) (Syntax.tcons El.word Syntax.tnil))),
+    ) (List._∷_ (24, Rows'.any-gone (Syntax.tyRef Syntax.erased Syntax.mut El.word)) (List._∷_ (
+      25,
+      Rows'.any-gone (Syntax.tyStruct (List._∷_ 38 (List._∷_
+          91 (List._∷_ 93 List.[]))) (Syntax.tcons (Syntax.tyRef Syntax.erased Syntax.mut El.word) (Syntax.tcons El.word Syntax.tnil))),
+    ) (List._∷_ (26, Rows'.any-gone Syntax.tyUnit) (List._∷_ (
+      27,
+      Rows'.any-gone (Syntax.tyRef Syntax.erased
+          Syntax.mut El.named),
+    ) (List._∷_ (28, Rows'.any-gone (Syntax.tyStruct (List._∷_ 38 (List._∷_ 91 (List._∷_ 93 List.[]))) (Syntax.tcons (Syntax.tyRef Syntax.erased Syntax.mut El.named) (Syntax.tcons El.word Syntax.tnil)))) (List._∷_ (
+      29,
+      Rows'.any-gone (Syntax.tyRef Syntax.erased Syntax.imm (Syntax.tyArray El.word 4104)),
+    ) (List._∷_ (
+      30,
+      Rows'.any-gone (Syntax.tyStruct (List._∷_ 38 (List._∷_ 91 (List._∷_ 93 List.[]))) (Syntax.tcons (Syntax.tyRef Syntax.erased
+          Syntax.imm El.word) (Syntax.tcons El.word Syntax.tnil))),
+    ) List.[]))))))))))))))
 
 abbrev pub t24 : List.List Row.Entry
-t24 = List._∷_ (16, Rows'.any-gone (Syntax.tyRef Syntax.erased Syntax.imm El.named)) (List._∷_ (17, Rows'.any-gone (Syntax.tyStruct (List._∷_ 38 (List._∷_ 91 (List._∷_ 93 List.[]))) (Syntax.tcons (Syntax.tyRef Syntax.erased Syntax.imm
-    El.named) (Syntax.tcons El.word Syntax.tnil)))) (List._∷_ (18, Rows'.any-gone (Syntax.tyRef Syntax.erased Syntax.mut (Syntax.tyArray El.word 4104))) (List._∷_ (19, Mut.mslice (Referent.rtF (Referent.fInt Syntax.w64)) (Syntax.tyRef
-    Syntax.erased Syntax.mut El.word) 8) (List._∷_ (20, Rows'.any-gone (Syntax.tyRef Syntax.erased Syntax.mut El.word)) (List._∷_ (21, Mut.mslice (Referent.rtF (Referent.fInt Syntax.w64)) (Syntax.tyRef Syntax.erased Syntax.mut El.word) 9)
-    (List._∷_ (22, Rows'.any-gone (Syntax.tyRef Syntax.erased Syntax.mut El.word)) (List._∷_ (23, Mut.mslice (Referent.rtF (Referent.fInt Syntax.w64)) (Syntax.tyRef Syntax.erased Syntax.mut El.word) 10) (List._∷_ (24, Rows'.any-gone
-    (Syntax.tyRef Syntax.erased Syntax.mut El.word)) (List._∷_ (25, Rows'.any-gone (Syntax.tyStruct (List._∷_ 38 (List._∷_ 91 (List._∷_ 93 List.[]))) (Syntax.tcons (Syntax.tyRef Syntax.erased Syntax.mut El.word) (Syntax.tcons El.word
-    Syntax.tnil)))) (List._∷_ (26, Rows'.any-gone Syntax.tyUnit) (List._∷_ (27, Rows'.any-gone (Syntax.tyRef Syntax.erased Syntax.mut El.named)) (List._∷_ (28, Rows'.any-gone (Syntax.tyStruct (List._∷_ 38 (List._∷_ 91 (List._∷_ 93
-    List.[]))) (Syntax.tcons (Syntax.tyRef Syntax.erased Syntax.mut El.named) (Syntax.tcons El.word Syntax.tnil)))) (List._∷_ (29, Rows'.any-gone (Syntax.tyRef Syntax.erased Syntax.imm (Syntax.tyArray El.word 4104))) (List._∷_ (30,
-    Rows'.any-gone (Syntax.tyStruct (List._∷_ 38 (List._∷_ 91 (List._∷_ 93 List.[]))) (Syntax.tcons (Syntax.tyRef Syntax.erased Syntax.imm El.word) (Syntax.tcons El.word Syntax.tnil)))) List.[]))))))))))))))
+t24 = List._∷_ (16, Rows'.any-gone (Syntax.tyRef Syntax.erased Syntax.imm El.named)) (List._∷_ (
+  17,
+  Rows'.any-gone (Syntax.tyStruct (List._∷_ 38 (List._∷_ 91 (List._∷_ 93 List.[]))) (Syntax.tcons (Syntax.tyRef Syntax.erased Syntax.imm
+      El.named) (Syntax.tcons El.word Syntax.tnil))),
+) (List._∷_ (18, Rows'.any-gone (Syntax.tyRef Syntax.erased Syntax.mut (Syntax.tyArray El.word 4104))) (List._∷_ (
+  19,
+  Mut.mslice (Referent.rtF (Referent.fInt Syntax.w64)) (Syntax.tyRef
+      Syntax.erased Syntax.mut El.word) 8,
+) (List._∷_ (20, Rows'.any-gone (Syntax.tyRef Syntax.erased Syntax.mut El.word)) (List._∷_ (21, Mut.mslice (Referent.rtF (Referent.fInt Syntax.w64)) (Syntax.tyRef Syntax.erased Syntax.mut El.word) 9)
+    (List._∷_ (22, Rows'.any-gone (Syntax.tyRef Syntax.erased Syntax.mut El.word)) (List._∷_ (23, Mut.mslice (Referent.rtF (Referent.fInt Syntax.w64)) (Syntax.tyRef Syntax.erased Syntax.mut El.word) 10) (List._∷_ (
+      24,
+      Rows'.any-gone
+          (Syntax.tyRef Syntax.erased Syntax.mut El.word),
+    ) (List._∷_ (
+      25,
+      Rows'.any-gone (Syntax.tyStruct (List._∷_ 38 (List._∷_ 91 (List._∷_ 93 List.[]))) (Syntax.tcons (Syntax.tyRef Syntax.erased Syntax.mut El.word) (Syntax.tcons El.word
+          Syntax.tnil))),
+    ) (List._∷_ (26, Rows'.any-gone Syntax.tyUnit) (List._∷_ (27, Rows'.any-gone (Syntax.tyRef Syntax.erased Syntax.mut El.named)) (List._∷_ (
+      28,
+      Rows'.any-gone (Syntax.tyStruct (List._∷_ 38 (List._∷_ 91 (List._∷_ 93
+          List.[]))) (Syntax.tcons (Syntax.tyRef Syntax.erased Syntax.mut El.named) (Syntax.tcons El.word Syntax.tnil))),
+    ) (List._∷_ (29, Rows'.any-gone (Syntax.tyRef Syntax.erased Syntax.imm (Syntax.tyArray El.word 4104))) (List._∷_ (
+      30,
+      Rows'.any-gone (Syntax.tyStruct (List._∷_ 38 (List._∷_ 91 (List._∷_ 93 List.[]))) (Syntax.tcons (Syntax.tyRef Syntax.erased Syntax.imm El.word) (Syntax.tcons El.word Syntax.tnil))),
+    ) List.[]))))))))))))))
 
 abbrev pub t25 : List.List Row.Entry
-t25 = List._∷_ (0, Rows'.any-gone El.Answered) (List._∷_ (1, Mut.mslice El.row (Syntax.tyRef (Syntax.named 0) Syntax.mut El.named) 0) (List._∷_ (2, Relend.mslice-owed (Referent.rtF (Referent.fInt Syntax.w64)) (Syntax.tyRef (Syntax.named
-    1) Syntax.mut El.word) 1 9 Row.off) (List._∷_ (3, Relend.mslice-owed (Referent.rtF (Referent.fInt Syntax.w64)) (Syntax.tyRef (Syntax.named 2) Syntax.mut El.word) 2 10 Row.off) (List._∷_ (4, Relend.mslice-owed (Referent.rtF
-    (Referent.fInt Syntax.w64)) (Syntax.tyRef (Syntax.named 3) Syntax.mut El.word) 3 11 Row.off) (List._∷_ (5, Rows'.whole (Declared'.row ReadyQueue.the-type)) (List._∷_ (6, Rows'.whole (Declared.row Event.the-type)) (List._∷_ (7,
-    Rows'.sslice (Referent.rtF (Referent.fInt Syntax.w16)) (Syntax.tyRef (Syntax.named 4) Syntax.imm (Syntax.tyInt Syntax.w16)) 4) (List._∷_ (8, Rows'.sslice (Referent.rtF (Referent.fInt Syntax.w8)) (Syntax.tyRef (Syntax.named 5)
-    Syntax.imm (Syntax.tyInt Syntax.w8)) 5) (List._∷_ (9, Rows'.sc-here (Row.sInt Syntax.w64)) (List._∷_ (10, Rows'.sc-here (Row.sInt Syntax.w16)) (List._∷_ (11, Rows.arr-owed (Referent.rtF (Referent.fInt Syntax.w64)) 4104 8) (List._∷_
-    (12, Rows'.any-gone El.Worked) (List._∷_ (13, Rows'.any-gone (Syntax.tyRef Syntax.erased Syntax.imm El.word)) (List._∷_ (14, Rows'.any-gone (Syntax.tyStruct (List._∷_ 38 (List._∷_ 91 (List._∷_ 93 List.[]))) (Syntax.tcons
-    (Syntax.tyRef Syntax.erased Syntax.imm El.word) (Syntax.tcons El.word Syntax.tnil)))) (List._∷_ (15, Rows'.any-gone (Syntax.tyArray El.word 4104)) List.[])))))))))))))))
+t25 = List._∷_ (0, Rows'.any-gone El.Answered) (List._∷_ (1, Mut.mslice El.row (Syntax.tyRef (Syntax.named 0) Syntax.mut El.named) 0) (List._∷_ (
+  2,
+  Relend.mslice-owed (Referent.rtF (Referent.fInt Syntax.w64)) (Syntax.tyRef (Syntax.named
+      1) Syntax.mut El.word) 1 9 Row.off,
+) (List._∷_ (3, Relend.mslice-owed (Referent.rtF (Referent.fInt Syntax.w64)) (Syntax.tyRef (Syntax.named 2) Syntax.mut El.word) 2 10 Row.off) (List._∷_ (
+  4,
+  Relend.mslice-owed (Referent.rtF
+      (Referent.fInt Syntax.w64)) (Syntax.tyRef (Syntax.named 3) Syntax.mut El.word) 3 11 Row.off,
+) (List._∷_ (5, Rows'.whole (Declared'.row ReadyQueue.the-type)) (List._∷_ (6, Rows'.whole (Declared.row Event.the-type)) (List._∷_ (
+  7,
+  Rows'.sslice (Referent.rtF (Referent.fInt Syntax.w16)) (Syntax.tyRef (Syntax.named 4) Syntax.imm (Syntax.tyInt Syntax.w16)) 4,
+) (List._∷_ (
+  8,
+  Rows'.sslice (Referent.rtF (Referent.fInt Syntax.w8)) (Syntax.tyRef (Syntax.named 5)
+      Syntax.imm (Syntax.tyInt Syntax.w8)) 5,
+) (List._∷_ (9, Rows'.sc-here (Row.sInt Syntax.w64)) (List._∷_ (10, Rows'.sc-here (Row.sInt Syntax.w16)) (List._∷_ (11, Rows.arr-owed (Referent.rtF (Referent.fInt Syntax.w64)) 4104 8) (List._∷_
+    (12, Rows'.any-gone El.Worked) (List._∷_ (13, Rows'.any-gone (Syntax.tyRef Syntax.erased Syntax.imm El.word)) (List._∷_ (
+      14,
+      Rows'.any-gone (Syntax.tyStruct (List._∷_ 38 (List._∷_ 91 (List._∷_ 93 List.[]))) (Syntax.tcons
+          (Syntax.tyRef Syntax.erased Syntax.imm El.word) (Syntax.tcons El.word Syntax.tnil))),
+    ) (List._∷_ (15, Rows'.any-gone (Syntax.tyArray El.word 4104)) List.[])))))))))))))))
 
 abbrev pub t26 : List.List Row.Entry
-t26 = List._∷_ (16, Rows'.any-gone (Syntax.tyRef Syntax.erased Syntax.imm El.named)) (List._∷_ (17, Rows'.any-gone (Syntax.tyStruct (List._∷_ 38 (List._∷_ 91 (List._∷_ 93 List.[]))) (Syntax.tcons (Syntax.tyRef Syntax.erased Syntax.imm
-    El.named) (Syntax.tcons El.word Syntax.tnil)))) (List._∷_ (18, Rows'.any-gone (Syntax.tyRef Syntax.erased Syntax.mut (Syntax.tyArray El.word 4104))) (List._∷_ (19, Mut.mslice (Referent.rtF (Referent.fInt Syntax.w64)) (Syntax.tyRef
-    Syntax.erased Syntax.mut El.word) 8) (List._∷_ (20, Rows'.any-gone (Syntax.tyRef Syntax.erased Syntax.mut El.word)) (List._∷_ (21, Mut.mslice (Referent.rtF (Referent.fInt Syntax.w64)) (Syntax.tyRef Syntax.erased Syntax.mut El.word) 9)
-    (List._∷_ (22, Rows'.any-gone (Syntax.tyRef Syntax.erased Syntax.mut El.word)) (List._∷_ (23, Mut.mslice (Referent.rtF (Referent.fInt Syntax.w64)) (Syntax.tyRef Syntax.erased Syntax.mut El.word) 10) (List._∷_ (24, Relend.msptr
-    (Referent.rtF (Referent.fInt Syntax.w64)) (Syntax.tyRef Syntax.erased Syntax.mut El.word) 11) (List._∷_ (25, Rows'.any-gone (Syntax.tyStruct (List._∷_ 38 (List._∷_ 91 (List._∷_ 93 List.[]))) (Syntax.tcons (Syntax.tyRef Syntax.erased
-    Syntax.mut El.word) (Syntax.tcons El.word Syntax.tnil)))) (List._∷_ (26, Rows'.any-gone Syntax.tyUnit) (List._∷_ (27, Rows'.any-gone (Syntax.tyRef Syntax.erased Syntax.mut El.named)) (List._∷_ (28, Rows'.any-gone (Syntax.tyStruct
-    (List._∷_ 38 (List._∷_ 91 (List._∷_ 93 List.[]))) (Syntax.tcons (Syntax.tyRef Syntax.erased Syntax.mut El.named) (Syntax.tcons El.word Syntax.tnil)))) (List._∷_ (29, Rows'.any-gone (Syntax.tyRef Syntax.erased Syntax.imm
-    (Syntax.tyArray El.word 4104))) (List._∷_ (30, Rows'.any-gone (Syntax.tyStruct (List._∷_ 38 (List._∷_ 91 (List._∷_ 93 List.[]))) (Syntax.tcons (Syntax.tyRef Syntax.erased Syntax.imm El.word) (Syntax.tcons El.word Syntax.tnil))))
+t26 = List._∷_ (16, Rows'.any-gone (Syntax.tyRef Syntax.erased Syntax.imm El.named)) (List._∷_ (
+  17,
+  Rows'.any-gone (Syntax.tyStruct (List._∷_ 38 (List._∷_ 91 (List._∷_ 93 List.[]))) (Syntax.tcons (Syntax.tyRef Syntax.erased Syntax.imm
+      El.named) (Syntax.tcons El.word Syntax.tnil))),
+) (List._∷_ (18, Rows'.any-gone (Syntax.tyRef Syntax.erased Syntax.mut (Syntax.tyArray El.word 4104))) (List._∷_ (
+  19,
+  Mut.mslice (Referent.rtF (Referent.fInt Syntax.w64)) (Syntax.tyRef
+      Syntax.erased Syntax.mut El.word) 8,
+) (List._∷_ (20, Rows'.any-gone (Syntax.tyRef Syntax.erased Syntax.mut El.word)) (List._∷_ (21, Mut.mslice (Referent.rtF (Referent.fInt Syntax.w64)) (Syntax.tyRef Syntax.erased Syntax.mut El.word) 9)
+    (List._∷_ (22, Rows'.any-gone (Syntax.tyRef Syntax.erased Syntax.mut El.word)) (List._∷_ (23, Mut.mslice (Referent.rtF (Referent.fInt Syntax.w64)) (Syntax.tyRef Syntax.erased Syntax.mut El.word) 10) (List._∷_ (
+      24,
+      Relend.msptr
+          (Referent.rtF (Referent.fInt Syntax.w64)) (Syntax.tyRef Syntax.erased Syntax.mut El.word) 11,
+    ) (List._∷_ (
+      25,
+      Rows'.any-gone (Syntax.tyStruct (List._∷_ 38 (List._∷_ 91 (List._∷_ 93 List.[]))) (Syntax.tcons (Syntax.tyRef Syntax.erased
+          Syntax.mut El.word) (Syntax.tcons El.word Syntax.tnil))),
+    ) (List._∷_ (26, Rows'.any-gone Syntax.tyUnit) (List._∷_ (27, Rows'.any-gone (Syntax.tyRef Syntax.erased Syntax.mut El.named)) (List._∷_ (
+      28,
+      Rows'.any-gone (Syntax.tyStruct
+          (List._∷_ 38 (List._∷_ 91 (List._∷_ 93 List.[]))) (Syntax.tcons (Syntax.tyRef Syntax.erased Syntax.mut El.named) (Syntax.tcons El.word Syntax.tnil))),
+    ) (List._∷_ (
+      29,
+      Rows'.any-gone (Syntax.tyRef Syntax.erased Syntax.imm
+          (Syntax.tyArray El.word 4104)),
+    ) (List._∷_ (30, Rows'.any-gone (Syntax.tyStruct (List._∷_ 38 (List._∷_ 91 (List._∷_ 93 List.[]))) (Syntax.tcons (Syntax.tyRef Syntax.erased Syntax.imm El.word) (Syntax.tcons El.word Syntax.tnil))))
     List.[]))))))))))))))
 
 abbrev pub t27 : List.List Row.Entry
-t27 = List._∷_ (16, Rows'.any-gone (Syntax.tyRef Syntax.erased Syntax.imm El.named)) (List._∷_ (17, Rows'.any-gone (Syntax.tyStruct (List._∷_ 38 (List._∷_ 91 (List._∷_ 93 List.[]))) (Syntax.tcons (Syntax.tyRef Syntax.erased Syntax.imm
-    El.named) (Syntax.tcons El.word Syntax.tnil)))) (List._∷_ (18, Rows'.any-gone (Syntax.tyRef Syntax.erased Syntax.mut (Syntax.tyArray El.word 4104))) (List._∷_ (19, Mut.mslice (Referent.rtF (Referent.fInt Syntax.w64)) (Syntax.tyRef
-    Syntax.erased Syntax.mut El.word) 8) (List._∷_ (20, Rows'.any-gone (Syntax.tyRef Syntax.erased Syntax.mut El.word)) (List._∷_ (21, Mut.mslice (Referent.rtF (Referent.fInt Syntax.w64)) (Syntax.tyRef Syntax.erased Syntax.mut El.word) 9)
-    (List._∷_ (22, Rows'.any-gone (Syntax.tyRef Syntax.erased Syntax.mut El.word)) (List._∷_ (23, Mut.mslice (Referent.rtF (Referent.fInt Syntax.w64)) (Syntax.tyRef Syntax.erased Syntax.mut El.word) 10) (List._∷_ (24, Rows'.any-gone
-    (Syntax.tyRef Syntax.erased Syntax.mut El.word)) (List._∷_ (25, Mut.mslice (Referent.rtF (Referent.fInt Syntax.w64)) (Syntax.tyRef Syntax.erased Syntax.mut El.word) 11) (List._∷_ (26, Rows'.any-gone Syntax.tyUnit) (List._∷_ (27,
-    Rows'.any-gone (Syntax.tyRef Syntax.erased Syntax.mut El.named)) (List._∷_ (28, Rows'.any-gone (Syntax.tyStruct (List._∷_ 38 (List._∷_ 91 (List._∷_ 93 List.[]))) (Syntax.tcons (Syntax.tyRef Syntax.erased Syntax.mut El.named)
-    (Syntax.tcons El.word Syntax.tnil)))) (List._∷_ (29, Rows'.any-gone (Syntax.tyRef Syntax.erased Syntax.imm (Syntax.tyArray El.word 4104))) (List._∷_ (30, Rows'.any-gone (Syntax.tyStruct (List._∷_ 38 (List._∷_ 91 (List._∷_ 93
-    List.[]))) (Syntax.tcons (Syntax.tyRef Syntax.erased Syntax.imm El.word) (Syntax.tcons El.word Syntax.tnil)))) List.[]))))))))))))))
+t27 = List._∷_ (16, Rows'.any-gone (Syntax.tyRef Syntax.erased Syntax.imm El.named)) (List._∷_ (
+  17,
+  Rows'.any-gone (Syntax.tyStruct (List._∷_ 38 (List._∷_ 91 (List._∷_ 93 List.[]))) (Syntax.tcons (Syntax.tyRef Syntax.erased Syntax.imm
+      El.named) (Syntax.tcons El.word Syntax.tnil))),
+) (List._∷_ (18, Rows'.any-gone (Syntax.tyRef Syntax.erased Syntax.mut (Syntax.tyArray El.word 4104))) (List._∷_ (
+  19,
+  Mut.mslice (Referent.rtF (Referent.fInt Syntax.w64)) (Syntax.tyRef
+      Syntax.erased Syntax.mut El.word) 8,
+) (List._∷_ (20, Rows'.any-gone (Syntax.tyRef Syntax.erased Syntax.mut El.word)) (List._∷_ (21, Mut.mslice (Referent.rtF (Referent.fInt Syntax.w64)) (Syntax.tyRef Syntax.erased Syntax.mut El.word) 9)
+    (List._∷_ (22, Rows'.any-gone (Syntax.tyRef Syntax.erased Syntax.mut El.word)) (List._∷_ (23, Mut.mslice (Referent.rtF (Referent.fInt Syntax.w64)) (Syntax.tyRef Syntax.erased Syntax.mut El.word) 10) (List._∷_ (
+      24,
+      Rows'.any-gone
+          (Syntax.tyRef Syntax.erased Syntax.mut El.word),
+    ) (List._∷_ (25, Mut.mslice (Referent.rtF (Referent.fInt Syntax.w64)) (Syntax.tyRef Syntax.erased Syntax.mut El.word) 11) (List._∷_ (26, Rows'.any-gone Syntax.tyUnit) (List._∷_ (
+      27,
+      Rows'.any-gone (Syntax.tyRef Syntax.erased Syntax.mut El.named),
+    ) (List._∷_ (
+      28,
+      Rows'.any-gone (Syntax.tyStruct (List._∷_ 38 (List._∷_ 91 (List._∷_ 93 List.[]))) (Syntax.tcons (Syntax.tyRef Syntax.erased Syntax.mut El.named)
+          (Syntax.tcons El.word Syntax.tnil))),
+    ) (List._∷_ (29, Rows'.any-gone (Syntax.tyRef Syntax.erased Syntax.imm (Syntax.tyArray El.word 4104))) (List._∷_ (
+      30,
+      Rows'.any-gone (Syntax.tyStruct (List._∷_ 38 (List._∷_ 91 (List._∷_ 93
+          List.[]))) (Syntax.tcons (Syntax.tyRef Syntax.erased Syntax.imm El.word) (Syntax.tcons El.word Syntax.tnil))),
+    ) List.[]))))))))))))))
 
 abbrev pub t28 : List.List Row.Entry
-t28 = List._∷_ (0, Rows'.any-gone El.Answered) (List._∷_ (1, Mut.mslice El.row (Syntax.tyRef (Syntax.named 0) Syntax.mut El.named) 0) (List._∷_ (2, Relend.mslice-owed (Referent.rtF (Referent.fInt Syntax.w64)) (Syntax.tyRef (Syntax.named
-    1) Syntax.mut El.word) 1 9 Row.off) (List._∷_ (3, Relend.mslice-owed (Referent.rtF (Referent.fInt Syntax.w64)) (Syntax.tyRef (Syntax.named 2) Syntax.mut El.word) 2 10 Row.off) (List._∷_ (4, Relend.mslice-owed (Referent.rtF
-    (Referent.fInt Syntax.w64)) (Syntax.tyRef (Syntax.named 3) Syntax.mut El.word) 3 11 Row.off) (List._∷_ (5, Rows'.whole (Declared'.row ReadyQueue.the-type)) (List._∷_ (6, Rows'.whole (Declared.row Event.the-type)) (List._∷_ (7,
-    Rows'.sslice (Referent.rtF (Referent.fInt Syntax.w16)) (Syntax.tyRef (Syntax.named 4) Syntax.imm (Syntax.tyInt Syntax.w16)) 4) (List._∷_ (8, Rows'.sslice (Referent.rtF (Referent.fInt Syntax.w8)) (Syntax.tyRef (Syntax.named 5)
-    Syntax.imm (Syntax.tyInt Syntax.w8)) 5) (List._∷_ (9, Rows'.sc-here (Row.sInt Syntax.w64)) (List._∷_ (10, Rows'.sc-here (Row.sInt Syntax.w16)) (List._∷_ (11, Rows.arr-owed (Referent.rtF (Referent.fInt Syntax.w64)) 4104 8) (List._∷_
-    (12, Rows'.whole (Declared'.row Worked.the-type)) (List._∷_ (13, Rows'.any-gone (Syntax.tyRef Syntax.erased Syntax.imm El.word)) (List._∷_ (14, Rows'.any-gone (Syntax.tyStruct (List._∷_ 38 (List._∷_ 91 (List._∷_ 93 List.[])))
-    (Syntax.tcons (Syntax.tyRef Syntax.erased Syntax.imm El.word) (Syntax.tcons El.word Syntax.tnil)))) (List._∷_ (15, Rows'.any-gone (Syntax.tyArray El.word 4104)) List.[])))))))))))))))
+t28 = List._∷_ (0, Rows'.any-gone El.Answered) (List._∷_ (1, Mut.mslice El.row (Syntax.tyRef (Syntax.named 0) Syntax.mut El.named) 0) (List._∷_ (
+  2,
+  Relend.mslice-owed (Referent.rtF (Referent.fInt Syntax.w64)) (Syntax.tyRef (Syntax.named
+      1) Syntax.mut El.word) 1 9 Row.off,
+) (List._∷_ (3, Relend.mslice-owed (Referent.rtF (Referent.fInt Syntax.w64)) (Syntax.tyRef (Syntax.named 2) Syntax.mut El.word) 2 10 Row.off) (List._∷_ (
+  4,
+  Relend.mslice-owed (Referent.rtF
+      (Referent.fInt Syntax.w64)) (Syntax.tyRef (Syntax.named 3) Syntax.mut El.word) 3 11 Row.off,
+) (List._∷_ (5, Rows'.whole (Declared'.row ReadyQueue.the-type)) (List._∷_ (6, Rows'.whole (Declared.row Event.the-type)) (List._∷_ (
+  7,
+  Rows'.sslice (Referent.rtF (Referent.fInt Syntax.w16)) (Syntax.tyRef (Syntax.named 4) Syntax.imm (Syntax.tyInt Syntax.w16)) 4,
+) (List._∷_ (
+  8,
+  Rows'.sslice (Referent.rtF (Referent.fInt Syntax.w8)) (Syntax.tyRef (Syntax.named 5)
+      Syntax.imm (Syntax.tyInt Syntax.w8)) 5,
+) (List._∷_ (9, Rows'.sc-here (Row.sInt Syntax.w64)) (List._∷_ (10, Rows'.sc-here (Row.sInt Syntax.w16)) (List._∷_ (11, Rows.arr-owed (Referent.rtF (Referent.fInt Syntax.w64)) 4104 8) (List._∷_
+    (12, Rows'.whole (Declared'.row Worked.the-type)) (List._∷_ (13, Rows'.any-gone (Syntax.tyRef Syntax.erased Syntax.imm El.word)) (List._∷_ (
+      14,
+      Rows'.any-gone (Syntax.tyStruct (List._∷_ 38 (List._∷_ 91 (List._∷_ 93 List.[])))
+          (Syntax.tcons (Syntax.tyRef Syntax.erased Syntax.imm El.word) (Syntax.tcons El.word Syntax.tnil))),
+    ) (List._∷_ (15, Rows'.any-gone (Syntax.tyArray El.word 4104)) List.[])))))))))))))))
 
 abbrev pub t29 : List.List Row.Entry
-t29 = List._∷_ (16, Rows'.any-gone (Syntax.tyRef Syntax.erased Syntax.imm El.named)) (List._∷_ (17, Rows'.any-gone (Syntax.tyStruct (List._∷_ 38 (List._∷_ 91 (List._∷_ 93 List.[]))) (Syntax.tcons (Syntax.tyRef Syntax.erased Syntax.imm
-    El.named) (Syntax.tcons El.word Syntax.tnil)))) (List._∷_ (18, Rows'.any-gone (Syntax.tyRef Syntax.erased Syntax.mut (Syntax.tyArray El.word 4104))) (List._∷_ (19, Mut.msleft (Referent.rtF (Referent.fInt Syntax.w64)) (Syntax.tyRef
-    Syntax.erased Syntax.mut El.word)) (List._∷_ (20, Rows'.any-gone (Syntax.tyRef Syntax.erased Syntax.mut El.word)) (List._∷_ (21, Mut.msleft (Referent.rtF (Referent.fInt Syntax.w64)) (Syntax.tyRef Syntax.erased Syntax.mut El.word))
-    (List._∷_ (22, Rows'.any-gone (Syntax.tyRef Syntax.erased Syntax.mut El.word)) (List._∷_ (23, Mut.msleft (Referent.rtF (Referent.fInt Syntax.w64)) (Syntax.tyRef Syntax.erased Syntax.mut El.word)) (List._∷_ (24, Rows'.any-gone
-    (Syntax.tyRef Syntax.erased Syntax.mut El.word)) (List._∷_ (25, Mut.msleft (Referent.rtF (Referent.fInt Syntax.w64)) (Syntax.tyRef Syntax.erased Syntax.mut El.word)) (List._∷_ (26, Rows'.any-gone Syntax.tyUnit) (List._∷_ (27,
-    Rows'.any-gone (Syntax.tyRef Syntax.erased Syntax.mut El.named)) (List._∷_ (28, Rows'.any-gone (Syntax.tyStruct (List._∷_ 38 (List._∷_ 91 (List._∷_ 93 List.[]))) (Syntax.tcons (Syntax.tyRef Syntax.erased Syntax.mut El.named)
-    (Syntax.tcons El.word Syntax.tnil)))) (List._∷_ (29, Rows'.any-gone (Syntax.tyRef Syntax.erased Syntax.imm (Syntax.tyArray El.word 4104))) (List._∷_ (30, Rows'.any-gone (Syntax.tyStruct (List._∷_ 38 (List._∷_ 91 (List._∷_ 93
-    List.[]))) (Syntax.tcons (Syntax.tyRef Syntax.erased Syntax.imm El.word) (Syntax.tcons El.word Syntax.tnil)))) List.[]))))))))))))))
+t29 = List._∷_ (16, Rows'.any-gone (Syntax.tyRef Syntax.erased Syntax.imm El.named)) (List._∷_ (
+  17,
+  Rows'.any-gone (Syntax.tyStruct (List._∷_ 38 (List._∷_ 91 (List._∷_ 93 List.[]))) (Syntax.tcons (Syntax.tyRef Syntax.erased Syntax.imm
+      El.named) (Syntax.tcons El.word Syntax.tnil))),
+) (List._∷_ (18, Rows'.any-gone (Syntax.tyRef Syntax.erased Syntax.mut (Syntax.tyArray El.word 4104))) (List._∷_ (
+  19,
+  Mut.msleft (Referent.rtF (Referent.fInt Syntax.w64)) (Syntax.tyRef
+      Syntax.erased Syntax.mut El.word),
+) (List._∷_ (20, Rows'.any-gone (Syntax.tyRef Syntax.erased Syntax.mut El.word)) (List._∷_ (21, Mut.msleft (Referent.rtF (Referent.fInt Syntax.w64)) (Syntax.tyRef Syntax.erased Syntax.mut El.word))
+    (List._∷_ (22, Rows'.any-gone (Syntax.tyRef Syntax.erased Syntax.mut El.word)) (List._∷_ (23, Mut.msleft (Referent.rtF (Referent.fInt Syntax.w64)) (Syntax.tyRef Syntax.erased Syntax.mut El.word)) (List._∷_ (
+      24,
+      Rows'.any-gone
+          (Syntax.tyRef Syntax.erased Syntax.mut El.word),
+    ) (List._∷_ (25, Mut.msleft (Referent.rtF (Referent.fInt Syntax.w64)) (Syntax.tyRef Syntax.erased Syntax.mut El.word)) (List._∷_ (26, Rows'.any-gone Syntax.tyUnit) (List._∷_ (
+      27,
+      Rows'.any-gone (Syntax.tyRef Syntax.erased Syntax.mut El.named),
+    ) (List._∷_ (
+      28,
+      Rows'.any-gone (Syntax.tyStruct (List._∷_ 38 (List._∷_ 91 (List._∷_ 93 List.[]))) (Syntax.tcons (Syntax.tyRef Syntax.erased Syntax.mut El.named)
+          (Syntax.tcons El.word Syntax.tnil))),
+    ) (List._∷_ (29, Rows'.any-gone (Syntax.tyRef Syntax.erased Syntax.imm (Syntax.tyArray El.word 4104))) (List._∷_ (
+      30,
+      Rows'.any-gone (Syntax.tyStruct (List._∷_ 38 (List._∷_ 91 (List._∷_ 93
+          List.[]))) (Syntax.tcons (Syntax.tyRef Syntax.erased Syntax.imm El.word) (Syntax.tcons El.word Syntax.tnil))),
+    ) List.[]))))))))))))))
 
 abbrev pub t30 : List.List Row.Entry
-t30 = List._∷_ (0, Rows'.any-gone El.Answered) (List._∷_ (1, Mut.mslice El.row (Syntax.tyRef (Syntax.named 0) Syntax.mut El.named) 0) (List._∷_ (2, Relend.mslice-owed (Referent.rtF (Referent.fInt Syntax.w64)) (Syntax.tyRef (Syntax.named
-    1) Syntax.mut El.word) 1 9 Row.off) (List._∷_ (3, Relend.mslice-owed (Referent.rtF (Referent.fInt Syntax.w64)) (Syntax.tyRef (Syntax.named 2) Syntax.mut El.word) 2 10 Row.off) (List._∷_ (4, Relend.mslice-owed (Referent.rtF
-    (Referent.fInt Syntax.w64)) (Syntax.tyRef (Syntax.named 3) Syntax.mut El.word) 3 11 Row.off) (List._∷_ (5, Rows'.any-gone El.ReadyQueue) (List._∷_ (6, Rows'.whole (Declared.row Event.the-type)) (List._∷_ (7, Rows'.sslice
-    (Referent.rtF (Referent.fInt Syntax.w16)) (Syntax.tyRef (Syntax.named 4) Syntax.imm (Syntax.tyInt Syntax.w16)) 4) (List._∷_ (8, Rows'.sslice (Referent.rtF (Referent.fInt Syntax.w8)) (Syntax.tyRef (Syntax.named 5) Syntax.imm
-    (Syntax.tyInt Syntax.w8)) 5) (List._∷_ (9, Rows'.sc-here (Row.sInt Syntax.w64)) (List._∷_ (10, Rows'.sc-here (Row.sInt Syntax.w16)) (List._∷_ (11, Rows.arr-owed (Referent.rtF (Referent.fInt Syntax.w64)) 4104 8) (List._∷_ (12,
-    Rows'.whole (Declared'.row Worked.the-type)) (List._∷_ (13, Rows'.any-gone (Syntax.tyRef Syntax.erased Syntax.imm El.word)) (List._∷_ (14, Rows'.any-gone (Syntax.tyStruct (List._∷_ 38 (List._∷_ 91 (List._∷_ 93 List.[])))
-    (Syntax.tcons (Syntax.tyRef Syntax.erased Syntax.imm El.word) (Syntax.tcons El.word Syntax.tnil)))) (List._∷_ (15, Rows'.any-gone (Syntax.tyArray El.word 4104)) List.[])))))))))))))))
+t30 = List._∷_ (0, Rows'.any-gone El.Answered) (List._∷_ (1, Mut.mslice El.row (Syntax.tyRef (Syntax.named 0) Syntax.mut El.named) 0) (List._∷_ (
+  2,
+  Relend.mslice-owed (Referent.rtF (Referent.fInt Syntax.w64)) (Syntax.tyRef (Syntax.named
+      1) Syntax.mut El.word) 1 9 Row.off,
+) (List._∷_ (3, Relend.mslice-owed (Referent.rtF (Referent.fInt Syntax.w64)) (Syntax.tyRef (Syntax.named 2) Syntax.mut El.word) 2 10 Row.off) (List._∷_ (
+  4,
+  Relend.mslice-owed (Referent.rtF
+      (Referent.fInt Syntax.w64)) (Syntax.tyRef (Syntax.named 3) Syntax.mut El.word) 3 11 Row.off,
+) (List._∷_ (5, Rows'.any-gone El.ReadyQueue) (List._∷_ (6, Rows'.whole (Declared.row Event.the-type)) (List._∷_ (
+  7,
+  Rows'.sslice
+      (Referent.rtF (Referent.fInt Syntax.w16)) (Syntax.tyRef (Syntax.named 4) Syntax.imm (Syntax.tyInt Syntax.w16)) 4,
+) (List._∷_ (
+  8,
+  Rows'.sslice (Referent.rtF (Referent.fInt Syntax.w8)) (Syntax.tyRef (Syntax.named 5) Syntax.imm
+      (Syntax.tyInt Syntax.w8)) 5,
+) (List._∷_ (9, Rows'.sc-here (Row.sInt Syntax.w64)) (List._∷_ (10, Rows'.sc-here (Row.sInt Syntax.w16)) (List._∷_ (11, Rows.arr-owed (Referent.rtF (Referent.fInt Syntax.w64)) 4104 8) (List._∷_ (
+  12,
+  Rows'.whole (Declared'.row Worked.the-type),
+) (List._∷_ (13, Rows'.any-gone (Syntax.tyRef Syntax.erased Syntax.imm El.word)) (List._∷_ (
+  14,
+  Rows'.any-gone (Syntax.tyStruct (List._∷_ 38 (List._∷_ 91 (List._∷_ 93 List.[])))
+      (Syntax.tcons (Syntax.tyRef Syntax.erased Syntax.imm El.word) (Syntax.tcons El.word Syntax.tnil))),
+) (List._∷_ (15, Rows'.any-gone (Syntax.tyArray El.word 4104)) List.[])))))))))))))))
 
 abbrev pub t31 : List.List Row.Entry
-t31 = List._∷_ (0, Rows'.any-gone El.Answered) (List._∷_ (1, Mut.mslice El.row (Syntax.tyRef (Syntax.named 0) Syntax.mut El.named) 0) (List._∷_ (2, Relend.mslice-owed (Referent.rtF (Referent.fInt Syntax.w64)) (Syntax.tyRef (Syntax.named
-    1) Syntax.mut El.word) 1 9 Row.off) (List._∷_ (3, Relend.mslice-owed (Referent.rtF (Referent.fInt Syntax.w64)) (Syntax.tyRef (Syntax.named 2) Syntax.mut El.word) 2 10 Row.off) (List._∷_ (4, Relend.mslice-owed (Referent.rtF
-    (Referent.fInt Syntax.w64)) (Syntax.tyRef (Syntax.named 3) Syntax.mut El.word) 3 11 Row.off) (List._∷_ (5, Rows'.any-gone El.ReadyQueue) (List._∷_ (6, Rows'.any-gone El.Event) (List._∷_ (7, Rows'.sslice (Referent.rtF (Referent.fInt
-    Syntax.w16)) (Syntax.tyRef (Syntax.named 4) Syntax.imm (Syntax.tyInt Syntax.w16)) 4) (List._∷_ (8, Rows'.sslice (Referent.rtF (Referent.fInt Syntax.w8)) (Syntax.tyRef (Syntax.named 5) Syntax.imm (Syntax.tyInt Syntax.w8)) 5)
-    (List._∷_ (9, Rows'.sc-here (Row.sInt Syntax.w64)) (List._∷_ (10, Rows'.sc-here (Row.sInt Syntax.w16)) (List._∷_ (11, Rows.arr-owed (Referent.rtF (Referent.fInt Syntax.w64)) 4104 8) (List._∷_ (12, Rows'.whole (Declared'.row
-    Worked.the-type)) (List._∷_ (13, Rows'.any-gone (Syntax.tyRef Syntax.erased Syntax.imm El.word)) (List._∷_ (14, Rows'.any-gone (Syntax.tyStruct (List._∷_ 38 (List._∷_ 91 (List._∷_ 93 List.[]))) (Syntax.tcons (Syntax.tyRef
-    Syntax.erased Syntax.imm El.word) (Syntax.tcons El.word Syntax.tnil)))) (List._∷_ (15, Rows'.any-gone (Syntax.tyArray El.word 4104)) List.[])))))))))))))))
+t31 = List._∷_ (0, Rows'.any-gone El.Answered) (List._∷_ (1, Mut.mslice El.row (Syntax.tyRef (Syntax.named 0) Syntax.mut El.named) 0) (List._∷_ (
+  2,
+  Relend.mslice-owed (Referent.rtF (Referent.fInt Syntax.w64)) (Syntax.tyRef (Syntax.named
+      1) Syntax.mut El.word) 1 9 Row.off,
+) (List._∷_ (3, Relend.mslice-owed (Referent.rtF (Referent.fInt Syntax.w64)) (Syntax.tyRef (Syntax.named 2) Syntax.mut El.word) 2 10 Row.off) (List._∷_ (
+  4,
+  Relend.mslice-owed (Referent.rtF
+      (Referent.fInt Syntax.w64)) (Syntax.tyRef (Syntax.named 3) Syntax.mut El.word) 3 11 Row.off,
+) (List._∷_ (5, Rows'.any-gone El.ReadyQueue) (List._∷_ (6, Rows'.any-gone El.Event) (List._∷_ (
+  7,
+  Rows'.sslice (Referent.rtF (Referent.fInt
+      Syntax.w16)) (Syntax.tyRef (Syntax.named 4) Syntax.imm (Syntax.tyInt Syntax.w16)) 4,
+) (List._∷_ (8, Rows'.sslice (Referent.rtF (Referent.fInt Syntax.w8)) (Syntax.tyRef (Syntax.named 5) Syntax.imm (Syntax.tyInt Syntax.w8)) 5)
+    (List._∷_ (9, Rows'.sc-here (Row.sInt Syntax.w64)) (List._∷_ (10, Rows'.sc-here (Row.sInt Syntax.w16)) (List._∷_ (11, Rows.arr-owed (Referent.rtF (Referent.fInt Syntax.w64)) 4104 8) (List._∷_ (
+      12,
+      Rows'.whole (Declared'.row
+          Worked.the-type),
+    ) (List._∷_ (13, Rows'.any-gone (Syntax.tyRef Syntax.erased Syntax.imm El.word)) (List._∷_ (
+      14,
+      Rows'.any-gone (Syntax.tyStruct (List._∷_ 38 (List._∷_ 91 (List._∷_ 93 List.[]))) (Syntax.tcons (Syntax.tyRef
+          Syntax.erased Syntax.imm El.word) (Syntax.tcons El.word Syntax.tnil))),
+    ) (List._∷_ (15, Rows'.any-gone (Syntax.tyArray El.word 4104)) List.[])))))))))))))))
 
 abbrev pub t32 : List.List Row.Entry
-t32 = List._∷_ (0, Rows'.any-gone El.Answered) (List._∷_ (1, Mut.mslice El.row (Syntax.tyRef (Syntax.named 0) Syntax.mut El.named) 0) (List._∷_ (2, Relend.mslice-owed (Referent.rtF (Referent.fInt Syntax.w64)) (Syntax.tyRef (Syntax.named
-    1) Syntax.mut El.word) 1 9 Row.off) (List._∷_ (3, Relend.mslice-owed (Referent.rtF (Referent.fInt Syntax.w64)) (Syntax.tyRef (Syntax.named 2) Syntax.mut El.word) 2 10 Row.off) (List._∷_ (4, Relend.mslice-owed (Referent.rtF
-    (Referent.fInt Syntax.w64)) (Syntax.tyRef (Syntax.named 3) Syntax.mut El.word) 3 11 Row.off) (List._∷_ (5, Rows'.any-gone El.ReadyQueue) (List._∷_ (6, Rows'.any-gone El.Event) (List._∷_ (7, Rows'.sslice (Referent.rtF (Referent.fInt
-    Syntax.w16)) (Syntax.tyRef (Syntax.named 4) Syntax.imm (Syntax.tyInt Syntax.w16)) 4) (List._∷_ (8, Rows'.sslice (Referent.rtF (Referent.fInt Syntax.w8)) (Syntax.tyRef (Syntax.named 5) Syntax.imm (Syntax.tyInt Syntax.w8)) 5)
-    (List._∷_ (9, Rows'.sc-here (Row.sInt Syntax.w64)) (List._∷_ (10, Rows'.sc-here (Row.sInt Syntax.w16)) (List._∷_ (11, Rows.arrF (Referent.rtF (Referent.fInt Syntax.w64)) 4104 0) (List._∷_ (12, Rows'.whole (Declared'.row
-    Worked.the-type)) (List._∷_ (13, Rows'.any-gone (Syntax.tyRef Syntax.erased Syntax.imm El.word)) (List._∷_ (14, Rows'.any-gone (Syntax.tyStruct (List._∷_ 38 (List._∷_ 91 (List._∷_ 93 List.[]))) (Syntax.tcons (Syntax.tyRef
-    Syntax.erased Syntax.imm El.word) (Syntax.tcons El.word Syntax.tnil)))) (List._∷_ (15, Rows'.any-gone (Syntax.tyArray El.word 4104)) List.[])))))))))))))))
+t32 = List._∷_ (0, Rows'.any-gone El.Answered) (List._∷_ (1, Mut.mslice El.row (Syntax.tyRef (Syntax.named 0) Syntax.mut El.named) 0) (List._∷_ (
+  2,
+  Relend.mslice-owed (Referent.rtF (Referent.fInt Syntax.w64)) (Syntax.tyRef (Syntax.named
+      1) Syntax.mut El.word) 1 9 Row.off,
+) (List._∷_ (3, Relend.mslice-owed (Referent.rtF (Referent.fInt Syntax.w64)) (Syntax.tyRef (Syntax.named 2) Syntax.mut El.word) 2 10 Row.off) (List._∷_ (
+  4,
+  Relend.mslice-owed (Referent.rtF
+      (Referent.fInt Syntax.w64)) (Syntax.tyRef (Syntax.named 3) Syntax.mut El.word) 3 11 Row.off,
+) (List._∷_ (5, Rows'.any-gone El.ReadyQueue) (List._∷_ (6, Rows'.any-gone El.Event) (List._∷_ (
+  7,
+  Rows'.sslice (Referent.rtF (Referent.fInt
+      Syntax.w16)) (Syntax.tyRef (Syntax.named 4) Syntax.imm (Syntax.tyInt Syntax.w16)) 4,
+) (List._∷_ (8, Rows'.sslice (Referent.rtF (Referent.fInt Syntax.w8)) (Syntax.tyRef (Syntax.named 5) Syntax.imm (Syntax.tyInt Syntax.w8)) 5)
+    (List._∷_ (9, Rows'.sc-here (Row.sInt Syntax.w64)) (List._∷_ (10, Rows'.sc-here (Row.sInt Syntax.w16)) (List._∷_ (11, Rows.arrF (Referent.rtF (Referent.fInt Syntax.w64)) 4104 0) (List._∷_ (
+      12,
+      Rows'.whole (Declared'.row
+          Worked.the-type),
+    ) (List._∷_ (13, Rows'.any-gone (Syntax.tyRef Syntax.erased Syntax.imm El.word)) (List._∷_ (
+      14,
+      Rows'.any-gone (Syntax.tyStruct (List._∷_ 38 (List._∷_ 91 (List._∷_ 93 List.[]))) (Syntax.tcons (Syntax.tyRef
+          Syntax.erased Syntax.imm El.word) (Syntax.tcons El.word Syntax.tnil))),
+    ) (List._∷_ (15, Rows'.any-gone (Syntax.tyArray El.word 4104)) List.[])))))))))))))))
 
 abbrev pub t33 : List.List Row.Entry
-t33 = List._∷_ (16, Rows'.any-gone (Syntax.tyRef Syntax.erased Syntax.imm El.named)) (List._∷_ (17, Rows'.any-gone (Syntax.tyStruct (List._∷_ 38 (List._∷_ 91 (List._∷_ 93 List.[]))) (Syntax.tcons (Syntax.tyRef Syntax.erased Syntax.imm
-    El.named) (Syntax.tcons El.word Syntax.tnil)))) (List._∷_ (18, Rows'.any-gone (Syntax.tyRef Syntax.erased Syntax.mut (Syntax.tyArray El.word 4104))) (List._∷_ (19, Rows'.any-gone (Syntax.tyStruct (List._∷_ 38 (List._∷_ 91 (List._∷_ 93
-    List.[]))) (Syntax.tcons (Syntax.tyRef Syntax.erased Syntax.mut El.word) (Syntax.tcons El.word Syntax.tnil)))) (List._∷_ (20, Rows'.any-gone (Syntax.tyRef Syntax.erased Syntax.mut El.word)) (List._∷_ (21, Mut.msleft (Referent.rtF
-    (Referent.fInt Syntax.w64)) (Syntax.tyRef Syntax.erased Syntax.mut El.word)) (List._∷_ (22, Rows'.any-gone (Syntax.tyRef Syntax.erased Syntax.mut El.word)) (List._∷_ (23, Mut.msleft (Referent.rtF (Referent.fInt Syntax.w64))
-    (Syntax.tyRef Syntax.erased Syntax.mut El.word)) (List._∷_ (24, Rows'.any-gone (Syntax.tyRef Syntax.erased Syntax.mut El.word)) (List._∷_ (25, Mut.msleft (Referent.rtF (Referent.fInt Syntax.w64)) (Syntax.tyRef Syntax.erased
-    Syntax.mut El.word)) (List._∷_ (26, Rows'.any-gone Syntax.tyUnit) (List._∷_ (27, Rows'.any-gone (Syntax.tyRef Syntax.erased Syntax.mut El.named)) (List._∷_ (28, Rows'.any-gone (Syntax.tyStruct (List._∷_ 38 (List._∷_ 91 (List._∷_ 93
-    List.[]))) (Syntax.tcons (Syntax.tyRef Syntax.erased Syntax.mut El.named) (Syntax.tcons El.word Syntax.tnil)))) (List._∷_ (29, Rows'.any-gone (Syntax.tyRef Syntax.erased Syntax.imm (Syntax.tyArray El.word 4104))) (List._∷_ (30,
-    Rows'.any-gone (Syntax.tyStruct (List._∷_ 38 (List._∷_ 91 (List._∷_ 93 List.[]))) (Syntax.tcons (Syntax.tyRef Syntax.erased Syntax.imm El.word) (Syntax.tcons El.word Syntax.tnil)))) List.[]))))))))))))))
+t33 = List._∷_ (16, Rows'.any-gone (Syntax.tyRef Syntax.erased Syntax.imm El.named)) (List._∷_ (
+  17,
+  Rows'.any-gone (Syntax.tyStruct (List._∷_ 38 (List._∷_ 91 (List._∷_ 93 List.[]))) (Syntax.tcons (Syntax.tyRef Syntax.erased Syntax.imm
+      El.named) (Syntax.tcons El.word Syntax.tnil))),
+) (List._∷_ (18, Rows'.any-gone (Syntax.tyRef Syntax.erased Syntax.mut (Syntax.tyArray El.word 4104))) (List._∷_ (
+  19,
+  Rows'.any-gone (Syntax.tyStruct (List._∷_ 38 (List._∷_ 91 (List._∷_ 93
+      List.[]))) (Syntax.tcons (Syntax.tyRef Syntax.erased Syntax.mut El.word) (Syntax.tcons El.word Syntax.tnil))),
+) (List._∷_ (20, Rows'.any-gone (Syntax.tyRef Syntax.erased Syntax.mut El.word)) (List._∷_ (
+  21,
+  Mut.msleft (Referent.rtF
+      (Referent.fInt Syntax.w64)) (Syntax.tyRef Syntax.erased Syntax.mut El.word),
+) (List._∷_ (22, Rows'.any-gone (Syntax.tyRef Syntax.erased Syntax.mut El.word)) (List._∷_ (
+  23,
+  Mut.msleft (Referent.rtF (Referent.fInt Syntax.w64))
+      (Syntax.tyRef Syntax.erased Syntax.mut El.word),
+) (List._∷_ (24, Rows'.any-gone (Syntax.tyRef Syntax.erased Syntax.mut El.word)) (List._∷_ (
+  25,
+  Mut.msleft (Referent.rtF (Referent.fInt Syntax.w64)) (Syntax.tyRef Syntax.erased
+      Syntax.mut El.word),
+) (List._∷_ (26, Rows'.any-gone Syntax.tyUnit) (List._∷_ (27, Rows'.any-gone (Syntax.tyRef Syntax.erased Syntax.mut El.named)) (List._∷_ (
+  28,
+  Rows'.any-gone (Syntax.tyStruct (List._∷_ 38 (List._∷_ 91 (List._∷_ 93
+      List.[]))) (Syntax.tcons (Syntax.tyRef Syntax.erased Syntax.mut El.named) (Syntax.tcons El.word Syntax.tnil))),
+) (List._∷_ (29, Rows'.any-gone (Syntax.tyRef Syntax.erased Syntax.imm (Syntax.tyArray El.word 4104))) (List._∷_ (
+  30,
+  Rows'.any-gone (Syntax.tyStruct (List._∷_ 38 (List._∷_ 91 (List._∷_ 93 List.[]))) (Syntax.tcons (Syntax.tyRef Syntax.erased Syntax.imm El.word) (Syntax.tcons El.word Syntax.tnil))),
+) List.[]))))))))))))))
 
 abbrev pub t34 : List.List Row.Entry
-t34 = List._∷_ (0, Rows'.any-gone El.Answered) (List._∷_ (1, Mut.mslice El.row (Syntax.tyRef (Syntax.named 0) Syntax.mut El.named) 0) (List._∷_ (2, Mut.mslice (Referent.rtF (Referent.fInt Syntax.w64)) (Syntax.tyRef (Syntax.named 1)
-    Syntax.mut El.word) 1) (List._∷_ (3, Relend.mslice-owed (Referent.rtF (Referent.fInt Syntax.w64)) (Syntax.tyRef (Syntax.named 2) Syntax.mut El.word) 2 10 Row.off) (List._∷_ (4, Relend.mslice-owed (Referent.rtF (Referent.fInt
-    Syntax.w64)) (Syntax.tyRef (Syntax.named 3) Syntax.mut El.word) 3 11 Row.off) (List._∷_ (5, Rows'.any-gone El.ReadyQueue) (List._∷_ (6, Rows'.any-gone El.Event) (List._∷_ (7, Rows'.sslice (Referent.rtF (Referent.fInt Syntax.w16))
-    (Syntax.tyRef (Syntax.named 4) Syntax.imm (Syntax.tyInt Syntax.w16)) 4) (List._∷_ (8, Rows'.sslice (Referent.rtF (Referent.fInt Syntax.w8)) (Syntax.tyRef (Syntax.named 5) Syntax.imm (Syntax.tyInt Syntax.w8)) 5) (List._∷_ (9,
-    Rows'.sc-here (Row.sInt Syntax.w64)) (List._∷_ (10, Rows'.sc-here (Row.sInt Syntax.w16)) (List._∷_ (11, Rows.arrF (Referent.rtF (Referent.fInt Syntax.w64)) 4104 0) (List._∷_ (12, Rows'.whole (Declared'.row Worked.the-type))
-    (List._∷_ (13, Rows'.any-gone (Syntax.tyRef Syntax.erased Syntax.imm El.word)) (List._∷_ (14, Rows'.any-gone (Syntax.tyStruct (List._∷_ 38 (List._∷_ 91 (List._∷_ 93 List.[]))) (Syntax.tcons (Syntax.tyRef Syntax.erased Syntax.imm
-    El.word) (Syntax.tcons El.word Syntax.tnil)))) (List._∷_ (15, Rows'.any-gone (Syntax.tyArray El.word 4104)) List.[])))))))))))))))
+t34 = List._∷_ (0, Rows'.any-gone El.Answered) (List._∷_ (1, Mut.mslice El.row (Syntax.tyRef (Syntax.named 0) Syntax.mut El.named) 0) (List._∷_ (
+  2,
+  Mut.mslice (Referent.rtF (Referent.fInt Syntax.w64)) (Syntax.tyRef (Syntax.named 1)
+      Syntax.mut El.word) 1,
+) (List._∷_ (3, Relend.mslice-owed (Referent.rtF (Referent.fInt Syntax.w64)) (Syntax.tyRef (Syntax.named 2) Syntax.mut El.word) 2 10 Row.off) (List._∷_ (
+  4,
+  Relend.mslice-owed (Referent.rtF (Referent.fInt
+      Syntax.w64)) (Syntax.tyRef (Syntax.named 3) Syntax.mut El.word) 3 11 Row.off,
+) (List._∷_ (5, Rows'.any-gone El.ReadyQueue) (List._∷_ (6, Rows'.any-gone El.Event) (List._∷_ (
+  7,
+  Rows'.sslice (Referent.rtF (Referent.fInt Syntax.w16))
+      (Syntax.tyRef (Syntax.named 4) Syntax.imm (Syntax.tyInt Syntax.w16)) 4,
+) (List._∷_ (8, Rows'.sslice (Referent.rtF (Referent.fInt Syntax.w8)) (Syntax.tyRef (Syntax.named 5) Syntax.imm (Syntax.tyInt Syntax.w8)) 5) (List._∷_ (
+  9,
+  Rows'.sc-here (Row.sInt Syntax.w64),
+) (List._∷_ (10, Rows'.sc-here (Row.sInt Syntax.w16)) (List._∷_ (11, Rows.arrF (Referent.rtF (Referent.fInt Syntax.w64)) 4104 0) (List._∷_ (12, Rows'.whole (Declared'.row Worked.the-type))
+    (List._∷_ (13, Rows'.any-gone (Syntax.tyRef Syntax.erased Syntax.imm El.word)) (List._∷_ (
+      14,
+      Rows'.any-gone (Syntax.tyStruct (List._∷_ 38 (List._∷_ 91 (List._∷_ 93 List.[]))) (Syntax.tcons (Syntax.tyRef Syntax.erased Syntax.imm
+          El.word) (Syntax.tcons El.word Syntax.tnil))),
+    ) (List._∷_ (15, Rows'.any-gone (Syntax.tyArray El.word 4104)) List.[])))))))))))))))
 
 abbrev pub t35 : List.List Row.Entry
-t35 = List._∷_ (16, Rows'.any-gone (Syntax.tyRef Syntax.erased Syntax.imm El.named)) (List._∷_ (17, Rows'.any-gone (Syntax.tyStruct (List._∷_ 38 (List._∷_ 91 (List._∷_ 93 List.[]))) (Syntax.tcons (Syntax.tyRef Syntax.erased Syntax.imm
-    El.named) (Syntax.tcons El.word Syntax.tnil)))) (List._∷_ (18, Rows'.any-gone (Syntax.tyRef Syntax.erased Syntax.mut (Syntax.tyArray El.word 4104))) (List._∷_ (19, Rows'.any-gone (Syntax.tyStruct (List._∷_ 38 (List._∷_ 91 (List._∷_ 93
-    List.[]))) (Syntax.tcons (Syntax.tyRef Syntax.erased Syntax.mut El.word) (Syntax.tcons El.word Syntax.tnil)))) (List._∷_ (20, Rows'.any-gone (Syntax.tyRef Syntax.erased Syntax.mut El.word)) (List._∷_ (21, Rows'.any-gone
-    (Syntax.tyStruct (List._∷_ 38 (List._∷_ 91 (List._∷_ 93 List.[]))) (Syntax.tcons (Syntax.tyRef Syntax.erased Syntax.mut El.word) (Syntax.tcons El.word Syntax.tnil)))) (List._∷_ (22, Rows'.any-gone (Syntax.tyRef Syntax.erased
-    Syntax.mut El.word)) (List._∷_ (23, Mut.msleft (Referent.rtF (Referent.fInt Syntax.w64)) (Syntax.tyRef Syntax.erased Syntax.mut El.word)) (List._∷_ (24, Rows'.any-gone (Syntax.tyRef Syntax.erased Syntax.mut El.word)) (List._∷_ (25,
-    Mut.msleft (Referent.rtF (Referent.fInt Syntax.w64)) (Syntax.tyRef Syntax.erased Syntax.mut El.word)) (List._∷_ (26, Rows'.any-gone Syntax.tyUnit) (List._∷_ (27, Rows'.any-gone (Syntax.tyRef Syntax.erased Syntax.mut El.named))
-    (List._∷_ (28, Rows'.any-gone (Syntax.tyStruct (List._∷_ 38 (List._∷_ 91 (List._∷_ 93 List.[]))) (Syntax.tcons (Syntax.tyRef Syntax.erased Syntax.mut El.named) (Syntax.tcons El.word Syntax.tnil)))) (List._∷_ (29, Rows'.any-gone
-    (Syntax.tyRef Syntax.erased Syntax.imm (Syntax.tyArray El.word 4104))) (List._∷_ (30, Rows'.any-gone (Syntax.tyStruct (List._∷_ 38 (List._∷_ 91 (List._∷_ 93 List.[]))) (Syntax.tcons (Syntax.tyRef Syntax.erased Syntax.imm El.word)
-    (Syntax.tcons El.word Syntax.tnil)))) List.[]))))))))))))))
+t35 = List._∷_ (16, Rows'.any-gone (Syntax.tyRef Syntax.erased Syntax.imm El.named)) (List._∷_ (
+  17,
+  Rows'.any-gone (Syntax.tyStruct (List._∷_ 38 (List._∷_ 91 (List._∷_ 93 List.[]))) (Syntax.tcons (Syntax.tyRef Syntax.erased Syntax.imm
+      El.named) (Syntax.tcons El.word Syntax.tnil))),
+) (List._∷_ (18, Rows'.any-gone (Syntax.tyRef Syntax.erased Syntax.mut (Syntax.tyArray El.word 4104))) (List._∷_ (
+  19,
+  Rows'.any-gone (Syntax.tyStruct (List._∷_ 38 (List._∷_ 91 (List._∷_ 93
+      List.[]))) (Syntax.tcons (Syntax.tyRef Syntax.erased Syntax.mut El.word) (Syntax.tcons El.word Syntax.tnil))),
+) (List._∷_ (20, Rows'.any-gone (Syntax.tyRef Syntax.erased Syntax.mut El.word)) (List._∷_ (
+  21,
+  Rows'.any-gone
+      (Syntax.tyStruct (List._∷_ 38 (List._∷_ 91 (List._∷_ 93 List.[]))) (Syntax.tcons (Syntax.tyRef Syntax.erased Syntax.mut El.word) (Syntax.tcons El.word Syntax.tnil))),
+) (List._∷_ (
+  22,
+  Rows'.any-gone (Syntax.tyRef Syntax.erased
+      Syntax.mut El.word),
+) (List._∷_ (23, Mut.msleft (Referent.rtF (Referent.fInt Syntax.w64)) (Syntax.tyRef Syntax.erased Syntax.mut El.word)) (List._∷_ (24, Rows'.any-gone (Syntax.tyRef Syntax.erased Syntax.mut El.word)) (List._∷_ (
+  25,
+  Mut.msleft (Referent.rtF (Referent.fInt Syntax.w64)) (Syntax.tyRef Syntax.erased Syntax.mut El.word),
+) (List._∷_ (26, Rows'.any-gone Syntax.tyUnit) (List._∷_ (27, Rows'.any-gone (Syntax.tyRef Syntax.erased Syntax.mut El.named))
+    (List._∷_ (28, Rows'.any-gone (Syntax.tyStruct (List._∷_ 38 (List._∷_ 91 (List._∷_ 93 List.[]))) (Syntax.tcons (Syntax.tyRef Syntax.erased Syntax.mut El.named) (Syntax.tcons El.word Syntax.tnil)))) (List._∷_ (
+      29,
+      Rows'.any-gone
+          (Syntax.tyRef Syntax.erased Syntax.imm (Syntax.tyArray El.word 4104)),
+    ) (List._∷_ (
+      30,
+      Rows'.any-gone (Syntax.tyStruct (List._∷_ 38 (List._∷_ 91 (List._∷_ 93 List.[]))) (Syntax.tcons (Syntax.tyRef Syntax.erased Syntax.imm El.word)
+          (Syntax.tcons El.word Syntax.tnil))),
+    ) List.[]))))))))))))))
 
 abbrev pub t36 : List.List Row.Entry
-t36 = List._∷_ (0, Rows'.any-gone El.Answered) (List._∷_ (1, Mut.mslice El.row (Syntax.tyRef (Syntax.named 0) Syntax.mut El.named) 0) (List._∷_ (2, Mut.mslice (Referent.rtF (Referent.fInt Syntax.w64)) (Syntax.tyRef (Syntax.named 1)
-    Syntax.mut El.word) 1) (List._∷_ (3, Mut.mslice (Referent.rtF (Referent.fInt Syntax.w64)) (Syntax.tyRef (Syntax.named 2) Syntax.mut El.word) 2) (List._∷_ (4, Relend.mslice-owed (Referent.rtF (Referent.fInt Syntax.w64)) (Syntax.tyRef
-    (Syntax.named 3) Syntax.mut El.word) 3 11 Row.off) (List._∷_ (5, Rows'.any-gone El.ReadyQueue) (List._∷_ (6, Rows'.any-gone El.Event) (List._∷_ (7, Rows'.sslice (Referent.rtF (Referent.fInt Syntax.w16)) (Syntax.tyRef (Syntax.named 4)
-    Syntax.imm (Syntax.tyInt Syntax.w16)) 4) (List._∷_ (8, Rows'.sslice (Referent.rtF (Referent.fInt Syntax.w8)) (Syntax.tyRef (Syntax.named 5) Syntax.imm (Syntax.tyInt Syntax.w8)) 5) (List._∷_ (9, Rows'.sc-here (Row.sInt Syntax.w64))
-    (List._∷_ (10, Rows'.sc-here (Row.sInt Syntax.w16)) (List._∷_ (11, Rows.arrF (Referent.rtF (Referent.fInt Syntax.w64)) 4104 0) (List._∷_ (12, Rows'.whole (Declared'.row Worked.the-type)) (List._∷_ (13, Rows'.any-gone (Syntax.tyRef
-    Syntax.erased Syntax.imm El.word)) (List._∷_ (14, Rows'.any-gone (Syntax.tyStruct (List._∷_ 38 (List._∷_ 91 (List._∷_ 93 List.[]))) (Syntax.tcons (Syntax.tyRef Syntax.erased Syntax.imm El.word) (Syntax.tcons El.word Syntax.tnil))))
+t36 = List._∷_ (0, Rows'.any-gone El.Answered) (List._∷_ (1, Mut.mslice El.row (Syntax.tyRef (Syntax.named 0) Syntax.mut El.named) 0) (List._∷_ (
+  2,
+  Mut.mslice (Referent.rtF (Referent.fInt Syntax.w64)) (Syntax.tyRef (Syntax.named 1)
+      Syntax.mut El.word) 1,
+) (List._∷_ (3, Mut.mslice (Referent.rtF (Referent.fInt Syntax.w64)) (Syntax.tyRef (Syntax.named 2) Syntax.mut El.word) 2) (List._∷_ (
+  4,
+  Relend.mslice-owed (Referent.rtF (Referent.fInt Syntax.w64)) (Syntax.tyRef
+      (Syntax.named 3) Syntax.mut El.word) 3 11 Row.off,
+) (List._∷_ (5, Rows'.any-gone El.ReadyQueue) (List._∷_ (6, Rows'.any-gone El.Event) (List._∷_ (
+  7,
+  Rows'.sslice (Referent.rtF (Referent.fInt Syntax.w16)) (Syntax.tyRef (Syntax.named 4)
+      Syntax.imm (Syntax.tyInt Syntax.w16)) 4,
+) (List._∷_ (8, Rows'.sslice (Referent.rtF (Referent.fInt Syntax.w8)) (Syntax.tyRef (Syntax.named 5) Syntax.imm (Syntax.tyInt Syntax.w8)) 5) (List._∷_ (9, Rows'.sc-here (Row.sInt Syntax.w64))
+    (List._∷_ (10, Rows'.sc-here (Row.sInt Syntax.w16)) (List._∷_ (11, Rows.arrF (Referent.rtF (Referent.fInt Syntax.w64)) 4104 0) (List._∷_ (12, Rows'.whole (Declared'.row Worked.the-type)) (List._∷_ (
+      13,
+      Rows'.any-gone (Syntax.tyRef
+          Syntax.erased Syntax.imm El.word),
+    ) (List._∷_ (14, Rows'.any-gone (Syntax.tyStruct (List._∷_ 38 (List._∷_ 91 (List._∷_ 93 List.[]))) (Syntax.tcons (Syntax.tyRef Syntax.erased Syntax.imm El.word) (Syntax.tcons El.word Syntax.tnil))))
     (List._∷_ (15, Rows'.any-gone (Syntax.tyArray El.word 4104)) List.[])))))))))))))))
 
 abbrev pub t37 : List.List Row.Entry
-t37 = List._∷_ (16, Rows'.any-gone (Syntax.tyRef Syntax.erased Syntax.imm El.named)) (List._∷_ (17, Rows'.any-gone (Syntax.tyStruct (List._∷_ 38 (List._∷_ 91 (List._∷_ 93 List.[]))) (Syntax.tcons (Syntax.tyRef Syntax.erased Syntax.imm
-    El.named) (Syntax.tcons El.word Syntax.tnil)))) (List._∷_ (18, Rows'.any-gone (Syntax.tyRef Syntax.erased Syntax.mut (Syntax.tyArray El.word 4104))) (List._∷_ (19, Rows'.any-gone (Syntax.tyStruct (List._∷_ 38 (List._∷_ 91 (List._∷_ 93
-    List.[]))) (Syntax.tcons (Syntax.tyRef Syntax.erased Syntax.mut El.word) (Syntax.tcons El.word Syntax.tnil)))) (List._∷_ (20, Rows'.any-gone (Syntax.tyRef Syntax.erased Syntax.mut El.word)) (List._∷_ (21, Rows'.any-gone
-    (Syntax.tyStruct (List._∷_ 38 (List._∷_ 91 (List._∷_ 93 List.[]))) (Syntax.tcons (Syntax.tyRef Syntax.erased Syntax.mut El.word) (Syntax.tcons El.word Syntax.tnil)))) (List._∷_ (22, Rows'.any-gone (Syntax.tyRef Syntax.erased
-    Syntax.mut El.word)) (List._∷_ (23, Rows'.any-gone (Syntax.tyStruct (List._∷_ 38 (List._∷_ 91 (List._∷_ 93 List.[]))) (Syntax.tcons (Syntax.tyRef Syntax.erased Syntax.mut El.word) (Syntax.tcons El.word Syntax.tnil)))) (List._∷_ (24,
-    Rows'.any-gone (Syntax.tyRef Syntax.erased Syntax.mut El.word)) (List._∷_ (25, Mut.msleft (Referent.rtF (Referent.fInt Syntax.w64)) (Syntax.tyRef Syntax.erased Syntax.mut El.word)) (List._∷_ (26, Rows'.any-gone Syntax.tyUnit)
-    (List._∷_ (27, Rows'.any-gone (Syntax.tyRef Syntax.erased Syntax.mut El.named)) (List._∷_ (28, Rows'.any-gone (Syntax.tyStruct (List._∷_ 38 (List._∷_ 91 (List._∷_ 93 List.[]))) (Syntax.tcons (Syntax.tyRef Syntax.erased Syntax.mut
-    El.named) (Syntax.tcons El.word Syntax.tnil)))) (List._∷_ (29, Rows'.any-gone (Syntax.tyRef Syntax.erased Syntax.imm (Syntax.tyArray El.word 4104))) (List._∷_ (30, Rows'.any-gone (Syntax.tyStruct (List._∷_ 38 (List._∷_ 91 (List._∷_ 93
-    List.[]))) (Syntax.tcons (Syntax.tyRef Syntax.erased Syntax.imm El.word) (Syntax.tcons El.word Syntax.tnil)))) List.[]))))))))))))))
+t37 = List._∷_ (16, Rows'.any-gone (Syntax.tyRef Syntax.erased Syntax.imm El.named)) (List._∷_ (
+  17,
+  Rows'.any-gone (Syntax.tyStruct (List._∷_ 38 (List._∷_ 91 (List._∷_ 93 List.[]))) (Syntax.tcons (Syntax.tyRef Syntax.erased Syntax.imm
+      El.named) (Syntax.tcons El.word Syntax.tnil))),
+) (List._∷_ (18, Rows'.any-gone (Syntax.tyRef Syntax.erased Syntax.mut (Syntax.tyArray El.word 4104))) (List._∷_ (
+  19,
+  Rows'.any-gone (Syntax.tyStruct (List._∷_ 38 (List._∷_ 91 (List._∷_ 93
+      List.[]))) (Syntax.tcons (Syntax.tyRef Syntax.erased Syntax.mut El.word) (Syntax.tcons El.word Syntax.tnil))),
+) (List._∷_ (20, Rows'.any-gone (Syntax.tyRef Syntax.erased Syntax.mut El.word)) (List._∷_ (
+  21,
+  Rows'.any-gone
+      (Syntax.tyStruct (List._∷_ 38 (List._∷_ 91 (List._∷_ 93 List.[]))) (Syntax.tcons (Syntax.tyRef Syntax.erased Syntax.mut El.word) (Syntax.tcons El.word Syntax.tnil))),
+) (List._∷_ (
+  22,
+  Rows'.any-gone (Syntax.tyRef Syntax.erased
+      Syntax.mut El.word),
+) (List._∷_ (23, Rows'.any-gone (Syntax.tyStruct (List._∷_ 38 (List._∷_ 91 (List._∷_ 93 List.[]))) (Syntax.tcons (Syntax.tyRef Syntax.erased Syntax.mut El.word) (Syntax.tcons El.word Syntax.tnil)))) (List._∷_ (
+  24,
+  Rows'.any-gone (Syntax.tyRef Syntax.erased Syntax.mut El.word),
+) (List._∷_ (25, Mut.msleft (Referent.rtF (Referent.fInt Syntax.w64)) (Syntax.tyRef Syntax.erased Syntax.mut El.word)) (List._∷_ (26, Rows'.any-gone Syntax.tyUnit)
+    (List._∷_ (27, Rows'.any-gone (Syntax.tyRef Syntax.erased Syntax.mut El.named)) (List._∷_ (
+      28,
+      Rows'.any-gone (Syntax.tyStruct (List._∷_ 38 (List._∷_ 91 (List._∷_ 93 List.[]))) (Syntax.tcons (Syntax.tyRef Syntax.erased Syntax.mut
+          El.named) (Syntax.tcons El.word Syntax.tnil))),
+    ) (List._∷_ (29, Rows'.any-gone (Syntax.tyRef Syntax.erased Syntax.imm (Syntax.tyArray El.word 4104))) (List._∷_ (
+      30,
+      Rows'.any-gone (Syntax.tyStruct (List._∷_ 38 (List._∷_ 91 (List._∷_ 93
+          List.[]))) (Syntax.tcons (Syntax.tyRef Syntax.erased Syntax.imm El.word) (Syntax.tcons El.word Syntax.tnil))),
+    ) List.[]))))))))))))))
 
 abbrev pub t38 : List.List Row.Entry
-t38 = List._∷_ (0, Rows'.any-gone El.Answered) (List._∷_ (1, Mut.mslice El.row (Syntax.tyRef (Syntax.named 0) Syntax.mut El.named) 0) (List._∷_ (2, Mut.mslice (Referent.rtF (Referent.fInt Syntax.w64)) (Syntax.tyRef (Syntax.named 1)
-    Syntax.mut El.word) 1) (List._∷_ (3, Mut.mslice (Referent.rtF (Referent.fInt Syntax.w64)) (Syntax.tyRef (Syntax.named 2) Syntax.mut El.word) 2) (List._∷_ (4, Mut.mslice (Referent.rtF (Referent.fInt Syntax.w64)) (Syntax.tyRef
-    (Syntax.named 3) Syntax.mut El.word) 3) (List._∷_ (5, Rows'.any-gone El.ReadyQueue) (List._∷_ (6, Rows'.any-gone El.Event) (List._∷_ (7, Rows'.sslice (Referent.rtF (Referent.fInt Syntax.w16)) (Syntax.tyRef (Syntax.named 4) Syntax.imm
-    (Syntax.tyInt Syntax.w16)) 4) (List._∷_ (8, Rows'.sslice (Referent.rtF (Referent.fInt Syntax.w8)) (Syntax.tyRef (Syntax.named 5) Syntax.imm (Syntax.tyInt Syntax.w8)) 5) (List._∷_ (9, Rows'.sc-here (Row.sInt Syntax.w64)) (List._∷_
-    (10, Rows'.sc-here (Row.sInt Syntax.w16)) (List._∷_ (11, Rows.arrF (Referent.rtF (Referent.fInt Syntax.w64)) 4104 0) (List._∷_ (12, Rows'.whole (Declared'.row Worked.the-type)) (List._∷_ (13, Rows'.any-gone (Syntax.tyRef
-    Syntax.erased Syntax.imm El.word)) (List._∷_ (14, Rows'.any-gone (Syntax.tyStruct (List._∷_ 38 (List._∷_ 91 (List._∷_ 93 List.[]))) (Syntax.tcons (Syntax.tyRef Syntax.erased Syntax.imm El.word) (Syntax.tcons El.word Syntax.tnil))))
+t38 = List._∷_ (0, Rows'.any-gone El.Answered) (List._∷_ (1, Mut.mslice El.row (Syntax.tyRef (Syntax.named 0) Syntax.mut El.named) 0) (List._∷_ (
+  2,
+  Mut.mslice (Referent.rtF (Referent.fInt Syntax.w64)) (Syntax.tyRef (Syntax.named 1)
+      Syntax.mut El.word) 1,
+) (List._∷_ (3, Mut.mslice (Referent.rtF (Referent.fInt Syntax.w64)) (Syntax.tyRef (Syntax.named 2) Syntax.mut El.word) 2) (List._∷_ (
+  4,
+  Mut.mslice (Referent.rtF (Referent.fInt Syntax.w64)) (Syntax.tyRef
+      (Syntax.named 3) Syntax.mut El.word) 3,
+) (List._∷_ (5, Rows'.any-gone El.ReadyQueue) (List._∷_ (6, Rows'.any-gone El.Event) (List._∷_ (
+  7,
+  Rows'.sslice (Referent.rtF (Referent.fInt Syntax.w16)) (Syntax.tyRef (Syntax.named 4) Syntax.imm
+      (Syntax.tyInt Syntax.w16)) 4,
+) (List._∷_ (8, Rows'.sslice (Referent.rtF (Referent.fInt Syntax.w8)) (Syntax.tyRef (Syntax.named 5) Syntax.imm (Syntax.tyInt Syntax.w8)) 5) (List._∷_ (9, Rows'.sc-here (Row.sInt Syntax.w64)) (List._∷_
+    (10, Rows'.sc-here (Row.sInt Syntax.w16)) (List._∷_ (11, Rows.arrF (Referent.rtF (Referent.fInt Syntax.w64)) 4104 0) (List._∷_ (12, Rows'.whole (Declared'.row Worked.the-type)) (List._∷_ (
+      13,
+      Rows'.any-gone (Syntax.tyRef
+          Syntax.erased Syntax.imm El.word),
+    ) (List._∷_ (14, Rows'.any-gone (Syntax.tyStruct (List._∷_ 38 (List._∷_ 91 (List._∷_ 93 List.[]))) (Syntax.tcons (Syntax.tyRef Syntax.erased Syntax.imm El.word) (Syntax.tcons El.word Syntax.tnil))))
     (List._∷_ (15, Rows'.any-gone (Syntax.tyArray El.word 4104)) List.[])))))))))))))))
 
 abbrev pub t39 : List.List Row.Entry
-t39 = List._∷_ (0, Rows'.any-gone El.Answered) (List._∷_ (1, Relend.mslice-owed El.row (Syntax.tyRef (Syntax.named 0) Syntax.mut El.named) 0 12 Row.off) (List._∷_ (2, Mut.mslice (Referent.rtF (Referent.fInt Syntax.w64)) (Syntax.tyRef
-    (Syntax.named 1) Syntax.mut El.word) 1) (List._∷_ (3, Mut.mslice (Referent.rtF (Referent.fInt Syntax.w64)) (Syntax.tyRef (Syntax.named 2) Syntax.mut El.word) 2) (List._∷_ (4, Mut.mslice (Referent.rtF (Referent.fInt Syntax.w64))
-    (Syntax.tyRef (Syntax.named 3) Syntax.mut El.word) 3) (List._∷_ (5, Rows'.any-gone El.ReadyQueue) (List._∷_ (6, Rows'.any-gone El.Event) (List._∷_ (7, Rows'.sslice (Referent.rtF (Referent.fInt Syntax.w16)) (Syntax.tyRef (Syntax.named
-    4) Syntax.imm (Syntax.tyInt Syntax.w16)) 4) (List._∷_ (8, Rows'.sslice (Referent.rtF (Referent.fInt Syntax.w8)) (Syntax.tyRef (Syntax.named 5) Syntax.imm (Syntax.tyInt Syntax.w8)) 5) (List._∷_ (9, Rows'.sc-here (Row.sInt
-    Syntax.w64)) (List._∷_ (10, Rows'.sc-here (Row.sInt Syntax.w16)) (List._∷_ (11, Rows.arrF (Referent.rtF (Referent.fInt Syntax.w64)) 4104 0) (List._∷_ (12, Rows'.whole (Declared'.row Worked.the-type)) (List._∷_ (13, Rows'.any-gone
-    (Syntax.tyRef Syntax.erased Syntax.imm El.word)) (List._∷_ (14, Rows'.any-gone (Syntax.tyStruct (List._∷_ 38 (List._∷_ 91 (List._∷_ 93 List.[]))) (Syntax.tcons (Syntax.tyRef Syntax.erased Syntax.imm El.word) (Syntax.tcons El.word
-    Syntax.tnil)))) (List._∷_ (15, Rows'.any-gone (Syntax.tyArray El.word 4104)) List.[])))))))))))))))
+t39 = List._∷_ (0, Rows'.any-gone El.Answered) (List._∷_ (1, Relend.mslice-owed El.row (Syntax.tyRef (Syntax.named 0) Syntax.mut El.named) 0 12 Row.off) (List._∷_ (
+  2,
+  Mut.mslice (Referent.rtF (Referent.fInt Syntax.w64)) (Syntax.tyRef
+      (Syntax.named 1) Syntax.mut El.word) 1,
+) (List._∷_ (3, Mut.mslice (Referent.rtF (Referent.fInt Syntax.w64)) (Syntax.tyRef (Syntax.named 2) Syntax.mut El.word) 2) (List._∷_ (
+  4,
+  Mut.mslice (Referent.rtF (Referent.fInt Syntax.w64))
+      (Syntax.tyRef (Syntax.named 3) Syntax.mut El.word) 3,
+) (List._∷_ (5, Rows'.any-gone El.ReadyQueue) (List._∷_ (6, Rows'.any-gone El.Event) (List._∷_ (
+  7,
+  Rows'.sslice (Referent.rtF (Referent.fInt Syntax.w16)) (Syntax.tyRef (Syntax.named
+      4) Syntax.imm (Syntax.tyInt Syntax.w16)) 4,
+) (List._∷_ (8, Rows'.sslice (Referent.rtF (Referent.fInt Syntax.w8)) (Syntax.tyRef (Syntax.named 5) Syntax.imm (Syntax.tyInt Syntax.w8)) 5) (List._∷_ (
+  9,
+  Rows'.sc-here (Row.sInt
+      Syntax.w64),
+) (List._∷_ (10, Rows'.sc-here (Row.sInt Syntax.w16)) (List._∷_ (11, Rows.arrF (Referent.rtF (Referent.fInt Syntax.w64)) 4104 0) (List._∷_ (12, Rows'.whole (Declared'.row Worked.the-type)) (List._∷_ (
+  13,
+  Rows'.any-gone
+      (Syntax.tyRef Syntax.erased Syntax.imm El.word),
+) (List._∷_ (
+  14,
+  Rows'.any-gone (Syntax.tyStruct (List._∷_ 38 (List._∷_ 91 (List._∷_ 93 List.[]))) (Syntax.tcons (Syntax.tyRef Syntax.erased Syntax.imm El.word) (Syntax.tcons El.word
+      Syntax.tnil))),
+) (List._∷_ (15, Rows'.any-gone (Syntax.tyArray El.word 4104)) List.[])))))))))))))))
 
 abbrev pub t40 : List.List Row.Entry
-t40 = List._∷_ (16, Rows'.any-gone (Syntax.tyRef Syntax.erased Syntax.imm El.named)) (List._∷_ (17, Rows'.any-gone (Syntax.tyStruct (List._∷_ 38 (List._∷_ 91 (List._∷_ 93 List.[]))) (Syntax.tcons (Syntax.tyRef Syntax.erased Syntax.imm
-    El.named) (Syntax.tcons El.word Syntax.tnil)))) (List._∷_ (18, Rows'.any-gone (Syntax.tyRef Syntax.erased Syntax.mut (Syntax.tyArray El.word 4104))) (List._∷_ (19, Rows'.any-gone (Syntax.tyStruct (List._∷_ 38 (List._∷_ 91 (List._∷_ 93
-    List.[]))) (Syntax.tcons (Syntax.tyRef Syntax.erased Syntax.mut El.word) (Syntax.tcons El.word Syntax.tnil)))) (List._∷_ (20, Rows'.any-gone (Syntax.tyRef Syntax.erased Syntax.mut El.word)) (List._∷_ (21, Rows'.any-gone
-    (Syntax.tyStruct (List._∷_ 38 (List._∷_ 91 (List._∷_ 93 List.[]))) (Syntax.tcons (Syntax.tyRef Syntax.erased Syntax.mut El.word) (Syntax.tcons El.word Syntax.tnil)))) (List._∷_ (22, Rows'.any-gone (Syntax.tyRef Syntax.erased
-    Syntax.mut El.word)) (List._∷_ (23, Rows'.any-gone (Syntax.tyStruct (List._∷_ 38 (List._∷_ 91 (List._∷_ 93 List.[]))) (Syntax.tcons (Syntax.tyRef Syntax.erased Syntax.mut El.word) (Syntax.tcons El.word Syntax.tnil)))) (List._∷_ (24,
-    Rows'.any-gone (Syntax.tyRef Syntax.erased Syntax.mut El.word)) (List._∷_ (25, Rows'.any-gone (Syntax.tyStruct (List._∷_ 38 (List._∷_ 91 (List._∷_ 93 List.[]))) (Syntax.tcons (Syntax.tyRef Syntax.erased Syntax.mut El.word)
-    (Syntax.tcons El.word Syntax.tnil)))) (List._∷_ (26, Rows'.any-gone Syntax.tyUnit) (List._∷_ (27, Relend.msptr El.row (Syntax.tyRef Syntax.erased Syntax.mut El.named) 12) (List._∷_ (28, Rows'.any-gone (Syntax.tyStruct (List._∷_ 38
-    (List._∷_ 91 (List._∷_ 93 List.[]))) (Syntax.tcons (Syntax.tyRef Syntax.erased Syntax.mut El.named) (Syntax.tcons El.word Syntax.tnil)))) (List._∷_ (29, Rows'.any-gone (Syntax.tyRef Syntax.erased Syntax.imm (Syntax.tyArray El.word
-    4104))) (List._∷_ (30, Rows'.any-gone (Syntax.tyStruct (List._∷_ 38 (List._∷_ 91 (List._∷_ 93 List.[]))) (Syntax.tcons (Syntax.tyRef Syntax.erased Syntax.imm El.word) (Syntax.tcons El.word Syntax.tnil)))) List.[]))))))))))))))
+t40 = List._∷_ (16, Rows'.any-gone (Syntax.tyRef Syntax.erased Syntax.imm El.named)) (List._∷_ (
+  17,
+  Rows'.any-gone (Syntax.tyStruct (List._∷_ 38 (List._∷_ 91 (List._∷_ 93 List.[]))) (Syntax.tcons (Syntax.tyRef Syntax.erased Syntax.imm
+      El.named) (Syntax.tcons El.word Syntax.tnil))),
+) (List._∷_ (18, Rows'.any-gone (Syntax.tyRef Syntax.erased Syntax.mut (Syntax.tyArray El.word 4104))) (List._∷_ (
+  19,
+  Rows'.any-gone (Syntax.tyStruct (List._∷_ 38 (List._∷_ 91 (List._∷_ 93
+      List.[]))) (Syntax.tcons (Syntax.tyRef Syntax.erased Syntax.mut El.word) (Syntax.tcons El.word Syntax.tnil))),
+) (List._∷_ (20, Rows'.any-gone (Syntax.tyRef Syntax.erased Syntax.mut El.word)) (List._∷_ (
+  21,
+  Rows'.any-gone
+      (Syntax.tyStruct (List._∷_ 38 (List._∷_ 91 (List._∷_ 93 List.[]))) (Syntax.tcons (Syntax.tyRef Syntax.erased Syntax.mut El.word) (Syntax.tcons El.word Syntax.tnil))),
+) (List._∷_ (
+  22,
+  Rows'.any-gone (Syntax.tyRef Syntax.erased
+      Syntax.mut El.word),
+) (List._∷_ (23, Rows'.any-gone (Syntax.tyStruct (List._∷_ 38 (List._∷_ 91 (List._∷_ 93 List.[]))) (Syntax.tcons (Syntax.tyRef Syntax.erased Syntax.mut El.word) (Syntax.tcons El.word Syntax.tnil)))) (List._∷_ (
+  24,
+  Rows'.any-gone (Syntax.tyRef Syntax.erased Syntax.mut El.word),
+) (List._∷_ (
+  25,
+  Rows'.any-gone (Syntax.tyStruct (List._∷_ 38 (List._∷_ 91 (List._∷_ 93 List.[]))) (Syntax.tcons (Syntax.tyRef Syntax.erased Syntax.mut El.word)
+      (Syntax.tcons El.word Syntax.tnil))),
+) (List._∷_ (26, Rows'.any-gone Syntax.tyUnit) (List._∷_ (27, Relend.msptr El.row (Syntax.tyRef Syntax.erased Syntax.mut El.named) 12) (List._∷_ (
+  28,
+  Rows'.any-gone (Syntax.tyStruct (List._∷_ 38
+      (List._∷_ 91 (List._∷_ 93 List.[]))) (Syntax.tcons (Syntax.tyRef Syntax.erased Syntax.mut El.named) (Syntax.tcons El.word Syntax.tnil))),
+) (List._∷_ (
+  29,
+  Rows'.any-gone (Syntax.tyRef Syntax.erased Syntax.imm (Syntax.tyArray El.word
+      4104)),
+) (List._∷_ (30, Rows'.any-gone (Syntax.tyStruct (List._∷_ 38 (List._∷_ 91 (List._∷_ 93 List.[]))) (Syntax.tcons (Syntax.tyRef Syntax.erased Syntax.imm El.word) (Syntax.tcons El.word Syntax.tnil)))) List.[]))))))))))))))
 
 abbrev pub t41 : List.List Row.Entry
-t41 = List._∷_ (16, Rows'.any-gone (Syntax.tyRef Syntax.erased Syntax.imm El.named)) (List._∷_ (17, Rows'.any-gone (Syntax.tyStruct (List._∷_ 38 (List._∷_ 91 (List._∷_ 93 List.[]))) (Syntax.tcons (Syntax.tyRef Syntax.erased Syntax.imm
-    El.named) (Syntax.tcons El.word Syntax.tnil)))) (List._∷_ (18, Rows'.any-gone (Syntax.tyRef Syntax.erased Syntax.mut (Syntax.tyArray El.word 4104))) (List._∷_ (19, Rows'.any-gone (Syntax.tyStruct (List._∷_ 38 (List._∷_ 91 (List._∷_ 93
-    List.[]))) (Syntax.tcons (Syntax.tyRef Syntax.erased Syntax.mut El.word) (Syntax.tcons El.word Syntax.tnil)))) (List._∷_ (20, Rows'.any-gone (Syntax.tyRef Syntax.erased Syntax.mut El.word)) (List._∷_ (21, Rows'.any-gone
-    (Syntax.tyStruct (List._∷_ 38 (List._∷_ 91 (List._∷_ 93 List.[]))) (Syntax.tcons (Syntax.tyRef Syntax.erased Syntax.mut El.word) (Syntax.tcons El.word Syntax.tnil)))) (List._∷_ (22, Rows'.any-gone (Syntax.tyRef Syntax.erased
-    Syntax.mut El.word)) (List._∷_ (23, Rows'.any-gone (Syntax.tyStruct (List._∷_ 38 (List._∷_ 91 (List._∷_ 93 List.[]))) (Syntax.tcons (Syntax.tyRef Syntax.erased Syntax.mut El.word) (Syntax.tcons El.word Syntax.tnil)))) (List._∷_ (24,
-    Rows'.any-gone (Syntax.tyRef Syntax.erased Syntax.mut El.word)) (List._∷_ (25, Rows'.any-gone (Syntax.tyStruct (List._∷_ 38 (List._∷_ 91 (List._∷_ 93 List.[]))) (Syntax.tcons (Syntax.tyRef Syntax.erased Syntax.mut El.word)
-    (Syntax.tcons El.word Syntax.tnil)))) (List._∷_ (26, Rows'.any-gone Syntax.tyUnit) (List._∷_ (27, Rows'.any-gone (Syntax.tyRef Syntax.erased Syntax.mut El.named)) (List._∷_ (28, Mut.mslice El.row (Syntax.tyRef Syntax.erased Syntax.mut
-    El.named) 12) (List._∷_ (29, Rows'.any-gone (Syntax.tyRef Syntax.erased Syntax.imm (Syntax.tyArray El.word 4104))) (List._∷_ (30, Rows'.any-gone (Syntax.tyStruct (List._∷_ 38 (List._∷_ 91 (List._∷_ 93 List.[]))) (Syntax.tcons
-    (Syntax.tyRef Syntax.erased Syntax.imm El.word) (Syntax.tcons El.word Syntax.tnil)))) List.[]))))))))))))))
+t41 = List._∷_ (16, Rows'.any-gone (Syntax.tyRef Syntax.erased Syntax.imm El.named)) (List._∷_ (
+  17,
+  Rows'.any-gone (Syntax.tyStruct (List._∷_ 38 (List._∷_ 91 (List._∷_ 93 List.[]))) (Syntax.tcons (Syntax.tyRef Syntax.erased Syntax.imm
+      El.named) (Syntax.tcons El.word Syntax.tnil))),
+) (List._∷_ (18, Rows'.any-gone (Syntax.tyRef Syntax.erased Syntax.mut (Syntax.tyArray El.word 4104))) (List._∷_ (
+  19,
+  Rows'.any-gone (Syntax.tyStruct (List._∷_ 38 (List._∷_ 91 (List._∷_ 93
+      List.[]))) (Syntax.tcons (Syntax.tyRef Syntax.erased Syntax.mut El.word) (Syntax.tcons El.word Syntax.tnil))),
+) (List._∷_ (20, Rows'.any-gone (Syntax.tyRef Syntax.erased Syntax.mut El.word)) (List._∷_ (
+  21,
+  Rows'.any-gone
+      (Syntax.tyStruct (List._∷_ 38 (List._∷_ 91 (List._∷_ 93 List.[]))) (Syntax.tcons (Syntax.tyRef Syntax.erased Syntax.mut El.word) (Syntax.tcons El.word Syntax.tnil))),
+) (List._∷_ (
+  22,
+  Rows'.any-gone (Syntax.tyRef Syntax.erased
+      Syntax.mut El.word),
+) (List._∷_ (23, Rows'.any-gone (Syntax.tyStruct (List._∷_ 38 (List._∷_ 91 (List._∷_ 93 List.[]))) (Syntax.tcons (Syntax.tyRef Syntax.erased Syntax.mut El.word) (Syntax.tcons El.word Syntax.tnil)))) (List._∷_ (
+  24,
+  Rows'.any-gone (Syntax.tyRef Syntax.erased Syntax.mut El.word),
+) (List._∷_ (
+  25,
+  Rows'.any-gone (Syntax.tyStruct (List._∷_ 38 (List._∷_ 91 (List._∷_ 93 List.[]))) (Syntax.tcons (Syntax.tyRef Syntax.erased Syntax.mut El.word)
+      (Syntax.tcons El.word Syntax.tnil))),
+) (List._∷_ (26, Rows'.any-gone Syntax.tyUnit) (List._∷_ (27, Rows'.any-gone (Syntax.tyRef Syntax.erased Syntax.mut El.named)) (List._∷_ (
+  28,
+  Mut.mslice El.row (Syntax.tyRef Syntax.erased Syntax.mut
+      El.named) 12,
+) (List._∷_ (29, Rows'.any-gone (Syntax.tyRef Syntax.erased Syntax.imm (Syntax.tyArray El.word 4104))) (List._∷_ (
+  30,
+  Rows'.any-gone (Syntax.tyStruct (List._∷_ 38 (List._∷_ 91 (List._∷_ 93 List.[]))) (Syntax.tcons
+      (Syntax.tyRef Syntax.erased Syntax.imm El.word) (Syntax.tcons El.word Syntax.tnil))),
+) List.[]))))))))))))))
 
 abbrev pub t42 : List.List Row.Entry
-t42 = List._∷_ (0, Rows'.any-gone El.Answered) (List._∷_ (1, Relend.mslice-owed El.row (Syntax.tyRef (Syntax.named 0) Syntax.mut El.named) 0 12 Row.off) (List._∷_ (2, Mut.mslice (Referent.rtF (Referent.fInt Syntax.w64)) (Syntax.tyRef
-    (Syntax.named 1) Syntax.mut El.word) 1) (List._∷_ (3, Mut.mslice (Referent.rtF (Referent.fInt Syntax.w64)) (Syntax.tyRef (Syntax.named 2) Syntax.mut El.word) 2) (List._∷_ (4, Mut.mslice (Referent.rtF (Referent.fInt Syntax.w64))
-    (Syntax.tyRef (Syntax.named 3) Syntax.mut El.word) 3) (List._∷_ (5, Rows'.any-gone El.ReadyQueue) (List._∷_ (6, Rows'.any-gone El.Event) (List._∷_ (7, Rows'.sslice (Referent.rtF (Referent.fInt Syntax.w16)) (Syntax.tyRef (Syntax.named
-    4) Syntax.imm (Syntax.tyInt Syntax.w16)) 4) (List._∷_ (8, Rows'.sslice (Referent.rtF (Referent.fInt Syntax.w8)) (Syntax.tyRef (Syntax.named 5) Syntax.imm (Syntax.tyInt Syntax.w8)) 5) (List._∷_ (9, Rows'.sc-here (Row.sInt
-    Syntax.w64)) (List._∷_ (10, Rows'.sc-here (Row.sInt Syntax.w16)) (List._∷_ (11, Rows.arr-shr (Referent.rtF (Referent.fInt Syntax.w64)) 4104 13) (List._∷_ (12, Rows'.whole (Declared'.row Worked.the-type)) (List._∷_ (13,
-    Rows'.any-gone (Syntax.tyRef Syntax.erased Syntax.imm El.word)) (List._∷_ (14, Rows'.any-gone (Syntax.tyStruct (List._∷_ 38 (List._∷_ 91 (List._∷_ 93 List.[]))) (Syntax.tcons (Syntax.tyRef Syntax.erased Syntax.imm El.word)
-    (Syntax.tcons El.word Syntax.tnil)))) (List._∷_ (15, Rows'.any-gone (Syntax.tyArray El.word 4104)) List.[])))))))))))))))
+t42 = List._∷_ (0, Rows'.any-gone El.Answered) (List._∷_ (1, Relend.mslice-owed El.row (Syntax.tyRef (Syntax.named 0) Syntax.mut El.named) 0 12 Row.off) (List._∷_ (
+  2,
+  Mut.mslice (Referent.rtF (Referent.fInt Syntax.w64)) (Syntax.tyRef
+      (Syntax.named 1) Syntax.mut El.word) 1,
+) (List._∷_ (3, Mut.mslice (Referent.rtF (Referent.fInt Syntax.w64)) (Syntax.tyRef (Syntax.named 2) Syntax.mut El.word) 2) (List._∷_ (
+  4,
+  Mut.mslice (Referent.rtF (Referent.fInt Syntax.w64))
+      (Syntax.tyRef (Syntax.named 3) Syntax.mut El.word) 3,
+) (List._∷_ (5, Rows'.any-gone El.ReadyQueue) (List._∷_ (6, Rows'.any-gone El.Event) (List._∷_ (
+  7,
+  Rows'.sslice (Referent.rtF (Referent.fInt Syntax.w16)) (Syntax.tyRef (Syntax.named
+      4) Syntax.imm (Syntax.tyInt Syntax.w16)) 4,
+) (List._∷_ (8, Rows'.sslice (Referent.rtF (Referent.fInt Syntax.w8)) (Syntax.tyRef (Syntax.named 5) Syntax.imm (Syntax.tyInt Syntax.w8)) 5) (List._∷_ (
+  9,
+  Rows'.sc-here (Row.sInt
+      Syntax.w64),
+) (List._∷_ (10, Rows'.sc-here (Row.sInt Syntax.w16)) (List._∷_ (11, Rows.arr-shr (Referent.rtF (Referent.fInt Syntax.w64)) 4104 13) (List._∷_ (12, Rows'.whole (Declared'.row Worked.the-type)) (List._∷_ (
+  13,
+  Rows'.any-gone (Syntax.tyRef Syntax.erased Syntax.imm El.word),
+) (List._∷_ (
+  14,
+  Rows'.any-gone (Syntax.tyStruct (List._∷_ 38 (List._∷_ 91 (List._∷_ 93 List.[]))) (Syntax.tcons (Syntax.tyRef Syntax.erased Syntax.imm El.word)
+      (Syntax.tcons El.word Syntax.tnil))),
+) (List._∷_ (15, Rows'.any-gone (Syntax.tyArray El.word 4104)) List.[])))))))))))))))
 
 abbrev pub t43 : List.List Row.Entry
-t43 = List._∷_ (16, Rows'.any-gone (Syntax.tyRef Syntax.erased Syntax.imm El.named)) (List._∷_ (17, Rows'.any-gone (Syntax.tyStruct (List._∷_ 38 (List._∷_ 91 (List._∷_ 93 List.[]))) (Syntax.tcons (Syntax.tyRef Syntax.erased Syntax.imm
-    El.named) (Syntax.tcons El.word Syntax.tnil)))) (List._∷_ (18, Rows'.any-gone (Syntax.tyRef Syntax.erased Syntax.mut (Syntax.tyArray El.word 4104))) (List._∷_ (19, Rows'.any-gone (Syntax.tyStruct (List._∷_ 38 (List._∷_ 91 (List._∷_ 93
-    List.[]))) (Syntax.tcons (Syntax.tyRef Syntax.erased Syntax.mut El.word) (Syntax.tcons El.word Syntax.tnil)))) (List._∷_ (20, Rows'.any-gone (Syntax.tyRef Syntax.erased Syntax.mut El.word)) (List._∷_ (21, Rows'.any-gone
-    (Syntax.tyStruct (List._∷_ 38 (List._∷_ 91 (List._∷_ 93 List.[]))) (Syntax.tcons (Syntax.tyRef Syntax.erased Syntax.mut El.word) (Syntax.tcons El.word Syntax.tnil)))) (List._∷_ (22, Rows'.any-gone (Syntax.tyRef Syntax.erased
-    Syntax.mut El.word)) (List._∷_ (23, Rows'.any-gone (Syntax.tyStruct (List._∷_ 38 (List._∷_ 91 (List._∷_ 93 List.[]))) (Syntax.tcons (Syntax.tyRef Syntax.erased Syntax.mut El.word) (Syntax.tcons El.word Syntax.tnil)))) (List._∷_ (24,
-    Rows'.any-gone (Syntax.tyRef Syntax.erased Syntax.mut El.word)) (List._∷_ (25, Rows'.any-gone (Syntax.tyStruct (List._∷_ 38 (List._∷_ 91 (List._∷_ 93 List.[]))) (Syntax.tcons (Syntax.tyRef Syntax.erased Syntax.mut El.word)
-    (Syntax.tcons El.word Syntax.tnil)))) (List._∷_ (26, Rows'.any-gone Syntax.tyUnit) (List._∷_ (27, Rows'.any-gone (Syntax.tyRef Syntax.erased Syntax.mut El.named)) (List._∷_ (28, Mut.mslice El.row (Syntax.tyRef Syntax.erased Syntax.mut
-    El.named) 12) (List._∷_ (29, Relend.ssptr (Referent.rtF (Referent.fInt Syntax.w64)) (Syntax.tyRef Syntax.erased Syntax.imm (Syntax.tyArray El.word 4104)) 13) (List._∷_ (30, Rows'.any-gone (Syntax.tyStruct (List._∷_ 38 (List._∷_ 91
-    (List._∷_ 93 List.[]))) (Syntax.tcons (Syntax.tyRef Syntax.erased Syntax.imm El.word) (Syntax.tcons El.word Syntax.tnil)))) List.[]))))))))))))))
+t43 = List._∷_ (16, Rows'.any-gone (Syntax.tyRef Syntax.erased Syntax.imm El.named)) (List._∷_ (
+  17,
+  Rows'.any-gone (Syntax.tyStruct (List._∷_ 38 (List._∷_ 91 (List._∷_ 93 List.[]))) (Syntax.tcons (Syntax.tyRef Syntax.erased Syntax.imm
+      El.named) (Syntax.tcons El.word Syntax.tnil))),
+) (List._∷_ (18, Rows'.any-gone (Syntax.tyRef Syntax.erased Syntax.mut (Syntax.tyArray El.word 4104))) (List._∷_ (
+  19,
+  Rows'.any-gone (Syntax.tyStruct (List._∷_ 38 (List._∷_ 91 (List._∷_ 93
+      List.[]))) (Syntax.tcons (Syntax.tyRef Syntax.erased Syntax.mut El.word) (Syntax.tcons El.word Syntax.tnil))),
+) (List._∷_ (20, Rows'.any-gone (Syntax.tyRef Syntax.erased Syntax.mut El.word)) (List._∷_ (
+  21,
+  Rows'.any-gone
+      (Syntax.tyStruct (List._∷_ 38 (List._∷_ 91 (List._∷_ 93 List.[]))) (Syntax.tcons (Syntax.tyRef Syntax.erased Syntax.mut El.word) (Syntax.tcons El.word Syntax.tnil))),
+) (List._∷_ (
+  22,
+  Rows'.any-gone (Syntax.tyRef Syntax.erased
+      Syntax.mut El.word),
+) (List._∷_ (23, Rows'.any-gone (Syntax.tyStruct (List._∷_ 38 (List._∷_ 91 (List._∷_ 93 List.[]))) (Syntax.tcons (Syntax.tyRef Syntax.erased Syntax.mut El.word) (Syntax.tcons El.word Syntax.tnil)))) (List._∷_ (
+  24,
+  Rows'.any-gone (Syntax.tyRef Syntax.erased Syntax.mut El.word),
+) (List._∷_ (
+  25,
+  Rows'.any-gone (Syntax.tyStruct (List._∷_ 38 (List._∷_ 91 (List._∷_ 93 List.[]))) (Syntax.tcons (Syntax.tyRef Syntax.erased Syntax.mut El.word)
+      (Syntax.tcons El.word Syntax.tnil))),
+) (List._∷_ (26, Rows'.any-gone Syntax.tyUnit) (List._∷_ (27, Rows'.any-gone (Syntax.tyRef Syntax.erased Syntax.mut El.named)) (List._∷_ (
+  28,
+  Mut.mslice El.row (Syntax.tyRef Syntax.erased Syntax.mut
+      El.named) 12,
+) (List._∷_ (29, Relend.ssptr (Referent.rtF (Referent.fInt Syntax.w64)) (Syntax.tyRef Syntax.erased Syntax.imm (Syntax.tyArray El.word 4104)) 13) (List._∷_ (
+  30,
+  Rows'.any-gone (Syntax.tyStruct (List._∷_ 38 (List._∷_ 91
+      (List._∷_ 93 List.[]))) (Syntax.tcons (Syntax.tyRef Syntax.erased Syntax.imm El.word) (Syntax.tcons El.word Syntax.tnil))),
+) List.[]))))))))))))))
 
 abbrev pub t44 : List.List Row.Entry
-t44 = List._∷_ (16, Rows'.any-gone (Syntax.tyRef Syntax.erased Syntax.imm El.named)) (List._∷_ (17, Rows'.any-gone (Syntax.tyStruct (List._∷_ 38 (List._∷_ 91 (List._∷_ 93 List.[]))) (Syntax.tcons (Syntax.tyRef Syntax.erased Syntax.imm
-    El.named) (Syntax.tcons El.word Syntax.tnil)))) (List._∷_ (18, Rows'.any-gone (Syntax.tyRef Syntax.erased Syntax.mut (Syntax.tyArray El.word 4104))) (List._∷_ (19, Rows'.any-gone (Syntax.tyStruct (List._∷_ 38 (List._∷_ 91 (List._∷_ 93
-    List.[]))) (Syntax.tcons (Syntax.tyRef Syntax.erased Syntax.mut El.word) (Syntax.tcons El.word Syntax.tnil)))) (List._∷_ (20, Rows'.any-gone (Syntax.tyRef Syntax.erased Syntax.mut El.word)) (List._∷_ (21, Rows'.any-gone
-    (Syntax.tyStruct (List._∷_ 38 (List._∷_ 91 (List._∷_ 93 List.[]))) (Syntax.tcons (Syntax.tyRef Syntax.erased Syntax.mut El.word) (Syntax.tcons El.word Syntax.tnil)))) (List._∷_ (22, Rows'.any-gone (Syntax.tyRef Syntax.erased
-    Syntax.mut El.word)) (List._∷_ (23, Rows'.any-gone (Syntax.tyStruct (List._∷_ 38 (List._∷_ 91 (List._∷_ 93 List.[]))) (Syntax.tcons (Syntax.tyRef Syntax.erased Syntax.mut El.word) (Syntax.tcons El.word Syntax.tnil)))) (List._∷_ (24,
-    Rows'.any-gone (Syntax.tyRef Syntax.erased Syntax.mut El.word)) (List._∷_ (25, Rows'.any-gone (Syntax.tyStruct (List._∷_ 38 (List._∷_ 91 (List._∷_ 93 List.[]))) (Syntax.tcons (Syntax.tyRef Syntax.erased Syntax.mut El.word)
-    (Syntax.tcons El.word Syntax.tnil)))) (List._∷_ (26, Rows'.any-gone Syntax.tyUnit) (List._∷_ (27, Rows'.any-gone (Syntax.tyRef Syntax.erased Syntax.mut El.named)) (List._∷_ (28, Mut.mslice El.row (Syntax.tyRef Syntax.erased Syntax.mut
-    El.named) 12) (List._∷_ (29, Rows'.any-gone (Syntax.tyRef Syntax.erased Syntax.imm (Syntax.tyArray El.word 4104))) (List._∷_ (30, Rows'.sslice (Referent.rtF (Referent.fInt Syntax.w64)) (Syntax.tyRef Syntax.erased Syntax.imm El.word)
-    13) List.[]))))))))))))))
+t44 = List._∷_ (16, Rows'.any-gone (Syntax.tyRef Syntax.erased Syntax.imm El.named)) (List._∷_ (
+  17,
+  Rows'.any-gone (Syntax.tyStruct (List._∷_ 38 (List._∷_ 91 (List._∷_ 93 List.[]))) (Syntax.tcons (Syntax.tyRef Syntax.erased Syntax.imm
+      El.named) (Syntax.tcons El.word Syntax.tnil))),
+) (List._∷_ (18, Rows'.any-gone (Syntax.tyRef Syntax.erased Syntax.mut (Syntax.tyArray El.word 4104))) (List._∷_ (
+  19,
+  Rows'.any-gone (Syntax.tyStruct (List._∷_ 38 (List._∷_ 91 (List._∷_ 93
+      List.[]))) (Syntax.tcons (Syntax.tyRef Syntax.erased Syntax.mut El.word) (Syntax.tcons El.word Syntax.tnil))),
+) (List._∷_ (20, Rows'.any-gone (Syntax.tyRef Syntax.erased Syntax.mut El.word)) (List._∷_ (
+  21,
+  Rows'.any-gone
+      (Syntax.tyStruct (List._∷_ 38 (List._∷_ 91 (List._∷_ 93 List.[]))) (Syntax.tcons (Syntax.tyRef Syntax.erased Syntax.mut El.word) (Syntax.tcons El.word Syntax.tnil))),
+) (List._∷_ (
+  22,
+  Rows'.any-gone (Syntax.tyRef Syntax.erased
+      Syntax.mut El.word),
+) (List._∷_ (23, Rows'.any-gone (Syntax.tyStruct (List._∷_ 38 (List._∷_ 91 (List._∷_ 93 List.[]))) (Syntax.tcons (Syntax.tyRef Syntax.erased Syntax.mut El.word) (Syntax.tcons El.word Syntax.tnil)))) (List._∷_ (
+  24,
+  Rows'.any-gone (Syntax.tyRef Syntax.erased Syntax.mut El.word),
+) (List._∷_ (
+  25,
+  Rows'.any-gone (Syntax.tyStruct (List._∷_ 38 (List._∷_ 91 (List._∷_ 93 List.[]))) (Syntax.tcons (Syntax.tyRef Syntax.erased Syntax.mut El.word)
+      (Syntax.tcons El.word Syntax.tnil))),
+) (List._∷_ (26, Rows'.any-gone Syntax.tyUnit) (List._∷_ (27, Rows'.any-gone (Syntax.tyRef Syntax.erased Syntax.mut El.named)) (List._∷_ (
+  28,
+  Mut.mslice El.row (Syntax.tyRef Syntax.erased Syntax.mut
+      El.named) 12,
+) (List._∷_ (29, Rows'.any-gone (Syntax.tyRef Syntax.erased Syntax.imm (Syntax.tyArray El.word 4104))) (List._∷_ (
+  30,
+  Rows'.sslice (Referent.rtF (Referent.fInt Syntax.w64)) (Syntax.tyRef Syntax.erased Syntax.imm El.word)
+      13,
+) List.[]))))))))))))))
 
 abbrev pub t45 : List.List Row.Entry
-t45 = List._∷_ (16, Rows'.any-gone (Syntax.tyRef Syntax.erased Syntax.imm El.named)) (List._∷_ (17, Rows'.any-gone (Syntax.tyStruct (List._∷_ 38 (List._∷_ 91 (List._∷_ 93 List.[]))) (Syntax.tcons (Syntax.tyRef Syntax.erased Syntax.imm
-    El.named) (Syntax.tcons El.word Syntax.tnil)))) (List._∷_ (18, Rows'.any-gone (Syntax.tyRef Syntax.erased Syntax.mut (Syntax.tyArray El.word 4104))) (List._∷_ (19, Rows'.any-gone (Syntax.tyStruct (List._∷_ 38 (List._∷_ 91 (List._∷_ 93
-    List.[]))) (Syntax.tcons (Syntax.tyRef Syntax.erased Syntax.mut El.word) (Syntax.tcons El.word Syntax.tnil)))) (List._∷_ (20, Rows'.any-gone (Syntax.tyRef Syntax.erased Syntax.mut El.word)) (List._∷_ (21, Rows'.any-gone
-    (Syntax.tyStruct (List._∷_ 38 (List._∷_ 91 (List._∷_ 93 List.[]))) (Syntax.tcons (Syntax.tyRef Syntax.erased Syntax.mut El.word) (Syntax.tcons El.word Syntax.tnil)))) (List._∷_ (22, Rows'.any-gone (Syntax.tyRef Syntax.erased
-    Syntax.mut El.word)) (List._∷_ (23, Rows'.any-gone (Syntax.tyStruct (List._∷_ 38 (List._∷_ 91 (List._∷_ 93 List.[]))) (Syntax.tcons (Syntax.tyRef Syntax.erased Syntax.mut El.word) (Syntax.tcons El.word Syntax.tnil)))) (List._∷_ (24,
-    Rows'.any-gone (Syntax.tyRef Syntax.erased Syntax.mut El.word)) (List._∷_ (25, Rows'.any-gone (Syntax.tyStruct (List._∷_ 38 (List._∷_ 91 (List._∷_ 93 List.[]))) (Syntax.tcons (Syntax.tyRef Syntax.erased Syntax.mut El.word)
-    (Syntax.tcons El.word Syntax.tnil)))) (List._∷_ (26, Rows'.sc-here Row.sUnit) (List._∷_ (27, Rows'.any-gone (Syntax.tyRef Syntax.erased Syntax.mut El.named)) (List._∷_ (28, Mut.msleft El.row (Syntax.tyRef Syntax.erased Syntax.mut
-    El.named)) (List._∷_ (29, Rows'.any-gone (Syntax.tyRef Syntax.erased Syntax.imm (Syntax.tyArray El.word 4104))) (List._∷_ (30, Rows'.sslice (Referent.rtF (Referent.fInt Syntax.w64)) (Syntax.tyRef Syntax.erased Syntax.imm El.word) 13)
+t45 = List._∷_ (16, Rows'.any-gone (Syntax.tyRef Syntax.erased Syntax.imm El.named)) (List._∷_ (
+  17,
+  Rows'.any-gone (Syntax.tyStruct (List._∷_ 38 (List._∷_ 91 (List._∷_ 93 List.[]))) (Syntax.tcons (Syntax.tyRef Syntax.erased Syntax.imm
+      El.named) (Syntax.tcons El.word Syntax.tnil))),
+) (List._∷_ (18, Rows'.any-gone (Syntax.tyRef Syntax.erased Syntax.mut (Syntax.tyArray El.word 4104))) (List._∷_ (
+  19,
+  Rows'.any-gone (Syntax.tyStruct (List._∷_ 38 (List._∷_ 91 (List._∷_ 93
+      List.[]))) (Syntax.tcons (Syntax.tyRef Syntax.erased Syntax.mut El.word) (Syntax.tcons El.word Syntax.tnil))),
+) (List._∷_ (20, Rows'.any-gone (Syntax.tyRef Syntax.erased Syntax.mut El.word)) (List._∷_ (
+  21,
+  Rows'.any-gone
+      (Syntax.tyStruct (List._∷_ 38 (List._∷_ 91 (List._∷_ 93 List.[]))) (Syntax.tcons (Syntax.tyRef Syntax.erased Syntax.mut El.word) (Syntax.tcons El.word Syntax.tnil))),
+) (List._∷_ (
+  22,
+  Rows'.any-gone (Syntax.tyRef Syntax.erased
+      Syntax.mut El.word),
+) (List._∷_ (23, Rows'.any-gone (Syntax.tyStruct (List._∷_ 38 (List._∷_ 91 (List._∷_ 93 List.[]))) (Syntax.tcons (Syntax.tyRef Syntax.erased Syntax.mut El.word) (Syntax.tcons El.word Syntax.tnil)))) (List._∷_ (
+  24,
+  Rows'.any-gone (Syntax.tyRef Syntax.erased Syntax.mut El.word),
+) (List._∷_ (
+  25,
+  Rows'.any-gone (Syntax.tyStruct (List._∷_ 38 (List._∷_ 91 (List._∷_ 93 List.[]))) (Syntax.tcons (Syntax.tyRef Syntax.erased Syntax.mut El.word)
+      (Syntax.tcons El.word Syntax.tnil))),
+) (List._∷_ (26, Rows'.sc-here Row.sUnit) (List._∷_ (27, Rows'.any-gone (Syntax.tyRef Syntax.erased Syntax.mut El.named)) (List._∷_ (
+  28,
+  Mut.msleft El.row (Syntax.tyRef Syntax.erased Syntax.mut
+      El.named),
+) (List._∷_ (29, Rows'.any-gone (Syntax.tyRef Syntax.erased Syntax.imm (Syntax.tyArray El.word 4104))) (List._∷_ (30, Rows'.sslice (Referent.rtF (Referent.fInt Syntax.w64)) (Syntax.tyRef Syntax.erased Syntax.imm El.word) 13)
     List.[]))))))))))))))
 
 abbrev pub t46 : List.List Row.Entry
-t46 = List._∷_ (16, Rows'.any-gone (Syntax.tyRef Syntax.erased Syntax.imm El.named)) (List._∷_ (17, Rows'.any-gone (Syntax.tyStruct (List._∷_ 38 (List._∷_ 91 (List._∷_ 93 List.[]))) (Syntax.tcons (Syntax.tyRef Syntax.erased Syntax.imm
-    El.named) (Syntax.tcons El.word Syntax.tnil)))) (List._∷_ (18, Rows'.any-gone (Syntax.tyRef Syntax.erased Syntax.mut (Syntax.tyArray El.word 4104))) (List._∷_ (19, Rows'.any-gone (Syntax.tyStruct (List._∷_ 38 (List._∷_ 91 (List._∷_ 93
-    List.[]))) (Syntax.tcons (Syntax.tyRef Syntax.erased Syntax.mut El.word) (Syntax.tcons El.word Syntax.tnil)))) (List._∷_ (20, Rows'.any-gone (Syntax.tyRef Syntax.erased Syntax.mut El.word)) (List._∷_ (21, Rows'.any-gone
-    (Syntax.tyStruct (List._∷_ 38 (List._∷_ 91 (List._∷_ 93 List.[]))) (Syntax.tcons (Syntax.tyRef Syntax.erased Syntax.mut El.word) (Syntax.tcons El.word Syntax.tnil)))) (List._∷_ (22, Rows'.any-gone (Syntax.tyRef Syntax.erased
-    Syntax.mut El.word)) (List._∷_ (23, Rows'.any-gone (Syntax.tyStruct (List._∷_ 38 (List._∷_ 91 (List._∷_ 93 List.[]))) (Syntax.tcons (Syntax.tyRef Syntax.erased Syntax.mut El.word) (Syntax.tcons El.word Syntax.tnil)))) (List._∷_ (24,
-    Rows'.any-gone (Syntax.tyRef Syntax.erased Syntax.mut El.word)) (List._∷_ (25, Rows'.any-gone (Syntax.tyStruct (List._∷_ 38 (List._∷_ 91 (List._∷_ 93 List.[]))) (Syntax.tcons (Syntax.tyRef Syntax.erased Syntax.mut El.word)
-    (Syntax.tcons El.word Syntax.tnil)))) (List._∷_ (26, Rows'.sc-here Row.sUnit) (List._∷_ (27, Rows'.any-gone (Syntax.tyRef Syntax.erased Syntax.mut El.named)) (List._∷_ (28, Mut.msleft El.row (Syntax.tyRef Syntax.erased Syntax.mut
-    El.named)) (List._∷_ (29, Rows'.any-gone (Syntax.tyRef Syntax.erased Syntax.imm (Syntax.tyArray El.word 4104))) (List._∷_ (30, Rows'.any-gone (Syntax.tyStruct (List._∷_ 38 (List._∷_ 91 (List._∷_ 93 List.[]))) (Syntax.tcons
-    (Syntax.tyRef Syntax.erased Syntax.imm El.word) (Syntax.tcons El.word Syntax.tnil)))) List.[]))))))))))))))
+t46 = List._∷_ (16, Rows'.any-gone (Syntax.tyRef Syntax.erased Syntax.imm El.named)) (List._∷_ (
+  17,
+  Rows'.any-gone (Syntax.tyStruct (List._∷_ 38 (List._∷_ 91 (List._∷_ 93 List.[]))) (Syntax.tcons (Syntax.tyRef Syntax.erased Syntax.imm
+      El.named) (Syntax.tcons El.word Syntax.tnil))),
+) (List._∷_ (18, Rows'.any-gone (Syntax.tyRef Syntax.erased Syntax.mut (Syntax.tyArray El.word 4104))) (List._∷_ (
+  19,
+  Rows'.any-gone (Syntax.tyStruct (List._∷_ 38 (List._∷_ 91 (List._∷_ 93
+      List.[]))) (Syntax.tcons (Syntax.tyRef Syntax.erased Syntax.mut El.word) (Syntax.tcons El.word Syntax.tnil))),
+) (List._∷_ (20, Rows'.any-gone (Syntax.tyRef Syntax.erased Syntax.mut El.word)) (List._∷_ (
+  21,
+  Rows'.any-gone
+      (Syntax.tyStruct (List._∷_ 38 (List._∷_ 91 (List._∷_ 93 List.[]))) (Syntax.tcons (Syntax.tyRef Syntax.erased Syntax.mut El.word) (Syntax.tcons El.word Syntax.tnil))),
+) (List._∷_ (
+  22,
+  Rows'.any-gone (Syntax.tyRef Syntax.erased
+      Syntax.mut El.word),
+) (List._∷_ (23, Rows'.any-gone (Syntax.tyStruct (List._∷_ 38 (List._∷_ 91 (List._∷_ 93 List.[]))) (Syntax.tcons (Syntax.tyRef Syntax.erased Syntax.mut El.word) (Syntax.tcons El.word Syntax.tnil)))) (List._∷_ (
+  24,
+  Rows'.any-gone (Syntax.tyRef Syntax.erased Syntax.mut El.word),
+) (List._∷_ (
+  25,
+  Rows'.any-gone (Syntax.tyStruct (List._∷_ 38 (List._∷_ 91 (List._∷_ 93 List.[]))) (Syntax.tcons (Syntax.tyRef Syntax.erased Syntax.mut El.word)
+      (Syntax.tcons El.word Syntax.tnil))),
+) (List._∷_ (26, Rows'.sc-here Row.sUnit) (List._∷_ (27, Rows'.any-gone (Syntax.tyRef Syntax.erased Syntax.mut El.named)) (List._∷_ (
+  28,
+  Mut.msleft El.row (Syntax.tyRef Syntax.erased Syntax.mut
+      El.named),
+) (List._∷_ (29, Rows'.any-gone (Syntax.tyRef Syntax.erased Syntax.imm (Syntax.tyArray El.word 4104))) (List._∷_ (
+  30,
+  Rows'.any-gone (Syntax.tyStruct (List._∷_ 38 (List._∷_ 91 (List._∷_ 93 List.[]))) (Syntax.tcons
+      (Syntax.tyRef Syntax.erased Syntax.imm El.word) (Syntax.tcons El.word Syntax.tnil))),
+) List.[]))))))))))))))
 
 abbrev pub t47 : List.List Row.Entry
-t47 = List._∷_ (16, Rows'.any-gone (Syntax.tyRef Syntax.erased Syntax.imm El.named)) (List._∷_ (17, Rows'.any-gone (Syntax.tyStruct (List._∷_ 38 (List._∷_ 91 (List._∷_ 93 List.[]))) (Syntax.tcons (Syntax.tyRef Syntax.erased Syntax.imm
-    El.named) (Syntax.tcons El.word Syntax.tnil)))) (List._∷_ (18, Rows'.any-gone (Syntax.tyRef Syntax.erased Syntax.mut (Syntax.tyArray El.word 4104))) (List._∷_ (19, Rows'.any-gone (Syntax.tyStruct (List._∷_ 38 (List._∷_ 91 (List._∷_ 93
-    List.[]))) (Syntax.tcons (Syntax.tyRef Syntax.erased Syntax.mut El.word) (Syntax.tcons El.word Syntax.tnil)))) (List._∷_ (20, Rows'.any-gone (Syntax.tyRef Syntax.erased Syntax.mut El.word)) (List._∷_ (21, Rows'.any-gone
-    (Syntax.tyStruct (List._∷_ 38 (List._∷_ 91 (List._∷_ 93 List.[]))) (Syntax.tcons (Syntax.tyRef Syntax.erased Syntax.mut El.word) (Syntax.tcons El.word Syntax.tnil)))) (List._∷_ (22, Rows'.any-gone (Syntax.tyRef Syntax.erased
-    Syntax.mut El.word)) (List._∷_ (23, Rows'.any-gone (Syntax.tyStruct (List._∷_ 38 (List._∷_ 91 (List._∷_ 93 List.[]))) (Syntax.tcons (Syntax.tyRef Syntax.erased Syntax.mut El.word) (Syntax.tcons El.word Syntax.tnil)))) (List._∷_ (24,
-    Rows'.any-gone (Syntax.tyRef Syntax.erased Syntax.mut El.word)) (List._∷_ (25, Rows'.any-gone (Syntax.tyStruct (List._∷_ 38 (List._∷_ 91 (List._∷_ 93 List.[]))) (Syntax.tcons (Syntax.tyRef Syntax.erased Syntax.mut El.word)
-    (Syntax.tcons El.word Syntax.tnil)))) (List._∷_ (26, Rows'.any-gone Syntax.tyUnit) (List._∷_ (27, Rows'.any-gone (Syntax.tyRef Syntax.erased Syntax.mut El.named)) (List._∷_ (28, Mut.msleft El.row (Syntax.tyRef Syntax.erased Syntax.mut
-    El.named)) (List._∷_ (29, Rows'.any-gone (Syntax.tyRef Syntax.erased Syntax.imm (Syntax.tyArray El.word 4104))) (List._∷_ (30, Rows'.any-gone (Syntax.tyStruct (List._∷_ 38 (List._∷_ 91 (List._∷_ 93 List.[]))) (Syntax.tcons
-    (Syntax.tyRef Syntax.erased Syntax.imm El.word) (Syntax.tcons El.word Syntax.tnil)))) List.[]))))))))))))))
+t47 = List._∷_ (16, Rows'.any-gone (Syntax.tyRef Syntax.erased Syntax.imm El.named)) (List._∷_ (
+  17,
+  Rows'.any-gone (Syntax.tyStruct (List._∷_ 38 (List._∷_ 91 (List._∷_ 93 List.[]))) (Syntax.tcons (Syntax.tyRef Syntax.erased Syntax.imm
+      El.named) (Syntax.tcons El.word Syntax.tnil))),
+) (List._∷_ (18, Rows'.any-gone (Syntax.tyRef Syntax.erased Syntax.mut (Syntax.tyArray El.word 4104))) (List._∷_ (
+  19,
+  Rows'.any-gone (Syntax.tyStruct (List._∷_ 38 (List._∷_ 91 (List._∷_ 93
+      List.[]))) (Syntax.tcons (Syntax.tyRef Syntax.erased Syntax.mut El.word) (Syntax.tcons El.word Syntax.tnil))),
+) (List._∷_ (20, Rows'.any-gone (Syntax.tyRef Syntax.erased Syntax.mut El.word)) (List._∷_ (
+  21,
+  Rows'.any-gone
+      (Syntax.tyStruct (List._∷_ 38 (List._∷_ 91 (List._∷_ 93 List.[]))) (Syntax.tcons (Syntax.tyRef Syntax.erased Syntax.mut El.word) (Syntax.tcons El.word Syntax.tnil))),
+) (List._∷_ (
+  22,
+  Rows'.any-gone (Syntax.tyRef Syntax.erased
+      Syntax.mut El.word),
+) (List._∷_ (23, Rows'.any-gone (Syntax.tyStruct (List._∷_ 38 (List._∷_ 91 (List._∷_ 93 List.[]))) (Syntax.tcons (Syntax.tyRef Syntax.erased Syntax.mut El.word) (Syntax.tcons El.word Syntax.tnil)))) (List._∷_ (
+  24,
+  Rows'.any-gone (Syntax.tyRef Syntax.erased Syntax.mut El.word),
+) (List._∷_ (
+  25,
+  Rows'.any-gone (Syntax.tyStruct (List._∷_ 38 (List._∷_ 91 (List._∷_ 93 List.[]))) (Syntax.tcons (Syntax.tyRef Syntax.erased Syntax.mut El.word)
+      (Syntax.tcons El.word Syntax.tnil))),
+) (List._∷_ (26, Rows'.any-gone Syntax.tyUnit) (List._∷_ (27, Rows'.any-gone (Syntax.tyRef Syntax.erased Syntax.mut El.named)) (List._∷_ (
+  28,
+  Mut.msleft El.row (Syntax.tyRef Syntax.erased Syntax.mut
+      El.named),
+) (List._∷_ (29, Rows'.any-gone (Syntax.tyRef Syntax.erased Syntax.imm (Syntax.tyArray El.word 4104))) (List._∷_ (
+  30,
+  Rows'.any-gone (Syntax.tyStruct (List._∷_ 38 (List._∷_ 91 (List._∷_ 93 List.[]))) (Syntax.tcons
+      (Syntax.tyRef Syntax.erased Syntax.imm El.word) (Syntax.tcons El.word Syntax.tnil))),
+) List.[]))))))))))))))
 
 abbrev pub t48 : List.List Row.Entry
-t48 = List._∷_ (0, Rows'.any-gone El.Answered) (List._∷_ (1, Mut.mslice El.row (Syntax.tyRef (Syntax.named 0) Syntax.mut El.named) 0) (List._∷_ (2, Mut.mslice (Referent.rtF (Referent.fInt Syntax.w64)) (Syntax.tyRef (Syntax.named 1)
-    Syntax.mut El.word) 1) (List._∷_ (3, Mut.mslice (Referent.rtF (Referent.fInt Syntax.w64)) (Syntax.tyRef (Syntax.named 2) Syntax.mut El.word) 2) (List._∷_ (4, Mut.mslice (Referent.rtF (Referent.fInt Syntax.w64)) (Syntax.tyRef
-    (Syntax.named 3) Syntax.mut El.word) 3) (List._∷_ (5, Rows'.any-gone El.ReadyQueue) (List._∷_ (6, Rows'.any-gone El.Event) (List._∷_ (7, Rows'.sslice (Referent.rtF (Referent.fInt Syntax.w16)) (Syntax.tyRef (Syntax.named 4) Syntax.imm
-    (Syntax.tyInt Syntax.w16)) 4) (List._∷_ (8, Rows'.sslice (Referent.rtF (Referent.fInt Syntax.w8)) (Syntax.tyRef (Syntax.named 5) Syntax.imm (Syntax.tyInt Syntax.w8)) 5) (List._∷_ (9, Rows'.sc-here (Row.sInt Syntax.w64)) (List._∷_
-    (10, Rows'.sc-here (Row.sInt Syntax.w16)) (List._∷_ (11, Rows.arr-shr (Referent.rtF (Referent.fInt Syntax.w64)) 4104 13) (List._∷_ (12, Rows'.whole (Declared'.row Worked.the-type)) (List._∷_ (13, Rows'.any-gone (Syntax.tyRef
-    Syntax.erased Syntax.imm El.word)) (List._∷_ (14, Rows'.any-gone (Syntax.tyStruct (List._∷_ 38 (List._∷_ 91 (List._∷_ 93 List.[]))) (Syntax.tcons (Syntax.tyRef Syntax.erased Syntax.imm El.word) (Syntax.tcons El.word Syntax.tnil))))
+t48 = List._∷_ (0, Rows'.any-gone El.Answered) (List._∷_ (1, Mut.mslice El.row (Syntax.tyRef (Syntax.named 0) Syntax.mut El.named) 0) (List._∷_ (
+  2,
+  Mut.mslice (Referent.rtF (Referent.fInt Syntax.w64)) (Syntax.tyRef (Syntax.named 1)
+      Syntax.mut El.word) 1,
+) (List._∷_ (3, Mut.mslice (Referent.rtF (Referent.fInt Syntax.w64)) (Syntax.tyRef (Syntax.named 2) Syntax.mut El.word) 2) (List._∷_ (
+  4,
+  Mut.mslice (Referent.rtF (Referent.fInt Syntax.w64)) (Syntax.tyRef
+      (Syntax.named 3) Syntax.mut El.word) 3,
+) (List._∷_ (5, Rows'.any-gone El.ReadyQueue) (List._∷_ (6, Rows'.any-gone El.Event) (List._∷_ (
+  7,
+  Rows'.sslice (Referent.rtF (Referent.fInt Syntax.w16)) (Syntax.tyRef (Syntax.named 4) Syntax.imm
+      (Syntax.tyInt Syntax.w16)) 4,
+) (List._∷_ (8, Rows'.sslice (Referent.rtF (Referent.fInt Syntax.w8)) (Syntax.tyRef (Syntax.named 5) Syntax.imm (Syntax.tyInt Syntax.w8)) 5) (List._∷_ (9, Rows'.sc-here (Row.sInt Syntax.w64)) (List._∷_
+    (10, Rows'.sc-here (Row.sInt Syntax.w16)) (List._∷_ (11, Rows.arr-shr (Referent.rtF (Referent.fInt Syntax.w64)) 4104 13) (List._∷_ (12, Rows'.whole (Declared'.row Worked.the-type)) (List._∷_ (
+      13,
+      Rows'.any-gone (Syntax.tyRef
+          Syntax.erased Syntax.imm El.word),
+    ) (List._∷_ (14, Rows'.any-gone (Syntax.tyStruct (List._∷_ 38 (List._∷_ 91 (List._∷_ 93 List.[]))) (Syntax.tcons (Syntax.tyRef Syntax.erased Syntax.imm El.word) (Syntax.tcons El.word Syntax.tnil))))
     (List._∷_ (15, Rows'.any-gone (Syntax.tyArray El.word 4104)) List.[])))))))))))))))
 
 abbrev pub t49 : List.List Row.Entry
-t49 = List._∷_ (0, Rows'.any-gone El.Answered) (List._∷_ (1, Mut.mslice El.row (Syntax.tyRef (Syntax.named 0) Syntax.mut El.named) 0) (List._∷_ (2, Mut.mslice (Referent.rtF (Referent.fInt Syntax.w64)) (Syntax.tyRef (Syntax.named 1)
-    Syntax.mut El.word) 1) (List._∷_ (3, Mut.mslice (Referent.rtF (Referent.fInt Syntax.w64)) (Syntax.tyRef (Syntax.named 2) Syntax.mut El.word) 2) (List._∷_ (4, Mut.mslice (Referent.rtF (Referent.fInt Syntax.w64)) (Syntax.tyRef
-    (Syntax.named 3) Syntax.mut El.word) 3) (List._∷_ (5, Rows'.any-gone El.ReadyQueue) (List._∷_ (6, Rows'.any-gone El.Event) (List._∷_ (7, Rows'.sslice (Referent.rtF (Referent.fInt Syntax.w16)) (Syntax.tyRef (Syntax.named 4) Syntax.imm
-    (Syntax.tyInt Syntax.w16)) 4) (List._∷_ (8, Rows'.sslice (Referent.rtF (Referent.fInt Syntax.w8)) (Syntax.tyRef (Syntax.named 5) Syntax.imm (Syntax.tyInt Syntax.w8)) 5) (List._∷_ (9, Rows'.sc-here (Row.sInt Syntax.w64)) (List._∷_
-    (10, Rows'.sc-here (Row.sInt Syntax.w16)) (List._∷_ (11, Rows'.any-gone (Syntax.tyArray El.word 4104)) (List._∷_ (12, Rows'.whole (Declared'.row Worked.the-type)) (List._∷_ (13, Rows'.any-gone (Syntax.tyRef Syntax.erased Syntax.imm
-    El.word)) (List._∷_ (14, Rows'.any-gone (Syntax.tyStruct (List._∷_ 38 (List._∷_ 91 (List._∷_ 93 List.[]))) (Syntax.tcons (Syntax.tyRef Syntax.erased Syntax.imm El.word) (Syntax.tcons El.word Syntax.tnil)))) (List._∷_ (15,
-    Rows'.any-gone (Syntax.tyArray El.word 4104)) List.[])))))))))))))))
+t49 = List._∷_ (0, Rows'.any-gone El.Answered) (List._∷_ (1, Mut.mslice El.row (Syntax.tyRef (Syntax.named 0) Syntax.mut El.named) 0) (List._∷_ (
+  2,
+  Mut.mslice (Referent.rtF (Referent.fInt Syntax.w64)) (Syntax.tyRef (Syntax.named 1)
+      Syntax.mut El.word) 1,
+) (List._∷_ (3, Mut.mslice (Referent.rtF (Referent.fInt Syntax.w64)) (Syntax.tyRef (Syntax.named 2) Syntax.mut El.word) 2) (List._∷_ (
+  4,
+  Mut.mslice (Referent.rtF (Referent.fInt Syntax.w64)) (Syntax.tyRef
+      (Syntax.named 3) Syntax.mut El.word) 3,
+) (List._∷_ (5, Rows'.any-gone El.ReadyQueue) (List._∷_ (6, Rows'.any-gone El.Event) (List._∷_ (
+  7,
+  Rows'.sslice (Referent.rtF (Referent.fInt Syntax.w16)) (Syntax.tyRef (Syntax.named 4) Syntax.imm
+      (Syntax.tyInt Syntax.w16)) 4,
+) (List._∷_ (8, Rows'.sslice (Referent.rtF (Referent.fInt Syntax.w8)) (Syntax.tyRef (Syntax.named 5) Syntax.imm (Syntax.tyInt Syntax.w8)) 5) (List._∷_ (9, Rows'.sc-here (Row.sInt Syntax.w64)) (List._∷_
+    (10, Rows'.sc-here (Row.sInt Syntax.w16)) (List._∷_ (11, Rows'.any-gone (Syntax.tyArray El.word 4104)) (List._∷_ (12, Rows'.whole (Declared'.row Worked.the-type)) (List._∷_ (
+      13,
+      Rows'.any-gone (Syntax.tyRef Syntax.erased Syntax.imm
+          El.word),
+    ) (List._∷_ (14, Rows'.any-gone (Syntax.tyStruct (List._∷_ 38 (List._∷_ 91 (List._∷_ 93 List.[]))) (Syntax.tcons (Syntax.tyRef Syntax.erased Syntax.imm El.word) (Syntax.tcons El.word Syntax.tnil)))) (List._∷_ (
+      15,
+      Rows'.any-gone (Syntax.tyArray El.word 4104),
+    ) List.[])))))))))))))))
 
 abbrev pub t50 : List.List Row.Entry
-t50 = List._∷_ (0, Rows'.whole (Declared'.row Answered.the-type)) (List._∷_ (1, Mut.mslice El.row (Syntax.tyRef (Syntax.named 0) Syntax.mut El.named) 0) (List._∷_ (2, Mut.mslice (Referent.rtF (Referent.fInt Syntax.w64)) (Syntax.tyRef
-    (Syntax.named 1) Syntax.mut El.word) 1) (List._∷_ (3, Mut.mslice (Referent.rtF (Referent.fInt Syntax.w64)) (Syntax.tyRef (Syntax.named 2) Syntax.mut El.word) 2) (List._∷_ (4, Mut.mslice (Referent.rtF (Referent.fInt Syntax.w64))
-    (Syntax.tyRef (Syntax.named 3) Syntax.mut El.word) 3) (List._∷_ (5, Rows'.any-gone El.ReadyQueue) (List._∷_ (6, Rows'.any-gone El.Event) (List._∷_ (7, Rows'.sslice (Referent.rtF (Referent.fInt Syntax.w16)) (Syntax.tyRef (Syntax.named
-    4) Syntax.imm (Syntax.tyInt Syntax.w16)) 4) (List._∷_ (8, Rows'.sslice (Referent.rtF (Referent.fInt Syntax.w8)) (Syntax.tyRef (Syntax.named 5) Syntax.imm (Syntax.tyInt Syntax.w8)) 5) (List._∷_ (9, Rows'.sc-here (Row.sInt
-    Syntax.w64)) (List._∷_ (10, Rows'.sc-here (Row.sInt Syntax.w16)) (List._∷_ (11, Rows'.any-gone (Syntax.tyArray El.word 4104)) (List._∷_ (12, Rows'.whole (Declared'.row Worked.the-type)) (List._∷_ (13, Rows'.any-gone (Syntax.tyRef
-    Syntax.erased Syntax.imm El.word)) (List._∷_ (14, Rows'.any-gone (Syntax.tyStruct (List._∷_ 38 (List._∷_ 91 (List._∷_ 93 List.[]))) (Syntax.tcons (Syntax.tyRef Syntax.erased Syntax.imm El.word) (Syntax.tcons El.word Syntax.tnil))))
+t50 = List._∷_ (0, Rows'.whole (Declared'.row Answered.the-type)) (List._∷_ (1, Mut.mslice El.row (Syntax.tyRef (Syntax.named 0) Syntax.mut El.named) 0) (List._∷_ (
+  2,
+  Mut.mslice (Referent.rtF (Referent.fInt Syntax.w64)) (Syntax.tyRef
+      (Syntax.named 1) Syntax.mut El.word) 1,
+) (List._∷_ (3, Mut.mslice (Referent.rtF (Referent.fInt Syntax.w64)) (Syntax.tyRef (Syntax.named 2) Syntax.mut El.word) 2) (List._∷_ (
+  4,
+  Mut.mslice (Referent.rtF (Referent.fInt Syntax.w64))
+      (Syntax.tyRef (Syntax.named 3) Syntax.mut El.word) 3,
+) (List._∷_ (5, Rows'.any-gone El.ReadyQueue) (List._∷_ (6, Rows'.any-gone El.Event) (List._∷_ (
+  7,
+  Rows'.sslice (Referent.rtF (Referent.fInt Syntax.w16)) (Syntax.tyRef (Syntax.named
+      4) Syntax.imm (Syntax.tyInt Syntax.w16)) 4,
+) (List._∷_ (8, Rows'.sslice (Referent.rtF (Referent.fInt Syntax.w8)) (Syntax.tyRef (Syntax.named 5) Syntax.imm (Syntax.tyInt Syntax.w8)) 5) (List._∷_ (
+  9,
+  Rows'.sc-here (Row.sInt
+      Syntax.w64),
+) (List._∷_ (10, Rows'.sc-here (Row.sInt Syntax.w16)) (List._∷_ (11, Rows'.any-gone (Syntax.tyArray El.word 4104)) (List._∷_ (12, Rows'.whole (Declared'.row Worked.the-type)) (List._∷_ (
+  13,
+  Rows'.any-gone (Syntax.tyRef
+      Syntax.erased Syntax.imm El.word),
+) (List._∷_ (14, Rows'.any-gone (Syntax.tyStruct (List._∷_ 38 (List._∷_ 91 (List._∷_ 93 List.[]))) (Syntax.tcons (Syntax.tyRef Syntax.erased Syntax.imm El.word) (Syntax.tcons El.word Syntax.tnil))))
     (List._∷_ (15, Rows'.any-gone (Syntax.tyArray El.word 4104)) List.[])))))))))))))))
 
 abbrev pub t51 : List.List Row.Entry
-t51 = List._∷_ (0, Rows'.whole (Declared'.row Answered.the-type)) (List._∷_ (1, Mut.mslice El.row (Syntax.tyRef (Syntax.named 0) Syntax.mut El.named) 0) (List._∷_ (2, Mut.mslice (Referent.rtF (Referent.fInt Syntax.w64)) (Syntax.tyRef
-    (Syntax.named 1) Syntax.mut El.word) 1) (List._∷_ (3, Mut.mslice (Referent.rtF (Referent.fInt Syntax.w64)) (Syntax.tyRef (Syntax.named 2) Syntax.mut El.word) 2) (List._∷_ (4, Mut.mslice (Referent.rtF (Referent.fInt Syntax.w64))
-    (Syntax.tyRef (Syntax.named 3) Syntax.mut El.word) 3) (List._∷_ (5, Rows'.any-gone El.ReadyQueue) (List._∷_ (6, Rows'.any-gone El.Event) (List._∷_ (7, Rows'.sslice (Referent.rtF (Referent.fInt Syntax.w16)) (Syntax.tyRef (Syntax.named
-    4) Syntax.imm (Syntax.tyInt Syntax.w16)) 4) (List._∷_ (8, Rows'.sslice (Referent.rtF (Referent.fInt Syntax.w8)) (Syntax.tyRef (Syntax.named 5) Syntax.imm (Syntax.tyInt Syntax.w8)) 5) (List._∷_ (9, Rows'.any-gone El.word) (List._∷_
-    (10, Rows'.sc-here (Row.sInt Syntax.w16)) (List._∷_ (11, Rows'.any-gone (Syntax.tyArray El.word 4104)) (List._∷_ (12, Rows'.whole (Declared'.row Worked.the-type)) (List._∷_ (13, Rows'.any-gone (Syntax.tyRef Syntax.erased Syntax.imm
-    El.word)) (List._∷_ (14, Rows'.any-gone (Syntax.tyStruct (List._∷_ 38 (List._∷_ 91 (List._∷_ 93 List.[]))) (Syntax.tcons (Syntax.tyRef Syntax.erased Syntax.imm El.word) (Syntax.tcons El.word Syntax.tnil)))) (List._∷_ (15,
-    Rows'.any-gone (Syntax.tyArray El.word 4104)) List.[])))))))))))))))
+t51 = List._∷_ (0, Rows'.whole (Declared'.row Answered.the-type)) (List._∷_ (1, Mut.mslice El.row (Syntax.tyRef (Syntax.named 0) Syntax.mut El.named) 0) (List._∷_ (
+  2,
+  Mut.mslice (Referent.rtF (Referent.fInt Syntax.w64)) (Syntax.tyRef
+      (Syntax.named 1) Syntax.mut El.word) 1,
+) (List._∷_ (3, Mut.mslice (Referent.rtF (Referent.fInt Syntax.w64)) (Syntax.tyRef (Syntax.named 2) Syntax.mut El.word) 2) (List._∷_ (
+  4,
+  Mut.mslice (Referent.rtF (Referent.fInt Syntax.w64))
+      (Syntax.tyRef (Syntax.named 3) Syntax.mut El.word) 3,
+) (List._∷_ (5, Rows'.any-gone El.ReadyQueue) (List._∷_ (6, Rows'.any-gone El.Event) (List._∷_ (
+  7,
+  Rows'.sslice (Referent.rtF (Referent.fInt Syntax.w16)) (Syntax.tyRef (Syntax.named
+      4) Syntax.imm (Syntax.tyInt Syntax.w16)) 4,
+) (List._∷_ (8, Rows'.sslice (Referent.rtF (Referent.fInt Syntax.w8)) (Syntax.tyRef (Syntax.named 5) Syntax.imm (Syntax.tyInt Syntax.w8)) 5) (List._∷_ (9, Rows'.any-gone El.word) (List._∷_
+    (10, Rows'.sc-here (Row.sInt Syntax.w16)) (List._∷_ (11, Rows'.any-gone (Syntax.tyArray El.word 4104)) (List._∷_ (12, Rows'.whole (Declared'.row Worked.the-type)) (List._∷_ (
+      13,
+      Rows'.any-gone (Syntax.tyRef Syntax.erased Syntax.imm
+          El.word),
+    ) (List._∷_ (14, Rows'.any-gone (Syntax.tyStruct (List._∷_ 38 (List._∷_ 91 (List._∷_ 93 List.[]))) (Syntax.tcons (Syntax.tyRef Syntax.erased Syntax.imm El.word) (Syntax.tcons El.word Syntax.tnil)))) (List._∷_ (
+      15,
+      Rows'.any-gone (Syntax.tyArray El.word 4104),
+    ) List.[])))))))))))))))
 
 abbrev pub t52 : List.List Row.Entry
-t52 = List._∷_ (0, Rows'.whole (Declared'.row Answered.the-type)) (List._∷_ (1, Mut.mslice El.row (Syntax.tyRef (Syntax.named 0) Syntax.mut El.named) 0) (List._∷_ (2, Mut.mslice (Referent.rtF (Referent.fInt Syntax.w64)) (Syntax.tyRef
-    (Syntax.named 1) Syntax.mut El.word) 1) (List._∷_ (3, Mut.mslice (Referent.rtF (Referent.fInt Syntax.w64)) (Syntax.tyRef (Syntax.named 2) Syntax.mut El.word) 2) (List._∷_ (4, Mut.mslice (Referent.rtF (Referent.fInt Syntax.w64))
-    (Syntax.tyRef (Syntax.named 3) Syntax.mut El.word) 3) (List._∷_ (5, Rows'.any-gone El.ReadyQueue) (List._∷_ (6, Rows'.any-gone El.Event) (List._∷_ (7, Rows'.sslice (Referent.rtF (Referent.fInt Syntax.w16)) (Syntax.tyRef (Syntax.named
-    4) Syntax.imm (Syntax.tyInt Syntax.w16)) 4) (List._∷_ (8, Rows'.sslice (Referent.rtF (Referent.fInt Syntax.w8)) (Syntax.tyRef (Syntax.named 5) Syntax.imm (Syntax.tyInt Syntax.w8)) 5) (List._∷_ (9, Rows'.any-gone El.word) (List._∷_
-    (10, Rows'.any-gone (Syntax.tyInt Syntax.w16)) (List._∷_ (11, Rows'.any-gone (Syntax.tyArray El.word 4104)) (List._∷_ (12, Rows'.whole (Declared'.row Worked.the-type)) (List._∷_ (13, Rows'.any-gone (Syntax.tyRef Syntax.erased
-    Syntax.imm El.word)) (List._∷_ (14, Rows'.any-gone (Syntax.tyStruct (List._∷_ 38 (List._∷_ 91 (List._∷_ 93 List.[]))) (Syntax.tcons (Syntax.tyRef Syntax.erased Syntax.imm El.word) (Syntax.tcons El.word Syntax.tnil)))) (List._∷_ (15,
-    Rows'.any-gone (Syntax.tyArray El.word 4104)) List.[])))))))))))))))
+t52 = List._∷_ (0, Rows'.whole (Declared'.row Answered.the-type)) (List._∷_ (1, Mut.mslice El.row (Syntax.tyRef (Syntax.named 0) Syntax.mut El.named) 0) (List._∷_ (
+  2,
+  Mut.mslice (Referent.rtF (Referent.fInt Syntax.w64)) (Syntax.tyRef
+      (Syntax.named 1) Syntax.mut El.word) 1,
+) (List._∷_ (3, Mut.mslice (Referent.rtF (Referent.fInt Syntax.w64)) (Syntax.tyRef (Syntax.named 2) Syntax.mut El.word) 2) (List._∷_ (
+  4,
+  Mut.mslice (Referent.rtF (Referent.fInt Syntax.w64))
+      (Syntax.tyRef (Syntax.named 3) Syntax.mut El.word) 3,
+) (List._∷_ (5, Rows'.any-gone El.ReadyQueue) (List._∷_ (6, Rows'.any-gone El.Event) (List._∷_ (
+  7,
+  Rows'.sslice (Referent.rtF (Referent.fInt Syntax.w16)) (Syntax.tyRef (Syntax.named
+      4) Syntax.imm (Syntax.tyInt Syntax.w16)) 4,
+) (List._∷_ (8, Rows'.sslice (Referent.rtF (Referent.fInt Syntax.w8)) (Syntax.tyRef (Syntax.named 5) Syntax.imm (Syntax.tyInt Syntax.w8)) 5) (List._∷_ (9, Rows'.any-gone El.word) (List._∷_
+    (10, Rows'.any-gone (Syntax.tyInt Syntax.w16)) (List._∷_ (11, Rows'.any-gone (Syntax.tyArray El.word 4104)) (List._∷_ (12, Rows'.whole (Declared'.row Worked.the-type)) (List._∷_ (
+      13,
+      Rows'.any-gone (Syntax.tyRef Syntax.erased
+          Syntax.imm El.word),
+    ) (List._∷_ (14, Rows'.any-gone (Syntax.tyStruct (List._∷_ 38 (List._∷_ 91 (List._∷_ 93 List.[]))) (Syntax.tcons (Syntax.tyRef Syntax.erased Syntax.imm El.word) (Syntax.tcons El.word Syntax.tnil)))) (List._∷_ (
+      15,
+      Rows'.any-gone (Syntax.tyArray El.word 4104),
+    ) List.[])))))))))))))))
 
 abbrev pub T0 : Row.Cx
 T0 = record { locals = List._++_ t0 t1; slots = List.[] }
@@ -998,7 +1998,7 @@ module _ (claims· : Claims) where
       El.word) (λ x. x) (Scalar.oFld 2 (List._∷_ (Syntax.field 1) List.[]) El.word 8 λ v. Shared.lenV (v .0))
 
   abbrev s9 : (bs : List.List Nat.ℕ) → Typed.Both T10 T11
-  s9 = λ bs. Call.callB ps·0 r·0 (claims· .0) (claims· .1) T10 (Num.vAt 9 λ x. x, (record { pos = 14; ty = Syntax.tyRef Syntax.erased Syntax.imm El.word; ref = λ x. x; }, tt)) 10 (List._∷_ 6 List.[]) (Syntax.tyInt Syntax.w16)
+  s9 = λ bs. Call.callB ps·0 r·0 (claims· .0) (claims· .1) T10 (Num.vAt 9 λ x. x, (record { pos = 14; ty = Syntax.tyRef Syntax.erased Syntax.imm El.word; ref = λ x. x }, tt)) 10 (List._∷_ 6 List.[]) (Syntax.tyInt Syntax.w16)
 
   abbrev s10 : (bs : List.List Nat.ℕ) → Typed.Mo T11 → Typed.Mo T12
   s10 = λ bs. Scalar.n-room T11 14 (Syntax.tyStruct (List._∷_ 38 (List._∷_ 91 (List._∷_ 93 List.[]))) (Syntax.tcons (Syntax.tyRef Syntax.erased Syntax.imm El.word) (Syntax.tcons El.word Syntax.tnil)))
@@ -1014,7 +2014,7 @@ module _ (claims· : Claims) where
       El.word 8 λ v. Shared.lenV (v .0))
 
   abbrev s17 : (bs : List.List Nat.ℕ) → Typed.Both T18 T19
-  s17 = λ bs. Call.callB ps·1 r·1 (claims· .2) (claims· .3) T18 (record { pos = 17; ty = Syntax.tyRef Syntax.erased Syntax.imm El.named; ref = λ x. x; }, (Num.vAt 10 λ x. x, tt)) 15 (List._∷_ 7 List.[]) (Syntax.tyArray El.word 4104)
+  s17 = λ bs. Call.callB ps·1 r·1 (claims· .2) (claims· .3) T18 (record { pos = 17; ty = Syntax.tyRef Syntax.erased Syntax.imm El.named; ref = λ x. x }, (Num.vAt 10 λ x. x, tt)) 15 (List._∷_ 7 List.[]) (Syntax.tyArray El.word 4104)
 
   abbrev s18 : (bs : List.List Nat.ℕ) → Typed.Mo T19 → Typed.Mo T20
   s18 = λ bs. Scalar.n-room T19 17 (Syntax.tyStruct (List._∷_ 38 (List._∷_ 91 (List._∷_ 93 List.[]))) (Syntax.tcons (Syntax.tyRef Syntax.erased Syntax.imm El.named) (Syntax.tcons El.word Syntax.tnil)))
@@ -1059,10 +2059,50 @@ module _ (claims· : Claims) where
       El.word) (λ x. x) (Scalar.oFld 4 (List._∷_ (Syntax.field 1) List.[]) El.word 8 λ v. Shared.lenV (v .0))
 
   abbrev s36 : (bs : List.List Nat.ℕ) → Typed.Both T37 T38
-  s36 = λ bs. Call.callB ps·2 r·2 (claims· .4) (claims· .5) T37 (Num.vAt 9 λ x. x, (record { pos = 19; ty = Syntax.tyRef Syntax.erased Syntax.mut El.word; ref = λ x. x; }, (record { pos = 21; ty = Syntax.tyRef Syntax.erased Syntax.mut
-      El.word; ref = λ x. x; }, (record { pos = 23; ty = Syntax.tyRef Syntax.erased Syntax.mut El.word; ref = λ x. x; }, (record { pos = 25; ty = Syntax.tyRef Syntax.erased Syntax.mut El.word; ref = λ x. x; }, (record { pos = 5; st =
-      List.[]; d = 0; at = λ x. x }, (record { pos = 6; st = List.[]; d = 0; at = λ x. x }, (record { pos = 7; ty = Syntax.tyRef (Syntax.named 4) Syntax.imm (Syntax.tyInt Syntax.w16); ref = λ x. x; }, (record { pos = 8; ty =
-      Syntax.tyRef (Syntax.named 5) Syntax.imm (Syntax.tyInt Syntax.w8); ref = λ x. x; }, tt))))))))) 12 (List._∷_ 8 (List._∷_ 9 (List._∷_ 10 (List._∷_ 11 (List._∷_ 4 (List._∷_ 5 List.[])))))) El.Worked
+  s36 = λ bs. Call.callB ps·2 r·2 (claims· .4) (claims· .5) T37 (
+    Num.vAt 9 λ x. x,
+    (
+      record { pos = 19; ty = Syntax.tyRef Syntax.erased Syntax.mut El.word; ref = λ x. x },
+      (
+        record {
+          pos = 21;
+          ty = Syntax.tyRef Syntax.erased Syntax.mut
+              El.word;
+          ref = λ x. x;
+        },
+        (
+          record { pos = 23; ty = Syntax.tyRef Syntax.erased Syntax.mut El.word; ref = λ x. x },
+          (
+            record { pos = 25; ty = Syntax.tyRef Syntax.erased Syntax.mut El.word; ref = λ x. x },
+            (
+              record {
+                pos = 5;
+                st =
+                    List.[];
+                d = 0;
+                at = λ x. x;
+              },
+              (
+                record { pos = 6; st = List.[]; d = 0; at = λ x. x },
+                (
+                  record { pos = 7; ty = Syntax.tyRef (Syntax.named 4) Syntax.imm (Syntax.tyInt Syntax.w16); ref = λ x. x },
+                  (
+                    record {
+                      pos = 8;
+                      ty =
+                          Syntax.tyRef (Syntax.named 5) Syntax.imm (Syntax.tyInt Syntax.w8);
+                      ref = λ x. x;
+                    },
+                    tt,
+                  ),
+                ),
+              ),
+            ),
+          ),
+        ),
+      ),
+    ),
+  ) 12 (List._∷_ 8 (List._∷_ 9 (List._∷_ 10 (List._∷_ 11 (List._∷_ 4 (List._∷_ 5 List.[])))))) El.Worked
 
   abbrev s37 : (bs : List.List Nat.ℕ) → Typed.Mo T38 → Typed.Mo T39
   s37 = λ bs. Scalar.n-room T38 5 El.ReadyQueue
@@ -1106,8 +2146,18 @@ module _ (claims· : Claims) where
       Syntax.erased Syntax.imm El.word) (λ x. x) (Scalar.oBig Syntax.w64 4104)
 
   abbrev s60 : (bs : List.List Nat.ℕ) → Typed.Both T61 T62
-  s60 = λ bs. Call.callB ps·3 r·3 (claims· .6) (claims· .7) T61 (record { pos = 28; ty = Syntax.tyRef Syntax.erased Syntax.mut El.named; ref = λ x. x; }, (record { pos = 30; ty = Syntax.tyRef Syntax.erased Syntax.imm El.word; ref = λ x.
-      x; }, (Num.vFld 12 (List._∷_ (Syntax.field 1) List.[]) 1096 λ x. Worked.struct .as-values x .1 .0, tt))) 26 (List._∷_ 12 (List._∷_ 13 List.[])) Syntax.tyUnit
+  s60 = λ bs. Call.callB ps·3 r·3 (claims· .6) (claims· .7) T61 (
+    record { pos = 28; ty = Syntax.tyRef Syntax.erased Syntax.mut El.named; ref = λ x. x },
+    (
+      record {
+        pos = 30;
+        ty = Syntax.tyRef Syntax.erased Syntax.imm El.word;
+        ref = λ x.
+            x;
+      },
+      (Num.vFld 12 (List._∷_ (Syntax.field 1) List.[]) 1096 λ x. Worked.struct .as-values x .1 .0, tt),
+    ),
+  ) 26 (List._∷_ 12 (List._∷_ 13 List.[])) Syntax.tyUnit
 
   abbrev s61 : (bs : List.List Nat.ℕ) → Typed.Mo T62 → Typed.Mo T63
   s61 = λ bs. Scalar.n-room T62 30 (Syntax.tyStruct (List._∷_ 38 (List._∷_ 91 (List._∷_ 93 List.[]))) (Syntax.tcons (Syntax.tyRef Syntax.erased Syntax.imm El.word) (Syntax.tcons El.word Syntax.tnil)))
@@ -1126,7 +2176,7 @@ module _ (claims· : Claims) where
 
   abbrev s70 : (bs : List.List Nat.ℕ) → Typed.Both T71 T72
   s70 = λ bs. WayStmt.k-way-copy-out T71 (Row.out 12 (T71 .locals)) (λ u. Row.drop 12 (T71 .locals) u) 0 (Rows'.whole (Declared'.row Answered.the-type)) (λ u. At.getAt (Worked.the-type .parts) 0 (Worked.struct .as-values (u .1 .1 .1 .1
-      .1 .1 .1 .1 .1 .1 .1 .1 .0))) (λ T′. record { locals = Row.setRow 12 (12, Rows'.whole (Declared'.row Worked.the-type)) T′; slots = List.[]; }) (λ u T′ m′. Row.set 12 (12, Rows'.whole (Declared'.row Worked.the-type)) (u .1 .1 .1
+      .1 .1 .1 .1 .1 .1 .1 .1 .0))) (λ T′. record { locals = Row.setRow 12 (12, Rows'.whole (Declared'.row Worked.the-type)) T′; slots = List.[] }) (λ u T′ m′. Row.set 12 (12, Rows'.whole (Declared'.row Worked.the-type)) (u .1 .1 .1
       .1 .1 .1 .1 .1 .1 .1 .1 .1 .0) T′ m′) (λ u. Unit) λ u. Unit
 
   abbrev s71 : (bs : List.List Nat.ℕ) → Typed.Mo T72 → Typed.Mo T73
@@ -1381,535 +2431,1032 @@ module _ (claims· : Claims) where
 
       module _ (κs : Lifetimes.Lfts 6) (qs : Lifetimes.Shares 6) where
         abbrev g4 : List.List Row.Entry
-        g4 = List._∷_ (0, Rows'.any-gone El.Answered) (List._∷_ (1, Mut.mslice El.row (Syntax.tyRef (Syntax.named 0) Syntax.mut El.named) 0) (List._∷_ (2, Reshare.mslice-owedS (Referent.rtF (Referent.fInt Syntax.w64)) (Syntax.tyRef
-            (Syntax.named 1) Syntax.mut El.word) 1 6 (Row.lease (κs .1 .0) (qs .1 .0))) (List._∷_ (3, Mut.mslice (Referent.rtF (Referent.fInt Syntax.w64)) (Syntax.tyRef (Syntax.named 2) Syntax.mut El.word) 2) (List._∷_ (4, Mut.mslice
-            (Referent.rtF (Referent.fInt Syntax.w64)) (Syntax.tyRef (Syntax.named 3) Syntax.mut El.word) 3) (List._∷_ (5, Rows'.whole (Declared'.row ReadyQueue.the-type)) (List._∷_ (6, Rows'.whole (Declared.row Event.the-type))
-            (List._∷_ (7, Rows'.sslice (Referent.rtF (Referent.fInt Syntax.w16)) (Syntax.tyRef (Syntax.named 4) Syntax.imm (Syntax.tyInt Syntax.w16)) 4) (List._∷_ (8, Rows'.sslice (Referent.rtF (Referent.fInt Syntax.w8)) (Syntax.tyRef
-            (Syntax.named 5) Syntax.imm (Syntax.tyInt Syntax.w8)) 5) (List._∷_ (9, Rows'.sc-here (Row.sInt Syntax.w64)) (List._∷_ (10, Rows'.any-gone (Syntax.tyInt Syntax.w16)) (List._∷_ (11, Rows'.any-gone (Syntax.tyArray El.word
-            4104)) (List._∷_ (12, Rows'.any-gone El.Worked) (List._∷_ (13, Relend.ssptr (Referent.rtF (Referent.fInt Syntax.w64)) (Syntax.tyRef Syntax.erased Syntax.imm El.word) 6) (List._∷_ (14, Rows'.any-gone (Syntax.tyStruct (List._∷_
-            38 (List._∷_ 91 (List._∷_ 93 List.[]))) (Syntax.tcons (Syntax.tyRef Syntax.erased Syntax.imm El.word) (Syntax.tcons El.word Syntax.tnil)))) (List._∷_ (15, Rows'.any-gone (Syntax.tyArray El.word 4104)) List.[])))))))))))))))
+        g4 = List._∷_ (0, Rows'.any-gone El.Answered) (List._∷_ (1, Mut.mslice El.row (Syntax.tyRef (Syntax.named 0) Syntax.mut El.named) 0) (List._∷_ (
+          2,
+          Reshare.mslice-owedS (Referent.rtF (Referent.fInt Syntax.w64)) (Syntax.tyRef
+              (Syntax.named 1) Syntax.mut El.word) 1 6 (Row.lease (κs .1 .0) (qs .1 .0)),
+        ) (List._∷_ (3, Mut.mslice (Referent.rtF (Referent.fInt Syntax.w64)) (Syntax.tyRef (Syntax.named 2) Syntax.mut El.word) 2) (List._∷_ (
+          4,
+          Mut.mslice
+              (Referent.rtF (Referent.fInt Syntax.w64)) (Syntax.tyRef (Syntax.named 3) Syntax.mut El.word) 3,
+        ) (List._∷_ (5, Rows'.whole (Declared'.row ReadyQueue.the-type)) (List._∷_ (6, Rows'.whole (Declared.row Event.the-type))
+            (List._∷_ (7, Rows'.sslice (Referent.rtF (Referent.fInt Syntax.w16)) (Syntax.tyRef (Syntax.named 4) Syntax.imm (Syntax.tyInt Syntax.w16)) 4) (List._∷_ (
+              8,
+              Rows'.sslice (Referent.rtF (Referent.fInt Syntax.w8)) (Syntax.tyRef
+                  (Syntax.named 5) Syntax.imm (Syntax.tyInt Syntax.w8)) 5,
+            ) (List._∷_ (9, Rows'.sc-here (Row.sInt Syntax.w64)) (List._∷_ (10, Rows'.any-gone (Syntax.tyInt Syntax.w16)) (List._∷_ (
+              11,
+              Rows'.any-gone (Syntax.tyArray El.word
+                  4104),
+            ) (List._∷_ (12, Rows'.any-gone El.Worked) (List._∷_ (13, Relend.ssptr (Referent.rtF (Referent.fInt Syntax.w64)) (Syntax.tyRef Syntax.erased Syntax.imm El.word) 6) (List._∷_ (
+              14,
+              Rows'.any-gone (Syntax.tyStruct (List._∷_
+                  38 (List._∷_ 91 (List._∷_ 93 List.[]))) (Syntax.tcons (Syntax.tyRef Syntax.erased Syntax.imm El.word) (Syntax.tcons El.word Syntax.tnil))),
+            ) (List._∷_ (15, Rows'.any-gone (Syntax.tyArray El.word 4104)) List.[])))))))))))))))
 
         abbrev g5 : List.List Row.Entry
-        g5 = List._∷_ (0, Rows'.any-gone El.Answered) (List._∷_ (1, Mut.mslice El.row (Syntax.tyRef (Syntax.named 0) Syntax.mut El.named) 0) (List._∷_ (2, Reshare.mslice-owedS (Referent.rtF (Referent.fInt Syntax.w64)) (Syntax.tyRef
-            (Syntax.named 1) Syntax.mut El.word) 1 6 (Row.lease (κs .1 .0) (qs .1 .0))) (List._∷_ (3, Mut.mslice (Referent.rtF (Referent.fInt Syntax.w64)) (Syntax.tyRef (Syntax.named 2) Syntax.mut El.word) 2) (List._∷_ (4, Mut.mslice
-            (Referent.rtF (Referent.fInt Syntax.w64)) (Syntax.tyRef (Syntax.named 3) Syntax.mut El.word) 3) (List._∷_ (5, Rows'.whole (Declared'.row ReadyQueue.the-type)) (List._∷_ (6, Rows'.whole (Declared.row Event.the-type))
-            (List._∷_ (7, Rows'.sslice (Referent.rtF (Referent.fInt Syntax.w16)) (Syntax.tyRef (Syntax.named 4) Syntax.imm (Syntax.tyInt Syntax.w16)) 4) (List._∷_ (8, Rows'.sslice (Referent.rtF (Referent.fInt Syntax.w8)) (Syntax.tyRef
-            (Syntax.named 5) Syntax.imm (Syntax.tyInt Syntax.w8)) 5) (List._∷_ (9, Rows'.sc-here (Row.sInt Syntax.w64)) (List._∷_ (10, Rows'.any-gone (Syntax.tyInt Syntax.w16)) (List._∷_ (11, Rows'.any-gone (Syntax.tyArray El.word
-            4104)) (List._∷_ (12, Rows'.any-gone El.Worked) (List._∷_ (13, Rows'.any-gone (Syntax.tyRef Syntax.erased Syntax.imm El.word)) (List._∷_ (14, Rows'.sslice (Referent.rtF (Referent.fInt Syntax.w64)) (Syntax.tyRef Syntax.erased
-            Syntax.imm El.word) 6) (List._∷_ (15, Rows'.any-gone (Syntax.tyArray El.word 4104)) List.[])))))))))))))))
+        g5 = List._∷_ (0, Rows'.any-gone El.Answered) (List._∷_ (1, Mut.mslice El.row (Syntax.tyRef (Syntax.named 0) Syntax.mut El.named) 0) (List._∷_ (
+          2,
+          Reshare.mslice-owedS (Referent.rtF (Referent.fInt Syntax.w64)) (Syntax.tyRef
+              (Syntax.named 1) Syntax.mut El.word) 1 6 (Row.lease (κs .1 .0) (qs .1 .0)),
+        ) (List._∷_ (3, Mut.mslice (Referent.rtF (Referent.fInt Syntax.w64)) (Syntax.tyRef (Syntax.named 2) Syntax.mut El.word) 2) (List._∷_ (
+          4,
+          Mut.mslice
+              (Referent.rtF (Referent.fInt Syntax.w64)) (Syntax.tyRef (Syntax.named 3) Syntax.mut El.word) 3,
+        ) (List._∷_ (5, Rows'.whole (Declared'.row ReadyQueue.the-type)) (List._∷_ (6, Rows'.whole (Declared.row Event.the-type))
+            (List._∷_ (7, Rows'.sslice (Referent.rtF (Referent.fInt Syntax.w16)) (Syntax.tyRef (Syntax.named 4) Syntax.imm (Syntax.tyInt Syntax.w16)) 4) (List._∷_ (
+              8,
+              Rows'.sslice (Referent.rtF (Referent.fInt Syntax.w8)) (Syntax.tyRef
+                  (Syntax.named 5) Syntax.imm (Syntax.tyInt Syntax.w8)) 5,
+            ) (List._∷_ (9, Rows'.sc-here (Row.sInt Syntax.w64)) (List._∷_ (10, Rows'.any-gone (Syntax.tyInt Syntax.w16)) (List._∷_ (
+              11,
+              Rows'.any-gone (Syntax.tyArray El.word
+                  4104),
+            ) (List._∷_ (12, Rows'.any-gone El.Worked) (List._∷_ (13, Rows'.any-gone (Syntax.tyRef Syntax.erased Syntax.imm El.word)) (List._∷_ (
+              14,
+              Rows'.sslice (Referent.rtF (Referent.fInt Syntax.w64)) (Syntax.tyRef Syntax.erased
+                  Syntax.imm El.word) 6,
+            ) (List._∷_ (15, Rows'.any-gone (Syntax.tyArray El.word 4104)) List.[])))))))))))))))
 
         abbrev g6 : List.List Row.Entry
-        g6 = List._∷_ (0, Rows'.any-gone El.Answered) (List._∷_ (1, Mut.mslice El.row (Syntax.tyRef (Syntax.named 0) Syntax.mut El.named) 0) (List._∷_ (2, Reshare.mslice-owedS (Referent.rtF (Referent.fInt Syntax.w64)) (Syntax.tyRef
-            (Syntax.named 1) Syntax.mut El.word) 1 6 (Row.lease (κs .1 .0) (qs .1 .0))) (List._∷_ (3, Mut.mslice (Referent.rtF (Referent.fInt Syntax.w64)) (Syntax.tyRef (Syntax.named 2) Syntax.mut El.word) 2) (List._∷_ (4, Mut.mslice
-            (Referent.rtF (Referent.fInt Syntax.w64)) (Syntax.tyRef (Syntax.named 3) Syntax.mut El.word) 3) (List._∷_ (5, Rows'.whole (Declared'.row ReadyQueue.the-type)) (List._∷_ (6, Rows'.whole (Declared.row Event.the-type))
-            (List._∷_ (7, Rows'.sslice (Referent.rtF (Referent.fInt Syntax.w16)) (Syntax.tyRef (Syntax.named 4) Syntax.imm (Syntax.tyInt Syntax.w16)) 4) (List._∷_ (8, Rows'.sslice (Referent.rtF (Referent.fInt Syntax.w8)) (Syntax.tyRef
-            (Syntax.named 5) Syntax.imm (Syntax.tyInt Syntax.w8)) 5) (List._∷_ (9, Rows'.sc-here (Row.sInt Syntax.w64)) (List._∷_ (10, Rows'.sc-here (Row.sInt Syntax.w16)) (List._∷_ (11, Rows'.any-gone (Syntax.tyArray El.word 4104))
-            (List._∷_ (12, Rows'.any-gone El.Worked) (List._∷_ (13, Rows'.any-gone (Syntax.tyRef Syntax.erased Syntax.imm El.word)) (List._∷_ (14, Rows'.sslice (Referent.rtF (Referent.fInt Syntax.w64)) (Syntax.tyRef Syntax.erased
-            Syntax.imm El.word) 6) (List._∷_ (15, Rows'.any-gone (Syntax.tyArray El.word 4104)) List.[])))))))))))))))
+        g6 = List._∷_ (0, Rows'.any-gone El.Answered) (List._∷_ (1, Mut.mslice El.row (Syntax.tyRef (Syntax.named 0) Syntax.mut El.named) 0) (List._∷_ (
+          2,
+          Reshare.mslice-owedS (Referent.rtF (Referent.fInt Syntax.w64)) (Syntax.tyRef
+              (Syntax.named 1) Syntax.mut El.word) 1 6 (Row.lease (κs .1 .0) (qs .1 .0)),
+        ) (List._∷_ (3, Mut.mslice (Referent.rtF (Referent.fInt Syntax.w64)) (Syntax.tyRef (Syntax.named 2) Syntax.mut El.word) 2) (List._∷_ (
+          4,
+          Mut.mslice
+              (Referent.rtF (Referent.fInt Syntax.w64)) (Syntax.tyRef (Syntax.named 3) Syntax.mut El.word) 3,
+        ) (List._∷_ (5, Rows'.whole (Declared'.row ReadyQueue.the-type)) (List._∷_ (6, Rows'.whole (Declared.row Event.the-type))
+            (List._∷_ (7, Rows'.sslice (Referent.rtF (Referent.fInt Syntax.w16)) (Syntax.tyRef (Syntax.named 4) Syntax.imm (Syntax.tyInt Syntax.w16)) 4) (List._∷_ (
+              8,
+              Rows'.sslice (Referent.rtF (Referent.fInt Syntax.w8)) (Syntax.tyRef
+                  (Syntax.named 5) Syntax.imm (Syntax.tyInt Syntax.w8)) 5,
+            ) (List._∷_ (9, Rows'.sc-here (Row.sInt Syntax.w64)) (List._∷_ (10, Rows'.sc-here (Row.sInt Syntax.w16)) (List._∷_ (11, Rows'.any-gone (Syntax.tyArray El.word 4104))
+            (List._∷_ (12, Rows'.any-gone El.Worked) (List._∷_ (13, Rows'.any-gone (Syntax.tyRef Syntax.erased Syntax.imm El.word)) (List._∷_ (
+              14,
+              Rows'.sslice (Referent.rtF (Referent.fInt Syntax.w64)) (Syntax.tyRef Syntax.erased
+                  Syntax.imm El.word) 6,
+            ) (List._∷_ (15, Rows'.any-gone (Syntax.tyArray El.word 4104)) List.[])))))))))))))))
 
         abbrev g7 : List.List Row.Entry
-        g7 = List._∷_ (0, Rows'.any-gone El.Answered) (List._∷_ (1, Mut.mslice El.row (Syntax.tyRef (Syntax.named 0) Syntax.mut El.named) 0) (List._∷_ (2, Reshare.mslice-owedS (Referent.rtF (Referent.fInt Syntax.w64)) (Syntax.tyRef
-            (Syntax.named 1) Syntax.mut El.word) 1 6 (Row.lease (κs .1 .0) (qs .1 .0))) (List._∷_ (3, Mut.mslice (Referent.rtF (Referent.fInt Syntax.w64)) (Syntax.tyRef (Syntax.named 2) Syntax.mut El.word) 2) (List._∷_ (4, Mut.mslice
-            (Referent.rtF (Referent.fInt Syntax.w64)) (Syntax.tyRef (Syntax.named 3) Syntax.mut El.word) 3) (List._∷_ (5, Rows'.whole (Declared'.row ReadyQueue.the-type)) (List._∷_ (6, Rows'.whole (Declared.row Event.the-type))
-            (List._∷_ (7, Rows'.sslice (Referent.rtF (Referent.fInt Syntax.w16)) (Syntax.tyRef (Syntax.named 4) Syntax.imm (Syntax.tyInt Syntax.w16)) 4) (List._∷_ (8, Rows'.sslice (Referent.rtF (Referent.fInt Syntax.w8)) (Syntax.tyRef
-            (Syntax.named 5) Syntax.imm (Syntax.tyInt Syntax.w8)) 5) (List._∷_ (9, Rows'.sc-here (Row.sInt Syntax.w64)) (List._∷_ (10, Rows'.sc-here (Row.sInt Syntax.w16)) (List._∷_ (11, Rows'.any-gone (Syntax.tyArray El.word 4104))
-            (List._∷_ (12, Rows'.any-gone El.Worked) (List._∷_ (13, Rows'.any-gone (Syntax.tyRef Syntax.erased Syntax.imm El.word)) (List._∷_ (14, Rows'.any-gone (Syntax.tyStruct (List._∷_ 38 (List._∷_ 91 (List._∷_ 93 List.[])))
-            (Syntax.tcons (Syntax.tyRef Syntax.erased Syntax.imm El.word) (Syntax.tcons El.word Syntax.tnil)))) (List._∷_ (15, Rows'.any-gone (Syntax.tyArray El.word 4104)) List.[])))))))))))))))
+        g7 = List._∷_ (0, Rows'.any-gone El.Answered) (List._∷_ (1, Mut.mslice El.row (Syntax.tyRef (Syntax.named 0) Syntax.mut El.named) 0) (List._∷_ (
+          2,
+          Reshare.mslice-owedS (Referent.rtF (Referent.fInt Syntax.w64)) (Syntax.tyRef
+              (Syntax.named 1) Syntax.mut El.word) 1 6 (Row.lease (κs .1 .0) (qs .1 .0)),
+        ) (List._∷_ (3, Mut.mslice (Referent.rtF (Referent.fInt Syntax.w64)) (Syntax.tyRef (Syntax.named 2) Syntax.mut El.word) 2) (List._∷_ (
+          4,
+          Mut.mslice
+              (Referent.rtF (Referent.fInt Syntax.w64)) (Syntax.tyRef (Syntax.named 3) Syntax.mut El.word) 3,
+        ) (List._∷_ (5, Rows'.whole (Declared'.row ReadyQueue.the-type)) (List._∷_ (6, Rows'.whole (Declared.row Event.the-type))
+            (List._∷_ (7, Rows'.sslice (Referent.rtF (Referent.fInt Syntax.w16)) (Syntax.tyRef (Syntax.named 4) Syntax.imm (Syntax.tyInt Syntax.w16)) 4) (List._∷_ (
+              8,
+              Rows'.sslice (Referent.rtF (Referent.fInt Syntax.w8)) (Syntax.tyRef
+                  (Syntax.named 5) Syntax.imm (Syntax.tyInt Syntax.w8)) 5,
+            ) (List._∷_ (9, Rows'.sc-here (Row.sInt Syntax.w64)) (List._∷_ (10, Rows'.sc-here (Row.sInt Syntax.w16)) (List._∷_ (11, Rows'.any-gone (Syntax.tyArray El.word 4104))
+            (List._∷_ (12, Rows'.any-gone El.Worked) (List._∷_ (13, Rows'.any-gone (Syntax.tyRef Syntax.erased Syntax.imm El.word)) (List._∷_ (
+              14,
+              Rows'.any-gone (Syntax.tyStruct (List._∷_ 38 (List._∷_ 91 (List._∷_ 93 List.[])))
+                  (Syntax.tcons (Syntax.tyRef Syntax.erased Syntax.imm El.word) (Syntax.tcons El.word Syntax.tnil))),
+            ) (List._∷_ (15, Rows'.any-gone (Syntax.tyArray El.word 4104)) List.[])))))))))))))))
 
         abbrev g9 : List.List Row.Entry
-        g9 = List._∷_ (0, Rows'.any-gone El.Answered) (List._∷_ (1, Reshare.mslice-owedS El.row (Syntax.tyRef (Syntax.named 0) Syntax.mut El.named) 0 7 (Row.lease (κs .0) (qs .0))) (List._∷_ (2, Mut.mslice (Referent.rtF (Referent.fInt
-            Syntax.w64)) (Syntax.tyRef (Syntax.named 1) Syntax.mut El.word) 1) (List._∷_ (3, Mut.mslice (Referent.rtF (Referent.fInt Syntax.w64)) (Syntax.tyRef (Syntax.named 2) Syntax.mut El.word) 2) (List._∷_ (4, Mut.mslice
-            (Referent.rtF (Referent.fInt Syntax.w64)) (Syntax.tyRef (Syntax.named 3) Syntax.mut El.word) 3) (List._∷_ (5, Rows'.whole (Declared'.row ReadyQueue.the-type)) (List._∷_ (6, Rows'.whole (Declared.row Event.the-type))
-            (List._∷_ (7, Rows'.sslice (Referent.rtF (Referent.fInt Syntax.w16)) (Syntax.tyRef (Syntax.named 4) Syntax.imm (Syntax.tyInt Syntax.w16)) 4) (List._∷_ (8, Rows'.sslice (Referent.rtF (Referent.fInt Syntax.w8)) (Syntax.tyRef
-            (Syntax.named 5) Syntax.imm (Syntax.tyInt Syntax.w8)) 5) (List._∷_ (9, Rows'.sc-here (Row.sInt Syntax.w64)) (List._∷_ (10, Rows'.sc-here (Row.sInt Syntax.w16)) (List._∷_ (11, Rows'.any-gone (Syntax.tyArray El.word 4104))
-            (List._∷_ (12, Rows'.any-gone El.Worked) (List._∷_ (13, Rows'.any-gone (Syntax.tyRef Syntax.erased Syntax.imm El.word)) (List._∷_ (14, Rows'.any-gone (Syntax.tyStruct (List._∷_ 38 (List._∷_ 91 (List._∷_ 93 List.[])))
-            (Syntax.tcons (Syntax.tyRef Syntax.erased Syntax.imm El.word) (Syntax.tcons El.word Syntax.tnil)))) (List._∷_ (15, Rows'.any-gone (Syntax.tyArray El.word 4104)) List.[])))))))))))))))
+        g9 = List._∷_ (0, Rows'.any-gone El.Answered) (List._∷_ (1, Reshare.mslice-owedS El.row (Syntax.tyRef (Syntax.named 0) Syntax.mut El.named) 0 7 (Row.lease (κs .0) (qs .0))) (List._∷_ (
+          2,
+          Mut.mslice (Referent.rtF (Referent.fInt
+              Syntax.w64)) (Syntax.tyRef (Syntax.named 1) Syntax.mut El.word) 1,
+        ) (List._∷_ (3, Mut.mslice (Referent.rtF (Referent.fInt Syntax.w64)) (Syntax.tyRef (Syntax.named 2) Syntax.mut El.word) 2) (List._∷_ (
+          4,
+          Mut.mslice
+              (Referent.rtF (Referent.fInt Syntax.w64)) (Syntax.tyRef (Syntax.named 3) Syntax.mut El.word) 3,
+        ) (List._∷_ (5, Rows'.whole (Declared'.row ReadyQueue.the-type)) (List._∷_ (6, Rows'.whole (Declared.row Event.the-type))
+            (List._∷_ (7, Rows'.sslice (Referent.rtF (Referent.fInt Syntax.w16)) (Syntax.tyRef (Syntax.named 4) Syntax.imm (Syntax.tyInt Syntax.w16)) 4) (List._∷_ (
+              8,
+              Rows'.sslice (Referent.rtF (Referent.fInt Syntax.w8)) (Syntax.tyRef
+                  (Syntax.named 5) Syntax.imm (Syntax.tyInt Syntax.w8)) 5,
+            ) (List._∷_ (9, Rows'.sc-here (Row.sInt Syntax.w64)) (List._∷_ (10, Rows'.sc-here (Row.sInt Syntax.w16)) (List._∷_ (11, Rows'.any-gone (Syntax.tyArray El.word 4104))
+            (List._∷_ (12, Rows'.any-gone El.Worked) (List._∷_ (13, Rows'.any-gone (Syntax.tyRef Syntax.erased Syntax.imm El.word)) (List._∷_ (
+              14,
+              Rows'.any-gone (Syntax.tyStruct (List._∷_ 38 (List._∷_ 91 (List._∷_ 93 List.[])))
+                  (Syntax.tcons (Syntax.tyRef Syntax.erased Syntax.imm El.word) (Syntax.tcons El.word Syntax.tnil))),
+            ) (List._∷_ (15, Rows'.any-gone (Syntax.tyArray El.word 4104)) List.[])))))))))))))))
 
         abbrev g12 : List.List Row.Entry
-        g12 = List._∷_ (0, Rows'.any-gone El.Answered) (List._∷_ (1, Reshare.mslice-owedS El.row (Syntax.tyRef (Syntax.named 0) Syntax.mut El.named) 0 7 (Row.lease (κs .0) (qs .0))) (List._∷_ (2, Mut.mslice (Referent.rtF (Referent.fInt
-            Syntax.w64)) (Syntax.tyRef (Syntax.named 1) Syntax.mut El.word) 1) (List._∷_ (3, Mut.mslice (Referent.rtF (Referent.fInt Syntax.w64)) (Syntax.tyRef (Syntax.named 2) Syntax.mut El.word) 2) (List._∷_ (4, Mut.mslice
-            (Referent.rtF (Referent.fInt Syntax.w64)) (Syntax.tyRef (Syntax.named 3) Syntax.mut El.word) 3) (List._∷_ (5, Rows'.whole (Declared'.row ReadyQueue.the-type)) (List._∷_ (6, Rows'.whole (Declared.row Event.the-type))
-            (List._∷_ (7, Rows'.sslice (Referent.rtF (Referent.fInt Syntax.w16)) (Syntax.tyRef (Syntax.named 4) Syntax.imm (Syntax.tyInt Syntax.w16)) 4) (List._∷_ (8, Rows'.sslice (Referent.rtF (Referent.fInt Syntax.w8)) (Syntax.tyRef
-            (Syntax.named 5) Syntax.imm (Syntax.tyInt Syntax.w8)) 5) (List._∷_ (9, Rows'.sc-here (Row.sInt Syntax.w64)) (List._∷_ (10, Rows'.sc-here (Row.sInt Syntax.w16)) (List._∷_ (11, Rows'.any-gone (Syntax.tyArray El.word 4104))
-            (List._∷_ (12, Rows'.any-gone El.Worked) (List._∷_ (13, Rows'.any-gone (Syntax.tyRef Syntax.erased Syntax.imm El.word)) (List._∷_ (14, Rows'.any-gone (Syntax.tyStruct (List._∷_ 38 (List._∷_ 91 (List._∷_ 93 List.[])))
-            (Syntax.tcons (Syntax.tyRef Syntax.erased Syntax.imm El.word) (Syntax.tcons El.word Syntax.tnil)))) (List._∷_ (15, Rows.arrF (Referent.rtF (Referent.fInt Syntax.w64)) 4104 0) List.[])))))))))))))))
+        g12 = List._∷_ (0, Rows'.any-gone El.Answered) (List._∷_ (1, Reshare.mslice-owedS El.row (Syntax.tyRef (Syntax.named 0) Syntax.mut El.named) 0 7 (Row.lease (κs .0) (qs .0))) (List._∷_ (
+          2,
+          Mut.mslice (Referent.rtF (Referent.fInt
+              Syntax.w64)) (Syntax.tyRef (Syntax.named 1) Syntax.mut El.word) 1,
+        ) (List._∷_ (3, Mut.mslice (Referent.rtF (Referent.fInt Syntax.w64)) (Syntax.tyRef (Syntax.named 2) Syntax.mut El.word) 2) (List._∷_ (
+          4,
+          Mut.mslice
+              (Referent.rtF (Referent.fInt Syntax.w64)) (Syntax.tyRef (Syntax.named 3) Syntax.mut El.word) 3,
+        ) (List._∷_ (5, Rows'.whole (Declared'.row ReadyQueue.the-type)) (List._∷_ (6, Rows'.whole (Declared.row Event.the-type))
+            (List._∷_ (7, Rows'.sslice (Referent.rtF (Referent.fInt Syntax.w16)) (Syntax.tyRef (Syntax.named 4) Syntax.imm (Syntax.tyInt Syntax.w16)) 4) (List._∷_ (
+              8,
+              Rows'.sslice (Referent.rtF (Referent.fInt Syntax.w8)) (Syntax.tyRef
+                  (Syntax.named 5) Syntax.imm (Syntax.tyInt Syntax.w8)) 5,
+            ) (List._∷_ (9, Rows'.sc-here (Row.sInt Syntax.w64)) (List._∷_ (10, Rows'.sc-here (Row.sInt Syntax.w16)) (List._∷_ (11, Rows'.any-gone (Syntax.tyArray El.word 4104))
+            (List._∷_ (12, Rows'.any-gone El.Worked) (List._∷_ (13, Rows'.any-gone (Syntax.tyRef Syntax.erased Syntax.imm El.word)) (List._∷_ (
+              14,
+              Rows'.any-gone (Syntax.tyStruct (List._∷_ 38 (List._∷_ 91 (List._∷_ 93 List.[])))
+                  (Syntax.tcons (Syntax.tyRef Syntax.erased Syntax.imm El.word) (Syntax.tcons El.word Syntax.tnil))),
+            ) (List._∷_ (15, Rows.arrF (Referent.rtF (Referent.fInt Syntax.w64)) 4104 0) List.[])))))))))))))))
 
         abbrev g19 : List.List Row.Entry
-        g19 = List._∷_ (0, Rows'.any-gone El.Answered) (List._∷_ (1, Mut.mslice El.row (Syntax.tyRef (Syntax.named 0) Syntax.mut El.named) 0) (List._∷_ (2, Relend.mslice-owed (Referent.rtF (Referent.fInt Syntax.w64)) (Syntax.tyRef
-            (Syntax.named 1) Syntax.mut El.word) 1 9 (Row.lease (κs .1 .0) (qs .1 .0))) (List._∷_ (3, Mut.mslice (Referent.rtF (Referent.fInt Syntax.w64)) (Syntax.tyRef (Syntax.named 2) Syntax.mut El.word) 2) (List._∷_ (4, Mut.mslice
-            (Referent.rtF (Referent.fInt Syntax.w64)) (Syntax.tyRef (Syntax.named 3) Syntax.mut El.word) 3) (List._∷_ (5, Rows'.whole (Declared'.row ReadyQueue.the-type)) (List._∷_ (6, Rows'.whole (Declared.row Event.the-type))
-            (List._∷_ (7, Rows'.sslice (Referent.rtF (Referent.fInt Syntax.w16)) (Syntax.tyRef (Syntax.named 4) Syntax.imm (Syntax.tyInt Syntax.w16)) 4) (List._∷_ (8, Rows'.sslice (Referent.rtF (Referent.fInt Syntax.w8)) (Syntax.tyRef
-            (Syntax.named 5) Syntax.imm (Syntax.tyInt Syntax.w8)) 5) (List._∷_ (9, Rows'.sc-here (Row.sInt Syntax.w64)) (List._∷_ (10, Rows'.sc-here (Row.sInt Syntax.w16)) (List._∷_ (11, Rows.arr-owed (Referent.rtF (Referent.fInt
-            Syntax.w64)) 4104 8) (List._∷_ (12, Rows'.any-gone El.Worked) (List._∷_ (13, Rows'.any-gone (Syntax.tyRef Syntax.erased Syntax.imm El.word)) (List._∷_ (14, Rows'.any-gone (Syntax.tyStruct (List._∷_ 38 (List._∷_ 91 (List._∷_
-            93 List.[]))) (Syntax.tcons (Syntax.tyRef Syntax.erased Syntax.imm El.word) (Syntax.tcons El.word Syntax.tnil)))) (List._∷_ (15, Rows'.any-gone (Syntax.tyArray El.word 4104)) List.[])))))))))))))))
+        g19 = List._∷_ (0, Rows'.any-gone El.Answered) (List._∷_ (1, Mut.mslice El.row (Syntax.tyRef (Syntax.named 0) Syntax.mut El.named) 0) (List._∷_ (
+          2,
+          Relend.mslice-owed (Referent.rtF (Referent.fInt Syntax.w64)) (Syntax.tyRef
+              (Syntax.named 1) Syntax.mut El.word) 1 9 (Row.lease (κs .1 .0) (qs .1 .0)),
+        ) (List._∷_ (3, Mut.mslice (Referent.rtF (Referent.fInt Syntax.w64)) (Syntax.tyRef (Syntax.named 2) Syntax.mut El.word) 2) (List._∷_ (
+          4,
+          Mut.mslice
+              (Referent.rtF (Referent.fInt Syntax.w64)) (Syntax.tyRef (Syntax.named 3) Syntax.mut El.word) 3,
+        ) (List._∷_ (5, Rows'.whole (Declared'.row ReadyQueue.the-type)) (List._∷_ (6, Rows'.whole (Declared.row Event.the-type))
+            (List._∷_ (7, Rows'.sslice (Referent.rtF (Referent.fInt Syntax.w16)) (Syntax.tyRef (Syntax.named 4) Syntax.imm (Syntax.tyInt Syntax.w16)) 4) (List._∷_ (
+              8,
+              Rows'.sslice (Referent.rtF (Referent.fInt Syntax.w8)) (Syntax.tyRef
+                  (Syntax.named 5) Syntax.imm (Syntax.tyInt Syntax.w8)) 5,
+            ) (List._∷_ (9, Rows'.sc-here (Row.sInt Syntax.w64)) (List._∷_ (10, Rows'.sc-here (Row.sInt Syntax.w16)) (List._∷_ (
+              11,
+              Rows.arr-owed (Referent.rtF (Referent.fInt
+                  Syntax.w64)) 4104 8,
+            ) (List._∷_ (12, Rows'.any-gone El.Worked) (List._∷_ (13, Rows'.any-gone (Syntax.tyRef Syntax.erased Syntax.imm El.word)) (List._∷_ (
+              14,
+              Rows'.any-gone (Syntax.tyStruct (List._∷_ 38 (List._∷_ 91 (List._∷_
+                  93 List.[]))) (Syntax.tcons (Syntax.tyRef Syntax.erased Syntax.imm El.word) (Syntax.tcons El.word Syntax.tnil))),
+            ) (List._∷_ (15, Rows'.any-gone (Syntax.tyArray El.word 4104)) List.[])))))))))))))))
 
         abbrev g22 : List.List Row.Entry
-        g22 = List._∷_ (0, Rows'.any-gone El.Answered) (List._∷_ (1, Mut.mslice El.row (Syntax.tyRef (Syntax.named 0) Syntax.mut El.named) 0) (List._∷_ (2, Relend.mslice-owed (Referent.rtF (Referent.fInt Syntax.w64)) (Syntax.tyRef
-            (Syntax.named 1) Syntax.mut El.word) 1 9 (Row.lease (κs .1 .0) (qs .1 .0))) (List._∷_ (3, Relend.mslice-owed (Referent.rtF (Referent.fInt Syntax.w64)) (Syntax.tyRef (Syntax.named 2) Syntax.mut El.word) 2 10 (Row.lease (κs .1
-            .1 .0) (qs .1 .1 .0))) (List._∷_ (4, Mut.mslice (Referent.rtF (Referent.fInt Syntax.w64)) (Syntax.tyRef (Syntax.named 3) Syntax.mut El.word) 3) (List._∷_ (5, Rows'.whole (Declared'.row ReadyQueue.the-type)) (List._∷_ (6,
-            Rows'.whole (Declared.row Event.the-type)) (List._∷_ (7, Rows'.sslice (Referent.rtF (Referent.fInt Syntax.w16)) (Syntax.tyRef (Syntax.named 4) Syntax.imm (Syntax.tyInt Syntax.w16)) 4) (List._∷_ (8, Rows'.sslice
-            (Referent.rtF (Referent.fInt Syntax.w8)) (Syntax.tyRef (Syntax.named 5) Syntax.imm (Syntax.tyInt Syntax.w8)) 5) (List._∷_ (9, Rows'.sc-here (Row.sInt Syntax.w64)) (List._∷_ (10, Rows'.sc-here (Row.sInt Syntax.w16))
-            (List._∷_ (11, Rows.arr-owed (Referent.rtF (Referent.fInt Syntax.w64)) 4104 8) (List._∷_ (12, Rows'.any-gone El.Worked) (List._∷_ (13, Rows'.any-gone (Syntax.tyRef Syntax.erased Syntax.imm El.word)) (List._∷_ (14,
-            Rows'.any-gone (Syntax.tyStruct (List._∷_ 38 (List._∷_ 91 (List._∷_ 93 List.[]))) (Syntax.tcons (Syntax.tyRef Syntax.erased Syntax.imm El.word) (Syntax.tcons El.word Syntax.tnil)))) (List._∷_ (15, Rows'.any-gone
-            (Syntax.tyArray El.word 4104)) List.[])))))))))))))))
+        g22 = List._∷_ (0, Rows'.any-gone El.Answered) (List._∷_ (1, Mut.mslice El.row (Syntax.tyRef (Syntax.named 0) Syntax.mut El.named) 0) (List._∷_ (
+          2,
+          Relend.mslice-owed (Referent.rtF (Referent.fInt Syntax.w64)) (Syntax.tyRef
+              (Syntax.named 1) Syntax.mut El.word) 1 9 (Row.lease (κs .1 .0) (qs .1 .0)),
+        ) (List._∷_ (
+          3,
+          Relend.mslice-owed (Referent.rtF (Referent.fInt Syntax.w64)) (Syntax.tyRef (Syntax.named 2) Syntax.mut El.word) 2 10 (Row.lease (κs .1
+              .1 .0) (qs .1 .1 .0)),
+        ) (List._∷_ (4, Mut.mslice (Referent.rtF (Referent.fInt Syntax.w64)) (Syntax.tyRef (Syntax.named 3) Syntax.mut El.word) 3) (List._∷_ (5, Rows'.whole (Declared'.row ReadyQueue.the-type)) (List._∷_ (
+          6,
+          Rows'.whole (Declared.row Event.the-type),
+        ) (List._∷_ (7, Rows'.sslice (Referent.rtF (Referent.fInt Syntax.w16)) (Syntax.tyRef (Syntax.named 4) Syntax.imm (Syntax.tyInt Syntax.w16)) 4) (List._∷_ (
+          8,
+          Rows'.sslice
+              (Referent.rtF (Referent.fInt Syntax.w8)) (Syntax.tyRef (Syntax.named 5) Syntax.imm (Syntax.tyInt Syntax.w8)) 5,
+        ) (List._∷_ (9, Rows'.sc-here (Row.sInt Syntax.w64)) (List._∷_ (10, Rows'.sc-here (Row.sInt Syntax.w16))
+            (List._∷_ (11, Rows.arr-owed (Referent.rtF (Referent.fInt Syntax.w64)) 4104 8) (List._∷_ (12, Rows'.any-gone El.Worked) (List._∷_ (13, Rows'.any-gone (Syntax.tyRef Syntax.erased Syntax.imm El.word)) (List._∷_ (
+              14,
+              Rows'.any-gone (Syntax.tyStruct (List._∷_ 38 (List._∷_ 91 (List._∷_ 93 List.[]))) (Syntax.tcons (Syntax.tyRef Syntax.erased Syntax.imm El.word) (Syntax.tcons El.word Syntax.tnil))),
+            ) (List._∷_ (
+              15,
+              Rows'.any-gone
+                  (Syntax.tyArray El.word 4104),
+            ) List.[])))))))))))))))
 
         abbrev g25 : List.List Row.Entry
-        g25 = List._∷_ (0, Rows'.any-gone El.Answered) (List._∷_ (1, Mut.mslice El.row (Syntax.tyRef (Syntax.named 0) Syntax.mut El.named) 0) (List._∷_ (2, Relend.mslice-owed (Referent.rtF (Referent.fInt Syntax.w64)) (Syntax.tyRef
-            (Syntax.named 1) Syntax.mut El.word) 1 9 (Row.lease (κs .1 .0) (qs .1 .0))) (List._∷_ (3, Relend.mslice-owed (Referent.rtF (Referent.fInt Syntax.w64)) (Syntax.tyRef (Syntax.named 2) Syntax.mut El.word) 2 10 (Row.lease (κs .1
-            .1 .0) (qs .1 .1 .0))) (List._∷_ (4, Relend.mslice-owed (Referent.rtF (Referent.fInt Syntax.w64)) (Syntax.tyRef (Syntax.named 3) Syntax.mut El.word) 3 11 (Row.lease (κs .1 .1 .1 .0) (qs .1 .1 .1 .0))) (List._∷_ (5,
-            Rows'.whole (Declared'.row ReadyQueue.the-type)) (List._∷_ (6, Rows'.whole (Declared.row Event.the-type)) (List._∷_ (7, Rows'.sslice (Referent.rtF (Referent.fInt Syntax.w16)) (Syntax.tyRef (Syntax.named 4) Syntax.imm
-            (Syntax.tyInt Syntax.w16)) 4) (List._∷_ (8, Rows'.sslice (Referent.rtF (Referent.fInt Syntax.w8)) (Syntax.tyRef (Syntax.named 5) Syntax.imm (Syntax.tyInt Syntax.w8)) 5) (List._∷_ (9, Rows'.sc-here (Row.sInt Syntax.w64))
-            (List._∷_ (10, Rows'.sc-here (Row.sInt Syntax.w16)) (List._∷_ (11, Rows.arr-owed (Referent.rtF (Referent.fInt Syntax.w64)) 4104 8) (List._∷_ (12, Rows'.any-gone El.Worked) (List._∷_ (13, Rows'.any-gone (Syntax.tyRef
-            Syntax.erased Syntax.imm El.word)) (List._∷_ (14, Rows'.any-gone (Syntax.tyStruct (List._∷_ 38 (List._∷_ 91 (List._∷_ 93 List.[]))) (Syntax.tcons (Syntax.tyRef Syntax.erased Syntax.imm El.word) (Syntax.tcons El.word
-            Syntax.tnil)))) (List._∷_ (15, Rows'.any-gone (Syntax.tyArray El.word 4104)) List.[])))))))))))))))
+        g25 = List._∷_ (0, Rows'.any-gone El.Answered) (List._∷_ (1, Mut.mslice El.row (Syntax.tyRef (Syntax.named 0) Syntax.mut El.named) 0) (List._∷_ (
+          2,
+          Relend.mslice-owed (Referent.rtF (Referent.fInt Syntax.w64)) (Syntax.tyRef
+              (Syntax.named 1) Syntax.mut El.word) 1 9 (Row.lease (κs .1 .0) (qs .1 .0)),
+        ) (List._∷_ (
+          3,
+          Relend.mslice-owed (Referent.rtF (Referent.fInt Syntax.w64)) (Syntax.tyRef (Syntax.named 2) Syntax.mut El.word) 2 10 (Row.lease (κs .1
+              .1 .0) (qs .1 .1 .0)),
+        ) (List._∷_ (4, Relend.mslice-owed (Referent.rtF (Referent.fInt Syntax.w64)) (Syntax.tyRef (Syntax.named 3) Syntax.mut El.word) 3 11 (Row.lease (κs .1 .1 .1 .0) (qs .1 .1 .1 .0))) (List._∷_ (
+          5,
+          Rows'.whole (Declared'.row ReadyQueue.the-type),
+        ) (List._∷_ (6, Rows'.whole (Declared.row Event.the-type)) (List._∷_ (
+          7,
+          Rows'.sslice (Referent.rtF (Referent.fInt Syntax.w16)) (Syntax.tyRef (Syntax.named 4) Syntax.imm
+              (Syntax.tyInt Syntax.w16)) 4,
+        ) (List._∷_ (8, Rows'.sslice (Referent.rtF (Referent.fInt Syntax.w8)) (Syntax.tyRef (Syntax.named 5) Syntax.imm (Syntax.tyInt Syntax.w8)) 5) (List._∷_ (9, Rows'.sc-here (Row.sInt Syntax.w64))
+            (List._∷_ (10, Rows'.sc-here (Row.sInt Syntax.w16)) (List._∷_ (11, Rows.arr-owed (Referent.rtF (Referent.fInt Syntax.w64)) 4104 8) (List._∷_ (12, Rows'.any-gone El.Worked) (List._∷_ (
+              13,
+              Rows'.any-gone (Syntax.tyRef
+                  Syntax.erased Syntax.imm El.word),
+            ) (List._∷_ (
+              14,
+              Rows'.any-gone (Syntax.tyStruct (List._∷_ 38 (List._∷_ 91 (List._∷_ 93 List.[]))) (Syntax.tcons (Syntax.tyRef Syntax.erased Syntax.imm El.word) (Syntax.tcons El.word
+                  Syntax.tnil))),
+            ) (List._∷_ (15, Rows'.any-gone (Syntax.tyArray El.word 4104)) List.[])))))))))))))))
 
         abbrev g28 : List.List Row.Entry
-        g28 = List._∷_ (0, Rows'.any-gone El.Answered) (List._∷_ (1, Mut.mslice El.row (Syntax.tyRef (Syntax.named 0) Syntax.mut El.named) 0) (List._∷_ (2, Relend.mslice-owed (Referent.rtF (Referent.fInt Syntax.w64)) (Syntax.tyRef
-            (Syntax.named 1) Syntax.mut El.word) 1 9 (Row.lease (κs .1 .0) (qs .1 .0))) (List._∷_ (3, Relend.mslice-owed (Referent.rtF (Referent.fInt Syntax.w64)) (Syntax.tyRef (Syntax.named 2) Syntax.mut El.word) 2 10 (Row.lease (κs .1
-            .1 .0) (qs .1 .1 .0))) (List._∷_ (4, Relend.mslice-owed (Referent.rtF (Referent.fInt Syntax.w64)) (Syntax.tyRef (Syntax.named 3) Syntax.mut El.word) 3 11 (Row.lease (κs .1 .1 .1 .0) (qs .1 .1 .1 .0))) (List._∷_ (5,
-            Rows'.whole (Declared'.row ReadyQueue.the-type)) (List._∷_ (6, Rows'.whole (Declared.row Event.the-type)) (List._∷_ (7, Rows'.sslice (Referent.rtF (Referent.fInt Syntax.w16)) (Syntax.tyRef (Syntax.named 4) Syntax.imm
-            (Syntax.tyInt Syntax.w16)) 4) (List._∷_ (8, Rows'.sslice (Referent.rtF (Referent.fInt Syntax.w8)) (Syntax.tyRef (Syntax.named 5) Syntax.imm (Syntax.tyInt Syntax.w8)) 5) (List._∷_ (9, Rows'.sc-here (Row.sInt Syntax.w64))
-            (List._∷_ (10, Rows'.sc-here (Row.sInt Syntax.w16)) (List._∷_ (11, Rows.arr-owed (Referent.rtF (Referent.fInt Syntax.w64)) 4104 8) (List._∷_ (12, Rows'.whole (Declared'.row Worked.the-type)) (List._∷_ (13, Rows'.any-gone
-            (Syntax.tyRef Syntax.erased Syntax.imm El.word)) (List._∷_ (14, Rows'.any-gone (Syntax.tyStruct (List._∷_ 38 (List._∷_ 91 (List._∷_ 93 List.[]))) (Syntax.tcons (Syntax.tyRef Syntax.erased Syntax.imm El.word) (Syntax.tcons
-            El.word Syntax.tnil)))) (List._∷_ (15, Rows'.any-gone (Syntax.tyArray El.word 4104)) List.[])))))))))))))))
+        g28 = List._∷_ (0, Rows'.any-gone El.Answered) (List._∷_ (1, Mut.mslice El.row (Syntax.tyRef (Syntax.named 0) Syntax.mut El.named) 0) (List._∷_ (
+          2,
+          Relend.mslice-owed (Referent.rtF (Referent.fInt Syntax.w64)) (Syntax.tyRef
+              (Syntax.named 1) Syntax.mut El.word) 1 9 (Row.lease (κs .1 .0) (qs .1 .0)),
+        ) (List._∷_ (
+          3,
+          Relend.mslice-owed (Referent.rtF (Referent.fInt Syntax.w64)) (Syntax.tyRef (Syntax.named 2) Syntax.mut El.word) 2 10 (Row.lease (κs .1
+              .1 .0) (qs .1 .1 .0)),
+        ) (List._∷_ (4, Relend.mslice-owed (Referent.rtF (Referent.fInt Syntax.w64)) (Syntax.tyRef (Syntax.named 3) Syntax.mut El.word) 3 11 (Row.lease (κs .1 .1 .1 .0) (qs .1 .1 .1 .0))) (List._∷_ (
+          5,
+          Rows'.whole (Declared'.row ReadyQueue.the-type),
+        ) (List._∷_ (6, Rows'.whole (Declared.row Event.the-type)) (List._∷_ (
+          7,
+          Rows'.sslice (Referent.rtF (Referent.fInt Syntax.w16)) (Syntax.tyRef (Syntax.named 4) Syntax.imm
+              (Syntax.tyInt Syntax.w16)) 4,
+        ) (List._∷_ (8, Rows'.sslice (Referent.rtF (Referent.fInt Syntax.w8)) (Syntax.tyRef (Syntax.named 5) Syntax.imm (Syntax.tyInt Syntax.w8)) 5) (List._∷_ (9, Rows'.sc-here (Row.sInt Syntax.w64))
+            (List._∷_ (10, Rows'.sc-here (Row.sInt Syntax.w16)) (List._∷_ (11, Rows.arr-owed (Referent.rtF (Referent.fInt Syntax.w64)) 4104 8) (List._∷_ (12, Rows'.whole (Declared'.row Worked.the-type)) (List._∷_ (
+              13,
+              Rows'.any-gone
+                  (Syntax.tyRef Syntax.erased Syntax.imm El.word),
+            ) (List._∷_ (
+              14,
+              Rows'.any-gone (Syntax.tyStruct (List._∷_ 38 (List._∷_ 91 (List._∷_ 93 List.[]))) (Syntax.tcons (Syntax.tyRef Syntax.erased Syntax.imm El.word) (Syntax.tcons
+                  El.word Syntax.tnil))),
+            ) (List._∷_ (15, Rows'.any-gone (Syntax.tyArray El.word 4104)) List.[])))))))))))))))
 
         abbrev g30 : List.List Row.Entry
-        g30 = List._∷_ (0, Rows'.any-gone El.Answered) (List._∷_ (1, Mut.mslice El.row (Syntax.tyRef (Syntax.named 0) Syntax.mut El.named) 0) (List._∷_ (2, Relend.mslice-owed (Referent.rtF (Referent.fInt Syntax.w64)) (Syntax.tyRef
-            (Syntax.named 1) Syntax.mut El.word) 1 9 (Row.lease (κs .1 .0) (qs .1 .0))) (List._∷_ (3, Relend.mslice-owed (Referent.rtF (Referent.fInt Syntax.w64)) (Syntax.tyRef (Syntax.named 2) Syntax.mut El.word) 2 10 (Row.lease (κs .1
-            .1 .0) (qs .1 .1 .0))) (List._∷_ (4, Relend.mslice-owed (Referent.rtF (Referent.fInt Syntax.w64)) (Syntax.tyRef (Syntax.named 3) Syntax.mut El.word) 3 11 (Row.lease (κs .1 .1 .1 .0) (qs .1 .1 .1 .0))) (List._∷_ (5,
-            Rows'.any-gone El.ReadyQueue) (List._∷_ (6, Rows'.whole (Declared.row Event.the-type)) (List._∷_ (7, Rows'.sslice (Referent.rtF (Referent.fInt Syntax.w16)) (Syntax.tyRef (Syntax.named 4) Syntax.imm (Syntax.tyInt Syntax.w16))
-            4) (List._∷_ (8, Rows'.sslice (Referent.rtF (Referent.fInt Syntax.w8)) (Syntax.tyRef (Syntax.named 5) Syntax.imm (Syntax.tyInt Syntax.w8)) 5) (List._∷_ (9, Rows'.sc-here (Row.sInt Syntax.w64)) (List._∷_ (10, Rows'.sc-here
-            (Row.sInt Syntax.w16)) (List._∷_ (11, Rows.arr-owed (Referent.rtF (Referent.fInt Syntax.w64)) 4104 8) (List._∷_ (12, Rows'.whole (Declared'.row Worked.the-type)) (List._∷_ (13, Rows'.any-gone (Syntax.tyRef Syntax.erased
-            Syntax.imm El.word)) (List._∷_ (14, Rows'.any-gone (Syntax.tyStruct (List._∷_ 38 (List._∷_ 91 (List._∷_ 93 List.[]))) (Syntax.tcons (Syntax.tyRef Syntax.erased Syntax.imm El.word) (Syntax.tcons El.word Syntax.tnil))))
+        g30 = List._∷_ (0, Rows'.any-gone El.Answered) (List._∷_ (1, Mut.mslice El.row (Syntax.tyRef (Syntax.named 0) Syntax.mut El.named) 0) (List._∷_ (
+          2,
+          Relend.mslice-owed (Referent.rtF (Referent.fInt Syntax.w64)) (Syntax.tyRef
+              (Syntax.named 1) Syntax.mut El.word) 1 9 (Row.lease (κs .1 .0) (qs .1 .0)),
+        ) (List._∷_ (
+          3,
+          Relend.mslice-owed (Referent.rtF (Referent.fInt Syntax.w64)) (Syntax.tyRef (Syntax.named 2) Syntax.mut El.word) 2 10 (Row.lease (κs .1
+              .1 .0) (qs .1 .1 .0)),
+        ) (List._∷_ (4, Relend.mslice-owed (Referent.rtF (Referent.fInt Syntax.w64)) (Syntax.tyRef (Syntax.named 3) Syntax.mut El.word) 3 11 (Row.lease (κs .1 .1 .1 .0) (qs .1 .1 .1 .0))) (List._∷_ (
+          5,
+          Rows'.any-gone El.ReadyQueue,
+        ) (List._∷_ (6, Rows'.whole (Declared.row Event.the-type)) (List._∷_ (
+          7,
+          Rows'.sslice (Referent.rtF (Referent.fInt Syntax.w16)) (Syntax.tyRef (Syntax.named 4) Syntax.imm (Syntax.tyInt Syntax.w16))
+              4,
+        ) (List._∷_ (8, Rows'.sslice (Referent.rtF (Referent.fInt Syntax.w8)) (Syntax.tyRef (Syntax.named 5) Syntax.imm (Syntax.tyInt Syntax.w8)) 5) (List._∷_ (9, Rows'.sc-here (Row.sInt Syntax.w64)) (List._∷_ (
+          10,
+          Rows'.sc-here
+              (Row.sInt Syntax.w16),
+        ) (List._∷_ (11, Rows.arr-owed (Referent.rtF (Referent.fInt Syntax.w64)) 4104 8) (List._∷_ (12, Rows'.whole (Declared'.row Worked.the-type)) (List._∷_ (
+          13,
+          Rows'.any-gone (Syntax.tyRef Syntax.erased
+              Syntax.imm El.word),
+        ) (List._∷_ (14, Rows'.any-gone (Syntax.tyStruct (List._∷_ 38 (List._∷_ 91 (List._∷_ 93 List.[]))) (Syntax.tcons (Syntax.tyRef Syntax.erased Syntax.imm El.word) (Syntax.tcons El.word Syntax.tnil))))
             (List._∷_ (15, Rows'.any-gone (Syntax.tyArray El.word 4104)) List.[])))))))))))))))
 
         abbrev g31 : List.List Row.Entry
-        g31 = List._∷_ (0, Rows'.any-gone El.Answered) (List._∷_ (1, Mut.mslice El.row (Syntax.tyRef (Syntax.named 0) Syntax.mut El.named) 0) (List._∷_ (2, Relend.mslice-owed (Referent.rtF (Referent.fInt Syntax.w64)) (Syntax.tyRef
-            (Syntax.named 1) Syntax.mut El.word) 1 9 (Row.lease (κs .1 .0) (qs .1 .0))) (List._∷_ (3, Relend.mslice-owed (Referent.rtF (Referent.fInt Syntax.w64)) (Syntax.tyRef (Syntax.named 2) Syntax.mut El.word) 2 10 (Row.lease (κs .1
-            .1 .0) (qs .1 .1 .0))) (List._∷_ (4, Relend.mslice-owed (Referent.rtF (Referent.fInt Syntax.w64)) (Syntax.tyRef (Syntax.named 3) Syntax.mut El.word) 3 11 (Row.lease (κs .1 .1 .1 .0) (qs .1 .1 .1 .0))) (List._∷_ (5,
-            Rows'.any-gone El.ReadyQueue) (List._∷_ (6, Rows'.any-gone El.Event) (List._∷_ (7, Rows'.sslice (Referent.rtF (Referent.fInt Syntax.w16)) (Syntax.tyRef (Syntax.named 4) Syntax.imm (Syntax.tyInt Syntax.w16)) 4) (List._∷_ (8,
-            Rows'.sslice (Referent.rtF (Referent.fInt Syntax.w8)) (Syntax.tyRef (Syntax.named 5) Syntax.imm (Syntax.tyInt Syntax.w8)) 5) (List._∷_ (9, Rows'.sc-here (Row.sInt Syntax.w64)) (List._∷_ (10, Rows'.sc-here (Row.sInt
-            Syntax.w16)) (List._∷_ (11, Rows.arr-owed (Referent.rtF (Referent.fInt Syntax.w64)) 4104 8) (List._∷_ (12, Rows'.whole (Declared'.row Worked.the-type)) (List._∷_ (13, Rows'.any-gone (Syntax.tyRef Syntax.erased Syntax.imm
-            El.word)) (List._∷_ (14, Rows'.any-gone (Syntax.tyStruct (List._∷_ 38 (List._∷_ 91 (List._∷_ 93 List.[]))) (Syntax.tcons (Syntax.tyRef Syntax.erased Syntax.imm El.word) (Syntax.tcons El.word Syntax.tnil)))) (List._∷_ (15,
-            Rows'.any-gone (Syntax.tyArray El.word 4104)) List.[])))))))))))))))
+        g31 = List._∷_ (0, Rows'.any-gone El.Answered) (List._∷_ (1, Mut.mslice El.row (Syntax.tyRef (Syntax.named 0) Syntax.mut El.named) 0) (List._∷_ (
+          2,
+          Relend.mslice-owed (Referent.rtF (Referent.fInt Syntax.w64)) (Syntax.tyRef
+              (Syntax.named 1) Syntax.mut El.word) 1 9 (Row.lease (κs .1 .0) (qs .1 .0)),
+        ) (List._∷_ (
+          3,
+          Relend.mslice-owed (Referent.rtF (Referent.fInt Syntax.w64)) (Syntax.tyRef (Syntax.named 2) Syntax.mut El.word) 2 10 (Row.lease (κs .1
+              .1 .0) (qs .1 .1 .0)),
+        ) (List._∷_ (4, Relend.mslice-owed (Referent.rtF (Referent.fInt Syntax.w64)) (Syntax.tyRef (Syntax.named 3) Syntax.mut El.word) 3 11 (Row.lease (κs .1 .1 .1 .0) (qs .1 .1 .1 .0))) (List._∷_ (
+          5,
+          Rows'.any-gone El.ReadyQueue,
+        ) (List._∷_ (6, Rows'.any-gone El.Event) (List._∷_ (7, Rows'.sslice (Referent.rtF (Referent.fInt Syntax.w16)) (Syntax.tyRef (Syntax.named 4) Syntax.imm (Syntax.tyInt Syntax.w16)) 4) (List._∷_ (
+          8,
+          Rows'.sslice (Referent.rtF (Referent.fInt Syntax.w8)) (Syntax.tyRef (Syntax.named 5) Syntax.imm (Syntax.tyInt Syntax.w8)) 5,
+        ) (List._∷_ (9, Rows'.sc-here (Row.sInt Syntax.w64)) (List._∷_ (
+          10,
+          Rows'.sc-here (Row.sInt
+              Syntax.w16),
+        ) (List._∷_ (11, Rows.arr-owed (Referent.rtF (Referent.fInt Syntax.w64)) 4104 8) (List._∷_ (12, Rows'.whole (Declared'.row Worked.the-type)) (List._∷_ (
+          13,
+          Rows'.any-gone (Syntax.tyRef Syntax.erased Syntax.imm
+              El.word),
+        ) (List._∷_ (14, Rows'.any-gone (Syntax.tyStruct (List._∷_ 38 (List._∷_ 91 (List._∷_ 93 List.[]))) (Syntax.tcons (Syntax.tyRef Syntax.erased Syntax.imm El.word) (Syntax.tcons El.word Syntax.tnil)))) (List._∷_ (
+          15,
+          Rows'.any-gone (Syntax.tyArray El.word 4104),
+        ) List.[])))))))))))))))
 
         abbrev g32 : List.List Row.Entry
-        g32 = List._∷_ (0, Rows'.any-gone El.Answered) (List._∷_ (1, Mut.mslice El.row (Syntax.tyRef (Syntax.named 0) Syntax.mut El.named) 0) (List._∷_ (2, Relend.mslice-owed (Referent.rtF (Referent.fInt Syntax.w64)) (Syntax.tyRef
-            (Syntax.named 1) Syntax.mut El.word) 1 9 (Row.lease (κs .1 .0) (qs .1 .0))) (List._∷_ (3, Relend.mslice-owed (Referent.rtF (Referent.fInt Syntax.w64)) (Syntax.tyRef (Syntax.named 2) Syntax.mut El.word) 2 10 (Row.lease (κs .1
-            .1 .0) (qs .1 .1 .0))) (List._∷_ (4, Relend.mslice-owed (Referent.rtF (Referent.fInt Syntax.w64)) (Syntax.tyRef (Syntax.named 3) Syntax.mut El.word) 3 11 (Row.lease (κs .1 .1 .1 .0) (qs .1 .1 .1 .0))) (List._∷_ (5,
-            Rows'.any-gone El.ReadyQueue) (List._∷_ (6, Rows'.any-gone El.Event) (List._∷_ (7, Rows'.sslice (Referent.rtF (Referent.fInt Syntax.w16)) (Syntax.tyRef (Syntax.named 4) Syntax.imm (Syntax.tyInt Syntax.w16)) 4) (List._∷_ (8,
-            Rows'.sslice (Referent.rtF (Referent.fInt Syntax.w8)) (Syntax.tyRef (Syntax.named 5) Syntax.imm (Syntax.tyInt Syntax.w8)) 5) (List._∷_ (9, Rows'.sc-here (Row.sInt Syntax.w64)) (List._∷_ (10, Rows'.sc-here (Row.sInt
-            Syntax.w16)) (List._∷_ (11, Rows.arrF (Referent.rtF (Referent.fInt Syntax.w64)) 4104 0) (List._∷_ (12, Rows'.whole (Declared'.row Worked.the-type)) (List._∷_ (13, Rows'.any-gone (Syntax.tyRef Syntax.erased Syntax.imm
-            El.word)) (List._∷_ (14, Rows'.any-gone (Syntax.tyStruct (List._∷_ 38 (List._∷_ 91 (List._∷_ 93 List.[]))) (Syntax.tcons (Syntax.tyRef Syntax.erased Syntax.imm El.word) (Syntax.tcons El.word Syntax.tnil)))) (List._∷_ (15,
-            Rows'.any-gone (Syntax.tyArray El.word 4104)) List.[])))))))))))))))
+        g32 = List._∷_ (0, Rows'.any-gone El.Answered) (List._∷_ (1, Mut.mslice El.row (Syntax.tyRef (Syntax.named 0) Syntax.mut El.named) 0) (List._∷_ (
+          2,
+          Relend.mslice-owed (Referent.rtF (Referent.fInt Syntax.w64)) (Syntax.tyRef
+              (Syntax.named 1) Syntax.mut El.word) 1 9 (Row.lease (κs .1 .0) (qs .1 .0)),
+        ) (List._∷_ (
+          3,
+          Relend.mslice-owed (Referent.rtF (Referent.fInt Syntax.w64)) (Syntax.tyRef (Syntax.named 2) Syntax.mut El.word) 2 10 (Row.lease (κs .1
+              .1 .0) (qs .1 .1 .0)),
+        ) (List._∷_ (4, Relend.mslice-owed (Referent.rtF (Referent.fInt Syntax.w64)) (Syntax.tyRef (Syntax.named 3) Syntax.mut El.word) 3 11 (Row.lease (κs .1 .1 .1 .0) (qs .1 .1 .1 .0))) (List._∷_ (
+          5,
+          Rows'.any-gone El.ReadyQueue,
+        ) (List._∷_ (6, Rows'.any-gone El.Event) (List._∷_ (7, Rows'.sslice (Referent.rtF (Referent.fInt Syntax.w16)) (Syntax.tyRef (Syntax.named 4) Syntax.imm (Syntax.tyInt Syntax.w16)) 4) (List._∷_ (
+          8,
+          Rows'.sslice (Referent.rtF (Referent.fInt Syntax.w8)) (Syntax.tyRef (Syntax.named 5) Syntax.imm (Syntax.tyInt Syntax.w8)) 5,
+        ) (List._∷_ (9, Rows'.sc-here (Row.sInt Syntax.w64)) (List._∷_ (
+          10,
+          Rows'.sc-here (Row.sInt
+              Syntax.w16),
+        ) (List._∷_ (11, Rows.arrF (Referent.rtF (Referent.fInt Syntax.w64)) 4104 0) (List._∷_ (12, Rows'.whole (Declared'.row Worked.the-type)) (List._∷_ (
+          13,
+          Rows'.any-gone (Syntax.tyRef Syntax.erased Syntax.imm
+              El.word),
+        ) (List._∷_ (14, Rows'.any-gone (Syntax.tyStruct (List._∷_ 38 (List._∷_ 91 (List._∷_ 93 List.[]))) (Syntax.tcons (Syntax.tyRef Syntax.erased Syntax.imm El.word) (Syntax.tcons El.word Syntax.tnil)))) (List._∷_ (
+          15,
+          Rows'.any-gone (Syntax.tyArray El.word 4104),
+        ) List.[])))))))))))))))
 
         abbrev g34 : List.List Row.Entry
-        g34 = List._∷_ (0, Rows'.any-gone El.Answered) (List._∷_ (1, Mut.mslice El.row (Syntax.tyRef (Syntax.named 0) Syntax.mut El.named) 0) (List._∷_ (2, Mut.mslice (Referent.rtF (Referent.fInt Syntax.w64)) (Syntax.tyRef (Syntax.named
-            1) Syntax.mut El.word) 1) (List._∷_ (3, Relend.mslice-owed (Referent.rtF (Referent.fInt Syntax.w64)) (Syntax.tyRef (Syntax.named 2) Syntax.mut El.word) 2 10 (Row.lease (κs .1 .1 .0) (qs .1 .1 .0))) (List._∷_ (4,
-            Relend.mslice-owed (Referent.rtF (Referent.fInt Syntax.w64)) (Syntax.tyRef (Syntax.named 3) Syntax.mut El.word) 3 11 (Row.lease (κs .1 .1 .1 .0) (qs .1 .1 .1 .0))) (List._∷_ (5, Rows'.any-gone El.ReadyQueue) (List._∷_ (6,
-            Rows'.any-gone El.Event) (List._∷_ (7, Rows'.sslice (Referent.rtF (Referent.fInt Syntax.w16)) (Syntax.tyRef (Syntax.named 4) Syntax.imm (Syntax.tyInt Syntax.w16)) 4) (List._∷_ (8, Rows'.sslice (Referent.rtF (Referent.fInt
-            Syntax.w8)) (Syntax.tyRef (Syntax.named 5) Syntax.imm (Syntax.tyInt Syntax.w8)) 5) (List._∷_ (9, Rows'.sc-here (Row.sInt Syntax.w64)) (List._∷_ (10, Rows'.sc-here (Row.sInt Syntax.w16)) (List._∷_ (11, Rows.arrF
-            (Referent.rtF (Referent.fInt Syntax.w64)) 4104 0) (List._∷_ (12, Rows'.whole (Declared'.row Worked.the-type)) (List._∷_ (13, Rows'.any-gone (Syntax.tyRef Syntax.erased Syntax.imm El.word)) (List._∷_ (14, Rows'.any-gone
-            (Syntax.tyStruct (List._∷_ 38 (List._∷_ 91 (List._∷_ 93 List.[]))) (Syntax.tcons (Syntax.tyRef Syntax.erased Syntax.imm El.word) (Syntax.tcons El.word Syntax.tnil)))) (List._∷_ (15, Rows'.any-gone (Syntax.tyArray El.word
-            4104)) List.[])))))))))))))))
+        g34 = List._∷_ (0, Rows'.any-gone El.Answered) (List._∷_ (1, Mut.mslice El.row (Syntax.tyRef (Syntax.named 0) Syntax.mut El.named) 0) (List._∷_ (
+          2,
+          Mut.mslice (Referent.rtF (Referent.fInt Syntax.w64)) (Syntax.tyRef (Syntax.named
+              1) Syntax.mut El.word) 1,
+        ) (List._∷_ (3, Relend.mslice-owed (Referent.rtF (Referent.fInt Syntax.w64)) (Syntax.tyRef (Syntax.named 2) Syntax.mut El.word) 2 10 (Row.lease (κs .1 .1 .0) (qs .1 .1 .0))) (List._∷_ (
+          4,
+          Relend.mslice-owed (Referent.rtF (Referent.fInt Syntax.w64)) (Syntax.tyRef (Syntax.named 3) Syntax.mut El.word) 3 11 (Row.lease (κs .1 .1 .1 .0) (qs .1 .1 .1 .0)),
+        ) (List._∷_ (5, Rows'.any-gone El.ReadyQueue) (List._∷_ (
+          6,
+          Rows'.any-gone El.Event,
+        ) (List._∷_ (7, Rows'.sslice (Referent.rtF (Referent.fInt Syntax.w16)) (Syntax.tyRef (Syntax.named 4) Syntax.imm (Syntax.tyInt Syntax.w16)) 4) (List._∷_ (
+          8,
+          Rows'.sslice (Referent.rtF (Referent.fInt
+              Syntax.w8)) (Syntax.tyRef (Syntax.named 5) Syntax.imm (Syntax.tyInt Syntax.w8)) 5,
+        ) (List._∷_ (9, Rows'.sc-here (Row.sInt Syntax.w64)) (List._∷_ (10, Rows'.sc-here (Row.sInt Syntax.w16)) (List._∷_ (
+          11,
+          Rows.arrF
+              (Referent.rtF (Referent.fInt Syntax.w64)) 4104 0,
+        ) (List._∷_ (12, Rows'.whole (Declared'.row Worked.the-type)) (List._∷_ (13, Rows'.any-gone (Syntax.tyRef Syntax.erased Syntax.imm El.word)) (List._∷_ (
+          14,
+          Rows'.any-gone
+              (Syntax.tyStruct (List._∷_ 38 (List._∷_ 91 (List._∷_ 93 List.[]))) (Syntax.tcons (Syntax.tyRef Syntax.erased Syntax.imm El.word) (Syntax.tcons El.word Syntax.tnil))),
+        ) (List._∷_ (
+          15,
+          Rows'.any-gone (Syntax.tyArray El.word
+              4104),
+        ) List.[])))))))))))))))
 
         abbrev g36 : List.List Row.Entry
-        g36 = List._∷_ (0, Rows'.any-gone El.Answered) (List._∷_ (1, Mut.mslice El.row (Syntax.tyRef (Syntax.named 0) Syntax.mut El.named) 0) (List._∷_ (2, Mut.mslice (Referent.rtF (Referent.fInt Syntax.w64)) (Syntax.tyRef (Syntax.named
-            1) Syntax.mut El.word) 1) (List._∷_ (3, Mut.mslice (Referent.rtF (Referent.fInt Syntax.w64)) (Syntax.tyRef (Syntax.named 2) Syntax.mut El.word) 2) (List._∷_ (4, Relend.mslice-owed (Referent.rtF (Referent.fInt Syntax.w64))
-            (Syntax.tyRef (Syntax.named 3) Syntax.mut El.word) 3 11 (Row.lease (κs .1 .1 .1 .0) (qs .1 .1 .1 .0))) (List._∷_ (5, Rows'.any-gone El.ReadyQueue) (List._∷_ (6, Rows'.any-gone El.Event) (List._∷_ (7, Rows'.sslice (Referent.rtF
-            (Referent.fInt Syntax.w16)) (Syntax.tyRef (Syntax.named 4) Syntax.imm (Syntax.tyInt Syntax.w16)) 4) (List._∷_ (8, Rows'.sslice (Referent.rtF (Referent.fInt Syntax.w8)) (Syntax.tyRef (Syntax.named 5) Syntax.imm (Syntax.tyInt
-            Syntax.w8)) 5) (List._∷_ (9, Rows'.sc-here (Row.sInt Syntax.w64)) (List._∷_ (10, Rows'.sc-here (Row.sInt Syntax.w16)) (List._∷_ (11, Rows.arrF (Referent.rtF (Referent.fInt Syntax.w64)) 4104 0) (List._∷_ (12, Rows'.whole
-            (Declared'.row Worked.the-type)) (List._∷_ (13, Rows'.any-gone (Syntax.tyRef Syntax.erased Syntax.imm El.word)) (List._∷_ (14, Rows'.any-gone (Syntax.tyStruct (List._∷_ 38 (List._∷_ 91 (List._∷_ 93 List.[]))) (Syntax.tcons
-            (Syntax.tyRef Syntax.erased Syntax.imm El.word) (Syntax.tcons El.word Syntax.tnil)))) (List._∷_ (15, Rows'.any-gone (Syntax.tyArray El.word 4104)) List.[])))))))))))))))
+        g36 = List._∷_ (0, Rows'.any-gone El.Answered) (List._∷_ (1, Mut.mslice El.row (Syntax.tyRef (Syntax.named 0) Syntax.mut El.named) 0) (List._∷_ (
+          2,
+          Mut.mslice (Referent.rtF (Referent.fInt Syntax.w64)) (Syntax.tyRef (Syntax.named
+              1) Syntax.mut El.word) 1,
+        ) (List._∷_ (3, Mut.mslice (Referent.rtF (Referent.fInt Syntax.w64)) (Syntax.tyRef (Syntax.named 2) Syntax.mut El.word) 2) (List._∷_ (
+          4,
+          Relend.mslice-owed (Referent.rtF (Referent.fInt Syntax.w64))
+              (Syntax.tyRef (Syntax.named 3) Syntax.mut El.word) 3 11 (Row.lease (κs .1 .1 .1 .0) (qs .1 .1 .1 .0)),
+        ) (List._∷_ (5, Rows'.any-gone El.ReadyQueue) (List._∷_ (6, Rows'.any-gone El.Event) (List._∷_ (
+          7,
+          Rows'.sslice (Referent.rtF
+              (Referent.fInt Syntax.w16)) (Syntax.tyRef (Syntax.named 4) Syntax.imm (Syntax.tyInt Syntax.w16)) 4,
+        ) (List._∷_ (
+          8,
+          Rows'.sslice (Referent.rtF (Referent.fInt Syntax.w8)) (Syntax.tyRef (Syntax.named 5) Syntax.imm (Syntax.tyInt
+              Syntax.w8)) 5,
+        ) (List._∷_ (9, Rows'.sc-here (Row.sInt Syntax.w64)) (List._∷_ (10, Rows'.sc-here (Row.sInt Syntax.w16)) (List._∷_ (11, Rows.arrF (Referent.rtF (Referent.fInt Syntax.w64)) 4104 0) (List._∷_ (
+          12,
+          Rows'.whole
+              (Declared'.row Worked.the-type),
+        ) (List._∷_ (13, Rows'.any-gone (Syntax.tyRef Syntax.erased Syntax.imm El.word)) (List._∷_ (
+          14,
+          Rows'.any-gone (Syntax.tyStruct (List._∷_ 38 (List._∷_ 91 (List._∷_ 93 List.[]))) (Syntax.tcons
+              (Syntax.tyRef Syntax.erased Syntax.imm El.word) (Syntax.tcons El.word Syntax.tnil))),
+        ) (List._∷_ (15, Rows'.any-gone (Syntax.tyArray El.word 4104)) List.[])))))))))))))))
 
         abbrev g39 : List.List Row.Entry
-        g39 = List._∷_ (0, Rows'.any-gone El.Answered) (List._∷_ (1, Relend.mslice-owed El.row (Syntax.tyRef (Syntax.named 0) Syntax.mut El.named) 0 12 (Row.lease (κs .0) (qs .0))) (List._∷_ (2, Mut.mslice (Referent.rtF (Referent.fInt
-            Syntax.w64)) (Syntax.tyRef (Syntax.named 1) Syntax.mut El.word) 1) (List._∷_ (3, Mut.mslice (Referent.rtF (Referent.fInt Syntax.w64)) (Syntax.tyRef (Syntax.named 2) Syntax.mut El.word) 2) (List._∷_ (4, Mut.mslice
-            (Referent.rtF (Referent.fInt Syntax.w64)) (Syntax.tyRef (Syntax.named 3) Syntax.mut El.word) 3) (List._∷_ (5, Rows'.any-gone El.ReadyQueue) (List._∷_ (6, Rows'.any-gone El.Event) (List._∷_ (7, Rows'.sslice (Referent.rtF
-            (Referent.fInt Syntax.w16)) (Syntax.tyRef (Syntax.named 4) Syntax.imm (Syntax.tyInt Syntax.w16)) 4) (List._∷_ (8, Rows'.sslice (Referent.rtF (Referent.fInt Syntax.w8)) (Syntax.tyRef (Syntax.named 5) Syntax.imm (Syntax.tyInt
-            Syntax.w8)) 5) (List._∷_ (9, Rows'.sc-here (Row.sInt Syntax.w64)) (List._∷_ (10, Rows'.sc-here (Row.sInt Syntax.w16)) (List._∷_ (11, Rows.arrF (Referent.rtF (Referent.fInt Syntax.w64)) 4104 0) (List._∷_ (12, Rows'.whole
-            (Declared'.row Worked.the-type)) (List._∷_ (13, Rows'.any-gone (Syntax.tyRef Syntax.erased Syntax.imm El.word)) (List._∷_ (14, Rows'.any-gone (Syntax.tyStruct (List._∷_ 38 (List._∷_ 91 (List._∷_ 93 List.[]))) (Syntax.tcons
-            (Syntax.tyRef Syntax.erased Syntax.imm El.word) (Syntax.tcons El.word Syntax.tnil)))) (List._∷_ (15, Rows'.any-gone (Syntax.tyArray El.word 4104)) List.[])))))))))))))))
+        g39 = List._∷_ (0, Rows'.any-gone El.Answered) (List._∷_ (1, Relend.mslice-owed El.row (Syntax.tyRef (Syntax.named 0) Syntax.mut El.named) 0 12 (Row.lease (κs .0) (qs .0))) (List._∷_ (
+          2,
+          Mut.mslice (Referent.rtF (Referent.fInt
+              Syntax.w64)) (Syntax.tyRef (Syntax.named 1) Syntax.mut El.word) 1,
+        ) (List._∷_ (3, Mut.mslice (Referent.rtF (Referent.fInt Syntax.w64)) (Syntax.tyRef (Syntax.named 2) Syntax.mut El.word) 2) (List._∷_ (
+          4,
+          Mut.mslice
+              (Referent.rtF (Referent.fInt Syntax.w64)) (Syntax.tyRef (Syntax.named 3) Syntax.mut El.word) 3,
+        ) (List._∷_ (5, Rows'.any-gone El.ReadyQueue) (List._∷_ (6, Rows'.any-gone El.Event) (List._∷_ (
+          7,
+          Rows'.sslice (Referent.rtF
+              (Referent.fInt Syntax.w16)) (Syntax.tyRef (Syntax.named 4) Syntax.imm (Syntax.tyInt Syntax.w16)) 4,
+        ) (List._∷_ (
+          8,
+          Rows'.sslice (Referent.rtF (Referent.fInt Syntax.w8)) (Syntax.tyRef (Syntax.named 5) Syntax.imm (Syntax.tyInt
+              Syntax.w8)) 5,
+        ) (List._∷_ (9, Rows'.sc-here (Row.sInt Syntax.w64)) (List._∷_ (10, Rows'.sc-here (Row.sInt Syntax.w16)) (List._∷_ (11, Rows.arrF (Referent.rtF (Referent.fInt Syntax.w64)) 4104 0) (List._∷_ (
+          12,
+          Rows'.whole
+              (Declared'.row Worked.the-type),
+        ) (List._∷_ (13, Rows'.any-gone (Syntax.tyRef Syntax.erased Syntax.imm El.word)) (List._∷_ (
+          14,
+          Rows'.any-gone (Syntax.tyStruct (List._∷_ 38 (List._∷_ 91 (List._∷_ 93 List.[]))) (Syntax.tcons
+              (Syntax.tyRef Syntax.erased Syntax.imm El.word) (Syntax.tcons El.word Syntax.tnil))),
+        ) (List._∷_ (15, Rows'.any-gone (Syntax.tyArray El.word 4104)) List.[])))))))))))))))
 
         abbrev g42 : List.List Row.Entry
-        g42 = List._∷_ (0, Rows'.any-gone El.Answered) (List._∷_ (1, Relend.mslice-owed El.row (Syntax.tyRef (Syntax.named 0) Syntax.mut El.named) 0 12 (Row.lease (κs .0) (qs .0))) (List._∷_ (2, Mut.mslice (Referent.rtF (Referent.fInt
-            Syntax.w64)) (Syntax.tyRef (Syntax.named 1) Syntax.mut El.word) 1) (List._∷_ (3, Mut.mslice (Referent.rtF (Referent.fInt Syntax.w64)) (Syntax.tyRef (Syntax.named 2) Syntax.mut El.word) 2) (List._∷_ (4, Mut.mslice
-            (Referent.rtF (Referent.fInt Syntax.w64)) (Syntax.tyRef (Syntax.named 3) Syntax.mut El.word) 3) (List._∷_ (5, Rows'.any-gone El.ReadyQueue) (List._∷_ (6, Rows'.any-gone El.Event) (List._∷_ (7, Rows'.sslice (Referent.rtF
-            (Referent.fInt Syntax.w16)) (Syntax.tyRef (Syntax.named 4) Syntax.imm (Syntax.tyInt Syntax.w16)) 4) (List._∷_ (8, Rows'.sslice (Referent.rtF (Referent.fInt Syntax.w8)) (Syntax.tyRef (Syntax.named 5) Syntax.imm (Syntax.tyInt
-            Syntax.w8)) 5) (List._∷_ (9, Rows'.sc-here (Row.sInt Syntax.w64)) (List._∷_ (10, Rows'.sc-here (Row.sInt Syntax.w16)) (List._∷_ (11, Rows.arr-shr (Referent.rtF (Referent.fInt Syntax.w64)) 4104 13) (List._∷_ (12, Rows'.whole
-            (Declared'.row Worked.the-type)) (List._∷_ (13, Rows'.any-gone (Syntax.tyRef Syntax.erased Syntax.imm El.word)) (List._∷_ (14, Rows'.any-gone (Syntax.tyStruct (List._∷_ 38 (List._∷_ 91 (List._∷_ 93 List.[]))) (Syntax.tcons
-            (Syntax.tyRef Syntax.erased Syntax.imm El.word) (Syntax.tcons El.word Syntax.tnil)))) (List._∷_ (15, Rows'.any-gone (Syntax.tyArray El.word 4104)) List.[])))))))))))))))
+        g42 = List._∷_ (0, Rows'.any-gone El.Answered) (List._∷_ (1, Relend.mslice-owed El.row (Syntax.tyRef (Syntax.named 0) Syntax.mut El.named) 0 12 (Row.lease (κs .0) (qs .0))) (List._∷_ (
+          2,
+          Mut.mslice (Referent.rtF (Referent.fInt
+              Syntax.w64)) (Syntax.tyRef (Syntax.named 1) Syntax.mut El.word) 1,
+        ) (List._∷_ (3, Mut.mslice (Referent.rtF (Referent.fInt Syntax.w64)) (Syntax.tyRef (Syntax.named 2) Syntax.mut El.word) 2) (List._∷_ (
+          4,
+          Mut.mslice
+              (Referent.rtF (Referent.fInt Syntax.w64)) (Syntax.tyRef (Syntax.named 3) Syntax.mut El.word) 3,
+        ) (List._∷_ (5, Rows'.any-gone El.ReadyQueue) (List._∷_ (6, Rows'.any-gone El.Event) (List._∷_ (
+          7,
+          Rows'.sslice (Referent.rtF
+              (Referent.fInt Syntax.w16)) (Syntax.tyRef (Syntax.named 4) Syntax.imm (Syntax.tyInt Syntax.w16)) 4,
+        ) (List._∷_ (
+          8,
+          Rows'.sslice (Referent.rtF (Referent.fInt Syntax.w8)) (Syntax.tyRef (Syntax.named 5) Syntax.imm (Syntax.tyInt
+              Syntax.w8)) 5,
+        ) (List._∷_ (9, Rows'.sc-here (Row.sInt Syntax.w64)) (List._∷_ (10, Rows'.sc-here (Row.sInt Syntax.w16)) (List._∷_ (11, Rows.arr-shr (Referent.rtF (Referent.fInt Syntax.w64)) 4104 13) (List._∷_ (
+          12,
+          Rows'.whole
+              (Declared'.row Worked.the-type),
+        ) (List._∷_ (13, Rows'.any-gone (Syntax.tyRef Syntax.erased Syntax.imm El.word)) (List._∷_ (
+          14,
+          Rows'.any-gone (Syntax.tyStruct (List._∷_ 38 (List._∷_ 91 (List._∷_ 93 List.[]))) (Syntax.tcons
+              (Syntax.tyRef Syntax.erased Syntax.imm El.word) (Syntax.tcons El.word Syntax.tnil))),
+        ) (List._∷_ (15, Rows'.any-gone (Syntax.tyArray El.word 4104)) List.[])))))))))))))))
 
         abbrev G0 : Row.Cx
-        G0 = record { locals = List._++_ t0 t1; slots = List._∷_ (Row.lease (κs .0) (qs .0)) (List._∷_ (Row.lease (κs .1 .0) (qs .1 .0)) (List._∷_ (Row.lease (κs .1 .1 .0) (qs .1 .1 .0)) (List._∷_ (Row.lease (κs .1 .1 .1 .0) (qs .1 .1
-            .1 .0)) (List._∷_ (Row.lease (κs .1 .1 .1 .1 .0) (qs .1 .1 .1 .1 .0)) (List._∷_ (Row.lease (κs .1 .1 .1 .1 .1 .0) (qs .1 .1 .1 .1 .1 .0)) (List._∷_ Row.off (List._∷_ Row.off (List._∷_ Row.off (List._∷_ Row.off (List._∷_
-            Row.off (List._∷_ Row.off (List._∷_ Row.off (List._∷_ Row.off List.[]))))))))))))); }
+        G0 = record {
+          locals = List._++_ t0 t1;
+          slots = List._∷_ (Row.lease (κs .0) (qs .0)) (List._∷_ (Row.lease (κs .1 .0) (qs .1 .0)) (List._∷_ (Row.lease (κs .1 .1 .0) (qs .1 .1 .0)) (List._∷_ (Row.lease (κs .1 .1 .1 .0) (qs .1 .1
+              .1 .0)) (List._∷_ (Row.lease (κs .1 .1 .1 .1 .0) (qs .1 .1 .1 .1 .0)) (List._∷_ (Row.lease (κs .1 .1 .1 .1 .1 .0) (qs .1 .1 .1 .1 .1 .0)) (List._∷_ Row.off (List._∷_ Row.off (List._∷_ Row.off (List._∷_ Row.off (List._∷_
+              Row.off (List._∷_ Row.off (List._∷_ Row.off (List._∷_ Row.off List.[])))))))))))));
+        }
 
         abbrev G1 : Row.Cx
-        G1 = record { locals = List._++_ t2 t1; slots = List._∷_ (Row.lease (κs .0) (qs .0)) (List._∷_ (Row.lease (κs .1 .0) (qs .1 .0)) (List._∷_ (Row.lease (κs .1 .1 .0) (qs .1 .1 .0)) (List._∷_ (Row.lease (κs .1 .1 .1 .0) (qs .1 .1
-            .1 .0)) (List._∷_ (Row.lease (κs .1 .1 .1 .1 .0) (qs .1 .1 .1 .1 .0)) (List._∷_ (Row.lease (κs .1 .1 .1 .1 .1 .0) (qs .1 .1 .1 .1 .1 .0)) (List._∷_ Row.off (List._∷_ Row.off (List._∷_ Row.off (List._∷_ Row.off (List._∷_
-            Row.off (List._∷_ Row.off (List._∷_ Row.off (List._∷_ Row.off List.[]))))))))))))); }
+        G1 = record {
+          locals = List._++_ t2 t1;
+          slots = List._∷_ (Row.lease (κs .0) (qs .0)) (List._∷_ (Row.lease (κs .1 .0) (qs .1 .0)) (List._∷_ (Row.lease (κs .1 .1 .0) (qs .1 .1 .0)) (List._∷_ (Row.lease (κs .1 .1 .1 .0) (qs .1 .1
+              .1 .0)) (List._∷_ (Row.lease (κs .1 .1 .1 .1 .0) (qs .1 .1 .1 .1 .0)) (List._∷_ (Row.lease (κs .1 .1 .1 .1 .1 .0) (qs .1 .1 .1 .1 .1 .0)) (List._∷_ Row.off (List._∷_ Row.off (List._∷_ Row.off (List._∷_ Row.off (List._∷_
+              Row.off (List._∷_ Row.off (List._∷_ Row.off (List._∷_ Row.off List.[])))))))))))));
+        }
 
         abbrev G2 : Row.Cx
-        G2 = record { locals = List._++_ t0 t1; slots = List._∷_ (Row.lease (κs .0) (qs .0)) (List._∷_ (Row.lease (κs .1 .0) (qs .1 .0)) (List._∷_ (Row.lease (κs .1 .1 .0) (qs .1 .1 .0)) (List._∷_ (Row.lease (κs .1 .1 .1 .0) (qs .1 .1
-            .1 .0)) (List._∷_ (Row.lease (κs .1 .1 .1 .1 .0) (qs .1 .1 .1 .1 .0)) (List._∷_ (Row.lease (κs .1 .1 .1 .1 .1 .0) (qs .1 .1 .1 .1 .1 .0)) (List._∷_ Row.off (List._∷_ Row.off (List._∷_ Row.off (List._∷_ Row.off (List._∷_
-            Row.off (List._∷_ Row.off (List._∷_ Row.off (List._∷_ Row.off List.[]))))))))))))); }
+        G2 = record {
+          locals = List._++_ t0 t1;
+          slots = List._∷_ (Row.lease (κs .0) (qs .0)) (List._∷_ (Row.lease (κs .1 .0) (qs .1 .0)) (List._∷_ (Row.lease (κs .1 .1 .0) (qs .1 .1 .0)) (List._∷_ (Row.lease (κs .1 .1 .1 .0) (qs .1 .1
+              .1 .0)) (List._∷_ (Row.lease (κs .1 .1 .1 .1 .0) (qs .1 .1 .1 .1 .0)) (List._∷_ (Row.lease (κs .1 .1 .1 .1 .1 .0) (qs .1 .1 .1 .1 .1 .0)) (List._∷_ Row.off (List._∷_ Row.off (List._∷_ Row.off (List._∷_ Row.off (List._∷_
+              Row.off (List._∷_ Row.off (List._∷_ Row.off (List._∷_ Row.off List.[])))))))))))));
+        }
 
         abbrev G3 : Row.Cx
-        G3 = record { locals = List._++_ t0 t1; slots = List._∷_ (Row.lease (κs .0) (qs .0)) (List._∷_ (Row.lease (κs .1 .0) (qs .1 .0)) (List._∷_ (Row.lease (κs .1 .1 .0) (qs .1 .1 .0)) (List._∷_ (Row.lease (κs .1 .1 .1 .0) (qs .1 .1
-            .1 .0)) (List._∷_ (Row.lease (κs .1 .1 .1 .1 .0) (qs .1 .1 .1 .1 .0)) (List._∷_ (Row.lease (κs .1 .1 .1 .1 .1 .0) (qs .1 .1 .1 .1 .1 .0)) (List._∷_ Row.off (List._∷_ Row.off (List._∷_ Row.off (List._∷_ Row.off (List._∷_
-            Row.off (List._∷_ Row.off (List._∷_ Row.off (List._∷_ Row.off List.[]))))))))))))); }
+        G3 = record {
+          locals = List._++_ t0 t1;
+          slots = List._∷_ (Row.lease (κs .0) (qs .0)) (List._∷_ (Row.lease (κs .1 .0) (qs .1 .0)) (List._∷_ (Row.lease (κs .1 .1 .0) (qs .1 .1 .0)) (List._∷_ (Row.lease (κs .1 .1 .1 .0) (qs .1 .1
+              .1 .0)) (List._∷_ (Row.lease (κs .1 .1 .1 .1 .0) (qs .1 .1 .1 .1 .0)) (List._∷_ (Row.lease (κs .1 .1 .1 .1 .1 .0) (qs .1 .1 .1 .1 .1 .0)) (List._∷_ Row.off (List._∷_ Row.off (List._∷_ Row.off (List._∷_ Row.off (List._∷_
+              Row.off (List._∷_ Row.off (List._∷_ Row.off (List._∷_ Row.off List.[])))))))))))));
+        }
 
         abbrev G4 : Row.Cx
-        G4 = record { locals = List._++_ t0 t1; slots = List._∷_ (Row.lease (κs .0) (qs .0)) (List._∷_ (Row.lease (κs .1 .0) (qs .1 .0)) (List._∷_ (Row.lease (κs .1 .1 .0) (qs .1 .1 .0)) (List._∷_ (Row.lease (κs .1 .1 .1 .0) (qs .1 .1
-            .1 .0)) (List._∷_ (Row.lease (κs .1 .1 .1 .1 .0) (qs .1 .1 .1 .1 .0)) (List._∷_ (Row.lease (κs .1 .1 .1 .1 .1 .0) (qs .1 .1 .1 .1 .1 .0)) (List._∷_ Row.off (List._∷_ Row.off (List._∷_ Row.off (List._∷_ Row.off (List._∷_
-            Row.off (List._∷_ Row.off (List._∷_ Row.off (List._∷_ Row.off List.[]))))))))))))); }
+        G4 = record {
+          locals = List._++_ t0 t1;
+          slots = List._∷_ (Row.lease (κs .0) (qs .0)) (List._∷_ (Row.lease (κs .1 .0) (qs .1 .0)) (List._∷_ (Row.lease (κs .1 .1 .0) (qs .1 .1 .0)) (List._∷_ (Row.lease (κs .1 .1 .1 .0) (qs .1 .1
+              .1 .0)) (List._∷_ (Row.lease (κs .1 .1 .1 .1 .0) (qs .1 .1 .1 .1 .0)) (List._∷_ (Row.lease (κs .1 .1 .1 .1 .1 .0) (qs .1 .1 .1 .1 .1 .0)) (List._∷_ Row.off (List._∷_ Row.off (List._∷_ Row.off (List._∷_ Row.off (List._∷_
+              Row.off (List._∷_ Row.off (List._∷_ Row.off (List._∷_ Row.off List.[])))))))))))));
+        }
 
         abbrev G5 : Row.Cx
-        G5 = record { locals = List._++_ t0 t1; slots = List._∷_ (Row.lease (κs .0) (qs .0)) (List._∷_ (Row.lease (κs .1 .0) (qs .1 .0)) (List._∷_ (Row.lease (κs .1 .1 .0) (qs .1 .1 .0)) (List._∷_ (Row.lease (κs .1 .1 .1 .0) (qs .1 .1
-            .1 .0)) (List._∷_ (Row.lease (κs .1 .1 .1 .1 .0) (qs .1 .1 .1 .1 .0)) (List._∷_ (Row.lease (κs .1 .1 .1 .1 .1 .0) (qs .1 .1 .1 .1 .1 .0)) (List._∷_ Row.off (List._∷_ Row.off (List._∷_ Row.off (List._∷_ Row.off (List._∷_
-            Row.off (List._∷_ Row.off (List._∷_ Row.off (List._∷_ Row.off List.[]))))))))))))); }
+        G5 = record {
+          locals = List._++_ t0 t1;
+          slots = List._∷_ (Row.lease (κs .0) (qs .0)) (List._∷_ (Row.lease (κs .1 .0) (qs .1 .0)) (List._∷_ (Row.lease (κs .1 .1 .0) (qs .1 .1 .0)) (List._∷_ (Row.lease (κs .1 .1 .1 .0) (qs .1 .1
+              .1 .0)) (List._∷_ (Row.lease (κs .1 .1 .1 .1 .0) (qs .1 .1 .1 .1 .0)) (List._∷_ (Row.lease (κs .1 .1 .1 .1 .1 .0) (qs .1 .1 .1 .1 .1 .0)) (List._∷_ Row.off (List._∷_ Row.off (List._∷_ Row.off (List._∷_ Row.off (List._∷_
+              Row.off (List._∷_ Row.off (List._∷_ Row.off (List._∷_ Row.off List.[])))))))))))));
+        }
 
         abbrev G6 : Row.Cx
-        G6 = record { locals = List._++_ t0 t1; slots = List._∷_ (Row.lease (κs .0) (qs .0)) (List._∷_ (Row.lease (κs .1 .0) (qs .1 .0)) (List._∷_ (Row.lease (κs .1 .1 .0) (qs .1 .1 .0)) (List._∷_ (Row.lease (κs .1 .1 .1 .0) (qs .1 .1
-            .1 .0)) (List._∷_ (Row.lease (κs .1 .1 .1 .1 .0) (qs .1 .1 .1 .1 .0)) (List._∷_ (Row.lease (κs .1 .1 .1 .1 .1 .0) (qs .1 .1 .1 .1 .1 .0)) (List._∷_ Row.off (List._∷_ Row.off (List._∷_ Row.off (List._∷_ Row.off (List._∷_
-            Row.off (List._∷_ Row.off (List._∷_ Row.off (List._∷_ Row.off List.[]))))))))))))); }
+        G6 = record {
+          locals = List._++_ t0 t1;
+          slots = List._∷_ (Row.lease (κs .0) (qs .0)) (List._∷_ (Row.lease (κs .1 .0) (qs .1 .0)) (List._∷_ (Row.lease (κs .1 .1 .0) (qs .1 .1 .0)) (List._∷_ (Row.lease (κs .1 .1 .1 .0) (qs .1 .1
+              .1 .0)) (List._∷_ (Row.lease (κs .1 .1 .1 .1 .0) (qs .1 .1 .1 .1 .0)) (List._∷_ (Row.lease (κs .1 .1 .1 .1 .1 .0) (qs .1 .1 .1 .1 .1 .0)) (List._∷_ Row.off (List._∷_ Row.off (List._∷_ Row.off (List._∷_ Row.off (List._∷_
+              Row.off (List._∷_ Row.off (List._∷_ Row.off (List._∷_ Row.off List.[])))))))))))));
+        }
 
         abbrev G7 : Row.Cx
-        G7 = record { locals = List._++_ t3 t1; slots = List._∷_ (Row.lease (κs .0) (qs .0)) (List._∷_ (Row.lease (κs .1 .0) (qs .1 .0)) (List._∷_ (Row.lease (κs .1 .1 .0) (qs .1 .1 .0)) (List._∷_ (Row.lease (κs .1 .1 .1 .0) (qs .1 .1
-            .1 .0)) (List._∷_ (Row.lease (κs .1 .1 .1 .1 .0) (qs .1 .1 .1 .1 .0)) (List._∷_ (Row.lease (κs .1 .1 .1 .1 .1 .0) (qs .1 .1 .1 .1 .1 .0)) (List._∷_ Row.off (List._∷_ Row.off (List._∷_ Row.off (List._∷_ Row.off (List._∷_
-            Row.off (List._∷_ Row.off (List._∷_ Row.off (List._∷_ Row.off List.[]))))))))))))); }
+        G7 = record {
+          locals = List._++_ t3 t1;
+          slots = List._∷_ (Row.lease (κs .0) (qs .0)) (List._∷_ (Row.lease (κs .1 .0) (qs .1 .0)) (List._∷_ (Row.lease (κs .1 .1 .0) (qs .1 .1 .0)) (List._∷_ (Row.lease (κs .1 .1 .1 .0) (qs .1 .1
+              .1 .0)) (List._∷_ (Row.lease (κs .1 .1 .1 .1 .0) (qs .1 .1 .1 .1 .0)) (List._∷_ (Row.lease (κs .1 .1 .1 .1 .1 .0) (qs .1 .1 .1 .1 .1 .0)) (List._∷_ Row.off (List._∷_ Row.off (List._∷_ Row.off (List._∷_ Row.off (List._∷_
+              Row.off (List._∷_ Row.off (List._∷_ Row.off (List._∷_ Row.off List.[])))))))))))));
+        }
 
         abbrev G8 : Row.Cx
-        G8 = record { locals = List._++_ t3 t1; slots = List._∷_ (Row.lease (κs .0) (qs .0)) (List._∷_ (Row.lease (κs .1 .0) (qs .1 .0)) (List._∷_ (Row.lease (κs .1 .1 .0) (qs .1 .1 .0)) (List._∷_ (Row.lease (κs .1 .1 .1 .0) (qs .1 .1
-            .1 .0)) (List._∷_ (Row.lease (κs .1 .1 .1 .1 .0) (qs .1 .1 .1 .1 .0)) (List._∷_ (Row.lease (κs .1 .1 .1 .1 .1 .0) (qs .1 .1 .1 .1 .1 .0)) (List._∷_ Row.alive (List._∷_ Row.off (List._∷_ Row.off (List._∷_ Row.off (List._∷_
-            Row.off (List._∷_ Row.off (List._∷_ Row.off (List._∷_ Row.off List.[]))))))))))))); }
+        G8 = record {
+          locals = List._++_ t3 t1;
+          slots = List._∷_ (Row.lease (κs .0) (qs .0)) (List._∷_ (Row.lease (κs .1 .0) (qs .1 .0)) (List._∷_ (Row.lease (κs .1 .1 .0) (qs .1 .1 .0)) (List._∷_ (Row.lease (κs .1 .1 .1 .0) (qs .1 .1
+              .1 .0)) (List._∷_ (Row.lease (κs .1 .1 .1 .1 .0) (qs .1 .1 .1 .1 .0)) (List._∷_ (Row.lease (κs .1 .1 .1 .1 .1 .0) (qs .1 .1 .1 .1 .1 .0)) (List._∷_ Row.alive (List._∷_ Row.off (List._∷_ Row.off (List._∷_ Row.off (List._∷_
+              Row.off (List._∷_ Row.off (List._∷_ Row.off (List._∷_ Row.off List.[])))))))))))));
+        }
 
         abbrev G9 : Row.Cx
-        G9 = record { locals = List._++_ g4 t1; slots = List._∷_ (Row.lease (κs .0) (qs .0)) (List._∷_ Row.off (List._∷_ (Row.lease (κs .1 .1 .0) (qs .1 .1 .0)) (List._∷_ (Row.lease (κs .1 .1 .1 .0) (qs .1 .1 .1 .0)) (List._∷_
-            (Row.lease (κs .1 .1 .1 .1 .0) (qs .1 .1 .1 .1 .0)) (List._∷_ (Row.lease (κs .1 .1 .1 .1 .1 .0) (qs .1 .1 .1 .1 .1 .0)) (List._∷_ Row.alive (List._∷_ Row.off (List._∷_ Row.off (List._∷_ Row.off (List._∷_ Row.off (List._∷_
-            Row.off (List._∷_ Row.off (List._∷_ Row.off List.[]))))))))))))); }
+        G9 = record {
+          locals = List._++_ g4 t1;
+          slots = List._∷_ (Row.lease (κs .0) (qs .0)) (List._∷_ Row.off (List._∷_ (Row.lease (κs .1 .1 .0) (qs .1 .1 .0)) (List._∷_ (Row.lease (κs .1 .1 .1 .0) (qs .1 .1 .1 .0)) (List._∷_
+              (Row.lease (κs .1 .1 .1 .1 .0) (qs .1 .1 .1 .1 .0)) (List._∷_ (Row.lease (κs .1 .1 .1 .1 .1 .0) (qs .1 .1 .1 .1 .1 .0)) (List._∷_ Row.alive (List._∷_ Row.off (List._∷_ Row.off (List._∷_ Row.off (List._∷_ Row.off (List._∷_
+              Row.off (List._∷_ Row.off (List._∷_ Row.off List.[])))))))))))));
+        }
 
         abbrev G10 : Row.Cx
-        G10 = record { locals = List._++_ g5 t1; slots = List._∷_ (Row.lease (κs .0) (qs .0)) (List._∷_ Row.off (List._∷_ (Row.lease (κs .1 .1 .0) (qs .1 .1 .0)) (List._∷_ (Row.lease (κs .1 .1 .1 .0) (qs .1 .1 .1 .0)) (List._∷_
-            (Row.lease (κs .1 .1 .1 .1 .0) (qs .1 .1 .1 .1 .0)) (List._∷_ (Row.lease (κs .1 .1 .1 .1 .1 .0) (qs .1 .1 .1 .1 .1 .0)) (List._∷_ Row.alive (List._∷_ Row.off (List._∷_ Row.off (List._∷_ Row.off (List._∷_ Row.off (List._∷_
-            Row.off (List._∷_ Row.off (List._∷_ Row.off List.[]))))))))))))); }
+        G10 = record {
+          locals = List._++_ g5 t1;
+          slots = List._∷_ (Row.lease (κs .0) (qs .0)) (List._∷_ Row.off (List._∷_ (Row.lease (κs .1 .1 .0) (qs .1 .1 .0)) (List._∷_ (Row.lease (κs .1 .1 .1 .0) (qs .1 .1 .1 .0)) (List._∷_
+              (Row.lease (κs .1 .1 .1 .1 .0) (qs .1 .1 .1 .1 .0)) (List._∷_ (Row.lease (κs .1 .1 .1 .1 .1 .0) (qs .1 .1 .1 .1 .1 .0)) (List._∷_ Row.alive (List._∷_ Row.off (List._∷_ Row.off (List._∷_ Row.off (List._∷_ Row.off (List._∷_
+              Row.off (List._∷_ Row.off (List._∷_ Row.off List.[])))))))))))));
+        }
 
         abbrev G11 : Row.Cx
-        G11 = record { locals = List._++_ g6 t1; slots = List._∷_ (Row.lease (κs .0) (qs .0)) (List._∷_ Row.off (List._∷_ (Row.lease (κs .1 .1 .0) (qs .1 .1 .0)) (List._∷_ (Row.lease (κs .1 .1 .1 .0) (qs .1 .1 .1 .0)) (List._∷_
-            (Row.lease (κs .1 .1 .1 .1 .0) (qs .1 .1 .1 .1 .0)) (List._∷_ (Row.lease (κs .1 .1 .1 .1 .1 .0) (qs .1 .1 .1 .1 .1 .0)) (List._∷_ Row.alive (List._∷_ Row.off (List._∷_ Row.off (List._∷_ Row.off (List._∷_ Row.off (List._∷_
-            Row.off (List._∷_ Row.off (List._∷_ Row.off List.[]))))))))))))); }
+        G11 = record {
+          locals = List._++_ g6 t1;
+          slots = List._∷_ (Row.lease (κs .0) (qs .0)) (List._∷_ Row.off (List._∷_ (Row.lease (κs .1 .1 .0) (qs .1 .1 .0)) (List._∷_ (Row.lease (κs .1 .1 .1 .0) (qs .1 .1 .1 .0)) (List._∷_
+              (Row.lease (κs .1 .1 .1 .1 .0) (qs .1 .1 .1 .1 .0)) (List._∷_ (Row.lease (κs .1 .1 .1 .1 .1 .0) (qs .1 .1 .1 .1 .1 .0)) (List._∷_ Row.alive (List._∷_ Row.off (List._∷_ Row.off (List._∷_ Row.off (List._∷_ Row.off (List._∷_
+              Row.off (List._∷_ Row.off (List._∷_ Row.off List.[])))))))))))));
+        }
 
         abbrev G12 : Row.Cx
-        G12 = record { locals = List._++_ g7 t1; slots = List._∷_ (Row.lease (κs .0) (qs .0)) (List._∷_ Row.off (List._∷_ (Row.lease (κs .1 .1 .0) (qs .1 .1 .0)) (List._∷_ (Row.lease (κs .1 .1 .1 .0) (qs .1 .1 .1 .0)) (List._∷_
-            (Row.lease (κs .1 .1 .1 .1 .0) (qs .1 .1 .1 .1 .0)) (List._∷_ (Row.lease (κs .1 .1 .1 .1 .1 .0) (qs .1 .1 .1 .1 .1 .0)) (List._∷_ Row.alive (List._∷_ Row.off (List._∷_ Row.off (List._∷_ Row.off (List._∷_ Row.off (List._∷_
-            Row.off (List._∷_ Row.off (List._∷_ Row.off List.[]))))))))))))); }
+        G12 = record {
+          locals = List._++_ g7 t1;
+          slots = List._∷_ (Row.lease (κs .0) (qs .0)) (List._∷_ Row.off (List._∷_ (Row.lease (κs .1 .1 .0) (qs .1 .1 .0)) (List._∷_ (Row.lease (κs .1 .1 .1 .0) (qs .1 .1 .1 .0)) (List._∷_
+              (Row.lease (κs .1 .1 .1 .1 .0) (qs .1 .1 .1 .1 .0)) (List._∷_ (Row.lease (κs .1 .1 .1 .1 .1 .0) (qs .1 .1 .1 .1 .1 .0)) (List._∷_ Row.alive (List._∷_ Row.off (List._∷_ Row.off (List._∷_ Row.off (List._∷_ Row.off (List._∷_
+              Row.off (List._∷_ Row.off (List._∷_ Row.off List.[])))))))))))));
+        }
 
         abbrev G13 : Row.Cx
-        G13 = record { locals = List._++_ g7 t1; slots = List._∷_ (Row.lease (κs .0) (qs .0)) (List._∷_ Row.off (List._∷_ (Row.lease (κs .1 .1 .0) (qs .1 .1 .0)) (List._∷_ (Row.lease (κs .1 .1 .1 .0) (qs .1 .1 .1 .0)) (List._∷_
-            (Row.lease (κs .1 .1 .1 .1 .0) (qs .1 .1 .1 .1 .0)) (List._∷_ (Row.lease (κs .1 .1 .1 .1 .1 .0) (qs .1 .1 .1 .1 .1 .0)) (List._∷_ Row.dead (List._∷_ Row.off (List._∷_ Row.off (List._∷_ Row.off (List._∷_ Row.off (List._∷_
-            Row.off (List._∷_ Row.off (List._∷_ Row.off List.[]))))))))))))); }
+        G13 = record {
+          locals = List._++_ g7 t1;
+          slots = List._∷_ (Row.lease (κs .0) (qs .0)) (List._∷_ Row.off (List._∷_ (Row.lease (κs .1 .1 .0) (qs .1 .1 .0)) (List._∷_ (Row.lease (κs .1 .1 .1 .0) (qs .1 .1 .1 .0)) (List._∷_
+              (Row.lease (κs .1 .1 .1 .1 .0) (qs .1 .1 .1 .1 .0)) (List._∷_ (Row.lease (κs .1 .1 .1 .1 .1 .0) (qs .1 .1 .1 .1 .1 .0)) (List._∷_ Row.dead (List._∷_ Row.off (List._∷_ Row.off (List._∷_ Row.off (List._∷_ Row.off (List._∷_
+              Row.off (List._∷_ Row.off (List._∷_ Row.off List.[])))))))))))));
+        }
 
         abbrev G14 : Row.Cx
-        G14 = record { locals = List._++_ t8 t1; slots = List._∷_ (Row.lease (κs .0) (qs .0)) (List._∷_ (Row.lease (κs .1 .0) (qs .1 .0)) (List._∷_ (Row.lease (κs .1 .1 .0) (qs .1 .1 .0)) (List._∷_ (Row.lease (κs .1 .1 .1 .0) (qs .1 .1
-            .1 .0)) (List._∷_ (Row.lease (κs .1 .1 .1 .1 .0) (qs .1 .1 .1 .1 .0)) (List._∷_ (Row.lease (κs .1 .1 .1 .1 .1 .0) (qs .1 .1 .1 .1 .1 .0)) (List._∷_ Row.dead (List._∷_ Row.off (List._∷_ Row.off (List._∷_ Row.off (List._∷_
-            Row.off (List._∷_ Row.off (List._∷_ Row.off (List._∷_ Row.off List.[]))))))))))))); }
+        G14 = record {
+          locals = List._++_ t8 t1;
+          slots = List._∷_ (Row.lease (κs .0) (qs .0)) (List._∷_ (Row.lease (κs .1 .0) (qs .1 .0)) (List._∷_ (Row.lease (κs .1 .1 .0) (qs .1 .1 .0)) (List._∷_ (Row.lease (κs .1 .1 .1 .0) (qs .1 .1
+              .1 .0)) (List._∷_ (Row.lease (κs .1 .1 .1 .1 .0) (qs .1 .1 .1 .1 .0)) (List._∷_ (Row.lease (κs .1 .1 .1 .1 .1 .0) (qs .1 .1 .1 .1 .1 .0)) (List._∷_ Row.dead (List._∷_ Row.off (List._∷_ Row.off (List._∷_ Row.off (List._∷_
+              Row.off (List._∷_ Row.off (List._∷_ Row.off (List._∷_ Row.off List.[])))))))))))));
+        }
 
         abbrev G15 : Row.Cx
-        G15 = record { locals = List._++_ t8 t1; slots = List._∷_ (Row.lease (κs .0) (qs .0)) (List._∷_ (Row.lease (κs .1 .0) (qs .1 .0)) (List._∷_ (Row.lease (κs .1 .1 .0) (qs .1 .1 .0)) (List._∷_ (Row.lease (κs .1 .1 .1 .0) (qs .1 .1
-            .1 .0)) (List._∷_ (Row.lease (κs .1 .1 .1 .1 .0) (qs .1 .1 .1 .1 .0)) (List._∷_ (Row.lease (κs .1 .1 .1 .1 .1 .0) (qs .1 .1 .1 .1 .1 .0)) (List._∷_ Row.off (List._∷_ Row.off (List._∷_ Row.off (List._∷_ Row.off (List._∷_
-            Row.off (List._∷_ Row.off (List._∷_ Row.off (List._∷_ Row.off List.[]))))))))))))); }
+        G15 = record {
+          locals = List._++_ t8 t1;
+          slots = List._∷_ (Row.lease (κs .0) (qs .0)) (List._∷_ (Row.lease (κs .1 .0) (qs .1 .0)) (List._∷_ (Row.lease (κs .1 .1 .0) (qs .1 .1 .0)) (List._∷_ (Row.lease (κs .1 .1 .1 .0) (qs .1 .1
+              .1 .0)) (List._∷_ (Row.lease (κs .1 .1 .1 .1 .0) (qs .1 .1 .1 .1 .0)) (List._∷_ (Row.lease (κs .1 .1 .1 .1 .1 .0) (qs .1 .1 .1 .1 .1 .0)) (List._∷_ Row.off (List._∷_ Row.off (List._∷_ Row.off (List._∷_ Row.off (List._∷_
+              Row.off (List._∷_ Row.off (List._∷_ Row.off (List._∷_ Row.off List.[])))))))))))));
+        }
 
         abbrev G16 : Row.Cx
-        G16 = record { locals = List._++_ t8 t1; slots = List._∷_ (Row.lease (κs .0) (qs .0)) (List._∷_ (Row.lease (κs .1 .0) (qs .1 .0)) (List._∷_ (Row.lease (κs .1 .1 .0) (qs .1 .1 .0)) (List._∷_ (Row.lease (κs .1 .1 .1 .0) (qs .1 .1
-            .1 .0)) (List._∷_ (Row.lease (κs .1 .1 .1 .1 .0) (qs .1 .1 .1 .1 .0)) (List._∷_ (Row.lease (κs .1 .1 .1 .1 .1 .0) (qs .1 .1 .1 .1 .1 .0)) (List._∷_ Row.off (List._∷_ Row.alive (List._∷_ Row.off (List._∷_ Row.off (List._∷_
-            Row.off (List._∷_ Row.off (List._∷_ Row.off (List._∷_ Row.off List.[]))))))))))))); }
+        G16 = record {
+          locals = List._++_ t8 t1;
+          slots = List._∷_ (Row.lease (κs .0) (qs .0)) (List._∷_ (Row.lease (κs .1 .0) (qs .1 .0)) (List._∷_ (Row.lease (κs .1 .1 .0) (qs .1 .1 .0)) (List._∷_ (Row.lease (κs .1 .1 .1 .0) (qs .1 .1
+              .1 .0)) (List._∷_ (Row.lease (κs .1 .1 .1 .1 .0) (qs .1 .1 .1 .1 .0)) (List._∷_ (Row.lease (κs .1 .1 .1 .1 .1 .0) (qs .1 .1 .1 .1 .1 .0)) (List._∷_ Row.off (List._∷_ Row.alive (List._∷_ Row.off (List._∷_ Row.off (List._∷_
+              Row.off (List._∷_ Row.off (List._∷_ Row.off (List._∷_ Row.off List.[])))))))))))));
+        }
 
         abbrev G17 : Row.Cx
-        G17 = record { locals = List._++_ g9 t10; slots = List._∷_ Row.off (List._∷_ (Row.lease (κs .1 .0) (qs .1 .0)) (List._∷_ (Row.lease (κs .1 .1 .0) (qs .1 .1 .0)) (List._∷_ (Row.lease (κs .1 .1 .1 .0) (qs .1 .1 .1 .0)) (List._∷_
-            (Row.lease (κs .1 .1 .1 .1 .0) (qs .1 .1 .1 .1 .0)) (List._∷_ (Row.lease (κs .1 .1 .1 .1 .1 .0) (qs .1 .1 .1 .1 .1 .0)) (List._∷_ Row.off (List._∷_ Row.alive (List._∷_ Row.off (List._∷_ Row.off (List._∷_ Row.off (List._∷_
-            Row.off (List._∷_ Row.off (List._∷_ Row.off List.[]))))))))))))); }
+        G17 = record {
+          locals = List._++_ g9 t10;
+          slots = List._∷_ Row.off (List._∷_ (Row.lease (κs .1 .0) (qs .1 .0)) (List._∷_ (Row.lease (κs .1 .1 .0) (qs .1 .1 .0)) (List._∷_ (Row.lease (κs .1 .1 .1 .0) (qs .1 .1 .1 .0)) (List._∷_
+              (Row.lease (κs .1 .1 .1 .1 .0) (qs .1 .1 .1 .1 .0)) (List._∷_ (Row.lease (κs .1 .1 .1 .1 .1 .0) (qs .1 .1 .1 .1 .1 .0)) (List._∷_ Row.off (List._∷_ Row.alive (List._∷_ Row.off (List._∷_ Row.off (List._∷_ Row.off (List._∷_
+              Row.off (List._∷_ Row.off (List._∷_ Row.off List.[])))))))))))));
+        }
 
         abbrev G18 : Row.Cx
-        G18 = record { locals = List._++_ g9 t11; slots = List._∷_ Row.off (List._∷_ (Row.lease (κs .1 .0) (qs .1 .0)) (List._∷_ (Row.lease (κs .1 .1 .0) (qs .1 .1 .0)) (List._∷_ (Row.lease (κs .1 .1 .1 .0) (qs .1 .1 .1 .0)) (List._∷_
-            (Row.lease (κs .1 .1 .1 .1 .0) (qs .1 .1 .1 .1 .0)) (List._∷_ (Row.lease (κs .1 .1 .1 .1 .1 .0) (qs .1 .1 .1 .1 .1 .0)) (List._∷_ Row.off (List._∷_ Row.alive (List._∷_ Row.off (List._∷_ Row.off (List._∷_ Row.off (List._∷_
-            Row.off (List._∷_ Row.off (List._∷_ Row.off List.[]))))))))))))); }
+        G18 = record {
+          locals = List._++_ g9 t11;
+          slots = List._∷_ Row.off (List._∷_ (Row.lease (κs .1 .0) (qs .1 .0)) (List._∷_ (Row.lease (κs .1 .1 .0) (qs .1 .1 .0)) (List._∷_ (Row.lease (κs .1 .1 .1 .0) (qs .1 .1 .1 .0)) (List._∷_
+              (Row.lease (κs .1 .1 .1 .1 .0) (qs .1 .1 .1 .1 .0)) (List._∷_ (Row.lease (κs .1 .1 .1 .1 .1 .0) (qs .1 .1 .1 .1 .1 .0)) (List._∷_ Row.off (List._∷_ Row.alive (List._∷_ Row.off (List._∷_ Row.off (List._∷_ Row.off (List._∷_
+              Row.off (List._∷_ Row.off (List._∷_ Row.off List.[])))))))))))));
+        }
 
         abbrev G19 : Row.Cx
-        G19 = record { locals = List._++_ g12 t11; slots = List._∷_ Row.off (List._∷_ (Row.lease (κs .1 .0) (qs .1 .0)) (List._∷_ (Row.lease (κs .1 .1 .0) (qs .1 .1 .0)) (List._∷_ (Row.lease (κs .1 .1 .1 .0) (qs .1 .1 .1 .0)) (List._∷_
-            (Row.lease (κs .1 .1 .1 .1 .0) (qs .1 .1 .1 .1 .0)) (List._∷_ (Row.lease (κs .1 .1 .1 .1 .1 .0) (qs .1 .1 .1 .1 .1 .0)) (List._∷_ Row.off (List._∷_ Row.alive (List._∷_ Row.off (List._∷_ Row.off (List._∷_ Row.off (List._∷_
-            Row.off (List._∷_ Row.off (List._∷_ Row.off List.[]))))))))))))); }
+        G19 = record {
+          locals = List._++_ g12 t11;
+          slots = List._∷_ Row.off (List._∷_ (Row.lease (κs .1 .0) (qs .1 .0)) (List._∷_ (Row.lease (κs .1 .1 .0) (qs .1 .1 .0)) (List._∷_ (Row.lease (κs .1 .1 .1 .0) (qs .1 .1 .1 .0)) (List._∷_
+              (Row.lease (κs .1 .1 .1 .1 .0) (qs .1 .1 .1 .1 .0)) (List._∷_ (Row.lease (κs .1 .1 .1 .1 .1 .0) (qs .1 .1 .1 .1 .1 .0)) (List._∷_ Row.off (List._∷_ Row.alive (List._∷_ Row.off (List._∷_ Row.off (List._∷_ Row.off (List._∷_
+              Row.off (List._∷_ Row.off (List._∷_ Row.off List.[])))))))))))));
+        }
 
         abbrev G20 : Row.Cx
-        G20 = record { locals = List._++_ g12 t1; slots = List._∷_ Row.off (List._∷_ (Row.lease (κs .1 .0) (qs .1 .0)) (List._∷_ (Row.lease (κs .1 .1 .0) (qs .1 .1 .0)) (List._∷_ (Row.lease (κs .1 .1 .1 .0) (qs .1 .1 .1 .0)) (List._∷_
-            (Row.lease (κs .1 .1 .1 .1 .0) (qs .1 .1 .1 .1 .0)) (List._∷_ (Row.lease (κs .1 .1 .1 .1 .1 .0) (qs .1 .1 .1 .1 .1 .0)) (List._∷_ Row.off (List._∷_ Row.alive (List._∷_ Row.off (List._∷_ Row.off (List._∷_ Row.off (List._∷_
-            Row.off (List._∷_ Row.off (List._∷_ Row.off List.[]))))))))))))); }
+        G20 = record {
+          locals = List._++_ g12 t1;
+          slots = List._∷_ Row.off (List._∷_ (Row.lease (κs .1 .0) (qs .1 .0)) (List._∷_ (Row.lease (κs .1 .1 .0) (qs .1 .1 .0)) (List._∷_ (Row.lease (κs .1 .1 .1 .0) (qs .1 .1 .1 .0)) (List._∷_
+              (Row.lease (κs .1 .1 .1 .1 .0) (qs .1 .1 .1 .1 .0)) (List._∷_ (Row.lease (κs .1 .1 .1 .1 .1 .0) (qs .1 .1 .1 .1 .1 .0)) (List._∷_ Row.off (List._∷_ Row.alive (List._∷_ Row.off (List._∷_ Row.off (List._∷_ Row.off (List._∷_
+              Row.off (List._∷_ Row.off (List._∷_ Row.off List.[])))))))))))));
+        }
 
         abbrev G21 : Row.Cx
-        G21 = record { locals = List._++_ g12 t1; slots = List._∷_ Row.off (List._∷_ (Row.lease (κs .1 .0) (qs .1 .0)) (List._∷_ (Row.lease (κs .1 .1 .0) (qs .1 .1 .0)) (List._∷_ (Row.lease (κs .1 .1 .1 .0) (qs .1 .1 .1 .0)) (List._∷_
-            (Row.lease (κs .1 .1 .1 .1 .0) (qs .1 .1 .1 .1 .0)) (List._∷_ (Row.lease (κs .1 .1 .1 .1 .1 .0) (qs .1 .1 .1 .1 .1 .0)) (List._∷_ Row.off (List._∷_ Row.dead (List._∷_ Row.off (List._∷_ Row.off (List._∷_ Row.off (List._∷_
-            Row.off (List._∷_ Row.off (List._∷_ Row.off List.[]))))))))))))); }
+        G21 = record {
+          locals = List._++_ g12 t1;
+          slots = List._∷_ Row.off (List._∷_ (Row.lease (κs .1 .0) (qs .1 .0)) (List._∷_ (Row.lease (κs .1 .1 .0) (qs .1 .1 .0)) (List._∷_ (Row.lease (κs .1 .1 .1 .0) (qs .1 .1 .1 .0)) (List._∷_
+              (Row.lease (κs .1 .1 .1 .1 .0) (qs .1 .1 .1 .1 .0)) (List._∷_ (Row.lease (κs .1 .1 .1 .1 .1 .0) (qs .1 .1 .1 .1 .1 .0)) (List._∷_ Row.off (List._∷_ Row.dead (List._∷_ Row.off (List._∷_ Row.off (List._∷_ Row.off (List._∷_
+              Row.off (List._∷_ Row.off (List._∷_ Row.off List.[])))))))))))));
+        }
 
         abbrev G22 : Row.Cx
-        G22 = record { locals = List._++_ t13 t1; slots = List._∷_ (Row.lease (κs .0) (qs .0)) (List._∷_ (Row.lease (κs .1 .0) (qs .1 .0)) (List._∷_ (Row.lease (κs .1 .1 .0) (qs .1 .1 .0)) (List._∷_ (Row.lease (κs .1 .1 .1 .0) (qs .1
-            .1 .1 .0)) (List._∷_ (Row.lease (κs .1 .1 .1 .1 .0) (qs .1 .1 .1 .1 .0)) (List._∷_ (Row.lease (κs .1 .1 .1 .1 .1 .0) (qs .1 .1 .1 .1 .1 .0)) (List._∷_ Row.off (List._∷_ Row.dead (List._∷_ Row.off (List._∷_ Row.off (List._∷_
-            Row.off (List._∷_ Row.off (List._∷_ Row.off (List._∷_ Row.off List.[]))))))))))))); }
+        G22 = record {
+          locals = List._++_ t13 t1;
+          slots = List._∷_ (Row.lease (κs .0) (qs .0)) (List._∷_ (Row.lease (κs .1 .0) (qs .1 .0)) (List._∷_ (Row.lease (κs .1 .1 .0) (qs .1 .1 .0)) (List._∷_ (Row.lease (κs .1 .1 .1 .0) (qs .1
+              .1 .1 .0)) (List._∷_ (Row.lease (κs .1 .1 .1 .1 .0) (qs .1 .1 .1 .1 .0)) (List._∷_ (Row.lease (κs .1 .1 .1 .1 .1 .0) (qs .1 .1 .1 .1 .1 .0)) (List._∷_ Row.off (List._∷_ Row.dead (List._∷_ Row.off (List._∷_ Row.off (List._∷_
+              Row.off (List._∷_ Row.off (List._∷_ Row.off (List._∷_ Row.off List.[])))))))))))));
+        }
 
         abbrev G23 : Row.Cx
-        G23 = record { locals = List._++_ t13 t1; slots = List._∷_ (Row.lease (κs .0) (qs .0)) (List._∷_ (Row.lease (κs .1 .0) (qs .1 .0)) (List._∷_ (Row.lease (κs .1 .1 .0) (qs .1 .1 .0)) (List._∷_ (Row.lease (κs .1 .1 .1 .0) (qs .1
-            .1 .1 .0)) (List._∷_ (Row.lease (κs .1 .1 .1 .1 .0) (qs .1 .1 .1 .1 .0)) (List._∷_ (Row.lease (κs .1 .1 .1 .1 .1 .0) (qs .1 .1 .1 .1 .1 .0)) (List._∷_ Row.off (List._∷_ Row.off (List._∷_ Row.off (List._∷_ Row.off (List._∷_
-            Row.off (List._∷_ Row.off (List._∷_ Row.off (List._∷_ Row.off List.[]))))))))))))); }
+        G23 = record {
+          locals = List._++_ t13 t1;
+          slots = List._∷_ (Row.lease (κs .0) (qs .0)) (List._∷_ (Row.lease (κs .1 .0) (qs .1 .0)) (List._∷_ (Row.lease (κs .1 .1 .0) (qs .1 .1 .0)) (List._∷_ (Row.lease (κs .1 .1 .1 .0) (qs .1
+              .1 .1 .0)) (List._∷_ (Row.lease (κs .1 .1 .1 .1 .0) (qs .1 .1 .1 .1 .0)) (List._∷_ (Row.lease (κs .1 .1 .1 .1 .1 .0) (qs .1 .1 .1 .1 .1 .0)) (List._∷_ Row.off (List._∷_ Row.off (List._∷_ Row.off (List._∷_ Row.off (List._∷_
+              Row.off (List._∷_ Row.off (List._∷_ Row.off (List._∷_ Row.off List.[])))))))))))));
+        }
 
         abbrev G24 : Row.Cx
-        G24 = record { locals = List._++_ t14 t1; slots = List._∷_ (Row.lease (κs .0) (qs .0)) (List._∷_ (Row.lease (κs .1 .0) (qs .1 .0)) (List._∷_ (Row.lease (κs .1 .1 .0) (qs .1 .1 .0)) (List._∷_ (Row.lease (κs .1 .1 .1 .0) (qs .1
-            .1 .1 .0)) (List._∷_ (Row.lease (κs .1 .1 .1 .1 .0) (qs .1 .1 .1 .1 .0)) (List._∷_ (Row.lease (κs .1 .1 .1 .1 .1 .0) (qs .1 .1 .1 .1 .1 .0)) (List._∷_ Row.off (List._∷_ Row.off (List._∷_ Row.off (List._∷_ Row.off (List._∷_
-            Row.off (List._∷_ Row.off (List._∷_ Row.off (List._∷_ Row.off List.[]))))))))))))); }
+        G24 = record {
+          locals = List._++_ t14 t1;
+          slots = List._∷_ (Row.lease (κs .0) (qs .0)) (List._∷_ (Row.lease (κs .1 .0) (qs .1 .0)) (List._∷_ (Row.lease (κs .1 .1 .0) (qs .1 .1 .0)) (List._∷_ (Row.lease (κs .1 .1 .1 .0) (qs .1
+              .1 .1 .0)) (List._∷_ (Row.lease (κs .1 .1 .1 .1 .0) (qs .1 .1 .1 .1 .0)) (List._∷_ (Row.lease (κs .1 .1 .1 .1 .1 .0) (qs .1 .1 .1 .1 .1 .0)) (List._∷_ Row.off (List._∷_ Row.off (List._∷_ Row.off (List._∷_ Row.off (List._∷_
+              Row.off (List._∷_ Row.off (List._∷_ Row.off (List._∷_ Row.off List.[])))))))))))));
+        }
 
         abbrev G25 : Row.Cx
-        G25 = record { locals = List._++_ t15 t1; slots = List._∷_ (Row.lease (κs .0) (qs .0)) (List._∷_ (Row.lease (κs .1 .0) (qs .1 .0)) (List._∷_ (Row.lease (κs .1 .1 .0) (qs .1 .1 .0)) (List._∷_ (Row.lease (κs .1 .1 .1 .0) (qs .1
-            .1 .1 .0)) (List._∷_ (Row.lease (κs .1 .1 .1 .1 .0) (qs .1 .1 .1 .1 .0)) (List._∷_ (Row.lease (κs .1 .1 .1 .1 .1 .0) (qs .1 .1 .1 .1 .1 .0)) (List._∷_ Row.off (List._∷_ Row.off (List._∷_ Row.off (List._∷_ Row.off (List._∷_
-            Row.off (List._∷_ Row.off (List._∷_ Row.off (List._∷_ Row.off List.[]))))))))))))); }
+        G25 = record {
+          locals = List._++_ t15 t1;
+          slots = List._∷_ (Row.lease (κs .0) (qs .0)) (List._∷_ (Row.lease (κs .1 .0) (qs .1 .0)) (List._∷_ (Row.lease (κs .1 .1 .0) (qs .1 .1 .0)) (List._∷_ (Row.lease (κs .1 .1 .1 .0) (qs .1
+              .1 .1 .0)) (List._∷_ (Row.lease (κs .1 .1 .1 .1 .0) (qs .1 .1 .1 .1 .0)) (List._∷_ (Row.lease (κs .1 .1 .1 .1 .1 .0) (qs .1 .1 .1 .1 .1 .0)) (List._∷_ Row.off (List._∷_ Row.off (List._∷_ Row.off (List._∷_ Row.off (List._∷_
+              Row.off (List._∷_ Row.off (List._∷_ Row.off (List._∷_ Row.off List.[])))))))))))));
+        }
 
         abbrev G26 : Row.Cx
-        G26 = record { locals = List._++_ t15 t1; slots = List._∷_ (Row.lease (κs .0) (qs .0)) (List._∷_ (Row.lease (κs .1 .0) (qs .1 .0)) (List._∷_ (Row.lease (κs .1 .1 .0) (qs .1 .1 .0)) (List._∷_ (Row.lease (κs .1 .1 .1 .0) (qs .1
-            .1 .1 .0)) (List._∷_ (Row.lease (κs .1 .1 .1 .1 .0) (qs .1 .1 .1 .1 .0)) (List._∷_ (Row.lease (κs .1 .1 .1 .1 .1 .0) (qs .1 .1 .1 .1 .1 .0)) (List._∷_ Row.off (List._∷_ Row.off (List._∷_ Row.alive (List._∷_ Row.off
-            (List._∷_ Row.off (List._∷_ Row.off (List._∷_ Row.off (List._∷_ Row.off List.[]))))))))))))); }
+        G26 = record {
+          locals = List._++_ t15 t1;
+          slots = List._∷_ (Row.lease (κs .0) (qs .0)) (List._∷_ (Row.lease (κs .1 .0) (qs .1 .0)) (List._∷_ (Row.lease (κs .1 .1 .0) (qs .1 .1 .0)) (List._∷_ (Row.lease (κs .1 .1 .1 .0) (qs .1
+              .1 .1 .0)) (List._∷_ (Row.lease (κs .1 .1 .1 .1 .0) (qs .1 .1 .1 .1 .0)) (List._∷_ (Row.lease (κs .1 .1 .1 .1 .1 .0) (qs .1 .1 .1 .1 .1 .0)) (List._∷_ Row.off (List._∷_ Row.off (List._∷_ Row.alive (List._∷_ Row.off
+              (List._∷_ Row.off (List._∷_ Row.off (List._∷_ Row.off (List._∷_ Row.off List.[])))))))))))));
+        }
 
         abbrev G27 : Row.Cx
-        G27 = record { locals = List._++_ t16 t17; slots = List._∷_ (Row.lease (κs .0) (qs .0)) (List._∷_ (Row.lease (κs .1 .0) (qs .1 .0)) (List._∷_ (Row.lease (κs .1 .1 .0) (qs .1 .1 .0)) (List._∷_ (Row.lease (κs .1 .1 .1 .0) (qs .1
-            .1 .1 .0)) (List._∷_ (Row.lease (κs .1 .1 .1 .1 .0) (qs .1 .1 .1 .1 .0)) (List._∷_ (Row.lease (κs .1 .1 .1 .1 .1 .0) (qs .1 .1 .1 .1 .1 .0)) (List._∷_ Row.off (List._∷_ Row.off (List._∷_ Row.alive (List._∷_ Row.off
-            (List._∷_ Row.off (List._∷_ Row.off (List._∷_ Row.off (List._∷_ Row.off List.[]))))))))))))); }
+        G27 = record {
+          locals = List._++_ t16 t17;
+          slots = List._∷_ (Row.lease (κs .0) (qs .0)) (List._∷_ (Row.lease (κs .1 .0) (qs .1 .0)) (List._∷_ (Row.lease (κs .1 .1 .0) (qs .1 .1 .0)) (List._∷_ (Row.lease (κs .1 .1 .1 .0) (qs .1
+              .1 .1 .0)) (List._∷_ (Row.lease (κs .1 .1 .1 .1 .0) (qs .1 .1 .1 .1 .0)) (List._∷_ (Row.lease (κs .1 .1 .1 .1 .1 .0) (qs .1 .1 .1 .1 .1 .0)) (List._∷_ Row.off (List._∷_ Row.off (List._∷_ Row.alive (List._∷_ Row.off
+              (List._∷_ Row.off (List._∷_ Row.off (List._∷_ Row.off (List._∷_ Row.off List.[])))))))))))));
+        }
 
         abbrev G28 : Row.Cx
-        G28 = record { locals = List._++_ t16 t18; slots = List._∷_ (Row.lease (κs .0) (qs .0)) (List._∷_ (Row.lease (κs .1 .0) (qs .1 .0)) (List._∷_ (Row.lease (κs .1 .1 .0) (qs .1 .1 .0)) (List._∷_ (Row.lease (κs .1 .1 .1 .0) (qs .1
-            .1 .1 .0)) (List._∷_ (Row.lease (κs .1 .1 .1 .1 .0) (qs .1 .1 .1 .1 .0)) (List._∷_ (Row.lease (κs .1 .1 .1 .1 .1 .0) (qs .1 .1 .1 .1 .1 .0)) (List._∷_ Row.off (List._∷_ Row.off (List._∷_ Row.alive (List._∷_ Row.off
-            (List._∷_ Row.off (List._∷_ Row.off (List._∷_ Row.off (List._∷_ Row.off List.[]))))))))))))); }
+        G28 = record {
+          locals = List._++_ t16 t18;
+          slots = List._∷_ (Row.lease (κs .0) (qs .0)) (List._∷_ (Row.lease (κs .1 .0) (qs .1 .0)) (List._∷_ (Row.lease (κs .1 .1 .0) (qs .1 .1 .0)) (List._∷_ (Row.lease (κs .1 .1 .1 .0) (qs .1
+              .1 .1 .0)) (List._∷_ (Row.lease (κs .1 .1 .1 .1 .0) (qs .1 .1 .1 .1 .0)) (List._∷_ (Row.lease (κs .1 .1 .1 .1 .1 .0) (qs .1 .1 .1 .1 .1 .0)) (List._∷_ Row.off (List._∷_ Row.off (List._∷_ Row.alive (List._∷_ Row.off
+              (List._∷_ Row.off (List._∷_ Row.off (List._∷_ Row.off (List._∷_ Row.off List.[])))))))))))));
+        }
 
         abbrev G29 : Row.Cx
-        G29 = record { locals = List._++_ t16 t18; slots = List._∷_ (Row.lease (κs .0) (qs .0)) (List._∷_ (Row.lease (κs .1 .0) (qs .1 .0)) (List._∷_ (Row.lease (κs .1 .1 .0) (qs .1 .1 .0)) (List._∷_ (Row.lease (κs .1 .1 .1 .0) (qs .1
-            .1 .1 .0)) (List._∷_ (Row.lease (κs .1 .1 .1 .1 .0) (qs .1 .1 .1 .1 .0)) (List._∷_ (Row.lease (κs .1 .1 .1 .1 .1 .0) (qs .1 .1 .1 .1 .1 .0)) (List._∷_ Row.off (List._∷_ Row.off (List._∷_ Row.alive (List._∷_ Row.alive
-            (List._∷_ Row.off (List._∷_ Row.off (List._∷_ Row.off (List._∷_ Row.off List.[]))))))))))))); }
+        G29 = record {
+          locals = List._++_ t16 t18;
+          slots = List._∷_ (Row.lease (κs .0) (qs .0)) (List._∷_ (Row.lease (κs .1 .0) (qs .1 .0)) (List._∷_ (Row.lease (κs .1 .1 .0) (qs .1 .1 .0)) (List._∷_ (Row.lease (κs .1 .1 .1 .0) (qs .1
+              .1 .1 .0)) (List._∷_ (Row.lease (κs .1 .1 .1 .1 .0) (qs .1 .1 .1 .1 .0)) (List._∷_ (Row.lease (κs .1 .1 .1 .1 .1 .0) (qs .1 .1 .1 .1 .1 .0)) (List._∷_ Row.off (List._∷_ Row.off (List._∷_ Row.alive (List._∷_ Row.alive
+              (List._∷_ Row.off (List._∷_ Row.off (List._∷_ Row.off (List._∷_ Row.off List.[])))))))))))));
+        }
 
         abbrev G30 : Row.Cx
-        G30 = record { locals = List._++_ g19 t20; slots = List._∷_ (Row.lease (κs .0) (qs .0)) (List._∷_ Row.off (List._∷_ (Row.lease (κs .1 .1 .0) (qs .1 .1 .0)) (List._∷_ (Row.lease (κs .1 .1 .1 .0) (qs .1 .1 .1 .0)) (List._∷_
-            (Row.lease (κs .1 .1 .1 .1 .0) (qs .1 .1 .1 .1 .0)) (List._∷_ (Row.lease (κs .1 .1 .1 .1 .1 .0) (qs .1 .1 .1 .1 .1 .0)) (List._∷_ Row.off (List._∷_ Row.off (List._∷_ Row.alive (List._∷_ Row.alive (List._∷_ Row.off (List._∷_
-            Row.off (List._∷_ Row.off (List._∷_ Row.off List.[]))))))))))))); }
+        G30 = record {
+          locals = List._++_ g19 t20;
+          slots = List._∷_ (Row.lease (κs .0) (qs .0)) (List._∷_ Row.off (List._∷_ (Row.lease (κs .1 .1 .0) (qs .1 .1 .0)) (List._∷_ (Row.lease (κs .1 .1 .1 .0) (qs .1 .1 .1 .0)) (List._∷_
+              (Row.lease (κs .1 .1 .1 .1 .0) (qs .1 .1 .1 .1 .0)) (List._∷_ (Row.lease (κs .1 .1 .1 .1 .1 .0) (qs .1 .1 .1 .1 .1 .0)) (List._∷_ Row.off (List._∷_ Row.off (List._∷_ Row.alive (List._∷_ Row.alive (List._∷_ Row.off (List._∷_
+              Row.off (List._∷_ Row.off (List._∷_ Row.off List.[])))))))))))));
+        }
 
         abbrev G31 : Row.Cx
-        G31 = record { locals = List._++_ g19 t21; slots = List._∷_ (Row.lease (κs .0) (qs .0)) (List._∷_ Row.off (List._∷_ (Row.lease (κs .1 .1 .0) (qs .1 .1 .0)) (List._∷_ (Row.lease (κs .1 .1 .1 .0) (qs .1 .1 .1 .0)) (List._∷_
-            (Row.lease (κs .1 .1 .1 .1 .0) (qs .1 .1 .1 .1 .0)) (List._∷_ (Row.lease (κs .1 .1 .1 .1 .1 .0) (qs .1 .1 .1 .1 .1 .0)) (List._∷_ Row.off (List._∷_ Row.off (List._∷_ Row.alive (List._∷_ Row.alive (List._∷_ Row.off (List._∷_
-            Row.off (List._∷_ Row.off (List._∷_ Row.off List.[]))))))))))))); }
+        G31 = record {
+          locals = List._++_ g19 t21;
+          slots = List._∷_ (Row.lease (κs .0) (qs .0)) (List._∷_ Row.off (List._∷_ (Row.lease (κs .1 .1 .0) (qs .1 .1 .0)) (List._∷_ (Row.lease (κs .1 .1 .1 .0) (qs .1 .1 .1 .0)) (List._∷_
+              (Row.lease (κs .1 .1 .1 .1 .0) (qs .1 .1 .1 .1 .0)) (List._∷_ (Row.lease (κs .1 .1 .1 .1 .1 .0) (qs .1 .1 .1 .1 .1 .0)) (List._∷_ Row.off (List._∷_ Row.off (List._∷_ Row.alive (List._∷_ Row.alive (List._∷_ Row.off (List._∷_
+              Row.off (List._∷_ Row.off (List._∷_ Row.off List.[])))))))))))));
+        }
 
         abbrev G32 : Row.Cx
-        G32 = record { locals = List._++_ g19 t21; slots = List._∷_ (Row.lease (κs .0) (qs .0)) (List._∷_ Row.off (List._∷_ (Row.lease (κs .1 .1 .0) (qs .1 .1 .0)) (List._∷_ (Row.lease (κs .1 .1 .1 .0) (qs .1 .1 .1 .0)) (List._∷_
-            (Row.lease (κs .1 .1 .1 .1 .0) (qs .1 .1 .1 .1 .0)) (List._∷_ (Row.lease (κs .1 .1 .1 .1 .1 .0) (qs .1 .1 .1 .1 .1 .0)) (List._∷_ Row.off (List._∷_ Row.off (List._∷_ Row.alive (List._∷_ Row.alive (List._∷_ Row.alive
-            (List._∷_ Row.off (List._∷_ Row.off (List._∷_ Row.off List.[]))))))))))))); }
+        G32 = record {
+          locals = List._++_ g19 t21;
+          slots = List._∷_ (Row.lease (κs .0) (qs .0)) (List._∷_ Row.off (List._∷_ (Row.lease (κs .1 .1 .0) (qs .1 .1 .0)) (List._∷_ (Row.lease (κs .1 .1 .1 .0) (qs .1 .1 .1 .0)) (List._∷_
+              (Row.lease (κs .1 .1 .1 .1 .0) (qs .1 .1 .1 .1 .0)) (List._∷_ (Row.lease (κs .1 .1 .1 .1 .1 .0) (qs .1 .1 .1 .1 .1 .0)) (List._∷_ Row.off (List._∷_ Row.off (List._∷_ Row.alive (List._∷_ Row.alive (List._∷_ Row.alive
+              (List._∷_ Row.off (List._∷_ Row.off (List._∷_ Row.off List.[])))))))))))));
+        }
 
         abbrev G33 : Row.Cx
-        G33 = record { locals = List._++_ g22 t23; slots = List._∷_ (Row.lease (κs .0) (qs .0)) (List._∷_ Row.off (List._∷_ Row.off (List._∷_ (Row.lease (κs .1 .1 .1 .0) (qs .1 .1 .1 .0)) (List._∷_ (Row.lease (κs .1 .1 .1 .1 .0) (qs .1
-            .1 .1 .1 .0)) (List._∷_ (Row.lease (κs .1 .1 .1 .1 .1 .0) (qs .1 .1 .1 .1 .1 .0)) (List._∷_ Row.off (List._∷_ Row.off (List._∷_ Row.alive (List._∷_ Row.alive (List._∷_ Row.alive (List._∷_ Row.off (List._∷_ Row.off (List._∷_
-            Row.off List.[]))))))))))))); }
+        G33 = record {
+          locals = List._++_ g22 t23;
+          slots = List._∷_ (Row.lease (κs .0) (qs .0)) (List._∷_ Row.off (List._∷_ Row.off (List._∷_ (Row.lease (κs .1 .1 .1 .0) (qs .1 .1 .1 .0)) (List._∷_ (Row.lease (κs .1 .1 .1 .1 .0) (qs .1
+              .1 .1 .1 .0)) (List._∷_ (Row.lease (κs .1 .1 .1 .1 .1 .0) (qs .1 .1 .1 .1 .1 .0)) (List._∷_ Row.off (List._∷_ Row.off (List._∷_ Row.alive (List._∷_ Row.alive (List._∷_ Row.alive (List._∷_ Row.off (List._∷_ Row.off (List._∷_
+              Row.off List.[])))))))))))));
+        }
 
         abbrev G34 : Row.Cx
-        G34 = record { locals = List._++_ g22 t24; slots = List._∷_ (Row.lease (κs .0) (qs .0)) (List._∷_ Row.off (List._∷_ Row.off (List._∷_ (Row.lease (κs .1 .1 .1 .0) (qs .1 .1 .1 .0)) (List._∷_ (Row.lease (κs .1 .1 .1 .1 .0) (qs .1
-            .1 .1 .1 .0)) (List._∷_ (Row.lease (κs .1 .1 .1 .1 .1 .0) (qs .1 .1 .1 .1 .1 .0)) (List._∷_ Row.off (List._∷_ Row.off (List._∷_ Row.alive (List._∷_ Row.alive (List._∷_ Row.alive (List._∷_ Row.off (List._∷_ Row.off (List._∷_
-            Row.off List.[]))))))))))))); }
+        G34 = record {
+          locals = List._++_ g22 t24;
+          slots = List._∷_ (Row.lease (κs .0) (qs .0)) (List._∷_ Row.off (List._∷_ Row.off (List._∷_ (Row.lease (κs .1 .1 .1 .0) (qs .1 .1 .1 .0)) (List._∷_ (Row.lease (κs .1 .1 .1 .1 .0) (qs .1
+              .1 .1 .1 .0)) (List._∷_ (Row.lease (κs .1 .1 .1 .1 .1 .0) (qs .1 .1 .1 .1 .1 .0)) (List._∷_ Row.off (List._∷_ Row.off (List._∷_ Row.alive (List._∷_ Row.alive (List._∷_ Row.alive (List._∷_ Row.off (List._∷_ Row.off (List._∷_
+              Row.off List.[])))))))))))));
+        }
 
         abbrev G35 : Row.Cx
-        G35 = record { locals = List._++_ g22 t24; slots = List._∷_ (Row.lease (κs .0) (qs .0)) (List._∷_ Row.off (List._∷_ Row.off (List._∷_ (Row.lease (κs .1 .1 .1 .0) (qs .1 .1 .1 .0)) (List._∷_ (Row.lease (κs .1 .1 .1 .1 .0) (qs .1
-            .1 .1 .1 .0)) (List._∷_ (Row.lease (κs .1 .1 .1 .1 .1 .0) (qs .1 .1 .1 .1 .1 .0)) (List._∷_ Row.off (List._∷_ Row.off (List._∷_ Row.alive (List._∷_ Row.alive (List._∷_ Row.alive (List._∷_ Row.alive (List._∷_ Row.off
-            (List._∷_ Row.off List.[]))))))))))))); }
+        G35 = record {
+          locals = List._++_ g22 t24;
+          slots = List._∷_ (Row.lease (κs .0) (qs .0)) (List._∷_ Row.off (List._∷_ Row.off (List._∷_ (Row.lease (κs .1 .1 .1 .0) (qs .1 .1 .1 .0)) (List._∷_ (Row.lease (κs .1 .1 .1 .1 .0) (qs .1
+              .1 .1 .1 .0)) (List._∷_ (Row.lease (κs .1 .1 .1 .1 .1 .0) (qs .1 .1 .1 .1 .1 .0)) (List._∷_ Row.off (List._∷_ Row.off (List._∷_ Row.alive (List._∷_ Row.alive (List._∷_ Row.alive (List._∷_ Row.alive (List._∷_ Row.off
+              (List._∷_ Row.off List.[])))))))))))));
+        }
 
         abbrev G36 : Row.Cx
-        G36 = record { locals = List._++_ g25 t26; slots = List._∷_ (Row.lease (κs .0) (qs .0)) (List._∷_ Row.off (List._∷_ Row.off (List._∷_ Row.off (List._∷_ (Row.lease (κs .1 .1 .1 .1 .0) (qs .1 .1 .1 .1 .0)) (List._∷_ (Row.lease
-            (κs .1 .1 .1 .1 .1 .0) (qs .1 .1 .1 .1 .1 .0)) (List._∷_ Row.off (List._∷_ Row.off (List._∷_ Row.alive (List._∷_ Row.alive (List._∷_ Row.alive (List._∷_ Row.alive (List._∷_ Row.off (List._∷_ Row.off List.[]))))))))))))); }
+        G36 = record {
+          locals = List._++_ g25 t26;
+          slots = List._∷_ (Row.lease (κs .0) (qs .0)) (List._∷_ Row.off (List._∷_ Row.off (List._∷_ Row.off (List._∷_ (Row.lease (κs .1 .1 .1 .1 .0) (qs .1 .1 .1 .1 .0)) (List._∷_ (Row.lease
+              (κs .1 .1 .1 .1 .1 .0) (qs .1 .1 .1 .1 .1 .0)) (List._∷_ Row.off (List._∷_ Row.off (List._∷_ Row.alive (List._∷_ Row.alive (List._∷_ Row.alive (List._∷_ Row.alive (List._∷_ Row.off (List._∷_ Row.off List.[])))))))))))));
+        }
 
         abbrev G37 : Row.Cx
-        G37 = record { locals = List._++_ g25 t27; slots = List._∷_ (Row.lease (κs .0) (qs .0)) (List._∷_ Row.off (List._∷_ Row.off (List._∷_ Row.off (List._∷_ (Row.lease (κs .1 .1 .1 .1 .0) (qs .1 .1 .1 .1 .0)) (List._∷_ (Row.lease
-            (κs .1 .1 .1 .1 .1 .0) (qs .1 .1 .1 .1 .1 .0)) (List._∷_ Row.off (List._∷_ Row.off (List._∷_ Row.alive (List._∷_ Row.alive (List._∷_ Row.alive (List._∷_ Row.alive (List._∷_ Row.off (List._∷_ Row.off List.[]))))))))))))); }
+        G37 = record {
+          locals = List._++_ g25 t27;
+          slots = List._∷_ (Row.lease (κs .0) (qs .0)) (List._∷_ Row.off (List._∷_ Row.off (List._∷_ Row.off (List._∷_ (Row.lease (κs .1 .1 .1 .1 .0) (qs .1 .1 .1 .1 .0)) (List._∷_ (Row.lease
+              (κs .1 .1 .1 .1 .1 .0) (qs .1 .1 .1 .1 .1 .0)) (List._∷_ Row.off (List._∷_ Row.off (List._∷_ Row.alive (List._∷_ Row.alive (List._∷_ Row.alive (List._∷_ Row.alive (List._∷_ Row.off (List._∷_ Row.off List.[])))))))))))));
+        }
 
         abbrev G38 : Row.Cx
-        G38 = record { locals = List._++_ g28 t29; slots = List._∷_ (Row.lease (κs .0) (qs .0)) (List._∷_ Row.off (List._∷_ Row.off (List._∷_ Row.off (List._∷_ (Row.lease (κs .1 .1 .1 .1 .0) (qs .1 .1 .1 .1 .0)) (List._∷_ (Row.lease
-            (κs .1 .1 .1 .1 .1 .0) (qs .1 .1 .1 .1 .1 .0)) (List._∷_ Row.off (List._∷_ Row.off (List._∷_ Row.alive (List._∷_ Row.alive (List._∷_ Row.alive (List._∷_ Row.alive (List._∷_ Row.off (List._∷_ Row.off List.[]))))))))))))); }
+        G38 = record {
+          locals = List._++_ g28 t29;
+          slots = List._∷_ (Row.lease (κs .0) (qs .0)) (List._∷_ Row.off (List._∷_ Row.off (List._∷_ Row.off (List._∷_ (Row.lease (κs .1 .1 .1 .1 .0) (qs .1 .1 .1 .1 .0)) (List._∷_ (Row.lease
+              (κs .1 .1 .1 .1 .1 .0) (qs .1 .1 .1 .1 .1 .0)) (List._∷_ Row.off (List._∷_ Row.off (List._∷_ Row.alive (List._∷_ Row.alive (List._∷_ Row.alive (List._∷_ Row.alive (List._∷_ Row.off (List._∷_ Row.off List.[])))))))))))));
+        }
 
         abbrev G39 : Row.Cx
-        G39 = record { locals = List._++_ g30 t29; slots = List._∷_ (Row.lease (κs .0) (qs .0)) (List._∷_ Row.off (List._∷_ Row.off (List._∷_ Row.off (List._∷_ (Row.lease (κs .1 .1 .1 .1 .0) (qs .1 .1 .1 .1 .0)) (List._∷_ (Row.lease
-            (κs .1 .1 .1 .1 .1 .0) (qs .1 .1 .1 .1 .1 .0)) (List._∷_ Row.off (List._∷_ Row.off (List._∷_ Row.alive (List._∷_ Row.alive (List._∷_ Row.alive (List._∷_ Row.alive (List._∷_ Row.off (List._∷_ Row.off List.[]))))))))))))); }
+        G39 = record {
+          locals = List._++_ g30 t29;
+          slots = List._∷_ (Row.lease (κs .0) (qs .0)) (List._∷_ Row.off (List._∷_ Row.off (List._∷_ Row.off (List._∷_ (Row.lease (κs .1 .1 .1 .1 .0) (qs .1 .1 .1 .1 .0)) (List._∷_ (Row.lease
+              (κs .1 .1 .1 .1 .1 .0) (qs .1 .1 .1 .1 .1 .0)) (List._∷_ Row.off (List._∷_ Row.off (List._∷_ Row.alive (List._∷_ Row.alive (List._∷_ Row.alive (List._∷_ Row.alive (List._∷_ Row.off (List._∷_ Row.off List.[])))))))))))));
+        }
 
         abbrev G40 : Row.Cx
-        G40 = record { locals = List._++_ g31 t29; slots = List._∷_ (Row.lease (κs .0) (qs .0)) (List._∷_ Row.off (List._∷_ Row.off (List._∷_ Row.off (List._∷_ (Row.lease (κs .1 .1 .1 .1 .0) (qs .1 .1 .1 .1 .0)) (List._∷_ (Row.lease
-            (κs .1 .1 .1 .1 .1 .0) (qs .1 .1 .1 .1 .1 .0)) (List._∷_ Row.off (List._∷_ Row.off (List._∷_ Row.alive (List._∷_ Row.alive (List._∷_ Row.alive (List._∷_ Row.alive (List._∷_ Row.off (List._∷_ Row.off List.[]))))))))))))); }
+        G40 = record {
+          locals = List._++_ g31 t29;
+          slots = List._∷_ (Row.lease (κs .0) (qs .0)) (List._∷_ Row.off (List._∷_ Row.off (List._∷_ Row.off (List._∷_ (Row.lease (κs .1 .1 .1 .1 .0) (qs .1 .1 .1 .1 .0)) (List._∷_ (Row.lease
+              (κs .1 .1 .1 .1 .1 .0) (qs .1 .1 .1 .1 .1 .0)) (List._∷_ Row.off (List._∷_ Row.off (List._∷_ Row.alive (List._∷_ Row.alive (List._∷_ Row.alive (List._∷_ Row.alive (List._∷_ Row.off (List._∷_ Row.off List.[])))))))))))));
+        }
 
         abbrev G41 : Row.Cx
-        G41 = record { locals = List._++_ g31 t29; slots = List._∷_ (Row.lease (κs .0) (qs .0)) (List._∷_ Row.off (List._∷_ Row.off (List._∷_ Row.off (List._∷_ (Row.lease (κs .1 .1 .1 .1 .0) (qs .1 .1 .1 .1 .0)) (List._∷_ (Row.lease
-            (κs .1 .1 .1 .1 .1 .0) (qs .1 .1 .1 .1 .1 .0)) (List._∷_ Row.off (List._∷_ Row.off (List._∷_ Row.dead (List._∷_ Row.alive (List._∷_ Row.alive (List._∷_ Row.alive (List._∷_ Row.off (List._∷_ Row.off List.[]))))))))))))); }
+        G41 = record {
+          locals = List._++_ g31 t29;
+          slots = List._∷_ (Row.lease (κs .0) (qs .0)) (List._∷_ Row.off (List._∷_ Row.off (List._∷_ Row.off (List._∷_ (Row.lease (κs .1 .1 .1 .1 .0) (qs .1 .1 .1 .1 .0)) (List._∷_ (Row.lease
+              (κs .1 .1 .1 .1 .1 .0) (qs .1 .1 .1 .1 .1 .0)) (List._∷_ Row.off (List._∷_ Row.off (List._∷_ Row.dead (List._∷_ Row.alive (List._∷_ Row.alive (List._∷_ Row.alive (List._∷_ Row.off (List._∷_ Row.off List.[])))))))))))));
+        }
 
         abbrev G42 : Row.Cx
-        G42 = record { locals = List._++_ g32 t33; slots = List._∷_ (Row.lease (κs .0) (qs .0)) (List._∷_ Row.off (List._∷_ Row.off (List._∷_ Row.off (List._∷_ (Row.lease (κs .1 .1 .1 .1 .0) (qs .1 .1 .1 .1 .0)) (List._∷_ (Row.lease
-            (κs .1 .1 .1 .1 .1 .0) (qs .1 .1 .1 .1 .1 .0)) (List._∷_ Row.off (List._∷_ Row.off (List._∷_ Row.dead (List._∷_ Row.alive (List._∷_ Row.alive (List._∷_ Row.alive (List._∷_ Row.off (List._∷_ Row.off List.[]))))))))))))); }
+        G42 = record {
+          locals = List._++_ g32 t33;
+          slots = List._∷_ (Row.lease (κs .0) (qs .0)) (List._∷_ Row.off (List._∷_ Row.off (List._∷_ Row.off (List._∷_ (Row.lease (κs .1 .1 .1 .1 .0) (qs .1 .1 .1 .1 .0)) (List._∷_ (Row.lease
+              (κs .1 .1 .1 .1 .1 .0) (qs .1 .1 .1 .1 .1 .0)) (List._∷_ Row.off (List._∷_ Row.off (List._∷_ Row.dead (List._∷_ Row.alive (List._∷_ Row.alive (List._∷_ Row.alive (List._∷_ Row.off (List._∷_ Row.off List.[])))))))))))));
+        }
 
         abbrev G43 : Row.Cx
-        G43 = record { locals = List._++_ g32 t33; slots = List._∷_ (Row.lease (κs .0) (qs .0)) (List._∷_ Row.off (List._∷_ Row.off (List._∷_ Row.off (List._∷_ (Row.lease (κs .1 .1 .1 .1 .0) (qs .1 .1 .1 .1 .0)) (List._∷_ (Row.lease
-            (κs .1 .1 .1 .1 .1 .0) (qs .1 .1 .1 .1 .1 .0)) (List._∷_ Row.off (List._∷_ Row.off (List._∷_ Row.off (List._∷_ Row.alive (List._∷_ Row.alive (List._∷_ Row.alive (List._∷_ Row.off (List._∷_ Row.off List.[]))))))))))))); }
+        G43 = record {
+          locals = List._++_ g32 t33;
+          slots = List._∷_ (Row.lease (κs .0) (qs .0)) (List._∷_ Row.off (List._∷_ Row.off (List._∷_ Row.off (List._∷_ (Row.lease (κs .1 .1 .1 .1 .0) (qs .1 .1 .1 .1 .0)) (List._∷_ (Row.lease
+              (κs .1 .1 .1 .1 .1 .0) (qs .1 .1 .1 .1 .1 .0)) (List._∷_ Row.off (List._∷_ Row.off (List._∷_ Row.off (List._∷_ Row.alive (List._∷_ Row.alive (List._∷_ Row.alive (List._∷_ Row.off (List._∷_ Row.off List.[])))))))))))));
+        }
 
         abbrev G44 : Row.Cx
-        G44 = record { locals = List._++_ g32 t33; slots = List._∷_ (Row.lease (κs .0) (qs .0)) (List._∷_ Row.off (List._∷_ Row.off (List._∷_ Row.off (List._∷_ (Row.lease (κs .1 .1 .1 .1 .0) (qs .1 .1 .1 .1 .0)) (List._∷_ (Row.lease
-            (κs .1 .1 .1 .1 .1 .0) (qs .1 .1 .1 .1 .1 .0)) (List._∷_ Row.off (List._∷_ Row.off (List._∷_ Row.off (List._∷_ Row.dead (List._∷_ Row.alive (List._∷_ Row.alive (List._∷_ Row.off (List._∷_ Row.off List.[]))))))))))))); }
+        G44 = record {
+          locals = List._++_ g32 t33;
+          slots = List._∷_ (Row.lease (κs .0) (qs .0)) (List._∷_ Row.off (List._∷_ Row.off (List._∷_ Row.off (List._∷_ (Row.lease (κs .1 .1 .1 .1 .0) (qs .1 .1 .1 .1 .0)) (List._∷_ (Row.lease
+              (κs .1 .1 .1 .1 .1 .0) (qs .1 .1 .1 .1 .1 .0)) (List._∷_ Row.off (List._∷_ Row.off (List._∷_ Row.off (List._∷_ Row.dead (List._∷_ Row.alive (List._∷_ Row.alive (List._∷_ Row.off (List._∷_ Row.off List.[])))))))))))));
+        }
 
         abbrev G45 : Row.Cx
-        G45 = record { locals = List._++_ g34 t35; slots = List._∷_ (Row.lease (κs .0) (qs .0)) (List._∷_ (Row.lease (κs .1 .0) (qs .1 .0)) (List._∷_ Row.off (List._∷_ Row.off (List._∷_ (Row.lease (κs .1 .1 .1 .1 .0) (qs .1 .1 .1 .1
-            .0)) (List._∷_ (Row.lease (κs .1 .1 .1 .1 .1 .0) (qs .1 .1 .1 .1 .1 .0)) (List._∷_ Row.off (List._∷_ Row.off (List._∷_ Row.off (List._∷_ Row.dead (List._∷_ Row.alive (List._∷_ Row.alive (List._∷_ Row.off (List._∷_ Row.off
-            List.[]))))))))))))); }
+        G45 = record {
+          locals = List._++_ g34 t35;
+          slots = List._∷_ (Row.lease (κs .0) (qs .0)) (List._∷_ (Row.lease (κs .1 .0) (qs .1 .0)) (List._∷_ Row.off (List._∷_ Row.off (List._∷_ (Row.lease (κs .1 .1 .1 .1 .0) (qs .1 .1 .1 .1
+              .0)) (List._∷_ (Row.lease (κs .1 .1 .1 .1 .1 .0) (qs .1 .1 .1 .1 .1 .0)) (List._∷_ Row.off (List._∷_ Row.off (List._∷_ Row.off (List._∷_ Row.dead (List._∷_ Row.alive (List._∷_ Row.alive (List._∷_ Row.off (List._∷_ Row.off
+              List.[])))))))))))));
+        }
 
         abbrev G46 : Row.Cx
-        G46 = record { locals = List._++_ g34 t35; slots = List._∷_ (Row.lease (κs .0) (qs .0)) (List._∷_ (Row.lease (κs .1 .0) (qs .1 .0)) (List._∷_ Row.off (List._∷_ Row.off (List._∷_ (Row.lease (κs .1 .1 .1 .1 .0) (qs .1 .1 .1 .1
-            .0)) (List._∷_ (Row.lease (κs .1 .1 .1 .1 .1 .0) (qs .1 .1 .1 .1 .1 .0)) (List._∷_ Row.off (List._∷_ Row.off (List._∷_ Row.off (List._∷_ Row.dead (List._∷_ Row.alive (List._∷_ Row.alive (List._∷_ Row.off (List._∷_ Row.off
-            List.[]))))))))))))); }
+        G46 = record {
+          locals = List._++_ g34 t35;
+          slots = List._∷_ (Row.lease (κs .0) (qs .0)) (List._∷_ (Row.lease (κs .1 .0) (qs .1 .0)) (List._∷_ Row.off (List._∷_ Row.off (List._∷_ (Row.lease (κs .1 .1 .1 .1 .0) (qs .1 .1 .1 .1
+              .0)) (List._∷_ (Row.lease (κs .1 .1 .1 .1 .1 .0) (qs .1 .1 .1 .1 .1 .0)) (List._∷_ Row.off (List._∷_ Row.off (List._∷_ Row.off (List._∷_ Row.dead (List._∷_ Row.alive (List._∷_ Row.alive (List._∷_ Row.off (List._∷_ Row.off
+              List.[])))))))))))));
+        }
 
         abbrev G47 : Row.Cx
-        G47 = record { locals = List._++_ g34 t35; slots = List._∷_ (Row.lease (κs .0) (qs .0)) (List._∷_ (Row.lease (κs .1 .0) (qs .1 .0)) (List._∷_ Row.off (List._∷_ Row.off (List._∷_ (Row.lease (κs .1 .1 .1 .1 .0) (qs .1 .1 .1 .1
-            .0)) (List._∷_ (Row.lease (κs .1 .1 .1 .1 .1 .0) (qs .1 .1 .1 .1 .1 .0)) (List._∷_ Row.off (List._∷_ Row.off (List._∷_ Row.off (List._∷_ Row.off (List._∷_ Row.alive (List._∷_ Row.alive (List._∷_ Row.off (List._∷_ Row.off
-            List.[]))))))))))))); }
+        G47 = record {
+          locals = List._++_ g34 t35;
+          slots = List._∷_ (Row.lease (κs .0) (qs .0)) (List._∷_ (Row.lease (κs .1 .0) (qs .1 .0)) (List._∷_ Row.off (List._∷_ Row.off (List._∷_ (Row.lease (κs .1 .1 .1 .1 .0) (qs .1 .1 .1 .1
+              .0)) (List._∷_ (Row.lease (κs .1 .1 .1 .1 .1 .0) (qs .1 .1 .1 .1 .1 .0)) (List._∷_ Row.off (List._∷_ Row.off (List._∷_ Row.off (List._∷_ Row.off (List._∷_ Row.alive (List._∷_ Row.alive (List._∷_ Row.off (List._∷_ Row.off
+              List.[])))))))))))));
+        }
 
         abbrev G48 : Row.Cx
-        G48 = record { locals = List._++_ g34 t35; slots = List._∷_ (Row.lease (κs .0) (qs .0)) (List._∷_ (Row.lease (κs .1 .0) (qs .1 .0)) (List._∷_ Row.off (List._∷_ Row.off (List._∷_ (Row.lease (κs .1 .1 .1 .1 .0) (qs .1 .1 .1 .1
-            .0)) (List._∷_ (Row.lease (κs .1 .1 .1 .1 .1 .0) (qs .1 .1 .1 .1 .1 .0)) (List._∷_ Row.off (List._∷_ Row.off (List._∷_ Row.off (List._∷_ Row.off (List._∷_ Row.dead (List._∷_ Row.alive (List._∷_ Row.off (List._∷_ Row.off
-            List.[]))))))))))))); }
+        G48 = record {
+          locals = List._++_ g34 t35;
+          slots = List._∷_ (Row.lease (κs .0) (qs .0)) (List._∷_ (Row.lease (κs .1 .0) (qs .1 .0)) (List._∷_ Row.off (List._∷_ Row.off (List._∷_ (Row.lease (κs .1 .1 .1 .1 .0) (qs .1 .1 .1 .1
+              .0)) (List._∷_ (Row.lease (κs .1 .1 .1 .1 .1 .0) (qs .1 .1 .1 .1 .1 .0)) (List._∷_ Row.off (List._∷_ Row.off (List._∷_ Row.off (List._∷_ Row.off (List._∷_ Row.dead (List._∷_ Row.alive (List._∷_ Row.off (List._∷_ Row.off
+              List.[])))))))))))));
+        }
 
         abbrev G49 : Row.Cx
-        G49 = record { locals = List._++_ g36 t37; slots = List._∷_ (Row.lease (κs .0) (qs .0)) (List._∷_ (Row.lease (κs .1 .0) (qs .1 .0)) (List._∷_ (Row.lease (κs .1 .1 .0) (qs .1 .1 .0)) (List._∷_ Row.off (List._∷_ (Row.lease (κs .1
-            .1 .1 .1 .0) (qs .1 .1 .1 .1 .0)) (List._∷_ (Row.lease (κs .1 .1 .1 .1 .1 .0) (qs .1 .1 .1 .1 .1 .0)) (List._∷_ Row.off (List._∷_ Row.off (List._∷_ Row.off (List._∷_ Row.off (List._∷_ Row.dead (List._∷_ Row.alive (List._∷_
-            Row.off (List._∷_ Row.off List.[]))))))))))))); }
+        G49 = record {
+          locals = List._++_ g36 t37;
+          slots = List._∷_ (Row.lease (κs .0) (qs .0)) (List._∷_ (Row.lease (κs .1 .0) (qs .1 .0)) (List._∷_ (Row.lease (κs .1 .1 .0) (qs .1 .1 .0)) (List._∷_ Row.off (List._∷_ (Row.lease (κs .1
+              .1 .1 .1 .0) (qs .1 .1 .1 .1 .0)) (List._∷_ (Row.lease (κs .1 .1 .1 .1 .1 .0) (qs .1 .1 .1 .1 .1 .0)) (List._∷_ Row.off (List._∷_ Row.off (List._∷_ Row.off (List._∷_ Row.off (List._∷_ Row.dead (List._∷_ Row.alive (List._∷_
+              Row.off (List._∷_ Row.off List.[])))))))))))));
+        }
 
         abbrev G50 : Row.Cx
-        G50 = record { locals = List._++_ g36 t37; slots = List._∷_ (Row.lease (κs .0) (qs .0)) (List._∷_ (Row.lease (κs .1 .0) (qs .1 .0)) (List._∷_ (Row.lease (κs .1 .1 .0) (qs .1 .1 .0)) (List._∷_ Row.off (List._∷_ (Row.lease (κs .1
-            .1 .1 .1 .0) (qs .1 .1 .1 .1 .0)) (List._∷_ (Row.lease (κs .1 .1 .1 .1 .1 .0) (qs .1 .1 .1 .1 .1 .0)) (List._∷_ Row.off (List._∷_ Row.off (List._∷_ Row.off (List._∷_ Row.off (List._∷_ Row.dead (List._∷_ Row.alive (List._∷_
-            Row.off (List._∷_ Row.off List.[]))))))))))))); }
+        G50 = record {
+          locals = List._++_ g36 t37;
+          slots = List._∷_ (Row.lease (κs .0) (qs .0)) (List._∷_ (Row.lease (κs .1 .0) (qs .1 .0)) (List._∷_ (Row.lease (κs .1 .1 .0) (qs .1 .1 .0)) (List._∷_ Row.off (List._∷_ (Row.lease (κs .1
+              .1 .1 .1 .0) (qs .1 .1 .1 .1 .0)) (List._∷_ (Row.lease (κs .1 .1 .1 .1 .1 .0) (qs .1 .1 .1 .1 .1 .0)) (List._∷_ Row.off (List._∷_ Row.off (List._∷_ Row.off (List._∷_ Row.off (List._∷_ Row.dead (List._∷_ Row.alive (List._∷_
+              Row.off (List._∷_ Row.off List.[])))))))))))));
+        }
 
         abbrev G51 : Row.Cx
-        G51 = record { locals = List._++_ g36 t37; slots = List._∷_ (Row.lease (κs .0) (qs .0)) (List._∷_ (Row.lease (κs .1 .0) (qs .1 .0)) (List._∷_ (Row.lease (κs .1 .1 .0) (qs .1 .1 .0)) (List._∷_ Row.off (List._∷_ (Row.lease (κs .1
-            .1 .1 .1 .0) (qs .1 .1 .1 .1 .0)) (List._∷_ (Row.lease (κs .1 .1 .1 .1 .1 .0) (qs .1 .1 .1 .1 .1 .0)) (List._∷_ Row.off (List._∷_ Row.off (List._∷_ Row.off (List._∷_ Row.off (List._∷_ Row.off (List._∷_ Row.alive (List._∷_
-            Row.off (List._∷_ Row.off List.[]))))))))))))); }
+        G51 = record {
+          locals = List._++_ g36 t37;
+          slots = List._∷_ (Row.lease (κs .0) (qs .0)) (List._∷_ (Row.lease (κs .1 .0) (qs .1 .0)) (List._∷_ (Row.lease (κs .1 .1 .0) (qs .1 .1 .0)) (List._∷_ Row.off (List._∷_ (Row.lease (κs .1
+              .1 .1 .1 .0) (qs .1 .1 .1 .1 .0)) (List._∷_ (Row.lease (κs .1 .1 .1 .1 .1 .0) (qs .1 .1 .1 .1 .1 .0)) (List._∷_ Row.off (List._∷_ Row.off (List._∷_ Row.off (List._∷_ Row.off (List._∷_ Row.off (List._∷_ Row.alive (List._∷_
+              Row.off (List._∷_ Row.off List.[])))))))))))));
+        }
 
         abbrev G52 : Row.Cx
-        G52 = record { locals = List._++_ g36 t37; slots = List._∷_ (Row.lease (κs .0) (qs .0)) (List._∷_ (Row.lease (κs .1 .0) (qs .1 .0)) (List._∷_ (Row.lease (κs .1 .1 .0) (qs .1 .1 .0)) (List._∷_ Row.off (List._∷_ (Row.lease (κs .1
-            .1 .1 .1 .0) (qs .1 .1 .1 .1 .0)) (List._∷_ (Row.lease (κs .1 .1 .1 .1 .1 .0) (qs .1 .1 .1 .1 .1 .0)) (List._∷_ Row.off (List._∷_ Row.off (List._∷_ Row.off (List._∷_ Row.off (List._∷_ Row.off (List._∷_ Row.dead (List._∷_
-            Row.off (List._∷_ Row.off List.[]))))))))))))); }
+        G52 = record {
+          locals = List._++_ g36 t37;
+          slots = List._∷_ (Row.lease (κs .0) (qs .0)) (List._∷_ (Row.lease (κs .1 .0) (qs .1 .0)) (List._∷_ (Row.lease (κs .1 .1 .0) (qs .1 .1 .0)) (List._∷_ Row.off (List._∷_ (Row.lease (κs .1
+              .1 .1 .1 .0) (qs .1 .1 .1 .1 .0)) (List._∷_ (Row.lease (κs .1 .1 .1 .1 .1 .0) (qs .1 .1 .1 .1 .1 .0)) (List._∷_ Row.off (List._∷_ Row.off (List._∷_ Row.off (List._∷_ Row.off (List._∷_ Row.off (List._∷_ Row.dead (List._∷_
+              Row.off (List._∷_ Row.off List.[])))))))))))));
+        }
 
         abbrev G53 : Row.Cx
-        G53 = record { locals = List._++_ t38 t1; slots = List._∷_ (Row.lease (κs .0) (qs .0)) (List._∷_ (Row.lease (κs .1 .0) (qs .1 .0)) (List._∷_ (Row.lease (κs .1 .1 .0) (qs .1 .1 .0)) (List._∷_ (Row.lease (κs .1 .1 .1 .0) (qs .1
-            .1 .1 .0)) (List._∷_ (Row.lease (κs .1 .1 .1 .1 .0) (qs .1 .1 .1 .1 .0)) (List._∷_ (Row.lease (κs .1 .1 .1 .1 .1 .0) (qs .1 .1 .1 .1 .1 .0)) (List._∷_ Row.off (List._∷_ Row.off (List._∷_ Row.off (List._∷_ Row.off (List._∷_
-            Row.off (List._∷_ Row.dead (List._∷_ Row.off (List._∷_ Row.off List.[]))))))))))))); }
+        G53 = record {
+          locals = List._++_ t38 t1;
+          slots = List._∷_ (Row.lease (κs .0) (qs .0)) (List._∷_ (Row.lease (κs .1 .0) (qs .1 .0)) (List._∷_ (Row.lease (κs .1 .1 .0) (qs .1 .1 .0)) (List._∷_ (Row.lease (κs .1 .1 .1 .0) (qs .1
+              .1 .1 .0)) (List._∷_ (Row.lease (κs .1 .1 .1 .1 .0) (qs .1 .1 .1 .1 .0)) (List._∷_ (Row.lease (κs .1 .1 .1 .1 .1 .0) (qs .1 .1 .1 .1 .1 .0)) (List._∷_ Row.off (List._∷_ Row.off (List._∷_ Row.off (List._∷_ Row.off (List._∷_
+              Row.off (List._∷_ Row.dead (List._∷_ Row.off (List._∷_ Row.off List.[])))))))))))));
+        }
 
         abbrev G54 : Row.Cx
-        G54 = record { locals = List._++_ t38 t1; slots = List._∷_ (Row.lease (κs .0) (qs .0)) (List._∷_ (Row.lease (κs .1 .0) (qs .1 .0)) (List._∷_ (Row.lease (κs .1 .1 .0) (qs .1 .1 .0)) (List._∷_ (Row.lease (κs .1 .1 .1 .0) (qs .1
-            .1 .1 .0)) (List._∷_ (Row.lease (κs .1 .1 .1 .1 .0) (qs .1 .1 .1 .1 .0)) (List._∷_ (Row.lease (κs .1 .1 .1 .1 .1 .0) (qs .1 .1 .1 .1 .1 .0)) (List._∷_ Row.off (List._∷_ Row.off (List._∷_ Row.off (List._∷_ Row.off (List._∷_
-            Row.off (List._∷_ Row.dead (List._∷_ Row.off (List._∷_ Row.off List.[]))))))))))))); }
+        G54 = record {
+          locals = List._++_ t38 t1;
+          slots = List._∷_ (Row.lease (κs .0) (qs .0)) (List._∷_ (Row.lease (κs .1 .0) (qs .1 .0)) (List._∷_ (Row.lease (κs .1 .1 .0) (qs .1 .1 .0)) (List._∷_ (Row.lease (κs .1 .1 .1 .0) (qs .1
+              .1 .1 .0)) (List._∷_ (Row.lease (κs .1 .1 .1 .1 .0) (qs .1 .1 .1 .1 .0)) (List._∷_ (Row.lease (κs .1 .1 .1 .1 .1 .0) (qs .1 .1 .1 .1 .1 .0)) (List._∷_ Row.off (List._∷_ Row.off (List._∷_ Row.off (List._∷_ Row.off (List._∷_
+              Row.off (List._∷_ Row.dead (List._∷_ Row.off (List._∷_ Row.off List.[])))))))))))));
+        }
 
         abbrev G55 : Row.Cx
-        G55 = record { locals = List._++_ t38 t1; slots = List._∷_ (Row.lease (κs .0) (qs .0)) (List._∷_ (Row.lease (κs .1 .0) (qs .1 .0)) (List._∷_ (Row.lease (κs .1 .1 .0) (qs .1 .1 .0)) (List._∷_ (Row.lease (κs .1 .1 .1 .0) (qs .1
-            .1 .1 .0)) (List._∷_ (Row.lease (κs .1 .1 .1 .1 .0) (qs .1 .1 .1 .1 .0)) (List._∷_ (Row.lease (κs .1 .1 .1 .1 .1 .0) (qs .1 .1 .1 .1 .1 .0)) (List._∷_ Row.off (List._∷_ Row.off (List._∷_ Row.off (List._∷_ Row.off (List._∷_
-            Row.off (List._∷_ Row.off (List._∷_ Row.off (List._∷_ Row.off List.[]))))))))))))); }
+        G55 = record {
+          locals = List._++_ t38 t1;
+          slots = List._∷_ (Row.lease (κs .0) (qs .0)) (List._∷_ (Row.lease (κs .1 .0) (qs .1 .0)) (List._∷_ (Row.lease (κs .1 .1 .0) (qs .1 .1 .0)) (List._∷_ (Row.lease (κs .1 .1 .1 .0) (qs .1
+              .1 .1 .0)) (List._∷_ (Row.lease (κs .1 .1 .1 .1 .0) (qs .1 .1 .1 .1 .0)) (List._∷_ (Row.lease (κs .1 .1 .1 .1 .1 .0) (qs .1 .1 .1 .1 .1 .0)) (List._∷_ Row.off (List._∷_ Row.off (List._∷_ Row.off (List._∷_ Row.off (List._∷_
+              Row.off (List._∷_ Row.off (List._∷_ Row.off (List._∷_ Row.off List.[])))))))))))));
+        }
 
         abbrev G56 : Row.Cx
-        G56 = record { locals = List._++_ t38 t1; slots = List._∷_ (Row.lease (κs .0) (qs .0)) (List._∷_ (Row.lease (κs .1 .0) (qs .1 .0)) (List._∷_ (Row.lease (κs .1 .1 .0) (qs .1 .1 .0)) (List._∷_ (Row.lease (κs .1 .1 .1 .0) (qs .1
-            .1 .1 .0)) (List._∷_ (Row.lease (κs .1 .1 .1 .1 .0) (qs .1 .1 .1 .1 .0)) (List._∷_ (Row.lease (κs .1 .1 .1 .1 .1 .0) (qs .1 .1 .1 .1 .1 .0)) (List._∷_ Row.off (List._∷_ Row.off (List._∷_ Row.off (List._∷_ Row.off (List._∷_
-            Row.off (List._∷_ Row.off (List._∷_ Row.alive (List._∷_ Row.off List.[]))))))))))))); }
+        G56 = record {
+          locals = List._++_ t38 t1;
+          slots = List._∷_ (Row.lease (κs .0) (qs .0)) (List._∷_ (Row.lease (κs .1 .0) (qs .1 .0)) (List._∷_ (Row.lease (κs .1 .1 .0) (qs .1 .1 .0)) (List._∷_ (Row.lease (κs .1 .1 .1 .0) (qs .1
+              .1 .1 .0)) (List._∷_ (Row.lease (κs .1 .1 .1 .1 .0) (qs .1 .1 .1 .1 .0)) (List._∷_ (Row.lease (κs .1 .1 .1 .1 .1 .0) (qs .1 .1 .1 .1 .1 .0)) (List._∷_ Row.off (List._∷_ Row.off (List._∷_ Row.off (List._∷_ Row.off (List._∷_
+              Row.off (List._∷_ Row.off (List._∷_ Row.alive (List._∷_ Row.off List.[])))))))))))));
+        }
 
         abbrev G57 : Row.Cx
-        G57 = record { locals = List._++_ g39 t40; slots = List._∷_ Row.off (List._∷_ (Row.lease (κs .1 .0) (qs .1 .0)) (List._∷_ (Row.lease (κs .1 .1 .0) (qs .1 .1 .0)) (List._∷_ (Row.lease (κs .1 .1 .1 .0) (qs .1 .1 .1 .0)) (List._∷_
-            (Row.lease (κs .1 .1 .1 .1 .0) (qs .1 .1 .1 .1 .0)) (List._∷_ (Row.lease (κs .1 .1 .1 .1 .1 .0) (qs .1 .1 .1 .1 .1 .0)) (List._∷_ Row.off (List._∷_ Row.off (List._∷_ Row.off (List._∷_ Row.off (List._∷_ Row.off (List._∷_
-            Row.off (List._∷_ Row.alive (List._∷_ Row.off List.[]))))))))))))); }
+        G57 = record {
+          locals = List._++_ g39 t40;
+          slots = List._∷_ Row.off (List._∷_ (Row.lease (κs .1 .0) (qs .1 .0)) (List._∷_ (Row.lease (κs .1 .1 .0) (qs .1 .1 .0)) (List._∷_ (Row.lease (κs .1 .1 .1 .0) (qs .1 .1 .1 .0)) (List._∷_
+              (Row.lease (κs .1 .1 .1 .1 .0) (qs .1 .1 .1 .1 .0)) (List._∷_ (Row.lease (κs .1 .1 .1 .1 .1 .0) (qs .1 .1 .1 .1 .1 .0)) (List._∷_ Row.off (List._∷_ Row.off (List._∷_ Row.off (List._∷_ Row.off (List._∷_ Row.off (List._∷_
+              Row.off (List._∷_ Row.alive (List._∷_ Row.off List.[])))))))))))));
+        }
 
         abbrev G58 : Row.Cx
-        G58 = record { locals = List._++_ g39 t41; slots = List._∷_ Row.off (List._∷_ (Row.lease (κs .1 .0) (qs .1 .0)) (List._∷_ (Row.lease (κs .1 .1 .0) (qs .1 .1 .0)) (List._∷_ (Row.lease (κs .1 .1 .1 .0) (qs .1 .1 .1 .0)) (List._∷_
-            (Row.lease (κs .1 .1 .1 .1 .0) (qs .1 .1 .1 .1 .0)) (List._∷_ (Row.lease (κs .1 .1 .1 .1 .1 .0) (qs .1 .1 .1 .1 .1 .0)) (List._∷_ Row.off (List._∷_ Row.off (List._∷_ Row.off (List._∷_ Row.off (List._∷_ Row.off (List._∷_
-            Row.off (List._∷_ Row.alive (List._∷_ Row.off List.[]))))))))))))); }
+        G58 = record {
+          locals = List._++_ g39 t41;
+          slots = List._∷_ Row.off (List._∷_ (Row.lease (κs .1 .0) (qs .1 .0)) (List._∷_ (Row.lease (κs .1 .1 .0) (qs .1 .1 .0)) (List._∷_ (Row.lease (κs .1 .1 .1 .0) (qs .1 .1 .1 .0)) (List._∷_
+              (Row.lease (κs .1 .1 .1 .1 .0) (qs .1 .1 .1 .1 .0)) (List._∷_ (Row.lease (κs .1 .1 .1 .1 .1 .0) (qs .1 .1 .1 .1 .1 .0)) (List._∷_ Row.off (List._∷_ Row.off (List._∷_ Row.off (List._∷_ Row.off (List._∷_ Row.off (List._∷_
+              Row.off (List._∷_ Row.alive (List._∷_ Row.off List.[])))))))))))));
+        }
 
         abbrev G59 : Row.Cx
-        G59 = record { locals = List._++_ g39 t41; slots = List._∷_ Row.off (List._∷_ (Row.lease (κs .1 .0) (qs .1 .0)) (List._∷_ (Row.lease (κs .1 .1 .0) (qs .1 .1 .0)) (List._∷_ (Row.lease (κs .1 .1 .1 .0) (qs .1 .1 .1 .0)) (List._∷_
-            (Row.lease (κs .1 .1 .1 .1 .0) (qs .1 .1 .1 .1 .0)) (List._∷_ (Row.lease (κs .1 .1 .1 .1 .1 .0) (qs .1 .1 .1 .1 .1 .0)) (List._∷_ Row.off (List._∷_ Row.off (List._∷_ Row.off (List._∷_ Row.off (List._∷_ Row.off (List._∷_
-            Row.off (List._∷_ Row.alive (List._∷_ Row.alive List.[]))))))))))))); }
+        G59 = record {
+          locals = List._++_ g39 t41;
+          slots = List._∷_ Row.off (List._∷_ (Row.lease (κs .1 .0) (qs .1 .0)) (List._∷_ (Row.lease (κs .1 .1 .0) (qs .1 .1 .0)) (List._∷_ (Row.lease (κs .1 .1 .1 .0) (qs .1 .1 .1 .0)) (List._∷_
+              (Row.lease (κs .1 .1 .1 .1 .0) (qs .1 .1 .1 .1 .0)) (List._∷_ (Row.lease (κs .1 .1 .1 .1 .1 .0) (qs .1 .1 .1 .1 .1 .0)) (List._∷_ Row.off (List._∷_ Row.off (List._∷_ Row.off (List._∷_ Row.off (List._∷_ Row.off (List._∷_
+              Row.off (List._∷_ Row.alive (List._∷_ Row.alive List.[])))))))))))));
+        }
 
         abbrev G60 : Row.Cx
-        G60 = record { locals = List._++_ g42 t43; slots = List._∷_ Row.off (List._∷_ (Row.lease (κs .1 .0) (qs .1 .0)) (List._∷_ (Row.lease (κs .1 .1 .0) (qs .1 .1 .0)) (List._∷_ (Row.lease (κs .1 .1 .1 .0) (qs .1 .1 .1 .0)) (List._∷_
-            (Row.lease (κs .1 .1 .1 .1 .0) (qs .1 .1 .1 .1 .0)) (List._∷_ (Row.lease (κs .1 .1 .1 .1 .1 .0) (qs .1 .1 .1 .1 .1 .0)) (List._∷_ Row.off (List._∷_ Row.off (List._∷_ Row.off (List._∷_ Row.off (List._∷_ Row.off (List._∷_
-            Row.off (List._∷_ Row.alive (List._∷_ Row.alive List.[]))))))))))))); }
+        G60 = record {
+          locals = List._++_ g42 t43;
+          slots = List._∷_ Row.off (List._∷_ (Row.lease (κs .1 .0) (qs .1 .0)) (List._∷_ (Row.lease (κs .1 .1 .0) (qs .1 .1 .0)) (List._∷_ (Row.lease (κs .1 .1 .1 .0) (qs .1 .1 .1 .0)) (List._∷_
+              (Row.lease (κs .1 .1 .1 .1 .0) (qs .1 .1 .1 .1 .0)) (List._∷_ (Row.lease (κs .1 .1 .1 .1 .1 .0) (qs .1 .1 .1 .1 .1 .0)) (List._∷_ Row.off (List._∷_ Row.off (List._∷_ Row.off (List._∷_ Row.off (List._∷_ Row.off (List._∷_
+              Row.off (List._∷_ Row.alive (List._∷_ Row.alive List.[])))))))))))));
+        }
 
         abbrev G61 : Row.Cx
-        G61 = record { locals = List._++_ g42 t44; slots = List._∷_ Row.off (List._∷_ (Row.lease (κs .1 .0) (qs .1 .0)) (List._∷_ (Row.lease (κs .1 .1 .0) (qs .1 .1 .0)) (List._∷_ (Row.lease (κs .1 .1 .1 .0) (qs .1 .1 .1 .0)) (List._∷_
-            (Row.lease (κs .1 .1 .1 .1 .0) (qs .1 .1 .1 .1 .0)) (List._∷_ (Row.lease (κs .1 .1 .1 .1 .1 .0) (qs .1 .1 .1 .1 .1 .0)) (List._∷_ Row.off (List._∷_ Row.off (List._∷_ Row.off (List._∷_ Row.off (List._∷_ Row.off (List._∷_
-            Row.off (List._∷_ Row.alive (List._∷_ Row.alive List.[]))))))))))))); }
+        G61 = record {
+          locals = List._++_ g42 t44;
+          slots = List._∷_ Row.off (List._∷_ (Row.lease (κs .1 .0) (qs .1 .0)) (List._∷_ (Row.lease (κs .1 .1 .0) (qs .1 .1 .0)) (List._∷_ (Row.lease (κs .1 .1 .1 .0) (qs .1 .1 .1 .0)) (List._∷_
+              (Row.lease (κs .1 .1 .1 .1 .0) (qs .1 .1 .1 .1 .0)) (List._∷_ (Row.lease (κs .1 .1 .1 .1 .1 .0) (qs .1 .1 .1 .1 .1 .0)) (List._∷_ Row.off (List._∷_ Row.off (List._∷_ Row.off (List._∷_ Row.off (List._∷_ Row.off (List._∷_
+              Row.off (List._∷_ Row.alive (List._∷_ Row.alive List.[])))))))))))));
+        }
 
         abbrev G62 : Row.Cx
-        G62 = record { locals = List._++_ g42 t45; slots = List._∷_ Row.off (List._∷_ (Row.lease (κs .1 .0) (qs .1 .0)) (List._∷_ (Row.lease (κs .1 .1 .0) (qs .1 .1 .0)) (List._∷_ (Row.lease (κs .1 .1 .1 .0) (qs .1 .1 .1 .0)) (List._∷_
-            (Row.lease (κs .1 .1 .1 .1 .0) (qs .1 .1 .1 .1 .0)) (List._∷_ (Row.lease (κs .1 .1 .1 .1 .1 .0) (qs .1 .1 .1 .1 .1 .0)) (List._∷_ Row.off (List._∷_ Row.off (List._∷_ Row.off (List._∷_ Row.off (List._∷_ Row.off (List._∷_
-            Row.off (List._∷_ Row.alive (List._∷_ Row.alive List.[]))))))))))))); }
+        G62 = record {
+          locals = List._++_ g42 t45;
+          slots = List._∷_ Row.off (List._∷_ (Row.lease (κs .1 .0) (qs .1 .0)) (List._∷_ (Row.lease (κs .1 .1 .0) (qs .1 .1 .0)) (List._∷_ (Row.lease (κs .1 .1 .1 .0) (qs .1 .1 .1 .0)) (List._∷_
+              (Row.lease (κs .1 .1 .1 .1 .0) (qs .1 .1 .1 .1 .0)) (List._∷_ (Row.lease (κs .1 .1 .1 .1 .1 .0) (qs .1 .1 .1 .1 .1 .0)) (List._∷_ Row.off (List._∷_ Row.off (List._∷_ Row.off (List._∷_ Row.off (List._∷_ Row.off (List._∷_
+              Row.off (List._∷_ Row.alive (List._∷_ Row.alive List.[])))))))))))));
+        }
 
         abbrev G63 : Row.Cx
-        G63 = record { locals = List._++_ g42 t46; slots = List._∷_ Row.off (List._∷_ (Row.lease (κs .1 .0) (qs .1 .0)) (List._∷_ (Row.lease (κs .1 .1 .0) (qs .1 .1 .0)) (List._∷_ (Row.lease (κs .1 .1 .1 .0) (qs .1 .1 .1 .0)) (List._∷_
-            (Row.lease (κs .1 .1 .1 .1 .0) (qs .1 .1 .1 .1 .0)) (List._∷_ (Row.lease (κs .1 .1 .1 .1 .1 .0) (qs .1 .1 .1 .1 .1 .0)) (List._∷_ Row.off (List._∷_ Row.off (List._∷_ Row.off (List._∷_ Row.off (List._∷_ Row.off (List._∷_
-            Row.off (List._∷_ Row.alive (List._∷_ Row.alive List.[]))))))))))))); }
+        G63 = record {
+          locals = List._++_ g42 t46;
+          slots = List._∷_ Row.off (List._∷_ (Row.lease (κs .1 .0) (qs .1 .0)) (List._∷_ (Row.lease (κs .1 .1 .0) (qs .1 .1 .0)) (List._∷_ (Row.lease (κs .1 .1 .1 .0) (qs .1 .1 .1 .0)) (List._∷_
+              (Row.lease (κs .1 .1 .1 .1 .0) (qs .1 .1 .1 .1 .0)) (List._∷_ (Row.lease (κs .1 .1 .1 .1 .1 .0) (qs .1 .1 .1 .1 .1 .0)) (List._∷_ Row.off (List._∷_ Row.off (List._∷_ Row.off (List._∷_ Row.off (List._∷_ Row.off (List._∷_
+              Row.off (List._∷_ Row.alive (List._∷_ Row.alive List.[])))))))))))));
+        }
 
         abbrev G64 : Row.Cx
-        G64 = record { locals = List._++_ g42 t47; slots = List._∷_ Row.off (List._∷_ (Row.lease (κs .1 .0) (qs .1 .0)) (List._∷_ (Row.lease (κs .1 .1 .0) (qs .1 .1 .0)) (List._∷_ (Row.lease (κs .1 .1 .1 .0) (qs .1 .1 .1 .0)) (List._∷_
-            (Row.lease (κs .1 .1 .1 .1 .0) (qs .1 .1 .1 .1 .0)) (List._∷_ (Row.lease (κs .1 .1 .1 .1 .1 .0) (qs .1 .1 .1 .1 .1 .0)) (List._∷_ Row.off (List._∷_ Row.off (List._∷_ Row.off (List._∷_ Row.off (List._∷_ Row.off (List._∷_
-            Row.off (List._∷_ Row.alive (List._∷_ Row.alive List.[]))))))))))))); }
+        G64 = record {
+          locals = List._++_ g42 t47;
+          slots = List._∷_ Row.off (List._∷_ (Row.lease (κs .1 .0) (qs .1 .0)) (List._∷_ (Row.lease (κs .1 .1 .0) (qs .1 .1 .0)) (List._∷_ (Row.lease (κs .1 .1 .1 .0) (qs .1 .1 .1 .0)) (List._∷_
+              (Row.lease (κs .1 .1 .1 .1 .0) (qs .1 .1 .1 .1 .0)) (List._∷_ (Row.lease (κs .1 .1 .1 .1 .1 .0) (qs .1 .1 .1 .1 .1 .0)) (List._∷_ Row.off (List._∷_ Row.off (List._∷_ Row.off (List._∷_ Row.off (List._∷_ Row.off (List._∷_
+              Row.off (List._∷_ Row.alive (List._∷_ Row.alive List.[])))))))))))));
+        }
 
         abbrev G65 : Row.Cx
-        G65 = record { locals = List._++_ g42 t47; slots = List._∷_ Row.off (List._∷_ (Row.lease (κs .1 .0) (qs .1 .0)) (List._∷_ (Row.lease (κs .1 .1 .0) (qs .1 .1 .0)) (List._∷_ (Row.lease (κs .1 .1 .1 .0) (qs .1 .1 .1 .0)) (List._∷_
-            (Row.lease (κs .1 .1 .1 .1 .0) (qs .1 .1 .1 .1 .0)) (List._∷_ (Row.lease (κs .1 .1 .1 .1 .1 .0) (qs .1 .1 .1 .1 .1 .0)) (List._∷_ Row.off (List._∷_ Row.off (List._∷_ Row.off (List._∷_ Row.off (List._∷_ Row.off (List._∷_
-            Row.off (List._∷_ Row.dead (List._∷_ Row.alive List.[]))))))))))))); }
+        G65 = record {
+          locals = List._++_ g42 t47;
+          slots = List._∷_ Row.off (List._∷_ (Row.lease (κs .1 .0) (qs .1 .0)) (List._∷_ (Row.lease (κs .1 .1 .0) (qs .1 .1 .0)) (List._∷_ (Row.lease (κs .1 .1 .1 .0) (qs .1 .1 .1 .0)) (List._∷_
+              (Row.lease (κs .1 .1 .1 .1 .0) (qs .1 .1 .1 .1 .0)) (List._∷_ (Row.lease (κs .1 .1 .1 .1 .1 .0) (qs .1 .1 .1 .1 .1 .0)) (List._∷_ Row.off (List._∷_ Row.off (List._∷_ Row.off (List._∷_ Row.off (List._∷_ Row.off (List._∷_
+              Row.off (List._∷_ Row.dead (List._∷_ Row.alive List.[])))))))))))));
+        }
 
         abbrev G66 : Row.Cx
-        G66 = record { locals = List._++_ t48 t1; slots = List._∷_ (Row.lease (κs .0) (qs .0)) (List._∷_ (Row.lease (κs .1 .0) (qs .1 .0)) (List._∷_ (Row.lease (κs .1 .1 .0) (qs .1 .1 .0)) (List._∷_ (Row.lease (κs .1 .1 .1 .0) (qs .1
-            .1 .1 .0)) (List._∷_ (Row.lease (κs .1 .1 .1 .1 .0) (qs .1 .1 .1 .1 .0)) (List._∷_ (Row.lease (κs .1 .1 .1 .1 .1 .0) (qs .1 .1 .1 .1 .1 .0)) (List._∷_ Row.off (List._∷_ Row.off (List._∷_ Row.off (List._∷_ Row.off (List._∷_
-            Row.off (List._∷_ Row.off (List._∷_ Row.dead (List._∷_ Row.alive List.[]))))))))))))); }
+        G66 = record {
+          locals = List._++_ t48 t1;
+          slots = List._∷_ (Row.lease (κs .0) (qs .0)) (List._∷_ (Row.lease (κs .1 .0) (qs .1 .0)) (List._∷_ (Row.lease (κs .1 .1 .0) (qs .1 .1 .0)) (List._∷_ (Row.lease (κs .1 .1 .1 .0) (qs .1
+              .1 .1 .0)) (List._∷_ (Row.lease (κs .1 .1 .1 .1 .0) (qs .1 .1 .1 .1 .0)) (List._∷_ (Row.lease (κs .1 .1 .1 .1 .1 .0) (qs .1 .1 .1 .1 .1 .0)) (List._∷_ Row.off (List._∷_ Row.off (List._∷_ Row.off (List._∷_ Row.off (List._∷_
+              Row.off (List._∷_ Row.off (List._∷_ Row.dead (List._∷_ Row.alive List.[])))))))))))));
+        }
 
         abbrev G67 : Row.Cx
-        G67 = record { locals = List._++_ t48 t1; slots = List._∷_ (Row.lease (κs .0) (qs .0)) (List._∷_ (Row.lease (κs .1 .0) (qs .1 .0)) (List._∷_ (Row.lease (κs .1 .1 .0) (qs .1 .1 .0)) (List._∷_ (Row.lease (κs .1 .1 .1 .0) (qs .1
-            .1 .1 .0)) (List._∷_ (Row.lease (κs .1 .1 .1 .1 .0) (qs .1 .1 .1 .1 .0)) (List._∷_ (Row.lease (κs .1 .1 .1 .1 .1 .0) (qs .1 .1 .1 .1 .1 .0)) (List._∷_ Row.off (List._∷_ Row.off (List._∷_ Row.off (List._∷_ Row.off (List._∷_
-            Row.off (List._∷_ Row.off (List._∷_ Row.off (List._∷_ Row.alive List.[]))))))))))))); }
+        G67 = record {
+          locals = List._++_ t48 t1;
+          slots = List._∷_ (Row.lease (κs .0) (qs .0)) (List._∷_ (Row.lease (κs .1 .0) (qs .1 .0)) (List._∷_ (Row.lease (κs .1 .1 .0) (qs .1 .1 .0)) (List._∷_ (Row.lease (κs .1 .1 .1 .0) (qs .1
+              .1 .1 .0)) (List._∷_ (Row.lease (κs .1 .1 .1 .1 .0) (qs .1 .1 .1 .1 .0)) (List._∷_ (Row.lease (κs .1 .1 .1 .1 .1 .0) (qs .1 .1 .1 .1 .1 .0)) (List._∷_ Row.off (List._∷_ Row.off (List._∷_ Row.off (List._∷_ Row.off (List._∷_
+              Row.off (List._∷_ Row.off (List._∷_ Row.off (List._∷_ Row.alive List.[])))))))))))));
+        }
 
         abbrev G68 : Row.Cx
-        G68 = record { locals = List._++_ t48 t1; slots = List._∷_ (Row.lease (κs .0) (qs .0)) (List._∷_ (Row.lease (κs .1 .0) (qs .1 .0)) (List._∷_ (Row.lease (κs .1 .1 .0) (qs .1 .1 .0)) (List._∷_ (Row.lease (κs .1 .1 .1 .0) (qs .1
-            .1 .1 .0)) (List._∷_ (Row.lease (κs .1 .1 .1 .1 .0) (qs .1 .1 .1 .1 .0)) (List._∷_ (Row.lease (κs .1 .1 .1 .1 .1 .0) (qs .1 .1 .1 .1 .1 .0)) (List._∷_ Row.off (List._∷_ Row.off (List._∷_ Row.off (List._∷_ Row.off (List._∷_
-            Row.off (List._∷_ Row.off (List._∷_ Row.off (List._∷_ Row.dead List.[]))))))))))))); }
+        G68 = record {
+          locals = List._++_ t48 t1;
+          slots = List._∷_ (Row.lease (κs .0) (qs .0)) (List._∷_ (Row.lease (κs .1 .0) (qs .1 .0)) (List._∷_ (Row.lease (κs .1 .1 .0) (qs .1 .1 .0)) (List._∷_ (Row.lease (κs .1 .1 .1 .0) (qs .1
+              .1 .1 .0)) (List._∷_ (Row.lease (κs .1 .1 .1 .1 .0) (qs .1 .1 .1 .1 .0)) (List._∷_ (Row.lease (κs .1 .1 .1 .1 .1 .0) (qs .1 .1 .1 .1 .1 .0)) (List._∷_ Row.off (List._∷_ Row.off (List._∷_ Row.off (List._∷_ Row.off (List._∷_
+              Row.off (List._∷_ Row.off (List._∷_ Row.off (List._∷_ Row.dead List.[])))))))))))));
+        }
 
         abbrev G69 : Row.Cx
-        G69 = record { locals = List._++_ t38 t1; slots = List._∷_ (Row.lease (κs .0) (qs .0)) (List._∷_ (Row.lease (κs .1 .0) (qs .1 .0)) (List._∷_ (Row.lease (κs .1 .1 .0) (qs .1 .1 .0)) (List._∷_ (Row.lease (κs .1 .1 .1 .0) (qs .1
-            .1 .1 .0)) (List._∷_ (Row.lease (κs .1 .1 .1 .1 .0) (qs .1 .1 .1 .1 .0)) (List._∷_ (Row.lease (κs .1 .1 .1 .1 .1 .0) (qs .1 .1 .1 .1 .1 .0)) (List._∷_ Row.off (List._∷_ Row.off (List._∷_ Row.off (List._∷_ Row.off (List._∷_
-            Row.off (List._∷_ Row.off (List._∷_ Row.off (List._∷_ Row.dead List.[]))))))))))))); }
+        G69 = record {
+          locals = List._++_ t38 t1;
+          slots = List._∷_ (Row.lease (κs .0) (qs .0)) (List._∷_ (Row.lease (κs .1 .0) (qs .1 .0)) (List._∷_ (Row.lease (κs .1 .1 .0) (qs .1 .1 .0)) (List._∷_ (Row.lease (κs .1 .1 .1 .0) (qs .1
+              .1 .1 .0)) (List._∷_ (Row.lease (κs .1 .1 .1 .1 .0) (qs .1 .1 .1 .1 .0)) (List._∷_ (Row.lease (κs .1 .1 .1 .1 .1 .0) (qs .1 .1 .1 .1 .1 .0)) (List._∷_ Row.off (List._∷_ Row.off (List._∷_ Row.off (List._∷_ Row.off (List._∷_
+              Row.off (List._∷_ Row.off (List._∷_ Row.off (List._∷_ Row.dead List.[])))))))))))));
+        }
 
         abbrev G70 : Row.Cx
-        G70 = record { locals = List._++_ t38 t1; slots = List._∷_ (Row.lease (κs .0) (qs .0)) (List._∷_ (Row.lease (κs .1 .0) (qs .1 .0)) (List._∷_ (Row.lease (κs .1 .1 .0) (qs .1 .1 .0)) (List._∷_ (Row.lease (κs .1 .1 .1 .0) (qs .1
-            .1 .1 .0)) (List._∷_ (Row.lease (κs .1 .1 .1 .1 .0) (qs .1 .1 .1 .1 .0)) (List._∷_ (Row.lease (κs .1 .1 .1 .1 .1 .0) (qs .1 .1 .1 .1 .1 .0)) (List._∷_ Row.off (List._∷_ Row.off (List._∷_ Row.off (List._∷_ Row.off (List._∷_
-            Row.off (List._∷_ Row.off (List._∷_ Row.off (List._∷_ Row.off List.[]))))))))))))); }
+        G70 = record {
+          locals = List._++_ t38 t1;
+          slots = List._∷_ (Row.lease (κs .0) (qs .0)) (List._∷_ (Row.lease (κs .1 .0) (qs .1 .0)) (List._∷_ (Row.lease (κs .1 .1 .0) (qs .1 .1 .0)) (List._∷_ (Row.lease (κs .1 .1 .1 .0) (qs .1
+              .1 .1 .0)) (List._∷_ (Row.lease (κs .1 .1 .1 .1 .0) (qs .1 .1 .1 .1 .0)) (List._∷_ (Row.lease (κs .1 .1 .1 .1 .1 .0) (qs .1 .1 .1 .1 .1 .0)) (List._∷_ Row.off (List._∷_ Row.off (List._∷_ Row.off (List._∷_ Row.off (List._∷_
+              Row.off (List._∷_ Row.off (List._∷_ Row.off (List._∷_ Row.off List.[])))))))))))));
+        }
 
         abbrev G71 : Row.Cx
-        G71 = record { locals = List._++_ t49 t1; slots = List._∷_ (Row.lease (κs .0) (qs .0)) (List._∷_ (Row.lease (κs .1 .0) (qs .1 .0)) (List._∷_ (Row.lease (κs .1 .1 .0) (qs .1 .1 .0)) (List._∷_ (Row.lease (κs .1 .1 .1 .0) (qs .1
-            .1 .1 .0)) (List._∷_ (Row.lease (κs .1 .1 .1 .1 .0) (qs .1 .1 .1 .1 .0)) (List._∷_ (Row.lease (κs .1 .1 .1 .1 .1 .0) (qs .1 .1 .1 .1 .1 .0)) (List._∷_ Row.off (List._∷_ Row.off (List._∷_ Row.off (List._∷_ Row.off (List._∷_
-            Row.off (List._∷_ Row.off (List._∷_ Row.off (List._∷_ Row.off List.[]))))))))))))); }
+        G71 = record {
+          locals = List._++_ t49 t1;
+          slots = List._∷_ (Row.lease (κs .0) (qs .0)) (List._∷_ (Row.lease (κs .1 .0) (qs .1 .0)) (List._∷_ (Row.lease (κs .1 .1 .0) (qs .1 .1 .0)) (List._∷_ (Row.lease (κs .1 .1 .1 .0) (qs .1
+              .1 .1 .0)) (List._∷_ (Row.lease (κs .1 .1 .1 .1 .0) (qs .1 .1 .1 .1 .0)) (List._∷_ (Row.lease (κs .1 .1 .1 .1 .1 .0) (qs .1 .1 .1 .1 .1 .0)) (List._∷_ Row.off (List._∷_ Row.off (List._∷_ Row.off (List._∷_ Row.off (List._∷_
+              Row.off (List._∷_ Row.off (List._∷_ Row.off (List._∷_ Row.off List.[])))))))))))));
+        }
 
         abbrev G72 : Row.Cx
-        G72 = record { locals = List._++_ t50 t1; slots = List._∷_ (Row.lease (κs .0) (qs .0)) (List._∷_ (Row.lease (κs .1 .0) (qs .1 .0)) (List._∷_ (Row.lease (κs .1 .1 .0) (qs .1 .1 .0)) (List._∷_ (Row.lease (κs .1 .1 .1 .0) (qs .1
-            .1 .1 .0)) (List._∷_ (Row.lease (κs .1 .1 .1 .1 .0) (qs .1 .1 .1 .1 .0)) (List._∷_ (Row.lease (κs .1 .1 .1 .1 .1 .0) (qs .1 .1 .1 .1 .1 .0)) (List._∷_ Row.off (List._∷_ Row.off (List._∷_ Row.off (List._∷_ Row.off (List._∷_
-            Row.off (List._∷_ Row.off (List._∷_ Row.off (List._∷_ Row.off List.[]))))))))))))); }
+        G72 = record {
+          locals = List._++_ t50 t1;
+          slots = List._∷_ (Row.lease (κs .0) (qs .0)) (List._∷_ (Row.lease (κs .1 .0) (qs .1 .0)) (List._∷_ (Row.lease (κs .1 .1 .0) (qs .1 .1 .0)) (List._∷_ (Row.lease (κs .1 .1 .1 .0) (qs .1
+              .1 .1 .0)) (List._∷_ (Row.lease (κs .1 .1 .1 .1 .0) (qs .1 .1 .1 .1 .0)) (List._∷_ (Row.lease (κs .1 .1 .1 .1 .1 .0) (qs .1 .1 .1 .1 .1 .0)) (List._∷_ Row.off (List._∷_ Row.off (List._∷_ Row.off (List._∷_ Row.off (List._∷_
+              Row.off (List._∷_ Row.off (List._∷_ Row.off (List._∷_ Row.off List.[])))))))))))));
+        }
 
         abbrev G73 : Row.Cx
-        G73 = record { locals = List._++_ t51 t1; slots = List._∷_ (Row.lease (κs .0) (qs .0)) (List._∷_ (Row.lease (κs .1 .0) (qs .1 .0)) (List._∷_ (Row.lease (κs .1 .1 .0) (qs .1 .1 .0)) (List._∷_ (Row.lease (κs .1 .1 .1 .0) (qs .1
-            .1 .1 .0)) (List._∷_ (Row.lease (κs .1 .1 .1 .1 .0) (qs .1 .1 .1 .1 .0)) (List._∷_ (Row.lease (κs .1 .1 .1 .1 .1 .0) (qs .1 .1 .1 .1 .1 .0)) (List._∷_ Row.off (List._∷_ Row.off (List._∷_ Row.off (List._∷_ Row.off (List._∷_
-            Row.off (List._∷_ Row.off (List._∷_ Row.off (List._∷_ Row.off List.[]))))))))))))); }
+        G73 = record {
+          locals = List._++_ t51 t1;
+          slots = List._∷_ (Row.lease (κs .0) (qs .0)) (List._∷_ (Row.lease (κs .1 .0) (qs .1 .0)) (List._∷_ (Row.lease (κs .1 .1 .0) (qs .1 .1 .0)) (List._∷_ (Row.lease (κs .1 .1 .1 .0) (qs .1
+              .1 .1 .0)) (List._∷_ (Row.lease (κs .1 .1 .1 .1 .0) (qs .1 .1 .1 .1 .0)) (List._∷_ (Row.lease (κs .1 .1 .1 .1 .1 .0) (qs .1 .1 .1 .1 .1 .0)) (List._∷_ Row.off (List._∷_ Row.off (List._∷_ Row.off (List._∷_ Row.off (List._∷_
+              Row.off (List._∷_ Row.off (List._∷_ Row.off (List._∷_ Row.off List.[])))))))))))));
+        }
 
         abbrev G74 : Row.Cx
-        G74 = record { locals = List._++_ t52 t1; slots = List._∷_ (Row.lease (κs .0) (qs .0)) (List._∷_ (Row.lease (κs .1 .0) (qs .1 .0)) (List._∷_ (Row.lease (κs .1 .1 .0) (qs .1 .1 .0)) (List._∷_ (Row.lease (κs .1 .1 .1 .0) (qs .1
-            .1 .1 .0)) (List._∷_ (Row.lease (κs .1 .1 .1 .1 .0) (qs .1 .1 .1 .1 .0)) (List._∷_ (Row.lease (κs .1 .1 .1 .1 .1 .0) (qs .1 .1 .1 .1 .1 .0)) (List._∷_ Row.off (List._∷_ Row.off (List._∷_ Row.off (List._∷_ Row.off (List._∷_
-            Row.off (List._∷_ Row.off (List._∷_ Row.off (List._∷_ Row.off List.[]))))))))))))); }
+        G74 = record {
+          locals = List._++_ t52 t1;
+          slots = List._∷_ (Row.lease (κs .0) (qs .0)) (List._∷_ (Row.lease (κs .1 .0) (qs .1 .0)) (List._∷_ (Row.lease (κs .1 .1 .0) (qs .1 .1 .0)) (List._∷_ (Row.lease (κs .1 .1 .1 .0) (qs .1
+              .1 .1 .0)) (List._∷_ (Row.lease (κs .1 .1 .1 .1 .0) (qs .1 .1 .1 .1 .0)) (List._∷_ (Row.lease (κs .1 .1 .1 .1 .1 .0) (qs .1 .1 .1 .1 .1 .0)) (List._∷_ Row.off (List._∷_ Row.off (List._∷_ Row.off (List._∷_ Row.off (List._∷_
+              Row.off (List._∷_ Row.off (List._∷_ Row.off (List._∷_ Row.off List.[])))))))))))));
+        }
 
         abbrev G75 : Row.Cx
-        G75 = record { locals = List._++_ t2 t1; slots = List._∷_ (Row.lease (κs .0) (qs .0)) (List._∷_ (Row.lease (κs .1 .0) (qs .1 .0)) (List._∷_ (Row.lease (κs .1 .1 .0) (qs .1 .1 .0)) (List._∷_ (Row.lease (κs .1 .1 .1 .0) (qs .1 .1
-            .1 .0)) (List._∷_ (Row.lease (κs .1 .1 .1 .1 .0) (qs .1 .1 .1 .1 .0)) (List._∷_ (Row.lease (κs .1 .1 .1 .1 .1 .0) (qs .1 .1 .1 .1 .1 .0)) (List._∷_ Row.off (List._∷_ Row.off (List._∷_ Row.off (List._∷_ Row.off (List._∷_
-            Row.off (List._∷_ Row.off (List._∷_ Row.off (List._∷_ Row.off List.[]))))))))))))); }
+        G75 = record {
+          locals = List._++_ t2 t1;
+          slots = List._∷_ (Row.lease (κs .0) (qs .0)) (List._∷_ (Row.lease (κs .1 .0) (qs .1 .0)) (List._∷_ (Row.lease (κs .1 .1 .0) (qs .1 .1 .0)) (List._∷_ (Row.lease (κs .1 .1 .1 .0) (qs .1 .1
+              .1 .0)) (List._∷_ (Row.lease (κs .1 .1 .1 .1 .0) (qs .1 .1 .1 .1 .0)) (List._∷_ (Row.lease (κs .1 .1 .1 .1 .1 .0) (qs .1 .1 .1 .1 .1 .0)) (List._∷_ Row.off (List._∷_ Row.off (List._∷_ Row.off (List._∷_ Row.off (List._∷_
+              Row.off (List._∷_ Row.off (List._∷_ Row.off (List._∷_ Row.off List.[])))))))))))));
+        }
 
         abbrev Δ0 : Typed.Outs
         Δ0 = record { next = Option.none; exits = List.[]; returns = Option.some G1 }
@@ -1933,18 +3480,30 @@ module _ (claims· : Claims) where
           d4 : Typed.Typed 𝓤 H A 𝓣 E G71 b24 Δ0 (at4 bs)
           d4 = Typed.s-seq 𝓤 H A W 𝓣 E G71 G72 b22 b23 Δ0 (Typed.both (s70 bs)) (at3 bs) (WayStmt.t-way-copy-out 𝓤 H A W E 𝓣 (Declared'.row Answered.the-type) Path'.refl (Copies.cStruct Answered.the-type Laws''.the-laws Laws''.the-copy
               .copy 𝓤 H A W) (λ ρ. Unit) G71 (Row.out 12 (G71 .locals)) (λ u. Row.drop 12 (G71 .locals) u) (G71 .slots) 12 (λ t. List._∷_ (Syntax.field 0) t) El.Answered El.Answered 0 (Rows'.whole (Declared'.row Answered.the-type)) (λ x.
-              x) (λ u. At.getAt (Worked.the-type .parts) 0 (Worked.struct .as-values (u .1 .1 .1 .1 .1 .1 .1 .1 .1 .1 .1 .1 .0))) (λ u. (Row.hd 0 (Row.tl (Row.tl (Row.tl (Row.tl (Row.tl (Row.tl (Row.tl (Row.tl (Row.tl (Row.tl (Row.tl
-              (Row.tl bs)))))))))))), Nat._+_ 0 0)) (λ T′. record { locals = Row.setRow 12 (12, Rows'.whole (Declared'.row Worked.the-type)) T′; slots = G71 .slots; }) (λ u T′ m′. Row.set 12 (12, Rows'.whole (Declared'.row
-              Worked.the-type)) (u .1 .1 .1 .1 .1 .1 .1 .1 .1 .1 .1 .1 .0) T′ m′) (λ u. Unit) (λ x. Unit) (Own.told-none 𝓤 H A (G71 .slots)) (DerefMove.learns-nothing 𝓤 H A (Declared'.row Answered.the-type)) (λ ρ told u asked.
+              x) (λ u. At.getAt (Worked.the-type .parts) 0 (Worked.struct .as-values (u .1 .1 .1 .1 .1 .1 .1 .1 .1 .1 .1 .1 .0))) (λ u. (
+                Row.hd 0 (Row.tl (Row.tl (Row.tl (Row.tl (Row.tl (Row.tl (Row.tl (Row.tl (Row.tl (Row.tl (Row.tl
+                    (Row.tl bs)))))))))))),
+                Nat._+_ 0 0,
+              )) (λ T′. record { locals = Row.setRow 12 (12, Rows'.whole (Declared'.row Worked.the-type)) T′; slots = G71 .slots }) (λ u T′ m′. Row.set 12 (
+                12,
+                Rows'.whole (Declared'.row
+                    Worked.the-type),
+              ) (u .1 .1 .1 .1 .1 .1 .1 .1 .1 .1 .1 .1 .0) T′ m′) (λ u. Unit) (λ x. Unit) (Own.told-none 𝓤 H A (G71 .slots)) (DerefMove.learns-nothing 𝓤 H A (Declared'.row Answered.the-type)) (λ ρ told u asked.
               Way'.w-partˢ 𝓤 H A W E (Declared'.row Worked.the-type) (Declared'.row Answered.the-type) El.Worked El.Answered 0 0 (u .1 .1 .1 .1 .1 .1 .1 .1 .1 .1 .1 .1 .0) (At.getAt (Worked.the-type .parts) 0 (Worked.struct .as-values (u
               .1 .1 .1 .1 .1 .1 .1 .1 .1 .1 .1 .1 .0))) (Row.hd 0 (Row.tl (Row.tl (Row.tl (Row.tl (Row.tl (Row.tl (Row.tl (Row.tl (Row.tl (Row.tl (Row.tl (Row.tl bs)))))))))))), 0) (Way.w-look 𝓤 H A W E (Way.w-local 𝓤 H A W E G71 ρ u
               (G71 .slots) 12 (Declared'.row Worked.the-type) (Rows'.whole (Declared'.row Worked.the-type)) (λ x. x) (λ x. x) (u .1 .1 .1 .1 .1 .1 .1 .1 .1 .1 .1 .1 .0) (Local.mem-whole 𝓤 H A W (Declared'.row Worked.the-type) ρ (u .1
               .1 .1 .1 .1 .1 .1 .1 .1 .1 .1 .1 .0) (Row.hd 0 (Row.tl (Row.tl (Row.tl (Row.tl (Row.tl (Row.tl (Row.tl (Row.tl (Row.tl (Row.tl (Row.tl (Row.tl bs)))))))))))))) (Local.whole-mem 𝓤 H A W (Declared'.row Worked.the-type) ρ (u
               .1 .1 .1 .1 .1 .1 .1 .1 .1 .1 .1 .1 .0) (Row.hd 0 (Row.tl (Row.tl (Row.tl (Row.tl (Row.tl (Row.tl (Row.tl (Row.tl (Row.tl (Row.tl (Row.tl (Row.tl bs)))))))))))))))) Path'.refl λ q. Inner.cut-record 𝓤 H A q (Declared'.row
               Worked.the-type) Answered.the-type 0 (u .1 .1 .1 .1 .1 .1 .1 .1 .1 .1 .1 .1 .0) (u .1 .1 .1 .1 .1 .1 .1 .1 .1 .1 .1 .1 .0) (At.getAt (Worked.the-type .parts) 0 (Worked.struct .as-values (u .1 .1 .1 .1 .1 .1 .1 .1 .1 .1 .1
-              .1 .0))) (At.getAt (Worked.the-type .parts) 0 (Worked.struct .as-values (u .1 .1 .1 .1 .1 .1 .1 .1 .1 .1 .1 .1 .0))) (Row.hd 0 (Row.tl (Row.tl (Row.tl (Row.tl (Row.tl (Row.tl (Row.tl (Row.tl (Row.tl (Row.tl (Row.tl
-              (Row.tl bs)))))))))))), 0) (Behind.look-at 𝓤 H A W q Worked.the-type Laws'.the-laws 0 0 Path'.refl Path'.refl (Row.hd 0 (Row.tl (Row.tl (Row.tl (Row.tl (Row.tl (Row.tl (Row.tl (Row.tl (Row.tl (Row.tl (Row.tl (Row.tl
-              bs)))))))))))), 0) (u .1 .1 .1 .1 .1 .1 .1 .1 .1 .1 .1 .1 .0) (Worked.struct .as-values (u .1 .1 .1 .1 .1 .1 .1 .1 .1 .1 .1 .1 .0)) Path'.refl)) (Reads'.room-gone 𝓤 H A El.Answered) (Yields.makes-mem 𝓤 H A W (λ ρ. Unit)
+              .1 .0))) (At.getAt (Worked.the-type .parts) 0 (Worked.struct .as-values (u .1 .1 .1 .1 .1 .1 .1 .1 .1 .1 .1 .1 .0))) (
+                Row.hd 0 (Row.tl (Row.tl (Row.tl (Row.tl (Row.tl (Row.tl (Row.tl (Row.tl (Row.tl (Row.tl (Row.tl
+                    (Row.tl bs)))))))))))),
+                0,
+              ) (Behind.look-at 𝓤 H A W q Worked.the-type Laws'.the-laws 0 0 Path'.refl Path'.refl (
+                Row.hd 0 (Row.tl (Row.tl (Row.tl (Row.tl (Row.tl (Row.tl (Row.tl (Row.tl (Row.tl (Row.tl (Row.tl (Row.tl
+                    bs)))))))))))),
+                0,
+              ) (u .1 .1 .1 .1 .1 .1 .1 .1 .1 .1 .1 .1 .0) (Worked.struct .as-values (u .1 .1 .1 .1 .1 .1 .1 .1 .1 .1 .1 .1 .0)) Path'.refl)) (Reads'.room-gone 𝓤 H A El.Answered) (Yields.makes-mem 𝓤 H A W (λ ρ. Unit)
               (Declared'.row Answered.the-type) Path'.refl (Rows'.whole (Declared'.row Answered.the-type)) (λ x. x) λ ρ told. Local.whole-mem 𝓤 H A W (Declared'.row Answered.the-type) ρ) Path'.refl Path'.refl Path'.refl) d3
 
           d5 : Typed.Typed 𝓤 H A 𝓣 E G70 b24 Δ0 (at5 bs)
@@ -1980,12 +3539,40 @@ module _ (claims· : Claims) where
               Syntax.imm El.word) (Syntax.tcons El.word Syntax.tnil))) (Shared.room-sslice 𝓤 H A W (Referent.rtF (Referent.fInt Syntax.w64)) (Syntax.tyRef Syntax.erased Syntax.imm El.word) 13)) d12
 
           d14 : Typed.Typed 𝓤 H A 𝓣 E G61 b25 Δ0 (at14 bs)
-          d14 = Typed.s-seq 𝓤 H A W 𝓣 E G61 G62 b21 b24 Δ0 (Typed.both (s60 bs)) (at13 bs) (Plain.t-call-plain 𝓤 H A W 𝓣 2 ps·3 r·3 (claims· .6) (claims· .7) "records_tasks::save" (known .3) E (λ pos β. β) G61 (record { pos = 28; ty =
-              Syntax.tyRef Syntax.erased Syntax.mut El.named; ref = λ x. x; }, (record { pos = 30; ty = Syntax.tyRef Syntax.erased Syntax.imm El.word; ref = λ x. x; }, (Num.vFld 12 (List._∷_ (Syntax.field 1) List.[]) 1096 λ x.
-              Worked.struct .as-values x .1 .0, tt))) 26 (List._∷_ 12 (List._∷_ 13 List.[])) (Call.sub-id 𝓤 H A W (G61 .slots)) (Reads'.as-is 𝓤 H A (Mut.mslice El.row (Syntax.tyRef Syntax.erased Syntax.mut El.named) 12), Mut.reads-mslice
-              𝓤 H A W El.row (Syntax.tyRef Syntax.erased Syntax.mut El.named) 12, Path'.refl, (ShrSlice.spares-sslice 𝓤 H A W (Referent.rtF (Referent.fInt Syntax.w64)) (Syntax.tyRef Syntax.erased Syntax.imm El.word) 13,
-              Shared.reads-sslice 𝓤 H A W (Referent.rtF (Referent.fInt Syntax.w64)) (Syntax.tyRef Syntax.erased Syntax.imm El.word) 13, Path'.refl, ((Reads.reads-field 𝓤 H A W Worked.the-type Laws'.the-laws 1 (Syntax.tyInt Syntax.w16)
-              1096 Path'.refl, Path'.refl), tt))) (Reads'.room-gone 𝓤 H A Syntax.tyUnit) (tt, (tt, tt)) Path'.refl) d13
+          d14 = Typed.s-seq 𝓤 H A W 𝓣 E G61 G62 b21 b24 Δ0 (Typed.both (s60 bs)) (at13 bs) (Plain.t-call-plain 𝓤 H A W 𝓣 2 ps·3 r·3 (claims· .6) (claims· .7) "records_tasks::save" (known .3) E (λ pos β. β) G61 (
+            record {
+              pos = 28;
+              ty =
+                  Syntax.tyRef Syntax.erased Syntax.mut El.named;
+              ref = λ x. x;
+            },
+            (
+              record { pos = 30; ty = Syntax.tyRef Syntax.erased Syntax.imm El.word; ref = λ x. x },
+              (
+                Num.vFld 12 (List._∷_ (Syntax.field 1) List.[]) 1096 λ x.
+                    Worked.struct .as-values x .1 .0,
+                tt,
+              ),
+            ),
+          ) 26 (List._∷_ 12 (List._∷_ 13 List.[])) (Call.sub-id 𝓤 H A W (G61 .slots)) (
+            Reads'.as-is 𝓤 H A (Mut.mslice El.row (Syntax.tyRef Syntax.erased Syntax.mut El.named) 12),
+            Mut.reads-mslice
+                𝓤 H A W El.row (Syntax.tyRef Syntax.erased Syntax.mut El.named) 12,
+            Path'.refl,
+            (
+              ShrSlice.spares-sslice 𝓤 H A W (Referent.rtF (Referent.fInt Syntax.w64)) (Syntax.tyRef Syntax.erased Syntax.imm El.word) 13,
+              Shared.reads-sslice 𝓤 H A W (Referent.rtF (Referent.fInt Syntax.w64)) (Syntax.tyRef Syntax.erased Syntax.imm El.word) 13,
+              Path'.refl,
+              (
+                (
+                  Reads.reads-field 𝓤 H A W Worked.the-type Laws'.the-laws 1 (Syntax.tyInt Syntax.w16)
+                      1096 Path'.refl,
+                  Path'.refl,
+                ),
+                tt,
+              ),
+            ),
+          ) (Reads'.room-gone 𝓤 H A Syntax.tyUnit) (tt, (tt, tt)) Path'.refl) d13
 
           d15 : Typed.Typed 𝓤 H A 𝓣 E G60 b26 Δ0 (at15 bs)
           d15 = Typed.s-seq 𝓤 H A W 𝓣 E G60 G61 b20 b25 Δ0 (Typed.ask (s59 bs)) (at14 bs) (Relend.t-sl-aggregate 𝓤 H A W E (Referent.rtF (Referent.fInt Syntax.w64)) 𝓣 (Relend.asShr (Referent.rtF (Referent.fInt Syntax.w64))) G60 29 30
@@ -1999,14 +3586,88 @@ module _ (claims· : Claims) where
               Path'.refl (λ b o. tt) (Dec'.lit< tt, Dec'.lit< tt)) d15
 
           d17 : Typed.Typed 𝓤 H A 𝓣 E G58 b27 Δ0 (at17 bs)
-          d17 = Typed.g-pre 𝓤 H A W 𝓣 E G58 G59 b27 Δ0 (λ Ψ. Ψ) (at16 bs) (Lifetime.g-begin 𝓤 H A W E G58 13 (tt, ((tt, tt), (tt, (tt, (tt, (tt, (tt, (tt, (tt, (tt, (tt, (tt, (tt, (tt, (tt, (tt, (tt, (tt, (tt, (tt, (tt, (tt, (tt, (tt,
-              (tt, (tt, (tt, (tt, (tt, (tt, (tt, tt)))))))))))))))))))))))))))))))) d16
+          d17 = Typed.g-pre 𝓤 H A W 𝓣 E G58 G59 b27 Δ0 (λ Ψ. Ψ) (at16 bs) (Lifetime.g-begin 𝓤 H A W E G58 13 (
+            tt,
+            (
+              (tt, tt),
+              (
+                tt,
+                (
+                  tt,
+                  (
+                    tt,
+                    (
+                      tt,
+                      (
+                        tt,
+                        (
+                          tt,
+                          (
+                            tt,
+                            (
+                              tt,
+                              (
+                                tt,
+                                (
+                                  tt,
+                                  (
+                                    tt,
+                                    (
+                                      tt,
+                                      (
+                                        tt,
+                                        (
+                                          tt,
+                                          (
+                                            tt,
+                                            (
+                                              tt,
+                                              (
+                                                tt,
+                                                (
+                                                  tt,
+                                                  (
+                                                    tt,
+                                                    (
+                                                      tt,
+                                                      (
+                                                        tt,
+                                                        (
+                                                          tt,
+                                                          (tt, (tt, (tt, (tt, (tt, (tt, (tt, tt))))))),
+                                                        ),
+                                                      ),
+                                                    ),
+                                                  ),
+                                                ),
+                                              ),
+                                            ),
+                                          ),
+                                        ),
+                                      ),
+                                    ),
+                                  ),
+                                ),
+                              ),
+                            ),
+                          ),
+                        ),
+                      ),
+                    ),
+                  ),
+                ),
+              ),
+            ),
+          )) d16
 
           d18 : Typed.Typed 𝓤 H A 𝓣 E G57 b28 Δ0 (at18 bs)
           d18 = Typed.s-seq 𝓤 H A W 𝓣 E G57 G58 b18 b27 Δ0 (Typed.ask (s56 bs)) (at17 bs) (Relend.t-sl-aggregate 𝓤 H A W E El.row 𝓣 (Relend.asMut El.row) G57 27 28 12 (Syntax.tyRef Syntax.erased Syntax.mut El.named) (Syntax.tyRef
               Syntax.erased Syntax.mut El.named) (λ x. x) (Scalar.oFld 1 (List._∷_ (Syntax.field 1) List.[]) El.word 8 λ v. Shared.lenV (v .0)) (Reads'.as-is 𝓤 H A (Relend.msptr El.row (Syntax.tyRef Syntax.erased Syntax.mut El.named) 12))
-              (Reads'.room-gone 𝓤 H A (Syntax.tyStruct (List._∷_ 38 (List._∷_ 91 (List._∷_ 93 List.[]))) (Syntax.tcons (Syntax.tyRef Syntax.erased Syntax.mut El.named) (Syntax.tcons El.word Syntax.tnil)))) (Relend.reads-owed-len 𝓤 H A W
-              El.row (Syntax.tyRef (Syntax.named 0) Syntax.mut El.named) 0 12 (Row.lease (κs .0) (qs .0)) 8 Path'.refl, Path'.refl) Path'.refl Path'.refl λ b o k. tt) d17
+              (Reads'.room-gone 𝓤 H A (Syntax.tyStruct (List._∷_ 38 (List._∷_ 91 (List._∷_ 93 List.[]))) (Syntax.tcons (Syntax.tyRef Syntax.erased Syntax.mut El.named) (Syntax.tcons El.word Syntax.tnil)))) (
+                Relend.reads-owed-len 𝓤 H A W
+                    El.row (Syntax.tyRef (Syntax.named 0) Syntax.mut El.named) 0 12 (Row.lease (κs .0) (qs .0)) 8 Path'.refl,
+                Path'.refl,
+              ) Path'.refl Path'.refl λ b o k. tt) d17
 
           d19 : Typed.Typed 𝓤 H A 𝓣 E G56 b29 Δ0 (at19 bs)
           d19 = Typed.s-seq 𝓤 H A W 𝓣 E G56 G57 b17 b28 Δ0 (Typed.give (s55 bs)) (at18 bs) (Relend.t-sl-relend 𝓤 H A W E El.row 𝓣 G56 1 27 0 12 (Syntax.tyRef (Syntax.named 0) Syntax.mut El.named) (Syntax.tyRef Syntax.erased Syntax.mut
@@ -2014,8 +3675,82 @@ module _ (claims· : Claims) where
               Path'.refl tt Path'.refl Path'.refl Path'.refl λ b o. tt) d18
 
           d20 : Typed.Typed 𝓤 H A 𝓣 E G55 b29 Δ0 (at20 bs)
-          d20 = Typed.g-pre 𝓤 H A W 𝓣 E G55 G56 b29 Δ0 (λ Ψ. Ψ) (at19 bs) (Lifetime.g-begin 𝓤 H A W E G55 12 (tt, (tt, (tt, (tt, (tt, (tt, (tt, (tt, (tt, (tt, (tt, (tt, (tt, (tt, (tt, (tt, (tt, (tt, (tt, (tt, (tt, (tt, (tt, (tt, (tt,
-              (tt, (tt, (tt, (tt, (tt, (tt, tt)))))))))))))))))))))))))))))))) d19
+          d20 = Typed.g-pre 𝓤 H A W 𝓣 E G55 G56 b29 Δ0 (λ Ψ. Ψ) (at19 bs) (Lifetime.g-begin 𝓤 H A W E G55 12 (
+            tt,
+            (
+              tt,
+              (
+                tt,
+                (
+                  tt,
+                  (
+                    tt,
+                    (
+                      tt,
+                      (
+                        tt,
+                        (
+                          tt,
+                          (
+                            tt,
+                            (
+                              tt,
+                              (
+                                tt,
+                                (
+                                  tt,
+                                  (
+                                    tt,
+                                    (
+                                      tt,
+                                      (
+                                        tt,
+                                        (
+                                          tt,
+                                          (
+                                            tt,
+                                            (
+                                              tt,
+                                              (
+                                                tt,
+                                                (
+                                                  tt,
+                                                  (
+                                                    tt,
+                                                    (
+                                                      tt,
+                                                      (
+                                                        tt,
+                                                        (
+                                                          tt,
+                                                          (
+                                                            tt,
+                                                            (tt, (tt, (tt, (tt, (tt, (tt, tt)))))),
+                                                          ),
+                                                        ),
+                                                      ),
+                                                    ),
+                                                  ),
+                                                ),
+                                              ),
+                                            ),
+                                          ),
+                                        ),
+                                      ),
+                                    ),
+                                  ),
+                                ),
+                              ),
+                            ),
+                          ),
+                        ),
+                      ),
+                    ),
+                  ),
+                ),
+              ),
+            ),
+          )) d19
 
           d21 : Typed.Typed 𝓤 H A 𝓣 E G54 b29 Δ0 (at21 bs)
           d21 = Typed.g-pre 𝓤 H A W 𝓣 E G54 G55 b29 Δ0 (λ Ψ. Ψ) (at20 bs) (Lifetime.g-forget 𝓤 H A W E G54 11 Row.dead Path'.refl) d20
@@ -2080,30 +3815,117 @@ module _ (claims· : Claims) where
           d37 = Typed.g-pre 𝓤 H A W 𝓣 E G38 G39 b29 Δ0 (Typed.pass T38 T39 (s37 bs)) (at36 bs) (Scalar.g-room 𝓤 H A W E G38 5 El.ReadyQueue (Local.room-whole 𝓤 H A W (Declared'.row ReadyQueue.the-type) El.ReadyQueue Path'.refl)) d36
 
           d38 : Typed.Typed 𝓤 H A 𝓣 E G37 b30 Δ0 (at38 bs)
-          d38 = Typed.s-seq 𝓤 H A W 𝓣 E G37 G38 b16 b29 Δ0 (Typed.both (s36 bs)) (at37 bs) (Plain.t-call-plain 𝓤 H A W 𝓣 6 ps·2 r·2 (claims· .4) (claims· .5) "records_words::dispatch" (known .2) E (λ pos β. β) G37 (Num.vAt 9 λ x. x,
-              (record { pos = 19; ty = Syntax.tyRef Syntax.erased Syntax.mut El.word; ref = λ x. x; }, (record { pos = 21; ty = Syntax.tyRef Syntax.erased Syntax.mut El.word; ref = λ x. x; }, (record { pos = 23; ty = Syntax.tyRef
-              Syntax.erased Syntax.mut El.word; ref = λ x. x; }, (record { pos = 25; ty = Syntax.tyRef Syntax.erased Syntax.mut El.word; ref = λ x. x; }, (record { pos = 5; st = List.[]; d = 0; at = λ x. x }, (record { pos = 6; st =
-              List.[]; d = 0; at = λ x. x }, (record { pos = 7; ty = Syntax.tyRef (Syntax.named 4) Syntax.imm (Syntax.tyInt Syntax.w16); ref = λ x. x; }, (record { pos = 8; ty = Syntax.tyRef (Syntax.named 5) Syntax.imm (Syntax.tyInt
-              Syntax.w8); ref = λ x. x; }, tt))))))))) 12 (List._∷_ 8 (List._∷_ 9 (List._∷_ 10 (List._∷_ 11 (List._∷_ 4 (List._∷_ 5 List.[])))))) (Call.sub-id 𝓤 H A W (G37 .slots)) ((Scalar.reads-sc 𝓤 H A W (Row.sInt Syntax.w64),
-              Path'.refl), (Reads'.as-is 𝓤 H A (Mut.mslice (Referent.rtF (Referent.fInt Syntax.w64)) (Syntax.tyRef Syntax.erased Syntax.mut El.word) 8), Mut.reads-mslice 𝓤 H A W (Referent.rtF (Referent.fInt Syntax.w64)) (Syntax.tyRef
-              Syntax.erased Syntax.mut El.word) 8, Path'.refl, (Reads'.as-is 𝓤 H A (Mut.mslice (Referent.rtF (Referent.fInt Syntax.w64)) (Syntax.tyRef Syntax.erased Syntax.mut El.word) 9), Mut.reads-mslice 𝓤 H A W (Referent.rtF
-              (Referent.fInt Syntax.w64)) (Syntax.tyRef Syntax.erased Syntax.mut El.word) 9, Path'.refl, (Reads'.as-is 𝓤 H A (Mut.mslice (Referent.rtF (Referent.fInt Syntax.w64)) (Syntax.tyRef Syntax.erased Syntax.mut El.word) 10),
-              Mut.reads-mslice 𝓤 H A W (Referent.rtF (Referent.fInt Syntax.w64)) (Syntax.tyRef Syntax.erased Syntax.mut El.word) 10, Path'.refl, (Reads'.as-is 𝓤 H A (Mut.mslice (Referent.rtF (Referent.fInt Syntax.w64)) (Syntax.tyRef
-              Syntax.erased Syntax.mut El.word) 11), Mut.reads-mslice 𝓤 H A W (Referent.rtF (Referent.fInt Syntax.w64)) (Syntax.tyRef Syntax.erased Syntax.mut El.word) 11, Path'.refl, ((Yields.yields-copy 𝓤 H A W (λ ρ. Unit)
-              (Declared'.row ReadyQueue.the-type) Path'.refl (Copies.cStruct ReadyQueue.the-type Laws.the-laws Laws.the-copy .copy 𝓤 H A W) (Rows'.whole (Declared'.row ReadyQueue.the-type)) (λ x. x) (λ x. x) (λ ρ told. Local.mem-whole
-              𝓤 H A W (Declared'.row ReadyQueue.the-type) ρ) λ ρ told. Local.whole-mem 𝓤 H A W (Declared'.row ReadyQueue.the-type) ρ, Path'.refl), ((Yields.yields-copy 𝓤 H A W (λ ρ. Unit) (Declared.row Event.the-type) Path'.refl
-              (Copies.cEnum Event.the-type Laws'3.the-laws Laws'3.the-copy .copy 𝓤 H A W) (Rows'.whole (Declared.row Event.the-type)) (λ x. x) (λ x. x) (λ ρ told. Local.mem-whole 𝓤 H A W (Declared.row Event.the-type) ρ) λ ρ told.
-              Local.whole-mem 𝓤 H A W (Declared.row Event.the-type) ρ, Path'.refl), (ShrSlice.spares-sslice 𝓤 H A W (Referent.rtF (Referent.fInt Syntax.w16)) (Syntax.tyRef (Syntax.named 4) Syntax.imm (Syntax.tyInt Syntax.w16)) 4,
-              Shared.reads-sslice 𝓤 H A W (Referent.rtF (Referent.fInt Syntax.w16)) (Syntax.tyRef (Syntax.named 4) Syntax.imm (Syntax.tyInt Syntax.w16)) 4, Path'.refl, (ShrSlice.spares-sslice 𝓤 H A W (Referent.rtF (Referent.fInt
-              Syntax.w8)) (Syntax.tyRef (Syntax.named 5) Syntax.imm (Syntax.tyInt Syntax.w8)) 5, Shared.reads-sslice 𝓤 H A W (Referent.rtF (Referent.fInt Syntax.w8)) (Syntax.tyRef (Syntax.named 5) Syntax.imm (Syntax.tyInt Syntax.w8))
-              5, Path'.refl, tt))))))))) (Reads'.room-gone 𝓤 H A El.Worked) (tt, (tt, (tt, (tt, (tt, (tt, tt)))))) Path'.refl) d37
+          d38 = Typed.s-seq 𝓤 H A W 𝓣 E G37 G38 b16 b29 Δ0 (Typed.both (s36 bs)) (at37 bs) (Plain.t-call-plain 𝓤 H A W 𝓣 6 ps·2 r·2 (claims· .4) (claims· .5) "records_words::dispatch" (known .2) E (λ pos β. β) G37 (
+            Num.vAt 9 λ x. x,
+            (
+              record { pos = 19; ty = Syntax.tyRef Syntax.erased Syntax.mut El.word; ref = λ x. x },
+              (
+                record { pos = 21; ty = Syntax.tyRef Syntax.erased Syntax.mut El.word; ref = λ x. x },
+                (
+                  record {
+                    pos = 23;
+                    ty = Syntax.tyRef
+                        Syntax.erased Syntax.mut El.word;
+                    ref = λ x. x;
+                  },
+                  (
+                    record { pos = 25; ty = Syntax.tyRef Syntax.erased Syntax.mut El.word; ref = λ x. x },
+                    (
+                      record { pos = 5; st = List.[]; d = 0; at = λ x. x },
+                      (
+                        record {
+                          pos = 6;
+                          st =
+                              List.[];
+                          d = 0;
+                          at = λ x. x;
+                        },
+                        (
+                          record { pos = 7; ty = Syntax.tyRef (Syntax.named 4) Syntax.imm (Syntax.tyInt Syntax.w16); ref = λ x. x },
+                          (
+                            record {
+                              pos = 8;
+                              ty = Syntax.tyRef (Syntax.named 5) Syntax.imm (Syntax.tyInt
+                                  Syntax.w8);
+                              ref = λ x. x;
+                            },
+                            tt,
+                          ),
+                        ),
+                      ),
+                    ),
+                  ),
+                ),
+              ),
+            ),
+          ) 12 (List._∷_ 8 (List._∷_ 9 (List._∷_ 10 (List._∷_ 11 (List._∷_ 4 (List._∷_ 5 List.[])))))) (Call.sub-id 𝓤 H A W (G37 .slots)) (
+            (
+              Scalar.reads-sc 𝓤 H A W (Row.sInt Syntax.w64),
+              Path'.refl,
+            ),
+            (
+              Reads'.as-is 𝓤 H A (Mut.mslice (Referent.rtF (Referent.fInt Syntax.w64)) (Syntax.tyRef Syntax.erased Syntax.mut El.word) 8),
+              Mut.reads-mslice 𝓤 H A W (Referent.rtF (Referent.fInt Syntax.w64)) (Syntax.tyRef
+                  Syntax.erased Syntax.mut El.word) 8,
+              Path'.refl,
+              (
+                Reads'.as-is 𝓤 H A (Mut.mslice (Referent.rtF (Referent.fInt Syntax.w64)) (Syntax.tyRef Syntax.erased Syntax.mut El.word) 9),
+                Mut.reads-mslice 𝓤 H A W (Referent.rtF
+                    (Referent.fInt Syntax.w64)) (Syntax.tyRef Syntax.erased Syntax.mut El.word) 9,
+                Path'.refl,
+                (
+                  Reads'.as-is 𝓤 H A (Mut.mslice (Referent.rtF (Referent.fInt Syntax.w64)) (Syntax.tyRef Syntax.erased Syntax.mut El.word) 10),
+                  Mut.reads-mslice 𝓤 H A W (Referent.rtF (Referent.fInt Syntax.w64)) (Syntax.tyRef Syntax.erased Syntax.mut El.word) 10,
+                  Path'.refl,
+                  (
+                    Reads'.as-is 𝓤 H A (Mut.mslice (Referent.rtF (Referent.fInt Syntax.w64)) (Syntax.tyRef
+                        Syntax.erased Syntax.mut El.word) 11),
+                    Mut.reads-mslice 𝓤 H A W (Referent.rtF (Referent.fInt Syntax.w64)) (Syntax.tyRef Syntax.erased Syntax.mut El.word) 11,
+                    Path'.refl,
+                    (
+                      (
+                        Yields.yields-copy 𝓤 H A W (λ ρ. Unit)
+                            (Declared'.row ReadyQueue.the-type) Path'.refl (Copies.cStruct ReadyQueue.the-type Laws.the-laws Laws.the-copy .copy 𝓤 H A W) (Rows'.whole (Declared'.row ReadyQueue.the-type)) (λ x. x) (λ x. x) (λ ρ told. Local.mem-whole
+                            𝓤 H A W (Declared'.row ReadyQueue.the-type) ρ) λ ρ told. Local.whole-mem 𝓤 H A W (Declared'.row ReadyQueue.the-type) ρ,
+                        Path'.refl,
+                      ),
+                      (
+                        (
+                          Yields.yields-copy 𝓤 H A W (λ ρ. Unit) (Declared.row Event.the-type) Path'.refl
+                              (Copies.cEnum Event.the-type Laws'3.the-laws Laws'3.the-copy .copy 𝓤 H A W) (Rows'.whole (Declared.row Event.the-type)) (λ x. x) (λ x. x) (λ ρ told. Local.mem-whole 𝓤 H A W (Declared.row Event.the-type) ρ) λ ρ told.
+                              Local.whole-mem 𝓤 H A W (Declared.row Event.the-type) ρ,
+                          Path'.refl,
+                        ),
+                        (
+                          ShrSlice.spares-sslice 𝓤 H A W (Referent.rtF (Referent.fInt Syntax.w16)) (Syntax.tyRef (Syntax.named 4) Syntax.imm (Syntax.tyInt Syntax.w16)) 4,
+                          Shared.reads-sslice 𝓤 H A W (Referent.rtF (Referent.fInt Syntax.w16)) (Syntax.tyRef (Syntax.named 4) Syntax.imm (Syntax.tyInt Syntax.w16)) 4,
+                          Path'.refl,
+                          (
+                            ShrSlice.spares-sslice 𝓤 H A W (Referent.rtF (Referent.fInt
+                                Syntax.w8)) (Syntax.tyRef (Syntax.named 5) Syntax.imm (Syntax.tyInt Syntax.w8)) 5,
+                            Shared.reads-sslice 𝓤 H A W (Referent.rtF (Referent.fInt Syntax.w8)) (Syntax.tyRef (Syntax.named 5) Syntax.imm (Syntax.tyInt Syntax.w8))
+                                5,
+                            Path'.refl,
+                            tt,
+                          ),
+                        ),
+                      ),
+                    ),
+                  ),
+                ),
+              ),
+            ),
+          ) (Reads'.room-gone 𝓤 H A El.Worked) (tt, (tt, (tt, (tt, (tt, (tt, tt)))))) Path'.refl) d37
 
           d39 : Typed.Typed 𝓤 H A 𝓣 E G36 b31 Δ0 (at39 bs)
           d39 = Typed.s-seq 𝓤 H A W 𝓣 E G36 G37 b15 b30 Δ0 (Typed.ask (s35 bs)) (at38 bs) (Relend.t-sl-aggregate 𝓤 H A W E (Referent.rtF (Referent.fInt Syntax.w64)) 𝓣 (Relend.asMut (Referent.rtF (Referent.fInt Syntax.w64))) G36 24 25
               11 (Syntax.tyRef Syntax.erased Syntax.mut El.word) (Syntax.tyRef Syntax.erased Syntax.mut El.word) (λ x. x) (Scalar.oFld 4 (List._∷_ (Syntax.field 1) List.[]) El.word 8 λ v. Shared.lenV (v .0)) (Reads'.as-is 𝓤 H A
               (Relend.msptr (Referent.rtF (Referent.fInt Syntax.w64)) (Syntax.tyRef Syntax.erased Syntax.mut El.word) 11)) (Reads'.room-gone 𝓤 H A (Syntax.tyStruct (List._∷_ 38 (List._∷_ 91 (List._∷_ 93 List.[]))) (Syntax.tcons
-              (Syntax.tyRef Syntax.erased Syntax.mut El.word) (Syntax.tcons El.word Syntax.tnil)))) (Relend.reads-owed-len 𝓤 H A W (Referent.rtF (Referent.fInt Syntax.w64)) (Syntax.tyRef (Syntax.named 3) Syntax.mut El.word) 3 11
-              (Row.lease (κs .1 .1 .1 .0) (qs .1 .1 .1 .0)) 8 Path'.refl, Path'.refl) Path'.refl Path'.refl λ b o k. tt) d38
+              (Syntax.tyRef Syntax.erased Syntax.mut El.word) (Syntax.tcons El.word Syntax.tnil)))) (
+                Relend.reads-owed-len 𝓤 H A W (Referent.rtF (Referent.fInt Syntax.w64)) (Syntax.tyRef (Syntax.named 3) Syntax.mut El.word) 3 11
+                    (Row.lease (κs .1 .1 .1 .0) (qs .1 .1 .1 .0)) 8 Path'.refl,
+                Path'.refl,
+              ) Path'.refl Path'.refl λ b o k. tt) d38
 
           d40 : Typed.Typed 𝓤 H A 𝓣 E G35 b32 Δ0 (at40 bs)
           d40 = Typed.s-seq 𝓤 H A W 𝓣 E G35 G36 b14 b31 Δ0 (Typed.give (s34 bs)) (at39 bs) (Relend.t-sl-relend 𝓤 H A W E (Referent.rtF (Referent.fInt Syntax.w64)) 𝓣 G35 4 24 3 11 (Syntax.tyRef (Syntax.named 3) Syntax.mut El.word)
@@ -2111,15 +3933,86 @@ module _ (claims· : Claims) where
               El.word) 3)) (Reads'.room-gone 𝓤 H A (Syntax.tyRef Syntax.erased Syntax.mut El.word)) Path'.refl tt Path'.refl Path'.refl Path'.refl λ b o. tt) d39
 
           d41 : Typed.Typed 𝓤 H A 𝓣 E G34 b32 Δ0 (at41 bs)
-          d41 = Typed.g-pre 𝓤 H A W 𝓣 E G34 G35 b32 Δ0 (λ Ψ. Ψ) (at40 bs) (Lifetime.g-begin 𝓤 H A W E G34 11 (tt, (tt, ((tt, tt), ((tt, tt), (tt, (tt, (tt, (tt, (tt, (tt, (tt, (tt, (tt, (tt, (tt, (tt, (tt, (tt, (tt, (tt, (tt, (tt, (tt,
-              (tt, (tt, (tt, (tt, (tt, (tt, (tt, (tt, tt)))))))))))))))))))))))))))))))) d40
+          d41 = Typed.g-pre 𝓤 H A W 𝓣 E G34 G35 b32 Δ0 (λ Ψ. Ψ) (at40 bs) (Lifetime.g-begin 𝓤 H A W E G34 11 (
+            tt,
+            (
+              tt,
+              (
+                (tt, tt),
+                (
+                  (tt, tt),
+                  (
+                    tt,
+                    (
+                      tt,
+                      (
+                        tt,
+                        (
+                          tt,
+                          (
+                            tt,
+                            (
+                              tt,
+                              (
+                                tt,
+                                (
+                                  tt,
+                                  (
+                                    tt,
+                                    (
+                                      tt,
+                                      (
+                                        tt,
+                                        (
+                                          tt,
+                                          (
+                                            tt,
+                                            (
+                                              tt,
+                                              (
+                                                tt,
+                                                (
+                                                  tt,
+                                                  (
+                                                    tt,
+                                                    (
+                                                      tt,
+                                                      (
+                                                        tt,
+                                                        (tt, (tt, (tt, (tt, (tt, (tt, (tt, (tt, tt)))))))),
+                                                      ),
+                                                    ),
+                                                  ),
+                                                ),
+                                              ),
+                                            ),
+                                          ),
+                                        ),
+                                      ),
+                                    ),
+                                  ),
+                                ),
+                              ),
+                            ),
+                          ),
+                        ),
+                      ),
+                    ),
+                  ),
+                ),
+              ),
+            ),
+          )) d40
 
           d42 : Typed.Typed 𝓤 H A 𝓣 E G33 b33 Δ0 (at42 bs)
           d42 = Typed.s-seq 𝓤 H A W 𝓣 E G33 G34 b13 b32 Δ0 (Typed.ask (s32 bs)) (at41 bs) (Relend.t-sl-aggregate 𝓤 H A W E (Referent.rtF (Referent.fInt Syntax.w64)) 𝓣 (Relend.asMut (Referent.rtF (Referent.fInt Syntax.w64))) G33 22 23
               10 (Syntax.tyRef Syntax.erased Syntax.mut El.word) (Syntax.tyRef Syntax.erased Syntax.mut El.word) (λ x. x) (Scalar.oFld 3 (List._∷_ (Syntax.field 1) List.[]) El.word 8 λ v. Shared.lenV (v .0)) (Reads'.as-is 𝓤 H A
               (Relend.msptr (Referent.rtF (Referent.fInt Syntax.w64)) (Syntax.tyRef Syntax.erased Syntax.mut El.word) 10)) (Reads'.room-gone 𝓤 H A (Syntax.tyStruct (List._∷_ 38 (List._∷_ 91 (List._∷_ 93 List.[]))) (Syntax.tcons
-              (Syntax.tyRef Syntax.erased Syntax.mut El.word) (Syntax.tcons El.word Syntax.tnil)))) (Relend.reads-owed-len 𝓤 H A W (Referent.rtF (Referent.fInt Syntax.w64)) (Syntax.tyRef (Syntax.named 2) Syntax.mut El.word) 2 10
-              (Row.lease (κs .1 .1 .0) (qs .1 .1 .0)) 8 Path'.refl, Path'.refl) Path'.refl Path'.refl λ b o k. tt) d41
+              (Syntax.tyRef Syntax.erased Syntax.mut El.word) (Syntax.tcons El.word Syntax.tnil)))) (
+                Relend.reads-owed-len 𝓤 H A W (Referent.rtF (Referent.fInt Syntax.w64)) (Syntax.tyRef (Syntax.named 2) Syntax.mut El.word) 2 10
+                    (Row.lease (κs .1 .1 .0) (qs .1 .1 .0)) 8 Path'.refl,
+                Path'.refl,
+              ) Path'.refl Path'.refl λ b o k. tt) d41
 
           d43 : Typed.Typed 𝓤 H A 𝓣 E G32 b34 Δ0 (at43 bs)
           d43 = Typed.s-seq 𝓤 H A W 𝓣 E G32 G33 b12 b33 Δ0 (Typed.give (s31 bs)) (at42 bs) (Relend.t-sl-relend 𝓤 H A W E (Referent.rtF (Referent.fInt Syntax.w64)) 𝓣 G32 3 22 2 10 (Syntax.tyRef (Syntax.named 2) Syntax.mut El.word)
@@ -2127,15 +4020,89 @@ module _ (claims· : Claims) where
               2)) (Reads'.room-gone 𝓤 H A (Syntax.tyRef Syntax.erased Syntax.mut El.word)) Path'.refl tt Path'.refl Path'.refl Path'.refl λ b o. tt) d42
 
           d44 : Typed.Typed 𝓤 H A 𝓣 E G31 b34 Δ0 (at44 bs)
-          d44 = Typed.g-pre 𝓤 H A W 𝓣 E G31 G32 b34 Δ0 (λ Ψ. Ψ) (at43 bs) (Lifetime.g-begin 𝓤 H A W E G31 10 (tt, (tt, ((tt, tt), (tt, (tt, (tt, (tt, (tt, (tt, (tt, (tt, (tt, (tt, (tt, (tt, (tt, (tt, (tt, (tt, (tt, (tt, (tt, (tt, (tt,
-              (tt, (tt, (tt, (tt, (tt, (tt, (tt, tt)))))))))))))))))))))))))))))))) d43
+          d44 = Typed.g-pre 𝓤 H A W 𝓣 E G31 G32 b34 Δ0 (λ Ψ. Ψ) (at43 bs) (Lifetime.g-begin 𝓤 H A W E G31 10 (
+            tt,
+            (
+              tt,
+              (
+                (tt, tt),
+                (
+                  tt,
+                  (
+                    tt,
+                    (
+                      tt,
+                      (
+                        tt,
+                        (
+                          tt,
+                          (
+                            tt,
+                            (
+                              tt,
+                              (
+                                tt,
+                                (
+                                  tt,
+                                  (
+                                    tt,
+                                    (
+                                      tt,
+                                      (
+                                        tt,
+                                        (
+                                          tt,
+                                          (
+                                            tt,
+                                            (
+                                              tt,
+                                              (
+                                                tt,
+                                                (
+                                                  tt,
+                                                  (
+                                                    tt,
+                                                    (
+                                                      tt,
+                                                      (
+                                                        tt,
+                                                        (
+                                                          tt,
+                                                          (tt, (tt, (tt, (tt, (tt, (tt, (tt, tt))))))),
+                                                        ),
+                                                      ),
+                                                    ),
+                                                  ),
+                                                ),
+                                              ),
+                                            ),
+                                          ),
+                                        ),
+                                      ),
+                                    ),
+                                  ),
+                                ),
+                              ),
+                            ),
+                          ),
+                        ),
+                      ),
+                    ),
+                  ),
+                ),
+              ),
+            ),
+          )) d43
 
           d45 : Typed.Typed 𝓤 H A 𝓣 E G30 b35 Δ0 (at45 bs)
           d45 = Typed.s-seq 𝓤 H A W 𝓣 E G30 G31 b11 b34 Δ0 (Typed.ask (s29 bs)) (at44 bs) (Relend.t-sl-aggregate 𝓤 H A W E (Referent.rtF (Referent.fInt Syntax.w64)) 𝓣 (Relend.asMut (Referent.rtF (Referent.fInt Syntax.w64))) G30 20 21 9
               (Syntax.tyRef Syntax.erased Syntax.mut El.word) (Syntax.tyRef Syntax.erased Syntax.mut El.word) (λ x. x) (Scalar.oFld 2 (List._∷_ (Syntax.field 1) List.[]) El.word 8 λ v. Shared.lenV (v .0)) (Reads'.as-is 𝓤 H A (Relend.msptr
               (Referent.rtF (Referent.fInt Syntax.w64)) (Syntax.tyRef Syntax.erased Syntax.mut El.word) 9)) (Reads'.room-gone 𝓤 H A (Syntax.tyStruct (List._∷_ 38 (List._∷_ 91 (List._∷_ 93 List.[]))) (Syntax.tcons (Syntax.tyRef
-              Syntax.erased Syntax.mut El.word) (Syntax.tcons El.word Syntax.tnil)))) (Relend.reads-owed-len 𝓤 H A W (Referent.rtF (Referent.fInt Syntax.w64)) (Syntax.tyRef (Syntax.named 1) Syntax.mut El.word) 1 9 (Row.lease (κs .1 .0)
-              (qs .1 .0)) 8 Path'.refl, Path'.refl) Path'.refl Path'.refl λ b o k. tt) d44
+              Syntax.erased Syntax.mut El.word) (Syntax.tcons El.word Syntax.tnil)))) (
+                Relend.reads-owed-len 𝓤 H A W (Referent.rtF (Referent.fInt Syntax.w64)) (Syntax.tyRef (Syntax.named 1) Syntax.mut El.word) 1 9 (Row.lease (κs .1 .0)
+                    (qs .1 .0)) 8 Path'.refl,
+                Path'.refl,
+              ) Path'.refl Path'.refl λ b o k. tt) d44
 
           d46 : Typed.Typed 𝓤 H A 𝓣 E G29 b36 Δ0 (at46 bs)
           d46 = Typed.s-seq 𝓤 H A W 𝓣 E G29 G30 b10 b35 Δ0 (Typed.give (s28 bs)) (at45 bs) (Relend.t-sl-relend 𝓤 H A W E (Referent.rtF (Referent.fInt Syntax.w64)) 𝓣 G29 2 20 1 9 (Syntax.tyRef (Syntax.named 1) Syntax.mut El.word)
@@ -2143,8 +4110,82 @@ module _ (claims· : Claims) where
               (Reads'.room-gone 𝓤 H A (Syntax.tyRef Syntax.erased Syntax.mut El.word)) Path'.refl tt Path'.refl Path'.refl Path'.refl λ b o. tt) d45
 
           d47 : Typed.Typed 𝓤 H A 𝓣 E G28 b36 Δ0 (at47 bs)
-          d47 = Typed.g-pre 𝓤 H A W 𝓣 E G28 G29 b36 Δ0 (λ Ψ. Ψ) (at46 bs) (Lifetime.g-begin 𝓤 H A W E G28 9 (tt, (tt, (tt, (tt, (tt, (tt, (tt, (tt, (tt, (tt, (tt, (tt, (tt, (tt, (tt, (tt, (tt, (tt, (tt, (tt, (tt, (tt, (tt, (tt, (tt,
-              (tt, (tt, (tt, (tt, (tt, (tt, tt)))))))))))))))))))))))))))))))) d46
+          d47 = Typed.g-pre 𝓤 H A W 𝓣 E G28 G29 b36 Δ0 (λ Ψ. Ψ) (at46 bs) (Lifetime.g-begin 𝓤 H A W E G28 9 (
+            tt,
+            (
+              tt,
+              (
+                tt,
+                (
+                  tt,
+                  (
+                    tt,
+                    (
+                      tt,
+                      (
+                        tt,
+                        (
+                          tt,
+                          (
+                            tt,
+                            (
+                              tt,
+                              (
+                                tt,
+                                (
+                                  tt,
+                                  (
+                                    tt,
+                                    (
+                                      tt,
+                                      (
+                                        tt,
+                                        (
+                                          tt,
+                                          (
+                                            tt,
+                                            (
+                                              tt,
+                                              (
+                                                tt,
+                                                (
+                                                  tt,
+                                                  (
+                                                    tt,
+                                                    (
+                                                      tt,
+                                                      (
+                                                        tt,
+                                                        (
+                                                          tt,
+                                                          (
+                                                            tt,
+                                                            (tt, (tt, (tt, (tt, (tt, (tt, tt)))))),
+                                                          ),
+                                                        ),
+                                                      ),
+                                                    ),
+                                                  ),
+                                                ),
+                                              ),
+                                            ),
+                                          ),
+                                        ),
+                                      ),
+                                    ),
+                                  ),
+                                ),
+                              ),
+                            ),
+                          ),
+                        ),
+                      ),
+                    ),
+                  ),
+                ),
+              ),
+            ),
+          )) d46
 
           d48 : Typed.Typed 𝓤 H A 𝓣 E G27 b37 Δ0 (at48 bs)
           d48 = Typed.s-seq 𝓤 H A W 𝓣 E G27 G28 b9 b36 Δ0 (Typed.ask (s26 bs)) (at47 bs) (Relend.t-sl-aggregate 𝓤 H A W E (Referent.rtF (Referent.fInt Syntax.w64)) 𝓣 (Relend.asMut (Referent.rtF (Referent.fInt Syntax.w64))) G27 18 19 8
@@ -2158,8 +4199,82 @@ module _ (claims· : Claims) where
               Path'.refl (λ b o. tt) (Dec'.lit< tt, Dec'.lit< tt)) d48
 
           d50 : Typed.Typed 𝓤 H A 𝓣 E G25 b38 Δ0 (at50 bs)
-          d50 = Typed.g-pre 𝓤 H A W 𝓣 E G25 G26 b38 Δ0 (λ Ψ. Ψ) (at49 bs) (Lifetime.g-begin 𝓤 H A W E G25 8 (tt, (tt, (tt, (tt, (tt, (tt, (tt, (tt, (tt, (tt, (tt, (tt, (tt, (tt, (tt, (tt, (tt, (tt, (tt, (tt, (tt, (tt, (tt, (tt, (tt,
-              (tt, (tt, (tt, (tt, (tt, (tt, tt)))))))))))))))))))))))))))))))) d49
+          d50 = Typed.g-pre 𝓤 H A W 𝓣 E G25 G26 b38 Δ0 (λ Ψ. Ψ) (at49 bs) (Lifetime.g-begin 𝓤 H A W E G25 8 (
+            tt,
+            (
+              tt,
+              (
+                tt,
+                (
+                  tt,
+                  (
+                    tt,
+                    (
+                      tt,
+                      (
+                        tt,
+                        (
+                          tt,
+                          (
+                            tt,
+                            (
+                              tt,
+                              (
+                                tt,
+                                (
+                                  tt,
+                                  (
+                                    tt,
+                                    (
+                                      tt,
+                                      (
+                                        tt,
+                                        (
+                                          tt,
+                                          (
+                                            tt,
+                                            (
+                                              tt,
+                                              (
+                                                tt,
+                                                (
+                                                  tt,
+                                                  (
+                                                    tt,
+                                                    (
+                                                      tt,
+                                                      (
+                                                        tt,
+                                                        (
+                                                          tt,
+                                                          (
+                                                            tt,
+                                                            (tt, (tt, (tt, (tt, (tt, (tt, tt)))))),
+                                                          ),
+                                                        ),
+                                                      ),
+                                                    ),
+                                                  ),
+                                                ),
+                                              ),
+                                            ),
+                                          ),
+                                        ),
+                                      ),
+                                    ),
+                                  ),
+                                ),
+                              ),
+                            ),
+                          ),
+                        ),
+                      ),
+                    ),
+                  ),
+                ),
+              ),
+            ),
+          )) d49
 
           d51 : Typed.Typed 𝓤 H A 𝓣 E G24 b38 Δ0 (at51 bs)
           d51 = Typed.g-pre 𝓤 H A W 𝓣 E G24 G25 b38 Δ0 (Typed.pass T24 T25 (s23 bs)) (at50 bs) (Scalar.g-room 𝓤 H A W E G24 15 (Syntax.tyArray El.word 4104) (Init.room-arr 𝓤 H A W (Referent.rtF (Referent.fInt Syntax.w64)) 4104 0 4104
@@ -2188,16 +4303,31 @@ module _ (claims· : Claims) where
               Syntax.imm El.named) (Syntax.tcons El.word Syntax.tnil))) (Shared.room-sslice 𝓤 H A W El.row (Syntax.tyRef Syntax.erased Syntax.imm El.named) 7)) d55
 
           d57 : Typed.Typed 𝓤 H A 𝓣 E G18 b40 Δ0 (at57 bs)
-          d57 = Typed.s-seq 𝓤 H A W 𝓣 E G18 G19 b6 b39 Δ0 (Typed.both (s17 bs)) (at56 bs) (Plain.t-call-plain 𝓤 H A W 𝓣 1 ps·1 r·1 (claims· .2) (claims· .3) "records_tasks::load" (known .1) E (λ pos β. β) G18 (record { pos = 17; ty =
-              Syntax.tyRef Syntax.erased Syntax.imm El.named; ref = λ x. x; }, (Num.vAt 10 λ x. x, tt)) 15 (List._∷_ 7 List.[]) (Call.sub-id 𝓤 H A W (G18 .slots)) (ShrSlice.spares-sslice 𝓤 H A W El.row (Syntax.tyRef Syntax.erased
-              Syntax.imm El.named) 7, Shared.reads-sslice 𝓤 H A W El.row (Syntax.tyRef Syntax.erased Syntax.imm El.named) 7, Path'.refl, ((Scalar.reads-sc 𝓤 H A W (Row.sInt Syntax.w16), Path'.refl), tt)) (Reads'.room-gone 𝓤 H A
+          d57 = Typed.s-seq 𝓤 H A W 𝓣 E G18 G19 b6 b39 Δ0 (Typed.both (s17 bs)) (at56 bs) (Plain.t-call-plain 𝓤 H A W 𝓣 1 ps·1 r·1 (claims· .2) (claims· .3) "records_tasks::load" (known .1) E (λ pos β. β) G18 (
+            record {
+              pos = 17;
+              ty =
+                  Syntax.tyRef Syntax.erased Syntax.imm El.named;
+              ref = λ x. x;
+            },
+            (Num.vAt 10 λ x. x, tt),
+          ) 15 (List._∷_ 7 List.[]) (Call.sub-id 𝓤 H A W (G18 .slots)) (
+            ShrSlice.spares-sslice 𝓤 H A W El.row (Syntax.tyRef Syntax.erased
+                Syntax.imm El.named) 7,
+            Shared.reads-sslice 𝓤 H A W El.row (Syntax.tyRef Syntax.erased Syntax.imm El.named) 7,
+            Path'.refl,
+            ((Scalar.reads-sc 𝓤 H A W (Row.sInt Syntax.w16), Path'.refl), tt),
+          ) (Reads'.room-gone 𝓤 H A
               (Syntax.tyArray El.word 4104)) (tt, tt) Path'.refl) d56
 
           d58 : Typed.Typed 𝓤 H A 𝓣 E G17 b41 Δ0 (at58 bs)
           d58 = Typed.s-seq 𝓤 H A W 𝓣 E G17 G18 b5 b40 Δ0 (Typed.ask (s16 bs)) (at57 bs) (Relend.t-sl-aggregate 𝓤 H A W E El.row 𝓣 (Relend.asShr El.row) G17 16 17 7 (Syntax.tyRef Syntax.erased Syntax.imm El.named) (Syntax.tyRef
               Syntax.erased Syntax.imm El.named) (λ x. x) (Scalar.oFld 1 (List._∷_ (Syntax.field 1) List.[]) El.word 8 λ v. Shared.lenV (v .0)) (Reads'.as-is 𝓤 H A (Relend.ssptr El.row (Syntax.tyRef Syntax.erased Syntax.imm El.named) 7))
-              (Reads'.room-gone 𝓤 H A (Syntax.tyStruct (List._∷_ 38 (List._∷_ 91 (List._∷_ 93 List.[]))) (Syntax.tcons (Syntax.tyRef Syntax.erased Syntax.imm El.named) (Syntax.tcons El.word Syntax.tnil)))) (Reshare.reads-owedS-len 𝓤 H A
-              W El.row (Syntax.tyRef (Syntax.named 0) Syntax.mut El.named) 0 7 (Row.lease (κs .0) (qs .0)) 8 Path'.refl, Path'.refl) Path'.refl Path'.refl λ b o k. tt) d57
+              (Reads'.room-gone 𝓤 H A (Syntax.tyStruct (List._∷_ 38 (List._∷_ 91 (List._∷_ 93 List.[]))) (Syntax.tcons (Syntax.tyRef Syntax.erased Syntax.imm El.named) (Syntax.tcons El.word Syntax.tnil)))) (
+                Reshare.reads-owedS-len 𝓤 H A
+                    W El.row (Syntax.tyRef (Syntax.named 0) Syntax.mut El.named) 0 7 (Row.lease (κs .0) (qs .0)) 8 Path'.refl,
+                Path'.refl,
+              ) Path'.refl Path'.refl λ b o k. tt) d57
 
           d59 : Typed.Typed 𝓤 H A 𝓣 E G16 b42 Δ0 (at59 bs)
           d59 = Typed.s-seq 𝓤 H A W 𝓣 E G16 G17 b4 b41 Δ0 (Typed.give (s15 bs)) (at58 bs) (Reshare.t-sl-reshare 𝓤 H A W E El.row 𝓣 G16 1 16 0 7 (Syntax.tyRef (Syntax.named 0) Syntax.mut El.named) (Syntax.tyRef Syntax.erased Syntax.imm
@@ -2205,8 +4335,82 @@ module _ (claims· : Claims) where
               Path'.refl tt Path'.refl Path'.refl Path'.refl λ b o. tt) d58
 
           d60 : Typed.Typed 𝓤 H A 𝓣 E G15 b42 Δ0 (at60 bs)
-          d60 = Typed.g-pre 𝓤 H A W 𝓣 E G15 G16 b42 Δ0 (λ Ψ. Ψ) (at59 bs) (Lifetime.g-begin 𝓤 H A W E G15 7 (tt, (tt, (tt, (tt, (tt, (tt, (tt, (tt, (tt, (tt, (tt, (tt, (tt, (tt, (tt, (tt, (tt, (tt, (tt, (tt, (tt, (tt, (tt, (tt, (tt,
-              (tt, (tt, (tt, (tt, (tt, (tt, tt)))))))))))))))))))))))))))))))) d59
+          d60 = Typed.g-pre 𝓤 H A W 𝓣 E G15 G16 b42 Δ0 (λ Ψ. Ψ) (at59 bs) (Lifetime.g-begin 𝓤 H A W E G15 7 (
+            tt,
+            (
+              tt,
+              (
+                tt,
+                (
+                  tt,
+                  (
+                    tt,
+                    (
+                      tt,
+                      (
+                        tt,
+                        (
+                          tt,
+                          (
+                            tt,
+                            (
+                              tt,
+                              (
+                                tt,
+                                (
+                                  tt,
+                                  (
+                                    tt,
+                                    (
+                                      tt,
+                                      (
+                                        tt,
+                                        (
+                                          tt,
+                                          (
+                                            tt,
+                                            (
+                                              tt,
+                                              (
+                                                tt,
+                                                (
+                                                  tt,
+                                                  (
+                                                    tt,
+                                                    (
+                                                      tt,
+                                                      (
+                                                        tt,
+                                                        (
+                                                          tt,
+                                                          (
+                                                            tt,
+                                                            (tt, (tt, (tt, (tt, (tt, (tt, tt)))))),
+                                                          ),
+                                                        ),
+                                                      ),
+                                                    ),
+                                                  ),
+                                                ),
+                                              ),
+                                            ),
+                                          ),
+                                        ),
+                                      ),
+                                    ),
+                                  ),
+                                ),
+                              ),
+                            ),
+                          ),
+                        ),
+                      ),
+                    ),
+                  ),
+                ),
+              ),
+            ),
+          )) d59
 
           d61 : Typed.Typed 𝓤 H A 𝓣 E G14 b42 Δ0 (at61 bs)
           d61 = Typed.g-pre 𝓤 H A W 𝓣 E G14 G15 b42 Δ0 (λ Ψ. Ψ) (at60 bs) (Lifetime.g-forget 𝓤 H A W E G14 6 Row.dead Path'.refl) d60
@@ -2224,17 +4428,29 @@ module _ (claims· : Claims) where
               Syntax.imm El.word) (Syntax.tcons El.word Syntax.tnil))) (Shared.room-sslice 𝓤 H A W (Referent.rtF (Referent.fInt Syntax.w64)) (Syntax.tyRef Syntax.erased Syntax.imm El.word) 6)) d63
 
           d65 : Typed.Typed 𝓤 H A 𝓣 E G10 b43 Δ0 (at65 bs)
-          d65 = Typed.s-seq 𝓤 H A W 𝓣 E G10 G11 b3 b42 Δ0 (Typed.both (s9 bs)) (at64 bs) (Plain.t-call-plain 𝓤 H A W 𝓣 1 ps·0 r·0 (claims· .0) (claims· .1) "records_words::rows_in_use" (known .0) E (λ pos β. β) G10 (Num.vAt 9 λ x. x,
-              (record { pos = 14; ty = Syntax.tyRef Syntax.erased Syntax.imm El.word; ref = λ x. x; }, tt)) 10 (List._∷_ 6 List.[]) (Call.sub-id 𝓤 H A W (G10 .slots)) ((Scalar.reads-sc 𝓤 H A W (Row.sInt Syntax.w64), Path'.refl),
-              (ShrSlice.spares-sslice 𝓤 H A W (Referent.rtF (Referent.fInt Syntax.w64)) (Syntax.tyRef Syntax.erased Syntax.imm El.word) 6, Shared.reads-sslice 𝓤 H A W (Referent.rtF (Referent.fInt Syntax.w64)) (Syntax.tyRef Syntax.erased
-              Syntax.imm El.word) 6, Path'.refl, tt)) (Reads'.room-gone 𝓤 H A (Syntax.tyInt Syntax.w16)) (tt, tt) Path'.refl) d64
+          d65 = Typed.s-seq 𝓤 H A W 𝓣 E G10 G11 b3 b42 Δ0 (Typed.both (s9 bs)) (at64 bs) (Plain.t-call-plain 𝓤 H A W 𝓣 1 ps·0 r·0 (claims· .0) (claims· .1) "records_words::rows_in_use" (known .0) E (λ pos β. β) G10 (
+            Num.vAt 9 λ x. x,
+            (record { pos = 14; ty = Syntax.tyRef Syntax.erased Syntax.imm El.word; ref = λ x. x }, tt),
+          ) 10 (List._∷_ 6 List.[]) (Call.sub-id 𝓤 H A W (G10 .slots)) (
+            (Scalar.reads-sc 𝓤 H A W (Row.sInt Syntax.w64), Path'.refl),
+            (
+              ShrSlice.spares-sslice 𝓤 H A W (Referent.rtF (Referent.fInt Syntax.w64)) (Syntax.tyRef Syntax.erased Syntax.imm El.word) 6,
+              Shared.reads-sslice 𝓤 H A W (Referent.rtF (Referent.fInt Syntax.w64)) (Syntax.tyRef Syntax.erased
+                  Syntax.imm El.word) 6,
+              Path'.refl,
+              tt,
+            ),
+          ) (Reads'.room-gone 𝓤 H A (Syntax.tyInt Syntax.w16)) (tt, tt) Path'.refl) d64
 
           d66 : Typed.Typed 𝓤 H A 𝓣 E G9 b44 Δ0 (at66 bs)
           d66 = Typed.s-seq 𝓤 H A W 𝓣 E G9 G10 b2 b43 Δ0 (Typed.ask (s8 bs)) (at65 bs) (Relend.t-sl-aggregate 𝓤 H A W E (Referent.rtF (Referent.fInt Syntax.w64)) 𝓣 (Relend.asShr (Referent.rtF (Referent.fInt Syntax.w64))) G9 13 14 6
               (Syntax.tyRef Syntax.erased Syntax.imm El.word) (Syntax.tyRef Syntax.erased Syntax.imm El.word) (λ x. x) (Scalar.oFld 2 (List._∷_ (Syntax.field 1) List.[]) El.word 8 λ v. Shared.lenV (v .0)) (Reads'.as-is 𝓤 H A (Relend.ssptr
               (Referent.rtF (Referent.fInt Syntax.w64)) (Syntax.tyRef Syntax.erased Syntax.imm El.word) 6)) (Reads'.room-gone 𝓤 H A (Syntax.tyStruct (List._∷_ 38 (List._∷_ 91 (List._∷_ 93 List.[]))) (Syntax.tcons (Syntax.tyRef
-              Syntax.erased Syntax.imm El.word) (Syntax.tcons El.word Syntax.tnil)))) (Reshare.reads-owedS-len 𝓤 H A W (Referent.rtF (Referent.fInt Syntax.w64)) (Syntax.tyRef (Syntax.named 1) Syntax.mut El.word) 1 6 (Row.lease (κs .1 .0)
-              (qs .1 .0)) 8 Path'.refl, Path'.refl) Path'.refl Path'.refl λ b o k. tt) d65
+              Syntax.erased Syntax.imm El.word) (Syntax.tcons El.word Syntax.tnil)))) (
+                Reshare.reads-owedS-len 𝓤 H A W (Referent.rtF (Referent.fInt Syntax.w64)) (Syntax.tyRef (Syntax.named 1) Syntax.mut El.word) 1 6 (Row.lease (κs .1 .0)
+                    (qs .1 .0)) 8 Path'.refl,
+                Path'.refl,
+              ) Path'.refl Path'.refl λ b o k. tt) d65
 
           d67 : Typed.Typed 𝓤 H A 𝓣 E G8 b45 Δ0 (at67 bs)
           d67 = Typed.s-seq 𝓤 H A W 𝓣 E G8 G9 b1 b44 Δ0 (Typed.give (s7 bs)) (at66 bs) (Reshare.t-sl-reshare 𝓤 H A W E (Referent.rtF (Referent.fInt Syntax.w64)) 𝓣 G8 2 13 1 6 (Syntax.tyRef (Syntax.named 1) Syntax.mut El.word)
@@ -2242,8 +4458,85 @@ module _ (claims· : Claims) where
               (Reads'.room-gone 𝓤 H A (Syntax.tyRef Syntax.erased Syntax.imm El.word)) Path'.refl tt Path'.refl Path'.refl Path'.refl λ b o. tt) d66
 
           d68 : Typed.Typed 𝓤 H A 𝓣 E G7 b45 Δ0 (at68 bs)
-          d68 = Typed.g-pre 𝓤 H A W 𝓣 E G7 G8 b45 Δ0 (λ Ψ. Ψ) (at67 bs) (Lifetime.g-begin 𝓤 H A W E G7 6 (tt, (tt, (tt, (tt, (tt, (tt, (tt, (tt, (tt, (tt, (tt, (tt, (tt, (tt, (tt, (tt, (tt, (tt, (tt, (tt, (tt, (tt, (tt, (tt, (tt, (tt,
-              (tt, (tt, (tt, (tt, (tt, tt)))))))))))))))))))))))))))))))) d67
+          d68 = Typed.g-pre 𝓤 H A W 𝓣 E G7 G8 b45 Δ0 (λ Ψ. Ψ) (at67 bs) (Lifetime.g-begin 𝓤 H A W E G7 6 (
+            tt,
+            (
+              tt,
+              (
+                tt,
+                (
+                  tt,
+                  (
+                    tt,
+                    (
+                      tt,
+                      (
+                        tt,
+                        (
+                          tt,
+                          (
+                            tt,
+                            (
+                              tt,
+                              (
+                                tt,
+                                (
+                                  tt,
+                                  (
+                                    tt,
+                                    (
+                                      tt,
+                                      (
+                                        tt,
+                                        (
+                                          tt,
+                                          (
+                                            tt,
+                                            (
+                                              tt,
+                                              (
+                                                tt,
+                                                (
+                                                  tt,
+                                                  (
+                                                    tt,
+                                                    (
+                                                      tt,
+                                                      (
+                                                        tt,
+                                                        (
+                                                          tt,
+                                                          (
+                                                            tt,
+                                                            (
+                                                              tt,
+                                                              (tt, (tt, (tt, (tt, (tt, tt))))),
+                                                            ),
+                                                          ),
+                                                        ),
+                                                      ),
+                                                    ),
+                                                  ),
+                                                ),
+                                              ),
+                                            ),
+                                          ),
+                                        ),
+                                      ),
+                                    ),
+                                  ),
+                                ),
+                              ),
+                            ),
+                          ),
+                        ),
+                      ),
+                    ),
+                  ),
+                ),
+              ),
+            ),
+          )) d67
 
           d69 : Typed.Typed 𝓤 H A 𝓣 E G6 b46 Δ0 (at69 bs)
           d69 = Typed.s-seq 𝓤 H A W 𝓣 E G6 G7 b0 b45 Δ0 (Typed.pass T6 T7 (s5 bs)) (at68 bs) (Scalar.t-use 𝓤 H A W E 𝓣 G6 (Scalar.oFld 1 (List._∷_ (Syntax.field 1) List.[]) El.word 8 Shared.lenV) 9 (Rows'.sc-here (Row.sInt Syntax.w64))
@@ -2281,14 +4574,44 @@ module _ (claims· : Claims) where
           pub objects : Kinds.Den {n = 6} κs (MutSlice.pMutS (Referent.rtF (Referent.fInt Syntax.w64)) 1 tt)
           pub places : Kinds.Den {n = 6} κs (MutSlice.pMutS (Referent.rtF (Referent.fInt Syntax.w64)) 2 tt)
           pub calls : Kinds.Den {n = 6} κs (MutSlice.pMutS (Referent.rtF (Referent.fInt Syntax.w64)) 3 tt)
-          pub queue : Kinds.Den {n = 6} κs (Value.pVal record { ty = Declared'.row ReadyQueue.the-type; one = Path'.refl; val = Laws'5.val ReadyQueue.the-type Laws.the-laws; tells = Laws'5.tells ReadyQueue.the-type Laws.the-laws; still
-              = Laws'5.still ReadyQueue.the-type Laws.the-copy Exit.yes; row = Rows'.whole (Declared'.row ReadyQueue.the-type); rd = λ x. x; mk = λ x. x; } λ M 𝓤 H A W. record { copies = Laws'5.copy ReadyQueue.the-type Laws.the-copy 𝓤
-              H A W; lawful = Laws'5.lawful ReadyQueue.the-type Laws.the-laws 𝓤 H A W; makes = Laws'5.makes ReadyQueue.the-type Laws.the-plain 𝓤 H A; in-mem = Local.mem-whole 𝓤 H A W (Declared'.row ReadyQueue.the-type); of-mem =
-              Local.whole-mem 𝓤 H A W (Declared'.row ReadyQueue.the-type); })
-          pub event : Kinds.Den {n = 6} κs (Value.pVal record { ty = Declared.row Event.the-type; one = Path'.refl; val = Laws'4.val Event.the-type Laws'3.the-laws; tells = Laws'4.tells Event.the-type Laws'3.the-laws; still =
-              Laws'4.still Event.the-type Laws'3.the-copy Exit.yes; row = Rows'.whole (Declared.row Event.the-type); rd = λ x. x; mk = λ x. x; } λ M 𝓤 H A W. record { copies = Laws'4.copy Event.the-type Laws'3.the-copy 𝓤 H A W; lawful
-              = Laws'4.lawful Event.the-type Laws'3.the-laws 𝓤 H A W tt; makes = Laws'4.makes Event.the-type Laws'3.the-plain 𝓤 H A; in-mem = Local.mem-whole 𝓤 H A W (Declared.row Event.the-type); of-mem = Local.whole-mem 𝓤 H A W
-              (Declared.row Event.the-type); })
+          pub queue : Kinds.Den {n = 6} κs (Value.pVal record {
+            ty = Declared'.row ReadyQueue.the-type;
+            one = Path'.refl;
+            val = Laws'5.val ReadyQueue.the-type Laws.the-laws;
+            tells = Laws'5.tells ReadyQueue.the-type Laws.the-laws;
+            still
+                = Laws'5.still ReadyQueue.the-type Laws.the-copy Exit.yes;
+            row = Rows'.whole (Declared'.row ReadyQueue.the-type);
+            rd = λ x. x;
+            mk = λ x. x;
+          } λ M 𝓤 H A W. record {
+            copies = Laws'5.copy ReadyQueue.the-type Laws.the-copy 𝓤
+                H A W;
+            lawful = Laws'5.lawful ReadyQueue.the-type Laws.the-laws 𝓤 H A W;
+            makes = Laws'5.makes ReadyQueue.the-type Laws.the-plain 𝓤 H A;
+            in-mem = Local.mem-whole 𝓤 H A W (Declared'.row ReadyQueue.the-type);
+            of-mem =
+                Local.whole-mem 𝓤 H A W (Declared'.row ReadyQueue.the-type);
+          })
+          pub event : Kinds.Den {n = 6} κs (Value.pVal record {
+            ty = Declared.row Event.the-type;
+            one = Path'.refl;
+            val = Laws'4.val Event.the-type Laws'3.the-laws;
+            tells = Laws'4.tells Event.the-type Laws'3.the-laws;
+            still =
+                Laws'4.still Event.the-type Laws'3.the-copy Exit.yes;
+            row = Rows'.whole (Declared.row Event.the-type);
+            rd = λ x. x;
+            mk = λ x. x;
+          } λ M 𝓤 H A W. record {
+            copies = Laws'4.copy Event.the-type Laws'3.the-copy 𝓤 H A W;
+            lawful
+                = Laws'4.lawful Event.the-type Laws'3.the-laws 𝓤 H A W tt;
+            makes = Laws'4.makes Event.the-type Laws'3.the-plain 𝓤 H A;
+            in-mem = Local.mem-whole 𝓤 H A W (Declared.row Event.the-type);
+            of-mem = Local.whole-mem 𝓤 H A W
+                (Declared.row Event.the-type);
+          })
           pub items : Kinds.Den {n = 6} κs (ShrSlice.pShrS (Referent.rtF (Referent.fInt Syntax.w16)) 4 tt)
           pub results : Kinds.Den {n = 6} κs (ShrSlice.pShrS (Referent.rtF (Referent.fInt Syntax.w8)) 5 tt)
 
@@ -2299,8 +4622,12 @@ module _ (claims· : Claims) where
       m0 = λ κs args blocks. (tt, Enter.partsP κs 1 ps xs (dens κs args))
 
       abbrev W0 : (κs : Lifetimes.Lfts 6) → (args : Args κs) → (blocks : List.List Nat.ℕ) → Typed.Want O0
-      W0 = λ κs args blocks. (λ u. ⊥, tt, λ u. Enter.Fixs κs 1 ps xs (dens κs args) (u .1) × Post· κs (dens κs args) (Function.resV r κs (u .0)) (Clauses.atExit (Kinds.endedOf 6 ps r) κs (dens κs args) (Enter.lastsP κs 1 ps xs (dens κs
-          args) (u .1))))
+      W0 = λ κs args blocks. (
+        λ u. ⊥,
+        tt,
+        λ u. Enter.Fixs κs 1 ps xs (dens κs args) (u .1) × Post· κs (dens κs args) (Function.resV r κs (u .0)) (Clauses.atExit (Kinds.endedOf 6 ps r) κs (dens κs args) (Enter.lastsP κs 1 ps xs (dens κs
+            args) (u .1))),
+      )
 
       pub record Start : Type 0 where
         pub κs : Lifetimes.Lfts 6
@@ -2389,7 +4716,7 @@ module _ (claims· : Claims) where
 
       module _ (before· : After-rows-in-use-arg) where
         abbrev pub After-rows-in-use·own : Type 0
-        After-rows-in-use·own = Called.Called ps·0 r·0 (claims· .1) T10 (Num.vAt 9 λ x. x, (record { pos = 14; ty = Syntax.tyRef Syntax.erased Syntax.imm El.word; ref = λ x. x; }, tt)) (m8 (before· .before) (before· .rows-in-use-arg
+        After-rows-in-use·own = Called.Called ps·0 r·0 (claims· .1) T10 (Num.vAt 9 λ x. x, (record { pos = 14; ty = Syntax.tyRef Syntax.erased Syntax.imm El.word; ref = λ x. x }, tt)) (m8 (before· .before) (before· .rows-in-use-arg
             .given))
 
       pub record After-rows-in-use : Type 0 where
@@ -2397,7 +4724,7 @@ module _ (claims· : Claims) where
         pub rows-in-use : After-rows-in-use·own before
 
       abbrev pub After-rows-in-use·gave : (c : After-rows-in-use) → s9 (c .before .before .before .before .before .before .before .blocks) .gives (m8 (c .before .before) (c .before .rows-in-use-arg .given))
-      After-rows-in-use·gave = λ c. Called.given ps·0 r·0 (claims· .1) T10 (Num.vAt 9 λ x. x, (record { pos = 14; ty = Syntax.tyRef Syntax.erased Syntax.imm El.word; ref = λ x. x; }, tt)) (m8 (c .before .before) (c .before
+      After-rows-in-use·gave = λ c. Called.given ps·0 r·0 (claims· .1) T10 (Num.vAt 9 λ x. x, (record { pos = 14; ty = Syntax.tyRef Syntax.erased Syntax.imm El.word; ref = λ x. x }, tt)) (m8 (c .before .before) (c .before
           .rows-in-use-arg .given)) (c .rows-in-use)
 
       abbrev pub m10 : (before : After-rows-in-use-arg) → (given : s9 (before .before .before .before .before .before .before .blocks) .gives (m8 (before .before) (before .rows-in-use-arg .given))) → Typed.Mo T12
@@ -2428,14 +4755,14 @@ module _ (claims· : Claims) where
 
       module _ (before· : After-load-arg) where
         abbrev pub After-load·own : Type 0
-        After-load·own = Called.Called ps·1 r·1 (claims· .3) T18 (record { pos = 17; ty = Syntax.tyRef Syntax.erased Syntax.imm El.named; ref = λ x. x; }, (Num.vAt 10 λ x. x, tt)) (m13 (before· .before) (before· .load-arg .given))
+        After-load·own = Called.Called ps·1 r·1 (claims· .3) T18 (record { pos = 17; ty = Syntax.tyRef Syntax.erased Syntax.imm El.named; ref = λ x. x }, (Num.vAt 10 λ x. x, tt)) (m13 (before· .before) (before· .load-arg .given))
 
       pub record After-load : Type 0 where
         pub before : After-load-arg
         pub load : After-load·own before
 
       abbrev pub After-load·gave : (c : After-load) → s17 (c .before .before .before .before .before .before .before .before .before .blocks) .gives (m13 (c .before .before) (c .before .load-arg .given))
-      After-load·gave = λ c. Called.given ps·1 r·1 (claims· .3) T18 (record { pos = 17; ty = Syntax.tyRef Syntax.erased Syntax.imm El.named; ref = λ x. x; }, (Num.vAt 10 λ x. x, tt)) (m13 (c .before .before) (c .before .load-arg
+      After-load·gave = λ c. Called.given ps·1 r·1 (claims· .3) T18 (record { pos = 17; ty = Syntax.tyRef Syntax.erased Syntax.imm El.named; ref = λ x. x }, (Num.vAt 10 λ x. x, tt)) (m13 (c .before .before) (c .before .load-arg
           .given)) (c .load)
 
       abbrev pub m15 : (before : After-load-arg) → (given : s17 (before .before .before .before .before .before .before .before .before .blocks) .gives (m13 (before .before) (before .load-arg .given))) → Typed.Mo T20
@@ -2522,10 +4849,49 @@ module _ (claims· : Claims) where
 
       module _ (before· : After-dispatch-arg3) where
         abbrev pub After-dispatch·own : Type 0
-        After-dispatch·own = Called.Called ps·2 r·2 (claims· .5) T37 (Num.vAt 9 λ x. x, (record { pos = 19; ty = Syntax.tyRef Syntax.erased Syntax.mut El.word; ref = λ x. x; }, (record { pos = 21; ty = Syntax.tyRef Syntax.erased
-            Syntax.mut El.word; ref = λ x. x; }, (record { pos = 23; ty = Syntax.tyRef Syntax.erased Syntax.mut El.word; ref = λ x. x; }, (record { pos = 25; ty = Syntax.tyRef Syntax.erased Syntax.mut El.word; ref = λ x. x; }, (record {
-            pos = 5; st = List.[]; d = 0; at = λ x. x }, (record { pos = 6; st = List.[]; d = 0; at = λ x. x }, (record { pos = 7; ty = Syntax.tyRef (Syntax.named 4) Syntax.imm (Syntax.tyInt Syntax.w16); ref = λ x. x; }, (record { pos
-            = 8; ty = Syntax.tyRef (Syntax.named 5) Syntax.imm (Syntax.tyInt Syntax.w8); ref = λ x. x; }, tt))))))))) (m26 (before· .before) (before· .dispatch-arg3 .given))
+        After-dispatch·own = Called.Called ps·2 r·2 (claims· .5) T37 (
+          Num.vAt 9 λ x. x,
+          (
+            record { pos = 19; ty = Syntax.tyRef Syntax.erased Syntax.mut El.word; ref = λ x. x },
+            (
+              record {
+                pos = 21;
+                ty = Syntax.tyRef Syntax.erased
+                    Syntax.mut El.word;
+                ref = λ x. x;
+              },
+              (
+                record { pos = 23; ty = Syntax.tyRef Syntax.erased Syntax.mut El.word; ref = λ x. x },
+                (
+                  record { pos = 25; ty = Syntax.tyRef Syntax.erased Syntax.mut El.word; ref = λ x. x },
+                  (
+                    record {
+                      pos = 5;
+                      st = List.[];
+                      d = 0;
+                      at = λ x. x;
+                    },
+                    (
+                      record { pos = 6; st = List.[]; d = 0; at = λ x. x },
+                      (
+                        record { pos = 7; ty = Syntax.tyRef (Syntax.named 4) Syntax.imm (Syntax.tyInt Syntax.w16); ref = λ x. x },
+                        (
+                          record {
+                            pos
+                                = 8;
+                            ty = Syntax.tyRef (Syntax.named 5) Syntax.imm (Syntax.tyInt Syntax.w8);
+                            ref = λ x. x;
+                          },
+                          tt,
+                        ),
+                      ),
+                    ),
+                  ),
+                ),
+              ),
+            ),
+          ),
+        ) (m26 (before· .before) (before· .dispatch-arg3 .given))
 
       pub record After-dispatch : Type 0 where
         pub before : After-dispatch-arg3
@@ -2533,10 +4899,49 @@ module _ (claims· : Claims) where
 
       abbrev pub After-dispatch·gave : (c : After-dispatch) → s36 (c .before .before .before .before .before .before .before .before .before .before .before .before .before .before .blocks) .gives (m26 (c .before .before) (c .before
           .dispatch-arg3 .given))
-      After-dispatch·gave = λ c. Called.given ps·2 r·2 (claims· .5) T37 (Num.vAt 9 λ x. x, (record { pos = 19; ty = Syntax.tyRef Syntax.erased Syntax.mut El.word; ref = λ x. x; }, (record { pos = 21; ty = Syntax.tyRef Syntax.erased
-          Syntax.mut El.word; ref = λ x. x; }, (record { pos = 23; ty = Syntax.tyRef Syntax.erased Syntax.mut El.word; ref = λ x. x; }, (record { pos = 25; ty = Syntax.tyRef Syntax.erased Syntax.mut El.word; ref = λ x. x; }, (record { pos
-          = 5; st = List.[]; d = 0; at = λ x. x }, (record { pos = 6; st = List.[]; d = 0; at = λ x. x }, (record { pos = 7; ty = Syntax.tyRef (Syntax.named 4) Syntax.imm (Syntax.tyInt Syntax.w16); ref = λ x. x; }, (record { pos = 8;
-          ty = Syntax.tyRef (Syntax.named 5) Syntax.imm (Syntax.tyInt Syntax.w8); ref = λ x. x; }, tt))))))))) (m26 (c .before .before) (c .before .dispatch-arg3 .given)) (c .dispatch)
+      After-dispatch·gave = λ c. Called.given ps·2 r·2 (claims· .5) T37 (
+        Num.vAt 9 λ x. x,
+        (
+          record { pos = 19; ty = Syntax.tyRef Syntax.erased Syntax.mut El.word; ref = λ x. x },
+          (
+            record {
+              pos = 21;
+              ty = Syntax.tyRef Syntax.erased
+                  Syntax.mut El.word;
+              ref = λ x. x;
+            },
+            (
+              record { pos = 23; ty = Syntax.tyRef Syntax.erased Syntax.mut El.word; ref = λ x. x },
+              (
+                record { pos = 25; ty = Syntax.tyRef Syntax.erased Syntax.mut El.word; ref = λ x. x },
+                (
+                  record {
+                    pos
+                        = 5;
+                    st = List.[];
+                    d = 0;
+                    at = λ x. x;
+                  },
+                  (
+                    record { pos = 6; st = List.[]; d = 0; at = λ x. x },
+                    (
+                      record { pos = 7; ty = Syntax.tyRef (Syntax.named 4) Syntax.imm (Syntax.tyInt Syntax.w16); ref = λ x. x },
+                      (
+                        record {
+                          pos = 8;
+                          ty = Syntax.tyRef (Syntax.named 5) Syntax.imm (Syntax.tyInt Syntax.w8);
+                          ref = λ x. x;
+                        },
+                        tt,
+                      ),
+                    ),
+                  ),
+                ),
+              ),
+            ),
+          ),
+        ),
+      ) (m26 (c .before .before) (c .before .dispatch-arg3 .given)) (c .dispatch)
 
       abbrev pub m28 : (before : After-dispatch-arg3) → (given : s36 (before .before .before .before .before .before .before .before .before .before .before .before .before .before .blocks) .gives (m26 (before .before) (before
           .dispatch-arg3 .given))) → Typed.Mo T39
@@ -2690,8 +5095,18 @@ module _ (claims· : Claims) where
 
       module _ (before· : After-words3) where
         abbrev pub After-save·own : Type 0
-        After-save·own = Called.Called ps·3 r·3 (claims· .7) T61 (record { pos = 28; ty = Syntax.tyRef Syntax.erased Syntax.mut El.named; ref = λ x. x; }, (record { pos = 30; ty = Syntax.tyRef Syntax.erased Syntax.imm El.word; ref = λ x.
-            x; }, (Num.vFld 12 (List._∷_ (Syntax.field 1) List.[]) 1096 λ x. Worked.struct .as-values x .1 .0, tt))) (m40 (before· .before) (before· .words3 .given))
+        After-save·own = Called.Called ps·3 r·3 (claims· .7) T61 (
+          record { pos = 28; ty = Syntax.tyRef Syntax.erased Syntax.mut El.named; ref = λ x. x },
+          (
+            record {
+              pos = 30;
+              ty = Syntax.tyRef Syntax.erased Syntax.imm El.word;
+              ref = λ x.
+                  x;
+            },
+            (Num.vFld 12 (List._∷_ (Syntax.field 1) List.[]) 1096 λ x. Worked.struct .as-values x .1 .0, tt),
+          ),
+        ) (m40 (before· .before) (before· .words3 .given))
 
       pub record After-save : Type 0 where
         pub before : After-words3
@@ -2699,8 +5114,18 @@ module _ (claims· : Claims) where
 
       abbrev pub After-save·gave : (c : After-save) → s60 (c .before .before .before .before .before .before .before .before .before .before .before .before .before .before .before .before .before .before .before .before .before
           .before .before .before .blocks) .gives (m40 (c .before .before) (c .before .words3 .given))
-      After-save·gave = λ c. Called.given ps·3 r·3 (claims· .7) T61 (record { pos = 28; ty = Syntax.tyRef Syntax.erased Syntax.mut El.named; ref = λ x. x; }, (record { pos = 30; ty = Syntax.tyRef Syntax.erased Syntax.imm El.word; ref = λ
-          x. x; }, (Num.vFld 12 (List._∷_ (Syntax.field 1) List.[]) 1096 λ x. Worked.struct .as-values x .1 .0, tt))) (m40 (c .before .before) (c .before .words3 .given)) (c .save)
+      After-save·gave = λ c. Called.given ps·3 r·3 (claims· .7) T61 (
+        record { pos = 28; ty = Syntax.tyRef Syntax.erased Syntax.mut El.named; ref = λ x. x },
+        (
+          record {
+            pos = 30;
+            ty = Syntax.tyRef Syntax.erased Syntax.imm El.word;
+            ref = λ
+                x. x;
+          },
+          (Num.vFld 12 (List._∷_ (Syntax.field 1) List.[]) 1096 λ x. Worked.struct .as-values x .1 .0, tt),
+        ),
+      ) (m40 (c .before .before) (c .before .words3 .given)) (c .save)
 
       abbrev pub m42 : (before : After-words3) → (given : s60 (before .before .before .before .before .before .before .before .before .before .before .before .before .before .before .before .before .before .before .before .before
           .before .before .before .blocks) .gives (m40 (before .before) (before .words3 .given))) → Typed.Mo T63
@@ -2805,77 +5230,461 @@ module _ (claims· : Claims) where
             .blocks) (W0 (c .before .before .before .before .before .before .before .before .before .before .before .before .before .before .before .before .before .before .before .before .before .before .before .before .κs) (c .before
             .before .before .before .before .before .before .before .before .before .before .before .before .before .before .before .before .before .before .before .before .before .before .before .args) (c .before .before .before
             .before .before .before .before .before .before .before .before .before .before .before .before .before .before .before .before .before .before .before .before .before .blocks)) (m41 (c .before) (After-save·gave c))
-        lay4 = λ c. (Path'.refl, λ g. (tt, λ g'. ((MutSlice.fix-len (Row.get 1 (T75 .locals) (m50 record { before = record { before = c .before; save = c .save }; tasks = record { given = g }; } g') .ptr) (Row.get 1 (T75 .locals) (m50
-            record { before = record { before = c .before; save = c .save }; tasks = record { given = g }; } g') .name) (Row.get 1 (T75 .locals) (m50 record { before = record { before = c .before; save = c .save }; tasks = record {
-            given = g }; } g') .now) (dens (c .before .before .before .before .before .before .before .before .before .before .before .before .before .before .before .before .before .before .before .before .before .before .before
-            .before .κs) (c .before .before .before .before .before .before .before .before .before .before .before .before .before .before .before .before .before .before .before .before .before .before .before .before .args) .0 .now)
-            (same-length record { before = record { before = record { before = c .before; save = c .save }; tasks = record { given = g }; }; result = record { given = g' }; }), (MutSlice.fix-len (Row.get 2 (T75 .locals) (m50 record {
-            before = record { before = c .before; save = c .save }; tasks = record { given = g }; } g') .ptr) (Row.get 2 (T75 .locals) (m50 record { before = record { before = c .before; save = c .save }; tasks = record { given = g };
-            } g') .name) (Row.get 2 (T75 .locals) (m50 record { before = record { before = c .before; save = c .save }; tasks = record { given = g }; } g') .now) (dens (c .before .before .before .before .before .before .before .before
-            .before .before .before .before .before .before .before .before .before .before .before .before .before .before .before .before .κs) (c .before .before .before .before .before .before .before .before .before .before .before
-            .before .before .before .before .before .before .before .before .before .before .before .before .before .args) .1 .0 .now) (same-length-2 record { before = record { before = record { before = c .before; save = c .save };
-            tasks = record { given = g }; }; result = record { given = g' }; }), (MutSlice.fix-len (Row.get 3 (T75 .locals) (m50 record { before = record { before = c .before; save = c .save }; tasks = record { given = g }; } g') .ptr)
-            (Row.get 3 (T75 .locals) (m50 record { before = record { before = c .before; save = c .save }; tasks = record { given = g }; } g') .name) (Row.get 3 (T75 .locals) (m50 record { before = record { before = c .before; save = c
-            .save }; tasks = record { given = g }; } g') .now) (dens (c .before .before .before .before .before .before .before .before .before .before .before .before .before .before .before .before .before .before .before .before
-            .before .before .before .before .κs) (c .before .before .before .before .before .before .before .before .before .before .before .before .before .before .before .before .before .before .before .before .before .before .before
-            .before .args) .1 .1 .0 .now) (same-length-3 record { before = record { before = record { before = c .before; save = c .save }; tasks = record { given = g }; }; result = record { given = g' }; }), (MutSlice.fix-len (Row.get
-            4 (T75 .locals) (m50 record { before = record { before = c .before; save = c .save }; tasks = record { given = g }; } g') .ptr) (Row.get 4 (T75 .locals) (m50 record { before = record { before = c .before; save = c .save };
-            tasks = record { given = g }; } g') .name) (Row.get 4 (T75 .locals) (m50 record { before = record { before = c .before; save = c .save }; tasks = record { given = g }; } g') .now) (dens (c .before .before .before .before
-            .before .before .before .before .before .before .before .before .before .before .before .before .before .before .before .before .before .before .before .before .κs) (c .before .before .before .before .before .before .before
-            .before .before .before .before .before .before .before .before .before .before .before .before .before .before .before .before .before .args) .1 .1 .1 .0 .now) (same-length-4 record { before = record { before = record {
-            before = c .before; save = c .save }; tasks = record { given = g }; }; result = record { given = g' }; }), (tt, (tt, (Path'.refl, (Path'.refl, tt)))))))), returns record { before = record { before = record { before = c
-            .before; save = c .save }; tasks = record { given = g }; }; result = record { given = g' }; })))
+        lay4 = λ c. (
+          Path'.refl,
+          λ g. (
+            tt,
+            λ g'. (
+              (
+                MutSlice.fix-len (Row.get 1 (T75 .locals) (m50 record { before = record { before = c .before; save = c .save }; tasks = record { given = g } } g') .ptr) (Row.get 1 (T75 .locals) (m50
+                    record { before = record { before = c .before; save = c .save }; tasks = record { given = g } } g') .name) (Row.get 1 (T75 .locals) (m50 record {
+                      before = record { before = c .before; save = c .save };
+                      tasks = record {
+                        given = g;
+                      };
+                    } g') .now) (dens (c .before .before .before .before .before .before .before .before .before .before .before .before .before .before .before .before .before .before .before .before .before .before .before
+                    .before .κs) (c .before .before .before .before .before .before .before .before .before .before .before .before .before .before .before .before .before .before .before .before .before .before .before .before .args) .0 .now)
+                    (same-length record { before = record { before = record { before = c .before; save = c .save }; tasks = record { given = g } }; result = record { given = g' } }),
+                (
+                  MutSlice.fix-len (Row.get 2 (T75 .locals) (m50 record {
+                    before = record { before = c .before; save = c .save };
+                    tasks = record { given = g };
+                  } g') .ptr) (Row.get 2 (T75 .locals) (m50 record {
+                    before = record { before = c .before; save = c .save };
+                    tasks = record { given = g };
+                  } g') .name) (Row.get 2 (T75 .locals) (m50 record { before = record { before = c .before; save = c .save }; tasks = record { given = g } } g') .now) (dens (c .before .before .before .before .before .before .before .before
+                      .before .before .before .before .before .before .before .before .before .before .before .before .before .before .before .before .κs) (c .before .before .before .before .before .before .before .before .before .before .before
+                      .before .before .before .before .before .before .before .before .before .before .before .before .before .args) .1 .0 .now) (same-length-2 record {
+                        before = record {
+                          before = record { before = c .before; save = c .save };
+                          tasks = record { given = g };
+                        };
+                        result = record { given = g' };
+                      }),
+                  (
+                    MutSlice.fix-len (Row.get 3 (T75 .locals) (m50 record { before = record { before = c .before; save = c .save }; tasks = record { given = g } } g') .ptr)
+                        (Row.get 3 (T75 .locals) (m50 record { before = record { before = c .before; save = c .save }; tasks = record { given = g } } g') .name) (Row.get 3 (T75 .locals) (m50 record {
+                          before = record {
+                            before = c .before;
+                            save = c
+                                .save;
+                          };
+                          tasks = record { given = g };
+                        } g') .now) (dens (c .before .before .before .before .before .before .before .before .before .before .before .before .before .before .before .before .before .before .before .before
+                        .before .before .before .before .κs) (c .before .before .before .before .before .before .before .before .before .before .before .before .before .before .before .before .before .before .before .before .before .before .before
+                        .before .args) .1 .1 .0 .now) (same-length-3 record { before = record { before = record { before = c .before; save = c .save }; tasks = record { given = g } }; result = record { given = g' } }),
+                    (
+                      MutSlice.fix-len (Row.get
+                          4 (T75 .locals) (m50 record { before = record { before = c .before; save = c .save }; tasks = record { given = g } } g') .ptr) (Row.get 4 (T75 .locals) (m50 record {
+                            before = record { before = c .before; save = c .save };
+                            tasks = record { given = g };
+                          } g') .name) (Row.get 4 (T75 .locals) (m50 record { before = record { before = c .before; save = c .save }; tasks = record { given = g } } g') .now) (dens (c .before .before .before .before
+                          .before .before .before .before .before .before .before .before .before .before .before .before .before .before .before .before .before .before .before .before .κs) (c .before .before .before .before .before .before .before
+                          .before .before .before .before .before .before .before .before .before .before .before .before .before .before .before .before .before .args) .1 .1 .1 .0 .now) (same-length-4 record {
+                            before = record {
+                              before = record {
+                                before = c .before;
+                                save = c .save;
+                              };
+                              tasks = record { given = g };
+                            };
+                            result = record { given = g' };
+                          }),
+                      (tt, (tt, (Path'.refl, (Path'.refl, tt)))),
+                    ),
+                  ),
+                ),
+              ),
+              returns record {
+                before = record {
+                  before = record {
+                    before = c
+                        .before;
+                    save = c .save;
+                  };
+                  tasks = record { given = g };
+                };
+                result = record { given = g' };
+              },
+            ),
+          ),
+        )
 
         lay3 : (c : After-dispatch) → at37 (c .before .before .before .before .before .before .before .before .before .before .before .before .before .before .blocks) (W0 (c .before .before .before .before .before .before .before
             .before .before .before .before .before .before .before .κs) (c .before .before .before .before .before .before .before .before .before .before .before .before .before .before .args) (c .before .before .before .before
             .before .before .before .before .before .before .before .before .before .before .blocks)) (m27 (c .before) (After-dispatch·gave c))
-        lay3 = λ c. (Path'.refl, λ g. (Path'.refl, λ g'. λ g''. (Path'.refl, λ g'3. λ g'4. (Path'.refl, λ g'5. λ g'6. λ g'7. (Path'.refl, λ g'8. (Relend.count-is T60 29 30 (λ x. x) (λ u. 4104) (m39 record { before = record { before =
-            record { before = record { before = record { before = record { before = record { before = record { before = record { before = c .before; dispatch = c .dispatch; }; words2 = record { given = g }; }; objects = record { given
-            = g' }; }; slice-known4 = record { given = g'' }; }; places = record { given = g'3 }; }; slice-known5 = record { given = g'4 }; }; calls = record { given = g'5 }; }; slice-known6 = record { given = g'6 }; }; save-arg =
-            record { given = g'7 }; } g'8) (slice-aggregate-save record { before = record { before = record { before = record { before = record { before = record { before = record { before = record { before = record { before = record {
-            before = c .before; dispatch = c .dispatch; }; words2 = record { given = g }; }; objects = record { given = g' }; }; slice-known4 = record { given = g'' }; }; places = record { given = g'3 }; }; slice-known5 = record {
-            given = g'4 }; }; calls = record { given = g'5 }; }; slice-known6 = record { given = g'6 }; }; save-arg = record { given = g'7 }; }; words3 = record { given = g'8 }; }), (save-requires record { before = record { before =
-            record { before = record { before = record { before = record { before = record { before = record { before = record { before = record { before = c .before; dispatch = c .dispatch; }; words2 = record { given = g }; }; objects
-            = record { given = g' }; }; slice-known4 = record { given = g'' }; }; places = record { given = g'3 }; }; slice-known5 = record { given = g'4 }; }; calls = record { given = g'5 }; }; slice-known6 = record { given = g'6 };
-            }; save-arg = record { given = g'7 }; }; words3 = record { given = g'8 }; }, λ g'9. lay4 record { before = record { before = record { before = record { before = record { before = record { before = record { before = record {
-            before = record { before = record { before = record { before = c .before; dispatch = c .dispatch; }; words2 = record { given = g }; }; objects = record { given = g' }; }; slice-known4 = record { given = g'' }; }; places =
-            record { given = g'3 }; }; slice-known5 = record { given = g'4 }; }; calls = record { given = g'5 }; }; slice-known6 = record { given = g'6 }; }; save-arg = record { given = g'7 }; }; words3 = record { given = g'8 }; };
-            save = Called.called ps·3 r·3 (claims· .7) T61 (record { pos = 28; ty = Syntax.tyRef Syntax.erased Syntax.mut El.named; ref = λ x. x; }, (record { pos = 30; ty = Syntax.tyRef Syntax.erased Syntax.imm El.word; ref = λ x. x; },
-            (Num.vFld 12 (List._∷_ (Syntax.field 1) List.[]) 1096 λ x. Worked.struct .as-values x .1 .0, tt))) (m40 record { before = record { before = record { before = record { before = record { before = record { before = record {
-            before = record { before = record { before = c .before; dispatch = c .dispatch; }; words2 = record { given = g }; }; objects = record { given = g' }; }; slice-known4 = record { given = g'' }; }; places = record { given =
-            g'3 }; }; slice-known5 = record { given = g'4 }; }; calls = record { given = g'5 }; }; slice-known6 = record { given = g'6 }; }; save-arg = record { given = g'7 }; } g'8) g'9; })))))))
+        lay3 = λ c. (
+          Path'.refl,
+          λ g. (
+            Path'.refl,
+            λ g'. λ g''. (
+              Path'.refl,
+              λ g'3. λ g'4. (
+                Path'.refl,
+                λ g'5. λ g'6. λ g'7. (
+                  Path'.refl,
+                  λ g'8. (
+                    Relend.count-is T60 29 30 (λ x. x) (λ u. 4104) (m39 record {
+                      before = record {
+                        before =
+                            record {
+                              before = record {
+                                before = record {
+                                  before = record {
+                                    before = record {
+                                      before = record { before = record { before = c .before; dispatch = c .dispatch }; words2 = record { given = g } };
+                                      objects = record {
+                                        given
+                                            = g';
+                                      };
+                                    };
+                                    slice-known4 = record { given = g'' };
+                                  };
+                                  places = record { given = g'3 };
+                                };
+                                slice-known5 = record { given = g'4 };
+                              };
+                              calls = record { given = g'5 };
+                            };
+                        slice-known6 = record { given = g'6 };
+                      };
+                      save-arg =
+                          record { given = g'7 };
+                    } g'8) (slice-aggregate-save record {
+                      before = record {
+                        before = record {
+                          before = record {
+                            before = record {
+                              before = record {
+                                before = record {
+                                  before = record {
+                                    before = record {
+                                      before = record {
+                                        before = c .before;
+                                        dispatch = c .dispatch;
+                                      };
+                                      words2 = record { given = g };
+                                    };
+                                    objects = record { given = g' };
+                                  };
+                                  slice-known4 = record { given = g'' };
+                                };
+                                places = record { given = g'3 };
+                              };
+                              slice-known5 = record {
+                                given = g'4;
+                              };
+                            };
+                            calls = record { given = g'5 };
+                          };
+                          slice-known6 = record { given = g'6 };
+                        };
+                        save-arg = record { given = g'7 };
+                      };
+                      words3 = record { given = g'8 };
+                    }),
+                    (
+                      save-requires record {
+                        before = record {
+                          before =
+                              record {
+                                before = record {
+                                  before = record {
+                                    before = record {
+                                      before = record {
+                                        before = record {
+                                          before = record { before = record { before = c .before; dispatch = c .dispatch }; words2 = record { given = g } };
+                                          objects
+                                              = record { given = g' };
+                                        };
+                                        slice-known4 = record { given = g'' };
+                                      };
+                                      places = record { given = g'3 };
+                                    };
+                                    slice-known5 = record { given = g'4 };
+                                  };
+                                  calls = record { given = g'5 };
+                                };
+                                slice-known6 = record { given = g'6 };
+                              };
+                          save-arg = record { given = g'7 };
+                        };
+                        words3 = record { given = g'8 };
+                      },
+                      λ g'9. lay4 record {
+                        before = record {
+                          before = record {
+                            before = record {
+                              before = record {
+                                before = record {
+                                  before = record {
+                                    before = record {
+                                      before = record { before = record { before = record { before = c .before; dispatch = c .dispatch }; words2 = record { given = g } }; objects = record { given = g' } };
+                                      slice-known4 = record { given = g'' };
+                                    };
+                                    places =
+                                        record { given = g'3 };
+                                  };
+                                  slice-known5 = record { given = g'4 };
+                                };
+                                calls = record { given = g'5 };
+                              };
+                              slice-known6 = record { given = g'6 };
+                            };
+                            save-arg = record { given = g'7 };
+                          };
+                          words3 = record { given = g'8 };
+                        };
+                        save = Called.called ps·3 r·3 (claims· .7) T61 (
+                          record { pos = 28; ty = Syntax.tyRef Syntax.erased Syntax.mut El.named; ref = λ x. x },
+                          (
+                            record { pos = 30; ty = Syntax.tyRef Syntax.erased Syntax.imm El.word; ref = λ x. x },
+                            (Num.vFld 12 (List._∷_ (Syntax.field 1) List.[]) 1096 λ x. Worked.struct .as-values x .1 .0, tt),
+                          ),
+                        ) (m40 record {
+                          before = record {
+                            before = record {
+                              before = record {
+                                before = record {
+                                  before = record {
+                                    before = record {
+                                      before = record { before = record { before = c .before; dispatch = c .dispatch }; words2 = record { given = g } };
+                                      objects = record { given = g' };
+                                    };
+                                    slice-known4 = record { given = g'' };
+                                  };
+                                  places = record {
+                                    given =
+                                        g'3;
+                                  };
+                                };
+                                slice-known5 = record { given = g'4 };
+                              };
+                              calls = record { given = g'5 };
+                            };
+                            slice-known6 = record { given = g'6 };
+                          };
+                          save-arg = record { given = g'7 };
+                        } g'8) g'9;
+                      },
+                    ),
+                  ),
+                ),
+              ),
+            ),
+          ),
+        )
 
         lay2 : (c : After-load) → at56 (c .before .before .before .before .before .before .before .before .before .blocks) (W0 (c .before .before .before .before .before .before .before .before .before .κs) (c .before .before .before
             .before .before .before .before .before .before .args) (c .before .before .before .before .before .before .before .before .before .blocks)) (m14 (c .before) (After-load·gave c))
-        lay2 = λ c. λ g. (Relend.count-is T27 18 19 (λ x. x) (λ u. 4104) (m19 record { before = c .before; load = c .load; } g) (slice-aggregate-dispatch record { before = record { before = c .before; load = c .load }; words = record {
-            given = g }; }), λ g'. (Path'.refl, λ g''. (Path'.refl, λ g'3. (Path'.refl, (dispatch-requires record { before = record { before = record { before = record { before = record { before = c .before; load = c .load }; words =
-            record { given = g }; }; dispatch-arg = record { given = g' }; }; dispatch-arg2 = record { given = g'' }; }; dispatch-arg3 = record { given = g'3 }; }, λ g'4. lay3 record { before = record { before = record { before =
-            record { before = record { before = record { before = c .before; load = c .load }; words = record { given = g }; }; dispatch-arg = record { given = g' }; }; dispatch-arg2 = record { given = g'' }; }; dispatch-arg3 = record
-            { given = g'3 }; }; dispatch = Called.called ps·2 r·2 (claims· .5) T37 (Num.vAt 9 λ x. x, (record { pos = 19; ty = Syntax.tyRef Syntax.erased Syntax.mut El.word; ref = λ x. x; }, (record { pos = 21; ty = Syntax.tyRef
-            Syntax.erased Syntax.mut El.word; ref = λ x. x; }, (record { pos = 23; ty = Syntax.tyRef Syntax.erased Syntax.mut El.word; ref = λ x. x; }, (record { pos = 25; ty = Syntax.tyRef Syntax.erased Syntax.mut El.word; ref = λ x. x;
-            }, (record { pos = 5; st = List.[]; d = 0; at = λ x. x }, (record { pos = 6; st = List.[]; d = 0; at = λ x. x }, (record { pos = 7; ty = Syntax.tyRef (Syntax.named 4) Syntax.imm (Syntax.tyInt Syntax.w16); ref = λ x. x; },
-            (record { pos = 8; ty = Syntax.tyRef (Syntax.named 5) Syntax.imm (Syntax.tyInt Syntax.w8); ref = λ x. x; }, tt))))))))) (m26 record { before = record { before = record { before = record { before = c .before; load = c .load
-            }; words = record { given = g }; }; dispatch-arg = record { given = g' }; }; dispatch-arg2 = record { given = g'' }; } g'3) g'4; })))))
+        lay2 = λ c. λ g. (
+          Relend.count-is T27 18 19 (λ x. x) (λ u. 4104) (m19 record { before = c .before; load = c .load } g) (slice-aggregate-dispatch record {
+            before = record { before = c .before; load = c .load };
+            words = record {
+              given = g;
+            };
+          }),
+          λ g'. (
+            Path'.refl,
+            λ g''. (
+              Path'.refl,
+              λ g'3. (
+                Path'.refl,
+                (
+                  dispatch-requires record {
+                    before = record {
+                      before = record {
+                        before = record {
+                          before = record { before = c .before; load = c .load };
+                          words =
+                              record { given = g };
+                        };
+                        dispatch-arg = record { given = g' };
+                      };
+                      dispatch-arg2 = record { given = g'' };
+                    };
+                    dispatch-arg3 = record { given = g'3 };
+                  },
+                  λ g'4. lay3 record {
+                    before = record {
+                      before = record {
+                        before =
+                            record { before = record { before = record { before = c .before; load = c .load }; words = record { given = g } }; dispatch-arg = record { given = g' } };
+                        dispatch-arg2 = record { given = g'' };
+                      };
+                      dispatch-arg3 = record
+                          { given = g'3 };
+                    };
+                    dispatch = Called.called ps·2 r·2 (claims· .5) T37 (
+                      Num.vAt 9 λ x. x,
+                      (
+                        record { pos = 19; ty = Syntax.tyRef Syntax.erased Syntax.mut El.word; ref = λ x. x },
+                        (
+                          record {
+                            pos = 21;
+                            ty = Syntax.tyRef
+                                Syntax.erased Syntax.mut El.word;
+                            ref = λ x. x;
+                          },
+                          (
+                            record { pos = 23; ty = Syntax.tyRef Syntax.erased Syntax.mut El.word; ref = λ x. x },
+                            (
+                              record {
+                                pos = 25;
+                                ty = Syntax.tyRef Syntax.erased Syntax.mut El.word;
+                                ref = λ x. x;
+                              },
+                              (
+                                record { pos = 5; st = List.[]; d = 0; at = λ x. x },
+                                (
+                                  record { pos = 6; st = List.[]; d = 0; at = λ x. x },
+                                  (
+                                    record { pos = 7; ty = Syntax.tyRef (Syntax.named 4) Syntax.imm (Syntax.tyInt Syntax.w16); ref = λ x. x },
+                                    (record { pos = 8; ty = Syntax.tyRef (Syntax.named 5) Syntax.imm (Syntax.tyInt Syntax.w8); ref = λ x. x }, tt),
+                                  ),
+                                ),
+                              ),
+                            ),
+                          ),
+                        ),
+                      ),
+                    ) (m26 record {
+                      before = record {
+                        before = record {
+                          before = record {
+                            before = c .before;
+                            load = c .load;
+                          };
+                          words = record { given = g };
+                        };
+                        dispatch-arg = record { given = g' };
+                      };
+                      dispatch-arg2 = record { given = g'' };
+                    } g'3) g'4;
+                  },
+                ),
+              ),
+            ),
+          ),
+        )
 
         lay1 : (c : After-rows-in-use) → at64 (c .before .before .before .before .before .before .before .blocks) (W0 (c .before .before .before .before .before .before .before .κs) (c .before .before .before .before .before .before
             .before .args) (c .before .before .before .before .before .before .before .blocks)) (m9 (c .before) (After-rows-in-use·gave c))
-        lay1 = λ c. λ g. (Path'.refl, (load-requires record { before = record { before = c .before; rows-in-use = c .rows-in-use }; load-arg = record { given = g }; }, λ g'. lay2 record { before = record { before = record { before = c
-            .before; rows-in-use = c .rows-in-use }; load-arg = record { given = g }; }; load = Called.called ps·1 r·1 (claims· .3) T18 (record { pos = 17; ty = Syntax.tyRef Syntax.erased Syntax.imm El.named; ref = λ x. x; }, (Num.vAt
-            10 λ x. x, tt)) (m13 record { before = c .before; rows-in-use = c .rows-in-use } g) g'; }))
+        lay1 = λ c. λ g. (
+          Path'.refl,
+          (
+            load-requires record { before = record { before = c .before; rows-in-use = c .rows-in-use }; load-arg = record { given = g } },
+            λ g'. lay2 record {
+              before = record {
+                before = record {
+                  before = c
+                      .before;
+                  rows-in-use = c .rows-in-use;
+                };
+                load-arg = record { given = g };
+              };
+              load = Called.called ps·1 r·1 (claims· .3) T18 (
+                record { pos = 17; ty = Syntax.tyRef Syntax.erased Syntax.imm El.named; ref = λ x. x },
+                (
+                  Num.vAt
+                      10 λ x. x,
+                  tt,
+                ),
+              ) (m13 record { before = c .before; rows-in-use = c .rows-in-use } g) g';
+            },
+          ),
+        )
 
         pub laid : (c : Start) → at74 (c .blocks) (W0 (c .κs) (c .args) (c .blocks)) (m0 (c .κs) (c .args) (c .blocks))
-        laid = λ c. λ g. λ g'. λ g''. λ g'3. λ g'4. λ g'5. (Path'.refl, (rows-in-use-requires record { before = record { before = record { before = record { before = record { before = record { before = c; slice-known = record { given =
-            g } }; slice-known2 = record { given = g' }; }; slice-known3 = record { given = g'' }; }; shared-slice-known = record { given = g'3 }; }; shared-slice-known2 = record { given = g'4 }; }; rows-in-use-arg = record { given =
-            g'5 }; }, λ g'6. lay1 record { before = record { before = record { before = record { before = record { before = record { before = record { before = c; slice-known = record { given = g } }; slice-known2 = record { given = g'
-            }; }; slice-known3 = record { given = g'' }; }; shared-slice-known = record { given = g'3 }; }; shared-slice-known2 = record { given = g'4 }; }; rows-in-use-arg = record { given = g'5 }; }; rows-in-use = Called.called ps·0
-            r·0 (claims· .1) T10 (Num.vAt 9 λ x. x, (record { pos = 14; ty = Syntax.tyRef Syntax.erased Syntax.imm El.word; ref = λ x. x; }, tt)) (m8 record { before = record { before = record { before = record { before = record {
-            before = c; slice-known = record { given = g } }; slice-known2 = record { given = g' }; }; slice-known3 = record { given = g'' }; }; shared-slice-known = record { given = g'3 }; }; shared-slice-known2 = record { given = g'4
-            }; } g'5) g'6; }))
+        laid = λ c. λ g. λ g'. λ g''. λ g'3. λ g'4. λ g'5. (
+          Path'.refl,
+          (
+            rows-in-use-requires record {
+              before = record {
+                before = record {
+                  before = record {
+                    before = record {
+                      before = record {
+                        before = c;
+                        slice-known = record {
+                          given =
+                              g;
+                        };
+                      };
+                      slice-known2 = record { given = g' };
+                    };
+                    slice-known3 = record { given = g'' };
+                  };
+                  shared-slice-known = record { given = g'3 };
+                };
+                shared-slice-known2 = record { given = g'4 };
+              };
+              rows-in-use-arg = record {
+                given =
+                    g'5;
+              };
+            },
+            λ g'6. lay1 record {
+              before = record {
+                before = record {
+                  before = record {
+                    before = record {
+                      before = record {
+                        before = record { before = c; slice-known = record { given = g } };
+                        slice-known2 = record {
+                          given = g';
+                        };
+                      };
+                      slice-known3 = record { given = g'' };
+                    };
+                    shared-slice-known = record { given = g'3 };
+                  };
+                  shared-slice-known2 = record { given = g'4 };
+                };
+                rows-in-use-arg = record { given = g'5 };
+              };
+              rows-in-use = Called.called ps·0
+                  r·0 (claims· .1) T10 (Num.vAt 9 λ x. x, (record { pos = 14; ty = Syntax.tyRef Syntax.erased Syntax.imm El.word; ref = λ x. x }, tt)) (m8 record {
+                    before = record {
+                      before = record {
+                        before = record {
+                          before = record {
+                            before = c;
+                            slice-known = record { given = g };
+                          };
+                          slice-known2 = record { given = g' };
+                        };
+                        slice-known3 = record { given = g'' };
+                      };
+                      shared-slice-known = record { given = g'3 };
+                    };
+                    shared-slice-known2 = record {
+                      given = g'4;
+                    };
+                  } g'5) g'6;
+            },
+          ),
+        )
 
         module _ (κs : Lifetimes.Lfts 6) (qs : Lifetimes.Shares 6) where
           pub asked : (a : Kinds.Dens κs ps) → (good : Kinds.GoodsP κs ps a) → (pre : Pre· κs a) → (bs : List.List Nat.ℕ) → Φ bs (Any.wantQ 6 ps r xs m κs qs a (Post· κs a)) (Function.init 6 ps r xs m κs qs a)
-          asked = λ a good pre bs. laid record { κs = κs; args = record { tasks = a .0; objects = a .1 .0; places = a .1 .1 .0; calls = a .1 .1 .1 .0; queue = a .1 .1 .1 .1 .0; event = a .1 .1 .1 .1 .1 .0; items = a .1 .1 .1 .1 .1 .1
-              .0; results = a .1 .1 .1 .1 .1 .1 .1 .0; }; blocks = bs; good = good; pre = pre; }
+          asked = λ a good pre bs. laid record {
+            κs = κs;
+            args = record {
+              tasks = a .0;
+              objects = a .1 .0;
+              places = a .1 .1 .0;
+              calls = a .1 .1 .1 .0;
+              queue = a .1 .1 .1 .1 .0;
+              event = a .1 .1 .1 .1 .1 .0;
+              items = a .1 .1 .1 .1 .1 .1
+                  .0;
+              results = a .1 .1 .1 .1 .1 .1 .1 .0;
+            };
+            blocks = bs;
+            good = good;
+            pre = pre;
+          }
 
         module _ {M : Type 1} (𝓤 : URA.URA M) (H : Wp.Heap 𝓤) (A : Atoms.Atoms 𝓤) (W : Kit.Given 𝓤 H A) (𝓣 : Wp.Tables 𝓤 H) (known0 : Plain.Known 𝓤 H A W 𝓣 1 ps·0 r·0 (claims· .0) (claims· .1) "records_words::rows_in_use") (known1 :
             Plain.Known 𝓤 H A W 𝓣 1 ps·1 r·1 (claims· .2) (claims· .3) "records_tasks::load") (known2 : Plain.Known 𝓤 H A W 𝓣 6 ps·2 r·2 (claims· .4) (claims· .5) "records_words::dispatch") (known3 : Plain.Known 𝓤 H A W 𝓣 2 ps·3 r·3

@@ -56,15 +56,44 @@ use types.Kit
 use Rattle.records_session.proofs.Made.Element as El
 
 abbrev pub ps : List.List (Kinds.PK 3)
-ps = List._∷_ (ShrSlice.pShrS El.row 0 tt) (List._∷_ (ShrSlice.pShrS (Referent.rtF (Referent.fInt Syntax.w64)) 1 tt) (List._∷_ (ShrSlice.pShrS (Referent.rtF (Referent.fInt Syntax.w64)) 2 tt) (List._∷_ (Value.pVal record { ty =
-    Declared'.row ReadyQueue.the-type; one = Path'.refl; val = Laws'3.val ReadyQueue.the-type Laws'.the-laws; tells = Laws'3.tells ReadyQueue.the-type Laws'.the-laws; still = Laws'3.still ReadyQueue.the-type Laws'.the-copy Exit.yes;
-    row = Rows'.whole (Declared'.row ReadyQueue.the-type); rd = λ x. x; mk = λ x. x; } λ M 𝓤 H A W. record { copies = Laws'3.copy ReadyQueue.the-type Laws'.the-copy 𝓤 H A W; lawful = Laws'3.lawful ReadyQueue.the-type Laws'.the-laws 𝓤 H
-    A W; makes = Laws'3.makes ReadyQueue.the-type Laws'.the-plain 𝓤 H A; in-mem = Local.mem-whole 𝓤 H A W (Declared'.row ReadyQueue.the-type); of-mem = Local.whole-mem 𝓤 H A W (Declared'.row ReadyQueue.the-type); }) List.[])))
+ps = List._∷_ (ShrSlice.pShrS El.row 0 tt) (List._∷_ (ShrSlice.pShrS (Referent.rtF (Referent.fInt Syntax.w64)) 1 tt) (List._∷_ (ShrSlice.pShrS (Referent.rtF (Referent.fInt Syntax.w64)) 2 tt) (List._∷_ (Value.pVal record {
+  ty =
+      Declared'.row ReadyQueue.the-type;
+  one = Path'.refl;
+  val = Laws'3.val ReadyQueue.the-type Laws'.the-laws;
+  tells = Laws'3.tells ReadyQueue.the-type Laws'.the-laws;
+  still = Laws'3.still ReadyQueue.the-type Laws'.the-copy Exit.yes;
+  row = Rows'.whole (Declared'.row ReadyQueue.the-type);
+  rd = λ x. x;
+  mk = λ x. x;
+} λ M 𝓤 H A W. record {
+  copies = Laws'3.copy ReadyQueue.the-type Laws'.the-copy 𝓤 H A W;
+  lawful = Laws'3.lawful ReadyQueue.the-type Laws'.the-laws 𝓤 H
+      A W;
+  makes = Laws'3.makes ReadyQueue.the-type Laws'.the-plain 𝓤 H A;
+  in-mem = Local.mem-whole 𝓤 H A W (Declared'.row ReadyQueue.the-type);
+  of-mem = Local.whole-mem 𝓤 H A W (Declared'.row ReadyQueue.the-type);
+}) List.[])))
 
 abbrev pub r : Kinds.RK 3
-r = Value.rVal record { ty = Declared.row Answer.the-type; one = Path'.refl; val = Laws''.val Answer.the-type Laws.the-laws; tells = Laws''.tells Answer.the-type Laws.the-laws; still = Laws''.still Answer.the-type Laws.the-copy
-    Exit.yes; row = Rows'.whole (Declared.row Answer.the-type); rd = λ x. x; mk = λ x. x; } λ M 𝓤 H A W. record { copies = Laws''.copy Answer.the-type Laws.the-copy 𝓤 H A W; lawful = Laws''.lawful Answer.the-type Laws.the-laws 𝓤 H A W
-    tt; makes = Laws''.makes Answer.the-type Laws.the-plain 𝓤 H A; in-mem = Local.mem-whole 𝓤 H A W (Declared.row Answer.the-type); of-mem = Local.whole-mem 𝓤 H A W (Declared.row Answer.the-type); }
+r = Value.rVal record {
+  ty = Declared.row Answer.the-type;
+  one = Path'.refl;
+  val = Laws''.val Answer.the-type Laws.the-laws;
+  tells = Laws''.tells Answer.the-type Laws.the-laws;
+  still = Laws''.still Answer.the-type Laws.the-copy
+      Exit.yes;
+  row = Rows'.whole (Declared.row Answer.the-type);
+  rd = λ x. x;
+  mk = λ x. x;
+} λ M 𝓤 H A W. record {
+  copies = Laws''.copy Answer.the-type Laws.the-copy 𝓤 H A W;
+  lawful = Laws''.lawful Answer.the-type Laws.the-laws 𝓤 H A W
+      tt;
+  makes = Laws''.makes Answer.the-type Laws.the-plain 𝓤 H A;
+  in-mem = Local.mem-whole 𝓤 H A W (Declared.row Answer.the-type);
+  of-mem = Local.whole-mem 𝓤 H A W (Declared.row Answer.the-type);
+}
 
 abbrev pub xs : List.List Syntax.Ty
 xs = List._∷_ El.word (List._∷_ (Syntax.tyInt Syntax.w16) (List._∷_ (Syntax.tyArray El.word 4104) (List._∷_ (Syntax.tyArray El.word 4104) (List._∷_ (Syntax.tyRef Syntax.erased Syntax.imm (Syntax.tyArray El.word 4104)) (List._∷_
@@ -87,15 +116,45 @@ r·1 = Array.rArr (Array.eInt Syntax.w64) (Array.eInt-laws Syntax.w64) 4104
 
 abbrev pub ps·2 : List.List (Kinds.PK 3)
 ps·2 = List._∷_ (Num.pNum Syntax.w64) (List._∷_ (ShrSlice.pShrS (Referent.rtF (Referent.fInt Syntax.w64)) 0 tt) (List._∷_ (ShrSlice.pShrS (Referent.rtF (Referent.fInt Syntax.w64)) 1 tt) (List._∷_ (ShrSlice.pShrS (Referent.rtF
-    (Referent.fInt Syntax.w64)) 2 tt) (List._∷_ (Value.pVal record { ty = Declared'.row ReadyQueue.the-type; one = Path'.refl; val = Laws'3.val ReadyQueue.the-type Laws'.the-laws; tells = Laws'3.tells ReadyQueue.the-type
-    Laws'.the-laws; still = Laws'3.still ReadyQueue.the-type Laws'.the-copy Exit.yes; row = Rows'.whole (Declared'.row ReadyQueue.the-type); rd = λ x. x; mk = λ x. x; } λ M 𝓤 H A W. record { copies = Laws'3.copy ReadyQueue.the-type
-    Laws'.the-copy 𝓤 H A W; lawful = Laws'3.lawful ReadyQueue.the-type Laws'.the-laws 𝓤 H A W; makes = Laws'3.makes ReadyQueue.the-type Laws'.the-plain 𝓤 H A; in-mem = Local.mem-whole 𝓤 H A W (Declared'.row ReadyQueue.the-type); of-mem
-    = Local.whole-mem 𝓤 H A W (Declared'.row ReadyQueue.the-type); }) List.[]))))
+    (Referent.fInt Syntax.w64)) 2 tt) (List._∷_ (Value.pVal record {
+      ty = Declared'.row ReadyQueue.the-type;
+      one = Path'.refl;
+      val = Laws'3.val ReadyQueue.the-type Laws'.the-laws;
+      tells = Laws'3.tells ReadyQueue.the-type
+          Laws'.the-laws;
+      still = Laws'3.still ReadyQueue.the-type Laws'.the-copy Exit.yes;
+      row = Rows'.whole (Declared'.row ReadyQueue.the-type);
+      rd = λ x. x;
+      mk = λ x. x;
+    } λ M 𝓤 H A W. record {
+      copies = Laws'3.copy ReadyQueue.the-type
+          Laws'.the-copy 𝓤 H A W;
+      lawful = Laws'3.lawful ReadyQueue.the-type Laws'.the-laws 𝓤 H A W;
+      makes = Laws'3.makes ReadyQueue.the-type Laws'.the-plain 𝓤 H A;
+      in-mem = Local.mem-whole 𝓤 H A W (Declared'.row ReadyQueue.the-type);
+      of-mem
+          = Local.whole-mem 𝓤 H A W (Declared'.row ReadyQueue.the-type);
+    }) List.[]))))
 
 abbrev pub r·2 : Kinds.RK 3
-r·2 = Value.rVal record { ty = Declared.row Answer.the-type; one = Path'.refl; val = Laws''.val Answer.the-type Laws.the-laws; tells = Laws''.tells Answer.the-type Laws.the-laws; still = Laws''.still Answer.the-type Laws.the-copy
-    Exit.yes; row = Rows'.whole (Declared.row Answer.the-type); rd = λ x. x; mk = λ x. x; } λ M 𝓤 H A W. record { copies = Laws''.copy Answer.the-type Laws.the-copy 𝓤 H A W; lawful = Laws''.lawful Answer.the-type Laws.the-laws 𝓤 H A W
-    tt; makes = Laws''.makes Answer.the-type Laws.the-plain 𝓤 H A; in-mem = Local.mem-whole 𝓤 H A W (Declared.row Answer.the-type); of-mem = Local.whole-mem 𝓤 H A W (Declared.row Answer.the-type); }
+r·2 = Value.rVal record {
+  ty = Declared.row Answer.the-type;
+  one = Path'.refl;
+  val = Laws''.val Answer.the-type Laws.the-laws;
+  tells = Laws''.tells Answer.the-type Laws.the-laws;
+  still = Laws''.still Answer.the-type Laws.the-copy
+      Exit.yes;
+  row = Rows'.whole (Declared.row Answer.the-type);
+  rd = λ x. x;
+  mk = λ x. x;
+} λ M 𝓤 H A W. record {
+  copies = Laws''.copy Answer.the-type Laws.the-copy 𝓤 H A W;
+  lawful = Laws''.lawful Answer.the-type Laws.the-laws 𝓤 H A W
+      tt;
+  makes = Laws''.makes Answer.the-type Laws.the-plain 𝓤 H A;
+  in-mem = Local.mem-whole 𝓤 H A W (Declared.row Answer.the-type);
+  of-mem = Local.whole-mem 𝓤 H A W (Declared.row Answer.the-type);
+}
 
 abbrev pub hs : List.List Syntax.Home
 hs = List._∷_ Syntax.valueLocal (List._∷_ Syntax.valueLocal (List._∷_ Syntax.valueLocal (List._∷_ Syntax.valueLocal (List._∷_ Syntax.valueLocal (List._∷_ Syntax.valueLocal (List._∷_ Syntax.valueLocal (List._∷_ Syntax.memorySlot
@@ -154,109 +213,247 @@ abbrev pub Claims : Type 1
 Claims = Kinds.In 1 ps·0 × Kinds.Out 1 ps·0 r·0 × Kinds.In 1 ps·1 × Kinds.Out 1 ps·1 r·1 × Kinds.In 3 ps·2 × Kinds.Out 3 ps·2 r·2
 
 abbrev pub t0 : List.List Row.Entry
-t0 = List._∷_ (0, Rows'.any-gone El.Answer) (List._∷_ (1, Rows'.sslice El.row (Syntax.tyRef (Syntax.named 0) Syntax.imm El.named) 0) (List._∷_ (2, Rows'.sslice (Referent.rtF (Referent.fInt Syntax.w64)) (Syntax.tyRef (Syntax.named 1)
-    Syntax.imm El.word) 1) (List._∷_ (3, Rows'.sslice (Referent.rtF (Referent.fInt Syntax.w64)) (Syntax.tyRef (Syntax.named 2) Syntax.imm El.word) 2) (List._∷_ (4, Rows'.whole (Declared'.row ReadyQueue.the-type)) (List._∷_ (5,
-    Rows'.any-gone El.word) (List._∷_ (6, Rows'.any-gone (Syntax.tyInt Syntax.w16)) (List._∷_ (7, Rows'.any-gone (Syntax.tyArray El.word 4104)) (List._∷_ (8, Rows'.any-gone (Syntax.tyArray El.word 4104)) (List._∷_ (9, Rows'.any-gone
-    (Syntax.tyRef Syntax.erased Syntax.imm (Syntax.tyArray El.word 4104))) (List._∷_ (10, Rows'.any-gone (Syntax.tyStruct (List._∷_ 38 (List._∷_ 91 (List._∷_ 93 List.[]))) (Syntax.tcons (Syntax.tyRef Syntax.erased Syntax.imm El.word)
-    (Syntax.tcons El.word Syntax.tnil)))) List.[]))))))))))
+t0 = List._∷_ (0, Rows'.any-gone El.Answer) (List._∷_ (1, Rows'.sslice El.row (Syntax.tyRef (Syntax.named 0) Syntax.imm El.named) 0) (List._∷_ (
+  2,
+  Rows'.sslice (Referent.rtF (Referent.fInt Syntax.w64)) (Syntax.tyRef (Syntax.named 1)
+      Syntax.imm El.word) 1,
+) (List._∷_ (3, Rows'.sslice (Referent.rtF (Referent.fInt Syntax.w64)) (Syntax.tyRef (Syntax.named 2) Syntax.imm El.word) 2) (List._∷_ (4, Rows'.whole (Declared'.row ReadyQueue.the-type)) (List._∷_ (
+  5,
+  Rows'.any-gone El.word,
+) (List._∷_ (6, Rows'.any-gone (Syntax.tyInt Syntax.w16)) (List._∷_ (7, Rows'.any-gone (Syntax.tyArray El.word 4104)) (List._∷_ (8, Rows'.any-gone (Syntax.tyArray El.word 4104)) (List._∷_ (
+  9,
+  Rows'.any-gone
+      (Syntax.tyRef Syntax.erased Syntax.imm (Syntax.tyArray El.word 4104)),
+) (List._∷_ (
+  10,
+  Rows'.any-gone (Syntax.tyStruct (List._∷_ 38 (List._∷_ 91 (List._∷_ 93 List.[]))) (Syntax.tcons (Syntax.tyRef Syntax.erased Syntax.imm El.word)
+      (Syntax.tcons El.word Syntax.tnil))),
+) List.[]))))))))))
 
 abbrev pub t1 : List.List Row.Entry
-t1 = List._∷_ (0, Rows'.whole (Declared.row Answer.the-type)) (List._∷_ (1, Rows'.sslice El.row (Syntax.tyRef (Syntax.named 0) Syntax.imm El.named) 0) (List._∷_ (2, Rows'.sslice (Referent.rtF (Referent.fInt Syntax.w64)) (Syntax.tyRef
-    (Syntax.named 1) Syntax.imm El.word) 1) (List._∷_ (3, Rows'.sslice (Referent.rtF (Referent.fInt Syntax.w64)) (Syntax.tyRef (Syntax.named 2) Syntax.imm El.word) 2) (List._∷_ (4, Rows'.any-gone El.ReadyQueue) (List._∷_ (5,
-    Rows'.any-gone El.word) (List._∷_ (6, Rows'.any-gone (Syntax.tyInt Syntax.w16)) (List._∷_ (7, Rows'.any-gone (Syntax.tyArray El.word 4104)) (List._∷_ (8, Rows'.any-gone (Syntax.tyArray El.word 4104)) (List._∷_ (9, Rows'.any-gone
-    (Syntax.tyRef Syntax.erased Syntax.imm (Syntax.tyArray El.word 4104))) (List._∷_ (10, Rows'.any-gone (Syntax.tyStruct (List._∷_ 38 (List._∷_ 91 (List._∷_ 93 List.[]))) (Syntax.tcons (Syntax.tyRef Syntax.erased Syntax.imm El.word)
-    (Syntax.tcons El.word Syntax.tnil)))) List.[]))))))))))
+t1 = List._∷_ (0, Rows'.whole (Declared.row Answer.the-type)) (List._∷_ (1, Rows'.sslice El.row (Syntax.tyRef (Syntax.named 0) Syntax.imm El.named) 0) (List._∷_ (
+  2,
+  Rows'.sslice (Referent.rtF (Referent.fInt Syntax.w64)) (Syntax.tyRef
+      (Syntax.named 1) Syntax.imm El.word) 1,
+) (List._∷_ (3, Rows'.sslice (Referent.rtF (Referent.fInt Syntax.w64)) (Syntax.tyRef (Syntax.named 2) Syntax.imm El.word) 2) (List._∷_ (4, Rows'.any-gone El.ReadyQueue) (List._∷_ (
+  5,
+  Rows'.any-gone El.word,
+) (List._∷_ (6, Rows'.any-gone (Syntax.tyInt Syntax.w16)) (List._∷_ (7, Rows'.any-gone (Syntax.tyArray El.word 4104)) (List._∷_ (8, Rows'.any-gone (Syntax.tyArray El.word 4104)) (List._∷_ (
+  9,
+  Rows'.any-gone
+      (Syntax.tyRef Syntax.erased Syntax.imm (Syntax.tyArray El.word 4104)),
+) (List._∷_ (
+  10,
+  Rows'.any-gone (Syntax.tyStruct (List._∷_ 38 (List._∷_ 91 (List._∷_ 93 List.[]))) (Syntax.tcons (Syntax.tyRef Syntax.erased Syntax.imm El.word)
+      (Syntax.tcons El.word Syntax.tnil))),
+) List.[]))))))))))
 
 abbrev pub t2 : List.List Row.Entry
-t2 = List._∷_ (0, Rows'.any-gone El.Answer) (List._∷_ (1, Rows'.sslice El.row (Syntax.tyRef (Syntax.named 0) Syntax.imm El.named) 0) (List._∷_ (2, Rows'.sslice (Referent.rtF (Referent.fInt Syntax.w64)) (Syntax.tyRef (Syntax.named 1)
-    Syntax.imm El.word) 1) (List._∷_ (3, Rows'.sslice (Referent.rtF (Referent.fInt Syntax.w64)) (Syntax.tyRef (Syntax.named 2) Syntax.imm El.word) 2) (List._∷_ (4, Rows'.whole (Declared'.row ReadyQueue.the-type)) (List._∷_ (5,
-    Rows'.sc-here (Row.sInt Syntax.w64)) (List._∷_ (6, Rows'.any-gone (Syntax.tyInt Syntax.w16)) (List._∷_ (7, Rows'.any-gone (Syntax.tyArray El.word 4104)) (List._∷_ (8, Rows'.any-gone (Syntax.tyArray El.word 4104)) (List._∷_ (9,
-    Rows'.any-gone (Syntax.tyRef Syntax.erased Syntax.imm (Syntax.tyArray El.word 4104))) (List._∷_ (10, Rows'.any-gone (Syntax.tyStruct (List._∷_ 38 (List._∷_ 91 (List._∷_ 93 List.[]))) (Syntax.tcons (Syntax.tyRef Syntax.erased
-    Syntax.imm El.word) (Syntax.tcons El.word Syntax.tnil)))) List.[]))))))))))
+t2 = List._∷_ (0, Rows'.any-gone El.Answer) (List._∷_ (1, Rows'.sslice El.row (Syntax.tyRef (Syntax.named 0) Syntax.imm El.named) 0) (List._∷_ (
+  2,
+  Rows'.sslice (Referent.rtF (Referent.fInt Syntax.w64)) (Syntax.tyRef (Syntax.named 1)
+      Syntax.imm El.word) 1,
+) (List._∷_ (3, Rows'.sslice (Referent.rtF (Referent.fInt Syntax.w64)) (Syntax.tyRef (Syntax.named 2) Syntax.imm El.word) 2) (List._∷_ (4, Rows'.whole (Declared'.row ReadyQueue.the-type)) (List._∷_ (
+  5,
+  Rows'.sc-here (Row.sInt Syntax.w64),
+) (List._∷_ (6, Rows'.any-gone (Syntax.tyInt Syntax.w16)) (List._∷_ (7, Rows'.any-gone (Syntax.tyArray El.word 4104)) (List._∷_ (8, Rows'.any-gone (Syntax.tyArray El.word 4104)) (List._∷_ (
+  9,
+  Rows'.any-gone (Syntax.tyRef Syntax.erased Syntax.imm (Syntax.tyArray El.word 4104)),
+) (List._∷_ (
+  10,
+  Rows'.any-gone (Syntax.tyStruct (List._∷_ 38 (List._∷_ 91 (List._∷_ 93 List.[]))) (Syntax.tcons (Syntax.tyRef Syntax.erased
+      Syntax.imm El.word) (Syntax.tcons El.word Syntax.tnil))),
+) List.[]))))))))))
 
 abbrev pub t3 : List.List Row.Entry
-t3 = List._∷_ (0, Rows'.any-gone El.Answer) (List._∷_ (1, Rows'.sslice El.row (Syntax.tyRef (Syntax.named 0) Syntax.imm El.named) 0) (List._∷_ (2, Rows'.sslice (Referent.rtF (Referent.fInt Syntax.w64)) (Syntax.tyRef (Syntax.named 1)
-    Syntax.imm El.word) 1) (List._∷_ (3, Rows'.sslice (Referent.rtF (Referent.fInt Syntax.w64)) (Syntax.tyRef (Syntax.named 2) Syntax.imm El.word) 2) (List._∷_ (4, Rows'.whole (Declared'.row ReadyQueue.the-type)) (List._∷_ (5,
-    Rows'.sc-here (Row.sInt Syntax.w64)) (List._∷_ (6, Rows'.sc-here (Row.sInt Syntax.w16)) (List._∷_ (7, Rows'.any-gone (Syntax.tyArray El.word 4104)) (List._∷_ (8, Rows'.any-gone (Syntax.tyArray El.word 4104)) (List._∷_ (9,
-    Rows'.any-gone (Syntax.tyRef Syntax.erased Syntax.imm (Syntax.tyArray El.word 4104))) (List._∷_ (10, Rows'.any-gone (Syntax.tyStruct (List._∷_ 38 (List._∷_ 91 (List._∷_ 93 List.[]))) (Syntax.tcons (Syntax.tyRef Syntax.erased
-    Syntax.imm El.word) (Syntax.tcons El.word Syntax.tnil)))) List.[]))))))))))
+t3 = List._∷_ (0, Rows'.any-gone El.Answer) (List._∷_ (1, Rows'.sslice El.row (Syntax.tyRef (Syntax.named 0) Syntax.imm El.named) 0) (List._∷_ (
+  2,
+  Rows'.sslice (Referent.rtF (Referent.fInt Syntax.w64)) (Syntax.tyRef (Syntax.named 1)
+      Syntax.imm El.word) 1,
+) (List._∷_ (3, Rows'.sslice (Referent.rtF (Referent.fInt Syntax.w64)) (Syntax.tyRef (Syntax.named 2) Syntax.imm El.word) 2) (List._∷_ (4, Rows'.whole (Declared'.row ReadyQueue.the-type)) (List._∷_ (
+  5,
+  Rows'.sc-here (Row.sInt Syntax.w64),
+) (List._∷_ (6, Rows'.sc-here (Row.sInt Syntax.w16)) (List._∷_ (7, Rows'.any-gone (Syntax.tyArray El.word 4104)) (List._∷_ (8, Rows'.any-gone (Syntax.tyArray El.word 4104)) (List._∷_ (
+  9,
+  Rows'.any-gone (Syntax.tyRef Syntax.erased Syntax.imm (Syntax.tyArray El.word 4104)),
+) (List._∷_ (
+  10,
+  Rows'.any-gone (Syntax.tyStruct (List._∷_ 38 (List._∷_ 91 (List._∷_ 93 List.[]))) (Syntax.tcons (Syntax.tyRef Syntax.erased
+      Syntax.imm El.word) (Syntax.tcons El.word Syntax.tnil))),
+) List.[]))))))))))
 
 abbrev pub t4 : List.List Row.Entry
-t4 = List._∷_ (0, Rows'.any-gone El.Answer) (List._∷_ (1, Rows'.sslice El.row (Syntax.tyRef (Syntax.named 0) Syntax.imm El.named) 0) (List._∷_ (2, Rows'.sslice (Referent.rtF (Referent.fInt Syntax.w64)) (Syntax.tyRef (Syntax.named 1)
-    Syntax.imm El.word) 1) (List._∷_ (3, Rows'.sslice (Referent.rtF (Referent.fInt Syntax.w64)) (Syntax.tyRef (Syntax.named 2) Syntax.imm El.word) 2) (List._∷_ (4, Rows'.whole (Declared'.row ReadyQueue.the-type)) (List._∷_ (5,
-    Rows'.sc-here (Row.sInt Syntax.w64)) (List._∷_ (6, Rows'.sc-here (Row.sInt Syntax.w16)) (List._∷_ (7, Rows'.any-gone (Syntax.tyArray El.word 4104)) (List._∷_ (8, Rows.arrF (Referent.rtF (Referent.fInt Syntax.w64)) 4104 0) (List._∷_
-    (9, Rows'.any-gone (Syntax.tyRef Syntax.erased Syntax.imm (Syntax.tyArray El.word 4104))) (List._∷_ (10, Rows'.any-gone (Syntax.tyStruct (List._∷_ 38 (List._∷_ 91 (List._∷_ 93 List.[]))) (Syntax.tcons (Syntax.tyRef Syntax.erased
-    Syntax.imm El.word) (Syntax.tcons El.word Syntax.tnil)))) List.[]))))))))))
+t4 = List._∷_ (0, Rows'.any-gone El.Answer) (List._∷_ (1, Rows'.sslice El.row (Syntax.tyRef (Syntax.named 0) Syntax.imm El.named) 0) (List._∷_ (
+  2,
+  Rows'.sslice (Referent.rtF (Referent.fInt Syntax.w64)) (Syntax.tyRef (Syntax.named 1)
+      Syntax.imm El.word) 1,
+) (List._∷_ (3, Rows'.sslice (Referent.rtF (Referent.fInt Syntax.w64)) (Syntax.tyRef (Syntax.named 2) Syntax.imm El.word) 2) (List._∷_ (4, Rows'.whole (Declared'.row ReadyQueue.the-type)) (List._∷_ (
+  5,
+  Rows'.sc-here (Row.sInt Syntax.w64),
+) (List._∷_ (6, Rows'.sc-here (Row.sInt Syntax.w16)) (List._∷_ (7, Rows'.any-gone (Syntax.tyArray El.word 4104)) (List._∷_ (8, Rows.arrF (Referent.rtF (Referent.fInt Syntax.w64)) 4104 0) (List._∷_
+    (9, Rows'.any-gone (Syntax.tyRef Syntax.erased Syntax.imm (Syntax.tyArray El.word 4104))) (List._∷_ (
+      10,
+      Rows'.any-gone (Syntax.tyStruct (List._∷_ 38 (List._∷_ 91 (List._∷_ 93 List.[]))) (Syntax.tcons (Syntax.tyRef Syntax.erased
+          Syntax.imm El.word) (Syntax.tcons El.word Syntax.tnil))),
+    ) List.[]))))))))))
 
 abbrev pub t5 : List.List Row.Entry
-t5 = List._∷_ (0, Rows'.any-gone El.Answer) (List._∷_ (1, Rows'.sslice El.row (Syntax.tyRef (Syntax.named 0) Syntax.imm El.named) 0) (List._∷_ (2, Rows'.sslice (Referent.rtF (Referent.fInt Syntax.w64)) (Syntax.tyRef (Syntax.named 1)
-    Syntax.imm El.word) 1) (List._∷_ (3, Rows'.sslice (Referent.rtF (Referent.fInt Syntax.w64)) (Syntax.tyRef (Syntax.named 2) Syntax.imm El.word) 2) (List._∷_ (4, Rows'.whole (Declared'.row ReadyQueue.the-type)) (List._∷_ (5,
-    Rows'.sc-here (Row.sInt Syntax.w64)) (List._∷_ (6, Rows'.sc-here (Row.sInt Syntax.w16)) (List._∷_ (7, Rows.arrF (Referent.rtF (Referent.fInt Syntax.w64)) 4104 0) (List._∷_ (8, Rows.arrF (Referent.rtF (Referent.fInt Syntax.w64))
-    4104 0) (List._∷_ (9, Rows'.any-gone (Syntax.tyRef Syntax.erased Syntax.imm (Syntax.tyArray El.word 4104))) (List._∷_ (10, Rows'.any-gone (Syntax.tyStruct (List._∷_ 38 (List._∷_ 91 (List._∷_ 93 List.[]))) (Syntax.tcons (Syntax.tyRef
-    Syntax.erased Syntax.imm El.word) (Syntax.tcons El.word Syntax.tnil)))) List.[]))))))))))
+t5 = List._∷_ (0, Rows'.any-gone El.Answer) (List._∷_ (1, Rows'.sslice El.row (Syntax.tyRef (Syntax.named 0) Syntax.imm El.named) 0) (List._∷_ (
+  2,
+  Rows'.sslice (Referent.rtF (Referent.fInt Syntax.w64)) (Syntax.tyRef (Syntax.named 1)
+      Syntax.imm El.word) 1,
+) (List._∷_ (3, Rows'.sslice (Referent.rtF (Referent.fInt Syntax.w64)) (Syntax.tyRef (Syntax.named 2) Syntax.imm El.word) 2) (List._∷_ (4, Rows'.whole (Declared'.row ReadyQueue.the-type)) (List._∷_ (
+  5,
+  Rows'.sc-here (Row.sInt Syntax.w64),
+) (List._∷_ (6, Rows'.sc-here (Row.sInt Syntax.w16)) (List._∷_ (7, Rows.arrF (Referent.rtF (Referent.fInt Syntax.w64)) 4104 0) (List._∷_ (
+  8,
+  Rows.arrF (Referent.rtF (Referent.fInt Syntax.w64))
+      4104 0,
+) (List._∷_ (9, Rows'.any-gone (Syntax.tyRef Syntax.erased Syntax.imm (Syntax.tyArray El.word 4104))) (List._∷_ (
+  10,
+  Rows'.any-gone (Syntax.tyStruct (List._∷_ 38 (List._∷_ 91 (List._∷_ 93 List.[]))) (Syntax.tcons (Syntax.tyRef
+      Syntax.erased Syntax.imm El.word) (Syntax.tcons El.word Syntax.tnil))),
+) List.[]))))))))))
 
 abbrev pub t6 : List.List Row.Entry
-t6 = List._∷_ (0, Rows'.any-gone El.Answer) (List._∷_ (1, Rows'.sslice El.row (Syntax.tyRef (Syntax.named 0) Syntax.imm El.named) 0) (List._∷_ (2, Rows'.sslice (Referent.rtF (Referent.fInt Syntax.w64)) (Syntax.tyRef (Syntax.named 1)
-    Syntax.imm El.word) 1) (List._∷_ (3, Rows'.sslice (Referent.rtF (Referent.fInt Syntax.w64)) (Syntax.tyRef (Syntax.named 2) Syntax.imm El.word) 2) (List._∷_ (4, Rows'.whole (Declared'.row ReadyQueue.the-type)) (List._∷_ (5,
-    Rows'.sc-here (Row.sInt Syntax.w64)) (List._∷_ (6, Rows'.sc-here (Row.sInt Syntax.w16)) (List._∷_ (7, Rows.arrF (Referent.rtF (Referent.fInt Syntax.w64)) 4104 0) (List._∷_ (8, Rows'.any-gone (Syntax.tyArray El.word 4104)) (List._∷_
-    (9, Rows'.any-gone (Syntax.tyRef Syntax.erased Syntax.imm (Syntax.tyArray El.word 4104))) (List._∷_ (10, Rows'.any-gone (Syntax.tyStruct (List._∷_ 38 (List._∷_ 91 (List._∷_ 93 List.[]))) (Syntax.tcons (Syntax.tyRef Syntax.erased
-    Syntax.imm El.word) (Syntax.tcons El.word Syntax.tnil)))) List.[]))))))))))
+t6 = List._∷_ (0, Rows'.any-gone El.Answer) (List._∷_ (1, Rows'.sslice El.row (Syntax.tyRef (Syntax.named 0) Syntax.imm El.named) 0) (List._∷_ (
+  2,
+  Rows'.sslice (Referent.rtF (Referent.fInt Syntax.w64)) (Syntax.tyRef (Syntax.named 1)
+      Syntax.imm El.word) 1,
+) (List._∷_ (3, Rows'.sslice (Referent.rtF (Referent.fInt Syntax.w64)) (Syntax.tyRef (Syntax.named 2) Syntax.imm El.word) 2) (List._∷_ (4, Rows'.whole (Declared'.row ReadyQueue.the-type)) (List._∷_ (
+  5,
+  Rows'.sc-here (Row.sInt Syntax.w64),
+) (List._∷_ (6, Rows'.sc-here (Row.sInt Syntax.w16)) (List._∷_ (7, Rows.arrF (Referent.rtF (Referent.fInt Syntax.w64)) 4104 0) (List._∷_ (8, Rows'.any-gone (Syntax.tyArray El.word 4104)) (List._∷_
+    (9, Rows'.any-gone (Syntax.tyRef Syntax.erased Syntax.imm (Syntax.tyArray El.word 4104))) (List._∷_ (
+      10,
+      Rows'.any-gone (Syntax.tyStruct (List._∷_ 38 (List._∷_ 91 (List._∷_ 93 List.[]))) (Syntax.tcons (Syntax.tyRef Syntax.erased
+          Syntax.imm El.word) (Syntax.tcons El.word Syntax.tnil))),
+    ) List.[]))))))))))
 
 abbrev pub t7 : List.List Row.Entry
-t7 = List._∷_ (0, Rows'.any-gone El.Answer) (List._∷_ (1, Rows'.sslice El.row (Syntax.tyRef (Syntax.named 0) Syntax.imm El.named) 0) (List._∷_ (2, Rows'.sslice (Referent.rtF (Referent.fInt Syntax.w64)) (Syntax.tyRef (Syntax.named 1)
-    Syntax.imm El.word) 1) (List._∷_ (3, Rows'.sslice (Referent.rtF (Referent.fInt Syntax.w64)) (Syntax.tyRef (Syntax.named 2) Syntax.imm El.word) 2) (List._∷_ (4, Rows'.whole (Declared'.row ReadyQueue.the-type)) (List._∷_ (5,
-    Rows'.sc-here (Row.sInt Syntax.w64)) (List._∷_ (6, Rows'.sc-here (Row.sInt Syntax.w16)) (List._∷_ (7, Rows.arr-shr (Referent.rtF (Referent.fInt Syntax.w64)) 4104 3) (List._∷_ (8, Rows'.any-gone (Syntax.tyArray El.word 4104))
-    (List._∷_ (9, Relend.ssptr (Referent.rtF (Referent.fInt Syntax.w64)) (Syntax.tyRef Syntax.erased Syntax.imm (Syntax.tyArray El.word 4104)) 3) (List._∷_ (10, Rows'.any-gone (Syntax.tyStruct (List._∷_ 38 (List._∷_ 91 (List._∷_ 93
-    List.[]))) (Syntax.tcons (Syntax.tyRef Syntax.erased Syntax.imm El.word) (Syntax.tcons El.word Syntax.tnil)))) List.[]))))))))))
+t7 = List._∷_ (0, Rows'.any-gone El.Answer) (List._∷_ (1, Rows'.sslice El.row (Syntax.tyRef (Syntax.named 0) Syntax.imm El.named) 0) (List._∷_ (
+  2,
+  Rows'.sslice (Referent.rtF (Referent.fInt Syntax.w64)) (Syntax.tyRef (Syntax.named 1)
+      Syntax.imm El.word) 1,
+) (List._∷_ (3, Rows'.sslice (Referent.rtF (Referent.fInt Syntax.w64)) (Syntax.tyRef (Syntax.named 2) Syntax.imm El.word) 2) (List._∷_ (4, Rows'.whole (Declared'.row ReadyQueue.the-type)) (List._∷_ (
+  5,
+  Rows'.sc-here (Row.sInt Syntax.w64),
+) (List._∷_ (6, Rows'.sc-here (Row.sInt Syntax.w16)) (List._∷_ (7, Rows.arr-shr (Referent.rtF (Referent.fInt Syntax.w64)) 4104 3) (List._∷_ (8, Rows'.any-gone (Syntax.tyArray El.word 4104))
+    (List._∷_ (9, Relend.ssptr (Referent.rtF (Referent.fInt Syntax.w64)) (Syntax.tyRef Syntax.erased Syntax.imm (Syntax.tyArray El.word 4104)) 3) (List._∷_ (
+      10,
+      Rows'.any-gone (Syntax.tyStruct (List._∷_ 38 (List._∷_ 91 (List._∷_ 93
+          List.[]))) (Syntax.tcons (Syntax.tyRef Syntax.erased Syntax.imm El.word) (Syntax.tcons El.word Syntax.tnil))),
+    ) List.[]))))))))))
 
 abbrev pub t8 : List.List Row.Entry
-t8 = List._∷_ (0, Rows'.any-gone El.Answer) (List._∷_ (1, Rows'.sslice El.row (Syntax.tyRef (Syntax.named 0) Syntax.imm El.named) 0) (List._∷_ (2, Rows'.sslice (Referent.rtF (Referent.fInt Syntax.w64)) (Syntax.tyRef (Syntax.named 1)
-    Syntax.imm El.word) 1) (List._∷_ (3, Rows'.sslice (Referent.rtF (Referent.fInt Syntax.w64)) (Syntax.tyRef (Syntax.named 2) Syntax.imm El.word) 2) (List._∷_ (4, Rows'.whole (Declared'.row ReadyQueue.the-type)) (List._∷_ (5,
-    Rows'.sc-here (Row.sInt Syntax.w64)) (List._∷_ (6, Rows'.sc-here (Row.sInt Syntax.w16)) (List._∷_ (7, Rows.arr-shr (Referent.rtF (Referent.fInt Syntax.w64)) 4104 3) (List._∷_ (8, Rows'.any-gone (Syntax.tyArray El.word 4104))
+t8 = List._∷_ (0, Rows'.any-gone El.Answer) (List._∷_ (1, Rows'.sslice El.row (Syntax.tyRef (Syntax.named 0) Syntax.imm El.named) 0) (List._∷_ (
+  2,
+  Rows'.sslice (Referent.rtF (Referent.fInt Syntax.w64)) (Syntax.tyRef (Syntax.named 1)
+      Syntax.imm El.word) 1,
+) (List._∷_ (3, Rows'.sslice (Referent.rtF (Referent.fInt Syntax.w64)) (Syntax.tyRef (Syntax.named 2) Syntax.imm El.word) 2) (List._∷_ (4, Rows'.whole (Declared'.row ReadyQueue.the-type)) (List._∷_ (
+  5,
+  Rows'.sc-here (Row.sInt Syntax.w64),
+) (List._∷_ (6, Rows'.sc-here (Row.sInt Syntax.w16)) (List._∷_ (7, Rows.arr-shr (Referent.rtF (Referent.fInt Syntax.w64)) 4104 3) (List._∷_ (8, Rows'.any-gone (Syntax.tyArray El.word 4104))
     (List._∷_ (9, Rows'.any-gone (Syntax.tyRef Syntax.erased Syntax.imm (Syntax.tyArray El.word 4104))) (List._∷_ (10, Rows'.sslice (Referent.rtF (Referent.fInt Syntax.w64)) (Syntax.tyRef Syntax.erased Syntax.imm El.word) 3)
     List.[]))))))))))
 
 abbrev pub t9 : List.List Row.Entry
-t9 = List._∷_ (0, Rows'.whole (Declared.row Answer.the-type)) (List._∷_ (1, Rows'.sslice El.row (Syntax.tyRef (Syntax.named 0) Syntax.imm El.named) 0) (List._∷_ (2, Rows'.sslice (Referent.rtF (Referent.fInt Syntax.w64)) (Syntax.tyRef
-    (Syntax.named 1) Syntax.imm El.word) 1) (List._∷_ (3, Rows'.sslice (Referent.rtF (Referent.fInt Syntax.w64)) (Syntax.tyRef (Syntax.named 2) Syntax.imm El.word) 2) (List._∷_ (4, Rows'.whole (Declared'.row ReadyQueue.the-type))
-    (List._∷_ (5, Rows'.sc-here (Row.sInt Syntax.w64)) (List._∷_ (6, Rows'.sc-here (Row.sInt Syntax.w16)) (List._∷_ (7, Rows.arr-shr (Referent.rtF (Referent.fInt Syntax.w64)) 4104 3) (List._∷_ (8, Rows'.any-gone (Syntax.tyArray El.word
-    4104)) (List._∷_ (9, Rows'.any-gone (Syntax.tyRef Syntax.erased Syntax.imm (Syntax.tyArray El.word 4104))) (List._∷_ (10, Rows'.sslice (Referent.rtF (Referent.fInt Syntax.w64)) (Syntax.tyRef Syntax.erased Syntax.imm El.word) 3)
+t9 = List._∷_ (0, Rows'.whole (Declared.row Answer.the-type)) (List._∷_ (1, Rows'.sslice El.row (Syntax.tyRef (Syntax.named 0) Syntax.imm El.named) 0) (List._∷_ (
+  2,
+  Rows'.sslice (Referent.rtF (Referent.fInt Syntax.w64)) (Syntax.tyRef
+      (Syntax.named 1) Syntax.imm El.word) 1,
+) (List._∷_ (3, Rows'.sslice (Referent.rtF (Referent.fInt Syntax.w64)) (Syntax.tyRef (Syntax.named 2) Syntax.imm El.word) 2) (List._∷_ (4, Rows'.whole (Declared'.row ReadyQueue.the-type))
+    (List._∷_ (5, Rows'.sc-here (Row.sInt Syntax.w64)) (List._∷_ (6, Rows'.sc-here (Row.sInt Syntax.w16)) (List._∷_ (7, Rows.arr-shr (Referent.rtF (Referent.fInt Syntax.w64)) 4104 3) (List._∷_ (
+      8,
+      Rows'.any-gone (Syntax.tyArray El.word
+          4104),
+    ) (List._∷_ (9, Rows'.any-gone (Syntax.tyRef Syntax.erased Syntax.imm (Syntax.tyArray El.word 4104))) (List._∷_ (10, Rows'.sslice (Referent.rtF (Referent.fInt Syntax.w64)) (Syntax.tyRef Syntax.erased Syntax.imm El.word) 3)
     List.[]))))))))))
 
 abbrev pub t10 : List.List Row.Entry
-t10 = List._∷_ (0, Rows'.whole (Declared.row Answer.the-type)) (List._∷_ (1, Rows'.sslice El.row (Syntax.tyRef (Syntax.named 0) Syntax.imm El.named) 0) (List._∷_ (2, Rows'.sslice (Referent.rtF (Referent.fInt Syntax.w64)) (Syntax.tyRef
-    (Syntax.named 1) Syntax.imm El.word) 1) (List._∷_ (3, Rows'.sslice (Referent.rtF (Referent.fInt Syntax.w64)) (Syntax.tyRef (Syntax.named 2) Syntax.imm El.word) 2) (List._∷_ (4, Rows'.whole (Declared'.row ReadyQueue.the-type))
-    (List._∷_ (5, Rows'.sc-here (Row.sInt Syntax.w64)) (List._∷_ (6, Rows'.sc-here (Row.sInt Syntax.w16)) (List._∷_ (7, Rows.arr-shr (Referent.rtF (Referent.fInt Syntax.w64)) 4104 3) (List._∷_ (8, Rows'.any-gone (Syntax.tyArray El.word
-    4104)) (List._∷_ (9, Rows'.any-gone (Syntax.tyRef Syntax.erased Syntax.imm (Syntax.tyArray El.word 4104))) (List._∷_ (10, Rows'.any-gone (Syntax.tyStruct (List._∷_ 38 (List._∷_ 91 (List._∷_ 93 List.[]))) (Syntax.tcons (Syntax.tyRef
-    Syntax.erased Syntax.imm El.word) (Syntax.tcons El.word Syntax.tnil)))) List.[]))))))))))
+t10 = List._∷_ (0, Rows'.whole (Declared.row Answer.the-type)) (List._∷_ (1, Rows'.sslice El.row (Syntax.tyRef (Syntax.named 0) Syntax.imm El.named) 0) (List._∷_ (
+  2,
+  Rows'.sslice (Referent.rtF (Referent.fInt Syntax.w64)) (Syntax.tyRef
+      (Syntax.named 1) Syntax.imm El.word) 1,
+) (List._∷_ (3, Rows'.sslice (Referent.rtF (Referent.fInt Syntax.w64)) (Syntax.tyRef (Syntax.named 2) Syntax.imm El.word) 2) (List._∷_ (4, Rows'.whole (Declared'.row ReadyQueue.the-type))
+    (List._∷_ (5, Rows'.sc-here (Row.sInt Syntax.w64)) (List._∷_ (6, Rows'.sc-here (Row.sInt Syntax.w16)) (List._∷_ (7, Rows.arr-shr (Referent.rtF (Referent.fInt Syntax.w64)) 4104 3) (List._∷_ (
+      8,
+      Rows'.any-gone (Syntax.tyArray El.word
+          4104),
+    ) (List._∷_ (9, Rows'.any-gone (Syntax.tyRef Syntax.erased Syntax.imm (Syntax.tyArray El.word 4104))) (List._∷_ (
+      10,
+      Rows'.any-gone (Syntax.tyStruct (List._∷_ 38 (List._∷_ 91 (List._∷_ 93 List.[]))) (Syntax.tcons (Syntax.tyRef
+          Syntax.erased Syntax.imm El.word) (Syntax.tcons El.word Syntax.tnil))),
+    ) List.[]))))))))))
 
 abbrev pub t11 : List.List Row.Entry
-t11 = List._∷_ (0, Rows'.whole (Declared.row Answer.the-type)) (List._∷_ (1, Rows'.sslice El.row (Syntax.tyRef (Syntax.named 0) Syntax.imm El.named) 0) (List._∷_ (2, Rows'.sslice (Referent.rtF (Referent.fInt Syntax.w64)) (Syntax.tyRef
-    (Syntax.named 1) Syntax.imm El.word) 1) (List._∷_ (3, Rows'.sslice (Referent.rtF (Referent.fInt Syntax.w64)) (Syntax.tyRef (Syntax.named 2) Syntax.imm El.word) 2) (List._∷_ (4, Rows'.any-gone El.ReadyQueue) (List._∷_ (5, Rows'.sc-here
-    (Row.sInt Syntax.w64)) (List._∷_ (6, Rows'.sc-here (Row.sInt Syntax.w16)) (List._∷_ (7, Rows.arr-shr (Referent.rtF (Referent.fInt Syntax.w64)) 4104 3) (List._∷_ (8, Rows'.any-gone (Syntax.tyArray El.word 4104)) (List._∷_ (9,
-    Rows'.any-gone (Syntax.tyRef Syntax.erased Syntax.imm (Syntax.tyArray El.word 4104))) (List._∷_ (10, Rows'.any-gone (Syntax.tyStruct (List._∷_ 38 (List._∷_ 91 (List._∷_ 93 List.[]))) (Syntax.tcons (Syntax.tyRef Syntax.erased
-    Syntax.imm El.word) (Syntax.tcons El.word Syntax.tnil)))) List.[]))))))))))
+t11 = List._∷_ (0, Rows'.whole (Declared.row Answer.the-type)) (List._∷_ (1, Rows'.sslice El.row (Syntax.tyRef (Syntax.named 0) Syntax.imm El.named) 0) (List._∷_ (
+  2,
+  Rows'.sslice (Referent.rtF (Referent.fInt Syntax.w64)) (Syntax.tyRef
+      (Syntax.named 1) Syntax.imm El.word) 1,
+) (List._∷_ (3, Rows'.sslice (Referent.rtF (Referent.fInt Syntax.w64)) (Syntax.tyRef (Syntax.named 2) Syntax.imm El.word) 2) (List._∷_ (4, Rows'.any-gone El.ReadyQueue) (List._∷_ (
+  5,
+  Rows'.sc-here
+      (Row.sInt Syntax.w64),
+) (List._∷_ (6, Rows'.sc-here (Row.sInt Syntax.w16)) (List._∷_ (7, Rows.arr-shr (Referent.rtF (Referent.fInt Syntax.w64)) 4104 3) (List._∷_ (8, Rows'.any-gone (Syntax.tyArray El.word 4104)) (List._∷_ (
+  9,
+  Rows'.any-gone (Syntax.tyRef Syntax.erased Syntax.imm (Syntax.tyArray El.word 4104)),
+) (List._∷_ (
+  10,
+  Rows'.any-gone (Syntax.tyStruct (List._∷_ 38 (List._∷_ 91 (List._∷_ 93 List.[]))) (Syntax.tcons (Syntax.tyRef Syntax.erased
+      Syntax.imm El.word) (Syntax.tcons El.word Syntax.tnil))),
+) List.[]))))))))))
 
 abbrev pub t12 : List.List Row.Entry
-t12 = List._∷_ (0, Rows'.whole (Declared.row Answer.the-type)) (List._∷_ (1, Rows'.sslice El.row (Syntax.tyRef (Syntax.named 0) Syntax.imm El.named) 0) (List._∷_ (2, Rows'.sslice (Referent.rtF (Referent.fInt Syntax.w64)) (Syntax.tyRef
-    (Syntax.named 1) Syntax.imm El.word) 1) (List._∷_ (3, Rows'.sslice (Referent.rtF (Referent.fInt Syntax.w64)) (Syntax.tyRef (Syntax.named 2) Syntax.imm El.word) 2) (List._∷_ (4, Rows'.any-gone El.ReadyQueue) (List._∷_ (5,
-    Rows'.any-gone El.word) (List._∷_ (6, Rows'.sc-here (Row.sInt Syntax.w16)) (List._∷_ (7, Rows.arr-shr (Referent.rtF (Referent.fInt Syntax.w64)) 4104 3) (List._∷_ (8, Rows'.any-gone (Syntax.tyArray El.word 4104)) (List._∷_ (9,
-    Rows'.any-gone (Syntax.tyRef Syntax.erased Syntax.imm (Syntax.tyArray El.word 4104))) (List._∷_ (10, Rows'.any-gone (Syntax.tyStruct (List._∷_ 38 (List._∷_ 91 (List._∷_ 93 List.[]))) (Syntax.tcons (Syntax.tyRef Syntax.erased
-    Syntax.imm El.word) (Syntax.tcons El.word Syntax.tnil)))) List.[]))))))))))
+t12 = List._∷_ (0, Rows'.whole (Declared.row Answer.the-type)) (List._∷_ (1, Rows'.sslice El.row (Syntax.tyRef (Syntax.named 0) Syntax.imm El.named) 0) (List._∷_ (
+  2,
+  Rows'.sslice (Referent.rtF (Referent.fInt Syntax.w64)) (Syntax.tyRef
+      (Syntax.named 1) Syntax.imm El.word) 1,
+) (List._∷_ (3, Rows'.sslice (Referent.rtF (Referent.fInt Syntax.w64)) (Syntax.tyRef (Syntax.named 2) Syntax.imm El.word) 2) (List._∷_ (4, Rows'.any-gone El.ReadyQueue) (List._∷_ (
+  5,
+  Rows'.any-gone El.word,
+) (List._∷_ (6, Rows'.sc-here (Row.sInt Syntax.w16)) (List._∷_ (7, Rows.arr-shr (Referent.rtF (Referent.fInt Syntax.w64)) 4104 3) (List._∷_ (8, Rows'.any-gone (Syntax.tyArray El.word 4104)) (List._∷_ (
+  9,
+  Rows'.any-gone (Syntax.tyRef Syntax.erased Syntax.imm (Syntax.tyArray El.word 4104)),
+) (List._∷_ (
+  10,
+  Rows'.any-gone (Syntax.tyStruct (List._∷_ 38 (List._∷_ 91 (List._∷_ 93 List.[]))) (Syntax.tcons (Syntax.tyRef Syntax.erased
+      Syntax.imm El.word) (Syntax.tcons El.word Syntax.tnil))),
+) List.[]))))))))))
 
 abbrev pub t13 : List.List Row.Entry
-t13 = List._∷_ (0, Rows'.whole (Declared.row Answer.the-type)) (List._∷_ (1, Rows'.sslice El.row (Syntax.tyRef (Syntax.named 0) Syntax.imm El.named) 0) (List._∷_ (2, Rows'.sslice (Referent.rtF (Referent.fInt Syntax.w64)) (Syntax.tyRef
-    (Syntax.named 1) Syntax.imm El.word) 1) (List._∷_ (3, Rows'.sslice (Referent.rtF (Referent.fInt Syntax.w64)) (Syntax.tyRef (Syntax.named 2) Syntax.imm El.word) 2) (List._∷_ (4, Rows'.any-gone El.ReadyQueue) (List._∷_ (5,
-    Rows'.any-gone El.word) (List._∷_ (6, Rows'.any-gone (Syntax.tyInt Syntax.w16)) (List._∷_ (7, Rows.arr-shr (Referent.rtF (Referent.fInt Syntax.w64)) 4104 3) (List._∷_ (8, Rows'.any-gone (Syntax.tyArray El.word 4104)) (List._∷_ (9,
-    Rows'.any-gone (Syntax.tyRef Syntax.erased Syntax.imm (Syntax.tyArray El.word 4104))) (List._∷_ (10, Rows'.any-gone (Syntax.tyStruct (List._∷_ 38 (List._∷_ 91 (List._∷_ 93 List.[]))) (Syntax.tcons (Syntax.tyRef Syntax.erased
-    Syntax.imm El.word) (Syntax.tcons El.word Syntax.tnil)))) List.[]))))))))))
+t13 = List._∷_ (0, Rows'.whole (Declared.row Answer.the-type)) (List._∷_ (1, Rows'.sslice El.row (Syntax.tyRef (Syntax.named 0) Syntax.imm El.named) 0) (List._∷_ (
+  2,
+  Rows'.sslice (Referent.rtF (Referent.fInt Syntax.w64)) (Syntax.tyRef
+      (Syntax.named 1) Syntax.imm El.word) 1,
+) (List._∷_ (3, Rows'.sslice (Referent.rtF (Referent.fInt Syntax.w64)) (Syntax.tyRef (Syntax.named 2) Syntax.imm El.word) 2) (List._∷_ (4, Rows'.any-gone El.ReadyQueue) (List._∷_ (
+  5,
+  Rows'.any-gone El.word,
+) (List._∷_ (6, Rows'.any-gone (Syntax.tyInt Syntax.w16)) (List._∷_ (7, Rows.arr-shr (Referent.rtF (Referent.fInt Syntax.w64)) 4104 3) (List._∷_ (8, Rows'.any-gone (Syntax.tyArray El.word 4104)) (List._∷_ (
+  9,
+  Rows'.any-gone (Syntax.tyRef Syntax.erased Syntax.imm (Syntax.tyArray El.word 4104)),
+) (List._∷_ (
+  10,
+  Rows'.any-gone (Syntax.tyStruct (List._∷_ 38 (List._∷_ 91 (List._∷_ 93 List.[]))) (Syntax.tcons (Syntax.tyRef Syntax.erased
+      Syntax.imm El.word) (Syntax.tcons El.word Syntax.tnil))),
+) List.[]))))))))))
 
 abbrev pub t14 : List.List Row.Entry
-t14 = List._∷_ (0, Rows'.whole (Declared.row Answer.the-type)) (List._∷_ (1, Rows'.sslice El.row (Syntax.tyRef (Syntax.named 0) Syntax.imm El.named) 0) (List._∷_ (2, Rows'.sslice (Referent.rtF (Referent.fInt Syntax.w64)) (Syntax.tyRef
-    (Syntax.named 1) Syntax.imm El.word) 1) (List._∷_ (3, Rows'.sslice (Referent.rtF (Referent.fInt Syntax.w64)) (Syntax.tyRef (Syntax.named 2) Syntax.imm El.word) 2) (List._∷_ (4, Rows'.any-gone El.ReadyQueue) (List._∷_ (5,
-    Rows'.any-gone El.word) (List._∷_ (6, Rows'.any-gone (Syntax.tyInt Syntax.w16)) (List._∷_ (7, Rows.arrF (Referent.rtF (Referent.fInt Syntax.w64)) 4104 0) (List._∷_ (8, Rows'.any-gone (Syntax.tyArray El.word 4104)) (List._∷_ (9,
-    Rows'.any-gone (Syntax.tyRef Syntax.erased Syntax.imm (Syntax.tyArray El.word 4104))) (List._∷_ (10, Rows'.any-gone (Syntax.tyStruct (List._∷_ 38 (List._∷_ 91 (List._∷_ 93 List.[]))) (Syntax.tcons (Syntax.tyRef Syntax.erased
-    Syntax.imm El.word) (Syntax.tcons El.word Syntax.tnil)))) List.[]))))))))))
+t14 = List._∷_ (0, Rows'.whole (Declared.row Answer.the-type)) (List._∷_ (1, Rows'.sslice El.row (Syntax.tyRef (Syntax.named 0) Syntax.imm El.named) 0) (List._∷_ (
+  2,
+  Rows'.sslice (Referent.rtF (Referent.fInt Syntax.w64)) (Syntax.tyRef
+      (Syntax.named 1) Syntax.imm El.word) 1,
+) (List._∷_ (3, Rows'.sslice (Referent.rtF (Referent.fInt Syntax.w64)) (Syntax.tyRef (Syntax.named 2) Syntax.imm El.word) 2) (List._∷_ (4, Rows'.any-gone El.ReadyQueue) (List._∷_ (
+  5,
+  Rows'.any-gone El.word,
+) (List._∷_ (6, Rows'.any-gone (Syntax.tyInt Syntax.w16)) (List._∷_ (7, Rows.arrF (Referent.rtF (Referent.fInt Syntax.w64)) 4104 0) (List._∷_ (8, Rows'.any-gone (Syntax.tyArray El.word 4104)) (List._∷_ (
+  9,
+  Rows'.any-gone (Syntax.tyRef Syntax.erased Syntax.imm (Syntax.tyArray El.word 4104)),
+) (List._∷_ (
+  10,
+  Rows'.any-gone (Syntax.tyStruct (List._∷_ 38 (List._∷_ 91 (List._∷_ 93 List.[]))) (Syntax.tcons (Syntax.tyRef Syntax.erased
+      Syntax.imm El.word) (Syntax.tcons El.word Syntax.tnil))),
+) List.[]))))))))))
 
 abbrev pub T0 : Row.Cx
 T0 = record { locals = t0; slots = List.[] }
@@ -326,10 +523,10 @@ module _ (claims· : Claims) where
   s2 = Scalar.n-use T3 (Scalar.oFld 1 (List._∷_ (Syntax.field 1) List.[]) El.word 8 Shared.lenV) 5 (Rows'.sc-here (Row.sInt Syntax.w64)) (Row.sInt Syntax.w64 .of)
 
   abbrev s3 : Typed.Both T4 T5
-  s3 = Call.callB ps·0 r·0 (claims· .0) (claims· .1) T4 (Num.vAt 5 λ x. x, (record { pos = 2; ty = Syntax.tyRef (Syntax.named 1) Syntax.imm El.word; ref = λ x. x; }, tt)) 6 (List._∷_ 1 List.[]) (Syntax.tyInt Syntax.w16)
+  s3 = Call.callB ps·0 r·0 (claims· .0) (claims· .1) T4 (Num.vAt 5 λ x. x, (record { pos = 2; ty = Syntax.tyRef (Syntax.named 1) Syntax.imm El.word; ref = λ x. x }, tt)) 6 (List._∷_ 1 List.[]) (Syntax.tyInt Syntax.w16)
 
   abbrev s4 : Typed.Both T5 T6
-  s4 = Call.callB ps·1 r·1 (claims· .2) (claims· .3) T5 (record { pos = 1; ty = Syntax.tyRef (Syntax.named 0) Syntax.imm El.named; ref = λ x. x; }, (Num.vAt 6 λ x. x, tt)) 8 (List._∷_ 0 List.[]) (Syntax.tyArray El.word 4104)
+  s4 = Call.callB ps·1 r·1 (claims· .2) (claims· .3) T5 (record { pos = 1; ty = Syntax.tyRef (Syntax.named 0) Syntax.imm El.named; ref = λ x. x }, (Num.vAt 6 λ x. x, tt)) 8 (List._∷_ 0 List.[]) (Syntax.tyArray El.word 4104)
 
   abbrev s5 : Typed.Mo T6 → Typed.Mo T7
   s5 = LocalCopy.n-val-copy T6 8 7 (Array'.Array (Referent.rtF (Referent.fInt Syntax.w64)) 4104) (Rows.arrF (Referent.rtF (Referent.fInt Syntax.w64)) 4104 0) (Rows.arrF (Referent.rtF (Referent.fInt Syntax.w64)) 4104 0) (λ x. x) (λ x.
@@ -346,8 +543,21 @@ module _ (claims· : Claims) where
       Syntax.imm El.word) (λ x. x) (Scalar.oBig Syntax.w64 4104)
 
   abbrev s10 : Typed.Both T11 T12
-  s10 = Call.callB ps·2 r·2 (claims· .4) (claims· .5) T11 (Num.vAt 5 λ x. x, (record { pos = 10; ty = Syntax.tyRef Syntax.erased Syntax.imm El.word; ref = λ x. x; }, (record { pos = 2; ty = Syntax.tyRef (Syntax.named 1) Syntax.imm
-      El.word; ref = λ x. x; }, (record { pos = 3; ty = Syntax.tyRef (Syntax.named 2) Syntax.imm El.word; ref = λ x. x; }, (record { pos = 4; st = List.[]; d = 0; at = λ x. x }, tt))))) 0 (List._∷_ 3 (List._∷_ 1 (List._∷_ 2 List.[])))
+  s10 = Call.callB ps·2 r·2 (claims· .4) (claims· .5) T11 (
+    Num.vAt 5 λ x. x,
+    (
+      record { pos = 10; ty = Syntax.tyRef Syntax.erased Syntax.imm El.word; ref = λ x. x },
+      (
+        record {
+          pos = 2;
+          ty = Syntax.tyRef (Syntax.named 1) Syntax.imm
+              El.word;
+          ref = λ x. x;
+        },
+        (record { pos = 3; ty = Syntax.tyRef (Syntax.named 2) Syntax.imm El.word; ref = λ x. x }, (record { pos = 4; st = List.[]; d = 0; at = λ x. x }, tt)),
+      ),
+    ),
+  ) 0 (List._∷_ 3 (List._∷_ 1 (List._∷_ 2 List.[])))
       El.Answer
 
   abbrev s11 : Typed.Mo T12 → Typed.Mo T13
@@ -446,67 +656,67 @@ module _ (claims· : Claims) where
 
       module _ (κs : Lifetimes.Lfts 3) (qs : Lifetimes.Shares 3) where
         abbrev G0 : Row.Cx
-        G0 = record { locals = t0; slots = List._∷_ (Row.lease (κs .0) (qs .0)) (List._∷_ (Row.lease (κs .1 .0) (qs .1 .0)) (List._∷_ (Row.lease (κs .1 .1 .0) (qs .1 .1 .0)) (List._∷_ Row.off List.[]))); }
+        G0 = record { locals = t0; slots = List._∷_ (Row.lease (κs .0) (qs .0)) (List._∷_ (Row.lease (κs .1 .0) (qs .1 .0)) (List._∷_ (Row.lease (κs .1 .1 .0) (qs .1 .1 .0)) (List._∷_ Row.off List.[]))) }
 
         abbrev G1 : Row.Cx
-        G1 = record { locals = t1; slots = List._∷_ (Row.lease (κs .0) (qs .0)) (List._∷_ (Row.lease (κs .1 .0) (qs .1 .0)) (List._∷_ (Row.lease (κs .1 .1 .0) (qs .1 .1 .0)) (List._∷_ Row.off List.[]))); }
+        G1 = record { locals = t1; slots = List._∷_ (Row.lease (κs .0) (qs .0)) (List._∷_ (Row.lease (κs .1 .0) (qs .1 .0)) (List._∷_ (Row.lease (κs .1 .1 .0) (qs .1 .1 .0)) (List._∷_ Row.off List.[]))) }
 
         abbrev G2 : Row.Cx
-        G2 = record { locals = t0; slots = List._∷_ (Row.lease (κs .0) (qs .0)) (List._∷_ (Row.lease (κs .1 .0) (qs .1 .0)) (List._∷_ (Row.lease (κs .1 .1 .0) (qs .1 .1 .0)) (List._∷_ Row.off List.[]))); }
+        G2 = record { locals = t0; slots = List._∷_ (Row.lease (κs .0) (qs .0)) (List._∷_ (Row.lease (κs .1 .0) (qs .1 .0)) (List._∷_ (Row.lease (κs .1 .1 .0) (qs .1 .1 .0)) (List._∷_ Row.off List.[]))) }
 
         abbrev G3 : Row.Cx
-        G3 = record { locals = t0; slots = List._∷_ (Row.lease (κs .0) (qs .0)) (List._∷_ (Row.lease (κs .1 .0) (qs .1 .0)) (List._∷_ (Row.lease (κs .1 .1 .0) (qs .1 .1 .0)) (List._∷_ Row.off List.[]))); }
+        G3 = record { locals = t0; slots = List._∷_ (Row.lease (κs .0) (qs .0)) (List._∷_ (Row.lease (κs .1 .0) (qs .1 .0)) (List._∷_ (Row.lease (κs .1 .1 .0) (qs .1 .1 .0)) (List._∷_ Row.off List.[]))) }
 
         abbrev G4 : Row.Cx
-        G4 = record { locals = t2; slots = List._∷_ (Row.lease (κs .0) (qs .0)) (List._∷_ (Row.lease (κs .1 .0) (qs .1 .0)) (List._∷_ (Row.lease (κs .1 .1 .0) (qs .1 .1 .0)) (List._∷_ Row.off List.[]))); }
+        G4 = record { locals = t2; slots = List._∷_ (Row.lease (κs .0) (qs .0)) (List._∷_ (Row.lease (κs .1 .0) (qs .1 .0)) (List._∷_ (Row.lease (κs .1 .1 .0) (qs .1 .1 .0)) (List._∷_ Row.off List.[]))) }
 
         abbrev G5 : Row.Cx
-        G5 = record { locals = t3; slots = List._∷_ (Row.lease (κs .0) (qs .0)) (List._∷_ (Row.lease (κs .1 .0) (qs .1 .0)) (List._∷_ (Row.lease (κs .1 .1 .0) (qs .1 .1 .0)) (List._∷_ Row.off List.[]))); }
+        G5 = record { locals = t3; slots = List._∷_ (Row.lease (κs .0) (qs .0)) (List._∷_ (Row.lease (κs .1 .0) (qs .1 .0)) (List._∷_ (Row.lease (κs .1 .1 .0) (qs .1 .1 .0)) (List._∷_ Row.off List.[]))) }
 
         abbrev G6 : Row.Cx
-        G6 = record { locals = t4; slots = List._∷_ (Row.lease (κs .0) (qs .0)) (List._∷_ (Row.lease (κs .1 .0) (qs .1 .0)) (List._∷_ (Row.lease (κs .1 .1 .0) (qs .1 .1 .0)) (List._∷_ Row.off List.[]))); }
+        G6 = record { locals = t4; slots = List._∷_ (Row.lease (κs .0) (qs .0)) (List._∷_ (Row.lease (κs .1 .0) (qs .1 .0)) (List._∷_ (Row.lease (κs .1 .1 .0) (qs .1 .1 .0)) (List._∷_ Row.off List.[]))) }
 
         abbrev G7 : Row.Cx
-        G7 = record { locals = t5; slots = List._∷_ (Row.lease (κs .0) (qs .0)) (List._∷_ (Row.lease (κs .1 .0) (qs .1 .0)) (List._∷_ (Row.lease (κs .1 .1 .0) (qs .1 .1 .0)) (List._∷_ Row.off List.[]))); }
+        G7 = record { locals = t5; slots = List._∷_ (Row.lease (κs .0) (qs .0)) (List._∷_ (Row.lease (κs .1 .0) (qs .1 .0)) (List._∷_ (Row.lease (κs .1 .1 .0) (qs .1 .1 .0)) (List._∷_ Row.off List.[]))) }
 
         abbrev G8 : Row.Cx
-        G8 = record { locals = t6; slots = List._∷_ (Row.lease (κs .0) (qs .0)) (List._∷_ (Row.lease (κs .1 .0) (qs .1 .0)) (List._∷_ (Row.lease (κs .1 .1 .0) (qs .1 .1 .0)) (List._∷_ Row.off List.[]))); }
+        G8 = record { locals = t6; slots = List._∷_ (Row.lease (κs .0) (qs .0)) (List._∷_ (Row.lease (κs .1 .0) (qs .1 .0)) (List._∷_ (Row.lease (κs .1 .1 .0) (qs .1 .1 .0)) (List._∷_ Row.off List.[]))) }
 
         abbrev G9 : Row.Cx
-        G9 = record { locals = t6; slots = List._∷_ (Row.lease (κs .0) (qs .0)) (List._∷_ (Row.lease (κs .1 .0) (qs .1 .0)) (List._∷_ (Row.lease (κs .1 .1 .0) (qs .1 .1 .0)) (List._∷_ Row.alive List.[]))); }
+        G9 = record { locals = t6; slots = List._∷_ (Row.lease (κs .0) (qs .0)) (List._∷_ (Row.lease (κs .1 .0) (qs .1 .0)) (List._∷_ (Row.lease (κs .1 .1 .0) (qs .1 .1 .0)) (List._∷_ Row.alive List.[]))) }
 
         abbrev G10 : Row.Cx
-        G10 = record { locals = t7; slots = List._∷_ (Row.lease (κs .0) (qs .0)) (List._∷_ (Row.lease (κs .1 .0) (qs .1 .0)) (List._∷_ (Row.lease (κs .1 .1 .0) (qs .1 .1 .0)) (List._∷_ Row.alive List.[]))); }
+        G10 = record { locals = t7; slots = List._∷_ (Row.lease (κs .0) (qs .0)) (List._∷_ (Row.lease (κs .1 .0) (qs .1 .0)) (List._∷_ (Row.lease (κs .1 .1 .0) (qs .1 .1 .0)) (List._∷_ Row.alive List.[]))) }
 
         abbrev G11 : Row.Cx
-        G11 = record { locals = t8; slots = List._∷_ (Row.lease (κs .0) (qs .0)) (List._∷_ (Row.lease (κs .1 .0) (qs .1 .0)) (List._∷_ (Row.lease (κs .1 .1 .0) (qs .1 .1 .0)) (List._∷_ Row.alive List.[]))); }
+        G11 = record { locals = t8; slots = List._∷_ (Row.lease (κs .0) (qs .0)) (List._∷_ (Row.lease (κs .1 .0) (qs .1 .0)) (List._∷_ (Row.lease (κs .1 .1 .0) (qs .1 .1 .0)) (List._∷_ Row.alive List.[]))) }
 
         abbrev G12 : Row.Cx
-        G12 = record { locals = t9; slots = List._∷_ (Row.lease (κs .0) (qs .0)) (List._∷_ (Row.lease (κs .1 .0) (qs .1 .0)) (List._∷_ (Row.lease (κs .1 .1 .0) (qs .1 .1 .0)) (List._∷_ Row.alive List.[]))); }
+        G12 = record { locals = t9; slots = List._∷_ (Row.lease (κs .0) (qs .0)) (List._∷_ (Row.lease (κs .1 .0) (qs .1 .0)) (List._∷_ (Row.lease (κs .1 .1 .0) (qs .1 .1 .0)) (List._∷_ Row.alive List.[]))) }
 
         abbrev G13 : Row.Cx
-        G13 = record { locals = t10; slots = List._∷_ (Row.lease (κs .0) (qs .0)) (List._∷_ (Row.lease (κs .1 .0) (qs .1 .0)) (List._∷_ (Row.lease (κs .1 .1 .0) (qs .1 .1 .0)) (List._∷_ Row.alive List.[]))); }
+        G13 = record { locals = t10; slots = List._∷_ (Row.lease (κs .0) (qs .0)) (List._∷_ (Row.lease (κs .1 .0) (qs .1 .0)) (List._∷_ (Row.lease (κs .1 .1 .0) (qs .1 .1 .0)) (List._∷_ Row.alive List.[]))) }
 
         abbrev G14 : Row.Cx
-        G14 = record { locals = t11; slots = List._∷_ (Row.lease (κs .0) (qs .0)) (List._∷_ (Row.lease (κs .1 .0) (qs .1 .0)) (List._∷_ (Row.lease (κs .1 .1 .0) (qs .1 .1 .0)) (List._∷_ Row.alive List.[]))); }
+        G14 = record { locals = t11; slots = List._∷_ (Row.lease (κs .0) (qs .0)) (List._∷_ (Row.lease (κs .1 .0) (qs .1 .0)) (List._∷_ (Row.lease (κs .1 .1 .0) (qs .1 .1 .0)) (List._∷_ Row.alive List.[]))) }
 
         abbrev G15 : Row.Cx
-        G15 = record { locals = t12; slots = List._∷_ (Row.lease (κs .0) (qs .0)) (List._∷_ (Row.lease (κs .1 .0) (qs .1 .0)) (List._∷_ (Row.lease (κs .1 .1 .0) (qs .1 .1 .0)) (List._∷_ Row.alive List.[]))); }
+        G15 = record { locals = t12; slots = List._∷_ (Row.lease (κs .0) (qs .0)) (List._∷_ (Row.lease (κs .1 .0) (qs .1 .0)) (List._∷_ (Row.lease (κs .1 .1 .0) (qs .1 .1 .0)) (List._∷_ Row.alive List.[]))) }
 
         abbrev G16 : Row.Cx
-        G16 = record { locals = t13; slots = List._∷_ (Row.lease (κs .0) (qs .0)) (List._∷_ (Row.lease (κs .1 .0) (qs .1 .0)) (List._∷_ (Row.lease (κs .1 .1 .0) (qs .1 .1 .0)) (List._∷_ Row.alive List.[]))); }
+        G16 = record { locals = t13; slots = List._∷_ (Row.lease (κs .0) (qs .0)) (List._∷_ (Row.lease (κs .1 .0) (qs .1 .0)) (List._∷_ (Row.lease (κs .1 .1 .0) (qs .1 .1 .0)) (List._∷_ Row.alive List.[]))) }
 
         abbrev G17 : Row.Cx
-        G17 = record { locals = t13; slots = List._∷_ (Row.lease (κs .0) (qs .0)) (List._∷_ (Row.lease (κs .1 .0) (qs .1 .0)) (List._∷_ (Row.lease (κs .1 .1 .0) (qs .1 .1 .0)) (List._∷_ Row.dead List.[]))); }
+        G17 = record { locals = t13; slots = List._∷_ (Row.lease (κs .0) (qs .0)) (List._∷_ (Row.lease (κs .1 .0) (qs .1 .0)) (List._∷_ (Row.lease (κs .1 .1 .0) (qs .1 .1 .0)) (List._∷_ Row.dead List.[]))) }
 
         abbrev G18 : Row.Cx
-        G18 = record { locals = t14; slots = List._∷_ (Row.lease (κs .0) (qs .0)) (List._∷_ (Row.lease (κs .1 .0) (qs .1 .0)) (List._∷_ (Row.lease (κs .1 .1 .0) (qs .1 .1 .0)) (List._∷_ Row.dead List.[]))); }
+        G18 = record { locals = t14; slots = List._∷_ (Row.lease (κs .0) (qs .0)) (List._∷_ (Row.lease (κs .1 .0) (qs .1 .0)) (List._∷_ (Row.lease (κs .1 .1 .0) (qs .1 .1 .0)) (List._∷_ Row.dead List.[]))) }
 
         abbrev G19 : Row.Cx
-        G19 = record { locals = t14; slots = List._∷_ (Row.lease (κs .0) (qs .0)) (List._∷_ (Row.lease (κs .1 .0) (qs .1 .0)) (List._∷_ (Row.lease (κs .1 .1 .0) (qs .1 .1 .0)) (List._∷_ Row.off List.[]))); }
+        G19 = record { locals = t14; slots = List._∷_ (Row.lease (κs .0) (qs .0)) (List._∷_ (Row.lease (κs .1 .0) (qs .1 .0)) (List._∷_ (Row.lease (κs .1 .1 .0) (qs .1 .1 .0)) (List._∷_ Row.off List.[]))) }
 
         abbrev G20 : Row.Cx
-        G20 = record { locals = t1; slots = List._∷_ (Row.lease (κs .0) (qs .0)) (List._∷_ (Row.lease (κs .1 .0) (qs .1 .0)) (List._∷_ (Row.lease (κs .1 .1 .0) (qs .1 .1 .0)) (List._∷_ Row.off List.[]))); }
+        G20 = record { locals = t1; slots = List._∷_ (Row.lease (κs .0) (qs .0)) (List._∷_ (Row.lease (κs .1 .0) (qs .1 .0)) (List._∷_ (Row.lease (κs .1 .1 .0) (qs .1 .1 .0)) (List._∷_ Row.off List.[]))) }
 
         abbrev Δ0 : Typed.Outs
         Δ0 = record { next = Option.none; exits = List.[]; returns = Option.some G1 }
@@ -545,15 +755,61 @@ module _ (claims· : Claims) where
               El.word) (Syntax.tcons El.word Syntax.tnil))) (Shared.room-sslice 𝓤 H A W (Referent.rtF (Referent.fInt Syntax.w64)) (Syntax.tyRef Syntax.erased Syntax.imm El.word) 3)) d7
 
           d9 : Typed.Typed 𝓤 H A 𝓣 E G11 b8 Δ0 at9
-          d9 = Typed.s-seq 𝓤 H A W 𝓣 E G11 G12 b6 b7 Δ0 (Typed.both s10) at8 (Plain.t-call-plain 𝓤 H A W 𝓣 3 ps·2 r·2 (claims· .4) (claims· .5) "records_words::eager" (known .2) E (λ pos β. β) G11 (Num.vAt 5 λ x. x, (record { pos = 10;
-              ty = Syntax.tyRef Syntax.erased Syntax.imm El.word; ref = λ x. x; }, (record { pos = 2; ty = Syntax.tyRef (Syntax.named 1) Syntax.imm El.word; ref = λ x. x; }, (record { pos = 3; ty = Syntax.tyRef (Syntax.named 2)
-              Syntax.imm El.word; ref = λ x. x; }, (record { pos = 4; st = List.[]; d = 0; at = λ x. x }, tt))))) 0 (List._∷_ 3 (List._∷_ 1 (List._∷_ 2 List.[]))) (Call.sub-id 𝓤 H A W (G11 .slots)) ((Scalar.reads-sc 𝓤 H A W (Row.sInt
-              Syntax.w64), Path'.refl), (ShrSlice.spares-sslice 𝓤 H A W (Referent.rtF (Referent.fInt Syntax.w64)) (Syntax.tyRef Syntax.erased Syntax.imm El.word) 3, Shared.reads-sslice 𝓤 H A W (Referent.rtF (Referent.fInt Syntax.w64))
-              (Syntax.tyRef Syntax.erased Syntax.imm El.word) 3, Path'.refl, (ShrSlice.spares-sslice 𝓤 H A W (Referent.rtF (Referent.fInt Syntax.w64)) (Syntax.tyRef (Syntax.named 1) Syntax.imm El.word) 1, Shared.reads-sslice 𝓤 H A W
-              (Referent.rtF (Referent.fInt Syntax.w64)) (Syntax.tyRef (Syntax.named 1) Syntax.imm El.word) 1, Path'.refl, (ShrSlice.spares-sslice 𝓤 H A W (Referent.rtF (Referent.fInt Syntax.w64)) (Syntax.tyRef (Syntax.named 2)
-              Syntax.imm El.word) 2, Shared.reads-sslice 𝓤 H A W (Referent.rtF (Referent.fInt Syntax.w64)) (Syntax.tyRef (Syntax.named 2) Syntax.imm El.word) 2, Path'.refl, ((Yields.yields-copy 𝓤 H A W (λ ρ. Unit) (Declared'.row
-              ReadyQueue.the-type) Path'.refl (Copies.cStruct ReadyQueue.the-type Laws'.the-laws Laws'.the-copy .copy 𝓤 H A W) (Rows'.whole (Declared'.row ReadyQueue.the-type)) (λ x. x) (λ x. x) (λ ρ told. Local.mem-whole 𝓤 H A W
-              (Declared'.row ReadyQueue.the-type) ρ) λ ρ told. Local.whole-mem 𝓤 H A W (Declared'.row ReadyQueue.the-type) ρ, Path'.refl), tt))))) (Reads.room-gone 𝓤 H A El.Answer) (tt, (tt, (tt, tt))) Path'.refl) d8
+          d9 = Typed.s-seq 𝓤 H A W 𝓣 E G11 G12 b6 b7 Δ0 (Typed.both s10) at8 (Plain.t-call-plain 𝓤 H A W 𝓣 3 ps·2 r·2 (claims· .4) (claims· .5) "records_words::eager" (known .2) E (λ pos β. β) G11 (
+            Num.vAt 5 λ x. x,
+            (
+              record {
+                pos = 10;
+                ty = Syntax.tyRef Syntax.erased Syntax.imm El.word;
+                ref = λ x. x;
+              },
+              (
+                record { pos = 2; ty = Syntax.tyRef (Syntax.named 1) Syntax.imm El.word; ref = λ x. x },
+                (
+                  record {
+                    pos = 3;
+                    ty = Syntax.tyRef (Syntax.named 2)
+                        Syntax.imm El.word;
+                    ref = λ x. x;
+                  },
+                  (record { pos = 4; st = List.[]; d = 0; at = λ x. x }, tt),
+                ),
+              ),
+            ),
+          ) 0 (List._∷_ 3 (List._∷_ 1 (List._∷_ 2 List.[]))) (Call.sub-id 𝓤 H A W (G11 .slots)) (
+            (
+              Scalar.reads-sc 𝓤 H A W (Row.sInt
+                  Syntax.w64),
+              Path'.refl,
+            ),
+            (
+              ShrSlice.spares-sslice 𝓤 H A W (Referent.rtF (Referent.fInt Syntax.w64)) (Syntax.tyRef Syntax.erased Syntax.imm El.word) 3,
+              Shared.reads-sslice 𝓤 H A W (Referent.rtF (Referent.fInt Syntax.w64))
+                  (Syntax.tyRef Syntax.erased Syntax.imm El.word) 3,
+              Path'.refl,
+              (
+                ShrSlice.spares-sslice 𝓤 H A W (Referent.rtF (Referent.fInt Syntax.w64)) (Syntax.tyRef (Syntax.named 1) Syntax.imm El.word) 1,
+                Shared.reads-sslice 𝓤 H A W
+                    (Referent.rtF (Referent.fInt Syntax.w64)) (Syntax.tyRef (Syntax.named 1) Syntax.imm El.word) 1,
+                Path'.refl,
+                (
+                  ShrSlice.spares-sslice 𝓤 H A W (Referent.rtF (Referent.fInt Syntax.w64)) (Syntax.tyRef (Syntax.named 2)
+                      Syntax.imm El.word) 2,
+                  Shared.reads-sslice 𝓤 H A W (Referent.rtF (Referent.fInt Syntax.w64)) (Syntax.tyRef (Syntax.named 2) Syntax.imm El.word) 2,
+                  Path'.refl,
+                  (
+                    (
+                      Yields.yields-copy 𝓤 H A W (λ ρ. Unit) (Declared'.row
+                          ReadyQueue.the-type) Path'.refl (Copies.cStruct ReadyQueue.the-type Laws'.the-laws Laws'.the-copy .copy 𝓤 H A W) (Rows'.whole (Declared'.row ReadyQueue.the-type)) (λ x. x) (λ x. x) (λ ρ told. Local.mem-whole 𝓤 H A W
+                          (Declared'.row ReadyQueue.the-type) ρ) λ ρ told. Local.whole-mem 𝓤 H A W (Declared'.row ReadyQueue.the-type) ρ,
+                      Path'.refl,
+                    ),
+                    tt,
+                  ),
+                ),
+              ),
+            ),
+          ) (Reads.room-gone 𝓤 H A El.Answer) (tt, (tt, (tt, tt))) Path'.refl) d8
 
           d10 : Typed.Typed 𝓤 H A 𝓣 E G10 b9 Δ0 at10
           d10 = Typed.s-seq 𝓤 H A W 𝓣 E G10 G11 b5 b8 Δ0 (Typed.ask s9) at9 (Relend.t-sl-aggregate 𝓤 H A W E (Referent.rtF (Referent.fInt Syntax.w64)) 𝓣 (Relend.asShr (Referent.rtF (Referent.fInt Syntax.w64))) G10 9 10 3 (Syntax.tyRef
@@ -563,8 +819,10 @@ module _ (claims· : Claims) where
 
           d11 : Typed.Typed 𝓤 H A 𝓣 E G9 b10 Δ0 at11
           d11 = Typed.s-seq 𝓤 H A W 𝓣 E G9 G10 b4 b9 Δ0 (Typed.give s8) at10 (Share.t-arr-share 𝓤 H A W E 𝓣 (Referent.rtF (Referent.fInt Syntax.w64)) G9 7 9 4104 3 (Syntax.tyRef Syntax.erased Syntax.imm (Syntax.tyArray El.word 4104)) (λ
-              x. x) (Reads.as-is 𝓤 H A (Rows.arrF (Referent.rtF (Referent.fInt Syntax.w64)) 4104 0)) (Reads.room-gone 𝓤 H A (Syntax.tyRef Syntax.erased Syntax.imm (Syntax.tyArray El.word 4104))) Path'.refl (λ b o. tt) (Dec'.lit< tt,
-              Dec'.lit< tt)) d10
+              x. x) (Reads.as-is 𝓤 H A (Rows.arrF (Referent.rtF (Referent.fInt Syntax.w64)) 4104 0)) (Reads.room-gone 𝓤 H A (Syntax.tyRef Syntax.erased Syntax.imm (Syntax.tyArray El.word 4104))) Path'.refl (λ b o. tt) (
+                Dec'.lit< tt,
+                Dec'.lit< tt,
+              )) d10
 
           d12 : Typed.Typed 𝓤 H A 𝓣 E G8 b10 Δ0 at12
           d12 = Typed.g-pre 𝓤 H A W 𝓣 E G8 G9 b10 Δ0 (λ Ψ. Ψ) at11 (Lifetime.g-begin 𝓤 H A W E G8 3 (tt, (tt, (tt, (tt, (tt, (tt, (tt, (tt, (tt, (tt, (tt, tt)))))))))))) d11
@@ -581,16 +839,45 @@ module _ (claims· : Claims) where
               (Rows.arrF (Referent.rtF (Referent.fInt Syntax.w64)) 4104 0) (λ x. x) λ ρ told. Whole.arr-mem 𝓤 H A W (Referent.rtF (Referent.fInt Syntax.w64)) 4104 tt ρ) Path'.refl Path'.refl) d13
 
           d15 : Typed.Typed 𝓤 H A 𝓣 E G5 b12 Δ0 at15
-          d15 = Typed.s-seq 𝓤 H A W 𝓣 E G5 G6 b2 b11 Δ0 (Typed.both s4) at14 (Plain.t-call-plain 𝓤 H A W 𝓣 1 ps·1 r·1 (claims· .2) (claims· .3) "records_tasks::load" (known .1) E (λ pos β. β) G5 (record { pos = 1; ty = Syntax.tyRef
-              (Syntax.named 0) Syntax.imm El.named; ref = λ x. x; }, (Num.vAt 6 λ x. x, tt)) 8 (List._∷_ 0 List.[]) (Call.sub-id 𝓤 H A W (G5 .slots)) (ShrSlice.spares-sslice 𝓤 H A W El.row (Syntax.tyRef (Syntax.named 0) Syntax.imm
-              El.named) 0, Shared.reads-sslice 𝓤 H A W El.row (Syntax.tyRef (Syntax.named 0) Syntax.imm El.named) 0, Path'.refl, ((Scalar.reads-sc 𝓤 H A W (Row.sInt Syntax.w16), Path'.refl), tt)) (Reads.room-gone 𝓤 H A (Syntax.tyArray
+          d15 = Typed.s-seq 𝓤 H A W 𝓣 E G5 G6 b2 b11 Δ0 (Typed.both s4) at14 (Plain.t-call-plain 𝓤 H A W 𝓣 1 ps·1 r·1 (claims· .2) (claims· .3) "records_tasks::load" (known .1) E (λ pos β. β) G5 (
+            record {
+              pos = 1;
+              ty = Syntax.tyRef
+                  (Syntax.named 0) Syntax.imm El.named;
+              ref = λ x. x;
+            },
+            (Num.vAt 6 λ x. x, tt),
+          ) 8 (List._∷_ 0 List.[]) (Call.sub-id 𝓤 H A W (G5 .slots)) (
+            ShrSlice.spares-sslice 𝓤 H A W El.row (Syntax.tyRef (Syntax.named 0) Syntax.imm
+                El.named) 0,
+            Shared.reads-sslice 𝓤 H A W El.row (Syntax.tyRef (Syntax.named 0) Syntax.imm El.named) 0,
+            Path'.refl,
+            ((Scalar.reads-sc 𝓤 H A W (Row.sInt Syntax.w16), Path'.refl), tt),
+          ) (Reads.room-gone 𝓤 H A (Syntax.tyArray
               El.word 4104)) (tt, tt) Path'.refl) d14
 
           d16 : Typed.Typed 𝓤 H A 𝓣 E G4 b13 Δ0 at16
-          d16 = Typed.s-seq 𝓤 H A W 𝓣 E G4 G5 b1 b12 Δ0 (Typed.both s3) at15 (Plain.t-call-plain 𝓤 H A W 𝓣 1 ps·0 r·0 (claims· .0) (claims· .1) "records_words::rows_in_use" (known .0) E (λ pos β. β) G4 (Num.vAt 5 λ x. x, (record { pos
-              = 2; ty = Syntax.tyRef (Syntax.named 1) Syntax.imm El.word; ref = λ x. x; }, tt)) 6 (List._∷_ 1 List.[]) (Call.sub-id 𝓤 H A W (G4 .slots)) ((Scalar.reads-sc 𝓤 H A W (Row.sInt Syntax.w64), Path'.refl),
-              (ShrSlice.spares-sslice 𝓤 H A W (Referent.rtF (Referent.fInt Syntax.w64)) (Syntax.tyRef (Syntax.named 1) Syntax.imm El.word) 1, Shared.reads-sslice 𝓤 H A W (Referent.rtF (Referent.fInt Syntax.w64)) (Syntax.tyRef
-              (Syntax.named 1) Syntax.imm El.word) 1, Path'.refl, tt)) (Reads.room-gone 𝓤 H A (Syntax.tyInt Syntax.w16)) (tt, tt) Path'.refl) d15
+          d16 = Typed.s-seq 𝓤 H A W 𝓣 E G4 G5 b1 b12 Δ0 (Typed.both s3) at15 (Plain.t-call-plain 𝓤 H A W 𝓣 1 ps·0 r·0 (claims· .0) (claims· .1) "records_words::rows_in_use" (known .0) E (λ pos β. β) G4 (
+            Num.vAt 5 λ x. x,
+            (
+              record {
+                pos
+                    = 2;
+                ty = Syntax.tyRef (Syntax.named 1) Syntax.imm El.word;
+                ref = λ x. x;
+              },
+              tt,
+            ),
+          ) 6 (List._∷_ 1 List.[]) (Call.sub-id 𝓤 H A W (G4 .slots)) (
+            (Scalar.reads-sc 𝓤 H A W (Row.sInt Syntax.w64), Path'.refl),
+            (
+              ShrSlice.spares-sslice 𝓤 H A W (Referent.rtF (Referent.fInt Syntax.w64)) (Syntax.tyRef (Syntax.named 1) Syntax.imm El.word) 1,
+              Shared.reads-sslice 𝓤 H A W (Referent.rtF (Referent.fInt Syntax.w64)) (Syntax.tyRef
+                  (Syntax.named 1) Syntax.imm El.word) 1,
+              Path'.refl,
+              tt,
+            ),
+          ) (Reads.room-gone 𝓤 H A (Syntax.tyInt Syntax.w16)) (tt, tt) Path'.refl) d15
 
           d17 : Typed.Typed 𝓤 H A 𝓣 E G3 b14 Δ0 at17
           d17 = Typed.s-seq 𝓤 H A W 𝓣 E G3 G4 b0 b13 Δ0 (Typed.pass T3 T4 s2) at16 (Scalar.t-use 𝓤 H A W E 𝓣 G3 (Scalar.oFld 1 (List._∷_ (Syntax.field 1) List.[]) El.word 8 Shared.lenV) 5 (Rows'.sc-here (Row.sInt Syntax.w64)) El.word
@@ -613,10 +900,24 @@ module _ (claims· : Claims) where
           pub tasks : Kinds.Den {n = 3} κs (ShrSlice.pShrS El.row 0 tt)
           pub objects : Kinds.Den {n = 3} κs (ShrSlice.pShrS (Referent.rtF (Referent.fInt Syntax.w64)) 1 tt)
           pub places : Kinds.Den {n = 3} κs (ShrSlice.pShrS (Referent.rtF (Referent.fInt Syntax.w64)) 2 tt)
-          pub queue : Kinds.Den {n = 3} κs (Value.pVal record { ty = Declared'.row ReadyQueue.the-type; one = Path'.refl; val = Laws'3.val ReadyQueue.the-type Laws'.the-laws; tells = Laws'3.tells ReadyQueue.the-type Laws'.the-laws;
-              still = Laws'3.still ReadyQueue.the-type Laws'.the-copy Exit.yes; row = Rows'.whole (Declared'.row ReadyQueue.the-type); rd = λ x. x; mk = λ x. x; } λ M 𝓤 H A W. record { copies = Laws'3.copy ReadyQueue.the-type
-              Laws'.the-copy 𝓤 H A W; lawful = Laws'3.lawful ReadyQueue.the-type Laws'.the-laws 𝓤 H A W; makes = Laws'3.makes ReadyQueue.the-type Laws'.the-plain 𝓤 H A; in-mem = Local.mem-whole 𝓤 H A W (Declared'.row
-              ReadyQueue.the-type); of-mem = Local.whole-mem 𝓤 H A W (Declared'.row ReadyQueue.the-type); })
+          pub queue : Kinds.Den {n = 3} κs (Value.pVal record {
+            ty = Declared'.row ReadyQueue.the-type;
+            one = Path'.refl;
+            val = Laws'3.val ReadyQueue.the-type Laws'.the-laws;
+            tells = Laws'3.tells ReadyQueue.the-type Laws'.the-laws;
+            still = Laws'3.still ReadyQueue.the-type Laws'.the-copy Exit.yes;
+            row = Rows'.whole (Declared'.row ReadyQueue.the-type);
+            rd = λ x. x;
+            mk = λ x. x;
+          } λ M 𝓤 H A W. record {
+            copies = Laws'3.copy ReadyQueue.the-type
+                Laws'.the-copy 𝓤 H A W;
+            lawful = Laws'3.lawful ReadyQueue.the-type Laws'.the-laws 𝓤 H A W;
+            makes = Laws'3.makes ReadyQueue.the-type Laws'.the-plain 𝓤 H A;
+            in-mem = Local.mem-whole 𝓤 H A W (Declared'.row
+                ReadyQueue.the-type);
+            of-mem = Local.whole-mem 𝓤 H A W (Declared'.row ReadyQueue.the-type);
+          })
 
         abbrev pub dens : (a : Args) → Kinds.Dens κs ps
         dens = λ a. (a .tasks, (a .objects, (a .places, (a .queue, tt))))
@@ -625,8 +926,12 @@ module _ (claims· : Claims) where
       m0 = λ κs args. (tt, Enter.partsP κs 1 ps xs (dens κs args))
 
       abbrev W0 : (κs : Lifetimes.Lfts 3) → (args : Args κs) → Typed.Want O0
-      W0 = λ κs args. (λ u. ⊥, tt, λ u. Enter.Fixs κs 1 ps xs (dens κs args) (u .1) × Post· κs (dens κs args) (Function.resV r κs (u .0)) (Clauses.atExit (Kinds.endedOf 3 ps r) κs (dens κs args) (Enter.lastsP κs 1 ps xs (dens κs args)
-          (u .1))))
+      W0 = λ κs args. (
+        λ u. ⊥,
+        tt,
+        λ u. Enter.Fixs κs 1 ps xs (dens κs args) (u .1) × Post· κs (dens κs args) (Function.resV r κs (u .0)) (Clauses.atExit (Kinds.endedOf 3 ps r) κs (dens κs args) (Enter.lastsP κs 1 ps xs (dens κs args)
+            (u .1))),
+      )
 
       pub record Start : Type 0 where
         pub κs : Lifetimes.Lfts 3
@@ -667,7 +972,7 @@ module _ (claims· : Claims) where
 
       module _ (before· : After-shared-slice-known2) where
         abbrev pub After-rows-in-use·own : Type 0
-        After-rows-in-use·own = Called.Called ps·0 r·0 (claims· .1) T4 (Num.vAt 5 λ x. x, (record { pos = 2; ty = Syntax.tyRef (Syntax.named 1) Syntax.imm El.word; ref = λ x. x; }, tt)) (m3 (before· .before) (before·
+        After-rows-in-use·own = Called.Called ps·0 r·0 (claims· .1) T4 (Num.vAt 5 λ x. x, (record { pos = 2; ty = Syntax.tyRef (Syntax.named 1) Syntax.imm El.word; ref = λ x. x }, tt)) (m3 (before· .before) (before·
             .shared-slice-known2 .given))
 
       pub record After-rows-in-use : Type 0 where
@@ -675,7 +980,7 @@ module _ (claims· : Claims) where
         pub rows-in-use : After-rows-in-use·own before
 
       abbrev pub After-rows-in-use·gave : (c : After-rows-in-use) → s3 .gives (m3 (c .before .before) (c .before .shared-slice-known2 .given))
-      After-rows-in-use·gave = λ c. Called.given ps·0 r·0 (claims· .1) T4 (Num.vAt 5 λ x. x, (record { pos = 2; ty = Syntax.tyRef (Syntax.named 1) Syntax.imm El.word; ref = λ x. x; }, tt)) (m3 (c .before .before) (c .before
+      After-rows-in-use·gave = λ c. Called.given ps·0 r·0 (claims· .1) T4 (Num.vAt 5 λ x. x, (record { pos = 2; ty = Syntax.tyRef (Syntax.named 1) Syntax.imm El.word; ref = λ x. x }, tt)) (m3 (c .before .before) (c .before
           .shared-slice-known2 .given)) (c .rows-in-use)
 
       abbrev pub Need-load-requires : Type 0
@@ -686,14 +991,14 @@ module _ (claims· : Claims) where
 
       module _ (before· : After-rows-in-use) where
         abbrev pub After-load·own : Type 0
-        After-load·own = Called.Called ps·1 r·1 (claims· .3) T5 (record { pos = 1; ty = Syntax.tyRef (Syntax.named 0) Syntax.imm El.named; ref = λ x. x; }, (Num.vAt 6 λ x. x, tt)) (m4 (before· .before) (After-rows-in-use·gave before·))
+        After-load·own = Called.Called ps·1 r·1 (claims· .3) T5 (record { pos = 1; ty = Syntax.tyRef (Syntax.named 0) Syntax.imm El.named; ref = λ x. x }, (Num.vAt 6 λ x. x, tt)) (m4 (before· .before) (After-rows-in-use·gave before·))
 
       pub record After-load : Type 0 where
         pub before : After-rows-in-use
         pub load : After-load·own before
 
       abbrev pub After-load·gave : (c : After-load) → s4 .gives (m4 (c .before .before) (After-rows-in-use·gave (c .before)))
-      After-load·gave = λ c. Called.given ps·1 r·1 (claims· .3) T5 (record { pos = 1; ty = Syntax.tyRef (Syntax.named 0) Syntax.imm El.named; ref = λ x. x; }, (Num.vAt 6 λ x. x, tt)) (m4 (c .before .before) (After-rows-in-use·gave (c
+      After-load·gave = λ c. Called.given ps·1 r·1 (claims· .3) T5 (record { pos = 1; ty = Syntax.tyRef (Syntax.named 0) Syntax.imm El.named; ref = λ x. x }, (Num.vAt 6 λ x. x, tt)) (m4 (c .before .before) (After-rows-in-use·gave (c
           .before))) (c .load)
 
       abbrev pub m6 : (before : After-rows-in-use) → (given : s4 .gives (m4 (before .before) (After-rows-in-use·gave before))) → Typed.Mo T7
@@ -727,8 +1032,21 @@ module _ (claims· : Claims) where
 
       module _ (before· : After-words) where
         abbrev pub After-eager·own : Type 0
-        After-eager·own = Called.Called ps·2 r·2 (claims· .5) T11 (Num.vAt 5 λ x. x, (record { pos = 10; ty = Syntax.tyRef Syntax.erased Syntax.imm El.word; ref = λ x. x; }, (record { pos = 2; ty = Syntax.tyRef (Syntax.named 1)
-            Syntax.imm El.word; ref = λ x. x; }, (record { pos = 3; ty = Syntax.tyRef (Syntax.named 2) Syntax.imm El.word; ref = λ x. x; }, (record { pos = 4; st = List.[]; d = 0; at = λ x. x }, tt))))) (m9 (before· .before) (before·
+        After-eager·own = Called.Called ps·2 r·2 (claims· .5) T11 (
+          Num.vAt 5 λ x. x,
+          (
+            record { pos = 10; ty = Syntax.tyRef Syntax.erased Syntax.imm El.word; ref = λ x. x },
+            (
+              record {
+                pos = 2;
+                ty = Syntax.tyRef (Syntax.named 1)
+                    Syntax.imm El.word;
+                ref = λ x. x;
+              },
+              (record { pos = 3; ty = Syntax.tyRef (Syntax.named 2) Syntax.imm El.word; ref = λ x. x }, (record { pos = 4; st = List.[]; d = 0; at = λ x. x }, tt)),
+            ),
+          ),
+        ) (m9 (before· .before) (before·
             .words .given))
 
       pub record After-eager : Type 0 where
@@ -736,8 +1054,21 @@ module _ (claims· : Claims) where
         pub eager : After-eager·own before
 
       abbrev pub After-eager·gave : (c : After-eager) → s10 .gives (m9 (c .before .before) (c .before .words .given))
-      After-eager·gave = λ c. Called.given ps·2 r·2 (claims· .5) T11 (Num.vAt 5 λ x. x, (record { pos = 10; ty = Syntax.tyRef Syntax.erased Syntax.imm El.word; ref = λ x. x; }, (record { pos = 2; ty = Syntax.tyRef (Syntax.named 1)
-          Syntax.imm El.word; ref = λ x. x; }, (record { pos = 3; ty = Syntax.tyRef (Syntax.named 2) Syntax.imm El.word; ref = λ x. x; }, (record { pos = 4; st = List.[]; d = 0; at = λ x. x }, tt))))) (m9 (c .before .before) (c .before
+      After-eager·gave = λ c. Called.given ps·2 r·2 (claims· .5) T11 (
+        Num.vAt 5 λ x. x,
+        (
+          record { pos = 10; ty = Syntax.tyRef Syntax.erased Syntax.imm El.word; ref = λ x. x },
+          (
+            record {
+              pos = 2;
+              ty = Syntax.tyRef (Syntax.named 1)
+                  Syntax.imm El.word;
+              ref = λ x. x;
+            },
+            (record { pos = 3; ty = Syntax.tyRef (Syntax.named 2) Syntax.imm El.word; ref = λ x. x }, (record { pos = 4; st = List.[]; d = 0; at = λ x. x }, tt)),
+          ),
+        ),
+      ) (m9 (c .before .before) (c .before
           .words .given)) (c .eager)
 
       abbrev pub m11 : (before : After-words) → (given : s10 .gives (m9 (before .before) (before .words .given))) → Typed.Mo T13
@@ -769,24 +1100,80 @@ module _ (claims· : Claims) where
         lay3 = λ c. ((Path'.refl, (Path'.refl, (Path'.refl, (tt, tt)))), returns record { before = c .before; eager = c .eager })
 
         lay2 : (c : After-load) → at14 (W0 (c .before .before .before .before .κs) (c .before .before .before .before .args)) (m5 (c .before) (After-load·gave c))
-        lay2 = λ c. λ g. (Relend.count-is T10 9 10 (λ x. x) (λ u. 4104) (m8 record { before = c .before; load = c .load; } g) (slice-aggregate-eager record { before = record { before = c .before; load = c .load }; words = record {
-            given = g }; }), (eager-requires record { before = record { before = c .before; load = c .load }; words = record { given = g }; }, λ g'. lay3 record { before = record { before = record { before = c .before; load = c .load
-            }; words = record { given = g }; }; eager = Called.called ps·2 r·2 (claims· .5) T11 (Num.vAt 5 λ x. x, (record { pos = 10; ty = Syntax.tyRef Syntax.erased Syntax.imm El.word; ref = λ x. x; }, (record { pos = 2; ty =
-            Syntax.tyRef (Syntax.named 1) Syntax.imm El.word; ref = λ x. x; }, (record { pos = 3; ty = Syntax.tyRef (Syntax.named 2) Syntax.imm El.word; ref = λ x. x; }, (record { pos = 4; st = List.[]; d = 0; at = λ x. x }, tt))))) (m9
-            record { before = c .before; load = c .load } g) g'; }))
+        lay2 = λ c. λ g. (
+          Relend.count-is T10 9 10 (λ x. x) (λ u. 4104) (m8 record { before = c .before; load = c .load } g) (slice-aggregate-eager record {
+            before = record { before = c .before; load = c .load };
+            words = record {
+              given = g;
+            };
+          }),
+          (
+            eager-requires record { before = record { before = c .before; load = c .load }; words = record { given = g } },
+            λ g'. lay3 record {
+              before = record {
+                before = record {
+                  before = c .before;
+                  load = c .load;
+                };
+                words = record { given = g };
+              };
+              eager = Called.called ps·2 r·2 (claims· .5) T11 (
+                Num.vAt 5 λ x. x,
+                (
+                  record { pos = 10; ty = Syntax.tyRef Syntax.erased Syntax.imm El.word; ref = λ x. x },
+                  (
+                    record {
+                      pos = 2;
+                      ty =
+                          Syntax.tyRef (Syntax.named 1) Syntax.imm El.word;
+                      ref = λ x. x;
+                    },
+                    (record { pos = 3; ty = Syntax.tyRef (Syntax.named 2) Syntax.imm El.word; ref = λ x. x }, (record { pos = 4; st = List.[]; d = 0; at = λ x. x }, tt)),
+                  ),
+                ),
+              ) (m9
+                  record { before = c .before; load = c .load } g) g';
+            },
+          ),
+        )
 
         lay1 : (c : After-rows-in-use) → at15 (W0 (c .before .before .before .κs) (c .before .before .before .args)) (m4 (c .before) (After-rows-in-use·gave c))
-        lay1 = λ c. (load-requires record { before = c .before; rows-in-use = c .rows-in-use }, λ g. lay2 record { before = record { before = c .before; rows-in-use = c .rows-in-use }; load = Called.called ps·1 r·1 (claims· .3) T5
-            (record { pos = 1; ty = Syntax.tyRef (Syntax.named 0) Syntax.imm El.named; ref = λ x. x; }, (Num.vAt 6 λ x. x, tt)) (m4 (c .before) (After-rows-in-use·gave c)) g; })
+        lay1 = λ c. (
+          load-requires record { before = c .before; rows-in-use = c .rows-in-use },
+          λ g. lay2 record {
+            before = record { before = c .before; rows-in-use = c .rows-in-use };
+            load = Called.called ps·1 r·1 (claims· .3) T5
+                (record { pos = 1; ty = Syntax.tyRef (Syntax.named 0) Syntax.imm El.named; ref = λ x. x }, (Num.vAt 6 λ x. x, tt)) (m4 (c .before) (After-rows-in-use·gave c)) g;
+          },
+        )
 
         pub laid : (c : Start) → at19 (W0 (c .κs) (c .args)) (m0 (c .κs) (c .args))
-        laid = λ c. λ g. λ g'. (rows-in-use-requires record { before = record { before = c; shared-slice-known = record { given = g } }; shared-slice-known2 = record { given = g' }; }, λ g''. lay1 record { before = record { before =
-            record { before = c; shared-slice-known = record { given = g } }; shared-slice-known2 = record { given = g' }; }; rows-in-use = Called.called ps·0 r·0 (claims· .1) T4 (Num.vAt 5 λ x. x, (record { pos = 2; ty = Syntax.tyRef
-            (Syntax.named 1) Syntax.imm El.word; ref = λ x. x; }, tt)) (m3 record { before = c; shared-slice-known = record { given = g } } g') g''; })
+        laid = λ c. λ g. λ g'. (
+          rows-in-use-requires record { before = record { before = c; shared-slice-known = record { given = g } }; shared-slice-known2 = record { given = g' } },
+          λ g''. lay1 record {
+            before = record {
+              before =
+                  record { before = c; shared-slice-known = record { given = g } };
+              shared-slice-known2 = record { given = g' };
+            };
+            rows-in-use = Called.called ps·0 r·0 (claims· .1) T4 (
+              Num.vAt 5 λ x. x,
+              (
+                record {
+                  pos = 2;
+                  ty = Syntax.tyRef
+                      (Syntax.named 1) Syntax.imm El.word;
+                  ref = λ x. x;
+                },
+                tt,
+              ),
+            ) (m3 record { before = c; shared-slice-known = record { given = g } } g') g'';
+          },
+        )
 
         module _ (κs : Lifetimes.Lfts 3) (qs : Lifetimes.Shares 3) where
           pub asked : (a : Kinds.Dens κs ps) → (good : Kinds.GoodsP κs ps a) → (pre : Pre· κs a) → (bs : List.List Nat.ℕ) → Φ (Any.wantQ 3 ps r xs m κs qs a (Post· κs a)) (Function.init 3 ps r xs m κs qs a)
-          asked = λ a good pre bs. laid record { κs = κs; args = record { tasks = a .0; objects = a .1 .0; places = a .1 .1 .0; queue = a .1 .1 .1 .0; }; good = good; pre = pre; }
+          asked = λ a good pre bs. laid record { κs = κs; args = record { tasks = a .0; objects = a .1 .0; places = a .1 .1 .0; queue = a .1 .1 .1 .0 }; good = good; pre = pre }
 
         module _ {M : Type 1} (𝓤 : URA.URA M) (H : Wp.Heap 𝓤) (A : Atoms.Atoms 𝓤) (W : Kit.Given 𝓤 H A) (𝓣 : Wp.Tables 𝓤 H) (known0 : Plain.Known 𝓤 H A W 𝓣 1 ps·0 r·0 (claims· .0) (claims· .1) "records_words::rows_in_use") (known1 :
             Plain.Known 𝓤 H A W 𝓣 1 ps·1 r·1 (claims· .2) (claims· .3) "records_tasks::load") (known2 : Plain.Known 𝓤 H A W 𝓣 3 ps·2 r·2 (claims· .4) (claims· .5) "records_words::eager") where

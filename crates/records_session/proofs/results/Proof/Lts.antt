@@ -65,15 +65,44 @@ use Rattle.records_session.proofs.Made.Element as El
 
 abbrev pub ps : List.List (Kinds.PK 5)
 ps = List._∷_ (MutSlice.pMutS El.row 0 tt) (List._∷_ (MutSlice.pMutS (Referent.rtF (Referent.fInt Syntax.w64)) 1 tt) (List._∷_ (MutSlice.pMutS (Referent.rtF (Referent.fInt Syntax.w64)) 2 tt) (List._∷_ (MutSlice.pMutS (Referent.rtF
-    (Referent.fInt Syntax.w64)) 3 tt) (List._∷_ (Value.pVal record { ty = Declared'.row ReadyQueue.the-type; one = Path'.refl; val = Laws'4.val ReadyQueue.the-type Laws.the-laws; tells = Laws'4.tells ReadyQueue.the-type Laws.the-laws;
-    still = Laws'4.still ReadyQueue.the-type Laws.the-copy Exit.yes; row = Rows'.whole (Declared'.row ReadyQueue.the-type); rd = λ x. x; mk = λ x. x; } λ M 𝓤 H A W. record { copies = Laws'4.copy ReadyQueue.the-type Laws.the-copy 𝓤 H A
-    W; lawful = Laws'4.lawful ReadyQueue.the-type Laws.the-laws 𝓤 H A W; makes = Laws'4.makes ReadyQueue.the-type Laws.the-plain 𝓤 H A; in-mem = Local.mem-whole 𝓤 H A W (Declared'.row ReadyQueue.the-type); of-mem = Local.whole-mem 𝓤 H
-    A W (Declared'.row ReadyQueue.the-type); }) (List._∷_ (ShrSlice.pShrS (Referent.rtF (Referent.fInt Syntax.w8)) 4 tt) List.[])))))
+    (Referent.fInt Syntax.w64)) 3 tt) (List._∷_ (Value.pVal record {
+      ty = Declared'.row ReadyQueue.the-type;
+      one = Path'.refl;
+      val = Laws'4.val ReadyQueue.the-type Laws.the-laws;
+      tells = Laws'4.tells ReadyQueue.the-type Laws.the-laws;
+      still = Laws'4.still ReadyQueue.the-type Laws.the-copy Exit.yes;
+      row = Rows'.whole (Declared'.row ReadyQueue.the-type);
+      rd = λ x. x;
+      mk = λ x. x;
+    } λ M 𝓤 H A W. record {
+      copies = Laws'4.copy ReadyQueue.the-type Laws.the-copy 𝓤 H A
+          W;
+      lawful = Laws'4.lawful ReadyQueue.the-type Laws.the-laws 𝓤 H A W;
+      makes = Laws'4.makes ReadyQueue.the-type Laws.the-plain 𝓤 H A;
+      in-mem = Local.mem-whole 𝓤 H A W (Declared'.row ReadyQueue.the-type);
+      of-mem = Local.whole-mem 𝓤 H
+          A W (Declared'.row ReadyQueue.the-type);
+    }) (List._∷_ (ShrSlice.pShrS (Referent.rtF (Referent.fInt Syntax.w8)) 4 tt) List.[])))))
 
 abbrev pub r : Kinds.RK 5
-r = Value.rVal record { ty = Declared'.row Answered.the-type; one = Path'.refl; val = Laws'4.val Answered.the-type Laws'.the-laws; tells = Laws'4.tells Answered.the-type Laws'.the-laws; still = Laws'4.still Answered.the-type
-    Laws'.the-copy Exit.yes; row = Rows'.whole (Declared'.row Answered.the-type); rd = λ x. x; mk = λ x. x; } λ M 𝓤 H A W. record { copies = Laws'4.copy Answered.the-type Laws'.the-copy 𝓤 H A W; lawful = Laws'4.lawful Answered.the-type
-    Laws'.the-laws 𝓤 H A W; makes = Laws'4.makes Answered.the-type Laws'.the-plain 𝓤 H A; in-mem = Local.mem-whole 𝓤 H A W (Declared'.row Answered.the-type); of-mem = Local.whole-mem 𝓤 H A W (Declared'.row Answered.the-type); }
+r = Value.rVal record {
+  ty = Declared'.row Answered.the-type;
+  one = Path'.refl;
+  val = Laws'4.val Answered.the-type Laws'.the-laws;
+  tells = Laws'4.tells Answered.the-type Laws'.the-laws;
+  still = Laws'4.still Answered.the-type
+      Laws'.the-copy Exit.yes;
+  row = Rows'.whole (Declared'.row Answered.the-type);
+  rd = λ x. x;
+  mk = λ x. x;
+} λ M 𝓤 H A W. record {
+  copies = Laws'4.copy Answered.the-type Laws'.the-copy 𝓤 H A W;
+  lawful = Laws'4.lawful Answered.the-type
+      Laws'.the-laws 𝓤 H A W;
+  makes = Laws'4.makes Answered.the-type Laws'.the-plain 𝓤 H A;
+  in-mem = Local.mem-whole 𝓤 H A W (Declared'.row Answered.the-type);
+  of-mem = Local.whole-mem 𝓤 H A W (Declared'.row Answered.the-type);
+}
 
 abbrev pub xs : List.List Syntax.Ty
 xs = List._∷_ (Syntax.tyArray (Syntax.tyInt Syntax.w16) 1) (List._∷_ (Syntax.tyRef Syntax.erased Syntax.mut El.named) (List._∷_ (Syntax.tyStruct (List._∷_ 38 (List._∷_ 91 (List._∷_ 93 List.[]))) (Syntax.tcons (Syntax.tyRef Syntax.erased
@@ -88,18 +117,61 @@ m = 5
 
 abbrev pub ps·0 : List.List (Kinds.PK 6)
 ps·0 = List._∷_ (MutSlice.pMutS El.row 0 tt) (List._∷_ (MutSlice.pMutS (Referent.rtF (Referent.fInt Syntax.w64)) 1 tt) (List._∷_ (MutSlice.pMutS (Referent.rtF (Referent.fInt Syntax.w64)) 2 tt) (List._∷_ (MutSlice.pMutS (Referent.rtF
-    (Referent.fInt Syntax.w64)) 3 tt) (List._∷_ (Value.pVal record { ty = Declared'.row ReadyQueue.the-type; one = Path'.refl; val = Laws'4.val ReadyQueue.the-type Laws.the-laws; tells = Laws'4.tells ReadyQueue.the-type Laws.the-laws;
-    still = Laws'4.still ReadyQueue.the-type Laws.the-copy Exit.yes; row = Rows'.whole (Declared'.row ReadyQueue.the-type); rd = λ x. x; mk = λ x. x; } λ M 𝓤 H A W. record { copies = Laws'4.copy ReadyQueue.the-type Laws.the-copy 𝓤 H A
-    W; lawful = Laws'4.lawful ReadyQueue.the-type Laws.the-laws 𝓤 H A W; makes = Laws'4.makes ReadyQueue.the-type Laws.the-plain 𝓤 H A; in-mem = Local.mem-whole 𝓤 H A W (Declared'.row ReadyQueue.the-type); of-mem = Local.whole-mem 𝓤 H
-    A W (Declared'.row ReadyQueue.the-type); }) (List._∷_ (Value.pVal record { ty = Declared.row Event.the-type; one = Path'.refl; val = Laws'3.val Event.the-type Laws''.the-laws; tells = Laws'3.tells Event.the-type Laws''.the-laws;
-    still = Laws'3.still Event.the-type Laws''.the-copy Exit.yes; row = Rows'.whole (Declared.row Event.the-type); rd = λ x. x; mk = λ x. x; } λ M 𝓤 H A W. record { copies = Laws'3.copy Event.the-type Laws''.the-copy 𝓤 H A W; lawful =
-    Laws'3.lawful Event.the-type Laws''.the-laws 𝓤 H A W tt; makes = Laws'3.makes Event.the-type Laws''.the-plain 𝓤 H A; in-mem = Local.mem-whole 𝓤 H A W (Declared.row Event.the-type); of-mem = Local.whole-mem 𝓤 H A W (Declared.row
-    Event.the-type); }) (List._∷_ (ShrSlice.pShrS (Referent.rtF (Referent.fInt Syntax.w16)) 4 tt) (List._∷_ (ShrSlice.pShrS (Referent.rtF (Referent.fInt Syntax.w8)) 5 tt) List.[])))))))
+    (Referent.fInt Syntax.w64)) 3 tt) (List._∷_ (Value.pVal record {
+      ty = Declared'.row ReadyQueue.the-type;
+      one = Path'.refl;
+      val = Laws'4.val ReadyQueue.the-type Laws.the-laws;
+      tells = Laws'4.tells ReadyQueue.the-type Laws.the-laws;
+      still = Laws'4.still ReadyQueue.the-type Laws.the-copy Exit.yes;
+      row = Rows'.whole (Declared'.row ReadyQueue.the-type);
+      rd = λ x. x;
+      mk = λ x. x;
+    } λ M 𝓤 H A W. record {
+      copies = Laws'4.copy ReadyQueue.the-type Laws.the-copy 𝓤 H A
+          W;
+      lawful = Laws'4.lawful ReadyQueue.the-type Laws.the-laws 𝓤 H A W;
+      makes = Laws'4.makes ReadyQueue.the-type Laws.the-plain 𝓤 H A;
+      in-mem = Local.mem-whole 𝓤 H A W (Declared'.row ReadyQueue.the-type);
+      of-mem = Local.whole-mem 𝓤 H
+          A W (Declared'.row ReadyQueue.the-type);
+    }) (List._∷_ (Value.pVal record {
+      ty = Declared.row Event.the-type;
+      one = Path'.refl;
+      val = Laws'3.val Event.the-type Laws''.the-laws;
+      tells = Laws'3.tells Event.the-type Laws''.the-laws;
+      still = Laws'3.still Event.the-type Laws''.the-copy Exit.yes;
+      row = Rows'.whole (Declared.row Event.the-type);
+      rd = λ x. x;
+      mk = λ x. x;
+    } λ M 𝓤 H A W. record {
+      copies = Laws'3.copy Event.the-type Laws''.the-copy 𝓤 H A W;
+      lawful =
+          Laws'3.lawful Event.the-type Laws''.the-laws 𝓤 H A W tt;
+      makes = Laws'3.makes Event.the-type Laws''.the-plain 𝓤 H A;
+      in-mem = Local.mem-whole 𝓤 H A W (Declared.row Event.the-type);
+      of-mem = Local.whole-mem 𝓤 H A W (Declared.row
+          Event.the-type);
+    }) (List._∷_ (ShrSlice.pShrS (Referent.rtF (Referent.fInt Syntax.w16)) 4 tt) (List._∷_ (ShrSlice.pShrS (Referent.rtF (Referent.fInt Syntax.w8)) 5 tt) List.[])))))))
 
 abbrev pub r·0 : Kinds.RK 6
-r·0 = Value.rVal record { ty = Declared'.row Answered.the-type; one = Path'.refl; val = Laws'4.val Answered.the-type Laws'.the-laws; tells = Laws'4.tells Answered.the-type Laws'.the-laws; still = Laws'4.still Answered.the-type
-    Laws'.the-copy Exit.yes; row = Rows'.whole (Declared'.row Answered.the-type); rd = λ x. x; mk = λ x. x; } λ M 𝓤 H A W. record { copies = Laws'4.copy Answered.the-type Laws'.the-copy 𝓤 H A W; lawful = Laws'4.lawful Answered.the-type
-    Laws'.the-laws 𝓤 H A W; makes = Laws'4.makes Answered.the-type Laws'.the-plain 𝓤 H A; in-mem = Local.mem-whole 𝓤 H A W (Declared'.row Answered.the-type); of-mem = Local.whole-mem 𝓤 H A W (Declared'.row Answered.the-type); }
+r·0 = Value.rVal record {
+  ty = Declared'.row Answered.the-type;
+  one = Path'.refl;
+  val = Laws'4.val Answered.the-type Laws'.the-laws;
+  tells = Laws'4.tells Answered.the-type Laws'.the-laws;
+  still = Laws'4.still Answered.the-type
+      Laws'.the-copy Exit.yes;
+  row = Rows'.whole (Declared'.row Answered.the-type);
+  rd = λ x. x;
+  mk = λ x. x;
+} λ M 𝓤 H A W. record {
+  copies = Laws'4.copy Answered.the-type Laws'.the-copy 𝓤 H A W;
+  lawful = Laws'4.lawful Answered.the-type
+      Laws'.the-laws 𝓤 H A W;
+  makes = Laws'4.makes Answered.the-type Laws'.the-plain 𝓤 H A;
+  in-mem = Local.mem-whole 𝓤 H A W (Declared'.row Answered.the-type);
+  of-mem = Local.whole-mem 𝓤 H A W (Declared'.row Answered.the-type);
+}
 
 abbrev pub hs : List.List Syntax.Home
 hs = List._∷_ Syntax.valueLocal (List._∷_ Syntax.valueLocal (List._∷_ Syntax.valueLocal (List._∷_ Syntax.valueLocal (List._∷_ Syntax.valueLocal (List._∷_ Syntax.valueLocal (List._∷_ Syntax.valueLocal (List._∷_ Syntax.memorySlot
@@ -196,228 +268,636 @@ abbrev pub Claims : Type 1
 Claims = Kinds.In 6 ps·0 × Kinds.Out 6 ps·0 r·0
 
 abbrev pub t0 : List.List Row.Entry
-t0 = List._∷_ (0, Rows'.any-gone El.Answered) (List._∷_ (1, Mut.mslice El.row (Syntax.tyRef (Syntax.named 0) Syntax.mut El.named) 0) (List._∷_ (2, Mut.mslice (Referent.rtF (Referent.fInt Syntax.w64)) (Syntax.tyRef (Syntax.named 1)
-    Syntax.mut El.word) 1) (List._∷_ (3, Mut.mslice (Referent.rtF (Referent.fInt Syntax.w64)) (Syntax.tyRef (Syntax.named 2) Syntax.mut El.word) 2) (List._∷_ (4, Mut.mslice (Referent.rtF (Referent.fInt Syntax.w64)) (Syntax.tyRef
-    (Syntax.named 3) Syntax.mut El.word) 3) (List._∷_ (5, Rows'.whole (Declared'.row ReadyQueue.the-type)) (List._∷_ (6, Rows'.sslice (Referent.rtF (Referent.fInt Syntax.w8)) (Syntax.tyRef (Syntax.named 4) Syntax.imm (Syntax.tyInt
-    Syntax.w8)) 4) (List._∷_ (7, Rows'.any-gone (Syntax.tyArray (Syntax.tyInt Syntax.w16) 1)) (List._∷_ (8, Rows'.any-gone (Syntax.tyRef Syntax.erased Syntax.mut El.named)) (List._∷_ (9, Rows'.any-gone (Syntax.tyStruct (List._∷_ 38
-    (List._∷_ 91 (List._∷_ 93 List.[]))) (Syntax.tcons (Syntax.tyRef Syntax.erased Syntax.mut El.named) (Syntax.tcons El.word Syntax.tnil)))) (List._∷_ (10, Rows'.any-gone (Syntax.tyRef Syntax.erased Syntax.mut El.word)) (List._∷_ (11,
-    Rows'.any-gone (Syntax.tyStruct (List._∷_ 38 (List._∷_ 91 (List._∷_ 93 List.[]))) (Syntax.tcons (Syntax.tyRef Syntax.erased Syntax.mut El.word) (Syntax.tcons El.word Syntax.tnil)))) (List._∷_ (12, Rows'.any-gone (Syntax.tyRef
-    Syntax.erased Syntax.mut El.word)) (List._∷_ (13, Rows'.any-gone (Syntax.tyStruct (List._∷_ 38 (List._∷_ 91 (List._∷_ 93 List.[]))) (Syntax.tcons (Syntax.tyRef Syntax.erased Syntax.mut El.word) (Syntax.tcons El.word Syntax.tnil))))
-    (List._∷_ (14, Rows'.any-gone (Syntax.tyRef Syntax.erased Syntax.mut El.word)) (List._∷_ (15, Rows'.any-gone (Syntax.tyStruct (List._∷_ 38 (List._∷_ 91 (List._∷_ 93 List.[]))) (Syntax.tcons (Syntax.tyRef Syntax.erased Syntax.mut
-    El.word) (Syntax.tcons El.word Syntax.tnil)))) List.[])))))))))))))))
+t0 = List._∷_ (0, Rows'.any-gone El.Answered) (List._∷_ (1, Mut.mslice El.row (Syntax.tyRef (Syntax.named 0) Syntax.mut El.named) 0) (List._∷_ (
+  2,
+  Mut.mslice (Referent.rtF (Referent.fInt Syntax.w64)) (Syntax.tyRef (Syntax.named 1)
+      Syntax.mut El.word) 1,
+) (List._∷_ (3, Mut.mslice (Referent.rtF (Referent.fInt Syntax.w64)) (Syntax.tyRef (Syntax.named 2) Syntax.mut El.word) 2) (List._∷_ (
+  4,
+  Mut.mslice (Referent.rtF (Referent.fInt Syntax.w64)) (Syntax.tyRef
+      (Syntax.named 3) Syntax.mut El.word) 3,
+) (List._∷_ (5, Rows'.whole (Declared'.row ReadyQueue.the-type)) (List._∷_ (
+  6,
+  Rows'.sslice (Referent.rtF (Referent.fInt Syntax.w8)) (Syntax.tyRef (Syntax.named 4) Syntax.imm (Syntax.tyInt
+      Syntax.w8)) 4,
+) (List._∷_ (7, Rows'.any-gone (Syntax.tyArray (Syntax.tyInt Syntax.w16) 1)) (List._∷_ (8, Rows'.any-gone (Syntax.tyRef Syntax.erased Syntax.mut El.named)) (List._∷_ (
+  9,
+  Rows'.any-gone (Syntax.tyStruct (List._∷_ 38
+      (List._∷_ 91 (List._∷_ 93 List.[]))) (Syntax.tcons (Syntax.tyRef Syntax.erased Syntax.mut El.named) (Syntax.tcons El.word Syntax.tnil))),
+) (List._∷_ (10, Rows'.any-gone (Syntax.tyRef Syntax.erased Syntax.mut El.word)) (List._∷_ (
+  11,
+  Rows'.any-gone (Syntax.tyStruct (List._∷_ 38 (List._∷_ 91 (List._∷_ 93 List.[]))) (Syntax.tcons (Syntax.tyRef Syntax.erased Syntax.mut El.word) (Syntax.tcons El.word Syntax.tnil))),
+) (List._∷_ (
+  12,
+  Rows'.any-gone (Syntax.tyRef
+      Syntax.erased Syntax.mut El.word),
+) (List._∷_ (13, Rows'.any-gone (Syntax.tyStruct (List._∷_ 38 (List._∷_ 91 (List._∷_ 93 List.[]))) (Syntax.tcons (Syntax.tyRef Syntax.erased Syntax.mut El.word) (Syntax.tcons El.word Syntax.tnil))))
+    (List._∷_ (14, Rows'.any-gone (Syntax.tyRef Syntax.erased Syntax.mut El.word)) (List._∷_ (
+      15,
+      Rows'.any-gone (Syntax.tyStruct (List._∷_ 38 (List._∷_ 91 (List._∷_ 93 List.[]))) (Syntax.tcons (Syntax.tyRef Syntax.erased Syntax.mut
+          El.word) (Syntax.tcons El.word Syntax.tnil))),
+    ) List.[])))))))))))))))
 
 abbrev pub t1 : List.List Row.Entry
-t1 = List._∷_ (16, Rows'.any-gone El.Event) (List._∷_ (17, Rows'.any-gone (Syntax.tyRef Syntax.erased Syntax.imm (Syntax.tyArray (Syntax.tyInt Syntax.w16) 1))) (List._∷_ (18, Rows'.any-gone (Syntax.tyStruct (List._∷_ 38 (List._∷_ 91
-    (List._∷_ 93 List.[]))) (Syntax.tcons (Syntax.tyRef Syntax.erased Syntax.imm (Syntax.tyInt Syntax.w16)) (Syntax.tcons El.word Syntax.tnil)))) List.[]))
+t1 = List._∷_ (16, Rows'.any-gone El.Event) (List._∷_ (17, Rows'.any-gone (Syntax.tyRef Syntax.erased Syntax.imm (Syntax.tyArray (Syntax.tyInt Syntax.w16) 1))) (List._∷_ (
+  18,
+  Rows'.any-gone (Syntax.tyStruct (List._∷_ 38 (List._∷_ 91
+      (List._∷_ 93 List.[]))) (Syntax.tcons (Syntax.tyRef Syntax.erased Syntax.imm (Syntax.tyInt Syntax.w16)) (Syntax.tcons El.word Syntax.tnil))),
+) List.[]))
 
 abbrev pub t2 : List.List Row.Entry
-t2 = List._∷_ (0, Rows'.whole (Declared'.row Answered.the-type)) (List._∷_ (1, Mut.mslice El.row (Syntax.tyRef (Syntax.named 0) Syntax.mut El.named) 0) (List._∷_ (2, Mut.mslice (Referent.rtF (Referent.fInt Syntax.w64)) (Syntax.tyRef
-    (Syntax.named 1) Syntax.mut El.word) 1) (List._∷_ (3, Mut.mslice (Referent.rtF (Referent.fInt Syntax.w64)) (Syntax.tyRef (Syntax.named 2) Syntax.mut El.word) 2) (List._∷_ (4, Mut.mslice (Referent.rtF (Referent.fInt Syntax.w64))
-    (Syntax.tyRef (Syntax.named 3) Syntax.mut El.word) 3) (List._∷_ (5, Rows'.any-gone El.ReadyQueue) (List._∷_ (6, Rows'.sslice (Referent.rtF (Referent.fInt Syntax.w8)) (Syntax.tyRef (Syntax.named 4) Syntax.imm (Syntax.tyInt Syntax.w8))
-    4) (List._∷_ (7, Rows'.any-gone (Syntax.tyArray (Syntax.tyInt Syntax.w16) 1)) (List._∷_ (8, Rows'.any-gone (Syntax.tyRef Syntax.erased Syntax.mut El.named)) (List._∷_ (9, Rows'.any-gone (Syntax.tyStruct (List._∷_ 38 (List._∷_ 91
-    (List._∷_ 93 List.[]))) (Syntax.tcons (Syntax.tyRef Syntax.erased Syntax.mut El.named) (Syntax.tcons El.word Syntax.tnil)))) (List._∷_ (10, Rows'.any-gone (Syntax.tyRef Syntax.erased Syntax.mut El.word)) (List._∷_ (11, Rows'.any-gone
-    (Syntax.tyStruct (List._∷_ 38 (List._∷_ 91 (List._∷_ 93 List.[]))) (Syntax.tcons (Syntax.tyRef Syntax.erased Syntax.mut El.word) (Syntax.tcons El.word Syntax.tnil)))) (List._∷_ (12, Rows'.any-gone (Syntax.tyRef Syntax.erased
-    Syntax.mut El.word)) (List._∷_ (13, Rows'.any-gone (Syntax.tyStruct (List._∷_ 38 (List._∷_ 91 (List._∷_ 93 List.[]))) (Syntax.tcons (Syntax.tyRef Syntax.erased Syntax.mut El.word) (Syntax.tcons El.word Syntax.tnil)))) (List._∷_ (14,
-    Rows'.any-gone (Syntax.tyRef Syntax.erased Syntax.mut El.word)) (List._∷_ (15, Rows'.any-gone (Syntax.tyStruct (List._∷_ 38 (List._∷_ 91 (List._∷_ 93 List.[]))) (Syntax.tcons (Syntax.tyRef Syntax.erased Syntax.mut El.word)
-    (Syntax.tcons El.word Syntax.tnil)))) List.[])))))))))))))))
+t2 = List._∷_ (0, Rows'.whole (Declared'.row Answered.the-type)) (List._∷_ (1, Mut.mslice El.row (Syntax.tyRef (Syntax.named 0) Syntax.mut El.named) 0) (List._∷_ (
+  2,
+  Mut.mslice (Referent.rtF (Referent.fInt Syntax.w64)) (Syntax.tyRef
+      (Syntax.named 1) Syntax.mut El.word) 1,
+) (List._∷_ (3, Mut.mslice (Referent.rtF (Referent.fInt Syntax.w64)) (Syntax.tyRef (Syntax.named 2) Syntax.mut El.word) 2) (List._∷_ (
+  4,
+  Mut.mslice (Referent.rtF (Referent.fInt Syntax.w64))
+      (Syntax.tyRef (Syntax.named 3) Syntax.mut El.word) 3,
+) (List._∷_ (5, Rows'.any-gone El.ReadyQueue) (List._∷_ (
+  6,
+  Rows'.sslice (Referent.rtF (Referent.fInt Syntax.w8)) (Syntax.tyRef (Syntax.named 4) Syntax.imm (Syntax.tyInt Syntax.w8))
+      4,
+) (List._∷_ (7, Rows'.any-gone (Syntax.tyArray (Syntax.tyInt Syntax.w16) 1)) (List._∷_ (8, Rows'.any-gone (Syntax.tyRef Syntax.erased Syntax.mut El.named)) (List._∷_ (
+  9,
+  Rows'.any-gone (Syntax.tyStruct (List._∷_ 38 (List._∷_ 91
+      (List._∷_ 93 List.[]))) (Syntax.tcons (Syntax.tyRef Syntax.erased Syntax.mut El.named) (Syntax.tcons El.word Syntax.tnil))),
+) (List._∷_ (10, Rows'.any-gone (Syntax.tyRef Syntax.erased Syntax.mut El.word)) (List._∷_ (
+  11,
+  Rows'.any-gone
+      (Syntax.tyStruct (List._∷_ 38 (List._∷_ 91 (List._∷_ 93 List.[]))) (Syntax.tcons (Syntax.tyRef Syntax.erased Syntax.mut El.word) (Syntax.tcons El.word Syntax.tnil))),
+) (List._∷_ (
+  12,
+  Rows'.any-gone (Syntax.tyRef Syntax.erased
+      Syntax.mut El.word),
+) (List._∷_ (13, Rows'.any-gone (Syntax.tyStruct (List._∷_ 38 (List._∷_ 91 (List._∷_ 93 List.[]))) (Syntax.tcons (Syntax.tyRef Syntax.erased Syntax.mut El.word) (Syntax.tcons El.word Syntax.tnil)))) (List._∷_ (
+  14,
+  Rows'.any-gone (Syntax.tyRef Syntax.erased Syntax.mut El.word),
+) (List._∷_ (
+  15,
+  Rows'.any-gone (Syntax.tyStruct (List._∷_ 38 (List._∷_ 91 (List._∷_ 93 List.[]))) (Syntax.tcons (Syntax.tyRef Syntax.erased Syntax.mut El.word)
+      (Syntax.tcons El.word Syntax.tnil))),
+) List.[])))))))))))))))
 
 abbrev pub t3 : List.List Row.Entry
-t3 = List._∷_ (0, Rows'.any-gone El.Answered) (List._∷_ (1, Mut.mslice El.row (Syntax.tyRef (Syntax.named 0) Syntax.mut El.named) 0) (List._∷_ (2, Mut.mslice (Referent.rtF (Referent.fInt Syntax.w64)) (Syntax.tyRef (Syntax.named 1)
-    Syntax.mut El.word) 1) (List._∷_ (3, Mut.mslice (Referent.rtF (Referent.fInt Syntax.w64)) (Syntax.tyRef (Syntax.named 2) Syntax.mut El.word) 2) (List._∷_ (4, Mut.mslice (Referent.rtF (Referent.fInt Syntax.w64)) (Syntax.tyRef
-    (Syntax.named 3) Syntax.mut El.word) 3) (List._∷_ (5, Rows'.whole (Declared'.row ReadyQueue.the-type)) (List._∷_ (6, Rows'.sslice (Referent.rtF (Referent.fInt Syntax.w8)) (Syntax.tyRef (Syntax.named 4) Syntax.imm (Syntax.tyInt
-    Syntax.w8)) 4) (List._∷_ (7, Rows'.whole (Array.Array (Referent.rtF (Referent.fInt Syntax.w16)) 1)) (List._∷_ (8, Rows'.any-gone (Syntax.tyRef Syntax.erased Syntax.mut El.named)) (List._∷_ (9, Rows'.any-gone (Syntax.tyStruct
-    (List._∷_ 38 (List._∷_ 91 (List._∷_ 93 List.[]))) (Syntax.tcons (Syntax.tyRef Syntax.erased Syntax.mut El.named) (Syntax.tcons El.word Syntax.tnil)))) (List._∷_ (10, Rows'.any-gone (Syntax.tyRef Syntax.erased Syntax.mut El.word))
-    (List._∷_ (11, Rows'.any-gone (Syntax.tyStruct (List._∷_ 38 (List._∷_ 91 (List._∷_ 93 List.[]))) (Syntax.tcons (Syntax.tyRef Syntax.erased Syntax.mut El.word) (Syntax.tcons El.word Syntax.tnil)))) (List._∷_ (12, Rows'.any-gone
-    (Syntax.tyRef Syntax.erased Syntax.mut El.word)) (List._∷_ (13, Rows'.any-gone (Syntax.tyStruct (List._∷_ 38 (List._∷_ 91 (List._∷_ 93 List.[]))) (Syntax.tcons (Syntax.tyRef Syntax.erased Syntax.mut El.word) (Syntax.tcons El.word
-    Syntax.tnil)))) (List._∷_ (14, Rows'.any-gone (Syntax.tyRef Syntax.erased Syntax.mut El.word)) (List._∷_ (15, Rows'.any-gone (Syntax.tyStruct (List._∷_ 38 (List._∷_ 91 (List._∷_ 93 List.[]))) (Syntax.tcons (Syntax.tyRef
-    Syntax.erased Syntax.mut El.word) (Syntax.tcons El.word Syntax.tnil)))) List.[])))))))))))))))
+t3 = List._∷_ (0, Rows'.any-gone El.Answered) (List._∷_ (1, Mut.mslice El.row (Syntax.tyRef (Syntax.named 0) Syntax.mut El.named) 0) (List._∷_ (
+  2,
+  Mut.mslice (Referent.rtF (Referent.fInt Syntax.w64)) (Syntax.tyRef (Syntax.named 1)
+      Syntax.mut El.word) 1,
+) (List._∷_ (3, Mut.mslice (Referent.rtF (Referent.fInt Syntax.w64)) (Syntax.tyRef (Syntax.named 2) Syntax.mut El.word) 2) (List._∷_ (
+  4,
+  Mut.mslice (Referent.rtF (Referent.fInt Syntax.w64)) (Syntax.tyRef
+      (Syntax.named 3) Syntax.mut El.word) 3,
+) (List._∷_ (5, Rows'.whole (Declared'.row ReadyQueue.the-type)) (List._∷_ (
+  6,
+  Rows'.sslice (Referent.rtF (Referent.fInt Syntax.w8)) (Syntax.tyRef (Syntax.named 4) Syntax.imm (Syntax.tyInt
+      Syntax.w8)) 4,
+) (List._∷_ (7, Rows'.whole (Array.Array (Referent.rtF (Referent.fInt Syntax.w16)) 1)) (List._∷_ (8, Rows'.any-gone (Syntax.tyRef Syntax.erased Syntax.mut El.named)) (List._∷_ (
+  9,
+  Rows'.any-gone (Syntax.tyStruct
+      (List._∷_ 38 (List._∷_ 91 (List._∷_ 93 List.[]))) (Syntax.tcons (Syntax.tyRef Syntax.erased Syntax.mut El.named) (Syntax.tcons El.word Syntax.tnil))),
+) (List._∷_ (10, Rows'.any-gone (Syntax.tyRef Syntax.erased Syntax.mut El.word))
+    (List._∷_ (11, Rows'.any-gone (Syntax.tyStruct (List._∷_ 38 (List._∷_ 91 (List._∷_ 93 List.[]))) (Syntax.tcons (Syntax.tyRef Syntax.erased Syntax.mut El.word) (Syntax.tcons El.word Syntax.tnil)))) (List._∷_ (
+      12,
+      Rows'.any-gone
+          (Syntax.tyRef Syntax.erased Syntax.mut El.word),
+    ) (List._∷_ (
+      13,
+      Rows'.any-gone (Syntax.tyStruct (List._∷_ 38 (List._∷_ 91 (List._∷_ 93 List.[]))) (Syntax.tcons (Syntax.tyRef Syntax.erased Syntax.mut El.word) (Syntax.tcons El.word
+          Syntax.tnil))),
+    ) (List._∷_ (14, Rows'.any-gone (Syntax.tyRef Syntax.erased Syntax.mut El.word)) (List._∷_ (
+      15,
+      Rows'.any-gone (Syntax.tyStruct (List._∷_ 38 (List._∷_ 91 (List._∷_ 93 List.[]))) (Syntax.tcons (Syntax.tyRef
+          Syntax.erased Syntax.mut El.word) (Syntax.tcons El.word Syntax.tnil))),
+    ) List.[])))))))))))))))
 
 abbrev pub t4 : List.List Row.Entry
-t4 = List._∷_ (0, Rows'.any-gone El.Answered) (List._∷_ (1, Mut.mslice El.row (Syntax.tyRef (Syntax.named 0) Syntax.mut El.named) 0) (List._∷_ (2, Mut.mslice (Referent.rtF (Referent.fInt Syntax.w64)) (Syntax.tyRef (Syntax.named 1)
-    Syntax.mut El.word) 1) (List._∷_ (3, Mut.mslice (Referent.rtF (Referent.fInt Syntax.w64)) (Syntax.tyRef (Syntax.named 2) Syntax.mut El.word) 2) (List._∷_ (4, Mut.mslice (Referent.rtF (Referent.fInt Syntax.w64)) (Syntax.tyRef
-    (Syntax.named 3) Syntax.mut El.word) 3) (List._∷_ (5, Rows'.whole (Declared'.row ReadyQueue.the-type)) (List._∷_ (6, Rows'.sslice (Referent.rtF (Referent.fInt Syntax.w8)) (Syntax.tyRef (Syntax.named 4) Syntax.imm (Syntax.tyInt
-    Syntax.w8)) 4) (List._∷_ (7, Rows.arrF (Referent.rtF (Referent.fInt Syntax.w16)) 1 0) (List._∷_ (8, Rows'.any-gone (Syntax.tyRef Syntax.erased Syntax.mut El.named)) (List._∷_ (9, Rows'.any-gone (Syntax.tyStruct (List._∷_ 38
-    (List._∷_ 91 (List._∷_ 93 List.[]))) (Syntax.tcons (Syntax.tyRef Syntax.erased Syntax.mut El.named) (Syntax.tcons El.word Syntax.tnil)))) (List._∷_ (10, Rows'.any-gone (Syntax.tyRef Syntax.erased Syntax.mut El.word)) (List._∷_ (11,
-    Rows'.any-gone (Syntax.tyStruct (List._∷_ 38 (List._∷_ 91 (List._∷_ 93 List.[]))) (Syntax.tcons (Syntax.tyRef Syntax.erased Syntax.mut El.word) (Syntax.tcons El.word Syntax.tnil)))) (List._∷_ (12, Rows'.any-gone (Syntax.tyRef
-    Syntax.erased Syntax.mut El.word)) (List._∷_ (13, Rows'.any-gone (Syntax.tyStruct (List._∷_ 38 (List._∷_ 91 (List._∷_ 93 List.[]))) (Syntax.tcons (Syntax.tyRef Syntax.erased Syntax.mut El.word) (Syntax.tcons El.word Syntax.tnil))))
-    (List._∷_ (14, Rows'.any-gone (Syntax.tyRef Syntax.erased Syntax.mut El.word)) (List._∷_ (15, Rows'.any-gone (Syntax.tyStruct (List._∷_ 38 (List._∷_ 91 (List._∷_ 93 List.[]))) (Syntax.tcons (Syntax.tyRef Syntax.erased Syntax.mut
-    El.word) (Syntax.tcons El.word Syntax.tnil)))) List.[])))))))))))))))
+t4 = List._∷_ (0, Rows'.any-gone El.Answered) (List._∷_ (1, Mut.mslice El.row (Syntax.tyRef (Syntax.named 0) Syntax.mut El.named) 0) (List._∷_ (
+  2,
+  Mut.mslice (Referent.rtF (Referent.fInt Syntax.w64)) (Syntax.tyRef (Syntax.named 1)
+      Syntax.mut El.word) 1,
+) (List._∷_ (3, Mut.mslice (Referent.rtF (Referent.fInt Syntax.w64)) (Syntax.tyRef (Syntax.named 2) Syntax.mut El.word) 2) (List._∷_ (
+  4,
+  Mut.mslice (Referent.rtF (Referent.fInt Syntax.w64)) (Syntax.tyRef
+      (Syntax.named 3) Syntax.mut El.word) 3,
+) (List._∷_ (5, Rows'.whole (Declared'.row ReadyQueue.the-type)) (List._∷_ (
+  6,
+  Rows'.sslice (Referent.rtF (Referent.fInt Syntax.w8)) (Syntax.tyRef (Syntax.named 4) Syntax.imm (Syntax.tyInt
+      Syntax.w8)) 4,
+) (List._∷_ (7, Rows.arrF (Referent.rtF (Referent.fInt Syntax.w16)) 1 0) (List._∷_ (8, Rows'.any-gone (Syntax.tyRef Syntax.erased Syntax.mut El.named)) (List._∷_ (
+  9,
+  Rows'.any-gone (Syntax.tyStruct (List._∷_ 38
+      (List._∷_ 91 (List._∷_ 93 List.[]))) (Syntax.tcons (Syntax.tyRef Syntax.erased Syntax.mut El.named) (Syntax.tcons El.word Syntax.tnil))),
+) (List._∷_ (10, Rows'.any-gone (Syntax.tyRef Syntax.erased Syntax.mut El.word)) (List._∷_ (
+  11,
+  Rows'.any-gone (Syntax.tyStruct (List._∷_ 38 (List._∷_ 91 (List._∷_ 93 List.[]))) (Syntax.tcons (Syntax.tyRef Syntax.erased Syntax.mut El.word) (Syntax.tcons El.word Syntax.tnil))),
+) (List._∷_ (
+  12,
+  Rows'.any-gone (Syntax.tyRef
+      Syntax.erased Syntax.mut El.word),
+) (List._∷_ (13, Rows'.any-gone (Syntax.tyStruct (List._∷_ 38 (List._∷_ 91 (List._∷_ 93 List.[]))) (Syntax.tcons (Syntax.tyRef Syntax.erased Syntax.mut El.word) (Syntax.tcons El.word Syntax.tnil))))
+    (List._∷_ (14, Rows'.any-gone (Syntax.tyRef Syntax.erased Syntax.mut El.word)) (List._∷_ (
+      15,
+      Rows'.any-gone (Syntax.tyStruct (List._∷_ 38 (List._∷_ 91 (List._∷_ 93 List.[]))) (Syntax.tcons (Syntax.tyRef Syntax.erased Syntax.mut
+          El.word) (Syntax.tcons El.word Syntax.tnil))),
+    ) List.[])))))))))))))))
 
 abbrev pub t5 : List.List Row.Entry
-t5 = List._∷_ (0, Rows'.any-gone El.Answered) (List._∷_ (1, Relend.mslice-owed El.row (Syntax.tyRef (Syntax.named 0) Syntax.mut El.named) 0 5 Row.off) (List._∷_ (2, Mut.mslice (Referent.rtF (Referent.fInt Syntax.w64)) (Syntax.tyRef
-    (Syntax.named 1) Syntax.mut El.word) 1) (List._∷_ (3, Mut.mslice (Referent.rtF (Referent.fInt Syntax.w64)) (Syntax.tyRef (Syntax.named 2) Syntax.mut El.word) 2) (List._∷_ (4, Mut.mslice (Referent.rtF (Referent.fInt Syntax.w64))
-    (Syntax.tyRef (Syntax.named 3) Syntax.mut El.word) 3) (List._∷_ (5, Rows'.whole (Declared'.row ReadyQueue.the-type)) (List._∷_ (6, Rows'.sslice (Referent.rtF (Referent.fInt Syntax.w8)) (Syntax.tyRef (Syntax.named 4) Syntax.imm
-    (Syntax.tyInt Syntax.w8)) 4) (List._∷_ (7, Rows.arrF (Referent.rtF (Referent.fInt Syntax.w16)) 1 0) (List._∷_ (8, Relend.msptr El.row (Syntax.tyRef Syntax.erased Syntax.mut El.named) 5) (List._∷_ (9, Rows'.any-gone (Syntax.tyStruct
-    (List._∷_ 38 (List._∷_ 91 (List._∷_ 93 List.[]))) (Syntax.tcons (Syntax.tyRef Syntax.erased Syntax.mut El.named) (Syntax.tcons El.word Syntax.tnil)))) (List._∷_ (10, Rows'.any-gone (Syntax.tyRef Syntax.erased Syntax.mut El.word))
-    (List._∷_ (11, Rows'.any-gone (Syntax.tyStruct (List._∷_ 38 (List._∷_ 91 (List._∷_ 93 List.[]))) (Syntax.tcons (Syntax.tyRef Syntax.erased Syntax.mut El.word) (Syntax.tcons El.word Syntax.tnil)))) (List._∷_ (12, Rows'.any-gone
-    (Syntax.tyRef Syntax.erased Syntax.mut El.word)) (List._∷_ (13, Rows'.any-gone (Syntax.tyStruct (List._∷_ 38 (List._∷_ 91 (List._∷_ 93 List.[]))) (Syntax.tcons (Syntax.tyRef Syntax.erased Syntax.mut El.word) (Syntax.tcons El.word
-    Syntax.tnil)))) (List._∷_ (14, Rows'.any-gone (Syntax.tyRef Syntax.erased Syntax.mut El.word)) (List._∷_ (15, Rows'.any-gone (Syntax.tyStruct (List._∷_ 38 (List._∷_ 91 (List._∷_ 93 List.[]))) (Syntax.tcons (Syntax.tyRef
-    Syntax.erased Syntax.mut El.word) (Syntax.tcons El.word Syntax.tnil)))) List.[])))))))))))))))
+t5 = List._∷_ (0, Rows'.any-gone El.Answered) (List._∷_ (1, Relend.mslice-owed El.row (Syntax.tyRef (Syntax.named 0) Syntax.mut El.named) 0 5 Row.off) (List._∷_ (
+  2,
+  Mut.mslice (Referent.rtF (Referent.fInt Syntax.w64)) (Syntax.tyRef
+      (Syntax.named 1) Syntax.mut El.word) 1,
+) (List._∷_ (3, Mut.mslice (Referent.rtF (Referent.fInt Syntax.w64)) (Syntax.tyRef (Syntax.named 2) Syntax.mut El.word) 2) (List._∷_ (
+  4,
+  Mut.mslice (Referent.rtF (Referent.fInt Syntax.w64))
+      (Syntax.tyRef (Syntax.named 3) Syntax.mut El.word) 3,
+) (List._∷_ (5, Rows'.whole (Declared'.row ReadyQueue.the-type)) (List._∷_ (
+  6,
+  Rows'.sslice (Referent.rtF (Referent.fInt Syntax.w8)) (Syntax.tyRef (Syntax.named 4) Syntax.imm
+      (Syntax.tyInt Syntax.w8)) 4,
+) (List._∷_ (7, Rows.arrF (Referent.rtF (Referent.fInt Syntax.w16)) 1 0) (List._∷_ (8, Relend.msptr El.row (Syntax.tyRef Syntax.erased Syntax.mut El.named) 5) (List._∷_ (
+  9,
+  Rows'.any-gone (Syntax.tyStruct
+      (List._∷_ 38 (List._∷_ 91 (List._∷_ 93 List.[]))) (Syntax.tcons (Syntax.tyRef Syntax.erased Syntax.mut El.named) (Syntax.tcons El.word Syntax.tnil))),
+) (List._∷_ (10, Rows'.any-gone (Syntax.tyRef Syntax.erased Syntax.mut El.word))
+    (List._∷_ (11, Rows'.any-gone (Syntax.tyStruct (List._∷_ 38 (List._∷_ 91 (List._∷_ 93 List.[]))) (Syntax.tcons (Syntax.tyRef Syntax.erased Syntax.mut El.word) (Syntax.tcons El.word Syntax.tnil)))) (List._∷_ (
+      12,
+      Rows'.any-gone
+          (Syntax.tyRef Syntax.erased Syntax.mut El.word),
+    ) (List._∷_ (
+      13,
+      Rows'.any-gone (Syntax.tyStruct (List._∷_ 38 (List._∷_ 91 (List._∷_ 93 List.[]))) (Syntax.tcons (Syntax.tyRef Syntax.erased Syntax.mut El.word) (Syntax.tcons El.word
+          Syntax.tnil))),
+    ) (List._∷_ (14, Rows'.any-gone (Syntax.tyRef Syntax.erased Syntax.mut El.word)) (List._∷_ (
+      15,
+      Rows'.any-gone (Syntax.tyStruct (List._∷_ 38 (List._∷_ 91 (List._∷_ 93 List.[]))) (Syntax.tcons (Syntax.tyRef
+          Syntax.erased Syntax.mut El.word) (Syntax.tcons El.word Syntax.tnil))),
+    ) List.[])))))))))))))))
 
 abbrev pub t6 : List.List Row.Entry
-t6 = List._∷_ (0, Rows'.any-gone El.Answered) (List._∷_ (1, Relend.mslice-owed El.row (Syntax.tyRef (Syntax.named 0) Syntax.mut El.named) 0 5 Row.off) (List._∷_ (2, Mut.mslice (Referent.rtF (Referent.fInt Syntax.w64)) (Syntax.tyRef
-    (Syntax.named 1) Syntax.mut El.word) 1) (List._∷_ (3, Mut.mslice (Referent.rtF (Referent.fInt Syntax.w64)) (Syntax.tyRef (Syntax.named 2) Syntax.mut El.word) 2) (List._∷_ (4, Mut.mslice (Referent.rtF (Referent.fInt Syntax.w64))
-    (Syntax.tyRef (Syntax.named 3) Syntax.mut El.word) 3) (List._∷_ (5, Rows'.whole (Declared'.row ReadyQueue.the-type)) (List._∷_ (6, Rows'.sslice (Referent.rtF (Referent.fInt Syntax.w8)) (Syntax.tyRef (Syntax.named 4) Syntax.imm
-    (Syntax.tyInt Syntax.w8)) 4) (List._∷_ (7, Rows.arrF (Referent.rtF (Referent.fInt Syntax.w16)) 1 0) (List._∷_ (8, Rows'.any-gone (Syntax.tyRef Syntax.erased Syntax.mut El.named)) (List._∷_ (9, Mut.mslice El.row (Syntax.tyRef
-    Syntax.erased Syntax.mut El.named) 5) (List._∷_ (10, Rows'.any-gone (Syntax.tyRef Syntax.erased Syntax.mut El.word)) (List._∷_ (11, Rows'.any-gone (Syntax.tyStruct (List._∷_ 38 (List._∷_ 91 (List._∷_ 93 List.[]))) (Syntax.tcons
-    (Syntax.tyRef Syntax.erased Syntax.mut El.word) (Syntax.tcons El.word Syntax.tnil)))) (List._∷_ (12, Rows'.any-gone (Syntax.tyRef Syntax.erased Syntax.mut El.word)) (List._∷_ (13, Rows'.any-gone (Syntax.tyStruct (List._∷_ 38 (List._∷_
-    91 (List._∷_ 93 List.[]))) (Syntax.tcons (Syntax.tyRef Syntax.erased Syntax.mut El.word) (Syntax.tcons El.word Syntax.tnil)))) (List._∷_ (14, Rows'.any-gone (Syntax.tyRef Syntax.erased Syntax.mut El.word)) (List._∷_ (15,
-    Rows'.any-gone (Syntax.tyStruct (List._∷_ 38 (List._∷_ 91 (List._∷_ 93 List.[]))) (Syntax.tcons (Syntax.tyRef Syntax.erased Syntax.mut El.word) (Syntax.tcons El.word Syntax.tnil)))) List.[])))))))))))))))
+t6 = List._∷_ (0, Rows'.any-gone El.Answered) (List._∷_ (1, Relend.mslice-owed El.row (Syntax.tyRef (Syntax.named 0) Syntax.mut El.named) 0 5 Row.off) (List._∷_ (
+  2,
+  Mut.mslice (Referent.rtF (Referent.fInt Syntax.w64)) (Syntax.tyRef
+      (Syntax.named 1) Syntax.mut El.word) 1,
+) (List._∷_ (3, Mut.mslice (Referent.rtF (Referent.fInt Syntax.w64)) (Syntax.tyRef (Syntax.named 2) Syntax.mut El.word) 2) (List._∷_ (
+  4,
+  Mut.mslice (Referent.rtF (Referent.fInt Syntax.w64))
+      (Syntax.tyRef (Syntax.named 3) Syntax.mut El.word) 3,
+) (List._∷_ (5, Rows'.whole (Declared'.row ReadyQueue.the-type)) (List._∷_ (
+  6,
+  Rows'.sslice (Referent.rtF (Referent.fInt Syntax.w8)) (Syntax.tyRef (Syntax.named 4) Syntax.imm
+      (Syntax.tyInt Syntax.w8)) 4,
+) (List._∷_ (7, Rows.arrF (Referent.rtF (Referent.fInt Syntax.w16)) 1 0) (List._∷_ (8, Rows'.any-gone (Syntax.tyRef Syntax.erased Syntax.mut El.named)) (List._∷_ (
+  9,
+  Mut.mslice El.row (Syntax.tyRef
+      Syntax.erased Syntax.mut El.named) 5,
+) (List._∷_ (10, Rows'.any-gone (Syntax.tyRef Syntax.erased Syntax.mut El.word)) (List._∷_ (
+  11,
+  Rows'.any-gone (Syntax.tyStruct (List._∷_ 38 (List._∷_ 91 (List._∷_ 93 List.[]))) (Syntax.tcons
+      (Syntax.tyRef Syntax.erased Syntax.mut El.word) (Syntax.tcons El.word Syntax.tnil))),
+) (List._∷_ (12, Rows'.any-gone (Syntax.tyRef Syntax.erased Syntax.mut El.word)) (List._∷_ (
+  13,
+  Rows'.any-gone (Syntax.tyStruct (List._∷_ 38 (List._∷_
+      91 (List._∷_ 93 List.[]))) (Syntax.tcons (Syntax.tyRef Syntax.erased Syntax.mut El.word) (Syntax.tcons El.word Syntax.tnil))),
+) (List._∷_ (14, Rows'.any-gone (Syntax.tyRef Syntax.erased Syntax.mut El.word)) (List._∷_ (
+  15,
+  Rows'.any-gone (Syntax.tyStruct (List._∷_ 38 (List._∷_ 91 (List._∷_ 93 List.[]))) (Syntax.tcons (Syntax.tyRef Syntax.erased Syntax.mut El.word) (Syntax.tcons El.word Syntax.tnil))),
+) List.[])))))))))))))))
 
 abbrev pub t7 : List.List Row.Entry
-t7 = List._∷_ (0, Rows'.any-gone El.Answered) (List._∷_ (1, Relend.mslice-owed El.row (Syntax.tyRef (Syntax.named 0) Syntax.mut El.named) 0 5 Row.off) (List._∷_ (2, Relend.mslice-owed (Referent.rtF (Referent.fInt Syntax.w64))
-    (Syntax.tyRef (Syntax.named 1) Syntax.mut El.word) 1 6 Row.off) (List._∷_ (3, Mut.mslice (Referent.rtF (Referent.fInt Syntax.w64)) (Syntax.tyRef (Syntax.named 2) Syntax.mut El.word) 2) (List._∷_ (4, Mut.mslice (Referent.rtF
-    (Referent.fInt Syntax.w64)) (Syntax.tyRef (Syntax.named 3) Syntax.mut El.word) 3) (List._∷_ (5, Rows'.whole (Declared'.row ReadyQueue.the-type)) (List._∷_ (6, Rows'.sslice (Referent.rtF (Referent.fInt Syntax.w8)) (Syntax.tyRef
-    (Syntax.named 4) Syntax.imm (Syntax.tyInt Syntax.w8)) 4) (List._∷_ (7, Rows.arrF (Referent.rtF (Referent.fInt Syntax.w16)) 1 0) (List._∷_ (8, Rows'.any-gone (Syntax.tyRef Syntax.erased Syntax.mut El.named)) (List._∷_ (9, Mut.mslice
-    El.row (Syntax.tyRef Syntax.erased Syntax.mut El.named) 5) (List._∷_ (10, Relend.msptr (Referent.rtF (Referent.fInt Syntax.w64)) (Syntax.tyRef Syntax.erased Syntax.mut El.word) 6) (List._∷_ (11, Rows'.any-gone (Syntax.tyStruct
-    (List._∷_ 38 (List._∷_ 91 (List._∷_ 93 List.[]))) (Syntax.tcons (Syntax.tyRef Syntax.erased Syntax.mut El.word) (Syntax.tcons El.word Syntax.tnil)))) (List._∷_ (12, Rows'.any-gone (Syntax.tyRef Syntax.erased Syntax.mut El.word))
-    (List._∷_ (13, Rows'.any-gone (Syntax.tyStruct (List._∷_ 38 (List._∷_ 91 (List._∷_ 93 List.[]))) (Syntax.tcons (Syntax.tyRef Syntax.erased Syntax.mut El.word) (Syntax.tcons El.word Syntax.tnil)))) (List._∷_ (14, Rows'.any-gone
-    (Syntax.tyRef Syntax.erased Syntax.mut El.word)) (List._∷_ (15, Rows'.any-gone (Syntax.tyStruct (List._∷_ 38 (List._∷_ 91 (List._∷_ 93 List.[]))) (Syntax.tcons (Syntax.tyRef Syntax.erased Syntax.mut El.word) (Syntax.tcons El.word
-    Syntax.tnil)))) List.[])))))))))))))))
+t7 = List._∷_ (0, Rows'.any-gone El.Answered) (List._∷_ (1, Relend.mslice-owed El.row (Syntax.tyRef (Syntax.named 0) Syntax.mut El.named) 0 5 Row.off) (List._∷_ (
+  2,
+  Relend.mslice-owed (Referent.rtF (Referent.fInt Syntax.w64))
+      (Syntax.tyRef (Syntax.named 1) Syntax.mut El.word) 1 6 Row.off,
+) (List._∷_ (3, Mut.mslice (Referent.rtF (Referent.fInt Syntax.w64)) (Syntax.tyRef (Syntax.named 2) Syntax.mut El.word) 2) (List._∷_ (
+  4,
+  Mut.mslice (Referent.rtF
+      (Referent.fInt Syntax.w64)) (Syntax.tyRef (Syntax.named 3) Syntax.mut El.word) 3,
+) (List._∷_ (5, Rows'.whole (Declared'.row ReadyQueue.the-type)) (List._∷_ (
+  6,
+  Rows'.sslice (Referent.rtF (Referent.fInt Syntax.w8)) (Syntax.tyRef
+      (Syntax.named 4) Syntax.imm (Syntax.tyInt Syntax.w8)) 4,
+) (List._∷_ (7, Rows.arrF (Referent.rtF (Referent.fInt Syntax.w16)) 1 0) (List._∷_ (8, Rows'.any-gone (Syntax.tyRef Syntax.erased Syntax.mut El.named)) (List._∷_ (
+  9,
+  Mut.mslice
+      El.row (Syntax.tyRef Syntax.erased Syntax.mut El.named) 5,
+) (List._∷_ (10, Relend.msptr (Referent.rtF (Referent.fInt Syntax.w64)) (Syntax.tyRef Syntax.erased Syntax.mut El.word) 6) (List._∷_ (
+  11,
+  Rows'.any-gone (Syntax.tyStruct
+      (List._∷_ 38 (List._∷_ 91 (List._∷_ 93 List.[]))) (Syntax.tcons (Syntax.tyRef Syntax.erased Syntax.mut El.word) (Syntax.tcons El.word Syntax.tnil))),
+) (List._∷_ (12, Rows'.any-gone (Syntax.tyRef Syntax.erased Syntax.mut El.word))
+    (List._∷_ (13, Rows'.any-gone (Syntax.tyStruct (List._∷_ 38 (List._∷_ 91 (List._∷_ 93 List.[]))) (Syntax.tcons (Syntax.tyRef Syntax.erased Syntax.mut El.word) (Syntax.tcons El.word Syntax.tnil)))) (List._∷_ (
+      14,
+      Rows'.any-gone
+          (Syntax.tyRef Syntax.erased Syntax.mut El.word),
+    ) (List._∷_ (
+      15,
+      Rows'.any-gone (Syntax.tyStruct (List._∷_ 38 (List._∷_ 91 (List._∷_ 93 List.[]))) (Syntax.tcons (Syntax.tyRef Syntax.erased Syntax.mut El.word) (Syntax.tcons El.word
+          Syntax.tnil))),
+    ) List.[])))))))))))))))
 
 abbrev pub t8 : List.List Row.Entry
-t8 = List._∷_ (0, Rows'.any-gone El.Answered) (List._∷_ (1, Relend.mslice-owed El.row (Syntax.tyRef (Syntax.named 0) Syntax.mut El.named) 0 5 Row.off) (List._∷_ (2, Relend.mslice-owed (Referent.rtF (Referent.fInt Syntax.w64))
-    (Syntax.tyRef (Syntax.named 1) Syntax.mut El.word) 1 6 Row.off) (List._∷_ (3, Mut.mslice (Referent.rtF (Referent.fInt Syntax.w64)) (Syntax.tyRef (Syntax.named 2) Syntax.mut El.word) 2) (List._∷_ (4, Mut.mslice (Referent.rtF
-    (Referent.fInt Syntax.w64)) (Syntax.tyRef (Syntax.named 3) Syntax.mut El.word) 3) (List._∷_ (5, Rows'.whole (Declared'.row ReadyQueue.the-type)) (List._∷_ (6, Rows'.sslice (Referent.rtF (Referent.fInt Syntax.w8)) (Syntax.tyRef
-    (Syntax.named 4) Syntax.imm (Syntax.tyInt Syntax.w8)) 4) (List._∷_ (7, Rows.arrF (Referent.rtF (Referent.fInt Syntax.w16)) 1 0) (List._∷_ (8, Rows'.any-gone (Syntax.tyRef Syntax.erased Syntax.mut El.named)) (List._∷_ (9, Mut.mslice
-    El.row (Syntax.tyRef Syntax.erased Syntax.mut El.named) 5) (List._∷_ (10, Rows'.any-gone (Syntax.tyRef Syntax.erased Syntax.mut El.word)) (List._∷_ (11, Mut.mslice (Referent.rtF (Referent.fInt Syntax.w64)) (Syntax.tyRef Syntax.erased
-    Syntax.mut El.word) 6) (List._∷_ (12, Rows'.any-gone (Syntax.tyRef Syntax.erased Syntax.mut El.word)) (List._∷_ (13, Rows'.any-gone (Syntax.tyStruct (List._∷_ 38 (List._∷_ 91 (List._∷_ 93 List.[]))) (Syntax.tcons (Syntax.tyRef
-    Syntax.erased Syntax.mut El.word) (Syntax.tcons El.word Syntax.tnil)))) (List._∷_ (14, Rows'.any-gone (Syntax.tyRef Syntax.erased Syntax.mut El.word)) (List._∷_ (15, Rows'.any-gone (Syntax.tyStruct (List._∷_ 38 (List._∷_ 91 (List._∷_
-    93 List.[]))) (Syntax.tcons (Syntax.tyRef Syntax.erased Syntax.mut El.word) (Syntax.tcons El.word Syntax.tnil)))) List.[])))))))))))))))
+t8 = List._∷_ (0, Rows'.any-gone El.Answered) (List._∷_ (1, Relend.mslice-owed El.row (Syntax.tyRef (Syntax.named 0) Syntax.mut El.named) 0 5 Row.off) (List._∷_ (
+  2,
+  Relend.mslice-owed (Referent.rtF (Referent.fInt Syntax.w64))
+      (Syntax.tyRef (Syntax.named 1) Syntax.mut El.word) 1 6 Row.off,
+) (List._∷_ (3, Mut.mslice (Referent.rtF (Referent.fInt Syntax.w64)) (Syntax.tyRef (Syntax.named 2) Syntax.mut El.word) 2) (List._∷_ (
+  4,
+  Mut.mslice (Referent.rtF
+      (Referent.fInt Syntax.w64)) (Syntax.tyRef (Syntax.named 3) Syntax.mut El.word) 3,
+) (List._∷_ (5, Rows'.whole (Declared'.row ReadyQueue.the-type)) (List._∷_ (
+  6,
+  Rows'.sslice (Referent.rtF (Referent.fInt Syntax.w8)) (Syntax.tyRef
+      (Syntax.named 4) Syntax.imm (Syntax.tyInt Syntax.w8)) 4,
+) (List._∷_ (7, Rows.arrF (Referent.rtF (Referent.fInt Syntax.w16)) 1 0) (List._∷_ (8, Rows'.any-gone (Syntax.tyRef Syntax.erased Syntax.mut El.named)) (List._∷_ (
+  9,
+  Mut.mslice
+      El.row (Syntax.tyRef Syntax.erased Syntax.mut El.named) 5,
+) (List._∷_ (10, Rows'.any-gone (Syntax.tyRef Syntax.erased Syntax.mut El.word)) (List._∷_ (
+  11,
+  Mut.mslice (Referent.rtF (Referent.fInt Syntax.w64)) (Syntax.tyRef Syntax.erased
+      Syntax.mut El.word) 6,
+) (List._∷_ (12, Rows'.any-gone (Syntax.tyRef Syntax.erased Syntax.mut El.word)) (List._∷_ (
+  13,
+  Rows'.any-gone (Syntax.tyStruct (List._∷_ 38 (List._∷_ 91 (List._∷_ 93 List.[]))) (Syntax.tcons (Syntax.tyRef
+      Syntax.erased Syntax.mut El.word) (Syntax.tcons El.word Syntax.tnil))),
+) (List._∷_ (14, Rows'.any-gone (Syntax.tyRef Syntax.erased Syntax.mut El.word)) (List._∷_ (
+  15,
+  Rows'.any-gone (Syntax.tyStruct (List._∷_ 38 (List._∷_ 91 (List._∷_
+      93 List.[]))) (Syntax.tcons (Syntax.tyRef Syntax.erased Syntax.mut El.word) (Syntax.tcons El.word Syntax.tnil))),
+) List.[])))))))))))))))
 
 abbrev pub t9 : List.List Row.Entry
-t9 = List._∷_ (0, Rows'.any-gone El.Answered) (List._∷_ (1, Relend.mslice-owed El.row (Syntax.tyRef (Syntax.named 0) Syntax.mut El.named) 0 5 Row.off) (List._∷_ (2, Relend.mslice-owed (Referent.rtF (Referent.fInt Syntax.w64))
-    (Syntax.tyRef (Syntax.named 1) Syntax.mut El.word) 1 6 Row.off) (List._∷_ (3, Relend.mslice-owed (Referent.rtF (Referent.fInt Syntax.w64)) (Syntax.tyRef (Syntax.named 2) Syntax.mut El.word) 2 7 Row.off) (List._∷_ (4, Mut.mslice
-    (Referent.rtF (Referent.fInt Syntax.w64)) (Syntax.tyRef (Syntax.named 3) Syntax.mut El.word) 3) (List._∷_ (5, Rows'.whole (Declared'.row ReadyQueue.the-type)) (List._∷_ (6, Rows'.sslice (Referent.rtF (Referent.fInt Syntax.w8))
-    (Syntax.tyRef (Syntax.named 4) Syntax.imm (Syntax.tyInt Syntax.w8)) 4) (List._∷_ (7, Rows.arrF (Referent.rtF (Referent.fInt Syntax.w16)) 1 0) (List._∷_ (8, Rows'.any-gone (Syntax.tyRef Syntax.erased Syntax.mut El.named)) (List._∷_
-    (9, Mut.mslice El.row (Syntax.tyRef Syntax.erased Syntax.mut El.named) 5) (List._∷_ (10, Rows'.any-gone (Syntax.tyRef Syntax.erased Syntax.mut El.word)) (List._∷_ (11, Mut.mslice (Referent.rtF (Referent.fInt Syntax.w64)) (Syntax.tyRef
-    Syntax.erased Syntax.mut El.word) 6) (List._∷_ (12, Relend.msptr (Referent.rtF (Referent.fInt Syntax.w64)) (Syntax.tyRef Syntax.erased Syntax.mut El.word) 7) (List._∷_ (13, Rows'.any-gone (Syntax.tyStruct (List._∷_ 38 (List._∷_ 91
-    (List._∷_ 93 List.[]))) (Syntax.tcons (Syntax.tyRef Syntax.erased Syntax.mut El.word) (Syntax.tcons El.word Syntax.tnil)))) (List._∷_ (14, Rows'.any-gone (Syntax.tyRef Syntax.erased Syntax.mut El.word)) (List._∷_ (15, Rows'.any-gone
-    (Syntax.tyStruct (List._∷_ 38 (List._∷_ 91 (List._∷_ 93 List.[]))) (Syntax.tcons (Syntax.tyRef Syntax.erased Syntax.mut El.word) (Syntax.tcons El.word Syntax.tnil)))) List.[])))))))))))))))
+t9 = List._∷_ (0, Rows'.any-gone El.Answered) (List._∷_ (1, Relend.mslice-owed El.row (Syntax.tyRef (Syntax.named 0) Syntax.mut El.named) 0 5 Row.off) (List._∷_ (
+  2,
+  Relend.mslice-owed (Referent.rtF (Referent.fInt Syntax.w64))
+      (Syntax.tyRef (Syntax.named 1) Syntax.mut El.word) 1 6 Row.off,
+) (List._∷_ (3, Relend.mslice-owed (Referent.rtF (Referent.fInt Syntax.w64)) (Syntax.tyRef (Syntax.named 2) Syntax.mut El.word) 2 7 Row.off) (List._∷_ (
+  4,
+  Mut.mslice
+      (Referent.rtF (Referent.fInt Syntax.w64)) (Syntax.tyRef (Syntax.named 3) Syntax.mut El.word) 3,
+) (List._∷_ (5, Rows'.whole (Declared'.row ReadyQueue.the-type)) (List._∷_ (
+  6,
+  Rows'.sslice (Referent.rtF (Referent.fInt Syntax.w8))
+      (Syntax.tyRef (Syntax.named 4) Syntax.imm (Syntax.tyInt Syntax.w8)) 4,
+) (List._∷_ (7, Rows.arrF (Referent.rtF (Referent.fInt Syntax.w16)) 1 0) (List._∷_ (8, Rows'.any-gone (Syntax.tyRef Syntax.erased Syntax.mut El.named)) (List._∷_
+    (9, Mut.mslice El.row (Syntax.tyRef Syntax.erased Syntax.mut El.named) 5) (List._∷_ (10, Rows'.any-gone (Syntax.tyRef Syntax.erased Syntax.mut El.word)) (List._∷_ (
+      11,
+      Mut.mslice (Referent.rtF (Referent.fInt Syntax.w64)) (Syntax.tyRef
+          Syntax.erased Syntax.mut El.word) 6,
+    ) (List._∷_ (12, Relend.msptr (Referent.rtF (Referent.fInt Syntax.w64)) (Syntax.tyRef Syntax.erased Syntax.mut El.word) 7) (List._∷_ (
+      13,
+      Rows'.any-gone (Syntax.tyStruct (List._∷_ 38 (List._∷_ 91
+          (List._∷_ 93 List.[]))) (Syntax.tcons (Syntax.tyRef Syntax.erased Syntax.mut El.word) (Syntax.tcons El.word Syntax.tnil))),
+    ) (List._∷_ (14, Rows'.any-gone (Syntax.tyRef Syntax.erased Syntax.mut El.word)) (List._∷_ (
+      15,
+      Rows'.any-gone
+          (Syntax.tyStruct (List._∷_ 38 (List._∷_ 91 (List._∷_ 93 List.[]))) (Syntax.tcons (Syntax.tyRef Syntax.erased Syntax.mut El.word) (Syntax.tcons El.word Syntax.tnil))),
+    ) List.[])))))))))))))))
 
 abbrev pub t10 : List.List Row.Entry
-t10 = List._∷_ (0, Rows'.any-gone El.Answered) (List._∷_ (1, Relend.mslice-owed El.row (Syntax.tyRef (Syntax.named 0) Syntax.mut El.named) 0 5 Row.off) (List._∷_ (2, Relend.mslice-owed (Referent.rtF (Referent.fInt Syntax.w64))
-    (Syntax.tyRef (Syntax.named 1) Syntax.mut El.word) 1 6 Row.off) (List._∷_ (3, Relend.mslice-owed (Referent.rtF (Referent.fInt Syntax.w64)) (Syntax.tyRef (Syntax.named 2) Syntax.mut El.word) 2 7 Row.off) (List._∷_ (4, Mut.mslice
-    (Referent.rtF (Referent.fInt Syntax.w64)) (Syntax.tyRef (Syntax.named 3) Syntax.mut El.word) 3) (List._∷_ (5, Rows'.whole (Declared'.row ReadyQueue.the-type)) (List._∷_ (6, Rows'.sslice (Referent.rtF (Referent.fInt Syntax.w8))
-    (Syntax.tyRef (Syntax.named 4) Syntax.imm (Syntax.tyInt Syntax.w8)) 4) (List._∷_ (7, Rows.arrF (Referent.rtF (Referent.fInt Syntax.w16)) 1 0) (List._∷_ (8, Rows'.any-gone (Syntax.tyRef Syntax.erased Syntax.mut El.named)) (List._∷_
-    (9, Mut.mslice El.row (Syntax.tyRef Syntax.erased Syntax.mut El.named) 5) (List._∷_ (10, Rows'.any-gone (Syntax.tyRef Syntax.erased Syntax.mut El.word)) (List._∷_ (11, Mut.mslice (Referent.rtF (Referent.fInt Syntax.w64)) (Syntax.tyRef
-    Syntax.erased Syntax.mut El.word) 6) (List._∷_ (12, Rows'.any-gone (Syntax.tyRef Syntax.erased Syntax.mut El.word)) (List._∷_ (13, Mut.mslice (Referent.rtF (Referent.fInt Syntax.w64)) (Syntax.tyRef Syntax.erased Syntax.mut El.word) 7)
-    (List._∷_ (14, Rows'.any-gone (Syntax.tyRef Syntax.erased Syntax.mut El.word)) (List._∷_ (15, Rows'.any-gone (Syntax.tyStruct (List._∷_ 38 (List._∷_ 91 (List._∷_ 93 List.[]))) (Syntax.tcons (Syntax.tyRef Syntax.erased Syntax.mut
-    El.word) (Syntax.tcons El.word Syntax.tnil)))) List.[])))))))))))))))
+t10 = List._∷_ (0, Rows'.any-gone El.Answered) (List._∷_ (1, Relend.mslice-owed El.row (Syntax.tyRef (Syntax.named 0) Syntax.mut El.named) 0 5 Row.off) (List._∷_ (
+  2,
+  Relend.mslice-owed (Referent.rtF (Referent.fInt Syntax.w64))
+      (Syntax.tyRef (Syntax.named 1) Syntax.mut El.word) 1 6 Row.off,
+) (List._∷_ (3, Relend.mslice-owed (Referent.rtF (Referent.fInt Syntax.w64)) (Syntax.tyRef (Syntax.named 2) Syntax.mut El.word) 2 7 Row.off) (List._∷_ (
+  4,
+  Mut.mslice
+      (Referent.rtF (Referent.fInt Syntax.w64)) (Syntax.tyRef (Syntax.named 3) Syntax.mut El.word) 3,
+) (List._∷_ (5, Rows'.whole (Declared'.row ReadyQueue.the-type)) (List._∷_ (
+  6,
+  Rows'.sslice (Referent.rtF (Referent.fInt Syntax.w8))
+      (Syntax.tyRef (Syntax.named 4) Syntax.imm (Syntax.tyInt Syntax.w8)) 4,
+) (List._∷_ (7, Rows.arrF (Referent.rtF (Referent.fInt Syntax.w16)) 1 0) (List._∷_ (8, Rows'.any-gone (Syntax.tyRef Syntax.erased Syntax.mut El.named)) (List._∷_
+    (9, Mut.mslice El.row (Syntax.tyRef Syntax.erased Syntax.mut El.named) 5) (List._∷_ (10, Rows'.any-gone (Syntax.tyRef Syntax.erased Syntax.mut El.word)) (List._∷_ (
+      11,
+      Mut.mslice (Referent.rtF (Referent.fInt Syntax.w64)) (Syntax.tyRef
+          Syntax.erased Syntax.mut El.word) 6,
+    ) (List._∷_ (12, Rows'.any-gone (Syntax.tyRef Syntax.erased Syntax.mut El.word)) (List._∷_ (13, Mut.mslice (Referent.rtF (Referent.fInt Syntax.w64)) (Syntax.tyRef Syntax.erased Syntax.mut El.word) 7)
+    (List._∷_ (14, Rows'.any-gone (Syntax.tyRef Syntax.erased Syntax.mut El.word)) (List._∷_ (
+      15,
+      Rows'.any-gone (Syntax.tyStruct (List._∷_ 38 (List._∷_ 91 (List._∷_ 93 List.[]))) (Syntax.tcons (Syntax.tyRef Syntax.erased Syntax.mut
+          El.word) (Syntax.tcons El.word Syntax.tnil))),
+    ) List.[])))))))))))))))
 
 abbrev pub t11 : List.List Row.Entry
-t11 = List._∷_ (0, Rows'.any-gone El.Answered) (List._∷_ (1, Relend.mslice-owed El.row (Syntax.tyRef (Syntax.named 0) Syntax.mut El.named) 0 5 Row.off) (List._∷_ (2, Relend.mslice-owed (Referent.rtF (Referent.fInt Syntax.w64))
-    (Syntax.tyRef (Syntax.named 1) Syntax.mut El.word) 1 6 Row.off) (List._∷_ (3, Relend.mslice-owed (Referent.rtF (Referent.fInt Syntax.w64)) (Syntax.tyRef (Syntax.named 2) Syntax.mut El.word) 2 7 Row.off) (List._∷_ (4,
-    Relend.mslice-owed (Referent.rtF (Referent.fInt Syntax.w64)) (Syntax.tyRef (Syntax.named 3) Syntax.mut El.word) 3 8 Row.off) (List._∷_ (5, Rows'.whole (Declared'.row ReadyQueue.the-type)) (List._∷_ (6, Rows'.sslice (Referent.rtF
-    (Referent.fInt Syntax.w8)) (Syntax.tyRef (Syntax.named 4) Syntax.imm (Syntax.tyInt Syntax.w8)) 4) (List._∷_ (7, Rows.arrF (Referent.rtF (Referent.fInt Syntax.w16)) 1 0) (List._∷_ (8, Rows'.any-gone (Syntax.tyRef Syntax.erased
-    Syntax.mut El.named)) (List._∷_ (9, Mut.mslice El.row (Syntax.tyRef Syntax.erased Syntax.mut El.named) 5) (List._∷_ (10, Rows'.any-gone (Syntax.tyRef Syntax.erased Syntax.mut El.word)) (List._∷_ (11, Mut.mslice (Referent.rtF
-    (Referent.fInt Syntax.w64)) (Syntax.tyRef Syntax.erased Syntax.mut El.word) 6) (List._∷_ (12, Rows'.any-gone (Syntax.tyRef Syntax.erased Syntax.mut El.word)) (List._∷_ (13, Mut.mslice (Referent.rtF (Referent.fInt Syntax.w64))
-    (Syntax.tyRef Syntax.erased Syntax.mut El.word) 7) (List._∷_ (14, Relend.msptr (Referent.rtF (Referent.fInt Syntax.w64)) (Syntax.tyRef Syntax.erased Syntax.mut El.word) 8) (List._∷_ (15, Rows'.any-gone (Syntax.tyStruct (List._∷_ 38
-    (List._∷_ 91 (List._∷_ 93 List.[]))) (Syntax.tcons (Syntax.tyRef Syntax.erased Syntax.mut El.word) (Syntax.tcons El.word Syntax.tnil)))) List.[])))))))))))))))
+t11 = List._∷_ (0, Rows'.any-gone El.Answered) (List._∷_ (1, Relend.mslice-owed El.row (Syntax.tyRef (Syntax.named 0) Syntax.mut El.named) 0 5 Row.off) (List._∷_ (
+  2,
+  Relend.mslice-owed (Referent.rtF (Referent.fInt Syntax.w64))
+      (Syntax.tyRef (Syntax.named 1) Syntax.mut El.word) 1 6 Row.off,
+) (List._∷_ (3, Relend.mslice-owed (Referent.rtF (Referent.fInt Syntax.w64)) (Syntax.tyRef (Syntax.named 2) Syntax.mut El.word) 2 7 Row.off) (List._∷_ (
+  4,
+  Relend.mslice-owed (Referent.rtF (Referent.fInt Syntax.w64)) (Syntax.tyRef (Syntax.named 3) Syntax.mut El.word) 3 8 Row.off,
+) (List._∷_ (5, Rows'.whole (Declared'.row ReadyQueue.the-type)) (List._∷_ (
+  6,
+  Rows'.sslice (Referent.rtF
+      (Referent.fInt Syntax.w8)) (Syntax.tyRef (Syntax.named 4) Syntax.imm (Syntax.tyInt Syntax.w8)) 4,
+) (List._∷_ (7, Rows.arrF (Referent.rtF (Referent.fInt Syntax.w16)) 1 0) (List._∷_ (
+  8,
+  Rows'.any-gone (Syntax.tyRef Syntax.erased
+      Syntax.mut El.named),
+) (List._∷_ (9, Mut.mslice El.row (Syntax.tyRef Syntax.erased Syntax.mut El.named) 5) (List._∷_ (10, Rows'.any-gone (Syntax.tyRef Syntax.erased Syntax.mut El.word)) (List._∷_ (
+  11,
+  Mut.mslice (Referent.rtF
+      (Referent.fInt Syntax.w64)) (Syntax.tyRef Syntax.erased Syntax.mut El.word) 6,
+) (List._∷_ (12, Rows'.any-gone (Syntax.tyRef Syntax.erased Syntax.mut El.word)) (List._∷_ (
+  13,
+  Mut.mslice (Referent.rtF (Referent.fInt Syntax.w64))
+      (Syntax.tyRef Syntax.erased Syntax.mut El.word) 7,
+) (List._∷_ (14, Relend.msptr (Referent.rtF (Referent.fInt Syntax.w64)) (Syntax.tyRef Syntax.erased Syntax.mut El.word) 8) (List._∷_ (
+  15,
+  Rows'.any-gone (Syntax.tyStruct (List._∷_ 38
+      (List._∷_ 91 (List._∷_ 93 List.[]))) (Syntax.tcons (Syntax.tyRef Syntax.erased Syntax.mut El.word) (Syntax.tcons El.word Syntax.tnil))),
+) List.[])))))))))))))))
 
 abbrev pub t12 : List.List Row.Entry
-t12 = List._∷_ (0, Rows'.any-gone El.Answered) (List._∷_ (1, Relend.mslice-owed El.row (Syntax.tyRef (Syntax.named 0) Syntax.mut El.named) 0 5 Row.off) (List._∷_ (2, Relend.mslice-owed (Referent.rtF (Referent.fInt Syntax.w64))
-    (Syntax.tyRef (Syntax.named 1) Syntax.mut El.word) 1 6 Row.off) (List._∷_ (3, Relend.mslice-owed (Referent.rtF (Referent.fInt Syntax.w64)) (Syntax.tyRef (Syntax.named 2) Syntax.mut El.word) 2 7 Row.off) (List._∷_ (4,
-    Relend.mslice-owed (Referent.rtF (Referent.fInt Syntax.w64)) (Syntax.tyRef (Syntax.named 3) Syntax.mut El.word) 3 8 Row.off) (List._∷_ (5, Rows'.whole (Declared'.row ReadyQueue.the-type)) (List._∷_ (6, Rows'.sslice (Referent.rtF
-    (Referent.fInt Syntax.w8)) (Syntax.tyRef (Syntax.named 4) Syntax.imm (Syntax.tyInt Syntax.w8)) 4) (List._∷_ (7, Rows.arrF (Referent.rtF (Referent.fInt Syntax.w16)) 1 0) (List._∷_ (8, Rows'.any-gone (Syntax.tyRef Syntax.erased
-    Syntax.mut El.named)) (List._∷_ (9, Mut.mslice El.row (Syntax.tyRef Syntax.erased Syntax.mut El.named) 5) (List._∷_ (10, Rows'.any-gone (Syntax.tyRef Syntax.erased Syntax.mut El.word)) (List._∷_ (11, Mut.mslice (Referent.rtF
-    (Referent.fInt Syntax.w64)) (Syntax.tyRef Syntax.erased Syntax.mut El.word) 6) (List._∷_ (12, Rows'.any-gone (Syntax.tyRef Syntax.erased Syntax.mut El.word)) (List._∷_ (13, Mut.mslice (Referent.rtF (Referent.fInt Syntax.w64))
-    (Syntax.tyRef Syntax.erased Syntax.mut El.word) 7) (List._∷_ (14, Rows'.any-gone (Syntax.tyRef Syntax.erased Syntax.mut El.word)) (List._∷_ (15, Mut.mslice (Referent.rtF (Referent.fInt Syntax.w64)) (Syntax.tyRef Syntax.erased
-    Syntax.mut El.word) 8) List.[])))))))))))))))
+t12 = List._∷_ (0, Rows'.any-gone El.Answered) (List._∷_ (1, Relend.mslice-owed El.row (Syntax.tyRef (Syntax.named 0) Syntax.mut El.named) 0 5 Row.off) (List._∷_ (
+  2,
+  Relend.mslice-owed (Referent.rtF (Referent.fInt Syntax.w64))
+      (Syntax.tyRef (Syntax.named 1) Syntax.mut El.word) 1 6 Row.off,
+) (List._∷_ (3, Relend.mslice-owed (Referent.rtF (Referent.fInt Syntax.w64)) (Syntax.tyRef (Syntax.named 2) Syntax.mut El.word) 2 7 Row.off) (List._∷_ (
+  4,
+  Relend.mslice-owed (Referent.rtF (Referent.fInt Syntax.w64)) (Syntax.tyRef (Syntax.named 3) Syntax.mut El.word) 3 8 Row.off,
+) (List._∷_ (5, Rows'.whole (Declared'.row ReadyQueue.the-type)) (List._∷_ (
+  6,
+  Rows'.sslice (Referent.rtF
+      (Referent.fInt Syntax.w8)) (Syntax.tyRef (Syntax.named 4) Syntax.imm (Syntax.tyInt Syntax.w8)) 4,
+) (List._∷_ (7, Rows.arrF (Referent.rtF (Referent.fInt Syntax.w16)) 1 0) (List._∷_ (
+  8,
+  Rows'.any-gone (Syntax.tyRef Syntax.erased
+      Syntax.mut El.named),
+) (List._∷_ (9, Mut.mslice El.row (Syntax.tyRef Syntax.erased Syntax.mut El.named) 5) (List._∷_ (10, Rows'.any-gone (Syntax.tyRef Syntax.erased Syntax.mut El.word)) (List._∷_ (
+  11,
+  Mut.mslice (Referent.rtF
+      (Referent.fInt Syntax.w64)) (Syntax.tyRef Syntax.erased Syntax.mut El.word) 6,
+) (List._∷_ (12, Rows'.any-gone (Syntax.tyRef Syntax.erased Syntax.mut El.word)) (List._∷_ (
+  13,
+  Mut.mslice (Referent.rtF (Referent.fInt Syntax.w64))
+      (Syntax.tyRef Syntax.erased Syntax.mut El.word) 7,
+) (List._∷_ (14, Rows'.any-gone (Syntax.tyRef Syntax.erased Syntax.mut El.word)) (List._∷_ (
+  15,
+  Mut.mslice (Referent.rtF (Referent.fInt Syntax.w64)) (Syntax.tyRef Syntax.erased
+      Syntax.mut El.word) 8,
+) List.[])))))))))))))))
 
 abbrev pub t13 : List.List Row.Entry
-t13 = List._∷_ (16, Rows'.whole (Declared.row Event.the-type)) (List._∷_ (17, Rows'.any-gone (Syntax.tyRef Syntax.erased Syntax.imm (Syntax.tyArray (Syntax.tyInt Syntax.w16) 1))) (List._∷_ (18, Rows'.any-gone (Syntax.tyStruct (List._∷_
-    38 (List._∷_ 91 (List._∷_ 93 List.[]))) (Syntax.tcons (Syntax.tyRef Syntax.erased Syntax.imm (Syntax.tyInt Syntax.w16)) (Syntax.tcons El.word Syntax.tnil)))) List.[]))
+t13 = List._∷_ (16, Rows'.whole (Declared.row Event.the-type)) (List._∷_ (17, Rows'.any-gone (Syntax.tyRef Syntax.erased Syntax.imm (Syntax.tyArray (Syntax.tyInt Syntax.w16) 1))) (List._∷_ (
+  18,
+  Rows'.any-gone (Syntax.tyStruct (List._∷_
+      38 (List._∷_ 91 (List._∷_ 93 List.[]))) (Syntax.tcons (Syntax.tyRef Syntax.erased Syntax.imm (Syntax.tyInt Syntax.w16)) (Syntax.tcons El.word Syntax.tnil))),
+) List.[]))
 
 abbrev pub t14 : List.List Row.Entry
-t14 = List._∷_ (0, Rows'.any-gone El.Answered) (List._∷_ (1, Relend.mslice-owed El.row (Syntax.tyRef (Syntax.named 0) Syntax.mut El.named) 0 5 Row.off) (List._∷_ (2, Relend.mslice-owed (Referent.rtF (Referent.fInt Syntax.w64))
-    (Syntax.tyRef (Syntax.named 1) Syntax.mut El.word) 1 6 Row.off) (List._∷_ (3, Relend.mslice-owed (Referent.rtF (Referent.fInt Syntax.w64)) (Syntax.tyRef (Syntax.named 2) Syntax.mut El.word) 2 7 Row.off) (List._∷_ (4,
-    Relend.mslice-owed (Referent.rtF (Referent.fInt Syntax.w64)) (Syntax.tyRef (Syntax.named 3) Syntax.mut El.word) 3 8 Row.off) (List._∷_ (5, Rows'.whole (Declared'.row ReadyQueue.the-type)) (List._∷_ (6, Rows'.sslice (Referent.rtF
-    (Referent.fInt Syntax.w8)) (Syntax.tyRef (Syntax.named 4) Syntax.imm (Syntax.tyInt Syntax.w8)) 4) (List._∷_ (7, Rows.arr-shr (Referent.rtF (Referent.fInt Syntax.w16)) 1 9) (List._∷_ (8, Rows'.any-gone (Syntax.tyRef Syntax.erased
-    Syntax.mut El.named)) (List._∷_ (9, Mut.mslice El.row (Syntax.tyRef Syntax.erased Syntax.mut El.named) 5) (List._∷_ (10, Rows'.any-gone (Syntax.tyRef Syntax.erased Syntax.mut El.word)) (List._∷_ (11, Mut.mslice (Referent.rtF
-    (Referent.fInt Syntax.w64)) (Syntax.tyRef Syntax.erased Syntax.mut El.word) 6) (List._∷_ (12, Rows'.any-gone (Syntax.tyRef Syntax.erased Syntax.mut El.word)) (List._∷_ (13, Mut.mslice (Referent.rtF (Referent.fInt Syntax.w64))
-    (Syntax.tyRef Syntax.erased Syntax.mut El.word) 7) (List._∷_ (14, Rows'.any-gone (Syntax.tyRef Syntax.erased Syntax.mut El.word)) (List._∷_ (15, Mut.mslice (Referent.rtF (Referent.fInt Syntax.w64)) (Syntax.tyRef Syntax.erased
-    Syntax.mut El.word) 8) List.[])))))))))))))))
+t14 = List._∷_ (0, Rows'.any-gone El.Answered) (List._∷_ (1, Relend.mslice-owed El.row (Syntax.tyRef (Syntax.named 0) Syntax.mut El.named) 0 5 Row.off) (List._∷_ (
+  2,
+  Relend.mslice-owed (Referent.rtF (Referent.fInt Syntax.w64))
+      (Syntax.tyRef (Syntax.named 1) Syntax.mut El.word) 1 6 Row.off,
+) (List._∷_ (3, Relend.mslice-owed (Referent.rtF (Referent.fInt Syntax.w64)) (Syntax.tyRef (Syntax.named 2) Syntax.mut El.word) 2 7 Row.off) (List._∷_ (
+  4,
+  Relend.mslice-owed (Referent.rtF (Referent.fInt Syntax.w64)) (Syntax.tyRef (Syntax.named 3) Syntax.mut El.word) 3 8 Row.off,
+) (List._∷_ (5, Rows'.whole (Declared'.row ReadyQueue.the-type)) (List._∷_ (
+  6,
+  Rows'.sslice (Referent.rtF
+      (Referent.fInt Syntax.w8)) (Syntax.tyRef (Syntax.named 4) Syntax.imm (Syntax.tyInt Syntax.w8)) 4,
+) (List._∷_ (7, Rows.arr-shr (Referent.rtF (Referent.fInt Syntax.w16)) 1 9) (List._∷_ (
+  8,
+  Rows'.any-gone (Syntax.tyRef Syntax.erased
+      Syntax.mut El.named),
+) (List._∷_ (9, Mut.mslice El.row (Syntax.tyRef Syntax.erased Syntax.mut El.named) 5) (List._∷_ (10, Rows'.any-gone (Syntax.tyRef Syntax.erased Syntax.mut El.word)) (List._∷_ (
+  11,
+  Mut.mslice (Referent.rtF
+      (Referent.fInt Syntax.w64)) (Syntax.tyRef Syntax.erased Syntax.mut El.word) 6,
+) (List._∷_ (12, Rows'.any-gone (Syntax.tyRef Syntax.erased Syntax.mut El.word)) (List._∷_ (
+  13,
+  Mut.mslice (Referent.rtF (Referent.fInt Syntax.w64))
+      (Syntax.tyRef Syntax.erased Syntax.mut El.word) 7,
+) (List._∷_ (14, Rows'.any-gone (Syntax.tyRef Syntax.erased Syntax.mut El.word)) (List._∷_ (
+  15,
+  Mut.mslice (Referent.rtF (Referent.fInt Syntax.w64)) (Syntax.tyRef Syntax.erased
+      Syntax.mut El.word) 8,
+) List.[])))))))))))))))
 
 abbrev pub t15 : List.List Row.Entry
-t15 = List._∷_ (16, Rows'.whole (Declared.row Event.the-type)) (List._∷_ (17, Relend.ssptr (Referent.rtF (Referent.fInt Syntax.w16)) (Syntax.tyRef Syntax.erased Syntax.imm (Syntax.tyArray (Syntax.tyInt Syntax.w16) 1)) 9) (List._∷_ (18,
-    Rows'.any-gone (Syntax.tyStruct (List._∷_ 38 (List._∷_ 91 (List._∷_ 93 List.[]))) (Syntax.tcons (Syntax.tyRef Syntax.erased Syntax.imm (Syntax.tyInt Syntax.w16)) (Syntax.tcons El.word Syntax.tnil)))) List.[]))
+t15 = List._∷_ (16, Rows'.whole (Declared.row Event.the-type)) (List._∷_ (17, Relend.ssptr (Referent.rtF (Referent.fInt Syntax.w16)) (Syntax.tyRef Syntax.erased Syntax.imm (Syntax.tyArray (Syntax.tyInt Syntax.w16) 1)) 9) (List._∷_ (
+  18,
+  Rows'.any-gone (Syntax.tyStruct (List._∷_ 38 (List._∷_ 91 (List._∷_ 93 List.[]))) (Syntax.tcons (Syntax.tyRef Syntax.erased Syntax.imm (Syntax.tyInt Syntax.w16)) (Syntax.tcons El.word Syntax.tnil))),
+) List.[]))
 
 abbrev pub t16 : List.List Row.Entry
-t16 = List._∷_ (16, Rows'.whole (Declared.row Event.the-type)) (List._∷_ (17, Rows'.any-gone (Syntax.tyRef Syntax.erased Syntax.imm (Syntax.tyArray (Syntax.tyInt Syntax.w16) 1))) (List._∷_ (18, Rows'.sslice (Referent.rtF (Referent.fInt
-    Syntax.w16)) (Syntax.tyRef Syntax.erased Syntax.imm (Syntax.tyInt Syntax.w16)) 9) List.[]))
+t16 = List._∷_ (16, Rows'.whole (Declared.row Event.the-type)) (List._∷_ (17, Rows'.any-gone (Syntax.tyRef Syntax.erased Syntax.imm (Syntax.tyArray (Syntax.tyInt Syntax.w16) 1))) (List._∷_ (
+  18,
+  Rows'.sslice (Referent.rtF (Referent.fInt
+      Syntax.w16)) (Syntax.tyRef Syntax.erased Syntax.imm (Syntax.tyInt Syntax.w16)) 9,
+) List.[]))
 
 abbrev pub t17 : List.List Row.Entry
-t17 = List._∷_ (0, Rows'.whole (Declared'.row Answered.the-type)) (List._∷_ (1, Relend.mslice-owed El.row (Syntax.tyRef (Syntax.named 0) Syntax.mut El.named) 0 5 Row.off) (List._∷_ (2, Relend.mslice-owed (Referent.rtF (Referent.fInt
-    Syntax.w64)) (Syntax.tyRef (Syntax.named 1) Syntax.mut El.word) 1 6 Row.off) (List._∷_ (3, Relend.mslice-owed (Referent.rtF (Referent.fInt Syntax.w64)) (Syntax.tyRef (Syntax.named 2) Syntax.mut El.word) 2 7 Row.off) (List._∷_ (4,
-    Relend.mslice-owed (Referent.rtF (Referent.fInt Syntax.w64)) (Syntax.tyRef (Syntax.named 3) Syntax.mut El.word) 3 8 Row.off) (List._∷_ (5, Rows'.whole (Declared'.row ReadyQueue.the-type)) (List._∷_ (6, Rows'.sslice (Referent.rtF
-    (Referent.fInt Syntax.w8)) (Syntax.tyRef (Syntax.named 4) Syntax.imm (Syntax.tyInt Syntax.w8)) 4) (List._∷_ (7, Rows.arr-shr (Referent.rtF (Referent.fInt Syntax.w16)) 1 9) (List._∷_ (8, Rows'.any-gone (Syntax.tyRef Syntax.erased
-    Syntax.mut El.named)) (List._∷_ (9, Mut.msleft El.row (Syntax.tyRef Syntax.erased Syntax.mut El.named)) (List._∷_ (10, Rows'.any-gone (Syntax.tyRef Syntax.erased Syntax.mut El.word)) (List._∷_ (11, Mut.msleft (Referent.rtF
-    (Referent.fInt Syntax.w64)) (Syntax.tyRef Syntax.erased Syntax.mut El.word)) (List._∷_ (12, Rows'.any-gone (Syntax.tyRef Syntax.erased Syntax.mut El.word)) (List._∷_ (13, Mut.msleft (Referent.rtF (Referent.fInt Syntax.w64))
-    (Syntax.tyRef Syntax.erased Syntax.mut El.word)) (List._∷_ (14, Rows'.any-gone (Syntax.tyRef Syntax.erased Syntax.mut El.word)) (List._∷_ (15, Mut.msleft (Referent.rtF (Referent.fInt Syntax.w64)) (Syntax.tyRef Syntax.erased
-    Syntax.mut El.word)) List.[])))))))))))))))
+t17 = List._∷_ (0, Rows'.whole (Declared'.row Answered.the-type)) (List._∷_ (1, Relend.mslice-owed El.row (Syntax.tyRef (Syntax.named 0) Syntax.mut El.named) 0 5 Row.off) (List._∷_ (
+  2,
+  Relend.mslice-owed (Referent.rtF (Referent.fInt
+      Syntax.w64)) (Syntax.tyRef (Syntax.named 1) Syntax.mut El.word) 1 6 Row.off,
+) (List._∷_ (3, Relend.mslice-owed (Referent.rtF (Referent.fInt Syntax.w64)) (Syntax.tyRef (Syntax.named 2) Syntax.mut El.word) 2 7 Row.off) (List._∷_ (
+  4,
+  Relend.mslice-owed (Referent.rtF (Referent.fInt Syntax.w64)) (Syntax.tyRef (Syntax.named 3) Syntax.mut El.word) 3 8 Row.off,
+) (List._∷_ (5, Rows'.whole (Declared'.row ReadyQueue.the-type)) (List._∷_ (
+  6,
+  Rows'.sslice (Referent.rtF
+      (Referent.fInt Syntax.w8)) (Syntax.tyRef (Syntax.named 4) Syntax.imm (Syntax.tyInt Syntax.w8)) 4,
+) (List._∷_ (7, Rows.arr-shr (Referent.rtF (Referent.fInt Syntax.w16)) 1 9) (List._∷_ (
+  8,
+  Rows'.any-gone (Syntax.tyRef Syntax.erased
+      Syntax.mut El.named),
+) (List._∷_ (9, Mut.msleft El.row (Syntax.tyRef Syntax.erased Syntax.mut El.named)) (List._∷_ (10, Rows'.any-gone (Syntax.tyRef Syntax.erased Syntax.mut El.word)) (List._∷_ (
+  11,
+  Mut.msleft (Referent.rtF
+      (Referent.fInt Syntax.w64)) (Syntax.tyRef Syntax.erased Syntax.mut El.word),
+) (List._∷_ (12, Rows'.any-gone (Syntax.tyRef Syntax.erased Syntax.mut El.word)) (List._∷_ (
+  13,
+  Mut.msleft (Referent.rtF (Referent.fInt Syntax.w64))
+      (Syntax.tyRef Syntax.erased Syntax.mut El.word),
+) (List._∷_ (14, Rows'.any-gone (Syntax.tyRef Syntax.erased Syntax.mut El.word)) (List._∷_ (
+  15,
+  Mut.msleft (Referent.rtF (Referent.fInt Syntax.w64)) (Syntax.tyRef Syntax.erased
+      Syntax.mut El.word),
+) List.[])))))))))))))))
 
 abbrev pub t18 : List.List Row.Entry
-t18 = List._∷_ (0, Rows'.whole (Declared'.row Answered.the-type)) (List._∷_ (1, Relend.mslice-owed El.row (Syntax.tyRef (Syntax.named 0) Syntax.mut El.named) 0 5 Row.off) (List._∷_ (2, Relend.mslice-owed (Referent.rtF (Referent.fInt
-    Syntax.w64)) (Syntax.tyRef (Syntax.named 1) Syntax.mut El.word) 1 6 Row.off) (List._∷_ (3, Relend.mslice-owed (Referent.rtF (Referent.fInt Syntax.w64)) (Syntax.tyRef (Syntax.named 2) Syntax.mut El.word) 2 7 Row.off) (List._∷_ (4,
-    Relend.mslice-owed (Referent.rtF (Referent.fInt Syntax.w64)) (Syntax.tyRef (Syntax.named 3) Syntax.mut El.word) 3 8 Row.off) (List._∷_ (5, Rows'.any-gone El.ReadyQueue) (List._∷_ (6, Rows'.sslice (Referent.rtF (Referent.fInt
-    Syntax.w8)) (Syntax.tyRef (Syntax.named 4) Syntax.imm (Syntax.tyInt Syntax.w8)) 4) (List._∷_ (7, Rows.arr-shr (Referent.rtF (Referent.fInt Syntax.w16)) 1 9) (List._∷_ (8, Rows'.any-gone (Syntax.tyRef Syntax.erased Syntax.mut
-    El.named)) (List._∷_ (9, Mut.msleft El.row (Syntax.tyRef Syntax.erased Syntax.mut El.named)) (List._∷_ (10, Rows'.any-gone (Syntax.tyRef Syntax.erased Syntax.mut El.word)) (List._∷_ (11, Mut.msleft (Referent.rtF (Referent.fInt
-    Syntax.w64)) (Syntax.tyRef Syntax.erased Syntax.mut El.word)) (List._∷_ (12, Rows'.any-gone (Syntax.tyRef Syntax.erased Syntax.mut El.word)) (List._∷_ (13, Mut.msleft (Referent.rtF (Referent.fInt Syntax.w64)) (Syntax.tyRef
-    Syntax.erased Syntax.mut El.word)) (List._∷_ (14, Rows'.any-gone (Syntax.tyRef Syntax.erased Syntax.mut El.word)) (List._∷_ (15, Mut.msleft (Referent.rtF (Referent.fInt Syntax.w64)) (Syntax.tyRef Syntax.erased Syntax.mut El.word))
+t18 = List._∷_ (0, Rows'.whole (Declared'.row Answered.the-type)) (List._∷_ (1, Relend.mslice-owed El.row (Syntax.tyRef (Syntax.named 0) Syntax.mut El.named) 0 5 Row.off) (List._∷_ (
+  2,
+  Relend.mslice-owed (Referent.rtF (Referent.fInt
+      Syntax.w64)) (Syntax.tyRef (Syntax.named 1) Syntax.mut El.word) 1 6 Row.off,
+) (List._∷_ (3, Relend.mslice-owed (Referent.rtF (Referent.fInt Syntax.w64)) (Syntax.tyRef (Syntax.named 2) Syntax.mut El.word) 2 7 Row.off) (List._∷_ (
+  4,
+  Relend.mslice-owed (Referent.rtF (Referent.fInt Syntax.w64)) (Syntax.tyRef (Syntax.named 3) Syntax.mut El.word) 3 8 Row.off,
+) (List._∷_ (5, Rows'.any-gone El.ReadyQueue) (List._∷_ (
+  6,
+  Rows'.sslice (Referent.rtF (Referent.fInt
+      Syntax.w8)) (Syntax.tyRef (Syntax.named 4) Syntax.imm (Syntax.tyInt Syntax.w8)) 4,
+) (List._∷_ (7, Rows.arr-shr (Referent.rtF (Referent.fInt Syntax.w16)) 1 9) (List._∷_ (
+  8,
+  Rows'.any-gone (Syntax.tyRef Syntax.erased Syntax.mut
+      El.named),
+) (List._∷_ (9, Mut.msleft El.row (Syntax.tyRef Syntax.erased Syntax.mut El.named)) (List._∷_ (10, Rows'.any-gone (Syntax.tyRef Syntax.erased Syntax.mut El.word)) (List._∷_ (
+  11,
+  Mut.msleft (Referent.rtF (Referent.fInt
+      Syntax.w64)) (Syntax.tyRef Syntax.erased Syntax.mut El.word),
+) (List._∷_ (12, Rows'.any-gone (Syntax.tyRef Syntax.erased Syntax.mut El.word)) (List._∷_ (
+  13,
+  Mut.msleft (Referent.rtF (Referent.fInt Syntax.w64)) (Syntax.tyRef
+      Syntax.erased Syntax.mut El.word),
+) (List._∷_ (14, Rows'.any-gone (Syntax.tyRef Syntax.erased Syntax.mut El.word)) (List._∷_ (15, Mut.msleft (Referent.rtF (Referent.fInt Syntax.w64)) (Syntax.tyRef Syntax.erased Syntax.mut El.word))
     List.[])))))))))))))))
 
 abbrev pub t19 : List.List Row.Entry
-t19 = List._∷_ (0, Rows'.whole (Declared'.row Answered.the-type)) (List._∷_ (1, Mut.mslice El.row (Syntax.tyRef (Syntax.named 0) Syntax.mut El.named) 0) (List._∷_ (2, Relend.mslice-owed (Referent.rtF (Referent.fInt Syntax.w64))
-    (Syntax.tyRef (Syntax.named 1) Syntax.mut El.word) 1 6 Row.off) (List._∷_ (3, Relend.mslice-owed (Referent.rtF (Referent.fInt Syntax.w64)) (Syntax.tyRef (Syntax.named 2) Syntax.mut El.word) 2 7 Row.off) (List._∷_ (4,
-    Relend.mslice-owed (Referent.rtF (Referent.fInt Syntax.w64)) (Syntax.tyRef (Syntax.named 3) Syntax.mut El.word) 3 8 Row.off) (List._∷_ (5, Rows'.any-gone El.ReadyQueue) (List._∷_ (6, Rows'.sslice (Referent.rtF (Referent.fInt
-    Syntax.w8)) (Syntax.tyRef (Syntax.named 4) Syntax.imm (Syntax.tyInt Syntax.w8)) 4) (List._∷_ (7, Rows.arr-shr (Referent.rtF (Referent.fInt Syntax.w16)) 1 9) (List._∷_ (8, Rows'.any-gone (Syntax.tyRef Syntax.erased Syntax.mut
-    El.named)) (List._∷_ (9, Rows'.any-gone (Syntax.tyStruct (List._∷_ 38 (List._∷_ 91 (List._∷_ 93 List.[]))) (Syntax.tcons (Syntax.tyRef Syntax.erased Syntax.mut El.named) (Syntax.tcons El.word Syntax.tnil)))) (List._∷_ (10,
-    Rows'.any-gone (Syntax.tyRef Syntax.erased Syntax.mut El.word)) (List._∷_ (11, Mut.msleft (Referent.rtF (Referent.fInt Syntax.w64)) (Syntax.tyRef Syntax.erased Syntax.mut El.word)) (List._∷_ (12, Rows'.any-gone (Syntax.tyRef
-    Syntax.erased Syntax.mut El.word)) (List._∷_ (13, Mut.msleft (Referent.rtF (Referent.fInt Syntax.w64)) (Syntax.tyRef Syntax.erased Syntax.mut El.word)) (List._∷_ (14, Rows'.any-gone (Syntax.tyRef Syntax.erased Syntax.mut El.word))
+t19 = List._∷_ (0, Rows'.whole (Declared'.row Answered.the-type)) (List._∷_ (1, Mut.mslice El.row (Syntax.tyRef (Syntax.named 0) Syntax.mut El.named) 0) (List._∷_ (
+  2,
+  Relend.mslice-owed (Referent.rtF (Referent.fInt Syntax.w64))
+      (Syntax.tyRef (Syntax.named 1) Syntax.mut El.word) 1 6 Row.off,
+) (List._∷_ (3, Relend.mslice-owed (Referent.rtF (Referent.fInt Syntax.w64)) (Syntax.tyRef (Syntax.named 2) Syntax.mut El.word) 2 7 Row.off) (List._∷_ (
+  4,
+  Relend.mslice-owed (Referent.rtF (Referent.fInt Syntax.w64)) (Syntax.tyRef (Syntax.named 3) Syntax.mut El.word) 3 8 Row.off,
+) (List._∷_ (5, Rows'.any-gone El.ReadyQueue) (List._∷_ (
+  6,
+  Rows'.sslice (Referent.rtF (Referent.fInt
+      Syntax.w8)) (Syntax.tyRef (Syntax.named 4) Syntax.imm (Syntax.tyInt Syntax.w8)) 4,
+) (List._∷_ (7, Rows.arr-shr (Referent.rtF (Referent.fInt Syntax.w16)) 1 9) (List._∷_ (
+  8,
+  Rows'.any-gone (Syntax.tyRef Syntax.erased Syntax.mut
+      El.named),
+) (List._∷_ (9, Rows'.any-gone (Syntax.tyStruct (List._∷_ 38 (List._∷_ 91 (List._∷_ 93 List.[]))) (Syntax.tcons (Syntax.tyRef Syntax.erased Syntax.mut El.named) (Syntax.tcons El.word Syntax.tnil)))) (List._∷_ (
+  10,
+  Rows'.any-gone (Syntax.tyRef Syntax.erased Syntax.mut El.word),
+) (List._∷_ (11, Mut.msleft (Referent.rtF (Referent.fInt Syntax.w64)) (Syntax.tyRef Syntax.erased Syntax.mut El.word)) (List._∷_ (
+  12,
+  Rows'.any-gone (Syntax.tyRef
+      Syntax.erased Syntax.mut El.word),
+) (List._∷_ (13, Mut.msleft (Referent.rtF (Referent.fInt Syntax.w64)) (Syntax.tyRef Syntax.erased Syntax.mut El.word)) (List._∷_ (14, Rows'.any-gone (Syntax.tyRef Syntax.erased Syntax.mut El.word))
     (List._∷_ (15, Mut.msleft (Referent.rtF (Referent.fInt Syntax.w64)) (Syntax.tyRef Syntax.erased Syntax.mut El.word)) List.[])))))))))))))))
 
 abbrev pub t20 : List.List Row.Entry
-t20 = List._∷_ (0, Rows'.whole (Declared'.row Answered.the-type)) (List._∷_ (1, Mut.mslice El.row (Syntax.tyRef (Syntax.named 0) Syntax.mut El.named) 0) (List._∷_ (2, Mut.mslice (Referent.rtF (Referent.fInt Syntax.w64)) (Syntax.tyRef
-    (Syntax.named 1) Syntax.mut El.word) 1) (List._∷_ (3, Relend.mslice-owed (Referent.rtF (Referent.fInt Syntax.w64)) (Syntax.tyRef (Syntax.named 2) Syntax.mut El.word) 2 7 Row.off) (List._∷_ (4, Relend.mslice-owed (Referent.rtF
-    (Referent.fInt Syntax.w64)) (Syntax.tyRef (Syntax.named 3) Syntax.mut El.word) 3 8 Row.off) (List._∷_ (5, Rows'.any-gone El.ReadyQueue) (List._∷_ (6, Rows'.sslice (Referent.rtF (Referent.fInt Syntax.w8)) (Syntax.tyRef (Syntax.named
-    4) Syntax.imm (Syntax.tyInt Syntax.w8)) 4) (List._∷_ (7, Rows.arr-shr (Referent.rtF (Referent.fInt Syntax.w16)) 1 9) (List._∷_ (8, Rows'.any-gone (Syntax.tyRef Syntax.erased Syntax.mut El.named)) (List._∷_ (9, Rows'.any-gone
-    (Syntax.tyStruct (List._∷_ 38 (List._∷_ 91 (List._∷_ 93 List.[]))) (Syntax.tcons (Syntax.tyRef Syntax.erased Syntax.mut El.named) (Syntax.tcons El.word Syntax.tnil)))) (List._∷_ (10, Rows'.any-gone (Syntax.tyRef Syntax.erased
-    Syntax.mut El.word)) (List._∷_ (11, Rows'.any-gone (Syntax.tyStruct (List._∷_ 38 (List._∷_ 91 (List._∷_ 93 List.[]))) (Syntax.tcons (Syntax.tyRef Syntax.erased Syntax.mut El.word) (Syntax.tcons El.word Syntax.tnil)))) (List._∷_ (12,
-    Rows'.any-gone (Syntax.tyRef Syntax.erased Syntax.mut El.word)) (List._∷_ (13, Mut.msleft (Referent.rtF (Referent.fInt Syntax.w64)) (Syntax.tyRef Syntax.erased Syntax.mut El.word)) (List._∷_ (14, Rows'.any-gone (Syntax.tyRef
-    Syntax.erased Syntax.mut El.word)) (List._∷_ (15, Mut.msleft (Referent.rtF (Referent.fInt Syntax.w64)) (Syntax.tyRef Syntax.erased Syntax.mut El.word)) List.[])))))))))))))))
+t20 = List._∷_ (0, Rows'.whole (Declared'.row Answered.the-type)) (List._∷_ (1, Mut.mslice El.row (Syntax.tyRef (Syntax.named 0) Syntax.mut El.named) 0) (List._∷_ (
+  2,
+  Mut.mslice (Referent.rtF (Referent.fInt Syntax.w64)) (Syntax.tyRef
+      (Syntax.named 1) Syntax.mut El.word) 1,
+) (List._∷_ (3, Relend.mslice-owed (Referent.rtF (Referent.fInt Syntax.w64)) (Syntax.tyRef (Syntax.named 2) Syntax.mut El.word) 2 7 Row.off) (List._∷_ (
+  4,
+  Relend.mslice-owed (Referent.rtF
+      (Referent.fInt Syntax.w64)) (Syntax.tyRef (Syntax.named 3) Syntax.mut El.word) 3 8 Row.off,
+) (List._∷_ (5, Rows'.any-gone El.ReadyQueue) (List._∷_ (
+  6,
+  Rows'.sslice (Referent.rtF (Referent.fInt Syntax.w8)) (Syntax.tyRef (Syntax.named
+      4) Syntax.imm (Syntax.tyInt Syntax.w8)) 4,
+) (List._∷_ (7, Rows.arr-shr (Referent.rtF (Referent.fInt Syntax.w16)) 1 9) (List._∷_ (8, Rows'.any-gone (Syntax.tyRef Syntax.erased Syntax.mut El.named)) (List._∷_ (
+  9,
+  Rows'.any-gone
+      (Syntax.tyStruct (List._∷_ 38 (List._∷_ 91 (List._∷_ 93 List.[]))) (Syntax.tcons (Syntax.tyRef Syntax.erased Syntax.mut El.named) (Syntax.tcons El.word Syntax.tnil))),
+) (List._∷_ (
+  10,
+  Rows'.any-gone (Syntax.tyRef Syntax.erased
+      Syntax.mut El.word),
+) (List._∷_ (11, Rows'.any-gone (Syntax.tyStruct (List._∷_ 38 (List._∷_ 91 (List._∷_ 93 List.[]))) (Syntax.tcons (Syntax.tyRef Syntax.erased Syntax.mut El.word) (Syntax.tcons El.word Syntax.tnil)))) (List._∷_ (
+  12,
+  Rows'.any-gone (Syntax.tyRef Syntax.erased Syntax.mut El.word),
+) (List._∷_ (13, Mut.msleft (Referent.rtF (Referent.fInt Syntax.w64)) (Syntax.tyRef Syntax.erased Syntax.mut El.word)) (List._∷_ (
+  14,
+  Rows'.any-gone (Syntax.tyRef
+      Syntax.erased Syntax.mut El.word),
+) (List._∷_ (15, Mut.msleft (Referent.rtF (Referent.fInt Syntax.w64)) (Syntax.tyRef Syntax.erased Syntax.mut El.word)) List.[])))))))))))))))
 
 abbrev pub t21 : List.List Row.Entry
-t21 = List._∷_ (0, Rows'.whole (Declared'.row Answered.the-type)) (List._∷_ (1, Mut.mslice El.row (Syntax.tyRef (Syntax.named 0) Syntax.mut El.named) 0) (List._∷_ (2, Mut.mslice (Referent.rtF (Referent.fInt Syntax.w64)) (Syntax.tyRef
-    (Syntax.named 1) Syntax.mut El.word) 1) (List._∷_ (3, Mut.mslice (Referent.rtF (Referent.fInt Syntax.w64)) (Syntax.tyRef (Syntax.named 2) Syntax.mut El.word) 2) (List._∷_ (4, Relend.mslice-owed (Referent.rtF (Referent.fInt
-    Syntax.w64)) (Syntax.tyRef (Syntax.named 3) Syntax.mut El.word) 3 8 Row.off) (List._∷_ (5, Rows'.any-gone El.ReadyQueue) (List._∷_ (6, Rows'.sslice (Referent.rtF (Referent.fInt Syntax.w8)) (Syntax.tyRef (Syntax.named 4) Syntax.imm
-    (Syntax.tyInt Syntax.w8)) 4) (List._∷_ (7, Rows.arr-shr (Referent.rtF (Referent.fInt Syntax.w16)) 1 9) (List._∷_ (8, Rows'.any-gone (Syntax.tyRef Syntax.erased Syntax.mut El.named)) (List._∷_ (9, Rows'.any-gone (Syntax.tyStruct
-    (List._∷_ 38 (List._∷_ 91 (List._∷_ 93 List.[]))) (Syntax.tcons (Syntax.tyRef Syntax.erased Syntax.mut El.named) (Syntax.tcons El.word Syntax.tnil)))) (List._∷_ (10, Rows'.any-gone (Syntax.tyRef Syntax.erased Syntax.mut El.word))
-    (List._∷_ (11, Rows'.any-gone (Syntax.tyStruct (List._∷_ 38 (List._∷_ 91 (List._∷_ 93 List.[]))) (Syntax.tcons (Syntax.tyRef Syntax.erased Syntax.mut El.word) (Syntax.tcons El.word Syntax.tnil)))) (List._∷_ (12, Rows'.any-gone
-    (Syntax.tyRef Syntax.erased Syntax.mut El.word)) (List._∷_ (13, Rows'.any-gone (Syntax.tyStruct (List._∷_ 38 (List._∷_ 91 (List._∷_ 93 List.[]))) (Syntax.tcons (Syntax.tyRef Syntax.erased Syntax.mut El.word) (Syntax.tcons El.word
-    Syntax.tnil)))) (List._∷_ (14, Rows'.any-gone (Syntax.tyRef Syntax.erased Syntax.mut El.word)) (List._∷_ (15, Mut.msleft (Referent.rtF (Referent.fInt Syntax.w64)) (Syntax.tyRef Syntax.erased Syntax.mut El.word)) List.[])))))))))))))))
+t21 = List._∷_ (0, Rows'.whole (Declared'.row Answered.the-type)) (List._∷_ (1, Mut.mslice El.row (Syntax.tyRef (Syntax.named 0) Syntax.mut El.named) 0) (List._∷_ (
+  2,
+  Mut.mslice (Referent.rtF (Referent.fInt Syntax.w64)) (Syntax.tyRef
+      (Syntax.named 1) Syntax.mut El.word) 1,
+) (List._∷_ (3, Mut.mslice (Referent.rtF (Referent.fInt Syntax.w64)) (Syntax.tyRef (Syntax.named 2) Syntax.mut El.word) 2) (List._∷_ (
+  4,
+  Relend.mslice-owed (Referent.rtF (Referent.fInt
+      Syntax.w64)) (Syntax.tyRef (Syntax.named 3) Syntax.mut El.word) 3 8 Row.off,
+) (List._∷_ (5, Rows'.any-gone El.ReadyQueue) (List._∷_ (
+  6,
+  Rows'.sslice (Referent.rtF (Referent.fInt Syntax.w8)) (Syntax.tyRef (Syntax.named 4) Syntax.imm
+      (Syntax.tyInt Syntax.w8)) 4,
+) (List._∷_ (7, Rows.arr-shr (Referent.rtF (Referent.fInt Syntax.w16)) 1 9) (List._∷_ (8, Rows'.any-gone (Syntax.tyRef Syntax.erased Syntax.mut El.named)) (List._∷_ (
+  9,
+  Rows'.any-gone (Syntax.tyStruct
+      (List._∷_ 38 (List._∷_ 91 (List._∷_ 93 List.[]))) (Syntax.tcons (Syntax.tyRef Syntax.erased Syntax.mut El.named) (Syntax.tcons El.word Syntax.tnil))),
+) (List._∷_ (10, Rows'.any-gone (Syntax.tyRef Syntax.erased Syntax.mut El.word))
+    (List._∷_ (11, Rows'.any-gone (Syntax.tyStruct (List._∷_ 38 (List._∷_ 91 (List._∷_ 93 List.[]))) (Syntax.tcons (Syntax.tyRef Syntax.erased Syntax.mut El.word) (Syntax.tcons El.word Syntax.tnil)))) (List._∷_ (
+      12,
+      Rows'.any-gone
+          (Syntax.tyRef Syntax.erased Syntax.mut El.word),
+    ) (List._∷_ (
+      13,
+      Rows'.any-gone (Syntax.tyStruct (List._∷_ 38 (List._∷_ 91 (List._∷_ 93 List.[]))) (Syntax.tcons (Syntax.tyRef Syntax.erased Syntax.mut El.word) (Syntax.tcons El.word
+          Syntax.tnil))),
+    ) (List._∷_ (14, Rows'.any-gone (Syntax.tyRef Syntax.erased Syntax.mut El.word)) (List._∷_ (15, Mut.msleft (Referent.rtF (Referent.fInt Syntax.w64)) (Syntax.tyRef Syntax.erased Syntax.mut El.word)) List.[])))))))))))))))
 
 abbrev pub t22 : List.List Row.Entry
-t22 = List._∷_ (0, Rows'.whole (Declared'.row Answered.the-type)) (List._∷_ (1, Mut.mslice El.row (Syntax.tyRef (Syntax.named 0) Syntax.mut El.named) 0) (List._∷_ (2, Mut.mslice (Referent.rtF (Referent.fInt Syntax.w64)) (Syntax.tyRef
-    (Syntax.named 1) Syntax.mut El.word) 1) (List._∷_ (3, Mut.mslice (Referent.rtF (Referent.fInt Syntax.w64)) (Syntax.tyRef (Syntax.named 2) Syntax.mut El.word) 2) (List._∷_ (4, Mut.mslice (Referent.rtF (Referent.fInt Syntax.w64))
-    (Syntax.tyRef (Syntax.named 3) Syntax.mut El.word) 3) (List._∷_ (5, Rows'.any-gone El.ReadyQueue) (List._∷_ (6, Rows'.sslice (Referent.rtF (Referent.fInt Syntax.w8)) (Syntax.tyRef (Syntax.named 4) Syntax.imm (Syntax.tyInt Syntax.w8))
-    4) (List._∷_ (7, Rows.arr-shr (Referent.rtF (Referent.fInt Syntax.w16)) 1 9) (List._∷_ (8, Rows'.any-gone (Syntax.tyRef Syntax.erased Syntax.mut El.named)) (List._∷_ (9, Rows'.any-gone (Syntax.tyStruct (List._∷_ 38 (List._∷_ 91
-    (List._∷_ 93 List.[]))) (Syntax.tcons (Syntax.tyRef Syntax.erased Syntax.mut El.named) (Syntax.tcons El.word Syntax.tnil)))) (List._∷_ (10, Rows'.any-gone (Syntax.tyRef Syntax.erased Syntax.mut El.word)) (List._∷_ (11, Rows'.any-gone
-    (Syntax.tyStruct (List._∷_ 38 (List._∷_ 91 (List._∷_ 93 List.[]))) (Syntax.tcons (Syntax.tyRef Syntax.erased Syntax.mut El.word) (Syntax.tcons El.word Syntax.tnil)))) (List._∷_ (12, Rows'.any-gone (Syntax.tyRef Syntax.erased
-    Syntax.mut El.word)) (List._∷_ (13, Rows'.any-gone (Syntax.tyStruct (List._∷_ 38 (List._∷_ 91 (List._∷_ 93 List.[]))) (Syntax.tcons (Syntax.tyRef Syntax.erased Syntax.mut El.word) (Syntax.tcons El.word Syntax.tnil)))) (List._∷_ (14,
-    Rows'.any-gone (Syntax.tyRef Syntax.erased Syntax.mut El.word)) (List._∷_ (15, Rows'.any-gone (Syntax.tyStruct (List._∷_ 38 (List._∷_ 91 (List._∷_ 93 List.[]))) (Syntax.tcons (Syntax.tyRef Syntax.erased Syntax.mut El.word)
-    (Syntax.tcons El.word Syntax.tnil)))) List.[])))))))))))))))
+t22 = List._∷_ (0, Rows'.whole (Declared'.row Answered.the-type)) (List._∷_ (1, Mut.mslice El.row (Syntax.tyRef (Syntax.named 0) Syntax.mut El.named) 0) (List._∷_ (
+  2,
+  Mut.mslice (Referent.rtF (Referent.fInt Syntax.w64)) (Syntax.tyRef
+      (Syntax.named 1) Syntax.mut El.word) 1,
+) (List._∷_ (3, Mut.mslice (Referent.rtF (Referent.fInt Syntax.w64)) (Syntax.tyRef (Syntax.named 2) Syntax.mut El.word) 2) (List._∷_ (
+  4,
+  Mut.mslice (Referent.rtF (Referent.fInt Syntax.w64))
+      (Syntax.tyRef (Syntax.named 3) Syntax.mut El.word) 3,
+) (List._∷_ (5, Rows'.any-gone El.ReadyQueue) (List._∷_ (
+  6,
+  Rows'.sslice (Referent.rtF (Referent.fInt Syntax.w8)) (Syntax.tyRef (Syntax.named 4) Syntax.imm (Syntax.tyInt Syntax.w8))
+      4,
+) (List._∷_ (7, Rows.arr-shr (Referent.rtF (Referent.fInt Syntax.w16)) 1 9) (List._∷_ (8, Rows'.any-gone (Syntax.tyRef Syntax.erased Syntax.mut El.named)) (List._∷_ (
+  9,
+  Rows'.any-gone (Syntax.tyStruct (List._∷_ 38 (List._∷_ 91
+      (List._∷_ 93 List.[]))) (Syntax.tcons (Syntax.tyRef Syntax.erased Syntax.mut El.named) (Syntax.tcons El.word Syntax.tnil))),
+) (List._∷_ (10, Rows'.any-gone (Syntax.tyRef Syntax.erased Syntax.mut El.word)) (List._∷_ (
+  11,
+  Rows'.any-gone
+      (Syntax.tyStruct (List._∷_ 38 (List._∷_ 91 (List._∷_ 93 List.[]))) (Syntax.tcons (Syntax.tyRef Syntax.erased Syntax.mut El.word) (Syntax.tcons El.word Syntax.tnil))),
+) (List._∷_ (
+  12,
+  Rows'.any-gone (Syntax.tyRef Syntax.erased
+      Syntax.mut El.word),
+) (List._∷_ (13, Rows'.any-gone (Syntax.tyStruct (List._∷_ 38 (List._∷_ 91 (List._∷_ 93 List.[]))) (Syntax.tcons (Syntax.tyRef Syntax.erased Syntax.mut El.word) (Syntax.tcons El.word Syntax.tnil)))) (List._∷_ (
+  14,
+  Rows'.any-gone (Syntax.tyRef Syntax.erased Syntax.mut El.word),
+) (List._∷_ (
+  15,
+  Rows'.any-gone (Syntax.tyStruct (List._∷_ 38 (List._∷_ 91 (List._∷_ 93 List.[]))) (Syntax.tcons (Syntax.tyRef Syntax.erased Syntax.mut El.word)
+      (Syntax.tcons El.word Syntax.tnil))),
+) List.[])))))))))))))))
 
 abbrev pub t23 : List.List Row.Entry
-t23 = List._∷_ (0, Rows'.whole (Declared'.row Answered.the-type)) (List._∷_ (1, Mut.mslice El.row (Syntax.tyRef (Syntax.named 0) Syntax.mut El.named) 0) (List._∷_ (2, Mut.mslice (Referent.rtF (Referent.fInt Syntax.w64)) (Syntax.tyRef
-    (Syntax.named 1) Syntax.mut El.word) 1) (List._∷_ (3, Mut.mslice (Referent.rtF (Referent.fInt Syntax.w64)) (Syntax.tyRef (Syntax.named 2) Syntax.mut El.word) 2) (List._∷_ (4, Mut.mslice (Referent.rtF (Referent.fInt Syntax.w64))
-    (Syntax.tyRef (Syntax.named 3) Syntax.mut El.word) 3) (List._∷_ (5, Rows'.any-gone El.ReadyQueue) (List._∷_ (6, Rows'.sslice (Referent.rtF (Referent.fInt Syntax.w8)) (Syntax.tyRef (Syntax.named 4) Syntax.imm (Syntax.tyInt Syntax.w8))
-    4) (List._∷_ (7, Rows.arrF (Referent.rtF (Referent.fInt Syntax.w16)) 1 0) (List._∷_ (8, Rows'.any-gone (Syntax.tyRef Syntax.erased Syntax.mut El.named)) (List._∷_ (9, Rows'.any-gone (Syntax.tyStruct (List._∷_ 38 (List._∷_ 91
-    (List._∷_ 93 List.[]))) (Syntax.tcons (Syntax.tyRef Syntax.erased Syntax.mut El.named) (Syntax.tcons El.word Syntax.tnil)))) (List._∷_ (10, Rows'.any-gone (Syntax.tyRef Syntax.erased Syntax.mut El.word)) (List._∷_ (11, Rows'.any-gone
-    (Syntax.tyStruct (List._∷_ 38 (List._∷_ 91 (List._∷_ 93 List.[]))) (Syntax.tcons (Syntax.tyRef Syntax.erased Syntax.mut El.word) (Syntax.tcons El.word Syntax.tnil)))) (List._∷_ (12, Rows'.any-gone (Syntax.tyRef Syntax.erased
-    Syntax.mut El.word)) (List._∷_ (13, Rows'.any-gone (Syntax.tyStruct (List._∷_ 38 (List._∷_ 91 (List._∷_ 93 List.[]))) (Syntax.tcons (Syntax.tyRef Syntax.erased Syntax.mut El.word) (Syntax.tcons El.word Syntax.tnil)))) (List._∷_ (14,
-    Rows'.any-gone (Syntax.tyRef Syntax.erased Syntax.mut El.word)) (List._∷_ (15, Rows'.any-gone (Syntax.tyStruct (List._∷_ 38 (List._∷_ 91 (List._∷_ 93 List.[]))) (Syntax.tcons (Syntax.tyRef Syntax.erased Syntax.mut El.word)
-    (Syntax.tcons El.word Syntax.tnil)))) List.[])))))))))))))))
+t23 = List._∷_ (0, Rows'.whole (Declared'.row Answered.the-type)) (List._∷_ (1, Mut.mslice El.row (Syntax.tyRef (Syntax.named 0) Syntax.mut El.named) 0) (List._∷_ (
+  2,
+  Mut.mslice (Referent.rtF (Referent.fInt Syntax.w64)) (Syntax.tyRef
+      (Syntax.named 1) Syntax.mut El.word) 1,
+) (List._∷_ (3, Mut.mslice (Referent.rtF (Referent.fInt Syntax.w64)) (Syntax.tyRef (Syntax.named 2) Syntax.mut El.word) 2) (List._∷_ (
+  4,
+  Mut.mslice (Referent.rtF (Referent.fInt Syntax.w64))
+      (Syntax.tyRef (Syntax.named 3) Syntax.mut El.word) 3,
+) (List._∷_ (5, Rows'.any-gone El.ReadyQueue) (List._∷_ (
+  6,
+  Rows'.sslice (Referent.rtF (Referent.fInt Syntax.w8)) (Syntax.tyRef (Syntax.named 4) Syntax.imm (Syntax.tyInt Syntax.w8))
+      4,
+) (List._∷_ (7, Rows.arrF (Referent.rtF (Referent.fInt Syntax.w16)) 1 0) (List._∷_ (8, Rows'.any-gone (Syntax.tyRef Syntax.erased Syntax.mut El.named)) (List._∷_ (
+  9,
+  Rows'.any-gone (Syntax.tyStruct (List._∷_ 38 (List._∷_ 91
+      (List._∷_ 93 List.[]))) (Syntax.tcons (Syntax.tyRef Syntax.erased Syntax.mut El.named) (Syntax.tcons El.word Syntax.tnil))),
+) (List._∷_ (10, Rows'.any-gone (Syntax.tyRef Syntax.erased Syntax.mut El.word)) (List._∷_ (
+  11,
+  Rows'.any-gone
+      (Syntax.tyStruct (List._∷_ 38 (List._∷_ 91 (List._∷_ 93 List.[]))) (Syntax.tcons (Syntax.tyRef Syntax.erased Syntax.mut El.word) (Syntax.tcons El.word Syntax.tnil))),
+) (List._∷_ (
+  12,
+  Rows'.any-gone (Syntax.tyRef Syntax.erased
+      Syntax.mut El.word),
+) (List._∷_ (13, Rows'.any-gone (Syntax.tyStruct (List._∷_ 38 (List._∷_ 91 (List._∷_ 93 List.[]))) (Syntax.tcons (Syntax.tyRef Syntax.erased Syntax.mut El.word) (Syntax.tcons El.word Syntax.tnil)))) (List._∷_ (
+  14,
+  Rows'.any-gone (Syntax.tyRef Syntax.erased Syntax.mut El.word),
+) (List._∷_ (
+  15,
+  Rows'.any-gone (Syntax.tyStruct (List._∷_ 38 (List._∷_ 91 (List._∷_ 93 List.[]))) (Syntax.tcons (Syntax.tyRef Syntax.erased Syntax.mut El.word)
+      (Syntax.tcons El.word Syntax.tnil))),
+) List.[])))))))))))))))
 
 abbrev pub T0 : Row.Cx
 T0 = record { locals = List._++_ t0 t1; slots = List.[] }
@@ -576,10 +1056,41 @@ module _ (claims· : Claims) where
       (Syntax.tyRef Syntax.erased Syntax.imm (Syntax.tyInt Syntax.w16)) (λ x. x) (Scalar.oInt Syntax.w64 1)
 
   abbrev s22 : Typed.Both T23 T24
-  s22 = Call.callB ps·0 r·0 (claims· .0) (claims· .1) T23 (record { pos = 9; ty = Syntax.tyRef Syntax.erased Syntax.mut El.named; ref = λ x. x; }, (record { pos = 11; ty = Syntax.tyRef Syntax.erased Syntax.mut El.word; ref = λ x. x; },
-      (record { pos = 13; ty = Syntax.tyRef Syntax.erased Syntax.mut El.word; ref = λ x. x; }, (record { pos = 15; ty = Syntax.tyRef Syntax.erased Syntax.mut El.word; ref = λ x. x; }, (record { pos = 5; st = List.[]; d = 0; at = λ x. x
-      }, (record { pos = 16; st = List.[]; d = 0; at = λ x. x }, (record { pos = 18; ty = Syntax.tyRef Syntax.erased Syntax.imm (Syntax.tyInt Syntax.w16); ref = λ x. x; }, (record { pos = 6; ty = Syntax.tyRef (Syntax.named 4)
-      Syntax.imm (Syntax.tyInt Syntax.w8); ref = λ x. x; }, tt)))))))) 0 (List._∷_ 5 (List._∷_ 6 (List._∷_ 7 (List._∷_ 8 (List._∷_ 9 (List._∷_ 4 List.[])))))) El.Answered
+  s22 = Call.callB ps·0 r·0 (claims· .0) (claims· .1) T23 (
+    record { pos = 9; ty = Syntax.tyRef Syntax.erased Syntax.mut El.named; ref = λ x. x },
+    (
+      record { pos = 11; ty = Syntax.tyRef Syntax.erased Syntax.mut El.word; ref = λ x. x },
+      (
+        record { pos = 13; ty = Syntax.tyRef Syntax.erased Syntax.mut El.word; ref = λ x. x },
+        (
+          record { pos = 15; ty = Syntax.tyRef Syntax.erased Syntax.mut El.word; ref = λ x. x },
+          (
+            record {
+              pos = 5;
+              st = List.[];
+              d = 0;
+              at = λ x. x;
+            },
+            (
+              record { pos = 16; st = List.[]; d = 0; at = λ x. x },
+              (
+                record { pos = 18; ty = Syntax.tyRef Syntax.erased Syntax.imm (Syntax.tyInt Syntax.w16); ref = λ x. x },
+                (
+                  record {
+                    pos = 6;
+                    ty = Syntax.tyRef (Syntax.named 4)
+                        Syntax.imm (Syntax.tyInt Syntax.w8);
+                    ref = λ x. x;
+                  },
+                  tt,
+                ),
+              ),
+            ),
+          ),
+        ),
+      ),
+    ),
+  ) 0 (List._∷_ 5 (List._∷_ 6 (List._∷_ 7 (List._∷_ 8 (List._∷_ 9 (List._∷_ 4 List.[])))))) El.Answered
 
   abbrev s23 : Typed.Mo T24 → Typed.Mo T25
   s23 = Scalar.n-room T24 18 (Syntax.tyStruct (List._∷_ 38 (List._∷_ 91 (List._∷_ 93 List.[]))) (Syntax.tcons (Syntax.tyRef Syntax.erased Syntax.imm (Syntax.tyInt Syntax.w16)) (Syntax.tcons El.word Syntax.tnil)))
@@ -771,341 +1282,758 @@ module _ (claims· : Claims) where
 
       module _ (κs : Lifetimes.Lfts 5) (qs : Lifetimes.Shares 5) where
         abbrev g5 : List.List Row.Entry
-        g5 = List._∷_ (0, Rows'.any-gone El.Answered) (List._∷_ (1, Relend.mslice-owed El.row (Syntax.tyRef (Syntax.named 0) Syntax.mut El.named) 0 5 (Row.lease (κs .0) (qs .0))) (List._∷_ (2, Mut.mslice (Referent.rtF (Referent.fInt
-            Syntax.w64)) (Syntax.tyRef (Syntax.named 1) Syntax.mut El.word) 1) (List._∷_ (3, Mut.mslice (Referent.rtF (Referent.fInt Syntax.w64)) (Syntax.tyRef (Syntax.named 2) Syntax.mut El.word) 2) (List._∷_ (4, Mut.mslice
-            (Referent.rtF (Referent.fInt Syntax.w64)) (Syntax.tyRef (Syntax.named 3) Syntax.mut El.word) 3) (List._∷_ (5, Rows'.whole (Declared'.row ReadyQueue.the-type)) (List._∷_ (6, Rows'.sslice (Referent.rtF (Referent.fInt
-            Syntax.w8)) (Syntax.tyRef (Syntax.named 4) Syntax.imm (Syntax.tyInt Syntax.w8)) 4) (List._∷_ (7, Rows.arrF (Referent.rtF (Referent.fInt Syntax.w16)) 1 0) (List._∷_ (8, Relend.msptr El.row (Syntax.tyRef Syntax.erased
-            Syntax.mut El.named) 5) (List._∷_ (9, Rows'.any-gone (Syntax.tyStruct (List._∷_ 38 (List._∷_ 91 (List._∷_ 93 List.[]))) (Syntax.tcons (Syntax.tyRef Syntax.erased Syntax.mut El.named) (Syntax.tcons El.word Syntax.tnil))))
-            (List._∷_ (10, Rows'.any-gone (Syntax.tyRef Syntax.erased Syntax.mut El.word)) (List._∷_ (11, Rows'.any-gone (Syntax.tyStruct (List._∷_ 38 (List._∷_ 91 (List._∷_ 93 List.[]))) (Syntax.tcons (Syntax.tyRef Syntax.erased
-            Syntax.mut El.word) (Syntax.tcons El.word Syntax.tnil)))) (List._∷_ (12, Rows'.any-gone (Syntax.tyRef Syntax.erased Syntax.mut El.word)) (List._∷_ (13, Rows'.any-gone (Syntax.tyStruct (List._∷_ 38 (List._∷_ 91 (List._∷_ 93
-            List.[]))) (Syntax.tcons (Syntax.tyRef Syntax.erased Syntax.mut El.word) (Syntax.tcons El.word Syntax.tnil)))) (List._∷_ (14, Rows'.any-gone (Syntax.tyRef Syntax.erased Syntax.mut El.word)) (List._∷_ (15, Rows'.any-gone
-            (Syntax.tyStruct (List._∷_ 38 (List._∷_ 91 (List._∷_ 93 List.[]))) (Syntax.tcons (Syntax.tyRef Syntax.erased Syntax.mut El.word) (Syntax.tcons El.word Syntax.tnil)))) List.[])))))))))))))))
+        g5 = List._∷_ (0, Rows'.any-gone El.Answered) (List._∷_ (1, Relend.mslice-owed El.row (Syntax.tyRef (Syntax.named 0) Syntax.mut El.named) 0 5 (Row.lease (κs .0) (qs .0))) (List._∷_ (
+          2,
+          Mut.mslice (Referent.rtF (Referent.fInt
+              Syntax.w64)) (Syntax.tyRef (Syntax.named 1) Syntax.mut El.word) 1,
+        ) (List._∷_ (3, Mut.mslice (Referent.rtF (Referent.fInt Syntax.w64)) (Syntax.tyRef (Syntax.named 2) Syntax.mut El.word) 2) (List._∷_ (
+          4,
+          Mut.mslice
+              (Referent.rtF (Referent.fInt Syntax.w64)) (Syntax.tyRef (Syntax.named 3) Syntax.mut El.word) 3,
+        ) (List._∷_ (5, Rows'.whole (Declared'.row ReadyQueue.the-type)) (List._∷_ (
+          6,
+          Rows'.sslice (Referent.rtF (Referent.fInt
+              Syntax.w8)) (Syntax.tyRef (Syntax.named 4) Syntax.imm (Syntax.tyInt Syntax.w8)) 4,
+        ) (List._∷_ (7, Rows.arrF (Referent.rtF (Referent.fInt Syntax.w16)) 1 0) (List._∷_ (
+          8,
+          Relend.msptr El.row (Syntax.tyRef Syntax.erased
+              Syntax.mut El.named) 5,
+        ) (List._∷_ (9, Rows'.any-gone (Syntax.tyStruct (List._∷_ 38 (List._∷_ 91 (List._∷_ 93 List.[]))) (Syntax.tcons (Syntax.tyRef Syntax.erased Syntax.mut El.named) (Syntax.tcons El.word Syntax.tnil))))
+            (List._∷_ (10, Rows'.any-gone (Syntax.tyRef Syntax.erased Syntax.mut El.word)) (List._∷_ (
+              11,
+              Rows'.any-gone (Syntax.tyStruct (List._∷_ 38 (List._∷_ 91 (List._∷_ 93 List.[]))) (Syntax.tcons (Syntax.tyRef Syntax.erased
+                  Syntax.mut El.word) (Syntax.tcons El.word Syntax.tnil))),
+            ) (List._∷_ (12, Rows'.any-gone (Syntax.tyRef Syntax.erased Syntax.mut El.word)) (List._∷_ (
+              13,
+              Rows'.any-gone (Syntax.tyStruct (List._∷_ 38 (List._∷_ 91 (List._∷_ 93
+                  List.[]))) (Syntax.tcons (Syntax.tyRef Syntax.erased Syntax.mut El.word) (Syntax.tcons El.word Syntax.tnil))),
+            ) (List._∷_ (14, Rows'.any-gone (Syntax.tyRef Syntax.erased Syntax.mut El.word)) (List._∷_ (
+              15,
+              Rows'.any-gone
+                  (Syntax.tyStruct (List._∷_ 38 (List._∷_ 91 (List._∷_ 93 List.[]))) (Syntax.tcons (Syntax.tyRef Syntax.erased Syntax.mut El.word) (Syntax.tcons El.word Syntax.tnil))),
+            ) List.[])))))))))))))))
 
         abbrev g6 : List.List Row.Entry
-        g6 = List._∷_ (0, Rows'.any-gone El.Answered) (List._∷_ (1, Relend.mslice-owed El.row (Syntax.tyRef (Syntax.named 0) Syntax.mut El.named) 0 5 (Row.lease (κs .0) (qs .0))) (List._∷_ (2, Mut.mslice (Referent.rtF (Referent.fInt
-            Syntax.w64)) (Syntax.tyRef (Syntax.named 1) Syntax.mut El.word) 1) (List._∷_ (3, Mut.mslice (Referent.rtF (Referent.fInt Syntax.w64)) (Syntax.tyRef (Syntax.named 2) Syntax.mut El.word) 2) (List._∷_ (4, Mut.mslice
-            (Referent.rtF (Referent.fInt Syntax.w64)) (Syntax.tyRef (Syntax.named 3) Syntax.mut El.word) 3) (List._∷_ (5, Rows'.whole (Declared'.row ReadyQueue.the-type)) (List._∷_ (6, Rows'.sslice (Referent.rtF (Referent.fInt
-            Syntax.w8)) (Syntax.tyRef (Syntax.named 4) Syntax.imm (Syntax.tyInt Syntax.w8)) 4) (List._∷_ (7, Rows.arrF (Referent.rtF (Referent.fInt Syntax.w16)) 1 0) (List._∷_ (8, Rows'.any-gone (Syntax.tyRef Syntax.erased Syntax.mut
-            El.named)) (List._∷_ (9, Mut.mslice El.row (Syntax.tyRef Syntax.erased Syntax.mut El.named) 5) (List._∷_ (10, Rows'.any-gone (Syntax.tyRef Syntax.erased Syntax.mut El.word)) (List._∷_ (11, Rows'.any-gone (Syntax.tyStruct
-            (List._∷_ 38 (List._∷_ 91 (List._∷_ 93 List.[]))) (Syntax.tcons (Syntax.tyRef Syntax.erased Syntax.mut El.word) (Syntax.tcons El.word Syntax.tnil)))) (List._∷_ (12, Rows'.any-gone (Syntax.tyRef Syntax.erased Syntax.mut
-            El.word)) (List._∷_ (13, Rows'.any-gone (Syntax.tyStruct (List._∷_ 38 (List._∷_ 91 (List._∷_ 93 List.[]))) (Syntax.tcons (Syntax.tyRef Syntax.erased Syntax.mut El.word) (Syntax.tcons El.word Syntax.tnil)))) (List._∷_ (14,
-            Rows'.any-gone (Syntax.tyRef Syntax.erased Syntax.mut El.word)) (List._∷_ (15, Rows'.any-gone (Syntax.tyStruct (List._∷_ 38 (List._∷_ 91 (List._∷_ 93 List.[]))) (Syntax.tcons (Syntax.tyRef Syntax.erased Syntax.mut El.word)
-            (Syntax.tcons El.word Syntax.tnil)))) List.[])))))))))))))))
+        g6 = List._∷_ (0, Rows'.any-gone El.Answered) (List._∷_ (1, Relend.mslice-owed El.row (Syntax.tyRef (Syntax.named 0) Syntax.mut El.named) 0 5 (Row.lease (κs .0) (qs .0))) (List._∷_ (
+          2,
+          Mut.mslice (Referent.rtF (Referent.fInt
+              Syntax.w64)) (Syntax.tyRef (Syntax.named 1) Syntax.mut El.word) 1,
+        ) (List._∷_ (3, Mut.mslice (Referent.rtF (Referent.fInt Syntax.w64)) (Syntax.tyRef (Syntax.named 2) Syntax.mut El.word) 2) (List._∷_ (
+          4,
+          Mut.mslice
+              (Referent.rtF (Referent.fInt Syntax.w64)) (Syntax.tyRef (Syntax.named 3) Syntax.mut El.word) 3,
+        ) (List._∷_ (5, Rows'.whole (Declared'.row ReadyQueue.the-type)) (List._∷_ (
+          6,
+          Rows'.sslice (Referent.rtF (Referent.fInt
+              Syntax.w8)) (Syntax.tyRef (Syntax.named 4) Syntax.imm (Syntax.tyInt Syntax.w8)) 4,
+        ) (List._∷_ (7, Rows.arrF (Referent.rtF (Referent.fInt Syntax.w16)) 1 0) (List._∷_ (
+          8,
+          Rows'.any-gone (Syntax.tyRef Syntax.erased Syntax.mut
+              El.named),
+        ) (List._∷_ (9, Mut.mslice El.row (Syntax.tyRef Syntax.erased Syntax.mut El.named) 5) (List._∷_ (10, Rows'.any-gone (Syntax.tyRef Syntax.erased Syntax.mut El.word)) (List._∷_ (
+          11,
+          Rows'.any-gone (Syntax.tyStruct
+              (List._∷_ 38 (List._∷_ 91 (List._∷_ 93 List.[]))) (Syntax.tcons (Syntax.tyRef Syntax.erased Syntax.mut El.word) (Syntax.tcons El.word Syntax.tnil))),
+        ) (List._∷_ (
+          12,
+          Rows'.any-gone (Syntax.tyRef Syntax.erased Syntax.mut
+              El.word),
+        ) (List._∷_ (13, Rows'.any-gone (Syntax.tyStruct (List._∷_ 38 (List._∷_ 91 (List._∷_ 93 List.[]))) (Syntax.tcons (Syntax.tyRef Syntax.erased Syntax.mut El.word) (Syntax.tcons El.word Syntax.tnil)))) (List._∷_ (
+          14,
+          Rows'.any-gone (Syntax.tyRef Syntax.erased Syntax.mut El.word),
+        ) (List._∷_ (
+          15,
+          Rows'.any-gone (Syntax.tyStruct (List._∷_ 38 (List._∷_ 91 (List._∷_ 93 List.[]))) (Syntax.tcons (Syntax.tyRef Syntax.erased Syntax.mut El.word)
+              (Syntax.tcons El.word Syntax.tnil))),
+        ) List.[])))))))))))))))
 
         abbrev g7 : List.List Row.Entry
-        g7 = List._∷_ (0, Rows'.any-gone El.Answered) (List._∷_ (1, Relend.mslice-owed El.row (Syntax.tyRef (Syntax.named 0) Syntax.mut El.named) 0 5 (Row.lease (κs .0) (qs .0))) (List._∷_ (2, Relend.mslice-owed (Referent.rtF
-            (Referent.fInt Syntax.w64)) (Syntax.tyRef (Syntax.named 1) Syntax.mut El.word) 1 6 (Row.lease (κs .1 .0) (qs .1 .0))) (List._∷_ (3, Mut.mslice (Referent.rtF (Referent.fInt Syntax.w64)) (Syntax.tyRef (Syntax.named 2)
-            Syntax.mut El.word) 2) (List._∷_ (4, Mut.mslice (Referent.rtF (Referent.fInt Syntax.w64)) (Syntax.tyRef (Syntax.named 3) Syntax.mut El.word) 3) (List._∷_ (5, Rows'.whole (Declared'.row ReadyQueue.the-type)) (List._∷_ (6,
-            Rows'.sslice (Referent.rtF (Referent.fInt Syntax.w8)) (Syntax.tyRef (Syntax.named 4) Syntax.imm (Syntax.tyInt Syntax.w8)) 4) (List._∷_ (7, Rows.arrF (Referent.rtF (Referent.fInt Syntax.w16)) 1 0) (List._∷_ (8,
-            Rows'.any-gone (Syntax.tyRef Syntax.erased Syntax.mut El.named)) (List._∷_ (9, Mut.mslice El.row (Syntax.tyRef Syntax.erased Syntax.mut El.named) 5) (List._∷_ (10, Relend.msptr (Referent.rtF (Referent.fInt Syntax.w64))
-            (Syntax.tyRef Syntax.erased Syntax.mut El.word) 6) (List._∷_ (11, Rows'.any-gone (Syntax.tyStruct (List._∷_ 38 (List._∷_ 91 (List._∷_ 93 List.[]))) (Syntax.tcons (Syntax.tyRef Syntax.erased Syntax.mut El.word) (Syntax.tcons
-            El.word Syntax.tnil)))) (List._∷_ (12, Rows'.any-gone (Syntax.tyRef Syntax.erased Syntax.mut El.word)) (List._∷_ (13, Rows'.any-gone (Syntax.tyStruct (List._∷_ 38 (List._∷_ 91 (List._∷_ 93 List.[]))) (Syntax.tcons
-            (Syntax.tyRef Syntax.erased Syntax.mut El.word) (Syntax.tcons El.word Syntax.tnil)))) (List._∷_ (14, Rows'.any-gone (Syntax.tyRef Syntax.erased Syntax.mut El.word)) (List._∷_ (15, Rows'.any-gone (Syntax.tyStruct (List._∷_ 38
-            (List._∷_ 91 (List._∷_ 93 List.[]))) (Syntax.tcons (Syntax.tyRef Syntax.erased Syntax.mut El.word) (Syntax.tcons El.word Syntax.tnil)))) List.[])))))))))))))))
+        g7 = List._∷_ (0, Rows'.any-gone El.Answered) (List._∷_ (1, Relend.mslice-owed El.row (Syntax.tyRef (Syntax.named 0) Syntax.mut El.named) 0 5 (Row.lease (κs .0) (qs .0))) (List._∷_ (
+          2,
+          Relend.mslice-owed (Referent.rtF
+              (Referent.fInt Syntax.w64)) (Syntax.tyRef (Syntax.named 1) Syntax.mut El.word) 1 6 (Row.lease (κs .1 .0) (qs .1 .0)),
+        ) (List._∷_ (
+          3,
+          Mut.mslice (Referent.rtF (Referent.fInt Syntax.w64)) (Syntax.tyRef (Syntax.named 2)
+              Syntax.mut El.word) 2,
+        ) (List._∷_ (4, Mut.mslice (Referent.rtF (Referent.fInt Syntax.w64)) (Syntax.tyRef (Syntax.named 3) Syntax.mut El.word) 3) (List._∷_ (5, Rows'.whole (Declared'.row ReadyQueue.the-type)) (List._∷_ (
+          6,
+          Rows'.sslice (Referent.rtF (Referent.fInt Syntax.w8)) (Syntax.tyRef (Syntax.named 4) Syntax.imm (Syntax.tyInt Syntax.w8)) 4,
+        ) (List._∷_ (7, Rows.arrF (Referent.rtF (Referent.fInt Syntax.w16)) 1 0) (List._∷_ (
+          8,
+          Rows'.any-gone (Syntax.tyRef Syntax.erased Syntax.mut El.named),
+        ) (List._∷_ (9, Mut.mslice El.row (Syntax.tyRef Syntax.erased Syntax.mut El.named) 5) (List._∷_ (
+          10,
+          Relend.msptr (Referent.rtF (Referent.fInt Syntax.w64))
+              (Syntax.tyRef Syntax.erased Syntax.mut El.word) 6,
+        ) (List._∷_ (
+          11,
+          Rows'.any-gone (Syntax.tyStruct (List._∷_ 38 (List._∷_ 91 (List._∷_ 93 List.[]))) (Syntax.tcons (Syntax.tyRef Syntax.erased Syntax.mut El.word) (Syntax.tcons
+              El.word Syntax.tnil))),
+        ) (List._∷_ (12, Rows'.any-gone (Syntax.tyRef Syntax.erased Syntax.mut El.word)) (List._∷_ (
+          13,
+          Rows'.any-gone (Syntax.tyStruct (List._∷_ 38 (List._∷_ 91 (List._∷_ 93 List.[]))) (Syntax.tcons
+              (Syntax.tyRef Syntax.erased Syntax.mut El.word) (Syntax.tcons El.word Syntax.tnil))),
+        ) (List._∷_ (14, Rows'.any-gone (Syntax.tyRef Syntax.erased Syntax.mut El.word)) (List._∷_ (
+          15,
+          Rows'.any-gone (Syntax.tyStruct (List._∷_ 38
+              (List._∷_ 91 (List._∷_ 93 List.[]))) (Syntax.tcons (Syntax.tyRef Syntax.erased Syntax.mut El.word) (Syntax.tcons El.word Syntax.tnil))),
+        ) List.[])))))))))))))))
 
         abbrev g8 : List.List Row.Entry
-        g8 = List._∷_ (0, Rows'.any-gone El.Answered) (List._∷_ (1, Relend.mslice-owed El.row (Syntax.tyRef (Syntax.named 0) Syntax.mut El.named) 0 5 (Row.lease (κs .0) (qs .0))) (List._∷_ (2, Relend.mslice-owed (Referent.rtF
-            (Referent.fInt Syntax.w64)) (Syntax.tyRef (Syntax.named 1) Syntax.mut El.word) 1 6 (Row.lease (κs .1 .0) (qs .1 .0))) (List._∷_ (3, Mut.mslice (Referent.rtF (Referent.fInt Syntax.w64)) (Syntax.tyRef (Syntax.named 2)
-            Syntax.mut El.word) 2) (List._∷_ (4, Mut.mslice (Referent.rtF (Referent.fInt Syntax.w64)) (Syntax.tyRef (Syntax.named 3) Syntax.mut El.word) 3) (List._∷_ (5, Rows'.whole (Declared'.row ReadyQueue.the-type)) (List._∷_ (6,
-            Rows'.sslice (Referent.rtF (Referent.fInt Syntax.w8)) (Syntax.tyRef (Syntax.named 4) Syntax.imm (Syntax.tyInt Syntax.w8)) 4) (List._∷_ (7, Rows.arrF (Referent.rtF (Referent.fInt Syntax.w16)) 1 0) (List._∷_ (8,
-            Rows'.any-gone (Syntax.tyRef Syntax.erased Syntax.mut El.named)) (List._∷_ (9, Mut.mslice El.row (Syntax.tyRef Syntax.erased Syntax.mut El.named) 5) (List._∷_ (10, Rows'.any-gone (Syntax.tyRef Syntax.erased Syntax.mut El.word))
-            (List._∷_ (11, Mut.mslice (Referent.rtF (Referent.fInt Syntax.w64)) (Syntax.tyRef Syntax.erased Syntax.mut El.word) 6) (List._∷_ (12, Rows'.any-gone (Syntax.tyRef Syntax.erased Syntax.mut El.word)) (List._∷_ (13,
-            Rows'.any-gone (Syntax.tyStruct (List._∷_ 38 (List._∷_ 91 (List._∷_ 93 List.[]))) (Syntax.tcons (Syntax.tyRef Syntax.erased Syntax.mut El.word) (Syntax.tcons El.word Syntax.tnil)))) (List._∷_ (14, Rows'.any-gone (Syntax.tyRef
-            Syntax.erased Syntax.mut El.word)) (List._∷_ (15, Rows'.any-gone (Syntax.tyStruct (List._∷_ 38 (List._∷_ 91 (List._∷_ 93 List.[]))) (Syntax.tcons (Syntax.tyRef Syntax.erased Syntax.mut El.word) (Syntax.tcons El.word
-            Syntax.tnil)))) List.[])))))))))))))))
+        g8 = List._∷_ (0, Rows'.any-gone El.Answered) (List._∷_ (1, Relend.mslice-owed El.row (Syntax.tyRef (Syntax.named 0) Syntax.mut El.named) 0 5 (Row.lease (κs .0) (qs .0))) (List._∷_ (
+          2,
+          Relend.mslice-owed (Referent.rtF
+              (Referent.fInt Syntax.w64)) (Syntax.tyRef (Syntax.named 1) Syntax.mut El.word) 1 6 (Row.lease (κs .1 .0) (qs .1 .0)),
+        ) (List._∷_ (
+          3,
+          Mut.mslice (Referent.rtF (Referent.fInt Syntax.w64)) (Syntax.tyRef (Syntax.named 2)
+              Syntax.mut El.word) 2,
+        ) (List._∷_ (4, Mut.mslice (Referent.rtF (Referent.fInt Syntax.w64)) (Syntax.tyRef (Syntax.named 3) Syntax.mut El.word) 3) (List._∷_ (5, Rows'.whole (Declared'.row ReadyQueue.the-type)) (List._∷_ (
+          6,
+          Rows'.sslice (Referent.rtF (Referent.fInt Syntax.w8)) (Syntax.tyRef (Syntax.named 4) Syntax.imm (Syntax.tyInt Syntax.w8)) 4,
+        ) (List._∷_ (7, Rows.arrF (Referent.rtF (Referent.fInt Syntax.w16)) 1 0) (List._∷_ (
+          8,
+          Rows'.any-gone (Syntax.tyRef Syntax.erased Syntax.mut El.named),
+        ) (List._∷_ (9, Mut.mslice El.row (Syntax.tyRef Syntax.erased Syntax.mut El.named) 5) (List._∷_ (10, Rows'.any-gone (Syntax.tyRef Syntax.erased Syntax.mut El.word))
+            (List._∷_ (11, Mut.mslice (Referent.rtF (Referent.fInt Syntax.w64)) (Syntax.tyRef Syntax.erased Syntax.mut El.word) 6) (List._∷_ (12, Rows'.any-gone (Syntax.tyRef Syntax.erased Syntax.mut El.word)) (List._∷_ (
+              13,
+              Rows'.any-gone (Syntax.tyStruct (List._∷_ 38 (List._∷_ 91 (List._∷_ 93 List.[]))) (Syntax.tcons (Syntax.tyRef Syntax.erased Syntax.mut El.word) (Syntax.tcons El.word Syntax.tnil))),
+            ) (List._∷_ (
+              14,
+              Rows'.any-gone (Syntax.tyRef
+                  Syntax.erased Syntax.mut El.word),
+            ) (List._∷_ (
+              15,
+              Rows'.any-gone (Syntax.tyStruct (List._∷_ 38 (List._∷_ 91 (List._∷_ 93 List.[]))) (Syntax.tcons (Syntax.tyRef Syntax.erased Syntax.mut El.word) (Syntax.tcons El.word
+                  Syntax.tnil))),
+            ) List.[])))))))))))))))
 
         abbrev g9 : List.List Row.Entry
-        g9 = List._∷_ (0, Rows'.any-gone El.Answered) (List._∷_ (1, Relend.mslice-owed El.row (Syntax.tyRef (Syntax.named 0) Syntax.mut El.named) 0 5 (Row.lease (κs .0) (qs .0))) (List._∷_ (2, Relend.mslice-owed (Referent.rtF
-            (Referent.fInt Syntax.w64)) (Syntax.tyRef (Syntax.named 1) Syntax.mut El.word) 1 6 (Row.lease (κs .1 .0) (qs .1 .0))) (List._∷_ (3, Relend.mslice-owed (Referent.rtF (Referent.fInt Syntax.w64)) (Syntax.tyRef (Syntax.named 2)
-            Syntax.mut El.word) 2 7 (Row.lease (κs .1 .1 .0) (qs .1 .1 .0))) (List._∷_ (4, Mut.mslice (Referent.rtF (Referent.fInt Syntax.w64)) (Syntax.tyRef (Syntax.named 3) Syntax.mut El.word) 3) (List._∷_ (5, Rows'.whole
-            (Declared'.row ReadyQueue.the-type)) (List._∷_ (6, Rows'.sslice (Referent.rtF (Referent.fInt Syntax.w8)) (Syntax.tyRef (Syntax.named 4) Syntax.imm (Syntax.tyInt Syntax.w8)) 4) (List._∷_ (7, Rows.arrF (Referent.rtF
-            (Referent.fInt Syntax.w16)) 1 0) (List._∷_ (8, Rows'.any-gone (Syntax.tyRef Syntax.erased Syntax.mut El.named)) (List._∷_ (9, Mut.mslice El.row (Syntax.tyRef Syntax.erased Syntax.mut El.named) 5) (List._∷_ (10, Rows'.any-gone
-            (Syntax.tyRef Syntax.erased Syntax.mut El.word)) (List._∷_ (11, Mut.mslice (Referent.rtF (Referent.fInt Syntax.w64)) (Syntax.tyRef Syntax.erased Syntax.mut El.word) 6) (List._∷_ (12, Relend.msptr (Referent.rtF (Referent.fInt
-            Syntax.w64)) (Syntax.tyRef Syntax.erased Syntax.mut El.word) 7) (List._∷_ (13, Rows'.any-gone (Syntax.tyStruct (List._∷_ 38 (List._∷_ 91 (List._∷_ 93 List.[]))) (Syntax.tcons (Syntax.tyRef Syntax.erased Syntax.mut El.word)
-            (Syntax.tcons El.word Syntax.tnil)))) (List._∷_ (14, Rows'.any-gone (Syntax.tyRef Syntax.erased Syntax.mut El.word)) (List._∷_ (15, Rows'.any-gone (Syntax.tyStruct (List._∷_ 38 (List._∷_ 91 (List._∷_ 93 List.[])))
-            (Syntax.tcons (Syntax.tyRef Syntax.erased Syntax.mut El.word) (Syntax.tcons El.word Syntax.tnil)))) List.[])))))))))))))))
+        g9 = List._∷_ (0, Rows'.any-gone El.Answered) (List._∷_ (1, Relend.mslice-owed El.row (Syntax.tyRef (Syntax.named 0) Syntax.mut El.named) 0 5 (Row.lease (κs .0) (qs .0))) (List._∷_ (
+          2,
+          Relend.mslice-owed (Referent.rtF
+              (Referent.fInt Syntax.w64)) (Syntax.tyRef (Syntax.named 1) Syntax.mut El.word) 1 6 (Row.lease (κs .1 .0) (qs .1 .0)),
+        ) (List._∷_ (
+          3,
+          Relend.mslice-owed (Referent.rtF (Referent.fInt Syntax.w64)) (Syntax.tyRef (Syntax.named 2)
+              Syntax.mut El.word) 2 7 (Row.lease (κs .1 .1 .0) (qs .1 .1 .0)),
+        ) (List._∷_ (4, Mut.mslice (Referent.rtF (Referent.fInt Syntax.w64)) (Syntax.tyRef (Syntax.named 3) Syntax.mut El.word) 3) (List._∷_ (
+          5,
+          Rows'.whole
+              (Declared'.row ReadyQueue.the-type),
+        ) (List._∷_ (6, Rows'.sslice (Referent.rtF (Referent.fInt Syntax.w8)) (Syntax.tyRef (Syntax.named 4) Syntax.imm (Syntax.tyInt Syntax.w8)) 4) (List._∷_ (
+          7,
+          Rows.arrF (Referent.rtF
+              (Referent.fInt Syntax.w16)) 1 0,
+        ) (List._∷_ (8, Rows'.any-gone (Syntax.tyRef Syntax.erased Syntax.mut El.named)) (List._∷_ (9, Mut.mslice El.row (Syntax.tyRef Syntax.erased Syntax.mut El.named) 5) (List._∷_ (
+          10,
+          Rows'.any-gone
+              (Syntax.tyRef Syntax.erased Syntax.mut El.word),
+        ) (List._∷_ (11, Mut.mslice (Referent.rtF (Referent.fInt Syntax.w64)) (Syntax.tyRef Syntax.erased Syntax.mut El.word) 6) (List._∷_ (
+          12,
+          Relend.msptr (Referent.rtF (Referent.fInt
+              Syntax.w64)) (Syntax.tyRef Syntax.erased Syntax.mut El.word) 7,
+        ) (List._∷_ (
+          13,
+          Rows'.any-gone (Syntax.tyStruct (List._∷_ 38 (List._∷_ 91 (List._∷_ 93 List.[]))) (Syntax.tcons (Syntax.tyRef Syntax.erased Syntax.mut El.word)
+              (Syntax.tcons El.word Syntax.tnil))),
+        ) (List._∷_ (14, Rows'.any-gone (Syntax.tyRef Syntax.erased Syntax.mut El.word)) (List._∷_ (
+          15,
+          Rows'.any-gone (Syntax.tyStruct (List._∷_ 38 (List._∷_ 91 (List._∷_ 93 List.[])))
+              (Syntax.tcons (Syntax.tyRef Syntax.erased Syntax.mut El.word) (Syntax.tcons El.word Syntax.tnil))),
+        ) List.[])))))))))))))))
 
         abbrev g10 : List.List Row.Entry
-        g10 = List._∷_ (0, Rows'.any-gone El.Answered) (List._∷_ (1, Relend.mslice-owed El.row (Syntax.tyRef (Syntax.named 0) Syntax.mut El.named) 0 5 (Row.lease (κs .0) (qs .0))) (List._∷_ (2, Relend.mslice-owed (Referent.rtF
-            (Referent.fInt Syntax.w64)) (Syntax.tyRef (Syntax.named 1) Syntax.mut El.word) 1 6 (Row.lease (κs .1 .0) (qs .1 .0))) (List._∷_ (3, Relend.mslice-owed (Referent.rtF (Referent.fInt Syntax.w64)) (Syntax.tyRef (Syntax.named 2)
-            Syntax.mut El.word) 2 7 (Row.lease (κs .1 .1 .0) (qs .1 .1 .0))) (List._∷_ (4, Mut.mslice (Referent.rtF (Referent.fInt Syntax.w64)) (Syntax.tyRef (Syntax.named 3) Syntax.mut El.word) 3) (List._∷_ (5, Rows'.whole
-            (Declared'.row ReadyQueue.the-type)) (List._∷_ (6, Rows'.sslice (Referent.rtF (Referent.fInt Syntax.w8)) (Syntax.tyRef (Syntax.named 4) Syntax.imm (Syntax.tyInt Syntax.w8)) 4) (List._∷_ (7, Rows.arrF (Referent.rtF
-            (Referent.fInt Syntax.w16)) 1 0) (List._∷_ (8, Rows'.any-gone (Syntax.tyRef Syntax.erased Syntax.mut El.named)) (List._∷_ (9, Mut.mslice El.row (Syntax.tyRef Syntax.erased Syntax.mut El.named) 5) (List._∷_ (10, Rows'.any-gone
-            (Syntax.tyRef Syntax.erased Syntax.mut El.word)) (List._∷_ (11, Mut.mslice (Referent.rtF (Referent.fInt Syntax.w64)) (Syntax.tyRef Syntax.erased Syntax.mut El.word) 6) (List._∷_ (12, Rows'.any-gone (Syntax.tyRef Syntax.erased
-            Syntax.mut El.word)) (List._∷_ (13, Mut.mslice (Referent.rtF (Referent.fInt Syntax.w64)) (Syntax.tyRef Syntax.erased Syntax.mut El.word) 7) (List._∷_ (14, Rows'.any-gone (Syntax.tyRef Syntax.erased Syntax.mut El.word))
+        g10 = List._∷_ (0, Rows'.any-gone El.Answered) (List._∷_ (1, Relend.mslice-owed El.row (Syntax.tyRef (Syntax.named 0) Syntax.mut El.named) 0 5 (Row.lease (κs .0) (qs .0))) (List._∷_ (
+          2,
+          Relend.mslice-owed (Referent.rtF
+              (Referent.fInt Syntax.w64)) (Syntax.tyRef (Syntax.named 1) Syntax.mut El.word) 1 6 (Row.lease (κs .1 .0) (qs .1 .0)),
+        ) (List._∷_ (
+          3,
+          Relend.mslice-owed (Referent.rtF (Referent.fInt Syntax.w64)) (Syntax.tyRef (Syntax.named 2)
+              Syntax.mut El.word) 2 7 (Row.lease (κs .1 .1 .0) (qs .1 .1 .0)),
+        ) (List._∷_ (4, Mut.mslice (Referent.rtF (Referent.fInt Syntax.w64)) (Syntax.tyRef (Syntax.named 3) Syntax.mut El.word) 3) (List._∷_ (
+          5,
+          Rows'.whole
+              (Declared'.row ReadyQueue.the-type),
+        ) (List._∷_ (6, Rows'.sslice (Referent.rtF (Referent.fInt Syntax.w8)) (Syntax.tyRef (Syntax.named 4) Syntax.imm (Syntax.tyInt Syntax.w8)) 4) (List._∷_ (
+          7,
+          Rows.arrF (Referent.rtF
+              (Referent.fInt Syntax.w16)) 1 0,
+        ) (List._∷_ (8, Rows'.any-gone (Syntax.tyRef Syntax.erased Syntax.mut El.named)) (List._∷_ (9, Mut.mslice El.row (Syntax.tyRef Syntax.erased Syntax.mut El.named) 5) (List._∷_ (
+          10,
+          Rows'.any-gone
+              (Syntax.tyRef Syntax.erased Syntax.mut El.word),
+        ) (List._∷_ (11, Mut.mslice (Referent.rtF (Referent.fInt Syntax.w64)) (Syntax.tyRef Syntax.erased Syntax.mut El.word) 6) (List._∷_ (
+          12,
+          Rows'.any-gone (Syntax.tyRef Syntax.erased
+              Syntax.mut El.word),
+        ) (List._∷_ (13, Mut.mslice (Referent.rtF (Referent.fInt Syntax.w64)) (Syntax.tyRef Syntax.erased Syntax.mut El.word) 7) (List._∷_ (14, Rows'.any-gone (Syntax.tyRef Syntax.erased Syntax.mut El.word))
             (List._∷_ (15, Rows'.any-gone (Syntax.tyStruct (List._∷_ 38 (List._∷_ 91 (List._∷_ 93 List.[]))) (Syntax.tcons (Syntax.tyRef Syntax.erased Syntax.mut El.word) (Syntax.tcons El.word Syntax.tnil)))) List.[])))))))))))))))
 
         abbrev g11 : List.List Row.Entry
-        g11 = List._∷_ (0, Rows'.any-gone El.Answered) (List._∷_ (1, Relend.mslice-owed El.row (Syntax.tyRef (Syntax.named 0) Syntax.mut El.named) 0 5 (Row.lease (κs .0) (qs .0))) (List._∷_ (2, Relend.mslice-owed (Referent.rtF
-            (Referent.fInt Syntax.w64)) (Syntax.tyRef (Syntax.named 1) Syntax.mut El.word) 1 6 (Row.lease (κs .1 .0) (qs .1 .0))) (List._∷_ (3, Relend.mslice-owed (Referent.rtF (Referent.fInt Syntax.w64)) (Syntax.tyRef (Syntax.named 2)
-            Syntax.mut El.word) 2 7 (Row.lease (κs .1 .1 .0) (qs .1 .1 .0))) (List._∷_ (4, Relend.mslice-owed (Referent.rtF (Referent.fInt Syntax.w64)) (Syntax.tyRef (Syntax.named 3) Syntax.mut El.word) 3 8 (Row.lease (κs .1 .1 .1 .0)
-            (qs .1 .1 .1 .0))) (List._∷_ (5, Rows'.whole (Declared'.row ReadyQueue.the-type)) (List._∷_ (6, Rows'.sslice (Referent.rtF (Referent.fInt Syntax.w8)) (Syntax.tyRef (Syntax.named 4) Syntax.imm (Syntax.tyInt Syntax.w8)) 4)
-            (List._∷_ (7, Rows.arrF (Referent.rtF (Referent.fInt Syntax.w16)) 1 0) (List._∷_ (8, Rows'.any-gone (Syntax.tyRef Syntax.erased Syntax.mut El.named)) (List._∷_ (9, Mut.mslice El.row (Syntax.tyRef Syntax.erased Syntax.mut
-            El.named) 5) (List._∷_ (10, Rows'.any-gone (Syntax.tyRef Syntax.erased Syntax.mut El.word)) (List._∷_ (11, Mut.mslice (Referent.rtF (Referent.fInt Syntax.w64)) (Syntax.tyRef Syntax.erased Syntax.mut El.word) 6) (List._∷_ (12,
-            Rows'.any-gone (Syntax.tyRef Syntax.erased Syntax.mut El.word)) (List._∷_ (13, Mut.mslice (Referent.rtF (Referent.fInt Syntax.w64)) (Syntax.tyRef Syntax.erased Syntax.mut El.word) 7) (List._∷_ (14, Relend.msptr (Referent.rtF
-            (Referent.fInt Syntax.w64)) (Syntax.tyRef Syntax.erased Syntax.mut El.word) 8) (List._∷_ (15, Rows'.any-gone (Syntax.tyStruct (List._∷_ 38 (List._∷_ 91 (List._∷_ 93 List.[]))) (Syntax.tcons (Syntax.tyRef Syntax.erased
-            Syntax.mut El.word) (Syntax.tcons El.word Syntax.tnil)))) List.[])))))))))))))))
+        g11 = List._∷_ (0, Rows'.any-gone El.Answered) (List._∷_ (1, Relend.mslice-owed El.row (Syntax.tyRef (Syntax.named 0) Syntax.mut El.named) 0 5 (Row.lease (κs .0) (qs .0))) (List._∷_ (
+          2,
+          Relend.mslice-owed (Referent.rtF
+              (Referent.fInt Syntax.w64)) (Syntax.tyRef (Syntax.named 1) Syntax.mut El.word) 1 6 (Row.lease (κs .1 .0) (qs .1 .0)),
+        ) (List._∷_ (
+          3,
+          Relend.mslice-owed (Referent.rtF (Referent.fInt Syntax.w64)) (Syntax.tyRef (Syntax.named 2)
+              Syntax.mut El.word) 2 7 (Row.lease (κs .1 .1 .0) (qs .1 .1 .0)),
+        ) (List._∷_ (
+          4,
+          Relend.mslice-owed (Referent.rtF (Referent.fInt Syntax.w64)) (Syntax.tyRef (Syntax.named 3) Syntax.mut El.word) 3 8 (Row.lease (κs .1 .1 .1 .0)
+              (qs .1 .1 .1 .0)),
+        ) (List._∷_ (5, Rows'.whole (Declared'.row ReadyQueue.the-type)) (List._∷_ (6, Rows'.sslice (Referent.rtF (Referent.fInt Syntax.w8)) (Syntax.tyRef (Syntax.named 4) Syntax.imm (Syntax.tyInt Syntax.w8)) 4)
+            (List._∷_ (7, Rows.arrF (Referent.rtF (Referent.fInt Syntax.w16)) 1 0) (List._∷_ (8, Rows'.any-gone (Syntax.tyRef Syntax.erased Syntax.mut El.named)) (List._∷_ (
+              9,
+              Mut.mslice El.row (Syntax.tyRef Syntax.erased Syntax.mut
+                  El.named) 5,
+            ) (List._∷_ (10, Rows'.any-gone (Syntax.tyRef Syntax.erased Syntax.mut El.word)) (List._∷_ (11, Mut.mslice (Referent.rtF (Referent.fInt Syntax.w64)) (Syntax.tyRef Syntax.erased Syntax.mut El.word) 6) (List._∷_ (
+              12,
+              Rows'.any-gone (Syntax.tyRef Syntax.erased Syntax.mut El.word),
+            ) (List._∷_ (13, Mut.mslice (Referent.rtF (Referent.fInt Syntax.w64)) (Syntax.tyRef Syntax.erased Syntax.mut El.word) 7) (List._∷_ (
+              14,
+              Relend.msptr (Referent.rtF
+                  (Referent.fInt Syntax.w64)) (Syntax.tyRef Syntax.erased Syntax.mut El.word) 8,
+            ) (List._∷_ (
+              15,
+              Rows'.any-gone (Syntax.tyStruct (List._∷_ 38 (List._∷_ 91 (List._∷_ 93 List.[]))) (Syntax.tcons (Syntax.tyRef Syntax.erased
+                  Syntax.mut El.word) (Syntax.tcons El.word Syntax.tnil))),
+            ) List.[])))))))))))))))
 
         abbrev g12 : List.List Row.Entry
-        g12 = List._∷_ (0, Rows'.any-gone El.Answered) (List._∷_ (1, Relend.mslice-owed El.row (Syntax.tyRef (Syntax.named 0) Syntax.mut El.named) 0 5 (Row.lease (κs .0) (qs .0))) (List._∷_ (2, Relend.mslice-owed (Referent.rtF
-            (Referent.fInt Syntax.w64)) (Syntax.tyRef (Syntax.named 1) Syntax.mut El.word) 1 6 (Row.lease (κs .1 .0) (qs .1 .0))) (List._∷_ (3, Relend.mslice-owed (Referent.rtF (Referent.fInt Syntax.w64)) (Syntax.tyRef (Syntax.named 2)
-            Syntax.mut El.word) 2 7 (Row.lease (κs .1 .1 .0) (qs .1 .1 .0))) (List._∷_ (4, Relend.mslice-owed (Referent.rtF (Referent.fInt Syntax.w64)) (Syntax.tyRef (Syntax.named 3) Syntax.mut El.word) 3 8 (Row.lease (κs .1 .1 .1 .0)
-            (qs .1 .1 .1 .0))) (List._∷_ (5, Rows'.whole (Declared'.row ReadyQueue.the-type)) (List._∷_ (6, Rows'.sslice (Referent.rtF (Referent.fInt Syntax.w8)) (Syntax.tyRef (Syntax.named 4) Syntax.imm (Syntax.tyInt Syntax.w8)) 4)
-            (List._∷_ (7, Rows.arrF (Referent.rtF (Referent.fInt Syntax.w16)) 1 0) (List._∷_ (8, Rows'.any-gone (Syntax.tyRef Syntax.erased Syntax.mut El.named)) (List._∷_ (9, Mut.mslice El.row (Syntax.tyRef Syntax.erased Syntax.mut
-            El.named) 5) (List._∷_ (10, Rows'.any-gone (Syntax.tyRef Syntax.erased Syntax.mut El.word)) (List._∷_ (11, Mut.mslice (Referent.rtF (Referent.fInt Syntax.w64)) (Syntax.tyRef Syntax.erased Syntax.mut El.word) 6) (List._∷_ (12,
-            Rows'.any-gone (Syntax.tyRef Syntax.erased Syntax.mut El.word)) (List._∷_ (13, Mut.mslice (Referent.rtF (Referent.fInt Syntax.w64)) (Syntax.tyRef Syntax.erased Syntax.mut El.word) 7) (List._∷_ (14, Rows'.any-gone
-            (Syntax.tyRef Syntax.erased Syntax.mut El.word)) (List._∷_ (15, Mut.mslice (Referent.rtF (Referent.fInt Syntax.w64)) (Syntax.tyRef Syntax.erased Syntax.mut El.word) 8) List.[])))))))))))))))
+        g12 = List._∷_ (0, Rows'.any-gone El.Answered) (List._∷_ (1, Relend.mslice-owed El.row (Syntax.tyRef (Syntax.named 0) Syntax.mut El.named) 0 5 (Row.lease (κs .0) (qs .0))) (List._∷_ (
+          2,
+          Relend.mslice-owed (Referent.rtF
+              (Referent.fInt Syntax.w64)) (Syntax.tyRef (Syntax.named 1) Syntax.mut El.word) 1 6 (Row.lease (κs .1 .0) (qs .1 .0)),
+        ) (List._∷_ (
+          3,
+          Relend.mslice-owed (Referent.rtF (Referent.fInt Syntax.w64)) (Syntax.tyRef (Syntax.named 2)
+              Syntax.mut El.word) 2 7 (Row.lease (κs .1 .1 .0) (qs .1 .1 .0)),
+        ) (List._∷_ (
+          4,
+          Relend.mslice-owed (Referent.rtF (Referent.fInt Syntax.w64)) (Syntax.tyRef (Syntax.named 3) Syntax.mut El.word) 3 8 (Row.lease (κs .1 .1 .1 .0)
+              (qs .1 .1 .1 .0)),
+        ) (List._∷_ (5, Rows'.whole (Declared'.row ReadyQueue.the-type)) (List._∷_ (6, Rows'.sslice (Referent.rtF (Referent.fInt Syntax.w8)) (Syntax.tyRef (Syntax.named 4) Syntax.imm (Syntax.tyInt Syntax.w8)) 4)
+            (List._∷_ (7, Rows.arrF (Referent.rtF (Referent.fInt Syntax.w16)) 1 0) (List._∷_ (8, Rows'.any-gone (Syntax.tyRef Syntax.erased Syntax.mut El.named)) (List._∷_ (
+              9,
+              Mut.mslice El.row (Syntax.tyRef Syntax.erased Syntax.mut
+                  El.named) 5,
+            ) (List._∷_ (10, Rows'.any-gone (Syntax.tyRef Syntax.erased Syntax.mut El.word)) (List._∷_ (11, Mut.mslice (Referent.rtF (Referent.fInt Syntax.w64)) (Syntax.tyRef Syntax.erased Syntax.mut El.word) 6) (List._∷_ (
+              12,
+              Rows'.any-gone (Syntax.tyRef Syntax.erased Syntax.mut El.word),
+            ) (List._∷_ (13, Mut.mslice (Referent.rtF (Referent.fInt Syntax.w64)) (Syntax.tyRef Syntax.erased Syntax.mut El.word) 7) (List._∷_ (
+              14,
+              Rows'.any-gone
+                  (Syntax.tyRef Syntax.erased Syntax.mut El.word),
+            ) (List._∷_ (15, Mut.mslice (Referent.rtF (Referent.fInt Syntax.w64)) (Syntax.tyRef Syntax.erased Syntax.mut El.word) 8) List.[])))))))))))))))
 
         abbrev g14 : List.List Row.Entry
-        g14 = List._∷_ (0, Rows'.any-gone El.Answered) (List._∷_ (1, Relend.mslice-owed El.row (Syntax.tyRef (Syntax.named 0) Syntax.mut El.named) 0 5 (Row.lease (κs .0) (qs .0))) (List._∷_ (2, Relend.mslice-owed (Referent.rtF
-            (Referent.fInt Syntax.w64)) (Syntax.tyRef (Syntax.named 1) Syntax.mut El.word) 1 6 (Row.lease (κs .1 .0) (qs .1 .0))) (List._∷_ (3, Relend.mslice-owed (Referent.rtF (Referent.fInt Syntax.w64)) (Syntax.tyRef (Syntax.named 2)
-            Syntax.mut El.word) 2 7 (Row.lease (κs .1 .1 .0) (qs .1 .1 .0))) (List._∷_ (4, Relend.mslice-owed (Referent.rtF (Referent.fInt Syntax.w64)) (Syntax.tyRef (Syntax.named 3) Syntax.mut El.word) 3 8 (Row.lease (κs .1 .1 .1 .0)
-            (qs .1 .1 .1 .0))) (List._∷_ (5, Rows'.whole (Declared'.row ReadyQueue.the-type)) (List._∷_ (6, Rows'.sslice (Referent.rtF (Referent.fInt Syntax.w8)) (Syntax.tyRef (Syntax.named 4) Syntax.imm (Syntax.tyInt Syntax.w8)) 4)
-            (List._∷_ (7, Rows.arr-shr (Referent.rtF (Referent.fInt Syntax.w16)) 1 9) (List._∷_ (8, Rows'.any-gone (Syntax.tyRef Syntax.erased Syntax.mut El.named)) (List._∷_ (9, Mut.mslice El.row (Syntax.tyRef Syntax.erased Syntax.mut
-            El.named) 5) (List._∷_ (10, Rows'.any-gone (Syntax.tyRef Syntax.erased Syntax.mut El.word)) (List._∷_ (11, Mut.mslice (Referent.rtF (Referent.fInt Syntax.w64)) (Syntax.tyRef Syntax.erased Syntax.mut El.word) 6) (List._∷_ (12,
-            Rows'.any-gone (Syntax.tyRef Syntax.erased Syntax.mut El.word)) (List._∷_ (13, Mut.mslice (Referent.rtF (Referent.fInt Syntax.w64)) (Syntax.tyRef Syntax.erased Syntax.mut El.word) 7) (List._∷_ (14, Rows'.any-gone
-            (Syntax.tyRef Syntax.erased Syntax.mut El.word)) (List._∷_ (15, Mut.mslice (Referent.rtF (Referent.fInt Syntax.w64)) (Syntax.tyRef Syntax.erased Syntax.mut El.word) 8) List.[])))))))))))))))
+        g14 = List._∷_ (0, Rows'.any-gone El.Answered) (List._∷_ (1, Relend.mslice-owed El.row (Syntax.tyRef (Syntax.named 0) Syntax.mut El.named) 0 5 (Row.lease (κs .0) (qs .0))) (List._∷_ (
+          2,
+          Relend.mslice-owed (Referent.rtF
+              (Referent.fInt Syntax.w64)) (Syntax.tyRef (Syntax.named 1) Syntax.mut El.word) 1 6 (Row.lease (κs .1 .0) (qs .1 .0)),
+        ) (List._∷_ (
+          3,
+          Relend.mslice-owed (Referent.rtF (Referent.fInt Syntax.w64)) (Syntax.tyRef (Syntax.named 2)
+              Syntax.mut El.word) 2 7 (Row.lease (κs .1 .1 .0) (qs .1 .1 .0)),
+        ) (List._∷_ (
+          4,
+          Relend.mslice-owed (Referent.rtF (Referent.fInt Syntax.w64)) (Syntax.tyRef (Syntax.named 3) Syntax.mut El.word) 3 8 (Row.lease (κs .1 .1 .1 .0)
+              (qs .1 .1 .1 .0)),
+        ) (List._∷_ (5, Rows'.whole (Declared'.row ReadyQueue.the-type)) (List._∷_ (6, Rows'.sslice (Referent.rtF (Referent.fInt Syntax.w8)) (Syntax.tyRef (Syntax.named 4) Syntax.imm (Syntax.tyInt Syntax.w8)) 4)
+            (List._∷_ (7, Rows.arr-shr (Referent.rtF (Referent.fInt Syntax.w16)) 1 9) (List._∷_ (8, Rows'.any-gone (Syntax.tyRef Syntax.erased Syntax.mut El.named)) (List._∷_ (
+              9,
+              Mut.mslice El.row (Syntax.tyRef Syntax.erased Syntax.mut
+                  El.named) 5,
+            ) (List._∷_ (10, Rows'.any-gone (Syntax.tyRef Syntax.erased Syntax.mut El.word)) (List._∷_ (11, Mut.mslice (Referent.rtF (Referent.fInt Syntax.w64)) (Syntax.tyRef Syntax.erased Syntax.mut El.word) 6) (List._∷_ (
+              12,
+              Rows'.any-gone (Syntax.tyRef Syntax.erased Syntax.mut El.word),
+            ) (List._∷_ (13, Mut.mslice (Referent.rtF (Referent.fInt Syntax.w64)) (Syntax.tyRef Syntax.erased Syntax.mut El.word) 7) (List._∷_ (
+              14,
+              Rows'.any-gone
+                  (Syntax.tyRef Syntax.erased Syntax.mut El.word),
+            ) (List._∷_ (15, Mut.mslice (Referent.rtF (Referent.fInt Syntax.w64)) (Syntax.tyRef Syntax.erased Syntax.mut El.word) 8) List.[])))))))))))))))
 
         abbrev g17 : List.List Row.Entry
-        g17 = List._∷_ (0, Rows'.whole (Declared'.row Answered.the-type)) (List._∷_ (1, Relend.mslice-owed El.row (Syntax.tyRef (Syntax.named 0) Syntax.mut El.named) 0 5 (Row.lease (κs .0) (qs .0))) (List._∷_ (2, Relend.mslice-owed
-            (Referent.rtF (Referent.fInt Syntax.w64)) (Syntax.tyRef (Syntax.named 1) Syntax.mut El.word) 1 6 (Row.lease (κs .1 .0) (qs .1 .0))) (List._∷_ (3, Relend.mslice-owed (Referent.rtF (Referent.fInt Syntax.w64)) (Syntax.tyRef
-            (Syntax.named 2) Syntax.mut El.word) 2 7 (Row.lease (κs .1 .1 .0) (qs .1 .1 .0))) (List._∷_ (4, Relend.mslice-owed (Referent.rtF (Referent.fInt Syntax.w64)) (Syntax.tyRef (Syntax.named 3) Syntax.mut El.word) 3 8 (Row.lease
-            (κs .1 .1 .1 .0) (qs .1 .1 .1 .0))) (List._∷_ (5, Rows'.whole (Declared'.row ReadyQueue.the-type)) (List._∷_ (6, Rows'.sslice (Referent.rtF (Referent.fInt Syntax.w8)) (Syntax.tyRef (Syntax.named 4) Syntax.imm (Syntax.tyInt
-            Syntax.w8)) 4) (List._∷_ (7, Rows.arr-shr (Referent.rtF (Referent.fInt Syntax.w16)) 1 9) (List._∷_ (8, Rows'.any-gone (Syntax.tyRef Syntax.erased Syntax.mut El.named)) (List._∷_ (9, Mut.msleft El.row (Syntax.tyRef
-            Syntax.erased Syntax.mut El.named)) (List._∷_ (10, Rows'.any-gone (Syntax.tyRef Syntax.erased Syntax.mut El.word)) (List._∷_ (11, Mut.msleft (Referent.rtF (Referent.fInt Syntax.w64)) (Syntax.tyRef Syntax.erased Syntax.mut
-            El.word)) (List._∷_ (12, Rows'.any-gone (Syntax.tyRef Syntax.erased Syntax.mut El.word)) (List._∷_ (13, Mut.msleft (Referent.rtF (Referent.fInt Syntax.w64)) (Syntax.tyRef Syntax.erased Syntax.mut El.word)) (List._∷_ (14,
-            Rows'.any-gone (Syntax.tyRef Syntax.erased Syntax.mut El.word)) (List._∷_ (15, Mut.msleft (Referent.rtF (Referent.fInt Syntax.w64)) (Syntax.tyRef Syntax.erased Syntax.mut El.word)) List.[])))))))))))))))
+        g17 = List._∷_ (0, Rows'.whole (Declared'.row Answered.the-type)) (List._∷_ (1, Relend.mslice-owed El.row (Syntax.tyRef (Syntax.named 0) Syntax.mut El.named) 0 5 (Row.lease (κs .0) (qs .0))) (List._∷_ (
+          2,
+          Relend.mslice-owed
+              (Referent.rtF (Referent.fInt Syntax.w64)) (Syntax.tyRef (Syntax.named 1) Syntax.mut El.word) 1 6 (Row.lease (κs .1 .0) (qs .1 .0)),
+        ) (List._∷_ (
+          3,
+          Relend.mslice-owed (Referent.rtF (Referent.fInt Syntax.w64)) (Syntax.tyRef
+              (Syntax.named 2) Syntax.mut El.word) 2 7 (Row.lease (κs .1 .1 .0) (qs .1 .1 .0)),
+        ) (List._∷_ (
+          4,
+          Relend.mslice-owed (Referent.rtF (Referent.fInt Syntax.w64)) (Syntax.tyRef (Syntax.named 3) Syntax.mut El.word) 3 8 (Row.lease
+              (κs .1 .1 .1 .0) (qs .1 .1 .1 .0)),
+        ) (List._∷_ (5, Rows'.whole (Declared'.row ReadyQueue.the-type)) (List._∷_ (
+          6,
+          Rows'.sslice (Referent.rtF (Referent.fInt Syntax.w8)) (Syntax.tyRef (Syntax.named 4) Syntax.imm (Syntax.tyInt
+              Syntax.w8)) 4,
+        ) (List._∷_ (7, Rows.arr-shr (Referent.rtF (Referent.fInt Syntax.w16)) 1 9) (List._∷_ (8, Rows'.any-gone (Syntax.tyRef Syntax.erased Syntax.mut El.named)) (List._∷_ (
+          9,
+          Mut.msleft El.row (Syntax.tyRef
+              Syntax.erased Syntax.mut El.named),
+        ) (List._∷_ (10, Rows'.any-gone (Syntax.tyRef Syntax.erased Syntax.mut El.word)) (List._∷_ (
+          11,
+          Mut.msleft (Referent.rtF (Referent.fInt Syntax.w64)) (Syntax.tyRef Syntax.erased Syntax.mut
+              El.word),
+        ) (List._∷_ (12, Rows'.any-gone (Syntax.tyRef Syntax.erased Syntax.mut El.word)) (List._∷_ (13, Mut.msleft (Referent.rtF (Referent.fInt Syntax.w64)) (Syntax.tyRef Syntax.erased Syntax.mut El.word)) (List._∷_ (
+          14,
+          Rows'.any-gone (Syntax.tyRef Syntax.erased Syntax.mut El.word),
+        ) (List._∷_ (15, Mut.msleft (Referent.rtF (Referent.fInt Syntax.w64)) (Syntax.tyRef Syntax.erased Syntax.mut El.word)) List.[])))))))))))))))
 
         abbrev g18 : List.List Row.Entry
-        g18 = List._∷_ (0, Rows'.whole (Declared'.row Answered.the-type)) (List._∷_ (1, Relend.mslice-owed El.row (Syntax.tyRef (Syntax.named 0) Syntax.mut El.named) 0 5 (Row.lease (κs .0) (qs .0))) (List._∷_ (2, Relend.mslice-owed
-            (Referent.rtF (Referent.fInt Syntax.w64)) (Syntax.tyRef (Syntax.named 1) Syntax.mut El.word) 1 6 (Row.lease (κs .1 .0) (qs .1 .0))) (List._∷_ (3, Relend.mslice-owed (Referent.rtF (Referent.fInt Syntax.w64)) (Syntax.tyRef
-            (Syntax.named 2) Syntax.mut El.word) 2 7 (Row.lease (κs .1 .1 .0) (qs .1 .1 .0))) (List._∷_ (4, Relend.mslice-owed (Referent.rtF (Referent.fInt Syntax.w64)) (Syntax.tyRef (Syntax.named 3) Syntax.mut El.word) 3 8 (Row.lease
-            (κs .1 .1 .1 .0) (qs .1 .1 .1 .0))) (List._∷_ (5, Rows'.any-gone El.ReadyQueue) (List._∷_ (6, Rows'.sslice (Referent.rtF (Referent.fInt Syntax.w8)) (Syntax.tyRef (Syntax.named 4) Syntax.imm (Syntax.tyInt Syntax.w8)) 4)
-            (List._∷_ (7, Rows.arr-shr (Referent.rtF (Referent.fInt Syntax.w16)) 1 9) (List._∷_ (8, Rows'.any-gone (Syntax.tyRef Syntax.erased Syntax.mut El.named)) (List._∷_ (9, Mut.msleft El.row (Syntax.tyRef Syntax.erased Syntax.mut
-            El.named)) (List._∷_ (10, Rows'.any-gone (Syntax.tyRef Syntax.erased Syntax.mut El.word)) (List._∷_ (11, Mut.msleft (Referent.rtF (Referent.fInt Syntax.w64)) (Syntax.tyRef Syntax.erased Syntax.mut El.word)) (List._∷_ (12,
-            Rows'.any-gone (Syntax.tyRef Syntax.erased Syntax.mut El.word)) (List._∷_ (13, Mut.msleft (Referent.rtF (Referent.fInt Syntax.w64)) (Syntax.tyRef Syntax.erased Syntax.mut El.word)) (List._∷_ (14, Rows'.any-gone (Syntax.tyRef
-            Syntax.erased Syntax.mut El.word)) (List._∷_ (15, Mut.msleft (Referent.rtF (Referent.fInt Syntax.w64)) (Syntax.tyRef Syntax.erased Syntax.mut El.word)) List.[])))))))))))))))
+        g18 = List._∷_ (0, Rows'.whole (Declared'.row Answered.the-type)) (List._∷_ (1, Relend.mslice-owed El.row (Syntax.tyRef (Syntax.named 0) Syntax.mut El.named) 0 5 (Row.lease (κs .0) (qs .0))) (List._∷_ (
+          2,
+          Relend.mslice-owed
+              (Referent.rtF (Referent.fInt Syntax.w64)) (Syntax.tyRef (Syntax.named 1) Syntax.mut El.word) 1 6 (Row.lease (κs .1 .0) (qs .1 .0)),
+        ) (List._∷_ (
+          3,
+          Relend.mslice-owed (Referent.rtF (Referent.fInt Syntax.w64)) (Syntax.tyRef
+              (Syntax.named 2) Syntax.mut El.word) 2 7 (Row.lease (κs .1 .1 .0) (qs .1 .1 .0)),
+        ) (List._∷_ (
+          4,
+          Relend.mslice-owed (Referent.rtF (Referent.fInt Syntax.w64)) (Syntax.tyRef (Syntax.named 3) Syntax.mut El.word) 3 8 (Row.lease
+              (κs .1 .1 .1 .0) (qs .1 .1 .1 .0)),
+        ) (List._∷_ (5, Rows'.any-gone El.ReadyQueue) (List._∷_ (6, Rows'.sslice (Referent.rtF (Referent.fInt Syntax.w8)) (Syntax.tyRef (Syntax.named 4) Syntax.imm (Syntax.tyInt Syntax.w8)) 4)
+            (List._∷_ (7, Rows.arr-shr (Referent.rtF (Referent.fInt Syntax.w16)) 1 9) (List._∷_ (8, Rows'.any-gone (Syntax.tyRef Syntax.erased Syntax.mut El.named)) (List._∷_ (
+              9,
+              Mut.msleft El.row (Syntax.tyRef Syntax.erased Syntax.mut
+                  El.named),
+            ) (List._∷_ (10, Rows'.any-gone (Syntax.tyRef Syntax.erased Syntax.mut El.word)) (List._∷_ (11, Mut.msleft (Referent.rtF (Referent.fInt Syntax.w64)) (Syntax.tyRef Syntax.erased Syntax.mut El.word)) (List._∷_ (
+              12,
+              Rows'.any-gone (Syntax.tyRef Syntax.erased Syntax.mut El.word),
+            ) (List._∷_ (13, Mut.msleft (Referent.rtF (Referent.fInt Syntax.w64)) (Syntax.tyRef Syntax.erased Syntax.mut El.word)) (List._∷_ (
+              14,
+              Rows'.any-gone (Syntax.tyRef
+                  Syntax.erased Syntax.mut El.word),
+            ) (List._∷_ (15, Mut.msleft (Referent.rtF (Referent.fInt Syntax.w64)) (Syntax.tyRef Syntax.erased Syntax.mut El.word)) List.[])))))))))))))))
 
         abbrev g19 : List.List Row.Entry
-        g19 = List._∷_ (0, Rows'.whole (Declared'.row Answered.the-type)) (List._∷_ (1, Mut.mslice El.row (Syntax.tyRef (Syntax.named 0) Syntax.mut El.named) 0) (List._∷_ (2, Relend.mslice-owed (Referent.rtF (Referent.fInt Syntax.w64))
-            (Syntax.tyRef (Syntax.named 1) Syntax.mut El.word) 1 6 (Row.lease (κs .1 .0) (qs .1 .0))) (List._∷_ (3, Relend.mslice-owed (Referent.rtF (Referent.fInt Syntax.w64)) (Syntax.tyRef (Syntax.named 2) Syntax.mut El.word) 2 7
-            (Row.lease (κs .1 .1 .0) (qs .1 .1 .0))) (List._∷_ (4, Relend.mslice-owed (Referent.rtF (Referent.fInt Syntax.w64)) (Syntax.tyRef (Syntax.named 3) Syntax.mut El.word) 3 8 (Row.lease (κs .1 .1 .1 .0) (qs .1 .1 .1 .0)))
-            (List._∷_ (5, Rows'.any-gone El.ReadyQueue) (List._∷_ (6, Rows'.sslice (Referent.rtF (Referent.fInt Syntax.w8)) (Syntax.tyRef (Syntax.named 4) Syntax.imm (Syntax.tyInt Syntax.w8)) 4) (List._∷_ (7, Rows.arr-shr (Referent.rtF
-            (Referent.fInt Syntax.w16)) 1 9) (List._∷_ (8, Rows'.any-gone (Syntax.tyRef Syntax.erased Syntax.mut El.named)) (List._∷_ (9, Rows'.any-gone (Syntax.tyStruct (List._∷_ 38 (List._∷_ 91 (List._∷_ 93 List.[]))) (Syntax.tcons
-            (Syntax.tyRef Syntax.erased Syntax.mut El.named) (Syntax.tcons El.word Syntax.tnil)))) (List._∷_ (10, Rows'.any-gone (Syntax.tyRef Syntax.erased Syntax.mut El.word)) (List._∷_ (11, Mut.msleft (Referent.rtF (Referent.fInt
-            Syntax.w64)) (Syntax.tyRef Syntax.erased Syntax.mut El.word)) (List._∷_ (12, Rows'.any-gone (Syntax.tyRef Syntax.erased Syntax.mut El.word)) (List._∷_ (13, Mut.msleft (Referent.rtF (Referent.fInt Syntax.w64)) (Syntax.tyRef
-            Syntax.erased Syntax.mut El.word)) (List._∷_ (14, Rows'.any-gone (Syntax.tyRef Syntax.erased Syntax.mut El.word)) (List._∷_ (15, Mut.msleft (Referent.rtF (Referent.fInt Syntax.w64)) (Syntax.tyRef Syntax.erased Syntax.mut
-            El.word)) List.[])))))))))))))))
+        g19 = List._∷_ (0, Rows'.whole (Declared'.row Answered.the-type)) (List._∷_ (1, Mut.mslice El.row (Syntax.tyRef (Syntax.named 0) Syntax.mut El.named) 0) (List._∷_ (
+          2,
+          Relend.mslice-owed (Referent.rtF (Referent.fInt Syntax.w64))
+              (Syntax.tyRef (Syntax.named 1) Syntax.mut El.word) 1 6 (Row.lease (κs .1 .0) (qs .1 .0)),
+        ) (List._∷_ (
+          3,
+          Relend.mslice-owed (Referent.rtF (Referent.fInt Syntax.w64)) (Syntax.tyRef (Syntax.named 2) Syntax.mut El.word) 2 7
+              (Row.lease (κs .1 .1 .0) (qs .1 .1 .0)),
+        ) (List._∷_ (4, Relend.mslice-owed (Referent.rtF (Referent.fInt Syntax.w64)) (Syntax.tyRef (Syntax.named 3) Syntax.mut El.word) 3 8 (Row.lease (κs .1 .1 .1 .0) (qs .1 .1 .1 .0)))
+            (List._∷_ (5, Rows'.any-gone El.ReadyQueue) (List._∷_ (6, Rows'.sslice (Referent.rtF (Referent.fInt Syntax.w8)) (Syntax.tyRef (Syntax.named 4) Syntax.imm (Syntax.tyInt Syntax.w8)) 4) (List._∷_ (
+              7,
+              Rows.arr-shr (Referent.rtF
+                  (Referent.fInt Syntax.w16)) 1 9,
+            ) (List._∷_ (8, Rows'.any-gone (Syntax.tyRef Syntax.erased Syntax.mut El.named)) (List._∷_ (
+              9,
+              Rows'.any-gone (Syntax.tyStruct (List._∷_ 38 (List._∷_ 91 (List._∷_ 93 List.[]))) (Syntax.tcons
+                  (Syntax.tyRef Syntax.erased Syntax.mut El.named) (Syntax.tcons El.word Syntax.tnil))),
+            ) (List._∷_ (10, Rows'.any-gone (Syntax.tyRef Syntax.erased Syntax.mut El.word)) (List._∷_ (
+              11,
+              Mut.msleft (Referent.rtF (Referent.fInt
+                  Syntax.w64)) (Syntax.tyRef Syntax.erased Syntax.mut El.word),
+            ) (List._∷_ (12, Rows'.any-gone (Syntax.tyRef Syntax.erased Syntax.mut El.word)) (List._∷_ (
+              13,
+              Mut.msleft (Referent.rtF (Referent.fInt Syntax.w64)) (Syntax.tyRef
+                  Syntax.erased Syntax.mut El.word),
+            ) (List._∷_ (14, Rows'.any-gone (Syntax.tyRef Syntax.erased Syntax.mut El.word)) (List._∷_ (
+              15,
+              Mut.msleft (Referent.rtF (Referent.fInt Syntax.w64)) (Syntax.tyRef Syntax.erased Syntax.mut
+                  El.word),
+            ) List.[])))))))))))))))
 
         abbrev g20 : List.List Row.Entry
-        g20 = List._∷_ (0, Rows'.whole (Declared'.row Answered.the-type)) (List._∷_ (1, Mut.mslice El.row (Syntax.tyRef (Syntax.named 0) Syntax.mut El.named) 0) (List._∷_ (2, Mut.mslice (Referent.rtF (Referent.fInt Syntax.w64))
-            (Syntax.tyRef (Syntax.named 1) Syntax.mut El.word) 1) (List._∷_ (3, Relend.mslice-owed (Referent.rtF (Referent.fInt Syntax.w64)) (Syntax.tyRef (Syntax.named 2) Syntax.mut El.word) 2 7 (Row.lease (κs .1 .1 .0) (qs .1 .1 .0)))
+        g20 = List._∷_ (0, Rows'.whole (Declared'.row Answered.the-type)) (List._∷_ (1, Mut.mslice El.row (Syntax.tyRef (Syntax.named 0) Syntax.mut El.named) 0) (List._∷_ (
+          2,
+          Mut.mslice (Referent.rtF (Referent.fInt Syntax.w64))
+              (Syntax.tyRef (Syntax.named 1) Syntax.mut El.word) 1,
+        ) (List._∷_ (3, Relend.mslice-owed (Referent.rtF (Referent.fInt Syntax.w64)) (Syntax.tyRef (Syntax.named 2) Syntax.mut El.word) 2 7 (Row.lease (κs .1 .1 .0) (qs .1 .1 .0)))
             (List._∷_ (4, Relend.mslice-owed (Referent.rtF (Referent.fInt Syntax.w64)) (Syntax.tyRef (Syntax.named 3) Syntax.mut El.word) 3 8 (Row.lease (κs .1 .1 .1 .0) (qs .1 .1 .1 .0))) (List._∷_ (5, Rows'.any-gone El.ReadyQueue)
             (List._∷_ (6, Rows'.sslice (Referent.rtF (Referent.fInt Syntax.w8)) (Syntax.tyRef (Syntax.named 4) Syntax.imm (Syntax.tyInt Syntax.w8)) 4) (List._∷_ (7, Rows.arr-shr (Referent.rtF (Referent.fInt Syntax.w16)) 1 9) (List._∷_
-            (8, Rows'.any-gone (Syntax.tyRef Syntax.erased Syntax.mut El.named)) (List._∷_ (9, Rows'.any-gone (Syntax.tyStruct (List._∷_ 38 (List._∷_ 91 (List._∷_ 93 List.[]))) (Syntax.tcons (Syntax.tyRef Syntax.erased Syntax.mut
-            El.named) (Syntax.tcons El.word Syntax.tnil)))) (List._∷_ (10, Rows'.any-gone (Syntax.tyRef Syntax.erased Syntax.mut El.word)) (List._∷_ (11, Rows'.any-gone (Syntax.tyStruct (List._∷_ 38 (List._∷_ 91 (List._∷_ 93 List.[])))
-            (Syntax.tcons (Syntax.tyRef Syntax.erased Syntax.mut El.word) (Syntax.tcons El.word Syntax.tnil)))) (List._∷_ (12, Rows'.any-gone (Syntax.tyRef Syntax.erased Syntax.mut El.word)) (List._∷_ (13, Mut.msleft (Referent.rtF
-            (Referent.fInt Syntax.w64)) (Syntax.tyRef Syntax.erased Syntax.mut El.word)) (List._∷_ (14, Rows'.any-gone (Syntax.tyRef Syntax.erased Syntax.mut El.word)) (List._∷_ (15, Mut.msleft (Referent.rtF (Referent.fInt Syntax.w64))
-            (Syntax.tyRef Syntax.erased Syntax.mut El.word)) List.[])))))))))))))))
+            (8, Rows'.any-gone (Syntax.tyRef Syntax.erased Syntax.mut El.named)) (List._∷_ (
+              9,
+              Rows'.any-gone (Syntax.tyStruct (List._∷_ 38 (List._∷_ 91 (List._∷_ 93 List.[]))) (Syntax.tcons (Syntax.tyRef Syntax.erased Syntax.mut
+                  El.named) (Syntax.tcons El.word Syntax.tnil))),
+            ) (List._∷_ (10, Rows'.any-gone (Syntax.tyRef Syntax.erased Syntax.mut El.word)) (List._∷_ (
+              11,
+              Rows'.any-gone (Syntax.tyStruct (List._∷_ 38 (List._∷_ 91 (List._∷_ 93 List.[])))
+                  (Syntax.tcons (Syntax.tyRef Syntax.erased Syntax.mut El.word) (Syntax.tcons El.word Syntax.tnil))),
+            ) (List._∷_ (12, Rows'.any-gone (Syntax.tyRef Syntax.erased Syntax.mut El.word)) (List._∷_ (
+              13,
+              Mut.msleft (Referent.rtF
+                  (Referent.fInt Syntax.w64)) (Syntax.tyRef Syntax.erased Syntax.mut El.word),
+            ) (List._∷_ (14, Rows'.any-gone (Syntax.tyRef Syntax.erased Syntax.mut El.word)) (List._∷_ (
+              15,
+              Mut.msleft (Referent.rtF (Referent.fInt Syntax.w64))
+                  (Syntax.tyRef Syntax.erased Syntax.mut El.word),
+            ) List.[])))))))))))))))
 
         abbrev g21 : List.List Row.Entry
-        g21 = List._∷_ (0, Rows'.whole (Declared'.row Answered.the-type)) (List._∷_ (1, Mut.mslice El.row (Syntax.tyRef (Syntax.named 0) Syntax.mut El.named) 0) (List._∷_ (2, Mut.mslice (Referent.rtF (Referent.fInt Syntax.w64))
-            (Syntax.tyRef (Syntax.named 1) Syntax.mut El.word) 1) (List._∷_ (3, Mut.mslice (Referent.rtF (Referent.fInt Syntax.w64)) (Syntax.tyRef (Syntax.named 2) Syntax.mut El.word) 2) (List._∷_ (4, Relend.mslice-owed (Referent.rtF
-            (Referent.fInt Syntax.w64)) (Syntax.tyRef (Syntax.named 3) Syntax.mut El.word) 3 8 (Row.lease (κs .1 .1 .1 .0) (qs .1 .1 .1 .0))) (List._∷_ (5, Rows'.any-gone El.ReadyQueue) (List._∷_ (6, Rows'.sslice (Referent.rtF
-            (Referent.fInt Syntax.w8)) (Syntax.tyRef (Syntax.named 4) Syntax.imm (Syntax.tyInt Syntax.w8)) 4) (List._∷_ (7, Rows.arr-shr (Referent.rtF (Referent.fInt Syntax.w16)) 1 9) (List._∷_ (8, Rows'.any-gone (Syntax.tyRef
-            Syntax.erased Syntax.mut El.named)) (List._∷_ (9, Rows'.any-gone (Syntax.tyStruct (List._∷_ 38 (List._∷_ 91 (List._∷_ 93 List.[]))) (Syntax.tcons (Syntax.tyRef Syntax.erased Syntax.mut El.named) (Syntax.tcons El.word
-            Syntax.tnil)))) (List._∷_ (10, Rows'.any-gone (Syntax.tyRef Syntax.erased Syntax.mut El.word)) (List._∷_ (11, Rows'.any-gone (Syntax.tyStruct (List._∷_ 38 (List._∷_ 91 (List._∷_ 93 List.[]))) (Syntax.tcons (Syntax.tyRef
-            Syntax.erased Syntax.mut El.word) (Syntax.tcons El.word Syntax.tnil)))) (List._∷_ (12, Rows'.any-gone (Syntax.tyRef Syntax.erased Syntax.mut El.word)) (List._∷_ (13, Rows'.any-gone (Syntax.tyStruct (List._∷_ 38 (List._∷_ 91
-            (List._∷_ 93 List.[]))) (Syntax.tcons (Syntax.tyRef Syntax.erased Syntax.mut El.word) (Syntax.tcons El.word Syntax.tnil)))) (List._∷_ (14, Rows'.any-gone (Syntax.tyRef Syntax.erased Syntax.mut El.word)) (List._∷_ (15,
-            Mut.msleft (Referent.rtF (Referent.fInt Syntax.w64)) (Syntax.tyRef Syntax.erased Syntax.mut El.word)) List.[])))))))))))))))
+        g21 = List._∷_ (0, Rows'.whole (Declared'.row Answered.the-type)) (List._∷_ (1, Mut.mslice El.row (Syntax.tyRef (Syntax.named 0) Syntax.mut El.named) 0) (List._∷_ (
+          2,
+          Mut.mslice (Referent.rtF (Referent.fInt Syntax.w64))
+              (Syntax.tyRef (Syntax.named 1) Syntax.mut El.word) 1,
+        ) (List._∷_ (3, Mut.mslice (Referent.rtF (Referent.fInt Syntax.w64)) (Syntax.tyRef (Syntax.named 2) Syntax.mut El.word) 2) (List._∷_ (
+          4,
+          Relend.mslice-owed (Referent.rtF
+              (Referent.fInt Syntax.w64)) (Syntax.tyRef (Syntax.named 3) Syntax.mut El.word) 3 8 (Row.lease (κs .1 .1 .1 .0) (qs .1 .1 .1 .0)),
+        ) (List._∷_ (5, Rows'.any-gone El.ReadyQueue) (List._∷_ (
+          6,
+          Rows'.sslice (Referent.rtF
+              (Referent.fInt Syntax.w8)) (Syntax.tyRef (Syntax.named 4) Syntax.imm (Syntax.tyInt Syntax.w8)) 4,
+        ) (List._∷_ (7, Rows.arr-shr (Referent.rtF (Referent.fInt Syntax.w16)) 1 9) (List._∷_ (
+          8,
+          Rows'.any-gone (Syntax.tyRef
+              Syntax.erased Syntax.mut El.named),
+        ) (List._∷_ (
+          9,
+          Rows'.any-gone (Syntax.tyStruct (List._∷_ 38 (List._∷_ 91 (List._∷_ 93 List.[]))) (Syntax.tcons (Syntax.tyRef Syntax.erased Syntax.mut El.named) (Syntax.tcons El.word
+              Syntax.tnil))),
+        ) (List._∷_ (10, Rows'.any-gone (Syntax.tyRef Syntax.erased Syntax.mut El.word)) (List._∷_ (
+          11,
+          Rows'.any-gone (Syntax.tyStruct (List._∷_ 38 (List._∷_ 91 (List._∷_ 93 List.[]))) (Syntax.tcons (Syntax.tyRef
+              Syntax.erased Syntax.mut El.word) (Syntax.tcons El.word Syntax.tnil))),
+        ) (List._∷_ (12, Rows'.any-gone (Syntax.tyRef Syntax.erased Syntax.mut El.word)) (List._∷_ (
+          13,
+          Rows'.any-gone (Syntax.tyStruct (List._∷_ 38 (List._∷_ 91
+              (List._∷_ 93 List.[]))) (Syntax.tcons (Syntax.tyRef Syntax.erased Syntax.mut El.word) (Syntax.tcons El.word Syntax.tnil))),
+        ) (List._∷_ (14, Rows'.any-gone (Syntax.tyRef Syntax.erased Syntax.mut El.word)) (List._∷_ (
+          15,
+          Mut.msleft (Referent.rtF (Referent.fInt Syntax.w64)) (Syntax.tyRef Syntax.erased Syntax.mut El.word),
+        ) List.[])))))))))))))))
 
         abbrev G0 : Row.Cx
-        G0 = record { locals = List._++_ t0 t1; slots = List._∷_ (Row.lease (κs .0) (qs .0)) (List._∷_ (Row.lease (κs .1 .0) (qs .1 .0)) (List._∷_ (Row.lease (κs .1 .1 .0) (qs .1 .1 .0)) (List._∷_ (Row.lease (κs .1 .1 .1 .0) (qs .1 .1
-            .1 .0)) (List._∷_ (Row.lease (κs .1 .1 .1 .1 .0) (qs .1 .1 .1 .1 .0)) (List._∷_ Row.off (List._∷_ Row.off (List._∷_ Row.off (List._∷_ Row.off (List._∷_ Row.off List.[]))))))))); }
+        G0 = record {
+          locals = List._++_ t0 t1;
+          slots = List._∷_ (Row.lease (κs .0) (qs .0)) (List._∷_ (Row.lease (κs .1 .0) (qs .1 .0)) (List._∷_ (Row.lease (κs .1 .1 .0) (qs .1 .1 .0)) (List._∷_ (Row.lease (κs .1 .1 .1 .0) (qs .1 .1
+              .1 .0)) (List._∷_ (Row.lease (κs .1 .1 .1 .1 .0) (qs .1 .1 .1 .1 .0)) (List._∷_ Row.off (List._∷_ Row.off (List._∷_ Row.off (List._∷_ Row.off (List._∷_ Row.off List.[])))))))));
+        }
 
         abbrev G1 : Row.Cx
-        G1 = record { locals = List._++_ t2 t1; slots = List._∷_ (Row.lease (κs .0) (qs .0)) (List._∷_ (Row.lease (κs .1 .0) (qs .1 .0)) (List._∷_ (Row.lease (κs .1 .1 .0) (qs .1 .1 .0)) (List._∷_ (Row.lease (κs .1 .1 .1 .0) (qs .1 .1
-            .1 .0)) (List._∷_ (Row.lease (κs .1 .1 .1 .1 .0) (qs .1 .1 .1 .1 .0)) (List._∷_ Row.off (List._∷_ Row.off (List._∷_ Row.off (List._∷_ Row.off (List._∷_ Row.off List.[]))))))))); }
+        G1 = record {
+          locals = List._++_ t2 t1;
+          slots = List._∷_ (Row.lease (κs .0) (qs .0)) (List._∷_ (Row.lease (κs .1 .0) (qs .1 .0)) (List._∷_ (Row.lease (κs .1 .1 .0) (qs .1 .1 .0)) (List._∷_ (Row.lease (κs .1 .1 .1 .0) (qs .1 .1
+              .1 .0)) (List._∷_ (Row.lease (κs .1 .1 .1 .1 .0) (qs .1 .1 .1 .1 .0)) (List._∷_ Row.off (List._∷_ Row.off (List._∷_ Row.off (List._∷_ Row.off (List._∷_ Row.off List.[])))))))));
+        }
 
         abbrev G2 : Row.Cx
-        G2 = record { locals = List._++_ t0 t1; slots = List._∷_ (Row.lease (κs .0) (qs .0)) (List._∷_ (Row.lease (κs .1 .0) (qs .1 .0)) (List._∷_ (Row.lease (κs .1 .1 .0) (qs .1 .1 .0)) (List._∷_ (Row.lease (κs .1 .1 .1 .0) (qs .1 .1
-            .1 .0)) (List._∷_ (Row.lease (κs .1 .1 .1 .1 .0) (qs .1 .1 .1 .1 .0)) (List._∷_ Row.off (List._∷_ Row.off (List._∷_ Row.off (List._∷_ Row.off (List._∷_ Row.off List.[]))))))))); }
+        G2 = record {
+          locals = List._++_ t0 t1;
+          slots = List._∷_ (Row.lease (κs .0) (qs .0)) (List._∷_ (Row.lease (κs .1 .0) (qs .1 .0)) (List._∷_ (Row.lease (κs .1 .1 .0) (qs .1 .1 .0)) (List._∷_ (Row.lease (κs .1 .1 .1 .0) (qs .1 .1
+              .1 .0)) (List._∷_ (Row.lease (κs .1 .1 .1 .1 .0) (qs .1 .1 .1 .1 .0)) (List._∷_ Row.off (List._∷_ Row.off (List._∷_ Row.off (List._∷_ Row.off (List._∷_ Row.off List.[])))))))));
+        }
 
         abbrev G3 : Row.Cx
-        G3 = record { locals = List._++_ t0 t1; slots = List._∷_ (Row.lease (κs .0) (qs .0)) (List._∷_ (Row.lease (κs .1 .0) (qs .1 .0)) (List._∷_ (Row.lease (κs .1 .1 .0) (qs .1 .1 .0)) (List._∷_ (Row.lease (κs .1 .1 .1 .0) (qs .1 .1
-            .1 .0)) (List._∷_ (Row.lease (κs .1 .1 .1 .1 .0) (qs .1 .1 .1 .1 .0)) (List._∷_ Row.off (List._∷_ Row.off (List._∷_ Row.off (List._∷_ Row.off (List._∷_ Row.off List.[]))))))))); }
+        G3 = record {
+          locals = List._++_ t0 t1;
+          slots = List._∷_ (Row.lease (κs .0) (qs .0)) (List._∷_ (Row.lease (κs .1 .0) (qs .1 .0)) (List._∷_ (Row.lease (κs .1 .1 .0) (qs .1 .1 .0)) (List._∷_ (Row.lease (κs .1 .1 .1 .0) (qs .1 .1
+              .1 .0)) (List._∷_ (Row.lease (κs .1 .1 .1 .1 .0) (qs .1 .1 .1 .1 .0)) (List._∷_ Row.off (List._∷_ Row.off (List._∷_ Row.off (List._∷_ Row.off (List._∷_ Row.off List.[])))))))));
+        }
 
         abbrev G4 : Row.Cx
-        G4 = record { locals = List._++_ t0 t1; slots = List._∷_ (Row.lease (κs .0) (qs .0)) (List._∷_ (Row.lease (κs .1 .0) (qs .1 .0)) (List._∷_ (Row.lease (κs .1 .1 .0) (qs .1 .1 .0)) (List._∷_ (Row.lease (κs .1 .1 .1 .0) (qs .1 .1
-            .1 .0)) (List._∷_ (Row.lease (κs .1 .1 .1 .1 .0) (qs .1 .1 .1 .1 .0)) (List._∷_ Row.off (List._∷_ Row.off (List._∷_ Row.off (List._∷_ Row.off (List._∷_ Row.off List.[]))))))))); }
+        G4 = record {
+          locals = List._++_ t0 t1;
+          slots = List._∷_ (Row.lease (κs .0) (qs .0)) (List._∷_ (Row.lease (κs .1 .0) (qs .1 .0)) (List._∷_ (Row.lease (κs .1 .1 .0) (qs .1 .1 .0)) (List._∷_ (Row.lease (κs .1 .1 .1 .0) (qs .1 .1
+              .1 .0)) (List._∷_ (Row.lease (κs .1 .1 .1 .1 .0) (qs .1 .1 .1 .1 .0)) (List._∷_ Row.off (List._∷_ Row.off (List._∷_ Row.off (List._∷_ Row.off (List._∷_ Row.off List.[])))))))));
+        }
 
         abbrev G5 : Row.Cx
-        G5 = record { locals = List._++_ t0 t1; slots = List._∷_ (Row.lease (κs .0) (qs .0)) (List._∷_ (Row.lease (κs .1 .0) (qs .1 .0)) (List._∷_ (Row.lease (κs .1 .1 .0) (qs .1 .1 .0)) (List._∷_ (Row.lease (κs .1 .1 .1 .0) (qs .1 .1
-            .1 .0)) (List._∷_ (Row.lease (κs .1 .1 .1 .1 .0) (qs .1 .1 .1 .1 .0)) (List._∷_ Row.off (List._∷_ Row.off (List._∷_ Row.off (List._∷_ Row.off (List._∷_ Row.off List.[]))))))))); }
+        G5 = record {
+          locals = List._++_ t0 t1;
+          slots = List._∷_ (Row.lease (κs .0) (qs .0)) (List._∷_ (Row.lease (κs .1 .0) (qs .1 .0)) (List._∷_ (Row.lease (κs .1 .1 .0) (qs .1 .1 .0)) (List._∷_ (Row.lease (κs .1 .1 .1 .0) (qs .1 .1
+              .1 .0)) (List._∷_ (Row.lease (κs .1 .1 .1 .1 .0) (qs .1 .1 .1 .1 .0)) (List._∷_ Row.off (List._∷_ Row.off (List._∷_ Row.off (List._∷_ Row.off (List._∷_ Row.off List.[])))))))));
+        }
 
         abbrev G6 : Row.Cx
-        G6 = record { locals = List._++_ t3 t1; slots = List._∷_ (Row.lease (κs .0) (qs .0)) (List._∷_ (Row.lease (κs .1 .0) (qs .1 .0)) (List._∷_ (Row.lease (κs .1 .1 .0) (qs .1 .1 .0)) (List._∷_ (Row.lease (κs .1 .1 .1 .0) (qs .1 .1
-            .1 .0)) (List._∷_ (Row.lease (κs .1 .1 .1 .1 .0) (qs .1 .1 .1 .1 .0)) (List._∷_ Row.off (List._∷_ Row.off (List._∷_ Row.off (List._∷_ Row.off (List._∷_ Row.off List.[]))))))))); }
+        G6 = record {
+          locals = List._++_ t3 t1;
+          slots = List._∷_ (Row.lease (κs .0) (qs .0)) (List._∷_ (Row.lease (κs .1 .0) (qs .1 .0)) (List._∷_ (Row.lease (κs .1 .1 .0) (qs .1 .1 .0)) (List._∷_ (Row.lease (κs .1 .1 .1 .0) (qs .1 .1
+              .1 .0)) (List._∷_ (Row.lease (κs .1 .1 .1 .1 .0) (qs .1 .1 .1 .1 .0)) (List._∷_ Row.off (List._∷_ Row.off (List._∷_ Row.off (List._∷_ Row.off (List._∷_ Row.off List.[])))))))));
+        }
 
         abbrev G7 : Row.Cx
-        G7 = record { locals = List._++_ t4 t1; slots = List._∷_ (Row.lease (κs .0) (qs .0)) (List._∷_ (Row.lease (κs .1 .0) (qs .1 .0)) (List._∷_ (Row.lease (κs .1 .1 .0) (qs .1 .1 .0)) (List._∷_ (Row.lease (κs .1 .1 .1 .0) (qs .1 .1
-            .1 .0)) (List._∷_ (Row.lease (κs .1 .1 .1 .1 .0) (qs .1 .1 .1 .1 .0)) (List._∷_ Row.off (List._∷_ Row.off (List._∷_ Row.off (List._∷_ Row.off (List._∷_ Row.off List.[]))))))))); }
+        G7 = record {
+          locals = List._++_ t4 t1;
+          slots = List._∷_ (Row.lease (κs .0) (qs .0)) (List._∷_ (Row.lease (κs .1 .0) (qs .1 .0)) (List._∷_ (Row.lease (κs .1 .1 .0) (qs .1 .1 .0)) (List._∷_ (Row.lease (κs .1 .1 .1 .0) (qs .1 .1
+              .1 .0)) (List._∷_ (Row.lease (κs .1 .1 .1 .1 .0) (qs .1 .1 .1 .1 .0)) (List._∷_ Row.off (List._∷_ Row.off (List._∷_ Row.off (List._∷_ Row.off (List._∷_ Row.off List.[])))))))));
+        }
 
         abbrev G8 : Row.Cx
-        G8 = record { locals = List._++_ t4 t1; slots = List._∷_ (Row.lease (κs .0) (qs .0)) (List._∷_ (Row.lease (κs .1 .0) (qs .1 .0)) (List._∷_ (Row.lease (κs .1 .1 .0) (qs .1 .1 .0)) (List._∷_ (Row.lease (κs .1 .1 .1 .0) (qs .1 .1
-            .1 .0)) (List._∷_ (Row.lease (κs .1 .1 .1 .1 .0) (qs .1 .1 .1 .1 .0)) (List._∷_ Row.alive (List._∷_ Row.off (List._∷_ Row.off (List._∷_ Row.off (List._∷_ Row.off List.[]))))))))); }
+        G8 = record {
+          locals = List._++_ t4 t1;
+          slots = List._∷_ (Row.lease (κs .0) (qs .0)) (List._∷_ (Row.lease (κs .1 .0) (qs .1 .0)) (List._∷_ (Row.lease (κs .1 .1 .0) (qs .1 .1 .0)) (List._∷_ (Row.lease (κs .1 .1 .1 .0) (qs .1 .1
+              .1 .0)) (List._∷_ (Row.lease (κs .1 .1 .1 .1 .0) (qs .1 .1 .1 .1 .0)) (List._∷_ Row.alive (List._∷_ Row.off (List._∷_ Row.off (List._∷_ Row.off (List._∷_ Row.off List.[])))))))));
+        }
 
         abbrev G9 : Row.Cx
-        G9 = record { locals = List._++_ g5 t1; slots = List._∷_ Row.off (List._∷_ (Row.lease (κs .1 .0) (qs .1 .0)) (List._∷_ (Row.lease (κs .1 .1 .0) (qs .1 .1 .0)) (List._∷_ (Row.lease (κs .1 .1 .1 .0) (qs .1 .1 .1 .0)) (List._∷_
-            (Row.lease (κs .1 .1 .1 .1 .0) (qs .1 .1 .1 .1 .0)) (List._∷_ Row.alive (List._∷_ Row.off (List._∷_ Row.off (List._∷_ Row.off (List._∷_ Row.off List.[]))))))))); }
+        G9 = record {
+          locals = List._++_ g5 t1;
+          slots = List._∷_ Row.off (List._∷_ (Row.lease (κs .1 .0) (qs .1 .0)) (List._∷_ (Row.lease (κs .1 .1 .0) (qs .1 .1 .0)) (List._∷_ (Row.lease (κs .1 .1 .1 .0) (qs .1 .1 .1 .0)) (List._∷_
+              (Row.lease (κs .1 .1 .1 .1 .0) (qs .1 .1 .1 .1 .0)) (List._∷_ Row.alive (List._∷_ Row.off (List._∷_ Row.off (List._∷_ Row.off (List._∷_ Row.off List.[])))))))));
+        }
 
         abbrev G10 : Row.Cx
-        G10 = record { locals = List._++_ g6 t1; slots = List._∷_ Row.off (List._∷_ (Row.lease (κs .1 .0) (qs .1 .0)) (List._∷_ (Row.lease (κs .1 .1 .0) (qs .1 .1 .0)) (List._∷_ (Row.lease (κs .1 .1 .1 .0) (qs .1 .1 .1 .0)) (List._∷_
-            (Row.lease (κs .1 .1 .1 .1 .0) (qs .1 .1 .1 .1 .0)) (List._∷_ Row.alive (List._∷_ Row.off (List._∷_ Row.off (List._∷_ Row.off (List._∷_ Row.off List.[]))))))))); }
+        G10 = record {
+          locals = List._++_ g6 t1;
+          slots = List._∷_ Row.off (List._∷_ (Row.lease (κs .1 .0) (qs .1 .0)) (List._∷_ (Row.lease (κs .1 .1 .0) (qs .1 .1 .0)) (List._∷_ (Row.lease (κs .1 .1 .1 .0) (qs .1 .1 .1 .0)) (List._∷_
+              (Row.lease (κs .1 .1 .1 .1 .0) (qs .1 .1 .1 .1 .0)) (List._∷_ Row.alive (List._∷_ Row.off (List._∷_ Row.off (List._∷_ Row.off (List._∷_ Row.off List.[])))))))));
+        }
 
         abbrev G11 : Row.Cx
-        G11 = record { locals = List._++_ g6 t1; slots = List._∷_ Row.off (List._∷_ (Row.lease (κs .1 .0) (qs .1 .0)) (List._∷_ (Row.lease (κs .1 .1 .0) (qs .1 .1 .0)) (List._∷_ (Row.lease (κs .1 .1 .1 .0) (qs .1 .1 .1 .0)) (List._∷_
-            (Row.lease (κs .1 .1 .1 .1 .0) (qs .1 .1 .1 .1 .0)) (List._∷_ Row.alive (List._∷_ Row.alive (List._∷_ Row.off (List._∷_ Row.off (List._∷_ Row.off List.[]))))))))); }
+        G11 = record {
+          locals = List._++_ g6 t1;
+          slots = List._∷_ Row.off (List._∷_ (Row.lease (κs .1 .0) (qs .1 .0)) (List._∷_ (Row.lease (κs .1 .1 .0) (qs .1 .1 .0)) (List._∷_ (Row.lease (κs .1 .1 .1 .0) (qs .1 .1 .1 .0)) (List._∷_
+              (Row.lease (κs .1 .1 .1 .1 .0) (qs .1 .1 .1 .1 .0)) (List._∷_ Row.alive (List._∷_ Row.alive (List._∷_ Row.off (List._∷_ Row.off (List._∷_ Row.off List.[])))))))));
+        }
 
         abbrev G12 : Row.Cx
-        G12 = record { locals = List._++_ g7 t1; slots = List._∷_ Row.off (List._∷_ Row.off (List._∷_ (Row.lease (κs .1 .1 .0) (qs .1 .1 .0)) (List._∷_ (Row.lease (κs .1 .1 .1 .0) (qs .1 .1 .1 .0)) (List._∷_ (Row.lease (κs .1 .1 .1 .1
-            .0) (qs .1 .1 .1 .1 .0)) (List._∷_ Row.alive (List._∷_ Row.alive (List._∷_ Row.off (List._∷_ Row.off (List._∷_ Row.off List.[]))))))))); }
+        G12 = record {
+          locals = List._++_ g7 t1;
+          slots = List._∷_ Row.off (List._∷_ Row.off (List._∷_ (Row.lease (κs .1 .1 .0) (qs .1 .1 .0)) (List._∷_ (Row.lease (κs .1 .1 .1 .0) (qs .1 .1 .1 .0)) (List._∷_ (Row.lease (κs .1 .1 .1 .1
+              .0) (qs .1 .1 .1 .1 .0)) (List._∷_ Row.alive (List._∷_ Row.alive (List._∷_ Row.off (List._∷_ Row.off (List._∷_ Row.off List.[])))))))));
+        }
 
         abbrev G13 : Row.Cx
-        G13 = record { locals = List._++_ g8 t1; slots = List._∷_ Row.off (List._∷_ Row.off (List._∷_ (Row.lease (κs .1 .1 .0) (qs .1 .1 .0)) (List._∷_ (Row.lease (κs .1 .1 .1 .0) (qs .1 .1 .1 .0)) (List._∷_ (Row.lease (κs .1 .1 .1 .1
-            .0) (qs .1 .1 .1 .1 .0)) (List._∷_ Row.alive (List._∷_ Row.alive (List._∷_ Row.off (List._∷_ Row.off (List._∷_ Row.off List.[]))))))))); }
+        G13 = record {
+          locals = List._++_ g8 t1;
+          slots = List._∷_ Row.off (List._∷_ Row.off (List._∷_ (Row.lease (κs .1 .1 .0) (qs .1 .1 .0)) (List._∷_ (Row.lease (κs .1 .1 .1 .0) (qs .1 .1 .1 .0)) (List._∷_ (Row.lease (κs .1 .1 .1 .1
+              .0) (qs .1 .1 .1 .1 .0)) (List._∷_ Row.alive (List._∷_ Row.alive (List._∷_ Row.off (List._∷_ Row.off (List._∷_ Row.off List.[])))))))));
+        }
 
         abbrev G14 : Row.Cx
-        G14 = record { locals = List._++_ g8 t1; slots = List._∷_ Row.off (List._∷_ Row.off (List._∷_ (Row.lease (κs .1 .1 .0) (qs .1 .1 .0)) (List._∷_ (Row.lease (κs .1 .1 .1 .0) (qs .1 .1 .1 .0)) (List._∷_ (Row.lease (κs .1 .1 .1 .1
-            .0) (qs .1 .1 .1 .1 .0)) (List._∷_ Row.alive (List._∷_ Row.alive (List._∷_ Row.alive (List._∷_ Row.off (List._∷_ Row.off List.[]))))))))); }
+        G14 = record {
+          locals = List._++_ g8 t1;
+          slots = List._∷_ Row.off (List._∷_ Row.off (List._∷_ (Row.lease (κs .1 .1 .0) (qs .1 .1 .0)) (List._∷_ (Row.lease (κs .1 .1 .1 .0) (qs .1 .1 .1 .0)) (List._∷_ (Row.lease (κs .1 .1 .1 .1
+              .0) (qs .1 .1 .1 .1 .0)) (List._∷_ Row.alive (List._∷_ Row.alive (List._∷_ Row.alive (List._∷_ Row.off (List._∷_ Row.off List.[])))))))));
+        }
 
         abbrev G15 : Row.Cx
-        G15 = record { locals = List._++_ g9 t1; slots = List._∷_ Row.off (List._∷_ Row.off (List._∷_ Row.off (List._∷_ (Row.lease (κs .1 .1 .1 .0) (qs .1 .1 .1 .0)) (List._∷_ (Row.lease (κs .1 .1 .1 .1 .0) (qs .1 .1 .1 .1 .0))
-            (List._∷_ Row.alive (List._∷_ Row.alive (List._∷_ Row.alive (List._∷_ Row.off (List._∷_ Row.off List.[]))))))))); }
+        G15 = record {
+          locals = List._++_ g9 t1;
+          slots = List._∷_ Row.off (List._∷_ Row.off (List._∷_ Row.off (List._∷_ (Row.lease (κs .1 .1 .1 .0) (qs .1 .1 .1 .0)) (List._∷_ (Row.lease (κs .1 .1 .1 .1 .0) (qs .1 .1 .1 .1 .0))
+              (List._∷_ Row.alive (List._∷_ Row.alive (List._∷_ Row.alive (List._∷_ Row.off (List._∷_ Row.off List.[])))))))));
+        }
 
         abbrev G16 : Row.Cx
-        G16 = record { locals = List._++_ g10 t1; slots = List._∷_ Row.off (List._∷_ Row.off (List._∷_ Row.off (List._∷_ (Row.lease (κs .1 .1 .1 .0) (qs .1 .1 .1 .0)) (List._∷_ (Row.lease (κs .1 .1 .1 .1 .0) (qs .1 .1 .1 .1 .0))
-            (List._∷_ Row.alive (List._∷_ Row.alive (List._∷_ Row.alive (List._∷_ Row.off (List._∷_ Row.off List.[]))))))))); }
+        G16 = record {
+          locals = List._++_ g10 t1;
+          slots = List._∷_ Row.off (List._∷_ Row.off (List._∷_ Row.off (List._∷_ (Row.lease (κs .1 .1 .1 .0) (qs .1 .1 .1 .0)) (List._∷_ (Row.lease (κs .1 .1 .1 .1 .0) (qs .1 .1 .1 .1 .0))
+              (List._∷_ Row.alive (List._∷_ Row.alive (List._∷_ Row.alive (List._∷_ Row.off (List._∷_ Row.off List.[])))))))));
+        }
 
         abbrev G17 : Row.Cx
-        G17 = record { locals = List._++_ g10 t1; slots = List._∷_ Row.off (List._∷_ Row.off (List._∷_ Row.off (List._∷_ (Row.lease (κs .1 .1 .1 .0) (qs .1 .1 .1 .0)) (List._∷_ (Row.lease (κs .1 .1 .1 .1 .0) (qs .1 .1 .1 .1 .0))
-            (List._∷_ Row.alive (List._∷_ Row.alive (List._∷_ Row.alive (List._∷_ Row.alive (List._∷_ Row.off List.[]))))))))); }
+        G17 = record {
+          locals = List._++_ g10 t1;
+          slots = List._∷_ Row.off (List._∷_ Row.off (List._∷_ Row.off (List._∷_ (Row.lease (κs .1 .1 .1 .0) (qs .1 .1 .1 .0)) (List._∷_ (Row.lease (κs .1 .1 .1 .1 .0) (qs .1 .1 .1 .1 .0))
+              (List._∷_ Row.alive (List._∷_ Row.alive (List._∷_ Row.alive (List._∷_ Row.alive (List._∷_ Row.off List.[])))))))));
+        }
 
         abbrev G18 : Row.Cx
-        G18 = record { locals = List._++_ g11 t1; slots = List._∷_ Row.off (List._∷_ Row.off (List._∷_ Row.off (List._∷_ Row.off (List._∷_ (Row.lease (κs .1 .1 .1 .1 .0) (qs .1 .1 .1 .1 .0)) (List._∷_ Row.alive (List._∷_ Row.alive
-            (List._∷_ Row.alive (List._∷_ Row.alive (List._∷_ Row.off List.[]))))))))); }
+        G18 = record {
+          locals = List._++_ g11 t1;
+          slots = List._∷_ Row.off (List._∷_ Row.off (List._∷_ Row.off (List._∷_ Row.off (List._∷_ (Row.lease (κs .1 .1 .1 .1 .0) (qs .1 .1 .1 .1 .0)) (List._∷_ Row.alive (List._∷_ Row.alive
+              (List._∷_ Row.alive (List._∷_ Row.alive (List._∷_ Row.off List.[])))))))));
+        }
 
         abbrev G19 : Row.Cx
-        G19 = record { locals = List._++_ g12 t1; slots = List._∷_ Row.off (List._∷_ Row.off (List._∷_ Row.off (List._∷_ Row.off (List._∷_ (Row.lease (κs .1 .1 .1 .1 .0) (qs .1 .1 .1 .1 .0)) (List._∷_ Row.alive (List._∷_ Row.alive
-            (List._∷_ Row.alive (List._∷_ Row.alive (List._∷_ Row.off List.[]))))))))); }
+        G19 = record {
+          locals = List._++_ g12 t1;
+          slots = List._∷_ Row.off (List._∷_ Row.off (List._∷_ Row.off (List._∷_ Row.off (List._∷_ (Row.lease (κs .1 .1 .1 .1 .0) (qs .1 .1 .1 .1 .0)) (List._∷_ Row.alive (List._∷_ Row.alive
+              (List._∷_ Row.alive (List._∷_ Row.alive (List._∷_ Row.off List.[])))))))));
+        }
 
         abbrev G20 : Row.Cx
-        G20 = record { locals = List._++_ g12 t13; slots = List._∷_ Row.off (List._∷_ Row.off (List._∷_ Row.off (List._∷_ Row.off (List._∷_ (Row.lease (κs .1 .1 .1 .1 .0) (qs .1 .1 .1 .1 .0)) (List._∷_ Row.alive (List._∷_ Row.alive
-            (List._∷_ Row.alive (List._∷_ Row.alive (List._∷_ Row.off List.[]))))))))); }
+        G20 = record {
+          locals = List._++_ g12 t13;
+          slots = List._∷_ Row.off (List._∷_ Row.off (List._∷_ Row.off (List._∷_ Row.off (List._∷_ (Row.lease (κs .1 .1 .1 .1 .0) (qs .1 .1 .1 .1 .0)) (List._∷_ Row.alive (List._∷_ Row.alive
+              (List._∷_ Row.alive (List._∷_ Row.alive (List._∷_ Row.off List.[])))))))));
+        }
 
         abbrev G21 : Row.Cx
-        G21 = record { locals = List._++_ g12 t13; slots = List._∷_ Row.off (List._∷_ Row.off (List._∷_ Row.off (List._∷_ Row.off (List._∷_ (Row.lease (κs .1 .1 .1 .1 .0) (qs .1 .1 .1 .1 .0)) (List._∷_ Row.alive (List._∷_ Row.alive
-            (List._∷_ Row.alive (List._∷_ Row.alive (List._∷_ Row.alive List.[]))))))))); }
+        G21 = record {
+          locals = List._++_ g12 t13;
+          slots = List._∷_ Row.off (List._∷_ Row.off (List._∷_ Row.off (List._∷_ Row.off (List._∷_ (Row.lease (κs .1 .1 .1 .1 .0) (qs .1 .1 .1 .1 .0)) (List._∷_ Row.alive (List._∷_ Row.alive
+              (List._∷_ Row.alive (List._∷_ Row.alive (List._∷_ Row.alive List.[])))))))));
+        }
 
         abbrev G22 : Row.Cx
-        G22 = record { locals = List._++_ g14 t15; slots = List._∷_ Row.off (List._∷_ Row.off (List._∷_ Row.off (List._∷_ Row.off (List._∷_ (Row.lease (κs .1 .1 .1 .1 .0) (qs .1 .1 .1 .1 .0)) (List._∷_ Row.alive (List._∷_ Row.alive
-            (List._∷_ Row.alive (List._∷_ Row.alive (List._∷_ Row.alive List.[]))))))))); }
+        G22 = record {
+          locals = List._++_ g14 t15;
+          slots = List._∷_ Row.off (List._∷_ Row.off (List._∷_ Row.off (List._∷_ Row.off (List._∷_ (Row.lease (κs .1 .1 .1 .1 .0) (qs .1 .1 .1 .1 .0)) (List._∷_ Row.alive (List._∷_ Row.alive
+              (List._∷_ Row.alive (List._∷_ Row.alive (List._∷_ Row.alive List.[])))))))));
+        }
 
         abbrev G23 : Row.Cx
-        G23 = record { locals = List._++_ g14 t16; slots = List._∷_ Row.off (List._∷_ Row.off (List._∷_ Row.off (List._∷_ Row.off (List._∷_ (Row.lease (κs .1 .1 .1 .1 .0) (qs .1 .1 .1 .1 .0)) (List._∷_ Row.alive (List._∷_ Row.alive
-            (List._∷_ Row.alive (List._∷_ Row.alive (List._∷_ Row.alive List.[]))))))))); }
+        G23 = record {
+          locals = List._++_ g14 t16;
+          slots = List._∷_ Row.off (List._∷_ Row.off (List._∷_ Row.off (List._∷_ Row.off (List._∷_ (Row.lease (κs .1 .1 .1 .1 .0) (qs .1 .1 .1 .1 .0)) (List._∷_ Row.alive (List._∷_ Row.alive
+              (List._∷_ Row.alive (List._∷_ Row.alive (List._∷_ Row.alive List.[])))))))));
+        }
 
         abbrev G24 : Row.Cx
-        G24 = record { locals = List._++_ g17 t16; slots = List._∷_ Row.off (List._∷_ Row.off (List._∷_ Row.off (List._∷_ Row.off (List._∷_ (Row.lease (κs .1 .1 .1 .1 .0) (qs .1 .1 .1 .1 .0)) (List._∷_ Row.alive (List._∷_ Row.alive
-            (List._∷_ Row.alive (List._∷_ Row.alive (List._∷_ Row.alive List.[]))))))))); }
+        G24 = record {
+          locals = List._++_ g17 t16;
+          slots = List._∷_ Row.off (List._∷_ Row.off (List._∷_ Row.off (List._∷_ Row.off (List._∷_ (Row.lease (κs .1 .1 .1 .1 .0) (qs .1 .1 .1 .1 .0)) (List._∷_ Row.alive (List._∷_ Row.alive
+              (List._∷_ Row.alive (List._∷_ Row.alive (List._∷_ Row.alive List.[])))))))));
+        }
 
         abbrev G25 : Row.Cx
-        G25 = record { locals = List._++_ g17 t13; slots = List._∷_ Row.off (List._∷_ Row.off (List._∷_ Row.off (List._∷_ Row.off (List._∷_ (Row.lease (κs .1 .1 .1 .1 .0) (qs .1 .1 .1 .1 .0)) (List._∷_ Row.alive (List._∷_ Row.alive
-            (List._∷_ Row.alive (List._∷_ Row.alive (List._∷_ Row.alive List.[]))))))))); }
+        G25 = record {
+          locals = List._++_ g17 t13;
+          slots = List._∷_ Row.off (List._∷_ Row.off (List._∷_ Row.off (List._∷_ Row.off (List._∷_ (Row.lease (κs .1 .1 .1 .1 .0) (qs .1 .1 .1 .1 .0)) (List._∷_ Row.alive (List._∷_ Row.alive
+              (List._∷_ Row.alive (List._∷_ Row.alive (List._∷_ Row.alive List.[])))))))));
+        }
 
         abbrev G26 : Row.Cx
-        G26 = record { locals = List._++_ g18 t13; slots = List._∷_ Row.off (List._∷_ Row.off (List._∷_ Row.off (List._∷_ Row.off (List._∷_ (Row.lease (κs .1 .1 .1 .1 .0) (qs .1 .1 .1 .1 .0)) (List._∷_ Row.alive (List._∷_ Row.alive
-            (List._∷_ Row.alive (List._∷_ Row.alive (List._∷_ Row.alive List.[]))))))))); }
+        G26 = record {
+          locals = List._++_ g18 t13;
+          slots = List._∷_ Row.off (List._∷_ Row.off (List._∷_ Row.off (List._∷_ Row.off (List._∷_ (Row.lease (κs .1 .1 .1 .1 .0) (qs .1 .1 .1 .1 .0)) (List._∷_ Row.alive (List._∷_ Row.alive
+              (List._∷_ Row.alive (List._∷_ Row.alive (List._∷_ Row.alive List.[])))))))));
+        }
 
         abbrev G27 : Row.Cx
-        G27 = record { locals = List._++_ g18 t1; slots = List._∷_ Row.off (List._∷_ Row.off (List._∷_ Row.off (List._∷_ Row.off (List._∷_ (Row.lease (κs .1 .1 .1 .1 .0) (qs .1 .1 .1 .1 .0)) (List._∷_ Row.alive (List._∷_ Row.alive
-            (List._∷_ Row.alive (List._∷_ Row.alive (List._∷_ Row.alive List.[]))))))))); }
+        G27 = record {
+          locals = List._++_ g18 t1;
+          slots = List._∷_ Row.off (List._∷_ Row.off (List._∷_ Row.off (List._∷_ Row.off (List._∷_ (Row.lease (κs .1 .1 .1 .1 .0) (qs .1 .1 .1 .1 .0)) (List._∷_ Row.alive (List._∷_ Row.alive
+              (List._∷_ Row.alive (List._∷_ Row.alive (List._∷_ Row.alive List.[])))))))));
+        }
 
         abbrev G28 : Row.Cx
-        G28 = record { locals = List._++_ g18 t1; slots = List._∷_ Row.off (List._∷_ Row.off (List._∷_ Row.off (List._∷_ Row.off (List._∷_ (Row.lease (κs .1 .1 .1 .1 .0) (qs .1 .1 .1 .1 .0)) (List._∷_ Row.dead (List._∷_ Row.alive
-            (List._∷_ Row.alive (List._∷_ Row.alive (List._∷_ Row.alive List.[]))))))))); }
+        G28 = record {
+          locals = List._++_ g18 t1;
+          slots = List._∷_ Row.off (List._∷_ Row.off (List._∷_ Row.off (List._∷_ Row.off (List._∷_ (Row.lease (κs .1 .1 .1 .1 .0) (qs .1 .1 .1 .1 .0)) (List._∷_ Row.dead (List._∷_ Row.alive
+              (List._∷_ Row.alive (List._∷_ Row.alive (List._∷_ Row.alive List.[])))))))));
+        }
 
         abbrev G29 : Row.Cx
-        G29 = record { locals = List._++_ g19 t1; slots = List._∷_ (Row.lease (κs .0) (qs .0)) (List._∷_ Row.off (List._∷_ Row.off (List._∷_ Row.off (List._∷_ (Row.lease (κs .1 .1 .1 .1 .0) (qs .1 .1 .1 .1 .0)) (List._∷_ Row.dead
-            (List._∷_ Row.alive (List._∷_ Row.alive (List._∷_ Row.alive (List._∷_ Row.alive List.[]))))))))); }
+        G29 = record {
+          locals = List._++_ g19 t1;
+          slots = List._∷_ (Row.lease (κs .0) (qs .0)) (List._∷_ Row.off (List._∷_ Row.off (List._∷_ Row.off (List._∷_ (Row.lease (κs .1 .1 .1 .1 .0) (qs .1 .1 .1 .1 .0)) (List._∷_ Row.dead
+              (List._∷_ Row.alive (List._∷_ Row.alive (List._∷_ Row.alive (List._∷_ Row.alive List.[])))))))));
+        }
 
         abbrev G30 : Row.Cx
-        G30 = record { locals = List._++_ g19 t1; slots = List._∷_ (Row.lease (κs .0) (qs .0)) (List._∷_ Row.off (List._∷_ Row.off (List._∷_ Row.off (List._∷_ (Row.lease (κs .1 .1 .1 .1 .0) (qs .1 .1 .1 .1 .0)) (List._∷_ Row.off
-            (List._∷_ Row.alive (List._∷_ Row.alive (List._∷_ Row.alive (List._∷_ Row.alive List.[]))))))))); }
+        G30 = record {
+          locals = List._++_ g19 t1;
+          slots = List._∷_ (Row.lease (κs .0) (qs .0)) (List._∷_ Row.off (List._∷_ Row.off (List._∷_ Row.off (List._∷_ (Row.lease (κs .1 .1 .1 .1 .0) (qs .1 .1 .1 .1 .0)) (List._∷_ Row.off
+              (List._∷_ Row.alive (List._∷_ Row.alive (List._∷_ Row.alive (List._∷_ Row.alive List.[])))))))));
+        }
 
         abbrev G31 : Row.Cx
-        G31 = record { locals = List._++_ g19 t1; slots = List._∷_ (Row.lease (κs .0) (qs .0)) (List._∷_ Row.off (List._∷_ Row.off (List._∷_ Row.off (List._∷_ (Row.lease (κs .1 .1 .1 .1 .0) (qs .1 .1 .1 .1 .0)) (List._∷_ Row.off
-            (List._∷_ Row.dead (List._∷_ Row.alive (List._∷_ Row.alive (List._∷_ Row.alive List.[]))))))))); }
+        G31 = record {
+          locals = List._++_ g19 t1;
+          slots = List._∷_ (Row.lease (κs .0) (qs .0)) (List._∷_ Row.off (List._∷_ Row.off (List._∷_ Row.off (List._∷_ (Row.lease (κs .1 .1 .1 .1 .0) (qs .1 .1 .1 .1 .0)) (List._∷_ Row.off
+              (List._∷_ Row.dead (List._∷_ Row.alive (List._∷_ Row.alive (List._∷_ Row.alive List.[])))))))));
+        }
 
         abbrev G32 : Row.Cx
-        G32 = record { locals = List._++_ g20 t1; slots = List._∷_ (Row.lease (κs .0) (qs .0)) (List._∷_ (Row.lease (κs .1 .0) (qs .1 .0)) (List._∷_ Row.off (List._∷_ Row.off (List._∷_ (Row.lease (κs .1 .1 .1 .1 .0) (qs .1 .1 .1 .1
-            .0)) (List._∷_ Row.off (List._∷_ Row.dead (List._∷_ Row.alive (List._∷_ Row.alive (List._∷_ Row.alive List.[]))))))))); }
+        G32 = record {
+          locals = List._++_ g20 t1;
+          slots = List._∷_ (Row.lease (κs .0) (qs .0)) (List._∷_ (Row.lease (κs .1 .0) (qs .1 .0)) (List._∷_ Row.off (List._∷_ Row.off (List._∷_ (Row.lease (κs .1 .1 .1 .1 .0) (qs .1 .1 .1 .1
+              .0)) (List._∷_ Row.off (List._∷_ Row.dead (List._∷_ Row.alive (List._∷_ Row.alive (List._∷_ Row.alive List.[])))))))));
+        }
 
         abbrev G33 : Row.Cx
-        G33 = record { locals = List._++_ g20 t1; slots = List._∷_ (Row.lease (κs .0) (qs .0)) (List._∷_ (Row.lease (κs .1 .0) (qs .1 .0)) (List._∷_ Row.off (List._∷_ Row.off (List._∷_ (Row.lease (κs .1 .1 .1 .1 .0) (qs .1 .1 .1 .1
-            .0)) (List._∷_ Row.off (List._∷_ Row.dead (List._∷_ Row.alive (List._∷_ Row.alive (List._∷_ Row.alive List.[]))))))))); }
+        G33 = record {
+          locals = List._++_ g20 t1;
+          slots = List._∷_ (Row.lease (κs .0) (qs .0)) (List._∷_ (Row.lease (κs .1 .0) (qs .1 .0)) (List._∷_ Row.off (List._∷_ Row.off (List._∷_ (Row.lease (κs .1 .1 .1 .1 .0) (qs .1 .1 .1 .1
+              .0)) (List._∷_ Row.off (List._∷_ Row.dead (List._∷_ Row.alive (List._∷_ Row.alive (List._∷_ Row.alive List.[])))))))));
+        }
 
         abbrev G34 : Row.Cx
-        G34 = record { locals = List._++_ g20 t1; slots = List._∷_ (Row.lease (κs .0) (qs .0)) (List._∷_ (Row.lease (κs .1 .0) (qs .1 .0)) (List._∷_ Row.off (List._∷_ Row.off (List._∷_ (Row.lease (κs .1 .1 .1 .1 .0) (qs .1 .1 .1 .1
-            .0)) (List._∷_ Row.off (List._∷_ Row.off (List._∷_ Row.alive (List._∷_ Row.alive (List._∷_ Row.alive List.[]))))))))); }
+        G34 = record {
+          locals = List._++_ g20 t1;
+          slots = List._∷_ (Row.lease (κs .0) (qs .0)) (List._∷_ (Row.lease (κs .1 .0) (qs .1 .0)) (List._∷_ Row.off (List._∷_ Row.off (List._∷_ (Row.lease (κs .1 .1 .1 .1 .0) (qs .1 .1 .1 .1
+              .0)) (List._∷_ Row.off (List._∷_ Row.off (List._∷_ Row.alive (List._∷_ Row.alive (List._∷_ Row.alive List.[])))))))));
+        }
 
         abbrev G35 : Row.Cx
-        G35 = record { locals = List._++_ g20 t1; slots = List._∷_ (Row.lease (κs .0) (qs .0)) (List._∷_ (Row.lease (κs .1 .0) (qs .1 .0)) (List._∷_ Row.off (List._∷_ Row.off (List._∷_ (Row.lease (κs .1 .1 .1 .1 .0) (qs .1 .1 .1 .1
-            .0)) (List._∷_ Row.off (List._∷_ Row.off (List._∷_ Row.dead (List._∷_ Row.alive (List._∷_ Row.alive List.[]))))))))); }
+        G35 = record {
+          locals = List._++_ g20 t1;
+          slots = List._∷_ (Row.lease (κs .0) (qs .0)) (List._∷_ (Row.lease (κs .1 .0) (qs .1 .0)) (List._∷_ Row.off (List._∷_ Row.off (List._∷_ (Row.lease (κs .1 .1 .1 .1 .0) (qs .1 .1 .1 .1
+              .0)) (List._∷_ Row.off (List._∷_ Row.off (List._∷_ Row.dead (List._∷_ Row.alive (List._∷_ Row.alive List.[])))))))));
+        }
 
         abbrev G36 : Row.Cx
-        G36 = record { locals = List._++_ g21 t1; slots = List._∷_ (Row.lease (κs .0) (qs .0)) (List._∷_ (Row.lease (κs .1 .0) (qs .1 .0)) (List._∷_ (Row.lease (κs .1 .1 .0) (qs .1 .1 .0)) (List._∷_ Row.off (List._∷_ (Row.lease (κs .1
-            .1 .1 .1 .0) (qs .1 .1 .1 .1 .0)) (List._∷_ Row.off (List._∷_ Row.off (List._∷_ Row.dead (List._∷_ Row.alive (List._∷_ Row.alive List.[]))))))))); }
+        G36 = record {
+          locals = List._++_ g21 t1;
+          slots = List._∷_ (Row.lease (κs .0) (qs .0)) (List._∷_ (Row.lease (κs .1 .0) (qs .1 .0)) (List._∷_ (Row.lease (κs .1 .1 .0) (qs .1 .1 .0)) (List._∷_ Row.off (List._∷_ (Row.lease (κs .1
+              .1 .1 .1 .0) (qs .1 .1 .1 .1 .0)) (List._∷_ Row.off (List._∷_ Row.off (List._∷_ Row.dead (List._∷_ Row.alive (List._∷_ Row.alive List.[])))))))));
+        }
 
         abbrev G37 : Row.Cx
-        G37 = record { locals = List._++_ g21 t1; slots = List._∷_ (Row.lease (κs .0) (qs .0)) (List._∷_ (Row.lease (κs .1 .0) (qs .1 .0)) (List._∷_ (Row.lease (κs .1 .1 .0) (qs .1 .1 .0)) (List._∷_ Row.off (List._∷_ (Row.lease (κs .1
-            .1 .1 .1 .0) (qs .1 .1 .1 .1 .0)) (List._∷_ Row.off (List._∷_ Row.off (List._∷_ Row.dead (List._∷_ Row.alive (List._∷_ Row.alive List.[]))))))))); }
+        G37 = record {
+          locals = List._++_ g21 t1;
+          slots = List._∷_ (Row.lease (κs .0) (qs .0)) (List._∷_ (Row.lease (κs .1 .0) (qs .1 .0)) (List._∷_ (Row.lease (κs .1 .1 .0) (qs .1 .1 .0)) (List._∷_ Row.off (List._∷_ (Row.lease (κs .1
+              .1 .1 .1 .0) (qs .1 .1 .1 .1 .0)) (List._∷_ Row.off (List._∷_ Row.off (List._∷_ Row.dead (List._∷_ Row.alive (List._∷_ Row.alive List.[])))))))));
+        }
 
         abbrev G38 : Row.Cx
-        G38 = record { locals = List._++_ g21 t1; slots = List._∷_ (Row.lease (κs .0) (qs .0)) (List._∷_ (Row.lease (κs .1 .0) (qs .1 .0)) (List._∷_ (Row.lease (κs .1 .1 .0) (qs .1 .1 .0)) (List._∷_ Row.off (List._∷_ (Row.lease (κs .1
-            .1 .1 .1 .0) (qs .1 .1 .1 .1 .0)) (List._∷_ Row.off (List._∷_ Row.off (List._∷_ Row.off (List._∷_ Row.alive (List._∷_ Row.alive List.[]))))))))); }
+        G38 = record {
+          locals = List._++_ g21 t1;
+          slots = List._∷_ (Row.lease (κs .0) (qs .0)) (List._∷_ (Row.lease (κs .1 .0) (qs .1 .0)) (List._∷_ (Row.lease (κs .1 .1 .0) (qs .1 .1 .0)) (List._∷_ Row.off (List._∷_ (Row.lease (κs .1
+              .1 .1 .1 .0) (qs .1 .1 .1 .1 .0)) (List._∷_ Row.off (List._∷_ Row.off (List._∷_ Row.off (List._∷_ Row.alive (List._∷_ Row.alive List.[])))))))));
+        }
 
         abbrev G39 : Row.Cx
-        G39 = record { locals = List._++_ g21 t1; slots = List._∷_ (Row.lease (κs .0) (qs .0)) (List._∷_ (Row.lease (κs .1 .0) (qs .1 .0)) (List._∷_ (Row.lease (κs .1 .1 .0) (qs .1 .1 .0)) (List._∷_ Row.off (List._∷_ (Row.lease (κs .1
-            .1 .1 .1 .0) (qs .1 .1 .1 .1 .0)) (List._∷_ Row.off (List._∷_ Row.off (List._∷_ Row.off (List._∷_ Row.dead (List._∷_ Row.alive List.[]))))))))); }
+        G39 = record {
+          locals = List._++_ g21 t1;
+          slots = List._∷_ (Row.lease (κs .0) (qs .0)) (List._∷_ (Row.lease (κs .1 .0) (qs .1 .0)) (List._∷_ (Row.lease (κs .1 .1 .0) (qs .1 .1 .0)) (List._∷_ Row.off (List._∷_ (Row.lease (κs .1
+              .1 .1 .1 .0) (qs .1 .1 .1 .1 .0)) (List._∷_ Row.off (List._∷_ Row.off (List._∷_ Row.off (List._∷_ Row.dead (List._∷_ Row.alive List.[])))))))));
+        }
 
         abbrev G40 : Row.Cx
-        G40 = record { locals = List._++_ t22 t1; slots = List._∷_ (Row.lease (κs .0) (qs .0)) (List._∷_ (Row.lease (κs .1 .0) (qs .1 .0)) (List._∷_ (Row.lease (κs .1 .1 .0) (qs .1 .1 .0)) (List._∷_ (Row.lease (κs .1 .1 .1 .0) (qs .1
-            .1 .1 .0)) (List._∷_ (Row.lease (κs .1 .1 .1 .1 .0) (qs .1 .1 .1 .1 .0)) (List._∷_ Row.off (List._∷_ Row.off (List._∷_ Row.off (List._∷_ Row.dead (List._∷_ Row.alive List.[]))))))))); }
+        G40 = record {
+          locals = List._++_ t22 t1;
+          slots = List._∷_ (Row.lease (κs .0) (qs .0)) (List._∷_ (Row.lease (κs .1 .0) (qs .1 .0)) (List._∷_ (Row.lease (κs .1 .1 .0) (qs .1 .1 .0)) (List._∷_ (Row.lease (κs .1 .1 .1 .0) (qs .1
+              .1 .1 .0)) (List._∷_ (Row.lease (κs .1 .1 .1 .1 .0) (qs .1 .1 .1 .1 .0)) (List._∷_ Row.off (List._∷_ Row.off (List._∷_ Row.off (List._∷_ Row.dead (List._∷_ Row.alive List.[])))))))));
+        }
 
         abbrev G41 : Row.Cx
-        G41 = record { locals = List._++_ t22 t1; slots = List._∷_ (Row.lease (κs .0) (qs .0)) (List._∷_ (Row.lease (κs .1 .0) (qs .1 .0)) (List._∷_ (Row.lease (κs .1 .1 .0) (qs .1 .1 .0)) (List._∷_ (Row.lease (κs .1 .1 .1 .0) (qs .1
-            .1 .1 .0)) (List._∷_ (Row.lease (κs .1 .1 .1 .1 .0) (qs .1 .1 .1 .1 .0)) (List._∷_ Row.off (List._∷_ Row.off (List._∷_ Row.off (List._∷_ Row.dead (List._∷_ Row.alive List.[]))))))))); }
+        G41 = record {
+          locals = List._++_ t22 t1;
+          slots = List._∷_ (Row.lease (κs .0) (qs .0)) (List._∷_ (Row.lease (κs .1 .0) (qs .1 .0)) (List._∷_ (Row.lease (κs .1 .1 .0) (qs .1 .1 .0)) (List._∷_ (Row.lease (κs .1 .1 .1 .0) (qs .1
+              .1 .1 .0)) (List._∷_ (Row.lease (κs .1 .1 .1 .1 .0) (qs .1 .1 .1 .1 .0)) (List._∷_ Row.off (List._∷_ Row.off (List._∷_ Row.off (List._∷_ Row.dead (List._∷_ Row.alive List.[])))))))));
+        }
 
         abbrev G42 : Row.Cx
-        G42 = record { locals = List._++_ t22 t1; slots = List._∷_ (Row.lease (κs .0) (qs .0)) (List._∷_ (Row.lease (κs .1 .0) (qs .1 .0)) (List._∷_ (Row.lease (κs .1 .1 .0) (qs .1 .1 .0)) (List._∷_ (Row.lease (κs .1 .1 .1 .0) (qs .1
-            .1 .1 .0)) (List._∷_ (Row.lease (κs .1 .1 .1 .1 .0) (qs .1 .1 .1 .1 .0)) (List._∷_ Row.off (List._∷_ Row.off (List._∷_ Row.off (List._∷_ Row.off (List._∷_ Row.alive List.[]))))))))); }
+        G42 = record {
+          locals = List._++_ t22 t1;
+          slots = List._∷_ (Row.lease (κs .0) (qs .0)) (List._∷_ (Row.lease (κs .1 .0) (qs .1 .0)) (List._∷_ (Row.lease (κs .1 .1 .0) (qs .1 .1 .0)) (List._∷_ (Row.lease (κs .1 .1 .1 .0) (qs .1
+              .1 .1 .0)) (List._∷_ (Row.lease (κs .1 .1 .1 .1 .0) (qs .1 .1 .1 .1 .0)) (List._∷_ Row.off (List._∷_ Row.off (List._∷_ Row.off (List._∷_ Row.off (List._∷_ Row.alive List.[])))))))));
+        }
 
         abbrev G43 : Row.Cx
-        G43 = record { locals = List._++_ t22 t1; slots = List._∷_ (Row.lease (κs .0) (qs .0)) (List._∷_ (Row.lease (κs .1 .0) (qs .1 .0)) (List._∷_ (Row.lease (κs .1 .1 .0) (qs .1 .1 .0)) (List._∷_ (Row.lease (κs .1 .1 .1 .0) (qs .1
-            .1 .1 .0)) (List._∷_ (Row.lease (κs .1 .1 .1 .1 .0) (qs .1 .1 .1 .1 .0)) (List._∷_ Row.off (List._∷_ Row.off (List._∷_ Row.off (List._∷_ Row.off (List._∷_ Row.dead List.[]))))))))); }
+        G43 = record {
+          locals = List._++_ t22 t1;
+          slots = List._∷_ (Row.lease (κs .0) (qs .0)) (List._∷_ (Row.lease (κs .1 .0) (qs .1 .0)) (List._∷_ (Row.lease (κs .1 .1 .0) (qs .1 .1 .0)) (List._∷_ (Row.lease (κs .1 .1 .1 .0) (qs .1
+              .1 .1 .0)) (List._∷_ (Row.lease (κs .1 .1 .1 .1 .0) (qs .1 .1 .1 .1 .0)) (List._∷_ Row.off (List._∷_ Row.off (List._∷_ Row.off (List._∷_ Row.off (List._∷_ Row.dead List.[])))))))));
+        }
 
         abbrev G44 : Row.Cx
-        G44 = record { locals = List._++_ t23 t1; slots = List._∷_ (Row.lease (κs .0) (qs .0)) (List._∷_ (Row.lease (κs .1 .0) (qs .1 .0)) (List._∷_ (Row.lease (κs .1 .1 .0) (qs .1 .1 .0)) (List._∷_ (Row.lease (κs .1 .1 .1 .0) (qs .1
-            .1 .1 .0)) (List._∷_ (Row.lease (κs .1 .1 .1 .1 .0) (qs .1 .1 .1 .1 .0)) (List._∷_ Row.off (List._∷_ Row.off (List._∷_ Row.off (List._∷_ Row.off (List._∷_ Row.dead List.[]))))))))); }
+        G44 = record {
+          locals = List._++_ t23 t1;
+          slots = List._∷_ (Row.lease (κs .0) (qs .0)) (List._∷_ (Row.lease (κs .1 .0) (qs .1 .0)) (List._∷_ (Row.lease (κs .1 .1 .0) (qs .1 .1 .0)) (List._∷_ (Row.lease (κs .1 .1 .1 .0) (qs .1
+              .1 .1 .0)) (List._∷_ (Row.lease (κs .1 .1 .1 .1 .0) (qs .1 .1 .1 .1 .0)) (List._∷_ Row.off (List._∷_ Row.off (List._∷_ Row.off (List._∷_ Row.off (List._∷_ Row.dead List.[])))))))));
+        }
 
         abbrev G45 : Row.Cx
-        G45 = record { locals = List._++_ t23 t1; slots = List._∷_ (Row.lease (κs .0) (qs .0)) (List._∷_ (Row.lease (κs .1 .0) (qs .1 .0)) (List._∷_ (Row.lease (κs .1 .1 .0) (qs .1 .1 .0)) (List._∷_ (Row.lease (κs .1 .1 .1 .0) (qs .1
-            .1 .1 .0)) (List._∷_ (Row.lease (κs .1 .1 .1 .1 .0) (qs .1 .1 .1 .1 .0)) (List._∷_ Row.off (List._∷_ Row.off (List._∷_ Row.off (List._∷_ Row.off (List._∷_ Row.off List.[]))))))))); }
+        G45 = record {
+          locals = List._++_ t23 t1;
+          slots = List._∷_ (Row.lease (κs .0) (qs .0)) (List._∷_ (Row.lease (κs .1 .0) (qs .1 .0)) (List._∷_ (Row.lease (κs .1 .1 .0) (qs .1 .1 .0)) (List._∷_ (Row.lease (κs .1 .1 .1 .0) (qs .1
+              .1 .1 .0)) (List._∷_ (Row.lease (κs .1 .1 .1 .1 .0) (qs .1 .1 .1 .1 .0)) (List._∷_ Row.off (List._∷_ Row.off (List._∷_ Row.off (List._∷_ Row.off (List._∷_ Row.off List.[])))))))));
+        }
 
         abbrev G46 : Row.Cx
-        G46 = record { locals = List._++_ t2 t1; slots = List._∷_ (Row.lease (κs .0) (qs .0)) (List._∷_ (Row.lease (κs .1 .0) (qs .1 .0)) (List._∷_ (Row.lease (κs .1 .1 .0) (qs .1 .1 .0)) (List._∷_ (Row.lease (κs .1 .1 .1 .0) (qs .1 .1
-            .1 .0)) (List._∷_ (Row.lease (κs .1 .1 .1 .1 .0) (qs .1 .1 .1 .1 .0)) (List._∷_ Row.off (List._∷_ Row.off (List._∷_ Row.off (List._∷_ Row.off (List._∷_ Row.off List.[]))))))))); }
+        G46 = record {
+          locals = List._++_ t2 t1;
+          slots = List._∷_ (Row.lease (κs .0) (qs .0)) (List._∷_ (Row.lease (κs .1 .0) (qs .1 .0)) (List._∷_ (Row.lease (κs .1 .1 .0) (qs .1 .1 .0)) (List._∷_ (Row.lease (κs .1 .1 .1 .0) (qs .1 .1
+              .1 .0)) (List._∷_ (Row.lease (κs .1 .1 .1 .1 .0) (qs .1 .1 .1 .1 .0)) (List._∷_ Row.off (List._∷_ Row.off (List._∷_ Row.off (List._∷_ Row.off (List._∷_ Row.off List.[])))))))));
+        }
 
         abbrev Δ0 : Typed.Outs
         Δ0 = record { next = Option.none; exits = List.[]; returns = Option.some G1 }
@@ -1198,22 +2126,97 @@ module _ (claims· : Claims) where
               Syntax.imm (Syntax.tyInt Syntax.w16)) (Syntax.tcons El.word Syntax.tnil))) (Shared.room-sslice 𝓤 H A W (Referent.rtF (Referent.fInt Syntax.w16)) (Syntax.tyRef Syntax.erased Syntax.imm (Syntax.tyInt Syntax.w16)) 9)) d21
 
           d23 : Typed.Typed 𝓤 H A 𝓣 E G23 b14 Δ0 at23
-          d23 = Typed.s-seq 𝓤 H A W 𝓣 E G23 G24 b12 b13 Δ0 (Typed.both s22) at22 (Plain.t-call-plain 𝓤 H A W 𝓣 6 ps·0 r·0 (claims· .0) (claims· .1) "records_session::dispatch" known E (λ pos β. β) G23 (record { pos = 9; ty =
-              Syntax.tyRef Syntax.erased Syntax.mut El.named; ref = λ x. x; }, (record { pos = 11; ty = Syntax.tyRef Syntax.erased Syntax.mut El.word; ref = λ x. x; }, (record { pos = 13; ty = Syntax.tyRef Syntax.erased Syntax.mut
-              El.word; ref = λ x. x; }, (record { pos = 15; ty = Syntax.tyRef Syntax.erased Syntax.mut El.word; ref = λ x. x; }, (record { pos = 5; st = List.[]; d = 0; at = λ x. x }, (record { pos = 16; st = List.[]; d = 0; at = λ x. x
-              }, (record { pos = 18; ty = Syntax.tyRef Syntax.erased Syntax.imm (Syntax.tyInt Syntax.w16); ref = λ x. x; }, (record { pos = 6; ty = Syntax.tyRef (Syntax.named 4) Syntax.imm (Syntax.tyInt Syntax.w8); ref = λ x. x; },
-              tt)))))))) 0 (List._∷_ 5 (List._∷_ 6 (List._∷_ 7 (List._∷_ 8 (List._∷_ 9 (List._∷_ 4 List.[])))))) (Call.sub-id 𝓤 H A W (G23 .slots)) (Reads.as-is 𝓤 H A (Mut.mslice El.row (Syntax.tyRef Syntax.erased Syntax.mut El.named)
-              5), Mut.reads-mslice 𝓤 H A W El.row (Syntax.tyRef Syntax.erased Syntax.mut El.named) 5, Path'.refl, (Reads.as-is 𝓤 H A (Mut.mslice (Referent.rtF (Referent.fInt Syntax.w64)) (Syntax.tyRef Syntax.erased Syntax.mut El.word) 6),
-              Mut.reads-mslice 𝓤 H A W (Referent.rtF (Referent.fInt Syntax.w64)) (Syntax.tyRef Syntax.erased Syntax.mut El.word) 6, Path'.refl, (Reads.as-is 𝓤 H A (Mut.mslice (Referent.rtF (Referent.fInt Syntax.w64)) (Syntax.tyRef
-              Syntax.erased Syntax.mut El.word) 7), Mut.reads-mslice 𝓤 H A W (Referent.rtF (Referent.fInt Syntax.w64)) (Syntax.tyRef Syntax.erased Syntax.mut El.word) 7, Path'.refl, (Reads.as-is 𝓤 H A (Mut.mslice (Referent.rtF
-              (Referent.fInt Syntax.w64)) (Syntax.tyRef Syntax.erased Syntax.mut El.word) 8), Mut.reads-mslice 𝓤 H A W (Referent.rtF (Referent.fInt Syntax.w64)) (Syntax.tyRef Syntax.erased Syntax.mut El.word) 8, Path'.refl,
-              ((Yields.yields-copy 𝓤 H A W (λ ρ. Unit) (Declared'.row ReadyQueue.the-type) Path'.refl (Copies.cStruct ReadyQueue.the-type Laws.the-laws Laws.the-copy .copy 𝓤 H A W) (Rows'.whole (Declared'.row ReadyQueue.the-type)) (λ
-              x. x) (λ x. x) (λ ρ told. Local.mem-whole 𝓤 H A W (Declared'.row ReadyQueue.the-type) ρ) λ ρ told. Local.whole-mem 𝓤 H A W (Declared'.row ReadyQueue.the-type) ρ, Path'.refl), ((Yields.yields-copy 𝓤 H A W (λ ρ. Unit)
-              (Declared.row Event.the-type) Path'.refl (Copies.cEnum Event.the-type Laws''.the-laws Laws''.the-copy .copy 𝓤 H A W) (Rows'.whole (Declared.row Event.the-type)) (λ x. x) (λ x. x) (λ ρ told. Local.mem-whole 𝓤 H A W
-              (Declared.row Event.the-type) ρ) λ ρ told. Local.whole-mem 𝓤 H A W (Declared.row Event.the-type) ρ, Path'.refl), (ShrSlice.spares-sslice 𝓤 H A W (Referent.rtF (Referent.fInt Syntax.w16)) (Syntax.tyRef Syntax.erased
-              Syntax.imm (Syntax.tyInt Syntax.w16)) 9, Shared.reads-sslice 𝓤 H A W (Referent.rtF (Referent.fInt Syntax.w16)) (Syntax.tyRef Syntax.erased Syntax.imm (Syntax.tyInt Syntax.w16)) 9, Path'.refl, (ShrSlice.spares-sslice 𝓤 H A
-              W (Referent.rtF (Referent.fInt Syntax.w8)) (Syntax.tyRef (Syntax.named 4) Syntax.imm (Syntax.tyInt Syntax.w8)) 4, Shared.reads-sslice 𝓤 H A W (Referent.rtF (Referent.fInt Syntax.w8)) (Syntax.tyRef (Syntax.named 4)
-              Syntax.imm (Syntax.tyInt Syntax.w8)) 4, Path'.refl, tt)))))))) (Reads.room-gone 𝓤 H A El.Answered) (tt, (tt, (tt, (tt, (tt, (tt, tt)))))) Path'.refl) d22
+          d23 = Typed.s-seq 𝓤 H A W 𝓣 E G23 G24 b12 b13 Δ0 (Typed.both s22) at22 (Plain.t-call-plain 𝓤 H A W 𝓣 6 ps·0 r·0 (claims· .0) (claims· .1) "records_session::dispatch" known E (λ pos β. β) G23 (
+            record {
+              pos = 9;
+              ty =
+                  Syntax.tyRef Syntax.erased Syntax.mut El.named;
+              ref = λ x. x;
+            },
+            (
+              record { pos = 11; ty = Syntax.tyRef Syntax.erased Syntax.mut El.word; ref = λ x. x },
+              (
+                record {
+                  pos = 13;
+                  ty = Syntax.tyRef Syntax.erased Syntax.mut
+                      El.word;
+                  ref = λ x. x;
+                },
+                (
+                  record { pos = 15; ty = Syntax.tyRef Syntax.erased Syntax.mut El.word; ref = λ x. x },
+                  (
+                    record { pos = 5; st = List.[]; d = 0; at = λ x. x },
+                    (
+                      record {
+                        pos = 16;
+                        st = List.[];
+                        d = 0;
+                        at = λ x. x;
+                      },
+                      (
+                        record { pos = 18; ty = Syntax.tyRef Syntax.erased Syntax.imm (Syntax.tyInt Syntax.w16); ref = λ x. x },
+                        (
+                          record { pos = 6; ty = Syntax.tyRef (Syntax.named 4) Syntax.imm (Syntax.tyInt Syntax.w8); ref = λ x. x },
+                          tt,
+                        ),
+                      ),
+                    ),
+                  ),
+                ),
+              ),
+            ),
+          ) 0 (List._∷_ 5 (List._∷_ 6 (List._∷_ 7 (List._∷_ 8 (List._∷_ 9 (List._∷_ 4 List.[])))))) (Call.sub-id 𝓤 H A W (G23 .slots)) (
+            Reads.as-is 𝓤 H A (Mut.mslice El.row (Syntax.tyRef Syntax.erased Syntax.mut El.named)
+                5),
+            Mut.reads-mslice 𝓤 H A W El.row (Syntax.tyRef Syntax.erased Syntax.mut El.named) 5,
+            Path'.refl,
+            (
+              Reads.as-is 𝓤 H A (Mut.mslice (Referent.rtF (Referent.fInt Syntax.w64)) (Syntax.tyRef Syntax.erased Syntax.mut El.word) 6),
+              Mut.reads-mslice 𝓤 H A W (Referent.rtF (Referent.fInt Syntax.w64)) (Syntax.tyRef Syntax.erased Syntax.mut El.word) 6,
+              Path'.refl,
+              (
+                Reads.as-is 𝓤 H A (Mut.mslice (Referent.rtF (Referent.fInt Syntax.w64)) (Syntax.tyRef
+                    Syntax.erased Syntax.mut El.word) 7),
+                Mut.reads-mslice 𝓤 H A W (Referent.rtF (Referent.fInt Syntax.w64)) (Syntax.tyRef Syntax.erased Syntax.mut El.word) 7,
+                Path'.refl,
+                (
+                  Reads.as-is 𝓤 H A (Mut.mslice (Referent.rtF
+                      (Referent.fInt Syntax.w64)) (Syntax.tyRef Syntax.erased Syntax.mut El.word) 8),
+                  Mut.reads-mslice 𝓤 H A W (Referent.rtF (Referent.fInt Syntax.w64)) (Syntax.tyRef Syntax.erased Syntax.mut El.word) 8,
+                  Path'.refl,
+                  (
+                    (
+                      Yields.yields-copy 𝓤 H A W (λ ρ. Unit) (Declared'.row ReadyQueue.the-type) Path'.refl (Copies.cStruct ReadyQueue.the-type Laws.the-laws Laws.the-copy .copy 𝓤 H A W) (Rows'.whole (Declared'.row ReadyQueue.the-type)) (λ
+                          x. x) (λ x. x) (λ ρ told. Local.mem-whole 𝓤 H A W (Declared'.row ReadyQueue.the-type) ρ) λ ρ told. Local.whole-mem 𝓤 H A W (Declared'.row ReadyQueue.the-type) ρ,
+                      Path'.refl,
+                    ),
+                    (
+                      (
+                        Yields.yields-copy 𝓤 H A W (λ ρ. Unit)
+                            (Declared.row Event.the-type) Path'.refl (Copies.cEnum Event.the-type Laws''.the-laws Laws''.the-copy .copy 𝓤 H A W) (Rows'.whole (Declared.row Event.the-type)) (λ x. x) (λ x. x) (λ ρ told. Local.mem-whole 𝓤 H A W
+                            (Declared.row Event.the-type) ρ) λ ρ told. Local.whole-mem 𝓤 H A W (Declared.row Event.the-type) ρ,
+                        Path'.refl,
+                      ),
+                      (
+                        ShrSlice.spares-sslice 𝓤 H A W (Referent.rtF (Referent.fInt Syntax.w16)) (Syntax.tyRef Syntax.erased
+                            Syntax.imm (Syntax.tyInt Syntax.w16)) 9,
+                        Shared.reads-sslice 𝓤 H A W (Referent.rtF (Referent.fInt Syntax.w16)) (Syntax.tyRef Syntax.erased Syntax.imm (Syntax.tyInt Syntax.w16)) 9,
+                        Path'.refl,
+                        (
+                          ShrSlice.spares-sslice 𝓤 H A
+                              W (Referent.rtF (Referent.fInt Syntax.w8)) (Syntax.tyRef (Syntax.named 4) Syntax.imm (Syntax.tyInt Syntax.w8)) 4,
+                          Shared.reads-sslice 𝓤 H A W (Referent.rtF (Referent.fInt Syntax.w8)) (Syntax.tyRef (Syntax.named 4)
+                              Syntax.imm (Syntax.tyInt Syntax.w8)) 4,
+                          Path'.refl,
+                          tt,
+                        ),
+                      ),
+                    ),
+                  ),
+                ),
+              ),
+            ),
+          ) (Reads.room-gone 𝓤 H A El.Answered) (tt, (tt, (tt, (tt, (tt, (tt, tt)))))) Path'.refl) d22
 
           d24 : Typed.Typed 𝓤 H A 𝓣 E G22 b15 Δ0 at24
           d24 = Typed.s-seq 𝓤 H A W 𝓣 E G22 G23 b11 b14 Δ0 (Typed.ask s21) at23 (Relend.t-sl-aggregate 𝓤 H A W E (Referent.rtF (Referent.fInt Syntax.w16)) 𝓣 (Relend.asShr (Referent.rtF (Referent.fInt Syntax.w16))) G22 17 18 9
@@ -1227,8 +2230,64 @@ module _ (claims· : Claims) where
               Path'.refl (λ b o. tt) (Dec'.lit< tt, Dec'.lit< tt)) d24
 
           d26 : Typed.Typed 𝓤 H A 𝓣 E G20 b16 Δ0 at26
-          d26 = Typed.g-pre 𝓤 H A W 𝓣 E G20 G21 b16 Δ0 (λ Ψ. Ψ) at25 (Lifetime.g-begin 𝓤 H A W E G20 9 (tt, ((tt, tt), ((tt, tt), ((tt, tt), ((tt, tt), (tt, (tt, (tt, (tt, (tt, (tt, (tt, (tt, (tt, (tt, (tt, (tt, (tt, (tt,
-              tt)))))))))))))))))))) d25
+          d26 = Typed.g-pre 𝓤 H A W 𝓣 E G20 G21 b16 Δ0 (λ Ψ. Ψ) at25 (Lifetime.g-begin 𝓤 H A W E G20 9 (
+            tt,
+            (
+              (tt, tt),
+              (
+                (tt, tt),
+                (
+                  (tt, tt),
+                  (
+                    (tt, tt),
+                    (
+                      tt,
+                      (
+                        tt,
+                        (
+                          tt,
+                          (
+                            tt,
+                            (
+                              tt,
+                              (
+                                tt,
+                                (
+                                  tt,
+                                  (
+                                    tt,
+                                    (
+                                      tt,
+                                      (
+                                        tt,
+                                        (
+                                          tt,
+                                          (
+                                            tt,
+                                            (
+                                              tt,
+                                              (
+                                                tt,
+                                                tt,
+                                              ),
+                                            ),
+                                          ),
+                                        ),
+                                      ),
+                                    ),
+                                  ),
+                                ),
+                              ),
+                            ),
+                          ),
+                        ),
+                      ),
+                    ),
+                  ),
+                ),
+              ),
+            ),
+          )) d25
 
           d27 : Typed.Typed 𝓤 H A 𝓣 E G19 b17 Δ0 at27
           d27 = Typed.s-seq 𝓤 H A W 𝓣 E G19 G20 b9 b16 Δ0 (Typed.pass T19 T20 s18) at26 (Make.t-enum-make-wt 𝓤 H A W E 𝓣 Event.the-type Laws''.the-laws Laws''.the-plain tt G19 16 (List._∷_ (Scalar.oInt Syntax.w8 8) List.[]) (λ m.
@@ -1240,8 +2299,11 @@ module _ (claims· : Claims) where
           d28 = Typed.s-seq 𝓤 H A W 𝓣 E G18 G19 b8 b17 Δ0 (Typed.ask s17) at27 (Relend.t-sl-aggregate 𝓤 H A W E (Referent.rtF (Referent.fInt Syntax.w64)) 𝓣 (Relend.asMut (Referent.rtF (Referent.fInt Syntax.w64))) G18 14 15 8
               (Syntax.tyRef Syntax.erased Syntax.mut El.word) (Syntax.tyRef Syntax.erased Syntax.mut El.word) (λ x. x) (Scalar.oFld 4 (List._∷_ (Syntax.field 1) List.[]) El.word 8 λ v. Shared.lenV (v .0)) (Reads.as-is 𝓤 H A (Relend.msptr
               (Referent.rtF (Referent.fInt Syntax.w64)) (Syntax.tyRef Syntax.erased Syntax.mut El.word) 8)) (Reads.room-gone 𝓤 H A (Syntax.tyStruct (List._∷_ 38 (List._∷_ 91 (List._∷_ 93 List.[]))) (Syntax.tcons (Syntax.tyRef
-              Syntax.erased Syntax.mut El.word) (Syntax.tcons El.word Syntax.tnil)))) (Relend.reads-owed-len 𝓤 H A W (Referent.rtF (Referent.fInt Syntax.w64)) (Syntax.tyRef (Syntax.named 3) Syntax.mut El.word) 3 8 (Row.lease (κs .1 .1 .1
-              .0) (qs .1 .1 .1 .0)) 8 Path'.refl, Path'.refl) Path'.refl Path'.refl λ b o k. tt) d27
+              Syntax.erased Syntax.mut El.word) (Syntax.tcons El.word Syntax.tnil)))) (
+                Relend.reads-owed-len 𝓤 H A W (Referent.rtF (Referent.fInt Syntax.w64)) (Syntax.tyRef (Syntax.named 3) Syntax.mut El.word) 3 8 (Row.lease (κs .1 .1 .1
+                    .0) (qs .1 .1 .1 .0)) 8 Path'.refl,
+                Path'.refl,
+              ) Path'.refl Path'.refl λ b o k. tt) d27
 
           d29 : Typed.Typed 𝓤 H A 𝓣 E G17 b19 Δ0 at29
           d29 = Typed.s-seq 𝓤 H A W 𝓣 E G17 G18 b7 b18 Δ0 (Typed.give s16) at28 (Relend.t-sl-relend 𝓤 H A W E (Referent.rtF (Referent.fInt Syntax.w64)) 𝓣 G17 4 14 3 8 (Syntax.tyRef (Syntax.named 3) Syntax.mut El.word) (Syntax.tyRef
@@ -1249,15 +2311,74 @@ module _ (claims· : Claims) where
               (Reads.room-gone 𝓤 H A (Syntax.tyRef Syntax.erased Syntax.mut El.word)) Path'.refl tt Path'.refl Path'.refl Path'.refl λ b o. tt) d28
 
           d30 : Typed.Typed 𝓤 H A 𝓣 E G16 b19 Δ0 at30
-          d30 = Typed.g-pre 𝓤 H A W 𝓣 E G16 G17 b19 Δ0 (λ Ψ. Ψ) at29 (Lifetime.g-begin 𝓤 H A W E G16 8 (tt, ((tt, tt), ((tt, tt), ((tt, tt), (tt, (tt, (tt, (tt, (tt, (tt, (tt, (tt, (tt, (tt, (tt, (tt, (tt, (tt, (tt,
-              tt)))))))))))))))))))) d29
+          d30 = Typed.g-pre 𝓤 H A W 𝓣 E G16 G17 b19 Δ0 (λ Ψ. Ψ) at29 (Lifetime.g-begin 𝓤 H A W E G16 8 (
+            tt,
+            (
+              (tt, tt),
+              (
+                (tt, tt),
+                (
+                  (tt, tt),
+                  (
+                    tt,
+                    (
+                      tt,
+                      (
+                        tt,
+                        (
+                          tt,
+                          (
+                            tt,
+                            (
+                              tt,
+                              (
+                                tt,
+                                (
+                                  tt,
+                                  (
+                                    tt,
+                                    (
+                                      tt,
+                                      (
+                                        tt,
+                                        (
+                                          tt,
+                                          (
+                                            tt,
+                                            (
+                                              tt,
+                                              (
+                                                tt,
+                                                tt,
+                                              ),
+                                            ),
+                                          ),
+                                        ),
+                                      ),
+                                    ),
+                                  ),
+                                ),
+                              ),
+                            ),
+                          ),
+                        ),
+                      ),
+                    ),
+                  ),
+                ),
+              ),
+            ),
+          )) d29
 
           d31 : Typed.Typed 𝓤 H A 𝓣 E G15 b20 Δ0 at31
           d31 = Typed.s-seq 𝓤 H A W 𝓣 E G15 G16 b6 b19 Δ0 (Typed.ask s14) at30 (Relend.t-sl-aggregate 𝓤 H A W E (Referent.rtF (Referent.fInt Syntax.w64)) 𝓣 (Relend.asMut (Referent.rtF (Referent.fInt Syntax.w64))) G15 12 13 7
               (Syntax.tyRef Syntax.erased Syntax.mut El.word) (Syntax.tyRef Syntax.erased Syntax.mut El.word) (λ x. x) (Scalar.oFld 3 (List._∷_ (Syntax.field 1) List.[]) El.word 8 λ v. Shared.lenV (v .0)) (Reads.as-is 𝓤 H A (Relend.msptr
               (Referent.rtF (Referent.fInt Syntax.w64)) (Syntax.tyRef Syntax.erased Syntax.mut El.word) 7)) (Reads.room-gone 𝓤 H A (Syntax.tyStruct (List._∷_ 38 (List._∷_ 91 (List._∷_ 93 List.[]))) (Syntax.tcons (Syntax.tyRef
-              Syntax.erased Syntax.mut El.word) (Syntax.tcons El.word Syntax.tnil)))) (Relend.reads-owed-len 𝓤 H A W (Referent.rtF (Referent.fInt Syntax.w64)) (Syntax.tyRef (Syntax.named 2) Syntax.mut El.word) 2 7 (Row.lease (κs .1 .1 .0)
-              (qs .1 .1 .0)) 8 Path'.refl, Path'.refl) Path'.refl Path'.refl λ b o k. tt) d30
+              Syntax.erased Syntax.mut El.word) (Syntax.tcons El.word Syntax.tnil)))) (
+                Relend.reads-owed-len 𝓤 H A W (Referent.rtF (Referent.fInt Syntax.w64)) (Syntax.tyRef (Syntax.named 2) Syntax.mut El.word) 2 7 (Row.lease (κs .1 .1 .0)
+                    (qs .1 .1 .0)) 8 Path'.refl,
+                Path'.refl,
+              ) Path'.refl Path'.refl λ b o k. tt) d30
 
           d32 : Typed.Typed 𝓤 H A 𝓣 E G14 b21 Δ0 at32
           d32 = Typed.s-seq 𝓤 H A W 𝓣 E G14 G15 b5 b20 Δ0 (Typed.give s13) at31 (Relend.t-sl-relend 𝓤 H A W E (Referent.rtF (Referent.fInt Syntax.w64)) 𝓣 G14 3 12 2 7 (Syntax.tyRef (Syntax.named 2) Syntax.mut El.word) (Syntax.tyRef
@@ -1271,8 +2392,11 @@ module _ (claims· : Claims) where
           d34 = Typed.s-seq 𝓤 H A W 𝓣 E G12 G13 b4 b21 Δ0 (Typed.ask s11) at33 (Relend.t-sl-aggregate 𝓤 H A W E (Referent.rtF (Referent.fInt Syntax.w64)) 𝓣 (Relend.asMut (Referent.rtF (Referent.fInt Syntax.w64))) G12 10 11 6
               (Syntax.tyRef Syntax.erased Syntax.mut El.word) (Syntax.tyRef Syntax.erased Syntax.mut El.word) (λ x. x) (Scalar.oFld 2 (List._∷_ (Syntax.field 1) List.[]) El.word 8 λ v. Shared.lenV (v .0)) (Reads.as-is 𝓤 H A (Relend.msptr
               (Referent.rtF (Referent.fInt Syntax.w64)) (Syntax.tyRef Syntax.erased Syntax.mut El.word) 6)) (Reads.room-gone 𝓤 H A (Syntax.tyStruct (List._∷_ 38 (List._∷_ 91 (List._∷_ 93 List.[]))) (Syntax.tcons (Syntax.tyRef
-              Syntax.erased Syntax.mut El.word) (Syntax.tcons El.word Syntax.tnil)))) (Relend.reads-owed-len 𝓤 H A W (Referent.rtF (Referent.fInt Syntax.w64)) (Syntax.tyRef (Syntax.named 1) Syntax.mut El.word) 1 6 (Row.lease (κs .1 .0)
-              (qs .1 .0)) 8 Path'.refl, Path'.refl) Path'.refl Path'.refl λ b o k. tt) d33
+              Syntax.erased Syntax.mut El.word) (Syntax.tcons El.word Syntax.tnil)))) (
+                Relend.reads-owed-len 𝓤 H A W (Referent.rtF (Referent.fInt Syntax.w64)) (Syntax.tyRef (Syntax.named 1) Syntax.mut El.word) 1 6 (Row.lease (κs .1 .0)
+                    (qs .1 .0)) 8 Path'.refl,
+                Path'.refl,
+              ) Path'.refl Path'.refl λ b o k. tt) d33
 
           d35 : Typed.Typed 𝓤 H A 𝓣 E G11 b23 Δ0 at35
           d35 = Typed.s-seq 𝓤 H A W 𝓣 E G11 G12 b3 b22 Δ0 (Typed.give s10) at34 (Relend.t-sl-relend 𝓤 H A W E (Referent.rtF (Referent.fInt Syntax.w64)) 𝓣 G11 2 10 1 6 (Syntax.tyRef (Syntax.named 1) Syntax.mut El.word) (Syntax.tyRef
@@ -1285,8 +2409,11 @@ module _ (claims· : Claims) where
           d37 : Typed.Typed 𝓤 H A 𝓣 E G9 b24 Δ0 at37
           d37 = Typed.s-seq 𝓤 H A W 𝓣 E G9 G10 b2 b23 Δ0 (Typed.ask s8) at36 (Relend.t-sl-aggregate 𝓤 H A W E El.row 𝓣 (Relend.asMut El.row) G9 8 9 5 (Syntax.tyRef Syntax.erased Syntax.mut El.named) (Syntax.tyRef Syntax.erased Syntax.mut
               El.named) (λ x. x) (Scalar.oFld 1 (List._∷_ (Syntax.field 1) List.[]) El.word 8 λ v. Shared.lenV (v .0)) (Reads.as-is 𝓤 H A (Relend.msptr El.row (Syntax.tyRef Syntax.erased Syntax.mut El.named) 5)) (Reads.room-gone 𝓤 H A
-              (Syntax.tyStruct (List._∷_ 38 (List._∷_ 91 (List._∷_ 93 List.[]))) (Syntax.tcons (Syntax.tyRef Syntax.erased Syntax.mut El.named) (Syntax.tcons El.word Syntax.tnil)))) (Relend.reads-owed-len 𝓤 H A W El.row (Syntax.tyRef
-              (Syntax.named 0) Syntax.mut El.named) 0 5 (Row.lease (κs .0) (qs .0)) 8 Path'.refl, Path'.refl) Path'.refl Path'.refl λ b o k. tt) d36
+              (Syntax.tyStruct (List._∷_ 38 (List._∷_ 91 (List._∷_ 93 List.[]))) (Syntax.tcons (Syntax.tyRef Syntax.erased Syntax.mut El.named) (Syntax.tcons El.word Syntax.tnil)))) (
+                Relend.reads-owed-len 𝓤 H A W El.row (Syntax.tyRef
+                    (Syntax.named 0) Syntax.mut El.named) 0 5 (Row.lease (κs .0) (qs .0)) 8 Path'.refl,
+                Path'.refl,
+              ) Path'.refl Path'.refl λ b o k. tt) d36
 
           d38 : Typed.Typed 𝓤 H A 𝓣 E G8 b25 Δ0 at38
           d38 = Typed.s-seq 𝓤 H A W 𝓣 E G8 G9 b1 b24 Δ0 (Typed.give s7) at37 (Relend.t-sl-relend 𝓤 H A W E El.row 𝓣 G8 1 8 0 5 (Syntax.tyRef (Syntax.named 0) Syntax.mut El.named) (Syntax.tyRef Syntax.erased Syntax.mut El.named) (Row.lease
@@ -1332,10 +2459,25 @@ module _ (claims· : Claims) where
           pub objects : Kinds.Den {n = 5} κs (MutSlice.pMutS (Referent.rtF (Referent.fInt Syntax.w64)) 1 tt)
           pub places : Kinds.Den {n = 5} κs (MutSlice.pMutS (Referent.rtF (Referent.fInt Syntax.w64)) 2 tt)
           pub calls : Kinds.Den {n = 5} κs (MutSlice.pMutS (Referent.rtF (Referent.fInt Syntax.w64)) 3 tt)
-          pub queue : Kinds.Den {n = 5} κs (Value.pVal record { ty = Declared'.row ReadyQueue.the-type; one = Path'.refl; val = Laws'4.val ReadyQueue.the-type Laws.the-laws; tells = Laws'4.tells ReadyQueue.the-type Laws.the-laws; still
-              = Laws'4.still ReadyQueue.the-type Laws.the-copy Exit.yes; row = Rows'.whole (Declared'.row ReadyQueue.the-type); rd = λ x. x; mk = λ x. x; } λ M 𝓤 H A W. record { copies = Laws'4.copy ReadyQueue.the-type Laws.the-copy 𝓤
-              H A W; lawful = Laws'4.lawful ReadyQueue.the-type Laws.the-laws 𝓤 H A W; makes = Laws'4.makes ReadyQueue.the-type Laws.the-plain 𝓤 H A; in-mem = Local.mem-whole 𝓤 H A W (Declared'.row ReadyQueue.the-type); of-mem =
-              Local.whole-mem 𝓤 H A W (Declared'.row ReadyQueue.the-type); })
+          pub queue : Kinds.Den {n = 5} κs (Value.pVal record {
+            ty = Declared'.row ReadyQueue.the-type;
+            one = Path'.refl;
+            val = Laws'4.val ReadyQueue.the-type Laws.the-laws;
+            tells = Laws'4.tells ReadyQueue.the-type Laws.the-laws;
+            still
+                = Laws'4.still ReadyQueue.the-type Laws.the-copy Exit.yes;
+            row = Rows'.whole (Declared'.row ReadyQueue.the-type);
+            rd = λ x. x;
+            mk = λ x. x;
+          } λ M 𝓤 H A W. record {
+            copies = Laws'4.copy ReadyQueue.the-type Laws.the-copy 𝓤
+                H A W;
+            lawful = Laws'4.lawful ReadyQueue.the-type Laws.the-laws 𝓤 H A W;
+            makes = Laws'4.makes ReadyQueue.the-type Laws.the-plain 𝓤 H A;
+            in-mem = Local.mem-whole 𝓤 H A W (Declared'.row ReadyQueue.the-type);
+            of-mem =
+                Local.whole-mem 𝓤 H A W (Declared'.row ReadyQueue.the-type);
+          })
           pub results : Kinds.Den {n = 5} κs (ShrSlice.pShrS (Referent.rtF (Referent.fInt Syntax.w8)) 4 tt)
 
         abbrev pub dens : (a : Args) → Kinds.Dens κs ps
@@ -1345,8 +2487,12 @@ module _ (claims· : Claims) where
       m0 = λ κs args. (tt, Enter.partsP κs 1 ps xs (dens κs args))
 
       abbrev W0 : (κs : Lifetimes.Lfts 5) → (args : Args κs) → Typed.Want O0
-      W0 = λ κs args. (λ u. ⊥, tt, λ u. Enter.Fixs κs 1 ps xs (dens κs args) (u .1) × Post· κs (dens κs args) (Function.resV r κs (u .0)) (Clauses.atExit (Kinds.endedOf 5 ps r) κs (dens κs args) (Enter.lastsP κs 1 ps xs (dens κs args)
-          (u .1))))
+      W0 = λ κs args. (
+        λ u. ⊥,
+        tt,
+        λ u. Enter.Fixs κs 1 ps xs (dens κs args) (u .1) × Post· κs (dens κs args) (Function.resV r κs (u .0)) (Clauses.atExit (Kinds.endedOf 5 ps r) κs (dens κs args) (Enter.lastsP κs 1 ps xs (dens κs args)
+            (u .1))),
+      )
 
       pub record Start : Type 0 where
         pub κs : Lifetimes.Lfts 5
@@ -1488,20 +2634,94 @@ module _ (claims· : Claims) where
 
       module _ (before· : After-dispatch-arg5) where
         abbrev pub After-dispatch·own : Type 0
-        After-dispatch·own = Called.Called ps·0 r·0 (claims· .1) T23 (record { pos = 9; ty = Syntax.tyRef Syntax.erased Syntax.mut El.named; ref = λ x. x; }, (record { pos = 11; ty = Syntax.tyRef Syntax.erased Syntax.mut El.word; ref = λ
-            x. x; }, (record { pos = 13; ty = Syntax.tyRef Syntax.erased Syntax.mut El.word; ref = λ x. x; }, (record { pos = 15; ty = Syntax.tyRef Syntax.erased Syntax.mut El.word; ref = λ x. x; }, (record { pos = 5; st = List.[]; d =
-            0; at = λ x. x }, (record { pos = 16; st = List.[]; d = 0; at = λ x. x }, (record { pos = 18; ty = Syntax.tyRef Syntax.erased Syntax.imm (Syntax.tyInt Syntax.w16); ref = λ x. x; }, (record { pos = 6; ty = Syntax.tyRef
-            (Syntax.named 4) Syntax.imm (Syntax.tyInt Syntax.w8); ref = λ x. x; }, tt)))))))) (m17 (before· .before) (before· .dispatch-arg5 .given))
+        After-dispatch·own = Called.Called ps·0 r·0 (claims· .1) T23 (
+          record { pos = 9; ty = Syntax.tyRef Syntax.erased Syntax.mut El.named; ref = λ x. x },
+          (
+            record {
+              pos = 11;
+              ty = Syntax.tyRef Syntax.erased Syntax.mut El.word;
+              ref = λ
+                  x. x;
+            },
+            (
+              record { pos = 13; ty = Syntax.tyRef Syntax.erased Syntax.mut El.word; ref = λ x. x },
+              (
+                record { pos = 15; ty = Syntax.tyRef Syntax.erased Syntax.mut El.word; ref = λ x. x },
+                (
+                  record {
+                    pos = 5;
+                    st = List.[];
+                    d =
+                        0;
+                    at = λ x. x;
+                  },
+                  (
+                    record { pos = 16; st = List.[]; d = 0; at = λ x. x },
+                    (
+                      record { pos = 18; ty = Syntax.tyRef Syntax.erased Syntax.imm (Syntax.tyInt Syntax.w16); ref = λ x. x },
+                      (
+                        record {
+                          pos = 6;
+                          ty = Syntax.tyRef
+                              (Syntax.named 4) Syntax.imm (Syntax.tyInt Syntax.w8);
+                          ref = λ x. x;
+                        },
+                        tt,
+                      ),
+                    ),
+                  ),
+                ),
+              ),
+            ),
+          ),
+        ) (m17 (before· .before) (before· .dispatch-arg5 .given))
 
       pub record After-dispatch : Type 0 where
         pub before : After-dispatch-arg5
         pub dispatch : After-dispatch·own before
 
       abbrev pub After-dispatch·gave : (c : After-dispatch) → s22 .gives (m17 (c .before .before) (c .before .dispatch-arg5 .given))
-      After-dispatch·gave = λ c. Called.given ps·0 r·0 (claims· .1) T23 (record { pos = 9; ty = Syntax.tyRef Syntax.erased Syntax.mut El.named; ref = λ x. x; }, (record { pos = 11; ty = Syntax.tyRef Syntax.erased Syntax.mut El.word; ref
-          = λ x. x; }, (record { pos = 13; ty = Syntax.tyRef Syntax.erased Syntax.mut El.word; ref = λ x. x; }, (record { pos = 15; ty = Syntax.tyRef Syntax.erased Syntax.mut El.word; ref = λ x. x; }, (record { pos = 5; st = List.[]; d =
-          0; at = λ x. x }, (record { pos = 16; st = List.[]; d = 0; at = λ x. x }, (record { pos = 18; ty = Syntax.tyRef Syntax.erased Syntax.imm (Syntax.tyInt Syntax.w16); ref = λ x. x; }, (record { pos = 6; ty = Syntax.tyRef
-          (Syntax.named 4) Syntax.imm (Syntax.tyInt Syntax.w8); ref = λ x. x; }, tt)))))))) (m17 (c .before .before) (c .before .dispatch-arg5 .given)) (c .dispatch)
+      After-dispatch·gave = λ c. Called.given ps·0 r·0 (claims· .1) T23 (
+        record { pos = 9; ty = Syntax.tyRef Syntax.erased Syntax.mut El.named; ref = λ x. x },
+        (
+          record {
+            pos = 11;
+            ty = Syntax.tyRef Syntax.erased Syntax.mut El.word;
+            ref
+                = λ x. x;
+          },
+          (
+            record { pos = 13; ty = Syntax.tyRef Syntax.erased Syntax.mut El.word; ref = λ x. x },
+            (
+              record { pos = 15; ty = Syntax.tyRef Syntax.erased Syntax.mut El.word; ref = λ x. x },
+              (
+                record {
+                  pos = 5;
+                  st = List.[];
+                  d =
+                      0;
+                  at = λ x. x;
+                },
+                (
+                  record { pos = 16; st = List.[]; d = 0; at = λ x. x },
+                  (
+                    record { pos = 18; ty = Syntax.tyRef Syntax.erased Syntax.imm (Syntax.tyInt Syntax.w16); ref = λ x. x },
+                    (
+                      record {
+                        pos = 6;
+                        ty = Syntax.tyRef
+                            (Syntax.named 4) Syntax.imm (Syntax.tyInt Syntax.w8);
+                        ref = λ x. x;
+                      },
+                      tt,
+                    ),
+                  ),
+                ),
+              ),
+            ),
+          ),
+        ),
+      ) (m17 (c .before .before) (c .before .dispatch-arg5 .given)) (c .dispatch)
 
       abbrev pub m19 : (before : After-dispatch-arg5) → (given : s22 .gives (m17 (before .before) (before .dispatch-arg5 .given))) → Typed.Mo T25
       m19 = λ before given. s23 (m18 before given)
@@ -1625,68 +2845,579 @@ module _ (claims· : Claims) where
           (same-length-4 : Need-same-length-4) (returns : Need-returns) where
         lay1 : (c : After-dispatch) → at22 (W0 (c .before .before .before .before .before .before .before .before .before .before .κs) (c .before .before .before .before .before .before .before .before .before .before .args)) (m18 (c
             .before) (After-dispatch·gave c))
-        lay1 = λ c. (Path'.refl, λ g. (Path'.refl, λ g'. λ g''. (Path'.refl, λ g'3. λ g'4. (Path'.refl, λ g'5. λ g'6. ((MutSlice.fix-len (Row.get 1 (T46 .locals) (m30 record { before = record { before = record { before = record {
-            before = record { before = record { before = record { before = c .before; dispatch = c .dispatch }; tasks = record { given = g }; }; objects = record { given = g' }; }; slice-known4 = record { given = g'' }; }; places =
-            record { given = g'3 }; }; slice-known5 = record { given = g'4 }; }; calls = record { given = g'5 }; } g'6) .ptr) (Row.get 1 (T46 .locals) (m30 record { before = record { before = record { before = record { before = record
-            { before = record { before = record { before = c .before; dispatch = c .dispatch }; tasks = record { given = g }; }; objects = record { given = g' }; }; slice-known4 = record { given = g'' }; }; places = record { given =
-            g'3 }; }; slice-known5 = record { given = g'4 }; }; calls = record { given = g'5 }; } g'6) .name) (Row.get 1 (T46 .locals) (m30 record { before = record { before = record { before = record { before = record { before =
-            record { before = record { before = c .before; dispatch = c .dispatch }; tasks = record { given = g }; }; objects = record { given = g' }; }; slice-known4 = record { given = g'' }; }; places = record { given = g'3 }; };
-            slice-known5 = record { given = g'4 }; }; calls = record { given = g'5 }; } g'6) .now) (dens (c .before .before .before .before .before .before .before .before .before .before .κs) (c .before .before .before .before .before
-            .before .before .before .before .before .args) .0 .now) (same-length record { before = record { before = record { before = record { before = record { before = record { before = record { before = record { before = c .before;
-            dispatch = c .dispatch; }; tasks = record { given = g }; }; objects = record { given = g' }; }; slice-known4 = record { given = g'' }; }; places = record { given = g'3 }; }; slice-known5 = record { given = g'4 }; }; calls =
-            record { given = g'5 }; }; slice-known6 = record { given = g'6 }; }), (MutSlice.fix-len (Row.get 2 (T46 .locals) (m30 record { before = record { before = record { before = record { before = record { before = record { before
-            = record { before = c .before; dispatch = c .dispatch }; tasks = record { given = g }; }; objects = record { given = g' }; }; slice-known4 = record { given = g'' }; }; places = record { given = g'3 }; }; slice-known5 =
-            record { given = g'4 }; }; calls = record { given = g'5 }; } g'6) .ptr) (Row.get 2 (T46 .locals) (m30 record { before = record { before = record { before = record { before = record { before = record { before = record {
-            before = c .before; dispatch = c .dispatch }; tasks = record { given = g }; }; objects = record { given = g' }; }; slice-known4 = record { given = g'' }; }; places = record { given = g'3 }; }; slice-known5 = record { given
-            = g'4 }; }; calls = record { given = g'5 }; } g'6) .name) (Row.get 2 (T46 .locals) (m30 record { before = record { before = record { before = record { before = record { before = record { before = record { before = c
-            .before; dispatch = c .dispatch }; tasks = record { given = g }; }; objects = record { given = g' }; }; slice-known4 = record { given = g'' }; }; places = record { given = g'3 }; }; slice-known5 = record { given = g'4 }; };
-            calls = record { given = g'5 }; } g'6) .now) (dens (c .before .before .before .before .before .before .before .before .before .before .κs) (c .before .before .before .before .before .before .before .before .before .before
-            .args) .1 .0 .now) (same-length-2 record { before = record { before = record { before = record { before = record { before = record { before = record { before = record { before = c .before; dispatch = c .dispatch; }; tasks =
-            record { given = g }; }; objects = record { given = g' }; }; slice-known4 = record { given = g'' }; }; places = record { given = g'3 }; }; slice-known5 = record { given = g'4 }; }; calls = record { given = g'5 }; };
-            slice-known6 = record { given = g'6 }; }), (MutSlice.fix-len (Row.get 3 (T46 .locals) (m30 record { before = record { before = record { before = record { before = record { before = record { before = record { before = c
-            .before; dispatch = c .dispatch; }; tasks = record { given = g }; }; objects = record { given = g' }; }; slice-known4 = record { given = g'' }; }; places = record { given = g'3 }; }; slice-known5 = record { given = g'4 };
-            }; calls = record { given = g'5 }; } g'6) .ptr) (Row.get 3 (T46 .locals) (m30 record { before = record { before = record { before = record { before = record { before = record { before = record { before = c .before; dispatch
-            = c .dispatch; }; tasks = record { given = g }; }; objects = record { given = g' }; }; slice-known4 = record { given = g'' }; }; places = record { given = g'3 }; }; slice-known5 = record { given = g'4 }; }; calls = record {
-            given = g'5 }; } g'6) .name) (Row.get 3 (T46 .locals) (m30 record { before = record { before = record { before = record { before = record { before = record { before = record { before = c .before; dispatch = c .dispatch; };
-            tasks = record { given = g }; }; objects = record { given = g' }; }; slice-known4 = record { given = g'' }; }; places = record { given = g'3 }; }; slice-known5 = record { given = g'4 }; }; calls = record { given = g'5 }; }
-            g'6) .now) (dens (c .before .before .before .before .before .before .before .before .before .before .κs) (c .before .before .before .before .before .before .before .before .before .before .args) .1 .1 .0 .now)
-            (same-length-3 record { before = record { before = record { before = record { before = record { before = record { before = record { before = record { before = c .before; dispatch = c .dispatch; }; tasks = record { given = g
-            }; }; objects = record { given = g' }; }; slice-known4 = record { given = g'' }; }; places = record { given = g'3 }; }; slice-known5 = record { given = g'4 }; }; calls = record { given = g'5 }; }; slice-known6 = record {
-            given = g'6 }; }), (MutSlice.fix-len (Row.get 4 (T46 .locals) (m30 record { before = record { before = record { before = record { before = record { before = record { before = record { before = c .before; dispatch = c
-            .dispatch; }; tasks = record { given = g }; }; objects = record { given = g' }; }; slice-known4 = record { given = g'' }; }; places = record { given = g'3 }; }; slice-known5 = record { given = g'4 }; }; calls = record {
-            given = g'5 }; } g'6) .ptr) (Row.get 4 (T46 .locals) (m30 record { before = record { before = record { before = record { before = record { before = record { before = record { before = c .before; dispatch = c .dispatch; };
-            tasks = record { given = g }; }; objects = record { given = g' }; }; slice-known4 = record { given = g'' }; }; places = record { given = g'3 }; }; slice-known5 = record { given = g'4 }; }; calls = record { given = g'5 }; }
-            g'6) .name) (Row.get 4 (T46 .locals) (m30 record { before = record { before = record { before = record { before = record { before = record { before = record { before = c .before; dispatch = c .dispatch; }; tasks = record {
-            given = g }; }; objects = record { given = g' }; }; slice-known4 = record { given = g'' }; }; places = record { given = g'3 }; }; slice-known5 = record { given = g'4 }; }; calls = record { given = g'5 }; } g'6) .now) (dens
-            (c .before .before .before .before .before .before .before .before .before .before .κs) (c .before .before .before .before .before .before .before .before .before .before .args) .1 .1 .1 .0 .now) (same-length-4 record {
-            before = record { before = record { before = record { before = record { before = record { before = record { before = record { before = c .before; dispatch = c .dispatch; }; tasks = record { given = g }; }; objects = record
-            { given = g' }; }; slice-known4 = record { given = g'' }; }; places = record { given = g'3 }; }; slice-known5 = record { given = g'4 }; }; calls = record { given = g'5 }; }; slice-known6 = record { given = g'6 }; }), (tt,
-            (Path'.refl, tt)))))), returns record { before = record { before = record { before = record { before = record { before = record { before = record { before = record { before = c .before; dispatch = c .dispatch }; tasks =
-            record { given = g }; }; objects = record { given = g' }; }; slice-known4 = record { given = g'' }; }; places = record { given = g'3 }; }; slice-known5 = record { given = g'4 }; }; calls = record { given = g'5 }; };
-            slice-known6 = record { given = g'6 }; })))))
+        lay1 = λ c. (
+          Path'.refl,
+          λ g. (
+            Path'.refl,
+            λ g'. λ g''. (
+              Path'.refl,
+              λ g'3. λ g'4. (
+                Path'.refl,
+                λ g'5. λ g'6. (
+                  (
+                    MutSlice.fix-len (Row.get 1 (T46 .locals) (m30 record {
+                      before = record {
+                        before = record {
+                          before = record {
+                            before = record { before = record { before = record { before = c .before; dispatch = c .dispatch }; tasks = record { given = g } }; objects = record { given = g' } };
+                            slice-known4 = record { given = g'' };
+                          };
+                          places =
+                              record { given = g'3 };
+                        };
+                        slice-known5 = record { given = g'4 };
+                      };
+                      calls = record { given = g'5 };
+                    } g'6) .ptr) (Row.get 1 (T46 .locals) (m30 record {
+                      before = record {
+                        before = record {
+                          before = record {
+                            before = record
+                                { before = record { before = record { before = c .before; dispatch = c .dispatch }; tasks = record { given = g } }; objects = record { given = g' } };
+                            slice-known4 = record { given = g'' };
+                          };
+                          places = record {
+                            given =
+                                g'3;
+                          };
+                        };
+                        slice-known5 = record { given = g'4 };
+                      };
+                      calls = record { given = g'5 };
+                    } g'6) .name) (Row.get 1 (T46 .locals) (m30 record {
+                      before = record {
+                        before = record {
+                          before = record {
+                            before = record {
+                              before =
+                                  record { before = record { before = c .before; dispatch = c .dispatch }; tasks = record { given = g } };
+                              objects = record { given = g' };
+                            };
+                            slice-known4 = record { given = g'' };
+                          };
+                          places = record { given = g'3 };
+                        };
+                        slice-known5 = record { given = g'4 };
+                      };
+                      calls = record { given = g'5 };
+                    } g'6) .now) (dens (c .before .before .before .before .before .before .before .before .before .before .κs) (c .before .before .before .before .before
+                        .before .before .before .before .before .args) .0 .now) (same-length record {
+                          before = record {
+                            before = record {
+                              before = record {
+                                before = record {
+                                  before = record {
+                                    before = record {
+                                      before = record {
+                                        before = c .before;
+                                        dispatch = c .dispatch;
+                                      };
+                                      tasks = record { given = g };
+                                    };
+                                    objects = record { given = g' };
+                                  };
+                                  slice-known4 = record { given = g'' };
+                                };
+                                places = record { given = g'3 };
+                              };
+                              slice-known5 = record { given = g'4 };
+                            };
+                            calls =
+                                record { given = g'5 };
+                          };
+                          slice-known6 = record { given = g'6 };
+                        }),
+                    (
+                      MutSlice.fix-len (Row.get 2 (T46 .locals) (m30 record {
+                        before = record {
+                          before = record {
+                            before = record {
+                              before = record {
+                                before = record {
+                                  before
+                                      = record { before = c .before; dispatch = c .dispatch };
+                                  tasks = record { given = g };
+                                };
+                                objects = record { given = g' };
+                              };
+                              slice-known4 = record { given = g'' };
+                            };
+                            places = record { given = g'3 };
+                          };
+                          slice-known5 =
+                              record { given = g'4 };
+                        };
+                        calls = record { given = g'5 };
+                      } g'6) .ptr) (Row.get 2 (T46 .locals) (m30 record {
+                        before = record {
+                          before = record {
+                            before = record {
+                              before = record {
+                                before = record {
+                                  before = record {
+                                    before = c .before;
+                                    dispatch = c .dispatch;
+                                  };
+                                  tasks = record { given = g };
+                                };
+                                objects = record { given = g' };
+                              };
+                              slice-known4 = record { given = g'' };
+                            };
+                            places = record { given = g'3 };
+                          };
+                          slice-known5 = record {
+                            given
+                                = g'4;
+                          };
+                        };
+                        calls = record { given = g'5 };
+                      } g'6) .name) (Row.get 2 (T46 .locals) (m30 record {
+                        before = record {
+                          before = record {
+                            before = record {
+                              before = record {
+                                before = record {
+                                  before = record {
+                                    before = c
+                                        .before;
+                                    dispatch = c .dispatch;
+                                  };
+                                  tasks = record { given = g };
+                                };
+                                objects = record { given = g' };
+                              };
+                              slice-known4 = record { given = g'' };
+                            };
+                            places = record { given = g'3 };
+                          };
+                          slice-known5 = record { given = g'4 };
+                        };
+                        calls = record { given = g'5 };
+                      } g'6) .now) (dens (c .before .before .before .before .before .before .before .before .before .before .κs) (c .before .before .before .before .before .before .before .before .before .before
+                          .args) .1 .0 .now) (same-length-2 record {
+                            before = record {
+                              before = record {
+                                before = record {
+                                  before = record {
+                                    before = record {
+                                      before = record {
+                                        before = record { before = c .before; dispatch = c .dispatch };
+                                        tasks =
+                                            record { given = g };
+                                      };
+                                      objects = record { given = g' };
+                                    };
+                                    slice-known4 = record { given = g'' };
+                                  };
+                                  places = record { given = g'3 };
+                                };
+                                slice-known5 = record { given = g'4 };
+                              };
+                              calls = record { given = g'5 };
+                            };
+                            slice-known6 = record { given = g'6 };
+                          }),
+                      (
+                        MutSlice.fix-len (Row.get 3 (T46 .locals) (m30 record {
+                          before = record {
+                            before = record {
+                              before = record {
+                                before = record {
+                                  before = record {
+                                    before = record {
+                                      before = c
+                                          .before;
+                                      dispatch = c .dispatch;
+                                    };
+                                    tasks = record { given = g };
+                                  };
+                                  objects = record { given = g' };
+                                };
+                                slice-known4 = record { given = g'' };
+                              };
+                              places = record { given = g'3 };
+                            };
+                            slice-known5 = record { given = g'4 };
+                          };
+                          calls = record { given = g'5 };
+                        } g'6) .ptr) (Row.get 3 (T46 .locals) (m30 record {
+                          before = record {
+                            before = record {
+                              before = record {
+                                before = record {
+                                  before = record {
+                                    before = record {
+                                      before = c .before;
+                                      dispatch
+                                          = c .dispatch;
+                                    };
+                                    tasks = record { given = g };
+                                  };
+                                  objects = record { given = g' };
+                                };
+                                slice-known4 = record { given = g'' };
+                              };
+                              places = record { given = g'3 };
+                            };
+                            slice-known5 = record { given = g'4 };
+                          };
+                          calls = record {
+                            given = g'5;
+                          };
+                        } g'6) .name) (Row.get 3 (T46 .locals) (m30 record {
+                          before = record {
+                            before = record {
+                              before = record {
+                                before = record {
+                                  before = record {
+                                    before = record { before = c .before; dispatch = c .dispatch };
+                                    tasks = record { given = g };
+                                  };
+                                  objects = record { given = g' };
+                                };
+                                slice-known4 = record { given = g'' };
+                              };
+                              places = record { given = g'3 };
+                            };
+                            slice-known5 = record { given = g'4 };
+                          };
+                          calls = record { given = g'5 };
+                        }
+                            g'6) .now) (dens (c .before .before .before .before .before .before .before .before .before .before .κs) (c .before .before .before .before .before .before .before .before .before .before .args) .1 .1 .0 .now)
+                            (same-length-3 record {
+                              before = record {
+                                before = record {
+                                  before = record {
+                                    before = record {
+                                      before = record {
+                                        before = record {
+                                          before = record { before = c .before; dispatch = c .dispatch };
+                                          tasks = record {
+                                            given = g;
+                                          };
+                                        };
+                                        objects = record { given = g' };
+                                      };
+                                      slice-known4 = record { given = g'' };
+                                    };
+                                    places = record { given = g'3 };
+                                  };
+                                  slice-known5 = record { given = g'4 };
+                                };
+                                calls = record { given = g'5 };
+                              };
+                              slice-known6 = record {
+                                given = g'6;
+                              };
+                            }),
+                        (
+                          MutSlice.fix-len (Row.get 4 (T46 .locals) (m30 record {
+                            before = record {
+                              before = record {
+                                before = record {
+                                  before = record {
+                                    before = record {
+                                      before = record {
+                                        before = c .before;
+                                        dispatch = c
+                                            .dispatch;
+                                      };
+                                      tasks = record { given = g };
+                                    };
+                                    objects = record { given = g' };
+                                  };
+                                  slice-known4 = record { given = g'' };
+                                };
+                                places = record { given = g'3 };
+                              };
+                              slice-known5 = record { given = g'4 };
+                            };
+                            calls = record {
+                              given = g'5;
+                            };
+                          } g'6) .ptr) (Row.get 4 (T46 .locals) (m30 record {
+                            before = record {
+                              before = record {
+                                before = record {
+                                  before = record {
+                                    before = record {
+                                      before = record { before = c .before; dispatch = c .dispatch };
+                                      tasks = record { given = g };
+                                    };
+                                    objects = record { given = g' };
+                                  };
+                                  slice-known4 = record { given = g'' };
+                                };
+                                places = record { given = g'3 };
+                              };
+                              slice-known5 = record { given = g'4 };
+                            };
+                            calls = record { given = g'5 };
+                          }
+                              g'6) .name) (Row.get 4 (T46 .locals) (m30 record {
+                                before = record {
+                                  before = record {
+                                    before = record {
+                                      before = record {
+                                        before = record {
+                                          before = record { before = c .before; dispatch = c .dispatch };
+                                          tasks = record {
+                                            given = g;
+                                          };
+                                        };
+                                        objects = record { given = g' };
+                                      };
+                                      slice-known4 = record { given = g'' };
+                                    };
+                                    places = record { given = g'3 };
+                                  };
+                                  slice-known5 = record { given = g'4 };
+                                };
+                                calls = record { given = g'5 };
+                              } g'6) .now) (dens
+                              (c .before .before .before .before .before .before .before .before .before .before .κs) (c .before .before .before .before .before .before .before .before .before .before .args) .1 .1 .1 .0 .now) (same-length-4 record {
+                                before = record {
+                                  before = record {
+                                    before = record {
+                                      before = record {
+                                        before = record {
+                                          before = record { before = record { before = c .before; dispatch = c .dispatch }; tasks = record { given = g } };
+                                          objects = record
+                                              { given = g' };
+                                        };
+                                        slice-known4 = record { given = g'' };
+                                      };
+                                      places = record { given = g'3 };
+                                    };
+                                    slice-known5 = record { given = g'4 };
+                                  };
+                                  calls = record { given = g'5 };
+                                };
+                                slice-known6 = record { given = g'6 };
+                              }),
+                          (
+                            tt,
+                            (Path'.refl, tt),
+                          ),
+                        ),
+                      ),
+                    ),
+                  ),
+                  returns record {
+                    before = record {
+                      before = record {
+                        before = record {
+                          before = record {
+                            before = record {
+                              before = record {
+                                before = record { before = c .before; dispatch = c .dispatch };
+                                tasks =
+                                    record { given = g };
+                              };
+                              objects = record { given = g' };
+                            };
+                            slice-known4 = record { given = g'' };
+                          };
+                          places = record { given = g'3 };
+                        };
+                        slice-known5 = record { given = g'4 };
+                      };
+                      calls = record { given = g'5 };
+                    };
+                    slice-known6 = record { given = g'6 };
+                  },
+                ),
+              ),
+            ),
+          ),
+        )
 
         pub laid : (c : Start) → at45 (W0 (c .κs) (c .args)) (m0 (c .κs) (c .args))
-        laid = λ c. λ g. λ g'. λ g''. λ g'3. λ g'4. (Path'.refl, λ g'5. (Path'.refl, λ g'6. (Path'.refl, λ g'7. (Path'.refl, λ g'8. (Relend.count-is T22 17 18 (λ x. x) (λ u. 1) (m16 record { before = record { before = record { before =
-            record { before = record { before = record { before = record { before = record { before = c; slice-known = record { given = g }; }; slice-known2 = record { given = g' }; }; slice-known3 = record { given = g'' }; };
-            shared-slice-known = record { given = g'3 }; }; dispatch-arg = record { given = g'4 }; }; dispatch-arg2 = record { given = g'5 }; }; dispatch-arg3 = record { given = g'6 }; }; dispatch-arg4 = record { given = g'7 }; } g'8)
-            (slice-aggregate-dispatch record { before = record { before = record { before = record { before = record { before = record { before = record { before = record { before = record { before = c; slice-known = record { given = g
-            }; }; slice-known2 = record { given = g' }; }; slice-known3 = record { given = g'' }; }; shared-slice-known = record { given = g'3 }; }; dispatch-arg = record { given = g'4 }; }; dispatch-arg2 = record { given = g'5 }; };
-            dispatch-arg3 = record { given = g'6 }; }; dispatch-arg4 = record { given = g'7 }; }; dispatch-arg5 = record { given = g'8 }; }), (dispatch-requires record { before = record { before = record { before = record { before =
-            record { before = record { before = record { before = record { before = record { before = c; slice-known = record { given = g }; }; slice-known2 = record { given = g' }; }; slice-known3 = record { given = g'' }; };
-            shared-slice-known = record { given = g'3 }; }; dispatch-arg = record { given = g'4 }; }; dispatch-arg2 = record { given = g'5 }; }; dispatch-arg3 = record { given = g'6 }; }; dispatch-arg4 = record { given = g'7 }; };
-            dispatch-arg5 = record { given = g'8 }; }, λ g'9. lay1 record { before = record { before = record { before = record { before = record { before = record { before = record { before = record { before = record { before = record
-            { before = c; slice-known = record { given = g }; }; slice-known2 = record { given = g' }; }; slice-known3 = record { given = g'' }; }; shared-slice-known = record { given = g'3 }; }; dispatch-arg = record { given = g'4 };
-            }; dispatch-arg2 = record { given = g'5 }; }; dispatch-arg3 = record { given = g'6 }; }; dispatch-arg4 = record { given = g'7 }; }; dispatch-arg5 = record { given = g'8 }; }; dispatch = Called.called ps·0 r·0 (claims· .1)
-            T23 (record { pos = 9; ty = Syntax.tyRef Syntax.erased Syntax.mut El.named; ref = λ x. x; }, (record { pos = 11; ty = Syntax.tyRef Syntax.erased Syntax.mut El.word; ref = λ x. x; }, (record { pos = 13; ty = Syntax.tyRef
-            Syntax.erased Syntax.mut El.word; ref = λ x. x; }, (record { pos = 15; ty = Syntax.tyRef Syntax.erased Syntax.mut El.word; ref = λ x. x; }, (record { pos = 5; st = List.[]; d = 0; at = λ x. x }, (record { pos = 16; st =
-            List.[]; d = 0; at = λ x. x }, (record { pos = 18; ty = Syntax.tyRef Syntax.erased Syntax.imm (Syntax.tyInt Syntax.w16); ref = λ x. x; }, (record { pos = 6; ty = Syntax.tyRef (Syntax.named 4) Syntax.imm (Syntax.tyInt
-            Syntax.w8); ref = λ x. x; }, tt)))))))) (m17 record { before = record { before = record { before = record { before = record { before = record { before = record { before = record { before = c; slice-known = record { given =
-            g }; }; slice-known2 = record { given = g' }; }; slice-known3 = record { given = g'' }; }; shared-slice-known = record { given = g'3 }; }; dispatch-arg = record { given = g'4 }; }; dispatch-arg2 = record { given = g'5 }; };
-            dispatch-arg3 = record { given = g'6 }; }; dispatch-arg4 = record { given = g'7 }; } g'8) g'9; }))))))
+        laid = λ c. λ g. λ g'. λ g''. λ g'3. λ g'4. (
+          Path'.refl,
+          λ g'5. (
+            Path'.refl,
+            λ g'6. (
+              Path'.refl,
+              λ g'7. (
+                Path'.refl,
+                λ g'8. (
+                  Relend.count-is T22 17 18 (λ x. x) (λ u. 1) (m16 record {
+                    before = record {
+                      before = record {
+                        before =
+                            record {
+                              before = record {
+                                before = record { before = record { before = record { before = c; slice-known = record { given = g } }; slice-known2 = record { given = g' } }; slice-known3 = record { given = g'' } };
+                                shared-slice-known = record { given = g'3 };
+                              };
+                              dispatch-arg = record { given = g'4 };
+                            };
+                        dispatch-arg2 = record { given = g'5 };
+                      };
+                      dispatch-arg3 = record { given = g'6 };
+                    };
+                    dispatch-arg4 = record { given = g'7 };
+                  } g'8)
+                      (slice-aggregate-dispatch record {
+                        before = record {
+                          before = record {
+                            before = record {
+                              before = record {
+                                before = record {
+                                  before = record {
+                                    before = record {
+                                      before = record {
+                                        before = c;
+                                        slice-known = record {
+                                          given = g;
+                                        };
+                                      };
+                                      slice-known2 = record { given = g' };
+                                    };
+                                    slice-known3 = record { given = g'' };
+                                  };
+                                  shared-slice-known = record { given = g'3 };
+                                };
+                                dispatch-arg = record { given = g'4 };
+                              };
+                              dispatch-arg2 = record { given = g'5 };
+                            };
+                            dispatch-arg3 = record { given = g'6 };
+                          };
+                          dispatch-arg4 = record { given = g'7 };
+                        };
+                        dispatch-arg5 = record { given = g'8 };
+                      }),
+                  (
+                    dispatch-requires record {
+                      before = record {
+                        before = record {
+                          before = record {
+                            before =
+                                record {
+                                  before = record {
+                                    before = record { before = record { before = record { before = c; slice-known = record { given = g } }; slice-known2 = record { given = g' } }; slice-known3 = record { given = g'' } };
+                                    shared-slice-known = record { given = g'3 };
+                                  };
+                                  dispatch-arg = record { given = g'4 };
+                                };
+                            dispatch-arg2 = record { given = g'5 };
+                          };
+                          dispatch-arg3 = record { given = g'6 };
+                        };
+                        dispatch-arg4 = record { given = g'7 };
+                      };
+                      dispatch-arg5 = record { given = g'8 };
+                    },
+                    λ g'9. lay1 record {
+                      before = record {
+                        before = record {
+                          before = record {
+                            before = record {
+                              before = record {
+                                before = record {
+                                  before = record {
+                                    before = record {
+                                      before = record
+                                          { before = c; slice-known = record { given = g } };
+                                      slice-known2 = record { given = g' };
+                                    };
+                                    slice-known3 = record { given = g'' };
+                                  };
+                                  shared-slice-known = record { given = g'3 };
+                                };
+                                dispatch-arg = record { given = g'4 };
+                              };
+                              dispatch-arg2 = record { given = g'5 };
+                            };
+                            dispatch-arg3 = record { given = g'6 };
+                          };
+                          dispatch-arg4 = record { given = g'7 };
+                        };
+                        dispatch-arg5 = record { given = g'8 };
+                      };
+                      dispatch = Called.called ps·0 r·0 (claims· .1)
+                          T23 (
+                            record { pos = 9; ty = Syntax.tyRef Syntax.erased Syntax.mut El.named; ref = λ x. x },
+                            (
+                              record { pos = 11; ty = Syntax.tyRef Syntax.erased Syntax.mut El.word; ref = λ x. x },
+                              (
+                                record {
+                                  pos = 13;
+                                  ty = Syntax.tyRef
+                                      Syntax.erased Syntax.mut El.word;
+                                  ref = λ x. x;
+                                },
+                                (
+                                  record { pos = 15; ty = Syntax.tyRef Syntax.erased Syntax.mut El.word; ref = λ x. x },
+                                  (
+                                    record { pos = 5; st = List.[]; d = 0; at = λ x. x },
+                                    (
+                                      record {
+                                        pos = 16;
+                                        st =
+                                            List.[];
+                                        d = 0;
+                                        at = λ x. x;
+                                      },
+                                      (
+                                        record { pos = 18; ty = Syntax.tyRef Syntax.erased Syntax.imm (Syntax.tyInt Syntax.w16); ref = λ x. x },
+                                        (
+                                          record {
+                                            pos = 6;
+                                            ty = Syntax.tyRef (Syntax.named 4) Syntax.imm (Syntax.tyInt
+                                                Syntax.w8);
+                                            ref = λ x. x;
+                                          },
+                                          tt,
+                                        ),
+                                      ),
+                                    ),
+                                  ),
+                                ),
+                              ),
+                            ),
+                          ) (m17 record {
+                            before = record {
+                              before = record {
+                                before = record {
+                                  before = record {
+                                    before = record {
+                                      before = record {
+                                        before = record {
+                                          before = c;
+                                          slice-known = record {
+                                            given =
+                                                g;
+                                          };
+                                        };
+                                        slice-known2 = record { given = g' };
+                                      };
+                                      slice-known3 = record { given = g'' };
+                                    };
+                                    shared-slice-known = record { given = g'3 };
+                                  };
+                                  dispatch-arg = record { given = g'4 };
+                                };
+                                dispatch-arg2 = record { given = g'5 };
+                              };
+                              dispatch-arg3 = record { given = g'6 };
+                            };
+                            dispatch-arg4 = record { given = g'7 };
+                          } g'8) g'9;
+                    },
+                  ),
+                ),
+              ),
+            ),
+          ),
+        )
 
         module _ (κs : Lifetimes.Lfts 5) (qs : Lifetimes.Shares 5) where
           pub asked : (a : Kinds.Dens κs ps) → (good : Kinds.GoodsP κs ps a) → (pre : Pre· κs a) → (bs : List.List Nat.ℕ) → Φ (Any.wantQ 5 ps r xs m κs qs a (Post· κs a)) (Function.init 5 ps r xs m κs qs a)
-          asked = λ a good pre bs. laid record { κs = κs; args = record { tasks = a .0; objects = a .1 .0; places = a .1 .1 .0; calls = a .1 .1 .1 .0; queue = a .1 .1 .1 .1 .0; results = a .1 .1 .1 .1 .1 .0; }; good = good; pre = pre; }
+          asked = λ a good pre bs. laid record { κs = κs; args = record { tasks = a .0; objects = a .1 .0; places = a .1 .1 .0; calls = a .1 .1 .1 .0; queue = a .1 .1 .1 .1 .0; results = a .1 .1 .1 .1 .1 .0 }; good = good; pre = pre }
 
         module _ {M : Type 1} (𝓤 : URA.URA M) (H : Wp.Heap 𝓤) (A : Atoms.Atoms 𝓤) (W : Kit.Given 𝓤 H A) (𝓣 : Wp.Tables 𝓤 H) (known0 : Plain.Known 𝓤 H A W 𝓣 6 ps·0 r·0 (claims· .0) (claims· .1) "records_session::dispatch") where
           pub spec : Statement.Triple 𝓤 (Wp.WpFn 𝓤 H (𝓣 .C) (𝓣 .Λ) (Function.fnOf 5 ps r xs m hs body)) (Function.plainOf 𝓤 H A 5 ps r Pre· Post·)

@@ -55,8 +55,14 @@ abbrev pub Need-returns : Type 0
 Need-returns = Lts.Need-returns (Reads''.Asked, Reads''.Learnt, Reads'.Asked, Reads'.Learnt, Reads'3.Asked, Reads'3.Learnt) Reads.Pre Reads.Post
 
 module _ {M : Type 1} where
-  pub spec : (answer : Need-rows-in-use-requires) → (answer : Need-load-requires) → (answer : Need-slice-aggregate-show) → (answer : Need-show-requires) → (answer : Need-returns) → Lts.Closed (Reads''.Asked, Reads''.Learnt,
-      Reads'.Asked, Reads'.Learnt, Reads'3.Asked, Reads'3.Learnt) Reads.Pre Reads.Post M
+  pub spec : (answer : Need-rows-in-use-requires) → (answer : Need-load-requires) → (answer : Need-slice-aggregate-show) → (answer : Need-show-requires) → (answer : Need-returns) → Lts.Closed (
+    Reads''.Asked,
+    Reads''.Learnt,
+    Reads'.Asked,
+    Reads'.Learnt,
+    Reads'3.Asked,
+    Reads'3.Learnt,
+  ) Reads.Pre Reads.Post M
   spec = λ answer answer' answer'' answer'3 answer'4. Lts.spec (Reads''.Asked, Reads''.Learnt, Reads'.Asked, Reads'.Learnt, Reads'3.Asked, Reads'3.Learnt) Reads.Pre Reads.Post answer answer' answer'' answer'3 answer'4
 
   pub close : Lts.Closed (Reads''.Asked, Reads''.Learnt, Reads'.Asked, Reads'.Learnt, Reads'3.Asked, Reads'3.Learnt) Reads.Pre Reads.Post M → Statement.statement M
