@@ -216,8 +216,93 @@ def named_types(text, types):
     return "".join(out) + text[i:]
 
 
+# what is spelled out again and again, and the name that `Element` gives it
+SPELLED = [
+    ("(Syntax.tyInt Syntax.w64)", "E·word"),
+    ("(Referent.rtF (Referent.fInt Syntax.w64))", "E·number"),
+    ("(Syntax.tyRef Syntax.erased Syntax.imm E·word)", "E·imm-word"),
+    ("(Syntax.tyRef Syntax.erased Syntax.mut E·word)", "E·mut-word"),
+    ("(Syntax.tyRef Syntax.erased Syntax.imm E·named)", "E·imm-row"),
+    ("(Syntax.tyRef Syntax.erased Syntax.mut E·named)", "E·mut-row"),
+]
+SLICE = re.compile(re.escape("(Syntax.tyStruct (List._∷_ 38 (List._∷_ 91 (List._∷_ 93 List.[]))) (Syntax.tcons ") + r"(\S+|\([^()]*(?:\([^()]*\)[^()]*)*\))" + re.escape(" (Syntax.tcons E·word Syntax.tnil)))"))
+
+
+def tree(text):
+    """Words and bracketed parts: a part is a list that begins with its bracket."""
+    parts = [["("]]
+    for token in re.findall(r"[(){};,]|[^\s(){};,]+", text):
+        if token in "({":
+            parts.append([token])
+        elif token in ")}":
+            done = parts.pop()
+            parts[-1].append(done)
+        else:
+            parts[-1].append(token)
+    return parts[0]
+
+
+def with_infix(part):
+    """A list is written x ∷ y ∷ [] in place of List._∷_ x (List._∷_ y List.[])."""
+    items, out, i = [with_infix(x) if isinstance(x, list) else {"List.[]": "[]", "List.List": "List", "List._++_": "_++_"}.get(x, x) for x in part], [], 0
+
+    def argument(i):
+        return items[i : i + 2] if items[i] == "record" else items[i : i + 1]
+
+    while i < len(items):
+        if items[i] == "List._∷_" and i + 2 < len(items):
+            first = argument(i + 1)
+            rest = argument(i + 1 + len(first))
+            i += 1 + len(first) + len(rest)
+            if isinstance(rest[0], list) and rest[0][0] == "(" and "∷" in rest[0]:
+                rest = rest[0][1:]
+            out += first + ["∷"] + rest
+        else:
+            out.append("_∷_" if items[i] == "List._∷_" else items[i])
+            i += 1
+    return out
+
+
+def is_apart(part):
+    """A tuple or what stands in braces: the formatter opens it over many lines where it has a line end."""
+    return part[0] == "{" or "," in part
+
+
+def words_of(part, apart=False):
+    """The words of a part; what stands in a tuple or in braces is one word."""
+    out = []
+    for x in part[1:]:
+        if not isinstance(x, list):
+            if x in ";,":
+                out[-1] += x
+            else:
+                out.append(x)
+            continue
+        inner = words_of(x, apart or is_apart(x))
+        shut = {"(": ")", "{": "}"}[x[0]]
+        if x[0] == "{" and out and out[-1] == "record":
+            inner = ["record", "{"] + inner + ["}"]
+            out.pop()
+        else:
+            inner[0] = x[0] + inner[0]
+            inner[-1] += shut
+        out += [" ".join(inner)] if apart or is_apart(x) else inner
+    return out
+
+
 def indent(line):
     return len(line) - len(line.lstrip())
+
+
+def wrapped(pad, words, width):
+    """Lines of at most so many characters, where there is a place to end one."""
+    lines, line = [], pad
+    for w in words:
+        if line.strip() and len(line) + 1 + len(w) > width:
+            lines.append(line)
+            line = pad + "    "
+        line += ("" if not line.strip() else " ") + w
+    return lines + [line]
 
 
 def shorter(text, types, width=236):
@@ -235,23 +320,20 @@ def shorter(text, types, width=236):
         while not line.endswith(" where") and i < len(lines) and lines[i].strip() and (indent(lines[i]) > indent(first) or re.match(r"[)\]}]", lines[i].strip())):
             line += " " + lines[i].strip()
             i += 1
-        line = re.sub(r";\s+\}", "; }", re.sub(r"\(\s+", "(", re.sub(r",\s+\)", ")", line)))
+        if line.startswith("use "):
+            out.append(line)
+            continue
+        line = re.sub(r"([;,])\s+([)}])", r"\2", re.sub(r"([({])\s+", r"\1", re.sub(r"\s+([)}])", r"\1", line)))
         # a clause that states a fact is read by `r-last`, and no clause by `r-top`: the kit has `search` here, which finds them
         if re.match(r"(requires|ensures)-\S*·read = ", line):
             line = line.replace("(λ w. search Read.reads)", "(λ w. Read.r-last _)")
         if re.match(r"(pre|post)-read = ", line):
             line = line.replace("(λ w. search Read.reads)", "(λ w. Read.r-top)")
-        line = named_types(line, types).replace("(Syntax.tyInt Syntax.w64)", "E·word")
-        pad, begun = " " * indent(first), False
-        while len(pad) + len(line) > width:
-            k = line.rfind(" ", 0, width - len(pad))
-            if k <= 0:
-                break
-            out.append(pad + line[:k])
-            line = line[k + 1 :]
-            if not begun:
-                pad, begun = pad + "    ", True
-        out.append(pad + line)
+        line = named_types(line, types)
+        for spelled_out, name in SPELLED:
+            line = line.replace(spelled_out, name)
+        line = SLICE.sub(r"(E·slice \1)", line)
+        out += wrapped(" " * indent(first), words_of(with_infix(tree(line))), width)
     return re.sub(r"\n\n\n+", "\n\n", "\n".join(out)).strip() + "\n"
 
 
@@ -267,6 +349,7 @@ def made_file(crate, path, what, text, types):
     text = shorter(put_back(crate, text), types)
     uses = [line for line in text.split("\n") if line.startswith("use ")]
     rest = "\n".join(line for line in text.split("\n") if not line.startswith("use ")).strip("\n")
+    uses = [u for u in uses if u != "use mathlib.Core.List"] + ["use mathlib.Core.List.{" + ", ".join(k for k, w in (("List", r"\bList\b"), ("[]", r"\[\]"), ("_∷_", "∷"), ("_++_", r"_\+\+_")) if re.search(w, rest)) + "}"]
     if "E·" in rest:
         uses.append(f"use Rattle.{crate}.proofs.Made.Element as El")
     rest = rest.replace("E·", "El.")
@@ -288,7 +371,9 @@ use denote.Memory.{{pointee}}
 use denote.Struct.Declared.{{Declared, fields}}
 use denote.Struct.Laws.{{Laws, Copyables}}
 use denote.Struct.Struct.{{Plains}}
-use mir.Syntax.{{Ty, tyInt, w64}}
+use borrow.Table.Referent.{{rtF, fInt}}
+use mathlib.Core.List.{{[], _∷_}}
+use mir.Syntax.{{Ty, erased, imm, mut, tcons, tnil, tyInt, tyRef, tyStruct, w64}}
 use {home}.{STRUCT} as S
 use {home}.{STRUCT}.Laws as S′
 """
@@ -317,6 +402,25 @@ plain = S′.the-plain
 
 abbrev pub word : Ty
 word = tyInt w64
+
+abbrev pub number : RattleType
+number = rtF (fInt w64)
+
+abbrev pub imm-word : Ty
+imm-word = tyRef erased imm word
+
+abbrev pub mut-word : Ty
+mut-word = tyRef erased mut word
+
+abbrev pub imm-row : Ty
+imm-row = tyRef erased imm named
+
+abbrev pub mut-row : Ty
+mut-row = tyRef erased mut named
+
+-- a reference to a slice: a pointer, and how many
+abbrev pub slice : Ty → Ty
+slice pointer = tyStruct (38 ∷ 91 ∷ 93 ∷ []) (tcons pointer (tcons word tnil))
 """
         + "".join(f"\nabbrev pub {k} : Ty\n{k} = {k}′.mir\n" for k in sorted(where))
     )

@@ -1,4 +1,4 @@
-// What is done on the words of task records, between laying them out and saving them: the entries of `session`, and how many records they write.
+// The entries of `session` on the words of task records, and how many records they write.
 use asyncio::OBJECTS_LEN;
 use asyncio::TASKS;
 use exec_switch::answer::Answer;

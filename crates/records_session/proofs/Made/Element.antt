@@ -4,7 +4,9 @@ use denote.Memory.{pointee}
 use denote.Struct.Declared.{Declared, fields}
 use denote.Struct.Laws.{Laws, Copyables}
 use denote.Struct.Struct.{Plains}
-use mir.Syntax.{Ty, tyInt, w64}
+use borrow.Table.Referent.{rtF, fInt}
+use mathlib.Core.List.{[], _∷_}
+use mir.Syntax.{Ty, erased, imm, mut, tcons, tnil, tyInt, tyRef, tyStruct, w64}
 use Rattle.records_tasks.proofs.TaskRecord as S
 use Rattle.records_tasks.proofs.TaskRecord.Laws as S′
 use Rattle.exec_switch.proofs.answer.Answer.Laws as Answer′
@@ -39,6 +41,25 @@ plain = S′.the-plain
 
 abbrev pub word : Ty
 word = tyInt w64
+
+abbrev pub number : RattleType
+number = rtF (fInt w64)
+
+abbrev pub imm-word : Ty
+imm-word = tyRef erased imm word
+
+abbrev pub mut-word : Ty
+mut-word = tyRef erased mut word
+
+abbrev pub imm-row : Ty
+imm-row = tyRef erased imm named
+
+abbrev pub mut-row : Ty
+mut-row = tyRef erased mut named
+
+-- a reference to a slice: a pointer, and how many
+abbrev pub slice : Ty → Ty
+slice pointer = tyStruct (38 ∷ 91 ∷ 93 ∷ []) (tcons pointer (tcons word tnil))
 
 abbrev pub Answer : Ty
 Answer = Answer′.mir

@@ -12,6 +12,7 @@ use contract.Lifetimes
 use contract.Monad
 use denote.Triple.Clauses
 use mathlib.Core.Path as Path'
+use mathlib.Core.List.{}
 
 abbrev pub Ghost : Type 0
 Ghost = Unit {0}
@@ -41,21 +42,13 @@ module _ (κs : Lifetimes.Lfts 4) where
   abbrev pub pre-read : (a : World.ArgsD dispatch_plain.signature κs) → (g : Ghost) → Read.Read (World.In dispatch_plain.signature κs a) Read.no-know (requires a g)
   pre-read = λ a g. Read.all-models (requires a g) (λ w. Read.r-top) (λ w. Path'.refl) (λ w. Path'.refl) λ w. Path'.refl
 
-  abbrev pub ensures-1·read : (a : World.ArgsD dispatch_plain.signature κs) → (g : Ghost) → (r : World.ResD dispatch_plain.signature κs) → (s : Clauses.AtExit (Kinds'.endedOf 4 Kinds.ps Kinds.r) κs) → Read.Read (Base a) (Owned r s) λ
-      w. dispatch_plain.ensures-1 (w .𝓤) (w .H) κs (w .𝓖 .A) (w .𝓜 .mem) (w .𝓡 .run) (a .0) (a .1 .0) (a .1 .1 .0) (a .1 .1 .1 .0) (a .1 .1 .1 .1 .0) (a .1 .1 .1 .1 .1 .0) record { entry = a .0; exit = s .0 } record {
-        entry = a .1 .0;
-        exit = s .1 .0;
-      } record { entry = a .1 .1 .0; exit = s .1 .1 .0 } record { entry = a .1 .1 .1 .0; exit = s .1 .1 .1 .0 } record { entry = a .1 .1 .1 .1 .0; exit = s .1 .1 .1 .1 .0 } record {
-        entry = a .1 .1 .1 .1 .1 .0;
-        exit = s
-            .1 .1 .1 .1 .1 .0;
-      } r
-  ensures-1·read = λ a g r s. Read.all-models (λ w. dispatch_plain.ensures-1 (w .𝓤) (w .H) κs (w .𝓖 .A) (w .𝓜 .mem) (w .𝓡 .run) (a .0) (a .1 .0) (a .1 .1 .0) (a .1 .1 .1 .0) (a .1 .1 .1 .1 .0) (a .1 .1 .1 .1 .1 .0) record {
-    entry = a
-        .0;
-    exit = s .0;
-  } record { entry = a .1 .0; exit = s .1 .0 } record { entry = a .1 .1 .0; exit = s .1 .1 .0 } record { entry = a .1 .1 .1 .0; exit = s .1 .1 .1 .0 } record { entry = a .1 .1 .1 .1 .0; exit = s .1 .1 .1 .1 .0 }
-      record { entry = a .1 .1 .1 .1 .1 .0; exit = s .1 .1 .1 .1 .1 .0 } r) (λ w. Read.r-last _) (λ w. Path'.refl) (λ w. Path'.refl) λ w. Path'.refl
+  abbrev pub ensures-1·read : (a : World.ArgsD dispatch_plain.signature κs) → (g : Ghost) → (r : World.ResD dispatch_plain.signature κs) → (s : Clauses.AtExit (Kinds'.endedOf 4 Kinds.ps Kinds.r) κs) → Read.Read (Base a) (Owned r s) λ w.
+      dispatch_plain.ensures-1 (w .𝓤) (w .H) κs (w .𝓖 .A) (w .𝓜 .mem) (w .𝓡 .run) (a .0) (a .1 .0) (a .1 .1 .0) (a .1 .1 .1 .0) (a .1 .1 .1 .1 .0) (a .1 .1 .1 .1 .1 .0) record { entry = a .0; exit = s .0 }
+      record { entry = a .1 .0; exit = s .1 .0 } record { entry = a .1 .1 .0; exit = s .1 .1 .0 } record { entry = a .1 .1 .1 .0; exit = s .1 .1 .1 .0 } record { entry = a .1 .1 .1 .1 .0; exit = s .1 .1 .1 .1 .0 }
+      record { entry = a .1 .1 .1 .1 .1 .0; exit = s .1 .1 .1 .1 .1 .0 } r
+  ensures-1·read = λ a g r s. Read.all-models (λ w. dispatch_plain.ensures-1 (w .𝓤) (w .H) κs (w .𝓖 .A) (w .𝓜 .mem) (w .𝓡 .run) (a .0) (a .1 .0) (a .1 .1 .0) (a .1 .1 .1 .0) (a .1 .1 .1 .1 .0) (a .1 .1 .1 .1 .1 .0)
+      record { entry = a .0; exit = s .0 } record { entry = a .1 .0; exit = s .1 .0 } record { entry = a .1 .1 .0; exit = s .1 .1 .0 } record { entry = a .1 .1 .1 .0; exit = s .1 .1 .1 .0 }
+      record { entry = a .1 .1 .1 .1 .0; exit = s .1 .1 .1 .1 .0 } record { entry = a .1 .1 .1 .1 .1 .0; exit = s .1 .1 .1 .1 .1 .0 } r) (λ w. Read.r-last _) (λ w. Path'.refl) (λ w. Path'.refl) λ w. Path'.refl
 
   abbrev pub post-read : (a : World.ArgsD dispatch_plain.signature κs) → (g : Ghost) → (r : World.ResD dispatch_plain.signature κs) → (s : Clauses.AtExit (Kinds'.endedOf 4 Kinds.ps Kinds.r) κs) → Read.Read (Base a) (Owned r s) (ensures
       a g r s)

@@ -13,47 +13,20 @@ use borrow.Table.Rows
 use denote.Exit
 use denote.Struct.Declared
 use denote.Struct.Laws as Laws''
-use mathlib.Core.List
 use mathlib.Core.Path as Path'
 use mir.Syntax
+use mathlib.Core.List.{List, [], _∷_}
 use Rattle.records_session.proofs.Made.Element as El
 
-abbrev pub ps : List.List (Kinds.PK 5)
-ps = List._∷_ (MutSlice.pMutS El.row 0 tt) (List._∷_ (MutSlice.pMutS (Referent.rtF (Referent.fInt Syntax.w64)) 1 tt) (List._∷_ (MutSlice.pMutS (Referent.rtF (Referent.fInt Syntax.w64)) 2 tt) (List._∷_ (MutSlice.pMutS (Referent.rtF
-    (Referent.fInt Syntax.w64)) 3 tt) (List._∷_ (Value.pVal record {
-      ty = Declared.row ReadyQueue.the-type;
-      one = Path'.refl;
-      val = Laws''.val ReadyQueue.the-type Laws.the-laws;
-      tells = Laws''.tells ReadyQueue.the-type Laws.the-laws;
-      still = Laws''.still ReadyQueue.the-type Laws.the-copy Exit.yes;
-      row = Rows.whole (Declared.row ReadyQueue.the-type);
-      rd = λ x. x;
-      mk = λ x. x;
-    } λ M 𝓤 H A W. record {
-      copies = Laws''.copy ReadyQueue.the-type Laws.the-copy 𝓤 H A W;
-      lawful = Laws''.lawful ReadyQueue.the-type Laws.the-laws 𝓤 H A W;
-      makes = Laws''.makes ReadyQueue.the-type Laws.the-plain 𝓤 H A;
-      in-mem = Local.mem-whole 𝓤 H A W (Declared.row ReadyQueue.the-type);
-      of-mem = Local.whole-mem 𝓤 H A W
-          (Declared.row ReadyQueue.the-type);
-    }) (List._∷_ (ShrSlice.pShrS (Referent.rtF (Referent.fInt Syntax.w8)) 4 tt) List.[])))))
+abbrev pub ps : List (Kinds.PK 5)
+ps = (MutSlice.pMutS El.row 0 tt) ∷ (MutSlice.pMutS El.number 1 tt) ∷ (MutSlice.pMutS El.number 2 tt) ∷ (MutSlice.pMutS El.number 3 tt) ∷ (Value.pVal
+    record { ty = Declared.row ReadyQueue.the-type; one = Path'.refl; val = Laws''.val ReadyQueue.the-type Laws.the-laws; tells = Laws''.tells ReadyQueue.the-type Laws.the-laws; still = Laws''.still ReadyQueue.the-type Laws.the-copy Exit.yes; row = Rows.whole (Declared.row ReadyQueue.the-type); rd = λ x. x; mk = λ x. x }
+    λ M 𝓤 H A W.
+    record { copies = Laws''.copy ReadyQueue.the-type Laws.the-copy 𝓤 H A W; lawful = Laws''.lawful ReadyQueue.the-type Laws.the-laws 𝓤 H A W; makes = Laws''.makes ReadyQueue.the-type Laws.the-plain 𝓤 H A; in-mem = Local.mem-whole 𝓤 H A W (Declared.row ReadyQueue.the-type); of-mem = Local.whole-mem 𝓤 H A W (Declared.row ReadyQueue.the-type) })
+    ∷ (ShrSlice.pShrS (Referent.rtF (Referent.fInt Syntax.w8)) 4 tt) ∷ []
 
 abbrev pub r : Kinds.RK 5
-r = Value.rVal record {
-  ty = Declared.row Answered.the-type;
-  one = Path'.refl;
-  val = Laws''.val Answered.the-type Laws'.the-laws;
-  tells = Laws''.tells Answered.the-type Laws'.the-laws;
-  still = Laws''.still Answered.the-type
-      Laws'.the-copy Exit.yes;
-  row = Rows.whole (Declared.row Answered.the-type);
-  rd = λ x. x;
-  mk = λ x. x;
-} λ M 𝓤 H A W. record {
-  copies = Laws''.copy Answered.the-type Laws'.the-copy 𝓤 H A W;
-  lawful = Laws''.lawful Answered.the-type
-      Laws'.the-laws 𝓤 H A W;
-  makes = Laws''.makes Answered.the-type Laws'.the-plain 𝓤 H A;
-  in-mem = Local.mem-whole 𝓤 H A W (Declared.row Answered.the-type);
-  of-mem = Local.whole-mem 𝓤 H A W (Declared.row Answered.the-type);
-}
+r = Value.rVal
+    record { ty = Declared.row Answered.the-type; one = Path'.refl; val = Laws''.val Answered.the-type Laws'.the-laws; tells = Laws''.tells Answered.the-type Laws'.the-laws; still = Laws''.still Answered.the-type Laws'.the-copy Exit.yes; row = Rows.whole (Declared.row Answered.the-type); rd = λ x. x; mk = λ x. x }
+    λ M 𝓤 H A W.
+    record { copies = Laws''.copy Answered.the-type Laws'.the-copy 𝓤 H A W; lawful = Laws''.lawful Answered.the-type Laws'.the-laws 𝓤 H A W; makes = Laws''.makes Answered.the-type Laws'.the-plain 𝓤 H A; in-mem = Local.mem-whole 𝓤 H A W (Declared.row Answered.the-type); of-mem = Local.whole-mem 𝓤 H A W (Declared.row Answered.the-type) }

@@ -14,6 +14,7 @@ use Rattle.records_words.proofs.begin.Symbol as Symbol'
 use borrow.Fn.Run
 use borrow.Fn.Written
 use contract.Running
+use mathlib.Core.List.{}
 
 abbrev pub Start : Type 0
 Start = Lts.Start (Reads''.Asked, Reads''.Learnt, Reads'.Asked, Reads'.Learnt) Reads.Pre Reads.Post

@@ -20,6 +20,7 @@ use Rattle.records_words.proofs.rows_in_use.Symbol as Symbol'3
 use borrow.Fn.Run
 use borrow.Fn.Written
 use contract.Running
+use mathlib.Core.List.{}
 
 abbrev pub Start : Type 0
 Start = Lts.Start (Reads'4.Asked, Reads'4.Learnt, Reads'.Asked, Reads'.Learnt, Reads'3.Asked, Reads'3.Learnt, Reads''.Asked, Reads''.Learnt) Reads.Pre Reads.Post
@@ -137,26 +138,11 @@ Need-returns = Lts.Need-returns (Reads'4.Asked, Reads'4.Learnt, Reads'.Asked, Re
 
 module _ {M : Type 1} where
   pub spec : (answer : Need-rows-in-use-requires) → (answer : Need-load-requires) → (answer : Need-slice-aggregate-dispatch) → (answer : Need-dispatch-requires) → (answer : Need-slice-aggregate-save) → (answer : Need-save-requires) →
-      (answer : Need-same-length) → (answer : Need-same-length-2) → (answer : Need-same-length-3) → (answer : Need-same-length-4) → (answer : Need-returns) → Lts.Closed (
-        Reads'4.Asked,
-        Reads'4.Learnt,
-        Reads'.Asked,
-        Reads'.Learnt,
-        Reads'3.Asked,
-        Reads'3.Learnt,
-        Reads''.Asked,
-        Reads''.Learnt,
-      ) Reads.Pre Reads.Post M
-  spec = λ answer answer' answer'' answer'3 answer'4 answer'5 answer'6 answer'7 answer'8 answer'9 answer'10. Lts.spec (
-    Reads'4.Asked,
-    Reads'4.Learnt,
-    Reads'.Asked,
-    Reads'.Learnt,
-    Reads'3.Asked,
-    Reads'3.Learnt,
-    Reads''.Asked,
-    Reads''.Learnt,
-  ) Reads.Pre Reads.Post answer answer' answer'' answer'3 answer'4 answer'5 answer'6 answer'7 answer'8 answer'9 answer'10
+      (answer : Need-same-length) → (answer : Need-same-length-2) → (answer : Need-same-length-3) → (answer : Need-same-length-4) → (answer : Need-returns) → Lts.Closed
+      (Reads'4.Asked, Reads'4.Learnt, Reads'.Asked, Reads'.Learnt, Reads'3.Asked, Reads'3.Learnt, Reads''.Asked, Reads''.Learnt) Reads.Pre Reads.Post M
+  spec = λ answer answer' answer'' answer'3 answer'4 answer'5 answer'6 answer'7 answer'8 answer'9 answer'10. Lts.spec
+      (Reads'4.Asked, Reads'4.Learnt, Reads'.Asked, Reads'.Learnt, Reads'3.Asked, Reads'3.Learnt, Reads''.Asked, Reads''.Learnt) Reads.Pre Reads.Post answer answer' answer'' answer'3 answer'4 answer'5 answer'6 answer'7 answer'8
+      answer'9 answer'10
 
   pub close : Lts.Closed (Reads'4.Asked, Reads'4.Learnt, Reads'.Asked, Reads'.Learnt, Reads'3.Asked, Reads'3.Learnt, Reads''.Asked, Reads''.Learnt) Reads.Pre Reads.Post M → Statement.statement M
   unfolding Code.routine Running.tablesOf

@@ -17,6 +17,7 @@ use Rattle.records_words.proofs.rows_in_use.Symbol as Symbol''
 use borrow.Fn.Run
 use borrow.Fn.Written
 use contract.Running
+use mathlib.Core.List.{}
 
 abbrev pub Start : Type 0
 Start = Lts.Start (Reads'3.Asked, Reads'3.Learnt, Reads'.Asked, Reads'.Learnt, Reads''.Asked, Reads''.Learnt) Reads.Pre Reads.Post
@@ -55,14 +56,8 @@ abbrev pub Need-returns : Type 0
 Need-returns = Lts.Need-returns (Reads'3.Asked, Reads'3.Learnt, Reads'.Asked, Reads'.Learnt, Reads''.Asked, Reads''.Learnt) Reads.Pre Reads.Post
 
 module _ {M : Type 1} where
-  pub spec : (answer : Need-rows-in-use-requires) → (answer : Need-load-requires) → (answer : Need-slice-aggregate-eager) → (answer : Need-eager-requires) → (answer : Need-returns) → Lts.Closed (
-    Reads'3.Asked,
-    Reads'3.Learnt,
-    Reads'.Asked,
-    Reads'.Learnt,
-    Reads''.Asked,
-    Reads''.Learnt,
-  ) Reads.Pre Reads.Post M
+  pub spec : (answer : Need-rows-in-use-requires) → (answer : Need-load-requires) → (answer : Need-slice-aggregate-eager) → (answer : Need-eager-requires) → (answer : Need-returns) → Lts.Closed
+      (Reads'3.Asked, Reads'3.Learnt, Reads'.Asked, Reads'.Learnt, Reads''.Asked, Reads''.Learnt) Reads.Pre Reads.Post M
   spec = λ answer answer' answer'' answer'3 answer'4. Lts.spec (Reads'3.Asked, Reads'3.Learnt, Reads'.Asked, Reads'.Learnt, Reads''.Asked, Reads''.Learnt) Reads.Pre Reads.Post answer answer' answer'' answer'3 answer'4
 
   pub close : Lts.Closed (Reads'3.Asked, Reads'3.Learnt, Reads'.Asked, Reads'.Learnt, Reads''.Asked, Reads''.Learnt) Reads.Pre Reads.Post M → Statement.statement M

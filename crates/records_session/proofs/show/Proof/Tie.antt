@@ -17,6 +17,7 @@ use Rattle.records_words.proofs.show.Symbol as Symbol''
 use borrow.Fn.Run
 use borrow.Fn.Written
 use contract.Running
+use mathlib.Core.List.{}
 
 abbrev pub Start : Type 0
 Start = Lts.Start (Reads''.Asked, Reads''.Learnt, Reads'.Asked, Reads'.Learnt, Reads'3.Asked, Reads'3.Learnt) Reads.Pre Reads.Post
@@ -55,14 +56,8 @@ abbrev pub Need-returns : Type 0
 Need-returns = Lts.Need-returns (Reads''.Asked, Reads''.Learnt, Reads'.Asked, Reads'.Learnt, Reads'3.Asked, Reads'3.Learnt) Reads.Pre Reads.Post
 
 module _ {M : Type 1} where
-  pub spec : (answer : Need-rows-in-use-requires) → (answer : Need-load-requires) → (answer : Need-slice-aggregate-show) → (answer : Need-show-requires) → (answer : Need-returns) → Lts.Closed (
-    Reads''.Asked,
-    Reads''.Learnt,
-    Reads'.Asked,
-    Reads'.Learnt,
-    Reads'3.Asked,
-    Reads'3.Learnt,
-  ) Reads.Pre Reads.Post M
+  pub spec : (answer : Need-rows-in-use-requires) → (answer : Need-load-requires) → (answer : Need-slice-aggregate-show) → (answer : Need-show-requires) → (answer : Need-returns) → Lts.Closed
+      (Reads''.Asked, Reads''.Learnt, Reads'.Asked, Reads'.Learnt, Reads'3.Asked, Reads'3.Learnt) Reads.Pre Reads.Post M
   spec = λ answer answer' answer'' answer'3 answer'4. Lts.spec (Reads''.Asked, Reads''.Learnt, Reads'.Asked, Reads'.Learnt, Reads'3.Asked, Reads'3.Learnt) Reads.Pre Reads.Post answer answer' answer'' answer'3 answer'4
 
   pub close : Lts.Closed (Reads''.Asked, Reads''.Learnt, Reads'.Asked, Reads'.Learnt, Reads'3.Asked, Reads'3.Learnt) Reads.Pre Reads.Post M → Statement.statement M

@@ -2,13 +2,12 @@
 use borrow.Fn.Kinds
 use borrow.Kind.MutSlice
 use borrow.Kind.ShrSlice
-use borrow.Table.Referent
-use mathlib.Core.List
 use mir.Syntax
+use mathlib.Core.List.{List, [], _∷_}
 use Rattle.records_tasks.proofs.Made.Element as El
 
-abbrev pub ps : List.List (Kinds.PK 2)
-ps = List._∷_ (MutSlice.pMutS El.row 0 tt) (List._∷_ (ShrSlice.pShrS (Referent.rtF (Referent.fInt Syntax.w64)) 1 tt) (List._∷_ (Kinds.pNum Syntax.w16) List.[]))
+abbrev pub ps : List (Kinds.PK 2)
+ps = (MutSlice.pMutS El.row 0 tt) ∷ (ShrSlice.pShrS El.number 1 tt) ∷ (Kinds.pNum Syntax.w16) ∷ []
 
 abbrev pub r : Kinds.RK 2
 r = Kinds.rUnit

@@ -12,6 +12,7 @@ use contract.Lifetimes
 use contract.Monad
 use denote.Triple.Clauses
 use mathlib.Core.Path as Path'
+use mathlib.Core.List.{}
 
 abbrev pub Ghost : Type 0
 Ghost = Unit {0}
