@@ -1,7 +1,7 @@
 #!/usr/bin/env python3
 """Makes the part of a proof that follows the code, for functions over a lent slice of task records, `&[TaskRecord]` and `&mut [TaskRecord]`.
 
-    python3 tools/mirror.py && rt fmt           # makes all of them anew
+    python3 tools/mirror.py && rt fmt           # makes all of them anew, with the walks of tools/entries.py; the crates below must be proved
     python3 tools/mirror.py records_session     # those of one crate
 
 The rules of the kit's borrow checker (logic/Borrow) hold for slices of any element type; only its driver declines a reference to a declared struct. So the
@@ -20,6 +20,10 @@ import re
 import shutil
 import subprocess
 import sys
+
+sys.dont_write_bytecode = True  # nothing is left behind in tools/
+
+import entries
 
 ROOT = os.path.dirname(os.path.dirname(os.path.abspath(__file__)))
 STRUCT, HOME, SIZE = "TaskRecord", "records_tasks", "48"  # the struct, the crate that declares it, how many bytes it takes (`rt mir`)
@@ -463,6 +467,8 @@ def make(crate):
     for f in row["made"]:
         if not os.path.exists(f"{out}/{f}/Proof.antt"):
             write(f"{out}/{f}/Proof.antt", starter(crate, f, out))
+    if crate == entries.CRATE:
+        entries.write()
     print(f"{crate}: made " + ", ".join(row["walked"] + row["made"]))
 
 

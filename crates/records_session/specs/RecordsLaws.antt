@@ -12,23 +12,26 @@ use Rattle.rows.specs.Tables.{header-at}
 use Rattle.queue.specs.declared.ReadyQueue.{ReadyQueue}
 use Rattle.machine.specs.Store.{Store, store-of}
 use Rattle.machine.specs.Machine as machine
-use Rattle.machine.specs.Machine.{Step}
+use Rattle.machine.specs.Machine.{Step, step}
 use Rattle.machine.specs.Sound.{sound}
-use Rattle.machine.specs.Lent.{Lent, Read, read-as, lent-as, answer-calls, lent-step, lent-begin, lent-read}
+use Rattle.machine.specs.Lent.{Lent, Read, read-as, lent-as, answer-calls, slices-right, lent-step, lent-begin, lent-read}
 use Rattle.machine_laws.specs.TestLaws.{is-true}
 use Rattle.exec_switch.specs.Answer.{answer-of, stepped-of}
 use Rattle.exec_switch.specs.declared.answer.Answer.{Answer}
 use Rattle.step_checks.specs.Lent.{are-slices, lent-of}
-use Rattle.step_checks.specs.LentLaws.{not-sound}
+use Rattle.step_checks.specs.LentLaws.{not-sound, step-unsound}
 use Rattle.records_tasks.specs.declared.TaskRecord.{TaskRecord}
 use Rattle.records_tasks.specs.TaskRecord.{no-record, fits}
-use Rattle.records_tasks.specs.TaskRows.{loaded, rows-of, saved}
+use Rattle.records_tasks.specs.TaskRows.{rows-of, saved}
 use Rattle.records_tasks.specs.TaskRowsLaws.{rows-are, length-loaded}
-use Rattle.records_tasks.specs.MisfitLaws.{misfit-unsound}
+use Rattle.records_tasks.specs.UnfitLaws.{unfit-unsound}
 use Rattle.records_words.specs.RowsInUse.{next-in, rows-in-use}
 use Rattle.records_words.specs.OnWords.{with-rows, words-step, begun-rows, words-begin, words-read}
 use Rattle.records_session.specs.Records.{Records, RecordsLent, gone-back, refused-as, records-step, begun-with, records-begin, records-read}
 use Rattle.records_session.specs.RecordsContract.{records-of}
+
+is-both : {a b : Bool} → true ≡ a → b ≡ true → true ≡ (a && b)
+is-both {a} {b} h k = ap (λ (x : Bool). true && x) (sym k) ∙ ap (λ (x : Bool). x && b) h
 
 module _ (m : Records) where
   -- so many records laid out
@@ -127,20 +130,36 @@ module _ (m : Records) where
     unfolding next-in
     next-is = rw (eq-eqb _ _ lo)
 
+    slices-are : (n : ℕ) → true ≡ are-slices (length (rows-of (m .tasks) n)) (length (m .objects)) (length (m .places))
+    slices-are n =
+        let w : length (rows-of (m .tasks) n) ≡ tasks-length = ap (λ (v : List ℕ). length v) (sym (rows-are (m .tasks) n)) ∙ length-loaded (m .tasks) n (replicate tasks-length 0) ∙ length-replicate {A = ℕ} tasks-length 0 in
+        rw (eq-eqb (length (rows-of (m .tasks) n)) tasks-length w, eq-eqb (length (m .objects)) objects-length lo, eq-eqb (length (m .places)) places-length lp)
+
     all-right : (cs : List ℕ) → object-limit ≤ length cs → (n : ℕ)
         → true ≡ (are-slices (length (rows-of (m .tasks) n)) (length (m .objects)) (length (m .places)) && leb object-limit (length cs))
     all-right cs lc n =
-        let w : length (rows-of (m .tasks) n) ≡ tasks-length = ap (λ (v : List ℕ). length v) (sym (rows-are (m .tasks) n)) ∙ length-loaded (m .tasks) n (replicate tasks-length 0) ∙ length-replicate {A = ℕ} tasks-length 0 in
-        rw (eq-eqb (length (rows-of (m .tasks) n)) tasks-length w, eq-eqb (length (m .objects)) objects-length lo, eq-eqb (length (m .places)) places-length lp, is-true (leb object-limit (length cs)) (le→leb object-limit (length cs) lc))
+        is-both (slices-are n) (is-true (leb object-limit (length cs)) (le→leb object-limit (length cs) lc))
 
-    pub misfit-refused : (cs : List ℕ) (e : machine.Event) (t : ℕ) → object-limit ≤ length cs → t < header-at (m .objects) .next → fits (getD (m .tasks) t no-record) ≡ false
+    pub unfit-refused : (cs : List ℕ) (e : machine.Event) (t : ℕ) → object-limit ≤ length cs → t < header-at (m .objects) .next → fits (getD (m .tasks) t no-record) ≡ false
         → records-step m cs e ≡ refused-as m cs 2
     unfolding records-step saved
-    misfit-refused cs e t lc h f =
+    unfit-refused cs e t lc h f =
         let n = header-at (m .objects) .next in
-        let unsound : sound (laid-out n) ≡ false = misfit-unsound (m .tasks) t f (m .objects) (m .places) (m .queue) [] h in
+        let unsound : sound (laid-out n) ≡ false = unfit-unsound (m .tasks) t f (m .objects) (m .places) (m .queue) [] h in
         let core : lent-of (store-of (rows-of (m .tasks) n) (m .objects) (m .places) (m .queue) (lent-step (laid-out n) cs e .store .log)) cs (Answer.Refused 2) 0 ≡ lent-step (laid-out n) cs e
         = not-sound (rows-of (m .tasks) n) (m .objects) (m .places) (m .queue) cs [] e (all-right cs lc n) refl refl unsound in
         ap (λ (b : Bool). pick b (gone-back (m .tasks) (lent-step (laid-out (next-in (m .objects))) cs e)) (refused-as m cs 1)) (eq-eqb _ _ l)
         ∙ ap (λ (k : ℕ). gone-back (m .tasks) (lent-step (laid-out k) cs e)) next-is
         ∙ sym (ap (gone-back (m .tasks)) core)
+
+    -- a read too
+    pub unfit-unread : (e : machine.Event) (t : ℕ) → t < header-at (m .objects) .next → fits (getD (m .tasks) t no-record) ≡ false
+        → records-read m e ≡ machine.Answer.refused 2
+    unfolding records-read lent-read slices-right
+    unfit-unread e t h f =
+        let n = header-at (m .objects) .next in
+        let unsound : sound (laid-out n) ≡ false = unfit-unsound (m .tasks) t f (m .objects) (m .places) (m .queue) [] h in
+        ap (λ (b : Bool). pick b (lent-read (laid-out (next-in (m .objects))) e .answer) (machine.Answer.refused 1)) (eq-eqb _ _ l)
+        ∙ ap (λ (k : ℕ). lent-read (laid-out k) e .answer) next-is
+        ∙ ap (λ (b : Bool). pick b (step (laid-out n) e) (record { store = laid-out n; answer = machine.Answer.refused 1 }) .answer) (sym (slices-are n))
+        ∙ ap (λ (x : Step). x .answer) (step-unsound (laid-out n) e unsound)

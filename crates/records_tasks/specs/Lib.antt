@@ -2,4 +2,4 @@ pub mod TaskRecord
 pub mod TaskRecordLaws
 pub mod TaskRows
 pub mod TaskRowsLaws
-pub mod MisfitLaws
+pub mod UnfitLaws

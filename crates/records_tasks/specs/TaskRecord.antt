@@ -69,12 +69,12 @@ state-with (RecordState.Blocked o) x = TaskState.Blocked o
 
 -- What a record that does not fit stands for: a task that no row in use of a sound store has. Its coroutine's number is out of range, so that its words are
 -- not canonical, and the event is refused with 2 by the check that every store gets. So no check of records is needed beside that one.
-abbrev pub misfit : Task
-misfit = record { state = TaskState.Absent; awaiter = Awaiter.Nobody; coroutine = heap-id object-limit }
+abbrev pub unfit-task : Task
+unfit-task = record { state = TaskState.Absent; awaiter = Awaiter.Nobody; coroutine = heap-id object-limit }
 
 -- The task that a record stands for.
 abbrev pub task-of : TaskRecord → Task
-task-of r = pick (fits r) (record { state = state-with (r .state) (r .delivered); awaiter = r .awaiter; coroutine = r .coroutine }) misfit
+task-of r = pick (fits r) (record { state = state-with (r .state) (r .delivered); awaiter = r .awaiter; coroutine = r .coroutine }) unfit-task
 
 -- what stands past the end of a slice of records
 abbrev pub no-record : TaskRecord

@@ -12,7 +12,7 @@ use Rattle.rows.specs.RowLaws.{row-put-at}
 use Rattle.rows.specs.Canonical.{same-words, task-canonical}
 use Rattle.records_tasks.specs.declared.RecordState.{RecordState}
 use Rattle.records_tasks.specs.declared.TaskRecord.{TaskRecord}
-use Rattle.records_tasks.specs.TaskRecord.{state-in, delivered-in, record-of, fit-together, fits, state-with, misfit, task-of}
+use Rattle.records_tasks.specs.TaskRecord.{state-in, delivered-in, record-of, fit-together, fits, state-with, unfit-task, task-of}
 
 -- ---- from a task to its record and back
 
@@ -74,12 +74,12 @@ record-back r f = rw (f, state-kept (r .state) (r .delivered) f, value-kept (r .
 
 -- ---- a record that does not fit
 
-pub is-misfit : (r : TaskRecord) → fits r ≡ false → task-of r ≡ misfit
-is-misfit r f = rw f
+pub unfit-is : (r : TaskRecord) → fits r ≡ false → task-of r ≡ unfit-task
+unfit-is r f = rw f
 
 -- its words are not canonical
-pub misfit-not-canonical : (w : List ℕ) (t : ℕ) (r : TaskRecord) → fits r ≡ false → t * 8 + 8 ≤ length w → task-canonical (task-put w t (task-of r)) t ≡ false
+pub unfit-not-canonical : (w : List ℕ) (t : ℕ) (r : TaskRecord) → fits r ≡ false → t * 8 + 8 ≤ length w → task-canonical (task-put w t (task-of r)) t ≡ false
 unfolding task-canonical task-put same-words
-misfit-not-canonical w t r f h =
-    ap (λ (x : Task). task-canonical (task-put w t x) t) (is-misfit r f)
-    ∙ ap (λ (x : List ℕ). same-words (task-codec .words (task-codec .reads x)) x) (row-put-at task-codec w (task-start t) misfit h)
+unfit-not-canonical w t r f h =
+    ap (λ (x : Task). task-canonical (task-put w t x) t) (unfit-is r f)
+    ∙ ap (λ (x : List ℕ). same-words (task-codec .words (task-codec .reads x)) x) (row-put-at task-codec w (task-start t) unfit-task h)

@@ -21,28 +21,28 @@ use Rattle.machine_laws.specs.TestLaws.{holds, both-left}
 use Rattle.machine_laws.specs.WordLaws.{words-facts}
 use Rattle.records_tasks.specs.declared.TaskRecord.{TaskRecord}
 use Rattle.records_tasks.specs.TaskRecord.{no-record, fits, task-of}
-use Rattle.records_tasks.specs.TaskRecordLaws.{misfit-not-canonical}
+use Rattle.records_tasks.specs.TaskRecordLaws.{unfit-not-canonical}
 use Rattle.records_tasks.specs.TaskRows.{loaded, rows-of}
 use Rattle.records_tasks.specs.TaskRowsLaws.{length-loaded, rows-are}
 
 module _ (ts : List TaskRecord) (t : ℕ) (f : fits (getD ts t no-record) ≡ false) where
   -- the record laid out as row n: that of record t, or a row behind it
-  put-misfit : (n : ℕ) (w : List ℕ) → t < suc n → n < task-limit → length w ≡ tasks-length → (t < n → task-canonical w t ≡ false)
+  put-unfit : (n : ℕ) (w : List ℕ) → t < suc n → n < task-limit → length w ≡ tasks-length → (t < n → task-canonical w t ≡ false)
       → task-canonical (task-put w n (task-of (getD ts n no-record))) t ≡ false
   unfolding task-canonical task-put
-  put-misfit n w h m l before = by (decLt t n)
+  put-unfit n w h m l before = by (decLt t n)
     where
       by : Dec (t < n) → task-canonical (task-put w n (task-of (getD ts n no-record))) t ≡ false
       by (yes k) = canonical-apart task-codec w (task-start n) (task-start t) (task-of (getD ts n no-record)) (inr (omega arith)) ∙ before k
       by (no k) =
           let e : t ≡ n = omega arith in
-          subst (λ (j : ℕ). task-canonical (task-put w j (task-of (getD ts j no-record))) t ≡ false) e (misfit-not-canonical w t (getD ts t no-record) f (omega arith))
+          subst (λ (j : ℕ). task-canonical (task-put w j (task-of (getD ts j no-record))) t ≡ false) e (unfit-not-canonical w t (getD ts t no-record) f (omega arith))
 
   -- the first n records laid out
-  row-misfits : (n : ℕ) (w : List ℕ) → t < n → n ≤ task-limit → length w ≡ tasks-length → task-canonical (loaded ts n w) t ≡ false
+  row-unfit : (n : ℕ) (w : List ℕ) → t < n → n ≤ task-limit → length w ≡ tasks-length → task-canonical (loaded ts n w) t ≡ false
   unfolding loaded
-  row-misfits zero w h m l = absurd (not-suc-le-zero h)
-  row-misfits (suc n) w h m l = put-misfit n (loaded ts n w) h (omega arith) (length-loaded ts n w ∙ l) (λ k. row-misfits n w k (omega arith) l)
+  row-unfit zero w h m l = absurd (not-suc-le-zero h)
+  row-unfit (suc n) w h m l = put-unfit n (loaded ts n w) h (omega arith) (length-loaded ts n w ∙ l) (λ k. row-unfit n w k (omega arith) l)
 
   module _ (os ps : List ℕ) (q : ReadyQueue) (l : List LogEntry) (h : t < header-at os .next) where
     -- the store with the words of the records in use
@@ -52,7 +52,7 @@ module _ (ts : List TaskRecord) (t : ℕ) (f : fits (getD ts t no-record) ≡ fa
     row-laid-out : task-canonical (rows-of ts (header-at os .next)) t ≡ false
     row-laid-out =
         ap (λ (w : List ℕ). task-canonical w t) (sym (rows-are ts (header-at os .next)))
-        ∙ row-misfits (header-at os .next) (replicate tasks-length 0) h (header-at-fits os .next-fits) (length-replicate {A = ℕ} tasks-length 0)
+        ∙ row-unfit (header-at os .next) (replicate tasks-length 0) h (header-at-fits os .next-fits) (length-replicate {A = ℕ} tasks-length 0)
 
     unsound-by : (b : Bool) → sound laid-out ≡ b → sound laid-out ≡ false
     unfolding sound header
@@ -61,5 +61,5 @@ module _ (ts : List TaskRecord) (t : ℕ) (f : fits (getD ts t no-record) ≡ fa
         let right : T (task-canonical (rows-of ts (header-at os .next)) t) = words-facts laid-out (both-left (words-in-range laid-out) (sound-view (view laid-out)) (holds _ e)) .tasks-right t h in
         absurd (subst T row-laid-out right)
 
-    pub misfit-unsound : sound laid-out ≡ false
-    misfit-unsound = unsound-by (sound laid-out) refl
+    pub unfit-unsound : sound laid-out ≡ false
+    unfit-unsound = unsound-by (sound laid-out) refl
