@@ -30,10 +30,10 @@ STRUCT, HOME, SIZE = "TaskRecord", "records_tasks", "48"  # the struct, the crat
 MARK = "[u8; 251]"  # what stands for it in the copy: a type that no crate has
 
 # crate: functions that are made; functions that reach into an element and are proved by a walk, and that the made ones call; functions over the slice of the
-# crate below that they call
+# crate below that they call. (Other functions over the slice are left out of the copy: tools/entries.py writes their proofs)
 TABLE = {
     "records_tasks": dict(made=["load", "save"], walked=["task_at", "put_task"], below=[]),
-    "records_session": dict(made=["dispatch", "dispatch_plain", "gather", "results", "begin", "show", "eager"], walked=[], below=["load", "save"]),
+    "records_session": dict(made=["dispatch", "begin", "show", "eager"], walked=[], below=["load", "save"]),
 }
 
 

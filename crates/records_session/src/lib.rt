@@ -16,7 +16,7 @@ use records_words::rows_in_use;
 use step_event::Answered;
 use step_event::Event;
 use step_read::Reading;
-ghost use mathlib.Core.List.{[], _∷_};
+ghost use mathlib.Core.List.{[]};
 ghost use Rattle.machine.specs.Machine as machine;
 ghost use Rattle.exec_switch.specs.Answer.{answer-of};
 ghost use Rattle.exec_futures.specs.Results.{results-in};
@@ -81,10 +81,8 @@ fn dispatch_plain(
     queue: ReadyQueue,
     event: Event,
 ) -> Answered
-    ensures { λ r. ⌜ RecordsStep tasks objects places calls queue (event-of (0 ∷ []) (0 ∷ []) event) r ⌝ }
+    ensures { λ r. ⌜ RecordsStep tasks objects places calls queue (event-of [] [] event) r ⌝ }
 {
-    let items = [0u16; 1];
-    let results = [0u8; 1];
     dispatch(
         tasks,
         objects,
@@ -92,8 +90,8 @@ fn dispatch_plain(
         calls,
         queue,
         event,
-        &items,
-        &results,
+        &[0; 0],
+        &[0; 0],
     )
 }
 
@@ -213,7 +211,7 @@ pub fn gather(
         queue,
         Event::Gather,
         items,
-        &[0; 1],
+        &[0; 0],
     )
 }
 
@@ -278,7 +276,7 @@ pub fn results(
         calls,
         queue,
         Event::Results,
-        &[0; 1],
+        &[0; 0],
         results,
     )
 }

@@ -39,7 +39,7 @@ use denote.Triple.Walked.{says, Stays, stay-none, gave-slice, walkOf, goes-none,
 use denote.Exit.{yes}
 use Rattle.asyncio.proofs.Value as Value
 use Rattle.asyncio.proofs.Value.Laws as ValueL
-use Rattle.asyncio.specs.declared.Value as Value′
+use Rattle.asyncio.specs.declared.Value.{Value}
 use Rattle.queue.specs.declared.ReadyQueue.{ReadyQueue}
 use Rattle.queue.proofs.ReadyQueue as Q
 use Rattle.queue.proofs.ReadyQueue.Laws as Q′
@@ -79,7 +79,7 @@ abbrev Last : Type 0
 Last = List TaskRecord × (List ℕ × (List ℕ × (List ℕ × (Unit {0} × (Unit {0} × Unit {0})))))
 
 module _ {M : Type 1} (𝓤 : URA M) (H : Heap 𝓤) (A : Atoms 𝓤) (W : Given 𝓤 H A) (mem : Memory → SProp 𝓤) (run : Routine → Fun 𝓤) (κs : Lfts 4) (qs : Shares 4)
-    (d : ReadyQueue) (x₀ : RefT (List TaskRecord)) (x₁ : RefT (List ℕ)) (x₂ : RefT (List ℕ)) (x₃ : RefT (List ℕ)) (y₀ : Value′.Value) (gq : Is Q.the-row d (LL.vals Q.the-type Q′.the-laws d)) (r₀ : Room R (length (x₀ .now))) (r₁ : Room u64 (length (x₁ .now))) (r₂ : Room u64 (length (x₂ .now))) (r₃ : Room u64 (length (x₃ .now))) (g₀ : Is Value.the-row y₀ (EL.vals Value.the-type ValueL.the-laws y₀)) where
+    (d : ReadyQueue) (x₀ : RefT (List TaskRecord)) (x₁ : RefT (List ℕ)) (x₂ : RefT (List ℕ)) (x₃ : RefT (List ℕ)) (y₀ : Value) (gq : Is Q.the-row d (LL.vals Q.the-type Q′.the-laws d)) (r₀ : Room R (length (x₀ .now))) (r₁ : Room u64 (length (x₁ .now))) (r₂ : Room u64 (length (x₂ .now))) (r₃ : Room u64 (length (x₃ .now))) (g₀ : Is Value.the-row y₀ (EL.vals Value.the-type ValueL.the-laws y₀)) where
   -- the event, and what it is known by
   abbrev e : Event
   e = Event.Complete y₀
@@ -115,40 +115,38 @@ module _ {M : Type 1} (𝓤 : URA M) (H : Heap 𝓤) (A : Atoms 𝓤) (W : Given
   abbrev Post : Val → SProp 𝓤
   Post = walkOf 𝓤 H A me.ended stayed (me.clauses 𝓤 H A mem run) .post ((κs, qs, tt, a, at), tt)
 
+  abbrev toks : Item 𝓤
+  toks = ‵ (flft (κs .0) (qs .0)) ⊛ ‵ (flft (κs .1 .0) (qs .1 .0)) ⊛ ‵ (flft (κs .1 .1 .0) (qs .1 .1 .0)) ⊛ ‵ (flft (κs .1 .1 .1 .0) (qs .1 .1 .1 .0)) ⊛ ‵ ftrue
+
   -- what `dispatch_plain` is passed
-  abbrev a′ : Args disp.signature κs
+  abbrev a′ : Args disp.signature (κs .0, (κs .1 .0, (κs .1 .1 .0, (κs .1 .1 .1 .0, tt))))
   a′ = (x₀, (x₁, (x₂, (x₃, (d, (e, tt))))))
 
-  abbrev at′ : Vals disp.signature κs
+  abbrev at′ : Vals disp.signature (κs .0, (κs .1 .0, (κs .1 .1 .0, (κs .1 .1 .1 .0, tt))))
   at′ = (s₀ ∷ [], (s₁ ∷ [], (s₂ ∷ [], (s₃ ∷ [], (m ∷ [], (ve ∷ [], tt))))))
 
   abbrev to : Disp 𝓤 H A mem run .Ghost
-  to = ((κs, qs, tt, a′, at′), tt)
+  to = (((κs .0, (κs .1 .0, (κs .1 .1 .0, (κs .1 .1 .1 .0, tt)))), (qs .0, (qs .1 .0, (qs .1 .1 .0, (qs .1 .1 .1 .0, tt)))), tt, a′, at′), tt)
 
-  abbrev toks : Item 𝓤
-  toks = ‵ (flft (κs .0) (qs .0)) ⊛ ‵ (flft (κs .1 .0) (qs .1 .0)) ⊛ ‵ (flft (κs .1 .1 .0) (qs .1 .1 .0)) ⊛ ‵ (flft (κs .1 .1 .1 .0) (qs .1 .1 .1 .0)) ⊛ ‵ ftrue
+  abbrev toks′ : Item 𝓤
+  toks′ = ‵ (flft (κs .0) (qs .0)) ⊛ ‵ (flft (κs .1 .0) (qs .1 .0)) ⊛ ‵ (flft (κs .1 .1 .0) (qs .1 .1 .0)) ⊛ ‵ (flft (κs .1 .1 .1 .0) (qs .1 .1 .1 .0)) ⊛ ‵ ftrue
 
   goes : ent 𝓤 (onEntry 𝓤 H A me.signature κs qs a at) (Disp 𝓤 H A mem run .pre to)
   goes =
       qed W (toks ∷ ‵ (owns (MutSlice (named 0) (κs .0) R ∷ MutSlice (named 1) (κs .1 .0) u64 ∷ MutSlice (named 2) (κs .1 .1 .0) u64 ∷ MutSlice (named 3) (κs .1 .1 .1 .0) u64 ∷ Q.the-row ∷ Value.the-row ∷ []) a at) ∷ []) ∵
-      move ! (1 ∷ []) $ fsplit ! $ move ! (1 ∷ []) $ fsplit ! $ move ! (1 ∷ []) $ fsplit ! $ move ! (1 ∷ []) $ fsplit ! $ move ! (1 ∷ []) $ fsplit ! $ move ! (1 ∷ []) $ drop ! $
-      -- [queue; calls; places; objects; tasks; the tokens]: the event takes the place of what it is made of
-      nothing ! $ owned ! Ev.the-row (Is Ev.the-row) (EL.makes Ev.the-type Ev′.the-plain 𝓤 H A) e _ made $ fjoin ! $ move ! (1 ∷ 0 ∷ []) $ fjoin ! $ move ! (1 ∷ 0 ∷ []) $ fjoin ! $ move ! (1 ∷ 0 ∷ []) $ fjoin ! $ move ! (1 ∷ 0 ∷ []) $ fjoin ! $ move ! (1 ∷ 0 ∷ []) $ fjoin ! $
-      move ! (1 ∷ 0 ∷ []) $ join ! $ frame ! $ done !
+      move ! (1 ∷ []) $ fsplit ! $ move ! (1 ∷ []) $ fsplit ! $ move ! (1 ∷ []) $ fsplit ! $ move ! (1 ∷ []) $ fsplit ! $ move ! (1 ∷ []) $ fsplit ! $ move ! (1 ∷ []) $ drop ! $ nothing ! $ owned ! Ev.the-row (Is Ev.the-row) (EL.makes Ev.the-type Ev′.the-plain 𝓤 H A) e _ made $ fjoin ! $ move ! (1 ∷ 0 ∷ []) $ fjoin ! $ move ! (1 ∷ 0 ∷ []) $ fjoin ! $ move ! (1 ∷ 0 ∷ []) $ fjoin ! $ move ! (1 ∷ 0 ∷ []) $ fjoin ! $ move ! (1 ∷ 0 ∷ []) $ fjoin ! $ move ! (1 ∷ 0 ∷ []) $ join ! $ frame ! $ done !
 
   abbrev Says : Answered → Last → Type 0
   Says r z =
       records-of (record { tasks = z .0; objects = z .1 .0; places = z .1 .1 .0; queue = r .queue }) (z .1 .1 .1 .0) (r .answer) (r .calls)
-      ≡ records-step (record { tasks = x₀ .now; objects = x₁ .now; places = x₂ .now; queue = d }) (x₃ .now) (event-of (0 ∷ []) (0 ∷ []) e)
+      ≡ records-step (record { tasks = x₀ .now; objects = x₁ .now; places = x₂ .now; queue = d }) (x₃ .now) (event-of [] [] e)
 
   exits : (r : Answered) (w : Val) (z : Last) → Says r z → length (z .0) ≡ length (x₀ .now) → length (z .1 .0) ≡ length (x₁ .now) → length (z .1 .1 .0) ≡ length (x₂ .now) → length (z .1 .1 .1 .0) ≡ length (x₃ .now)
-      → ent 𝓤 (⋆ 𝓤 H A (‵ (An.the-row .own r (w ∷ [])) ∷ toks ∷ ‵ (finally u64 (x₃ .name) (z .1 .1 .1 .0)) ∷ ‵ (finally u64 (x₂ .name) (z .1 .1 .0)) ∷ ‵ (finally u64 (x₁ .name) (z .1 .0)) ∷ ‵ (finally R (x₀ .name) (z .0)) ∷ [])) (Post w)
+      → ent 𝓤 (⋆ 𝓤 H A (‵ (An.the-row .own r (w ∷ [])) ∷ toks′ ∷ ‵ (finally u64 (x₃ .name) (z .1 .1 .1 .0)) ∷ ‵ (finally u64 (x₂ .name) (z .1 .1 .0)) ∷ ‵ (finally u64 (x₁ .name) (z .1 .0)) ∷ ‵ (finally R (x₀ .name) (z .0)) ∷ [])) (Post w)
   exits r w z f l₀ l₁ l₂ l₃ =
-      qed W (‵ (An.the-row .own r (w ∷ [])) ∷ toks ∷ ‵ (finally u64 (x₃ .name) (z .1 .1 .1 .0)) ∷ ‵ (finally u64 (x₂ .name) (z .1 .1 .0)) ∷ ‵ (finally u64 (x₁ .name) (z .1 .0)) ∷ ‵ (finally R (x₀ .name) (z .0)) ∷ []) ∵
+      qed W (‵ (An.the-row .own r (w ∷ [])) ∷ toks′ ∷ ‵ (finally u64 (x₃ .name) (z .1 .1 .1 .0)) ∷ ‵ (finally u64 (x₂ .name) (z .1 .1 .0)) ∷ ‵ (finally u64 (x₁ .name) (z .1 .0)) ∷ ‵ (finally R (x₀ .name) (z .0)) ∷ []) ∵
       suffices ! _ (ends-at 𝓤 H A me.ended stayed (me.clauses 𝓤 H A mem run) W ((κs, qs, tt, a, at), tt) w r (z .0, (z .1 .0, (z .1 .1 .0, (z .1 .1 .1 .0, (tt, (tt, tt)))))) (l₀, (l₁, (l₂, (l₃, (tt, (tt, tt))))))) $ says ! f $
-      move ! (1 ∷ []) $ frame ! $ nothing ! $ owned ! Value.the-row (Is Value.the-row) (EL.makes Value.the-type ValueL.the-plain 𝓤 H A) y₀ _ g₀ $ fjoin ! $
-      owned ! Q.the-row (Is Q.the-row) (LL.makes Q.the-type Q′.the-plain 𝓤 H A) d _ gq $ fjoin ! $
-      move ! (2 ∷ 0 ∷ []) $ fjoin ! $ move ! (2 ∷ 0 ∷ []) $ fjoin ! $ move ! (2 ∷ 0 ∷ []) $ fjoin ! $ move ! (2 ∷ 0 ∷ []) $ fjoin ! $ frame ! $ done !
+      move ! (1 ∷ []) $ frame ! $ nothing ! $ owned ! Value.the-row (Is Value.the-row) (EL.makes Value.the-type ValueL.the-plain 𝓤 H A) y₀ _ g₀ $ fjoin ! $ owned ! Q.the-row (Is Q.the-row) (LL.makes Q.the-type Q′.the-plain 𝓤 H A) d _ gq $ fjoin ! $ move ! (2 ∷ 0 ∷ []) $ fjoin ! $ move ! (2 ∷ 0 ∷ []) $ fjoin ! $ move ! (2 ∷ 0 ∷ []) $ fjoin ! $ move ! (2 ∷ 0 ∷ []) $ fjoin ! $ frame ! $ done !
 
   module _ (C : Calls 𝓤 H) (Λ : Loops 𝓤 H) (fm : FmC 𝓤 H (W .laws) C) (known : Triple 𝓤 (C #records_session·dispatch-plain) (Disp 𝓤 H A mem run)) where
     walk : ent 𝓤 (onEntry 𝓤 H A me.signature κs qs a at) (WpFn 𝓤 H C Λ code.function (s₀ ∷ s₁ ∷ s₂ ∷ s₃ ∷ m ∷ EL.val Value.the-type ValueL.the-laws y₀ ∷ []) Post)
@@ -167,22 +165,21 @@ module _ {M : Type 1} (𝓤 : URA M) (H : Heap 𝓤) (A : Atoms 𝓤) (W : Given
         assigns ! (agg ! (and-then ! (load ! (from ! (stop !)) (look ! 8 refl)) (and-then ! (load ! (from ! (fld ! refl (stop !))) (look-in ! 24 (sub ! 1 refl (whole !)))) (no-more !)))) (from ! (stop !)) (init ! 6 refl (tt, (tt, (record { fits = r₂ .0 }, tt)))) $
         assigns ! (addr ! (from ! (fld ! refl (hop ! (look-in ! 22 (sub ! 0 refl (whole !))) (stop !))))) (from ! (stop !)) (init ! 4 refl (tt, tt)) $
         assigns ! (agg ! (and-then ! (load ! (from ! (stop !)) (look ! 4 refl)) (and-then ! (load ! (from ! (fld ! refl (stop !))) (look-in ! 22 (sub ! 1 refl (whole !)))) (no-more !)))) (from ! (stop !)) (init ! 2 refl (tt, (tt, (record { fits = r₃ .0 }, tt)))) $
-        -- the event
         assigns ! (agg ! (and-then ! (lit ! tt) (and-then ! (load ! (from ! (stop !)) (look ! 18 refl)) (no-more !)))) (from ! (stop !)) (init ! 0 refl (EL.lawful Ev.the-type Ev′.the-laws 𝓤 H A W tt .typed e _ made .0)) $
         move ! (32 ∷ []) $ use1 W (raw (Disp 𝓤 H A mem run .pre to)) goes $
-        calls-at ! fm (Disp 𝓤 H A mem run) known to (and-then ! (load ! (from ! (stop !)) (look ! 15 refl)) (and-then ! (load ! (from ! (stop !)) (look ! 11 refl)) (and-then ! (load ! (from ! (stop !)) (look ! 7 refl)) (and-then ! (load ! (from ! (stop !)) (look ! 3 refl)) (and-then ! (load ! (from ! (stop !)) (look ! 21 refl)) (and-then ! (load ! (from ! (stop !)) (look ! 1 refl)) (no-more !))))))) (λ w.
-        use1 W (later (some (λ (r : Answered). (toks ⊛ ‵ (An.the-row .own r (w ∷ []))) ⊛ raw (ensured 𝓤 H A disp.ended (disp.clauses 𝓤 H A mem run) κs a′ tt r)))) (id⊢ 𝓤 _) $ await ! tt $ pick ! (λ r.
+        calls-at ! fm (Disp 𝓤 H A mem run) known (to) (and-then ! (load ! (from ! (stop !)) (look ! 15 refl)) (and-then ! (load ! (from ! (stop !)) (look ! 11 refl)) (and-then ! (load ! (from ! (stop !)) (look ! 7 refl)) (and-then ! (load ! (from ! (stop !)) (look ! 3 refl)) (and-then ! (load ! (from ! (stop !)) (look ! 21 refl)) (and-then ! (load ! (from ! (stop !)) (look ! 1 refl)) (no-more !))))))) (λ w.
+        use1 W (later (some (λ (r : Answered). (toks′ ⊛ ‵ (An.the-row .own r (w ∷ []))) ⊛ raw (ensured 𝓤 H A disp.ended (disp.clauses 𝓤 H A mem run) (κs .0, (κs .1 .0, (κs .1 .1 .0, (κs .1 .1 .1 .0, tt)))) (a′) tt r)))) (id⊢ 𝓤 _) $ await ! tt $ pick ! (λ r.
         -- what `dispatch_plain` ensures, at some last lists
-        split ! $ move ! (1 ∷ []) $ use1 W (some (λ (z : Last). ‵ (lasts disp.ended κs a′ z) ⊛ raw (fact 𝓤 (Says r z)))) (id⊢ 𝓤 _) $ pick ! (λ z.
+        split ! $ move ! (1 ∷ []) $ use1 W (some (λ (z : Last). ‵ (lasts disp.ended (κs .0, (κs .1 .0, (κs .1 .1 .0, (κs .1 .1 .1 .0, tt)))) (a′) z) ⊛ raw (fact 𝓤 (Says r z)))) (id⊢ 𝓤 _) $ pick ! (λ z.
         split ! $ move ! (1 ∷ []) $ heard ! (Says r z) (λ f.
-        fsplit ! $ fsplit ! $ move ! (1 ∷ []) $ feqL ! (λ g₀′. move ! (1 ∷ []) $ fsplit ! $ fsplit ! $ move ! (1 ∷ []) $ feqL ! (λ g₁′. move ! (1 ∷ []) $ fsplit ! $ fsplit ! $ move ! (1 ∷ []) $ feqL ! (λ g₂′. move ! (1 ∷ []) $ fsplit ! $ fsplit ! $ move ! (1 ∷ []) $ feqL ! (λ g₃′. move ! (1 ∷ []) $
+        fsplit ! $ fsplit ! $ move ! (1 ∷ []) $ feqL ! (λ h₀. move ! (1 ∷ []) $ fsplit ! $ fsplit ! $ move ! (1 ∷ []) $ feqL ! (λ h₁. move ! (1 ∷ []) $ fsplit ! $ fsplit ! $ move ! (1 ∷ []) $ feqL ! (λ h₂. move ! (1 ∷ []) $ fsplit ! $ fsplit ! $ move ! (1 ∷ []) $ feqL ! (λ h₃. move ! (1 ∷ []) $
         drop ! $ move ! (4 ∷ []) $ split ! $ move ! (1 ∷ []) $
         -- [the result; the tokens; the last lists of calls, places, objects and tasks; the locals, the last first]
         peeks ! An.the-row (Is An.the-row) (shows 𝓤 H A An.the-row) r (w ∷ []) (λ is.
         land ! (from ! (stop !)) (init ! 36 refl (LL.lawful An.the-type An′.the-laws 𝓤 H A W .typed r _ is .0)) $ returns ! (look ! 36 refl) $
         forget ! 6 refl $ forget ! 8 refl $ forget ! 10 refl $ forget ! 12 refl $ forget ! 14 refl $ forget ! 16 refl $ forget ! 18 refl $ forget ! 20 refl $ forget ! 22 refl $ forget ! 24 refl $ forget ! 26 refl $ forget ! 28 refl $ forget ! 30 refl $ forget ! 32 refl $ forget ! 34 refl $ forget ! 36 refl $
         move ! (36 ∷ 37 ∷ []) $ free1 ! $ move ! (34 ∷ 35 ∷ []) $ free1 ! $ move ! (32 ∷ 33 ∷ []) $ free1 ! $ move ! (30 ∷ 31 ∷ []) $ free1 ! $ move ! (28 ∷ 29 ∷ []) $ free1 ! $ move ! (26 ∷ 27 ∷ []) $ free1 ! $ move ! (24 ∷ 25 ∷ []) $ free1 ! $ move ! (22 ∷ 23 ∷ []) $ free1 ! $ move ! (20 ∷ 21 ∷ []) $ free1 ! $ move ! (18 ∷ 19 ∷ []) $ free1 ! $ move ! (16 ∷ 17 ∷ []) $ free1 ! $ move ! (14 ∷ 15 ∷ []) $ free1 ! $ move ! (12 ∷ 13 ∷ []) $ free1 ! $ move ! (10 ∷ 11 ∷ []) $ free1 ! $ move ! (8 ∷ 9 ∷ []) $ free1 ! $ move ! (6 ∷ 7 ∷ []) $ free1 ! $ free0 ! $
-        by ! (exits r w z f g₀′ g₁′ g₂′ g₃′))))))))))))))))))))))))))
+        by ! (exits r w z f h₀ h₁ h₂ h₃))))))))))))))))))))))))))
 
 module _ {M : Type 1} (𝓤 : URA M) (H : Heap 𝓤) (A : Atoms 𝓤) (W : Given 𝓤 H A) (mem : Memory → SProp 𝓤) (run : Routine → Fun 𝓤) where
   walks : (C : Calls 𝓤 H) (Λ : Loops 𝓤 H) → FmC 𝓤 H (W .laws) C → Triple 𝓤 (C #records_session·dispatch-plain) (Disp 𝓤 H A mem run) → Walks 𝓤 H A me.ended stayed (WpFn 𝓤 H C Λ code.function) (me.clauses 𝓤 H A mem run)
