@@ -1,4 +1,4 @@
-// What the exported functions of `boundary` call: an event or a read on a session's memory as arrays, with the numbers of its answer.
+// What `boundary` calls: an event or a read on a session's memory as arrays, with the numbers of its answer.
 // The queue is lent as its array and its count.
 use boundary_numbers::Numbers;
 use boundary_numbers::numbers_of;

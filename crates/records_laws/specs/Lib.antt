@@ -1,0 +1,4 @@
+pub mod RecordsSessions
+pub mod UnusedRows
+pub mod LaidRows
+pub mod RecordsAreSession

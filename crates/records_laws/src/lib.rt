@@ -1,0 +1,1 @@
+// A session over task records is the session over words (specs/).

@@ -1,0 +1,5 @@
+pub mod TaskRecord
+pub mod TaskRecordLaws
+pub mod TaskRows
+pub mod TaskRowsLaws
+pub mod UnfitLaws

@@ -1,0 +1,3 @@
+pub mod RowsInUse
+pub mod OnWords
+pub mod OnWordsLaws
