@@ -158,7 +158,8 @@ def rattle():
 C_ELEMENT = {"u64": "uint64_t", "u32": "uint32_t", "u16": "uint16_t", "u8": "uint8_t", "usize": "size_t"}
 C_HEAD = f"""/* The library for C: the functions that libsozgarru.a has. {MADE}
  *
- * A session's memory is the host's. sozgarru_begin fills it; every event gets it as the last one left it. An answer is a sozgarru_numbers:
+ * A session's memory is the host's; its pieces lie apart from each other, and from what an event is given besides. sozgarru_begin fills
+ * it; every event gets it as the last one left it. An answer is a sozgarru_numbers:
  * the number of the refusal (0: accepted), the answer's word (1 made, 2 call, 3 runs, 4 waits, 5 done, 6 stalled, 7 finished, 8 eager,
  * 9 refused, 10 shows), how many values it has, and the values in the order of document 01's line; values behind them are 0. The calls of
  * a wait stand at the front of `calls`. A refused event changes nothing. Stack: docs/HOST.md. Nothing here allocates, prints or keeps a

@@ -12,12 +12,12 @@ use Rattle.machine.specs.Store.{Store, LogEntry, store-of, forget, fresh}
 use Rattle.machine.specs.Sound.{sound}
 use Rattle.machine.specs.Machine.{Event, Step, step}
 use Rattle.machine.specs.Machine as machine
-use Rattle.machine.specs.Lent.{slices-right, lengths-right, lent-by, lent-step, lent-begin}
+use Rattle.machine.specs.Lent.{slices-right, lengths-right, lent-begin}
 use Rattle.machine_laws.specs.Views.{Sized}
 use Rattle.machine_laws.specs.TestLaws.{is-true}
 use Rattle.machine_theorems.specs.Soundness.Stores.{SoundStore, sound-store-sound}
 use Rattle.machine.specs.Sessions.{InRange}
-use Rattle.machine_theorems.specs.Soundness.Sessions.{forget-sound-store, step-sound-store, fresh-sound-store}
+use Rattle.machine_theorems.specs.Soundness.Sessions.{forget-sound-store, fresh-sound-store, lent-sound-store}
 use Rattle.exec_switch.specs.Answer.{stepped-of}
 use Rattle.exec_switch.specs.declared.answer.Answer.{Answer}
 use Rattle.drive_text.specs.Out.{Out}
@@ -28,15 +28,6 @@ use Rattle.drive_answer.specs.Driver.{Asked, asked, Drives, refused-11, answere
 use Rattle.drive_answer.specs.Drove.{Drove, RecordFits, ParsedFits}
 
 -- ---- one record
-
--- an event on lent memory: the machine's, or the store as it was
-lent-sound-store : (s : Store) (l : List ℕ) (e : Event) → SoundStore s → InRange e → SoundStore (lent-step s l e .store)
-unfolding lent-step lent-by
-lent-sound-store s l e h i = by (lengths-right s l)
-  where
-    by : (b : Bool) → SoundStore (lent-by b s l e .store)
-    by false = h
-    by true = step-sound-store s h e i
 
 -- what is asked is in range
 abbrev AskedFits : Asked → Type 0

@@ -23,6 +23,7 @@ use Rattle.machine_laws.specs.SizedLaws.{step-sized, fresh-sized}
 use Rattle.machine_laws.specs.SoundLaws.{refusal-sound, refusal-rest, refusal-forget, sound-forget, making-sound}
 use Rattle.machine_theorems.specs.Soundness.Stores.{SoundStore, sound-store-of, sound-store-sound}
 use Rattle.machine_theorems.specs.Soundness.Preserved.{Acting, accept-keeps}
+use Rattle.machine.specs.Lent.{lengths-right, lent-by, lent-step}
 use Rattle.machine.specs.Sessions.{InRange}
 
 -- ---- an event that makes leaves the queue as it was
@@ -90,6 +91,15 @@ module _ (s : Store) (h : SoundStore s) where
 -- lengths, as the slices' lengths (refusal 1) and the queue's type have it.
 pub step-sound : (s : Store) (e : Event) → Sized s → length (s .queue .ids) ≡ task-limit → InRange e → refusal s e ≡ 0 → T (sound (step s e .store))
 step-sound s e z ids i r = sound-store-sound (step s e .store) (accepted s (sound-store-of s z ids (refusal-sound s e r)) e i r)
+
+-- on lent memory: refusal 1 leaves it as it was
+pub lent-sound-store : (s : Store) (l : List ℕ) (e : Event) → SoundStore s → InRange e → SoundStore (lent-step s l e .store)
+unfolding lent-step
+lent-sound-store s l e h i = by (lengths-right s l)
+  where
+    by : (b : Bool) → SoundStore (lent-by b s l e .store)
+    by true = unfold lent-by in (step-sound-store s h e i)
+    by false = unfold lent-by in h
 
 -- ---- sessions
 
