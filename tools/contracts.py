@@ -68,9 +68,9 @@ def contracts(text):
     """Each function's name, with its `requires` and `ensures`, and how long their lines are."""
     found, name, lines = {}, None, iter(text.split("\n"))
     for line in lines:
-        if m := re.match(r"\s*(?:pub(?:\(crate\))? )?fn (\w+)", line):
+        if m := re.match(r'\s*(?:pub(?:\(crate\))? )?(?:extern "C" )?fn (\w+)', line):
             name = m.group(1)
-            found[name] = {"requires": "", "ensures": "", "public": line.strip().startswith("pub fn"), "lengths": [], "parameters": []}
+            found[name] = {"requires": "", "ensures": "", "public": line.strip().startswith(("pub fn", "pub extern")), "lengths": [], "parameters": []}
             signature = line
             while not re.search(r"\)( ->.*| \{)?$", signature):
                 signature += " " + next(lines).strip()
