@@ -42,6 +42,7 @@ use Rattle.machine_laws.specs.SoundLaws.{refusal-rest, refusal-forget}
 use Rattle.machine_laws.specs.Walk.{Commits, Closed, await-kept, resume-kept, fail-kept, completion-kept, results-kept, cancel-kept, cleanup-kept}
 use Rattle.machine_laws.specs.WalkEvents.{await-low}
 use Rattle.machine_laws.specs.SizedLaws.{fresh-sized}
+use Rattle.machine_theorems.specs.Soundness.RowFacts.{ready-live, blocked-live}
 use Rattle.machine_theorems.specs.Soundness.Stores.{SoundStore}
 use Rattle.machine_theorems.specs.Soundness.Sessions.{forget-sound-store}
 
@@ -90,22 +91,6 @@ unfolding header put-header header-at header-put
 next-put s h z l =
     ap (λ (w : List ℕ). to-header w .next) (row-put-from (s .objects) 0 0 (header-words h) (omega (arith, z .objects-sized)))
     ∙ mod-eq-of-lt (omega (arith, l))
-
-ready-live : (x : TaskState) → is-ready x ≡ true → is-live x ≡ true
-ready-live TaskState.Absent e = absurd (true≢false (sym e))
-ready-live TaskState.Unstarted e = refl
-ready-live TaskState.Running e = refl
-ready-live (TaskState.Woken v) e = refl
-ready-live (TaskState.Raised x) e = refl
-ready-live (TaskState.Blocked o) e = refl
-
-blocked-live : (x : TaskState) → is-blocked x ≡ true → is-live x ≡ true
-blocked-live TaskState.Absent e = absurd (true≢false (sym e))
-blocked-live TaskState.Unstarted e = refl
-blocked-live TaskState.Running e = refl
-blocked-live (TaskState.Woken v) e = refl
-blocked-live (TaskState.Raised x) e = refl
-blocked-live (TaskState.Blocked o) e = refl
 
 -- a live task's number is below the next
 pub live-below : (m : ℕ) (s : Store) (t : ℕ) → Unused m s → is-live (task s t .state) ≡ true → t < header s .next

@@ -36,6 +36,7 @@ use Rattle.machine.specs.Honest.{exits-in}
 use Rattle.machine_laws.specs.Views.{Sized}
 use Rattle.machine_laws.specs.StoreLaws.{header-fits, task-fits, task-put-task, task-put-other, object-put-object, object-put-other, object-put-header, header-put-object, live-put-task}
 use Rattle.machine_laws.specs.StoreLaws.{sized-put-task, sized-put-object, sized-put-places, sized-put-queue, sized-add-log, sized-set-state, sized-set-moment}
+use Rattle.machine_theorems.specs.Soundness.RowFacts.{blocked-live}
 use Rattle.machine_sessions.specs.Stall.Standing.{moment-head}
 use Rattle.machine_sessions.specs.Gather.Failing.{ClimbMoves, climb-then, climb-same, climb-failed, climb-stays-failed, climb-stays-broken, climb-used, failed-awaited}
 
@@ -361,11 +362,3 @@ module _ (s m : Store) (Young : ℕ → Type 0) (B : Error → Type 0) (X : ℕ 
   unfolding make-ready push-ready exits-in spawned-by
   wakes-failing R Fr u t x l f e on k =
       neutral-failing R Fr _ (reached t) (λ i. refl) (λ i b. refl) (queue-failing R Fr _ _ (state-failing R Fr u t x l f (blocked-live (task u t .state) e) on k))
-    where
-      blocked-live : (y : TaskState) → is-blocked y ≡ true → is-live y ≡ true
-      blocked-live TaskState.Absent h = absurd (true≢false (sym h))
-      blocked-live TaskState.Unstarted h = refl
-      blocked-live TaskState.Running h = refl
-      blocked-live (TaskState.Woken v) h = refl
-      blocked-live (TaskState.Raised v) h = refl
-      blocked-live (TaskState.Blocked o) h = refl

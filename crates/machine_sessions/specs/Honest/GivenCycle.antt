@@ -37,6 +37,7 @@ use Rattle.machine.specs.Events.{start-by, start-task, activate-state, activate
 use Rattle.machine_laws.specs.StoreLaws.{task-fits, header-fits, object-put-other, task-put-task}
 use Rattle.machine_laws.specs.DeliveryLaws.{absurd-some, awaited-object, awaited-fits, length-fill-from, resolve-sent, fail-sent}
 use Rattle.machine_laws.specs.WokenLaws.{WokenFits, success-woken, failure-woken}
+use Rattle.machine_theorems.specs.Soundness.RowFacts.{blocked-live}
 use Rattle.machine_sessions.specs.Waits.Calls.{read-back, moment-row}
 use Rattle.machine_sessions.specs.Places.Telling.{new-object}
 use Rattle.machine_sessions.specs.Honest.Given.{Fate, held, ret, err, holder, fate, FateFits, fate-back, Came, Awaits, came-awaits, came-unheld, not-held, StateIs, NoTask, Given, NoneBut, NoneYet}
@@ -103,14 +104,6 @@ dead-is w F t TaskState.Running e = absurd (true≢false e)
 dead-is w F t (TaskState.Woken v) e = absurd (true≢false e)
 dead-is w F t (TaskState.Raised x) e = absurd (true≢false e)
 dead-is w F t (TaskState.Blocked b) e = absurd (true≢false e)
-
-blocked-live : (x : TaskState) → is-blocked x ≡ true → is-live x ≡ true
-blocked-live TaskState.Absent e = absurd (true≢false (sym e))
-blocked-live TaskState.Unstarted e = refl
-blocked-live TaskState.Running e = refl
-blocked-live (TaskState.Woken v) e = refl
-blocked-live (TaskState.Raised x) e = refl
-blocked-live (TaskState.Blocked o) e = refl
 
 on-blocked : (x : TaskState) (o : ℕ) → blocked-on x ≡ some o → is-blocked x ≡ true
 unfolding blocked-on

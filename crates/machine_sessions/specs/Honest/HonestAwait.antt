@@ -52,6 +52,7 @@ use Rattle.machine_laws.specs.TestLaws.{both-left, both-right}
 use Rattle.machine_theorems.specs.Soundness.Stores.{SoundStore}
 use Rattle.machine_theorems.specs.Soundness.Cycle.{spawned-of}
 use Rattle.machine_theorems.specs.Soundness.Exits.{runner-low, runner-runs}
+use Rattle.machine_theorems.specs.Soundness.RowFacts.{blocked-live}
 use Rattle.machine_sessions.specs.Queue.Tracked.{live-low, blocks-tracked, tracked-commits}
 use Rattle.machine_sessions.specs.Waits.CallEvents.{none-first}
 use Rattle.machine_sessions.specs.Places.Told.{Frozen, frozen}
@@ -457,14 +458,6 @@ module _ (h : List Entry) (s : Store) (w : SoundStore s) (k : Held h s) (ag : Ag
           apart = state-apart t F N u _ v y (j .logged .tracked .sized) l (blocked-live (task u v .state) b) (λ z. wakes-object u v y z) (λ z. wakes-task u v y z) (j .apart);
           stuck = ap (λ (z : Task). is-blocked (z .state)) (wakes-task u v y t ∙ task-put-other u v t _ (λ q. ne (sym q))) ∙ j .stuck;
         }
-      where
-        blocked-live : (y : TaskState) → is-blocked y ≡ true → is-live y ≡ true
-        blocked-live TaskState.Absent e = absurd (true≢false (sym e))
-        blocked-live TaskState.Unstarted e = refl
-        blocked-live TaskState.Running e = refl
-        blocked-live (TaskState.Woken v) e = refl
-        blocked-live (TaskState.Raised x) e = refl
-        blocked-live (TaskState.Blocked o) e = refl
 
     kept-delivers : Delivers K (Away t F)
     kept-delivers =

@@ -24,6 +24,7 @@ use Rattle.machine.specs.Honest.{named, MakesCoroutine, spawns, spawns-in, bloc
 use Rattle.machine_laws.specs.Views.{Sized}
 use Rattle.machine_laws.specs.StoreLaws.{sized-put-places, sized-put-queue}
 use Rattle.machine_laws.specs.DeliveryLaws.{awaited-object, awaited-fits, pending-object}
+use Rattle.machine_theorems.specs.Soundness.RowFacts.{ready-live}
 use Rattle.machine_sessions.specs.Queue.Tracked.{Tracked, live-is, row-tracked, exits-tracked, tracked-closed}
 use Rattle.machine_sessions.specs.Honest.Spawned.{Shape, other, new, shape, is-used, is-co, gather-shape, external-shape, old-shape, TaskFrom, Spawned, SameSpawns, same-spawns, live-below, spawned-like, row-spawned, state-spawned, gone-spawned}
 use Rattle.machine_sessions.specs.Honest.HonestWalk.{Delivers, Switching, places-task, places-object, wakes-object, wakes-task}
@@ -125,14 +126,6 @@ blocked-live TaskState.Running e = absurd (true≢false (sym e))
 blocked-live (TaskState.Woken v) e = absurd (true≢false (sym e))
 blocked-live (TaskState.Raised x) e = absurd (true≢false (sym e))
 blocked-live (TaskState.Blocked o) e = (refl, refl)
-
-ready-live : (y : TaskState) → is-ready y ≡ true → is-live y ≡ true
-ready-live TaskState.Absent e = absurd (true≢false (sym e))
-ready-live TaskState.Unstarted e = refl
-ready-live TaskState.Running e = refl
-ready-live (TaskState.Woken v) e = refl
-ready-live (TaskState.Raised x) e = refl
-ready-live (TaskState.Blocked o) e = refl
 
 module _ (h : List Entry) (x : Entry) (N : ℕ → Shape) where
   abbrev L : Store → Type 0

@@ -45,6 +45,7 @@ use Rattle.machine_laws.specs.StoreLaws.{object-fits, place-fits, task-fits, he
 use Rattle.machine_laws.specs.StoreLaws.{sized-put-task, sized-put-object, sized-put-place, sized-put-header, sized-put-places, sized-put-queue, sized-add-log, sized-set-state, sized-set-moment, sized-set-next}
 use Rattle.machine_laws.specs.DeliveryLaws.{absurd-some, awaited-object, length-fill-from}
 use Rattle.machine_laws.specs.Walk.{Turns, same, takes, starts, turns}
+use Rattle.machine_theorems.specs.Soundness.RowFacts.{blocked-live}
 use Rattle.machine_sessions.specs.Waits.Calls.{read-back, moment-row}
 use Rattle.machine_sessions.specs.Queue.Tracked.{spawn-row}
 
@@ -422,14 +423,6 @@ module _ (q : ℕ → Frozen) (n : ℕ) (i : ℕ → ℕ) (D : ℕ → Option Va
       blocked-started (TaskState.Woken v) h = refl
       blocked-started (TaskState.Raised v) h = refl
       blocked-started (TaskState.Blocked o) h = refl
-
-      blocked-live : (y : TaskState) → is-blocked y ≡ true → is-live y ≡ true
-      blocked-live TaskState.Absent h = absurd (true≢false (sym h))
-      blocked-live TaskState.Unstarted h = refl
-      blocked-live TaskState.Running h = refl
-      blocked-live (TaskState.Woken v) h = refl
-      blocked-live (TaskState.Raised v) h = refl
-      blocked-live (TaskState.Blocked o) h = refl
 
       told-now : t < header s .next → (m : ℕ) → t ≡ suc m → TaskTold D S t (task s t)
       told-now b m d =

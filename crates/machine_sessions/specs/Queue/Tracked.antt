@@ -32,6 +32,7 @@ use Rattle.machine_laws.specs.Views.{Sized}
 use Rattle.machine_laws.specs.StoreLaws.{header-fits, header-put-header, header-put-object, live-put-task, task-put-other}
 use Rattle.machine_laws.specs.StoreLaws.{sized-put-task, sized-put-object, sized-put-place, sized-put-header, sized-put-places, sized-put-queue, sized-add-log, sized-set-state, sized-set-moment, sized-set-next}
 use Rattle.machine_laws.specs.Walk.{Commits, Closed}
+use Rattle.machine_theorems.specs.Soundness.RowFacts.{blocked-live}
 
 -- l and b tell who was live and who was blocked before; nobody is blocked that was not spawned yet
 pub record Tracked (l b : ℕ → Bool) (s : Store) : Type 0 where
@@ -63,14 +64,6 @@ ready-free TaskState.Running e = absurd (true≢false (sym e))
 ready-free (TaskState.Woken v) e = (refl, refl)
 ready-free (TaskState.Raised x) e = (refl, refl)
 ready-free (TaskState.Blocked o) e = absurd (true≢false (sym e))
-
-blocked-live : (x : TaskState) → is-blocked x ≡ true → is-live x ≡ true
-blocked-live TaskState.Absent e = absurd (true≢false (sym e))
-blocked-live TaskState.Unstarted e = refl
-blocked-live TaskState.Running e = refl
-blocked-live (TaskState.Woken v) e = refl
-blocked-live (TaskState.Raised x) e = refl
-blocked-live (TaskState.Blocked o) e = refl
 
 pub live-like : (s u : Store) (t : ℕ) → header u .next ≡ header s .next → is-live (task u t .state) ≡ is-live (task s t .state) → live u t ≡ live s t
 unfolding live

@@ -28,6 +28,7 @@ use Rattle.machine_laws.specs.Views.{Sized}
 use Rattle.machine_laws.specs.Facts.{Nothing}
 use Rattle.machine_laws.specs.StoreLaws.{header-fits, live-put-task, task-put-other, sized-put-task, sized-put-queue, sized-add-log}
 use Rattle.machine_laws.specs.Walk.{walked-kept}
+use Rattle.machine_theorems.specs.Soundness.RowFacts.{ready-live, unstarted-live}
 use Rattle.machine_sessions.specs.Stall.Standing.{Stands}
 use Rattle.machine_sessions.specs.Stall.NoStall.{Source, by-external, by-gather, by-nobody, by-task, Roots, root, above, Sourced}
 use Rattle.machine_sessions.specs.Stall.TaskLog.{exits-by, used-coroutine, any-coroutine, Tasks}
@@ -44,22 +45,6 @@ pub record Removes (s u : Store) : Type 0 where
   pub queued : (t : ℕ) → is-live (task u t .state) ≡ true → 1 ≤ occurrences (entries (s .queue)) t → 1 ≤ occurrences (entries (u .queue)) t
   pub spawned : (b : Option ℕ) (t : ℕ) → spawned-by b (u .log) t ≡ spawned-by b (s .log) t
   pub exits : (b : Bool) (t : ℕ) → exits-by b (u .log) t ≡ exits-by b (s .log) t
-
-ready-live : (x : TaskState) → is-ready x ≡ true → is-live x ≡ true
-ready-live TaskState.Absent e = absurd (true≢false (sym e))
-ready-live TaskState.Unstarted e = refl
-ready-live TaskState.Running e = refl
-ready-live (TaskState.Woken v) e = refl
-ready-live (TaskState.Raised x) e = refl
-ready-live (TaskState.Blocked o) e = refl
-
-unstarted-live : (x : TaskState) → is-unstarted x ≡ true → is-live x ≡ true
-unstarted-live TaskState.Absent e = absurd (true≢false (sym e))
-unstarted-live TaskState.Unstarted e = refl
-unstarted-live TaskState.Running e = refl
-unstarted-live (TaskState.Woken v) e = refl
-unstarted-live (TaskState.Raised x) e = refl
-unstarted-live (TaskState.Blocked o) e = refl
 
 module _ (s : Store) (behind : (t : ℕ) → header s .next ≤ t → is-live (task s t .state) ≡ false) where
   -- one task goes

@@ -46,6 +46,7 @@ use Rattle.machine_theorems.specs.Soundness.Deliver.{DeliveryEnds, failure-keep
 use Rattle.machine_theorems.specs.Soundness.Cycle.{task-delivering, remove-keeps}
 use Rattle.machine_theorems.specs.Panics.NoPanicLaws.{Activated, starts, goes-on, raises-it, ready-activated, main-started}
 use Rattle.machine_theorems.specs.Panics.NoPanicWoken.{failure-activated}
+use Rattle.machine_theorems.specs.Soundness.RowFacts.{ready-live}
 use Rattle.machine_sessions.specs.Stall.Effects.{WokenBy, Effect, nobody, wakes, success-effect, failure-effect}
 use Rattle.machine_sessions.specs.Stall.Room.{room-for}
 
@@ -90,14 +91,6 @@ unfolding task put-task task-at task-put
 ready-put-task s t r z l =
     ap (λ (x : List ℕ). is-ready (to-task x .state)) (row-put-at task-codec (s .tasks) (task-start t) r (omega (arith, z .tasks-sized)))
     ∙ ready-back (r .state)
-
-ready-live : (x : TaskState) → is-ready x ≡ true → is-live x ≡ true
-ready-live TaskState.Absent e = absurd (true≢false (sym e))
-ready-live TaskState.Unstarted e = refl
-ready-live TaskState.Running e = refl
-ready-live (TaskState.Woken v) e = refl
-ready-live (TaskState.Raised x) e = refl
-ready-live (TaskState.Blocked o) e = refl
 
 blocked-unready : (x : TaskState) → is-blocked x ≡ true → is-ready x ≡ false
 blocked-unready TaskState.Absent e = absurd (true≢false (sym e))

@@ -45,7 +45,7 @@ use Rattle.machine_laws.specs.Walk.{NewCommits, Delivers, Switches, value-kept,
 use Rattle.machine_theorems.specs.Soundness.Stores.{SoundStore}
 use Rattle.machine_theorems.specs.Soundness.Exits.{runner-low, runner-runs}
 use Rattle.machine_theorems.specs.Soundness.Preserved.{running, await-made}
-use Rattle.machine_theorems.specs.Soundness.RowFacts.{items-header}
+use Rattle.machine_theorems.specs.Soundness.RowFacts.{items-header, ready-live}
 use Rattle.machine_sessions.specs.Waits.Calls.{read-back}
 use Rattle.machine_sessions.specs.Stall.Standing.{moment-head}
 use Rattle.machine_sessions.specs.Stall.StandingEvents.{MainEnds}
@@ -53,14 +53,6 @@ use Rattle.machine_sessions.specs.Queue.TrackedEvents.{items-tasks, item
 use Rattle.machine_sessions.specs.Stall.SourcedKept.{items-objects}
 use Rattle.machine_sessions.specs.Places.TellingAwait.{Row, row-commits}
 use Rattle.machine_sessions.specs.Stall.TaskLog.{exits-by, any-coroutine, used-coroutine, used-row, Tasks, tasks-same, row-tasks, turns-tasks, state-tasks, exit-tasks, spawn-tasks}
-
-ready-live : (x : TaskState) → is-ready x ≡ true → is-live x ≡ true
-ready-live TaskState.Absent e = absurd (true≢false (sym e))
-ready-live TaskState.Unstarted e = refl
-ready-live TaskState.Running e = refl
-ready-live (TaskState.Woken v) e = refl
-ready-live (TaskState.Raised x) e = refl
-ready-live (TaskState.Blocked o) e = refl
 
 blocked-is : (x : TaskState) → is-blocked x ≡ true → (is-live x ≡ true) × (is-unstarted x ≡ false)
 blocked-is TaskState.Absent e = absurd (true≢false (sym e))

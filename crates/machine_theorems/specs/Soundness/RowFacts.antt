@@ -1,15 +1,16 @@
--- Small facts of stores that several theorems use: counts stay where items are put, lengths stay where tasks are removed, an awaited gather has an open place.
-use mathlib.Core.Path.{_≡_, refl, subst}
-use mathlib.Core.Bool.{Bool, true, false}
+-- Small facts of stores that several theorems use: which states are of live tasks, counts stay where items are put, lengths stay where tasks are removed, an awaited gather has an open place.
+use mathlib.Core.Path.{_≡_, refl, sym, subst}
+use mathlib.Core.Bool.{Bool, true, false, true≢false}
 use mathlib.Core.List.{List, [], _∷_}
 use mathlib.Core.Option.{some}
 use Prim.Native.Nat.{ℕ, zero, suc, _+_, _<_, _^_}
 use lib.Dec.{T, eqb, ltb, ltb→lt}
 use Rattle.asyncio.specs.declared.OptionValue.{OptionValue}
+use Rattle.asyncio.specs.declared.TaskState.{TaskState}
 use Rattle.asyncio.specs.declared.GatherState.{GatherState}
 use Rattle.asyncio.specs.declared.Object.{Object}
 use Rattle.asyncio.specs.Numbers.{heap-id}
-use Rattle.asyncio.specs.States.{pick, is-live}
+use Rattle.asyncio.specs.States.{pick, is-live, is-ready, is-blocked, is-unstarted}
 use Rattle.machine.specs.Store.{Store, view, task, object, header, put-task, put-place, add-log, place, absent, removed}
 use Rattle.machine.specs.Scheduler.{remove-from, AwaitedGather, as-awaited}
 use Rattle.machine.specs.Events.{put-items}
@@ -20,6 +21,32 @@ use borrow.Author.Tests.{eqb-false}
 use Rattle.machine.specs.Sound.{object-in-range, open-in-range, object-filled, gather-filled, places-below}
 use Rattle.machine_laws.specs.TestLaws.{both-left, both-right, is-false}
 use Rattle.machine_laws.specs.DeliveryLaws.{awaited-object}
+
+-- ---- states of live tasks
+
+pub ready-live : (x : TaskState) → is-ready x ≡ true → is-live x ≡ true
+ready-live TaskState.Absent e = absurd (true≢false (sym e))
+ready-live TaskState.Unstarted e = refl
+ready-live TaskState.Running e = refl
+ready-live (TaskState.Woken v) e = refl
+ready-live (TaskState.Raised x) e = refl
+ready-live (TaskState.Blocked o) e = refl
+
+pub blocked-live : (x : TaskState) → is-blocked x ≡ true → is-live x ≡ true
+blocked-live TaskState.Absent e = absurd (true≢false (sym e))
+blocked-live TaskState.Unstarted e = refl
+blocked-live TaskState.Running e = refl
+blocked-live (TaskState.Woken v) e = refl
+blocked-live (TaskState.Raised x) e = refl
+blocked-live (TaskState.Blocked o) e = refl
+
+pub unstarted-live : (x : TaskState) → is-unstarted x ≡ true → is-live x ≡ true
+unstarted-live TaskState.Absent e = absurd (true≢false (sym e))
+unstarted-live TaskState.Unstarted e = refl
+unstarted-live TaskState.Running e = refl
+unstarted-live (TaskState.Woken v) e = refl
+unstarted-live (TaskState.Raised x) e = refl
+unstarted-live (TaskState.Blocked o) e = refl
 
 -- ---- what is written when a gather is made, and when the session ends
 
