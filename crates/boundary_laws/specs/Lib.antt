@@ -1,1 +1,3 @@
+pub mod HostSessions
 pub mod SoundMemoryKept
+pub mod HostIsSession

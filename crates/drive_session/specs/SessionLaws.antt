@@ -17,6 +17,7 @@ use Rattle.machine.specs.History.{Entry}
 use Rattle.machine.specs.Sessions.{Sent, is-read, read-lent, lent-any, entry-of, Session, begun, send, send-all, session}
 use Rattle.machine_laws.specs.MachineLaws.{show-step, eager-step}
 use Rattle.machine_laws.specs.SoundLaws.{step-forget}
+use Rattle.machine_sessions.specs.Queue.Following.{any-event, any-read}
 use Rattle.drive_reader.specs.declared.Record.{Record}
 use Rattle.drive_reader.specs.declared.Parsed.{Parsed}
 use Rattle.drive_reader.specs.Format.{parse}
@@ -113,14 +114,6 @@ rightly-asked src Record.Eager = (refl, λ s. eager-step s)
 abbrev sends : List ℕ → Asked → Sent
 sends l a = record { event = event-in a; list = l }
 
-any-event : (u : Store) (l : List ℕ) (e : Event) → is-read e ≡ false → lent-any u (record { event = e; list = l }) ≡ lent-step u l e
-unfolding lent-any
-any-event u l e h = rw h
-
-any-read : (u : Store) (l : List ℕ) (e : Event) → is-read e ≡ true → lent-any u (record { event = e; list = l }) ≡ lent-as (lent-read u e .store) l (lent-read u e .answer)
-unfolding lent-any read-lent
-any-read u l e h = rw h
-
 -- what the driver leaves and writes of a record, and what the session of its event has
 record Sends (s : Store) (l : List ℕ) (next number : ℕ) (u : Store) (a : Asked) : Type 0 where
   left : forget (answered s l next number a .store) ≡ forget (lent-any u (sends l a) .store)
@@ -131,16 +124,16 @@ unfolding answered event-in
 asked-sends s u l next number (Asked.event e) h q =
     let x = lent-alike l e s u q in
     record {
-      left = x .same-store ∙ ap (λ (z : Lent). forget (z .store)) (sym (any-event u l e h));
-      line-is = ap (line number) (x .same-answer ∙ ap (λ (z : Lent). z .answer) (sym (any-event u l e h)));
+      left = x .same-store ∙ ap (λ (z : Lent). forget (z .store)) (sym (any-event u (record { event = e; list = l }) h));
+      line-is = ap (line number) (x .same-answer ∙ ap (λ (z : Lent). z .answer) (sym (any-event u (record { event = e; list = l }) h)));
     }
 asked-sends s u l next number (Asked.read e) h q =
     let x = read-forget e (h .1) s in
     let y = read-forget e (h .1) u in
     record {
-      left = q ∙ sym (forget-twice u) ∙ y .same-store ∙ ap (λ (z : Lent). forget (z .store)) (sym (any-read u l e (h .0)));
+      left = q ∙ sym (forget-twice u) ∙ y .same-store ∙ ap (λ (z : Lent). forget (z .store)) (sym (any-read u (record { event = e; list = l }) (h .0)));
       line-is = ap (line number)
-          (sym (x .same-answer) ∙ ap (λ (z : Store). lent-read z e .answer) q ∙ y .same-answer ∙ ap (λ (z : Lent). z .answer) (sym (any-read u l e (h .0))));
+          (sym (x .same-answer) ∙ ap (λ (z : Store). lent-read z e .answer) q ∙ y .same-answer ∙ ap (λ (z : Lent). z .answer) (sym (any-read u (record { event = e; list = l }) (h .0))));
     }
 
 -- ---- lines

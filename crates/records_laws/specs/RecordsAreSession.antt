@@ -18,13 +18,13 @@ use Rattle.machine.specs.Sound.{sound}
 use Rattle.machine.specs.Machine.{Event, Answer, Step, refusal, accept, step}
 use Rattle.machine.specs.Lent.{Lent, slices-right, lent-step, lent-read, lent-begin}
 use Rattle.machine.specs.History.{Entry, tells}
-use Rattle.machine.specs.Sessions.{Sent, is-read, read-lent, lent-any, entry-of, Session, begun, send, send-all, session, InRange, AllSentInRange}
+use Rattle.machine.specs.Sessions.{Sent, is-read, lent-any, entry-of, Session, begun, send, send-all, session, InRange, AllSentInRange}
 use Rattle.machine_laws.specs.StoreLaws.{header-fits, sized-forget}
-use Rattle.machine_laws.specs.MachineLaws.{accepted-step, refused-step, show-step, eager-step}
+use Rattle.machine_laws.specs.MachineLaws.{accepted-step, refused-step}
 use Rattle.machine_laws.specs.SoundLaws.{sound-forget}
 use Rattle.machine_theorems.specs.Soundness.Stores.{SoundStore, sound-store-sound}
 use Rattle.machine_theorems.specs.Soundness.Sessions.{forget-sound-store, step-sound-store, fresh-sound-store}
-use Rattle.machine_sessions.specs.Queue.Following.{Sends, stepped, short, sends, accept-accepts, session-follows}
+use Rattle.machine_sessions.specs.Queue.Following.{Sends, stepped, short, sends, any-event, any-read, read-leaves, accept-accepts, session-follows}
 use Rattle.machine_sessions.specs.Gather.Batches.{lent-entry, left-alike, entry-alike}
 use Rattle.records_tasks.specs.declared.TaskRecord.{TaskRecord}
 use Rattle.records_tasks.specs.TaskRecord.{no-record, record-of}
@@ -151,32 +151,6 @@ gone-same m s x k h (accepted a) = record {
       ∙ (unfold task in refl);
 }
 
--- a read leaves the store
-read-leaves : (s : Store) (e : Event) → is-read e ≡ true → step s e .store ≡ forget s
-unfolding is-read
-read-leaves s (Event.coroutine f) r = absurd (true≢false (sym r))
-read-leaves s Event.call r = absurd (true≢false (sym r))
-read-leaves s (Event.pending c x) r = absurd (true≢false (sym r))
-read-leaves s (Event.settled v) r = absurd (true≢false (sym r))
-read-leaves s (Event.gather os) r = absurd (true≢false (sym r))
-read-leaves s (Event.await o) r = absurd (true≢false (sym r))
-read-leaves s (Event.complete v) r = absurd (true≢false (sym r))
-read-leaves s (Event.fail n) r = absurd (true≢false (sym r))
-read-leaves s (Event.results rs) r = absurd (true≢false (sym r))
-read-leaves s Event.resume r = absurd (true≢false (sym r))
-read-leaves s (Event.cancel t) r = absurd (true≢false (sym r))
-read-leaves s (Event.show o) r = show-step s o
-read-leaves s Event.eager r = eager-step s
-
--- the entry that is called
-any-event : (s : Store) (x : Sent) → is-read (x .event) ≡ false → lent-any s x ≡ lent-step s (x .list) (x .event)
-unfolding lent-any
-any-event s x r = rw r refl
-
-any-read : (s : Store) (x : Sent) → is-read (x .event) ≡ true → lent-any s x .answer ≡ lent-read s (x .event) .answer
-unfolding lent-any read-lent
-any-read s x r = rw r refl
-
 -- what an event leaves is sound, and its unused rows are 0
 sent-sound : (s : Store) (x : Sent) → InRange (x .event) → SoundStore s → SoundStore (lent-any s x .store)
 sent-sound s x i h = by (sends s x (h .memory .sized))
@@ -235,7 +209,7 @@ module _ (m : Records) (s : Store) (x : Sent) (i : InRange (x .event)) (h : Soun
   answer-same = by (is-read (x .event)) refl
     where
       by : (b : Bool) → is-read (x .event) ≡ b → pick b (records-read m (x .event)) (records-step m (x .list) (x .event) .answer) ≡ lent-any s x .answer
-      by true r = read-is ∙ sym (any-read (forget s) x r) ∙ answer-alike
+      by true r = read-is ∙ ap (λ (y : Lent). y .answer) (sym (any-read (forget s) x r)) ∙ answer-alike
       by false r = ap (λ y. y .answer) event-is ∙ ap (λ (y : Lent). y .answer) (sym (any-event (forget s) x r)) ∙ answer-alike
 
   pub left-same : SameStore (records-left m x) (lent-any s x .store)

@@ -22,13 +22,13 @@ use Rattle.machine.specs.Store.{Store, LogEntry, view, task, header, forget, fr
 use Rattle.machine.specs.Scheduler.{live, pending-call-ids}
 use Rattle.machine.specs.Events.{Switched, Awaited, activate, handle-task-completion, handle-task-failure, resume-next}
 use Rattle.machine.specs.Machine.{Event, Answer, Step, switched, answer-await, end-main, task-completes, task-fails, repeat-wait, resume-with-resolved-futures, refusal, accept, step}
-use Rattle.machine.specs.Lent.{Lent, slices-right, lengths-right, lent-by, lent-step, lent-read}
+use Rattle.machine.specs.Lent.{Lent, slices-right, lengths-right, lent-by, lent-step, lent-read, lent-as}
 use Rattle.machine.specs.History.{Entry, tells, done-only, lives-by, lives, blocked-by, stays-blocked}
 use Rattle.machine.specs.Computes.{computes}
 use Rattle.asyncio.specs.RangeLaws.{pick-has}
 use Rattle.machine_laws.specs.Views.{Sized}
 use Rattle.machine_laws.specs.StoreLaws.{sized-forget}
-use Rattle.machine_laws.specs.MachineLaws.{accepted-step, refused-step}
+use Rattle.machine_laws.specs.MachineLaws.{accepted-step, refused-step, show-step, eager-step}
 use Rattle.machine_laws.specs.SoundLaws.{refusal-forget}
 use Rattle.machine_theorems.specs.Soundness.ReadyTasks.{Queued, to-queued}
 use Rattle.machine_theorems.specs.Soundness.Stores.{SoundStore}
@@ -85,6 +85,33 @@ sends s e z = by (is-read (e .event)) refl
     by : (b : Bool) → is-read (e .event) ≡ b → Sends s e
     by true r = stepped (unfold lent-any read-lent lent-read in (rw (r, right-slices s z))) (unfold lent-any read-lent lent-read in (rw (r, right-slices s z)))
     by false r = list-by (lengths-right s (e .list)) refl r
+
+-- the entry that is called
+pub any-event : (s : Store) (x : Sent) → is-read (x .event) ≡ false → lent-any s x ≡ lent-step s (x .list) (x .event)
+unfolding lent-any
+any-event s x r = rw r refl
+
+pub any-read : (s : Store) (x : Sent) → is-read (x .event) ≡ true
+    → lent-any s x ≡ lent-as (lent-read s (x .event) .store) (x .list) (lent-read s (x .event) .answer)
+unfolding lent-any read-lent
+any-read s x r = rw r refl
+
+-- a read leaves the store
+pub read-leaves : (s : Store) (e : Event) → is-read e ≡ true → step s e .store ≡ forget s
+unfolding is-read
+read-leaves s (Event.coroutine f) r = absurd (true≢false (sym r))
+read-leaves s Event.call r = absurd (true≢false (sym r))
+read-leaves s (Event.pending c x) r = absurd (true≢false (sym r))
+read-leaves s (Event.settled v) r = absurd (true≢false (sym r))
+read-leaves s (Event.gather os) r = absurd (true≢false (sym r))
+read-leaves s (Event.await o) r = absurd (true≢false (sym r))
+read-leaves s (Event.complete v) r = absurd (true≢false (sym r))
+read-leaves s (Event.fail n) r = absurd (true≢false (sym r))
+read-leaves s (Event.results rs) r = absurd (true≢false (sym r))
+read-leaves s Event.resume r = absurd (true≢false (sym r))
+read-leaves s (Event.cancel t) r = absurd (true≢false (sym r))
+read-leaves s (Event.show o) r = show-step s o
+read-leaves s Event.eager r = eager-step s
 
 -- ---- what every session has
 
