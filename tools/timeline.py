@@ -9,6 +9,7 @@ present folder. docs/TIMELINE.md tells how to read it.
 """
 import argparse
 import pathlib
+import subprocess
 import sys
 
 from timeline import model, page, source
@@ -35,10 +36,21 @@ def main(arguments):
     parser.add_argument("--drive", help="the program drive; without it one is built in seconds, by the kit or, where that is not there, by cargo (host/rust)")
     parser.add_argument("--last", type=int, default=2000, metavar="N", help="draw the last N columns (2000)")
     given = parser.parse_args(arguments)
+    try:
+        print(write(given))
+    except OSError as error:
+        parser.exit(2, f"timeline: {error.filename}: {error.strerror}\n")
+    except subprocess.CalledProcessError as error:
+        parser.exit(2, f"timeline: {error.cmd[0]} ended with {error.returncode}\n")
+
+
+def write(given):
+    """Makes the page that the arguments ask for; where it is. FILE is opened first: a drive is not built for one that is missing."""
+    open(given.file, "rb").close()
     program, room = (given.drive, None) if given.drive else source.build()
     out = pathlib.Path(given.out or pathlib.Path(given.file).with_suffix(".html").name)
     out.write_text(make(given.file, program, max(1, given.last)), encoding="utf-8")
-    print(out)
+    return out
 
 
 if __name__ == "__main__":
