@@ -120,7 +120,7 @@ def ending(known):
         return head, text, calls
     if known.finish:
         return head, f"{text} Behind that {stop}", calls
-    return "The rest of the file", f"{capital(stop)} Missing up to there: {head[:1].lower() + head[1:]}. {text}", calls
+    return "The rest of the file", f"{stop} Missing up to there: {head[:1].lower() + head[1:]}. {text}", calls
 
 
 def stopped(known):
