@@ -67,6 +67,16 @@ def record(text):
     return head + little(len(entries), 1) + b"".join(entries)
 
 
+def repeated(event):
+    """How often a line's record stands there, and the record's text."""
+    if not event.startswith("repeat "):
+        return 1, event
+    _, times, event = (event.split(None, 2) + [""])[:3]
+    if not times.isdecimal() or int(times) == 0:
+        raise ValueError(f"repeat needs a number from 1 on, not {times!r}")
+    return int(times), event
+
+
 def records(text, name="the text"):
     """(bytes, answer or None) for each record of a text."""
     for number, line in enumerate(text.splitlines(), 1):
@@ -74,14 +84,12 @@ def records(text, name="the text"):
         if not line:
             continue
         event, _, answer = (part.strip() for part in line.partition("=>"))
-        times = 1
         try:
-            if event.startswith("repeat "):
-                _, times, event = event.split(" ", 2)
+            times, event = repeated(event)
             encoded = record(event)
         except (ValueError, IndexError, OverflowError) as error:
             sys.exit(f"{name}, line {number}: {line!r} is no record ({error})")
-        for _ in range(int(times) - 1):
+        for _ in range(times - 1):
             yield encoded, None
         yield encoded, answer or None
 

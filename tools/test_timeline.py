@@ -1,8 +1,11 @@
 #!/usr/bin/env python3
 """test_timeline.py: the pages of tools/timeline.py on every stored event file. DRIVE names the program drive; without it one is built."""
+import contextlib
 import html.parser
+import io
 import os
 import pathlib
+import random
 import re
 import subprocess
 import sys
@@ -68,13 +71,18 @@ def setUpModule():
         made[str(path.relative_to(ROOT))] = (known, lines, text, Page(text))
 
 
+def of_bytes(data, last=2000):
+    """The page of a file of these bytes."""
+    with tempfile.TemporaryDirectory() as folder:
+        path = pathlib.Path(folder) / "some"
+        path.write_bytes(data)
+        known, _ = known_of(source.read(path))
+    return known, page.page(known, "some", last)
+
+
 def of_text(text, last=2000):
     """The page of a text of records."""
-    with tempfile.TemporaryDirectory() as folder:
-        path = pathlib.Path(folder) / "some.txt"
-        path.write_text(text)
-        known, _ = known_of(source.read(path))
-    return known, page.page(known, "some.txt", last)
+    return of_bytes(text.encode(), last)
 
 
 def missing(parsed):
@@ -235,6 +243,94 @@ class Input(unittest.TestCase):
         self.assertEqual((rows[0][1]["data-last"], len(rows)), ("28", 6))
         self.assertEqual(missing(Page(text))[0], [0])
         self.assertNotIn('href="#c1"', of_text("call\npending 0\nawait 0\n" + "resume\n" * 3, 2)[1])
+
+    def test_bytes_of_raw_are_the_records_that_drive_reads(self):
+        """`raw` with two records, with none, with parts of one: no later line is shifted."""
+        known, _ = of_text("raw c35902c35902 => call 1 # two\nraw\ncoroutine 3\nraw c359\nraw 02\nawait 0 => made 9")
+        self.assertEqual([(column.text, column.line.partition(" steps")[0], column.stored, column.note) for column in known.columns],
+                         [("call", "call 0", None, "two"), ("call", "call 1", "call 1", "two"), ("coroutine 3", "made 0", None, ""),
+                          ("call", "call 2", None, ""), ("await 0", "runs 0 inline 0", "made 9", "")])
+
+    def test_a_pending_with_unread_bytes_is_no_damage(self):
+        known, _ = of_text("call\nraw c35903 00000000 00 01 0000000000000000\nawait 0")
+        self.assertEqual([column.line.split()[0] for column in known.columns], ["call", "made", "waits"])
+
+
+class Damage(unittest.TestCase):
+    """Bytes that are no record: drive stops there, and the page with it."""
+
+    def test_what_is_behind_them_is_not_drawn(self):
+        whole = b"".join(record.data for record in source.read(ROOT / "examples/hung-call.txt"))
+        known, text = of_bytes(whole + b"\xc3\x58" + bytes(12000))
+        count = len(made["examples/hung-call.txt"][0].columns)
+        self.assertEqual((len(known.columns), known.columns[-1].text, known.columns[-1].line), (count + 1, "raw c3 58", "refused 11"))
+        calls, box = missing(Page(text))
+        self.assertEqual(calls, [1])
+        for words in ("The rest of the file", f"stopped at record {count + 1}: it is no record", "Not read: 12,000 bytes", "Missing up to there: the reply to call 1."):
+            self.assertIn(words, box)
+        self.assertNotIn("No line", text)
+
+    def test_a_damaged_start_is_told(self):
+        for data in (b"\xc3\x58\x02\xc3\x59\x02", b"\xff" * 5, bytes(5)):
+            said = io.StringIO()
+            with contextlib.redirect_stderr(said):
+                known, text = of_bytes(data)
+            self.assertEqual([column.line for column in known.columns], ["refused 11"])
+            self.assertIn("stopped at record 1: it is no record", missing(Page(text))[1])
+            self.assertIn("does not begin with the mark", said.getvalue())
+
+    def test_it_is_told_behind_a_finish(self):
+        text = of_text("complete plain 1\nraw c358 => refused 11\ncall => call 0")[1]
+        box = missing(Page(text))[1]
+        self.assertIn("the session finished with 1", box)
+        self.assertIn("Behind that drive stopped at record 2: it is no record (refusal 11). Not read: 3 bytes behind it.", box)
+        self.assertNotIn("missing well", text)
+        self.assertNotIn("the file says", text)
+        self.assertIn("the file says: <code>done</code>", of_text("complete plain 1\nraw c35801020304 => done")[1])
+        self.assertNotIn("Behind that", missing(made["examples/eight-members.txt"][3])[1])
+
+    def test_there_is_a_line_for_each_record(self):
+        """Bytes changed or cut in a hundred ways: the records are those that drive finds."""
+        chance = random.Random(17)
+        whole = b"".join(record.data for record in source.read(ROOT / "examples/eight-members.txt"))
+        for _ in range(100):
+            data = bytearray(whole[:chance.randrange(2, len(whole))])
+            for at in chance.sample(range(2, len(data)), min(chance.randrange(3), len(data) - 2)):
+                data[at] = chance.choice([0, 1, 2, 9, 0x59, 0xc3, 255])
+            found = source.read_bytes(bytes(data))
+            self.assertEqual(len(source.ask(program, [bytes(data)])), len(found), data.hex())
+            self.assertEqual(b"".join(record.data for record in found), data)
+
+
+class Complaints(unittest.TestCase):
+    """What cannot be done is said in one line, without a traceback."""
+
+    def run_tool(self, *words):
+        run = subprocess.run([sys.executable, *map(str, words)], cwd=ROOT / "tools", capture_output=True, text=True)
+        self.assertEqual(len(run.stderr.splitlines()), 1, run.stderr)
+        return run.returncode, run.stderr
+
+    def test_a_repeat_without_a_number(self):
+        with tempfile.TemporaryDirectory() as folder:
+            path, out = pathlib.Path(folder) / "some.txt", pathlib.Path(folder) / "some.html"
+            path.write_text("call\nrepeat x call\n")
+            for words in (["records.py", "bytes", path], ["timeline.py", path, "--drive", program, "-o", out]):
+                self.assertEqual(self.run_tool(*words), (1, f"{path}, line 2: 'repeat x call' is no record (repeat needs a number from 1 on, not 'x')\n"))
+            self.assertFalse(out.exists())
+        for line in ("repeat 0 call", "repeat -1 call", "repeat 5", "repeat call"):
+            with self.assertRaisesRegex(SystemExit, f"line 1: '{line}' is no record"):
+                of_text(line)
+        self.assertEqual(of_text("repeat 3 call")[0].handed, 3)
+
+    def test_what_is_missing(self):
+        with tempfile.TemporaryDirectory() as folder:
+            absent, there, out = pathlib.Path(folder) / "absent", ROOT / "examples/late-rate.txt", pathlib.Path(folder) / "out.html"
+            for words in ([absent], [there, "--drive", absent], [there, "--drive", program, "-o", absent / "out.html"]):
+                code, said = self.run_tool("timeline.py", "-o", out, *words)
+                self.assertEqual(code, 2)
+                self.assertIn(f"timeline: {words[-1]}: No such file or directory", said)
+            self.assertEqual(self.run_tool("timeline.py", "-o", out, there, "--drive", "false"), (2, "timeline: false ended with 1\n"))
+            self.assertFalse(out.exists())
 
 
 if __name__ == "__main__":

@@ -5,10 +5,11 @@
 
 FILE is an event file: the text form of tools/records.py, or records as bytes (they begin with the mark C3 59). The lines and the objects'
 states come from drive; where the file names another answer, the page says so. Without -o the page is FILE's name with .html, in the
-present folder. docs/TIMELINE.md tells how to read it.
+present folder. docs/TIMELINE.md tells how to read it. Exit 1: a line of the text is no record. Exit 2: FILE, drive or OUT.html cannot be used.
 """
 import argparse
 import pathlib
+import subprocess
 import sys
 
 from timeline import model, page, source
@@ -35,10 +36,27 @@ def main(arguments):
     parser.add_argument("--drive", help="the program drive; without it one is built in seconds, by the kit or, where that is not there, by cargo (host/rust)")
     parser.add_argument("--last", type=int, default=2000, metavar="N", help="draw the last N columns (2000)")
     given = parser.parse_args(arguments)
-    program, room = (given.drive, None) if given.drive else source.build()
+    try:
+        print(write(given))
+    except OSError as error:
+        parser.exit(2, f"timeline: {error.filename}: {error.strerror}\n")
+    except subprocess.CalledProcessError as error:
+        parser.exit(2, f"timeline: {error.cmd[0]} ended with {error.returncode}\n")
+
+
+def named(program):
+    """A program by its path or, if no file is there, by its name in PATH."""
+    path = pathlib.Path(program)
+    return path.resolve() if path.exists() else program
+
+
+def write(given):
+    """Makes the page that the arguments ask for; where it is. FILE is opened first: a drive is not built for one that is missing."""
+    open(given.file, "rb").close()
+    program, room = (named(given.drive), None) if given.drive else source.build()
     out = pathlib.Path(given.out or pathlib.Path(given.file).with_suffix(".html").name)
     out.write_text(make(given.file, program, max(1, given.last)), encoding="utf-8")
-    print(out)
+    return out
 
 
 if __name__ == "__main__":

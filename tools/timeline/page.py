@@ -28,7 +28,7 @@ def column_words(known, at):
     column = known.columns[at]
     if column.line is None:
         return [words.line_words(None)]
-    said = words.capital(words.event_words(column.event, known.actors[at], known.name)) + ". " + words.line_words(column.line)
+    said = words.capital(words.event_words(column.event, known.actors[at], known.name)) + ". " + words.line_words(column.line) + words.unread(column)
     if column.last > column.first:
         said = f"The same record {column.last - column.first + 1:,} times; the last answer is “{column.end}”. " + said
     return [said] + [words.capital(text) + "." for text in known.said[at]]
@@ -59,7 +59,7 @@ def missing_box(known, skipped):
     head, text, calls = words.ending(known)
     kind = "cut" if known.running is not None else "hung"
     if known.finish:
-        kind = "hung" if known.finish[1].startswith("error") else "well"
+        kind = "hung" if known.finish[1].startswith("error") else "cut" if words.stopped(known) else "well"
     items = []
     for number, note, asked, steps in calls:
         more = [f"and {len(steps) - 12} more steps up to main"] if len(steps) > 12 else []

@@ -4,6 +4,7 @@ The states are drive's own: behind every record that can change an object a `sho
 change nothing, so the other lines stay what they were.
 """
 import dataclasses
+import itertools
 import pathlib
 import shutil
 import subprocess
@@ -21,12 +22,14 @@ FOLD = 10
 
 @dataclasses.dataclass
 class Record:
-    """One record of the file: its text, its bytes, the answer that the file names (or None) and the file's comment."""
+    """One record of the file: its text, its bytes, the answer that the file names (or None) and the file's comment. Bytes that are no record are the
+    last one: the text has those that say so, `data` all the rest of the file, and `unread` counts what the text does not have."""
 
     text: str
     data: bytes
     stored: str = None
     note: str = ""
+    unread: int = 0
 
 
 @dataclasses.dataclass
@@ -41,6 +44,7 @@ class Column:
     stored: str = None
     end: str = None
     event: str = ""
+    unread: int = 0
 
     @property
     def numbers(self):
@@ -53,19 +57,40 @@ class Column:
 
 
 def read(path):
-    """The records of a file, as text or, if it begins with the mark, as bytes."""
+    """The records of a file, as text or as bytes. Bytes begin with the mark; what does not, and cannot be text either, is bytes with a damaged start."""
     data = pathlib.Path(path).read_bytes()
     if data.startswith(texts.MARK):
         return read_bytes(data)
-    found, text = [], data.decode()
+    try:
+        text = data.decode()
+    except UnicodeDecodeError:
+        text = None
+    if text is None or "\0" in text:
+        print(f"timeline: {path} does not begin with the mark C3 59 and is no text in UTF-8; it is read as bytes", file=sys.stderr)
+        return read_bytes(data)
+    return read_text(text, path)
+
+
+def read_text(text, path):
+    """The records of a text. `raw` can hold many records or a part of one, so they are found in the bytes of all lines together, as drive finds them."""
     for _ in texts.records(text, path):
         pass  # it stops with the line's number where a line is no record
-    for line in text.splitlines():
-        note = line.partition("#")[2].strip()
-        for encoded, answer in texts.records(line, path):
-            repeated = bool(found) and found[-1].data is encoded
-            found.append(Record(found[-1].text if repeated else texts.one_text(encoded, 0)[0], encoded, answer, note))
+    parts = [(encoded, answer, line.partition("#")[2].strip()) for line in text.splitlines() for encoded, answer in texts.records(line, path)]
+    found = read_bytes(b"".join(encoded for encoded, _, _ in parts))
+    attach(found, parts)
     return found
+
+
+def attach(found, parts):
+    """Gives each record the comment of the line that it begins in and, if that line ends in it, the line's answer. A part is (bytes, answer, comment)."""
+    ends = list(itertools.accumulate(len(encoded) for encoded, _, _ in parts))
+    at, here = 0, 0
+    for record in found:
+        while ends[here] <= at:
+            here += 1
+        at += len(record.data)
+        _, answer, record.note = parts[here]
+        record.stored = answer if ends[here] <= at else None
 
 
 def read_bytes(data):
@@ -73,7 +98,10 @@ def read_bytes(data):
     found, at = [], 0
     while at < len(data):
         text, behind = texts.one_text(data, at)
-        found.append(Record(text, data[at:behind]))
+        record = Record(text, data[at:behind])
+        if event_of(record).startswith("raw "):
+            return [*found, Record(text, data[at:], unread=len(data) - behind)]
+        found.append(record)
         at = behind
     return found
 
@@ -127,7 +155,7 @@ def columns(found, lines):
                 end += 1
         end = end if end - at >= FOLD else at + 1
         last = lines[end - 1] if end - 1 < len(lines) else None
-        made.append(Column(at + 1, end, here.text, line, here.note, found[end - 1].stored, last, event_of(here)))
+        made.append(Column(at + 1, end, here.text, line, here.note, found[end - 1].stored, last, event_of(here), here.unread))
         at = end
     return made
 

@@ -113,16 +113,35 @@ def control_words(words):
 # ---- what is missing
 
 def ending(known):
-    """How the session stands at the end: a heading, a sentence, and for each missing call its steps upwards."""
-    stopped = next((at for at, number in known.refusals if number == 11), None)
+    """How the file ends: a heading, a sentence, and for each missing call its steps upwards."""
+    head, text, calls = session_ending(known)
+    stop = stopped(known)
+    if not stop:
+        return head, text, calls
+    if known.finish:
+        return head, f"{text} Behind that {stop}", calls
+    return "The rest of the file", f"{stop} Missing up to there: {head[:1].lower() + head[1:]}. {text}", calls
+
+
+def stopped(known):
+    """Where drive stopped, if it did: at bytes that are no record."""
+    column = next((known.columns[at] for at, number in known.refusals if number == 11), None)
+    return column and f"drive stopped at record {column.first}: it is no record (refusal 11).{unread(column)}"
+
+
+def unread(column):
+    """How much of the file stands behind bytes that are no record."""
+    return f" Not read: {amount(column.unread, 'byte')} behind it." if column.unread else ""
+
+
+def session_ending(known):
+    """How the session stands behind its last record, told as `ending` tells it."""
     if known.finish:
         at, what = known.finish
         bad = what.startswith("error ")
         return f"Nothing: the session finished with {'the ' if bad else ''}{value(what)}", finished(known, at, what), []
-    if stopped is not None:
-        return "The rest of the file", f"drive stopped at record {known.columns[stopped].first}: it is no record (refusal 11).", []
     if known.running is not None:
-        text = f"The file ends while {task_name(known.running)} runs: the next thing that the script does is missing, not a reply."
+        text = f"The records end while {task_name(known.running)} runs: the next thing that the script does is missing, not a reply."
         return "The script's next step", text, missing_calls(known, pending(known))
     return waiting(known)
 
