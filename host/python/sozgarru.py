@@ -21,17 +21,19 @@ Traceback (most recent call last):
     ...
 sozgarru.Refused: refused 3: session ended
 
-A session is restored from its bytes where these are a sound store, and not otherwise:
+A session is restored from its bytes where these are whole and a sound store, and not otherwise:
 
 >>> t = Session()
 >>> t.coroutine(7)
 0
 >>> print(Session.restore(t.snapshot()).complete(9))
 finished plain 9
->>> Session.restore(bytes(len(t.snapshot())))
+>>> damaged = bytearray(t.snapshot())
+>>> damaged[100] ^= 1
+>>> Session.restore(damaged)
 Traceback (most recent call last):
     ...
-ValueError: no snapshot of this version
+ValueError: a damaged snapshot: its checksum is of other bytes
 
 The shared library is built once from the archive with gcc, into the user's cache folder. SOZGARRU_SO names one that is built already,
 SOZGARRU_LIB_DIR the folder of another archive than the shipped one. x86-64 Linux only. Stack: docs/HOST.md.
@@ -45,6 +47,7 @@ import shutil
 import struct
 import subprocess
 import tempfile
+import zlib
 from dataclasses import dataclass
 from typing import Optional, Tuple, Union
 
@@ -465,26 +468,38 @@ class Session:
     def snapshot(self):
         """The session as bytes, the same as the Rust crate's."""
         m = self._memory
-        head = MARK + struct.pack("<Q", declarations.VERSION)
-        return head + bytes(m.tasks) + bytes(m.objects) + bytes(m.places) + bytes(m.ids) + struct.pack("<Q", m.len)
+        data = MARK + struct.pack("<Q", declarations.VERSION)
+        data += bytes(m.tasks) + bytes(m.objects) + bytes(m.places) + bytes(m.ids) + struct.pack("<Q", m.len)
+        return data + struct.pack("<I", zlib.crc32(data))
 
     @classmethod
     def restore(cls, data):
-        """The session of a snapshot. ValueError where the bytes are none, or no sound store: then it is not run."""
-        head = MARK + struct.pack("<Q", declarations.VERSION)
+        """The session of a snapshot. ValueError where the bytes are none, damaged, or no sound store: then it is not run."""
         session = cls()
-        if len(data) != len(session.snapshot()) or not data.startswith(head):
-            raise ValueError("no snapshot of this version")
-        at = len(head)
         m = session._memory
+        data = _snapshot_contents(bytes(data), len(session.snapshot()))
+        at = 0
         for part in (m.tasks, m.objects, m.places, m.ids):
             size = ctypes.sizeof(part)
             ctypes.memmove(part, data[at:at + size], size)
             at += size
         m.len = struct.unpack("<Q", data[at:])[0]
         if not _lib.sozgarru_is_sound(m.tasks, m.objects, m.places, m.ids, m.len):
-            raise ValueError("a damaged snapshot: the store in it is not sound")
+            raise ValueError("no snapshot of a session: the store in it is not sound")
         return session
+
+
+def _snapshot_contents(data, length):
+    """What stands between a snapshot's head and its checksum."""
+    if len(data) != length:
+        raise ValueError("no snapshot: it has not its length")
+    if not data.startswith(MARK):
+        raise ValueError("no snapshot: it has not its mark")
+    if struct.unpack_from("<Q", data, 8)[0] != declarations.VERSION:
+        raise ValueError("a snapshot of another version of the layout")
+    if struct.unpack("<I", data[-4:])[0] != zlib.crc32(data[:-4]):
+        raise ValueError("a damaged snapshot: its checksum is of other bytes")
+    return data[16:-4]
 
 
 def main():

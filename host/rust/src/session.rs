@@ -288,6 +288,6 @@ mod tests {
             assert_eq!(session.dispatch_checked(&event), Err(Refusal::Unsound), "{event:?}");
         }
         assert!(session.snapshot() == before, "a refused event changes nothing");
-        assert!(Session::restore(&before).is_err());
+        assert_eq!(Session::restore(&before).err(), Some(crate::NotASession::Unsound));
     }
 }
