@@ -343,7 +343,7 @@ def binding():
     return PYTHON_HEAD + fields + PYTHON_LENT + memory + PYTHON_FUNCTIONS + "".join(rows) + "}\n"
 
 
-FILES = [("crates/boundary/src/lib.rt", rattle), ("host/c/sozgarru.h", header), ("host/rust/src/declarations.rs", declarations), ("host/python/declarations.py", binding)]
+FILES = [("crates/boundary/src/lib.rt", rattle), ("host/c/sozgarru.h", header), ("host/rust/src/declarations.rs", declarations), ("host/python/sozgarru_declarations.py", binding)]
 
 
 def squeezed(text):

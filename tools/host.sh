@@ -141,6 +141,10 @@ if command -v gcc >/dev/null; then
     same host/c/worked.stdout "$room/worked"
     told "the worked example in C"
     quietly python3 host/python/sozgarru.py || fail "an example in host/python/sozgarru.py fails"
+    quietly python3 -m doctest host/python/script_host.py || fail "an example in host/python/script_host.py fails"
+    if XDG_CACHE_HOME=/dev/null python3 host/python/sozgarru.py 2>"$room/said" || ! tail -n 1 "$room/said" | grep -q XDG_CACHE_HOME; then
+        fail "a cache folder that cannot be made is not told"
+    fi
     for example in projection late_replies cancel eight_members; do
         same host/stdout/$example.txt python3 host/python/$example.py
     done
