@@ -2,13 +2,15 @@
 """Writes what crosses to other languages, from one table: the exported functions (crates/boundary/src/lib.rt), the C header, the Rust
 declarations and the Python binding. `--check` writes nothing and says which file differs; the gate runs it.
 
-    boundary.py            writes the four files
+    boundary.py            writes those of the four files that differ
     boundary.py --check    compares
 
 The table has a row for each event and each read: its name, its parameters, the event as the code and as the contract has it, and what a host wants to
 know. Each event is exported twice: with the check of refusal 2, and with the suffix _unchecked without it.
 """
+import argparse
 import os
+import re
 import sys
 import textwrap
 
@@ -158,12 +160,14 @@ def rattle():
 C_ELEMENT = {"u64": "uint64_t", "u32": "uint32_t", "u16": "uint16_t", "u8": "uint8_t", "usize": "size_t"}
 C_HEAD = f"""/* The library for C: the functions that libsozgarru.a has. {MADE}
  *
- * A session's memory is the host's; its pieces lie apart from each other, and from what an event is given besides. sozgarru_begin fills
- * it; every event gets it as the last one left it. An answer is a sozgarru_numbers:
- * the number of the refusal (0: accepted), the answer's word (1 made, 2 call, 3 runs, 4 waits, 5 done, 6 stalled, 7 finished, 8 eager,
- * 9 refused, 10 shows), how many values it has, and the values in the order of document 01's line; values behind them are 0. The calls of
- * a wait stand at the front of `calls`. A refused event changes nothing. Stack: docs/HOST.md. Nothing here allocates, prints or keeps a
- * state of its own.
+ * A session's memory is the host's; its pieces lie apart from each other, and from what an event is given besides. The lengths of its
+ * arrays are the caller's to keep: C does not check them, and no function can. Where there are no items or no results, NULL with 0 may be
+ * passed. sozgarru_begin fills the memory; every event gets it as the last one left it.
+ *
+ * An answer is a sozgarru_numbers: the number of the refusal (0: accepted), the answer's word (1 made, 2 call, 3 runs, 4 waits, 5 done,
+ * 6 stalled, 7 finished, 8 eager, 9 refused, 10 shows), how many values it has, and the values in the order of document 01's line; values
+ * behind them are 0. The calls of a wait stand at the front of `calls`. A refused event changes nothing. Stack: docs/HOST.md. Nothing here
+ * allocates, prints or keeps a state of its own.
  */
 #ifndef SOZGARRU_H
 #define SOZGARRU_H
@@ -343,28 +347,36 @@ def binding():
     return PYTHON_HEAD + fields + PYTHON_LENT + memory + PYTHON_FUNCTIONS + "".join(rows) + "}\n"
 
 
-FILES = [("crates/boundary/src/lib.rt", rattle), ("host/c/sozgarru.h", header), ("host/rust/src/declarations.rs", declarations), ("host/python/declarations.py", binding)]
+FILES = [("crates/boundary/src/lib.rt", rattle), ("host/c/sozgarru.h", header), ("host/rust/src/declarations.rs", declarations), ("host/python/sozgarru_declarations.py", binding)]
 
 
-def squeezed(text):
-    """without white space and the commas that the formatter sets at a line's end: `rt fmt` lays a Rattle file out anew"""
-    return "".join(text.split()).replace(",)", ")").replace(",}", "}")
+def tokens(text):
+    """without white space and the commas that the formatter sets at a line's end: `rt fmt` lays a Rattle file out anew; a comment is a whole line"""
+    found = [token.rstrip() for token in re.findall(r"//.*|[(){}\[\],;]|[^\s(){}\[\],;]+", text)]
+    return [token for token, behind in zip(found, found[1:] + [""]) if token != "," or behind not in (")", "}")]
+
+
+def is_made(path, text):
+    """Does the file hold this text?"""
+    if not os.path.exists(path):
+        return False
+    have = open(path).read()
+    return tokens(have) == tokens(text) if path.endswith(".rt") else have == text
 
 
 def main():
-    differ = 0
-    for path, make in FILES:
-        full = os.path.join(ROOT, path)
-        text = make()
-        if "--check" in sys.argv[1:]:
-            have = open(full).read() if os.path.exists(full) else ""
-            if (squeezed(have) != squeezed(text)) if path.endswith(".rt") else (have != text):
-                print(f"{path} is not what tools/boundary.py makes")
-                differ = 1
+    parser = argparse.ArgumentParser(description=__doc__, formatter_class=argparse.RawDescriptionHelpFormatter, allow_abbrev=False)
+    parser.add_argument("--check", action="store_true", help="write nothing, say which file differs")
+    check = parser.parse_args().check
+    made = [(path, os.path.join(ROOT, path), make()) for path, make in FILES]
+    differ = [(path, full, text) for path, full, text in made if not is_made(full, text)]
+    for path, full, text in differ:
+        if check:
+            print(f"{path} is not what tools/boundary.py makes")
         else:
             os.makedirs(os.path.dirname(full), exist_ok=True)
             open(full, "w").write(text)
-    return differ
+    return check and len(differ) > 0
 
 
 if __name__ == "__main__":

@@ -2,11 +2,12 @@
 # host.sh [FILES]: tests what other languages use: the Rust crate, C and Python over libsozgarru.a. FILES: how many random event files go through the crate
 # beside the published Rust (300). Needs cargo; leaves nothing in the tree.
 #
-#     LIB=target/staticlib bash tools/host.sh           # LIB: the folder of an archive that was just built; it must be the shipped one
-#     LIB=target/staticlib bash tools/host.sh --renew   # ships it: host/rust/native/libsozgarru.a and its sha256
 #     bash tools/host.sh                                # tests the shipped archive
+#     rt staticlib boundary                             # writes target/staticlib/libboundary.a
+#     LIB=target/staticlib bash tools/host.sh           # the same tests; the archive of the folder LIB must be the shipped one
+#     LIB=target/staticlib bash tools/host.sh --renew   # ships it: host/rust/native/libsozgarru.a and its sha256
 #
-# CARGO_TARGET_DIR is used if it is set.
+# The archive of LIB is its libboundary.a or its libsozgarru.a. CARGO_TARGET_DIR is used if it is set.
 set -euo pipefail
 cd "$(dirname "$0")/.."
 shipped=host/rust/native
@@ -23,11 +24,23 @@ told() {
     began=$SECONDS
 }
 
+# the path of LIB's archive
+built() {
+    local found=()
+    for name in libboundary.a libsozgarru.a; do
+        [ ! -f "$LIB/$name" ] || found+=("$LIB/$name")
+    done
+    [ ${#found[@]} = 1 ] || fail "LIB: $LIB has ${#found[@]} of libboundary.a and libsozgarru.a, and should have one"
+    echo "${found[0]}"
+}
+
 renew() {
     [ -n "${LIB:-}" ] || fail "LIB names the folder of the archive to ship"
-    cp "$LIB/libsozgarru.a" "$shipped/libsozgarru.a"
+    local archive
+    archive=$(built)
+    cp "$archive" "$shipped/libsozgarru.a"
     (cd "$shipped" && sha256sum libsozgarru.a >libsozgarru.a.sha256)
-    echo "host: shipped $(cut -c1-16 "$shipped/libsozgarru.a.sha256").. from $LIB"
+    echo "host: shipped $(cut -c1-16 "$shipped/libsozgarru.a.sha256").., which is $archive"
 }
 
 if [ "${1:-}" = --renew ]; then
@@ -46,9 +59,11 @@ unset SOZGARRU_SO
 # the archive that is tested is the shipped one
 (cd "$shipped" && sha256sum --check --quiet libsozgarru.a.sha256) || fail "$shipped/libsozgarru.a is not the one of its sha256"
 if [ -n "${LIB:-}" ]; then
-    cmp -s "$LIB/libsozgarru.a" "$shipped/libsozgarru.a" || fail "the archive of $LIB is not the shipped one: LIB=$LIB bash tools/host.sh --renew ships it"
-    SOZGARRU_LIB_DIR=$(realpath "$LIB")
-    export SOZGARRU_LIB_DIR
+    archive=$(built)
+    cmp -s "$archive" "$shipped/libsozgarru.a" || fail "$archive is not the shipped one: LIB=$LIB bash tools/host.sh --renew ships it"
+    export SOZGARRU_LIB_DIR=$room/built
+    mkdir "$SOZGARRU_LIB_DIR"
+    cp "$archive" "$SOZGARRU_LIB_DIR/libsozgarru.a"
     told "the archive just built is the shipped one, $(cut -c1-16 "$shipped/libsozgarru.a.sha256").."
 else
     unset SOZGARRU_LIB_DIR
@@ -126,6 +141,10 @@ if command -v gcc >/dev/null; then
     same host/c/worked.stdout "$room/worked"
     told "the worked example in C"
     quietly python3 host/python/sozgarru.py || fail "an example in host/python/sozgarru.py fails"
+    quietly python3 -m doctest host/python/script_host.py || fail "an example in host/python/script_host.py fails"
+    if XDG_CACHE_HOME=/dev/null python3 host/python/sozgarru.py 2>"$room/said" || ! tail -n 1 "$room/said" | grep -q XDG_CACHE_HOME; then
+        fail "a cache folder that cannot be made is not told"
+    fi
     for example in projection late_replies cancel eight_members; do
         same host/stdout/$example.txt python3 host/python/$example.py
     done

@@ -1,11 +1,13 @@
 /* The library for C: the functions that libsozgarru.a has. Made by tools/boundary.py from its table: change it there.
  *
- * A session's memory is the host's; its pieces lie apart from each other, and from what an event is given besides. sozgarru_begin fills
- * it; every event gets it as the last one left it. An answer is a sozgarru_numbers:
- * the number of the refusal (0: accepted), the answer's word (1 made, 2 call, 3 runs, 4 waits, 5 done, 6 stalled, 7 finished, 8 eager,
- * 9 refused, 10 shows), how many values it has, and the values in the order of document 01's line; values behind them are 0. The calls of
- * a wait stand at the front of `calls`. A refused event changes nothing. Stack: docs/HOST.md. Nothing here allocates, prints or keeps a
- * state of its own.
+ * A session's memory is the host's; its pieces lie apart from each other, and from what an event is given besides. The lengths of its
+ * arrays are the caller's to keep: C does not check them, and no function can. Where there are no items or no results, NULL with 0 may be
+ * passed. sozgarru_begin fills the memory; every event gets it as the last one left it.
+ *
+ * An answer is a sozgarru_numbers: the number of the refusal (0: accepted), the answer's word (1 made, 2 call, 3 runs, 4 waits, 5 done,
+ * 6 stalled, 7 finished, 8 eager, 9 refused, 10 shows), how many values it has, and the values in the order of document 01's line; values
+ * behind them are 0. The calls of a wait stand at the front of `calls`. A refused event changes nothing. Stack: docs/HOST.md. Nothing here
+ * allocates, prints or keeps a state of its own.
  */
 #ifndef SOZGARRU_H
 #define SOZGARRU_H

@@ -1,4 +1,5 @@
-/* Document 01's worked example from C: ten events on memory of the host's own, and document 01's line for each answer.
+/* Document 01's worked example from C: ten events on memory of the host's own, and document 01's line for each answer; then a session
+ * with nothing in its gather and in its batch.
  *
  *     gcc -Wall -Wextra -Werror -o worked worked.c ../rust/native/libsozgarru.a && ./worked
  */
@@ -142,5 +143,11 @@ int main(void)
     print_line(8, sozgarru_resume(SOZGARRU_LENT(&memory)), 0);
     print_line(9, sozgarru_show(SOZGARRU_READ(&memory), 2), 2);
     print_line(10, sozgarru_complete_plain(SOZGARRU_LENT(&memory), 9), 0);
+
+    /* a fresh session: a gather of no items, and no results */
+    sozgarru_begin(SOZGARRU_BEGUN(&memory));
+    print_line(1, sozgarru_gather(SOZGARRU_LENT(&memory), NULL, 0), 0);
+    print_line(2, sozgarru_await(SOZGARRU_LENT(&memory), 0), 0);
+    print_line(3, sozgarru_results(SOZGARRU_LENT(&memory), NULL, 0), 0);
     return 0;
 }

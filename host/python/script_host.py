@@ -8,7 +8,17 @@
     end = run(desk, projection(desk), replies)      # Finished(value=..)
 
 `replies(desk)` gives the answers that have come while the session waits, pairs of a call and its value or error; none where no more will
-come.
+come. A task returns a number of 64 bits or what a gather gave:
+
+>>> async def nothing():
+...     pass
+>>> async def script(desk):
+...     return await desk.gather(nothing())
+>>> desk = Desk()
+>>> run(desk, script(desk), lambda _: [])
+Traceback (most recent call last):
+    ...
+ValueError: task 1, nothing, returned None: that is no number of 64 bits, nor what a gather gave
 """
 import sozgarru
 
@@ -77,16 +87,24 @@ class Desk:
         return places
 
 
-def _turn(desk, frames, send):
+def _returned(task, code, value):
+    """What a task's coroutine returned, as a value of the session."""
+    if isinstance(value, Places):
+        return sozgarru.List(value.gather)
+    if isinstance(value, sozgarru.List) or isinstance(value, int) and 0 <= value < 1 << 64:
+        return value
+    raise ValueError(f"task {task}, {code.__qualname__}, returned {value!r}: that is no number of 64 bits, nor what a gather gave") from None
+
+
+def _turn(desk, task, frames, send):
     """Runs a task's innermost coroutine to its next await or to the task's end: what the session answers."""
     while True:
         try:
             return desk.session.await_object(send(frames[-1]))
         except StopIteration as end:
-            frames.pop()
-            value = end.value
+            code, value = frames.pop(), end.value
             if not frames:
-                return desk.session.complete(sozgarru.List(value.gather) if isinstance(value, Places) else value)
+                return desk.session.complete(_returned(task, code, value))
             # a coroutine that ran inline: its end is no event, its value goes to the code that awaits it
             send = lambda frame: frame.send(value)
         except ScriptError as error:
@@ -110,11 +128,11 @@ def _goes_on(desk, frames, how):
 def run(desk, main, replies):
     """Runs a script until main ends (Finished), until no reply comes (Waits), or until nothing is left to wait for (Stalled)."""
     tasks = {sozgarru.MAIN: [main]}
-    answer = _turn(desk, tasks[sozgarru.MAIN], lambda frame: frame.send(None))
+    answer = _turn(desk, sozgarru.MAIN, tasks[sozgarru.MAIN], lambda frame: frame.send(None))
     while True:
         if isinstance(answer, sozgarru.Runs):
             frames = tasks.setdefault(answer.task, [])
-            answer = _turn(desk, frames, _goes_on(desk, frames, answer.how))
+            answer = _turn(desk, answer.task, frames, _goes_on(desk, frames, answer.how))
         elif isinstance(answer, sozgarru.Waits):
             results = replies(desk)
             if not results:

@@ -21,17 +21,26 @@ Traceback (most recent call last):
     ...
 sozgarru.Refused: refused 3: session ended
 
-A session is restored from its bytes where these are a sound store, and not otherwise:
+A session is restored from its bytes where these are whole and a sound store, and not otherwise:
 
 >>> t = Session()
 >>> t.coroutine(7)
 0
 >>> print(Session.restore(t.snapshot()).complete(9))
 finished plain 9
->>> Session.restore(bytes(len(t.snapshot())))
+>>> damaged = bytearray(t.snapshot())
+>>> damaged[100] ^= 1
+>>> Session.restore(damaged)
 Traceback (most recent call last):
     ...
-ValueError: no snapshot of this version
+ValueError: a damaged snapshot: its checksum is of other bytes
+
+A copy is a second session that stands where the first does:
+
+>>> import copy
+>>> u = copy.copy(t)
+>>> t.coroutine(7), t.coroutine(7), u.coroutine(7)
+(1, 2, 1)
 
 The shared library is built once from the archive with gcc, into the user's cache folder. SOZGARRU_SO names one that is built already,
 SOZGARRU_LIB_DIR the folder of another archive than the shipped one. x86-64 Linux only. Stack: docs/HOST.md.
@@ -45,11 +54,12 @@ import shutil
 import struct
 import subprocess
 import tempfile
+import zlib
 from dataclasses import dataclass
 from typing import Optional, Tuple, Union
 
-import declarations
-from declarations import Memory, Numbers
+import sozgarru_declarations
+from sozgarru_declarations import Memory, Numbers
 
 MARK = b"SOZGARRU"
 MAIN = 0
@@ -103,19 +113,23 @@ def _library():
     digest = hashlib.sha256(archive.read_bytes()).hexdigest()
     cache = pathlib.Path(os.environ.get("XDG_CACHE_HOME") or pathlib.Path.home() / ".cache") / "sozgarru"
     library = cache / f"libsozgarru-{digest[:16]}.so"
-    if not library.is_file():
-        _build(archive, library)
+    try:
+        if not library.is_file():
+            _build(archive, library)
+    except OSError as error:
+        other = "XDG_CACHE_HOME names another folder for it, SOZGARRU_SO one that is built already"
+        raise RuntimeError(f"sozgarru: the shared library cannot be made in {cache}: {error}; {other}") from error
     return str(library)
 
 
 def _load():
     # a call keeps Python's lock: it takes less than a microsecond, and no two threads change one session at once
     library = ctypes.PyDLL(_library())
-    for name, (gives, takes) in declarations.FUNCTIONS.items():
+    for name, (gives, takes) in sozgarru_declarations.FUNCTIONS.items():
         function = getattr(library, name)
         function.restype, function.argtypes = gives, takes
-    if library.sozgarru_version() != declarations.VERSION:
-        raise RuntimeError("sozgarru: the library has another version of the layout than declarations.py")
+    if library.sozgarru_version() != sozgarru_declarations.VERSION:
+        raise RuntimeError("sozgarru: the library has another version of the layout than sozgarru_declarations.py")
     return library
 
 
@@ -335,6 +349,13 @@ def _fits(number, bits):
     return number
 
 
+def _bytes(data):
+    """Any bytes; of a number Python would make so many zeros."""
+    if isinstance(data, int):
+        raise TypeError(f"{data!r} is no bytes")
+    return bytes(data)
+
+
 def _value_arguments(value):
     """The ending of the function's name, and the number that it takes."""
     return ("_list", _fits(value.gather, 16)) if isinstance(value, List) else ("_plain", _fits(value, 64))
@@ -421,7 +442,8 @@ class Session:
 
     def result_bytes(self, data):
         """The same from document 01's bytes, 14 for each result; a rest of 1 to 13 bytes is not read."""
-        return self._event("results", (ctypes.c_uint8 * len(data))(*data), len(data))
+        data = _bytes(data)
+        return self._event("results", (ctypes.c_uint8 * len(data)).from_buffer_copy(data), len(data))
 
     def result(self, call, outcome):
         """The host answers one call."""
@@ -465,26 +487,45 @@ class Session:
     def snapshot(self):
         """The session as bytes, the same as the Rust crate's."""
         m = self._memory
-        head = MARK + struct.pack("<Q", declarations.VERSION)
-        return head + bytes(m.tasks) + bytes(m.objects) + bytes(m.places) + bytes(m.ids) + struct.pack("<Q", m.len)
+        data = MARK + struct.pack("<Q", sozgarru_declarations.VERSION)
+        data += bytes(m.tasks) + bytes(m.objects) + bytes(m.places) + bytes(m.ids) + struct.pack("<Q", m.len)
+        return data + struct.pack("<I", zlib.crc32(data))
 
     @classmethod
     def restore(cls, data):
-        """The session of a snapshot. ValueError where the bytes are none, or no sound store: then it is not run."""
-        head = MARK + struct.pack("<Q", declarations.VERSION)
+        """The session of a snapshot. ValueError where the bytes are none, damaged, or no sound store: then it is not run."""
+        data = _bytes(data)
         session = cls()
-        if len(data) != len(session.snapshot()) or not data.startswith(head):
-            raise ValueError("no snapshot of this version")
-        at = len(head)
         m = session._memory
+        data = _snapshot_contents(data, len(session.snapshot()))
+        at = 0
         for part in (m.tasks, m.objects, m.places, m.ids):
             size = ctypes.sizeof(part)
             ctypes.memmove(part, data[at:at + size], size)
             at += size
         m.len = struct.unpack("<Q", data[at:])[0]
         if not _lib.sozgarru_is_sound(m.tasks, m.objects, m.places, m.ids, m.len):
-            raise ValueError("a damaged snapshot: the store in it is not sound")
+            raise ValueError("no snapshot of a session: the store in it is not sound")
         return session
+
+    def __copy__(self):
+        return self.restore(self.snapshot())
+
+    def __deepcopy__(self, _):
+        return self.__copy__()
+
+
+def _snapshot_contents(data, length):
+    """What stands between a snapshot's head and its checksum."""
+    if len(data) != length:
+        raise ValueError("no snapshot: it has not its length")
+    if not data.startswith(MARK):
+        raise ValueError("no snapshot: it has not its mark")
+    if struct.unpack_from("<Q", data, 8)[0] != sozgarru_declarations.VERSION:
+        raise ValueError("a snapshot of another version of the layout")
+    if struct.unpack("<I", data[-4:])[0] != zlib.crc32(data[:-4]):
+        raise ValueError("a damaged snapshot: its checksum is of other bytes")
+    return data[16:-4]
 
 
 def main():

@@ -1,5 +1,5 @@
-//! Links `libsozgarru.a`, the archive of the proved library: from the folder SOZGARRU_LIB_DIR if that is set, else the
-//! one that is shipped in `native/`.
+//! Links `libsozgarru.a`, the archive of the proved library: from the folder SOZGARRU_LIB_DIR if that is set and not
+//! empty, else the one that is shipped in `native/`.
 use std::env;
 use std::path::PathBuf;
 
@@ -15,12 +15,15 @@ fn main() {
 
 fn link() -> Result<(), String> {
     let (system, processor) = (given("CARGO_CFG_TARGET_OS")?, given("CARGO_CFG_TARGET_ARCH")?);
-    if (system.as_str(), processor.as_str()) != ("linux", "x86_64") {
+    // x32 is x86_64 too, with pointers of 32 bits
+    let width = given("CARGO_CFG_TARGET_POINTER_WIDTH")?;
+    if (system.as_str(), processor.as_str(), width.as_str()) != ("linux", "x86_64", "64") {
         return Err(format!(
-            "the archive is for x86-64 Linux, and this build is for {processor} {system}; use a linux/amd64 machine or container"
+            "the archive is for x86-64 Linux, and this build is for {processor} {system} with pointers of {width} bits; \
+             use a linux/amd64 machine or container"
         ));
     }
-    let folder = match env::var_os("SOZGARRU_LIB_DIR") {
+    let folder = match env::var_os("SOZGARRU_LIB_DIR").filter(|folder| !folder.is_empty()) {
         Some(folder) => PathBuf::from(folder),
         None => PathBuf::from(given("CARGO_MANIFEST_DIR")?).join("native"),
     };

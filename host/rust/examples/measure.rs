@@ -89,8 +89,8 @@ fn measure_sessions() {
     let bytes = ended.snapshot();
     row("Session::new", least(|| None, |_| Some(Session::new())));
     row("clone", least(|| None, |_: Option<Session>| Some(ended.clone())));
-    row("snapshot", least(|| None, |_: Option<Vec<u8>>| Some(ended.snapshot())));
-    row("restore, with its check", least(|| None, |_| Some(Session::restore(&bytes).expect("a snapshot"))));
+    row("snapshot, with its checksum", least(|| None, |_: Option<Vec<u8>>| Some(ended.snapshot())));
+    row("restore, with its checks", least(|| None, |_| Some(Session::restore(&bytes).expect("a snapshot"))));
     row("a member's projection, begin to end", least(|| None, |_| Some(projection().expect("a projection"))));
 }
 

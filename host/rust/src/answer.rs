@@ -175,7 +175,8 @@ impl Display for Control {
 pub struct Awaited {
     /// Who has control now; it may be another task than the one that awaited.
     pub control: Control,
-    /// The steps of the commit: 0 without one, 2 n - 1 where n gathers were opened.
+    /// The steps of the commit: 0 without one; 2 n - 1 where n gathers were opened; n + k on an error, k of them
+    /// settled.
     pub steps: u16,
 }
 
@@ -244,6 +245,10 @@ impl Display for CoroutineState {
 }
 
 /// What an object is and has.
+///
+/// ```
+/// assert_eq!(sozgarru::Shown::GatherPending.to_string(), "shows gather pending");
+/// ```
 #[derive(Clone, Debug, PartialEq, Eq, Hash)]
 pub enum Shown {
     /// A coroutine.
@@ -271,6 +276,7 @@ pub enum Shown {
 
 impl Display for Shown {
     fn fmt(&self, f: &mut Formatter<'_>) -> fmt::Result {
+        f.write_str("shows ")?;
         match self {
             Shown::Coroutine { state, function } => write!(f, "coroutine {state} {function}"),
             Shown::ExternalPending => f.write_str("external pending"),
@@ -329,7 +335,7 @@ impl Display for Answer {
             Answer::Finished(end) => write_finished(f, end),
             Answer::Eager(true) => f.write_str("eager yes"),
             Answer::Eager(false) => f.write_str("eager no"),
-            Answer::Shows(shown) => write!(f, "shows {shown}"),
+            Answer::Shows(shown) => shown.fmt(f),
         }
     }
 }
@@ -373,7 +379,8 @@ impl Display for Line<'_> {
 pub enum Refusal {
     /// A lent slice has a wrong length. The arrays of a [`Session`](crate::Session) have theirs: it never meets this.
     WrongLength = 1,
-    /// The store is not sound. A [`Session`](crate::Session)'s always is: it never meets this.
+    /// The store is not sound. A [`Session`](crate::Session)'s is, unless something else in the process wrote into its
+    /// memory: only [`dispatch_checked`](crate::Session::dispatch_checked) looks.
     Unsound = 2,
     /// The session has ended.
     Ended = 3,

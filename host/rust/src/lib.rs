@@ -63,6 +63,7 @@
 #![warn(missing_docs)]
 
 mod answer;
+mod checksum;
 mod event;
 mod numbers;
 mod raw;

@@ -47,8 +47,9 @@ impl Session {
     }
 
     /// The events since [`Session::with_trace`] as document 01's records, refused ones too: a file that `drive` replays
-    /// and that `tools/records.py text` prints. Reads, which change nothing, are not in it. Nothing without
-    /// `with_trace`.
+    /// and that `tools/records.py text` prints. Reads, which change nothing, are not in it. Nor is an event of over 255
+    /// items or results, which is refused and has no record ([`NoRecord`](crate::NoRecord)): the records behind it have
+    /// lower numbers than their events. Nothing without `with_trace`.
     ///
     /// ```
     /// let mut s = sozgarru::Session::with_trace();
@@ -68,11 +69,11 @@ impl Session {
         self.go(false, event)
     }
 
-    /// The same, with the check that the memory is a sound store: refusal 2 never comes, and each event costs the check
-    /// (docs/SPEED.md). For a host that does not trust its own process.
+    /// The same, with the check that the memory is a sound store, which each event pays for (docs/SPEED.md). For a host
+    /// that does not trust its own process.
     ///
     /// # Errors
-    /// Refusals 3 to 10.
+    /// Refusals 3 to 10, and 2 where something else in the process has written into the session's memory.
     pub fn dispatch_checked(&mut self, event: &Event<'_>) -> Result<Answer, Refusal> {
         self.go(true, event)
     }
@@ -288,6 +289,6 @@ mod tests {
             assert_eq!(session.dispatch_checked(&event), Err(Refusal::Unsound), "{event:?}");
         }
         assert!(session.snapshot() == before, "a refused event changes nothing");
-        assert!(Session::restore(&before).is_err());
+        assert_eq!(Session::restore(&before).err(), Some(crate::NotASession::Unsound));
     }
 }

@@ -1,4 +1,5 @@
 //! A session as bytes, and back.
+use crate::checksum::crc32;
 use crate::raw::{blank, Memory, SoundMemory, VERSION};
 use crate::Session;
 use std::fmt;
@@ -14,7 +15,9 @@ pub enum NotASession {
     Mark,
     /// A snapshot of another version of the layout.
     Version,
-    /// The store in it is not sound: it was damaged or made up.
+    /// Its bytes are not those that its checksum is of.
+    Damaged,
+    /// The store in it is not sound: it was made up, with its checksum.
     Unsound,
 }
 
@@ -24,7 +27,8 @@ impl fmt::Display for NotASession {
             NotASession::Length => "no snapshot: it has not its length",
             NotASession::Mark => "no snapshot: it has not its mark",
             NotASession::Version => "a snapshot of another version of the layout",
-            NotASession::Unsound => "a damaged snapshot: the store in it is not sound",
+            NotASession::Damaged => "a damaged snapshot: its checksum is of other bytes",
+            NotASession::Unsound => "no snapshot of a session: the store in it is not sound",
         })
     }
 }
@@ -32,11 +36,11 @@ impl fmt::Display for NotASession {
 impl std::error::Error for NotASession {}
 
 impl Session {
-    /// How many bytes a snapshot has: 66,714.
-    pub const SNAPSHOT_LENGTH: usize = 16 + 8 * (4104 + 2056 + 2048) + 2 * 513 + 8;
+    /// How many bytes a snapshot has: 66,718.
+    pub const SNAPSHOT_LENGTH: usize = 16 + 8 * (4104 + 2056 + 2048) + 2 * 513 + 8 + 4;
 
-    /// The session as bytes: the mark, the version of the layout, the words of the store, the ready queue and its
-    /// count, little-endian. A trace is not in it.
+    /// The session as bytes: the mark, the version of the layout, the words of the store, the ready queue, its count,
+    /// and the CRC-32 (IEEE) of all these, little-endian. A trace is not in it.
     ///
     /// ```
     /// use sozgarru::{Session, Value};
@@ -59,14 +63,15 @@ impl Session {
         bytes.extend(m.ids.iter().flat_map(|id| id.to_le_bytes()));
         // a queue's count is at most 513
         bytes.extend_from_slice(&(m.len as u64).to_le_bytes());
+        bytes.extend_from_slice(&crc32(&bytes).to_le_bytes());
         bytes
     }
 
-    /// The session of a snapshot. Its bytes are checked: what is no sound store is refused, and never run. (A damage
-    /// that makes another sound store of it cannot be seen; a host that fears that keeps a checksum beside it.)
+    /// The session of a snapshot. Its bytes are checked: damaged ones are refused, and so is what is no sound store; they
+    /// are never run. The checksum is for damage by chance: who writes another sound store writes its checksum too.
     ///
     /// # Errors
-    /// [`NotASession`] says what the bytes are not.
+    /// [`NotASession`] says what the bytes are not: the first of its rows that holds.
     ///
     /// # Panics
     /// If the linked archive has another version of the layout than this crate.
@@ -74,12 +79,16 @@ impl Session {
         if bytes.len() != Session::SNAPSHOT_LENGTH {
             return Err(NotASession::Length);
         }
-        let mut rest = Rest(bytes);
+        let (summed, sum) = bytes.split_last_chunk().expect("as many bytes as a snapshot has");
+        let mut rest = Rest(summed);
         if rest.next() != MARK {
             return Err(NotASession::Mark);
         }
         if u64::from_le_bytes(rest.next()) != VERSION {
             return Err(NotASession::Version);
+        }
+        if u32::from_le_bytes(*sum) != crc32(summed) {
+            return Err(NotASession::Damaged);
         }
         let memory = read_memory(&mut rest).ok_or(NotASession::Unsound)?;
         SoundMemory::check(memory).map(Session::of).ok_or(NotASession::Unsound)

@@ -1,6 +1,9 @@
 //! The stored cases through the crate: line for line, from snapshots, from damaged snapshots, on a small stack.
+#[path = "../src/checksum.rs"]
+mod checksum;
 mod common;
 
+use checksum::crc32;
 use common::{cases, events, hold, replay, session_after, Case};
 use sozgarru::{CallId, Event, HeapId, NotASession, Outcome, Refusal, Session, TaskId, Value};
 use std::thread::Builder;
@@ -70,6 +73,35 @@ fn a_snapshot_of_the_python_side_goes_on() {
     assert_eq!(session.resume().expect("the host waits").to_string(), "runs 0 value list 2");
 }
 
+/// Where the parts of a snapshot begin, in bytes.
+const TASKS: usize = 16;
+const OBJECTS: usize = TASKS + 8 * 4104;
+const PLACES: usize = OBJECTS + 8 * 2056;
+const QUEUE: usize = PLACES + 8 * 2048;
+const COUNT: usize = QUEUE + 2 * 513;
+const CHECKSUM: usize = COUNT + 8;
+
+/// The bytes with the checksum that they should have.
+fn summed_anew(mut bytes: Vec<u8>) -> Vec<u8> {
+    let sum = crc32(&bytes[..CHECKSUM]);
+    bytes[CHECKSUM..].copy_from_slice(&sum.to_le_bytes());
+    bytes
+}
+
+/// CRC-32 as it is defined, bit by bit.
+#[test]
+fn the_checksum_is_crc_32() {
+    assert_eq!(crc32(b"123456789"), 0xCBF4_3926);
+    let bytes: Vec<u8> = (0..=255).map(|number: u8| number.wrapping_mul(167)).collect();
+    for length in 0..bytes.len() {
+        let by_bit = |state: u32, byte: &u8| {
+            let shift = |state: u32, _| (state >> 1) ^ (0xEDB8_8320 * (state & 1));
+            (0..8).fold(state ^ u32::from(*byte), shift)
+        };
+        assert_eq!(crc32(&bytes[..length]), !bytes[..length].iter().fold(u32::MAX, by_bit), "{length} bytes");
+    }
+}
+
 #[test]
 fn what_is_no_snapshot_is_refused() {
     let bytes = Session::new().snapshot();
@@ -78,22 +110,18 @@ fn what_is_no_snapshot_is_refused() {
     assert_eq!(refused(&bytes[1..]), Some(NotASession::Length));
     assert_eq!(refused(&[]), Some(NotASession::Length));
     assert_eq!(refused(&[&bytes[..], &[0]].concat()), Some(NotASession::Length));
-    let damaged = |at: usize, byte: u8| {
+    let with = |at: usize, byte: u8| {
         let mut bytes = bytes.clone();
         bytes[at] = byte;
-        refused(&bytes)
+        bytes
     };
-    assert_eq!(damaged(0, b's'), Some(NotASession::Mark));
-    assert_eq!(damaged(8, 200), Some(NotASession::Version));
-    assert_eq!(damaged(16, 9), Some(NotASession::Unsound), "no such state of main");
-    assert_eq!(damaged(bytes.len() - 1, 1), Some(NotASession::Unsound), "a count above every count");
+    assert_eq!(refused(&with(0, b's')), Some(NotASession::Mark));
+    assert_eq!(refused(&with(8, 200)), Some(NotASession::Version));
+    for (at, byte, why) in [(TASKS, 9, "no such state of main"), (CHECKSUM - 1, 1, "a count above every count")] {
+        assert_eq!(refused(&with(at, byte)), Some(NotASession::Damaged));
+        assert_eq!(refused(&summed_anew(with(at, byte))), Some(NotASession::Unsound), "{why}");
+    }
 }
-
-/// Where the parts of a snapshot begin, in bytes.
-const TASKS: usize = 16;
-const OBJECTS: usize = TASKS + 8 * 4104;
-const PLACES: usize = OBJECTS + 8 * 2056;
-const QUEUE: usize = PLACES + 8 * 2048;
 
 /// The bytes that rows in use have, at least: where a damage matters.
 fn bytes_in_use(snapshot: &[u8]) -> Vec<usize> {
@@ -102,13 +130,7 @@ fn bytes_in_use(snapshot: &[u8]) -> Vec<usize> {
         usize::from(u16::from_le_bytes([snapshot[at], snapshot[at + 1]]))
     };
     let (objects, places, tasks) = (header(0), header(1), header(3));
-    let rows = [
-        (TASKS, 64 * tasks),
-        (OBJECTS, 64 + 64 * objects),
-        (PLACES, 32 * places),
-        (QUEUE, 16),
-        (snapshot.len() - 8, 8),
-    ];
+    let rows = [(TASKS, 64 * tasks), (OBJECTS, 64 + 64 * objects), (PLACES, 32 * places), (QUEUE, 16), (COUNT, 8)];
     rows.into_iter().flat_map(|(from, length)| from..from + length).collect()
 }
 
@@ -147,10 +169,15 @@ fn tries() -> Vec<Event<'static>> {
     tries
 }
 
-/// Restores damaged bytes: they are refused, or they are a sound store, and then every event keeps it so.
-fn try_damaged(case: &Case, bytes: &[u8], tries: &[Event<'_>]) -> bool {
-    let Ok(mut session) = Session::restore(bytes) else {
-        return false;
+/// Restores wrong words with their checksum: they are refused, or they are a sound store, and then every event keeps it
+/// so.
+fn try_wrong(case: &Case, bytes: &[u8], tries: &[Event<'_>]) -> bool {
+    let mut session = match Session::restore(bytes) {
+        Ok(session) => session,
+        Err(error) => {
+            assert_eq!(error, NotASession::Unsound, "{}", case.name);
+            return false;
+        }
     };
     for event in tries {
         let answer = session.dispatch_checked(event);
@@ -169,9 +196,61 @@ fn turns() -> usize {
     }
 }
 
-/// One bit, then up to three, of the last state of every case.
+/// The worked example's wait.
+fn session_at_the_wait() -> Session {
+    let records = include_bytes!("cases/00-worked-example.bin");
+    let mut session = Session::new();
+    for event in events(records).iter().flatten().take(6) {
+        session.dispatch(event).expect("an accepted event");
+    }
+    session
+}
+
+/// What a flip in this byte is refused as.
+fn refused_at(at: usize) -> NotASession {
+    match at {
+        0..8 => NotASession::Mark,
+        8..16 => NotASession::Version,
+        _ => NotASession::Damaged,
+    }
+}
+
+/// Every bit of the header, of the rows in use and of the end, of the worked example's wait.
 #[test]
-fn damaged_snapshots_are_refused_or_sound() {
+fn every_flipped_bit_is_refused() {
+    let mut bytes = session_at_the_wait().snapshot();
+    let places = (0..TASKS).chain(bytes_in_use(&bytes)).chain(CHECKSUM..bytes.len());
+    for at in places.collect::<Vec<_>>() {
+        for bit in 0..8 {
+            bytes[at] ^= 1 << bit;
+            assert_eq!(Session::restore(&bytes).err(), Some(refused_at(at)), "byte {at}, bit {bit}");
+            bytes[at] ^= 1 << bit;
+        }
+    }
+    assert!(Session::restore(&bytes).is_ok());
+}
+
+/// One to three bits, anywhere.
+#[test]
+fn flipped_bits_are_refused() {
+    let (snapshot, mut chance) = (session_at_the_wait().snapshot(), Chance(2));
+    for turn in 0..10 * turns() {
+        let mut bytes = snapshot.clone();
+        let places: Vec<usize> = (0..=turn % 3).map(|_| chance.below(bytes.len())).collect();
+        for at in &places {
+            bytes[*at] ^= 1 << chance.below(8);
+        }
+        // two flips of one bit are none
+        if bytes != snapshot {
+            let first = places.iter().copied().filter(|at| bytes[*at] != snapshot[*at]).min();
+            assert_eq!(Session::restore(&bytes).err(), first.map(refused_at), "bytes {places:?}");
+        }
+    }
+}
+
+/// One bit, then up to three, of the last state of every case, and the checksum made anew.
+#[test]
+fn wrong_words_are_refused_or_sound() {
     let (tries, mut chance) = (tries(), Chance(1));
     let (mut refused, mut sound) = (0, 0);
     for case in cases() {
@@ -181,16 +260,17 @@ fn damaged_snapshots_are_refused_or_sound() {
             let mut bytes = snapshot.clone();
             for _ in 0..=turn % 3 {
                 let anywhere = turn % 10 == 9;
-                let at = if anywhere { chance.below(bytes.len()) } else { in_use[chance.below(in_use.len())] };
+                let at =
+                    if anywhere { TASKS + chance.below(CHECKSUM - TASKS) } else { in_use[chance.below(in_use.len())] };
                 bytes[at] ^= 1 << chance.below(8);
             }
-            if try_damaged(&case, &bytes, &tries) {
+            if try_wrong(&case, &summed_anew(bytes), &tries) {
                 sound += 1;
             } else {
                 refused += 1;
             }
         }
     }
-    println!("{refused} damaged snapshots refused, {sound} are sound stores");
+    println!("{refused} wrong stores refused, {sound} are sound ones");
     assert!(refused > 0 && sound > 0);
 }
