@@ -9,7 +9,7 @@ ghost use Rattle.scheduler.specs.Skips.{is-pending, any-of, BeginsAt};
 ghost use Rattle.contract.specs.Contract.{ObjectsLength};
 
 // Is object `o` a pending external?
-fn is_pending(objects: &[u64], o: HeapId) -> bool
+pub(crate) fn is_pending(objects: &[u64], o: HeapId) -> bool
     requires { ⌜ ObjectsLength objects × (o .0 < object-limit) ⌝ }
     ensures { λ r. ⌜ r ≡ is-pending (now (objects .entry)) (o .0) ⌝ }
 {

@@ -66,6 +66,14 @@ impl SoundMemory {
         memory
     }
 
+    /// A fresh session whose list of calls holds these words, to see which of them a wait writes.
+    #[cfg(test)]
+    pub(crate) fn with_calls(words: [u64; 256]) -> SoundMemory {
+        let mut memory = SoundMemory::begin();
+        memory.0.calls = words;
+        memory
+    }
+
     /// What it holds, to read.
     pub(crate) fn memory(&self) -> &Memory {
         &self.0

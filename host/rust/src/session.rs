@@ -291,4 +291,32 @@ mod tests {
         assert!(session.snapshot() == before, "a refused event changes nothing");
         assert_eq!(Session::restore(&before).err(), Some(crate::NotASession::Unsound));
     }
+
+    /// A wait writes its calls, ascending, at the list's front; the words behind them are as they were lent, or as the
+    /// waits before it left them. The calls are made pending in steps of seven, or descending where seven divides their
+    /// number, and answered one by one, main's last.
+    #[test]
+    fn a_wait_writes_its_calls_and_no_word_behind_them() -> Result<(), Refusal> {
+        for made in 1..=256_usize {
+            let mut list = std::array::from_fn(|word| 1_000 + word as u64);
+            let mut session = Session::of(SoundMemory::with_calls(list));
+            let calls = (0..made).map(|_| session.call()).collect::<Result<Vec<_>, _>>()?;
+            let nth = |i| if made % 7 == 0 { made - 1 - i } else { i * 7 % made };
+            let order: Vec<CallId> = (0..made).map(|i| calls[nth(i)]).collect();
+            let objects = order.iter().map(|call| session.pending(*call, None)).collect::<Result<Vec<_>, _>>()?;
+            session.await_object(objects[0])?;
+            let mut left = calls;
+            for answered in order[1..].iter().chain(&order[..1]) {
+                for (word, call) in list.iter_mut().zip(&left) {
+                    *word = call.number().into();
+                }
+                assert_eq!(session.memory.memory().calls, list, "{} of {made} calls are pending", left.len());
+                session.result(*answered, Outcome::Return(Value::Plain(1)))?;
+                session.resume()?;
+                left.retain(|call| call != answered);
+            }
+            assert_eq!(session.memory.memory().calls, list, "main runs: no wait was written");
+        }
+        Ok(())
+    }
 }
