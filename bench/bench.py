@@ -4,7 +4,8 @@
     python3 bench/bench.py [--quick] [DRIVE]      DRIVE: a drive to measure; else one is built from the sources (tools/quickbuild.sh)
 
 Instructions are callgrind's, less those of an empty input: they do not depend on what else the machine does. Times are the best of five runs of a file of
-200,000 records, less that of an empty one; compare them within one run only. --quick leaves the times out.
+200,000 records (20,000 of waits with 256 calls), those that make the session counted too, less that of an empty one; compare them within one run only. --quick
+leaves the times out.
 
 A session is measured whole (what a member's projection costs), or by what it goes on with (an event in a session of so many objects). `checked` is drive with
 the entry `session_dispatch::dispatch` in place of `step_event::step`: what an entry costs that checks the store that is lent to it. (A gather's record is made
@@ -148,9 +149,9 @@ class Table:
         events = len(texts[1]) - len(texts[0])
         self.row(name, [(b - a) / events for a, b in zip(few, many)], "instructions an event")
 
-    def timed(self, name, made, turn, names=("drive", "rust")):
-        data = data_of(made + turn * ((RECORDS - len(made)) // len(turn)))
-        count = len(made) + len(turn) * ((RECORDS - len(made)) // len(turn))
+    def timed(self, name, made, turn, names=("drive", "rust"), records=RECORDS):
+        data = data_of(made + turn * ((records - len(made)) // len(turn)))
+        count = len(made) + len(turn) * ((records - len(made)) // len(turn))
         self.row(name, [(seconds(self.commands[n], data) - self.idle[n]) / count * 1e9 for n in names], "ns an event")
 
 
@@ -169,7 +170,8 @@ def main(words):
             table.whole(f"{name}, {len(stored(name))} records", stored(name))
         shuffled = list(range(256))
         random.Random(1).shuffle(shuffled)
-        for name, order in (("ascending", range(256)), ("descending", range(255, -1, -1)), ("shuffled", shuffled)):
+        orders = (("ascending", range(256)), ("descending", range(255, -1, -1)), ("shuffled", shuffled))
+        for name, order in orders:
             table.each(f"a wait with 256 calls, made {name}", *waits(order))
         table.each("a cancel through 14 levels", *cancels(), turns=1)
         for name, make in (("running", running), ("waiting", waiting)):
@@ -179,6 +181,8 @@ def main(words):
             table.each(f"with the check, {objects} objects", *running(objects), names=("checked", "rust"))
         if quick:
             return
+        for name, order in orders:
+            table.timed(f"a wait with 256 calls, made {name}", *waits(order), records=RECORDS // 10)
         for name, make in (("running", running), ("waiting", waiting)):
             for objects in SIZES:
                 table.timed(f"{name}, {objects} objects", *make(objects))
