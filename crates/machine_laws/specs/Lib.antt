@@ -9,6 +9,7 @@ pub mod CommitLaws
 pub mod MachineLaws
 pub mod Facts
 pub mod FactLaws
+pub mod ValueLaws
 pub mod MakingLaws
 pub mod WordLaws
 pub mod SoundLaws

@@ -13,7 +13,6 @@ use Rattle.asyncio.specs.declared.TaskId.{TaskId}
 use Rattle.asyncio.specs.declared.HeapId.{HeapId}
 use Rattle.asyncio.specs.declared.Value.{Value}
 use Rattle.asyncio.specs.declared.OptionValue.{OptionValue}
-use Rattle.asyncio.specs.declared.TaskState.{TaskState}
 use Rattle.asyncio.specs.declared.Task.{Task}
 use Rattle.asyncio.specs.declared.Awaiter.{Awaiter}
 use Rattle.asyncio.specs.declared.CoroutineState.{CoroutineState}
@@ -33,8 +32,9 @@ use Rattle.machine.specs.Tests.{_and_, sum-below}
 use Rattle.machine.specs.Store.{Store, View, view, task, object, place, header, put-place, put-header, add-object, set-calls}
 use Rattle.machine.specs.Scheduler.{AwaitedGather, PendingExternal, as-awaited, as-pending, blocked-on, bit}
 use Rattle.machine.specs.Sound.{places-below, awaiter-in-range, open-in-range, object-in-range, is-slot, task-in-range, committed-places, items-below}
-use Rattle.machine.specs.Sound.{value-known, option-known, object-values, state-values, is-ended, is-filled, rest-filled, gather-filled, object-filled}
+use Rattle.machine.specs.Sound.{value-known, option-known, object-values, is-ended, is-filled, rest-filled, gather-filled, object-filled}
 use Rattle.machine.specs.Events.{make-coroutine, make-pending, make-settled, put-items, make-gather}
+use Rattle.machine_laws.specs.ValueLaws.{option-stays, object-stays, state-stays}
 use Rattle.machine_laws.specs.Views.{Sized, update, with-object, with-places, with-header}
 use Rattle.machine_laws.specs.Statements.{AllBelow}
 use Rattle.machine_laws.specs.Facts.{Open, Slotted, AwaitedBy, SoundBut, Nothing, SoundFacts, add, AddFits}
@@ -58,7 +58,7 @@ object-more h i l p (Object.ExternalFuture c x) t = ltb-more (c .0) (h .calls) (
 object-more h i l p (Object.GatherFuture f n x) t = t
 
 -- a made object that is a coroutine is one still
-task-more : (h i : Header) → h .next ≤ i .next → h .made ≤ i .made → (os ps : ℕ → Object)
+pub task-more : (h i : Header) → h .next ≤ i .next → h .made ≤ i .made → (os ps : ℕ → Object)
     → ((o : ℕ) → o < h .made → T (is-coroutine (kind (os o))) → T (is-coroutine (kind (ps o))))
     → (t : ℕ) (y : Task) → T (task-in-range h os t y) → T (task-in-range i ps t y)
 unfolding task-in-range
@@ -203,36 +203,11 @@ module _ (v : View) (x : Object) (n : ℕ) (ps : ℕ → Place) (c : ℕ) (ft : 
       within-range (v .header .used) (v .header) (places-below (v .objects) p) (v .objects p)
       (omega (arith, sum-last (λ o. count-of (v .objects o)) p)) (h .objects p l)
 
-  value-add : (y : Value) → T (value-known top (v .objects) y) → T (value-known (top + 1) new y)
-  unfolding value-known
-  value-add (Value.Plain k) t = t
-  value-add (Value.List g) t =
-      let l : g .0 < top = ltb→lt (g .0) top (both-left _ _ t) in
-      both _ _ (ltb-more (g .0) top (top + 1) (omega arith) (both-left _ _ t))
-      (subst (λ (y : Object). T (is-completed (kind y))) (sym (old (g .0) l)) (both-right (ltb (g .0) top) _ t))
-
-  option-add : (y : OptionValue) → T (option-known top (v .objects) y) → T (option-known (top + 1) new y)
-  unfolding option-known
-  option-add OptionValue.None t = t
-  option-add (OptionValue.Some y) t = value-add y t
+  completed-add : (o : ℕ) → o < top → T (is-completed (kind (v .objects o))) → T (is-completed (kind (new o)))
+  completed-add o l t = subst (λ (y : Object). T (is-completed (kind y))) (sym (old o l)) t
 
   object-add : (y : Object) → T (object-values top (v .objects) y) → T (object-values (top + 1) new y)
-  unfolding object-values
-  object-add Object.Unmade t = t
-  object-add (Object.Coroutine f y) t = t
-  object-add (Object.ExternalFuture d (ExternalFutureState.Pending a y)) t = option-add y t
-  object-add (Object.ExternalFuture d (ExternalFutureState.Resolved y)) t = value-add y t
-  object-add (Object.ExternalFuture d (ExternalFutureState.Failed e)) t = t
-  object-add (Object.GatherFuture f k y) t = t
-
-  state-add : (y : TaskState) → T (state-values top (v .objects) y) → T (state-values (top + 1) new y)
-  unfolding state-values
-  state-add TaskState.Absent t = t
-  state-add TaskState.Unstarted t = t
-  state-add TaskState.Running t = t
-  state-add (TaskState.Woken y) t = value-add y t
-  state-add (TaskState.Raised e) t = t
-  state-add (TaskState.Blocked o) t = t
+  object-add y t = object-stays top (top + 1) (omega arith) (v .objects) new completed-add y t
 
   slotted-add : (o g y : ℕ) → Slotted top (v .objects) (v .places) o g y → Slotted (top + 1) new ps o g y
   slotted-add o g y sl =
@@ -250,7 +225,7 @@ module _ (v : View) (x : Object) (n : ℕ) (ps : ℕ → Place) (c : ℕ) (ft : 
     where
       by : Dec (p < v .header .used) → T (option-known (top + 1) new (ps p .result))
       by (yes l) =
-          option-add (ps p .result) (subst (λ (y : Place). T (option-known top (v .objects) (y .result))) (sym (ft .old-places p l)) (h .place-lists p l))
+          option-stays top (top + 1) (omega arith) (v .objects) new completed-add (ps p .result) (subst (λ (y : Place). T (option-known top (v .objects) (y .result))) (sym (ft .old-places p l)) (h .place-lists p l))
       by (no l) = subst (λ (y : OptionValue). T (option-known (top + 1) new y)) (sym (ft .new-places p (omega arith) z)) (unfold option-known in tt)
 
   calls-add : is-ended (v .header .moment) ≡ false → (o p : ℕ) → o < top + 1 → p < top + 1 → (a b : PendingExternal)
@@ -288,7 +263,7 @@ module _ (v : View) (x : Object) (n : ℕ) (ps : ℕ → Place) (c : ℕ) (ft : 
         items = λ p z. each (λ p y. T (items-below ps p y)) p z (ft .lower)
             (λ l. lower-stays (v .header .used) (v .places) ps (ft .old-places) p (v .objects p) (in-used p l) (h .items p l));
         object-lists = λ p z. each (λ p y. T (object-values (top + 1) new y)) p z (object-add x (ft .known)) (λ l. object-add (v .objects p) (h .object-lists p l));
-        task-lists = λ t z. state-add (v .tasks t .state) (h .task-lists t z);
+        task-lists = λ t z. state-stays top (top + 1) (omega arith) (v .objects) new completed-add (v .tasks t .state) (h .task-lists t z);
         place-lists = place-add;
         entries = h .entries;
         calls = calls-add;

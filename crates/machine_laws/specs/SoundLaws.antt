@@ -221,13 +221,13 @@ pub running-rest : (s : Store) (rs : List (ℕ × Bool)) → first-refusal (in-r
 unfolding in-running
 running-rest s rs h = pass 3 (not (is-run (header s .moment))) rs (pass 2 (is-ended (header s .moment)) _ h .1) .1
 
-not-full : (s : Store) → full s ≡ false → header s .made < object-limit
+pub not-full : (s : Store) → full s ≡ false → header s .made < object-limit
 unfolding full
 not-full s e = leb-false 256 (header s .made) e
 
-has-number : (s : Store) → no-number s ≡ false → header s .calls < call-limit
+pub has-number : (s : Store) → no-number s ≡ false → header s .calls < call-limit
 unfolding no-number
-has-number s e = leb-false 65536 (header s .calls) e
+has-number s e = leb-false call-limit (header s .calls) e
 
 all-made : (s : Store) (os : List ℕ) → any-of (unmade s) os ≡ false → AllBelow (header s .made) os
 unfolding any-of unmade AllBelow

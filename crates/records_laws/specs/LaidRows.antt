@@ -6,17 +6,17 @@ use mathlib.Core.List.{List, [], _∷_}
 use Prim.Native.Nat.{ℕ, zero, suc, _+_, _*_, _≤_, _<_}
 use native.Mathlib.Decide.{ℕ-discrete}
 use native.Mathlib.Omega.{arith}
-use lib.Dec.{T, eqb, leb}
+use lib.Dec.{T, leb}
 use lib.ListN.{length, getD, set, replicate, length-replicate}
 use lib.Seq.{getD-set-same, getD-set-other, ext-getD}
-use borrow.Author.Tests.{eqb-true, leb-true, leb-false}
+use borrow.Author.Tests.{leb-true, leb-false}
 use Rattle.asyncio.specs.Limits.{task-limit, task-width, tasks-length}
-use Rattle.asyncio.specs.States.{pick}
 use Rattle.asyncio.specs.Layout.{task-words}
 use Rattle.asyncio.specs.declared.Task.{Task}
 use Rattle.rows.specs.Rows.{row-from, put-from}
 use Rattle.rows.specs.RowLaws.{row-put-from, row-apart}
-use Rattle.rows.specs.Canonical.{same-words, task-canonical}
+use Rattle.rows.specs.Canonical.{task-canonical}
+use Rattle.rows.specs.CanonicalLaws.{words-same}
 use Rattle.rows.specs.Tables.{task-at, task-put, task-start}
 use Rattle.rows.specs.TableLaws.{length-task-put}
 use Rattle.records_tasks.specs.declared.TaskRecord.{TaskRecord}
@@ -71,17 +71,6 @@ loaded-row (suc n) ts z t l h = by (ℕ-discrete t n) (λ k. loaded-row n ts z t
     by (no ne) more = put-other (loaded ts n z) n t r (omega (arith, h, ne)) ∙ more (omega (arith, h, ne))
 
 -- ---- words that have the same rows
-
-words-same : (xs ys : List ℕ) → T (same-words xs ys) → xs ≡ ys
-unfolding same-words
-words-same [] [] h = refl
-words-same [] (y ∷ ys) h = absurd h
-words-same (x ∷ xs) [] h = absurd h
-words-same (x ∷ xs) (y ∷ ys) h = by (eqb x y) refl h (λ k. words-same xs ys k)
-  where
-    by : (b : Bool) → eqb x y ≡ b → T (pick b (same-words xs ys) false) → (T (same-words xs ys) → xs ≡ ys) → x ∷ xs ≡ y ∷ ys
-    by true e k more = rw (eqb-true x y e, more k)
-    by false e k more = absurd k
 
 canonical-row : (w : List ℕ) (t : ℕ) → T (task-canonical w t) → task-words (task-at w t) ≡ row-from w (task-start t) 0 8
 unfolding task-canonical task-at

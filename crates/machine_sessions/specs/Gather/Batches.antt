@@ -4,6 +4,7 @@ use mathlib.Core.Bool.{Bool, true, false, not, _||_, _&&_, true≢false}
 use mathlib.Core.List.{List, [], _∷_, _++_, append-assoc, reverseAux}
 use mathlib.Core.Option.{Option, none, some, Option·some-injective}
 use Prim.Native.Nat.{ℕ, _≤_}
+use native.Mathlib.Nat.{le-refl}
 use native.Mathlib.Omega.{arith}
 use native.Mathlib.Decide.{ℕ-discrete}
 use lib.Dec.{T, eqb, ltb, leb}
@@ -20,12 +21,12 @@ use Rattle.machine.specs.Events.{Result, apply-result, apply-future-results}
 use Rattle.machine.specs.Machine.{Event, Answer, Step, in-both, any-of, result-unknown, bad-result, refusals, first-refusal, refusal, accept, step}
 use Rattle.machine.specs.Sound.{sound, is-ended, value-known, runs-now}
 use Rattle.machine_laws.specs.Views.{Sized}
+use Rattle.machine_laws.specs.ValueLaws.{value-stays}
 use Rattle.machine_laws.specs.Facts.{Nothing}
 use Rattle.machine_laws.specs.TestLaws.{is-true, not-not, and-true, or-left, or-right}
 use Rattle.machine_laws.specs.DeliveryLaws.{absurd-some}
 use Rattle.machine_laws.specs.MachineLaws.{accepted-step, refused-step}
 use Rattle.machine_laws.specs.SoundLaws.{pass, refusal-sound, refusal-rest, refusal-forget, step-forget}
-use Rattle.machine_theorems.specs.Soundness.PutObject.{value-stays}
 use Rattle.machine_theorems.specs.Soundness.Stores.{SoundStore, SoundDuring, during-of, sound-store-sound}
 use Rattle.machine_theorems.specs.Soundness.Results.{AllApply, result-keeps}
 use Rattle.machine_theorems.specs.Soundness.Preserved.{results-apply}
@@ -82,7 +83,7 @@ module _ (s u : Store) (head : header u ≡ header s) (done : (o : ℕ) → T (i
   still-known r e =
       let v : Value = Value.List (heap-id (r .number)) in
       unknown-less (eqb (r .kind) 0) (eqb (r .tag) 1) (value-known (header s .made) (object s) v) (value-known (header u .made) (object u) v)
-      (λ k. subst (λ (h : Header). T (value-known (h .made) (object u) v)) (sym head) (value-stays (header s .made) (object s) (object u) done v k)) e
+      (λ k. subst (λ (h : Header). T (value-known (h .made) (object u) v)) (sym head) (value-stays (header s .made) (header s .made) (le-refl _) (object s) (object u) (λ o l. done o) v k)) e
 
   all-known : (rs : List Result) → any-of (result-unknown s) rs ≡ false → any-of (result-unknown u) rs ≡ false
   unfolding any-of

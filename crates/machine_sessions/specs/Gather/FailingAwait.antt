@@ -10,7 +10,7 @@ use native.Mathlib.Omega.{arith}
 use native.Mathlib.Decide.{ℕ-discrete}
 use lib.Dec.{T, eqb, ltb, leb}
 use lib.ListN.{length}
-use borrow.Author.Tests.{ltb-true, ltb-false, leb-false, ne-eqb}
+use borrow.Author.Tests.{ltb-true, ltb-false, ne-eqb}
 use Rattle.asyncio.specs.declared.CallId.{CallId}
 use Rattle.asyncio.specs.declared.HeapId.{HeapId}
 use Rattle.asyncio.specs.declared.Value.{Value}
@@ -25,7 +25,7 @@ use Rattle.asyncio.specs.declared.GatherState.{GatherState}
 use Rattle.asyncio.specs.declared.Object.{Object}
 use Rattle.asyncio.specs.declared.Moment.{Moment}
 use Rattle.asyncio.specs.declared.Header.{Header}
-use Rattle.asyncio.specs.Limits.{object-limit, task-limit, call-limit, place-limit, item-limit}
+use Rattle.asyncio.specs.Limits.{object-limit, task-limit, place-limit, item-limit}
 use Rattle.asyncio.specs.Numbers.{heap-id, task-id}
 use Rattle.asyncio.specs.Ranges.{ObjectFits, TaskFits, ErrorFits}
 use Rattle.asyncio.specs.Kinds.{kind, is-committed, is-completed}
@@ -44,7 +44,7 @@ use Rattle.machine_laws.specs.Views.{Sized}
 use Rattle.machine_laws.specs.Facts.{SoundBut, Slotted, Nothing}
 use Rattle.machine_laws.specs.StoreLaws.{header-fits, header-put-object, object-put-object, object-put-other, object-fits, task-fits, task-put-task, task-put-other, sized-set-state, sized-add-log, sized-put-object}
 use Rattle.machine_laws.specs.DeliveryLaws.{absurd-some, awaited-object}
-use Rattle.machine_laws.specs.SoundLaws.{pass, running-rest, refusal-rest}
+use Rattle.machine_laws.specs.SoundLaws.{pass, running-rest, refusal-rest, has-number, not-full}
 use Rattle.machine_laws.specs.TestLaws.{or-left, or-right, holds}
 use Rattle.machine_theorems.specs.Soundness.Stores.{idle, SoundDuring, SoundStore}
 use Rattle.machine_theorems.specs.Soundness.Deliver.{awaiter-is}
@@ -517,14 +517,6 @@ module _ (o : ℕ) (s : Store) (w : SoundStore s) (t : ℕ) (m : header s .momen
 -- ---- each event
 
 module _ (s : Store) (w : SoundStore s) where
-  not-full : full s ≡ false → header s .made < object-limit
-  unfolding full
-  not-full e = leb-false object-limit (header s .made) e
-
-  number-left : no-number s ≡ false → header s .calls < call-limit
-  unfolding no-number
-  number-left e = leb-false call-limit (header s .calls) e
-
   completes-fails : (t : ℕ) (v : Value) → header s .moment ≡ Moment.Running (task-id t) → T (value-known (header s .made) (object s) v) → EventFails (Event.complete v) s (task-completes s t v)
   unfolding task-completes tells done-only
   completes-fails zero v m k = end-fails (Event.complete v) s (Answer.finished v) w refl
@@ -538,21 +530,21 @@ module _ (s : Store) (w : SoundStore s) where
   -- What an accepted event does to every gather.
   pub accept-fails : (e : Event) → InRange e → refusal s e ≡ 0 → EventFails e s (accept s e)
   unfolding refusals InRange in-both
-  accept-fails (Event.coroutine f) i r = coroutine-fails s f (w .memory .sized) (not-full (pass 6 (full s) [] (running-rest s _ (refusal-rest s (Event.coroutine f) r)) .0))
-  accept-fails Event.call i r = call-fails s (w .memory .sized) (number-left (pass 7 (no-number s) [] (running-rest s _ (refusal-rest s Event.call r)) .0))
+  accept-fails (Event.coroutine f) i r = coroutine-fails s f (w .memory .sized) (not-full s (pass 6 (full s) [] (running-rest s _ (refusal-rest s (Event.coroutine f) r)) .0))
+  accept-fails Event.call i r = call-fails s (w .memory .sized) (has-number s (pass 7 (no-number s) [] (running-rest s _ (refusal-rest s Event.call r)) .0))
   accept-fails (Event.pending c x) i r =
       let q = running-rest s _ (refusal-rest s (Event.pending c x) r) in
       let five = pass 4 (leb (header s .calls) c || not (option-known (header s .made) (object s) x)) _ q in
-      pending-fails s c x (w .memory .sized) (not-full (pass 6 (full s) [] (pass 5 _ _ (five .1) .1) .0))
+      pending-fails s c x (w .memory .sized) (not-full s (pass 6 (full s) [] (pass 5 _ _ (five .1) .1) .0))
   accept-fails (Event.settled v) i r =
       let five = pass 4 (not (value-known (header s .made) (object s) v)) _ (running-rest s _ (refusal-rest s (Event.settled v) r)) in
       let seven = pass 6 (full s) _ (five .1) in
-      settled-fails s (w .memory .sized) (number-left (pass 7 (no-number s) [] (seven .1) .0)) v (not-full (seven .0))
+      settled-fails s (w .memory .sized) (has-number s (pass 7 (no-number s) [] (seven .1) .0)) v (not-full s (seven .0))
   accept-fails (Event.gather os) i r =
       let five = pass 4 (any-of (unmade s) os) _ (running-rest s _ (refusal-rest s (Event.gather os) r)) in
       let q = pass 6 (full s || ltb item-limit (length os) || ltb place-limit (header s .used + length os)) [] (five .1) .0 in
       let q1 = or-left (full s || ltb item-limit (length os)) (ltb place-limit (header s .used + length os)) q in
-      gather-fails s os (w .memory .sized) (not-full (or-left (full s) (ltb item-limit (length os)) q1))
+      gather-fails s os (w .memory .sized) (not-full s (or-left (full s) (ltb item-limit (length os)) q1))
       (ltb-false place-limit (header s .used + length os) (or-right (full s || ltb item-limit (length os)) (ltb place-limit (header s .used + length os)) q))
   accept-fails (Event.await o) i r =
       let q = refusal-rest s (Event.await o) r in

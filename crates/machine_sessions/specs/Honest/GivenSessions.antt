@@ -10,7 +10,7 @@ use native.Mathlib.Omega.{arith}
 use native.Mathlib.Decide.{ℕ-discrete}
 use lib.Dec.{T, eqb, ltb}
 use lib.ListN.{length, getD, replicate}
-use borrow.Author.Tests.{eq-eqb, ne-eqb, eqb-true, leb-false, ltb-false}
+use borrow.Author.Tests.{eq-eqb, ne-eqb, eqb-true, ltb-false}
 use Rattle.asyncio.specs.declared.Value.{Value}
 use Rattle.asyncio.specs.declared.Error.{Error}
 use Rattle.asyncio.specs.declared.TaskState.{TaskState}
@@ -24,7 +24,7 @@ use Rattle.asyncio.specs.Layout.{to-task}
 use Rattle.rows.specs.Rows.{row-from}
 use Rattle.rows.specs.Tables.{task-at, task-start}
 use Rattle.machine.specs.Computes.{computes}
-use Rattle.asyncio.specs.Limits.{object-limit, task-limit, item-limit, place-limit, call-limit, u32-limit, tasks-length}
+use Rattle.asyncio.specs.Limits.{object-limit, task-limit, item-limit, place-limit, u32-limit, tasks-length}
 use Rattle.asyncio.specs.Numbers.{task-id}
 use Rattle.asyncio.specs.States.{pick}
 use Rattle.machine.specs.Store.{Store, view, task, object, header, put-header, forget, fresh, empty}
@@ -39,7 +39,7 @@ use Rattle.machine_laws.specs.StoreLaws.{header-fits, sized-forget, task-put-ot
 use Rattle.machine_laws.specs.DeliveryLaws.{absurd-some}
 use Rattle.machine_laws.specs.MakingLaws.{value-fits}
 use Rattle.machine_laws.specs.MachineLaws.{accepted-step, refused-step}
-use Rattle.machine_laws.specs.SoundLaws.{pass, running-rest, refusal-rest, refusal-forget}
+use Rattle.machine_laws.specs.SoundLaws.{pass, running-rest, refusal-rest, refusal-forget, has-number, not-full}
 use Rattle.machine_laws.specs.TestLaws.{or-left, or-right}
 use Rattle.machine_theorems.specs.Soundness.Stores.{SoundStore}
 use Rattle.machine_theorems.specs.Soundness.Exits.{runner-low, runner-runs}
@@ -388,14 +388,6 @@ module _ (h : List Entry) (s : Store) (w : SoundStore s) (k : Agrees h s) (g : G
   behind : fate (header s .made) (object s (header s .made)) ≡ loose
   behind = unmade-loose (header s .made) (object s (header s .made)) (subst IsUnmade (sym (k .behind (header s .made) (omega arith))) tt)
 
-  not-full : full s ≡ false → header s .made < object-limit
-  unfolding full
-  not-full e = leb-false object-limit (header s .made) e
-
-  number-left : no-number s ≡ false → header s .calls < call-limit
-  unfolding no-number
-  number-left e = leb-false call-limit (header s .calls) e
-
   not-not : (b : Bool) → not b ≡ false → T b
   not-not true e = tt
   not-not false e = absurd (true≢false e)
@@ -407,21 +399,21 @@ module _ (h : List Entry) (s : Store) (w : SoundStore s) (k : Agrees h s) (g : G
   pub accept-given : (e : Event) → InRange e → refusal s e ≡ 0 → StepGiven h e (accept s e)
   unfolding accept refusals in-both InRange
   accept-given (Event.coroutine f) i r =
-      quiet-step (Event.coroutine f) _ _ (unfold says nothing-said in refl) (unfold tells in refl) (coroutine-given (waits-for h) s g (not-full (pass 6 (full s) [] (running-rest s _ (refusal-rest s (Event.coroutine f) r)) .0)) behind f)
+      quiet-step (Event.coroutine f) _ _ (unfold says nothing-said in refl) (unfold tells in refl) (coroutine-given (waits-for h) s g (not-full s (pass 6 (full s) [] (running-rest s _ (refusal-rest s (Event.coroutine f) r)) .0)) behind f)
   accept-given Event.call i r =
-      quiet-step Event.call _ _ (unfold says nothing-said in refl) (unfold tells done-only in refl) (calls-given (waits-for h) s g (number-left (pass 7 (no-number s) [] (running-rest s _ (refusal-rest s Event.call r)) .0)))
+      quiet-step Event.call _ _ (unfold says nothing-said in refl) (unfold tells done-only in refl) (calls-given (waits-for h) s g (has-number s (pass 7 (no-number s) [] (running-rest s _ (refusal-rest s Event.call r)) .0)))
   accept-given (Event.pending c y) i r =
       quiet-step (Event.pending c y) _ _ (unfold says in refl) (unfold tells in refl)
-      (pending-given (waits-for h) s g (not-full (pass 6 (full s) [] (pass 5 _ _ (pass 4 _ _ (running-rest s _ (refusal-rest s (Event.pending c y) r)) .1) .1) .0)) behind c y)
+      (pending-given (waits-for h) s g (not-full s (pass 6 (full s) [] (pass 5 _ _ (pass 4 _ _ (running-rest s _ (refusal-rest s (Event.pending c y) r)) .1) .1) .0)) behind c y)
   accept-given (Event.settled v) i r =
       let five = pass 4 (not (value-known (header s .made) (object s) v)) _ (running-rest s _ (refusal-rest s (Event.settled v) r)) in
       let seven = pass 6 (full s) _ (five .1) in
       quiet-step (Event.settled v) _ _ (unfold says nothing-said in refl) (unfold tells in refl)
-      (settled-given (waits-for h) s g (not-full (seven .0)) behind v (number-left (pass 7 (no-number s) [] (seven .1) .0)) (value-fits (header s .made) (object s) v (header-fits s .made-fits) (not-not (value-known (header s .made) (object s) v) (five .0))))
+      (settled-given (waits-for h) s g (not-full s (seven .0)) behind v (has-number s (pass 7 (no-number s) [] (seven .1) .0)) (value-fits (header s .made) (object s) v (header-fits s .made-fits) (not-not (value-known (header s .made) (object s) v) (five .0))))
   accept-given (Event.gather os) i r =
       let q = pass 6 (full s || ltb item-limit (length os) || ltb place-limit (header s .used + length os)) [] (pass 4 _ _ (running-rest s _ (refusal-rest s (Event.gather os) r)) .1) .0 in
       quiet-step (Event.gather os) _ _ (unfold says in refl) (unfold tells in refl)
-      (gather-given (waits-for h) s os (not-full (or-left (full s) (ltb item-limit (length os)) (or-left (full s || ltb item-limit (length os)) (ltb place-limit (header s .used + length os)) q)))
+      (gather-given (waits-for h) s os (not-full s (or-left (full s) (ltb item-limit (length os)) (or-left (full s || ltb item-limit (length os)) (ltb place-limit (header s .used + length os)) q)))
       (ltb-false place-limit (header s .used + length os) (or-right (full s || ltb item-limit (length os)) (ltb place-limit (header s .used + length os)) q)) behind g)
   accept-given (Event.await o) i r =
       let q = refusal-rest s (Event.await o) r in await-step (runner (header s .moment)) o (Rattle.machine_theorems.specs.Soundness.Preserved.running s w _ q) (await-made s w o q)

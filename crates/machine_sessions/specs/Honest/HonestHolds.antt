@@ -8,7 +8,7 @@ use native.Mathlib.Nat.{not-suc-le-zero}
 use native.Mathlib.Omega.{arith}
 use lib.Dec.{eqb, ltb}
 use lib.ListN.{length}
-use borrow.Author.Tests.{ne-eqb, eqb-false, leb-false, ltb-false}
+use borrow.Author.Tests.{ne-eqb, eqb-false, ltb-false}
 use Rattle.asyncio.specs.declared.Value.{Value}
 use Rattle.asyncio.specs.declared.Error.{Error}
 use Rattle.asyncio.specs.declared.Header.{Header}
@@ -25,7 +25,7 @@ use Rattle.machine.specs.History.{Entry, Says, says, nothing-said, said, tells,
 use Rattle.machine.specs.Sessions.{InRange, happened-by, entry-of}
 use Rattle.machine.specs.Honest.{has-value, ends-task, runs-task, spawns, blocks-in, exits-in, removes-in, LogHonest, ToldHonest, ControlHonest, EntryHonest}
 use Rattle.machine_laws.specs.StoreLaws.{header-fits}
-use Rattle.machine_laws.specs.SoundLaws.{pass, running-rest, refusal-rest}
+use Rattle.machine_laws.specs.SoundLaws.{pass, running-rest, refusal-rest, has-number, not-full}
 use Rattle.machine_laws.specs.TestLaws.{or-left, or-right}
 use Rattle.machine_theorems.specs.Soundness.Stores.{SoundStore}
 use Rattle.machine_theorems.specs.Soundness.Preserved.{waiting, await-made}
@@ -631,14 +631,6 @@ module _ (h : List Entry) (s : Store) (w : SoundStore s) (tr : Tracked (lives h)
   abbrev right : (e : Event) → InRange e → says e .cancels ≡ false → refusal s e ≡ 0 → is-ended (header s .moment) ≡ false → StepLeft (accept s e)
   right e i n r on = left-by s e w (kept on .idle .stood) (accept-right s w (kept on .idle .stood) e i n r)
 
-  not-full : full s ≡ false → header s .made < object-limit
-  unfolding full
-  not-full q = leb-false object-limit (header s .made) q
-
-  number-left : no-number s ≡ false → header s .calls < call-limit
-  unfolding no-number
-  number-left q = leb-false call-limit (header s .calls) q
-
   lives-then : (e : Event) (a : Answer) (u : Store) → tells a .accepts ≡ true → Tracked (lives h) (stays-blocked h) u → (t : ℕ) → lives (entry-of e a u ∷ h) t ≡ live u t
   unfolding lives
   lives-then e a u ok k t = ap (λ (l : List LogEntry). lives-by (lives h t) l t) (happens-all e a u ok) ∙ k .alive t
@@ -706,19 +698,19 @@ module _ (h : List Entry) (s : Store) (w : SoundStore s) (tr : Tracked (lives h)
   accept-stepped (Event.coroutine f) i r =
       let q = refusal-rest s (Event.coroutine f) r in
       let on = running-now _ q in
-      let m : header s .made < object-limit = not-full (pass 6 (full s) [] (running-rest s _ q) .0) in
+      let m : header s .made < object-limit = not-full s (pass 6 (full s) [] (running-rest s _ q) .0) in
       let sh : shape (object (make-coroutine s f) (header s .made)) ≡ Shape.new f = coroutine-shape s (w .memory .sized) f i m in
       made-stepped (Event.coroutine f) _ 0 on (quiet-of (Event.coroutine f) tt) (right (Event.coroutine f) i (quiet-of (Event.coroutine f) tt .no-cancel) r (ended-not _ _ on)) (coroutine-adds s (w .memory .sized) f m) refl (ap is-used sh)
       (λ g d. ap Event.coroutine (new-is f g (sym sh ∙ d)))
   accept-stepped Event.call i r =
       let q = refusal-rest s Event.call r in
       let on = running-now _ q in
-      let c : header s .calls < call-limit = number-left (pass 7 (no-number s) [] (running-rest s _ q) .0) in
+      let c : header s .calls < call-limit = has-number s (pass 7 (no-number s) [] (running-rest s _ q) .0) in
       called-stepped Event.call _ 0 on (quiet-of Event.call tt) (right Event.call tt (quiet-of Event.call tt .no-cancel) r (ended-not _ _ on)) (call-adds s (w .memory .sized) c (header s .made)) (header s .calls) refl (calls-object s (w .memory .sized) c)
   accept-stepped (Event.pending d v) i r =
       let q = refusal-rest s (Event.pending d v) r in
       let on = running-now _ q in
-      let m : header s .made < object-limit = not-full (pass 6 (full s) [] (pass 5 _ _ (pass 4 _ _ (running-rest s _ q) .1) .1) .0) in
+      let m : header s .made < object-limit = not-full s (pass 6 (full s) [] (pass 5 _ _ (pass 4 _ _ (running-rest s _ q) .1) .1) .0) in
       let sh : shape (object (make-pending s d v) (header s .made)) ≡ Shape.other = pending-shape s (w .memory .sized) d v m in
       made-stepped (Event.pending d v) _ 0 on (quiet-of (Event.pending d v) tt) (right (Event.pending d v) tt (quiet-of (Event.pending d v) tt .no-cancel) r (ended-not _ _ on)) (pending-adds s (w .memory .sized) d v m) refl (ap is-used sh)
       (λ g z. not-co _ g (ap is-co sh) z)
@@ -726,8 +718,8 @@ module _ (h : List Entry) (s : Store) (w : SoundStore s) (tr : Tracked (lives h)
       let q = refusal-rest s (Event.settled v) r in
       let on = running-now _ q in
       let p = pass 6 (full s) _ (pass 4 _ _ (running-rest s _ q) .1) in
-      let m : header s .made < object-limit = not-full (p .0) in
-      let c : header s .calls < call-limit = number-left (pass 7 (no-number s) [] (p .1) .0) in
+      let m : header s .made < object-limit = not-full s (p .0) in
+      let c : header s .calls < call-limit = has-number s (pass 7 (no-number s) [] (p .1) .0) in
       let sh : shape (object (make-settled s v) (header s .made)) ≡ Shape.other = settled-shape s (w .memory .sized) c v m in
       made-stepped (Event.settled v) _ 0 on (quiet-of (Event.settled v) tt) (right (Event.settled v) tt (quiet-of (Event.settled v) tt .no-cancel) r (ended-not _ _ on)) (settled-adds s (w .memory .sized) c v m) refl (ap is-used sh)
       (λ g z. not-co _ g (ap is-co sh) z)
@@ -735,7 +727,7 @@ module _ (h : List Entry) (s : Store) (w : SoundStore s) (tr : Tracked (lives h)
       let q = refusal-rest s (Event.gather os) r in
       let on = running-now _ q in
       let p = pass 6 (full s || ltb item-limit (length os) || ltb place-limit (header s .used + length os)) [] (pass 4 _ _ (running-rest s _ q) .1) .0 in
-      let m : header s .made < object-limit = not-full (or-left (full s) (ltb item-limit (length os)) (or-left (full s || ltb item-limit (length os)) (ltb place-limit (header s .used + length os)) p)) in
+      let m : header s .made < object-limit = not-full s (or-left (full s) (ltb item-limit (length os)) (or-left (full s || ltb item-limit (length os)) (ltb place-limit (header s .used + length os)) p)) in
       let l : header s .used + length os ≤ place-limit = ltb-false place-limit (header s .used + length os) (or-right (full s || ltb item-limit (length os)) (ltb place-limit (header s .used + length os)) p) in
       let us : is-co (shape (object (make-gather s os) (header s .made))) ≡ false = gather-used s (w .memory .sized) os m l in
       made-stepped (Event.gather os) _ 0 on (quiet-of (Event.gather os) tt) (right (Event.gather os) tt (quiet-of (Event.gather os) tt .no-cancel) r (ended-not _ _ on)) (gather-adds s (w .memory .sized) os m l) refl (co-used (shape (object (make-gather s os) (header s .made))) us)

@@ -21,7 +21,7 @@ use Rattle.asyncio.specs.declared.Object.{Object}
 use Rattle.asyncio.specs.declared.Place.{Place}
 use Rattle.asyncio.specs.declared.Moment.{Moment}
 use Rattle.asyncio.specs.declared.Header.{Header}
-use Rattle.asyncio.specs.Limits.{object-limit, item-limit, place-limit, call-limit, objects-length, places-length}
+use Rattle.asyncio.specs.Limits.{item-limit, place-limit, objects-length, places-length}
 use Rattle.asyncio.specs.Numbers.{heap-id, task-id}
 use Rattle.asyncio.specs.Layout.{to-object, to-place}
 use Rattle.asyncio.specs.Parts.{awaiter-of}
@@ -40,7 +40,7 @@ use Rattle.machine_laws.specs.Statements.{AllBelow}
 use Rattle.machine_laws.specs.StoreLaws.{header-fits, object-put-header, sized-forget}
 use Rattle.machine_laws.specs.DeliveryLaws.{absurd-some}
 use Rattle.machine_laws.specs.MachineLaws.{accepted-step, refused-step}
-use Rattle.machine_laws.specs.SoundLaws.{pass, running-rest, refusal-rest, refusal-forget}
+use Rattle.machine_laws.specs.SoundLaws.{pass, running-rest, refusal-rest, refusal-forget, has-number, not-full}
 use Rattle.machine_laws.specs.TestLaws.{or-left, or-right}
 use Rattle.machine_theorems.specs.Soundness.Stores.{SoundStore}
 use Rattle.machine_theorems.specs.Soundness.Preserved.{waiting, await-made, complete-known, results-apply}
@@ -60,14 +60,6 @@ use Rattle.machine_sessions.specs.Places.AgreesMakes.{coroutine-agrees, 
 -- ---- each event
 
 module _ (h : List Entry) (s : Store) (w : SoundStore s) (k : Agrees h s) where
-  not-full : full s ≡ false → header s .made < object-limit
-  unfolding full
-  not-full e = leb-false object-limit (header s .made) e
-
-  number-left : no-number s ≡ false → header s .calls < call-limit
-  unfolding no-number
-  number-left e = leb-false call-limit (header s .calls) e
-
   not-not : (b : Bool) → not b ≡ false → T b
   not-not true e = tt
   not-not false e = absurd (true≢false e)
@@ -79,23 +71,23 @@ module _ (h : List Entry) (s : Store) (w : SoundStore s) (k : Agrees h s) where
 
   pub accept-agrees : (e : Event) → refusal s e ≡ 0 → StepAgrees h e (accept s e)
   unfolding refusals in-both
-  accept-agrees (Event.coroutine f) r = coroutine-agrees s w h k f (not-full (pass 6 (full s) [] (running-rest s _ (refusal-rest s (Event.coroutine f) r)) .0))
-  accept-agrees Event.call r = call-agrees h s w k (number-left (pass 7 (no-number s) [] (running-rest s _ (refusal-rest s Event.call r)) .0))
+  accept-agrees (Event.coroutine f) r = coroutine-agrees s w h k f (not-full s (pass 6 (full s) [] (running-rest s _ (refusal-rest s (Event.coroutine f) r)) .0))
+  accept-agrees Event.call r = call-agrees h s w k (has-number s (pass 7 (no-number s) [] (running-rest s _ (refusal-rest s Event.call r)) .0))
   accept-agrees (Event.pending c x) r =
       let q = running-rest s _ (refusal-rest s (Event.pending c x) r) in
       let five = pass 4 (leb (header s .calls) c || not (option-known (header s .made) (object s) x)) _ q in
       let low : c < header s .calls = leb-false (header s .calls) c (or-left (leb (header s .calls) c) _ (five .0)) in
-      pending-agrees s w h k c x (not-full (pass 6 (full s) [] (pass 5 _ _ (five .1) .1) .0)) (omega (arith, low, header-fits s .calls-fit))
+      pending-agrees s w h k c x (not-full s (pass 6 (full s) [] (pass 5 _ _ (five .1) .1) .0)) (omega (arith, low, header-fits s .calls-fit))
       (not-not (option-known (header s .made) (object s) x) (or-right (leb (header s .calls) c) (not (option-known (header s .made) (object s) x)) (five .0)))
   accept-agrees (Event.settled v) r =
       let five = pass 4 (not (value-known (header s .made) (object s) v)) _ (running-rest s _ (refusal-rest s (Event.settled v) r)) in
       let seven = pass 6 (full s) _ (five .1) in
-      settled-agrees s w h k v (not-full (seven .0)) (number-left (pass 7 (no-number s) [] (seven .1) .0)) (not-not (value-known (header s .made) (object s) v) (five .0))
+      settled-agrees s w h k v (not-full s (seven .0)) (has-number s (pass 7 (no-number s) [] (seven .1) .0)) (not-not (value-known (header s .made) (object s) v) (five .0))
   accept-agrees (Event.gather os) r =
       let five = pass 4 (any-of (unmade s) os) _ (running-rest s _ (refusal-rest s (Event.gather os) r)) in
       let q = pass 6 (full s || ltb item-limit (length os) || ltb place-limit (header s .used + length os)) [] (five .1) .0 in
       let q1 = or-left (full s || ltb item-limit (length os)) (ltb place-limit (header s .used + length os)) q in
-      gather-agrees s w h k os (not-full (or-left (full s) (ltb item-limit (length os)) q1))
+      gather-agrees s w h k os (not-full s (or-left (full s) (ltb item-limit (length os)) q1))
       (ltb-false place-limit (header s .used + length os) (or-right (full s || ltb item-limit (length os)) (ltb place-limit (header s .used + length os)) q))
       (ltb-false item-limit (length os) (or-right (full s) (ltb item-limit (length os)) q1)) (all-made os (five .0))
   accept-agrees (Event.await o) r =

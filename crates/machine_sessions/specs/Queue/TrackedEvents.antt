@@ -7,7 +7,7 @@ use native.Mathlib.Omega.{arith}
 use native.Mathlib.Nat.{not-suc-le-zero}
 use lib.Dec.{T, eqb, ltb, leb}
 use lib.ListN.{length}
-use borrow.Author.Tests.{leb-false, ltb-false}
+use borrow.Author.Tests.{ltb-false}
 use mathlib.Core.Option.{some}
 use Rattle.asyncio.specs.declared.Value.{Value}
 use Rattle.asyncio.specs.declared.Error.{Error}
@@ -31,7 +31,7 @@ use Rattle.machine.specs.Machine.{Event, Step, switched, answer-await, end-main
 use Rattle.machine_laws.specs.Views.{Sized}
 use Rattle.machine_laws.specs.StoreLaws.{header-fits, header-put-header, header-put-object, task-fits, sized-put-object, sized-put-place, sized-put-header, sized-set-calls, sized-add-object}
 use Rattle.machine_laws.specs.MakingLaws.{items-sized}
-use Rattle.machine_laws.specs.SoundLaws.{pass, running-rest, refusal-rest}
+use Rattle.machine_laws.specs.SoundLaws.{pass, running-rest, refusal-rest, has-number, not-full}
 use Rattle.machine_laws.specs.TestLaws.{or-left, or-right}
 use Rattle.machine_theorems.specs.Soundness.Stores.{SoundStore}
 use Rattle.machine_theorems.specs.Soundness.Exits.{runner-low, runner-live}
@@ -146,14 +146,6 @@ module _ (l b : ℕ → Bool) where
 
   -- ---- each event
 
-  not-full : (s : Store) → full s ≡ false → header s .made < object-limit
-  unfolding full
-  not-full s e = leb-false object-limit (header s .made) e
-
-  number-left : (s : Store) → no-number s ≡ false → header s .calls < call-limit
-  unfolding no-number
-  number-left s e = leb-false call-limit (header s .calls) e
-
   -- no more places are used
   same-places : (s : Store) → header s .used + 0 ≤ place-limit
   same-places s = omega (arith, header-fits s .used-fits)
@@ -162,12 +154,12 @@ module _ (l b : ℕ → Bool) where
   unfolding accept refusals answer-await make-coroutine make-pending view
   accept-tracked s h (Event.coroutine f) r k =
       add-tracked s _ 0 (not-full s (pass 6 (full s) [] (running-rest s _ (refusal-rest s (Event.coroutine f) r)) .0)) (same-places s) k
-  accept-tracked s h Event.call r k = calls-tracked s k (number-left s (pass 7 (no-number s) [] (running-rest s _ (refusal-rest s Event.call r)) .0))
+  accept-tracked s h Event.call r k = calls-tracked s k (has-number s (pass 7 (no-number s) [] (running-rest s _ (refusal-rest s Event.call r)) .0))
   accept-tracked s h (Event.pending d x) r k =
       add-tracked s _ 0 (not-full s (pass 6 (full s) [] (pass 5 _ _ (pass 4 _ _ (running-rest s _ (refusal-rest s (Event.pending d x) r)) .1) .1) .0)) (same-places s) k
   accept-tracked s h (Event.settled v) r k =
       let q = pass 6 (full s) _ (pass 4 _ _ (running-rest s _ (refusal-rest s (Event.settled v) r)) .1) in
-      settled-tracked s k (number-left s (pass 7 (no-number s) [] (q .1) .0)) v (not-full s (q .0))
+      settled-tracked s k (has-number s (pass 7 (no-number s) [] (q .1) .0)) v (not-full s (q .0))
   accept-tracked s h (Event.gather os) r k =
       let q = pass 6 (full s || ltb item-limit (length os) || ltb place-limit (header s .used + length os)) [] (pass 4 _ _ (running-rest s _ (refusal-rest s (Event.gather os) r)) .1) .0 in
       gather-tracked s os (not-full s (or-left (full s) (ltb item-limit (length os)) (or-left (full s || ltb item-limit (length os)) (ltb place-limit (header s .used + length os)) q)))

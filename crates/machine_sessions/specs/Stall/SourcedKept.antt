@@ -9,7 +9,7 @@ use native.Mathlib.Omega.{arith}
 use native.Mathlib.Decide.{ℕ-discrete, decLt}
 use lib.Dec.{T, eqb, ltb}
 use lib.ListN.{length}
-use borrow.Author.Tests.{eqb-true, ne-eqb, leb-false, ltb-false}
+use borrow.Author.Tests.{eqb-true, ne-eqb, ltb-false}
 use Rattle.asyncio.specs.declared.CallId.{CallId}
 use Rattle.asyncio.specs.declared.Value.{Value}
 use Rattle.asyncio.specs.declared.Error.{Error}
@@ -44,7 +44,7 @@ use Rattle.machine_laws.specs.StoreLaws.{header-fits, header-put-header, header
 use Rattle.machine_laws.specs.DeliveryLaws.{absurd-some, awaited-object}
 use Rattle.machine_laws.specs.SizedLaws.{sized-commit, sized-spawn-as}
 use Rattle.machine_laws.specs.MakingLaws.{items-sized}
-use Rattle.machine_laws.specs.SoundLaws.{pass, running-rest, refusal-rest}
+use Rattle.machine_laws.specs.SoundLaws.{pass, running-rest, refusal-rest, has-number, not-full}
 use Rattle.machine_laws.specs.TestLaws.{or-left, or-right}
 use Rattle.machine_theorems.specs.Soundness.Stores.{idle, SoundDuring, SoundStore, during-of}
 use Rattle.machine_theorems.specs.Soundness.Exits.{runner-low, runner-runs, only-changes-of}
@@ -247,14 +247,6 @@ module _ (G : ℕ → Type 0) (s : Store) (h : SoundStore s) (k : Sourced G s) w
   z : Sized s
   z = h .memory .sized
 
-  not-full : full s ≡ false → header s .made < object-limit
-  unfolding full
-  not-full e = leb-false object-limit (header s .made) e
-
-  number-left : no-number s ≡ false → header s .calls < call-limit
-  unfolding no-number
-  number-left e = leb-false call-limit (header s .calls) e
-
   same-places : header s .used + 0 ≤ place-limit
   same-places = omega (arith, header-fits s .used-fits)
 
@@ -330,18 +322,18 @@ module _ (G : ℕ → Type 0) (s : Store) (h : SoundStore s) (k : Sourced G s) w
   pub accept-sourced : (e : Event) → InRange e → says e .cancels ≡ false → refusal s e ≡ 0 → (MainEnds s e → ⊥) → Sourced G (accept s e .store)
   unfolding accept refusals make-coroutine make-pending InRange says nothing-said answer-await MainEnds
   accept-sourced (Event.coroutine f) i n r on =
-      added-sourced s _ (Object.Coroutine f CoroutineState.New) h (added s (Object.Coroutine f CoroutineState.New) 0 z (not-full (pass 6 (full s) [] (running-rest s _ (refusal-rest s (Event.coroutine f) r)) .0)) same-places) (unfold as-awaited in refl) k
-  accept-sourced Event.call i n r on = calls-sourced (number-left (pass 7 (no-number s) [] (running-rest s _ (refusal-rest s Event.call r)) .0)) .0
+      added-sourced s _ (Object.Coroutine f CoroutineState.New) h (added s (Object.Coroutine f CoroutineState.New) 0 z (not-full s (pass 6 (full s) [] (running-rest s _ (refusal-rest s (Event.coroutine f) r)) .0)) same-places) (unfold as-awaited in refl) k
+  accept-sourced Event.call i n r on = calls-sourced (has-number s (pass 7 (no-number s) [] (running-rest s _ (refusal-rest s Event.call r)) .0)) .0
   accept-sourced (Event.pending d x) i n r on =
       added-sourced s _ (Object.ExternalFuture (call-id d) (ExternalFutureState.Pending Awaiter.Nobody x)) h
-      (added s (Object.ExternalFuture (call-id d) (ExternalFutureState.Pending Awaiter.Nobody x)) 0 z (not-full (pass 6 (full s) [] (pass 5 _ _ (pass 4 _ _ (running-rest s _ (refusal-rest s (Event.pending d x) r)) .1) .1) .0)) same-places)
+      (added s (Object.ExternalFuture (call-id d) (ExternalFutureState.Pending Awaiter.Nobody x)) 0 z (not-full s (pass 6 (full s) [] (pass 5 _ _ (pass 4 _ _ (running-rest s _ (refusal-rest s (Event.pending d x) r)) .1) .1) .0)) same-places)
       (unfold as-awaited in refl) k
   accept-sourced (Event.settled v) i n r on =
       let q = pass 6 (full s) _ (pass 4 _ _ (running-rest s _ (refusal-rest s (Event.settled v) r)) .1) in
-      settled-sourced v (number-left (pass 7 (no-number s) [] (q .1) .0)) (not-full (q .0))
+      settled-sourced v (has-number s (pass 7 (no-number s) [] (q .1) .0)) (not-full s (q .0))
   accept-sourced (Event.gather os) i n r on =
       let q = pass 6 (full s || ltb item-limit (length os) || ltb place-limit (header s .used + length os)) [] (pass 4 _ _ (running-rest s _ (refusal-rest s (Event.gather os) r)) .1) .0 in
-      gather-made os (not-full (or-left (full s) (ltb item-limit (length os)) (or-left (full s || ltb item-limit (length os)) (ltb place-limit (header s .used + length os)) q)))
+      gather-made os (not-full s (or-left (full s) (ltb item-limit (length os)) (or-left (full s || ltb item-limit (length os)) (ltb place-limit (header s .used + length os)) q)))
       (ltb-false place-limit (header s .used + length os) (or-right (full s || ltb item-limit (length os)) (ltb place-limit (header s .used + length os)) q))
   accept-sourced (Event.await o) i n r on = let q = refusal-rest s (Event.await o) r in await-sourced _ s h k (runner (header s .moment)) (running s h _ q) o (await-made s h o q)
   accept-sourced (Event.complete v) i n r on = let q = refusal-rest s (Event.complete v) r in complete-step (runner (header s .moment)) v (running s h _ q) (complete-known s h v q) on

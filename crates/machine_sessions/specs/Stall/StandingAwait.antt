@@ -9,7 +9,7 @@ use native.Mathlib.Omega.{arith}
 use native.Mathlib.Decide.{ℕ-discrete}
 use lib.Dec.{T, eqb, ltb, leb}
 use lib.ListN.{length}
-use borrow.Author.Tests.{eq-eqb, ne-eqb, leb-false, ltb-false}
+use borrow.Author.Tests.{eq-eqb, ne-eqb, ltb-false}
 use Rattle.asyncio.specs.declared.CallId.{CallId}
 use Rattle.asyncio.specs.declared.Value.{Value}
 use Rattle.asyncio.specs.declared.Error.{Error}
@@ -42,7 +42,7 @@ use Rattle.machine_laws.specs.Views.{Sized}
 use Rattle.machine_laws.specs.Facts.{Nothing}
 use Rattle.machine_laws.specs.StoreLaws.{header-fits, header-put-header, header-put-object, live-put-task, task-put-other, sized-put-task, sized-put-object, sized-put-place, sized-put-header, sized-put-queue, sized-add-log, sized-set-next, sized-set-calls}
 use Rattle.machine_laws.specs.MakingLaws.{items-sized}
-use Rattle.machine_laws.specs.SoundLaws.{pass, running-rest, refusal-rest}
+use Rattle.machine_laws.specs.SoundLaws.{pass, running-rest, refusal-rest, has-number, not-full}
 use Rattle.machine_laws.specs.TestLaws.{or-left, or-right}
 use Rattle.machine_theorems.specs.Soundness.ReadyTasks.{Queued, to-queued, none-queued}
 use Rattle.machine_theorems.specs.Soundness.Stores.{idle, SoundDuring, SoundStore, during-of}
@@ -295,14 +295,6 @@ module _ (s : Store) (h : SoundStore s) (st : Stands Nothing s) where
   z : Sized s
   z = h .memory .sized
 
-  not-full : full s ≡ false → header s .made < object-limit
-  unfolding full
-  not-full e = leb-false object-limit (header s .made) e
-
-  number-left : no-number s ≡ false → header s .calls < call-limit
-  unfolding no-number
-  number-left e = leb-false call-limit (header s .calls) e
-
   same-places : header s .used + 0 ≤ place-limit
   same-places = omega (arith, header-fits s .used-fits)
 
@@ -352,16 +344,16 @@ module _ (s : Store) (h : SoundStore s) (st : Stands Nothing s) where
   -- Each event but cancel.
   pub accept-right : (e : Event) → InRange e → says e .cancels ≡ false → refusal s e ≡ 0 → StepRight (MainEnds s e) (accept s e)
   unfolding accept refusals make-coroutine make-pending InRange says tells done-only is-stalled nothing-said MainEnds
-  accept-right (Event.coroutine f) i n r = only-changes-right _ _ refl refl (add-stands s _ 0 z (not-full (pass 6 (full s) [] (running-rest s _ (refusal-rest s (Event.coroutine f) r)) .0)) same-places st)
-  accept-right Event.call i n r = only-changes-right _ _ refl refl (calls-stand (number-left (pass 7 (no-number s) [] (running-rest s _ (refusal-rest s Event.call r)) .0)))
+  accept-right (Event.coroutine f) i n r = only-changes-right _ _ refl refl (add-stands s _ 0 z (not-full s (pass 6 (full s) [] (running-rest s _ (refusal-rest s (Event.coroutine f) r)) .0)) same-places st)
+  accept-right Event.call i n r = only-changes-right _ _ refl refl (calls-stand (has-number s (pass 7 (no-number s) [] (running-rest s _ (refusal-rest s Event.call r)) .0)))
   accept-right (Event.pending d x) i n r =
-      only-changes-right _ _ refl refl (add-stands s _ 0 z (not-full (pass 6 (full s) [] (pass 5 _ _ (pass 4 _ _ (running-rest s _ (refusal-rest s (Event.pending d x) r)) .1) .1) .0)) same-places st)
+      only-changes-right _ _ refl refl (add-stands s _ 0 z (not-full s (pass 6 (full s) [] (pass 5 _ _ (pass 4 _ _ (running-rest s _ (refusal-rest s (Event.pending d x) r)) .1) .1) .0)) same-places st)
   accept-right (Event.settled v) i n r =
       let q = pass 6 (full s) _ (pass 4 _ _ (running-rest s _ (refusal-rest s (Event.settled v) r)) .1) in
-      only-changes-right _ _ refl refl (settled-stands (number-left (pass 7 (no-number s) [] (q .1) .0)) v (not-full (q .0)))
+      only-changes-right _ _ refl refl (settled-stands (has-number s (pass 7 (no-number s) [] (q .1) .0)) v (not-full s (q .0)))
   accept-right (Event.gather os) i n r =
       let q = pass 6 (full s || ltb item-limit (length os) || ltb place-limit (header s .used + length os)) [] (pass 4 _ _ (running-rest s _ (refusal-rest s (Event.gather os) r)) .1) .0 in
-      only-changes-right _ _ refl refl (gather-stands os (not-full (or-left (full s) (ltb item-limit (length os)) (or-left (full s || ltb item-limit (length os)) (ltb place-limit (header s .used + length os)) q)))
+      only-changes-right _ _ refl refl (gather-stands os (not-full s (or-left (full s) (ltb item-limit (length os)) (or-left (full s || ltb item-limit (length os)) (ltb place-limit (header s .used + length os)) q)))
       (ltb-false place-limit (header s .used + length os) (or-right (full s || ltb item-limit (length os)) (ltb place-limit (header s .used + length os)) q)))
   accept-right (Event.await o) i n r =
       let q = refusal-rest s (Event.await o) r in awaited-right _ (await-right s h st (runner (header s .moment)) (running s h _ q) o (await-made s h o q))

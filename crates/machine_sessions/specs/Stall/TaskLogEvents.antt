@@ -10,7 +10,7 @@ use native.Mathlib.Omega.{arith}
 use native.Mathlib.Decide.{ℕ-discrete, decLt}
 use lib.Dec.{eqb, ltb}
 use lib.ListN.{length}
-use borrow.Author.Tests.{ne-eqb, leb-false, ltb-false}
+use borrow.Author.Tests.{ne-eqb, ltb-false}
 use Rattle.asyncio.specs.declared.Value.{Value}
 use Rattle.asyncio.specs.declared.Error.{Error}
 use Rattle.asyncio.specs.declared.TaskState.{TaskState}
@@ -39,7 +39,7 @@ use Rattle.machine_laws.specs.StoreLaws.{sized-put-object, sized-put-place, siz
 use Rattle.machine_laws.specs.DeliveryLaws.{absurd-some, pending-object}
 use Rattle.machine_laws.specs.WokenLaws.{success-woken}
 use Rattle.machine_laws.specs.MakingLaws.{items-sized}
-use Rattle.machine_laws.specs.SoundLaws.{pass, running-rest, refusal-rest}
+use Rattle.machine_laws.specs.SoundLaws.{pass, running-rest, refusal-rest, has-number, not-full}
 use Rattle.machine_laws.specs.TestLaws.{or-left, or-right}
 use Rattle.machine_laws.specs.Walk.{NewCommits, Delivers, Switches, value-kept, error-kept, batch-kept, next-task-kept, woken-task-kept, failed-task-kept, awaits-kept}
 use Rattle.machine_theorems.specs.Soundness.Stores.{SoundStore}
@@ -433,14 +433,6 @@ module _ (F : ℕ → Option ℕ) (X : ℕ → Bool) where
           used-it : used-coroutine (object (put-object s c (completed (object s c))) c) ≡ true
           used-it = ap used-coroutine (read-back s c (completed (object s c)) (k .sized) (task-fits s (suc t) .coroutine-fits)) ∙ done-used is-used
 
-    not-full : full s ≡ false → header s .made < object-limit
-    unfolding full
-    not-full e = leb-false object-limit (header s .made) e
-
-    number-left : no-number s ≡ false → header s .calls < call-limit
-    unfolding no-number
-    number-left e = leb-false call-limit (header s .calls) e
-
     complete-step : (t : ℕ) (v : Value) → header s .moment ≡ Moment.Running (task-id t) → (t ≡ 0 → ⊥) → K L (λ u. u ≡ t) (task-completes s t v .store)
     unfolding task-completes end-main switched
     complete-step zero v m on = absurd (on refl)
@@ -459,16 +451,16 @@ module _ (F : ℕ → Option ℕ) (X : ℕ → Bool) where
     pub accept-tasks : (e : Event) → says e .cancels ≡ false → refusal s e ≡ 0 → (MainEnds s e → ⊥)
         → Tasks F L (Exits s e) (S (accept s e .store)) (Y (accept s e .store)) (accept s e .store)
     unfolding accept refusals make-coroutine make-pending says nothing-said answer-await Exits MainEnds
-    accept-tasks (Event.coroutine f) n r on = adds-kept L Nothing s _ 0 (not-full (pass 6 (full s) [] (running-rest s _ (refusal-rest s (Event.coroutine f) r)) .0)) same-places free free-used k
-    accept-tasks Event.call n r on = calls-kept L Nothing s (number-left (pass 7 (no-number s) [] (running-rest s _ (refusal-rest s Event.call r)) .0)) k .0
+    accept-tasks (Event.coroutine f) n r on = adds-kept L Nothing s _ 0 (not-full s (pass 6 (full s) [] (running-rest s _ (refusal-rest s (Event.coroutine f) r)) .0)) same-places free free-used k
+    accept-tasks Event.call n r on = calls-kept L Nothing s (has-number s (pass 7 (no-number s) [] (running-rest s _ (refusal-rest s Event.call r)) .0)) k .0
     accept-tasks (Event.pending d x) n r on =
-        adds-kept L Nothing s _ 0 (not-full (pass 6 (full s) [] (pass 5 _ _ (pass 4 _ _ (running-rest s _ (refusal-rest s (Event.pending d x) r)) .1) .1) .0)) same-places free free-used k
+        adds-kept L Nothing s _ 0 (not-full s (pass 6 (full s) [] (pass 5 _ _ (pass 4 _ _ (running-rest s _ (refusal-rest s (Event.pending d x) r)) .1) .1) .0)) same-places free free-used k
     accept-tasks (Event.settled v) n r on =
         let q = pass 6 (full s) _ (pass 4 _ _ (running-rest s _ (refusal-rest s (Event.settled v) r)) .1) in
-        settled-kept v (number-left (pass 7 (no-number s) [] (q .1) .0)) (not-full (q .0))
+        settled-kept v (has-number s (pass 7 (no-number s) [] (q .1) .0)) (not-full s (q .0))
     accept-tasks (Event.gather os) n r on =
         let q = pass 6 (full s || ltb item-limit (length os) || ltb place-limit (header s .used + length os)) [] (pass 4 _ _ (running-rest s _ (refusal-rest s (Event.gather os) r)) .1) .0 in
-        gather-kept os (not-full (or-left (full s) (ltb item-limit (length os)) (or-left (full s || ltb item-limit (length os)) (ltb place-limit (header s .used + length os)) q)))
+        gather-kept os (not-full s (or-left (full s) (ltb item-limit (length os)) (or-left (full s || ltb item-limit (length os)) (ltb place-limit (header s .used + length os)) q)))
         (ltb-false place-limit (header s .used + length os) (or-right (full s || ltb item-limit (length os)) (ltb place-limit (header s .used + length os)) q))
     accept-tasks (Event.await o) n r on =
         let q = refusal-rest s (Event.await o) r in await-kept (runner (header s .moment)) o (running s h _ q) (omega (arith, await-made s h o q, header-fits s .made-fits))

@@ -8,7 +8,7 @@ use native.Mathlib.Omega.{arith}
 use native.Mathlib.Decide.{ℕ-discrete}
 use lib.Dec.{T, eqb, ltb}
 use lib.ListN.{length}
-use borrow.Author.Tests.{ne-eqb, leb-false, ltb-false}
+use borrow.Author.Tests.{ne-eqb, ltb-false}
 use Rattle.asyncio.specs.declared.Value.{Value}
 use Rattle.asyncio.specs.declared.Error.{Error}
 use Rattle.asyncio.specs.declared.TaskState.{TaskState}
@@ -34,7 +34,7 @@ use Rattle.machine_laws.specs.Views.{Sized}
 use Rattle.machine_laws.specs.Facts.{Nothing}
 use Rattle.machine_laws.specs.StoreLaws.{header-fits, header-put-header, header-put-object, task-put-other, sized-put-object, sized-put-places, sized-put-queue, sized-add-log, sized-set-state, sized-set-calls}
 use Rattle.machine_laws.specs.MakingLaws.{items-sized}
-use Rattle.machine_laws.specs.SoundLaws.{pass, running-rest, refusal-rest}
+use Rattle.machine_laws.specs.SoundLaws.{pass, running-rest, refusal-rest, has-number, not-full}
 use Rattle.machine_laws.specs.TestLaws.{or-left, or-right}
 use Rattle.machine_laws.specs.Walk.{Delivers, batch-kept}
 use Rattle.machine_theorems.specs.Soundness.Stores.{SoundStore, during-of}
@@ -134,14 +134,6 @@ module _ (s : Store) (h : SoundStore s) (st : Stands Nothing s) (k : AllStarted 
   z : Sized s
   z = h .memory .sized
 
-  not-full : full s ≡ false → header s .made < object-limit
-  unfolding full
-  not-full e = leb-false object-limit (header s .made) e
-
-  number-left : no-number s ≡ false → header s .calls < call-limit
-  unfolding no-number
-  number-left e = leb-false call-limit (header s .calls) e
-
   same-places : header s .used + 0 ≤ place-limit
   same-places = omega (arith, header-fits s .used-fits)
 
@@ -185,21 +177,21 @@ module _ (s : Store) (h : SoundStore s) (st : Stands Nothing s) (k : AllStarted 
   unfolding accept refusals make-coroutine make-pending InRange says nothing-said answer-await
   accept-started (Event.coroutine f) i n r =
       let q = refusal-rest s (Event.coroutine f) r in
-      running-started _ (runner (header s .moment)) (add-moment s _ 0 z (not-full (pass 6 (full s) [] (running-rest s _ q) .0)) same-places ∙ running s h _ q)
+      running-started _ (runner (header s .moment)) (add-moment s _ 0 z (not-full s (pass 6 (full s) [] (running-rest s _ q) .0)) same-places ∙ running s h _ q)
   accept-started Event.call i n r =
       let q = refusal-rest s Event.call r in
-      running-started _ (runner (header s .moment)) (ap (λ (y : Header). y .moment) (calls-head s z (number-left (pass 7 (no-number s) [] (running-rest s _ q) .0))) ∙ running s h _ q)
+      running-started _ (runner (header s .moment)) (ap (λ (y : Header). y .moment) (calls-head s z (has-number s (pass 7 (no-number s) [] (running-rest s _ q) .0))) ∙ running s h _ q)
   accept-started (Event.pending d x) i n r =
       let q = refusal-rest s (Event.pending d x) r in
-      running-started _ (runner (header s .moment)) (add-moment s _ 0 z (not-full (pass 6 (full s) [] (pass 5 _ _ (pass 4 _ _ (running-rest s _ q) .1) .1) .0)) same-places ∙ running s h _ q)
+      running-started _ (runner (header s .moment)) (add-moment s _ 0 z (not-full s (pass 6 (full s) [] (pass 5 _ _ (pass 4 _ _ (running-rest s _ q) .1) .1) .0)) same-places ∙ running s h _ q)
   accept-started (Event.settled v) i n r =
       let q = refusal-rest s (Event.settled v) r in
       let p = pass 6 (full s) _ (pass 4 _ _ (running-rest s _ q) .1) in
-      running-started _ (runner (header s .moment)) (settled-moment v (number-left (pass 7 (no-number s) [] (p .1) .0)) (not-full (p .0)) ∙ running s h _ q)
+      running-started _ (runner (header s .moment)) (settled-moment v (has-number s (pass 7 (no-number s) [] (p .1) .0)) (not-full s (p .0)) ∙ running s h _ q)
   accept-started (Event.gather os) i n r =
       let q = refusal-rest s (Event.gather os) r in
       let p = pass 6 (full s || ltb item-limit (length os) || ltb place-limit (header s .used + length os)) [] (pass 4 _ _ (running-rest s _ q) .1) .0 in
-      running-started _ (runner (header s .moment)) (gather-moment os (not-full (or-left (full s) (ltb item-limit (length os)) (or-left (full s || ltb item-limit (length os)) (ltb place-limit (header s .used + length os)) p)))
+      running-started _ (runner (header s .moment)) (gather-moment os (not-full s (or-left (full s) (ltb item-limit (length os)) (or-left (full s || ltb item-limit (length os)) (ltb place-limit (header s .used + length os)) p)))
       (ltb-false place-limit (header s .used + length os) (or-right (full s || ltb item-limit (length os)) (ltb place-limit (header s .used + length os)) p)) ∙ running s h _ q)
   accept-started (Event.await o) i n r = let q = refusal-rest s (Event.await o) r in right-started _ (await-right s h st (runner (header s .moment)) (running s h _ q) o (await-made s h o q))
   accept-started (Event.complete v) i n r = let q = refusal-rest s (Event.complete v) r in complete-started (runner (header s .moment)) v (running s h _ q) (complete-known s h v q)

@@ -43,7 +43,7 @@ use Rattle.machine_laws.specs.Facts.{Nothing}
 use Rattle.machine_laws.specs.StoreLaws.{object-fits, task-fits, header-fits, header-put-header, header-put-object, object-put-other, object-put-header, sized-put-object, sized-put-header, sized-put-queue, sized-put-task, sized-set-state, sized-add-log, sized-set-calls}
 use Rattle.machine_laws.specs.DeliveryLaws.{absurd-some}
 use Rattle.machine_laws.specs.MakingLaws.{items-sized}
-use Rattle.machine_laws.specs.SoundLaws.{pass, running-rest, refusal-rest}
+use Rattle.machine_laws.specs.SoundLaws.{pass, running-rest, refusal-rest, has-number, not-full}
 use Rattle.machine_laws.specs.TestLaws.{or-left, or-right}
 use Rattle.machine_theorems.specs.Soundness.Stores.{SoundStore, SoundDuring, during-of}
 use Rattle.machine_theorems.specs.Soundness.Preserved.{running, await-made, results-apply}
@@ -356,14 +356,6 @@ module _ (s : Store) (h : SoundStore s) where
   sz : Sized s
   sz = h .memory .sized
 
-  not-full : full s ≡ false → header s .made < object-limit
-  unfolding full
-  not-full e = leb-false object-limit (header s .made) e
-
-  number-left : no-number s ≡ false → header s .calls < call-limit
-  unfolding no-number
-  number-left e = leb-false call-limit (header s .calls) e
-
   same-places : header s .used + 0 ≤ place-limit
   same-places = omega (arith, header-fits s .used-fits)
 
@@ -449,19 +441,19 @@ module _ (s : Store) (h : SoundStore s) where
   pub accept-pends : (e : Event) → refusal s e ≡ 0 → (c : ℕ) → pends (accept s e .store) c ≡ later-pends (says e) (pends s c) c
   unfolding accept refusals answer-await make-coroutine make-pending says nothing-said later-pends is-at reply-in view answered in-both
   accept-pends (Event.coroutine f) r c =
-      add-pends s _ 0 sz (not-full (pass 6 (full s) [] (running-rest s _ (refusal-rest s (Event.coroutine f) r)) .0)) same-places c ∙ (unfold pending-call in refl)
-  accept-pends Event.call r c = call-pends (number-left (pass 7 (no-number s) [] (running-rest s _ (refusal-rest s Event.call r)) .0)) c
+      add-pends s _ 0 sz (not-full s (pass 6 (full s) [] (running-rest s _ (refusal-rest s (Event.coroutine f) r)) .0)) same-places c ∙ (unfold pending-call in refl)
+  accept-pends Event.call r c = call-pends (has-number s (pass 7 (no-number s) [] (running-rest s _ (refusal-rest s Event.call r)) .0)) c
   accept-pends (Event.pending d x) r c =
       let q = running-rest s _ (refusal-rest s (Event.pending d x) r) in
       let low : d < header s .calls = leb-false (header s .calls) d (or-left (leb (header s .calls) d) _ (pass 4 _ _ q .0)) in
-      add-pends s _ 0 sz (not-full (pass 6 (full s) [] (pass 5 _ _ (pass 4 _ _ q .1) .1) .0)) same-places c
+      add-pends s _ 0 sz (not-full s (pass 6 (full s) [] (pass 5 _ _ (pass 4 _ _ q .1) .1) .0)) same-places c
       ∙ (ap (λ (y : Option ℕ). is-at y c || pends s c) (pending-made d x (omega (arith, low, header-fits s .calls-fit))) ∙ or-elim (eqb d c) (pends s c))
   accept-pends (Event.settled v) r c =
       let q = pass 6 (full s) _ (pass 4 _ _ (running-rest s _ (refusal-rest s (Event.settled v) r)) .1) in
-      settled-pends-none (number-left (pass 7 (no-number s) [] (q .1) .0)) v (not-full (q .0)) c
+      settled-pends-none (has-number s (pass 7 (no-number s) [] (q .1) .0)) v (not-full s (q .0)) c
   accept-pends (Event.gather os) r c =
       let q = pass 6 (full s || ltb item-limit (length os) || ltb place-limit (header s .used + length os)) [] (pass 4 _ _ (running-rest s _ (refusal-rest s (Event.gather os) r)) .1) .0 in
-      gather-pends os (not-full (or-left (full s) (ltb item-limit (length os)) (or-left (full s || ltb item-limit (length os)) (ltb place-limit (header s .used + length os)) q)))
+      gather-pends os (not-full s (or-left (full s) (ltb item-limit (length os)) (or-left (full s || ltb item-limit (length os)) (ltb place-limit (header s .used + length os)) q)))
       (ltb-false place-limit (header s .used + length os) (or-right (full s || ltb item-limit (length os)) (ltb place-limit (header s .used + length os)) q)) c
   accept-pends (Event.await o) r c = walked _ c (await-k (runner (header s .moment)) o (await-low o r))
   accept-pends (Event.complete v) r c = walked _ c (complete-k (runner (header s .moment)) v)

@@ -5,7 +5,7 @@ use mathlib.Core.Bool.{Bool, true, false, not, _&&_, true≢false}
 use mathlib.Core.List.{List, [], _∷_}
 use mathlib.Core.Option.{Option, none, some}
 use Prim.Native.Nat.{ℕ, zero, suc, _+_, _-_, _<_}
-use native.Mathlib.Nat.{not-suc-le-zero}
+use native.Mathlib.Nat.{le-refl, not-suc-le-zero}
 use native.Mathlib.Omega.{arith}
 use native.Mathlib.Decide.{ℕ-discrete}
 use lib.Dec.{T, eqb, ltb→lt}
@@ -40,11 +40,12 @@ use Rattle.machine.specs.Sound.{is-slot, task-in-range, value-known, state-valu
 use Rattle.machine_laws.specs.Views.{update}
 use Rattle.machine_laws.specs.Facts.{SoundBut, Nothing}
 use Rattle.machine_laws.specs.TestLaws.{holds, both, both-left, both-right}
+use Rattle.machine_laws.specs.ValueLaws.{value-stays}
 use Rattle.machine_laws.specs.StoreLaws.{update-case, update-same, update-other, object-fits}
 use Rattle.machine_laws.specs.DeliveryLaws.{absurd-some, first-below}
 use Rattle.machine_laws.specs.MakingLaws.{nobody-slot}
 use Rattle.machine_theorems.specs.Soundness.ReadyTasks.{Queued, none-ready}
-use Rattle.machine_theorems.specs.Soundness.PutObject.{by-object, by-task, value-stays}
+use Rattle.machine_theorems.specs.Soundness.PutObject.{by-object, by-task}
 use Rattle.machine_theorems.specs.Soundness.PutTask.{is-task-of-give, with-task-queue, TaskWrite}
 use Rattle.machine_theorems.specs.Soundness.Stores.{Kept, Runs, idle, SoundDuring, SoundStore, view-task-queue, object-during, task-during, queue-during, add-log-during, during-of, sound-store-during, moment-sound-store}
 use Rattle.machine_theorems.specs.Soundness.Deliver.{DeliveryEnds, Detached, take-off}
@@ -175,7 +176,7 @@ module _ (s : Store) (t : ℕ) (v : Value) (h : SoundStore s) (m : header s .mom
   unfolding view task put-object
   completion-delivering =
       record {
-        known = subst (λ (y : Header). T (value-known (y .made) (object left-by) v)) (sym (mid2 .head)) (value-stays (header s .made) (object s) (object left-by) (mid2 .done) v k);
+        known = subst (λ (y : Header). T (value-known (y .made) (object left-by) v)) (sym (mid2 .head)) (value-stays (header s .made) (header s .made) (le-refl _) (object s) (object left-by) (λ o l. mid2 .done o) v k);
         detached = remove-detached done (suc t) c (exited (suc t)) (task s (suc t) .awaiter) (sp .slot) (task-detached done t mid1 low1 live1);
         alone = subst (λ (u : View). Alone u c) (sym (remove-view done (suc t) (exited (suc t)) (mid1 .kept) low1))
             (remove-alone (view done) t (entries (remove (done .queue) (suc t))) (mid1 .kept .but) low1 live1);

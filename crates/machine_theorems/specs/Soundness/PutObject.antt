@@ -4,78 +4,29 @@ use mathlib.Core.Path.{_≡_, refl, ap, sym, subst, _∙_}
 use mathlib.Core.Logic.{_⊎_, inl, inr}
 use mathlib.Core.Option.{some}
 use Prim.Native.Nat.{ℕ, zero, suc, _+_, _≤_, _<_}
-use native.Mathlib.Nat.{not-suc-le-zero}
+use native.Mathlib.Nat.{le-refl, not-suc-le-zero}
 use native.Mathlib.Omega.{arith}
 use native.Mathlib.Decide.{ℕ-discrete}
-use lib.Dec.{T, ltb}
-use Rattle.asyncio.specs.declared.Value.{Value}
-use Rattle.asyncio.specs.declared.OptionValue.{OptionValue}
-use Rattle.asyncio.specs.declared.TaskState.{TaskState}
+use lib.Dec.{T}
 use Rattle.asyncio.specs.declared.Task.{Task}
 use Rattle.asyncio.specs.declared.Awaiter.{Awaiter}
-use Rattle.asyncio.specs.declared.ExternalFutureState.{ExternalFutureState}
 use Rattle.asyncio.specs.declared.Object.{Object}
 use Rattle.asyncio.specs.declared.Header.{Header}
 use Rattle.asyncio.specs.Numbers.{heap-id, task-id}
 use Rattle.asyncio.specs.States.{is-live}
 use Rattle.asyncio.specs.Kinds.{kind, is-coroutine, is-completed, is-committed}
 use Rattle.asyncio.specs.Parts.{awaiter-of, count-of}
-use Rattle.machine.specs.Tests.{_and_, sum-below}
+use Rattle.machine.specs.Tests.{sum-below}
 use Rattle.machine.specs.Store.{View}
 use Rattle.machine.specs.Scheduler.{AwaitedGather, PendingExternal, as-awaited, as-pending, blocked-on}
-use Rattle.machine.specs.Sound.{places-below, awaiter-in-range, object-in-range, is-slot, task-in-range, committed-places, items-below}
-use Rattle.machine.specs.Sound.{value-known, option-known, object-values, state-values, object-filled}
+use Rattle.machine.specs.Sound.{places-below, awaiter-in-range, object-in-range, committed-places, items-below}
+use Rattle.machine.specs.Sound.{object-values, object-filled}
 use Rattle.machine_laws.specs.Views.{update, with-object}
 use Rattle.machine_laws.specs.Facts.{Open, Slotted, AwaitedBy, SoundBut}
-use Rattle.machine_laws.specs.TestLaws.{both, both-left, both-right, implies-map, sum-same}
+use Rattle.machine_laws.specs.TestLaws.{sum-same}
+use Rattle.machine_laws.specs.ValueLaws.{option-stays, object-stays, state-stays}
+use Rattle.machine_laws.specs.MakingLaws.{task-more}
 use Rattle.machine_laws.specs.StoreLaws.{update-same, update-other, update-case}
-
--- ---- completed gathers stay completed, coroutines stay coroutines
-
-module _ (n : ℕ) (os ps : ℕ → Object) (same : (o : ℕ) → T (is-completed (kind (os o))) → T (is-completed (kind (ps o)))) where
-  pub value-stays : (v : Value) → T (value-known n os v) → T (value-known n ps v)
-  unfolding value-known
-  value-stays (Value.Plain k) t = t
-  value-stays (Value.List g) t = both _ _ (both-left _ _ t) (same (g .0) (both-right (ltb (g .0) n) _ t))
-
-  pub option-stays : (r : OptionValue) → T (option-known n os r) → T (option-known n ps r)
-  unfolding option-known
-  option-stays OptionValue.None t = t
-  option-stays (OptionValue.Some v) t = value-stays v t
-
-  pub object-stays : (x : Object) → T (object-values n os x) → T (object-values n ps x)
-  unfolding object-values
-  object-stays Object.Unmade t = t
-  object-stays (Object.Coroutine f y) t = t
-  object-stays (Object.ExternalFuture c (ExternalFutureState.Pending a r)) t = option-stays r t
-  object-stays (Object.ExternalFuture c (ExternalFutureState.Resolved v)) t = value-stays v t
-  object-stays (Object.ExternalFuture c (ExternalFutureState.Failed e)) t = t
-  object-stays (Object.GatherFuture f m y) t = t
-
-  pub state-stays : (x : TaskState) → T (state-values n os x) → T (state-values n ps x)
-  unfolding state-values
-  state-stays TaskState.Absent t = t
-  state-stays TaskState.Unstarted t = t
-  state-stays TaskState.Running t = t
-  state-stays (TaskState.Woken v) t = value-stays v t
-  state-stays (TaskState.Raised e) t = t
-  state-stays (TaskState.Blocked o) t = t
-
-task-stays : (h : Header) (os ps : ℕ → Object) → ((o : ℕ) → T (is-coroutine (kind (os o))) → T (is-coroutine (kind (ps o)))) → (t : ℕ) (y : Task)
-    → T (task-in-range h os t y) → T (task-in-range h ps t y)
-unfolding task-in-range
-task-stays h os ps same zero y t = t
-task-stays h os ps same (suc u) y t = implies-map (is-live (y .state)) _ _ more t
-  where
-    c : ℕ
-    c = y .coroutine .0
-
-    more : T (is-slot (y .awaiter) and awaiter-in-range h (y .awaiter) and ltb c (h .made) and is-coroutine (kind (os c)))
-        → T (is-slot (y .awaiter) and awaiter-in-range h (y .awaiter) and ltb c (h .made) and is-coroutine (kind (ps c)))
-    more z =
-        let z2 = both-right (is-slot (y .awaiter)) _ z in
-        let z3 = both-right (awaiter-in-range h (y .awaiter)) _ z2 in
-        both _ _ (both-left _ _ z) (both _ _ (both-left _ _ z2) (both _ _ (both-left _ _ z3) (same c (both-right (ltb c (h .made)) _ z3))))
 
 -- ---- sums with one row written
 
@@ -185,13 +136,13 @@ module _ (k l : ℕ) (P Q P' Q' : ℕ → Type 0) (v : View) (o : ℕ) (x : Obje
         objects = λ p z. rw (same-below p)
             (more (λ (y : Object). T (object-in-range (v .header) (places-below (v .objects) p) y)) (ft .range (places-below (v .objects) p)) p (h .objects p z));
         awaiters = λ p z. more (λ (y : Object). T (awaiter-in-range (v .header) (awaiter-of y))) (ft .awaiter) p (h .awaiters p z);
-        tasks = λ t z. task-stays (v .header) (v .objects) new (more (λ (y : Object). T (is-coroutine (kind y))) (ft .coroutine)) t (v .tasks t) (h .tasks t z);
+        tasks = λ t z. task-more (v .header) (v .header) (le-refl _) (le-refl _) (v .objects) new (λ o l. more (λ (y : Object). T (is-coroutine (kind y))) (ft .coroutine) o) t (v .tasks t) (h .tasks t z);
         spawned = omega (arith, h .spawned, ft .room, sum-update committed-places (v .objects) o x (v .header .made) (ft .made));
         items = λ g z. case (λ g y. T (items-below (v .places) g y)) g (ft .lower (h .items o (ft .made))) (λ d. h .items g z);
-        object-lists = λ p z. object-stays (v .header .made) (v .objects) new more-completed (new p)
+        object-lists = λ p z. object-stays (v .header .made) (v .header .made) (le-refl _) (v .objects) new (λ o l. more-completed o) (new p)
             (more (λ (y : Object). T (object-values (v .header .made) (v .objects) y)) (ft .known) p (h .object-lists p z));
-        task-lists = λ t z. state-stays (v .header .made) (v .objects) new more-completed (v .tasks t .state) (h .task-lists t z);
-        place-lists = λ p z. option-stays (v .header .made) (v .objects) new more-completed (v .places p .result) (h .place-lists p z);
+        task-lists = λ t z. state-stays (v .header .made) (v .header .made) (le-refl _) (v .objects) new (λ o l. more-completed o) (v .tasks t .state) (h .task-lists t z);
+        place-lists = λ p z. option-stays (v .header .made) (v .header .made) (le-refl _) (v .objects) new (λ o l. more-completed o) (v .places p .result) (h .place-lists p z);
         entries = h .entries;
         calls = λ n p q y z a b e f c.
             let i = old-call p a e in

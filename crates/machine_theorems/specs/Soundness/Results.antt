@@ -4,6 +4,7 @@ use mathlib.Core.Bool.{Bool, true, false}
 use mathlib.Core.List.{List, [], _∷_}
 use mathlib.Core.Option.{Option, none, some}
 use Prim.Native.Nat.{ℕ, _<_}
+use native.Mathlib.Nat.{le-refl}
 use native.Mathlib.Omega.{arith}
 use lib.Dec.{T, eqb}
 use borrow.Author.Tests.{eqb-true}
@@ -25,11 +26,11 @@ use Rattle.machine.specs.Scheduler.{PendingExternal, as-awaited, as-pending, pe
 use Rattle.machine.specs.Delivery.{value-or, resolve-pending, fail-pending, settle-pending, settle-found, resolve-future, fail-future}
 use Rattle.machine.specs.Events.{Result, apply-result, apply-future-results}
 use Rattle.machine.specs.Sound.{object-in-range, items-below, value-known, option-known, object-values, object-filled}
+use Rattle.machine_laws.specs.ValueLaws.{value-stays}
 use Rattle.machine_laws.specs.Facts.{SoundBut, Nothing}
 use Rattle.machine_laws.specs.StoreLaws.{object-fits, object-put-object, header-put-object}
 use Rattle.machine_laws.specs.MakingLaws.{value-fits}
 use Rattle.machine_laws.specs.DeliveryLaws.{pending-object, first-below}
-use Rattle.machine_theorems.specs.Soundness.PutObject.{value-stays}
 use Rattle.machine_theorems.specs.Soundness.Stores.{SoundDuring}
 use Rattle.machine_theorems.specs.Soundness.Deliver.{Delivering, Detached, Settles, settle-keeps, detached-keeps, DeliveringError, failure-keeps}
 use Rattle.machine_theorems.specs.Soundness.Fill.{alone-keeps, DeliveringValue, success-keeps}
@@ -117,7 +118,7 @@ module _ {r : ℕ → Bool} {D : ℕ → Type 0} {hd : Header} (s : Store) (h : 
       let m : SoundDuring (Delivering (awaiter-of (object s o))) r (λ p. T (is-completed (kind (object s p)))) hd (put-object s o y) =
       settle-keeps s o y f st (record { kept = h .kept; runs = h .runs; done = λ p d. d; head = h .head }) in
       subst (λ (z : Header). T (value-known (z .made) (object (put-object s o y)) x)) (sym (header-put-object s o y))
-      (value-stays (header s .made) (object s) (object (put-object s o y)) (m .done) x k)
+      (value-stays (header s .made) (header s .made) (le-refl _) (object s) (object (put-object s o y)) (λ p l. m .done p) x k)
 
   -- the pending external o is settled with the host's value, or what is stored, which is on its way then
   pub resolve-delivering : (v : Value) → T (value-known (header s .made) (object s) v) → (o : ℕ) (p : PendingExternal) → o < header s .made → as-pending (object s o) ≡ some p
