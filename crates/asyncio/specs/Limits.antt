@@ -1,6 +1,5 @@
 -- How many numbers there are of each sort, and how wide the rows are. Document 01: "513 task records", "a 257th object, over 32 items,
--- or over 512 item places in all", "numbers 0 to 65,535",
--- "over 64 results".
+-- or over 512 item places in all", "over 64 results". Document 02, No. 1: "The last number handed out is 4,294,967,294."
 use Prim.Native.Nat.{ℕ, _*_, _+_}
 
 abbrev pub task-limit : ℕ
@@ -16,8 +15,9 @@ place-limit = 512
 abbrev pub item-limit : ℕ
 item-limit = 32
 
+-- call numbers that are handed out: one less than 32 bits have, so that their count has 32 bits too
 abbrev pub call-limit : ℕ
-call-limit = 65536
+call-limit = 4294967295
 
 -- errors of document 01's list
 abbrev pub error-limit : ℕ
@@ -27,7 +27,7 @@ error-limit = 7
 abbrev pub result-limit : ℕ
 result-limit = 64
 
--- numbers of 32 bits: functions, error numbers, the open places of a gather
+-- numbers of 32 bits: functions, calls, error numbers, the open places of a gather
 abbrev pub u32-limit : ℕ
 u32-limit = 4294967296
 

@@ -1,6 +1,6 @@
 -- The numbers of calls, tasks and objects, and what any word is read as: a number in its range.
 use Prim.Native.Nat.{ℕ, _+_, _-_, _%_, min}
-use Rattle.asyncio.specs.Limits.{task-limit, object-limit, place-limit, item-limit, call-limit, u32-limit}
+use Rattle.asyncio.specs.Limits.{task-limit, object-limit, place-limit, item-limit, u32-limit}
 use Rattle.asyncio.specs.declared.CallId.{CallId}
 use Rattle.asyncio.specs.declared.TaskId.{TaskId}
 use Rattle.asyncio.specs.declared.HeapId.{HeapId}
@@ -15,7 +15,7 @@ abbrev pub heap-id : ℕ → HeapId
 heap-id n = record { 0 = n }
 
 abbrev pub to-call-id : ℕ → CallId
-to-call-id n = call-id (n % call-limit)
+to-call-id n = call-id (n % u32-limit)
 
 abbrev pub to-task-id : ℕ → TaskId
 to-task-id n = task-id (n % task-limit)

@@ -131,7 +131,7 @@ object-wide =
 
 -- ---- whatever is read fits
 
-call-fits : (n : ℕ) → to-call-id n .0 < call-limit
+call-fits : (n : ℕ) → to-call-id n .0 < u32-limit
 call-fits n = omega arith
 
 task-fits : (n : ℕ) → to-task-id n .0 < task-limit

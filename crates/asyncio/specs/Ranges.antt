@@ -58,7 +58,7 @@ pub record PlacesFit (first count : ℕ) : Type 0 where
 abbrev pub ObjectFits : Object → Type 0
 ObjectFits Object.Unmade = Unit {0}
 ObjectFits (Object.Coroutine f s) = f < u32-limit
-ObjectFits (Object.ExternalFuture c s) = (c .0 < call-limit) × ExternalFits s
+ObjectFits (Object.ExternalFuture c s) = (c .0 < u32-limit) × ExternalFits s
 ObjectFits (Object.GatherFuture i n s) = PlacesFit i n × GatherFits s
 
 pub record PlaceFits (p : Place) : Type 0 where

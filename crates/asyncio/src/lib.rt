@@ -16,7 +16,11 @@ pub const PLACES: usize = 512;
 // Places of one gather.
 pub const ITEMS: usize = 32;
 
-pub const CALLS: usize = 65536;
+// Call numbers that are handed out: one less than 32 bits have, so that their count has 32 bits too.
+pub const CALLS: u32 = 4294967295;
+
+// Numbers of 32 bits: functions, calls, error numbers, the open places of a gather.
+pub const U32_LIMIT: u64 = 4294967296;
 
 // Results of one batch, and the bytes of one.
 pub const RESULTS: usize = 64;
@@ -31,10 +35,10 @@ pub const OBJECTS_LEN: usize = 2056;
 pub const PLACES_LEN: usize = 2048;
 
 // The number of an external call.
-pub struct CallId(pub u16);
+pub struct CallId(pub u32);
 
 impl CallId {
-    pub fn new(n: u16) -> CallId
+    pub fn new(n: u32) -> CallId
         ensures { λ r. ⌜ r ≡ call-id n ⌝ }
     {
         CallId(n)
@@ -43,7 +47,7 @@ impl CallId {
     pub fn from_word(n: u64) -> CallId
         ensures { λ r. ⌜ r ≡ to-call-id n ⌝ }
     {
-        CallId::new((n % CALLS as u64) as u16)
+        CallId::new((n % U32_LIMIT) as u32)
     }
 
     pub fn word(self) -> u64

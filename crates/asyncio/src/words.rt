@@ -20,6 +20,7 @@ use crate::TASKS;
 use crate::Task;
 use crate::TaskId;
 use crate::TaskState;
+use crate::U32_LIMIT;
 use crate::Value;
 ghost use mathlib.Core.Path.{_≡_};
 ghost use Prim.Native.Nat.{min, _≤_};
@@ -40,7 +41,7 @@ pub struct Words3(pub u64, pub u64, pub u64);
 pub fn to_u32(n: u64) -> u32
     ensures { λ r. ⌜ r ≡ to-u32 n ⌝ }
 {
-    (n % 4294967296) as u32
+    (n % U32_LIMIT) as u32
 }
 
 pub fn to_first(n: u64) -> u16

@@ -32,11 +32,11 @@ pub record Printed : Type 0 where
 abbrev row : ℕ → Answer → String → Printed
 row n a t = record { number = n; answer = a; text = t }
 
--- every word, and numbers of 1, 2 and 20 digits
+-- every word, and numbers of 1, 2, 10 and 20 digits
 unfoldable pub printed : List Printed
 printed =
     row 1 (Answer.made 0) "1 made 0\n" ∷
-    row 2 (Answer.called 65535) "2 call 65535\n" ∷
+    row 2 (Answer.called 4294967294) "2 call 4294967294\n" ∷
     row 9 (Answer.control (runs 1 (start 0 7))) "9 runs 1 start 0 7\n" ∷
     row 10 (Answer.control (runs 0 (value (Value.Plain 18446744073709551615)))) "10 runs 0 value plain 18446744073709551615\n" ∷
     row 11 (Answer.awaited (runs 0 (raises (Error.Host 77))) 1) "11 runs 0 raised host 77 steps 1\n" ∷

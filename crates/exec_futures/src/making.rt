@@ -61,7 +61,7 @@ pub fn allocate_call_id(objects: &mut [u64]) -> CallId
             moment,
         },
     );
-    CallId::new(n as u16)
+    CallId::new(n)
 }
 
 // A new coroutine of a function.

@@ -120,7 +120,7 @@ cases =
     Event.await 2 ⇒ Answer.awaited (waits (0 ∷ [])) 3 ∷
     Event.show 2 ⇒ Answer.shows (Shown.a-gather-awaited (some (list 0) ∷ none ∷ [])) ∷
     []) ∷
-    -- 5 before 10 in one batch; and no number is cut: list 2^32 + 1 is not list 1, call 2^16 is not call 0
+    -- 5 before 10 in one batch; and no number is cut: list 2^32 + 1 is not list 1, call 2^16 is not call 0 (nor is it handed out here)
     answered (
     Event.call ⇒ Answer.called 0 ∷
     pending 0 ⇒ Answer.made 0 ∷

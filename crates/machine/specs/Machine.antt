@@ -129,7 +129,7 @@ bad-result r = ltb 4 (r .kind) || ltb 1 (r .tag) || (eqb (r .kind) 1 && leb u32-
 unfoldable pub full : Store → Bool
 full s = leb object-limit (header s .made)
 
--- numbers 0 to 65,535 all handed out
+-- numbers 0 to 4,294,967,294 all handed out
 unfoldable pub no-number : Store → Bool
 no-number s = leb call-limit (header s .calls)
 

@@ -358,7 +358,7 @@ module _ (s : Store) (z : Sized s) (h : SoundFacts (view s)) (l : header s .made
   -- ---- the events `pending` and `settled`: an external with no awaiter, of a call that was handed out
 
   module _ (c : ℕ) (k : c < header s .calls) where
-    c-fits : c < call-limit
+    c-fits : c < u32-limit
     c-fits = omega (arith, header-fits s .calls-fit)
 
     pending-fits : (r : OptionValue) → T (option-known (header s .made) (object s) r)

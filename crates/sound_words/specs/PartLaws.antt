@@ -10,7 +10,7 @@ use lib.Dec.{eqb, ltb, leb}
 use borrow.Author.Tests.{eq-eqb, ne-eqb, eqb-true, eqb-false, ltb-true, ltb-false, leb-true, leb-false}
 use lib.ListN.{length, getD}
 use Rattle.asyncio.specs.States.{pick}
-use Rattle.asyncio.specs.Limits.{task-limit, object-limit, place-limit, item-limit, call-limit}
+use Rattle.asyncio.specs.Limits.{task-limit, object-limit, place-limit, item-limit, u32-limit}
 use Rattle.asyncio.specs.Numbers.{to-u32, to-first, to-count}
 use Rattle.asyncio.specs.Layout.{value-words, to-value, option-words, to-option, error-words, to-error, awaiter-words, to-awaiter, object-words, to-object, row-object, to-kind}
 use Rattle.asyncio.specs.Layout.{state-words, to-state, task-words, to-task, place-words, to-place}
@@ -64,15 +64,15 @@ coroutine-same w = zeros (getD w 1 0) (getD w 2 0) (getD w 3 0) and eqb (to-u32 
 
 -- a pending external
 unfoldable pub pending-same : List ℕ → Bool
-pending-same w = awaiter-same (getD w 1 0) (getD w 2 0) (getD w 3 0) and ltb (getD w 4 0) call-limit and option-same (getD w 5 0) (getD w 6 0) and eqb 0 (getD w 7 0)
+pending-same w = awaiter-same (getD w 1 0) (getD w 2 0) (getD w 3 0) and ltb (getD w 4 0) u32-limit and option-same (getD w 5 0) (getD w 6 0) and eqb 0 (getD w 7 0)
 
 -- a resolved external
 unfoldable pub resolved-same : List ℕ → Bool
-resolved-same w = zeros (getD w 1 0) (getD w 2 0) (getD w 3 0) and ltb (getD w 4 0) call-limit and value-same (getD w 5 0) (getD w 6 0) and eqb 0 (getD w 7 0)
+resolved-same w = zeros (getD w 1 0) (getD w 2 0) (getD w 3 0) and ltb (getD w 4 0) u32-limit and value-same (getD w 5 0) (getD w 6 0) and eqb 0 (getD w 7 0)
 
 -- a failed external
 unfoldable pub failed-same : List ℕ → Bool
-failed-same w = zeros (getD w 1 0) (getD w 2 0) (getD w 3 0) and ltb (getD w 4 0) call-limit and error-same (getD w 5 0) (getD w 6 0) and eqb 0 (getD w 7 0)
+failed-same w = zeros (getD w 1 0) (getD w 2 0) (getD w 3 0) and ltb (getD w 4 0) u32-limit and error-same (getD w 5 0) (getD w 6 0) and eqb 0 (getD w 7 0)
 
 -- a gather that is pending or completed
 unfoldable pub resting-same : List ℕ → Bool
@@ -109,8 +109,8 @@ zero-eq e = rw e
 pub zero-ne : {n : ℕ} → (n ≡ 0 → ⊥) → false ≡ eqb 0 n
 zero-ne {n} h = sym (ne-eqb 0 n (λ e. h (sym e)))
 
-call-below : (n : ℕ) → ltb n call-limit ≡ eqb (n % call-limit) n
-call-below n = below n call-limit (omega arith)
+call-below : (n : ℕ) → ltb n u32-limit ≡ eqb (n % u32-limit) n
+call-below n = below n u32-limit (omega arith)
 
 task-below : (n : ℕ) → ltb n task-limit ≡ eqb (n % task-limit) n
 task-below n = below n task-limit (omega arith)

@@ -1,9 +1,9 @@
 // Canonical groups of words: each is tested by its tag and the limit of its number, and a row by its groups, an object's by its kind.
-use asyncio::CALLS;
 use asyncio::ITEMS;
 use asyncio::OBJECTS;
 use asyncio::PLACES;
 use asyncio::TASKS;
+use asyncio::U32_LIMIT;
 use asyncio::words::to_u32;
 ghost use mathlib.Core.Path.{_≡_};
 ghost use Rattle.asyncio.specs.Numbers.{to-u32};
@@ -196,7 +196,7 @@ fn is_pending(w: [u64; 8]) -> bool
     ensures { λ r. ⌜ r ≡ pending-same w ⌝ }
 {
     if is_awaiter(w[1], w[2], w[3]) {
-        if w[4] < CALLS as u64 {
+        if w[4] < U32_LIMIT {
             if is_option(w[5], w[6]) {
                 return w[7] == 0;
             }
@@ -212,7 +212,7 @@ fn is_resolved(w: [u64; 8]) -> bool
     ensures { λ r. ⌜ r ≡ resolved-same w ⌝ }
 {
     if are_zero(w[1], w[2], w[3]) {
-        if w[4] < CALLS as u64 {
+        if w[4] < U32_LIMIT {
             if is_value(w[5], w[6]) {
                 return w[7] == 0;
             }
@@ -228,7 +228,7 @@ fn is_failed(w: [u64; 8]) -> bool
     ensures { λ r. ⌜ r ≡ failed-same w ⌝ }
 {
     if are_zero(w[1], w[2], w[3]) {
-        if w[4] < CALLS as u64 {
+        if w[4] < U32_LIMIT {
             if is_error(w[5], w[6]) {
                 return w[7] == 0;
             }

@@ -1,8 +1,10 @@
 // The tests of the table of refusals, each with its number.
+use asyncio::CALLS;
 use asyncio::HeapId;
 use asyncio::Moment;
 use asyncio::RESULT_BYTES;
 use asyncio::TaskId;
+use asyncio::U32_LIMIT;
 ghost use mathlib.Core.Path.{_≡_};
 ghost use mathlib.Core.Bool.{not};
 ghost use mathlib.Core.List.{List};
@@ -20,11 +22,6 @@ ghost use Rattle.exec_futures.specs.Results.{result-at, results-in};
 ghost use Rattle.contract.specs.Contract.{ObjectsLength, Lengths₂, kept, before, ReadsObjects};
 
 const OBJECTS: u16 = asyncio::OBJECTS as u16;
-
-const CALLS: u32 = asyncio::CALLS as u32;
-
-// How many error numbers there are: those of 32 bits.
-const ERROR_NUMBERS: u64 = 4294967296;
 
 // The running task, or why an event of running is refused.
 pub enum Turn {
@@ -146,7 +143,7 @@ fn bad_result(results: &[u8], at: usize) -> bool
         return true;
     }
     if kind == 1 {
-        return ERROR_NUMBERS <= endian::u64_at(results, at + 6);
+        return U32_LIMIT <= endian::u64_at(results, at + 6);
     }
     false
 }

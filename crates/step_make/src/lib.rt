@@ -94,7 +94,7 @@ pub fn pending(objects: &mut [u64], call: u32, stored: OptionValue) -> Answer
                         if is_full(objects) {
                             return Answer::Refused(7);
                         }
-                        let o = push_pending_future(objects, CallId::new(call as u16), stored);
+                        let o = push_pending_future(objects, CallId::new(call), stored);
                         Answer::Made(o)
                     }
                 };

@@ -332,7 +332,7 @@ module _ (s : Store) (w : SoundStore s) where
     pending-agrees c r low cl kn =
         made-agrees h s w k (Event.pending c r) _ (pends c r)
         (plain-made (Object.ExternalFuture (call-id c) (ExternalFutureState.Pending Awaiter.Nobody r)) (pends c r) low
-        (ap frozen (object-back (Object.ExternalFuture (call-id c) (ExternalFutureState.Pending Awaiter.Nobody r)) (cl, (tt, option-fits (header s .made) (object s) r (header-fits s .made-fits) kn))) ∙ is-pends c r) (unfold awaiter-of in tt))
+        (ap frozen (object-back (Object.ExternalFuture (call-id c) (ExternalFutureState.Pending Awaiter.Nobody r)) (omega (arith, cl), (tt, option-fits (header s .made) (object s) r (header-fits s .made-fits) kn))) ∙ is-pends c r) (unfold awaiter-of in tt))
         (unfold says in refl) (unfold says in refl) (unfold Makes first-reply reply-row in refl)
       where
         is-pends : (c : ℕ) (r : OptionValue) → frozen (Object.ExternalFuture (call-id c) (ExternalFutureState.Pending Awaiter.Nobody r)) ≡ pends c r
@@ -344,7 +344,7 @@ module _ (s : Store) (w : SoundStore s) where
         made-agrees h s w k (Event.settled v) _ (gave v)
         (added-made s1 y 0 (gave v) (sized-set-calls s _ z) (ap (λ (h : Header). h .made) head) (ap (λ (h : Header). h .next) head) (ap (λ (h : Header). h .moment) head) low
         (subst (λ (h : Header). h .used + 0 ≤ place-limit) (sym head) (omega (arith, header-fits s .used-fits))) rows (λ t. unfold task set-calls put-header in refl) (λ p l. places p) (λ p l. inl (places p))
-        (ap frozen (object-back y (cl, value-fits (header s .made) (object s) v (header-fits s .made-fits) kn)) ∙ is-gave (call-id (header s .calls))) (unfold awaiter-of in tt))
+        (ap frozen (object-back y (omega (arith, cl), value-fits (header s .made) (object s) v (header-fits s .made-fits) kn)) ∙ is-gave (call-id (header s .calls))) (unfold awaiter-of in tt))
         (unfold says nothing-said in refl) (unfold says nothing-said in refl) (unfold Makes in refl)
       where
         s1 : Store

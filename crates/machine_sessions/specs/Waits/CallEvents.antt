@@ -327,7 +327,7 @@ later-pends x b c = elim (is-at (x .pends) c) [ true ↦ true | false ↦ answer
 
 pending-made : (d : ℕ) (x : OptionValue) → d < call-limit → pending-call (to-object (object-words (Object.ExternalFuture (call-id d) (ExternalFutureState.Pending Awaiter.Nobody x)))) ≡ some d
 unfolding pending-call
-pending-made d x l = ap (λ (n : ℕ). some n) (mod-eq-of-lt l)
+pending-made d x l = ap (λ (n : ℕ). some n) (mod-eq-of-lt (omega (arith, l)))
 
 or-elim : (a b : Bool) → (a || b) ≡ elim a [ true ↦ true | false ↦ b ]
 or-elim true b = refl

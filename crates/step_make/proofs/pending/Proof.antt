@@ -1,8 +1,6 @@
-use mathlib.Core.Path.{_≡_, refl, sym, ap, _∙_}
-use native.Mathlib.Omega.{arith}
+use mathlib.Core.Path.{_≡_, refl, sym, _∙_}
 use denote.Ref.{now}
 use borrow.Author.Tests.{leb-false}
-use Rattle.asyncio.specs.Ranges.{HeaderFits}
 use Rattle.rows.specs.TableLaws.{header-read}
 use Rattle.machine.specs.Machine.{refusals}
 use Rattle.step_checks.specs.StepLaws.{no-turn, pending-unheard, pending-unknown, pending-again, pending-full, pending-made}
@@ -48,9 +46,6 @@ same-length-2 c = search needs
 
 returns-2 : tie.Need-returns-2
 returns-2 c = λ ts ps q l. pending-full ts (now (c .before .before .before .before .before .before .before .before .before .before .before .before .before .before .before .before .before .before .before .args .objects)) ps q l (c .before .before .before .before .before .before .before .before .before .before .before .before .before .before .before .before .running .ensures) _ (c .before .before .before .before .before .before .before .before .before .before .before .before .before .before .enum-told .given .1) (c .before .before .before .before .before .before .before .before .before .before .before .before .before .before .before .before .before .before .before .args .call) (c .before .before .before .before .before .before .before .before .before .before .before .before .before .before .before .before .before .before .before .args .stored) (c .before .before .before .before .before .before .before .before .before .before .before .before .load-header .ensures) (c .before .before .before .before .before .before .before .before .before .before .if1 .left) (c .before .before .before .before .before .before .before .before .option-known .ensures) (c .before .before .before .before .before .before .before .if2 .taken) (c .before .before .before .before .before .take-pending-external .ensures) (c .before .before .before .enum-told3 .given .1) (c .before .is-full .ensures) (c .if3 .taken)
-
-cast-new : tie.Need-cast-new
-cast-new c = omega (arith, c .before .before .before .before .before .before .before .before .before .before .before .if1 .left, header-read _ (c .before .before .before .before .before .before .before .before .before .before .before .before .before .load-header .ensures) .calls-fit)
 
 new-requires : tie.Need-new-requires
 new-requires c κs = search needs
@@ -100,7 +95,6 @@ pending-spec =
     is-full-requires
     same-length-2
     returns-2
-    cast-new
     new-requires
     push-pending-future-requires
     same-length-3

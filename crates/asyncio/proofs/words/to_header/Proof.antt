@@ -41,6 +41,9 @@ cast-t21 c = search needs
 array-read-t24 : tie.Need-array-read-t24
 array-read-t24 c = search needs
 
+cast-t25 : tie.Need-cast-t25
+cast-t25 c = search needs
+
 add-t26 : tie.Need-add-t26
 add-t26 c = search needs
 
@@ -81,6 +84,7 @@ to-header-spec =
     rem-t20
     cast-t21
     array-read-t24
+    cast-t25
     add-t26
     rem-t27
     cast-t28

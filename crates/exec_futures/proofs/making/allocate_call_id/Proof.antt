@@ -1,5 +1,3 @@
-use Rattle.rows.specs.TableLaws.{header-read}
-use Rattle.asyncio.specs.Ranges.{HeaderFits}
 use mathlib.Core.Path.{_≡_, ap, _∙_}
 use native.Mathlib.Omega.{arith}
 use denote.Ref.{now}
@@ -14,13 +12,10 @@ load-header-requires : tie.Need-load-header-requires
 load-header-requires c κs = search needs
 
 add-t10 : tie.Need-add-t10
-add-t10 c = omega (arith, header-read _ (c .before .load-header .ensures) .calls-fit)
+add-t10 c = record { fits = omega (arith, c .before .before .before .before .pre .1, ap (λ (h : Header). h .calls) (c .before .load-header .ensures)) }
 
 store-header-requires : tie.Need-store-header-requires
 store-header-requires c κs = search needs
-
-cast-new : tie.Need-cast-new
-cast-new c = omega (arith, c .before .before .before .before .before .before .before .pre .1, ap (λ (h : Header). h .calls) (c .before .before .before .before .load-header .ensures))
 
 new-requires : tie.Need-new-requires
 new-requires c κs = search needs
@@ -34,4 +29,4 @@ returns c = (ap (λ (x : CallId). x .0) (c .new .ensures) ∙ ap (λ (h : Header
 pub allocate-call-id-spec : {M : Type 1} → statement M
 allocate-call-id-spec =
     tie.close
-    (tie.spec load-header-requires add-t10 store-header-requires cast-new new-requires same-length returns)
+    (tie.spec load-header-requires add-t10 store-header-requires new-requires same-length returns)
