@@ -72,7 +72,7 @@ MEANINGS = {
     5: "object not made, task not live, call number not handed out, or list value of a gather not completed",
     6: "call number pending already",
     7: "a 257th object, over 32 items, or over 512 item places in all",
-    8: "numbers 0 to 65,535 all handed out",
+    8: "numbers 0 to 4,294,967,294 all handed out",
     9: "cancel of main",
     10: "over 64 results, a kind above 4, a value tag above 1, or an error number of 2^32 or more; nothing applied",
 }

@@ -10,7 +10,7 @@ REFUSALS = {
     5: "an object that is not made, a task that is not live, a call number not handed out, or a list of a gather that is not completed",
     6: "the call is pending already",
     7: "a 257th object, over 32 items, or over 512 item places in all",
-    8: "all 65,536 call numbers are handed out",
+    8: "all call numbers, 0 to 4,294,967,294, are handed out",
     9: "main cannot be cancelled",
     10: "over 64 results, a result kind above 4, a tag above 1, or an error number of 2^32 or more; none of the batch is applied",
     11: "what stands there is no record; drive stops here",

@@ -2,20 +2,20 @@
 use std::fmt::{self, Display, Formatter};
 
 macro_rules! identifier {
-    ($(#[$doc:meta])* $name:ident) => {
+    ($(#[$doc:meta])* $name:ident($number:ty)) => {
         $(#[$doc])*
         #[derive(Clone, Copy, Debug, PartialEq, Eq, PartialOrd, Ord, Hash)]
         #[repr(transparent)]
-        pub struct $name(u16);
+        pub struct $name($number);
 
         impl $name {
             /// The identifier with this number.
-            pub const fn new(number: u16) -> Self {
+            pub const fn new(number: $number) -> Self {
                 Self(number)
             }
 
             /// Its number.
-            pub const fn number(self) -> u16 {
+            pub const fn number(self) -> $number {
                 self.0
             }
         }
@@ -29,16 +29,17 @@ macro_rules! identifier {
 }
 
 identifier!(
-    /// The number of an external call, from 0 in the order of handing out.
-    CallId
+    /// The number of an external call, from 0 in the order of handing out. The last one handed out is 4,294,967,294:
+    /// [`u32::MAX`] is the number of no call.
+    CallId(u32)
 );
 identifier!(
     /// The number of a task; 0 is main, and spawned tasks count from 1.
-    TaskId
+    TaskId(u16)
 );
 identifier!(
     /// The number of an object (a coroutine, an external future or a gather), from 0 in the order of making.
-    HeapId
+    HeapId(u16)
 );
 
 impl TaskId {
@@ -393,7 +394,7 @@ pub enum Refusal {
     PendingAlready = 6,
     /// A 257th object, over 32 items, or over 512 item places in all.
     NoRoom = 7,
-    /// All 65,536 call numbers are handed out.
+    /// All call numbers, 0 to 4,294,967,294, are handed out.
     NoCallNumber = 8,
     /// A cancel of main.
     CancelOfMain = 9,
@@ -433,7 +434,7 @@ impl Refusal {
             Refusal::Unknown => "object not made, task not live, call number not handed out, or list value of a gather not completed",
             Refusal::PendingAlready => "call number pending already",
             Refusal::NoRoom => "a 257th object, over 32 items, or over 512 item places in all",
-            Refusal::NoCallNumber => "numbers 0 to 65,535 all handed out",
+            Refusal::NoCallNumber => "numbers 0 to 4,294,967,294 all handed out",
             Refusal::CancelOfMain => "cancel of main",
             Refusal::BadResults => "over 64 results, a kind above 4, a value tag above 1, or an error number of 2^32 or more; nothing applied",
             Refusal::BadRecord => "wrong mark, unknown kind, short record, flag or, outside results, tag above 1",

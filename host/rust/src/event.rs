@@ -16,7 +16,7 @@ pub enum Event<'a> {
     Call,
     /// The running task makes the external future of a call.
     Pending {
-        /// The call. A number that was not handed out is refused with 5, also one that no [`CallId`] can have.
+        /// The call. A number that was not handed out is refused with 5, [`u32::MAX`] always.
         call: u32,
         /// A result that replaces the host's.
         stored: Option<Value>,
@@ -185,7 +185,7 @@ fn result_bytes(call: CallId, outcome: Outcome) -> [u8; RESULT] {
         Outcome::ModuleFile => (4, Value::Plain(0)),
     };
     let mut bytes = [0; RESULT];
-    bytes[..4].copy_from_slice(&u32::from(call.number()).to_le_bytes());
+    bytes[..4].copy_from_slice(&call.number().to_le_bytes());
     bytes[4] = kind;
     bytes[5..].copy_from_slice(&value_bytes(value));
     bytes

@@ -11,7 +11,7 @@ pub(crate) fn answer(numbers: &Numbers, calls: &[u64], place: impl Fn(u16) -> Nu
     let mut values = accepted(numbers)?;
     Ok(match numbers.word {
         1 => Answer::Made(values.object()),
-        2 => Answer::Call(CallId::new(values.short())),
+        2 => Answer::Call(CallId::new(values.number())),
         3 => {
             let control = values.runs();
             values.control(control)
@@ -134,7 +134,7 @@ impl<'a> Values<'a> {
         let count = self.next();
         let waiting = usize::try_from(count).ok().and_then(|count| calls.get(..count));
         let waiting = waiting.unwrap_or_else(|| impossible("a count of calls", count));
-        let call = |&number: &u64| CallId::new(u16::try_from(number).unwrap_or_else(|_| impossible("a call", number)));
+        let call = |&number: &u64| CallId::new(u32::try_from(number).unwrap_or_else(|_| impossible("a call", number)));
         Control::Waits(waiting.iter().map(call).collect())
     }
 

@@ -142,8 +142,7 @@ impl Session {
     /// [`Refusal::Ended`], [`Refusal::WrongMoment`], [`Refusal::Unknown`], [`Refusal::PendingAlready`],
     /// [`Refusal::NoRoom`].
     pub fn pending(&mut self, call: CallId, stored: Option<Value>) -> Result<HeapId, Refusal> {
-        let call = u32::from(call.number());
-        self.made(&Event::Pending { call, stored })
+        self.made(&Event::Pending { call: call.number(), stored })
     }
 
     /// An external future that has its value already. It is handed a call number too.

@@ -91,7 +91,9 @@ fn refusals_are_typed_and_change_nothing() -> Result<(), Refusal> {
     refuses(&mut s, Event::Show(zero), Refusal::Unknown);
     refuses(&mut s, Event::Complete(Value::List(zero)), Refusal::Unknown);
     refuses(&mut s, Event::Pending { call: 0, stored: None }, Refusal::Unknown);
-    refuses(&mut s, Event::Pending { call: 65_536, stored: None }, Refusal::Unknown);
+    for call in [65_536, u32::MAX - 1, u32::MAX] {
+        refuses(&mut s, Event::Pending { call, stored: None }, Refusal::Unknown);
+    }
     refuses(&mut s, Event::Gather(vec![HeapId::new(u16::MAX)].into()), Refusal::Unknown);
     let call = s.call()?;
     let future = s.pending(call, None)?;
@@ -120,19 +122,46 @@ fn refusals_are_typed_and_change_nothing() -> Result<(), Refusal> {
 }
 
 #[test]
-fn a_257th_object_and_a_65537th_call_are_refused() -> Result<(), Refusal> {
+fn a_257th_object_is_refused() -> Result<(), Refusal> {
     let mut s = Session::new();
     for _ in 0..256 {
         s.coroutine(u32::MAX)?;
     }
     refuses(&mut s, Event::Coroutine(0), Refusal::NoRoom);
+    Ok(())
+}
+
+/// A call number has 32 bits, and a result for call 65,536 + n is none for call n. (`tests/stored_cases.rs` has the last
+/// number.)
+#[test]
+fn calls_go_past_65536() -> Result<(), Refusal> {
     let mut s = Session::new();
-    for number in 0..=u16::MAX {
+    for number in 0..65_536 {
         assert_eq!(s.call()?, CallId::new(number));
     }
-    refuses(&mut s, Event::Call, Refusal::NoCallNumber);
-    refuses(&mut s, Event::Settled(Value::Plain(1)), Refusal::NoCallNumber);
-    assert_eq!(s.pending(CallId::new(u16::MAX), None)?, HeapId::new(0));
+    refuses(&mut s, Event::Pending { call: 65_536, stored: None }, Refusal::Unknown);
+    assert_eq!(s.call()?, CallId::new(65_536));
+    let [low, high, unknown] = [0, 65_536, 131_072].map(CallId::new);
+    let host = |number| Outcome::Return(Value::Plain(number));
+    let above = s.pending(high, None)?;
+    refuses(&mut s, Event::Pending { call: 65_536, stored: None }, Refusal::PendingAlready);
+    // call 0 is not pending yet
+    s.results(&[(low, host(1)), (unknown, host(2))])?;
+    assert_eq!(s.show(above)?, Shown::ExternalPending);
+    let below = s.pending(low, None)?;
+    let gather = s.gather(&[above, below])?;
+    assert_eq!(s.await_object(gather)?.control, Control::Waits(vec![low, high]));
+    s.result(high, host(5))?;
+    assert_eq!(s.show(below)?, Shown::ExternalPending);
+    assert_eq!(s.show(above)?, Shown::ExternalResolved(Value::Plain(5)));
+    assert_eq!(s.resume()?, Resumed::Control(Control::Waits(vec![low])));
+    s.results(&[(high, host(6)), (low, host(7))])?;
+    let how = How::Value(Value::List(gather));
+    assert_eq!(s.resume()?, Resumed::Control(Control::Runs { task: TaskId::MAIN, how }));
+    assert_eq!(s.show(gather)?, Shown::GatherCompleted([5, 7].map(Value::Plain).to_vec()));
+    // a settled external takes a number too
+    s.settled(Value::Plain(1))?;
+    assert_eq!(s.call()?, CallId::new(65_538));
     Ok(())
 }
 

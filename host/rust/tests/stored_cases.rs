@@ -123,6 +123,78 @@ fn what_is_no_snapshot_is_refused() {
     }
 }
 
+/// The session of a fresh one's snapshot in which the count of calls is this: nothing where that is no sound store.
+fn session_with_calls(count: u64) -> Result<Session, NotASession> {
+    let mut bytes = Session::new().snapshot();
+    // word 2 of the objects (docs/LAYOUT.md)
+    bytes[OBJECTS + 16..OBJECTS + 24].copy_from_slice(&count.to_le_bytes());
+    Session::restore(&summed_anew(bytes))
+}
+
+/// Calls enough for every number cannot be made here: a session gets there by the count that was written into its
+/// snapshot.
+#[test]
+fn the_last_call_number() -> Result<(), Refusal> {
+    let mut s = session_with_calls(u64::from(u32::MAX) - 1).expect("a sound store");
+    let last = CallId::new(u32::MAX - 1);
+    let refused = |s: &mut Session, event: Event<'_>, refusal: Refusal| {
+        let before = s.snapshot();
+        assert_eq!(s.dispatch(&event), Err(refusal), "{event:?}");
+        assert_eq!(s.dispatch_checked(&event), Err(refusal), "{event:?}");
+        assert!(s.snapshot() == before, "{event:?}: a refused event changes nothing");
+    };
+    let pending = |call| Event::Pending { call, stored: None };
+    refused(&mut s, pending(last.number()), Refusal::Unknown);
+    assert_eq!(s.call()?, last);
+    refused(&mut s, Event::Call, Refusal::NoCallNumber);
+    refused(&mut s, Event::Settled(Value::Plain(1)), Refusal::NoCallNumber);
+    refused(&mut s, Event::Settled(Value::List(HeapId::new(0))), Refusal::Unknown);
+    refused(&mut s, pending(u32::MAX), Refusal::Unknown);
+    // 4,294,967,295 is an unknown call in results too, and neither number is that of its lower 16 bits
+    let futures = [65_534, 65_535, last.number()].map(CallId::new);
+    for (number, call) in (0..).zip(futures) {
+        assert_eq!(s.pending(call, None)?, HeapId::new(number));
+        refused(&mut s, pending(call.number()), Refusal::PendingAlready);
+    }
+    assert_eq!(s.await_object(HeapId::new(2))?.to_string(), "waits 3 65534 65535 4294967294 steps 0");
+    s.result(CallId::new(u32::MAX), Outcome::Return(Value::Plain(1)))?;
+    assert_eq!(s.resume()?.to_string(), "waits 3 65534 65535 4294967294");
+    s.result(last, Outcome::Return(Value::Plain(2)))?;
+    assert_eq!(s.resume()?.to_string(), "runs 0 value plain 2");
+    for number in [0, 1] {
+        assert_eq!(s.show(HeapId::new(number))?.to_string(), "shows external pending");
+    }
+    assert!(Session::restore(&s.snapshot()).is_ok_and(|again| again.snapshot() == s.snapshot()));
+    // 7 before 8: with 256 objects a settled one has no room, and a call has no number
+    for _ in 3..256 {
+        s.coroutine(1)?;
+    }
+    refused(&mut s, Event::Settled(Value::Plain(1)), Refusal::NoRoom);
+    refused(&mut s, Event::Settled(Value::List(HeapId::new(0))), Refusal::Unknown);
+    refused(&mut s, Event::Call, Refusal::NoCallNumber);
+    Ok(())
+}
+
+/// A settled external takes the last number as a call does; a count above all numbers is no sound store.
+#[test]
+fn counts_of_calls() -> Result<(), Refusal> {
+    let mut s = session_with_calls(u64::from(u32::MAX) - 1).expect("a sound store");
+    assert_eq!(s.settled(Value::Plain(1))?, HeapId::new(0));
+    assert_eq!(s.call(), Err(Refusal::NoCallNumber));
+    assert_eq!(s.settled(Value::Plain(1)), Err(Refusal::NoCallNumber));
+    for count in [65_535, 65_536, 65_537] {
+        let mut s = session_with_calls(count.into()).expect("a sound store");
+        assert_eq!(s.call()?, CallId::new(count));
+        assert_eq!(s.pending(CallId::new(count), None)?, HeapId::new(0));
+    }
+    let mut s = session_with_calls(u32::MAX.into()).expect("a sound store");
+    assert_eq!(s.call(), Err(Refusal::NoCallNumber));
+    for count in [1 << 32, (1 << 32) + 1, u64::MAX] {
+        assert_eq!(session_with_calls(count).err(), Some(NotASession::Unsound), "{count}");
+    }
+    Ok(())
+}
+
 /// The bytes that rows in use have, at least: where a damage matters.
 fn bytes_in_use(snapshot: &[u8]) -> Vec<usize> {
     let header = |word: usize| {
