@@ -16,7 +16,8 @@ mkdir "$room/differs"
 if ! "$target/release/harness" compare "$drive" "$seed" "$count" "$room/differs"; then
     for file in "$room"/differs/*.bin; do
         echo "as text:"
-        python3 tools/records.py text "$file"
+        # the same line many times is written as a repeat
+        python3 tools/records.py text "$file" | uniq -c | sed -E 's/^ +1 //; s/^ +([0-9]+) /repeat \1 /'
     done
     exit 1
 fi

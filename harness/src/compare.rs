@@ -8,6 +8,7 @@ use std::{
     path::Path,
     process::{Command, Stdio},
     thread,
+    time::{Duration, Instant},
 };
 
 use crate::{generate, records::Reader, session};
@@ -55,13 +56,14 @@ fn pieces(input: &[u8]) -> Vec<&[u8]> {
     out
 }
 
-/// A shorter input on which the two still differ: pieces are left out as long as they do.
+/// A shorter input on which the two still differ: pieces are left out as long as they do, for a minute at most: a file may have 70,000 records, all needed.
 fn cut_down(program: &Path, input: &[u8]) -> Vec<u8> {
+    let began = Instant::now();
     let mut kept = pieces(input);
     let mut size = kept.len().div_ceil(2);
     while size > 0 {
         let mut at = 0;
-        while at < kept.len() {
+        while at < kept.len() && began.elapsed() < Duration::from_secs(60) {
             let mut fewer = kept.clone();
             fewer.drain(at..(at + size).min(kept.len()));
             let bytes = fewer.concat();
@@ -91,7 +93,12 @@ pub(crate) fn compare(program: &Path, seed: u64, count: u64, folder: &Path) -> b
             let path = folder.join(format!("differs-{seed}-{number}.bin"));
             fs::write(&path, &short).expect("writing the file that differs");
             println!("cut down from {} to {} bytes: {}", input.len(), short.len(), path.display());
-            println!("the Rust:\n{}drive:\n{}", rust(&short), drive(program, &short));
+            let (expected, got) = (rust(&short), drive(program, &short));
+            // of many lines, those before the first that differs are left out, but for some
+            let equal = expected.lines().zip(got.lines()).take_while(|(a, b)| a == b).count();
+            let skipped = if equal > 200 { equal - 20 } else { 0 };
+            let shown = |lines: &str| lines.lines().skip(skipped).map(|line| format!("{line}\n")).collect::<String>();
+            println!("the Rust:\n{}drive:\n{}", shown(&expected), shown(&got));
             return false;
         }
         for (line, record) in expected.lines().zip(pieces(&input)) {

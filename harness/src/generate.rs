@@ -68,6 +68,8 @@ struct File<'s, 'h> {
     cancelled: u16,
     /// an external that has failed
     failed: Option<u16>,
+    /// whether it begins with so many calls that their numbers need more than 16 bits, or soon will
+    many_calls: bool,
 }
 
 impl File<'_, '_> {
@@ -207,13 +209,29 @@ impl File<'_, '_> {
         calls
     }
 
+    /// A call number handed out, or one of the `past` numbers behind them; 0 if there is none. In a file with many calls mostly one of the last, one at
+    /// 65,536, or one 65,536 away from a pending call: the same to a reader of 16 bits.
+    fn call_number(&mut self, past: u64) -> u32 {
+        let limit = (u64::from(self.session.calls_handed_out) + past).max(1);
+        if !self.many_calls {
+            return self.random.below(limit) as u32;
+        }
+        let pending = self.pending_calls();
+        match self.random.below(5) {
+            0 => (limit - 1 - self.random.below(limit.min(8))) as u32,
+            1 => (65_528 + self.random.below(16)) as u32,
+            2 | 3 if !pending.is_empty() => pending[self.random.below(pending.len() as u64) as usize] ^ 0x1_0000,
+            _ => self.random.below(limit) as u32,
+        }
+    }
+
     /// A result: mostly for a pending call, else for one answered, or never handed out.
     fn result(&mut self) -> Vec<u8> {
         let pending = self.pending_calls();
         let call = if !pending.is_empty() && self.random.chance(80) {
             pending[self.random.below(pending.len() as u64) as usize]
         } else {
-            self.random.below(u64::from(self.session.calls_handed_out) + 3) as u32
+            self.call_number(3)
         };
         let kind = self.random.weighted(&[70, 15, 6, 5, 4]) as u8;
         let mut value = self.value();
@@ -311,10 +329,10 @@ impl File<'_, '_> {
         if pending.len() as u64 == handed_out {
             self.call();
         }
-        let mut call = self.random.below(u64::from(self.session.calls_handed_out).max(1)) as u32;
+        let mut call = self.call_number(0);
         for _ in 0..6 {
             if pending.contains(&call) {
-                call = self.random.below(u64::from(self.session.calls_handed_out).max(1)) as u32;
+                call = self.call_number(0);
             }
         }
         self.pending(call);
@@ -532,18 +550,20 @@ impl File<'_, '_> {
         }
     }
 
-    /// All call numbers handed out, and what can be done with the last.
-    fn all_calls(&mut self) {
-        while self.session.calls_handed_out < 65_535 {
+    /// 65,530 to 70,000 calls handed out, half the times just about 65,536, and what can be done with the last and with the numbers that none has.
+    fn calls(&mut self) {
+        let most = if self.random.chance(50) { 12 } else { 4_471 };
+        let calls = 65_530 + self.random.below(most) as u32;
+        while self.session.calls_handed_out < calls {
             self.call();
         }
         let last = self.random.chance(50);
         if last { self.settled() } else { self.call() }
-        self.call();
-        self.settled();
-        for call in [65_535, 65_536, 0] {
+        for call in [calls, 65_535, 65_536, 0, calls - 65_530, calls + 1, u32::MAX - 1, u32::MAX] {
             self.pending(call);
         }
+        let unknown = [65_536 + calls, u32::MAX - 1, u32::MAX].map(|call| [&call.to_le_bytes()[..], &[0; 10]].concat());
+        self.results(&unknown);
         self.some_results(4);
         let top = self.object();
         self.await_object(top);
@@ -587,13 +607,15 @@ impl File<'_, '_> {
     }
 }
 
-/// File `number` of `seed`. Every sixth is damaged; file 3 hands out all call numbers.
+/// File `number` of `seed`. Every sixth is damaged; one in 97, from file 3 on, begins with 65,530 to 70,000 calls, and is not: the damage would mostly be
+/// among these.
 pub(crate) fn file(seed: u64, number: u64) -> Vec<u8> {
     with_session(|session| {
         let mut random = Random(seed.wrapping_mul(0x1000_0000_01B3) ^ number);
         random.next();
-        let damaged = number % 6 == 5;
-        let style = STYLES[(if damaged { random.below(5) } else { number % 6 }) as usize];
+        let many_calls = number % 97 == 3;
+        let damaged = number % 6 == 5 && !many_calls;
+        let style = STYLES[(if number % 6 == 5 { random.below(5) } else { number % 6 }) as usize];
         let length = match style {
             Style::Wild => 40 + random.below(360),
             Style::Limits => 100 + random.below(600),
@@ -607,9 +629,10 @@ pub(crate) fn file(seed: u64, number: u64) -> Vec<u8> {
             records: 0,
             cancelled: 1,
             failed: None,
+            many_calls,
         };
-        if number == 3 {
-            file.all_calls();
+        if many_calls {
+            file.calls();
         }
         let length = file.records + length;
         file.fill(style, length);

@@ -24,7 +24,8 @@ use crate::{
 const OBJECTS: usize = 256;
 const ITEMS: usize = 32;
 const PLACES: usize = 512;
-const CALLS: u32 = 65_536;
+/// Document 02, No. 1: the last number handed out is 4,294,967,294.
+const CALLS: u32 = 4_294_967_295;
 const RESULTS: usize = 64;
 
 /// A refusal's number.
