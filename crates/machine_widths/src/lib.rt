@@ -1,0 +1,1 @@
+// The machine with n call numbers: states of the old width carried over (specs/).
