@@ -15,7 +15,7 @@ import sys
 import textwrap
 
 ROOT = os.path.dirname(os.path.dirname(os.path.abspath(__file__)))
-# the version of the boundary and of the layout (docs/LAYOUT.md): one more at each change that a host has to know of
+# the version of the boundary and of the layout (docs/LAYOUT.md): one more where an older host or a session saved by it would be read wrongly
 VERSION = 1
 MADE = "Made by tools/boundary.py from its table: change it there."
 

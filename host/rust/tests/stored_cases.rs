@@ -195,6 +195,33 @@ fn counts_of_calls() -> Result<(), Refusal> {
     Ok(())
 }
 
+/// A snapshot that the library of 0.1.0 wrote, whose call numbers had 16 bits, is a session still: the same bytes, the
+/// same answers, and a number where that library refused with 8.
+#[test]
+fn a_snapshot_of_the_old_width_goes_on() -> Result<(), Refusal> {
+    let mut bytes = vec![0; Session::new().snapshot().len()];
+    for line in include_str!("old-width.txt").lines().filter(|line| !line.starts_with('#')) {
+        let (at, written) = line.split_once(' ').expect("a place and bytes");
+        let places = bytes.iter_mut().skip(at.parse().expect("a place"));
+        for (place, byte) in places.zip(written.split(' ')) {
+            *place = u8::from_str_radix(byte, 16).expect("a byte");
+        }
+    }
+    let mut s = Session::restore(&bytes).expect("a session");
+    assert!(s.snapshot() == bytes);
+    let host = |number| Outcome::Return(Value::Plain(number));
+    assert_eq!(s.resume()?.to_string(), "waits 3 3 9 65535");
+    assert_eq!(s.call(), Err(Refusal::WrongMoment));
+    s.results(&[(CallId::new(131_071), host(1)), (CallId::new(65_535), host(35)), (CallId::new(9), host(1))])?;
+    assert_eq!(s.resume()?.to_string(), "runs 1 value plain 77");
+    assert_eq!(s.dispatch(&Event::Complete(Value::Plain(40)))?.to_string(), "waits 1 3");
+    s.result(CallId::new(3), host(33))?;
+    assert_eq!(s.resume()?.to_string(), "runs 0 value list 4");
+    assert_eq!(s.show(HeapId::new(4))?.to_string(), "shows gather completed 3 plain 40 plain 35 plain 33");
+    assert_eq!(s.call()?, CallId::new(65_536));
+    Ok(())
+}
+
 /// The bytes that rows in use have, at least: where a damage matters.
 fn bytes_in_use(snapshot: &[u8]) -> Vec<usize> {
     let header = |word: usize| {
