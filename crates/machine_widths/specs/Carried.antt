@@ -30,7 +30,8 @@ module _ (es : List Event) (s : Store) (i : AllInRange es) (z : Sized s) (q : le
 
   -- ---- for any two limits
 
-  -- A sound state of n call numbers is, word for word, one of any m above, and gives the same answers and leaves the same stores up to the first refusal 8.
+  -- A sound state of n call numbers is, word for word, one of any m above, up to `call-limit`, and gives the same answers and leaves the same stores up to the
+  -- first refusal 8.
   pub carried : (n m : ℕ) → n ≤ m → m ≤ call-limit → T (sound-at n s)
       → T (sound-at m s) × (answers-at m s (before-8 n s es) ≡ answers-at n s (before-8 n s es)) × (after-at m s (before-8 n s es) ≡ after-at n s (before-8 n s es))
   carried n m l u h = let k = same-before-8 n m l (omega (arith, l, u)) es s i (stored n h) in (sound-wider n m l s h, k .0, k .1)

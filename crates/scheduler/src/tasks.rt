@@ -63,8 +63,8 @@ pub(crate) fn is_call(objects: &[u64], call: u32, o: HeapId) -> bool
     false
 }
 
-// The pending external of a call. It only searches: nothing is taken out, and the store stays. The number is compared whole: one
-// that was never handed out finds nothing.
+// The pending external of a call. It only searches: nothing is taken out, and the store stays. The number is compared whole, so that
+// call 65,536 + n is not call n.
 pub fn take_pending_external(objects: &[u64], call: u32) -> FoundObject
     requires { ⌜ ObjectsLength objects ⌝ }
     ensures { λ r. ⌜ r ≡ found-object (pending-external-in (now (objects .entry)) call) ⌝ }
