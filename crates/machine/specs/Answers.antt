@@ -79,6 +79,7 @@ answer-numbers (Answer.called n) = says 2 (n ∷ [])
 answer-numbers (Answer.control c) = control-numbers c []
 answer-numbers (Answer.awaited c n) = control-numbers c (n ∷ [])
 answer-numbers Answer.done = says 5 []
+answer-numbers (Answer.cancelled n) = says 5 (n ∷ [])
 answer-numbers Answer.stalled = says 6 []
 answer-numbers (Answer.finished v) = says 7 (0 ∷ value-numbers v)
 answer-numbers (Answer.finished-error e) = says 7 (1 ∷ error-numbers e)

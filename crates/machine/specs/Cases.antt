@@ -173,7 +173,7 @@ cases =
     Event.call ⇒ Answer.called 0 ∷
     pending 0 ⇒ Answer.made 5 ∷
     Event.await 5 ⇒ Answer.awaited (waits (0 ∷ [])) 0 ∷
-    Event.cancel 1 ⇒ Answer.done ∷
+    Event.cancel 1 ⇒ Answer.cancelled 0 ∷
     Event.cancel 2 ⇒ Answer.refused 5 ∷
     []) ∷
     []

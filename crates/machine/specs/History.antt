@@ -105,6 +105,7 @@ tells (Answer.called n) = done-only
 tells (Answer.control c) = record { accepts = true; makes = none; control = some c }
 tells (Answer.awaited c n) = record { accepts = true; makes = none; control = some c }
 tells Answer.done = done-only
+tells (Answer.cancelled n) = done-only
 tells Answer.stalled = done-only
 tells (Answer.finished v) = done-only
 tells (Answer.finished-error e) = done-only

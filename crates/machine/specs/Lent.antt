@@ -48,6 +48,7 @@ answer-calls (Answer.called n) = []
 answer-calls (Answer.control c) = control-calls c
 answer-calls (Answer.awaited c n) = control-calls c
 answer-calls Answer.done = []
+answer-calls (Answer.cancelled n) = []
 answer-calls Answer.stalled = []
 answer-calls (Answer.finished v) = []
 answer-calls (Answer.finished-error e) = []

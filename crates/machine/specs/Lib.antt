@@ -23,3 +23,5 @@ pub mod DemandThreeCases
 pub mod Singles
 pub mod DemandTwo
 pub mod DemandTwoCases
+pub mod CancelCounts
+pub mod CancelCountsTest

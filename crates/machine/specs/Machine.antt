@@ -74,6 +74,8 @@ pub data Answer : Type 0 where
   control : Control → Answer
   awaited : Control → ℕ → Answer
   done : Answer
+  -- a task was cancelled; by so many entries the ready queue is shorter after the removals (document 02, No. 8; it prints as done)
+  cancelled : ℕ → Answer
   stalled : Answer
   finished : Value → Answer
   finished-error : Error → Answer
@@ -216,6 +218,14 @@ task-completes s t v = pick (eqb t 0) (end-main s (finished v)) (switched (handl
 unfoldable pub task-fails : Store → ℕ → Error → Step
 task-fails s t e = pick (eqb t 0) (end-main s (finished-error e)) (switched (handle-task-failure activate s t e))
 
+-- how many entries the ready queue has lost: its length in s minus its length in u
+unfoldable pub entries-lost : Store → Store → ℕ
+entries-lost s u = s .queue .len - u .queue .len
+
+-- a cancel's answer carries that number; u is the store after the removals
+abbrev pub answer-cancel : Store → Store → Step
+answer-cancel s u = record { store = u; answer = cancelled (entries-lost s u) }
+
 -- the running task; in another moment no event asks
 unfoldable pub runner : Moment → ℕ
 runner (Moment.Running t) = t .0
@@ -244,7 +254,7 @@ accept s (complete v) = task-completes s (runner (header s .moment)) v
 accept s (fail n) = task-fails s (runner (header s .moment)) (Error.Script n)
 accept s (results rs) = record { store = apply-future-results s rs; answer = done }
 accept s resume = resume-with-resolved-futures s
-accept s (cancel t) = record { store = cancel-task s t; answer = done }
+accept s (cancel t) = answer-cancel s (cancel-task s t)
 accept s (show o) = record { store = s; answer = shows (shown s (object s o)) }
 accept s eager = record { store = s; answer = is-eager (can-await-eagerly s) }
 

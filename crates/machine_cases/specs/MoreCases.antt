@@ -140,7 +140,7 @@ more-cases =
     Event.await 4 ⇒ Answer.awaited (runs 3 (start 2 12)) 0 ∷
     Event.await 5 ⇒ Answer.awaited (waits (0 ∷ 1 ∷ 2 ∷ [])) 0 ∷
     Event.results (return 1 9 ∷ []) ⇒ Answer.done ∷
-    Event.cancel 1 ⇒ Answer.done ∷
+    Event.cancel 1 ⇒ Answer.cancelled 1 ∷
     Event.resume ⇒ Answer.control (waits (0 ∷ 2 ∷ [])) ∷
     Event.cancel 2 ⇒ Answer.refused 5 ∷
     Event.cancel 3 ⇒ Answer.refused 5 ∷
@@ -233,7 +233,7 @@ more-cases =
     Event.await 6 ⇒ Answer.awaited (runs 2 (start 1 11)) 3 ∷
     Event.await 4 ⇒ Answer.awaited (runs 3 (start 2 12)) 1 ∷
     Event.await 3 ⇒ Answer.awaited (waits (0 ∷ [])) 0 ∷
-    Event.cancel 1 ⇒ Answer.done ∷
+    Event.cancel 1 ⇒ Answer.cancelled 0 ∷
     Event.cancel 2 ⇒ Answer.refused 5 ∷
     Event.cancel 3 ⇒ Answer.refused 5 ∷
     Event.show 5 ⇒ Answer.shows (Shown.a-gather-awaited (none ∷ none ∷ [])) ∷
@@ -253,7 +253,7 @@ more-cases =
     Event.await 4 ⇒ Answer.awaited (runs 1 (start 0 10)) 1 ∷
     Event.await 2 ⇒ Answer.awaited (runs 2 (start 1 11)) 0 ∷
     Event.await 3 ⇒ Answer.awaited (waits (0 ∷ 1 ∷ [])) 0 ∷
-    Event.cancel 2 ⇒ Answer.done ∷
+    Event.cancel 2 ⇒ Answer.cancelled 0 ∷
     Event.results (return 0 5 ∷ return 1 6 ∷ []) ⇒ Answer.done ∷
     Event.resume ⇒ Answer.control (runs 1 (value (plain 5))) ∷
     Event.complete (plain 1) ⇒ Answer.control (waits []) ∷

@@ -165,6 +165,7 @@ AnswerSays s (Answer.called n) = Unit {0}
 AnswerSays s (Answer.control c) = SaysCalls s c
 AnswerSays s (Answer.awaited c n) = SaysCalls s c
 AnswerSays s Answer.done = Unit {0}
+AnswerSays s (Answer.cancelled n) = Unit {0}
 AnswerSays s Answer.stalled = Unit {0}
 AnswerSays s (Answer.finished v) = Unit {0}
 AnswerSays s (Answer.finished-error e) = Unit {0}
