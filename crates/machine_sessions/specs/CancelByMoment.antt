@@ -17,7 +17,7 @@ use Rattle.rows.specs.Tables.{task-at}
 use Rattle.machine.specs.Store.{Store, view, task, object, place, header, put-task, put-queue, add-log, absent, removed, forget}
 use Rattle.machine.specs.Scheduler.{AwaitedGather, as-awaited, is-some, blocked-on, bit, first-from, is-task-of, task-of-in, task-of, remove-task, remove-from-ready-queue, cancel-one}
 use Rattle.machine.specs.Scheduler.{Walk, reach-if, reach, remove-blocked, still-live, visit-by, visit, visit-place, visit-open, walk-gather, walk-next, walk, walk-from, cancel-task}
-use Rattle.machine.specs.Machine.{Event, Answer, refusal, accept, step}
+use Rattle.machine.specs.Machine.{Event, Answer, refusal, accept, step, answer-cancel}
 use Rattle.machine.specs.Sound.{sound, is-task-of-at}
 use Rattle.machine_laws.specs.Views.{Sized}
 use Rattle.machine_laws.specs.TestLaws.{holds, both}
@@ -253,7 +253,7 @@ pub cancels-now : (s : Store) (t : ℕ) → SoundStore s → cancel-task-now s t
 cancels-now s t h = one-task-cancels-now s t (h .memory .sized) (unfold view in (h .facts .but .task-of))
 
 -- The event `cancel`, on memory of its lengths: that the store is sound is the table's check 2.
-pub cancel-steps-now : (s : Store) (t : ℕ) → Sized s → refusal s (Event.cancel t) ≡ 0 → step s (Event.cancel t) ≡ record { store = cancel-task-now (forget s) t; answer = Answer.done }
+pub cancel-steps-now : (s : Store) (t : ℕ) → Sized s → refusal s (Event.cancel t) ≡ 0 → step s (Event.cancel t) ≡ answer-cancel (forget s) (cancel-task-now (forget s) t)
 cancel-steps-now s t z r =
     let one : OneTask (forget s) = unfold view in (sound-facts (forget s) (subst T (sym (sound-forget s)) (refusal-sound s (Event.cancel t) r)) .but .task-of) in
-    accepted-step s (Event.cancel t) r ∙ (unfold accept in (ap (λ (u : Store). record { store = u; answer = Answer.done }) (sym (one-task-cancels-now (forget s) t (sized-forget s z) one))))
+    accepted-step s (Event.cancel t) r ∙ (unfold accept in (ap (answer-cancel (forget s)) (sym (one-task-cancels-now (forget s) t (sized-forget s z) one))))

@@ -107,6 +107,7 @@ committed-read (Answer.called n) l e c = absurd (true≢false (sym c ∙ ap comm
 committed-read (Answer.control x) l e c = absurd (true≢false (sym c ∙ ap committed (sym e)))
 committed-read (Answer.awaited x n) l e c = absurd (true≢false (sym c ∙ ap committed (sym e)))
 committed-read Answer.done l e c = absurd (true≢false (sym c ∙ ap committed (sym e)))
+committed-read (Answer.cancelled n) l e c = absurd (true≢false (sym c ∙ ap committed (sym e)))
 committed-read Answer.stalled l e c = absurd (true≢false (sym c ∙ ap committed (sym e)))
 committed-read (Answer.finished v) l e c = absurd (true≢false (sym c ∙ ap committed (sym e)))
 committed-read (Answer.finished-error x) l e c = absurd (true≢false (sym c ∙ ap committed (sym e)))

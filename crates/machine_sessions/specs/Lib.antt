@@ -6,3 +6,4 @@ pub mod DemandThree
 pub mod Honest
 pub mod Gather
 pub mod CancelByMoment
+pub mod Removals

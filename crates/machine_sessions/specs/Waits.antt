@@ -169,6 +169,7 @@ says-control s (Answer.called n) k c e = absurd-some e
 says-control s (Answer.control x) k c e = subst (SaysCalls s) (Option·some-injective x c e) k
 says-control s (Answer.awaited x n) k c e = subst (SaysCalls s) (Option·some-injective x c e) k
 says-control s Answer.done k c e = absurd-some e
+says-control s (Answer.cancelled n) k c e = absurd-some e
 says-control s Answer.stalled k c e = absurd-some e
 says-control s (Answer.finished v) k c e = absurd-some e
 says-control s (Answer.finished-error x) k c e = absurd-some e

@@ -39,7 +39,7 @@ use Rattle.machine.specs.Scheduler.{AwaitedGather, PendingExternal, as-awaited,
 use Rattle.machine.specs.Scheduler.{Walk, reach-if, reach, remove-blocked, visit-by, visit, visit-place, visit-open, walk-gather, walk-next, walk, walk-from, cancel-task, remove-from, cleanup}
 use Rattle.machine.specs.Delivery.{value-or, deliver-awaiter-success, resolve-pending, fail-pending, settle-pending, settle-found, resolve-future, fail-future}
 use Rattle.machine.specs.Events.{How, start, Control, runs, waits, Switched, Result, activate, resume-next, handle-task-failure, completed, handle-task-completion, apply-result, apply-future-results, put-items, make-coroutine, make-pending, make-settled, make-gather}
-use Rattle.machine.specs.Machine.{Event, Answer, Step, switched, end-main, task-completes, task-fails, repeat-wait, resume-with-resolved-futures}
+use Rattle.machine.specs.Machine.{Event, Answer, Step, switched, end-main, task-completes, task-fails, repeat-wait, resume-with-resolved-futures, answer-cancel}
 use Rattle.machine.specs.Sound.{value-known, runs-now}
 use Rattle.machine.specs.History.{says, nothing-said, tells, done-only, spawned-by, reply-error}
 use Rattle.machine.specs.Honest.{exits-in}
@@ -470,9 +470,9 @@ module _ (ev : Event) (s : Store) where
       moment-failing s s (λ g. ⊥) (Brings ev) (RunnerEnds ev s) (RunnerFails ev s) (Unit {0}) _ Moment.Ended tt
       (queue-failing s s (λ g. ⊥) (Brings ev) (RunnerEnds ev s) (RunnerFails ev s) (Unit {0}) _ empty-queue (remove-from-kept (header s .next) s 0 k))
 
-pub cancel-fails : (s : Store) (t : ℕ) → SoundStore s → EventFails (Event.cancel t) s (record { store = cancel-task s t; answer = Answer.done })
+pub cancel-fails : (s : Store) (t : ℕ) → SoundStore s → EventFails (Event.cancel t) s (answer-cancel s (cancel-task s t))
 unfolding tells done-only
-cancel-fails s t w = quiet-ends (Event.cancel t) s (Unit {0}) (record { store = cancel-task s t; answer = Answer.done }) refl (cancels (Event.cancel t) s t (begins (Event.cancel t) s (w .memory .sized)))
+cancel-fails s t w = quiet-ends (Event.cancel t) s (Unit {0}) (answer-cancel s (cancel-task s t)) refl (cancels (Event.cancel t) s t (begins (Event.cancel t) s (w .memory .sized)))
 
 pub end-fails : (ev : Event) (s : Store) (a : Answer) → SoundStore s → tells a .control ≡ none → EventFails ev s (end-main s a)
 unfolding end-main

@@ -19,7 +19,7 @@ use Rattle.asyncio.specs.States.{pick}
 use Rattle.machine.specs.Store.{Store, LogEntry, object, header, forget}
 use Rattle.machine.specs.Scheduler.{live, pending-call-ids, cancel-task, cleanup}
 use Rattle.machine.specs.Events.{How, start, value, raises, inline, Control, runs, waits, Switched, Awaited, Result, activate, resume-next, handle-task-completion, handle-task-failure, exec-get-awaitable, apply-future-results, make-coroutine, make-pending, make-settled, make-gather}
-use Rattle.machine.specs.Machine.{Event, Answer, Shown, Step, switched, answer-await, end-main, task-completes, task-fails, runner, repeat-wait, resume-with-resolved-futures, refusals, refusal, full, no-number, accept, in-both}
+use Rattle.machine.specs.Machine.{Event, Answer, Shown, Step, switched, answer-await, end-main, task-completes, task-fails, runner, repeat-wait, resume-with-resolved-futures, refusals, refusal, full, no-number, accept, in-both, answer-cancel}
 use Rattle.machine.specs.Sound.{is-ended}
 use Rattle.machine.specs.History.{Entry, Says, says, nothing-said, said, tells, done-only, is-none, lives-by, lives, stays-blocked, spawned-for, running, coroutine-of}
 use Rattle.machine.specs.Sessions.{InRange, happened-by, entry-of}
@@ -502,7 +502,7 @@ module _ (h : List Entry) (s : Store) (w : SoundStore s) (tr : Tracked (lives h)
 
   -- ---- cancel
 
-  pub cancel-stepped : (t : ℕ) → header s .moment ≡ Moment.Waiting → IsSpawned t → Stepped h (Event.cancel t) (record { store = cancel-task s t; answer = Answer.done })
+  pub cancel-stepped : (t : ℕ) → header s .moment ≡ Moment.Waiting → IsSpawned t → Stepped h (Event.cancel t) (answer-cancel s (cancel-task s t))
   cancel-stepped t m sp =
       record {
         entry = record {
@@ -517,7 +517,7 @@ module _ (h : List Entry) (s : Store) (w : SoundStore s) (tr : Tracked (lives h)
       }
     where
       y : Step
-      y = record { store = cancel-task s t; answer = Answer.done }
+      y = answer-cancel s (cancel-task s t)
 
       ok : tells (y .answer) .accepts ≡ true
       ok = unfold tells done-only in refl

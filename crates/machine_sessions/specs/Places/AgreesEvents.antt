@@ -26,7 +26,7 @@ use Rattle.asyncio.specs.States.{pick, is-live, is-unstarted}
 use Rattle.machine.specs.Store.{Store, view, task, object, place, header, forget, set-calls, put-header}
 use Rattle.machine.specs.Scheduler.{live, cancel-task, cleanup, pending-call-ids}
 use Rattle.machine.specs.Events.{Control, runs, waits, Switched, Awaited, activate, resume-next, exec-get-awaitable, handle-task-failure}
-use Rattle.machine.specs.Machine.{Event, Answer, Step, switched, answer-await, end-main, task-completes, task-fails, runner, repeat-wait, resume-with-resolved-futures, refusals, refusal, accept, in-waiting}
+use Rattle.machine.specs.Machine.{Event, Answer, Step, switched, answer-await, end-main, task-completes, task-fails, runner, repeat-wait, resume-with-resolved-futures, refusals, refusal, accept, in-waiting, answer-cancel}
 use Rattle.machine.specs.Sound.{object-in-range, places-below}
 use Rattle.machine.specs.History.{Entry, Says, says, nothing-said, said, tells, done-only, is-at, started-by, runner-by, running-coroutine, coroutine-of, completed-value}
 use Rattle.machine_laws.specs.Views.{Sized}
@@ -175,7 +175,7 @@ module _ (h : List Entry) (s : Store) (w : SoundStore s) (k : Agrees h s) where
   pub cancel-agrees : (t : ℕ) → header s .moment ≡ Moment.Waiting → t < header s .next → StepAgrees h (Event.cancel t) (accept s (Event.cancel t))
   unfolding accept says tells done-only
   cancel-agrees t m l =
-      only-changes-step h s (Event.cancel t) (record { store = cancel-task s t; answer = Answer.done }) k refl refl refl refl
+      only-changes-step h s (Event.cancel t) (answer-cancel s (cancel-task s t)) k refl refl refl refl
       (commits-none-moved h s (cancel-task s t) k (cancel-tells q n i D S s t (k .told)) (λ v e. ap (λ (y : Header). y .moment) (sym (cancel-during _ _ s t l (only-changes-of s w m) .head)) ∙ e))
 
   -- ---- a call number is handed out

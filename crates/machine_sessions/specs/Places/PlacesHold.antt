@@ -91,6 +91,7 @@ is-shown (Answer.called n) = false
 is-shown (Answer.control c) = false
 is-shown (Answer.awaited c n) = false
 is-shown Answer.done = false
+is-shown (Answer.cancelled n) = false
 is-shown Answer.stalled = false
 is-shown (Answer.finished v) = false
 is-shown (Answer.finished-error e) = false

@@ -198,11 +198,11 @@ unfolding send-all AllSentInRange
 sessions-follow [] x i f = f
 sessions-follow (e ∷ es) x i f = sessions-follow es (send x e) (i .1) (send-following x e (i .0) f)
 
-forget-live : (s : Store) (t : ℕ) → live (forget s) t ≡ live s t
+pub forget-live : (s : Store) (t : ℕ) → live (forget s) t ≡ live s t
 unfolding live forget header task
 forget-live s t = refl
 
-forget-task : (s : Store) (t : ℕ) → task (forget s) t ≡ task s t
+pub forget-task : (s : Store) (t : ℕ) → task (forget s) t ≡ task s t
 unfolding forget task
 forget-task s t = refl
 
@@ -252,7 +252,7 @@ session-follows es i = sessions-follow es _ i (record { whole = fresh-sound-stor
 
 -- ---- (i)
 
-stands-there : (q : List ℕ) (t : ℕ) → is-in t q ≡ true → 1 ≤ occurrences q t
+pub stands-there : (q : List ℕ) (t : ℕ) → is-in t q ≡ true → 1 ≤ occurrences q t
 unfolding is-in occurrences
 stands-there [] t e = absurd (true≢false (sym e))
 stands-there (x ∷ xs) t e = by (eqb x t) refl (λ q. stands-there xs t q)

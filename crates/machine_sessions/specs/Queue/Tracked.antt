@@ -51,7 +51,7 @@ blocked-back (TaskState.Woken v) = refl
 blocked-back (TaskState.Raised e) = refl
 blocked-back (TaskState.Blocked o) = refl
 
-blocked-put-task : (s : Store) (t : ℕ) (r : Task) → Sized s → t < task-limit → is-blocked (task (put-task s t r) t .state) ≡ is-blocked (r .state)
+pub blocked-put-task : (s : Store) (t : ℕ) (r : Task) → Sized s → t < task-limit → is-blocked (task (put-task s t r) t .state) ≡ is-blocked (r .state)
 unfolding task put-task task-at task-put
 blocked-put-task s t r z l =
     ap (λ (x : List ℕ). is-blocked (to-task x .state)) (row-put-at task-codec (s .tasks) (task-start t) r (omega (arith, z .tasks-sized)))

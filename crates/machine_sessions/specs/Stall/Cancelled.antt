@@ -1,63 +1,66 @@
 -- What a cancel leaves: live tasks other than main have gone, all else is as it was; so what stands stands, and lost places have nobody.
 use mathlib.Core.Logic.{_⊎_, inl, inr}
 use mathlib.Core.Path.{_≡_, refl, sym, ap, subst, _∙_}
-use mathlib.Core.Bool.{Bool, true, false, true≢false}
-use mathlib.Core.List.{List}
+use mathlib.Core.Bool.{Bool, true, false, not, true≢false}
+use mathlib.Core.List.{List, [], _∷_}
 use mathlib.Core.Option.{Option, some, Option·some-injective}
-use Prim.Native.Nat.{ℕ, zero, suc, _+_, _-_, _≤_, _<_}
+use Prim.Native.Nat.{ℕ, zero, suc, _+_, _*_, _≤_, _<_}
 use native.Mathlib.Nat.{not-suc-le-zero}
 use native.Mathlib.Omega.{arith}
 use native.Mathlib.Decide.{ℕ-discrete, decLt}
-use lib.ListN.{length}
-use borrow.Author.Tests.{ne-eqb}
+use lib.Dec.{eqb}
+use borrow.Author.Tests.{eqb-false}
 use Rattle.asyncio.specs.declared.TaskState.{TaskState}
 use Rattle.asyncio.specs.declared.Task.{Task}
 use Rattle.asyncio.specs.declared.Awaiter.{Awaiter}
 use Rattle.asyncio.specs.declared.Place.{Place}
 use Rattle.asyncio.specs.declared.Header.{Header}
+use Rattle.asyncio.specs.declared.Moment.{Moment}
 use Rattle.asyncio.specs.Limits.{task-limit}
 use Rattle.asyncio.specs.Numbers.{heap-id}
 use Rattle.asyncio.specs.States.{is-live, is-ready, is-unstarted}
 use Rattle.rows.specs.Tables.{object-at, header-at, place-at}
-use Rattle.queue.specs.Queue.{entries, occurrences, without, one-if-same, remove}
-use Rattle.queue.specs.QueueLaws.{entries-remove, occurrences-without, remove-len, remove-length}
-use Rattle.machine.specs.Store.{Store, task, object, place, header, put-task, put-queue, add-log, absent, removed}
-use Rattle.machine.specs.Scheduler.{as-awaited, as-pending, remove-from-ready-queue, remove-task, cancel-task}
+use Rattle.queue.specs.Queue.{entries, occurrences}
+use Rattle.machine.specs.Store.{Store, task, object, place, header, put-task, put-queue, add-log, removed}
+use Rattle.machine.specs.Scheduler.{live, as-awaited, as-pending, remove-from-ready-queue, remove-task, cancel-one, cancel-task}
+use Rattle.machine.specs.Machine.{Event, refusals, first-refusal, refusal}
 use Rattle.machine.specs.History.{spawned-by}
 use Rattle.machine_laws.specs.Views.{Sized}
 use Rattle.machine_laws.specs.Facts.{Nothing}
-use Rattle.machine_laws.specs.StoreLaws.{header-fits, live-put-task, task-put-other, sized-put-task, sized-put-queue, sized-add-log}
+use Rattle.machine_laws.specs.TestLaws.{is-true, not-not}
+use Rattle.machine_laws.specs.SoundLaws.{pass, refusal-rest}
 use Rattle.machine_laws.specs.Walk.{walked-kept}
 use Rattle.machine_theorems.specs.Soundness.RowFacts.{ready-live, unstarted-live}
+use Rattle.machine_theorems.specs.Soundness.Stores.{SoundStore}
+use Rattle.machine_theorems.specs.Soundness.Preserved.{waiting}
+use Rattle.machine_sessions.specs.Queue.Tracked.{live-low}
+use Rattle.machine_sessions.specs.Removals.Keep.{keep-occurrences}
+use Rattle.machine_sessions.specs.Removals.Left.{QueueLeft, cancel-other, cancel-dead, same-left, one-left}
 use Rattle.machine_sessions.specs.Stall.Standing.{Stands}
 use Rattle.machine_sessions.specs.Stall.NoStall.{Source, by-external, by-gather, by-nobody, by-task, Roots, root, above, Sourced}
 use Rattle.machine_sessions.specs.Stall.TaskLog.{exits-by, used-coroutine, any-coroutine, Tasks}
 use Rattle.machine_sessions.specs.Stall.WaitingTasks.{AllStarted}
 
 pub record Removes (s u : Store) : Type 0 where
-  pub sized : Sized u
+  -- those of the queue that are live stand there in their former order, and no others
+  pub left : QueueLeft s u
   pub objects : u .objects ≡ s .objects
   pub places : u .places ≡ s .places
-  pub ids : length (u .queue .ids) ≡ task-limit
-  pub len : u .queue .len ≤ task-limit
   -- a task is as it was, or has gone, and is not main
   pub rows : (t : ℕ) → (task u t ≡ task s t) ⊎ ((is-live (task u t .state) ≡ false) × (1 ≤ t))
-  pub queued : (t : ℕ) → is-live (task u t .state) ≡ true → 1 ≤ occurrences (entries (s .queue)) t → 1 ≤ occurrences (entries (u .queue)) t
   pub spawned : (b : Option ℕ) (t : ℕ) → spawned-by b (u .log) t ≡ spawned-by b (s .log) t
   pub exits : (b : Bool) (t : ℕ) → exits-by b (u .log) t ≡ exits-by b (s .log) t
 
-module _ (s : Store) (behind : (t : ℕ) → header s .next ≤ t → is-live (task s t .state) ≡ false) where
+module _ (s : Store) (sw : SoundStore s) where
   -- one task goes
   one-goes : (u : Store) (t : ℕ) → is-live (task u t .state) ≡ true → 1 ≤ t → Removes s u → Removes s (add-log (remove-task u t) (removed t))
+  unfolding cancel-one
   one-goes u t lv pos k =
       record {
-        sized = unfold remove-task remove-from-ready-queue in (sized-add-log _ (removed t) (sized-put-queue _ _ (sized-put-task u t absent (k .sized))));
+        left = one-left s sw u t lv (k .left);
         objects = unfold add-log remove-task remove-from-ready-queue put-queue put-task in (k .objects);
         places = unfold add-log remove-task remove-from-ready-queue put-queue put-task in (k .places);
-        ids = ap (λ q. length (q .ids)) queue-is ∙ (remove-length (u .queue) t ∙ k .ids);
-        len = subst (λ q. q .len ≤ task-limit) (sym queue-is) (remove-len (u .queue) t (k .len));
         rows = λ v. rows-by v (ℕ-discrete v t);
-        queued = λ v a o. queued-by v a o (ℕ-discrete v t);
         spawned = λ b v. says b v ∙ k .spawned b v;
         exits = λ b v. tells b v ∙ k .exits b v;
       }
@@ -71,49 +74,40 @@ module _ (s : Store) (behind : (t : ℕ) → header s .next ≤ t → is-live (t
       tells : (b : Bool) (v : ℕ) → exits-by b (w .log) v ≡ exits-by b (u .log) v
       tells b v = unfold add-log remove-task remove-from-ready-queue put-queue put-task exits-by in refl
 
-      queue-is : w .queue ≡ remove (u .queue) t
-      queue-is = unfold add-log remove-task remove-from-ready-queue put-queue put-task in refl
-
-      words : (v : ℕ) → task w v ≡ task (put-task u t absent) v
-      words v = unfold add-log remove-task remove-from-ready-queue put-queue task in refl
-
-      other : (v : ℕ) → (v ≡ t → ⊥) → task w v ≡ task u v
-      other v ne = words v ∙ task-put-other u t v absent ne
-
-      live-low : (task u t ≡ task s t) ⊎ ((is-live (task u t .state) ≡ false) × (1 ≤ t)) → t < header s .next
-      live-low (inl e) = by (decLt t (header s .next))
-        where
-          by : Dec (t < header s .next) → t < header s .next
-          by (yes l) = l
-          by (no nl) = absurd (true≢false (sym lv ∙ (ap (λ (r : Task). is-live (r .state)) e ∙ behind t (omega (arith, nl)))))
-      live-low (inr e) = absurd (true≢false (sym lv ∙ e .0))
-
-      dead : is-live (task w t .state) ≡ false
-      dead = ap (λ (r : Task). is-live (r .state)) (words t) ∙ (live-put-task u t absent (k .sized) (omega (arith, live-low (k .rows t), header-fits s .next-fits)) ∙ (unfold absent in refl))
-
       rows-by : (v : ℕ) → Dec (v ≡ t) → (task w v ≡ task s v) ⊎ ((is-live (task w v .state) ≡ false) × (1 ≤ v))
-      rows-by v (yes d) = inr (subst (λ (m : ℕ). is-live (task w m .state) ≡ false) (sym d) dead, subst (λ (m : ℕ). 1 ≤ m) (sym d) pos)
+      rows-by v (yes d) = inr (subst (λ (m : ℕ). is-live (task w m .state) ≡ false) (sym d) (cancel-dead u t (k .left .sized) lv), subst (λ (m : ℕ). 1 ≤ m) (sym d) pos)
       rows-by v (no ne) = on (k .rows v)
         where
           on : (task u v ≡ task s v) ⊎ ((is-live (task u v .state) ≡ false) × (1 ≤ v)) → (task w v ≡ task s v) ⊎ ((is-live (task w v .state) ≡ false) × (1 ≤ v))
-          on (inl e) = inl (other v ne ∙ e)
-          on (inr e) = inr (ap (λ (r : Task). is-live (r .state)) (other v ne) ∙ e .0, e .1)
+          on (inl e) = inl (cancel-other u t v ne ∙ e)
+          on (inr e) = inr (ap (λ (r : Task). is-live (r .state)) (cancel-other u t v ne) ∙ e .0, e .1)
 
-      queued-by : (v : ℕ) → is-live (task w v .state) ≡ true → 1 ≤ occurrences (entries (s .queue)) v → Dec (v ≡ t) → 1 ≤ occurrences (entries (w .queue)) v
-      queued-by v a o (yes d) = absurd (true≢false (sym a ∙ subst (λ (m : ℕ). is-live (task w m .state) ≡ false) (sym d) dead))
-      queued-by v a o (no ne) =
-          let b : 1 ≤ occurrences (entries (u .queue)) v = k .queued v (sym (ap (λ (r : Task). is-live (r .state)) (other v ne)) ∙ a) o in
-          let e : entries (remove (u .queue) t) ≡ without (entries (u .queue)) t = entries-remove (u .queue) t (k .ids) (k .len) in
-          let y : occurrences (without (entries (u .queue)) t) v ≡ occurrences (entries (u .queue)) v - one-if-same t v = occurrences-without (entries (u .queue)) t v in
-          let n : one-if-same t v ≡ 0 = rw (ne-eqb t v (λ q. ne (sym q))) in
-          subst (λ q. 1 ≤ occurrences (entries q) v) (sym queue-is) (subst (λ (l : List ℕ). 1 ≤ occurrences l v) (sym e) (omega (arith, y)))
+-- what the table lets through: the session waits, and the task is live and not main
+pub record Cancellable (s : Store) (t : ℕ) : Type 0 where
+  pub waits : header s .moment ≡ Moment.Waiting
+  pub low : t < header s .next
+  pub is-live-now : is-live (task s t .state) ≡ true
+  pub spawned : 1 ≤ t
 
-  -- a cancel
-  pub cancel-removes : (t : ℕ) → Sized s → length (s .queue .ids) ≡ task-limit → s .queue .len ≤ task-limit → is-live (task s t .state) ≡ true → 1 ≤ t → Removes s (cancel-task s t)
-  cancel-removes t z ids len lv pos = walked-kept (Removes s) (record { goes = one-goes }) s t (one-goes s t lv pos same-all)
-    where
-      same-all : Removes s s
-      same-all = record { sized = z; objects = refl; places = refl; ids = ids; len = len; rows = λ v. inl refl; queued = λ v a o. o; spawned = λ b v. refl; exits = λ b v. refl }
+pub cancel-passes : (s : Store) (t : ℕ) → SoundStore s → refusal s (Event.cancel t) ≡ 0 → Cancellable s t
+unfolding refusals
+cancel-passes s t w r = record { waits = q .0; low = there .0; is-live-now = there .1; spawned = omega (arith, eqb-false t 0 (pass 8 (eqb t 0) [] (p .1) .0)) }
+  where
+    q : (header s .moment ≡ Moment.Waiting) × (first-refusal ((5, not (live s t)) ∷ (9, eqb t 0) ∷ []) ≡ 0)
+    q = waiting s w _ (refusal-rest s (Event.cancel t) r)
+
+    p : (not (live s t) ≡ false) × (first-refusal ((9, eqb t 0) ∷ []) ≡ 0)
+    p = pass 4 (not (live s t)) _ (q .1)
+
+    there : (t < header s .next) × (is-live (task s t .state) ≡ true)
+    there = live-low s t (is-true (live s t) (not-not (live s t) (p .0)))
+
+-- A cancel that the table lets through, in a sound store, a lent one too.
+pub cancel-removes : (s : Store) (t : ℕ) → SoundStore s → Cancellable s t → Removes s (cancel-task s t)
+cancel-removes s t w c = walked-kept (Removes s) (record { goes = one-goes s w }) s t (one-goes s w s t (c .is-live-now) (c .spawned) same-all)
+  where
+    same-all : Removes s s
+    same-all = record { left = same-left s w; objects = refl; places = refl; rows = λ v. inl refl; spawned = λ b v. refl; exits = λ b v. refl }
 
 -- ---- what follows
 
@@ -154,13 +148,17 @@ module _ (s u : Store) (k : Removes s u) where
       on (inl e) = e
       on (inr e) = absurd (not-suc-le-zero {n = 0} (e .1))
 
+  -- a live task stands in the queue where it stood there before
+  still-queued : (t : ℕ) → is-live (task u t .state) ≡ true → 1 ≤ occurrences (entries (s .queue)) t → 1 ≤ occurrences (entries (u .queue)) t
+  still-queued t a o = rw (k .left .order, keep-occurrences (λ v. is-live (task u v .state)) (entries (s .queue)) t, a) o
+
   pub removed-stands : Stands Nothing s → Stands Nothing u
   removed-stands st =
       record {
         main = ap (λ (r : Task). is-live (r .state)) main-same ∙ st .main;
         stands = λ t l r n.
             let lv : is-live (task u t .state) ≡ true = ready-live (task u t .state) r in
-            k .queued t lv (st .stands t (subst (λ (y : Header). t < y .next) head-same l) (sym (ap (λ (x : Task). is-ready (x .state)) (live-same t lv)) ∙ r) n);
+            still-queued t lv (st .stands t (subst (λ (y : Header). t < y .next) head-same l) (sym (ap (λ (x : Task). is-ready (x .state)) (live-same t lv)) ∙ r) n);
       }
 
   pub removed-started : AllStarted s → AllStarted u
@@ -176,7 +174,7 @@ module _ (s u : Store) (k : Removes s u) where
     pub removed-tasks : Tasks F L E S Y s → Tasks F L E S Y u
     removed-tasks j =
         record {
-          sized = k .sized;
+          sized = k .left .sized;
           main = subst (λ (y : Header). 1 ≤ y .next) (sym head-same) (j .main);
           first = ap (λ (r : Task). is-unstarted (r .state)) main-same ∙ j .first;
           behind = λ t l. dead-same t (j .behind t (subst (λ (y : Header). y .next ≤ t) head-same l));

@@ -53,7 +53,7 @@ use Rattle.machine_sessions.specs.Stall.TaskLog.{exits-by, exits, any-co
 use Rattle.machine_sessions.specs.Stall.TaskLogEvents.{Exits, accept-tasks}
 use Rattle.machine_sessions.specs.Stall.Outcomes.{outcome-of, unstarted-exits, exits-on, Came, was, completed, failed, unstarted, came}
 use Rattle.machine_sessions.specs.Stall.WaitingTasks.{accept-started}
-use Rattle.machine_sessions.specs.Stall.Cancelled.{Removes, cancel-removes, head-same, removed-stands, removed-started, removed-tasks, removed-sourced}
+use Rattle.machine_sessions.specs.Stall.Cancelled.{Removes, Cancellable, cancel-passes, cancel-removes, head-same, removed-stands, removed-started, removed-tasks, removed-sourced}
 use Rattle.machine_sessions.specs.Stall.GoesOn.{cancelled-then}
 use Rattle.machine_sessions.specs.Stall.Waiting.{Gone, Lost, Alive, ItemsWait}
 
@@ -417,29 +417,15 @@ module _ (h : List Entry) (s : Store) (w : SoundStore s) (ag : Agrees h s) (clea
       v : Store
       v = cancel-task s t
 
-      q : (header s .moment ≡ Moment.Waiting) × (first-refusal ((5, not (live s t)) ∷ (9, eqb t 0) ∷ []) ≡ 0)
-      q = waiting s w _ (refusal-rest s (Event.cancel t) r)
-
-      lives : (t < header s .next) × (is-live (task s t .state) ≡ true)
-      lives = live-low s t (yes-it (live s t) (pass 4 (not (live s t)) _ (q .1) .0))
-        where
-          yes-it : (b : Bool) → not b ≡ false → b ≡ true
-          yes-it true e = refl
-          yes-it false e = absurd (true≢false e)
-
-      spawned-it : 1 ≤ t
-      spawned-it = by t (pass 8 (eqb t 0) [] (pass 4 (not (live s t)) _ (q .1) .1) .0)
-        where
-          by : (t : ℕ) → eqb t 0 ≡ false → 1 ≤ t
-          by zero e = absurd (true≢false (sym (eq-eqb 0 0 refl) ∙ e))
-          by (suc t) e = omega arith
+      c : Cancellable s t
+      c = cancel-passes s t w r
 
       rm : Removes s v
-      rm = cancel-removes s (k .tasks .behind) t (w .memory .sized) (w .memory .ids) (w .memory .words-right .queue-short) (lives .1) spawned-it
+      rm = cancel-removes s t w c
 
       j : Tasks (spawned-for h) (Gone h s) Nothing (λ a. spawned-by (spawned-for h a) (v .log) a) (λ a. exits-by (exits h a) (v .log) a) v
       j =
-          let y = removed-tasks s v rm (spawned-for h) (Gone h s) Nothing (spawned-for h) (exits h) (k .all-started (q .0)) from-gone in
+          let y = removed-tasks s v rm (spawned-for h) (Gone h s) Nothing (spawned-for h) (exits h) (k .all-started (c .waits)) from-gone in
           tasks-same (spawned-for h) (Gone h s) Nothing v v (spawned-for h) _ (exits h) _ (y .sized) refl (λ a. rm .spawned (spawned-for h a) a ∙ spawned-now a) (λ a. rm .exits (exits h a) a ∙ exits-now a) (λ c e. e) (λ c e. e) (λ a. refl) y
 
       lost-now : (a g o : ℕ) → a < header s .next → is-live (task s a .state) ≡ true → is-live (task v a .state) ≡ false → task s a .awaiter ≡ Awaiter.GatherSlot (heap-id g) (heap-id o) → Lost (x (Event.cancel t) r ∷ h) v o

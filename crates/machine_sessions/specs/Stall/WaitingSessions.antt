@@ -179,7 +179,7 @@ main-ends s (Event.cancel t) = no (λ z. z)
 main-ends s (Event.show o) = no (λ z. z)
 main-ends s Event.eager = no (λ z. z)
 
-a-cancel : (e : Event) → ((t : ℕ) × (e ≡ Event.cancel t)) ⊎ (says e .cancels ≡ false)
+pub a-cancel : (e : Event) → ((t : ℕ) × (e ≡ Event.cancel t)) ⊎ (says e .cancels ≡ false)
 unfolding says nothing-said
 a-cancel (Event.coroutine f) = inr refl
 a-cancel Event.call = inr refl
