@@ -48,6 +48,7 @@ answer-back cs (Answer.Switched Control.Waits) = refl
 answer-back cs (Answer.Awaited (Control.Runs t h) n) = refl
 answer-back cs (Answer.Awaited Control.Waits n) = refl
 answer-back cs Answer.Done = refl
+answer-back cs (Answer.Cancelled n) = refl
 answer-back cs Answer.Stalled = refl
 answer-back cs (Answer.Finished v) = refl
 answer-back cs (Answer.FinishedError e) = refl

@@ -45,6 +45,7 @@ answer-said (Answer.Called n) m = said 2 1 (n .0 ∷ 0 ∷ 0 ∷ 0 ∷ 0 ∷ 0 �
 answer-said (Answer.Switched c) m = control-said c m 0 0
 answer-said (Answer.Awaited c n) m = control-said c m 1 n
 answer-said Answer.Done m = said 5 0 (0 ∷ 0 ∷ 0 ∷ 0 ∷ 0 ∷ 0 ∷ [])
+answer-said (Answer.Cancelled n) m = said 5 1 (n ∷ 0 ∷ 0 ∷ 0 ∷ 0 ∷ 0 ∷ [])
 answer-said Answer.Stalled m = said 6 0 (0 ∷ 0 ∷ 0 ∷ 0 ∷ 0 ∷ 0 ∷ [])
 answer-said (Answer.Finished v) m = valued v
 answer-said (Answer.FinishedError e) m = errored e

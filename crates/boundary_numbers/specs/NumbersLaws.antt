@@ -53,6 +53,7 @@ same-numbers cs (Answer.Called n) = refl
 same-numbers cs (Answer.Switched c) = switched-numbers cs c
 same-numbers cs (Answer.Awaited c n) = awaited-numbers cs c n
 same-numbers cs Answer.Done = refl
+same-numbers cs (Answer.Cancelled n) = refl
 same-numbers cs Answer.Stalled = refl
 same-numbers cs (Answer.Finished v) = refl
 same-numbers cs (Answer.FinishedError e) = refl

@@ -115,6 +115,7 @@ fn answer(answer: Answer, calls: u64) -> Numbers
         Answer::Switched(c) => control(c, calls, 0, 0),
         Answer::Awaited { control: c, steps } => control(c, calls, 1, steps as u64),
         Answer::Done => say(5, 0, 0, 0, 0, 0, 0),
+        Answer::Cancelled(n) => say(5, 1, n as u64, 0, 0, 0, 0),
         Answer::Stalled => say(6, 0, 0, 0, 0, 0, 0),
         Answer::Finished(v) => finish(v),
         Answer::FinishedError(e) => finish_error(e),

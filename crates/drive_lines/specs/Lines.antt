@@ -79,6 +79,7 @@ answer-text (Answer.called n) = word "call" ++ field n
 answer-text (Answer.control c) = control-text c
 answer-text (Answer.awaited c n) = control-text c ++ (word "steps" ++ field n)
 answer-text Answer.done = word "done"
+answer-text (Answer.cancelled n) = word "done" ++ field n
 answer-text Answer.stalled = word "stalled"
 answer-text (Answer.finished v) = word "finished" ++ value-text v
 answer-text (Answer.finished-error e) = word "finished" ++ (word "error" ++ error-text e)

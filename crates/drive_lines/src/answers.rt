@@ -127,6 +127,7 @@ fn put_answer(out: &mut [u8], at: usize, answer: Answer, calls: &[u64]) -> usize
         Answer::Switched(control) => put_control(out, at, control, calls),
         Answer::Awaited { control, steps } => put_awaited(out, at, control, steps, calls),
         Answer::Done => put_text(out, at, b" done"),
+        Answer::Cancelled(n) => put_named(out, at, b" done", n as u64),
         Answer::Stalled => put_text(out, at, b" stalled"),
         Answer::Finished(v) => put_finished(out, at, v),
         Answer::FinishedError(e) => put_failed(out, at, e),

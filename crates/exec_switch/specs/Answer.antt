@@ -17,6 +17,7 @@ answer-with cs (Answer.Called n) = machine.Answer.called (n .0)
 answer-with cs (Answer.Switched c) = machine.Answer.control (control-with cs c)
 answer-with cs (Answer.Awaited c n) = machine.Answer.awaited (control-with cs c) n
 answer-with cs Answer.Done = machine.Answer.done
+answer-with cs (Answer.Cancelled n) = machine.Answer.cancelled n
 answer-with cs Answer.Stalled = machine.Answer.stalled
 answer-with cs (Answer.Finished v) = machine.Answer.finished v
 answer-with cs (Answer.FinishedError e) = machine.Answer.finished-error e

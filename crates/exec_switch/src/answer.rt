@@ -12,6 +12,8 @@ pub enum Answer {
     Switched(Control),
     Awaited { control: Control, steps: u16 },
     Done,
+    // a task was cancelled: so many of the removed tasks stood in the ready queue
+    Cancelled(u16),
     Stalled,
     Finished(Value),
     FinishedError(Error),

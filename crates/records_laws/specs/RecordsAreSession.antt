@@ -111,6 +111,7 @@ accepts-not-refused (Answer.called n) e = refl
 accepts-not-refused (Answer.control c) e = refl
 accepts-not-refused (Answer.awaited c n) e = refl
 accepts-not-refused Answer.done e = refl
+accepts-not-refused (Answer.cancelled n) e = refl
 accepts-not-refused Answer.stalled e = refl
 accepts-not-refused (Answer.finished v) e = refl
 accepts-not-refused (Answer.finished-error x) e = refl

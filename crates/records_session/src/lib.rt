@@ -295,7 +295,8 @@ pub fn resume(
 }
 
 // The operator cancels task `t`: it goes, and with it the live tasks of the open items of the gather that it is blocked on, through nested gathers.
-// Done. What a task that went awaited stays awaited, a gather too. Refused with 3, 4, 5 (the task is not live), 9 (it is main).
+// Cancelled, with the number of removed tasks that stood in the ready queue; those that stay there keep their order. What a task that went awaited stays
+// awaited, a gather too. Refused with 3, 4, 5 (the task is not live), 9 (it is main).
 pub fn cancel(
     tasks: &mut [TaskRecord],
     objects: &mut [u64],

@@ -24,6 +24,7 @@ same-refusal os (Answer.Called n) = refl
 same-refusal os (Answer.Switched c) = refl
 same-refusal os (Answer.Awaited c n) = refl
 same-refusal os Answer.Done = refl
+same-refusal os (Answer.Cancelled n) = refl
 same-refusal os Answer.Stalled = refl
 same-refusal os (Answer.Finished v) = refl
 same-refusal os (Answer.FinishedError e) = refl

@@ -64,6 +64,7 @@ fn refuses(answer: Answer) -> bool
             steps: _,
         } => false,
         Answer::Done => false,
+        Answer::Cancelled(_) => false,
         Answer::Stalled => false,
         Answer::Finished(_) => false,
         Answer::FinishedError(_) => false,

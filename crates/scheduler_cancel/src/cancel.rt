@@ -122,7 +122,8 @@ fn remove_blocked(
     let state = rows::parts::state_at(tasks, t);
     let blocked = blocked_on(state);
     let ready = at.queue;
-    let queue = remove_task(tasks, ready, t);
+    let gone = remove_task(tasks, ready, t);
+    let queue = gone.queue;
     match blocked {
         FoundObject::At(o) => {
             let depth = reach(objects, marks, stack, at.depth, o);

@@ -5,13 +5,16 @@ use asyncio::TASKS;
 use asyncio::Task;
 use asyncio::TaskId;
 use asyncio::TaskState;
+use queue::Position;
 use queue::ReadyQueue;
+use queue::Removed;
 use queue::remove_lent;
 ghost use mathlib.Core.Path.{_≡_};
 ghost use Prim.Native.Nat.{_<_};
 ghost use Rattle.asyncio.specs.Limits.{task-limit};
 ghost use Rattle.asyncio.specs.States.{is-blocked};
 ghost use Rattle.rows.specs.Tables.{task-at};
+ghost use Rattle.queue.specs.Queue.{stood-at};
 ghost use Rattle.machine.specs.Scheduler.{make-ready, remove-task};
 ghost use Rattle.asyncio.specs.declared.TaskState.{TaskState};
 ghost use Rattle.contract.specs.Contract.{TasksLength, ChangesTasks, queue-before, queue-after};
@@ -61,11 +64,16 @@ pub fn block_current_on(tasks: &mut [u64], t: TaskId, o: HeapId)
     set_state(tasks, t, TaskState::Blocked(o));
 }
 
-// Task `t` is live no more, and not ready. The queue is lent.
-pub fn remove_task_lent(tasks: &mut [u64], ids: &mut [u16; TASKS], len: &mut usize, t: TaskId)
+// Task `t` is live no more, and not ready. Where it stood in the ready queue, which is lent.
+pub fn remove_task_lent(
+    tasks: &mut [u64],
+    ids: &mut [u16; TASKS],
+    len: &mut usize,
+    t: TaskId,
+) -> Position
     requires { ⌜ TasksLength tasks × (t .0 < task-limit) ⌝ }
-    ensures { λ _. ⌜ ChangesTasks tasks (queue-before ids len) (queue-after ids len)
-        (λ s. remove-task s (t .0)) ⌝ }
+    ensures { λ r. ⌜ ChangesTasks tasks (queue-before ids len) (queue-after ids len) (λ s. remove-task s (t .0))
+        × (r ≡ stood-at (queue-before ids len) (t .0)) ⌝ }
 {
     let absent = Task {
         state: TaskState::Absent,
@@ -73,16 +81,16 @@ pub fn remove_task_lent(tasks: &mut [u64], ids: &mut [u16; TASKS], len: &mut usi
         coroutine: HeapId::new(0),
     };
     rows::tables::store_task(tasks, t, absent);
-    remove_lent(ids, len, t);
+    remove_lent(ids, len, t)
 }
 
 // The same of a queue that is handed over and back.
-pub fn remove_task(tasks: &mut [u64], mut queue: ReadyQueue, t: TaskId) -> ReadyQueue
+pub fn remove_task(tasks: &mut [u64], mut queue: ReadyQueue, t: TaskId) -> Removed
     requires { ⌜ TasksLength tasks × (t .0 < task-limit) ⌝ }
-    ensures { λ r. ⌜ ChangesTasks tasks queue r (λ s. remove-task s (t .0)) ⌝ }
+    ensures { λ r. ⌜ ChangesTasks tasks queue (r .queue) (λ s. remove-task s (t .0)) × (r .at ≡ stood-at queue (t .0)) ⌝ }
 {
     let mut n = queue.len;
-    remove_task_lent(tasks, &mut queue.ids, &mut n, t);
+    let at = remove_task_lent(tasks, &mut queue.ids, &mut n, t);
     queue.len = n;
-    queue
+    Removed { queue, at }
 }

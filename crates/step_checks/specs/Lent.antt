@@ -36,6 +36,7 @@ is-wait (Answer.Called n) = false
 is-wait (Answer.Switched c) = host-waits c
 is-wait (Answer.Awaited c n) = host-waits c
 is-wait Answer.Done = false
+is-wait (Answer.Cancelled n) = false
 is-wait Answer.Stalled = false
 is-wait (Answer.Finished v) = false
 is-wait (Answer.FinishedError e) = false

@@ -59,6 +59,7 @@ fn is_wait(answer: Answer) -> bool
             Control::Waits => true,
         },
         Answer::Done => false,
+        Answer::Cancelled(_) => false,
         Answer::Stalled => false,
         Answer::Finished(_) => false,
         Answer::FinishedError(_) => false,

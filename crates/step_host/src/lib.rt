@@ -98,7 +98,7 @@ pub fn resume(tasks: &mut [u64], objects: &mut [u64], queue: ReadyQueue) -> Step
 }
 
 // The operator cancels task `t`: it goes, and with it the live tasks of the open items of the gather that it is blocked on, through nested gathers.
-// Done. Refused with 3 after the session's end, 4 while a task runs, 5 where `t` is not live, 9 where it is main. The objects and the places stay as
+// Cancelled, with the number of removed tasks that stood in the ready queue. Refused with 3 after the session's end, 4 while a task runs, 5 where `t` is not live, 9 where it is main. The objects and the places stay as
 // they were, refused or not: what a task that went awaited stays awaited.
 pub fn cancel(
     tasks: &mut [u64],
@@ -135,10 +135,12 @@ pub fn cancel(
                     answer: Answer::Refused(9),
                 };
             }
+            let before = queue.len;
             let q = cancel_task(tasks, objects, places, queue, TaskId::new(t));
+            let lost = before - q.len;
             Stepped {
                 queue: q,
-                answer: Answer::Done,
+                answer: Answer::Cancelled(lost as u16),
             }
         }
     }

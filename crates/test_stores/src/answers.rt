@@ -20,6 +20,7 @@ fn told(answer: Answer) -> u64 {
             steps: _,
         } => 0,
         Answer::Done => 0,
+        Answer::Cancelled(_) => 0,
         Answer::Stalled => 0,
         Answer::Finished(_) => 0,
         Answer::FinishedError(_) => 0,
