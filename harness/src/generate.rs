@@ -3,7 +3,7 @@
 use std::{fs, path::Path};
 
 use crate::{
-    asyncio::CallId,
+    asyncio::{CallId, TaskId},
     records::Reader,
     session::{Moment, Session, lines, with_session},
 };
@@ -456,11 +456,12 @@ impl File<'_, '_> {
                 }
             }
             Moment::Waiting => {
-                let of_main_alone = self.session.spawned_tasks().is_empty();
-                match self.random.weighted(&[25, 18, if of_main_alone { 5 } else { 45 }, 12]) {
+                let [one, woken] = if self.session.spawned_tasks().is_empty() { [5, 0] } else { [45, 20] };
+                match self.random.weighted(&[25, 18, one, woken, 12]) {
                     0 => self.some_results(2),
                     1 => self.resume(),
                     2 => self.some_cancel(),
+                    3 => self.wake_and_cancel(),
                     _ => self.sensible(),
                 }
             }
@@ -492,6 +493,27 @@ impl File<'_, '_> {
             self.gather(&items);
         }
         self.await_last();
+    }
+
+    /// Returns to most of the pending calls, and cancels while the woken tasks stand in the ready queue: first of a task that is blocked still, which
+    /// mostly waits for tasks below it, then of any.
+    fn wake_and_cancel(&mut self) {
+        let mut results = Vec::new();
+        for call in self.pending_calls().into_iter().take(64) {
+            if self.random.chance(85) {
+                results.push([&call.to_le_bytes()[..], &[0], &self.value()[..]].concat());
+            }
+        }
+        self.results(&results);
+        let mut blocked = self.session.spawned_tasks();
+        blocked.retain(|&task| self.session.vm.scheduler.is_blocked(TaskId::new(u32::from(task))));
+        if !blocked.is_empty() {
+            let at = self.random.below(blocked.len() as u64);
+            self.cancel(blocked[at as usize]);
+        }
+        for _ in 0..self.random.below(3) {
+            self.some_cancel();
+        }
     }
 
     /// A failed external: the first of this file, or a new one.

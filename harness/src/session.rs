@@ -195,15 +195,23 @@ impl<'h> Session<'h> {
                 refuse(task.is_main(), 9)?;
                 self.note_cancel(task);
                 let live = self.vm.scheduler.task_count();
+                let queued = self.vm.scheduler.ready_queue_length();
                 self.vm.scheduler.cancel_task(task, self.vm.heap);
+                let lost = queued - self.vm.scheduler.ready_queue_length();
                 if live - self.vm.scheduler.task_count() > 1 {
                     self.note("that removed other tasks too");
                 }
+                self.note(match lost {
+                    0 => "with count 0",
+                    1 => "with count 1",
+                    2 => "with count 2",
+                    _ => "with a count of 3 or more",
+                });
                 // "The VM must discard this task's loaded context before activating another."
                 if self.vm.scheduler.current_task_id().is_none() {
                     self.vm.cleanup_current_task();
                 }
-                Ok("done".into())
+                Ok(format!("done {lost}"))
             }
             Record::Show { object } => {
                 let id = self.object(object)?;
