@@ -62,7 +62,8 @@ EVENTS = [
     ("resume", [], "Event::Resume", "machine.Event.resume",
      "The host hands control back. Runs; waits, where nothing is ready; stalled, where no call is pending either.", "3 the session has ended, 4 a task runs"),
     ("cancel", [("task", "u16")], "Event::Cancel(task)", "(machine.Event.cancel task)",
-     "The operator cancels a task, and the tasks below the gather that it waits for. Done.", "3 the session has ended, 4 a task runs, 5 the task is not live, 9 it is main"),
+     "The operator cancels a task, and the tasks below the gather that it waits for. Done: how many of the removed tasks stood in the ready queue.",
+     "3 the session has ended, 4 a task runs, 5 the task is not live, 9 it is main"),
 ]
 
 # name, parameters, the contract, what it answers, its refusals from 3 on
@@ -166,8 +167,8 @@ C_HEAD = f"""/* The library for C: the functions that libsozgarru.a has. {MADE}
  *
  * An answer is a sozgarru_numbers: the number of the refusal (0: accepted), the answer's word (1 made, 2 call, 3 runs, 4 waits, 5 done,
  * 6 stalled, 7 finished, 8 eager, 9 refused, 10 shows), how many values it has, and the values in the order of document 01's line; values
- * behind them are 0. The calls of a wait stand at the front of `calls`. A refused event changes nothing. Stack: docs/HOST.md. Nothing here
- * allocates, prints or keeps a state of its own.
+ * behind them are 0. The done of a cancel has one value, its count; that of results has none. The calls of a wait stand at the front of
+ * `calls`. A refused event changes nothing. Stack: docs/HOST.md. Nothing here allocates, prints or keeps a state of its own.
  */
 #ifndef SOZGARRU_H
 #define SOZGARRU_H

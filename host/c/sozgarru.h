@@ -6,8 +6,8 @@
  *
  * An answer is a sozgarru_numbers: the number of the refusal (0: accepted), the answer's word (1 made, 2 call, 3 runs, 4 waits, 5 done,
  * 6 stalled, 7 finished, 8 eager, 9 refused, 10 shows), how many values it has, and the values in the order of document 01's line; values
- * behind them are 0. The calls of a wait stand at the front of `calls`. A refused event changes nothing. Stack: docs/HOST.md. Nothing here
- * allocates, prints or keeps a state of its own.
+ * behind them are 0. The done of a cancel has one value, its count; that of results has none. The calls of a wait stand at the front of
+ * `calls`. A refused event changes nothing. Stack: docs/HOST.md. Nothing here allocates, prints or keeps a state of its own.
  */
 #ifndef SOZGARRU_H
 #define SOZGARRU_H
@@ -136,8 +136,9 @@ sozgarru_numbers sozgarru_results(
 sozgarru_numbers sozgarru_resume(
     uint64_t tasks[4104], uint64_t objects[2056], uint64_t places[2048], uint64_t calls[256], uint16_t ids[513], size_t *len);
 
-/* The operator cancels a task, and the tasks below the gather that it waits for. Done. Refused with 3 the session has ended, 4 a task
- * runs, 5 the task is not live, 9 it is main. Refused also with 2, where the store is not sound. */
+/* The operator cancels a task, and the tasks below the gather that it waits for. Done: how many of the removed tasks stood in the ready
+ * queue. Refused with 3 the session has ended, 4 a task runs, 5 the task is not live, 9 it is main. Refused also with 2, where the store
+ * is not sound. */
 sozgarru_numbers sozgarru_cancel(
     uint64_t tasks[4104], uint64_t objects[2056], uint64_t places[2048], uint64_t calls[256], uint16_t ids[513], size_t *len,
     uint16_t task);
@@ -242,8 +243,9 @@ sozgarru_numbers sozgarru_results_unchecked(
 sozgarru_numbers sozgarru_resume_unchecked(
     uint64_t tasks[4104], uint64_t objects[2056], uint64_t places[2048], uint64_t calls[256], uint16_t ids[513], size_t *len);
 
-/* The operator cancels a task, and the tasks below the gather that it waits for. Done. Refused with 3 the session has ended, 4 a task
- * runs, 5 the task is not live, 9 it is main. The caller owes a sound store: nothing is checked. */
+/* The operator cancels a task, and the tasks below the gather that it waits for. Done: how many of the removed tasks stood in the ready
+ * queue. Refused with 3 the session has ended, 4 a task runs, 5 the task is not live, 9 it is main. The caller owes a sound store:
+ * nothing is checked. */
 sozgarru_numbers sozgarru_cancel_unchecked(
     uint64_t tasks[4104], uint64_t objects[2056], uint64_t places[2048], uint64_t calls[256], uint16_t ids[513], size_t *len,
     uint16_t task);
