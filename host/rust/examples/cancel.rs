@@ -56,8 +56,8 @@ fn main() -> Result<(), Refusal> {
     // the tasks are numbered as the gather's items: own pension 1, state pension 2
     let hung = TaskId::new(2);
     println!("the operator may not cancel main: {}", desk.session.cancel(TaskId::MAIN).expect_err("main stays"));
-    desk.session.cancel(hung)?;
-    println!("the operator cancels task {hung}");
+    let queued = desk.session.cancel(hung)?;
+    println!("the operator cancels task {hung}; tasks taken out of the ready queue: {queued}");
     println!("cancelled already: {}", desk.session.cancel(hung).expect_err("it is gone"));
 
     // the office answers after all: nobody waits for it, and the gather stays open

@@ -302,6 +302,11 @@ impl Display for Shown {
 
 /// The answer to an accepted event or read, whichever it was. Its `Display` is document 01's line without the record's
 /// number.
+///
+/// ```
+/// assert_eq!(sozgarru::Answer::Done.to_string(), "done");
+/// assert_eq!(sozgarru::Answer::Cancelled(2).to_string(), "done 2");
+/// ```
 #[derive(Clone, Debug, PartialEq, Eq, Hash)]
 pub enum Answer {
     /// Of coroutine, pending, settled and gather: the object.
@@ -312,8 +317,10 @@ pub enum Answer {
     Control(Control),
     /// Of await.
     Awaited(Awaited),
-    /// Of results and cancel.
+    /// Of results.
     Done,
+    /// Of cancel: how many of the removed tasks stood in the ready queue.
+    Cancelled(u16),
     /// Of resume.
     Stalled,
     /// Of complete and fail, where main ended.
@@ -332,6 +339,7 @@ impl Display for Answer {
             Answer::Control(control) => control.fmt(f),
             Answer::Awaited(awaited) => awaited.fmt(f),
             Answer::Done => f.write_str("done"),
+            Answer::Cancelled(queued) => write!(f, "done {queued}"),
             Answer::Stalled => f.write_str("stalled"),
             Answer::Finished(end) => write_finished(f, end),
             Answer::Eager(true) => f.write_str("eager yes"),

@@ -20,7 +20,7 @@ pub(crate) fn answer(numbers: &Numbers, calls: &[u64], place: impl Fn(u16) -> Nu
             let control = values.waits(calls);
             values.control(control)
         }
-        5 => Answer::Done,
+        5 => values.done(),
         6 => Answer::Stalled,
         7 => Answer::Finished(values.finished()),
         8 => Answer::Eager(values.yes()),
@@ -148,6 +148,15 @@ impl<'a> Values<'a> {
         }
     }
 
+    /// A cancel has its count; results have no value.
+    fn done(&mut self) -> Answer {
+        match self.rest {
+            [] => Answer::Done,
+            [_] => Answer::Cancelled(self.short()),
+            more => impossible("a count of values", more.len() as u64),
+        }
+    }
+
     fn coroutine_state(&mut self) -> CoroutineState {
         match self.next() {
             0 => CoroutineState::New,
@@ -202,4 +211,37 @@ fn place_value(numbers: &Numbers) -> Option<Value> {
 /// A place of a completed gather: none of them is open.
 fn filled(numbers: &Numbers) -> Value {
     place_value(numbers).unwrap_or_else(|| impossible("a filled place", 0))
+}
+
+#[cfg(test)]
+mod tests {
+    use super::*;
+
+    /// What a word 5 with these values is.
+    fn done(values: &[u64]) -> Result<Answer, Refusal> {
+        let mut all = [0; 6];
+        all[..values.len()].copy_from_slice(values);
+        let numbers = Numbers { refusal: 0, word: 5, count: values.len() as u64, values: all };
+        answer(&numbers, &[], |_| unreachable!("nothing is shown"))
+    }
+
+    #[test]
+    fn done_has_a_count_or_none() {
+        assert_eq!(done(&[]), Ok(Answer::Done));
+        for queued in [0, 1, 2, 125, u16::MAX] {
+            assert_eq!(done(&[queued.into()]), Ok(Answer::Cancelled(queued)));
+        }
+    }
+
+    #[test]
+    #[should_panic(expected = "65536 is not a number of 16 bits")]
+    fn a_count_has_16_bits() {
+        let _ = done(&[65_536]);
+    }
+
+    #[test]
+    #[should_panic(expected = "2 is not a count of values")]
+    fn done_has_one_value_at_most() {
+        let _ = done(&[1, 0]);
+    }
 }

@@ -102,13 +102,6 @@ impl Session {
         }
     }
 
-    fn done(&mut self, event: &Event<'_>) -> Result<(), Refusal> {
-        match self.dispatch(event)? {
-            Answer::Done => Ok(()),
-            other => unexpected(event, &other),
-        }
-    }
-
     fn task_end(&mut self, event: &Event<'_>) -> Result<TaskEnd, Refusal> {
         match self.dispatch(event)? {
             Answer::Control(control) => Ok(TaskEnd::Control(control)),
@@ -196,7 +189,11 @@ impl Session {
     /// # Errors
     /// [`Refusal::Ended`], [`Refusal::Unknown`], [`Refusal::BadResults`]; then none of them is applied.
     pub fn results(&mut self, results: &[(CallId, Outcome)]) -> Result<(), Refusal> {
-        self.done(&Event::results(results))
+        let event = Event::results(results);
+        match self.dispatch(&event)? {
+            Answer::Done => Ok(()),
+            other => unexpected(&event, &other),
+        }
     }
 
     /// The host answers one call.
@@ -220,12 +217,39 @@ impl Session {
     }
 
     /// The operator cancels a task while the host waits: it goes, with the live tasks below the gather that it waits
-    /// for. What it awaited stays awaited.
+    /// for. The answer is how many of them stood in the ready queue: a result had woken them, and the next
+    /// [`resume`](Session::resume) would have come to them. 0 says that all of them still waited.
+    ///
+    /// Nothing else changes. The ready tasks that stay keep their order; the gather to which the task belongs, and what
+    /// the removed tasks awaited, stay awaited; their calls stay pending, and may be answered.
+    ///
+    /// ```
+    /// # use sozgarru::{Outcome, Refusal, Session, TaskId, Value};
+    /// # fn main() -> Result<(), Refusal> {
+    /// let mut s = Session::new();
+    /// let branch = s.coroutine(7)?;
+    /// let call = s.call()?;
+    /// let rate = s.pending(call, None)?;
+    /// let gather = s.gather(&[branch])?;
+    /// s.await_object(gather)?; // main waits for task 1,
+    /// s.await_object(rate)?; // and task 1 for its call
+    /// s.result(call, Outcome::Return(Value::Plain(5)))?; // task 1 is ready
+    /// assert_eq!(s.cancel(TaskId::new(1)), Ok(1));
+    /// assert_eq!(s.cancel(TaskId::new(1)), Err(Refusal::Unknown)); // it is gone
+    /// assert_eq!(s.cancel(TaskId::MAIN), Err(Refusal::CancelOfMain));
+    /// # Ok(())
+    /// # }
+    /// ```
     ///
     /// # Errors
-    /// [`Refusal::Ended`], [`Refusal::WrongMoment`], [`Refusal::Unknown`], [`Refusal::CancelOfMain`].
-    pub fn cancel(&mut self, task: TaskId) -> Result<(), Refusal> {
-        self.done(&Event::Cancel(task))
+    /// [`Refusal::Ended`], [`Refusal::WrongMoment`] while a task runs, [`Refusal::Unknown`] where the task is not live,
+    /// [`Refusal::CancelOfMain`].
+    pub fn cancel(&mut self, task: TaskId) -> Result<u16, Refusal> {
+        let event = Event::Cancel(task);
+        match self.dispatch(&event)? {
+            Answer::Cancelled(queued) => Ok(queued),
+            other => unexpected(&event, &other),
+        }
     }
 
     /// What an object is and has, at any moment, also after the end.

@@ -165,6 +165,46 @@ fn calls_go_past_65536() -> Result<(), Refusal> {
     Ok(())
 }
 
+/// Task 1 waits for tasks 3, 4 and 5, task 2 for call 0; each of the three for a call of its own. Results wake 5 and 3,
+/// and task 2 between them.
+fn session_with_a_queue() -> Result<Session, Refusal> {
+    let mut s = Session::new();
+    let coroutines = (1..=5).map(|function| s.coroutine(function)).collect::<Result<Vec<_>, _>>()?;
+    let below = s.gather(&coroutines[2..])?;
+    let top = s.gather(&coroutines[..2])?;
+    let mut futures = Vec::new();
+    for _ in 0..4 {
+        let call = s.call()?;
+        futures.push(s.pending(call, None)?);
+    }
+    for object in [&[top, below][..], &futures].concat() {
+        s.await_object(object)?;
+    }
+    s.results(&[3, 0, 1].map(|call| (CallId::new(call), Outcome::Return(Value::Plain(call.into())))))?;
+    Ok(s)
+}
+
+#[test]
+fn a_cancel_counts_the_removed_tasks_that_were_ready() -> Result<(), Refusal> {
+    // a blocked task alone; a ready one; the blocked one above them, of which one has gone already
+    let mut s = session_with_a_queue()?;
+    assert_eq!(s.cancel(TaskId::new(4))?, 0);
+    assert_eq!(s.cancel(TaskId::new(5))?, 1);
+    assert_eq!(s.cancel(TaskId::new(1))?, 1);
+    refuses(&mut s, Event::Cancel(TaskId::new(3)), Refusal::Unknown);
+    // with both ready ones below it, by the event, checked or not: task 2 keeps its place
+    for checked in [false, true] {
+        let mut s = session_with_a_queue()?;
+        let event = Event::Cancel(TaskId::new(1));
+        let answer = if checked { s.dispatch_checked(&event) } else { s.dispatch(&event) };
+        assert_eq!(answer, Ok(Answer::Cancelled(2)));
+        assert_eq!(common::line(&mut s, checked, Some(&event)), "refused 5");
+        let how = How::Value(Value::Plain(0));
+        assert_eq!(s.resume()?, Resumed::Control(Control::Runs { task: TaskId::new(2), how }));
+    }
+    Ok(())
+}
+
 #[test]
 fn every_refusal_has_its_number_and_its_meaning() {
     for number in 1..=11 {
