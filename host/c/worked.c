@@ -1,5 +1,5 @@
 /* Document 01's worked example from C: ten events on memory of the host's own, and document 01's line for each answer; then a session
- * with nothing in its gather and in its batch.
+ * with nothing in its gather and in its batch, and one in which a task is cancelled.
  *
  *     gcc -Wall -Wextra -Werror -o worked worked.c ../rust/native/libsozgarru.a && ./worked
  */
@@ -105,6 +105,10 @@ static void print_line(int number, sozgarru_numbers a, uint16_t object)
             printf(" %" PRIu64, memory.calls[i]);
         print_steps(&a, 1);
         break;
+    case 5:
+        if (a.count == 1) /* of a cancel: how many of the removed tasks stood in the ready queue */
+            printf(" %" PRIu64, v[0]);
+        break;
     case 7:
         if (v[0] == 0)
             print_value(v + 1);
@@ -149,5 +153,17 @@ int main(void)
     print_line(1, sozgarru_gather(SOZGARRU_LENT(&memory), NULL, 0), 0);
     print_line(2, sozgarru_await(SOZGARRU_LENT(&memory), 0), 0);
     print_line(3, sozgarru_results(SOZGARRU_LENT(&memory), NULL, 0), 0);
+
+    /* a fresh session: main waits for task 1, and that for call 0; the result wakes it, the operator cancels it, and again */
+    sozgarru_begin(SOZGARRU_BEGUN(&memory));
+    print_line(1, sozgarru_coroutine(SOZGARRU_LENT(&memory), 7), 0);
+    print_line(2, sozgarru_gather(SOZGARRU_LENT(&memory), items, 1), 0);
+    print_line(3, sozgarru_call(SOZGARRU_LENT(&memory)), 0);
+    print_line(4, sozgarru_pending(SOZGARRU_LENT(&memory), 0), 0);
+    print_line(5, sozgarru_await(SOZGARRU_LENT(&memory), 1), 0);
+    print_line(6, sozgarru_await(SOZGARRU_LENT(&memory), 2), 0);
+    print_line(7, sozgarru_results(SOZGARRU_LENT(&memory), results, sizeof results), 0);
+    print_line(8, sozgarru_cancel(SOZGARRU_LENT(&memory), 1), 0);
+    print_line(9, sozgarru_cancel(SOZGARRU_LENT(&memory), 1), 0);
     return 0;
 }

@@ -48,8 +48,8 @@ def main():
     # the tasks are numbered as the gather's items: own pension 1, state pension 2
     hung = 2
     print(f"the operator may not cancel main: {refusal(desk.session.cancel, sozgarru.MAIN)}")
-    desk.session.cancel(hung)
-    print(f"the operator cancels task {hung}")
+    queued = desk.session.cancel(hung)
+    print(f"the operator cancels task {hung}; tasks taken out of the ready queue: {queued}")
     print(f"cancelled already: {refusal(desk.session.cancel, hung)}")
 
     # the office answers after all: nobody waits for it, and the gather stays open

@@ -43,7 +43,7 @@ def record(session, data, at):
         8: lambda: session.fail(number(4)),
         9: lambda: session.result_bytes(body) or "done",
         10: session.resume,
-        11: lambda: session.cancel(number(2)) or "done",
+        11: lambda: f"done {session.cancel(number(2))}",
         12: lambda: session.show(number(2)),
         13: lambda: f"eager {'yes' if session.eager() else 'no'}",
     }

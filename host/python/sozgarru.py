@@ -21,6 +21,17 @@ Traceback (most recent call last):
     ...
 sozgarru.Refused: refused 3: session ended
 
+A cancel says how many of the removed tasks stood in the ready queue; here a reply has woken task 1:
+
+>>> s = Session()
+>>> s.coroutine(7), s.gather(0), s.call(), s.pending(0)
+(0, 1, 0, 2)
+>>> print(s.await_object(1), s.await_object(2), sep="; ")
+runs 1 start 0 7 steps 1; waits 1 0 steps 0
+>>> s.result(0, 5)
+>>> s.cancel(1)
+1
+
 A session is restored from its bytes where these are whole and a sound store, and not otherwise:
 
 >>> t = Session()
@@ -334,7 +345,7 @@ def _answer(numbers, calls):
     if numbers.word == 4:
         return Waits(tuple(calls[:values[0]]), *values[1:])
     if numbers.word == 5:
-        return None
+        return values[0] if values else None  # a cancel has its count
     if numbers.word == 6:
         return Stalled()
     if numbers.word == 7:
@@ -454,7 +465,10 @@ class Session:
         return self._event("resume")
 
     def cancel(self, task):
-        """The operator cancels a task, and those below the gather that it waits for."""
+        """The operator cancels a task while the host waits, and with it the tasks below the gather that it waits for: how many of the
+        removed tasks stood in the ready queue. Refused with 3 after the end, 4 while a task runs, 5 where the task is not live, 9 of main.
+        The ready tasks that stay keep their order; what the removed ones awaited stays awaited, and their calls stay pending.
+        """
         return self._event("cancel", _fits(task, 16))
 
     def eager(self):
