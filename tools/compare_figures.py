@@ -4,12 +4,22 @@ import collections
 import re
 
 
+MAIN = "TaskId(0): Task { state: Ready } ready_queue: []"  # before the first event
+
+
 def live_tasks(dump):
     return {int(t): state for t, state in re.findall(r"TaskId\((\d+)\): Task \{.*?state: (Ready|Blocked)", dump)}
 
 
 def queued(dump):
     return len(re.findall(r"TaskId", re.search(r"ready_queue: \[(.*?)\]", dump)[1]))
+
+
+def with_counts(events, told, dumps):
+    """The lines, those of accepted cancels with their count (document 02, No. 8), which the oracle does not write: the length of the Rust's ready
+    queue before the cancel less that after it."""
+    counts = [queued(before) - queued(after) for before, after in zip([MAIN, *dumps], dumps)]
+    return [f"done {n}" if event.startswith("cancel") and line == "done" else line for event, line, n in zip(events, told, counts)]
 
 
 def depths(events, told):
@@ -25,9 +35,8 @@ def depths(events, told):
 def met(events, told, dumps):
     count = collections.Counter()
     depth = depths(events, told)
-    main = "TaskId(0): Task { state: Ready } ready_queue: []"
     runner = 0
-    for event, line, before, after in zip(events, told, [main, *dumps], dumps):
+    for event, line, before, after in zip(events, told, [MAIN, *dumps], dumps):
         if not line.startswith(("refused", "shows", "eager")):
             count.update(met_at(event.split(), line, depth, live_tasks(before), live_tasks(after), runner))
             count["batches that woke 2 or more tasks"] += event.startswith("results") and queued(after) - queued(before) > 1
@@ -44,6 +53,7 @@ def met_at(words, line, depth, before, after, runner):
     if word == "gather":
         yield from ["gathers empty"] * (not rest) + ["gathers naming an item twice"] * (len(set(rest)) < len(rest))
     if word == "cancel":
+        yield f"cancels with the answer {line}"
         yield f"cancels of a {before[int(rest[0])].lower()} task"
         yield f"cancels that removed {min(len(gone), 4)}" + " or more" * (len(gone) > 3)
     elif not line.startswith("finished"):
@@ -79,9 +89,8 @@ def figures(sessions, dumps):
     print(f"sessions {len(sessions)}, events {sum(lengths)}, longest session {max(lengths)}")
     print(f"refused: {count_kinds(sessions)}")
     seen = collections.Counter()
-    for events, told in sessions.values():
-        seen += met(events, told, dumps[:len(events)])
-        dumps = dumps[len(events):]
+    for (events, told), its_own in zip(sessions.values(), dumps):
+        seen += met(events, told, its_own)
     print("met: " + ", ".join(f"{what} {n}" for what, n in sorted(seen.items())))
     print(f"deepest gather: {max(d for events, told in sessions.values() for d in depths(events, told))}")
     count_answers(sessions)

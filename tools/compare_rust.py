@@ -5,7 +5,7 @@
 
 1. Builds the oracle (the published Rust behind document 01's records) in the work folder.
 2. Makes N random sessions, all one event further at a time: the oracle is asked what the last event did, and that steers the next one.
-3. Takes the Rust's lines, turns each into an `Answer`, and writes modules with the theorem
+3. Takes the Rust's lines, a cancel's with its count (compare_figures.with_counts), turns each into an `Answer`, and writes modules with the theorem
    `map (answers fresh) (events-0 ∷ ..) ≡ told-0 ∷ ..`, by `refl`; `rt check` then computes the machine on every session. Some sessions
    share a theorem, since antt forgets what it has computed at the end of a declaration; where one fails, its sessions are tried alone.
 
@@ -26,7 +26,7 @@ import time
 
 sys.dont_write_bytecode = True  # nothing is left behind in tools/
 
-from compare_figures import figures
+from compare_figures import figures, with_counts
 from compare_sessions import Session, fixed_sessions
 from compare_terms import module_text
 
@@ -212,8 +212,10 @@ def make(said, room, began):
     grown = [Session(random.Random(f"{said.seed} {k}"), events) for k in range(count)]
     grow(oracle, grown)
     lists = [s.events + s.final() for s in grown] + ([] if said.self_test else fixed_sessions())
-    told, dumps = oracle.run(lists, "--check", "--dump")
-    sessions = dict(enumerate(zip(lists, told)))
+    told, dumped = oracle.run(lists, "--check", "--dump")
+    dumped = iter(dumped)
+    dumps = [[next(dumped) for _ in session] for session in told]
+    sessions = dict(enumerate(zip(lists, map(with_counts, lists, told, dumps))))
     figures(sessions, dumps)
     print(f"sessions made in {time.time() - began:.0f} s", flush=True)
     return sessions

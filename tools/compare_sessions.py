@@ -291,7 +291,7 @@ def shared(s):
 MIXED = [await_tree, await_tree, await_tree, family, family, block, failed_starts, failed_starts, inline_queued, shared, shared]
 FAMILIES = [family, family, family, block, block, block, calls, inline_queued, await_tree]
 
-# ---- fixed sessions: the limits that are cheap to meet
+# ---- fixed sessions: the limits that are cheap to meet, and a cancel that takes two tasks out of the queue
 
 
 def fixed_sessions():
@@ -299,4 +299,8 @@ def fixed_sessions():
     return [
         ["coroutine 1", "gather" + " 0" * 33, "gather" + " 0" * 32, "await 1", "complete plain 3", "show 1"],
         ["call", "pending 0", "await 0", "results " + "; ".join([one] * 65), "results " + "; ".join([one] * 64), "resume"],
+        # task 1 waits for 3, 4 and 5; the queue is 5 2 3 when it is cancelled: done 2
+        [f"coroutine {f}" for f in range(1, 6)] + ["gather 2 3 4", "gather 0 1"] + ["call"] * 4 + [f"pending {c}" for c in range(4)]
+        + [f"await {o}" for o in (6, 5, 7, 8, 9, 10)] + ["results " + "; ".join(f"{c} kind 0 tag 0 bits {c}" for c in (3, 0, 1))]
+        + ["cancel 1", "cancel 1", "cancel 3", "resume", "show 5", "show 6"],
     ]

@@ -79,6 +79,8 @@ def answer_term(line):
             return f"Answer.called {number}"
         case ["done"] | ["stalled"]:
             return f"Answer.{line}"
+        case ["done", count]:
+            return f"Answer.cancelled {count}"
         case ["finished", "error", *error]:
             return f"Answer.finished-error {error_term(error)}"
         case ["finished", *value]:

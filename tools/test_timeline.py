@@ -1,6 +1,7 @@
 #!/usr/bin/env python3
 """test_timeline.py: the pages of tools/timeline.py on every stored event file. DRIVE names the program drive; without it one is built."""
 import contextlib
+import copy
 import html.parser
 import io
 import os
@@ -155,7 +156,7 @@ class EveryFile(unittest.TestCase):
                 self.assertEqual(missing(parsed)[0], [int(word) for word in words[2:]])
 
     def test_knows_which_tasks_live(self):
-        """A cancel behind a wait is done of the tasks that the model takes for live, and of no others."""
+        """A cancel behind a wait, where nothing is ready, is `done 0` of the tasks that the model takes for live, and of no others."""
         asked = {True: 0, False: 0}
         for known, _, _, _ in self.each():
             if len(known.tasks) > 12 or len(known.columns) > 120:
@@ -166,7 +167,7 @@ class EveryFile(unittest.TestCase):
                 for number in range(1, len(then.tasks) + 1):
                     live = number in then.tasks and then.tasks[number].live
                     asked[live] += 1
-                    self.assertEqual(source.ask(program, data[:upto] + [source.texts.record(f"cancel {number}")])[-1] == "done", live, f"task {number}")
+                    self.assertEqual(source.ask(program, data[:upto] + [source.texts.record(f"cancel {number}")])[-1] == "done 0", live, f"task {number}")
         self.assertTrue(all(asked.values()), asked)
 
 
@@ -215,6 +216,21 @@ class Lanes(unittest.TestCase):
     def test_ends_of_tasks(self):
         self.assertEqual([task.ending for task in made["cases/f12-first-start-wakes.txt"][0].tasks.values()], ["", "completed", "died", "completed"])
         self.assertEqual([task.ending for task in made["cases/f08-cancel-grandchildren.txt"][0].tasks.values()], ["", "cancelled", "cancelled", "cancelled"])
+
+
+    def test_cancels_tell_who_was_ready(self):
+        parsed = made["cases/n08-children.txt"][3]
+        said = " ".join(" ".join(texts) for tag, _, texts in parsed.tags if tag in ("p", "li"))
+        for words in ("none of the removed tasks was ready.", "1 of the removed tasks was ready.", "2 of the removed tasks were ready.",
+                      "Task 10 is cancelled; it was ready.", "Task 11 is cancelled."):
+            self.assertIn(words, said)
+
+    def test_doubts_a_wrong_count(self):
+        known = made["cases/p12.txt"][0]
+        for line, doubts in (("done 1", 0), ("done 0", 1), ("done 2", 1), ("done", 1)):
+            columns = [copy.copy(column) for column in known.columns]
+            columns[14].line = line
+            self.assertEqual(len(model.Model(columns, known.changed).doubts), doubts, line)
 
 
 class Input(unittest.TestCase):

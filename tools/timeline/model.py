@@ -243,11 +243,12 @@ class Model:
 
     def end(self, at, task, how, what=""):
         """A task is over: completed, failed, died, cancelled or removed."""
+        ready = "; it was ready" if task.state == "ready" else ""
         task.turn(at, "over", how)
         task.mark(at, how, what)
         task.ending = how
         task.blocked_on = None
-        said = {"died": "dies at its first run: its coroutine was begun elsewhere (coroutine-reuse)", "cancelled": "is cancelled",
+        said = {"died": "dies at its first run: its coroutine was begun elsewhere (coroutine-reuse)", "cancelled": f"is cancelled{ready}",
                 "removed": "is removed: the session has ended"}
         if how in said:
             self.say(at, f"task {task.number} {said[how]}")
@@ -291,13 +292,14 @@ class Model:
                 self.call(int(number)).waits += column.last - column.first + 1
 
     def on_cancel(self, at, column, rest):
-        """The task goes, and the live tasks of the open items that it waits for, through gathers."""
-        left, walked = [self.tasks.get(int(rest[0]))], set()
+        """The task goes, and the live tasks of the open items that it waits for, through gathers. The line counts the ready ones among them."""
+        ready, left, walked = 0, [self.tasks.get(int(rest[0]))], set()
         while left:
             task = left.pop()
             if task is None or not task.live:
                 continue
             left_gathers = [task.blocked_on]
+            ready += task.state == "ready"
             self.end(at, task, "cancelled")
             while left_gathers:
                 gather = left_gathers.pop()
@@ -307,6 +309,8 @@ class Model:
                 for item in self.open_items(gather, self.now):
                     left.append(self.task_of(item))
                     left_gathers.append(item)
+        if column.line != f"done {ready}":
+            self.doubts.append((at, f"the line is {column.line}, done {ready} was expected"))
 
     # ---- what objects did
 

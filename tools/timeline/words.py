@@ -104,6 +104,8 @@ def control_words(words):
         return f"Refused with {rest[0]}: {REFUSALS[int(rest[0])]}. Nothing has changed."
     if word == "finished":
         return f"Main has ended, and the session with it: {'error ' if rest[0] == 'error' else ''}{value(' '.join(rest[rest[0] == 'error':]))}."
+    if word == "done" and rest:
+        return f"Done: {'none' if rest[0] == '0' else rest[0]} of the removed tasks {'was' if rest[0] in ('0', '1') else 'were'} ready."
     if word == "shows":
         return f"It is a {shown(' '.join(rest))}."
     return {"made": "It is object {}.", "call": "It is call {}.", "stalled": "Nothing is ready and no call is pending: the session is stalled.",
