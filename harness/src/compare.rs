@@ -35,7 +35,7 @@ fn drive(program: &Path, input: &[u8]) -> String {
 
 /// The Rust's lines, or that it panicked; and what it cancelled.
 fn rust_and_cancels(input: &[u8]) -> (String, BTreeMap<&'static str, u64>) {
-    panic::catch_unwind(AssertUnwindSafe(|| session::run(input))).unwrap_or_else(|_| ("the Rust panicked\n".into(), BTreeMap::new()))
+    panic::catch_unwind(AssertUnwindSafe(|| session::lines_and_cancels(input))).unwrap_or_else(|_| ("the Rust panicked\n".into(), BTreeMap::new()))
 }
 
 fn rust(input: &[u8]) -> String {

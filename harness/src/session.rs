@@ -45,8 +45,8 @@ pub(crate) struct Session<'h> {
     pub moment: Moment,
     pub calls_handed_out: u32,
     pub places: usize,
-    /// Of the accepted cancels: what the task was, and what went with it.
-    pub cancels: BTreeMap<&'static str, u64>,
+    /// Of the accepted cancels: what the task was, and what went with it. Where nobody asks nothing is looked up: it would be timed as the Rust's.
+    pub cancels: Option<BTreeMap<&'static str, u64>>,
 }
 
 impl<'h> Session<'h> {
@@ -57,7 +57,7 @@ impl<'h> Session<'h> {
             moment: Moment::Running,
             calls_handed_out: 0,
             places: 0,
-            cancels: BTreeMap::new(),
+            cancels: None,
         }
     }
 
@@ -319,10 +319,15 @@ impl<'h> Session<'h> {
     }
 
     fn note(&mut self, what: &'static str) {
-        *self.cancels.entry(what).or_default() += 1;
+        if let Some(cancels) = &mut self.cancels {
+            *cancels.entry(what).or_default() += 1;
+        }
     }
 
     fn note_cancel(&mut self, task: TaskId) {
+        if self.cancels.is_none() {
+            return;
+        }
         let text = format!("{:?}", self.vm.scheduler.get_task_mut(task));
         let state = text.split("state: ").last().expect("a task has a state").to_owned();
         let gather = match self.vm.scheduler.get_task_mut(task).awaiter {
@@ -512,27 +517,34 @@ pub(crate) fn with_session<T>(f: impl FnOnce(&mut Session) -> T) -> T {
 
 /// The lines of one input, as document 01's driver prints them.
 pub(crate) fn lines(bytes: &[u8]) -> String {
-    run(bytes).0
+    with_session(|session| answers(session, bytes))
 }
 
 /// The lines, and what was cancelled.
-pub(crate) fn run(bytes: &[u8]) -> (String, BTreeMap<&'static str, u64>) {
+pub(crate) fn lines_and_cancels(bytes: &[u8]) -> (String, BTreeMap<&'static str, u64>) {
     with_session(|session| {
-        let mut reader = Reader { bytes };
-        let mut out = String::new();
-        let mut count = 0u64;
-        while !reader.bytes.is_empty() {
-            count += 1;
-            let Some(record) = reader.record() else {
-                writeln!(out, "{count} refused 11").expect("writing to a string");
-                break;
-            };
-            match session.answer(record) {
-                Ok(line) => writeln!(out, "{count} {line}"),
-                Err(refusal) => writeln!(out, "{count} refused {refusal}"),
-            }
-            .expect("writing to a string");
-        }
-        (out, std::mem::take(&mut session.cancels))
+        session.cancels = Some(BTreeMap::new());
+        let out = answers(session, bytes);
+        (out, session.cancels.take().unwrap_or_default())
     })
+}
+
+/// The lines of a session that goes on with these records.
+fn answers(session: &mut Session, bytes: &[u8]) -> String {
+    let mut reader = Reader { bytes };
+    let mut out = String::new();
+    let mut count = 0u64;
+    while !reader.bytes.is_empty() {
+        count += 1;
+        let Some(record) = reader.record() else {
+            writeln!(out, "{count} refused 11").expect("writing to a string");
+            break;
+        };
+        match session.answer(record) {
+            Ok(line) => writeln!(out, "{count} {line}"),
+            Err(refusal) => writeln!(out, "{count} refused {refusal}"),
+        }
+        .expect("writing to a string");
+    }
+    out
 }
