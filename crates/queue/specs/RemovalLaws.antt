@@ -13,8 +13,8 @@ use Rattle.asyncio.specs.States.{pick}
 use Rattle.asyncio.specs.Limits.{task-limit}
 use Rattle.queue.specs.declared.ReadyQueue.{ReadyQueue}
 use Rattle.queue.specs.declared.Position.{Position}
-use Rattle.queue.specs.Queue.{entries, push-back, drop-entry, drop-place, find-task, remove, position-from, stood-at, removed-count, position, occurrences}
-use Rattle.queue.specs.QueueLaws.{find-task-position, length-entries, entries-drop-place, entries-push, drop-place-either, push-back-len, push-back-length, absent-head, position-absent, remove-absent}
+use Rattle.queue.specs.Queue.{entries, push-back, drop-entry, drop-place, find-task, remove, position-from, stood-at, removed-count, position, retain, occurrences, Distinct}
+use Rattle.queue.specs.QueueLaws.{find-task-position, length-entries, entries-drop-place, entries-push, drop-place-either, push-back-len, push-back-length, absent-head, position-absent, remove-absent, retain-absent, occurrences-append, at-most-once}
 
 -- ---- the first t in a list
 
@@ -55,7 +55,7 @@ unfoldable pub Removal : ℕ → List ℕ → Position → List ℕ → Type 0
 Removal t l (Position.At i) r = (l ≡ take i l ++ (t ∷ drop (i + 1) l)) × (occurrences (take i l) t ≡ 0) × (r ≡ take i l ++ drop (i + 1) l)
 Removal t l Position.Nowhere r = (occurrences l t ≡ 0) × (r ≡ l)
 
--- of every queue: the position that `remove` tells, and what it leaves
+-- of every queue whose count is within its places: the position that `remove` tells, and what it leaves
 pub removal : (q : ReadyQueue) (t : ℕ) → length (q .ids) ≡ task-limit → q .len ≤ task-limit → Removal t (entries q) (stood-at q t) (entries (remove q t))
 unfolding stood-at position-from remove Removal
 removal q t l h = rw (le-ltb task-limit (q .len) h) (by (ltb at (q .len)) refl)
@@ -102,6 +102,32 @@ removed-length q t = by (ltb task-limit (q .len)) (ltb at (q .len)) refl
     by true b e = omega arith
     by false true e = omega (arith, ltb-true at (q .len) e)
     by false false e = omega arith
+
+-- ---- what follows from the promise alone, where no number stands twice: to take out the first is to take out every one (retain of scheduler.rs)
+
+-- before and behind it
+retain-around : (a : List ℕ) (t : ℕ) (b : List ℕ) → retain (a ++ (t ∷ b)) t ≡ retain a t ++ retain b t
+unfolding retain
+retain-around [] t b = rw (eq-eqb t t refl)
+retain-around (x ∷ a) t b = by (eqb x t) (retain-around a t b)
+  where
+    by : (c : Bool) → retain (a ++ (t ∷ b)) t ≡ retain a t ++ retain b t
+        → pick c (retain (a ++ (t ∷ b)) t) (x ∷ retain (a ++ (t ∷ b)) t) ≡ pick c (retain a t) (x ∷ retain a t) ++ retain b t
+    by true h = h
+    by false h = ap (λ (l : List ℕ). x ∷ l) h
+
+pub removal-retains : (t : ℕ) (l : List ℕ) (p : Position) (r : List ℕ) → Distinct l → Removal t l p r → r ≡ retain l t
+unfolding Removal
+removal-retains t l (Position.At i) r d k =
+    let a = take i l in
+    let b = drop (i + 1) l in
+    let n : occurrences (a ++ (t ∷ b)) t ≤ 1 = subst (λ (m : List ℕ). occurrences m t ≤ 1) (k .0) (at-most-once l d t) in
+    let m : occurrences (a ++ (t ∷ b)) t ≡ occurrences a t + occurrences (t ∷ b) t = occurrences-append a (t ∷ b) t in
+    let one : occurrences (t ∷ b) t ≡ 1 + occurrences b t = unfold occurrences in (rw (eq-eqb t t refl)) in
+    let behind : occurrences b t ≡ 0 = omega (arith, n, m, one) in
+    let around : retain (a ++ (t ∷ b)) t ≡ a ++ b = retain-around a t b ∙ rw (retain-absent a t (k .1), retain-absent b t behind) in
+    k .2 ∙ (sym around ∙ ap (λ (m : List ℕ). retain m t) (sym (k .0)))
+removal-retains t l Position.Nowhere r d k = k .1 ∙ sym (retain-absent l t (k .0))
 
 -- ---- two removals of a task's end
 

@@ -14,7 +14,7 @@ use Rattle.asyncio.specs.States.{pick, is-ready}
 use Rattle.asyncio.specs.Limits.{task-limit}
 use Rattle.queue.specs.declared.ReadyQueue.{ReadyQueue}
 use Rattle.queue.specs.Queue.{entries, push-back, remove, occurrences, Distinct, without}
-use Rattle.queue.specs.QueueLaws.{push-back-full, entries-push, entries-remove, occurrences-append, occurrences-without, distinct-append, distinct-without}
+use Rattle.queue.specs.QueueLaws.{push-back-full, entries-push, entries-remove, occurrences-append, occurrences-without, at-most-once, distinct-append, distinct-without}
 use Rattle.machine.specs.Sound.{entry-ready}
 use Rattle.machine_laws.specs.Views.{update}
 use Rattle.machine_laws.specs.TestLaws.{both, both-left, both-right, below, from-below}
@@ -73,16 +73,6 @@ apart (x ∷ xs) d (suc i) zero l m e =
     let z : 1 ≤ occurrences xs x = subst (λ (n : ℕ). 1 ≤ occurrences xs n) (sym e) (occurs xs i (omega arith)) in
     not-suc-le-zero {n = 0} (omega (arith, d .0))
 apart (x ∷ xs) d (suc i) (suc j) l m e = apart xs (d .1) i j (omega arith) (omega arith) e
-
--- what stands in a list of distinct numbers stands there once
-at-most-once : (q : List ℕ) → Distinct q → (t : ℕ) → occurrences q t ≤ 1
-unfolding Distinct occurrences
-at-most-once [] d t = omega arith
-at-most-once (x ∷ xs) d t = by (ℕ-discrete x t) (at-most-once xs (d .1) t)
-  where
-    by : Dec (x ≡ t) → occurrences xs t ≤ 1 → pick (eqb x t) 1 0 + occurrences xs t ≤ 1
-    by (yes e) l = let z : occurrences xs t ≡ 0 = subst (λ (n : ℕ). occurrences xs n ≡ 0) e (d .0) in rw (eq-eqb x t e) (omega arith)
-    by (no ne) l = rw (ne-eqb x t ne) (omega arith)
 
 -- ---- the test and the facts
 
