@@ -6,8 +6,11 @@ use mathlib.Core.Bool.{Bool, true, false, _&&_}
 use mathlib.Core.List.{List, [], _∷_, map}
 use lib.Dec.{eqb}
 use borrow.Author.Tests.{eq-eqb}
+use Rattle.queue.specs.Queue.{empty-queue}
+use Rattle.machine.specs.Store.{Store, put-queue}
+use Rattle.machine.specs.Sound.{sound}
 use Rattle.machine.specs.Events.{Result}
-use Rattle.machine.specs.Machine.{Event, Answer}
+use Rattle.machine.specs.Machine.{Event, Answer, step}
 use Rattle.machine.specs.History.{Entry, says, tells}
 use Rattle.machine.specs.Sessions.{Sent, session}
 use Rattle.machine.specs.DemandThreeTest.{and-both}
@@ -76,6 +79,21 @@ children rs = then branch (e (Event.results rs) ∷ e (Event.cancel 1) ∷ e (Ev
 abbrev alone : List Sent
 alone = then branch (e (Event.results (res 0 0 9 ∷ [])) ∷ e (Event.cancel 2) ∷ e (Event.cancel 3) ∷ [])
 
-pub counts-pass : map (λ es. counts-test (session es .history)) (children [] ∷ children (res 1 0 9 ∷ []) ∷ children (res 1 0 9 ∷ res 0 0 9 ∷ []) ∷ alone ∷ []) ≡ true ∷ true ∷ true ∷ true ∷ []
+-- main, whose gather has failed, and task 2 stand in the queue; task 3, which is blocked, is cancelled, and then task 1: main stays
+abbrev beside : List Sent
+beside = then branch (e (Event.results (res 2 1 9 ∷ res 0 0 9 ∷ [])) ∷ e (Event.cancel 3) ∷ e (Event.cancel 1) ∷ [])
+
+pub counts-pass : map (λ es. counts-test (session es .history)) (children [] ∷ children (res 1 0 9 ∷ []) ∷ children (res 1 0 9 ∷ res 0 0 9 ∷ []) ∷ alone ∷ beside ∷ [])
+    ≡ true ∷ true ∷ true ∷ true ∷ true ∷ []
 unfolding computes3 had-been-ready ready-removed is-count count-test counts-test
 counts-pass = refl
+
+-- ---- a lent store
+
+-- task 2 is ready and stands nowhere: the store is sound, and its cancel counts nobody. (No session gets there.)
+abbrev unqueued : Store
+unqueued = put-queue (session (then branch (e (Event.results (res 0 0 9 ∷ [])) ∷ [])) .store) empty-queue
+
+pub unqueued-uncounted : (sound unqueued ≡ true) × (is-count 0 (step unqueued (Event.cancel 2) .answer) ≡ true)
+unfolding computes3 is-count
+unqueued-uncounted = (refl, refl)

@@ -74,7 +74,7 @@ pub data Answer : Type 0 where
   control : Control → Answer
   awaited : Control → ℕ → Answer
   done : Answer
-  -- a task was cancelled; by so many entries the ready queue is shorter after the removals (document 02, No. 8; it prints as done)
+  -- a task was cancelled; by so many entries the ready queue is shorter after the removals (document 02, No. 8; it prints as done and that number)
   cancelled : ℕ → Answer
   stalled : Answer
   finished : Value → Answer

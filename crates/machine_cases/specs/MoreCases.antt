@@ -241,6 +241,22 @@ more-cases =
     Event.results (return 0 7 ∷ []) ⇒ Answer.done ∷
     Event.resume ⇒ Answer.stalled ∷
     []) ∷
+    -- main, whose gather has failed, ends while task 1 stands in the queue: nobody is left there (eager is yes)
+    answered (
+    Event.coroutine 10 ⇒ Answer.made 0 ∷
+    Event.call ⇒ Answer.called 0 ∷
+    Event.call ⇒ Answer.called 1 ∷
+    pending 0 ⇒ Answer.made 1 ∷
+    pending 1 ⇒ Answer.made 2 ∷
+    Event.gather (0 ∷ 2 ∷ []) ⇒ Answer.made 3 ∷
+    Event.await 3 ⇒ Answer.awaited (runs 1 (start 0 10)) 1 ∷
+    Event.await 1 ⇒ Answer.awaited (waits (0 ∷ 1 ∷ [])) 0 ∷
+    Event.results (error 1 9 ∷ return 0 5 ∷ []) ⇒ Answer.done ∷
+    Event.resume ⇒ Answer.control (runs 0 (raises (Error.Host 9))) ∷
+    Event.eager ⇒ Answer.is-eager false ∷
+    Event.complete (plain 1) ⇒ Answer.finished (plain 1) ∷
+    Event.eager ⇒ Answer.is-eager true ∷
+    []) ∷
     -- a wait with no call: the cancelled task 2 leaves its place open, task 1 ends, and nothing is ready or pending; resume is stalled
     answered (
     Event.coroutine 10 ⇒ Answer.made 0 ∷
