@@ -66,7 +66,7 @@ sized-commits = record {
   spawns = λ s c g l z. sized-spawn-as s _ c g z;
 }
 
-sized-closed : Closed Sized
+pub sized-closed : Closed Sized
 sized-closed = record {
   sized = λ s z. z;
   row = λ s o x l q z. sized-put-object s o x z;

@@ -114,7 +114,7 @@ state-next : (s : Store) (t : ℕ) (x : TaskState) → header (set-state s t x) 
 unfolding set-state put-task header
 state-next s t x = refl
 
-moment-next : (s : Store) (m : Moment) → Sized s → MomentFits m → header (set-moment s m) .next ≡ header s .next
+pub moment-next : (s : Store) (m : Moment) → Sized s → MomentFits m → header (set-moment s m) .next ≡ header s .next
 unfolding set-moment
 moment-next s m z k =
     let f : HeaderFits (header s) = header-fits s in

@@ -45,7 +45,7 @@ is-queued s v = is-in v (entries (s .queue))
 
 -- What an accepted cancel answers and does to the queue: the answer is how many of the removed tasks stood in the queue before, and those of the queue that
 -- still live stand there in their former order, and nobody else.
-pub record CancelCounts (s : Store) (x : Step) : Type 0 where
+pub record CancelLeaves (s : Store) (x : Step) : Type 0 where
   pub answer : x .answer ≡ Answer.cancelled (count (λ v. is-queued s v && removed-between s (x .store) v) task-limit)
   pub order : entries (x .store .queue) ≡ keep (live (x .store)) (entries (s .queue))
 
@@ -95,17 +95,17 @@ module _ (s : Store) (t : ℕ) (w : SoundStore s) (r : refusal s (Event.cancel t
       by v true e = rw (queued-live s w v (stands-there (entries (s .queue)) v e))
       by v false e = refl
 
-  accept-counts : CancelCounts s (accept s (Event.cancel t))
+  accept-leaves : CancelLeaves s (accept s (Event.cancel t))
   unfolding accept
-  accept-counts = record { answer = ap Answer.cancelled counted; order = left }
+  accept-leaves = record { answer = ap Answer.cancelled counted; order = left }
 
 -- Whatever is lent: a cancel that no refusal meets.
-pub cancel-count : (s : Store) (t : ℕ) → Sized s → length (s .queue .ids) ≡ task-limit → refusal s (Event.cancel t) ≡ 0 → CancelCounts s (step s (Event.cancel t))
+pub cancel-count : (s : Store) (t : ℕ) → Sized s → length (s .queue .ids) ≡ task-limit → refusal s (Event.cancel t) ≡ 0 → CancelLeaves s (step s (Event.cancel t))
 cancel-count s t z ids r =
-    subst (CancelCounts s) (sym (accepted-step s (Event.cancel t) r)) (as-forgotten (accept-counts (forget s) t (forget-sound-store s w) (refusal-forget s (Event.cancel t) ∙ r)))
+    subst (CancelLeaves s) (sym (accepted-step s (Event.cancel t) r)) (as-forgotten (accept-leaves (forget s) t (forget-sound-store s w) (refusal-forget s (Event.cancel t) ∙ r)))
   where
     w : SoundStore s
     w = sound-store-of s z ids (refusal-sound s (Event.cancel t) r)
 
-    as-forgotten : {x : Step} → CancelCounts (forget s) x → CancelCounts s x
+    as-forgotten : {x : Step} → CancelLeaves (forget s) x → CancelLeaves s x
     as-forgotten c = record { answer = unfold is-queued removed-between live forget header task in (c .answer); order = unfold forget in (c .order) }

@@ -1,18 +1,20 @@
--- The session's end (document 02, No. 8): `cleanup` hands back an empty queue at once, and that is what is left where every live task is removed one by one,
--- each out of the queue too, as cleanup of scheduler.rs does it.
+-- The session's end (document 02, No. 8): `cleanup` hands back an empty queue at once, and that is what is left where every live task is removed one by one, each
+-- out of the queue too, in the order of their numbers. (The Rust cancels one after the other in no fixed order, each with the tasks below it.)
 use mathlib.Core.Path.{_≡_, refl, sym, ap, subst, _∙_}
 use mathlib.Core.Bool.{Bool, true, false, not, _&&_}
 use mathlib.Core.List.{List, []}
 use Prim.Native.Nat.{ℕ, zero, suc, _+_, _-_, _≤_, _<_}
 use native.Mathlib.Nat.{not-suc-le-zero}
 use native.Mathlib.Omega.{arith}
-use native.Mathlib.Decide.{ℕ-discrete}
+use native.Mathlib.Decide.{ℕ-discrete, decLt}
 use lib.Dec.{ltb}
 use lib.ListN.{length}
+use borrow.Author.Tests.{le-ltb}
 use Rattle.asyncio.specs.declared.Task.{Task}
+use Rattle.asyncio.specs.declared.Moment.{Moment}
 use Rattle.asyncio.specs.Limits.{task-limit}
 use Rattle.asyncio.specs.States.{pick, is-live}
-use Rattle.rows.specs.Tables.{task-at}
+use Rattle.rows.specs.Tables.{task-at, header-at}
 use Rattle.queue.specs.Queue.{entries, empty-queue, occurrences}
 use Rattle.queue.specs.QueueLaws.{length-entries, entries-empty}
 use Rattle.machine.specs.Tests.{count, is-in}
@@ -24,9 +26,10 @@ use Rattle.machine_laws.specs.CountLaws.{count-same}
 use Rattle.machine_laws.specs.StoreLaws.{header-fits}
 use Rattle.machine_theorems.specs.Soundness.ReadyTasks.{Queued}
 use Rattle.machine_theorems.specs.Soundness.Stores.{SoundStore}
+use Rattle.machine_sessions.specs.Queue.Tracked.{moment-next}
 use Rattle.machine_sessions.specs.Queue.Following.{stands-there}
 use Rattle.machine_sessions.specs.Removals.Keep.{keep-all, keep-none, keep-count}
-use Rattle.machine_sessions.specs.Removals.Left.{QueueLeft, cancel-other, cancel-dead, sound-queue, same-left, one-left}
+use Rattle.machine_sessions.specs.Removals.Left.{QueueLeft, removed-other, removed-dead, sound-queue, same-left, one-left}
 use Rattle.machine_sessions.specs.Removals.Cancels.{is-queued, removed-between, queued-live}
 
 -- ---- the claim
@@ -40,12 +43,14 @@ remove-each s t (suc k) = remove-each (pick (is-live (task s t .state)) (cancel-
 abbrev pub removed-each : Store → Store
 removed-each s = remove-each s 0 (header s .next)
 
--- The same tasks go in the same order, the queue that is left has the same entries, none, and as many entries are lost as removed tasks stood in the queue.
-pub record CleanupCounts (s : Store) : Type 0 where
+-- Nobody lives, and nobody stands in the queue. Removed one by one the same tasks go in the same order, and the queue has the same entries. As many entries are
+-- lost as removed tasks stood in the queue.
+pub record CleanupLeaves (s : Store) : Type 0 where
+  pub nobody : (v : ℕ) → live (cleanup s) v ≡ false
+  pub none : entries (cleanup s .queue) ≡ []
   pub tasks : removed-each s .tasks ≡ cleanup s .tasks
   pub log : removed-each s .log ≡ cleanup s .log
   pub order : entries (removed-each s .queue) ≡ entries (cleanup s .queue)
-  pub lost-each : entries-lost s (removed-each s) ≡ entries-lost s (cleanup s)
   pub lost : entries-lost s (cleanup s) ≡ count (λ v. is-queued s v && removed-between s (cleanup s) v) task-limit
 
 -- ---- one by one
@@ -65,10 +70,16 @@ same-tasks (suc k) s u t e l = by (is-live (task s t .state)) (unfold task in (a
         (unfold cancel-one add-log remove-task remove-from-ready-queue put-queue put-task in (rw l)))
     by false q go = rw q (go s u e l)
 
--- an empty queue has lost all
-lost-all : (s u : Store) → u .queue .len ≡ 0 → entries-lost s u ≡ s .queue .len
-unfolding entries-lost
-lost-all s u e = omega (arith, e)
+-- objects and places stay
+same-rest : (k : ℕ) (s : Store) (t : ℕ) → (remove-from s t k .objects ≡ s .objects) × (remove-from s t k .places ≡ s .places)
+unfolding remove-from
+same-rest zero s t = (refl, refl)
+same-rest (suc k) s t = by (is-live (task s t .state)) (λ x. same-rest k x (t + 1))
+  where
+    by : (b : Bool) → ((x : Store) → (remove-from x (t + 1) k .objects ≡ x .objects) × (remove-from x (t + 1) k .places ≡ x .places))
+        → (remove-from (pick b (add-log (put-task s t absent) (removed t)) s) (t + 1) k .objects ≡ s .objects) × (remove-from (pick b (add-log (put-task s t absent) (removed t)) s) (t + 1) k .places ≡ s .places)
+    by true go = let r = go (add-log (put-task s t absent) (removed t)) in (unfold add-log put-task in (r .0), unfold add-log put-task in (r .1))
+    by false go = go s
 
 -- nobody below n lives
 abbrev DeadBelow : ℕ → Store → Type 0
@@ -87,8 +98,8 @@ module _ (s : Store) (w : SoundStore s) where
       gone e v l = at (ℕ-discrete v t)
         where
           at : Dec (v ≡ t) → is-live (task (cancel-one u t) v .state) ≡ false
-          at (yes y) = subst (λ (m : ℕ). is-live (task (cancel-one u t) m .state) ≡ false) (sym y) (cancel-dead u t (q .sized) e)
-          at (no ne) = ap (λ (r : Task). is-live (r .state)) (cancel-other u t v ne) ∙ d v (omega arith)
+          at (yes y) = subst (λ (m : ℕ). is-live (task (cancel-one u t) m .state) ≡ false) (sym y) (removed-dead u t (q .sized) e)
+          at (no ne) = ap (λ (r : Task). is-live (r .state)) (removed-other u t v ne) ∙ d v (omega arith)
 
       stays : is-live (task u t .state) ≡ false → DeadBelow (t + 1) u
       stays e v l = at (ℕ-discrete v t)
@@ -121,19 +132,42 @@ module _ (s : Store) (w : SoundStore s) where
   queue-is : cleanup s .queue ≡ empty-queue
   queue-is = unfold cleanup set-moment put-header put-queue in refl
 
-  -- who stood in the queue lives no more
-  ended : (v : ℕ) → 1 ≤ occurrences (entries (s .queue)) v → live (cleanup s) v ≡ false
-  ended v o = by (ltb v (header (cleanup s) .next)) refl
+  -- nobody lives
+  next-is : header (cleanup s) .next ≡ header s .next
+  unfolding header
+  next-is = unfold cleanup in (moment-next u Moment.Ended sized tt ∙ ap (λ (os : List ℕ). header-at os .next) (rest .0))
     where
-      row : is-live (task (cleanup s) v .state) ≡ false
-      row = unfold task in (subst (λ (ts : List ℕ). is-live (task-at ts v .state) ≡ false) tasks-are (unfold task in (dead v (sound-queue s w .ready v o .0))))
+      u : Store
+      u = put-queue (remove-from s 0 (header s .next)) empty-queue
 
-      by : (b : Bool) → ltb v (header (cleanup s) .next) ≡ b → live (cleanup s) v ≡ false
-      by true e = unfold live in (rw e row)
-      by false e = unfold live in (rw e)
+      rest : (u .objects ≡ s .objects) × (u .places ≡ s .places)
+      rest = unfold put-queue in (same-rest (header s .next) s 0)
+
+      sized : Sized u
+      sized =
+          record {
+            tasks-sized = unfold put-queue in (ap length (sym (same .0)) ∙ all-left .0 .sized .tasks-sized);
+            objects-sized = ap length (rest .0) ∙ w .memory .sized .objects-sized;
+            places-sized = ap length (rest .1) ∙ w .memory .sized .places-sized;
+          }
+
+  ended : (v : ℕ) → live (cleanup s) v ≡ false
+  ended v = by (decLt v (header s .next))
+    where
+      row : v < header s .next → is-live (task (cleanup s) v .state) ≡ false
+      row l = unfold task in (subst (λ (ts : List ℕ). is-live (task-at ts v .state) ≡ false) tasks-are (unfold task in (dead v l)))
+
+      inside : (b : Bool) → v < header s .next → pick b (is-live (task (cleanup s) v .state)) false ≡ false
+      inside true l = row l
+      inside false l = refl
+
+      by : Dec (v < header s .next) → live (cleanup s) v ≡ false
+      by (yes l) = unfold live in (inside (ltb v (header (cleanup s) .next)) l)
+      by (no nl) = unfold live in (rw (next-is, le-ltb v (header s .next) (omega (arith, nl))))
 
   all-lost : entries-lost s (cleanup s) ≡ s .queue .len
-  all-lost = lost-all s (cleanup s) (ap (λ q. q .len) queue-is ∙ (unfold empty-queue in refl))
+  unfolding entries-lost empty-queue
+  all-lost = rw queue-is (omega arith)
 
   counted : entries-lost s (cleanup s) ≡ count (λ v. is-queued s v && removed-between s (cleanup s) v) task-limit
   unfolding is-queued removed-between
@@ -145,21 +179,17 @@ module _ (s : Store) (w : SoundStore s) where
       ∙ count-same _ _ task-limit (λ v l. by v (is-in v (entries (s .queue))) refl)
     where
       by : (v : ℕ) (b : Bool) → is-in v (entries (s .queue)) ≡ b → (b && true) ≡ (b && (live s v && not (live (cleanup s) v)))
-      by v true e = let o = stands-there (entries (s .queue)) v e in rw (queued-live s w v o, ended v o)
+      by v true e = let o = stands-there (entries (s .queue)) v e in rw (queued-live s w v o, ended v)
       by v false e = refl
 
-  lost-alike : entries-lost s (removed-each s) ≡ entries-lost s (cleanup s)
-  lost-alike =
-      let a : length (entries (removed-each s .queue)) ≡ removed-each s .queue .len = length-entries (removed-each s .queue) (all-left .0 .ids) (all-left .0 .len) in
-      lost-all s (removed-each s) (sym a ∙ ap length none-left) ∙ sym all-lost
-
 -- Of every sound store, a lent one too.
-pub cleanup-count : (s : Store) → SoundStore s → CleanupCounts s
+pub cleanup-count : (s : Store) → SoundStore s → CleanupLeaves s
 cleanup-count s w =
     record {
+      nobody = ended s w;
+      none = ap entries (queue-is s w) ∙ entries-empty;
       tasks = tasks-are s w;
       log = unfold cleanup set-moment put-header put-queue in (same s w .1);
       order = none-left s w ∙ sym (ap entries (queue-is s w) ∙ entries-empty);
-      lost-each = lost-alike s w;
       lost = counted s w;
     }

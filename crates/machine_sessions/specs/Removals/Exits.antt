@@ -1,5 +1,5 @@
 -- A task's end (document 02, No. 8): the task that ends stood nowhere in the ready queue; the waiter that it woke was put at the back, and is taken out there to
--- run ahead of the queue. So the queue that goes on has the entries that it had before the event.
+-- run ahead of the queue, which then has the entries that it had before the event.
 use mathlib.Core.Path.{_≡_, refl, sym, ap, subst, _∙_}
 use mathlib.Core.Bool.{Bool, true, false, true≢false}
 use mathlib.Core.List.{List, []}
@@ -16,25 +16,32 @@ use Rattle.asyncio.specs.declared.Task.{Task}
 use Rattle.asyncio.specs.declared.Moment.{Moment}
 use Rattle.asyncio.specs.Limits.{task-limit}
 use Rattle.asyncio.specs.Numbers.{task-id}
-use Rattle.asyncio.specs.States.{is-ready, is-blocked, is-running}
-use Rattle.rows.specs.Tables.{task-at}
+use Rattle.asyncio.specs.States.{is-ready, is-blocked, is-running, is-unstarted}
+use Rattle.asyncio.specs.Layout.{to-task, state-words, to-state}
+use Rattle.rows.specs.Tables.{task-codec, task-start, task-at, task-put}
+use Rattle.rows.specs.RowLaws.{row-put-at}
 use Rattle.queue.specs.declared.ReadyQueue.{ReadyQueue}
 use Rattle.queue.specs.declared.Position.{Position}
 use Rattle.queue.specs.Queue.{entries, occurrences, push-back, remove, stood-at}
 use Rattle.queue.specs.QueueLaws.{push-back-len, push-back-length, occurrences-push}
 use Rattle.queue.specs.RemovalLaws.{removed-none, absent-nowhere, pushed-last, pushed-removed}
-use Rattle.machine.specs.Store.{Store, task, object, header, put-task, put-object, put-queue, add-log, absent, exited, view}
+use Rattle.machine.specs.Store.{Store, task, object, header, put-task, put-object, put-queue, put-header, add-log, restate, set-state, set-moment, absent, exited, view}
 use Rattle.machine.specs.Scheduler.{remove-from-ready-queue, remove-task}
 use Rattle.machine.specs.Delivery.{Delivery, deliver-awaiter-success, deliver-awaiter-failure}
 use Rattle.machine.specs.Sound.{runs-now}
-use Rattle.machine.specs.Events.{Switched, completed, activate, resume-after-task-exit, handle-task-completion, handle-task-failure}
+use Rattle.machine.specs.Events.{Switched, completed, run, activate-state, activate, resume-after-task-exit, handle-task-completion, handle-task-failure}
 use Rattle.machine_laws.specs.Views.{Sized}
 use Rattle.machine_laws.specs.StoreLaws.{header-fits, task-fits, task-put-other, sized-put-task, sized-put-object, sized-put-queue, sized-add-log}
+use Rattle.machine_laws.specs.CycleLaws.{activate-once}
+use Rattle.machine_laws.specs.SizedLaws.{sized-closed}
+use Rattle.machine_laws.specs.Walk.{success-kept, failure-kept}
 use Rattle.machine_laws.specs.DeliveryLaws.{absurd-some}
+use Rattle.machine_theorems.specs.Soundness.RowFacts.{ready-live}
 use Rattle.machine_theorems.specs.Soundness.ReadyTasks.{Queued, not-queued}
 use Rattle.machine_theorems.specs.Soundness.Stores.{SoundStore}
 use Rattle.machine_sessions.specs.Queue.Tracked.{blocked-put-task}
 use Rattle.machine_sessions.specs.Stall.Room.{room-for}
+use Rattle.machine_sessions.specs.Stall.Standing.{blocked-unready, ready-put-task}
 use Rattle.machine_sessions.specs.Stall.Effects.{SameTasks, WokenBy, Effect, nobody, wakes, success-effect, failure-effect}
 use Rattle.machine_sessions.specs.Removals.Left.{sound-queue}
 
@@ -51,12 +58,12 @@ failure-left s t e =
     let d : Delivery = deliver-awaiter-failure s (task s t .awaiter) e in
     record { store = add-log (remove-task (d .store) t) (exited t); woken = d .woken }
 
--- The end of task t in s leaves d. The task stood nowhere in the queue; the waiter that it woke, if any, stands at the back; taken out of there, or where none
--- was woken, the queue is as it was.
+-- The end of task t in s leaves d. The task stood nowhere in the queue; the waiter that it woke, if any, stands at the back, and when it runs the queue has the
+-- entries that it had; where none was woken the queue is as it was, before the next task is taken from it.
 pub record ExitLeaves (s : Store) (t : ℕ) (d : Delivery) : Type 0 where
   pub nowhere : stood-at (s .queue) t ≡ Position.Nowhere
   pub at-back : (w : ℕ) → d .woken ≡ some w → stood-at (d .store .queue) w ≡ Position.At (s .queue .len)
-  pub goes-on : (w : ℕ) → d .woken ≡ some w → entries (remove (d .store .queue) w) ≡ entries (s .queue)
+  pub runs-ahead : (w : ℕ) → d .woken ≡ some w → entries (resume-after-task-exit activate d .store .queue) ≡ entries (s .queue)
   pub unwoken : d .woken ≡ none → d .store .queue ≡ s .queue
 
 -- these are what the machine goes on with
@@ -68,6 +75,56 @@ pub failure-goes-on : (s : Store) (t : ℕ) (e : Error) → handle-task-failure 
 unfolding handle-task-failure failure-left
 failure-goes-on s t e = refl
 
+-- ---- the waiter runs
+
+unstarted-back : (x : TaskState) → is-unstarted (to-state (state-words x .0) (state-words x .1) (state-words x .2)) ≡ is-unstarted x
+unstarted-back TaskState.Absent = refl
+unstarted-back TaskState.Unstarted = refl
+unstarted-back TaskState.Running = refl
+unstarted-back (TaskState.Woken v) = refl
+unstarted-back (TaskState.Raised e) = refl
+unstarted-back (TaskState.Blocked o) = refl
+
+unstarted-put-task : (s : Store) (t : ℕ) (r : Task) → Sized s → t < task-limit → is-unstarted (task (put-task s t r) t .state) ≡ is-unstarted (r .state)
+unfolding task put-task task-at task-put
+unstarted-put-task s t r z l =
+    ap (λ (x : List ℕ). is-unstarted (to-task x .state)) (row-put-at task-codec (s .tasks) (task-start t) r (omega (arith, z .tasks-sized)))
+    ∙ unstarted-back (r .state)
+
+-- a task that has begun runs on, and leaves the queue
+runs-on : (u : Store) (w : ℕ) → Sized u → w < task-limit → is-ready (task u w .state) ≡ true → is-unstarted (task u w .state) ≡ false → activate u w .store .queue ≡ u .queue
+runs-on u w z l r n = ap (λ (x : Switched). x .store .queue) (activate-once u w z l (ready-live (task u w .state) r)) ∙ by (task u w .state) r n
+  where
+    by : (x : TaskState) → is-ready x ≡ true → is-unstarted x ≡ false → activate-state activate u w x .store .queue ≡ u .queue
+    by TaskState.Absent a b = absurd (true≢false (sym a))
+    by TaskState.Unstarted a b = absurd (true≢false b)
+    by TaskState.Running a b = absurd (true≢false (sym a))
+    by (TaskState.Woken v) a b = unfold activate-state run set-moment put-header set-state put-task in refl
+    by (TaskState.Raised e) a b = unfold activate-state run set-moment put-header set-state put-task in refl
+    by (TaskState.Blocked o) a b = absurd (true≢false (sym a))
+
+exit-resumes : (d : Delivery) (w : ℕ) → d .woken ≡ some w → resume-after-task-exit activate d ≡ activate (remove-from-ready-queue (d .store) w) w
+unfolding resume-after-task-exit
+exit-resumes d w e = rw e
+
+-- u has the row of w as it was put into y
+waiter-runs : (d : Delivery) (y : Store) (w : ℕ) (x : TaskState) → d .woken ≡ some w → Sized (d .store) → Sized y → w < task-limit → is-ready x ≡ true → is-unstarted x ≡ false
+    → task (d .store) w ≡ task (put-task y w (restate (task y w) x)) w → resume-after-task-exit activate d .store .queue ≡ remove (d .store .queue) w
+waiter-runs d y w x e z zy l r n row =
+    ap (λ (k : Switched). k .store .queue) (exit-resumes d w e)
+    ∙ runs-on (remove-from-ready-queue (d .store) w) w (unfold remove-from-ready-queue in (sized-put-queue _ _ z)) l
+    (ap (λ (k : Task). is-ready (k .state)) rows ∙ (ready-put-task y w (restate (task y w) x) zy l ∙ (unfold restate in r)))
+    (ap (λ (k : Task). is-unstarted (k .state)) rows ∙ (unstarted-put-task y w (restate (task y w) x) zy l ∙ (unfold restate in n)))
+    ∙ queue-is
+  where
+    rows : task (remove-from-ready-queue (d .store) w) w ≡ task (put-task y w (restate (task y w) x)) w
+    rows =
+        let same : task (remove-from-ready-queue (d .store) w) w ≡ task (d .store) w = unfold remove-from-ready-queue put-queue task in refl in
+        same ∙ row
+
+    queue-is : remove-from-ready-queue (d .store) w .queue ≡ remove (d .store .queue) w
+    queue-is = unfold remove-from-ready-queue put-queue in refl
+
 -- ---- the queue
 
 -- nobody of the queue is blocked, and t does not stand there
@@ -77,14 +134,6 @@ record Runs (s : Store) (t : ℕ) : Type 0 where
   apart : occurrences (entries (s .queue)) t ≡ 0
   free : is-blocked (task s t .state) ≡ false
   room : (w : ℕ) → w < task-limit → is-blocked (task s w .state) ≡ true → (occurrences (entries (s .queue)) w ≡ 0) × (s .queue .len < task-limit)
-
-blocked-not-ready : (x : TaskState) → is-blocked x ≡ true → is-ready x ≡ false
-blocked-not-ready TaskState.Absent e = absurd (true≢false (sym e))
-blocked-not-ready TaskState.Unstarted e = absurd (true≢false (sym e))
-blocked-not-ready TaskState.Running e = absurd (true≢false (sym e))
-blocked-not-ready (TaskState.Woken v) e = absurd (true≢false (sym e))
-blocked-not-ready (TaskState.Raised x) e = absurd (true≢false (sym e))
-blocked-not-ready (TaskState.Blocked o) e = refl
 
 running-free : (x : TaskState) → is-running x ≡ true → (is-ready x ≡ false) × (is-blocked x ≡ false)
 running-free TaskState.Absent e = absurd (true≢false (sym e))
@@ -102,7 +151,7 @@ runs-of s t w r =
       len = w .memory .words-right .queue-short;
       apart = not-queued t (running-free (task s t .state) r .0) q;
       free = running-free (task s t .state) r .1;
-      room = λ v l b. let z = not-queued v (blocked-not-ready (task s v .state) b) q in (z, room-for (s .queue) v (w .memory .ids) (w .memory .words-right .queue-short) (header-fits s .next-fits) q l z);
+      room = λ v l b. let z = not-queued v (blocked-unready (task s v .state) b) q in (z, room-for (s .queue) v (w .memory .ids) (w .memory .words-right .queue-short) (header-fits s .next-fits) q l z);
     }
   where
     q : Queued (header s .next) (task s) (entries (s .queue))
@@ -164,15 +213,21 @@ module _ (s : Store) (t : ℕ) (v : Value) (z : Sized s) (low : t < task-limit) 
       d : Delivery
       d = deliver-awaiter-success left (task s t .awaiter) v
 
+      d-sized : Sized (d .store)
+      d-sized = success-kept Sized sized-closed left (task s t .awaiter) v (task-fits s t .awaiter-fits) left-sized
+
       by : Effect left d → ExitLeaves s t d
-      by (nobody e n) = record { nowhere = nowhere-now s t k; at-back = λ w q. absurd-some (sym n ∙ q); goes-on = λ w q. absurd-some (sym n ∙ q); unwoken = λ q. e .queue ∙ left-queue }
+      by (nobody e n) = record { nowhere = nowhere-now s t k; at-back = λ w q. absurd-some (sym n ∙ q); runs-ahead = λ w q. absurd-some (sym n ∙ q); unwoken = λ q. e .queue ∙ left-queue }
       by (wakes w x e n) =
           let b = waiter-blocked w (unfold task in (e .was-blocked)) in
           let q : d .store .queue ≡ push-back (s .queue) w = e .queue ∙ ap (λ (r : ReadyQueue). push-back r w) left-queue in
           record {
             nowhere = nowhere-now s t k;
             at-back = λ u y. subst (λ (m : ℕ). stood-at (d .store .queue) m ≡ Position.At (s .queue .len)) (Option·some-injective w u (sym n ∙ y)) (rw q (back s t k w (e .low) b));
-            goes-on = λ u y. subst (λ (m : ℕ). entries (remove (d .store .queue) m) ≡ entries (s .queue)) (Option·some-injective w u (sym n ∙ y)) (rw q (again s t k w (e .low) b));
+            runs-ahead = λ u y.
+                ap entries (waiter-runs d left w x n d-sized left-sized (e .low) (e .is-woken) (e .has-begun) (unfold task put-task in (ap (λ (l : List ℕ). task-at l w) (e .tasks)))
+                ∙ ap (λ (r : ReadyQueue). remove r w) q)
+                ∙ again s t k w (e .low) b;
             unwoken = λ y. absurd-some (sym y ∙ n);
           }
 
@@ -197,23 +252,37 @@ module _ (s : Store) (t : ℕ) (e : Error) (z : Sized s) (k : Runs s t) where
           record {
             nowhere = nowhere-now s t k;
             at-back = λ w q. absurd-some (sym n ∙ q);
-            goes-on = λ w q. absurd-some (sym n ∙ q);
+            runs-ahead = λ w q. absurd-some (sym n ∙ q);
             unwoken = λ q. gone-queue ∙ (ap (λ (r : ReadyQueue). remove r t) (f .queue) ∙ same-queue s t k);
           }
       by (wakes w x f n) =
           record {
             nowhere = nowhere-now s t k;
             at-back = λ u y. subst (λ (m : ℕ). stood-at (gone .queue) m ≡ Position.At (s .queue .len)) (Option·some-injective w u (sym n ∙ y)) (rw q (back s t k w (f .low) b));
-            goes-on = λ u y. subst (λ (m : ℕ). entries (remove (gone .queue) m) ≡ entries (s .queue)) (Option·some-injective w u (sym n ∙ y)) (rw q (again s t k w (f .low) b));
+            runs-ahead = λ u y.
+                ap entries (waiter-runs (record { store = gone; woken = sent .woken }) s w x n gone-sized z (f .low) (f .is-woken) (f .has-begun) row ∙ ap (λ (r : ReadyQueue). remove r w) q)
+                ∙ again s t k w (f .low) b;
             unwoken = λ y. absurd-some (sym y ∙ n);
           }
         where
           b : is-blocked (task s w .state) ≡ true
           b = unfold task in (f .was-blocked)
 
+          gone-sized : Sized gone
+          gone-sized =
+              unfold remove-task remove-from-ready-queue in
+              (sized-add-log _ (exited t) (sized-put-queue _ _ (sized-put-task _ t absent (failure-kept Sized sized-closed s (task s t .awaiter) e (task-fits s t .awaiter-fits) z))))
+
           -- the waiter is another task
           other : w ≡ t → ⊥
           other y = true≢false (sym b ∙ (ap (λ (m : ℕ). is-blocked (task s m .state)) y ∙ k .free))
+
+          -- its row is as the delivery left it
+          row : task gone w ≡ task (put-task s w (restate (task s w) x)) w
+          row =
+              let a : task gone w ≡ task (put-task (sent .store) t absent) w = unfold add-log remove-task remove-from-ready-queue put-queue task in refl in
+              let c : task (sent .store) w ≡ task (put-task s w (restate (task s w) x)) w = unfold task put-task in (ap (λ (l : List ℕ). task-at l w) (f .tasks)) in
+              a ∙ (task-put-other (sent .store) t w absent other ∙ c)
 
           room : (occurrences (entries (s .queue)) w ≡ 0) × (s .queue .len < task-limit)
           room = k .room w (f .low) b

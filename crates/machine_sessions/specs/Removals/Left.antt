@@ -10,8 +10,9 @@ use Rattle.asyncio.specs.declared.Task.{Task}
 use Rattle.asyncio.specs.Limits.{task-limit}
 use Rattle.asyncio.specs.States.{is-live, is-ready}
 use Rattle.rows.specs.Tables.{task-at}
-use Rattle.queue.specs.Queue.{entries, occurrences, retain, Distinct, remove}
-use Rattle.queue.specs.QueueLaws.{entries-remove-retain, remove-len, remove-length}
+use Rattle.queue.specs.Queue.{entries, occurrences, retain, Distinct, remove, stood-at}
+use Rattle.queue.specs.QueueLaws.{remove-len, remove-length}
+use Rattle.queue.specs.RemovalLaws.{removal, removal-retains}
 use Rattle.machine.specs.Store.{Store, view, task, header, put-task, put-queue, add-log, absent, removed}
 use Rattle.machine.specs.Scheduler.{remove-from-ready-queue, remove-task, cancel-one}
 use Rattle.machine_laws.specs.Views.{Sized}
@@ -43,16 +44,16 @@ live-in-table s t z e = by (decLt t task-limit)
 -- ---- one task is removed
 
 module _ (u : Store) (t : ℕ) where
-  cancel-rows : (v : ℕ) → task (cancel-one u t) v ≡ task (put-task u t absent) v
-  cancel-rows v = unfold cancel-one add-log remove-task remove-from-ready-queue put-queue task in refl
+  removed-rows : (v : ℕ) → task (cancel-one u t) v ≡ task (put-task u t absent) v
+  removed-rows v = unfold cancel-one add-log remove-task remove-from-ready-queue put-queue task in refl
 
   -- the others are as they were
-  pub cancel-other : (v : ℕ) → (v ≡ t → ⊥) → task (cancel-one u t) v ≡ task u v
-  cancel-other v ne = cancel-rows v ∙ task-put-other u t v absent ne
+  pub removed-other : (v : ℕ) → (v ≡ t → ⊥) → task (cancel-one u t) v ≡ task u v
+  removed-other v ne = removed-rows v ∙ task-put-other u t v absent ne
 
   -- it lives no more
-  pub cancel-dead : Sized u → is-live (task u t .state) ≡ true → is-live (task (cancel-one u t) t .state) ≡ false
-  cancel-dead z lv = ap (λ (r : Task). is-live (r .state)) (cancel-rows t) ∙ (live-put-task u t absent z (live-in-table u t z lv) ∙ (unfold absent in refl))
+  pub removed-dead : Sized u → is-live (task u t .state) ≡ true → is-live (task (cancel-one u t) t .state) ≡ false
+  removed-dead z lv = ap (λ (r : Task). is-live (r .state)) (removed-rows t) ∙ (live-put-task u t absent z (live-in-table u t z lv) ∙ (unfold absent in refl))
 
 -- what stands in the queue of a sound store
 pub sound-queue : (s : Store) → SoundStore s → Queued (header s .next) (task s) (entries (s .queue))
@@ -78,10 +79,11 @@ module _ (s : Store) (w : SoundStore s) where
         len = subst (λ q. q .len ≤ task-limit) (sym queue-is) (remove-len (u .queue) t (k .len));
         order =
             ap entries queue-is
-            ∙ entries-remove-retain (u .queue) t (k .ids) (k .len) (subst Distinct (sym (k .order)) (keep-distinct _ (entries (s .queue)) (sound-queue s w .distinct)))
+            ∙ removal-retains t (entries (u .queue)) (stood-at (u .queue) t) _ (subst Distinct (sym (k .order)) (keep-distinct _ (entries (s .queue)) (sound-queue s w .distinct)))
+            (removal (u .queue) t (k .ids) (k .len))
             ∙ ap (λ (l : List ℕ). retain l t) (k .order)
-            ∙ sym (keep-less (λ v. is-live (task u v .state)) (λ v. is-live (task (cancel-one u t) v .state)) t (entries (s .queue)) (cancel-dead u t (k .sized) lv)
-            (λ v ne. ap (λ (r : Task). is-live (r .state)) (cancel-other u t v ne)));
+            ∙ sym (keep-less (λ v. is-live (task u v .state)) (λ v. is-live (task (cancel-one u t) v .state)) t (entries (s .queue)) (removed-dead u t (k .sized) lv)
+            (λ v ne. ap (λ (r : Task). is-live (r .state)) (removed-other u t v ne)));
       }
     where
       queue-is : cancel-one u t .queue ≡ remove (u .queue) t

@@ -121,9 +121,9 @@ module _ (x : Session) (f : Following x) (k : Waiting (x .history) (x .store)) (
       same : (v : ℕ) → (is-queued before v && removed-between before (step before (Event.cancel t) .store) v) ≡ (had-been-ready (x .history) v && not (lives (its-entry ∷ x .history) v))
       same v = rw (← p, removed-now v, ← queued-ready x f k waits v) (join (is-queued before v) (live before v) (not (live after-it v)))
 
-  pub cancel-counts : CountRight (x .history) its-entry
+  one-counts : CountRight (x .history) its-entry
   unfolding CountRight entry-of
-  cancel-counts says-so accepts = by (sends before e (f .whole .memory .sized))
+  one-counts says-so accepts = by (sends before e (f .whole .memory .sized))
     where
       refuses : (n : ℕ) → lent-any before e .answer ≡ Answer.refused n → ⊥
       refuses n q = true≢false (sym accepts ∙ (ap (λ (a : Answer). tells a .accepts) q ∙ (unfold tells in refl)))
@@ -144,7 +144,7 @@ send-counts x e f y k d = (by (a-cancel (e .event)), d)
   where
     by : ((t : ℕ) × (e .event ≡ Event.cancel t)) ⊎ (says (e .event) .cancels ≡ false)
         → CountRight (x .history) (entry-of (e .event) (lent-any (x .store) e .answer) (lent-any (x .store) e .store))
-    by (inl p) = cancel-counts x f k e (p .0) (p .1) y
+    by (inl p) = one-counts x f k e (p .0) (p .1) y
     by (inr p) = unfold CountRight entry-of in (λ says-so accepts. absurd (true≢false (sym says-so ∙ p)))
 
 sessions-count : (es : List Sent) (x : Session) → AllSentInRange es → Following x → Agrees (x .history) (x .store) → Waiting (x .history) (x .store) → CountsRight (x .history)
@@ -156,6 +156,6 @@ sessions-count (e ∷ es) x i f ag k d =
     sessions-count es (send x e) (i .1) y (send-agrees x e (i .0) f ag) (send-waiting x e (i .0) f ag k) (send-counts x e f y k d)
 
 -- Every session from its beginning: each accepted cancel of it is answered with the number of removed tasks that had been ready.
-pub cancels-count : CancelCounts
+pub sessions-count-cancels : CancelCounts
 unfolding session begun send-all AllSentInRange CountsRight
-cancels-count es i = sessions-count es _ i (session-follows [] tt) (session-agrees [] tt) (session-waits [] tt) tt
+sessions-count-cancels es i = sessions-count es _ i (session-follows [] tt) (session-agrees [] tt) (session-waits [] tt) tt

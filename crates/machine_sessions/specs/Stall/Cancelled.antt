@@ -35,12 +35,13 @@ use Rattle.machine_theorems.specs.Soundness.Stores.{SoundStore}
 use Rattle.machine_theorems.specs.Soundness.Preserved.{waiting}
 use Rattle.machine_sessions.specs.Queue.Tracked.{live-low}
 use Rattle.machine_sessions.specs.Removals.Keep.{keep-occurrences}
-use Rattle.machine_sessions.specs.Removals.Left.{QueueLeft, cancel-other, cancel-dead, same-left, one-left}
+use Rattle.machine_sessions.specs.Removals.Left.{QueueLeft, removed-other, removed-dead, same-left, one-left}
 use Rattle.machine_sessions.specs.Stall.Standing.{Stands}
 use Rattle.machine_sessions.specs.Stall.NoStall.{Source, by-external, by-gather, by-nobody, by-task, Roots, root, above, Sourced}
 use Rattle.machine_sessions.specs.Stall.TaskLog.{exits-by, used-coroutine, any-coroutine, Tasks}
 use Rattle.machine_sessions.specs.Stall.WaitingTasks.{AllStarted}
 
+-- u is s without some of its tasks
 pub record Removes (s u : Store) : Type 0 where
   -- those of the queue that are live stand there in their former order, and no others
   pub left : QueueLeft s u
@@ -75,12 +76,12 @@ module _ (s : Store) (sw : SoundStore s) where
       tells b v = unfold add-log remove-task remove-from-ready-queue put-queue put-task exits-by in refl
 
       rows-by : (v : ℕ) → Dec (v ≡ t) → (task w v ≡ task s v) ⊎ ((is-live (task w v .state) ≡ false) × (1 ≤ v))
-      rows-by v (yes d) = inr (subst (λ (m : ℕ). is-live (task w m .state) ≡ false) (sym d) (cancel-dead u t (k .left .sized) lv), subst (λ (m : ℕ). 1 ≤ m) (sym d) pos)
+      rows-by v (yes d) = inr (subst (λ (m : ℕ). is-live (task w m .state) ≡ false) (sym d) (removed-dead u t (k .left .sized) lv), subst (λ (m : ℕ). 1 ≤ m) (sym d) pos)
       rows-by v (no ne) = on (k .rows v)
         where
           on : (task u v ≡ task s v) ⊎ ((is-live (task u v .state) ≡ false) × (1 ≤ v)) → (task w v ≡ task s v) ⊎ ((is-live (task w v .state) ≡ false) × (1 ≤ v))
-          on (inl e) = inl (cancel-other u t v ne ∙ e)
-          on (inr e) = inr (ap (λ (r : Task). is-live (r .state)) (cancel-other u t v ne) ∙ e .0, e .1)
+          on (inl e) = inl (removed-other u t v ne ∙ e)
+          on (inr e) = inr (ap (λ (r : Task). is-live (r .state)) (removed-other u t v ne) ∙ e .0, e .1)
 
 -- what the table lets through: the session waits, and the task is live and not main
 pub record Cancellable (s : Store) (t : ℕ) : Type 0 where

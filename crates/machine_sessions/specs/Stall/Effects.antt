@@ -12,7 +12,7 @@ use Rattle.asyncio.specs.declared.Awaiter.{Awaiter}
 use Rattle.asyncio.specs.declared.Header.{Header}
 use Rattle.asyncio.specs.Ranges.{AwaiterFits}
 use Rattle.asyncio.specs.Limits.{object-limit, task-limit}
-use Rattle.asyncio.specs.States.{pick, is-ready, is-blocked}
+use Rattle.asyncio.specs.States.{pick, is-ready, is-blocked, is-unstarted}
 use Rattle.rows.specs.Tables.{task-at, task-put}
 use Rattle.queue.specs.Queue.{push-back}
 use Rattle.machine.specs.Store.{Store, task, object, header, put-object, put-places, add-log, restate, set-state, put-task, put-queue, reached}
@@ -34,6 +34,7 @@ pub record WokenBy (s u : Store) (t : ℕ) (x : TaskState) : Type 0 where
   pub low : t < task-limit
   pub was-blocked : is-blocked (task-at (s .tasks) t .state) ≡ true
   pub is-woken : is-ready x ≡ true
+  pub has-begun : is-unstarted x ≡ false
   pub tasks : u .tasks ≡ task-put (s .tasks) t (restate (task-at (s .tasks) t) x)
   pub queue : u .queue ≡ push-back (s .queue) t
   pub head : header u ≡ header s
@@ -53,14 +54,15 @@ effect-from s u d k (wakes t x e w) =
       low = e .low;
       was-blocked = subst (λ (l : List ℕ). is-blocked (task-at l t .state) ≡ true) (k .tasks) (e .was-blocked);
       is-woken = e .is-woken;
+      has-begun = e .has-begun;
       tasks = e .tasks ∙ ap (λ (l : List ℕ). task-put l t (restate (task-at l t) x)) (k .tasks);
       queue = e .queue ∙ ap (λ q. push-back q t) (k .queue);
       head = e .head ∙ k .head;
     }) w
 
-to-task-effect : (s : Store) (t : ℕ) (x : TaskState) → t < task-limit → is-ready x ≡ true → Effect s (deliver-to-task s t x)
+to-task-effect : (s : Store) (t : ℕ) (x : TaskState) → t < task-limit → is-ready x ≡ true → is-unstarted x ≡ false → Effect s (deliver-to-task s t x)
 unfolding deliver-to-task nobody-woken task
-to-task-effect s t x l r = by (is-blocked (task s t .state)) refl
+to-task-effect s t x l r n = by (is-blocked (task s t .state)) refl
   where
     by : (b : Bool) → is-blocked (task s t .state) ≡ b → Effect s (pick b (record { store = add-log (make-ready s t x) (reached t); woken = some t }) (nobody-woken s))
     by true q =
@@ -68,6 +70,7 @@ to-task-effect s t x l r = by (is-blocked (task s t .state)) refl
           low = l;
           was-blocked = unfold task in q;
           is-woken = r;
+          has-begun = n;
           tasks = unfold add-log make-ready push-ready put-queue set-state put-task task in refl;
           queue = unfold add-log make-ready push-ready put-queue set-state put-task in refl;
           head = unfold add-log make-ready push-ready put-queue set-state put-task header in refl;
@@ -107,7 +110,7 @@ module _ (go : Store → Awaiter → Value → Delivery) (h : (s : Store) (a : A
   send-value-effect : (s : Store) (a : Awaiter) (v : Value) → Sized s → AwaiterFits a → Effect s (send-value go s a v)
   unfolding send-value nobody-woken
   send-value-effect s Awaiter.Nobody v z f = nobody (same-refl s) refl
-  send-value-effect s (Awaiter.Task t) v z f = to-task-effect s (t .0) (TaskState.Woken v) f refl
+  send-value-effect s (Awaiter.Task t) v z f = to-task-effect s (t .0) (TaskState.Woken v) f refl refl
   send-value-effect s (Awaiter.GatherSlot g x) v z f =
       let r = resolve-sent s (g .0) (x .0) v z (f .0) in
       effect-from s _ _ (resolve-same s (g .0) (x .0) v) (climb-effect (λ y a. go y a (Value.List g)) _ _ (λ b e. h _ b (Value.List g) (r .same .sized) (r .fits b e)))
@@ -125,7 +128,7 @@ module _ (go : Store → Awaiter → Error → Delivery) (h : (s : Store) (a : A
   send-error-effect : (s : Store) (a : Awaiter) (e : Error) → Sized s → AwaiterFits a → Effect s (send-error go s a e)
   unfolding send-error nobody-woken
   send-error-effect s Awaiter.Nobody e z f = nobody (same-refl s) refl
-  send-error-effect s (Awaiter.Task t) e z f = to-task-effect s (t .0) (TaskState.Raised e) f refl
+  send-error-effect s (Awaiter.Task t) e z f = to-task-effect s (t .0) (TaskState.Raised e) f refl refl
   send-error-effect s (Awaiter.GatherSlot g x) e z f =
       let r = fail-sent s (g .0) e z (f .0) in
       effect-from s _ _ (fail-same s (g .0) e) (climb-effect (λ y a. go y a e) _ _ (λ b p. h _ b e (r .same .sized) (r .fits b p)))

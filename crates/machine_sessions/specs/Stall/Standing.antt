@@ -92,7 +92,7 @@ ready-put-task s t r z l =
     ap (λ (x : List ℕ). is-ready (to-task x .state)) (row-put-at task-codec (s .tasks) (task-start t) r (omega (arith, z .tasks-sized)))
     ∙ ready-back (r .state)
 
-blocked-unready : (x : TaskState) → is-blocked x ≡ true → is-ready x ≡ false
+pub blocked-unready : (x : TaskState) → is-blocked x ≡ true → is-ready x ≡ false
 blocked-unready TaskState.Absent e = absurd (true≢false (sym e))
 blocked-unready TaskState.Unstarted e = absurd (true≢false (sym e))
 blocked-unready TaskState.Running e = refl
