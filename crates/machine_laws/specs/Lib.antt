@@ -18,3 +18,4 @@ pub mod WokenLaws
 pub mod Walk
 pub mod WalkEvents
 pub mod SizedLaws
+pub mod RemovalCounts
