@@ -18,7 +18,7 @@ same-length c = search needs
 
 returns : tie.Need-returns
 unfolding remove-task remove-from-ready-queue put-task put-queue absent
-returns c = λ os ps l. rw (c .remove-lent .ensures, c .before .before .before .before .before .store-task .ensures, c .before .before .before .before .before .before .before .new .ensures)
+returns c = (λ os ps l. rw (c .remove-lent .ensures .0, c .before .before .before .before .before .store-task .ensures, c .before .before .before .before .before .before .before .new .ensures), c .remove-lent .ensures .1)
 
 pub remove-task-lent-spec : {M : Type 1} → statement M
 remove-task-lent-spec =
