@@ -1,9 +1,9 @@
 -- The ways through each event, in the shape of what the code knows there.
-use mathlib.Core.Path.{_≡_, refl, sym, ap, _∙_}
+use mathlib.Core.Path.{_≡_, refl, sym, ap, subst, _∙_}
 use mathlib.Core.Bool.{Bool, true, false, not, _||_, true≢false}
 use mathlib.Core.List.{List, [], _∷_}
 use mathlib.Core.Option.{Option, none, some}
-use Prim.Native.Nat.{ℕ, zero, suc, _+_, _/_, _≤_, _<_}
+use Prim.Native.Nat.{ℕ, zero, suc, _+_, _-_, _/_, _≤_, _<_}
 use native.Mathlib.Omega.{arith}
 use lib.Dec.{eqb, ltb, leb}
 use lib.ListN.{length}
@@ -32,7 +32,8 @@ use Rattle.machine.specs.Sound.{is-ended, value-known, option-known}
 use Rattle.machine.specs.Events as machine-events
 use Rattle.machine.specs.Events.{Awaited, Result, make-coroutine, make-pending, make-settled, make-gather, exec-get-awaitable, apply-future-results}
 use Rattle.machine.specs.Machine as machine
-use Rattle.machine.specs.Machine.{Event, Step, is-run, any-of, unmade, result-unknown, bad-result, full, no-number, in-running, in-waiting, in-both, first-refusal, refusals, accept, runner, answer-await, task-completes, task-fails, resume-with-resolved-futures}
+use Rattle.machine.specs.Machine.{Event, Step, is-run, any-of, unmade, result-unknown, bad-result, full, no-number, in-running, in-waiting, in-both, first-refusal, refusals, accept, entries-lost, runner, answer-await, task-completes, task-fails, resume-with-resolved-futures}
+use Rattle.machine_laws.specs.RemovalCounts.{cancel-shortens, cancel-loses-few}
 use Rattle.exec_switch.specs.Control.{awaited-of}
 use Rattle.exec_switch.specs.Answer.{stepped-of}
 use Rattle.exec_switch.specs.LogLaws.{same-step}
@@ -371,13 +372,28 @@ module _ (ts os ps : List ℕ) (q : ReadyQueue) (l : List LogEntry) {v : Header}
         pub cancel-main : t ≡ 0 → stepped-of (store-of ts os ps q (checked asked stop .store .log)) (Answer.Refused 9) ≡ checked asked stop
         cancel-main z = refused-logs asked stop (Answer.Refused 9) (refuses asked stop 8 (lives ∙ met 9 _ _ (eq-eqb t 0 z)))
 
-        pub cancel-goes : (t ≡ 0 → ⊥) → {ts′ os′ ps′ : List ℕ} {q′ : ReadyQueue}
-            → store-of ts′ os′ ps′ q′ (cancel-task asked t .log) ≡ cancel-task asked t
-            → stepped-of (store-of ts′ os′ ps′ q′ (checked asked stop .store .log)) Answer.Done ≡ checked asked stop
-        cancel-goes n r = same-step (accepts asked stop (lives ∙ unmet 9 _ _ (ne-eqb t 0 n) ∙ none-met) ∙ gives) Answer.Done (ap (λ (s : Store). record { store = s; answer = machine.Answer.done }) r)
+        -- the task goes: the answer says how many entries the queue q lost on the way to q′
+        pub cancel-goes : (t ≡ 0 → ⊥) → {ts′ os′ ps′ : List ℕ} {q′ : ReadyQueue} → store-of ts′ os′ ps′ q′ (cancel-task asked t .log) ≡ cancel-task asked t → {n : ℕ} → n ≡ q .len - q′ .len
+            → stepped-of (store-of ts′ os′ ps′ q′ (checked asked stop .store .log)) (Answer.Cancelled n) ≡ checked asked stop
+        cancel-goes z r {n} m = same-step (accepts asked stop (lives ∙ unmet 9 _ _ (ne-eqb t 0 z) ∙ none-met) ∙ gives) (Answer.Cancelled n) (rw m (ap answers r))
           where
-            gives : accept asked stop ≡ record { store = cancel-task asked t; answer = machine.Answer.done }
-            gives = unfold accept in refl
+            answers : Store → Step
+            answers s = record { store = s; answer = machine.Answer.cancelled (q .len - s .queue .len) }
+
+            gives : accept asked stop ≡ answers (cancel-task asked t)
+            gives = unfold accept entries-lost in refl
+
+-- ---- the queue after a cancel, in every store: q and q′ are what the code has before and after
+
+module _ (ts os ps : List ℕ) (q : ReadyQueue) (l : List LogEntry) (t : ℕ) {ts′ os′ ps′ : List ℕ} {q′ : ReadyQueue}
+    (r : store-of ts′ os′ ps′ q′ (cancel-task (store-of ts os ps q l) t .log) ≡ cancel-task (store-of ts os ps q l) t) where
+  -- it is not longer
+  pub cancel-not-longer : q′ .len ≤ q .len
+  cancel-not-longer = subst (λ (s : Store). s .queue .len ≤ q .len) (sym r) (cancel-shortens (store-of ts os ps q l) t)
+
+  -- by no more entries shorter than an array holds
+  pub cancel-lost-fits : q .len - q′ .len ≤ task-limit
+  cancel-lost-fits = subst (λ (s : Store). q .len - s .queue .len ≤ task-limit) (sym r) (cancel-loses-few (store-of ts os ps q l) t)
 
 -- ---- a task's number
 
