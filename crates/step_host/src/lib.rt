@@ -98,8 +98,8 @@ pub fn resume(tasks: &mut [u64], objects: &mut [u64], queue: ReadyQueue) -> Step
 }
 
 // The operator cancels task `t`: it goes, and with it the live tasks of the open items of the gather that it is blocked on, through nested gathers.
-// Cancelled, with the number of removed tasks that stood in the ready queue. Refused with 3 after the session's end, 4 while a task runs, 5 where `t` is not live, 9 where it is main. The objects and the places stay as
-// they were, refused or not: what a task that went awaited stays awaited.
+// Cancelled, with the number of removed tasks that stood in the ready queue. Refused with 3 after the session's end, 4 while a task runs, 5 where `t`
+// is not live, 9 where it is main. The objects and the places stay as they were, refused or not: what a task that went awaited stays awaited.
 pub fn cancel(
     tasks: &mut [u64],
     objects: &[u64],
@@ -137,10 +137,10 @@ pub fn cancel(
             }
             let before = queue.len;
             let q = cancel_task(tasks, objects, places, queue, TaskId::new(t));
-            let lost = before - q.len;
+            let lost = (before - q.len) as u16;
             Stepped {
                 queue: q,
-                answer: Answer::Cancelled(lost as u16),
+                answer: Answer::Cancelled(lost),
             }
         }
     }

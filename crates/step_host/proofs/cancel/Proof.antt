@@ -1,7 +1,8 @@
 use mathlib.Core.Path.{_≡_, refl, sym, ap, _∙_}
 use mathlib.Core.List.{[]}
+use native.Mathlib.Omega.{arith}
 use denote.Ref.{now}
-use Rattle.step_checks.specs.StepLaws.{cancel-ended, cancel-running, cancel-dead, cancel-main, cancel-goes, live-fits}
+use Rattle.step_checks.specs.StepLaws.{cancel-ended, cancel-running, cancel-dead, cancel-main, cancel-goes, cancel-not-longer, cancel-lost-fits, live-fits}
 use borrow.Author.Needs.{needs}
 use Rattle.step_host.proofs.cancel.Statement.{statement}
 use Rattle.step_host.proofs.cancel.Tie as tie
@@ -39,6 +40,12 @@ new-requires c κs = search needs
 cancel-task-requires : tie.Need-cancel-task-requires
 cancel-task-requires c κs = (c .before .before .before .before .before .before .before .before .before .before .before .before .pre .0, c .before .before .before .before .before .before .before .before .before .before .before .before .pre .1, c .before .before .before .before .before .before .before .before .before .before .before .before .pre .2, rw (c .new .ensures) (live-fits (now (c .before .before .before .before .before .before .before .before .before .before .before .before .args .tasks)) (now (c .before .before .before .before .before .before .before .before .before .before .before .before .args .objects)) (now (c .before .before .before .before .before .before .before .before .before .before .before .before .args .places)) (c .before .before .before .before .before .before .before .before .before .before .before .before .args .queue) [] (c .before .before .before .before .before .before .before .before .before .before .before .before .args .t) (c .before .before .before .before .not-live .ensures (now (c .before .before .before .before .before .before .before .before .before .before .before .before .args .places)) (c .before .before .before .before .before .before .before .before .before .before .before .before .args .queue) []) (c .before .before .before .if1 .left)))
 
+sub-lost : tie.Need-sub-lost
+sub-lost c = let a = c .before .before .before .before .before .before .before .before .before .before .before .before .before .before .before .before .args in cancel-not-longer (now (a .tasks)) (now (a .objects)) (now (a .places)) (a .queue) [] (a .t) (rw (c .before .before .before .before .new .ensures) at (c .before .before .before .cancel-task .ensures []))
+
+cast-lost : tie.Need-cast-lost
+cast-lost c = let a = c .before .before .before .before .before .before .before .before .before .before .before .before .before .before .before .before .args in omega (arith, cancel-lost-fits (now (a .tasks)) (now (a .objects)) (now (a .places)) (a .queue) [] (a .t) (rw (c .before .before .before .before .new .ensures) at (c .before .before .before .cancel-task .ensures [])))
+
 returns-3 : tie.Need-returns-3
 returns-3 c = λ l. cancel-ended (now (c .before .before .before .before .before .before .args .tasks)) (now (c .before .before .before .before .before .before .args .objects)) (now (c .before .before .before .before .before .before .args .places)) (c .before .before .before .before .before .before .args .queue) l (c .before .before .load-header .ensures) (c .before .before .before .before .before .before .args .t) (c .enum-told .given .1)
 
@@ -49,7 +56,7 @@ same-length-3 : tie.Need-same-length-3
 same-length-3 c = search needs
 
 returns-5 : tie.Need-returns-5
-returns-5 c = λ l. cancel-goes (now (c .before .before .before .before .before .before .before .before .before .before .before .before .before .before .before .args .tasks)) (now (c .before .before .before .before .before .before .before .before .before .before .before .before .before .before .before .args .objects)) (now (c .before .before .before .before .before .before .before .before .before .before .before .before .before .before .before .args .places)) (c .before .before .before .before .before .before .before .before .before .before .before .before .before .before .before .args .queue) l (c .before .before .before .before .before .before .before .before .before .before .before .load-header .ensures) (c .before .before .before .before .before .before .before .before .before .before .before .before .before .before .before .args .t) (c .before .before .before .before .before .before .before .before .before .enum-told3 .given .1) (c .before .before .before .before .before .before .before .not-live .ensures (now (c .before .before .before .before .before .before .before .before .before .before .before .before .before .before .before .args .places)) (c .before .before .before .before .before .before .before .before .before .before .before .before .before .before .before .args .queue) l) (c .before .before .before .before .before .before .if1 .left) (c .before .before .before .before .before .if2 .left) (rw (c .before .before .before .new .ensures) at (c .before .before .cancel-task .ensures l))
+returns-5 c = λ l. cancel-goes (now (c .before .before .before .before .before .before .before .before .before .before .before .before .before .before .before .before .args .tasks)) (now (c .before .before .before .before .before .before .before .before .before .before .before .before .before .before .before .before .args .objects)) (now (c .before .before .before .before .before .before .before .before .before .before .before .before .before .before .before .before .args .places)) (c .before .before .before .before .before .before .before .before .before .before .before .before .before .before .before .before .args .queue) l (c .before .before .before .before .before .before .before .before .before .before .before .before .load-header .ensures) (c .before .before .before .before .before .before .before .before .before .before .before .before .before .before .before .before .args .t) (c .before .before .before .before .before .before .before .before .before .before .enum-told3 .given .1) (c .before .before .before .before .before .before .before .before .not-live .ensures (now (c .before .before .before .before .before .before .before .before .before .before .before .before .before .before .before .before .args .places)) (c .before .before .before .before .before .before .before .before .before .before .before .before .before .before .before .before .args .queue) l) (c .before .before .before .before .before .before .before .if1 .left) (c .before .before .before .before .before .before .if2 .left) (rw (c .before .before .before .before .new .ensures) at (c .before .before .before .cancel-task .ensures l)) refl
 
 pub cancel-spec : {M : Type 1} → statement M
 cancel-spec =
@@ -66,6 +73,8 @@ cancel-spec =
     returns-2
     new-requires
     cancel-task-requires
+    sub-lost
+    cast-lost
     returns-3
     returns-4
     same-length-3
