@@ -50,35 +50,8 @@ slice-aggregate-put-text c = search needs
 put-text-requires : tie.Need-put-text-requires
 put-text-requires c κs = search needs
 
-enum-told-2 : tie.Need-enum-told-2
-enum-told-2 c = search needs
-
-slice-aggregate-put-text-2 : tie.Need-slice-aggregate-put-text-2
-slice-aggregate-put-text-2 c = search needs
-
-put-text-requires-2 : tie.Need-put-text-requires-2
-put-text-requires-2 c κs = search needs
-
 enum-known-answer-5 : tie.Need-enum-known-answer-5
 enum-known-answer-5 c = search needs
-
-put-finished-requires : tie.Need-put-finished-requires
-put-finished-requires c κs = search needs
-
-enum-known-answer-6 : tie.Need-enum-known-answer-6
-enum-known-answer-6 c = search needs
-
-put-failed-requires : tie.Need-put-failed-requires
-put-failed-requires c κs = search needs
-
-enum-known-answer-7 : tie.Need-enum-known-answer-7
-enum-known-answer-7 c = search needs
-
-put-eager-requires : tie.Need-put-eager-requires
-put-eager-requires c κs = search needs
-
-enum-known-answer-8 : tie.Need-enum-known-answer-8
-enum-known-answer-8 c = search needs
 
 slice-aggregate-put-named-3 : tie.Need-slice-aggregate-put-named-3
 slice-aggregate-put-named-3 c = search needs
@@ -88,6 +61,45 @@ cast-put-named c = search needs
 
 put-named-requires-3 : tie.Need-put-named-requires-3
 put-named-requires-3 c κs = search needs
+
+enum-told-2 : tie.Need-enum-told-2
+enum-told-2 c = search needs
+
+slice-aggregate-put-text-2 : tie.Need-slice-aggregate-put-text-2
+slice-aggregate-put-text-2 c = search needs
+
+put-text-requires-2 : tie.Need-put-text-requires-2
+put-text-requires-2 c κs = search needs
+
+enum-known-answer-6 : tie.Need-enum-known-answer-6
+enum-known-answer-6 c = search needs
+
+put-finished-requires : tie.Need-put-finished-requires
+put-finished-requires c κs = search needs
+
+enum-known-answer-7 : tie.Need-enum-known-answer-7
+enum-known-answer-7 c = search needs
+
+put-failed-requires : tie.Need-put-failed-requires
+put-failed-requires c κs = search needs
+
+enum-known-answer-8 : tie.Need-enum-known-answer-8
+enum-known-answer-8 c = search needs
+
+put-eager-requires : tie.Need-put-eager-requires
+put-eager-requires c κs = search needs
+
+enum-known-answer-9 : tie.Need-enum-known-answer-9
+enum-known-answer-9 c = search needs
+
+slice-aggregate-put-named-4 : tie.Need-slice-aggregate-put-named-4
+slice-aggregate-put-named-4 c = search needs
+
+cast-put-named-2 : tie.Need-cast-put-named-2
+cast-put-named-2 c = search needs
+
+put-named-requires-4 : tie.Need-put-named-requires-4
+put-named-requires-4 c κs = search needs
 
 same-length : tie.Need-same-length
 same-length c = search needs
@@ -128,32 +140,39 @@ same-length-6 c = search needs
 
 returns-6 : tie.Need-returns-6
 unfolding answer-text
-returns-6 c = rw (c .before .before .before .before .before .enum-told2 .given .1) (at-most (omega arith) (c .before .before .put-text2 .ensures))
+returns-6 c = rw (c .before .before .before .before .before .before .answer5 .given .1) (at-most (omega arith) (c .before .before .put-named3 .ensures))
 
 same-length-7 : tie.Need-same-length-7
 same-length-7 c = search needs
 
 returns-7 : tie.Need-returns-7
-returns-7 c = rw (c .before .before .before .before .before .answer5 .given .1) (at-most (omega arith) (c .before .before .put-finished .ensures))
+unfolding answer-text
+returns-7 c = rw (c .before .before .before .before .before .enum-told2 .given .1) (at-most (omega arith) (c .before .before .put-text2 .ensures))
 
 same-length-8 : tie.Need-same-length-8
 same-length-8 c = search needs
 
 returns-8 : tie.Need-returns-8
-returns-8 c = rw (c .before .before .before .before .before .answer6 .given .1) (at-most (omega arith) (c .before .before .put-failed .ensures))
+returns-8 c = rw (c .before .before .before .before .before .answer6 .given .1) (at-most (omega arith) (c .before .before .put-finished .ensures))
 
 same-length-9 : tie.Need-same-length-9
 same-length-9 c = search needs
 
 returns-9 : tie.Need-returns-9
-returns-9 c = rw (c .before .before .before .before .before .answer7 .given .1) (at-most (omega arith) (c .before .before .put-eager .ensures))
+returns-9 c = rw (c .before .before .before .before .before .answer7 .given .1) (at-most (omega arith) (c .before .before .put-failed .ensures))
 
 same-length-10 : tie.Need-same-length-10
 same-length-10 c = search needs
 
 returns-10 : tie.Need-returns-10
+returns-10 c = rw (c .before .before .before .before .before .answer8 .given .1) (at-most (omega arith) (c .before .before .put-eager .ensures))
+
+same-length-11 : tie.Need-same-length-11
+same-length-11 c = search needs
+
+returns-11 : tie.Need-returns-11
 unfolding answer-text
-returns-10 c = rw (c .before .before .before .before .before .before .answer8 .given .1) (at-most (omega arith) (c .before .before .put-named3 .ensures))
+returns-11 c = rw (c .before .before .before .before .before .before .answer9 .given .1) (at-most (omega arith) (c .before .before .put-named4 .ensures))
 
 pub put-answer-spec : {M : Type 1} → statement M
 put-answer-spec =
@@ -174,19 +193,23 @@ put-answer-spec =
     enum-told
     slice-aggregate-put-text
     put-text-requires
-    enum-told-2
-    slice-aggregate-put-text-2
-    put-text-requires-2
     enum-known-answer-5
-    put-finished-requires
-    enum-known-answer-6
-    put-failed-requires
-    enum-known-answer-7
-    put-eager-requires
-    enum-known-answer-8
     slice-aggregate-put-named-3
     cast-put-named
     put-named-requires-3
+    enum-told-2
+    slice-aggregate-put-text-2
+    put-text-requires-2
+    enum-known-answer-6
+    put-finished-requires
+    enum-known-answer-7
+    put-failed-requires
+    enum-known-answer-8
+    put-eager-requires
+    enum-known-answer-9
+    slice-aggregate-put-named-4
+    cast-put-named-2
+    put-named-requires-4
     same-length
     returns
     same-length-2
@@ -206,4 +229,6 @@ put-answer-spec =
     same-length-9
     returns-9
     same-length-10
-    returns-10)
+    returns-10
+    same-length-11
+    returns-11)
