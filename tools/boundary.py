@@ -62,7 +62,7 @@ EVENTS = [
     ("resume", [], "Event::Resume", "machine.Event.resume",
      "The host hands control back. Runs; waits, where nothing is ready; stalled, where no call is pending either.", "3 the session has ended, 4 a task runs"),
     ("cancel", [("task", "u16")], "Event::Cancel(task)", "(machine.Event.cancel task)",
-     "The operator cancels a task, and the tasks below the gather that it waits for. Done: how many of the removed tasks stood in the ready queue.",
+     "The operator cancels a task, and the tasks below the gather that it waits for. Done, with the number of removed tasks that stood in the ready queue.",
      "3 the session has ended, 4 a task runs, 5 the task is not live, 9 it is main"),
 ]
 

@@ -136,9 +136,9 @@ sozgarru_numbers sozgarru_results(
 sozgarru_numbers sozgarru_resume(
     uint64_t tasks[4104], uint64_t objects[2056], uint64_t places[2048], uint64_t calls[256], uint16_t ids[513], size_t *len);
 
-/* The operator cancels a task, and the tasks below the gather that it waits for. Done: how many of the removed tasks stood in the ready
- * queue. Refused with 3 the session has ended, 4 a task runs, 5 the task is not live, 9 it is main. Refused also with 2, where the store
- * is not sound. */
+/* The operator cancels a task, and the tasks below the gather that it waits for. Done, with the number of removed tasks that stood in
+ * the ready queue. Refused with 3 the session has ended, 4 a task runs, 5 the task is not live, 9 it is main. Refused also with 2, where
+ * the store is not sound. */
 sozgarru_numbers sozgarru_cancel(
     uint64_t tasks[4104], uint64_t objects[2056], uint64_t places[2048], uint64_t calls[256], uint16_t ids[513], size_t *len,
     uint16_t task);
@@ -243,9 +243,9 @@ sozgarru_numbers sozgarru_results_unchecked(
 sozgarru_numbers sozgarru_resume_unchecked(
     uint64_t tasks[4104], uint64_t objects[2056], uint64_t places[2048], uint64_t calls[256], uint16_t ids[513], size_t *len);
 
-/* The operator cancels a task, and the tasks below the gather that it waits for. Done: how many of the removed tasks stood in the ready
- * queue. Refused with 3 the session has ended, 4 a task runs, 5 the task is not live, 9 it is main. The caller owes a sound store:
- * nothing is checked. */
+/* The operator cancels a task, and the tasks below the gather that it waits for. Done, with the number of removed tasks that stood in
+ * the ready queue. Refused with 3 the session has ended, 4 a task runs, 5 the task is not live, 9 it is main. The caller owes a sound
+ * store: nothing is checked. */
 sozgarru_numbers sozgarru_cancel_unchecked(
     uint64_t tasks[4104], uint64_t objects[2056], uint64_t places[2048], uint64_t calls[256], uint16_t ids[513], size_t *len,
     uint16_t task);

@@ -437,7 +437,7 @@ pub extern "C" fn sozgarru_resume(
     )
 }
 
-// The operator cancels a task, and the tasks below the gather that it waits for. Done: how many of the removed tasks stood in the ready queue.
+// The operator cancels a task, and the tasks below the gather that it waits for. Done, with the number of removed tasks that stood in the ready queue.
 // Refused with 3 the session has ended, 4 a task runs, 5 the task is not live, 9 it is main. Refused also with 2, where the store is not sound.
 #[no_mangle]
 pub extern "C" fn sozgarru_cancel(
@@ -913,7 +913,7 @@ pub extern "C" fn sozgarru_resume_unchecked(
     )
 }
 
-// The operator cancels a task, and the tasks below the gather that it waits for. Done: how many of the removed tasks stood in the ready queue.
+// The operator cancels a task, and the tasks below the gather that it waits for. Done, with the number of removed tasks that stood in the ready queue.
 // Refused with 3 the session has ended, 4 a task runs, 5 the task is not live, 9 it is main. The caller owes a sound store: nothing is checked.
 #[no_mangle]
 pub extern "C" fn sozgarru_cancel_unchecked(

@@ -220,9 +220,9 @@ unsafe extern "C" {
         len: &mut usize,
     ) -> Numbers;
 
-    /// The operator cancels a task, and the tasks below the gather that it waits for. Done: how many of the removed
-    /// tasks stood in the ready queue. Refused with 3 the session has ended, 4 a task runs, 5 the task is not live, 9
-    /// it is main. Refused also with 2, where the store is not sound.
+    /// The operator cancels a task, and the tasks below the gather that it waits for. Done, with the number of removed
+    /// tasks that stood in the ready queue. Refused with 3 the session has ended, 4 a task runs, 5 the task is not
+    /// live, 9 it is main. Refused also with 2, where the store is not sound.
     pub(crate) fn sozgarru_cancel(
         tasks: &mut [u64; 4104],
         objects: &mut [u64; 2056],
@@ -441,9 +441,9 @@ unsafe extern "C" {
         len: &mut usize,
     ) -> Numbers;
 
-    /// The operator cancels a task, and the tasks below the gather that it waits for. Done: how many of the removed
-    /// tasks stood in the ready queue. Refused with 3 the session has ended, 4 a task runs, 5 the task is not live, 9
-    /// it is main. The caller owes a sound store: nothing is checked.
+    /// The operator cancels a task, and the tasks below the gather that it waits for. Done, with the number of removed
+    /// tasks that stood in the ready queue. Refused with 3 the session has ended, 4 a task runs, 5 the task is not
+    /// live, 9 it is main. The caller owes a sound store: nothing is checked.
     pub(crate) fn sozgarru_cancel_unchecked(
         tasks: &mut [u64; 4104],
         objects: &mut [u64; 2056],
