@@ -66,6 +66,7 @@ printed =
     row 35 (Answer.shows (Shown.a-gather-awaited (none ∷ some (Value.Plain 5) ∷ []))) "35 shows gather awaited 2 open plain 5\n" ∷
     row 36 (Answer.shows (Shown.a-gather-completed [])) "36 shows gather completed 0\n" ∷
     row 37 (Answer.shows (Shown.a-gather-failed Error.NotFound)) "37 shows gather failed not-found\n" ∷
+    row 38 (Answer.cancelled 2) "38 done 2\n" ∷
     []
 
 -- the line of a row, and the bytes of its text
