@@ -2,7 +2,7 @@
 -- live and blocked and with no word of the queue. (The machine's count is the other sentence of the request, the queue's length before minus its length after.)
 use Prim.Native.Nat.{ℕ}
 use mathlib.Core.Path.{_≡_}
-use mathlib.Core.Bool.{Bool, true, false, not, _&&_}
+use mathlib.Core.Bool.{Bool, true, not, _&&_}
 use mathlib.Core.List.{List, [], _∷_}
 use Rattle.asyncio.specs.Limits.{task-limit}
 use Rattle.machine.specs.Tests.{count}

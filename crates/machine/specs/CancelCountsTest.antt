@@ -1,7 +1,7 @@
 -- The claim of CancelCounts as a test that computes (`counts-tested`: where the claim holds, the test passes), and sessions of which it is computed. A wrong
 -- machine fails one of them (must-fail/).
 use Prim.Native.Nat.{ℕ}
-use mathlib.Core.Path.{_≡_, refl, sym, ap, subst, _∙_}
+use mathlib.Core.Path.{_≡_, refl}
 use mathlib.Core.Bool.{Bool, true, false, _&&_}
 use mathlib.Core.List.{List, [], _∷_, map}
 use lib.Dec.{eqb}

@@ -11,7 +11,7 @@ use Rattle.queue.specs.Queue.{remove, stood-at, position-from, removed-count}
 use Rattle.queue.specs.RemovalLaws.{removed-length}
 use Rattle.machine.specs.Store.{Store, put-task, put-queue, add-log, removed}
 use Rattle.machine.specs.Scheduler.{remove-from-ready-queue, remove-task, cancel-task}
-use Rattle.machine_laws.specs.Walk.{Cancels, walked-kept}
+use Rattle.machine_laws.specs.Walk.{walked-kept}
 
 -- a queue whose length is n or less, and still n where n is more than an array holds
 record Shorter (n : ℕ) (s : Store) : Type 0 where

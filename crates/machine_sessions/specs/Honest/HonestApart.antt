@@ -29,7 +29,8 @@ use Rattle.machine_laws.specs.StoreLaws.{task-fits, object-fits, kind-put-objec
 use Rattle.machine_laws.specs.DeliveryLaws.{absurd-some, awaited-fits}
 use Rattle.machine_sessions.specs.Waits.Calls.{read-back}
 use Rattle.machine_sessions.specs.Queue.Tracked.{spawn-row}
-use Rattle.machine_sessions.specs.Honest.Spawned.{Shape, new, is-used, task-back, coroutine-back, spawn-task}
+use Rattle.machine_sessions.specs.Places.Told.{task-back, coroutine-back}
+use Rattle.machine_sessions.specs.Honest.Spawned.{Shape, new, is-used, spawn-task}
 use Rattle.machine_sessions.specs.Honest.HonestWalk.{Goes, waits-on, completes, fails}
 use Rattle.machine_sessions.specs.Honest.HonestCommit.{Closes, as-completed, as-failed}
 

@@ -59,7 +59,8 @@ use Rattle.machine_sessions.specs.Places.Told.{Frozen, frozen}
 use Rattle.machine_sessions.specs.Places.Agrees.{ItemsAt, reply-row, Makes, MadeRight, Agrees}
 use Rattle.machine_sessions.specs.Places.TellingAwait.{Row, row-commits}
 use Rattle.machine_sessions.specs.Places.Telling.{awaited-turns, state-turns}
-use Rattle.machine_sessions.specs.Honest.Spawned.{Shape, shape, is-used, gather-shape, live-below, same-spawns, spawned-like, state-spawned, spawn-spawned, spawn-log, spawn-object, task-back}
+use Rattle.machine_sessions.specs.Places.Told.{task-back}
+use Rattle.machine_sessions.specs.Honest.Spawned.{Shape, shape, is-used, gather-shape, live-below, same-spawns, spawned-like, state-spawned, spawn-spawned, spawn-log, spawn-object}
 use Rattle.machine_sessions.specs.Honest.HonestWalk.{waits-on, Delivers, Switching, Ends, waited, started, woke, raised-it, row-task, wakes-object, wakes-task}
 use Rattle.machine_sessions.specs.Honest.HonestLog.{LogRight, Logged, blocked-spawns, row-logged, gather-logged, external-logged, wakes-logged, reuse, logged-delivers, logged-switching, gone-task, gone-object, is-live-now}
 use Rattle.machine_sessions.specs.Honest.HonestCommit.{Committing, AwaitEnds, given, refused, inlined, switches, await-walk}

@@ -23,7 +23,7 @@ use Rattle.machine_laws.specs.Views.{Sized}
 use Rattle.machine_laws.specs.Facts.{Nothing}
 use Rattle.machine_laws.specs.StoreLaws.{header-fits, header-put-object, task-put-other, sized-put-object, sized-put-places, sized-put-task, sized-put-queue, sized-add-log, sized-set-state}
 use Rattle.machine_sessions.specs.Stall.Standing.{Stands, removed-stands}
-use Rattle.machine_sessions.specs.Honest.Spawned.{unstarted-back}
+use Rattle.machine_sessions.specs.Places.Told.{unstarted-back}
 use Rattle.machine_sessions.specs.Honest.HonestWalk.{Delivers, IsSpawned, results-walk, row-task, places-task, wakes-task}
 use Rattle.machine_sessions.specs.Honest.HonestLog.{gone-task, gone-header, wakes-header}
 

@@ -4,7 +4,7 @@ use mathlib.Core.Bool.{Bool, true, false, true≢false}
 use mathlib.Core.List.{List, _∷_}
 use mathlib.Core.Option.{Option, none, some, Option·some-injective}
 use Prim.Native.Nat.{ℕ, zero, suc, _+_, _≤_, _<_}
-use native.Mathlib.Nat.{not-suc-le-zero, mod-eq-of-lt}
+use native.Mathlib.Nat.{not-suc-le-zero}
 use native.Mathlib.Omega.{arith}
 use native.Mathlib.Decide.{ℕ-discrete}
 use lib.Dec.{ltb}
@@ -22,9 +22,7 @@ use Rattle.asyncio.specs.Limits.{object-limit, task-limit, u32-limit}
 use Rattle.asyncio.specs.Numbers.{heap-id}
 use Rattle.asyncio.specs.Ranges.{PlacesFit}
 use Rattle.asyncio.specs.RangeLaws.{object-back}
-use Rattle.asyncio.specs.Layout.{object-words, to-object, task-words, to-task, state-words, to-state}
-use Rattle.rows.specs.Tables.{task-at, task-put, task-codec, task-start}
-use Rattle.rows.specs.RowLaws.{row-put-at}
+use Rattle.asyncio.specs.Layout.{object-words, to-object}
 use Rattle.asyncio.specs.States.{is-live, is-unstarted}
 use Rattle.machine.specs.Store.{Store, LogEntry, spawned, task, object, header, put-task, put-header, put-object, put-queue, add-log, restate, set-next, absent, forget}
 use Rattle.machine.specs.Scheduler.{live, push-ready, spawn-as}
@@ -37,6 +35,7 @@ use Rattle.machine_laws.specs.SizedLaws.{sized-spawn-as}
 use Rattle.machine_laws.specs.DeliveryLaws.{absurd-some}
 use Rattle.machine_sessions.specs.Waits.Calls.{read-back}
 use Rattle.machine_sessions.specs.Queue.Tracked.{live-like, live-low, live-is, live-other, spawn-row, spawn-next}
+use Rattle.machine_sessions.specs.Places.Told.{unstarted-back, coroutine-back}
 use Rattle.machine_sessions.specs.Honest.HonestWalk.{row-task}
 
 -- ---- shapes
@@ -148,26 +147,6 @@ spawned-first b n c l = ap (λ (x : Bool). elim x [ true ↦ some c | false ↦ 
 pub spawned-later : (b : Option ℕ) (n c t : ℕ) (l : List LogEntry) → (t ≡ n → ⊥) → spawned-by b (spawned n c ∷ l) t ≡ spawned-by b l t
 unfolding spawned-by
 spawned-later b n c t l ne = ap (λ (x : Bool). elim x [ true ↦ some c | false ↦ spawned-by b l t ]) (ne-eqb n t (λ e. ne (sym e)))
-
--- ---- reading back
-
-unstarted-words : (x : TaskState) → is-unstarted (to-state (state-words x .0) (state-words x .1) (state-words x .2)) ≡ is-unstarted x
-unstarted-words TaskState.Absent = refl
-unstarted-words TaskState.Unstarted = refl
-unstarted-words TaskState.Running = refl
-unstarted-words (TaskState.Woken v) = refl
-unstarted-words (TaskState.Raised e) = refl
-unstarted-words (TaskState.Blocked o) = refl
-
-pub task-back : (s : Store) (t : ℕ) (r : Task) → Sized s → t < task-limit → task (put-task s t r) t ≡ to-task (task-words r)
-unfolding task put-task task-at task-put
-task-back s t r z l = ap to-task (row-put-at task-codec (s .tasks) (task-start t) r (omega (arith, z .tasks-sized)))
-
-pub unstarted-back : (s : Store) (t : ℕ) (r : Task) → Sized s → t < task-limit → is-unstarted (task (put-task s t r) t .state) ≡ is-unstarted (r .state)
-unstarted-back s t r z l = ap (λ (y : Task). is-unstarted (y .state)) (task-back s t r z l) ∙ unstarted-words (r .state)
-
-pub coroutine-back : (s : Store) (t : ℕ) (r : Task) → Sized s → t < task-limit → r .coroutine .0 < object-limit → task (put-task s t r) t .coroutine .0 ≡ r .coroutine .0
-coroutine-back s t r z l f = ap (λ (y : Task). y .coroutine .0) (task-back s t r z l) ∙ mod-eq-of-lt f
 
 pub spawn-task : (s : Store) (t c g v : ℕ)
     → task (spawn-as s t c g) v ≡ task (put-task s t (record { state = TaskState.Unstarted; awaiter = Awaiter.GatherSlot (heap-id g) (heap-id c); coroutine = heap-id c })) v

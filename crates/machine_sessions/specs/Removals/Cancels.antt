@@ -4,13 +4,11 @@ use mathlib.Core.Bool.{Bool, true, false, not, _&&_}
 use mathlib.Core.List.{List}
 use Prim.Native.Nat.{ℕ, _+_, _-_, _≤_, _<_}
 use native.Mathlib.Omega.{arith}
-use lib.Dec.{T}
 use lib.ListN.{length}
 use borrow.Author.Tests.{lt-ltb}
-use Rattle.asyncio.specs.declared.Task.{Task}
 use Rattle.asyncio.specs.declared.Header.{Header}
 use Rattle.asyncio.specs.Limits.{task-limit}
-use Rattle.asyncio.specs.States.{pick, is-live, is-ready}
+use Rattle.asyncio.specs.States.{is-live, is-ready}
 use Rattle.queue.specs.Queue.{entries, occurrences}
 use Rattle.queue.specs.QueueLaws.{length-entries}
 use Rattle.machine.specs.Tests.{count, is-in}

@@ -3,7 +3,7 @@
 use mathlib.Core.Path.{_≡_, refl, sym, ap, subst, _∙_}
 use mathlib.Core.Bool.{Bool, true, false, not, _&&_}
 use mathlib.Core.List.{List, []}
-use Prim.Native.Nat.{ℕ, zero, suc, _+_, _-_, _≤_, _<_}
+use Prim.Native.Nat.{ℕ, zero, suc, _+_, _-_, _<_}
 use native.Mathlib.Nat.{not-suc-le-zero}
 use native.Mathlib.Omega.{arith}
 use native.Mathlib.Decide.{ℕ-discrete, decLt}
@@ -15,16 +15,15 @@ use Rattle.asyncio.specs.declared.Moment.{Moment}
 use Rattle.asyncio.specs.Limits.{task-limit}
 use Rattle.asyncio.specs.States.{pick, is-live}
 use Rattle.rows.specs.Tables.{task-at, header-at}
-use Rattle.queue.specs.Queue.{entries, empty-queue, occurrences}
+use Rattle.queue.specs.Queue.{entries, empty-queue}
 use Rattle.queue.specs.QueueLaws.{length-entries, entries-empty}
 use Rattle.machine.specs.Tests.{count, is-in}
-use Rattle.machine.specs.Store.{Store, LogEntry, task, header, put-task, put-queue, put-header, set-moment, add-log, absent, removed}
+use Rattle.machine.specs.Store.{Store, task, header, put-task, put-queue, put-header, set-moment, add-log, absent, removed}
 use Rattle.machine.specs.Scheduler.{live, remove-from-ready-queue, remove-task, cancel-one, remove-from, cleanup}
 use Rattle.machine.specs.Machine.{entries-lost}
 use Rattle.machine_laws.specs.Views.{Sized}
 use Rattle.machine_laws.specs.CountLaws.{count-same}
 use Rattle.machine_laws.specs.StoreLaws.{header-fits}
-use Rattle.machine_theorems.specs.Soundness.ReadyTasks.{Queued}
 use Rattle.machine_theorems.specs.Soundness.Stores.{SoundStore}
 use Rattle.machine_sessions.specs.Queue.Tracked.{moment-next}
 use Rattle.machine_sessions.specs.Queue.Following.{stands-there}

@@ -1,8 +1,8 @@
 -- A task's end (document 02, No. 8): the task that ends stood nowhere in the ready queue; the waiter that it woke was put at the back, and is taken out there to
 -- run ahead of the queue, which then has the entries that it had before the event.
 use mathlib.Core.Path.{_≡_, refl, sym, ap, subst, _∙_}
-use mathlib.Core.Bool.{Bool, true, false, true≢false}
-use mathlib.Core.List.{List, []}
+use mathlib.Core.Bool.{true, false, true≢false}
+use mathlib.Core.List.{List}
 use mathlib.Core.Option.{Option, none, some, Option·some-injective}
 use Prim.Native.Nat.{ℕ, _≤_, _<_}
 use native.Mathlib.Omega.{arith}
@@ -17,9 +17,7 @@ use Rattle.asyncio.specs.declared.Moment.{Moment}
 use Rattle.asyncio.specs.Limits.{task-limit}
 use Rattle.asyncio.specs.Numbers.{task-id}
 use Rattle.asyncio.specs.States.{is-ready, is-blocked, is-running, is-unstarted}
-use Rattle.asyncio.specs.Layout.{to-task, state-words, to-state}
-use Rattle.rows.specs.Tables.{task-codec, task-start, task-at, task-put}
-use Rattle.rows.specs.RowLaws.{row-put-at}
+use Rattle.rows.specs.Tables.{task-at}
 use Rattle.queue.specs.declared.ReadyQueue.{ReadyQueue}
 use Rattle.queue.specs.declared.Position.{Position}
 use Rattle.queue.specs.Queue.{entries, occurrences, push-back, remove, stood-at}
@@ -40,9 +38,10 @@ use Rattle.machine_theorems.specs.Soundness.RowFacts.{ready-live}
 use Rattle.machine_theorems.specs.Soundness.ReadyTasks.{Queued, not-queued}
 use Rattle.machine_theorems.specs.Soundness.Stores.{SoundStore}
 use Rattle.machine_sessions.specs.Queue.Tracked.{blocked-put-task}
+use Rattle.machine_sessions.specs.Places.Told.{unstarted-back}
 use Rattle.machine_sessions.specs.Stall.Room.{room-for}
 use Rattle.machine_sessions.specs.Stall.Standing.{blocked-unready, ready-put-task}
-use Rattle.machine_sessions.specs.Stall.Effects.{SameTasks, WokenBy, Effect, nobody, wakes, success-effect, failure-effect}
+use Rattle.machine_sessions.specs.Stall.Effects.{Effect, nobody, wakes, success-effect, failure-effect}
 use Rattle.machine_sessions.specs.Removals.Left.{sound-queue}
 
 -- ---- the claim
@@ -77,20 +76,6 @@ failure-goes-on s t e = refl
 
 -- ---- the waiter runs
 
-unstarted-back : (x : TaskState) → is-unstarted (to-state (state-words x .0) (state-words x .1) (state-words x .2)) ≡ is-unstarted x
-unstarted-back TaskState.Absent = refl
-unstarted-back TaskState.Unstarted = refl
-unstarted-back TaskState.Running = refl
-unstarted-back (TaskState.Woken v) = refl
-unstarted-back (TaskState.Raised e) = refl
-unstarted-back (TaskState.Blocked o) = refl
-
-unstarted-put-task : (s : Store) (t : ℕ) (r : Task) → Sized s → t < task-limit → is-unstarted (task (put-task s t r) t .state) ≡ is-unstarted (r .state)
-unfolding task put-task task-at task-put
-unstarted-put-task s t r z l =
-    ap (λ (x : List ℕ). is-unstarted (to-task x .state)) (row-put-at task-codec (s .tasks) (task-start t) r (omega (arith, z .tasks-sized)))
-    ∙ unstarted-back (r .state)
-
 -- a task that has begun runs on, and leaves the queue
 runs-on : (u : Store) (w : ℕ) → Sized u → w < task-limit → is-ready (task u w .state) ≡ true → is-unstarted (task u w .state) ≡ false → activate u w .store .queue ≡ u .queue
 runs-on u w z l r n = ap (λ (x : Switched). x .store .queue) (activate-once u w z l (ready-live (task u w .state) r)) ∙ by (task u w .state) r n
@@ -114,7 +99,7 @@ waiter-runs d y w x e z zy l r n row =
     ap (λ (k : Switched). k .store .queue) (exit-resumes d w e)
     ∙ runs-on (remove-from-ready-queue (d .store) w) w (unfold remove-from-ready-queue in (sized-put-queue _ _ z)) l
     (ap (λ (k : Task). is-ready (k .state)) rows ∙ (ready-put-task y w (restate (task y w) x) zy l ∙ (unfold restate in r)))
-    (ap (λ (k : Task). is-unstarted (k .state)) rows ∙ (unstarted-put-task y w (restate (task y w) x) zy l ∙ (unfold restate in n)))
+    (ap (λ (k : Task). is-unstarted (k .state)) rows ∙ (unstarted-back y w (restate (task y w) x) zy l ∙ (unfold restate in n)))
     ∙ queue-is
   where
     rows : task (remove-from-ready-queue (d .store) w) w ≡ task (put-task y w (restate (task y w) x)) w

@@ -10,7 +10,7 @@ use Rattle.asyncio.specs.declared.Task.{Task}
 use Rattle.asyncio.specs.Limits.{task-limit}
 use Rattle.asyncio.specs.States.{is-live, is-ready}
 use Rattle.rows.specs.Tables.{task-at}
-use Rattle.queue.specs.Queue.{entries, occurrences, retain, Distinct, remove, stood-at}
+use Rattle.queue.specs.Queue.{entries, retain, Distinct, remove, stood-at}
 use Rattle.queue.specs.QueueLaws.{remove-len, remove-length}
 use Rattle.queue.specs.RemovalLaws.{removal, removal-retains}
 use Rattle.machine.specs.Store.{Store, view, task, header, put-task, put-queue, add-log, absent, removed}

@@ -1,17 +1,17 @@
 -- Every list of events: each accepted cancel is answered with the number of removed tasks that had been ready (CancelCounts of the machine): a task that is
 -- live and not blocked stands in the queue while the session waits, and nobody else does.
 use mathlib.Core.Logic.{_⊎_, inl, inr}
-use mathlib.Core.Path.{_≡_, refl, sym, ap, subst, _∙_}
+use mathlib.Core.Path.{_≡_, refl, sym, ap, _∙_}
 use mathlib.Core.Bool.{Bool, true, false, not, _&&_, true≢false}
 use mathlib.Core.List.{List, [], _∷_}
-use Prim.Native.Nat.{ℕ, _≤_, _<_}
+use Prim.Native.Nat.{ℕ, _<_}
 use native.Mathlib.Decide.{ℕ-discrete}
 use Rattle.asyncio.specs.declared.TaskState.{TaskState}
 use Rattle.asyncio.specs.declared.Task.{Task}
 use Rattle.asyncio.specs.declared.Moment.{Moment}
 use Rattle.asyncio.specs.Limits.{task-limit}
 use Rattle.asyncio.specs.States.{is-live, is-ready, is-blocked, is-running}
-use Rattle.queue.specs.Queue.{entries, occurrences}
+use Rattle.queue.specs.Queue.{entries}
 use Rattle.machine.specs.Tests.{is-in}
 use Rattle.machine.specs.Store.{Store, view, task, header, forget}
 use Rattle.machine.specs.Scheduler.{live}
@@ -19,10 +19,9 @@ use Rattle.machine.specs.Sound.{is-ended, runs-now}
 use Rattle.machine.specs.Machine.{Event, Answer, refusal, step}
 use Rattle.machine.specs.History.{Entry, lives-by, lives, blocked-by, stays-blocked, says, tells}
 use Rattle.machine.specs.CancelCounts.{had-been-ready, ready-removed, CountRight, CountsRight, CancelCounts}
-use Rattle.machine.specs.Sessions.{Sent, lent-any, entry-of, Session, begun, send, send-all, session, InRange, AllSentInRange}
+use Rattle.machine.specs.Sessions.{Sent, lent-any, entry-of, Session, begun, send, send-all, session, AllSentInRange}
 use Rattle.machine_laws.specs.CountLaws.{count-same}
 use Rattle.machine_laws.specs.MachineLaws.{refused-step}
-use Rattle.machine_theorems.specs.Soundness.Stores.{SoundStore}
 use Rattle.machine_sessions.specs.Queue.Tracked.{live-low}
 use Rattle.machine_sessions.specs.Queue.Following.{Following, Sends, sends, stepped, short, send-following, session-follows, queue-right, forget-live, forget-task}
 use Rattle.machine_sessions.specs.Places.Agrees.{Agrees}

@@ -3,11 +3,9 @@ use mathlib.Core.Path.{_≡_, refl, sym, ap, subst, _∙_}
 use mathlib.Core.Bool.{Bool, true, false, not, _||_, true≢false}
 use mathlib.Core.List.{List, [], _∷_}
 use mathlib.Core.Option.{Option, none, some}
-use Prim.Native.Nat.{ℕ, zero, suc, _+_, _≤_, _<_}
+use Prim.Native.Nat.{ℕ, zero, suc, _+_, _<_}
 use native.Mathlib.Nat.{not-suc-le-zero}
 use native.Mathlib.Omega.{arith}
-use lib.Dec.{eqb}
-use borrow.Author.Tests.{eq-eqb}
 use Rattle.asyncio.specs.declared.Value.{Value}
 use Rattle.asyncio.specs.declared.Error.{Error}
 use Rattle.asyncio.specs.declared.TaskState.{TaskState}
@@ -25,8 +23,8 @@ use Rattle.asyncio.specs.States.{pick, is-live, is-unstarted}
 use Rattle.rows.specs.Tables.{object-at, header-at, place-at}
 use Rattle.queue.specs.Queue.{empty-queue}
 use Rattle.machine.specs.Store.{Store, LogEntry, view, task, object, place, header, put-task, put-header, put-queue, add-log, set-moment, absent, removed}
-use Rattle.machine.specs.Scheduler.{as-awaited, live, cancel-task, remove-from, cleanup}
-use Rattle.machine.specs.Machine.{Event, Answer, runner, first-refusal, refusals, refusal, accept}
+use Rattle.machine.specs.Scheduler.{as-awaited, cancel-task, remove-from, cleanup}
+use Rattle.machine.specs.Machine.{Event, Answer, runner, refusals, refusal, accept}
 use Rattle.machine.specs.Gather.{Outcome}
 use Rattle.machine.specs.History.{Entry, Says, says, nothing-said, said, tells, running-coroutine, coroutine-of, spawned-by, spawned-for, exits-unstarted}
 use Rattle.machine.specs.Sessions.{InRange, entry-of, happened-by}
@@ -35,11 +33,9 @@ use Rattle.machine_laws.specs.Facts.{Nothing}
 use Rattle.machine_laws.specs.TestLaws.{holds}
 use Rattle.machine_laws.specs.StoreLaws.{header-fits, header-put-header, object-put-header, sized-put-task, sized-put-queue, sized-add-log}
 use Rattle.machine_laws.specs.DeliveryLaws.{absurd-some}
-use Rattle.machine_laws.specs.SoundLaws.{pass, refusal-rest}
+use Rattle.machine_laws.specs.SoundLaws.{refusal-rest}
 use Rattle.machine_theorems.specs.Soundness.Stores.{SoundStore}
 use Rattle.machine_theorems.specs.Soundness.Exits.{runner-low, runner-runs}
-use Rattle.machine_theorems.specs.Soundness.Preserved.{waiting}
-use Rattle.machine_sessions.specs.Queue.Tracked.{live-low}
 use Rattle.machine_sessions.specs.Waits.{said-accepted}
 use Rattle.machine_sessions.specs.Queue.Following.{accept-accepts}
 use Rattle.machine_sessions.specs.Places.Told.{unmade, frozen}
