@@ -1,3 +1,4 @@
 pub mod Queue
 pub mod QueueLaws
 pub mod RemovalLaws
+pub mod OrderLaws
