@@ -6,11 +6,8 @@ use mathlib.Core.Bool.{Bool, true, false, _&&_}
 use mathlib.Core.List.{List, [], _∷_, map}
 use lib.Dec.{eqb}
 use borrow.Author.Tests.{eq-eqb}
-use Rattle.queue.specs.Queue.{empty-queue}
-use Rattle.machine.specs.Store.{Store, put-queue}
-use Rattle.machine.specs.Sound.{sound}
 use Rattle.machine.specs.Events.{Result}
-use Rattle.machine.specs.Machine.{Event, Answer, step}
+use Rattle.machine.specs.Machine.{Event, Answer}
 use Rattle.machine.specs.History.{Entry, says, tells}
 use Rattle.machine.specs.Sessions.{Sent, session}
 use Rattle.machine.specs.DemandThreeTest.{and-both}
@@ -61,13 +58,13 @@ counts-tested (x ∷ h) k = and-both _ _ (by (says (x .event) .cancels) (tells (
 -- ---- sessions
 
 -- Main waits for a gather of coroutine 0; task 1 waits for a gather of coroutines 1 and 2; tasks 2 and 3 wait for calls 0 and 1, main's gather for call 2 too.
-abbrev branch : List Sent
+abbrev pub branch : List Sent
 branch =
     e (Event.coroutine 1) ∷ e (Event.coroutine 2) ∷ e (Event.coroutine 3) ∷ e Event.call ∷ e Event.call ∷ e Event.call ∷ e (pend 0) ∷ e (pend 1) ∷ e (pend 2)
     ∷ e (Event.gather (1 ∷ 2 ∷ [])) ∷ e (Event.gather (0 ∷ 5 ∷ [])) ∷ e (Event.await 7) ∷ e (Event.await 6) ∷ e (Event.await 3) ∷ e (Event.await 4) ∷ []
 
 -- the events of l and then those of m
-abbrev then : List Sent → List Sent → List Sent
+abbrev pub then : List Sent → List Sent → List Sent
 then [] m = m
 then (x ∷ l) m = x ∷ then l m
 
@@ -87,13 +84,3 @@ pub counts-pass : map (λ es. counts-test (session es .history)) (children [] �
     ≡ true ∷ true ∷ true ∷ true ∷ true ∷ []
 unfolding computes3 had-been-ready ready-removed is-count count-test counts-test
 counts-pass = refl
-
--- ---- a lent store
-
--- task 2 is ready and stands nowhere: the store is sound, and its cancel counts nobody. (No session gets there.)
-abbrev unqueued : Store
-unqueued = put-queue (session (then branch (e (Event.results (res 0 0 9 ∷ [])) ∷ [])) .store) empty-queue
-
-pub unqueued-uncounted : (sound unqueued ≡ true) × (is-count 0 (step unqueued (Event.cancel 2) .answer) ≡ true)
-unfolding computes3 is-count
-unqueued-uncounted = (refl, refl)

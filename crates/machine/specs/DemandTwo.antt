@@ -1,6 +1,7 @@
 -- Demand 2 over whole sessions: what show gives of a gather is the documentation's `gather` (Gather.antt) of its items and of what these came to, in the order
 -- of the session. Items and outcomes are read off the history and the answers of show (History: items, outcome); nothing here speaks of the store's rows.
--- A batch of results is taken result by result, in its order (Singles.antt): that is the order in which its items arrive.
+-- An accepted batch of results is taken result by result, in its order (Singles.antt): that is the order in which its items arrive. The session goes on as it was
+-- sent.
 use Prim.Native.Nat.{ℕ, _<_}
 use mathlib.Core.Path.{_≡_}
 use mathlib.Core.Bool.{Bool, true, false}
@@ -12,12 +13,11 @@ use Rattle.asyncio.specs.declared.Value.{Value}
 use Rattle.asyncio.specs.declared.Error.{Error}
 use Rattle.asyncio.specs.declared.CoroutineState.{CoroutineState}
 use Rattle.machine.specs.Tests.{is-in}
-use Rattle.machine.specs.Events.{Result}
-use Rattle.machine.specs.Machine.{Event, Shown}
+use Rattle.machine.specs.Machine.{Shown}
 use Rattle.machine.specs.Gather.{Outcome, returned, raised, Arrival, Gathered, waiting, listed, propagated, gather}
 use Rattle.machine.specs.History.{outcome, error-of, items, lives, spawned-for, awaited-before}
 use Rattle.machine.specs.Sessions.{Sent, Session, begun, send, session, AllSentInRange}
-use Rattle.machine.specs.Singles.{singles}
+use Rattle.machine.specs.Singles.{cut}
 use Rattle.machine.specs.DemandThree.{look}
 use Rattle.machine.specs.Honest.{named}
 
@@ -106,10 +106,15 @@ arrivals-by false false x y os = []
 unfoldable pub arrivals-in : Session → Session → ℕ → List (Arrival Value Error)
 arrivals-in x y g = arrivals-by (committed (look (x .store) g)) (committed (look (y .store) g)) x y (items (y .history) g)
 
--- in the order of the session
+-- in these events, sent one after the other, the first to session x
+unfoldable pub arrivals-along : Session → List Sent → ℕ → List (Arrival Value Error)
+arrivals-along x [] g = []
+arrivals-along x (e ∷ es) g = let y : Session = send x e in arrivals-in x y g ++ arrivals-along y es g
+
+-- In the order of the session: those of an accepted batch result by result, as if they were sent so; the next event comes behind the batch as it was sent.
 unfoldable pub arrivals-from : Session → List Sent → ℕ → List (Arrival Value Error)
 arrivals-from x [] g = []
-arrivals-from x (e ∷ es) g = let y : Session = send x e in arrivals-in x y g ++ arrivals-from y es g
+arrivals-from x (e ∷ es) g = arrivals-along x (cut (x .store) e) g ++ arrivals-from (send x e) es g
 
 -- ---- the claim
 
@@ -149,12 +154,12 @@ pub record Reused (es : List Sent) (g : ℕ) (e : Error) : Type 0 where
   pub failed : look (send (session before) commit .store) g ≡ Shown.a-gather-failed e
   pub reuse : ReuseAt (send (session before) commit) g e
 
--- What show gives of gather g after the events es; in which order its items arrived is read off the events fs.
-abbrev pub GatherRight : List Sent → List Sent → ℕ → Type 0
-GatherRight es fs g =
-    (seen (look (session es .store) g) ≡ gather (items (session es .history) g) (arrivals-from begun fs g))
+-- What show gives of gather g after the events es.
+abbrev pub GatherRight : List Sent → ℕ → Type 0
+GatherRight es g =
+    (seen (look (session es .store) g) ≡ gather (items (session es .history) g) (arrivals-from begun es g))
     ⊎ ((e : Error) × (look (session es .store) g ≡ Shown.a-gather-failed e) × Reused es g e)
 
 -- For every list of events, with any batches, refused ones included, and every gather that was committed.
 abbrev pub DemandTwo : Type 0
-DemandTwo = (es : List Sent) → AllSentInRange es → (g : ℕ) → committed (look (session es .store) g) ≡ true → GatherRight es (singles es) g
+DemandTwo = (es : List Sent) → AllSentInRange es → (g : ℕ) → committed (look (session es .store) g) ≡ true → GatherRight es g

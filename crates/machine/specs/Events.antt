@@ -25,7 +25,7 @@ use Rattle.asyncio.specs.declared.Header.{Header}
 use Rattle.asyncio.specs.States.{pick}
 use Rattle.asyncio.specs.Numbers.{heap-id, task-id, call-id}
 use Rattle.asyncio.specs.Layout.{to-value, to-error}
-use Rattle.queue.specs.Queue.{front-of, pop-front}
+use Rattle.queue.specs.Queue.{front-of, pop-front, order-from}
 use Rattle.machine.specs.Store.{Store, task, object, put-object, put-place, header, put-queue, set-state, set-moment, set-calls, add-object, add-log, blocked, exited}
 use Rattle.machine.specs.Scheduler.{pending-call-ids, remove-task, remove-from-ready-queue, live-count}
 use Rattle.machine.specs.Delivery.{Delivery, deliver-awaiter-success, deliver-awaiter-failure, resolve-future, fail-future}
@@ -200,6 +200,11 @@ apply-result s r =
 unfoldable pub apply-future-results : Store → List Result → Store
 apply-future-results s [] = s
 apply-future-results s (r ∷ rs) = apply-future-results (apply-result s r) rs
+
+-- what a batch woke, in task order: in u, which a batch has left of s, the entries that s has not come lowest first, behind those that s has
+-- (document 02, No. 7)
+unfoldable pub wake-in-order : Store → Store → Store
+wake-in-order s u = put-queue u (order-from (u .queue) (s .queue .len))
 
 -- ---- making
 

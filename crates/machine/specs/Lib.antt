@@ -25,3 +25,4 @@ pub mod DemandTwo
 pub mod DemandTwoCases
 pub mod CancelCounts
 pub mod CancelCountsTest
+pub mod WakeOrder

@@ -24,7 +24,7 @@ use Rattle.asyncio.specs.Limits.{object-limit, item-limit, place-limit, call-li
 use Rattle.machine.specs.Store.{Store, object, place, header, set-calls, forget}
 use Rattle.machine.specs.Scheduler.{live, is-some, bit, pending-external, pending-call-ids, cancel-task, cleanup}
 use Rattle.machine.specs.Sound.{sound, is-ended, value-known, option-known}
-use Rattle.machine.specs.Events.{Control, runs, waits, Switched, Awaited, Result, exec-get-awaitable, handle-task-completion, handle-task-failure, activate, resume-next, apply-future-results, make-coroutine, make-pending, make-settled, make-gather}
+use Rattle.machine.specs.Events.{Control, runs, waits, Switched, Awaited, Result, exec-get-awaitable, handle-task-completion, handle-task-failure, activate, resume-next, apply-future-results, wake-in-order, make-coroutine, make-pending, make-settled, make-gather}
 
 -- The events of document 01, kinds 1 to 11 of its records, and the reads, kinds 12 and 13.
 pub data Event : Type 0 where
@@ -252,7 +252,7 @@ accept s (gather os) = record { store = make-gather s os; answer = made (header 
 accept s (await o) = answer-await (exec-get-awaitable s (runner (header s .moment)) o)
 accept s (complete v) = task-completes s (runner (header s .moment)) v
 accept s (fail n) = task-fails s (runner (header s .moment)) (Error.Script n)
-accept s (results rs) = record { store = apply-future-results s rs; answer = done }
+accept s (results rs) = record { store = wake-in-order s (apply-future-results s rs); answer = done }
 accept s resume = resume-with-resolved-futures s
 accept s (cancel t) = answer-cancel s (cancel-task s t)
 accept s (show o) = record { store = s; answer = shows (shown s (object s o)) }

@@ -1,15 +1,16 @@
--- A batch of results is taken result by result, in its order: the events of a session with each accepted batch cut into batches of one result, an empty one into
--- none. Document 01: "P10 a batch waking task 2, then 1: 2 runs first", "P11 f1 then f2 fail: the waiter gets f1's error only"; of a refused one (10) "nothing
--- applied", so that it stays as it was sent. Demand 2 reads off these events in which order things arrive.
+-- A batch of results is taken result by result, in its order: an accepted batch is cut into batches of one result, an empty one into none. Document 01: "P11 f1
+-- then f2 fail: the waiter gets f1's error only"; of a refused one (10) "nothing applied", so that it stays as it was sent. Demand 2 reads off the pieces in which
+-- order things arrive, and off nothing else: the session goes on with the batch, whose tasks stand in the queue in task order (document 02, No. 7: P10 becomes
+-- "task 1 runs first", and "Which error a gather keeps still follows the batch").
 use Prim.Native.Nat.{ℕ}
-use mathlib.Core.List.{List, [], _∷_, _++_}
+use mathlib.Core.List.{List, [], _∷_}
 use mathlib.Core.Option.{Option, none, some}
 use Rattle.asyncio.specs.States.{pick}
 use Rattle.machine.specs.Store.{Store}
 use Rattle.machine.specs.Events.{Result}
 use Rattle.machine.specs.Machine.{Event, Answer}
 use Rattle.machine.specs.History.{tells}
-use Rattle.machine.specs.Sessions.{Sent, lent-any, begun}
+use Rattle.machine.specs.Sessions.{Sent, lent-any}
 
 -- the results of a batch
 unfoldable pub batch-of : Event → Option (List Result)
@@ -44,12 +45,3 @@ cut-by e (some rs) = each-alone rs (e .list)
 -- an event sent to the store s
 unfoldable pub cut : Store → Sent → List Sent
 cut s e = cut-by e (accepted-batch (lent-any s e .answer) (e .event))
-
--- the events sent one after the other, the first to the store s
-unfoldable pub singles-from : Store → List Sent → List Sent
-singles-from s [] = []
-singles-from s (e ∷ es) = cut s e ++ singles-from (lent-any s e .store) es
-
--- the events of a session
-unfoldable pub singles : List Sent → List Sent
-singles es = singles-from (begun .store) es
