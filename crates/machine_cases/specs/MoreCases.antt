@@ -90,7 +90,7 @@ more-cases =
     unchanged
     (Event.call ⇒ Answer.called 0 ∷ pending 0 ⇒ Answer.made 0 ∷ Event.await 0 ⇒ Answer.awaited (waits (0 ∷ [])) 0 ∷ [])
     (Event.results (return 7 5 ∷ []) ⇒ Answer.done) ∷
-    -- P10 a batch waking task 2, then 1: 2 runs first
+    -- P10 a batch waking task 2, then 1: task 1 runs first (document 02, No. 7)
     answered (
     Event.coroutine 10 ⇒ Answer.made 0 ∷
     Event.coroutine 11 ⇒ Answer.made 1 ∷
@@ -103,9 +103,29 @@ more-cases =
     Event.await 2 ⇒ Answer.awaited (runs 2 (start 1 11)) 0 ∷
     Event.await 3 ⇒ Answer.awaited (waits (0 ∷ 1 ∷ [])) 0 ∷
     Event.results (return 1 5 ∷ return 0 6 ∷ []) ⇒ Answer.done ∷
-    Event.resume ⇒ Answer.control (runs 2 (value (plain 5))) ∷
-    Event.complete (plain 1) ⇒ Answer.control (runs 1 (value (plain 6))) ∷
+    Event.resume ⇒ Answer.control (runs 1 (value (plain 6))) ∷
+    Event.complete (plain 1) ⇒ Answer.control (runs 2 (value (plain 5))) ∷
     Event.complete (plain 2) ⇒ Answer.control (runs 0 (value (list 4))) ∷
+    []) ∷
+    -- one batch completes task 2's gather, then fails task 1's, which keeps the first error of the batch: task 1 runs first
+    answered (
+    Event.coroutine 10 ⇒ Answer.made 0 ∷
+    Event.coroutine 11 ⇒ Answer.made 1 ∷
+    Event.call ⇒ Answer.called 0 ∷
+    Event.call ⇒ Answer.called 1 ∷
+    Event.call ⇒ Answer.called 2 ∷
+    pending 0 ⇒ Answer.made 2 ∷
+    pending 1 ⇒ Answer.made 3 ∷
+    pending 2 ⇒ Answer.made 4 ∷
+    Event.gather (0 ∷ 1 ∷ []) ⇒ Answer.made 5 ∷
+    Event.gather (2 ∷ 3 ∷ []) ⇒ Answer.made 6 ∷
+    Event.gather (4 ∷ []) ⇒ Answer.made 7 ∷
+    Event.await 5 ⇒ Answer.awaited (runs 1 (start 0 10)) 1 ∷
+    Event.await 6 ⇒ Answer.awaited (runs 2 (start 1 11)) 1 ∷
+    Event.await 7 ⇒ Answer.awaited (waits (0 ∷ 1 ∷ 2 ∷ [])) 1 ∷
+    Event.results (return 2 5 ∷ error 1 12 ∷ error 0 11 ∷ []) ⇒ Answer.done ∷
+    Event.resume ⇒ Answer.control (runs 1 (raises (Error.Host 12))) ∷
+    Event.complete (plain 1) ⇒ Answer.control (runs 2 (value (list 7))) ∷
     []) ∷
     -- P11 f1 then f2 fail: the waiter gets f1's error only
     answered (
