@@ -19,3 +19,4 @@ pub mod Walk
 pub mod WalkEvents
 pub mod SizedLaws
 pub mod RemovalCounts
+pub mod OrderedLists

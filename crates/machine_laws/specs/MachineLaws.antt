@@ -33,7 +33,8 @@ use Rattle.machine.specs.Machine.{Event, Answer, Step, switched, answer-await, 
 use Rattle.machine.specs.Machine.{accept, refusal, decide, step}
 use Rattle.machine.specs.Lent.{slices-right, lengths-right, write-calls, control-calls, answer-calls, written, lent-as, lent-by, lent-step}
 use Rattle.machine_laws.specs.Views.{Sized}
-use Rattle.machine_laws.specs.Statements.{SameWords, NoneBelow, Ascending, CallList}
+use Rattle.queue.specs.Queue.{NoneBelow, Ascending}
+use Rattle.machine_laws.specs.Statements.{SameWords, CallList}
 use Rattle.machine_laws.specs.TestLaws.{and-true}
 use Rattle.machine_laws.specs.StoreLaws.{header-fits}
 

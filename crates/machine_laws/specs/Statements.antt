@@ -10,6 +10,7 @@ use Rattle.asyncio.specs.Kinds.{kind}
 use Rattle.asyncio.specs.Parts.{count-of}
 use Rattle.asyncio.specs.Limits.{object-limit, u32-limit}
 use Rattle.rows.specs.Tables.{object-at}
+use Rattle.queue.specs.Queue.{Ascending}
 use Rattle.machine.specs.Tests.{count}
 use Rattle.machine.specs.Store.{Store, task, object, header}
 use Rattle.machine.specs.Scheduler.{pending-call-ids, Walk, walk}
@@ -132,16 +133,6 @@ walk-rest w = walk (unmarked (w .marks) + length (w .stack)) w
 unfoldable pub AllBelow : ℕ → List ℕ → Type 0
 AllBelow n [] = Unit {0}
 AllBelow n (c ∷ cs) = (c < n) × AllBelow n cs
-
--- no number of the list is below c
-unfoldable pub NoneBelow : ℕ → List ℕ → Type 0
-NoneBelow c [] = Unit {0}
-NoneBelow c (d ∷ ds) = (c ≤ d) × NoneBelow c ds
-
--- each number is followed by none below it
-unfoldable pub Ascending : List ℕ → Type 0
-Ascending [] = Unit {0}
-Ascending (c ∷ cs) = NoneBelow c cs × Ascending cs
 
 -- a list of calls as a wait has it
 pub record CallList (cs : List ℕ) : Type 0 where

@@ -40,7 +40,7 @@ use Rattle.machine.specs.Events.{How, start, value, raises, Switched, Awaited, 
 use Rattle.machine.specs.Events.{start-by, start-task, activate-state, activate-within, activate, stays, go-on, await-coroutine, await-external-future, await-gather, await-object, exec-get-awaitable}
 use Rattle.machine.specs.Scheduler.{PendingExternal, as-pending, pending-external, pending-external-in, is-call}
 use Rattle.machine.specs.Delivery.{value-or, resolve-pending, fail-pending, settle-pending, settle-found, resolve-future, fail-future}
-use Rattle.machine.specs.Events.{Result, apply-result, apply-future-results}
+use Rattle.machine.specs.Events.{Result, apply-result, apply-future-results, wake-in-order}
 use Rattle.rows.specs.Tables.{header-at, task-at}
 use Rattle.machine_laws.specs.Views.{Sized}
 use Rattle.machine_laws.specs.StoreLaws.{task-fits, object-fits, place-fits, header-fits, object-put-other, object-put-header}
@@ -679,10 +679,11 @@ module _ (K : Store → Type 0) (kept : Closed K) where
   unfolding cleanup
   cleanup-kept s k = kept .moved _ Moment.Ended tt (kept .queued _ empty-queue (remove-from-kept (header s .next) s 0 k))
 
-  -- a batch of results
+  -- a batch of results, and whom it woke in task order
   pub results-kept : ((s : Store) (o : ℕ) (p : PendingExternal) (y : ExternalFutureState) → o < object-limit → as-pending (object s o) ≡ some p → K s → K (put-object s o (Object.ExternalFuture (p .call) y)))
-      → (rs : List Result) (s : Store) → K s → K (apply-future-results s rs)
-  results-kept settles rs s k = batch-kept K delivers-of settles rs s k
+      → (rs : List Result) (s : Store) → K s → K (wake-in-order s (apply-future-results s rs))
+  unfolding wake-in-order
+  results-kept settles rs s k = kept .queued _ _ (batch-kept K delivers-of settles rs s k)
 
 -- the running task awaits an object
 pub await-kept : (J K : Store → Type 0) → Commits J → Closed K → ((u : Store) → J u → K u) → (t o : ℕ) → o < object-limit → ((u : Store) → J u → K (add-log (set-state u t (TaskState.Blocked (heap-id o))) (blocked t)))

@@ -9,7 +9,7 @@ use Rattle.asyncio.specs.declared.Moment.{Moment}
 use Rattle.asyncio.specs.States.{pick}
 use Rattle.machine.specs.Store.{Store, object, header, set-calls, forget}
 use Rattle.machine.specs.Scheduler.{is-some, pending-external, pending-call-ids, cancel-task}
-use Rattle.machine.specs.Events.{resume-next, make-coroutine, make-pending, make-settled, make-gather}
+use Rattle.machine.specs.Events.{resume-next, wake-in-order, make-coroutine, make-pending, make-settled, make-gather}
 use Rattle.machine.specs.Machine.{Event, Answer, made, called, done, finished, finished-error, shows, is-eager, refused, Step, refusal, shown, can-await-eagerly, switched, answer-await, answer-cancel, end-main, repeat-wait}
 use Rattle.machine_theorems.specs.Panics.Panic.{Panics}
 use Rattle.machine_theorems.specs.Panics.PanickingDelivery.{results-or-panic}
@@ -49,7 +49,7 @@ module _ (panic : Panics) where
   accept-or-panic s (Event.await o) = current-or-panic s (header s .moment) (λ t. answer-await (await-or-panic panic s t o))
   accept-or-panic s (Event.complete v) = current-or-panic s (header s .moment) (λ t. task-completes-or-panic s t v)
   accept-or-panic s (Event.fail n) = current-or-panic s (header s .moment) (λ t. task-fails-or-panic s t (Error.Script n))
-  accept-or-panic s (Event.results rs) = record { store = results-or-panic panic s rs; answer = done }
+  accept-or-panic s (Event.results rs) = record { store = wake-in-order s (results-or-panic panic s rs); answer = done }
   accept-or-panic s Event.resume = resume-or-panic s
   accept-or-panic s (Event.cancel t) = answer-cancel s (cancel-task s t)
   accept-or-panic s (Event.show o) = record { store = s; answer = shows (shown s (object s o)) }

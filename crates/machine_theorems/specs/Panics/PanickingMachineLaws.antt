@@ -17,7 +17,7 @@ use Rattle.asyncio.specs.Numbers.{task-id}
 use Rattle.asyncio.specs.States.{pick}
 use Rattle.machine.specs.Store.{Store, object, header, forget, fresh}
 use Rattle.machine.specs.Scheduler.{is-some, pending-call-ids}
-use Rattle.machine.specs.Events.{Switched, Result, exec-get-awaitable, make-pending}
+use Rattle.machine.specs.Events.{Switched, Result, wake-in-order, exec-get-awaitable, make-pending}
 use Rattle.machine.specs.Machine.{Event, Answer, made, done, refused, Step, is-run, in-running, runner, refusal, refusals, first-refusal, switched, answer-await}
 use Rattle.machine.specs.Machine.{task-completes, task-fails, repeat-wait, resume-with-resolved-futures, accept, decide, step, after, answers}
 use Rattle.machine.specs.Sound.{value-known}
@@ -76,7 +76,7 @@ module _ (panic : Panics) where
 
     results-same : (rs : List Result) → first-refusal (refusals s (Event.results rs)) ≡ 0 → accept-or-panic panic s (Event.results rs) ≡ accept s (Event.results rs)
     unfolding accept-or-panic accept
-    results-same rs r = ap (λ (x : Store). record { store = x; answer = done }) (results-safe panic rs s (results-apply s h rs r) (during-of s h))
+    results-same rs r = ap (λ (x : Store). record { store = wake-in-order s x; answer = done }) (results-safe panic rs s (results-apply s h rs r) (during-of s h))
 
     accept-safe : (e : Event) → InRange e → refusal s e ≡ 0 → accept-or-panic panic s e ≡ accept s e
     unfolding accept-or-panic accept InRange refusals

@@ -18,7 +18,7 @@ use Rattle.asyncio.specs.Kinds.{kind, is-completed}
 use Rattle.machine.specs.Tests.{_and_}
 use Rattle.machine.specs.Store.{Store, view, task, object, header}
 use Rattle.machine.specs.Scheduler.{live}
-use Rattle.machine.specs.Events.{Result, apply-future-results}
+use Rattle.machine.specs.Events.{Result, apply-future-results, wake-in-order}
 use Rattle.machine.specs.Machine.{Event, is-run, in-running, in-waiting, in-both, unmade, any-of, result-unknown, bad-result, refusals, first-refusal}
 use Rattle.machine.specs.Machine.{switched, answer-await, end-main, task-completes, task-fails, runner, accept}
 use Rattle.machine.specs.Sound.{is-ended, value-known}
@@ -26,7 +26,7 @@ use Rattle.machine_laws.specs.TestLaws.{not-not, both, both-left, both-right, o
 use Rattle.machine_laws.specs.StoreLaws.{header-fits}
 use Rattle.machine_laws.specs.SoundLaws.{pass, running-rest}
 use Rattle.machine_theorems.specs.Soundness.Stores.{SoundStore, during-of, sound-store-during}
-use Rattle.machine_theorems.specs.Soundness.Results.{MayApply, AllApply, results-keep}
+use Rattle.machine_theorems.specs.Soundness.Results.{MayApply, AllApply, results-keep, ordered-keep}
 use Rattle.machine_theorems.specs.Soundness.Exits.{completion-keeps, fail-keeps, end-keeps, cancel-keeps, resume-keeps}
 use Rattle.machine_theorems.specs.Soundness.AwaitGather.{await-keeps}
 use Rattle.machine.specs.Sessions.{InRange}
@@ -134,9 +134,10 @@ module _ (s : Store) (h : SoundStore s) where
       let f = pass 9 (ltb result-limit (length rs) || any-of bad-result rs) [] (d .1) in
       all-apply s rs (d .0) (or-right (ltb result-limit (length rs)) (any-of bad-result rs) (f .0))
 
-  results-sound-store : (xs : List Result) → AllApply (header s .made) (λ o. T (is-completed (kind (object s o)))) xs → SoundStore (apply-future-results s xs)
+  results-sound-store : (xs : List Result) → AllApply (header s .made) (λ o. T (is-completed (kind (object s o)))) xs → SoundStore (wake-in-order s (apply-future-results s xs))
   unfolding view
-  results-sound-store xs a = sound-store-during (apply-future-results s xs) (h .facts .runner) (results-keep xs s a (during-of s h))
+  results-sound-store xs a =
+      sound-store-during (wake-in-order s (apply-future-results s xs)) (h .facts .runner) (ordered-keep s (apply-future-results s xs) (results-keep xs s a (during-of s h)))
 
 -- an event that does not make
 unfoldable pub Acting : Event → Type 0

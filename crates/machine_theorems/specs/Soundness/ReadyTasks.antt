@@ -15,6 +15,7 @@ use Rattle.asyncio.specs.Limits.{task-limit}
 use Rattle.queue.specs.declared.ReadyQueue.{ReadyQueue}
 use Rattle.queue.specs.Queue.{entries, push-back, remove, occurrences, Distinct, without}
 use Rattle.queue.specs.QueueLaws.{push-back-full, entries-push, entries-remove, occurrences-append, occurrences-without, at-most-once, distinct-append, distinct-without}
+use Rattle.queue.specs.OrderLaws.{distinct-same}
 use Rattle.machine.specs.Sound.{entry-ready}
 use Rattle.machine_laws.specs.Views.{update}
 use Rattle.machine_laws.specs.TestLaws.{both, both-left, both-right, below, from-below}
@@ -98,6 +99,10 @@ from-queued next ts q h i l =
     (from-below i _ (λ j m. not-T (eqb (getD q j 0) (getD q i 0)) (λ e. apart q (h .distinct) i j l m (eqb→eq (getD q j 0) (getD q i 0) e)))))
 
 -- ---- the queue changes
+
+-- in another order
+pub queued-ordered : {next : ℕ} {ts : ℕ → Task} (q r : List ℕ) → ((t : ℕ) → occurrences r t ≡ occurrences q t) → Queued next ts q → Queued next ts r
+queued-ordered q r same h = record { ready = λ t l. h .ready t (subst (λ (n : ℕ). 1 ≤ n) (same t) l); distinct = distinct-same q r same (h .distinct) }
 
 -- a task that is not ready does not stand there
 pub not-queued : {next : ℕ} {ts : ℕ → Task} {q : List ℕ} (t : ℕ) → is-ready (ts t .state) ≡ false → Queued next ts q → occurrences q t ≡ 0

@@ -3,10 +3,11 @@ use mathlib.Core.Path.{_≡_, refl, ap, sym, subst, _∙_}
 use mathlib.Core.Bool.{Bool, true, false}
 use mathlib.Core.List.{List, [], _∷_}
 use mathlib.Core.Option.{Option, none, some}
-use Prim.Native.Nat.{ℕ, _<_}
+use Prim.Native.Nat.{ℕ, _≤_, _<_}
 use native.Mathlib.Nat.{le-refl}
 use native.Mathlib.Omega.{arith}
 use lib.Dec.{T, eqb}
+use lib.ListN.{length}
 use borrow.Author.Tests.{eqb-true}
 use Rattle.asyncio.specs.declared.CallId.{CallId}
 use Rattle.asyncio.specs.declared.Value.{Value}
@@ -16,6 +17,7 @@ use Rattle.asyncio.specs.declared.Awaiter.{Awaiter}
 use Rattle.asyncio.specs.declared.ExternalFutureState.{ExternalFutureState}
 use Rattle.asyncio.specs.declared.Object.{Object}
 use Rattle.asyncio.specs.declared.Header.{Header}
+use Rattle.asyncio.specs.Limits.{task-limit}
 use Rattle.asyncio.specs.Ranges.{ObjectFits, ErrorFits}
 use Rattle.asyncio.specs.Layout.{to-value, to-error}
 use Rattle.asyncio.specs.States.{pick}
@@ -24,14 +26,18 @@ use Rattle.asyncio.specs.Parts.{awaiter-of, count-of}
 use Rattle.machine.specs.Store.{Store, View, view, object, header, put-object}
 use Rattle.machine.specs.Scheduler.{PendingExternal, as-awaited, as-pending, pending-external-in, pending-external}
 use Rattle.machine.specs.Delivery.{value-or, resolve-pending, fail-pending, settle-pending, settle-found, resolve-future, fail-future}
-use Rattle.machine.specs.Events.{Result, apply-result, apply-future-results}
+use Rattle.queue.specs.declared.ReadyQueue.{ReadyQueue}
+use Rattle.queue.specs.Queue.{entries, order-from}
+use Rattle.queue.specs.OrderLaws.{order-from-len, order-from-length, order-occurrences}
+use Rattle.machine.specs.Events.{Result, apply-result, apply-future-results, wake-in-order}
 use Rattle.machine.specs.Sound.{object-in-range, items-below, value-known, option-known, object-values, object-filled}
 use Rattle.machine_laws.specs.ValueLaws.{value-stays}
 use Rattle.machine_laws.specs.Facts.{SoundBut, Nothing}
 use Rattle.machine_laws.specs.StoreLaws.{object-fits, object-put-object, header-put-object}
 use Rattle.machine_laws.specs.MakingLaws.{value-fits}
 use Rattle.machine_laws.specs.DeliveryLaws.{pending-object, first-below}
-use Rattle.machine_theorems.specs.Soundness.Stores.{SoundDuring}
+use Rattle.machine_theorems.specs.Soundness.ReadyTasks.{queued-ordered}
+use Rattle.machine_theorems.specs.Soundness.Stores.{SoundDuring, queue-during}
 use Rattle.machine_theorems.specs.Soundness.Deliver.{Delivering, Detached, Settles, settle-keeps, detached-keeps, DeliveringError, failure-keeps}
 use Rattle.machine_theorems.specs.Soundness.Fill.{alone-keeps, DeliveringValue, success-keeps}
 
@@ -210,3 +216,14 @@ pub results-keep : {r : ℕ → Bool} {D : ℕ → Type 0} {hd : Header} (xs : L
 unfolding apply-future-results AllApply
 results-keep [] s a h = h
 results-keep (x ∷ xs) s a h = results-keep xs (apply-result s x) (a .1) (result-keeps s x (a .0) h)
+
+-- the wakes in task order
+pub ordered-keep : {r : ℕ → Bool} {D : ℕ → Type 0} {hd : Header} (s u : Store) → SoundDuring Nothing r D hd u → SoundDuring Nothing r D hd (wake-in-order s u)
+unfolding wake-in-order
+ordered-keep s u h =
+    let q : ReadyQueue = u .queue in
+    let n : ℕ = s .queue .len in
+    let ids : length (q .ids) ≡ task-limit = h .kept .memory .ids in
+    let short : q .len ≤ task-limit = h .kept .memory .words-right .queue-short in
+    queue-during u h (order-from q n) (subst (λ (k : ℕ). k ≤ task-limit) (sym (order-from-len q n)) short) (order-from-length q n ∙ ids)
+    (queued-ordered (entries q) (entries (order-from q n)) (order-occurrences q n ids short))
