@@ -11,7 +11,7 @@ use Rattle.machine.specs.Lent.{Lent, slices-right, lent-step, lent-read}
 use Rattle.machine.specs.History.{Entry}
 use Rattle.machine.specs.Sessions.{Sent, is-read, lent-any, entry-of, Session, begun, send, send-all, session}
 use Rattle.machine_sessions.specs.Queue.Following.{any-event, any-read, read-leaves}
-use Rattle.machine_sessions.specs.Gather.Batches.{left-alike, entry-alike}
+use Rattle.machine_sessions.specs.Gather.LogApart.{left-alike, entry-alike}
 use Rattle.boundary_numbers.specs.declared.Numbers.{Numbers}
 use Rattle.boundary_numbers.specs.Numbers.{numbers-as}
 use Rattle.boundary_lent.specs.Boundary.{Memory, memory-of, memory-step}

@@ -20,83 +20,60 @@ pub mod OutcomesStay
 pub mod GatherEvents
 pub mod LateLast
 pub mod LogApart
+pub mod RowsOnly
 pub mod Batches
 pub mod CutOutcomes
 pub mod CutGathers
-use mathlib.Core.Path.{_≡_, refl, ap, ap₂, sym, subst, _∙_}
+use mathlib.Core.Path.{_≡_, refl, ap, sym, subst, _∙_}
 use mathlib.Core.Logic.{_⊎_, inl, inr}
-use mathlib.Core.Bool.{Bool, true, false, not, _&&_, _||_, true≢false}
+use mathlib.Core.Bool.{Bool, true, false, not, _&&_, true≢false}
 use mathlib.Core.List.{List, [], _∷_, _++_, map}
 use mathlib.Core.Option.{Option, none, some, Option·some-injective}
 use Prim.Native.Nat.{ℕ, zero, suc, _+_, _≤_, _<_}
 use native.Mathlib.Nat.{not-suc-le-zero}
 use native.Mathlib.Omega.{arith}
-use native.Mathlib.Decide.{ℕ-discrete}
-use lib.Dec.{T, eqb, ltb, leb, ltb→lt}
+use lib.Dec.{eqb, ltb}
 use lib.ListN.{length}
-use borrow.Author.Tests.{eq-eqb, ne-eqb, eqb-true, ltb-true, ltb-false, leb-false}
+use borrow.Author.Tests.{ltb-true, ltb-false}
 use Rattle.asyncio.specs.declared.Value.{Value}
 use Rattle.asyncio.specs.declared.Error.{Error}
-use Rattle.asyncio.specs.declared.TaskState.{TaskState}
-use Rattle.asyncio.specs.declared.Task.{Task}
-use Rattle.asyncio.specs.declared.CoroutineState.{CoroutineState}
-use Rattle.asyncio.specs.declared.ExternalFutureState.{ExternalFutureState}
 use Rattle.asyncio.specs.declared.GatherState.{GatherState}
 use Rattle.asyncio.specs.declared.Object.{Object}
-use Rattle.asyncio.specs.declared.Moment.{Moment}
-use Rattle.asyncio.specs.declared.Header.{Header}
 use Rattle.asyncio.specs.declared.OptionValue.{OptionValue}
-use Rattle.asyncio.specs.Numbers.{task-id, heap-id}
+use Rattle.asyncio.specs.Numbers.{heap-id}
 use Rattle.asyncio.specs.Layout.{to-value, to-error}
-use Rattle.asyncio.specs.RangeLaws.{pick-has}
-use Rattle.asyncio.specs.States.{pick, is-live, is-unstarted}
-use Rattle.machine.specs.Store.{Store, view, task, object, header, forget, fresh}
-use Rattle.machine.specs.Scheduler.{AwaitedGather, as-awaited, bit, pending-call-ids}
-use Rattle.machine.specs.Delivery.{value-or}
-use Rattle.machine.specs.Events.{How, Control, Switched, Result, activate, handle-task-completion, handle-task-failure, resume-next}
-use Rattle.machine.specs.Machine.{Event, Answer, Step, Shown, switched, answer-await, end-main, task-completes, task-fails, repeat-wait, resume-with-resolved-futures, runner, unmade, first-refusal, refusals, refusal, slot-value, show-places, shown, accept, step}
-use Rattle.machine.specs.Sound.{items-below, object-in-range, places-below}
+use Rattle.asyncio.specs.States.{pick}
+use Rattle.machine.specs.Store.{Store, object, header, fresh}
+use Rattle.machine.specs.Events.{Result}
+use Rattle.machine.specs.Machine.{Event, Answer, Shown, shown}
 use Rattle.machine.specs.Tests.{is-in}
 use Rattle.machine.specs.Gather.{Outcome, returned, raised, gather}
-use Rattle.machine.specs.Singles.{singles}
-use Rattle.machine.specs.Computes.{computes}
-use Rattle.machine.specs.History.{Entry, Making, says, said, nothing-said, tells, is-none, done-only, spawned-by, spawned-for, started-by, coroutine-of, running-coroutine, exits-unstarted, is-at, later, making, items, outcome, error-of, coroutine-outcome, completed-value, failed-error, first-reply, reply-error, Says, reply-in, reply-outcome, stored-or, shown-outcome, outcome-by}
-use Rattle.machine.specs.Sessions.{Sent, Session, InRange, AllSentInRange, lent-any, happened-by, entry-of, begun, send, send-all, session}
+use Rattle.machine.specs.History.{Entry, Making, says, said, nothing-said, tells, is-none, spawned-for, coroutine-of, running-coroutine, exits-unstarted, is-at, later, making, items, outcome, error-of, coroutine-outcome, completed-value, failed-error, first-reply, reply-error, Says, reply-in, reply-outcome, stored-or, shown-outcome, outcome-by}
+use Rattle.machine.specs.Sessions.{Sent, Session, InRange, AllSentInRange, lent-any, entry-of, begun, send, send-all, session}
 use Rattle.machine.specs.DemandThree.{read, shown-by, look}
-use Rattle.machine_laws.specs.TestLaws.{below}
 use Rattle.machine_laws.specs.DeliveryLaws.{absurd-some}
-use Rattle.machine_laws.specs.MachineLaws.{accepted-step, refused-step}
-use Rattle.machine_laws.specs.SoundLaws.{pass, refusal-rest, refusal-forget}
-use Rattle.machine_theorems.specs.Soundness.Stores.{SoundStore}
-use Rattle.machine_theorems.specs.Soundness.Sessions.{forget-sound-store, step-sound-store}
-use Rattle.machine_sessions.specs.Queue.Following.{Sends, stepped, short, sends, Following, accept-accepts, send-following, session-follows}
+use Rattle.machine_sessions.specs.Queue.Following.{session-follows}
 use Rattle.machine_sessions.specs.Waits.{said-accepted}
-use Rattle.machine_sessions.specs.Places.Told.{Frozen, co, pends, gave, broke, many, frozen}
-use Rattle.machine_sessions.specs.Places.Agrees.{reply-row, Makes, MadeRight, Agrees}
-use Rattle.machine_sessions.specs.Places.AgreesEvents.{refused-agrees, forget-agrees}
-use Rattle.machine_sessions.specs.Places.AgreesSessions.{accept-agrees, send-agrees, session-agrees}
-use Rattle.machine_sessions.specs.Places.PlacesHold.{row-outcome, outcome-row, shows-made}
-use Rattle.machine_sessions.specs.Gather.Failing.{RowMoves, CoroutineMoves}
-use Rattle.machine_sessions.specs.Gather.FailingRows.{ItemAt, Raised}
-use Rattle.machine_sessions.specs.Gather.FailingStated.{Brings, FailedBy, Reuses, item-at, CommitFailed, EventFails, ResultIn, reuse, script, answer}
-use Rattle.machine_sessions.specs.Gather.FailingAwait.{accept-fails}
-use Rattle.machine_sessions.specs.Gather.FailingHistory.{Knows, UsedRow, step-knows, raised-outcome, used-made}
-use Rattle.machine.specs.History.{value-of}
+use Rattle.machine_sessions.specs.Places.Agrees.{MadeRight}
+use Rattle.machine_sessions.specs.Places.AgreesSessions.{session-agrees}
+use Rattle.machine_sessions.specs.Places.PlacesHold.{row-outcome, outcome-row}
+use Rattle.machine_sessions.specs.Gather.FailingStated.{Brings, Reuses, ResultIn, reuse, script, answer}
+use Rattle.machine_sessions.specs.Gather.FailingHistory.{UsedRow, used-made}
 use lib.ListN.{getD}
 use Rattle.machine_sessions.specs.Stall.Outcomes.{outcome-of, is-there}
-use Rattle.machine.specs.DemandThree.{read, shown-by, delivered, none-open, Demand3}
-use Rattle.machine.specs.DemandTwo.{came, committed, seen, is-late, arrivals-from, InUse, ReuseAt, GatherRight, DemandTwo}
+use Rattle.machine.specs.DemandThree.{read, shown-by, delivered, none-open}
+use Rattle.machine.specs.DemandTwo.{came, committed, is-late, InUse, ReuseAt, DemandTwo}
 use Rattle.machine_sessions.specs.DemandThree.{demand-three}
 use Rattle.machine_sessions.specs.Stall.WaitingSessions.{awaited-items-no-error}
 use Rattle.machine_sessions.specs.Gather.Arrivals.{head-in, tail-in}
 use Rattle.machine_sessions.specs.Gather.GatherSteps.{Delivered, NoneRaised, FailsLater, FailsAtCommit, GatherStep, Which, w-awaited, w-completed, w-failed, which, in-range-snoc, session-snoc, gather-right}
-use Rattle.machine_sessions.specs.Gather.GatherEvents.{Stays, session-stays}
+use Rattle.machine_sessions.specs.Gather.GatherEvents.{session-stays}
 use Rattle.machine_sessions.specs.Gather.LateLast.{InPlace, item-place, item-committed, item-not-runner, item-late}
-use Rattle.machine_sessions.specs.Gather.Batches.{lent-entry, batch, Single, few-said, singles-in-range, singles-single}
+use Rattle.machine_sessions.specs.Gather.LogApart.{lent-entry}
+use Rattle.machine_sessions.specs.Gather.Batches.{batch, few-said}
 use Rattle.machine_sessions.specs.Gather.Users.{sent-in-use}
-use Rattle.machine_sessions.specs.Gather.CutOutcomes.{singles-look}
-use Rattle.machine_sessions.specs.Gather.CutGathers.{singles-items, singles-reused}
-use Rattle.machine_sessions.specs.Gather.FailingSessions.{ShownMoves, ShowsCommitted, FailedItem, FirstFailed, GatherFails, session-fails, making-later, look-row, row-failed, IsPending, IsFailed, session-knows}
+use Rattle.machine_sessions.specs.Gather.CutGathers.{cut-so-far}
+use Rattle.machine_sessions.specs.Gather.FailingSessions.{ShownMoves, ShowsCommitted, FailedItem, FirstFailed, GatherFails, session-fails, making-later, look-row, row-failed, IsFailed, session-knows}
 
 -- ---- what show answers
 
@@ -768,10 +745,6 @@ fresh-not g = by (look-row (begun .store) g (session-follows [] tt .whole)) (ses
 
 -- ---- every list of events
 
--- single results
-single-right : (es : List Sent) → AllSentInRange es → Single es → (g : ℕ) → committed (look (session es .store) g) ≡ true → GatherRight es es g
-single-right es i w g c = gather-right g (λ ps s a b d. gather-step ps s a b g d) (fresh-not g) es i w c
-
 -- no result commits a gather
 result-commits-none : (ps : List Sent) (r : Result) (l : List ℕ) (g : ℕ) (e : Error) → AllSentInRange ps → committed (look (session ps .store) g) ≡ false
     → look (send (session ps) (batch (r ∷ []) l) .store) g ≡ Shown.a-gather-failed e → ⊥
@@ -782,8 +755,5 @@ result-commits-none ps r l g e j c q =
 
 -- For every list of events, and every gather that was committed.
 pub demand-two : DemandTwo
-demand-two es i g c = by (single-right (singles es) (singles-in-range es i) (singles-single es i) g (ap committed (singles-look es i g) ∙ c))
-  where
-    by : GatherRight (singles es) (singles es) g → GatherRight es (singles es) g
-    by (inl x) = inl (ap seen (sym (singles-look es i g)) ∙ (x ∙ ap (λ (os : List ℕ). gather os (arrivals-from begun (singles es) g)) (singles-items es i g c)))
-    by (inr x) = inr (x .0, sym (singles-look es i g) ∙ x .1, singles-reused es i g (x .0) (λ ps r l j. result-commits-none ps r l g (x .0) j) (x .2))
+demand-two es i g c =
+    gather-right g (λ ps s a b d. gather-step ps s a b g d) (λ ps e. cut-so-far g (λ qs r l z j. result-commits-none qs r l g z j) ps e) (fresh-not g) es i c

@@ -7,3 +7,4 @@ pub mod Honest
 pub mod Gather
 pub mod CancelByMoment
 pub mod Removals
+pub mod Wakes

@@ -5,6 +5,7 @@ pub mod Outcomes
 pub mod TaskLogEvents
 pub mod WaitingTasks
 pub mod Effects
+pub mod ResultsWalk
 pub mod Room
 pub mod Standing
 pub mod StandingEvents

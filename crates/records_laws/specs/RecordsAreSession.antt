@@ -25,7 +25,7 @@ use Rattle.machine_laws.specs.SoundLaws.{sound-forget}
 use Rattle.machine_theorems.specs.Soundness.Stores.{SoundStore, sound-store-sound}
 use Rattle.machine_theorems.specs.Soundness.Sessions.{forget-sound-store, step-sound-store, fresh-sound-store}
 use Rattle.machine_sessions.specs.Queue.Following.{Sends, stepped, short, sends, any-event, any-read, read-leaves, accept-accepts, session-follows}
-use Rattle.machine_sessions.specs.Gather.Batches.{lent-entry, left-alike, entry-alike}
+use Rattle.machine_sessions.specs.Gather.LogApart.{lent-entry, left-alike, entry-alike}
 use Rattle.records_tasks.specs.declared.TaskRecord.{TaskRecord}
 use Rattle.records_tasks.specs.TaskRecord.{no-record, record-of}
 use Rattle.records_tasks.specs.TaskRows.{rows-of, saved}

@@ -1,36 +1,39 @@
--- A committed gather in a session and in the one with its batches cut: its items (`singles-items`), and that it failed in its own commit (`singles-reused`).
-use mathlib.Core.Path.{_≡_, refl, ap, ap₂, sym, subst, _∙_}
+-- A committed gather after an accepted batch and after its results one by one: its items (`same-items`), and that it failed in its own commit before
+-- (`cut-reused`). So what holds of it and its arrivals after the one holds after the other (`cut-so-far`).
+use mathlib.Core.Path.{_≡_, refl, ap, ap₂, sym, subst, _∙_, fun-ext}
 use mathlib.Core.Logic.{_⊎_, inl, inr}
 use mathlib.Core.Bool.{true, false, true≢false}
-use mathlib.Core.List.{List, [], _∷_, _++_, append-assoc, append-nil}
+use mathlib.Core.List.{List, [], _∷_, _++_, map}
 use mathlib.Core.Option.{Option, none, some}
 use Prim.Native.Nat.{ℕ, _+_, _≤_, _<_}
 use native.Mathlib.Nat.{not-suc-le-zero}
 use native.Mathlib.Omega.{arith}
-use lib.ListN.{length, getD}
+use lib.ListN.{length}
+use Rattle.asyncio.specs.declared.Value.{Value}
 use Rattle.asyncio.specs.declared.Error.{Error}
 use Rattle.asyncio.specs.declared.ExternalFutureState.{ExternalFutureState}
 use Rattle.asyncio.specs.declared.Object.{Object}
 use Rattle.asyncio.specs.Parts.{first-of, count-of}
-use Rattle.machine.specs.Store.{Store, task, object, place, header, forget}
+use Rattle.machine.specs.Store.{Store, object, place, header}
 use Rattle.machine.specs.Events.{Result}
-use Rattle.machine.specs.Machine.{Shown, shown}
-use Rattle.machine.specs.Scheduler.{live}
+use Rattle.machine.specs.Machine.{Event, Shown, shown}
+use Rattle.machine.specs.Gather.{Outcome, Arrival, first-raised}
 use Rattle.machine.specs.Tests.{is-in}
-use Rattle.machine.specs.History.{items, error-of, lives, awaited-before}
-use Rattle.machine.specs.Sessions.{Sent, Session, AllSentInRange, lent-any, begun, send, session}
-use Rattle.machine.specs.Singles.{accepted-batch, each-alone, cut-by, cut, singles-from, singles}
+use Rattle.machine.specs.History.{items, tells, value-of, error-of}
+use Rattle.machine.specs.Sessions.{Sent, Session, InRange, AllSentInRange, lent-any, send, send-all, session}
+use Rattle.machine.specs.Singles.{accepted-batch, each-alone, cut-by, cut}
 use Rattle.machine.specs.DemandThree.{look}
-use Rattle.machine.specs.DemandTwo.{came, committed, Elsewhere, InUse, is-running, is-completed, has-task, is-pending, is-awaited, ReuseAt, Reused}
+use Rattle.machine.specs.DemandTwo.{came, committed, Reused}
 use Rattle.machine_sessions.specs.Queue.Following.{session-follows}
 use Rattle.machine_sessions.specs.Places.Told.{many, frozen}
 use Rattle.machine_sessions.specs.Places.Agrees.{ItemsAt}
 use Rattle.machine_sessions.specs.Places.AgreesSessions.{session-agrees}
 use Rattle.machine_sessions.specs.Gather.FailingSessions.{look-row, gather-list}
-use Rattle.machine_sessions.specs.Gather.GatherSteps.{session-snoc}
-use Rattle.machine_sessions.specs.Gather.Batches.{batch, singles-in-range, singles-leave}
-use Rattle.machine_sessions.specs.Gather.CutOutcomes.{session-same, singles-look, singles-came}
-use Rattle.machine_sessions.specs.Gather.Users.{lives-live}
+use Rattle.machine_sessions.specs.Gather.Arrivals.{Arrivals, All}
+use Rattle.machine_sessions.specs.Gather.GatherSteps.{Delivered, Quietly, SoFar, uncommitted, is-awaited, is-completed, is-failed, reused-later, in-range-append, session-append}
+use Rattle.machine_sessions.specs.Gather.RowsOnly.{rows-of}
+use Rattle.machine_sessions.specs.Gather.Batches.{batch, accepted-batch-is, alone-in-range}
+use Rattle.machine_sessions.specs.Gather.CutOutcomes.{Alike, batch-alike, same-look, same-came}
 
 -- ---- its items
 
@@ -65,66 +68,19 @@ items-listed es i g c = by (look-row s g (session-follows es i .whole))
     by (inl b) = gather-list (session es .history) s (session-agrees es i) g (first-of (object s g)) (count-of (object s g)) (b .0) (committed-many s (object s g) (ap committed (sym (b .1)) ∙ c))
     by (inr b) = absurd (true≢false (sym c ∙ (ap committed (b .1) ∙ (unfold committed in refl))))
 
--- stores that are the same but for the log
-listed-alike : (s u : Store) (g : ℕ) (os : List ℕ) → forget s ≡ forget u → Listed s g os → Listed u g os
-unfolding object place forget
-listed-alike s u g os q k = subst (λ (z : Store). Listed z g os) q k
+listed-rows : (s u : Store) (g : ℕ) (os : List ℕ) → rows-of s ≡ rows-of u → Listed s g os → Listed u g os
+unfolding object place
+listed-rows s u g os q k = subst (λ (z : Store). Listed z g os) q k
 
 -- The items are the same.
-pub singles-items : (es : List Sent) (i : AllSentInRange es) (g : ℕ) → committed (look (session es .store) g) ≡ true → items (session (singles es) .history) g ≡ items (session es .history) g
-singles-items es i g c =
-    let a = listed-alike (session (singles es) .store) (session es .store) g (items (session (singles es) .history) g) (singles-leave es i)
-    (items-listed (singles es) (singles-in-range es i) g (ap committed (singles-look es i g) ∙ c)) in
+pub same-items : (fs es : List Sent) (j : AllSentInRange fs) (i : AllSentInRange es) → Alike (session fs) (session es) → (g : ℕ) → committed (look (session es .store) g) ≡ true
+    → items (session fs .history) g ≡ items (session es .history) g
+same-items fs es j i k g c =
+    let a = listed-rows (session fs .store) (session es .store) g (items (session fs .history) g) (k .rows) (items-listed fs j g (ap committed (same-look fs es j i k g) ∙ c)) in
     let b = items-listed es i g c in
-    same-list (λ p. place (session es .store) p .item .0) (first-of (object (session es .store) g)) (items (session (singles es) .history) g) (items (session es .history) g) (sym (a .0) ∙ b .0) (a .1) (b .1)
+    same-list (λ p. place (session es .store) p .item .0) (first-of (object (session es .store) g)) (items (session fs .history) g) (items (session es .history) g) (sym (a .0) ∙ b .0) (a .1) (b .1)
 
--- ---- the item in use that it failed by
-
--- who lives
-lives-alike : (s u : Store) (t : ℕ) → forget s ≡ forget u → live s t ≡ live u t
-unfolding live header task forget
-lives-alike s u t q = ap (λ (z : Store). live z t) q
-
-singles-lives : (es : List Sent) → AllSentInRange es → (t : ℕ) → lives (session (singles es) .history) t ≡ lives (session es .history) t
-singles-lives es i t =
-    lives-live (singles es) (singles-in-range es i) t ∙ (lives-alike (session (singles es) .store) (session es .store) t (singles-leave es i) ∙ sym (lives-live es i t))
-
-module _ (es : List Sent) (i : AllSentInRange es) (g o : ℕ) where
-  -- another gather that has it among its items
-  singles-elsewhere : Elsewhere (session (singles es)) g o → Elsewhere (session es) g o
-  singles-elsewhere k =
-      let c : committed (look (session es .store) (k .user)) ≡ true = ap committed (sym (singles-look es i (k .user))) ∙ k .was-committed in
-      record { user = k .user; other = k .other; was-committed = c; among = ap (is-in o) (sym (singles-items es i (k .user) c)) ∙ k .among }
-
-  singles-taken : (awaited-before (session (singles es) .history) o ≡ true) ⊎ Elsewhere (session (singles es)) g o → (awaited-before (session es .history) o ≡ true) ⊎ Elsewhere (session es) g o
-  singles-taken (inl k) = inl (sym (session-same es i .awaits o) ∙ k)
-  singles-taken (inr k) = inr (singles-elsewhere k)
-
-  singles-in-use : (v : Shown) (e : Error) → InUse (session (singles es)) g o v e → InUse (session es) g o v e
-  singles-in-use _ _ (is-running f k) = is-running f (sym (session-same es i .names o) ∙ k)
-  singles-in-use _ _ (is-completed f k) = is-completed f (sym (session-same es i .names o) ∙ k)
-  singles-in-use _ _ (has-task f t l s k) = has-task f t (sym (singles-lives es i t) ∙ l) (sym (session-same es i .spawns t) ∙ s) (singles-elsewhere k)
-  singles-in-use _ _ (is-pending k) = is-pending (singles-taken k)
-  singles-in-use _ _ (is-awaited vs k) = is-awaited vs (singles-taken k)
-
-singles-reuse-at : (es : List Sent) (i : AllSentInRange es) (g : ℕ) (e : Error) → committed (look (session es .store) g) ≡ true → ReuseAt (session (singles es)) g e → ReuseAt (session es) g e
-singles-reuse-at es i g e c r =
-    record {
-      at = r .at;
-      within = subst (λ (os : List ℕ). r .at < length os) same (r .within);
-      left = λ b l. ap (λ (os : List ℕ). error-of (came (session es) (getD os b 0))) (sym same) ∙ (ap error-of (sym (singles-came es i _)) ∙ r .left b l);
-      first = λ b l q. r .first b l (ap (λ (os : List ℕ). getD os b 0) same ∙ (q ∙ ap (λ (os : List ℕ). getD os (r .at) 0) (sym same)));
-      in-use = subst (λ (os : List ℕ). InUse (session es) g (getD os (r .at) 0) (look (session es .store) (getD os (r .at) 0)) e) same
-          (subst (λ (v : Shown). InUse (session es) g o v e) (singles-look es i o) (singles-in-use es i g o (look (session (singles es) .store) o) e (r .in-use)));
-    }
-  where
-    same : items (session (singles es) .history) g ≡ items (session es .history) g
-    same = singles-items es i g c
-
-    o : ℕ
-    o = getD (items (session (singles es) .history) g) (r .at) 0
-
--- ---- an event of the cut session
+-- ---- the events before a batch, and its results
 
 head-same : (x y : Sent) (xs ys : List Sent) → x ∷ xs ≡ y ∷ ys → x ≡ y
 head-same x y xs ys q = cc
@@ -161,115 +117,96 @@ alone-is [] l before c zs q = absurd (nil-not before c zs q)
 alone-is (r ∷ rs) l [] c zs q = (r, l, sym (head-same _ c _ _ q))
 alone-is (r ∷ rs) l (b ∷ bs) c zs q = alone-is rs l bs c zs (tail-same _ b _ _ q)
 
--- an event that stays: the events before it, cut, and with it
-record Stood (s : Store) (es before : List Sent) (c : Sent) : Type 0 where
-  left : List Sent
-  right : List Sent
-  whole : es ≡ left ++ (c ∷ right)
-  then : singles-from s left ≡ before
-  now : singles-from s (left ++ (c ∷ [])) ≡ before ++ (c ∷ [])
-
-stood-later : (s : Store) (e : Sent) (es bs : List Sent) (c : Sent) → Stood (lent-any s e .store) es bs c → Stood s (e ∷ es) (cut s e ++ bs) c
-unfolding singles-from
-stood-later s e es bs c k =
-    record {
-      left = e ∷ k .left;
-      right = k .right;
-      whole = ap (λ (zs : List Sent). e ∷ zs) (k .whole);
-      then = ap (λ (zs : List Sent). cut s e ++ zs) (k .then);
-      now = ap (λ (zs : List Sent). cut s e ++ zs) (k .now) ∙ sym (append-assoc (cut s e) bs (c ∷ []));
-    }
-
-stood-first : (s : Store) (e : Sent) (es before : List Sent) (c : Sent) (zs : List Sent) → cut s e ≡ before ++ (c ∷ zs) → IsSingle c ⊎ Stood s (e ∷ es) before c
-unfolding cut cut-by singles-from
-stood-first s e es before c zs q = by (accepted-batch (lent-any s e .answer) (e .event)) refl q
-  where
-    first : (bs : List Sent) → cut s e ≡ e ∷ [] → e ∷ [] ≡ bs ++ (c ∷ zs) → Stood s (e ∷ es) bs c
-    first [] n d =
-        let same : e ≡ c = head-same e c _ _ d in
-        record {
-          left = [];
-          right = es;
-          whole = ap (λ (z : Sent). z ∷ es) same;
-          then = refl;
-          now = append-nil (cut s c) ∙ subst (λ (z : Sent). cut s z ≡ z ∷ []) same n;
-        }
-    first (b ∷ bs) n d = absurd (nil-not bs c zs (tail-same e b _ _ d))
-
-    by : (b : Option (List Result)) → accepted-batch (lent-any s e .answer) (e .event) ≡ b → cut-by e b ≡ before ++ (c ∷ zs) → IsSingle c ⊎ Stood s (e ∷ es) before c
-    by none n d = inr (first before (ap (cut-by e) n) d)
-    by (some rs) n d = inl (alone-is rs (e .list) before c zs d)
-
--- A single result of a batch, or an event that stays.
-stood-from : (es : List Sent) (s : Store) (before after : List Sent) (c : Sent) → singles-from s es ≡ before ++ (c ∷ after) → IsSingle c ⊎ Stood s es before c
-unfolding singles-from
-stood-from [] s before after c q = absurd (nil-not before c after q)
-stood-from (e ∷ es) s before after c q = by (append-split (cut s e) (singles-from (lent-any s e .store) es) before after c q) (λ bs p. stood-from es (lent-any s e .store) bs after c p)
-  where
-    later : (bs : List Sent) → before ≡ cut s e ++ bs → IsSingle c ⊎ Stood (lent-any s e .store) es bs c → IsSingle c ⊎ Stood s (e ∷ es) before c
-    later bs p (inl k) = inl k
-    later bs p (inr k) = inr (subst (λ (zs : List Sent). Stood s (e ∷ es) zs c) (sym p) (stood-later s e es bs c k))
-
-    by : ((zs : List Sent) × (cut s e ≡ before ++ (c ∷ zs))) ⊎ ((bs : List Sent) × (before ≡ cut s e ++ bs) × (singles-from (lent-any s e .store) es ≡ bs ++ (c ∷ after)))
-        → ((bs : List Sent) → singles-from (lent-any s e .store) es ≡ bs ++ (c ∷ after) → IsSingle c ⊎ Stood (lent-any s e .store) es bs c) → IsSingle c ⊎ Stood s (e ∷ es) before c
-    by (inl k) go = stood-first s e es before c (k .0) (k .1)
-    by (inr k) go = later (k .0) (k .1) (go (k .0) (k .2))
-
--- ---- a gather that failed in its own commit
-
 range-left : (es fs : List Sent) → AllSentInRange (es ++ fs) → AllSentInRange es
 unfolding AllSentInRange
 range-left [] fs i = tt
 range-left (e ∷ es) fs i = (i .0, range-left es fs (i .1))
 
-module _ (es : List Sent) (i : AllSentInRange es) (g : ℕ) (e : Error) where
-  stood-reused : (before : List Sent) (c : Sent) → Stood (begun .store) es before c → committed (look (session before .store) g) ≡ false → look (send (session before) c .store) g ≡ Shown.a-gather-failed e
-      → ReuseAt (send (session before) c) g e → Reused es g e
-  unfolding committed
-  stood-reused before c k u f r =
-      record {
-        before = k .left;
-        commit = c;
-        after = k .right;
-        parts = k .whole;
-        uncommitted = ap committed (sym (singles-look (k .left) (range-left (k .left) (c ∷ k .right) j) g)) ∙ (ap (λ (zs : List Sent). committed (look (session zs .store) g)) then-is ∙ u);
-        failed = shown-now;
-        reuse = subst (λ (x : Session). ReuseAt x g e) (session-snoc (k .left) c)
-            (singles-reuse-at all a g e (ap (λ (x : Session). committed (look (x .store) g)) (session-snoc (k .left) c) ∙ ap committed shown-now) (subst (λ (x : Session). ReuseAt x g e) (sym cut-now) r));
-      }
+-- ---- a gather that failed in its own commit
+
+module _ (g : ℕ) (no-result : (ps : List Sent) (r : Result) (l : List ℕ) (e : Error) → AllSentInRange ps → committed (look (session ps .store) g) ≡ false
+    → look (send (session ps) (batch (r ∷ []) l) .store) g ≡ Shown.a-gather-failed e → ⊥) where
+  -- It failed so before the batch: no single result commits a gather.
+  cut-reused : (ps : List Sent) (rs : List Result) (l : List ℕ) (e : Error) (s : Sent) → AllSentInRange ps → Reused (ps ++ each-alone rs l) g e → Reused (ps ++ (s ∷ [])) g e
+  cut-reused ps rs l e s i r = by (append-split ps (each-alone rs l) (r .before) (r .after) (r .commit) (r .parts))
     where
-      j : AllSentInRange (k .left ++ (c ∷ k .right))
-      j = subst AllSentInRange (k .whole) i
+      by : ((zs : List Sent) × (ps ≡ r .before ++ (r .commit ∷ zs))) ⊎ ((bs : List Sent) × (r .before ≡ ps ++ bs) × (each-alone rs l ≡ bs ++ (r .commit ∷ r .after))) → Reused (ps ++ (s ∷ [])) g e
+      by (inl k) = reused-later ps s g e (record { before = r .before; commit = r .commit; after = k .0; parts = k .1; uncommitted = r .uncommitted; failed = r .failed; reuse = r .reuse })
+      by (inr k) =
+          let one = alone-is rs l (k .0) (r .commit) (r .after) (k .2) in
+          absurd (no-result (r .before) (one .0) (one .1) e (range-left (r .before) (r .commit ∷ r .after) (subst AllSentInRange (r .parts) (in-range-append ps (each-alone rs l) i (alone-in-range rs l)))) (r .uncommitted)
+          (subst (λ (c : Sent). look (send (session (r .before)) c .store) g ≡ Shown.a-gather-failed e) (one .2) (r .failed)))
 
-      all : List Sent
-      all = k .left ++ (c ∷ [])
+  -- ---- what holds of a gather and its arrivals
 
-      a : AllSentInRange all
-      a = range-left all (k .right) (subst AllSentInRange (sym (append-assoc (k .left) (c ∷ []) (k .right))) j)
+  module _ (fs es : List Sent) (j : AllSentInRange fs) (i : AllSentInRange es) (k : Alike (session fs) (session es)) where
+    abbrev y : Session
+    y = session fs
 
-      then-is : singles (k .left) ≡ before
-      then-is = unfold singles in (k .then)
+    abbrev x : Session
+    x = session es
 
-      now-is : singles all ≡ before ++ (c ∷ [])
-      now-is = unfold singles in (k .now)
+    came-is : came y ≡ came x
+    came-is = fun-ext (same-came fs es j i k)
 
-      cut-now : session (singles all) ≡ send (session before) c
-      cut-now = ap session now-is ∙ session-snoc before c
+    alike-delivered : committed (look (x .store) g) ≡ true → (vs : List (Option Value)) → Delivered y g vs → Delivered x g vs
+    alike-delivered c vs d = d ∙ ap₂ (λ (f : ℕ → Option (Outcome Value Error)) (os : List ℕ). map (λ o. value-of (f o)) os) came-is (same-items fs es j i k g c)
 
-      shown-now : look (send (session (k .left)) c .store) g ≡ Shown.a-gather-failed e
-      shown-now = ap (λ (x : Session). look (x .store) g) (sym (session-snoc (k .left) c)) ∙ (sym (singles-look all a g) ∙ (ap (λ (x : Session). look (x .store) g) cut-now ∙ f))
+    alike-quietly : committed (look (x .store) g) ≡ true → (xs : Arrivals) → Quietly y g xs → Quietly x g xs
+    alike-quietly c xs w =
+        record {
+          all-returned = w .all-returned;
+          own = subst (λ (f : ℕ → Option (Outcome Value Error)). All (λ (a : Arrival Value Error). f (a .awaitable) ≡ some (a .outcome)) xs) came-is (w .own);
+          known = λ o n. w .known o (subst (λ (os : List ℕ). is-in o os ≡ true) (sym same) n) ∙ ap (λ (f : ℕ → Option (Outcome Value Error)). f o) came-is;
+          none-raised = λ o n. ap (λ (f : ℕ → Option (Outcome Value Error)). error-of (f o)) (sym came-is) ∙ w .none-raised o (subst (λ (os : List ℕ). is-in o os ≡ true) (sym same) n);
+        }
+      where
+        same : items (y .history) g ≡ items (x .history) g
+        same = same-items fs es j i k g c
 
-  -- A gather that failed so with the batches cut failed so in the session: no single result commits a gather.
-  pub singles-reused : ((ps : List Sent) (r : Result) (l : List ℕ) → AllSentInRange ps → committed (look (session ps .store) g) ≡ false → look (send (session ps) (batch (r ∷ []) l) .store) g ≡ Shown.a-gather-failed e → ⊥)
-      → Reused (singles es) g e → Reused es g e
-  singles-reused no-result r = by (stood-from es (begun .store) (r .before) (r .after) (r .commit) (parts-from (r .parts)))
+    alike-so-far : (xs : Arrivals) → ((e : Error) → Reused fs g e → Reused es g e) → SoFar fs y g xs → SoFar es x g xs
+    unfolding committed
+    alike-so-far xs r (uncommitted c e) = uncommitted (ap committed (sym (same-look fs es j i k g)) ∙ c) e
+    alike-so-far xs r (is-awaited vs q d o w) =
+        let p : look (x .store) g ≡ Shown.a-gather-awaited vs = sym (same-look fs es j i k g) ∙ q in is-awaited vs p (alike-delivered (ap committed p) vs d) o (alike-quietly (ap committed p) xs w)
+    alike-so-far xs r (is-completed vs q d o w) =
+        let p : look (x .store) g ≡ Shown.a-gather-completed vs = sym (same-look fs es j i k g) ∙ q in is-completed vs p (alike-delivered (ap committed p) vs d) o (alike-quietly (ap committed p) xs w)
+    alike-so-far xs r (is-failed e q w) = is-failed e p (by w)
+      where
+        p : look (x .store) g ≡ Shown.a-gather-failed e
+        p = sym (same-look fs es j i k g) ∙ q
+
+        by : (first-raised (items (y .history) g) [] xs ≡ some e) ⊎ Reused fs g e → (first-raised (items (x .history) g) [] xs ≡ some e) ⊎ Reused es g e
+        by (inl z) = inl (subst (λ (os : List ℕ). first-raised os [] xs ≡ some e) (same-items fs es j i k g (ap committed p)) z)
+        by (inr z) = inr (r e z)
+
+  -- From the pieces of an event to the event.
+  pub cut-so-far : (ps : List Sent) (e : Sent) → AllSentInRange ps → InRange (e .event) → (xs : Arrivals) → SoFar (ps ++ cut (session ps .store) e) (send-all (session ps) (cut (session ps .store) e)) g xs
+      → SoFar (ps ++ (e ∷ [])) (send (session ps) e) g xs
+  unfolding cut cut-by send-all
+  cut-so-far ps e i a xs w = by (accepted-batch (lent-any (session ps .store) e .answer) (e .event)) refl w
     where
-      parts-from : singles es ≡ r .before ++ (r .commit ∷ r .after) → singles-from (begun .store) es ≡ r .before ++ (r .commit ∷ r .after)
-      parts-from q = unfold singles in q
+      x0 : Session
+      x0 = session ps
 
-      j : AllSentInRange (r .before)
-      j = range-left (r .before) (r .commit ∷ r .after) (subst AllSentInRange (r .parts) (singles-in-range es i))
+      Pieces : List Sent → Type 0
+      Pieces fs = SoFar (ps ++ fs) (send-all x0 fs) g xs
 
-      by : IsSingle (r .commit) ⊎ Stood (begun .store) es (r .before) (r .commit) → Reused es g e
-      by (inl k) = absurd (no-result (r .before) (k .0) (k .1) j (r .uncommitted) (subst (λ (c : Sent). look (send (session (r .before)) c .store) g ≡ Shown.a-gather-failed e) (k .2) (r .failed)))
-      by (inr k) = stood-reused (r .before) (r .commit) k (r .uncommitted) (r .failed) (r .reuse)
+      goes : (rs : List Result) (l : List ℕ) → tells (lent-any (x0 .store) (batch rs l) .answer) .accepts ≡ true → Pieces (each-alone rs l) → SoFar (ps ++ (batch rs l ∷ [])) (send x0 (batch rs l)) g xs
+      goes rs l b z =
+          let fs : List Sent = ps ++ each-alone rs l in
+          let es : List Sent = ps ++ (batch rs l ∷ []) in
+          let p : session fs ≡ send-all x0 (each-alone rs l) = session-append ps (each-alone rs l) in
+          let q : session es ≡ send x0 (batch rs l) = session-append ps (batch rs l ∷ []) in
+          let k : Alike (session fs) (session es) = subst (λ (v : Session). Alike v (session es)) (sym p) (subst (Alike (send-all x0 (each-alone rs l))) (sym q) (batch-alike x0 rs l (session-follows ps i .whole) b)) in
+          subst (λ (v : Session). SoFar es v g xs) q
+          (alike-so-far fs es (in-range-append ps (each-alone rs l) i (alone-in-range rs l)) (in-range-append ps (batch rs l ∷ []) i (unfold AllSentInRange InRange in (tt, tt))) k xs
+          (λ o r. cut-reused ps rs l o (batch rs l) i r) (subst (λ (v : Session). SoFar fs v g xs) (sym p) z))
+
+      by : (b : Option (List Result)) → accepted-batch (lent-any (x0 .store) e .answer) (e .event) ≡ b → Pieces (cut-by e b) → SoFar (ps ++ (e ∷ [])) (send x0 e) g xs
+      by none q z = z
+      by (some rs) q z =
+          let p = accepted-batch-is (lent-any (x0 .store) e .answer) (e .event) rs q in
+          let sent : e ≡ batch rs (e .list) = ap (λ (v : Event). record { event = v; list = e .list }) (p .1) in
+          subst (λ (v : Sent). SoFar (ps ++ (v ∷ [])) (send x0 v) g xs) (sym sent)
+          (goes rs (e .list) (subst (λ (v : Sent). tells (lent-any (x0 .store) v .answer) .accepts ≡ true) sent (p .0)) z)

@@ -38,7 +38,7 @@ use Rattle.machine.specs.Store.{Store, LogEntry, view, task, object, place, hea
 use Rattle.machine.specs.Scheduler.{AwaitedGather, PendingExternal, as-awaited, as-pending, is-some, bit, pending-external, pending-call-ids, remove-task, cancel-one, live}
 use Rattle.machine.specs.Scheduler.{Walk, reach-if, reach, remove-blocked, visit-by, visit, visit-place, visit-open, walk-gather, walk-next, walk, walk-from, cancel-task, remove-from, cleanup}
 use Rattle.machine.specs.Delivery.{value-or, deliver-awaiter-success, resolve-pending, fail-pending, settle-pending, settle-found, resolve-future, fail-future}
-use Rattle.machine.specs.Events.{How, start, Control, runs, waits, Switched, Result, activate, resume-next, handle-task-failure, completed, handle-task-completion, apply-result, apply-future-results, put-items, make-coroutine, make-pending, make-settled, make-gather}
+use Rattle.machine.specs.Events.{How, start, Control, runs, waits, Switched, Result, activate, resume-next, handle-task-failure, completed, handle-task-completion, apply-result, apply-future-results, put-items, make-coroutine, make-pending, make-settled, make-gather, wake-in-order}
 use Rattle.machine.specs.Machine.{Event, Answer, Step, switched, end-main, task-completes, task-fails, repeat-wait, resume-with-resolved-futures, answer-cancel}
 use Rattle.machine.specs.Sound.{value-known, runs-now}
 use Rattle.machine.specs.History.{says, nothing-said, tells, done-only, spawned-by, reply-error}
@@ -278,11 +278,11 @@ module _ (ev : Event) (s : Store) (w : SoundStore s) where
   all rs (x ∷ xs) u q i a h k = all rs xs (apply-result u x) q (λ y z. i y (inr z)) (a .1) (result-keeps u x (a .0) h) (one u h k rs x q (i x (inl refl)) (a .0))
 
 pub results-fails : (rs : List Result) (s : Store) → SoundStore s → AllApply (header s .made) (λ o. T (is-completed (kind (object s o)))) rs
-    → EventFails (Event.results rs) s (record { store = apply-future-results s rs; answer = Answer.done })
-unfolding tells done-only
+    → EventFails (Event.results rs) s (record { store = wake-in-order s (apply-future-results s rs); answer = Answer.done })
+unfolding tells done-only wake-in-order
 results-fails rs s w a =
-    quiet-ends (Event.results rs) s (Unit {0}) (record { store = apply-future-results s rs; answer = Answer.done }) refl
-    (all (Event.results rs) s w rs rs s refl (λ x z. z) a (during-of s w) (begins (Event.results rs) s (w .memory .sized)))
+    quiet-ends (Event.results rs) s (Unit {0}) (record { store = wake-in-order s (apply-future-results s rs); answer = Answer.done }) refl
+    (queue-failing s _ _ _ _ _ (Unit {0}) (apply-future-results s rs) _ (all (Event.results rs) s w rs rs s refl (λ x z. z) a (during-of s w) (begins (Event.results rs) s (w .memory .sized))))
 
 -- ---- events that may start tasks bring coroutine-reuse
 

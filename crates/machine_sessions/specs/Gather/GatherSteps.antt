@@ -1,24 +1,25 @@
 -- Demand 2 over sessions, from what one event does to a gather (`GatherStep`): what show gives of a committed gather is the documentation's gather of the
--- arrivals so far, event by event.
-use Prim.Native.Nat.{ℕ, zero, suc, _<_, _≤_}
+-- arrivals so far, event by event; an accepted batch is taken result by result, and then as it was sent.
+use Prim.Native.Nat.{ℕ, _<_, _≤_}
 use mathlib.Core.Path.{_≡_, refl, sym, ap, ap₂, subst, _∙_}
-use mathlib.Core.Bool.{Bool, true, false, _&&_, true≢false}
-use mathlib.Core.List.{List, [], _∷_, _++_, map}
+use mathlib.Core.Bool.{Bool, true, false, true≢false}
+use mathlib.Core.List.{List, [], _∷_, _++_, map, append-assoc, append-nil}
 use mathlib.Core.Option.{Option, none, some}
 use mathlib.Core.Logic.{_⊎_, inl, inr}
 use lib.ListN.{length, getD}
 use Rattle.asyncio.specs.declared.Value.{Value}
 use Rattle.asyncio.specs.declared.Error.{Error}
-use Rattle.machine_laws.specs.DeliveryLaws.{absurd-some}
 use Rattle.machine.specs.Tests.{is-in}
 use Rattle.machine.specs.Machine.{Shown}
-use Rattle.machine.specs.Gather.{Outcome, returned, raised, Arrival, Gathered, waiting, listed, propagated, outcome-of, first-raised, in-order, gather}
+use Rattle.machine.specs.Gather.{Outcome, returned, raised, Gathered, waiting, listed, propagated, outcome-of, first-raised, in-order, gather}
 use Rattle.machine.specs.History.{said, value-of, error-of, items}
 use Rattle.machine.specs.Sessions.{Sent, Session, begun, send, send-all, session, InRange, AllSentInRange}
+use Rattle.machine.specs.Singles.{cut}
 use Rattle.machine.specs.DemandThree.{look, none-open}
-use Rattle.machine.specs.DemandTwo.{came, committed, values, seen, arrivals-of, is-late, in-turn, arrivals-by, arrivals-in, arrivals-from, ReuseAt, Reused, GatherRight}
-use Rattle.machine_sessions.specs.Gather.Batches.{lent-entry, SingleFrom, Single}
-use Rattle.machine_sessions.specs.Gather.Arrivals.{in-cons, Came, Arrivals, AllReturned, none-raised, all-returned-++, or-then, outcome-++, new-of, outcome-new, new-returned, in-turn-all, All, all-++, Raises, Quiet, first-behind, first-stays, Turn, first-in-turn, all-own, raises-own, first-from-left, listed-all, waiting-one}
+use Rattle.machine.specs.DemandTwo.{came, committed, values, seen, arrivals-of, is-late, in-turn, arrivals-by, arrivals-in, arrivals-along, arrivals-from, ReuseAt, Reused, GatherRight}
+use Rattle.machine_sessions.specs.Gather.LogApart.{lent-entry}
+use Rattle.machine_sessions.specs.Gather.Batches.{SingleFrom, cut-range, cut-single}
+use Rattle.machine_sessions.specs.Gather.Arrivals.{in-cons, Came, Arrivals, AllReturned, none-raised, all-returned-++, or-then, outcome-++, new-of, outcome-new, new-returned, in-turn-all, All, all-++, Quiet, first-behind, first-stays, Turn, first-in-turn, all-own, raises-own, first-from-left, listed-all, waiting-one}
 
 -- ---- what one event does to gather g
 
@@ -127,22 +128,14 @@ unfolding send-all
 send-all-++ x [] fs = refl
 send-all-++ x (e ∷ es) fs = send-all-++ (send x e) es fs
 
-++-assoc : (ls bs cs : List Sent) → (ls ++ bs) ++ cs ≡ ls ++ (bs ++ cs)
-++-assoc [] bs cs = refl
-++-assoc (a ∷ ls) bs cs = ap (λ (zs : List Sent). a ∷ zs) (++-assoc ls bs cs)
-
-arrivals-assoc : (ls bs cs : Arrivals) → (ls ++ bs) ++ cs ≡ ls ++ (bs ++ cs)
-arrivals-assoc [] bs cs = refl
-arrivals-assoc (a ∷ ls) bs cs = ap (λ (zs : Arrivals). a ∷ zs) (arrivals-assoc ls bs cs)
-
 -- a gather that failed in its own commit, one event later
-reused-later : (ps : List Sent) (s : Sent) (g : ℕ) (e : Error) → Reused ps g e → Reused (ps ++ (s ∷ [])) g e
+pub reused-later : (ps : List Sent) (s : Sent) (g : ℕ) (e : Error) → Reused ps g e → Reused (ps ++ (s ∷ [])) g e
 reused-later ps s g e r =
     record {
       before = r .before;
       commit = r .commit;
       after = r .after ++ (s ∷ []);
-      parts = ap (λ (zs : List Sent). zs ++ (s ∷ [])) (r .parts) ∙ ++-assoc (r .before) (r .commit ∷ r .after) (s ∷ []);
+      parts = ap (λ (zs : List Sent). zs ++ (s ∷ [])) (r .parts) ∙ append-assoc (r .before) (r .commit ∷ r .after) (s ∷ []);
       uncommitted = r .uncommitted;
       failed = r .failed;
       reuse = r .reuse;
@@ -290,35 +283,58 @@ module _ (ps : List Sent) (s : Sent) (g : ℕ) where
 
 -- ---- all events
 
-pub in-range-snoc : (ps : List Sent) (s : Sent) → AllSentInRange ps → InRange (s .event) → AllSentInRange (ps ++ (s ∷ []))
+pub in-range-append : (ps es : List Sent) → AllSentInRange ps → AllSentInRange es → AllSentInRange (ps ++ es)
 unfolding AllSentInRange
-in-range-snoc [] s a b = (b, tt)
-in-range-snoc (p ∷ ps) s a b = (a .0, in-range-snoc ps s (a .1) b)
+in-range-append [] es a b = b
+in-range-append (p ∷ ps) es a b = (a .0, in-range-append ps es (a .1) b)
+
+pub in-range-snoc : (ps : List Sent) (s : Sent) → AllSentInRange ps → InRange (s .event) → AllSentInRange (ps ++ (s ∷ []))
+in-range-snoc ps s a b = in-range-append ps (s ∷ []) a (unfold AllSentInRange in (b, tt))
+
+pub session-append : (ps es : List Sent) → session (ps ++ es) ≡ send-all (session ps) es
+unfolding session
+session-append ps es = send-all-++ begun ps es
 
 pub session-snoc : (ps : List Sent) (s : Sent) → session (ps ++ (s ∷ [])) ≡ send (session ps) s
-unfolding session send-all
-session-snoc ps s = send-all-++ begun ps (s ∷ [])
+unfolding send-all
+session-snoc ps s = session-append ps (s ∷ [])
 
-module _ (g : ℕ) (steps : (ps : List Sent) (s : Sent) → AllSentInRange ps → InRange (s .event) → length (said (lent-entry (session ps .store) s) .results) ≤ 1 → GatherStep (session ps) (send (session ps) s) g) where
-  pub run-so-far : (ps es : List Sent) (xs : Arrivals) → AllSentInRange ps → AllSentInRange es → SingleFrom (session ps) es → SoFar ps (session ps) g xs → SoFar (ps ++ es) (send-all (session ps) es) g (xs ++ arrivals-from (session ps) es g)
-  unfolding AllSentInRange SingleFrom send-all arrivals-from
-  run-so-far ps [] xs a b w k = subst (λ (zs : List Sent). SoFar zs (session ps) g (xs ++ [])) (sym (nil ps)) (subst (SoFar ps (session ps) g) (sym (nil-a xs)) k)
-    where
-      nil : (zs : List Sent) → zs ++ [] ≡ zs
-      nil [] = refl
-      nil (z ∷ zs) = ap (λ (ws : List Sent). z ∷ ws) (nil zs)
+module _ (g : ℕ) where
+  at-end : (ps : List Sent) (x : Session) (xs : Arrivals) → SoFar ps x g xs → SoFar (ps ++ []) x g (xs ++ [])
+  at-end ps x xs k = subst (λ (zs : List Sent). SoFar zs x g (xs ++ [])) (sym (append-nil ps)) (subst (SoFar ps x g) (sym (append-nil xs)) k)
 
-      nil-a : (zs : Arrivals) → zs ++ [] ≡ zs
-      nil-a [] = refl
-      nil-a (z ∷ zs) = ap (λ (ws : Arrivals). z ∷ ws) (nil-a zs)
-  run-so-far ps (e ∷ es) xs a b w k =
+  -- from behind event e on
+  then-on : (ps : List Sent) (e : Sent) (es : List Sent) (x : Session) (xs new more : Arrivals) → SoFar ((ps ++ (e ∷ [])) ++ es) x g ((xs ++ new) ++ more) → SoFar (ps ++ (e ∷ es)) x g (xs ++ (new ++ more))
+  then-on ps e es x xs new more k = subst (λ (zs : List Sent). SoFar zs x g (xs ++ (new ++ more))) (append-assoc ps (e ∷ []) es) (subst (SoFar ((ps ++ (e ∷ [])) ++ es) x g) (append-assoc xs new more) k)
+
+-- what one event does that says one result at most; and what the pieces of an event leave, the event leaves
+module _ (g : ℕ) (steps : (ps : List Sent) (s : Sent) → AllSentInRange ps → InRange (s .event) → length (said (lent-entry (session ps .store) s) .results) ≤ 1 → GatherStep (session ps) (send (session ps) s) g)
+    (whole : (ps : List Sent) (e : Sent) → AllSentInRange ps → InRange (e .event) → (xs : Arrivals) → SoFar (ps ++ cut (session ps .store) e) (send-all (session ps) (cut (session ps .store) e)) g xs
+    → SoFar (ps ++ (e ∷ [])) (send (session ps) e) g xs) where
+  -- events that say one result at most
+  run-along : (ps es : List Sent) (xs : Arrivals) → AllSentInRange ps → AllSentInRange es → SingleFrom (session ps) es → SoFar ps (session ps) g xs → SoFar (ps ++ es) (send-all (session ps) es) g (xs ++ arrivals-along (session ps) es g)
+  unfolding AllSentInRange SingleFrom send-all arrivals-along
+  run-along ps [] xs a b w k = at-end g ps (session ps) xs k
+  run-along ps (e ∷ es) xs a b w k =
       let y : Session = send (session ps) e in
-      let j : SoFar (ps ++ (e ∷ [])) y g (xs ++ arrivals-in (session ps) y g) = next-so-far ps e g (steps ps e a (b .0) (w .0)) xs k in
-      let r = run-so-far (ps ++ (e ∷ [])) es (xs ++ arrivals-in (session ps) y g) (in-range-snoc ps e a (b .0)) (b .1) (subst (λ (z : Session). SingleFrom z es) (sym (session-snoc ps e)) (w .1))
-      (subst (λ (z : Session). SoFar (ps ++ (e ∷ [])) z g (xs ++ arrivals-in (session ps) y g)) (sym (session-snoc ps e)) j) in
-      subst (λ (zs : List Sent). SoFar zs (send-all y es) g (xs ++ (arrivals-in (session ps) y g ++ arrivals-from y es g))) (++-assoc ps (e ∷ []) es)
-      (subst (SoFar ((ps ++ (e ∷ [])) ++ es) (send-all y es) g) (arrivals-assoc xs (arrivals-in (session ps) y g) (arrivals-from y es g))
-      (subst (λ (z : Session). SoFar ((ps ++ (e ∷ [])) ++ es) (send-all z es) g ((xs ++ arrivals-in (session ps) y g) ++ arrivals-from z es g)) (session-snoc ps e) r))
+      let new : Arrivals = arrivals-in (session ps) y g in
+      let p : session (ps ++ (e ∷ [])) ≡ y = session-snoc ps e in
+      then-on g ps e es (send-all y es) xs new (arrivals-along y es g) (subst (λ (z : Session). SoFar ((ps ++ (e ∷ [])) ++ es) (send-all z es) g ((xs ++ new) ++ arrivals-along z es g)) p
+      (run-along (ps ++ (e ∷ [])) es (xs ++ new) (in-range-snoc ps e a (b .0)) (b .1) (subst (λ (z : Session). SingleFrom z es) (sym p) (w .1))
+      (subst (λ (z : Session). SoFar (ps ++ (e ∷ [])) z g (xs ++ new)) (sym p) (next-so-far ps e g (steps ps e a (b .0) (w .0)) xs k))))
+
+  -- any events
+  run-so-far : (ps es : List Sent) (xs : Arrivals) → AllSentInRange ps → AllSentInRange es → SoFar ps (session ps) g xs → SoFar (ps ++ es) (send-all (session ps) es) g (xs ++ arrivals-from (session ps) es g)
+  unfolding AllSentInRange send-all arrivals-from
+  run-so-far ps [] xs a b k = at-end g ps (session ps) xs k
+  run-so-far ps (e ∷ es) xs a b k =
+      let x : Session = session ps in
+      let new : Arrivals = arrivals-along x (cut (x .store) e) g in
+      let p : session (ps ++ (e ∷ [])) ≡ send x e = session-snoc ps e in
+      then-on g ps e es (send-all (send x e) es) xs new (arrivals-from (send x e) es g) (subst (λ (z : Session). SoFar ((ps ++ (e ∷ [])) ++ es) (send-all z es) g ((xs ++ new) ++ arrivals-from z es g)) p
+      (run-so-far (ps ++ (e ∷ [])) es (xs ++ new) (in-range-snoc ps e a (b .0)) (b .1)
+      (subst (λ (z : Session). SoFar (ps ++ (e ∷ [])) z g (xs ++ new)) (sym p)
+      (whole ps e a (b .0) (xs ++ new) (run-along ps (cut (x .store) e) xs a (cut-range (x .store) e (b .0)) (cut-single x e) k)))))
 
   abbrev Gathers : List Sent → Gathered Value Error → Type 0
   Gathers es z = z ≡ gather (items (session es .history) g) (arrivals-from begun es g)
@@ -337,7 +353,7 @@ module _ (g : ℕ) (steps : (ps : List Sent) (s : Sent) → AllSentInRange ps �
   gathered ls xs z q = unfold gather in (ap (λ (w : Option Error). elim w [ none ↦ in-order xs ls | some e ↦ propagated e ]) q)
 
   -- What show gives of the gather after the events.
-  right-by : (es : List Sent) → SoFar es (session es) g (arrivals-from begun es g) → committed (look (session es .store) g) ≡ true → GatherRight es es g
+  right-by : (es : List Sent) → SoFar es (session es) g (arrivals-from begun es g) → committed (look (session es .store) g) ≡ true → GatherRight es g
   right-by es (uncommitted c e) d = absurd (true≢false (sym d ∙ c))
   right-by es (is-awaited vs q d o w) c =
       let r : Gathers es waiting = sym (gathered _ _ none (none-raised _ _ (w .all-returned) []) ∙ waiting-one _ (came (session es)) _ (w .known) (w .none-raised) (subst (λ (us : List (Option Value)). none-open us ≡ false) d o)) in
@@ -349,6 +365,6 @@ module _ (g : ℕ) (steps : (ps : List Sent) (s : Sent) → AllSentInRange ps �
   right-by es (is-failed e q (inl w)) c = inl (ap seen q ∙ (seen-failed e ∙ sym (gathered _ _ (some e) w)))
   right-by es (is-failed e q (inr w)) c = inr (e, q, w)
 
-  pub gather-right : committed (look (begun .store) g) ≡ false → (es : List Sent) → AllSentInRange es → Single es → committed (look (session es .store) g) ≡ true → GatherRight es es g
-  unfolding session send-all AllSentInRange Single
-  gather-right u es a w c = right-by es (run-so-far [] es [] tt a w (uncommitted u refl)) c
+  pub gather-right : committed (look (begun .store) g) ≡ false → (es : List Sent) → AllSentInRange es → committed (look (session es .store) g) ≡ true → GatherRight es g
+  unfolding session send-all AllSentInRange
+  gather-right u es a c = right-by es (run-so-far [] es [] tt a (uncommitted u refl)) c

@@ -29,7 +29,7 @@ use Rattle.asyncio.specs.Numbers.{task-id}
 use Rattle.asyncio.specs.States.{pick}
 use Rattle.machine.specs.Store.{Store, view, task, object, header, put-header, forget, fresh, empty}
 use Rattle.machine.specs.Scheduler.{cleanup, pending-call-ids}
-use Rattle.machine.specs.Events.{How, start, value, raises, inline, Control, runs, waits, Switched, Awaited, exec-get-awaitable, handle-task-completion, handle-task-failure, activate, resume-next}
+use Rattle.machine.specs.Events.{How, start, value, raises, inline, Control, runs, waits, Switched, Awaited, exec-get-awaitable, handle-task-completion, handle-task-failure, activate, resume-next, wake-in-order}
 use Rattle.machine.specs.Machine.{Event, Answer, Step, switched, answer-await, end-main, task-completes, task-fails, runner, repeat-wait, resume-with-resolved-futures, refusals, refusal, full, no-number, accept, step, in-both}
 use Rattle.machine.specs.Sound.{value-known, object-in-range, places-below}
 use Rattle.machine.specs.History.{Entry, Says, says, nothing-said, said, tells, done-only, is-at, running}
@@ -51,7 +51,7 @@ use Rattle.machine_sessions.specs.Places.Told.{Frozen, co, pends, gave, 
 use Rattle.machine_sessions.specs.Places.Agrees.{Agrees}
 use Rattle.machine_sessions.specs.Places.AgreesEvents.{forget-agrees}
 use Rattle.machine_sessions.specs.Places.AgreesSessions.{send-agrees, session-agrees}
-use Rattle.machine_sessions.specs.Honest.Given.{loose, ret, err, fate, not-held, StateIs, NoTask, Given, NoneBut, NoneYet, given-like}
+use Rattle.machine_sessions.specs.Honest.Given.{loose, ret, err, fate, not-held, StateIs, NoTask, Given, NoneBut, NoneYet, given-like, queue-given}
 use Rattle.machine_sessions.specs.Honest.GivenCycle.{TellsBy, Left, resume-left, fail-left, cancel-given, cleanup-given}
 use Rattle.machine_sessions.specs.Honest.GivenAwait.{given-free, StayTells, AwaitGiven, stayed, switches, await-given}
 use Rattle.machine_sessions.specs.Honest.GivenEvents.{calls-given, coroutine-given, pending-given, settled-given, gather-given, results-given, complete-left}
@@ -420,7 +420,7 @@ module _ (h : List Entry) (s : Store) (w : SoundStore s) (k : Agrees h s) (g : G
   accept-given (Event.complete v) i r =
       let q = refusal-rest s (Event.complete v) r in complete-step (runner (header s .moment)) v (Rattle.machine_theorems.specs.Soundness.Preserved.running s w _ q) (complete-known s w v q)
   accept-given (Event.fail n) i r = fail-step (runner (header s .moment)) n (Rattle.machine_theorems.specs.Soundness.Preserved.running s w _ (refusal-rest s (Event.fail n) r)) i
-  accept-given (Event.results rs) i r = quiet-step (Event.results rs) _ _ (unfold says in refl) (unfold tells done-only in refl) (results-given (waits-for h) rs s g)
+  accept-given (Event.results rs) i r = quiet-step (Event.results rs) _ _ (unfold says in refl) (unfold tells done-only in refl) (unfold wake-in-order in (queue-given (waits-for h) _ _ (results-given (waits-for h) rs s g)))
   accept-given Event.resume i r = resume-step
   accept-given (Event.cancel t) i r = quiet-step (Event.cancel t) _ _ (unfold says in refl) (unfold tells done-only in refl) (cancel-given (waits-for h) s t g)
   accept-given (Event.show o) i r = quiet-step (Event.show o) _ _ (unfold says nothing-said in refl) (unfold tells done-only in refl) g

@@ -30,7 +30,7 @@ use Rattle.queue.specs.Queue.{empty-queue}
 use Rattle.machine.specs.Store.{Store, LogEntry, reached, exited, removed, task, object, header, put-task, put-header, put-object, put-queue, add-log, set-state, set-moment, absent}
 use Rattle.machine.specs.Scheduler.{live, pending-call-ids, remove-task, cancel-task, remove-from, cleanup}
 use Rattle.machine.specs.Delivery.{deliver-awaiter-failure}
-use Rattle.machine.specs.Events.{How, value, raises, Control, waits, Switched, Result, run, yield, activate, resume-next, handle-task-failure, handle-task-completion, completed, apply-future-results}
+use Rattle.machine.specs.Events.{How, value, raises, Control, waits, Switched, Result, run, yield, activate, resume-next, handle-task-failure, handle-task-completion, completed, apply-future-results, wake-in-order}
 use Rattle.machine.specs.History.{Entry, said, lives, stays-blocked, spawned-for, running, coroutine-of}
 use Rattle.machine.specs.Honest.{spawns, ends-task, exits-in, removes-in, ended, RemoveHonest}
 use Rattle.machine_laws.specs.Views.{Sized}
@@ -43,7 +43,7 @@ use Rattle.machine_sessions.specs.Stall.Standing.{moment-head}
 use Rattle.machine_sessions.specs.Queue.Tracked.{Tracked, live-low}
 use Rattle.machine_sessions.specs.Honest.Spawned.{Shape, shape, is-used, used-old, Spawned}
 use Rattle.machine_sessions.specs.Honest.HonestWalk.{Delivers, Switching, Ends, waited, started, woke, raised-it, Fixed, IsSpawned, failure-fixed, resume-walk, leave-walk, completion-walk, results-walk, cancel-walk, row-task}
-use Rattle.machine_sessions.specs.Honest.HonestLog.{LogRight, Origins, Logged, row-log, wakes-log, gone-log, is-live-now, row-logged, exits-logged, goes-logged, settles-logged, logged-delivers, logged-switching}
+use Rattle.machine_sessions.specs.Honest.HonestLog.{LogRight, Origins, Logged, row-log, wakes-log, gone-log, is-live-now, row-logged, exits-logged, goes-logged, settles-logged, logged-delivers, logged-switching, queue-logged}
 use Rattle.machine_sessions.specs.Honest.HonestIdle.{Idle, Cancels, goes-cancels}
 use Rattle.machine_sessions.specs.Honest.HonestEnds.{Left, Leaves, none-plain, ControlLeft, logged-left, ends-left}
 
@@ -255,9 +255,10 @@ module _ (h : List Entry) (s : Store) (w : SoundStore s) (k : Held h s) (x : Ent
 
   -- ---- results
 
-  pub results-left : (rs : List Result) → Leaves x none (apply-future-results s rs) → Left h x (apply-future-results s rs)
+  pub results-left : (rs : List Result) → Leaves x none (wake-in-order s (apply-future-results s rs)) → Left h x (wake-in-order s (apply-future-results s rs))
+  unfolding wake-in-order
   results-left rs l =
-      logged-left h x N (k .origins) _ none l none-plain (unfold ControlLeft in tt) (results-walk L Any (logged-delivers h x N) (λ a. tt) (λ u o p y b e j. settles-logged h x N u o p y b e j) rs s begins-logged)
+      logged-left h x N (k .origins) _ none l none-plain (unfold ControlLeft in tt) (queue-logged h x N _ _ (results-walk L Any (logged-delivers h x N) (λ a. tt) (λ u o p y b e j. settles-logged h x N u o p y b e j) rs s begins-logged))
 
   -- ---- cancel
 

@@ -18,7 +18,7 @@ use Rattle.asyncio.specs.Numbers.{task-id}
 use Rattle.asyncio.specs.States.{pick}
 use Rattle.machine.specs.Store.{Store, LogEntry, object, header, forget}
 use Rattle.machine.specs.Scheduler.{live, pending-call-ids, cancel-task, cleanup}
-use Rattle.machine.specs.Events.{How, start, value, raises, inline, Control, runs, waits, Switched, Awaited, Result, activate, resume-next, handle-task-completion, handle-task-failure, exec-get-awaitable, apply-future-results, make-coroutine, make-pending, make-settled, make-gather}
+use Rattle.machine.specs.Events.{How, start, value, raises, inline, Control, runs, waits, Switched, Awaited, Result, activate, resume-next, handle-task-completion, handle-task-failure, exec-get-awaitable, apply-future-results, make-coroutine, make-pending, make-settled, make-gather, wake-in-order}
 use Rattle.machine.specs.Machine.{Event, Answer, Shown, Step, switched, answer-await, end-main, task-completes, task-fails, runner, repeat-wait, resume-with-resolved-futures, refusals, refusal, full, no-number, accept, in-both, answer-cancel}
 use Rattle.machine.specs.Sound.{is-ended}
 use Rattle.machine.specs.History.{Entry, Says, says, nothing-said, said, tells, done-only, is-none, lives-by, lives, stays-blocked, spawned-for, running, coroutine-of}
@@ -471,7 +471,7 @@ module _ (h : List Entry) (s : Store) (w : SoundStore s) (tr : Tracked (lives h)
 
   -- ---- results
 
-  pub results-stepped : (rs : List Result) → is-ended (header s .moment) ≡ false → StepLeft (accept s (Event.results rs)) → Stepped h (Event.results rs) (record { store = apply-future-results s rs; answer = Answer.done })
+  pub results-stepped : (rs : List Result) → is-ended (header s .moment) ≡ false → StepLeft (accept s (Event.results rs)) → Stepped h (Event.results rs) (record { store = wake-in-order s (apply-future-results s rs); answer = Answer.done })
   unfolding accept
   results-stepped rs on sr =
       record {
@@ -480,7 +480,7 @@ module _ (h : List Entry) (s : Store) (w : SoundStore s) (tr : Tracked (lives h)
       }
     where
       y : Step
-      y = record { store = apply-future-results s rs; answer = Answer.done }
+      y = record { store = wake-in-order s (apply-future-results s rs); answer = Answer.done }
 
       ok : tells (y .answer) .accepts ≡ true
       ok = unfold tells done-only in refl

@@ -18,7 +18,7 @@ use Rattle.queue.specs.Queue.{entries, occurrences, remove}
 use Rattle.queue.specs.QueueLaws.{remove-len, remove-length}
 use Rattle.machine.specs.Store.{Store, LogEntry, task, header, put-task, put-places, put-queue, add-log, restate, reached, removed, absent}
 use Rattle.machine.specs.Scheduler.{make-ready, remove-from-ready-queue, remove-task}
-use Rattle.machine.specs.Events.{Result, apply-future-results}
+use Rattle.machine.specs.Events.{Result, apply-future-results, wake-in-order}
 use Rattle.machine_laws.specs.Views.{Sized}
 use Rattle.machine_laws.specs.Facts.{Nothing}
 use Rattle.machine_laws.specs.StoreLaws.{header-fits, header-put-object, task-put-other, sized-put-object, sized-put-places, sized-put-task, sized-put-queue, sized-add-log, sized-set-state}
@@ -85,11 +85,14 @@ begun-delivers hd f =
     wakes-by s t y l n z v e (yes q) = subst (λ (m : ℕ). is-unstarted (task (put-task s t (restate (task s t) y)) m .state) ≡ false) (sym q) (unstarted-back s t _ z l ∙ (unfold restate in n))
     wakes-by s t y l n z v e (no ne) = ap (λ (x : Task). is-unstarted (x .state)) (task-put-other s t v _ ne) ∙ e
 
-pub results-begun : (s : Store) (rs : List Result) → Sized s → (header s .moment ≡ Moment.Waiting → NoFresh s) → Begun (header s) (apply-future-results s rs)
-results-begun s rs z k =
-    results-walk (Begun (header s)) (λ a. Unit {0}) (begun-delivers (header s) (header-fits s .next-fits)) (λ a. tt)
+ordered-begun : {hd : Header} (s u : Store) → Begun hd u → Begun hd (wake-in-order s u)
+unfolding wake-in-order
+ordered-begun s u k = record { sized = sized-put-queue u _ (k .sized); head = unfold header put-queue in (unfold header in (k .head)); started = unfold task put-queue in (unfold task in (k .started)) }
+
+pub results-begun : (s : Store) (rs : List Result) → Sized s → (header s .moment ≡ Moment.Waiting → NoFresh s) → Begun (header s) (wake-in-order s (apply-future-results s rs))
+results-begun s rs z k = ordered-begun s _ (results-walk (Begun (header s)) (λ a. Unit {0}) (begun-delivers (header s) (header-fits s .next-fits)) (λ a. tt)
     (λ u o p y l e j. record { sized = sized-put-object u o _ (j .sized); head = header-put-object u o _ ∙ j .head; started = λ m t b. ap (λ (r : Task). is-unstarted (r .state)) (row-task u o _ t) ∙ j .started m t b })
-    rs s (record { sized = z; head = refl; started = k })
+    rs s (record { sized = z; head = refl; started = k }))
 
 -- ---- cancel
 

@@ -31,10 +31,10 @@ use Rattle.asyncio.specs.Parts.{awaiter-of}
 use Rattle.asyncio.specs.Kinds.{kind, is-completed}
 use Rattle.asyncio.specs.States.{pick, is-live, is-unstarted}
 use Rattle.rows.specs.Tables.{header-at}
-use Rattle.machine.specs.Store.{Store, view, task, object, place, header, put-object}
+use Rattle.machine.specs.Store.{Store, view, task, object, place, header, put-object, put-queue}
 use Rattle.machine.specs.Scheduler.{PendingExternal, as-pending, pending-external, pending-external-in, is-call}
 use Rattle.machine.specs.Delivery.{value-or, resolve-pending, fail-pending, settle-pending, settle-found, resolve-future, fail-future, deliver-awaiter-success, deliver-awaiter-failure}
-use Rattle.machine.specs.Events.{Control, Result, apply-result, apply-future-results}
+use Rattle.machine.specs.Events.{Control, Result, apply-result, apply-future-results, wake-in-order}
 use Rattle.machine.specs.Machine.{Event, Answer, Step, accept}
 use Rattle.machine.specs.Sound.{value-known, is-ended}
 use Rattle.machine.specs.History.{Entry, Making, Says, says, said, tells, done-only, is-at, reply-in, first-reply, reply-error, later, making, runner-by, running, started-by, coroutine-of, completed-value}
@@ -44,13 +44,13 @@ use Rattle.machine_laws.specs.StoreLaws.{header-fits, header-put-object, object
 use Rattle.machine_laws.specs.DeliveryLaws.{absurd-some}
 use Rattle.machine_laws.specs.MakingLaws.{value-fits}
 use Rattle.machine_theorems.specs.Soundness.Stores.{SoundDuring, SoundStore, during-of}
-use Rattle.machine_theorems.specs.Soundness.Results.{resolve-delivering, MayApply, AllApply, host-fits, result-keeps, results-keep}
+use Rattle.machine_theorems.specs.Soundness.Results.{resolve-delivering, MayApply, AllApply, host-fits, result-keeps, results-keep, ordered-keep}
 use Rattle.machine_laws.specs.DeliveryLaws.{pending-object}
 use Rattle.machine.specs.Sessions.{entry-of}
 use Rattle.machine_sessions.specs.Waits.{said-accepted}
 use Rattle.machine_sessions.specs.Waits.Calls.{pending-call, read-back}
 use Rattle.machine_sessions.specs.Waits.CallEvents.{is-call-at, none-first, call-pending, pending-has, found-call}
-use Rattle.machine_sessions.specs.Places.Told.{Frozen, unmade, co, pends, gave, broke, many, frozen, told, EndsTask, own-back, TaskTold, Holds, Told, Gives}
+use Rattle.machine_sessions.specs.Places.Told.{Frozen, unmade, co, pends, gave, broke, many, frozen, told, queue-told, EndsTask, own-back, TaskTold, Holds, Told, Gives}
 use Rattle.machine_sessions.specs.Places.Telling.{success-tells, failure-tells, gives-own, GivesTo}
 use Rattle.machine_sessions.specs.Places.ToldEnds.{told-as, told-now}
 use Rattle.machine_sessions.specs.Places.Agrees.{items-like, reply-row, Makes, MadeRight, Agrees, reply-then, none-made, no-value}
@@ -355,6 +355,11 @@ module _ (n : ℕ) (i : ℕ → ℕ) (D : ℕ → Option Value) (S : ℕ → Opt
         kept = λ j m. z .kept j (subst NotPends (sym (y .kept j m)) m) ∙ y .kept j m;
       }
 
+-- whom the results woke in task order
+answered-ordered : (n : ℕ) (i : ℕ → ℕ) (D : ℕ → Option Value) (S : ℕ → Option ℕ) (xs : List Result) (q : ℕ → Frozen) (s u : Store) → Answered n i D S xs q u → Answered n i D S xs q (wake-in-order s u)
+unfolding wake-in-order object put-queue
+answered-ordered n i D S xs q s u y = record { told = queue-told _ n i D S u _ (y .told); rows = y .rows; kept = y .kept }
+
 -- ---- the event
 
 makes-replied : (x : Entry) (e : Event) (since : List Entry) (rs : List Result) (y z : Frozen) (i j : ℕ → ℕ) → said x .results ≡ rs → z ≡ answer-row rs y → ((p : ℕ) → j p ≡ i p) → Makes e since y i → Makes e (x ∷ since) z j
@@ -397,8 +402,11 @@ results-agree h s w k rs apply on =
           (ap (λ (z : Says). z .results) said-it ∙ (unfold says in refl)) (y .told .made) (y .rows o) (y .told .items) (k .makes o));
     }
   where
+    b : Store
+    b = apply-future-results s rs
+
     u : Store
-    u = apply-future-results s rs
+    u = wake-in-order s b
 
     x : Entry
     x = entry-of (Event.results rs) Answer.done u
@@ -407,7 +415,9 @@ results-agree h s w k rs apply on =
     said-it = said-accepted (Event.results rs) Answer.done u (unfold tells done-only in refl)
 
     y : Answered (header s .made) (λ p. place s p .item .0) (completed-value h) (coroutine-of h) rs (λ j. frozen (object s j)) u
-    y = results-tell (header s .made) (λ p. place s p .item .0) (completed-value h) (coroutine-of h) rs s apply (during-of s w) on (k .told)
+    y =
+        answered-ordered (header s .made) (λ p. place s p .item .0) (completed-value h) (coroutine-of h) rs (λ j. frozen (object s j)) s b
+        (results-tell (header s .made) (λ p. place s p .item .0) (completed-value h) (coroutine-of h) rs s apply (during-of s w) on (k .told))
 
     head : header u ≡ header s
-    head = results-keep rs s apply (during-of s w) .head
+    head = ordered-keep s b (results-keep rs s apply (during-of s w)) .head

@@ -1,7 +1,7 @@
--- What a delivery does to the tasks and the queue: nothing, or one blocked task becomes ready at the queue's back.
+-- What a delivery does to the tasks, the queue and the log: nothing, or one blocked task is reached and becomes ready at the queue's back.
 use mathlib.Core.Path.{_≡_, refl, sym, ap, subst, _∙_}
 use mathlib.Core.Bool.{Bool, true, false}
-use mathlib.Core.List.{List}
+use mathlib.Core.List.{List, _∷_}
 use mathlib.Core.Option.{Option, none, some}
 use Prim.Native.Nat.{ℕ, zero, suc, _<_}
 use lib.Dec.{eqb}
@@ -15,7 +15,7 @@ use Rattle.asyncio.specs.Limits.{object-limit, task-limit}
 use Rattle.asyncio.specs.States.{pick, is-ready, is-blocked, is-unstarted}
 use Rattle.rows.specs.Tables.{task-at, task-put}
 use Rattle.queue.specs.Queue.{push-back}
-use Rattle.machine.specs.Store.{Store, task, object, header, put-object, put-places, add-log, restate, set-state, put-task, put-queue, reached}
+use Rattle.machine.specs.Store.{Store, LogEntry, task, object, header, put-object, put-places, add-log, restate, set-state, put-task, put-queue, reached}
 use Rattle.machine.specs.Scheduler.{AwaitedGather, as-awaited, make-ready, push-ready}
 use Rattle.machine.specs.Delivery.{Delivery, nobody-woken, deliver-to-task, Filled, fill-from, Settled, resolve-left, resolve-awaited, resolve-child, fail-awaited, fail-gather}
 use Rattle.machine.specs.Delivery.{climb, awaited-count, send-value, climb-value, deliver-awaiter-success, send-error, climb-error, deliver-awaiter-failure}
@@ -23,11 +23,12 @@ use Rattle.machine_laws.specs.Views.{Sized}
 use Rattle.machine_laws.specs.StoreLaws.{header-put-object}
 use Rattle.machine_laws.specs.DeliveryLaws.{resolve-sent, fail-sent}
 
--- tasks, queue and counts as they were
+-- tasks, queue, counts and log as they were
 pub record SameTasks (s u : Store) : Type 0 where
   pub tasks : u .tasks ≡ s .tasks
   pub queue : u .queue ≡ s .queue
   pub head : header u ≡ header s
+  pub log : u .log ≡ s .log
 
 -- task t is woken with x
 pub record WokenBy (s u : Store) (t : ℕ) (x : TaskState) : Type 0 where
@@ -38,17 +39,18 @@ pub record WokenBy (s u : Store) (t : ℕ) (x : TaskState) : Type 0 where
   pub tasks : u .tasks ≡ task-put (s .tasks) t (restate (task-at (s .tasks) t) x)
   pub queue : u .queue ≡ push-back (s .queue) t
   pub head : header u ≡ header s
+  pub log : u .log ≡ reached t ∷ s .log
 
 pub data Effect (s : Store) (d : Delivery) : Type 0 where
   nobody : SameTasks s (d .store) → d .woken ≡ none → Effect s d
   wakes : (t : ℕ) (x : TaskState) → WokenBy s (d .store) t x → d .woken ≡ some t → Effect s d
 
 same-refl : (s : Store) → SameTasks s s
-same-refl s = record { tasks = refl; queue = refl; head = refl }
+same-refl s = record { tasks = refl; queue = refl; head = refl; log = refl }
 
 -- an effect after what leaves tasks and queue
 effect-from : (s u : Store) (d : Delivery) → SameTasks s u → Effect u d → Effect s d
-effect-from s u d k (nobody e w) = nobody (record { tasks = e .tasks ∙ k .tasks; queue = e .queue ∙ k .queue; head = e .head ∙ k .head }) w
+effect-from s u d k (nobody e w) = nobody (record { tasks = e .tasks ∙ k .tasks; queue = e .queue ∙ k .queue; head = e .head ∙ k .head; log = e .log ∙ k .log }) w
 effect-from s u d k (wakes t x e w) =
     wakes t x (record {
       low = e .low;
@@ -58,6 +60,7 @@ effect-from s u d k (wakes t x e w) =
       tasks = e .tasks ∙ ap (λ (l : List ℕ). task-put l t (restate (task-at l t) x)) (k .tasks);
       queue = e .queue ∙ ap (λ q. push-back q t) (k .queue);
       head = e .head ∙ k .head;
+      log = e .log ∙ ap (λ (l : List LogEntry). reached t ∷ l) (k .log);
     }) w
 
 to-task-effect : (s : Store) (t : ℕ) (x : TaskState) → t < task-limit → is-ready x ≡ true → is-unstarted x ≡ false → Effect s (deliver-to-task s t x)
@@ -74,12 +77,13 @@ to-task-effect s t x l r n = by (is-blocked (task s t .state)) refl
           tasks = unfold add-log make-ready push-ready put-queue set-state put-task task in refl;
           queue = unfold add-log make-ready push-ready put-queue set-state put-task in refl;
           head = unfold add-log make-ready push-ready put-queue set-state put-task header in refl;
+          log = unfold add-log make-ready push-ready put-queue set-state put-task in refl;
         }) refl
     by false q = nobody (same-refl s) (unfold nobody-woken in refl)
 
 row-same : (s : Store) (ps : List ℕ) (g : ℕ) (x : Rattle.asyncio.specs.declared.Object.Object) → SameTasks s (put-object (put-places s ps) g x)
 row-same s ps g x =
-    record { tasks = unfold put-object put-places in refl; queue = unfold put-object put-places in refl; head = header-put-object (put-places s ps) g x ∙ (unfold header put-places in refl) }
+    record { tasks = unfold put-object put-places in refl; queue = unfold put-object put-places in refl; head = header-put-object (put-places s ps) g x ∙ (unfold header put-places in refl); log = unfold put-object put-places in refl }
 
 resolve-same : (s : Store) (g x : ℕ) (v : Value) → SameTasks s (resolve-child s g x v .store)
 unfolding resolve-child
@@ -99,7 +103,7 @@ fail-same s g e = by (as-awaited (object s g))
   where
     by : (w : Option AwaitedGather) → SameTasks s (fail-awaited s g e w .store)
     by none = unfold fail-awaited in (same-refl s)
-    by (some w) = unfold fail-awaited in (record { tasks = unfold put-object in refl; queue = unfold put-object in refl; head = header-put-object s g _ })
+    by (some w) = unfold fail-awaited in (record { tasks = unfold put-object in refl; queue = unfold put-object in refl; head = header-put-object s g _; log = unfold put-object in refl })
 
 climb-effect : (go : Store → Awaiter → Delivery) (u : Store) (a : Option Awaiter) → ((b : Awaiter) → a ≡ some b → Effect u (go u b)) → Effect u (climb go u a)
 unfolding climb nobody-woken

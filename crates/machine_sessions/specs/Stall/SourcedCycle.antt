@@ -192,7 +192,7 @@ moment-sourced s m z f k =
         unfold set-moment in (header-put-header s _ z (record { made-fits = h .made-fits; used-fits = h .used-fits; calls-fit = h .calls-fit; next-fits = h .next-fits; moment-fits = f })) in
         (ap (λ (y : Header). y .made) e, ap (λ (y : Header). y .next) e)
 
-queue-sourced : {G : ℕ → Type 0} (s : Store) (q : ReadyQueue) → Sourced G s → Sourced G (put-queue s q)
+pub queue-sourced : {G : ℕ → Type 0} (s : Store) (q : ReadyQueue) → Sourced G s → Sourced G (put-queue s q)
 queue-sourced s q k =
     all-of _ (but-same _ s (put-queue s q) (λ o. unfold object put-queue in refl) (λ t. unfold task put-queue in refl) (λ t. unfold task put-queue in refl) (λ p. unfold place put-queue in refl)
     (unfold header put-queue in refl) (unfold header put-queue in refl) (but-of s k))

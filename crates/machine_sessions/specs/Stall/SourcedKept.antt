@@ -34,7 +34,7 @@ use Rattle.asyncio.specs.Kinds.{kind, is-completed}
 use Rattle.machine.specs.Store.{Store, view, task, object, place, header, put-object, put-place, put-header, put-queue, add-log, set-state, set-calls, add-object, blocked}
 use Rattle.machine.specs.Scheduler.{AwaitedGather, PendingExternal, as-awaited, as-pending, live, spawn-as}
 use Rattle.machine.specs.Commit.{Poll, ready, raised, pending, await-external, await-pending, commit-gather-tree}
-use Rattle.machine.specs.Events.{activate, resume-next, stays, go-on, await-coroutine, await-external-future, await-gather, await-object, exec-get-awaitable, make-coroutine, make-pending, make-settled, put-items, make-gather}
+use Rattle.machine.specs.Events.{activate, resume-next, stays, go-on, await-coroutine, await-external-future, await-gather, await-object, exec-get-awaitable, make-coroutine, make-pending, make-settled, put-items, make-gather, wake-in-order, apply-future-results}
 use Rattle.machine.specs.Machine.{Event, Step, switched, answer-await, end-main, task-completes, task-fails, runner, resume-with-resolved-futures, refusals, refusal, full, no-number, accept}
 use Rattle.machine.specs.Sound.{is-ended, value-known}
 use Rattle.machine.specs.History.{says, nothing-said}
@@ -61,7 +61,7 @@ use Rattle.machine_sessions.specs.Waits.Calls.{read-back}
 use Rattle.machine_sessions.specs.Stall.StandingEvents.{MainEnds}
 use Rattle.machine_sessions.specs.Stall.NoStall.{Source, by-external, by-gather, by-nobody, by-task, Roots, root, above, Sourced, sourced-like}
 use Rattle.machine_sessions.specs.Stall.SourcedPlan.{SourcedBut, but-of, all-of, but-same}
-use Rattle.machine_sessions.specs.Stall.SourcedCycle.{plain-sourced, next-sourced, activate-sourced}
+use Rattle.machine_sessions.specs.Stall.SourcedCycle.{plain-sourced, next-sourced, activate-sourced, queue-sourced}
 use Rattle.machine_sessions.specs.Stall.SourcedCommit.{commit-sourced}
 use Rattle.machine_sessions.specs.Stall.SourcedEvents.{results-sourced, failed-sourced, complete-sourced, takes-sourced, blocks-sourced}
 
@@ -338,7 +338,8 @@ module _ (G : ℕ → Type 0) (s : Store) (h : SoundStore s) (k : Sourced G s) w
   accept-sourced (Event.await o) i n r on = let q = refusal-rest s (Event.await o) r in await-sourced _ s h k (runner (header s .moment)) (running s h _ q) o (await-made s h o q)
   accept-sourced (Event.complete v) i n r on = let q = refusal-rest s (Event.complete v) r in complete-step (runner (header s .moment)) v (running s h _ q) (complete-known s h v q) on
   accept-sourced (Event.fail m) i n r on = fail-step (runner (header s .moment)) m (running s h _ (refusal-rest s (Event.fail m) r)) i on
-  accept-sourced (Event.results rs) i n r on = results-sourced rs s (results-apply s h rs (refusal-rest s (Event.results rs) r)) (during-of s h) k
+  accept-sourced (Event.results rs) i n r on =
+      unfold wake-in-order in (queue-sourced (apply-future-results s rs) _ (results-sourced rs s (results-apply s h rs (refusal-rest s (Event.results rs) r)) (during-of s h) k))
   accept-sourced Event.resume i n r on = resume-step3 (waiting s h [] (refusal-rest s Event.resume r) .0)
   accept-sourced (Event.cancel t) i n r on = absurd (true≢false n)
   accept-sourced (Event.show o) i n r on = k

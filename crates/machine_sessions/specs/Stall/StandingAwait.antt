@@ -33,7 +33,7 @@ use Rattle.queue.specs.QueueLaws.{entries-push, occurrences-push, distinct-appe
 use Rattle.machine.specs.Store.{Store, LogEntry, view, task, object, header, put-task, put-object, put-place, put-queue, put-header, add-log, restate, set-state, set-next, set-calls, set-moment, add-object, spawned, blocked}
 use Rattle.machine.specs.Scheduler.{as-pending, push-ready, spawn-as, remove-from, cleanup, pending-call-ids}
 use Rattle.machine.specs.Commit.{Poll, ready, raised, pending, await-external, await-pending, commit-gather-tree}
-use Rattle.machine.specs.Events.{How, value, raises, inline, Control, runs, waits, Switched, Awaited, activate, resume-next, stays, go-on, await-coroutine, await-external-future, await-gather, await-object, exec-get-awaitable, make-coroutine, make-pending, make-settled, put-items, make-gather}
+use Rattle.machine.specs.Events.{How, value, raises, inline, Control, runs, waits, Switched, Awaited, activate, resume-next, stays, go-on, await-coroutine, await-external-future, await-gather, await-object, exec-get-awaitable, make-coroutine, make-pending, make-settled, put-items, make-gather, wake-in-order, apply-future-results}
 use Rattle.machine.specs.Machine.{Event, Answer, Step, answer-await, end-main, task-completes, task-fails, runner, refusals, refusal, full, no-number, accept, in-running, in-waiting}
 use Rattle.machine.specs.Sound.{is-ended, value-known}
 use Rattle.machine.specs.History.{Says, says, nothing-said, tells, done-only}
@@ -60,7 +60,8 @@ use Rattle.machine_sessions.specs.Queue.TrackedEvents.{items-tasks}
 use Rattle.machine_sessions.specs.Stall.Room.{room-for}
 use Rattle.machine.specs.DemandThree.{is-stalled}
 use Rattle.machine_sessions.specs.Stall.Standing.{Stands, stands-like, ready-put-task, Right, moment-head, not-waits, not-waiting, resume-right}
-use Rattle.machine_sessions.specs.Stall.StandingEvents.{MainEnds, OnlyChanges, StepRight, switched-right, awaited-right, row-stands, complete-right, failed-right, resume-step, results-stand}
+use Rattle.machine_theorems.specs.Soundness.Results.{results-keep}
+use Rattle.machine_sessions.specs.Stall.StandingEvents.{MainEnds, OnlyChanges, StepRight, switched-right, awaited-right, row-stands, complete-right, failed-right, resume-step, results-stand, ordered-stand}
 
 -- ---- the running task blocks
 
@@ -359,7 +360,9 @@ module _ (s : Store) (h : SoundStore s) (st : Stands Nothing s) where
       let q = refusal-rest s (Event.await o) r in awaited-right _ (await-right s h st (runner (header s .moment)) (running s h _ q) o (await-made s h o q))
   accept-right (Event.complete v) i n r = let q = refusal-rest s (Event.complete v) r in complete-step (runner (header s .moment)) v (running s h _ q) (complete-known s h v q)
   accept-right (Event.fail m) i n r = fail-step (runner (header s .moment)) m (running s h _ (refusal-rest s (Event.fail m) r)) i
-  accept-right (Event.results rs) i n r = only-changes-right _ _ refl refl (results-stand rs s (results-apply s h rs (refusal-rest s (Event.results rs) r)) (during-of s h) st)
+  accept-right (Event.results rs) i n r =
+      let a = results-apply s h rs (refusal-rest s (Event.results rs) r) in
+      only-changes-right _ _ refl refl (ordered-stand s (apply-future-results s rs) (results-keep rs s a (during-of s h)) (results-stand rs s a (during-of s h) st))
   accept-right Event.resume i n r = resume-step s h st (waiting s h [] (refusal-rest s Event.resume r) .0)
   accept-right (Event.cancel t) i n r = absurd (true≢false n)
   accept-right (Event.show o) i n r = only-changes-right _ _ refl refl st

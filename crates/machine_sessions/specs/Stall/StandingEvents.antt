@@ -1,63 +1,48 @@
 -- Every event but cancel leaves each ready task in the queue and main alive until the end, and where its answer is a wait or stalled, the moment is waiting
 -- and the queue is empty.
-use mathlib.Core.Path.{_≡_, refl, sym, ap, subst, _∙_}
-use mathlib.Core.Bool.{Bool, true, false, not, _||_, true≢false}
-use mathlib.Core.List.{List, [], _∷_}
-use mathlib.Core.Option.{Option, none, some, Option·some-injective}
-use Prim.Native.Nat.{ℕ, zero, suc, _+_, _≤_, _<_}
+use mathlib.Core.Path.{_≡_, refl, sym, ap, subst}
+use mathlib.Core.Bool.{Bool, true, false, true≢false}
+use mathlib.Core.List.{List, []}
+use mathlib.Core.Option.{some, Option·some-injective}
+use Prim.Native.Nat.{ℕ, suc, _≤_}
 use native.Mathlib.Nat.{not-suc-le-zero}
 use native.Mathlib.Omega.{arith}
-use native.Mathlib.Decide.{ℕ-discrete}
-use lib.Dec.{T, eqb, ltb, leb}
-use lib.ListN.{length, take}
-use borrow.Author.Tests.{eqb-true, eqb-false, eq-eqb, ne-eqb, leb-false, ltb-false}
-use Rattle.asyncio.specs.declared.CallId.{CallId}
+use lib.Dec.{T, eqb}
+use lib.ListN.{take}
+use borrow.Author.Tests.{eqb-true}
 use Rattle.asyncio.specs.declared.Value.{Value}
 use Rattle.asyncio.specs.declared.Error.{Error}
-use Rattle.asyncio.specs.declared.OptionValue.{OptionValue}
 use Rattle.asyncio.specs.declared.TaskState.{TaskState}
-use Rattle.asyncio.specs.declared.Task.{Task}
 use Rattle.asyncio.specs.declared.Awaiter.{Awaiter}
-use Rattle.asyncio.specs.declared.CoroutineState.{CoroutineState}
-use Rattle.asyncio.specs.declared.ExternalFutureState.{ExternalFutureState}
-use Rattle.asyncio.specs.declared.GatherState.{GatherState}
 use Rattle.asyncio.specs.declared.Object.{Object}
 use Rattle.asyncio.specs.declared.Moment.{Moment}
 use Rattle.asyncio.specs.declared.Header.{Header}
-use Rattle.asyncio.specs.Limits.{object-limit, task-limit, item-limit, place-limit, call-limit}
-use Rattle.asyncio.specs.Numbers.{heap-id, task-id}
-use Rattle.asyncio.specs.Ranges.{AwaiterFits, ErrorFits, HeaderFits, ObjectFits}
-use Rattle.asyncio.specs.RangeLaws.{pick-has}
-use Rattle.asyncio.specs.Layout.{to-value, to-error}
+use Rattle.asyncio.specs.Numbers.{task-id}
+use Rattle.asyncio.specs.Ranges.{ErrorFits}
 use Rattle.asyncio.specs.States.{pick, is-live, is-ready, is-blocked}
 use Rattle.asyncio.specs.Kinds.{kind, is-completed}
-use Rattle.queue.specs.Queue.{entries, occurrences, push-back, one-if-same}
-use Rattle.machine.specs.Store.{Store, LogEntry, view, task, object, header, put-task, put-object, put-queue, put-header, add-log, set-state, exited, blocked}
-use Rattle.machine.specs.Scheduler.{PendingExternal, as-pending, pending-external, pending-call-ids, remove-from-ready-queue, remove-task}
-use Rattle.machine.specs.Delivery.{Delivery, value-or, resolve-pending, fail-pending, settle-pending, settle-found, resolve-future, fail-future, deliver-awaiter-success, deliver-awaiter-failure}
-use Rattle.machine.specs.Events.{How, Control, runs, waits, Switched, Awaited, Result, activate, resume-next, resume-after-task-exit, handle-task-completion, handle-task-failure, completed, apply-result, apply-future-results}
-use Rattle.machine.specs.Machine.{Event, Answer, Step, switched, answer-await, end-main, task-completes, task-fails, runner, repeat-wait, resume-with-resolved-futures, refusals, refusal, accept}
-use Rattle.machine.specs.Sound.{value-known, runs-now, is-ended}
-use Rattle.machine.specs.History.{tells, done-only}
-use Rattle.machine_laws.specs.Views.{Sized}
+use Rattle.queue.specs.Queue.{entries, order-from}
+use Rattle.queue.specs.OrderLaws.{order-occurrences}
+use Rattle.machine.specs.Store.{Store, view, task, object, header, put-object, put-queue, add-log, exited}
+use Rattle.machine.specs.Scheduler.{pending-call-ids, remove-from-ready-queue, remove-task}
+use Rattle.machine.specs.Delivery.{deliver-awaiter-success}
+use Rattle.machine.specs.Events.{waits, Switched, Awaited, Result, activate, resume-next, handle-task-completion, handle-task-failure, completed, apply-future-results, wake-in-order}
+use Rattle.machine.specs.Machine.{Event, Step, switched, answer-await, runner, repeat-wait, resume-with-resolved-futures}
+use Rattle.machine.specs.Sound.{value-known, runs-now}
+use Rattle.machine.specs.History.{tells}
 use Rattle.machine_laws.specs.Facts.{Nothing}
-use Rattle.machine_laws.specs.StoreLaws.{header-fits, header-put-object, object-fits, task-fits, sized-put-object}
-use Rattle.machine_laws.specs.DeliveryLaws.{absurd-some}
-use Rattle.machine_laws.specs.SoundLaws.{pass, running-rest, refusal-rest}
+use Rattle.machine_laws.specs.StoreLaws.{header-fits, header-put-object, task-fits, sized-put-object}
 use Rattle.machine_laws.specs.MakingLaws.{value-fits}
 use Rattle.machine_theorems.specs.Soundness.Stores.{idle, SoundDuring, SoundStore, during-of}
-use Rattle.machine_theorems.specs.Soundness.Deliver.{DeliveryEnds}
 use Rattle.machine_theorems.specs.Soundness.Fill.{DeliveringValue}
-use Rattle.machine_theorems.specs.Soundness.Exits.{runner-low, runner-runs, runner-live, others-commits-none, completion-delivering, completion-delivery-ends, only-changes-of}
-use Rattle.machine_theorems.specs.Soundness.Results.{low, resolve-delivering, fail-delivering, MayApply, AllApply, host-fits, result-keeps}
-use Rattle.machine_laws.specs.DeliveryLaws.{pending-object}
-use Rattle.machine_theorems.specs.Soundness.Preserved.{running, waiting, complete-known, results-apply}
-use Rattle.machine.specs.Sessions.{InRange}
+use Rattle.machine_theorems.specs.Soundness.Exits.{runner-low, runner-runs, others-commits-none, completion-delivering, completion-delivery-ends, only-changes-of}
+use Rattle.machine_theorems.specs.Soundness.Results.{AllApply}
 use Rattle.machine_theorems.specs.Panics.NoPanicLaws.{Activated, starts, goes-on, raises-it}
 use Rattle.machine_theorems.specs.Panics.NoPanicWoken.{success-activated}
 use Rattle.machine.specs.DemandThree.{is-stalled}
-use Rattle.machine_sessions.specs.Stall.Effects.{success-effect, failure-effect}
-use Rattle.machine_sessions.specs.Stall.Standing.{Stands, stands-like, delivered-stands, Right, removed-stands, resume-right, leave-right, fail-right}
+use Rattle.machine_sessions.specs.Stall.Effects.{success-effect}
+use Rattle.machine_sessions.specs.Stall.ResultsWalk.{delivered-batch}
+use Rattle.machine_sessions.specs.Stall.Standing.{Stands, stands-like, stands-queue, delivered-stands, Right, removed-stands, resume-right, leave-right, fail-right}
 
 -- waiting, with nothing ready
 abbrev pub OnlyChanges : Store → Type 0
@@ -165,50 +150,12 @@ module _ (s : Store) (h : SoundStore s) (st : Stands Nothing s) where
 
 -- ---- results
 
-module _ {r : ℕ → Bool} {D : ℕ → Type 0} {hd : Header} (s : Store) (h : SoundDuring Nothing r D hd s) (st : Stands Nothing s) where
-  found-stands : (c : ℕ) (f : ℕ → PendingExternal → Store) → ((o : ℕ) (p : PendingExternal) → o < header s .made → as-pending (object s o) ≡ some p → Stands Nothing (f o p)) → Stands Nothing (settle-found s (pending-external s c) f)
-  found-stands c f k = by (pending-external s c) refl
-    where
-      at : (o : ℕ) → o < header s .made → (p : Option PendingExternal) → as-pending (object s o) ≡ p → Stands Nothing (settle-pending s p (f o))
-      at o l none e = unfold settle-pending in st
-      at o l (some p) e = unfold settle-pending in (k o p l e)
-
-      by : (o : Option ℕ) → pending-external s c ≡ o → Stands Nothing (settle-found s o f)
-      by none e = unfold settle-found in st
-      by (some o) e = unfold settle-found in (at o (low s h c o e) (as-pending (object s o)) refl)
-
-  awaiter-low : (o : ℕ) (p : PendingExternal) → as-pending (object s o) ≡ some p → AwaiterFits (p .awaiter)
-  awaiter-low o p e = subst ObjectFits (pending-object (object s o) p e) (object-fits s o) .1 .0
-
-  resolve-stands : (c : ℕ) (v : Value) → T (value-known (header s .made) (object s) v) → Stands Nothing (resolve-future s c v)
-  unfolding resolve-future resolve-pending
-  resolve-stands c v k =
-      found-stands c _ (λ o p l e.
-      let m = resolve-delivering s h v k o p l e .during in
-      delivered-stands _ m _ (success-effect _ (p .awaiter) (value-or (p .stored) v) (m .kept .memory .sized) (awaiter-low o p e)) (row-stands s o _ st))
-
-  fail-stands : (c : ℕ) (x : Error) → ErrorFits x → Stands Nothing (fail-future s c x)
-  unfolding fail-future fail-pending
-  fail-stands c x k =
-      found-stands c _ (λ o p l e.
-      let m = fail-delivering s h x k o p l e .during in
-      delivered-stands _ m _ (failure-effect _ (p .awaiter) x (m .kept .memory .sized) (awaiter-low o p e)) (row-stands s o _ st))
-
-  result-stands : (x : Result) → MayApply (hd .made) D x → Stands Nothing (apply-result s x)
-  unfolding apply-result
-  result-stands x m = by (eqb (x .kind) 0) refl (eqb (x .kind) 1) (eqb (x .kind) 2) (eqb (x .kind) 3)
-    where
-      by : (a : Bool) → eqb (x .kind) 0 ≡ a → (b c d : Bool) → Stands Nothing (pick a (resolve-future s (x .call) (to-value (x .tag) (x .number)))
-          (pick b (fail-future s (x .call) (to-error 0 (x .number))) (pick c s (pick d (fail-future s (x .call) Error.NotFound) (fail-future s (x .call) Error.ModuleFile)))))
-      by true e b c d =
-          resolve-stands (x .call) (to-value (x .tag) (x .number))
-          (subst (λ (y : Header). T (value-known (y .made) (object s) (to-value (x .tag) (x .number)))) (sym (h .head)) (m (eqb-true (x .kind) 0 e) (object s) (h .done)))
-      by false e true c d = fail-stands (x .call) (to-error 0 (x .number)) (host-fits (x .number))
-      by false e false true d = st
-      by false e false false true = fail-stands (x .call) Error.NotFound tt
-      by false e false false false = fail-stands (x .call) Error.ModuleFile tt
-
 pub results-stand : {r : ℕ → Bool} {D : ℕ → Type 0} {hd : Header} (xs : List Result) (s : Store) → AllApply (hd .made) D xs → SoundDuring Nothing r D hd s → Stands Nothing s → Stands Nothing (apply-future-results s xs)
-unfolding apply-future-results AllApply
-results-stand [] s a h st = st
-results-stand (x ∷ xs) s a h st = results-stand xs (apply-result s x) (a .1) (result-keeps s x (a .0) h) (result-stands s h st x (a .0))
+results-stand xs s a h st = delivered-batch (Stands Nothing) (λ u o x k. row-stands u o x k) (λ P r D hd u m d e k. delivered-stands u m d e k) xs s a h st
+
+-- whom they woke in task order
+pub ordered-stand : {r : ℕ → Bool} {D : ℕ → Type 0} {hd : Header} (s u : Store) → SoundDuring Nothing r D hd u → Stands Nothing u → Stands Nothing (wake-in-order s u)
+unfolding wake-in-order
+ordered-stand s u h st =
+    stands-queue u (order-from (u .queue) (s .queue .len)) (st .main)
+    (λ t l r e. subst (λ (n : ℕ). 1 ≤ n) (sym (order-occurrences (u .queue) (s .queue .len) (h .kept .memory .ids) (h .kept .memory .words-right .queue-short) t)) (st .stands t l r e))

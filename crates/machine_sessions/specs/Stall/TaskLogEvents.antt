@@ -29,7 +29,7 @@ use Rattle.asyncio.specs.States.{is-live, is-ready, is-blocked, is-unstarted}
 use Rattle.machine.specs.Store.{Store, LogEntry, task, object, header, put-task, put-header, put-object, put-place, put-places, put-queue, add-log, set-state, restate, set-moment, set-next, set-calls, add-object, blocked, reached, exited}
 use Rattle.machine.specs.Scheduler.{PendingExternal, as-pending, make-ready, push-ready, remove-from-ready-queue, remove-task, spawn-as}
 use Rattle.machine.specs.Delivery.{deliver-awaiter-failure}
-use Rattle.machine.specs.Events.{activate, new-function, completed, handle-task-completion, handle-task-failure, exec-get-awaitable, put-items, make-coroutine, make-pending, make-settled, make-gather}
+use Rattle.machine.specs.Events.{activate, new-function, completed, handle-task-completion, handle-task-failure, exec-get-awaitable, put-items, make-coroutine, make-pending, make-settled, make-gather, wake-in-order}
 use Rattle.machine.specs.Machine.{Event, Step, switched, answer-await, end-main, task-completes, task-fails, runner, resume-with-resolved-futures, refusals, refusal, full, no-number, accept}
 use Rattle.machine.specs.History.{says, nothing-said, spawned-by}
 use Rattle.machine_laws.specs.Views.{Sized}
@@ -466,7 +466,8 @@ module _ (F : ℕ → Option ℕ) (X : ℕ → Bool) where
         let q = refusal-rest s (Event.await o) r in await-kept (runner (header s .moment)) o (running s h _ q) (omega (arith, await-made s h o q, header-fits s .made-fits))
     accept-tasks (Event.complete v) n r on = complete-step (runner (header s .moment)) v (running s h _ (refusal-rest s (Event.complete v) r)) on
     accept-tasks (Event.fail m) n r on = fail-step (runner (header s .moment)) (Error.Script m) (running s h _ (refusal-rest s (Event.fail m) r)) on
-    accept-tasks (Event.results rs) n r on = batch-kept (K L Nothing) (tasks-delivers L Nothing) (settles-kept L Nothing) rs s k
+    accept-tasks (Event.results rs) n r on =
+        unfold wake-in-order in (tasks-switches L Nothing .queued _ _ (batch-kept (K L Nothing) (tasks-delivers L Nothing) (settles-kept L Nothing) rs s k))
     accept-tasks Event.resume n r on = resume-step
     accept-tasks (Event.cancel t) n r on = absurd (true≢false n)
     accept-tasks (Event.show o) n r on = k

@@ -25,7 +25,7 @@ use Rattle.asyncio.specs.Kinds.{kind, is-completed}
 use Rattle.queue.specs.Queue.{entries, occurrences}
 use Rattle.machine.specs.Store.{Store, task, object, header, put-task, put-object, put-places, put-header, put-queue, add-log, restate, set-state, set-calls, add-object, reached}
 use Rattle.machine.specs.Scheduler.{make-ready, push-ready}
-use Rattle.machine.specs.Events.{Switched, Result, put-items, apply-future-results, make-coroutine, make-pending, make-settled, make-gather}
+use Rattle.machine.specs.Events.{Switched, Result, put-items, apply-future-results, make-coroutine, make-pending, make-settled, make-gather, wake-in-order}
 use Rattle.machine.specs.Machine.{Event, Step, switched, answer-await, end-main, task-completes, task-fails, runner, resume-with-resolved-futures, refusals, refusal, full, no-number, accept}
 use Rattle.machine.specs.Sound.{is-ended, value-known}
 use Rattle.machine.specs.History.{says, nothing-said}
@@ -165,7 +165,8 @@ module _ (s : Store) (h : SoundStore s) (st : Stands Nothing s) (k : AllStarted 
   unfolding resume-with-resolved-futures switched
   resume-started m = pick-has (λ (x : Step). AllStarted (x .store)) (eqb (s .queue .len) 0) k (right-started _ (resume-right (λ o. T (is-completed (kind (object s o)))) (header s) s (only-changes-of s h m) st))
 
-  results-started : (rs : List Result) → refusal s (Event.results rs) ≡ 0 → AllStarted (apply-future-results s rs)
+  results-started : (rs : List Result) → refusal s (Event.results rs) ≡ 0 → AllStarted (wake-in-order s (apply-future-results s rs))
+  unfolding wake-in-order put-queue header task
   results-started rs r m t l =
       let a = results-apply s h rs (refusal-rest s (Event.results rs) r) in
       let hd : header (apply-future-results s rs) ≡ header s = results-keep rs s a (during-of s h) .head in

@@ -34,7 +34,7 @@ use Rattle.rows.specs.Tables.{object-at, header-at}
 use Rattle.machine.specs.Store.{Store, view, task, object, header, put-task, put-header, put-object, put-place, put-queue, set-calls, set-state, add-object, add-log, blocked, exited}
 use Rattle.machine.specs.Scheduler.{PendingExternal, as-pending, first-from, is-call, pending-external, pending-external-in, pending-call-ids, remove-task, remove-from-ready-queue}
 use Rattle.machine.specs.Delivery.{value-or, resolve-pending, fail-pending, settle-pending, settle-found, resolve-future, fail-future, deliver-awaiter-success, deliver-awaiter-failure}
-use Rattle.machine.specs.Events.{Control, exec-get-awaitable, Result, Switched, activate, resume-next, completed, handle-task-completion, handle-task-failure, apply-result, apply-future-results, make-coroutine, make-pending, make-settled, put-items, make-gather}
+use Rattle.machine.specs.Events.{Control, exec-get-awaitable, Result, Switched, activate, resume-next, completed, handle-task-completion, handle-task-failure, apply-result, apply-future-results, make-coroutine, make-pending, make-settled, put-items, make-gather, wake-in-order}
 use Rattle.machine.specs.Machine.{Event, Step, switched, answer-await, end-main, task-completes, task-fails, runner, repeat-wait, resume-with-resolved-futures, refusals, refusal, full, no-number, accept, in-both, in-running, in-waiting}
 use Rattle.machine.specs.Sound.{is-ended}
 use Rattle.machine.specs.History.{is-at, reply-in, Says, says, nothing-said, tells, done-only}
@@ -460,7 +460,8 @@ module _ (s : Store) (h : SoundStore s) where
   accept-pends (Event.fail n) r c = walked _ c (fail-k (runner (header s .moment)) (Error.Script n))
   accept-pends (Event.results rs) r c =
       let q = refusal-rest s (Event.results rs) r in
-      results-pend rs s (results-apply s h rs q) (during-of s h) (pass 2 (is-ended (header s .moment)) _ q .0) c
+      same-pends (apply-future-results s rs) (wake-in-order s (apply-future-results s rs)) c (unfold wake-in-order put-queue header in refl) (λ o. unfold wake-in-order put-queue object in refl)
+      ∙ results-pend rs s (results-apply s h rs q) (during-of s h) (pass 2 (is-ended (header s .moment)) _ q .0) c
   accept-pends Event.resume r c = walked _ c resume-k
   accept-pends (Event.cancel t) r c = walked _ c (cancel-kept K kept s t start)
   accept-pends (Event.show o) r c = refl
