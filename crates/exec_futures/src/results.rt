@@ -9,7 +9,7 @@ use queue::ReadyQueue;
 use scheduler::tasks::FoundTask;
 ghost use Prim.Native.Nat.{_≤_, _+_};
 ghost use lib.ListN.{length};
-ghost use Rattle.machine.specs.Events.{apply-result, apply-future-results};
+ghost use Rattle.machine.specs.Events.{apply-result, apply-future-results, wake-in-order};
 ghost use Rattle.exec_futures.specs.Results.{result-at, results-in};
 ghost use Rattle.exec_deliver.specs.Delivers.{Wakes};
 ghost use Rattle.contract.specs.Contract.{Lengths, LengthsAnd, Changes};
@@ -46,7 +46,7 @@ fn apply_result(
     fail_future(tasks, objects, call, Error::ModuleFile)
 }
 
-// One result after the other, read where they stand; whom each woke goes to the queue's back.
+// One result after the other, read where they stand; whom each woke goes to the queue's back, behind those who stood there, lowest number first.
 pub fn apply_future_results(
     tasks: &mut [u64],
     objects: &mut [u64],
@@ -56,16 +56,17 @@ pub fn apply_future_results(
 ) -> ReadyQueue
     requires { ⌜ Lengths tasks objects places ⌝ }
     ensures { λ r. ⌜ Changes tasks objects places queue r
-        (λ s. apply-future-results s (results-in (now (results .entry)))) ⌝ }
+        (λ s. wake-in-order s (apply-future-results s (results-in (now (results .entry))))) ⌝ }
 {
     let n = results.len() / RESULT_BYTES;
+    let stood = queue.len;
     let mut left = queue;
     let mut i: usize = 0;
     while i < n {
         let woken = apply_result(tasks, objects, places, results, i * RESULT_BYTES);
         match woken {
             FoundTask::Nothing => {}
-            FoundTask::At(t) => left = left.push_back(t),
+            FoundTask::At(t) => left = left.push_in_order(t, stood),
         }
         i += 1;
     }

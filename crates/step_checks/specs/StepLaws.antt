@@ -30,7 +30,7 @@ use Rattle.machine.specs.Store.{Store, LogEntry, store-of, task, object, header
 use Rattle.machine.specs.Scheduler.{is-some, pending-external-in, pending-external, live, cancel-task}
 use Rattle.machine.specs.Sound.{is-ended, value-known, option-known}
 use Rattle.machine.specs.Events as machine-events
-use Rattle.machine.specs.Events.{Awaited, Result, make-coroutine, make-pending, make-settled, make-gather, exec-get-awaitable, apply-future-results}
+use Rattle.machine.specs.Events.{Awaited, Result, make-coroutine, make-pending, make-settled, make-gather, exec-get-awaitable, apply-future-results, wake-in-order}
 use Rattle.machine.specs.Machine as machine
 use Rattle.machine.specs.Machine.{Event, Step, is-run, any-of, unmade, result-unknown, bad-result, full, no-number, in-running, in-waiting, in-both, first-refusal, refusals, accept, entries-lost, runner, answer-await, task-completes, task-fails, resume-with-resolved-futures}
 use Rattle.machine_laws.specs.RemovalCounts.{cancel-shortens, cancel-loses-few}
@@ -293,14 +293,14 @@ module _ (ts os ps : List ℕ) (q : ReadyQueue) (l : List LogEntry) (bs : List �
         results-bad k = refused-batch 9 (unmet 3 _ _ (sym e ∙ i) ∙ unmet 5 _ _ (sym y ∙ z) ∙ met 10 _ [] (rw (few, ← g, k)))
 
         pub results-done : w ≡ false → {ts′ os′ ps′ : List ℕ} {q′ : ReadyQueue}
-            → store-of ts′ os′ ps′ q′ (apply-future-results waiting (results-in bs) .log) ≡ apply-future-results waiting (results-in bs)
+            → store-of ts′ os′ ps′ q′ (wake-in-order waiting (apply-future-results waiting (results-in bs)) .log) ≡ wake-in-order waiting (apply-future-results waiting (results-in bs))
             → stepped-of (store-of ts′ os′ ps′ q′ (checked waiting batch .store .log)) Answer.Done ≡ checked waiting batch
         results-done k r = same-step (accepts waiting batch passes ∙ gives) Answer.Done (ap (λ (s : Store). record { store = s; answer = machine.Answer.done }) r)
           where
             passes : first-refusal (refusals waiting batch) ≡ 0
             passes = unfold refusals in-both header in (unmet 3 (is-ended (header-at os .moment)) _ (sym e ∙ i) ∙ unmet 5 (any-of (result-unknown (store-of ts os ps q l)) (results-in bs)) _ (sym y ∙ z) ∙ unmet 10 (ltb result-limit (length (results-in bs)) || any-of bad-result (results-in bs)) [] (rw (few, ← g, k)) ∙ none-met)
 
-            gives : accept waiting batch ≡ record { store = apply-future-results waiting (results-in bs); answer = machine.Answer.done }
+            gives : accept waiting batch ≡ record { store = wake-in-order waiting (apply-future-results waiting (results-in bs)); answer = machine.Answer.done }
             gives = unfold accept in refl
 
 -- ---- events of waiting: resume and cancel
