@@ -57,7 +57,7 @@ EVENTS = [
     ("fail", [("number", "u32")], "Event::Fail(number)", "(machine.Event.fail number)",
      "The running task raises the error script n. Runs or waits; of main: finished.", STARTED),
     ("results", [("results", "&[u8]")], "Event::Results", "(machine.Event.results (results-in (now (results .entry))))",
-     "The host answers calls: 14 bytes each (call 4, kind 1, tag 1, value 8), a rest of 1 to 13 bytes is not read. Done.",
+     "The host answers calls: 14 bytes each (call 4, kind 1, tag 1, value 8), a rest of 1 to 13 bytes is not read. Tasks woken go to the queue's back, lowest first. Done.",
      "3 the session has ended, 5 a list of a gather not completed, 10 over 64 results or one that is none; then nothing is applied"),
     ("resume", [], "Event::Resume", "machine.Event.resume",
      "The host hands control back. Runs; waits, where nothing is ready; stalled, where no call is pending either.", "3 the session has ended, 4 a task runs"),

@@ -124,9 +124,9 @@ sozgarru_numbers sozgarru_fail(
     uint64_t tasks[4104], uint64_t objects[2056], uint64_t places[2048], uint64_t calls[256], uint16_t ids[513], size_t *len,
     uint32_t number);
 
-/* The host answers calls: 14 bytes each (call 4, kind 1, tag 1, value 8), a rest of 1 to 13 bytes is not read. Done. Refused with 3 the
- * session has ended, 5 a list of a gather not completed, 10 over 64 results or one that is none; then nothing is applied. Refused also
- * with 2, where the store is not sound. */
+/* The host answers calls: 14 bytes each (call 4, kind 1, tag 1, value 8), a rest of 1 to 13 bytes is not read. Tasks woken go to the
+ * queue's back, lowest first. Done. Refused with 3 the session has ended, 5 a list of a gather not completed, 10 over 64 results or one
+ * that is none; then nothing is applied. Refused also with 2, where the store is not sound. */
 sozgarru_numbers sozgarru_results(
     uint64_t tasks[4104], uint64_t objects[2056], uint64_t places[2048], uint64_t calls[256], uint16_t ids[513], size_t *len,
     const uint8_t *results, size_t results_count);
@@ -231,9 +231,9 @@ sozgarru_numbers sozgarru_fail_unchecked(
     uint64_t tasks[4104], uint64_t objects[2056], uint64_t places[2048], uint64_t calls[256], uint16_t ids[513], size_t *len,
     uint32_t number);
 
-/* The host answers calls: 14 bytes each (call 4, kind 1, tag 1, value 8), a rest of 1 to 13 bytes is not read. Done. Refused with 3 the
- * session has ended, 5 a list of a gather not completed, 10 over 64 results or one that is none; then nothing is applied. The caller
- * owes a sound store: nothing is checked. */
+/* The host answers calls: 14 bytes each (call 4, kind 1, tag 1, value 8), a rest of 1 to 13 bytes is not read. Tasks woken go to the
+ * queue's back, lowest first. Done. Refused with 3 the session has ended, 5 a list of a gather not completed, 10 over 64 results or one
+ * that is none; then nothing is applied. The caller owes a sound store: nothing is checked. */
 sozgarru_numbers sozgarru_results_unchecked(
     uint64_t tasks[4104], uint64_t objects[2056], uint64_t places[2048], uint64_t calls[256], uint16_t ids[513], size_t *len,
     const uint8_t *results, size_t results_count);

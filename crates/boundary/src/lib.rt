@@ -384,7 +384,7 @@ pub extern "C" fn sozgarru_fail(
     )
 }
 
-// The host answers calls: 14 bytes each (call 4, kind 1, tag 1, value 8), a rest of 1 to 13 bytes is not read. Done.
+// The host answers calls: 14 bytes each (call 4, kind 1, tag 1, value 8), a rest of 1 to 13 bytes is not read. Tasks woken go to the queue's back, lowest first. Done.
 // Refused with 3 the session has ended, 5 a list of a gather not completed, 10 over 64 results or one that is none; then nothing is applied. Refused also with 2, where the store is not sound.
 #[no_mangle]
 pub extern "C" fn sozgarru_results(
@@ -858,7 +858,7 @@ pub extern "C" fn sozgarru_fail_unchecked(
     )
 }
 
-// The host answers calls: 14 bytes each (call 4, kind 1, tag 1, value 8), a rest of 1 to 13 bytes is not read. Done.
+// The host answers calls: 14 bytes each (call 4, kind 1, tag 1, value 8), a rest of 1 to 13 bytes is not read. Tasks woken go to the queue's back, lowest first. Done.
 // Refused with 3 the session has ended, 5 a list of a gather not completed, 10 over 64 results or one that is none; then nothing is applied. The caller owes a sound store: nothing is checked.
 #[no_mangle]
 pub extern "C" fn sozgarru_results_unchecked(

@@ -258,7 +258,7 @@ pub fn fail(
 }
 
 // The host answers calls: results of 14 bytes each in document 01's layout (call 4, kind 1, value 9). Bytes behind the last whole result are not
-// read. Done. Refused with 3, 5, 10, and then no result is applied.
+// read. The tasks that the batch wakes go to the queue's back, lowest number first. Done. Refused with 3, 5, 10, and then no result is applied.
 pub fn results(
     tasks: &mut [TaskRecord],
     objects: &mut [u64],

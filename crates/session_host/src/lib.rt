@@ -12,7 +12,7 @@ ghost use Rattle.exec_futures.specs.Results.{results-in};
 ghost use Rattle.step_event.specs.LentStep.{LentStep};
 
 // The host answers calls: results of 14 bytes each in document 01's layout (call 4, kind 1, value 9). Bytes behind the last whole result are not
-// read. Done. Refused with 3, 5, 10, and then no result is applied.
+// read. The tasks that the batch wakes go to the queue's back, lowest number first. Done. Refused with 3, 5, 10, and then no result is applied.
 pub fn results(
     tasks: &mut [u64],
     objects: &mut [u64],

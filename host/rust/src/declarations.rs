@@ -196,8 +196,9 @@ unsafe extern "C" {
     ) -> Numbers;
 
     /// The host answers calls: 14 bytes each (call 4, kind 1, tag 1, value 8), a rest of 1 to 13 bytes is not read.
-    /// Done. Refused with 3 the session has ended, 5 a list of a gather not completed, 10 over 64 results or one that
-    /// is none; then nothing is applied. Refused also with 2, where the store is not sound.
+    /// Tasks woken go to the queue's back, lowest first. Done. Refused with 3 the session has ended, 5 a list of a
+    /// gather not completed, 10 over 64 results or one that is none; then nothing is applied. Refused also with 2,
+    /// where the store is not sound.
     pub(crate) fn sozgarru_results(
         tasks: &mut [u64; 4104],
         objects: &mut [u64; 2056],
@@ -417,8 +418,9 @@ unsafe extern "C" {
     ) -> Numbers;
 
     /// The host answers calls: 14 bytes each (call 4, kind 1, tag 1, value 8), a rest of 1 to 13 bytes is not read.
-    /// Done. Refused with 3 the session has ended, 5 a list of a gather not completed, 10 over 64 results or one that
-    /// is none; then nothing is applied. The caller owes a sound store: nothing is checked.
+    /// Tasks woken go to the queue's back, lowest first. Done. Refused with 3 the session has ended, 5 a list of a
+    /// gather not completed, 10 over 64 results or one that is none; then nothing is applied. The caller owes a sound
+    /// store: nothing is checked.
     pub(crate) fn sozgarru_results_unchecked(
         tasks: &mut [u64; 4104],
         objects: &mut [u64; 2056],
