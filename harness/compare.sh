@@ -1,6 +1,7 @@
 #!/usr/bin/env bash
 # compare.sh [SEED [COUNT [DRIVE]]]: runs COUNT random event files of SEED through `drive` and through the published Rust, and holds the lines to each
-# other. Without DRIVE, a drive is built from the sources as they stand. A differing file is cut down and printed as text.
+# other; where a batch wakes its tasks out of order, those of the amended Rust (README.md). Without DRIVE, a drive is built from the sources as they stand. A
+# differing file is cut down and printed as text.
 set -euo pipefail
 cd "$(dirname "$0")/.."
 seed=${1:-1} count=${2:-1000} drive=${3:-}

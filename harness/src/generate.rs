@@ -4,8 +4,9 @@ use std::{fs, path::Path};
 
 use crate::{
     asyncio::{CallId, TaskId},
+    compare::expected,
     records::Reader,
-    session::{Moment, Session, lines, with_session},
+    session::{Moment, Notes, Rule, Session, with_session},
 };
 
 /// splitmix64.
@@ -54,9 +55,12 @@ enum Style {
     Limits,
     /// tasks below tasks, cancelled while the host waits
     Cancels,
+    /// many tasks that wait for calls, and batches that wake several of them
+    Batches,
 }
 
-const STYLES: [Style; 5] = [Style::Sensible, Style::Wild, Style::Deep, Style::Limits, Style::Cancels];
+/// A file in turn; the eighth is damaged, of any style.
+const STYLES: [Style; 7] = [Style::Sensible, Style::Wild, Style::Deep, Style::Limits, Style::Cancels, Style::Batches, Style::Batches];
 
 /// One file being made.
 struct File<'s, 'h> {
@@ -70,6 +74,8 @@ struct File<'s, 'h> {
     failed: Option<u16>,
     /// whether it begins with so many calls that their numbers need more than 16 bits, or soon will
     many_calls: bool,
+    /// whether each batch is put into an order in which it wakes the lower task first
+    in_order: bool,
 }
 
 impl File<'_, '_> {
@@ -128,7 +134,11 @@ impl File<'_, '_> {
         self.record(8, &number.to_le_bytes());
     }
 
-    fn results(&mut self, results: &[Vec<u8>]) {
+    fn results(&mut self, mut results: Vec<Vec<u8>>) {
+        if self.in_order {
+            // those that can wake one task come together, and so it is woken behind the lower and before the higher ones
+            results.sort_by_key(|result| self.session.waiter(u32::from_le_bytes([result[0], result[1], result[2], result[3]])));
+        }
         let mut fields = vec![results.len() as u8];
         fields.extend(results.concat());
         self.record(9, &fields);
@@ -233,6 +243,10 @@ impl File<'_, '_> {
         } else {
             self.call_number(3)
         };
+        self.result_of(call)
+    }
+
+    fn result_of(&mut self, call: u32) -> Vec<u8> {
         let kind = self.random.weighted(&[70, 15, 6, 5, 4]) as u8;
         let mut value = self.value();
         if kind == 1 {
@@ -268,8 +282,8 @@ impl File<'_, '_> {
 
     fn some_results(&mut self, most: u64) {
         let count = 1 + self.random.below(most);
-        let results: Vec<Vec<u8>> = (0..count).map(|_| self.result()).collect();
-        self.results(&results);
+        let results = (0..count).map(|_| self.result()).collect();
+        self.results(results);
     }
 
     fn some_show(&mut self) {
@@ -377,7 +391,7 @@ impl File<'_, '_> {
             8 if self.random.chance(30) => self.fail(),
             7..=9 => {
                 let count = self.random.below(5);
-                let results: Vec<Vec<u8>> = (0..count)
+                let results = (0..count)
                     .map(|_| {
                         let mut result = self.result();
                         match self.random.below(30) {
@@ -390,7 +404,7 @@ impl File<'_, '_> {
                         result
                     })
                     .collect();
-                self.results(&results);
+                self.results(results);
             }
             10 => self.resume(),
             11 => self.show(object),
@@ -504,7 +518,7 @@ impl File<'_, '_> {
                 results.push([&call.to_le_bytes()[..], &[0], &self.value()[..]].concat());
             }
         }
-        self.results(&results);
+        self.results(results);
         let mut blocked = self.session.spawned_tasks();
         blocked.retain(|&task| self.session.vm.scheduler.is_blocked(TaskId::new(u32::from(task))));
         if !blocked.is_empty() {
@@ -516,6 +530,75 @@ impl File<'_, '_> {
         }
     }
 
+    /// Tasks that wait for calls, alone or through gathers; and batches that wake several of them, in any order, while one runs or the host waits.
+    /// Main mostly has orphans, and waits for calls of its own.
+    fn batches(&mut self) {
+        match self.session.moment {
+            Moment::Running if self.made() < 230 => {
+                let is_main = self.session.running().is_main();
+                match self.random.weighted(&if is_main { [35, 40, 15, 0, 10] } else { [4, 62, 10, 16, 8] }) {
+                    0 => {
+                        let fails = self.random.chance(70);
+                        self.family(fails);
+                    }
+                    1 => self.wait_for_calls(),
+                    2 => self.batch(70),
+                    3 => self.complete(),
+                    _ => self.sensible_running(),
+                }
+            }
+            Moment::Waiting => match self.random.weighted(&[35, 15, 35, 5, 10]) {
+                0 => self.batch(70),
+                1 => (0..2 + self.random.below(2)).for_each(|_| self.batch(35)),
+                2 => self.resume(),
+                3 => self.some_cancel(),
+                _ => self.sensible(),
+            },
+            _ => self.sensible(),
+        }
+    }
+
+    /// An await of a new call; of a gather of new calls, at times with one of them twice; or of a gather in a gather with a call beside.
+    fn wait_for_calls(&mut self) {
+        let calls = self.random.weighted(&[0, 60, 25, 15]);
+        let first = self.made() as u16;
+        (0..calls).for_each(|_| self.some_pending());
+        let mut items: Vec<u16> = (first..self.made() as u16).collect();
+        if self.random.chance(10) {
+            items.extend(items.first().copied());
+        }
+        if calls > 1 || self.random.chance(20) {
+            self.gather(&items);
+            while self.random.chance(30) {
+                let inner = self.last();
+                self.some_pending();
+                let items = if self.random.chance(50) { [inner, self.last()] } else { [self.last(), inner] };
+                self.gather(&items);
+            }
+        }
+        self.await_last();
+    }
+
+    /// Results of so many percent of the pending calls, shuffled, or the last call first; at times one twice, or of a call that is not pending.
+    fn batch(&mut self, percent: u64) {
+        let mut calls = self.pending_calls();
+        calls.retain(|_| self.random.chance(percent));
+        if self.random.chance(25) {
+            calls.reverse();
+        } else {
+            (1..calls.len()).for_each(|i| calls.swap(i, self.random.below(i as u64 + 1) as usize));
+        }
+        if self.random.chance(15) {
+            let at = self.random.below(calls.len() as u64 + 1) as usize;
+            let call = if self.random.chance(50) { calls.last().copied() } else { None };
+            let call = call.unwrap_or_else(|| self.call_number(3));
+            calls.insert(at, call);
+        }
+        calls.truncate(64);
+        let results = calls.into_iter().map(|call| self.result_of(call)).collect();
+        self.results(results);
+    }
+
     /// A failed external: the first of this file, or a new one.
     fn failed_external(&mut self) -> u16 {
         if self.failed.is_none() {
@@ -523,7 +606,7 @@ impl File<'_, '_> {
             let call = self.session.calls_handed_out - 1;
             self.record(3, &[&call.to_le_bytes()[..], &[0; 10]].concat());
             self.failed = Some(self.last());
-            self.results(&[[&call.to_le_bytes()[..], &[1, 0, 9, 0, 0, 0, 0, 0, 0, 0]].concat()]);
+            self.results(vec![[&call.to_le_bytes()[..], &[1, 0, 9, 0, 0, 0, 0, 0, 0, 0]].concat()]);
         }
         self.failed.unwrap_or(0)
     }
@@ -555,14 +638,14 @@ impl File<'_, '_> {
             3 => {
                 // 63 to 66 results
                 let count = 63 + self.random.below(4);
-                let results: Vec<Vec<u8>> = (0..count).map(|_| self.result()).collect();
-                self.results(&results);
+                let results = (0..count).map(|_| self.result()).collect();
+                self.results(results);
             }
             4 => {
                 // as many results or items as a record can have
                 if self.random.chance(50) {
-                    let results: Vec<Vec<u8>> = (0..255).map(|_| self.result()).collect();
-                    self.results(&results);
+                    let results = (0..255).map(|_| self.result()).collect();
+                    self.results(results);
                 } else if self.made() > 0 {
                     let items: Vec<u16> = (0..255).map(|_| self.object()).collect();
                     self.gather(&items);
@@ -585,7 +668,7 @@ impl File<'_, '_> {
             self.pending(call);
         }
         let unknown = [65_536 + calls, u32::MAX - 1, u32::MAX].map(|call| [&call.to_le_bytes()[..], &[0; 10]].concat());
-        self.results(&unknown);
+        self.results(unknown.to_vec());
         self.some_results(4);
         let top = self.object();
         self.await_object(top);
@@ -600,6 +683,7 @@ impl File<'_, '_> {
                 Style::Deep => self.deep(height),
                 Style::Limits => self.limits(),
                 Style::Cancels => self.cancels(),
+                Style::Batches => self.batches(),
             }
             if self.session.moment == Moment::Ended && self.random.chance(10) {
                 break;
@@ -629,19 +713,20 @@ impl File<'_, '_> {
     }
 }
 
-/// File `number` of `seed`. Every sixth is damaged; one in 97, from file 3 on, begins with 65,530 to 70,000 calls, and is not: the damage would mostly be
-/// among these.
+/// File `number` of `seed`. Every eighth is damaged; one in 97, from file 3 on, begins with 65,530 to 70,000 calls, and is not: the damage would mostly be
+/// among these. Of each three rounds of eight the first has its batches in order. It is the amended Rust that runs beside: where batches are in order it
+/// is the published one.
 pub(crate) fn file(seed: u64, number: u64) -> Vec<u8> {
     with_session(|session| {
         let mut random = Random(seed.wrapping_mul(0x1000_0000_01B3) ^ number);
         random.next();
         let many_calls = number % 97 == 3;
-        let damaged = number % 6 == 5 && !many_calls;
-        let style = STYLES[(if number % 6 == 5 { random.below(5) } else { number % 6 }) as usize];
+        let damaged = number % 8 == 7 && !many_calls;
+        let style = STYLES[(if number % 8 == 7 { random.below(7) } else { number % 8 }) as usize];
         let length = match style {
             Style::Wild => 40 + random.below(360),
             Style::Limits => 100 + random.below(600),
-            Style::Cancels => 100 + random.below(400),
+            Style::Cancels | Style::Batches => 100 + random.below(400),
             _ => 60 + random.below(240),
         };
         let mut file = File {
@@ -652,12 +737,16 @@ pub(crate) fn file(seed: u64, number: u64) -> Vec<u8> {
             cancelled: 1,
             failed: None,
             many_calls,
+            in_order: number / 8 % 3 == 0,
         };
+        file.session.rule = Rule::Amended;
+        file.session.notes = file.in_order.then(Notes::default);
         if many_calls {
             file.calls();
         }
         let length = file.records + length;
         file.fill(style, length);
+        assert!(file.session.notes.take().is_none_or(|notes| !notes.out_of_order), "the batches were put in order");
         if damaged {
             file.damage();
         }
@@ -665,11 +754,13 @@ pub(crate) fn file(seed: u64, number: u64) -> Vec<u8> {
     })
 }
 
-/// Writes the files and the Rust's lines.
+/// Writes the files, and the lines of the Rust that each is held to.
 pub(crate) fn files(seed: u64, from: u64, count: u64, folder: &Path) {
     for number in from..from + count {
         let bytes = file(seed, number);
-        fs::write(folder.join(format!("{number:04}.out")), lines(&bytes)).expect("writing lines");
-        fs::write(folder.join(format!("{number:04}.bin")), bytes).expect("writing a file");
+        let expected = expected(&bytes);
+        let name = format!("{}{number:04}", if expected.rule == Rule::Published { "" } else { "amended-" });
+        fs::write(folder.join(format!("{name}.out")), expected.lines).expect("writing lines");
+        fs::write(folder.join(format!("{name}.bin")), bytes).expect("writing a file");
     }
 }

@@ -16,6 +16,7 @@ mod value;
 use std::io::{self, Read, Write};
 
 use heap::{defer_drop, defer_drop_mut};
+use session::Rule;
 
 mod intern {
     //! Shim: function and string numbers; every function has the same empty code.
@@ -121,20 +122,26 @@ mod run_progress {
     impl ExtFunctionResultExt for ExtFunctionResult {}
 }
 
-const USAGE: &str = "usage: harness lines < RECORDS            the Rust's lines
-       harness files SEED FROM COUNT FOLDER     random event files, NNNN.bin, and the Rust's lines, NNNN.out
+const USAGE: &str = "usage: harness lines < RECORDS            the lines of the Rust as published
+       harness amended-lines < RECORDS          those of the amended Rust: document 02, No. 7 behind each batch of results
+       harness files SEED FROM COUNT FOLDER     random event files, NNNN.bin, and the lines of the Rust as published, NNNN.out;
+                                                amended-NNNN.bin and .out where a batch wakes its tasks out of order: those of the amended Rust
        harness compare DRIVE SEED COUNT FOLDER  the same files through DRIVE; a differing one is cut down into FOLDER";
+
+/// Standard input's records to lines.
+fn lines(rule: Rule) {
+    let mut bytes = Vec::new();
+    io::stdin().lock().read_to_end(&mut bytes).expect("reading standard input");
+    io::stdout().lock().write_all(session::lines(&bytes, rule).as_bytes()).expect("writing standard output");
+}
 
 fn main() {
     let words: Vec<String> = std::env::args().skip(1).collect();
     let words: Vec<&str> = words.iter().map(String::as_str).collect();
     let number = |word: &str| word.parse::<u64>().unwrap_or_else(|_| panic!("{word} is no number"));
     match *words {
-        ["lines"] => {
-            let mut bytes = Vec::new();
-            io::stdin().lock().read_to_end(&mut bytes).expect("reading standard input");
-            io::stdout().lock().write_all(session::lines(&bytes).as_bytes()).expect("writing standard output");
-        }
+        ["lines"] => lines(Rule::Published),
+        ["amended-lines"] => lines(Rule::Amended),
         ["files", seed, from, count, folder] => generate::files(number(seed), number(from), number(count), folder.as_ref()),
         ["compare", drive, seed, count, folder] => {
             std::process::exit(i32::from(!compare::compare(drive.as_ref(), number(seed), number(count), folder.as_ref())));

@@ -45,8 +45,29 @@ pub(crate) struct Session<'h> {
     pub moment: Moment,
     pub calls_handed_out: u32,
     pub places: usize,
-    /// Of the accepted cancels: what the task was, and what went with it. Where nobody asks nothing is looked up: it would be timed as the Rust's.
-    pub cancels: Option<BTreeMap<&'static str, u64>>,
+    pub rule: Rule,
+    /// Where nobody asks nothing is looked up: it would be timed as the Rust's.
+    pub notes: Option<Notes>,
+}
+
+/// In which order the tasks stand in the queue that one batch of results has woken.
+#[derive(Debug, Clone, Copy, PartialEq, Eq)]
+pub(crate) enum Rule {
+    /// as the published text leaves them: as the batch woke them
+    Published,
+    /// document 02, No. 7: lowest first
+    Amended,
+}
+
+/// What was met in a run.
+#[derive(Default)]
+pub(crate) struct Notes {
+    /// of the accepted cancels: what the task was, and what went with it
+    pub cancels: BTreeMap<&'static str, u64>,
+    /// of the accepted batches of results that woke two tasks or more
+    pub batches: BTreeMap<String, u64>,
+    /// whether a batch woke a task behind a higher one, which No. 7 puts in order
+    pub out_of_order: bool,
 }
 
 impl<'h> Session<'h> {
@@ -57,7 +78,8 @@ impl<'h> Session<'h> {
             moment: Moment::Running,
             calls_handed_out: 0,
             places: 0,
-            cancels: None,
+            rule: Rule::Published,
+            notes: None,
         }
     }
 
@@ -177,9 +199,14 @@ impl<'h> Session<'h> {
                         (call, result)
                     })
                     .collect();
+                let queued = self.vm.scheduler.ready_queue().len();
                 self.vm
                     .apply_future_results(results)
                     .expect("applying results fails only in bridging a value");
+                self.note_batch(queued);
+                if self.rule == Rule::Amended {
+                    self.wake_in_order(queued);
+                }
                 Ok("done".into())
             }
             Record::Resume => Ok(match self.vm.resume_with_resolved_futures(Vec::new()) {
@@ -195,13 +222,13 @@ impl<'h> Session<'h> {
                 refuse(task.is_main(), 9)?;
                 self.note_cancel(task);
                 let live = self.vm.scheduler.task_count();
-                let queued = self.vm.scheduler.ready_queue_length();
+                let queued = self.vm.scheduler.ready_queue().len();
                 self.vm.scheduler.cancel_task(task, self.vm.heap);
-                let lost = queued - self.vm.scheduler.ready_queue_length();
+                let lost = queued - self.vm.scheduler.ready_queue().len();
                 if live - self.vm.scheduler.task_count() > 1 {
-                    self.note("that removed other tasks too");
+                    self.note_cancelled("that removed other tasks too");
                 }
-                self.note(match lost {
+                self.note_cancelled(match lost {
                     0 => "with count 0",
                     1 => "with count 1",
                     2 => "with count 2",
@@ -318,14 +345,14 @@ impl<'h> Session<'h> {
         tasks
     }
 
-    fn note(&mut self, what: &'static str) {
-        if let Some(cancels) = &mut self.cancels {
-            *cancels.entry(what).or_default() += 1;
+    fn note_cancelled(&mut self, what: &'static str) {
+        if let Some(notes) = &mut self.notes {
+            *notes.cancels.entry(what).or_default() += 1;
         }
     }
 
     fn note_cancel(&mut self, task: TaskId) {
-        if self.cancels.is_none() {
+        if self.notes.is_none() {
             return;
         }
         let text = format!("{:?}", self.vm.scheduler.get_task_mut(task));
@@ -334,8 +361,8 @@ impl<'h> Session<'h> {
             Some(Awaiter::GatherSlot { gather, .. }) => gather,
             _ => panic!("a spawned task's result goes to a gather"),
         };
-        self.note("accepted");
-        self.note(match state.strip_prefix("Blocked(").map(|id| id.chars().filter(char::is_ascii_digit).collect::<String>()) {
+        self.note_cancelled("accepted");
+        self.note_cancelled(match state.strip_prefix("Blocked(").map(|id| id.chars().filter(char::is_ascii_digit).collect::<String>()) {
             None => "of a ready task",
             Some(id) if self.is_gather(&id) => "of a task blocked on a gather",
             Some(_) => "of a task blocked on a call",
@@ -343,10 +370,10 @@ impl<'h> Session<'h> {
         match self.vm.heap.data(gather) {
             HeapData::GatherFuture(it) if matches!(it.state, GatherState::Awaited(_)) => {
                 if self.objects.iter().any(|&id| self.holds(id, gather)) {
-                    self.note("of a task below a nested gather");
+                    self.note_cancelled("of a task below a nested gather");
                 }
             }
-            _ => self.note("of an orphan: its gather has failed"),
+            _ => self.note_cancelled("of an orphan: its gather has failed"),
         }
     }
 
@@ -364,6 +391,57 @@ impl<'h> Session<'h> {
                 _ => false,
             },
             _ => false,
+        }
+    }
+
+    // ---- batches ----
+
+    /// Document 02, No. 7, which the published text has not: the tasks behind the first `queued`, which one batch has woken, lowest first.
+    fn wake_in_order(&mut self, queued: usize) {
+        let queue = self.vm.scheduler.ready_queue().make_contiguous();
+        queue[queued..].sort_unstable_by_key(|task| task.number());
+    }
+
+    /// Of a batch just applied: how many tasks stand behind the first `queued`, and whether they ascend as they were woken.
+    fn note_batch(&mut self, queued: usize) {
+        let Some(notes) = &mut self.notes else { return };
+        let woken: Vec<u32> = self.vm.scheduler.ready_queue().iter().skip(queued).map(|task| task.number()).collect();
+        if woken.len() < 2 {
+            return;
+        }
+        let in_order = woken.is_sorted();
+        notes.out_of_order |= !in_order;
+        let mut note = |what: &str| *notes.batches.entry(format!("{what}, {} order", if in_order { "in" } else { "out of" })).or_default() += 1;
+        note(if woken.len() == 2 { "2 tasks woken" } else { "3 tasks or more woken" });
+        if self.moment == Moment::Running {
+            note("of these while a task ran");
+        }
+        if queued > 0 {
+            note("of these behind tasks in the queue");
+        }
+        if woken.contains(&0) {
+            note("of these with main");
+        }
+    }
+
+    /// The task that a result of this call would wake, if it wakes one: that at the end of the call's awaiters.
+    pub fn waiter(&self, call: u32) -> Option<u32> {
+        let mut awaiter = self.objects.iter().find_map(|&id| match self.vm.heap.data(id) {
+            HeapData::ExternalFuture(it) if it.call_id.raw() == call => match &it.state {
+                ExternalFutureState::Pending { awaiter } => awaiter.as_ref(),
+                _ => None,
+            },
+            _ => None,
+        })?;
+        loop {
+            let gather = match awaiter {
+                Awaiter::Task(task) => return Some(task.number()),
+                Awaiter::GatherSlot { gather, .. } => self.vm.heap.data(*gather),
+            };
+            awaiter = match gather {
+                HeapData::GatherFuture(GatherFuture { state: GatherState::Awaited(awaited), .. }) => &awaited.awaiter,
+                _ => return None,
+            };
         }
     }
 
@@ -516,16 +594,20 @@ pub(crate) fn with_session<T>(f: impl FnOnce(&mut Session) -> T) -> T {
 }
 
 /// The lines of one input, as document 01's driver prints them.
-pub(crate) fn lines(bytes: &[u8]) -> String {
-    with_session(|session| answers(session, bytes))
+pub(crate) fn lines(bytes: &[u8], rule: Rule) -> String {
+    with_session(|session| {
+        session.rule = rule;
+        answers(session, bytes)
+    })
 }
 
-/// The lines, and what was cancelled.
-pub(crate) fn lines_and_cancels(bytes: &[u8]) -> (String, BTreeMap<&'static str, u64>) {
+/// The lines, and what was met.
+pub(crate) fn lines_and_notes(bytes: &[u8], rule: Rule) -> (String, Notes) {
     with_session(|session| {
-        session.cancels = Some(BTreeMap::new());
+        session.rule = rule;
+        session.notes = Some(Notes::default());
         let out = answers(session, bytes);
-        (out, session.cancels.take().unwrap_or_default())
+        (out, session.notes.take().unwrap_or_default())
     })
 }
 
