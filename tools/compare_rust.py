@@ -4,7 +4,8 @@
     python3 tools/compare_rust.py [--seed S] [--sessions N] [--events E] [--oracle DIR] [--work DIR] [--jobs J] [--self-test]
 
 1. Builds the oracle (the published Rust behind document 01's records) in the work folder.
-2. Makes N random sessions, all one event further at a time: the oracle is asked what the last event did, and that steers the next one.
+2. Makes N random sessions, all one event further at a time: the oracle is asked what the last event did, and that steers the next one. A batch that
+   wakes its tasks out of order (document 02, No. 7) is rearranged, or cut, until it wakes them in order.
 3. Takes the Rust's lines, a cancel's with its count (compare_figures.with_counts), turns each into an `Answer`, and writes modules with the theorem
    `map (answers fresh) (events-0 ∷ ..) ≡ told-0 ∷ ..`, by `refl`; `rt check` then computes the machine on every session. Some sessions
    share a theorem, since antt forgets what it has computed at the end of a declaration; where one fails, its sessions are tried alone.
@@ -26,7 +27,7 @@ import time
 
 sys.dont_write_bytecode = True  # nothing is left behind in tools/
 
-from compare_figures import figures, with_counts
+from compare_figures import MAIN, figures, in_order, with_counts
 from compare_sessions import Session, fixed_sessions
 from compare_terms import module_text
 
@@ -68,8 +69,21 @@ def grow(oracle, sessions):
     while open_ones := [s for s in sessions if not s.over()]:
         for s in open_ones:
             s.choose()
+        put_in_order(oracle, open_ones)
         for s, said in zip(open_ones, oracle.run([s.events + s.probes() for s in open_ones])[0]):
             s.learn(said)
+
+
+def put_in_order(oracle, sessions):
+    """The batches just chosen, until each wakes its tasks in ascending order, as the machine does and the published Rust does not (document 02, No. 7)."""
+    tries = 0
+    while sessions := [s for s in sessions if s.events[-1].startswith("results ") and ";" in s.events[-1]]:
+        dumped = iter(oracle.run([s.events for s in sessions], "--dump")[1])
+        dumps = [[MAIN, *(next(dumped) for _ in s.events)] for s in sessions]
+        sessions = [s for s, its_own in zip(sessions, dumps) if not in_order(*its_own[-2:])]
+        for s in sessions:
+            s.rearrange(tries)
+        tries += 1
 
 
 # ---- the temporary repository

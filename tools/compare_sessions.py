@@ -150,6 +150,11 @@ class Session:
             calls.append(self.rng.choice([self.rng.randrange(self.handed + 1), 65536, *calls]))
         return "results " + "; ".join(self.entry(c) for c in calls)
 
+    def rearrange(self, tries):
+        """The batch just chosen, which wakes its tasks out of order: the other way round, and if that is not enough without its last result."""
+        entries = self.events[-1].removeprefix("results ").split("; ")
+        self.events[-1] = "results " + "; ".join(entries[:-1] if tries else entries[::-1])
+
     # ---- events to be refused
 
     def bad(self):
@@ -299,8 +304,8 @@ def fixed_sessions():
     return [
         ["coroutine 1", "gather" + " 0" * 33, "gather" + " 0" * 32, "await 1", "complete plain 3", "show 1"],
         ["call", "pending 0", "await 0", "results " + "; ".join([one] * 65), "results " + "; ".join([one] * 64), "resume"],
-        # task 1 waits for 3, 4 and 5; the queue is 5 2 3 when it is cancelled: done 2
+        # task 1 waits for 3, 4 and 5; by two batches the queue is 5 2 3 when it is cancelled: done 2
         [f"coroutine {f}" for f in range(1, 6)] + ["gather 2 3 4", "gather 0 1"] + ["call"] * 4 + [f"pending {c}" for c in range(4)]
-        + [f"await {o}" for o in (6, 5, 7, 8, 9, 10)] + ["results " + "; ".join(f"{c} kind 0 tag 0 bits {c}" for c in (3, 0, 1))]
+        + [f"await {o}" for o in (6, 5, 7, 8, 9, 10)] + ["results 3 kind 0 tag 0 bits 3", "results 0 kind 0 tag 0 bits 0; 1 kind 0 tag 0 bits 1"]
         + ["cancel 1", "cancel 1", "cancel 3", "resume", "show 5", "show 6"],
     ]
