@@ -448,7 +448,8 @@ class Session:
         return self._event("fail", _fits(number, 32))
 
     def results(self, replies):
-        """The host answers calls: pairs of a call and its value, Error("host", n), Error("not-found"), Error("module-file") or FUTURE."""
+        """The host answers calls: pairs of a call and its value, Error("host", n), Error("not-found"), Error("module-file") or FUTURE. The tasks that they
+        wake go on lowest first, behind those that were ready before."""
         return self.result_bytes(b"".join(_result_bytes(call, outcome) for call, outcome in replies))
 
     def result_bytes(self, data):

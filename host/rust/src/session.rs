@@ -184,7 +184,8 @@ impl Session {
     }
 
     /// The host answers calls, at most 64 at a time. A call that is not pending is ignored: a late, a doubled or an
-    /// unknown reply changes nothing.
+    /// unknown reply changes nothing. The tasks that they wake go on lowest first, in whatever order the replies stand,
+    /// behind those that were ready before.
     ///
     /// # Errors
     /// [`Refusal::Ended`], [`Refusal::Unknown`], [`Refusal::BadResults`]; then none of them is applied.

@@ -165,8 +165,8 @@ fn calls_go_past_65536() -> Result<(), Refusal> {
     Ok(())
 }
 
-/// Task 1 waits for tasks 3, 4 and 5, task 2 for call 0; each of the three for a call of its own. Results wake 5 and 3,
-/// and task 2 between them.
+/// Task 1 waits for tasks 3, 4 and 5, task 2 for call 0; each of the three for a call of its own. One batch wakes 5,
+/// the next 2 and 3: task 2 stands between the others in the queue.
 fn session_with_a_queue() -> Result<Session, Refusal> {
     let mut s = Session::new();
     let coroutines = (1..=5).map(|function| s.coroutine(function)).collect::<Result<Vec<_>, _>>()?;
@@ -180,7 +180,10 @@ fn session_with_a_queue() -> Result<Session, Refusal> {
     for object in [&[top, below][..], &futures].concat() {
         s.await_object(object)?;
     }
-    s.results(&[3, 0, 1].map(|call| (CallId::new(call), Outcome::Return(Value::Plain(call.into())))))?;
+    for batch in [&[3][..], &[0, 1]] {
+        let host = |&call: &u32| (CallId::new(call), Outcome::Return(Value::Plain(call.into())));
+        s.results(&batch.iter().map(host).collect::<Vec<_>>())?;
+    }
     Ok(s)
 }
 
