@@ -5,7 +5,7 @@ use mathlib.Core.Logic.{_⊎_, inl, inr}
 use mathlib.Core.Bool.{Bool, true, false}
 use mathlib.Core.List.{List, [], _∷_}
 use mathlib.Core.Option.{Option, none, some}
-use Prim.Native.Nat.{ℕ, zero, suc, _+_, _≤_, _<_}
+use Prim.Native.Nat.{ℕ, _≤_, _<_}
 use native.Mathlib.Nat.{not-suc-le-zero}
 use native.Mathlib.Omega.{arith}
 use native.Mathlib.Decide.{ℕ-discrete}
@@ -13,14 +13,12 @@ use lib.Dec.{ltb}
 use borrow.Author.Tests.{ltb-true, ltb-false}
 use Rattle.asyncio.specs.declared.Value.{Value}
 use Rattle.asyncio.specs.declared.Error.{Error}
-use Rattle.asyncio.specs.declared.ExternalFutureState.{ExternalFutureState}
-use Rattle.asyncio.specs.declared.GatherState.{GatherState}
 use Rattle.asyncio.specs.declared.Object.{Object}
 use Rattle.asyncio.specs.declared.TaskState.{TaskState}
 use Rattle.machine.specs.Store.{Store, LogEntry, spawned, blocked, reached, exited, removed, object, place, header, forget, put-object, put-places, put-queue, put-task, add-log, set-state}
-use Rattle.machine.specs.Scheduler.{bit, make-ready, push-ready}
+use Rattle.machine.specs.Scheduler.{make-ready, push-ready}
 use Rattle.machine.specs.Events.{Result, apply-future-results}
-use Rattle.machine.specs.Machine.{Event, Answer, Step, Shown, slot-value, show-places, shown, refusal, accept, step}
+use Rattle.machine.specs.Machine.{Event, Answer, Step, Shown, shown, refusal, accept, step}
 use Rattle.machine.specs.Gather.{Outcome}
 use Rattle.machine.specs.History.{Entry, says, nothing-said, said, tells, done-only, is-at, coroutine-of, running-coroutine, spawned-for, exits-unstarted, failed-error, coroutine-outcome, outcome}
 use Rattle.machine.specs.Sessions.{Sent, Session, InRange, AllSentInRange, lent-any, happened-by, entry-of, send, send-all, session}
@@ -35,7 +33,7 @@ use Rattle.machine_theorems.specs.Soundness.Stores.{SoundStore}
 use Rattle.machine_sessions.specs.Queue.Following.{Sends, stepped, short, sends, session-follows}
 use Rattle.machine_sessions.specs.Places.Agrees.{no-value}
 use Rattle.machine_sessions.specs.Places.AgreesSessions.{session-agrees}
-use Rattle.machine_sessions.specs.Places.PlacesHold.{row-outcome, outcome-row}
+use Rattle.machine_sessions.specs.Places.PlacesHold.{shown-like, row-outcome, outcome-row}
 use Rattle.machine_sessions.specs.Stall.Outcomes.{outcome-of}
 use Rattle.machine_sessions.specs.Gather.OutcomesStay.{unmade-none}
 use Rattle.machine_sessions.specs.Gather.FailingSessions.{look-row}
@@ -162,22 +160,8 @@ batch-alike x rs l h a =
 
 -- ---- what is shown, and what objects have come to
 
-shows-rows : (s : Store) (f m i n : ℕ) → show-places s f m i n ≡ show-places (rows-of s) f m i n
-unfolding show-places place
-shows-rows s f m i zero = refl
-shows-rows s f m i (suc n) = ap (λ (vs : List (Option Value)). slot-value (bit m i) (place s (f + i) .result) ∷ vs) (shows-rows s f m (i + 1) n)
-
 shown-rows : (s : Store) (x : Object) → shown s x ≡ shown (rows-of s) x
-unfolding shown
-shown-rows s Object.Unmade = refl
-shown-rows s (Object.Coroutine f x) = refl
-shown-rows s (Object.ExternalFuture c (ExternalFutureState.Pending a r)) = refl
-shown-rows s (Object.ExternalFuture c (ExternalFutureState.Resolved v)) = refl
-shown-rows s (Object.ExternalFuture c (ExternalFutureState.Failed e)) = refl
-shown-rows s (Object.GatherFuture f n GatherState.Pending) = refl
-shown-rows s (Object.GatherFuture f n (GatherState.Awaited a m)) = ap Shown.a-gather-awaited (shows-rows s f m 0 n)
-shown-rows s (Object.GatherFuture f n GatherState.Completed) = ap Shown.a-gather-completed (shows-rows s f 0 0 n)
-shown-rows s (Object.GatherFuture f n (GatherState.Failed e)) = refl
+shown-rows s x = shown-like (rows-of s) s (λ p. unfold place in refl) x
 
 module _ (fs es : List Sent) (j : AllSentInRange fs) (i : AllSentInRange es) (k : Alike (session fs) (session es)) where
   abbrev s : Store

@@ -46,6 +46,7 @@ use Rattle.machine_laws.specs.StoreLaws.{header-fits, header-put-object, object
 use Rattle.machine_laws.specs.DeliveryLaws.{absurd-some, awaited-object}
 use Rattle.machine_laws.specs.SoundLaws.{pass, running-rest, refusal-rest, has-number, not-full}
 use Rattle.machine_laws.specs.TestLaws.{or-left, or-right, holds}
+use Rattle.machine_theorems.specs.Soundness.RowFacts.{unstarted-live}
 use Rattle.machine_theorems.specs.Soundness.Stores.{idle, SoundDuring, SoundStore}
 use Rattle.machine_theorems.specs.Soundness.Deliver.{awaiter-is}
 use Rattle.machine_theorems.specs.Soundness.Exits.{runner-low, runner-runs, runner-live}
@@ -372,14 +373,6 @@ module _ (o : ℕ) (s : Store) (w : SoundStore s) (t : ℕ) (m : header s .momen
             is-new l (λ i. k .spawned v i ∙ (same-log v i ∙ (c .for-it v i l (subst (λ (j : Header). v < j .next) head n) ∙ ap (λ (j : ℕ). some j) (sym (ap (λ (i : HeapId). i .0) (y .coroutine) ∙ coroutine-as v)))))
             (subst (λ (i : Awaiter). ItemSlot s (task u v .coroutine .0) i) (sym (y .awaiter ∙ new-awaiter v l))
             (subst (λ (j : ℕ). ItemSlot s j (task x v .awaiter)) (sym (ap (λ (i : HeapId). i .0) (y .coroutine) ∙ coroutine-as v)) (c .slot v l (subst (λ (j : Header). v < j .next) head n))))
-
-        unstarted-live : (y : TaskState) → is-unstarted y ≡ true → is-live y ≡ true
-        unstarted-live TaskState.Absent e = absurd (true≢false (sym e))
-        unstarted-live TaskState.Unstarted e = refl
-        unstarted-live TaskState.Running e = refl
-        unstarted-live (TaskState.Woken v) e = refl
-        unstarted-live (TaskState.Raised v) e = refl
-        unstarted-live (TaskState.Blocked p) e = refl
 
         by : (v : ℕ) → is-unstarted (task u v .state) ≡ true → v < header b .next → (v < header s .next) ⊎ (header s .next ≤ v) → (header s .next ≤ v) ⊎ (is-unstarted (task s v .state) ≡ true)
         by v e n (inl l) =

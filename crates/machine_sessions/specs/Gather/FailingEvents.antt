@@ -52,6 +52,7 @@ use Rattle.machine_theorems.specs.Soundness.Stores.{idle, SoundDuring, SoundSto
 use Rattle.machine_theorems.specs.Soundness.Fill.{DeliveringValue}
 use Rattle.machine_theorems.specs.Soundness.Exits.{runner-low, runner-runs, runner-live, others-commits-none, completion-delivering, completion-delivery-ends, only-changes-of}
 use Rattle.machine_theorems.specs.Soundness.Cycle.{spawned-of, coroutine-is}
+use Rattle.machine_theorems.specs.Soundness.RowFacts.{unstarted-live}
 use Rattle.machine_theorems.specs.Soundness.Results.{resolve-delivering, MayApply, AllApply, host-fits, result-keeps}
 use Rattle.machine_theorems.specs.Panics.NoPanicWoken.{success-activated}
 use Rattle.machine_sessions.specs.Gather.Failing.{ClimbMoves, RowMoves, FailedRow, climb-same, climb-moves, climb-awaited, climb-pending, climb-failed, failed-awaited, row-same}
@@ -72,14 +73,6 @@ pending-climbs {A} x y f n h k e p q r = by (climb-failed x y h k e p r)
     by : (x ≡ Object.GatherFuture h k (GatherState.Failed e)) ⊎ ((w : AwaitedGather) × (as-awaited x ≡ some w)) → A
     by (inl d) = absurd (subst FailedRow (sym d ∙ q) tt)
     by (inr w) = pending-awaited x f n (w .0) q (w .1)
-
-unstarted-live : (x : TaskState) → is-unstarted x ≡ true → is-live x ≡ true
-unstarted-live TaskState.Absent e = absurd (true≢false (sym e))
-unstarted-live TaskState.Unstarted e = refl
-unstarted-live TaskState.Running e = refl
-unstarted-live (TaskState.Woken v) e = refl
-unstarted-live (TaskState.Raised v) e = refl
-unstarted-live (TaskState.Blocked o) e = refl
 
 -- before anything is done, whatever errors the event brings
 pub begins-with : (s : Store) (B : Error → Type 0) (X : ℕ → Type 0) (R : ℕ → Error → Type 0) → Sized s → Failing s s (λ g. ⊥) B X R Unit s

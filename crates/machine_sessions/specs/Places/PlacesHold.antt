@@ -47,22 +47,27 @@ use Rattle.machine_sessions.specs.Places.Agrees.{reply-row, ItemsAt, Mak
 
 -- ---- a read of an object that is made
 
-places-forget : (s : Store) (f m j c : ℕ) → show-places (forget s) f m j c ≡ show-places s f m j c
-unfolding show-places
-places-forget s f m j zero = refl
-places-forget s f m j (suc c) = ap₂ (λ (x : Option Value) (y : List (Option Value)). x ∷ y) (unfold place forget in refl) (places-forget s f m (j + 1) c)
+-- what is shown of an object hangs on the results in the places alone
+module _ (s u : Store) (same : (p : ℕ) → place u p .result ≡ place s p .result) where
+  places-like : (f m j c : ℕ) → show-places u f m j c ≡ show-places s f m j c
+  unfolding show-places
+  places-like f m j zero = refl
+  places-like f m j (suc c) = ap₂ (λ (x : Option Value) (y : List (Option Value)). x ∷ y) (ap (slot-value (bit m j)) (same (f + j))) (places-like f m (j + 1) c)
+
+  pub shown-like : (x : Object) → shown u x ≡ shown s x
+  unfolding shown
+  shown-like Object.Unmade = refl
+  shown-like (Object.Coroutine f x) = refl
+  shown-like (Object.ExternalFuture c (ExternalFutureState.Pending a r)) = refl
+  shown-like (Object.ExternalFuture c (ExternalFutureState.Resolved v)) = refl
+  shown-like (Object.ExternalFuture c (ExternalFutureState.Failed e)) = refl
+  shown-like (Object.GatherFuture f n GatherState.Pending) = refl
+  shown-like (Object.GatherFuture f n (GatherState.Awaited a m)) = ap Shown.a-gather-awaited (places-like f m 0 n)
+  shown-like (Object.GatherFuture f n GatherState.Completed) = ap Shown.a-gather-completed (places-like f 0 0 n)
+  shown-like (Object.GatherFuture f n (GatherState.Failed e)) = refl
 
 shown-forget : (s : Store) (x : Object) → shown (forget s) x ≡ shown s x
-unfolding shown
-shown-forget s Object.Unmade = refl
-shown-forget s (Object.Coroutine f x) = refl
-shown-forget s (Object.ExternalFuture c (ExternalFutureState.Pending a r)) = refl
-shown-forget s (Object.ExternalFuture c (ExternalFutureState.Resolved v)) = refl
-shown-forget s (Object.ExternalFuture c (ExternalFutureState.Failed e)) = refl
-shown-forget s (Object.GatherFuture f n GatherState.Pending) = refl
-shown-forget s (Object.GatherFuture f n (GatherState.Awaited a m)) = ap Shown.a-gather-awaited (places-forget s f m 0 n)
-shown-forget s (Object.GatherFuture f n GatherState.Completed) = ap Shown.a-gather-completed (places-forget s f 0 0 n)
-shown-forget s (Object.GatherFuture f n (GatherState.Failed e)) = refl
+shown-forget s x = shown-like s (forget s) (λ p. unfold place forget in refl) x
 
 accept-shows : (s : Store) (o : ℕ) → accept (forget s) (Event.show o) .answer ≡ Answer.shows (shown s (object s o))
 unfolding accept

@@ -57,7 +57,7 @@ blocked-put-task s t r z l =
     ap (λ (x : List ℕ). is-blocked (to-task x .state)) (row-put-at task-codec (s .tasks) (task-start t) r (omega (arith, z .tasks-sized)))
     ∙ blocked-back (r .state)
 
-ready-free : (x : TaskState) → is-ready x ≡ true → (is-live x ≡ true) × (is-blocked x ≡ false)
+pub ready-free : (x : TaskState) → is-ready x ≡ true → (is-live x ≡ true) × (is-blocked x ≡ false)
 ready-free TaskState.Absent e = absurd (true≢false (sym e))
 ready-free TaskState.Unstarted e = (refl, refl)
 ready-free TaskState.Running e = absurd (true≢false (sym e))

@@ -1,7 +1,7 @@
 -- What a batch of results does to the ready queue of a sound store (document 02, No. 7): those who stood there stay as they stood, and behind them come the tasks
 -- that were blocked and are not, lowest first (`wakes-ascend`).
 use mathlib.Core.Path.{_≡_, refl, sym, ap, subst, _∙_}
-use mathlib.Core.Bool.{Bool, true, false, not, _&&_, true≢false}
+use mathlib.Core.Bool.{Bool, true, false, not, _&&_}
 use mathlib.Core.List.{List, [], _∷_, _++_, append-assoc, append-nil}
 use Prim.Native.Nat.{ℕ, zero, suc, _+_, _≤_, _<_}
 use native.Mathlib.Nat.{not-suc-le-zero}
@@ -15,7 +15,7 @@ use Rattle.asyncio.specs.declared.TaskState.{TaskState}
 use Rattle.asyncio.specs.declared.Task.{Task}
 use Rattle.asyncio.specs.declared.Header.{Header}
 use Rattle.asyncio.specs.Limits.{task-limit}
-use Rattle.asyncio.specs.States.{pick, is-ready, is-blocked}
+use Rattle.asyncio.specs.States.{pick, is-blocked}
 use Rattle.asyncio.specs.Kinds.{kind, is-completed}
 use Rattle.rows.specs.Tables.{task-at}
 use Rattle.queue.specs.Queue.{entries, occurrences, Ascending}
@@ -29,6 +29,7 @@ use Rattle.machine.specs.Sound.{runs-now}
 use Rattle.machine.specs.History.{blocked-by}
 use Rattle.machine.specs.WakeOrder.{those}
 use Rattle.machine_laws.specs.Facts.{Nothing}
+use Rattle.machine_laws.specs.TestLaws.{and-true}
 use Rattle.machine_laws.specs.StoreLaws.{header-fits, task-put-other}
 use Rattle.machine_laws.specs.MachineLaws.{accepted-step}
 use Rattle.machine_laws.specs.SoundLaws.{refusal-rest, refusal-forget}
@@ -38,7 +39,7 @@ use Rattle.machine_theorems.specs.Soundness.Sessions.{forget-sound-store}
 use Rattle.machine_theorems.specs.Soundness.ReadyTasks.{Queued, to-queued, not-queued}
 use Rattle.machine_theorems.specs.Soundness.Results.{results-keep}
 use Rattle.machine_theorems.specs.Soundness.Preserved.{results-apply}
-use Rattle.machine_sessions.specs.Queue.Tracked.{blocked-put-task}
+use Rattle.machine_sessions.specs.Queue.Tracked.{blocked-put-task, ready-free}
 use Rattle.machine_sessions.specs.Stall.Effects.{WokenBy, Effect, nobody, wakes}
 use Rattle.machine_sessions.specs.Stall.ResultsWalk.{delivered-batch}
 use Rattle.machine_sessions.specs.Stall.Room.{room-for}
@@ -86,23 +87,11 @@ and-false : (a : Bool) → false ≡ (a && false)
 and-false true = refl
 and-false false = refl
 
-and-left : (a b : Bool) → (a && b) ≡ true → a ≡ true
-and-left true b e = refl
-and-left false b e = e
-
 and-swap : (a b c : Bool) → (a && (b && c)) ≡ (b && (a && c))
 and-swap true true c = refl
 and-swap true false c = refl
 and-swap false true c = refl
 and-swap false false c = refl
-
-ready-unblocked : (x : TaskState) → is-ready x ≡ true → is-blocked x ≡ false
-ready-unblocked TaskState.Absent e = refl
-ready-unblocked TaskState.Unstarted e = refl
-ready-unblocked TaskState.Running e = refl
-ready-unblocked (TaskState.Woken v) e = refl
-ready-unblocked (TaskState.Raised x) e = refl
-ready-unblocked (TaskState.Blocked o) e = absurd (true≢false (sym e))
 
 -- ---- one delivery
 
@@ -127,7 +116,7 @@ module _ (s : Store) {P : ℕ → Type 0} {r : ℕ → Bool} {D : ℕ → Type 0
     now-reached = ap reached-in (e .log) ∙ (unfold reached-in in refl)
 
     in-s : is-blocked (task s t .state) ≡ true
-    in-s = and-left _ (absent-from old t) (sym (k .still t) ∙ was-blocked)
+    in-s = and-true (is-blocked (task s t .state)) (absent-from old t) (sym (k .still t) ∙ was-blocked) .0
 
     row-now : (v : ℕ) → is-blocked (task w v .state) ≡ is-blocked (task (put-task u t (restate (task u t) x)) v .state)
     row-now v = unfold task put-task in (ap (λ (l : List ℕ). is-blocked (task-at l v .state)) (e .tasks))
@@ -135,7 +124,7 @@ module _ (s : Store) {P : ℕ → Type 0} {r : ℕ → Bool} {D : ℕ → Type 0
     still-now : (v : ℕ) → Dec (v ≡ t) → is-blocked (task w v .state) ≡ (is-blocked (task s v .state) && (not (eqb t v) && absent-from old v))
     still-now v (yes q) =
         row-now v ∙ (subst (λ (m : ℕ). is-blocked (task (put-task u t (restate (task u t) x)) m .state) ≡ false) (sym q)
-        (blocked-put-task u t _ (h .kept .memory .sized) (e .low) ∙ (unfold restate in (ready-unblocked x (e .is-woken))))
+        (blocked-put-task u t _ (h .kept .memory .sized) (e .low) ∙ (unfold restate in (ready-free x (e .is-woken) .1)))
         ∙ (and-false (is-blocked (task s v .state)) ∙ ap (λ (b : Bool). is-blocked (task s v .state) && (not b && absent-from old v)) (sym (eq-eqb t v (sym q)))))
     still-now v (no ne) =
         row-now v ∙ (ap (λ (y : Task). is-blocked (y .state)) (task-put-other u t v _ ne)
@@ -206,13 +195,13 @@ module _ (s : Store) (rs : List Result) (h : SoundStore s) (e : refusal s (Event
   nothing-yet = record {
     behind = sym (append-nil (entries (s .queue)));
     were-blocked = λ t o. absurd (not-suc-le-zero {n = 0} (omega (arith, o)));
-    still = λ t. and-true _;
-    says = λ b t. and-true b;
+    still = λ t. and-unit _;
+    says = λ b t. and-unit b;
   }
     where
-      and-true : (a : Bool) → a ≡ (a && true)
-      and-true true = refl
-      and-true false = refl
+      and-unit : (a : Bool) → a ≡ (a && true)
+      and-unit true = refl
+      and-unit false = refl
 
   applies : first-refusal (refusals found (Event.results rs)) ≡ 0
   applies = refusal-rest found (Event.results rs) (refusal-forget s (Event.results rs) ∙ e)

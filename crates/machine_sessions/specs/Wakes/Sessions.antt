@@ -4,8 +4,7 @@ use mathlib.Core.Bool.{Bool, true, not, _&&_, true≢false}
 use mathlib.Core.List.{List, _++_}
 use Prim.Native.Nat.{ℕ, _≤_}
 use native.Mathlib.Decide.{ℕ-discrete}
-use Rattle.asyncio.specs.declared.TaskState.{TaskState}
-use Rattle.asyncio.specs.States.{is-live, is-blocked}
+use Rattle.asyncio.specs.States.{is-blocked}
 use Rattle.queue.specs.Queue.{entries, occurrences}
 use Rattle.machine.specs.Store.{Store, LogEntry, task, put-queue, forget}
 use Rattle.machine.specs.Events.{Result, wake-in-order}
@@ -14,17 +13,10 @@ use Rattle.machine.specs.History.{blocked-by, stays-blocked, tells, done-only}
 use Rattle.machine.specs.Sessions.{Sent, Session, lent-any, happened-by, entry-of, send, session}
 use Rattle.machine.specs.WakeOrder.{those, was-woken, WakesInOrder, WakeOrder}
 use Rattle.machine_laws.specs.MachineLaws.{accepted-step, refused-step}
+use Rattle.machine_theorems.specs.Soundness.RowFacts.{blocked-live}
 use Rattle.machine_sessions.specs.Queue.Tracked.{live-is}
 use Rattle.machine_sessions.specs.Queue.Following.{Following, Sends, sends, stepped, short, session-follows}
 use Rattle.machine_sessions.specs.Wakes.Reached.{absent-from, batch-is, left, left-reached, woken, woken-low, woken-is, queue-by}
-
-blocked-live : (x : TaskState) → is-blocked x ≡ true → is-live x ≡ true
-blocked-live TaskState.Absent e = absurd (true≢false (sym e))
-blocked-live TaskState.Unstarted e = refl
-blocked-live TaskState.Running e = refl
-blocked-live (TaskState.Woken v) e = refl
-blocked-live (TaskState.Raised x) e = refl
-blocked-live (TaskState.Blocked o) e = refl
 
 module _ (x : Session) (f : Following x) (rs : List Result) (l : List ℕ) where
   abbrev sent : Sent
