@@ -46,7 +46,7 @@ fn apply_result(
     fail_future(tasks, objects, call, Error::ModuleFile)
 }
 
-// One result after the other, read where they stand; whom each woke goes to the queue's back, behind those who stood there, lowest number first.
+// One result after the other, read where they stand; those whom they woke go to the queue's back, behind those who stood there, lowest number first.
 pub fn apply_future_results(
     tasks: &mut [u64],
     objects: &mut [u64],

@@ -201,8 +201,8 @@ unfoldable pub apply-future-results : Store → List Result → Store
 apply-future-results s [] = s
 apply-future-results s (r ∷ rs) = apply-future-results (apply-result s r) rs
 
--- what a batch woke, in task order: in u, which a batch has left of s, the entries that s has not come lowest first, behind those that s has
--- (document 02, No. 7)
+-- Document 02, No. 7: s is the store before a batch, u the one that its results leave. In the queue of u the entries that the queue of s did not have, the tasks
+-- that the batch woke, come lowest number first, behind the others, which stay as they stood.
 unfoldable pub wake-in-order : Store → Store → Store
 wake-in-order s u = put-queue u (order-from (u .queue) (s .queue .len))
 
