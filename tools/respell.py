@@ -11,6 +11,7 @@ import sys
 CHAR = r"[^\s(){}\[\],;.:λ«»\"`|]"
 NAME = CHAR + "+"
 TOP = re.compile(r"^(?P<marks>(?:(?:pub|abbrev|unfoldable|final)\s+)*)(?P<name>" + NAME + r")(?:\s*\{[^}]*\})?\s*:(?:\s|$)")
+DEEP = re.compile(r"^\s+(?P<marks>(?:(?:pub|abbrev|unfoldable)\s+)+)(?P<name>" + NAME + r")(?:\s*\{[^}]*\})?\s*:(?:\s|$)")  # in a module or a mutual block
 BLOCK = re.compile(r"^(?:pub\s+)?(?:data|record)\s+(" + NAME + ")")
 INNER = re.compile(r"^\s+(" + NAME + r")\s*:")
 TOKEN = re.compile(r"(?<![\w'′\-])[A-Za-z_][\w'′]*(?:-[\w'′]+)+(?![\w'′\-])")
@@ -28,13 +29,15 @@ def declared(root):
     """The names that specs/ and the lemma files of proofs/ declare: definitions and lemmas."""
     definitions, lemmas = set(), set()
     for path in files(root, ".antt"):
-        if path.name in ("Proof.antt", "Answers.antt", "Invariants.antt"):
+        if "proofs" in path.parts and path.name in ("Proof.antt", "Answers.antt", "Invariants.antt"):
             continue
         block = False
         for line in path.read_text().split("\n"):
             if found := BLOCK.match(line):
                 block = True
                 definitions.add(found.group(1))
+            elif not block and (found := DEEP.match(line)):
+                (definitions if {"abbrev", "unfoldable"} & set(found.group("marks").split()) else lemmas).add(found.group("name"))
             elif line and not line[0].isspace():
                 block = False
                 if found := TOP.match(line):

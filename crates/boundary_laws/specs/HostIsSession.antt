@@ -93,6 +93,6 @@ unfolding forget fresh empty put_task put_header
 fresh_forgets = refl
 
 -- A host's session is the machine's.
-pub host_is-session : (m : Memory) → store_held m ≡ fresh → (es : List Event) → IsSession (host_session m es) (session (sent_by m es))
+pub host_is_session : (m : Memory) → store_held m ≡ fresh → (es : List Event) → IsSession (host_session m es) (session (sent_by m es))
 unfolding host_session session begun
-host_is-session m b es = all_same es _ _ (record { store_same = b ∙ sym fresh_forgets; told_same = refl })
+host_is_session m b es = all_same es _ _ (record { store_same = b ∙ sym fresh_forgets; told_same = refl })

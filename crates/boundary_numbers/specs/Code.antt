@@ -3,7 +3,7 @@ use Rattle.std.specs.Prelude.{ℕ, ◌+◌, List, [], ◌∷◌}
 use Rattle.asyncio.specs.declared.Value.{Value}
 use Rattle.asyncio.specs.declared.Error.{Error}
 use Rattle.asyncio.specs.Layout.{value_words, error_words}
-use Rattle.machine.specs.Answers.{yes_no, coroutine-number}
+use Rattle.machine.specs.Answers.{yes_no, coroutine_number}
 use Rattle.exec_switch.specs.declared.control.How.{How}
 use Rattle.exec_switch.specs.declared.control.Control.{Control}
 use Rattle.exec_switch.specs.declared.answer.Answer.{Answer}
@@ -53,7 +53,7 @@ answer_said (Answer.Refused n) m = refused_as n
 
 -- what an object shows
 abbrev pub shown_said : Shown → Numbers
-shown_said (Shown.Coroutine x f) = said 10 3 (0 ∷ coroutine-number x ∷ f ∷ 0 ∷ 0 ∷ 0 ∷ [])
+shown_said (Shown.Coroutine x f) = said 10 3 (0 ∷ coroutine_number x ∷ f ∷ 0 ∷ 0 ∷ 0 ∷ [])
 shown_said Shown.ExternalPending = said 10 2 (1 ∷ 0 ∷ 0 ∷ 0 ∷ 0 ∷ 0 ∷ [])
 shown_said (Shown.ExternalResolved v) = said 10 4 (1 ∷ 1 ∷ (value_words v).0 ∷ (value_words v).1 ∷ 0 ∷ 0 ∷ [])
 shown_said (Shown.ExternalFailed e) = said 10 4 (1 ∷ 2 ∷ (error_words e).0 ∷ (error_words e).1 ∷ 0 ∷ 0 ∷ [])

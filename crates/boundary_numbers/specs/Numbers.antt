@@ -6,7 +6,7 @@ use Rattle.asyncio.specs.declared.Value.{Value}
 use Rattle.machine.specs.Events.{Control, runs, waits}
 use Rattle.machine.specs.Machine.{Answer, Shown}
 use Rattle.machine.specs.Answers as answers
-use Rattle.machine.specs.Answers.{answer-numbers, place-numbers}
+use Rattle.machine.specs.Answers.{answer_numbers, place_numbers}
 use Rattle.boundary_numbers.specs.declared.Numbers.{Numbers}
 
 -- how many values there is room for
@@ -51,7 +51,7 @@ numbers_with x vs = record { refusal = x.refusal; word = x.word; count = length 
 
 -- an answer
 unfoldable pub numbers_as : Answer → Numbers
-numbers_as a = numbers_with (answer-numbers a) (own_values a (answer-numbers a).values)
+numbers_as a = numbers_with (answer_numbers a) (own_values a (answer_numbers a).values)
 
 -- ---- one place of a gather
 
@@ -69,7 +69,7 @@ places_shown Shown.nothing = []
 
 -- open, or a value: the numbers that a place has among those of a show
 unfoldable pub slot_said : Option Value → Numbers
-slot_said x = numbers_with (answers.says 10 []) (place-numbers x)
+slot_said x = numbers_with (answers.says 10 []) (place_numbers x)
 
 -- place i of those shown; 5 where there is none
 unfoldable pub place_said : List (Option Value) → ℕ → Numbers

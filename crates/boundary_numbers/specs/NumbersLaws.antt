@@ -10,7 +10,7 @@ use Rattle.rows.specs.Tables.{place_at}
 use Rattle.machine.specs.Scheduler.{bit}
 use Rattle.machine.specs.Machine as machine
 use Rattle.machine.specs.Machine.{slot_value}
-use Rattle.machine.specs.Answers.{error-numbers, how-numbers, control-numbers, place-numbers, places-numbers, coroutine-number, shown-numbers, yes_no, answer-numbers}
+use Rattle.machine.specs.Answers.{error_numbers, how_numbers, control_numbers, place_numbers, places_numbers, coroutine_number, shown_numbers, yes_no, answer_numbers}
 use Rattle.exec_switch.specs.Control.{how_of, control_with}
 use Rattle.exec_switch.specs.Answer.{answer_with}
 use Rattle.exec_switch.specs.declared.control.How.{How}
@@ -26,7 +26,7 @@ use Rattle.boundary_numbers.specs.Code.{said, refused_as, valued, errored, how_s
 -- ---- answers
 
 switched_numbers : (cs : List ℕ) (c : Control) → control_said c (length cs) 0 0 ≡ numbers_as (machine.Answer.control (control_with cs c))
-unfolding numbers_as numbers_with own_values control_values answer-numbers control-numbers how-numbers value_numbers error-numbers
+unfolding numbers_as numbers_with own_values control_values answer_numbers control_numbers how_numbers value_numbers error_numbers
 switched_numbers cs (Control.Runs t (How.Start c f)) = refl
 switched_numbers cs (Control.Runs t (How.Value v)) = refl
 switched_numbers cs (Control.Runs t (How.Raised e)) = refl
@@ -34,7 +34,7 @@ switched_numbers cs (Control.Runs t (How.Inline c)) = refl
 switched_numbers cs Control.Waits = refl
 
 awaited_numbers : (cs : List ℕ) (c : Control) (n : ℕ) → control_said c (length cs) 1 n ≡ numbers_as (machine.Answer.awaited (control_with cs c) n)
-unfolding numbers_as numbers_with own_values control_values answer-numbers control-numbers how-numbers value_numbers error-numbers
+unfolding numbers_as numbers_with own_values control_values answer_numbers control_numbers how_numbers value_numbers error_numbers
 awaited_numbers cs (Control.Runs t (How.Start c f)) n = refl
 awaited_numbers cs (Control.Runs t (How.Value v)) n = refl
 awaited_numbers cs (Control.Runs t (How.Raised e)) n = refl
@@ -42,7 +42,7 @@ awaited_numbers cs (Control.Runs t (How.Inline c)) n = refl
 awaited_numbers cs Control.Waits n = refl
 
 pub same_numbers : (cs : List ℕ) (a : Answer) → answer_said a (length cs) ≡ numbers_as (answer_with cs a)
-unfolding numbers_as numbers_with own_values answer-numbers value_numbers error-numbers yes_no
+unfolding numbers_as numbers_with own_values answer_numbers value_numbers error_numbers yes_no
 same_numbers cs (Answer.Made o) = refl
 same_numbers cs (Answer.Called n) = refl
 same_numbers cs (Answer.Switched c) = switched_numbers cs c
@@ -59,11 +59,11 @@ same_numbers cs (Answer.Refused n) = refl
 -- ---- reads
 
 pub same-refused : (n : ℕ) → refused_as n ≡ numbers_as (machine.Answer.refused n)
-unfolding numbers_as numbers_with own_values answer-numbers
+unfolding numbers_as numbers_with own_values answer_numbers
 same-refused n = refl
 
 pub same-shown : (ps : List ℕ) (x : Shown) → shown_said x ≡ numbers_as (machine.Answer.shows (shown_of ps x))
-unfolding numbers_as numbers_with own_values shown_values answer-numbers shown-numbers value_numbers error-numbers
+unfolding numbers_as numbers_with own_values shown_values answer_numbers shown_numbers value_numbers error_numbers
 same-shown ps (Shown.Coroutine x f) = refl
 same-shown ps Shown.ExternalPending = refl
 same-shown ps (Shown.ExternalResolved v) = refl
@@ -77,11 +77,11 @@ same-shown ps Shown.Nothing = refl
 -- ---- places
 
 pub slot_none : said 10 1 (0 ∷ 0 ∷ 0 ∷ 0 ∷ 0 ∷ 0 ∷ []) ≡ slot_said none
-unfolding slot_said numbers_with place-numbers
+unfolding slot_said numbers_with place_numbers
 slot_none = refl
 
 pub slot_some : (v : Value) → said 10 3 (1 ∷ (value_words v).0 ∷ (value_words v).1 ∷ 0 ∷ 0 ∷ 0 ∷ []) ≡ slot_said (some v)
-unfolding slot_said numbers_with place-numbers value_numbers
+unfolding slot_said numbers_with place_numbers value_numbers
 slot_some v = refl
 
 -- a mask of 32 bits has no bit from 32 on

@@ -1,6 +1,6 @@
 // An answer as document 01's numbers, by value: what crosses to other languages.
 ghost use Rattle.std.specs.Prelude.{◌≡◌, List, ◌∷◌, [], ℕ, length};
-ghost use Rattle.machine.specs.Answers.{coroutine-number};
+ghost use Rattle.machine.specs.Answers.{coroutine_number};
 ghost use Rattle.machine.specs.Scheduler.{bit};
 ghost use Rattle.machine.specs.Machine.{slot_value};
 ghost use Rattle.exec_switch.specs.Answer.{answer_with};
@@ -130,7 +130,7 @@ pub fn numbers_of(a: Answer, calls: u64) -> Numbers
 }
 
 fn coroutine_number(state: CoroutineState) -> u64
-    ensures { result ≡ coroutine-number state }
+    ensures { result ≡ coroutine_number state }
 {
     match state {
         CoroutineState::New => 0,

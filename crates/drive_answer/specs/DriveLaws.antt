@@ -11,7 +11,7 @@ use Rattle.machine.specs.Machine as machine
 use Rattle.machine.specs.Machine.{first_refusal, refusals, accept, decide}
 use Rattle.machine.specs.Lent.{Lent, slices_right, lengths_right, write_calls, answer_calls, written, lent_step, lent_read}
 use Rattle.machine_laws.specs.TestLaws.{and-true}
-use Rattle.machine_laws.specs.MachineLaws.{lent-count, lent-calls, lent_length}
+use Rattle.machine_laws.specs.MachineLaws.{lent-count, lent_calls, lent_length}
 use Rattle.exec_switch.specs.Answer.{answer_with, answer_of, stepped_of}
 use Rattle.exec_switch.specs.declared.answer.Answer.{Answer}
 use Rattle.step_checks.specs.Checked.{checked}
@@ -26,12 +26,12 @@ use Rattle.drive_reader.specs.ParseLaws.{results_inside}
 use Rattle.drive_text.specs.Out.{Out, Wrote}
 use Rattle.drive_text.specs.OutLaws.{wrote_none, at_most}
 use Rattle.drive_shows.specs.Shows.{reading_count}
-use Rattle.drive_shows.specs.AnswerLaws.{wrote-event, wrote-eager, wrote-show}
+use Rattle.drive_shows.specs.AnswerLaws.{wrote_event, wrote_eager, wrote_show}
 use Rattle.drive_lines.specs.Lines.{line}
 use Rattle.drive_answer.specs.Driver.{Asked, asked, Drives, refused_11, answered, drive_by, drive_one}
 use Rattle.drive_answer.specs.declared.answered.Asks.{Asks}
 use Rattle.step_event.specs.EventOf.{event_of}
-use Rattle.step_event.specs.SoundStepLaws.{steps-soundly}
+use Rattle.step_event.specs.SoundStepLaws.{steps_soundly}
 use Rattle.drive_answer.specs.Drove.{Drove, InInput, RecordFits}
 
 -- ---- lines
@@ -47,7 +47,7 @@ event_drove u l e next number a k {ts} {os} {ps} {cs} {q} h w = record {
   list-is = ap (λ (z : Lent). z.list) h;
   next-is = refl;
   going-is = refl;
-  wrote = wrote-event number (store_of ts os ps q (lent_step u l e).store.log) u cs l a k e h w;
+  wrote = wrote_event number (store_of ts os ps q (lent_step u l e).store.log) u cs l a k e h w;
 }
 
 -- A wait's calls stand within the list, which has room for every wait.
@@ -56,7 +56,7 @@ count_within u l e {x} r h =
     let k : x.count ≡ length (answer_calls (lent_step u l e).answer) = ap (λ (y : Lent). y.count) r ∙ lent-count u l e in
     let n : length x.list ≡ length l = ap (λ (y : Lent). length y.list) r ∙ lent_length u l e in
     let room : object_limit ≤ length l = leb-true object_limit (length l) (unfold lengths_right in (and-true (slices_right u) (leb object_limit (length l)) h).1) in
-    omega (arith, k, (lent-calls u l e).few, n, room)
+    omega (arith, k, (lent_calls u l e).few, n, room)
 
 -- A gather's answer is no wait, done or refused: the list of calls stays.
 picked_keeps : (b : Bool) (s s' : Store) (o n : ℕ) (cs : List ℕ)
@@ -86,7 +86,7 @@ gather_drove ts os ps q cs l is next number a {os'} {ps'} i k r w =
     let f = gather_keeps (store_of ts os ps q []) is cs in
     let n : (cs ≡ written (answer_of os' a) cs) × (0 ≡ length (answer_calls (answer_of os' a))) =
     (f.0 ∙ ap (λ (z : machine.Answer). written z cs) e, f.1 ∙ ap (λ (z : machine.Answer). length (answer_calls z)) e) in
-    event_drove (store_of ts os ps q l) cs (machine.Event.gather is) next number a 0 (steps-soundly ts os ps q cs l (machine.Event.gather is) i k a (logs [] a r) n) w
+    event_drove (store_of ts os ps q l) cs (machine.Event.gather is) next number a 0 (steps_soundly ts os ps q cs l (machine.Event.gather is) i k a (logs [] a r) n) w
 
 -- A read of an object.
 pub show_drove : (ts os ps : List ℕ) (q : ReadyQueue) (k : List LogEntry) (l : List ℕ) (o next number : ℕ) (r : Reading) {x y : Out}
@@ -99,7 +99,7 @@ show_drove ts os ps q k l o next number r h w = record {
   list-is = refl;
   next-is = refl;
   going-is = refl;
-  wrote = wrote-show number ps (store_of ts os ps q k) o r h w;
+  wrote = wrote_show number ps (store_of ts os ps q k) o r h w;
 }
 
 -- The read `eager`.
@@ -113,7 +113,7 @@ eager_drove ts os ps q k l next number a h w = record {
   list-is = refl;
   next-is = refl;
   going-is = refl;
-  wrote = wrote-eager number os (store_of ts os ps q k) a h w;
+  wrote = wrote_eager number os (store_of ts os ps q k) a h w;
 }
 
 -- Refusal 11.

@@ -14,7 +14,7 @@ use Rattle.machine_laws.specs.Views.{Sized}
 use Rattle.machine_laws.specs.TestLaws.{is_true}
 use Rattle.machine_theorems.specs.Soundness.Stores.{SoundStore, sound_store_sound}
 use Rattle.machine.specs.Sessions.{InRange}
-use Rattle.machine_theorems.specs.Soundness.Sessions.{forget-sound-store, fresh-sound_store, lent_sound_store}
+use Rattle.machine_theorems.specs.Soundness.Sessions.{forget-sound_store, fresh_sound_store, lent_sound_store}
 use Rattle.exec_switch.specs.Answer.{stepped_of}
 use Rattle.exec_switch.specs.declared.answer.Answer.{Answer}
 use Rattle.drive_text.specs.Out.{Out}
@@ -47,10 +47,10 @@ asked-fits src (Record.Cancel t) i = tt
 asked-fits src (Record.Show o) i = tt
 asked-fits src Record.Eager i = tt
 
-answered-sound_store : (s : Store) (l : List ℕ) (next number : ℕ) (a : Asked) → SoundStore s → AskedFits a → SoundStore (answered s l next number a).store
+answered_sound_store : (s : Store) (l : List ℕ) (next number : ℕ) (a : Asked) → SoundStore s → AskedFits a → SoundStore (answered s l next number a).store
 unfolding answered
-answered-sound_store s l next number (Asked.event e) h i = lent_sound_store s l e h i
-answered-sound_store s l next number (Asked.read e) h i = h
+answered_sound_store s l next number (Asked.event e) h i = lent_sound_store s l e h i
+answered_sound_store s l next number (Asked.read e) h i = h
 
 -- A record leaves a sound store sound.
 pub drives_sound_store : (s : Store) (l src : List ℕ) (from number : ℕ) → SoundStore s → ParsedFits (parse src from) → SoundStore (drive_one s l src from number).store
@@ -60,7 +60,7 @@ drives_sound_store s l src from number h i = by (parse src from) i
     by : (p : Parsed) → ParsedFits p → SoundStore (drive_by s l src from number p).store
     by Parsed.End j = h
     by Parsed.Refused j = h
-    by (Parsed.Record r next) j = answered-sound_store s l next number (asked src r) h (asked-fits src r j)
+    by (Parsed.Record r next) j = answered_sound_store s l next number (asked src r) h (asked-fits src r j)
 
 -- ---- what the code has, which has no log
 
@@ -82,12 +82,12 @@ module _ {ts os ps : List ℕ} {q : ReadyQueue} where
   unlogged : (s : Store) → SoundStore s → store_of ts os ps q s.log ≡ s → SoundStore (store_of ts os ps q [])
   unlogged s h e =
       let f : forget (store_of ts os ps q s.log) ≡ store_of ts os ps q [] = unfold forget in refl in
-      subst SoundStore (ap forget (sym e) ∙ f) (forget-sound-store s h)
+      subst SoundStore (ap forget (sym e) ∙ f) (forget-sound_store s h)
 
   -- after a record
-  pub record-sound-store : (s : Store) (l src : List ℕ) (from number : ℕ) {cs : List ℕ} {next : ℕ} {going : Bool} {x y : Out} → SoundStore s → ParsedFits (parse src from)
+  pub record_sound_store : (s : Store) (l src : List ℕ) (from number : ℕ) {cs : List ℕ} {next : ℕ} {going : Bool} {x y : Out} → SoundStore s → ParsedFits (parse src from)
       → Drove ts os ps q cs next going x y (drive_one s l src from number) → SoundStore (store_of ts os ps q [])
-  record-sound-store s l src from number h i d = unlogged (drive_one s l src from number).store (drives_sound_store s l src from number h i) d.store_is
+  record_sound_store s l src from number h i d = unlogged (drive_one s l src from number).store (drives_sound_store s l src from number h i) d.store_is
 
   -- at the beginning
   module _ (s : Store) (a : Answer) (t : length s.tasks ≡ tasks_length) (o : length s.objects ≡ objects_length) (p : length s.places ≡ places_length)
@@ -98,14 +98,14 @@ module _ {ts os ps : List ℕ} {q : ReadyQueue} where
     pub begun_fresh : store_of ts os ps q (lent_begin s).store.log ≡ fresh
     begun_fresh = ap (λ (x : Step). x.store) e ∙ begun
 
-    pub begun-sound-store : SoundStore (store_of ts os ps q [])
-    begun-sound-store = unlogged (lent_begin s).store (subst SoundStore (sym begun) fresh-sound_store) (ap (λ (x : Step). x.store) e)
+    pub begun-sound_store : SoundStore (store_of ts os ps q [])
+    begun-sound_store = unlogged (lent_begin s).store (subst SoundStore (sym begun) fresh_sound_store) (ap (λ (x : Step). x.store) e)
 
   -- The lengths, and soundness, as the code asks them.
   module _ (h : SoundStore (store_of ts os ps q [])) where
-    pub sound-store-right : (cs : List ℕ) → object_limit ≤ length cs → lengths_right (store_of ts os ps q []) cs ≡ true
+    pub sound_store_right : (cs : List ℕ) → object_limit ≤ length cs → lengths_right (store_of ts os ps q []) cs ≡ true
     unfolding lengths_right
-    sound-store-right cs i = rw (sized-right (store_of ts os ps q []) h.memory.sized, le-leb object_limit (length cs) i)
+    sound_store_right cs i = rw (sized-right (store_of ts os ps q []) h.memory.sized, le-leb object_limit (length cs) i)
 
-    pub sound-store-is-sound : sound (store_of ts os ps q []) ≡ true
-    sound-store-is-sound = is_true _ (sound_store_sound (store_of ts os ps q []) h)
+    pub sound-store_is-sound : sound (store_of ts os ps q []) ≡ true
+    sound-store_is-sound = is_true _ (sound_store_sound (store_of ts os ps q []) h)

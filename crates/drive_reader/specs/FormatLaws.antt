@@ -20,9 +20,9 @@ module _ (s : List ℕ) (at : ℕ) {tag : ℕ} (t : tag ≡ le1 s at) where
   unfolding value_at
   reads_plain e z = rw (← t, z, e)
 
-  pub reads-list : {n : ℕ} {v : Value} → n ≡ le8 s (at + 1) → tag ≡ 1 → v ≡ list_value n → OptionValue.Some v ≡ value_at s at
+  pub reads_list : {n : ℕ} {v : Value} → n ≡ le8 s (at + 1) → tag ≡ 1 → v ≡ list_value n → OptionValue.Some v ≡ value_at s at
   unfolding value_at
-  reads-list e o v = rw (← t, o, v, e)
+  reads_list e o v = rw (← t, o, v, e)
 
   pub reads_none : (tag ≡ 0 → ⊥) → (tag ≡ 1 → ⊥) → OptionValue.None ≡ value_at s at
   unfolding value_at
@@ -31,18 +31,18 @@ module _ (s : List ℕ) (at : ℕ) {tag : ℕ} (t : tag ≡ le1 s at) where
 -- ---- pending_at: flag 0, flag 1, another flag
 
 module _ (s : List ℕ) (at next : ℕ) {call flag : ℕ} (c : call ≡ le4 s (at + 3)) (f : flag ≡ le1 s (at + 7)) where
-  pub reads-unstored : {r : Parsed} → flag ≡ 0 → r ≡ Parsed.Record (Record.Pending call OptionValue.None) next → r ≡ found (pending_at s at) next
+  pub reads_unstored : {r : Parsed} → flag ≡ 0 → r ≡ Parsed.Record (Record.Pending call OptionValue.None) next → r ≡ found (pending_at s at) next
   unfolding pending_at
-  reads-unstored z r = rw (← f, z, r, c)
+  reads_unstored z r = rw (← f, z, r, c)
 
-  pub reads-stored : {v : OptionValue} {r : Parsed} → flag ≡ 1 → v ≡ value_at s (at + 8)
+  pub reads_stored : {v : OptionValue} {r : Parsed} → flag ≡ 1 → v ≡ value_at s (at + 8)
       → r ≡ found (with_value (λ (x : Value). Record.Pending call (OptionValue.Some x)) v) next → r ≡ found (pending_at s at) next
   unfolding pending_at
-  reads-stored o v r = rw (← f, o, r, v, c)
+  reads_stored o v r = rw (← f, o, r, v, c)
 
-  pub reads-no-flag : (flag ≡ 0 → ⊥) → (flag ≡ 1 → ⊥) → Parsed.Refused ≡ found (pending_at s at) next
+  pub reads_no_flag : (flag ≡ 0 → ⊥) → (flag ≡ 1 → ⊥) → Parsed.Refused ≡ found (pending_at s at) next
   unfolding pending_at
-  reads-no-flag z o = rw (← f, ne_eqb flag 0 z, ne_eqb flag 1 o)
+  reads_no_flag z o = rw (← f, ne_eqb flag 0 z, ne_eqb flag 1 o)
 
 -- ---- kind_at: all bytes are there, or not
 
@@ -62,15 +62,15 @@ module _ (s : List ℕ) (at : ℕ) {left_is : ℕ} (l : left_is ≡ length s - a
   unfolding parse
   reads_end z = rw (← l, z)
 
-  pub reads-no-kind : (left_is ≡ 0 → ⊥) → left_is < 3 → Parsed.Refused ≡ parse s at
+  pub reads_no_kind : (left_is ≡ 0 → ⊥) → left_is < 3 → Parsed.Refused ≡ parse s at
   unfolding parse
-  reads-no-kind z h = rw (← l, ne_eqb left_is 0 z, lt-ltb left_is 3 h)
+  reads_no_kind z h = rw (← l, ne_eqb left_is 0 z, lt-ltb left_is 3 h)
 
   module _ {m : ℕ} (z : left_is ≡ 0 → ⊥) (h : 3 ≤ left_is) (w : m ≡ le2 s at) where
-    pub reads-no-mark : (m ≡ mark → ⊥) → Parsed.Refused ≡ parse s at
+    pub reads_no_mark : (m ≡ mark → ⊥) → Parsed.Refused ≡ parse s at
     unfolding parse
-    reads-no-mark o = rw (← l, ne_eqb left_is 0 z, le-ltb left_is 3 h, ← w, ne_eqb m mark o)
+    reads_no_mark o = rw (← l, ne_eqb left_is 0 z, le-ltb left_is 3 h, ← w, ne_eqb m mark o)
 
-    pub reads-marked : {kind : ℕ} {r : Parsed} → m ≡ mark → kind ≡ le1 s (at + 2) → r ≡ parse_kind s at kind → r ≡ parse s at
+    pub reads_marked : {kind : ℕ} {r : Parsed} → m ≡ mark → kind ≡ le1 s (at + 2) → r ≡ parse_kind s at kind → r ≡ parse s at
     unfolding parse
-    reads-marked e k r = rw (← l, ne_eqb left_is 0 z, le-ltb left_is 3 h, ← w, e, ← k) r
+    reads_marked e k r = rw (← l, ne_eqb left_is 0 z, le-ltb left_is 3 h, ← w, e, ← k) r

@@ -133,14 +133,14 @@ module _ (s t : List ℕ) (at : ℕ) where
       )
 
   -- A record that was read is read whatever follows.
-  pub parse-longer : {r : Record} {next : ℕ} → parse s at ≡ Parsed.Record r next → parse (s ++ t) at ≡ Parsed.Record r next
-  parse-longer e =
+  pub parse_longer : {r : Record} {next : ℕ} → parse s at ≡ Parsed.Record r next → parse (s ++ t) at ≡ Parsed.Record r next
+  parse_longer e =
       let i = parse_inside s at e in
       same-parse (omega (arith, i.head, i.within)) (omega (arith, i.size_is, i.head, i.within)) ∙ e
 
   -- Where as many bytes are left as a record can have, what follows makes no difference. (Byte 3 is a byte.)
-  pub parse-enough : le1 s (at + 3) < 256 → record_limit ≤ length s - at → parse (s ++ t) at ≡ parse s at
-  parse-enough c l = same-parse (omega (arith, l)) (omega (arith, size_limit (le1 s (at + 2)) (le1 s (at + 3)) c, l))
+  pub parse_enough : le1 s (at + 3) < 256 → record_limit ≤ length s - at → parse (s ++ t) at ≡ parse s at
+  parse_enough c l = same-parse (omega (arith, l)) (omega (arith, size_limit (le1 s (at + 2)) (le1 s (at + 3)) c, l))
 
 -- ---- without the bytes in front
 

@@ -17,7 +17,7 @@ use Rattle.drive_reader.specs.Format.{parse}
 use Rattle.drive_reader.specs.Items.{items_at}
 use Rattle.drive_reader.specs.ParseLaws.{EndsAt, parse_inside}
 use Rattle.drive_reader.specs.Windows.{record_limit, move_record, move}
-use Rattle.drive_reader.specs.WindowLaws.{parse-longer, parse-enough, parse-rest}
+use Rattle.drive_reader.specs.WindowLaws.{parse_longer, parse_enough, parse-rest}
 use Rattle.endian.specs.Endian.{le1}
 use Rattle.exec_futures.specs.Results.{results_in}
 use Rattle.drive_answer.specs.Driver.{Asked, asked, refused_11, answered, drive_by, drive_one}
@@ -63,12 +63,12 @@ module _ (s t : List ℕ) where
         by (Parsed.Record r next) e = let i = parse_inside s at e in ap (answered u l next number) (asked-longer r next i.ends i.within)
 
     -- A record that is whole.
-    pub drive-longer : {r : Record} {next : ℕ} → parse s at ≡ Parsed.Record r next → drive_one u l (s ++ t) at number ≡ drive_one u l s at number
-    drive-longer e = drive-same (parse-longer s t at e ∙ sym e)
+    pub drive_longer : {r : Record} {next : ℕ} → parse s at ≡ Parsed.Record r next → drive_one u l (s ++ t) at number ≡ drive_one u l s at number
+    drive_longer e = drive-same (parse_longer s t at e ∙ sym e)
 
     -- Whatever stands there, where as many bytes are left as a record can have. (Byte 3 is a byte.)
-    pub drive-enough : le1 s (at + 3) < 256 → record_limit ≤ length s - at → drive_one u l (s ++ t) at number ≡ drive_one u l s at number
-    drive-enough c h = drive-same (parse-enough s t at c h)
+    pub drive_enough : le1 s (at + 3) < 256 → record_limit ≤ length s - at → drive_one u l (s ++ t) at number ≡ drive_one u l s at number
+    drive_enough c h = drive-same (parse_enough s t at c h)
 
 -- ---- without the bytes in front
 

@@ -82,6 +82,6 @@ module _ (src : List ℕ) (b : Bytes src) where
       tt
 
   -- The events of an input of bytes.
-  pub bytes-in-range : (l : List ℕ) → AllSentInRange (sent_by src l)
+  pub bytes_in_range : (l : List ℕ) → AllSentInRange (sent_by src l)
   unfolding drive_all drive_all_rest
-  bytes-in-range l = from-in-range _ fresh l 0 1
+  bytes_in_range l = from-in-range _ fresh l 0 1

@@ -49,8 +49,8 @@ module _ (h : List Entry) (s u : Store) (q : forget s ≡ forget u) where
   unfolding forget
   queue-alike = ap (λ (z : Store). z.queue) (sym q)
 
-  pub demand-alike : Demand3 h u → Demand3 h s
-  demand-alike d = record {
+  pub demand_alike : Demand3 h u → Demand3 h s
+  demand_alike d = record {
     sound = λ e a. d.sound e (ap (λ (x : Step). x.answer) (sym (step-alike s u e q)) ∙ a);
     queue = subst (λ (z : ReadyQueue). QueueRight h (entries z)) queue-alike d.queue;
     places = λ g. places-alike g (d.places g);
@@ -60,7 +60,7 @@ module _ (h : List Entry) (s u : Store) (q : forget s ≡ forget u) where
 
 -- Of every input whose events are in range, with every call list: demand 3 of the session of its records, and of the store that they leave.
 pub driven_demand_three : DemandThree → (l src : List ℕ) → AllSentInRange (sent_by src l) → Demand3 (session (sent_by src l)).history (drive_all l src).store
-driven_demand_three d l src i = demand-alike _ _ (session (sent_by src l)).store (driven-is-session l src).store_is (d (sent_by src l) i)
+driven_demand_three d l src i = demand_alike _ _ (session (sent_by src l)).store (driven-is-session l src).store_is (d (sent_by src l) i)
 
 -- and so it holds
 pub driven_holds : (l src : List ℕ) → AllSentInRange (sent_by src l) → Demand3 (session (sent_by src l)).history (drive_all l src).store
@@ -101,11 +101,11 @@ module _ (s : Store) (l src : List ℕ) (right : lengths_right s l ≡ true) {ts
       }
 
   -- Demand 3 of that session's history, and of the slices and the queue, with whatever log.
-  pub call-demand-three : DemandThree → (k : List LogEntry) → Demand3 (session (sent_by src l)).history (store_of ts os ps r.queue k)
-  call-demand-three d k =
+  pub call_demand_three : DemandThree → (k : List LogEntry) → Demand3 (session (sent_by src l)).history (store_of ts os ps r.queue k)
+  call_demand_three d k =
       let f : forget (store_of ts os ps r.queue k) ≡ store_of ts os ps r.queue [] = unfold forget in refl in
-      demand-alike _ _ (session (sent_by src l)).store (f ∙ call-is-session.store_is) (d (sent_by src l) call-is-session.in-range)
+      demand_alike _ _ (session (sent_by src l)).store (f ∙ call-is-session.store_is) (d (sent_by src l) call-is-session.in-range)
 
   -- Demand 3 of what a caller has after the call.
-  pub call-holds : (k : List LogEntry) → Demand3 (session (sent_by src l)).history (store_of ts os ps r.queue k)
-  call-holds k = call-demand-three demand_three k
+  pub call_holds : (k : List LogEntry) → Demand3 (session (sent_by src l)).history (store_of ts os ps r.queue k)
+  call_holds k = call_demand_three demand_three k

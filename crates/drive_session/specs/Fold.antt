@@ -47,7 +47,7 @@ drive_all_from (suc k) s l src from number =
     let p : Parsed = parse src from in
     pick x.going (behind x.text (sent_of l src p) (drive_all_from k x.store x.list src x.next (number + 1))) (stopped (parse_refusal p) x)
 
--- all records from a place on: no more than there are bytes, and the end (`all-goes-on`: the number of records allowed never stops it)
+-- all records from a place on: no more than there are bytes, and the end (`all_goes_on`: the number of records allowed never stops it)
 unfoldable pub drive_all_rest : Store → List ℕ → List ℕ → ℕ → ℕ → DrivesAll
 drive_all_rest s l src from number = drive_all_from (suc (length src - from)) s l src from number
 

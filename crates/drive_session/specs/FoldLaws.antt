@@ -66,18 +66,18 @@ module _ (s : Store) (l src : List ℕ) (from number : ℕ) where
       one_more (length src - from) s l src from number ∙ same_others one.going one.text _ _ others
 
   -- Where the driver goes on: the record there, and the records from the next place on.
-  pub all-goes-on : one.going ≡ true
+  pub all_goes_on : one.going ≡ true
       → drive_all_rest s l src from number ≡ behind one.text (sent_of l src (parse src from)) (drive_all_rest one.store one.list src one.next (number + 1))
-  all-goes-on g = on ∙ (rw g)
+  all_goes_on g = on ∙ (rw g)
 
   -- Where it stops.
-  pub all-stops : one.going ≡ false → drive_all_rest s l src from number ≡ stopped (parse_refusal (parse src from)) one
-  all-stops g = on ∙ (rw g)
+  pub all_stops : one.going ≡ false → drive_all_rest s l src from number ≡ stopped (parse_refusal (parse src from)) one
+  all_stops g = on ∙ (rw g)
 
   -- It stops where no byte is left, or else with 11.
-  pub stops-with : one.going ≡ false → stop_refusal (length src) one.next ≡ parse_refusal (parse src from)
+  pub stops_with : one.going ≡ false → stop_refusal (length src) one.next ≡ parse_refusal (parse src from)
   unfolding drive_one drive_by refused_11 answered ends
-  stops-with g = by (parse src from) refl g
+  stops_with g = by (parse src from) refl g
     where
       by : (p : Parsed) → parse src from ≡ p → (drive_by s l src from number p).going ≡ false → stop_refusal (length src) (drive_by s l src from number p).next ≡ parse_refusal p
       by Parsed.End e h = unfold parse_refusal in (rw (le-ltb from (length src) (end_behind src from e)))
@@ -109,6 +109,6 @@ from_text (suc k) s l src from number =
     (drive_from k x.store x.list src x.next (number + 1)) refl (from_text k x.store x.list src x.next (number + 1))
 
 -- What the program `drive` is to write (`drive`) is the text.
-pub drive-is_text : (src : List ℕ) → drive src ≡ (drive_all (replicate object_limit 0) src).text
+pub drive_is_text : (src : List ℕ) → drive src ≡ (drive_all (replicate object_limit 0) src).text
 unfolding drive drive_rest drive_all drive_all_rest
-drive-is_text src = from_text _ fresh (replicate object_limit 0) src 0 1
+drive_is_text src = from_text _ fresh (replicate object_limit 0) src 0 1

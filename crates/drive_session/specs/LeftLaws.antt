@@ -15,7 +15,7 @@ use Rattle.machine.specs.Machine.{Step}
 use Rattle.machine.specs.Lent.{slices_right, lengths_right, lent_begin}
 use Rattle.machine_laws.specs.TestLaws.{and-true}
 use Rattle.machine_theorems.specs.Soundness.Stores.{SoundStore}
-use Rattle.machine_theorems.specs.Soundness.Sessions.{fresh-sound_store}
+use Rattle.machine_theorems.specs.Soundness.Sessions.{fresh_sound_store}
 use Rattle.exec_switch.specs.Answer.{stepped_of}
 use Rattle.exec_switch.specs.declared.answer.Answer.{Answer}
 use Rattle.step_checks.specs.Lent.{are_slices}
@@ -31,10 +31,10 @@ use Rattle.drive_answer.specs.Driver.{Asked, asked, Drives, refused_11, answered
 use Rattle.drive_answer.specs.declared.answered.Driven.{Driven}
 use Rattle.drive_answer.specs.Drove.{Drove, RecordFits, ParsedFits}
 use Rattle.drive_record.specs.ProgressLaws.{Onward, going_on}
-use Rattle.drive_laws.specs.KeptLaws.{record-sound-store}
+use Rattle.drive_laws.specs.KeptLaws.{record_sound_store}
 use Rattle.drive_session.specs.declared.DrivenSession.{DrivenSession}
 use Rattle.drive_session.specs.Fold.{DrivesAll, event_in, sent_of, stopped, behind, drive_all_rest, drive_all, lent_session, stop_refusal}
-use Rattle.drive_session.specs.FoldLaws.{all-goes-on, all-stops, stops-with}
+use Rattle.drive_session.specs.FoldLaws.{all_goes_on, all_stops, stops_with}
 use Rattle.drive_session.specs.Session.{DroveAll, ended_at}
 
 -- ---- the events of records
@@ -117,7 +117,7 @@ left-begins l src start {ts} {os} {ps} {q} e = record {
   few = omega arith;
   inside = omega arith;
   in-range = unfold AllSentInRange in tt;
-  whole = subst SoundStore (sym e) fresh-sound_store;
+  whole = subst SoundStore (sym e) fresh_sound_store;
 }
 
 module _ {l src : List ℕ} {start here : Out} {ts os ps cs : List ℕ} {q : ReadyQueue} {from number : ℕ} (h : Left l src start ts os ps cs q from number here)
@@ -127,8 +127,8 @@ module _ {l src : List ℕ} {start here : Out} {ts os ps cs : List ℕ} {q : Rea
   one = drive_one (store_of ts os ps q h.log) cs src from number
 
   -- one record was read, and the driver goes on
-  pub left-onward : not going ≡ false → Onward src from next
-  left-onward g = subst (Onward src from) (sym (d h.log).next-is) (going_on _ cs src from number (sym (d h.log).going-is ∙ not-false going g))
+  pub left_onward : not going ≡ false → Onward src from next
+  left_onward g = subst (Onward src from) (sym (d h.log).next-is) (going_on _ cs src from number (sym (d h.log).going-is ∙ not-false going g))
 
   pub left-turn : ParsedFits (parse src from) → not going ≡ false → Left l src start ts' os' ps' cs' q' next (number + 1) there
   left-turn i g =
@@ -137,7 +137,7 @@ module _ {l src : List ℕ} {start here : Out} {ts os ps cs : List ℕ} {q : Rea
       let more : List Sent = sent_of cs src (parse src from) in
       let count : length (h.sent ++ more) ≡ suc (length h.sent) =
       length-append h.sent more ∙ ap (λ (n : ℕ). length h.sent + n) (one_sent _ cs src from number goes) ∙ add-one _ in
-      let o = left-onward g in
+      let o = left_onward g in
       let rest : drive_all_rest (store_of ts' os' ps' q' one.store.log) cs' src next (number + 1) ≡ drive_all_rest one.store one.list src one.next (number + 1) =
       ap (λ (s : Store). drive_all_rest s cs' src next (number + 1)) w.store_is ∙ ap (λ (c : List ℕ). drive_all_rest one.store c src next (number + 1)) w.list-is
       ∙ ap (λ (n : ℕ). drive_all_rest one.store one.list src n (number + 1)) w.next-is in
@@ -146,13 +146,13 @@ module _ {l src : List ℕ} {start here : Out} {ts os ps cs : List ℕ} {q : Rea
         text = h.text ++ one.text;
         sent = h.sent ++ more;
         rest-is = ap (behind (h.text ++ one.text) (h.sent ++ more)) rest ∙ sym (behind-behind h.text one.text h.sent more _)
-            ∙ ap (behind h.text h.sent) (sym (all-goes-on _ cs src from number goes)) ∙ h.rest-is;
+            ∙ ap (behind h.text h.sent) (sym (all_goes_on _ cs src from number goes)) ∙ h.rest-is;
         wrote = at_most (omega (arith, count)) (then h.wrote w.wrote);
         number_is = omega (arith, count, h.number_is);
         few = omega (arith, count, h.few, o.behind);
         inside = o.within;
         in-range = append_in_range h.sent more h.in-range (sent_in_range cs src (parse src from) i);
-        whole = record-sound-store _ cs src from number h.whole i (d []);
+        whole = record_sound_store _ cs src from number h.whole i (d []);
       }
 
   -- it stops: all is done
@@ -164,11 +164,11 @@ module _ {l src : List ℕ} {start here : Out} {ts os ps cs : List ℕ} {q : Rea
       let stops : one.going ≡ false = sym w.going-is ∙ not-true going g in
       let none : length (h.sent ++ []) ≡ length h.sent = ap length (append-nil h.sent) in
       let whole_is : behind h.text h.sent (stopped (parse_refusal (parse src from)) one) ≡ drive_all l src =
-      ap (behind h.text h.sent) (sym (all-stops _ cs src from number stops)) ∙ h.rest-is in
+      ap (behind h.text h.sent) (sym (all_stops _ cs src from number stops)) ∙ h.rest-is in
       subst (DroveAll ts' os' ps' cs' _ start there) whole_is (record {
         store_is = w.store_is;
         list-is = w.list-is;
-        refusal_is = ap (stop_refusal (length src)) w.next-is ∙ stops-with _ cs src from number stops;
+        refusal_is = ap (stop_refusal (length src)) w.next-is ∙ stops_with _ cs src from number stops;
         next-is = w.next-is;
         records_is = omega (arith, none, h.number_is);
         wrote = at_most (omega (arith, none)) (then h.wrote w.wrote);

@@ -22,7 +22,7 @@ use Rattle.drive_reader.specs.RecordNumbers.{parse_refusal}
 use Rattle.drive_lines.specs.Lines.{line, output}
 use Rattle.drive_answer.specs.Driver.{Asked, asked, Drives, refused_11, answered, drive_by, drive_one}
 use Rattle.drive_session.specs.Fold.{DrivesAll, event_in, sent_of, stopped, behind, drive_all_rest, drive_all, sent_by}
-use Rattle.drive_session.specs.FoldLaws.{all-goes-on, all-stops}
+use Rattle.drive_session.specs.FoldLaws.{all_goes_on, all_stops}
 
 -- ---- the words
 
@@ -160,12 +160,12 @@ output_more h x number e =
 module _ (s : Store) (l src : List ℕ) (from number : ℕ) where
   rest_end : parse src from ≡ Parsed.End → drive_all_rest s l src from number ≡ record { refusal = 0; store = s; list = l; text = []; next = from; sent = [] }
   unfolding drive_one drive_by stopped parse_refusal
-  rest_end e = all-stops s l src from number (ap (λ (p : Parsed). (drive_by s l src from number p).going) e) ∙ ap (λ (p : Parsed). stopped (parse_refusal p) (drive_by s l src from number p)) e
+  rest_end e = all_stops s l src from number (ap (λ (p : Parsed). (drive_by s l src from number p).going) e) ∙ ap (λ (p : Parsed). stopped (parse_refusal p) (drive_by s l src from number p)) e
 
   rest-refused : parse src from ≡ Parsed.Refused
       → drive_all_rest s l src from number ≡ record { refusal = 11; store = s; list = l; text = line number (Answer.refused 11); next = from; sent = [] }
   unfolding drive_one drive_by stopped parse_refusal refused_11
-  rest-refused e = all-stops s l src from number (ap (λ (p : Parsed). (drive_by s l src from number p).going) e) ∙ ap (λ (p : Parsed). stopped (parse_refusal p) (drive_by s l src from number p)) e
+  rest-refused e = all_stops s l src from number (ap (λ (p : Parsed). (drive_by s l src from number p).going) e) ∙ ap (λ (p : Parsed). stopped (parse_refusal p) (drive_by s l src from number p)) e
 
   answered-goes : (next : ℕ) (a : Asked) → (answered s l next number a).going ≡ true
   unfolding answered
@@ -177,7 +177,7 @@ module _ (s : Store) (l src : List ℕ) (from number : ℕ) where
       drive_all_rest s l src from number ≡ behind x.text (sends l (asked src r) ∷ []) (drive_all_rest x.store x.list src x.next (number + 1)))
   unfolding drive_one drive_by sent_of
   rest-record {r} {next} e =
-      all-goes-on s l src from number (ap (λ (p : Parsed). (drive_by s l src from number p).going) e ∙ answered-goes next (asked src r))
+      all_goes_on s l src from number (ap (λ (p : Parsed). (drive_by s l src from number p).going) e ∙ answered-goes next (asked src r))
       ∙ ap (λ (p : Parsed). let x : Drives = drive_by s l src from number p in behind x.text (sent_of l src p) (drive_all_rest x.store x.list src x.next (number + 1))) e
 
 answered-next : (s : Store) (l : List ℕ) (next number : ℕ) (a : Asked) → (answered s l next number a).next ≡ next

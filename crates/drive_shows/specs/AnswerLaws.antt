@@ -12,7 +12,7 @@ use Rattle.machine.specs.Machine as machine
 use Rattle.machine.specs.Machine.{Event, Step, refusal, accept, decide, step, shown, show_places}
 use Rattle.machine.specs.Lent.{Lent, slices_right, write_calls, control_calls, answer_calls, lent_step, lent_read}
 use Rattle.asyncio.specs.RangeLaws.{pick_has}
-use Rattle.machine_laws.specs.MachineLaws.{take-write_calls, lent-list, lent-count, lent-calls}
+use Rattle.machine_laws.specs.MachineLaws.{take-write_calls, lent-list, lent-count, lent_calls}
 use Rattle.exec_switch.specs.Answer.{answer_with, answer_of}
 use Rattle.exec_switch.specs.declared.control.Control.{Control}
 use Rattle.exec_switch.specs.declared.answer.Answer.{Answer}
@@ -65,7 +65,7 @@ module _ (s u : Store) (cs l : List ℕ) (a : Answer) (k : ℕ) (e : Event) (r :
       ap (λ (x : List ℕ). answer_with x a) c ∙ own_calls s.objects a ∙ told-answer
 
   pub calls_few : k ≤ object_limit
-  calls_few = rw told-count (lent-calls u l e).few
+  calls_few = rw told-count (lent_calls u l e).few
 
 -- ---- reads
 
@@ -158,22 +158,22 @@ reading_few ps u o r h = rw (← reads_count ps r, h) (read-few u o)
 
 module _ (n : ℕ) {x y : Out} where
   -- write_line, of an event: `r` is what the entry ensures
-  pub wrote-event : (s u : Store) (cs l : List ℕ) (a : Answer) (k : ℕ) (e : Event) → lent_of s cs a k ≡ lent_step u l e
+  pub wrote_event : (s u : Store) (cs l : List ℕ) (a : Answer) (k : ℕ) (e : Event) → lent_of s cs a k ≡ lent_step u l e
       → Wrote (123 + 21 * length (take k cs)) x y (line n (answer_with (take k cs) a)) → Wrote line_limit x y (line n (lent_step u l e).answer)
-  wrote-event s u cs l a k e r w =
+  wrote_event s u cs l a k e r w =
       let f : length (take k cs) ≤ k = omega (arith, length-take k cs) in
       let h : Wrote (123 + 21 * length (take k cs)) x y (line n (lent_step u l e).answer) = rw (event-answer s u cs l a k e r) at w in
       at_most (omega (arith, f, calls_few s u cs l a k e r)) h
 
   -- write_line, of `eager`
-  pub wrote-eager : (os : List ℕ) (u : Store) (a : Answer) → answer_of os a ≡ (lent_read u Event.eager).answer
+  pub wrote_eager : (os : List ℕ) (u : Store) (a : Answer) → answer_of os a ≡ (lent_read u Event.eager).answer
       → Wrote (123 + 21 * 0) x y (line n (answer_with [] a)) → Wrote line_limit x y (line n (lent_read u Event.eager).answer)
-  wrote-eager os u a r w = at_most (omega arith) (rw (eager-answer os u a r) at w)
+  wrote_eager os u a r w = at_most (omega arith) (rw (eager-answer os u a r) at w)
 
   -- write_reading, of `show`
-  pub wrote-show : (ps : List ℕ) (u : Store) (o : ℕ) (a : Reading) → show_answer ps a ≡ (lent_read u (Event.show o)).answer
+  pub wrote_show : (ps : List ℕ) (u : Store) (o : ℕ) (a : Reading) → show_answer ps a ≡ (lent_read u (Event.show o)).answer
       → Wrote (75 + 27 * reading_count a) x y (line n (show_answer ps a)) → Wrote line_limit x y (line n (lent_read u (Event.show o)).answer)
-  wrote-show ps u o a r w =
+  wrote_show ps u o a r w =
       let f : reading_count a ≤ item_limit = reading_few ps u o a r in
       let h : Wrote (75 + 27 * reading_count a) x y (line n (lent_read u (Event.show o)).answer) = rw r at w in
       at_most (omega arith) h

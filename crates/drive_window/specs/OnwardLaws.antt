@@ -16,7 +16,7 @@ use Rattle.drive_record.specs.ProgressLaws.{going_on}
 use Rattle.drive_window.specs.Window.{last_number, takes, DrivesWindow, stays, stops, behind, window_from, window_rest, drive_window}
 use Rattle.drive_window.specs.Contracts.{DroveWindow}
 use Rattle.drive_window.specs.declared.Window.{Window}
-use Rattle.drive_window.specs.TakenLaws.{takes-last, takes_whole}
+use Rattle.drive_window.specs.TakenLaws.{takes_last, takes_whole}
 
 module _ (ended : Bool) (size : ℕ) (src : List ℕ) where
   turn_up : (a g : Bool) (t : List ℕ) (v : DrivesWindow) (x : Drives) (s : Store) (l : List ℕ) (from number : ℕ) → number + 1 ≤ v.number
@@ -55,10 +55,10 @@ module _ (ended : Bool) (size : ℕ) (src : List ℕ) where
       (λ g. within-from k x.store x.list x.next (at + length x.text) (number + 1) (going_on s l src from number g).within) e
 
   -- Where the driver goes on, the place is in the window or at its end.
-  pub window-within : (s : Store) (l : List ℕ) (from number : ℕ) → from ≤ length src → (drive_window ended size s l src from number).going ≡ true
+  pub window_within : (s : Store) (l : List ℕ) (from number : ℕ) → from ≤ length src → (drive_window ended size s l src from number).going ≡ true
       → (drive_window ended size s l src from number).next ≤ length src
   unfolding drive_window window_rest
-  window-within s l from number = within-from (suc (length src - from)) s l from 0 number
+  window_within s l from number = within-from (suc (length src - from)) s l from 0 number
 
   turn-goes-up : (a g : Bool) (t : List ℕ) (v : DrivesWindow) (x : Drives) (s : Store) (l : List ℕ) (from number : ℕ) → a ≡ true → number + 1 ≤ v.number
       → (pick a (pick g (behind t v) (stops x number)) (stays s l from number)).going ≡ true
@@ -76,14 +76,14 @@ module _ (ended : Bool) (size : ℕ) (src : List ℕ) where
       room = omega (arith, r)
 
       by : (e : Bool) → ended ≡ e → takes ended (length src) from size 0 number ≡ true
-      by true d = sym (takes-last ended (length src) from size 0 number room n d)
+      by true d = sym (takes_last ended (length src) from size 0 number room n d)
       by false d = sym (takes_whole ended (length src) from size 0 number room n d (sym (le-leb record_limit (length src - from) (w d))))
 
   -- A window that has a whole record, or is the input's last, and room for a line, takes a record: it stops, or the number goes up.
-  pub window-goes-up : (s : Store) (l : List ℕ) (from number : ℕ) → line_limit ≤ size → number < last_number → (ended ≡ false → record_limit ≤ length src - from)
+  pub window-goes_up : (s : Store) (l : List ℕ) (from number : ℕ) → line_limit ≤ size → number < last_number → (ended ≡ false → record_limit ≤ length src - from)
       → (drive_window ended size s l src from number).going ≡ true → number < (drive_window ended size s l src from number).number
   unfolding drive_window window_rest window_from
-  window-goes-up s l from number r n w =
+  window-goes_up s l from number r n w =
       let x : Drives = drive_one s l src from number in
       turn-goes-up (takes ended (length src) from size 0 number) x.going x.text _ x s l from number (first_taken from number r n w)
       (number_up (length src - from) x.store x.list x.next (0 + length x.text) (number + 1))
@@ -99,14 +99,14 @@ drove_fits {out = out} {r = r} d =
 -- where the window is what is filled of a buffer
 module _ (ended : Bool) (size : ℕ) (s : Store) (l src : List ℕ) (from filled number : ℕ) {ts os ps cs out : List ℕ} {r : Window} (h : filled ≤ length src)
     (d : DroveWindow ts os ps cs out r (drive_window ended size s l (take filled src) from number)) (g : r.going ≡ true) where
-  pub drove-goes-up : line_limit ≤ size → number < last_number → (ended ≡ false → record_limit ≤ filled - from) → number < r.number
-  drove-goes-up a b w =
+  pub drove_goes_up : line_limit ≤ size → number < last_number → (ended ≡ false → record_limit ≤ filled - from) → number < r.number
+  drove_goes_up a b w =
       let n : length (take filled src) ≡ filled = length-take-le filled src h in
       subst (λ (k : ℕ). number < k) (sym d.number_is)
-      (window-goes-up ended size (take filled src) s l from number a b (λ e. subst (λ (k : ℕ). record_limit ≤ k - from) (sym n) (w e)) (sym d.going-is ∙ g))
+      (window-goes_up ended size (take filled src) s l from number a b (λ e. subst (λ (k : ℕ). record_limit ≤ k - from) (sym n) (w e)) (sym d.going-is ∙ g))
 
-  pub drove-within : from ≤ filled → r.next ≤ filled
-  drove-within i =
+  pub drove_within : from ≤ filled → r.next ≤ filled
+  drove_within i =
       let n : length (take filled src) ≡ filled = length-take-le filled src h in
-      let w = window-within ended size (take filled src) s l from number (subst (λ (k : ℕ). from ≤ k) (sym n) i) (sym d.going-is ∙ g) in
+      let w = window_within ended size (take filled src) s l from number (subst (λ (k : ℕ). from ≤ k) (sym n) i) (sym d.going-is ∙ g) in
       omega (arith, n, w, d.next-is)

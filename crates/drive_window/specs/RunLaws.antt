@@ -11,7 +11,7 @@ use Rattle.machine.specs.Store.{Store, LogEntry, store_of, fresh}
 use Rattle.drive_record.specs.Drive.{drive_rest, drive}
 use Rattle.drive_window.specs.Window.{DrivesWindow, drive_window}
 use Rattle.drive_window.specs.WindowLaws.{Bytes, rest-moved, windows_go_on, windows_stop}
-use Rattle.drive_window.specs.OnwardLaws.{window-within}
+use Rattle.drive_window.specs.OnwardLaws.{window_within}
 use Rattle.drive_window.specs.Input.{Refilled, Readied}
 use Rattle.drive_window.specs.Run.{Turn, window_of, turn_of, Reached, Stands}
 use Rattle.drive_window.specs.Contracts.{DroveWindow}
@@ -62,7 +62,7 @@ module _ (size : ℕ) (t : Turn) where
       let ended : Bool = ltb t.filled (length t.buffer) in
       from-its-place (more ++ later)
       ∙ (windows_go_on ended size t.store t.list window (more ++ later) t.from t.number in_window (λ e. none (ltb-true _ _ e)) g
-      (window-within ended size window t.store t.list t.from t.number inside g)
+      (window_within ended size window t.store t.list t.from t.number inside g)
       ∙ ap (λ (y : List ℕ). w.text ++ drive_rest w.store w.list y 0 w.number)
       (sym (append_assoc (slice w.next t.filled t.buffer) more later) ∙ ap (λ (y : List ℕ). y ++ later) (sym r.refilled.unread-is)))
 
@@ -83,9 +83,9 @@ reached-is-drive {size = size} (Reached.goes t read wrote after from' filled' x 
     ∙ (ap (λ (y : List ℕ). wrote ++ y) (turn-goes-on size t later g r b ends) ∙ sym (append_assoc wrote w.text _)))
 
 -- Where the driver stops, all that was handed out is what it writes of the whole input: what was read, and what is left unread.
-pub program_is-drive : {size : ℕ} {t : Turn} {read wrote : List ℕ} → Reached size t read wrote → (window_of size t).going ≡ false
+pub program_is_drive : {size : ℕ} {t : Turn} {read wrote : List ℕ} → Reached size t read wrote → (window_of size t).going ≡ false
     → (later : List ℕ) → (t.filled < length t.buffer → later ≡ []) → wrote ++ (window_of size t).text ≡ drive (read ++ later)
-program_is-drive {size = size} {t = t} {wrote = wrote} x g later none =
+program_is_drive {size = size} {t = t} {wrote = wrote} x g later none =
     sym (reached-is-drive x later none ∙ ap (λ (y : List ℕ). wrote ++ y) (turn-stops size t later g none))
 
 -- ---- the code's loop

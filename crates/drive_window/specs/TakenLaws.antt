@@ -24,29 +24,29 @@ use Rattle.drive_window.specs.declared.Window.{Window}
 -- ---- the test
 
 module _ (ended : Bool) (bytes from size at number : ℕ) where
-  pub takes-last : line_limit ≤ size - at → number < last_number → ended ≡ true → true ≡ takes ended bytes from size at number
+  pub takes_last : line_limit ≤ size - at → number < last_number → ended ≡ true → true ≡ takes ended bytes from size at number
   unfolding takes
-  takes-last a b e = rw (le-leb line_limit (size - at) a, lt-ltb number last_number b, e)
+  takes_last a b e = rw (le-leb line_limit (size - at) a, lt-ltb number last_number b, e)
 
   pub takes_whole : line_limit ≤ size - at → number < last_number → ended ≡ false → {r : Bool} → r ≡ leb record_limit (bytes - from) → r ≡ takes ended bytes from size at number
   unfolding takes
   takes_whole a b e h = rw (le-leb line_limit (size - at) a, lt-ltb number last_number b, e) h
 
-  pub takes-no-number : line_limit ≤ size - at → last_number ≤ number → false ≡ takes ended bytes from size at number
+  pub takes-no_number : line_limit ≤ size - at → last_number ≤ number → false ≡ takes ended bytes from size at number
   unfolding takes
-  takes-no-number a b = rw (le-leb line_limit (size - at) a, le-ltb number last_number b)
+  takes-no_number a b = rw (le-leb line_limit (size - at) a, le-ltb number last_number b)
 
-  pub takes-no-room : size - at < line_limit → false ≡ takes ended bytes from size at number
+  pub takes_no_room : size - at < line_limit → false ≡ takes ended bytes from size at number
   unfolding takes
-  takes-no-room a = rw (lt-leb line_limit (size - at) a)
+  takes_no_room a = rw (lt-leb line_limit (size - at) a)
 
   pub room_for : takes ended bytes from size at number ≡ true → line_limit ≤ size - at
   unfolding takes
   room_for t = leb-true line_limit (size - at) (and-true (leb line_limit (size - at)) (ltb number last_number && (ended || leb record_limit (bytes - from))) t).0
 
-  pub number-for : takes ended bytes from size at number ≡ true → number < last_number
+  pub number_for : takes ended bytes from size at number ≡ true → number < last_number
   unfolding takes
-  number-for t =
+  number_for t =
       ltb-true number last_number
       (and-true (ltb number last_number) (ended || leb record_limit (bytes - from))
       (and-true (leb line_limit (size - at)) (ltb number last_number && (ended || leb record_limit (bytes - from))) t).1).0
@@ -93,9 +93,9 @@ front_is start out at text e n r =
 module _ {ended : Bool} {start : List ℕ} {w : DrivesWindow} {src ts os ps cs out : List ℕ} {q : ReadyQueue} {next at number : ℕ}
     (h : Taken ended start w src ts os ps cs out q next at number) where
   -- no more is taken
-  pub taken-stays : length out ≡ length start → takes ended (length src) next (length out) at number ≡ false → (r : Window) → r.queue ≡ q → r.next ≡ next → r.at ≡ at → r.number ≡ number
+  pub taken_stays : length out ≡ length start → takes ended (length src) next (length out) at number ≡ false → (r : Window) → r.queue ≡ q → r.next ≡ next → r.at ≡ at → r.number ≡ number
       → r.going ≡ true → DroveWindow ts os ps cs out r w
-  taken-stays same t' r eq en ea ec eg =
+  taken_stays same t' r eq en ea ec eg =
       let t : takes ended (length src) next (length start) at number ≡ false = ap (λ (n : ℕ). takes ended (length src) next n at number) (sym same) ∙ t' in
       let s : Store = store_of ts os ps q h.log in
       let whole : behind h.text (stays s cs next number) ≡ w =
@@ -132,12 +132,12 @@ module _ {ended : Bool} {start : List ℕ} {w : DrivesWindow} {src ts os ps cs o
     length-behind = let n : length (h.text ++ one.text) ≡ length h.text + length one.text = length-append h.text one.text in omega (arith, at-behind, h.at-is, n)
 
     -- where the driver goes on, the place is behind the record
-    pub taken-onward : not going ≡ false → Onward src next next'
-    taken-onward g = subst (Onward src next) (sym (d h.log).next-is) (going_on _ cs src next number (sym (d h.log).going-is ∙ not-false going g))
+    pub taken_onward : not going ≡ false → Onward src next next'
+    taken_onward g = subst (Onward src next) (sym (d h.log).next-is) (going_on _ cs src next number (sym (d h.log).going-is ∙ not-false going g))
 
     -- one record was taken
-    pub taken-turn : not going ≡ false → Taken ended start w src ts' os' ps' cs' out' q' next' at' (number + 1)
-    taken-turn g =
+    pub taken_turn : not going ≡ false → Taken ended start w src ts' os' ps' cs' out' q' next' at' (number + 1)
+    taken_turn g =
         let x = d h.log in
         let goes : one.going ≡ true = sym x.going-is ∙ not-false going g in
         let rest : window_rest ended (length start) (store_of ts' os' ps' q' one.store.log) cs' src next' at' (number + 1)
@@ -159,9 +159,9 @@ module _ {ended : Bool} {start : List ℕ} {w : DrivesWindow} {src ts os ps cs o
         }
 
     -- the driver stops
-    pub taken-stops : not going ≡ true → (r : Window) → r.queue ≡ q' → r.next ≡ next' → r.at ≡ at' → r.number ≡ number → r.going ≡ false
+    pub taken_stops : not going ≡ true → (r : Window) → r.queue ≡ q' → r.next ≡ next' → r.at ≡ at' → r.number ≡ number → r.going ≡ false
         → DroveWindow ts' os' ps' cs' out' r w
-    taken-stops g r eq en ea ec eg =
+    taken_stops g r eq en ea ec eg =
         let x = d h.log in
         let ends : one.going ≡ false = sym x.going-is ∙ not-true going g in
         let whole : behind h.text (stops one number) ≡ w =

@@ -17,7 +17,7 @@ use Rattle.drive_lines.specs.Lines.{line_limit}
 use Rattle.drive_answer.specs.Driver.{Drives, drive_one}
 use Rattle.drive_record.specs.Drive.{drive_from, drive_rest, moved}
 use Rattle.drive_record.specs.ProgressLaws.{going_on, drives_on}
-use Rattle.drive_record.specs.WindowLaws.{drive-enough, drive-moved}
+use Rattle.drive_record.specs.WindowLaws.{drive_enough, drive-moved}
 use Rattle.drive_window.specs.Window.{last_number, takes, DrivesWindow, stays, stops, behind, window_from, window_rest, drive_window}
 
 -- ---- one record, and those behind it
@@ -84,7 +84,7 @@ module _ (ended : Bool) (size : ℕ) (src more : List ℕ) (b : Bytes src) (none
     where
       by : (e : Bool) → ended ≡ e → (e || leb record_limit (length src - from)) ≡ true → drive_one s l (src ++ more) from number ≡ drive_one s l src from number
       by true d h = ap (λ (z : List ℕ). drive_one s l z from number) (ap (λ (z : List ℕ). src ++ z) (none d) ∙ append-nil src)
-      by false d h = drive-enough src more s l from number (b (from + 3)) (leb-true record_limit (length src - from) h)
+      by false d h = drive_enough src more s l from number (b (from + 3)) (leb-true record_limit (length src - from) h)
 
   turn-part : (a g : Bool) (t : List ℕ) (v : DrivesWindow) (x : Drives) (s : Store) (l : List ℕ) (from number : ℕ) (whole : List ℕ) → t ≡ x.text
       → (a ≡ true → whole ≡ t ++ pick g (v.text ++ rest_of v (src ++ more)) [])

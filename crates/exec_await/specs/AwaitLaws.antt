@@ -21,7 +21,7 @@ use Rattle.machine.specs.Store.{Store, LogEntry, blocked, store_of, task, put_ta
 use Rattle.machine.specs.Scheduler.{pending_call_ids}
 use Rattle.machine.specs.Commit.{Polled, gives, await_external, commit_gather_tree}
 use Rattle.machine.specs.Events as machine
-use Rattle.machine.specs.Events.{Switched, Awaited, raises, resume-next, activate, stays, go_on, await_coroutine, await_external_future, await_gather, await_object, exec_get_awaitable}
+use Rattle.machine.specs.Events.{Switched, Awaited, raises, resume_next, activate, stays, go_on, await_coroutine, await_external_future, await_gather, await_object, exec_get_awaitable}
 use Rattle.exec_poll.specs.Polls.{poll_of}
 use Rattle.exec_commit.specs.Frames.{CommitResult, commit_result, result_of}
 use Rattle.exec_poll.specs.declared.item.Poll.{Poll}
@@ -48,14 +48,14 @@ module _ (ts os ps : List ℕ) (q : ReadyQueue) (l : List LogEntry) (t : TaskId)
     goes-raised x e = rw e
 
     pub goes-blocked : p ≡ Poll.Pending → {us : List ℕ} → us ≡ task_put ts t.0 (restate (task_at ts t.0) (TaskState.Blocked o)) → {ts' os' : List ℕ} {q' : ReadyQueue} (c : Control)
-        → switched_of (store_of ts' os' ps q' (resume-next activate (store_of us os ps q (blocked t.0 ∷ l))).store.log) c ≡ resume-next activate (store_of us os ps q (blocked t.0 ∷ l))
+        → switched_of (store_of ts' os' ps q' (resume_next activate (store_of us os ps q (blocked t.0 ∷ l))).store.log) c ≡ resume_next activate (store_of us os ps q (blocked t.0 ∷ l))
         → awaited_of (store_of ts' os' ps q' (go_on t.0 o.0 n here (poll_of p)).store.log) c n ≡ go_on t.0 o.0 n here (poll_of p)
     goes-blocked e {us} u c r = same-await blocks c n (ap (λ (y : Switched). switches y) r)
       where
         switches : Switched → Awaited
         switches y = record { store = y.store; control = y.control; steps = n }
 
-        blocks : go_on t.0 o.0 n here (poll_of p) ≡ record { store = (resume-next activate (store_of us os ps q (blocked t.0 ∷ l))).store; control = (resume-next activate (store_of us os ps q (blocked t.0 ∷ l))).control; steps = n }
+        blocks : go_on t.0 o.0 n here (poll_of p) ≡ record { store = (resume_next activate (store_of us os ps q (blocked t.0 ∷ l))).store; control = (resume_next activate (store_of us os ps q (blocked t.0 ∷ l))).control; steps = n }
         blocks = unfold go_on add_log set_state put_task task in (rw (e, u))
 
   -- ---- await_coroutine
@@ -74,24 +74,24 @@ module _ (ts os ps : List ℕ) (q : ReadyQueue) (l : List LogEntry) (t : TaskId)
 
   -- ---- await_external_future
 
-  pub external-goes : (c : CallId) (x : ExternalFutureState) {us : List ℕ} (p : Poll) → gives (store_of ts us ps q l) (poll_of p) ≡ await_external here o.0 c x (Awaiter.Task t)
+  pub external_goes : (c : CallId) (x : ExternalFutureState) {us : List ℕ} (p : Poll) → gives (store_of ts us ps q l) (poll_of p) ≡ await_external here o.0 c x (Awaiter.Task t)
       → {ts' os' : List ℕ} {q' : ReadyQueue} (k : Control) (n : ℕ)
       → awaited_of (store_of ts' os' ps q' (go_on t.0 o.0 0 (store_of ts us ps q l) (poll_of p)).store.log) k n ≡ go_on t.0 o.0 0 (store_of ts us ps q l) (poll_of p)
       → awaited_of (store_of ts' os' ps q' (await_external_future here t.0 o.0 c x).store.log) k n ≡ await_external_future here t.0 o.0 c x
-  external-goes c x {us} p g k n r = same-await goes k n r
+  external_goes c x {us} p g k n r = same-await goes k n r
     where
       goes : await_external_future here t.0 o.0 c x ≡ go_on t.0 o.0 0 (store_of ts us ps q l) (poll_of p)
       goes = unfold await_external_future in (ap (λ (y : Polled). go_on t.0 o.0 0 y.store y.poll) (sym g))
 
   -- ---- await_gather_future
 
-  pub gather-commits : (s : GatherState) → s ≡ GatherState.Pending → {ts₁ os₁ ps₁ : List ℕ} {q₁ : ReadyQueue} (p : Poll) (m : ℕ)
+  pub gather_commits : (s : GatherState) → s ≡ GatherState.Pending → {ts₁ os₁ ps₁ : List ℕ} {q₁ : ReadyQueue} (p : Poll) (m : ℕ)
       → commit_result (store_of ts₁ os₁ ps₁ q₁ (commit_gather_tree here o.0 (Awaiter.Task t)).store.log) (poll_of p) m ≡ result_of (commit_gather_tree here o.0 (Awaiter.Task t))
       → {ts' os' : List ℕ} {q' : ReadyQueue} (k : Control) (n : ℕ)
       → awaited_of (store_of ts' os' ps₁ q' (go_on t.0 o.0 m (store_of ts₁ os₁ ps₁ q₁ (commit_gather_tree here o.0 (Awaiter.Task t)).store.log) (poll_of p)).store.log) k n
       ≡ go_on t.0 o.0 m (store_of ts₁ os₁ ps₁ q₁ (commit_gather_tree here o.0 (Awaiter.Task t)).store.log) (poll_of p)
       → awaited_of (store_of ts' os' ps₁ q' (await_gather here t.0 o.0 s).store.log) k n ≡ await_gather here t.0 o.0 s
-  gather-commits s e {ts₁} {os₁} {ps₁} {q₁} p m h k n r = same-await (begins ∙ goes) k n r
+  gather_commits s e {ts₁} {os₁} {ps₁} {q₁} p m h k n r = same-await (begins ∙ goes) k n r
     where
       begins : await_gather here t.0 o.0 s ≡ go_on t.0 o.0 (commit_gather_tree here o.0 (Awaiter.Task t)).steps (commit_gather_tree here o.0 (Awaiter.Task t)).store (commit_gather_tree here o.0 (Awaiter.Task t)).poll
       begins = unfold await_gather in (rw e)
@@ -111,28 +111,28 @@ module _ (ts os ps : List ℕ) (q : ReadyQueue) (l : List LogEntry) (t : TaskId)
   -- ---- exec_get_awaitable
 
   module _ {x : Object} (e : x ≡ object_at os o.0) where
-    pub awaits-unmade : x ≡ Object.Unmade
+    pub awaits_unmade : x ≡ Object.Unmade
         → awaited_of (store_of ts os ps q (exec_get_awaitable here t.0 o.0).store.log) Control.Waits 0 ≡ exec_get_awaitable here t.0 o.0
     unfolding exec_get_awaitable await_object object pending_call_ids
-    awaits-unmade f = rw (← e, f)
+    awaits_unmade f = rw (← e, f)
 
-    pub awaits-coroutine : (f : ℕ) (s : CoroutineState) → x ≡ Object.Coroutine f s → {os' : List ℕ} {q' : ReadyQueue} (c : Control) (n : ℕ)
+    pub awaits_coroutine : (f : ℕ) (s : CoroutineState) → x ≡ Object.Coroutine f s → {os' : List ℕ} {q' : ReadyQueue} (c : Control) (n : ℕ)
         → awaited_of (store_of ts os' ps q' l) c n ≡ await_coroutine here t.0 o.0 f s
         → awaited_of (store_of ts os' ps q' (exec_get_awaitable here t.0 o.0).store.log) c n ≡ exec_get_awaitable here t.0 o.0
-    awaits-coroutine f s i {os'} {q'} c n r =
+    awaits_coroutine f s i {os'} {q'} c n r =
         let k : exec_get_awaitable here t.0 o.0 ≡ await_coroutine here t.0 o.0 f s = unfold exec_get_awaitable await_object object in (rw (← e, i)) in
         same-await k c n (ap (λ (m : List LogEntry). awaited_of (store_of ts os' ps q' m) c n) (coroutine-logs f s) ∙ r)
 
-    pub awaits-external : (y : CallId) (s : ExternalFutureState) → x ≡ Object.ExternalFuture y s → {ts' os' : List ℕ} {q' : ReadyQueue} (c : Control) (n : ℕ)
+    pub awaits_external : (y : CallId) (s : ExternalFutureState) → x ≡ Object.ExternalFuture y s → {ts' os' : List ℕ} {q' : ReadyQueue} (c : Control) (n : ℕ)
         → awaited_of (store_of ts' os' ps q' (await_external_future here t.0 o.0 y s).store.log) c n ≡ await_external_future here t.0 o.0 y s
         → awaited_of (store_of ts' os' ps q' (exec_get_awaitable here t.0 o.0).store.log) c n ≡ exec_get_awaitable here t.0 o.0
-    awaits-external y s i c n r =
+    awaits_external y s i c n r =
         let k : exec_get_awaitable here t.0 o.0 ≡ await_external_future here t.0 o.0 y s = unfold exec_get_awaitable await_object object in (rw (← e, i)) in
         same-await k c n r
 
-    pub awaits-gather : (f m : ℕ) (s : GatherState) → x ≡ Object.GatherFuture f m s → {ts' os' ps' : List ℕ} {q' : ReadyQueue} (c : Control) (n : ℕ)
+    pub awaits_gather : (f m : ℕ) (s : GatherState) → x ≡ Object.GatherFuture f m s → {ts' os' ps' : List ℕ} {q' : ReadyQueue} (c : Control) (n : ℕ)
         → awaited_of (store_of ts' os' ps' q' (await_gather here t.0 o.0 s).store.log) c n ≡ await_gather here t.0 o.0 s
         → awaited_of (store_of ts' os' ps' q' (exec_get_awaitable here t.0 o.0).store.log) c n ≡ exec_get_awaitable here t.0 o.0
-    awaits-gather f m s i c n r =
+    awaits_gather f m s i c n r =
         let k : exec_get_awaitable here t.0 o.0 ≡ await_gather here t.0 o.0 s = unfold exec_get_awaitable await_object object in (rw (← e, i)) in
         same-await k c n r

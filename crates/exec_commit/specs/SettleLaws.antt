@@ -27,20 +27,20 @@ gather-set ts os ps q l g y e f p = rw (p, f, e)
 module _ (ts os ps : List ℕ) (q : ReadyQueue) (l : List LogEntry) (g : ℕ) (a : OptionAwaited) (e : option_awaited a ≡ as_awaited (object_at os g)) where
   -- ---- settling
 
-  pub settle-none : a ≡ OptionAwaited.None → gives (store_of ts os ps q l) pending ≡ settle_gather_commit (store_of ts os ps q l) g
+  pub settle_none : a ≡ OptionAwaited.None → gives (store_of ts os ps q l) pending ≡ settle_gather_commit (store_of ts os ps q l) g
   unfolding settle_gather_commit settle_as object
-  settle-none f = rw (← e, f)
+  settle_none f = rw (← e, f)
 
   module _ (w : AwaitedGather) (f : a ≡ OptionAwaited.Some w) where
     -- no place is open
-    pub settle-done : w.open_places ≡ 0 → {us : List ℕ} → store_of ts us ps q l ≡ set_gather (store_of ts os ps q l) g GatherState.Completed
+    pub settle_done : w.open_places ≡ 0 → {us : List ℕ} → store_of ts us ps q l ≡ set_gather (store_of ts os ps q l) g GatherState.Completed
         → gives (store_of ts us ps q l) (ready (Value.List (heap_id g))) ≡ settle_gather_commit (store_of ts os ps q l) g
     unfolding settle_gather_commit settle_as object
-    settle-done z p = rw (← e, f, eq-eqb w.open_places 0 z, p)
+    settle_done z p = rw (← e, f, eq-eqb w.open_places 0 z, p)
 
-    pub settle-waits : (w.open_places ≡ 0 → ⊥) → gives (store_of ts os ps q l) pending ≡ settle_gather_commit (store_of ts os ps q l) g
+    pub settle_waits : (w.open_places ≡ 0 → ⊥) → gives (store_of ts os ps q l) pending ≡ settle_gather_commit (store_of ts os ps q l) g
     unfolding settle_gather_commit settle_as object
-    settle-waits z = rw (← e, f, ne_eqb w.open_places 0 z)
+    settle_waits z = rw (← e, f, ne_eqb w.open_places 0 z)
 
   -- ---- resuming
 

@@ -170,11 +170,11 @@ module _ (M : List LogEntry → machine.Stop) (ts os ps : List ℕ) (q : ReadyQu
 
   module _ (h : i < n) (us vs rs : List ℕ) (r : ReadyQueue) (x : ItemStep)
       (s : (l : List LogEntry) (go : Goes) → stepped (store_of us vs rs r (stop_log (step_at (store_of ts os ps q l) g i at_end))) i x go ≡ step_at (store_of ts os ps q l) g i go) where
-    abbrev log-now : List LogEntry → List LogEntry
-    log-now l = stop_log (step_at (store_of ts os ps q (c.log l)) g i at_end)
+    abbrev log_now : List LogEntry → List LogEntry
+    log_now l = stop_log (step_at (store_of ts os ps q (c.log l)) g i at_end)
 
     -- one item, then the rest
-    turns : (l : List LogEntry) → stepped (store_of us vs rs r (log-now l)) i x (λ y. step_items (n - (i + 1)) y g (i + 1)) ≡ M l
+    turns : (l : List LogEntry) → stepped (store_of us vs rs r (log_now l)) i x (λ y. step_items (n - (i + 1)) y g (i + 1)) ≡ M l
     unfolding step_items
     turns l =
         let k : n - i ≡ suc (n - (i + 1)) = omega arith in
@@ -182,19 +182,19 @@ module _ (M : List LogEntry → machine.Stop) (ts os ps : List ℕ) (q : ReadyQu
 
     pub walk-turns : x ≡ ItemStep.Next → WalksOn M us vs rs r g (i + 1) n
     unfolding stepped
-    walk-turns e = record { log = log-now; walks_on = λ l. rw e at (turns l) }
+    walk-turns e = record { log = log_now; walks_on = λ l. rw e at (turns l) }
 
     pub walk-cut : x ≡ ItemStep.End → (l : List LogEntry) → stopped (store_of us vs rs r (stop_log (M l))) Stop.End ≡ M l
     unfolding stepped stopped
-    walk-cut e l = own_stop us vs rs r (log-now l) Stop.End (M l) (rw e at (turns l))
+    walk-cut e l = own_stop us vs rs r (log_now l) Stop.End (M l) (rw e at (turns l))
 
     pub walk-nested : (o : HeapId) → x ≡ ItemStep.Nested o → (l : List LogEntry) → stopped (store_of us vs rs r (stop_log (M l))) (Stop.Nested i o) ≡ M l
     unfolding stepped stopped
-    walk-nested o e l = own_stop us vs rs r (log-now l) (Stop.Nested i o) (M l) (rw e at (turns l))
+    walk-nested o e l = own_stop us vs rs r (log_now l) (Stop.Nested i o) (M l) (rw e at (turns l))
 
     pub walk-raised : (y : Error) → x ≡ ItemStep.Raised y → (l : List LogEntry) → stopped (store_of us vs rs r (stop_log (M l))) (Stop.Raised y) ≡ M l
     unfolding stepped stopped
-    walk-raised y e l = own_stop us vs rs r (log-now l) (Stop.Raised y) (M l) (rw e at (turns l))
+    walk-raised y e l = own_stop us vs rs r (log_now l) (Stop.Raised y) (M l) (rw e at (turns l))
 
 -- an item leaves its gather as many places
 pub walk_counts : (ts os ps : List ℕ) (q : ReadyQueue) (g i : ℕ) (us vs rs : List ℕ) (r : ReadyQueue) (x : ItemStep)

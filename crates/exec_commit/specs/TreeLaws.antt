@@ -21,7 +21,7 @@ use Rattle.machine.specs.Store.{Store, LogEntry, store_of, object}
 use Rattle.machine.specs.Commit.{Poll, raised, Polled, gives, step_gather_commit, open_gather_commit, settle_gather_commit, resume_after_child, unwind, Committed, turn, pending_in, pending_count, commit_gather_tree}
 use Rattle.machine_laws.specs.Views.{Sized}
 use Rattle.machine_laws.specs.Statements.{SameKinds, Placed, StopBelow, commit_rest}
-use Rattle.machine_laws.specs.CommitLaws.{same_kinds_then, same-pending_count, StopKeeps, step_kinds, step-below, set-counts, settle-kinds, resume_kinds, open-falls, placed_same, pending-most, commit_begins, commit_turns}
+use Rattle.machine_laws.specs.CommitLaws.{same_kinds_then, same-pending_count, StopKeeps, step_kinds, step-below, set_counts, settle_kinds, resume_kinds, open_falls, placed_same, pending-most, commit_begins, commit_turns}
 use Rattle.exec_commit.specs.Steps.{stopped, stop_log, frame}
 use Rattle.exec_commit.specs.Frames.{below, GathersFit, commit_result, result_of, GoesOn}
 use Rattle.exec_commit.specs.declared.step.Stop.{Stop}
@@ -83,32 +83,32 @@ tree_result ts os ps q g a l {os'} e us vs rs r p n h =
 module _ (ts os ps : List ℕ) (q : ReadyQueue) (g i : ℕ) (a : length ts ≡ tasks_length) (b : length os ≡ objects_length) (c : length ps ≡ places_length) (h : g < object_limit)
     (us vs rs : List ℕ) (r : ReadyQueue) (x : Stop)
     (s : (l : List LogEntry) → stopped (store_of us vs rs r (stop_log (step_gather_commit (store_of ts os ps q l) (frame g i)))) x ≡ step_gather_commit (store_of ts os ps q l) (frame g i)) where
-  abbrev log-at : List LogEntry → List LogEntry
-  log-at l = stop_log (step_gather_commit (store_of ts os ps q l) (frame g i))
+  abbrev log_at : List LogEntry → List LogEntry
+  log_at l = stop_log (step_gather_commit (store_of ts os ps q l) (frame g i))
 
   sized : (l : List LogEntry) → Sized (store_of ts os ps q l)
   sized l = record { tasks-sized = a; objects-sized = b; places-sized = c }
 
-  keeps : StopKeeps (store_of ts os ps q []) (stopped (store_of us vs rs r (log-at [])) x)
+  keeps : StopKeeps (store_of ts os ps q []) (stopped (store_of us vs rs r (log_at [])) x)
   keeps = rw (s []) (step_kinds (store_of ts os ps q []) (frame g i) (sized []) h)
 
-  stops-below : StopBelow (count_of (object (store_of ts os ps q []) g)) (stopped (store_of us vs rs r (log-at [])) x)
+  stops-below : StopBelow (count_of (object (store_of ts os ps q []) g)) (stopped (store_of us vs rs r (log_at [])) x)
   stops-below = rw (s []) (step-below (store_of ts os ps q []) (frame g i))
 
   -- where no item is left
-  end_same : x ≡ Stop.End → SameKinds (store_of ts os ps q []) (store_of us vs rs r (log-at []))
+  end_same : x ≡ Stop.End → SameKinds (store_of ts os ps q []) (store_of us vs rs r (log_at []))
   unfolding StopKeeps stopped
   end_same e = rw e at keeps
 
   -- at a nested gather
   module _ (at : ℕ) (o : HeapId) (e : x ≡ Stop.Nested at o) where
-    nested-keeps : SameKinds (store_of ts os ps q []) (store_of us vs rs r (log-at [])) × (o.0 < object_limit)
-        × (kind (object (store_of us vs rs r (log-at [])) o.0) ≡ Kind.PendingGather)
+    nested-keeps : SameKinds (store_of ts os ps q []) (store_of us vs rs r (log_at [])) × (o.0 < object_limit)
+        × (kind (object (store_of us vs rs r (log_at [])) o.0) ≡ Kind.PendingGather)
     unfolding StopKeeps stopped
     nested-keeps = rw e at keeps
 
-    pub nested-range : o.0 < object_limit
-    nested-range = nested-keeps.1
+    pub nested_range : o.0 < object_limit
+    nested_range = nested-keeps.1
 
     nested-at : at < count_of (object (store_of ts os ps q []) g)
     unfolding StopBelow stopped
@@ -119,83 +119,83 @@ module _ (ts os ps : List ℕ) (q : ReadyQueue) (g i : ℕ) (a : length ts ≡ t
     unfolding pending_count
     nested-room =
         let k = nested-keeps in
-        let u : Store = store_of us vs rs r (log-at []) in
+        let u : Store = store_of us vs rs r (log_at []) in
         let m : pending_in vs ≡ pending_in os = same-pending_count (store_of ts os ps q []) u k.0 in
-        let n : pending_in vs ≡ suc (pending_in (open_gather_commit u o.0 Awaiter.Nobody).objects) = open-falls u o.0 Awaiter.Nobody k.0.sized k.1 k.2 in
+        let n : pending_in vs ≡ suc (pending_in (open_gather_commit u o.0 Awaiter.Nobody).objects) = open_falls u o.0 Awaiter.Nobody k.0.sized k.1 k.2 in
         omega arith
 
     module _ (vs' : List ℕ) (y : Awaiter)
-        (p : store_of us vs' rs r (log-at []) ≡ open_gather_commit (store_of us vs rs r (log-at [])) o.0 y) where
+        (p : store_of us vs' rs r (log_at []) ≡ open_gather_commit (store_of us vs rs r (log_at [])) o.0 y) where
       -- one pending gather less
       pub nested-falls : pending_in os ≡ suc (pending_in vs')
       unfolding pending_count
       nested-falls =
           let k = nested-keeps in
-          sym (same-pending_count (store_of ts os ps q []) (store_of us vs rs r (log-at [])) k.0)
-          ∙ open-falls (store_of us vs rs r (log-at [])) o.0 y k.0.sized k.1 k.2
+          sym (same-pending_count (store_of ts os ps q []) (store_of us vs rs r (log_at [])) k.0)
+          ∙ open_falls (store_of us vs rs r (log_at [])) o.0 y k.0.sized k.1 k.2
           ∙ ap (λ (u : Store). suc (pending_in u.objects)) (sym p)
 
-      nested-counts : (n : ℕ) → count_of (object (store_of us vs' rs r (log-at [])) n) ≡ count_of (object (store_of ts os ps q []) n)
+      nested-counts : (n : ℕ) → count_of (object (store_of us vs' rs r (log_at [])) n) ≡ count_of (object (store_of ts os ps q []) n)
       unfolding open_gather_commit
       nested-counts n =
           let k = nested-keeps in
-          ap (λ (u : Store). count_of (object u n)) p ∙ set-counts (store_of us vs rs r (log-at [])) o.0 k.0.sized k.1 (GatherState.Awaited y 0) n ∙ k.0.counts n
+          ap (λ (u : Store). count_of (object u n)) p ∙ set_counts (store_of us vs rs r (log_at [])) o.0 k.0.sized k.1 (GatherState.Awaited y 0) n ∙ k.0.counts n
 
       -- the frames' places are in range, with the new frame's
-      pub nested-placed : (gs ns : List ℕ) (d : ℕ) → d < length gs → d < length ns → Placed (store_of ts os ps q []) (below gs ns d)
+      pub nested_placed : (gs ns : List ℕ) (d : ℕ) → d < length gs → d < length ns → Placed (store_of ts os ps q []) (below gs ns d)
           → Placed (store_of us vs' rs r []) (below (set gs d g) (set ns d at) (d + 1))
       unfolding Placed object
-      nested-placed gs ns d m n z =
+      nested_placed gs ns d m n z =
           let e : count_of (object_at vs' g) ≡ count_of (object_at os g) = nested-counts g in
           rw (below_push gs ns d g at m n)
           (h, rw e nested-at, unfold Placed in placed_same (store_of ts os ps q []) (store_of us vs' rs r []) (below gs ns d) nested-counts z)
 
   -- the innermost gather was settled
   module _ (e : x ≡ Stop.End) (vs₁ : List ℕ) (p : Poll) (f : (l : List LogEntry) → gives (store_of us vs₁ rs r l) p ≡ settle_gather_commit (store_of us vs rs r l) g) where
-    settled_same : SameKinds (store_of ts os ps q []) (store_of us vs₁ rs r (log-at []))
+    settled_same : SameKinds (store_of ts os ps q []) (store_of us vs₁ rs r (log_at []))
     settled_same =
-        let k : SameKinds (store_of us vs rs r (log-at [])) (settle_gather_commit (store_of us vs rs r (log-at [])) g).store =
-        settle-kinds (store_of us vs rs r (log-at [])) g (end_same e).sized h in
-        let m : SameKinds (store_of us vs rs r (log-at [])) (store_of us vs₁ rs r (log-at [])) = rw (← f (log-at [])) at k in
+        let k : SameKinds (store_of us vs rs r (log_at [])) (settle_gather_commit (store_of us vs rs r (log_at [])) g).store =
+        settle_kinds (store_of us vs rs r (log_at [])) g (end_same e).sized h in
+        let m : SameKinds (store_of us vs rs r (log_at [])) (store_of us vs₁ rs r (log_at [])) = rw (← f (log_at [])) at k in
         same_kinds_then (end_same e) m
 
     module _ (gs ns : List ℕ) (n d : ℕ) (m : n ≡ suc d) (z : Placed (store_of ts os ps q []) (below gs ns n)) {y : HeapId} (u : y ≡ heap_id (get_or gs d 0)) where
       -- the gather below, and the place of it in which the settled one is nested
-      pub parent-range : y.0 < object_limit
+      pub parent_range : y.0 < object_limit
       unfolding Placed below
-      parent-range = rw u (rw m at z).0
+      parent_range = rw u (rw m at z).0
 
-      pub child-range : get_or ns d 0 < count_of (object_at vs₁ y.0)
+      pub child_range : get_or ns d 0 < count_of (object_at vs₁ y.0)
       unfolding Placed below object
-      child-range = rw (u, settled_same.counts (get_or gs d 0)) (rw m at z).1
+      child_range = rw (u, settled_same.counts (get_or gs d 0)) (rw m at z).1
 
-      pub child-few : get_or ns d 0 < item_limit
-      child-few = omega (arith, child-range, (places_fit vs₁ y.0 refl refl).at_most)
+      pub child_few : get_or ns d 0 < item_limit
+      child_few = omega (arith, child_range, (places_fit vs₁ y.0 refl refl).at_most)
 
       module _ (vs₂ rs₂ : List ℕ)
           (t : (l : List LogEntry) → store_of us vs₂ rs₂ r l ≡ resume_after_child (frame y.0 (get_or ns d 0)) (gives (store_of us vs₁ rs r l) p)) where
-        popped-same : SameKinds (store_of ts os ps q []) (store_of us vs₂ rs₂ r (log-at []))
+        popped-same : SameKinds (store_of ts os ps q []) (store_of us vs₂ rs₂ r (log_at []))
         popped-same =
-            let m : SameKinds (store_of us vs₁ rs r (log-at [])) (resume_after_child (frame y.0 (get_or ns d 0)) (gives (store_of us vs₁ rs r (log-at [])) p)) =
-            resume_kinds (frame y.0 (get_or ns d 0)) (gives (store_of us vs₁ rs r (log-at [])) p) settled_same.sized parent-range in
-            same_kinds_then settled_same (rw (← t (log-at [])) at m)
+            let m : SameKinds (store_of us vs₁ rs r (log_at [])) (resume_after_child (frame y.0 (get_or ns d 0)) (gives (store_of us vs₁ rs r (log_at [])) p)) =
+            resume_kinds (frame y.0 (get_or ns d 0)) (gives (store_of us vs₁ rs r (log_at [])) p) settled_same.sized parent_range in
+            same_kinds_then settled_same (rw (← t (log_at [])) at m)
 
         -- as many pending gathers
-        pub popped-pending : pending_in vs₂ ≡ pending_in os
+        pub popped_pending : pending_in vs₂ ≡ pending_in os
         unfolding pending_count
-        popped-pending = same-pending_count (store_of ts os ps q []) (store_of us vs₂ rs₂ r (log-at [])) popped-same
+        popped_pending = same-pending_count (store_of ts os ps q []) (store_of us vs₂ rs₂ r (log_at [])) popped-same
 
-        pub popped-placed : Placed (store_of us vs₂ rs₂ r []) (below gs ns d)
+        pub popped_placed : Placed (store_of us vs₂ rs₂ r []) (below gs ns d)
         unfolding Placed below object
-        popped-placed = unfold Placed in placed_same (store_of ts os ps q []) (store_of us vs₂ rs₂ r []) (below gs ns d) popped-same.counts (rw m at z).2
+        popped_placed = unfold Placed in placed_same (store_of ts os ps q []) (store_of us vs₂ rs₂ r []) (below gs ns d) popped-same.counts (rw m at z).2
 
   -- ---- how the commit goes on
 
   module _ (M : List LogEntry → Committed) (gs ns : List ℕ) (d n : ℕ) (z : Placed (store_of ts os ps q []) (below gs ns d)) (w : GoesOn M ts os ps q (frame g i) (below gs ns d) n) where
-    abbrev log-now : List LogEntry → List LogEntry
-    log-now l = log-at (w.log l)
+    abbrev log_now : List LogEntry → List LogEntry
+    log_now l = log_at (w.log l)
 
-    turns : (l : List LogEntry) → turn commit_rest (frame g i) (below gs ns d) n w.opened w.settled (stopped (store_of us vs rs r (log-now l)) x) ≡ M l
+    turns : (l : List LogEntry) → turn commit_rest (frame g i) (below gs ns d) n w.opened w.settled (stopped (store_of us vs rs r (log_now l)) x) ≡ M l
     unfolding object
     turns l =
         ap (λ y. turn commit_rest (frame g i) (below gs ns d) n w.opened w.settled y) (s (w.log l))
@@ -204,50 +204,50 @@ module _ (ts os ps : List ℕ) (q : ReadyQueue) (g i : ℕ) (a : length ts ≡ t
         ∙ w.goes_on l
 
     -- a nested gather is opened
-    pub tree-nested : (at : ℕ) (o : HeapId) → x ≡ Stop.Nested at o → d < length gs → d < length ns → (vs' : List ℕ)
+    pub tree_nested : (at : ℕ) (o : HeapId) → x ≡ Stop.Nested at o → d < length gs → d < length ns → (vs' : List ℕ)
         → ((l : List LogEntry) → store_of us vs' rs r l ≡ open_gather_commit (store_of us vs rs r l) o.0 (Awaiter.GatherSlot (heap_id g) o))
         → GoesOn M us vs' rs r (frame o.0 0) (below (set gs d g) (set ns d at) (d + 1)) (n + 1)
     unfolding turn stopped
-    tree-nested at o e m k vs' p = record {
-      log = log-now;
+    tree_nested at o e m k vs' p = record {
+      log = log_now;
       opened = suc w.opened;
       settled = w.settled;
       goes_on = λ l.
           let f : n + 1 ≡ suc n = omega arith in
-          rw (f, below_push gs ns d g at m k, p (log-now l)) (rw e at (turns l));
+          rw (f, below_push gs ns d g at m k, p (log_now l)) (rw e at (turns l));
     }
 
     -- the root was settled
-    pub tree-root : x ≡ Stop.End → d ≡ 0 → (vs₁ : List ℕ) (p : Poll) → ((l : List LogEntry) → gives (store_of us vs₁ rs r l) p ≡ settle_gather_commit (store_of us vs rs r l) g)
+    pub tree_root : x ≡ Stop.End → d ≡ 0 → (vs₁ : List ℕ) (p : Poll) → ((l : List LogEntry) → gives (store_of us vs₁ rs r l) p ≡ settle_gather_commit (store_of us vs rs r l) g)
         → (l : List LogEntry) → commit_result (store_of us vs₁ rs r (M l).store.log) p (n + 1) ≡ result_of (M l)
     unfolding turn stopped below
-    tree-root e z vs₁ p f l =
+    tree_root e z vs₁ p f l =
         let k : n + 1 ≡ suc n = omega arith in
-        let t : record { store = store_of us vs₁ rs r (log-now l); poll = p; steps = suc n; opened = w.opened; settled = suc w.settled } ≡ M l =
-        ap (λ (y : Polled). record { store = y.store; poll = y.poll; steps = suc n; opened = w.opened; settled = suc w.settled }) (f (log-now l)) ∙ (rw (e, z) at (turns l)) in
+        let t : record { store = store_of us vs₁ rs r (log_now l); poll = p; steps = suc n; opened = w.opened; settled = suc w.settled } ≡ M l =
+        ap (λ (y : Polled). record { store = y.store; poll = y.poll; steps = suc n; opened = w.opened; settled = suc w.settled }) (f (log_now l)) ∙ (rw (e, z) at (turns l)) in
         rw (k, ← t)
 
     -- a nested one was
-    pub tree-popped : x ≡ Stop.End → (k : ℕ) → d ≡ suc k → {y : HeapId} → y ≡ heap_id (get_or gs k 0) → (vs₁ : List ℕ) (p : Poll) → ((l : List LogEntry) → gives (store_of us vs₁ rs r l) p ≡ settle_gather_commit (store_of us vs rs r l) g)
+    pub tree_popped : x ≡ Stop.End → (k : ℕ) → d ≡ suc k → {y : HeapId} → y ≡ heap_id (get_or gs k 0) → (vs₁ : List ℕ) (p : Poll) → ((l : List LogEntry) → gives (store_of us vs₁ rs r l) p ≡ settle_gather_commit (store_of us vs rs r l) g)
         → (vs₂ rs₂ : List ℕ) → ((l : List LogEntry) → store_of us vs₂ rs₂ r l ≡ resume_after_child (frame y.0 (get_or ns k 0)) (gives (store_of us vs₁ rs r l) p))
         → GoesOn M us vs₂ rs₂ r (frame y.0 (get_or ns k 0 + 1)) (below gs ns k) (n + 1)
     unfolding turn stopped below
-    tree-popped e k z u vs₁ p f vs₂ rs₂ t = record {
-      log = log-now;
+    tree_popped e k z u vs₁ p f vs₂ rs₂ t = record {
+      log = log_now;
       opened = w.opened;
       settled = suc w.settled;
       goes_on = λ l.
           let m : n + 1 ≡ suc n = omega arith in
-          rw (m, t (log-now l), f (log-now l), u) (rw (e, z) at (turns l));
+          rw (m, t (log_now l), f (log_now l), u) (rw (e, z) at (turns l));
     }
 
     -- the commit fails
-    pub tree-raised : (y : Error) → x ≡ Stop.Raised y → (vs₁ : List ℕ)
+    pub tree_raised : (y : Error) → x ≡ Stop.Raised y → (vs₁ : List ℕ)
         → ((l : List LogEntry) → store_of us vs₁ rs r l ≡ unwind (store_of us vs rs r l) (frame g i ∷ below gs ns d) y)
         → (l : List LogEntry) → commit_result (store_of us vs₁ rs r (M l).store.log) (raised y) (n + 1) ≡ result_of (M l)
     unfolding turn stopped
-    tree-raised y e vs₁ p l =
+    tree_raised y e vs₁ p l =
         let k : n + 1 ≡ suc n = omega arith in
-        let t : record { store = store_of us vs₁ rs r (log-now l); poll = raised y; steps = suc n; opened = w.opened; settled = w.settled } ≡ M l =
-        ap (λ (u : Store). record { store = u; poll = raised y; steps = suc n; opened = w.opened; settled = w.settled }) (p (log-now l)) ∙ (rw e at (turns l)) in
+        let t : record { store = store_of us vs₁ rs r (log_now l); poll = raised y; steps = suc n; opened = w.opened; settled = w.settled } ≡ M l =
+        ap (λ (u : Store). record { store = u; poll = raised y; steps = suc n; opened = w.opened; settled = w.settled }) (p (log_now l)) ∙ (rw e at (turns l)) in
         rw (k, ← t)

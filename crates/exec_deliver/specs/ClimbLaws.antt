@@ -74,12 +74,12 @@ module _ (ts os ps : List ℕ) (q : ReadyQueue) (x : Error) where
   unfolding deliver_awaiter_failure send_error nobody_woken
   error-nobody l e = rw (← e)
 
-  pub error-to-task : (l : List LogEntry) (t : TaskId) {d : Delivery} → deliver_awaiter_failure (store_of ts os ps q l) (Awaiter.Task t) x ≡ d
+  pub error-to_task : (l : List LogEntry) (t : TaskId) {d : Delivery} → deliver_awaiter_failure (store_of ts os ps q l) (Awaiter.Task t) x ≡ d
       → {us : List ℕ} {r : ReadyQueue} (w : FoundTask)
       → delivered (store_of us os ps r (deliver_to_task (store_of ts os ps q l) t.0 (TaskState.Raised x)).store.log) w ≡ deliver_to_task (store_of ts os ps q l) t.0 (TaskState.Raised x)
       → delivered (store_of us os ps r d.store.log) w ≡ d
   unfolding deliver_awaiter_failure send_error
-  error-to-task l t e w f = rw (← e) f
+  error-to_task l t e w f = rw (← e) f
 
   module _ (g source : HeapId) {us : List ℕ} where
     pub error-stays : (l : List LogEntry) {d : Delivery} → deliver_awaiter_failure (store_of ts os ps q l) (Awaiter.GatherSlot g source) x ≡ d
@@ -96,8 +96,8 @@ module _ (ts os ps : List ℕ) (q : ReadyQueue) (x : Error) where
       error-sends : (fail_gather (store_of ts os ps q l) g.0 x).onward ≡ some w
       error-sends = sym (ap (λ (r : Settled). r.onward) f)
 
-      pub error-climbs : deliver_awaiter_failure (store_of ts us ps q l) w x ≡ deliver_awaiter_failure (store_of ts os ps q l) (Awaiter.GatherSlot g source) x
-      error-climbs =
+      pub error_climbs : deliver_awaiter_failure (store_of ts us ps q l) w x ≡ deliver_awaiter_failure (store_of ts os ps q l) (Awaiter.GatherSlot g source) x
+      error_climbs =
           ap (λ (r : Settled). deliver_awaiter_failure r.store w x) f
           ∙ sym (failure_climbs (store_of ts os ps q l) g source x w error-sized h error-sends)
 
@@ -112,6 +112,6 @@ module _ (ts os ps : List ℕ) (q : ReadyQueue) (x : Error) where
 pub some-places : List ℕ
 some-places = replicate places_length 0
 
-pub some-places_long : length some-places ≡ places_length
+pub some_places_long : length some-places ≡ places_length
 unfolding some-places
-some-places_long = refl
+some_places_long = refl

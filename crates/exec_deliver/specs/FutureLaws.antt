@@ -41,10 +41,10 @@ external_range os o {c = c} {s = s} {w = w} {y = y} e f a =
 
 module _ (ts os ps : List ℕ) (q : ReadyQueue) (l : List LogEntry) where
   module _ (o : ℕ) {x : Object} (e : x ≡ object_at os o) where
-    pub resolve-nothing : (v : Value) (y : Object) → x ≡ y → as_pending y ≡ none
+    pub resolve_nothing : (v : Value) (y : Object) → x ≡ y → as_pending y ≡ none
         → store_of ts os ps q (resolve_at (store_of ts os ps q l) o v).log ≡ resolve_at (store_of ts os ps q l) o v
     unfolding resolve_at settle_found settle_pending object
-    resolve-nothing v y f n = rw (← e, f, n)
+    resolve_nothing v y f n = rw (← e, f, n)
 
     pub fail-nothing : (v : Error) (y : Object) → x ≡ y → as_pending y ≡ none
         → store_of ts os ps q (fail_at (store_of ts os ps q l) o v).log ≡ fail_at (store_of ts os ps q l) o v
@@ -81,19 +81,19 @@ module _ (ts os ps : List ℕ) (q : ReadyQueue) (l : List LogEntry) where
     here : (n : HeapId) → d ≡ FoundObject.At n → pending_external_in os call ≡ some n.0
     here n t = object-found (pending_external_in os call) n (sym e ∙ t)
 
-    pub resolve-none : (v : Value) → d ≡ FoundObject.Nothing → store_of ts os ps q (resolve_future (store_of ts os ps q l) call v).log ≡ resolve_future (store_of ts os ps q l) call v
+    pub resolve_none : (v : Value) → d ≡ FoundObject.Nothing → store_of ts os ps q (resolve_future (store_of ts os ps q l) call v).log ≡ resolve_future (store_of ts os ps q l) call v
     unfolding resolve_future pending_external settle_found
-    resolve-none v t = rw (free t)
+    resolve_none v t = rw (free t)
 
     pub fail-none : (v : Error) → d ≡ FoundObject.Nothing → store_of ts os ps q (fail_future (store_of ts os ps q l) call v).log ≡ fail_future (store_of ts os ps q l) call v
     unfolding fail_future pending_external settle_found
     fail-none v t = rw (free t)
 
     module _ (n : HeapId) (t : d ≡ FoundObject.At n) {ts' os' ps' : List ℕ} {q' : ReadyQueue} where
-      pub resolve-found : (v : Value) → store_of ts' os' ps' q' (resolve_at (store_of ts os ps q l) n.0 v).log ≡ resolve_at (store_of ts os ps q l) n.0 v
+      pub resolve_found : (v : Value) → store_of ts' os' ps' q' (resolve_at (store_of ts os ps q l) n.0 v).log ≡ resolve_at (store_of ts os ps q l) n.0 v
           → store_of ts' os' ps' q' (resolve_future (store_of ts os ps q l) call v).log ≡ resolve_future (store_of ts os ps q l) call v
       unfolding resolve_future pending_external resolve_at
-      resolve-found v r = rw (here n t) r
+      resolve_found v r = rw (here n t) r
 
       pub fail-found : (v : Error) → store_of ts' os' ps' q' (fail_at (store_of ts os ps q l) n.0 v).log ≡ fail_at (store_of ts os ps q l) n.0 v
           → store_of ts' os' ps' q' (fail_future (store_of ts os ps q l) call v).log ≡ fail_future (store_of ts os ps q l) call v

@@ -18,7 +18,7 @@ use Rattle.exec_fill.specs.Delivered.{number, delivered}
 use Rattle.machine.specs.Store.{Store, LogEntry, exited, store_of, task, object, put_object, add_log}
 use Rattle.machine.specs.Scheduler.{pending_calls_in, pending_call_ids, remove_task, cleanup}
 use Rattle.machine.specs.Delivery.{Delivery, deliver_awaiter_success}
-use Rattle.machine.specs.Events.{Switched, waits, completed, resume-after-task-exit, resume-next, activate, handle-task-failure, handle_task_completion}
+use Rattle.machine.specs.Events.{Switched, waits, completed, resume_after_task_exit, resume_next, activate, handle_task_failure, handle_task_completion}
 use Rattle.machine.specs.Machine as machine
 use Rattle.machine.specs.Machine.{Step, is_empty, switched, end_main, task_completes, task_fails, repeat_wait, resume_with_resolved_futures}
 use Rattle.machine_laws.specs.Views.{Sized}
@@ -52,21 +52,21 @@ module _ (ts os ps : List ℕ) (q : ReadyQueue) (l : List LogEntry) where
       (d : delivered (store_of ts₂ os₂ ps₂ q₂ (deliver_awaiter_success (store_of ts₁ os₁ ps q₁ (exited t ∷ l)) r.awaiter v).store.log) m
       ≡ deliver_awaiter_success (store_of ts₁ os₁ ps q₁ (exited t ∷ l)) r.awaiter v) where
     gives : Store → Switched
-    gives s = resume-after-task-exit activate (deliver_awaiter_success (add_log s (exited t)) r.awaiter v)
+    gives s = resume_after_task_exit activate (deliver_awaiter_success (add_log s (exited t)) r.awaiter v)
 
     begins : handle_task_completion here t v ≡ gives (remove_task (store_of ts os₁ ps q l) t)
     unfolding handle_task_completion gives task object put_object
     begins = rw (← e, ← o)
 
-    leaves : gives (store_of ts₁ os₁ ps q₁ l) ≡ resume-after-task-exit activate (deliver_awaiter_success (store_of ts₁ os₁ ps q₁ (exited t ∷ l)) r.awaiter v)
+    leaves : gives (store_of ts₁ os₁ ps q₁ l) ≡ resume_after_task_exit activate (deliver_awaiter_success (store_of ts₁ os₁ ps q₁ (exited t ∷ l)) r.awaiter v)
     unfolding gives add_log
     leaves = refl
 
     pub completes : {ts' os' : List ℕ} {q' : ReadyQueue} (c : Control)
-        → switched_of (store_of ts' os' ps₂ q' (resume-after-task-exit activate (delivered (store_of ts₂ os₂ ps₂ q₂ (deliver_awaiter_success (store_of ts₁ os₁ ps q₁ (exited t ∷ l)) r.awaiter v).store.log) m)).store.log) c
-        ≡ resume-after-task-exit activate (delivered (store_of ts₂ os₂ ps₂ q₂ (deliver_awaiter_success (store_of ts₁ os₁ ps q₁ (exited t ∷ l)) r.awaiter v).store.log) m)
+        → switched_of (store_of ts' os' ps₂ q' (resume_after_task_exit activate (delivered (store_of ts₂ os₂ ps₂ q₂ (deliver_awaiter_success (store_of ts₁ os₁ ps q₁ (exited t ∷ l)) r.awaiter v).store.log) m)).store.log) c
+        ≡ resume_after_task_exit activate (delivered (store_of ts₂ os₂ ps₂ q₂ (deliver_awaiter_success (store_of ts₁ os₁ ps q₁ (exited t ∷ l)) r.awaiter v).store.log) m)
         → switched_of (store_of ts' os' ps₂ q' (handle_task_completion here t v).store.log) c ≡ handle_task_completion here t v
-    completes c u = same_switch (begins ∙ ap gives (sym (g os₁ ps l)) ∙ leaves ∙ ap (λ (k : Delivery). resume-after-task-exit activate k) (sym d)) c u
+    completes c u = same_switch (begins ∙ ap gives (sym (g os₁ ps l)) ∙ leaves ∙ ap (λ (k : Delivery). resume_after_task_exit activate k) (sym d)) c u
 
 -- ---- answers
 
@@ -88,9 +88,9 @@ module _ (ts os ps : List ℕ) (q : ReadyQueue) (l : List LogEntry) (t : TaskId)
   start = store_of ts os ps q l
 
   module _ (v : Value) where
-    pub complete-main : b ≡ true → {ts' os' : List ℕ} {q' : ReadyQueue} → store_of ts' os' ps q' (cleanup start).log ≡ cleanup start
+    pub complete_main : b ≡ true → {ts' os' : List ℕ} {q' : ReadyQueue} → store_of ts' os' ps q' (cleanup start).log ≡ cleanup start
         → stepped_of (store_of ts' os' ps q' (task_completes start t.0 v).store.log) (Answer.Finished v) ≡ task_completes start t.0 v
-    complete-main e r =
+    complete_main e r =
         let k : task_completes start t.0 v ≡ end_main start (machine.Answer.finished v) = unfold task_completes in (rw (sym m ∙ e)) in
         same_step k (Answer.Finished v) (end_answers start r (Answer.Finished v) (machine.Answer.finished v) (λ us. refl))
 
@@ -102,18 +102,18 @@ module _ (ts os ps : List ℕ) (q : ReadyQueue) (l : List LogEntry) (t : TaskId)
         same_step k (Answer.Switched c) (switch_answers (handle_task_completion start t.0 v) c r)
 
   module _ (x : Error) where
-    pub fail-main : b ≡ true → {ts' os' : List ℕ} {q' : ReadyQueue} → store_of ts' os' ps q' (cleanup start).log ≡ cleanup start
+    pub fail_main : b ≡ true → {ts' os' : List ℕ} {q' : ReadyQueue} → store_of ts' os' ps q' (cleanup start).log ≡ cleanup start
         → stepped_of (store_of ts' os' ps q' (task_fails start t.0 x).store.log) (Answer.FinishedError x) ≡ task_fails start t.0 x
-    fail-main e r =
+    fail_main e r =
         let k : task_fails start t.0 x ≡ end_main start (machine.Answer.finished_error x) = unfold task_fails in (rw (sym m ∙ e)) in
         same_step k (Answer.FinishedError x) (end_answers start r (Answer.FinishedError x) (machine.Answer.finished_error x) (λ us. refl))
 
     pub fail-spawned : b ≡ false → {ts' os' ps' : List ℕ} {q' : ReadyQueue} (c : Control)
-        → switched_of (store_of ts' os' ps' q' (handle-task-failure activate start t.0 x).store.log) c ≡ handle-task-failure activate start t.0 x
+        → switched_of (store_of ts' os' ps' q' (handle_task_failure activate start t.0 x).store.log) c ≡ handle_task_failure activate start t.0 x
         → stepped_of (store_of ts' os' ps' q' (task_fails start t.0 x).store.log) (Answer.Switched c) ≡ task_fails start t.0 x
     fail-spawned n c r =
-        let k : task_fails start t.0 x ≡ switched (handle-task-failure activate start t.0 x) = unfold task_fails in (rw (sym m ∙ n)) in
-        same_step k (Answer.Switched c) (switch_answers (handle-task-failure activate start t.0 x) c r)
+        let k : task_fails start t.0 x ≡ switched (handle_task_failure activate start t.0 x) = unfold task_fails in (rw (sym m ∙ n)) in
+        same_step k (Answer.Switched c) (switch_answers (handle_task_failure activate start t.0 x) c r)
 
 -- ---- resume
 
@@ -129,17 +129,17 @@ repeat_waits (c ∷ cs) e = refl
 
 module _ (ts os ps : List ℕ) (q : ReadyQueue) (l : List LogEntry) where
   module _ (e : q.len ≡ 0) {b : Bool} (n : b ≡ is_empty (pending_calls_in os)) where
-    pub resume-stalls : b ≡ true → stepped_of (store_of ts os ps q (resume_with_resolved_futures (store_of ts os ps q l)).store.log) Answer.Stalled ≡ resume_with_resolved_futures (store_of ts os ps q l)
+    pub resume_stalls : b ≡ true → stepped_of (store_of ts os ps q (resume_with_resolved_futures (store_of ts os ps q l)).store.log) Answer.Stalled ≡ resume_with_resolved_futures (store_of ts os ps q l)
     unfolding resume_with_resolved_futures pending_call_ids
-    resume-stalls k = rw (eq-eqb q.len 0 e, repeat_stalls (pending_calls_in os) (sym n ∙ k))
+    resume_stalls k = rw (eq-eqb q.len 0 e, repeat_stalls (pending_calls_in os) (sym n ∙ k))
 
     pub resume-waits : b ≡ false → stepped_of (store_of ts os ps q (resume_with_resolved_futures (store_of ts os ps q l)).store.log) (Answer.Switched Control.Waits) ≡ resume_with_resolved_futures (store_of ts os ps q l)
     unfolding resume_with_resolved_futures pending_call_ids
     resume-waits k = rw (eq-eqb q.len 0 e, repeat_waits (pending_calls_in os) (sym n ∙ k))
 
   pub resume-goes : (q.len ≡ 0 → ⊥) → {ts' os' : List ℕ} {q' : ReadyQueue} (c : Control)
-      → switched_of (store_of ts' os' ps q' (resume-next activate (store_of ts os ps q l)).store.log) c ≡ resume-next activate (store_of ts os ps q l)
+      → switched_of (store_of ts' os' ps q' (resume_next activate (store_of ts os ps q l)).store.log) c ≡ resume_next activate (store_of ts os ps q l)
       → stepped_of (store_of ts' os' ps q' (resume_with_resolved_futures (store_of ts os ps q l)).store.log) (Answer.Switched c) ≡ resume_with_resolved_futures (store_of ts os ps q l)
   resume-goes n c r =
-      let k : resume_with_resolved_futures (store_of ts os ps q l) ≡ switched (resume-next activate (store_of ts os ps q l)) = unfold resume_with_resolved_futures in (rw (ne_eqb q.len 0 n)) in
-      same_step k (Answer.Switched c) (switch_answers (resume-next activate (store_of ts os ps q l)) c r)
+      let k : resume_with_resolved_futures (store_of ts os ps q l) ≡ switched (resume_next activate (store_of ts os ps q l)) = unfold resume_with_resolved_futures in (rw (ne_eqb q.len 0 n)) in
+      same_step k (Answer.Switched c) (switch_answers (resume_next activate (store_of ts os ps q l)) c r)

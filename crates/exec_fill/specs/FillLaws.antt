@@ -10,14 +10,14 @@ use Rattle.rows.specs.Tables.{place_at, place_put}
 use Rattle.machine.specs.Delivery.{Filled, filled, fill_one, fill_from}
 
 module _ (ps : List ℕ) (m p i : ℕ) (source : ℕ) (v : Value) where
-  pub fill-shut : m / 2 ^ i % 2 ≡ 0 → filled ps m ≡ fill_one ps m p i source v
+  pub fill_shut : m / 2 ^ i % 2 ≡ 0 → filled ps m ≡ fill_one ps m p i source v
   unfolding fill_one
-  fill-shut e = rw (eq-eqb (m / 2 ^ i % 2) 0 e)
+  fill_shut e = rw (eq-eqb (m / 2 ^ i % 2) 0 e)
 
   module _ (b : m / 2 ^ i % 2 ≡ 0 → ⊥) {h : HeapId} (e : h ≡ (place_at ps p).item) where
-    pub fill-other : (h.0 ≡ source → ⊥) → filled ps m ≡ fill_one ps m p i source v
+    pub fill_other : (h.0 ≡ source → ⊥) → filled ps m ≡ fill_one ps m p i source v
     unfolding fill_one
-    fill-other n = rw (ne_eqb (m / 2 ^ i % 2) 0 b, ← e, ne_eqb h.0 source n)
+    fill_other n = rw (ne_eqb (m / 2 ^ i % 2) 0 b, ← e, ne_eqb h.0 source n)
 
     pub fill_here : h.0 ≡ source → {qs : List ℕ} → qs ≡ place_put ps p (record { item = h; result = OptionValue.Some v }) → {k : ℕ} → k ≡ m - 2 ^ i
         → filled qs k ≡ fill_one ps m p i source v

@@ -28,29 +28,29 @@ module _ (ts os ps : List ℕ) (q : ReadyQueue) (l : List LogEntry) (t : ℕ) (x
   unfolding deliver_to_task add_log task
   reaches k m = rw (← e, k, ← m)
 
-  pub reaches-not : b ≡ false → delivered (store_of ts os ps q (deliver_to_task (store_of ts os ps q l) t x).store.log) FoundTask.Nothing ≡ deliver_to_task (store_of ts os ps q l) t x
+  pub reaches_not : b ≡ false → delivered (store_of ts os ps q (deliver_to_task (store_of ts os ps q l) t x).store.log) FoundTask.Nothing ≡ deliver_to_task (store_of ts os ps q l) t x
   unfolding deliver_to_task nobody_woken task
-  reaches-not k = rw (← e, k)
+  reaches_not k = rw (← e, k)
 
 -- ---- into a gather
 
 module _ (ts os ps : List ℕ) (q : ReadyQueue) (l : List LogEntry) (g : ℕ) {a : OptionAwaited} (e : option_awaited a ≡ as_awaited (object_at os g)) where
   module _ (source : ℕ) (v : Value) where
-    pub resolve-idle : a ≡ OptionAwaited.None → settled (store_of ts os ps q l) Onward.Nowhere ≡ resolve_child (store_of ts os ps q l) g source v
+    pub resolve_idle : a ≡ OptionAwaited.None → settled (store_of ts os ps q l) Onward.Nowhere ≡ resolve_child (store_of ts os ps q l) g source v
     unfolding resolve_child resolve_awaited object
-    resolve-idle f = rw (← e, f)
+    resolve_idle f = rw (← e, f)
 
     module _ (w : AwaitedGather) (f : a ≡ OptionAwaited.Some w) {rs : List ℕ} {k : ℕ}
         (fills : filled rs k ≡ fill_from ps w.open_places w.first source v 0 w.count) where
-      pub resolve-completes : k ≡ 0 → {us : List ℕ} → us ≡ object_put os g (Object.GatherFuture w.first w.count GatherState.Completed)
+      pub resolve_completes : k ≡ 0 → {us : List ℕ} → us ≡ object_put os g (Object.GatherFuture w.first w.count GatherState.Completed)
           → settled (store_of ts us rs q l) (Onward.To w.awaiter) ≡ resolve_child (store_of ts os ps q l) g source v
       unfolding resolve_child resolve_awaited resolve_left object put_places put_object
-      resolve-completes z p = rw (← e, f, ← fills, eq-eqb k 0 z, p)
+      resolve_completes z p = rw (← e, f, ← fills, eq-eqb k 0 z, p)
 
-      pub resolve-waits : (k ≡ 0 → ⊥) → {us : List ℕ} → us ≡ object_put os g (Object.GatherFuture w.first w.count (GatherState.Awaited w.awaiter k))
+      pub resolve_waits : (k ≡ 0 → ⊥) → {us : List ℕ} → us ≡ object_put os g (Object.GatherFuture w.first w.count (GatherState.Awaited w.awaiter k))
           → settled (store_of ts us rs q l) Onward.Nowhere ≡ resolve_child (store_of ts os ps q l) g source v
       unfolding resolve_child resolve_awaited resolve_left object put_places put_object
-      resolve-waits z p = rw (← e, f, ← fills, ne_eqb k 0 z, p)
+      resolve_waits z p = rw (← e, f, ← fills, ne_eqb k 0 z, p)
 
   module _ (x : Error) where
     pub fail-idle : a ≡ OptionAwaited.None → settled (store_of ts os ps q l) Onward.Nowhere ≡ fail_gather (store_of ts os ps q l) g x

@@ -41,9 +41,9 @@ module _ (ts os ps : List ℕ) (q : ReadyQueue) (l : List LogEntry) {h : Header}
 
 module _ (os : List ℕ) (z : length os ≡ objects_length) (c : CallId) (k : c.0 < call_limit) {us : List ℕ}
     (g : (ts ps : List ℕ) (q : ReadyQueue) (l : List LogEntry) → store_of ts us ps q l ≡ set_calls (store_of ts os ps q l) (c.0 + 1)) where
-  pub allocated-made : (header_at us).made ≡ (header_at os).made
+  pub allocated_made : (header_at us).made ≡ (header_at os).made
   unfolding set_calls put_header header
-  allocated-made =
+  allocated_made =
       let f : HeaderFits (header_at os) = header_at-fits os in
       rw (ap (λ (s : Store). s.objects) (g [] [] empty_queue []))
       (ap (λ (x : Header). x.made)
@@ -73,8 +73,8 @@ module _ (items : List ℕ) (first : ℕ) (ts os : List ℕ) (q : ReadyQueue) (l
   unfolding put_items
   items-end ps i e = rw (e, drop-length items)
 
-  pub items-begin : (ps : List ℕ) → put_items (store_of ts os ps q l) (first + 0) (drop 0 items) ≡ put_items (store_of ts os ps q l) first items
-  items-begin ps = rw (add-zero first)
+  pub items_begin : (ps : List ℕ) → put_items (store_of ts os ps q l) (first + 0) (drop 0 items) ≡ put_items (store_of ts os ps q l) first items
+  items_begin ps = rw (add-zero first)
 
 pub gathers : (ts os ps : List ℕ) (q : ReadyQueue) (l : List LogEntry) {h : Header} → h ≡ header_at os → (items : List ℕ) {n : ℕ} → n ≡ length items → {os' ps' : List ℕ}
     → store_of ts os ps' q l ≡ put_items (store_of ts os ps q l) h.used items

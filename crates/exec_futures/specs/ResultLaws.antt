@@ -22,36 +22,36 @@ module _ (ts os ps : List ℕ) (q : ReadyQueue) (l : List LogEntry) (r : Result)
   abbrev here : Store
   here = store_of ts os ps q l
 
-  pub applies-value : kind ≡ 0 → {tag number : ℕ} → tag ≡ r.tag → number ≡ r.number → {v : Value} → v ≡ to_value tag number → {ts' os' ps' : List ℕ} {q' : ReadyQueue}
+  pub applies_value : kind ≡ 0 → {tag number : ℕ} → tag ≡ r.tag → number ≡ r.number → {v : Value} → v ≡ to_value tag number → {ts' os' ps' : List ℕ} {q' : ReadyQueue}
       → store_of ts' os' ps' q' (resolve_future here call v).log ≡ resolve_future here call v → store_of ts' os' ps' q' (apply_result here r).log ≡ apply_result here r
-  applies-value z {tag} {number} t n {v} u x =
+  applies_value z {tag} {number} t n {v} u x =
       let e : apply_result here r ≡ resolve_future here call v = unfold apply_result in (rw (← k, eq-eqb kind 0 z, c, u, t, n)) in
       same_store e x
 
   module _ (z : kind ≡ 0 → ⊥) where
-    pub applies-error : kind ≡ 1 → {number : ℕ} → number ≡ r.number → {x : Error} → x ≡ to_error 0 number → {ts' os' ps' : List ℕ} {q' : ReadyQueue}
+    pub applies_error : kind ≡ 1 → {number : ℕ} → number ≡ r.number → {x : Error} → x ≡ to_error 0 number → {ts' os' ps' : List ℕ} {q' : ReadyQueue}
         → store_of ts' os' ps' q' (fail_future here call x).log ≡ fail_future here call x → store_of ts' os' ps' q' (apply_result here r).log ≡ apply_result here r
-    applies-error y {number} n {x} u d =
+    applies_error y {number} n {x} u d =
         let e : apply_result here r ≡ fail_future here call x = unfold apply_result in (rw (← k, ne_eqb kind 0 z, eq-eqb kind 1 y, c, u, n)) in
         same_store e d
 
     module _ (y : kind ≡ 1 → ⊥) where
-      pub applies-nothing : kind ≡ 2 → store_of ts os ps q (apply_result here r).log ≡ apply_result here r
-      applies-nothing w =
+      pub applies_nothing : kind ≡ 2 → store_of ts os ps q (apply_result here r).log ≡ apply_result here r
+      applies_nothing w =
           let e : apply_result here r ≡ here = unfold apply_result in (rw (← k, ne_eqb kind 0 z, ne_eqb kind 1 y, eq-eqb kind 2 w)) in
           same_store e refl
 
       module _ (w : kind ≡ 2 → ⊥) {ts' os' ps' : List ℕ} {q' : ReadyQueue} where
-        pub applies-not-found : kind ≡ 3 → store_of ts' os' ps' q' (fail_future here call Error.NotFound).log ≡ fail_future here call Error.NotFound
+        pub applies_not-found : kind ≡ 3 → store_of ts' os' ps' q' (fail_future here call Error.NotFound).log ≡ fail_future here call Error.NotFound
             → store_of ts' os' ps' q' (apply_result here r).log ≡ apply_result here r
-        applies-not-found v d =
+        applies_not-found v d =
             let e : apply_result here r ≡ fail_future here call Error.NotFound =
             unfold apply_result in (rw (← k, ne_eqb kind 0 z, ne_eqb kind 1 y, ne_eqb kind 2 w, eq-eqb kind 3 v, c)) in
             same_store e d
 
-        pub applies-module-file : (kind ≡ 3 → ⊥) → store_of ts' os' ps' q' (fail_future here call Error.ModuleFile).log ≡ fail_future here call Error.ModuleFile
+        pub applies_module_file : (kind ≡ 3 → ⊥) → store_of ts' os' ps' q' (fail_future here call Error.ModuleFile).log ≡ fail_future here call Error.ModuleFile
             → store_of ts' os' ps' q' (apply_result here r).log ≡ apply_result here r
-        applies-module-file v d =
+        applies_module_file v d =
             let e : apply_result here r ≡ fail_future here call Error.ModuleFile =
             unfold apply_result in (rw (← k, ne_eqb kind 0 z, ne_eqb kind 1 y, ne_eqb kind 2 w, ne_eqb kind 3 v, c)) in
             same_store e d
@@ -110,13 +110,13 @@ pub record Applied (bs ts₀ os₀ ps₀ : List ℕ) (q₀ : ReadyQueue) (i : �
       → store_of ts os ps queue (apply_future_results (store_of ts₀ os₀ ps₀ q₀ l) (results_from bs 0 i)).log ≡ apply_future_results (store_of ts₀ os₀ ps₀ q₀ l) (results_from bs 0 i)
 
 module _ (bs ts₀ os₀ ps₀ : List ℕ) (q₀ : ReadyQueue) where
-  pub applied-begin : Applied bs ts₀ os₀ ps₀ q₀ 0 ts₀ os₀ ps₀ q₀
-  applied-begin = record { queue = q₀; long = omega arith; in_order = sym (order_none q₀ q₀.len (omega arith)); does = λ l. results_begin bs (store_of ts₀ os₀ ps₀ q₀ l) }
+  pub applied_begin : Applied bs ts₀ os₀ ps₀ q₀ 0 ts₀ os₀ ps₀ q₀
+  applied_begin = record { queue = q₀; long = omega arith; in_order = sym (order_none q₀ q₀.len (omega arith)); does = λ l. results_begin bs (store_of ts₀ os₀ ps₀ q₀ l) }
 
-  pub applied-turn : (i : ℕ) {ts os ps : List ℕ} {left : ReadyQueue} → Applied bs ts₀ os₀ ps₀ q₀ i ts os ps left → {ts' os' ps' : List ℕ} (w : FoundTask)
+  pub applied_turn : (i : ℕ) {ts os ps : List ℕ} {left : ReadyQueue} → Applied bs ts₀ os₀ ps₀ q₀ i ts os ps left → {ts' os' ps' : List ℕ} (w : FoundTask)
       → ((q : ReadyQueue) (l : List LogEntry) → store_of ts' os' ps' (queued q w) (apply_result (store_of ts os ps q l) (result_at bs (i * 14))).log ≡ apply_result (store_of ts os ps q l) (result_at bs (i * 14)))
       → {left' : ReadyQueue} → left' ≡ queued_in_order left w q₀.len → Applied bs ts₀ os₀ ps₀ q₀ (i + 1) ts' os' ps' left'
-  applied-turn i k w r e =
+  applied_turn i k w r e =
       record {
         queue = queued k.queue w;
         long = queued_long k.queue w q₀.len k.long;
@@ -124,8 +124,8 @@ module _ (bs ts₀ os₀ ps₀ : List ℕ) (q₀ : ReadyQueue) where
         does = λ l. results-turn bs (store_of ts₀ os₀ ps₀ q₀ l) i (k.does l) (r k.queue);
       }
 
-  pub applied-end : (i : ℕ) → i ≡ length bs / 14 → {ts os ps : List ℕ} {left : ReadyQueue} → Applied bs ts₀ os₀ ps₀ q₀ i ts os ps left → (l : List LogEntry)
+  pub applied_end : (i : ℕ) → i ≡ length bs / 14 → {ts os ps : List ℕ} {left : ReadyQueue} → Applied bs ts₀ os₀ ps₀ q₀ i ts os ps left → (l : List LogEntry)
       → store_of ts os ps left (wake_in_order (store_of ts₀ os₀ ps₀ q₀ l) (apply_future_results (store_of ts₀ os₀ ps₀ q₀ l) (results_in bs))).log
       ≡ wake_in_order (store_of ts₀ os₀ ps₀ q₀ l) (apply_future_results (store_of ts₀ os₀ ps₀ q₀ l) (results_in bs))
   unfolding wake_in_order put_queue
-  applied-end i e k l = rw k.in_order (ap (λ (u : Store). put_queue u (order_from u.queue q₀.len)) (results_end bs (store_of ts₀ os₀ ps₀ q₀ l) i e (k.does l)))
+  applied_end i e k l = rw k.in_order (ap (λ (u : Store). put_queue u (order_from u.queue q₀.len)) (results_end bs (store_of ts₀ os₀ ps₀ q₀ l) i e (k.does l)))

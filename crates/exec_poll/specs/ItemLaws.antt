@@ -40,20 +40,20 @@ module _ (s : Store) (o : ℕ) (c : CallId) (r : OptionValue) (a : Awaiter) wher
 module _ (ts os ps : List ℕ) (q : ReadyQueue) (l : List LogEntry) (o : ℕ) (c : CallId) (a : Awaiter) {x : ExternalFutureState} where
   module _ (b : Awaiter) (r : OptionValue) (e : x ≡ ExternalFutureState.Pending b r) {n : Bool} (f : n ≡ is_nobody b) where
     -- it takes the awaiter
-    pub external-taken : n ≡ true → {us : List ℕ} → us ≡ object_put os o (Object.ExternalFuture c (ExternalFutureState.Pending a r))
+    pub external_taken : n ≡ true → {us : List ℕ} → us ≡ object_put os o (Object.ExternalFuture c (ExternalFutureState.Pending a r))
         → gives (store_of ts us ps q l) pending ≡ await_external (store_of ts os ps q l) o c x a
     unfolding await_external put_object
-    external-taken t p = rw (e, p) (unfold put_object in awaits (store_of ts os ps q l) o c r a b (sym f ∙ t))
+    external_taken t p = rw (e, p) (unfold put_object in awaits (store_of ts os ps q l) o c r a b (sym f ∙ t))
 
     -- it has one
-    pub external-refused : n ≡ false → gives (store_of ts os ps q l) (raised Error.FutureReuse) ≡ await_external (store_of ts os ps q l) o c x a
+    pub external_refused : n ≡ false → gives (store_of ts os ps q l) (raised Error.FutureReuse) ≡ await_external (store_of ts os ps q l) o c x a
     unfolding await_external
-    external-refused t = rw e (awaits-not (store_of ts os ps q l) o c r a b (sym f ∙ t))
+    external_refused t = rw e (awaits-not (store_of ts os ps q l) o c r a b (sym f ∙ t))
 
   -- it was settled before
-  pub external-settled : {p : Polled} (y : ExternalFutureState) → x ≡ y → p ≡ await_external (store_of ts os ps q l) o c y a
+  pub external_settled : {p : Polled} (y : ExternalFutureState) → x ≡ y → p ≡ await_external (store_of ts os ps q l) o c y a
       → p ≡ await_external (store_of ts os ps q l) o c x a
-  external-settled y e f = rw e f
+  external_settled y e f = rw e f
 
 -- ---- a coroutine
 
@@ -108,17 +108,17 @@ module _ (ts os ps : List ℕ) (q : ReadyQueue) (l : List LogEntry) (g o : ℕ) 
   unfolding item_object object
   item-spawns n y f p h = rw (← e, f) (ap (λ (d : Polled). itemed here (polled d)) h)
 
-  pub item-awaits : (c : CallId) (y : ExternalFutureState) → x ≡ Object.ExternalFuture c y → {vs : List ℕ} (p : Poll)
+  pub item_awaits : (c : CallId) (y : ExternalFutureState) → x ≡ Object.ExternalFuture c y → {vs : List ℕ} (p : Poll)
       → gives (store_of ts vs ps q l) (poll_of p) ≡ await_external here o c y (Awaiter.GatherSlot (heap_id g) (heap_id o))
       → with_item (store_of ts vs ps q (item_here here g o).store.log) (ItemPoll.Polled p) ≡ item_here here g o
   unfolding item_object object
-  item-awaits c y f p h = rw (← e, f, ← h)
+  item_awaits c y f p h = rw (← e, f, ← h)
 
-  pub item-nests : (i n : ℕ) (y : GatherState) → x ≡ Object.GatherFuture i n y → (r : ItemPoll) → with_item here r ≡ itemed here (item_gather here o y)
+  pub item_nests : (i n : ℕ) (y : GatherState) → x ≡ Object.GatherFuture i n y → (r : ItemPoll) → with_item here r ≡ itemed here (item_gather here o y)
       → with_item (store_of ts os ps q (item_here here g o).store.log) r ≡ item_here here g o
   unfolding item_object object
-  item-nests i n y f (ItemPoll.Polled p) h = rw (← e, f, ← h)
-  item-nests i n y f ItemPoll.Nested h = rw (← e, f, ← h)
+  item_nests i n y f (ItemPoll.Polled p) h = rw (← e, f, ← h)
+  item_nests i n y f ItemPoll.Nested h = rw (← e, f, ← h)
 
 module _ (ts os ps : List ℕ) (q : ReadyQueue) (l : List LogEntry) (g : ℕ) (w : scheduler.AwaitedGather) (o : ℕ) {b : Bool}
     (e : b ≡ open_from (λ p. place_at ps p) w o 0 w.count) where
@@ -126,13 +126,13 @@ module _ (ts os ps : List ℕ) (q : ReadyQueue) (l : List LogEntry) (g : ℕ) (w
   from = store_of ts os ps q l
 
   -- an open place names it
-  pub item-open : b ≡ true → with_item (store_of ts os ps q (item_at from g w o).store.log) (ItemPoll.Polled Poll.Pending) ≡ item_at from g w o
+  pub item_open : b ≡ true → with_item (store_of ts os ps q (item_at from g w o).store.log) (ItemPoll.Polled Poll.Pending) ≡ item_at from g w o
   unfolding item place
-  item-open f = rw (← e, f)
+  item_open f = rw (← e, f)
 
   -- none does
-  pub item-first : b ≡ false → {us vs : List ℕ} {r : ReadyQueue} (p : ItemPoll)
+  pub item_first : b ≡ false → {us vs : List ℕ} {r : ReadyQueue} (p : ItemPoll)
       → with_item (store_of us vs ps r (item_here from g o).store.log) p ≡ item_here from g o
       → with_item (store_of us vs ps r (item_at from g w o).store.log) p ≡ item_at from g w o
   unfolding item place
-  item-first f p h = rw (← e, f) h
+  item_first f p h = rw (← e, f) h

@@ -13,7 +13,7 @@ use Rattle.machine.specs.Scheduler.{pending_calls_in, pending_call_ids}
 use Rattle.machine.specs.Events.{run, yield}
 use Rattle.machine_laws.specs.Views.{Sized}
 use Rattle.machine_laws.specs.SizedLaws.{waiting_calls}
-use Rattle.exec_deliver.specs.ClimbLaws.{some-places, some-places_long}
+use Rattle.exec_deliver.specs.ClimbLaws.{some-places, some_places_long}
 use Rattle.exec_switch.specs.Control.{moment_put, how_of, control_of, switched_of}
 use Rattle.exec_switch.specs.declared.control.How.{How}
 use Rattle.exec_switch.specs.declared.control.Control.{Control}
@@ -21,15 +21,15 @@ use Rattle.exec_switch.specs.declared.control.Control.{Control}
 pub some-tasks : List ℕ
 some-tasks = replicate tasks_length 0
 
-pub some-tasks_long : length some-tasks ≡ tasks_length
+pub some_tasks_long : length some-tasks ≡ tasks_length
 unfolding some-tasks
-some-tasks_long = refl
+some_tasks_long = refl
 
 -- another moment leaves the pending calls
 waiting-same : (os : List ℕ) (q : ReadyQueue) (l : List LogEntry) → length os ≡ objects_length → pending_calls_in (moment_put os Moment.Waiting) ≡ pending_calls_in os
 unfolding pending_call_ids set_moment put_header header moment_put
 waiting-same os q l y =
-    waiting_calls (store_of some-tasks os some-places q l) (record { tasks-sized = some-tasks_long; objects-sized = y; places-sized = some-places_long })
+    waiting_calls (store_of some-tasks os some-places q l) (record { tasks-sized = some_tasks_long; objects-sized = y; places-sized = some_places_long })
 
 module _ (ts os ps : List ℕ) (q : ReadyQueue) (l : List LogEntry) where
   pub runs_now : (t : TaskId) (h : How) {ts' os' : List ℕ} → ts' ≡ task_put ts t.0 (restate (task_at ts t.0) TaskState.Running) → os' ≡ moment_put os (Moment.Running t)

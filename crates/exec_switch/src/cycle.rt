@@ -4,7 +4,7 @@ ghost use Rattle.std.specs.Prelude.{◌≡◌, ◌<◌};
 ghost use Rattle.asyncio.specs.Limits.{task_limit, object_limit};
 ghost use Rattle.rows.specs.Tables.{object_at};
 ghost use Rattle.exec_fill.specs.Delivered.{delivered};
-ghost use Rattle.machine.specs.Events.{new_function, activate, start-task, handle-task-failure, resume-after-task-exit, resume-next};
+ghost use Rattle.machine.specs.Events.{new_function, activate, start_task, handle_task_failure, resume_after_task_exit, resume_next};
 ghost use Rattle.exec_switch.specs.Control.{function_of, FoundFits, SwitchesKeepingPlaces};
 ghost use Rattle.contract.specs.Contract.{ObjectsLength, Lengths₂, Lengths₂And};
 
@@ -78,7 +78,7 @@ fn start_task(
 ) -> Control
     requires { Lengths₂And tasks objects (t.0 < task_limit) }
     ensures { SwitchesKeepingPlaces tasks objects ids len
-        (λ s. start-task activate s t.0) result }
+        (λ s. start_task activate s t.0) result }
 {
     let c = rows::parts::coroutine_at(tasks, t);
     let f = new_function(objects, c);
@@ -125,7 +125,7 @@ pub fn handle_task_failure(
 ) -> Control
     requires { Lengths₂And tasks objects (t.0 < task_limit) }
     ensures { SwitchesKeepingPlaces tasks objects ids len
-        (λ s. handle-task-failure activate s t.0 error) result }
+        (λ s. handle_task_failure activate s t.0 error) result }
 {
     let awaiter = rows::parts::task_awaiter_at(tasks, t);
     let woken = deliver_awaiter_failure(tasks, objects, awaiter, error);
@@ -145,7 +145,7 @@ pub fn resume_after_task_exit(
 ) -> Control
     requires { Lengths₂And tasks objects (FoundFits woken) }
     ensures { SwitchesKeepingPlaces tasks objects ids len
-        (λ s. resume-after-task-exit activate (delivered s woken)) result }
+        (λ s. resume_after_task_exit activate (delivered s woken)) result }
 {
     match woken {
         FoundTask::Nothing => switch_or_yield(tasks, objects, ids, len),
@@ -166,7 +166,7 @@ pub fn switch_or_yield(
 ) -> Control
     requires { Lengths₂ tasks objects }
     ensures { SwitchesKeepingPlaces tasks objects ids len
-        (λ s. resume-next activate s) result }
+        (λ s. resume_next activate s) result }
 {
     let n = *len;
     if n == 0 {

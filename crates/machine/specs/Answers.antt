@@ -21,48 +21,48 @@ abbrev pub says : ℕ → List ℕ → Numbers
 says w vs = record { refusal = 0; word = w; values = vs }
 
 -- an error: its place in the list of errors, and its number, 0 where it has none
-unfoldable pub error-numbers : Error → List ℕ
-error-numbers e = (error_words e).0 ∷ (error_words e).1 ∷ []
+unfoldable pub error_numbers : Error → List ℕ
+error_numbers e = (error_words e).0 ∷ (error_words e).1 ∷ []
 
 -- 0 start with coroutine and function, 1 value, 2 raised with error, 3 inline with coroutine
-unfoldable pub how-numbers : How → List ℕ
-how-numbers (start c f) = 0 ∷ c ∷ f ∷ []
-how-numbers (value v) = 1 ∷ value_numbers v
-how-numbers (raises e) = 2 ∷ error-numbers e
-how-numbers (inline c) = 3 ∷ c ∷ []
+unfoldable pub how_numbers : How → List ℕ
+how_numbers (start c f) = 0 ∷ c ∷ f ∷ []
+how_numbers (value v) = 1 ∷ value_numbers v
+how_numbers (raises e) = 2 ∷ error_numbers e
+how_numbers (inline c) = 3 ∷ c ∷ []
 
 -- runs: the task and how; waits: the count and the calls
-unfoldable pub control-numbers : Control → List ℕ → Numbers
-control-numbers (runs t h) rest = says 3 (t ∷ (how-numbers h ++ rest))
-control-numbers (waits cs) rest = says 4 (length cs ∷ (cs ++ rest))
+unfoldable pub control_numbers : Control → List ℕ → Numbers
+control_numbers (runs t h) rest = says 3 (t ∷ (how_numbers h ++ rest))
+control_numbers (waits cs) rest = says 4 (length cs ∷ (cs ++ rest))
 
 -- a place: 0 open, 1 and its value
-unfoldable pub place-numbers : Option Value → List ℕ
-place-numbers none = 0 ∷ []
-place-numbers (some v) = 1 ∷ value_numbers v
+unfoldable pub place_numbers : Option Value → List ℕ
+place_numbers none = 0 ∷ []
+place_numbers (some v) = 1 ∷ value_numbers v
 
 -- places one after the other
-unfoldable pub places-numbers : List (Option Value) → List ℕ
-places-numbers [] = []
-places-numbers (x ∷ xs) = place-numbers x ++ places-numbers xs
+unfoldable pub places_numbers : List (Option Value) → List ℕ
+places_numbers [] = []
+places_numbers (x ∷ xs) = place_numbers x ++ places_numbers xs
 
 -- a coroutine's state: 0 new, 1 running, 2 completed
-unfoldable pub coroutine-number : CoroutineState → ℕ
-coroutine-number CoroutineState.New = 0
-coroutine-number CoroutineState.Running = 1
-coroutine-number CoroutineState.Completed = 2
+unfoldable pub coroutine_number : CoroutineState → ℕ
+coroutine_number CoroutineState.New = 0
+coroutine_number CoroutineState.Running = 1
+coroutine_number CoroutineState.Completed = 2
 
 -- the sort: 0 coroutine, 1 external, 2 gather; its state; then what document 01 lists
-unfoldable pub shown-numbers : Shown → List ℕ
-shown-numbers (Shown.a_coroutine x f) = 0 ∷ coroutine-number x ∷ f ∷ []
-shown-numbers Shown.an_external_pending = 1 ∷ 0 ∷ []
-shown-numbers (Shown.an_external_resolved v) = 1 ∷ 1 ∷ value_numbers v
-shown-numbers (Shown.an_external_failed e) = 1 ∷ 2 ∷ error-numbers e
-shown-numbers Shown.a_gather_pending = 2 ∷ 0 ∷ []
-shown-numbers (Shown.a_gather_awaited ps) = 2 ∷ 1 ∷ length ps ∷ places-numbers ps
-shown-numbers (Shown.a_gather_completed ps) = 2 ∷ 2 ∷ length ps ∷ places-numbers ps
-shown-numbers (Shown.a_gather_failed e) = 2 ∷ 3 ∷ error-numbers e
-shown-numbers Shown.nothing = []
+unfoldable pub shown_numbers : Shown → List ℕ
+shown_numbers (Shown.a_coroutine x f) = 0 ∷ coroutine_number x ∷ f ∷ []
+shown_numbers Shown.an_external_pending = 1 ∷ 0 ∷ []
+shown_numbers (Shown.an_external_resolved v) = 1 ∷ 1 ∷ value_numbers v
+shown_numbers (Shown.an_external_failed e) = 1 ∷ 2 ∷ error_numbers e
+shown_numbers Shown.a_gather_pending = 2 ∷ 0 ∷ []
+shown_numbers (Shown.a_gather_awaited ps) = 2 ∷ 1 ∷ length ps ∷ places_numbers ps
+shown_numbers (Shown.a_gather_completed ps) = 2 ∷ 2 ∷ length ps ∷ places_numbers ps
+shown_numbers (Shown.a_gather_failed e) = 2 ∷ 3 ∷ error_numbers e
+shown_numbers Shown.nothing = []
 
 -- 1 yes, 0 no
 unfoldable pub yes_no : Bool → ℕ
@@ -70,16 +70,16 @@ yes_no true = 1
 yes_no false = 0
 
 -- finished: 0 and the value, or 1 and the error; an accepted await's values end with its steps
-unfoldable pub answer-numbers : Answer → Numbers
-answer-numbers (Answer.made o) = says 1 (o ∷ [])
-answer-numbers (Answer.called n) = says 2 (n ∷ [])
-answer-numbers (Answer.control c) = control-numbers c []
-answer-numbers (Answer.awaited c n) = control-numbers c (n ∷ [])
-answer-numbers Answer.done = says 5 []
-answer-numbers (Answer.cancelled n) = says 5 (n ∷ [])
-answer-numbers Answer.stalled = says 6 []
-answer-numbers (Answer.finished v) = says 7 (0 ∷ value_numbers v)
-answer-numbers (Answer.finished_error e) = says 7 (1 ∷ error-numbers e)
-answer-numbers (Answer.is_eager b) = says 8 (yes_no b ∷ [])
-answer-numbers (Answer.refused n) = record { refusal = n; word = 9; values = n ∷ [] }
-answer-numbers (Answer.shows x) = says 10 (shown-numbers x)
+unfoldable pub answer_numbers : Answer → Numbers
+answer_numbers (Answer.made o) = says 1 (o ∷ [])
+answer_numbers (Answer.called n) = says 2 (n ∷ [])
+answer_numbers (Answer.control c) = control_numbers c []
+answer_numbers (Answer.awaited c n) = control_numbers c (n ∷ [])
+answer_numbers Answer.done = says 5 []
+answer_numbers (Answer.cancelled n) = says 5 (n ∷ [])
+answer_numbers Answer.stalled = says 6 []
+answer_numbers (Answer.finished v) = says 7 (0 ∷ value_numbers v)
+answer_numbers (Answer.finished_error e) = says 7 (1 ∷ error_numbers e)
+answer_numbers (Answer.is_eager b) = says 8 (yes_no b ∷ [])
+answer_numbers (Answer.refused n) = record { refusal = n; word = 9; values = n ∷ [] }
+answer_numbers (Answer.shows x) = says 10 (shown_numbers x)

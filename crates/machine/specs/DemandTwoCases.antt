@@ -5,7 +5,7 @@ use Rattle.asyncio.specs.declared.Value.{Value}
 use Rattle.asyncio.specs.declared.Error.{Error}
 use Rattle.asyncio.specs.Numbers.{heap_id}
 use Rattle.machine.specs.Machine.{Event}
-use Rattle.machine.specs.Gather.{Gathered, waiting, listed, propagated, outcome_of, first-raised, put_first, in_order, gather}
+use Rattle.machine.specs.Gather.{Gathered, waiting, listed, propagated, outcome_of, first_raised, put_first, in_order, gather}
 use Rattle.machine.specs.History.{items}
 use Rattle.machine.specs.Sessions.{Sent, Session, begun, session}
 use Rattle.machine.specs.Singles.{batch_of, accepted_batch, each_alone, cut_by, cut}
@@ -24,7 +24,7 @@ shown_and_documented x =
     let s : Session = session x.events in (seen (look s.store x.gathered), gather (items s.history x.gathered) (arrivals_from begun x.events x.gathered))
 
 unfoldable pub computes2 : Unit {0}
-unfolding computes3 came committed values seen arrives arrivals_of is_late early late in_turn arrivals_by arrivals_in arrivals_along arrivals_from outcome_of first-raised put_first in_order gather batch_of accepted_batch each_alone cut_by cut shown_and_documented
+unfolding computes3 came committed values seen arrives arrivals_of is_late early late in_turn arrivals_by arrivals_in arrivals_along arrivals_from outcome_of first_raised put_first in_order gather batch_of accepted_batch each_alone cut_by cut shown_and_documented
 computes2 = tt
 
 -- calls 0 and 1 in a gather, call 1 first; then these events

@@ -66,42 +66,42 @@ new_function (Object.GatherFuture f n x) = none
 -- Starting a task, failing it and resuming the next call each other; `activate` is the call that closes the cycle.
 module _ (activate : Store → ℕ → Switched) where
   -- the task at the queue's front, or the host
-  unfoldable pub resume-next : Store → Switched
-  resume-next s = pick (eqb s.queue.len 0) (yield s) (activate (put_queue s (pop_front s.queue)) (front_of s.queue).0)
+  unfoldable pub resume_next : Store → Switched
+  resume_next s = pick (eqb s.queue.len 0) (yield s) (activate (put_queue s (pop_front s.queue)) (front_of s.queue).0)
 
   -- the task that an exit woke goes ahead of the queue
-  unfoldable pub resume-after-task-exit : Delivery → Switched
-  resume-after-task-exit d =
-      elim d.woken [ none ↦ resume-next d.store | some t ↦ activate (remove_from_ready_queue d.store t) t ]
+  unfoldable pub resume_after_task_exit : Delivery → Switched
+  resume_after_task_exit d =
+      elim d.woken [ none ↦ resume_next d.store | some t ↦ activate (remove_from_ready_queue d.store t) t ]
 
   -- its awaiter gets the error, and the task goes; its coroutine keeps its state
-  unfoldable pub handle-task-failure : Store → ℕ → Error → Switched
-  handle-task-failure s t e =
+  unfoldable pub handle_task_failure : Store → ℕ → Error → Switched
+  handle_task_failure s t e =
       let d : Delivery = deliver_awaiter_failure s (task s t).awaiter e in
-      resume-after-task-exit (record { store = add_log (remove_task d.store t) (exited t); woken = d.woken })
+      resume_after_task_exit (record { store = add_log (remove_task d.store t) (exited t); woken = d.woken })
 
   -- a coroutine that is not new any more fails the task
-  unfoldable pub start-by : Store → ℕ → ℕ → Option ℕ → Switched
-  start-by s t c none = handle-task-failure s t Error.CoroutineReuse
-  start-by s t c (some f) = run (put_object s c (Object.Coroutine f CoroutineState.Running)) t (start c f)
+  unfoldable pub start_by : Store → ℕ → ℕ → Option ℕ → Switched
+  start_by s t c none = handle_task_failure s t Error.CoroutineReuse
+  start_by s t c (some f) = run (put_object s c (Object.Coroutine f CoroutineState.Running)) t (start c f)
 
   -- The first run of a task.
-  unfoldable pub start-task : Store → ℕ → Switched
-  start-task s t = let c : ℕ = (task s t).coroutine.0 in start-by s t c (new_function (object s c))
+  unfoldable pub start_task : Store → ℕ → Switched
+  start_task s t = let c : ℕ = (task s t).coroutine.0 in start_by s t c (new_function (object s c))
 
   -- a ready task runs on with what was delivered; no other is activated
-  unfoldable pub activate-state : Store → ℕ → TaskState → Switched
-  activate-state s t TaskState.Absent = yield s
-  activate-state s t TaskState.Unstarted = start-task s t
-  activate-state s t TaskState.Running = yield s
-  activate-state s t (TaskState.Woken v) = run s t (value v)
-  activate-state s t (TaskState.Raised e) = run s t (raises e)
-  activate-state s t (TaskState.Blocked o) = yield s
+  unfoldable pub activate_state : Store → ℕ → TaskState → Switched
+  activate_state s t TaskState.Absent = yield s
+  activate_state s t TaskState.Unstarted = start_task s t
+  activate_state s t TaskState.Running = yield s
+  activate_state s t (TaskState.Woken v) = run s t (value v)
+  activate_state s t (TaskState.Raised e) = run s t (raises e)
+  activate_state s t (TaskState.Blocked o) = yield s
 
 -- Each failed start leaves one live task less: k is the number of live tasks.
 unfoldable pub activate_within : ℕ → Store → ℕ → Switched
 activate_within zero s t = yield s
-activate_within (suc k) s t = activate-state (λ x u. activate_within k x u) s t (task s t).state
+activate_within (suc k) s t = activate_state (λ x u. activate_within k x u) s t (task s t).state
 
 -- Task t runs, or fails at its first run and the next one goes on.
 unfoldable pub activate : Store → ℕ → Switched
@@ -124,7 +124,7 @@ unfoldable pub go_on : ℕ → ℕ → ℕ → Store → Poll → Awaited
 go_on t o n s (ready v) = stays s t (value v) n
 go_on t o n s (raised e) = stays s t (raises e) n
 go_on t o n s pending =
-    let x : Switched = resume-next activate (add_log (set_state s t (TaskState.Blocked (heap_id o))) (blocked t)) in
+    let x : Switched = resume_next activate (add_log (set_state s t (TaskState.Blocked (heap_id o))) (blocked t)) in
     record { store = x.store; control = x.control; steps = n }
 
 -- a new coroutine runs inline
@@ -172,7 +172,7 @@ handle_task_completion s t v =
     let r : Task = task s t in
     let c : ℕ = r.coroutine.0 in
     let left : Store = add_log (remove_task (put_object s c (completed (object s c))) t) (exited t) in
-    resume-after-task-exit activate (deliver_awaiter_success left r.awaiter v)
+    resume_after_task_exit activate (deliver_awaiter_success left r.awaiter v)
 
 -- ---- results: a call, a kind, a tag and a number
 

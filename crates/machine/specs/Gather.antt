@@ -27,12 +27,12 @@ module _ {A X : Type 0} where
   outcome_of (x ∷ xs) a = elim (eqb x.awaitable a) [ true ↦ some x.outcome | false ↦ outcome_of xs a ]
 
   -- "the first raised exception", among the awaitables aws; `seen` are done before
-  unfoldable pub first-raised : List ℕ → List ℕ → List (Arrival A X) → Option X
-  first-raised aws seen [] = none
-  first-raised aws seen (x ∷ xs) =
+  unfoldable pub first_raised : List ℕ → List ℕ → List (Arrival A X) → Option X
+  first_raised aws seen [] = none
+  first_raised aws seen (x ∷ xs) =
       elim (is_in x.awaitable aws && not (is_in x.awaitable seen)) [
-        | true ↦ elim x.outcome [ returned v ↦ first-raised aws (x.awaitable ∷ seen) xs | raised e ↦ some e ]
-        | false ↦ first-raised aws seen xs
+        | true ↦ elim x.outcome [ returned v ↦ first_raised aws (x.awaitable ∷ seen) xs | raised e ↦ some e ]
+        | false ↦ first_raised aws seen xs
       ]
 
   -- an awaitable's outcome in front of what the awaitables behind it come to
@@ -52,7 +52,7 @@ module _ {A X : Type 0} where
   -- gather(*aws): "the first raised exception is immediately propagated to the task that awaits on gather()". (That the "other
   -- awaitables in the aws sequence won't be cancelled and will continue to run" is a law of the machine: DeliveryLaws.)
   unfoldable pub gather : List ℕ → List (Arrival A X) → Gathered A X
-  gather aws xs = elim (first-raised aws [] xs) [ none ↦ in_order xs aws | some e ↦ propagated e ]
+  gather aws xs = elim (first_raised aws [] xs) [ none ↦ in_order xs aws | some e ↦ propagated e ]
 
 -- awaitable a returns n
 abbrev arrives : ℕ → ℕ → Arrival ℕ ℕ
@@ -64,18 +64,18 @@ fails a e = record { awaitable = a; outcome = raised e }
 
 -- The documentation's example, factorials of 2, 3 and 4, whatever the order in which they are done; and an awaitable named twice.
 pub documented : gather (0 ∷ 1 ∷ 2 ∷ []) (arrives 0 2 ∷ arrives 1 6 ∷ arrives 2 24 ∷ []) ≡ listed (2 ∷ 6 ∷ 24 ∷ [])
-unfolding gather first-raised in_order put_first outcome_of is_in
+unfolding gather first_raised in_order put_first outcome_of is_in
 documented = refl
 
 pub out_of_order : gather (0 ∷ 1 ∷ 0 ∷ []) (arrives 1 6 ∷ arrives 0 2 ∷ []) ≡ listed (2 ∷ 6 ∷ 2 ∷ [])
-unfolding gather first-raised in_order put_first outcome_of is_in
+unfolding gather first_raised in_order put_first outcome_of is_in
 out_of_order = refl
 
 -- The first exception is propagated while others still run, and a later one is not.
 pub first_only : gather (0 ∷ 1 ∷ 2 ∷ []) (arrives 2 24 ∷ fails 1 7 ∷ fails 0 8 ∷ []) ≡ propagated 7
-unfolding gather first-raised in_order put_first outcome_of is_in
+unfolding gather first_raised in_order put_first outcome_of is_in
 first_only = refl
 
 pub still_waiting : gather (0 ∷ 1 ∷ []) (arrives 1 6 ∷ fails 9 5 ∷ []) ≡ waiting
-unfolding gather first-raised in_order put_first outcome_of is_in
+unfolding gather first_raised in_order put_first outcome_of is_in
 still_waiting = refl

@@ -5,7 +5,7 @@ use Rattle.asyncio.specs.Limits.{object_limit, tasks_length, objects_length, pla
 use Rattle.machine.specs.Store.{Store, fresh}
 use Rattle.machine.specs.Events.{Control, runs, waits}
 use Rattle.machine.specs.Machine.{Event, Answer, Step, step}
-use Rattle.machine.specs.Answers.{Numbers, answer-numbers}
+use Rattle.machine.specs.Answers.{Numbers, answer_numbers}
 
 -- The store and the call list after an event; the answer, document 01's numbers for it, and how many calls a wait has (0: it is none).
 pub record Lent : Type 0 where
@@ -58,11 +58,11 @@ written a l = write_calls (answer_calls a) l
 
 -- an answer as a caller gets it
 abbrev pub lent_as : Store → List ℕ → Answer → Lent
-lent_as s l a = record { store = s; list = l; answer = a; numbers = answer-numbers a; count = length (answer_calls a) }
+lent_as s l a = record { store = s; list = l; answer = a; numbers = answer_numbers a; count = length (answer_calls a) }
 
 -- an answer as a reader gets it
 abbrev pub read_as : Answer → Read
-read_as a = record { answer = a; numbers = answer-numbers a }
+read_as a = record { answer = a; numbers = answer_numbers a }
 
 -- an event: all unchanged where a length is wrong; else the machine's step, and its wait written
 unfoldable pub lent_by : Bool → Store → List ℕ → Event → Lent

@@ -20,7 +20,7 @@ use Rattle.asyncio.specs.Limits.{object_limit, item_limit, place_limit, call_lim
 use Rattle.machine.specs.Store.{Store, object, place, header, set_calls, forget}
 use Rattle.machine.specs.Scheduler.{live, is_some, bit, pending_external, pending_call_ids, cancel_task, cleanup}
 use Rattle.machine.specs.Sound.{sound, is_ended, value_known, option_known}
-use Rattle.machine.specs.Events.{Control, runs, waits, Switched, Awaited, Result, exec_get_awaitable, handle_task_completion, handle-task-failure, activate, resume-next, apply_future_results, wake_in_order, make_coroutine, make_pending, make_settled, make_gather}
+use Rattle.machine.specs.Events.{Control, runs, waits, Switched, Awaited, Result, exec_get_awaitable, handle_task_completion, handle_task_failure, activate, resume_next, apply_future_results, wake_in_order, make_coroutine, make_pending, make_settled, make_gather}
 
 -- The events of document 01, kinds 1 to 11 of its records, and the reads, kinds 12 and 13.
 pub data Event : Type 0 where
@@ -212,7 +212,7 @@ task_completes s t v = pick (eqb t 0) (end_main s (finished v)) (switched (handl
 
 -- the same with an error
 unfoldable pub task_fails : Store → ℕ → Error → Step
-task_fails s t e = pick (eqb t 0) (end_main s (finished_error e)) (switched (handle-task-failure activate s t e))
+task_fails s t e = pick (eqb t 0) (end_main s (finished_error e)) (switched (handle_task_failure activate s t e))
 
 -- how many entries the ready queue has lost: its length in s minus its length in u
 unfoldable pub entries_lost : Store → Store → ℕ
@@ -236,7 +236,7 @@ repeat_wait (c ∷ cs) = control (waits (c ∷ cs))
 -- The next ready task runs on; nothing ready changes nothing.
 unfoldable pub resume_with_resolved_futures : Store → Step
 resume_with_resolved_futures s =
-    pick (eqb s.queue.len 0) (record { store = s; answer = repeat_wait (pending_call_ids s) }) (switched (resume-next activate s))
+    pick (eqb s.queue.len 0) (record { store = s; answer = repeat_wait (pending_call_ids s) }) (switched (resume_next activate s))
 
 -- Each event.
 unfoldable pub accept : Store → Event → Step

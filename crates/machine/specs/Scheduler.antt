@@ -17,7 +17,7 @@ use Rattle.asyncio.specs.States.{pick}
 use Rattle.asyncio.specs.Numbers.{heap_id}
 use Rattle.asyncio.specs.States.{is_live}
 use Rattle.asyncio.specs.Limits.{task_limit, object_limit}
-use Rattle.rows.specs.Rows.{count-rows}
+use Rattle.rows.specs.Rows.{count_rows}
 use Rattle.asyncio.specs.Kinds.{kind, is_pending_external}
 use Rattle.asyncio.specs.Parts.{call_of}
 use Rattle.rows.specs.Tables.{task_codec, task_at, object_at, header_at}
@@ -136,7 +136,7 @@ live s t = pick (ltb t (header s).next) (is_live (task s t).state) false
 
 -- how many rows of tasks live: each failed start makes it one less
 unfoldable pub live_in : List ℕ → ℕ
-live_in ts = count-rows task_codec (λ r. is_live r.state) task_limit ts
+live_in ts = count_rows task_codec (λ r. is_live r.state) task_limit ts
 
 -- of a store
 unfoldable pub live_count : Store → ℕ

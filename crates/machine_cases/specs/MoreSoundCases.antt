@@ -91,6 +91,6 @@ more_verdicts =
     false ∷ false ∷ false ∷ false ∷ false ∷ false ∷ false ∷ false ∷ []
 
 -- Every row of the table holds of the test.
-pub more_sound-cases : map sound more_stores ≡ more_verdicts
+pub more_sound_cases : map sound more_stores ≡ more_verdicts
 unfolding computes started woken with_count more_stores more_verdicts
-more_sound-cases = refl
+more_sound_cases = refl

@@ -303,17 +303,17 @@ phase-gather k e = sym (phase_test is_gather refl k) ∙ ap is_gather e
 
 module _ (s : Store) (g : ℕ) (z : Sized s) (l : g < object_limit) where
   -- an object gets a gather's state, if it is a gather: every gather has as many places
-  pub set-counts : (y : GatherState) (o : ℕ) → count_of (object (set_gather s g y) o) ≡ count_of (object s o)
+  pub set_counts : (y : GatherState) (o : ℕ) → count_of (object (set_gather s g y) o) ≡ count_of (object s o)
   unfolding set_gather
-  set-counts y o = by (ℕ_discrete o g)
+  set_counts y o = by (ℕ_discrete o g)
     where
       by : Dec (o ≡ g) → count_of (object (put_object s g (with_state (object s g) y)) o) ≡ count_of (object s o)
       by (yes q) = rw (q, count-put_object s g _ z l (with_state-places (object s g) y (object-fits s g))) (with_state-count (object s g) y)
       by (no ne) = ap count_of (object_put-other s g o _ ne)
 
-  pub settle-kinds : SameKinds s (settle_gather_commit s g).store
+  pub settle_kinds : SameKinds s (settle_gather_commit s g).store
   unfolding settle_gather_commit settle_as set_gather kind
-  settle-kinds = by (as_awaited (object s g)) refl
+  settle_kinds = by (as_awaited (object s g)) refl
     where
       by : (a : Option AwaitedGather) → as_awaited (object s g) ≡ a → PolledKeeps s (settle_as s g a)
       by none e = same_kinds_refl s z
@@ -422,14 +422,14 @@ module _ (s : Store) (g : ℕ) (a : Awaiter) (z : Sized s) (l : g < object_limit
   gathers : is_gather (kind (object s g)) ≡ true
   gathers = ap is_gather e
 
-  pub open-sized : Sized opens
+  pub open_sized : Sized opens
   unfolding open_gather_commit kind
-  open-sized = set-sized s g (GatherState.Awaited a 0) Kind.AwaitedGather z l gathers (λ f n. refl)
+  open_sized = set-sized s g (GatherState.Awaited a 0) Kind.AwaitedGather z l gathers (λ f n. refl)
 
   -- a pending gather that is opened: one pending gather less, and no other failed
-  pub open-falls : pending_count s ≡ suc (pending_count opens)
+  pub open_falls : pending_count s ≡ suc (pending_count opens)
   unfolding open_gather_commit kind
-  open-falls = rw (pending_kinds s, pending_kinds opens) (set-falls s g (GatherState.Awaited a 0) Kind.AwaitedGather z l gathers (λ f n. refl) is_pending_gather (ap is_pending_gather e) refl)
+  open_falls = rw (pending_kinds s, pending_kinds opens) (set-falls s g (GatherState.Awaited a 0) Kind.AwaitedGather z l gathers (λ f n. refl) is_pending_gather (ap is_pending_gather e) refl)
 
   open-failed : failed_count opens ≡ failed_count s
   unfolding open_gather_commit kind failed_count
@@ -476,11 +476,11 @@ module _ (loop : Store → Frame → List Frame → ℕ → ℕ → ℕ → Comm
       let z : Sized u = q.0.sized in
       let x : Store = open_gather_commit u o a in
       let same : pending_count u ≡ pending_count s = same-pending_count s u q.0 in
-      let fall : pending_count u ≡ suc (pending_count x) = open-falls u o a z q.1 q.2 in
+      let fall : pending_count u ≡ suc (pending_count x) = open_falls u o a z q.1 q.2 in
       let fail : failed_count x ≡ failed_count s = open-failed u o a z q.1 q.2 ∙ same-failed_count s u q.0 in
       let was : Opened u (f ∷ fs) = opened_same s u (f ∷ fs) q.0 e in
       let kept : Opened x (f ∷ fs) = open_kept u o a z q.1 q.2 (f ∷ fs) was in
-      let r = h x (record { gather = o; next = 0 }) (record { gather = f.gather; next = i } ∷ fs) (suc n) (suc j) k (omega arith) (open-sized u o a z q.1 q.2)
+      let r = h x (record { gather = o; next = 0 }) (record { gather = f.gather; next = i } ∷ fs) (suc n) (suc j) k (omega arith) (open_sized u o a z q.1 q.2)
       (q.1, opened-here u o a z q.1 q.2, pending-apart u o (f ∷ fs) q.2 was, kept) in
       record { opens = omega (arith, r.opens); fails = rw fail at r.fails }
   turn-counts s f fs n j k (at_error u x) d q e =
@@ -489,13 +489,13 @@ module _ (loop : Store → Frame → List Frame → ℕ → ℕ → ℕ → Comm
       let fail : failed_count u ≡ failed_count s = same-failed_count s u q in
       record { opens = omega (arith, w.pending_same); fails = omega (arith, w.failed_more) }
   turn-counts s f [] n j k (at_end u) d q e =
-      let w : SameKinds s (settle_gather_commit u f.gather).store = same_kinds_then q (settle-kinds u f.gather q.sized e.0) in
+      let w : SameKinds s (settle_gather_commit u f.gather).store = same_kinds_then q (settle_kinds u f.gather q.sized e.0) in
       let same : pending_count (settle_gather_commit u f.gather).store ≡ pending_count s = same-pending_count s _ w in
       record { opens = omega arith; fails = settle_fails u f.gather (failed_count s) j (suc k) (same-failed_count s _ w) }
   turn-counts s f (p ∷ ps) n j k (at_end u) d q e =
       let r : Polled = settle_gather_commit u f.gather in
       let x : Store = resume_after_child p r in
-      let w : SameKinds u r.store = settle-kinds u f.gather q.sized e.0 in
+      let w : SameKinds u r.store = settle_kinds u f.gather q.sized e.0 in
       let v : SameKinds s x = same_kinds_then q (same_kinds_then w (resume_kinds p r w.sized e.3.0)) in
       let same : pending_count x ≡ pending_count s = same-pending_count s x v in
       let fail : failed_count x ≡ failed_count s = same-failed_count s x v in
@@ -530,23 +530,23 @@ module _ (s : Store) (g : ℕ) (a : Awaiter) (z : Sized s) (l : g < object_limit
   unfolding commit_gather_tree
   tree-counts =
       let x : Store = open_gather_commit s g a in
-      loop_counts (2 * pending_count x + 1) x (record { gather = g; next = 0 }) [] 0 1 0 refl (open-sized s g a z l e)
+      loop_counts (2 * pending_count x + 1) x (record { gather = g; next = 0 }) [] 0 1 0 refl (open_sized s g a z l e)
       (unfold Opened NoFrame in (l, opened-here s g a z l e, tt, tt))
 
   -- Document 01, module 4, "with n gathers opened": n is the number of gathers that were pending before and are not after.
-  pub commit-opens : pending_count s ≡ pending_count (commit_gather_tree s g a).store + (commit_gather_tree s g a).opened
-  commit-opens = omega (arith, open-falls s g a z l e, tree-counts.opens)
+  pub commit_opens : pending_count s ≡ pending_count (commit_gather_tree s g a).store + (commit_gather_tree s g a).opened
+  commit_opens = omega (arith, open_falls s g a z l e, tree-counts.opens)
 
   -- "with k of them settled": on an error the other n - k have failed, and no other gather has.
-  pub commit-fails : FailFormula (failed_count s) (failed_count (commit_gather_tree s g a).store)
+  pub commit_fails : FailFormula (failed_count s) (failed_count (commit_gather_tree s g a).store)
       (commit_gather_tree s g a).opened (commit_gather_tree s g a).settled (commit_gather_tree s g a).poll
-  commit-fails = rw (← open-failed s g a z l e) tree-counts.fails
+  commit_fails = rw (← open-failed s g a z l e) tree-counts.fails
 
   -- the steps of a commit, with no counter
-  pub commit-seen : SeenFormula (commit_gather_tree s g a).steps (pending_count s) (failed_count s)
+  pub commit_seen : SeenFormula (commit_gather_tree s g a).steps (pending_count s) (failed_count s)
       (pending_count (commit_gather_tree s g a).store) (failed_count (commit_gather_tree s g a).store) (commit_gather_tree s g a).poll
   unfolding StepsRight
-  commit-seen = seen_by _ _ _ _ _ _ _ (commit_gather_tree s g a).poll (commit_steps s g a) commit-fails commit-opens
+  commit_seen = seen_by _ _ _ _ _ _ _ (commit_gather_tree s g a).poll (commit_steps s g a) commit_fails commit_opens
 
 -- ---- the fuel is an exact count: no commit runs out of it
 
@@ -557,7 +557,7 @@ unfolding StopKeeps
 nested_fuel s u f fs i o q =
     let a : Awaiter = Awaiter.GatherSlot (heap_id f.gather) (heap_id o) in
     let same : pending_count u ≡ pending_count s = same-pending_count s u q.0 in
-    let fall : pending_count u ≡ suc (pending_count (open_gather_commit u o a)) = open-falls u o a q.0.sized q.1 q.2 in
+    let fall : pending_count u ≡ suc (pending_count (open_gather_commit u o a)) = open_falls u o a q.0.sized q.1 q.2 in
     omega arith
 
 -- a gather is settled and the one below resumes: the pending gathers are the same, one frame less
@@ -567,7 +567,7 @@ unfolding StopKeeps
 settled_fuel s u f p ps q l m =
     let r : Polled = settle_gather_commit u f.gather in
     let x : Store = resume_after_child p r in
-    let w : SameKinds u r.store = settle-kinds u f.gather q.sized l in
+    let w : SameKinds u r.store = settle_kinds u f.gather q.sized l in
     let same : pending_count x ≡ pending_count s = same-pending_count s x (same_kinds_then q (same_kinds_then w (resume_kinds p r w.sized m))) in
     omega arith
 

@@ -5,7 +5,7 @@ use Rattle.asyncio.specs.States.{pick, is_live}
 use Rattle.asyncio.specs.Limits.{task_limit, object_limit, object_width}
 use Rattle.asyncio.specs.Kinds.{kind, is_awaited, is_pending_gather}
 use Rattle.asyncio.specs.declared.Object.{Object}
-use Rattle.rows.specs.Rows.{Codec, read_at, count-rows}
+use Rattle.rows.specs.Rows.{Codec, read_at, count_rows}
 use Rattle.rows.specs.RowLaws.{split_row-is, row_drop, drop-drop}
 use Rattle.rows.specs.Tables.{task_codec, object_codec, task_at, object_at, count_objects}
 use Rattle.machine.specs.Tests.{count_from, count}
@@ -55,10 +55,10 @@ count_most f n = count_from-most f 0 n
 
 module _ {R : Type 0} (C : Codec R) (p : R → Bool) (c : ℕ) (w : List ℕ) where
   -- from row i on
-  rows-counted : (k i : ℕ) → count-rows C p k (drop (i * C.width + c) w) ≡ count_from (λ j. p (read_at C w (j * C.width + c))) i k
+  rows-counted : (k i : ℕ) → count_rows C p k (drop (i * C.width + c) w) ≡ count_from (λ j. p (read_at C w (j * C.width + c))) i k
   rows-counted zero i = refl
   rows-counted (suc k) i =
-      split_row-is C.width (λ r. r) (drop (i * C.width + c) w) (λ r v. pick (p (C.reads r)) (suc (count-rows C p k v)) (count-rows C p k v))
+      split_row-is C.width (λ r. r) (drop (i * C.width + c) w) (λ r v. pick (p (C.reads r)) (suc (count_rows C p k v)) (count_rows C p k v))
       ∙ rw (row_drop w (i * C.width + c) C.width, drop-drop C.width (i * C.width + c) w, next, rows-counted k (suc i))
     where
       next : i * C.width + c + C.width ≡ suc i * C.width + c

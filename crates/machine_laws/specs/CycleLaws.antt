@@ -21,7 +21,7 @@ use Rattle.machine.specs.Store.{Store, task, put_task, object, put_queue, add_lo
 use Rattle.machine.specs.Scheduler.{AwaitedGather, as_awaited, is_some, blocked_on, bit, live_in, live_count, remove_task, remove_from_ready_queue, cancel_one}
 use Rattle.machine.specs.Scheduler.{Walk, reach_if, reach, remove_blocked, visit_by, visit, visit_place, visit_open, walk_gather, walk_next, walk, walk_from, cancel_task}
 use Rattle.machine.specs.Delivery.{Delivery, deliver_awaiter_failure}
-use Rattle.machine.specs.Events.{Switched, resume-next, resume-after-task-exit, handle-task-failure, start-by, start-task, activate-state, activate_within, activate}
+use Rattle.machine.specs.Events.{Switched, resume_next, resume_after_task_exit, handle_task_failure, start_by, start_task, activate_state, activate_within, activate}
 use Rattle.machine_laws.specs.Views.{Sized}
 use Rattle.machine_laws.specs.Statements.{SameLive, unmarked, walk_rest}
 use Rattle.machine_laws.specs.StoreLaws.{live-put_task, task_put-other, task-fits, place-fits}
@@ -58,31 +58,31 @@ failure_falls s t x z l e =
 
 -- two calls that close the cycle, and agree where k tasks live
 module _ (k : ℕ) (go come : Store → ℕ → Switched) (h : (s : Store) (t : ℕ) → live_count s ≡ k → go s t ≡ come s t) where
-  same_next : (s : Store) → live_count s ≡ k → resume-next go s ≡ resume-next come s
-  unfolding resume-next live_count put_queue
+  same_next : (s : Store) → live_count s ≡ k → resume_next go s ≡ resume_next come s
+  unfolding resume_next live_count put_queue
   same_next s e = rw (h (put_queue s (pop_front s.queue)) (front_of s.queue).0 e)
 
-  same-exit : (d : Delivery) → live_count d.store ≡ k → resume-after-task-exit go d ≡ resume-after-task-exit come d
-  unfolding resume-after-task-exit remove_from_ready_queue live_count put_queue
+  same-exit : (d : Delivery) → live_count d.store ≡ k → resume_after_task_exit go d ≡ resume_after_task_exit come d
+  unfolding resume_after_task_exit remove_from_ready_queue live_count put_queue
   same-exit d e = by d.woken
     where
-      by : (w : Option ℕ) → ◌≡◌ {A = Switched} (elim w [ none ↦ resume-next go d.store | some t ↦ go (remove_from_ready_queue d.store t) t ])
-          (elim w [ none ↦ resume-next come d.store | some t ↦ come (remove_from_ready_queue d.store t) t ])
+      by : (w : Option ℕ) → ◌≡◌ {A = Switched} (elim w [ none ↦ resume_next go d.store | some t ↦ go (remove_from_ready_queue d.store t) t ])
+          (elim w [ none ↦ resume_next come d.store | some t ↦ come (remove_from_ready_queue d.store t) t ])
       by none = same_next d.store e
       by (some t) = h _ t e
 
   module _ (s : Store) (t : ℕ) (z : Sized s) (l : t < task_limit) (e : is_live (task s t).state ≡ true) (q : live_count s ≡ suc k) where
-    same-failure : (x : Error) → handle-task-failure go s t x ≡ handle-task-failure come s t x
-    unfolding handle-task-failure
+    same-failure : (x : Error) → handle_task_failure go s t x ≡ handle_task_failure come s t x
+    unfolding handle_task_failure
     same-failure x = same-exit _ (omega (arith, failure_falls s t x z l e))
 
-    same_start : (c : ℕ) (f : Option ℕ) → start-by go s t c f ≡ start-by come s t c f
-    unfolding start-by
+    same_start : (c : ℕ) (f : Option ℕ) → start_by go s t c f ≡ start_by come s t c f
+    unfolding start_by
     same_start c none = same-failure Error.CoroutineReuse
     same_start c (some f) = refl
 
-    same-state : (x : TaskState) → activate-state go s t x ≡ activate-state come s t x
-    unfolding activate-state start-task
+    same-state : (x : TaskState) → activate_state go s t x ≡ activate_state come s t x
+    unfolding activate_state start_task
     same-state TaskState.Absent = refl
     same-state TaskState.Unstarted = same_start _ _
     same-state TaskState.Running = refl
@@ -92,7 +92,7 @@ module _ (k : ℕ) (go come : Store → ℕ → Switched) (h : (s : Store) (t : 
 
 -- A live task is activated by its state; a failed start goes on with activating another, where one live task less is left.
 pub activate_once : (s : Store) (t : ℕ) → Sized s → t < task_limit → is_live (task s t).state ≡ true
-    → activate s t ≡ activate-state activate s t (task s t).state
+    → activate s t ≡ activate_state activate s t (task s t).state
 unfolding activate activate_within
 activate_once s t z l e =
     let k : ℕ = live_count (put_task s t absent) in
@@ -109,8 +109,8 @@ pub record CountsKept (w x : Walk) : Type 0 where
   pub marked : length x.marks ≡ object_limit
   pub pays : unmarked x.marks + length x.stack ≡ unmarked w.marks + length w.stack
 
-counts_kept-then : {w x y : Walk} → CountsKept w x → CountsKept x y → CountsKept w y
-counts_kept-then k l = record { marked = l.marked; pays = l.pays ∙ k.pays }
+counts_kept_then : {w x y : Walk} → CountsKept w x → CountsKept x y → CountsKept w y
+counts_kept_then k l = record { marked = l.marked; pays = l.pays ∙ k.pays }
 
 pub mark-falls : (ms : List Bool) (g : ℕ) → length ms ≡ object_limit → g < object_limit → get_or ms g false ≡ false → unmarked ms ≡ suc (unmarked (set ms g true))
 unfolding unmarked
@@ -119,9 +119,9 @@ mark-falls ms g m l e =
     (rw (get_or-set_same ms g true false (omega arith))) (λ i ne. rw (get_or-set_other ms g i true false ne))
 
 module _ (w : Walk) (m : length w.marks ≡ object_limit) where
-  pub reach-counts-kept : (g : ℕ) → g < object_limit → CountsKept w (reach w g)
+  pub reach_counts_kept : (g : ℕ) → g < object_limit → CountsKept w (reach w g)
   unfolding reach reach_if
-  reach-counts-kept g l = by (is_some (as_awaited (object w.store g))) (get_or w.marks g false) refl
+  reach_counts_kept g l = by (is_some (as_awaited (object w.store g))) (get_or w.marks g false) refl
     where
       by : (a b : Bool) → get_or w.marks g false ≡ b → CountsKept w (reach_if w g (a && not b))
       by true true e = record { marked = m; pays = refl }
@@ -141,7 +141,7 @@ remove_counts_kept : (w : Walk) → length w.marks ≡ object_limit → (t : ℕ
 unfolding remove_blocked
 remove_counts_kept w m t none l = record { marked = m; pays = refl }
 remove_counts_kept w m t (some o) l =
-    let k = reach-counts-kept (record { store = cancel_one w.store t; tasks-of = w.tasks-of; marks = w.marks; stack = w.stack }) m o (l o refl) in
+    let k = reach_counts_kept (record { store = cancel_one w.store t; tasks-of = w.tasks-of; marks = w.marks; stack = w.stack }) m o (l o refl) in
     record { marked = k.marked; pays = k.pays }
 
 -- a task that goes with what it is blocked on
@@ -150,7 +150,7 @@ blocked_counts_kept w m t = remove_counts_kept w m t _ (blocked-fits (task w.sto
 
 visit_counts_kept : (w : Walk) → length w.marks ≡ object_limit → (o : ℕ) → o < object_limit → (d : Option ℕ) → CountsKept w (visit_by w o d)
 unfolding visit_by
-visit_counts_kept w m o l none = reach-counts-kept w m o l
+visit_counts_kept w m o l none = reach_counts_kept w m o l
 visit_counts_kept w m o l (some t) = blocked_counts_kept w m t
 
 pub place_counts_kept : (w : Walk) → length w.marks ≡ object_limit → (p i open-places : ℕ) → CountsKept w (visit_place w p i open-places)
@@ -163,7 +163,7 @@ unfolding visit_open
 open_counts_kept zero w m a i = record { marked = m; pays = refl }
 open_counts_kept (suc k) w m a i =
     let x = place_counts_kept w m (a.first + i) i a.open-places in
-    counts_kept-then x (open_counts_kept k _ x.marked a (i + 1))
+    counts_kept_then x (open_counts_kept k _ x.marked a (i + 1))
 
 pub gather_counts_kept : (w : Walk) → length w.marks ≡ object_limit → (a : Option AwaitedGather) → CountsKept w (walk_gather w a)
 unfolding walk_gather

@@ -30,7 +30,7 @@ use Rattle.machine.specs.Delivery.{send_value, climb_value, deliver_awaiter_succ
 use Rattle.machine_laws.specs.Views.{Sized}
 use Rattle.machine_laws.specs.Statements.{SameLive}
 use Rattle.machine_laws.specs.StoreLaws.{sized-put_object, sized-put_places, sized-put_queue, sized-add_log, sized-set_state}
-use Rattle.machine_laws.specs.StoreLaws.{object-fits, kind-at_put, live-put_task, task_put-other, header_put-object}
+use Rattle.machine_laws.specs.StoreLaws.{object-fits, kind_at_put, live-put_task, task_put-other, header_put-object}
 
 same_store : (s : Store) → Sized s → SameLive s s
 same_store s z = record { sized = z; same-header = refl; lives = λ t. refl }
@@ -126,7 +126,7 @@ awaited_in-falls : (os : List ℕ) (g : ℕ) (r : Object) → length os ≡ obje
     → is_awaited (kind r) ≡ false → awaited_in os ≡ suc (awaited_in (object_put os g r))
 awaited_in-falls os g r z l e q =
     one_less (awaited_in os) (count before object_limit) (count behind object_limit) (awaited_in (object_put os g r)) (awaited-counted os)
-    (count-drop before behind object_limit g l e (rw (kind-at_put os g r z l) q) (λ i ne. rw (object_at-other os g i r ne)))
+    (count-drop before behind object_limit g l e (rw (kind_at_put os g r z l) q) (λ i ne. rw (object_at-other os g i r ne)))
     (awaited-counted (object_put os g r))
   where
     before : ℕ → Bool

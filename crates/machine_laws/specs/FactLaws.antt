@@ -37,10 +37,10 @@ module _ (ps : ℕ → Place) (w : AwaitedGather) (o : ℕ) where
   abbrev here : ℕ → Bool
   here i = bit w.open-places i && eqb (ps (w.first + i)).item.0 o
 
-  pub open-found : (k i : ℕ) → i + k ≤ w.count → T (open_from ps w o i k) → Open ps w o
+  pub open_found : (k i : ℕ) → i + k ≤ w.count → T (open_from ps w o i k) → Open ps w o
   unfolding open_from
-  open-found zero i l t = absurd t
-  open-found (suc k) i l t = by (here i) refl t (λ u. open-found k (i + 1) (omega arith) u)
+  open_found zero i l t = absurd t
+  open_found (suc k) i l t = by (here i) refl t (λ u. open_found k (i + 1) (omega arith) u)
     where
       by : (b : Bool) → here i ≡ b → T (pick b true (open_from ps w o (i + 1) k)) → (T (open_from ps w o (i + 1) k) → Open ps w o) → Open ps w o
       by true e t f =
@@ -48,10 +48,10 @@ module _ (ps : ℕ → Place) (w : AwaitedGather) (o : ℕ) where
           record { at = i; under = omega arith; is_open = h.0; names = eqb-true (ps (w.first + i)).item.0 o h.1 }
       by false e t f = f t
 
-  pub open-test : (k i : ℕ) (h : Open ps w o) → i ≤ h.at → h.at < i + k → T (open_from ps w o i k)
+  pub open_test : (k i : ℕ) (h : Open ps w o) → i ≤ h.at → h.at < i + k → T (open_from ps w o i k)
   unfolding open_from
-  open-test zero i h l m = absurd (not-suc-le-zero {n = 0} (omega arith))
-  open-test (suc k) i h l m = by (here i) refl (ℕ_discrete h.at i) (λ n. open-test k (i + 1) h (omega arith) (omega arith))
+  open_test zero i h l m = absurd (not-suc-le-zero {n = 0} (omega arith))
+  open_test (suc k) i h l m = by (here i) refl (ℕ_discrete h.at i) (λ n. open_test k (i + 1) h (omega arith) (omega arith))
     where
       at_here : h.at ≡ i → here i ≡ true
       at_here q = rw (← q, h.is_open, eq-eqb (ps (w.first + h.at)).item.0 o h.names)
@@ -74,7 +74,7 @@ slotted_of h os ps o a g x k t e =
       own = eqb→eq x o (both_left (eqb x o) _ t1);
       made = ltb→lt g h.made k1;
       committed = both_left _ _ t2;
-      opens = λ w q. open-found ps w o w.count 0 (omega arith)
+      opens = λ w q. open_found ps w o w.count 0 (omega arith)
           (subst (λ (y : Option AwaitedGather). T (source_open ps y o)) q (both_right (is_committed (kind (os g))) _ t2));
     }
 
@@ -89,7 +89,7 @@ slot_test n os ps o (Awaiter.GatherSlot g x) f =
   where
     by : (w : Option AwaitedGather) → ((u : AwaitedGather) → w ≡ some u → Open ps u o) → T (source_open ps w o)
     by none k = tt
-    by (some w) k = let h : Open ps w o = k w refl in open-test ps w o w.count 0 h (omega arith) (omega (arith, h.under))
+    by (some w) k = let h : Open ps w o = k w refl in open_test ps w o w.count 0 h (omega arith) (omega (arith, h.under))
 
 task_awaiter : (h : Header) (os : ℕ → Object) (t : ℕ) (y : Task) → T (is_live y.state) → T (task_in_range h os t y) → T (awaiter_in_range h y.awaiter)
 unfolding task_in_range
@@ -103,9 +103,9 @@ task_awaiter h os (suc t) y l k = both_left _ _ (both_right (is_slot y.awaiter) 
 
 -- ---- clause 8, of one task and of one object
 
-awaited-by_of : (n : ℕ) (os : ℕ → Object) (t o : ℕ) (b : Option ℕ) → T (blocked_awaits n os t b) → b ≡ some o → AwaitedBy n os t o
+awaited_by_of : (n : ℕ) (os : ℕ → Object) (t o : ℕ) (b : Option ℕ) → T (blocked_awaits n os t b) → b ≡ some o → AwaitedBy n os t o
 unfolding blocked_awaits
-awaited-by_of n os t o b h e =
+awaited_by_of n os t o b h e =
     let h1 : T (blocked_awaits n os t (some o)) = subst (λ (c : Option ℕ). T (blocked_awaits n os t c)) e h in
     record { made = ltb→lt o n (both_left _ _ h1); awaiter = by (awaiter_of (os o)) (both_right (ltb o n) _ h1) }
   where
@@ -221,9 +221,9 @@ module _ (v : View) where
   next = v.header.next
 
   -- the test gives the facts; the header of a store is always in range
-  pub to-facts : HeaderFits v.header → T (sound_view v) → SoundFacts v
+  pub to_facts : HeaderFits v.header → T (sound_view v) → SoundFacts v
   unfolding sound_view numbers_in_range counts_in_range spawned_in_range items_lower lists_completed queue_ready calls_distinct one_task blocked_match places_filled slots_open one_runs
-  to-facts f h =
+  to_facts f h =
       let h2 = both_right (numbers_in_range v.header v.objects v.tasks) _ h in
       let h3 = both_right (spawned_in_range v.header v.objects) _ h2 in
       let h4 = both_right (items_lower made v.objects v.places) _ h3 in
@@ -261,7 +261,7 @@ module _ (v : View) where
               entries = below (length v.queue) _ (both_left _ _ h5);
               calls = λ on. calls-of v.objects made (or_use (is_ended v.header.moment) _ on (both_left _ _ h6));
               task_of = task-of-of v.tasks next (both_left _ _ h7);
-              awaits = λ t l d o e. awaited-by_of made v.objects t o _ (below next _ (both_left _ _ match) t l) e;
+              awaits = λ t l d o e. awaited_by_of made v.objects t o _ (below next _ (both_left _ _ match) t l) e;
               awaited = λ o l d t e a. blocked_of v.tasks o t _
                   (below made _ (both_right (all_below next (λ t. blocked_awaits made v.objects t (blocked_on (v.tasks t).state))) _ match) o l) e a;
               filled = λ g l d. below made _ (both_left _ _ h9) g l;
@@ -275,9 +275,9 @@ module _ (v : View) where
       }
 
   -- the facts give the test
-  pub to-test : SoundFacts v → T (sound_view v)
+  pub to_test : SoundFacts v → T (sound_view v)
   unfolding sound_view numbers_in_range counts_in_range spawned_in_range items_lower lists_completed queue_ready calls_distinct one_task blocked_match places_filled slots_open one_runs
-  to-test s =
+  to_test s =
       let h : SoundBut 0 Nothing Nothing v = s.but in
       both _ _ (both _ _ (both _ _ (le→leb 1 next h.main) (subst (λ (m : ℕ). T (eqb v.header.used m)) h.all-used (eqb_refl v.header.used)))
       (both _ _ (from-below made _ h.objects) (both _ _ (from-below made _ h.awaiters) (from-below next _ h.tasks))))

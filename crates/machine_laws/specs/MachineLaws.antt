@@ -23,8 +23,8 @@ use Rattle.rows.specs.Tables.{object_at, header_at}
 use Rattle.machine.specs.Scheduler.{insert, calls_below, pending_calls_in, pending_call_ids, remove_from_ready_queue, live_count}
 use Rattle.machine.specs.Delivery.{Delivery}
 use Rattle.machine.specs.Commit.{Poll, ready, raised, pending}
-use Rattle.machine.specs.Events.{How, start, value, raises, Control, runs, waits, Switched, Awaited, run, yield, resume-next, resume-after-task-exit, handle-task-failure}
-use Rattle.machine.specs.Events.{start-by, start-task, activate-state, activate_within, activate, stays, go_on}
+use Rattle.machine.specs.Events.{How, start, value, raises, Control, runs, waits, Switched, Awaited, run, yield, resume_next, resume_after_task_exit, handle_task_failure}
+use Rattle.machine.specs.Events.{start_by, start_task, activate_state, activate_within, activate, stays, go_on}
 use Rattle.machine.specs.Events.{await_coroutine, await_external_future, await_gather, await_object, exec_get_awaitable, handle_task_completion}
 use Rattle.machine.specs.Machine.{Event, Answer, Step, switched, answer_await, end_main, task_completes, task_fails, repeat_wait, resume_with_resolved_futures}
 use Rattle.machine.specs.Machine.{accept, refusal, decide, step}
@@ -60,10 +60,10 @@ eager-step s = pick_has (λ (x : Step). x.store ≡ forget s) (eqb (refusal s Ev
 
 -- ---- pending calls ascend, and are at most as many as the objects made
 
-none-below_less : (c d : ℕ) (l : List ℕ) → c ≤ d → NoneBelow d l → NoneBelow c l
+none_below_less : (c d : ℕ) (l : List ℕ) → c ≤ d → NoneBelow d l → NoneBelow c l
 unfolding NoneBelow
-none-below_less c d [] h k = tt
-none-below_less c d (x ∷ l) h k = (omega (arith, k.0), none-below_less c d l h k.1)
+none_below_less c d [] h k = tt
+none_below_less c d (x ∷ l) h k = (omega (arith, k.0), none_below_less c d l h k.1)
 
 insert-none-below : (c d : ℕ) (l : List ℕ) → d ≤ c → NoneBelow d l → NoneBelow d (insert c l)
 unfolding insert NoneBelow
@@ -77,7 +77,7 @@ insert-ascending c [] a = (tt, tt)
 insert-ascending c (d ∷ ds) a = by (leb c d) refl (insert-ascending d ds a.1) (insert-ascending c ds a.1)
   where
     by : (b : Bool) → leb c d ≡ b → Ascending (insert d ds) → Ascending (insert c ds) → Ascending (pick b (c ∷ insert d ds) (d ∷ insert c ds))
-    by true e h k = let l : c ≤ d = leb-true c d e in (insert-none-below d c ds l (none-below_less c d ds l a.0), h)
+    by true e h k = let l : c ≤ d = leb-true c d e in (insert-none-below d c ds l (none_below_less c d ds l a.0), h)
     by false e h k = let l : d ≤ c = omega (arith, leb-false c d e) in (insert-none-below c d ds l a.0, k)
 
 pub length-insert : (c : ℕ) (l : List ℕ) → length (insert c l) ≡ suc (length l)
@@ -137,29 +137,29 @@ unfolding yield control_calls
 yield-fits s = pending_calls_list s
 
 module _ (go : Store → ℕ → Switched) (h : (s : Store) (t : ℕ) → SwitchFits (go s t)) where
-  next_fits : (s : Store) → SwitchFits (resume-next go s)
-  unfolding resume-next
+  next_fits : (s : Store) → SwitchFits (resume_next go s)
+  unfolding resume_next
   next_fits s = pick_has SwitchFits (eqb s.queue.len 0) (yield-fits s) (h _ _)
 
-  exit-fits : (d : Delivery) → SwitchFits (resume-after-task-exit go d)
-  unfolding resume-after-task-exit
+  exit-fits : (d : Delivery) → SwitchFits (resume_after_task_exit go d)
+  unfolding resume_after_task_exit
   exit-fits d = by d.woken
     where
-      by : (w : Option ℕ) → SwitchFits (elim w [ none ↦ resume-next go d.store | some t ↦ go (remove_from_ready_queue d.store t) t ])
+      by : (w : Option ℕ) → SwitchFits (elim w [ none ↦ resume_next go d.store | some t ↦ go (remove_from_ready_queue d.store t) t ])
       by none = next_fits d.store
       by (some t) = h _ t
 
-  failure-fits : (s : Store) (t : ℕ) (e : Error) → SwitchFits (handle-task-failure go s t e)
-  unfolding handle-task-failure
+  failure-fits : (s : Store) (t : ℕ) (e : Error) → SwitchFits (handle_task_failure go s t e)
+  unfolding handle_task_failure
   failure-fits s t e = exit-fits _
 
-  start_fits : (s : Store) (t c : ℕ) (f : Option ℕ) → SwitchFits (start-by go s t c f)
-  unfolding start-by
+  start_fits : (s : Store) (t c : ℕ) (f : Option ℕ) → SwitchFits (start_by go s t c f)
+  unfolding start_by
   start_fits s t c none = failure-fits s t Error.CoroutineReuse
   start_fits s t c (some f) = run_fits _ t (start c f)
 
-  state_fits : (s : Store) (t : ℕ) (x : TaskState) → SwitchFits (activate-state go s t x)
-  unfolding activate-state start-task
+  state_fits : (s : Store) (t : ℕ) (x : TaskState) → SwitchFits (activate_state go s t x)
+  unfolding activate_state start_task
   state_fits s t TaskState.Absent = yield-fits s
   state_fits s t TaskState.Unstarted = start_fits s t _ _
   state_fits s t TaskState.Running = yield-fits s
@@ -300,9 +300,9 @@ module _ (s : Store) (l : List ℕ) (e : Event) where
       by true = unfold lent_by in refl
       by false = unfold lent_by in refl
 
-  pub lent-calls : CallList (answer_calls (lent_step s l e).answer)
+  pub lent_calls : CallList (answer_calls (lent_step s l e).answer)
   unfolding lent_step
-  lent-calls = by (lengths_right s l)
+  lent_calls = by (lengths_right s l)
     where
       by : (b : Bool) → CallList (answer_calls (lent_by b s l e).answer)
       by true = unfold lent_by in step_calls s e
@@ -314,5 +314,5 @@ module _ (s : Store) (l : List ℕ) (e : Event) where
       by : (b : Bool) → lengths_right s l ≡ b → length (lent_step s l e).list ≡ length l
       by true h =
           let room : 256 ≤ length l = leb-true 256 (length l) (unfold lengths_right in (and-true (slices_right s) (leb 256 (length l)) h).1) in
-          rw lent-list (length-write_calls _ l (omega (arith, lent-calls.few)))
+          rw lent-list (length-write_calls _ l (omega (arith, lent_calls.few)))
       by false h = rw (lent-refused h)

@@ -33,12 +33,12 @@ use Rattle.machine.specs.Scheduler.{AwaitedGather, PendingExternal, as_awaited, 
 use Rattle.machine.specs.Sound.{places_below, awaiter_in_range, open_in_range, object_in_range, is_slot, task_in_range, committed_places, items_below}
 use Rattle.machine.specs.Sound.{value_known, option_known, object_values, is_ended, is_filled, rest_filled, gather_filled, object_filled}
 use Rattle.machine.specs.Events.{make_coroutine, make_pending, make_settled, put_items, make_gather}
-use Rattle.machine_laws.specs.ValueLaws.{option-stays, object-stays, state-stays}
+use Rattle.machine_laws.specs.ValueLaws.{option_stays, object-stays, state_stays}
 use Rattle.machine_laws.specs.Views.{Sized, update, with_object, with_places, with_header}
 use Rattle.machine_laws.specs.Statements.{AllBelow}
 use Rattle.machine_laws.specs.Facts.{Open, Slotted, AwaitedBy, SoundBut, Nothing, SoundFacts, add, AddFits}
 use Rattle.machine_laws.specs.TestLaws.{both, both_left, both_right, implies-map, below, from-below, ltb_more, sum_same, sum_last, sum_more}
-use Rattle.machine_laws.specs.StoreLaws.{update_same, update_other, update-case, view-put_object, view-put_header, sized-put_header, sized-put_place, sized-set_calls, header_put-header, object_put-header, place_put-place, place_put-other, header-fits}
+use Rattle.machine_laws.specs.StoreLaws.{update_same, update_other, update_case, view-put_object, view-put_header, sized-put_header, sized-put_place, sized-set_calls, header_put-header, object_put-header, place_put-place, place_put-other, header-fits}
 use Rattle.machine_laws.specs.DeliveryLaws.{absurd_some, awaited-object}
 
 -- ---- a header with higher counts
@@ -183,7 +183,7 @@ module _ (v : View) (x : Object) (n : ℕ) (ps : ℕ → Place) (c : ℕ) (ft : 
 
   -- what holds of the new object and of the old ones
   each : (F : ℕ → Object → Type 0) (p : ℕ) → p < top + 1 → F top x → (p < top → F p (v.objects p)) → F p (new p)
-  each F p l a b = update-case v.objects top x (F p) p (λ q. subst (λ (m : ℕ). F m x) (sym q) a) (λ ne. b (omega arith))
+  each F p l a b = update_case v.objects top x (F p) p (λ q. subst (λ (m : ℕ). F m x) (sym q) a) (λ ne. b (omega arith))
 
   sums : (f : Object → ℕ) (p : ℕ) → p ≤ top → sum_below p (λ o. f (new o)) ≡ sum_below p (λ o. f (v.objects o))
   sums f p l = sum_same p _ _ (λ i m. ap f (old i (omega arith)))
@@ -224,7 +224,7 @@ module _ (v : View) (x : Object) (n : ℕ) (ps : ℕ → Place) (c : ℕ) (ft : 
     where
       by : Dec (p < v.header.used) → T (option_known (top + 1) new (ps p).result)
       by (yes l) =
-          option-stays top (top + 1) (omega arith) v.objects new completed-add (ps p).result (subst (λ (y : Place). T (option_known top v.objects y.result)) (sym (ft.old-places p l)) (h.place-lists p l))
+          option_stays top (top + 1) (omega arith) v.objects new completed-add (ps p).result (subst (λ (y : Place). T (option_known top v.objects y.result)) (sym (ft.old-places p l)) (h.place-lists p l))
       by (no l) = subst (λ (y : OptionValue). T (option_known (top + 1) new y)) (sym (ft.new-places p (omega arith) z)) (unfold option_known in tt)
 
   calls-add : is_ended v.header.moment ≡ false → (o p : ℕ) → o < top + 1 → p < top + 1 → (a b : PendingExternal)
@@ -239,9 +239,9 @@ module _ (v : View) (x : Object) (n : ℕ) (ps : ℕ → Place) (c : ℕ) (ft : 
   unfolding committed_places
   committed-none = rw ft.fresh
 
-  pub add-keeps : SoundBut 0 Nothing Nothing (add v x n ps c)
+  pub add_keeps : SoundBut 0 Nothing Nothing (add v x n ps c)
   unfolding add places_below
-  add-keeps =
+  add_keeps =
       let i : Header = (add v x n ps c).header in
       record {
         fits = ft.room;
@@ -262,7 +262,7 @@ module _ (v : View) (x : Object) (n : ℕ) (ps : ℕ → Place) (c : ℕ) (ft : 
         items = λ p z. each (λ p y. T (items_below ps p y)) p z ft.lower
             (λ l. lower-stays v.header.used v.places ps ft.old-places p (v.objects p) (in-used p l) (h.items p l));
         object-lists = λ p z. each (λ p y. T (object_values (top + 1) new y)) p z (object-add x ft.known) (λ l. object-add (v.objects p) (h.object-lists p l));
-        task-lists = λ t z. state-stays top (top + 1) (omega arith) v.objects new completed-add (v.tasks t).state (h.task-lists t z);
+        task-lists = λ t z. state_stays top (top + 1) (omega arith) v.objects new completed-add (v.tasks t).state (h.task-lists t z);
         place-lists = place-add;
         entries = h.entries;
         calls = calls-add;
@@ -326,7 +326,7 @@ module _ (s : Store) (z : Sized s) (h : SoundFacts (view s)) (l : (header s).mad
       → SoundFacts (view (add_object s x n))
   add-sound x n f r ft =
       subst SoundFacts (sym (view-add s x n z l r f)) (unfold add view in
-      (record { but = add-keeps (view s) x n (place s) (header s).calls ft h.but; runner = h.runner; runs = h.runs }))
+      (record { but = add_keeps (view s) x n (place s) (header s).calls ft h.but; runner = h.runner; runs = h.runs }))
 
   no-places : (header s).used + 0 ≤ place_limit
   no-places = omega (arith, (header-fits s).used-fits)
@@ -350,9 +350,9 @@ module _ (s : Store) (z : Sized s) (h : SoundFacts (view s)) (l : (header s).mad
     new-places = λ p y k. absurd (not-suc-le-zero {n = 0} (omega arith));
   }
 
-  pub coroutine-keeps : (f : ℕ) → f < u32_limit → SoundFacts (view (make_coroutine s f))
+  pub coroutine_keeps : (f : ℕ) → f < u32_limit → SoundFacts (view (make_coroutine s f))
   unfolding make_coroutine
-  coroutine-keeps f k = add-sound (Object.Coroutine f CoroutineState.New) 0 k no-places (coroutine-fits f)
+  coroutine_keeps f k = add-sound (Object.Coroutine f CoroutineState.New) 0 k no-places (coroutine-fits f)
 
   -- ---- the events `pending` and `settled`: an external with no awaiter, of a call that was handed out
 
@@ -401,39 +401,39 @@ module _ (s : Store) (z : Sized s) (h : SoundFacts (view s)) (l : (header s).mad
         → SoundFacts (view (add_object s (Object.ExternalFuture (call_id c) (ExternalFutureState.Resolved v)) 0))
     resolved-sound v t = add-sound _ 0 (c-fits, value-fits _ (object s) v (omega arith) t) no-places (resolved-fits v t)
 
-    pub pending-keeps : (r : OptionValue) → T (option_known (header s).made (object s) r)
+    pub pending_keeps : (r : OptionValue) → T (option_known (header s).made (object s) r)
         → ((p : ℕ) → p < (header s).made → (b : PendingExternal) → as_pending (object s p) ≡ some b → c ≡ b.call.0 → ⊥)
         → SoundFacts (view (make_pending s c r))
     unfolding make_pending
-    pending-keeps r t new = add-sound _ 0 (c-fits, (tt, option_fits _ (object s) r (omega arith) t)) no-places (pending-fits r t new)
+    pending_keeps r t new = add-sound _ 0 (c-fits, (tt, option_fits _ (object s) r (omega arith) t)) no-places (pending-fits r t new)
 
 module _ (s : Store) (z : Sized s) where
   -- the store with one call more
-  unfoldable pub next-calls : Store
-  next-calls = set_calls s ((header s).calls + 1)
+  unfoldable pub next_calls : Store
+  next_calls = set_calls s ((header s).calls + 1)
 
-  pub next-header : (header s).calls < call_limit → header next-calls ≡ called_at (header s) ((header s).calls + 1) (header s).moment
-  unfolding next-calls set_calls
+  pub next-header : (header s).calls < call_limit → header next_calls ≡ called_at (header s) ((header s).calls + 1) (header s).moment
+  unfolding next_calls set_calls
   next-header k =
       let f : HeaderFits (header s) = header-fits s in
       header_put-header s _ z (record { made-fits = f.made-fits; used-fits = f.used-fits; calls-fit = omega arith; next_fits = f.next_fits; moment_fits = f.moment_fits })
 
-  next-objects : ◌≡◌ {A = ℕ → Object} (object next-calls) (object s)
-  unfolding next-calls set_calls
+  next-objects : ◌≡◌ {A = ℕ → Object} (object next_calls) (object s)
+  unfolding next_calls set_calls
   next-objects = λ i o. object_put-header s (called_at (header s) ((header s).calls + 1) (header s).moment) o i
 
-  pub next-sized : Sized next-calls
-  unfolding next-calls
+  pub next-sized : Sized next_calls
+  unfolding next_calls
   next-sized = sized-set_calls s ((header s).calls + 1) z
 
-  pub settled-keeps : SoundFacts (view s) → (header s).made < object_limit → (header s).calls < call_limit → (v : Value)
+  pub settled_keeps : SoundFacts (view s) → (header s).made < object_limit → (header s).calls < call_limit → (v : Value)
       → T (value_known (header s).made (object s) v) → SoundFacts (view (make_settled s v))
-  unfolding make_settled next-calls
-  settled-keeps h l k v t =
+  unfolding make_settled next_calls
+  settled_keeps h l k v t =
       let e = next-header k in
-      resolved-sound next-calls next-sized (call_keeps s z h k) (subst (λ (y : Header). y.made < object_limit) (sym e) l)
+      resolved-sound next_calls next-sized (call_keeps s z h k) (subst (λ (y : Header). y.made < object_limit) (sym e) l)
       (header s).calls (subst (λ (y : Header). (header s).calls < y.calls) (sym e) (omega arith)) v
-      (subst (λ (y : Header). T (value_known y.made (object next-calls) v)) (sym e)
+      (subst (λ (y : Header). T (value_known y.made (object next_calls) v)) (sym e)
       (subst (λ (os : ℕ → Object). T (value_known (header s).made os v)) (sym next-objects) t))
 
 -- ---- the event `gather`
@@ -524,4 +524,4 @@ module _ (s : Store) (os : List ℕ) (z : Sized s) (h : SoundFacts (view s)) (l 
   unfolding make_gather filled_in
   gather_keeps =
       subst SoundFacts (sym gather-view) (unfold add view in
-      (record { but = add-keeps (view s) gathered (length os) (place filled_in) (header s).calls gather-fits h.but; runner = h.runner; runs = h.runs }))
+      (record { but = add_keeps (view s) gathered (length os) (place filled_in) (header s).calls gather-fits h.but; runner = h.runner; runs = h.runs }))

@@ -27,8 +27,8 @@ use Rattle.machine.specs.Scheduler.{walk, cancel_task, cleanup}
 use Rattle.machine.specs.Delivery.{Delivery}
 use Rattle.machine.specs.Commit.{Poll, ready, raised, pending}
 use Rattle.machine.specs.Commit.{commit_gather_tree}
-use Rattle.machine.specs.Events.{How, start, value, raises, Switched, Awaited, run, yield, resume-next, resume-after-task-exit, handle-task-failure}
-use Rattle.machine.specs.Events.{start-by, start-task, activate-state, activate_within, activate, stays, go_on}
+use Rattle.machine.specs.Events.{How, start, value, raises, Switched, Awaited, run, yield, resume_next, resume_after_task_exit, handle_task_failure}
+use Rattle.machine.specs.Events.{start_by, start_task, activate_state, activate_within, activate, stays, go_on}
 use Rattle.machine.specs.Events.{await_coroutine, await_external_future, await_gather, await_object, exec_get_awaitable, handle_task_completion}
 use Rattle.machine.specs.Events.{make_coroutine, make_pending, make_settled, make_gather}
 use Rattle.machine.specs.Machine.{Event, Answer, Step, switched, answer_await, end_main, task_completes, task_fails, runner, repeat_wait, resume_with_resolved_futures}
@@ -38,7 +38,7 @@ use Rattle.machine_laws.specs.Statements.{SaysCalls, Left, AnswerSays}
 use Rattle.machine_laws.specs.StoreLaws.{task-fits, sized-put_task, sized-put_object, sized-put_place, sized-put_header, sized-put_places, sized-put_queue, sized-add_log, sized-forget, sized-set_state, sized-set_moment, sized-set_next, sized-set_calls, sized-add_object, header-fits, header_put-header, object_put-header}
 use Rattle.machine_laws.specs.MakingLaws.{items-sized}
 use Rattle.machine_laws.specs.SoundLaws.{refusal-rest, refusal-forget}
-use Rattle.machine_laws.specs.Walk.{Commits, Closed, success-kept, failure-kept, await-external-kept, commit-kept, results-kept, cancel-kept, cleanup-kept}
+use Rattle.machine_laws.specs.Walk.{Commits, Closed, success_kept, failure_kept, await_external-kept, commit_kept, results-kept, cancel-kept, cleanup-kept}
 use Rattle.machine_laws.specs.WalkEvents.{Writes, await_low, step_kept}
 
 -- ---- the lengths: each write keeps them
@@ -91,7 +91,7 @@ pub sized-cancel_task : (s : Store) (t : ℕ) → Sized s → Sized (cancel_task
 sized-cancel_task s t z = cancel-kept Sized sized_closed s t z
 
 pub sized_commit : (s : Store) (g : ℕ) (a : Awaiter) → g < object_limit → Sized s → Sized (commit_gather_tree s g a).store
-sized_commit s g a l z = commit-kept Sized sized_commits s g a l z
+sized_commit s g a l z = commit_kept Sized sized_commits s g a l z
 
 -- Every event keeps the lengths.
 pub step-sized : (s : Store) (e : Event) → Sized s → Sized (step s e).store
@@ -134,30 +134,30 @@ unfolding yield SaysCalls
 yield-left s z = record { sized = sized-set_moment s Moment.Waiting z; says = sym (waiting_calls s z) }
 
 module _ (go : Store → ℕ → Switched) (h : (s : Store) (t : ℕ) → Sized s → SwitchLeft (go s t)) where
-  next-left : (s : Store) → Sized s → SwitchLeft (resume-next go s)
-  unfolding resume-next
+  next-left : (s : Store) → Sized s → SwitchLeft (resume_next go s)
+  unfolding resume_next
   next-left s z = pick_has SwitchLeft (eqb s.queue.len 0) (yield-left s z) (h _ _ (sized-put_queue s _ z))
 
-  exit-left : (d : Delivery) → Sized d.store → SwitchLeft (resume-after-task-exit go d)
-  unfolding resume-after-task-exit
-  exit-left d z = by d.woken
+  exit_left : (d : Delivery) → Sized d.store → SwitchLeft (resume_after_task_exit go d)
+  unfolding resume_after_task_exit
+  exit_left d z = by d.woken
     where
-      by : (w : Option ℕ) → SwitchLeft (elim w [ none ↦ resume-next go d.store | some t ↦ go (remove_from_ready_queue d.store t) t ])
+      by : (w : Option ℕ) → SwitchLeft (elim w [ none ↦ resume_next go d.store | some t ↦ go (remove_from_ready_queue d.store t) t ])
       by none = next-left d.store z
       by (some t) = h _ t (unfold remove_from_ready_queue in (sized-put_queue d.store _ z))
 
-  failure_left : (s : Store) (t : ℕ) (e : Error) → Sized s → SwitchLeft (handle-task-failure go s t e)
-  unfolding handle-task-failure
+  failure_left : (s : Store) (t : ℕ) (e : Error) → Sized s → SwitchLeft (handle_task_failure go s t e)
+  unfolding handle_task_failure
   failure_left s t e z =
-      exit-left _ (sized-add_log _ (exited t) (sized-remove_task _ t (failure-kept Sized sized_closed s _ e (task-fits s t).awaiter_fits z)))
+      exit_left _ (sized-add_log _ (exited t) (sized-remove_task _ t (failure_kept Sized sized_closed s _ e (task-fits s t).awaiter_fits z)))
 
-  start_left : (s : Store) (t c : ℕ) (f : Option ℕ) → Sized s → SwitchLeft (start-by go s t c f)
-  unfolding start-by
+  start_left : (s : Store) (t c : ℕ) (f : Option ℕ) → Sized s → SwitchLeft (start_by go s t c f)
+  unfolding start_by
   start_left s t c none z = failure_left s t Error.CoroutineReuse z
   start_left s t c (some f) z = run-left _ t (start c f) (sized-put_object s c _ z)
 
-  state-left : (s : Store) (t : ℕ) (x : TaskState) → Sized s → SwitchLeft (activate-state go s t x)
-  unfolding activate-state start-task
+  state-left : (s : Store) (t : ℕ) (x : TaskState) → Sized s → SwitchLeft (activate_state go s t x)
+  unfolding activate_state start_task
   state-left s t TaskState.Absent z = yield-left s z
   state-left s t TaskState.Unstarted z = start_left s t _ _ z
   state-left s t TaskState.Running z = yield-left s z
@@ -190,7 +190,7 @@ await-left s t o Object.Unmade l e z = record { sized = z; says = refl }
 await-left s t o (Object.Coroutine f CoroutineState.New) l e z = stays-left _ t _ 0 (sized-put_object s o _ z)
 await-left s t o (Object.Coroutine f CoroutineState.Running) l e z = stays-left s t _ 0 z
 await-left s t o (Object.Coroutine f CoroutineState.Completed) l e z = stays-left s t _ 0 z
-await-left s t o (Object.ExternalFuture c x) l e z = go_on-left t o 0 _ _ (await-external-kept Sized sized_commits s o c x _ l e z)
+await-left s t o (Object.ExternalFuture c x) l e z = go_on-left t o 0 _ _ (await_external-kept Sized sized_commits s o c x _ l e z)
 await-left s t o (Object.GatherFuture f n GatherState.Pending) l e z = go_on-left t o _ _ _ (sized_commit s o _ l z)
 await-left s t o (Object.GatherFuture f n (GatherState.Awaited a k)) l e z = stays-left s t _ 0 z
 await-left s t o (Object.GatherFuture f n GatherState.Completed) l e z = stays-left s t _ 0 z
@@ -217,8 +217,8 @@ end_left s a q z = left_with (cleanup s) a (cleanup-kept Sized sized_closed s z)
 completion_left : (s : Store) (t : ℕ) (v : Value) → Sized s → SwitchLeft (handle_task_completion s t v)
 unfolding handle_task_completion
 completion_left s t v z =
-    exit-left activate activate-left _
-    (success-kept Sized sized_closed _ _ v (task-fits s t).awaiter_fits (sized-add_log _ (exited t) (sized-remove_task _ t (sized-put_object s _ _ z))))
+    exit_left activate activate-left _
+    (success_kept Sized sized_closed _ _ v (task-fits s t).awaiter_fits (sized-add_log _ (exited t) (sized-remove_task _ t (sized-put_object s _ _ z))))
 
 repeat_left : (s : Store) (cs : List ℕ) → cs ≡ pending_call_ids s → AnswerSays s (repeat_wait cs)
 unfolding repeat_wait AnswerSays SaysCalls

@@ -28,10 +28,10 @@ use Rattle.machine_laws.specs.Facts.{SoundFacts, WordsInRange}
 use Rattle.machine_laws.specs.TestLaws.{is_true, not-not, both, both_left, both_right, or_left, or_right}
 use Rattle.machine_laws.specs.StoreLaws.{sized-forget, sized-put_header, sized-put_place, header_put-header, header_put-object, header-fits}
 use Rattle.machine_laws.specs.MachineLaws.{accepted-step, refused-step, show-step, eager-step}
-use Rattle.machine_laws.specs.FactLaws.{to-facts, to-test}
-use Rattle.machine_laws.specs.WordLaws.{words_facts, words_test, words-put-object, words-put-place, words-put-header}
-use Rattle.machine_laws.specs.MakingLaws.{called_at, added_to, added_fits, blank, next-calls, next-header, next-sized, items-view, items-sized, value-fits, option_fits}
-use Rattle.machine_laws.specs.MakingLaws.{call_keeps, coroutine-keeps, pending-keeps, settled-keeps, gather_keeps}
+use Rattle.machine_laws.specs.FactLaws.{to_facts, to_test}
+use Rattle.machine_laws.specs.WordLaws.{words_facts, words_test, words_put_object, words_put_place, words_put_header}
+use Rattle.machine_laws.specs.MakingLaws.{called_at, added_to, added_fits, blank, next_calls, next-header, next-sized, items-view, items-sized, value-fits, option_fits}
+use Rattle.machine_laws.specs.MakingLaws.{call_keeps, coroutine_keeps, pending_keeps, settled_keeps, gather_keeps}
 use Rattle.machine.specs.Machine.{Event, is_run, any_of, first_refusal, accept, decide, step, in_running, in_waiting, in_both, unmade, result_unknown, full, no_number, refusals, refusal}
 
 -- ---- the words, when an object is added
@@ -47,8 +47,8 @@ module _ (s : Store) (x : Object) (n : ℕ) (z : Sized s) (l : (header s).made <
     where
       added : WordsInRange (header s).next ((header s).made + 1) ((header s).used + n) (add_object s x n)
       added = unfold add_object in
-          (words-put-object _ _ _ (put_header s (added_to (header s) n)) (sized-put_header s (added_to (header s) n) z)
-          (words-put-header _ _ _ s z k (added_to (header s) n) (added_fits s n l r)) ((header s).made + 1) (header s).made x l f (λ p m ne. omega arith))
+          (words_put_object _ _ _ (put_header s (added_to (header s) n)) (sized-put_header s (added_to (header s) n) z)
+          (words_put_header _ _ _ s z k (added_to (header s) n) (added_fits s n l r)) ((header s).made + 1) (header s).made x l f (λ p m ne. omega arith))
 
 -- the places of the items
 items_words : (os : List ℕ) (s : Store) (p next made : ℕ) → Sized s → p + length os ≤ place_limit → AllBelow object_limit os → WordsInRange next made p s
@@ -59,7 +59,7 @@ items_words (o ∷ os) s p next made z r a k =
     let e : p + 1 + length os ≡ p + suc (length os) = omega arith in
     subst (λ (n : ℕ). WordsInRange next made n (put_items (put_place s p (blank o)) (p + 1) os)) e
     (items_words os (put_place s p (blank o)) (p + 1) next made (sized-put_place s p (blank o) z) (omega arith) a.1
-    (words-put-place next made p s z k (p + 1) p (blank o) (omega arith) (record { item-fits = a.0; result_fits = tt }) (λ q m ne. omega arith)))
+    (words_put_place next made p s z k (p + 1) p (blank o) (omega arith) (record { item-fits = a.0; result_fits = tt }) (λ q m ne. omega arith)))
 
 all_below_more : (m n : ℕ) (os : List ℕ) → m ≤ n → AllBelow m os → AllBelow n os
 unfolding AllBelow
@@ -70,11 +70,11 @@ all_below_more m n (o ∷ os) l a = (omega (arith, a.0), all_below_more m n os l
 
 sound-from : (u : Store) → T (words_in_range u) → SoundFacts (view u) → T (sound u)
 unfolding sound
-sound-from u w f = both _ _ w (to-test (view u) f)
+sound-from u w f = both _ _ w (to_test (view u) f)
 
 pub sound_facts : (s : Store) → T (sound s) → SoundFacts (view s)
 unfolding sound view
-sound_facts s h = to-facts (view s) (header-fits s) (both_right (words_in_range s) _ h)
+sound_facts s h = to_facts (view s) (header-fits s) (both_right (words_in_range s) _ h)
 
 module _ (s : Store) (z : Sized s) (h : T (sound s)) where
   facts : SoundFacts (view s)
@@ -90,12 +90,12 @@ module _ (s : Store) (z : Sized s) (h : T (sound s)) where
   no_room : (header s).used + 0 ≤ place_limit
   no_room = omega (arith, (header-fits s).used-fits)
 
-  call-words : (header s).calls < call_limit → T (words_in_range (next-calls s z))
-  unfolding next-calls set_calls
+  call-words : (header s).calls < call_limit → T (words_in_range (next_calls s z))
+  unfolding next_calls set_calls
   call-words k =
       let f : HeaderFits (header s) = header-fits s in
-      words_test (next-calls s z) (subst (λ (y : Header). WordsInRange y.next y.made y.used (next-calls s z)) (sym (next-header s z k))
-      (words-put-header _ _ _ s z words _ (record {
+      words_test (next_calls s z) (subst (λ (y : Header). WordsInRange y.next y.made y.used (next_calls s z)) (sym (next-header s z k))
+      (words_put_header _ _ _ s z words _ (record {
         made-fits = f.made-fits;
         used-fits = f.used-fits;
         calls-fit = omega arith;
@@ -104,26 +104,26 @@ module _ (s : Store) (z : Sized s) (h : T (sound s)) where
       })))
 
   call-sound : (header s).calls < call_limit → T (sound (set_calls s ((header s).calls + 1)))
-  unfolding next-calls
+  unfolding next_calls
   call-sound k = sound-from (set_calls s ((header s).calls + 1)) (call-words k) (call_keeps s z facts k)
 
   module _ (l : (header s).made < object_limit) where
     coroutine-sound : (f : ℕ) → f < u32_limit → T (sound (make_coroutine s f))
     coroutine-sound f k =
-        sound-from (make_coroutine s f) (unfold make_coroutine in add_words s _ 0 z l no_room k words-none) (coroutine-keeps s z facts l f k)
+        sound-from (make_coroutine s f) (unfold make_coroutine in add_words s _ 0 z l no_room k words-none) (coroutine_keeps s z facts l f k)
 
     pending-sound : (c : ℕ) → c < (header s).calls → (r : OptionValue) → T (option_known (header s).made (object s) r)
         → ((p : ℕ) → p < (header s).made → (b : PendingExternal) → as_pending (object s p) ≡ some b → c ≡ b.call.0 → ⊥) → T (sound (make_pending s c r))
     pending-sound c k r t new =
         sound-from (make_pending s c r) (unfold make_pending in
         add_words s _ 0 z l no_room (omega (arith, (header-fits s).calls-fit), (tt, option_fits _ (object s) r (omega arith) t)) words-none)
-        (pending-keeps s z facts l c k r t new)
+        (pending_keeps s z facts l c k r t new)
 
     settled-sound : (header s).calls < call_limit → (v : Value) → T (value_known (header s).made (object s) v) → T (sound (make_settled s v))
-    settled-sound k v t = sound-from (make_settled s v) settled-words (settled-keeps s z facts l k v t)
+    settled-sound k v t = sound-from (make_settled s v) settled-words (settled_keeps s z facts l k v t)
       where
         u : Store
-        u = next-calls s z
+        u = next_calls s z
 
         e : header u ≡ called_at (header s) ((header s).calls + 1) (header s).moment
         e = next-header s z k
@@ -134,7 +134,7 @@ module _ (s : Store) (z : Sized s) (h : T (sound s)) where
             subst (λ (n : ℕ). WordsInRange (header u).next (header u).made n u) q (words_facts u (call-words k))
 
         settled-words : T (words_in_range (make_settled s v))
-        settled-words = unfold make_settled next-calls in
+        settled-words = unfold make_settled next_calls in
             (add_words u _ 0 (next-sized s z) (subst (λ (y : Header). y.made < object_limit) (sym e) l) (omega (arith, (header-fits u).used-fits))
             (omega arith, value-fits _ (object s) v (omega arith) t) words_right)
 

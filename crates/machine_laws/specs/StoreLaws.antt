@@ -21,7 +21,7 @@ use Rattle.asyncio.specs.Layout.{object_words, to_object, to_task, state_words, 
 use Rattle.asyncio.specs.Limits.{task_limit, object_limit, place_limit, objects_length, places_length}
 use Rattle.asyncio.specs.Ranges.{TaskFits, ObjectFits, PlacesFit, PlaceFits, HeaderFits}
 use Rattle.rows.specs.Tables.{task_codec, object_codec, task_start, object_start, task_at, task_put, object_at, object_put, place_at}
-use Rattle.rows.specs.RowLaws.{row-put-at}
+use Rattle.rows.specs.RowLaws.{row-put_at}
 use Rattle.rows.specs.TableLaws.{length-task_put, length-object_put, length-place_put, length-header_put}
 use Rattle.rows.specs.TableLaws.{task_at_put, task_at-other, task_at-fits, object_at_put, object_at-other, object_at-fits, object_at-header_put}
 use Rattle.rows.specs.TableLaws.{place_at_put, place_at-other, place_at-fits, header_at_put, header_at-fits, header_at-object_put}
@@ -128,13 +128,13 @@ kind_back r =
     refl (λ f. refl) (λ f. refl) (λ f. refl) (λ c a x. refl) (λ c v. refl) (λ c e. refl) (λ i n. refl) (λ i n a m. refl) (λ i n. refl)
     (λ i n e. refl) r
 
-pub kind-at_put : (w : List ℕ) (o : ℕ) (r : Object) → length w ≡ objects_length → o < object_limit → kind (object_at (object_put w o r) o) ≡ kind r
+pub kind_at_put : (w : List ℕ) (o : ℕ) (r : Object) → length w ≡ objects_length → o < object_limit → kind (object_at (object_put w o r) o) ≡ kind r
 unfolding object_at object_put
-kind-at_put w o r z l = ap (λ (x : List ℕ). kind (to_object x)) (row-put-at object_codec w (object_start o) r (omega arith)) ∙ kind_back r
+kind_at_put w o r z l = ap (λ (x : List ℕ). kind (to_object x)) (row-put_at object_codec w (object_start o) r (omega arith)) ∙ kind_back r
 
 pub kind-put_object : (s : Store) (o : ℕ) (r : Object) → Sized s → o < object_limit → kind (object (put_object s o r) o) ≡ kind r
 unfolding object put_object
-kind-put_object s o r z l = kind-at_put s.objects o r z.objects-sized l
+kind-put_object s o r z l = kind_at_put s.objects o r z.objects-sized l
 
 -- a gather's places are in range
 abbrev pub PlacesOf : Object → Type 0
@@ -161,7 +161,7 @@ pub count-put_object : (s : Store) (o : ℕ) (r : Object) → Sized s → o < ob
 unfolding object put_object object_at object_put
 count-put_object s o r z l f =
     let w : length s.objects ≡ objects_length = z.objects-sized in
-    ap (λ (x : List ℕ). count_of (to_object x)) (row-put-at object_codec s.objects (object_start o) r (omega arith)) ∙ count_back r f
+    ap (λ (x : List ℕ). count_of (to_object x)) (row-put_at object_codec s.objects (object_start o) r (omega arith)) ∙ count_back r f
 
 live_back : (x : TaskState) → is_live (to_state (state_words x).0 (state_words x).1 (state_words x).2) ≡ is_live x
 live_back TaskState.Absent = refl
@@ -174,7 +174,7 @@ live_back (TaskState.Blocked o) = refl
 pub live-put_task : (s : Store) (t : ℕ) (r : Task) → Sized s → t < task_limit → is_live (task (put_task s t r) t).state ≡ is_live r.state
 unfolding task put_task task_at task_put
 live-put_task s t r z l =
-    ap (λ (x : List ℕ). is_live (to_task x).state) (row-put-at task_codec s.tasks (task_start t) r (omega (arith, z.tasks-sized)))
+    ap (λ (x : List ℕ). is_live (to_task x).state) (row-put_at task_codec s.tasks (task_start t) r (omega (arith, z.tasks-sized)))
     ∙ live_back r.state
 
 -- ---- other rows stay
@@ -229,9 +229,9 @@ module _ {R : Type 0} (f : ℕ → R) (i : ℕ) (r : R) where
   update_other j ne = rw (ne_eqb i j (λ e. ne (sym e)))
 
   -- what holds of the new row at i and of the old ones elsewhere holds of every row
-  pub update-case : (P : R → Type 0) (j : ℕ) → (j ≡ i → P r) → ((j ≡ i → ⊥) → P (f j)) → P (update f i r j)
+  pub update_case : (P : R → Type 0) (j : ℕ) → (j ≡ i → P r) → ((j ≡ i → ⊥) → P (f j)) → P (update f i r j)
   unfolding update
-  update-case P j here there = by (eqb i j) refl
+  update_case P j here there = by (eqb i j) refl
     where
       by : (b : Bool) → eqb i j ≡ b → P (pick b r (f j))
       by true e = here (sym (eqb-true i j e))
@@ -239,7 +239,7 @@ module _ {R : Type 0} (f : ℕ → R) (i : ℕ) (r : R) where
 
 -- a table that has the new row at i and the old ones elsewhere is the table updated
 updated : {R : Type 0} (f g : ℕ → R) (i : ℕ) (r : R) → g i ≡ r → ((j : ℕ) → (j ≡ i → ⊥) → g j ≡ f j) → (j : ℕ) → g j ≡ update f i r j
-updated f g i r e d j = update-case f i r (λ x. g j ≡ x) j (λ q. ap g q ∙ e) (d j)
+updated f g i r e d j = update_case f i r (λ x. g j ≡ x) j (λ q. ap g q ∙ e) (d j)
 
 -- ---- each write changes one row of the view
 

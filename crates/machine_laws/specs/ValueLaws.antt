@@ -19,25 +19,25 @@ module _ (m n : ℕ) (l : m ≤ n) (os ps : ℕ → Object) (same : (o : ℕ) �
       let low : T (ltb g.0 m) = both_left _ _ t in
       both _ _ (ltb_more g.0 m n l low) (same g.0 (ltb→lt g.0 m low) (both_right (ltb g.0 m) _ t))
 
-  pub option-stays : (r : OptionValue) → T (option_known m os r) → T (option_known n ps r)
+  pub option_stays : (r : OptionValue) → T (option_known m os r) → T (option_known n ps r)
   unfolding option_known
-  option-stays OptionValue.None t = t
-  option-stays (OptionValue.Some v) t = value_stays v t
+  option_stays OptionValue.None t = t
+  option_stays (OptionValue.Some v) t = value_stays v t
 
   pub object-stays : (x : Object) → T (object_values m os x) → T (object_values n ps x)
   unfolding object_values
   object-stays Object.Unmade t = t
   object-stays (Object.Coroutine f y) t = t
-  object-stays (Object.ExternalFuture c (ExternalFutureState.Pending a r)) t = option-stays r t
+  object-stays (Object.ExternalFuture c (ExternalFutureState.Pending a r)) t = option_stays r t
   object-stays (Object.ExternalFuture c (ExternalFutureState.Resolved v)) t = value_stays v t
   object-stays (Object.ExternalFuture c (ExternalFutureState.Failed e)) t = t
   object-stays (Object.GatherFuture f k y) t = t
 
-  pub state-stays : (x : TaskState) → T (state_values m os x) → T (state_values n ps x)
+  pub state_stays : (x : TaskState) → T (state_values m os x) → T (state_values n ps x)
   unfolding state_values
-  state-stays TaskState.Absent t = t
-  state-stays TaskState.Unstarted t = t
-  state-stays TaskState.Running t = t
-  state-stays (TaskState.Woken v) t = value_stays v t
-  state-stays (TaskState.Raised e) t = t
-  state-stays (TaskState.Blocked o) t = t
+  state_stays TaskState.Absent t = t
+  state_stays TaskState.Unstarted t = t
+  state_stays TaskState.Running t = t
+  state_stays (TaskState.Woken v) t = value_stays v t
+  state_stays (TaskState.Raised e) t = t
+  state_stays (TaskState.Blocked o) t = t

@@ -35,8 +35,8 @@ use Rattle.machine.specs.Delivery.{climb, awaited_count, send_value, climb_value
 use Rattle.machine.specs.Commit.{Poll, ready, raised, pending, Polled, await_pending, await_external, Item, polled, nested, polled_spawn, item_coroutine, item_gather, item_object, open_from, item}
 use Rattle.machine.specs.Commit.{open_place, fill_place, Stop, at_end, at_nested, at_error, put_polled, put_item, step_item, step_items, Frame, step_gather_commit}
 use Rattle.machine.specs.Commit.{with_state, set_gather, open_gather_commit, settle_as, settle_gather_commit, resume_in, resume_as, resume_after_child, unwind, Committed, turn, commit_loop, commit_gather_tree}
-use Rattle.machine.specs.Events.{How, start, value, raises, Switched, Awaited, run, yield, new_function, resume-next, resume-after-task-exit, handle-task-failure}
-use Rattle.machine.specs.Events.{start-by, start-task, activate-state, activate_within, activate, stays, go_on, await_coroutine, await_external_future, await_gather, await_object, exec_get_awaitable}
+use Rattle.machine.specs.Events.{How, start, value, raises, Switched, Awaited, run, yield, new_function, resume_next, resume_after_task_exit, handle_task_failure}
+use Rattle.machine.specs.Events.{start_by, start_task, activate_state, activate_within, activate, stays, go_on, await_coroutine, await_external_future, await_gather, await_object, exec_get_awaitable}
 use Rattle.machine.specs.Scheduler.{PendingExternal, as_pending, pending_external, pending_external_in, is_call}
 use Rattle.machine.specs.Delivery.{value_or, resolve_pending, fail_pending, settle_pending, settle_found, resolve_future, fail_future}
 use Rattle.machine.specs.Events.{Result, apply_result, apply_future_results, wake_in_order}
@@ -281,37 +281,37 @@ module _ (K : Store → Type 0) (kept : Switches K) where
   SwitchKept x = K x.store
 
   module _ (go : Store → ℕ → Switched) (h : (s : Store) (t : ℕ) → t < task_limit → K s → K (go s t).store) where
-    next-kept : (s : Store) → K s → K (resume-next go s).store
-    unfolding resume-next
+    next-kept : (s : Store) → K s → K (resume_next go s).store
+    unfolding resume_next
     next-kept s k =
         pick_has (λ (x : Switched). K x.store) (eqb s.queue.len 0) (yields s k) (h (put_queue s (pop_front s.queue)) (front_of s.queue).0 (front_of-fits s.queue) (kept.queued s _ k))
 
-    exit-kept : (d : Delivery) → WokenFits d → K d.store → K (resume-after-task-exit go d).store
-    unfolding resume-after-task-exit remove_from_ready_queue
+    exit-kept : (d : Delivery) → WokenFits d → K d.store → K (resume_after_task_exit go d).store
+    unfolding resume_after_task_exit remove_from_ready_queue
     exit-kept d m k = by d.woken refl
       where
-        by : (w : Option ℕ) → d.woken ≡ w → SwitchKept (elim w [ none ↦ resume-next go d.store | some t ↦ go (remove_from_ready_queue d.store t) t ])
+        by : (w : Option ℕ) → d.woken ≡ w → SwitchKept (elim w [ none ↦ resume_next go d.store | some t ↦ go (remove_from_ready_queue d.store t) t ])
         by none e = next-kept d.store k
         by (some t) e = h _ t (m.fits t e) (kept.queued d.store _ k)
 
     -- a task fails and goes
-    left-kept : (s : Store) (t : ℕ) (e : Error) → Sized s → K (add_log (remove_task (deliver_awaiter_failure s (task s t).awaiter e).store t) (exited t)) → K (handle-task-failure go s t e).store
-    unfolding handle-task-failure
+    left-kept : (s : Store) (t : ℕ) (e : Error) → Sized s → K (add_log (remove_task (deliver_awaiter_failure s (task s t).awaiter e).store t) (exited t)) → K (handle_task_failure go s t e).store
+    unfolding handle_task_failure
     left-kept s t e z k = exit-kept _ (record { fits = (failure_woken s (task s t).awaiter e z (task-fits s t).awaiter_fits).fits }) k
 
-    start-kept : (s : Store) (t : ℕ) → t < task_limit → (task s t).state ≡ TaskState.Unstarted → K s → K (start-task go s t).store
-    unfolding start-task start-by run
+    start-kept : (s : Store) (t : ℕ) → t < task_limit → (task s t).state ≡ TaskState.Unstarted → K s → K (start_task go s t).store
+    unfolding start_task start_by run
     start-kept s t l r k = by (new_function (object s o)) refl
       where
         o : ℕ
         o = (task s t).coroutine.0
 
-        by : (n : Option ℕ) → new_function (object s o) ≡ n → K (start-by go s t o n).store
+        by : (n : Option ℕ) → new_function (object s o) ≡ n → K (start_by go s t o n).store
         by none e = left-kept s t Error.CoroutineReuse (kept.delivers.sized s k) (kept.fails s t Error.CoroutineReuse l r e k (error-kept K kept.delivers s (task s t).awaiter Error.CoroutineReuse (task-fits s t).awaiter_fits k))
         by (some f) e = kept.moved _ (Moment.Running (task_id t)) l (kept.begins s t f l r (new-object (object s o) f e) k)
 
-    state_kept : (s : Store) (t : ℕ) (x : TaskState) → t < task_limit → (task s t).state ≡ x → K s → K (activate-state go s t x).store
-    unfolding activate-state
+    state_kept : (s : Store) (t : ℕ) (x : TaskState) → t < task_limit → (task s t).state ≡ x → K s → K (activate_state go s t x).store
+    unfolding activate_state
     state_kept s t TaskState.Absent l e k = yields s k
     state_kept s t TaskState.Unstarted l e k = start-kept s t l e k
     state_kept s t TaskState.Running l e k = yields s k
@@ -330,15 +330,15 @@ module _ (K : Store → Type 0) (kept : Switches K) where
   task-kept s t l k = within-kept (live_count s) s t l k
 
   -- the next one is
-  pub next-task-kept : (s : Store) → K s → K (resume-next activate s).store
+  pub next-task-kept : (s : Store) → K s → K (resume_next activate s).store
   next-task-kept s k = next-kept activate task-kept s k
 
   -- the one that was woken is, or the next one
-  pub woken-task-kept : (d : Delivery) → WokenFits d → K d.store → K (resume-after-task-exit activate d).store
+  pub woken-task-kept : (d : Delivery) → WokenFits d → K d.store → K (resume_after_task_exit activate d).store
   woken-task-kept d m k = exit-kept activate task-kept d m k
 
   -- a task fails and goes
-  pub failed-task-kept : (s : Store) (t : ℕ) (e : Error) → Sized s → K (add_log (remove_task (deliver_awaiter_failure s (task s t).awaiter e).store t) (exited t)) → K (handle-task-failure activate s t e).store
+  pub failed-task-kept : (s : Store) (t : ℕ) (e : Error) → Sized s → K (add_log (remove_task (deliver_awaiter_failure s (task s t).awaiter e).store t) (exited t)) → K (handle_task_failure activate s t e).store
   failed-task-kept s t e z k = left-kept activate task-kept s t e z k
 
 -- ---- the commit
@@ -357,11 +357,11 @@ module _ (K : Store → Type 0) (kept : NewCommits K) where
   await-pending-kept s o c r (Awaiter.GatherSlot g x) a l e k = k
 
   -- an external is polled
-  pub external-kept : (s : Store) (o : ℕ) (c : CallId) (x : ExternalFutureState) (a : Awaiter) → o < object_limit → object s o ≡ Object.ExternalFuture c x → K s → K (await_external s o c x a).store
+  pub external_kept : (s : Store) (o : ℕ) (c : CallId) (x : ExternalFutureState) (a : Awaiter) → o < object_limit → object s o ≡ Object.ExternalFuture c x → K s → K (await_external s o c x a).store
   unfolding await_external
-  external-kept s o c (ExternalFutureState.Pending b r) a l e k = await-pending-kept s o c r b a l e k
-  external-kept s o c (ExternalFutureState.Resolved v) a l e k = k
-  external-kept s o c (ExternalFutureState.Failed x) a l e k = k
+  external_kept s o c (ExternalFutureState.Pending b r) a l e k = await-pending-kept s o c r b a l e k
+  external_kept s o c (ExternalFutureState.Resolved v) a l e k = k
+  external_kept s o c (ExternalFutureState.Failed x) a l e k = k
 
   await-still : (s : Store) (g o : ℕ) (c : CallId) (x : ExternalFutureState) (a : Awaiter) → (g ≡ o → ⊥) → object (await_external s o c x a).store g ≡ object s g
   unfolding await_external await_pending
@@ -407,7 +407,7 @@ module _ (K : Store → Type 0) (kept : NewCommits K) where
   item-object-kept s g o w (Object.ExternalFuture c x) l e q k =
       record {
         still = await-still s g o c x _ (λ d. not_external (object s g) w c x e (ap (object s) d ∙ q));
-        keeps = external-kept s o c x _ l q k;
+        keeps = external_kept s o c x _ l q k;
       }
   item-object-kept s g o w (Object.GatherFuture f n GatherState.Pending) l e q k = tt
   item-object-kept s g o w (Object.GatherFuture f n (GatherState.Awaited a m)) l e q k = record { still = refl; keeps = k }
@@ -505,9 +505,9 @@ module _ (K : Store → Type 0) (kept : NewCommits K) where
       (items_kept _ s f.gather f.next (low_first f fs l) k)
 
   -- a gather is committed
-  pub tree-kept : (s : Store) (g : ℕ) (a : Awaiter) → g < object_limit → K s → K (commit_gather_tree s g a).store
+  pub tree_kept : (s : Store) (g : ℕ) (a : Awaiter) → g < object_limit → K s → K (commit_gather_tree s g a).store
   unfolding commit_gather_tree open_gather_commit
-  tree-kept s g a l k = loop-kept _ _ _ [] 0 1 0 (unfold Low in (l, tt)) (set-kept s g _ l k)
+  tree_kept s g a l k = loop-kept _ _ _ [] 0 1 0 (unfold Low in (l, tt)) (set-kept s g _ l k)
 
 -- ---- await, by a task t: J holds until it blocks, K from there on
 
@@ -525,16 +525,16 @@ module _ (J K : Store → Type 0) (first : NewCommits J) (then : Switches K) (ov
   await-by s (Object.Coroutine f CoroutineState.New) e k = over _ (first.row s o _ low (subst (λ (x : Object). Turns x (Object.Coroutine f CoroutineState.Running)) (sym e) (starts f)) k)
   await-by s (Object.Coroutine f CoroutineState.Running) e k = over s k
   await-by s (Object.Coroutine f CoroutineState.Completed) e k = over s k
-  await-by s (Object.ExternalFuture c x) e k = go-on-kept 0 _ _ (external-kept J first s o c x _ low e k)
-  await-by s (Object.GatherFuture f n GatherState.Pending) e k = go-on-kept _ _ _ (tree-kept J first s o _ low k)
+  await-by s (Object.ExternalFuture c x) e k = go-on-kept 0 _ _ (external_kept J first s o c x _ low e k)
+  await-by s (Object.GatherFuture f n GatherState.Pending) e k = go-on-kept _ _ _ (tree_kept J first s o _ low k)
   await-by s (Object.GatherFuture f n (GatherState.Awaited a m)) e k = over s k
   await-by s (Object.GatherFuture f n GatherState.Completed) e k = over s k
   await-by s (Object.GatherFuture f n (GatherState.Failed x)) e k = over s k
 
   -- the running task awaits an object
-  pub awaits-kept : (s : Store) → J s → K (exec_get_awaitable s t o).store
+  pub awaits_kept : (s : Store) → J s → K (exec_get_awaitable s t o).store
   unfolding exec_get_awaitable
-  awaits-kept s k = await-by s (object s o) refl k
+  awaits_kept s k = await-by s (object s o) refl k
 
 -- ---- cancel
 
@@ -614,12 +614,12 @@ module _ (K : Store → Type 0) (kept : Commits K) where
   commits-of = record { row = kept.row; value-put = kept.value-put; spawns = λ s c g f l m e n k. kept.spawns s c g l k }
 
   -- an external is polled
-  pub await-external-kept : (s : Store) (o : ℕ) (c : CallId) (x : ExternalFutureState) (a : Awaiter) → o < object_limit → object s o ≡ Object.ExternalFuture c x → K s → K (await_external s o c x a).store
-  await-external-kept s o c x a l e k = external-kept K commits-of s o c x a l e k
+  pub await_external-kept : (s : Store) (o : ℕ) (c : CallId) (x : ExternalFutureState) (a : Awaiter) → o < object_limit → object s o ≡ Object.ExternalFuture c x → K s → K (await_external s o c x a).store
+  await_external-kept s o c x a l e k = external_kept K commits-of s o c x a l e k
 
   -- a gather is committed
-  pub commit-kept : (s : Store) (g : ℕ) (a : Awaiter) → g < object_limit → K s → K (commit_gather_tree s g a).store
-  commit-kept s g a l k = tree-kept K commits-of s g a l k
+  pub commit_kept : (s : Store) (g : ℕ) (a : Awaiter) → g < object_limit → K s → K (commit_gather_tree s g a).store
+  commit_kept s g a l k = tree_kept K commits-of s g a l k
 
 module _ (K : Store → Type 0) (kept : Closed K) where
   delivers-of : Delivers K
@@ -641,28 +641,28 @@ module _ (K : Store → Type 0) (kept : Closed K) where
       starts-on s t f l e n k = kept.runs_on _ t l (unfold task put_object in (unfold task in (ap is_ready e))) (kept.row s _ _ (task-fits s t).coroutine-fits (subst (λ (x : Object). Turns x (Object.Coroutine f CoroutineState.Running)) (sym n) (starts f)) k)
 
   -- a value goes up
-  pub success-kept : (s : Store) (a : Awaiter) (v : Value) → AwaiterFits a → K s → K (deliver_awaiter_success s a v).store
-  success-kept s a v f k = value-kept K delivers-of s a v f k
+  pub success_kept : (s : Store) (a : Awaiter) (v : Value) → AwaiterFits a → K s → K (deliver_awaiter_success s a v).store
+  success_kept s a v f k = value-kept K delivers-of s a v f k
 
   -- an error goes up
-  pub failure-kept : (s : Store) (a : Awaiter) (e : Error) → AwaiterFits a → K s → K (deliver_awaiter_failure s a e).store
-  failure-kept s a e f k = error-kept K delivers-of s a e f k
+  pub failure_kept : (s : Store) (a : Awaiter) (e : Error) → AwaiterFits a → K s → K (deliver_awaiter_failure s a e).store
+  failure_kept s a e f k = error-kept K delivers-of s a e f k
 
   -- a task is activated
   pub activate-kept : (s : Store) (t : ℕ) → t < task_limit → K s → K (activate s t).store
   activate-kept s t l k = task-kept K switches-of s t l k
 
   -- the next one is
-  pub resume-kept : (s : Store) → K s → K (resume-next activate s).store
+  pub resume-kept : (s : Store) → K s → K (resume_next activate s).store
   resume-kept s k = next-task-kept K switches-of s k
 
   -- a task fails
-  pub fail-kept : (s : Store) (t : ℕ) (e : Error) → K s → K (handle-task-failure activate s t e).store
-  fail-kept s t e k = failed-task-kept K switches-of s t e (kept.sized s k) (kept.exits _ t (failure-kept s (task s t).awaiter e (task-fits s t).awaiter_fits k))
+  pub fail-kept : (s : Store) (t : ℕ) (e : Error) → K s → K (handle_task_failure activate s t e).store
+  fail-kept s t e k = failed-task-kept K switches-of s t e (kept.sized s k) (kept.exits _ t (failure_kept s (task s t).awaiter e (task-fits s t).awaiter_fits k))
 
   -- a task has gone, with a value for its awaiter
-  pub completion-kept : (left : Store) (a : Awaiter) (v : Value) → AwaiterFits a → K left → K (resume-after-task-exit activate (deliver_awaiter_success left a v)).store
-  completion-kept left a v f k = woken-task-kept K switches-of _ (success_woken left a v (kept.sized left k) f) (success-kept left a v f k)
+  pub completion_kept : (left : Store) (a : Awaiter) (v : Value) → AwaiterFits a → K left → K (resume_after_task_exit activate (deliver_awaiter_success left a v)).store
+  completion_kept left a v f k = woken-task-kept K switches-of _ (success_woken left a v (kept.sized left k) f) (success_kept left a v f k)
 
   -- a task is cancelled
   pub cancel-kept : (s : Store) (t : ℕ) → K s → K (cancel_task s t)
@@ -687,4 +687,4 @@ module _ (K : Store → Type 0) (kept : Closed K) where
 -- the running task awaits an object
 pub await-kept : (J K : Store → Type 0) → Commits J → Closed K → ((u : Store) → J u → K u) → (t o : ℕ) → o < object_limit → ((u : Store) → J u → K (add_log (set_state u t (TaskState.Blocked (heap_id o))) (blocked t)))
     → (s : Store) → J s → K (exec_get_awaitable s t o).store
-await-kept J K first then over t o low blocks s k = awaits-kept J K (commits-of J first) (switches-of K then) over t o low blocks s k
+await-kept J K first then over t o low blocks s k = awaits_kept J K (commits-of J first) (switches-of K then) over t o low blocks s k

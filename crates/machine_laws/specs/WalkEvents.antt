@@ -25,7 +25,7 @@ use Rattle.machine.specs.Machine.{Event, Answer, Step, switched, answer_await, e
 use Rattle.machine.specs.Machine.{unmade, first_refusal, refusals, refusal, accept, decide, step, after}
 use Rattle.machine_laws.specs.StoreLaws.{task-fits, header-fits}
 use Rattle.machine_laws.specs.SoundLaws.{pass, running-rest, refusal-rest, refusal-forget}
-use Rattle.machine_laws.specs.Walk.{Commits, Closed, await-kept, resume-kept, fail-kept, completion-kept, results-kept, cancel-kept, cleanup-kept}
+use Rattle.machine_laws.specs.Walk.{Commits, Closed, await-kept, resume-kept, fail-kept, completion_kept, results-kept, cancel-kept, cleanup-kept}
 
 -- K is kept by each write of an event but the count of calls: those of a commit, those of deliveries and switches, and what events write themselves
 pub record Writes (K : Store → Type 0) : Type 0 where
@@ -76,7 +76,7 @@ module _ (K : Store → Type 0) (kept : Writes K) where
   unfolding switched handle_task_completion
   completes-kept s t v k =
       let c : ℕ = (task s t).coroutine.0 in
-      completion-kept K kept.closed (add_log (remove_task (put_object s c (completed (object s c))) t) (exited t)) (task s t).awaiter v (task-fits s t).awaiter_fits
+      completion_kept K kept.closed (add_log (remove_task (put_object s c (completed (object s c))) t) (exited t)) (task s t).awaiter v (task-fits s t).awaiter_fits
       (kept.closed.exits _ t (kept.completes s c (task-fits s t).coroutine-fits k))
 
   resumes-kept : (s : Store) → K s → StepKept (resume_with_resolved_futures s)

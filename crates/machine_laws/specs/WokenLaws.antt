@@ -16,7 +16,7 @@ use Rattle.asyncio.specs.RangeLaws.{pick_has}
 use Rattle.machine.specs.Store.{Store, task, put_task, absent}
 use Rattle.machine.specs.Scheduler.{live_in, live_count}
 use Rattle.machine.specs.Delivery.{Delivery, Settled, nobody_woken, deliver_to_task, resolve_child, fail_gather, climb, awaited_count, send_value, climb_value, deliver_awaiter_success, send_error, climb_error, deliver_awaiter_failure}
-use Rattle.machine.specs.Events.{yield, activate-state, activate_within, activate}
+use Rattle.machine.specs.Events.{yield, activate_state, activate_within, activate}
 use Rattle.machine_laws.specs.Views.{Sized}
 use Rattle.machine_laws.specs.Statements.{SameLive}
 use Rattle.machine_laws.specs.StoreLaws.{live-put_task, task_put-other}
@@ -83,21 +83,21 @@ failure_woken s a e z f =
 -- ---- activating
 
 within_absent : (k : ℕ) (s : Store) (t : ℕ) → (task s t).state ≡ TaskState.Absent → activate_within k s t ≡ yield s
-unfolding activate_within activate-state
+unfolding activate_within activate_state
 within_absent zero s t e = refl
 within_absent (suc k) s t e = rw e
 
-absent_yields : (s : Store) (t : ℕ) → (task s t).state ≡ TaskState.Absent → activate s t ≡ activate-state activate s t (task s t).state
+absent_yields : (s : Store) (t : ℕ) → (task s t).state ≡ TaskState.Absent → activate s t ≡ activate_state activate s t (task s t).state
 absent_yields s t e =
     let a : activate s t ≡ yield s = unfold activate in (within_absent (live_count s) s t e) in
-    let b : activate-state activate s t (task s t).state ≡ yield s = unfold activate-state in (rw e) in
+    let b : activate_state activate s t (task s t).state ≡ yield s = unfold activate_state in (rw e) in
     a ∙ sym b
 
 -- A task is activated by its state; of one that does not live the host gets control.
-pub activate-by : (s : Store) (t : ℕ) → Sized s → t < task_limit → activate s t ≡ activate-state activate s t (task s t).state
+pub activate-by : (s : Store) (t : ℕ) → Sized s → t < task_limit → activate s t ≡ activate_state activate s t (task s t).state
 activate-by s t z l = by (task s t).state refl
   where
-    by : (x : TaskState) → (task s t).state ≡ x → activate s t ≡ activate-state activate s t (task s t).state
+    by : (x : TaskState) → (task s t).state ≡ x → activate s t ≡ activate_state activate s t (task s t).state
     by TaskState.Absent e = absent_yields s t e
     by TaskState.Unstarted e = activate_once s t z l (rw e)
     by TaskState.Running e = activate_once s t z l (rw e)

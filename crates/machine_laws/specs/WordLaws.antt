@@ -15,7 +15,7 @@ use Rattle.rows.specs.Tables.{task_codec, object_codec, place_codec, header_code
 use Rattle.rows.specs.TableLaws.{different}
 use Rattle.rows.specs.RowLaws.{row-put-apart}
 use Rattle.rows.specs.Canonical.{same_words, task_canonical, object_canonical, place_canonical, header_canonical}
-use Rattle.rows.specs.CanonicalLaws.{canonical-put, canonical-apart}
+use Rattle.rows.specs.CanonicalLaws.{canonical_put, canonical_apart}
 use Rattle.queue.specs.declared.ReadyQueue.{ReadyQueue}
 use Rattle.machine.specs.Tests.{all_below}
 use Rattle.machine.specs.Store.{Store, header, put_task, put_object, put_place, put_header, put_queue, add_log, forget, LogEntry}
@@ -53,9 +53,9 @@ unfolding task_canonical task_put
 task-row w t u r l f h = by (ℕ_discrete u t)
   where
     by : Dec (u ≡ t) → T (task_canonical (task_put w t r) u)
-    by (yes e) = subst (λ (j : ℕ). T (task_canonical (task_put w t r) j)) (sym e) (holds _ (canonical-put task_codec w (task_start t) r f l))
+    by (yes e) = subst (λ (j : ℕ). T (task_canonical (task_put w t r) j)) (sym e) (holds _ (canonical_put task_codec w (task_start t) r f l))
     by (no ne) =
-        subst T (sym (canonical-apart task_codec w (task_start t) (task_start u) r
+        subst T (sym (canonical_apart task_codec w (task_start t) (task_start u) r
         (⊎_elim (λ m. inl (omega arith)) (λ m. inr (omega arith)) (different t u ne)))) (h ne)
 
 object_row : (w : List ℕ) (o p : ℕ) (r : Object) → o * 8 + 16 ≤ length w → ObjectFits r → ((p ≡ o → ⊥) → T (object_canonical w p))
@@ -64,9 +64,9 @@ unfolding object_canonical object_put
 object_row w o p r l f h = by (ℕ_discrete p o)
   where
     by : Dec (p ≡ o) → T (object_canonical (object_put w o r) p)
-    by (yes e) = subst (λ (j : ℕ). T (object_canonical (object_put w o r) j)) (sym e) (holds _ (canonical-put object_codec w (object_start o) r f (omega arith)))
+    by (yes e) = subst (λ (j : ℕ). T (object_canonical (object_put w o r) j)) (sym e) (holds _ (canonical_put object_codec w (object_start o) r f (omega arith)))
     by (no ne) =
-        subst T (sym (canonical-apart object_codec w (object_start o) (object_start p) r
+        subst T (sym (canonical_apart object_codec w (object_start o) (object_start p) r
         (⊎_elim (λ m. inl (omega arith)) (λ m. inr (omega arith)) (different o p ne)))) (h ne)
 
 place-row : (w : List ℕ) (p q : ℕ) (r : Place) → p * 4 + 4 ≤ length w → PlaceFits r → ((q ≡ p → ⊥) → T (place_canonical w q)) → T (place_canonical (place_put w p r) q)
@@ -74,9 +74,9 @@ unfolding place_canonical place_put
 place-row w p q r l f h = by (ℕ_discrete q p)
   where
     by : Dec (q ≡ p) → T (place_canonical (place_put w p r) q)
-    by (yes e) = subst (λ (j : ℕ). T (place_canonical (place_put w p r) j)) (sym e) (holds _ (canonical-put place_codec w (place_start p) r f l))
+    by (yes e) = subst (λ (j : ℕ). T (place_canonical (place_put w p r) j)) (sym e) (holds _ (canonical_put place_codec w (place_start p) r f l))
     by (no ne) =
-        subst T (sym (canonical-apart place_codec w (place_start p) (place_start q) r
+        subst T (sym (canonical_apart place_codec w (place_start p) (place_start q) r
         (⊎_elim (λ m. inl (omega arith)) (λ m. inr (omega arith)) (different p q ne)))) (h ne)
 
 -- the header's row and the objects' rows lie apart
@@ -93,14 +93,14 @@ object_row-header w o h =
 
 header_row : (w : List ℕ) (h : Header) → 8 ≤ length w → HeaderFits h → T (header_canonical (header_put w h))
 unfolding header_canonical header_put
-header_row w h l f = holds _ (canonical-put header_codec w 0 h f l)
+header_row w h l f = holds _ (canonical_put header_codec w 0 h f l)
 
 -- ---- the store: the rows in use are then those that were, and the one that was written
 
 module _ (next made used : ℕ) (s : Store) (z : Sized s) (k : WordsInRange next made used s) where
-  pub words-put-task : (n t : ℕ) (r : Task) → t < task_limit → TaskFits r → ((u : ℕ) → u < n → (u ≡ t → ⊥) → u < next) → WordsInRange n made used (put_task s t r)
+  pub words_put_task : (n t : ℕ) (r : Task) → t < task_limit → TaskFits r → ((u : ℕ) → u < n → (u ≡ t → ⊥) → u < next) → WordsInRange n made used (put_task s t r)
   unfolding put_task
-  words-put-task n t r l f h = record {
+  words_put_task n t r l f h = record {
     header-right = k.header-right;
     tasks-right = λ u m. task-row s.tasks t u r (omega (arith, z.tasks-sized)) f (λ ne. k.tasks-right u (h u m ne));
     objects-right = k.objects-right;
@@ -108,10 +108,10 @@ module _ (next made used : ℕ) (s : Store) (z : Sized s) (k : WordsInRange next
     queue-short = k.queue-short;
   }
 
-  pub words-put-object : (n o : ℕ) (r : Object) → o < object_limit → ObjectFits r → ((p : ℕ) → p < n → (p ≡ o → ⊥) → p < made)
+  pub words_put_object : (n o : ℕ) (r : Object) → o < object_limit → ObjectFits r → ((p : ℕ) → p < n → (p ≡ o → ⊥) → p < made)
       → WordsInRange next n used (put_object s o r)
   unfolding put_object
-  words-put-object n o r l f h = record {
+  words_put_object n o r l f h = record {
     header-right = subst T (sym (header-row_object s.objects o r)) k.header-right;
     tasks-right = k.tasks-right;
     objects-right = λ p m. object_row s.objects o p r (omega (arith, z.objects-sized)) f (λ ne. k.objects-right p (h p m ne));
@@ -119,9 +119,9 @@ module _ (next made used : ℕ) (s : Store) (z : Sized s) (k : WordsInRange next
     queue-short = k.queue-short;
   }
 
-  pub words-put-place : (n p : ℕ) (r : Place) → p < place_limit → PlaceFits r → ((q : ℕ) → q < n → (q ≡ p → ⊥) → q < used) → WordsInRange next made n (put_place s p r)
+  pub words_put_place : (n p : ℕ) (r : Place) → p < place_limit → PlaceFits r → ((q : ℕ) → q < n → (q ≡ p → ⊥) → q < used) → WordsInRange next made n (put_place s p r)
   unfolding put_place
-  words-put-place n p r l f h = record {
+  words_put_place n p r l f h = record {
     header-right = k.header-right;
     tasks-right = k.tasks-right;
     objects-right = k.objects-right;
@@ -129,9 +129,9 @@ module _ (next made used : ℕ) (s : Store) (z : Sized s) (k : WordsInRange next
     queue-short = k.queue-short;
   }
 
-  pub words-put-header : (h : Header) → HeaderFits h → WordsInRange next made used (put_header s h)
+  pub words_put_header : (h : Header) → HeaderFits h → WordsInRange next made used (put_header s h)
   unfolding put_header
-  words-put-header h f = record {
+  words_put_header h f = record {
     header-right = header_row s.objects h (omega (arith, z.objects-sized)) f;
     tasks-right = k.tasks-right;
     objects-right = λ o m. subst T (sym (object_row-header s.objects o h)) (k.objects-right o m);
@@ -139,9 +139,9 @@ module _ (next made used : ℕ) (s : Store) (z : Sized s) (k : WordsInRange next
     queue-short = k.queue-short;
   }
 
-  pub words-put-queue : (q : ReadyQueue) → q.len ≤ task_limit → WordsInRange next made used (put_queue s q)
+  pub words_put_queue : (q : ReadyQueue) → q.len ≤ task_limit → WordsInRange next made used (put_queue s q)
   unfolding put_queue
-  words-put-queue q l = record {
+  words_put_queue q l = record {
     header-right = k.header-right;
     tasks-right = k.tasks-right;
     objects-right = k.objects-right;
@@ -149,9 +149,9 @@ module _ (next made used : ℕ) (s : Store) (z : Sized s) (k : WordsInRange next
     queue-short = l;
   }
 
-  pub words-add-log : (x : LogEntry) → WordsInRange next made used (add_log s x)
+  pub words_add_log : (x : LogEntry) → WordsInRange next made used (add_log s x)
   unfolding add_log
-  words-add-log x = record {
+  words_add_log x = record {
     header-right = k.header-right;
     tasks-right = k.tasks-right;
     objects-right = k.objects-right;
@@ -159,9 +159,9 @@ module _ (next made used : ℕ) (s : Store) (z : Sized s) (k : WordsInRange next
     queue-short = k.queue-short;
   }
 
-  pub words-forget : WordsInRange next made used (forget s)
+  pub words_forget : WordsInRange next made used (forget s)
   unfolding forget
-  words-forget = record {
+  words_forget = record {
     header-right = k.header-right;
     tasks-right = k.tasks-right;
     objects-right = k.objects-right;

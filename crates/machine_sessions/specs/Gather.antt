@@ -61,7 +61,7 @@ use Rattle.machine_sessions.specs.Stall.Outcomes.{outcome_of, is_there}
 use Rattle.machine.specs.DemandThree.{read, shown_by, delivered, none_open}
 use Rattle.machine.specs.DemandTwo.{came, committed, is_late, InUse, ReuseAt, DemandTwo}
 use Rattle.machine_sessions.specs.DemandThree.{demand_three}
-use Rattle.machine_sessions.specs.Stall.WaitingSessions.{awaited-items_no_error}
+use Rattle.machine_sessions.specs.Stall.WaitingSessions.{awaited_items_no_error}
 use Rattle.machine_sessions.specs.Gather.Arrivals.{head_in, tail_in}
 use Rattle.machine_sessions.specs.Gather.GatherSteps.{Delivered, NoneRaised, FailsLater, FailsAtCommit, GatherStep, Which, w_awaited, w_completed, w_failed, which, in_range_snoc, session_snoc, gather-right}
 use Rattle.machine_sessions.specs.Gather.GatherEvents.{session-stays}
@@ -69,7 +69,7 @@ use Rattle.machine_sessions.specs.Gather.LateLast.{InPlace, item-place, item-com
 use Rattle.machine_sessions.specs.Gather.LogApart.{lent_entry}
 use Rattle.machine_sessions.specs.Gather.Batches.{batch, few-said}
 use Rattle.machine_sessions.specs.Gather.Users.{sent_in_use}
-use Rattle.machine_sessions.specs.Gather.CutGathers.{cut-so-far}
+use Rattle.machine_sessions.specs.Gather.CutGathers.{cut_so_far}
 use Rattle.machine_sessions.specs.Gather.FailingSessions.{ShownMoves, ShowsCommitted, FailedItem, FirstFailed, GatherFails, session-fails, making-later, look-row, row-failed, IsFailed, session-knows}
 
 -- ---- what show answers
@@ -121,7 +121,7 @@ state_right es i g = (done, waits)
     quiet : (vs : List (Option Value)) → look s g ≡ Shown.a_gather_awaited vs → NoneRaised (session es) g
     quiet vs e o z =
         let a : InPlace s g o = item-place h s (session_follows es i).whole (session_agrees es i) g o vs e z in
-        ap error_of (came-is o) ∙ subst (λ (n : ℕ). error_of (outcome h (look s) n) ≡ none) a.names (awaited-items_no_error es i g a.row a.made a.awaited a.at a.under)
+        ap error_of (came-is o) ∙ subst (λ (n : ℕ). error_of (outcome h (look s) n) ≡ none) a.names (awaited_items_no_error es i g a.row a.made a.awaited a.at a.under)
 
     waits : (vs : List (Option Value)) → look s g ≡ Shown.a_gather_awaited vs → Delivered (session es) g vs × (none_open vs ≡ false) × NoneRaised (session es) g
     waits vs e = let k = ((demand_three es i).places g).awaited vs (look-read s g _ e (unfold committed in refl)) in (as-came vs k.0, k.1, quiet vs e)
@@ -753,4 +753,4 @@ result_commits_none ps r l g e j c q =
 -- For every list of events, and every gather that was committed.
 pub demand_two : DemandTwo
 demand_two es i g c =
-    gather-right g (λ ps s a b d. gather-step ps s a b g d) (λ ps e. cut-so-far g (λ qs r l z j. result_commits_none qs r l g z j) ps e) (fresh-not g) es i c
+    gather-right g (λ ps s a b d. gather-step ps s a b g d) (λ ps e. cut_so_far g (λ qs r l z j. result_commits_none qs r l g z j) ps e) (fresh-not g) es i c

@@ -32,12 +32,12 @@ use Rattle.machine_laws.specs.MachineLaws.{accepted-step, refused-step}
 use Rattle.machine_laws.specs.SoundLaws.{refusal-forget}
 use Rattle.machine_laws.specs.SizedLaws.{step-says}
 use Rattle.machine_theorems.specs.Soundness.Stores.{SoundStore}
-use Rattle.machine_theorems.specs.Soundness.Sessions.{forget-sound-store}
+use Rattle.machine_theorems.specs.Soundness.Sessions.{forget-sound_store}
 use Rattle.machine.specs.Sessions.{Sent, lent_any, entry_of, Session, begun, send, send_all, session, AllSentInRange}
 use Rattle.machine.specs.DemandThree.{Above, Rising, WaitRight, ControlRight, WaitsRight}
 use Rattle.machine_sessions.specs.Queue.Following.{accept_accepts, Sends, stepped, short, sends, Following, send_following, session_follows}
 use Rattle.machine_sessions.specs.Waits.Calls.{pending_call, called, pends, pending_calls_are, in_insert, in_calls}
-use Rattle.machine_sessions.specs.Waits.CallEvents.{answered, called-none, at_some, later_pends, RowsDistinct, ControlDistinct, WaitDistinct, accept-pends, accept-distinct}
+use Rattle.machine_sessions.specs.Waits.CallEvents.{answered, called-none, at_some, later_pends, RowsDistinct, ControlDistinct, WaitDistinct, accept-pends, accept_distinct}
 
 -- ---- the list rises
 
@@ -55,15 +55,15 @@ unfolding Above
 above_more c d [] m a = tt
 above_more c d (e ∷ es) m a = (omega (arith, a.0), above_more c d es m a.1)
 
-above-not_in : (c : ℕ) (l : List ℕ) → Above c l → is_in c l ≡ false
+above_not_in : (c : ℕ) (l : List ℕ) → Above c l → is_in c l ≡ false
 unfolding Above is_in
-above-not_in c [] a = refl
-above-not_in c (e ∷ es) a = rw (ne_eqb e c (λ q. not-suc-le-zero {n = 0} (omega (arith, a.0)))) (above-not_in c es a.1)
+above_not_in c [] a = refl
+above_not_in c (e ∷ es) a = rw (ne_eqb e c (λ q. not-suc-le-zero {n = 0} (omega (arith, a.0)))) (above_not_in c es a.1)
 
 insert_delivering : (d : ℕ) (l : List ℕ) → is_in d l ≡ false → Rising l → Rising (insert d l)
 unfolding insert Rising is_in Above
 insert_delivering d [] n r = (tt, tt)
-insert_delivering d (e ∷ es) n r = by (leb d e) refl (insert_delivering e es (above-not_in e es r.0) r.1) (λ q. insert_delivering d es q r.1) (parts (eqb e d) refl)
+insert_delivering d (e ∷ es) n r = by (leb d e) refl (insert_delivering e es (above_not_in e es r.0) r.1) (λ q. insert_delivering d es q r.1) (parts (eqb e d) refl)
   where
     parts : (b : Bool) → eqb e d ≡ b → (e ≡ d → ⊥) × (is_in d es ≡ false)
     parts true q = absurd (true≢false (subst (λ (b : Bool). (b || is_in d es) ≡ false) q n))
@@ -206,12 +206,12 @@ step_answering h s e w k = by (ℕ_discrete (refusal s e) 0)
         accepts = subst (λ (y : Step). (tells y.answer).accepts ≡ true) (sym q) (accept_accepts f e)
 
         distinct : WaitDistinct x
-        distinct = subst WaitDistinct (sym q) (accept-distinct f (forget-sound-store s w) e r1)
+        distinct = subst WaitDistinct (sym q) (accept_distinct f (forget-sound_store s w) e r1)
 
         now : (c : ℕ) → unanswered (entry_of e x.answer x.store ∷ h) c ≡ pends x.store c
         now c =
             accepted-then h e x.answer x.store c accepts
-            ∙ (ap (λ (b : Bool). later_pends (says e) b c) (k.unanswered-are c ∙ sym (forget-pends s c)) ∙ sym (ap (λ (y : Step). pends y.store c) q ∙ accept-pends f (forget-sound-store s w) e r1 c))
+            ∙ (ap (λ (b : Bool). later_pends (says e) b c) (k.unanswered-are c ∙ sym (forget-pends s c)) ∙ sym (ap (λ (y : Step). pends y.store c) q ∙ accept-pends f (forget-sound_store s w) e r1 c))
 
         both : WaitsRight (entry_of e x.answer x.store ∷ h)
         both = unfold WaitsRight entry_of in (control-right (entry_of e x.answer x.store ∷ h) x.store (tells x.answer).control distinct (says-control x.store x.answer says-it) now, k.waits-are)

@@ -19,14 +19,14 @@ use Rattle.machine_laws.specs.Views.{Sized}
 use Rattle.machine.specs.Sessions.{InRange}
 use Rattle.machine_theorems.specs.Soundness.Sessions.{AllInRange}
 use Rattle.machine_theorems.specs.Panics.Panic.{Panics}
-use Rattle.machine_theorems.specs.Panics.PanickingMachine.{step-or-panic, after-or-panic, answers-or-panic}
-use Rattle.machine_theorems.specs.Panics.PanickingMachineLaws.{step-safe, session-safe}
+use Rattle.machine_theorems.specs.Panics.PanickingMachine.{step_or_panic, after_or_panic, answers_or_panic}
+use Rattle.machine_theorems.specs.Panics.PanickingMachineLaws.{step_safe, session_safe}
 
 -- Whatever a panic does, the step with the Rust's panics put in is the machine's step, on every store of the right lengths.
-pub events_reach_no_panic : (panic : Panics) (s : Store) (e : Event) → Sized s → length s.queue.ids ≡ task_limit → InRange e → step-or-panic panic s e ≡ step s e
-events_reach_no_panic panic s e z ids i = step-safe panic s e z ids i
+pub events_reach_no_panic : (panic : Panics) (s : Store) (e : Event) → Sized s → length s.queue.ids ≡ task_limit → InRange e → step_or_panic panic s e ≡ step s e
+events_reach_no_panic panic s e z ids i = step_safe panic s e z ids i
 
 -- And so are whole sessions, their stores and their answers.
 pub sessions_reach_no_panic : (panic : Panics) (es : List Event) → AllInRange es
-    → (after-or-panic panic fresh es ≡ after fresh es) × (answers-or-panic panic fresh es ≡ answers fresh es)
-sessions_reach_no_panic panic es i = session-safe panic es i
+    → (after_or_panic panic fresh es ≡ after fresh es) × (answers_or_panic panic fresh es ≡ answers fresh es)
+sessions_reach_no_panic panic es i = session_safe panic es i

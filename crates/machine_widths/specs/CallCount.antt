@@ -9,7 +9,7 @@ use Rattle.asyncio.specs.declared.Place.{Place}
 use Rattle.asyncio.specs.declared.Task.{Task}
 use Rattle.asyncio.specs.declared.TaskState.{TaskState}
 use Rattle.asyncio.specs.Layout.{to_header}
-use Rattle.rows.specs.RowLaws.{row-put-at}
+use Rattle.rows.specs.RowLaws.{row-put_at}
 use Rattle.rows.specs.Tables.{header_codec, header_at, header_put}
 use Rattle.queue.specs.declared.ReadyQueue.{ReadyQueue}
 use Rattle.machine.specs.Store.{Store, LogEntry, header, put_header, put_object, put_task, put_place, put_places, put_queue, add_log, set_state, set_moment, set_next, set_calls, add_object, absent, spawned, blocked, reached, exited, removed}
@@ -30,7 +30,7 @@ pub record Calls (k : ℕ) (s : Store) : Type 0 where
 -- a header that is written gives its calls back
 header_calls : (s : Store) (h : Header) → Sized s → (header (put_header s h)).calls ≡ h.calls % (call_limit + 1)
 unfolding header put_header header_at header_put
-header_calls s h z = ap (λ (w : List ℕ). (to_header w).calls) (row-put-at header_codec s.objects 0 h (omega (arith, z.objects-sized)))
+header_calls s h z = ap (λ (w : List ℕ). (to_header w).calls) (row-put_at header_codec s.objects 0 h (omega (arith, z.objects-sized)))
 
 pub header_counts : (s : Store) (h : Header) (k : ℕ) → h.calls ≡ k → k ≤ call_limit → Sized s → Calls k (put_header s h)
 header_counts s h k e l z = record { sized = sized-put_header s h z; count = header_calls s h z ∙ (rw e (mod-eq_of_lt (omega arith))) }

@@ -26,13 +26,13 @@ use Rattle.machine.specs.Sound.{words_in_range, object_in_range, sound_view, sou
 use Rattle.machine_laws.specs.TestLaws.{both, both_left, both_right, below, from-below}
 use Rattle.machine_laws.specs.StoreLaws.{header-fits}
 use Rattle.machine_laws.specs.Facts.{WordsInRange, SoundFacts}
-use Rattle.machine_laws.specs.FactLaws.{to-facts, to-test}
+use Rattle.machine_laws.specs.FactLaws.{to_facts, to_test}
 use Rattle.machine_laws.specs.WordLaws.{words_facts, words_test}
 use Rattle.machine_laws.specs.SoundLaws.{sound_facts}
 use Rattle.machine_widths.specs.Widths.{sound_at}
 use Rattle.machine_widths.specs.Readings.{words_of_header, words_of_object, with_call, to_object_by, to_header_by, header_by, object_by, words_in_range_by, view_by, sound_by}
 use Rattle.machine_widths.specs.WidthLaws.{same_test, sound_at_of, sound_of_at}
-use Rattle.machine_widths.specs.RowsInUse.{with_objects, facts-same}
+use Rattle.machine_widths.specs.RowsInUse.{with_objects, facts_same}
 
 -- ---- rows
 
@@ -93,28 +93,28 @@ module _ (w : List ℕ) where
   external-row Kind.CompletedGather e = absurd (true≢false (sym e))
   external-row Kind.FailedGather e = absurd (true≢false (sym e))
 
-  abbrev its-kind : Kind
-  its-kind = to_kind (get_or w 0 0)
+  abbrev its_kind : Kind
+  its_kind = to_kind (get_or w 0 0)
 
-  object-alike : (k : ℕ) → k ≤ u32_limit → (is_external its-kind ≡ true → call < k) → to_object_by k w ≡ to_object w
+  object-alike : (k : ℕ) → k ≤ u32_limit → (is_external its_kind ≡ true → call < k) → to_object_by k w ≡ to_object w
   unfolding to_object_by
-  object-alike k u l = call_kept its-kind (call_id (call % k)) (λ e. ap call_id (same_mod call k u32_limit (l e) u))
+  object-alike k u l = call_kept its_kind (call_id (call % k)) (λ e. ap call_id (same_mod call k u32_limit (l e) u))
 
   -- canonical words have their own call
-  object-call : (n : ℕ) → 1 ≤ n → T (same_words (object_words (to_object_by n w)) w) → is_external its-kind ≡ true → call < n
+  object-call : (n : ℕ) → 1 ≤ n → T (same_words (object_words (to_object_by n w)) w) → is_external its_kind ≡ true → call < n
   unfolding to_object_by with_call
   object-call n p h e =
-      let x = external-row its-kind e in
+      let x = external-row its_kind e in
       let q : object_words (Object.ExternalFuture (call_id (call % n)) x.0) ≡ w =
       subst (λ (y : Object). object_words (with_call y (call_id (call % n))) ≡ w) x.1 (words_same _ _ h) in
       let k : call % n ≡ call = sym (word_4 (call_id (call % n)) x.0) ∙ ap (λ (v : List ℕ). get_or v 4 0) q in
       omega (arith, k, mod-lt call {m = n} (omega (arith, p)))
 
   -- a call that was handed out
-  call-range : (h : Header) (p : ℕ) → is_external its-kind ≡ true → T (object_in_range h p (to_object w)) → call % u32_limit < h.calls
+  call-range : (h : Header) (p : ℕ) → is_external its_kind ≡ true → T (object_in_range h p (to_object w)) → call % u32_limit < h.calls
   unfolding object_in_range
   call-range h p e t =
-      let x = external-row its-kind e in
+      let x = external-row its_kind e in
       ltb→lt (call % u32_limit) h.calls (subst (λ (y : Object). T (object_in_range h p y)) x.1 t)
 
 -- with 32 bits it is today's reading
@@ -145,25 +145,25 @@ module _ (k n : ℕ) (p : 1 ≤ k) (wide : n ≤ k) (u : k ≤ u32_limit) (v : n
   -- ---- from the reading with n numbers
 
   module _ (h : T (sound_by k n s)) where
-    abbrev tasks-part : Bool
-    tasks-part = all_below (header_by n s).next (λ t. task_canonical s.tasks t)
+    abbrev tasks_part : Bool
+    tasks_part = all_below (header_by n s).next (λ t. task_canonical s.tasks t)
 
-    abbrev objects-part : Bool
-    objects-part = all_below (header_by n s).made (λ o. same_words (object_words (object_by k s o)) (words_of_object s o))
+    abbrev objects_part : Bool
+    objects_part = all_below (header_by n s).made (λ o. same_words (object_words (object_by k s o)) (words_of_object s o))
 
-    abbrev places-part : Bool
-    places-part = all_below (header_by n s).used (λ p. place_canonical s.places p)
+    abbrev places_part : Bool
+    places_part = all_below (header_by n s).used (λ p. place_canonical s.places p)
 
     row-part : T (same_words (header_words (header_by n s)) (words_of_header s))
     unfolding sound_by words_in_range_by
     row-part = both_left _ _ (both_left _ _ h)
 
-    rest_part : T (tasks-part and objects-part and places-part and leb s.queue.len task_limit)
+    rest_part : T (tasks_part and objects_part and places_part and leb s.queue.len task_limit)
     unfolding sound_by words_in_range_by
     rest_part = both_right (same_words (header_words (header_by n s)) (words_of_header s)) _ (both_left _ _ h)
 
     objects-right : (o : ℕ) → o < (header_by n s).made → T (same_words (object_words (object_by k s o)) (words_of_object s o))
-    objects-right = below (header_by n s).made _ (both_left _ _ (both_right tasks-part _ rest_part))
+    objects-right = below (header_by n s).made _ (both_left _ _ (both_right tasks_part _ rest_part))
 
     count_low : get_or (words_of_header s) 2 0 ≤ n
     unfolding header_by
@@ -191,9 +191,9 @@ module _ (k n : ℕ) (p : 1 ≤ k) (wide : n ≤ k) (u : k ≤ u32_limit) (v : n
       tasks-right = λ t l. below (header_by n s).next _ (both_left _ _ rest_part) t (omega (arith, l, ap (λ (y : Header). y.next) head));
       objects-right = λ o l. unfold object object_at in
           (subst (λ (x : Object). T (same_words (object_words x) (words_of_object s o))) (alike o l) (objects-right o (omega (arith, l, made-same))));
-      places-right = λ q l. below (header_by n s).used _ (both_left _ _ (both_right objects-part _ (both_right tasks-part _ rest_part))) q
+      places-right = λ q l. below (header_by n s).used _ (both_left _ _ (both_right objects_part _ (both_right tasks_part _ rest_part))) q
           (omega (arith, l, ap (λ (y : Header). y.used) head));
-      queue-short = leb→le s.queue.len task_limit (both_right places-part _ (both_right objects-part _ (both_right tasks-part _ rest_part)));
+      queue-short = leb→le s.queue.len task_limit (both_right places_part _ (both_right objects_part _ (both_right tasks_part _ rest_part)));
     })
 
     view-now : T (sound_view (view s))
@@ -201,7 +201,7 @@ module _ (k n : ℕ) (p : 1 ≤ k) (wide : n ≤ k) (u : k ≤ u32_limit) (v : n
     view-now =
         let v : View = view_of s (header s) (λ o. object_by k s o) in
         let t : T (sound_view v) = subst (λ (y : Header). T (sound_view (view_of s y (λ o. object_by k s o)))) head (both_right (words_in_range_by k n s) _ h) in
-        to-test (view s) (facts-same v (λ o. object s o) (λ o l. sym (alike o l)) (to-facts v (header-fits s) t))
+        to_test (view s) (facts_same v (λ o. object s o) (λ o l. sym (alike o l)) (to_facts v (header-fits s) t))
 
     within-now : (header s).calls ≤ n
     within-now = omega (arith, sym (ap (λ (y : Header). y.calls) head), low)
@@ -258,7 +258,7 @@ module _ (k n : ℕ) (p : 1 ≤ k) (wide : n ≤ k) (u : k ≤ u32_limit) (v : n
     unfolding sound_by view_by view with_objects
     then-sound =
         both _ _ words-then (subst (λ (y : Header). T (sound_view (view_of s y (λ o. object_by k s o)))) (sym same_head)
-        (to-test (view_of s (header s) (λ o. object_by k s o)) (facts-same (view s) (λ o. object_by k s o) same_object facts)))
+        (to_test (view_of s (header s) (λ o. object_by k s o)) (facts_same (view s) (λ o. object_by k s o) same_object facts)))
 
 -- Soundness as the store is read with n call numbers of k values is that of the machine with n call numbers.
 pub sound_by-is : (k n : ℕ) → 1 ≤ k → n ≤ k → k ≤ u32_limit → n ≤ call_limit → (s : Store) → sound_by k n s ≡ sound_at n s

@@ -11,7 +11,7 @@ use Rattle.machine.specs.Scheduler.{as_awaited, as_pending}
 use Rattle.machine.specs.Sound.{places_below, committed_places}
 use Rattle.machine_laws.specs.TestLaws.{sum_same}
 use Rattle.machine_laws.specs.Facts.{Slotted, AwaitedBy, SoundBut, Nothing, SoundFacts}
-use Rattle.machine_laws.specs.ValueLaws.{option-stays, object-stays, state-stays}
+use Rattle.machine_laws.specs.ValueLaws.{option_stays, object-stays, state_stays}
 use Rattle.machine_laws.specs.MakingLaws.{task_more}
 
 -- other objects
@@ -58,8 +58,8 @@ module _ (v : View) (os : ℕ → Object) (same : (o : ℕ) → o < v.header.mad
         spawned = rw (sum_same made (λ o. committed_places (os o)) (λ o. committed_places (v.objects o)) (λ o z. ap committed_places (same o z))) h.spawned;
         items = λ g l. rw (same g l) (h.items g l);
         object-lists = λ o l. rw (same o l) (object-stays made made (le_refl made) v.objects os completed-same (v.objects o) (h.object-lists o l));
-        task-lists = λ t l. state-stays made made (le_refl made) v.objects os completed-same (v.tasks t).state (h.task-lists t l);
-        place-lists = λ p l. option-stays made made (le_refl made) v.objects os completed-same (v.places p).result (h.place-lists p l);
+        task-lists = λ t l. state_stays made made (le_refl made) v.objects os completed-same (v.tasks t).state (h.task-lists t l);
+        place-lists = λ p l. option_stays made made (le_refl made) v.objects os completed-same (v.places p).result (h.place-lists p l);
         entries = h.entries;
         calls = λ on o p l m a b e f. h.calls on o p l m a b (ap as_pending (back o l) ∙ e) (ap as_pending (back p m) ∙ f);
         task_of = h.task_of;
@@ -70,6 +70,6 @@ module _ (v : View) (os : ℕ → Object) (same : (o : ℕ) → o < v.header.mad
         task-slots = λ t l a g x e. slotted-same _ g x (h.task-slots t l a g x e);
       }
 
-  pub facts-same : SoundFacts v → SoundFacts (with_objects v os)
+  pub facts_same : SoundFacts v → SoundFacts (with_objects v os)
   unfolding with_objects
-  facts-same h = record { but = but_same h.but; runner = h.runner; runs = h.runs }
+  facts_same h = record { but = but_same h.but; runner = h.runner; runs = h.runs }

@@ -8,7 +8,7 @@ use Rattle.machine.specs.Store.{Store}
 use Rattle.machine.specs.Machine.{Event, Answer, Step, decide, step, after, answers}
 use Rattle.machine_theorems.specs.Soundness.Sessions.{AllInRange}
 use Rattle.machine_widths.specs.Widths.{refusal_at, step_at, after_at, answers_at, before_8, Without8}
-use Rattle.machine_widths.specs.WidthLaws.{SoundAt, sound-here, step-wider, step_limit, step-sound-at}
+use Rattle.machine_widths.specs.WidthLaws.{SoundAt, sound-here, step-wider, step_limit, step-sound_at}
 
 -- the same answers and the same store
 abbrev pub Same : ℕ → ℕ → Store → List Event → Type 0
@@ -27,7 +27,7 @@ same-before_8 n m l u (e ∷ es) s i h = by (ℕ_discrete (refusal_at n s e) 8) 
     by (yes r) go = rw (eq-eqb (refusal_at n s e) 8 r) (refl, refl)
     by (no r) go =
         let a : step_at m s e ≡ step_at n s e = step-wider n m l s e (sound-here n u s h) r in
-        let g = go (step-sound-at n u s h e i.0) in
+        let g = go (step-sound_at n u s h e i.0) in
         rw (ne_eqb (refusal_at n s e) 8 r) (
           ap (λ (x : Step). x.answer ∷ answers_at m x.store rest) a ∙ ap (λ (xs : List Answer). (step_at n s e).answer ∷ xs) g.0,
           ap (λ (x : Step). after_at m x.store rest) a ∙ g.1,
@@ -47,7 +47,7 @@ all_before_8 n (e ∷ es) s w = by (ℕ_discrete (refusal_at n s e) 8) (all_befo
 pub session-sound_at : (n : ℕ) → n ≤ call_limit → (es : List Event) (s : Store) → AllInRange es → SoundAt n s → SoundAt n (after_at n s es)
 unfolding after_at AllInRange
 session-sound_at n u [] s i h = h
-session-sound_at n u (e ∷ es) s i h = session-sound_at n u es (step_at n s e).store i.1 (step-sound-at n u s h e i.0)
+session-sound_at n u (e ∷ es) s i h = session-sound_at n u es (step_at n s e).store i.1 (step-sound_at n u s h e i.0)
 
 -- ---- with `call_limit` numbers it is the machine itself
 

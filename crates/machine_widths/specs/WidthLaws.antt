@@ -19,7 +19,7 @@ use Rattle.machine_laws.specs.StoreLaws.{sized-forget, header-fits}
 use Rattle.machine_laws.specs.SoundLaws.{pass, refusal-rest, refusal-forget}
 use Rattle.machine_laws.specs.WalkEvents.{HandsOut}
 use Rattle.machine_theorems.specs.Soundness.Stores.{SoundStore, sound_store_sound}
-use Rattle.machine_theorems.specs.Soundness.Sessions.{forget-sound-store, step-sound-store}
+use Rattle.machine_theorems.specs.Soundness.Sessions.{forget-sound_store, step-sound_store}
 use Rattle.machine_widths.specs.Widths.{sound_at, check_at, checks_at, refusal_at, step_at}
 use Rattle.machine_widths.specs.CallCount.{calls_stay, calls_next}
 
@@ -200,12 +200,12 @@ module _ (n : ℕ) (l : n ≤ call_limit) (s : Store) (h : SoundAt n s) where
   step-store e i = by (ℕ_discrete (refusal_at n s e) 8)
     where
       by : Dec (refusal_at n s e ≡ 8) → SoundStore (step_at n s e).store
-      by (yes r) = unfold step_at decide in (rw r (forget-sound-store s h.store))
-      by (no r) = subst (λ (x : Step). SoundStore x.store) (same_step e r) (step-sound-store s h.store e i)
+      by (yes r) = unfold step_at decide in (rw r (forget-sound_store s h.store))
+      by (no r) = subst (λ (x : Step). SoundStore x.store) (same_step e r) (step-sound_store s h.store e i)
 
   -- An event, refused or not, leaves a sound store sound, with at most n calls handed out.
-  pub step-sound-at : (e : Event) → InRange e → SoundAt n (step_at n s e).store
-  step-sound-at e i = record { store = step-store e i; within = step-within e }
+  pub step-sound_at : (e : Event) → InRange e → SoundAt n (step_at n s e).store
+  step-sound_at e i = record { store = step-store e i; within = step-within e }
 
 -- ---- where 8 meets an event, more numbers let it through
 
@@ -231,8 +231,8 @@ table_last s (Event.cancel t) = refl
 table_last s (Event.show o) = refl
 table_last s Event.eager = refl
 
-zero-not_8 : {n : ℕ} → n ≡ 0 → n ≡ 8 → ⊥
-zero-not_8 z e = omega (arith, z, e)
+zero_not_8 : {n : ℕ} → n ≡ 0 → n ≡ 8 → ⊥
+zero_not_8 z e = omega (arith, z, e)
 
 module _ (n m : ℕ) (l : n < m) (s : Store) (h : (header s).calls ≤ n) where
   met : (c : ℕ × Bool) → c.0 ≡ 8 → (check_at n s c).1 ≡ true → ((header s).calls ≡ n) × ((check_at m s c).1 ≡ false)
@@ -244,12 +244,12 @@ module _ (n m : ℕ) (l : n < m) (s : Store) (h : (header s).calls ≤ n) where
   through : (cs : List (ℕ × Bool)) → last_is_8 cs ≡ true → first_refusal (checks_at n s cs) ≡ 8
       → ((header s).calls ≡ n) × (first_refusal (checks_at m s cs) ≡ 0)
   unfolding checks_at check_at first_refusal last_is_8
-  through [] q r = absurd (zero-not_8 refl r)
+  through [] q r = absurd (zero_not_8 refl r)
   through (c ∷ []) q r = by (check_at n s c).1 refl r
     where
       by : (b : Bool) → (check_at n s c).1 ≡ b → pick b c.0 0 ≡ 8 → ((header s).calls ≡ n) × (pick (check_at m s c).1 c.0 0 ≡ 0)
       by true t e = let k = met c e t in (k.0, rw k.1)
-      by false t e = absurd (zero-not_8 refl e)
+      by false t e = absurd (zero_not_8 refl e)
   through (c ∷ d ∷ cs) q r = by (check_at n s c).1 refl r (λ e. through (d ∷ cs) k.1 e)
     where
       k : (not (eqb c.0 8) ≡ true) × (last_is_8 (d ∷ cs) ≡ true)

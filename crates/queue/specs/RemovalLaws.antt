@@ -10,7 +10,7 @@ use Rattle.asyncio.specs.Limits.{task_limit}
 use Rattle.queue.specs.declared.ReadyQueue.{ReadyQueue}
 use Rattle.queue.specs.declared.Position.{Position}
 use Rattle.queue.specs.Queue.{entries, push_back, drop_entry, drop_place, find_task, remove, position_from, stood_at, removed_count, position, retain, occurrences, Distinct}
-use Rattle.queue.specs.QueueLaws.{find_task-position, length-entries, entries-drop_place, entries_push, drop_place_either, push_back-len, push_back-length, absent-head, position_absent, remove_absent, retain-absent, occurrences_append, at-most_once}
+use Rattle.queue.specs.QueueLaws.{find_task-position, length-entries, entries-drop_place, entries_push, drop_place_either, push_back-len, push_back-length, absent-head, position_absent, remove_absent, retain-absent, occurrences_append, at_most_once}
 
 -- ---- the first t in a list
 
@@ -117,7 +117,7 @@ unfolding Removal
 removal_retains t l (Position.At i) r d k =
     let a = take i l in
     let b = drop (i + 1) l in
-    let n : occurrences (a ++ (t ∷ b)) t ≤ 1 = subst (λ (m : List ℕ). occurrences m t ≤ 1) k.0 (at-most_once l d t) in
+    let n : occurrences (a ++ (t ∷ b)) t ≤ 1 = subst (λ (m : List ℕ). occurrences m t ≤ 1) k.0 (at_most_once l d t) in
     let m : occurrences (a ++ (t ∷ b)) t ≡ occurrences a t + occurrences (t ∷ b) t = occurrences_append a (t ∷ b) t in
     let one : occurrences (t ∷ b) t ≡ 1 + occurrences b t = unfold occurrences in (rw (eq-eqb t t refl)) in
     let behind : occurrences b t ≡ 0 = omega (arith, n, m, one) in

@@ -21,7 +21,7 @@ use Rattle.machine_laws.specs.StoreLaws.{header-fits, sized-forget}
 use Rattle.machine_laws.specs.MachineLaws.{accepted-step, refused-step}
 use Rattle.machine_laws.specs.SoundLaws.{sound-forget}
 use Rattle.machine_theorems.specs.Soundness.Stores.{SoundStore, sound_store_sound}
-use Rattle.machine_theorems.specs.Soundness.Sessions.{forget-sound-store, step-sound-store, fresh-sound_store}
+use Rattle.machine_theorems.specs.Soundness.Sessions.{forget-sound_store, step-sound_store, fresh_sound_store}
 use Rattle.machine_sessions.specs.Queue.Following.{Sends, stepped, short, sends, any_event, any_read, read_leaves, accept_accepts, session_follows}
 use Rattle.machine_sessions.specs.Gather.LogApart.{lent_entry, left-alike, entry-alike}
 use Rattle.records_tasks.specs.declared.TaskRecord.{TaskRecord}
@@ -102,20 +102,20 @@ module _ (s u : Store) (e : forget s ≡ forget u) where
   }
 
 -- is an answer a refusal?
-accepts_not-refused : (a : Answer) → (tells a).accepts ≡ true → is_refused a ≡ false
+accepts_not_refused : (a : Answer) → (tells a).accepts ≡ true → is_refused a ≡ false
 unfolding tells
-accepts_not-refused (Answer.made o) e = refl
-accepts_not-refused (Answer.called n) e = refl
-accepts_not-refused (Answer.control c) e = refl
-accepts_not-refused (Answer.awaited c n) e = refl
-accepts_not-refused Answer.done e = refl
-accepts_not-refused (Answer.cancelled n) e = refl
-accepts_not-refused Answer.stalled e = refl
-accepts_not-refused (Answer.finished v) e = refl
-accepts_not-refused (Answer.finished_error x) e = refl
-accepts_not-refused (Answer.shows x) e = refl
-accepts_not-refused (Answer.is_eager b) e = refl
-accepts_not-refused (Answer.refused n) e = absurd (true≢false (sym e))
+accepts_not_refused (Answer.made o) e = refl
+accepts_not_refused (Answer.called n) e = refl
+accepts_not_refused (Answer.control c) e = refl
+accepts_not_refused (Answer.awaited c n) e = refl
+accepts_not_refused Answer.done e = refl
+accepts_not_refused (Answer.cancelled n) e = refl
+accepts_not_refused Answer.stalled e = refl
+accepts_not_refused (Answer.finished v) e = refl
+accepts_not_refused (Answer.finished_error x) e = refl
+accepts_not_refused (Answer.shows x) e = refl
+accepts_not_refused (Answer.is_eager b) e = refl
+accepts_not_refused (Answer.refused n) e = absurd (true≢false (sym e))
 
 -- what an event makes of the store: refused, it is as it was
 data Outcome (s : Store) (x : Lent) : Type 0 where
@@ -155,7 +155,7 @@ sent_sound : (s : Store) (x : Sent) → InRange x.event → SoundStore s → Sou
 sent_sound s x i h = by (sends s x h.memory.sized)
   where
     by : Sends s x → SoundStore (lent_any s x).store
-    by (stepped p q) = subst SoundStore (sym p) (step-sound-store s h x.event i)
+    by (stepped p q) = subst SoundStore (sym p) (step-sound_store s h x.event i)
     by (short p q) = subst SoundStore (sym p) h
 
 sent_unused : (s : Store) (x : Sent) → SoundStore s → Unused 0 s → Unused 0 (lent_any s x).store
@@ -170,7 +170,7 @@ sent_outcome s x h = by (sends s x h.memory.sized)
   where
     step_by : Dec (refusal s x.event ≡ 0) → (lent_any s x).store ≡ (step s x.event).store → (lent_any s x).answer ≡ (step s x.event).answer → Outcome s (lent_any s x)
     step_by (yes r) p q =
-        accepted (ap is_refused (q ∙ ap (λ (y : Step). y.answer) (accepted-step s x.event r)) ∙ accepts_not-refused _ (accept_accepts (forget s) x.event))
+        accepted (ap is_refused (q ∙ ap (λ (y : Step). y.answer) (accepted-step s x.event r)) ∙ accepts_not_refused _ (accept_accepts (forget s) x.event))
     step_by (no ne) p q =
         let e : step s x.event ≡ record { store = forget s; answer = Answer.refused (refusal s x.event) } = refused-step s x.event (refusal s x.event) refl ne in
         refused (ap is_refused (q ∙ ap (λ (y : Step). y.answer) e)) (ap forget (p ∙ ap (λ (y : Step). y.store) e) ∙ forget_twice s)
@@ -181,7 +181,7 @@ sent_outcome s x h = by (sends s x h.memory.sized)
 
 module _ (m : Records) (s : Store) (x : Sent) (i : InRange x.event) (h : SoundStore s) (u : Unused 0 s) (k : SameStore m s) where
   forgotten : SoundStore (forget s)
-  forgotten = forget-sound-store s h
+  forgotten = forget-sound_store s h
 
   same-forgotten : SameStore m (forget s)
   same-forgotten = same_left s (forget s) (sym (forget_twice s)) m k
@@ -250,7 +250,7 @@ unused_all (e ∷ es) y i h u = unused_all es (send y e) i.1 (unfold send in (se
 
 pub session_unused : (es : List Sent) → AllSentInRange es → Unused 0 (session es).store
 unfolding session begun
-session_unused es i = unused_all es _ i fresh-sound_store fresh_unused
+session_unused es i = unused_all es _ i fresh_sound_store fresh_unused
 
 -- a beginning
 begins : (ts os ps : List ℕ) (q : ReadyQueue) → length ts ≡ tasks_length → length os ≡ objects_length → length ps ≡ places_length
@@ -276,14 +276,14 @@ module _ (m : Records) (l : Lengths m) where
   })
 
   -- A session over task records is the session over words.
-  pub records-are-session : (es : List Sent) → AllSentInRange es → SameSession (records_session m es) (session es)
+  pub records_are_session : (es : List Sent) → AllSentInRange es → SameSession (records_session m es) (session es)
   unfolding records_session session begun
-  records-are-session es i = all_same es _ _ i fresh-sound_store fresh_unused (record { memory-same = begun-same; answers-same = refl })
+  records_are_session es i = all_same es _ _ i fresh_sound_store fresh_unused (record { memory-same = begun-same; answers-same = refl })
 
   -- After every list of events the records, laid out, are a sound store: no event of a session is refused with 2.
-  pub records-sound : (es : List Sent) → AllSentInRange es → let x : Records = (records_session m es).memory in
+  pub records_sound : (es : List Sent) → AllSentInRange es → let x : Records = (records_session m es).memory in
       T (sound (store_of (rows_of x.tasks (next_in x.objects)) x.objects x.places x.queue []))
-  records-sound es i =
+  records_sound es i =
       let y : Store = (session es).store in
       let h : SoundStore y = (session_follows es i).whole in
-      subst (λ (s : Store). T (sound s)) (sym (store_laid _ y h (session_unused es i) (records-are-session es i).memory-same)) (sound_store_sound (forget y) (forget-sound-store y h))
+      subst (λ (s : Store). T (sound s)) (sym (store_laid _ y h (session_unused es i) (records_are_session es i).memory-same)) (sound_store_sound (forget y) (forget-sound_store y h))

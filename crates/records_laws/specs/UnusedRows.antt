@@ -35,12 +35,12 @@ use Rattle.machine_laws.specs.Views.{Sized}
 use Rattle.machine_laws.specs.StoreLaws.{sized-put_task, sized-put_object, sized-put_place, sized-put_header, sized-put_places, sized-put_queue, sized-add_log, sized-forget, sized-set_next}
 use Rattle.machine_laws.specs.StoreLaws.{task-fits, header-fits, header_put-object}
 use Rattle.machine_laws.specs.SoundLaws.{refusal-rest, refusal-forget}
-use Rattle.machine_laws.specs.Walk.{Commits, Closed, await-kept, resume-kept, fail-kept, completion-kept, results-kept, cancel-kept, cleanup-kept}
+use Rattle.machine_laws.specs.Walk.{Commits, Closed, await-kept, resume-kept, fail-kept, completion_kept, results-kept, cancel-kept, cleanup-kept}
 use Rattle.machine_laws.specs.WalkEvents.{await_low}
 use Rattle.machine_laws.specs.SizedLaws.{fresh-sized}
 use Rattle.machine_theorems.specs.Soundness.RowFacts.{ready-live, blocked-live}
 use Rattle.machine_theorems.specs.Soundness.Stores.{SoundStore}
-use Rattle.machine_theorems.specs.Soundness.Sessions.{forget-sound-store}
+use Rattle.machine_theorems.specs.Soundness.Sessions.{forget-sound_store}
 
 -- The words from the next task's row on are 0, and the next number is at least m.
 pub record Unused (m : ℕ) (s : Store) : Type 0 where
@@ -143,8 +143,8 @@ module _ (m : ℕ) where
   object-kept : (s : Store) (o : ℕ) (x : Object) → Unused m s → Unused m (put_object s o x)
   object-kept s o x u = keeps s (put_object s o x) u (sized-put_object s o x u.sized) (unfold put_object in refl) (ap (λ (h : Header). h.next) (header_put-object s o x))
 
-  queue-kept : (s : Store) (q : _) → Unused m s → Unused m (put_queue s q)
-  queue-kept s q u = keeps s (put_queue s q) u (sized-put_queue s q u.sized) (unfold put_queue in refl) (unfold header put_queue in refl)
+  queue_kept : (s : Store) (q : _) → Unused m s → Unused m (put_queue s q)
+  queue_kept s q u = keeps s (put_queue s q) u (sized-put_queue s q u.sized) (unfold put_queue in refl) (unfold header put_queue in refl)
 
   log-kept : (s : Store) (h : LogEntry) → Unused m s → Unused m (add_log s h)
   log-kept s h u = keeps s (add_log s h) u (sized-add_log s h u.sized) (unfold add_log in refl) (unfold header add_log in refl)
@@ -178,11 +178,11 @@ module _ (m : ℕ) where
 
   removed-kept : (s : Store) (t : ℕ) (h : LogEntry) → Unused m s → Unused m (add_log (remove_task s t) h)
   unfolding remove_task remove_from_ready_queue
-  removed-kept s t h u = log-kept _ h (queue-kept _ _ (absent-kept s t u))
+  removed-kept s t h u = log-kept _ h (queue_kept _ _ (absent-kept s t u))
 
   woken-kept : (s : Store) (t : ℕ) (x : TaskState) (h : LogEntry) → is_blocked (task s t).state ≡ true → Unused m s → Unused m (add_log (make_ready s t x) h)
   unfolding make_ready push_ready
-  woken-kept s t x h b u = log-kept _ h (queue-kept _ _ (state_kept s t x (live_below m s t u (blocked-live (task s t).state b)) u))
+  woken-kept s t x h b u = log-kept _ h (queue_kept _ _ (state_kept s t x (live_below m s t u (blocked-live (task s t).state b)) u))
 
   -- a spawn takes the next number
   next-kept : (s : Store) (r : Task) → (header s).next < task_limit → Unused m s → Unused m (set_next (put_task s (header s).next r) ((header s).next + 1))
@@ -202,7 +202,7 @@ module _ (m : ℕ) where
 
   spawn-kept : (s : Store) (c g : ℕ) → (header s).next < task_limit → Unused m s → Unused m (spawn_as s (header s).next c g)
   unfolding spawn_as push_ready
-  spawn-kept s c g l u = log-kept _ _ (queue-kept _ _ (next-kept s _ l u))
+  spawn-kept s c g l u = log-kept _ _ (queue_kept _ _ (next-kept s _ l u))
 
   commits : Commits (Unused m)
   commits = record {
@@ -216,7 +216,7 @@ module _ (m : ℕ) where
     sized = λ s u. u.sized;
     row = λ s o x l q u. object-kept s o x u;
     values-put = λ s ps e u. places-kept s ps e u;
-    queued = λ s q u. queue-kept s q u;
+    queued = λ s q u. queue_kept s q u;
     moved = λ s x f u. moment-kept s x u;
     wakes = λ s t x l b r u. woken-kept s t x _ b u;
     runs_on = λ s t l r u. state_kept s t TaskState.Running (live_below m s t u (ready-live (task s t).state r)) u;
@@ -236,7 +236,7 @@ module _ (m : ℕ) where
   unfolding switched handle_task_completion
   completion s t v u =
       let c : ℕ = (task s t).coroutine.0 in
-      completion-kept (Unused m) closed (add_log (remove_task (put_object s c (completed (object s c))) t) (exited t)) (task s t).awaiter v (task-fits s t).awaiter_fits
+      completion_kept (Unused m) closed (add_log (remove_task (put_object s c (completed (object s c))) t) (exited t)) (task s t).awaiter v (task-fits s t).awaiter_fits
       (removed-kept _ t _ (object-kept s c _ u))
 
   ends-kept : (s : Store) (a : Answer) → Unused m s → Unused m (end_main s a).store
@@ -305,7 +305,7 @@ step_unused s e h u = by (eqb (refusal s e) 0) refl
 
     by : (b : Bool) → eqb (refusal s e) 0 ≡ b → Unused 0 (pick b (accept (forget s) e) (record { store = forget s; answer = Answer.refused (refusal s e) })).store
     by true q =
-        lower _ (accept-kept n (forget s) e (runner-below (forget s) (forget-sound-store s h))
+        lower _ (accept-kept n (forget s) e (runner-below (forget s) (forget-sound_store s h))
         (refusal-rest (forget s) e (refusal-forget s e ∙ eqb-true (refusal s e) 0 q)) forgotten)
     by false q = lower _ forgotten
 

@@ -5,7 +5,7 @@ use Rattle.asyncio.specs.Limits.{task_limit, tasks_length}
 use Rattle.queue.specs.declared.ReadyQueue.{ReadyQueue}
 use Rattle.machine.specs.Store.{store_of}
 use Rattle.machine.specs.Machine.{Event, Answer, Step}
-use Rattle.machine.specs.Answers.{Numbers, answer-numbers}
+use Rattle.machine.specs.Answers.{Numbers, answer_numbers}
 use Rattle.machine.specs.Lent.{Lent, Read, read_as, lent_step, lent_begin, lent_read}
 use Rattle.records_tasks.specs.declared.TaskRecord.{TaskRecord}
 use Rattle.records_tasks.specs.TaskRows.{rows_of, saved}
@@ -45,7 +45,7 @@ gone_back ts x = record {
 
 -- all unchanged, and a refusal
 abbrev pub refused_as : Records → List ℕ → ℕ → RecordsLent
-refused_as m cs n = record { memory = m; list = cs; answer = Answer.refused n; numbers = answer-numbers (Answer.refused n); count = 0 }
+refused_as m cs n = record { memory = m; list = cs; answer = Answer.refused n; numbers = answer_numbers (Answer.refused n); count = 0 }
 
 -- An event on lent records: 513 of them, or refusal 1. The rows of the records in use are laid out, the other words are 0.
 unfoldable pub records_step : Records → List ℕ → Event → RecordsLent

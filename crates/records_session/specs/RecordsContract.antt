@@ -4,7 +4,7 @@ use denote.Triple.Both.{Both}
 use Rattle.std.specs.Borrow.{Bor}
 use Rattle.queue.specs.declared.ReadyQueue.{ReadyQueue}
 use Rattle.machine.specs.Machine as machine
-use Rattle.machine.specs.Answers.{answer-numbers}
+use Rattle.machine.specs.Answers.{answer_numbers}
 use Rattle.machine.specs.Lent.{read_as}
 use Rattle.contract.specs.Contract.{Slice}
 use Rattle.exec_switch.specs.Answer.{answer_of}
@@ -30,7 +30,7 @@ memory_after tasks objects places queue = record { tasks = tasks.exit.now; objec
 abbrev pub records_of : Records → List ℕ → Answer → ℕ → RecordsLent
 records_of m cs a n =
     let x : machine.Answer = answer_of m.objects a in
-    record { memory = m; list = cs; answer = x; numbers = answer-numbers x; count = n }
+    record { memory = m; list = cs; answer = x; numbers = answer_numbers x; count = n }
 
 -- The call is the event e on lent records: its answer with document 01's numbers and the count of a wait's calls, the records, the slices, the queue and
 -- the list of calls are those of `records_step`, refused or not.

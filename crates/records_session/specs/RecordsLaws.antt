@@ -23,7 +23,7 @@ use Rattle.records_tasks.specs.declared.TaskRecord.{TaskRecord}
 use Rattle.records_tasks.specs.TaskRecord.{no_record, fits}
 use Rattle.records_tasks.specs.TaskRows.{rows_of, saved}
 use Rattle.records_tasks.specs.TaskRowsLaws.{rows_are, length-loaded}
-use Rattle.records_tasks.specs.UnfitLaws.{unfit-unsound}
+use Rattle.records_tasks.specs.UnfitLaws.{unfit_unsound}
 use Rattle.records_words.specs.RowsInUse.{next_in, rows_in_use}
 use Rattle.records_words.specs.OnWords.{with_rows, words_step, begun_rows, words_begin, words_read}
 use Rattle.records_session.specs.Records.{Records, RecordsLent, gone_back, refused_as, records_step, begun_with, records_begin, records_read}
@@ -139,12 +139,12 @@ module _ (m : Records) where
     all_right cs lc n =
         is_both (slices-are n) (is_true (leb object_limit (length cs)) (le→leb object_limit (length cs) lc))
 
-    pub unfit-refused : (cs : List ℕ) (e : machine.Event) (t : ℕ) → object_limit ≤ length cs → t < (header_at m.objects).next → fits (get_or m.tasks t no_record) ≡ false
+    pub unfit_refused : (cs : List ℕ) (e : machine.Event) (t : ℕ) → object_limit ≤ length cs → t < (header_at m.objects).next → fits (get_or m.tasks t no_record) ≡ false
         → records_step m cs e ≡ refused_as m cs 2
     unfolding records_step saved
-    unfit-refused cs e t lc h f =
+    unfit_refused cs e t lc h f =
         let n = (header_at m.objects).next in
-        let unsound : sound (laid_out n) ≡ false = unfit-unsound m.tasks t f m.objects m.places m.queue [] h in
+        let unsound : sound (laid_out n) ≡ false = unfit_unsound m.tasks t f m.objects m.places m.queue [] h in
         let core : lent_of (store_of (rows_of m.tasks n) m.objects m.places m.queue (lent_step (laid_out n) cs e).store.log) cs (Answer.Refused 2) 0 ≡ lent_step (laid_out n) cs e
         = not_sound (rows_of m.tasks n) m.objects m.places m.queue cs [] e (all_right cs lc n) refl refl unsound in
         ap (λ (b : Bool). pick b (gone_back m.tasks (lent_step (laid_out (next_in m.objects)) cs e)) (refused_as m cs 1)) (eq-eqb _ _ l)
@@ -152,12 +152,12 @@ module _ (m : Records) where
         ∙ sym (ap (gone_back m.tasks) core)
 
     -- a read too
-    pub unfit-unread : (e : machine.Event) (t : ℕ) → t < (header_at m.objects).next → fits (get_or m.tasks t no_record) ≡ false
+    pub unfit_unread : (e : machine.Event) (t : ℕ) → t < (header_at m.objects).next → fits (get_or m.tasks t no_record) ≡ false
         → records_read m e ≡ machine.Answer.refused 2
     unfolding records_read lent_read slices_right
-    unfit-unread e t h f =
+    unfit_unread e t h f =
         let n = (header_at m.objects).next in
-        let unsound : sound (laid_out n) ≡ false = unfit-unsound m.tasks t f m.objects m.places m.queue [] h in
+        let unsound : sound (laid_out n) ≡ false = unfit_unsound m.tasks t f m.objects m.places m.queue [] h in
         ap (λ (b : Bool). pick b (lent_read (laid_out (next_in m.objects)) e).answer (machine.Answer.refused 1)) (eq-eqb _ _ l)
         ∙ ap (λ (k : ℕ). (lent_read (laid_out k) e).answer) next-is
         ∙ ap (λ (b : Bool). (pick b (step (laid_out n) e) (record { store = laid_out n; answer = machine.Answer.refused 1 })).answer) (sym (slices-are n))

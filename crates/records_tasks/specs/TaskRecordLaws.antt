@@ -5,7 +5,7 @@ use Rattle.asyncio.specs.declared.OptionValue.{OptionValue}
 use Rattle.asyncio.specs.declared.Task.{Task}
 use Rattle.asyncio.specs.declared.TaskState.{TaskState}
 use Rattle.rows.specs.Tables.{task_codec, task_start, task_put}
-use Rattle.rows.specs.RowLaws.{row-put-at}
+use Rattle.rows.specs.RowLaws.{row-put_at}
 use Rattle.rows.specs.Canonical.{same_words, task_canonical}
 use Rattle.records_tasks.specs.declared.RecordState.{RecordState}
 use Rattle.records_tasks.specs.declared.TaskRecord.{TaskRecord}
@@ -79,4 +79,4 @@ pub unfit_not_canonical : (w : List ℕ) (t : ℕ) (r : TaskRecord) → fits r �
 unfolding task_canonical task_put same_words
 unfit_not_canonical w t r f h =
     ap (λ (x : Task). task_canonical (task_put w t x) t) (unfit_is r f)
-    ∙ ap (λ (x : List ℕ). same_words (task_codec.words (task_codec.reads x)) x) (row-put-at task_codec w (task_start t) unfit_task h)
+    ∙ ap (λ (x : List ℕ). same_words (task_codec.words (task_codec.reads x)) x) (row-put_at task_codec w (task_start t) unfit_task h)

@@ -12,7 +12,7 @@ use Rattle.asyncio.specs.Limits.{task_limit, tasks_length}
 use Rattle.rows.specs.Tables.{task_codec, task_start, task_put, header_at}
 use Rattle.rows.specs.TableLaws.{header_at-fits}
 use Rattle.rows.specs.Canonical.{task_canonical}
-use Rattle.rows.specs.CanonicalLaws.{canonical-apart}
+use Rattle.rows.specs.CanonicalLaws.{canonical_apart}
 use Rattle.queue.specs.declared.ReadyQueue.{ReadyQueue}
 use Rattle.machine.specs.Store.{Store, LogEntry, store_of, header, view}
 use Rattle.machine.specs.Sound.{sound, words_in_range, sound_view}
@@ -32,7 +32,7 @@ module _ (ts : List TaskRecord) (t : ℕ) (f : fits (get_or ts t no_record) ≡ 
   put-unfit n w h m l before = by (dec_lt t n)
     where
       by : Dec (t < n) → task_canonical (task_put w n (task_of (get_or ts n no_record))) t ≡ false
-      by (yes k) = canonical-apart task_codec w (task_start n) (task_start t) (task_of (get_or ts n no_record)) (inr (omega arith)) ∙ before k
+      by (yes k) = canonical_apart task_codec w (task_start n) (task_start t) (task_of (get_or ts n no_record)) (inr (omega arith)) ∙ before k
       by (no k) =
           let e : t ≡ n = omega arith in
           subst (λ (j : ℕ). task_canonical (task_put w j (task_of (get_or ts j no_record))) t ≡ false) e (unfit_not_canonical w t (get_or ts t no_record) f (omega arith))
@@ -60,5 +60,5 @@ module _ (ts : List TaskRecord) (t : ℕ) (f : fits (get_or ts t no_record) ≡ 
         let right : T (task_canonical (rows_of ts (header_at os).next) t) = (words_facts laid_out (both_left (words_in_range laid_out) (sound_view (view laid_out)) (holds _ e))).tasks-right t h in
         absurd (subst T row_laid_out right)
 
-    pub unfit-unsound : sound laid_out ≡ false
-    unfit-unsound = unsound-by (sound laid_out) refl
+    pub unfit_unsound : sound laid_out ≡ false
+    unfit_unsound = unsound-by (sound laid_out) refl

@@ -76,16 +76,16 @@ module _ (n : ℕ) (ws os ps : List ℕ) (q : ReadyQueue) where
   begin-all h = rw (eq-eqb n task_limit h)
 
   -- another number of records
-  pub begin-refused : (n ≡ task_limit → ⊥) → (stepped_of (store_of ws os ps q (words_begin n lent).0.store.log) (Answer.Refused 1), 0) ≡ words_begin n lent
-  begin-refused h =
+  pub begin_refused : (n ≡ task_limit → ⊥) → (stepped_of (store_of ws os ps q (words_begin n lent).0.store.log) (Answer.Refused 1), 0) ≡ words_begin n lent
+  begin_refused h =
       ap (λ (x : Step × ℕ). (stepped_of (store_of ws os ps q x.0.store.log) (Answer.Refused 1), 0)) (begin-other h) ∙ sym (begin-other h)
 
   -- 513 records: all are to be saved, or none where it is a refusal
-  pub begin-done : {ws' os' ps' : List ℕ} {q' : ReadyQueue} {k : ℕ} {b : Bool} (a : Answer) → n ≡ task_limit
+  pub begin_done : {ws' os' ps' : List ℕ} {q' : ReadyQueue} {k : ℕ} {b : Bool} (a : Answer) → n ≡ task_limit
       → stepped_of (store_of ws' os' ps' q' (lent_begin lent).store.log) a ≡ lent_begin lent
       → b ≡ refuses a → k ≡ pick b 0 task_limit
       → (stepped_of (store_of ws' os' ps' q' (words_begin n lent).0.store.log) a, k) ≡ words_begin n lent
-  begin-done {ws'} {os'} {ps'} {q'} {k} {b} a h s r m =
+  begin_done {ws'} {os'} {ps'} {q'} {k} {b} a h s r m =
       let y : Step = stepped_of (store_of ws' os' ps' q' (lent_begin lent).store.log) a in
       let rows : k ≡ rows_begun y.answer = m ∙ ap (λ (z : Bool). pick z 0 task_limit) (r ∙ same-refusal os' a) in
       ap (λ (x : Step × ℕ). (stepped_of (store_of ws' os' ps' q' x.0.store.log) a, k)) (begin-all h)

@@ -13,17 +13,17 @@ same_words (x ∷ xs) (y ∷ ys) = pick (eqb x y) (same_words xs ys) false
 
 module _ {R : Type 0} (C : Codec R) where
   -- the row at b
-  abbrev pub canonical-at : List ℕ → ℕ → Bool
-  canonical-at w b = same_words (C.words (read_at C w b)) (row_from w b 0 C.width)
+  abbrev pub canonical_at : List ℕ → ℕ → Bool
+  canonical_at w b = same_words (C.words (read_at C w b)) (row_from w b 0 C.width)
 
 unfoldable pub task_canonical : List ℕ → ℕ → Bool
-task_canonical w t = canonical-at task_codec w (task_start t)
+task_canonical w t = canonical_at task_codec w (task_start t)
 
 unfoldable pub object_canonical : List ℕ → ℕ → Bool
-object_canonical w o = canonical-at object_codec w (object_start o)
+object_canonical w o = canonical_at object_codec w (object_start o)
 
 unfoldable pub place_canonical : List ℕ → ℕ → Bool
-place_canonical w p = canonical-at place_codec w (place_start p)
+place_canonical w p = canonical_at place_codec w (place_start p)
 
 unfoldable pub header_canonical : List ℕ → Bool
-header_canonical w = canonical-at header_codec w 0
+header_canonical w = canonical_at header_codec w 0

@@ -2,9 +2,9 @@
 use Rattle.std.specs.Prelude.{◌≡◌, refl, Bool, true, false, ◌⊎◌, List, [], ◌∷◌, ℕ, ◌+◌, ◌≤◌, T, eqb, length}
 use Rattle.std.proofs.Common.{ap, eqb-true, eq-eqb}
 use Rattle.asyncio.specs.States.{pick}
-use Rattle.rows.specs.Rows.{row_from, Codec, put-at}
-use Rattle.rows.specs.RowLaws.{row-put-at, read-put, row-put-apart}
-use Rattle.rows.specs.Canonical.{same_words, canonical-at}
+use Rattle.rows.specs.Rows.{row_from, Codec, put_at}
+use Rattle.rows.specs.RowLaws.{row-put_at, read-put, row-put-apart}
+use Rattle.rows.specs.Canonical.{same_words, canonical_at}
 
 -- equal words pass the test, and words that pass it are equal
 pub same_words-refl : (w : List ℕ) → same_words w w ≡ true
@@ -24,8 +24,8 @@ words_same (x ∷ xs) (y ∷ ys) h = by (eqb x y) refl h (λ k. words_same xs ys
     by false e k more = absurd k
 
 module _ {R : Type 0} (C : Codec R) where
-  pub canonical-put : (w : List ℕ) (b : ℕ) (r : R) → C.Fits r → b + C.width ≤ length w → canonical-at C (put-at C w b r) b ≡ true
-  canonical-put w b r f h = rw (read-put C w b r f h, row-put-at C w b r h) (same_words-refl (C.words r))
+  pub canonical_put : (w : List ℕ) (b : ℕ) (r : R) → C.Fits r → b + C.width ≤ length w → canonical_at C (put_at C w b r) b ≡ true
+  canonical_put w b r f h = rw (read-put C w b r f h, row-put_at C w b r h) (same_words-refl (C.words r))
 
-  pub canonical-apart : (w : List ℕ) (b b' : ℕ) (r : R) → (b + C.width ≤ b') ⊎ (b' + C.width ≤ b) → canonical-at C (put-at C w b r) b' ≡ canonical-at C w b'
-  canonical-apart w b b' r h = ap (λ (x : List ℕ). same_words (C.words (C.reads x)) x) (row-put-apart C w b b' C.width r h)
+  pub canonical_apart : (w : List ℕ) (b b' : ℕ) (r : R) → (b + C.width ≤ b') ⊎ (b' + C.width ≤ b) → canonical_at C (put_at C w b r) b' ≡ canonical_at C w b'
+  canonical_apart w b b' r h = ap (λ (x : List ℕ). same_words (C.words (C.reads x)) x) (row-put-apart C w b b' C.width r h)

@@ -69,14 +69,14 @@ module _ (os : List ℕ) (o : ℕ) where
   pub kind_at : kind (object_at os o) ≡ there
   kind_at = rw read-row (row-kind there row)
 
-  pub awaiter-at : awaiter_of (object_at os o) ≡ pick (has_awaiter there) (to_awaiter (word 1) (word 2) (word 3)) Awaiter.Nobody
-  awaiter-at = rw read-row (row_awaits there row)
+  pub awaiter_at : awaiter_of (object_at os o) ≡ pick (has_awaiter there) (to_awaiter (word 1) (word 2) (word 3)) Awaiter.Nobody
+  awaiter_at = rw read-row (row_awaits there row)
 
   pub call_at : call_of (object_at os o) ≡ pick (is_external there) (to_call_id (word 4)) (call_id 0)
   call_at = rw read-row (row-call there row)
 
-  pub first-at : first_of (object_at os o) ≡ pick (is_gather there) (to_first (word 4)) 0
-  first-at = rw read-row (row_first there row)
+  pub first_at : first_of (object_at os o) ≡ pick (is_gather there) (to_first (word 4)) 0
+  first_at = rw read-row (row_first there row)
 
   pub count_at : count_of (object_at os o) ≡ pick (is_gather there) (to_count (to_first (word 4)) (word 5)) 0
   count_at = rw read-row (row_count there row)

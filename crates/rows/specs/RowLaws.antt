@@ -2,7 +2,7 @@
 -- read is in range.
 use Rattle.std.specs.Prelude.{◌≡◌, refl, ◌⊎◌, List, [], ◌∷◌, ℕ, zero, suc, ◌+◌, ◌≤◌, ◌<◌, length, get_or, set, drop}
 use Rattle.std.proofs.Common.{ap, ◌∙◌, ⊎_elim, add-suc, suc-add, add-zero, zero-add, arith, length-set, get_or-set_same, get_or-set_other}
-use Rattle.rows.specs.Rows.{row_from, put_from, split_row, Codec, read_at, put-at}
+use Rattle.rows.specs.Rows.{row_from, put_from, split_row, Codec, read_at, put_at}
 
 pub length-put_from : (w : List ℕ) (b j : ℕ) (vs : List ℕ) → length (put_from w b j vs) ≡ length w
 length-put_from w b j [] = refl
@@ -103,19 +103,19 @@ drop-drop a (suc b) [] = drop-empty a ∙ rw (suc-add b a)
 drop-drop a (suc b) (x ∷ w) = drop-drop a b w ∙ rw (suc-add b a)
 
 module _ {R : Type 0} (C : Codec R) where
-  pub length-put-at : (w : List ℕ) (b : ℕ) (r : R) → length (put-at C w b r) ≡ length w
-  length-put-at w b r = length-put_from w b 0 (C.words r)
+  pub length-put_at : (w : List ℕ) (b : ℕ) (r : R) → length (put_at C w b r) ≡ length w
+  length-put_at w b r = length-put_from w b 0 (C.words r)
 
   -- the words of what was put stand there
-  pub row-put-at : (w : List ℕ) (b : ℕ) (r : R) → b + C.width ≤ length w → row_from (put-at C w b r) b 0 C.width ≡ C.words r
-  row-put-at w b r h = rw (← C.wide r) (row-put_from w b 0 (C.words r) (rw (C.wide r, add-zero) h))
+  pub row-put_at : (w : List ℕ) (b : ℕ) (r : R) → b + C.width ≤ length w → row_from (put_at C w b r) b 0 C.width ≡ C.words r
+  row-put_at w b r h = rw (← C.wide r) (row-put_from w b 0 (C.words r) (rw (C.wide r, add-zero) h))
 
   -- what was put and fits is read back
-  pub read-put : (w : List ℕ) (b : ℕ) (r : R) → C.Fits r → b + C.width ≤ length w → read_at C (put-at C w b r) b ≡ r
-  read-put w b r f h = ap C.reads (row-put-at w b r h) ∙ C.back r f
+  pub read-put : (w : List ℕ) (b : ℕ) (r : R) → C.Fits r → b + C.width ≤ length w → read_at C (put_at C w b r) b ≡ r
+  read-put w b r f h = ap C.reads (row-put_at w b r h) ∙ C.back r f
 
   -- a row apart is as it was, of this type or another
-  pub row-put-apart : (w : List ℕ) (b b' k : ℕ) (r : R) → (b + C.width ≤ b') ⊎ (b' + k ≤ b) → row_from (put-at C w b r) b' 0 k ≡ row_from w b' 0 k
+  pub row-put-apart : (w : List ℕ) (b b' k : ℕ) (r : R) → (b + C.width ≤ b') ⊎ (b' + k ≤ b) → row_from (put_at C w b r) b' 0 k ≡ row_from w b' 0 k
   row-put-apart w b b' k r h = row_apart w b b' k (C.words r) (rw (C.wide r) h)
 
   -- whatever is read is in range

@@ -34,10 +34,10 @@ module _ {R : Type 0} (C : Codec R) where
   read_at w b = C.reads (row_from w b 0 C.width)
 
   -- the words with r put at b
-  abbrev pub put-at : List ℕ → ℕ → R → List ℕ
-  put-at w b r = put_from w b 0 (C.words r)
+  abbrev pub put_at : List ℕ → ℕ → R → List ℕ
+  put_at w b r = put_from w b 0 (C.words r)
 
   -- how many of the first n rows pass: one walk through the words, so that it computes quickly (RowLaws: split_row-is)
-  abbrev pub count-rows : (R → Bool) → ℕ → List ℕ → ℕ
-  count-rows p zero w = 0
-  count-rows p (suc n) w = split_row C.width (λ r. r) w (λ r v. pick (p (C.reads r)) (suc (count-rows p n v)) (count-rows p n v))
+  abbrev pub count_rows : (R → Bool) → ℕ → List ℕ → ℕ
+  count_rows p zero w = 0
+  count_rows p (suc n) w = split_row C.width (λ r. r) w (λ r v. pick (p (C.reads r)) (suc (count_rows p n v)) (count_rows p n v))

@@ -6,7 +6,7 @@ use Rattle.asyncio.specs.Layout.{to_object, to_task, to_place, to_header}
 use Rattle.asyncio.specs.Limits.{object_limit}
 use Rattle.asyncio.specs.Parts.{first_of, count_of}
 use Rattle.asyncio.specs.Ranges.{ObjectFits, TaskFits, PlaceFits, HeaderFits, PlacesFit}
-use Rattle.rows.specs.RowLaws.{length-put-at, read-put, row-put-apart, read_fits}
+use Rattle.rows.specs.RowLaws.{length-put_at, read-put, row-put-apart, read_fits}
 use Rattle.rows.specs.Tables.{task_codec, object_codec, place_codec, header_codec, task_start, object_start, place_start}
 use Rattle.rows.specs.Tables.{task_at, task_put, object_at, object_put, place_at, place_put, header_at, header_put}
 use Rattle.asyncio.specs.declared.HeapId.{HeapId}
@@ -19,19 +19,19 @@ use Rattle.asyncio.specs.declared.Header.{Header}
 
 pub length-task_put : (w : List ℕ) (t : ℕ) (r : Task) → length (task_put w t r) ≡ length w
 unfolding task_put
-length-task_put w t r = length-put-at task_codec w (task_start t) r
+length-task_put w t r = length-put_at task_codec w (task_start t) r
 
 pub length-object_put : (w : List ℕ) (o : ℕ) (r : Object) → length (object_put w o r) ≡ length w
 unfolding object_put
-length-object_put w o r = length-put-at object_codec w (object_start o) r
+length-object_put w o r = length-put_at object_codec w (object_start o) r
 
 pub length-place_put : (w : List ℕ) (p : ℕ) (r : Place) → length (place_put w p r) ≡ length w
 unfolding place_put
-length-place_put w p r = length-put-at place_codec w (place_start p) r
+length-place_put w p r = length-put_at place_codec w (place_start p) r
 
 pub length-header_put : (w : List ℕ) (h : Header) → length (header_put w h) ≡ length w
 unfolding header_put
-length-header_put w h = length-put-at header_codec w 0 h
+length-header_put w h = length-put_at header_codec w 0 h
 
 -- ---- what was put and fits is read back
 

@@ -17,18 +17,18 @@ use Rattle.machine.specs.Scheduler.{first_from, is_task_of, task_of_in, is_call,
 
 -- j is the number that the code tested, i as a number of its type
 module _ (p : ℕ → Bool) (i n : ℕ) {j : ℕ} where
-  pub first-here : i < n → j ≡ i → true ≡ p j → first_from p i (n - i) ≡ some i
+  pub first_here : i < n → j ≡ i → true ≡ p j → first_from p i (n - i) ≡ some i
   unfolding first_from
-  first-here h e q = let k : n - i ≡ suc (n - (i + 1)) = omega arith in rw (k, ← e, ← q)
+  first_here h e q = let k : n - i ≡ suc (n - (i + 1)) = omega arith in rw (k, ← e, ← q)
 
-  pub first-turn : i < n → j ≡ i → false ≡ p j → first_from p (i + 1) (n - (i + 1)) ≡ first_from p i (n - i)
+  pub first_turn : i < n → j ≡ i → false ≡ p j → first_from p (i + 1) (n - (i + 1)) ≡ first_from p i (n - i)
   unfolding first_from
-  first-turn h e q = let k : n - i ≡ suc (n - (i + 1)) = omega arith in let q' : false ≡ p i = rw e at q in rw (k, ← q')
+  first_turn h e q = let k : n - i ≡ suc (n - (i + 1)) = omega arith in let q' : false ≡ p i = rw e at q in rw (k, ← q')
 
 module _ (p : ℕ → Bool) (i n : ℕ) where
-  pub first-end : n ≤ i → first_from p i (n - i) ≡ none
+  pub first_end : n ≤ i → first_from p i (n - i) ≡ none
   unfolding first_from
-  first-end h = let e : n - i ≡ 0 = omega arith in rw e
+  first_end h = let e : n - i ≡ 0 = omega arith in rw e
 
 pub task_of-begins : (ts : List ℕ) (n c : ℕ) → first_from (λ t. is_task_of c (task_at ts t)) 1 (n - 1) ≡ task_of_in ts n c
 unfolding task_of_in

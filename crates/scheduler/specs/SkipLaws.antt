@@ -9,7 +9,7 @@ use Rattle.asyncio.specs.States.{pick}
 use Rattle.asyncio.specs.Numbers.{heap_id}
 use Rattle.asyncio.specs.declared.HeapId.{HeapId}
 use Rattle.machine.specs.Scheduler.{first_from, calls_below}
-use Rattle.scheduler.specs.SearchLaws.{first-turn}
+use Rattle.scheduler.specs.SearchLaws.{first_turn}
 use Rattle.scheduler.specs.Skips.{is_pending, any_of, BeginsAt}
 
 module _ (p : ℕ → Bool) where
@@ -48,20 +48,20 @@ module _ (p : ℕ → Bool) where
   begins n = record { within = omega arith; none_before = λ i h. absurd (omega arith) }
 
   -- k numbers further
-  pub begins-further : (n o k : ℕ) → BeginsAt p n o → o + k ≤ n → any_of p o k ≡ false → BeginsAt p n (o + k)
-  begins-further n o k b h e = record { within = h; none_before = λ i l. by i l (leb o i) refl }
+  pub begins_further : (n o k : ℕ) → BeginsAt p n o → o + k ≤ n → any_of p o k ≡ false → BeginsAt p n (o + k)
+  begins_further n o k b h e = record { within = h; none_before = λ i l. by i l (leb o i) refl }
     where
       by : (i : ℕ) → i < o + k → (t : Bool) → leb o i ≡ t → p i ≡ false
       by i l true q = none_of k o i e (leb-true o i q) l
       by i l false q = b.none_before i (leb-false o i q)
 
   -- the search from the beginning
-  pub first-begins : (n r : ℕ) → BeginsAt p n r → first_from p r (n - r) ≡ first_from p 0 (n - 0)
-  first-begins n zero b = refl
-  first-begins n (suc r) b =
+  pub first_begins : (n r : ℕ) → BeginsAt p n r → first_from p r (n - r) ≡ first_from p 0 (n - 0)
+  first_begins n zero b = refl
+  first_begins n (suc r) b =
       let h : r < n = b.within in
-      rw (add-one r) at (first-turn p r n h refl (sym (b.none_before r (omega arith))))
-      ∙ first-begins n r (record { within = omega arith; none_before = λ i l. b.none_before i (omega arith) })
+      rw (add-one r) at (first_turn p r n h refl (sym (b.none_before r (omega arith))))
+      ∙ first_begins n r (record { within = omega arith; none_before = λ i l. b.none_before i (omega arith) })
 
 -- no call below where the search for a pending external begins
 pub no_calls_before : (os : List ℕ) (n r : ℕ) → BeginsAt (is_pending os) n r → calls_below os r ≡ []

@@ -17,9 +17,9 @@ use Rattle.scheduler.specs.Spawn.{SpawnsAs, Spawns, done, not_done}
 use Rattle.scheduler.specs.declared.tasks.FoundTask.{FoundTask}
 
 module _ (ts os : List ℕ) (q : ReadyQueue) (c g : ℕ) {h : Header} {d : FoundTask} (e : h ≡ header_at os) (f : d ≡ found_task (task_of_in ts h.next c)) where
-  pub spawn-taken : (n : TaskId) → d ≡ FoundTask.At n → Spawns ts os q c g ts os q false
+  pub spawn_taken : (n : TaskId) → d ≡ FoundTask.At n → Spawns ts os q c g ts os q false
   unfolding spawn spawn_unless task_of header
-  spawn-taken n t =
+  spawn_taken n t =
       let k : task_of_in ts (header_at os).next c ≡ some n.0 = rw e at (task-found (task_of_in ts h.next c) n (sym f ∙ t)) in
       not_done (λ ps l. rw k)
 

@@ -134,15 +134,15 @@ blocked-object ts t {x} o e f g =
 module _ (ds ts os ps : List ℕ) (at : Walked) (l : List LogEntry) (ms : List Bool) (gs : List ℕ) (t : ℕ)
     {x : TaskState} {b : FoundObject} (e : x ≡ (task_at ts t).state) (f : b ≡ found_object (blocked_on x)) {us : List ℕ} {r : ReadyQueue}
     (h : store_of us os ps r l ≡ remove_task (store_of ts os ps at.queue l) t) where
-  pub removes-only : b ≡ FoundObject.Nothing → Shows ds us os ps (walked r at.depth) ms gs (remove_blocked (walk_of ds ts os ps at l ms gs) t (blocked_on (task_at ts t).state))
+  pub removes_only : b ≡ FoundObject.Nothing → Shows ds us os ps (walked r at.depth) ms gs (remove_blocked (walk_of ds ts os ps at l ms gs) t (blocked_on (task_at ts t).state))
   unfolding remove_blocked cancel_one add_log
-  removes-only g = let k : blocked_on (task_at ts t).state ≡ none = rw e at (no_object (blocked_on x) (sym f ∙ g)) in rw (k, ← h) (record { shows = refl })
+  removes_only g = let k : blocked_on (task_at ts t).state ≡ none = rw e at (no_object (blocked_on x) (sym f ∙ g)) in rw (k, ← h) (record { shows = refl })
 
-  pub removes-blocked : (o : HeapId) → b ≡ FoundObject.At o → {d : ℕ} {ns : List Bool} {hs : List ℕ}
+  pub removes_blocked : (o : HeapId) → b ≡ FoundObject.At o → {d : ℕ} {ns : List Bool} {hs : List ℕ}
       → walk_of ds us os ps (walked r d) (removed t ∷ l) ns hs ≡ reach (walk_of ds us os ps (walked r at.depth) (removed t ∷ l) ms gs) o.0
       → Shows ds us os ps (walked r d) ns hs (remove_blocked (walk_of ds ts os ps at l ms gs) t (blocked_on (task_at ts t).state))
   unfolding remove_blocked cancel_one add_log
-  removes-blocked o g {d} {ns} {hs} p =
+  removes_blocked o g {d} {ns} {hs} p =
       let k : blocked_on (task_at ts t).state ≡ some o.0 = rw e at (object-found (blocked_on x) o (sym f ∙ g)) in
       rw (k, ← h) (shows-by ds us os ps (walked r d) (removed t ∷ l) ns hs p)
 
@@ -166,14 +166,14 @@ module _ (ds ts os ps : List ℕ) (at : Walked) (l : List LogEntry) (ms : List B
     visit-nested f {n} {ns} {hs} h = rw (no_task (still_live ts (tasks_of_in ds o)) (sym e ∙ f)) (shows-by ds ts os ps (walked at.queue n) l ns hs h)
 
   module _ (p i m : ℕ) where
-    pub place-shut : m / 2 ^ i % 2 ≡ 0 → Shows ds ts os ps at ms gs (visit_place (walk_of ds ts os ps at l ms gs) p i m)
+    pub place_shut : m / 2 ^ i % 2 ≡ 0 → Shows ds ts os ps at ms gs (visit_place (walk_of ds ts os ps at l ms gs) p i m)
     unfolding visit_place
-    place-shut e = rw (eq-eqb (m / 2 ^ i % 2) 0 e) (record { shows = refl })
+    place_shut e = rw (eq-eqb (m / 2 ^ i % 2) 0 e) (record { shows = refl })
 
-    pub place-open : (m / 2 ^ i % 2 ≡ 0 → ⊥) → {h : HeapId} → h ≡ (place_at ps p).item → {us hs : List ℕ} {r : Walked} {ns : List Bool}
+    pub place_open : (m / 2 ^ i % 2 ≡ 0 → ⊥) → {h : HeapId} → h ≡ (place_at ps p).item → {us hs : List ℕ} {r : Walked} {ns : List Bool}
         → Shows ds us os ps r ns hs (visit (walk_of ds ts os ps at l ms gs) h.0) → Shows ds us os ps r ns hs (visit_place (walk_of ds ts os ps at l ms gs) p i m)
     unfolding visit_place place
-    place-open b e s = rw (ne_eqb (m / 2 ^ i % 2) 0 b, ← e) s
+    place_open b e s = rw (ne_eqb (m / 2 ^ i % 2) 0 b, ← e) s
 
 -- with some log, f gives x
 pub record Logged {A : Type 0} (f : List LogEntry → A) (x : A) : Type 0 where
@@ -189,9 +189,9 @@ module _ (ds ts os ps : List ℕ) (at : Walked) (ms : List Bool) (gs : List ℕ)
       let k : n - i ≡ suc (n - (i + 1)) = omega arith in
       record { log = _; gives = ap (λ (w : Walk). visit_open w a (i + 1) (n - (i + 1))) (s g.log).shows ∙ (rw k at g.gives) }
 
-  pub open-end : n ≤ i → Logged (λ l. visit_open (walk_of ds ts os ps at l ms gs) a i (n - i)) x → Shows ds ts os ps at ms gs x
+  pub open_end : n ≤ i → Logged (λ l. visit_open (walk_of ds ts os ps at l ms gs) a i (n - i)) x → Shows ds ts os ps at ms gs x
   unfolding visit_open
-  open-end h g = let k : n - i ≡ 0 = omega arith in shows-by ds ts os ps at g.log ms gs (rw k at g.gives)
+  open_end h g = let k : n - i ≡ 0 = omega arith in shows-by ds ts os ps at g.log ms gs (rw k at g.gives)
 
 -- as many places are left
 pub open_room : (ds ts os ps : List ℕ) (at : Walked) (l : List LogEntry) (ms : List Bool) (gs : List ℕ) (p i m : ℕ) → length ms ≡ object_limit
@@ -206,9 +206,9 @@ open_begin w a n = let k : n - 0 ≡ n = omega arith in rw k
 
 module _ (ds ts os ps : List ℕ) (at : Walked) (l : List LogEntry) (ms : List Bool) (gs : List ℕ) (g : ℕ)
     {k : Kind} (e : k ≡ kind (object_at os g)) {b : Bool} (f : b ≡ is_awaited k) where
-  pub walks-not : b ≡ false → Shows ds ts os ps at ms gs (walk_gather (walk_of ds ts os ps at l ms gs) (as_awaited (object_at os g)))
+  pub walks_not : b ≡ false → Shows ds ts os ps at ms gs (walk_gather (walk_of ds ts os ps at l ms gs) (as_awaited (object_at os g)))
   unfolding walk_gather
-  walks-not t = rw (awaited-by (object_at os g), ← e, ← f, t) (record { shows = refl })
+  walks_not t = rw (awaited-by (object_at os g), ← e, ← f, t) (record { shows = refl })
 
   pub walks : b ≡ true → {i n m : ℕ} → i ≡ first_of (object_at os g) → n ≡ count_of (object_at os g) → m ≡ open_of (object_at os g)
       → {us hs : List ℕ} {r : Walked} {ns : List Bool}

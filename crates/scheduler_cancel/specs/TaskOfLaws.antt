@@ -37,12 +37,12 @@ noted ds t r true m k h l c = by (eqb r.coroutine.0 c) refl
 
 module _ (ts : List ℕ) (n : ℕ) where
   -- the tasks of coroutines among the tasks from t on, below n
-  pub tasks-of-turn : (ds : List ℕ) (u t : ℕ) → t ≡ u + 1 → t ≤ n → 0 < u → n ≤ task_limit → length ds ≡ object_limit
+  pub tasks_of_turn : (ds : List ℕ) (u t : ℕ) → t ≡ u + 1 → t ≤ n → 0 < u → n ≤ task_limit → length ds ≡ object_limit
       → {j : ℕ} {es : List ℕ} → j ≡ u → es ≡ put_task_of ts j ds
       → ((c : ℕ) → tasks_of_in ds c ≡ first_from (λ v. is_task_of c (task_at ts v)) t (n - t))
       → (c : ℕ) → tasks_of_in es c ≡ first_from (λ v. is_task_of c (task_at ts v)) u (n - u)
   unfolding tasks_of_in put_task_of first_from is_task_of
-  tasks-of-turn ds u t e h p z m i q f c =
+  tasks_of_turn ds u t e h p z m i q f c =
       let k : n - u ≡ suc (n - (u + 1)) = omega arith in
       rw (k, q, i, ← e, ← f c) (noted ds u (task_at ts u) (is_live (task_at ts u).state) m (task_at-fits ts u).coroutine-fits p (omega arith) c)
 
@@ -51,33 +51,33 @@ module _ (ts : List ℕ) (n : ℕ) where
   zeros (suc k) zero = refl
   zeros (suc k) (suc c) = zeros k c
 
-  pub tasks-of-begin : (c : ℕ) → tasks_of_in (replicate object_limit 0) c ≡ first_from (λ v. is_task_of c (task_at ts v)) n (n - n)
+  pub tasks_of_begin : (c : ℕ) → tasks_of_in (replicate object_limit 0) c ≡ first_from (λ v. is_task_of c (task_at ts v)) n (n - n)
   unfolding tasks_of_in named first_from
-  tasks-of-begin c = let k : n - n ≡ 0 = omega arith in rw (k, zeros object_limit c)
+  tasks_of_begin c = let k : n - n ≡ 0 = omega arith in rw (k, zeros object_limit c)
 
-  pub tasks-of-end : (ds : List ℕ) (t : ℕ) → t ≤ 1 → t ≤ n → min n 1 ≤ t
+  pub tasks_of_end : (ds : List ℕ) (t : ℕ) → t ≤ 1 → t ≤ n → min n 1 ≤ t
       → ((c : ℕ) → tasks_of_in ds c ≡ first_from (λ v. is_task_of c (task_at ts v)) t (n - t)) → (c : ℕ) → tasks_of_in ds c ≡ task_of_in ts n c
   unfolding task_of_in first_from
-  tasks-of-end ds zero h l m f c = let a : n ≡ 0 = omega arith in f c ∙ rw a
-  tasks-of-end ds (suc t) h l m f c = let a : t ≡ 0 = omega arith in f c ∙ rw a
+  tasks_of_end ds zero h l m f c = let a : n ≡ 0 = omega arith in f c ∙ rw a
+  tasks_of_end ds (suc t) h l m f c = let a : t ≡ 0 = omega arith in f c ∙ rw a
 
 -- the table's task, as live_task_of finds it
 module _ (ts ds : List ℕ) (o : ℕ) {u : TaskId} (e : u ≡ to_task_id (get_or ds o 0)) {b : Bool} (f : b ≡ is_main u) where
   number : get_or ds o 0 % task_limit ≡ u.0
   number = sym (ap (λ (x : TaskId). x.0) e)
 
-  pub task-of-none : b ≡ true → FoundTask.Nothing ≡ found_task (still_live ts (tasks_of_in ds o))
+  pub task_of-none : b ≡ true → FoundTask.Nothing ≡ found_task (still_live ts (tasks_of_in ds o))
   unfolding tasks_of_in named still_live
-  task-of-none t = rw (number, ← f, t)
+  task_of-none t = rw (number, ← f, t)
 
   module _ (n : b ≡ false) {x : TaskState} (g : x ≡ (task_at ts u.0).state) {y : Bool} (h : y ≡ is_live x) where
-    pub task-of-lives : y ≡ true → FoundTask.At u ≡ found_task (still_live ts (tasks_of_in ds o))
+    pub task_of-lives : y ≡ true → FoundTask.At u ≡ found_task (still_live ts (tasks_of_in ds o))
     unfolding tasks_of_in named still_live
-    task-of-lives t = rw (number, ← f, n, ← g, ← h, t)
+    task_of-lives t = rw (number, ← f, n, ← g, ← h, t)
 
-    pub task-of-gone : y ≡ false → FoundTask.Nothing ≡ found_task (still_live ts (tasks_of_in ds o))
+    pub task_of-gone : y ≡ false → FoundTask.Nothing ≡ found_task (still_live ts (tasks_of_in ds o))
     unfolding tasks_of_in named still_live
-    task-of-gone t = rw (number, ← f, n, ← g, ← h, t)
+    task_of-gone t = rw (number, ← f, n, ← g, ← h, t)
 
 -- a task's number, if there is one
 abbrev NumberFits : Option ℕ → Type 0

@@ -9,7 +9,7 @@ use Rattle.asyncio.specs.declared.Header.{Header}
 use Rattle.rows.specs.Tables.{task_put, header_put}
 use Rattle.queue.specs.declared.ReadyQueue.{ReadyQueue}
 use Rattle.machine.specs.Machine.{Step}
-use Rattle.machine.specs.Answers.{Numbers, answer-numbers}
+use Rattle.machine.specs.Answers.{Numbers, answer_numbers}
 use Rattle.machine.specs.Lent.{lent_begin}
 use Rattle.contract.specs.Contract.{Slice, Does}
 use Rattle.exec_switch.specs.Answer.{stepped_of}
@@ -29,7 +29,7 @@ StoresMain tasks objects = (tasks.exit.now ≡ task_put tasks.entry.now 0 main_t
 
 -- a step, and document 01's numbers of its answer
 abbrev pub with_numbers : Step → Step × Numbers
-with_numbers x = (x, answer-numbers x.answer)
+with_numbers x = (x, answer_numbers x.answer)
 
 -- The call is the beginning of a session: its answer with document 01's numbers, the slices and the queue are those of `lent_begin`.
 abbrev pub LentBegin : Slice → Slice → Slice → ReadyQueue → Stepped → Type 0

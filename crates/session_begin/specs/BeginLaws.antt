@@ -19,12 +19,12 @@ use Rattle.session_begin.specs.Begin.{main_header, main_task}
 
 -- ---- words cleared one by one
 
-one-zero_more : (i : ℕ) → ◌++◌ {A = ℕ} (replicate {A = ℕ} i 0) (0 ∷ []) ≡ replicate {A = ℕ} (suc i) 0
-one-zero_more zero = refl
-one-zero_more (suc i) = ap (λ (xs : List ℕ). 0 ∷ xs) (one-zero_more i)
+one_zero_more : (i : ℕ) → ◌++◌ {A = ℕ} (replicate {A = ℕ} i 0) (0 ∷ []) ≡ replicate {A = ℕ} (suc i) 0
+one_zero_more zero = refl
+one_zero_more (suc i) = ap (λ (xs : List ℕ). 0 ∷ xs) (one_zero_more i)
 
 pub clear_turn : (ws : List ℕ) (i : ℕ) → i < length ws → take i ws ≡ replicate i 0 → take (i + 1) (set ws i 0) ≡ replicate (i + 1) 0
-clear_turn ws i l e = rw (add-one i) (take-suc-set ws i 0 l ∙ ap (λ (xs : List ℕ). xs ++ (0 ∷ [])) e ∙ one-zero_more i)
+clear_turn ws i l e = rw (add-one i) (take-suc-set ws i 0 l ∙ ap (λ (xs : List ℕ). xs ++ (0 ∷ [])) e ∙ one_zero_more i)
 
 pub clear_end : (ws : List ℕ) (i n : ℕ) → i ≡ length ws → length ws ≡ n → take i ws ≡ replicate i 0 → ws ≡ replicate n 0
 clear_end ws i n e h r =
@@ -35,9 +35,9 @@ clear_end ws i n e h r =
 -- ---- a fresh session
 
 module _ (ts os ps : List ℕ) (q : ReadyQueue) (l : List LogEntry) {b : Bool} (g : b ≡ are_slices (length ts) (length os) (length ps)) where
-  pub begin-refused : b ≡ false → stepped_of (store_of ts os ps q (lent_begin (store_of ts os ps q l)).store.log) (Answer.Refused 1) ≡ lent_begin (store_of ts os ps q l)
+  pub begin_refused : b ≡ false → stepped_of (store_of ts os ps q (lent_begin (store_of ts os ps q l)).store.log) (Answer.Refused 1) ≡ lent_begin (store_of ts os ps q l)
   unfolding lent_begin slices_right
-  begin-refused i = rw (sym g ∙ i)
+  begin_refused i = rw (sym g ∙ i)
 
   module _ (i : b ≡ true) (z : length ts ≡ tasks_length) (y : length os ≡ objects_length) (w : length ps ≡ places_length) where
     begins-fresh : lent_begin (store_of ts os ps q l) ≡ record { store = fresh; answer = machine.Answer.done }

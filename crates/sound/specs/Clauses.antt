@@ -81,23 +81,23 @@ module _ (ts os ps : List ℕ) (q : ReadyQueue) (l : List LogEntry) where
 -- ---- the code's early exits
 
 module _ (ts os ps : List ℕ) (q : ReadyQueue) (l : List LogEntry) where
-  pub sound-long : task_limit < q.len → false ≡ sound (store_of ts os ps q l)
-  sound-long h = rw (sound_by ts os ps q l) (stop _ (sym (lt-leb q.len task_limit h)))
+  pub sound_long : task_limit < q.len → false ≡ sound (store_of ts os ps q l)
+  sound_long h = rw (sound_by ts os ps q l) (stop _ (sym (lt-leb q.len task_limit h)))
 
   module _ (s : q.len ≤ task_limit) {h : Header} (e : h ≡ header_at os) where
     short : true ≡ leb q.len task_limit
     short = sym (le-leb q.len task_limit s)
 
-    pub sound-worded : false ≡ rows_canonical h ts os ps → false ≡ sound (store_of ts os ps q l)
-    sound-worded a = rw (sound_by ts os ps q l, ← e) (pass short (stop _ a))
+    pub sound_worded : false ≡ rows_canonical h ts os ps → false ≡ sound (store_of ts os ps q l)
+    sound_worded a = rw (sound_by ts os ps q l, ← e) (pass short (stop _ a))
 
     module _ (a : true ≡ rows_canonical h ts os ps) where
-      pub sound-tabled : false ≡ tables_sound h (object_at os) (task_at ts) (place_at ps) → false ≡ sound (store_of ts os ps q l)
-      sound-tabled b = rw (sound_by ts os ps q l, ← e) (pass short (pass a (stop _ b)))
+      pub sound_tabled : false ≡ tables_sound h (object_at os) (task_at ts) (place_at ps) → false ≡ sound (store_of ts os ps q l)
+      sound_tabled b = rw (sound_by ts os ps q l, ← e) (pass short (pass a (stop _ b)))
 
       module _ (b : true ≡ tables_sound h (object_at os) (task_at ts) (place_at ps)) where
-        pub sound-tasked : false ≡ tasks_sound h (object_at os) (task_at ts) (entries q) → false ≡ sound (store_of ts os ps q l)
-        sound-tasked c = rw (sound_by ts os ps q l, ← e) (pass short (pass a (pass b (stop _ c))))
+        pub sound_tasked : false ≡ tasks_sound h (object_at os) (task_at ts) (entries q) → false ≡ sound (store_of ts os ps q l)
+        sound_tasked c = rw (sound_by ts os ps q l, ← e) (pass short (pass a (pass b (stop _ c))))
 
         pub sound-told : {r : Bool} → true ≡ tasks_sound h (object_at os) (task_at ts) (entries q) → r ≡ gathers_sound h (object_at os) (task_at ts) (place_at ps)
             → r ≡ sound (store_of ts os ps q l)

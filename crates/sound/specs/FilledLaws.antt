@@ -19,11 +19,11 @@ use Rattle.machine.specs.Sound.{is_filled, rest_filled, gather_filled, object_fi
 -- ---- a place
 
 module _ (ps : List ℕ) (p m k : ℕ) where
-  pub place-shut : {x : OptionValue} {r : Bool} → m / 2 ^ k % 2 ≡ 0 → x ≡ (place_at ps p).result → r ≡ is_filled x → r ≡ (bit m k || is_filled (place_at ps p).result)
-  place-shut e f h = rw (eq-eqb (m / 2 ^ k % 2) 0 e, ← f) h
+  pub place_shut : {x : OptionValue} {r : Bool} → m / 2 ^ k % 2 ≡ 0 → x ≡ (place_at ps p).result → r ≡ is_filled x → r ≡ (bit m k || is_filled (place_at ps p).result)
+  place_shut e f h = rw (eq-eqb (m / 2 ^ k % 2) 0 e, ← f) h
 
-  pub place-open : (m / 2 ^ k % 2 ≡ 0 → ⊥) → true ≡ (bit m k || is_filled (place_at ps p).result)
-  place-open ne = rw (ne_eqb (m / 2 ^ k % 2) 0 ne)
+  pub place_open : (m / 2 ^ k % 2 ≡ 0 → ⊥) → true ≡ (bit m k || is_filled (place_at ps p).result)
+  place_open ne = rw (ne_eqb (m / 2 ^ k % 2) 0 ne)
 
 -- ---- an object
 
@@ -47,6 +47,6 @@ module _ (ps : ℕ → Place) (os : List ℕ) (o : ℕ) {k : Kind} (e : k ≡ ki
     unfolding ◌and◌
     filled-awaited {m} t d z h = rw (filled-by ps (object_at os o), ← e, t, ← f, ← c, ← d, ne_eqb m 0 z) h
 
-  pub filled-shut : {m : ℕ} → is_awaited k ≡ true → m ≡ open_of (object_at os o) → m ≡ 0 → false ≡ object_filled ps (object_at os o)
+  pub filled_shut : {m : ℕ} → is_awaited k ≡ true → m ≡ open_of (object_at os o) → m ≡ 0 → false ≡ object_filled ps (object_at os o)
   unfolding ◌and◌
-  filled-shut {m} t d z = rw (filled-by ps (object_at os o), ← e, t, ← d, eq-eqb m 0 z)
+  filled_shut {m} t d z = rw (filled-by ps (object_at os o), ← e, t, ← d, eq-eqb m 0 z)

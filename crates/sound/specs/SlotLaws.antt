@@ -37,27 +37,27 @@ holds_by ps x o =
     (λ i n w m. refl) (λ i n. refl) (λ i n e. refl) x
 
 module _ (ps : ℕ → Place) (os : List ℕ) (g o : ℕ) {k : Kind} {r : Bool} (e : k ≡ kind (object_at os g)) where
-  pub holds-settled : is_awaited k ≡ false → r ≡ is_committed k → r ≡ is_committed (kind (object_at os g)) and source_open ps (as_awaited (object_at os g)) o
-  holds-settled t h = rw (holds_by ps (object_at os g) o, ← e, t) h
+  pub holds_settled : is_awaited k ≡ false → r ≡ is_committed k → r ≡ is_committed (kind (object_at os g)) and source_open ps (as_awaited (object_at os g)) o
+  holds_settled t h = rw (holds_by ps (object_at os g) o, ← e, t) h
 
-  pub holds-awaited : {i n m : ℕ} → is_awaited k ≡ true → i ≡ first_of (object_at os g) → n ≡ count_of (object_at os g) → m ≡ open_of (object_at os g)
+  pub holds_awaited : {i n m : ℕ} → is_awaited k ≡ true → i ≡ first_of (object_at os g) → n ≡ count_of (object_at os g) → m ≡ open_of (object_at os g)
       → ((a : Awaiter) → r ≡ open_from ps (awaited_gather i n a m) o 0 n) → r ≡ is_committed (kind (object_at os g)) and source_open ps (as_awaited (object_at os g)) o
-  holds-awaited t f c d h = rw (holds_by ps (object_at os g) o, ← e, t, ← f, ← c, ← d) (h (awaiter_of (object_at os g)))
+  holds_awaited t f c d h = rw (holds_by ps (object_at os g) o, ← e, t, ← f, ← c, ← d) (h (awaiter_of (object_at os g)))
 
 -- ---- an object's own awaiter
 
 module _ (os : List ℕ) (ps : ℕ → Place) (o : ℕ) {h : HeapId} {w : Awaiter} {r : Bool} (e : h ≡ heap_id o) (f : w ≡ awaiter_of (object_at os h.0)) where
-  pub object-slot : r ≡ slot_open (object_at os) ps h.0 w → r ≡ slot_open (object_at os) ps o (awaiter_of (object_at os o))
-  object-slot g = let k : w ≡ awaiter_of (object_at os o) = rw e at f in rw (e, k) at g
+  pub object_slot : r ≡ slot_open (object_at os) ps h.0 w → r ≡ slot_open (object_at os) ps o (awaiter_of (object_at os o))
+  object_slot g = let k : w ≡ awaiter_of (object_at os o) = rw e at f in rw (e, k) at g
 
 -- ---- a live task
 
 module _ (os : ℕ → Object) (ps : ℕ → Place) (ts : List ℕ) (t : ℕ) {s : TaskState} (e : s ≡ (task_at ts t).state) where
-  pub slot-dead : is_live s ≡ false → true ≡ implies (is_live (task_at ts t).state) (slot_open os ps (task_at ts t).coroutine.0 (task_at ts t).awaiter)
+  pub slot_dead : is_live s ≡ false → true ≡ implies (is_live (task_at ts t).state) (slot_open os ps (task_at ts t).coroutine.0 (task_at ts t).awaiter)
   unfolding implies
-  slot-dead u = rw (← e, u)
+  slot_dead u = rw (← e, u)
 
-  pub slot-live : {c : HeapId} {w : Awaiter} {r : Bool} → is_live s ≡ true → c ≡ (task_at ts t).coroutine → w ≡ (task_at ts t).awaiter → r ≡ slot_open os ps c.0 w
+  pub slot_live : {c : HeapId} {w : Awaiter} {r : Bool} → is_live s ≡ true → c ≡ (task_at ts t).coroutine → w ≡ (task_at ts t).awaiter → r ≡ slot_open os ps c.0 w
       → r ≡ implies (is_live (task_at ts t).state) (slot_open os ps (task_at ts t).coroutine.0 (task_at ts t).awaiter)
   unfolding implies
-  slot-live u f v h = rw (← e, u, ← f, ← v) h
+  slot_live u f v h = rw (← e, u, ← f, ← v) h

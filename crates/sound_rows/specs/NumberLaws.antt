@@ -58,31 +58,31 @@ object_by-kind h p x =
     (λ i n. rw (no_open n)) (λ i n e. rw (no_open n)) x
 
 module _ (os : List ℕ) (o : ℕ) (h : Header) (p : ℕ) {k : Kind} (e : k ≡ kind (object_at os o)) where
-  pub external-ranged : {c : CallId} {n : ℕ} → is_external k ≡ true → c ≡ call_of (object_at os o) → n ≡ c.0
+  pub external_ranged : {c : CallId} {n : ℕ} → is_external k ≡ true → c ≡ call_of (object_at os o) → n ≡ c.0
       → ltb n h.calls ≡ object_in_range h p (object_at os o)
-  external-ranged t q w = rw (object_by-kind h p (object_at os o), ← e, t, ← q, w)
+  external_ranged t q w = rw (object_by-kind h p (object_at os o), ← e, t, ← q, w)
 
   module _ (t : is_external k ≡ false) where
-    pub other-ranged : {r : Bool} → is_gather k ≡ false → r ≡ is_coroutine k → r ≡ object_in_range h p (object_at os o)
-    other-ranged u q = rw (object_by-kind h p (object_at os o), ← e, t, u) q
+    pub other_ranged : {r : Bool} → is_gather k ≡ false → r ≡ is_coroutine k → r ≡ object_in_range h p (object_at os o)
+    other_ranged u q = rw (object_by-kind h p (object_at os o), ← e, t, u) q
 
     module _ (u : is_gather k ≡ true) {i : ℕ} (f : i ≡ first_of (object_at os o)) where
       pub gather-apart : (i ≡ p → ⊥) → false ≡ object_in_range h p (object_at os o)
       unfolding ◌and◌
       gather-apart ne = rw (object_by-kind h p (object_at os o), ← e, t, u, ← f, ne_eqb i p ne)
 
-      pub gather-ranged : {n m : ℕ} {r : Bool} → i ≡ p → n ≡ count_of (object_at os o) → m ≡ open_of (object_at os o) → r ≡ ltb m (2 ^ n)
+      pub gather_ranged : {n m : ℕ} {r : Bool} → i ≡ p → n ≡ count_of (object_at os o) → m ≡ open_of (object_at os o) → r ≡ ltb m (2 ^ n)
           → r ≡ object_in_range h p (object_at os o)
       unfolding ◌and◌
-      gather-ranged q c d v = rw (object_by-kind h p (object_at os o), ← e, t, u, ← f, eq-eqb i p q, ← c, ← d) v
+      gather_ranged q c d v = rw (object_by-kind h p (object_at os o), ← e, t, u, ← f, eq-eqb i p q, ← c, ← d) v
 
 -- ---- the running sum of places
 
 module _ (h : Header) (os : List ℕ) (o p : ℕ) (s : p ≡ places_below (object_at os) o) where
-  pub row-passes : {w : Awaiter} {r : Bool} → true ≡ object_in_range h p (object_at os o) → w ≡ awaiter_of (object_at os o) → r ≡ awaiter_in_range h w
+  pub row_passes : {w : Awaiter} {r : Bool} → true ≡ object_in_range h p (object_at os o) → w ≡ awaiter_of (object_at os o) → r ≡ awaiter_in_range h w
       → r ≡ object_ranged h (object_at os) o
   unfolding object_ranged
-  row-passes e q f = rw (← s, ← q) (pass e f)
+  row_passes e q f = rw (← s, ← q) (pass e f)
 
   pub row-stops : false ≡ object_in_range h p (object_at os o) → false ≡ object_ranged h (object_at os) o
   unfolding object_ranged
@@ -119,23 +119,23 @@ module _ (h : Header) (os : ℕ → Object) (t : ℕ) (x : Task) where
 
 module _ (h : Header) (os : ℕ → Object) (ts : List ℕ) (t : ℕ) {s : TaskState} (e : s ≡ (task_at ts t).state) where
   module _ (z : eqb t 0 ≡ true) where
-    pub main-unstarted : is_unstarted s ≡ true → false ≡ task_in_range h os t (task_at ts t)
+    pub main_unstarted : is_unstarted s ≡ true → false ≡ task_in_range h os t (task_at ts t)
     unfolding ◌and◌
-    main-unstarted u = rw (main-by h os t (task_at ts t) (eqb-true t 0 z), ← e, u)
+    main_unstarted u = rw (main-by h os t (task_at ts t) (eqb-true t 0 z), ← e, u)
 
     module _ (u : is_unstarted s ≡ false) {w : Awaiter} (f : w ≡ (task_at ts t).awaiter) where
-      pub main-awaited : is_nobody w ≡ false → false ≡ task_in_range h os t (task_at ts t)
+      pub main_awaited : is_nobody w ≡ false → false ≡ task_in_range h os t (task_at ts t)
       unfolding ◌and◌
-      main-awaited v = rw (main-by h os t (task_at ts t) (eqb-true t 0 z), ← e, u, ← f, v)
+      main_awaited v = rw (main-by h os t (task_at ts t) (eqb-true t 0 z), ← e, u, ← f, v)
 
-      pub main-ranged : {c : HeapId} → is_nobody w ≡ true → c ≡ (task_at ts t).coroutine → eqb c.0 0 ≡ task_in_range h os t (task_at ts t)
+      pub main_ranged : {c : HeapId} → is_nobody w ≡ true → c ≡ (task_at ts t).coroutine → eqb c.0 0 ≡ task_in_range h os t (task_at ts t)
       unfolding ◌and◌
-      main-ranged v g = rw (main-by h os t (task_at ts t) (eqb-true t 0 z), ← e, u, ← f, v, ← g)
+      main_ranged v g = rw (main-by h os t (task_at ts t) (eqb-true t 0 z), ← e, u, ← f, v, ← g)
 
   module _ (z : eqb t 0 ≡ false) where
-    pub dead-ranged : is_live s ≡ false → true ≡ task_in_range h os t (task_at ts t)
+    pub dead_ranged : is_live s ≡ false → true ≡ task_in_range h os t (task_at ts t)
     unfolding implies
-    dead-ranged u = rw (spawned_by h os t (task_at ts t) (eqb-false t 0 z), ← e, u)
+    dead_ranged u = rw (spawned_by h os t (task_at ts t) (eqb-false t 0 z), ← e, u)
 
     module _ (u : is_live s ≡ true) {w : Awaiter} (f : w ≡ (task_at ts t).awaiter) where
       pub live-apart : false ≡ is_slot w and awaiter_in_range h w → false ≡ task_in_range h os t (task_at ts t)
@@ -144,10 +144,10 @@ module _ (h : Header) (os : ℕ → Object) (ts : List ℕ) (t : ℕ) {s : TaskS
           rw (spawned_by h os t (task_at ts t) (eqb-false t 0 z), ← e, u, ← f)
           (stop _ v ∙ and_assoc (is_slot w) (awaiter_in_range h w) (ltb (task_at ts t).coroutine.0 h.made and is_coroutine (kind (os (task_at ts t).coroutine.0))))
 
-      pub live-ranged : {c : HeapId} {r : Bool} → true ≡ is_slot w and awaiter_in_range h w → c ≡ (task_at ts t).coroutine
+      pub live_ranged : {c : HeapId} {r : Bool} → true ≡ is_slot w and awaiter_in_range h w → c ≡ (task_at ts t).coroutine
           → r ≡ ltb c.0 h.made and is_coroutine (kind (os c.0)) → r ≡ task_in_range h os t (task_at ts t)
       unfolding implies
-      live-ranged {c} v g q =
+      live_ranged {c} v g q =
           rw (spawned_by h os t (task_at ts t) (eqb-false t 0 z), ← e, u, ← f, ← g)
           (pass v q ∙ and_assoc (is_slot w) (awaiter_in_range h w) (ltb c.0 h.made and is_coroutine (kind (os c.0))))
 
@@ -178,8 +178,8 @@ module _ (h : Header) (os : ℕ → Object) (ts : ℕ → Task) where
     some_next : true ≡ leb 1 h.next
     some_next = sym (le-leb 1 h.next (omega arith))
 
-    pub numbers-fail : false ≡ objects_ranged h os → false ≡ numbers_in_range h os ts
-    numbers-fail e = pass some_next (stop _ e) ∙ sym numbers-by
+    pub numbers_fail : false ≡ objects_ranged h os → false ≡ numbers_in_range h os ts
+    numbers_fail e = pass some_next (stop _ e) ∙ sym numbers-by
 
     pub numbers_end : {r : Bool} → true ≡ objects_ranged h os → r ≡ all_below h.next (λ t. task_in_range h os t (ts t)) → r ≡ numbers_in_range h os ts
     numbers_end e q = pass some_next (pass e q) ∙ sym numbers-by
@@ -194,9 +194,9 @@ module _ (os : List ℕ) (o s : ℕ) {k : Kind} (q : s ≡ sum_below o (λ i. co
       by : n ≡ committed_places (object_at os o)
       by = rw (← e, t) c
 
-  pub committed-skip : is_committed k ≡ false → s ≡ sum_below (o + 1) (λ i. committed_places (object_at os i))
+  pub committed_skip : is_committed k ≡ false → s ≡ sum_below (o + 1) (λ i. committed_places (object_at os i))
   unfolding committed_places
-  committed-skip t = let z : s + 0 ≡ sum_below (o + 1) (λ i. committed_places (object_at os i)) = sum_turn (λ i. committed_places (object_at os i)) o q by in omega arith
+  committed_skip t = let z : s + 0 ≡ sum_below (o + 1) (λ i. committed_places (object_at os i)) = sum_turn (λ i. committed_places (object_at os i)) o q by in omega arith
     where
       by : 0 ≡ committed_places (object_at os o)
       by = rw (← e, t)

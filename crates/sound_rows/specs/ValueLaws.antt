@@ -50,10 +50,10 @@ module _ (made : ℕ) (os : List ℕ) (o : ℕ) {row : List ℕ} (e : row ≡ ro
   unfolding object_values
   values-pending k q h = rw (read-from, k) (h ∙ rw q)
 
-  pub values-resolved : {v : Value} {r : Bool} → get_or row 0 0 ≡ 5 → v ≡ to_value (get_or row 5 0) (get_or row 6 0) → r ≡ value_known made (object_at os) v
+  pub values_resolved : {v : Value} {r : Bool} → get_or row 0 0 ≡ 5 → v ≡ to_value (get_or row 5 0) (get_or row 6 0) → r ≡ value_known made (object_at os) v
       → r ≡ object_values made (object_at os) (object_at os o)
   unfolding object_values
-  values-resolved k q h = rw (read-from, k) (h ∙ rw q)
+  values_resolved k q h = rw (read-from, k) (h ∙ rw q)
 
   pub values-none : (get_or row 0 0 ≡ 4 → ⊥) → (get_or row 0 0 ≡ 5 → ⊥) → true ≡ object_values made (object_at os) (object_at os o)
   values-none p q = rw read-from (other-kind made (object_at os) row (get_or row 0 0) p q)

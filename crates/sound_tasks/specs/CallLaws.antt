@@ -76,9 +76,9 @@ module _ (os : List ℕ) (o : ℕ) {c : ℕ} (e : c ≡ call_number os o) where
   unfolding call_new call_number
   call_none z = sym (all_of _ o (λ p l. rw (none-same (as_pending (object_at os o)) (as_pending (object_at os p)) (sym e ∙ z))))
 
-  pub call-looked : {r : Bool} → (c ≡ 0 → ⊥) → r ≡ all_below o (other_call os c) → r ≡ call_new (object_at os) o
+  pub call_looked : {r : Bool} → (c ≡ 0 → ⊥) → r ≡ all_below o (other_call os c) → r ≡ call_new (object_at os) o
   unfolding call_new call_number other_call
-  call-looked z q =
+  call_looked z q =
       q ∙ all_same _ _ o (λ p l. rw (e) (ap not (differ (as_pending (object_at os o)) (as_pending (object_at os p)) (λ y. z (e ∙ y)))))
 
 -- ---- the highest so far
@@ -97,7 +97,7 @@ highest_turn os i top top' a b h =
 -- a number above the highest is new
 pub call_high : (os : List ℕ) (i top : ℕ) {c : ℕ} → c ≡ call_number os i → top < c → Highest os i top → true ≡ call_new (object_at os) i
 unfolding other_call
-call_high os i top {c} e l h = call-looked os i e (λ z. omega arith) (sym (all_of _ i (λ j b. apart j (h.over j b))))
+call_high os i top {c} e l h = call_looked os i e (λ z. omega arith) (sym (all_of _ i (λ j b. apart j (h.over j b))))
   where
     apart : (j : ℕ) → call_number os j ≤ top → other_call os c j ≡ true
     apart j k = rw (ne_eqb (call_number os j) c (λ q. omega arith))
@@ -105,10 +105,10 @@ call_high os i top {c} e l h = call-looked os i e (λ z. omega arith) (sym (all_
 -- ---- the session's moment
 
 module _ (h : Header) (os : ℕ → Object) where
-  pub distinct-ended : h.moment ≡ Moment.Ended → true ≡ calls_distinct h os
+  pub distinct_ended : h.moment ≡ Moment.Ended → true ≡ calls_distinct h os
   unfolding calls_distinct is_ended
-  distinct-ended e = rw e
+  distinct_ended e = rw e
 
-  pub distinct-told : {m : Moment} {r : Bool} → m ≡ h.moment → is_ended m ≡ false → r ≡ all_below h.made (call_new os) → r ≡ calls_distinct h os
+  pub distinct_told : {m : Moment} {r : Bool} → m ≡ h.moment → is_ended m ≡ false → r ≡ all_below h.made (call_new os) → r ≡ calls_distinct h os
   unfolding calls_distinct
-  distinct-told e f q = rw (← e, f) q
+  distinct_told e f q = rw (← e, f) q

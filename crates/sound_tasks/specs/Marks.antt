@@ -23,9 +23,9 @@ marks_zeros size hits = record { long = length-replicate size 0; marked = λ k b
 
 module _ (size : ℕ) (hits : ℕ → ℕ → Bool) (seen : List ℕ) (i : ℕ) (h : Marks seen size i hits) where
   -- row i hits m and nothing else
-  pub marks-turn : (m : ℕ) → m < size → ((k : ℕ) → hits i k ≡ eqb m k) → Marks (set seen m 1) size (i + 1) hits
+  pub marks_turn : (m : ℕ) → m < size → ((k : ℕ) → hits i k ≡ eqb m k) → Marks (set seen m 1) size (i + 1) hits
   unfolding all_below ◌and◌
-  marks-turn m b e = record { long = length-set seen m 1 ∙ h.long; marked = λ k l. at k l (eqb m k) refl }
+  marks_turn m b e = record { long = length-set seen m 1 ∙ h.long; marked = λ k l. at k l (eqb m k) refl }
     where
       at : (k : ℕ) → k < size → (t : Bool) → eqb m k ≡ t → eqb (get_or (set seen m 1) k 0) 0 ≡ all_below (i + 1) (λ j. not (hits j k))
       at k l true q =
@@ -37,7 +37,7 @@ module _ (size : ℕ) (hits : ℕ → ℕ → Bool) (seen : List ℕ) (i : ℕ) 
           rw (add-one, e k, q, get_or-set_other seen m k 1 0 (λ s. eqb-false m k q (sym s)), h.marked k l) (sym (and_unit (all_below i (λ j. not (hits j k)))))
 
   -- row i hits nothing
-  pub marks-skip : ((k : ℕ) → hits i k ≡ false) → Marks seen size (i + 1) hits
+  pub marks_skip : ((k : ℕ) → hits i k ≡ false) → Marks seen size (i + 1) hits
   unfolding all_below ◌and◌
-  marks-skip e =
+  marks_skip e =
       record { long = h.long; marked = λ k l. rw (add-one, e k) (h.marked k l ∙ sym (and_unit (all_below i (λ j. not (hits j k))))) }

@@ -12,7 +12,7 @@ use Rattle.machine.specs.Scheduler.{is_task_of}
 use Rattle.machine.specs.Tests.{◌and◌, implies}
 use Rattle.machine.specs.Sound.{is_task_of_at, sole_task}
 use Rattle.sound_words.specs.Loops.{and-false}
-use Rattle.sound_tasks.specs.Marks.{Marks, marks-turn, marks-skip}
+use Rattle.sound_tasks.specs.Marks.{Marks, marks_turn, marks_skip}
 
 -- task t drives coroutine c
 abbrev pub driven : List ℕ → ℕ → ℕ → Bool
@@ -38,18 +38,18 @@ module _ (ts : List ℕ) (t : ℕ) where
   live-is-task-of z e r f k = rw (ne_eqb t 0 z, ← e, r, ← f)
 
 module _ (ts seen : List ℕ) (t : ℕ) (m : Marks seen object_limit t (driven ts)) where
-  pub task-of-main : t ≡ 0 → true ≡ sole_task (task_at ts) t
-  task-of-main z = idle ts t (main-is-task-of ts t z)
+  pub task_of_main : t ≡ 0 → true ≡ sole_task (task_at ts) t
+  task_of_main z = idle ts t (main-is-task-of ts t z)
 
-  pub marks-main : t ≡ 0 → Marks seen object_limit (t + 1) (driven ts)
-  marks-main z = marks-skip object_limit (driven ts) seen t m (main-is-task-of ts t z)
+  pub marks_main : t ≡ 0 → Marks seen object_limit (t + 1) (driven ts)
+  marks_main z = marks_skip object_limit (driven ts) seen t m (main-is-task-of ts t z)
 
   module _ {s : TaskState} (e : s ≡ (task_at ts t).state) where
-    pub task-of-dead : is_live s ≡ false → true ≡ sole_task (task_at ts) t
-    task-of-dead r = idle ts t (dead-is-task-of ts t e r)
+    pub task_of_dead : is_live s ≡ false → true ≡ sole_task (task_at ts) t
+    task_of_dead r = idle ts t (dead-is-task-of ts t e r)
 
-    pub marks-dead : is_live s ≡ false → Marks seen object_limit (t + 1) (driven ts)
-    marks-dead r = marks-skip object_limit (driven ts) seen t m (dead-is-task-of ts t e r)
+    pub marks_dead : is_live s ≡ false → Marks seen object_limit (t + 1) (driven ts)
+    marks_dead r = marks_skip object_limit (driven ts) seen t m (dead-is-task-of ts t e r)
 
     module _ (z : t ≡ 0 → ⊥) (r : is_live s ≡ true) {c : HeapId} (f : c ≡ (task_at ts t).coroutine) where
       sole-by : sole_task (task_at ts) t ≡ eqb (get_or seen c.0 0) 0
@@ -57,11 +57,11 @@ module _ (ts seen : List ℕ) (t : ℕ) (m : Marks seen object_limit t (driven t
       sole-by =
           rw (← f, live-is-task-of ts t z e r f c.0, eq-eqb c.0 c.0 refl) (sym (m.marked c.0 (coroutine-fits ts t f)))
 
-      pub task-of-second : (get_or seen c.0 0 ≡ 0 → ⊥) → false ≡ sole_task (task_at ts) t
-      task-of-second ne = rw (sole-by, ne_eqb _ 0 ne)
+      pub task_of_second : (get_or seen c.0 0 ≡ 0 → ⊥) → false ≡ sole_task (task_at ts) t
+      task_of_second ne = rw (sole-by, ne_eqb _ 0 ne)
 
-      pub task-of-first : get_or seen c.0 0 ≡ 0 → true ≡ sole_task (task_at ts) t
-      task-of-first q = rw (sole-by, eq-eqb _ 0 q)
+      pub task_of_first : get_or seen c.0 0 ≡ 0 → true ≡ sole_task (task_at ts) t
+      task_of_first q = rw (sole-by, eq-eqb _ 0 q)
 
-      pub marks-live : Marks (set seen c.0 1) object_limit (t + 1) (driven ts)
-      marks-live = marks-turn object_limit (driven ts) seen t m c.0 (coroutine-fits ts t f) (live-is-task-of ts t z e r f)
+      pub marks_live : Marks (set seen c.0 1) object_limit (t + 1) (driven ts)
+      marks_live = marks_turn object_limit (driven ts) seen t m c.0 (coroutine-fits ts t f) (live-is-task-of ts t z e r f)

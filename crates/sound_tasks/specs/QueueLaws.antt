@@ -10,7 +10,7 @@ use Rattle.rows.specs.Tables.{task_at}
 use Rattle.machine.specs.Tests.{◌and◌, all_below}
 use Rattle.machine.specs.Sound.{entry_ready, queue_ready}
 use Rattle.sound_words.specs.Loops.{and-false}
-use Rattle.sound_tasks.specs.Marks.{Marks, marks-turn}
+use Rattle.sound_tasks.specs.Marks.{Marks, marks_turn}
 
 -- entry j is task k
 abbrev pub entry_is : List ℕ → ℕ → ℕ → Bool
@@ -20,14 +20,14 @@ module _ (ids : List ℕ) (n : ℕ) where
   pub entry_at : (i : ℕ) → i < n → get_or ids i 0 ≡ get_or (take n ids) i 0
   entry_at i h = sym (get_or-take n ids i 0 h)
 
-  pub queue-told : (next : ℕ) (ts : ℕ → Task) {r : Bool} → n ≤ length ids → r ≡ all_below n (entry_ready next ts (take n ids)) → r ≡ queue_ready next ts (take n ids)
+  pub queue_told : (next : ℕ) (ts : ℕ → Task) {r : Bool} → n ≤ length ids → r ≡ all_below n (entry_ready next ts (take n ids)) → r ≡ queue_ready next ts (take n ids)
   unfolding queue_ready
-  queue-told next ts l e = rw (length-take-le n ids l) e
+  queue_told next ts l e = rw (length-take-le n ids l) e
 
 module _ (next : ℕ) (ts q seen : List ℕ) (i : ℕ) {t : ℕ} (e : t ≡ get_or q i 0) where
-  pub entry-out : next ≤ t → false ≡ entry_ready next (task_at ts) q i
+  pub entry_out : next ≤ t → false ≡ entry_ready next (task_at ts) q i
   unfolding entry_ready ◌and◌
-  entry-out h = rw (← e, le-ltb t next h)
+  entry_out h = rw (← e, le-ltb t next h)
 
   module _ (h : t < next) (b : next ≤ task_limit) (m : Marks seen task_limit i (entry_is q)) where
     fresh : eqb (get_or seen t 0) 0 ≡ all_below i (λ j. not (entry_is q j t))
@@ -46,5 +46,5 @@ module _ (next : ℕ) (ts q seen : List ℕ) (i : ℕ) {t : ℕ} (e : t ≡ get_
       unfolding entry_ready ◌and◌
       entry-good z r = rw (← e, lt-ltb t next h, ← f, r, ← fresh, eq-eqb _ 0 z)
 
-    pub entry-marks : Marks (set seen t 1) task_limit (i + 1) (entry_is q)
-    entry-marks = marks-turn task_limit (entry_is q) seen i m t (omega arith) (λ k. rw e)
+    pub entry_marks : Marks (set seen t 1) task_limit (i + 1) (entry_is q)
+    entry_marks = marks_turn task_limit (entry_is q) seen i m t (omega arith) (λ k. rw e)

@@ -41,16 +41,16 @@ module _ (p : ℕ → Bool) where
   unfolding all_below
   all_none = refl
 
-  pub all-turn : (i : ℕ) → true ≡ p i → all_below i p ≡ true → all_below (i + 1) p ≡ true
+  pub all_turn : (i : ℕ) → true ≡ p i → all_below i p ≡ true → all_below (i + 1) p ≡ true
   unfolding all_below ◌and◌
-  all-turn i e h = rw (add-one, h, ← e)
+  all_turn i e h = rw (add-one, h, ← e)
 
-  pub all-fails : (i n : ℕ) → i < n → false ≡ p i → false ≡ all_below n p
+  pub all_fails : (i n : ℕ) → i < n → false ≡ p i → false ≡ all_below n p
   unfolding all_below ◌and◌
-  all-fails i zero l e = absurd (omega arith)
-  all-fails i (suc n) l e =
+  all_fails i zero l e = absurd (omega arith)
+  all_fails i (suc n) l e =
       ⊎_elim (λ q. let e' : false ≡ p n = rw q at e in rw (← e') (sym (and-false (all_below n p))))
-      (λ l'. rw (← all-fails i n l' e))
+      (λ l'. rw (← all_fails i n l' e))
       (eq-or-lt_of_le (le_of_suc-le-suc l))
 
   pub all_end : (i n : ℕ) → i ≤ n → n ≤ i → all_below i p ≡ true → true ≡ all_below n p

@@ -411,9 +411,9 @@ module _ (w : List ℕ) (l : length w ≡ 8) where
   unfolding coroutine_same same_words zeros awaiter_same option_same value_same error_same stretch_same
   row-new-coroutine e = threes _ _ _ _ _ _ _ ∙ sym (by_kind 1 e)
 
-  pub row-running-coroutine : get_or w 0 0 ≡ 2 → coroutine_same w ≡ object_row_same w
+  pub row-running_coroutine : get_or w 0 0 ≡ 2 → coroutine_same w ≡ object_row_same w
   unfolding coroutine_same same_words zeros awaiter_same option_same value_same error_same stretch_same
-  row-running-coroutine e = threes _ _ _ _ _ _ _ ∙ sym (by_kind 2 e)
+  row-running_coroutine e = threes _ _ _ _ _ _ _ ∙ sym (by_kind 2 e)
 
   pub row-completed-coroutine : get_or w 0 0 ≡ 3 → coroutine_same w ≡ object_row_same w
   unfolding coroutine_same same_words zeros awaiter_same option_same value_same error_same stretch_same
@@ -423,32 +423,32 @@ module _ (w : List ℕ) (l : length w ≡ 8) where
   unfolding pending_same same_words zeros awaiter_same option_same value_same error_same stretch_same
   row-pending e = rw (call_below (get_or w 4 0)) (twos _ _ _ _ _ _ _ ∙ sym (by_kind 4 e))
 
-  pub row-resolved : get_or w 0 0 ≡ 5 → resolved_same w ≡ object_row_same w
+  pub row_resolved : get_or w 0 0 ≡ 5 → resolved_same w ≡ object_row_same w
   unfolding resolved_same same_words zeros awaiter_same option_same value_same error_same stretch_same
-  row-resolved e = rw (call_below (get_or w 4 0)) (twos _ _ _ _ _ _ _ ∙ sym (by_kind 5 e))
+  row_resolved e = rw (call_below (get_or w 4 0)) (twos _ _ _ _ _ _ _ ∙ sym (by_kind 5 e))
 
   pub row-failed : get_or w 0 0 ≡ 6 → failed_same w ≡ object_row_same w
   unfolding failed_same same_words zeros awaiter_same option_same value_same error_same stretch_same
   row-failed e = rw (call_below (get_or w 4 0)) (twos _ _ _ _ _ _ _ ∙ sym (by_kind 6 e))
 
-  pub row-waiting-resting : get_or w 0 0 ≡ 7 → resting_same w ≡ object_row_same w
+  pub row-waiting_resting : get_or w 0 0 ≡ 7 → resting_same w ≡ object_row_same w
   unfolding resting_same same_words zeros awaiter_same option_same value_same error_same stretch_same
-  row-waiting-resting e = ones _ _ _ _ _ _ _ ∙ sym (by_kind 7 e)
+  row-waiting_resting e = ones _ _ _ _ _ _ _ ∙ sym (by_kind 7 e)
 
   pub row-awaited : get_or w 0 0 ≡ 8 → awaited_same w ≡ object_row_same w
   unfolding awaited_same same_words zeros awaiter_same option_same value_same error_same stretch_same
   row-awaited e = ones _ _ _ _ _ _ _ ∙ sym (by_kind 8 e)
 
-  pub row-done-resting : get_or w 0 0 ≡ 9 → resting_same w ≡ object_row_same w
+  pub row-done_resting : get_or w 0 0 ≡ 9 → resting_same w ≡ object_row_same w
   unfolding resting_same same_words zeros awaiter_same option_same value_same error_same stretch_same
-  row-done-resting e = ones _ _ _ _ _ _ _ ∙ sym (by_kind 9 e)
+  row-done_resting e = ones _ _ _ _ _ _ _ ∙ sym (by_kind 9 e)
 
   pub row-broken : get_or w 0 0 ≡ 10 → broken_same w ≡ object_row_same w
   unfolding broken_same same_words zeros awaiter_same option_same value_same error_same stretch_same
   row-broken e = pairs _ _ _ _ _ _ _ ∙ sym (by_kind 10 e)
 
-  pub row-unknown : 11 ≤ get_or w 0 0 → false ≡ object_row_same w
+  pub row_unknown : 11 ≤ get_or w 0 0 → false ≡ object_row_same w
   unfolding same_words
-  row-unknown h =
+  row_unknown h =
       let k : to_kind (get_or w 0 0) ≡ Kind.FailedGather = unknown (get_or w 0 0) h in
       sym (ap (λ (x : List ℕ). same_words (object_words (to_object w)) x) (listed w l) ∙ rw (k, ne_eqb 10 (get_or w 0 0) (λ e. omega arith)))

@@ -65,12 +65,12 @@ module _ (s : Store) (e : Event) (rs : List (ℕ × Bool)) {x : Turn} (f : x ≡
 
   module _ (t : TaskId) (h : x ≡ Turn.Runs t) where
     -- a task runs: a later check meets the event
-    pub check-refuses : (n : ℕ) → first_refusal rs ≡ suc n → stepped_of s (Answer.Refused (suc n)) ≡ checked s e
-    check-refuses n k = refuses s e n (running-left (header s).moment refl t (sym f ∙ h) ∙ k)
+    pub check_refuses : (n : ℕ) → first_refusal rs ≡ suc n → stepped_of s (Answer.Refused (suc n)) ≡ checked s e
+    check_refuses n k = refuses s e n (running-left (header s).moment refl t (sym f ∙ h) ∙ k)
 
     -- none does
-    pub check-accepts : first_refusal rs ≡ 0 → checked s e ≡ accept s e
-    check-accepts k = accepts s e (running-left (header s).moment refl t (sym f ∙ h) ∙ k)
+    pub check_accepts : first_refusal rs ≡ 0 → checked s e ≡ accept s e
+    check_accepts k = accepts s e (running-left (header s).moment refl t (sym f ∙ h) ∙ k)
 
 -- ---- the running task
 

@@ -3,7 +3,7 @@ use Rattle.std.specs.Prelude.{◌≡◌, ℕ, Bool, true, false, ◌&&◌, List,
 use Rattle.asyncio.specs.Limits.{tasks_length, objects_length, places_length}
 use Rattle.machine.specs.Store.{Store}
 use Rattle.machine.specs.Machine as machine
-use Rattle.machine.specs.Answers.{answer-numbers}
+use Rattle.machine.specs.Answers.{answer_numbers}
 use Rattle.machine.specs.Lent.{Lent, answer_calls, written}
 use Rattle.contract.specs.Contract.{Slice}
 use Rattle.exec_switch.specs.Answer.{answer_of}
@@ -41,7 +41,7 @@ is_wait (Answer.Refused n) = false
 abbrev pub lent_of : Store → List ℕ → Answer → ℕ → Lent
 lent_of s cs a n =
     let x : machine.Answer = answer_of s.objects a in
-    record { store = s; list = cs; answer = x; numbers = answer-numbers x; count = n }
+    record { store = s; list = cs; answer = x; numbers = answer_numbers x; count = n }
 
 -- The call writes the calls of a wait at the list's front, as document 01 has it, and returns how many there are.
 abbrev pub WritesWait : Slice → Slice → Answer → ℕ → Type 0

@@ -110,9 +110,9 @@ module _ (ts os ps : List ℕ) (q : ReadyQueue) (cs : List ℕ) (l : List LogEnt
   clean = store_of ts os ps q []
 
   module _ {b : Bool} (g : b ≡ (are_slices (length ts) (length os) (length ps) && leb object_limit (length cs))) where
-    pub wrong-length : b ≡ false → lent_of (store_of ts os ps q (lent_step given cs e).store.log) cs (Answer.Refused 1) 0 ≡ lent_step given cs e
+    pub wrong_length : b ≡ false → lent_of (store_of ts os ps q (lent_step given cs e).store.log) cs (Answer.Refused 1) 0 ≡ lent_step given cs e
     unfolding lent_step lengths_right slices_right lent_by answer_calls
-    wrong-length i = rw (sym g ∙ i)
+    wrong_length i = rw (sym g ∙ i)
 
     module _ (i : b ≡ true) {u : Bool} (h : u ≡ sound given) where
       right : lent_step given cs e ≡ lent_from (step given e) cs

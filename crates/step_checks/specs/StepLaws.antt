@@ -41,7 +41,7 @@ use Rattle.exec_futures.specs.Results.{results_from, results_in}
 use Rattle.exec_switch.specs.declared.control.Control.{Control}
 use Rattle.exec_switch.specs.declared.answer.Answer.{Answer}
 use Rattle.step_checks.specs.Checked.{checked, turn_of}
-use Rattle.step_checks.specs.CheckedLaws.{met, unmet, none_met, refuses, accepts, turn-refuses, check-refuses, check-accepts, turn_runs, made-answers}
+use Rattle.step_checks.specs.CheckedLaws.{met, unmet, none_met, refuses, accepts, turn-refuses, check_refuses, check_accepts, turn_runs, made-answers}
 use Rattle.step_checks.specs.declared.refusals.Turn.{Turn}
 
 -- the running task's number is a task's
@@ -60,19 +60,19 @@ module _ (ts os ps : List ℕ) (q : ReadyQueue) (l : List LogEntry) {x : Turn} (
   moment-of = unfold header in f
 
   -- no task runs
-  pub no-turn : (e : Event) (rs : List (ℕ × Bool)) → refusals here e ≡ in_running here rs → (n : ℕ) → x ≡ Turn.Refused n → stepped_of here (Answer.Refused n) ≡ checked here e
-  no-turn e rs g n h = turn-refuses here e rs moment-of g n h
+  pub no_turn : (e : Event) (rs : List (ℕ × Bool)) → refusals here e ≡ in_running here rs → (n : ℕ) → x ≡ Turn.Refused n → stepped_of here (Answer.Refused n) ≡ checked here e
+  no_turn e rs g n h = turn-refuses here e rs moment-of g n h
 
-  pub no-turn-logs : (e : Event) (rs : List (ℕ × Bool)) → refusals here e ≡ in_running here rs → (n : ℕ) → x ≡ Turn.Refused n
+  pub no_turn_logs : (e : Event) (rs : List (ℕ × Bool)) → refusals here e ≡ in_running here rs → (n : ℕ) → x ≡ Turn.Refused n
       → stepped_of (store_of ts os ps q (checked here e).store.log) (Answer.Refused n) ≡ checked here e
-  no-turn-logs e rs g n h = refused_logs here e (Answer.Refused n) (no-turn e rs g n h)
+  no_turn_logs e rs g n h = refused_logs here e (Answer.Refused n) (no_turn e rs g n h)
 
   module _ (t : TaskId) (h : x ≡ Turn.Runs t) where
     refused-by : (e : Event) (rs : List (ℕ × Bool)) → refusals here e ≡ in_running here rs → (n : ℕ) → first_refusal rs ≡ suc n → stepped_of here (Answer.Refused (suc n)) ≡ checked here e
-    refused-by e rs g n k = check-refuses here e rs moment-of g t h n k
+    refused-by e rs g n k = check_refuses here e rs moment-of g t h n k
 
     done : (e : Event) (rs : List (ℕ × Bool)) → refusals here e ≡ in_running here rs → first_refusal rs ≡ 0 → checked here e ≡ accept here e
-    done e rs g k = check-accepts here e rs moment-of g t h k
+    done e rs g k = check_accepts here e rs moment-of g t h k
 
     -- ---- coroutine and call
 
@@ -110,9 +110,9 @@ module _ (ts os ps : List ℕ) (q : ReadyQueue) (l : List LogEntry) {x : Turn} (
       or_none : (a b : Bool) → a ≡ false → b ≡ false → (a || b) ≡ false
       or_none a b e i = rw (e, i)
 
-      pub pending-unheard : v.calls ≤ c → stepped_of here (Answer.Refused 5) ≡ checked here (Event.pending c r)
+      pub pending_unheard : v.calls ≤ c → stepped_of here (Answer.Refused 5) ≡ checked here (Event.pending c r)
       unfolding refusals header
-      pending-unheard i =
+      pending_unheard i =
           let k : (header_at os).calls ≤ c = rw w at i in
           refused-by (Event.pending c r) _ refl 4 (met 5 _ _ (or_first _ _ (le-leb (header_at os).calls c k)))
 
@@ -123,17 +123,17 @@ module _ (ts os ps : List ℕ) (q : ReadyQueue) (l : List LogEntry) {x : Turn} (
         known_as : option_known (header_at os).made (object_at os) r ≡ b
         known_as = rw w at (sym e)
 
-        pub pending-unknown : b ≡ false → stepped_of here (Answer.Refused 5) ≡ checked here (Event.pending c r)
+        pub pending_unknown : b ≡ false → stepped_of here (Answer.Refused 5) ≡ checked here (Event.pending c r)
         unfolding refusals header object
-        pending-unknown k = refused-by (Event.pending c r) _ refl 4 (met 5 _ _ (or_second _ _ heard (rw (known_as, k))))
+        pending_unknown k = refused-by (Event.pending c r) _ refl 4 (met 5 _ _ (or_second _ _ heard (rw (known_as, k))))
 
         module _ (k : b ≡ true) {d : FoundObject} (m : d ≡ found_object (pending_external_in os c)) where
           words_right : (leb (header_at os).calls c || not (option_known (header_at os).made (object_at os) r)) ≡ false
           words_right = or_none _ _ heard (rw (known_as, k))
 
-          pub pending-again : (n : HeapId) → d ≡ FoundObject.At n → stepped_of here (Answer.Refused 6) ≡ checked here (Event.pending c r)
+          pub pending_again : (n : HeapId) → d ≡ FoundObject.At n → stepped_of here (Answer.Refused 6) ≡ checked here (Event.pending c r)
           unfolding refusals header object pending_external is_some
-          pending-again n j =
+          pending_again n j =
               refused-by (Event.pending c r) _ refl 5 (unmet 5 _ _ words_right ∙ met 6 _ _ (rw (object-found (pending_external_in os c) n (sym m ∙ j))))
 
           module _ (j : d ≡ FoundObject.Nothing) {u : Bool} (y : u ≡ leb object_limit (header_at os).made) where
@@ -156,9 +156,9 @@ module _ (ts os ps : List ℕ) (q : ReadyQueue) (l : List LogEntry) {x : Turn} (
       value_as : value_known (header_at os).made (object_at os) w ≡ b
       value_as = rw g at (sym e)
 
-      pub settled-unknown : b ≡ false → stepped_of here (Answer.Refused 5) ≡ checked here (Event.settled w)
+      pub settled_unknown : b ≡ false → stepped_of here (Answer.Refused 5) ≡ checked here (Event.settled w)
       unfolding refusals header object
-      settled-unknown k = refused-by (Event.settled w) _ refl 4 (met 5 _ _ (rw (value_as, k)))
+      settled_unknown k = refused-by (Event.settled w) _ refl 4 (met 5 _ _ (rw (value_as, k)))
 
       module _ (k : b ≡ true) {u : Bool} (y : u ≡ leb object_limit (header_at os).made) where
         is_known : not (value_known (header_at os).made (object_at os) w) ≡ false
@@ -169,9 +169,9 @@ module _ (ts os ps : List ℕ) (q : ReadyQueue) (l : List LogEntry) {x : Turn} (
         settled-full z = refused-by (Event.settled w) _ refl 6 (unmet 5 _ _ is_known ∙ met 7 _ _ (sym y ∙ z))
 
         module _ (z : u ≡ false) {n : Bool} (i : n ≡ leb call_limit (header_at os).calls) where
-          pub settled-over : n ≡ true → stepped_of here (Answer.Refused 8) ≡ checked here (Event.settled w)
+          pub settled_over : n ≡ true → stepped_of here (Answer.Refused 8) ≡ checked here (Event.settled w)
           unfolding refusals header object full no_number
-          settled-over j = refused-by (Event.settled w) _ refl 7 (unmet 5 _ _ is_known ∙ unmet 7 _ _ (sym y ∙ z) ∙ met 8 _ [] (sym i ∙ j))
+          settled_over j = refused-by (Event.settled w) _ refl 7 (unmet 5 _ _ is_known ∙ unmet 7 _ _ (sym y ∙ z) ∙ met 8 _ [] (sym i ∙ j))
 
           pub settled-made : n ≡ false → {os' : List ℕ} {o : HeapId} → o.0 ≡ (header_at os).made → store_of ts os' ps q l ≡ make_settled here w
               → stepped_of (store_of ts os' ps q l) (Answer.Made o) ≡ checked here (Event.settled w)
@@ -227,9 +227,9 @@ module _ (ts os ps : List ℕ) (q : ReadyQueue) (l : List LogEntry) {x : Turn} (
       given_as : value_known (header_at os).made (object_at os) w ≡ b
       given_as = rw g at (sym e)
 
-      pub complete-unknown : b ≡ false → stepped_of (store_of ts os ps q (checked here (Event.complete w)).store.log) (Answer.Refused 5) ≡ checked here (Event.complete w)
+      pub complete_unknown : b ≡ false → stepped_of (store_of ts os ps q (checked here (Event.complete w)).store.log) (Answer.Refused 5) ≡ checked here (Event.complete w)
       unfolding refusals header object
-      complete-unknown k = refused_logs here (Event.complete w) (Answer.Refused 5) (refused-by (Event.complete w) _ refl 4 (met 5 _ [] (rw (given_as, k))))
+      complete_unknown k = refused_logs here (Event.complete w) (Answer.Refused 5) (refused-by (Event.complete w) _ refl 4 (met 5 _ [] (rw (given_as, k))))
 
       pub complete-goes : b ≡ true → {ts' os' ps' : List ℕ} {q' : ReadyQueue} (a : Answer)
           → stepped_of (store_of ts' os' ps' q' (task_completes here t.0 w).store.log) a ≡ task_completes here t.0 w
@@ -273,9 +273,9 @@ module _ (ts os ps : List ℕ) (q : ReadyQueue) (l : List LogEntry) (bs : List �
   results-ended i = refused-batch 2 (met 3 _ _ (sym e ∙ i))
 
   module _ (i : b ≡ false) {u : Bool} (y : u ≡ any_of (result_unknown (store_of ts os ps q l)) (results_in bs)) where
-    pub results-unknown : u ≡ true → stepped_of (store_of ts os ps q (checked waiting batch).store.log) (Answer.Refused 5) ≡ checked waiting batch
+    pub results_unknown : u ≡ true → stepped_of (store_of ts os ps q (checked waiting batch).store.log) (Answer.Refused 5) ≡ checked waiting batch
     unfolding refusals in_both header
-    results-unknown z = refused-batch 4 (unmet 3 _ _ (sym e ∙ i) ∙ met 5 _ _ (sym y ∙ z))
+    results_unknown z = refused-batch 4 (unmet 3 _ _ (sym e ∙ i) ∙ met 5 _ _ (sym y ∙ z))
 
     module _ (z : u ≡ false) where
       pub results-many : result_limit < length bs / 14 → stepped_of (store_of ts os ps q (checked waiting batch).store.log) (Answer.Refused 10) ≡ checked waiting batch
@@ -288,9 +288,9 @@ module _ (ts os ps : List ℕ) (q : ReadyQueue) (l : List LogEntry) (bs : List �
         few : ltb result_limit (length (results_in bs)) ≡ false
         few = rw length-in (le-ltb result_limit (length bs / 14) n)
 
-        pub results-bad : w ≡ true → stepped_of (store_of ts os ps q (checked waiting batch).store.log) (Answer.Refused 10) ≡ checked waiting batch
+        pub results_bad : w ≡ true → stepped_of (store_of ts os ps q (checked waiting batch).store.log) (Answer.Refused 10) ≡ checked waiting batch
         unfolding refusals in_both header
-        results-bad k = refused-batch 9 (unmet 3 _ _ (sym e ∙ i) ∙ unmet 5 _ _ (sym y ∙ z) ∙ met 10 _ [] (rw (few, ← g, k)))
+        results_bad k = refused-batch 9 (unmet 3 _ _ (sym e ∙ i) ∙ unmet 5 _ _ (sym y ∙ z) ∙ met 10 _ [] (rw (few, ← g, k)))
 
         pub results-done : w ≡ false → {ts' os' ps' : List ℕ} {q' : ReadyQueue}
             → store_of ts' os' ps' q' (wake_in_order waiting (apply_future_results waiting (results_in bs))).log ≡ wake_in_order waiting (apply_future_results waiting (results_in bs))
@@ -348,29 +348,29 @@ module _ (ts os ps : List ℕ) (q : ReadyQueue) (l : List LogEntry) {v : Header}
     abbrev stop : Event
     stop = Event.cancel t
 
-    abbrev stop-checks : List (ℕ × Bool)
-    stop-checks = (5, not (live asked t)) ∷ (9, eqb t 0) ∷ []
+    abbrev stop_checks : List (ℕ × Bool)
+    stop_checks = (5, not (live asked t)) ∷ (9, eqb t 0) ∷ []
 
-    cancel-checks : refusals asked stop ≡ in_waiting asked stop-checks
+    cancel-checks : refusals asked stop ≡ in_waiting asked stop_checks
     unfolding refusals
     cancel-checks = refl
 
     pub cancel-ended : v.moment ≡ Moment.Ended → stepped_of (store_of ts os ps q (checked asked stop).store.log) (Answer.Refused 3) ≡ checked asked stop
-    cancel-ended h = waiting-ended stop stop-checks cancel-checks h
+    cancel-ended h = waiting-ended stop stop_checks cancel-checks h
 
     pub cancel-running : (u : TaskId) → v.moment ≡ Moment.Running u → stepped_of (store_of ts os ps q (checked asked stop).store.log) (Answer.Refused 4) ≡ checked asked stop
-    cancel-running u h = waiting-running stop stop-checks cancel-checks u h
+    cancel-running u h = waiting-running stop stop_checks cancel-checks u h
 
     module _ (h : v.moment ≡ Moment.Waiting) {b : Bool} (d : b ≡ not (live asked t)) where
-      pub cancel-dead : b ≡ true → stepped_of (store_of ts os ps q (checked asked stop).store.log) (Answer.Refused 5) ≡ checked asked stop
-      cancel-dead i = refused_logs asked stop (Answer.Refused 5) (refuses asked stop 4 (waiting-left stop stop-checks cancel-checks h ∙ met 5 _ _ (sym d ∙ i)))
+      pub cancel_dead : b ≡ true → stepped_of (store_of ts os ps q (checked asked stop).store.log) (Answer.Refused 5) ≡ checked asked stop
+      cancel_dead i = refused_logs asked stop (Answer.Refused 5) (refuses asked stop 4 (waiting-left stop stop_checks cancel-checks h ∙ met 5 _ _ (sym d ∙ i)))
 
       module _ (i : b ≡ false) where
         lives : first_refusal (refusals asked stop) ≡ first_refusal ((9, eqb t 0) ∷ [])
-        lives = waiting-left stop stop-checks cancel-checks h ∙ unmet 5 _ _ (sym d ∙ i)
+        lives = waiting-left stop stop_checks cancel-checks h ∙ unmet 5 _ _ (sym d ∙ i)
 
-        pub cancel-main : t ≡ 0 → stepped_of (store_of ts os ps q (checked asked stop).store.log) (Answer.Refused 9) ≡ checked asked stop
-        cancel-main z = refused_logs asked stop (Answer.Refused 9) (refuses asked stop 8 (lives ∙ met 9 _ _ (eq-eqb t 0 z)))
+        pub cancel_main : t ≡ 0 → stepped_of (store_of ts os ps q (checked asked stop).store.log) (Answer.Refused 9) ≡ checked asked stop
+        cancel_main z = refused_logs asked stop (Answer.Refused 9) (refuses asked stop 8 (lives ∙ met 9 _ _ (eq-eqb t 0 z)))
 
         -- the task goes: the answer says how many entries the queue q lost on the way to q'
         pub cancel-goes : (t ≡ 0 → ⊥) → {ts' os' ps' : List ℕ} {q' : ReadyQueue} → store_of ts' os' ps' q' (cancel_task asked t).log ≡ cancel_task asked t → {n : ℕ} → n ≡ q.len - q'.len
@@ -388,12 +388,12 @@ module _ (ts os ps : List ℕ) (q : ReadyQueue) (l : List LogEntry) {v : Header}
 module _ (ts os ps : List ℕ) (q : ReadyQueue) (l : List LogEntry) (t : ℕ) {ts' os' ps' : List ℕ} {q' : ReadyQueue}
     (r : store_of ts' os' ps' q' (cancel_task (store_of ts os ps q l) t).log ≡ cancel_task (store_of ts os ps q l) t) where
   -- it is not longer
-  pub cancel-not-longer : q'.len ≤ q.len
-  cancel-not-longer = subst (λ (s : Store). s.queue.len ≤ q.len) (sym r) (cancel_shortens (store_of ts os ps q l) t)
+  pub cancel-not_longer : q'.len ≤ q.len
+  cancel-not_longer = subst (λ (s : Store). s.queue.len ≤ q.len) (sym r) (cancel_shortens (store_of ts os ps q l) t)
 
   -- by no more entries shorter than an array holds
-  pub cancel-lost-fits : q.len - q'.len ≤ task_limit
-  cancel-lost-fits = subst (λ (s : Store). q.len - s.queue.len ≤ task_limit) (sym r) (cancel_loses_few (store_of ts os ps q l) t)
+  pub cancel_lost_fits : q.len - q'.len ≤ task_limit
+  cancel_lost_fits = subst (λ (s : Store). q.len - s.queue.len ≤ task_limit) (sym r) (cancel_loses_few (store_of ts os ps q l) t)
 
 -- ---- a task's number
 

@@ -30,13 +30,13 @@ module _ (p : ℕ → Bool) (xs : List ℕ) where
   unfolding any_of
   any_here i l e = rw (drop-cons xs i 0 l, e)
 
-  pub any-turn : (i : ℕ) → i < length xs → p (get_or xs i 0) ≡ false → any_of p (drop (i + 1) xs) ≡ any_of p (drop i xs)
+  pub any_turn : (i : ℕ) → i < length xs → p (get_or xs i 0) ≡ false → any_of p (drop (i + 1) xs) ≡ any_of p (drop i xs)
   unfolding any_of
-  any-turn i l e = rw (drop-cons xs i 0 l, e, add-one)
+  any_turn i l e = rw (drop-cons xs i 0 l, e, add-one)
 
-  pub any-end : (i : ℕ) → i ≡ length xs → any_of p (drop i xs) ≡ false
+  pub any_end : (i : ℕ) → i ≡ length xs → any_of p (drop i xs) ≡ false
   unfolding any_of
-  any-end i e = rw (e, drop-length xs)
+  any_end i e = rw (e, drop-length xs)
 
 -- ---- over results, the first i of them seen
 
@@ -56,9 +56,9 @@ module _ (p : Result → Bool) (bs : List ℕ) where
   unfolding any_of results_from
   some_end i n l = let k : n - i ≡ 0 = omega arith in rw k
 
-  pub some-begin : (n : ℕ) → n ≡ length bs / 14 → any_of p (results_from bs (0 * 14) (n - 0)) ≡ any_of p (results_in bs)
+  pub some_begin : (n : ℕ) → n ≡ length bs / 14 → any_of p (results_from bs (0 * 14) (n - 0)) ≡ any_of p (results_in bs)
   unfolding results_in
-  some-begin n e = let j : 0 * 14 ≡ 0 = omega arith in let k : n - 0 ≡ n = omega arith in rw (j, k, e)
+  some_begin n e = let j : 0 * 14 ≡ 0 = omega arith in let k : n - 0 ≡ n = omega arith in rw (j, k, e)
 
 -- ---- one result
 
@@ -73,14 +73,14 @@ module _ (ts os ps : List ℕ) (q : ReadyQueue) (l : List LogEntry) (r : Result)
     known-plain n = rw (eq-eqb r.kind 0 z, ne_eqb r.tag 1 n)
 
     module _ (y : r.tag ≡ 1) where
-      pub unknown-unmade : (header_at os).made ≤ r.number → true ≡ result_unknown (store_of ts os ps q l) r
+      pub unknown_unmade : (header_at os).made ≤ r.number → true ≡ result_unknown (store_of ts os ps q l) r
       unfolding result_unknown value_known ◌and◌ header
-      unknown-unmade n = rw (eq-eqb r.kind 0 z, eq-eqb r.tag 1 y, le-ltb r.number (header_at os).made n)
+      unknown_unmade n = rw (eq-eqb r.kind 0 z, eq-eqb r.tag 1 y, le-ltb r.number (header_at os).made n)
 
-      pub unknown-by : {g : ℕ} → g ≡ r.number → g < (header_at os).made → {k : Kind} → k ≡ kind (object_at os g) → {b : Bool} → b ≡ is_completed k
+      pub unknown_by : {g : ℕ} → g ≡ r.number → g < (header_at os).made → {k : Kind} → k ≡ kind (object_at os g) → {b : Bool} → b ≡ is_completed k
           → not b ≡ result_unknown (store_of ts os ps q l) r
       unfolding result_unknown value_known ◌and◌ header object
-      unknown-by {g} i n k e = rw (eq-eqb r.kind 0 z, eq-eqb r.tag 1 y, ← i, lt-ltb g (header_at os).made n, ← k, ← e)
+      unknown_by {g} i n k e = rw (eq-eqb r.kind 0 z, eq-eqb r.tag 1 y, ← i, lt-ltb g (header_at os).made n, ← k, ← e)
 
 module _ (r : Result) where
   pub bad_kind : 4 < r.kind → true ≡ bad_result r
@@ -88,14 +88,14 @@ module _ (r : Result) where
   bad_kind l = rw (lt-ltb 4 r.kind l)
 
   module _ (k : r.kind ≤ 4) where
-    pub bad-tag : 1 < r.tag → true ≡ bad_result r
+    pub bad_tag : 1 < r.tag → true ≡ bad_result r
     unfolding bad_result
-    bad-tag l = rw (le-ltb 4 r.kind k, lt-ltb 1 r.tag l)
+    bad_tag l = rw (le-ltb 4 r.kind k, lt-ltb 1 r.tag l)
 
     module _ (t : r.tag ≤ 1) where
-      pub bad-number : r.kind ≡ 1 → leb u32_limit r.number ≡ bad_result r
+      pub bad_number : r.kind ≡ 1 → leb u32_limit r.number ≡ bad_result r
       unfolding bad_result
-      bad-number e = rw (le-ltb 4 r.kind k, le-ltb 1 r.tag t, eq-eqb r.kind 1 e)
+      bad_number e = rw (le-ltb 4 r.kind k, le-ltb 1 r.tag t, eq-eqb r.kind 1 e)
 
       pub good-kind : (r.kind ≡ 1 → ⊥) → false ≡ bad_result r
       unfolding bad_result

@@ -27,15 +27,15 @@ module _ (ts os ps : List ℕ) (q : ReadyQueue) where
     right_slices l = (and-true _ _ i).0
 
   -- soundness does not look at the log
-  pub sound-logged : sound (store_of ts os ps q []) ≡ true → (l : List LogEntry) → sound (store_of ts os ps q l) ≡ true
-  sound-logged k l =
+  pub sound_logged : sound (store_of ts os ps q []) ≡ true → (l : List LogEntry) → sound (store_of ts os ps q l) ≡ true
+  sound_logged k l =
       let f : forget (store_of ts os ps q l) ≡ store_of ts os ps q [] = unfold forget in refl in
       sym (sound-forget (store_of ts os ps q l)) ∙ rw f k
 
-  pub steps-soundly : (cs : List ℕ) (l : List LogEntry) (e : Event) → lengths_right (store_of ts os ps q []) cs ≡ true → sound (store_of ts os ps q []) ≡ true
+  pub steps_soundly : (cs : List ℕ) (l : List LogEntry) (e : Event) → lengths_right (store_of ts os ps q []) cs ≡ true → sound (store_of ts os ps q []) ≡ true
       → {ts' os' ps' cs' : List ℕ} {q' : ReadyQueue} {n : ℕ} (a : Answer)
       → stepped_of (store_of ts' os' ps' q' (checked (store_of ts os ps q []) e).store.log) a ≡ checked (store_of ts os ps q []) e
       → (cs' ≡ written (answer_of os' a) cs) × (n ≡ length (answer_calls (answer_of os' a)))
       → lent_of (store_of ts' os' ps' q' (lent_step (store_of ts os ps q l) cs e).store.log) cs' a n ≡ lent_step (store_of ts os ps q l) cs e
   unfolding lengths_right slices_right
-  steps-soundly cs l e i k a r w = steps_on ts os ps q cs l e refl i refl (sound-logged k l) a r w
+  steps_soundly cs l e i k a r w = steps_on ts os ps q cs l e refl i refl (sound_logged k l) a r w

@@ -51,8 +51,8 @@ module _ (ts os ps : List ℕ) (q : ReadyQueue) (l : List LogEntry) (e : Event) 
     unfolding lent_read slices_right
     reads = rw (sym g ∙ i)
 
-    pub read-unsound : u ≡ false → machine.Answer.refused 2 ≡ (lent_read given e).answer
-    read-unsound k = sym (ap (λ (x : Step). x.answer) (reads ∙ step_unsound given e (sym h ∙ k)))
+    pub read_unsound : u ≡ false → machine.Answer.refused 2 ≡ (lent_read given e).answer
+    read_unsound k = sym (ap (λ (x : Step). x.answer) (reads ∙ step_unsound given e (sym h ∙ k)))
 
     -- of a sound store it is what the checks from 3 on leave
     read-checked : u ≡ true → lent_read given e ≡ checked clean e

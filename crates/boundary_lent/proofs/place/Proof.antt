@@ -13,7 +13,7 @@ place-numbers-requires : tie.Need-place-numbers-requires
 place-numbers-requires c κs = search rules
 
 returns : tie.Need_returns
-returns c = c.place-numbers.ensures ∙ ap (λ (x : Read). place_as x.answer c.before.before.before.before.before.before.before.args.place) (c.before.before.show.ensures [])
+returns c = c.place_numbers.ensures ∙ ap (λ (x : Read). place_as x.answer c.before.before.before.before.before.before.before.args.place) (c.before.before.show.ensures [])
 
 pub place-spec : {M : Type 1} → statement M
 place-spec = tie.close (tie.spec show-requires place-numbers-requires returns)

@@ -13,7 +13,7 @@ place-numbers-requires : tie.Need-place-numbers-requires
 place-numbers-requires c κs = search rules
 
 returns : tie.Need_returns
-returns c = c.place-numbers.ensures ∙ ap (λ (x : machine.Answer). place_as x c.before.before.before.before.before.before.before.args.place) c.before.before.sound-show.ensures
+returns c = c.place_numbers.ensures ∙ ap (λ (x : machine.Answer). place_as x c.before.before.before.before.before.before.before.args.place) c.before.before.sound-show.ensures
 
 pub place-unchecked-spec : {M : Type 1} → statement M
 place-unchecked-spec = tie.close (tie.spec sound-show-requires place-numbers-requires returns)

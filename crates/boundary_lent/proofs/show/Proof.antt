@@ -13,7 +13,7 @@ shown-numbers-requires : tie.Need-shown-numbers-requires
 shown-numbers-requires c κs = search rules
 
 returns : tie.Need_returns
-returns c = c.shown-numbers.ensures c.before.before.before.before.before.before.args.places.now ∙ ap (λ (x : Read). numbers_as x.answer) (c.before.show.ensures [])
+returns c = c.shown_numbers.ensures c.before.before.before.before.before.before.args.places.now ∙ ap (λ (x : Read). numbers_as x.answer) (c.before.show.ensures [])
 
 pub show-spec : {M : Type 1} → statement M
 show-spec = tie.close (tie.spec show-requires shown-numbers-requires returns)

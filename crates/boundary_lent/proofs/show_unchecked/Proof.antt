@@ -12,7 +12,7 @@ shown-numbers-requires : tie.Need-shown-numbers-requires
 shown-numbers-requires c κs = search rules
 
 returns : tie.Need_returns
-returns c = c.shown-numbers.ensures c.before.before.before.before.before.before.args.places.now ∙ ap numbers_as c.before.sound-show.ensures
+returns c = c.shown_numbers.ensures c.before.before.before.before.before.before.args.places.now ∙ ap numbers_as c.before.sound-show.ensures
 
 pub show-unchecked-spec : {M : Type 1} → statement M
 show-unchecked-spec = tie.close (tie.spec sound-show-requires shown-numbers-requires returns)

@@ -78,7 +78,7 @@ say-requires-9 : tie.Need-say-requires-9
 say-requires-9 c κs = search rules
 
 returns : tie.Need_returns
-returns c = rw (c.before.before.before.x.given.1, c.say.ensures, c.before.coroutine-number.ensures)
+returns c = rw (c.before.before.before.x.given.1, c.say.ensures, c.before.coroutine_number.ensures)
 
 returns-2 : tie.Need-returns-2
 returns-2 c = rw (c.before.enum_told.given.1, c.say2.ensures)

@@ -10,10 +10,10 @@ use Rattle.machine.specs.Store.{store_of}
 use Rattle.machine.specs.Machine.{Step}
 use Rattle.machine.specs.Answers.{Numbers}
 use Rattle.machine_theorems.specs.Soundness.Stores.{SoundStore}
-use Rattle.drive_laws.specs.KeptLaws.{begun_fresh, begun-sound-store}
+use Rattle.drive_laws.specs.KeptLaws.{begun_fresh, begun-sound_store}
 use Rattle.drive_window.specs.Run.{Stands}
 use Rattle.drive_window.specs.RunLaws.{stands_begins, stands_goes_on}
-use Rattle.drive_window.specs.OnwardLaws.{drove_fits, drove-goes-up, drove-within}
+use Rattle.drive_window.specs.OnwardLaws.{drove_fits, drove_goes_up, drove_within}
 use Rattle.drive.proofs.run.Statement.{statement}
 use Rattle.drive.proofs.run.Tie as tie
 
@@ -44,7 +44,7 @@ refill-requires : tie.Need-refill-requires invariant_loop decreases_loop
 refill-requires c κs = (omega arith, omega arith)
 
 loop-holds : tie.Need-loop-init invariant_loop decreases_loop
-loop-holds c = (begun-sound-store _ c.before.before.before.before.before.before.before.before.begin.result.answer refl refl refl (ap (λ (x : Step × Numbers). x.0) (c.before.before.before.before.before.before.before.before.begin.ensures [])), refl, c.before.before.refill.ensures.whole (omega (arith, c.before.before.before.before.before.before.before.before.before.before.before.before.before.before.before.requires.0, c.before.before.refill.auto.0)), refl, refl, stands_begins _ _ (begun_fresh _ c.before.before.before.before.before.before.before.before.begin.result.answer refl refl refl (ap (λ (x : Step × Numbers). x.0) (c.before.before.before.before.before.before.before.before.begin.ensures []))) c.before.before.refill.ensures (λ i. omega (arith, c.slice-known3.given i)))
+loop-holds c = (begun-sound_store _ c.before.before.before.before.before.before.before.before.begin.result.answer refl refl refl (ap (λ (x : Step × Numbers). x.0) (c.before.before.before.before.before.before.before.before.begin.ensures [])), refl, c.before.before.refill.ensures.whole (omega (arith, c.before.before.before.before.before.before.before.before.before.before.before.before.before.before.before.requires.0, c.before.before.refill.auto.0)), refl, refl, stands_begins _ _ (begun_fresh _ c.before.before.before.before.before.before.before.before.begin.result.answer refl refl refl (ap (λ (x : Step × Numbers). x.0) (c.before.before.before.before.before.before.before.before.begin.ensures []))) c.before.before.refill.ensures (λ i. omega (arith, c.slice_known3.given i)))
 
 slice-aggregate-drive-window : tie.Need-slice-aggregate-drive-window invariant_loop decreases_loop
 slice-aggregate-drive-window c = sym c.before.before.before.loop.invariant.0.memory.sized.tasks-sized
@@ -95,13 +95,13 @@ returns-2 : tie.Need-returns-2 invariant_loop decreases_loop
 returns-2 c = search rules
 
 ready-requires : tie.Need-ready-requires invariant_loop decreases_loop
-ready-requires c κs = (drove-within _ _ _ _ _ _ _ _ c.before.before.before.before.before.before.before.before.before.before.before.before.before.before.before.before.before.before.before.before.before.before.loop.invariant.5.within (c.before.before.before.before.before.before.before.before.before.before.before.before.before.drive_window.ensures.0 []) (not-false _ c.before.before.if2.false) c.before.before.before.before.before.before.before.before.before.before.before.before.before.before.before.before.before.before.before.before.before.before.loop.invariant.5.in_order, c.before.before.before.before.before.before.before.before.before.before.before.before.before.before.before.before.before.before.before.before.before.before.loop.invariant.5.within)
+ready-requires c κs = (drove_within _ _ _ _ _ _ _ _ c.before.before.before.before.before.before.before.before.before.before.before.before.before.before.before.before.before.before.before.before.before.before.loop.invariant.5.within (c.before.before.before.before.before.before.before.before.before.before.before.before.before.drive_window.ensures.0 []) (not-false _ c.before.before.if2.false) c.before.before.before.before.before.before.before.before.before.before.before.before.before.before.before.before.before.before.before.before.before.before.loop.invariant.5.in_order, c.before.before.before.before.before.before.before.before.before.before.before.before.before.before.before.before.before.before.before.before.before.before.loop.invariant.5.within)
 
 loop-less : tie.Need-loop-smaller invariant_loop decreases_loop
-loop-less c = omega (arith, c.before.before.before.before.before.before.before.before.before.before.before.before.before.before.before.before.before.before.before.before.before.before.before.before.loop-test.true, drove-goes-up _ _ _ _ _ _ _ _ c.before.before.before.before.before.before.before.before.before.before.before.before.before.before.before.before.before.before.before.before.before.before.before.before.before.loop.invariant.5.within (c.before.before.before.before.before.before.before.before.before.before.before.before.before.before.before.before.drive_window.ensures.0 []) (not-false _ c.before.before.before.before.before.if2.false) (omega (arith, c.before.before.before.before.before.before.before.before.before.before.before.before.before.before.before.before.before.before.before.before.before.before.before.before.before.before.before.before.before.before.before.before.before.before.before.before.before.before.before.before.before.requires.1, c.before.before.before.before.before.before.before.before.before.before.before.before.before.before.before.before.before.before.before.before.before.before.before.before.before.loop.invariant.4)) c.before.before.before.before.before.before.before.before.before.before.before.before.before.before.before.before.before.before.before.before.before.before.before.before.loop-test.true (λ e. c.before.before.before.before.before.before.before.before.before.before.before.before.before.before.before.before.before.before.before.before.before.before.before.before.before.loop.invariant.2 (ltb-false _ _ e)))
+loop-less c = omega (arith, c.before.before.before.before.before.before.before.before.before.before.before.before.before.before.before.before.before.before.before.before.before.before.before.before.loop_test.true, drove_goes_up _ _ _ _ _ _ _ _ c.before.before.before.before.before.before.before.before.before.before.before.before.before.before.before.before.before.before.before.before.before.before.before.before.before.loop.invariant.5.within (c.before.before.before.before.before.before.before.before.before.before.before.before.before.before.before.before.drive_window.ensures.0 []) (not-false _ c.before.before.before.before.before.if2.false) (omega (arith, c.before.before.before.before.before.before.before.before.before.before.before.before.before.before.before.before.before.before.before.before.before.before.before.before.before.before.before.before.before.before.before.before.before.before.before.before.before.before.before.before.before.requires.1, c.before.before.before.before.before.before.before.before.before.before.before.before.before.before.before.before.before.before.before.before.before.before.before.before.before.loop.invariant.4)) c.before.before.before.before.before.before.before.before.before.before.before.before.before.before.before.before.before.before.before.before.before.before.before.before.loop_test.true (λ e. c.before.before.before.before.before.before.before.before.before.before.before.before.before.before.before.before.before.before.before.before.before.before.before.before.before.loop.invariant.2 (ltb-false _ _ e)))
 
 loop-again : tie.Need-loop-preserved invariant_loop decreases_loop
-loop-again c = (c.before.before.before.before.before.before.before.before.before.before.before.before.before.before.before.before.drive_window.ensures.1, c.before.before.before.before.before.before.before.before.before.before.before.before.before.before.before.before.drive_window.auto.1.1.1.0 ∙ c.before.before.before.before.before.before.before.before.before.before.before.before.before.before.before.before.before.before.before.before.before.before.before.before.before.loop.invariant.1, c.before.before.ready.ensures.refilled.whole (omega (arith, c.before.before.before.before.before.before.before.before.before.before.before.before.before.before.before.before.before.before.before.before.before.before.before.before.before.before.before.before.before.before.before.before.before.before.before.before.before.before.before.before.before.requires.0, c.before.before.before.before.before.before.before.before.before.before.before.before.before.before.before.before.before.before.before.before.before.before.before.before.before.before.before.before.refill.auto.0, c.before.before.before.before.before.before.before.before.before.before.before.before.before.before.before.before.before.before.before.before.before.before.before.before.before.loop.invariant.3, c.before.before.ready.auto.0)), c.before.before.ready.auto.0 ∙ c.before.before.before.before.before.before.before.before.before.before.before.before.before.before.before.before.before.before.before.before.before.before.before.before.before.loop.invariant.3, c.before.before.before.before.before.before.before.before.before.before.before.before.before.before.before.before.drive_window.auto.1.1.1.1.1.1.1.1.0 ∙ c.before.before.before.before.before.before.before.before.before.before.before.before.before.before.before.before.before.before.before.before.before.before.before.before.before.loop.invariant.4, stands_goes_on c.before.before.before.before.before.before.before.before.before.before.before.before.before.before.before.before.before.before.before.before.before.before.before.before.before.loop.invariant.5 _ c.before.before.before.before.before.before.before.before.before.before.before.before.before.before.before.before.before.before.before.before.before.before.before.before.before.loop.invariant.4 c.before.before.before.before.before.before.before.before.before.before.before.before.before.before.before.before.drive_window.ensures.0 (not-false _ c.before.before.before.before.before.if2.false) c.before.before.ready.ensures (λ i. omega (arith, c.slice-known5.given i)))
+loop-again c = (c.before.before.before.before.before.before.before.before.before.before.before.before.before.before.before.before.drive_window.ensures.1, c.before.before.before.before.before.before.before.before.before.before.before.before.before.before.before.before.drive_window.auto.1.1.1.0 ∙ c.before.before.before.before.before.before.before.before.before.before.before.before.before.before.before.before.before.before.before.before.before.before.before.before.before.loop.invariant.1, c.before.before.ready.ensures.refilled.whole (omega (arith, c.before.before.before.before.before.before.before.before.before.before.before.before.before.before.before.before.before.before.before.before.before.before.before.before.before.before.before.before.before.before.before.before.before.before.before.before.before.before.before.before.before.requires.0, c.before.before.before.before.before.before.before.before.before.before.before.before.before.before.before.before.before.before.before.before.before.before.before.before.before.before.before.before.refill.auto.0, c.before.before.before.before.before.before.before.before.before.before.before.before.before.before.before.before.before.before.before.before.before.before.before.before.before.loop.invariant.3, c.before.before.ready.auto.0)), c.before.before.ready.auto.0 ∙ c.before.before.before.before.before.before.before.before.before.before.before.before.before.before.before.before.before.before.before.before.before.before.before.before.before.loop.invariant.3, c.before.before.before.before.before.before.before.before.before.before.before.before.before.before.before.before.drive_window.auto.1.1.1.1.1.1.1.1.0 ∙ c.before.before.before.before.before.before.before.before.before.before.before.before.before.before.before.before.before.before.before.before.before.before.before.before.before.loop.invariant.4, stands_goes_on c.before.before.before.before.before.before.before.before.before.before.before.before.before.before.before.before.before.before.before.before.before.before.before.before.before.loop.invariant.5 _ c.before.before.before.before.before.before.before.before.before.before.before.before.before.before.before.before.before.before.before.before.before.before.before.before.before.loop.invariant.4 c.before.before.before.before.before.before.before.before.before.before.before.before.before.before.before.before.drive_window.ensures.0 (not-false _ c.before.before.before.before.before.if2.false) c.before.before.ready.ensures (λ i. omega (arith, c.slice_known5.given i)))
 
 same-length-5 : tie.Need-same-length-5 invariant_loop decreases_loop
 same-length-5 c = c.before.loop.invariant.3 ∙ c.before.before.before.before.refill.auto.0

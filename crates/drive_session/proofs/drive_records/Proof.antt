@@ -5,8 +5,8 @@ use native.Mathlib.Omega.{arith}
 use lib.ListN.{length}
 use borrow.Author.Rules.{rules}
 use Rattle.drive_text.specs.Out.{out_of}
-use Rattle.drive_laws.specs.KeptLaws.{sound-store-right, sound-store-is-sound}
-use Rattle.drive_session.specs.LeftLaws.{Left, left-begins, left-onward, left-turn, left-ends}
+use Rattle.drive_laws.specs.KeptLaws.{sound_store_right, sound-store_is-sound}
+use Rattle.drive_session.specs.LeftLaws.{Left, left-begins, left_onward, left-turn, left-ends}
 use Rattle.drive_session.proofs.drive_records.Statement.{statement}
 use Rattle.drive_session.proofs.drive_records.Tie as tie
 
@@ -22,7 +22,7 @@ loop-holds : tie.Need-loop-init invariant_loop decreases_loop
 loop-holds c = (left-begins c.before.before.before.before.before.before.args.calls.now c.before.before.before.before.before.before.args.src.now (out_of c.before.before.before.before.before.before.args.out.now 0) c.before.before.before.before.before.before.requires.0, refl, refl, refl, refl, refl)
 
 drive-record-requires : tie.Need-drive-record-requires invariant_loop decreases_loop
-drive-record-requires c κs = (sound-store-right c.before.before.before.before.before.loop.invariant.0.whole _ (omega (arith, c.before.before.before.before.before.before.before.before.before.before.before.before.requires.1, c.before.before.before.before.before.loop.invariant.4)), sound-store-is-sound c.before.before.before.before.before.loop.invariant.0.whole)
+drive-record-requires c κs = (sound_store_right c.before.before.before.before.before.loop.invariant.0.whole _ (omega (arith, c.before.before.before.before.before.before.before.before.before.before.before.before.requires.1, c.before.before.before.before.before.loop.invariant.4)), sound-store_is-sound c.before.before.before.before.before.loop.invariant.0.whole)
 
 ended-requires : tie.Need-ended-requires invariant_loop decreases_loop
 ended-requires c κs = omega (arith, c.before.before.before.before.before.before.before.before.before.before.before.before.before.before.before.before.before.before.loop.invariant.0.number_is)
@@ -46,10 +46,10 @@ returns : tie.Need_returns invariant_loop decreases_loop
 returns c = left-ends c.before.before.before.before.before.before.before.before.before.before.before.before.before.before.before.before.before.before.before.loop.invariant.0 c.before.before.before.before.before.before.before.before.before.before.before.before.before.drive-record.result c.before.before.before.before.before.before.before.before.before.before.before.before.before.drive-record.ensures.0 c.before.if1.true c.ended.ensures
 
 add-number : tie.Need-overflow-add-number invariant_loop decreases_loop
-add-number c = omega (arith, c.before.before.before.before.before.before.before.before.before.before.before.before.before.before.before.before.before.before.before.loop.invariant.0.number_is, c.before.before.before.before.before.before.before.before.before.before.before.before.before.before.before.before.before.before.before.loop.invariant.0.few, (left-onward c.before.before.before.before.before.before.before.before.before.before.before.before.before.before.before.before.before.before.before.loop.invariant.0 c.before.before.before.before.before.before.before.before.before.before.before.before.before.drive-record.ensures.0 c.before.if1.false).behind, (left-onward c.before.before.before.before.before.before.before.before.before.before.before.before.before.before.before.before.before.before.before.loop.invariant.0 c.before.before.before.before.before.before.before.before.before.before.before.before.before.drive-record.ensures.0 c.before.if1.false).within, c.before.before.before.before.before.before.before.before.before.before.before.before.before.before.before.before.before.before.before.before.before.before.before.before.before.before.well-formed)
+add-number c = omega (arith, c.before.before.before.before.before.before.before.before.before.before.before.before.before.before.before.before.before.before.before.loop.invariant.0.number_is, c.before.before.before.before.before.before.before.before.before.before.before.before.before.before.before.before.before.before.before.loop.invariant.0.few, (left_onward c.before.before.before.before.before.before.before.before.before.before.before.before.before.before.before.before.before.before.before.loop.invariant.0 c.before.before.before.before.before.before.before.before.before.before.before.before.before.drive-record.ensures.0 c.before.if1.false).behind, (left_onward c.before.before.before.before.before.before.before.before.before.before.before.before.before.before.before.before.before.before.before.loop.invariant.0 c.before.before.before.before.before.before.before.before.before.before.before.before.before.drive-record.ensures.0 c.before.if1.false).within, c.before.before.before.before.before.before.before.before.before.before.before.before.before.before.before.before.before.before.before.before.before.before.before.before.before.before.well-formed)
 
 loop-less : tie.Need-loop-smaller invariant_loop decreases_loop
-loop-less c = omega (arith, (left-onward c.before.before.before.before.before.before.before.before.before.before.before.before.before.before.before.before.before.before.before.loop.invariant.0 c.before.before.before.before.before.before.before.before.before.before.before.before.before.drive-record.ensures.0 c.before.if1.false).behind, (left-onward c.before.before.before.before.before.before.before.before.before.before.before.before.before.before.before.before.before.before.before.loop.invariant.0 c.before.before.before.before.before.before.before.before.before.before.before.before.before.drive-record.ensures.0 c.before.if1.false).within)
+loop-less c = omega (arith, (left_onward c.before.before.before.before.before.before.before.before.before.before.before.before.before.before.before.before.before.before.before.loop.invariant.0 c.before.before.before.before.before.before.before.before.before.before.before.before.before.drive-record.ensures.0 c.before.if1.false).behind, (left_onward c.before.before.before.before.before.before.before.before.before.before.before.before.before.before.before.before.before.before.before.loop.invariant.0 c.before.before.before.before.before.before.before.before.before.before.before.before.before.drive-record.ensures.0 c.before.if1.false).within)
 
 loop-again : tie.Need-loop-preserved invariant_loop decreases_loop
 loop-again c = (left-turn c.before.before.before.before.before.before.before.before.before.before.before.before.before.before.before.before.before.before.before.loop.invariant.0 c.before.before.before.before.before.before.before.before.before.before.before.before.before.drive-record.ensures.0 c.before.before.before.before.before.before.before.before.before.before.before.before.before.drive-record.ensures.1 c.before.if1.false, c.before.before.before.before.before.before.before.before.before.before.before.before.before.drive-record.auto.0 ∙ c.before.before.before.before.before.before.before.before.before.before.before.before.before.before.before.before.before.before.before.loop.invariant.1, c.before.before.before.before.before.before.before.before.before.before.before.before.before.drive-record.auto.1.0 ∙ c.before.before.before.before.before.before.before.before.before.before.before.before.before.before.before.before.before.before.before.loop.invariant.2, c.before.before.before.before.before.before.before.before.before.before.before.before.before.drive-record.auto.1.1.0 ∙ c.before.before.before.before.before.before.before.before.before.before.before.before.before.before.before.before.before.before.before.loop.invariant.3, c.before.before.before.before.before.before.before.before.before.before.before.before.before.drive-record.auto.1.1.1.0 ∙ c.before.before.before.before.before.before.before.before.before.before.before.before.before.before.before.before.before.before.before.loop.invariant.4, c.before.before.before.before.before.before.before.before.before.before.before.before.before.drive-record.auto.1.1.1.1.1.1.1.0 ∙ c.before.before.before.before.before.before.before.before.before.before.before.before.before.before.before.before.before.before.before.loop.invariant.5)

@@ -31,13 +31,13 @@ loop-less : tie.Need-loop-smaller invariant_loop decreases_loop
 loop-less c = omega arith
 
 loop-again : tie.Need-loop-preserved invariant_loop decreases_loop
-loop-again c = (text_turn _ c.before.before.before.before.before.before.loop.i c.before.before.before.before.before.loop-test.true c.before.before.before.before.before.before.loop.invariant.0 c.before.before.put_byte.ensures, c.before.before.put_byte.auto.0 ∙ c.before.before.before.before.before.before.loop.invariant.1, omega arith)
+loop-again c = (text_turn _ c.before.before.before.before.before.before.loop.i c.before.before.before.before.before.loop_test.true c.before.before.before.before.before.before.loop.invariant.0 c.before.before.put_byte.ensures, c.before.before.put_byte.auto.0 ∙ c.before.before.before.before.before.before.loop.invariant.1, omega arith)
 
 same_length : tie.Need_same_length invariant_loop decreases_loop
 same_length c = c.before.loop.invariant.1
 
 returns : tie.Need_returns invariant_loop decreases_loop
-returns c = text_end _ c.before.loop.i c.before.loop.invariant.2 c.loop-test.false c.before.loop.invariant.0
+returns c = text_end _ c.before.loop.i c.before.loop.invariant.2 c.loop_test.false c.before.loop.invariant.0
 
 pub put-text-spec : {M : Type 1} → statement M
 put-text-spec =

@@ -6,9 +6,9 @@ use lib.ListN.{length}
 use borrow.Author.Rules.{rules}
 use Rattle.machine.specs.Store.{LogEntry, store_of}
 use Rattle.machine_theorems.specs.Soundness.Stores.{SoundStore}
-use Rattle.drive_laws.specs.KeptLaws.{record-sound-store, sound-store-right, sound-store-is-sound}
+use Rattle.drive_laws.specs.KeptLaws.{record_sound_store, sound_store_right, sound-store_is-sound}
 use Rattle.drive_window.specs.Window.{drive_window}
-use Rattle.drive_window.specs.TakenLaws.{Taken, taken_begins, taken-stays, taken-onward, taken-turn, taken-stops, number-for}
+use Rattle.drive_window.specs.TakenLaws.{Taken, taken_begins, taken_stays, taken_onward, taken_turn, taken_stops, number_for}
 use Rattle.drive_window.proofs.drive_window.Statement.{statement}
 use Rattle.drive_window.proofs.drive_window.Tie as tie
 
@@ -26,7 +26,7 @@ takes-requires : tie.Need-takes-requires invariant_loop decreases_loop
 takes-requires c κs = search rules
 
 drive-record-requires : tie.Need-drive-record-requires invariant_loop decreases_loop
-drive-record-requires c κs = (sound-store-right c.before.before.before.before.before.before.before.before.loop.invariant.1 _ (omega (arith, c.before.before.before.before.before.before.before.before.before.before.before.before.before.before.before.requires.1, c.before.before.before.before.before.before.before.before.loop.invariant.5)), sound-store-is-sound c.before.before.before.before.before.before.before.before.loop.invariant.1)
+drive-record-requires c κs = (sound_store_right c.before.before.before.before.before.before.before.before.loop.invariant.1 _ (omega (arith, c.before.before.before.before.before.before.before.before.before.before.before.before.before.before.before.requires.1, c.before.before.before.before.before.before.before.before.loop.invariant.5)), sound-store_is-sound c.before.before.before.before.before.before.before.before.loop.invariant.1)
 
 same_length : tie.Need_same_length invariant_loop decreases_loop
 same_length c = c.before.before.before.before.before.before.before.before.before.before.before.before.before.drive-record.auto.0 ∙ c.before.before.before.before.before.before.before.before.before.before.before.before.before.before.before.before.before.before.before.before.before.before.loop.invariant.2
@@ -44,16 +44,16 @@ same-length-5 : tie.Need-same-length-5 invariant_loop decreases_loop
 same-length-5 c = c.before.before.before.before.before.before.before.before.before.before.before.before.before.drive-record.auto.1.1.1.1.1.1.1.0 ∙ c.before.before.before.before.before.before.before.before.before.before.before.before.before.before.before.before.before.before.before.before.before.before.loop.invariant.6
 
 returns : tie.Need_returns invariant_loop decreases_loop
-returns c = (λ l. taken-stops (c.before.before.before.before.before.before.before.before.before.before.before.before.before.before.before.before.before.before.before.before.before.before.loop.invariant.0 l) c.before.before.before.before.before.before.before.before.before.before.before.before.before.before.before.before.before.before.before.before.before.before.loop.invariant.6 (sym c.before.before.before.before.before.before.before.before.before.before.before.before.before.before.before.before.before.before.before.before.before.takes.ensures ∙ c.before.before.before.before.before.before.before.before.before.before.before.before.before.before.before.before.before.before.before.before.if1.true) c.before.before.before.before.before.before.before.before.before.before.before.before.before.drive-record.ensures.0 c.before.if2.true _ refl refl refl refl refl, record-sound-store _ _ _ _ _ c.before.before.before.before.before.before.before.before.before.before.before.before.before.before.before.before.before.before.before.before.before.before.loop.invariant.1 c.before.before.before.before.before.before.before.before.before.before.before.before.before.drive-record.ensures.1 (c.before.before.before.before.before.before.before.before.before.before.before.before.before.drive-record.ensures.0 []))
+returns c = (λ l. taken_stops (c.before.before.before.before.before.before.before.before.before.before.before.before.before.before.before.before.before.before.before.before.before.before.loop.invariant.0 l) c.before.before.before.before.before.before.before.before.before.before.before.before.before.before.before.before.before.before.before.before.before.before.loop.invariant.6 (sym c.before.before.before.before.before.before.before.before.before.before.before.before.before.before.before.before.before.before.before.before.before.takes.ensures ∙ c.before.before.before.before.before.before.before.before.before.before.before.before.before.before.before.before.before.before.before.before.if1.true) c.before.before.before.before.before.before.before.before.before.before.before.before.before.drive-record.ensures.0 c.before.if2.true _ refl refl refl refl refl, record_sound_store _ _ _ _ _ c.before.before.before.before.before.before.before.before.before.before.before.before.before.before.before.before.before.before.before.before.before.before.loop.invariant.1 c.before.before.before.before.before.before.before.before.before.before.before.before.before.drive-record.ensures.1 (c.before.before.before.before.before.before.before.before.before.before.before.before.before.drive-record.ensures.0 []))
 
 add-count : tie.Need-overflow-add-count invariant_loop decreases_loop
-add-count c = omega (arith, number-for _ _ _ _ _ _ (sym c.before.before.before.before.before.before.before.before.before.before.before.before.before.before.before.before.before.before.before.before.takes.ensures ∙ c.before.before.before.before.before.before.before.before.before.before.before.before.before.before.before.before.before.before.before.if1.true))
+add-count c = omega (arith, number_for _ _ _ _ _ _ (sym c.before.before.before.before.before.before.before.before.before.before.before.before.before.before.before.before.before.before.before.before.takes.ensures ∙ c.before.before.before.before.before.before.before.before.before.before.before.before.before.before.before.before.before.before.before.if1.true))
 
 loop-less : tie.Need-loop-smaller invariant_loop decreases_loop
-loop-less c = omega (arith, (taken-onward (c.before.before.before.before.before.before.before.before.before.before.before.before.before.before.before.before.before.before.before.before.before.loop.invariant.0 []) c.before.before.before.before.before.before.before.before.before.before.before.before.before.before.before.before.before.before.before.before.before.loop.invariant.6 (sym c.before.before.before.before.before.before.before.before.before.before.before.before.before.before.before.before.before.before.before.before.takes.ensures ∙ c.before.before.before.before.before.before.before.before.before.before.before.before.before.before.before.before.before.before.before.if1.true) c.before.before.before.before.before.before.before.before.before.before.before.before.drive-record.ensures.0 c.if2.false).behind, (taken-onward (c.before.before.before.before.before.before.before.before.before.before.before.before.before.before.before.before.before.before.before.before.before.loop.invariant.0 []) c.before.before.before.before.before.before.before.before.before.before.before.before.before.before.before.before.before.before.before.before.before.loop.invariant.6 (sym c.before.before.before.before.before.before.before.before.before.before.before.before.before.before.before.before.before.before.before.before.takes.ensures ∙ c.before.before.before.before.before.before.before.before.before.before.before.before.before.before.before.before.before.before.before.if1.true) c.before.before.before.before.before.before.before.before.before.before.before.before.drive-record.ensures.0 c.if2.false).within)
+loop-less c = omega (arith, (taken_onward (c.before.before.before.before.before.before.before.before.before.before.before.before.before.before.before.before.before.before.before.before.before.loop.invariant.0 []) c.before.before.before.before.before.before.before.before.before.before.before.before.before.before.before.before.before.before.before.before.before.loop.invariant.6 (sym c.before.before.before.before.before.before.before.before.before.before.before.before.before.before.before.before.before.before.before.before.takes.ensures ∙ c.before.before.before.before.before.before.before.before.before.before.before.before.before.before.before.before.before.before.before.if1.true) c.before.before.before.before.before.before.before.before.before.before.before.before.drive-record.ensures.0 c.if2.false).behind, (taken_onward (c.before.before.before.before.before.before.before.before.before.before.before.before.before.before.before.before.before.before.before.before.before.loop.invariant.0 []) c.before.before.before.before.before.before.before.before.before.before.before.before.before.before.before.before.before.before.before.before.before.loop.invariant.6 (sym c.before.before.before.before.before.before.before.before.before.before.before.before.before.before.before.before.before.before.before.before.takes.ensures ∙ c.before.before.before.before.before.before.before.before.before.before.before.before.before.before.before.before.before.before.before.if1.true) c.before.before.before.before.before.before.before.before.before.before.before.before.drive-record.ensures.0 c.if2.false).within)
 
 loop-again : tie.Need-loop-preserved invariant_loop decreases_loop
-loop-again c = (λ l. taken-turn (c.before.before.before.before.before.before.before.before.before.before.before.before.before.before.before.before.before.before.before.before.before.loop.invariant.0 l) c.before.before.before.before.before.before.before.before.before.before.before.before.before.before.before.before.before.before.before.before.before.loop.invariant.6 (sym c.before.before.before.before.before.before.before.before.before.before.before.before.before.before.before.before.before.before.before.before.takes.ensures ∙ c.before.before.before.before.before.before.before.before.before.before.before.before.before.before.before.before.before.before.before.if1.true) c.before.before.before.before.before.before.before.before.before.before.before.before.drive-record.ensures.0 c.if2.false, record-sound-store _ _ _ _ _ c.before.before.before.before.before.before.before.before.before.before.before.before.before.before.before.before.before.before.before.before.before.loop.invariant.1 c.before.before.before.before.before.before.before.before.before.before.before.before.drive-record.ensures.1 (c.before.before.before.before.before.before.before.before.before.before.before.before.drive-record.ensures.0 []), c.before.before.before.before.before.before.before.before.before.before.before.before.drive-record.auto.0 ∙ c.before.before.before.before.before.before.before.before.before.before.before.before.before.before.before.before.before.before.before.before.before.loop.invariant.2, c.before.before.before.before.before.before.before.before.before.before.before.before.drive-record.auto.1.0 ∙ c.before.before.before.before.before.before.before.before.before.before.before.before.before.before.before.before.before.before.before.before.before.loop.invariant.3, c.before.before.before.before.before.before.before.before.before.before.before.before.drive-record.auto.1.1.0 ∙ c.before.before.before.before.before.before.before.before.before.before.before.before.before.before.before.before.before.before.before.before.before.loop.invariant.4, c.before.before.before.before.before.before.before.before.before.before.before.before.drive-record.auto.1.1.1.0 ∙ c.before.before.before.before.before.before.before.before.before.before.before.before.before.before.before.before.before.before.before.before.before.loop.invariant.5, c.before.before.before.before.before.before.before.before.before.before.before.before.drive-record.auto.1.1.1.1.1.1.1.0 ∙ c.before.before.before.before.before.before.before.before.before.before.before.before.before.before.before.before.before.before.before.before.before.loop.invariant.6)
+loop-again c = (λ l. taken_turn (c.before.before.before.before.before.before.before.before.before.before.before.before.before.before.before.before.before.before.before.before.before.loop.invariant.0 l) c.before.before.before.before.before.before.before.before.before.before.before.before.before.before.before.before.before.before.before.before.before.loop.invariant.6 (sym c.before.before.before.before.before.before.before.before.before.before.before.before.before.before.before.before.before.before.before.before.takes.ensures ∙ c.before.before.before.before.before.before.before.before.before.before.before.before.before.before.before.before.before.before.before.if1.true) c.before.before.before.before.before.before.before.before.before.before.before.before.drive-record.ensures.0 c.if2.false, record_sound_store _ _ _ _ _ c.before.before.before.before.before.before.before.before.before.before.before.before.before.before.before.before.before.before.before.before.before.loop.invariant.1 c.before.before.before.before.before.before.before.before.before.before.before.before.drive-record.ensures.1 (c.before.before.before.before.before.before.before.before.before.before.before.before.drive-record.ensures.0 []), c.before.before.before.before.before.before.before.before.before.before.before.before.drive-record.auto.0 ∙ c.before.before.before.before.before.before.before.before.before.before.before.before.before.before.before.before.before.before.before.before.before.loop.invariant.2, c.before.before.before.before.before.before.before.before.before.before.before.before.drive-record.auto.1.0 ∙ c.before.before.before.before.before.before.before.before.before.before.before.before.before.before.before.before.before.before.before.before.before.loop.invariant.3, c.before.before.before.before.before.before.before.before.before.before.before.before.drive-record.auto.1.1.0 ∙ c.before.before.before.before.before.before.before.before.before.before.before.before.before.before.before.before.before.before.before.before.before.loop.invariant.4, c.before.before.before.before.before.before.before.before.before.before.before.before.drive-record.auto.1.1.1.0 ∙ c.before.before.before.before.before.before.before.before.before.before.before.before.before.before.before.before.before.before.before.before.before.loop.invariant.5, c.before.before.before.before.before.before.before.before.before.before.before.before.drive-record.auto.1.1.1.1.1.1.1.0 ∙ c.before.before.before.before.before.before.before.before.before.before.before.before.before.before.before.before.before.before.before.before.before.loop.invariant.6)
 
 same-length-6 : tie.Need-same-length-6 invariant_loop decreases_loop
 same-length-6 c = c.before.before.before.loop.invariant.2
@@ -71,7 +71,7 @@ same-length-10 : tie.Need-same-length-10 invariant_loop decreases_loop
 same-length-10 c = c.before.before.before.loop.invariant.6
 
 returns-2 : tie.Need-returns-2 invariant_loop decreases_loop
-returns-2 c = (λ l. taken-stays (c.before.before.before.loop.invariant.0 l) c.before.before.before.loop.invariant.6 (sym c.before.before.takes.ensures ∙ c.before.if1.false) _ refl refl refl refl refl, c.before.before.before.loop.invariant.1)
+returns-2 c = (λ l. taken_stays (c.before.before.before.loop.invariant.0 l) c.before.before.before.loop.invariant.6 (sym c.before.before.takes.ensures ∙ c.before.if1.false) _ refl refl refl refl refl, c.before.before.before.loop.invariant.1)
 
 pub drive-window-spec : {M : Type 1} → statement M
 drive-window-spec =

@@ -2,7 +2,7 @@ use Rattle.queue.specs.Queue.{queue_of}
 use Rattle.machine.specs.Store.{store_of}
 use mathlib.Core.Path.{◌≡◌, refl, ◌∙◌}
 use Rattle.machine.specs.Events.{await_gather, stays}
-use Rattle.exec_await.specs.AwaitLaws.{gather-commits, gather-stays}
+use Rattle.exec_await.specs.AwaitLaws.{gather_commits, gather-stays}
 use borrow.Author.Rules.{rules}
 use Rattle.exec_await.proofs.await_gather_future.Statement.{statement}
 use Rattle.exec_await.proofs.await_gather_future.Tie as tie
@@ -41,7 +41,7 @@ same-length-3 : tie.Need_same_length_3
 same-length-3 c = search rules
 
 returns : tie.Need_returns
-returns c = λ l. gather-commits c.before.before.before.before.before.before.before.before.before.before.before.before.before.before.before.before.before.before.before.before.before.before.before.before.before.before.args.tasks.now c.before.before.before.before.before.before.before.before.before.before.before.before.before.before.before.before.before.before.before.before.before.before.before.before.before.before.args.objects.now c.before.before.before.before.before.before.before.before.before.before.before.before.before.before.before.before.before.before.before.before.before.before.before.before.before.before.args.places.now (queue_of c.before.before.before.before.before.before.before.before.before.before.before.before.before.before.before.before.before.before.before.before.before.before.before.before.before.before.args.ids.now c.before.before.before.before.before.before.before.before.before.before.before.before.before.before.before.before.before.before.before.before.before.before.before.before.before.before.args.len.now) l c.before.before.before.before.before.before.before.before.before.before.before.before.before.before.before.before.before.before.before.before.before.before.before.before.before.before.args.t c.before.before.before.before.before.before.before.before.before.before.before.before.before.before.before.before.before.before.before.before.before.before.before.before.before.before.args.o _ c.before.before.before.before.before.before.before.before.before.before.before.before.before.before.before.before.before.before.before.before.before.enum_told.given.1 c.before.before.before.before.before.before.before.before.before.before.before.before.before.before.before.commit_gather_tree.result.poll c.before.before.before.before.before.before.before.before.before.before.before.before.before.before.before.commit_gather_tree.result.steps (c.before.before.before.before.before.before.before.before.before.before.before.before.before.before.before.commit_gather_tree.ensures l) c.before.before.before.before.go_on.result.control c.before.before.before.before.go_on.result.steps (c.before.before.before.before.go_on.ensures _ _ (c.before.before.before.before.before.before.before.before.before.before.before.before.before.before.before.commit_gather_tree.auto.1.1.0 ∙ c.before.before.before.before.before.before.before.before.before.before.before.before.before.before.before.before.before.before.before.before.before.before.before.before.before.before.requires.2))
+returns c = λ l. gather_commits c.before.before.before.before.before.before.before.before.before.before.before.before.before.before.before.before.before.before.before.before.before.before.before.before.before.before.args.tasks.now c.before.before.before.before.before.before.before.before.before.before.before.before.before.before.before.before.before.before.before.before.before.before.before.before.before.before.args.objects.now c.before.before.before.before.before.before.before.before.before.before.before.before.before.before.before.before.before.before.before.before.before.before.before.before.before.before.args.places.now (queue_of c.before.before.before.before.before.before.before.before.before.before.before.before.before.before.before.before.before.before.before.before.before.before.before.before.before.before.args.ids.now c.before.before.before.before.before.before.before.before.before.before.before.before.before.before.before.before.before.before.before.before.before.before.before.before.before.before.args.len.now) l c.before.before.before.before.before.before.before.before.before.before.before.before.before.before.before.before.before.before.before.before.before.before.before.before.before.before.args.t c.before.before.before.before.before.before.before.before.before.before.before.before.before.before.before.before.before.before.before.before.before.before.before.before.before.before.args.o _ c.before.before.before.before.before.before.before.before.before.before.before.before.before.before.before.before.before.before.before.before.before.enum_told.given.1 c.before.before.before.before.before.before.before.before.before.before.before.before.before.before.before.commit_gather_tree.result.poll c.before.before.before.before.before.before.before.before.before.before.before.before.before.before.before.commit_gather_tree.result.steps (c.before.before.before.before.before.before.before.before.before.before.before.before.before.before.before.commit_gather_tree.ensures l) c.before.before.before.before.go_on.result.control c.before.before.before.before.go_on.result.steps (c.before.before.before.before.go_on.ensures _ _ (c.before.before.before.before.before.before.before.before.before.before.before.before.before.before.before.commit_gather_tree.auto.1.1.0 ∙ c.before.before.before.before.before.before.before.before.before.before.before.before.before.before.before.before.before.before.before.before.before.before.before.before.before.before.requires.2))
 
 returns-2 : tie.Need-returns-2
 unfolding await_gather

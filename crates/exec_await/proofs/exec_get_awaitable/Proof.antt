@@ -1,5 +1,5 @@
 use Rattle.queue.specs.Queue.{queue_of}
-use Rattle.exec_await.specs.AwaitLaws.{awaits-unmade, awaits-coroutine, awaits-external, awaits-gather}
+use Rattle.exec_await.specs.AwaitLaws.{awaits_unmade, awaits_coroutine, awaits_external, awaits_gather}
 use borrow.Author.Rules.{rules}
 use Rattle.exec_await.proofs.exec_get_awaitable.Statement.{statement}
 use Rattle.exec_await.proofs.exec_get_awaitable.Tie as tie
@@ -32,13 +32,13 @@ same_length : tie.Need_same_length
 same_length c = search rules
 
 returns : tie.Need_returns
-returns c = λ l. awaits-unmade c.before.before.before.before.before.before.before.args.tasks.now c.before.before.before.before.before.before.before.args.objects.now c.before.before.before.before.before.before.before.args.places.now (queue_of c.before.before.before.before.before.before.before.args.ids.now c.before.before.before.before.before.before.before.args.len.now) l c.before.before.before.before.before.before.before.args.t c.before.before.before.before.before.before.before.args.o c.before.before.load-object.ensures c.enum_told.given.1
+returns c = λ l. awaits_unmade c.before.before.before.before.before.before.before.args.tasks.now c.before.before.before.before.before.before.before.args.objects.now c.before.before.before.before.before.before.before.args.places.now (queue_of c.before.before.before.before.before.before.before.args.ids.now c.before.before.before.before.before.before.before.args.len.now) l c.before.before.before.before.before.before.before.args.t c.before.before.before.before.before.before.before.args.o c.before.before.load-object.ensures c.enum_told.given.1
 
 same-length-2 : tie.Need_same_length_2
 same-length-2 c = search rules
 
 returns-2 : tie.Need-returns-2
-returns-2 c = λ l. awaits-coroutine c.before.before.before.before.before.before.before.before.before.before.before.before.args.tasks.now c.before.before.before.before.before.before.before.before.before.before.before.before.args.objects.now c.before.before.before.before.before.before.before.before.before.before.before.before.args.places.now (queue_of c.before.before.before.before.before.before.before.before.before.before.before.before.args.ids.now c.before.before.before.before.before.before.before.before.before.before.before.before.args.len.now) l c.before.before.before.before.before.before.before.before.before.before.before.before.args.t c.before.before.before.before.before.before.before.before.before.before.before.before.args.o c.before.before.before.before.before.before.before.load-object.ensures c.before.before.before.before.before.x.given.0.0 c.before.before.before.before.before.x.given.0.1.0 c.before.before.before.before.before.x.given.1 c.before.before.await_coroutine.result.control c.before.before.await_coroutine.result.steps (c.before.before.await_coroutine.ensures c.before.before.before.before.before.before.before.before.before.before.before.before.args.tasks.now c.before.before.before.before.before.before.before.before.before.before.before.before.args.places.now (queue_of c.before.before.before.before.before.before.before.before.before.before.before.before.args.ids.now c.before.before.before.before.before.before.before.before.before.before.before.before.args.len.now) l)
+returns-2 c = λ l. awaits_coroutine c.before.before.before.before.before.before.before.before.before.before.before.before.args.tasks.now c.before.before.before.before.before.before.before.before.before.before.before.before.args.objects.now c.before.before.before.before.before.before.before.before.before.before.before.before.args.places.now (queue_of c.before.before.before.before.before.before.before.before.before.before.before.before.args.ids.now c.before.before.before.before.before.before.before.before.before.before.before.before.args.len.now) l c.before.before.before.before.before.before.before.before.before.before.before.before.args.t c.before.before.before.before.before.before.before.before.before.before.before.before.args.o c.before.before.before.before.before.before.before.load-object.ensures c.before.before.before.before.before.x.given.0.0 c.before.before.before.before.before.x.given.0.1.0 c.before.before.before.before.before.x.given.1 c.before.before.await_coroutine.result.control c.before.before.await_coroutine.result.steps (c.before.before.await_coroutine.ensures c.before.before.before.before.before.before.before.before.before.before.before.before.args.tasks.now c.before.before.before.before.before.before.before.before.before.before.before.before.args.places.now (queue_of c.before.before.before.before.before.before.before.before.before.before.before.before.args.ids.now c.before.before.before.before.before.before.before.before.before.before.before.before.args.len.now) l)
 
 same-length-3 : tie.Need_same_length_3
 same-length-3 c = search rules
@@ -47,7 +47,7 @@ same-length-4 : tie.Need_same_length_4
 same-length-4 c = search rules
 
 returns-3 : tie.Need-returns-3
-returns-3 c = λ l. awaits-external c.before.before.before.before.before.before.before.before.before.before.before.before.before.before.before.before.before.args.tasks.now c.before.before.before.before.before.before.before.before.before.before.before.before.before.before.before.before.before.args.objects.now c.before.before.before.before.before.before.before.before.before.before.before.before.before.before.before.before.before.args.places.now (queue_of c.before.before.before.before.before.before.before.before.before.before.before.before.before.before.before.before.before.args.ids.now c.before.before.before.before.before.before.before.before.before.before.before.before.before.before.before.before.before.args.len.now) l c.before.before.before.before.before.before.before.before.before.before.before.before.before.before.before.before.before.args.t c.before.before.before.before.before.before.before.before.before.before.before.before.before.before.before.before.before.args.o c.before.before.before.before.before.before.before.before.before.before.before.before.load-object.ensures c.before.before.before.before.before.before.before.before.before.before.x2.given.0.0 c.before.before.before.before.before.before.before.before.before.before.x2.given.0.1.0 c.before.before.before.before.before.before.before.before.before.before.x2.given.1 c.before.before.before.before.await_external_future.result.control c.before.before.before.before.await_external_future.result.steps (c.before.before.before.before.await_external_future.ensures c.before.before.before.before.before.before.before.before.before.before.before.before.before.before.before.before.before.args.places.now l c.before.before.before.before.before.before.before.before.before.before.before.before.before.before.before.before.before.requires.2)
+returns-3 c = λ l. awaits_external c.before.before.before.before.before.before.before.before.before.before.before.before.before.before.before.before.before.args.tasks.now c.before.before.before.before.before.before.before.before.before.before.before.before.before.before.before.before.before.args.objects.now c.before.before.before.before.before.before.before.before.before.before.before.before.before.before.before.before.before.args.places.now (queue_of c.before.before.before.before.before.before.before.before.before.before.before.before.before.before.before.before.before.args.ids.now c.before.before.before.before.before.before.before.before.before.before.before.before.before.before.before.before.before.args.len.now) l c.before.before.before.before.before.before.before.before.before.before.before.before.before.before.before.before.before.args.t c.before.before.before.before.before.before.before.before.before.before.before.before.before.before.before.before.before.args.o c.before.before.before.before.before.before.before.before.before.before.before.before.load-object.ensures c.before.before.before.before.before.before.before.before.before.before.x2.given.0.0 c.before.before.before.before.before.before.before.before.before.before.x2.given.0.1.0 c.before.before.before.before.before.before.before.before.before.before.x2.given.1 c.before.before.before.before.await_external_future.result.control c.before.before.before.before.await_external_future.result.steps (c.before.before.before.before.await_external_future.ensures c.before.before.before.before.before.before.before.before.before.before.before.before.before.before.before.before.before.args.places.now l c.before.before.before.before.before.before.before.before.before.before.before.before.before.before.before.before.before.requires.2)
 
 same-length-5 : tie.Need-same-length-5
 same-length-5 c = search rules
@@ -59,7 +59,7 @@ same-length-7 : tie.Need-same-length-7
 same-length-7 c = search rules
 
 returns-4 : tie.Need-returns-4
-returns-4 c = λ l. awaits-gather c.before.before.before.before.before.before.before.before.before.before.before.before.before.before.before.before.before.before.before.before.args.tasks.now c.before.before.before.before.before.before.before.before.before.before.before.before.before.before.before.before.before.before.before.before.args.objects.now c.before.before.before.before.before.before.before.before.before.before.before.before.before.before.before.before.before.before.before.before.args.places.now (queue_of c.before.before.before.before.before.before.before.before.before.before.before.before.before.before.before.before.before.before.before.before.args.ids.now c.before.before.before.before.before.before.before.before.before.before.before.before.before.before.before.before.before.before.before.before.args.len.now) l c.before.before.before.before.before.before.before.before.before.before.before.before.before.before.before.before.before.before.before.before.args.t c.before.before.before.before.before.before.before.before.before.before.before.before.before.before.before.before.before.before.before.before.args.o c.before.before.before.before.before.before.before.before.before.before.before.before.before.before.before.load-object.ensures c.before.before.before.before.before.before.before.before.before.before.before.before.before.x3.given.0.0 c.before.before.before.before.before.before.before.before.before.before.before.before.before.x3.given.0.1.0 c.before.before.before.before.before.before.before.before.before.before.before.before.before.x3.given.0.1.1.0 c.before.before.before.before.before.before.before.before.before.before.before.before.before.x3.given.1 c.before.before.before.before.before.before.await-gather-future.result.control c.before.before.before.before.before.before.await-gather-future.result.steps (c.before.before.before.before.before.before.await-gather-future.ensures l)
+returns-4 c = λ l. awaits_gather c.before.before.before.before.before.before.before.before.before.before.before.before.before.before.before.before.before.before.before.before.args.tasks.now c.before.before.before.before.before.before.before.before.before.before.before.before.before.before.before.before.before.before.before.before.args.objects.now c.before.before.before.before.before.before.before.before.before.before.before.before.before.before.before.before.before.before.before.before.args.places.now (queue_of c.before.before.before.before.before.before.before.before.before.before.before.before.before.before.before.before.before.before.before.before.args.ids.now c.before.before.before.before.before.before.before.before.before.before.before.before.before.before.before.before.before.before.before.before.args.len.now) l c.before.before.before.before.before.before.before.before.before.before.before.before.before.before.before.before.before.before.before.before.args.t c.before.before.before.before.before.before.before.before.before.before.before.before.before.before.before.before.before.before.before.before.args.o c.before.before.before.before.before.before.before.before.before.before.before.before.before.before.before.load-object.ensures c.before.before.before.before.before.before.before.before.before.before.before.before.before.x3.given.0.0 c.before.before.before.before.before.before.before.before.before.before.before.before.before.x3.given.0.1.0 c.before.before.before.before.before.before.before.before.before.before.before.before.before.x3.given.0.1.1.0 c.before.before.before.before.before.before.before.before.before.before.before.before.before.x3.given.1 c.before.before.before.before.before.before.await-gather-future.result.control c.before.before.before.before.before.before.await-gather-future.result.steps (c.before.before.before.before.before.before.await-gather-future.ensures l)
 
 pub exec-get-awaitable-spec : {M : Type 1} → statement M
 exec-get-awaitable-spec =

@@ -1,4 +1,4 @@
-use Rattle.exec_ends.specs.EndLaws.{complete-main, complete-spawned}
+use Rattle.exec_ends.specs.EndLaws.{complete_main, complete-spawned}
 use borrow.Author.Rules.{rules}
 use Rattle.exec_ends.proofs.complete.Statement.{statement}
 use Rattle.exec_ends.proofs.complete.Tie as tie
@@ -16,7 +16,7 @@ same-length-2 : tie.Need_same_length_2
 same-length-2 c = search rules
 
 returns : tie.Need_returns
-returns c = λ l. complete-main c.before.before.before.before.before.before.before.before.before.before.before.before.args.tasks.now c.before.before.before.before.before.before.before.before.before.before.before.before.args.objects.now c.before.before.before.before.before.before.before.before.before.before.before.before.args.places.now c.before.before.before.before.before.before.before.before.before.before.before.before.args.queue l c.before.before.before.before.before.before.before.before.before.before.before.before.args.t c.before.before.before.before.before.before.before.before.is_main.ensures c.before.before.before.before.before.before.before.before.before.before.before.before.args.value c.before.before.before.before.before.before.before.if1.true (c.before.before.before.before.cleanup.ensures c.before.before.before.before.before.before.before.before.before.before.before.before.args.places.now c.before.before.before.before.before.before.before.before.before.before.before.before.args.queue l)
+returns c = λ l. complete_main c.before.before.before.before.before.before.before.before.before.before.before.before.args.tasks.now c.before.before.before.before.before.before.before.before.before.before.before.before.args.objects.now c.before.before.before.before.before.before.before.before.before.before.before.before.args.places.now c.before.before.before.before.before.before.before.before.before.before.before.before.args.queue l c.before.before.before.before.before.before.before.before.before.before.before.before.args.t c.before.before.before.before.before.before.before.before.is_main.ensures c.before.before.before.before.before.before.before.before.before.before.before.before.args.value c.before.before.before.before.before.before.before.if1.true (c.before.before.before.before.cleanup.ensures c.before.before.before.before.before.before.before.before.before.before.before.before.args.places.now c.before.before.before.before.before.before.before.before.before.before.before.before.args.queue l)
 
 handle-task-completion-requires : tie.Need-handle-task-completion-requires
 handle-task-completion-requires c κs = search rules

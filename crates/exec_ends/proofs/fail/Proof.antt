@@ -1,4 +1,4 @@
-use Rattle.exec_ends.specs.EndLaws.{fail-main, fail-spawned}
+use Rattle.exec_ends.specs.EndLaws.{fail_main, fail-spawned}
 use borrow.Author.Rules.{rules}
 use Rattle.exec_ends.proofs.fail.Statement.{statement}
 use Rattle.exec_ends.proofs.fail.Tie as tie
@@ -16,7 +16,7 @@ same-length-2 : tie.Need_same_length_2
 same-length-2 c = search rules
 
 returns : tie.Need_returns
-returns c = λ ps l w. fail-main c.before.before.before.before.before.before.before.before.before.before.before.args.tasks.now c.before.before.before.before.before.before.before.before.before.before.before.args.objects.now ps c.before.before.before.before.before.before.before.before.before.before.before.args.queue l c.before.before.before.before.before.before.before.before.before.before.before.args.t c.before.before.before.before.before.before.before.before.is_main.ensures c.before.before.before.before.before.before.before.before.before.before.before.args.error c.before.before.before.before.before.before.before.if1.true (c.before.before.before.before.cleanup.ensures ps c.before.before.before.before.before.before.before.before.before.before.before.args.queue l)
+returns c = λ ps l w. fail_main c.before.before.before.before.before.before.before.before.before.before.before.args.tasks.now c.before.before.before.before.before.before.before.before.before.before.before.args.objects.now ps c.before.before.before.before.before.before.before.before.before.before.before.args.queue l c.before.before.before.before.before.before.before.before.before.before.before.args.t c.before.before.before.before.before.before.before.before.is_main.ensures c.before.before.before.before.before.before.before.before.before.before.before.args.error c.before.before.before.before.before.before.before.if1.true (c.before.before.before.before.cleanup.ensures ps c.before.before.before.before.before.before.before.before.before.before.before.args.queue l)
 
 handle-task-failure-requires : tie.Need-handle-task-failure-requires
 handle-task-failure-requires c κs = search rules
@@ -28,7 +28,7 @@ same-length-4 : tie.Need_same_length_4
 same-length-4 c = search rules
 
 returns-2 : tie.Need-returns-2
-returns-2 c = λ ps l w. fail-spawned c.before.before.before.before.before.before.before.before.before.before.before.before.before.args.tasks.now c.before.before.before.before.before.before.before.before.before.before.before.before.before.args.objects.now ps c.before.before.before.before.before.before.before.before.before.before.before.before.before.args.queue l c.before.before.before.before.before.before.before.before.before.before.before.before.before.args.t c.before.before.before.before.before.before.before.before.before.before.is_main.ensures c.before.before.before.before.before.before.before.before.before.before.before.before.before.args.error c.before.before.before.before.before.before.before.before.before.if1.false c.before.before.before.before.handle-task-failure.result (c.before.before.before.before.handle-task-failure.ensures ps l w)
+returns-2 c = λ ps l w. fail-spawned c.before.before.before.before.before.before.before.before.before.before.before.before.before.args.tasks.now c.before.before.before.before.before.before.before.before.before.before.before.before.before.args.objects.now ps c.before.before.before.before.before.before.before.before.before.before.before.before.before.args.queue l c.before.before.before.before.before.before.before.before.before.before.before.before.before.args.t c.before.before.before.before.before.before.before.before.before.before.is_main.ensures c.before.before.before.before.before.before.before.before.before.before.before.before.before.args.error c.before.before.before.before.before.before.before.before.before.if1.false c.before.before.before.before.handle_task_failure.result (c.before.before.before.before.handle_task_failure.ensures ps l w)
 
 pub fail-spec : {M : Type 1} → statement M
 fail-spec =

@@ -1,4 +1,4 @@
-use Rattle.exec_ends.specs.EndLaws.{resume-stalls, resume-waits, resume-goes}
+use Rattle.exec_ends.specs.EndLaws.{resume_stalls, resume-waits, resume-goes}
 use borrow.Author.Rules.{rules}
 use Rattle.exec_ends.proofs.resume_with_resolved_futures.Statement.{statement}
 use Rattle.exec_ends.proofs.resume_with_resolved_futures.Tie as tie
@@ -10,7 +10,7 @@ same_length : tie.Need_same_length
 same_length c = search rules
 
 returns : tie.Need_returns
-returns c = λ ps l w. resume-stalls c.before.before.before.before.before.before.before.args.tasks.now c.before.before.before.before.before.before.before.args.objects.now ps c.before.before.before.before.before.before.before.args.queue l c.before.before.before.if1.true c.before.no-call-pending.ensures c.if2.true
+returns c = λ ps l w. resume_stalls c.before.before.before.before.before.before.before.args.tasks.now c.before.before.before.before.before.before.before.args.objects.now ps c.before.before.before.before.before.before.before.args.queue l c.before.before.before.if1.true c.before.no-call-pending.ensures c.if2.true
 
 same-length-2 : tie.Need_same_length_2
 same-length-2 c = search rules

@@ -10,7 +10,7 @@ use Rattle.machine_laws.specs.DeliveryLaws.{absurd_some}
 use Rattle.asyncio.specs.declared.Value.{Value}
 use Rattle.asyncio.specs.declared.Error.{Error}
 use Rattle.machine.specs.Tests.{is_in}
-use Rattle.machine.specs.Gather.{Outcome, returned, raised, Arrival, Gathered, waiting, listed, propagated, outcome_of, first-raised, put_first, in_order, gather}
+use Rattle.machine.specs.Gather.{Outcome, returned, raised, Arrival, Gathered, waiting, listed, propagated, outcome_of, first_raised, put_first, in_order, gather}
 use Rattle.machine.specs.History.{value_of, error_of}
 use Rattle.machine.specs.DemandThree.{none_open}
 use Rattle.machine.specs.DemandTwo.{values, arrives, arrivals_of, is_late, early, late, in_turn}
@@ -53,19 +53,19 @@ unfoldable pub AllReturned : Arrivals → Type 0
 AllReturned [] = Unit {0}
 AllReturned (x ∷ xs) = Returned x.outcome × AllReturned xs
 
-returned-step : (os seen : List ℕ) (x : Arrival Value Error) (xs : Arrivals) → Returned x.outcome → ((sn : List ℕ) → first-raised os sn xs ≡ none) → first-raised os seen (x ∷ xs) ≡ none
-unfolding first-raised
+returned-step : (os seen : List ℕ) (x : Arrival Value Error) (xs : Arrivals) → Returned x.outcome → ((sn : List ℕ) → first_raised os sn xs ≡ none) → first_raised os seen (x ∷ xs) ≡ none
+unfolding first_raised
 returned-step os seen x xs r k = by (is_in x.awaitable os && not (is_in x.awaitable seen)) x.outcome r
   where
     by : (b : Bool) (y : Outcome Value Error) → Returned y
-        → ◌≡◌ {A = Option Error} (elim b [ true ↦ elim y [ returned v ↦ first-raised os (x.awaitable ∷ seen) xs | raised e ↦ some e ] | false ↦ first-raised os seen xs ]) none
+        → ◌≡◌ {A = Option Error} (elim b [ true ↦ elim y [ returned v ↦ first_raised os (x.awaitable ∷ seen) xs | raised e ↦ some e ] | false ↦ first_raised os seen xs ]) none
     by true (returned v) r = k (x.awaitable ∷ seen)
     by true (raised e) r = absurd r
     by false y r = k seen
 
-pub none-raised : (os : List ℕ) (xs : Arrivals) → AllReturned xs → (seen : List ℕ) → first-raised os seen xs ≡ none
+pub none-raised : (os : List ℕ) (xs : Arrivals) → AllReturned xs → (seen : List ℕ) → first_raised os seen xs ≡ none
 unfolding AllReturned
-none-raised os [] k seen = unfold first-raised in refl
+none-raised os [] k seen = unfold first_raised in refl
 none-raised os (x ∷ xs) k seen = returned-step os seen x xs k.0 (none-raised os xs k.1)
 
 pub all-returned-++ : (xs ys : Arrivals) → AllReturned xs → AllReturned ys → AllReturned (xs ++ ys)
@@ -275,18 +275,18 @@ module _ (now : ℕ → Came) (os : List ℕ) where
       by (inl z) = ap error_of (ap now (sym z) ∙ q) ∙ (unfold error_of in refl)
       by (inr z) = k p z
 
-  pub first-is : (e : Error) (xs : Arrivals) (seen : List ℕ) → Quiet seen → All (ArrivesWith e) xs → Raises e xs → first-raised os seen xs ≡ some e
+  pub first_is : (e : Error) (xs : Arrivals) (seen : List ℕ) → Quiet seen → All (ArrivesWith e) xs → Raises e xs → first_raised os seen xs ≡ some e
   unfolding All Raises Quiet
-  first-is e [] seen k a r = absurd r
-  first-is e (x ∷ xs) seen k a r = by x.outcome refl r (λ sn l w. first-is e xs sn l a.1 w)
+  first_is e [] seen k a r = absurd r
+  first_is e (x ∷ xs) seen k a r = by x.outcome refl r (λ sn l w. first_is e xs sn l a.1 w)
     where
       cond : Bool
       cond = is_in x.awaitable os && not (is_in x.awaitable seen)
 
-      at : (y : Outcome Value Error) → x.outcome ≡ y → (b : Bool) → cond ≡ b → first-raised os seen (x ∷ xs)
-          ≡ elim b [ true ↦ elim y [ returned v ↦ first-raised os (x.awaitable ∷ seen) xs | raised z ↦ some z ] | false ↦ first-raised os seen xs ]
+      at : (y : Outcome Value Error) → x.outcome ≡ y → (b : Bool) → cond ≡ b → first_raised os seen (x ∷ xs)
+          ≡ elim b [ true ↦ elim y [ returned v ↦ first_raised os (x.awaitable ∷ seen) xs | raised z ↦ some z ] | false ↦ first_raised os seen xs ]
       at y q b c =
-          unfold first-raised in (ap₂ (λ (d : Bool) (w : Outcome Value Error). elim d [ true ↦ elim w [ returned v ↦ first-raised os (x.awaitable ∷ seen) xs | raised z ↦ some z ] | false ↦ first-raised os seen xs ]) c q)
+          unfold first_raised in (ap₂ (λ (d : Bool) (w : Outcome Value Error). elim d [ true ↦ elim w [ returned v ↦ first_raised os (x.awaitable ∷ seen) xs | raised z ↦ some z ] | false ↦ first_raised os seen xs ]) c q)
 
       unseen : (z : Error) → x.outcome ≡ raised z → is_in x.awaitable seen ≡ false
       unseen z q = no (is_in x.awaitable seen) refl
@@ -295,54 +295,54 @@ module _ (now : ℕ → Came) (os : List ℕ) where
           no true i = absurd_some (sym (k x.awaitable i) ∙ (ap error_of (a.0.own ∙ ap (λ (w : Outcome Value Error). some w) q) ∙ error-is z))
           no false i = refl
 
-      by : (y : Outcome Value Error) → x.outcome ≡ y → (x.outcome ≡ raised e) ⊎ Raises e xs → ((sn : List ℕ) → Quiet sn → Raises e xs → first-raised os sn xs ≡ some e) → first-raised os seen (x ∷ xs) ≡ some e
+      by : (y : Outcome Value Error) → x.outcome ≡ y → (x.outcome ≡ raised e) ⊎ Raises e xs → ((sn : List ℕ) → Quiet sn → Raises e xs → first_raised os sn xs ≡ some e) → first_raised os seen (x ∷ xs) ≡ some e
       by (raised z) q w go =
           at (raised z) q true (ap₂ (λ (c d : Bool). c && not d) a.0.item (unseen z q)) ∙ ap (λ (m : Error). some m) (a.0.only z q)
       by (returned v) q (inl w) go = absurd (subst Returned (sym q ∙ w) tt)
       by (returned v) q (inr w) go = branch cond refl
         where
-          branch : (b : Bool) → cond ≡ b → first-raised os seen (x ∷ xs) ≡ some e
+          branch : (b : Bool) → cond ≡ b → first_raised os seen (x ∷ xs) ≡ some e
           branch true c = at (returned v) q true c ∙ go (x.awaitable ∷ seen) (quiet-more x.awaitable v seen (a.0.own ∙ ap (λ (w : Outcome Value Error). some w) q) k) w
           branch false c = at (returned v) q false c ∙ go seen k w
 
   -- behind arrivals that raise nothing
-  pub first-behind : (e : Error) (xs ys : Arrivals) (seen : List ℕ) → AllReturned xs → Quiet seen → All (λ x. now x.awaitable ≡ some x.outcome) xs → ((sn : List ℕ) → Quiet sn → first-raised os sn ys ≡ some e)
-      → first-raised os seen (xs ++ ys) ≡ some e
+  pub first_behind : (e : Error) (xs ys : Arrivals) (seen : List ℕ) → AllReturned xs → Quiet seen → All (λ x. now x.awaitable ≡ some x.outcome) xs → ((sn : List ℕ) → Quiet sn → first_raised os sn ys ≡ some e)
+      → first_raised os seen (xs ++ ys) ≡ some e
   unfolding All AllReturned
-  first-behind e [] ys seen r k a go = go seen k
-  first-behind e (x ∷ xs) ys seen r k a go = by x.outcome refl r.0 (λ sn l. first-behind e xs ys sn r.1 l a.1 go)
+  first_behind e [] ys seen r k a go = go seen k
+  first_behind e (x ∷ xs) ys seen r k a go = by x.outcome refl r.0 (λ sn l. first_behind e xs ys sn r.1 l a.1 go)
     where
       cond : Bool
       cond = is_in x.awaitable os && not (is_in x.awaitable seen)
 
-      at : (y : Outcome Value Error) → x.outcome ≡ y → (b : Bool) → cond ≡ b → first-raised os seen (x ∷ (xs ++ ys))
-          ≡ elim b [ true ↦ elim y [ returned v ↦ first-raised os (x.awaitable ∷ seen) (xs ++ ys) | raised z ↦ some z ] | false ↦ first-raised os seen (xs ++ ys) ]
+      at : (y : Outcome Value Error) → x.outcome ≡ y → (b : Bool) → cond ≡ b → first_raised os seen (x ∷ (xs ++ ys))
+          ≡ elim b [ true ↦ elim y [ returned v ↦ first_raised os (x.awaitable ∷ seen) (xs ++ ys) | raised z ↦ some z ] | false ↦ first_raised os seen (xs ++ ys) ]
       at y q b c =
-          unfold first-raised in (ap₂ (λ (d : Bool) (w : Outcome Value Error). elim d [ true ↦ elim w [ returned v ↦ first-raised os (x.awaitable ∷ seen) (xs ++ ys) | raised z ↦ some z ] | false ↦ first-raised os seen (xs ++ ys) ]) c q)
+          unfold first_raised in (ap₂ (λ (d : Bool) (w : Outcome Value Error). elim d [ true ↦ elim w [ returned v ↦ first_raised os (x.awaitable ∷ seen) (xs ++ ys) | raised z ↦ some z ] | false ↦ first_raised os seen (xs ++ ys) ]) c q)
 
-      by : (y : Outcome Value Error) → x.outcome ≡ y → Returned x.outcome → ((sn : List ℕ) → Quiet sn → first-raised os sn (xs ++ ys) ≡ some e) → first-raised os seen (x ∷ (xs ++ ys)) ≡ some e
+      by : (y : Outcome Value Error) → x.outcome ≡ y → Returned x.outcome → ((sn : List ℕ) → Quiet sn → first_raised os sn (xs ++ ys) ≡ some e) → first_raised os seen (x ∷ (xs ++ ys)) ≡ some e
       by (raised z) q w more = absurd (subst Returned q w)
       by (returned v) q w more = branch cond refl
         where
-          branch : (b : Bool) → cond ≡ b → first-raised os seen (x ∷ (xs ++ ys)) ≡ some e
+          branch : (b : Bool) → cond ≡ b → first_raised os seen (x ∷ (xs ++ ys)) ≡ some e
           branch true c = at (returned v) q true c ∙ more (x.awaitable ∷ seen) (quiet-more x.awaitable v seen (a.0 ∙ ap (λ (w : Outcome Value Error). some w) q) k)
           branch false c = at (returned v) q false c ∙ more seen k
 
 -- what is raised first is not changed by what comes behind
-pub first_stays : (os : List ℕ) (e : Error) (xs ys : Arrivals) (seen : List ℕ) → first-raised os seen xs ≡ some e → first-raised os seen (xs ++ ys) ≡ some e
+pub first_stays : (os : List ℕ) (e : Error) (xs ys : Arrivals) (seen : List ℕ) → first_raised os seen xs ≡ some e → first_raised os seen (xs ++ ys) ≡ some e
 first_stays os e [] ys seen q = absurd_some (sym nothing-raised ∙ q)
   where
-    nothing-raised : first-raised {A = Value} {X = Error} os seen [] ≡ none
-    nothing-raised = unfold first-raised in refl
+    nothing-raised : first_raised {A = Value} {X = Error} os seen [] ≡ none
+    nothing-raised = unfold first_raised in refl
 first_stays os e (x ∷ xs) ys seen q = by (is_in x.awaitable os && not (is_in x.awaitable seen)) x.outcome refl refl (λ sn r. first_stays os e xs ys sn r)
   where
-    cons : (zs : Arrivals) (b : Bool) (y : Outcome Value Error) → (is_in x.awaitable os && not (is_in x.awaitable seen)) ≡ b → x.outcome ≡ y → first-raised os seen (x ∷ zs)
-        ≡ elim b [ true ↦ elim y [ returned v ↦ first-raised os (x.awaitable ∷ seen) zs | raised z ↦ some z ] | false ↦ first-raised os seen zs ]
+    cons : (zs : Arrivals) (b : Bool) (y : Outcome Value Error) → (is_in x.awaitable os && not (is_in x.awaitable seen)) ≡ b → x.outcome ≡ y → first_raised os seen (x ∷ zs)
+        ≡ elim b [ true ↦ elim y [ returned v ↦ first_raised os (x.awaitable ∷ seen) zs | raised z ↦ some z ] | false ↦ first_raised os seen zs ]
     cons zs b y c w =
-        unfold first-raised in (ap₂ (λ (d : Bool) (u : Outcome Value Error). elim d [ true ↦ elim u [ returned v ↦ first-raised os (x.awaitable ∷ seen) zs | raised z ↦ some z ] | false ↦ first-raised os seen zs ]) c w)
+        unfold first_raised in (ap₂ (λ (d : Bool) (u : Outcome Value Error). elim d [ true ↦ elim u [ returned v ↦ first_raised os (x.awaitable ∷ seen) zs | raised z ↦ some z ] | false ↦ first_raised os seen zs ]) c w)
 
     by : (b : Bool) (y : Outcome Value Error) → (is_in x.awaitable os && not (is_in x.awaitable seen)) ≡ b → x.outcome ≡ y
-        → ((sn : List ℕ) → first-raised os sn xs ≡ some e → first-raised os sn (xs ++ ys) ≡ some e) → first-raised os seen (x ∷ (xs ++ ys)) ≡ some e
+        → ((sn : List ℕ) → first_raised os sn xs ≡ some e → first_raised os sn (xs ++ ys) ≡ some e) → first_raised os seen (x ∷ (xs ++ ys)) ≡ some e
     by true (returned v) c w go = cons (xs ++ ys) true (returned v) c w ∙ go (x.awaitable ∷ seen) (sym (cons xs true (returned v) c w) ∙ q)
     by true (raised z) c w go = cons (xs ++ ys) true (raised z) c w ∙ (sym (cons xs true (raised z) c w) ∙ q)
     by false y c w go = cons (xs ++ ys) false y c w ∙ go seen (sym (cons xs false y c w) ∙ q)
@@ -381,16 +381,16 @@ module _ (now : ℕ → Came) (os : List ℕ) where
       by true q k = subst (All (ArrivesWith now os e)) (sym (early_cons x xs true q)) k
       by false q k = subst (All (ArrivesWith now os e)) (sym (early_cons x xs false q)) (here q, k)
 
-  pub first-in-turn : (e : Error) (xs : Arrivals) (seen : List ℕ) → Quiet now os seen → All (Turn e) xs → Raises e xs → first-raised os seen (in_turn xs) ≡ some e
+  pub first_in_turn : (e : Error) (xs : Arrivals) (seen : List ℕ) → Quiet now os seen → All (Turn e) xs → Raises e xs → first_raised os seen (in_turn xs) ≡ some e
   unfolding in_turn
-  first-in-turn e xs seen k a r = by (is_late (raised e)) refl
+  first_in_turn e xs seen k a r = by (is_late (raised e)) refl
     where
-      by : (l : Bool) → is_late (raised e) ≡ l → first-raised os seen (early xs ++ late xs) ≡ some e
+      by : (l : Bool) → is_late (raised e) ≡ l → first_raised os seen (early xs ++ late xs) ≡ some e
       by true q =
-          first-is now os e (early xs ++ late xs) seen k
+          first_is now os e (early xs ++ late xs) seen k
           (all-++ (ArrivesWith now os e) (early xs) (late xs) (all_early (ArrivesWith now os e) xs (all-arrive-with e q xs a)) (all_late (ArrivesWith now os e) xs (all-arrive-with e q xs a)))
           (raises-right e (early xs) (late xs) (raises-late e xs q r))
-      by false q = first_stays os e (early xs) (late xs) seen (first-is now os e (early xs) seen k (early-arrive-with e xs a) (raises-early e xs q r))
+      by false q = first_stays os e (early xs) (late xs) seen (first_is now os e (early xs) seen k (early-arrive-with e xs a) (raises-early e xs q r))
 
 -- ---- the arrivals of items
 
@@ -405,10 +405,10 @@ module _ (was now : ℕ → Came) where
       here none (some y) f g r = (k o y (head_in o os) f g, r)
       here (some x) y f g r = r
 
-  pub raises-own : (e : Error) (p : ℕ) (os : List ℕ) → is_in p os ≡ true → was p ≡ none → now p ≡ some (raised e) → Raises e (arrivals_of was now os)
+  pub raises_own : (e : Error) (p : ℕ) (os : List ℕ) → is_in p os ≡ true → was p ≡ none → now p ≡ some (raised e) → Raises e (arrivals_of was now os)
   unfolding Raises arrives is_in
-  raises-own e p [] i f g = absurd (true≢false (sym i))
-  raises-own e p (o ∷ os) i f g = subst (Raises e) (sym (cons_of was now o os)) (by (in_cons p o os i) (λ j. raises-own e p os j f g))
+  raises_own e p [] i f g = absurd (true≢false (sym i))
+  raises_own e p (o ∷ os) i f g = subst (Raises e) (sym (cons_of was now o os)) (by (in_cons p o os i) (λ j. raises_own e p os j f g))
     where
       more : (x y : Came) (zs : Arrivals) → Raises e zs → Raises e (arrives x y o zs)
       more none none zs r = r
@@ -428,12 +428,12 @@ module _ (was now : ℕ → Came) where
 
 -- the item at place a raises e, those left of it nothing
 pub first_from-left : (now : ℕ → Came) (all : List ℕ) (e : Error) (os seen : List ℕ) (a : ℕ) → ((o : ℕ) → is_in o os ≡ true → is_in o all ≡ true) → Quiet now all seen → a < length os → now (get_or os a 0) ≡ some (raised e)
-    → ((b : ℕ) → b < a → error_of (now (get_or os b 0)) ≡ none) → first-raised all seen (arrivals_of (λ o. none) now os) ≡ some e
-unfolding arrives first-raised
+    → ((b : ℕ) → b < a → error_of (now (get_or os b 0)) ≡ none) → first_raised all seen (arrivals_of (λ o. none) now os) ≡ some e
+unfolding arrives first_raised
 first_from-left now all e [] seen a sub k l q left = absurd (not-suc-le-zero {n = 0} (omega (arith, l)))
 first_from-left now all e (o ∷ os) seen zero sub k l q left =
-    ap (λ (zs : Arrivals). first-raised all seen zs) (cons_of (λ o. none) now o os)
-    ∙ (ap (λ (y : Came). first-raised all seen (arrives none y o (arrivals_of (λ o. none) now os))) q
+    ap (λ (zs : Arrivals). first_raised all seen zs) (cons_of (λ o. none) now o os)
+    ∙ (ap (λ (y : Came). first_raised all seen (arrives none y o (arrivals_of (λ o. none) now os))) q
     ∙ first-is-head)
   where
     unseen : (b : Bool) → is_in o seen ≡ b → b ≡ false
@@ -443,23 +443,23 @@ first_from-left now all e (o ∷ os) seen zero sub k l q left =
         at_seen i = unfold Quiet in (k o i)
     unseen false i = refl
 
-    first-is-head : first-raised all seen (arrives none (some (raised e)) o (arrivals_of (λ o. none) now os)) ≡ some e
+    first-is-head : first_raised all seen (arrives none (some (raised e)) o (arrivals_of (λ o. none) now os)) ≡ some e
     first-is-head =
-        unfold arrives first-raised in (ap (λ (b : Bool). elim b [ true ↦ some e | false ↦ first-raised all seen (arrivals_of (λ o. none) now os) ])
+        unfold arrives first_raised in (ap (λ (b : Bool). elim b [ true ↦ some e | false ↦ first_raised all seen (arrivals_of (λ o. none) now os) ])
         (ap₂ (λ (c d : Bool). c && not d) (sub o (head_in o os)) (unseen (is_in o seen) refl)))
 first_from-left now all e (o ∷ os) seen (suc a) sub k l q left =
-    ap (λ (zs : Arrivals). first-raised all seen zs) (cons_of (λ o. none) now o os)
+    ap (λ (zs : Arrivals). first_raised all seen zs) (cons_of (λ o. none) now o os)
     ∙ by (now o) refl (left 0 (omega arith)) (λ sn s. first_from-left now all e os sn a (λ p i. sub p (tail_in p o os i)) s (omega (arith, l)) q (λ b c. left (suc b) (omega (arith, c))))
   where
     Next : Type 0
-    Next = (sn : List ℕ) → Quiet now all sn → first-raised all sn (arrivals_of (λ o. none) now os) ≡ some e
+    Next = (sn : List ℕ) → Quiet now all sn → first_raised all sn (arrivals_of (λ o. none) now os) ≡ some e
 
-    by : (y : Came) → now o ≡ y → error_of (now o) ≡ none → Next → first-raised all seen (arrives none y o (arrivals_of (λ o. none) now os)) ≡ some e
+    by : (y : Came) → now o ≡ y → error_of (now o) ≡ none → Next → first_raised all seen (arrives none y o (arrivals_of (λ o. none) now os)) ≡ some e
     by none w n go = go seen k
     by (some (raised z)) w n go = absurd_some (sym n ∙ (ap error_of w ∙ error-is z))
     by (some (returned v)) w n go = branch (is_in o all && not (is_in o seen))
       where
-        branch : (b : Bool) → ◌≡◌ {A = Option Error} (elim b [ true ↦ first-raised all (o ∷ seen) (arrivals_of (λ o. none) now os) | false ↦ first-raised all seen (arrivals_of (λ o. none) now os) ]) (some e)
+        branch : (b : Bool) → ◌≡◌ {A = Option Error} (elim b [ true ↦ first_raised all (o ∷ seen) (arrivals_of (λ o. none) now os) | false ↦ first_raised all seen (arrivals_of (λ o. none) now os) ]) (some e)
         branch true = go (o ∷ seen) (quiet-more now all o v seen w k)
         branch false = go seen k
 
@@ -471,10 +471,10 @@ module _ (xs : Arrivals) (c : ℕ → Came) where
   in-cons-order o os = unfold in_order in refl
 
   -- every item has returned: their values
-  pub listed-all : (os : List ℕ) → ((o : ℕ) → is_in o os ≡ true → outcome_of xs o ≡ c o) → none_open (map (λ o. value_of (c o)) os) ≡ true
+  pub listed_all : (os : List ℕ) → ((o : ℕ) → is_in o os ≡ true → outcome_of xs o ≡ c o) → none_open (map (λ o. value_of (c o)) os) ≡ true
       → in_order xs os ≡ listed (values (map (λ o. value_of (c o)) os))
-  listed-all [] k e = unfold in_order values in refl
-  listed-all (o ∷ os) k e = in-cons-order o os ∙ (ap (λ (y : Came). put_first y (in_order xs os)) (k o (head_in o os)) ∙ by (c o) e (λ q. listed-all os (λ p i. k p (tail_in p o os i)) q))
+  listed_all [] k e = unfold in_order values in refl
+  listed_all (o ∷ os) k e = in-cons-order o os ∙ (ap (λ (y : Came). put_first y (in_order xs os)) (k o (head_in o os)) ∙ by (c o) e (λ q. listed_all os (λ p i. k p (tail_in p o os i)) q))
     where
       Rest : Type 0
       Rest = none_open (map (λ o. value_of (c o)) os) ≡ true → in_order xs os ≡ listed (values (map (λ o. value_of (c o)) os))

@@ -1,5 +1,5 @@
 -- A committed gather after an accepted batch and after its results one by one: its items (`same-items`), and that it failed in its own commit before
--- (`cut-reused`). So what holds of it and its arrivals after the one holds after the other (`cut-so-far`).
+-- (`cut-reused`). So what holds of it and its arrivals after the one holds after the other (`cut_so_far`).
 use Rattle.std.specs.Prelude.{◌≡◌, ◌⊎◌, true, false, List, [], ◌∷◌, ◌++◌, map, ℕ, ◌+◌, ◌≤◌, ◌<◌, length}
 use Rattle.std.proofs.Math.Path.{refl, sym, fun_ext}
 use Rattle.std.proofs.Common.{ap, ap₂, subst, ◌∙◌, inl, inr, true≢false, not-suc-le-zero, arith}
@@ -12,7 +12,7 @@ use Rattle.asyncio.specs.Parts.{first_of, count_of}
 use Rattle.machine.specs.Store.{Store, object, place, header}
 use Rattle.machine.specs.Events.{Result}
 use Rattle.machine.specs.Machine.{Event, Shown, shown}
-use Rattle.machine.specs.Gather.{Outcome, Arrival, first-raised}
+use Rattle.machine.specs.Gather.{Outcome, Arrival, first_raised}
 use Rattle.machine.specs.Tests.{is_in}
 use Rattle.machine.specs.History.{items, tells, value_of, error_of}
 use Rattle.machine.specs.Sessions.{Sent, Session, InRange, AllSentInRange, lent_any, send, send_all, session}
@@ -171,15 +171,15 @@ module _ (g : ℕ) (no_result : (ps : List Sent) (r : Result) (l : List ℕ) (e 
         p : look x.store g ≡ Shown.a_gather_failed e
         p = sym (same-look fs es j i k g) ∙ q
 
-        by : (first-raised (items y.history g) [] xs ≡ some e) ⊎ Reused fs g e → (first-raised (items x.history g) [] xs ≡ some e) ⊎ Reused es g e
-        by (inl z) = inl (subst (λ (os : List ℕ). first-raised os [] xs ≡ some e) (same-items fs es j i k g (ap committed p)) z)
+        by : (first_raised (items y.history g) [] xs ≡ some e) ⊎ Reused fs g e → (first_raised (items x.history g) [] xs ≡ some e) ⊎ Reused es g e
+        by (inl z) = inl (subst (λ (os : List ℕ). first_raised os [] xs ≡ some e) (same-items fs es j i k g (ap committed p)) z)
         by (inr z) = inr (r e z)
 
   -- From the pieces of an event to the event.
-  pub cut-so-far : (ps : List Sent) (e : Sent) → AllSentInRange ps → InRange e.event → (xs : Arrivals) → SoFar (ps ++ cut (session ps).store e) (send_all (session ps) (cut (session ps).store e)) g xs
+  pub cut_so_far : (ps : List Sent) (e : Sent) → AllSentInRange ps → InRange e.event → (xs : Arrivals) → SoFar (ps ++ cut (session ps).store e) (send_all (session ps) (cut (session ps).store e)) g xs
       → SoFar (ps ++ (e ∷ [])) (send (session ps) e) g xs
   unfolding cut cut_by send_all
-  cut-so-far ps e i a xs w = by (accepted_batch (lent_any (session ps).store e).answer e.event) refl w
+  cut_so_far ps e i a xs w = by (accepted_batch (lent_any (session ps).store e).answer e.event) refl w
     where
       x0 : Session
       x0 = session ps

@@ -31,7 +31,7 @@ use Rattle.machine_theorems.specs.Soundness.Stores.{SoundStore}
 use Rattle.machine_sessions.specs.Queue.Following.{Sends, stepped, short, sends, session_follows}
 use Rattle.machine_sessions.specs.Places.Agrees.{no_value}
 use Rattle.machine_sessions.specs.Places.AgreesSessions.{session_agrees}
-use Rattle.machine_sessions.specs.Places.PlacesHold.{shown-like, row_outcome, outcome-row}
+use Rattle.machine_sessions.specs.Places.PlacesHold.{shown_like, row_outcome, outcome-row}
 use Rattle.machine_sessions.specs.Stall.Outcomes.{outcome_of}
 use Rattle.machine_sessions.specs.Gather.OutcomesStay.{unmade-none}
 use Rattle.machine_sessions.specs.Gather.FailingSessions.{look-row}
@@ -159,7 +159,7 @@ batch-alike x rs l h a =
 -- ---- what is shown, and what objects have come to
 
 shown-rows : (s : Store) (x : Object) → shown s x ≡ shown (rows_of s) x
-shown-rows s x = shown-like (rows_of s) s (λ p. unfold place in refl) x
+shown-rows s x = shown_like (rows_of s) s (λ p. unfold place in refl) x
 
 module _ (fs es : List Sent) (j : AllSentInRange fs) (i : AllSentInRange es) (k : Alike (session fs) (session es)) where
   abbrev s : Store

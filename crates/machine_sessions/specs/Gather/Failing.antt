@@ -267,17 +267,17 @@ commit_external_same (ExternalFutureState.Pending a r) = (awaiter_same a, refl)
 commit_external_same (ExternalFutureState.Resolved v) = refl
 commit_external_same (ExternalFutureState.Failed e) = refl
 
-commit_gather-same : (x : GatherState) → GatherCommits x x
-commit_gather-same GatherState.Pending = tt
-commit_gather-same (GatherState.Awaited a m) = refl
-commit_gather-same GatherState.Completed = refl
-commit_gather-same (GatherState.Failed e) = refl
+commit_gather_same : (x : GatherState) → GatherCommits x x
+commit_gather_same GatherState.Pending = tt
+commit_gather_same (GatherState.Awaited a m) = refl
+commit_gather_same GatherState.Completed = refl
+commit_gather_same (GatherState.Failed e) = refl
 
 coroutine-stays : (x : CoroutineState) → CoroutineStays x x
 coroutine-stays x = refl
 
 pub commit_same : (x : Object) → CommitMoves x x
-commit_same = moves_same CoroutineStays ExternalCommits GatherCommits coroutine-stays commit_external_same commit_gather-same
+commit_same = moves_same CoroutineStays ExternalCommits GatherCommits coroutine-stays commit_external_same commit_gather_same
 
 -- so deliveries alone, and a commit alone, move rows
 pub climb_moves : (x y : Object) → ClimbMoves x y → RowMoves x y

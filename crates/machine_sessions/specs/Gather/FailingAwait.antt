@@ -34,7 +34,7 @@ use Rattle.asyncio.specs.States.{pick, is_live, is_unstarted, is_blocked}
 use Rattle.machine.specs.Store.{Store, view, task, object, place, header, put_task, put_object, add_log, restate, set_state, blocked}
 use Rattle.machine.specs.Scheduler.{AwaitedGather, PendingExternal, as_awaited, as_pending, live}
 use Rattle.machine.specs.Commit.{Poll, ready, raised, pending, await_pending, await_external, Committed, commit_gather_tree}
-use Rattle.machine.specs.Events.{How, start, value, raises, inline, Control, runs, Switched, Awaited, Result, activate, resume-next, stays, go_on, await_coroutine, await_external_future, await_gather, await_object, exec_get_awaitable}
+use Rattle.machine.specs.Events.{How, start, value, raises, inline, Control, runs, Switched, Awaited, Result, activate, resume_next, stays, go_on, await_coroutine, await_external_future, await_gather, await_object, exec_get_awaitable}
 use Rattle.machine.specs.Machine.{Event, Answer, Step, answer_await, task_completes, task_fails, runner, end_main, switched, refusals, refusal, full, no_number, unmade, any_of, accept, in_running, in_waiting, in_both}
 use Rattle.machine.specs.Sound.{is_ended, value_known, option_known, object_in_range, places_below}
 use Rattle.machine.specs.History.{nothing_said, says, tells, is_none, done_only, spawned_by}
@@ -49,18 +49,18 @@ use Rattle.machine_laws.specs.TestLaws.{or_left, or_right, holds}
 use Rattle.machine_theorems.specs.Soundness.RowFacts.{unstarted-live}
 use Rattle.machine_theorems.specs.Soundness.Stores.{idle, SoundDuring, SoundStore}
 use Rattle.machine_theorems.specs.Soundness.Deliver.{awaiter_is}
-use Rattle.machine_theorems.specs.Soundness.Exits.{runner-low, runner-runs, runner-live}
-use Rattle.machine_theorems.specs.Soundness.Await.{wait-external}
-use Rattle.machine_theorems.specs.Soundness.AwaitGather.{EndOk, waits-blocks, commit-keeps}
-use Rattle.machine_theorems.specs.Soundness.Preserved.{running, waiting, await-made, complete-known, results-apply}
+use Rattle.machine_theorems.specs.Soundness.Exits.{runner_low, runner-runs, runner-live}
+use Rattle.machine_theorems.specs.Soundness.Await.{wait_external}
+use Rattle.machine_theorems.specs.Soundness.AwaitGather.{EndOk, waits_blocks, commit_keeps}
+use Rattle.machine_theorems.specs.Soundness.Preserved.{running, waiting, await-made, complete-known, results_apply}
 use Rattle.machine_sessions.specs.Gather.Failing.{RowMoves, CommitMoves, ClimbMoves, FailedRow, AwaitedState, IsUnmade, row_same, climb-same, climb-failed, climb-awaited, climb-pending, commit_then, commit_moves, commit_awaited, commit_was, commit_failed, commit_takes, failed-awaited}
 use Rattle.machine_sessions.specs.Gather.FailingRows.{ItemAt, Raised, ExitAs, before, TaskAs, Because, Failing}
 use Rattle.machine_sessions.specs.Gather.FailingCycle.{LeftAs, resume-left}
 use Rattle.machine_sessions.specs.Gather.FailingStated.{Brings, reuse, RunnerFails, RunnerEnds, FailedBy, CommitFailed, ItemSlot, Took, Opens, TookTask, TaskFrom, lived, is_new, EventFails}
 use Rattle.machine_sessions.specs.Gather.FailingEvents.{results-fails, failure_fails, completion_fails, resume-fails, cancel-fails, end_fails}
 use Rattle.machine_sessions.specs.Gather.FailingMakes.{coroutine-fails, pending-fails, call-fails, settled-fails, gather-fails, read-fails}
-use Rattle.machine_sessions.specs.Gather.FailingCommitSteps.{Committing, committing-begins, committing-row, Taking, taking-begins, taking-row, Opening, opening-begins, opening-row}
-use Rattle.machine_sessions.specs.Gather.FailingCommit.{Unwound, EndFails, commit-fails}
+use Rattle.machine_sessions.specs.Gather.FailingCommitSteps.{Committing, committing_begins, committing_row, Taking, taking_begins, taking_row, Opening, opening_begins, opening_row}
+use Rattle.machine_sessions.specs.Gather.FailingCommit.{Unwound, EndFails, commit_fails}
 
 -- an await says so
 await_commits : (o : ℕ) → is_none (says (Event.await o)).awaits ≡ false
@@ -93,10 +93,10 @@ same_unwound s =
       tasks = λ t l. refl;
       exits = λ t. refl;
       spawned = λ t b l. refl;
-      for-it = λ t b a l. absurd (not-suc-le-zero {n = 0} (omega arith));
+      for_it = λ t b a l. absurd (not-suc-le-zero {n = 0} (omega arith));
       slot = λ t a l. absurd (not-suc-le-zero {n = 0} (omega arith));
-      takes = taking-begins s;
-      opens = opening-begins s (λ p. ⊥);
+      takes = taking_begins s;
+      opens = opening_begins s (λ p. ⊥);
     }
 
 -- a commit without an error
@@ -110,7 +110,7 @@ commits_unwound s u k t op =
       tasks = k.tasks;
       exits = k.exits;
       spawned = k.spawned;
-      for-it = k.for-it;
+      for_it = k.for_it;
       slot = k.slot;
       takes = t;
       opens = op;
@@ -149,7 +149,7 @@ module _ (o : ℕ) (s : Store) (w : SoundStore s) (t : ℕ) (m : (header s).mome
         unstarted = λ v l e. by v e (old_or_new (header s).next v);
         exits = λ v e. before (sym (k.exits v) ∙ e);
         spawned = k.spawned;
-        low = λ v i e. omega (arith, runner-low s t w m, k.grows, same-task t v h i e);
+        low = λ v i e. omega (arith, runner_low s t w m, k.grows, same-task t v h i e);
         started = λ v i e. subst (λ (j : ℕ). is_unstarted (task u j).state ≡ false) (same-task t v h i e) on;
         alive = λ v i e. subst (λ (j : ℕ). is_live (task u j).state ≡ true) (same-task t v h i e) lives;
         starts = λ v c f e. absurd (subst NoStart (same-how t v h (start c f) e) ns);
@@ -162,14 +162,14 @@ module _ (o : ℕ) (s : Store) (w : SoundStore s) (t : ℕ) (m : (header s).mome
       same-how t v h i e = cc
 
       lives : is_live (task u t).state ≡ true
-      lives = ap (λ (r : Task). is_live r.state) (k.tasks t (runner-low s t w m)) ∙ ap is_live (runner-runs s t w m)
+      lives = ap (λ (r : Task). is_live r.state) (k.tasks t (runner_low s t w m)) ∙ ap is_live (runner-runs s t w m)
 
       on : is_unstarted (task u t).state ≡ false
-      on = ap (λ (r : Task). is_unstarted r.state) (k.tasks t (runner-low s t w m)) ∙ ap is_unstarted (runner-runs s t w m)
+      on = ap (λ (r : Task). is_unstarted r.state) (k.tasks t (runner_low s t w m)) ∙ ap is_unstarted (runner-runs s t w m)
 
       from : (v : ℕ) → v < (header u).next → is_live (task u v).state ≡ true → (v < (header s).next) ⊎ ((header s).next ≤ v) → TaskFrom s u v
       from v l e (inl a) = lived a (sym (ap (λ (r : Task). is_live r.state) (k.tasks v a)) ∙ e) (ap (λ (r : Task). r.coroutine.0) (k.tasks v a)) (ap (λ (r : Task). r.awaiter) (k.tasks v a))
-      from v l e (inr a) = is_new a (λ b. k.for-it v b a l) (k.slot v a l)
+      from v l e (inr a) = is_new a (λ b. k.for_it v b a l) (k.slot v a l)
 
       by : (v : ℕ) → is_unstarted (task u v).state ≡ true → (v < (header s).next) ⊎ ((header s).next ≤ v) → ((header s).next ≤ v) ⊎ (is_unstarted (task s v).state ≡ true)
       by v e (inl l) = inr (sym (ap (λ (r : Task). is_unstarted r.state) (k.tasks v l)) ∙ e)
@@ -201,7 +201,7 @@ module _ (o : ℕ) (s : Store) (w : SoundStore s) (t : ℕ) (m : (header s).mome
     head = unfold header add_log set_state put_task in refl
 
     t-low : t < (header s).next
-    t-low = runner-low s t w m
+    t-low = runner_low s t w m
 
     abbrev r : Task
     r = restate (task x t) (TaskState.Blocked (heap_id o))
@@ -284,11 +284,11 @@ module _ (o : ℕ) (s : Store) (w : SoundStore s) (t : ℕ) (m : (header s).mome
     unfolding says nothing_said
     await-reuse = reuse refl
 
-    left : LeftAs (Failing s b Young (Brings ev) (RunnerEnds ev s) (RunnerFails ev s) ⊥) (resume-next activate b)
+    left : LeftAs (Failing s b Young (Brings ev) (RunnerEnds ev s) (RunnerFails ev s) ⊥) (resume_next activate b)
     left =
         resume-left s b Young (Brings ev) (RunnerEnds ev s) (RunnerFails ev s) Nothing h.kept.but up older apart await-reuse D hd (same_next ∙ ap (λ (i : Header). i.next) (sym head)) b h begins
 
-    blocks-fails : (n : ℕ) → EventFails ev s (answer_await (record { store = (resume-next activate b).store; control = (resume-next activate b).control; steps = n }))
+    blocks-fails : (n : ℕ) → EventFails ev s (answer_await (record { store = (resume_next activate b).store; control = (resume_next activate b).control; steps = n }))
     unfolding answer_await tells
     blocks-fails n =
         record {
@@ -312,7 +312,7 @@ module _ (o : ℕ) (s : Store) (w : SoundStore s) (t : ℕ) (m : (header s).mome
         }
       where
         u : Store
-        u = (resume-next activate b).store
+        u = (resume_next activate b).store
 
         k : Failing s b Young (Brings ev) (RunnerEnds ev s) (RunnerFails ev s) ⊥ u
         k = left.failing
@@ -370,7 +370,7 @@ module _ (o : ℕ) (s : Store) (w : SoundStore s) (t : ℕ) (m : (header s).mome
             lived l (live-was v l y.live) (ap (λ (i : HeapId). i.0) y.coroutine ∙ (coroutine-as v ∙ ap (λ (i : Task). i.coroutine.0) (c.tasks v l))) (y.awaiter ∙ awaiter_same v l)
         from v e n (inr l) =
             let y = k.tasks v n e in
-            is_new l (λ i. k.spawned v i ∙ (same_log v i ∙ (c.for-it v i l (subst (λ (j : Header). v < j.next) head n) ∙ ap (λ (j : ℕ). some j) (sym (ap (λ (i : HeapId). i.0) y.coroutine ∙ coroutine-as v)))))
+            is_new l (λ i. k.spawned v i ∙ (same_log v i ∙ (c.for_it v i l (subst (λ (j : Header). v < j.next) head n) ∙ ap (λ (j : ℕ). some j) (sym (ap (λ (i : HeapId). i.0) y.coroutine ∙ coroutine-as v)))))
             (subst (λ (i : Awaiter). ItemSlot s (task u v).coroutine.0 i) (sym (y.awaiter ∙ new-awaiter v l))
             (subst (λ (j : ℕ). ItemSlot s j (task x v).awaiter) (sym (ap (λ (i : HeapId). i.0) y.coroutine ∙ coroutine-as v)) (c.slot v l (subst (λ (j : Header). v < j.next) head n))))
 
@@ -400,10 +400,10 @@ module _ (o : ℕ) (s : Store) (w : SoundStore s) (t : ℕ) (m : (header s).mome
           tasks = λ v l. unfold task put_object in refl;
           exits = λ v. unfold put_object in refl;
           spawned = λ v b l. unfold put_object in refl;
-          for-it = λ v b a l. absurd (not-suc-le-zero {n = 0} (omega (arith, a, subst (λ (h : Header). v < h.next) (header_put-object s o y0) l)));
+          for_it = λ v b a l. absurd (not-suc-le-zero {n = 0} (omega (arith, a, subst (λ (h : Header). v < h.next) (header_put-object s o y0) l)));
           slot = λ v a l. absurd (not-suc-le-zero {n = 0} (omega (arith, a, subst (λ (h : Header). v < h.next) (header_put-object s o y0) l)));
-          takes = taking-row s s o y0 w.memory.sized low-o (subst ObjectFits e (object-fits s o)) (λ r q. not-pending f r q) (taking-begins s);
-          opens = opening-row s (λ p. ⊥) (λ p. ⊥) s o y0 w.memory.sized low-o (subst ObjectFits e (object-fits s o)) (λ v n q. not-awaited f v q) (λ p d n. n) (opening-begins s (λ p. ⊥));
+          takes = taking_row s s o y0 w.memory.sized low-o (subst ObjectFits e (object-fits s o)) (λ r q. not-pending f r q) (taking_begins s);
+          opens = opening_row s (λ p. ⊥) (λ p. ⊥) s o y0 w.memory.sized low-o (subst ObjectFits e (object-fits s o)) (λ v n q. not-awaited f v q) (λ p d n. n) (opening_begins s (λ p. ⊥));
         }
       where
         y0 : Object
@@ -439,7 +439,7 @@ module _ (o : ℕ) (s : Store) (w : SoundStore s) (t : ℕ) (m : (header s).mome
     unfolding await_external_future await_external await_pending go_on
     external-awaited c (ExternalFutureState.Pending Awaiter.Nobody r) e =
         blocks-fails (put_object s o y) (sized-put_object s o y w.memory.sized) commits (λ p q d. took p q d (ℕ_discrete p o)) (λ p v d. opened p v d (ℕ_discrete p o)) low-o (λ p. T (is_completed (kind (object s p)))) (header s) (ap (λ (h : Header). h.next) (sym (header_put-object s o y)))
-        (wait-external s t w m o (record { call = c; awaiter = Awaiter.Nobody; stored = r }) made (ap as_pending e ∙ (unfold as_pending in refl)) refl) 0
+        (wait_external s t w m o (record { call = c; awaiter = Awaiter.Nobody; stored = r }) made (ap as_pending e ∙ (unfold as_pending in refl)) refl) 0
       where
         y : Object
         y = Object.ExternalFuture c (ExternalFutureState.Pending (Awaiter.Task (task_id t)) r)
@@ -447,7 +447,7 @@ module _ (o : ℕ) (s : Store) (w : SoundStore s) (t : ℕ) (m : (header s).mome
         fits : ObjectFits y
         fits =
             let old : ObjectFits (Object.ExternalFuture c (ExternalFutureState.Pending Awaiter.Nobody r)) = subst ObjectFits e (object-fits s o) in
-            (old.0, (omega (arith, runner-low s t w m, (header-fits s).next_fits), old.1.1))
+            (old.0, (omega (arith, runner_low s t w m, (header-fits s).next_fits), old.1.1))
 
         no-coroutine : (c : CallId) (r : OptionValue) (f : ℕ) → Object.ExternalFuture c (ExternalFutureState.Pending Awaiter.Nobody r) ≡ Object.Coroutine f CoroutineState.New → ⊥
         no-coroutine c r f q = let z : ◌≡◌ {A = ℕ} 0 1 = cc in not-suc-le-zero {n = 0} (omega arith)
@@ -469,8 +469,8 @@ module _ (o : ℕ) (s : Store) (w : SoundStore s) (t : ℕ) (m : (header s).mome
 
         commits : Committing s (put_object s o y)
         commits =
-            committing-row s s o y w.memory.sized low-o fits
-            (commit_takes (object s o) c r (Awaiter.Task (task_id t)) (subst (CommitMoves (object s o)) e ((committing-begins s).moves o))) (λ f q. no-coroutine c r f (sym e ∙ q)) (committing-begins s)
+            committing_row s s o y w.memory.sized low-o fits
+            (commit_takes (object s o) c r (Awaiter.Task (task_id t)) (subst (CommitMoves (object s o)) e ((committing_begins s).moves o))) (λ f q. no-coroutine c r f (sym e ∙ q)) (committing_begins s)
     external-awaited c (ExternalFutureState.Pending (Awaiter.Task v) r) e = stays-fails s (raises Error.FutureReuse) 0 tt (same_unwound s)
     external-awaited c (ExternalFutureState.Pending (Awaiter.GatherSlot g v) r) e = stays-fails s (raises Error.FutureReuse) 0 tt (same_unwound s)
     external-awaited c (ExternalFutureState.Resolved v) e = stays-fails s (value v) 0 tt (same_unwound s)
@@ -478,7 +478,7 @@ module _ (o : ℕ) (s : Store) (w : SoundStore s) (t : ℕ) (m : (header s).mome
 
     gather-awaited : (f n : ℕ) (x : GatherState) → object s o ≡ Object.GatherFuture f n x → Fails (await_gather s t o x)
     unfolding await_gather
-    gather-awaited f n GatherState.Pending e = by (commit_gather_tree s o (Awaiter.Task (task_id t))) (commit-keeps s t w m o f n made e) (commit-fails s t o f n w m made e)
+    gather-awaited f n GatherState.Pending e = by (commit_gather_tree s o (Awaiter.Task (task_id t))) (commit_keeps s t w m o f n made e) (commit_fails s t o f n w m made e)
       where
         opened : (u : Store) → Opening s (λ p. p ≡ o) u → ((v : AwaitedGather) → as_awaited (object u o) ≡ some v → v.awaiter ≡ Awaiter.Task (task_id t)) → (p : ℕ) (v : AwaitedGather)
             → as_awaited (object u p) ≡ some v → Dec (p ≡ o) → Opens s p v.awaiter ⊎ TookTask ev p v.awaiter
@@ -492,7 +492,7 @@ module _ (o : ℕ) (s : Store) (w : SoundStore s) (t : ℕ) (m : (header s).mome
             at : (p : Poll) → EndOk o t c.store p → EndFails s o t c.store p → Fails (go_on t o c.steps c.store p)
             at (ready v) h k = unfold go_on in (stays-fails c.store (value v) c.steps tt (commits_unwound s c.store k.0 k.1 k.2))
             at (raised v) h k = unfold go_on in (stays-fails c.store (raises v) c.steps tt k)
-            at pending h k = unfold go_on in (blocks-fails c.store h.ends.memory.sized k.0 (λ p r e. inl (k.1 p r e)) (λ p v e. opened c.store k.2 k.3 p v e (ℕ_discrete p o)) low-o Nothing (header c.store) refl (waits-blocks o t c.store h) c.steps)
+            at pending h k = unfold go_on in (blocks-fails c.store h.ends.memory.sized k.0 (λ p r e. inl (k.1 p r e)) (λ p v e. opened c.store k.2 k.3 p v e (ℕ_discrete p o)) low-o Nothing (header c.store) refl (waits_blocks o t c.store h) c.steps)
     gather-awaited f n (GatherState.Awaited a k) e = stays-fails s (raises Error.GatherReuse) 0 tt (same_unwound s)
     gather-awaited f n GatherState.Completed e = stays-fails s (value (Value.List (heap_id o))) 0 tt (same_unwound s)
     gather-awaited f n (GatherState.Failed x) e = stays-fails s (raises x) 0 tt (same_unwound s)
@@ -546,7 +546,7 @@ module _ (s : Store) (w : SoundStore s) where
       let q = refusal-rest s (Event.complete v) r in
       unfold accept in (completes-fails (runner (header s).moment) v (running s w _ q) (complete-known s w v q))
   accept-fails (Event.fail n) i r = unfold accept in (fails-fails (runner (header s).moment) n (running s w _ (refusal-rest s (Event.fail n) r)) i)
-  accept-fails (Event.results rs) i r = unfold accept in (results-fails rs s w (results-apply s w rs (refusal-rest s (Event.results rs) r)))
+  accept-fails (Event.results rs) i r = unfold accept in (results-fails rs s w (results_apply s w rs (refusal-rest s (Event.results rs) r)))
   accept-fails Event.resume i r = unfold accept in (resume-fails s w (waiting s w [] (refusal-rest s Event.resume r)).0)
   accept-fails (Event.cancel t) i r = unfold accept in (cancel-fails s t w)
   accept-fails (Event.show o) i r = unfold accept in (read-fails (Event.show o) s _ (unfold tells done_only in refl))

@@ -30,7 +30,7 @@ use Rattle.machine_laws.specs.DeliveryLaws.{absurd_some, awaited-object, awaited
 use Rattle.machine_theorems.specs.Soundness.FillLaws.{fill_less}
 use Rattle.machine_theorems.specs.Soundness.Deliver.{awaiter_is}
 use Rattle.machine_sessions.specs.Gather.Failing.{ClimbMoves, GatherClimbs, AsAwaited, FailedRow, climb-awaited}
-use Rattle.machine_sessions.specs.Gather.FailingRows.{ItemAt, Raised, by_gather, Because, Failing, places-failing, row-failing, wakes-failing}
+use Rattle.machine_sessions.specs.Gather.FailingRows.{ItemAt, Raised, by_gather, Because, Failing, places_failing, row_failing, wakes_failing}
 
 -- an awaited gather's row may go on as its state may
 pub awaited_climbs : (x : Object) (w : AwaitedGather) (y : GatherState) → as_awaited x ≡ some w → GatherClimbs (GatherState.Awaited w.awaiter w.open-places) y → ClimbMoves x (Object.GatherFuture w.first w.count y)
@@ -64,9 +64,9 @@ module _ (s m : Store) (Young : ℕ → Type 0) (B : Error → Type 0) (X : ℕ 
   Up o (Awaiter.Task t) = Unit {0}
   Up o (Awaiter.GatherSlot p x) = (p.0 < (header m).made) × ((w : AwaitedGather) → as_awaited (object m p.0) ≡ some w → ItemAt m p.0 o × (Young p.0 → ⊥))
 
-  pub slotted-up : (o p x : ℕ) → Slotted (header m).made (object m) (place m) o p x → ((w : AwaitedGather) → as_awaited (object m p) ≡ some w → Young p → ⊥) → Up o (Awaiter.GatherSlot (heap_id p) (heap_id x))
+  pub slotted_up : (o p x : ℕ) → Slotted (header m).made (object m) (place m) o p x → ((w : AwaitedGather) → as_awaited (object m p) ≡ some w → Young p → ⊥) → Up o (Awaiter.GatherSlot (heap_id p) (heap_id x))
   unfolding first_of count_of
-  slotted-up o p x sl old = (
+  slotted_up o p x sl old = (
     sl.made,
     λ w e.
         let op : Open (place m) w o = sl.opens w e in
@@ -84,7 +84,7 @@ module _ (s m : Store) (Young : ℕ → Type 0) (B : Error → Type 0) (X : ℕ 
     gather-up g w Awaiter.Nobody l e old q = tt
     gather-up g w (Awaiter.Task t) l e old q = tt
     gather-up g w (Awaiter.GatherSlot p x) l e old q =
-        slotted-up g p.0 x.0 (sound.object-slots g l (λ z. z) p.0 x.0 (awaiter_is (object m g) w e ∙ q)) (λ v d y. old (up g p.0 x.0 w l e q y))
+        slotted_up g p.0 x.0 (sound.object-slots g l (λ z. z) p.0 x.0 (awaiter_is (object m g) w e ∙ q)) (λ v d y. old (up g p.0 x.0 w l e q y))
 
     module _ (R : ℕ → Error → Type 0) (Fr : Type 0) where
       abbrev K : Store → Type 0
@@ -97,7 +97,7 @@ module _ (s m : Store) (Young : ℕ → Type 0) (B : Error → Type 0) (X : ℕ 
       to_task u t x l f n k = by (is_blocked (task u t).state) refl
         where
           by : (b : Bool) → is_blocked (task u t).state ≡ b → K (pick b (record { store = add_log (make_ready u t x) (reached t); woken = some t }) (nobody_woken u)).store
-          by true q = wakes-failing s m Young B X R Fr u t x l f q n k
+          by true q = wakes_failing s m Young B X R Fr u t x l f q n k
           by false q = k
 
       climbs : (go : Store → Awaiter → Delivery) (u : Store) (a : Option Awaiter) → K u → ((b : Awaiter) → a ≡ some b → K (go u b).store) → K (climb go u a).store
@@ -122,7 +122,7 @@ module _ (s m : Store) (Young : ℕ → Type 0) (B : Error → Type 0) (X : ℕ 
               n = put_places u f.places
 
               k1 : K n
-              k1 = places-failing s m Young B X R Fr u f.places (length-fill_from w.count u.places w.open-places w.first x v 0 ∙ k.sized.places-sized) k
+              k1 = places_failing s m Young B X R Fr u f.places (length-fill_from w.count u.places w.open-places w.first x v 0 ∙ k.sized.places-sized) k
 
               e1 : as_awaited (object n g) ≡ some w
               e1 = unfold object put_places in e
@@ -135,10 +135,10 @@ module _ (s m : Store) (Young : ℕ → Type 0) (B : Error → Type 0) (X : ℕ 
 
               left : (b : Bool) → K (resolve_left b n g w f.open-places).store
               left true = unfold resolve_left in
-                  (row-failing s m Young B X R Fr n g _ l (fits.0, tt) (awaited_climbs (object n g) w GatherState.Completed e1 tt) (λ a c d y p q. absurd (subst FailedRow (sym q) tt))
+                  (row_failing s m Young B X R Fr n g _ l (fits.0, tt) (awaited_climbs (object n g) w GatherState.Completed e1 tt) (λ a c d y p q. absurd (subst FailedRow (sym q) tt))
                   (λ i a q. awaited-coroutine (object n g) w a CoroutineState.New e1 q) k1)
               left false = unfold resolve_left in
-                  (row-failing s m Young B X R Fr n g _ l (fits.0, (fits.1.0, omega (arith, less, fits.1.1))) (awaited_climbs (object n g) w (GatherState.Awaited w.awaiter f.open-places) e1 refl)
+                  (row_failing s m Young B X R Fr n g _ l (fits.0, (fits.1.0, omega (arith, less, fits.1.1))) (awaited_climbs (object n g) w (GatherState.Awaited w.awaiter f.open-places) e1 refl)
                   (λ a c d y p q. absurd (subst FailedRow (sym q) tt)) (λ i a q. awaited-coroutine (object n g) w a CoroutineState.New e1 q) k1)
 
       sends-value : (go : Store → Awaiter → Value → Delivery) → ((u : Store) (a : Awaiter) (v : Value) → AwaiterFits a → ValueFits v → K u → K (go u a v).store)
@@ -157,9 +157,9 @@ module _ (s m : Store) (Young : ℕ → Type 0) (B : Error → Type 0) (X : ℕ 
       climbs-value (suc n) u a v f fv k = sends-value (λ y b w. climb_value n y b w) (λ y b w. climbs-value n y b w) u a v f fv k
 
       -- a value goes up: nothing fails
-      pub success-failing : (u : Store) (a : Awaiter) (v : Value) → AwaiterFits a → ValueFits v → K u → K (deliver_awaiter_success u a v).store
+      pub success_failing : (u : Store) (a : Awaiter) (v : Value) → AwaiterFits a → ValueFits v → K u → K (deliver_awaiter_success u a v).store
       unfolding deliver_awaiter_success
-      success-failing u a v f fv k = sends-value (λ y b w. climb_value (awaited_count u) y b w) (λ y b w. climbs-value (awaited_count u) y b w) u a v f fv k
+      success_failing u a v f fv k = sends-value (λ y b w. climb_value (awaited_count u) y b w) (λ y b w. climbs-value (awaited_count u) y b w) u a v f fv k
 
       -- ---- an error e, of those that the event brings
 
@@ -171,7 +171,7 @@ module _ (s m : Store) (Young : ℕ → Type 0) (B : Error → Type 0) (X : ℕ 
             by : (w : Option AwaitedGather) → as_awaited (object u p) ≡ w → K (fail_awaited u p e w).store
             by none q = unfold fail_awaited in k
             by (some w) q = unfold fail_awaited in
-                (row-failing s m Young B X R Fr u p _ l ((awaited-fits u p w q).0, fits) (awaited_climbs (object u p) w (GatherState.Failed e) q tt) (λ f n d y i j. why d (same d f n j))
+                (row_failing s m Young B X R Fr u p _ l ((awaited-fits u p w q).0, fits) (awaited_climbs (object u p) w (GatherState.Failed e) q tt) (λ f n d y i j. why d (same d f n j))
                 (λ i a j. awaited-coroutine (object u p) w a CoroutineState.New q j) k)
               where
                 same : (d : Error) (f n : ℕ) → Object.GatherFuture w.first w.count (GatherState.Failed e) ≡ Object.GatherFuture f n (GatherState.Failed d) → e ≡ d
@@ -208,6 +208,6 @@ module _ (s m : Store) (Young : ℕ → Type 0) (B : Error → Type 0) (X : ℕ 
         climbs-error (suc n) u o a f i r k = sends-error (λ y b w. climb_error n y b w) (λ y b c. climbs-error n y b c) u o a f i r k
 
         -- an error goes up, from o
-        pub failure-failing : (u : Store) (o : ℕ) (a : Awaiter) → AwaiterFits a → Up o a → Raised s R u o e → K u → K (deliver_awaiter_failure u a e).store
+        pub failure_failing : (u : Store) (o : ℕ) (a : Awaiter) → AwaiterFits a → Up o a → Raised s R u o e → K u → K (deliver_awaiter_failure u a e).store
         unfolding deliver_awaiter_failure
-        failure-failing u o a f i r k = sends-error (λ y b w. climb_error (awaited_count u) y b w) (λ y b c. climbs-error (awaited_count u) y b c) u o a f i r k
+        failure_failing u o a f i r k = sends-error (λ y b w. climb_error (awaited_count u) y b w) (λ y b c. climbs-error (awaited_count u) y b c) u o a f i r k

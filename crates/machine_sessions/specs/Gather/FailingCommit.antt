@@ -37,17 +37,17 @@ use Rattle.machine_laws.specs.DeliveryLaws.{absurd_some, awaited-object, awaited
 use Rattle.machine_laws.specs.CommitLaws.{StopKeeps, step_kinds, nested_fuel, settled_fuel}
 use Rattle.machine_theorems.specs.Bounds.Bits.{none-set}
 use Rattle.machine_theorems.specs.Soundness.Fill.{gather_within, open_small, awaits_on}
-use Rattle.machine_theorems.specs.Soundness.Exits.{runner-low}
+use Rattle.machine_theorems.specs.Soundness.Exits.{runner_low}
 use Rattle.machine_theorems.specs.Soundness.Stores.{SoundStore}
 use Rattle.machine_theorems.specs.Soundness.Memory.{Memory}
 use Rattle.machine_theorems.specs.Soundness.CommitSteps.{wider, wider_small}
 use Rattle.machine_theorems.specs.Soundness.CommitInv.{OnStack, OnTop, Stacked, bottom, above, Inv, with_state-is}
-use Rattle.machine_theorems.specs.Soundness.CommitLoop.{awaits_fits, Commits, settle-next}
+use Rattle.machine_theorems.specs.Soundness.CommitLoop.{awaits_fits, Commits, settle_next}
 use Rattle.machine_theorems.specs.Soundness.CommitItems.{AtEnd, AtNested, AtError, StopOk, inv_count}
 use Rattle.machine_theorems.specs.Soundness.AwaitGather.{nested_commits, frame-stops, commit_begins}
 use Rattle.machine_sessions.specs.Gather.Failing.{RowMoves, CommitMoves, FailedRow, commit_moves, commit_failed, commit_pending, commit_places, failed-awaited}
 use Rattle.machine_sessions.specs.Gather.FailingStated.{Passed, Settled, Other, Busy, Reuses, coroutine_reused, future_reused, gather_reused, PollRaises, broken, failed, reuses, item_at, ItemSlot, Took, Opens, CommitFailed}
-use Rattle.machine_sessions.specs.Gather.FailingCommitSteps.{Committing, committing-begins, committing-row, opened_moves, not-coroutine, Taking, taking-begins, taking-gather, Opening, opening-begins, opening-row, Calm, Level, Levels, Going, Onward, keeps_same, level-onward, levels-onward, going-opens, going-fills}
+use Rattle.machine_sessions.specs.Gather.FailingCommitSteps.{Committing, committing_begins, committing_row, opened_moves, not-coroutine, Taking, taking_begins, taking_gather, Opening, opening_begins, opening_row, Calm, Level, Levels, Going, Onward, keeps_same, level_onward, levels_onward, going_opens, going_fills}
 use Rattle.machine_sessions.specs.Gather.FailingCommitItems.{AtRaise, AtDone, StopFails, items-fails, stack_above}
 
 -- a pending gather is not awaited
@@ -157,7 +157,7 @@ module _ (s : Store) where
     pub tasks : (t : ℕ) → t < (header s).next → task u t ≡ task s t
     pub exits : (t : ℕ) → exits_in u.log t ≡ exits_in s.log t
     pub spawned : (t : ℕ) (b : Option ℕ) → t < (header s).next → spawned_by b u.log t ≡ spawned_by b s.log t
-    pub for-it : (t : ℕ) (b : Option ℕ) → (header s).next ≤ t → t < (header u).next → spawned_by b u.log t ≡ some (task u t).coroutine.0
+    pub for_it : (t : ℕ) (b : Option ℕ) → (header s).next ≤ t → t < (header u).next → spawned_by b u.log t ≡ some (task u t).coroutine.0
     pub slot : (t : ℕ) → (header s).next ≤ t → t < (header u).next → ItemSlot s (task u t).coroutine.0 (task u t).awaiter
     pub takes : Taking s u
     pub opens : Opening s (λ p. ⊥) u
@@ -253,7 +253,7 @@ module _ (s : Store) where
         tasks = λ i l. same-task i ∙ c.tasks i l;
         exits = λ v. ap (λ (y : List LogEntry). exits_in y v) same.1 ∙ c.exits v;
         spawned = λ v b l. ap (λ (y : List LogEntry). spawned_by b y v) same.1 ∙ c.spawned v b l;
-        for-it = λ i b a l. ap (λ (y : List LogEntry). spawned_by b y i) same.1 ∙ (c.for-it i b a (subst (λ (y : Header). i < y.next) same.2 l) ∙ ap (λ (y : Task). some y.coroutine.0) (sym (same-task i)));
+        for_it = λ i b a l. ap (λ (y : List LogEntry). spawned_by b y i) same.1 ∙ (c.for_it i b a (subst (λ (y : Header). i < y.next) same.2 l) ∙ ap (λ (y : Task). some y.coroutine.0) (sym (same-task i)));
         slot = λ i a l. subst (λ (y : Task). ItemSlot s y.coroutine.0 y.awaiter) (sym (same-task i)) (c.slot i a (subst (λ (y : Header). i < y.next) same.2 l));
         takes = λ o r q. took o r q (on_stack (f ∷ fs) o);
         opens = λ o a b q. opened o a q (on_stack (f ∷ fs) o);
@@ -331,9 +331,9 @@ module _ (s : Store) where
   opened-going x o f n a g i fs Q z l fa q c t op ls sub back apart =
       subst (λ (y : Object). Going s (put_object x o y) o 0 fs) (sym (ap (λ (y : Object). with_state y (GatherState.Awaited a 0)) q))
       (record {
-        commits = committing-row s x o y z l fits (subst (λ (b : Object). CommitMoves b y) (sym was) (refl, refl, tt)) (λ d e. no-coroutine f n d (sym q ∙ e)) c;
-        taking = taking-gather s x o f n (GatherState.Awaited a 0) z l fits t;
-        opening = opening-row s Q (OnTop o fs) x o y z l fits (λ v b e. absurd (b (inl refl))) (λ p d b e. b (inr (back p e))) op;
+        commits = committing_row s x o y z l fits (subst (λ (b : Object). CommitMoves b y) (sym was) (refl, refl, tt)) (λ d e. no-coroutine f n d (sym q ∙ e)) c;
+        taking = taking_gather s x o f n (GatherState.Awaited a 0) z l fits t;
+        opening = opening_row s Q (OnTop o fs) x o y z l fits (λ v b e. absurd (b (inl refl))) (λ p d b e. b (inr (back p e))) op;
         top = record {
           first = f;
           count = n;
@@ -341,7 +341,7 @@ module _ (s : Store) where
           left = λ j b. absurd (not-suc-le-zero b);
           marks = λ w e. (λ j b. absurd (true≢false (sym b ∙ none w e j)), λ j b. absurd (not-suc-le-zero b));
         };
-        below = levels-onward s Q (OnTop o fs) x v fs on off (λ p b. object_put-other x o p y (apart p b)) ls;
+        below = levels_onward s Q (OnTop o fs) x v fs on off (λ p b. object_put-other x o p y (apart p b)) ls;
       })
     where
       y : Object
@@ -402,14 +402,14 @@ module _ (s : Store) where
   unfolding set_gather
   completed-commits x g i fs w z l e k =
       subst (λ (y : Object). Committing s (put_object x g y)) (sym (with_state-is (object x g) w GatherState.Completed e))
-      (committing-row s x g (Object.GatherFuture w.first w.count GatherState.Completed) z l ((awaited-fits x g w e).0, tt)
+      (committing_row s x g (Object.GatherFuture w.first w.count GatherState.Completed) z l ((awaited-fits x g w e).0, tt)
       (opened_moves (object s g) (object x g) k.top.first k.top.count w GatherState.Completed k.top.was e (k.commits.moves g) tt) (λ f q. not-coroutine (object x g) w f CoroutineState.New e q) k.commits)
 
   completed-takes : (x : Store) (g : ℕ) (w : AwaitedGather) → Sized x → g < object_limit → as_awaited (object x g) ≡ some w → Taking s x → Taking s (set_gather x g GatherState.Completed)
   unfolding set_gather
   completed-takes x g w z l e t =
       subst (λ (y : Object). Taking s (put_object x g y)) (sym (with_state-is (object x g) w GatherState.Completed e))
-      (taking-gather s x g w.first w.count GatherState.Completed z l ((awaited-fits x g w e).0, tt) t)
+      (taking_gather s x g w.first w.count GatherState.Completed z l ((awaited-fits x g w e).0, tt) t)
 
   -- where a commit of gather `root` for task t ends
   abbrev pub EndFails : ℕ → ℕ → Store → Poll → Type 0
@@ -422,7 +422,7 @@ module _ (s : Store) where
   unfolding set_gather as_awaited
   completed-opens x g Q R w z l e off k =
       subst (λ (y : Object). Opening s R (put_object x g y)) (sym (with_state-is (object x g) w GatherState.Completed e))
-      (opening-row s Q R x g (Object.GatherFuture w.first w.count GatherState.Completed) z l ((awaited-fits x g w e).0, tt) (λ v n q. absurd_some q) off k)
+      (opening_row s Q R x g (Object.GatherFuture w.first w.count GatherState.Completed) z l ((awaited-fits x g w e).0, tt) (λ v n q. absurd_some q) off k)
 
   root-fails : (root t : ℕ) (x : Store) (g i j : ℕ) → Memory x → Inv root t 0 (OnTop g []) (view x) g i [] → Going s x g j [] → EndFails root t (settle_gather_commit x g).store (settle_gather_commit x g).poll
   unfolding settle_gather_commit view
@@ -522,8 +522,8 @@ module _ (s : Store) where
           commits = k.commits;
           taking = k.taking;
           opening = λ o v n e. parked-opens o v n e (ℕ_discrete o g);
-          top = level-onward s (OnTop g (p ∷ ps)) (OnTop p.gather ps) x x p.gather p.next (λ o n y. (y, λ z. z)) (λ q y n z. n (inr z)) refl k.below.0;
-          below = levels-onward s (OnTop g (p ∷ ps)) (OnTop p.gather ps) x x ps (λ o n y. (y, λ z. z)) (λ q y n z. n (inr z)) (λ q z. refl) (unfold Levels in k.below.1);
+          top = level_onward s (OnTop g (p ∷ ps)) (OnTop p.gather ps) x x p.gather p.next (λ o n y. (y, λ z. z)) (λ q y n z. n (inr z)) refl k.below.0;
+          below = levels_onward s (OnTop g (p ∷ ps)) (OnTop p.gather ps) x x ps (λ o n y. (y, λ z. z)) (λ q y n z. n (inr z)) (λ q z. refl) (unfold Levels in k.below.1);
         }
 
     filled : Going s x1 p.gather p.next ps
@@ -533,9 +533,9 @@ module _ (s : Store) where
           commits = subst (Committing s) completed-same (completed-commits x g j (p ∷ ps) h.w mem.sized low top k);
           taking = subst (Taking s) completed-same (completed-takes x g h.w mem.sized low top k.taking);
           opening = subst (Opening s (OnTop p.gather ps)) completed-same (completed-opens x g (OnTop g (p ∷ ps)) (OnTop p.gather ps) h.w mem.sized low top off_rest k.opening);
-          top = level-onward s (OnTop g (p ∷ ps)) (OnTop p.gather ps) x x1 p.gather p.next on (λ q y n z. n (inr z))
+          top = level_onward s (OnTop g (p ∷ ps)) (OnTop p.gather ps) x x1 p.gather p.next on (λ q y n z. n (inr z))
               (ap as_awaited (x1-other p.gather (inl refl))) k.below.0;
-          below = levels-onward s (OnTop g (p ∷ ps)) (OnTop p.gather ps) x x1 ps on (λ q y n z. n (inr z)) (λ q z. x1-other q (inr z)) (unfold Levels in k.below.1);
+          below = levels_onward s (OnTop g (p ∷ ps)) (OnTop p.gather ps) x x1 ps on (λ q y n z. n (inr z)) (λ q z. x1-other q (inr z)) (unfold Levels in k.below.1);
         }
       where
         on : Onward s (OnTop g (p ∷ ps)) x x1
@@ -549,7 +549,7 @@ module _ (s : Store) where
         by (above w i op lt nm lo aw rm rest) =
             subst (λ (o : Option AwaitedGather). Next (resume_as p (gives x1 (ready (Value.List (heap_id g)))) o)) (sym (ap as_awaited (x1-other p.gather (inl refl)) ∙ op.awaited))
             (unfold resume_as resume_in in
-            (going-fills s x1 p.gather p.next ps w (Value.List (heap_id g)) x1-sized (omega (arith, gather_within p.gather w h.but op.made op.awaited, lt, h.but.fits.used-fits)) low
+            (going_fills s x1 p.gather p.next ps w (Value.List (heap_id g)) x1-sized (omega (arith, gather_within p.gather w h.but op.made op.awaited, lt, h.but.fits.used-fits)) low
             (subst (Calm s (OnTop p.gather ps) x1) (item-is w op.awaited nm) (record { passed = subst Passed (sym (object_put-object x g done mem.sized low full-fits)) tt; off = off-g }))
             (subst (λ (j : ℕ). Settled (object x1 j)) (item-is w op.awaited nm) (subst Settled (sym (object_put-object x g done mem.sized low full-fits)) tt)) filled))
 
@@ -561,14 +561,14 @@ module _ (s : Store) where
         by (above w i op lt nm lo aw rm rest) =
             subst (λ (o : Option AwaitedGather). Next (resume_as p (gives x pending) o)) (sym op.awaited)
             (unfold resume_as resume_in in
-            (going-opens s x p.gather p.next ps w mem.sized (omega (arith, op.made, (header-fits x).made-fits))
+            (going_opens s x p.gather p.next ps w mem.sized (omega (arith, op.made, (header-fits x).made-fits))
             (awaits_fits x p.gather w op.awaited (wider w p.next) (wider_small w p.next lt (open_small p.gather w h.but op.made op.awaited))) op.awaited
             (λ q z d. not-suc-le-zero {n = 0} (omega (arith, d, stack_above rest q z)))
             (subst (Calm s (OnTop p.gather ps) x) (item-is w op.awaited nm) (record { passed = subst Passed (sym (awaited-object (object x g) h.w top)) tt; off = off-g })) parked))
 
-    pub resumed-going : Next (resume_after_child p (settle_gather_commit x g))
+    pub resumed_going : Next (resume_after_child p (settle_gather_commit x g))
     unfolding settle_gather_commit
-    resumed-going = subst (λ (o : Option AwaitedGather). Next (resume_after_child p (settle_as x g o))) (sym top) (unfold settle_as in (by (eqb h.w.open-places 0)))
+    resumed_going = subst (λ (o : Option AwaitedGather). Next (resume_after_child p (settle_as x g o))) (sym top) (unfold settle_as in (by (eqb h.w.open-places 0)))
       where
         by : (b : Bool) → Next (resume_after_child p (pick b (gives (set_gather x g GatherState.Completed) (ready (Value.List (heap_id g)))) (gives x pending)))
         by true = subst (λ (y : Store). Next (resume_after_child p (gives y (ready (Value.List (heap_id g)))))) (sym completed-same) filled_next
@@ -590,7 +590,7 @@ module _ (s : Store) where
   turn-fails root t fuel loop go y f [] n j k (at_end x) b l q h r = root-fails root t x f.gather h.i r.i h.memory h.inv r.going
   turn-fails root t fuel loop go y f (p ∷ ps) n j k (at_end x) b l q h r =
       go _ (record { gather = p.gather; next = p.next + 1 }) ps (suc n) j (suc k) (omega (arith, b, settled_fuel y x f p ps q l (below-low h.inv.stack)))
-      (settle-next root t x f.gather h.i p ps h.memory h.inv h.end) (resumed-going root t x f.gather h.i r.i p ps h.memory h.inv r.going)
+      (settle_next root t x f.gather h.i p ps h.memory h.inv h.end) (resumed_going root t x f.gather h.i r.i p ps h.memory h.inv r.going)
     where
       below-low : {g : ℕ} {a : Awaiter} {m : ℕ} → Stacked (header x).made (object x) (place x) root t g a (p ∷ ps) m → p.gather < object_limit
       below-low (above w i op lt nm lo aw rm rest) = omega (arith, op.made, (header-fits x).made-fits)
@@ -608,10 +608,10 @@ module _ (s : Store) where
       low = omega (arith, h.inv.opened.made, (header-fits x).made-fits)
 
   -- What a commit leaves.
-  pub commit-fails : (t g f n : ℕ) → SoundStore s → (header s).moment ≡ Moment.Running (task_id t) → g < (header s).made → object s g ≡ Object.GatherFuture f n GatherState.Pending
+  pub commit_fails : (t g f n : ℕ) → SoundStore s → (header s).moment ≡ Moment.Running (task_id t) → g < (header s).made → object s g ≡ Object.GatherFuture f n GatherState.Pending
       → EndFails g t (commit_gather_tree s g (Awaiter.Task (task_id t))).store (commit_gather_tree s g (Awaiter.Task (task_id t))).poll
   unfolding commit_gather_tree Levels
-  commit-fails t g f n w m l q =
+  commit_fails t g f n w m l q =
       loop-fails _ g t (open_gather_commit s g (Awaiter.Task (task_id t))) (record { gather = g; next = 0 }) [] 0 1 0 (omega arith) (commit_begins s t w m g f n l q)
-      (opened-going s g f n (Awaiter.Task (task_id t)) g 0 [] (λ p. ⊥) w.memory.sized (omega (arith, l, (header-fits s).made-fits)) (omega (arith, runner-low s t w m, (header-fits s).next_fits)) q (committing-begins s) (taking-begins s) (opening-begins s (λ p. ⊥))
+      (opened-going s g f n (Awaiter.Task (task_id t)) g 0 [] (λ p. ⊥) w.memory.sized (omega (arith, l, (header-fits s).made-fits)) (omega (arith, runner_low s t w m, (header-fits s).next_fits)) q (committing_begins s) (taking_begins s) (opening_begins s (λ p. ⊥))
       (unfold Levels in tt) (λ p z. absurd z) (λ p z. absurd z) (λ p z. absurd z))

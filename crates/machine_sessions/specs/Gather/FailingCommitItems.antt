@@ -30,7 +30,7 @@ use Rattle.machine.specs.Commit.{Poll, ready, raised, pending, gives, await_pend
 use Rattle.machine.specs.Commit.{open_place, fill_place, Stop, at_end, at_nested, at_error, put_polled, put_item, step_item, step_items, Frame}
 use Rattle.machine.specs.Sound.{places_below, items_below, object_in_range, is_slot}
 use Rattle.machine_laws.specs.Facts.{Open, Slotted}
-use Rattle.machine_laws.specs.FactLaws.{open-found, open-test}
+use Rattle.machine_laws.specs.FactLaws.{open_found, open_test}
 use Rattle.machine_laws.specs.TestLaws.{holds, is_true, below}
 use Rattle.machine_laws.specs.Walk.{task_of-spawned}
 use Rattle.machine_laws.specs.StoreLaws.{sized-put_object, header_put-object, object_put-object, object_put-other, object-fits, place-fits, header-fits}
@@ -41,7 +41,7 @@ use Rattle.machine_theorems.specs.Soundness.Memory.{Memory}
 use Rattle.machine_theorems.specs.Soundness.CommitSteps.{wider, wider_small}
 use Rattle.machine_theorems.specs.Soundness.CommitInv.{OnStack, OnTop, Stacked, bottom, above, Inv}
 use Rattle.machine_theorems.specs.Soundness.CommitLoop.{awaits_fits}
-use Rattle.machine_theorems.specs.Soundness.CommitItems.{Goes, PollOk, ItemOk, goes-length, one-keeps}
+use Rattle.machine_theorems.specs.Soundness.CommitItems.{Goes, PollOk, ItemOk, goes-length, one_keeps}
 use Rattle.machine_laws.specs.DeliveryLaws.{pending-object}
 use Rattle.machine_theorems.specs.Soundness.Cycle.{spawned_of}
 use Rattle.machine_theorems.specs.Panics.NoPanicLaws.{spawn-left}
@@ -49,7 +49,7 @@ use Rattle.machine_sessions.specs.Waits.CallEvents.{first_holds}
 use Rattle.machine_sessions.specs.Gather.FailingRows.{ItemAt}
 use Rattle.machine_sessions.specs.Gather.Failing.{CommitMoves, commit_places, commit_takes}
 use Rattle.machine_sessions.specs.Gather.FailingStated.{Passed, Settled, Other, NoSlot, TaskFor, coroutine_reused, future_reused, gather_reused, PollRaises, broken, failed, reuses, item_at, Took}
-use Rattle.machine_sessions.specs.Gather.FailingCommitSteps.{Committing, committing-spawn, spawn-rows, Calm, Level, Levels, Going, going-same, going-opens, going-fills, going-lower}
+use Rattle.machine_sessions.specs.Gather.FailingCommitSteps.{Committing, committing_spawn, spawn-rows, Calm, Level, Levels, Going, going_same, going_opens, going_fills, going_lower}
 
 -- ---- the stack
 
@@ -169,20 +169,20 @@ module _ (s : Store) where
     -- another place of an item that is open
     again : Open (place u) w o → ItemFails (polled (gives u pending))
     again op =
-        going-opens s u g i fs w mem.sized low-g wide_fits top apart
+        going_opens s u g i fs w mem.sized low-g wide_fits top apart
         (subst (Calm s (OnTop g fs) u) (sym (item-is op.at) ∙ (op.names ∙ item-is i)) (k.top.left op.at ((k.top.marks w top).0 op.at op.is_open))) k
 
     fills : (v : Value) (x : Object) → object u o ≡ x → ValueFits v → Passed x → Settled x → ItemFails (polled (gives u (ready v)))
     fills v x e f p z =
-        going-fills s u g i fs w v mem.sized low-place f (calm (subst Passed (sym e) p)) (subst (λ (j : ℕ). Settled (object u j)) (item-is i) (subst Settled (sym e) z)) k
+        going_fills s u g i fs w v mem.sized low-place f (calm (subst Passed (sym e) p)) (subst (λ (j : ℕ). Settled (object u j)) (item-is i) (subst Settled (sym e) z)) k
 
     -- a pending external without awaiter takes the slot
     takes : (c : CallId) (r : OptionValue) → object u o ≡ Object.ExternalFuture c (ExternalFutureState.Pending Awaiter.Nobody r)
         → ItemFails (polled (gives (put_object u o (Object.ExternalFuture c (ExternalFutureState.Pending (Awaiter.GatherSlot (heap_id g) (heap_id o)) r))) pending))
     takes c r e =
-        going-opens s u2 g i fs w (sized-put_object u o x mem.sized) low-g wide_fits (ap as_awaited (object_put-other u o g x (λ d. not-suc-le-zero {n = 0} (omega (arith, lower, d)))) ∙ top) apart
+        going_opens s u2 g i fs w (sized-put_object u o x mem.sized) low-g wide_fits (ap as_awaited (object_put-other u o g x (λ d. not-suc-le-zero {n = 0} (omega (arith, lower, d)))) ∙ top) apart
         (subst (Calm s (OnTop g fs) u2) (item-is i) (record { passed = subst Passed (sym (object_put-object u o x mem.sized low-o fit)) tt; off = off-stack }))
-        (going-lower s u g i fs o x mem.sized low-o fit (commit_takes (object s o) c r (Awaiter.GatherSlot (heap_id g) (heap_id o)) (subst (CommitMoves (object s o)) e (k.commits.moves o)))
+        (going_lower s u g i fs o x mem.sized low-o fit (commit_takes (object s o) c r (Awaiter.GatherSlot (heap_id g) (heap_id o)) (subst (CommitMoves (object s o)) e (k.commits.moves o)))
         (λ f q. no-coroutine c r f (sym e ∙ q)) off-stack tt (λ z. subst Settled e z) slotted (unfold as_awaited in refl) k)
       where
         x : Object
@@ -213,7 +213,7 @@ module _ (s : Store) where
     -- ---- an item that no open place names
     module _ (shut : open_from (place u) w o 0 w.count ≡ false) where
       not-open : Open (place u) w o → ⊥
-      not-open op = true≢false (sym (is_true _ (open-test (place u) w o w.count 0 op (omega arith) (omega (arith, op.under)))) ∙ shut)
+      not-open op = true≢false (sym (is_true _ (open_test (place u) w o w.count 0 op (omega arith) (omega (arith, op.under)))) ∙ shut)
 
       -- no place to the left names it, if it has given no value
       first-named : (Settled (object u o) → ⊥) → (j : ℕ) → j < i → item_at s g j ≡ item_at s g i → ⊥
@@ -270,9 +270,9 @@ module _ (s : Store) where
         where
           spawned-fails : (header u).next < task_limit → ItemFails (polled (polled_spawn u (some (spawn_as u (header u).next o g))))
           spawned-fails room = unfold polled_spawn in
-              (going-opens s v g i fs w (sized-spawn_as u (header u).next o g mem.sized) low-g wide_fits (ap as_awaited (spawn-rows s u (header u).next o g g) ∙ top) apart
+              (going_opens s v g i fs w (sized-spawn_as u (header u).next o g mem.sized) low-g wide_fits (ap as_awaited (spawn-rows s u (header u).next o g g) ∙ top) apart
               (subst (Calm s (OnTop g fs) v) (item-is i) (record { passed = subst Passed (sym (spawn-rows s u (header u).next o g o ∙ e)) tt; off = off-stack }))
-              (going-same s u v g i fs (committing-spawn s u o g f mem.sized room low-o low-g e stands k.commits) (λ p. spawn-rows s u (header u).next o g p) k))
+              (going_same s u v g i fs (committing_spawn s u o g f mem.sized room low-o low-g e stands k.commits) (λ p. spawn-rows s u (header u).next o g p) k))
             where
               v : Store
               v = spawn_as u (header u).next o g
@@ -317,7 +317,7 @@ module _ (s : Store) where
     one-fails = by (open_from (place u) w o 0 w.count) refl
       where
         by : (b : Bool) → open_from (place u) w o 0 w.count ≡ b → ItemFails (pick b (polled (gives u pending)) (item_object u g o (object u o)))
-        by true e = again (open-found (place u) w o w.count 0 (omega arith) (holds _ e))
+        by true e = again (open_found (place u) w o w.count 0 (omega arith) (holds _ e))
         by false e = item-fails e (object u o) refl
 
     put-fails : (go : Store → Stop) → ((y : Store) → Goes root t g fs i w.count y → Going s y g (i + 1) fs → StopFails g fs (go y)) → (x : Item) → ItemOk root t g fs w i o u x → ItemFails x
@@ -332,7 +332,7 @@ module _ (s : Store) where
         by pending ok l = f _ ok l
 
     pub step-fails : (go : Store → Stop) → ((y : Store) → Goes root t g fs i w.count y → Going s y g (i + 1) fs → StopFails g fs (go y)) → StopFails g fs (put_item g w i o u (item u g w o) go)
-    step-fails go f = put-fails go f (item u g w o) (one-keeps root t g fs i u mem h less) one-fails
+    step-fails go f = put-fails go f (item u g w o) (one_keeps root t g fs i u mem h less) one-fails
 
   -- The walk through the items.
   pub items-fails : (n : ℕ) (root t g i : ℕ) (fs : List Frame) (u : Store) → Memory u → (h : Inv root t 0 (OnTop g fs) (view u) g i fs) → i + n ≡ h.w.count → Going s u g i fs

@@ -65,11 +65,11 @@ module _ (s : Store) where
     pub fresh : (t : ℕ) → (header s).next ≤ t → t < (header u).next → (f : ℕ) × (object u (task u t).coroutine.0 ≡ Object.Coroutine f CoroutineState.New)
     pub exits : (t : ℕ) → exits_in u.log t ≡ exits_in s.log t
     pub spawned : (t : ℕ) (b : Option ℕ) → t < (header s).next → spawned_by b u.log t ≡ spawned_by b s.log t
-    pub for-it : (t : ℕ) (b : Option ℕ) → (header s).next ≤ t → t < (header u).next → spawned_by b u.log t ≡ some (task u t).coroutine.0
+    pub for_it : (t : ℕ) (b : Option ℕ) → (header s).next ≤ t → t < (header u).next → spawned_by b u.log t ≡ some (task u t).coroutine.0
     pub slot : (t : ℕ) → (header s).next ≤ t → t < (header u).next → ItemSlot s (task u t).coroutine.0 (task u t).awaiter
 
-  pub committing-begins : Committing s
-  committing-begins =
+  pub committing_begins : Committing s
+  committing_begins =
       record {
         moves = λ o. commit_same (object s o);
         items = λ p. refl;
@@ -79,14 +79,14 @@ module _ (s : Store) where
         fresh = λ t a b. absurd (not-suc-le-zero {n = 0} (omega arith));
         exits = λ t. refl;
         spawned = λ t b l. refl;
-        for-it = λ t b a l. absurd (not-suc-le-zero {n = 0} (omega arith));
+        for_it = λ t b a l. absurd (not-suc-le-zero {n = 0} (omega arith));
         slot = λ t a l. absurd (not-suc-le-zero {n = 0} (omega arith));
       }
 
   -- an object's row, of no new coroutine
-  pub committing-row : (u : Store) (o : ℕ) (y : Object) → Sized u → o < object_limit → ObjectFits y → CommitMoves (object s o) y → ((f : ℕ) → object u o ≡ Object.Coroutine f CoroutineState.New → ⊥) → Committing u
+  pub committing_row : (u : Store) (o : ℕ) (y : Object) → Sized u → o < object_limit → ObjectFits y → CommitMoves (object s o) y → ((f : ℕ) → object u o ≡ Object.Coroutine f CoroutineState.New → ⊥) → Committing u
       → Committing (put_object u o y)
-  committing-row u o y z l fits c ne k =
+  committing_row u o y z l fits c ne k =
       record {
         moves = λ p. by p (ℕ_discrete p o);
         items = λ p. unfold place put_object in (unfold place in (k.items p));
@@ -96,7 +96,7 @@ module _ (s : Store) where
         fresh = λ t a b. new t a (subst (λ (h : Header). t < h.next) (header_put-object u o y) b);
         exits = λ t. unfold put_object in (k.exits t);
         spawned = λ t b i. unfold put_object in (k.spawned t b i);
-        for-it = λ t b a l. unfold task put_object in (unfold task in (k.for-it t b a (subst (λ (h : Header). t < h.next) (header_put-object u o y) l)));
+        for_it = λ t b a l. unfold task put_object in (unfold task in (k.for_it t b a (subst (λ (h : Header). t < h.next) (header_put-object u o y) l)));
         slot = λ t a l. unfold task put_object in (unfold task in (k.slot t a (subst (λ (h : Header). t < h.next) (header_put-object u o y) l)));
       }
     where
@@ -113,9 +113,9 @@ module _ (s : Store) where
           same = unfold task put_object in refl
 
   -- a place is filled
-  pub committing-fill : (u : Store) (w : AwaitedGather) (i : ℕ) (v : Value) → Sized u → w.first + i < place_limit → ValueFits v → Committing u → Committing (fill_place u w i v)
+  pub committing_fill : (u : Store) (w : AwaitedGather) (i : ℕ) (v : Value) → Sized u → w.first + i < place_limit → ValueFits v → Committing u → Committing (fill_place u w i v)
   unfolding fill_place
-  committing-fill u w i v z l fits k =
+  committing_fill u w i v z l fits k =
       record {
         moves = λ o. unfold object put_place in (unfold object in (k.moves o));
         items = λ p. by p (ℕ_discrete p (w.first + i)) ∙ k.items p;
@@ -125,7 +125,7 @@ module _ (s : Store) where
         fresh = λ t a b. unfold task object header put_place in (unfold task object header in (k.fresh t a b));
         exits = λ t. unfold put_place in (k.exits t);
         spawned = λ t b j. unfold put_place in (k.spawned t b j);
-        for-it = λ t b a l. unfold task header put_place in (unfold task header in (k.for-it t b a l));
+        for_it = λ t b a l. unfold task header put_place in (unfold task header in (k.for_it t b a l));
         slot = λ t a l. unfold task header put_place in (unfold task header in (k.slot t a l));
       }
     where
@@ -158,9 +158,9 @@ module _ (s : Store) where
       same_head : (u : Store) (t : ℕ) (r : Task) → (header (put_task u t r)).made ≡ (header u).made
       same_head u t r = unfold header put_task in refl
 
-  pub committing-spawn : (u : Store) (c g f : ℕ) → Sized u → (header u).next < task_limit → c < object_limit → g < object_limit → object u c ≡ Object.Coroutine f CoroutineState.New → ItemAt s g c → Committing u
+  pub committing_spawn : (u : Store) (c g f : ℕ) → Sized u → (header u).next < task_limit → c < object_limit → g < object_limit → object u c ≡ Object.Coroutine f CoroutineState.New → ItemAt s g c → Committing u
       → Committing (spawn_as u (header u).next c g)
-  committing-spawn u c g f z room lc lg e it k =
+  committing_spawn u c g f z room lc lg e it k =
       record {
         moves = λ o. subst (CommitMoves (object s o)) (sym (rows o)) (k.moves o);
         items = λ p. same_item p ∙ k.items p;
@@ -170,7 +170,7 @@ module _ (s : Store) where
         fresh = λ t a b. new t a b (ℕ_discrete t n);
         exits = λ t. same-exits t ∙ k.exits t;
         spawned = λ t b l. logs t b l ∙ k.spawned t b l;
-        for-it = λ t b a l. mine t b a l (ℕ_discrete t n);
+        for_it = λ t b a l. mine t b a l (ℕ_discrete t n);
         slot = λ t a l. item t a l (ℕ_discrete t n);
       }
     where
@@ -219,7 +219,7 @@ module _ (s : Store) where
           ∙ ap (λ (j : ℕ). some j) (sym (ap (λ (j : ℕ). (task v j).coroutine.0) d ∙ ap (λ (y : Task). y.coroutine.0) here)))
       mine t b a l (no ne) =
           first t b ∙ (ap (λ (x : Bool). elim x [ true ↦ some c | false ↦ spawned_by b u.log t ]) (ne_eqb n t (λ d. ne (sym d)))
-          ∙ (k.for-it t b a (omega (arith, l, next, ne)) ∙ ap (λ (y : Task). some y.coroutine.0) (sym (spawn-row u n c g t ne))))
+          ∙ (k.for_it t b a (omega (arith, l, next, ne)) ∙ ap (λ (y : Task). some y.coroutine.0) (sym (spawn-row u n c g t ne))))
 
       item : (t : ℕ) → (header s).next ≤ t → t < (header v).next → Dec (t ≡ n) → ItemSlot s (task v t).coroutine.0 (task v t).awaiter
       item t a l (yes d) =
@@ -234,16 +234,16 @@ module _ (s : Store) where
   abbrev pub Taking : Store → Type 0
   Taking u = (o : ℕ) (r : PendingExternal) → as_pending (object u o) ≡ some r → Took s o r.awaiter
 
-  pub taking-begins : Taking s
-  taking-begins o r e = inl (r, e, refl)
+  pub taking_begins : Taking s
+  taking_begins o r e = inl (r, e, refl)
 
   -- rows as they were
-  pub taking-same : (u v : Store) → ((p : ℕ) → object v p ≡ object u p) → Taking u → Taking v
-  taking-same u v same k o r e = k o r (sym (ap as_pending (same o)) ∙ e)
+  pub taking_same : (u v : Store) → ((p : ℕ) → object v p ≡ object u p) → Taking u → Taking v
+  taking_same u v same k o r e = k o r (sym (ap as_pending (same o)) ∙ e)
 
   -- a row is written
-  pub taking-row : (u : Store) (o : ℕ) (y : Object) → Sized u → o < object_limit → ObjectFits y → ((r : PendingExternal) → as_pending y ≡ some r → Took s o r.awaiter) → Taking u → Taking (put_object u o y)
-  taking-row u o y z l fits t k p r e = by (ℕ_discrete p o)
+  pub taking_row : (u : Store) (o : ℕ) (y : Object) → Sized u → o < object_limit → ObjectFits y → ((r : PendingExternal) → as_pending y ≡ some r → Took s o r.awaiter) → Taking u → Taking (put_object u o y)
+  taking_row u o y z l fits t k p r e = by (ℕ_discrete p o)
     where
       by : Dec (p ≡ o) → Took s p r.awaiter
       by (yes d) =
@@ -252,26 +252,26 @@ module _ (s : Store) where
       by (no n) = k p r (sym (ap as_pending (object_put-other u o p y n)) ∙ e)
 
   -- that of a gather
-  pub taking-gather : (u : Store) (o f n : ℕ) (y : GatherState) → Sized u → o < object_limit → ObjectFits (Object.GatherFuture f n y) → Taking u → Taking (put_object u o (Object.GatherFuture f n y))
+  pub taking_gather : (u : Store) (o f n : ℕ) (y : GatherState) → Sized u → o < object_limit → ObjectFits (Object.GatherFuture f n y) → Taking u → Taking (put_object u o (Object.GatherFuture f n y))
   unfolding as_pending
-  taking-gather u o f n y z l fits k = taking-row u o (Object.GatherFuture f n y) z l fits (λ r e. absurd_some e) k
+  taking_gather u o f n y z l fits k = taking_row u o (Object.GatherFuture f n y) z l fits (λ r e. absurd_some e) k
 
   -- ---- the awaiters of awaited gathers that are not on the stack Q
 
   abbrev pub Opening : (ℕ → Type 0) → Store → Type 0
   Opening Q u = (o : ℕ) (v : AwaitedGather) → (Q o → ⊥) → as_awaited (object u o) ≡ some v → Opens s o v.awaiter
 
-  pub opening-begins : (Q : ℕ → Type 0) → Opening Q s
-  opening-begins Q o v n e = inl (v, e, refl)
+  pub opening_begins : (Q : ℕ → Type 0) → Opening Q s
+  opening_begins Q o v n e = inl (v, e, refl)
 
   -- rows as they were
-  pub opening-same : (Q : ℕ → Type 0) (u v : Store) → ((p : ℕ) → object v p ≡ object u p) → Opening Q u → Opening Q v
-  opening-same Q u v same k o w n e = k o w n (sym (ap as_awaited (same o)) ∙ e)
+  pub opening_same : (Q : ℕ → Type 0) (u v : Store) → ((p : ℕ) → object v p ≡ object u p) → Opening Q u → Opening Q v
+  opening_same Q u v same k o w n e = k o w n (sym (ap as_awaited (same o)) ∙ e)
 
   -- a row is written; the stack may be another
-  pub opening-row : (Q R : ℕ → Type 0) (u : Store) (o : ℕ) (y : Object) → Sized u → o < object_limit → ObjectFits y
+  pub opening_row : (Q R : ℕ → Type 0) (u : Store) (o : ℕ) (y : Object) → Sized u → o < object_limit → ObjectFits y
       → ((v : AwaitedGather) → (R o → ⊥) → as_awaited y ≡ some v → Opens s o v.awaiter) → ((p : ℕ) → (p ≡ o → ⊥) → (R p → ⊥) → Q p → ⊥) → Opening Q u → Opening R (put_object u o y)
-  opening-row Q R u o y z l fits t off k p v n e = by (ℕ_discrete p o)
+  opening_row Q R u o y z l fits t off k p v n e = by (ℕ_discrete p o)
     where
       by : Dec (p ≡ o) → Opens s p v.awaiter
       by (yes d) =
@@ -315,8 +315,8 @@ module _ (s : Store) where
   pub keeps_same : (x y : Object) → y ≡ x → Passed x → Keeps x y
   keeps_same x y e p = (subst Passed (sym e) p, λ z. subst Settled (sym e) z)
 
-  pub calm-onward : (Q R : ℕ → Type 0) (u v : Store) (o : ℕ) → Onward Q u v → ((p : ℕ) → Passed (object u p) → (Q p → ⊥) → R p → ⊥) → Calm Q u o → Calm R v o
-  calm-onward Q R u v o on off k = record { passed = (on o k.off k.passed).0; off = off o k.passed k.off }
+  pub calm_onward : (Q R : ℕ → Type 0) (u v : Store) (o : ℕ) → Onward Q u v → ((p : ℕ) → Passed (object u p) → (Q p → ⊥) → R p → ⊥) → Calm Q u o → Calm R v o
+  calm_onward Q R u v o on off k = record { passed = (on o k.off k.passed).0; off = off o k.passed k.off }
 
   marks-onward : (Q : ℕ → Type 0) (u v : Store) (g i : ℕ) → Onward Q u v → as_awaited (object v g) ≡ as_awaited (object u g) → Level Q u g i → Marks v g i
   marks-onward Q u v g i on same k w e = let m = k.marks w (sym same ∙ e) in (m.0, λ j l. stays j l (m.1 j l))
@@ -325,18 +325,18 @@ module _ (s : Store) where
       stays j l (inl b) = inl b
       stays j l (inr z) = inr ((on (item_at s g j) (k.left j l).off (k.left j l).passed).1 z)
 
-  pub level-onward : (Q R : ℕ → Type 0) (u v : Store) (g i : ℕ) → Onward Q u v → ((p : ℕ) → Passed (object u p) → (Q p → ⊥) → R p → ⊥)
+  pub level_onward : (Q R : ℕ → Type 0) (u v : Store) (g i : ℕ) → Onward Q u v → ((p : ℕ) → Passed (object u p) → (Q p → ⊥) → R p → ⊥)
       → as_awaited (object v g) ≡ as_awaited (object u g) → Level Q u g i → Level R v g i
-  level-onward Q R u v g i on off same k =
-      record { first = k.first; count = k.count; was = k.was; left = λ j l. calm-onward Q R u v (item_at s g j) on off (k.left j l); marks = marks-onward Q u v g i on same k }
+  level_onward Q R u v g i on off same k =
+      record { first = k.first; count = k.count; was = k.was; left = λ j l. calm_onward Q R u v (item_at s g j) on off (k.left j l); marks = marks-onward Q u v g i on same k }
 
-  pub levels-onward : (Q R : ℕ → Type 0) (u v : Store) (fs : List Frame) → Onward Q u v → ((p : ℕ) → Passed (object u p) → (Q p → ⊥) → R p → ⊥) → ((p : ℕ) → OnStack fs p → object v p ≡ object u p)
+  pub levels_onward : (Q R : ℕ → Type 0) (u v : Store) (fs : List Frame) → Onward Q u v → ((p : ℕ) → Passed (object u p) → (Q p → ⊥) → R p → ⊥) → ((p : ℕ) → OnStack fs p → object v p ≡ object u p)
       → Levels Q u fs → Levels R v fs
   unfolding Levels
-  levels-onward Q R u v [] on off same k = tt
-  levels-onward Q R u v (f ∷ fs) on off same k = (
-    level-onward Q R u v f.gather f.next on off (ap as_awaited (same f.gather (inl refl))) k.0,
-    unfold Levels in (levels-onward Q R u v fs on off (λ p z. same p (inr z)) k.1),
+  levels_onward Q R u v [] on off same k = tt
+  levels_onward Q R u v (f ∷ fs) on off same k = (
+    level_onward Q R u v f.gather f.next on off (ap as_awaited (same f.gather (inl refl))) k.0,
+    unfold Levels in (levels_onward Q R u v fs on off (λ p z. same p (inr z)) k.1),
   )
 
   left-more : (Q : ℕ → Type 0) (u : Store) (g i : ℕ) → Level Q u g i → Calm Q u (item_at s g i) → (j : ℕ) → j < i + 1 → Calm Q u (item_at s g j)
@@ -347,8 +347,8 @@ module _ (s : Store) where
       by (no ne) = k.left j (omega (arith, l, ne))
 
   -- one place more is done, whose item has given a value
-  pub level-more : (Q : ℕ → Type 0) (u : Store) (g i : ℕ) → Level Q u g i → Calm Q u (item_at s g i) → Settled (object u (item_at s g i)) → Level Q u g (i + 1)
-  level-more Q u g i k c z =
+  pub level_more : (Q : ℕ → Type 0) (u : Store) (g i : ℕ) → Level Q u g i → Calm Q u (item_at s g i) → Settled (object u (item_at s g i)) → Level Q u g (i + 1)
+  level_more Q u g i k c z =
       record {
         first = k.first;
         count = k.count;
@@ -371,25 +371,25 @@ module _ (s : Store) where
     pub below : Levels (OnTop g fs) u fs
 
   -- a row is written that is not one of the stack
-  pub going-onward : (u v : Store) (g i : ℕ) (fs : List Frame) → Committing v → Taking v → Opening (OnTop g fs) v → Onward (OnTop g fs) u v → ((p : ℕ) → OnStack fs p → object v p ≡ object u p)
+  pub going_onward : (u v : Store) (g i : ℕ) (fs : List Frame) → Committing v → Taking v → Opening (OnTop g fs) v → Onward (OnTop g fs) u v → ((p : ℕ) → OnStack fs p → object v p ≡ object u p)
       → as_awaited (object v g) ≡ as_awaited (object u g) → Going u g i fs → Going v g i fs
-  going-onward u v g i fs c t op on same top k =
+  going_onward u v g i fs c t op on same top k =
       record {
         commits = c;
         taking = t;
         opening = op;
-        top = level-onward (OnTop g fs) (OnTop g fs) u v g i on (λ p y n. n) top k.top;
-        below = levels-onward (OnTop g fs) (OnTop g fs) u v fs on (λ p y n. n) same k.below;
+        top = level_onward (OnTop g fs) (OnTop g fs) u v g i on (λ p y n. n) top k.top;
+        below = levels_onward (OnTop g fs) (OnTop g fs) u v fs on (λ p y n. n) same k.below;
       }
 
   -- rows as they were
-  pub going-same : (u v : Store) (g i : ℕ) (fs : List Frame) → Committing v → ((p : ℕ) → object v p ≡ object u p) → Going u g i fs → Going v g i fs
-  going-same u v g i fs c same k =
-      going-onward u v g i fs c (taking-same u v same k.taking) (opening-same (OnTop g fs) u v same k.opening) (λ o n y. keeps_same (object u o) (object v o) (same o) y) (λ p z. same p) (ap as_awaited (same g)) k
+  pub going_same : (u v : Store) (g i : ℕ) (fs : List Frame) → Committing v → ((p : ℕ) → object v p ≡ object u p) → Going u g i fs → Going v g i fs
+  going_same u v g i fs c same k =
+      going_onward u v g i fs c (taking_same u v same k.taking) (opening_same (OnTop g fs) u v same k.opening) (λ o n y. keeps_same (object u o) (object v o) (same o) y) (λ p z. same p) (ap as_awaited (same g)) k
 
   -- place i is done
   pub going_more : (u : Store) (g i : ℕ) (fs : List Frame) → Calm (OnTop g fs) u (item_at s g i) → Settled (object u (item_at s g i)) → Going u g i fs → Going u g (i + 1) fs
-  going_more u g i fs c z k = record { commits = k.commits; taking = k.taking; opening = k.opening; top = level-more (OnTop g fs) u g i k.top c z; below = k.below }
+  going_more u g i fs c z k = record { commits = k.commits; taking = k.taking; opening = k.opening; top = level_more (OnTop g fs) u g i k.top c z; below = k.below }
 
   -- a bit of the wider word is one that was, or the new one
   wider-was : (w : AwaitedGather) (i j : ℕ) → bit (wider w i) j ≡ true → (j ≡ i → ⊥) → bit w.open-places j ≡ true
@@ -401,23 +401,23 @@ module _ (s : Store) where
       by false q e = sym (bit-set-other i w.open-places j q ne) ∙ e
 
   -- the gather on top opens place i, whose item is calm
-  pub going-opens : (u : Store) (g i : ℕ) (fs : List Frame) (w : AwaitedGather) → Sized u → g < object_limit → ObjectFits (awaits_on w (wider w i)) → as_awaited (object u g) ≡ some w → ((p : ℕ) → OnStack fs p → p ≡ g → ⊥)
+  pub going_opens : (u : Store) (g i : ℕ) (fs : List Frame) (w : AwaitedGather) → Sized u → g < object_limit → ObjectFits (awaits_on w (wider w i)) → as_awaited (object u g) ≡ some w → ((p : ℕ) → OnStack fs p → p ≡ g → ⊥)
       → Calm (OnTop g fs) u (item_at s g i) → Going u g i fs → Going (open_place u g w i) g (i + 1) fs
   unfolding open_place wider
-  going-opens u g i fs w z l fits e apart c k =
+  going_opens u g i fs w z l fits e apart c k =
       record {
-        commits = committing-row u g y z l fits (opened_moves (object s g) (object u g) k.top.first k.top.count w (GatherState.Awaited w.awaiter (wider w i)) k.top.was e (k.commits.moves g) tt)
+        commits = committing_row u g y z l fits (opened_moves (object s g) (object u g) k.top.first k.top.count w (GatherState.Awaited w.awaiter (wider w i)) k.top.was e (k.commits.moves g) tt)
             (λ f q. not-coroutine (object u g) w f CoroutineState.New e q) k.commits;
-        taking = taking-gather u g w.first w.count (GatherState.Awaited w.awaiter (wider w i)) z l fits k.taking;
-        opening = opening-row (OnTop g fs) (OnTop g fs) u g y z l fits (λ v n q. absurd (n (inl refl))) (λ p d n. n) k.opening;
+        taking = taking_gather u g w.first w.count (GatherState.Awaited w.awaiter (wider w i)) z l fits k.taking;
+        opening = opening_row (OnTop g fs) (OnTop g fs) u g y z l fits (λ v n q. absurd (n (inl refl))) (λ p d n. n) k.opening;
         top = record {
           first = k.top.first;
           count = k.top.count;
           was = k.top.was;
-          left = λ j b. calm-onward (OnTop g fs) (OnTop g fs) u v (item_at s g j) on (λ p a n. n) (left-more (OnTop g fs) u g i k.top c j b);
+          left = λ j b. calm_onward (OnTop g fs) (OnTop g fs) u v (item_at s g j) on (λ p a n. n) (left-more (OnTop g fs) u g i k.top c j b);
           marks = marked;
         };
-        below = levels-onward (OnTop g fs) (OnTop g fs) u v fs on (λ p a n. n) (λ p a. object_put-other u g p y (λ d. apart p a d)) k.below;
+        below = levels_onward (OnTop g fs) (OnTop g fs) u v fs on (λ p a n. n) (λ p a. object_put-other u g p y (λ d. apart p a d)) k.below;
       }
     where
       y : Object
@@ -448,17 +448,17 @@ module _ (s : Store) where
           done j b (no ne) = let m : j < i = omega (arith, b, ne) in still j m ((k.top.marks w e).1 j m)
 
   -- it fills place i
-  pub going-fills : (u : Store) (g i : ℕ) (fs : List Frame) (w : AwaitedGather) (x : Value) → Sized u → w.first + i < place_limit → ValueFits x → Calm (OnTop g fs) u (item_at s g i)
+  pub going_fills : (u : Store) (g i : ℕ) (fs : List Frame) (w : AwaitedGather) (x : Value) → Sized u → w.first + i < place_limit → ValueFits x → Calm (OnTop g fs) u (item_at s g i)
       → Settled (object u (item_at s g i)) → Going u g i fs → Going (fill_place u w i x) g (i + 1) fs
-  going-fills u g i fs w x z l fits c a k =
-      going-same u (fill_place u w i x) g (i + 1) fs (committing-fill u w i x z l fits k.commits) (λ p. unfold object fill_place put_place in refl) (going_more u g i fs c a k)
+  going_fills u g i fs w x z l fits c a k =
+      going_same u (fill_place u w i x) g (i + 1) fs (committing_fill u w i x z l fits k.commits) (λ p. unfold object fill_place put_place in refl) (going_more u g i fs c a k)
 
   -- a lower row that has given no value is written, which is passed then if it was
-  pub going-lower : (u : Store) (g i : ℕ) (fs : List Frame) (o : ℕ) (y : Object) → Sized u → o < object_limit → ObjectFits y → CommitMoves (object s o) y → ((f : ℕ) → object u o ≡ Object.Coroutine f CoroutineState.New → ⊥)
+  pub going_lower : (u : Store) (g i : ℕ) (fs : List Frame) (o : ℕ) (y : Object) → Sized u → o < object_limit → ObjectFits y → CommitMoves (object s o) y → ((f : ℕ) → object u o ≡ Object.Coroutine f CoroutineState.New → ⊥)
       → (OnTop g fs o → ⊥) → Passed y → (Settled (object u o) → ⊥) → ((r : PendingExternal) → as_pending y ≡ some r → Took s o r.awaiter) → as_awaited y ≡ none → Going u g i fs → Going (put_object u o y) g i fs
-  going-lower u g i fs o y z l fits c ne off p un t no-gather k =
-      going-onward u (put_object u o y) g i fs (committing-row u o y z l fits c ne k.commits) (taking-row u o y z l fits t k.taking)
-      (opening-row (OnTop g fs) (OnTop g fs) u o y z l fits (λ v n q. absurd_some (sym no-gather ∙ q)) (λ q d n. n) k.opening) (λ q n a. by q a (ℕ_discrete q o))
+  going_lower u g i fs o y z l fits c ne off p un t no-gather k =
+      going_onward u (put_object u o y) g i fs (committing_row u o y z l fits c ne k.commits) (taking_row u o y z l fits t k.taking)
+      (opening_row (OnTop g fs) (OnTop g fs) u o y z l fits (λ v n q. absurd_some (sym no-gather ∙ q)) (λ q d n. n) k.opening) (λ q n a. by q a (ℕ_discrete q o))
       (λ q a. object_put-other u o q y (λ d. off (inr (subst (OnStack fs) d a)))) (ap as_awaited (object_put-other u o g y (λ d. off (inl (sym d))))) k
     where
       by : (q : ℕ) → Passed (object u q) → Dec (q ≡ o) → Keeps (object u q) (object (put_object u o y) q)

@@ -27,24 +27,24 @@ use Rattle.queue.specs.declared.ReadyQueue.{ReadyQueue}
 use Rattle.machine.specs.Store.{Store, LogEntry, view, task, object, place, header, put_object, put_places, put_task, put_queue, put_header, add_log, restate, set_state, set_moment, absent, reached, exited, removed}
 use Rattle.machine.specs.Scheduler.{AwaitedGather, PendingExternal, as_awaited, as_pending, make_ready, push_ready, remove_from_ready_queue, remove_task, live_count}
 use Rattle.machine.specs.Delivery.{Delivery, deliver_awaiter_failure}
-use Rattle.machine.specs.Events.{How, start, value, raises, inline, Control, runs, waits, Switched, run, yield, new_function, resume-next, resume-after-task-exit, handle-task-failure, start-by, start-task, activate-state, activate_within, activate}
+use Rattle.machine.specs.Events.{How, start, value, raises, inline, Control, runs, waits, Switched, run, yield, new_function, resume_next, resume_after_task_exit, handle_task_failure, start_by, start_task, activate_state, activate_within, activate}
 use Rattle.machine.specs.Honest.{exits_in}
 use Rattle.machine_laws.specs.Views.{Sized}
 use Rattle.machine_laws.specs.Facts.{SoundBut, Slotted, Nothing}
 use Rattle.machine_laws.specs.StoreLaws.{task_put-task, object_put-object, header-fits, header_put-object, object_put-other, object_put-header, live-put_task, task_put-other, task-fits, object-fits, sized-put_object, sized-set_state, sized-put_places, sized-put_queue, sized-set_moment, sized-add_log, sized-put_task}
 use Rattle.machine_laws.specs.DeliveryLaws.{absurd_some}
 use Rattle.machine_laws.specs.TestLaws.{holds}
-use Rattle.machine_laws.specs.Walk.{Turns, same, takes, turns, Closed, failure-kept}
+use Rattle.machine_laws.specs.Walk.{Turns, same, takes, turns, Closed, failure_kept}
 use Rattle.machine_theorems.specs.Soundness.Stores.{idle, SoundDuring}
-use Rattle.machine_theorems.specs.Soundness.Deliver.{DeliveryEnds, failure-keeps}
-use Rattle.machine_theorems.specs.Soundness.Cycle.{task_delivering, remove-keeps, next-by, exit_by}
-use Rattle.machine_theorems.specs.Panics.NoPanicLaws.{Activated, goes_on, raises_it, ready_activated, main-started}
+use Rattle.machine_theorems.specs.Soundness.Deliver.{DeliveryEnds, failure_keeps}
+use Rattle.machine_theorems.specs.Soundness.Cycle.{task_delivering, remove_keeps, next-by, exit_by}
+use Rattle.machine_theorems.specs.Panics.NoPanicLaws.{Activated, goes_on, raises_it, ready_activated, main_started}
 use Rattle.machine_theorems.specs.Panics.NoPanicWoken.{failure_activated}
 use Rattle.machine_sessions.specs.Waits.Calls.{read_back, moment_row}
 use Rattle.machine_sessions.specs.Places.Telling.{new-object}
 use Rattle.machine_sessions.specs.Gather.Failing.{ClimbMoves, FailedRow}
-use Rattle.machine_sessions.specs.Gather.FailingRows.{ItemAt, FirstRun, Raised, by_task, by_first_run, ExitAs, at_first, TaskAs, Because, Failing, failing-as, failing-over, queue-failing, moment-failing, row-failing, state-failing, exit-failing}
-use Rattle.machine_sessions.specs.Gather.FailingClimb.{Up, slotted-up, failure-failing}
+use Rattle.machine_sessions.specs.Gather.FailingRows.{ItemAt, FirstRun, Raised, by_task, by_first_run, ExitAs, at_first, TaskAs, Because, Failing, failing_as, failing_over, queue_failing, moment_failing, row_failing, state_failing, exit_failing}
+use Rattle.machine_sessions.specs.Gather.FailingClimb.{Up, slotted_up, failure_failing}
 
 -- ---- what is no new coroutine stays so
 
@@ -93,7 +93,7 @@ module _ (c : ℕ) where
       gone s t x z = unfold remove_task remove_from_ready_queue in (sized-add_log _ x (sized-put_queue _ _ (sized-put_task s t absent z)))
 
   failure-used : (u : Store) (a : Awaiter) (e : Error) → Sized u → AwaiterFits a → new_function (object u c) ≡ none → new_function (object (deliver_awaiter_failure u a e).store c) ≡ none
-  failure-used u a e z f k = (failure-kept Used used-closed u a e f (record { sized = z; used = k })).used
+  failure-used u a e z f k = (failure_kept Used used-closed u a e f (record { sized = z; used = k })).used
 
 -- ---- the cycle
 
@@ -119,7 +119,7 @@ module _ (s m : Store) (Young : ℕ → Type 0) (B : Error → Type 0) (X : ℕ 
   Over u = Failing s m Young B X R ⊥ u
 
   over : (u : Store) → K u → Over u
-  over u k = failing-over s m Young B X R (Unit {0}) u k
+  over u k = failing_over s m Young B X R (Unit {0}) u k
 
   not-runs : {A : Type 0} (t : ℕ) (h : How) (cs : List ℕ) → waits cs ≡ runs t h → A
   not-runs t h cs e = let z : ◌≡◌ {A = ℕ} 0 1 = cc in absurd (omega arith)
@@ -133,15 +133,15 @@ module _ (s m : Store) (Young : ℕ → Type 0) (B : Error → Type 0) (X : ℕ 
   yields : (u : Store) → K u → LeftAs Over (yield u)
   unfolding yield
   yields u k =
-      record { failing = over _ (moment-failing s m Young B X R (Unit {0}) u Moment.Waiting tt k); low = λ t h e. not-runs t h _ e; started = λ t h e. not-runs t h _ e; alive = λ t h e. not-runs t h _ e; used = λ t c f e. not-runs t (start c f) _ e }
+      record { failing = over _ (moment_failing s m Young B X R (Unit {0}) u Moment.Waiting tt k); low = λ t h e. not-runs t h _ e; started = λ t h e. not-runs t h _ e; alive = λ t h e. not-runs t h _ e; used = λ t c f e. not-runs t (start c f) _ e }
 
   -- what a live task of m ends with goes up to gathers that its coroutine is an item of
-  pub task-up : (t : ℕ) (a : Awaiter) → t < (header s).next → t < (header m).next → is_live (task m t).state ≡ true → (task m t).awaiter ≡ a → Up s m Young B X (task m t).coroutine.0 a
+  pub task_up : (t : ℕ) (a : Awaiter) → t < (header s).next → t < (header m).next → is_live (task m t).state ≡ true → (task m t).awaiter ≡ a → Up s m Young B X (task m t).coroutine.0 a
   unfolding view
-  task-up t Awaiter.Nobody l n lv e = tt
-  task-up t (Awaiter.Task v) l n lv e = tt
-  task-up t (Awaiter.GatherSlot p x) l n lv e =
-      slotted-up s m Young B X (task m t).coroutine.0 p.0 x.0 (sound.task-slots t n (holds (is_live (task m t).state) lv) p.0 x.0 e) (λ w d. apart t p.0 x.0 l n lv e)
+  task_up t Awaiter.Nobody l n lv e = tt
+  task_up t (Awaiter.Task v) l n lv e = tt
+  task_up t (Awaiter.GatherSlot p x) l n lv e =
+      slotted_up s m Young B X (task m t).coroutine.0 p.0 x.0 (sound.task-slots t n (holds (is_live (task m t).state) lv) p.0 x.0 e) (λ w d. apart t p.0 x.0 l n lv e)
 
   -- a live task runs
   run-left : (u : Store) (t : ℕ) (h : How) → t < (header m).next → is_live (task u t).state ≡ true → ((c f : ℕ) → h ≡ start c f → object u c ≡ Object.Coroutine f CoroutineState.Running) → Over u → LeftAs Over (run u t h)
@@ -159,10 +159,10 @@ module _ (s m : Store) (Young : ℕ → Type 0) (B : Error → Type 0) (X : ℕ 
       room = omega (arith, l, (header-fits m).next_fits)
 
       k1 : Over (set_state u t TaskState.Running)
-      k1 = state-failing s m Young B X R ⊥ u t TaskState.Running room tt lv refl k
+      k1 = state_failing s m Young B X R ⊥ u t TaskState.Running room tt lv refl k
 
       k2 : Over (set_moment (set_state u t TaskState.Running) (Moment.Running (task_id t)))
-      k2 = moment-failing s m Young B X R ⊥ _ (Moment.Running (task_id t)) room k1
+      k2 = moment_failing s m Young B X R ⊥ _ (Moment.Running (task_id t)) room k1
 
       same-task : (t v : ℕ) (h i : How) → runs t h ≡ runs v i → t ≡ v
       same-task t v h i e = cc
@@ -200,42 +200,42 @@ module _ (s m : Store) (Young : ℕ → Type 0) (B : Error → Type 0) (X : ℕ 
     Keeps act = (u : Store) (t : ℕ) → t < hd.next → Activated (task u t).state → SoundDuring Nothing idle D hd u → K u → LeftAs Over (act u t)
 
     module _ (act : Store → ℕ → Switched) (go : Keeps act) where
-      pub next-left : (u : Store) → SoundDuring Nothing idle D hd u → K u → LeftAs Over (resume-next act u)
+      pub next-left : (u : Store) → SoundDuring Nothing idle D hd u → K u → LeftAs Over (resume_next act u)
       unfolding Keeps put_queue task
       next-left u h k =
           next-by D hd (λ x y. LeftAs Over x) act act u h (yields u k)
-          (λ q t l off r d. go (put_queue u q) t l (ready_activated _ r) d (unfold put_queue in (queue-failing s m Young B X R (Unit {0}) u q k)))
+          (λ q t l off r d. go (put_queue u q) t l (ready_activated _ r) d (unfold put_queue in (queue_failing s m Young B X R (Unit {0}) u q k)))
 
-      pub exit-left : (d : Delivery) → DeliveryEnds idle D hd d → ((t : ℕ) → d.woken ≡ some t → Activated (task (remove_from_ready_queue d.store t) t).state) → K d.store
-          → LeftAs Over (resume-after-task-exit act d)
+      pub exit_left : (d : Delivery) → DeliveryEnds idle D hd d → ((t : ℕ) → d.woken ≡ some t → Activated (task (remove_from_ready_queue d.store t) t).state) → K d.store
+          → LeftAs Over (resume_after_task_exit act d)
       unfolding Keeps remove_from_ready_queue put_queue task
-      exit-left d h active k =
+      exit_left d h active k =
           exit_by D hd (λ x y. LeftAs Over x) act act d h (yields d.store k)
-          (λ q t l off r i. go (put_queue d.store q) t l (ready_activated _ r) i (unfold put_queue in (queue-failing s m Young B X R (Unit {0}) d.store q k)))
-          (λ q t e l off i. go (put_queue d.store q) t l (active t e) i (unfold put_queue in (queue-failing s m Young B X R (Unit {0}) d.store q k)))
+          (λ q t l off r i. go (put_queue d.store q) t l (ready_activated _ r) i (unfold put_queue in (queue_failing s m Young B X R (Unit {0}) d.store q k)))
+          (λ q t e l off i. go (put_queue d.store q) t l (active t e) i (unfold put_queue in (queue_failing s m Young B X R (Unit {0}) d.store q k)))
 
       -- a live task fails, its coroutine having raised e as Q says
       pub failed-left : (Q : ℕ → Error → Type 0) (u : Store) (t : ℕ) (e : Error) (r : ℕ → Bool) → ErrorFits e → B e → suc t < hd.next → T (is_live (task u (suc t)).state) → is_blocked (task u (suc t)).state ≡ false
           → ((v : ℕ) → (v ≡ suc t → ⊥) → r v ≡ false) → SoundDuring Nothing r D hd u → Up s m Young B X (task u (suc t)).coroutine.0 (task u (suc t)).awaiter → Q (task u (suc t)).coroutine.0 e
           → ExitAs s X (add_log (remove_task (deliver_awaiter_failure u (task u (suc t)).awaiter e).store (suc t)) (exited (suc t))) (suc t)
           → ((o : ℕ) (d : Error) → Q o d → Raised s R (add_log (remove_task (deliver_awaiter_failure u (task u (suc t)).awaiter e).store (suc t)) (exited (suc t))) o d)
-          → Failing s m Young B X Q Unit u → LeftAs Over (handle-task-failure act u (suc t) e)
-      unfolding handle-task-failure
+          → Failing s m Young B X Q Unit u → LeftAs Over (handle_task_failure act u (suc t) e)
+      unfolding handle_task_failure
       failed-left Q u t e r f b l live free still h i q why back k =
           let a : Awaiter = (task u (suc t)).awaiter in
           let o : ℕ = (task u (suc t)).coroutine.0 in
           let d : Delivery = deliver_awaiter_failure u a e in
-          let sent : DeliveryEnds r D hd d = failure-keeps r D hd e f u o a (task_delivering u t h l live) in
-          let k1 : Failing s m Young B X Q Unit d.store = failure-failing s m Young B X P sound up Q (Unit {0}) e f b u o a (task-fits u (suc t)).awaiter_fits i (by_task q) k in
-          exit-left _ (record {
-            during = remove-keeps d.store (suc t) sent.during (subst (λ (y : Header). suc t < y.next) (sym sent.during.head) l) (exited (suc t)) idle refl still;
+          let sent : DeliveryEnds r D hd d = failure_keeps r D hd e f u o a (task_delivering u t h l live) in
+          let k1 : Failing s m Young B X Q Unit d.store = failure_failing s m Young B X P sound up Q (Unit {0}) e f b u o a (task-fits u (suc t)).awaiter_fits i (by_task q) k in
+          exit_left _ (record {
+            during = remove_keeps d.store (suc t) sent.during (subst (λ (y : Header). suc t < y.next) (sym sent.during.head) l) (exited (suc t)) idle refl still;
             woken = sent.woken;
           }) (failure_activated u (suc t) e k.sized f free)
-          (failing-as s m Young B X Q R (Unit {0}) _ back (exit-failing s m Young B X Q (Unit {0}) d.store (suc t) why k1))
+          (failing_as s m Young B X Q R (Unit {0}) _ back (exit_failing s m Young B X Q (Unit {0}) d.store (suc t) why k1))
 
       -- a task that has not started is started, or fails because its coroutine is not new
-      start_left : (u : Store) (t : ℕ) → suc t < hd.next → (task u (suc t)).state ≡ TaskState.Unstarted → SoundDuring Nothing idle D hd u → K u → LeftAs Over (start-task act u (suc t))
-      unfolding start-task
+      start_left : (u : Store) (t : ℕ) → suc t < hd.next → (task u (suc t)).state ≡ TaskState.Unstarted → SoundDuring Nothing idle D hd u → K u → LeftAs Over (start_task act u (suc t))
+      unfolding start_task
       start_left u t l fr h k = by (new_function (object u c)) refl
         where
           c : ℕ
@@ -277,10 +277,10 @@ module _ (s m : Store) (Young : ℕ → Type 0) (B : Error → Type 0) (X : ℕ 
           module-free : is_blocked (task u (suc t)).state ≡ false
           module-free = ap is_blocked fr
 
-          fails : new_function (object u c) ≡ none → LeftAs Over (handle-task-failure act u (suc t) Error.CoroutineReuse)
+          fails : new_function (object u c) ≡ none → LeftAs Over (handle_task_failure act u (suc t) Error.CoroutineReuse)
           fails q =
               failed-left Q u t Error.CoroutineReuse idle tt reuse l (holds _ live) module-free (λ v d. refl) h delivers-on (inr (refl, refl)) (at_first first) back
-              (failing-as s m Young B X R Q (Unit {0}) u (λ o e r. by_task (inl r)) k)
+              (failing_as s m Young B X R Q (Unit {0}) u (λ o e r. by_task (inl r)) k)
             where
               Q : ℕ → Error → Type 0
               Q o e = R o e ⊎ ((o ≡ c) × (e ≡ Error.CoroutineReuse))
@@ -298,7 +298,7 @@ module _ (s m : Store) (Young : ℕ → Type 0) (B : Error → Type 0) (X : ℕ 
               a = (task u (suc t)).awaiter
 
               delivers-on : Up s m Young B X c a
-              delivers-on = subst (λ (j : ℕ). Up s m Young B X j a) (ap (λ (i : HeapId). i.0) (sym was.coroutine)) (task-up (suc t) a old low was.live (sym was.awaiter))
+              delivers-on = subst (λ (j : ℕ). Up s m Young B X j a) (ap (λ (i : HeapId). i.0) (sym was.coroutine)) (task_up (suc t) a old low was.live (sym was.awaiter))
 
               d : Store
               d = (deliver_awaiter_failure u a Error.CoroutineReuse).store
@@ -307,7 +307,7 @@ module _ (s m : Store) (Young : ℕ → Type 0) (B : Error → Type 0) (X : ℕ 
               v = add_log (remove_task d (suc t)) (exited (suc t))
 
               d-sized : Sized d
-              d-sized = (failure-kept (Used c) (used-closed c) u a Error.CoroutineReuse (task-fits u (suc t)).awaiter_fits (record { sized = k.sized; used = q })).sized
+              d-sized = (failure_kept (Used c) (used-closed c) u a Error.CoroutineReuse (task-fits u (suc t)).awaiter_fits (record { sized = k.sized; used = q })).sized
 
               first : FirstRun s v (suc t)
               first =
@@ -329,9 +329,9 @@ module _ (s m : Store) (Young : ℕ → Type 0) (B : Error → Type 0) (X : ℕ 
               back o e (inl r) = by_task r
               back o e (inr y) = by_first_run (suc t) first (co ∙ sym y.0) y.1
 
-          by : (n : Option ℕ) → new_function (object u c) ≡ n → LeftAs Over (start-by act u (suc t) c n)
-          by none q = unfold start-by in (fails q)
-          by (some f) q = unfold start-by in (runs_on f q)
+          by : (n : Option ℕ) → new_function (object u c) ≡ n → LeftAs Over (start_by act u (suc t) c n)
+          by none q = unfold start_by in (fails q)
+          by (some f) q = unfold start_by in (runs_on f q)
             where
               runs_on : (f : ℕ) → new_function (object u c) ≡ some f → LeftAs Over (run (put_object u c (Object.Coroutine f CoroutineState.Running)) (suc t) (start c f))
               runs_on f q =
@@ -340,7 +340,7 @@ module _ (s m : Store) (Young : ℕ → Type 0) (B : Error → Type 0) (X : ℕ 
                   run-left (put_object u c (Object.Coroutine f CoroutineState.Running)) (suc t) (start c f) low (unfold task put_object in (unfold task in live))
                   (λ d g e. subst (λ (j : ℕ). object (put_object u c (Object.Coroutine f CoroutineState.Running)) j ≡ Object.Coroutine g CoroutineState.Running) (same_start c d f g e)
                   (object_put-object u c (Object.Coroutine f CoroutineState.Running) k.sized (task-fits u (suc t)).coroutine-fits fits ∙ ap (λ (j : ℕ). Object.Coroutine j CoroutineState.Running) (same-function c d f g e)))
-                  (row-failing s m Young B X R ⊥ u c _ (task-fits u (suc t)).coroutine-fits fits (subst (λ (x : Object). ClimbMoves x (Object.Coroutine f CoroutineState.Running)) (sym row) (refl, tt))
+                  (row_failing s m Young B X R ⊥ u c _ (task-fits u (suc t)).coroutine-fits fits (subst (λ (x : Object). ClimbMoves x (Object.Coroutine f CoroutineState.Running)) (sym row) (refl, tt))
                   (λ g n e w p i. absurd (subst FailedRow (sym i) tt)) (λ z. absurd z) (over u k))
                 where
                   same_start : (c d f g : ℕ) → start c f ≡ start d g → c ≡ d
@@ -349,9 +349,9 @@ module _ (s m : Store) (Young : ℕ → Type 0) (B : Error → Type 0) (X : ℕ 
                   same-function : (c d f g : ℕ) → start c f ≡ start d g → f ≡ g
                   same-function c d f g e = cc
 
-      state-left : (u : Store) (t : ℕ) (x : TaskState) → t < hd.next → (task u t).state ≡ x → Activated x → SoundDuring Nothing idle D hd u → K u → LeftAs Over (activate-state act u t x)
-      unfolding activate-state view
-      state-left u zero _ l e Rattle.machine_theorems.specs.Panics.NoPanicLaws.starts h k = absurd (main-started h.kept.but e)
+      state-left : (u : Store) (t : ℕ) (x : TaskState) → t < hd.next → (task u t).state ≡ x → Activated x → SoundDuring Nothing idle D hd u → K u → LeftAs Over (activate_state act u t x)
+      unfolding activate_state view
+      state-left u zero _ l e Rattle.machine_theorems.specs.Panics.NoPanicLaws.starts h k = absurd (main_started h.kept.but e)
       state-left u (suc t) _ l e Rattle.machine_theorems.specs.Panics.NoPanicLaws.starts h k = start_left u t l e h k
       state-left u t _ l e (goes_on v) h k = run-left u t (value v) (subst (λ (j : ℕ). t < j) same_next l) (ap is_live e) (λ c f d. not-start-value v c f d) (over u k)
       state-left u t _ l e (raises_it v) h k = run-left u t (raises v) (subst (λ (j : ℕ). t < j) same_next l) (ap is_live e) (λ c f d. not-start-raise v c f d) (over u k)
@@ -366,5 +366,5 @@ module _ (s m : Store) (Young : ℕ → Type 0) (B : Error → Type 0) (X : ℕ 
     activate-left u t l a h k = within_left (live_count u) u t l a h k
 
     -- the next ready task runs
-    pub resume-left : (u : Store) → SoundDuring Nothing idle D hd u → K u → LeftAs Over (resume-next activate u)
+    pub resume-left : (u : Store) → SoundDuring Nothing idle D hd u → K u → LeftAs Over (resume_next activate u)
     resume-left u h k = next-left activate activate-left u h k

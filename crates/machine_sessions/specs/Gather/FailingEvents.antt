@@ -35,7 +35,7 @@ use Rattle.machine.specs.Store.{Store, LogEntry, view, task, object, place, head
 use Rattle.machine.specs.Scheduler.{AwaitedGather, PendingExternal, as_awaited, as_pending, is_some, bit, pending_external, pending_call_ids, remove_task, cancel_one, live}
 use Rattle.machine.specs.Scheduler.{Walk, reach_if, reach, remove_blocked, visit_by, visit, visit_place, visit_open, walk_gather, walk_next, walk, walk_from, cancel_task, remove_from, cleanup}
 use Rattle.machine.specs.Delivery.{value_or, deliver_awaiter_success, resolve_pending, fail_pending, settle_pending, settle_found, resolve_future, fail_future}
-use Rattle.machine.specs.Events.{How, start, Control, runs, waits, Switched, Result, activate, resume-next, handle-task-failure, completed, handle_task_completion, apply_result, apply_future_results, put_items, make_coroutine, make_pending, make_settled, make_gather, wake_in_order}
+use Rattle.machine.specs.Events.{How, start, Control, runs, waits, Switched, Result, activate, resume_next, handle_task_failure, completed, handle_task_completion, apply_result, apply_future_results, put_items, make_coroutine, make_pending, make_settled, make_gather, wake_in_order}
 use Rattle.machine.specs.Machine.{Event, Answer, Step, switched, end_main, task_completes, task_fails, repeat_wait, resume_with_resolved_futures, answer_cancel}
 use Rattle.machine.specs.Sound.{value_known, runs_now}
 use Rattle.machine.specs.History.{says, nothing_said, tells, done_only, spawned_by, reply_error}
@@ -47,15 +47,15 @@ use Rattle.machine_laws.specs.DeliveryLaws.{absurd_some, pending-object}
 use Rattle.machine_laws.specs.MakingLaws.{value-fits}
 use Rattle.machine_theorems.specs.Soundness.Stores.{idle, SoundDuring, SoundStore, during_of}
 use Rattle.machine_theorems.specs.Soundness.Fill.{DeliveringValue}
-use Rattle.machine_theorems.specs.Soundness.Exits.{runner-low, runner-runs, runner-live, others-commits-none, completion-delivering, completion-delivery-ends, only_changes_of}
+use Rattle.machine_theorems.specs.Soundness.Exits.{runner_low, runner-runs, runner-live, others_commits_none, completion_delivering, completion_delivery_ends, only_changes_of}
 use Rattle.machine_theorems.specs.Soundness.Cycle.{spawned_of, coroutine-is}
 use Rattle.machine_theorems.specs.Soundness.RowFacts.{unstarted-live}
-use Rattle.machine_theorems.specs.Soundness.Results.{resolve-delivering, MayApply, AllApply, host_fits, result_keeps}
+use Rattle.machine_theorems.specs.Soundness.Results.{resolve_delivering, MayApply, AllApply, host_fits, result_keeps}
 use Rattle.machine_theorems.specs.Panics.NoPanicWoken.{success_activated}
 use Rattle.machine_sessions.specs.Gather.Failing.{ClimbMoves, RowMoves, FailedRow, climb-same, climb_moves, climb-awaited, climb-pending, climb-failed, failed-awaited, row_same}
-use Rattle.machine_sessions.specs.Gather.FailingRows.{ItemAt, Raised, by_external, by_task, ExitAs, before, as_runner, TaskAs, Because, Failing, row-failing, queue-failing, moment-failing, goes-failing, ends-failing, exit-failing, failing-over}
-use Rattle.machine_sessions.specs.Gather.FailingClimb.{Up, slotted-up, success-failing, failure-failing}
-use Rattle.machine_sessions.specs.Gather.FailingCycle.{LeftAs, task-up, failed-left, exit-left, activate-left, resume-left}
+use Rattle.machine_sessions.specs.Gather.FailingRows.{ItemAt, Raised, by_external, by_task, ExitAs, before, as_runner, TaskAs, Because, Failing, row_failing, queue_failing, moment_failing, goes_failing, ends_failing, exit_failing, failing_over}
+use Rattle.machine_sessions.specs.Gather.FailingClimb.{Up, slotted_up, success_failing, failure_failing}
+use Rattle.machine_sessions.specs.Gather.FailingCycle.{LeftAs, task_up, failed-left, exit_left, activate-left, resume-left}
 use Rattle.machine_sessions.specs.Gather.FailingStated.{ResultIn, Brings, reuse, script, answer, RunnerFails, RunnerEnds, completes, fails, FailedBy, CommitFailed, Took, Opens, lived, EventFails}
 
 -- ---- a row that is pending has not failed, and does not in deliveries
@@ -132,17 +132,17 @@ module _ (e : Event) (s : Store) where
       }
 
   -- by a switch
-  pub switch-ends : (x : Switched) → LeftAs (K ⊥) x → EventFails e s (switched x)
+  pub switch_ends : (x : Switched) → LeftAs (K ⊥) x → EventFails e s (switched x)
   unfolding switched tells
-  switch-ends x l =
+  switch_ends x l =
       ends ⊥ (record { store = x.store; answer = Answer.control x.control }) l.failing (λ t h p. l.low t h (same-control _ _ p)) (λ t h p. l.started t h (same-control _ _ p)) (λ t h p. l.alive t h (same-control _ _ p)) (λ t c f p. l.used t c f (same-control _ _ p))
     where
       same-control : (a b : Control) → some a ≡ some b → a ≡ b
       same-control a b p = some-injective a b p
 
   -- where nobody is given control
-  pub quiet-ends : (Fr : Type 0) (x : Step) → (tells x.answer).control ≡ none → K Fr x.store → EventFails e s x
-  quiet-ends Fr x n k = ends Fr x k (λ t h p. absurd_some (sym n ∙ p)) (λ t h p. absurd_some (sym n ∙ p)) (λ t h p. absurd_some (sym n ∙ p)) (λ t c f p. absurd_some (sym n ∙ p))
+  pub quiet_ends : (Fr : Type 0) (x : Step) → (tells x.answer).control ≡ none → K Fr x.store → EventFails e s x
+  quiet_ends Fr x n k = ends Fr x k (λ t h p. absurd_some (sym n ∙ p)) (λ t h p. absurd_some (sym n ∙ p)) (λ t h p. absurd_some (sym n ∙ p)) (λ t c f p. absurd_some (sym n ∙ p))
 
   -- rows that are made, tasks and log as they were
   pub same_ends : (x : Step) → (tells x.answer).control ≡ none → ((o : ℕ) → o < (header s).made → object x.store o ≡ object s o) → ((t : ℕ) → task x.store t ≡ task s t)
@@ -189,7 +189,7 @@ module _ (ev : Event) (s : Store) (w : SoundStore s) where
   unfolding view
   external-up o Awaiter.Nobody l e = tt
   external-up o (Awaiter.Task t) l e = tt
-  external-up o (Awaiter.GatherSlot p x) l e = slotted-up s s (λ g. ⊥) (Brings ev) (RunnerEnds ev s) o p.0 x.0 (w.facts.but.object-slots o l (λ z. z) p.0 x.0 e) (λ v d y. y)
+  external-up o (Awaiter.GatherSlot p x) l e = slotted_up s s (λ g. ⊥) (Brings ev) (RunnerEnds ev s) o p.0 x.0 (w.facts.but.object-slots o l (λ z. z) p.0 x.0 e) (λ v d y. y)
 
   module _ {r : ℕ → Bool} {D : ℕ → Type 0} (u : Store) (h : SoundDuring Nothing r D (header s) u) (k : J u) where
     found : (c : ℕ) (f : ℕ → PendingExternal → Store) → ((o : ℕ) (p : PendingExternal) → o < (header u).made → as_pending (object u o) ≡ some p → J (f o p)) → J (settle_found u (pending_external u c) f)
@@ -216,7 +216,7 @@ module _ (ev : Event) (s : Store) (w : SoundStore s) where
     settles : (o : ℕ) (p : PendingExternal) (y : ExternalFutureState) → o < (header u).made → as_pending (object u o) ≡ some p → ObjectFits (Object.ExternalFuture p.call y)
         → ClimbMoves (Object.ExternalFuture p.call (ExternalFutureState.Pending p.awaiter p.stored)) (Object.ExternalFuture p.call y) → J (put_object u o (Object.ExternalFuture p.call y))
     settles o p y l e f c =
-        row-failing s s (λ g. ⊥) (Brings ev) (RunnerEnds ev s) (RunnerFails ev s) (Unit {0}) u o _ (low-as o l) f (subst (λ (x : Object). ClimbMoves x (Object.ExternalFuture p.call y)) (sym (pending-object (object u o) p e)) c)
+        row_failing s s (λ g. ⊥) (Brings ev) (RunnerEnds ev s) (RunnerFails ev s) (Unit {0}) u o _ (low-as o l) f (subst (λ (x : Object). ClimbMoves x (Object.ExternalFuture p.call y)) (sym (pending-object (object u o) p e)) c)
         (λ a b d v q i. absurd (subst FailedRow (sym i) tt)) (λ i a q. pending-coroutine (object u o) p a CoroutineState.New e q) k
 
     delivers-on : (o : ℕ) (p : PendingExternal) → o < (header u).made → as_pending (object u o) ≡ some p → Goes o p.awaiter
@@ -226,9 +226,9 @@ module _ (ev : Event) (s : Store) (w : SoundStore s) where
     unfolding resolve_future resolve_pending view
     resolves c v g =
         found c _ (λ o p l e.
-        let i = resolve-delivering u h v g o p l e in
+        let i = resolve_delivering u h v g o p l e in
         let fv : ValueFits (value_or p.stored v) = value-fits _ _ _ i.during.kept.but.fits.made-fits i.known in
-        success-failing s s (λ g. ⊥) (Brings ev) (RunnerEnds ev s) Nothing w.facts.but (λ a b d x l q z y. y) (RunnerFails ev s) (Unit {0}) _ p.awaiter (value_or p.stored v) (call_fits o p e).1.0 fv
+        success_failing s s (λ g. ⊥) (Brings ev) (RunnerEnds ev s) Nothing w.facts.but (λ a b d x l q z y. y) (RunnerFails ev s) (Unit {0}) _ p.awaiter (value_or p.stored v) (call_fits o p e).1.0 fv
         (settles o p (ExternalFutureState.Resolved (value_or p.stored v)) l e ((call_fits o p e).0, fv) (refl, tt)))
 
     breaks : (c : ℕ) (x : Error) → ErrorFits x → Brings ev x → J (fail_future u c x)
@@ -236,7 +236,7 @@ module _ (ev : Event) (s : Store) (w : SoundStore s) where
     breaks c x f b =
         found c _ (λ o p l e.
         let fit : ObjectFits (Object.ExternalFuture p.call (ExternalFutureState.Failed x)) = ((call_fits o p e).0, f) in
-        failure-failing s s (λ g. ⊥) (Brings ev) (RunnerEnds ev s) Nothing w.facts.but (λ a b d x l q z y. y) (RunnerFails ev s) (Unit {0}) x f b _ o p.awaiter (call_fits o p e).1.0 (delivers-on o p l e)
+        failure_failing s s (λ g. ⊥) (Brings ev) (RunnerEnds ev s) Nothing w.facts.but (λ a b d x l q z y. y) (RunnerFails ev s) (Unit {0}) x f b _ o p.awaiter (call_fits o p e).1.0 (delivers-on o p l e)
         (by_external p.call (object_put-object u o _ k.sized (low-as o l) fit))
         (settles o p (ExternalFutureState.Failed x) l e fit (refl, tt)))
 
@@ -271,8 +271,8 @@ pub results-fails : (rs : List Result) (s : Store) → SoundStore s → AllApply
     → EventFails (Event.results rs) s (record { store = wake_in_order s (apply_future_results s rs); answer = Answer.done })
 unfolding tells done_only wake_in_order
 results-fails rs s w a =
-    quiet-ends (Event.results rs) s (Unit {0}) (record { store = wake_in_order s (apply_future_results s rs); answer = Answer.done }) refl
-    (queue-failing s _ _ _ _ _ (Unit {0}) (apply_future_results s rs) _ (all (Event.results rs) s w rs rs s refl (λ x z. z) a (during_of s w) (begins (Event.results rs) s w.memory.sized)))
+    quiet_ends (Event.results rs) s (Unit {0}) (record { store = wake_in_order s (apply_future_results s rs); answer = Answer.done }) refl
+    (queue_failing s _ _ _ _ _ (Unit {0}) (apply_future_results s rs) _ (all (Event.results rs) s w rs rs s refl (λ x z. z) a (during_of s w) (begins (Event.results rs) s w.memory.sized)))
 
 -- ---- events that may start tasks bring coroutine-reuse
 
@@ -301,19 +301,19 @@ module _ (ev : Event) (s : Store) (w : SoundStore s) where
   never-slot : (t p x : ℕ) → t < (header s).next → t < (header s).next → is_live (task s t).state ≡ true → (task s t).awaiter ≡ Awaiter.GatherSlot (heap_id p) (heap_id x) → ⊥ → ⊥
   never-slot t p x a b c d y = y
 
-  pub runner-up : (t : ℕ) → (header s).moment ≡ Moment.Running (task_id t) → Up s s (λ g. ⊥) (Brings ev) (RunnerEnds ev s) (task s t).coroutine.0 (task s t).awaiter
-  runner-up t m =
-      task-up s s (λ g. ⊥) (λ y. Unit {0}) (RunnerEnds ev s) (RunnerFails ev s) Nothing w.facts.but never rows_same never-slot tt t (task s t).awaiter (runner-low s t w m) (runner-low s t w m) (ap is_live (runner-runs s t w m)) refl
+  pub runner_up : (t : ℕ) → (header s).moment ≡ Moment.Running (task_id t) → Up s s (λ g. ⊥) (Brings ev) (RunnerEnds ev s) (task s t).coroutine.0 (task s t).awaiter
+  runner_up t m =
+      task_up s s (λ g. ⊥) (λ y. Unit {0}) (RunnerEnds ev s) (RunnerFails ev s) Nothing w.facts.but never rows_same never-slot tt t (task s t).awaiter (runner_low s t w m) (runner_low s t w m) (ap is_live (runner-runs s t w m)) refl
 
-pub failure_fails : (s : Store) → SoundStore s → (t n : ℕ) → (header s).moment ≡ Moment.Running (task_id (suc t)) → ErrorFits (Error.Script n) → EventFails (Event.fail n) s (switched (handle-task-failure activate s (suc t) (Error.Script n)))
+pub failure_fails : (s : Store) → SoundStore s → (t n : ℕ) → (header s).moment ≡ Moment.Running (task_id (suc t)) → ErrorFits (Error.Script n) → EventFails (Event.fail n) s (switched (handle_task_failure activate s (suc t) (Error.Script n)))
 failure_fails s w t n m f =
-    switch-ends (Event.fail n) s (handle-task-failure activate s (suc t) (Error.Script n))
+    switch_ends (Event.fail n) s (handle_task_failure activate s (suc t) (Error.Script n))
     (failed-left s s (λ g. ⊥) (Brings (Event.fail n)) (RunnerEnds (Event.fail n) s) R Nothing w.facts.but (never (Event.fail n) s w) (rows_same (Event.fail n) s w) (never-slot (Event.fail n) s w) (fail-reuse n)
     (λ o. T (is_completed (kind (object s o)))) (header s) refl activate
     (activate-left s s (λ g. ⊥) (Brings (Event.fail n)) (RunnerEnds (Event.fail n) s) R Nothing w.facts.but (never (Event.fail n) s w) (rows_same (Event.fail n) s w) (never-slot (Event.fail n) s w) (fail-reuse n)
     (λ o. T (is_completed (kind (object s o)))) (header s) refl)
-    R s t (Error.Script n) (runs_now (header s).moment) f (script n refl) (runner-low s (suc t) w m) (runner-live s (suc t) w m) (ap is_blocked (runner-runs s (suc t) w m)) (others-commits-none s (suc t) w m) (during_of s w)
-    (runner-up (Event.fail n) s w (suc t) m) (record { runner = t; number = n; fails = refl; runs-it = m; coroutine = refl; error = refl }) (as_runner (fails n t refl refl m)) (λ o d r. by_task r)
+    R s t (Error.Script n) (runs_now (header s).moment) f (script n refl) (runner_low s (suc t) w m) (runner-live s (suc t) w m) (ap is_blocked (runner-runs s (suc t) w m)) (others_commits_none s (suc t) w m) (during_of s w)
+    (runner_up (Event.fail n) s w (suc t) m) (record { runner = t; number = n; fails = refl; runs-it = m; coroutine = refl; error = refl }) (as_runner (fails n t refl refl m)) (λ o d r. by_task r)
     (begins (Event.fail n) s w.memory.sized))
   where
     R : ℕ → Error → Type 0
@@ -331,11 +331,11 @@ completes_climbs f CoroutineState.Completed = (refl, refl)
 pub completion_fails : (s : Store) → SoundStore s → (t : ℕ) (v : Value) → (header s).moment ≡ Moment.Running (task_id (suc t)) → T (value_known (header s).made (object s) v) → EventFails (Event.complete v) s (switched (handle_task_completion s (suc t) v))
 unfolding handle_task_completion view
 completion_fails s w t v m kn =
-    switch-ends ev s _
-    (exit-left s s (λ g. ⊥) (Brings ev) (RunnerEnds ev s) R Nothing w.facts.but (never ev s w) (rows_same ev s w) (never-slot ev s w) (complete-reuse v) D (header s) refl activate
+    switch_ends ev s _
+    (exit_left s s (λ g. ⊥) (Brings ev) (RunnerEnds ev s) R Nothing w.facts.but (never ev s w) (rows_same ev s w) (never-slot ev s w) (complete-reuse v) D (header s) refl activate
     (activate-left s s (λ g. ⊥) (Brings ev) (RunnerEnds ev s) R Nothing w.facts.but (never ev s w) (rows_same ev s w) (never-slot ev s w) (complete-reuse v) D (header s) refl)
-    (deliver_awaiter_success left a v) (completion-delivery-ends s t v w m kn) (success_activated left a v k2.sized (task-fits s (suc t)).awaiter_fits fv)
-    (success-failing s s (λ g. ⊥) (Brings ev) (RunnerEnds ev s) Nothing w.facts.but (never ev s w) R (Unit {0}) left a v (task-fits s (suc t)).awaiter_fits fv k2))
+    (deliver_awaiter_success left a v) (completion_delivery_ends s t v w m kn) (success_activated left a v k2.sized (task-fits s (suc t)).awaiter_fits fv)
+    (success_failing s s (λ g. ⊥) (Brings ev) (RunnerEnds ev s) Nothing w.facts.but (never ev s w) R (Unit {0}) left a v (task-fits s (suc t)).awaiter_fits fv k2))
   where
     ev : Event
     ev = Event.complete v
@@ -362,18 +362,18 @@ completion_fails s w t v m kn =
     fv = value-fits (header s).made (object s) v w.facts.but.fits.made-fits kn
 
     k1 : K (Event.complete v) s (Unit {0}) done
-    k1 = by (coroutine-is (object s o) (spawned_of t w.facts.but (runner-low s (suc t) w m) (runner-live s (suc t) w m)).coroutine)
+    k1 = by (coroutine-is (object s o) (spawned_of t w.facts.but (runner_low s (suc t) w m) (runner-live s (suc t) w m)).coroutine)
       where
         by : (f : ℕ) × (y : CoroutineState) × (object s o ≡ Object.Coroutine f y) → K (Event.complete v) s (Unit {0}) done
         by x =
             let q : completed (object s o) ≡ Object.Coroutine x.0 CoroutineState.Completed = ap completed x.2 ∙ completed-is x.0 x.1 in
             subst (λ (y : Object). K (Event.complete v) s (Unit {0}) (put_object s o y)) (sym q) (anew (Event.complete v) s ⊥ (Unit {0}) _
-            (row-failing s s (λ g. ⊥) (Brings (Event.complete v)) (RunnerEnds (Event.complete v) s) (RunnerFails (Event.complete v) s) ⊥ s o _ (task-fits s (suc t)).coroutine-fits (subst ObjectFits x.2 (object-fits s o))
+            (row_failing s s (λ g. ⊥) (Brings (Event.complete v)) (RunnerEnds (Event.complete v) s) (RunnerFails (Event.complete v) s) ⊥ s o _ (task-fits s (suc t)).coroutine-fits (subst ObjectFits x.2 (object-fits s o))
             (subst (λ (y : Object). ClimbMoves y (Object.Coroutine x.0 CoroutineState.Completed)) (sym x.2) (completes_climbs x.0 x.1))
             (λ g n e u p i. absurd (subst FailedRow (sym i) tt)) (λ z. absurd z) (anew (Event.complete v) s (Unit {0}) ⊥ s (begins (Event.complete v) s w.memory.sized))))
 
     k2 : K (Event.complete v) s (Unit {0}) left
-    k2 = exit-failing s s (λ g. ⊥) (Brings (Event.complete v)) (RunnerEnds (Event.complete v) s) (RunnerFails (Event.complete v) s) (Unit {0}) done (suc t) (as_runner (completes v t refl refl m)) k1
+    k2 = exit_failing s s (λ g. ⊥) (Brings (Event.complete v)) (RunnerEnds (Event.complete v) s) (RunnerFails (Event.complete v) s) (Unit {0}) done (suc t) (as_runner (completes v t refl refl m)) k1
 
 -- ---- resume
 
@@ -381,7 +381,7 @@ pub resume-fails : (s : Store) → SoundStore s → (header s).moment ≡ Moment
 unfolding resume_with_resolved_futures
 resume-fails s w m =
     pick_has (EventFails Event.resume s) (eqb s.queue.len 0) (repeats (pending_call_ids s))
-    (switch-ends Event.resume s (resume-next activate s)
+    (switch_ends Event.resume s (resume_next activate s)
     (resume-left s s (λ g. ⊥) (Brings Event.resume) (RunnerEnds Event.resume s) (RunnerFails Event.resume s) Nothing w.facts.but (never Event.resume s w) (rows_same Event.resume s w) (never-slot Event.resume s w) resume-reuse
     (λ o. T (is_completed (kind (object s o)))) (header s) refl s (only_changes_of s w m) (begins Event.resume s w.memory.sized)))
   where
@@ -389,7 +389,7 @@ resume-fails s w m =
     not-runs t h cs e = let z : ◌≡◌ {A = ℕ} 0 1 = cc in absurd (omega arith)
 
     repeats : (cs : List ℕ) → EventFails Event.resume s (record { store = s; answer = repeat_wait cs })
-    repeats [] = unfold repeat_wait in (quiet-ends Event.resume s (Unit {0}) (record { store = s; answer = Answer.stalled }) (unfold tells done_only in refl) (begins Event.resume s w.memory.sized))
+    repeats [] = unfold repeat_wait in (quiet_ends Event.resume s (Unit {0}) (record { store = s; answer = Answer.stalled }) (unfold tells done_only in refl) (begins Event.resume s w.memory.sized))
     repeats (c ∷ cs) = unfold repeat_wait in
         (ends Event.resume s (Unit {0}) (record { store = s; answer = Answer.control (waits (c ∷ cs)) }) (begins Event.resume s w.memory.sized) (λ t h e. not-runs t h (c ∷ cs) (unfold tells in e))
         (λ t h e. not-runs t h (c ∷ cs) (unfold tells in e)) (λ t h e. not-runs t h (c ∷ cs) (unfold tells in e)) (λ t d f e. not-runs t (start d f) (c ∷ cs) (unfold tells in e)))
@@ -404,7 +404,7 @@ module _ (ev : Event) (s : Store) where
   WalkKept v = L v.store
 
   goes : (u : Store) (t : ℕ) → L u → L (add_log (remove_task u t) (removed t))
-  goes u t k = goes-failing s s (λ g. ⊥) (Brings ev) (RunnerEnds ev s) (RunnerFails ev s) (Unit {0}) u t k
+  goes u t k = goes_failing s s (λ g. ⊥) (Brings ev) (RunnerEnds ev s) (RunnerFails ev s) (Unit {0}) u t k
 
   reach-kept : (v : Walk) (g : ℕ) → WalkKept v → WalkKept (reach v g)
   unfolding reach
@@ -452,18 +452,18 @@ module _ (ev : Event) (s : Store) where
   unfolding remove_from
   remove-from-kept zero u t k = k
   remove-from-kept (suc m) u t k =
-      remove-from-kept m _ (t + 1) (pick_has L (is_live (task u t).state) (ends-failing s s (λ g. ⊥) (Brings ev) (RunnerEnds ev s) (RunnerFails ev s) (Unit {0}) u t k) k)
+      remove-from-kept m _ (t + 1) (pick_has L (is_live (task u t).state) (ends_failing s s (λ g. ⊥) (Brings ev) (RunnerEnds ev s) (RunnerFails ev s) (Unit {0}) u t k) k)
 
   cleans : L s → L (cleanup s)
   unfolding cleanup
   cleans k =
-      moment-failing s s (λ g. ⊥) (Brings ev) (RunnerEnds ev s) (RunnerFails ev s) (Unit {0}) _ Moment.Ended tt
-      (queue-failing s s (λ g. ⊥) (Brings ev) (RunnerEnds ev s) (RunnerFails ev s) (Unit {0}) _ empty_queue (remove-from-kept (header s).next s 0 k))
+      moment_failing s s (λ g. ⊥) (Brings ev) (RunnerEnds ev s) (RunnerFails ev s) (Unit {0}) _ Moment.Ended tt
+      (queue_failing s s (λ g. ⊥) (Brings ev) (RunnerEnds ev s) (RunnerFails ev s) (Unit {0}) _ empty_queue (remove-from-kept (header s).next s 0 k))
 
 pub cancel-fails : (s : Store) (t : ℕ) → SoundStore s → EventFails (Event.cancel t) s (answer_cancel s (cancel_task s t))
 unfolding tells done_only
-cancel-fails s t w = quiet-ends (Event.cancel t) s (Unit {0}) (answer_cancel s (cancel_task s t)) refl (cancels (Event.cancel t) s t (begins (Event.cancel t) s w.memory.sized))
+cancel-fails s t w = quiet_ends (Event.cancel t) s (Unit {0}) (answer_cancel s (cancel_task s t)) refl (cancels (Event.cancel t) s t (begins (Event.cancel t) s w.memory.sized))
 
 pub end_fails : (ev : Event) (s : Store) (a : Answer) → SoundStore s → (tells a).control ≡ none → EventFails ev s (end_main s a)
 unfolding end_main
-end_fails ev s a w c = quiet-ends ev s (Unit {0}) (record { store = cleanup s; answer = a }) c (cleans ev s (begins ev s w.memory.sized))
+end_fails ev s a w c = quiet_ends ev s (Unit {0}) (record { store = cleanup s; answer = a }) c (cleans ev s (begins ev s w.memory.sized))

@@ -38,9 +38,9 @@ use Rattle.machine_laws.specs.TestLaws.{holds, both}
 use Rattle.machine_laws.specs.SoundLaws.{refusal-rest}
 use Rattle.machine_theorems.specs.Soundness.PutTask.{is_task_of_give}
 use Rattle.machine_theorems.specs.Soundness.Stores.{SoundStore}
-use Rattle.machine_theorems.specs.Soundness.Exits.{runner-low, runner-runs}
+use Rattle.machine_theorems.specs.Soundness.Exits.{runner_low, runner-runs}
 use Rattle.machine_theorems.specs.Soundness.Cycle.{Spawned, spawned_of}
-use Rattle.machine_theorems.specs.Panics.NoPanicLaws.{main-started}
+use Rattle.machine_theorems.specs.Panics.NoPanicLaws.{main_started}
 use Rattle.machine_sessions.specs.Places.Told.{Frozen, co, pends, gave, broke, many, frozen}
 use Rattle.machine_sessions.specs.Places.Agrees.{Agrees, no_value}
 use Rattle.machine_sessions.specs.Places.PlacesHold.{row_outcome}
@@ -172,11 +172,11 @@ both_true false b e = absurd (true≢false (sym e))
 pub record ExitsOf (f g : ℕ → Option ℕ) (hs : List LogEntry) (c : ℕ) : Type 0 where
   pub who : ℕ
   pub exits : exits_in hs who ≡ true
-  pub for-it : f who ≡ some c
+  pub for_it : f who ≡ some c
   pub none-started : g who ≡ none
 
 exits-later : {f g : ℕ → Option ℕ} {hs : List LogEntry} {c : ℕ} (x : LogEntry) → ((t : ℕ) → exits_in hs t ≡ true → exits_in (x ∷ hs) t ≡ true) → ExitsOf f g hs c → ExitsOf f g (x ∷ hs) c
-exits-later x h k = record { who = k.who; exits = h k.who k.exits; for-it = k.for-it; none-started = k.none-started }
+exits-later x h k = record { who = k.who; exits = h k.who k.exits; for_it = k.for_it; none-started = k.none-started }
 
 pub exits-found : (f g : ℕ → Option ℕ) (hs : List LogEntry) (c : ℕ) → exits_unstarted f g hs c ≡ true → ExitsOf f g hs c
 unfolding exits_unstarted exits_in
@@ -189,7 +189,7 @@ exits-found f g (exited u ∷ hs) c e = by (is_at (f u) c && is_none (g u)) refl
     by : (b : Bool) → (is_at (f u) c && is_none (g u)) ≡ b → (b || exits_unstarted f g hs c) ≡ true → (exits_unstarted f g hs c ≡ true → ExitsOf f g hs c) → ExitsOf f g (exited u ∷ hs) c
     by true q e ih =
         let y = both_true (is_at (f u) c) (is_none (g u)) q in
-        record { who = u; exits = unfold exits_in in (ap (λ (b : Bool). b || exits_in hs u) (eq-eqb u u refl)); for-it = is_there (f u) c y.0; none-started = none_is (g u) y.1 }
+        record { who = u; exits = unfold exits_in in (ap (λ (b : Bool). b || exits_in hs u) (eq-eqb u u refl)); for_it = is_there (f u) c y.0; none-started = none_is (g u) y.1 }
     by false q e ih = exits-later (exited u) (λ t i. more (eqb u t) (exits_in hs t) i) (ih e)
       where
         more : (a b : Bool) → b ≡ true → (a || b) ≡ true
@@ -241,9 +241,9 @@ failed-by-runner x h o n p q f =
     ∙ (ap (λ (b : Bool). elim b [ true ↦ elim (said x).fails [ none ↦ failed_error h o | some i ↦ some (Error.Script i) ] | false ↦ failed_error h o ]) (some-is_at (running_coroutine h) o q)
     ∙ ap (λ (b : Option ℕ). elim b [ none ↦ failed_error h o | some i ↦ some (Error.Script i) ]) f)
 
-failed-by_exit : (x : Entry) (h : List Entry) (o : ℕ) → exits_unstarted (spawned_for (x ∷ h)) (coroutine_of (x ∷ h)) x.happened o ≡ true → failed_error (x ∷ h) o ≡ some Error.CoroutineReuse
+failed_by_exit : (x : Entry) (h : List Entry) (o : ℕ) → exits_unstarted (spawned_for (x ∷ h)) (coroutine_of (x ∷ h)) x.happened o ≡ true → failed_error (x ∷ h) o ≡ some Error.CoroutineReuse
 unfolding failed_error
-failed-by_exit x h o p =
+failed_by_exit x h o p =
     ap (λ (b : Bool). elim b [ true ↦ some Error.CoroutineReuse | false ↦ elim (is_at (running_coroutine h) o) [ true ↦ elim (said x).fails [ none ↦ failed_error h o | some i ↦ some (Error.Script i) ] | false ↦ failed_error h o ] ]) p
 
 running-is : (h : List Entry) (t c : ℕ) → running h ≡ some t → coroutine_of h t ≡ some c → running_coroutine h ≡ some c
@@ -328,9 +328,9 @@ module _ (h : List Entry) (s : Store) (w : SoundStore s) (a : Agrees h s) (k : K
   y = entry_of e x.answer x.store
 
   -- what happened is what was logged
-  pub happened-is : y.happened ≡ u.log
+  pub happened_is : y.happened ≡ u.log
   unfolding entry_of happened_by
-  happened-is = rw ok
+  happened_is = rw ok
 
   pub said-is : said y ≡ says e
   said-is = said-accepted e x.answer x.store ok
@@ -341,7 +341,7 @@ module _ (h : List Entry) (s : Store) (w : SoundStore s) (a : Agrees h s) (k : K
 
   pub spawned-is : (t : ℕ) → spawned_for (y ∷ h) t ≡ spawned_by (spawned_for h t) u.log t
   unfolding spawned_for
-  spawned-is t = ap (λ (l : List LogEntry). spawned_by (spawned_for h t) l t) happened-is
+  spawned-is t = ap (λ (l : List LogEntry). spawned_by (spawned_for h t) l t) happened_is
 
   pub spawned-old : (t : ℕ) → t < (header s).next → spawned_for (y ∷ h) t ≡ spawned_for h t
   spawned-old t l = spawned-is t ∙ (fl.spawned t (spawned_for h t) l ∙ (ap (λ (i : List LogEntry). spawned_by (spawned_for h t) i t) fresh ∙ (unfold spawned_by in refl)))
@@ -360,21 +360,21 @@ module _ (h : List Entry) (s : Store) (w : SoundStore s) (a : Agrees h s) (k : K
 
   -- a runner that is not main has started its coroutine
   pub runner-coroutine : (t : ℕ) → (header s).moment ≡ Moment.Running (task_id (suc t)) → coroutine_of h (suc t) ≡ some (task s (suc t)).coroutine.0
-  runner-coroutine t m = (a.told.tasks t (runner-low s (suc t) w m) (ap is_live (runner-runs s (suc t) w m))).started (ap is_unstarted (runner-runs s (suc t) w m))
+  runner-coroutine t m = (a.told.tasks t (runner_low s (suc t) w m) (ap is_live (runner-runs s (suc t) w m))).started (ap is_unstarted (runner-runs s (suc t) w m))
 
   -- who has started one has still
   still-started : (t c : ℕ) → coroutine_of h t ≡ some c → coroutine_of (y ∷ h) t ≡ none → ⊥
   still-started t c p q = started_keeps (tells x.answer).control t (coroutine_of h t) c p (sym (coroutine-is t) ∙ q)
 
   -- a task that exits without having started any was unstarted before
-  pub exit-first : (c : ℕ) → exits_unstarted (spawned_for (y ∷ h)) (coroutine_of (y ∷ h)) y.happened c ≡ true → (t : ℕ) × FirstRun s u (suc t) × ((task s (suc t)).coroutine.0 ≡ c)
-  exit-first c q = by (exits-found (spawned_for (y ∷ h)) (coroutine_of (y ∷ h)) y.happened c q)
+  pub exit_first : (c : ℕ) → exits_unstarted (spawned_for (y ∷ h)) (coroutine_of (y ∷ h)) y.happened c ≡ true → (t : ℕ) × FirstRun s u (suc t) × ((task s (suc t)).coroutine.0 ≡ c)
+  exit_first c q = by (exits-found (spawned_for (y ∷ h)) (coroutine_of (y ∷ h)) y.happened c q)
     where
       unstarted-live : (z : TaskState) → z ≡ TaskState.Unstarted → is_live z ≡ true
       unstarted-live z i = ap is_live i
 
       first : (t : ℕ) → spawned_for (y ∷ h) t ≡ some c → FirstRun s u t → (v : ℕ) × FirstRun s u (suc v) × ((task s (suc v)).coroutine.0 ≡ c)
-      first zero p r = absurd (main-started w.facts.but (unfold view in r.was))
+      first zero p r = absurd (main_started w.facts.but (unfold view in r.was))
       first (suc t) p r =
           (t, r, some-injective (task s (suc t)).coroutine.0 c (sym (k.spawned t r.low (unstarted-live (task s (suc t)).state r.was)) ∙ (sym (spawned-old (suc t) r.low) ∙ p)))
 
@@ -396,7 +396,7 @@ module _ (h : List Entry) (s : Store) (w : SoundStore s) (a : Agrees h s) (k : K
       at t p n (at_first r) = first t p r
 
       by : ExitsOf (spawned_for (y ∷ h)) (coroutine_of (y ∷ h)) y.happened c → (v : ℕ) × FirstRun s u (suc v) × ((task s (suc v)).coroutine.0 ≡ c)
-      by r = at r.who r.for-it r.none-started (fl.exits r.who (subst (λ (i : List LogEntry). exits_in i r.who ≡ true) happened-is r.exits))
+      by r = at r.who r.for_it r.none-started (fl.exits r.who (subst (λ (i : List LogEntry). exits_in i r.who ≡ true) happened_is r.exits))
 
   -- what was used is
   used-still : (c : ℕ) → UsedRow (object s c) → UsedRow (object u c)
@@ -443,7 +443,7 @@ module _ (h : List Entry) (s : Store) (w : SoundStore s) (a : Agrees h s) (k : K
 
       by-error : (c : ℕ) (r : Error) → (exits_unstarted (spawned_for (y ∷ h)) (coroutine_of (y ∷ h)) y.happened c ≡ true) ⊎ ((running_coroutine h ≡ some c) ⊎ (failed_error h c ≡ some r)) → UsedRow (object u c)
       by-error c r (inl q) =
-          let i = exit-first c q in
+          let i = exit_first c q in
           let sp = row_coroutine i.0 i.1.low (ap is_live i.1.was) in
           subst (λ (j : ℕ). UsedRow (object u j)) i.2
           (coroutine-used (object s (task s (suc i.0)).coroutine.0) (object u (task s (suc i.0)).coroutine.0) sp.1 (fl.moves (task s (suc i.0)).coroutine.0 sp.0) i.1.used)
@@ -463,7 +463,7 @@ module _ (h : List Entry) (s : Store) (w : SoundStore s) (a : Agrees h s) (k : K
   -- one that runs is not unstarted
   not-both : {A : Type 0} (t v : ℕ) → (header s).moment ≡ Moment.Running (task_id (suc t)) → suc v < (header s).next → (task s (suc v)).state ≡ TaskState.Unstarted → (task s (suc v)).coroutine.0 ≡ (task s (suc t)).coroutine.0 → A
   not-both t v m l q c =
-      let d : suc v ≡ suc t = one_task v t l (runner-low s (suc t) w m) (ap is_live q) (ap is_live (runner-runs s (suc t) w m)) c in
+      let d : suc v ≡ suc t = one_task v t l (runner_low s (suc t) w m) (ap is_live q) (ap is_live (runner-runs s (suc t) w m)) c in
       absurd (true≢false (sym (ap is_unstarted q) ∙ (ap (λ (j : ℕ). is_unstarted (task s j).state) d ∙ ap is_unstarted (runner-runs s (suc t) w m))))
 
   abbrev pub Outcomes : ℕ → Option (Outcome Value Error)
@@ -495,7 +495,7 @@ module _ (h : List Entry) (s : Store) (w : SoundStore s) (a : Agrees h s) (k : K
       c = (task s (suc z.runner)).coroutine.0
 
       low : suc z.runner < (header s).next
-      low = runner-low s (suc z.runner) w z.runs-it
+      low = runner_low s (suc z.runner) w z.runs-it
 
       live : is_live (task s (suc z.runner)).state ≡ true
       live = ap is_live (runner-runs s (suc z.runner) w z.runs-it)
@@ -518,7 +518,7 @@ module _ (h : List Entry) (s : Store) (w : SoundStore s) (a : Agrees h s) (k : K
       alone = by (exits_unstarted (spawned_for (y ∷ h)) (coroutine_of (y ∷ h)) y.happened c) refl
         where
           by : (b : Bool) → exits_unstarted (spawned_for (y ∷ h)) (coroutine_of (y ∷ h)) y.happened c ≡ b → b ≡ false
-          by true q = let i = exit-first c q in not-both z.runner i.0 z.runs-it i.1.low i.1.was i.2
+          by true q = let i = exit_first c q in not-both z.runner i.0 z.runs-it i.1.low i.1.was i.2
           by false q = refl
 
   -- a task fails at its first run
@@ -537,8 +537,8 @@ module _ (h : List Entry) (s : Store) (w : SoundStore s) (a : Agrees h s) (k : K
           ∙ k.unstarted (suc t) r.low (ap is_unstarted r.was))
 
       error : failed_error (y ∷ h) c ≡ some Error.CoroutineReuse
-      error = failed-by_exit y h c
-          (exits_there (spawned_for (y ∷ h)) (coroutine_of (y ∷ h)) y.happened c (suc t) (subst (λ (i : List LogEntry). exits_in i (suc t) ≡ true) (sym happened-is) r.logged) (spawned-old (suc t) r.low ∙ k.spawned t r.low live) none-started)
+      error = failed_by_exit y h c
+          (exits_there (spawned_for (y ∷ h)) (coroutine_of (y ∷ h)) y.happened c (suc t) (subst (λ (i : List LogEntry). exits_in i (suc t) ≡ true) (sym happened_is) r.logged) (spawned-old (suc t) r.low ∙ k.spawned t r.low live) none-started)
 
       was-none : completed_value h c ≡ none
       was-none = (a.told.tasks t r.low live).undelivered
@@ -560,6 +560,6 @@ module _ (h : List Entry) (s : Store) (w : SoundStore s) (a : Agrees h s) (k : K
   raised-outcome o r (by_external c q) = ap (row_outcome Outcomes o) q ∙ (unfold row_outcome in refl)
   raised-outcome o r (by_gather f n q) = ap (row_outcome Outcomes o) q ∙ (unfold row_outcome in refl)
   raised-outcome o r (by_task z) = runner-error o r z
-  raised-outcome o r (by_first_run zero z q d) = absurd (main-started w.facts.but (unfold view in z.was))
+  raised-outcome o r (by_first_run zero z q d) = absurd (main_started w.facts.but (unfold view in z.was))
   raised-outcome o r (by_first_run (suc t) z q d) =
       subst (λ (j : ℕ). row_outcome Outcomes j (object u j) ≡ some (Outcome.raised r)) q (first-error t z ∙ ap (λ (i : Error). some (Outcome.raised i)) (sym d))

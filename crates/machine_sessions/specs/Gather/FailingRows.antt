@@ -135,8 +135,8 @@ module _ (s m : Store) (Young : ℕ → Type 0) (B : Error → Type 0) (X : ℕ 
   because-later R u v g e l k = record { error = k.error; old = k.old; item = k.item; among = k.among; raised = raised-later s R u v k.item e l k.raised }
 
   -- with other reasons for tasks' errors
-  pub failing-as : (R Q : ℕ → Error → Type 0) (Fr : Type 0) (u : Store) → ((o : ℕ) (e : Error) → R o e → Raised s Q u o e) → Failing R Fr u → Failing Q Fr u
-  failing-as R Q Fr u f k =
+  pub failing_as : (R Q : ℕ → Error → Type 0) (Fr : Type 0) (u : Store) → ((o : ℕ) (e : Error) → R o e → Raised s Q u o e) → Failing R Fr u → Failing Q Fr u
+  failing_as R Q Fr u f k =
       record {
         sized = k.sized;
         next = k.next;
@@ -151,19 +151,19 @@ module _ (s m : Store) (Young : ℕ → Type 0) (B : Error → Type 0) (X : ℕ 
       }
 
   -- a coroutine may have started
-  pub failing-over : (R : ℕ → Error → Type 0) (Fr : Type 0) (u : Store) → Failing R Fr u → Failing R ⊥ u
-  failing-over R Fr u k =
+  pub failing_over : (R : ℕ → Error → Type 0) (Fr : Type 0) (u : Store) → Failing R Fr u → Failing R ⊥ u
+  failing_over R Fr u k =
       record { sized = k.sized; next = k.next; moves = k.moves; tasks = k.tasks; because = k.because; exits = k.exits; fresh = λ z. absurd z; spawned = k.spawned }
 
   -- ---- from one store to the next
 
-  pub failing-step : (R : ℕ → Error → Type 0) (Fr : Type 0) (u v : Store) → Later u v → Sized v → (header v).next ≡ (header u).next → ((t : ℕ) → t < (header m).next → is_live (task v t).state ≡ true → TaskAs u v t)
+  pub failing_step : (R : ℕ → Error → Type 0) (Fr : Type 0) (u v : Store) → Later u v → Sized v → (header v).next ≡ (header u).next → ((t : ℕ) → t < (header m).next → is_live (task v t).state ≡ true → TaskAs u v t)
       → ((g f n : ℕ) (e : Error) (w : AwaitedGather) → as_awaited (object u g) ≡ some w → object v g ≡ Object.GatherFuture f n (GatherState.Failed e) → Because R v g e)
       → ((t : ℕ) → exits_in v.log t ≡ true → (exits_in u.log t ≡ true) ⊎ ExitAs s X v t)
       → ((t : ℕ) (b : Option ℕ) → spawned_by b v.log t ≡ spawned_by b u.log t)
       → (Fr → (c f : ℕ) → object u c ≡ Object.Coroutine f CoroutineState.New → object v c ≡ Object.Coroutine f CoroutineState.New)
       → Failing R Fr u → Failing R Fr v
-  failing-step R Fr u v l z n ts new ex sp fr k =
+  failing_step R Fr u v l z n ts new ex sp fr k =
       record {
         sized = z;
         next = n ∙ k.next;
@@ -187,43 +187,43 @@ module _ (s m : Store) (Young : ℕ → Type 0) (B : Error → Type 0) (X : ℕ 
   -- ---- each write
 
   -- rows and tasks as they were, and the log but for what is no exit and no spawning
-  pub failing-like : (R : ℕ → Error → Type 0) (Fr : Type 0) (u v : Store) → Sized v → (header v).next ≡ (header u).next → ((o : ℕ) → object v o ≡ object u o) → ((t : ℕ) → task v t ≡ task u t)
+  pub failing_like : (R : ℕ → Error → Type 0) (Fr : Type 0) (u v : Store) → Sized v → (header v).next ≡ (header u).next → ((o : ℕ) → object v o ≡ object u o) → ((t : ℕ) → task v t ≡ task u t)
       → ((t : ℕ) → exits_in v.log t ≡ exits_in u.log t) → ((t : ℕ) (b : Option ℕ) → spawned_by b v.log t ≡ spawned_by b u.log t) → Failing R Fr u → Failing R Fr v
-  failing-like R Fr u v z n os ts ex sp k =
-      failing-step R Fr u v
+  failing_like R Fr u v z n os ts ex sp k =
+      failing_step R Fr u v
       (record { rows = λ o. subst (ClimbMoves (object u o)) (sym (os o)) (climb-same (object u o)); gone = λ t b e. ap (λ (r : Task). is_live r.state) (ts t) ∙ e; logged = λ t e. ex t ∙ e })
       z n (λ t b e. task-same u v t (ts t) e)
       (λ g f a e w p q. failed-awaited (object u g) f a e w (sym (os g) ∙ q) p)
       (λ t e. inl (sym (ex t) ∙ e)) sp (λ i c f e. os c ∙ e) k
 
-  pub queue-failing : (R : ℕ → Error → Type 0) (Fr : Type 0) (u : Store) (q : ReadyQueue) → Failing R Fr u → Failing R Fr (put_queue u q)
-  queue-failing R Fr u q k =
-      failing-like R Fr u (put_queue u q) (sized-put_queue u q k.sized) (unfold header put_queue in refl) (λ o. unfold object put_queue in refl) (λ t. unfold task put_queue in refl)
+  pub queue_failing : (R : ℕ → Error → Type 0) (Fr : Type 0) (u : Store) (q : ReadyQueue) → Failing R Fr u → Failing R Fr (put_queue u q)
+  queue_failing R Fr u q k =
+      failing_like R Fr u (put_queue u q) (sized-put_queue u q k.sized) (unfold header put_queue in refl) (λ o. unfold object put_queue in refl) (λ t. unfold task put_queue in refl)
       (λ t. unfold put_queue in refl) (λ t b. unfold put_queue in refl) k
 
-  pub places-failing : (R : ℕ → Error → Type 0) (Fr : Type 0) (u : Store) (ps : List ℕ) → length ps ≡ places_length → Failing R Fr u → Failing R Fr (put_places u ps)
-  places-failing R Fr u ps e k =
-      failing-like R Fr u (put_places u ps) (sized-put_places u ps e k.sized) (unfold header put_places in refl) (λ o. unfold object put_places in refl) (λ t. unfold task put_places in refl)
+  pub places_failing : (R : ℕ → Error → Type 0) (Fr : Type 0) (u : Store) (ps : List ℕ) → length ps ≡ places_length → Failing R Fr u → Failing R Fr (put_places u ps)
+  places_failing R Fr u ps e k =
+      failing_like R Fr u (put_places u ps) (sized-put_places u ps e k.sized) (unfold header put_places in refl) (λ o. unfold object put_places in refl) (λ t. unfold task put_places in refl)
       (λ t. unfold put_places in refl) (λ t b. unfold put_places in refl) k
 
-  pub moment-failing : (R : ℕ → Error → Type 0) (Fr : Type 0) (u : Store) (y : Moment) → MomentFits y → Failing R Fr u → Failing R Fr (set_moment u y)
-  moment-failing R Fr u y f k =
-      failing-like R Fr u (set_moment u y) (sized-set_moment u y k.sized) (moment_head u y k.sized f).0 (λ o. unfold set_moment in (object_put-header u _ o)) (λ t. unfold task set_moment put_header in refl)
+  pub moment_failing : (R : ℕ → Error → Type 0) (Fr : Type 0) (u : Store) (y : Moment) → MomentFits y → Failing R Fr u → Failing R Fr (set_moment u y)
+  moment_failing R Fr u y f k =
+      failing_like R Fr u (set_moment u y) (sized-set_moment u y k.sized) (moment_head u y k.sized f).0 (λ o. unfold set_moment in (object_put-header u _ o)) (λ t. unfold task set_moment put_header in refl)
       (λ t. unfold set_moment put_header in refl) (λ t b. unfold set_moment put_header in refl) k
 
   -- an entry that is no exit and no spawning
-  pub neutral-failing : (R : ℕ → Error → Type 0) (Fr : Type 0) (u : Store) (x : LogEntry) → ((t : ℕ) → exits_in (x ∷ u.log) t ≡ exits_in u.log t) → ((t : ℕ) (b : Option ℕ) → spawned_by b (x ∷ u.log) t ≡ spawned_by b u.log t)
+  pub neutral_failing : (R : ℕ → Error → Type 0) (Fr : Type 0) (u : Store) (x : LogEntry) → ((t : ℕ) → exits_in (x ∷ u.log) t ≡ exits_in u.log t) → ((t : ℕ) (b : Option ℕ) → spawned_by b (x ∷ u.log) t ≡ spawned_by b u.log t)
       → Failing R Fr u → Failing R Fr (add_log u x)
-  neutral-failing R Fr u x ex sp k =
-      failing-like R Fr u (add_log u x) (sized-add_log u x k.sized) (unfold header add_log in refl) (λ o. unfold object add_log in refl) (λ t. unfold task add_log in refl)
+  neutral_failing R Fr u x ex sp k =
+      failing_like R Fr u (add_log u x) (sized-add_log u x k.sized) (unfold header add_log in refl) (λ o. unfold object add_log in refl) (λ t. unfold task add_log in refl)
       (λ t. unfold add_log in (ex t)) (λ t b. unfold add_log in (sp t b)) k
 
   -- an object's row
-  pub row-failing : (R : ℕ → Error → Type 0) (Fr : Type 0) (u : Store) (o : ℕ) (x : Object) → o < object_limit → ObjectFits x → ClimbMoves (object u o) x
+  pub row_failing : (R : ℕ → Error → Type 0) (Fr : Type 0) (u : Store) (o : ℕ) (x : Object) → o < object_limit → ObjectFits x → ClimbMoves (object u o) x
       → ((f n : ℕ) (e : Error) (w : AwaitedGather) → as_awaited (object u o) ≡ some w → x ≡ Object.GatherFuture f n (GatherState.Failed e) → Because R u o e)
       → (Fr → (f : ℕ) → object u o ≡ Object.Coroutine f CoroutineState.New → ⊥) → Failing R Fr u → Failing R Fr (put_object u o x)
-  row-failing R Fr u o x l fits c new fr k =
-      failing-step R Fr u v later
+  row_failing R Fr u o x l fits c new fr k =
+      failing_step R Fr u v later
       (sized-put_object u o x k.sized) (ap (λ (h : Header). h.next) (header_put-object u o x)) (λ t b e. task-same u v t (unfold task put_object in refl) e)
       (λ g f n e w p q. by g f n e w p q (ℕ_discrete g o)) (λ t e. inl (unfold put_object in e)) (λ t b. unfold put_object in refl)
       (λ i c f e. object_put-other u o c x (λ d. fr i f (subst (λ (j : ℕ). object u j ≡ Object.Coroutine f CoroutineState.New) d e)) ∙ e) k
@@ -250,10 +250,10 @@ module _ (s m : Store) (Young : ℕ → Type 0) (B : Error → Type 0) (X : ℕ 
   -- ---- tasks
 
   -- a live task goes into another state, in which it has started
-  pub state-failing : (R : ℕ → Error → Type 0) (Fr : Type 0) (u : Store) (t : ℕ) (x : TaskState) → t < task_limit → StateFits x → is_live (task u t).state ≡ true → is_unstarted x ≡ false → Failing R Fr u → Failing R Fr (set_state u t x)
+  pub state_failing : (R : ℕ → Error → Type 0) (Fr : Type 0) (u : Store) (t : ℕ) (x : TaskState) → t < task_limit → StateFits x → is_live (task u t).state ≡ true → is_unstarted x ≡ false → Failing R Fr u → Failing R Fr (set_state u t x)
   unfolding set_state
-  state-failing R Fr u t x l fits lv on k =
-      failing-step R Fr u v
+  state_failing R Fr u t x l fits lv on k =
+      failing_step R Fr u v
       (record { rows = λ o. subst (ClimbMoves (object u o)) (sym (same o)) (climb-same (object u o)); gone = λ i b e. gone i b e (ℕ_discrete i t); logged = λ i e. unfold put_task in e })
       (sized-put_task u t r k.sized) (unfold header put_task in refl) (λ i b e. tasks i e (ℕ_discrete i t))
       (λ g f n e w p q. failed-awaited (object u g) f n e w (sym (same g) ∙ q) p) (λ i e. inl (unfold put_task in e)) (λ i b. unfold put_task in refl) (λ i c f e. same c ∙ e) k
@@ -298,7 +298,7 @@ module _ (s m : Store) (Young : ℕ → Type 0) (B : Error → Type 0) (X : ℕ 
       → ((i : ℕ) → exits_in u.log i ≡ true → exits_in v.log i ≡ true) → ((i : ℕ) → exits_in v.log i ≡ true → (exits_in u.log i ≡ true) ⊎ ExitAs s X v i)
       → ((i : ℕ) (b : Option ℕ) → spawned_by b v.log i ≡ spawned_by b u.log i) → Failing R Fr u → Failing R Fr v
   removed-failing R Fr u v t z n os ts lg ex sp k =
-      failing-step R Fr u v
+      failing_step R Fr u v
       (record { rows = λ o. subst (ClimbMoves (object u o)) (sym (os o)) (climb-same (object u o)); gone = λ i b e. gone i b e (ℕ_discrete i t); logged = lg })
       z n (λ i b e. tasks i (omega (arith, b, (header-fits m).next_fits)) e (ℕ_discrete i t)) (λ g f a e w p q. failed-awaited (object u g) f a e w (sym (os g) ∙ q) p) ex sp (λ i c f e. os c ∙ e) k
     where
@@ -313,9 +313,9 @@ module _ (s m : Store) (Young : ℕ → Type 0) (B : Error → Type 0) (X : ℕ 
       tasks i b e (yes d) = absurd (true≢false (sym (subst (λ (j : ℕ). is_live (task v j).state ≡ true) d e) ∙ dead (subst (λ (j : ℕ). j < task_limit) d b)))
       tasks i b e (no ne) = task-same u v i (ts i ∙ task_put-other u t i absent ne) e
 
-  pub exit-failing : (R : ℕ → Error → Type 0) (Fr : Type 0) (u : Store) (t : ℕ) → ExitAs s X (add_log (remove_task u t) (exited t)) t → Failing R Fr u → Failing R Fr (add_log (remove_task u t) (exited t))
+  pub exit_failing : (R : ℕ → Error → Type 0) (Fr : Type 0) (u : Store) (t : ℕ) → ExitAs s X (add_log (remove_task u t) (exited t)) t → Failing R Fr u → Failing R Fr (add_log (remove_task u t) (exited t))
   unfolding remove_task remove_from_ready_queue put_task
-  exit-failing R Fr u t why k =
+  exit_failing R Fr u t why k =
       removed-failing R Fr u v t (sized-add_log _ (exited t) (sized-put_queue _ _ (sized-put_task u t absent k.sized))) (unfold header add_log put_queue put_task in refl) (λ o. unfold object add_log put_queue put_task in refl)
       (λ i. unfold task add_log put_queue in refl) (λ i e. logs i ∙ more (eqb t i) (exits_in u.log i) e) (λ i e. fewer i (eqb t i) refl (sym (logs i) ∙ e)) (λ i b. spawns i b) k
     where
@@ -336,24 +336,24 @@ module _ (s m : Store) (Young : ℕ → Type 0) (B : Error → Type 0) (X : ℕ 
       spawns : (i : ℕ) (b : Option ℕ) → spawned_by b v.log i ≡ spawned_by b u.log i
       spawns i b = unfold spawned_by add_log put_queue put_task in refl
 
-  pub goes-failing : (R : ℕ → Error → Type 0) (Fr : Type 0) (u : Store) (t : ℕ) → Failing R Fr u → Failing R Fr (add_log (remove_task u t) (removed t))
+  pub goes_failing : (R : ℕ → Error → Type 0) (Fr : Type 0) (u : Store) (t : ℕ) → Failing R Fr u → Failing R Fr (add_log (remove_task u t) (removed t))
   unfolding remove_task remove_from_ready_queue put_task
-  goes-failing R Fr u t k =
+  goes_failing R Fr u t k =
       removed-failing R Fr u (add_log (put_queue (put_task u t absent) (remove u.queue t)) (removed t)) t
       (sized-add_log _ (removed t) (sized-put_queue _ _ (sized-put_task u t absent k.sized))) (unfold header add_log put_queue put_task in refl) (λ o. unfold object add_log put_queue put_task in refl)
       (λ i. unfold task add_log put_queue in refl) (λ i e. unfold exits_in add_log put_queue put_task in e) (λ i e. inl (unfold exits_in add_log put_queue put_task in e))
       (λ i b. unfold spawned_by add_log put_queue put_task in refl) k
 
-  pub ends-failing : (R : ℕ → Error → Type 0) (Fr : Type 0) (u : Store) (t : ℕ) → Failing R Fr u → Failing R Fr (add_log (put_task u t absent) (removed t))
-  ends-failing R Fr u t k =
+  pub ends_failing : (R : ℕ → Error → Type 0) (Fr : Type 0) (u : Store) (t : ℕ) → Failing R Fr u → Failing R Fr (add_log (put_task u t absent) (removed t))
+  ends_failing R Fr u t k =
       removed-failing R Fr u (add_log (put_task u t absent) (removed t)) t
       (sized-add_log _ (removed t) (sized-put_task u t absent k.sized)) (unfold header add_log put_task in refl) (λ o. unfold object add_log put_task in refl)
       (λ i. unfold task add_log in refl) (λ i e. unfold exits_in add_log put_task in e) (λ i e. inl (unfold exits_in add_log put_task in e))
       (λ i b. unfold spawned_by add_log put_task in refl) k
 
   -- a blocked task is woken
-  pub wakes-failing : (R : ℕ → Error → Type 0) (Fr : Type 0) (u : Store) (t : ℕ) (x : TaskState) → t < task_limit → StateFits x → is_blocked (task u t).state ≡ true → is_unstarted x ≡ false → Failing R Fr u
+  pub wakes_failing : (R : ℕ → Error → Type 0) (Fr : Type 0) (u : Store) (t : ℕ) (x : TaskState) → t < task_limit → StateFits x → is_blocked (task u t).state ≡ true → is_unstarted x ≡ false → Failing R Fr u
       → Failing R Fr (add_log (make_ready u t x) (reached t))
   unfolding make_ready push_ready exits_in spawned_by
-  wakes-failing R Fr u t x l f e on k =
-      neutral-failing R Fr _ (reached t) (λ i. refl) (λ i b. refl) (queue-failing R Fr _ _ (state-failing R Fr u t x l f (blocked-live (task u t).state e) on k))
+  wakes_failing R Fr u t x l f e on k =
+      neutral_failing R Fr _ (reached t) (λ i. refl) (λ i b. refl) (queue_failing R Fr _ _ (state_failing R Fr u t x l f (blocked-live (task u t).state e) on k))

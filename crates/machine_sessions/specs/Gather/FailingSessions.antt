@@ -31,7 +31,7 @@ use Rattle.asyncio.specs.States.{pick, is_live, is_unstarted}
 use Rattle.machine.specs.Store.{Store, view, task, object, place, header, forget, fresh}
 use Rattle.machine.specs.Scheduler.{AwaitedGather, as_awaited, bit, pending_call_ids}
 use Rattle.machine.specs.Delivery.{value_or}
-use Rattle.machine.specs.Events.{How, Control, Switched, Result, activate, handle_task_completion, handle-task-failure, resume-next}
+use Rattle.machine.specs.Events.{How, Control, Switched, Result, activate, handle_task_completion, handle_task_failure, resume_next}
 use Rattle.machine.specs.Machine.{Event, Answer, Step, Shown, switched, answer_await, end_main, task_completes, task_fails, repeat_wait, resume_with_resolved_futures, runner, unmade, first_refusal, refusals, refusal, slot_value, shown, accept, step}
 use Rattle.machine.specs.Sound.{is_ended, items_below, object_in_range, places_below}
 use Rattle.machine.specs.Tests.{is_in}
@@ -45,12 +45,12 @@ use Rattle.machine_laws.specs.DeliveryLaws.{absurd_some, awaited-object}
 use Rattle.machine_laws.specs.MachineLaws.{accepted-step, refused-step}
 use Rattle.machine_laws.specs.SoundLaws.{pass, refusal-rest, refusal-forget, step-forget}
 use Rattle.machine_theorems.specs.Soundness.Stores.{SoundStore}
-use Rattle.machine_theorems.specs.Soundness.Sessions.{forget-sound-store, step-sound-store}
+use Rattle.machine_theorems.specs.Soundness.Sessions.{forget-sound_store, step-sound_store}
 use Rattle.machine_sessions.specs.Queue.Following.{Sends, stepped, short, sends, Following, accept_accepts, send_following, session_follows}
 use Rattle.machine_sessions.specs.Places.Told.{Frozen, co, pends, gave, broke, many, frozen}
 use Rattle.machine_sessions.specs.Places.Agrees.{reply_row, ItemsAt, Makes, MadeRight, Agrees}
 use Rattle.machine_sessions.specs.Places.AgreesEvents.{refused_agrees, forget_agrees}
-use Rattle.machine_sessions.specs.Places.AgreesSessions.{accept-agrees, send_agrees, session_agrees}
+use Rattle.machine_sessions.specs.Places.AgreesSessions.{accept_agrees, send_agrees, session_agrees}
 use Rattle.machine_sessions.specs.Places.PlacesHold.{row_outcome, outcome-row, shows-made}
 use Rattle.machine_sessions.specs.Gather.Failing.{RowMoves, CoroutineMoves}
 use Rattle.machine_sessions.specs.Gather.FailingRows.{ItemAt, Raised}
@@ -268,10 +268,10 @@ IsMany (gave v) = ⊥
 IsMany (broke e) = ⊥
 IsMany (many f n) = Unit {0}
 
-pub reply_not-many : (c : ℕ) (r : OptionValue) (x : Option Result) → IsMany (reply_row c r x) → ⊥
+pub reply_not_many : (c : ℕ) (r : OptionValue) (x : Option Result) → IsMany (reply_row c r x) → ⊥
 unfolding reply_row
-reply_not-many c r none k = k
-reply_not-many c r (some x) k = by (eqb x.kind 0) k
+reply_not_many c r none k = k
+reply_not_many c r (some x) k = by (eqb x.kind 0) k
   where
     by : (b : Bool) → IsMany (pick b (gave (value_or r (to_value x.tag x.number))) (broke (reply_error x))) → ⊥
     by true i = i
@@ -282,7 +282,7 @@ module _ (h : List Entry) (s : Store) (k : Agrees h s) where
   unfolding Makes says
   list-by g f n q (Event.coroutine a) since y = absurd (subst IsMany (sym q ∙ y.1) tt)
   list-by g f n q Event.call since y = absurd y
-  list-by g f n q (Event.pending c r) since y = absurd (reply_not-many c r (first_reply since c) (subst IsMany (sym q ∙ y) tt))
+  list-by g f n q (Event.pending c r) since y = absurd (reply_not_many c r (first_reply since c) (subst IsMany (sym q ∙ y) tt))
   list-by g f n q (Event.settled v) since y = absurd (subst IsMany (sym q ∙ y) tt)
   list-by g f n q (Event.gather os) since y =
       let p : ◌≡◌ {A = Frozen} (many f n) (many y.0 (length os)) = sym q ∙ y.1 in
@@ -466,15 +466,15 @@ module _ (h : List Entry) (s : Store) (w : SoundStore s) (a : Agrees h s) (k : K
   fl = accept-fails s w e i rf
 
   pub agreed : Agrees (y ∷ h) u
-  agreed = accept-agrees h s w a e rf
+  agreed = accept_agrees h s w a e rf
 
   pub known : Knows (y ∷ h) u
   known = step-knows h s w a k blank e (accept s e) fl (accept_accepts s e) rf
 
   -- what is made stays made
-  pub made-still : (o : ℕ) → o < (header s).made → o < (header u).made
+  pub made_still : (o : ℕ) → o < (header s).made → o < (header u).made
   unfolding view object_in_range
-  made-still o l = by (ltb o (header u).made) refl
+  made_still o l = by (ltb o (header u).made) refl
     where
       was : object s o ≡ Object.Unmade → ⊥
       was q = subst (λ (x : Object). T (object_in_range (header s) (places_below (object s) o) x)) q (w.facts.but.objects o l)
@@ -483,27 +483,27 @@ module _ (h : List Entry) (s : Store) (w : SoundStore s) (a : Agrees h s) (k : K
       by true q = ltb-true o (header u).made q
       by false q = absurd (moved_made (object s o) (object u o) (fl.moves o l) was (agreed.behind o (ltb-false o (header u).made q)))
 
-  pub look-now : (o : ℕ) → o < (header s).made → look u o ≡ shown u (object u o)
-  look-now o l = by (look-row u o w')
+  pub look_now : (o : ℕ) → o < (header s).made → look u o ≡ shown u (object u o)
+  look_now o l = by (look-row u o w')
     where
       by : ((o < (header u).made) × (look u o ≡ shown u (object u o))) ⊎ (((header u).made ≤ o) × (look u o ≡ Shown.nothing)) → look u o ≡ shown u (object u o)
       by (inl q) = q.1
-      by (inr q) = absurd (not-suc-le-zero {n = 0} (omega (arith, q.0, made-still o l)))
+      by (inr q) = absurd (not-suc-le-zero {n = 0} (omega (arith, q.0, made_still o l)))
 
   abbrev C : ℕ → Option (Outcome Value Error)
   C o = coroutine_outcome (completed_value (y ∷ h) o) (failed_error (y ∷ h) o)
 
-  pub outcome-now : (o : ℕ) → o < (header s).made → outcome (y ∷ h) (look u) o ≡ row_outcome C o (object u o)
-  outcome-now o l = outcome-row (y ∷ h) u w' agreed o (made-still o l)
+  pub outcome_now : (o : ℕ) → o < (header s).made → outcome (y ∷ h) (look u) o ≡ row_outcome C o (object u o)
+  outcome_now o l = outcome-row (y ∷ h) u w' agreed o (made_still o l)
 
-  pub items-now : (g : ℕ) → g < (header s).made → items (y ∷ h) g ≡ items h g
+  pub items_now : (g : ℕ) → g < (header s).made → items (y ∷ h) g ≡ items h g
   unfolding entry_of
-  items-now g l = items-later y h g (made-apart (header s).made g (tells (accept s e).answer).makes (accept_makes s e) l)
+  items_now g l = items-later y h g (made-apart (header s).made g (tells (accept s e).answer).makes (accept_makes s e) l)
 
   -- the items of a gather are lower
-  item-low : (g j f n : ℕ) (z : GatherState) → g < (header s).made → object s g ≡ Object.GatherFuture f n z → j < count_of (object s g) → item_at s g j < (header s).made
+  item_low : (g j f n : ℕ) (z : GatherState) → g < (header s).made → object s g ≡ Object.GatherFuture f n z → j < count_of (object s g) → item_at s g j < (header s).made
   unfolding view items_below first_of count_of
-  item-low g j f n z l q b =
+  item_low g j f n z l q b =
       let low : T (items_below (place s) g (Object.GatherFuture f n z)) = subst (λ (x : Object). T (items_below (place s) g x)) q (w.facts.but.items g l) in
       let less : (place s (f + j)).item.0 < g = ltb→lt _ g (below n _ low j (subst (λ (m : ℕ). j < m) (ap count_of q) b)) in
       omega (arith, l, subst (λ (m : ℕ). (place s (m + j)).item.0 < g) (sym (ap first_of q)) less)
@@ -515,12 +515,12 @@ module _ (h : List Entry) (s : Store) (w : SoundStore s) (a : Agrees h s) (k : K
       let b : FailedBy e s u g r = fl.awaited g f n r v l p q in
       let m = gather-list h s a g (first_of (object s g)) (count_of (object s g)) l (awaited-many (object s g) v p) in
       let low : b.item < (header s).made =
-      subst (λ (j : ℕ). j < (header s).made) b.among.names (item-low g b.among.at v.first v.count (GatherState.Awaited v.awaiter v.open-places) l (awaited-object (object s g) v p) b.among.under) in
+      subst (λ (j : ℕ). j < (header s).made) b.among.names (item_low g b.among.at v.first v.count (GatherState.Awaited v.awaiter v.open-places) l (awaited-object (object s g) v p) b.among.under) in
       record {
         item = b.item;
-        among = ap (is_in b.item) (items-now g l)
+        among = ap (is_in b.item) (items_now g l)
             ∙ subst (λ (j : ℕ). is_in j (items h g) ≡ true) b.among.names (item_in (λ j. (place s j).item.0) (first_of (object s g)) (items h g) b.among.at m.1 (subst (λ (j : ℕ). b.among.at < j) m.0 b.among.under));
-        raised_it = outcome-now b.item low ∙ raised-outcome h s w a k blank e (accept s e) fl (accept_accepts s e) rf b.item r b.raised;
+        raised_it = outcome_now b.item low ∙ raised-outcome h s w a k blank e (accept s e) fl (accept_accepts s e) rf b.item r b.raised;
         error = b.error;
       }
 
@@ -562,8 +562,8 @@ module _ (h : List Entry) (s : Store) (w : SoundStore s) (a : Agrees h s) (k : K
         left = sp.left;
         item = it;
         right = sp.right;
-        split = items-now g l ∙ sp.whole;
-        made = made-still it (low b.at b.under);
+        split = items_now g l ∙ sp.whole;
+        made = made_still it (low b.at b.under);
         raises = raising (raises-came g it (object u it) r b.raises);
         unraised = λ o z. let t = sp.named o z in subst (λ (v : ℕ). error_of (outcome (y ∷ h) (look u) v) ≡ none) t.2 (unraised-at t.0 t.1);
         first = λ z. let t = sp.named it z in b.first t.0 t.1 t.2;
@@ -583,14 +583,14 @@ module _ (h : List Entry) (s : Store) (w : SoundStore s) (a : Agrees h s) (k : K
       sp = split_at (λ v. (place s v).item.0) (first_of (object s g)) (items h g) b.at list.1 (subst (λ (v : ℕ). b.at < v) list.0 b.under)
 
       low : (v : ℕ) → v < count_of (object s g) → item_at s g v < (header s).made
-      low v c = item-low g v f n GatherState.Pending l p c
+      low v c = item_low g v f n GatherState.Pending l p c
 
       raising : (row_outcome C it (object u it) ≡ some (raised r)) ⊎ Reuses u g it (object u it) r → (outcome (y ∷ h) (look u) it ≡ some (raised r)) ⊎ Reuses u g it (object u it) r
-      raising (inl z) = inl (outcome-now it (low b.at b.under) ∙ z)
+      raising (inl z) = inl (outcome_now it (low b.at b.under) ∙ z)
       raising (inr z) = inr z
 
       unraised-at : (v : ℕ) → v < b.at → error_of (outcome (y ∷ h) (look u) (item_at s g v)) ≡ none
-      unraised-at v c = ap error_of (outcome-now (item_at s g v) (low v (omega (arith, c, b.under)))) ∙ passed-unraised (item_at s g v) (object u (item_at s g v)) refl (b.left v c)
+      unraised-at v c = ap error_of (outcome_now (item_at s g v) (low v (omega (arith, c, b.under)))) ∙ passed-unraised (item_at s g v) (object u (item_at s g v)) refl (b.left v c)
 
   -- ---- every gather
 
@@ -600,18 +600,18 @@ module _ (h : List Entry) (s : Store) (w : SoundStore s) (a : Agrees h s) (k : K
       by : ((g < (header s).made) × (look s g ≡ shown s (object s g))) ⊎ (((header s).made ≤ g) × (look s g ≡ Shown.nothing)) → GatherFails e (look s g) (y ∷ h) u g
       by (inl z) =
           record {
-            moves = subst (λ (v : Shown). ShownMoves v (look u g)) (sym z.1) (subst (ShownMoves (shown s (object s g))) (sym (look-now g z.0)) (moved-shown s u (object s g) (object u g) (fl.moves g z.0)));
+            moves = subst (λ (v : Shown). ShownMoves v (look u g)) (sym z.1) (subst (ShownMoves (shown s (object s g))) (sym (look_now g z.0)) (moved-shown s u (object s g) (object u g) (fl.moves g z.0)));
             awaited = λ vs r p q.
                 let v = row-awaited s (object s g) (subst IsAwaited (sym (sym z.1 ∙ p)) tt) in
-                let o = row-failed u (object u g) r (sym (look-now g z.0) ∙ q) in
+                let o = row-failed u (object u g) r (sym (look_now g z.0) ∙ q) in
                 was-awaited g o.0 o.1 r v.0 z.0 v.1 o.2;
             pending = λ r p q.
                 let v = row-pending s (object s g) (subst IsPending (sym (sym z.1 ∙ p)) tt) in
-                let o = row-failed u (object u g) r (sym (look-now g z.0) ∙ q) in
+                let o = row-failed u (object u g) r (sym (look_now g z.0) ∙ q) in
                 was-pending g v.0 v.1 o.0 o.1 r z.0 v.2 o.2;
             committing = λ r p q.
                 let v = row-pending s (object s g) (subst IsPending (sym (sym z.1 ∙ p)) tt) in
-                let o = row-failed u (object u g) r (sym (look-now g z.0) ∙ q) in
+                let o = row-failed u (object u g) r (sym (look_now g z.0) ∙ q) in
                 fl.committing g v.0 v.1 o.0 o.1 r z.0 v.2 o.2;
           }
       by (inr z) =
@@ -696,7 +696,7 @@ step-fails h s e w a k i = by (ℕ_discrete (refusal s e) 0)
     z = forget s
 
     wz : SoundStore z
-    wz = forget-sound-store s w
+    wz = forget-sound_store s w
 
     blank : z.log ≡ []
     blank = unfold forget in refl
@@ -714,7 +714,7 @@ step-fails h s e w a k i = by (ℕ_discrete (refusal s e) 0)
         rz = refusal-forget s e ∙ r
 
         sound : SoundStore (accept z e).store
-        sound = subst (λ (x : Step). SoundStore x.store) (accepted-step s e r) (step-sound-store s w e i)
+        sound = subst (λ (x : Step). SoundStore x.store) (accepted-step s e r) (step-sound_store s w e i)
     by (no ne) =
         subst (StepFails h s e) (sym (refused-step s e (refusal s e) refl ne))
         (record {

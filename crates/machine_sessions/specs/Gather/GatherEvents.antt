@@ -27,7 +27,7 @@ use Rattle.asyncio.specs.States.{pick, is_live, is_unstarted}
 use Rattle.machine.specs.Store.{Store, view, task, object, place, header, forget, fresh, LogEntry, add_object, put_header}
 use Rattle.machine.specs.Scheduler.{AwaitedGather, as_awaited, bit, pending_call_ids}
 use Rattle.machine.specs.Delivery.{value_or}
-use Rattle.machine.specs.Events.{How, Control, Switched, Result, activate, handle_task_completion, handle-task-failure, resume-next, make_gather, put_items}
+use Rattle.machine.specs.Events.{How, Control, Switched, Result, activate, handle_task_completion, handle_task_failure, resume_next, make_gather, put_items}
 use Rattle.machine.specs.Machine.{Event, Answer, Step, Shown, switched, answer_await, end_main, task_completes, task_fails, repeat_wait, resume_with_resolved_futures, runner, unmade, first_refusal, refusals, refusal, slot_value, show_places, shown, accept, step}
 use Rattle.machine.specs.Sound.{items_below, object_in_range, places_below}
 use Rattle.machine.specs.Tests.{is_in}
@@ -41,12 +41,12 @@ use Rattle.machine_laws.specs.DeliveryLaws.{absurd_some, awaited-object}
 use Rattle.machine_laws.specs.MachineLaws.{accepted-step, refused-step}
 use Rattle.machine_laws.specs.SoundLaws.{pass, refusal-rest, refusal-forget}
 use Rattle.machine_theorems.specs.Soundness.Stores.{SoundStore}
-use Rattle.machine_theorems.specs.Soundness.Sessions.{forget-sound-store, step-sound-store}
+use Rattle.machine_theorems.specs.Soundness.Sessions.{forget-sound_store, step-sound_store}
 use Rattle.machine_sessions.specs.Queue.Following.{Sends, stepped, short, sends, Following, accept_accepts, send_following, session_follows}
 use Rattle.machine_sessions.specs.Places.Told.{Frozen, co, pends, gave, broke, many, frozen}
 use Rattle.machine_sessions.specs.Places.Agrees.{reply_row, ItemsAt, Makes, MadeRight, Agrees}
 use Rattle.machine_sessions.specs.Places.AgreesEvents.{refused_agrees, forget_agrees}
-use Rattle.machine_sessions.specs.Places.AgreesSessions.{accept-agrees, send_agrees, session_agrees}
+use Rattle.machine_sessions.specs.Places.AgreesSessions.{accept_agrees, send_agrees, session_agrees}
 use Rattle.machine_sessions.specs.Places.PlacesHold.{row_outcome, outcome-row, shows-made}
 use Rattle.machine_sessions.specs.Gather.Failing.{RowMoves, CoroutineMoves}
 use Rattle.machine_sessions.specs.Gather.FailingRows.{ItemAt, Raised}
@@ -65,7 +65,7 @@ use Rattle.machine_sessions.specs.Stall.Outcomes.{outcome_of}
 use Rattle.machine_sessions.specs.Stall.Waiting.{Alive}
 use Rattle.machine_sessions.specs.Stall.WaitingSessions.{forget-alive, session-waits}
 use Rattle.machine_sessions.specs.Gather.OutcomesStay.{unmade-none, accepted-stays}
-use Rattle.machine_sessions.specs.Gather.FailingSessions.{agreed, made-apart, accept_makes, MakesAt, items-later, making-later, forget-knows, look-forget, session-knows, look-row, row-failed, IsMany, reply_not-many, IsFailed}
+use Rattle.machine_sessions.specs.Gather.FailingSessions.{agreed, made-apart, accept_makes, MakesAt, items-later, making-later, forget-knows, look-forget, session-knows, look-row, row-failed, IsMany, reply_not_many, IsFailed}
 
 -- ---- an event that is refused
 
@@ -220,7 +220,7 @@ module _ (h : List Entry) (s : Store) (w : SoundStore s) (ag : Agrees h s) (k : 
           of : (v : Event) → e ≡ v → Makes v [] (frozen (object u g)) (λ p. (place u p).item.0) → ⊥
           of (Event.coroutine c) d y = subst IsMany y.1 many_is
           of Event.call d y = y
-          of (Event.pending c x) d y = reply_not-many c x (first_reply [] c) (subst IsMany y many_is)
+          of (Event.pending c x) d y = reply_not_many c x (first_reply [] c) (subst IsMany y many_is)
           of (Event.settled x) d y = subst IsMany y many_is
           of (Event.gather os) d y =
               subst IsFailed (sym (sym (pend os d) ∙ (ap (shown u) q ∙ shown-failed f n))) tt
@@ -299,11 +299,11 @@ module _ (h : List Entry) (s : Store) (w : SoundStore s) (ag : Agrees h s) (k : 
           rz = refusal-forget s e ∙ r
 
           sound : SoundStore (accept zs e).store
-          sound = subst (λ (x : Step). SoundStore x.store) (accepted-step s e r) (step-sound-store s w e i)
+          sound = subst (λ (x : Step). SoundStore x.store) (accepted-step s e r) (step-sound_store s w e i)
 
-          x : Stays h zs (forget-sound-store s w) (forget_agrees h s ag) (forget-knows h s k) (λ on. forget-alive h s (al on)) e (accept zs e).answer (accept zs e).store
-          x = accepted h zs (forget-sound-store s w) (forget_agrees h s ag) (forget-knows h s k) refl (λ on. forget-alive h s (al on)) e i rz sound
-      by (no ne) = subst Left (sym (refused-step s e (refusal s e) refl ne)) (λ a. refused-stays h s w ag k al e (refusal s e) zs (forget-sound-store s w) a (λ o. unfold object forget in refl) (unfold header forget in refl) (λ o. ap (λ (f : ℕ → Shown). f o) same-look))
+          x : Stays h zs (forget-sound_store s w) (forget_agrees h s ag) (forget-knows h s k) (λ on. forget-alive h s (al on)) e (accept zs e).answer (accept zs e).store
+          x = accepted h zs (forget-sound_store s w) (forget_agrees h s ag) (forget-knows h s k) refl (λ on. forget-alive h s (al on)) e i rz sound
+      by (no ne) = subst Left (sym (refused-step s e (refusal s e) refl ne)) (λ a. refused-stays h s w ag k al e (refusal s e) zs (forget-sound_store s w) a (λ o. unfold object forget in refl) (unfold header forget in refl) (λ o. ap (λ (f : ℕ → Shown). f o) same-look))
 
 -- What one more event leaves.
 pub session-stays : (es : List Sent) (e : Sent) → (j : AllSentInRange es) → InRange e.event

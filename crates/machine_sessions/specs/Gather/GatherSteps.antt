@@ -10,7 +10,7 @@ use Rattle.asyncio.specs.declared.Value.{Value}
 use Rattle.asyncio.specs.declared.Error.{Error}
 use Rattle.machine.specs.Tests.{is_in}
 use Rattle.machine.specs.Machine.{Shown}
-use Rattle.machine.specs.Gather.{Outcome, returned, raised, Gathered, waiting, listed, propagated, outcome_of, first-raised, in_order, gather}
+use Rattle.machine.specs.Gather.{Outcome, returned, raised, Gathered, waiting, listed, propagated, outcome_of, first_raised, in_order, gather}
 use Rattle.machine.specs.History.{said, value_of, error_of, items}
 use Rattle.machine.specs.Sessions.{Sent, Session, begun, send, send_all, session, InRange, AllSentInRange}
 use Rattle.machine.specs.Singles.{cut}
@@ -18,7 +18,7 @@ use Rattle.machine.specs.DemandThree.{look, none_open}
 use Rattle.machine.specs.DemandTwo.{came, committed, values, seen, arrivals_of, is_late, in_turn, arrivals_by, arrivals_in, arrivals_along, arrivals_from, ReuseAt, Reused, GatherRight}
 use Rattle.machine_sessions.specs.Gather.LogApart.{lent_entry}
 use Rattle.machine_sessions.specs.Gather.Batches.{SingleFrom, cut_range, cut-single}
-use Rattle.machine_sessions.specs.Gather.Arrivals.{in_cons, Came, Arrivals, AllReturned, none-raised, all-returned-++, or_then, outcome-++, new_of, outcome-new, new-returned, in_turn_all, All, all-++, Quiet, first-behind, first_stays, Turn, first-in-turn, all_own, raises-own, first_from-left, listed-all, waiting-one}
+use Rattle.machine_sessions.specs.Gather.Arrivals.{in_cons, Came, Arrivals, AllReturned, none-raised, all-returned-++, or_then, outcome-++, new_of, outcome-new, new-returned, in_turn_all, All, all-++, Quiet, first_behind, first_stays, Turn, first_in_turn, all_own, raises_own, first_from-left, listed_all, waiting-one}
 
 -- ---- what one event does to gather g
 
@@ -72,7 +72,7 @@ pub data SoFar (ps : List Sent) (x : Session) (g : ℕ) (xs : Arrivals) : Type 0
   uncommitted : committed (look x.store g) ≡ false → xs ≡ [] → SoFar ps x g xs
   is_awaited : (vs : List (Option Value)) → look x.store g ≡ Shown.a_gather_awaited vs → Delivered x g vs → none_open vs ≡ false → Quietly x g xs → SoFar ps x g xs
   is_completed : (vs : List (Option Value)) → look x.store g ≡ Shown.a_gather_completed vs → Delivered x g vs → none_open vs ≡ true → Quietly x g xs → SoFar ps x g xs
-  is_failed : (e : Error) → look x.store g ≡ Shown.a_gather_failed e → (first-raised (items x.history g) [] xs ≡ some e) ⊎ Reused ps g e → SoFar ps x g xs
+  is_failed : (e : Error) → look x.store g ≡ Shown.a_gather_failed e → (first_raised (items x.history g) [] xs ≡ some e) ⊎ Reused ps g e → SoFar ps x g xs
 
 -- which of the three a committed gather is
 pub data Which (l : Shown) : Type 0 where
@@ -201,7 +201,7 @@ module _ (ps : List Sent) (s : Sent) (g : ℕ) where
         by (w_completed vs q) = let w = k.completed vs q in is_completed vs q w.0 w.1 (new_items (values_quiet (came y) os (subst (λ (us : List (Option Value)). none_open us ≡ true) w.0 w.1)))
         by (w_failed z q) = is_failed z q (why (k.fails-at-commit z c q))
           where
-            why : ReuseAt y g z ⊎ FailsAtCommit y g z → (first-raised os [] (arrivals_of (λ o. none) (came y) os) ≡ some z) ⊎ Reused (ps ++ (s ∷ [])) g z
+            why : ReuseAt y g z ⊎ FailsAtCommit y g z → (first_raised os [] (arrivals_of (λ o. none) (came y) os) ≡ some z) ⊎ Reused (ps ++ (s ∷ [])) g z
             why (inl r) = inr (record { before = ps; commit = s; after = []; parts = refl; uncommitted = c; failed = q; reuse = r })
             why (inr r) = inl (first_from-left (came y) os z os [] r.at (λ o i. i) nobody r.within r.raises r.left)
               where
@@ -241,12 +241,12 @@ module _ (ps : List Sent) (s : Sent) (g : ℕ) where
       nobody : Quiet (came y) os []
       nobody = unfold Quiet is_in in (λ o i. absurd (true≢false (sym i)))
 
-      fails-now : (e : Error) → FailsLater x y g e → first-raised os [] (xs ++ in_turn new) ≡ some e
+      fails-now : (e : Error) → FailsLater x y g e → first_raised os [] (xs ++ in_turn new) ≡ some e
       fails-now e f =
-          first-behind (came y) os e xs (in_turn new) [] was.all-returned nobody (own-later xs was.own)
-          (λ sn q. first-in-turn (came y) os e new sn q
+          first_behind (came y) os e xs (in_turn new) [] was.all-returned nobody (own-later xs was.own)
+          (λ sn q. first_in_turn (came y) os e new sn q
           (all_own (came x) (came y) (Turn (came y) os e) os (λ o z i a b. record { item = i; own = b; only = λ w d. f.others o w i a (b ∙ ap (λ (u : Outcome Value Error). some u) d) }))
-          (raises-own (came x) (came y) e f.item os f.named f.fresh f.raises))
+          (raises_own (came x) (came y) e f.item os f.named f.fresh f.raises))
 
       go_on : ((e : Error) → look x.store g ≡ Shown.a_gather_failed e → ⊥) → Next xs
       go_on not-failed =
@@ -258,26 +258,26 @@ module _ (ps : List Sent) (s : Sent) (g : ℕ) where
           by (w_completed vs q) = let w = k.completed vs q in is_completed vs q w.0 w.1 (quiet-now (values_quiet (came y) os (subst (λ (us : List (Option Value)). none_open us ≡ true) w.0 w.1)))
           by (w_failed e q) = is_failed e q (inl (why (k.fails-later e c q)))
             where
-              why : (look x.store g ≡ Shown.a_gather_failed e) ⊎ FailsLater x y g e → first-raised os [] (xs ++ in_turn new) ≡ some e
+              why : (look x.store g ≡ Shown.a_gather_failed e) ⊎ FailsLater x y g e → first_raised os [] (xs ++ in_turn new) ≡ some e
               why (inl w) = absurd (not-failed e w)
               why (inr w) = fails-now e w
 
-    pub next-so-far : (xs : Arrivals) → SoFar ps x g xs → Next xs
+    pub next_so_far : (xs : Arrivals) → SoFar ps x g xs → Next xs
     unfolding not-failed
-    next-so-far xs (uncommitted c e) = by (committed (look y.store g)) refl
+    next_so_far xs (uncommitted c e) = by (committed (look y.store g)) refl
       where
         by : (b : Bool) → committed (look y.store g) ≡ b → Next xs
         by true d = committed-now c xs e d
         by false d = uncommitted d (ap₂ (λ (a b : Arrivals). a ++ b) e (before-commit c d))
-    next-so-far xs (is_awaited vs q d o w) = go_on (ap committed q ∙ (unfold committed in refl)) xs w (λ e z. true≢false (ap not-failed (sym q ∙ z)))
-    next-so-far xs (is_completed vs q d o w) = go_on (ap committed q ∙ (unfold committed in refl)) xs w (λ e z. true≢false (ap not-failed (sym q ∙ z)))
-    next-so-far xs (is_failed e q w) = is_failed e (k.stays-failed e q) (by w)
+    next_so_far xs (is_awaited vs q d o w) = go_on (ap committed q ∙ (unfold committed in refl)) xs w (λ e z. true≢false (ap not-failed (sym q ∙ z)))
+    next_so_far xs (is_completed vs q d o w) = go_on (ap committed q ∙ (unfold committed in refl)) xs w (λ e z. true≢false (ap not-failed (sym q ∙ z)))
+    next_so_far xs (is_failed e q w) = is_failed e (k.stays-failed e q) (by w)
       where
         c : committed (look x.store g) ≡ true
         c = ap committed q ∙ (unfold committed in refl)
 
-        by : (first-raised (items x.history g) [] xs ≡ some e) ⊎ Reused ps g e → (first-raised os [] (xs ++ arrivals_in x y g) ≡ some e) ⊎ Reused (ps ++ (s ∷ [])) g e
-        by (inl z) = inl (first_stays os e xs (arrivals_in x y g) [] (subst (λ (zs : List ℕ). first-raised zs [] xs ≡ some e) (sym (k.items_stay c)) z))
+        by : (first_raised (items x.history g) [] xs ≡ some e) ⊎ Reused ps g e → (first_raised os [] (xs ++ arrivals_in x y g) ≡ some e) ⊎ Reused (ps ++ (s ∷ [])) g e
+        by (inl z) = inl (first_stays os e xs (arrivals_in x y g) [] (subst (λ (zs : List ℕ). first_raised zs [] xs ≡ some e) (sym (k.items_stay c)) z))
         by (inr z) = inr (reused-later ps s g e z)
 
 -- ---- all events
@@ -320,7 +320,7 @@ module _ (g : ℕ) (steps : (ps : List Sent) (s : Sent) → AllSentInRange ps �
       let p : session (ps ++ (e ∷ [])) ≡ y = session_snoc ps e in
       then-on g ps e es (send_all y es) xs new (arrivals_along y es g) (subst (λ (z : Session). SoFar ((ps ++ (e ∷ [])) ++ es) (send_all z es) g ((xs ++ new) ++ arrivals_along z es g)) p
       (run_along (ps ++ (e ∷ [])) es (xs ++ new) (in_range_snoc ps e a b.0) b.1 (subst (λ (z : Session). SingleFrom z es) (sym p) w.1)
-      (subst (λ (z : Session). SoFar (ps ++ (e ∷ [])) z g (xs ++ new)) (sym p) (next-so-far ps e g (steps ps e a b.0 w.0) xs k))))
+      (subst (λ (z : Session). SoFar (ps ++ (e ∷ [])) z g (xs ++ new)) (sym p) (next_so_far ps e g (steps ps e a b.0 w.0) xs k))))
 
   -- any events
   run-so-far : (ps es : List Sent) (xs : Arrivals) → AllSentInRange ps → AllSentInRange es → SoFar ps (session ps) g xs → SoFar (ps ++ es) (send_all (session ps) es) g (xs ++ arrivals_from (session ps) es g)
@@ -348,7 +348,7 @@ module _ (g : ℕ) (steps : (ps : List Sent) (s : Sent) → AllSentInRange ps �
   seen-failed e = unfold seen in refl
 
   -- by what is raised first
-  gathered : (ls : List ℕ) (xs : Arrivals) (z : Option Error) → first-raised ls [] xs ≡ z → gather ls xs ≡ elim z [ none ↦ in_order xs ls | some e ↦ propagated e ]
+  gathered : (ls : List ℕ) (xs : Arrivals) (z : Option Error) → first_raised ls [] xs ≡ z → gather ls xs ≡ elim z [ none ↦ in_order xs ls | some e ↦ propagated e ]
   gathered ls xs z q = unfold gather in (ap (λ (w : Option Error). elim w [ none ↦ in_order xs ls | some e ↦ propagated e ]) q)
 
   -- What show gives of the gather after the events.
@@ -359,7 +359,7 @@ module _ (g : ℕ) (steps : (ps : List Sent) (s : Sent) → AllSentInRange ps �
       inl (ap seen q ∙ (seen-awaited vs ∙ r))
   right_by es (is_completed vs q d o w) c =
       let r : Gathers es (listed (values (map (λ n. value_of (came (session es) n)) (items (session es).history g)))) =
-      sym (gathered _ _ none (none-raised _ _ w.all-returned []) ∙ listed-all _ (came (session es)) _ w.known (subst (λ (us : List (Option Value)). none_open us ≡ true) d o)) in
+      sym (gathered _ _ none (none-raised _ _ w.all-returned []) ∙ listed_all _ (came (session es)) _ w.known (subst (λ (us : List (Option Value)). none_open us ≡ true) d o)) in
       inl (ap seen q ∙ (seen-completed vs ∙ (ap (λ (us : List (Option Value)). listed (values us)) d ∙ r)))
   right_by es (is_failed e q (inl w)) c = inl (ap seen q ∙ (seen-failed e ∙ sym (gathered _ _ (some e) w)))
   right_by es (is_failed e q (inr w)) c = inr (e, q, w)

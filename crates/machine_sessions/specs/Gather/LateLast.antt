@@ -24,13 +24,13 @@ use Rattle.machine_laws.specs.DeliveryLaws.{absurd_some, awaited-object, pending
 use Rattle.machine_laws.specs.MachineLaws.{accepted-step, refused-step}
 use Rattle.machine_laws.specs.SoundLaws.{refusal-forget}
 use Rattle.machine_theorems.specs.Soundness.Stores.{SoundStore}
-use Rattle.machine_theorems.specs.Soundness.Sessions.{forget-sound-store}
+use Rattle.machine_theorems.specs.Soundness.Sessions.{forget-sound_store}
 use Rattle.machine_theorems.specs.Soundness.Exits.{runner-runs}
 use Rattle.machine_sessions.specs.Queue.Following.{Sends, stepped, short, sends, send_following, session_follows}
 use Rattle.machine_sessions.specs.Places.Agrees.{ItemsAt, Agrees}
 use Rattle.machine_sessions.specs.Places.AgreesEvents.{forget_agrees}
 use Rattle.machine_sessions.specs.Places.AgreesSessions.{session_agrees}
-use Rattle.machine_sessions.specs.Places.PlacesHold.{nothing-open}
+use Rattle.machine_sessions.specs.Places.PlacesHold.{nothing_open}
 use Rattle.machine_sessions.specs.Stall.NoStall.{Source, by_external, by_gather, by_nobody, by_task}
 use Rattle.machine_sessions.specs.Stall.SourcedClimb.{apart}
 use Rattle.machine_sessions.specs.Stall.TaskLog.{any_coroutine}
@@ -109,14 +109,14 @@ item-place h s w ag g o vs e z =
       awaited = b.1.1;
       at = a.0;
       under = subst (λ (n : ℕ). a.0 < n) (sym m.0 ∙ count-is row) a.1;
-      names = ap (λ (f : ℕ). (place s (f + a.0)).item.0) (sym (first-is row)) ∙ a.2;
+      names = ap (λ (f : ℕ). (place s (f + a.0)).item.0) (sym (first_is row)) ∙ a.2;
     }
   where
     count-is : {x : Object} {f n : ℕ} {y : GatherState} → x ≡ Object.GatherFuture f n y → count_of x ≡ n
     count-is q = ap count_of q ∙ (unfold count_of in refl)
 
-    first-is : {x : Object} {f n : ℕ} {y : GatherState} → x ≡ Object.GatherFuture f n y → first_of x ≡ f
-    first-is q = ap first_of q ∙ (unfold first_of in refl)
+    first_is : {x : Object} {f n : ℕ} {y : GatherState} → x ≡ Object.GatherFuture f n y → first_of x ≡ f
+    first_is q = ap first_of q ∙ (unfold first_of in refl)
 
 -- ---- what an open place waits for
 
@@ -205,7 +205,7 @@ module _ (ps : List Sent) (e : Sent) (j : AllSentInRange ps) (i : InRange e.even
   wu = (send_following (session ps) e i (session_follows ps j)).whole
 
   wb : SoundStore b
-  wb = forget-sound-store s w
+  wb = forget-sound_store s w
 
   ag : Agrees h b
   ag = forget_agrees h s (session_agrees ps j)
@@ -252,7 +252,7 @@ module _ (ps : List Sent) (e : Sent) (j : AllSentInRange ps) (i : InRange e.even
       (record {
         at = it.at;
         under = it.under;
-        is_open = nothing-open h s w (session_agrees ps j) g it.row it.made it.awaited it.at it.under (ap (outcome h (look s)) it.names ∙ nothing);
+        is_open = nothing_open h s w (session_agrees ps j) g it.row it.made it.awaited it.at it.under (ap (outcome h (look s)) it.names ∙ nothing);
         names = unfold place forget in it.names;
       }))
 

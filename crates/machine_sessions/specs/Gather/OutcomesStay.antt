@@ -26,7 +26,7 @@ use Rattle.asyncio.specs.States.{pick, is_live, is_unstarted}
 use Rattle.machine.specs.Store.{LogEntry, Store, view, task, object, place, header, forget, fresh}
 use Rattle.machine.specs.Scheduler.{AwaitedGather, as_awaited, bit, pending_call_ids}
 use Rattle.machine.specs.Delivery.{value_or}
-use Rattle.machine.specs.Events.{How, Control, Switched, Result, activate, handle_task_completion, handle-task-failure, resume-next}
+use Rattle.machine.specs.Events.{How, Control, Switched, Result, activate, handle_task_completion, handle_task_failure, resume_next}
 use Rattle.machine.specs.Machine.{Event, Answer, Step, Shown, switched, answer_await, end_main, task_completes, task_fails, repeat_wait, resume_with_resolved_futures, runner, unmade, first_refusal, refusals, refusal, slot_value, show_places, shown, accept, step}
 use Rattle.machine.specs.Sound.{items_below, object_in_range, places_below}
 use Rattle.machine.specs.Tests.{is_in}
@@ -40,19 +40,19 @@ use Rattle.machine_laws.specs.DeliveryLaws.{absurd_some, awaited-object}
 use Rattle.machine_laws.specs.MachineLaws.{accepted-step, refused-step}
 use Rattle.machine_laws.specs.SoundLaws.{pass, refusal-rest, refusal-forget}
 use Rattle.machine_theorems.specs.Soundness.Stores.{SoundStore}
-use Rattle.machine_theorems.specs.Soundness.Sessions.{forget-sound-store, step-sound-store}
+use Rattle.machine_theorems.specs.Soundness.Sessions.{forget-sound_store, step-sound_store}
 use Rattle.machine_sessions.specs.Queue.Following.{Sends, stepped, short, sends, Following, accept_accepts, send_following, session_follows}
 use Rattle.machine_sessions.specs.Places.Told.{Frozen, co, pends, gave, broke, many, frozen}
 use Rattle.machine_sessions.specs.Places.Agrees.{reply_row, ItemsAt, Makes, MadeRight, Agrees}
 use Rattle.machine_sessions.specs.Places.AgreesEvents.{refused_agrees, forget_agrees}
-use Rattle.machine_sessions.specs.Places.AgreesSessions.{accept-agrees, send_agrees, session_agrees}
+use Rattle.machine_sessions.specs.Places.AgreesSessions.{accept_agrees, send_agrees, session_agrees}
 use Rattle.machine_sessions.specs.Places.PlacesHold.{row_outcome, outcome-row, shows-made}
 use Rattle.machine_sessions.specs.Gather.Failing.{RowMoves, CoroutineMoves}
 use Rattle.machine_sessions.specs.Gather.FailingRows.{ItemAt, Raised}
 use Rattle.machine_sessions.specs.Gather.FailingStated.{Brings, FailedBy, item_at, CommitFailed, EventFails}
 use Rattle.machine_sessions.specs.Gather.FailingAwait.{accept-fails}
 use Rattle.machine_sessions.specs.Gather.FailingHistory.{Knows, UsedRow, step-knows, raised-outcome}
-use Rattle.machine_theorems.specs.Soundness.Exits.{runner-low, runner-runs}
+use Rattle.machine_theorems.specs.Soundness.Exits.{runner_low, runner-runs}
 use Rattle.machine.specs.Sound.{is_ended}
 use Rattle.machine.specs.Machine.{runner, first_refusal, in_running}
 use Rattle.machine.specs.Honest.{exits_in}
@@ -61,11 +61,11 @@ use Rattle.machine_sessions.specs.Places.AgreesComplete.{runs-coroutine}
 use Rattle.machine_sessions.specs.Stall.TaskLog.{exits}
 use Rattle.machine_sessions.specs.Gather.Failing.{RowMoves}
 use Rattle.machine_sessions.specs.Gather.FailingRows.{FirstRun}
-use Rattle.machine_sessions.specs.Gather.FailingHistory.{runner-coroutine, exit-first, said-is, happened-is, some-is_at}
+use Rattle.machine_sessions.specs.Gather.FailingHistory.{runner-coroutine, exit_first, said-is, happened_is, some-is_at}
 use Rattle.machine_sessions.specs.Stall.GoesOn.{Reads, ended_reads}
 use Rattle.machine_sessions.specs.Stall.Outcomes.{outcome_of}
 use Rattle.machine_sessions.specs.Stall.Waiting.{Alive}
-use Rattle.machine_sessions.specs.Gather.FailingSessions.{fl, agreed, made-still, look-now, outcome-now, items-now}
+use Rattle.machine_sessions.specs.Gather.FailingSessions.{fl, agreed, made_still, look_now, outcome_now, items_now}
 
 -- ---- rows
 
@@ -121,13 +121,13 @@ module _ (h : List Entry) (s : Store) (w : SoundStore s) (a : Agrees h s) (k : K
   unfolding is_ended
   runner-none zero c z m q g = absurd_some (sym (runs-coroutine h 0 (a.runner (task_id 0) m) ∙ a.main) ∙ q)
   runner-none (suc t) c z m q g =
-      live-none t c z (ap is_ended m) (runner-low s (suc t) w m) (ap is_live (runner-runs s (suc t) w m))
+      live-none t c z (ap is_ended m) (runner_low s (suc t) w m) (ap is_live (runner-runs s (suc t) w m))
       (some-injective _ c (sym (runner-coroutine h s w a k blank e (accept s e) (fl h s w a k blank e i rf w') (accept_accepts s e) rf t m) ∙ (sym (runs-coroutine h (suc t) (a.runner (task_id (suc t)) m)) ∙ q))) g
 
   -- one that exits without having started
   first-none : (c : ℕ) (z : Outcome Value Error) → outcome_of h c ≡ some z → exits_unstarted (spawned_for (y ∷ h)) (coroutine_of (y ∷ h)) y.happened c ≡ true → ⊥
   unfolding exits_in
-  first-none c z g q = by (exit-first h s w a k blank e (accept s e) (fl h s w a k blank e i rf w') (accept_accepts s e) rf c q) (is_ended (header s).moment) refl
+  first-none c z g q = by (exit_first h s w a k blank e (accept s e) (fl h s w a k blank e i rf w') (accept_accepts s e) rf c q) (is_ended (header s).moment) refl
     where
       by : (t : ℕ) × FirstRun s u (suc t) × ((task s (suc t)).coroutine.0 ≡ c) → (b : Bool) → is_ended (header s).moment ≡ b → ⊥
       by x false on = live-none x.0 c z on x.1.low (ap is_live x.1.was) x.2 g
@@ -213,6 +213,6 @@ module _ (h : List Entry) (s : Store) (w : SoundStore s) (a : Agrees h s) (k : K
       by : (b : Bool) → ltb o (header s).made ≡ b → outcome (y ∷ h) (look u) o ≡ some z
       by true p =
           let l : o < (header s).made = ltb-true o (header s).made p in
-          outcome-now h s w a k blank e i rf w' o l
+          outcome_now h s w a k blank e i rf w' o l
           ∙ row_stays (outcome_of h) (outcome_of (y ∷ h)) o (object s o) (object u o) z (λ r g. ap₂ coroutine_outcome (value_stays o r g) (error-stays o r g) ∙ g) ((fl h s w a k blank e i rf w').moves o l) (sym (outcome-row h s w a o l) ∙ q)
       by false p = absurd_some (sym (unmade-none h s a (look s) o (ltb-false o (header s).made p)) ∙ q)

@@ -23,7 +23,7 @@ use Rattle.asyncio.specs.States.{pick, is_blocked}
 use Rattle.machine.specs.Store.{Store, view, task, object, header, put_object, put_task, put_queue, add_log, set_state, reached, exited}
 use Rattle.machine.specs.Scheduler.{AwaitedGather, as_awaited, make_ready, push_ready, remove_from_ready_queue, remove_task, cleanup}
 use Rattle.machine.specs.Delivery.{nobody_woken, deliver_to_task, Settled, fail_gather, climb, send_error, deliver_awaiter_failure}
-use Rattle.machine.specs.Events.{handle-task-failure, activate}
+use Rattle.machine.specs.Events.{handle_task_failure, activate}
 use Rattle.machine.specs.Machine.{Event, Answer, switched, end_main, task_fails, accept, refusal, refusals, runner}
 use Rattle.machine.specs.Sound.{runs_now}
 use Rattle.machine.specs.Sessions.{InRange}
@@ -33,19 +33,19 @@ use Rattle.machine_laws.specs.StoreLaws.{object_put-other, task-fits}
 use Rattle.machine_laws.specs.DeliveryLaws.{absurd_some, awaited-fits, failure_climbs}
 use Rattle.machine_laws.specs.SoundLaws.{refusal-rest}
 use Rattle.machine_theorems.specs.Soundness.Stores.{idle, SoundDuring, SoundStore, during_of}
-use Rattle.machine_theorems.specs.Soundness.Deliver.{Sends, DeliveringError, error-sends, DeliveryEnds, failure-keeps}
-use Rattle.machine_theorems.specs.Soundness.Cycle.{task_delivering, remove-keeps}
-use Rattle.machine_theorems.specs.Soundness.Exits.{runner-low, runner-runs, runner-live, others-commits-none}
+use Rattle.machine_theorems.specs.Soundness.Deliver.{Sends, DeliveringError, error-sends, DeliveryEnds, failure_keeps}
+use Rattle.machine_theorems.specs.Soundness.Cycle.{task_delivering, remove_keeps}
+use Rattle.machine_theorems.specs.Soundness.Exits.{runner_low, runner-runs, runner-live, others_commits_none}
 use Rattle.machine_theorems.specs.Soundness.Preserved.{running}
 use Rattle.machine_theorems.specs.Panics.NoPanicWoken.{failure_activated}
 use Rattle.machine_sessions.specs.Stall.SourcedClimb.{fail_off, fail-on}
-use Rattle.machine_sessions.specs.Stall.SourcedCycle.{failure-settles}
+use Rattle.machine_sessions.specs.Stall.SourcedCycle.{failure_settles}
 use Rattle.machine_sessions.specs.Stall.WaitingEvents.{Cleaned, cleanup_cleans}
 use Rattle.machine_sessions.specs.Gather.Failing.{climb-failed, failed-awaited}
 use Rattle.machine_sessions.specs.Gather.FailingRows.{by_task, Failing}
-use Rattle.machine_sessions.specs.Gather.FailingClimb.{failure-failing}
-use Rattle.machine_sessions.specs.Gather.FailingCycle.{LeftAs, exit-left, activate-left}
-use Rattle.machine_sessions.specs.Gather.FailingEvents.{begins_with, runner-up}
+use Rattle.machine_sessions.specs.Gather.FailingClimb.{failure_failing}
+use Rattle.machine_sessions.specs.Gather.FailingCycle.{LeftAs, exit_left, activate-left}
+use Rattle.machine_sessions.specs.Gather.FailingEvents.{begins_with, runner_up}
 
 -- ---- an error goes all the way up
 
@@ -106,7 +106,7 @@ module _ (r : ℕ → Bool) (D : ℕ → Type 0) (hd : Header) (e : Error) (k : 
                   let same : w ≡ v = some-injective w v (sym d ∙ subst (λ (m : ℕ). as_awaited (object s m) ≡ some v) h a) in
                   let to : w.awaiter ≡ Awaiter.GatherSlot (heap_id p) (heap_id j) = ap (λ (t : AwaitedGather). t.awaiter) same ∙ b in
                   subst (λ (t : Awaiter). as_awaited (object (deliver_awaiter_failure y t e).store p) ≡ none) (sym to)
-                  (failure-settles p y j e next.during.kept.memory.sized (subst AwaiterFits to (awaited-fits s g w d).1.0).0 k)
+                  (failure_settles p y j e next.during.kept.memory.sized (subst AwaiterFits to (awaited-fits s g w d).1.0).0 k)
               of (no ne) =
                   go y g w.awaiter (omega (arith, f, sent.up w.awaiter onward)) next o p j v
                   (ap (λ (t : Store). as_awaited (object t o)) is-put ∙ (ap as_awaited (object_put-other s g o _ ne) ∙ a)) b c
@@ -150,32 +150,32 @@ module _ (s : Store) (w : SoundStore s) (t n : ℕ) (m : (header s).moment ≡ M
   left = add_log (remove_task during (suc t)) (exited (suc t))
 
   abbrev end : Store
-  end = (handle-task-failure activate s (suc t) (Error.Script n)).store
+  end = (handle_task_failure activate s (suc t) (Error.Script n)).store
 
   z : Sized s
   z = w.memory.sized
 
   rising : DeliveringError (runs_now (header s).moment) Done (header s) (task s (suc t)).coroutine.0 s a
-  rising = task_delivering s t (during_of s w) (runner-low s (suc t) w m) (runner-live s (suc t) w m)
+  rising = task_delivering s t (during_of s w) (runner_low s (suc t) w m) (runner-live s (suc t) w m)
 
   sent : DeliveryEnds (runs_now (header s).moment) Done (header s) (deliver_awaiter_failure s a e)
-  sent = failure-keeps (runs_now (header s).moment) Done (header s) e f s (task s (suc t)).coroutine.0 a rising
+  sent = failure_keeps (runs_now (header s).moment) Done (header s) e f s (task s (suc t)).coroutine.0 a rising
 
   gone : SoundDuring Nothing idle Done (header s) left
   gone =
-      remove-keeps during (suc t) sent.during (subst (λ (y : Header). suc t < y.next) (sym sent.during.head) (runner-low s (suc t) w m)) (exited (suc t)) idle refl (others-commits-none s (suc t) w m)
+      remove_keeps during (suc t) sent.during (subst (λ (y : Header). suc t < y.next) (sym sent.during.head) (runner_low s (suc t) w m)) (exited (suc t)) idle refl (others_commits_none s (suc t) w m)
 
   -- up to there only the task's own error fails gathers
   own : Failing s s (λ g. ⊥) (λ y. y ≡ e) (λ v. ⊥) (λ o y. Unit {0}) Unit during
   own =
-      failure-failing s s (λ g. ⊥) (λ y. y ≡ e) (λ v. ⊥) Nothing w.facts.but (λ g p x v l d b y. y) (λ o y. Unit {0}) (Unit {0}) e f refl s (task s (suc t)).coroutine.0 a (task-fits s (suc t)).awaiter_fits
-      (runner-up (Event.fail n) s w (suc t) m) (by_task tt) (begins_with s (λ y. y ≡ e) (λ v. ⊥) (λ o y. Unit {0}) z)
+      failure_failing s s (λ g. ⊥) (λ y. y ≡ e) (λ v. ⊥) Nothing w.facts.but (λ g p x v l d b y. y) (λ o y. Unit {0}) (Unit {0}) e f refl s (task s (suc t)).coroutine.0 a (task-fits s (suc t)).awaiter_fits
+      (runner_up (Event.fail n) s w (suc t) m) (by_task tt) (begins_with s (λ y. y ≡ e) (λ v. ⊥) (λ o y. Unit {0}) z)
 
   -- behind it only coroutine-reuse
-  others : LeftAs (Failing left left (λ g. ⊥) (λ y. y ≡ Error.CoroutineReuse) (λ v. ⊥) (λ o y. ⊥) ⊥) (handle-task-failure activate s (suc t) e)
-  unfolding handle-task-failure
+  others : LeftAs (Failing left left (λ g. ⊥) (λ y. y ≡ Error.CoroutineReuse) (λ v. ⊥) (λ o y. ⊥) ⊥) (handle_task_failure activate s (suc t) e)
+  unfolding handle_task_failure
   others =
-      exit-left left left (λ g. ⊥) B (λ v. ⊥) (λ o y. ⊥) Nothing gone.kept.but (λ g p x v l d b y. y) (λ v l j d. refl) (λ v p x l j d b y. y) refl Done (header s) next activate
+      exit_left left left (λ g. ⊥) B (λ v. ⊥) (λ o y. ⊥) Nothing gone.kept.but (λ g p x v l d b y. y) (λ v l j d. refl) (λ v p x l j d b y. y) refl Done (header s) next activate
       (activate-left left left (λ g. ⊥) B (λ v. ⊥) (λ o y. ⊥) Nothing gone.kept.but (λ g p x v l d b y. y) (λ v l j d. refl) (λ v p x l j d b y. y) refl Done (header s) next)
       _ (record { during = gone; woken = sent.woken }) (failure_activated s (suc t) e z f (ap is_blocked (runner-runs s (suc t) w m)))
       (begins_with left B (λ v. ⊥) (λ o y. ⊥) gone.kept.memory.sized)
@@ -209,7 +209,7 @@ module _ (s : Store) (w : SoundStore s) (t n : ℕ) (m : (header s).moment ≡ M
     failure-late = record { runner = t; runs = m; apart = apart; items = items }
       where
         apart : (x : ℕ) → (task s (suc t)).awaiter ≡ Awaiter.GatherSlot (heap_id g) (heap_id x) → ⊥
-        apart x b = still (subst (λ (y : Awaiter). as_awaited (object (deliver_awaiter_failure s y e).store g) ≡ none) (sym b) (failure-settles g s x e z (subst AwaiterFits b (task-fits s (suc t)).awaiter_fits).0 f))
+        apart x b = still (subst (λ (y : Awaiter). as_awaited (object (deliver_awaiter_failure s y e).store g) ≡ none) (sym b) (failure_settles g s x e z (subst AwaiterFits b (task-fits s (suc t)).awaiter_fits).0 f))
 
         items : (o x c d : ℕ) (u : AwaitedGather) (y : Error) → as_awaited (object s o) ≡ some u → u.awaiter ≡ Awaiter.GatherSlot (heap_id g) (heap_id x) → object end o ≡ Object.GatherFuture c d (GatherState.Failed y)
             → y ≡ Error.CoroutineReuse
@@ -227,9 +227,9 @@ end_late : (s u : Store) (g i j : ℕ) (v : AwaitedGather) → Cleaned s u → a
 end_late s u g i j v c p q = failed-awaited (object s g) i j Error.CoroutineReuse v (sym (c.rows g) ∙ q) p
 
 -- a spawned task's failure
-spawned-fails : (s : Store) (t : ℕ) (e : Error) → (task_fails s (suc t) e).store ≡ (handle-task-failure activate s (suc t) e).store
+spawned-fails : (s : Store) (t : ℕ) (e : Error) → (task_fails s (suc t) e).store ≡ (handle_task_failure activate s (suc t) e).store
 spawned-fails s t e =
-    unfold task_fails in (ap (λ (b : Bool). (pick b (end_main s (Answer.finished_error e)) (switched (handle-task-failure activate s (suc t) e))).store) (ne_eqb (suc t) 0 (λ q. not-suc-le-zero {n = 0} (omega (arith, q)))) ∙ (unfold switched in refl))
+    unfold task_fails in (ap (λ (b : Bool). (pick b (end_main s (Answer.finished_error e)) (switched (handle_task_failure activate s (suc t) e))).store) (ne_eqb (suc t) 0 (λ q. not-suc-le-zero {n = 0} (omega (arith, q)))) ∙ (unfold switched in refl))
 
 pub accept-late : (s : Store) (n : ℕ) → SoundStore s → InRange (Event.fail n) → refusal s (Event.fail n) ≡ 0 → (g i j : ℕ) (v : AwaitedGather) → as_awaited (object s g) ≡ some v
     → object (accept s (Event.fail n)).store g ≡ Object.GatherFuture i j (GatherState.Failed Error.CoroutineReuse) → LateFails s (accept s (Event.fail n)).store g

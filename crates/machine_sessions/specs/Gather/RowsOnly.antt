@@ -35,8 +35,8 @@ module _ (l : List LogEntry) where
   abbrev Onto : Store → Store → Type 0
   Onto u s = (q : ReadyQueue) × (u ≡ onto q l s)
 
-  abbrev onto-settled : ReadyQueue → Settled → Settled
-  onto-settled q r = record { store = onto q l r.store; onward = r.onward }
+  abbrev onto_settled : ReadyQueue → Settled → Settled
+  onto_settled q r = record { store = onto q l r.store; onward = r.onward }
 
   -- the same of deliveries, which have woken the same task
   abbrev OntoDelivery : Delivery → Delivery → Type 0
@@ -53,23 +53,23 @@ module _ (l : List LogEntry) where
       by true = ((make_ready (onto q l s) t x).queue, refl)
       by false = (q, refl)
 
-  child-onto : (q : ReadyQueue) (s : Store) (g source : ℕ) (v : Value) → resolve_child (onto q l s) g source v ≡ onto-settled q (resolve_child s g source v)
+  child-onto : (q : ReadyQueue) (s : Store) (g source : ℕ) (v : Value) → resolve_child (onto q l s) g source v ≡ onto_settled q (resolve_child s g source v)
   unfolding resolve_child object
   child-onto q s g source v = by (as_awaited (object s g))
     where
-      left_by : (u : Store) (b : Bool) (w : AwaitedGather) (m : ℕ) → resolve_left b (onto q l u) g w m ≡ onto-settled q (resolve_left b u g w m)
+      left_by : (u : Store) (b : Bool) (w : AwaitedGather) (m : ℕ) → resolve_left b (onto q l u) g w m ≡ onto_settled q (resolve_left b u g w m)
       left_by u true w m = unfold resolve_left put_object in refl
       left_by u false w m = unfold resolve_left put_object in refl
 
-      by : (a : Option AwaitedGather) → resolve_awaited (onto q l s) g source v a ≡ onto-settled q (resolve_awaited s g source v a)
+      by : (a : Option AwaitedGather) → resolve_awaited (onto q l s) g source v a ≡ onto_settled q (resolve_awaited s g source v a)
       by none = unfold resolve_awaited in refl
       by (some w) = unfold resolve_awaited put_places in (left_by _ _ w _)
 
-  fails-onto : (q : ReadyQueue) (s : Store) (g : ℕ) (e : Error) → fail_gather (onto q l s) g e ≡ onto-settled q (fail_gather s g e)
+  fails-onto : (q : ReadyQueue) (s : Store) (g : ℕ) (e : Error) → fail_gather (onto q l s) g e ≡ onto_settled q (fail_gather s g e)
   unfolding fail_gather object
   fails-onto q s g e = by (as_awaited (object s g))
     where
-      by : (a : Option AwaitedGather) → fail_awaited (onto q l s) g e a ≡ onto-settled q (fail_awaited s g e a)
+      by : (a : Option AwaitedGather) → fail_awaited (onto q l s) g e a ≡ onto_settled q (fail_awaited s g e a)
       by none = unfold fail_awaited in refl
       by (some w) = unfold fail_awaited put_object in refl
 

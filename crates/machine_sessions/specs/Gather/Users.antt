@@ -1,5 +1,5 @@
 -- Who uses what a commit found in use: the awaiters of pending externals, of awaited gathers and of live tasks are known by the history (`session_uses`), so an
--- item that is reused is in use by somebody, in the words of demand 2 (`reused-in-use`).
+-- item that is reused is in use by somebody, in the words of demand 2 (`reused_in_use`).
 use Rattle.std.specs.Prelude.{◌≡◌, ◌⊎◌, Bool, true, false, ◌||◌, List, [], ◌∷◌, ◌++◌, T, ltb}
 use Rattle.std.proofs.Math.Path.{refl, ap}
 use Rattle.std.proofs.Common.{sym, subst, ◌∙◌, inl, inr, not-suc-le-zero, arith, ltb-true, ltb-false}
@@ -39,7 +39,7 @@ use Rattle.machine_laws.specs.MachineLaws.{accepted-step, refused-step}
 use Rattle.machine_laws.specs.SoundLaws.{refusal-forget}
 use Rattle.machine_theorems.specs.Soundness.Stores.{SoundStore}
 use Rattle.machine_theorems.specs.Soundness.Cycle.{spawned_of}
-use Rattle.machine_theorems.specs.Soundness.Sessions.{forget-sound-store, step-sound-store}
+use Rattle.machine_theorems.specs.Soundness.Sessions.{forget-sound_store, step-sound_store}
 use Rattle.machine_sessions.specs.Queue.Tracked.{live-is}
 use Rattle.machine_sessions.specs.Queue.Following.{Sends, stepped, short, sends, Following, accept_accepts, send_following, session_follows}
 use Rattle.machine_sessions.specs.Waits.{said-accepted}
@@ -53,7 +53,7 @@ use Rattle.machine_sessions.specs.Gather.FailingRows.{ItemAt}
 use Rattle.machine_sessions.specs.Gather.FailingStated.{Other, NoSlot, TaskFor, Reuses, coroutine_reused, future_reused, gather_reused, ItemSlot, Took, SlotIn, Opens, TookTask, TaskFrom, lived, is_new, EventFails}
 use Rattle.machine_sessions.specs.Gather.FailingHistory.{Knows, some-is_at}
 use Rattle.machine_sessions.specs.Gather.FailingAwait.{accept-fails}
-use Rattle.machine_sessions.specs.Gather.FailingSessions.{IsMany, gather-list, item_in, items-later, items-now, made-still, forget-knows, look-row, send-fails, session-knows}
+use Rattle.machine_sessions.specs.Gather.FailingSessions.{IsMany, gather-list, item_in, items-later, items_now, made_still, forget-knows, look-row, send-fails, session-knows}
 use Rattle.machine_sessions.specs.Gather.GatherSteps.{in_range_snoc, session_snoc}
 
 -- ---- what is known of awaiters
@@ -128,7 +128,7 @@ module _ (h : List Entry) (s : Store) (w : SoundStore s) (a : Agrees h s) (k : K
   known-later : (o : ℕ) (b : Awaiter) → Known h (header s).made o b → Known (y ∷ h) (header u).made o b
   known-later o Awaiter.Nobody q = tt
   known-later o (Awaiter.Task t) q = awaited-later y h o q
-  known-later o (Awaiter.GatherSlot f x) q = (made-still h s w a k blank e i rf w' f.0 q.0, ap (is_in o) (items-now h s w a k blank e i rf w' f.0 q.0) ∙ q.1)
+  known-later o (Awaiter.GatherSlot f x) q = (made_still h s w a k blank e i rf w' f.0 q.0, ap (is_in o) (items_now h s w a k blank e i rf w' f.0 q.0) ∙ q.1)
 
   known_slot : (o : ℕ) (b : Awaiter) → ItemSlot s o b → Known (y ∷ h) (header u).made o b
   known_slot o Awaiter.Nobody q = tt
@@ -222,13 +222,13 @@ step_uses h s e w a k i us = by (ℕ_discrete (refusal s e) 0)
     by : Dec (refusal s e ≡ 0) → StepUses h e (step s e).answer (step s e).store
     by (yes r) =
         subst (λ (x : Step). StepUses h e x.answer x.store) (sym (accepted-step s e r))
-        (accepted-uses h z (forget-sound-store s w) (forget_agrees h s a) (forget-knows h s k) blank e i rz sound (forget_uses h s us) (accept-fails z (forget-sound-store s w) e i rz))
+        (accepted-uses h z (forget-sound_store s w) (forget_agrees h s a) (forget-knows h s k) blank e i rz sound (forget_uses h s us) (accept-fails z (forget-sound_store s w) e i rz))
       where
         rz : refusal z e ≡ 0
         rz = refusal-forget s e ∙ r
 
         sound : SoundStore (accept z e).store
-        sound = subst (λ (x : Step). SoundStore x.store) (accepted-step s e r) (step-sound-store s w e i)
+        sound = subst (λ (x : Step). SoundStore x.store) (accepted-step s e r) (step-sound_store s w e i)
     by (no ne) =
         subst (λ (x : Step). StepUses h e x.answer x.store) (sym (refused-step s e (refusal s e) refl ne))
         (refused_uses h s z e (refusal s e) (unfold header forget in refl) (λ t. unfold task forget in refl) (λ o. unfold object forget in refl) us)
@@ -377,8 +377,8 @@ module _ (es : List Sent) (i : AllSentInRange es) (g : ℕ) where
           elsewhere o (task x.store t).coroutine.0 f p (subst (Other g) q d) (w.facts.but.task-slots t k.low (holds _ k.live) f.0 p.0 q) (subst (Known x.history (header x.store).made o) q n)
 
   -- An item that is reused is in use.
-  pub reused-in-use : (o : ℕ) (r : Error) → is_ended (header x.store).moment ≡ false → o < (header x.store).made → Reuses x.store g o (object x.store o) r → InUse x g o (look x.store o) r
-  reused-in-use o r on l k = subst (λ (v : Shown). InUse x g o v r) (sym (look_is o l)) (by (object x.store o) r refl k)
+  pub reused_in_use : (o : ℕ) (r : Error) → is_ended (header x.store).moment ≡ false → o < (header x.store).made → Reuses x.store g o (object x.store o) r → InUse x g o (look x.store o) r
+  reused_in_use o r on l k = subst (λ (v : Shown). InUse x g o v r) (sym (look_is o l)) (by (object x.store o) r refl k)
     where
       named-used : is_used (shape (object x.store o)) ≡ true → named x.history o ≡ true
       named-used e = ((session_honest es i).kept on).origins.named-is o ∙ e
@@ -417,4 +417,4 @@ pub sent_in_use : (es : List Sent) (e : Sent) → AllSentInRange es → InRange 
     → Reuses (send (session es) e).store g o (object (send (session es) e).store o) r → InUse (send (session es) e) g o (look (send (session es) e).store o) r
 sent_in_use es e i j g o r =
     subst (λ (y : Session). is_ended (header y.store).moment ≡ false → o < (header y.store).made → Reuses y.store g o (object y.store o) r → InUse y g o (look y.store o) r) (session_snoc es e)
-    (reused-in-use (es ++ (e ∷ [])) (in_range_snoc es e i j) g o r)
+    (reused_in_use (es ++ (e ∷ [])) (in_range_snoc es e i j) g o r)

@@ -174,8 +174,8 @@ state_map w F G t (TaskState.Blocked b) e k = (k.0, e b.0 k.0 ∙ k.1)
 
 module _ (W : ℕ → Option ℕ) where
   -- fewer are excepted
-  pub given-less : {E D : ℕ → Type 0} {Z : ℕ → ℕ → Type 0} (s : Store) → ((t : ℕ) → (D t → ⊥) → E t → ⊥) → Given W E Z s → Given W D Z s
-  given-less s f k =
+  pub given_less : {E D : ℕ → Type 0} {Z : ℕ → ℕ → Type 0} (s : Store) → ((t : ℕ) → (D t → ⊥) → E t → ⊥) → Given W E Z s → Given W D Z s
+  given_less s f k =
       record {
         sized = k.sized;
         fates = k.fates;
@@ -187,12 +187,12 @@ module _ (W : ℕ → Option ℕ) where
       }
 
   -- what no task waits for
-  pub loose-unwaited : {E : ℕ → Type 0} {Z : ℕ → ℕ → Type 0} (s : Store) (o : ℕ) → fate o (object s o) ≡ loose → Given W E Z s → Unwaited W o
-  loose-unwaited s o e k = λ t q. subst (Awaits t) e (k.fates t o q)
+  pub loose_unwaited : {E : ℕ → Type 0} {Z : ℕ → ℕ → Type 0} (s : Store) (o : ℕ) → fate o (object s o) ≡ loose → Given W E Z s → Unwaited W o
+  loose_unwaited s o e k = λ t q. subst (Awaits t) e (k.fates t o q)
 
   -- rows as they were
-  pub given-like : {E : ℕ → Type 0} {Z : ℕ → ℕ → Type 0} (s u : Store) → Sized u → (header u).next ≡ (header s).next → ((o : ℕ) → object u o ≡ object s o) → ((t : ℕ) → task u t ≡ task s t) → Given W E Z s → Given W E Z u
-  given-like {E} {Z} s u z nx os ts k =
+  pub given_like : {E : ℕ → Type 0} {Z : ℕ → ℕ → Type 0} (s u : Store) → Sized u → (header u).next ≡ (header s).next → ((o : ℕ) → object u o ≡ object s o) → ((t : ℕ) → task u t ≡ task s t) → Given W E Z s → Given W E Z u
+  given_like {E} {Z} s u z nx os ts k =
       record {
         sized = z;
         fates = λ t o e. subst (Awaits t) (sym (same o)) (k.fates t o e);
@@ -263,9 +263,9 @@ module _ (W : ℕ → Option ℕ) where
           by (inr q) = q.1
 
   -- one that nobody waits for
-  pub unwaited-given : {E : ℕ → Type 0} {Z : ℕ → ℕ → Type 0} (s : Store) (o : ℕ) (x : Object) → o < object_limit → FateFits x → Unwaited W o
+  pub unwaited_given : {E : ℕ → Type 0} {Z : ℕ → ℕ → Type 0} (s : Store) (o : ℕ) (x : Object) → o < object_limit → FateFits x → Unwaited W o
       → ((t : ℕ) → fate o x ≡ held t → (fate o (object s o) ≡ held t) ⊎ (Z o t × (t < (header s).next))) → Given W E Z s → Given W E Z (put_object s o x)
-  unwaited-given {E} s o x l f p h k = row-given E s o x (fate o x) l (fate_back o x f) (λ t e. absurd (p t e)) (λ t n e. absurd (p t e)) h (λ t n. n) k
+  unwaited_given {E} s o x l f p h k = row-given E s o x (fate o x) l (fate_back o x f) (λ t e. absurd (p t e)) (λ t n e. absurd (p t e)) h (λ t n. n) k
 
   -- one whose fate stays
   pub same-given : {E : ℕ → Type 0} {Z : ℕ → ℕ → Type 0} (s : Store) (o : ℕ) (x : Object) → o < object_limit → FateFits x → fate o x ≡ fate o (object s o) → Given W E Z s → Given W E Z (put_object s o x)
@@ -317,12 +317,12 @@ module _ (W : ℕ → Option ℕ) where
       slots-by v l (no ne) = subst (λ (y : Task). NoTask y.awaiter) (sym (other v ne)) (k.slots v l)
 
   -- a task's state
-  pub state-given : {E : ℕ → Type 0} {Z : ℕ → ℕ → Type 0} (D : ℕ → Type 0) (s : Store) (t : ℕ) (x : TaskState) → t < task_limit → StateFits x
+  pub state_given : {E : ℕ → Type 0} {Z : ℕ → ℕ → Type 0} (D : ℕ → Type 0) (s : Store) (t : ℕ) (x : TaskState) → t < task_limit → StateFits x
       → ((D t → ⊥) → StateIs (W t) (λ o. fate o (object s o)) t x)
       → ((o : ℕ) → fate o (object s o) ≡ held t → is_live x ≡ true → (blocked_on x ≡ some o) ⊎ Z o t)
       → ((v : ℕ) → (v ≡ t → ⊥) → (D v → ⊥) → E v → ⊥) → Given W E Z s → Given W D Z (set_state s t x)
   unfolding set_state restate
-  state-given D s t x l f st ho less k =
+  state_given D s t x l f st ho less k =
       task-given D s t (record { state = x; awaiter = (task s t).awaiter; coroutine = (task s t).coroutine }) (record { state_fits = f; awaiter_fits = (task-fits s t).awaiter_fits; coroutine-fits = (task-fits s t).coroutine-fits }) st ho (k.slots t l) less k
 
   pub absent-given : {E : ℕ → Type 0} {Z : ℕ → ℕ → Type 0} (s : Store) (t : ℕ) → Given W E Z s → Given W E Z (put_task s t absent)
@@ -332,21 +332,21 @@ module _ (W : ℕ → Option ℕ) where
 
   -- ---- the rest
 
-  pub queue-given : {E : ℕ → Type 0} {Z : ℕ → ℕ → Type 0} (s : Store) (q : ReadyQueue) → Given W E Z s → Given W E Z (put_queue s q)
-  queue-given s q k = given-like s (put_queue s q) (sized-put_queue s q k.sized) (unfold header put_queue in refl) (λ o. unfold object put_queue in refl) (λ t. unfold task put_queue in refl) k
+  pub queue_given : {E : ℕ → Type 0} {Z : ℕ → ℕ → Type 0} (s : Store) (q : ReadyQueue) → Given W E Z s → Given W E Z (put_queue s q)
+  queue_given s q k = given_like s (put_queue s q) (sized-put_queue s q k.sized) (unfold header put_queue in refl) (λ o. unfold object put_queue in refl) (λ t. unfold task put_queue in refl) k
 
   pub log-given : {E : ℕ → Type 0} {Z : ℕ → ℕ → Type 0} (s : Store) (x : LogEntry) → Given W E Z s → Given W E Z (add_log s x)
-  log-given s x k = given-like s (add_log s x) (sized-add_log s x k.sized) (unfold header add_log in refl) (λ o. unfold object add_log in refl) (λ t. unfold task add_log in refl) k
+  log-given s x k = given_like s (add_log s x) (sized-add_log s x k.sized) (unfold header add_log in refl) (λ o. unfold object add_log in refl) (λ t. unfold task add_log in refl) k
 
   pub places-given : {E : ℕ → Type 0} {Z : ℕ → ℕ → Type 0} (s : Store) (ps : List ℕ) → length ps ≡ places_length → Given W E Z s → Given W E Z (put_places s ps)
-  places-given s ps e k = given-like s (put_places s ps) (sized-put_places s ps e k.sized) (unfold header put_places in refl) (λ o. unfold object put_places in refl) (λ t. unfold task put_places in refl) k
+  places-given s ps e k = given_like s (put_places s ps) (sized-put_places s ps e k.sized) (unfold header put_places in refl) (λ o. unfold object put_places in refl) (λ t. unfold task put_places in refl) k
 
   pub place-given : {E : ℕ → Type 0} {Z : ℕ → ℕ → Type 0} (s : Store) (p : ℕ) (x : Place) → Given W E Z s → Given W E Z (put_place s p x)
-  place-given s p x k = given-like s (put_place s p x) (sized-put_place s p x k.sized) (unfold header put_place in refl) (λ o. unfold object put_place in refl) (λ t. unfold task put_place in refl) k
+  place-given s p x k = given_like s (put_place s p x) (sized-put_place s p x k.sized) (unfold header put_place in refl) (λ o. unfold object put_place in refl) (λ t. unfold task put_place in refl) k
 
   pub header-given : {E : ℕ → Type 0} {Z : ℕ → ℕ → Type 0} (s : Store) (h : Header) → HeaderFits h → h.next ≡ (header s).next → Given W E Z s → Given W E Z (put_header s h)
   header-given s h f e k =
-      given-like s (put_header s h) (sized-put_header s h k.sized) (ap (λ (y : Header). y.next) (header_put-header s h k.sized f) ∙ e) (λ o. object_put-header s h o) (λ t. unfold task put_header in refl) k
+      given_like s (put_header s h) (sized-put_header s h k.sized) (ap (λ (y : Header). y.next) (header_put-header s h k.sized f) ∙ e) (λ o. object_put-header s h o) (λ t. unfold task put_header in refl) k
 
   pub moved-given : {E : ℕ → Type 0} {Z : ℕ → ℕ → Type 0} (s : Store) (m : Moment) → MomentFits m → Given W E Z s → Given W E Z (set_moment s m)
   unfolding set_moment
@@ -354,7 +354,7 @@ module _ (W : ℕ → Option ℕ) where
 
   pub gone-given : {E : ℕ → Type 0} {Z : ℕ → ℕ → Type 0} (s : Store) (t : ℕ) (x : LogEntry) → Given W E Z s → Given W E Z (add_log (remove_task s t) x)
   unfolding remove_task remove_from_ready_queue
-  gone-given s t x k = log-given _ x (queue-given _ _ (absent-given s t k))
+  gone-given s t x k = log-given _ x (queue_given _ _ (absent-given s t k))
 
   -- a task more
   next-given : {E : ℕ → Type 0} {Z : ℕ → ℕ → Type 0} (s : Store) → (header s).next + 1 ≤ task_limit → Given W E Z s → Given W E Z (set_next s ((header s).next + 1))
@@ -379,7 +379,7 @@ module _ (W : ℕ → Option ℕ) where
 
   pub spawns-given : {E : ℕ → Type 0} {Z : ℕ → ℕ → Type 0} (s : Store) (c g : ℕ) → (header s).next < task_limit → c < object_limit → g < object_limit → Given W E Z s → Given W E Z (spawn_as s (header s).next c g)
   unfolding spawn_as push_ready
-  spawns-given {E} {Z} s c g l m n k = log-given _ (spawned (header s).next c) (queue-given _ _ more)
+  spawns-given {E} {Z} s c g l m n k = log-given _ (spawned (header s).next c) (queue_given _ _ more)
     where
       r : Task
       r = record { state = TaskState.Unstarted; awaiter = Awaiter.GatherSlot (heap_id g) (heap_id c); coroutine = heap_id c }

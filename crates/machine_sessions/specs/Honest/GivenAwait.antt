@@ -21,17 +21,17 @@ use Rattle.asyncio.specs.States.{is_live}
 use Rattle.machine.specs.Store.{Store, task, object, header, put_object, add_log, restate, set_state, blocked}
 use Rattle.machine.specs.Scheduler.{blocked_on}
 use Rattle.machine.specs.Commit.{Poll, ready, raised, pending, await_pending, await_external, commit_gather_tree}
-use Rattle.machine.specs.Events.{How, start, value, raises, inline, runs, Switched, Awaited, resume-next, activate, stays, go_on, await_coroutine, await_external_future, await_gather, await_object, exec_get_awaitable}
+use Rattle.machine.specs.Events.{How, start, value, raises, inline, runs, Switched, Awaited, resume_next, activate, stays, go_on, await_coroutine, await_external_future, await_gather, await_object, exec_get_awaitable}
 use Rattle.machine.specs.Honest.{is_reuse}
 use Rattle.machine_laws.specs.StoreLaws.{task-fits, header_put-object, task_put-task}
 use Rattle.machine_laws.specs.DeliveryLaws.{absurd_some}
-use Rattle.machine_laws.specs.Walk.{commit-kept}
+use Rattle.machine_laws.specs.Walk.{commit_kept}
 use Rattle.machine_sessions.specs.Waits.Calls.{read_back}
 use Rattle.machine_sessions.specs.Places.TellingAwait.{Row, row_commits}
 use Rattle.machine_sessions.specs.Honest.Given.{Fate, loose, held, ret, err, holder, fate, fate_back, Awaits, held-is, not-held, StateIs, Given, NoneBut, NoneYet}
-use Rattle.machine_sessions.specs.Honest.Given.{loose-unwaited, unwaited-given, state-given, log-given}
+use Rattle.machine_sessions.specs.Honest.Given.{loose_unwaited, unwaited_given, state_given, log-given}
 use Rattle.machine_sessions.specs.Honest.GivenCycle.{none_yet, Left, resume-left}
-use Rattle.machine_sessions.specs.Honest.GivenCommit.{Takes, Ended, commit-given}
+use Rattle.machine_sessions.specs.Honest.GivenCommit.{Takes, Ended, commit_given}
 
 -- ---- another await is the last one of task t
 
@@ -120,7 +120,7 @@ module _ (W U : ℕ → Option ℕ) (t o : ℕ) (here : U t ≡ some o) (other :
       was-takes p (inr q) = q
 
       k2 : Given U NoneBut (Takes t o) (set_state u t x)
-      k2 = state-given U NoneBut u t x tlow low (λ n. (here, h)) (λ p e l. inr (was-takes p (k.holders p t e (ap is_live r)))) (λ v ne n e. ne e) k1
+      k2 = state_given U NoneBut u t x tlow low (λ n. (here, h)) (λ p e l. inr (was-takes p (k.holders p t e (ap is_live r)))) (λ v ne n e. ne e) k1
 
       row : (task (set_state u t x) t).state ≡ x
       row = unfold set_state in (ap (λ (y : Task). y.state) (task_put-task u t (restate (task u t) x) k.sized tlow fits) ∙ stated)
@@ -148,7 +148,7 @@ module _ (W U : ℕ → Option ℕ) (t o : ℕ) (here : U t ≡ some o) (other :
   go-on-given m u (ready v) r k = stayed (value v) k.0 r.state k.1 refl
   go-on-given m u (raised e) r k = stayed (raises e) k.0 r.state (inl k.1) refl
   go-on-given m u pending r k =
-      switches (resume-next activate (add_log (set_state u t (TaskState.Blocked (heap_id o))) (blocked t))) (resume-left U _ (blocks-given u r.next r.state k.0 k.1)) refl refl
+      switches (resume_next activate (add_log (set_state u t (TaskState.Blocked (heap_id o))) (blocked t))) (resume-left U _ (blocks-given u r.next r.state k.0 k.1)) refl refl
 
   module _ (s : Store) (next : t < (header s).next) (runs_now : (task s t).state ≡ TaskState.Running) (k : K s) where
     same_runs : Runs s
@@ -191,7 +191,7 @@ module _ (W U : ℕ → Option ℕ) (t o : ℕ) (here : U t ≡ some o) (other :
             }
 
         takes : Given W NoneBut (Takes t o) (put_object s o y)
-        takes = unwaited-given W s o y low tlow (loose-unwaited W s o loose_now k) (λ u q. let d : u ≡ t = held-is u t (sym q ∙ held-now) in inr ((refl, d), subst (λ (m : ℕ). m < (header s).next) (sym d) next)) wider
+        takes = unwaited_given W s o y low tlow (loose_unwaited W s o loose_now k) (λ u q. let d : u ≡ t = held-is u t (sym q ∙ held-now) in inr ((refl, d), subst (λ (m : ℕ). m < (header s).next) (sym d) next)) wider
     external-given c (ExternalFutureState.Pending (Awaiter.Task u) r) e = stayed (raises Error.FutureReuse) k runs_now (inr refl) refl
     external-given c (ExternalFutureState.Pending (Awaiter.GatherSlot g u) r) e = stayed (raises Error.FutureReuse) k runs_now (inr refl) refl
     external-given c (ExternalFutureState.Resolved v) e = go-on-given 0 s (ready v) same_runs (k, ap (fate o) e ∙ (unfold fate in refl))
@@ -200,7 +200,7 @@ module _ (W U : ℕ → Option ℕ) (t o : ℕ) (here : U t ≡ some o) (other :
     -- the task's row stays in a commit
     commit-runs : (a : Awaiter) → Runs (commit_gather_tree s o a).store
     commit-runs a =
-        let y : Row t (task s t) (header s).moment (commit_gather_tree s o a).store = commit-kept (Row t (task s t) (header s).moment) (row_commits t (task s t) (header s).moment) s o a low (record { sized = k.sized; low = next; row = refl; moment = refl }) in
+        let y : Row t (task s t) (header s).moment (commit_gather_tree s o a).store = commit_kept (Row t (task s t) (header s).moment) (row_commits t (task s t) (header s).moment) s o a low (record { sized = k.sized; low = next; row = refl; moment = refl }) in
         record { next = y.low; state = ap (λ (r : Task). r.state) y.row ∙ runs_now }
 
     await-by : (x : Object) → object s o ≡ x → (x ≡ Object.Unmade → ⊥) → AwaitGiven (await_object s t o x)
@@ -208,12 +208,12 @@ module _ (W U : ℕ → Option ℕ) (t o : ℕ) (here : U t ≡ some o) (other :
     await-by Object.Unmade e m = absurd (m refl)
     await-by (Object.Coroutine f CoroutineState.New) e m =
         stayed (inline o)
-        (unwaited-given W s o (Object.Coroutine f CoroutineState.Running) low tt (loose-unwaited W s o (ap (fate o) e ∙ (unfold fate in refl)) k) (λ v q. not-held v (fate o (Object.Coroutine f CoroutineState.Running)) (unfold fate in tt) q) k) (put-runs _).state tt refl
+        (unwaited_given W s o (Object.Coroutine f CoroutineState.Running) low tt (loose_unwaited W s o (ap (fate o) e ∙ (unfold fate in refl)) k) (λ v q. not-held v (fate o (Object.Coroutine f CoroutineState.Running)) (unfold fate in tt) q) k) (put-runs _).state tt refl
     await-by (Object.Coroutine f CoroutineState.Running) e m = stayed (raises Error.CoroutineReuse) k runs_now (inr refl) refl
     await-by (Object.Coroutine f CoroutineState.Completed) e m = stayed (raises Error.CoroutineReuse) k runs_now (inr refl) refl
     await-by (Object.ExternalFuture c x) e m = external-given c x e
     await-by (Object.GatherFuture f n GatherState.Pending) e m =
-        go-on-given _ _ _ (commit-runs _) (commit-given W t o low (loose-unwaited W s o (ap (fate o) e ∙ (unfold fate in refl)) k) s f n e next tlow k)
+        go-on-given _ _ _ (commit-runs _) (commit_given W t o low (loose_unwaited W s o (ap (fate o) e ∙ (unfold fate in refl)) k) s f n e next tlow k)
     await-by (Object.GatherFuture f n (GatherState.Awaited a j)) e m = stayed (raises Error.GatherReuse) k runs_now (inr refl) refl
     await-by (Object.GatherFuture f n GatherState.Completed) e m = stayed (value (Value.List (heap_id o))) k runs_now (ap (fate o) e ∙ (unfold fate in refl)) refl
     await-by (Object.GatherFuture f n (GatherState.Failed x)) e m = stayed (raises x) k runs_now (inl (ap (fate o) e ∙ (unfold fate in refl))) refl

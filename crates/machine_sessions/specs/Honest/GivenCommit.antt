@@ -33,7 +33,7 @@ use Rattle.machine_laws.specs.DeliveryLaws.{awaited-fits}
 use Rattle.machine_sessions.specs.Waits.Calls.{read_back}
 use Rattle.machine_sessions.specs.Places.Telling.{not_external}
 use Rattle.machine_sessions.specs.Honest.Given.{Fate, loose, held, ret, err, holder, fate, FateFits, fate_back, Came, Unheld, came_unheld, held-is, not-held, NoTask, Given, NoneBut, NoneYet, Unwaited}
-use Rattle.machine_sessions.specs.Honest.Given.{loose-unwaited, unwaited-given, same-given, place-given, spawns-given}
+use Rattle.machine_sessions.specs.Honest.Given.{loose_unwaited, unwaited_given, same-given, place-given, spawns-given}
 use Rattle.machine_sessions.specs.Honest.GivenCycle.{awaited-fate, awaits_fate}
 
 -- ---- rows
@@ -199,7 +199,7 @@ module _ (W : ℕ → Option ℕ) (t g : ℕ) (low : g < object_limit) (unwaited
   -- a gather that nobody waits for
   set_given : (s : Store) (p : ℕ) (y : GatherState) → p < object_limit → Unwaited W p → StateRead y → StateFree y → G s → G (set_gather s p y)
   unfolding set_gather
-  set_given s p y l q r f k = unwaited-given W s p _ l (with_reads (object s p) y (object-fits s p) r) q (λ u e. inl (with_held p (object s p) y u f e)) k
+  set_given s p y l q r f k = unwaited_given W s p _ l (with_reads (object s p) y (object-fits s p) r) q (λ u e. inl (with_held p (object s p) y u f e)) k
 
   set-mid : (s : Store) (p : ℕ) (y : GatherState) → p < object_limit → (p ≡ g → ⊥) → Unwaited W p → StateRead y → StateFree y → Mid s → Mid (set_gather s p y)
   set-mid s p y l ne q r f m = unfold set_gather in (mid_row s p (with_state (object s p) y) l (λ d. absurd (ne d)) (unfold set_gather in (set_given s p y l q r f m.given)) m)
@@ -221,7 +221,7 @@ module _ (W : ℕ → Option ℕ) (t g : ℕ) (low : g < object_limit) (unwaited
       record {
         still = object_put-other s o p _ ne;
         keeps = mid_row s o _ l (λ d. absurd (held-apart s g o t m.root loose_now d))
-            (unwaited-given W s o _ l f (loose-unwaited W s o loose_now m.given) (λ u q. not-held u (fate o (Object.ExternalFuture c (ExternalFutureState.Pending a r))) (unfold fate in (holder-free a n)) q) m.given) m;
+            (unwaited_given W s o _ l f (loose_unwaited W s o loose_now m.given) (λ u q. not-held u (fate o (Object.ExternalFuture c (ExternalFutureState.Pending a r))) (unfold fate in (holder-free a n)) q) m.given) m;
         fits = tt;
       }
     where
@@ -352,7 +352,7 @@ module _ (W : ℕ → Option ℕ) (t g : ℕ) (low : g < object_limit) (unwaited
       x = with_state (object s g) y
 
       k : G (put_object s g x)
-      k = unwaited-given W s g x low (with_reads (object s g) y (object-fits s g) r) unwaited (λ u q. inl (with_held g (object s g) y u f q)) m.given
+      k = unwaited_given W s g x low (with_reads (object s g) y (object-fits s g) r) unwaited (λ u q. inl (with_held g (object s g) y u f q)) m.given
 
       now : fate g (object (put_object s g x) g) ≡ z
       now = ap (fate g) (read_back s g x m.given.sized low) ∙ (fate_back g x (with_reads (object s g) y (object-fits s g) r) ∙ (with_fate g (object s g) y m.gather ∙ e))
@@ -408,7 +408,7 @@ module _ (W : ℕ → Option ℕ) (t g : ℕ) (low : g < object_limit) (unwaited
       → (f : Frame) (fs : List Frame) (m j h : ℕ) (x : Stop) → Linked f.gather fs → StopGiven x → CommitEnded (turn loop f fs m j h x)
   unfolding turn StopGiven open_gather_commit
   turn-given loop go f fs m j h (at_nested s p o) l k =
-      let q : Unwaited W o = loose-unwaited W s o k.2 k.0.given in
+      let q : Unwaited W o = loose_unwaited W s o k.2 k.0.given in
       let ne : o ≡ g → ⊥ = held-apart s g o t k.0.root k.2 in
       go _ _ _ (suc m) (suc j) h (linked-more o (record { gather = f.gather; next = p }) fs k.1 ne q l) (set-mid s o (GatherState.Awaited (Awaiter.GatherSlot (heap_id f.gather) (heap_id o)) 0) k.1 ne q (linked-low f.gather fs l, k.1) tt k.0)
   turn-given loop go f fs m j h (at_error s e) l k = unwind-given fs f s e k.1 l k.0
@@ -463,10 +463,10 @@ module _ (W : ℕ → Option ℕ) (t g : ℕ) (low : g < object_limit) (unwaited
           widen o u (inr b) = absurd b
 
       more : G (put_object s g x)
-      more = unwaited-given W s g x low reads unwaited (λ u q. let d : u ≡ t = held-is u t (sym q ∙ here) in inr ((refl, d), subst (λ (m : ℕ). m < (header s).next) (sym d) b)) wider
+      more = unwaited_given W s g x low reads unwaited (λ u q. let d : u ≡ t = held-is u t (sym q ∙ here) in inr ((refl, d), subst (λ (m : ℕ). m < (header s).next) (sym d) b)) wider
 
   -- a pending gather is committed
-  pub commit-given : (s : Store) (f n : ℕ) → object s g ≡ Object.GatherFuture f n GatherState.Pending → t < (header s).next → t < task_limit → Given W NoneBut NoneYet s
+  pub commit_given : (s : Store) (f n : ℕ) → object s g ≡ Object.GatherFuture f n GatherState.Pending → t < (header s).next → t < task_limit → Given W NoneBut NoneYet s
       → CommitEnded (commit_gather_tree s g (Awaiter.Task (task_id t)))
   unfolding commit_gather_tree
-  commit-given s f n e b tl k = loop-given _ _ _ [] 0 1 0 (unfold Linked in refl) (begins s f n e b tl k)
+  commit_given s f n e b tl k = loop-given _ _ _ [] 0 1 0 (unfold Linked in refl) (begins s f n e b tl k)

@@ -29,8 +29,8 @@ use Rattle.machine.specs.Scheduler.{AwaitedGather, as_awaited, is_some, bit, blo
 use Rattle.machine.specs.Scheduler.{Walk, reach_if, reach, remove_blocked, visit_by, visit, visit_place, visit_open, walk_gather, walk_next, walk, walk_from, cancel_task, remove_from, cleanup}
 use Rattle.machine.specs.Delivery.{Delivery, nobody_woken, deliver_to_task, Filled, fill_from, Settled, resolve_left, resolve_awaited, resolve_child, fail_awaited, fail_gather}
 use Rattle.machine.specs.Delivery.{climb, awaited_count, send_value, climb_value, deliver_awaiter_success, send_error, climb_error, deliver_awaiter_failure}
-use Rattle.machine.specs.Events.{How, start, value, raises, inline, Control, runs, waits, Switched, run, yield, new_function, resume-next, resume-after-task-exit, handle-task-failure}
-use Rattle.machine.specs.Events.{start-by, start-task, activate-state, activate_within, activate}
+use Rattle.machine.specs.Events.{How, start, value, raises, inline, Control, runs, waits, Switched, run, yield, new_function, resume_next, resume_after_task_exit, handle_task_failure}
+use Rattle.machine.specs.Events.{start_by, start_task, activate_state, activate_within, activate}
 use Rattle.machine_laws.specs.StoreLaws.{task-fits, header-fits, object_put-other, task_put-task}
 use Rattle.machine_laws.specs.DeliveryLaws.{absurd_some, awaited-object, awaited-fits, length-fill_from, resolve_sent, fail_sent}
 use Rattle.machine_laws.specs.WokenLaws.{WokenFits, success_woken, failure_woken}
@@ -38,7 +38,7 @@ use Rattle.machine_theorems.specs.Soundness.RowFacts.{blocked-live}
 use Rattle.machine_sessions.specs.Waits.Calls.{read_back, moment_row}
 use Rattle.machine_sessions.specs.Places.Telling.{new-object}
 use Rattle.machine_sessions.specs.Honest.Given.{Fate, held, ret, err, holder, fate, FateFits, fate_back, Came, Awaits, came_awaits, came_unheld, not-held, StateIs, NoTask, Given, NoneBut, NoneYet}
-use Rattle.machine_sessions.specs.Honest.Given.{given-less, loose-unwaited, row-given, unwaited-given, same-given, state-given, absent-given, queue-given, log-given, places-given, moved-given, gone-given}
+use Rattle.machine_sessions.specs.Honest.Given.{given_less, loose_unwaited, row-given, unwaited_given, same-given, state_given, absent-given, queue_given, log-given, places-given, moved-given, gone-given}
 
 -- ---- what is on its way
 
@@ -60,10 +60,10 @@ Sends W s Awaiter.Nobody z = Unit {0}
 Sends W s (Awaiter.Task t) z = Wakes W s t.0 z
 Sends W s (Awaiter.GatherSlot g x) z = Unit {0}
 
-pub no_task-sends : (W : ℕ → Option ℕ) (s : Store) (a : Awaiter) (z : Fate) → NoTask a → Sends W s a z
-no_task-sends W s Awaiter.Nobody z n = tt
-no_task-sends W s (Awaiter.Task t) z n = absurd n
-no_task-sends W s (Awaiter.GatherSlot g x) z n = tt
+pub no_task_sends : (W : ℕ → Option ℕ) (s : Store) (a : Awaiter) (z : Fate) → NoTask a → Sends W s a z
+no_task_sends W s Awaiter.Nobody z n = tt
+no_task_sends W s (Awaiter.Task t) z n = absurd n
+no_task_sends W s (Awaiter.GatherSlot g x) z n = tt
 
 waits_at : (a : Awaiter) (t : ℕ) → Awaits t (holder a) → At a t
 unfolding holder
@@ -140,9 +140,9 @@ module _ (W : ℕ → Option ℕ) where
 
   -- ---- something comes of an object that somebody awaits
 
-  pub settles-given : (s : Store) (o : ℕ) (x : Object) (a : Awaiter) (z : Fate) → o < object_limit → FateFits x → fate o x ≡ z → Came z → fate o (object s o) ≡ holder a → K s
+  pub settles_given : (s : Store) (o : ℕ) (x : Object) (a : Awaiter) (z : Fate) → o < object_limit → FateFits x → fate o x ≡ z → Came z → fate o (object s o) ≡ holder a → K s
       → Given W (At a) NoneYet (put_object s o x) × Sends W (put_object s o x) a z
-  settles-given s o x a z l f e c h k = (
+  settles_given s o x a z l f e c h k = (
     row-given W (At a) s o x z l back (λ t q. came_awaits t z c) (λ t n q. absurd (n (waits_at a t (subst (Awaits t) h (k.fates t o q))))) (λ t q. not-held t z (came_unheld z c) q) (λ t n b. b) k,
     sends a h,
   )
@@ -181,7 +181,7 @@ module _ (W : ℕ → Option ℕ) where
 
   ready-given : (s : Store) (t : ℕ) (x : TaskState) → K (set_state s t x) → K (add_log (make_ready s t x) (reached t))
   unfolding make_ready push_ready
-  ready-given s t x k = log-given W _ (reached t) (queue-given W _ _ k)
+  ready-given s t x k = log-given W _ (reached t) (queue_given W _ _ k)
 
   to_task : (s : Store) (t : ℕ) (x : TaskState) (z : Fate) → t < task_limit → StateFits x → ((o : ℕ) → W t ≡ some o → fate o (object s o) ≡ z → StateIs (W t) (λ p. fate p (object s p)) t x)
       → Given W (λ v. v ≡ t) NoneYet s → Wakes W s t z → K (deliver_to_task s t x).store
@@ -195,7 +195,7 @@ module _ (W : ℕ → Option ℕ) where
       by : (b : Bool) → is_blocked (task s t).state ≡ b → K (pick b (record { store = add_log (make_ready s t x) (reached t); woken = some t }) (nobody_woken s)).store
       by true q =
           let v : is_live (task s t).state ≡ true = blocked-live (task s t).state q in
-          ready-given s t x (state-given W NoneBut s t x l f (λ n. st w.from (w.its v).1 w.comes) (λ o e y. absurd (w.alone o e v)) (λ y ne n e. ne e) k)
+          ready-given s t x (state_given W NoneBut s t x l f (λ n. st w.from (w.its v).1 w.comes) (λ o e y. absurd (w.alone o e v)) (λ y ne n e. ne e) k)
       by false q =
           record {
             sized = k.sized;
@@ -218,7 +218,7 @@ module _ (W : ℕ → Option ℕ) where
     goes : (b : Awaiter) → r.onward ≡ some b → Given W (At b) NoneYet r.store × Sends W r.store b z
 
   pub given-at : (s : Store) (a : Awaiter) → K s → Given W (At a) NoneYet s
-  given-at s a k = given-less W s (λ t n b. b) k
+  given-at s a k = given_less W s (λ t n b. b) k
 
   resolves : (s : Store) (g x : ℕ) (v : Value) → g < object_limit → K s → Onward (ret (Value.List (heap_id g))) (resolve_child s g x v)
   unfolding resolve_child
@@ -248,7 +248,7 @@ module _ (W : ℕ → Option ℕ) where
               (record {
                 stops = λ q. absurd_some (sym q);
                 goes = λ b q. subst (λ (a : Awaiter). Given W (At a) NoneYet (put_object m g done) × Sends W (put_object m g done) a (ret (Value.List (heap_id g)))) (some-injective w.awaiter b q)
-                    (settles-given m g done w.awaiter (ret (Value.List (heap_id g))) l tt (unfold fate in refl) tt (awaited-fate g (object m g) w e1) k1);
+                    (settles_given m g done w.awaiter (ret (Value.List (heap_id g))) l tt (unfold fate in refl) tt (awaited-fate g (object m g) w e1) k1);
               })
           left false = unfold resolve_left in
               (record {
@@ -266,7 +266,7 @@ module _ (W : ℕ → Option ℕ) where
           (record {
             stops = λ p. absurd_some (sym p);
             goes = λ b p. subst (λ (a : Awaiter). Given W (At a) NoneYet (put_object s g done) × Sends W (put_object s g done) a (err e)) (some-injective w.awaiter b p)
-                (settles-given s g done w.awaiter (err e) l f (unfold fate in refl) tt (awaited-fate g (object s g) w q) k);
+                (settles_given s g done w.awaiter (err e) l f (unfold fate in refl) tt (awaited-fate g (object s g) w q) k);
           })
         where
           done : Object
@@ -281,11 +281,11 @@ module _ (W : ℕ → Option ℕ) where
       → ((s : Store) (a : Awaiter) (v : Value) → awaited_count s < n → AwaiterFits a → ValueFits v → Given W (At a) NoneYet s → Sends W s a (ret v) → K (go s a v).store)
       → (s : Store) (a : Awaiter) (v : Value) → awaited_count s ≤ n → AwaiterFits a → ValueFits v → Given W (At a) NoneYet s → Sends W s a (ret v) → K (send_value go s a v).store
   unfolding send_value nobody_woken
-  sends-value go n h s Awaiter.Nobody v b f vf k y = given-less W s (λ t m e. e) k
+  sends-value go n h s Awaiter.Nobody v b f vf k y = given_less W s (λ t m e. e) k
   sends-value go n h s (Awaiter.Task t) v b f vf k y = to_task s t.0 (TaskState.Woken v) (ret v) f vf (λ o e q. (o, e, q)) k y
   sends-value go n h s (Awaiter.GatherSlot g x) v b f vf k y =
       let r = resolve_sent s g.0 x.0 v k.sized f.0 in
-      let z : Onward (ret (Value.List g)) (resolve_child s g.0 x.0 v) = resolves s g.0 x.0 v f.0 (given-less W s (λ t m e. e) k) in
+      let z : Onward (ret (Value.List g)) (resolve_child s g.0 x.0 v) = resolves s g.0 x.0 v f.0 (given_less W s (λ t m e. e) k) in
       climbs (λ u a. go u a (Value.List g)) _ _ z.stops (λ c e. h _ c (Value.List g) (omega (arith, r.falls c e, b)) (r.fits c e) f.0 (z.goes c e).0 (z.goes c e).1)
 
   climbs-value : (n : ℕ) (s : Store) (a : Awaiter) (v : Value) → awaited_count s < n → AwaiterFits a → ValueFits v → Given W (At a) NoneYet s → Sends W s a (ret v) → K (climb_value n s a v).store
@@ -294,19 +294,19 @@ module _ (W : ℕ → Option ℕ) where
   climbs-value (suc n) s a v b f vf k y = sends-value (λ u c w. climb_value n u c w) n (λ u c w. climbs-value n u c w) s a v (omega (arith, b)) f vf k y
 
   -- a value goes up
-  pub success-given : (s : Store) (a : Awaiter) (v : Value) → AwaiterFits a → ValueFits v → Given W (At a) NoneYet s → Sends W s a (ret v) → K (deliver_awaiter_success s a v).store
+  pub success_given : (s : Store) (a : Awaiter) (v : Value) → AwaiterFits a → ValueFits v → Given W (At a) NoneYet s → Sends W s a (ret v) → K (deliver_awaiter_success s a v).store
   unfolding deliver_awaiter_success
-  success-given s a v f vf k y = sends-value (λ u c w. climb_value (awaited_count s) u c w) (awaited_count s) (λ u c w. climbs-value (awaited_count s) u c w) s a v (omega arith) f vf k y
+  success_given s a v f vf k y = sends-value (λ u c w. climb_value (awaited_count s) u c w) (awaited_count s) (λ u c w. climbs-value (awaited_count s) u c w) s a v (omega arith) f vf k y
 
   sends-error : (go : Store → Awaiter → Error → Delivery) (n : ℕ)
       → ((s : Store) (a : Awaiter) (e : Error) → awaited_count s < n → AwaiterFits a → ErrorFits e → Given W (At a) NoneYet s → Sends W s a (err e) → K (go s a e).store)
       → (s : Store) (a : Awaiter) (e : Error) → awaited_count s ≤ n → AwaiterFits a → ErrorFits e → Given W (At a) NoneYet s → Sends W s a (err e) → K (send_error go s a e).store
   unfolding send_error nobody_woken
-  sends-error go n h s Awaiter.Nobody e b f ef k y = given-less W s (λ t m q. q) k
+  sends-error go n h s Awaiter.Nobody e b f ef k y = given_less W s (λ t m q. q) k
   sends-error go n h s (Awaiter.Task t) e b f ef k y = to_task s t.0 (TaskState.Raised e) (err e) f ef (λ o p q. (o, p, q)) k y
   sends-error go n h s (Awaiter.GatherSlot g x) e b f ef k y =
       let r = fail_sent s g.0 e k.sized f.0 in
-      let z : Onward (err e) (fail_gather s g.0 e) = fails s g.0 e f.0 ef (given-less W s (λ t m q. q) k) in
+      let z : Onward (err e) (fail_gather s g.0 e) = fails s g.0 e f.0 ef (given_less W s (λ t m q. q) k) in
       climbs (λ u a. go u a e) _ _ z.stops (λ c q. h _ c e (omega (arith, r.falls c q, b)) (r.fits c q) ef (z.goes c q).0 (z.goes c q).1)
 
   climbs-error : (n : ℕ) (s : Store) (a : Awaiter) (e : Error) → awaited_count s < n → AwaiterFits a → ErrorFits e → Given W (At a) NoneYet s → Sends W s a (err e) → K (climb_error n s a e).store
@@ -315,9 +315,9 @@ module _ (W : ℕ → Option ℕ) where
   climbs-error (suc n) s a e b f ef k y = sends-error (λ u c w. climb_error n u c w) n (λ u c w. climbs-error n u c w) s a e (omega (arith, b)) f ef k y
 
   -- an error goes up
-  pub failure-given : (s : Store) (a : Awaiter) (e : Error) → AwaiterFits a → ErrorFits e → Given W (At a) NoneYet s → Sends W s a (err e) → K (deliver_awaiter_failure s a e).store
+  pub failure_given : (s : Store) (a : Awaiter) (e : Error) → AwaiterFits a → ErrorFits e → Given W (At a) NoneYet s → Sends W s a (err e) → K (deliver_awaiter_failure s a e).store
   unfolding deliver_awaiter_failure
-  failure-given s a e f ef k y = sends-error (λ u c w. climb_error (awaited_count s) u c w) (awaited_count s) (λ u c w. climbs-error (awaited_count s) u c w) s a e (omega arith) f ef k y
+  failure_given s a e f ef k y = sends-error (λ u c w. climb_error (awaited_count s) u c w) (awaited_count s) (λ u c w. climbs-error (awaited_count s) u c w) s a e (omega arith) f ef k y
 
   -- ---- switches
 
@@ -332,7 +332,7 @@ module _ (W : ℕ → Option ℕ) where
   run-left s t h l c b lv y k =
       record {
         given = moved-given W u (Moment.Running (task_id t)) l
-            (state-given W NoneBut s t TaskState.Running l tt (λ n. c) (λ o e v. absurd (free o (k.holders o t e lv))) (λ v ne n e. e) k);
+            (state_given W NoneBut s t TaskState.Running l tt (λ n. c) (λ o e v. absurd (free o (k.holders o t e lv))) (λ v ne n e. e) k);
         tells = (tells-same (W t) _ _ h (λ o. ap (fate o) (rows o)) y, states);
       }
     where
@@ -359,29 +359,29 @@ module _ (W : ℕ → Option ℕ) where
           same = unfold set_moment put_header set_state task in refl
 
   module _ (go : Store → ℕ → Switched) (h : (s : Store) (t : ℕ) → t < task_limit → K s → Left W (go s t)) where
-    next-left : (s : Store) → K s → Left W (resume-next go s)
-    unfolding resume-next
-    next-left s k = pick_has (Left W) (eqb s.queue.len 0) (yields-left s k) (h (put_queue s (pop_front s.queue)) (front_of s.queue).0 (front_of-fits s.queue) (queue-given W s _ k))
+    next-left : (s : Store) → K s → Left W (resume_next go s)
+    unfolding resume_next
+    next-left s k = pick_has (Left W) (eqb s.queue.len 0) (yields-left s k) (h (put_queue s (pop_front s.queue)) (front_of s.queue).0 (front_of-fits s.queue) (queue_given W s _ k))
 
-    exit-left : (d : Delivery) → WokenFits d → K d.store → Left W (resume-after-task-exit go d)
-    unfolding resume-after-task-exit remove_from_ready_queue
-    exit-left d m k = by d.woken refl
+    exit_left : (d : Delivery) → WokenFits d → K d.store → Left W (resume_after_task_exit go d)
+    unfolding resume_after_task_exit remove_from_ready_queue
+    exit_left d m k = by d.woken refl
       where
-        by : (w : Option ℕ) → d.woken ≡ w → Left W (elim w [ none ↦ resume-next go d.store | some t ↦ go (remove_from_ready_queue d.store t) t ])
+        by : (w : Option ℕ) → d.woken ≡ w → Left W (elim w [ none ↦ resume_next go d.store | some t ↦ go (remove_from_ready_queue d.store t) t ])
         by none e = next-left d.store k
-        by (some t) e = h _ t (m.fits t e) (queue-given W d.store _ k)
+        by (some t) e = h _ t (m.fits t e) (queue_given W d.store _ k)
 
-    failure_left : (s : Store) (t : ℕ) (e : Error) → t < task_limit → ErrorFits e → K s → Left W (handle-task-failure go s t e)
-    unfolding handle-task-failure
+    failure_left : (s : Store) (t : ℕ) (e : Error) → t < task_limit → ErrorFits e → K s → Left W (handle_task_failure go s t e)
+    unfolding handle_task_failure
     failure_left s t e l ef k =
         let a : Awaiter = (task s t).awaiter in
         let f : AwaiterFits a = (task-fits s t).awaiter_fits in
         let w : WokenFits (deliver_awaiter_failure s a e) = failure_woken s a e k.sized f in
-        exit-left _ (record { fits = w.fits })
-        (gone-given W (deliver_awaiter_failure s a e).store t (exited t) (failure-given s a e f ef (given-at s a k) (no_task-sends W s a (err e) (k.slots t l))))
+        exit_left _ (record { fits = w.fits })
+        (gone-given W (deliver_awaiter_failure s a e).store t (exited t) (failure_given s a e f ef (given-at s a k) (no_task_sends W s a (err e) (k.slots t l))))
 
-    start_left : (s : Store) (t : ℕ) → t < task_limit → (task s t).state ≡ TaskState.Unstarted → K s → Left W (start-task go s t)
-    unfolding start-task start-by
+    start_left : (s : Store) (t : ℕ) → t < task_limit → (task s t).state ≡ TaskState.Unstarted → K s → Left W (start_task go s t)
+    unfolding start_task start_by
     start_left s t l r k = by (new_function (object s o)) refl
       where
         o : ℕ
@@ -390,11 +390,11 @@ module _ (W : ℕ → Option ℕ) where
         none-waits : W t ≡ none
         none-waits = subst (StateIs (W t) (λ p. fate p (object s p)) t) r (k.states t l (λ n. n))
 
-        by : (m : Option ℕ) → new_function (object s o) ≡ m → Left W (start-by go s t o m)
+        by : (m : Option ℕ) → new_function (object s o) ≡ m → Left W (start_by go s t o m)
         by none e = failure_left s t Error.CoroutineReuse l tt k
         by (some f) e =
             run-left u t (start o f) l (λ p q. absurd_some (sym none-waits ∙ q)) (ap blocked_on same ∙ (unfold blocked_on in refl)) (ap is_live same) tt
-            (unwaited-given W s o x (task-fits s t).coroutine-fits tt (loose-unwaited W s o (ap (fate o) (new-object (object s o) f e) ∙ (unfold fate in refl)) k) (λ v q. not-held v (fate o x) (unfold fate in tt) q) k)
+            (unwaited_given W s o x (task-fits s t).coroutine-fits tt (loose_unwaited W s o (ap (fate o) (new-object (object s o) f e) ∙ (unfold fate in refl)) k) (λ v q. not-held v (fate o x) (unfold fate in tt) q) k)
           where
             x : Object
             x = Object.Coroutine f CoroutineState.Running
@@ -408,8 +408,8 @@ module _ (W : ℕ → Option ℕ) where
                 row_same : (task u t).state ≡ (task s t).state
                 row_same = unfold task put_object in refl
 
-    state-left : (s : Store) (t : ℕ) (x : TaskState) → t < task_limit → (task s t).state ≡ x → K s → Left W (activate-state go s t x)
-    unfolding activate-state
+    state-left : (s : Store) (t : ℕ) (x : TaskState) → t < task_limit → (task s t).state ≡ x → K s → Left W (activate_state go s t x)
+    unfolding activate_state
     state-left s t TaskState.Absent l e k = yields-left s k
     state-left s t TaskState.Unstarted l e k = start_left s t l e k
     state-left s t TaskState.Running l e k = yields-left s k
@@ -430,15 +430,15 @@ module _ (W : ℕ → Option ℕ) where
   unfolding activate
   activate-left s t l k = within_left (live_count s) s t l k
 
-  pub resume-left : (s : Store) → K s → Left W (resume-next activate s)
+  pub resume-left : (s : Store) → K s → Left W (resume_next activate s)
   resume-left s k = next-left activate activate-left s k
 
-  pub fail-left : (s : Store) (t : ℕ) (e : Error) → t < task_limit → ErrorFits e → K s → Left W (handle-task-failure activate s t e)
+  pub fail-left : (s : Store) (t : ℕ) (e : Error) → t < task_limit → ErrorFits e → K s → Left W (handle_task_failure activate s t e)
   fail-left s t e l f k = failure_left activate activate-left s t e l f k
 
-  pub completion_left : (left : Store) (a : Awaiter) (v : Value) → AwaiterFits a → ValueFits v → NoTask a → K left → Left W (resume-after-task-exit activate (deliver_awaiter_success left a v))
+  pub completion_left : (left : Store) (a : Awaiter) (v : Value) → AwaiterFits a → ValueFits v → NoTask a → K left → Left W (resume_after_task_exit activate (deliver_awaiter_success left a v))
   completion_left left a v f vf n k =
-      exit-left activate activate-left _ (success_woken left a v k.sized f) (success-given left a v f vf (given-at left a k) (no_task-sends W left a (ret v) n))
+      exit_left activate activate-left _ (success_woken left a v k.sized f) (success_given left a v f vf (given-at left a k) (no_task_sends W left a (ret v) n))
 
   -- ---- cancel and the end
 
@@ -494,4 +494,4 @@ module _ (W : ℕ → Option ℕ) where
 
   pub cleanup-given : (s : Store) → K s → K (cleanup s)
   unfolding cleanup
-  cleanup-given s k = moved-given W _ Moment.Ended tt (queue-given W _ empty_queue (remove-from-kept (header s).next s 0 k))
+  cleanup-given s k = moved-given W _ Moment.Ended tt (queue_given W _ empty_queue (remove-from-kept (header s).next s 0 k))

@@ -31,8 +31,8 @@ use Rattle.machine_theorems.specs.Soundness.Results.{host_fits}
 use Rattle.machine_theorems.specs.Soundness.RowFacts.{items-header}
 use Rattle.machine_sessions.specs.Waits.CallEvents.{found-call}
 use Rattle.machine_sessions.specs.Honest.Given.{loose, ret, err, holder, fate, FateFits, Unheld, not-held, Given, NoneBut, NoneYet}
-use Rattle.machine_sessions.specs.Honest.Given.{loose-unwaited, unwaited-given, same-given, place-given, header-given, gone-given}
-use Rattle.machine_sessions.specs.Honest.GivenCycle.{Left, settles-given, success-given, failure-given, completion_left}
+use Rattle.machine_sessions.specs.Honest.Given.{loose_unwaited, unwaited_given, same-given, place-given, header-given, gone-given}
+use Rattle.machine_sessions.specs.Honest.GivenCycle.{Left, settles_given, success_given, failure_given, completion_left}
 use Rattle.machine_sessions.specs.Honest.GivenCommit.{row_reads}
 
 -- ---- rows
@@ -75,7 +75,7 @@ module _ (W : ℕ → Option ℕ) where
   pub add-given : (s : Store) (x : Object) (n : ℕ) → (header s).made < object_limit → (header s).used + n ≤ place_limit → FateFits x → Unheld (fate (header s).made x) → fate (header s).made (object s (header s).made) ≡ loose → K s → K (add_object s x n)
   unfolding add_object
   add-given s x n l room f y e k =
-      unwaited-given W (put_header s i) (header s).made x l f (loose-unwaited W (put_header s i) (header s).made (ap (fate (header s).made) (object_put-header s i (header s).made) ∙ e) k1) (λ t q. not-held t (fate (header s).made x) y q) k1
+      unwaited_given W (put_header s i) (header s).made x l f (loose_unwaited W (put_header s i) (header s).made (ap (fate (header s).made) (object_put-header s i (header s).made) ∙ e) k1) (λ t q. not-held t (fate (header s).made x) y q) k1
     where
       i : Header
       i = record { made = (header s).made + 1; used = (header s).used + n; calls = (header s).calls; next = (header s).next; moment = (header s).moment }
@@ -89,9 +89,9 @@ module _ (W : ℕ → Option ℕ) where
     no-places : (header s).used + 0 ≤ place_limit
     no-places = omega (arith, (header-fits s).used-fits)
 
-    pub calls-given : (header s).calls < call_limit → K (set_calls s ((header s).calls + 1))
+    pub calls_given : (header s).calls < call_limit → K (set_calls s ((header s).calls + 1))
     unfolding set_calls
-    calls-given l =
+    calls_given l =
         let g : HeaderFits (header s) = header-fits s in
         header-given W s _ (record { made-fits = g.made-fits; used-fits = g.used-fits; calls-fit = omega (arith, l); next_fits = g.next_fits; moment_fits = g.moment_fits }) refl k
 
@@ -108,7 +108,7 @@ module _ (W : ℕ → Option ℕ) where
       unfolding make_settled
       settled-given v c f =
           add-given u (Object.ExternalFuture (call_id (header s).calls) (ExternalFutureState.Resolved v)) 0 (subst (λ (h : Header). h.made < object_limit) (sym head) l) (subst (λ (h : Header). h.used + 0 ≤ place_limit) (sym head) no-places) f (unfold fate in tt)
-          (subst (λ (m : ℕ). fate m (object u m) ≡ loose) (sym (ap (λ (h : Header). h.made) head)) (ap (fate (header s).made) (rows (header s).made) ∙ e)) (calls-given c)
+          (subst (λ (m : ℕ). fate m (object u m) ≡ loose) (sym (ap (λ (h : Header). h.made) head)) (ap (fate (header s).made) (rows (header s).made) ∙ e)) (calls_given c)
         where
           u : Store
           u = set_calls s ((header s).calls + 1)
@@ -165,8 +165,8 @@ module _ (W : ℕ → Option ℕ) where
       found-given s c _ (λ o p l e.
       let x : Value = value_or p.stored v in
       let xf : ValueFits x = or_fits p.stored v (row_fits s o p e).1 f in
-      let y = settles-given W s o (Object.ExternalFuture p.call (ExternalFutureState.Resolved x)) p.awaiter (ret x) l xf (resolved-fate o p.call x) tt (pending-fate o (object s o) p e) k in
-      success-given W _ p.awaiter x (row_fits s o p e).0 xf y.0 y.1) k
+      let y = settles_given W s o (Object.ExternalFuture p.call (ExternalFutureState.Resolved x)) p.awaiter (ret x) l xf (resolved-fate o p.call x) tt (pending-fate o (object s o) p e) k in
+      success_given W _ p.awaiter x (row_fits s o p e).0 xf y.0 y.1) k
     where
       resolved-fate : (o : ℕ) (c : CallId) (x : Value) → fate o (Object.ExternalFuture c (ExternalFutureState.Resolved x)) ≡ ret x
       resolved-fate o c x = unfold fate in refl
@@ -175,8 +175,8 @@ module _ (W : ℕ → Option ℕ) where
   unfolding fail_future fail_pending
   fail-given s c x f k =
       found-given s c _ (λ o p l e.
-      let y = settles-given W s o (Object.ExternalFuture p.call (ExternalFutureState.Failed x)) p.awaiter (err x) l f (failed-fate o p.call) tt (pending-fate o (object s o) p e) k in
-      failure-given W _ p.awaiter x (row_fits s o p e).0 f y.0 y.1) k
+      let y = settles_given W s o (Object.ExternalFuture p.call (ExternalFutureState.Failed x)) p.awaiter (err x) l f (failed-fate o p.call) tt (pending-fate o (object s o) p e) k in
+      failure_given W _ p.awaiter x (row_fits s o p e).0 f y.0 y.1) k
     where
       failed-fate : (o : ℕ) (c : CallId) → fate o (Object.ExternalFuture c (ExternalFutureState.Failed x)) ≡ err x
       failed-fate o c = unfold fate in refl

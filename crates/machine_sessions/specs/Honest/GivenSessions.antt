@@ -28,7 +28,7 @@ use Rattle.asyncio.specs.Numbers.{task_id}
 use Rattle.asyncio.specs.States.{pick}
 use Rattle.machine.specs.Store.{Store, view, task, object, header, put_header, forget, fresh, empty}
 use Rattle.machine.specs.Scheduler.{cleanup, pending_call_ids}
-use Rattle.machine.specs.Events.{How, start, value, raises, inline, Control, runs, waits, Switched, Awaited, exec_get_awaitable, handle_task_completion, handle-task-failure, activate, resume-next, wake_in_order}
+use Rattle.machine.specs.Events.{How, start, value, raises, inline, Control, runs, waits, Switched, Awaited, exec_get_awaitable, handle_task_completion, handle_task_failure, activate, resume_next, wake_in_order}
 use Rattle.machine.specs.Machine.{Event, Answer, Step, switched, answer_await, end_main, task_completes, task_fails, runner, repeat_wait, resume_with_resolved_futures, refusals, refusal, full, no_number, accept, step, in_both}
 use Rattle.machine.specs.Sound.{value_known, object_in_range, places_below}
 use Rattle.machine.specs.History.{Entry, Says, says, nothing_said, said, tells, done_only, is_at, running}
@@ -41,19 +41,19 @@ use Rattle.machine_laws.specs.MachineLaws.{accepted-step, refused-step}
 use Rattle.machine_laws.specs.SoundLaws.{pass, running-rest, refusal-rest, refusal-forget, has_number, not_full}
 use Rattle.machine_laws.specs.TestLaws.{or_left, or_right}
 use Rattle.machine_theorems.specs.Soundness.Stores.{SoundStore}
-use Rattle.machine_theorems.specs.Soundness.Exits.{runner-low, runner-runs}
+use Rattle.machine_theorems.specs.Soundness.Exits.{runner_low, runner-runs}
 use Rattle.machine_theorems.specs.Soundness.Preserved.{waiting, await-made, complete-known}
-use Rattle.machine_theorems.specs.Soundness.Sessions.{forget-sound-store, fresh-sound_store}
+use Rattle.machine_theorems.specs.Soundness.Sessions.{forget-sound_store, fresh_sound_store}
 use Rattle.machine_sessions.specs.Waits.{said-accepted, said-refused}
 use Rattle.machine_sessions.specs.Queue.Following.{Sends, stepped, short, sends, Following, send_following, session_follows}
 use Rattle.machine_sessions.specs.Places.Told.{Frozen, co, pends, gave, broke, many, frozen}
 use Rattle.machine_sessions.specs.Places.Agrees.{Agrees}
 use Rattle.machine_sessions.specs.Places.AgreesEvents.{forget_agrees}
 use Rattle.machine_sessions.specs.Places.AgreesSessions.{send_agrees, session_agrees}
-use Rattle.machine_sessions.specs.Honest.Given.{loose, ret, err, fate, not-held, StateIs, NoTask, Given, NoneBut, NoneYet, given-like, queue-given}
+use Rattle.machine_sessions.specs.Honest.Given.{loose, ret, err, fate, not-held, StateIs, NoTask, Given, NoneBut, NoneYet, given_like, queue_given}
 use Rattle.machine_sessions.specs.Honest.GivenCycle.{TellsBy, Left, resume-left, fail-left, cancel-given, cleanup-given}
 use Rattle.machine_sessions.specs.Honest.GivenAwait.{given-free, StayTells, AwaitGiven, stayed, switches, await-given}
-use Rattle.machine_sessions.specs.Honest.GivenEvents.{calls-given, coroutine-given, pending-given, settled-given, gather-given, results-given, complete-left}
+use Rattle.machine_sessions.specs.Honest.GivenEvents.{calls_given, coroutine-given, pending-given, settled-given, gather-given, results-given, complete-left}
 
 -- ---- the words one entry later
 
@@ -329,7 +329,7 @@ module _ (h : List Entry) (s : Store) (w : SoundStore s) (k : Agrees h s) (g : G
     await-entry = by (exec_get_awaitable s t o) (await-given (waits_for h) U t o U-here U-other low tlow s next (runner-runs s t w m) g unmade-not)
       where
         next : t < (header s).next
-        next = runner-low s t w m
+        next = runner_low s t w m
 
         low : o < object_limit
         low = omega (arith, l, (header-fits s).made-fits)
@@ -349,7 +349,7 @@ module _ (h : List Entry) (s : Store) (w : SoundStore s) (k : Agrees h s) (g : G
   -- ---- the end of a task
 
   tlow : (t : ℕ) → (header s).moment ≡ Moment.Running (task_id t) → t < task_limit
-  tlow t m = omega (arith, runner-low s t w m, (header-fits s).next_fits)
+  tlow t m = omega (arith, runner_low s t w m, (header-fits s).next_fits)
 
   complete-step : (t : ℕ) (v : Value) → (header s).moment ≡ Moment.Running (task_id t) → T (value_known (header s).made (object s) v) → StepGiven h (Event.complete v) (task_completes s t v)
   unfolding task_completes end_main
@@ -365,7 +365,7 @@ module _ (h : List Entry) (s : Store) (w : SoundStore s) (k : Agrees h s) (g : G
       quiet_given h (Event.fail n) (Answer.finished_error (Error.Script n)) (cleanup s) (said-none (Event.fail n) (Answer.finished_error (Error.Script n)) (cleanup s) (unfold says in refl)) (λ y. unfold tells done_only in tt) (cleanup-given (waits_for h) s g)
   fail-step (suc t) n m l =
       rw (ne_eqb (suc t) 0 (λ y. not-suc-le-zero {n = 0} (omega arith)))
-      (switch_given h (Event.fail n) (handle-task-failure activate s (suc t) (Error.Script n)) (unfold says in refl) (fail-left (waits_for h) s (suc t) (Error.Script n) (tlow (suc t) m) l g))
+      (switch_given h (Event.fail n) (handle_task_failure activate s (suc t) (Error.Script n)) (unfold says in refl) (fail-left (waits_for h) s (suc t) (Error.Script n) (tlow (suc t) m) l g))
 
   -- ---- resume
 
@@ -378,9 +378,9 @@ module _ (h : List Entry) (s : Store) (w : SoundStore s) (k : Agrees h s) (g : G
   unfolding resume_with_resolved_futures
   resume-step = by (eqb s.queue.len 0)
     where
-      by : (b : Bool) → StepGiven h Event.resume (pick b (record { store = s; answer = repeat_wait (pending_call_ids s) }) (switched (resume-next activate s)))
+      by : (b : Bool) → StepGiven h Event.resume (pick b (record { store = s; answer = repeat_wait (pending_call_ids s) }) (switched (resume_next activate s)))
       by true = quiet_given h Event.resume (repeat_wait (pending_call_ids s)) s (said-none Event.resume (repeat_wait (pending_call_ids s)) s (unfold says nothing_said in refl)) (repeat-told (pending_call_ids s)) g
-      by false = switch_given h Event.resume (resume-next activate s) (unfold says nothing_said in refl) (resume-left (waits_for h) s g)
+      by false = switch_given h Event.resume (resume_next activate s) (unfold says nothing_said in refl) (resume-left (waits_for h) s g)
 
   -- ---- each event
 
@@ -400,7 +400,7 @@ module _ (h : List Entry) (s : Store) (w : SoundStore s) (k : Agrees h s) (g : G
   accept-given (Event.coroutine f) i r =
       quiet_step (Event.coroutine f) _ _ (unfold says nothing_said in refl) (unfold tells in refl) (coroutine-given (waits_for h) s g (not_full s (pass 6 (full s) [] (running-rest s _ (refusal-rest s (Event.coroutine f) r))).0) behind f)
   accept-given Event.call i r =
-      quiet_step Event.call _ _ (unfold says nothing_said in refl) (unfold tells done_only in refl) (calls-given (waits_for h) s g (has_number s (pass 7 (no_number s) [] (running-rest s _ (refusal-rest s Event.call r))).0))
+      quiet_step Event.call _ _ (unfold says nothing_said in refl) (unfold tells done_only in refl) (calls_given (waits_for h) s g (has_number s (pass 7 (no_number s) [] (running-rest s _ (refusal-rest s Event.call r))).0))
   accept-given (Event.pending c y) i r =
       quiet_step (Event.pending c y) _ _ (unfold says in refl) (unfold tells in refl)
       (pending-given (waits_for h) s g (not_full s (pass 6 (full s) [] (pass 5 _ _ (pass 4 _ _ (running-rest s _ (refusal-rest s (Event.pending c y) r))).1).1).0) behind c y)
@@ -419,7 +419,7 @@ module _ (h : List Entry) (s : Store) (w : SoundStore s) (k : Agrees h s) (g : G
   accept-given (Event.complete v) i r =
       let q = refusal-rest s (Event.complete v) r in complete-step (runner (header s).moment) v (Rattle.machine_theorems.specs.Soundness.Preserved.running s w _ q) (complete-known s w v q)
   accept-given (Event.fail n) i r = fail-step (runner (header s).moment) n (Rattle.machine_theorems.specs.Soundness.Preserved.running s w _ (refusal-rest s (Event.fail n) r)) i
-  accept-given (Event.results rs) i r = quiet_step (Event.results rs) _ _ (unfold says in refl) (unfold tells done_only in refl) (unfold wake_in_order in (queue-given (waits_for h) _ _ (results-given (waits_for h) rs s g)))
+  accept-given (Event.results rs) i r = quiet_step (Event.results rs) _ _ (unfold says in refl) (unfold tells done_only in refl) (unfold wake_in_order in (queue_given (waits_for h) _ _ (results-given (waits_for h) rs s g)))
   accept-given Event.resume i r = resume-step
   accept-given (Event.cancel t) i r = quiet_step (Event.cancel t) _ _ (unfold says in refl) (unfold tells done_only in refl) (cancel-given (waits_for h) s t g)
   accept-given (Event.show o) i r = quiet_step (Event.show o) _ _ (unfold says nothing_said in refl) (unfold tells done_only in refl) g
@@ -428,7 +428,7 @@ module _ (h : List Entry) (s : Store) (w : SoundStore s) (k : Agrees h s) (g : G
 -- ---- sessions
 
 pub forget-given : (W : ℕ → Option ℕ) (s : Store) → Given W NoneBut NoneYet s → Given W NoneBut NoneYet (forget s)
-forget-given W s k = given-like W s (forget s) (sized-forget s k.sized) (unfold header forget in refl) (λ o. unfold object forget in refl) (λ t. unfold task forget in refl) k
+forget-given W s k = given_like W s (forget s) (sized-forget s k.sized) (unfold header forget in refl) (λ o. unfold object forget in refl) (λ t. unfold task forget in refl) k
 
 refused-given : (h : List Entry) (s : Store) (e : Event) (n : ℕ) → Given (waits_for h) NoneBut NoneYet s → EntryGiven h (entry_of e (Answer.refused n) s) s
 refused-given h s e n k =
@@ -438,7 +438,7 @@ pub step_given : (h : List Entry) (s : Store) (e : Event) → InRange e → Soun
 step_given h s e i w k g = by (ℕ_discrete (refusal s e) 0)
   where
     by : Dec (refusal s e ≡ 0) → StepGiven h e (step s e)
-    by (yes r) = subst (StepGiven h e) (sym (accepted-step s e r)) (accept-given h (forget s) (forget-sound-store s w) (forget_agrees h s k) (forget-given (waits_for h) s g) e i (refusal-forget s e ∙ r))
+    by (yes r) = subst (StepGiven h e) (sym (accepted-step s e r)) (accept-given h (forget s) (forget-sound_store s w) (forget_agrees h s k) (forget-given (waits_for h) s g) e i (refusal-forget s e ∙ r))
     by (no ne) = subst (StepGiven h e) (sym (refused-step s e (refusal s e) refl ne)) (refused-given h (forget s) e (refusal s e) (forget-given (waits_for h) s g))
 
 -- one event more: the entry, and what it leaves
@@ -498,7 +498,7 @@ none_first t o e = absurd_some e
 fresh-given : Given (waits_for []) NoneBut NoneYet fresh
 fresh-given =
     record {
-      sized = fresh-sound_store.memory.sized;
+      sized = fresh_sound_store.memory.sized;
       fates = λ t o e. none_first t o e;
       states = λ t l n. states-by t;
       holders = λ o t e l. not-held t loose tt (sym (loose-all o) ∙ e);

@@ -77,8 +77,8 @@ module _ (t : ℕ) (F : ℕ → Bool) (N : ℕ → Shape) where
   K u = Apart t F N u
 
   -- where a delivery goes on to
-  pub onward-away : (s : Store) (g x : HeapId) (w : AwaitedGather) → as_awaited (object s g.0) ≡ some w → Away t F (Awaiter.GatherSlot g x) → K s → Away t F w.awaiter
-  onward-away s g x w e a k = by w.awaiter refl
+  pub onward_away : (s : Store) (g x : HeapId) (w : AwaitedGather) → as_awaited (object s g.0) ≡ some w → Away t F (Awaiter.GatherSlot g x) → K s → Away t F w.awaiter
+  onward_away s g x w e a k = by w.awaiter refl
     where
       clash : {B : Type 0} → F g.0 ≡ true → B
       clash q = absurd (true≢false (sym q ∙ a))
@@ -96,10 +96,10 @@ module _ (t : ℕ) (F : ℕ → Bool) (N : ℕ → Shape) where
       by (Awaiter.GatherSlot p y) q = into p y q (F p.0) refl
 
   -- the error of a task whose coroutine is not new
-  pub kid-away : (a : Awaiter) (y : Shape) → is_used y ≡ true → KidOf F a y → Away t F a
-  kid-away Awaiter.Nobody y u k = tt
-  kid-away (Awaiter.Task v) y u k = absurd k
-  kid-away (Awaiter.GatherSlot p x) y u k = by (F p.0) refl
+  pub kid_away : (a : Awaiter) (y : Shape) → is_used y ≡ true → KidOf F a y → Away t F a
+  kid_away Awaiter.Nobody y u k = tt
+  kid_away (Awaiter.Task v) y u k = absurd k
+  kid_away (Awaiter.GatherSlot p x) y u k = by (F p.0) refl
     where
       by : (b : Bool) → F p.0 ≡ b → F p.0 ≡ false
       by true q = absurd (true≢false (sym u ∙ k q))
@@ -108,8 +108,8 @@ module _ (t : ℕ) (F : ℕ → Bool) (N : ℕ → Shape) where
   -- ---- each write
 
   -- tasks and objects as they were
-  pub apart-like : (s u : Store) → ((o : ℕ) → object u o ≡ object s o) → ((v : ℕ) → task u v ≡ task s v) → K s → K u
-  apart-like s u er et k =
+  pub apart_like : (s u : Store) → ((o : ℕ) → object u o ≡ object s o) → ((v : ℕ) → task u v ≡ task s v) → K s → K u
+  apart_like s u er et k =
       record {
         pends = λ g e. k.pends g (sym (ap (λ (y : Object). is_pending_gather (kind y)) (er g)) ∙ e);
         tops = λ g w e. k.tops g w (sym (ap as_awaited (er g)) ∙ e);
@@ -170,8 +170,8 @@ module _ (t : ℕ) (F : ℕ → Bool) (N : ℕ → Shape) where
   free-apart s g x z l f k = row_apart s g x z l ((λ q. f), (λ w q. inl f)) k
 
   -- an external
-  pub external-apart : (s : Store) (o : ℕ) (c : CallId) (y : ExternalFutureState) → Sized s → o < object_limit → K s → K (put_object s o (Object.ExternalFuture c y))
-  external-apart s o c y z l k = row_apart s o _ z l ((λ q. absurd (true≢false (sym q ∙ not-pending y))), (λ w q. absurd_some (sym (not-awaited y) ∙ q))) k
+  pub external_apart : (s : Store) (o : ℕ) (c : CallId) (y : ExternalFutureState) → Sized s → o < object_limit → K s → K (put_object s o (Object.ExternalFuture c y))
+  external_apart s o c y z l k = row_apart s o _ z l ((λ q. absurd (true≢false (sym q ∙ not-pending y))), (λ w q. absurd_some (sym (not-awaited y) ∙ q))) k
     where
       not-pending : (y : ExternalFutureState) → is_pending_gather (kind (Object.ExternalFuture c y)) ≡ false
       not-pending (ExternalFutureState.Pending a r) = unfold kind in refl
@@ -185,15 +185,15 @@ module _ (t : ℕ) (F : ℕ → Bool) (N : ℕ → Shape) where
 
   -- an object as it was
   same-apart : (s : Store) (o : ℕ) (x : Object) → Sized s → o < object_limit → object s o ≡ x → K s → K (put_object s o x)
-  same-apart s o x z l e k = subst (λ (y : Object). K (put_object s o y)) e (apart-like s (put_object s o (object s o)) (λ p. by p (ℕ_discrete p o)) (λ v. unfold task put_object in refl) k)
+  same-apart s o x z l e k = subst (λ (y : Object). K (put_object s o y)) e (apart_like s (put_object s o (object s o)) (λ p. by p (ℕ_discrete p o)) (λ v. unfold task put_object in refl) k)
     where
       by : (p : ℕ) → Dec (p ≡ o) → object (put_object s o (object s o)) p ≡ object s p
       by p (yes q) = subst (λ (m : ℕ). object (put_object s o (object s o)) m ≡ object s m) (sym q) (object_put-object s o (object s o) z l (object-fits s o))
       by p (no ne) = object_put-other s o p (object s o) ne
 
   -- a gather is completed, or fails
-  pub closes-apart : (s : Store) (g : ℕ) (y : GatherState) → Sized s → g < object_limit → Closes y → K s → K (put_object s g (with_state (object s g) y))
-  closes-apart s g y z l c k = by (object s g) refl
+  pub closes_apart : (s : Store) (g : ℕ) (y : GatherState) → Sized s → g < object_limit → Closes y → K s → K (put_object s g (with_state (object s g) y))
+  closes_apart s g y z l c k = by (object s g) refl
     where
       closed : (f n : ℕ) (y : GatherState) → Closes y → (is_pending_gather (kind (Object.GatherFuture f n y)) ≡ false) × (as_awaited (to_object (object_words (Object.GatherFuture f n y))) ≡ none)
       closed f n _ as_completed = (unfold kind in refl, unfold as_awaited in refl)
@@ -207,8 +207,8 @@ module _ (t : ℕ) (F : ℕ → Bool) (N : ℕ → Shape) where
           (row_apart s g _ z l ((λ q. absurd (true≢false (sym q ∙ (closed f n y c).0))), (λ w q. absurd_some (sym (closed f n y c).1 ∙ q))) k)
 
   -- a task's row: its awaiter and its coroutine stay
-  pub state-apart : (s u : Store) (v : ℕ) (y : TaskState) → Sized s → v < task_limit → is_live (task s v).state ≡ true → ((o : ℕ) → object u o ≡ object s o) → ((m : ℕ) → task u m ≡ task (put_task s v (restate (task s v) y)) m) → K s → K u
-  state-apart s u v y z l lv er et k =
+  pub state_apart : (s u : Store) (v : ℕ) (y : TaskState) → Sized s → v < task_limit → is_live (task s v).state ≡ true → ((o : ℕ) → object u o ≡ object s o) → ((m : ℕ) → task u m ≡ task (put_task s v (restate (task s v) y)) m) → K s → K u
+  state_apart s u v y z l lv er et k =
       record {
         pends = λ g e. k.pends g (sym (ap (λ (x : Object). is_pending_gather (kind x)) (er g)) ∙ e);
         tops = λ g w e. k.tops g w (sym (ap as_awaited (er g)) ∙ e);

@@ -34,7 +34,7 @@ use Rattle.asyncio.specs.Kinds.{kind, is_pending_gather, is_committed}
 use Rattle.asyncio.specs.Parts.{awaiter_of, count_of}
 use Rattle.asyncio.specs.States.{pick, is_nobody, is_live, is_ready, is_blocked, is_unstarted}
 use Rattle.rows.specs.Tables.{place_at, place_put, place_codec, place_start, task_at}
-use Rattle.rows.specs.RowLaws.{row-put-at}
+use Rattle.rows.specs.RowLaws.{row-put_at}
 use Rattle.machine.specs.Tests.{is_in}
 use Rattle.machine.specs.Store.{Store, LogEntry, blocked, reached, exited, view, task, object, place, header, put_task, put_object, put_place, put_places, put_queue, add_log, restate, set_state}
 use Rattle.machine.specs.Scheduler.{AwaitedGather, as_awaited, live, is_task_of, task_of, task_of_in, make_ready, spawn_as}
@@ -51,22 +51,22 @@ use Rattle.machine_laws.specs.DeliveryLaws.{absurd_some, awaited-object, awaited
 use Rattle.machine_laws.specs.TestLaws.{both_left, both_right}
 use Rattle.machine_theorems.specs.Soundness.Stores.{SoundStore}
 use Rattle.machine_theorems.specs.Soundness.Cycle.{spawned_of}
-use Rattle.machine_theorems.specs.Soundness.Exits.{runner-low, runner-runs}
+use Rattle.machine_theorems.specs.Soundness.Exits.{runner_low, runner-runs}
 use Rattle.machine_theorems.specs.Soundness.RowFacts.{blocked-live}
-use Rattle.machine_sessions.specs.Queue.Tracked.{live_low, blocks-tracked, tracked-commits}
+use Rattle.machine_sessions.specs.Queue.Tracked.{live_low, blocks_tracked, tracked_commits}
 use Rattle.machine_sessions.specs.Waits.CallEvents.{none_first}
 use Rattle.machine_sessions.specs.Places.Told.{Frozen, frozen}
 use Rattle.machine_sessions.specs.Places.Agrees.{ItemsAt, reply_row, Makes, MadeRight, Agrees}
 use Rattle.machine_sessions.specs.Places.TellingAwait.{Row, row_commits}
 use Rattle.machine_sessions.specs.Places.Telling.{awaited-turns, state_turns}
 use Rattle.machine_sessions.specs.Places.Told.{task_back}
-use Rattle.machine_sessions.specs.Honest.Spawned.{Shape, shape, is_used, gather-shape, live_below, same-spawns, spawned-like, state-spawned, spawn-spawned, spawn-log, spawn-object}
+use Rattle.machine_sessions.specs.Honest.Spawned.{Shape, shape, is_used, gather-shape, live_below, same-spawns, spawned_like, state_spawned, spawn-spawned, spawn-log, spawn-object}
 use Rattle.machine_sessions.specs.Honest.HonestWalk.{waits_on, Delivers, Switching, Ends, waited, started, woke, raised_it, row-task, wakes-object, wakes-task}
-use Rattle.machine_sessions.specs.Honest.HonestLog.{LogRight, Logged, blocked-spawns, row-logged, gather-logged, external-logged, wakes-logged, reuse, logged-delivers, logged-switching, gone_task, gone_object, is-live-now}
+use Rattle.machine_sessions.specs.Honest.HonestLog.{LogRight, Logged, blocked-spawns, row_logged, gather_logged, external_logged, wakes_logged, reuse, logged_delivers, logged_switching, gone_task, gone_object, is_live_now}
 use Rattle.machine_sessions.specs.Honest.HonestCommit.{Committing, AwaitEnds, given, refused, inlined, switches, await-walk}
-use Rattle.machine_sessions.specs.Honest.HonestEnds.{Left, Leaves, value-plain, raises-plain, StartTold, logged-left, control-plain, inline-left, ends-left}
-use Rattle.machine_sessions.specs.Honest.HonestEvents.{Grows, with-delivers, with-switching, ends-map, ends-log, ends-waits, Held, begins-logged}
-use Rattle.machine_sessions.specs.Honest.HonestApart.{Away, KidOf, Apart, onward-away, kid-away, apart-like, goes-apart, free-apart, external-apart, closes-apart, state-apart, gone-apart, spawn-apart}
+use Rattle.machine_sessions.specs.Honest.HonestEnds.{Left, Leaves, value-plain, raises-plain, StartTold, logged_left, control-plain, inline-left, ends-left}
+use Rattle.machine_sessions.specs.Honest.HonestEvents.{Grows, with_delivers, with_switching, ends-map, ends-log, ends-waits, Held, begins_logged}
+use Rattle.machine_sessions.specs.Honest.HonestApart.{Away, KidOf, Apart, onward_away, kid_away, apart_like, goes-apart, free-apart, external_apart, closes_apart, state_apart, gone-apart, spawn-apart}
 
 -- ---- items
 
@@ -99,10 +99,10 @@ IsGather (Shape.new f) = ⊥
 IsGather (Shape.used f) = ⊥
 IsGather (Shape.many f n) = Unit {0}
 
-reply_not-many : (c : ℕ) (r : OptionValue) (y : Option Result) → IsMany (reply_row c r y) → ⊥
+reply_not_many : (c : ℕ) (r : OptionValue) (y : Option Result) → IsMany (reply_row c r y) → ⊥
 unfolding reply_row
-reply_not-many c r none k = k
-reply_not-many c r (some y) k = by (eqb y.kind 0) (Frozen.gave (value_or r (to_value y.tag y.number))) (Frozen.broke (reply_error y)) k (λ z. z) (λ z. z)
+reply_not_many c r none k = k
+reply_not_many c r (some y) k = by (eqb y.kind 0) (Frozen.gave (value_or r (to_value y.tag y.number))) (Frozen.broke (reply_error y)) k (λ z. z) (λ z. z)
   where
     by : (b : Bool) (p q : Frozen) → IsMany (pick b p q) → (IsMany p → ⊥) → (IsMany q → ⊥) → ⊥
     by true p q z f g = f z
@@ -120,7 +120,7 @@ makes_items : (e : Event) (since : List Entry) (i : ℕ → ℕ) (f n j : ℕ) �
 unfolding Makes
 makes_items (Event.coroutine g) since i f n j l k = absurd (subst IsMany k.1 tt)
 makes_items Event.call since i f n j l k = absurd k
-makes_items (Event.pending c r) since i f n j l k = absurd (reply_not-many c r (first_reply since c) (subst IsMany k tt))
+makes_items (Event.pending c r) since i f n j l k = absurd (reply_not_many c r (first_reply since c) (subst IsMany k tt))
 makes_items (Event.settled v) since i f n j l k = absurd (subst IsMany k tt)
 makes_items (Event.gather os) since i f n j l k =
     ap (is_in (i (f + j))) (says-items os) ∙ (ap (λ (m : ℕ). is_in (i (m + j)) os) (many_is f n k.0 (length os) k.1).0 ∙ in_items i k.0 os k.2 j (omega (arith, l, (many_is f n k.0 (length os) k.1).1)))
@@ -218,7 +218,7 @@ module _ (h : List Entry) (s : Store) (w : SoundStore s) (k : Held h s) (ag : Ag
   runs_now = runner-runs s t w m
 
   low : t < task_limit
-  low = omega (arith, runner-low s t w m, (header-fits s).next_fits)
+  low = omega (arith, runner_low s t w m, (header-fits s).next_fits)
 
   -- an awaited gather is made
   awaited-made : (g : ℕ) (v : AwaitedGather) → as_awaited (object s g) ≡ some v → g < (header s).made
@@ -319,7 +319,7 @@ module _ (h : List Entry) (s : Store) (w : SoundStore s) (k : Held h s) (ag : Ag
 
     -- a gather's state
     state-logged : (u : Store) (g : ℕ) (y : GatherState) → g < object_limit → J u → L (put_object u g (with_state (object u g) y))
-    state-logged u g y l j = row-logged h x N u g _ l (by (object u g) refl) j.logged
+    state-logged u g y l j = row_logged h x N u g _ l (by (object u g) refl) j.logged
       where
         by : (z : Object) → object u g ≡ z → shape (to_object (object_words (with_state z y))) ≡ N g
         by Object.Unmade e = unfold with_state in (ap shape (object_back Object.Unmade tt) ∙ (sym (ap shape e) ∙ j.logged.spawns-are.rows g))
@@ -333,22 +333,22 @@ module _ (h : List Entry) (s : Store) (w : SoundStore s) (k : Held h s) (ag : Ag
     -- a place is filled
     item_back : (u : Store) (p : ℕ) (r : Place) → Sized u → p < place_limit → r.item.0 < object_limit → (place (put_place u p r) p).item.0 ≡ r.item.0
     unfolding place put_place place_at place_put
-    item_back u p r z l f = ap (λ (y : List ℕ). (to_place y).item.0) (row-put-at place_codec u.places (place_start p) r (omega (arith, z.places-sized, l))) ∙ mod-eq_of_lt f
+    item_back u p r z l f = ap (λ (y : List ℕ). (to_place y).item.0) (row-put_at place_codec u.places (place_start p) r (omega (arith, z.places-sized, l))) ∙ mod-eq_of_lt f
 
     fills-kept : (u : Store) (g i : ℕ) (v : AwaitedGather) (a : Value) → as_awaited (object u g) ≡ some v → i < places_of (N g) → J u → J (fill_place u v i a)
     unfolding fill_place
     fills-kept u g i v a e l j =
         record {
           logged = record {
-            tracked = (tracked-commits (lives h) (stays_blocked h)).value-put u p a j.logged.tracked;
+            tracked = (tracked_commits (lives h) (stays_blocked h)).value-put u p a j.logged.tracked;
             spawns-are =
-                spawned-like (spawned_for h) (coroutine_of h) (spawns h) N u (put_place u p r) (sized-put_place u p r (sized_of u j)) (same-spawns (spawned_for h) u _ (unfold put_place in refl)) (unfold header put_place in refl)
+                spawned_like (spawned_for h) (coroutine_of h) (spawns h) N u (put_place u p r) (sized-put_place u p r (sized_of u j)) (same-spawns (spawned_for h) u _ (unfold put_place in refl)) (unfold header put_place in refl)
                 (λ y. unfold object put_place in (unfold object in (j.logged.spawns-are.rows y))) (λ y. unfold task put_place in refl) j.logged.spawns-are;
             log-right = unfold put_place in j.logged.log-right;
           };
           row = (row_commits t (task s t) (Moment.Running (task_id t))).value-put u p a j.row;
           items_stay = λ y. by y (ℕ_discrete y p);
-          apart = apart-like t F N u (put_place u p r) (λ y. unfold object put_place in refl) (λ y. unfold task put_place in refl) j.apart;
+          apart = apart_like t F N u (put_place u p r) (λ y. unfold object put_place in refl) (λ y. unfold task put_place in refl) j.apart;
           quiet = unfold put_place in j.quiet;
         }
       where
@@ -396,7 +396,7 @@ module _ (h : List Entry) (s : Store) (w : SoundStore s) (k : Held h s) (ag : Ag
     spawns-kept u c g f l lc e n q j =
         record {
           logged = record {
-            tracked = (tracked-commits (lives h) (stays_blocked h)).spawns u c g l j.logged.tracked;
+            tracked = (tracked_commits (lives h) (stays_blocked h)).spawns u c g l j.logged.tracked;
             spawns-are = spawn-spawned (spawned_for h) (coroutine_of h) (spawns h) N u c g f l lc is_new j.logged.spawns-are;
             log-right = subst (LogRight h x) (sym (spawn-log u (header u).next c g)) (unfold LogRight in (spawn-honest u c f e n q j, j.logged.log-right));
           };
@@ -425,13 +425,13 @@ module _ (h : List Entry) (s : Store) (w : SoundStore s) (k : Held h s) (ag : Ag
           nest = λ c q. inr q;
           takes = λ u y c r a l e j.
               object-kept u y _ (subst (λ (z : Object). Turns z (Object.ExternalFuture c (ExternalFutureState.Pending a r))) (sym e) (takes c r a)) l
-              (external-logged h x N u y _ c l (sym (j.logged.spawns-are.rows y) ∙ ap-shape u y c _ e) j.logged) (external-apart t F N u y c _ (sized_of u j) l j.apart) j;
+              (external_logged h x N u y _ c l (sym (j.logged.spawns-are.rows y) ∙ ap-shape u y c _ e) j.logged) (external_apart t F N u y c _ (sized_of u j) l j.apart) j;
           spawns = spawns-kept;
           fills = fills-kept;
           widens = λ u g n v l e j.
-              object-kept u g _ (awaited-turns (object u g) v (GatherState.Awaited v.awaiter n) e) l (gather-logged h x N u g v _ l e j.logged) (goes-apart t F N u g v _ (sized_of u j) l e (waits_on n) j.apart) j;
+              object-kept u g _ (awaited-turns (object u g) v (GatherState.Awaited v.awaiter n) e) l (gather_logged h x N u g v _ l e j.logged) (goes-apart t F N u g v _ (sized_of u j) l e (waits_on n) j.apart) j;
           opens = λ u g f n a l e j. object-kept u g _ (state_turns (object u g) (GatherState.Awaited a 0)) l (state-logged u g (GatherState.Awaited a 0) l j) (free-apart t F N u g _ (sized_of u j) l (pending-free u g f n e j) j.apart) j;
-          closes = λ u g y l c j. object-kept u g _ (state_turns (object u g) y) l (state-logged u g y l j) (closes-apart t F N u g y (sized_of u j) l c j.apart) j;
+          closes = λ u g y l c j. object-kept u g _ (state_turns (object u g) y) l (state-logged u g y l j) (closes_apart t F N u g y (sized_of u j) l c j.apart) j;
         }
       where
         ap-shape : (u : Store) (y : ℕ) (c : CallId) (z : ExternalFutureState) → object u y ≡ Object.ExternalFuture c z → shape (object u y) ≡ Shape.other
@@ -455,8 +455,8 @@ module _ (h : List Entry) (s : Store) (w : SoundStore s) (k : Held h s) (ag : Ag
     wakes-kept : (u : Store) (v : ℕ) (y : TaskState) → v < task_limit → (v ≡ t → ⊥) → is_blocked (task u v).state ≡ true → is_ready y ≡ true → is_unstarted y ≡ false → K u → K (add_log (make_ready u v y) (reached v))
     wakes-kept u v y l ne b r n j =
         record {
-          logged = wakes-logged h x N u v y l b r n j.logged;
-          apart = state-apart t F N u _ v y j.logged.tracked.sized l (blocked-live (task u v).state b) (λ z. wakes-object u v y z) (λ z. wakes-task u v y z) j.apart;
+          logged = wakes_logged h x N u v y l b r n j.logged;
+          apart = state_apart t F N u _ v y j.logged.tracked.sized l (blocked-live (task u v).state b) (λ z. wakes-object u v y z) (λ z. wakes-task u v y z) j.apart;
           stuck = ap (λ (z : Task). is_blocked z.state) (wakes-task u v y t ∙ task_put-other u v t _ (λ q. ne (sym q))) ∙ j.stuck;
         }
 
@@ -466,18 +466,18 @@ module _ (h : List Entry) (s : Store) (w : SoundStore s) (k : Held h s) (ag : Ag
           sized = λ u j. j.logged.tracked.sized;
           row = λ u g v y l e go j.
               record {
-                logged = gather-logged h x N u g v y l e j.logged;
+                logged = gather_logged h x N u g v y l e j.logged;
                 apart = goes-apart t F N u g v y j.logged.tracked.sized l e go j.apart;
                 stuck = ap (λ (z : Task). is_blocked z.state) (row-task u g _ t) ∙ j.stuck;
               };
           values-put = λ u ps e j.
               record {
-                logged = (logged-delivers h x N).values-put u ps e j.logged;
-                apart = apart-like t F N u (put_places u ps) (λ y. unfold object put_places in refl) (λ y. unfold task put_places in refl) j.apart;
+                logged = (logged_delivers h x N).values-put u ps e j.logged;
+                apart = apart_like t F N u (put_places u ps) (λ y. unfold object put_places in refl) (λ y. unfold task put_places in refl) j.apart;
                 stuck = unfold task put_places in (unfold task in j.stuck);
               };
           wakes = λ u v y l a b r n j. wakes-kept u v.0 y l a b r n j;
-          onward = λ u g y v e a j. onward-away t F N u g y v e a j.apart;
+          onward = λ u g y v e a j. onward_away t F N u g y v e a j.apart;
         }
 
     kept-switching : Switching K (Away t F)
@@ -485,14 +485,14 @@ module _ (h : List Entry) (s : Store) (w : SoundStore s) (k : Held h s) (ag : Ag
         record {
           queued = λ u q j.
               record {
-                logged = (logged-switching h x N k.origins).queued u q j.logged;
-                apart = apart-like t F N u (put_queue u q) (λ y. unfold object put_queue in refl) (λ y. unfold task put_queue in refl) j.apart;
+                logged = (logged_switching h x N k.origins).queued u q j.logged;
+                apart = apart_like t F N u (put_queue u q) (λ y. unfold object put_queue in refl) (λ y. unfold task put_queue in refl) j.apart;
                 stuck = unfold task put_queue in (unfold task in j.stuck);
               };
-          sent-to = λ u v l e n j. kid-away t F N (task u v).awaiter (N (task u v).coroutine.0) (reuse h x N k.origins u v l e n j.logged).1 (j.apart.kids v l (ap is_live e));
+          sent-to = λ u v l e n j. kid_away t F N (task u v).awaiter (N (task u v).coroutine.0) (reuse h x N k.origins u v l e n j.logged).1 (j.apart.kids v l (ap is_live e));
           exits = λ u v l e n j.
               record {
-                logged = (logged-switching h x N k.origins).exits u v l e n j.logged;
+                logged = (logged_switching h x N k.origins).exits u v l e n j.logged;
                 apart = gone-apart t F N u _ v j.logged.tracked.sized (λ y. gone_object u v (exited v) y) (λ y. gone_task u v (exited v) y) j.apart;
                 stuck = ap (λ (z : Task). is_blocked z.state) (gone_task u v (exited v) t ∙ task_put-other u v t _ (λ q. true≢false (sym j.stuck ∙ (ap (λ (p : ℕ). is_blocked (task u p).state) q ∙ ap is_blocked e)))) ∙ j.stuck;
               };
@@ -503,13 +503,13 @@ module _ (h : List Entry) (s : Store) (w : SoundStore s) (k : Held h s) (ag : Ag
     row_of u j = ap (λ (r : Task). r.state) j.row.row ∙ runs_now
 
     live_of : (u : Store) → J u → live u t ≡ true
-    live_of u j = is-live-now h x N u t low (ap is_live (row_of u j)) j.logged
+    live_of u j = is_live_now h x N u t low (ap is_live (row_of u j)) j.logged
 
     abbrev After : Store → Type 0
     After u = K u × G u.log
 
     blocks-kept : (u : Store) → J u → After (add_log (set_state u t (TaskState.Blocked (heap_id o))) (blocked t))
-    blocks-kept u j = (record { logged = lg; apart = state-apart t F N u b t y (sized_of u j) low (ap is_live (row_of u j)) same_object same-task j.apart; stuck = is_stuck }, ap (λ (l : List LogEntry). blocks_in l t) log_is ∙ now)
+    blocks-kept u j = (record { logged = lg; apart = state_apart t F N u b t y (sized_of u j) low (ap is_live (row_of u j)) same_object same-task j.apart; stuck = is_stuck }, ap (λ (l : List LogEntry). blocks_in l t) log_is ∙ now)
       where
         y : TaskState
         y = TaskState.Blocked (heap_id o)
@@ -538,9 +538,9 @@ module _ (h : List Entry) (s : Store) (w : SoundStore s) (k : Held h s) (ag : Ag
         lg : L b
         lg =
             record {
-              tracked = blocks-tracked (lives h) (stays_blocked h) u t o (live_of u j) j.logged.tracked;
+              tracked = blocks_tracked (lives h) (stays_blocked h) u t o (live_of u j) j.logged.tracked;
               spawns-are =
-                  state-spawned (spawned_for h) (coroutine_of h) (spawns h) N u t y b low (ap is_live (row_of u j)) (ap is_unstarted (row_of u j)) refl refl (sized-add_log _ (blocked t) (sized-set_state u t y (sized_of u j)))
+                  state_spawned (spawned_for h) (coroutine_of h) (spawns h) N u t y b low (ap is_live (row_of u j)) (ap is_unstarted (row_of u j)) refl refl (sized-add_log _ (blocked t) (sized-set_state u t y (sized_of u j)))
                   (blocked-spawns (spawned_for h) u b t log_is) (unfold add_log set_state put_task header in refl) same_object same-task j.logged.spawns-are;
               log-right = subst (LogRight h x) (sym log_is) (unfold LogRight in ((awaits-it, rn), j.logged.log-right));
             }
@@ -548,8 +548,8 @@ module _ (h : List Entry) (s : Store) (w : SoundStore s) (k : Held h s) (ag : Ag
     at_first : J s
     at_first =
         record {
-          logged = begins-logged h s w k x;
-          row = record { sized = w.memory.sized; low = runner-low s t w m; row = refl; moment = m };
+          logged = begins_logged h s w k x;
+          row = record { sized = w.memory.sized; low = runner_low s t w m; row = refl; moment = m };
           items_stay = λ p. refl;
           apart = apart-now;
           quiet = ap (λ (l : List LogEntry). blocks_in l t) k.empty-log ∙ (unfold blocks_in in refl);
@@ -570,7 +570,7 @@ module _ (h : List Entry) (s : Store) (w : SoundStore s) (k : Held h s) (ag : Ag
 
       ends : AwaitEnds J After t o y
       ends =
-          await-walk J After (Away t F) P Q (λ g. places_of (N g)) committing (with-delivers K (Away t F) G blocks-grow kept-delivers) (with-switching K (Away t F) G blocks-grow kept-switching) t o o-low (inl refl)
+          await-walk J After (Away t F) P Q (λ g. places_of (N g)) committing (with_delivers K (Away t F) G blocks-grow kept-delivers) (with_switching K (Away t F) G blocks-grow kept-switching) t o o-low (inl refl)
           blocks-kept s is_made at_first
 
       abbrev LeftBy : Awaited → Type 0
@@ -580,11 +580,11 @@ module _ (h : List Entry) (s : Store) (w : SoundStore s) (k : Held h s) (ag : Ag
       left_by z (given u v n j e) = subst LeftBy (sym e) (by)
         where
           by : LeftBy (stays u t (value v) n)
-          by = unfold stays in (λ l. logged-left h x N k.origins u _ l (value-plain t v) (control-plain h x N k.origins u t (value v) (live_of u j) (ap is_blocked (row_of u j)) (unfold StartTold in tt) j.logged) j.logged)
+          by = unfold stays in (λ l. logged_left h x N k.origins u _ l (value-plain t v) (control-plain h x N k.origins u t (value v) (live_of u j) (ap is_blocked (row_of u j)) (unfold StartTold in tt) j.logged) j.logged)
       left_by z (refused u v n j e) = subst LeftBy (sym e) (by)
         where
           by : LeftBy (stays u t (raises v) n)
-          by = unfold stays in (λ l. logged-left h x N k.origins u _ l (raises-plain t v) (control-plain h x N k.origins u t (raises v) (live_of u j) (ap is_blocked (row_of u j)) (unfold StartTold in tt) j.logged) j.logged)
+          by = unfold stays in (λ l. logged_left h x N k.origins u _ l (raises-plain t v) (control-plain h x N k.origins u t (raises v) (live_of u j) (ap is_blocked (row_of u j)) (unfold StartTold in tt) j.logged) j.logged)
       left_by z (inlined u f j r e) = subst LeftBy (sym e) (by)
         where
           by : LeftBy (stays (put_object u o (Object.Coroutine f CoroutineState.Running)) t (inline o) 0)
@@ -623,8 +623,8 @@ module _ (h : List Entry) (s : Store) (w : SoundStore s) (k : Held h s) (ag : Ag
       blocks-by z (switches q en st ct) =
           ap (λ (u : Store). blocks_in u.log t) st ∙ (ends-log After G (λ u j. j.1) q en ∙ sym (ap (λ (c : Control). not (runs_task (some c) t)) ct ∙ ap not (leaves_by q en)))
 
-      pub await-blocks : BlocksBy y
-      await-blocks = blocks-by y ends
+      pub await_blocks : BlocksBy y
+      await_blocks = blocks-by y ends
 
       -- in waiting, the answer is a wait
       abbrev WaitsBy : Awaited → Type 0

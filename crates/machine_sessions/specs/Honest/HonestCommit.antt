@@ -27,7 +27,7 @@ use Rattle.machine.specs.Scheduler.{AwaitedGather, as_awaited, task_of, spawn_as
 use Rattle.machine.specs.Commit.{Poll, ready, raised, pending, Polled, await_pending, await_external, Item, polled, nested, polled_spawn, item_coroutine, item_gather, item_object, open_from, item}
 use Rattle.machine.specs.Commit.{open_place, fill_place, Stop, at_end, at_nested, at_error, put_polled, put_item, step_item, step_items, Frame, step_gather_commit}
 use Rattle.machine.specs.Commit.{set_gather, open_gather_commit, settle_as, settle_gather_commit, resume_in, resume_as, resume_after_child, unwind, Committed, turn, commit_loop, commit_gather_tree}
-use Rattle.machine.specs.Events.{value, raises, inline, Switched, Awaited, activate, resume-next, stays, go_on, await_coroutine, await_external_future, await_gather, await_object, exec_get_awaitable}
+use Rattle.machine.specs.Events.{value, raises, inline, Switched, Awaited, activate, resume_next, stays, go_on, await_coroutine, await_external_future, await_gather, await_object, exec_get_awaitable}
 use Rattle.machine_laws.specs.StoreLaws.{place-fits, object_put-other}
 use Rattle.machine_sessions.specs.Places.Telling.{not_external}
 use Rattle.machine_sessions.specs.Honest.Spawned.{spawn-object}
@@ -62,13 +62,13 @@ module _ (K : Store → Type 0) (P Q : ℕ → Type 0) (count : ℕ → ℕ) (ke
   same : (s : Store) (g : ℕ) (p : Poll) → K s → PolledKept s g (record { store = s; poll = p })
   same s g p k = record { still = refl; keeps = k }
 
-  pub external-walk : (s : Store) (o : ℕ) (c : CallId) (x : ExternalFutureState) (a : Awaiter) → o < object_limit → object s o ≡ Object.ExternalFuture c x → K s → K (await_external s o c x a).store
+  pub external_walk : (s : Store) (o : ℕ) (c : CallId) (x : ExternalFutureState) (a : Awaiter) → o < object_limit → object s o ≡ Object.ExternalFuture c x → K s → K (await_external s o c x a).store
   unfolding await_external await_pending
-  external-walk s o c (ExternalFutureState.Pending Awaiter.Nobody r) a l e k = kept.takes s o c r a l e k
-  external-walk s o c (ExternalFutureState.Pending (Awaiter.Task t) r) a l e k = k
-  external-walk s o c (ExternalFutureState.Pending (Awaiter.GatherSlot g y) r) a l e k = k
-  external-walk s o c (ExternalFutureState.Resolved v) a l e k = k
-  external-walk s o c (ExternalFutureState.Failed x) a l e k = k
+  external_walk s o c (ExternalFutureState.Pending Awaiter.Nobody r) a l e k = kept.takes s o c r a l e k
+  external_walk s o c (ExternalFutureState.Pending (Awaiter.Task t) r) a l e k = k
+  external_walk s o c (ExternalFutureState.Pending (Awaiter.GatherSlot g y) r) a l e k = k
+  external_walk s o c (ExternalFutureState.Resolved v) a l e k = k
+  external_walk s o c (ExternalFutureState.Failed x) a l e k = k
 
   await-still : (s : Store) (g o : ℕ) (c : CallId) (x : ExternalFutureState) (a : Awaiter) → (g ≡ o → ⊥) → object (await_external s o c x a).store g ≡ object s g
   unfolding await_external await_pending
@@ -105,7 +105,7 @@ module _ (K : Store → Type 0) (P Q : ℕ → Type 0) (count : ℕ → ℕ) (ke
   object-walk s g o w (Object.Coroutine f CoroutineState.Running) l e d q k = same s g _ k
   object-walk s g o w (Object.Coroutine f CoroutineState.Completed) l e d q k = same s g _ k
   object-walk s g o w (Object.ExternalFuture c x) l e d q k =
-      record { still = await-still s g o c x _ (λ y. not_external (object s g) w c x e (ap (object s) y ∙ d)); keeps = external-walk s o c x _ l d k }
+      record { still = await-still s g o c x _ (λ y. not_external (object s g) w c x e (ap (object s) y ∙ d)); keeps = external_walk s o c x _ l d k }
   object-walk s g o w (Object.GatherFuture f n GatherState.Pending) l e d q k = (f, n, d)
   object-walk s g o w (Object.GatherFuture f n (GatherState.Awaited a m)) l e d q k = same s g _ k
   object-walk s g o w (Object.GatherFuture f n GatherState.Completed) l e d q k = same s g _ k
@@ -205,9 +205,9 @@ module _ (K : Store → Type 0) (P Q : ℕ → Type 0) (count : ℕ → ℕ) (ke
       (items-walk _ s f.gather f.next l.0 l.1 (omega (arith, kept.counts s f.gather k)) k)
 
   -- a pending gather is committed
-  pub commit-walk : (s : Store) (g f n : ℕ) (a : Awaiter) → g < object_limit → object s g ≡ Object.GatherFuture f n GatherState.Pending → P g → K s → K (commit_gather_tree s g a).store
+  pub commit_walk : (s : Store) (g f n : ℕ) (a : Awaiter) → g < object_limit → object s g ≡ Object.GatherFuture f n GatherState.Pending → P g → K s → K (commit_gather_tree s g a).store
   unfolding commit_gather_tree open_gather_commit
-  commit-walk s g f n a l e p k = loop-walk _ _ _ [] 0 1 0 (l, p) (unfold Stacked in tt) (kept.opens s g f n a l e k)
+  commit_walk s g f n a l e p k = loop-walk _ _ _ [] 0 1 0 (l, p) (unfold Stacked in tt) (kept.opens s g f n a l e k)
 
 -- ---- await, by the running task t: J holds until it blocks, K from there on
 
@@ -225,7 +225,7 @@ module _ (J K : Store → Type 0) (A : Awaiter → Type 0) (P Q : ℕ → Type 0
   go-on-walk n u (ready v) k = given u v n k refl
   go-on-walk n u (raised e) k = refused u e n k refl
   go-on-walk n u pending k =
-      switches (resume-next activate (add_log (set_state u t (TaskState.Blocked (heap_id o))) (blocked t))) (resume-walk K A then switch _ (blocks u k)) refl refl
+      switches (resume_next activate (add_log (set_state u t (TaskState.Blocked (heap_id o))) (blocked t))) (resume-walk K A then switch _ (blocks u k)) refl refl
 
   await-by : (s : Store) (x : Object) → object s o ≡ x → (x ≡ Object.Unmade → ⊥) → J s → AwaitEnds J K t o (await_object s t o x)
   unfolding await_object await_coroutine await_external_future await_gather
@@ -233,8 +233,8 @@ module _ (J K : Store → Type 0) (A : Awaiter → Type 0) (P Q : ℕ → Type 0
   await-by s (Object.Coroutine f CoroutineState.New) e m k = inlined s f k e refl
   await-by s (Object.Coroutine f CoroutineState.Running) e m k = refused s Error.CoroutineReuse 0 k refl
   await-by s (Object.Coroutine f CoroutineState.Completed) e m k = refused s Error.CoroutineReuse 0 k refl
-  await-by s (Object.ExternalFuture c x) e m k = go-on-walk 0 _ _ (external-walk J P Q count first s o c x _ low e k)
-  await-by s (Object.GatherFuture f n GatherState.Pending) e m k = go-on-walk _ _ _ (commit-walk J P Q count first s o f n _ low e top k)
+  await-by s (Object.ExternalFuture c x) e m k = go-on-walk 0 _ _ (external_walk J P Q count first s o c x _ low e k)
+  await-by s (Object.GatherFuture f n GatherState.Pending) e m k = go-on-walk _ _ _ (commit_walk J P Q count first s o f n _ low e top k)
   await-by s (Object.GatherFuture f n (GatherState.Awaited a j)) e m k = refused s Error.GatherReuse 0 k refl
   await-by s (Object.GatherFuture f n GatherState.Completed) e m k = given s (Value.List (heap_id o)) 0 k refl
   await-by s (Object.GatherFuture f n (GatherState.Failed x)) e m k = refused s x 0 k refl

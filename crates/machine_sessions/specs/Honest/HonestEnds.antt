@@ -25,13 +25,13 @@ use Rattle.machine.specs.History.{Entry, Making, said, tells, later, making, liv
 use Rattle.machine.specs.Honest.{names_by, named, MakesCoroutine, spawns, spawns_in}
 use Rattle.machine_laws.specs.StoreLaws.{task-fits, object-fits, sized-set_state, sized-set_moment, object_put-object, object_put-other}
 use Rattle.machine_sessions.specs.Waits.Calls.{moment_row}
-use Rattle.machine_sessions.specs.Queue.Tracked.{tracked-closed}
+use Rattle.machine_sessions.specs.Queue.Tracked.{tracked_closed}
 use Rattle.machine_sessions.specs.Stall.Standing.{moment_head}
 use Rattle.machine_sessions.specs.Places.Agrees.{none_made}
 use Rattle.machine_sessions.specs.Places.Telling.{new-object}
-use Rattle.machine_sessions.specs.Honest.Spawned.{Shape, new, used, shape, is_used, TaskFrom, Spawned, same-spawns, live_below, spawned-like, runs-spawned, state-spawned, use-spawned, spawned_as, spawned-then}
+use Rattle.machine_sessions.specs.Honest.Spawned.{Shape, new, used, shape, is_used, TaskFrom, Spawned, same-spawns, live_below, spawned_like, runs-spawned, state_spawned, use_spawned, spawned_as, spawned-then}
 use Rattle.machine_sessions.specs.Honest.HonestWalk.{Ends, waited, started, woke, raised_it, row-task}
-use Rattle.machine_sessions.specs.Honest.HonestLog.{LogRight, Origins, Logged, row-log, is-live-now, lives-now, free-now}
+use Rattle.machine_sessions.specs.Honest.HonestLog.{LogRight, Origins, Logged, row-log, is_live_now, lives_now, free_now}
 
 -- what is handed to a task that starts a coroutine, or runs one inline; l is the log of the event
 unfoldable pub StartTold : List Entry → Entry → List LogEntry → ℕ → How → Type 0
@@ -158,9 +158,9 @@ module _ (h : List Entry) (x : Entry) (N : ℕ → Shape) (origins : Origins h N
   moved_logged : (s : Store) (m : Moment) → MomentFits m → L s → L (set_moment s m)
   moved_logged s m f k =
       record {
-        tracked = (tracked-closed (lives h) (stays_blocked h)).moved s m f k.tracked;
+        tracked = (tracked_closed (lives h) (stays_blocked h)).moved s m f k.tracked;
         spawns-are =
-            spawned-like S C (spawns h) N s (set_moment s m) (sized-set_moment s m k.tracked.sized) (same-spawns S s _ (moment_log s m)) (moment_head s m k.tracked.sized f).0
+            spawned_like S C (spawns h) N s (set_moment s m) (sized-set_moment s m k.tracked.sized) (same-spawns S s _ (moment_log s m)) (moment_head s m k.tracked.sized f).0
             (λ o. ap shape (moment_row s m o) ∙ k.spawns-are.rows o) (λ t. moment_task s m t) k.spawns-are;
         log-right = subst (LogRight h x) (sym (moment_log s m)) k.log-right;
       }
@@ -169,16 +169,16 @@ module _ (h : List Entry) (x : Entry) (N : ℕ → Shape) (origins : Origins h N
   runs-logged : (s : Store) (t : ℕ) → t < task_limit → is_ready (task s t).state ≡ true → is_live (task s t).state ≡ true → is_unstarted (task s t).state ≡ false → L s → L (set_state s t TaskState.Running)
   runs-logged s t l r lv n k =
       record {
-        tracked = (tracked-closed (lives h) (stays_blocked h)).runs_on s t l r k.tracked;
+        tracked = (tracked_closed (lives h) (stays_blocked h)).runs_on s t l r k.tracked;
         spawns-are =
-            state-spawned S C (spawns h) N s t TaskState.Running (set_state s t TaskState.Running) l lv n refl refl (sized-set_state s t TaskState.Running k.tracked.sized) (same-spawns S s _ (state_log s t TaskState.Running))
+            state_spawned S C (spawns h) N s t TaskState.Running (set_state s t TaskState.Running) l lv n refl refl (sized-set_state s t TaskState.Running k.tracked.sized) (same-spawns S s _ (state_log s t TaskState.Running))
             (ap (λ (y : Header). y.next) (state_header s t TaskState.Running)) (λ o. state_object s t TaskState.Running o) (λ v. state_row s t TaskState.Running v) k.spawns-are;
         log-right = subst (LogRight h x) (sym (state_log s t TaskState.Running)) k.log-right;
       }
 
   -- nothing starts
-  pub logged-left : (u : Store) (c : Option Control) → Leaves x c u → Plain c → ControlLeft h x u.log c → L u → Left h x u
-  logged-left u c e p ct k =
+  pub logged_left : (u : Store) (c : Option Control) → Leaves x c u → Plain c → ControlLeft h x u.log c → L u → Left h x u
+  logged_left u c e p ct k =
       left_of h x u c e (spawned_as S S C (λ t. started_by c t (C t)) (spawns h) (spawns h) N (λ o. shape (object u o)) u (λ t. refl) (λ t. p.begins t (C t)) refl k.spawns-are.rows k.spawns-are)
       (λ o. ap (λ (b : Bool). b || named h o) (p.names o) ∙ (origins.named-is o ∙ ap is_used (sym (k.spawns-are.rows o))))
       (λ o f q. origins.made_by o f (sym (k.spawns-are.rows o) ∙ q)) k.log-right ct
@@ -186,7 +186,7 @@ module _ (h : List Entry) (x : Entry) (N : ℕ → Shape) (origins : Origins h N
   -- a task that is live and not blocked has control
   pub control-plain : (u : Store) (t : ℕ) (a : How) → live u t ≡ true → is_blocked (task u t).state ≡ false → StartTold h x u.log t a → L u → ControlLeft h x u.log (some (runs t a))
   unfolding ControlLeft
-  control-plain u t a lv b st k = (lives-now h x N u t lv k, free-now h x N u t lv b k, st)
+  control-plain u t a lv b st k = (lives_now h x N u t lv k, free_now h x N u t lv b k, st)
 
   -- ---- a coroutine is used
 
@@ -202,7 +202,7 @@ module _ (h : List Entry) (x : Entry) (N : ℕ → Shape) (origins : Origins h N
     was-new = sym (k.spawns-are.rows c) ∙ ap shape row
 
     used-spawns : Spawned S C (spawns h) (λ o. shape (object w o)) w
-    used-spawns = use-spawned S C (spawns h) N u c f l fits was-new k.spawns-are
+    used-spawns = use_spawned S C (spawns h) N u c f l fits was-new k.spawns-are
 
     here : shape (object w c) ≡ used f
     unfolding shape
@@ -273,7 +273,7 @@ module _ (h : List Entry) (x : Entry) (N : ℕ → Shape) (origins : Origins h N
 
       moved-spawns : Spawned S (λ y. started_by how y (C y)) (spawns h) (λ o. shape (object z o)) z
       moved-spawns =
-          spawned-like S (λ y. started_by how y (C y)) (spawns h) (λ o. shape (object z o)) v z (sized-set_moment v _ started-spawns.sized) (same-spawns S v z (moment_log v (Moment.Running (task_id t)))) (moment_head v (Moment.Running (task_id t)) started-spawns.sized low).0
+          spawned_like S (λ y. started_by how y (C y)) (spawns h) (λ o. shape (object z o)) v z (sized-set_moment v _ started-spawns.sized) (same-spawns S v z (moment_log v (Moment.Running (task_id t)))) (moment_head v (Moment.Running (task_id t)) started-spawns.sized low).0
           (λ o. refl) (λ y. moment_task v (Moment.Running (task_id t)) y)
           (spawned_as S S _ _ (spawns h) (spawns h) _ _ v (λ y. refl) (λ y. refl) refl (λ o. final-object o) started-spawns)
 
@@ -295,7 +295,7 @@ module _ (h : List Entry) (x : Entry) (N : ℕ → Shape) (origins : Origins h N
       start_left e =
           left_of h x z how e moved-spawns (λ o. used-named how (λ y. unfold names_by in refl) o ∙ ap is_used (sym (final-object o))) (λ o g q. used-made o g (sym (final-object o) ∙ q))
           (subst (LogRight h x) (sym final-log) k.log-right)
-          (subst (λ (m : List LogEntry). ControlLeft h x m how) (sym final-log) (control-plain u t (start c f) (is-live-now h x N u t low lv k) (ap is_blocked un) told k))
+          (subst (λ (m : List LogEntry). ControlLeft h x m how) (sym final-log) (control-plain u t (start c f) (is_live_now h x N u t low lv k) (ap is_blocked un) told k))
 
   -- ---- a switch
 
@@ -306,7 +306,7 @@ module _ (h : List Entry) (x : Entry) (N : ℕ → Shape) (origins : Origins h N
   ends-left y (waited u k e) = subst EndLeft (sym e) (by)
     where
       by : EndLeft (yield u)
-      by = unfold yield in (λ l. logged-left (set_moment u Moment.Waiting) _ l (waits-plain _) (unfold ControlLeft in tt) (moved_logged u Moment.Waiting tt k))
+      by = unfold yield in (λ l. logged_left (set_moment u Moment.Waiting) _ l (waits-plain _) (unfold ControlLeft in tt) (moved_logged u Moment.Waiting tt k))
   ends-left y (started u t f l k un nw e) = subst EndLeft (sym e) by
     where
       by : EndLeft (run (put_object u (task u t).coroutine.0 (Object.Coroutine f CoroutineState.Running)) t (start (task u t).coroutine.0 f))
@@ -314,12 +314,12 @@ module _ (h : List Entry) (x : Entry) (N : ℕ → Shape) (origins : Origins h N
   ends-left y (woke u t v l k st e) = subst EndLeft (sym e) by
     where
       by : EndLeft (run u t (value v))
-      by = unfold run in (λ q. logged-left _ _ q (value-plain t v) (subst (λ (m : List LogEntry). ControlLeft h x m (some (runs t (value v)))) (sym (moment_log _ (Moment.Running (task_id t)) ∙ state_log u t TaskState.Running))
-          (control-plain u t (value v) (is-live-now h x N u t l (ap is_live st) k) (ap is_blocked st) (unfold StartTold in tt) k))
+      by = unfold run in (λ q. logged_left _ _ q (value-plain t v) (subst (λ (m : List LogEntry). ControlLeft h x m (some (runs t (value v)))) (sym (moment_log _ (Moment.Running (task_id t)) ∙ state_log u t TaskState.Running))
+          (control-plain u t (value v) (is_live_now h x N u t l (ap is_live st) k) (ap is_blocked st) (unfold StartTold in tt) k))
           (moved_logged _ (Moment.Running (task_id t)) l (runs-logged u t l (ap is_ready st) (ap is_live st) (ap is_unstarted st) k)))
   ends-left y (raised_it u t v l k st e) = subst EndLeft (sym e) by
     where
       by : EndLeft (run u t (raises v))
-      by = unfold run in (λ q. logged-left _ _ q (raises-plain t v) (subst (λ (m : List LogEntry). ControlLeft h x m (some (runs t (raises v)))) (sym (moment_log _ (Moment.Running (task_id t)) ∙ state_log u t TaskState.Running))
-          (control-plain u t (raises v) (is-live-now h x N u t l (ap is_live st) k) (ap is_blocked st) (unfold StartTold in tt) k))
+      by = unfold run in (λ q. logged_left _ _ q (raises-plain t v) (subst (λ (m : List LogEntry). ControlLeft h x m (some (runs t (raises v)))) (sym (moment_log _ (Moment.Running (task_id t)) ∙ state_log u t TaskState.Running))
+          (control-plain u t (raises v) (is_live_now h x N u t l (ap is_live st) k) (ap is_blocked st) (unfold StartTold in tt) k))
           (moved_logged _ (Moment.Running (task_id t)) l (runs-logged u t l (ap is_ready st) (ap is_live st) (ap is_unstarted st) k)))

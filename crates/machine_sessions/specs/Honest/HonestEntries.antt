@@ -32,7 +32,7 @@ use Rattle.machine_laws.specs.MachineLaws.{accepted-step, refused-step}
 use Rattle.machine_laws.specs.SoundLaws.{refusal-forget}
 use Rattle.machine_laws.specs.StoreLaws.{sized-forget, object_put-header, task_put-other}
 use Rattle.machine_theorems.specs.Soundness.Stores.{SoundStore, sound_store_sound}
-use Rattle.machine_theorems.specs.Soundness.Sessions.{forget-sound-store, fresh-sound_store}
+use Rattle.machine_theorems.specs.Soundness.Sessions.{forget-sound_store, fresh_sound_store}
 use Rattle.machine_sessions.specs.Queue.Tracked.{Tracked}
 use Rattle.machine_sessions.specs.Queue.Following.{accept_accepts, Sends, stepped, short, sends, Following, send_following, session_follows}
 use Rattle.machine_sessions.specs.Waits.{said-refused}
@@ -74,8 +74,8 @@ module _ (h : List Entry) (e : Event) (n : ℕ) (u : Store) where
   unfolding entry_of
   makes_none = (refused-tells n).2
 
-  pub refused-logged : EntryLogged h x
-  refused-logged =
+  pub refused_logged : EntryLogged h x
+  refused_logged =
       record {
         log = subst (LogHonest h x) (sym nothing-happens) (unfold LogHonest in tt);
         blocks = λ t d. absurd (no-await d);
@@ -138,10 +138,10 @@ step-stepped h s e w tr ag i k = by (ℕ_discrete (refusal s e) 0)
     by : Dec (refusal s e ≡ 0) → Stepped h e (step s e)
     by (yes r) =
         subst (Stepped h e) (sym (accepted-step s e r))
-        (accept-stepped h (forget s) (forget-sound-store s w) tr (forget_agrees h s ag) (forget_twice s) (λ on. forget-kept h s (k (sym (ap is_ended (forget_moment s)) ∙ on))) e i (refusal-forget s e ∙ r))
+        (accept-stepped h (forget s) (forget-sound_store s w) tr (forget_agrees h s ag) (forget_twice s) (λ on. forget-kept h s (k (sym (ap is_ended (forget_moment s)) ∙ on))) e i (refusal-forget s e ∙ r))
     by (no ne) =
         subst (Stepped h e) (sym (refused-step s e (refusal s e) refl ne))
-        (record { entry = refused-logged h e (refusal s e) (forget s); after = λ on. refused-kept h e (refusal s e) (forget s) (forget-kept h s (k (sym (ap is_ended (forget_moment s)) ∙ on))) })
+        (record { entry = refused_logged h e (refusal s e) (forget s); after = λ on. refused-kept h e (refusal s e) (forget s) (forget-kept h s (k (sym (ap is_ended (forget_moment s)) ∙ on))) })
 
 -- ---- sessions
 
@@ -173,7 +173,7 @@ sent_on x e i k = by (sends s e k.follows.whole.memory.sized)
 
     by : Sends s e → SentOn h e.event (lent_any s e)
     by (stepped p q) = let y = step-stepped h s e.event k.follows.whole k.follows.tracked k.agrees i k.kept in on _ _ q p (y.entry, y.after)
-    by (short p q) = on (Answer.refused 1) s q p (refused-logged h e.event 1 s, λ o. refused-kept h e.event 1 s (k.kept o))
+    by (short p q) = on (Answer.refused 1) s q p (refused_logged h e.event 1 s, λ o. refused-kept h e.event 1 s (k.kept o))
 
 send_honestly : (x : Session) (e : Sent) → InRange e.event → Honestly x → Honestly (send x e)
 send_honestly x e i k =
@@ -240,7 +240,7 @@ unfolding forget spawned_for coroutine_of spawns spawns_in spawned_by named maki
 fresh_kept =
     record {
       spawns-are = record {
-        sized = sized-forget fresh fresh-sound_store.memory.sized;
+        sized = sized-forget fresh fresh_sound_store.memory.sized;
         rows = λ o. refl;
         next = fresh-head.0;
         unused = λ t l b. ap is_live (fresh-task t (λ q. not-suc-le-zero {n = 0} (omega (arith, b, fresh-head.0))));

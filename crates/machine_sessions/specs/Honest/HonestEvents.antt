@@ -27,22 +27,22 @@ use Rattle.queue.specs.Queue.{empty_queue}
 use Rattle.machine.specs.Store.{Store, LogEntry, reached, exited, removed, task, object, header, put_task, put_header, put_object, put_queue, add_log, set_state, set_moment, absent}
 use Rattle.machine.specs.Scheduler.{live, pending_call_ids, remove_task, cancel_task, remove_from, cleanup}
 use Rattle.machine.specs.Delivery.{deliver_awaiter_failure}
-use Rattle.machine.specs.Events.{How, value, raises, Control, waits, Switched, Result, run, yield, activate, resume-next, handle-task-failure, handle_task_completion, completed, apply_future_results, wake_in_order}
+use Rattle.machine.specs.Events.{How, value, raises, Control, waits, Switched, Result, run, yield, activate, resume_next, handle_task_failure, handle_task_completion, completed, apply_future_results, wake_in_order}
 use Rattle.machine.specs.History.{Entry, said, lives, stays_blocked, spawned_for, running, coroutine_of}
 use Rattle.machine.specs.Honest.{spawns, ends_task, exits_in, removes_in, ended, RemoveHonest}
 use Rattle.machine_laws.specs.Views.{Sized}
 use Rattle.machine_laws.specs.StoreLaws.{task-fits, object-fits, header-fits, live-put_task, task_put-other, sized-put_task, sized-add_log, sized-put_queue, sized-set_state}
 use Rattle.machine_laws.specs.WokenLaws.{failure_woken}
 use Rattle.machine_theorems.specs.Soundness.Stores.{SoundStore}
-use Rattle.machine_theorems.specs.Soundness.Exits.{runner-low, runner-runs}
+use Rattle.machine_theorems.specs.Soundness.Exits.{runner_low, runner-runs}
 use Rattle.machine_theorems.specs.Soundness.RowFacts.{remove-sized}
 use Rattle.machine_sessions.specs.Stall.Standing.{moment_head}
 use Rattle.machine_sessions.specs.Queue.Tracked.{Tracked, live_low}
 use Rattle.machine_sessions.specs.Honest.Spawned.{Shape, shape, is_used, used_old, Spawned}
-use Rattle.machine_sessions.specs.Honest.HonestWalk.{Delivers, Switching, Ends, waited, started, woke, raised_it, Fixed, IsSpawned, failure-fixed, resume-walk, leave-walk, completion-walk, results-walk, cancel-walk, row-task}
-use Rattle.machine_sessions.specs.Honest.HonestLog.{LogRight, Origins, Logged, row-log, wakes-log, gone_log, is-live-now, row-logged, exits-logged, goes-logged, settles-logged, logged-delivers, logged-switching, queue-logged}
+use Rattle.machine_sessions.specs.Honest.HonestWalk.{Delivers, Switching, Ends, waited, started, woke, raised_it, Fixed, IsSpawned, failure_fixed, resume-walk, leave_walk, completion_walk, results-walk, cancel-walk, row-task}
+use Rattle.machine_sessions.specs.Honest.HonestLog.{LogRight, Origins, Logged, row-log, wakes-log, gone_log, is_live_now, row_logged, exits_logged, goes_logged, settles_logged, logged_delivers, logged_switching, queue_logged}
 use Rattle.machine_sessions.specs.Honest.HonestIdle.{Idle, Cancels, goes_cancels}
-use Rattle.machine_sessions.specs.Honest.HonestEnds.{Left, Leaves, none-plain, ControlLeft, logged-left, ends-left}
+use Rattle.machine_sessions.specs.Honest.HonestEnds.{Left, Leaves, none-plain, ControlLeft, logged_left, ends-left}
 
 -- ---- K, and what is known of the log for good
 
@@ -54,8 +54,8 @@ module _ (K : Store → Type 0) (A : Awaiter → Type 0) (G : List LogEntry → 
   abbrev pub With : Store → Type 0
   With u = K u × G u.log
 
-  pub with-delivers : Delivers K A → Delivers With A
-  with-delivers d =
+  pub with_delivers : Delivers K A → Delivers With A
+  with_delivers d =
       record {
         sized = λ s k. d.sized s k.0;
         row = λ s g w y l e go k. (d.row s g w y l e go k.0, subst G (sym (row-log s g _)) k.1);
@@ -64,8 +64,8 @@ module _ (K : Store → Type 0) (A : Awaiter → Type 0) (G : List LogEntry → 
         onward = λ s g x w e a k. d.onward s g x w e a k.0;
       }
 
-  pub with-switching : Switching K A → Switching With A
-  with-switching d =
+  pub with_switching : Switching K A → Switching With A
+  with_switching d =
       record {
         queued = λ s q k. (d.queued s q k.0, unfold put_queue in k.1);
         sent-to = λ s t l e n k. d.sent-to s t l e n k.0;
@@ -164,8 +164,8 @@ module _ (h : List Entry) (s : Store) (w : SoundStore s) (k : Held h s) (x : Ent
   abbrev L : Store → Type 0
   L u = Logged h x N u
 
-  pub begins-logged : L s
-  begins-logged = record { tracked = k.tracked; spawns-are = k.spawns-are; log-right = subst (LogRight h x) (sym k.empty-log) (unfold LogRight in tt) }
+  pub begins_logged : L s
+  begins_logged = record { tracked = k.tracked; spawns-are = k.spawns-are; log-right = subst (LogRight h x) (sym k.empty-log) (unfold LogRight in tt) }
 
   abbrev Any : Awaiter → Type 0
   Any a = Unit {0}
@@ -180,10 +180,10 @@ module _ (h : List Entry) (s : Store) (w : SoundStore s) (k : Held h s) (x : Ent
     runs_now = runner-runs s (suc t) w m
 
     low : suc t < task_limit
-    low = omega (arith, runner-low s (suc t) w m, (header-fits s).next_fits)
+    low = omega (arith, runner_low s (suc t) w m, (header-fits s).next_fits)
 
     its-used : is_used (N c) ≡ true
-    its-used = (k.spawns-are.tasks t (runner-low s (suc t) w m) (ap is_live runs_now)).begun (ap is_unstarted runs_now)
+    its-used = (k.spawns-are.tasks t (runner_low s (suc t) w m) (ap is_live runs_now)).begun (ap is_unstarted runs_now)
 
     not-zero : eqb (suc t) 0 ≡ false
     not-zero = ne_eqb (suc t) 0 (λ q. not-suc-le-zero {n = 0} (omega arith))
@@ -195,14 +195,14 @@ module _ (h : List Entry) (s : Store) (w : SoundStore s) (k : Held h s) (x : Ent
     Gone u = L u × G u.log
 
     gone-delivers : Delivers Gone Any
-    gone-delivers = with-delivers L Any G (exits_grow (suc t)) (logged-delivers h x N)
+    gone-delivers = with_delivers L Any G (exits_grow (suc t)) (logged_delivers h x N)
 
     gone-switching : Switching Gone Any
-    gone-switching = with-switching L Any G (exits_grow (suc t)) (logged-switching h x N k.origins)
+    gone-switching = with_switching L Any G (exits_grow (suc t)) (logged_switching h x N k.origins)
 
     exit : (u : Store) → task u (suc t) ≡ task s (suc t) → L u → Gone (add_log (remove_task u (suc t)) (exited (suc t)))
     exit u e j = (
-      exits-logged h x N u (suc t) (is-live-now h x N u (suc t) low (ap (λ (r : Task). is_live r.state) e ∙ ap is_live runs_now) j) not-zero (ap (λ (r : Task). is_blocked r.state) e ∙ ap is_blocked runs_now)
+      exits_logged h x N u (suc t) (is_live_now h x N u (suc t) low (ap (λ (r : Task). is_live r.state) e ∙ ap is_live runs_now) j) not-zero (ap (λ (r : Task). is_blocked r.state) e ∙ ap is_blocked runs_now)
           (ap (λ (r : Task). is_used (N r.coroutine.0)) e ∙ its-used) (ended rn en) j,
       subst G (sym (gone_log u (suc t) (exited (suc t)))) (exits_now u.log (suc t)),
     )
@@ -210,52 +210,52 @@ module _ (h : List Entry) (s : Store) (w : SoundStore s) (k : Held h s) (x : Ent
     pub complete-ends : (v : Value) → Ends Gone (handle_task_completion s (suc t) v)
     unfolding handle_task_completion
     complete-ends v =
-        completion-walk Gone Any gone-delivers gone-switching _ (task s (suc t)).awaiter v (task-fits s (suc t)).awaiter_fits tt
-        (exit (put_object s c (completed (object s c))) (row-task s c _ (suc t)) (row-logged h x N s c _ (task-fits s (suc t)).coroutine-fits (completed-shape (object s c) (object-fits s c) its-used) begins-logged))
+        completion_walk Gone Any gone-delivers gone-switching _ (task s (suc t)).awaiter v (task-fits s (suc t)).awaiter_fits tt
+        (exit (put_object s c (completed (object s c))) (row-task s c _ (suc t)) (row_logged h x N s c _ (task-fits s (suc t)).coroutine-fits (completed-shape (object s c) (object-fits s c) its-used) begins_logged))
 
-    pub fail-ends : (e : Error) → Ends Gone (handle-task-failure activate s (suc t) e)
-    unfolding handle-task-failure
+    pub fail-ends : (e : Error) → Ends Gone (handle_task_failure activate s (suc t) e)
+    unfolding handle_task_failure
     fail-ends e =
-        leave-walk Gone Any gone-delivers gone-switching _ (record { fits = (failure_woken s (task s (suc t)).awaiter e k.tracked.sized (task-fits s (suc t)).awaiter_fits).fits }) (exit _ y.1.row y.0)
+        leave_walk Gone Any gone-delivers gone-switching _ (record { fits = (failure_woken s (task s (suc t)).awaiter e k.tracked.sized (task-fits s (suc t)).awaiter_fits).fits }) (exit _ y.1.row y.0)
       where
         d : Store
         d = (deliver_awaiter_failure s (task s (suc t)).awaiter e).store
 
         y : L d × Fixed (suc t) (task s (suc t)) c d
-        y = failure-fixed L Any (logged-delivers h x N) (logged-switching h x N k.origins) s (suc t) e (ap is_blocked runs_now) (used_old (object s c) its-used) tt begins-logged
+        y = failure_fixed L Any (logged_delivers h x N) (logged_switching h x N k.origins) s (suc t) e (ap is_blocked runs_now) (used_old (object s c) its-used) tt begins_logged
 
     -- what it leaves
-    pub exit-left : (y : Switched) → Ends Gone y → Leaves x (some y.control) y.store → Left h x y.store
-    exit-left y e l = ends-left h x N k.origins y (ends-map Gone L (λ u j. j.0) y e) l
+    pub exit_left : (y : Switched) → Ends Gone y → Leaves x (some y.control) y.store → Left h x y.store
+    exit_left y e l = ends-left h x N k.origins y (ends-map Gone L (λ u j. j.0) y e) l
 
-    pub exit-logged : (y : Switched) → Ends Gone y → exits_in y.store.log (suc t) ≡ true
-    exit-logged y e = ends-log Gone G (λ u j. j.1) y e
+    pub exit_logged : (y : Switched) → Ends Gone y → exits_in y.store.log (suc t) ≡ true
+    exit_logged y e = ends-log Gone G (λ u j. j.1) y e
 
-    pub exit-waits : (y : Switched) → Ends Gone y → WaitsThen y
-    exit-waits y e = ends-waits Gone (λ u j. j.0.tracked.sized) y e
+    pub exit_waits : (y : Switched) → Ends Gone y → WaitsThen y
+    exit_waits y e = ends-waits Gone (λ u j. j.0.tracked.sized) y e
 
   -- ---- resume
 
-  pub resume-ends : Ends L (resume-next activate s)
-  resume-ends = resume-walk L Any (logged-delivers h x N) (logged-switching h x N k.origins) s begins-logged
+  pub resume-ends : Ends L (resume_next activate s)
+  resume-ends = resume-walk L Any (logged_delivers h x N) (logged_switching h x N k.origins) s begins_logged
 
-  pub resume-left : Leaves x (some (resume-next activate s).control) (resume-next activate s).store → Left h x (resume-next activate s).store
+  pub resume-left : Leaves x (some (resume_next activate s).control) (resume_next activate s).store → Left h x (resume_next activate s).store
   resume-left l = ends-left h x N k.origins _ resume-ends l
 
-  pub resume-waits : WaitsThen (resume-next activate s)
+  pub resume-waits : WaitsThen (resume_next activate s)
   resume-waits = ends-waits L (λ u j. j.tracked.sized) _ resume-ends
 
   -- ---- an event that changes nothing of this
 
   pub same_left : (c : Option Control) → Rattle.machine_sessions.specs.Honest.HonestEnds.Plain c → ControlLeft h x s.log c → Leaves x c s → Left h x s
-  same_left c p ct l = logged-left h x N k.origins s c l p ct begins-logged
+  same_left c p ct l = logged_left h x N k.origins s c l p ct begins_logged
 
   -- ---- results
 
   pub results-left : (rs : List Result) → Leaves x none (wake_in_order s (apply_future_results s rs)) → Left h x (wake_in_order s (apply_future_results s rs))
   unfolding wake_in_order
   results-left rs l =
-      logged-left h x N k.origins _ none l none-plain (unfold ControlLeft in tt) (queue-logged h x N _ _ (results-walk L Any (logged-delivers h x N) (λ a. tt) (λ u o p y b e j. settles-logged h x N u o p y b e j) rs s begins-logged))
+      logged_left h x N k.origins _ none l none-plain (unfold ControlLeft in tt) (queue_logged h x N _ _ (results-walk L Any (logged_delivers h x N) (λ a. tt) (λ u o p y b e j. settles_logged h x N u o p y b e j) rs s begins_logged))
 
   -- ---- cancel
 
@@ -273,14 +273,14 @@ module _ (h : List Entry) (s : Store) (w : SoundStore s) (k : Held h s) (x : Ent
         let y = live_low u (suc v) lv in (j.0.spawns-are.tasks v y.0 y.1).begun (j.1.begun.started m (suc v) (subst (λ (z : Header). suc v < z.next) j.1.begun.head y.0))
 
     goes-both : (u : Store) (v : ℕ) → IsSpawned v → R u → R (add_log (remove_task u v) (removed v))
-    goes-both u v b j = (goes-logged h x N u v (started-now u v b j) (inl cn) j.0, goes_cancels (header s) u v b j.1)
+    goes-both u v b j = (goes_logged h x N u v (started-now u v b j) (inl cn) j.0, goes_cancels (header s) u v b j.1)
 
     goes-removed : (u : Store) (v : ℕ) → IsSpawned v → Removed u → Removed (add_log (remove_task u v) (removed v))
     goes-removed u v b j = (goes-both u v b j.0, subst (λ (l : List LogEntry). removes_in l t ≡ true) (sym (gone_log u v (removed v))) (removes_more u.log v t j.1))
 
     at_first : R s
     at_first = (
-      begins-logged,
+      begins_logged,
       record { begun = record { sized = w.memory.sized; head = refl; started = λ q v b. idle.begun q v b }; ids = w.memory.ids; len = w.memory.words_right.queue-short; stood = idle.stood },
     )
 
@@ -289,10 +289,10 @@ module _ (h : List Entry) (s : Store) (w : SoundStore s) (k : Held h s) (x : Ent
         cancel-walk Removed goes-removed s t (goes-both s t sp at_first, subst (λ (l : List LogEntry). removes_in l t ≡ true) (sym (gone_log s t (removed t))) (removes_now s.log t))
 
     pub cancel_left : Leaves x none (cancel_task s t) → Left h x (cancel_task s t)
-    cancel_left l = logged-left h x N k.origins (cancel_task s t) none l none-plain (unfold ControlLeft in tt) cancelled-all.0.0
+    cancel_left l = logged_left h x N k.origins (cancel_task s t) none l none-plain (unfold ControlLeft in tt) cancelled-all.0.0
 
-    pub cancel-logged : removes_in (cancel_task s t).log t ≡ true
-    cancel-logged = cancelled-all.1
+    pub cancel_logged : removes_in (cancel_task s t).log t ≡ true
+    cancel_logged = cancelled-all.1
 
     pub cancel-idle : Idle (cancel_task s t)
     cancel-idle =
@@ -312,7 +312,7 @@ module _ (h : List Entry) (s : Store) (w : SoundStore s) (k : Held h s) (x : Ent
 
   pub end-log-right : running h ≡ some 0 → ends_task (said x) ≡ true → LogRight h x (cleanup s).log
   unfolding cleanup set_moment put_header put_queue
-  end-log-right rn en = ends-log-right (header s).next s 0 (inr (rn, en)) begins-logged.log-right
+  end-log-right rn en = ends-log-right (header s).next s 0 (inr (rn, en)) begins_logged.log-right
 
   swept : (n : ℕ) (u : Store) (t : ℕ) → Sized u → t + n ≤ task_limit → ((v : ℕ) → v < t → is_live (task u v).state ≡ false) → (v : ℕ) → v < t + n → is_live (task (remove_from u t n) v).state ≡ false
   unfolding remove_from absent
@@ -358,8 +358,8 @@ module _ (h : List Entry) (s : Store) (w : SoundStore s) (k : Held h s) (x : Ent
   unfolding cleanup set_moment put_header put_queue task
   cleanup-task t = refl
 
-  pub end-dead : (t : ℕ) → live (cleanup s) t ≡ false
-  end-dead t = by (ltb t (header (cleanup s)).next) refl
+  pub end_dead : (t : ℕ) → live (cleanup s) t ≡ false
+  end_dead t = by (ltb t (header (cleanup s)).next) refl
     where
       by : (b : Bool) → ltb t (header (cleanup s)).next ≡ b → live (cleanup s) t ≡ false
       by true q = unfold live in (rw q (ap (λ (r : Task). is_live r.state) (cleanup-task t) ∙ dead))

@@ -19,7 +19,7 @@ use Rattle.asyncio.specs.Numbers.{task_id}
 use Rattle.asyncio.specs.States.{pick}
 use Rattle.machine.specs.Store.{Store, LogEntry, object, header, forget}
 use Rattle.machine.specs.Scheduler.{live, pending_call_ids, cancel_task, cleanup}
-use Rattle.machine.specs.Events.{How, start, value, raises, inline, Control, runs, waits, Switched, Awaited, Result, activate, resume-next, handle_task_completion, handle-task-failure, exec_get_awaitable, apply_future_results, make_coroutine, make_pending, make_settled, make_gather, wake_in_order}
+use Rattle.machine.specs.Events.{How, start, value, raises, inline, Control, runs, waits, Switched, Awaited, Result, activate, resume_next, handle_task_completion, handle_task_failure, exec_get_awaitable, apply_future_results, make_coroutine, make_pending, make_settled, make_gather, wake_in_order}
 use Rattle.machine.specs.Machine.{Event, Answer, Shown, Step, switched, answer_await, end_main, task_completes, task_fails, runner, repeat_wait, resume_with_resolved_futures, refusals, refusal, full, no_number, accept, in_both, answer_cancel}
 use Rattle.machine.specs.Sound.{is_ended}
 use Rattle.machine.specs.History.{Entry, Says, says, nothing_said, said, tells, done_only, is_none, lives_by, lives, stays_blocked, spawned_for, running, coroutine_of}
@@ -31,7 +31,7 @@ use Rattle.machine_laws.specs.TestLaws.{or_left, or_right}
 use Rattle.machine_theorems.specs.Soundness.Stores.{SoundStore}
 use Rattle.machine_theorems.specs.Soundness.Preserved.{waiting, await-made}
 use Rattle.machine_sessions.specs.Queue.Tracked.{Tracked, live_low}
-use Rattle.machine_sessions.specs.Queue.TrackedEvents.{accept-tracked}
+use Rattle.machine_sessions.specs.Queue.TrackedEvents.{accept_tracked}
 use Rattle.machine_sessions.specs.Waits.{said-accepted}
 use Rattle.machine_sessions.specs.Stall.StandingEvents.{MainEnds, StepRight}
 use Rattle.machine_sessions.specs.Stall.GoesOn.{Finished, main_finishes}
@@ -44,9 +44,9 @@ use Rattle.machine_sessions.specs.Honest.HonestWalk.{Ends, IsSpawned}
 use Rattle.machine_sessions.specs.Honest.HonestLog.{BlockRight, LogRight, log_honest, Origins, Logged}
 use Rattle.machine_sessions.specs.Honest.HonestIdle.{NoFresh, Idle, empty-begun, Begun, results-begun}
 use Rattle.machine_sessions.specs.Honest.HonestEnds.{StartTold, ControlLeft, Left, Leaves, none-plain, waits-plain}
-use Rattle.machine_sessions.specs.Honest.HonestEvents.{Held, complete-ends, fail-ends, exit-left, exit-logged, exit-waits, resume-left, resume-waits, same_left, results-left, cancel_left, cancel-logged, cancel-idle, end-log-right, end-dead}
-use Rattle.machine_sessions.specs.Honest.HonestAwait.{await-left, await-blocks, await-waits}
-use Rattle.machine_sessions.specs.Honest.HonestMakes.{Adds, call-adds, settled-adds, settled-shape, coroutine-adds, coroutine-shape, pending-adds, pending-shape, gather-adds, gather-used, co-used, calls-object, makes-left, adds-left}
+use Rattle.machine_sessions.specs.Honest.HonestEvents.{Held, complete-ends, fail-ends, exit_left, exit_logged, exit_waits, resume-left, resume-waits, same_left, results-left, cancel_left, cancel_logged, cancel-idle, end-log-right, end_dead}
+use Rattle.machine_sessions.specs.Honest.HonestAwait.{await-left, await_blocks, await-waits}
+use Rattle.machine_sessions.specs.Honest.HonestMakes.{Adds, call_adds, settled_adds, settled-shape, coroutine_adds, coroutine-shape, pending_adds, pending-shape, gather_adds, gather-used, co-used, calls_object, makes_left, adds_left}
 
 -- ---- the last entry, but for what is handed to a task that runs on
 
@@ -140,8 +140,8 @@ module _ (h : List Entry) (e : Event) (y : Step) (ok : (tells y.answer).accepts 
   logs-it : x.happened ≡ y.store.log
   logs-it = happens_all e y.answer y.store ok
 
-  pub leaves-it : (tells y.answer).makes ≡ none → Leaves x (tells y.answer).control y.store
-  leaves-it m = record { happens = logs-it; controls = unfold entry_of in refl; makes_none = unfold entry_of in m }
+  pub leaves_it : (tells y.answer).makes ≡ none → Leaves x (tells y.answer).control y.store
+  leaves_it m = record { happens = logs-it; controls = unfold entry_of in refl; makes_none = unfold entry_of in m }
 
   logged-by : ((t : ℕ) → BlockRight h x t → blocks_in y.store.log t ≡ true → runs_task (tells y.answer).control t ≡ false) → LogRight h x y.store.log → LogHonest h x x.happened
   logged-by b k = subst (LogHonest h x) (sym logs-it) (log_honest h x y.store.log (λ t r q. unfold entry_of in (b t r q)) k)
@@ -150,8 +150,8 @@ module _ (h : List Entry) (e : Event) (y : Step) (ok : (tells y.answer).accepts 
   control-is k = subst (λ (l : List LogEntry). ControlLeft h x l (tells x.answer).control) (sym logs-it) (unfold entry_of in k)
 
   -- an event that says none of these
-  pub quiet-logged : Quiet (says e) → LogRight h x y.store.log → ControlLeft h x y.store.log (tells y.answer).control → EntryLogged h x
-  quiet-logged q l c =
+  pub quiet_logged : Quiet (says e) → LogRight h x y.store.log → ControlLeft h x y.store.log (tells y.answer).control → EntryLogged h x
+  quiet_logged q l c =
       record {
         log = logged-by (λ t r d. absurd (no-await r.0)) l;
         blocks = λ t d. absurd (no-await d);
@@ -171,8 +171,8 @@ module _ (h : List Entry) (e : Event) (y : Step) (ok : (tells y.answer).accepts 
   unfolding entry_of
   left-control k = k
 
-  pub quiet-left : Quiet (says e) → Left h x y.store → EntryLogged h x
-  quiet-left q l = quiet-logged q l.log-right (left-control l.control-left)
+  pub quiet_left : Quiet (says e) → Left h x y.store → EntryLogged h x
+  quiet_left q l = quiet_logged q l.log-right (left-control l.control-left)
 
 -- ---- each event
 
@@ -272,9 +272,9 @@ module _ (h : List Entry) (s : Store) (w : SoundStore s) (tr : Tracked (lives h)
         → ((f : ℕ) → shape (object y.store (header s).made) ≡ Shape.new f → e ≡ Event.coroutine f) → Stepped h e y
     made-stepped an us nw =
         record {
-          entry = quiet-logged h e y ok q (none_right _ y.store ad.same_log) (subst (ControlLeft h _ y.store.log) (sym nobody) (unfold ControlLeft in tt));
+          entry = quiet_logged h e y ok q (none_right _ y.store ad.same_log) (subst (ControlLeft h _ y.store.log) (sym nobody) (unfold ControlLeft in tt));
           after = λ z. kept_of h _ y.store
-              (makes-left h s (held (ended-not _ _ on)) ag y.store ad (entry_of e y.answer y.store) (happens_all e y.answer y.store ok) (unfold entry_of in nobody) (unfold entry_of in makes) us (λ f d. unfold entry_of in (nw f d)))
+              (makes_left h s (held (ended-not _ _ on)) ag y.store ad (entry_of e y.answer y.store) (happens_all e y.answer y.store ok) (unfold entry_of in nobody) (unfold entry_of in makes) us (λ f d. unfold entry_of in (nw f d)))
               (idle-by y sr z (λ m. not-waiting (header y.store).moment _ (ad.same-moment ∙ on) m));
         }
       where
@@ -290,9 +290,9 @@ module _ (h : List Entry) (s : Store) (w : SoundStore s) (tr : Tracked (lives h)
     pub called-stepped : (n : ℕ) → y.answer ≡ Answer.called n → ((o : ℕ) → object y.store o ≡ object s o) → Stepped h e y
     called-stepped n an os =
         record {
-          entry = quiet-logged h e y ok q (none_right _ y.store ad.same_log) (subst (ControlLeft h _ y.store.log) (sym nobody) (unfold ControlLeft in tt));
+          entry = quiet_logged h e y ok q (none_right _ y.store ad.same_log) (subst (ControlLeft h _ y.store.log) (sym nobody) (unfold ControlLeft in tt));
           after = λ z. kept_of h _ y.store
-              (adds-left h s (held (ended-not _ _ on)) ag y.store ad (entry_of e y.answer y.store) (subst (λ (c : Option Control). Leaves (entry_of e y.answer y.store) c y.store) nobody (leaves-it h e y ok makes)) os)
+              (adds_left h s (held (ended-not _ _ on)) ag y.store ad (entry_of e y.answer y.store) (subst (λ (c : Option Control). Leaves (entry_of e y.answer y.store) c y.store) nobody (leaves_it h e y ok makes)) os)
               (idle-by y sr z (λ m. not-waiting (header y.store).moment _ (ad.same-moment ∙ on) m));
         }
       where
@@ -311,8 +311,8 @@ module _ (h : List Entry) (s : Store) (w : SoundStore s) (tr : Tracked (lives h)
       → Stepped h e (record { store = s; answer = a })
   same-stepped e a q ok mk ct pl =
       record {
-        entry = quiet-logged h e y ok q (none_right _ s refl) (ct _);
-        after = λ on. kept_of h _ s (same_left h s w (held on) (entry_of e a s) (tells a).control pl (ct _) (leaves-it h e y ok mk)) (kept on).idle;
+        entry = quiet_logged h e y ok q (none_right _ s refl) (ct _);
+        after = λ on. kept_of h _ s (same_left h s w (held on) (entry_of e a s) (tells a).control pl (ct _) (leaves_it h e y ok mk)) (kept on).idle;
       }
     where
       y : Step
@@ -368,21 +368,21 @@ module _ (h : List Entry) (s : Store) (w : SoundStore s) (tr : Tracked (lives h)
           entry = record {
             log = logged-by h e sw sw-ok (λ u r d. absurd (no-await r.0)) (subst (λ (u : Store). LogRight h xs u.log) (sym sw-store) l.log-right);
             blocks = λ u d. absurd (no-await d);
-            exits = λ u d f. ap (λ (k : List LogEntry). exits_in k (suc u)) log_is ∙ subst (λ (v : ℕ). exits_in z.store.log v ≡ true) (same_some (suc t) (suc u) (sym runs-it ∙ d)) (exit-logged h s w hd xs t m runs-it ends_it z ends_so);
+            exits = λ u d f. ap (λ (k : List LogEntry). exits_in k (suc u)) log_is ∙ subst (λ (v : ℕ). exits_in z.store.log v ≡ true) (same_some (suc t) (suc u) (sym runs-it ∙ d)) (exit_logged h s w hd xs t m runs-it ends_it z ends_so);
             ends = λ u d f. absurd (not-suc-le-zero {n = 0} (omega (arith, same_some (suc t) 0 (sym runs-it ∙ d))));
             removes = λ u d. absurd (not-cancel e u nc (unfold entry_of in d));
             control = subst (λ (k : List LogEntry). ControlLeft h xs k (tells xs.answer).control) (sym log_is) l.control-left;
           };
           after = λ on.
               kept_of h xs sw.store (subst (Left h xs) (sym sw-store) l)
-              (idle-waits sw sr on (λ q. let c = exit-waits h s w hd xs t m runs-it ends_it z ends_so (sym (ap (λ (u : Store). (header u).moment) sw-store) ∙ q) in (c.0, sw-control ∙ ap (λ (k : Control). some k) c.1)));
+              (idle-waits sw sr on (λ q. let c = exit_waits h s w hd xs t m runs-it ends_it z ends_so (sym (ap (λ (u : Store). (header u).moment) sw-store) ∙ q) in (c.0, sw-control ∙ ap (λ (k : Control). some k) c.1)));
         }
       where
         hd : Held h s
         hd = held (ended-not _ _ m)
 
         l : Left h xs z.store
-        l = exit-left h s w hd xs t m runs-it ends_it z ends_so (record { happens = log_is; controls = control_of; makes_none = makes-of })
+        l = exit_left h s w hd xs t m runs-it ends_it z ends_so (record { happens = log_is; controls = control_of; makes_none = makes-of })
 
         no-await : is_none (said xs).awaits ≡ false → ⊥
         no-await d = none_is (said xs).awaits (ap (λ (k : Says). k.awaits) (said-accepted e sw.answer sw.store sw-ok) ∙ na) d
@@ -394,25 +394,25 @@ module _ (h : List Entry) (s : Store) (w : SoundStore s) (tr : Tracked (lives h)
       exit-stepped (Event.complete v) t m refl refl refl z
       (complete-ends h s w (held (ended-not _ _ m)) _ t m (runs-it (Event.complete v) t m refl refl refl z) (ends_it (Event.complete v) t m refl refl refl z) v) sr
 
-  pub fail-stepped : (t n : ℕ) → (header s).moment ≡ Moment.Running (task_id (suc t)) → StepLeft (switched (handle-task-failure activate s (suc t) (Error.Script n)))
-      → Stepped h (Event.fail n) (switched (handle-task-failure activate s (suc t) (Error.Script n)))
+  pub fail-stepped : (t n : ℕ) → (header s).moment ≡ Moment.Running (task_id (suc t)) → StepLeft (switched (handle_task_failure activate s (suc t) (Error.Script n)))
+      → Stepped h (Event.fail n) (switched (handle_task_failure activate s (suc t) (Error.Script n)))
   unfolding says ends_task has_value is_none
   fail-stepped t n m sr =
-      let z : Switched = handle-task-failure activate s (suc t) (Error.Script n) in
+      let z : Switched = handle_task_failure activate s (suc t) (Error.Script n) in
       exit-stepped (Event.fail n) t m refl refl refl z
       (fail-ends h s w (held (ended-not _ _ m)) _ t m (runs-it (Event.fail n) t m refl refl refl z) (ends_it (Event.fail n) t m refl refl refl z) (Error.Script n)) sr
 
   -- main
-  pub main-stepped : (e : Event) (a : Answer) → (header s).moment ≡ Moment.Running (task_id 0) → (says e).awaits ≡ none → (says e).cancels ≡ false → ends_task (says e) ≡ true → (tells a).accepts ≡ true → (tells a).control ≡ none
+  pub main_stepped : (e : Event) (a : Answer) → (header s).moment ≡ Moment.Running (task_id 0) → (says e).awaits ≡ none → (says e).cancels ≡ false → ends_task (says e) ≡ true → (tells a).accepts ≡ true → (tells a).control ≡ none
       → (lives-by-now : (t : ℕ) → lives (entry_of e a (cleanup s) ∷ h) t ≡ live (cleanup s) t) → Stepped h e (end_main s a)
   unfolding end_main
-  main-stepped e a m na nc en ok nobody lv =
+  main_stepped e a m na nc en ok nobody lv =
       record {
         entry = record {
           log = logged-by h e y ok (λ u r d. absurd (no-await r.0)) (end-log-right h s w hd x rn en');
           blocks = λ u d. absurd (no-await d);
           exits = λ u d f. absurd (not-suc-le-zero {n = 0} (omega (arith, same_some 0 (suc u) (sym rn ∙ d))));
-          ends = λ u d f. lv u ∙ end-dead h s w hd x u;
+          ends = λ u d f. lv u ∙ end_dead h s w hd x u;
           removes = λ u d. absurd (not-cancel e u nc (unfold entry_of in d));
           control = subst (ControlLeft h x x.happened) (sym nobody-now) (unfold ControlLeft in tt);
         };
@@ -442,15 +442,15 @@ module _ (h : List Entry) (s : Store) (w : SoundStore s) (tr : Tracked (lives h)
 
   -- ---- resume
 
-  pub resume-stepped : (header s).moment ≡ Moment.Waiting → StepLeft (switched (resume-next activate s)) → Stepped h Event.resume (switched (resume-next activate s))
+  pub resume-stepped : (header s).moment ≡ Moment.Waiting → StepLeft (switched (resume_next activate s)) → Stepped h Event.resume (switched (resume_next activate s))
   resume-stepped m sr =
       record {
-        entry = quiet-left h Event.resume y ok q l;
+        entry = quiet_left h Event.resume y ok q l;
         after = λ on. kept_of h x y.store l (idle-waits y sr on (λ p. let c = resume-waits h s w hd x (unfold switched in p) in (c.0, controls ∙ ap (λ (k : Control). some k) c.1)));
       }
     where
       y : Step
-      y = switched (resume-next activate s)
+      y = switched (resume_next activate s)
 
       hd : Held h s
       hd = held (waiting-not _ m)
@@ -458,7 +458,7 @@ module _ (h : List Entry) (s : Store) (w : SoundStore s) (tr : Tracked (lives h)
       ok : (tells y.answer).accepts ≡ true
       ok = unfold switched tells in refl
 
-      controls : (tells y.answer).control ≡ some (resume-next activate s).control
+      controls : (tells y.answer).control ≡ some (resume_next activate s).control
       controls = unfold switched tells in refl
 
       x : Entry
@@ -476,7 +476,7 @@ module _ (h : List Entry) (s : Store) (w : SoundStore s) (tr : Tracked (lives h)
   unfolding accept
   results-stepped rs on sr =
       record {
-        entry = quiet-left h (Event.results rs) y ok q l;
+        entry = quiet_left h (Event.results rs) y ok q l;
         after = λ z. kept_of h x y.store l (idle-by y sr z (λ m v b. bg.started (moved ∙ m) v (subst (λ (k : Header). v < k.next) bg.head b)));
       }
     where
@@ -511,7 +511,7 @@ module _ (h : List Entry) (s : Store) (w : SoundStore s) (tr : Tracked (lives h)
           blocks = λ u d. absurd (no-await d);
           exits = λ u d f. absurd (no_end f);
           ends = λ u d f. absurd (no_end f);
-          removes = λ u d f. ap (λ (k : List LogEntry). removes_in k u) (happens_all (Event.cancel t) y.answer y.store ok) ∙ subst (λ (v : ℕ). removes_in y.store.log v ≡ true) (same-cancel t u (unfold entry_of in d)) (cancel-logged h s w hd x idle m t sp cn);
+          removes = λ u d f. ap (λ (k : List LogEntry). removes_in k u) (happens_all (Event.cancel t) y.answer y.store ok) ∙ subst (λ (v : ℕ). removes_in y.store.log v ≡ true) (same-cancel t u (unfold entry_of in d)) (cancel_logged h s w hd x idle m t sp cn);
           control = subst (λ (k : List LogEntry). ControlLeft h x k (tells x.answer).control) (sym (happens_all (Event.cancel t) y.answer y.store ok)) l.control-left;
         };
         after = λ on. kept_of h x y.store l (cancel-idle h s w hd x idle m t sp cn);
@@ -610,7 +610,7 @@ module _ (h : List Entry) (s : Store) (w : SoundStore s) (tr : Tracked (lives h)
       l = await-left h s w hd ag t m x o rn aw lo (record { happens = log_is; controls = control_of; makes_none = unfold entry_of answer_await tells in refl })
 
       both : blocks_in z.store.log t ≡ not (runs_task (some z.control) t)
-      both = await-blocks h s w hd ag t m x o rn aw lo
+      both = await_blocks h s w hd ag t m x o rn aw lo
 
       not-true : (b : Bool) → true ≡ not b → b ≡ false
       not-true true e = absurd (true≢false e)
@@ -641,9 +641,9 @@ module _ (h : List Entry) (s : Store) (w : SoundStore s) (tr : Tracked (lives h)
   unfolding task_completes
   completes-as t v = ap (λ (b : Bool). pick b (end_main s (Answer.finished v)) (switched (handle_task_completion s (suc t) v))) (ne_eqb (suc t) 0 (λ q. not-suc-le-zero {n = 0} (omega arith)))
 
-  fails-as : (t : ℕ) (x : Error) → task_fails s (suc t) x ≡ switched (handle-task-failure activate s (suc t) x)
+  fails-as : (t : ℕ) (x : Error) → task_fails s (suc t) x ≡ switched (handle_task_failure activate s (suc t) x)
   unfolding task_fails
-  fails-as t x = ap (λ (b : Bool). pick b (end_main s (Answer.finished_error x)) (switched (handle-task-failure activate s (suc t) x))) (ne_eqb (suc t) 0 (λ q. not-suc-le-zero {n = 0} (omega arith)))
+  fails-as t x = ap (λ (b : Bool). pick b (end_main s (Answer.finished_error x)) (switched (handle_task_failure activate s (suc t) x))) (ne_eqb (suc t) 0 (λ q. not-suc-le-zero {n = 0} (omega arith)))
 
   complete-no-cancel : (v : Value) → (says (Event.complete v)).cancels ≡ false
   unfolding says
@@ -664,13 +664,13 @@ module _ (h : List Entry) (s : Store) (w : SoundStore s) (tr : Tracked (lives h)
   complete-by : (v : Value) (t : ℕ) → (header s).moment ≡ Moment.Running (task_id t) → StepLeft (task_completes s t v) → Tracked (lives h) (stays_blocked h) (task_completes s t v).store → Stepped h (Event.complete v) (task_completes s t v)
   unfolding task_completes end_main says ends_task has_value
   complete-by v zero m sr k =
-      main-stepped (Event.complete v) (Answer.finished v) m refl refl refl (finished-tells v).0 (finished-tells v).1 (lives-then (Event.complete v) (Answer.finished v) (cleanup s) (finished-tells v).0 k)
+      main_stepped (Event.complete v) (Answer.finished v) m refl refl refl (finished-tells v).0 (finished-tells v).1 (lives-then (Event.complete v) (Answer.finished v) (cleanup s) (finished-tells v).0 k)
   complete-by v (suc t) m sr k = subst (Stepped h (Event.complete v)) (sym (completes-as t v)) (complete-stepped t v m (subst StepLeft (completes-as t v) sr))
 
   fail-by : (n t : ℕ) → (header s).moment ≡ Moment.Running (task_id t) → StepLeft (task_fails s t (Error.Script n)) → Tracked (lives h) (stays_blocked h) (task_fails s t (Error.Script n)).store → Stepped h (Event.fail n) (task_fails s t (Error.Script n))
   unfolding task_fails end_main says ends_task has_value is_none
   fail-by n zero m sr k =
-      main-stepped (Event.fail n) (Answer.finished_error (Error.Script n)) m refl refl refl (error-tells (Error.Script n)).0 (error-tells (Error.Script n)).1
+      main_stepped (Event.fail n) (Answer.finished_error (Error.Script n)) m refl refl refl (error-tells (Error.Script n)).0 (error-tells (Error.Script n)).1
       (lives-then (Event.fail n) (Answer.finished_error (Error.Script n)) (cleanup s) (error-tells (Error.Script n)).0 k)
   fail-by n (suc t) m sr k = subst (Stepped h (Event.fail n)) (sym (fails-as t (Error.Script n))) (fail-stepped t n m (subst StepLeft (fails-as t (Error.Script n)) sr))
 
@@ -685,8 +685,8 @@ module _ (h : List Entry) (s : Store) (w : SoundStore s) (tr : Tracked (lives h)
   unfolding resume_with_resolved_futures
   resume-by m sr = by (eqb s.queue.len 0) sr
     where
-      by : (b : Bool) → StepLeft (pick b (record { store = s; answer = repeat_wait (pending_call_ids s) }) (switched (resume-next activate s)))
-          → Stepped h Event.resume (pick b (record { store = s; answer = repeat_wait (pending_call_ids s) }) (switched (resume-next activate s)))
+      by : (b : Bool) → StepLeft (pick b (record { store = s; answer = repeat_wait (pending_call_ids s) }) (switched (resume_next activate s)))
+          → Stepped h Event.resume (pick b (record { store = s; answer = repeat_wait (pending_call_ids s) }) (switched (resume_next activate s)))
       by true k = repeat-stepped (pending_call_ids s)
       by false k = resume-stepped m k
 
@@ -701,19 +701,19 @@ module _ (h : List Entry) (s : Store) (w : SoundStore s) (tr : Tracked (lives h)
       let on = running-now _ q in
       let m : (header s).made < object_limit = not_full s (pass 6 (full s) [] (running-rest s _ q)).0 in
       let sh : shape (object (make_coroutine s f) (header s).made) ≡ Shape.new f = coroutine-shape s w.memory.sized f i m in
-      made-stepped (Event.coroutine f) _ 0 on (quiet_of (Event.coroutine f) tt) (right (Event.coroutine f) i (quiet_of (Event.coroutine f) tt).no-cancel r (ended-not _ _ on)) (coroutine-adds s w.memory.sized f m) refl (ap is_used sh)
+      made-stepped (Event.coroutine f) _ 0 on (quiet_of (Event.coroutine f) tt) (right (Event.coroutine f) i (quiet_of (Event.coroutine f) tt).no-cancel r (ended-not _ _ on)) (coroutine_adds s w.memory.sized f m) refl (ap is_used sh)
       (λ g d. ap Event.coroutine (new_is f g (sym sh ∙ d)))
   accept-stepped Event.call i r =
       let q = refusal-rest s Event.call r in
       let on = running-now _ q in
       let c : (header s).calls < call_limit = has_number s (pass 7 (no_number s) [] (running-rest s _ q)).0 in
-      called-stepped Event.call _ 0 on (quiet_of Event.call tt) (right Event.call tt (quiet_of Event.call tt).no-cancel r (ended-not _ _ on)) (call-adds s w.memory.sized c (header s).made) (header s).calls refl (calls-object s w.memory.sized c)
+      called-stepped Event.call _ 0 on (quiet_of Event.call tt) (right Event.call tt (quiet_of Event.call tt).no-cancel r (ended-not _ _ on)) (call_adds s w.memory.sized c (header s).made) (header s).calls refl (calls_object s w.memory.sized c)
   accept-stepped (Event.pending d v) i r =
       let q = refusal-rest s (Event.pending d v) r in
       let on = running-now _ q in
       let m : (header s).made < object_limit = not_full s (pass 6 (full s) [] (pass 5 _ _ (pass 4 _ _ (running-rest s _ q)).1).1).0 in
       let sh : shape (object (make_pending s d v) (header s).made) ≡ Shape.other = pending-shape s w.memory.sized d v m in
-      made-stepped (Event.pending d v) _ 0 on (quiet_of (Event.pending d v) tt) (right (Event.pending d v) tt (quiet_of (Event.pending d v) tt).no-cancel r (ended-not _ _ on)) (pending-adds s w.memory.sized d v m) refl (ap is_used sh)
+      made-stepped (Event.pending d v) _ 0 on (quiet_of (Event.pending d v) tt) (right (Event.pending d v) tt (quiet_of (Event.pending d v) tt).no-cancel r (ended-not _ _ on)) (pending_adds s w.memory.sized d v m) refl (ap is_used sh)
       (λ g z. not-co _ g (ap is_co sh) z)
   accept-stepped (Event.settled v) i r =
       let q = refusal-rest s (Event.settled v) r in
@@ -722,7 +722,7 @@ module _ (h : List Entry) (s : Store) (w : SoundStore s) (tr : Tracked (lives h)
       let m : (header s).made < object_limit = not_full s p.0 in
       let c : (header s).calls < call_limit = has_number s (pass 7 (no_number s) [] p.1).0 in
       let sh : shape (object (make_settled s v) (header s).made) ≡ Shape.other = settled-shape s w.memory.sized c v m in
-      made-stepped (Event.settled v) _ 0 on (quiet_of (Event.settled v) tt) (right (Event.settled v) tt (quiet_of (Event.settled v) tt).no-cancel r (ended-not _ _ on)) (settled-adds s w.memory.sized c v m) refl (ap is_used sh)
+      made-stepped (Event.settled v) _ 0 on (quiet_of (Event.settled v) tt) (right (Event.settled v) tt (quiet_of (Event.settled v) tt).no-cancel r (ended-not _ _ on)) (settled_adds s w.memory.sized c v m) refl (ap is_used sh)
       (λ g z. not-co _ g (ap is_co sh) z)
   accept-stepped (Event.gather os) i r =
       let q = refusal-rest s (Event.gather os) r in
@@ -731,7 +731,7 @@ module _ (h : List Entry) (s : Store) (w : SoundStore s) (tr : Tracked (lives h)
       let m : (header s).made < object_limit = not_full s (or_left (full s) (ltb item_limit (length os)) (or_left (full s || ltb item_limit (length os)) (ltb place_limit ((header s).used + length os)) p)) in
       let l : (header s).used + length os ≤ place_limit = ltb-false place_limit ((header s).used + length os) (or_right (full s || ltb item_limit (length os)) (ltb place_limit ((header s).used + length os)) p) in
       let us : is_co (shape (object (make_gather s os) (header s).made)) ≡ false = gather-used s w.memory.sized os m l in
-      made-stepped (Event.gather os) _ 0 on (quiet_of (Event.gather os) tt) (right (Event.gather os) tt (quiet_of (Event.gather os) tt).no-cancel r (ended-not _ _ on)) (gather-adds s w.memory.sized os m l) refl (co-used (shape (object (make_gather s os) (header s).made)) us)
+      made-stepped (Event.gather os) _ 0 on (quiet_of (Event.gather os) tt) (right (Event.gather os) tt (quiet_of (Event.gather os) tt).no-cancel r (ended-not _ _ on)) (gather_adds s w.memory.sized os m l) refl (co-used (shape (object (make_gather s os) (header s).made)) us)
       (λ g z. not-co _ g us z)
   accept-stepped (Event.await o) i r =
       let q = refusal-rest s (Event.await o) r in
@@ -742,10 +742,10 @@ module _ (h : List Entry) (s : Store) (w : SoundStore s) (tr : Tracked (lives h)
       await-no-cancel = unfold says in refl
   accept-stepped (Event.complete v) i r =
       let on = running-now _ (refusal-rest s (Event.complete v) r) in
-      complete-by v (runner (header s).moment) on (right (Event.complete v) tt (complete-no-cancel v) r (ended-not _ _ on)) (accept-tracked (lives h) (stays_blocked h) s w (Event.complete v) r tr)
+      complete-by v (runner (header s).moment) on (right (Event.complete v) tt (complete-no-cancel v) r (ended-not _ _ on)) (accept_tracked (lives h) (stays_blocked h) s w (Event.complete v) r tr)
   accept-stepped (Event.fail n) i r =
       let on = running-now _ (refusal-rest s (Event.fail n) r) in
-      fail-by n (runner (header s).moment) on (right (Event.fail n) i (fail-no-cancel n) r (ended-not _ _ on)) (accept-tracked (lives h) (stays_blocked h) s w (Event.fail n) r tr)
+      fail-by n (runner (header s).moment) on (right (Event.fail n) i (fail-no-cancel n) r (ended-not _ _ on)) (accept_tracked (lives h) (stays_blocked h) s w (Event.fail n) r tr)
   accept-stepped (Event.results rs) i r =
       let q = pass 2 (is_ended (header s).moment) _ (refusal-rest s (Event.results rs) r) in
       results-stepped rs q.0 (right (Event.results rs) tt (quiet_of (Event.results rs) tt).no-cancel r q.0)

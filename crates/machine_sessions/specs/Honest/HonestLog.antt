@@ -20,8 +20,8 @@ use Rattle.machine_laws.specs.Views.{Sized}
 use Rattle.machine_laws.specs.StoreLaws.{sized-put_places, sized-put_queue}
 use Rattle.machine_laws.specs.DeliveryLaws.{awaited-object, awaited-fits, pending-object}
 use Rattle.machine_theorems.specs.Soundness.RowFacts.{ready-live}
-use Rattle.machine_sessions.specs.Queue.Tracked.{Tracked, live-is, row-tracked, exits-tracked, tracked-closed}
-use Rattle.machine_sessions.specs.Honest.Spawned.{Shape, other, new, shape, is_used, is_co, gather-shape, external_shape, old_shape, TaskFrom, Spawned, SameSpawns, same-spawns, live_below, spawned-like, row-spawned, state-spawned, gone-spawned}
+use Rattle.machine_sessions.specs.Queue.Tracked.{Tracked, live-is, row_tracked, exits_tracked, tracked_closed}
+use Rattle.machine_sessions.specs.Honest.Spawned.{Shape, other, new, shape, is_used, is_co, gather-shape, external_shape, old_shape, TaskFrom, Spawned, SameSpawns, same-spawns, live_below, spawned_like, row-spawned, state_spawned, gone-spawned}
 use Rattle.machine_sessions.specs.Honest.HonestWalk.{Delivers, Switching, places-task, places-object, wakes-object, wakes-task}
 
 -- the running task blocks at an await
@@ -70,19 +70,19 @@ pub record Logged (h : List Entry) (x : Entry) (N : ℕ → Shape) (u : Store) :
 
 reached-spawns : (S : ℕ → Option ℕ) (s u : Store) (t : ℕ) → u.log ≡ reached t ∷ s.log → SameSpawns S s u
 unfolding spawned_by spawns_in
-reached-spawns S s u t e = record { for-it = λ v. ap (λ (l : List LogEntry). spawned_by (S v) l v) e; counted = ap spawns_in e }
+reached-spawns S s u t e = record { for_it = λ v. ap (λ (l : List LogEntry). spawned_by (S v) l v) e; counted = ap spawns_in e }
 
 exited-spawns : (S : ℕ → Option ℕ) (s u : Store) (t : ℕ) → u.log ≡ exited t ∷ s.log → SameSpawns S s u
 unfolding spawned_by spawns_in
-exited-spawns S s u t e = record { for-it = λ v. ap (λ (l : List LogEntry). spawned_by (S v) l v) e; counted = ap spawns_in e }
+exited-spawns S s u t e = record { for_it = λ v. ap (λ (l : List LogEntry). spawned_by (S v) l v) e; counted = ap spawns_in e }
 
 removed-spawns : (S : ℕ → Option ℕ) (s u : Store) (t : ℕ) → u.log ≡ removed t ∷ s.log → SameSpawns S s u
 unfolding spawned_by spawns_in
-removed-spawns S s u t e = record { for-it = λ v. ap (λ (l : List LogEntry). spawned_by (S v) l v) e; counted = ap spawns_in e }
+removed-spawns S s u t e = record { for_it = λ v. ap (λ (l : List LogEntry). spawned_by (S v) l v) e; counted = ap spawns_in e }
 
 pub blocked-spawns : (S : ℕ → Option ℕ) (s u : Store) (t : ℕ) → u.log ≡ blocked t ∷ s.log → SameSpawns S s u
 unfolding spawned_by spawns_in
-blocked-spawns S s u t e = record { for-it = λ v. ap (λ (l : List LogEntry). spawned_by (S v) l v) e; counted = ap spawns_in e }
+blocked-spawns S s u t e = record { for_it = λ v. ap (λ (l : List LogEntry). spawned_by (S v) l v) e; counted = ap spawns_in e }
 
 -- ---- the logs of writes
 
@@ -132,40 +132,40 @@ module _ (h : List Entry) (x : Entry) (N : ℕ → Shape) where
   abbrev C : ℕ → Option ℕ
   C = coroutine_of h
 
-  pub sized-logged : (s : Store) → L s → Sized s
-  sized-logged s k = k.tracked.sized
+  pub sized_logged : (s : Store) → L s → Sized s
+  sized_logged s k = k.tracked.sized
 
   -- an object's row, in its shape
-  pub row-logged : (s : Store) (o : ℕ) (y : Object) → o < object_limit → shape (to_object (object_words y)) ≡ N o → L s → L (put_object s o y)
-  row-logged s o y l e k =
+  pub row_logged : (s : Store) (o : ℕ) (y : Object) → o < object_limit → shape (to_object (object_words y)) ≡ N o → L s → L (put_object s o y)
+  row_logged s o y l e k =
       record {
-        tracked = row-tracked (lives h) (stays_blocked h) s o y k.tracked;
+        tracked = row_tracked (lives h) (stays_blocked h) s o y k.tracked;
         spawns-are = row-spawned S C (spawns h) N s o y l e k.spawns-are;
         log-right = subst (LogRight h x) (sym (row-log s o y)) k.log-right;
       }
 
   -- a gather's
-  pub gather-logged : (s : Store) (g : ℕ) (w : AwaitedGather) (y : GatherState) → g < object_limit → as_awaited (object s g) ≡ some w → L s → L (put_object s g (Object.GatherFuture w.first w.count y))
+  pub gather_logged : (s : Store) (g : ℕ) (w : AwaitedGather) (y : GatherState) → g < object_limit → as_awaited (object s g) ≡ some w → L s → L (put_object s g (Object.GatherFuture w.first w.count y))
   unfolding shape
-  gather-logged s g w y l e k =
-      row-logged s g _ l (gather-shape w.first w.count y (awaited-fits s g w e).0 ∙ (sym (ap shape (awaited-object (object s g) w e)) ∙ k.spawns-are.rows g)) k
+  gather_logged s g w y l e k =
+      row_logged s g _ l (gather-shape w.first w.count y (awaited-fits s g w e).0 ∙ (sym (ap shape (awaited-object (object s g) w e)) ∙ k.spawns-are.rows g)) k
 
-  pub places-logged : (s : Store) (ps : List ℕ) → length ps ≡ places_length → L s → L (put_places s ps)
-  places-logged s ps e k =
+  pub places_logged : (s : Store) (ps : List ℕ) → length ps ≡ places_length → L s → L (put_places s ps)
+  places_logged s ps e k =
       record {
-        tracked = (tracked-closed (lives h) (stays_blocked h)).values-put s ps e k.tracked;
+        tracked = (tracked_closed (lives h) (stays_blocked h)).values-put s ps e k.tracked;
         spawns-are =
-            spawned-like S C (spawns h) N s (put_places s ps) (sized-put_places s ps e k.spawns-are.sized) (same-spawns S s _ (unfold put_places in refl)) (unfold header put_places in refl)
+            spawned_like S C (spawns h) N s (put_places s ps) (sized-put_places s ps e k.spawns-are.sized) (same-spawns S s _ (unfold put_places in refl)) (unfold header put_places in refl)
             (λ o. ap shape (places-object s ps o) ∙ k.spawns-are.rows o) (λ t. places-task s ps t) k.spawns-are;
         log-right = unfold put_places in k.log-right;
       }
 
-  pub queue-logged : (s : Store) (q : ReadyQueue) → L s → L (put_queue s q)
-  queue-logged s q k =
+  pub queue_logged : (s : Store) (q : ReadyQueue) → L s → L (put_queue s q)
+  queue_logged s q k =
       record {
-        tracked = (tracked-closed (lives h) (stays_blocked h)).queued s q k.tracked;
+        tracked = (tracked_closed (lives h) (stays_blocked h)).queued s q k.tracked;
         spawns-are =
-            spawned-like S C (spawns h) N s (put_queue s q) (sized-put_queue s q k.spawns-are.sized) (same-spawns S s _ (unfold put_queue in refl)) (unfold header put_queue in refl)
+            spawned_like S C (spawns h) N s (put_queue s q) (sized-put_queue s q k.spawns-are.sized) (same-spawns S s _ (unfold put_queue in refl)) (unfold header put_queue in refl)
             (λ o. rows o) (λ t. unfold task put_queue in refl) k.spawns-are;
         log-right = unfold put_queue in k.log-right;
       }
@@ -177,70 +177,70 @@ module _ (h : List Entry) (x : Entry) (N : ℕ → Shape) where
       rows o = ap shape (same_object o) ∙ k.spawns-are.rows o
 
   -- a live task, by its row
-  pub is-live-now : (s : Store) (t : ℕ) → t < task_limit → is_live (task s t).state ≡ true → L s → live s t ≡ true
-  is-live-now s t l e k = live-is s t (live_below S C (spawns h) N s t l e k.spawns-are) e
+  pub is_live_now : (s : Store) (t : ℕ) → t < task_limit → is_live (task s t).state ≡ true → L s → live s t ≡ true
+  is_live_now s t l e k = live-is s t (live_below S C (spawns h) N s t l e k.spawns-are) e
 
   -- what the words of the history and the log so far say of it
-  pub lives-now : (s : Store) (t : ℕ) → live s t ≡ true → L s → lives_by (lives h t) s.log t ≡ true
-  lives-now s t e k = k.tracked.alive t ∙ e
+  pub lives_now : (s : Store) (t : ℕ) → live s t ≡ true → L s → lives_by (lives h t) s.log t ≡ true
+  lives_now s t e k = k.tracked.alive t ∙ e
 
-  pub free-now : (s : Store) (t : ℕ) → live s t ≡ true → is_blocked (task s t).state ≡ false → L s → blocked_by (stays_blocked h t) s.log t ≡ false
-  free-now s t e b k = k.tracked.stuck t e ∙ b
+  pub free_now : (s : Store) (t : ℕ) → live s t ≡ true → is_blocked (task s t).state ≡ false → L s → blocked_by (stays_blocked h t) s.log t ≡ false
+  free_now s t e b k = k.tracked.stuck t e ∙ b
 
-  pub wakes-logged : (s : Store) (t : ℕ) (y : TaskState) → t < task_limit → is_blocked (task s t).state ≡ true → is_ready y ≡ true → is_unstarted y ≡ false → L s → L (add_log (make_ready s t y) (reached t))
-  wakes-logged s t y l b r n k =
+  pub wakes_logged : (s : Store) (t : ℕ) (y : TaskState) → t < task_limit → is_blocked (task s t).state ≡ true → is_ready y ≡ true → is_unstarted y ≡ false → L s → L (add_log (make_ready s t y) (reached t))
+  wakes_logged s t y l b r n k =
       record {
-        tracked = (tracked-closed (lives h) (stays_blocked h)).wakes s t y l b r k.tracked;
+        tracked = (tracked_closed (lives h) (stays_blocked h)).wakes s t y l b r k.tracked;
         spawns-are =
-            state-spawned S C (spawns h) N s t y _ l (blocked-live (task s t).state b).0 (blocked-live (task s t).state b).1 (ready-live y r) n
-            ((tracked-closed (lives h) (stays_blocked h)).wakes s t y l b r k.tracked).sized (reached-spawns S s _ t (wakes-log s t y)) (ap (λ z. z.next) (wakes-header s t y)) (λ o. wakes-object s t y o) (λ v. wakes-task s t y v) k.spawns-are;
-        log-right = subst (LogRight h x) (sym (wakes-log s t y)) (unfold LogRight in (record { live = lives-now s t lv k; blocked = k.tracked.stuck t lv ∙ b }, k.log-right));
+            state_spawned S C (spawns h) N s t y _ l (blocked-live (task s t).state b).0 (blocked-live (task s t).state b).1 (ready-live y r) n
+            ((tracked_closed (lives h) (stays_blocked h)).wakes s t y l b r k.tracked).sized (reached-spawns S s _ t (wakes-log s t y)) (ap (λ z. z.next) (wakes-header s t y)) (λ o. wakes-object s t y o) (λ v. wakes-task s t y v) k.spawns-are;
+        log-right = subst (LogRight h x) (sym (wakes-log s t y)) (unfold LogRight in (record { live = lives_now s t lv k; blocked = k.tracked.stuck t lv ∙ b }, k.log-right));
       }
     where
       lv : live s t ≡ true
-      lv = is-live-now s t l (blocked-live (task s t).state b).0 k
+      lv = is_live_now s t l (blocked-live (task s t).state b).0 k
 
   -- a task exits
-  pub exits-logged : (s : Store) (t : ℕ) → live s t ≡ true → eqb t 0 ≡ false → is_blocked (task s t).state ≡ false → is_used (N (task s t).coroutine.0) ≡ true → ExitReason h x s.log t → L s
+  pub exits_logged : (s : Store) (t : ℕ) → live s t ≡ true → eqb t 0 ≡ false → is_blocked (task s t).state ≡ false → is_used (N (task s t).coroutine.0) ≡ true → ExitReason h x s.log t → L s
       → L (add_log (remove_task s t) (exited t))
-  exits-logged s t lv z b u r k =
+  exits_logged s t lv z b u r k =
       record {
-        tracked = exits-tracked (lives h) (stays_blocked h) s t k.tracked;
+        tracked = exits_tracked (lives h) (stays_blocked h) s t k.tracked;
         spawns-are =
-            gone-spawned S C (spawns h) N s t _ (λ e. u) (exits-tracked (lives h) (stays_blocked h) s t k.tracked).sized (exited-spawns S s _ t (gone_log s t (exited t)))
+            gone-spawned S C (spawns h) N s t _ (λ e. u) (exits_tracked (lives h) (stays_blocked h) s t k.tracked).sized (exited-spawns S s _ t (gone_log s t (exited t)))
             (ap (λ y. y.next) (gone_header s t (exited t))) (λ o. gone_object s t (exited t) o) (λ v. gone_task s t (exited t) v) k.spawns-are;
         log-right = subst (LogRight h x) (sym (gone_log s t (exited t)))
-            (unfold LogRight in (record { spawned = z; live = lives-now s t lv k; unblocked = free-now s t lv b k; why = r }, k.log-right));
+            (unfold LogRight in (record { spawned = z; live = lives_now s t lv k; unblocked = free_now s t lv b k; why = r }, k.log-right));
       }
 
   -- a task is removed; if it was live, its coroutine is not new
-  pub goes-logged : (s : Store) (t : ℕ) → (live s t ≡ true → is_used (N (task s t).coroutine.0) ≡ true) → RemoveHonest h x → L s → L (add_log (remove_task s t) (removed t))
-  goes-logged s t u r k =
+  pub goes_logged : (s : Store) (t : ℕ) → (live s t ≡ true → is_used (N (task s t).coroutine.0) ≡ true) → RemoveHonest h x → L s → L (add_log (remove_task s t) (removed t))
+  goes_logged s t u r k =
       record {
-        tracked = (tracked-closed (lives h) (stays_blocked h)).goes s t k.tracked;
+        tracked = (tracked_closed (lives h) (stays_blocked h)).goes s t k.tracked;
         spawns-are =
-            gone-spawned S C (spawns h) N s t _ u ((tracked-closed (lives h) (stays_blocked h)).goes s t k.tracked).sized (removed-spawns S s _ t (gone_log s t (removed t)))
+            gone-spawned S C (spawns h) N s t _ u ((tracked_closed (lives h) (stays_blocked h)).goes s t k.tracked).sized (removed-spawns S s _ t (gone_log s t (removed t)))
             (ap (λ y. y.next) (gone_header s t (removed t))) (λ o. gone_object s t (removed t) o) (λ v. gone_task s t (removed t) v) k.spawns-are;
         log-right = subst (LogRight h x) (sym (gone_log s t (removed t))) (unfold LogRight in (r, k.log-right));
       }
 
-  pub logged-delivers : Delivers L (λ a. Unit {0})
-  logged-delivers =
+  pub logged_delivers : Delivers L (λ a. Unit {0})
+  logged_delivers =
       record {
-        sized = sized-logged;
-        row = λ s g w y l e go k. gather-logged s g w y l e k;
-        values-put = places-logged;
-        wakes = λ s t y l a b r n k. wakes-logged s t.0 y l b r n k;
+        sized = sized_logged;
+        row = λ s g w y l e go k. gather_logged s g w y l e k;
+        values-put = places_logged;
+        wakes = λ s t y l a b r n k. wakes_logged s t.0 y l b r n k;
         onward = λ s g y w e a k. tt;
       }
 
   -- an external settles
-  pub external-logged : (s : Store) (o : ℕ) (y : Rattle.asyncio.specs.declared.ExternalFutureState.ExternalFutureState) (c : Rattle.asyncio.specs.declared.CallId.CallId) → o < object_limit → N o ≡ other → L s → L (put_object s o (Object.ExternalFuture c y))
-  external-logged s o y c l e k = row-logged s o _ l (external_shape c y ∙ sym e) k
+  pub external_logged : (s : Store) (o : ℕ) (y : Rattle.asyncio.specs.declared.ExternalFutureState.ExternalFutureState) (c : Rattle.asyncio.specs.declared.CallId.CallId) → o < object_limit → N o ≡ other → L s → L (put_object s o (Object.ExternalFuture c y))
+  external_logged s o y c l e k = row_logged s o _ l (external_shape c y ∙ sym e) k
 
-  pub settles-logged : (s : Store) (o : ℕ) (p : PendingExternal) (y : Rattle.asyncio.specs.declared.ExternalFutureState.ExternalFutureState) → o < object_limit → as_pending (object s o) ≡ some p → L s → L (put_object s o (Object.ExternalFuture p.call y))
+  pub settles_logged : (s : Store) (o : ℕ) (p : PendingExternal) (y : Rattle.asyncio.specs.declared.ExternalFutureState.ExternalFutureState) → o < object_limit → as_pending (object s o) ≡ some p → L s → L (put_object s o (Object.ExternalFuture p.call y))
   unfolding shape
-  settles-logged s o p y l e k = external-logged s o y p.call l (sym (k.spawns-are.rows o) ∙ ap shape (pending-object (object s o) p e)) k
+  settles_logged s o p y l e k = external_logged s o y p.call l (sym (k.spawns-are.rows o) ∙ ap shape (pending-object (object s o) p e)) k
 
   -- ---- a first run that fails
 
@@ -263,9 +263,9 @@ module _ (h : List Entry) (x : Entry) (N : ℕ → Shape) where
         old : is_used (N c) ≡ true
         old = ap is_used (sym (k.spawns-are.rows c)) ∙ old_shape (object s c) n (ap is_co (k.spawns-are.rows c) ∙ y.coroutine)
 
-    pub reuse-logged : (s : Store) (t : ℕ) → t < task_limit → (task s t).state ≡ TaskState.Unstarted → new_function (object s (task s t).coroutine.0) ≡ none → L s → L (add_log (remove_task s t) (exited t))
-    reuse-logged s t l e n k =
-        let y = reuse s t l e n k in exits-logged s t (is-live-now s t l (ap is_live e) k) y.0 (ap is_blocked e) y.1 y.2 k
+    pub reuse_logged : (s : Store) (t : ℕ) → t < task_limit → (task s t).state ≡ TaskState.Unstarted → new_function (object s (task s t).coroutine.0) ≡ none → L s → L (add_log (remove_task s t) (exited t))
+    reuse_logged s t l e n k =
+        let y = reuse s t l e n k in exits_logged s t (is_live_now s t l (ap is_live e) k) y.0 (ap is_blocked e) y.1 y.2 k
 
-    pub logged-switching : Switching L (λ a. Unit {0})
-    logged-switching = record { queued = queue-logged; sent-to = λ s t l e n k. tt; exits = reuse-logged }
+    pub logged_switching : Switching L (λ a. Unit {0})
+    logged_switching = record { queued = queue_logged; sent-to = λ s t l e n k. tt; exits = reuse_logged }

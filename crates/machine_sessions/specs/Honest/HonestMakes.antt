@@ -113,28 +113,28 @@ module _ (s : Store) (z : Sized s) where
         let f : HeaderFits (header s) = header-fits s in
         header_put-header s _ z (record { made-fits = f.made-fits; used-fits = f.used-fits; calls-fit = omega arith; next_fits = f.next_fits; moment_fits = f.moment_fits })
 
-    pub calls-object : (o : ℕ) → object (set_calls s ((header s).calls + 1)) o ≡ object s o
+    pub calls_object : (o : ℕ) → object (set_calls s ((header s).calls + 1)) o ≡ object s o
     unfolding set_calls
-    calls-object o = object_put-header s _ o
+    calls_object o = object_put-header s _ o
 
-    pub call-adds : (a : ℕ) → Adds s (set_calls s ((header s).calls + 1)) a
-    call-adds a =
+    pub call_adds : (a : ℕ) → Adds s (set_calls s ((header s).calls + 1)) a
+    call_adds a =
         record {
           sized = sized-set_calls s _ z;
-          others = λ o ne. calls-object o;
+          others = λ o ne. calls_object o;
           same-tasks = λ t. unfold task set_calls put_header in refl;
           same_log = unfold set_calls put_header in refl;
           same_next = ap (λ (h : Header). h.next) more;
           same-moment = ap (λ (h : Header). h.moment) more;
         }
 
-    pub settled-adds : (v : Value) → (header s).made < object_limit → Adds s (make_settled s v) (header s).made
+    pub settled_adds : (v : Value) → (header s).made < object_limit → Adds s (make_settled s v) (header s).made
     unfolding make_settled
-    settled-adds v m =
+    settled_adds v m =
         adds_then s (set_calls s ((header s).calls + 1)) _ _ (header s).made (ap (λ (h : Header). h.made) more)
         (added (set_calls s ((header s).calls + 1)) _ 0 (sized-set_calls s _ z) (subst (λ (h : Header). h.made < object_limit) (sym more) m)
         (subst (λ (h : Header). h.used + 0 ≤ place_limit) (sym more) (omega (arith, (header-fits s).used-fits))))
-        calls-object (λ t. unfold task set_calls put_header in refl) (unfold set_calls put_header in refl) (ap (λ (h : Header). h.next) more) (ap (λ (h : Header). h.moment) more)
+        calls_object (λ t. unfold task set_calls put_header in refl) (unfold set_calls put_header in refl) (ap (λ (h : Header). h.next) more) (ap (λ (h : Header). h.moment) more)
 
     pub settled-shape : (v : Value) → (header s).made < object_limit → shape (object (make_settled s v) (header s).made) ≡ Shape.other
     unfolding make_settled
@@ -142,17 +142,17 @@ module _ (s : Store) (z : Sized s) where
         ap (λ (n : ℕ). shape (object (make_settled s v) n)) (sym (ap (λ (h : Header). h.made) more))
         ∙ (ap shape (added_row (set_calls s ((header s).calls + 1)) _ 0 (sized-set_calls s _ z) (subst (λ (h : Header). h.made < object_limit) (sym more) m)) ∙ external_shape (call_id (header s).calls) (ExternalFutureState.Resolved v))
 
-  pub coroutine-adds : (f : ℕ) → (header s).made < object_limit → Adds s (make_coroutine s f) (header s).made
+  pub coroutine_adds : (f : ℕ) → (header s).made < object_limit → Adds s (make_coroutine s f) (header s).made
   unfolding make_coroutine
-  coroutine-adds f m = added s _ 0 z m (omega (arith, (header-fits s).used-fits))
+  coroutine_adds f m = added s _ 0 z m (omega (arith, (header-fits s).used-fits))
 
   pub coroutine-shape : (f : ℕ) → f < u32_limit → (header s).made < object_limit → shape (object (make_coroutine s f) (header s).made) ≡ Shape.new f
   unfolding make_coroutine shape
   coroutine-shape f l m = ap shape (added_row s (Object.Coroutine f CoroutineState.New) 0 z m ∙ object_back (Object.Coroutine f CoroutineState.New) l)
 
-  pub pending-adds : (c : ℕ) (r : OptionValue) → (header s).made < object_limit → Adds s (make_pending s c r) (header s).made
+  pub pending_adds : (c : ℕ) (r : OptionValue) → (header s).made < object_limit → Adds s (make_pending s c r) (header s).made
   unfolding make_pending
-  pending-adds c r m = added s _ 0 z m (omega (arith, (header-fits s).used-fits))
+  pending_adds c r m = added s _ 0 z m (omega (arith, (header-fits s).used-fits))
 
   pub pending-shape : (c : ℕ) (r : OptionValue) → (header s).made < object_limit → shape (object (make_pending s c r) (header s).made) ≡ Shape.other
   unfolding make_pending
@@ -168,9 +168,9 @@ module _ (s : Store) (z : Sized s) where
     zv : Sized v
     zv = items-sized os s (header s).used z
 
-    pub gather-adds : Adds s (make_gather s os) (header s).made
+    pub gather_adds : Adds s (make_gather s os) (header s).made
     unfolding make_gather
-    gather-adds =
+    gather_adds =
         adds_then s v _ _ (header s).made (ap (λ (h : Header). h.made) hd)
         (added v _ (length os) zv (subst (λ (h : Header). h.made < object_limit) (sym hd) m) (subst (λ (h : Header). h.used + length os ≤ place_limit) (sym hd) l))
         (λ o. items-object os s (header s).used o) (items-tasks os s (header s).used) (items-log os s (header s).used) (ap (λ (h : Header). h.next) hd) (ap (λ (h : Header). h.moment) hd)
@@ -248,20 +248,20 @@ module _ (h : List Entry) (s : Store) (k : Held h s) (ag : Agrees h s) where
           unused = λ t l b. ap (λ (r : Task). is_live r.state) (e.same-tasks t) ∙ j.unused t l (subst (λ (m : ℕ). m ≤ t) e.same_next b);
           unborn = λ t b. j.unborn t (subst (λ (m : ℕ). m ≤ t) e.same_next b);
           main = ap (λ (r : Task). is_unstarted r.state) (e.same-tasks 0) ∙ j.main;
-          not-main = sp.for-it 0 ∙ j.not-main;
+          not-main = sp.for_it 0 ∙ j.not-main;
           tasks = λ t b l.
               let y : TaskFrom (spawned_for h) (coroutine_of h) N s.log (suc t) (task s (suc t)) = j.tasks t (subst (λ (m : ℕ). suc t < m) e.same_next b) (sym (ap (λ (r : Task). is_live r.state) (e.same-tasks (suc t))) ∙ l) in
               subst (TaskFrom (spawned_for h) (coroutine_of h) M u.log (suc t)) (sym (e.same-tasks (suc t)))
               (record {
-                origin = sp.for-it (suc t) ∙ y.origin;
+                origin = sp.for_it (suc t) ∙ y.origin;
                 fresh = y.fresh;
                 begun = λ q. ap is_used (stays _ y.coroutine) ∙ y.begun q;
                 coroutine = ap is_co (stays _ y.coroutine) ∙ y.coroutine;
               });
-          known = λ t c q. let y : is_co (N c) ≡ true = j.known t c (sym (sp.for-it t) ∙ q) in ap is_co (stays c y) ∙ y;
+          known = λ t c q. let y : is_co (N c) ≡ true = j.known t c (sym (sp.for_it t) ∙ q) in ap is_co (stays c y) ∙ y;
           first = λ t c f q y.
-              let z : is_co (N c) ≡ true = j.known t c (sym (sp.for-it t) ∙ q) in
-              live_like s u t e.same_next (ap (λ (r : Task). is_live r.state) (e.same-tasks t)) ∙ j.first t c f (sym (sp.for-it t) ∙ q) (sym (stays c z) ∙ y);
+              let z : is_co (N c) ≡ true = j.known t c (sym (sp.for_it t) ∙ q) in
+              live_like s u t e.same_next (ap (λ (r : Task). is_live r.state) (e.same-tasks t)) ∙ j.first t c f (sym (sp.for_it t) ∙ q) (sym (stays c z) ∙ y);
         }
       where
         j : Spawned (spawned_for h) (coroutine_of h) (spawns h) N s
@@ -271,8 +271,8 @@ module _ (h : List Entry) (s : Store) (k : Held h s) (ag : Agrees h s) where
         sp = same-spawns (spawned_for h) s u e.same_log
 
     -- an event that makes object a
-    pub makes-left : (x : Entry) → x.happened ≡ u.log → (tells x.answer).control ≡ none → (tells x.answer).makes ≡ some a → is_used (M a) ≡ false → ((f : ℕ) → M a ≡ Shape.new f → x.event ≡ Event.coroutine f) → Left h x u
-    makes-left x hp ct mk us nw =
+    pub makes_left : (x : Entry) → x.happened ≡ u.log → (tells x.answer).control ≡ none → (tells x.answer).makes ≡ some a → is_used (M a) ≡ false → ((f : ℕ) → M a ≡ Shape.new f → x.event ≡ Event.coroutine f) → Left h x u
+    makes_left x hp ct mk us nw =
         record {
           spawns-are = spawns-later h x u none M hp ct (spawned_as (spawned_for h) (spawned_for h) (coroutine_of h) (λ t. started_by none t (coroutine_of h t)) (spawns h) (spawns h) M M u (λ t. refl) (λ t. none-plain.begins t (coroutine_of h t)) refl (λ o. refl) made-spawns);
           origins = record { named-is = λ o. named-then o ∙ named_by o (ℕ_discrete o a); made_by = λ o f q. made_by o f q (ℕ_discrete o a) };
@@ -295,8 +295,8 @@ module _ (h : List Entry) (s : Store) (k : Held h s) (ag : Agrees h s) where
             subst (λ (m : Option Making). MakesCoroutine m f) (sym (making_there x h a o mk ne)) (makes_later x (making h o) f (k.origins.made_by o f (sym (there o ne) ∙ y)))
 
     -- an event that makes nothing
-    pub adds-left : (x : Entry) → Leaves x none u → ((o : ℕ) → object u o ≡ object s o) → Left h x u
-    adds-left x l same =
+    pub adds_left : (x : Entry) → Leaves x none u → ((o : ℕ) → object u o ≡ object s o) → Left h x u
+    adds_left x l same =
         record {
           spawns-are = spawns-later h x u none M l.happens l.controls (spawned_as (spawned_for h) (spawned_for h) (coroutine_of h) (λ t. started_by none t (coroutine_of h t)) (spawns h) (spawns h) M M u (λ t. refl) (λ t. none-plain.begins t (coroutine_of h t)) refl (λ o. refl) made-spawns);
           origins = record {

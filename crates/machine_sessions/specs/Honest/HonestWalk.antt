@@ -32,7 +32,7 @@ use Rattle.machine.specs.Scheduler.{Walk, reach_if, reach, remove_blocked, visit
 use Rattle.machine.specs.Delivery.{Delivery, nobody_woken, deliver_to_task, Filled, fill_from, resolve_left, resolve_awaited, resolve_child, fail_awaited, fail_gather}
 use Rattle.machine.specs.Delivery.{climb, awaited_count, send_value, climb_value, deliver_awaiter_success, send_error, climb_error, deliver_awaiter_failure}
 use Rattle.machine.specs.Delivery.{value_or, resolve_pending, fail_pending, settle_pending, settle_found, resolve_future, fail_future}
-use Rattle.machine.specs.Events.{start, value, raises, Switched, run, yield, new_function, resume-next, resume-after-task-exit, handle-task-failure, start-by, start-task, activate-state, activate_within, activate, Result, apply_result, apply_future_results}
+use Rattle.machine.specs.Events.{start, value, raises, Switched, run, yield, new_function, resume_next, resume_after_task_exit, handle_task_failure, start_by, start_task, activate_state, activate_within, activate, Result, apply_result, apply_future_results}
 use Rattle.rows.specs.Tables.{task_at, header_at}
 use Rattle.rows.specs.TableLaws.{header_at-fits}
 use Rattle.machine_laws.specs.Views.{Sized}
@@ -161,9 +161,9 @@ module _ (K : Store → Type 0) (A : Awaiter → Type 0) (kept : Delivers K A) w
   climbs-value (suc n) s a v f b k = sends-value (λ y c w. climb_value n y c w) (λ y c w. climbs-value n y c w) s a v f b k
 
   -- a value goes up
-  pub success-walk : (s : Store) (a : Awaiter) (v : Value) → AwaiterFits a → A a → K s → K (deliver_awaiter_success s a v).store
+  pub success_walk : (s : Store) (a : Awaiter) (v : Value) → AwaiterFits a → A a → K s → K (deliver_awaiter_success s a v).store
   unfolding deliver_awaiter_success
-  success-walk s a v f b k = sends-value (λ y c w. climb_value (awaited_count s) y c w) (λ y c w. climbs-value (awaited_count s) y c w) s a v f b k
+  success_walk s a v f b k = sends-value (λ y c w. climb_value (awaited_count s) y c w) (λ y c w. climbs-value (awaited_count s) y c w) s a v f b k
 
   sends-error : (go : Store → Awaiter → Error → Delivery) → ((s : Store) (a : Awaiter) (e : Error) → AwaiterFits a → A a → K s → K (go s a e).store)
       → (s : Store) (a : Awaiter) (e : Error) → AwaiterFits a → A a → K s → K (send_error go s a e).store
@@ -184,9 +184,9 @@ module _ (K : Store → Type 0) (A : Awaiter → Type 0) (kept : Delivers K A) w
   climbs-error (suc n) s a e f b k = sends-error (λ y c w. climb_error n y c w) (λ y c w. climbs-error n y c w) s a e f b k
 
   -- an error goes up
-  pub failure-walk : (s : Store) (a : Awaiter) (e : Error) → AwaiterFits a → A a → K s → K (deliver_awaiter_failure s a e).store
+  pub failure_walk : (s : Store) (a : Awaiter) (e : Error) → AwaiterFits a → A a → K s → K (deliver_awaiter_failure s a e).store
   unfolding deliver_awaiter_failure
-  failure-walk s a e f b k = sends-error (λ y c w. climb_error (awaited_count s) y c w) (λ y c w. climbs-error (awaited_count s) y c w) s a e f b k
+  failure_walk s a e f b k = sends-error (λ y c w. climb_error (awaited_count s) y c w) (λ y c w. climbs-error (awaited_count s) y c w) s a e f b k
 
 -- ---- a task that is not blocked stays as it is, and what is no new coroutine stays none
 
@@ -246,8 +246,8 @@ module _ (K : Store → Type 0) (A : Awaiter → Type 0) (kept : Delivers K A) (
       other : task (add_log (make_ready s v x) (reached v)) t ≡ task s t
       other = wakes-task s v x t ∙ task_put-other s v t _ apart
 
-  pub fixed-delivers : Delivers Both A
-  fixed-delivers =
+  pub fixed_delivers : Delivers Both A
+  fixed_delivers =
       record {
         sized = λ s k. kept.sized s k.0;
         row = λ s g w y l e go k. (kept.row s g w y l e go k.0, fixed-row s g w y l (kept.sized s k.0) k.1);
@@ -260,29 +260,29 @@ module _ (K : Store → Type 0) (A : Awaiter → Type 0) (kept : Delivers K A) (
 
 module _ (K : Store → Type 0) (A : Awaiter → Type 0) (kept : Delivers K A) (switch : Switching K A) where
   -- an error sets out from a task that is not blocked; the task is as it was when it exits
-  pub failure-fixed : (s : Store) (t : ℕ) (e : Error) → is_blocked (task s t).state ≡ false → new_function (object s (task s t).coroutine.0) ≡ none → A (task s t).awaiter → K s
+  pub failure_fixed : (s : Store) (t : ℕ) (e : Error) → is_blocked (task s t).state ≡ false → new_function (object s (task s t).coroutine.0) ≡ none → A (task s t).awaiter → K s
       → K (deliver_awaiter_failure s (task s t).awaiter e).store × Fixed t (task s t) (task s t).coroutine.0 (deliver_awaiter_failure s (task s t).awaiter e).store
-  failure-fixed s t e free old a k =
-      failure-walk (λ u. K u × Fixed t (task s t) (task s t).coroutine.0 u) A (fixed-delivers K A kept t (task s t) (task s t).coroutine.0 free)
+  failure_fixed s t e free old a k =
+      failure_walk (λ u. K u × Fixed t (task s t) (task s t).coroutine.0 u) A (fixed_delivers K A kept t (task s t) (task s t).coroutine.0 free)
       s (task s t).awaiter e (task-fits s t).awaiter_fits a (k, record { row = refl; old = old })
 
   module _ (go : Store → ℕ → Switched) (h : (s : Store) (t : ℕ) → t < task_limit → K s → Ends K (go s t)) where
-    next-ends : (s : Store) → K s → Ends K (resume-next go s)
-    unfolding resume-next
+    next-ends : (s : Store) → K s → Ends K (resume_next go s)
+    unfolding resume_next
     next-ends s k =
         pick_has (Ends K) (eqb s.queue.len 0) (waited s k refl) (h (put_queue s (pop_front s.queue)) (front_of s.queue).0 (front_of-fits s.queue) (switch.queued s _ k))
 
-    exit-ends : (d : Delivery) → WokenFits d → K d.store → Ends K (resume-after-task-exit go d)
-    unfolding resume-after-task-exit remove_from_ready_queue
+    exit-ends : (d : Delivery) → WokenFits d → K d.store → Ends K (resume_after_task_exit go d)
+    unfolding resume_after_task_exit remove_from_ready_queue
     exit-ends d m k = by d.woken refl
       where
-        by : (w : Option ℕ) → d.woken ≡ w → Ends K (elim w [ none ↦ resume-next go d.store | some t ↦ go (remove_from_ready_queue d.store t) t ])
+        by : (w : Option ℕ) → d.woken ≡ w → Ends K (elim w [ none ↦ resume_next go d.store | some t ↦ go (remove_from_ready_queue d.store t) t ])
         by none e = next-ends d.store k
         by (some t) e = h _ t (m.fits t e) (switch.queued d.store _ k)
 
     start-fails : (s : Store) (t : ℕ) → t < task_limit → (task s t).state ≡ TaskState.Unstarted → new_function (object s (task s t).coroutine.0) ≡ none → K s
-        → Ends K (handle-task-failure go s t Error.CoroutineReuse)
-    unfolding handle-task-failure
+        → Ends K (handle_task_failure go s t Error.CoroutineReuse)
+    unfolding handle_task_failure
     start-fails s t l e n k =
         exit-ends _ (record { fits = (failure_woken s (task s t).awaiter Error.CoroutineReuse (kept.sized s k) (task-fits s t).awaiter_fits).fits })
         (switch.exits d t l (ap (λ (y : Task). y.state) y.1.row ∙ e) (ap (λ (x : Task). new_function (object d x.coroutine.0)) y.1.row ∙ y.1.old) y.0)
@@ -291,18 +291,18 @@ module _ (K : Store → Type 0) (A : Awaiter → Type 0) (kept : Delivers K A) (
         d = (deliver_awaiter_failure s (task s t).awaiter Error.CoroutineReuse).store
 
         y : K d × Fixed t (task s t) (task s t).coroutine.0 d
-        y = failure-fixed s t Error.CoroutineReuse (ap is_blocked e) n (switch.sent-to s t l e n k) k
+        y = failure_fixed s t Error.CoroutineReuse (ap is_blocked e) n (switch.sent-to s t l e n k) k
 
-    start-ends : (s : Store) (t : ℕ) → t < task_limit → (task s t).state ≡ TaskState.Unstarted → K s → Ends K (start-task go s t)
-    unfolding start-task start-by
+    start-ends : (s : Store) (t : ℕ) → t < task_limit → (task s t).state ≡ TaskState.Unstarted → K s → Ends K (start_task go s t)
+    unfolding start_task start_by
     start-ends s t l r k = by (new_function (object s (task s t).coroutine.0)) refl
       where
-        by : (m : Option ℕ) → new_function (object s (task s t).coroutine.0) ≡ m → Ends K (start-by go s t (task s t).coroutine.0 m)
+        by : (m : Option ℕ) → new_function (object s (task s t).coroutine.0) ≡ m → Ends K (start_by go s t (task s t).coroutine.0 m)
         by none e = start-fails s t l r e k
         by (some f) e = started s t f l k r e refl
 
-    state-ends : (s : Store) (t : ℕ) (x : TaskState) → t < task_limit → (task s t).state ≡ x → K s → Ends K (activate-state go s t x)
-    unfolding activate-state
+    state-ends : (s : Store) (t : ℕ) (x : TaskState) → t < task_limit → (task s t).state ≡ x → K s → Ends K (activate_state go s t x)
+    unfolding activate_state
     state-ends s t TaskState.Absent l e k = waited s k refl
     state-ends s t TaskState.Unstarted l e k = start-ends s t l e k
     state-ends s t TaskState.Running l e k = waited s k refl
@@ -320,16 +320,16 @@ module _ (K : Store → Type 0) (A : Awaiter → Type 0) (kept : Delivers K A) (
   activate-walk s t l k = within-ends (live_count s) s t l k
 
   -- the next ready task, or the host
-  pub resume-walk : (s : Store) → K s → Ends K (resume-next activate s)
+  pub resume-walk : (s : Store) → K s → Ends K (resume_next activate s)
   resume-walk s k = next-ends activate activate-walk s k
 
   -- after an exit
-  pub leave-walk : (d : Delivery) → WokenFits d → K d.store → Ends K (resume-after-task-exit activate d)
-  leave-walk d m k = exit-ends activate activate-walk d m k
+  pub leave_walk : (d : Delivery) → WokenFits d → K d.store → Ends K (resume_after_task_exit activate d)
+  leave_walk d m k = exit-ends activate activate-walk d m k
 
   -- a task has gone, with a value for its awaiter
-  pub completion-walk : (left : Store) (a : Awaiter) (v : Value) → AwaiterFits a → A a → K left → Ends K (resume-after-task-exit activate (deliver_awaiter_success left a v))
-  completion-walk left a v f b k = leave-walk _ (success_woken left a v (kept.sized left k) f) (success-walk K A kept left a v f b k)
+  pub completion_walk : (left : Store) (a : Awaiter) (v : Value) → AwaiterFits a → A a → K left → Ends K (resume_after_task_exit activate (deliver_awaiter_success left a v))
+  completion_walk left a v f b k = leave_walk _ (success_woken left a v (kept.sized left k) f) (success_walk K A kept left a v f b k)
 
 found_low : (s : Store) (c o : ℕ) → pending_external s c ≡ some o → o < object_limit
 unfolding pending_external pending_external_in
@@ -358,11 +358,11 @@ module _ (K : Store → Type 0) (A : Awaiter → Type 0) (kept : Delivers K A) (
   resolve-future-walk : (s : Store) (c : ℕ) (v : Value) → K s → K (resolve_future s c v)
   unfolding resolve_future resolve_pending
   resolve-future-walk s c v k =
-      found-walk s c _ (λ o p l e. success-walk K A kept _ p.awaiter _ (awaiter-low s o p e) (any _) (settles s o p (ExternalFutureState.Resolved (value_or p.stored v)) l e k)) k
+      found-walk s c _ (λ o p l e. success_walk K A kept _ p.awaiter _ (awaiter-low s o p e) (any _) (settles s o p (ExternalFutureState.Resolved (value_or p.stored v)) l e k)) k
 
   fail-future-walk : (s : Store) (c : ℕ) (x : Error) → K s → K (fail_future s c x)
   unfolding fail_future fail_pending
-  fail-future-walk s c x k = found-walk s c _ (λ o p l e. failure-walk K A kept _ p.awaiter x (awaiter-low s o p e) (any _) (settles s o p (ExternalFutureState.Failed x) l e k)) k
+  fail-future-walk s c x k = found-walk s c _ (λ o p l e. failure_walk K A kept _ p.awaiter x (awaiter-low s o p e) (any _) (settles s o p (ExternalFutureState.Failed x) l e k)) k
 
   result-walk : (s : Store) (r : Result) → K s → K (apply_result s r)
   unfolding apply_result

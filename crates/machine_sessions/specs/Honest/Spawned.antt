@@ -131,11 +131,11 @@ pub record Spawned (S C : ℕ → Option ℕ) (n : ℕ) (N : ℕ → Shape) (u :
 
 -- the same tasks spawned
 pub record SameSpawns (S : ℕ → Option ℕ) (s u : Store) : Type 0 where
-  pub for-it : (t : ℕ) → spawned_by (S t) u.log t ≡ spawned_by (S t) s.log t
+  pub for_it : (t : ℕ) → spawned_by (S t) u.log t ≡ spawned_by (S t) s.log t
   pub counted : spawns_in u.log ≡ spawns_in s.log
 
 pub same-spawns : (S : ℕ → Option ℕ) (s u : Store) → u.log ≡ s.log → SameSpawns S s u
-same-spawns S s u e = record { for-it = λ t. ap (λ (l : List LogEntry). spawned_by (S t) l t) e; counted = ap spawns_in e }
+same-spawns S s u e = record { for_it = λ t. ap (λ (l : List LogEntry). spawned_by (S t) l t) e; counted = ap spawns_in e }
 
 spawned_first : (b : Option ℕ) (n c : ℕ) (l : List LogEntry) → spawned_by b (spawned n c ∷ l) n ≡ some c
 unfolding spawned_by
@@ -177,11 +177,11 @@ module _ (S C : ℕ → Option ℕ) (n : ℕ) (N : ℕ → Shape) where
       by false q = absurd (true≢false (sym e ∙ k.unused t l (ltb-false t (header s).next q)))
 
   from-like : (s u : Store) (t : ℕ) (r : Task) → SameSpawns S s u → TaskFrom S C N s.log t r → TaskFrom S C N u.log t r
-  from-like s u t r e y = record { origin = e.for-it t ∙ y.origin; fresh = y.fresh; begun = y.begun; coroutine = y.coroutine }
+  from-like s u t r e y = record { origin = e.for_it t ∙ y.origin; fresh = y.fresh; begun = y.begun; coroutine = y.coroutine }
 
   -- tasks and the next number as they were, and no task spawned
-  pub spawned-like : (s u : Store) → Sized u → SameSpawns S s u → (header u).next ≡ (header s).next → ((o : ℕ) → shape (object u o) ≡ N o) → ((t : ℕ) → task u t ≡ task s t) → K s → K u
-  spawned-like s u z e en er et k =
+  pub spawned_like : (s u : Store) → Sized u → SameSpawns S s u → (header u).next ≡ (header s).next → ((o : ℕ) → shape (object u o) ≡ N o) → ((t : ℕ) → task u t ≡ task s t) → K s → K u
+  spawned_like s u z e en er et k =
       record {
         sized = z;
         rows = er;
@@ -189,18 +189,18 @@ module _ (S C : ℕ → Option ℕ) (n : ℕ) (N : ℕ → Shape) where
         unused = λ t l b. ap (λ (r : Task). is_live r.state) (et t) ∙ k.unused t l (subst (λ (m : ℕ). m ≤ t) en b);
         unborn = λ t b. k.unborn t (subst (λ (m : ℕ). m ≤ t) en b);
         main = ap (λ (r : Task). is_unstarted r.state) (et 0) ∙ k.main;
-        not-main = e.for-it 0 ∙ k.not-main;
+        not-main = e.for_it 0 ∙ k.not-main;
         tasks = λ t b lv.
             subst (TaskFrom S C N u.log (suc t)) (sym (et (suc t)))
             (from-like s u (suc t) (task s (suc t)) e (k.tasks t (subst (λ (m : ℕ). suc t < m) en b) (sym (ap (λ (r : Task). is_live r.state) (et (suc t))) ∙ lv)));
-        known = λ t c q. k.known t c (sym (e.for-it t) ∙ q);
-        first = λ t c f q w. live_like s u t en (ap (λ (r : Task). is_live r.state) (et t)) ∙ k.first t c f (sym (e.for-it t) ∙ q) w;
+        known = λ t c q. k.known t c (sym (e.for_it t) ∙ q);
+        first = λ t c f q w. live_like s u t en (ap (λ (r : Task). is_live r.state) (et t)) ∙ k.first t c f (sym (e.for_it t) ∙ q) w;
       }
 
   -- an object's row in its shape
   pub row-spawned : (s : Store) (o : ℕ) (x : Object) → o < object_limit → shape (to_object (object_words x)) ≡ N o → K s → K (put_object s o x)
   row-spawned s o x l e k =
-      spawned-like s (put_object s o x) (sized-put_object s o x k.sized) (same-spawns S s _ (unfold put_object in refl)) (ap (λ (h : Header). h.next) (header_put-object s o x))
+      spawned_like s (put_object s o x) (sized-put_object s o x k.sized) (same-spawns S s _ (unfold put_object in refl)) (ap (λ (h : Header). h.next) (header_put-object s o x))
       (λ p. by p (ℕ_discrete p o)) (λ t. row-task s o x t) k
     where
       by : (p : ℕ) → Dec (p ≡ o) → shape (object (put_object s o x) p) ≡ N p
@@ -222,10 +222,10 @@ module _ (S C : ℕ → Option ℕ) (n : ℕ) (N : ℕ → Shape) where
         unused = λ v l b. unused-by v l (subst (λ (m : ℕ). m ≤ v) en b) (ℕ_discrete v t);
         unborn = λ v b. unborn-by v (subst (λ (m : ℕ). m ≤ v) en b);
         main = main-by (ℕ_discrete 0 t);
-        not-main = e.for-it 0 ∙ k.not-main;
+        not-main = e.for_it 0 ∙ k.not-main;
         tasks = λ v b l. tasks-by v (subst (λ (m : ℕ). suc v < m) en b) l (ℕ_discrete (suc v) t);
-        known = λ v c q. k.known v c (sym (e.for-it v) ∙ q);
-        first = λ v c f q w. same v ∙ k.first v c f (sym (e.for-it v) ∙ q) w;
+        known = λ v c q. k.known v c (sym (e.for_it v) ∙ q);
+        first = λ v c f q w. same v ∙ k.first v c f (sym (e.for_it v) ∙ q) w;
       }
     where
       r : Task
@@ -270,7 +270,7 @@ module _ (S C : ℕ → Option ℕ) (n : ℕ) (N : ℕ → Shape) where
           let x : TaskFrom S C N s.log (suc v) (task s (suc v)) = k.tasks v b (sym (same_live (suc v) (yes q)) ∙ l) in
           let c : (task u (suc v)).coroutine.0 ≡ (task s (suc v)).coroutine.0 = subst (λ (m : ℕ). (task u m).coroutine.0 ≡ (task s m).coroutine.0) (sym q) its in
           record {
-            origin = e.for-it (suc v) ∙ (x.origin ∙ ap (λ (m : ℕ). some m) (sym c));
+            origin = e.for_it (suc v) ∙ (x.origin ∙ ap (λ (m : ℕ). some m) (sym c));
             fresh = λ w. absurd (true≢false (sym w ∙ subst (λ (m : ℕ). is_unstarted (task u m).state ≡ false) (sym q) starts));
             begun = λ w. ap (λ (m : ℕ). is_used (N m)) c ∙ subst (λ (m : ℕ). is_used (N (task s m).coroutine.0) ≡ true) (sym q) (old v (sym q));
             coroutine = ap (λ (m : ℕ). is_co (N m)) c ∙ x.coroutine;
@@ -278,13 +278,13 @@ module _ (S C : ℕ → Option ℕ) (n : ℕ) (N : ℕ → Shape) where
       tasks-by v b l (no ne) =
           let x : TaskFrom S C N s.log (suc v) (task s (suc v)) = k.tasks v b (sym (same_live (suc v) (no ne)) ∙ l) in
           subst (TaskFrom S B N u.log (suc v)) (sym (others (suc v) ne))
-          (record { origin = e.for-it (suc v) ∙ x.origin; fresh = λ w. eb (suc v) ne ∙ x.fresh w; begun = x.begun; coroutine = x.coroutine })
+          (record { origin = e.for_it (suc v) ∙ x.origin; fresh = λ w. eb (suc v) ne ∙ x.fresh w; begun = x.begun; coroutine = x.coroutine })
 
   -- task t, live and started, in another state that is live and started
-  pub state-spawned : (s : Store) (t : ℕ) (y : TaskState) (u : Store) → t < task_limit → is_live (task s t).state ≡ true → is_unstarted (task s t).state ≡ false → is_live y ≡ true → is_unstarted y ≡ false
+  pub state_spawned : (s : Store) (t : ℕ) (y : TaskState) (u : Store) → t < task_limit → is_live (task s t).state ≡ true → is_unstarted (task s t).state ≡ false → is_live y ≡ true → is_unstarted y ≡ false
       → Sized u → SameSpawns S s u → (header u).next ≡ (header s).next → ((o : ℕ) → object u o ≡ object s o)
       → ((v : ℕ) → task u v ≡ task (put_task s t (restate (task s t) y)) v) → K s → K u
-  state-spawned s t y u low lv un ly uy z e en er et k = runs-spawned C s t y u low lv old ly uy (λ v ne. refl) z e en er et k
+  state_spawned s t y u low lv un ly uy z e en er et k = runs-spawned C s t y u low lv old ly uy (λ v ne. refl) z e en er et k
     where
       old : (m : ℕ) → t ≡ suc m → is_used (N (task s t).coroutine.0) ≡ true
       old m q =
@@ -303,10 +303,10 @@ module _ (S C : ℕ → Option ℕ) (n : ℕ) (N : ℕ → Shape) where
         unused = λ v l b. unused-by v l (subst (λ (m : ℕ). m ≤ v) en b) (ℕ_discrete v t);
         unborn = λ v b. k.unborn v (subst (λ (m : ℕ). m ≤ v) en b);
         main = main-by (ℕ_discrete 0 t);
-        not-main = e.for-it 0 ∙ k.not-main;
+        not-main = e.for_it 0 ∙ k.not-main;
         tasks = λ v b l. tasks-by v (subst (λ (m : ℕ). suc v < m) en b) l (ℕ_discrete (suc v) t);
-        known = λ v c q. k.known v c (sym (e.for-it v) ∙ q);
-        first = λ v c f q w. first_by v c f (sym (e.for-it v) ∙ q) w (ℕ_discrete v t);
+        known = λ v c q. k.known v c (sym (e.for_it v) ∙ q);
+        first = λ v c f q w. first_by v c f (sym (e.for_it v) ∙ q) w (ℕ_discrete v t);
       }
     where
       dead : t < task_limit → is_live (task u t).state ≡ false
@@ -417,10 +417,10 @@ module _ (S C : ℕ → Option ℕ) (n : ℕ) (N : ℕ → Shape) where
       first_by v d x q y (no ne) = live-other s u v m next-is refl ne (ap (λ (z : Task). is_live z.state) (others v ne)) ∙ k.first v d x (sym (later v ne) ∙ q) y
 
   -- coroutine c starts, or runs inline: it is new no more
-  pub use-spawned : (s : Store) (c f : ℕ) → c < object_limit → f < u32_limit → N c ≡ new f → K s
+  pub use_spawned : (s : Store) (c f : ℕ) → c < object_limit → f < u32_limit → N c ≡ new f → K s
       → Spawned S C n (λ o. shape (object (put_object s c (Object.Coroutine f CoroutineState.Running)) o)) (put_object s c (Object.Coroutine f CoroutineState.Running))
   unfolding put_object
-  use-spawned s c f l fits w k =
+  use_spawned s c f l fits w k =
       record {
         sized = sized-put_object s c x k.sized;
         rows = λ o. refl;

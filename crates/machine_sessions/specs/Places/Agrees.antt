@@ -20,7 +20,7 @@ use Rattle.machine.specs.Delivery.{value_or}
 use Rattle.machine.specs.Events.{Control, Result}
 use Rattle.machine.specs.Machine.{Event, Answer, Step}
 use Rattle.machine.specs.History.{Entry, Making, Says, says, nothing_said, said, tells, is_at, reply_in, first_reply, reply_error, later, making, runner_by, running, started_by, coroutine_of, running_coroutine, completed_value}
-use Rattle.machine_sessions.specs.Places.Told.{Frozen, unmade, co, pends, gave, broke, many, frozen, told, Holds, Told, told-like}
+use Rattle.machine_sessions.specs.Places.Told.{Frozen, unmade, co, pends, gave, broke, many, frozen, told, Holds, Told, told_like}
 use Rattle.machine_sessions.specs.Places.ToldEnds.{told_as, told_now, Left, ended-left}
 
 -- ---- how an object was made, and what has come of it
@@ -143,10 +143,10 @@ only_changes_agrees x h s u k r v m y =
     }
 
 -- nobody else has control, and no task has started
-pub commits_none-moved : (h : List Entry) (s u : Store) → Agrees h s → Told (λ o. frozen (object s o)) (header s).made (λ p. (place s p).item.0) (completed_value h) (coroutine_of h) u
+pub commits_none_moved : (h : List Entry) (s u : Store) → Agrees h s → Told (λ o. frozen (object s o)) (header s).made (λ p. (place s p).item.0) (completed_value h) (coroutine_of h) u
     → ((t : TaskId) → (header u).moment ≡ Moment.Running t → (header s).moment ≡ Moment.Running t) → Moved h s none u
 unfolding started_by runner_by
-commits_none-moved h s u k y m = record { told = y; runner = λ t e. k.runner t (m t e); main = k.main }
+commits_none_moved h s u k y m = record { told = y; runner = λ t e. k.runner t (m t e); main = k.main }
 
 -- a switch
 pub left-moved : (h : List Entry) (s u : Store) (c : Control) → Agrees h s → Left (λ o. frozen (object s o)) (header s).made (λ p. (place s p).item.0) (completed_value h) (coroutine_of h) u c → Moved h s (some c) u

@@ -28,7 +28,7 @@ use Rattle.asyncio.specs.States.{pick, is_live, is_unstarted}
 use Rattle.machine.specs.Store.{Store, view, task, object, place, header, put_object, put_task, add_log, exited, absent, put_queue}
 use Rattle.machine.specs.Scheduler.{remove_task, remove_from_ready_queue, is_task_of, cleanup}
 use Rattle.machine.specs.Delivery.{deliver_awaiter_success, value_or}
-use Rattle.machine.specs.Events.{Control, Result, Switched, activate, completed, resume-after-task-exit, handle_task_completion}
+use Rattle.machine.specs.Events.{Control, Result, Switched, activate, completed, resume_after_task_exit, handle_task_completion}
 use Rattle.machine.specs.Machine.{Event, Answer, Step, switched, end_main, task_completes}
 use Rattle.machine.specs.Sound.{value_known, is_task_of_at}
 use Rattle.machine.specs.Tests.{◌and◌}
@@ -39,13 +39,13 @@ use Rattle.machine_laws.specs.StoreLaws.{header-fits, header_put-object, object_
 use Rattle.machine_laws.specs.DeliveryLaws.{absurd_some}
 use Rattle.machine_laws.specs.MakingLaws.{value-fits}
 use Rattle.machine_theorems.specs.Soundness.Stores.{SoundStore}
-use Rattle.machine_theorems.specs.Soundness.Exits.{runner-low, runner-runs, runner-live}
+use Rattle.machine_theorems.specs.Soundness.Exits.{runner_low, runner-runs, runner-live}
 use Rattle.machine_theorems.specs.Soundness.Cycle.{spawned_of, coroutine-is}
 use Rattle.machine.specs.Sessions.{entry_of}
 use Rattle.machine_sessions.specs.Waits.{said-accepted}
 use Rattle.machine_sessions.specs.Waits.Calls.{read_back}
 use Rattle.machine_sessions.specs.Places.Told.{Frozen, unmade, co, pends, gave, broke, many, frozen, told, EndsTask, TaskTold, Holds, Told, Gives, gone-told}
-use Rattle.machine_sessions.specs.Places.Telling.{EndsOrReuse, completion-ends, gives-own, GivesTo}
+use Rattle.machine_sessions.specs.Places.Telling.{EndsOrReuse, completion_ends, gives_own, GivesTo}
 use Rattle.machine_sessions.specs.Places.ToldEnds.{told_same, told_as, told_now, Left, ended-left}
 use Rattle.machine_sessions.specs.Places.Agrees.{reply_row, Makes, MadeRight, Agrees, Moved, only_changes_agrees, made-later, none_made}
 use Rattle.machine_sessions.specs.Places.AgreesEvents.{StepAgrees, end_moved}
@@ -140,7 +140,7 @@ module _ (h : List Entry) (s : Store) (w : SoundStore s) (k : Agrees h s) where
     S = coroutine_of h
 
     low : suc t < (header s).next
-    low = runner-low s (suc t) w m
+    low = runner_low s (suc t) w m
 
     runs_now : r.state ≡ TaskState.Running
     runs_now = runner-runs s (suc t) w m
@@ -300,8 +300,8 @@ module _ (h : List Entry) (s : Store) (w : SoundStore s) (k : Agrees h s) where
     ended : EndsOrReuse Q (header s).made (λ p. (place s p).item.0) E S (handle_task_completion s (suc t) v)
     unfolding handle_task_completion left done told
     ended =
-        completion-ends Q (header s).made (λ p. (place s p).item.0) E S left r.awaiter v (task-fits s (suc t)).awaiter_fits
-        (gives-own Q (header s).made (λ p. (place s p).item.0) E S c r.awaiter v mine.own (record { tells = tells-now; fits = value-fits (header s).made (object s) v (header-fits s).made-fits kn }))
+        completion_ends Q (header s).made (λ p. (place s p).item.0) E S left r.awaiter v (task-fits s (suc t)).awaiter_fits
+        (gives_own Q (header s).made (λ p. (place s p).item.0) E S c r.awaiter v mine.own (record { tells = tells-now; fits = value-fits (header s).made (object s) v (header-fits s).made-fits kn }))
         left-told
       where
         tells-now : told E c (Q c) ≡ some v
@@ -346,7 +346,7 @@ module _ (h : List Entry) (s : Store) (w : SoundStore s) (k : Agrees h s) where
             made-later x (making h o) (header s).made (header u).made o (frozen (object s o)) (frozen (object u o)) (λ p. (place s p).item.0) (λ p. (place u p).item.0)
             (ap (λ (z : Says). z.results) said-it ∙ (unfold says in refl)) y.told.made (y.told.rows o ∙ ap frozen (other_row o ne)) y.told.items (k.makes o)
 
-  pub complete-agrees : (t : ℕ) (v : Value) → (header s).moment ≡ Moment.Running (task_id t) → T (value_known (header s).made (object s) v) → StepAgrees h (Event.complete v) (task_completes s t v)
+  pub complete_agrees : (t : ℕ) (v : Value) → (header s).moment ≡ Moment.Running (task_id t) → T (value_known (header s).made (object s) v) → StepAgrees h (Event.complete v) (task_completes s t v)
   unfolding task_completes
-  complete-agrees zero v m kn = main-completes v m
-  complete-agrees (suc t) v m kn = rw (ne_eqb (suc t) 0 (λ y. not-suc-le-zero {n = 0} (omega arith))) (completes-agrees t v m kn)
+  complete_agrees zero v m kn = main-completes v m
+  complete_agrees (suc t) v m kn = rw (ne_eqb (suc t) 0 (λ y. not-suc-le-zero {n = 0} (omega arith))) (completes-agrees t v m kn)

@@ -24,7 +24,7 @@ use Rattle.asyncio.specs.Kinds.{kind, is_completed}
 use Rattle.asyncio.specs.States.{pick, is_live, is_unstarted}
 use Rattle.machine.specs.Store.{Store, view, task, object, place, header, forget, set_calls, put_header}
 use Rattle.machine.specs.Scheduler.{live, cancel_task, cleanup, pending_call_ids}
-use Rattle.machine.specs.Events.{Control, runs, waits, Switched, Awaited, activate, resume-next, exec_get_awaitable, handle-task-failure}
+use Rattle.machine.specs.Events.{Control, runs, waits, Switched, Awaited, activate, resume_next, exec_get_awaitable, handle_task_failure}
 use Rattle.machine.specs.Machine.{Event, Answer, Step, switched, answer_await, end_main, task_completes, task_fails, runner, repeat_wait, resume_with_resolved_futures, refusals, refusal, accept, in_waiting, answer_cancel}
 use Rattle.machine.specs.Sound.{object_in_range, places_below}
 use Rattle.machine.specs.History.{Entry, Says, says, nothing_said, said, tells, done_only, is_at, started_by, runner_by, running_coroutine, coroutine_of, completed_value}
@@ -33,16 +33,16 @@ use Rattle.machine_laws.specs.Facts.{Nothing}
 use Rattle.machine_laws.specs.StoreLaws.{header-fits, header_put-header, object_put-header}
 use Rattle.machine_laws.specs.SoundLaws.{pass, running-rest, refusal-rest}
 use Rattle.machine_theorems.specs.Soundness.Stores.{idle, SoundDuring, SoundStore, during_of}
-use Rattle.machine_theorems.specs.Soundness.Exits.{runner-low, runner-runs, only_changes_of, cancel-during}
+use Rattle.machine_theorems.specs.Soundness.Exits.{runner_low, runner-runs, only_changes_of, cancel-during}
 use Rattle.machine_theorems.specs.Soundness.Preserved.{running, waiting, await-made}
 use Rattle.machine.specs.Sessions.{entry_of}
 use Rattle.machine_sessions.specs.Waits.{said-accepted, said-refused}
 use Rattle.machine_sessions.specs.Queue.Tracked.{live_low}
-use Rattle.machine_sessions.specs.Places.Told.{Frozen, co, frozen, Told, told-like, header-told}
-use Rattle.machine_sessions.specs.Places.Telling.{resume-ends, fail-ends, cancel-tells, cleanup-tells, cleanup-moment}
+use Rattle.machine_sessions.specs.Places.Told.{Frozen, co, frozen, Told, told_like, header-told}
+use Rattle.machine_sessions.specs.Places.Telling.{resume-ends, fail-ends, cancel-tells, cleanup-tells, cleanup_moment}
 use Rattle.machine_sessions.specs.Places.TellingAwait.{AwaitEnds, stayed, switches, await-ends}
 use Rattle.machine_sessions.specs.Places.ToldEnds.{told_as, told_now, Left, ended-left}
-use Rattle.machine_sessions.specs.Places.Agrees.{Agrees, Moved, only_changes_agrees, commits_none-moved, left-moved, no_value}
+use Rattle.machine_sessions.specs.Places.Agrees.{Agrees, Moved, only_changes_agrees, commits_none_moved, left-moved, no_value}
 
 abbrev pub StepAgrees : List Entry → Event → Step → Type 0
 StepAgrees h e x = Agrees (entry_of e x.answer x.store ∷ h) x.store
@@ -61,14 +61,14 @@ unfolding tells entry_of
 refused_agrees h s u e n k y m =
     let d : said (entry_of e (Answer.refused n) u) ≡ nothing_said = said-refused e (Answer.refused n) u (unfold tells in refl) in
     only_changes_agrees _ h s u k (ap (λ (z : Says). z.results) d ∙ (unfold nothing_said in refl)) (λ o. no_value _ h o (ap (λ (z : Says). z.completes) d ∙ (unfold nothing_said in refl))) refl
-    (commits_none-moved h s u k y (λ t e. ap (λ (z : Header). z.moment) (sym m) ∙ e))
+    (commits_none_moved h s u k y (λ t e. ap (λ (z : Header). z.moment) (sym m) ∙ e))
 
 -- the log is no row
 pub forget_agrees : (h : List Entry) (s : Store) → Agrees h s → Agrees h (forget s)
 unfolding forget object place header task
 forget_agrees h s k =
     record {
-      told = told-like _ _ _ _ _ s (forget s) (unfold forget in (record { tasks-sized = k.told.sized.tasks-sized; objects-sized = k.told.sized.objects-sized; places-sized = k.told.sized.places-sized })) refl refl (λ o. refl) (λ p. refl) (λ t. refl) k.told;
+      told = told_like _ _ _ _ _ s (forget s) (unfold forget in (record { tasks-sized = k.told.sized.tasks-sized; objects-sized = k.told.sized.objects-sized; places-sized = k.told.sized.places-sized })) refl refl (λ o. refl) (λ p. refl) (λ t. refl) k.told;
       done = k.done;
       runner = k.runner;
       main = k.main;
@@ -112,14 +112,14 @@ module _ (h : List Entry) (s : Store) (w : SoundStore s) (k : Agrees h s) where
   await-moved t o m l = by (exec_get_awaitable s t o) ends
     where
       low : t < task_limit
-      low = omega (arith, runner-low s t w m, (header-fits s).next_fits)
+      low = omega (arith, runner_low s t w m, (header-fits s).next_fits)
 
       row : (task s t).state ≡ TaskState.Running
       row = runner-runs s t w m
 
       ends : AwaitEnds q n i D S k.done t (exec_get_awaitable s t o)
       ends = await-ends q n i D S k.done t s (task s t) (ap is_live row) (ap is_unstarted row) low o (omega (arith, l, (header-fits s).made-fits)) (unmade-not o l)
-          (k.told, record { sized = w.memory.sized; low = runner-low s t w m; row = refl; moment = m })
+          (k.told, record { sized = w.memory.sized; low = runner_low s t w m; row = refl; moment = m })
 
       by : (x : Awaited) → AwaitEnds q n i D S k.done t x → Moved h s (some x.control) x.store
       by x (stayed a keeps y mo c) =
@@ -139,21 +139,21 @@ module _ (h : List Entry) (s : Store) (w : SoundStore s) (k : Agrees h s) where
   -- ---- main's end
 
   pub end_moved : Moved h s none (cleanup s)
-  end_moved = commits_none-moved h s (cleanup s) k (cleanup-tells q n i D S s k.told) (λ t e. not-ended t (header (cleanup s)).moment (cleanup-moment q n i D S s k.told) e)
+  end_moved = commits_none_moved h s (cleanup s) k (cleanup-tells q n i D S s k.told) (λ t e. not-ended t (header (cleanup s)).moment (cleanup_moment q n i D S s k.told) e)
 
   -- ---- a failure
 
-  pub fail-agrees : (e : Event) (t : ℕ) (x : Error) → (says e).results ≡ [] → (says e).completes ≡ none → StepAgrees h e (task_fails s t x)
+  pub fail_agrees : (e : Event) (t : ℕ) (x : Error) → (says e).results ≡ [] → (says e).completes ≡ none → StepAgrees h e (task_fails s t x)
   unfolding task_fails end_main switched tells done_only
-  fail-agrees e zero x r c = only_changes_step h s e _ k refl r c refl end_moved
-  fail-agrees e (suc t) x r c =
-      rw (ne_eqb (suc t) 0 (λ y. not-suc-le-zero {n = 0} (omega arith))) (only_changes_step h s e (switched (handle-task-failure activate s (suc t) x)) k refl r c refl (switched-moved _ (ended-left q n i D S _ (fail-ends q n i D S s (suc t) x k.told))))
+  fail_agrees e zero x r c = only_changes_step h s e _ k refl r c refl end_moved
+  fail_agrees e (suc t) x r c =
+      rw (ne_eqb (suc t) 0 (λ y. not-suc-le-zero {n = 0} (omega arith))) (only_changes_step h s e (switched (handle_task_failure activate s (suc t) x)) k refl r c refl (switched-moved _ (ended-left q n i D S _ (fail-ends q n i D S s (suc t) x k.told))))
 
   -- ---- resume
 
   repeat-moved : (cs : List ℕ) → (header s).moment ≡ Moment.Waiting → Moved h s (tells (repeat_wait cs)).control s
   unfolding repeat_wait tells done_only started_by
-  repeat-moved [] m = commits_none-moved h s s k k.told (λ t e. e)
+  repeat-moved [] m = commits_none_moved h s s k k.told (λ t e. e)
   repeat-moved (c ∷ cs) m = record { told = k.told; runner = λ t e. not-run t (header s).moment m e; main = k.main }
 
   repeat-tells : (cs : List ℕ) → ((tells (repeat_wait cs)).accepts ≡ true) × ((tells (repeat_wait cs)).makes ≡ none)
@@ -161,29 +161,29 @@ module _ (h : List Entry) (s : Store) (w : SoundStore s) (k : Agrees h s) where
   repeat-tells [] = (refl, refl)
   repeat-tells (c ∷ cs) = (refl, refl)
 
-  pub resume-agrees : (header s).moment ≡ Moment.Waiting → StepAgrees h Event.resume (resume_with_resolved_futures s)
+  pub resume_agrees : (header s).moment ≡ Moment.Waiting → StepAgrees h Event.resume (resume_with_resolved_futures s)
   unfolding resume_with_resolved_futures switched tells says nothing_said
-  resume-agrees m = by (eqb s.queue.len 0)
+  resume_agrees m = by (eqb s.queue.len 0)
     where
-      by : (b : Bool) → StepAgrees h Event.resume (pick b (record { store = s; answer = repeat_wait (pending_call_ids s) }) (switched (resume-next activate s)))
+      by : (b : Bool) → StepAgrees h Event.resume (pick b (record { store = s; answer = repeat_wait (pending_call_ids s) }) (switched (resume_next activate s)))
       by true = only_changes_step h s Event.resume (record { store = s; answer = repeat_wait (pending_call_ids s) }) k (repeat-tells (pending_call_ids s)).0 refl refl (repeat-tells (pending_call_ids s)).1 (repeat-moved (pending_call_ids s) m)
-      by false = only_changes_step h s Event.resume (switched (resume-next activate s)) k refl refl refl refl (switched-moved _ (ended-left q n i D S _ (resume-ends q n i D S s k.told)))
+      by false = only_changes_step h s Event.resume (switched (resume_next activate s)) k refl refl refl refl (switched-moved _ (ended-left q n i D S _ (resume-ends q n i D S s k.told)))
 
   -- ---- cancel
 
-  pub cancel-agrees : (t : ℕ) → (header s).moment ≡ Moment.Waiting → t < (header s).next → StepAgrees h (Event.cancel t) (accept s (Event.cancel t))
+  pub cancel_agrees : (t : ℕ) → (header s).moment ≡ Moment.Waiting → t < (header s).next → StepAgrees h (Event.cancel t) (accept s (Event.cancel t))
   unfolding accept says tells done_only
-  cancel-agrees t m l =
+  cancel_agrees t m l =
       only_changes_step h s (Event.cancel t) (answer_cancel s (cancel_task s t)) k refl refl refl refl
-      (commits_none-moved h s (cancel_task s t) k (cancel-tells q n i D S s t k.told) (λ v e. ap (λ (y : Header). y.moment) (sym (cancel-during _ _ s t l (only_changes_of s w m)).head) ∙ e))
+      (commits_none_moved h s (cancel_task s t) k (cancel-tells q n i D S s t k.told) (λ v e. ap (λ (y : Header). y.moment) (sym (cancel-during _ _ s t l (only_changes_of s w m)).head) ∙ e))
 
   -- ---- a call number is handed out
 
-  pub call-agrees : (header s).calls < call_limit → StepAgrees h Event.call (accept s Event.call)
+  pub call_agrees : (header s).calls < call_limit → StepAgrees h Event.call (accept s Event.call)
   unfolding accept says tells done_only nothing_said
-  call-agrees l =
+  call_agrees l =
       only_changes_step h s Event.call (record { store = set_calls s ((header s).calls + 1); answer = Answer.called (header s).calls }) k refl refl refl refl
-      (commits_none-moved h s (set_calls s ((header s).calls + 1)) k (unfold set_calls in (header-told q n i D S s _ fits refl refl k.told)) (λ v e. ap (λ (y : Header). y.moment) (sym head) ∙ e))
+      (commits_none_moved h s (set_calls s ((header s).calls + 1)) k (unfold set_calls in (header-told q n i D S s _ fits refl refl k.told)) (λ v e. ap (λ (y : Header). y.moment) (sym head) ∙ e))
     where
       fits : HeaderFits (record { made = (header s).made; used = (header s).used; calls = (header s).calls + 1; next = (header s).next; moment = (header s).moment })
       fits = let f : HeaderFits (header s) = header-fits s in record { made-fits = f.made-fits; used-fits = f.used-fits; calls-fit = omega arith; next_fits = f.next_fits; moment_fits = f.moment_fits }
@@ -193,6 +193,6 @@ module _ (h : List Entry) (s : Store) (w : SoundStore s) (k : Agrees h s) where
 
   -- ---- reads
 
-  pub read-agrees : (e : Event) (a : Answer) → (tells a).accepts ≡ true → (tells a).makes ≡ none → (tells a).control ≡ none → (says e).results ≡ [] → (says e).completes ≡ none → StepAgrees h e (record { store = s; answer = a })
-  read-agrees e a p m c r v =
-      only_changes_step h s e (record { store = s; answer = a }) k p r v m (subst (λ (z : Option Control). Moved h s z s) (sym c) (commits_none-moved h s s k k.told (λ t e. e)))
+  pub read_agrees : (e : Event) (a : Answer) → (tells a).accepts ≡ true → (tells a).makes ≡ none → (tells a).control ≡ none → (says e).results ≡ [] → (says e).completes ≡ none → StepAgrees h e (record { store = s; answer = a })
+  read_agrees e a p m c r v =
+      only_changes_step h s e (record { store = s; answer = a }) k p r v m (subst (λ (z : Option Control). Moved h s z s) (sym c) (commits_none_moved h s s k k.told (λ t e. e)))

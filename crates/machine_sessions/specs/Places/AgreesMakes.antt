@@ -202,9 +202,9 @@ module _ (h : List Entry) (s : Store) (w : SoundStore s) (k : Agrees h s) (e : E
       (made_kept x (making h o) (header s).made o (frozen (object s o)) (frozen (object u o)) (λ p. (place s p).item.0) (λ p. (place u p).item.0) (header s).used ne
       (ap (λ (y : Says). y.results) said-it ∙ r) (ap frozen (a.other o ne)) (λ p l. ap (λ (y : Place). y.item.0) (a.old p l)) (in-used o) (k.makes o)))
 
-  pub made-agrees : Agrees (x ∷ h) u
+  pub made_agrees : Agrees (x ∷ h) u
   unfolding coroutine_of running tells started_by runner_by entry_of
-  made-agrees =
+  made_agrees =
       record {
         told = told_now _ _ _ (completed_value h) (completed_value (x ∷ h)) (coroutine_of h) (coroutine_of (x ∷ h)) u values (λ t. refl) told-made;
         done = λ o v q. let d : frozen (object s o) ≡ co true = k.done o v (sym (values o) ∙ q) in ap frozen (a.other o (λ y. absurd-made (sym d ∙ (ap (λ (m : ℕ). frozen (object s m)) y ∙ was)))) ∙ d;
@@ -319,16 +319,16 @@ module _ (s : Store) (w : SoundStore s) where
       added-made s r 0 y z refl refl refl low (omega (arith, (header-fits s).used-fits)) (λ o. refl) (λ t. refl) (λ p l. refl) (λ p l. inl refl) back own
 
   module _ (h : List Entry) (k : Agrees h s) where
-    pub coroutine-agrees : (f : ℕ) → (header s).made < object_limit → StepAgrees h (Event.coroutine f) (accept s (Event.coroutine f))
+    pub coroutine_agrees : (f : ℕ) → (header s).made < object_limit → StepAgrees h (Event.coroutine f) (accept s (Event.coroutine f))
     unfolding accept make_coroutine
-    coroutine-agrees f low =
-        made-agrees h s w k (Event.coroutine f) _ (co false) (plain-made (Object.Coroutine f CoroutineState.New) (co false) low (unfold frozen in refl) (unfold awaiter_of in tt)) (unfold says nothing_said in refl) (unfold says nothing_said in refl)
+    coroutine_agrees f low =
+        made_agrees h s w k (Event.coroutine f) _ (co false) (plain-made (Object.Coroutine f CoroutineState.New) (co false) low (unfold frozen in refl) (unfold awaiter_of in tt)) (unfold says nothing_said in refl) (unfold says nothing_said in refl)
         (unfold Makes in (false, refl))
 
-    pub pending-agrees : (c : ℕ) (r : OptionValue) → (header s).made < object_limit → c < call_limit → T (option_known (header s).made (object s) r) → StepAgrees h (Event.pending c r) (accept s (Event.pending c r))
+    pub pending_agrees : (c : ℕ) (r : OptionValue) → (header s).made < object_limit → c < call_limit → T (option_known (header s).made (object s) r) → StepAgrees h (Event.pending c r) (accept s (Event.pending c r))
     unfolding accept make_pending
-    pending-agrees c r low cl kn =
-        made-agrees h s w k (Event.pending c r) _ (pends c r)
+    pending_agrees c r low cl kn =
+        made_agrees h s w k (Event.pending c r) _ (pends c r)
         (plain-made (Object.ExternalFuture (call_id c) (ExternalFutureState.Pending Awaiter.Nobody r)) (pends c r) low
         (ap frozen (object_back (Object.ExternalFuture (call_id c) (ExternalFutureState.Pending Awaiter.Nobody r)) (omega (arith, cl), (tt, option_fits (header s).made (object s) r (header-fits s).made-fits kn))) ∙ is-pends c r) (unfold awaiter_of in tt))
         (unfold says in refl) (unfold says in refl) (unfold Makes first_reply reply_row in refl)
@@ -336,10 +336,10 @@ module _ (s : Store) (w : SoundStore s) where
         is-pends : (c : ℕ) (r : OptionValue) → frozen (Object.ExternalFuture (call_id c) (ExternalFutureState.Pending Awaiter.Nobody r)) ≡ pends c r
         is-pends c r = unfold frozen in refl
 
-    pub settled-agrees : (v : Value) → (header s).made < object_limit → (header s).calls < call_limit → T (value_known (header s).made (object s) v) → StepAgrees h (Event.settled v) (accept s (Event.settled v))
+    pub settled_agrees : (v : Value) → (header s).made < object_limit → (header s).calls < call_limit → T (value_known (header s).made (object s) v) → StepAgrees h (Event.settled v) (accept s (Event.settled v))
     unfolding accept make_settled
-    settled-agrees v low cl kn =
-        made-agrees h s w k (Event.settled v) _ (gave v)
+    settled_agrees v low cl kn =
+        made_agrees h s w k (Event.settled v) _ (gave v)
         (added-made s1 y 0 (gave v) (sized-set_calls s _ z) (ap (λ (h : Header). h.made) head) (ap (λ (h : Header). h.next) head) (ap (λ (h : Header). h.moment) head) low
         (subst (λ (h : Header). h.used + 0 ≤ place_limit) (sym head) (omega (arith, (header-fits s).used-fits))) rows (λ t. unfold task set_calls put_header in refl) (λ p l. places p) (λ p l. inl (places p))
         (ap frozen (object_back y (omega (arith, cl), value-fits (header s).made (object s) v (header-fits s).made-fits kn)) ∙ is-gave (call_id (header s).calls)) (unfold awaiter_of in tt))
@@ -366,10 +366,10 @@ module _ (s : Store) (w : SoundStore s) where
             unfold set_calls in (header_put-header s _ z (record { made-fits = f.made-fits; used-fits = f.used-fits; calls-fit = omega arith; next_fits = f.next_fits; moment_fits = f.moment_fits }))
 
     -- the items of a gather
-    pub gather-agrees : (os : List ℕ) → (header s).made < object_limit → (header s).used + length os ≤ place_limit → length os ≤ item_limit → AllBelow (header s).made os → StepAgrees h (Event.gather os) (accept s (Event.gather os))
+    pub gather_agrees : (os : List ℕ) → (header s).made < object_limit → (header s).used + length os ≤ place_limit → length os ≤ item_limit → AllBelow (header s).made os → StepAgrees h (Event.gather os) (accept s (Event.gather os))
     unfolding accept make_gather
-    gather-agrees os low room few made =
-        made-agrees h s w k (Event.gather os) _ (many (header s).used (length os))
+    gather_agrees os low room few made =
+        made_agrees h s w k (Event.gather os) _ (many (header s).used (length os))
         (added-made s1 y (length os) (many (header s).used (length os)) (items-sized os s (header s).used z) (ap (λ (h : Header). h.made) head) (ap (λ (h : Header). h.next) head) (ap (λ (h : Header). h.moment) head) low
         (subst (λ (h : Header). h.used + length os ≤ place_limit) (sym head) room) (λ o. items-objects os s (header s).used o) (λ t. items-tasks os s (header s).used t) (λ p l. items-before os s (header s).used p l)
         (λ p l. items-new os s (header s).used p (header s).made z room (header-fits s).made-fits made)

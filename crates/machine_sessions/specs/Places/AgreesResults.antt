@@ -44,14 +44,14 @@ use Rattle.machine_laws.specs.StoreLaws.{header-fits, header_put-object, object_
 use Rattle.machine_laws.specs.DeliveryLaws.{absurd_some}
 use Rattle.machine_laws.specs.MakingLaws.{value-fits}
 use Rattle.machine_theorems.specs.Soundness.Stores.{SoundDuring, SoundStore, during_of}
-use Rattle.machine_theorems.specs.Soundness.Results.{resolve-delivering, MayApply, AllApply, host_fits, result_keeps, results-keep, ordered-keep}
+use Rattle.machine_theorems.specs.Soundness.Results.{resolve_delivering, MayApply, AllApply, host_fits, result_keeps, results-keep, ordered-keep}
 use Rattle.machine_laws.specs.DeliveryLaws.{pending-object}
 use Rattle.machine.specs.Sessions.{entry_of}
 use Rattle.machine_sessions.specs.Waits.{said-accepted}
 use Rattle.machine_sessions.specs.Waits.Calls.{pending_call, read_back}
 use Rattle.machine_sessions.specs.Waits.CallEvents.{is_call-at, none_first, call-pending, pending_has, found-call}
-use Rattle.machine_sessions.specs.Places.Told.{Frozen, unmade, co, pends, gave, broke, many, frozen, told, queue-told, EndsTask, own_back, TaskTold, Holds, Told, Gives}
-use Rattle.machine_sessions.specs.Places.Telling.{success-tells, failure-tells, gives-own, GivesTo}
+use Rattle.machine_sessions.specs.Places.Told.{Frozen, unmade, co, pends, gave, broke, many, frozen, told, queue_told, EndsTask, own_back, TaskTold, Holds, Told, Gives}
+use Rattle.machine_sessions.specs.Places.Telling.{success_tells, failure_tells, gives_own, GivesTo}
 use Rattle.machine_sessions.specs.Places.ToldEnds.{told_as, told_now}
 use Rattle.machine_sessions.specs.Places.Agrees.{items_like, reply_row, Makes, MadeRight, Agrees, reply_then, none_made, no_value}
 use Rattle.machine_sessions.specs.Places.AgreesEvents.{StepAgrees}
@@ -273,7 +273,7 @@ module _ (n : ℕ) (i : ℕ → ℕ) (D : ℕ → Option Value) (S : ℕ → Opt
         found x _ e2 (λ o p l e ec alone.
         let v : Value = value_or p.stored (to_value x.tag x.number) in
         let y : Object = Object.ExternalFuture p.call (ExternalFutureState.Resolved v) in
-        let i0 = resolve-delivering s h (to_value x.tag x.number) kn o p l e in
+        let i0 = resolve_delivering s h (to_value x.tag x.number) kn o p l e in
         let vf : ValueFits v = value-fits _ _ _ i0.during.kept.but.fits.made-fits i0.known in
         let bk : frozen (to_object (object_words y)) ≡ gave v = ap frozen (object_back y ((call_fits o p e).0, vf)) ∙ frozen-gave p.call v in
         let k1 = settled s k o p (object-low o l) e y (gave v) bk (free-resolved p.call v) in
@@ -281,7 +281,7 @@ module _ (n : ℕ) (i : ℕ → ℕ) (D : ℕ → Option Value) (S : ℕ → Opt
         let nw : frozen (object (put_object s o y) o) ≡ gave v = now s k o p (object-low o l) e y (gave v) bk (free-resolved p.call v) in
         let af : AwaiterFits p.awaiter = awaiter-low s k o p (object-low o l) e y (gave v) bk (free-resolved p.call v) in
         delivered s k o p (object-low o l) e y (gave v) bk (free-resolved p.call v) x _ ec e2 (reply-gave p.call.0 p.stored x e0) alone
-        (success-tells _ n i D S (put_object s o y) p.awaiter v af (gives-own _ n i D S o p.awaiter v own0 (record { tells = gave-told o _ v nw; fits = vf })) k1))
+        (success_tells _ n i D S (put_object s o y) p.awaiter v af (gives_own _ n i D S o p.awaiter v own0 (record { tells = gave-told o _ v nw; fits = vf })) k1))
       where
         frozen-gave : (c : CallId) (v : Value) → frozen (Object.ExternalFuture c (ExternalFutureState.Resolved v)) ≡ gave v
         frozen-gave c v = unfold frozen in refl
@@ -305,7 +305,7 @@ module _ (n : ℕ) (i : ℕ → ℕ) (D : ℕ → Option Value) (S : ℕ → Opt
         let y : Object = Object.ExternalFuture p.call (ExternalFutureState.Failed z) in
         let bk : frozen (to_object (object_words y)) ≡ broke z = ap frozen (object_back y ((call_fits o p e).0, f)) ∙ frozen-broke p.call z in
         delivered s k o p (object-low o l) e y (broke z) bk (free-failed p.call z) x _ ec e2 (reply-broke p.call.0 p.stored x e0 ∙ ap broke ez) alone
-        (failure-tells _ n i D S (put_object s o y) p.awaiter z (awaiter-low s k o p (object-low o l) e y (broke z) bk (free-failed p.call z)) (settled s k o p (object-low o l) e y (broke z) bk (free-failed p.call z))))
+        (failure_tells _ n i D S (put_object s o y) p.awaiter z (awaiter-low s k o p (object-low o l) e y (broke z) bk (free-failed p.call z)) (settled s k o p (object-low o l) e y (broke z) bk (free-failed p.call z))))
       where
         frozen-broke : (c : CallId) (v : Error) → frozen (Object.ExternalFuture c (ExternalFutureState.Failed v)) ≡ broke v
         frozen-broke c v = unfold frozen in refl
@@ -334,10 +334,10 @@ module _ (n : ℕ) (i : ℕ → ℕ) (D : ℕ → Option Value) (S : ℕ → Opt
         by false e false f false g true i = failed x Error.NotFound (ap (λ (b : Bool). pick b (to_error 0 x.number) (pick (eqb x.kind 3) Error.NotFound Error.ModuleFile)) f ∙ ap (λ (b : Bool). pick b Error.NotFound Error.ModuleFile) i) e g tt
         by false e false f false g false i = failed x Error.ModuleFile (ap (λ (b : Bool). pick b (to_error 0 x.number) (pick (eqb x.kind 3) Error.NotFound Error.ModuleFile)) f ∙ ap (λ (b : Bool). pick b Error.NotFound Error.ModuleFile) i) e g tt
 
-  pub results-tell : {r : ℕ → Bool} {G : ℕ → Type 0} {hd : Header} (xs : List Result) (s : Store) → AllApply hd.made G xs → SoundDuring Nothing r G hd s → is_ended hd.moment ≡ false → K s
+  pub results_tell : {r : ℕ → Bool} {G : ℕ → Type 0} {hd : Header} (xs : List Result) (s : Store) → AllApply hd.made G xs → SoundDuring Nothing r G hd s → is_ended hd.moment ≡ false → K s
       → Answered xs (λ j. frozen (object s j)) (apply_future_results s xs)
   unfolding apply_future_results AllApply
-  results-tell [] s a h on k = record { told = k; rows = λ j l. sym (none_said (frozen (object s j))); kept = λ j m. refl }
+  results_tell [] s a h on k = record { told = k; rows = λ j l. sym (none_said (frozen (object s j))); kept = λ j m. refl }
     where
       none_said : (y : Frozen) → answer_row [] y ≡ y
       none_said unmade = unfold answer_row in refl
@@ -346,9 +346,9 @@ module _ (n : ℕ) (i : ℕ → ℕ) (D : ℕ → Option Value) (S : ℕ → Opt
       none_said (gave v) = unfold answer_row in refl
       none_said (broke e) = unfold answer_row in refl
       none_said (many f m) = unfold answer_row in refl
-  results-tell (x ∷ xs) s a h on k =
+  results_tell (x ∷ xs) s a h on k =
       let y : Answered (x ∷ []) (λ j. frozen (object s j)) (apply_result s x) = result-tells s h on k x a.0 in
-      let z : Answered xs (λ j. frozen (object (apply_result s x) j)) (apply_future_results (apply_result s x) xs) = results-tell xs (apply_result s x) a.1 (result_keeps s x a.0 h) on y.told in
+      let z : Answered xs (λ j. frozen (object (apply_result s x) j)) (apply_future_results (apply_result s x) xs) = results_tell xs (apply_result s x) a.1 (result_keeps s x a.0 h) on y.told in
       record {
         told = z.told;
         rows = λ j l. z.rows j l ∙ (ap (answer_row xs) (y.rows j l) ∙ answer-then x xs (frozen (object s j)));
@@ -358,7 +358,7 @@ module _ (n : ℕ) (i : ℕ → ℕ) (D : ℕ → Option Value) (S : ℕ → Opt
 -- whom the results woke in task order
 answered-ordered : (n : ℕ) (i : ℕ → ℕ) (D : ℕ → Option Value) (S : ℕ → Option ℕ) (xs : List Result) (q : ℕ → Frozen) (s u : Store) → Answered n i D S xs q u → Answered n i D S xs q (wake_in_order s u)
 unfolding wake_in_order object put_queue
-answered-ordered n i D S xs q s u y = record { told = queue-told _ n i D S u _ y.told; rows = y.rows; kept = y.kept }
+answered-ordered n i D S xs q s u y = record { told = queue_told _ n i D S u _ y.told; rows = y.rows; kept = y.kept }
 
 -- ---- the event
 
@@ -417,7 +417,7 @@ results_agree h s w k rs apply on =
     y : Answered (header s).made (λ p. (place s p).item.0) (completed_value h) (coroutine_of h) rs (λ j. frozen (object s j)) u
     y =
         answered-ordered (header s).made (λ p. (place s p).item.0) (completed_value h) (coroutine_of h) rs (λ j. frozen (object s j)) s b
-        (results-tell (header s).made (λ p. (place s p).item.0) (completed_value h) (coroutine_of h) rs s apply (during_of s w) on k.told)
+        (results_tell (header s).made (λ p. (place s p).item.0) (completed_value h) (coroutine_of h) rs s apply (during_of s w) on k.told)
 
     head : header u ≡ header s
     head = (ordered-keep s b (results-keep rs s apply (during_of s w))).head

@@ -42,19 +42,19 @@ use Rattle.machine_laws.specs.MachineLaws.{accepted-step, refused-step}
 use Rattle.machine_laws.specs.SoundLaws.{pass, running-rest, refusal-rest, refusal-forget, has_number, not_full}
 use Rattle.machine_laws.specs.TestLaws.{or_left, or_right}
 use Rattle.machine_theorems.specs.Soundness.Stores.{SoundStore}
-use Rattle.machine_theorems.specs.Soundness.Preserved.{waiting, await-made, complete-known, results-apply}
+use Rattle.machine_theorems.specs.Soundness.Preserved.{waiting, await-made, complete-known, results_apply}
 use Rattle.machine.specs.Sessions.{InRange}
-use Rattle.machine_theorems.specs.Soundness.Sessions.{forget-sound-store, step-sound-store, fresh-sound_store}
+use Rattle.machine_theorems.specs.Soundness.Sessions.{forget-sound_store, step-sound_store, fresh_sound_store}
 use Rattle.machine.specs.Sessions.{Sent, lent_any, entry_of, Session, begun, send, send_all, session}
 use Rattle.machine.specs.Sessions.{AllSentInRange}
 use Rattle.machine_sessions.specs.Queue.Tracked.{live_low}
 use Rattle.machine_sessions.specs.Queue.Following.{Sends, stepped, short, sends, Following, send_following, session_follows}
-use Rattle.machine_sessions.specs.Places.Told.{Frozen, co, frozen, EndsTask, Holds, Told, told-like}
+use Rattle.machine_sessions.specs.Places.Told.{Frozen, co, frozen, EndsTask, Holds, Told, told_like}
 use Rattle.machine_sessions.specs.Places.Agrees.{MadeRight, Agrees}
-use Rattle.machine_sessions.specs.Places.AgreesEvents.{StepAgrees, only_changes_step, refused_agrees, forget_agrees, await-moved, fail-agrees, resume-agrees, cancel-agrees, call-agrees, read-agrees}
-use Rattle.machine_sessions.specs.Places.AgreesComplete.{complete-agrees}
+use Rattle.machine_sessions.specs.Places.AgreesEvents.{StepAgrees, only_changes_step, refused_agrees, forget_agrees, await-moved, fail_agrees, resume_agrees, cancel_agrees, call_agrees, read_agrees}
+use Rattle.machine_sessions.specs.Places.AgreesComplete.{complete_agrees}
 use Rattle.machine_sessions.specs.Places.AgreesResults.{results_agree}
-use Rattle.machine_sessions.specs.Places.AgreesMakes.{coroutine-agrees, pending-agrees, settled-agrees, gather-agrees}
+use Rattle.machine_sessions.specs.Places.AgreesMakes.{coroutine_agrees, pending_agrees, settled_agrees, gather_agrees}
 
 -- ---- each event
 
@@ -68,50 +68,50 @@ module _ (h : List Entry) (s : Store) (w : SoundStore s) (k : Agrees h s) where
   all_made [] e = tt
   all_made (o ∷ os) e = (leb-false (header s).made o (or_left (leb (header s).made o) _ e), all_made os (or_right (leb (header s).made o) (any_of (unmade s) os) e))
 
-  pub accept-agrees : (e : Event) → refusal s e ≡ 0 → StepAgrees h e (accept s e)
+  pub accept_agrees : (e : Event) → refusal s e ≡ 0 → StepAgrees h e (accept s e)
   unfolding refusals in_both
-  accept-agrees (Event.coroutine f) r = coroutine-agrees s w h k f (not_full s (pass 6 (full s) [] (running-rest s _ (refusal-rest s (Event.coroutine f) r))).0)
-  accept-agrees Event.call r = call-agrees h s w k (has_number s (pass 7 (no_number s) [] (running-rest s _ (refusal-rest s Event.call r))).0)
-  accept-agrees (Event.pending c x) r =
+  accept_agrees (Event.coroutine f) r = coroutine_agrees s w h k f (not_full s (pass 6 (full s) [] (running-rest s _ (refusal-rest s (Event.coroutine f) r))).0)
+  accept_agrees Event.call r = call_agrees h s w k (has_number s (pass 7 (no_number s) [] (running-rest s _ (refusal-rest s Event.call r))).0)
+  accept_agrees (Event.pending c x) r =
       let q = running-rest s _ (refusal-rest s (Event.pending c x) r) in
       let five = pass 4 (leb (header s).calls c || not (option_known (header s).made (object s) x)) _ q in
       let low : c < (header s).calls = leb-false (header s).calls c (or_left (leb (header s).calls c) _ five.0) in
-      pending-agrees s w h k c x (not_full s (pass 6 (full s) [] (pass 5 _ _ five.1).1).0) (omega (arith, low, (header-fits s).calls-fit))
+      pending_agrees s w h k c x (not_full s (pass 6 (full s) [] (pass 5 _ _ five.1).1).0) (omega (arith, low, (header-fits s).calls-fit))
       (not-not (option_known (header s).made (object s) x) (or_right (leb (header s).calls c) (not (option_known (header s).made (object s) x)) five.0))
-  accept-agrees (Event.settled v) r =
+  accept_agrees (Event.settled v) r =
       let five = pass 4 (not (value_known (header s).made (object s) v)) _ (running-rest s _ (refusal-rest s (Event.settled v) r)) in
       let seven = pass 6 (full s) _ five.1 in
-      settled-agrees s w h k v (not_full s seven.0) (has_number s (pass 7 (no_number s) [] seven.1).0) (not-not (value_known (header s).made (object s) v) five.0)
-  accept-agrees (Event.gather os) r =
+      settled_agrees s w h k v (not_full s seven.0) (has_number s (pass 7 (no_number s) [] seven.1).0) (not-not (value_known (header s).made (object s) v) five.0)
+  accept_agrees (Event.gather os) r =
       let five = pass 4 (any_of (unmade s) os) _ (running-rest s _ (refusal-rest s (Event.gather os) r)) in
       let q = (pass 6 (full s || ltb item_limit (length os) || ltb place_limit ((header s).used + length os)) [] five.1).0 in
       let q1 = or_left (full s || ltb item_limit (length os)) (ltb place_limit ((header s).used + length os)) q in
-      gather-agrees s w h k os (not_full s (or_left (full s) (ltb item_limit (length os)) q1))
+      gather_agrees s w h k os (not_full s (or_left (full s) (ltb item_limit (length os)) q1))
       (ltb-false place_limit ((header s).used + length os) (or_right (full s || ltb item_limit (length os)) (ltb place_limit ((header s).used + length os)) q))
       (ltb-false item_limit (length os) (or_right (full s) (ltb item_limit (length os)) q1)) (all_made os five.0)
-  accept-agrees (Event.await o) r =
+  accept_agrees (Event.await o) r =
       let q = refusal-rest s (Event.await o) r in
       unfold accept answer_await in
       (only_changes_step h s (Event.await o) (answer_await (exec_get_awaitable s (runner (header s).moment) o)) k (unfold tells answer_await in refl) (unfold says nothing_said in refl) (unfold says nothing_said in refl) (unfold tells answer_await in refl)
       (unfold tells answer_await in (await-moved h s w k (runner (header s).moment) o (Rattle.machine_theorems.specs.Soundness.Preserved.running s w _ q) (await-made s w o q))))
-  accept-agrees (Event.complete v) r =
+  accept_agrees (Event.complete v) r =
       let q = refusal-rest s (Event.complete v) r in
-      unfold accept in (complete-agrees h s w k (runner (header s).moment) v (Rattle.machine_theorems.specs.Soundness.Preserved.running s w _ q) (complete-known s w v q))
-  accept-agrees (Event.fail n) r = unfold accept in (fail-agrees h s w k (Event.fail n) (runner (header s).moment) (Error.Script n) (unfold says nothing_said in refl) (unfold says nothing_said in refl))
-  accept-agrees (Event.results rs) r =
-      let q = refusal-rest s (Event.results rs) r in results_agree h s w k rs (results-apply s w rs q) (pass 2 (is_ended (header s).moment) _ q).0
-  accept-agrees Event.resume r = unfold accept in (resume-agrees h s w k (waiting s w [] (refusal-rest s Event.resume r)).0)
-  accept-agrees (Event.cancel t) r =
+      unfold accept in (complete_agrees h s w k (runner (header s).moment) v (Rattle.machine_theorems.specs.Soundness.Preserved.running s w _ q) (complete-known s w v q))
+  accept_agrees (Event.fail n) r = unfold accept in (fail_agrees h s w k (Event.fail n) (runner (header s).moment) (Error.Script n) (unfold says nothing_said in refl) (unfold says nothing_said in refl))
+  accept_agrees (Event.results rs) r =
+      let q = refusal-rest s (Event.results rs) r in results_agree h s w k rs (results_apply s w rs q) (pass 2 (is_ended (header s).moment) _ q).0
+  accept_agrees Event.resume r = unfold accept in (resume_agrees h s w k (waiting s w [] (refusal-rest s Event.resume r)).0)
+  accept_agrees (Event.cancel t) r =
       let q = waiting s w _ (refusal-rest s (Event.cancel t) r) in
-      cancel-agrees h s w k t q.0 (live_low s t (lives (live s t) (pass 4 (not (live s t)) _ q.1).0)).0
+      cancel_agrees h s w k t q.0 (live_low s t (lives (live s t) (pass 4 (not (live s t)) _ q.1).0)).0
     where
       lives : (b : Bool) → not b ≡ false → b ≡ true
       lives true e = refl
       lives false e = absurd (true≢false e)
-  accept-agrees (Event.show o) r =
-      unfold accept in (read-agrees h s w k (Event.show o) _ (unfold tells done_only in refl) (unfold tells done_only in refl) (unfold tells done_only in refl) (unfold says nothing_said in refl) (unfold says nothing_said in refl))
-  accept-agrees Event.eager r =
-      unfold accept in (read-agrees h s w k Event.eager _ (unfold tells done_only in refl) (unfold tells done_only in refl) (unfold tells done_only in refl) (unfold says nothing_said in refl) (unfold says nothing_said in refl))
+  accept_agrees (Event.show o) r =
+      unfold accept in (read_agrees h s w k (Event.show o) _ (unfold tells done_only in refl) (unfold tells done_only in refl) (unfold tells done_only in refl) (unfold says nothing_said in refl) (unfold says nothing_said in refl))
+  accept_agrees Event.eager r =
+      unfold accept in (read_agrees h s w k Event.eager _ (unfold tells done_only in refl) (unfold tells done_only in refl) (unfold tells done_only in refl) (unfold says nothing_said in refl) (unfold says nothing_said in refl))
 
 -- ---- sessions
 
@@ -123,7 +123,7 @@ pub step_agrees : (h : List Entry) (s : Store) (e : Event) → SoundStore s → 
 step_agrees h s e w k = by (ℕ_discrete (refusal s e) 0)
   where
     by : Dec (refusal s e ≡ 0) → StepAgrees h e (step s e)
-    by (yes r) = subst (StepAgrees h e) (sym (accepted-step s e r)) (accept-agrees h (forget s) (forget-sound-store s w) (forget_agrees h s k) e (refusal-forget s e ∙ r))
+    by (yes r) = subst (StepAgrees h e) (sym (accepted-step s e r)) (accept_agrees h (forget s) (forget-sound_store s w) (forget_agrees h s k) e (refusal-forget s e ∙ r))
     by (no ne) = subst (StepAgrees h e) (sym (refused-step s e (refusal s e) refl ne)) (refused_agrees h (forget s) (forget s) e (refusal s e) (forget_agrees h s k) (forget_agrees h s k).told refl)
 
 pub send_agrees : (x : Session) (e : Sent) → InRange e.event → Following x → Agrees x.history x.store → Agrees (send x e).history (send x e).store
@@ -188,7 +188,7 @@ unfolding completed_value coroutine_of running making
 fresh_agrees =
     record {
       told = record {
-        sized = fresh-sound_store.memory.sized;
+        sized = fresh_sound_store.memory.sized;
         made = refl;
         begun = omega (arith, fresh-head.1);
         rows = λ o. refl;

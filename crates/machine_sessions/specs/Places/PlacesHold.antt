@@ -55,20 +55,20 @@ module _ (s u : Store) (same : (p : ℕ) → (place u p).result ≡ (place s p).
   places-like f m j zero = refl
   places-like f m j (suc c) = ap₂ (λ (x : Option Value) (y : List (Option Value)). x ∷ y) (ap (slot_value (bit m j)) (same (f + j))) (places-like f m (j + 1) c)
 
-  pub shown-like : (x : Object) → shown u x ≡ shown s x
+  pub shown_like : (x : Object) → shown u x ≡ shown s x
   unfolding shown
-  shown-like Object.Unmade = refl
-  shown-like (Object.Coroutine f x) = refl
-  shown-like (Object.ExternalFuture c (ExternalFutureState.Pending a r)) = refl
-  shown-like (Object.ExternalFuture c (ExternalFutureState.Resolved v)) = refl
-  shown-like (Object.ExternalFuture c (ExternalFutureState.Failed e)) = refl
-  shown-like (Object.GatherFuture f n GatherState.Pending) = refl
-  shown-like (Object.GatherFuture f n (GatherState.Awaited a m)) = ap Shown.a_gather_awaited (places-like f m 0 n)
-  shown-like (Object.GatherFuture f n GatherState.Completed) = ap Shown.a_gather_completed (places-like f 0 0 n)
-  shown-like (Object.GatherFuture f n (GatherState.Failed e)) = refl
+  shown_like Object.Unmade = refl
+  shown_like (Object.Coroutine f x) = refl
+  shown_like (Object.ExternalFuture c (ExternalFutureState.Pending a r)) = refl
+  shown_like (Object.ExternalFuture c (ExternalFutureState.Resolved v)) = refl
+  shown_like (Object.ExternalFuture c (ExternalFutureState.Failed e)) = refl
+  shown_like (Object.GatherFuture f n GatherState.Pending) = refl
+  shown_like (Object.GatherFuture f n (GatherState.Awaited a m)) = ap Shown.a_gather_awaited (places-like f m 0 n)
+  shown_like (Object.GatherFuture f n GatherState.Completed) = ap Shown.a_gather_completed (places-like f 0 0 n)
+  shown_like (Object.GatherFuture f n (GatherState.Failed e)) = refl
 
 shown-forget : (s : Store) (x : Object) → shown (forget s) x ≡ shown s x
-shown-forget s x = shown-like s (forget s) (λ p. unfold place forget in refl) x
+shown-forget s x = shown_like s (forget s) (λ p. unfold place forget in refl) x
 
 accept-shows : (s : Store) (o : ℕ) → (accept (forget s) (Event.show o)).answer ≡ Answer.shows (shown s (object s o))
 unfolding accept
@@ -364,9 +364,9 @@ module _ (h : List Entry) (s : Store) (w : SoundStore s) (k : Agrees h s) where
       by (no ne) (some v) q go = go (omega (arith, lo, ne))
 
   -- a closed place of a gather holds what its item's row gives
-  pub item-low : (g f n : ℕ) (x : GatherState) → g < (header s).made → object s g ≡ Object.GatherFuture f n x → (a : ℕ) → a < n → (place s (f + a)).item.0 < (header s).made
+  pub item_low : (g f n : ℕ) (x : GatherState) → g < (header s).made → object s g ≡ Object.GatherFuture f n x → (a : ℕ) → a < n → (place s (f + a)).item.0 < (header s).made
   unfolding view items_below
-  item-low g f n x l e a b =
+  item_low g f n x l e a b =
       let y : T (items_below (place s) g (Object.GatherFuture f n x)) = subst (λ (z : Object). T (items_below (place s) g z)) e (w.facts.but.items g l) in
       omega (arith, ltb→lt (place s (f + a)).item.0 g (below n _ y a b), l)
 
@@ -432,12 +432,12 @@ module _ (h : List Entry) (s : Store) (w : SoundStore s) (k : Agrees h s) where
 
   -- ---- the claim of one gather
 
-  abbrev pub gives-now : ℕ → Option Value
-  gives-now o = row_gives D o (object s o)
+  abbrev pub gives_now : ℕ → Option Value
+  gives_now o = row_gives D o (object s o)
 
   -- open places name what has delivered nothing
   abbrev pub OpenNone : ℕ → AwaitedGather → Type 0
-  OpenNone g v = (a : ℕ) → a < v.count → bit v.open-places a ≡ true → gives-now (place s (v.first + a)).item.0 ≡ none
+  OpenNone g v = (a : ℕ) → a < v.count → bit v.open-places a ≡ true → gives_now (place s (v.first + a)).item.0 ≡ none
 
   slot-filled : (b : Bool) (x : OptionValue) (v : Value) → b ≡ false → x ≡ OptionValue.Some v → slot_value b x ≡ some v
   unfolding slot_value
@@ -462,12 +462,12 @@ module _ (h : List Entry) (s : Store) (w : SoundStore s) (k : Agrees h s) where
       step f a = omega arith
 
   shown-right : (g f n m : ℕ) (x : GatherState) → g < (header s).made → object s g ≡ Object.GatherFuture f n x
-      → ((a : ℕ) → a < n → slot_value (bit m a) (place s (f + a)).result ≡ gives-now (place s (f + a)).item.0) → show_places s f m 0 n ≡ map (delivered h s) (items h g)
+      → ((a : ℕ) → a < n → slot_value (bit m a) (place s (f + a)).result ≡ gives_now (place s (f + a)).item.0) → show_places s f m 0 n ≡ map (delivered h s) (items h g)
   shown-right g f n m x l e each =
       let it = gather-items g f n l (ap frozen e ∙ frozen-many f n x) in
       ap (show_places s f m 0) it.0
-      ∙ (list_right gives-now f m (items h g) 0 (subst (λ (p : ℕ). ItemsAt (λ x. (place s x).item.0) p (items h g)) (sym (plus f)) it.1) (λ a b c. each a (omega (arith, c, it.0)))
-      ∙ sym (map_same (delivered h s) gives-now f (items h g) (λ a b. delivered-row (place s (f + a)).item.0 (item-low g f n x l e a (omega (arith, b, it.0)))) it.1))
+      ∙ (list_right gives_now f m (items h g) 0 (subst (λ (p : ℕ). ItemsAt (λ x. (place s x).item.0) p (items h g)) (sym (plus f)) it.1) (λ a b c. each a (omega (arith, c, it.0)))
+      ∙ sym (map_same (delivered h s) gives_now f (items h g) (λ a b. delivered-row (place s (f + a)).item.0 (item_low g f n x l e a (omega (arith, b, it.0)))) it.1))
     where
       frozen-many : (f n : ℕ) (x : GatherState) → frozen (Object.GatherFuture f n x) ≡ many f n
       frozen-many f n x = unfold frozen in refl
@@ -476,10 +476,10 @@ module _ (h : List Entry) (s : Store) (w : SoundStore s) (k : Agrees h s) where
       plus f = omega arith
 
   -- the places that are not open are filled
-  closed-filled : (g f n m : ℕ) (x : GatherState) → g < (header s).made → object s g ≡ Object.GatherFuture f n x → T (rest_filled (place s) f n m) → (a : ℕ) → a < n → bit m a ≡ false
-      → (v : Value) × ((place s (f + a)).result ≡ OptionValue.Some v) × (gives-now (place s (f + a)).item.0 ≡ some v)
+  closed_filled : (g f n m : ℕ) (x : GatherState) → g < (header s).made → object s g ≡ Object.GatherFuture f n x → T (rest_filled (place s) f n m) → (a : ℕ) → a < n → bit m a ≡ false
+      → (v : Value) × ((place s (f + a)).result ≡ OptionValue.Some v) × (gives_now (place s (f + a)).item.0 ≡ some v)
   unfolding view rest_filled
-  closed-filled g f n m x l e t a b c =
+  closed_filled g f n m x l e t a b c =
       filled-right (f + a) (place-used w.facts.but g f n x l e a b) (or-false (bit m a) (is_filled (place s (f + a)).result) c (below n (λ k. bit m k || is_filled (place s (f + k)).result) t a b))
     where
       or-false : (p r : Bool) → p ≡ false → T (p || r) → T r
@@ -502,13 +502,13 @@ module _ (h : List Entry) (s : Store) (w : SoundStore s) (k : Agrees h s) where
           open_up : T (object_filled (place s) (Object.GatherFuture f n GatherState.Completed)) → T (rest_filled (place s) f n 0)
           open_up z = unfold object_filled gather_filled in z
 
-      closed : (a : ℕ) → a < n → (v : Value) × ((place s (f + a)).result ≡ OptionValue.Some v) × (gives-now (place s (f + a)).item.0 ≡ some v)
-      closed a b = closed-filled g f n 0 GatherState.Completed l e full a b (none-set a)
+      closed : (a : ℕ) → a < n → (v : Value) × ((place s (f + a)).result ≡ OptionValue.Some v) × (gives_now (place s (f + a)).item.0 ≡ some v)
+      closed a b = closed_filled g f n 0 GatherState.Completed l e full a b (none-set a)
 
   -- a closed place of an awaited gather has what its item has delivered
   awaited-closed : (g : ℕ) (v : AwaitedGather) → g < (header s).made → as_awaited (object s g) ≡ some v → (a : ℕ) → a < v.count → bit v.open-places a ≡ false
-      → (x : Value) × ((place s (v.first + a)).result ≡ OptionValue.Some x) × (gives-now (place s (v.first + a)).item.0 ≡ some x)
-  awaited-closed g v l e a b c = closed-filled g v.first v.count v.open-places (GatherState.Awaited v.awaiter v.open-places) l row full a b c
+      → (x : Value) × ((place s (v.first + a)).result ≡ OptionValue.Some x) × (gives_now (place s (v.first + a)).item.0 ≡ some x)
+  awaited-closed g v l e a b c = closed_filled g v.first v.count v.open-places (GatherState.Awaited v.awaiter v.open-places) l row full a b c
     where
       row : object s g ≡ Object.GatherFuture v.first v.count (GatherState.Awaited v.awaiter v.open-places)
       row = awaited-object (object s g) v e
@@ -533,7 +533,7 @@ module _ (h : List Entry) (s : Store) (w : SoundStore s) (k : Agrees h s) where
       row : object s g ≡ Object.GatherFuture v.first v.count (GatherState.Awaited v.awaiter v.open-places)
       row = awaited-object (object s g) v e
 
-      each : (a : ℕ) → a < v.count → (b : Bool) → bit v.open-places a ≡ b → slot_value (bit v.open-places a) (place s (v.first + a)).result ≡ gives-now (place s (v.first + a)).item.0
+      each : (a : ℕ) → a < v.count → (b : Bool) → bit v.open-places a ≡ b → slot_value (bit v.open-places a) (place s (v.first + a)).result ≡ gives_now (place s (v.first + a)).item.0
       each a b true c = slot_open (bit v.open-places a) (place s (v.first + a)).result c ∙ sym (none-there a b c)
       each a b false c =
           let y = awaited-closed g v l e a b c in
@@ -611,11 +611,11 @@ module _ (h : List Entry) (s : Store) (w : SoundStore s) (k : Agrees h s) where
   -- ---- items that have come to nothing, or to a value
 
   -- what has come to nothing gives nothing
-  pub nothing-gives : (o : ℕ) → row_outcome C o (object s o) ≡ none → gives-now o ≡ none
+  pub nothing-gives : (o : ℕ) → row_outcome C o (object s o) ≡ none → gives_now o ≡ none
   nothing-gives o e = sym (row-value C D o (object s o) (coroutine-value o)) ∙ (ap value_of e ∙ (unfold value_of in refl))
 
   -- what gives a value has not raised
-  given-no-error : (o : ℕ) (x : Value) → gives-now o ≡ some x → error_of (row_outcome C o (object s o)) ≡ none
+  given-no-error : (o : ℕ) (x : Value) → gives_now o ≡ some x → error_of (row_outcome C o (object s o)) ≡ none
   unfolding value_of error_of
   given-no-error o x e = by (row_outcome C o (object s o)) (row-value C D o (object s o) (coroutine-value o) ∙ e)
     where
@@ -625,23 +625,23 @@ module _ (h : List Entry) (s : Store) (w : SoundStore s) (k : Agrees h s) where
       by (some (raised v)) q = absurd_some q
 
   -- No item of an awaited gather has raised, if the items of its open places have come to nothing.
-  pub items-no-error : (g : ℕ) (v : AwaitedGather) → g < (header s).made → as_awaited (object s g) ≡ some v
+  pub items_no_error : (g : ℕ) (v : AwaitedGather) → g < (header s).made → as_awaited (object s g) ≡ some v
       → ((a : ℕ) → a < v.count → bit v.open-places a ≡ true → row_outcome C (place s (v.first + a)).item.0 (object s (place s (v.first + a)).item.0) ≡ none)
       → (a : ℕ) → a < v.count → error_of (outcome h (look s) (place s (v.first + a)).item.0) ≡ none
-  items-no-error g v l e f a b =
-      ap error_of (outcome-row (place s (v.first + a)).item.0 (item-low g v.first v.count (GatherState.Awaited v.awaiter v.open-places) l (awaited-object (object s g) v e) a b)) ∙ by (bit v.open-places a) refl
+  items_no_error g v l e f a b =
+      ap error_of (outcome-row (place s (v.first + a)).item.0 (item_low g v.first v.count (GatherState.Awaited v.awaiter v.open-places) l (awaited-object (object s g) v e) a b)) ∙ by (bit v.open-places a) refl
     where
       by : (x : Bool) → bit v.open-places a ≡ x → error_of (row_outcome C (place s (v.first + a)).item.0 (object s (place s (v.first + a)).item.0)) ≡ none
       by true c = ap error_of (f a b c) ∙ (unfold error_of in refl)
       by false c = let y = awaited-closed g v l e a b c in given-no-error _ y.0 y.2
 
   -- An item that has come to nothing stands in an open place.
-  pub nothing-open : (g : ℕ) (v : AwaitedGather) → g < (header s).made → as_awaited (object s g) ≡ some v → (a : ℕ) → a < v.count → outcome h (look s) (place s (v.first + a)).item.0 ≡ none
+  pub nothing_open : (g : ℕ) (v : AwaitedGather) → g < (header s).made → as_awaited (object s g) ≡ some v → (a : ℕ) → a < v.count → outcome h (look s) (place s (v.first + a)).item.0 ≡ none
       → bit v.open-places a ≡ true
-  nothing-open g v l e a b q = by (bit v.open-places a) refl
+  nothing_open g v l e a b q = by (bit v.open-places a) refl
     where
       by : (x : Bool) → bit v.open-places a ≡ x → x ≡ true
       by true c = refl
       by false c =
-          let low = item-low g v.first v.count (GatherState.Awaited v.awaiter v.open-places) l (awaited-object (object s g) v e) a b in
+          let low = item_low g v.first v.count (GatherState.Awaited v.awaiter v.open-places) l (awaited-object (object s g) v e) a b in
           absurd_some (sym (nothing-gives _ (sym (outcome-row _ low) ∙ q)) ∙ (awaited-closed g v l e a b c).2)

@@ -36,15 +36,15 @@ use Rattle.machine.specs.Delivery.{climb, awaited_count, send_value, climb_value
 use Rattle.machine.specs.Commit.{Poll, ready, raised, pending, Polled, gives, await_pending, await_external, Item, polled, nested, polled_spawn, item_coroutine, item_gather, item_object, open_from, item}
 use Rattle.machine.specs.Commit.{open_place, fill_place, Stop, at_end, at_nested, at_error, put_polled, put_item, step_item, step_items, Frame, step_gather_commit}
 use Rattle.machine.specs.Commit.{with_state, set_gather, open_gather_commit, settle_as, settle_gather_commit, resume_in, resume_as, resume_after_child, unwind, Committed, turn, commit_loop, commit_gather_tree}
-use Rattle.machine.specs.Events.{How, start, value, raises, inline, Switched, Awaited, run, yield, new_function, resume-next, resume-after-task-exit, handle-task-failure}
-use Rattle.machine.specs.Events.{start-by, start-task, activate-state, activate_within, activate, stays, go_on, await_coroutine, await_external_future, await_gather, await_object, exec_get_awaitable}
+use Rattle.machine.specs.Events.{How, start, value, raises, inline, Switched, Awaited, run, yield, new_function, resume_next, resume_after_task_exit, handle_task_failure}
+use Rattle.machine.specs.Events.{start_by, start_task, activate_state, activate_within, activate, stays, go_on, await_coroutine, await_external_future, await_gather, await_object, exec_get_awaitable}
 use Rattle.machine_laws.specs.Views.{Sized}
 use Rattle.machine_laws.specs.StoreLaws.{task-fits, object-fits, place-fits, header-fits, object_put-other, object_put-header}
 use Rattle.machine_laws.specs.DeliveryLaws.{absurd_some, awaited-object, awaited-fits, length-fill_from, resolve_sent, fail_sent}
 use Rattle.machine_laws.specs.WokenLaws.{WokenFits, success_woken, failure_woken}
 use Rattle.machine_laws.specs.Walk.{Turns, same, takes, starts, turns}
 use Rattle.machine_sessions.specs.Stall.Standing.{moment_head}
-use Rattle.machine_sessions.specs.Places.Told.{Frozen, unmade, co, pends, gave, broke, many, frozen, told, first_place, EndsTask, TaskTold, Holds, Told, Gives, row_told, turns-told, value-told, fills-told, queue-told, add-log-told, moved_told, gone-told, ends-told, state-told, wakes-told, spawns-told}
+use Rattle.machine_sessions.specs.Places.Told.{Frozen, unmade, co, pends, gave, broke, many, frozen, told, first_place, EndsTask, TaskTold, Holds, Told, Gives, row_told, turns-told, value-told, fills_told, queue_told, add_log-told, moved_told, gone-told, ends-told, state_told, wakes-told, spawns-told}
 
 -- ---- rows
 
@@ -121,10 +121,10 @@ module _ (q : ℕ → Frozen) (n : ℕ) (i : ℕ → ℕ) (D : ℕ → Option Va
   GivesTo (Awaiter.GatherSlot g x) v = Gives q D x.0 v
 
   -- by the source itself
-  pub gives-own : (o : ℕ) (a : Awaiter) (v : Value) → EndsTask o a → Gives q D o v → GivesTo a v
-  gives-own o Awaiter.Nobody v w g = tt
-  gives-own o (Awaiter.Task t) v w g = tt
-  gives-own o (Awaiter.GatherSlot h x) v w g = subst (λ (m : ℕ). Gives q D m v) (sym w) g
+  pub gives_own : (o : ℕ) (a : Awaiter) (v : Value) → EndsTask o a → Gives q D o v → GivesTo a v
+  gives_own o Awaiter.Nobody v w g = tt
+  gives_own o (Awaiter.Task t) v w g = tt
+  gives_own o (Awaiter.GatherSlot h x) v w g = subst (λ (m : ℕ). Gives q D m v) (sym w) g
 
   pub many-gives : (s : Store) (g f c : ℕ) (x : GatherState) → g < object_limit → object s g ≡ Object.GatherFuture f c x → K s → Gives q D g (Value.List (heap_id g))
   unfolding frozen told
@@ -155,7 +155,7 @@ module _ (q : ℕ → Frozen) (n : ℕ) (i : ℕ → ℕ) (D : ℕ → Option Va
           m = put_places s f.places
 
           k1 : K m
-          k1 = fills-told q n i D S s w.open-places w.first x w.count v (awaited-fits s g w e).0.within gv k
+          k1 = fills_told q n i D S s w.open-places w.first x w.count v (awaited-fits s g w e).0.within gv k
 
           e1 : as_awaited (object m g) ≡ some w
           e1 = unfold object put_places in e
@@ -191,7 +191,7 @@ module _ (q : ℕ → Frozen) (n : ℕ) (i : ℕ → ℕ) (D : ℕ → Option Va
       on : (b : Awaiter) → (resolve_child s g.0 x.0 v).onward ≡ some b → GivesTo b (Value.List g)
       on b e =
           let y = resolve_onward s g.0 x.0 v b e in
-          gives-own g.0 b (Value.List g) (subst (EndsTask g.0) y.2 (awaited_own g.0 (object s g.0) y.0 y.1 (k.own g.0)))
+          gives_own g.0 b (Value.List g) (subst (EndsTask g.0) y.2 (awaited_own g.0 (object s g.0) y.0 y.1 (k.own g.0)))
           (many-gives s g.0 y.0.first y.0.count _ f.0 (awaited-object (object s g.0) y.0 y.1) k)
 
   climbs-value : (m : ℕ) (s : Store) (a : Awaiter) (v : Value) → AwaiterFits a → GivesTo a v → K s → K (climb_value m s a v).store
@@ -200,9 +200,9 @@ module _ (q : ℕ → Frozen) (n : ℕ) (i : ℕ → ℕ) (D : ℕ → Option Va
   climbs-value (suc m) s a v f gv k = sends-value (λ y b w. climb_value m y b w) (λ y b w. climbs-value m y b w) s a v f gv k
 
   -- a value goes up
-  pub success-tells : (s : Store) (a : Awaiter) (v : Value) → AwaiterFits a → GivesTo a v → K s → K (deliver_awaiter_success s a v).store
+  pub success_tells : (s : Store) (a : Awaiter) (v : Value) → AwaiterFits a → GivesTo a v → K s → K (deliver_awaiter_success s a v).store
   unfolding deliver_awaiter_success
-  success-tells s a v f gv k = sends-value (λ y b w. climb_value (awaited_count s) y b w) (λ y b w. climbs-value (awaited_count s) y b w) s a v f gv k
+  success_tells s a v f gv k = sends-value (λ y b w. climb_value (awaited_count s) y b w) (λ y b w. climbs-value (awaited_count s) y b w) s a v f gv k
 
   sends-error : (go : Store → Awaiter → Error → Delivery) → ((s : Store) (a : Awaiter) (e : Error) → AwaiterFits a → K s → K (go s a e).store)
       → (s : Store) (a : Awaiter) (e : Error) → AwaiterFits a → K s → K (send_error go s a e).store
@@ -220,9 +220,9 @@ module _ (q : ℕ → Frozen) (n : ℕ) (i : ℕ → ℕ) (D : ℕ → Option Va
   climbs-error (suc m) s a e f k = sends-error (λ y b w. climb_error m y b w) (λ y b w. climbs-error m y b w) s a e f k
 
   -- an error goes up
-  pub failure-tells : (s : Store) (a : Awaiter) (e : Error) → AwaiterFits a → K s → K (deliver_awaiter_failure s a e).store
+  pub failure_tells : (s : Store) (a : Awaiter) (e : Error) → AwaiterFits a → K s → K (deliver_awaiter_failure s a e).store
   unfolding deliver_awaiter_failure
-  failure-tells s a e f k = sends-error (λ y b w. climb_error (awaited_count s) y b w) (λ y b w. climbs-error (awaited_count s) y b w) s a e f k
+  failure_tells s a e f k = sends-error (λ y b w. climb_error (awaited_count s) y b w) (λ y b w. climbs-error (awaited_count s) y b w) s a e f k
 
   -- ---- switches: what they end with
 
@@ -237,39 +237,39 @@ module _ (q : ℕ → Frozen) (n : ℕ) (i : ℕ → ℕ) (D : ℕ → Option Va
   yields s k = waited s k refl
 
   module _ (go : Store → ℕ → Switched) (h : (s : Store) (t : ℕ) → t < task_limit → K s → EndsOrReuse (go s t)) where
-    next-ends : (s : Store) → K s → EndsOrReuse (resume-next go s)
-    unfolding resume-next
-    next-ends s k = pick_has EndsOrReuse (eqb s.queue.len 0) (yields s k) (h (put_queue s (pop_front s.queue)) (front_of s.queue).0 (front_of-fits s.queue) (queue-told q n i D S s _ k))
+    next-ends : (s : Store) → K s → EndsOrReuse (resume_next go s)
+    unfolding resume_next
+    next-ends s k = pick_has EndsOrReuse (eqb s.queue.len 0) (yields s k) (h (put_queue s (pop_front s.queue)) (front_of s.queue).0 (front_of-fits s.queue) (queue_told q n i D S s _ k))
 
-    exit-ends : (d : Delivery) → WokenFits d → K d.store → EndsOrReuse (resume-after-task-exit go d)
-    unfolding resume-after-task-exit remove_from_ready_queue
+    exit-ends : (d : Delivery) → WokenFits d → K d.store → EndsOrReuse (resume_after_task_exit go d)
+    unfolding resume_after_task_exit remove_from_ready_queue
     exit-ends d m k = by d.woken refl
       where
-        by : (w : Option ℕ) → d.woken ≡ w → EndsOrReuse (elim w [ none ↦ resume-next go d.store | some t ↦ go (remove_from_ready_queue d.store t) t ])
+        by : (w : Option ℕ) → d.woken ≡ w → EndsOrReuse (elim w [ none ↦ resume_next go d.store | some t ↦ go (remove_from_ready_queue d.store t) t ])
         by none e = next-ends d.store k
-        by (some t) e = h _ t (m.fits t e) (queue-told q n i D S d.store _ k)
+        by (some t) e = h _ t (m.fits t e) (queue_told q n i D S d.store _ k)
 
-    failure-ends : (s : Store) (t : ℕ) (e : Error) → K s → EndsOrReuse (handle-task-failure go s t e)
-    unfolding handle-task-failure
+    failure-ends : (s : Store) (t : ℕ) (e : Error) → K s → EndsOrReuse (handle_task_failure go s t e)
+    unfolding handle_task_failure
     failure-ends s t e k =
         let a : Awaiter = (task s t).awaiter in
         let f : AwaiterFits a = (task-fits s t).awaiter_fits in
         let w : WokenFits (deliver_awaiter_failure s a e) = failure_woken s a e k.sized f in
-        exit-ends _ (record { fits = w.fits }) (gone-told q n i D S (deliver_awaiter_failure s a e).store t (exited t) (failure-tells s a e f k))
+        exit-ends _ (record { fits = w.fits }) (gone-told q n i D S (deliver_awaiter_failure s a e).store t (exited t) (failure_tells s a e f k))
 
-    start-ends : (s : Store) (t : ℕ) → t < task_limit → (task s t).state ≡ TaskState.Unstarted → K s → EndsOrReuse (start-task go s t)
-    unfolding start-task start-by
+    start-ends : (s : Store) (t : ℕ) → t < task_limit → (task s t).state ≡ TaskState.Unstarted → K s → EndsOrReuse (start_task go s t)
+    unfolding start_task start_by
     start-ends s t l r k = by (new_function (object s o)) refl
       where
         o : ℕ
         o = (task s t).coroutine.0
 
-        by : (m : Option ℕ) → new_function (object s o) ≡ m → EndsOrReuse (start-by go s t o m)
+        by : (m : Option ℕ) → new_function (object s o) ≡ m → EndsOrReuse (start_by go s t o m)
         by none e = failure-ends s t Error.CoroutineReuse k
         by (some f) e = started s t f l k r e refl
 
-    state-ends : (s : Store) (t : ℕ) (x : TaskState) → t < task_limit → (task s t).state ≡ x → K s → EndsOrReuse (activate-state go s t x)
-    unfolding activate-state
+    state-ends : (s : Store) (t : ℕ) (x : TaskState) → t < task_limit → (task s t).state ≡ x → K s → EndsOrReuse (activate_state go s t x)
+    unfolding activate_state
     state-ends s t TaskState.Absent l e k = yields s k
     state-ends s t TaskState.Unstarted l e k = start-ends s t l e k
     state-ends s t TaskState.Running l e k = yields s k
@@ -286,14 +286,14 @@ module _ (q : ℕ → Frozen) (n : ℕ) (i : ℕ → ℕ) (D : ℕ → Option Va
   unfolding activate
   activate-ends s t l k = within-ends (live_count s) s t l k
 
-  pub resume-ends : (s : Store) → K s → EndsOrReuse (resume-next activate s)
+  pub resume-ends : (s : Store) → K s → EndsOrReuse (resume_next activate s)
   resume-ends s k = next-ends activate activate-ends s k
 
-  pub fail-ends : (s : Store) (t : ℕ) (e : Error) → K s → EndsOrReuse (handle-task-failure activate s t e)
+  pub fail-ends : (s : Store) (t : ℕ) (e : Error) → K s → EndsOrReuse (handle_task_failure activate s t e)
   fail-ends s t e k = failure-ends activate activate-ends s t e k
 
-  pub completion-ends : (left : Store) (a : Awaiter) (v : Value) → AwaiterFits a → GivesTo a v → K left → EndsOrReuse (resume-after-task-exit activate (deliver_awaiter_success left a v))
-  completion-ends left a v f gv k = exit-ends activate activate-ends _ (success_woken left a v k.sized f) (success-tells left a v f gv k)
+  pub completion_ends : (left : Store) (a : Awaiter) (v : Value) → AwaiterFits a → GivesTo a v → K left → EndsOrReuse (resume_after_task_exit activate (deliver_awaiter_success left a v))
+  completion_ends left a v f gv k = exit-ends activate activate-ends _ (success_woken left a v k.sized f) (success_tells left a v f gv k)
 
   -- ---- cancel and the end
 
@@ -349,11 +349,11 @@ module _ (q : ℕ → Frozen) (n : ℕ) (i : ℕ → ℕ) (D : ℕ → Option Va
 
   pub cleanup-tells : (s : Store) → K s → K (cleanup s)
   unfolding cleanup
-  cleanup-tells s k = moved_told q n i D S _ Moment.Ended tt (queue-told q n i D S _ empty_queue (remove-from-kept (header s).next s 0 k))
+  cleanup-tells s k = moved_told q n i D S _ Moment.Ended tt (queue_told q n i D S _ empty_queue (remove-from-kept (header s).next s 0 k))
 
-  pub cleanup-moment : (s : Store) → K s → (header (cleanup s)).moment ≡ Moment.Ended
+  pub cleanup_moment : (s : Store) → K s → (header (cleanup s)).moment ≡ Moment.Ended
   unfolding cleanup
-  cleanup-moment s k = (moment_head _ Moment.Ended (queue-told q n i D S _ empty_queue (remove-from-kept (header s).next s 0 k)).sized tt).1
+  cleanup_moment s k = (moment_head _ Moment.Ended (queue_told q n i D S _ empty_queue (remove-from-kept (header s).next s 0 k)).sized tt).1
 
   -- ---- the commit
 
@@ -362,8 +362,8 @@ module _ (q : ℕ → Frozen) (n : ℕ) (i : ℕ → ℕ) (D : ℕ → Option Va
     not-co : {A : Type 0} → co false ≡ co true → A
     not-co e = let z : ◌≡◌ {A = Bool} false true = cc in absurd (true≢false (sym z))
 
-    pub new-undelivered : (s : Store) (o f : ℕ) → object s o ≡ Object.Coroutine f CoroutineState.New → K s → D o ≡ none
-    new-undelivered s o f e k = by (D o) refl
+    pub new_undelivered : (s : Store) (o f : ℕ) → object s o ≡ Object.Coroutine f CoroutineState.New → K s → D o ≡ none
+    new_undelivered s o f e k = by (D o) refl
       where
         is_co : q o ≡ co false
         is_co = sym (k.rows o) ∙ (ap frozen e ∙ (unfold frozen in refl))

@@ -34,16 +34,16 @@ use Rattle.machine.specs.Delivery.{climb, awaited_count, send_value, climb_value
 use Rattle.machine.specs.Commit.{Poll, ready, raised, pending, Polled, gives, await_pending, await_external, Item, polled, nested, polled_spawn, item_coroutine, item_gather, item_object, open_from, item}
 use Rattle.machine.specs.Commit.{open_place, fill_place, Stop, at_end, at_nested, at_error, put_polled, put_item, step_item, step_items, Frame, step_gather_commit}
 use Rattle.machine.specs.Commit.{with_state, set_gather, open_gather_commit, settle_as, settle_gather_commit, resume_in, resume_as, resume_after_child, unwind, Committed, turn, commit_loop, commit_gather_tree}
-use Rattle.machine.specs.Events.{How, start, value, raises, inline, Switched, Awaited, run, yield, new_function, resume-next, resume-after-task-exit, handle-task-failure}
-use Rattle.machine.specs.Events.{start-by, start-task, activate-state, activate_within, activate, stays, go_on, await_coroutine, await_external_future, await_gather, await_object, exec_get_awaitable}
+use Rattle.machine.specs.Events.{How, start, value, raises, inline, Switched, Awaited, run, yield, new_function, resume_next, resume_after_task_exit, handle_task_failure}
+use Rattle.machine.specs.Events.{start_by, start_task, activate_state, activate_within, activate, stays, go_on, await_coroutine, await_external_future, await_gather, await_object, exec_get_awaitable}
 use Rattle.machine_laws.specs.Views.{Sized}
 use Rattle.machine_laws.specs.StoreLaws.{task-fits, object-fits, place-fits, header-fits, object_put-other, object_put-header}
 use Rattle.machine_laws.specs.DeliveryLaws.{absurd_some, awaited-object, awaited-fits, length-fill_from, resolve_sent, fail_sent}
 use Rattle.machine_laws.specs.WokenLaws.{WokenFits, success_woken, failure_woken}
 use Rattle.machine_laws.specs.Walk.{Turns, same, takes, starts, turns}
-use Rattle.machine_sessions.specs.Places.Told.{Frozen, unmade, co, pends, gave, broke, many, frozen, told, first_place, EndsTask, TaskTold, Holds, Told, Gives, row_told, turns-told, value-told, fills-told, queue-told, add-log-told, moved_told, gone-told, ends-told, state-told, wakes-told, spawns-told}
+use Rattle.machine_sessions.specs.Places.Told.{Frozen, unmade, co, pends, gave, broke, many, frozen, told, first_place, EndsTask, TaskTold, Holds, Told, Gives, row_told, turns-told, value-told, fills_told, queue_told, add_log-told, moved_told, gone-told, ends-told, state_told, wakes-told, spawns-told}
 use Rattle.machine_sessions.specs.Places.Told.{place_count}
-use Rattle.machine_sessions.specs.Places.Telling.{awaited-turns, state_turns, StateOwn, gather_own, state_own, awaited_own, new-object, not_external, many-gives, new-undelivered, EndsOrReuse, resume-ends}
+use Rattle.machine_sessions.specs.Places.Telling.{awaited-turns, state_turns, StateOwn, gather_own, state_own, awaited_own, new-object, not_external, many-gives, new_undelivered, EndsOrReuse, resume-ends}
 use Rattle.asyncio.specs.declared.Header.{Header}
 use Rattle.asyncio.specs.Ranges.{HeaderFits}
 use Rattle.machine.specs.Store.{put_place, put_header}
@@ -51,9 +51,9 @@ use Rattle.machine.specs.Events.{Control, runs}
 use Rattle.machine.specs.History.{started_by}
 use Rattle.machine_laws.specs.StoreLaws.{header_put-header, header_put-object, sized-put_object, sized-put_place, sized-put_task, sized-add_log, sized-put_queue, sized-set_next}
 use Rattle.machine_laws.specs.SizedLaws.{sized-spawn_as}
-use Rattle.machine_laws.specs.Walk.{Commits, commit-kept}
+use Rattle.machine_laws.specs.Walk.{Commits, commit_kept}
 use Rattle.machine_sessions.specs.Queue.Tracked.{spawn-row, spawn-next}
-use Rattle.machine_sessions.specs.Places.TellingCommit.{commit-tells, external-keeps}
+use Rattle.machine_sessions.specs.Places.TellingCommit.{commit_tells, external_keeps}
 
 -- ---- task t's row, and the moment
 
@@ -120,7 +120,7 @@ module _ (q : ℕ → Frozen) (n : ℕ) (i : ℕ → ℕ) (D : ℕ → Option Va
 
     blocks-tells : (u : Store) (o : ℕ) → J u → K (add_log (set_state u t (TaskState.Blocked (heap_id o))) (blocked t))
     blocks-tells u o k =
-        add-log-told q n i D S _ (blocked t) (state-told q n i D S u t (TaskState.Blocked (heap_id o)) refl (λ b m d. now b m d) (ap (λ (y : Task). is_unstarted y.state) k.1.row ∙ on) k.0)
+        add_log-told q n i D S _ (blocked t) (state_told q n i D S u t (TaskState.Blocked (heap_id o)) refl (λ b m d. now b m d) (ap (λ (y : Task). is_unstarted y.state) k.1.row ∙ on) k.0)
       where
         now : t < (header u).next → (m : ℕ) → t ≡ suc m → TaskTold D S t (task u t)
         now b m d =
@@ -131,7 +131,7 @@ module _ (q : ℕ → Frozen) (n : ℕ) (i : ℕ → ℕ) (D : ℕ → Option Va
     unfolding go_on stays started_by
     go-on-ends o m u (ready v) k = stayed (value v) (λ a b. refl) k.0 k.1.moment refl
     go-on-ends o m u (raised e) k = stayed (raises e) (λ a b. refl) k.0 k.1.moment refl
-    go-on-ends o m u pending k = switches (resume-next activate (add_log (set_state u t (TaskState.Blocked (heap_id o))) (blocked t))) (resume-ends q n i D S _ (blocks-tells u o k)) refl refl
+    go-on-ends o m u pending k = switches (resume_next activate (add_log (set_state u t (TaskState.Blocked (heap_id o))) (blocked t))) (resume-ends q n i D S _ (blocks-tells u o k)) refl refl
 
     object_row : (u : Store) (o : ℕ) (x : Object) → Row t r (Moment.Running (task_id t)) u → Row t r (Moment.Running (task_id t)) (put_object u o x)
     object_row u o x k =
@@ -158,9 +158,9 @@ module _ (q : ℕ → Frozen) (n : ℕ) (i : ℕ → ℕ) (D : ℕ → Option Va
         (turns-told q n i D S s o _ l (subst (λ (x : Object). Turns x (Object.Coroutine f CoroutineState.Running)) (sym e) (starts f)) tt k.0) (object_row s o _ k.1).moment refl
     await-by o l (Object.Coroutine f CoroutineState.Running) e m k = stayed (raises Error.CoroutineReuse) (λ a b. refl) k.0 k.1.moment refl
     await-by o l (Object.Coroutine f CoroutineState.Completed) e m k = stayed (raises Error.CoroutineReuse) (λ a b. refl) k.0 k.1.moment refl
-    await-by o l (Object.ExternalFuture c x) e m k = go-on-ends o 0 _ _ (external-keeps q n i D S done s o c x _ l tt e k.0, external-row s o c x _ k.1)
+    await-by o l (Object.ExternalFuture c x) e m k = go-on-ends o 0 _ _ (external_keeps q n i D S done s o c x _ l tt e k.0, external-row s o c x _ k.1)
     await-by o l (Object.GatherFuture f c GatherState.Pending) e m k =
-        go-on-ends o _ _ _ (commit-tells q n i D S done s o _ l tt k.0, commit-kept (Row t r (Moment.Running (task_id t))) (row_commits t r (Moment.Running (task_id t))) s o _ l k.1)
+        go-on-ends o _ _ _ (commit_tells q n i D S done s o _ l tt k.0, commit_kept (Row t r (Moment.Running (task_id t))) (row_commits t r (Moment.Running (task_id t))) s o _ l k.1)
     await-by o l (Object.GatherFuture f c (GatherState.Awaited a j)) e m k = stayed (raises Error.GatherReuse) (λ a b. refl) k.0 k.1.moment refl
     await-by o l (Object.GatherFuture f c GatherState.Completed) e m k = stayed (value (Value.List (heap_id o))) (λ a b. refl) k.0 k.1.moment refl
     await-by o l (Object.GatherFuture f c (GatherState.Failed x)) e m k = stayed (raises x) (λ a b. refl) k.0 k.1.moment refl

@@ -37,16 +37,16 @@ use Rattle.machine.specs.Delivery.{climb, awaited_count, send_value, climb_value
 use Rattle.machine.specs.Commit.{Poll, ready, raised, pending, Polled, gives, await_pending, await_external, Item, polled, nested, polled_spawn, item_coroutine, item_gather, item_object, open_from, item}
 use Rattle.machine.specs.Commit.{open_place, fill_place, Stop, at_end, at_nested, at_error, put_polled, put_item, step_item, step_items, Frame, step_gather_commit}
 use Rattle.machine.specs.Commit.{with_state, set_gather, open_gather_commit, settle_as, settle_gather_commit, resume_in, resume_as, resume_after_child, unwind, Committed, turn, commit_loop, commit_gather_tree}
-use Rattle.machine.specs.Events.{How, start, value, raises, inline, Switched, Awaited, run, yield, new_function, resume-next, resume-after-task-exit, handle-task-failure}
-use Rattle.machine.specs.Events.{start-by, start-task, activate-state, activate_within, activate, stays, go_on, await_coroutine, await_external_future, await_gather, await_object, exec_get_awaitable}
+use Rattle.machine.specs.Events.{How, start, value, raises, inline, Switched, Awaited, run, yield, new_function, resume_next, resume_after_task_exit, handle_task_failure}
+use Rattle.machine.specs.Events.{start_by, start_task, activate_state, activate_within, activate, stays, go_on, await_coroutine, await_external_future, await_gather, await_object, exec_get_awaitable}
 use Rattle.machine_laws.specs.Views.{Sized}
 use Rattle.machine_laws.specs.StoreLaws.{task-fits, object-fits, place-fits, header-fits, object_put-other, object_put-header}
 use Rattle.machine_laws.specs.DeliveryLaws.{absurd_some, awaited-object, awaited-fits, length-fill_from, resolve_sent, fail_sent}
 use Rattle.machine_laws.specs.WokenLaws.{WokenFits, success_woken, failure_woken}
 use Rattle.machine_laws.specs.Walk.{Turns, same, takes, starts, turns}
-use Rattle.machine_sessions.specs.Places.Told.{Frozen, unmade, co, pends, gave, broke, many, frozen, told, first_place, EndsTask, TaskTold, Holds, Told, Gives, row_told, turns-told, value-told, fills-told, queue-told, add-log-told, moved_told, gone-told, ends-told, state-told, wakes-told, spawns-told}
+use Rattle.machine_sessions.specs.Places.Told.{Frozen, unmade, co, pends, gave, broke, many, frozen, told, first_place, EndsTask, TaskTold, Holds, Told, Gives, row_told, turns-told, value-told, fills_told, queue_told, add_log-told, moved_told, gone-told, ends-told, state_told, wakes-told, spawns-told}
 use Rattle.machine_sessions.specs.Places.Told.{place_count}
-use Rattle.machine_sessions.specs.Places.Telling.{awaited-turns, state_turns, StateOwn, gather_own, state_own, awaited_own, new-object, not_external, many-gives, new-undelivered, EndsOrReuse, resume-ends}
+use Rattle.machine_sessions.specs.Places.Telling.{awaited-turns, state_turns, StateOwn, gather_own, state_own, awaited_own, new-object, not_external, many-gives, new_undelivered, EndsOrReuse, resume-ends}
 
 module _ (q : ℕ → Frozen) (n : ℕ) (i : ℕ → ℕ) (D : ℕ → Option Value) (S : ℕ → Option ℕ) (done : (c : ℕ) (v : Value) → D c ≡ some v → q c ≡ co true) where
   abbrev K : Store → Type 0
@@ -100,8 +100,8 @@ module _ (q : ℕ → Frozen) (n : ℕ) (i : ℕ → ℕ) (D : ℕ → Option Va
       }
   external-tells s g o c (ExternalFutureState.Failed x) a l ne w e k = quiet s g o _ refl tt k
 
-  pub external-keeps : (s : Store) (o : ℕ) (c : CallId) (x : ExternalFutureState) (a : Awaiter) → o < object_limit → EndsTask o a → object s o ≡ Object.ExternalFuture c x → K s → K (await_external s o c x a).store
-  external-keeps s o c x a l w e k = (external-tells s (suc o) o c x a l (λ d. not-suc-le-zero {n = 0} (omega (arith, d))) w e k).keeps
+  pub external_keeps : (s : Store) (o : ℕ) (c : CallId) (x : ExternalFutureState) (a : Awaiter) → o < object_limit → EndsTask o a → object s o ≡ Object.ExternalFuture c x → K s → K (await_external s o c x a).store
+  external_keeps s o c x a l w e k = (external-tells s (suc o) o c x a l (λ d. not-suc-le-zero {n = 0} (omega (arith, d))) w e k).keeps
 
   spawn-commits-none : (s : Store) (t c p g : ℕ) → object (spawn_as s t c p) g ≡ object s g
   unfolding spawn_as push_ready add_log put_queue object
@@ -130,7 +130,7 @@ module _ (q : ℕ → Frozen) (n : ℕ) (i : ℕ → ℕ) (D : ℕ → Option Va
   object-tells : (s : Store) (g o : ℕ) (w : AwaitedGather) (x : Object) → o < object_limit → as_awaited (object s g) ≡ some w → object s o ≡ x → K s → ItemTold s g o (item_object s g o x)
   unfolding item_object item_gather item_coroutine ItemTold
   object-tells s g o w Object.Unmade l e d k = quiet s g o _ refl tt k
-  object-tells s g o w (Object.Coroutine f CoroutineState.New) l e d k = spawn-tells s g o g l (new-undelivered q n i D S done s o f d k) k
+  object-tells s g o w (Object.Coroutine f CoroutineState.New) l e d k = spawn-tells s g o g l (new_undelivered q n i D S done s o f d k) k
   object-tells s g o w (Object.Coroutine f CoroutineState.Running) l e d k = quiet s g o _ refl tt k
   object-tells s g o w (Object.Coroutine f CoroutineState.Completed) l e d k = quiet s g o _ refl tt k
   object-tells s g o w (Object.ExternalFuture c x) l e d k = external-tells s g o c x _ l (λ y. not_external (object s g) w c x e (ap (object s) y ∙ d)) refl d k
@@ -280,6 +280,6 @@ module _ (q : ℕ → Frozen) (n : ℕ) (i : ℕ → ℕ) (D : ℕ → Option Va
       (items-tell _ s f.gather f.next (linked-low f.gather fs l) (omega (arith, next-count s f.gather k (object s f.gather) refl)) k)
 
   -- a gather is committed
-  pub commit-tells : (s : Store) (g : ℕ) (a : Awaiter) → g < object_limit → EndsTask g a → K s → K (commit_gather_tree s g a).store
+  pub commit_tells : (s : Store) (g : ℕ) (a : Awaiter) → g < object_limit → EndsTask g a → K s → K (commit_gather_tree s g a).store
   unfolding commit_gather_tree open_gather_commit
-  commit-tells s g a l w k = loop-tells _ _ _ [] 0 1 0 (unfold Linked in l) (set_tells s g _ l w k)
+  commit_tells s g a l w k = loop-tells _ _ _ [] 0 1 0 (unfold Linked in l) (set_tells s g _ l w k)

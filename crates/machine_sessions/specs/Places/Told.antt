@@ -30,7 +30,7 @@ use Rattle.asyncio.specs.Layout.{object_words, to_object, task_words, to_task, s
 use Rattle.asyncio.specs.States.{pick, is_live, is_ready, is_blocked, is_unstarted}
 use Rattle.asyncio.specs.Parts.{awaiter_of}
 use Rattle.rows.specs.Tables.{object_at, place_at, place_put, task_at, task_put, task_codec, task_start, header_at}
-use Rattle.rows.specs.RowLaws.{row-put-at}
+use Rattle.rows.specs.RowLaws.{row-put_at}
 use Rattle.rows.specs.TableLaws.{place_at_put, place_at-other, place_at-fits, length-place_put}
 use Rattle.queue.specs.declared.ReadyQueue.{ReadyQueue}
 use Rattle.machine.specs.Store.{Store, LogEntry, task, object, place, header, put_task, put_header, put_object, put_place, put_places, put_queue, add_log, restate, set_state, set_moment, set_next, absent, spawned, blocked, reached, exited, removed}
@@ -146,7 +146,7 @@ unstarted_words (TaskState.Blocked o) = refl
 
 pub task_back : (s : Store) (t : ℕ) (r : Task) → Sized s → t < task_limit → task (put_task s t r) t ≡ to_task (task_words r)
 unfolding task put_task task_at task_put
-task_back s t r z l = ap to_task (row-put-at task_codec s.tasks (task_start t) r (omega (arith, z.tasks-sized)))
+task_back s t r z l = ap to_task (row-put_at task_codec s.tasks (task_start t) r (omega (arith, z.tasks-sized)))
 
 pub unstarted_back : (s : Store) (t : ℕ) (r : Task) → Sized s → t < task_limit → is_unstarted (task (put_task s t r) t).state ≡ is_unstarted r.state
 unstarted_back s t r z l = ap (λ (y : Task). is_unstarted y.state) (task_back s t r z l) ∙ unstarted_words r.state
@@ -197,8 +197,8 @@ module _ (q : ℕ → Frozen) (n : ℕ) (i : ℕ → ℕ) (D : ℕ → Option Va
   K u = Told q n i D S u
 
   -- the words as they were but for queue and log
-  pub told-like : (s u : Store) → Sized u → (header u).made ≡ (header s).made → (header u).next ≡ (header s).next → ((o : ℕ) → object u o ≡ object s o) → ((p : ℕ) → place u p ≡ place s p) → ((t : ℕ) → task u t ≡ task s t) → K s → K u
-  told-like s u z m nx os ps ts k =
+  pub told_like : (s u : Store) → Sized u → (header u).made ≡ (header s).made → (header u).next ≡ (header s).next → ((o : ℕ) → object u o ≡ object s o) → ((p : ℕ) → place u p ≡ place s p) → ((t : ℕ) → task u t ≡ task s t) → K s → K u
+  told_like s u z m nx os ps ts k =
       record {
         sized = z;
         made = m ∙ k.made;
@@ -298,8 +298,8 @@ module _ (q : ℕ → Frozen) (n : ℕ) (i : ℕ → ℕ) (D : ℕ → Option Va
       one true false e y = (it y, ho y)
       one false c e y = (it y, ho y)
 
-  pub fills-told : (s : Store) (w f x m : ℕ) (v : Value) → f + m ≤ place_limit → Gives q D x v → K s → K (put_places s (fill_from s.places w f x v 0 m).places)
-  fills-told s w f x m v l g k =
+  pub fills_told : (s : Store) (w f x m : ℕ) (v : Value) → f + m ≤ place_limit → Gives q D x v → K s → K (put_places s (fill_from s.places w f x v 0 m).places)
+  fills_told s w f x m v l g k =
       let a = fill-told m s.places w f x v 0 k.sized.places-sized (omega (arith, l)) g (unfold place in k.items) (unfold place in k.holds) in
       places-told s _ (length-fill_from m s.places w f x v 0 ∙ k.sized.places-sized) (λ r. (a r).0) (λ r. (a r).1) k
 
@@ -344,17 +344,17 @@ module _ (q : ℕ → Frozen) (n : ℕ) (i : ℕ → ℕ) (D : ℕ → Option Va
           subst (λ (m : ℕ). is_unstarted (task (put_task s t r) m).state ≡ false) (sym d) (unstarted_back s t r k.sized (subst (λ (m : ℕ). m < task_limit) d (omega arith)) ∙ zero-started (sym d))
       main-by (no ne) = ap (λ (y : Task). is_unstarted y.state) (task_put-other s t 0 r ne) ∙ k.main
 
-  pub queue-told : (s : Store) (p : ReadyQueue) → K s → K (put_queue s p)
-  queue-told s p k =
-      told-like s (put_queue s p) (sized-put_queue s p k.sized) (unfold header put_queue in refl) (unfold header put_queue in refl) (λ o. unfold object put_queue in refl) (λ r. unfold place put_queue in refl) (λ t. unfold task put_queue in refl) k
+  pub queue_told : (s : Store) (p : ReadyQueue) → K s → K (put_queue s p)
+  queue_told s p k =
+      told_like s (put_queue s p) (sized-put_queue s p k.sized) (unfold header put_queue in refl) (unfold header put_queue in refl) (λ o. unfold object put_queue in refl) (λ r. unfold place put_queue in refl) (λ t. unfold task put_queue in refl) k
 
-  pub add-log-told : (s : Store) (x : LogEntry) → K s → K (add_log s x)
-  add-log-told s x k =
-      told-like s (add_log s x) (sized-add_log s x k.sized) (unfold header add_log in refl) (unfold header add_log in refl) (λ o. unfold object add_log in refl) (λ r. unfold place add_log in refl) (λ t. unfold task add_log in refl) k
+  pub add_log-told : (s : Store) (x : LogEntry) → K s → K (add_log s x)
+  add_log-told s x k =
+      told_like s (add_log s x) (sized-add_log s x k.sized) (unfold header add_log in refl) (unfold header add_log in refl) (λ o. unfold object add_log in refl) (λ r. unfold place add_log in refl) (λ t. unfold task add_log in refl) k
 
   pub header-told : (s : Store) (h : Header) → HeaderFits h → h.made ≡ (header s).made → h.next ≡ (header s).next → K s → K (put_header s h)
   header-told s h f e nx k =
-      told-like s (put_header s h) (sized-put_header s h k.sized) (ap (λ (y : Header). y.made) (header_put-header s h k.sized f) ∙ e) (ap (λ (y : Header). y.next) (header_put-header s h k.sized f) ∙ nx) (λ o. object_put-header s h o) (λ r. unfold place put_header in refl)
+      told_like s (put_header s h) (sized-put_header s h k.sized) (ap (λ (y : Header). y.made) (header_put-header s h k.sized f) ∙ e) (ap (λ (y : Header). y.next) (header_put-header s h k.sized f) ∙ nx) (λ o. object_put-header s h o) (λ r. unfold place put_header in refl)
       (λ t. unfold task put_header in refl) k
 
   pub moved_told : (s : Store) (m : Moment) → MomentFits m → K s → K (set_moment s m)
@@ -396,21 +396,21 @@ module _ (q : ℕ → Frozen) (n : ℕ) (i : ℕ → ℕ) (D : ℕ → Option Va
 
   pub gone-told : (s : Store) (t : ℕ) (x : LogEntry) → K s → K (add_log (remove_task s t) x)
   unfolding remove_task remove_from_ready_queue
-  gone-told s t x k = add-log-told _ x (queue-told _ _ (absent-told s t k))
+  gone-told s t x k = add_log-told _ x (queue_told _ _ (absent-told s t k))
 
   pub ends-told : (s : Store) (t : ℕ) (x : LogEntry) → K s → K (add_log (put_task s t absent) x)
-  ends-told s t x k = add-log-told _ x (absent-told s t k)
+  ends-told s t x k = add_log-told _ x (absent-told s t k)
 
   -- a task that has started goes into another state that is not unstarted
-  pub state-told : (s : Store) (t : ℕ) (x : TaskState) → is_unstarted x ≡ false → (t < (header s).next → (m : ℕ) → t ≡ suc m → TaskTold D S t (task s t)) → is_unstarted (task s t).state ≡ false → K s → K (set_state s t x)
+  pub state_told : (s : Store) (t : ℕ) (x : TaskState) → is_unstarted x ≡ false → (t < (header s).next → (m : ℕ) → t ≡ suc m → TaskTold D S t (task s t)) → is_unstarted (task s t).state ≡ false → K s → K (set_state s t x)
   unfolding set_state restate
-  state-told s t x e y u k =
+  state_told s t x e y u k =
       task-told s t _ (λ d. e) (task-fits s t).coroutine-fits (λ b l m d. let z : TaskTold D S t (task s t) = y b m d in record { undelivered = z.undelivered; started = λ n. z.started u; own = z.own }) k
 
   -- one that is woken
   pub wakes-told : (s : Store) (t : ℕ) (x : TaskState) → is_blocked (task s t).state ≡ true → is_unstarted x ≡ false → K s → K (add_log (make_ready s t x) (reached t))
   unfolding make_ready push_ready
-  wakes-told s t x e u k = add-log-told _ (reached t) (queue-told _ _ (state-told s t x u (λ b m d. told_now b m d) (blocked-started (task s t).state e) k))
+  wakes-told s t x e u k = add_log-told _ (reached t) (queue_told _ _ (state_told s t x u (λ b m d. told_now b m d) (blocked-started (task s t).state e) k))
     where
       blocked-started : (y : TaskState) → is_blocked y ≡ true → is_unstarted y ≡ false
       blocked-started TaskState.Absent h = refl
@@ -428,7 +428,7 @@ module _ (q : ℕ → Frozen) (n : ℕ) (i : ℕ → ℕ) (D : ℕ → Option Va
   -- a task is spawned for a coroutine that has not delivered
   pub spawns-told : (s : Store) (c g : ℕ) → (header s).next < task_limit → c < object_limit → D c ≡ none → K s → K (spawn_as s (header s).next c g)
   unfolding spawn_as push_ready
-  spawns-told s c g l m e k = add-log-told _ (spawned (header s).next c) (queue-told _ _ more)
+  spawns-told s c g l m e k = add_log-told _ (spawned (header s).next c) (queue_told _ _ more)
     where
       r : Task
       r = record { state = TaskState.Unstarted; awaiter = Awaiter.GatherSlot (heap_id g) (heap_id c); coroutine = heap_id c }

@@ -29,7 +29,7 @@ use Rattle.machine_laws.specs.Views.{Sized}
 use Rattle.machine_laws.specs.StoreLaws.{task-fits, sized-set_state}
 use Rattle.machine_laws.specs.Walk.{Turns, starts}
 use Rattle.machine_sessions.specs.Stall.Standing.{moment_head}
-use Rattle.machine_sessions.specs.Places.Told.{Frozen, unmade, co, pends, gave, broke, many, frozen, told, EndsTask, TaskTold, Holds, Told, row_told, turns-told, moved_told, state-told, task-told}
+use Rattle.machine_sessions.specs.Places.Told.{Frozen, unmade, co, pends, gave, broke, many, frozen, told, EndsTask, TaskTold, Holds, Told, row_told, turns-told, moved_told, state_told, task-told}
 use Rattle.machine_sessions.specs.Places.Telling.{new-object, EndsOrReuse, waited, started, woke, raised_it}
 
 -- ---- the same, in other words
@@ -109,7 +109,7 @@ module _ (q : ℕ → Frozen) (n : ℕ) (i : ℕ → ℕ) (D : ℕ → Option Va
   runs-told : (u : Store) (t : ℕ) (h : How) → t < task_limit → is_unstarted (task u t).state ≡ false → is_live (task u t).state ≡ true → Told q n i D S u → Told q n i D S (run u t h).store
   unfolding run
   runs-told u t h l e lv k =
-      moved_told q n i D S _ (Moment.Running (task_id t)) l (state-told q n i D S u t TaskState.Running refl (λ b m d. now b m d) e k)
+      moved_told q n i D S _ (Moment.Running (task_id t)) l (state_told q n i D S u t TaskState.Running refl (λ b m d. now b m d) e k)
     where
       now : t < (header u).next → (m : ℕ) → t ≡ suc m → TaskTold D S t (task u t)
       now b m d = subst (λ (y : ℕ). TaskTold D S y (task u y)) (sym d) (k.tasks m (subst (λ (y : ℕ). y < (header u).next) d b) (subst (λ (y : ℕ). is_live (task u y).state ≡ true) d lv))

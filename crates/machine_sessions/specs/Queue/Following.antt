@@ -15,7 +15,7 @@ use Rattle.queue.specs.Queue.{entries, occurrences, Distinct}
 use Rattle.machine.specs.Tests.{is_in}
 use Rattle.machine.specs.Store.{Store, LogEntry, view, task, header, forget, fresh, empty, put_task, put_header}
 use Rattle.machine.specs.Scheduler.{live, pending_call_ids}
-use Rattle.machine.specs.Events.{Switched, Awaited, activate, handle_task_completion, handle-task-failure, resume-next}
+use Rattle.machine.specs.Events.{Switched, Awaited, activate, handle_task_completion, handle_task_failure, resume_next}
 use Rattle.machine.specs.Machine.{Event, Answer, Step, switched, answer_await, end_main, task_completes, task_fails, repeat_wait, resume_with_resolved_futures, refusal, accept, step}
 use Rattle.machine.specs.Lent.{Lent, slices_right, lengths_right, lent_by, lent_step, lent_read, lent_as}
 use Rattle.machine.specs.History.{Entry, tells, done_only, lives_by, lives, blocked_by, stays_blocked}
@@ -28,11 +28,11 @@ use Rattle.machine_laws.specs.SoundLaws.{refusal-forget}
 use Rattle.machine_theorems.specs.Soundness.ReadyTasks.{Queued, to_queued}
 use Rattle.machine_theorems.specs.Soundness.Stores.{SoundStore}
 use Rattle.machine.specs.Sessions.{InRange, AllSentInRange}
-use Rattle.machine_theorems.specs.Soundness.Sessions.{forget-sound-store, step-sound-store, fresh-sound_store}
+use Rattle.machine_theorems.specs.Soundness.Sessions.{forget-sound_store, step-sound_store, fresh_sound_store}
 use Rattle.machine.specs.Sessions.{Sent, is_read, read_lent, lent_any, happened_by, entry_of, Session, begun, send, send_all, session}
 use Rattle.machine.specs.DemandThree.{QueueRight}
 use Rattle.machine_sessions.specs.Queue.Tracked.{Tracked, live-is, live_low}
-use Rattle.machine_sessions.specs.Queue.TrackedEvents.{accept-tracked}
+use Rattle.machine_sessions.specs.Queue.TrackedEvents.{accept_tracked}
 
 -- ---- an accepted event's answer is no refusal
 
@@ -156,7 +156,7 @@ step_tracked h s e w k = by (ℕ_discrete (refusal s e) 0)
     by (yes r) =
         subst (StepAfter h e) (sym (accepted-step s e r))
         (tracked_then h e (accept (forget s) e).answer (accept (forget s) e).store (accept_accepts (forget s) e)
-        (accept-tracked (lives h) (stays_blocked h) (forget s) (forget-sound-store s w) e (refusal-forget s e ∙ r) k))
+        (accept_tracked (lives h) (stays_blocked h) (forget s) (forget-sound_store s w) e (refusal-forget s e ∙ r) k))
     by (no ne) =
         subst (StepAfter h e) (sym (refused-step s e (refusal s e) refl ne))
         (tracked_commits_none h e (Answer.refused (refusal s e)) (forget s) (refuses (refusal s e)) (subst (Tracked (lives h) (stays_blocked h)) (forget_twice s) k))
@@ -177,7 +177,7 @@ send_following x e i f = by (sends s e f.whole.memory.sized)
     by : Sends s e → Following (record { store = (lent_any s e).store; history = entry_of e.event (lent_any s e).answer (lent_any s e).store ∷ h })
     by (stepped p q) =
         record {
-          whole = subst SoundStore (sym p) (step-sound-store s f.whole e.event i);
+          whole = subst SoundStore (sym p) (step-sound_store s f.whole e.event i);
           tracked = subst (λ (a : Answer). After h e.event a (lent_any s e).store) (sym q)
               (subst (After h e.event (step s e.event).answer) (sym p) (step_tracked h s e.event f.whole f.tracked));
         }
@@ -217,7 +217,7 @@ fresh_tracked : Tracked (lives []) (stays_blocked []) (forget fresh)
 unfolding forget lives_by blocked_by lives stays_blocked
 fresh_tracked =
     record {
-      sized = sized-forget fresh fresh-sound_store.memory.sized;
+      sized = sized-forget fresh fresh_sound_store.memory.sized;
       alive = λ t. by t (ℕ_discrete t 0);
       stuck = λ t e. only t e;
       unborn = λ t l. refl;
@@ -243,7 +243,7 @@ fresh_tracked =
 -- Every session from its beginning.
 pub session_follows : (es : List Sent) → AllSentInRange es → Following (session es)
 unfolding session begun
-session_follows es i = sessions_follow es _ i (record { whole = fresh-sound_store; tracked = fresh_tracked })
+session_follows es i = sessions_follow es _ i (record { whole = fresh_sound_store; tracked = fresh_tracked })
 
 -- ---- (i)
 
@@ -269,8 +269,8 @@ unfolding view lives_by blocked_by forget
 queue_right x f =
     record {
       distinct = q.distinct;
-      live = λ t e. f.tracked.alive t ∙ (forget_live s t ∙ is-live-now t e);
-      unblocked = λ t e. f.tracked.stuck t (forget_live s t ∙ is-live-now t e) ∙ (ap (λ (r : Task). is_blocked r.state) (forget-task s t) ∙ (ready-is (task s t).state (q.ready t (stands_there _ t e)).1).1);
+      live = λ t e. f.tracked.alive t ∙ (forget_live s t ∙ is_live_now t e);
+      unblocked = λ t e. f.tracked.stuck t (forget_live s t ∙ is_live_now t e) ∙ (ap (λ (r : Task). is_blocked r.state) (forget-task s t) ∙ (ready-is (task s t).state (q.ready t (stands_there _ t e)).1).1);
     }
   where
     s : Store
@@ -279,5 +279,5 @@ queue_right x f =
     q : Queued (header s).next (task s) (entries s.queue)
     q = to_queued (header s).next (task s) (entries s.queue) f.whole.facts.but.entries
 
-    is-live-now : (t : ℕ) → is_in t (entries s.queue) ≡ true → live s t ≡ true
-    is-live-now t e = live-is s t (q.ready t (stands_there _ t e)).0 (ready-is (task s t).state (q.ready t (stands_there _ t e)).1).0
+    is_live_now : (t : ℕ) → is_in t (entries s.queue) ≡ true → live s t ≡ true
+    is_live_now t e = live-is s t (q.ready t (stands_there _ t e)).0 (ready-is (task s t).state (q.ready t (stands_there _ t e)).1).0

@@ -19,7 +19,7 @@ use Rattle.asyncio.specs.Ranges.{HeaderFits, MomentFits}
 use Rattle.asyncio.specs.Layout.{to_task, state_words, to_state}
 use Rattle.asyncio.specs.States.{pick, is_live, is_ready, is_blocked}
 use Rattle.rows.specs.Tables.{task_codec, task_start, task_at, task_put}
-use Rattle.rows.specs.RowLaws.{row-put-at}
+use Rattle.rows.specs.RowLaws.{row-put_at}
 use Rattle.queue.specs.declared.ReadyQueue.{ReadyQueue}
 use Rattle.machine.specs.Store.{Store, LogEntry, spawned, blocked, reached, exited, removed, task, object, place, header, put_task, put_header, put_object, put_place, put_places, put_queue, add_log, restate, set_state, set_moment, set_next, absent}
 use Rattle.machine.specs.Scheduler.{live, make_ready, push_ready, remove_from_ready_queue, remove_task, spawn_as}
@@ -50,7 +50,7 @@ blocked_back (TaskState.Blocked o) = refl
 pub blocked-put_task : (s : Store) (t : ℕ) (r : Task) → Sized s → t < task_limit → is_blocked (task (put_task s t r) t).state ≡ is_blocked r.state
 unfolding task put_task task_at task_put
 blocked-put_task s t r z l =
-    ap (λ (x : List ℕ). is_blocked (to_task x).state) (row-put-at task_codec s.tasks (task_start t) r (omega (arith, z.tasks-sized)))
+    ap (λ (x : List ℕ). is_blocked (to_task x).state) (row-put_at task_codec s.tasks (task_start t) r (omega (arith, z.tasks-sized)))
     ∙ blocked_back r.state
 
 pub ready-free : (x : TaskState) → is_ready x ≡ true → (is_live x ≡ true) × (is_blocked x ≡ false)
@@ -229,8 +229,8 @@ module _ (l b : ℕ → Bool) where
 
   -- ---- each write
 
-  pub row-tracked : (s : Store) (o : ℕ) (x : Object) → Tracked l b s → Tracked l b (put_object s o x)
-  row-tracked s o x k = like s _ (sized-put_object s o x k.sized) (unfold put_object in refl) (ap (λ (h : Header). h.next) (header_put-object s o x)) (λ t. unfold task put_object in refl) k
+  pub row_tracked : (s : Store) (o : ℕ) (x : Object) → Tracked l b s → Tracked l b (put_object s o x)
+  row_tracked s o x k = like s _ (sized-put_object s o x k.sized) (unfold put_object in refl) (ap (λ (h : Header). h.next) (header_put-object s o x)) (λ t. unfold task put_object in refl) k
 
   moved-tracked : (s : Store) (m : Moment) → MomentFits m → Tracked l b s → Tracked l b (set_moment s m)
   moved-tracked s m f k =
@@ -259,9 +259,9 @@ module _ (l b : ℕ → Bool) where
       same_log : (v : ℕ) → blocked_by (b v) (set_state s t TaskState.Running).log v ≡ blocked_by (b v) s.log v
       same_log v = unfold set_state put_task in refl
 
-  pub exits-tracked : (s : Store) (t : ℕ) → Tracked l b s → Tracked l b (add_log (remove_task s t) (exited t))
+  pub exits_tracked : (s : Store) (t : ℕ) → Tracked l b s → Tracked l b (add_log (remove_task s t) (exited t))
   unfolding add_log remove_task remove_from_ready_queue put_queue put_task lives_by blocked_by
-  exits-tracked s t k =
+  exits_tracked s t k =
       gone s t _ (sized-add_log _ (exited t) (sized-put_queue _ _ (sized-put_task s t absent k.sized))) (unfold header in refl) (λ v. unfold task in refl) (λ v. refl) (λ v. refl) k
 
   goes-tracked : (s : Store) (t : ℕ) → Tracked l b s → Tracked l b (add_log (remove_task s t) (removed t))
@@ -322,9 +322,9 @@ module _ (l b : ℕ → Bool) where
       stuck-by v e (no ne) = k.stuck v (sym (there v ne) ∙ e) ∙ sym (ap (λ (x : Task). is_blocked x.state) (rows v ∙ task_put-other s n v r ne))
 
   -- a live task blocks
-  pub blocks-tracked : (s : Store) (t o : ℕ) → live s t ≡ true → Tracked l b s → Tracked l b (add_log (set_state s t (TaskState.Blocked (heap_id o))) (blocked t))
+  pub blocks_tracked : (s : Store) (t o : ℕ) → live s t ≡ true → Tracked l b s → Tracked l b (add_log (set_state s t (TaskState.Blocked (heap_id o))) (blocked t))
   unfolding add_log lives_by blocked_by
-  blocks-tracked s t o e k =
+  blocks_tracked s t o e k =
       changes s t (TaskState.Blocked (heap_id o)) _ low (live_low s t e).1 refl (sized-add_log _ (blocked t) (sized-set_state s t _ k.sized))
       (unfold header in (state_next s t (TaskState.Blocked (heap_id o)))) (λ v. unfold task in refl)
       (λ v. unfold set_state put_task in refl)
@@ -338,25 +338,25 @@ module _ (l b : ℕ → Bool) where
 
   -- ---- the walk's premises
 
-  pub tracked-commits : Commits (Tracked l b)
-  tracked-commits =
+  pub tracked_commits : Commits (Tracked l b)
+  tracked_commits =
       record {
-        row = λ s o x low t k. row-tracked s o x k;
+        row = λ s o x low t k. row_tracked s o x k;
         value-put = λ s p v k. like s _ (sized-put_place s p _ k.sized) (unfold put_place in refl) (unfold header put_place in refl) (λ t. unfold task put_place in refl) k;
         spawns = spawns-tracked;
       }
 
-  pub tracked-closed : Closed (Tracked l b)
-  tracked-closed =
+  pub tracked_closed : Closed (Tracked l b)
+  tracked_closed =
       record {
         sized = λ s k. k.sized;
-        row = λ s o x low t k. row-tracked s o x k;
+        row = λ s o x low t k. row_tracked s o x k;
         values-put = λ s ps e k. like s _ (sized-put_places s ps e k.sized) (unfold put_places in refl) (unfold header put_places in refl) (λ t. unfold task put_places in refl) k;
         queued = λ s q k. like s _ (sized-put_queue s q k.sized) (unfold put_queue in refl) (unfold header put_queue in refl) (λ t. unfold task put_queue in refl) k;
         moved = moved-tracked;
         wakes = wakes-tracked;
         runs_on = runs-tracked;
-        exits = exits-tracked;
+        exits = exits_tracked;
         goes = goes-tracked;
         ends = ends-tracked;
       }

@@ -23,7 +23,7 @@ use Rattle.machine_laws.specs.SoundLaws.{refusal-forget, refusal-sound}
 use Rattle.machine_theorems.specs.Soundness.ReadyTasks.{Queued}
 use Rattle.machine_theorems.specs.Soundness.RowFacts.{ready-live}
 use Rattle.machine_theorems.specs.Soundness.Stores.{SoundStore, sound-store_of}
-use Rattle.machine_theorems.specs.Soundness.Sessions.{forget-sound-store}
+use Rattle.machine_theorems.specs.Soundness.Sessions.{forget-sound_store}
 use Rattle.machine_sessions.specs.Queue.Tracked.{live-is}
 use Rattle.machine_sessions.specs.Queue.Following.{stands_there}
 use Rattle.machine_sessions.specs.Removals.Left.{sound_queue}
@@ -99,7 +99,7 @@ module _ (s : Store) (t : ℕ) (w : SoundStore s) (r : refusal s (Event.cancel t
 -- Whatever is lent: a cancel that no refusal meets.
 pub cancel-count : (s : Store) (t : ℕ) → Sized s → length s.queue.ids ≡ task_limit → refusal s (Event.cancel t) ≡ 0 → CancelLeaves s (step s (Event.cancel t))
 cancel-count s t z ids r =
-    subst (CancelLeaves s) (sym (accepted-step s (Event.cancel t) r)) (as-forgotten (accept-leaves (forget s) t (forget-sound-store s w) (refusal-forget s (Event.cancel t) ∙ r)))
+    subst (CancelLeaves s) (sym (accepted-step s (Event.cancel t) r)) (as-forgotten (accept-leaves (forget s) t (forget-sound_store s w) (refusal-forget s (Event.cancel t) ∙ r)))
   where
     w : SoundStore s
     w = sound-store_of s z ids (refusal-sound s (Event.cancel t) r)

@@ -27,7 +27,7 @@ use Rattle.machine_theorems.specs.Soundness.Stores.{SoundStore}
 use Rattle.machine_sessions.specs.Queue.Tracked.{moment_next}
 use Rattle.machine_sessions.specs.Queue.Following.{stands_there}
 use Rattle.machine_sessions.specs.Removals.Keep.{keep_all, keep-none, keep-count}
-use Rattle.machine_sessions.specs.Removals.Left.{QueueLeft, removed-other, removed-dead, sound_queue, same_left, one_left}
+use Rattle.machine_sessions.specs.Removals.Left.{QueueLeft, removed-other, removed_dead, sound_queue, same_left, one_left}
 use Rattle.machine_sessions.specs.Removals.Cancels.{is_queued, removed_between, queued-live}
 
 -- ---- the claim
@@ -96,7 +96,7 @@ module _ (s : Store) (w : SoundStore s) where
       gone e v l = at (ℕ_discrete v t)
         where
           at : Dec (v ≡ t) → is_live (task (cancel_one u t) v).state ≡ false
-          at (yes y) = subst (λ (m : ℕ). is_live (task (cancel_one u t) m).state ≡ false) (sym y) (removed-dead u t q.sized e)
+          at (yes y) = subst (λ (m : ℕ). is_live (task (cancel_one u t) m).state ≡ false) (sym y) (removed_dead u t q.sized e)
           at (no ne) = ap (λ (r : Task). is_live r.state) (removed-other u t v ne) ∙ d v (omega arith)
 
       stays : is_live (task u t).state ≡ false → DeadBelow (t + 1) u

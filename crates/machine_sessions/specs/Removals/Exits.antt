@@ -24,12 +24,12 @@ use Rattle.machine.specs.Store.{Store, task, object, header, put_task, put_objec
 use Rattle.machine.specs.Scheduler.{remove_from_ready_queue, remove_task}
 use Rattle.machine.specs.Delivery.{Delivery, deliver_awaiter_success, deliver_awaiter_failure}
 use Rattle.machine.specs.Sound.{runs_now}
-use Rattle.machine.specs.Events.{Switched, completed, run, activate-state, activate, resume-after-task-exit, handle_task_completion, handle-task-failure}
+use Rattle.machine.specs.Events.{Switched, completed, run, activate_state, activate, resume_after_task_exit, handle_task_completion, handle_task_failure}
 use Rattle.machine_laws.specs.Views.{Sized}
 use Rattle.machine_laws.specs.StoreLaws.{header-fits, task-fits, task_put-other, sized-put_task, sized-put_object, sized-put_queue, sized-add_log}
 use Rattle.machine_laws.specs.CycleLaws.{activate_once}
 use Rattle.machine_laws.specs.SizedLaws.{sized_closed}
-use Rattle.machine_laws.specs.Walk.{success-kept, failure-kept}
+use Rattle.machine_laws.specs.Walk.{success_kept, failure_kept}
 use Rattle.machine_laws.specs.DeliveryLaws.{absurd_some}
 use Rattle.machine_theorems.specs.Soundness.RowFacts.{ready-live}
 use Rattle.machine_theorems.specs.Soundness.ReadyTasks.{Queued, not-queued}
@@ -48,7 +48,7 @@ unfoldable pub completion_left : Store → ℕ → Value → Delivery
 completion_left s t v =
     deliver_awaiter_success (add_log (remove_task (put_object s (task s t).coroutine.0 (completed (object s (task s t).coroutine.0))) t) (exited t)) (task s t).awaiter v
 
--- handle-task-failure: its awaiter has the error, then the task has gone
+-- handle_task_failure: its awaiter has the error, then the task has gone
 unfoldable pub failure_left : Store → ℕ → Error → Delivery
 failure_left s t e =
     let d : Delivery = deliver_awaiter_failure s (task s t).awaiter e in
@@ -59,16 +59,16 @@ failure_left s t e =
 pub record ExitLeaves (s : Store) (t : ℕ) (d : Delivery) : Type 0 where
   pub nowhere : stood_at s.queue t ≡ Position.Nowhere
   pub at_back : (w : ℕ) → d.woken ≡ some w → stood_at d.store.queue w ≡ Position.At s.queue.len
-  pub runs-ahead : (w : ℕ) → d.woken ≡ some w → entries (resume-after-task-exit activate d).store.queue ≡ entries s.queue
+  pub runs-ahead : (w : ℕ) → d.woken ≡ some w → entries (resume_after_task_exit activate d).store.queue ≡ entries s.queue
   pub unwoken : d.woken ≡ none → d.store.queue ≡ s.queue
 
 -- these are what the machine goes on with
-pub completion_goes_on : (s : Store) (t : ℕ) (v : Value) → handle_task_completion s t v ≡ resume-after-task-exit activate (completion_left s t v)
+pub completion_goes_on : (s : Store) (t : ℕ) (v : Value) → handle_task_completion s t v ≡ resume_after_task_exit activate (completion_left s t v)
 unfolding handle_task_completion completion_left
 completion_goes_on s t v = refl
 
-pub failure_goes_on : (s : Store) (t : ℕ) (e : Error) → handle-task-failure activate s t e ≡ resume-after-task-exit activate (failure_left s t e)
-unfolding handle-task-failure failure_left
+pub failure_goes_on : (s : Store) (t : ℕ) (e : Error) → handle_task_failure activate s t e ≡ resume_after_task_exit activate (failure_left s t e)
+unfolding handle_task_failure failure_left
 failure_goes_on s t e = refl
 
 -- ---- the waiter runs
@@ -77,21 +77,21 @@ failure_goes_on s t e = refl
 runs_on : (u : Store) (w : ℕ) → Sized u → w < task_limit → is_ready (task u w).state ≡ true → is_unstarted (task u w).state ≡ false → (activate u w).store.queue ≡ u.queue
 runs_on u w z l r n = ap (λ (x : Switched). x.store.queue) (activate_once u w z l (ready-live (task u w).state r)) ∙ by (task u w).state r n
   where
-    by : (x : TaskState) → is_ready x ≡ true → is_unstarted x ≡ false → (activate-state activate u w x).store.queue ≡ u.queue
+    by : (x : TaskState) → is_ready x ≡ true → is_unstarted x ≡ false → (activate_state activate u w x).store.queue ≡ u.queue
     by TaskState.Absent a b = absurd (true≢false (sym a))
     by TaskState.Unstarted a b = absurd (true≢false b)
     by TaskState.Running a b = absurd (true≢false (sym a))
-    by (TaskState.Woken v) a b = unfold activate-state run set_moment put_header set_state put_task in refl
-    by (TaskState.Raised e) a b = unfold activate-state run set_moment put_header set_state put_task in refl
+    by (TaskState.Woken v) a b = unfold activate_state run set_moment put_header set_state put_task in refl
+    by (TaskState.Raised e) a b = unfold activate_state run set_moment put_header set_state put_task in refl
     by (TaskState.Blocked o) a b = absurd (true≢false (sym a))
 
-exit_resumes : (d : Delivery) (w : ℕ) → d.woken ≡ some w → resume-after-task-exit activate d ≡ activate (remove_from_ready_queue d.store w) w
-unfolding resume-after-task-exit
+exit_resumes : (d : Delivery) (w : ℕ) → d.woken ≡ some w → resume_after_task_exit activate d ≡ activate (remove_from_ready_queue d.store w) w
+unfolding resume_after_task_exit
 exit_resumes d w e = rw e
 
 -- u has the row of w as it was put into y
 waiter_runs : (d : Delivery) (y : Store) (w : ℕ) (x : TaskState) → d.woken ≡ some w → Sized d.store → Sized y → w < task_limit → is_ready x ≡ true → is_unstarted x ≡ false
-    → task d.store w ≡ task (put_task y w (restate (task y w) x)) w → (resume-after-task-exit activate d).store.queue ≡ remove d.store.queue w
+    → task d.store w ≡ task (put_task y w (restate (task y w) x)) w → (resume_after_task_exit activate d).store.queue ≡ remove d.store.queue w
 waiter_runs d y w x e z zy l r n row =
     ap (λ (k : Switched). k.store.queue) (exit_resumes d w e)
     ∙ runs_on (remove_from_ready_queue d.store w) w (unfold remove_from_ready_queue in (sized-put_queue _ _ z)) l
@@ -196,7 +196,7 @@ module _ (s : Store) (t : ℕ) (v : Value) (z : Sized s) (low : t < task_limit) 
       d = deliver_awaiter_success left (task s t).awaiter v
 
       d-sized : Sized d.store
-      d-sized = success-kept Sized sized_closed left (task s t).awaiter v (task-fits s t).awaiter_fits left-sized
+      d-sized = success_kept Sized sized_closed left (task s t).awaiter v (task-fits s t).awaiter_fits left-sized
 
       by : Effect left d → ExitLeaves s t d
       by (nobody e n) = record { nowhere = nowhere-now s t k; at_back = λ w q. absurd_some (sym n ∙ q); runs-ahead = λ w q. absurd_some (sym n ∙ q); unwoken = λ q. e.queue ∙ left-queue }
@@ -253,7 +253,7 @@ module _ (s : Store) (t : ℕ) (e : Error) (z : Sized s) (k : Runs s t) where
           gone_sized : Sized gone
           gone_sized =
               unfold remove_task remove_from_ready_queue in
-              (sized-add_log _ (exited t) (sized-put_queue _ _ (sized-put_task _ t absent (failure-kept Sized sized_closed s (task s t).awaiter e (task-fits s t).awaiter_fits z))))
+              (sized-add_log _ (exited t) (sized-put_queue _ _ (sized-put_task _ t absent (failure_kept Sized sized_closed s (task s t).awaiter e (task-fits s t).awaiter_fits z))))
 
           -- the waiter is another task
           other : w ≡ t → ⊥

@@ -51,8 +51,8 @@ module _ (u : Store) (t : ℕ) where
   removed-other v ne = removed-rows v ∙ task_put-other u t v absent ne
 
   -- it lives no more
-  pub removed-dead : Sized u → is_live (task u t).state ≡ true → is_live (task (cancel_one u t) t).state ≡ false
-  removed-dead z lv = ap (λ (r : Task). is_live r.state) (removed-rows t) ∙ (live-put_task u t absent z (live_in_table u t z lv) ∙ (unfold absent in refl))
+  pub removed_dead : Sized u → is_live (task u t).state ≡ true → is_live (task (cancel_one u t) t).state ≡ false
+  removed_dead z lv = ap (λ (r : Task). is_live r.state) (removed-rows t) ∙ (live-put_task u t absent z (live_in_table u t z lv) ∙ (unfold absent in refl))
 
 -- what stands in the queue of a sound store
 pub sound_queue : (s : Store) → SoundStore s → Queued (header s).next (task s) (entries s.queue)
@@ -81,7 +81,7 @@ module _ (s : Store) (w : SoundStore s) where
             ∙ removal_retains t (entries u.queue) (stood_at u.queue t) _ (subst Distinct (sym k.order) (keep_distinct _ (entries s.queue) (sound_queue s w).distinct))
             (removal u.queue t k.ids k.len)
             ∙ ap (λ (l : List ℕ). retain l t) k.order
-            ∙ sym (keep_less (λ v. is_live (task u v).state) (λ v. is_live (task (cancel_one u t) v).state) t (entries s.queue) (removed-dead u t k.sized lv)
+            ∙ sym (keep_less (λ v. is_live (task u v).state) (λ v. is_live (task (cancel_one u t) v).state) t (entries s.queue) (removed_dead u t k.sized lv)
             (λ v ne. ap (λ (r : Task). is_live r.state) (removed-other u t v ne)));
       }
     where

@@ -48,9 +48,9 @@ module _ (x : Session) (f : Following x) (k : Waiting x.history x.store) (waits 
   abbrev h : List Entry
   h = x.history
 
-  lives-now : (v : ℕ) → lives h v ≡ live s v
+  lives_now : (v : ℕ) → lives h v ≡ live s v
   unfolding lives_by forget
-  lives-now v = f.tracked.alive v ∙ forget_live s v
+  lives_now v = f.tracked.alive v ∙ forget_live s v
 
   -- who had been ready stands in the queue
   ready-stands : (v : ℕ) → lives h v ≡ true → stays_blocked h v ≡ false → is_queued s v ≡ true
@@ -58,7 +58,7 @@ module _ (x : Session) (f : Following x) (k : Waiting x.history x.store) (waits 
   ready-stands v l b = is_there (entries s.queue) v ((k.alive going).stands.stands v low.0 (free-ready (task s v).state low.1 unblocked runs-not) (λ z. z))
     where
       alive-now : live s v ≡ true
-      alive-now = sym (lives-now v) ∙ l
+      alive-now = sym (lives_now v) ∙ l
 
       low : (v < (header s).next) × (is_live (task s v).state ≡ true)
       low = live_low s v alive-now
@@ -83,7 +83,7 @@ module _ (x : Session) (f : Following x) (k : Waiting x.history x.store) (waits 
       no_way false b p q e = refl
 
       by : (b : Bool) → is_in v (entries s.queue) ≡ b → (b && live s v) ≡ (lives h v && not (stays_blocked h v))
-      by true e = let q = queue_right x f in rw (← lives-now v, q.live v e, q.unblocked v e)
+      by true e = let q = queue_right x f in rw (← lives_now v, q.live v e, q.unblocked v e)
       by false e = no_way (lives h v) (stays_blocked h v) refl refl e
 
 -- an accepted cancel, on lent memory
@@ -91,18 +91,18 @@ module _ (x : Session) (f : Following x) (k : Waiting x.history x.store) (e : Se
   abbrev before : Store
   before = x.store
 
-  abbrev after-it : Store
-  after-it = (lent_any before e).store
+  abbrev after_it : Store
+  after_it = (lent_any before e).store
 
-  abbrev its-entry : Entry
-  its-entry = entry_of e.event (lent_any before e).answer after-it
+  abbrev its_entry : Entry
+  its_entry = entry_of e.event (lent_any before e).answer after_it
 
-  removed-now : (v : ℕ) → lives (its-entry ∷ x.history) v ≡ live after-it v
+  removed-now : (v : ℕ) → lives (its_entry ∷ x.history) v ≡ live after_it v
   unfolding send
-  removed-now v = unfold lives_by forget in (y.tracked.alive v ∙ forget_live after-it v)
+  removed-now v = unfold lives_by forget in (y.tracked.alive v ∙ forget_live after_it v)
 
   answered : refusal before (Event.cancel t) ≡ 0 → (lent_any before e).store ≡ (step before (Event.cancel t)).store → (lent_any before e).answer ≡ (step before (Event.cancel t)).answer
-      → (lent_any before e).answer ≡ Answer.cancelled (ready_removed x.history its-entry)
+      → (lent_any before e).answer ≡ Answer.cancelled (ready_removed x.history its_entry)
   unfolding ready_removed removed_between
   answered r p q =
       q
@@ -116,21 +116,21 @@ module _ (x : Session) (f : Following x) (k : Waiting x.history x.store) (e : Se
       join true b d = refl
       join false b d = refl
 
-      same : (v : ℕ) → (is_queued before v && removed_between before (step before (Event.cancel t)).store v) ≡ (had_been_ready x.history v && not (lives (its-entry ∷ x.history) v))
-      same v = rw (← p, removed-now v, ← queued-ready x f k waits v) (join (is_queued before v) (live before v) (not (live after-it v)))
+      same : (v : ℕ) → (is_queued before v && removed_between before (step before (Event.cancel t)).store v) ≡ (had_been_ready x.history v && not (lives (its_entry ∷ x.history) v))
+      same v = rw (← p, removed-now v, ← queued-ready x f k waits v) (join (is_queued before v) (live before v) (not (live after_it v)))
 
-  one-counts : CountRight x.history its-entry
+  one-counts : CountRight x.history its_entry
   unfolding CountRight entry_of
   one-counts says_so accepts = by (sends before e f.whole.memory.sized)
     where
       refuses : (n : ℕ) → (lent_any before e).answer ≡ Answer.refused n → ⊥
       refuses n q = true≢false (sym accepts ∙ (ap (λ (a : Answer). (tells a).accepts) q ∙ (unfold tells in refl)))
 
-      by : Sends before e → (lent_any before e).answer ≡ Answer.cancelled (ready_removed x.history its-entry)
+      by : Sends before e → (lent_any before e).answer ≡ Answer.cancelled (ready_removed x.history its_entry)
       by (short p q) = absurd (refuses 1 q)
       by (stepped p q) = on (ℕ_discrete (refusal before (Event.cancel t)) 0)
         where
-          on : Dec (refusal before (Event.cancel t) ≡ 0) → (lent_any before e).answer ≡ Answer.cancelled (ready_removed x.history its-entry)
+          on : Dec (refusal before (Event.cancel t) ≡ 0) → (lent_any before e).answer ≡ Answer.cancelled (ready_removed x.history its_entry)
           on (yes r) = answered r (p ∙ ap (λ (v : Event). (step before v).store) c) (q ∙ ap (λ (v : Event). (step before v).answer) c)
           on (no ne) = absurd (refuses _ (q ∙ ap (λ (v : Event). (step before v).answer) c ∙ ap (λ z. z.answer) (refused-step before (Event.cancel t) _ refl ne)))
 

@@ -28,7 +28,7 @@ use Rattle.machine_theorems.specs.Soundness.Stores.{SoundStore}
 use Rattle.machine_theorems.specs.Soundness.Preserved.{waiting}
 use Rattle.machine_sessions.specs.Queue.Tracked.{live_low}
 use Rattle.machine_sessions.specs.Removals.Keep.{keep-occurrences}
-use Rattle.machine_sessions.specs.Removals.Left.{QueueLeft, removed-other, removed-dead, same_left, one_left}
+use Rattle.machine_sessions.specs.Removals.Left.{QueueLeft, removed-other, removed_dead, same_left, one_left}
 use Rattle.machine_sessions.specs.Stall.Standing.{Stands}
 use Rattle.machine_sessions.specs.Stall.NoStall.{Source, by_external, by_gather, by_nobody, by_task, Roots, root, above, Sourced}
 use Rattle.machine_sessions.specs.Stall.TaskLog.{exits_by, used_coroutine, any_coroutine, Tasks}
@@ -69,7 +69,7 @@ module _ (s : Store) (sw : SoundStore s) where
       tells b v = unfold add_log remove_task remove_from_ready_queue put_queue put_task exits_by in refl
 
       rows-by : (v : ℕ) → Dec (v ≡ t) → (task w v ≡ task s v) ⊎ ((is_live (task w v).state ≡ false) × (1 ≤ v))
-      rows-by v (yes d) = inr (subst (λ (m : ℕ). is_live (task w m).state ≡ false) (sym d) (removed-dead u t k.left.sized lv), subst (λ (m : ℕ). 1 ≤ m) (sym d) pos)
+      rows-by v (yes d) = inr (subst (λ (m : ℕ). is_live (task w m).state ≡ false) (sym d) (removed_dead u t k.left.sized lv), subst (λ (m : ℕ). 1 ≤ m) (sym d) pos)
       rows-by v (no ne) = on (k.rows v)
         where
           on : (task u v ≡ task s v) ⊎ ((is_live (task u v).state ≡ false) × (1 ≤ v)) → (task w v ≡ task s v) ⊎ ((is_live (task w v).state ≡ false) × (1 ≤ v))
@@ -80,12 +80,12 @@ module _ (s : Store) (sw : SoundStore s) where
 pub record Cancellable (s : Store) (t : ℕ) : Type 0 where
   pub waits : (header s).moment ≡ Moment.Waiting
   pub low : t < (header s).next
-  pub is-live-now : is_live (task s t).state ≡ true
+  pub is_live_now : is_live (task s t).state ≡ true
   pub spawned : 1 ≤ t
 
 pub cancel_passes : (s : Store) (t : ℕ) → SoundStore s → refusal s (Event.cancel t) ≡ 0 → Cancellable s t
 unfolding refusals
-cancel_passes s t w r = record { waits = q.0; low = there.0; is-live-now = there.1; spawned = omega (arith, eqb-false t 0 (pass 8 (eqb t 0) [] p.1).0) }
+cancel_passes s t w r = record { waits = q.0; low = there.0; is_live_now = there.1; spawned = omega (arith, eqb-false t 0 (pass 8 (eqb t 0) [] p.1).0) }
   where
     q : ((header s).moment ≡ Moment.Waiting) × (first_refusal ((5, not (live s t)) ∷ (9, eqb t 0) ∷ []) ≡ 0)
     q = waiting s w _ (refusal-rest s (Event.cancel t) r)
@@ -98,7 +98,7 @@ cancel_passes s t w r = record { waits = q.0; low = there.0; is-live-now = there
 
 -- A cancel that the table lets through, in a sound store, a lent one too.
 pub cancel_removes : (s : Store) (t : ℕ) → SoundStore s → Cancellable s t → Removes s (cancel_task s t)
-cancel_removes s t w c = walked-kept (Removes s) (record { goes = one-goes s w }) s t (one-goes s w s t c.is-live-now c.spawned same-all)
+cancel_removes s t w c = walked-kept (Removes s) (record { goes = one-goes s w }) s t (one-goes s w s t c.is_live_now c.spawned same-all)
   where
     same-all : Removes s s
     same-all = record { left = same_left s w; objects = refl; places = refl; rows = λ v. inl refl; spawned = λ b v. refl; exits = λ b v. refl }

@@ -12,7 +12,7 @@ use Rattle.asyncio.specs.RangeLaws.{pick_has}
 use Rattle.machine.specs.Tests.{is_in}
 use Rattle.machine.specs.Store.{Store, object, header}
 use Rattle.machine.specs.Scheduler.{pending_call_ids, cleanup}
-use Rattle.machine.specs.Events.{Control, runs, waits, activate, handle_task_completion, handle-task-failure}
+use Rattle.machine.specs.Events.{Control, runs, waits, activate, handle_task_completion, handle_task_failure}
 use Rattle.machine.specs.Machine.{Event, Answer, Step, switched, answer_await, end_main, task_completes, task_fails, runner, repeat_wait, resume_with_resolved_futures, refusal, refusals, in_running, in_waiting, in_both, accept}
 use Rattle.machine.specs.Sound.{is_ended}
 use Rattle.machine.specs.History.{Entry, Says, said, tells, done_only, is_at, cancelled}
@@ -154,7 +154,7 @@ main_finishes s (Event.complete v) m =
     subst (λ (b : Bool). Finished s (pick b (end_main s (Answer.finished v)) (switched (handle_task_completion s (runner (header s).moment) v)))) (sym (eq-eqb (runner (header s).moment) 0 m))
     (record { store_is = unfold end_main in refl; no-control = unfold end_main tells done_only in refl; no-stall = unfold end_main is_stalled in refl })
 main_finishes s (Event.fail n) m =
-    subst (λ (b : Bool). Finished s (pick b (end_main s (Answer.finished_error (Error.Script n))) (switched (handle-task-failure activate s (runner (header s).moment) (Error.Script n))))) (sym (eq-eqb (runner (header s).moment) 0 m))
+    subst (λ (b : Bool). Finished s (pick b (end_main s (Answer.finished_error (Error.Script n))) (switched (handle_task_failure activate s (runner (header s).moment) (Error.Script n))))) (sym (eq-eqb (runner (header s).moment) 0 m))
     (record { store_is = unfold end_main in refl; no-control = unfold end_main tells done_only in refl; no-stall = unfold end_main is_stalled in refl })
 main_finishes s (Event.results rs) m = absurd m
 main_finishes s Event.resume m = absurd m

@@ -88,8 +88,8 @@ module _ (G : ℕ → Type 0) (s u : Store) (objects : (o : ℕ) → object u o 
   roots-back (root g t w e a) = root g t w (sym (ap as_awaited (objects g)) ∙ e) a
   roots-back (above g t p x w e a r) = above g t p x w (sym (ap as_awaited (objects g)) ∙ e) a (roots-back r)
 
-  pub sourced-like : Sourced G s → Sourced G u
-  sourced-like k =
+  pub sourced_like : Sourced G s → Sourced G u
+  sourced_like k =
       record {
         sources = λ g o w l e op.
             source-like g o (k.sources g o w (subst (λ (h : Header). g < h.made) head l) (sym (ap as_awaited (objects g)) ∙ e)

@@ -23,7 +23,7 @@ use Rattle.machine_laws.specs.Facts.{Nothing}
 use Rattle.machine_laws.specs.StoreLaws.{object-fits}
 use Rattle.machine_laws.specs.DeliveryLaws.{pending-object}
 use Rattle.machine_theorems.specs.Soundness.Stores.{SoundDuring}
-use Rattle.machine_theorems.specs.Soundness.Results.{low, resolve-delivering, fail-delivering, MayApply, AllApply, host_fits, result_keeps}
+use Rattle.machine_theorems.specs.Soundness.Results.{low, resolve_delivering, fail_delivering, MayApply, AllApply, host_fits, result_keeps}
 use Rattle.machine_sessions.specs.Stall.Effects.{Effect, success_effect, failure_effect}
 
 module _ (K : Store → Type 0) (row : (s : Store) (o : ℕ) (x : Object) → K s → K (put_object s o x))
@@ -47,14 +47,14 @@ module _ (K : Store → Type 0) (row : (s : Store) (o : ℕ) (x : Object) → K 
     unfolding resolve_future resolve_pending
     resolve-kept c v k =
         found-kept c _ (λ o p l e.
-        let m = (resolve-delivering s h v k o p l e).during in
+        let m = (resolve_delivering s h v k o p l e).during in
         delivered _ _ _ _ _ m _ (success_effect _ p.awaiter (value_or p.stored v) m.kept.memory.sized (awaiter-low o p e)) (row s o _ st))
 
     fail-kept : (c : ℕ) (x : Error) → ErrorFits x → K (fail_future s c x)
     unfolding fail_future fail_pending
     fail-kept c x k =
         found-kept c _ (λ o p l e.
-        let m = (fail-delivering s h x k o p l e).during in
+        let m = (fail_delivering s h x k o p l e).during in
         delivered _ _ _ _ _ m _ (failure_effect _ p.awaiter x m.kept.memory.sized (awaiter-low o p e)) (row s o _ st))
 
     result-kept : (x : Result) → MayApply hd.made D x → K (apply_result s x)

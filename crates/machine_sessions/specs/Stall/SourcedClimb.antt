@@ -58,8 +58,8 @@ module _ (G : ℕ → Type 0) (X : ℕ → ℕ → Type 0) (s : Store) (g : ℕ)
   roots-before (root p t v e a) = root p t v (before p v e).1 a
   roots-before (above p t q x v e a r) = above p t q x v (before p v e).1 a (roots-before r)
 
-  pub settle-sourced : SourcedBut G X s → SourcedBut G (OnWay w.awaiter g) u
-  settle-sourced k =
+  pub settle_sourced : SourcedBut G X s → SourcedBut G (OnWay w.awaiter g) u
+  settle_sourced k =
       record {
         sources = λ p o v l e op n.
             let b = before p v e in
@@ -179,7 +179,7 @@ module _ (G : ℕ → Type 0) (r : ℕ → Bool) (D : ℕ → Type 0) (hd : Head
           let a : (fail_gather s g e).onward ≡ some w.awaiter = ap (λ (t : Settled). t.onward) (fail-on s g e w q) in
           let st : (fail_gather s g e).store ≡ put_object s g y = ap (λ (t : Settled). t.store) (fail-on s g e w q) in
           let k1 : SourcedBut G (OnWay w.awaiter g) (put_object s g y) =
-          settle-sourced _ (OnWay (Awaiter.GatherSlot (heap_id g) (heap_id x)) o) s g w y z low ((awaited-fits s g w q).0, k) q (unfold as_awaited in refl) (λ p v d. slot_same p d.0) c in
+          settle_sourced _ (OnWay (Awaiter.GatherSlot (heap_id g) (heap_id x)) o) s g w y z low ((awaited-fits s g w q).0, k) q (unfold as_awaited in refl) (λ p v d. slot_same p d.0) c in
           rw (failure_climbs s (heap_id g) (heap_id x) e w.awaiter z low a)
           (go (fail_gather s g e).store g w.awaiter (omega (arith, sent.up w.awaiter a)) (sent.delivers-on w.awaiter a) (subst (SourcedBut G (OnWay w.awaiter g)) (sym st) k1))
 
@@ -194,5 +194,5 @@ module _ (G : ℕ → Type 0) (r : ℕ → Bool) (D : ℕ → Type 0) (hd : Head
   failure-climb (suc n) s o (Awaiter.GatherSlot g x) f i c = failure-slot n s o g.0 x.0 f i c (λ y p b j m d. failure-climb n y p b j m d)
 
   -- An error of object o goes to its awaiter.
-  pub failure-sourced : (s : Store) (o : ℕ) (a : Awaiter) → DeliveringError r D hd o s a → SourcedBut G (OnWay a o) s → Sourced G (deliver_awaiter_failure s a e).store
-  failure-sourced s o a i c = failure-climb object_limit s o a (omega arith) i c
+  pub failure_sourced : (s : Store) (o : ℕ) (a : Awaiter) → DeliveringError r D hd o s a → SourcedBut G (OnWay a o) s → Sourced G (deliver_awaiter_failure s a e).store
+  failure_sourced s o a i c = failure-climb object_limit s o a (omega arith) i c

@@ -30,16 +30,16 @@ use Rattle.machine_laws.specs.StoreLaws.{object_put-other, object-fits, header-f
 use Rattle.machine_laws.specs.DeliveryLaws.{absurd_some, awaited-fits}
 use Rattle.machine_theorems.specs.Soundness.Deliver.{task_slot, awaiter_is}
 use Rattle.machine_theorems.specs.Soundness.Fill.{gather_within, open_small}
-use Rattle.machine_theorems.specs.Soundness.Exits.{runner-low}
+use Rattle.machine_theorems.specs.Soundness.Exits.{runner_low}
 use Rattle.machine_theorems.specs.Soundness.Stores.{SoundStore}
 use Rattle.machine_theorems.specs.Soundness.Memory.{Memory, memory_object}
 use Rattle.machine_theorems.specs.Soundness.CommitSteps.{wider, wider_small}
 use Rattle.machine_theorems.specs.Soundness.CommitInv.{OnStack, OnTop, Stacked, bottom, above, Inv, with_state-is}
-use Rattle.machine_theorems.specs.Soundness.CommitLoop.{awaits_fits, Commits, settle-next, stacked_set}
+use Rattle.machine_theorems.specs.Soundness.CommitLoop.{awaits_fits, Commits, settle_next, stacked_set}
 use Rattle.machine_theorems.specs.Soundness.CommitItems.{AtNested, AtError, StopOk, inv_count}
 use Rattle.machine_theorems.specs.Soundness.AwaitGather.{nested_commits, frame-stops, commit_begins}
 use Rattle.machine_sessions.specs.Stall.NoStall.{by_gather, Sourced}
-use Rattle.machine_sessions.specs.Stall.SourcedCommitSteps.{Lit, lit_fewer, slot_gather-same, open-sourced, fill_sourced, leave_sourced, place_sourced}
+use Rattle.machine_sessions.specs.Stall.SourcedCommitSteps.{Lit, lit_fewer, slot_gather_same, open_sourced, fill_sourced, leave_sourced, place_sourced}
 use Rattle.machine_sessions.specs.Stall.SourcedCommitItems.{StopLit, items-lit}
 
 -- ---- the stack
@@ -74,7 +74,7 @@ slot_awaited {os = os} w e same (bottom d a) q (inl z) v c p x s =
 slot_awaited w e same (bottom d a) q (inr z) v c p x s = absurd z
 slot_awaited {os = os} {g = g} w e same (above {f = f} u j op lt nm lo aw rm rest) q (inl z) v c p x s =
     let b : w ≡ v = some-injective w v (sym e ∙ subst (λ (j : ℕ). as_awaited (os j) ≡ some v) z c) in
-    let d : f.gather ≡ p = slot_gather-same f.gather g p x (sym aw ∙ (sym same ∙ (ap (λ (y : AwaitedGather). y.awaiter) b ∙ s))) in
+    let d : f.gather ≡ p = slot_gather_same f.gather g p x (sym aw ∙ (sym same ∙ (ap (λ (y : AwaitedGather). y.awaiter) b ∙ s))) in
     (u, subst (λ (j : ℕ). as_awaited (os j) ≡ some u) d op.awaited)
 slot_awaited w e same (above u j op lt nm lo aw rm rest) q (inr z) v c p x s = slot_awaited u op.awaited refl rest q z v c p x s
 
@@ -87,7 +87,7 @@ opened_lit : {G : ℕ → Type 0} (s : Store) (Q R : ℕ → Type 0) (n o f c : 
 unfolding open_gather_commit set_gather with_state
 opened_lit {G} s Q R n o f c a z l fits was b slots stack k =
     subst (λ (y : Object). Lit G R (put_object s o y)) (sym (ap (λ (y : Object). with_state y (GatherState.Awaited a 0)) was))
-    (open-sourced _ s Q R n o f c a z (omega (arith, l, (header-fits s).made-fits)) fits was b slots stack k)
+    (open_sourced _ s Q R n o f c a z (omega (arith, l, (header-fits s).made-fits)) fits was b slots stack k)
 
 -- a slot in a gather is in a committed one
 pending_slot : (s : Store) (o f c : ℕ) → object s o ≡ Object.GatherFuture f c GatherState.Pending → T (is_committed (kind (object s o))) → ⊥
@@ -248,7 +248,7 @@ turn_lit root t loop go f fs n j k (at_nested x i q) h l =
 turn_lit root t loop go f fs n j k (at_error x e) h l = error-lit root t f fs x e h l
 turn_lit root t loop go f [] n j k (at_end x) h l = root-lit root t x f.gather h.i h.memory h.inv l
 turn_lit root t loop go f (p ∷ ps) n j k (at_end x) h l =
-    go _ (record { gather = p.gather; next = p.next + 1 }) ps (suc n) j (suc k) (settle-next root t x f.gather h.i p ps h.memory h.inv h.end)
+    go _ (record { gather = p.gather; next = p.next + 1 }) ps (suc n) j (suc k) (settle_next root t x f.gather h.i p ps h.memory h.inv h.end)
     (resumed-lit _ root t x f.gather h.i p ps h.memory h.inv l)
 
 loop_lit : {G : ℕ → Type 0} (fuel root t : ℕ) → LoopLit G root t (commit_loop fuel)
@@ -270,7 +270,7 @@ commit_sourced {G} s t g f n h m l e k =
     fits : ObjectFits (Object.GatherFuture f n (GatherState.Awaited (Awaiter.Task (task_id t)) 0))
     fits =
         let old : ObjectFits (Object.GatherFuture f n GatherState.Pending) = subst ObjectFits e (object-fits s g) in
-        (old.0, (omega (arith, runner-low s t h m, (header-fits s).next_fits), omega arith))
+        (old.0, (omega (arith, runner_low s t h m, (header-fits s).next_fits), omega arith))
 
     slots : (p : ℕ) (w : AwaitedGather) → p < (header s).made → as_awaited (object s p) ≡ some w → (x : ℕ) → w.awaiter ≡ Awaiter.GatherSlot (heap_id g) (heap_id x) → ⊥
     slots p w lp q x a = pending_slot s g f n e (slot-committed p w lp q x a)

@@ -23,7 +23,7 @@ use Rattle.machine.specs.Commit.{Poll, ready, raised, pending, gives, await_pend
 use Rattle.machine.specs.Commit.{open_place, fill_place, Stop, at_end, at_nested, at_error, put_polled, put_item, step_item, step_items, Frame}
 use Rattle.machine.specs.Sound.{places_below, items_below, object_in_range}
 use Rattle.machine_laws.specs.Facts.{Open}
-use Rattle.machine_laws.specs.FactLaws.{open-found}
+use Rattle.machine_laws.specs.FactLaws.{open_found}
 use Rattle.machine_laws.specs.TestLaws.{holds, below}
 use Rattle.machine_laws.specs.StoreLaws.{sized-put_object, header_put-object, object_put-object, object_put-other, object-fits, place-fits, header-fits}
 use Rattle.machine_laws.specs.SizedLaws.{sized-spawn_as}
@@ -33,10 +33,10 @@ use Rattle.machine_theorems.specs.Soundness.Memory.{Memory}
 use Rattle.machine_theorems.specs.Soundness.CommitSteps.{wider, wider_small}
 use Rattle.machine_theorems.specs.Soundness.CommitInv.{OnTop, Stacked, bottom, above, Inv}
 use Rattle.machine_theorems.specs.Soundness.CommitLoop.{awaits_fits}
-use Rattle.machine_theorems.specs.Soundness.CommitItems.{Goes, PollOk, ItemOk, goes-length, one-keeps}
+use Rattle.machine_theorems.specs.Soundness.CommitItems.{Goes, PollOk, ItemOk, goes-length, one_keeps}
 use Rattle.machine_laws.specs.DeliveryLaws.{pending-object}
 use Rattle.machine_sessions.specs.Stall.NoStall.{by_external}
-use Rattle.machine_sessions.specs.Stall.SourcedCommitSteps.{Lit, fill_sourced, place_sourced, takes-lit, spawn-source, spawn-sourced, spawn-object, spawn-place, spawn-header}
+use Rattle.machine_sessions.specs.Stall.SourcedCommitSteps.{Lit, fill_sourced, place_sourced, takes-lit, spawn_source, spawn_sourced, spawn-object, spawn-place, spawn-header}
 
 -- a gather on the stack is awaited
 pub stack_awaited : {n : ℕ} {os : ℕ → Object} {ps : ℕ → Place} {root t g : ℕ} {a : Awaiter} {fs : List Frame} {k : ℕ} (w : AwaitedGather) → as_awaited (os g) ≡ some w → Stacked n os ps root t g a fs k
@@ -149,7 +149,7 @@ module _ (G : ℕ → Type 0) (root t g : ℕ) (fs : List Frame) (i : ℕ) (s : 
           (subst (λ (y : Header). g < y.made) (sym (spawn-header G s Q _ o g mem room low-o low-g made h.but)) made) low-g wide_fits
           (ap as_awaited (spawn-object G s Q _ o g mem room low-o low-g made h.but g) ∙ top)
           (ap (λ (y : Place). y.item.0) (spawn-place G s Q _ o g mem room low-o low-g made h.but (w.first + i)))
-          (spawn-source G s Q _ o g mem room low-o low-g made h.but) (λ q. absurd (not_on none-w q)) (spawn-sourced G s Q _ o g mem room low-o low-g made h.but k))
+          (spawn_source G s Q _ o g mem room low-o low-g made h.but) (λ q. absurd (not_on none-w q)) (spawn_sourced G s Q _ o g mem room low-o low-g made h.but k))
 
       room-or : (b : Bool) → ltb (header s).next task_limit ≡ b → ItemLit (polled (polled_spawn s (pick b (some (spawn_as s (header s).next o g)) none)))
       room-or true z = spawned-lit (ltb-true (header s).next task_limit z)
@@ -187,7 +187,7 @@ module _ (G : ℕ → Type 0) (root t g : ℕ) (fs : List Frame) (i : ℕ) (s : 
   one-lit = by (open_from (place s) w o 0 w.count) refl
     where
       by : (b : Bool) → open_from (place s) w o 0 w.count ≡ b → ItemLit (pick b (polled (gives s pending)) (item_object s g o (object s o)))
-      by true e = again (open-found (place s) w o w.count 0 (omega arith) (holds _ e))
+      by true e = again (open_found (place s) w o w.count 0 (omega arith) (holds _ e))
       by false e = item-lit (object s o) refl
 
   -- so the walk stops where it is said to, if it does from the next place on
@@ -203,7 +203,7 @@ module _ (G : ℕ → Type 0) (root t g : ℕ) (fs : List Frame) (i : ℕ) (s : 
       by pending ok l = f _ ok l
 
   pub step-lit : (go : Store → Stop) → ((y : Store) → Goes root t g fs i w.count y → Lit G Q y → StopLit G g fs (go y)) → StopLit G g fs (put_item g w i o s (item s g w o) go)
-  step-lit go f = put-lit go f (item s g w o) (one-keeps root t g fs i s mem h less) one-lit
+  step-lit go f = put-lit go f (item s g w o) (one_keeps root t g fs i s mem h less) one-lit
 
 -- The walk through the items.
 pub items-lit : {G : ℕ → Type 0} (n : ℕ) (root t g i : ℕ) (fs : List Frame) (s : Store) → Memory s → (h : Inv root t 0 (OnTop g fs) (view s) g i fs) → i + n ≡ h.w.count → Lit G (OnTop g fs) s

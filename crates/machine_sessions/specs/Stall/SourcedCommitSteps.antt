@@ -36,10 +36,10 @@ use Rattle.machine_theorems.specs.Soundness.SpawnTask.{one_more, spawned_row, sp
 use Rattle.machine_theorems.specs.Soundness.Memory.{Memory}
 use Rattle.machine_theorems.specs.Soundness.Fill.{awaits_on}
 use Rattle.machine_theorems.specs.Soundness.CommitSteps.{wider}
-use Rattle.machine_theorems.specs.Soundness.CommitItems.{spawn-store-view}
+use Rattle.machine_theorems.specs.Soundness.CommitItems.{spawn_store_view}
 use Rattle.machine_sessions.specs.Stall.NoStall.{Source, by_external, by_gather, by_nobody, by_task, Roots, root, above, Sourced}
 use Rattle.machine_sessions.specs.Stall.SourcedPlan.{SourcedBut, OnWay, but_of, all_of}
-use Rattle.machine_sessions.specs.Stall.SourcedClimb.{settle-sourced, apart}
+use Rattle.machine_sessions.specs.Stall.SourcedClimb.{settle_sourced, apart}
 use Rattle.machine_sessions.specs.Stall.SourcedEvents.{takes_sourced}
 
 -- In the midst of a commit, whose stack is Q. (None of G is a gather; a place that names one of G has its source, nobody.)
@@ -56,8 +56,8 @@ slot_gather Awaiter.Nobody = 0
 slot_gather (Awaiter.Task t) = 0
 slot_gather (Awaiter.GatherSlot a b) = a.0
 
-pub slot_gather-same : (g x p o : ℕ) → Awaiter.GatherSlot (heap_id g) (heap_id x) ≡ Awaiter.GatherSlot (heap_id p) (heap_id o) → g ≡ p
-slot_gather-same g x p o q = unfold slot_gather in (ap slot_gather q)
+pub slot_gather_same : (g x p o : ℕ) → Awaiter.GatherSlot (heap_id g) (heap_id x) ≡ Awaiter.GatherSlot (heap_id p) (heap_id o) → g ≡ p
+slot_gather_same g x p o q = unfold slot_gather in (ap slot_gather q)
 
 -- ---- what soundness says of sources and roots
 
@@ -78,26 +78,26 @@ slot_made hd a g x k e = ltb→lt g hd.made (subst (λ (b : Awaiter). T (awaiter
 
 module _ (s : Store) (n : ℕ) (P Q : ℕ → Type 0) (b : SoundBut n P Q (view s)) where
   -- a gather not committed yet is nobody's source
-  pub pending-source : {G : ℕ → Type 0} (p o f m : ℕ) → object s o ≡ Object.GatherFuture f m GatherState.Pending → Source G s p o → G o
+  pub pending_source : {G : ℕ → Type 0} (p o f m : ℕ) → object s o ≡ Object.GatherFuture f m GatherState.Pending → Source G s p o → G o
   unfolding view as_pending as_awaited kind
-  pending-source p o f m e (by_external x q a) = absurd_some (sym (ap as_pending e) ∙ q)
-  pending-source p o f m e (by_gather x q a) = absurd_some (sym (ap as_awaited e) ∙ q)
-  pending-source p o f m e (by_nobody j) = j
-  pending-source p o f m e (by_task t l lv a) =
+  pending_source p o f m e (by_external x q a) = absurd_some (sym (ap as_pending e) ∙ q)
+  pending_source p o f m e (by_gather x q a) = absurd_some (sym (ap as_awaited e) ∙ q)
+  pending_source p o f m e (by_nobody j) = j
+  pending_source p o f m e (by_task t l lv a) =
       let own : o ≡ (task s t).coroutine.0 = (b.task-slots t l (holds _ lv) p o a).own in
       let co : T (is_coroutine (kind (object s (task s t).coroutine.0))) = coroutine-at (header s) (object s) t (task s t) p o (b.tasks t l) (holds _ lv) a in
       absurd (subst (λ (y : Object). T (is_coroutine (kind y))) e (subst (λ (j : ℕ). T (is_coroutine (kind (object s j)))) (sym own) co))
 
   -- the gather above a made one is made
-  pub parent-made : (p q x : ℕ) (w : AwaitedGather) → p < (header s).made → as_awaited (object s p) ≡ some w → w.awaiter ≡ Awaiter.GatherSlot (heap_id q) (heap_id x) → q < (header s).made
+  pub parent_made : (p q x : ℕ) (w : AwaitedGather) → p < (header s).made → as_awaited (object s p) ≡ some w → w.awaiter ≡ Awaiter.GatherSlot (heap_id q) (heap_id x) → q < (header s).made
   unfolding view
-  parent-made p q x w l e a = slot_made (header s) (awaiter_of (object s p)) q x (b.awaiters p l) (awaiter_is (object s p) w e ∙ a)
+  parent_made p q x w l e a = slot_made (header s) (awaiter_of (object s p)) q x (b.awaiters p l) (awaiter_is (object s p) w e ∙ a)
 
   -- the task at the top was spawned
-  pub roots-spawned : {g t : ℕ} → g < (header s).made → Roots s g t → t < (header s).next
+  pub roots_spawned : {g t : ℕ} → g < (header s).made → Roots s g t → t < (header s).next
   unfolding view
-  roots-spawned l (root g t w e a) = awaiter_below (header s) (awaiter_of (object s g)) t (b.awaiters g l) (awaiter_is (object s g) w e ∙ a)
-  roots-spawned l (above g t p x w e a r) = roots-spawned (parent-made g p x w l e a) r
+  roots_spawned l (root g t w e a) = awaiter_below (header s) (awaiter_of (object s g)) t (b.awaiters g l) (awaiter_is (object s g) w e ∙ a)
+  roots_spawned l (above g t p x w e a r) = roots_spawned (parent_made g p x w l e a) r
 
 -- ---- a gather not committed yet is opened: nobody named it, and no slot is in it
 
@@ -136,7 +136,7 @@ module _ (G : ℕ → Type 0) (s : Store) (Q R : ℕ → Type 0) (n o f c : ℕ)
   still p x k = by (ℕ_discrete x o) k
     where
       by : Dec (x ≡ o) → Source G s p x → Source G (put_object s o y0) p x
-      by (yes d) k = by_nobody (subst G (sym d) (pending-source s n Nothing Q b p o f c was (subst (λ (j : ℕ). Source G s p j) d k)))
+      by (yes d) k = by_nobody (subst G (sym d) (pending_source s n Nothing Q b p o f c was (subst (λ (j : ℕ). Source G s p j) d k)))
       by (no ne) (by_external y e q) = by_external y (ap as_pending (object_put-other s o x y0 ne) ∙ e) q
       by (no ne) (by_gather y e q) = by_gather y (ap as_awaited (object_put-other s o x y0 ne) ∙ e) q
       by (no ne) (by_nobody j) = by_nobody j
@@ -146,7 +146,7 @@ module _ (G : ℕ → Type 0) (s : Store) (Q R : ℕ → Type 0) (n o f c : ℕ)
   roots-was l ne (root p t w e q) = root p t w (other p w ne e) q
   roots-was l ne (above p t g x w e q r) =
       let was-e : as_awaited (object s p) ≡ some w = other p w ne e in
-      above p t g x w was-e q (roots-was (parent-made s n Nothing Q b p g x w l was-e q)
+      above p t g x w was-e q (roots-was (parent_made s n Nothing Q b p g x w l was-e q)
       (λ d. slots p w l was-e x (q ∙ ap (λ (j : ℕ). Awaiter.GatherSlot (heap_id j) (heap_id x)) d)) r)
 
   -- no live task has a slot in it
@@ -156,9 +156,9 @@ module _ (G : ℕ → Type 0) (s : Store) (Q R : ℕ → Type 0) (n o f c : ℕ)
       let sl = b.task-slots t l (holds _ lv) g x q in
       (sl.made, λ d. unfold kind in (subst (λ (y : Object). T (is_committed (kind y))) was (subst (λ (j : ℕ). T (is_committed (kind (object s j)))) d sl.committed)))
 
-  pub open-sourced : Lit G Q s → Lit G R (put_object s o (Object.GatherFuture f c (GatherState.Awaited a 0)))
+  pub open_sourced : Lit G Q s → Lit G R (put_object s o (Object.GatherFuture f c (GatherState.Awaited a 0)))
   unfolding u0 y0
-  open-sourced k =
+  open_sourced k =
       record {
         sourced = record {
           sources = λ p x w l e op. at p x w l e op (ℕ_discrete p o);
@@ -182,7 +182,7 @@ module _ (G : ℕ → Type 0) (s : Store) (Q R : ℕ → Type 0) (n o f c : ℕ)
         where
           by : (q ≡ o) ⊎ Q q → G q
           by (inl d) =
-              subst G (sym d) (pending-source s n Nothing Q b p o f c was (subst (λ (j : ℕ). Source G s p j) d
+              subst G (sym d) (pending_source s n Nothing Q b p o f c was (subst (λ (j : ℕ). Source G s p j) d
               (k.sourced.sources p q w (made_as p l) (other p w ne e) (places-as w q op))))
           by (inr m) = k.unnamed q p w m (made_as p l) (other p w ne e) (places-as w q op)
 
@@ -241,7 +241,7 @@ leave_sourced {G} Q R s g w y z low fits was settled on fewer k =
     u = put_object s g y
 
     c : SourcedBut G (OnWay w.awaiter g) u
-    c = settle-sourced _ (λ p o. ⊥) s g w y z low fits was settled (λ p o d. absurd d) (but_of s k.sourced)
+    c = settle_sourced _ (λ p o. ⊥) s g w y z low fits was settled (λ p o d. absurd d) (but_of s k.sourced)
 
     made_as : (p : ℕ) → p < (header u).made → p < (header s).made
     made_as p l = subst (λ (h : Header). p < h.made) (header_put-object s g y) l
@@ -271,8 +271,8 @@ module _ (G : ℕ → Type 0) (Q : ℕ → Type 0) (s : Store) (g : ℕ) (w v : 
   row_now : as_awaited (object (put_object s g y) g) ≡ some v
   row_now = ap as_awaited (object_put-object s g y z low fits) ∙ now
 
-  pub wider-sourced : Lit G Q s → Lit G Q (put_object s g y)
-  wider-sourced k =
+  pub wider_sourced : Lit G Q s → Lit G Q (put_object s g y)
+  wider_sourced k =
       record {
         sourced = record {
           sources = λ p q x l e op. by p q x (made_as p l) e (places-as x q op) (ℕ_discrete p g);
@@ -346,7 +346,7 @@ pub place_sourced : {G : ℕ → Type 0} (Q : ℕ → Type 0) (s : Store) (g : �
     → (place s (w.first + i)).item.0 ≡ o → Source G s g o → (Q o → G o) → Lit G Q s → Lit G Q (open_place s g w i)
 unfolding open_place wider
 place_sourced {G} Q s g w i o z made low fits was names src off k =
-    wider-sourced _ Q s g w v (awaits_on w (wider w i)) z made low fits was (unfold as_awaited in refl) refl (λ q op. by q op (ℕ_discrete op.at i)) k
+    wider_sourced _ Q s g w v (awaits_on w (wider w i)) z made low fits was (unfold as_awaited in refl) refl (λ q op. by q op (ℕ_discrete op.at i)) k
   where
     v : AwaitedGather
     v = record { first = w.first; count = w.count; awaiter = w.awaiter; open-places = wider w i }
@@ -380,7 +380,7 @@ module _ (G : ℕ → Type 0) (s : Store) (Q : ℕ → Type 0) (n c g : ℕ) (me
   s2 = spawn_as s (header s).next c g
 
   there : view s2 ≡ spawn_view (view s) c g (entries (push_back s.queue (header s).next))
-  there = spawn-store-view s c g mem room low-c low-g
+  there = spawn_store_view s c g mem room low-c low-g
 
   pub spawn-header : header (spawn_as s (header s).next c g) ≡ one_more (header s)
   unfolding view spawn_view
@@ -412,13 +412,13 @@ module _ (G : ℕ → Type 0) (s : Store) (Q : ℕ → Type 0) (n c g : ℕ) (me
   spawn-roots (above p t q x w e a r) = above p t q x w (sym (ap as_awaited (spawn-object p)) ∙ e) a (spawn-roots r)
 
   -- it will deliver
-  pub spawn-source : Source G (spawn_as s (header s).next c g) g c
-  spawn-source =
+  pub spawn_source : Source G (spawn_as s (header s).next c g) g c
+  spawn_source =
       by_task (header s).next (subst (λ (h : Header). (header s).next < h.next) (sym spawn-header) (omega arith)) (ap (λ (r : Task). is_live r.state) new-task ∙ refl)
       (ap (λ (r : Task). r.awaiter) new-task)
 
-  pub spawn-sourced : Lit G Q s → Lit G Q (spawn_as s (header s).next c g)
-  spawn-sourced k =
+  pub spawn_sourced : Lit G Q s → Lit G Q (spawn_as s (header s).next c g)
+  spawn_sourced k =
       record {
         sourced = record {
           sources = λ p x w l e op. still p x (k.sourced.sources p x w (made_as p l) (sym (ap as_awaited (spawn-object p)) ∙ e) (spawn-open w x op));
@@ -442,8 +442,8 @@ module _ (G : ℕ → Type 0) (s : Store) (Q : ℕ → Type 0) (n c g : ℕ) (me
       above-all u p x t l lv a r (yes d) =
           let own : (spawned_row c g).awaiter ≡ Awaiter.GatherSlot (heap_id p) (heap_id x) =
           sym (ap (λ (y : Task). y.awaiter) new-task) ∙ subst (λ (m : ℕ). (task s2 m).awaiter ≡ Awaiter.GatherSlot (heap_id p) (heap_id x)) d a in
-          let same : g ≡ p = slot_gather-same g c p x own in
-          subst (λ (m : ℕ). t < m) (sym d) (roots-spawned s n Nothing Q b made (subst (λ (m : ℕ). Roots s m t) (sym same) r))
+          let same : g ≡ p = slot_gather_same g c p x own in
+          subst (λ (m : ℕ). t < m) (sym d) (roots_spawned s n Nothing Q b made (subst (λ (m : ℕ). Roots s m t) (sym same) r))
       above-all u p x t l lv a r (no ne) =
           let same : task s2 u ≡ task s u = old-task u ne in
           k.sourced.rising u p x t (omega arith) (sym (ap (λ (y : Task). is_live y.state) same) ∙ lv) (sym (ap (λ (y : Task). y.awaiter) same) ∙ a) r

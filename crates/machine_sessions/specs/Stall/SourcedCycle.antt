@@ -24,19 +24,19 @@ use Rattle.asyncio.specs.States.{pick, is_live, is_blocked}
 use Rattle.machine.specs.Store.{Store, LogEntry, view, task, object, place, header, put_object, put_task, put_queue, put_header, add_log, restate, set_state, set_moment, absent, reached, exited}
 use Rattle.machine.specs.Scheduler.{AwaitedGather, PendingExternal, as_awaited, as_pending, make_ready, push_ready, remove_from_ready_queue, remove_task, live_count}
 use Rattle.machine.specs.Delivery.{Delivery, nobody_woken, deliver_to_task, Settled, fail_awaited, fail_gather, climb, awaited_count, send_error, climb_error, deliver_awaiter_failure}
-use Rattle.machine.specs.Events.{How, start, value, raises, Switched, run, yield, new_function, resume-next, resume-after-task-exit, handle-task-failure, start-by, start-task, activate-state, activate_within, activate}
+use Rattle.machine.specs.Events.{How, start, value, raises, Switched, run, yield, new_function, resume_next, resume_after_task_exit, handle_task_failure, start_by, start_task, activate_state, activate_within, activate}
 use Rattle.machine_laws.specs.Views.{Sized}
 use Rattle.machine_laws.specs.Facts.{Open, Slotted, Nothing}
 use Rattle.machine_laws.specs.StoreLaws.{object_put-object, header-fits, header_put-header, header_put-object, object_put-other, object_put-header, live-put_task, task_put-other, task-fits, object-fits, sized-put_object, sized-set_state}
 use Rattle.machine_laws.specs.DeliveryLaws.{absurd_some, awaited-fits}
 use Rattle.machine_theorems.specs.Soundness.Stores.{idle, SoundDuring}
-use Rattle.machine_theorems.specs.Soundness.Deliver.{DeliveryEnds, failure-keeps}
-use Rattle.machine_theorems.specs.Soundness.Cycle.{task_delivering, remove-keeps, next-by, exit_by}
-use Rattle.machine_theorems.specs.Panics.NoPanicLaws.{Activated, starts, goes_on, raises_it, ready_activated, main-started}
+use Rattle.machine_theorems.specs.Soundness.Deliver.{DeliveryEnds, failure_keeps}
+use Rattle.machine_theorems.specs.Soundness.Cycle.{task_delivering, remove_keeps, next-by, exit_by}
+use Rattle.machine_theorems.specs.Panics.NoPanicLaws.{Activated, starts, goes_on, raises_it, ready_activated, main_started}
 use Rattle.machine_theorems.specs.Panics.NoPanicWoken.{failure_activated}
 use Rattle.machine_sessions.specs.Stall.NoStall.{Source, by_external, by_gather, by_nobody, by_task, Roots, root, above, Sourced}
 use Rattle.machine_sessions.specs.Stall.SourcedPlan.{SourcedBut, OnWay, but_of, all_of, but_same}
-use Rattle.machine_sessions.specs.Stall.SourcedClimb.{failure-sourced, awaiter_kept}
+use Rattle.machine_sessions.specs.Stall.SourcedClimb.{failure_sourced, awaiter_kept}
 use Rattle.machine_sessions.specs.Waits.Calls.{moment_row}
 use Rattle.machine_sessions.specs.Stall.Effects.{WokenBy, Effect, nobody, wakes, failure_effect}
 use Rattle.queue.specs.declared.ReadyQueue.{ReadyQueue}
@@ -82,9 +82,9 @@ module _ (g : ℕ) where
   off-climb (suc n) s a e k = off-send (λ y b f. climb_error n y b f) (λ y b f. off-climb n y b f) s a e k
 
   -- after the error of its own place it is awaited no more
-  pub failure-settles : (s : Store) (x : ℕ) (e : Error) → Sized s → g < object_limit → ErrorFits e → as_awaited (object (deliver_awaiter_failure s (Awaiter.GatherSlot (heap_id g) (heap_id x)) e).store g) ≡ none
+  pub failure_settles : (s : Store) (x : ℕ) (e : Error) → Sized s → g < object_limit → ErrorFits e → as_awaited (object (deliver_awaiter_failure s (Awaiter.GatherSlot (heap_id g) (heap_id x)) e).store g) ≡ none
   unfolding deliver_awaiter_failure send_error
-  failure-settles s x e z l f = by (fail_gather s g e).onward (first (as_awaited (object s g)) refl)
+  failure_settles s x e z l f = by (fail_gather s g e).onward (first (as_awaited (object s g)) refl)
     where
       first : (w : Option AwaitedGather) → as_awaited (object s g) ≡ w → Off (fail_gather s g e).store
       first none q = off-fail s g e q
@@ -247,32 +247,32 @@ module _ (G : ℕ → Type 0) (D : ℕ → Type 0) (hd : Header) where
   Keeps act = (s : Store) (t : ℕ) → t < hd.next → Activated (task s t).state → SoundDuring Nothing idle D hd s → Sourced G s → Sourced G (act s t).store
 
   module _ (act : Store → ℕ → Switched) (go : Keeps act) where
-    pub next-sourced : (s : Store) → SoundDuring Nothing idle D hd s → Sourced G s → Sourced G (resume-next act s).store
+    pub next_sourced : (s : Store) → SoundDuring Nothing idle D hd s → Sourced G s → Sourced G (resume_next act s).store
     unfolding Keeps put_queue task
-    next-sourced s h k =
+    next_sourced s h k =
         next-by D hd (λ x y. Sourced G x.store) act act s h (yield_sourced s h.kept.memory.sized k)
         (λ q u l off r m. go (put_queue s q) u l (ready_activated _ r) m (queue_sourced s q k))
 
-    pub exit-sourced : (d : Delivery) → DeliveryEnds idle D hd d → ((u : ℕ) → d.woken ≡ some u → Activated (task (remove_from_ready_queue d.store u) u).state) → Sourced G d.store
-        → Sourced G (resume-after-task-exit act d).store
+    pub exit_sourced : (d : Delivery) → DeliveryEnds idle D hd d → ((u : ℕ) → d.woken ≡ some u → Activated (task (remove_from_ready_queue d.store u) u).state) → Sourced G d.store
+        → Sourced G (resume_after_task_exit act d).store
     unfolding Keeps remove_from_ready_queue put_queue task
-    exit-sourced d h active k =
+    exit_sourced d h active k =
         exit_by D hd (λ x y. Sourced G x.store) act act d h (yield_sourced d.store h.during.kept.memory.sized k)
         (λ q u l off r m. go (put_queue d.store q) u l (ready_activated _ r) m (queue_sourced d.store q k))
         (λ q u e l off m. go (put_queue d.store q) u l (active u e) m (queue_sourced d.store q k))
 
-    pub fails-sourced : (s : Store) (t : ℕ) (e : Error) (r : ℕ → Bool) → ErrorFits e → suc t < hd.next → T (is_live (task s (suc t)).state) → is_blocked (task s (suc t)).state ≡ false
-        → ((u : ℕ) → (u ≡ suc t → ⊥) → r u ≡ false) → SoundDuring Nothing r D hd s → Sourced G s → Sourced G (handle-task-failure act s (suc t) e).store
-    unfolding handle-task-failure
-    fails-sourced s t e r f l live free still h k =
+    pub fails_sourced : (s : Store) (t : ℕ) (e : Error) (r : ℕ → Bool) → ErrorFits e → suc t < hd.next → T (is_live (task s (suc t)).state) → is_blocked (task s (suc t)).state ≡ false
+        → ((u : ℕ) → (u ≡ suc t → ⊥) → r u ≡ false) → SoundDuring Nothing r D hd s → Sourced G s → Sourced G (handle_task_failure act s (suc t) e).store
+    unfolding handle_task_failure
+    fails_sourced s t e r f l live free still h k =
         let a : Awaiter = (task s (suc t)).awaiter in
         let z : Sized s = h.kept.memory.sized in
         let d : Delivery = deliver_awaiter_failure s a e in
         let delivers-on = task_delivering s t h l live in
-        let sent : DeliveryEnds r D hd d = failure-keeps r D hd e f s (task s (suc t)).coroutine.0 a delivers-on in
-        let k1 : Sourced G d.store = failure-sourced _ r D hd e f s (task s (suc t)).coroutine.0 a delivers-on (but_of s k) in
-        exit-sourced _ (record {
-          during = remove-keeps d.store (suc t) sent.during (subst (λ (y : Header). suc t < y.next) (sym sent.during.head) l) (exited (suc t)) idle refl still;
+        let sent : DeliveryEnds r D hd d = failure_keeps r D hd e f s (task s (suc t)).coroutine.0 a delivers-on in
+        let k1 : Sourced G d.store = failure_sourced _ r D hd e f s (task s (suc t)).coroutine.0 a delivers-on (but_of s k) in
+        exit_sourced _ (record {
+          during = remove_keeps d.store (suc t) sent.during (subst (λ (y : Header). suc t < y.next) (sym sent.during.head) l) (exited (suc t)) idle refl still;
           woken = sent.woken;
         }) (failure_activated s (suc t) e z f free)
         (removed_sourced d.store (suc t) (exited (suc t)) sent.during.kept.memory.sized (room_of s (suc t) l h)
@@ -293,10 +293,10 @@ module _ (G : ℕ → Type 0) (D : ℕ → Type 0) (hd : Header) where
 
         gone : (s : Store) (g o : ℕ) (e : Error) → Sized s → ErrorFits e → (a : Awaiter) → a ≡ Awaiter.GatherSlot (heap_id g) (heap_id o) → AwaiterFits a → as_awaited (object (deliver_awaiter_failure s a e).store g) ≡ none
         gone s g o e z f a q af =
-            subst (λ (b : Awaiter). as_awaited (object (deliver_awaiter_failure s b e).store g) ≡ none) (sym q) (failure-settles g s o e z (subst AwaiterFits q af).0 f)
+            subst (λ (b : Awaiter). as_awaited (object (deliver_awaiter_failure s b e).store g) ≡ none) (sym q) (failure_settles g s o e z (subst AwaiterFits q af).0 f)
 
-    start-sourced : (s : Store) (t : ℕ) → suc t < hd.next → (task s (suc t)).state ≡ TaskState.Unstarted → SoundDuring Nothing idle D hd s → Sourced G s → Sourced G (start-task act s (suc t)).store
-    unfolding start-task
+    start-sourced : (s : Store) (t : ℕ) → suc t < hd.next → (task s (suc t)).state ≡ TaskState.Unstarted → SoundDuring Nothing idle D hd s → Sourced G s → Sourced G (start_task act s (suc t)).store
+    unfolding start_task
     start-sourced s t l fr h k = by (new_function (object s o)) refl
       where
         o : ℕ
@@ -311,18 +311,18 @@ module _ (G : ℕ → Type 0) (D : ℕ → Type 0) (hd : Header) where
             same : (x : Object) → is_live (task (put_object s o x) (suc t)).state ≡ is_live (task s (suc t)).state
             same x = unfold task put_object in refl
 
-        by : (n : Option ℕ) → new_function (object s o) ≡ n → Sourced G (start-by act s (suc t) o n).store
-        by none e = unfold start-by in (fails-sourced s t Error.CoroutineReuse idle tt l (rw fr tt) (rw fr) (λ u d. refl) h k)
+        by : (n : Option ℕ) → new_function (object s o) ≡ n → Sourced G (start_by act s (suc t) o n).store
+        by none e = unfold start_by in (fails_sourced s t Error.CoroutineReuse idle tt l (rw fr tt) (rw fr) (λ u d. refl) h k)
         by (some f) e =
             let x : Object = Object.Coroutine f CoroutineState.Running in
             let p = new-plain (object s o) f e in
             let k1 : Sourced G (put_object s o x) = plain_sourced s o x z (task-fits s (suc t)).coroutine-fits (new_low (object s o) f e (object-fits s o)) p.0 p.1 (unfold as_awaited in refl) k in
             let k2 : Sourced G (run (put_object s o x) (suc t) (start o f)).store = run_sourced (put_object s o x) (suc t) (start o f) (sized-put_object s o x z) (room_of s (suc t) l h) (live-row x) k1 in
-            unfold start-by in k2
+            unfold start_by in k2
 
-    state-kept3 : (s : Store) (t : ℕ) (x : TaskState) → t < hd.next → (task s t).state ≡ x → Activated x → SoundDuring Nothing idle D hd s → Sourced G s → Sourced G (activate-state act s t x).store
-    unfolding activate-state view
-    state-kept3 s zero _ l e starts h k = absurd (main-started h.kept.but e)
+    state-kept3 : (s : Store) (t : ℕ) (x : TaskState) → t < hd.next → (task s t).state ≡ x → Activated x → SoundDuring Nothing idle D hd s → Sourced G s → Sourced G (activate_state act s t x).store
+    unfolding activate_state view
+    state-kept3 s zero _ l e starts h k = absurd (main_started h.kept.but e)
     state-kept3 s (suc t) _ l e starts h k = start-sourced s t l e h k
     state-kept3 s t _ l e (goes_on v) h k = run_sourced s t (value v) h.kept.memory.sized (room_of s t l h) (ap is_live e) k
     state-kept3 s t _ l e (raises_it v) h k = run_sourced s t (raises v) h.kept.memory.sized (room_of s t l h) (ap is_live e) k
@@ -332,6 +332,6 @@ module _ (G : ℕ → Type 0) (D : ℕ → Type 0) (hd : Header) where
   within-sourced zero s t l a h k = yield_sourced s h.kept.memory.sized k
   within-sourced (suc n) s t l a h k = state-kept3 (λ x u. activate_within n x u) (within-sourced n) s t (task s t).state l refl a h k
 
-  pub activate-sourced : Keeps activate
+  pub activate_sourced : Keeps activate
   unfolding activate Keeps
-  activate-sourced s t l a h k = within-sourced (live_count s) s t l a h k
+  activate_sourced s t l a h k = within-sourced (live_count s) s t l a h k

@@ -29,7 +29,7 @@ use Rattle.asyncio.specs.Kinds.{kind, is_completed}
 use Rattle.machine.specs.Store.{Store, LogEntry, view, task, object, place, header, put_object, put_task, put_queue, add_log, set_state, exited, blocked, absent}
 use Rattle.machine.specs.Scheduler.{AwaitedGather, PendingExternal, as_awaited, as_pending, pending_external, remove_from_ready_queue, remove_task}
 use Rattle.machine.specs.Delivery.{Delivery, value_or, resolve_pending, fail_pending, settle_pending, settle_found, resolve_future, fail_future, deliver_awaiter_success, deliver_awaiter_failure}
-use Rattle.machine.specs.Events.{Result, activate, completed, handle_task_completion, handle-task-failure, apply_result, apply_future_results}
+use Rattle.machine.specs.Events.{Result, activate, completed, handle_task_completion, handle_task_failure, apply_result, apply_future_results}
 use Rattle.machine.specs.Sound.{value_known, runs_now}
 use Rattle.machine_laws.specs.Views.{Sized}
 use Rattle.machine_laws.specs.Facts.{Open, Slotted, Nothing}
@@ -38,16 +38,16 @@ use Rattle.machine_laws.specs.DeliveryLaws.{absurd_some}
 use Rattle.machine_laws.specs.MakingLaws.{value-fits}
 use Rattle.machine_theorems.specs.Soundness.Stores.{idle, SoundDuring, SoundStore, during_of}
 use Rattle.machine_theorems.specs.Soundness.Fill.{DeliveringValue}
-use Rattle.machine_theorems.specs.Soundness.Exits.{runner-low, runner-runs, runner-live, others-commits-none, completion-delivering, completion-delivery-ends}
+use Rattle.machine_theorems.specs.Soundness.Exits.{runner_low, runner-runs, runner-live, others_commits_none, completion_delivering, completion_delivery_ends}
 use Rattle.machine_theorems.specs.Soundness.Cycle.{spawned_of, coroutine-is}
-use Rattle.machine_theorems.specs.Soundness.Results.{low, resolve-delivering, fail-delivering, MayApply, AllApply, host_fits, result_keeps}
+use Rattle.machine_theorems.specs.Soundness.Results.{low, resolve_delivering, fail_delivering, MayApply, AllApply, host_fits, result_keeps}
 use Rattle.machine_laws.specs.DeliveryLaws.{pending-object}
 use Rattle.machine_theorems.specs.Panics.NoPanicWoken.{success_activated}
-use Rattle.machine_sessions.specs.Stall.NoStall.{Source, by_external, by_gather, by_nobody, by_task, Roots, root, above, Sourced, sourced-like}
+use Rattle.machine_sessions.specs.Stall.NoStall.{Source, by_external, by_gather, by_nobody, by_task, Roots, root, above, Sourced, sourced_like}
 use Rattle.machine_sessions.specs.Stall.SourcedPlan.{SourcedBut, OnWay, but_of, all_of, but_same}
-use Rattle.machine_sessions.specs.Stall.SourcedClimb.{failure-sourced, apart}
-use Rattle.machine_sessions.specs.Stall.SourcedFill.{success-sourced}
-use Rattle.machine_sessions.specs.Stall.SourcedCycle.{removed_but, plain_sourced, state_sourced, exit-sourced, fails-sourced, activate-sourced}
+use Rattle.machine_sessions.specs.Stall.SourcedClimb.{failure_sourced, apart}
+use Rattle.machine_sessions.specs.Stall.SourcedFill.{success_sourced}
+use Rattle.machine_sessions.specs.Stall.SourcedCycle.{removed_but, plain_sourced, state_sourced, exit_sourced, fails_sourced, activate_sourced}
 
 -- ---- an external settles: its own place is on its way
 
@@ -107,18 +107,18 @@ module _ (G : ℕ → Type 0) {r : ℕ → Bool} {D : ℕ → Type 0} {hd : Head
   unfolding resolve_future resolve_pending view
   resolve-sourced c v g =
       found-sourced c _ (λ o p l e.
-      let i = resolve-delivering s h v g o p l e in
+      let i = resolve_delivering s h v g o p l e in
       let m : o < object_limit = omega (arith, l, (header-fits s).made-fits) in
-      success-sourced _ r D hd _ o p.awaiter (value_or p.stored v) i
+      success_sourced _ r D hd _ o p.awaiter (value_or p.stored v) i
       (external_sourced s o p _ h.kept.memory.sized m ((call_fits o p e).0, value-fits _ _ _ i.during.kept.but.fits.made-fits i.known) e (unfold as_awaited in refl) k))
 
   fail-future-sourced : (c : ℕ) (x : Error) → ErrorFits x → Sourced G (fail_future s c x)
   unfolding fail_future fail_pending
   fail-future-sourced c x f =
       found-sourced c _ (λ o p l e.
-      let i = fail-delivering s h x f o p l e in
+      let i = fail_delivering s h x f o p l e in
       let m : o < object_limit = omega (arith, l, (header-fits s).made-fits) in
-      failure-sourced _ r D hd x f _ o p.awaiter i (external_sourced s o p _ h.kept.memory.sized m ((call_fits o p e).0, f) e (unfold as_awaited in refl) k))
+      failure_sourced _ r D hd x f _ o p.awaiter i (external_sourced s o p _ h.kept.memory.sized m ((call_fits o p e).0, f) e (unfold as_awaited in refl) k))
 
   result-sourced : (x : Result) → MayApply hd.made D x → Sourced G (apply_result s x)
   unfolding apply_result
@@ -142,19 +142,19 @@ results_sourced (x ∷ xs) s a h k = results_sourced xs (apply_result s x) a.1 (
 -- ---- a failure of the running task
 
 module _ (G : ℕ → Type 0) (s : Store) (h : SoundStore s) (k : Sourced G s) where
-  pub failed-sourced : (t : ℕ) (e : Error) → (header s).moment ≡ Moment.Running (task_id (suc t)) → ErrorFits e → Sourced G (handle-task-failure activate s (suc t) e).store
-  failed-sourced t e m f =
-      fails-sourced _ (λ o. T (is_completed (kind (object s o)))) (header s) activate (activate-sourced _ (λ o. T (is_completed (kind (object s o)))) (header s)) s t e (runs_now (header s).moment) f
-      (runner-low s (suc t) h m) (runner-live s (suc t) h m) (ap is_blocked (runner-runs s (suc t) h m)) (others-commits-none s (suc t) h m) (during_of s h) k
+  pub failed_sourced : (t : ℕ) (e : Error) → (header s).moment ≡ Moment.Running (task_id (suc t)) → ErrorFits e → Sourced G (handle_task_failure activate s (suc t) e).store
+  failed_sourced t e m f =
+      fails_sourced _ (λ o. T (is_completed (kind (object s o)))) (header s) activate (activate_sourced _ (λ o. T (is_completed (kind (object s o)))) (header s)) s t e (runs_now (header s).moment) f
+      (runner_low s (suc t) h m) (runner-live s (suc t) h m) (ap is_blocked (runner-runs s (suc t) h m)) (others_commits_none s (suc t) h m) (during_of s h) k
 
   -- ---- a completion
 
-  pub complete-sourced : (t : ℕ) (v : Value) → (header s).moment ≡ Moment.Running (task_id (suc t)) → T (value_known (header s).made (object s) v) → Sourced G (handle_task_completion s (suc t) v).store
+  pub complete_sourced : (t : ℕ) (v : Value) → (header s).moment ≡ Moment.Running (task_id (suc t)) → T (value_known (header s).made (object s) v) → Sourced G (handle_task_completion s (suc t) v).store
   unfolding handle_task_completion view
-  complete-sourced t v m kn =
-      exit-sourced _ D0 (header s) activate (activate-sourced _ D0 (header s)) (deliver_awaiter_success left a v) (completion-delivery-ends s t v h m kn)
+  complete_sourced t v m kn =
+      exit_sourced _ D0 (header s) activate (activate_sourced _ D0 (header s)) (deliver_awaiter_success left a v) (completion_delivery_ends s t v h m kn)
       (success_activated left a v delivers-on.during.kept.memory.sized (task-fits s (suc t)).awaiter_fits (value-fits (header s).made (object s) v h.facts.but.fits.made-fits kn))
-      (success-sourced _ idle D0 (header s) left o a v delivers-on but)
+      (success_sourced _ idle D0 (header s) left o a v delivers-on but)
     where
       D0 : ℕ → Type 0
       D0 o = T (is_completed (kind (object s o)))
@@ -172,13 +172,13 @@ module _ (G : ℕ → Type 0) (s : Store) (h : SoundStore s) (k : Sourced G s) w
       left = add_log (remove_task done (suc t)) (exited (suc t))
 
       delivers-on : DeliveringValue idle D0 (header s) o v left a
-      delivers-on = completion-delivering s t v h m kn
+      delivers-on = completion_delivering s t v h m kn
 
       live : T (is_live (task s (suc t)).state)
       live = runner-live s (suc t) h m
 
       done-sourced : Sourced G done
-      done-sourced = by (coroutine-is (object s o) (spawned_of t h.facts.but (runner-low s (suc t) h m) live).coroutine)
+      done-sourced = by (coroutine-is (object s o) (spawned_of t h.facts.but (runner_low s (suc t) h m) live).coroutine)
         where
           by : (f : ℕ) × (y : CoroutineState) × (object s o ≡ Object.Coroutine f y) → Sourced G done
           by x =
@@ -195,12 +195,12 @@ module _ (G : ℕ → Type 0) (s : Store) (h : SoundStore s) (k : Sourced G s) w
 
       but : SourcedBut G (OnWay a o) left
       but =
-          removed_but done (suc t) (exited (suc t)) (sized-put_object s o _ h.memory.sized) (omega (arith, runner-low s (suc t) h m, (header-fits s).next_fits))
+          removed_but done (suc t) (exited (suc t)) (sized-put_object s o _ h.memory.sized) (omega (arith, runner_low s (suc t) h m, (header-fits s).next_fits))
           (λ g p w e b. own g p (unfold task put_object in b)) done-sourced
         where
           own : (g p : ℕ) → (task s (suc t)).awaiter ≡ Awaiter.GatherSlot (heap_id g) (heap_id p) → OnWay a o g p
           own g p b =
-              let q : p ≡ o = (h.facts.but.task-slots (suc t) (runner-low s (suc t) h m) live g p b).own in
+              let q : p ≡ o = (h.facts.but.task-slots (suc t) (runner_low s (suc t) h m) live g p b).own in
               (b ∙ ap (λ (j : ℕ). Awaiter.GatherSlot (heap_id g) (heap_id j)) q, q)
 
 -- ---- an external takes an awaiter; a task blocks
@@ -217,4 +217,4 @@ takes_sourced s o p x z low fits was free xa k =
 pub blocks_sourced : {G : ℕ → Type 0} (s : Store) (t o : ℕ) → Sized s → t < task_limit → o < object_limit → is_live (task s t).state ≡ true → Sourced G s → Sourced G (add_log (set_state s t (TaskState.Blocked (heap_id o))) (blocked t))
 blocks_sourced {G} s t o z l m e k =
     let j : Sourced G (set_state s t (TaskState.Blocked (heap_id o))) = state_sourced s t (TaskState.Blocked (heap_id o)) z l m (sym e) k in
-    sourced-like _ (set_state s t (TaskState.Blocked (heap_id o))) _ (λ p. unfold object add_log in refl) (λ v. unfold task add_log in refl) (λ p. unfold place add_log in refl) (unfold header add_log in refl) j
+    sourced_like _ (set_state s t (TaskState.Blocked (heap_id o))) _ (λ p. unfold object add_log in refl) (λ v. unfold task add_log in refl) (λ p. unfold place add_log in refl) (unfold header add_log in refl) j

@@ -33,11 +33,11 @@ use Rattle.machine_laws.specs.DeliveryLaws.{absurd_some, awaited-object, awaited
 use Rattle.machine_laws.specs.MakingLaws.{value-fits}
 use Rattle.machine_theorems.specs.Soundness.Stores.{SoundDuring}
 use Rattle.machine_theorems.specs.Soundness.Deliver.{Detached, Sends, delivery_ends, task_slot}
-use Rattle.machine_theorems.specs.Soundness.Fill.{DeliveringValue, value-sends, all-filled}
+use Rattle.machine_theorems.specs.Soundness.Fill.{DeliveringValue, value-sends, all_filled}
 use Rattle.machine_theorems.specs.Soundness.FillLaws.{hit, Stays, Fills, fill_stays, fill_fills, fill_less}
 use Rattle.machine_sessions.specs.Stall.NoStall.{Source, by_external, by_gather, by_nobody, by_task, Roots, root, above, Sourced}
 use Rattle.machine_sessions.specs.Stall.SourcedPlan.{SourcedBut, OnWay, but_of, all_of, but_same}
-use Rattle.machine_sessions.specs.Stall.SourcedClimb.{settle-sourced, to_task_sourced, no_way, nobody_no, task_no, task_low, apart}
+use Rattle.machine_sessions.specs.Stall.SourcedClimb.{settle_sourced, to_task_sourced, no_way, nobody_no, task_no, task_low, apart}
 
 -- places that name the same
 places_sourced : {G : ℕ → Type 0} {X : ℕ → ℕ → Type 0} (s : Store) (ps : List ℕ) → ((p : ℕ) → (place_at ps p).item ≡ (place s p).item) → SourcedBut G X s → SourcedBut G X (put_places s ps)
@@ -65,8 +65,8 @@ module _ (G : ℕ → Type 0) (o : ℕ) (s : Store) (g : ℕ) (w v : AwaitedGath
   row_now : as_awaited (object (put_object s g y) g) ≡ some v
   row_now = ap as_awaited (object_put-object s g y z low fits) ∙ now
 
-  pub waits-sourced : SourcedBut G (λ p q. (p ≡ g) × (q ≡ o)) s → Sourced G (put_object s g y)
-  waits-sourced k =
+  pub waits_sourced : SourcedBut G (λ p q. (p ≡ g) × (q ≡ o)) s → Sourced G (put_object s g y)
+  waits_sourced k =
       record {
         sources = λ p q x l e op. by p q x (subst (λ (h : Header). p < h.made) (header_put-object s g y) l) e (record { at = op.at; under = op.under; is_open = op.is_open; names = unfold place put_object in op.names }) (ℕ_discrete p g);
         rising = λ n p x t l lv a r. k.rising n p x t (subst (λ (h : Header). n < h.next) (header_put-object s g y) l) (unfold task put_object in lv) (unfold task put_object in a) (roots-was r);
@@ -204,7 +204,7 @@ module _ (G : ℕ → Type 0) (r : ℕ → Bool) (D : ℕ → Type 0) (hd : Head
           was = unfold object put_places in (unfold object in q)
 
           kmd : SourcedBut G (OnWay (Awaiter.GatherSlot (heap_id g) (heap_id x)) o) md
-          kmd = places_sourced s F.places (all-filled s g x v w h sl.made q i.known).item c
+          kmd = places_sourced s F.places (all_filled s g x v w h sl.made q i.known).item c
 
           shape : ObjectFits (Object.GatherFuture w.first w.count (GatherState.Awaited w.awaiter w.open-places))
           shape = awaited-fits s g w q
@@ -218,7 +218,7 @@ module _ (G : ℕ → Type 0) (r : ℕ → Bool) (D : ℕ → Type 0) (hd : Head
               let rc : resolve_child s g x v ≡ record { store = put_object md g y; onward = some w.awaiter } = is-now true e ∙ (unfold resolve_left in refl) in
               let a : (resolve_child s g x v).onward ≡ some w.awaiter = ap (λ (t : Settled). t.onward) rc in
               let k1 : SourcedBut G (OnWay w.awaiter g) (put_object md g y) =
-              settle-sourced _ (OnWay (Awaiter.GatherSlot (heap_id g) (heap_id x)) o) md g w y zmd low (shape.0, tt) was (unfold as_awaited in refl) (λ p m d. same_slot g x p o d.0) kmd in
+              settle_sourced _ (OnWay (Awaiter.GatherSlot (heap_id g) (heap_id x)) o) md g w y zmd low (shape.0, tt) was (unfold as_awaited in refl) (λ p m d. same_slot g x p o d.0) kmd in
               rw (success_climbs s (heap_id g) (heap_id x) v w.awaiter z low a)
               (go (resolve_child s g x v).store g w.awaiter (Value.List (heap_id g)) (omega (arith, sent.up w.awaiter a)) (sent.delivers-on w.awaiter a)
               (subst (SourcedBut G (OnWay w.awaiter g)) (sym (ap (λ (t : Settled). t.store) rc)) k1))
@@ -227,7 +227,7 @@ module _ (G : ℕ → Type 0) (r : ℕ → Bool) (D : ℕ → Type 0) (hd : Head
               let w2 : AwaitedGather = record { first = w.first; count = w.count; awaiter = w.awaiter; open-places = F.open-places } in
               let less : F.open-places ≤ w.open-places = fill_less w.count s.places w.open-places w.first x v 0 in
               stays_all s (heap_id g) (heap_id x) v (put_object md g y) (is-now false e ∙ (unfold resolve_left in refl))
-              (waits-sourced _ o md g w w2 y zmd low (shape.0, (shape.1.0, omega (arith, less, shape.1.1))) was (unfold as_awaited in refl) refl fewer (weaken md (λ p m d. (same_slot g x p o d.0, d.1)) kmd))
+              (waits_sourced _ o md g w w2 y zmd low (shape.0, (shape.1.0, omega (arith, less, shape.1.1))) was (unfold as_awaited in refl) refl fewer (weaken md (λ p m d. (same_slot g x p o d.0, d.1)) kmd))
             where
               fewer : (p : ℕ) → Open (place md) (record { first = w.first; count = w.count; awaiter = w.awaiter; open-places = F.open-places }) p → Open (place md) w p × (p ≡ o → ⊥)
               fewer p op =
@@ -237,7 +237,7 @@ module _ (G : ℕ → Type 0) (r : ℕ → Bool) (D : ℕ → Type 0) (hd : Head
                   )
                 where
                   item-was : (j : ℕ) → (place_at s.places (w.first + j)).item.0 ≡ (place md (w.first + j)).item.0
-                  item-was j = sym (ap (λ (t : HeapId). t.0) (unfold place put_places in ((all-filled s g x v w h sl.made q i.known).item (w.first + j)) ∙ (unfold place in refl)))
+                  item-was j = sym (ap (λ (t : HeapId). t.0) (unfold place put_places in ((all_filled s g x v w h sl.made q i.known).item (w.first + j)) ∙ (unfold place in refl)))
 
   success-climb : (n : ℕ) (s : Store) (o : ℕ) (a : Awaiter) (v : Value) → object_limit ≤ n + o → DeliveringValue r D hd o v s a → SourcedBut G (OnWay a o) s → Sourced G (deliver_awaiter_success s a v).store
   unfolding view
@@ -251,5 +251,5 @@ module _ (G : ℕ → Type 0) (r : ℕ → Bool) (D : ℕ → Type 0) (hd : Head
   success-climb (suc n) s o (Awaiter.GatherSlot g x) v f i c = success-slot n s o g.0 x.0 v f i c (λ y p b w j m d. success-climb n y p b w j m d)
 
   -- A value of object o goes to its awaiter.
-  pub success-sourced : (s : Store) (o : ℕ) (a : Awaiter) (v : Value) → DeliveringValue r D hd o v s a → SourcedBut G (OnWay a o) s → Sourced G (deliver_awaiter_success s a v).store
-  success-sourced s o a v i c = success-climb object_limit s o a v (omega arith) i c
+  pub success_sourced : (s : Store) (o : ℕ) (a : Awaiter) (v : Value) → DeliveringValue r D hd o v s a → SourcedBut G (OnWay a o) s → Sourced G (deliver_awaiter_success s a v).store
+  success_sourced s o a v i c = success-climb object_limit s o a v (omega arith) i c

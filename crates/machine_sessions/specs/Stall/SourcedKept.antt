@@ -34,7 +34,7 @@ use Rattle.asyncio.specs.Kinds.{kind, is_completed}
 use Rattle.machine.specs.Store.{Store, view, task, object, place, header, put_object, put_place, put_header, put_queue, add_log, set_state, set_calls, add_object, blocked}
 use Rattle.machine.specs.Scheduler.{AwaitedGather, PendingExternal, as_awaited, as_pending, live, spawn_as}
 use Rattle.machine.specs.Commit.{Poll, ready, raised, pending, await_external, await_pending, commit_gather_tree}
-use Rattle.machine.specs.Events.{activate, resume-next, stays, go_on, await_coroutine, await_external_future, await_gather, await_object, exec_get_awaitable, make_coroutine, make_pending, make_settled, put_items, make_gather, wake_in_order, apply_future_results}
+use Rattle.machine.specs.Events.{activate, resume_next, stays, go_on, await_coroutine, await_external_future, await_gather, await_object, exec_get_awaitable, make_coroutine, make_pending, make_settled, put_items, make_gather, wake_in_order, apply_future_results}
 use Rattle.machine.specs.Machine.{Event, Step, switched, answer_await, end_main, task_completes, task_fails, runner, resume_with_resolved_futures, refusals, refusal, full, no_number, accept}
 use Rattle.machine.specs.Sound.{is_ended, value_known}
 use Rattle.machine.specs.History.{says, nothing_said}
@@ -47,23 +47,23 @@ use Rattle.machine_laws.specs.MakingLaws.{items-sized}
 use Rattle.machine_laws.specs.SoundLaws.{pass, running-rest, refusal-rest, has_number, not_full}
 use Rattle.machine_laws.specs.TestLaws.{or_left, or_right}
 use Rattle.machine_theorems.specs.Soundness.Stores.{idle, SoundDuring, SoundStore, during_of}
-use Rattle.machine_theorems.specs.Soundness.Exits.{runner-low, runner-runs, only_changes_of}
+use Rattle.machine_theorems.specs.Soundness.Exits.{runner_low, runner-runs, only_changes_of}
 use Rattle.machine_theorems.specs.Soundness.Deliver.{open_lower}
-use Rattle.machine_theorems.specs.Soundness.Await.{wait-external}
-use Rattle.machine_theorems.specs.Soundness.AwaitGather.{EndOk, waits-blocks, commit-keeps}
+use Rattle.machine_theorems.specs.Soundness.Await.{wait_external}
+use Rattle.machine_theorems.specs.Soundness.AwaitGather.{EndOk, waits_blocks, commit_keeps}
 use Rattle.machine_theorems.specs.Panics.NoPanicLaws.{place-used}
-use Rattle.machine_theorems.specs.Soundness.Preserved.{running, waiting, await-made, complete-known, results-apply}
+use Rattle.machine_theorems.specs.Soundness.Preserved.{running, waiting, await-made, complete-known, results_apply}
 use Rattle.machine.specs.Sessions.{InRange}
 use Rattle.machine_theorems.specs.Soundness.RowFacts.{items-header}
-use Rattle.machine_laws.specs.Walk.{Commits, commit-kept}
+use Rattle.machine_laws.specs.Walk.{Commits, commit_kept}
 use Rattle.machine_sessions.specs.Queue.Tracked.{live_like, live-is, live_low, live-other, place-live, spawn-row, spawn-next}
 use Rattle.machine_sessions.specs.Waits.Calls.{read_back}
 use Rattle.machine_sessions.specs.Stall.StandingEvents.{MainEnds}
-use Rattle.machine_sessions.specs.Stall.NoStall.{Source, by_external, by_gather, by_nobody, by_task, Roots, root, above, Sourced, sourced-like}
+use Rattle.machine_sessions.specs.Stall.NoStall.{Source, by_external, by_gather, by_nobody, by_task, Roots, root, above, Sourced, sourced_like}
 use Rattle.machine_sessions.specs.Stall.SourcedPlan.{SourcedBut, but_of, all_of, but_same}
-use Rattle.machine_sessions.specs.Stall.SourcedCycle.{plain_sourced, next-sourced, activate-sourced, queue_sourced}
+use Rattle.machine_sessions.specs.Stall.SourcedCycle.{plain_sourced, next_sourced, activate_sourced, queue_sourced}
 use Rattle.machine_sessions.specs.Stall.SourcedCommit.{commit_sourced}
-use Rattle.machine_sessions.specs.Stall.SourcedEvents.{results_sourced, failed-sourced, complete-sourced, takes_sourced, blocks_sourced}
+use Rattle.machine_sessions.specs.Stall.SourcedEvents.{results_sourced, failed_sourced, complete_sourced, takes_sourced, blocks_sourced}
 
 -- ---- the running task lives through a commit
 
@@ -87,17 +87,17 @@ lives_commits t =
 
 module _ (G : ℕ → Type 0) (s : Store) (h : SoundStore s) (k : Sourced G s) (t : ℕ) (m : (header s).moment ≡ Moment.Running (task_id t)) where
   t-low : t < task_limit
-  t-low = omega (arith, runner-low s t h m, (header-fits s).next_fits)
+  t-low = omega (arith, runner_low s t h m, (header-fits s).next_fits)
 
   t-live : live s t ≡ true
-  t-live = live-is s t (runner-low s t h m) (ap is_live (runner-runs s t h m))
+  t-live = live-is s t (runner_low s t h m) (ap is_live (runner-runs s t h m))
 
   go-on-sourced : (o n : ℕ) → o < object_limit → (x : Store) (p : Poll) → EndOk o t x p → Sized x → live x t ≡ true → Sourced G x → Sourced G (go_on t o n x p).store
   unfolding go_on stays
   go-on-sourced o n l x (ready v) e z lv c = c
   go-on-sourced o n l x (raised v) e z lv c = c
   go-on-sourced o n l x pending e z lv c =
-      next-sourced _ Nothing (header x) activate (activate-sourced _ Nothing (header x)) _ (waits-blocks o t x e) (blocks_sourced x t o z t-low l (live_low x t lv).1 c)
+      next_sourced _ Nothing (header x) activate (activate_sourced _ Nothing (header x)) _ (waits_blocks o t x e) (blocks_sourced x t o z t-low l (live_low x t lv).1 c)
 
   external-sourced3 : (o : ℕ) (d : CallId) (x : ExternalFutureState) → o < (header s).made → object s o ≡ Object.ExternalFuture d x → Sourced G (await_external_future s t o d x).store
   unfolding await_external_future await_external await_pending go_on stays
@@ -108,8 +108,8 @@ module _ (G : ℕ → Type 0) (s : Store) (h : SoundStore s) (k : Sourced G s) (
       let low : o < object_limit = omega (arith, l, (header-fits s).made-fits) in
       let f : ObjectFits (Object.ExternalFuture d (ExternalFutureState.Pending Awaiter.Nobody r)) = subst ObjectFits e (object-fits s o) in
       let k1 : Sourced G (put_object s o y) = takes_sourced s o p y h.memory.sized low (f.0, (t-low, f.1.1)) q refl (unfold as_awaited in refl) k in
-      next-sourced _ (λ i. T (is_completed (kind (object s i)))) (header s) activate (activate-sourced _ (λ i. T (is_completed (kind (object s i)))) (header s)) _
-      (wait-external s t h m o p l q refl) (blocks_sourced (put_object s o y) t o (sized-put_object s o y h.memory.sized) t-low low (row-live o y) k1)
+      next_sourced _ (λ i. T (is_completed (kind (object s i)))) (header s) activate (activate_sourced _ (λ i. T (is_completed (kind (object s i)))) (header s)) _
+      (wait_external s t h m o p l q refl) (blocks_sourced (put_object s o y) t o (sized-put_object s o y h.memory.sized) t-low low (row-live o y) k1)
     where
       row-live : (o : ℕ) (y : Object) → is_live (task (put_object s o y) t).state ≡ true
       row-live o y = same o y ∙ ap is_live (runner-runs s t h m)
@@ -126,8 +126,8 @@ module _ (G : ℕ → Type 0) (s : Store) (h : SoundStore s) (k : Sourced G s) (
   gather-sourced o f n GatherState.Pending l e =
       let low : o < object_limit = omega (arith, l, (header-fits s).made-fits) in
       let x : Store = (commit_gather_tree s o (Awaiter.Task (task_id t))).store in
-      let lv : Lives t x = commit-kept (Lives t) (lives_commits t) s o (Awaiter.Task (task_id t)) low (h.memory.sized, t-live) in
-      go-on-sourced o _ low x (commit_gather_tree s o (Awaiter.Task (task_id t))).poll (commit-keeps s t h m o f n l e) lv.0 lv.1 (commit_sourced s t o f n h m l e k)
+      let lv : Lives t x = commit_kept (Lives t) (lives_commits t) s o (Awaiter.Task (task_id t)) low (h.memory.sized, t-live) in
+      go-on-sourced o _ low x (commit_gather_tree s o (Awaiter.Task (task_id t))).poll (commit_keeps s t h m o f n l e) lv.0 lv.1 (commit_sourced s t o f n h m l e k)
   gather-sourced o f n (GatherState.Awaited a j) l e = k
   gather-sourced o f n GatherState.Completed l e = k
   gather-sourced o f n (GatherState.Failed x) l e = k
@@ -305,42 +305,42 @@ module _ (G : ℕ → Type 0) (s : Store) (h : SoundStore s) (k : Sourced G s) w
       → Sourced G (task_completes s t v).store
   unfolding task_completes end_main switched
   complete-step zero v m kn on = absurd (on refl)
-  complete-step (suc t) v m kn on = rw (ne_eqb (suc t) 0 (λ e. not-suc-le-zero {n = 0} (omega arith))) (complete-sourced _ s h k t v m kn)
+  complete-step (suc t) v m kn on = rw (ne_eqb (suc t) 0 (λ e. not-suc-le-zero {n = 0} (omega arith))) (complete_sourced _ s h k t v m kn)
 
   fail-step : (t n : ℕ) → (header s).moment ≡ Moment.Running (task_id t) → n < u32_limit → (t ≡ 0 → ⊥)
       → Sourced G (task_fails s t (Error.Script n)).store
   unfolding task_fails end_main switched
   fail-step zero n m f on = absurd (on refl)
-  fail-step (suc t) n m f on = rw (ne_eqb (suc t) 0 (λ e. not-suc-le-zero {n = 0} (omega arith))) (failed-sourced _ s h k t (Error.Script n) m f)
+  fail-step (suc t) n m f on = rw (ne_eqb (suc t) 0 (λ e. not-suc-le-zero {n = 0} (omega arith))) (failed_sourced _ s h k t (Error.Script n) m f)
 
   resume-step3 : (header s).moment ≡ Moment.Waiting → Sourced G (resume_with_resolved_futures s).store
   unfolding resume_with_resolved_futures switched
   resume-step3 m =
       pick_has (λ (x : Step). Sourced G x.store) (eqb s.queue.len 0) k
-      (next-sourced _ (λ i. T (is_completed (kind (object s i)))) (header s) activate (activate-sourced _ (λ i. T (is_completed (kind (object s i)))) (header s)) s (only_changes_of s h m) k)
+      (next_sourced _ (λ i. T (is_completed (kind (object s i)))) (header s) activate (activate_sourced _ (λ i. T (is_completed (kind (object s i)))) (header s)) s (only_changes_of s h m) k)
 
-  pub accept-sourced : (e : Event) → InRange e → (says e).cancels ≡ false → refusal s e ≡ 0 → (MainEnds s e → ⊥) → Sourced G (accept s e).store
+  pub accept_sourced : (e : Event) → InRange e → (says e).cancels ≡ false → refusal s e ≡ 0 → (MainEnds s e → ⊥) → Sourced G (accept s e).store
   unfolding accept refusals make_coroutine make_pending InRange says nothing_said answer_await MainEnds
-  accept-sourced (Event.coroutine f) i n r on =
+  accept_sourced (Event.coroutine f) i n r on =
       added_sourced s _ (Object.Coroutine f CoroutineState.New) h (added s (Object.Coroutine f CoroutineState.New) 0 z (not_full s (pass 6 (full s) [] (running-rest s _ (refusal-rest s (Event.coroutine f) r))).0) same_places) (unfold as_awaited in refl) k
-  accept-sourced Event.call i n r on = (calls-sourced (has_number s (pass 7 (no_number s) [] (running-rest s _ (refusal-rest s Event.call r))).0)).0
-  accept-sourced (Event.pending d x) i n r on =
+  accept_sourced Event.call i n r on = (calls-sourced (has_number s (pass 7 (no_number s) [] (running-rest s _ (refusal-rest s Event.call r))).0)).0
+  accept_sourced (Event.pending d x) i n r on =
       added_sourced s _ (Object.ExternalFuture (call_id d) (ExternalFutureState.Pending Awaiter.Nobody x)) h
       (added s (Object.ExternalFuture (call_id d) (ExternalFutureState.Pending Awaiter.Nobody x)) 0 z (not_full s (pass 6 (full s) [] (pass 5 _ _ (pass 4 _ _ (running-rest s _ (refusal-rest s (Event.pending d x) r))).1).1).0) same_places)
       (unfold as_awaited in refl) k
-  accept-sourced (Event.settled v) i n r on =
+  accept_sourced (Event.settled v) i n r on =
       let q = pass 6 (full s) _ (pass 4 _ _ (running-rest s _ (refusal-rest s (Event.settled v) r))).1 in
       settled-sourced v (has_number s (pass 7 (no_number s) [] q.1).0) (not_full s q.0)
-  accept-sourced (Event.gather os) i n r on =
+  accept_sourced (Event.gather os) i n r on =
       let q = (pass 6 (full s || ltb item_limit (length os) || ltb place_limit ((header s).used + length os)) [] (pass 4 _ _ (running-rest s _ (refusal-rest s (Event.gather os) r))).1).0 in
       gather-made os (not_full s (or_left (full s) (ltb item_limit (length os)) (or_left (full s || ltb item_limit (length os)) (ltb place_limit ((header s).used + length os)) q)))
       (ltb-false place_limit ((header s).used + length os) (or_right (full s || ltb item_limit (length os)) (ltb place_limit ((header s).used + length os)) q))
-  accept-sourced (Event.await o) i n r on = let q = refusal-rest s (Event.await o) r in await-sourced _ s h k (runner (header s).moment) (running s h _ q) o (await-made s h o q)
-  accept-sourced (Event.complete v) i n r on = let q = refusal-rest s (Event.complete v) r in complete-step (runner (header s).moment) v (running s h _ q) (complete-known s h v q) on
-  accept-sourced (Event.fail m) i n r on = fail-step (runner (header s).moment) m (running s h _ (refusal-rest s (Event.fail m) r)) i on
-  accept-sourced (Event.results rs) i n r on =
-      unfold wake_in_order in (queue_sourced (apply_future_results s rs) _ (results_sourced rs s (results-apply s h rs (refusal-rest s (Event.results rs) r)) (during_of s h) k))
-  accept-sourced Event.resume i n r on = resume-step3 (waiting s h [] (refusal-rest s Event.resume r)).0
-  accept-sourced (Event.cancel t) i n r on = absurd (true≢false n)
-  accept-sourced (Event.show o) i n r on = k
-  accept-sourced Event.eager i n r on = k
+  accept_sourced (Event.await o) i n r on = let q = refusal-rest s (Event.await o) r in await-sourced _ s h k (runner (header s).moment) (running s h _ q) o (await-made s h o q)
+  accept_sourced (Event.complete v) i n r on = let q = refusal-rest s (Event.complete v) r in complete-step (runner (header s).moment) v (running s h _ q) (complete-known s h v q) on
+  accept_sourced (Event.fail m) i n r on = fail-step (runner (header s).moment) m (running s h _ (refusal-rest s (Event.fail m) r)) i on
+  accept_sourced (Event.results rs) i n r on =
+      unfold wake_in_order in (queue_sourced (apply_future_results s rs) _ (results_sourced rs s (results_apply s h rs (refusal-rest s (Event.results rs) r)) (during_of s h) k))
+  accept_sourced Event.resume i n r on = resume-step3 (waiting s h [] (refusal-rest s Event.resume r)).0
+  accept_sourced (Event.cancel t) i n r on = absurd (true≢false n)
+  accept_sourced (Event.show o) i n r on = k
+  accept_sourced Event.eager i n r on = k

@@ -24,14 +24,14 @@ use Rattle.asyncio.specs.Ranges.{AwaiterFits, ErrorFits, HeaderFits, MomentFits}
 use Rattle.asyncio.specs.Layout.{to_task, state_words, to_state}
 use Rattle.asyncio.specs.States.{pick, is_live, is_ready, is_blocked}
 use Rattle.rows.specs.Tables.{task_codec, task_start, task_at, task_put}
-use Rattle.rows.specs.RowLaws.{row-put-at}
+use Rattle.rows.specs.RowLaws.{row-put_at}
 use Rattle.queue.specs.declared.ReadyQueue.{ReadyQueue}
 use Rattle.queue.specs.Queue.{entries, occurrences, without, one_if_same, front_of, pop_front, push_back, remove}
 use Rattle.queue.specs.QueueLaws.{distinct_without, length-entries, front_entry, entries_pop, entries-remove, occurrences_push, occurrences-without, pop_front-len, pop_front-length, remove-len, remove-length}
 use Rattle.machine.specs.Store.{LogEntry, Store, view, task, object, header, put_task, put_object, put_queue, add_log, restate, set_state, set_moment, put_header, absent, exited}
 use Rattle.machine.specs.Scheduler.{live_count, remove_from_ready_queue, remove_task}
 use Rattle.machine.specs.Delivery.{Delivery, deliver_awaiter_success, deliver_awaiter_failure}
-use Rattle.machine.specs.Events.{How, start, value, raises, Control, runs, waits, Switched, run, yield, new_function, resume-next, resume-after-task-exit, handle-task-failure, start-by, start-task, activate-state, activate_within, activate}
+use Rattle.machine.specs.Events.{How, start, value, raises, Control, runs, waits, Switched, run, yield, new_function, resume_next, resume_after_task_exit, handle_task_failure, start_by, start_task, activate_state, activate_within, activate}
 use Rattle.machine_laws.specs.Views.{Sized}
 use Rattle.machine_laws.specs.Statements.{SameLive}
 use Rattle.machine_laws.specs.Facts.{Nothing}
@@ -39,10 +39,10 @@ use Rattle.machine_laws.specs.StoreLaws.{header-fits, header_put-header, header_
 use Rattle.machine_laws.specs.DeliveryLaws.{absurd_some, failure_same, same-live_count}
 use Rattle.machine_laws.specs.CycleLaws.{live-falls}
 use Rattle.machine_theorems.specs.Soundness.ReadyTasks.{Queued, to_queued, not-queued, head_gone, queued_less, gone, was_there}
-use Rattle.machine_theorems.specs.Soundness.Stores.{idle, SoundDuring, queue-during}
-use Rattle.machine_theorems.specs.Soundness.Deliver.{DeliveryEnds, failure-keeps}
-use Rattle.machine_theorems.specs.Soundness.Cycle.{task_delivering, remove-keeps}
-use Rattle.machine_theorems.specs.Panics.NoPanicLaws.{Activated, starts, goes_on, raises_it, ready_activated, main-started}
+use Rattle.machine_theorems.specs.Soundness.Stores.{idle, SoundDuring, queue_during}
+use Rattle.machine_theorems.specs.Soundness.Deliver.{DeliveryEnds, failure_keeps}
+use Rattle.machine_theorems.specs.Soundness.Cycle.{task_delivering, remove_keeps}
+use Rattle.machine_theorems.specs.Panics.NoPanicLaws.{Activated, starts, goes_on, raises_it, ready_activated, main_started}
 use Rattle.machine_theorems.specs.Panics.NoPanicWoken.{failure_activated}
 use Rattle.machine_theorems.specs.Soundness.RowFacts.{ready-live}
 use Rattle.machine_sessions.specs.Stall.Effects.{WokenBy, Effect, nobody, wakes, success_effect, failure_effect}
@@ -87,7 +87,7 @@ ready_back (TaskState.Blocked o) = refl
 pub ready-put_task : (s : Store) (t : ℕ) (r : Task) → Sized s → t < task_limit → is_ready (task (put_task s t r) t).state ≡ is_ready r.state
 unfolding task put_task task_at task_put
 ready-put_task s t r z l =
-    ap (λ (x : List ℕ). is_ready (to_task x).state) (row-put-at task_codec s.tasks (task_start t) r (omega (arith, z.tasks-sized)))
+    ap (λ (x : List ℕ). is_ready (to_task x).state) (row-put_at task_codec s.tasks (task_start t) r (omega (arith, z.tasks-sized)))
     ∙ ready_back r.state
 
 pub blocked_unready : (x : TaskState) → is_blocked x ≡ true → is_ready x ≡ false
@@ -110,9 +110,9 @@ module _ {P : ℕ → Type 0} {r : ℕ → Bool} {D : ℕ → Type 0} {hd : Head
   unfolding view
   the-queue = to_queued (header s).next (task s) (entries s.queue) h.kept.but.entries
 
-  pub delivered-stands : {E : ℕ → Type 0} (d : Delivery) → Effect s d → Stands E s → Stands E d.store
-  delivered-stands d (nobody e w) k = stands_like s d.store e.tasks e.queue (ap (λ (y : Header). y.next) e.head) k
-  delivered-stands {E} d (wakes t x e w) k =
+  pub delivered_stands : {E : ℕ → Type 0} (d : Delivery) → Effect s d → Stands E s → Stands E d.store
+  delivered_stands d (nobody e w) k = stands_like s d.store e.tasks e.queue (ap (λ (y : Header). y.next) e.head) k
+  delivered_stands {E} d (wakes t x e w) k =
       stands_like u d.store (e.tasks ∙ (unfold put_queue put_task task in refl)) (e.queue ∙ (unfold put_queue in refl)) (ap (λ (y : Header). y.next) e.head ∙ (unfold header put_queue put_task in refl))
       (record { main = main-by (ℕ_discrete 0 t); stands = λ v l y n. by v l y n (ℕ_discrete v t) })
     where
@@ -277,8 +277,8 @@ module _ (D : ℕ → Type 0) (hd : Header) where
   queue-live s q = refl
 
   module _ (k : ℕ) (act : Store → ℕ → Switched) (go : Acts k act) where
-    pub next-right : (s : Store) → SoundDuring Nothing idle D hd s → live_count s ≤ k → Stands Nothing s → Right (resume-next act s)
-    unfolding resume-next view Acts
+    pub next-right : (s : Store) → SoundDuring Nothing idle D hd s → live_count s ≤ k → Stands Nothing s → Right (resume_next act s)
+    unfolding resume_next view Acts
     next-right s h c st = by (eqb s.queue.len 0) refl
       where
         q : ReadyQueue
@@ -298,7 +298,7 @@ module _ (D : ℕ → Type 0) (hd : Header) where
             let front : front_of q ≡ task_id u = front_entry q u us e (omega (arith, first.0.0, h.kept.but.fits.next_fits)) in
             subst (λ (y : TaskId). Next y.0) (sym front)
             (go (put_queue s (pop_front q)) u low (ready-is first.0.1)
-            (queue-during s h (pop_front q) (pop_front-len q len) (pop_front-length q ∙ h.kept.memory.ids) (λ z. subst (Queued (header s).next (task s)) (sym rest) first.2))
+            (queue_during s h (pop_front q) (pop_front-len q len) (pop_front-length q ∙ h.kept.memory.ids) (λ z. subst (Queued (header s).next (task s)) (sym rest) first.2))
             (subst (λ (n : ℕ). n ≤ k) (sym (queue-live s (pop_front q))) c)
             (stands_queue s (pop_front q) st.main (λ v l y ne. left v rest ne (st.stands v l y (λ z. z)))))
           where
@@ -317,10 +317,10 @@ module _ (D : ℕ → Type 0) (hd : Header) where
         by true e = yield-right s h.kept.memory.sized (eqb-true s.queue.len 0 e) st
         by false e = at_least_one (entries q) refl (eqb-false s.queue.len 0 e)
 
-    pub exit-right : (d : Delivery) → DeliveryEnds idle D hd d → ((u : ℕ) → d.woken ≡ some u → is_ready (task d.store u).state ≡ true) → live_count d.store ≤ k → Stands Nothing d.store
-        → Right (resume-after-task-exit act d)
-    unfolding resume-after-task-exit remove_from_ready_queue Acts
-    exit-right d h woken c st = by d.woken refl
+    pub exit_right : (d : Delivery) → DeliveryEnds idle D hd d → ((u : ℕ) → d.woken ≡ some u → is_ready (task d.store u).state ≡ true) → live_count d.store ≤ k → Stands Nothing d.store
+        → Right (resume_after_task_exit act d)
+    unfolding resume_after_task_exit remove_from_ready_queue Acts
+    exit_right d h woken c st = by d.woken refl
       where
         s : Store
         s = d.store
@@ -328,13 +328,13 @@ module _ (D : ℕ → Type 0) (hd : Header) where
         len : s.queue.len ≤ task_limit
         len = h.during.kept.memory.words_right.queue-short
 
-        by : (w : Option ℕ) → d.woken ≡ w → Right (elim w [ none ↦ resume-next act d.store | some t ↦ act (remove_from_ready_queue d.store t) t ])
+        by : (w : Option ℕ) → d.woken ≡ w → Right (elim w [ none ↦ resume_next act d.store | some t ↦ act (remove_from_ready_queue d.store t) t ])
         by none e = next-right s h.during c st
         by (some t) e =
             let gone-from : entries (remove s.queue t) ≡ without (entries s.queue) t = entries-remove s.queue t h.during.kept.memory.ids len in
             let was : Queued (header s).next (task s) (entries s.queue) = the-queue s h.during in
             go (put_queue s (remove s.queue t)) t (h.woken t e) (queue_ready s (remove s.queue t) t (woken t e))
-            (queue-during s h.during (remove s.queue t) (remove-len s.queue t len) (remove-length s.queue t ∙ h.during.kept.memory.ids)
+            (queue_during s h.during (remove s.queue t) (remove-len s.queue t len) (remove-length s.queue t ∙ h.during.kept.memory.ids)
             (λ z. subst (Queued (header s).next (task s)) (sym gone-from)
             (queued_less (was_there (entries s.queue) t) (distinct_without (entries s.queue) t z.distinct) z)))
             (subst (λ (n : ℕ). n ≤ k) (sym (queue-live s (remove s.queue t))) c)
@@ -348,17 +348,17 @@ module _ (D : ℕ → Type 0) (hd : Header) where
 
     -- the exempt task fails
     pub fails-right : (s : Store) (t : ℕ) (e : Error) (r : ℕ → Bool) → ErrorFits e → suc t < hd.next → is_live (task s (suc t)).state ≡ true → is_blocked (task s (suc t)).state ≡ false
-        → ((u : ℕ) → (u ≡ suc t → ⊥) → r u ≡ false) → SoundDuring Nothing r D hd s → live_count s ≤ suc k → Stands (λ u. u ≡ suc t) s → Right (handle-task-failure act s (suc t) e)
-    unfolding handle-task-failure
+        → ((u : ℕ) → (u ≡ suc t → ⊥) → r u ≡ false) → SoundDuring Nothing r D hd s → live_count s ≤ suc k → Stands (λ u. u ≡ suc t) s → Right (handle_task_failure act s (suc t) e)
+    unfolding handle_task_failure
     fails-right s t e r f low lv free still h c st =
-        exit-right _
+        exit_right _
         (record {
-          during = remove-keeps d (suc t) sent.during (subst (λ (y : Header). suc t < y.next) (sym sent.during.head) low) (exited (suc t)) idle refl still;
+          during = remove_keeps d (suc t) sent.during (subst (λ (y : Header). suc t < y.next) (sym sent.during.head) low) (exited (suc t)) idle refl still;
           woken = sent.woken;
         })
         (λ u q. activated_ready _ (subst Activated (queue-row u) (failure_activated s (suc t) e z f free u q)))
         count
-        (gone-stands (delivered-stands s h (deliver_awaiter_failure s a e) (failure_effect s a e z (task-fits s (suc t)).awaiter_fits) st))
+        (gone-stands (delivered_stands s h (deliver_awaiter_failure s a e) (failure_effect s a e z (task-fits s (suc t)).awaiter_fits) st))
       where
         z : Sized s
         z = h.kept.memory.sized
@@ -373,7 +373,7 @@ module _ (D : ℕ → Type 0) (hd : Header) where
         room = unfold view in (omega (arith, subst (λ (y : Header). suc t < y.next) (sym h.head) low, (header-fits s).next_fits))
 
         sent : DeliveryEnds r D hd (deliver_awaiter_failure s a e)
-        sent = failure-keeps r D hd e f s (task s (suc t)).coroutine.0 a (task_delivering s t h low (subst T (sym lv) tt))
+        sent = failure_keeps r D hd e f s (task s (suc t)).coroutine.0 a (task_delivering s t h low (subst T (sym lv) tt))
 
         same : SameLive s d
         same = failure_same s a e z (task-fits s (suc t)).awaiter_fits
@@ -395,8 +395,8 @@ module _ (D : ℕ → Type 0) (hd : Header) where
         gone-stands k1 = removed_stands d (suc t) (exited (suc t)) same.sized sent.during.kept.memory.ids sent.during.kept.memory.words_right.queue-short room (λ q. not-suc-le-zero {n = 0} (omega arith)) k1
 
     start_right : (s : Store) (t : ℕ) → suc t < hd.next → (task s (suc t)).state ≡ TaskState.Unstarted → SoundDuring Nothing idle D hd s → live_count s ≤ suc k → Stands (λ u. u ≡ suc t) s
-        → Right (start-task act s (suc t))
-    unfolding start-task start-by
+        → Right (start_task act s (suc t))
+    unfolding start_task start_by
     start_right s t low e h c st = by (new_function (object s o))
       where
         o : ℕ
@@ -405,7 +405,7 @@ module _ (D : ℕ → Type 0) (hd : Header) where
         room : suc t < task_limit
         room = unfold view in (omega (arith, subst (λ (y : Header). suc t < y.next) (sym h.head) low, (header-fits s).next_fits))
 
-        by : (n : Option ℕ) → Right (start-by act s (suc t) o n)
+        by : (n : Option ℕ) → Right (start_by act s (suc t) o n)
         by none = fails-right s t Error.CoroutineReuse idle tt low (ap is_live e) (ap is_blocked e) (λ u d. refl) h c st
         by (some f) =
             let x : Object = Object.Coroutine f CoroutineState.Running in
@@ -419,10 +419,10 @@ module _ (D : ℕ → Type 0) (hd : Header) where
                 same_row o x = unfold task put_object in refl
 
     state_right : (s : Store) (t : ℕ) (x : TaskState) → t < hd.next → (task s t).state ≡ x → is_ready x ≡ true → SoundDuring Nothing idle D hd s → live_count s ≤ suc k → Stands (λ u. u ≡ t) s
-        → Right (activate-state act s t x)
-    unfolding activate-state view
+        → Right (activate_state act s t x)
+    unfolding activate_state view
     state_right s t TaskState.Absent l e r h c st = absurd (true≢false (sym r))
-    state_right s zero TaskState.Unstarted l e r h c st = absurd (main-started h.kept.but e)
+    state_right s zero TaskState.Unstarted l e r h c st = absurd (main_started h.kept.but e)
     state_right s (suc t) TaskState.Unstarted l e r h c st = start_right s t l e h c st
     state_right s t TaskState.Running l e r h c st = absurd (true≢false (sym r))
     state_right s t (TaskState.Woken v) l e r h c st = run-right s t (value v) h.kept.memory.sized (low_task s t l h) (ap is_live e) st
@@ -446,14 +446,14 @@ module _ (D : ℕ → Type 0) (hd : Header) where
   activates k s t l r h c st = activate-right s t l r h st
 
   -- the next ready task, or the host
-  pub resume-right : (s : Store) → SoundDuring Nothing idle D hd s → Stands Nothing s → Right (resume-next activate s)
+  pub resume-right : (s : Store) → SoundDuring Nothing idle D hd s → Stands Nothing s → Right (resume_next activate s)
   resume-right s h st = next-right (live_count s) activate (activates (live_count s)) s h (le_refl _) st
 
   -- after an exit
-  pub leave-right : (d : Delivery) → DeliveryEnds idle D hd d → ((u : ℕ) → d.woken ≡ some u → is_ready (task d.store u).state ≡ true) → Stands Nothing d.store → Right (resume-after-task-exit activate d)
-  leave-right d h w st = exit-right (live_count d.store) activate (activates (live_count d.store)) d h w (le_refl _) st
+  pub leave_right : (d : Delivery) → DeliveryEnds idle D hd d → ((u : ℕ) → d.woken ≡ some u → is_ready (task d.store u).state ≡ true) → Stands Nothing d.store → Right (resume_after_task_exit activate d)
+  leave_right d h w st = exit_right (live_count d.store) activate (activates (live_count d.store)) d h w (le_refl _) st
 
   -- a running task fails
   pub fail-right : (s : Store) (t : ℕ) (e : Error) (r : ℕ → Bool) → ErrorFits e → suc t < hd.next → is_live (task s (suc t)).state ≡ true → is_blocked (task s (suc t)).state ≡ false
-      → ((u : ℕ) → (u ≡ suc t → ⊥) → r u ≡ false) → SoundDuring Nothing r D hd s → Stands (λ u. u ≡ suc t) s → Right (handle-task-failure activate s (suc t) e)
+      → ((u : ℕ) → (u ≡ suc t → ⊥) → r u ≡ false) → SoundDuring Nothing r D hd s → Stands (λ u. u ≡ suc t) s → Right (handle_task_failure activate s (suc t) e)
   fail-right s t e r f low lv free still h st = fails-right (live_count s) activate (activates (live_count s)) s t e r f low lv free still h (omega arith) st

@@ -32,7 +32,7 @@ use Rattle.queue.specs.QueueLaws.{entries_push, occurrences_push, distinct_appen
 use Rattle.machine.specs.Store.{Store, LogEntry, view, task, object, header, put_task, put_object, put_place, put_queue, put_header, add_log, restate, set_state, set_next, set_calls, set_moment, add_object, spawned, blocked}
 use Rattle.machine.specs.Scheduler.{as_pending, push_ready, spawn_as, remove_from, cleanup, pending_call_ids}
 use Rattle.machine.specs.Commit.{Poll, ready, raised, pending, await_external, await_pending, commit_gather_tree}
-use Rattle.machine.specs.Events.{How, value, raises, inline, Control, runs, waits, Switched, Awaited, activate, resume-next, stays, go_on, await_coroutine, await_external_future, await_gather, await_object, exec_get_awaitable, make_coroutine, make_pending, make_settled, put_items, make_gather, wake_in_order, apply_future_results}
+use Rattle.machine.specs.Events.{How, value, raises, inline, Control, runs, waits, Switched, Awaited, activate, resume_next, stays, go_on, await_coroutine, await_external_future, await_gather, await_object, exec_get_awaitable, make_coroutine, make_pending, make_settled, put_items, make_gather, wake_in_order, apply_future_results}
 use Rattle.machine.specs.Machine.{Event, Answer, Step, answer_await, end_main, task_completes, task_fails, runner, refusals, refusal, full, no_number, accept, in_running, in_waiting}
 use Rattle.machine.specs.Sound.{is_ended, value_known}
 use Rattle.machine.specs.History.{Says, says, nothing_said, tells, done_only}
@@ -45,15 +45,15 @@ use Rattle.machine_laws.specs.SoundLaws.{pass, running-rest, refusal-rest, has_n
 use Rattle.machine_laws.specs.TestLaws.{or_left, or_right}
 use Rattle.machine_theorems.specs.Soundness.ReadyTasks.{Queued, to_queued, none-queued}
 use Rattle.machine_theorems.specs.Soundness.Stores.{idle, SoundDuring, SoundStore, during_of}
-use Rattle.machine_theorems.specs.Soundness.Exits.{runner-low}
-use Rattle.machine_theorems.specs.Soundness.Await.{wait-external}
-use Rattle.machine_theorems.specs.Soundness.AwaitGather.{EndOk, waits-blocks, commit-keeps}
-use Rattle.machine_theorems.specs.Soundness.Preserved.{running, waiting, await-made, complete-known, results-apply}
+use Rattle.machine_theorems.specs.Soundness.Exits.{runner_low}
+use Rattle.machine_theorems.specs.Soundness.Await.{wait_external}
+use Rattle.machine_theorems.specs.Soundness.AwaitGather.{EndOk, waits_blocks, commit_keeps}
+use Rattle.machine_theorems.specs.Soundness.Preserved.{running, waiting, await-made, complete-known, results_apply}
 use Rattle.machine.specs.Sessions.{InRange}
-use Rattle.machine_theorems.specs.Panics.NoPanicLaws.{made-awaitable}
+use Rattle.machine_theorems.specs.Panics.NoPanicLaws.{made_awaitable}
 use Rattle.machine_theorems.specs.Soundness.RowFacts.{remove-sized}
 use Rattle.machine_theorems.specs.Soundness.RowFacts.{items-header}
-use Rattle.machine_laws.specs.Walk.{Turns, Commits, commit-kept}
+use Rattle.machine_laws.specs.Walk.{Turns, Commits, commit_kept}
 use Rattle.machine_sessions.specs.Queue.Tracked.{spawn-next, spawn-row}
 use Rattle.machine_sessions.specs.Queue.TrackedEvents.{items-tasks}
 use Rattle.machine_sessions.specs.Stall.Room.{room_for}
@@ -198,7 +198,7 @@ stays-right s t h n m k = record { stood = k; waits-idle = λ cs q. not-waits t 
 
 module _ (s : Store) (h : SoundStore s) (st : Stands Nothing s) (t : ℕ) (m : (header s).moment ≡ Moment.Running (task_id t)) where
   t-low : t < task_limit
-  t-low = omega (arith, runner-low s t h m, (header-fits s).next_fits)
+  t-low = omega (arith, runner_low s t h m, (header-fits s).next_fits)
 
   lined-now : Lined s
   unfolding view
@@ -216,7 +216,7 @@ module _ (s : Store) (h : SoundStore s) (st : Stands Nothing s) (t : ℕ) (m : (
   unfolding go_on view
   go-on-right o n x (ready v) e k = stays-right x t (value v) n e.after.moment k.stood
   go-on-right o n x (raised v) e k = stays-right x t (raises v) n e.after.moment k.stood
-  go-on-right o n x pending e k = let r = resume-right Nothing (header x) b (waits-blocks o t x e) (blocks_stand x t o k.sized t-low k.stood) in record { stood = r.stood; waits-idle = r.waits-idle; idle = r.idle }
+  go-on-right o n x pending e k = let r = resume-right Nothing (header x) b (waits_blocks o t x e) (blocks_stand x t o k.sized t-low k.stood) in record { stood = r.stood; waits-idle = r.waits-idle; idle = r.idle }
     where
       b : Store
       b = add_log (set_state x t (TaskState.Blocked (heap_id o))) (blocked t)
@@ -227,7 +227,7 @@ module _ (s : Store) (h : SoundStore s) (st : Stands Nothing s) (t : ℕ) (m : (
       let y : Object = Object.ExternalFuture c (ExternalFutureState.Pending (Awaiter.Task (task_id t)) r) in
       let u : Store = put_object s o y in
       let w = resume-right (λ p. T (is_completed (kind (object s p)))) (header s) (add_log (set_state u t (TaskState.Blocked (heap_id o))) (blocked t))
-      (wait-external s t h m o (record { call = c; awaiter = Awaiter.Nobody; stored = r }) l (ap as_pending e ∙ (unfold as_pending in refl)) refl)
+      (wait_external s t h m o (record { call = c; awaiter = Awaiter.Nobody; stored = r }) l (ap as_pending e ∙ (unfold as_pending in refl)) refl)
       (blocks_stand u t o (sized-put_object s o y h.memory.sized) t-low (row_stands s o y st)) in
       record { stood = w.stood; waits-idle = w.waits-idle; idle = w.idle }
   external-right o c (ExternalFutureState.Pending (Awaiter.Task u) r) l e = stays-right s t _ 0 m st
@@ -238,8 +238,8 @@ module _ (s : Store) (h : SoundStore s) (st : Stands Nothing s) (t : ℕ) (m : (
   gather-right : (o f n : ℕ) (x : GatherState) → o < (header s).made → object s o ≡ Object.GatherFuture f n x → AwaitRight (await_gather s t o x)
   unfolding await_gather
   gather-right o f n GatherState.Pending l e =
-      go-on-right o _ (commit_gather_tree s o (Awaiter.Task (task_id t))).store (commit_gather_tree s o (Awaiter.Task (task_id t))).poll (commit-keeps s t h m o f n l e)
-      (commit-kept Lined lined_commits s o (Awaiter.Task (task_id t)) (omega (arith, l, (header-fits s).made-fits)) lined-now)
+      go-on-right o _ (commit_gather_tree s o (Awaiter.Task (task_id t))).store (commit_gather_tree s o (Awaiter.Task (task_id t))).poll (commit_keeps s t h m o f n l e)
+      (commit_kept Lined lined_commits s o (Awaiter.Task (task_id t)) (omega (arith, l, (header-fits s).made-fits)) lined-now)
   gather-right o f n (GatherState.Awaited a k) l e = stays-right s t _ 0 m st
   gather-right o f n GatherState.Completed l e = stays-right s t _ 0 m st
   gather-right o f n (GatherState.Failed x) l e = stays-right s t _ 0 m st
@@ -252,7 +252,7 @@ module _ (s : Store) (h : SoundStore s) (st : Stands Nothing s) (t : ℕ) (m : (
 
   unmade-not : (o : ℕ) → o < (header s).made → object s o ≡ Object.Unmade → ⊥
   unfolding view
-  unmade-not o l e = made-awaitable h.facts.but o l e
+  unmade-not o l e = made_awaitable h.facts.but o l e
 
   pub await-right : (o : ℕ) → o < (header s).made → AwaitRight (exec_get_awaitable s t o)
   unfolding exec_get_awaitable await_object
@@ -360,7 +360,7 @@ module _ (s : Store) (h : SoundStore s) (st : Stands Nothing s) where
   accept-right (Event.complete v) i n r = let q = refusal-rest s (Event.complete v) r in complete-step (runner (header s).moment) v (running s h _ q) (complete-known s h v q)
   accept-right (Event.fail m) i n r = fail-step (runner (header s).moment) m (running s h _ (refusal-rest s (Event.fail m) r)) i
   accept-right (Event.results rs) i n r =
-      let a = results-apply s h rs (refusal-rest s (Event.results rs) r) in
+      let a = results_apply s h rs (refusal-rest s (Event.results rs) r) in
       only_changes_right _ _ refl refl (ordered_stand s (apply_future_results s rs) (results-keep rs s a (during_of s h)) (results_stand rs s a (during_of s h) st))
   accept-right Event.resume i n r = resume-step s h st (waiting s h [] (refusal-rest s Event.resume r)).0
   accept-right (Event.cancel t) i n r = absurd (true≢false n)

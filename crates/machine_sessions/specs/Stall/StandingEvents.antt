@@ -24,7 +24,7 @@ use Rattle.queue.specs.OrderLaws.{order_occurrences}
 use Rattle.machine.specs.Store.{Store, view, task, object, header, put_object, put_queue, add_log, exited}
 use Rattle.machine.specs.Scheduler.{pending_call_ids, remove_from_ready_queue, remove_task}
 use Rattle.machine.specs.Delivery.{deliver_awaiter_success}
-use Rattle.machine.specs.Events.{waits, Switched, Awaited, Result, activate, resume-next, handle_task_completion, handle-task-failure, completed, apply_future_results, wake_in_order}
+use Rattle.machine.specs.Events.{waits, Switched, Awaited, Result, activate, resume_next, handle_task_completion, handle_task_failure, completed, apply_future_results, wake_in_order}
 use Rattle.machine.specs.Machine.{Event, Step, switched, answer_await, runner, repeat_wait, resume_with_resolved_futures}
 use Rattle.machine.specs.Sound.{value_known, runs_now}
 use Rattle.machine.specs.History.{tells}
@@ -33,14 +33,14 @@ use Rattle.machine_laws.specs.StoreLaws.{header-fits, header_put-object, task-fi
 use Rattle.machine_laws.specs.MakingLaws.{value-fits}
 use Rattle.machine_theorems.specs.Soundness.Stores.{idle, SoundDuring, SoundStore, during_of}
 use Rattle.machine_theorems.specs.Soundness.Fill.{DeliveringValue}
-use Rattle.machine_theorems.specs.Soundness.Exits.{runner-low, runner-runs, others-commits-none, completion-delivering, completion-delivery-ends, only_changes_of}
+use Rattle.machine_theorems.specs.Soundness.Exits.{runner_low, runner-runs, others_commits_none, completion_delivering, completion_delivery_ends, only_changes_of}
 use Rattle.machine_theorems.specs.Soundness.Results.{AllApply}
 use Rattle.machine_theorems.specs.Panics.NoPanicLaws.{Activated, starts, goes_on, raises_it}
 use Rattle.machine_theorems.specs.Panics.NoPanicWoken.{success_activated}
 use Rattle.machine.specs.DemandThree.{is_stalled}
 use Rattle.machine_sessions.specs.Stall.Effects.{success_effect}
 use Rattle.machine_sessions.specs.Stall.ResultsWalk.{delivered-batch}
-use Rattle.machine_sessions.specs.Stall.Standing.{Stands, stands_like, stands_queue, delivered-stands, Right, removed_stands, resume-right, leave-right, fail-right}
+use Rattle.machine_sessions.specs.Stall.Standing.{Stands, stands_like, stands_queue, delivered_stands, Right, removed_stands, resume-right, leave_right, fail-right}
 
 -- waiting, with nothing ready
 abbrev pub OnlyChanges : Store → Type 0
@@ -98,12 +98,12 @@ module _ (s : Store) (h : SoundStore s) (st : Stands Nothing s) where
   pub complete-right : (t : ℕ) (v : Value) → (header s).moment ≡ Moment.Running (task_id (suc t)) → T (value_known (header s).made (object s) v) → Right (handle_task_completion s (suc t) v)
   unfolding handle_task_completion view
   complete-right t v m k =
-      leave-right D0 (header s) (deliver_awaiter_success left a v) (completion-delivery-ends s t v h m k)
+      leave_right D0 (header s) (deliver_awaiter_success left a v) (completion_delivery_ends s t v h m k)
       (λ u e. activated_ready _ (subst Activated (queue-row u)
       (success_activated left a v delivers-on.during.kept.memory.sized (task-fits s (suc t)).awaiter_fits (value-fits (header s).made (object s) v h.facts.but.fits.made-fits k) u e)))
-      (delivered-stands left delivers-on.during (deliver_awaiter_success left a v) (success_effect left a v delivers-on.during.kept.memory.sized (task-fits s (suc t)).awaiter_fits)
+      (delivered_stands left delivers-on.during (deliver_awaiter_success left a v) (success_effect left a v delivers-on.during.kept.memory.sized (task-fits s (suc t)).awaiter_fits)
       (removed_stands done (suc t) (exited (suc t)) (sized-put_object s o _ h.memory.sized) (unfold put_object in h.memory.ids) (unfold put_object in h.memory.words_right.queue-short)
-      (omega (arith, runner-low s (suc t) h m, (header-fits s).next_fits)) (λ q. not-suc-le-zero {n = 0} (omega arith)) (row_stands s o (completed (object s o)) (some_exempt s st))))
+      (omega (arith, runner_low s (suc t) h m, (header-fits s).next_fits)) (λ q. not-suc-le-zero {n = 0} (omega arith)) (row_stands s o (completed (object s o)) (some_exempt s st))))
     where
       o : ℕ
       o = (task s (suc t)).coroutine.0
@@ -118,15 +118,15 @@ module _ (s : Store) (h : SoundStore s) (st : Stands Nothing s) where
       left = add_log (remove_task done (suc t)) (exited (suc t))
 
       delivers-on : DeliveringValue idle D0 (header s) o v left a
-      delivers-on = completion-delivering s t v h m k
+      delivers-on = completion_delivering s t v h m k
 
       queue-row : (u : ℕ) → (task (remove_from_ready_queue (deliver_awaiter_success left a v).store u) u).state ≡ (task (deliver_awaiter_success left a v).store u).state
       queue-row u = unfold remove_from_ready_queue put_queue task in refl
 
-  pub failed-right : (t : ℕ) (e : Error) → (header s).moment ≡ Moment.Running (task_id (suc t)) → ErrorFits e → Right (handle-task-failure activate s (suc t) e)
+  pub failed-right : (t : ℕ) (e : Error) → (header s).moment ≡ Moment.Running (task_id (suc t)) → ErrorFits e → Right (handle_task_failure activate s (suc t) e)
   failed-right t e m k =
-      fail-right D0 (header s) s t e (runs_now (header s).moment) k (runner-low s (suc t) h m) (ap is_live (runner-runs s (suc t) h m)) (ap is_blocked (runner-runs s (suc t) h m))
-      (others-commits-none s (suc t) h m) (during_of s h) (some_exempt s st)
+      fail-right D0 (header s) s t e (runs_now (header s).moment) k (runner_low s (suc t) h m) (ap is_live (runner-runs s (suc t) h m)) (ap is_blocked (runner-runs s (suc t) h m))
+      (others_commits_none s (suc t) h m) (during_of s h) (some_exempt s st)
 
   -- ---- resume
 
@@ -137,7 +137,7 @@ module _ (s : Store) (h : SoundStore s) (st : Stands Nothing s) where
       none-there : s.queue.len ≡ 0 → entries s.queue ≡ []
       none-there e = unfold entries in (ap (λ (n : ℕ). take n s.queue.ids) e)
 
-      by : (b : Bool) → eqb s.queue.len 0 ≡ b → StepRight E (pick b (record { store = s; answer = repeat_wait (pending_call_ids s) }) (switched (resume-next activate s)))
+      by : (b : Bool) → eqb s.queue.len 0 ≡ b → StepRight E (pick b (record { store = s; answer = repeat_wait (pending_call_ids s) }) (switched (resume_next activate s)))
       by true e =
           record {
             stood = λ x. st;
@@ -149,7 +149,7 @@ module _ (s : Store) (h : SoundStore s) (st : Stands Nothing s) where
 -- ---- results
 
 pub results_stand : {r : ℕ → Bool} {D : ℕ → Type 0} {hd : Header} (xs : List Result) (s : Store) → AllApply hd.made D xs → SoundDuring Nothing r D hd s → Stands Nothing s → Stands Nothing (apply_future_results s xs)
-results_stand xs s a h st = delivered-batch (Stands Nothing) (λ u o x k. row_stands u o x k) (λ P r D hd u m d e k. delivered-stands u m d e k) xs s a h st
+results_stand xs s a h st = delivered-batch (Stands Nothing) (λ u o x k. row_stands u o x k) (λ P r D hd u m d e k. delivered_stands u m d e k) xs s a h st
 
 -- whom they woke in task order
 pub ordered_stand : {r : ℕ → Bool} {D : ℕ → Type 0} {hd : Header} (s u : Store) → SoundDuring Nothing r D hd u → Stands Nothing u → Stands Nothing (wake_in_order s u)

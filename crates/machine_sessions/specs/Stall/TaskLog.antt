@@ -121,12 +121,12 @@ no_task s c e t l lv q =
 
 module _ (F : ℕ → Option ℕ) (L E : ℕ → Type 0) where
   -- tasks that live and have the coroutines as before, objects that are coroutines and used where they were
-  pub tasks-like : (s u : Store) (S R : ℕ → Option ℕ) (Y Z : ℕ → Bool) → Sized u → (header u).next ≡ (header s).next → ((t : ℕ) → R t ≡ S t) → ((t : ℕ) → Z t ≡ Y t)
+  pub tasks_like : (s u : Store) (S R : ℕ → Option ℕ) (Y Z : ℕ → Bool) → Sized u → (header u).next ≡ (header s).next → ((t : ℕ) → R t ≡ S t) → ((t : ℕ) → Z t ≡ Y t)
       → ((c : ℕ) → any_coroutine (object s c) ≡ true → any_coroutine (object u c) ≡ true) → ((c : ℕ) → used_coroutine (object s c) ≡ true → used_coroutine (object u c) ≡ true)
       → ((t : ℕ) → is_live (task u t).state ≡ is_live (task s t).state) → ((t : ℕ) → (task u t).coroutine.0 ≡ (task s t).coroutine.0)
       → is_unstarted (task u 0).state ≡ false → ((t : ℕ) → suc t < (header u).next → is_live (task u (suc t)).state ≡ true → is_unstarted (task u (suc t)).state ≡ false → used_coroutine (object u (task u (suc t)).coroutine.0) ≡ true)
       → Tasks F L E S Y s → Tasks F L E R Z u
-  tasks-like s u S R Y Z z n es ey any us lv co fi st k =
+  tasks_like s u S R Y Z z n es ey any us lv co fi st k =
       record {
         sized = z;
         main = subst (λ (m : ℕ). 1 ≤ m) (sym n) k.main;
@@ -149,7 +149,7 @@ module _ (F : ℕ → Option ℕ) (L E : ℕ → Type 0) where
       → ((c : ℕ) → any_coroutine (object s c) ≡ true → any_coroutine (object u c) ≡ true) → ((c : ℕ) → used_coroutine (object s c) ≡ true → used_coroutine (object u c) ≡ true)
       → ((t : ℕ) → task u t ≡ task s t) → Tasks F L E S Y s → Tasks F L E R Z u
   tasks-same s u S R Y Z z n es ey any us ts k =
-      tasks-like s u S R Y Z z n es ey any us (λ t. ap (λ (r : Task). is_live r.state) (ts t)) (λ t. ap (λ (r : Task). r.coroutine.0) (ts t))
+      tasks_like s u S R Y Z z n es ey any us (λ t. ap (λ (r : Task). is_live r.state) (ts t)) (λ t. ap (λ (r : Task). r.coroutine.0) (ts t))
       (ap (λ (r : Task). is_unstarted r.state) (ts 0) ∙ k.first) (λ t l e f. subst (λ (r : Task). used_coroutine (object u r.coroutine.0) ≡ true) (sym (ts (suc t)))
       (us _ (k.started t (subst (λ (m : ℕ). suc t < m) n l) (sym (ap (λ (r : Task). is_live r.state) (ts (suc t))) ∙ e) (sym (ap (λ (r : Task). is_unstarted r.state) (ts (suc t))) ∙ f)))) k
 
@@ -175,16 +175,16 @@ module _ (F : ℕ → Option ℕ) (L E : ℕ → Type 0) where
   turns-tasks s o x S Y l t k = row-tasks s o x S Y l (any_turns (object s o) x t (object-fits s o)) (used-turns (object s o) x t (object-fits s o)) k
 
   -- a live task goes into another state that lives: it has started, or its coroutine is not new
-  pub state-tasks : (s u : Store) (t : ℕ) (x : TaskState) (S R : ℕ → Option ℕ) (Y Z : ℕ → Bool) → t < task_limit → is_live x ≡ true → is_live (task s t).state ≡ true
+  pub state_tasks : (s u : Store) (t : ℕ) (x : TaskState) (S R : ℕ → Option ℕ) (Y Z : ℕ → Bool) → t < task_limit → is_live x ≡ true → is_live (task s t).state ≡ true
       → is_unstarted x ≡ false → (is_unstarted (task s t).state ≡ false) ⊎ (used_coroutine (object s (task s t).coroutine.0) ≡ true)
       → Sized u → (header u).next ≡ (header s).next → ((v : ℕ) → R v ≡ S v) → ((v : ℕ) → Z v ≡ Y v) → ((o : ℕ) → object u o ≡ object s o) → ((v : ℕ) → task u v ≡ task (set_state s t x) v)
       → Tasks F L E S Y s → Tasks F L E R Z u
   unfolding set_state restate
-  state-tasks s u t x S R Y Z l lx lt ux st z n es ey os ts k =
-      tasks-like s u S R Y Z z n es ey (λ c e. ap any_coroutine (os c) ∙ e) (λ c e. ap used_coroutine (os c) ∙ e)
+  state_tasks s u t x S R Y Z l lx lt ux st z n es ey os ts k =
+      tasks_like s u S R Y Z z n es ey (λ c e. ap any_coroutine (os c) ∙ e) (λ c e. ap used_coroutine (os c) ∙ e)
       (λ v. ap (λ (y : Task). is_live y.state) (ts v) ∙ live-by v (ℕ_discrete v t)) (λ v. ap (λ (y : Task). y.coroutine.0) (ts v) ∙ co-by v (ℕ_discrete v t))
       (ap (λ (y : Task). is_unstarted y.state) (ts 0) ∙ first_by (ℕ_discrete 0 t)) (λ v b e f. subst (λ (y : Task). used_coroutine (object u y.coroutine.0) ≡ true) (sym (ts (suc v)))
-      (start-by v (subst (λ (m : ℕ). suc v < m) n b) (sym (ap (λ (y : Task). is_live y.state) (ts (suc v))) ∙ e) (sym (ap (λ (y : Task). is_unstarted y.state) (ts (suc v))) ∙ f) (ℕ_discrete (suc v) t))) k
+      (start_by v (subst (λ (m : ℕ). suc v < m) n b) (sym (ap (λ (y : Task). is_live y.state) (ts (suc v))) ∙ e) (sym (ap (λ (y : Task). is_unstarted y.state) (ts (suc v))) ∙ f) (ℕ_discrete (suc v) t))) k
     where
       r : Task
       r = record { state = x; awaiter = (task s t).awaiter; coroutine = (task s t).coroutine }
@@ -207,19 +207,19 @@ module _ (F : ℕ → Option ℕ) (L E : ℕ → Type 0) where
       used-now : (v : ℕ) → used_coroutine (object s (task s v).coroutine.0) ≡ true → Dec (v ≡ t) → used_coroutine (object u (task w v).coroutine.0) ≡ true
       used-now v e d = subst (λ (c : ℕ). used_coroutine (object u c) ≡ true) (sym (co-by v d)) (ap used_coroutine (os (task s v).coroutine.0) ∙ e)
 
-      start-by : (v : ℕ) → suc v < (header s).next → is_live (task w (suc v)).state ≡ true → is_unstarted (task w (suc v)).state ≡ false → Dec (suc v ≡ t) → used_coroutine (object u (task w (suc v)).coroutine.0) ≡ true
-      start-by v b e f (yes d) = used-now (suc v) (on st) (yes d)
+      start_by : (v : ℕ) → suc v < (header s).next → is_live (task w (suc v)).state ≡ true → is_unstarted (task w (suc v)).state ≡ false → Dec (suc v ≡ t) → used_coroutine (object u (task w (suc v)).coroutine.0) ≡ true
+      start_by v b e f (yes d) = used-now (suc v) (on st) (yes d)
         where
           on : (is_unstarted (task s t).state ≡ false) ⊎ (used_coroutine (object s (task s t).coroutine.0) ≡ true) → used_coroutine (object s (task s (suc v)).coroutine.0) ≡ true
           on (inl g) = k.started v b (subst (λ (m : ℕ). is_live (task s m).state ≡ true) (sym d) lt) (subst (λ (m : ℕ). is_unstarted (task s m).state ≡ false) (sym d) g)
           on (inr g) = subst (λ (m : ℕ). used_coroutine (object s (task s m).coroutine.0) ≡ true) (sym d) g
-      start-by v b e f (no ne) =
+      start_by v b e f (no ne) =
           used-now (suc v) (k.started v b (sym (live-by (suc v) (no ne)) ∙ e) (sym (ap (λ (y : Task). is_unstarted y.state) (task_put-other s t (suc v) r ne)) ∙ f)) (no ne)
 
   -- a task goes, by its exit: it lived, and its coroutine is not new
-  pub exit-tasks : (s : Store) (t c : ℕ) (S : ℕ → Option ℕ) (Y : ℕ → Bool) (K : ℕ → Type 0) → S t ≡ some c → used_coroutine (object s c) ≡ true → is_live (task s t).state ≡ true
+  pub exit_tasks : (s : Store) (t c : ℕ) (S : ℕ → Option ℕ) (Y : ℕ → Bool) (K : ℕ → Type 0) → S t ≡ some c → used_coroutine (object s c) ≡ true → is_live (task s t).state ≡ true
       → ((v : ℕ) → K v → (v ≡ t) ⊎ E v) → Tasks F L E S Y s → Tasks F L K S (λ v. eqb t v || Y v) (add_log (remove_task s t) (exited t))
-  exit-tasks s t c S Y K e us lv more k =
+  exit_tasks s t c S Y K e us lv more k =
       record {
         sized = unfold remove_task remove_from_ready_queue in (sized-add_log _ (exited t) (sized-put_queue _ _ (sized-put_task s t absent k.sized)));
         main = subst (λ (m : ℕ). 1 ≤ m) (sym head) k.main;

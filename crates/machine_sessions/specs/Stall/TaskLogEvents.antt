@@ -29,7 +29,7 @@ use Rattle.asyncio.specs.States.{is_live, is_ready, is_blocked, is_unstarted}
 use Rattle.machine.specs.Store.{Store, LogEntry, task, object, header, put_task, put_header, put_object, put_place, put_places, put_queue, add_log, set_state, restate, set_moment, set_next, set_calls, add_object, blocked, reached, exited}
 use Rattle.machine.specs.Scheduler.{PendingExternal, as_pending, make_ready, push_ready, remove_from_ready_queue, remove_task, spawn_as}
 use Rattle.machine.specs.Delivery.{deliver_awaiter_failure}
-use Rattle.machine.specs.Events.{activate, new_function, completed, handle_task_completion, handle-task-failure, exec_get_awaitable, put_items, make_coroutine, make_pending, make_settled, make_gather, wake_in_order}
+use Rattle.machine.specs.Events.{activate, new_function, completed, handle_task_completion, handle_task_failure, exec_get_awaitable, put_items, make_coroutine, make_pending, make_settled, make_gather, wake_in_order}
 use Rattle.machine.specs.Machine.{Event, Step, switched, answer_await, end_main, task_completes, task_fails, runner, resume_with_resolved_futures, refusals, refusal, full, no_number, accept}
 use Rattle.machine.specs.History.{says, nothing_said, spawned_by}
 use Rattle.machine_laws.specs.Views.{Sized}
@@ -41,9 +41,9 @@ use Rattle.machine_laws.specs.WokenLaws.{success_woken}
 use Rattle.machine_laws.specs.MakingLaws.{items-sized}
 use Rattle.machine_laws.specs.SoundLaws.{pass, running-rest, refusal-rest, has_number, not_full}
 use Rattle.machine_laws.specs.TestLaws.{or_left, or_right}
-use Rattle.machine_laws.specs.Walk.{NewCommits, Delivers, Switches, value-kept, error-kept, batch-kept, next-task-kept, woken-task-kept, failed-task-kept, awaits-kept}
+use Rattle.machine_laws.specs.Walk.{NewCommits, Delivers, Switches, value-kept, error-kept, batch-kept, next-task-kept, woken-task-kept, failed-task-kept, awaits_kept}
 use Rattle.machine_theorems.specs.Soundness.Stores.{SoundStore}
-use Rattle.machine_theorems.specs.Soundness.Exits.{runner-low, runner-runs}
+use Rattle.machine_theorems.specs.Soundness.Exits.{runner_low, runner-runs}
 use Rattle.machine_theorems.specs.Soundness.Preserved.{running, await-made}
 use Rattle.machine_theorems.specs.Soundness.RowFacts.{items-header, ready-live}
 use Rattle.machine_sessions.specs.Waits.Calls.{read_back}
@@ -52,7 +52,7 @@ use Rattle.machine_sessions.specs.Stall.StandingEvents.{MainEnds}
 use Rattle.machine_sessions.specs.Queue.TrackedEvents.{items-tasks, items-log}
 use Rattle.machine_sessions.specs.Stall.SourcedKept.{items-objects}
 use Rattle.machine_sessions.specs.Places.TellingAwait.{Row, row_commits}
-use Rattle.machine_sessions.specs.Stall.TaskLog.{exits_by, any_coroutine, used_coroutine, used-row, Tasks, tasks-same, row-tasks, turns-tasks, state-tasks, exit-tasks, spawn-tasks}
+use Rattle.machine_sessions.specs.Stall.TaskLog.{exits_by, any_coroutine, used_coroutine, used-row, Tasks, tasks-same, row-tasks, turns-tasks, state_tasks, exit_tasks, spawn-tasks}
 
 blocked-is : (x : TaskState) → is_blocked x ≡ true → (is_live x ≡ true) × (is_unstarted x ≡ false)
 blocked-is TaskState.Absent e = absurd (true≢false (sym e))
@@ -180,8 +180,8 @@ module _ (F : ℕ → Option ℕ) (X : ℕ → Bool) where
     unfolding put_object
     row_kept s o x k = k
 
-    pub tasks-commits : NewCommits K
-    tasks-commits =
+    pub tasks_commits : NewCommits K
+    tasks_commits =
         record {
           row = λ s o x l t k. row_kept s o x (turns-tasks F L E s o x (S s) (Y s) l t k);
           value-put = λ s p v k. like s _ (sized-put_place s p _ k.sized) (unfold header put_place in refl) (λ t. unfold put_place in refl) (λ t. unfold put_place in refl) (λ o. unfold object put_place in refl) (λ t. unfold task put_place in refl) k;
@@ -191,15 +191,15 @@ module _ (F : ℕ → Option ℕ) (X : ℕ → Bool) where
         spawn-kept : (s : Store) (c g : ℕ) → Tasks F L E (λ t. elim (eqb (header s).next t) [ true ↦ some c | false ↦ S s t ]) (Y s) (spawn_as s (header s).next c g) → K (spawn_as s (header s).next c g)
         spawn-kept s c g k = let u : Store = spawn_as s (header s).next c g in tasks-same F L E u u _ (S u) _ (Y u) k.sized refl (λ t. spawn-says s c g t) (λ t. spawn-exits s c g t) (λ c e. e) (λ c e. e) (λ t. refl) k
 
-    pub tasks-delivers : Delivers K
-    tasks-delivers =
+    pub tasks_delivers : Delivers K
+    tasks_delivers =
         record {
           sized = λ s k. k.sized;
           row = λ s o x l t k. row_kept s o x (turns-tasks F L E s o x (S s) (Y s) l t k);
           values-put = λ s ps e k. like s _ (sized-put_places s ps e k.sized) (unfold header put_places in refl) (λ t. unfold put_places in refl) (λ t. unfold put_places in refl) (λ o. unfold object put_places in refl) (λ t. unfold task put_places in refl) k;
           wakes = λ s t x l b r n k.
               let y = blocked-is (task s t).state b in
-              state-tasks F L E s (add_log (make_ready s t x) (reached t)) t x (S s) _ (Y s) _ l (ready-live x r) y.0 n (inl y.1)
+              state_tasks F L E s (add_log (make_ready s t x) (reached t)) t x (S s) _ (Y s) _ l (ready-live x r) y.0 n (inl y.1)
               (unfold make_ready push_ready in (sized-add_log _ (reached t) (sized-put_queue _ _ (sized-set_state s t x k.sized)))) (unfold header add_log make_ready push_ready put_queue set_state put_task in refl)
               (λ v. unfold add_log make_ready push_ready put_queue set_state put_task spawned_by in refl) (λ v. unfold add_log make_ready push_ready put_queue set_state put_task exits_by in refl)
               (λ o. unfold object add_log make_ready push_ready put_queue set_state put_task in refl) (λ v. unfold task add_log make_ready push_ready put_queue in refl) k;
@@ -210,7 +210,7 @@ module _ (F : ℕ → Option ℕ) (X : ℕ → Bool) where
         → Tasks F L M (S (add_log (remove_task s t) (exited t))) (Y (add_log (remove_task s t) (exited t))) (add_log (remove_task s t) (exited t))
     exits-kept s t c M e us lv more k =
         let u : Store = add_log (remove_task s t) (exited t) in
-        let y = exit-tasks F L E s t c (S s) (Y s) M e us lv more k in
+        let y = exit_tasks F L E s t c (S s) (Y s) M e us lv more k in
         tasks-same F L M u u _ (S u) _ (Y u) y.sized refl (λ v. exit-says s t v) (λ v. exit-exits s t v) (λ c e. e) (λ c e. e) (λ v. refl) y
 
     -- the same after its error was delivered
@@ -235,7 +235,7 @@ module _ (F : ℕ → Option ℕ) (X : ℕ → Bool) where
     pub tasks-switches : Switches K
     tasks-switches =
         record {
-          delivers = tasks-delivers;
+          delivers = tasks_delivers;
           queued = λ s q k. like s _ (sized-put_queue s q k.sized) (unfold header put_queue in refl) (λ t. unfold put_queue in refl) (λ t. unfold put_queue in refl) (λ o. unfold object put_queue in refl) (λ t. unfold task put_queue in refl) k;
           moved = λ s m f k. like s _ (sized-set_moment s m k.sized) (moment_head s m k.sized f).0 (λ t. unfold set_moment put_header in refl) (λ t. unfold set_moment put_header in refl) (λ o. moved_row s m o) (λ t. unfold task set_moment put_header in refl) k;
           runs_on = λ s t l r n k. runs s t l (ready-live (task s t).state r) (inl n) k;
@@ -252,7 +252,7 @@ module _ (F : ℕ → Option ℕ) (X : ℕ → Bool) where
 
         runs : (s : Store) (t : ℕ) → t < task_limit → is_live (task s t).state ≡ true → (is_unstarted (task s t).state ≡ false) ⊎ (used_coroutine (object s (task s t).coroutine.0) ≡ true) → K s → K (set_state s t TaskState.Running)
         runs s t l lv st k =
-            state-tasks F L E s (set_state s t TaskState.Running) t TaskState.Running (S s) _ (Y s) _ l refl lv refl st (sized-set_state s t TaskState.Running k.sized) (unfold header set_state put_task in refl)
+            state_tasks F L E s (set_state s t TaskState.Running) t TaskState.Running (S s) _ (Y s) _ l refl lv refl st (sized-set_state s t TaskState.Running k.sized) (unfold header set_state put_task in refl)
             (λ v. unfold set_state put_task in refl) (λ v. unfold set_state put_task in refl) (λ o. unfold object set_state put_task in refl) (λ v. refl) k
 
         used-now : (s : Store) (t f : ℕ) → Sized s → used_coroutine (object (put_object s (task s t).coroutine.0 (Object.Coroutine f CoroutineState.Running)) (task (put_object s (task s t).coroutine.0 (Object.Coroutine f CoroutineState.Running)) t).coroutine.0) ≡ true
@@ -267,7 +267,7 @@ module _ (F : ℕ → Option ℕ) (X : ℕ → Bool) where
     -- a task that runs blocks
     blocks-kept : (s : Store) (t o : ℕ) → t < task_limit → is_live (task s t).state ≡ true → is_unstarted (task s t).state ≡ false → K s → K (add_log (set_state s t (TaskState.Blocked (heap_id o))) (blocked t))
     blocks-kept s t o l lv un k =
-        state-tasks F L E s (add_log (set_state s t (TaskState.Blocked (heap_id o))) (blocked t)) t (TaskState.Blocked (heap_id o)) (S s) _ (Y s) _ l refl lv refl (inl un)
+        state_tasks F L E s (add_log (set_state s t (TaskState.Blocked (heap_id o))) (blocked t)) t (TaskState.Blocked (heap_id o)) (S s) _ (Y s) _ l refl lv refl (inl un)
         (sized-add_log _ (blocked t) (sized-set_state s t (TaskState.Blocked (heap_id o)) k.sized)) (unfold header add_log set_state put_task in refl)
         (λ v. unfold add_log set_state put_task spawned_by in refl) (λ v. unfold add_log set_state put_task exits_by in refl) (λ p. unfold object add_log set_state put_task in refl) (λ v. unfold task add_log in refl) k
 
@@ -358,9 +358,9 @@ module _ (F : ℕ → Option ℕ) (X : ℕ → Bool) where
 
     await-kept : (t o : ℕ) → (header s).moment ≡ Moment.Running (task_id t) → o < object_limit → K L Nothing (exec_get_awaitable s t o).store
     await-kept t o m low =
-        awaits-kept J (K L Nothing) first (tasks-switches L Nothing) (λ u j. j.0) t o low
+        awaits_kept J (K L Nothing) first (tasks-switches L Nothing) (λ u j. j.0) t o low
         (λ u j. blocks-kept L Nothing u t o (omega (arith, j.1.low, (header-fits u).next_fits)) (ap (λ (y : Task). is_live y.state) j.1.row ∙ ap is_live runs_now) (ap (λ (y : Task). is_unstarted y.state) j.1.row ∙ ap is_unstarted runs_now) j.0)
-        s (k, record { sized = k.sized; low = runner-low s t h m; row = refl; moment = m })
+        s (k, record { sized = k.sized; low = runner_low s t h m; row = refl; moment = m })
       where
         runs_now : (task s t).state ≡ TaskState.Running
         runs_now = runner-runs s t h m
@@ -371,9 +371,9 @@ module _ (F : ℕ → Option ℕ) (X : ℕ → Bool) where
         first : NewCommits J
         first =
             record {
-              row = λ u p x l y j. ((tasks-commits L Nothing).row u p x l y j.0, (row_commits t (task s t) (Moment.Running (task_id t))).row u p x l y j.1);
-              value-put = λ u p v j. ((tasks-commits L Nothing).value-put u p v j.0, (row_commits t (task s t) (Moment.Running (task_id t))).value-put u p v j.1);
-              spawns = λ u c g f room l new none_of j. ((tasks-commits L Nothing).spawns u c g f room l new none_of j.0, (row_commits t (task s t) (Moment.Running (task_id t))).spawns u c g room j.1);
+              row = λ u p x l y j. ((tasks_commits L Nothing).row u p x l y j.0, (row_commits t (task s t) (Moment.Running (task_id t))).row u p x l y j.1);
+              value-put = λ u p v j. ((tasks_commits L Nothing).value-put u p v j.0, (row_commits t (task s t) (Moment.Running (task_id t))).value-put u p v j.1);
+              spawns = λ u c g f room l new none_of j. ((tasks_commits L Nothing).spawns u c g f room l new none_of j.0, (row_commits t (task s t) (Moment.Running (task_id t))).spawns u c g room j.1);
             }
 
     -- the running task was spawned, and its coroutine is not new
@@ -385,15 +385,15 @@ module _ (F : ℕ → Option ℕ) (X : ℕ → Bool) where
       runs = runner-runs s (suc t) h m
 
       of-it : S s (suc t) ≡ some c
-      of-it = k.rows t (runner-low s (suc t) h m) (ap is_live runs)
+      of-it = k.rows t (runner_low s (suc t) h m) (ap is_live runs)
 
       is_used : used_coroutine (object s c) ≡ true
-      is_used = k.started t (runner-low s (suc t) h m) (ap is_live runs) (ap is_unstarted runs)
+      is_used = k.started t (runner_low s (suc t) h m) (ap is_live runs) (ap is_unstarted runs)
 
-      failed-kept : (x : Error) → K L (λ v. v ≡ suc t) (handle-task-failure activate s (suc t) x).store
+      failed-kept : (x : Error) → K L (λ v. v ≡ suc t) (handle_task_failure activate s (suc t) x).store
       failed-kept x =
           failed-task-kept (K L (λ v. v ≡ suc t)) (tasks-switches L (λ v. v ≡ suc t)) s (suc t) x k.sized
-          (fails-kept L Nothing s (suc t) c x (λ v. v ≡ suc t) of-it is_used (ap is_live runs) (λ v d. inl d) k (error-kept (K L Nothing) (tasks-delivers L Nothing) s (task s (suc t)).awaiter x (task-fits s (suc t)).awaiter_fits k))
+          (fails-kept L Nothing s (suc t) c x (λ v. v ≡ suc t) of-it is_used (ap is_live runs) (λ v d. inl d) k (error-kept (K L Nothing) (tasks_delivers L Nothing) s (task s (suc t)).awaiter x (task-fits s (suc t)).awaiter_fits k))
 
       done-any : any_coroutine (object s c) ≡ true → any_coroutine (to_object (object_words (completed (object s c)))) ≡ true
       done-any = by (object s c)
@@ -422,7 +422,7 @@ module _ (F : ℕ → Option ℕ) (X : ℕ → Bool) where
           let k1 : K L Nothing done = row_kept L Nothing s c _ (row-tasks F L Nothing s c (completed (object s c)) (S s) (Y s) (task-fits s (suc t)).coroutine-fits done-any done-used k) in
           let k2 : K L M left = exits-kept L Nothing done (suc t) c M says-it used-it live-it (λ u d. inl d) k1 in
           woken-task-kept (K L M) (tasks-switches L M) _ (success_woken left (task s (suc t)).awaiter v k2.sized (task-fits s (suc t)).awaiter_fits)
-          (value-kept (K L M) (tasks-delivers L M) left (task s (suc t)).awaiter v (task-fits s (suc t)).awaiter_fits k2)
+          (value-kept (K L M) (tasks_delivers L M) left (task s (suc t)).awaiter v (task-fits s (suc t)).awaiter_fits k2)
         where
           says-it : S (put_object s c (completed (object s c))) (suc t) ≡ some c
           says-it = unfold put_object in of-it
@@ -467,7 +467,7 @@ module _ (F : ℕ → Option ℕ) (X : ℕ → Bool) where
     accept-tasks (Event.complete v) n r on = complete-step (runner (header s).moment) v (running s h _ (refusal-rest s (Event.complete v) r)) on
     accept-tasks (Event.fail m) n r on = fail-step (runner (header s).moment) (Error.Script m) (running s h _ (refusal-rest s (Event.fail m) r)) on
     accept-tasks (Event.results rs) n r on =
-        unfold wake_in_order in ((tasks-switches L Nothing).queued _ _ (batch-kept (K L Nothing) (tasks-delivers L Nothing) (settles-kept L Nothing) rs s k))
+        unfold wake_in_order in ((tasks-switches L Nothing).queued _ _ (batch-kept (K L Nothing) (tasks_delivers L Nothing) (settles-kept L Nothing) rs s k))
     accept-tasks Event.resume n r on = resume-step
     accept-tasks (Event.cancel t) n r on = absurd (true≢false n)
     accept-tasks (Event.show o) n r on = k

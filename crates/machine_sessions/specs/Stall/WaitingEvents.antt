@@ -35,7 +35,7 @@ use Rattle.machine_laws.specs.StoreLaws.{header-fits, header_put-header, object_
 use Rattle.machine_laws.specs.DeliveryLaws.{absurd_some}
 use Rattle.machine_laws.specs.SoundLaws.{refusal-rest}
 use Rattle.machine_theorems.specs.Soundness.Stores.{SoundStore}
-use Rattle.machine_theorems.specs.Soundness.Exits.{runner-low, runner-runs}
+use Rattle.machine_theorems.specs.Soundness.Exits.{runner_low, runner-runs}
 use Rattle.machine_sessions.specs.Waits.{said-accepted}
 use Rattle.machine_sessions.specs.Queue.Following.{accept_accepts}
 use Rattle.machine_sessions.specs.Places.Told.{unmade, frozen}
@@ -44,7 +44,7 @@ use Rattle.machine_sessions.specs.Places.PlacesHold.{row_outcome}
 use Rattle.machine_sessions.specs.Stall.StandingEvents.{MainEnds}
 use Rattle.machine_sessions.specs.Stall.StandingAwait.{accept-right}
 use Rattle.machine_sessions.specs.Stall.NoStall.{sourced_more}
-use Rattle.machine_sessions.specs.Stall.SourcedKept.{accept-sourced}
+use Rattle.machine_sessions.specs.Stall.SourcedKept.{accept_sourced}
 use Rattle.machine_sessions.specs.Stall.TaskLog.{exits_by, exits, any_coroutine, Tasks, tasks-same}
 use Rattle.machine_sessions.specs.Stall.TaskLogEvents.{Exits, accept-tasks}
 use Rattle.machine_sessions.specs.Stall.Outcomes.{outcome_of, unstarted-exits, exits-on, Came, was, completed, failed, unstarted, came}
@@ -271,7 +271,7 @@ module _ (h : List Entry) (s : Store) (w : SoundStore s) (ag : Agrees h s) (clea
       is_running : (t : ℕ) → (header s).moment ≡ Moment.Running (task_id t) → running_coroutine h ≡ coroutine_of h t
       is_running t m = unfold running_coroutine in (ap (λ (y : Option ℕ). elim y [ none ↦ none | some u ↦ coroutine_of h u ]) (ag.runner (task_id t) m))
   ran (suc t) c m e =
-      let l : suc t < (header s).next = runner-low s (suc t) w m in
+      let l : suc t < (header s).next = runner_low s (suc t) w m in
       let r : (task s (suc t)).state ≡ TaskState.Running = runner-runs s (suc t) w m in
       k.tasks.rows t l (ap is_live r) ∙ (sym ((ag.told.tasks t l (ap is_live r)).started (ap is_unstarted r)) ∙ (sym (is_running (suc t) m) ∙ e))
     where
@@ -358,7 +358,7 @@ module _ (h : List Entry) (s : Store) (w : SoundStore s) (ag : Agrees h s) (clea
           stands = (accept-right s w k.stands e i n r).stood on;
           all-started = accept-started s w k.stands k.all-started e i n r;
           tasks = later-tasks (Gone h s) (Exits s e) j;
-          sourced = sourced_more u (later-lost (Exits s e) j) (accept-sourced (Lost h s) s w k.sourced e i n r on);
+          sourced = sourced_more u (later-lost (Exits s e) j) (accept_sourced (Lost h s) s w k.sourced e i n r on);
           came = later-came (Gone h s) (Exits s e) j (λ t q. q);
         }
 

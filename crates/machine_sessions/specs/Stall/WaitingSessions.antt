@@ -31,17 +31,17 @@ use Rattle.machine_laws.specs.MachineLaws.{accepted-step, refused-step}
 use Rattle.machine_laws.specs.SizedLaws.{step-says}
 use Rattle.machine_laws.specs.SoundLaws.{refusal-forget}
 use Rattle.machine_theorems.specs.Soundness.Stores.{SoundStore}
-use Rattle.machine_theorems.specs.Soundness.Sessions.{forget-sound-store, step-sound-store, fresh-sound_store}
+use Rattle.machine_theorems.specs.Soundness.Sessions.{forget-sound_store, step-sound_store, fresh_sound_store}
 use Rattle.machine_sessions.specs.Waits.{said-accepted, said-refused}
 use Rattle.machine_sessions.specs.Queue.Following.{accept_accepts, Sends, stepped, short, sends, Following, send_following, session_follows}
 use Rattle.machine_sessions.specs.Stall.Standing.{stands_like}
 use Rattle.machine_sessions.specs.Stall.StandingEvents.{MainEnds}
 use Rattle.machine_sessions.specs.Stall.StandingAwait.{accept-right, ends}
-use Rattle.machine_sessions.specs.Stall.NoStall.{sourced-like, sourced_more}
+use Rattle.machine_sessions.specs.Stall.NoStall.{sourced_like, sourced_more}
 use Rattle.machine_sessions.specs.Places.Agrees.{Agrees}
 use Rattle.machine_sessions.specs.Places.AgreesEvents.{forget_agrees}
 use Rattle.machine_sessions.specs.Places.AgreesSessions.{row-zeros, send_agrees, session_agrees}
-use Rattle.machine_sessions.specs.Places.PlacesHold.{row_outcome, outcome-row, item-low, items-no-error}
+use Rattle.machine_sessions.specs.Places.PlacesHold.{row_outcome, outcome-row, item_low, items_no_error}
 use Rattle.machine_sessions.specs.Stall.TaskLog.{exits_by, exits, Tasks, tasks-same}
 use Rattle.machine_sessions.specs.Stall.Outcomes.{outcome_of, Came, was, completed, failed, unstarted, came}
 use Rattle.machine_sessions.specs.Stall.GoesOn.{Reads, ended_reads, accept-goes, Finished, main_finishes, or_none, cancelled-then, goes_then}
@@ -65,7 +65,7 @@ forget-alive h s k =
       all-started = λ m t l. unfold task forget in (unfold task in (k.all-started (unfold header forget in m) t (unfold header forget in l)));
       tasks = tasks-same _ _ _ s (forget s) _ _ _ _ (sized-forget s k.tasks.sized) (unfold header forget in refl) (λ t. refl) (λ t. refl) (λ c e. unfold object forget in (unfold object in e)) (λ c e. unfold object forget in (unfold object in e))
           (λ t. unfold task forget in refl) k.tasks;
-      sourced = sourced_more (forget s) lost-now (sourced-like _ s (forget s) (λ o. unfold object forget in refl) (λ t. unfold task forget in refl) (λ p. unfold place forget in refl) (unfold header forget in refl) k.sourced);
+      sourced = sourced_more (forget s) lost-now (sourced_like _ s (forget s) (λ o. unfold object forget in refl) (λ t. unfold task forget in refl) (λ p. unfold place forget in refl) (unfold header forget in refl) k.sourced);
       came = k.came;
     }
   where
@@ -287,7 +287,7 @@ step-waiting h s e w i ag k = by (ℕ_discrete (refusal s e) 0)
     by (yes r) =
         let q : step s e ≡ accept (forget s) e = accepted-step s e r in
         subst (StepWaiting h e) (sym q)
-        (accepted-waiting h (forget s) (forget-sound-store s w) (forget_agrees h s ag) (unfold forget in refl) kf e i (refusal-forget s e ∙ r) (subst (λ (x : Step). SoundStore x.store) q (step-sound-store s w e i))
+        (accepted-waiting h (forget s) (forget-sound_store s w) (forget_agrees h s ag) (unfold forget in refl) kf e i (refusal-forget s e ∙ r) (subst (λ (x : Step). SoundStore x.store) q (step-sound_store s w e i))
         (subst (λ (x : Step). AnswerSays x.store x.answer) q (step-says s e w.memory.sized)))
     by (no ne) = subst (StepWaiting h e) (sym (refused-step s e (refusal s e) refl ne)) (refused-waiting e (refusal s e) (forget s) h kf.alive kf.items kf.goes)
 
@@ -375,7 +375,7 @@ fresh-waiting =
     fresh-tasks : Tasks (spawned_for []) Nothing Nothing (spawned_for []) (exits []) fresh
     fresh-tasks =
         record {
-          sized = fresh-sound_store.memory.sized;
+          sized = fresh_sound_store.memory.sized;
           main = omega (arith, fresh-head.1);
           first = fresh_main.2;
           behind = λ t l. fresh-other t (λ d. not-suc-le-zero {n = 0} (omega (arith, l, d, fresh-head.1)));
@@ -407,12 +407,12 @@ pub waiting_outcomes : (es : List Sent) → AllSentInRange es → let x = sessio
 waiting_outcomes es i g v l e a b c =
     let w = (session_follows es i).whole in
     let k = session_agrees es i in
-    outcome-row (session es).history (session es).store w k _ (item-low (session es).history (session es).store w k g v.first v.count _ l (awaited-object (object (session es).store g) v e) a b) ∙ waiting-items es i g v l e a b c
+    outcome-row (session es).history (session es).store w k _ (item_low (session es).history (session es).store w k g v.first v.count _ l (awaited-object (object (session es).store g) v e) a b) ∙ waiting-items es i g v l e a b c
 
 -- No item of an awaited gather has raised.
-pub awaited-items_no_error : (es : List Sent) → AllSentInRange es → let x = session es in (g : ℕ) (v : AwaitedGather) → g < (header x.store).made → as_awaited (object x.store g) ≡ some v → (a : ℕ) → a < v.count
+pub awaited_items_no_error : (es : List Sent) → AllSentInRange es → let x = session es in (g : ℕ) (v : AwaitedGather) → g < (header x.store).made → as_awaited (object x.store g) ≡ some v → (a : ℕ) → a < v.count
     → error_of (outcome x.history (look x.store) (place x.store (v.first + a)).item.0) ≡ none
-awaited-items_no_error es i g v l e a b = items-no-error (session es).history (session es).store (session_follows es i).whole (session_agrees es i) g v l e (waiting-items es i g v l e) a b
+awaited_items_no_error es i g v l e a b = items_no_error (session es).history (session es).store (session_follows es i).whole (session_agrees es i) g v l e (waiting-items es i g v l e) a b
 
 -- Where no cancel was accepted, no wait is for no call, and no answer is stalled.
 pub session-goes : (es : List Sent) → AllSentInRange es → cancelled (session es).history ≡ false → goes_on (session es).history ≡ true

@@ -40,7 +40,7 @@ use Rattle.machine_laws.specs.Walk.{Delivers, batch-kept}
 use Rattle.machine_theorems.specs.Soundness.Stores.{SoundStore, during_of}
 use Rattle.machine_theorems.specs.Soundness.Exits.{only_changes_of}
 use Rattle.machine_theorems.specs.Soundness.Results.{results-keep}
-use Rattle.machine_theorems.specs.Soundness.Preserved.{running, waiting, await-made, complete-known, results-apply}
+use Rattle.machine_theorems.specs.Soundness.Preserved.{running, waiting, await-made, complete-known, results_apply}
 use Rattle.machine_theorems.specs.Soundness.RowFacts.{items-header}
 use Rattle.machine_sessions.specs.Places.Told.{unstarted_back}
 use Rattle.machine_sessions.specs.Stall.Standing.{Stands, Right, not-waiting, resume-right}
@@ -168,7 +168,7 @@ module _ (s : Store) (h : SoundStore s) (st : Stands Nothing s) (k : AllStarted 
   results-started : (rs : List Result) → refusal s (Event.results rs) ≡ 0 → AllStarted (wake_in_order s (apply_future_results s rs))
   unfolding wake_in_order put_queue header task
   results-started rs r m t l =
-      let a = results-apply s h rs (refusal-rest s (Event.results rs) r) in
+      let a = results_apply s h rs (refusal-rest s (Event.results rs) r) in
       let hd : header (apply_future_results s rs) ≡ header s = (results-keep rs s a (during_of s h)).head in
       (batch-kept (AsStarted s) (as_started_delivers s) (λ u o p y low pe j. record { sized = sized-put_object u o _ j.sized; as_before = λ v e. unfold task put_object in (unfold task in (j.as_before v e)) })
       rs s (record { sized = z; as_before = λ v e. e })).as_before t (k (ap (λ (y : Header). y.moment) (sym hd) ∙ m) t (subst (λ (y : Header). t < y.next) hd l))

@@ -36,7 +36,7 @@ use Rattle.rows.specs.Tables.{object_at, header_at}
 use Rattle.machine.specs.Store.{Store, view, task, object, header, put_task, put_header, put_object, put_place, put_queue, set_calls, set_state, add_object, add_log, blocked, exited}
 use Rattle.machine.specs.Scheduler.{PendingExternal, as_pending, first_from, is_call, pending_external, pending_external_in, pending_call_ids, remove_task, remove_from_ready_queue}
 use Rattle.machine.specs.Delivery.{value_or, resolve_pending, fail_pending, settle_pending, settle_found, resolve_future, fail_future, deliver_awaiter_success, deliver_awaiter_failure}
-use Rattle.machine.specs.Events.{Control, exec_get_awaitable, Result, Switched, activate, resume-next, completed, handle_task_completion, handle-task-failure, apply_result, apply_future_results, make_coroutine, make_pending, make_settled, put_items, make_gather, wake_in_order}
+use Rattle.machine.specs.Events.{Control, exec_get_awaitable, Result, Switched, activate, resume_next, completed, handle_task_completion, handle_task_failure, apply_result, apply_future_results, make_coroutine, make_pending, make_settled, put_items, make_gather, wake_in_order}
 use Rattle.machine.specs.Machine.{Event, Step, switched, answer_await, end_main, task_completes, task_fails, runner, repeat_wait, resume_with_resolved_futures, refusals, refusal, full, no_number, accept, in_both, in_running, in_waiting}
 use Rattle.machine.specs.Sound.{is_ended}
 use Rattle.machine.specs.History.{is_at, reply_in, Says, says, nothing_said, tells, done_only}
@@ -48,12 +48,12 @@ use Rattle.machine_laws.specs.MakingLaws.{items-sized}
 use Rattle.machine_laws.specs.SoundLaws.{pass, running-rest, refusal-rest, has_number, not_full}
 use Rattle.machine_laws.specs.TestLaws.{or_left, or_right}
 use Rattle.machine_theorems.specs.Soundness.Stores.{SoundStore, SoundDuring, during_of}
-use Rattle.machine_theorems.specs.Soundness.Preserved.{running, await-made, results-apply}
+use Rattle.machine_theorems.specs.Soundness.Preserved.{running, await-made, results_apply}
 use Rattle.machine_theorems.specs.Soundness.Results.{MayApply, AllApply, result_keeps}
 use Rattle.machine_laws.specs.DeliveryLaws.{pending-object, first_below}
 use Rattle.machine_theorems.specs.Soundness.RowFacts.{items-header}
-use Rattle.machine_laws.specs.Walk.{Commits, Closed, success-kept, failure-kept, await-kept, fail-kept, completion-kept, resume-kept, cancel-kept, cleanup-kept}
-use Rattle.machine_sessions.specs.Waits.Calls.{pending_call, called, pends, called_same, Pended, pended_now, pended_pends, read_back, row-pended, tasks-pended, pended-commits, pended-closed}
+use Rattle.machine_laws.specs.Walk.{Commits, Closed, success_kept, failure_kept, await-kept, fail-kept, completion_kept, resume-kept, cancel-kept, cleanup-kept}
+use Rattle.machine_sessions.specs.Waits.Calls.{pending_call, called, pends, called_same, Pended, pended_now, pended_pends, read_back, row_pended, tasks_pended, pended_commits, pended_closed}
 
 -- ---- lists of calls
 
@@ -256,7 +256,7 @@ module _ {r : ℕ → Bool} {D : ℕ → Type 0} {hd : Header} (s : Store) (h : 
       let x : Object = Object.ExternalFuture p.call (ExternalFutureState.Resolved (value_or p.stored v)) in
       let u : Store = put_object s o x in
       let zu : Sized u = sized-put_object s o x z in
-      pended_pends u _ d (success-kept _ (pended-closed _ (header u).made) u p.awaiter (value_or p.stored v) (awaiter-low o p e) (pended_now u zu))
+      pended_pends u _ d (success_kept _ (pended_closed _ (header u).made) u p.awaiter (value_or p.stored v) (awaiter-low o p e) (pended_now u zu))
       ∙ settled-pends s z o x c l (pending_has (object s o) p e ∙ ap (λ (n : ℕ). some n) q) (settled-none p.call (value_or p.stored v)) alone d)
 
   fail-pends : (c : ℕ) (x : Error) (d : ℕ) → pends (fail_future s c x) d ≡ pick (eqb c d) false (pends s d)
@@ -266,7 +266,7 @@ module _ {r : ℕ → Bool} {D : ℕ → Type 0} {hd : Header} (s : Store) (h : 
       let y : Object = Object.ExternalFuture p.call (ExternalFutureState.Failed x) in
       let u : Store = put_object s o y in
       let zu : Sized u = sized-put_object s o y z in
-      pended_pends u _ d (failure-kept _ (pended-closed _ (header u).made) u p.awaiter x (awaiter-low o p e) (pended_now u zu))
+      pended_pends u _ d (failure_kept _ (pended_closed _ (header u).made) u p.awaiter x (awaiter-low o p e) (pended_now u zu))
       ∙ settled-pends s z o y c l (pending_has (object s o) p e ∙ ap (λ (n : ℕ). some n) q) (failed-none p.call x) alone d)
 
   -- one result: kind 2 says nothing, any other answers its call
@@ -369,7 +369,7 @@ module _ (s : Store) (h : SoundStore s) where
   walked u c k = pended_pends s u c k
 
   kept : Closed K
-  kept = pended-closed (λ o. pending_call (object s o)) (header s).made
+  kept = pended_closed (λ o. pending_call (object s o)) (header s).made
 
   start : K s
   start = pended_now s sz
@@ -416,8 +416,8 @@ module _ (s : Store) (h : SoundStore s) where
 
       spawned-ends : K (handle_task_completion s t v).store
       spawned-ends =
-          unfold handle_task_completion in (completion-kept K kept _ (task s t).awaiter v (task-fits s t).awaiter_fits
-          (kept.exits (put_object s o (completed (object s o))) t (row-pended _ _ s o (completed (object s o)) (task-fits s t).coroutine-fits (completed_calls (object s o) (object-fits s o)) start)))
+          unfold handle_task_completion in (completion_kept K kept _ (task s t).awaiter v (task-fits s t).awaiter_fits
+          (kept.exits (put_object s o (completed (object s o))) t (row_pended _ _ s o (completed (object s o)) (task-fits s t).coroutine-fits (completed_calls (object s o) (object-fits s o)) start)))
 
   fail-k : (t : ℕ) (e : Error) → K (task_fails s t e).store
   unfolding task_fails end_main switched
@@ -429,8 +429,8 @@ module _ (s : Store) (h : SoundStore s) where
 
   await-k : (t o : ℕ) → o < object_limit → K (exec_get_awaitable s t o).store
   await-k t o l =
-      await-kept K K (pended-commits _ (header s).made) kept (λ u k. k) t o l
-      (λ u k. tasks-pended _ (header s).made u _ (sized-add_log _ (blocked t) (sized-set_state u t _ k.sized)) (blocks-words u t o) k) s start
+      await-kept K K (pended_commits _ (header s).made) kept (λ u k. k) t o l
+      (λ u k. tasks_pended _ (header s).made u _ (sized-add_log _ (blocked t) (sized-set_state u t _ k.sized)) (blocks-words u t o) k) s start
     where
       blocks-words : (u : Store) (t o : ℕ) → (add_log (set_state u t (TaskState.Blocked (heap_id o))) (blocked t)).objects ≡ u.objects
       blocks-words u t o = unfold add_log set_state put_task in refl
@@ -463,7 +463,7 @@ module _ (s : Store) (h : SoundStore s) where
   accept-pends (Event.results rs) r c =
       let q = refusal-rest s (Event.results rs) r in
       same-pends (apply_future_results s rs) (wake_in_order s (apply_future_results s rs)) c (unfold wake_in_order put_queue header in refl) (λ o. unfold wake_in_order put_queue object in refl)
-      ∙ results-pend rs s (results-apply s h rs q) (during_of s h) (pass 2 (is_ended (header s).moment) _ q).0 c
+      ∙ results-pend rs s (results_apply s h rs q) (during_of s h) (pass 2 (is_ended (header s).moment) _ q).0 c
   accept-pends Event.resume r c = walked _ c resume-k
   accept-pends (Event.cancel t) r c = walked _ c (cancel-kept K kept s t start)
   accept-pends (Event.show o) r c = refl
@@ -483,24 +483,24 @@ module _ (s : Store) (h : SoundStore s) where
   kept-distinct u d k o q c l m a b =
       d o q c (subst (λ (n : ℕ). o < n) k.made l) (subst (λ (n : ℕ). q < n) k.made m) (sym (k.rows o) ∙ a) (sym (k.rows q) ∙ b)
 
-  pub accept-distinct : (e : Event) → refusal s e ≡ 0 → WaitDistinct (accept s e)
+  pub accept_distinct : (e : Event) → refusal s e ≡ 0 → WaitDistinct (accept s e)
   unfolding accept refusals answer_await tells done_only in_running in_waiting
-  accept-distinct (Event.coroutine f) r = tt
-  accept-distinct Event.call r = tt
-  accept-distinct (Event.pending d x) r = tt
-  accept-distinct (Event.settled v) r = tt
-  accept-distinct (Event.gather os) r = tt
-  accept-distinct (Event.await o) r =
+  accept_distinct (Event.coroutine f) r = tt
+  accept_distinct Event.call r = tt
+  accept_distinct (Event.pending d x) r = tt
+  accept_distinct (Event.settled v) r = tt
+  accept_distinct (Event.gather os) r = tt
+  accept_distinct (Event.await o) r =
       kept-distinct _ (distinct-rows (pass 2 (is_ended (header s).moment) _ (refusal-rest s (Event.await o) r)).0) (await-k (runner (header s).moment) o (await_low o r))
-  accept-distinct (Event.complete v) r =
+  accept_distinct (Event.complete v) r =
       distinct_wait (task_completes s (runner (header s).moment) v)
       (kept-distinct _ (distinct-rows (pass 2 (is_ended (header s).moment) _ (refusal-rest s (Event.complete v) r)).0) (complete-k (runner (header s).moment) v))
-  accept-distinct (Event.fail n) r =
+  accept_distinct (Event.fail n) r =
       distinct_wait (task_fails s (runner (header s).moment) (Error.Script n))
       (kept-distinct _ (distinct-rows (pass 2 (is_ended (header s).moment) _ (refusal-rest s (Event.fail n) r)).0) (fail-k (runner (header s).moment) (Error.Script n)))
-  accept-distinct (Event.results rs) r = tt
-  accept-distinct Event.resume r =
+  accept_distinct (Event.results rs) r = tt
+  accept_distinct Event.resume r =
       distinct_wait (resume_with_resolved_futures s) (kept-distinct _ (distinct-rows (pass 2 (is_ended (header s).moment) _ (refusal-rest s Event.resume r)).0) resume-k)
-  accept-distinct (Event.cancel t) r = tt
-  accept-distinct (Event.show o) r = tt
-  accept-distinct Event.eager r = tt
+  accept_distinct (Event.cancel t) r = tt
+  accept_distinct (Event.show o) r = tt
+  accept_distinct Event.eager r = tt

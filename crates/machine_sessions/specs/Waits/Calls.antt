@@ -26,7 +26,7 @@ use Rattle.asyncio.specs.States.{pick}
 use Rattle.asyncio.specs.Kinds.{kind, is_pending_external}
 use Rattle.asyncio.specs.Parts.{call_of}
 use Rattle.rows.specs.Tables.{object_codec, object_start, object_at, object_put, header_at}
-use Rattle.rows.specs.RowLaws.{row-put-at}
+use Rattle.rows.specs.RowLaws.{row-put_at}
 use Rattle.queue.specs.declared.ReadyQueue.{ReadyQueue}
 use Rattle.machine.specs.Tests.{is_in}
 use Rattle.machine.specs.Store.{Store, LogEntry, spawned, blocked, reached, exited, removed, task, object, place, header, put_task, put_header, put_object, put_place, put_places, put_queue, add_log, restate, set_state, set_moment, set_next, absent}
@@ -133,7 +133,7 @@ turn_calls x y (turns f n a b) g = gather_none f n b ∙ (unfold pending_call in
 
 pub read_back : (s : Store) (o : ℕ) (x : Object) → Sized s → o < object_limit → object (put_object s o x) o ≡ to_object (object_words x)
 unfolding object put_object object_at object_put
-read_back s o x z l = let w : length s.objects ≡ objects_length = z.objects-sized in ap to_object (row-put-at object_codec s.objects (object_start o) x (omega arith))
+read_back s o x z l = let w : length s.objects ≡ objects_length = z.objects-sized in ap to_object (row-put_at object_codec s.objects (object_start o) x (omega arith))
 
 made_moment : (s : Store) (m : Moment) → Sized s → MomentFits m → (header (set_moment s m)).made ≡ (header s).made
 unfolding set_moment
@@ -179,8 +179,8 @@ module _ (p : ℕ → Option ℕ) (n : ℕ) where
       record { sized = z; made = ap (λ (w : List ℕ). (header_at w).made) e ∙ k.made; rows = λ o. ap (λ (w : List ℕ). pending_call (object_at w o)) e ∙ k.rows o }
 
   -- a row is written that has the call as it is read back
-  pub row-pended : (s : Store) (o : ℕ) (x : Object) → o < object_limit → pending_call (to_object (object_words x)) ≡ p o → Pended p n s → Pended p n (put_object s o x)
-  row-pended s o x l e k =
+  pub row_pended : (s : Store) (o : ℕ) (x : Object) → o < object_limit → pending_call (to_object (object_words x)) ≡ p o → Pended p n s → Pended p n (put_object s o x)
+  row_pended s o x l e k =
       record {
         sized = sized-put_object s o x k.sized;
         made = ap (λ (h : Header). h.made) (header_put-object s o x) ∙ k.made;
@@ -192,7 +192,7 @@ module _ (p : ℕ → Option ℕ) (n : ℕ) where
       by q (no ne) = ap pending_call (object_put-other s o q x ne) ∙ k.rows q
 
   turned : (s : Store) (o : ℕ) (x : Object) → o < object_limit → Turns (object s o) x → Pended p n s → Pended p n (put_object s o x)
-  turned s o x l t k = row-pended s o x l (turn_calls (object s o) x t (object-fits s o) ∙ k.rows o) k
+  turned s o x l t k = row_pended s o x l (turn_calls (object s o) x t (object-fits s o) ∙ k.rows o) k
 
   spawns-pended : (s : Store) (c g : ℕ) → (header s).next < task_limit → Pended p n s → Pended p n (spawn_as s (header s).next c g)
   unfolding spawn_as push_ready
@@ -204,8 +204,8 @@ module _ (p : ℕ → Option ℕ) (n : ℕ) where
         rows = λ o. ap pending_call (add_log-row _ _ (spawned (header s).next c) o ∙ (next_row _ ((header s).next + 1) o ∙ task-row s (header s).next _ o)) ∙ k.rows o;
       }
 
-  pub pended-commits : Commits (Pended p n)
-  pended-commits =
+  pub pended_commits : Commits (Pended p n)
+  pended_commits =
       record {
         row = turned;
         value-put = λ s q v k. words s _ (sized-put_place s q _ k.sized) (unfold put_place in refl) k;
@@ -217,11 +217,11 @@ module _ (p : ℕ → Option ℕ) (n : ℕ) where
       record { sized = sized-set_moment s m k.sized; made = made_moment s m k.sized f ∙ k.made; rows = λ o. ap pending_call (moment_row s m o) ∙ k.rows o }
 
   -- a task's row, the queue and the log
-  pub tasks-pended : (s u : Store) → Sized u → u.objects ≡ s.objects → Pended p n s → Pended p n u
-  tasks-pended = words
+  pub tasks_pended : (s u : Store) → Sized u → u.objects ≡ s.objects → Pended p n s → Pended p n u
+  tasks_pended = words
 
-  pub pended-closed : Closed (Pended p n)
-  pended-closed =
+  pub pended_closed : Closed (Pended p n)
+  pended_closed =
       record {
         sized = λ s k. k.sized;
         row = turned;

@@ -1,5 +1,5 @@
 -- What a batch of results does to the ready queue of a sound store (document 02, No. 7): those who stood there stay as they stood, and behind them come the tasks
--- that were blocked and are not, lowest first (`wakes-ascend`).
+-- that were blocked and are not, lowest first (`wakes_ascend`).
 use Rattle.std.specs.Prelude.{◌≡◌, Bool, ◌&&◌, ℕ, zero, suc, ◌+◌, ◌≤◌, ◌<◌, T, take, drop}
 use Rattle.std.proofs.Math.Path.{refl, sym, ap, subst}
 use Rattle.std.proofs.Common.{◌∙◌, take-append-drop}
@@ -20,7 +20,7 @@ use Rattle.asyncio.specs.States.{pick, is_blocked}
 use Rattle.asyncio.specs.Kinds.{kind, is_completed}
 use Rattle.rows.specs.Tables.{task_at}
 use Rattle.queue.specs.Queue.{entries, occurrences, Ascending}
-use Rattle.queue.specs.QueueLaws.{entries_push, length-entries, occurrences_append, at-most_once}
+use Rattle.queue.specs.QueueLaws.{entries_push, length-entries, occurrences_append, at_most_once}
 use Rattle.queue.specs.OrderLaws.{Ordered, order_entries}
 use Rattle.machine.specs.Store.{Store, LogEntry, view, spawned, blocked, reached, exited, removed, task, object, header, put_object, put_task, put_queue, restate, forget}
 use Rattle.machine.specs.Delivery.{Delivery}
@@ -36,10 +36,10 @@ use Rattle.machine_laws.specs.MachineLaws.{accepted-step}
 use Rattle.machine_laws.specs.SoundLaws.{refusal-rest, refusal-forget}
 use Rattle.machine_laws.specs.OrderedLists.{those_ascend, those-count, those_past, ascending-same}
 use Rattle.machine_theorems.specs.Soundness.Stores.{SoundDuring, SoundStore, during_of}
-use Rattle.machine_theorems.specs.Soundness.Sessions.{forget-sound-store}
+use Rattle.machine_theorems.specs.Soundness.Sessions.{forget-sound_store}
 use Rattle.machine_theorems.specs.Soundness.ReadyTasks.{Queued, to_queued, not-queued}
 use Rattle.machine_theorems.specs.Soundness.Results.{results-keep}
-use Rattle.machine_theorems.specs.Soundness.Preserved.{results-apply}
+use Rattle.machine_theorems.specs.Soundness.Preserved.{results_apply}
 use Rattle.machine_sessions.specs.Queue.Tracked.{blocked-put_task, ready-free}
 use Rattle.machine_sessions.specs.Stall.Effects.{WokenBy, Effect, nobody, wakes}
 use Rattle.machine_sessions.specs.Stall.ResultsWalk.{delivered-batch}
@@ -182,14 +182,14 @@ module _ (s : Store) (rs : List Result) (h : SoundStore s) (e : refusal s (Event
   abbrev pub left : Store
   left = apply_future_results found rs
 
-  abbrev pub after-batch : Store
-  after-batch = (step s (Event.results rs)).store
+  abbrev pub after_batch : Store
+  after_batch = (step s (Event.results rs)).store
 
-  pub batch-is : after-batch ≡ wake_in_order found left
+  pub batch-is : after_batch ≡ wake_in_order found left
   batch-is = ap (λ (x : Step). x.store) (accepted-step s (Event.results rs) e) ∙ (unfold accept in refl)
 
   found-sound : SoundStore found
-  found-sound = forget-sound-store s h
+  found-sound = forget-sound_store s h
 
   nothing_yet : Reached found found
   unfolding forget reached_in occurrences blocked_by
@@ -208,12 +208,12 @@ module _ (s : Store) (rs : List Result) (h : SoundStore s) (e : refusal s (Event
   applies = refusal-rest found (Event.results rs) (refusal-forget s (Event.results rs) ∙ e)
 
   left-during : SoundDuring Nothing (runs_now (header found).moment) (λ o. T (is_completed (kind (object found o)))) (header found) left
-  left-during = results-keep rs found (results-apply found found-sound rs applies) (during_of found found-sound)
+  left-during = results-keep rs found (results_apply found found-sound rs applies) (during_of found found-sound)
 
   pub left-reached : Reached found left
   left-reached =
       delivered-batch (Reached found) (λ u o x k. reached_like found u (put_object u o x) (unfold put_object in refl) (unfold put_object in refl) (unfold put_object in refl) k)
-      (λ P r D hd u m d f k. delivered-reached found u m k d f) rs found (results-apply found found-sound rs applies) (during_of found found-sound) nothing_yet
+      (λ P r D hd u m d f k. delivered-reached found u m k d f) rs found (results_apply found found-sound rs applies) (during_of found found-sound) nothing_yet
 
   abbrev pub woken : List ℕ
   woken = reached_in left.log
@@ -225,24 +225,24 @@ module _ (s : Store) (rs : List Result) (h : SoundStore s) (e : refusal s (Event
   counted : (t : ℕ) → occurrences (entries left.queue) t ≡ occurrences (entries found.queue) t + occurrences woken t
   counted t = ap (λ (l : List ℕ). occurrences l t) left-reached.behind ∙ occurrences_append (entries found.queue) woken t
 
-  pub woken-once : (t : ℕ) → occurrences woken t ≤ 1
-  woken-once t = omega (arith, counted t, at-most_once (entries left.queue) left-queued.distinct t)
+  pub woken_once : (t : ℕ) → occurrences woken t ≤ 1
+  woken_once t = omega (arith, counted t, at_most_once (entries left.queue) left-queued.distinct t)
 
-  pub woken-low : (t : ℕ) → 1 ≤ occurrences woken t → t < (header found).next
-  woken-low t o = subst (λ (y : Header). t < y.next) left-during.head (left-queued.ready t (omega (arith, o, counted t))).0
+  pub woken_low : (t : ℕ) → 1 ≤ occurrences woken t → t < (header found).next
+  woken_low t o = subst (λ (y : Header). t < y.next) left-during.head (left-queued.ready t (omega (arith, o, counted t))).0
 
   woken-none : (t : ℕ) → task_limit ≤ t → occurrences woken t ≡ 0
   woken-none t l = by (ℕ_discrete (occurrences woken t) 0)
     where
       by : Dec (occurrences woken t ≡ 0) → occurrences woken t ≡ 0
       by (yes q) = q
-      by (no ne) = absurd (not-suc-le-zero {n = 0} (omega (arith, l, woken-low t (omega (arith, ne)), (header-fits found).next_fits)))
+      by (no ne) = absurd (not-suc-le-zero {n = 0} (omega (arith, l, woken_low t (omega (arith, ne)), (header-fits found).next_fits)))
 
   -- who stands behind those who stood there
-  abbrev behind-them : List ℕ
-  behind-them = drop s.queue.len (entries after-batch.queue)
+  abbrev behind_them : List ℕ
+  behind_them = drop s.queue.len (entries after_batch.queue)
 
-  queue-ordered : Ordered left.queue after-batch.queue s.queue.len
+  queue-ordered : Ordered left.queue after_batch.queue s.queue.len
   unfolding wake_in_order put_queue forget
   queue-ordered =
       let many : length (entries s.queue) ≡ s.queue.len = length-entries s.queue h.memory.ids h.memory.words_right.queue-short in
@@ -252,26 +252,26 @@ module _ (s : Store) (rs : List Result) (h : SoundStore s) (e : refusal s (Event
       subst (λ (u : Store). Ordered left.queue u.queue s.queue.len) (sym batch-is) (order_entries left.queue s.queue.len ids short long)
 
   -- those who stood there, and behind them these
-  queue_after : entries after-batch.queue ≡ entries s.queue ++ behind-them
+  queue_after : entries after_batch.queue ≡ entries s.queue ++ behind_them
   unfolding forget
   queue_after =
       let many : length (entries s.queue) ≡ s.queue.len = length-entries s.queue h.memory.ids h.memory.words_right.queue-short in
-      sym (take-append-drop s.queue.len (entries after-batch.queue))
-      ∙ ap (λ (l : List ℕ). l ++ behind-them) (queue-ordered.front ∙ (ap (take s.queue.len) left-reached.behind ∙ take_at (entries s.queue) woken s.queue.len many))
+      sym (take-append-drop s.queue.len (entries after_batch.queue))
+      ∙ ap (λ (l : List ℕ). l ++ behind_them) (queue-ordered.front ∙ (ap (take s.queue.len) left-reached.behind ∙ take_at (entries s.queue) woken s.queue.len many))
 
   -- whom the batch reached, each as often
-  same-behind : (t : ℕ) → occurrences behind-them t ≡ occurrences woken t
+  same-behind : (t : ℕ) → occurrences behind_them t ≡ occurrences woken t
   unfolding forget
   same-behind t =
-      let after : occurrences (entries after-batch.queue) t ≡ occurrences (entries s.queue) t + occurrences behind-them t =
-      ap (λ (l : List ℕ). occurrences l t) queue_after ∙ occurrences_append (entries s.queue) behind-them t in
+      let after : occurrences (entries after_batch.queue) t ≡ occurrences (entries s.queue) t + occurrences behind_them t =
+      ap (λ (l : List ℕ). occurrences l t) queue_after ∙ occurrences_append (entries s.queue) behind_them t in
       omega (arith, after, queue-ordered.same t, counted t)
 
   -- by any test that whom the batch reached passes, and nobody else
-  pub queue-by : (p : ℕ → Bool) → ((t : ℕ) → p t ≡ not (absent_from woken t)) → entries after-batch.queue ≡ entries s.queue ++ those p
-  queue-by p same =
+  pub queue_by : (p : ℕ → Bool) → ((t : ℕ) → p t ≡ not (absent_from woken t)) → entries after_batch.queue ≡ entries s.queue ++ those p
+  queue_by p same =
       queue_after ∙ ap (λ (l : List ℕ). entries s.queue ++ l)
-      (those-ascending behind-them p queue-ordered.ascends (λ t. subst (λ (n : ℕ). n ≤ 1) (sym (same-behind t)) (woken-once t)) (λ t l. same-behind t ∙ woken-none t l)
+      (those-ascending behind_them p queue-ordered.ascends (λ t. subst (λ (n : ℕ). n ≤ 1) (sym (same-behind t)) (woken_once t)) (λ t l. same-behind t ∙ woken-none t l)
       (λ t. same t ∙ ap (λ (n : ℕ). not (eqb n 0)) (sym (same-behind t))))
 
   -- b before, and after it only where he was not reached: woken is who was reached, if all of these were so
@@ -284,13 +284,13 @@ module _ (s : Store) (rs : List Result) (h : SoundStore s) (e : refusal s (Event
       by false false q f = f (omega (arith, eqb-false (occurrences woken t) 0 q))
 
   -- Of every sound store, lent ones too: the queue after an accepted batch is the queue before and the tasks that were blocked and are not, ascending.
-  pub wakes-ascend : entries after-batch.queue ≡ entries s.queue ++ those (λ t. is_blocked (task s t).state && not (is_blocked (task after-batch t).state))
-  wakes-ascend = queue-by _ (λ t. ap (λ (b : Bool). is_blocked (task s t).state && not b) (now-blocked t) ∙ woken-is (is_blocked (task s t).state) t (λ o. was t ∙ left-reached.were-blocked t o))
+  pub wakes_ascend : entries after_batch.queue ≡ entries s.queue ++ those (λ t. is_blocked (task s t).state && not (is_blocked (task after_batch t).state))
+  wakes_ascend = queue_by _ (λ t. ap (λ (b : Bool). is_blocked (task s t).state && not b) (now-blocked t) ∙ woken-is (is_blocked (task s t).state) t (λ o. was t ∙ left-reached.were-blocked t o))
     where
       was : (t : ℕ) → is_blocked (task s t).state ≡ is_blocked (task found t).state
       was t = unfold task forget in refl
 
-      now-blocked : (t : ℕ) → is_blocked (task after-batch t).state ≡ (is_blocked (task s t).state && absent_from woken t)
+      now-blocked : (t : ℕ) → is_blocked (task after_batch t).state ≡ (is_blocked (task s t).state && absent_from woken t)
       now-blocked t =
           ap (λ (u : Store). is_blocked (task u t).state) batch-is ∙ (same t ∙ (left-reached.still t ∙ ap (λ (b : Bool). b && absent_from woken t) (sym (was t))))
         where

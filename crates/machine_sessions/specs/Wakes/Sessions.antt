@@ -17,7 +17,7 @@ use Rattle.machine_laws.specs.MachineLaws.{accepted-step, refused-step}
 use Rattle.machine_theorems.specs.Soundness.RowFacts.{blocked-live}
 use Rattle.machine_sessions.specs.Queue.Tracked.{live-is}
 use Rattle.machine_sessions.specs.Queue.Following.{Following, Sends, sends, stepped, short, session_follows}
-use Rattle.machine_sessions.specs.Wakes.Reached.{absent_from, batch-is, left, left-reached, woken, woken-low, woken-is, queue-by}
+use Rattle.machine_sessions.specs.Wakes.Reached.{absent_from, batch-is, left, left-reached, woken, woken_low, woken-is, queue_by}
 
 module _ (x : Session) (f : Following x) (rs : List Result) (l : List ℕ) where
   abbrev sent : Sent
@@ -45,12 +45,12 @@ module _ (x : Session) (f : Following x) (rs : List Result) (l : List ℕ) where
     unfolding forget blocked_by
     blocked-before t o =
         let b : is_blocked (task (forget s) t).state ≡ true = (left-reached s rs f.whole r).were-blocked t o in
-        f.tracked.stuck t (live-is (forget s) t (woken-low s rs f.whole r t o) (blocked-live (task (forget s) t).state b)) ∙ b
+        f.tracked.stuck t (live-is (forget s) t (woken_low s rs f.whole r t o) (blocked-live (task (forget s) t).state b)) ∙ b
 
     in-order-after : entries (send x sent).store.queue ≡ entries s.queue ++ those (was_woken x.history (send x sent).history)
     in-order-after =
         ap (λ (u : Store). entries u.queue) (sent-store ∙ p)
-        ∙ queue-by s rs f.whole r _ (λ t. passes t)
+        ∙ queue_by s rs f.whole r _ (λ t. passes t)
       where
         sent-store : (send x sent).store ≡ (lent_any s sent).store
         sent-store = unfold send in refl

@@ -16,7 +16,7 @@ use Rattle.machine.specs.Commit.{Poll, ready, raised, pending, await_external, p
 use Rattle.machine.specs.Events.{Awaited, stays, go_on, await_coroutine, await_external_future, await_gather, await_object, exec_get_awaitable}
 use Rattle.machine_laws.specs.Views.{Sized}
 use Rattle.machine_theorems.specs.Bounds.Counts.{StepsBetween}
-use Rattle.machine_theorems.specs.Bounds.BoundLaws.{commit-bound, commit-steps-seen}
+use Rattle.machine_theorems.specs.Bounds.BoundLaws.{commit_bound, commit_steps_seen}
 
 go_on_steps : (t o n : ℕ) (s : Store) (x : Poll) → (go_on t o n s x).steps ≡ n
 unfolding go_on stays
@@ -72,7 +72,7 @@ pending-kind f n = refl
 pub await_steps_seen : (s : Store) (t o f n : ℕ) → Sized s → o < object_limit → object s o ≡ Object.GatherFuture f n GatherState.Pending
     → StepsBetween s (commit_gather_tree s o (Awaiter.Task (task_id t))).store (exec_get_awaitable s t o).steps (commit_gather_tree s o (Awaiter.Task (task_id t))).poll
 await_steps_seen s t o f n z l e =
-    rw (await_steps_commit s t o f n e) (commit-steps-seen s o (Awaiter.Task (task_id t)) z l (ap kind e ∙ pending-kind f n))
+    rw (await_steps_commit s t o f n e) (commit_steps_seen s o (Awaiter.Task (task_id t)) z l (ap kind e ∙ pending-kind f n))
 
 -- Whatever is awaited, the answer carries at most 2 p - 1 steps, with p gathers pending before (0 with none).
 pub await_bound : (s : Store) (t o : ℕ) → Sized s → o < object_limit → (exec_get_awaitable s t o).steps ≤ 2 * pending_count s - 1
@@ -88,7 +88,7 @@ await_bound s t o z l = by (object s o) refl
     gather-by f n GatherState.Pending e =
         let same : (exec_get_awaitable s t o).steps ≡ (commit_gather_tree s o (Awaiter.Task (task_id t))).steps = await_steps_commit s t o f n e in
         let most : suc (commit_gather_tree s o (Awaiter.Task (task_id t))).steps ≤ 2 * pending_count s =
-        commit-bound s o (Awaiter.Task (task_id t)) z l (ap kind e ∙ pending-kind f n) in
+        commit_bound s o (Awaiter.Task (task_id t)) z l (ap kind e ∙ pending-kind f n) in
         omega arith
     gather-by f n (GatherState.Awaited a m) e = none-by (at (Object.GatherFuture f n (GatherState.Awaited a m)) e (unfold await_object await_gather stays in refl))
     gather-by f n GatherState.Completed e = none-by (at (Object.GatherFuture f n GatherState.Completed) e (unfold await_object await_gather stays in refl))

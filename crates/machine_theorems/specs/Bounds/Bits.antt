@@ -78,13 +78,13 @@ bit-set-same (suc i) m e =
     bit-suc (m + 2 ^ suc i) i ∙ ap (λ (n : ℕ). bit n i) q ∙ bit-set-same i (m / 2) (sym (bit-suc m i) ∙ e)
 
 -- a word of n bits is one still
-pub bit-set_small : (i n m : ℕ) → i < n → m < 2 ^ n → bit m i ≡ false → m + 2 ^ i < 2 ^ n
-bit-set_small i zero m l s e = absurd (not-suc-le-zero l)
-bit-set_small zero (suc n) m l s e = let d : 2 ^ suc n ≡ 2 * 2 ^ n = pow-succ' 2 n in omega (arith, even_low m e)
-bit-set_small (suc i) (suc n) m l s e =
+pub bit_set_small : (i n m : ℕ) → i < n → m < 2 ^ n → bit m i ≡ false → m + 2 ^ i < 2 ^ n
+bit_set_small i zero m l s e = absurd (not-suc-le-zero l)
+bit_set_small zero (suc n) m l s e = let d : 2 ^ suc n ≡ 2 * 2 ^ n = pow-succ' 2 n in omega (arith, even_low m e)
+bit_set_small (suc i) (suc n) m l s e =
     let d : 2 ^ suc n ≡ 2 * 2 ^ n = pow-succ' 2 n in
     let d2 : 2 ^ suc i ≡ 2 * 2 ^ i = pow-succ' 2 i in
-    omega (arith, bit-set_small i n (m / 2) (omega arith) (omega arith) (sym (bit-suc m i) ∙ e))
+    omega (arith, bit_set_small i n (m / 2) (omega arith) (omega arith) (sym (bit-suc m i) ∙ e))
 
 -- ---- a word of n bits
 

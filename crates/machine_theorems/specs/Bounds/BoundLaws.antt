@@ -13,7 +13,7 @@ use Rattle.machine.specs.Commit.{Poll, ready, raised, pending, Polled, Stop, at_
 use Rattle.machine.specs.Commit.{open_gather_commit, settle_as, settle_gather_commit, pending_count, commit_gather_tree}
 use Rattle.machine_laws.specs.Views.{Sized}
 use Rattle.machine_laws.specs.Statements.{failed_count, StepFormula, StepsRight, FailFormula}
-use Rattle.machine_laws.specs.CommitLaws.{commit_steps, commit-opens, commit-fails}
+use Rattle.machine_laws.specs.CommitLaws.{commit_steps, commit_opens, commit_fails}
 use Rattle.machine_theorems.specs.Bounds.Counts.{SettledOf, opened_between, failed_between, settled_between, StepsBetween}
 
 -- ---- how many of the gathers opened are settled
@@ -71,13 +71,13 @@ between_by s u steps n k (raised x) e f d h = omega arith
 
 module _ (s : Store) (g : ℕ) (a : Awaiter) (z : Sized s) (l : g < object_limit) (e : kind (object s g) ≡ Kind.PendingGather) where
   -- A commit takes at most 2 p - 1 steps, with p gathers pending before, whatever the await sees.
-  pub commit-bound : suc (commit_gather_tree s g a).steps ≤ 2 * pending_count s
+  pub commit_bound : suc (commit_gather_tree s g a).steps ≤ 2 * pending_count s
   unfolding StepsRight
-  commit-bound = bound_by _ _ _ _ _ (commit_gather_tree s g a).poll (commit_steps s g a) (commit_settles s g a) (commit-opens s g a z l e)
+  commit_bound = bound_by _ _ _ _ _ (commit_gather_tree s g a).poll (commit_steps s g a) (commit_settles s g a) (commit_opens s g a z l e)
 
   -- Document 01, module 4: the steps of a commit, with n and k read off the stores before and after, and no counter.
-  pub commit-steps-seen : StepsBetween s (commit_gather_tree s g a).store (commit_gather_tree s g a).steps (commit_gather_tree s g a).poll
+  pub commit_steps_seen : StepsBetween s (commit_gather_tree s g a).store (commit_gather_tree s g a).steps (commit_gather_tree s g a).poll
   unfolding StepsRight
-  commit-steps-seen =
-      between_by s (commit_gather_tree s g a).store _ _ _ (commit_gather_tree s g a).poll (commit_steps s g a) (commit-fails s g a z l e) (commit_settles s g a)
-      (commit-opens s g a z l e)
+  commit_steps_seen =
+      between_by s (commit_gather_tree s g a).store _ _ _ (commit_gather_tree s g a).poll (commit_steps s g a) (commit_fails s g a z l e) (commit_settles s g a)
+      (commit_opens s g a z l e)

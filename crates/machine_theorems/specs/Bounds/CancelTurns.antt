@@ -40,8 +40,8 @@ pub record WalkKept (w x : Walk) : Type 0 where
   pub gathers : unreached x + length x.stack ≡ unreached w + length w.stack
   pub tasks : removals_in x.store.log + live_count x.store ≡ removals_in w.store.log + live_count w.store
 
-walk-kept_here : (w : Walk) → WalkInvariant w → WalkKept w w
-walk-kept_here w f = record { invariant = f; gathers = refl; tasks = refl }
+walk_kept_here : (w : Walk) → WalkInvariant w → WalkKept w w
+walk_kept_here w f = record { invariant = f; gathers = refl; tasks = refl }
 
 walk-kept-then : {w x y : Walk} → WalkKept w x → WalkKept x y → WalkKept w y
 walk-kept-then k l = record { invariant = l.invariant; gathers = l.gathers ∙ k.gathers; tasks = l.tasks ∙ k.tasks }
@@ -69,7 +69,7 @@ unfolding reach
 reach-walk-kept w g f l = by (is_some (as_awaited (object w.store g))) (get_or w.marks g false) refl refl
   where
     by : (a b : Bool) → is_some (as_awaited (object w.store g)) ≡ a → get_or w.marks g false ≡ b → WalkKept w (reach_if w g (a && not b))
-    by true true p e = unfold reach_if in walk-kept_here w f
+    by true true p e = unfold reach_if in walk_kept_here w f
     by true false p e = record {
       invariant = unfold reach_if in record { sized = f.sized; marked = length-set w.marks g true ∙ f.marked; tasks-of-fit = f.tasks-of-fit };
       gathers = let fall : unreached w ≡ suc (unreached (reach_if w g true)) = reach-falls w g f.marked l p e in
@@ -77,7 +77,7 @@ reach-walk-kept w g f l = by (is_some (as_awaited (object w.store g))) (get_or w
           omega arith;
       tasks = unfold reach_if in refl;
     }
-    by false b p e = unfold reach_if in walk-kept_here w f
+    by false b p e = unfold reach_if in walk_kept_here w f
 
 -- ---- a task goes
 
@@ -142,19 +142,19 @@ visit-walk-kept w o f l =
 
 place-walk-kept : (w : Walk) (p i open-places : ℕ) → WalkInvariant w → WalkKept w (visit_place w p i open-places)
 unfolding visit_place
-place-walk-kept w p i n f = pick_has (WalkKept w) (bit n i) (visit-walk-kept w (place w.store p).item.0 f (place-fits w.store p).item-fits) (walk-kept_here w f)
+place-walk-kept w p i n f = pick_has (WalkKept w) (bit n i) (visit-walk-kept w (place w.store p).item.0 f (place-fits w.store p).item-fits) (walk_kept_here w f)
 
-open_walk-kept : (k : ℕ) (w : Walk) (a : AwaitedGather) (i : ℕ) → WalkInvariant w → WalkKept w (visit_open w a i k)
+open_walk_kept : (k : ℕ) (w : Walk) (a : AwaitedGather) (i : ℕ) → WalkInvariant w → WalkKept w (visit_open w a i k)
 unfolding visit_open
-open_walk-kept zero w a i f = walk-kept_here w f
-open_walk-kept (suc k) w a i f =
+open_walk_kept zero w a i f = walk_kept_here w f
+open_walk_kept (suc k) w a i f =
     let x = place-walk-kept w (a.first + i) i a.open-places f in
-    walk-kept-then x (open_walk-kept k _ a (i + 1) x.invariant)
+    walk-kept-then x (open_walk_kept k _ a (i + 1) x.invariant)
 
 gather-walk-kept : (w : Walk) (a : Option AwaitedGather) → WalkInvariant w → WalkKept w (walk_gather w a)
 unfolding walk_gather
-gather-walk-kept w none f = walk-kept_here w f
-gather-walk-kept w (some a) f = open_walk-kept a.count w a 0 f
+gather-walk-kept w none f = walk_kept_here w f
+gather-walk-kept w (some a) f = open_walk_kept a.count w a 0 f
 
 -- ---- turns
 
@@ -233,8 +233,8 @@ module _ (s : Store) (t : ℕ) (z : Sized s) (l : t < task_limit) (e : is_live (
   cancel_removes n x p = (walks_turned begun n x begun-walk-kept.invariant p).tasks ∙ begun-walk-kept.tasks ∙ start-log
 
   -- Cancel takes at most as many turns and removals as there are awaited gathers and live tasks.
-  pub cancel-bound : (n : ℕ) (x : Walk) → Walks begun n x → n + removals_in x.store.log ≤ removals_in s.log + (awaited_count s + live_count s)
-  cancel-bound n x p = omega (arith, cancel-turns n x p, cancel_removes n x p)
+  pub cancel_bound : (n : ℕ) (x : Walk) → Walks begun n x → n + removals_in x.store.log ≤ removals_in s.log + (awaited_count s + live_count s)
+  cancel_bound n x p = omega (arith, cancel-turns n x p, cancel_removes n x p)
 
   -- Where the stack is empty the walk has ended, with the store that cancel leaves.
   pub cancel-ends : (n : ℕ) (x : Walk) → Walks begun n x → x.stack ≡ [] → cancel_task s t ≡ x.store
@@ -271,12 +271,12 @@ walk_ends (suc k) w f p = by w.stack refl (λ x g q. walk_ends k x g q)
         record { turns = suc x.turns; last = x.last; walks = walks_on w g gs x.turns x.last e x.walks; empty = x.empty }
 
 module _ (s : Store) (t : ℕ) (z : Sized s) (l : t < task_limit) (e : is_live (task s t).state ≡ true) where
-  -- The walk of a cancel ends; by `cancel-ends` with the store that cancel leaves, and by `cancel-bound` within the awaited gathers and the live tasks.
-  pub cancel-terminates : Ends (begun s t z l e)
-  cancel-terminates = walk_ends (unreached (begun s t z l e) + length (begun s t z l e).stack) (begun s t z l e) (begun-walk-kept s t z l e).invariant (omega arith)
+  -- The walk of a cancel ends; by `cancel-ends` with the store that cancel leaves, and by `cancel_bound` within the awaited gathers and the live tasks.
+  pub cancel_terminates : Ends (begun s t z l e)
+  cancel_terminates = walk_ends (unreached (begun s t z l e) + length (begun s t z l e).stack) (begun s t z l e) (begun-walk-kept s t z l e).invariant (omega arith)
 
   -- A whole cancel: as many removals more as live tasks less.
-  pub cancel-spent : removals_in (cancel_task s t).log + live_count (cancel_task s t) ≡ removals_in s.log + live_count s
-  cancel-spent =
-      let x = cancel-terminates in
+  pub cancel_spent : removals_in (cancel_task s t).log + live_count (cancel_task s t) ≡ removals_in s.log + live_count s
+  cancel_spent =
+      let x = cancel_terminates in
       rw (cancel-ends s t z l e x.turns x.last x.walks x.empty) (cancel_removes s t z l e x.turns x.last x.walks)

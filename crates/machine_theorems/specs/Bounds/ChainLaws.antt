@@ -21,7 +21,7 @@ use Rattle.queue.specs.QueueLaws.{front_of-fits}
 use Rattle.machine.specs.Store.{Store, task, header, object, put_task, put_object, put_header, put_queue, restate, set_state, set_moment, add_log, exited, absent}
 use Rattle.machine.specs.Scheduler.{AwaitedGather, as_awaited, live_count, make_ready, push_ready, remove_task, remove_from_ready_queue}
 use Rattle.machine.specs.Delivery.{Delivery, nobody_woken, deliver_to_task, fail_awaited, fail_gather, climb, awaited_count, send_error, climb_error, deliver_awaiter_failure}
-use Rattle.machine.specs.Events.{Switched, How, start, value, raises, run, yield, new_function, resume-next, resume-after-task-exit, handle-task-failure, start-by, start-task, activate-state, activate_within, activate}
+use Rattle.machine.specs.Events.{Switched, How, start, value, raises, run, yield, new_function, resume_next, resume_after_task_exit, handle_task_failure, start_by, start_task, activate_state, activate_within, activate}
 use Rattle.machine_laws.specs.Views.{Sized}
 use Rattle.machine_laws.specs.Statements.{SameLive}
 use Rattle.machine_laws.specs.StoreLaws.{task-fits, live-put_task, task_put-other, sized-put_object, sized-put_queue, sized-set_state}
@@ -139,26 +139,26 @@ gone_spent s t z l e =
     record { spent = omega (arith, fall, left, more) }
 
 module _ (go : Store → ℕ → Switched) (h : (s : Store) (t : ℕ) → Sized s → t < task_limit → Spent s (go s t).store) where
-  next-spent : (s : Store) → Sized s → Spent s (resume-next go s).store
-  unfolding resume-next
+  next-spent : (s : Store) → Sized s → Spent s (resume_next go s).store
+  unfolding resume_next
   next-spent s z =
       pick_has (λ (x : Switched). Spent s x.store) (eqb s.queue.len 0) (yield_spent s)
       (spent_then (pop_spent s) (h (put_queue s (pop_front s.queue)) (front_of s.queue).0 (sized-put_queue s _ z) (front_of-fits s.queue)))
 
-  exit_spent : (d : Delivery) → Sized d.store → WokenFits d → Spent d.store (resume-after-task-exit go d).store
-  unfolding resume-after-task-exit
+  exit_spent : (d : Delivery) → Sized d.store → WokenFits d → Spent d.store (resume_after_task_exit go d).store
+  unfolding resume_after_task_exit
   exit_spent d z m = by d.woken refl
     where
       by : (w : Option ℕ) → d.woken ≡ w
-          → SpentBy d.store (elim w [ none ↦ resume-next go d.store | some t ↦ go (remove_from_ready_queue d.store t) t ])
+          → SpentBy d.store (elim w [ none ↦ resume_next go d.store | some t ↦ go (remove_from_ready_queue d.store t) t ])
       by none e = next-spent d.store z
       by (some t) e =
           let sized : Sized (remove_from_ready_queue d.store t) = unfold remove_from_ready_queue in sized-put_queue d.store _ z in
           spent_then (queue_spent d.store t) (h (remove_from_ready_queue d.store t) t sized (m.fits t e))
 
   module _ (s : Store) (t : ℕ) (z : Sized s) (l : t < task_limit) (e : is_live (task s t).state ≡ true) where
-    failure-spent : (x : Error) → Spent s (handle-task-failure go s t x).store
-    unfolding handle-task-failure
+    failure-spent : (x : Error) → Spent s (handle_task_failure go s t x).store
+    unfolding handle_task_failure
     failure-spent x =
         let a : Awaiter = (task s t).awaiter in
         let u : Store = (deliver_awaiter_failure s a x).store in
@@ -167,13 +167,13 @@ module _ (go : Store → ℕ → Switched) (h : (s : Store) (t : ℕ) → Sized 
         spent_then (same_spent s u m (failure_exits s a x))
         (spent_then (gone_spent u t m.sized l (m.lives t ∙ e)) (exit_spent _ (sized_gone u t m.sized) (record { fits = w.fits })))
 
-    start-by-spent : (c : ℕ) (f : Option ℕ) → Spent s (start-by go s t c f).store
-    unfolding start-by
+    start-by-spent : (c : ℕ) (f : Option ℕ) → Spent s (start_by go s t c f).store
+    unfolding start_by
     start-by-spent c none = failure-spent Error.CoroutineReuse
     start-by-spent c (some f) = start_spent s t c (Object.Coroutine f CoroutineState.Running) (start c f) z l e
 
-  state-spent : (s : Store) (t : ℕ) (x : TaskState) → (task s t).state ≡ x → Sized s → t < task_limit → Spent s (activate-state go s t x).store
-  unfolding activate-state start-task
+  state-spent : (s : Store) (t : ℕ) (x : TaskState) → (task s t).state ≡ x → Sized s → t < task_limit → Spent s (activate_state go s t x).store
+  unfolding activate_state start_task
   state-spent s t TaskState.Absent e z l = yield_spent s
   state-spent s t TaskState.Unstarted e z l = start-by-spent s t z l (rw e) (task s t).coroutine.0 (new_function (object s (task s t).coroutine.0))
   state-spent s t TaskState.Running e z l = yield_spent s

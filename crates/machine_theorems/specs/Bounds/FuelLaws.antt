@@ -17,7 +17,7 @@ use Rattle.machine.specs.Store.{Store, task, put_task, put_queue, add_log, exite
 use Rattle.machine.specs.Scheduler.{live_count, remove_task, remove_from_ready_queue}
 use Rattle.machine.specs.Delivery.{Delivery, resolve_child, fail_gather, climb, awaited_count}
 use Rattle.machine.specs.Delivery.{send_value, climb_value, deliver_awaiter_success, send_error, climb_error, deliver_awaiter_failure}
-use Rattle.machine.specs.Events.{Switched, resume-next, resume-after-task-exit, handle-task-failure, start-by, start-task, activate-state, activate_within, activate}
+use Rattle.machine.specs.Events.{Switched, resume_next, resume_after_task_exit, handle_task_failure, start_by, start_task, activate_state, activate_within, activate}
 use Rattle.machine_laws.specs.Views.{Sized}
 use Rattle.machine_laws.specs.Statements.{SameLive}
 use Rattle.machine_laws.specs.StoreLaws.{task-fits, sized-put_task, sized-put_queue, sized-add_log}
@@ -81,20 +81,20 @@ activate-at s t k e = ap (λ (j : ℕ). activate_within j s t) (sym e)
 
 -- two calls that close the cycle, and agree where at most k tasks live
 module _ (k : ℕ) (go come : Store → ℕ → Switched) (h : (s : Store) (t : ℕ) → Sized s → t < task_limit → live_count s ≤ k → go s t ≡ come s t) where
-  next_agrees : (s : Store) → Sized s → live_count s ≤ k → resume-next go s ≡ resume-next come s
-  unfolding resume-next
+  next_agrees : (s : Store) → Sized s → live_count s ≤ k → resume_next go s ≡ resume_next come s
+  unfolding resume_next
   next_agrees s z l =
       let count : live_count (put_queue s (pop_front s.queue)) ≡ live_count s = unfold live_count put_queue in refl in
       let same : go (put_queue s (pop_front s.queue)) (front_of s.queue).0 ≡ come (put_queue s (pop_front s.queue)) (front_of s.queue).0 =
       h (put_queue s (pop_front s.queue)) (front_of s.queue).0 (sized-put_queue s _ z) (front_of-fits s.queue) (omega arith) in
       rw same
 
-  exit-agrees : (d : Delivery) → Sized d.store → WokenFits d → live_count d.store ≤ k → resume-after-task-exit go d ≡ resume-after-task-exit come d
-  unfolding resume-after-task-exit
+  exit-agrees : (d : Delivery) → Sized d.store → WokenFits d → live_count d.store ≤ k → resume_after_task_exit go d ≡ resume_after_task_exit come d
+  unfolding resume_after_task_exit
   exit-agrees d z m l = by d.woken refl
     where
-      by : (w : Option ℕ) → d.woken ≡ w → ◌≡◌ {A = Switched} (elim w [ none ↦ resume-next go d.store | some t ↦ go (remove_from_ready_queue d.store t) t ])
-          (elim w [ none ↦ resume-next come d.store | some t ↦ come (remove_from_ready_queue d.store t) t ])
+      by : (w : Option ℕ) → d.woken ≡ w → ◌≡◌ {A = Switched} (elim w [ none ↦ resume_next go d.store | some t ↦ go (remove_from_ready_queue d.store t) t ])
+          (elim w [ none ↦ resume_next come d.store | some t ↦ come (remove_from_ready_queue d.store t) t ])
       by none e = next_agrees d.store z l
       by (some t) e =
           let count : live_count (remove_from_ready_queue d.store t) ≡ live_count d.store = unfold live_count remove_from_ready_queue put_queue in refl in
@@ -109,8 +109,8 @@ module _ (k : ℕ) (go come : Store → ℕ → Switched) (h : (s : Store) (t : 
         unfold live_count add_log remove_task remove_from_ready_queue put_queue in refl in
         omega arith
 
-    failure-agrees : (x : Error) → handle-task-failure go s t x ≡ handle-task-failure come s t x
-    unfolding handle-task-failure
+    failure-agrees : (x : Error) → handle_task_failure go s t x ≡ handle_task_failure come s t x
+    unfolding handle_task_failure
     failure-agrees x =
         let a : Awaiter = (task s t).awaiter in
         let m = failure_same s a x z (task-fits s t).awaiter_fits in
@@ -118,13 +118,13 @@ module _ (k : ℕ) (go come : Store → ℕ → Switched) (h : (s : Store) (t : 
         exit-agrees _ (sized_gone _ t m.sized)
         (record { fits = w.fits }) (left-count (deliver_awaiter_failure s a x).store m)
 
-    start-agrees : (c : ℕ) (f : Option ℕ) → start-by go s t c f ≡ start-by come s t c f
-    unfolding start-by
+    start-agrees : (c : ℕ) (f : Option ℕ) → start_by go s t c f ≡ start_by come s t c f
+    unfolding start_by
     start-agrees c none = failure-agrees Error.CoroutineReuse
     start-agrees c (some f) = refl
 
-  state-agrees : (s : Store) (t : ℕ) (x : TaskState) → (task s t).state ≡ x → Sized s → t < task_limit → live_count s ≤ suc k → activate-state go s t x ≡ activate-state come s t x
-  unfolding activate-state start-task
+  state-agrees : (s : Store) (t : ℕ) (x : TaskState) → (task s t).state ≡ x → Sized s → t < task_limit → live_count s ≤ suc k → activate_state go s t x ≡ activate_state come s t x
+  unfolding activate_state start_task
   state-agrees s t TaskState.Absent e z l q = refl
   state-agrees s t TaskState.Unstarted e z l q = start-agrees s t z l (rw e) q _ _
   state-agrees s t TaskState.Running e z l q = refl
@@ -138,5 +138,5 @@ activate_fuel zero s t z l q =
     let e : live_count s ≡ 0 = omega arith in
     activate-at s t 0 e
 activate_fuel (suc k) s t z l q =
-    let here : activate_within (suc k) s t ≡ activate-state (λ x u. activate_within k x u) s t (task s t).state = unfold activate_within in refl in
+    let here : activate_within (suc k) s t ≡ activate_state (λ x u. activate_within k x u) s t (task s t).state = unfold activate_within in refl in
     here ∙ state-agrees k (λ x u. activate_within k x u) activate (λ x u y m n. activate_fuel k x u y m n) s t (task s t).state refl z l q ∙ sym (activate-by s t z l)

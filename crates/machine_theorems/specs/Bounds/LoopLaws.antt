@@ -16,8 +16,8 @@ use Rattle.machine.specs.Commit.{Polled, Stop, at_end, at_nested, at_error, Fram
 use Rattle.machine.specs.Commit.{open_gather_commit, settle_gather_commit, resume_after_child, pending_count, commit_gather_tree}
 use Rattle.machine_laws.specs.Views.{Sized}
 use Rattle.machine_laws.specs.Statements.{SameKinds, Placed, StopBelow, commit_rest, unmarked, walk_rest}
-use Rattle.machine_laws.specs.CommitLaws.{StopKeeps, same_kinds_then, same-pending_count, set-counts, settle-kinds, resume_kinds, step_kinds, step-below, placed_same}
-use Rattle.machine_laws.specs.CommitLaws.{open-sized, open-falls, commit_begins, commit_turns}
+use Rattle.machine_laws.specs.CommitLaws.{StopKeeps, same_kinds_then, same-pending_count, set_counts, settle_kinds, resume_kinds, step_kinds, step-below, placed_same}
+use Rattle.machine_laws.specs.CommitLaws.{open_sized, open_falls, commit_begins, commit_turns}
 use Rattle.machine_laws.specs.CycleLaws.{CountsKept, gather_counts_kept, blocked_counts_kept, all_unmarked, walk_once, cancel_walks}
 
 -- ---- the commit
@@ -30,7 +30,7 @@ LoopPays fuel =
 
 open_counts : (u : Store) (g : ℕ) (a : Awaiter) → Sized u → g < object_limit → (o : ℕ) → count_of (object (open_gather_commit u g a) o) ≡ count_of (object u o)
 unfolding open_gather_commit
-open_counts u g a z l o = set-counts u g z l (GatherState.Awaited a 0) o
+open_counts u g a z l o = set_counts u g z l (GatherState.Awaited a 0) o
 
 turn_agrees : (fuel : ℕ) → LoopPays fuel → (s : Store) (f : Frame) (fs : List Frame) (n j k : ℕ) (x : Stop) → StopKeeps s x → StopBelow (count_of (object s f.gather)) x
     → f.gather < object_limit → Placed s fs → 2 * pending_count s + length fs ≤ fuel
@@ -40,17 +40,17 @@ turn_agrees fuel h s f fs n j k (at_nested u i o) q b l e p =
     let a : Awaiter = Awaiter.GatherSlot (heap_id f.gather) (heap_id o) in
     let x : Store = open_gather_commit u o a in
     let same : pending_count u ≡ pending_count s = same-pending_count s u q.0 in
-    let fall : pending_count u ≡ suc (pending_count x) = open-falls u o a q.0.sized q.1 q.2 in
+    let fall : pending_count u ≡ suc (pending_count x) = open_falls u o a q.0.sized q.1 q.2 in
     let counts : (y : ℕ) → count_of (object x y) ≡ count_of (object s y) = λ y. open_counts u o a q.0.sized q.1 y ∙ q.0.counts y in
     let below : i < count_of (object x f.gather) = rw (counts f.gather) b in
-    h x (record { gather = o; next = 0 }) (record { gather = f.gather; next = i } ∷ fs) (suc n) (suc j) k (open-sized u o a q.0.sized q.1 q.2) q.1
+    h x (record { gather = o; next = 0 }) (record { gather = f.gather; next = i } ∷ fs) (suc n) (suc j) k (open_sized u o a q.0.sized q.1 q.2) q.1
     (l, below, unfold Placed in placed_same s x fs counts e) (omega arith)
 turn_agrees fuel h s f fs n j k (at_error u x) q b l e p = refl
 turn_agrees fuel h s f [] n j k (at_end u) q b l e p = refl
 turn_agrees fuel h s f (g ∷ gs) n j k (at_end u) q b l e p =
     let r : Polled = settle_gather_commit u f.gather in
     let x : Store = resume_after_child g r in
-    let w : SameKinds u r.store = settle-kinds u f.gather q.sized l in
+    let w : SameKinds u r.store = settle_kinds u f.gather q.sized l in
     let v : SameKinds s x = same_kinds_then q (same_kinds_then w (resume_kinds g r w.sized e.0)) in
     let same : pending_count x ≡ pending_count s = same-pending_count s x v in
     h x (record { gather = g.gather; next = g.next + 1 }) gs (suc n) j (suc k) v.sized e.0 (unfold Placed in placed_same s x gs v.counts e.2) (omega arith)
@@ -69,8 +69,8 @@ loop_fuel (suc fuel) s f fs n j k z l e p =
 pub commit_fuel : (fuel : ℕ) (s : Store) (g : ℕ) (a : Awaiter) → Sized s → g < object_limit → kind (object s g) ≡ Kind.PendingGather → 2 * pending_count s ≤ suc fuel
     → commit_loop fuel (open_gather_commit s g a) (record { gather = g; next = 0 }) [] 0 1 0 ≡ commit_gather_tree s g a
 commit_fuel fuel s g a z l e p =
-    let fall : pending_count s ≡ suc (pending_count (open_gather_commit s g a)) = open-falls s g a z l e in
-    loop_fuel fuel (open_gather_commit s g a) (record { gather = g; next = 0 }) [] 0 1 0 (open-sized s g a z l e) l (unfold Placed in tt) (omega arith) ∙ sym (commit_begins s g a)
+    let fall : pending_count s ≡ suc (pending_count (open_gather_commit s g a)) = open_falls s g a z l e in
+    loop_fuel fuel (open_gather_commit s g a) (record { gather = g; next = 0 }) [] 0 1 0 (open_sized s g a z l e) l (unfold Placed in tt) (omega arith) ∙ sym (commit_begins s g a)
 
 -- ---- cancel's walk
 

@@ -25,7 +25,7 @@ use Rattle.machine.specs.Store.{Store, task, object, put_task, put_object, put_q
 use Rattle.machine.specs.Scheduler.{AwaitedGather, as_awaited, make_ready, push_ready, remove_task, remove_from_ready_queue}
 use Rattle.machine.specs.Delivery.{Delivery, nobody_woken, deliver_to_task, fail_awaited, fail_gather, climb, awaited_count, send_error, climb_error, deliver_awaiter_failure}
 use Rattle.machine.specs.Commit.{Poll, ready, raised, pending, pending_in, pending_count, commit_gather_tree}
-use Rattle.machine.specs.Events.{Switched, How, start, value, raises, run, yield, new_function, resume-next, resume-after-task-exit, handle-task-failure, start-by, start-task, activate-state, activate_within, activate}
+use Rattle.machine.specs.Events.{Switched, How, start, value, raises, run, yield, new_function, resume_next, resume_after_task_exit, handle_task_failure, start_by, start_task, activate_state, activate_within, activate}
 use Rattle.machine.specs.Events.{stays, go_on, await_gather, await_object, exec_get_awaitable}
 use Rattle.machine_laws.specs.Views.{Sized}
 use Rattle.machine_laws.specs.Statements.{SameLive}
@@ -145,26 +145,26 @@ unfolding kind
 coroutine_no f = refl
 
 module _ (go : Store → ℕ → Switched) (h : (s : Store) (t : ℕ) → Sized s → t < task_limit → SamePending s (go s t).store) where
-  pub next-pending : (s : Store) → Sized s → SamePending s (resume-next go s).store
-  unfolding resume-next
+  pub next-pending : (s : Store) → Sized s → SamePending s (resume_next go s).store
+  unfolding resume_next
   next-pending s z =
       pick_has (λ (x : Switched). SamePending s x.store) (eqb s.queue.len 0) (yield-pending s)
       (pending-then (words_pending s (put_queue s (pop_front s.queue)) (unfold put_queue in refl))
       (h (put_queue s (pop_front s.queue)) (front_of s.queue).0 (sized-put_queue s _ z) (front_of-fits s.queue)))
 
-  exit-pending : (d : Delivery) → Sized d.store → WokenFits d → SamePending d.store (resume-after-task-exit go d).store
-  unfolding resume-after-task-exit
+  exit-pending : (d : Delivery) → Sized d.store → WokenFits d → SamePending d.store (resume_after_task_exit go d).store
+  unfolding resume_after_task_exit
   exit-pending d z m = by d.woken refl
     where
-      by : (w : Option ℕ) → d.woken ≡ w → PendingBy d.store (elim w [ none ↦ resume-next go d.store | some t ↦ go (remove_from_ready_queue d.store t) t ])
+      by : (w : Option ℕ) → d.woken ≡ w → PendingBy d.store (elim w [ none ↦ resume_next go d.store | some t ↦ go (remove_from_ready_queue d.store t) t ])
       by none e = next-pending d.store z
       by (some t) e =
           let sized : Sized (remove_from_ready_queue d.store t) = unfold remove_from_ready_queue in sized-put_queue d.store _ z in
           pending-then (words_pending d.store (remove_from_ready_queue d.store t) (unfold remove_from_ready_queue put_queue in refl))
           (h (remove_from_ready_queue d.store t) t sized (m.fits t e))
 
-  failed-pending : (s : Store) (t : ℕ) (x : Error) → Sized s → SamePending s (handle-task-failure go s t x).store
-  unfolding handle-task-failure
+  failed-pending : (s : Store) (t : ℕ) (x : Error) → Sized s → SamePending s (handle_task_failure go s t x).store
+  unfolding handle_task_failure
   failed-pending s t x z =
       let a : Awaiter = (task s t).awaiter in
       let u : Store = (deliver_awaiter_failure s a x).store in
@@ -174,14 +174,14 @@ module _ (go : Store → ℕ → Switched) (h : (s : Store) (t : ℕ) → Sized 
       pending-then (failure_pending s a x z (task-fits s t).awaiter_fits)
       (pending-then (words_pending u (add_log (remove_task u t) (exited t)) gone) (exit-pending _ (sized_gone u t m.sized) (record { fits = w.fits })))
 
-  start-pending : (s : Store) (t c : ℕ) (f : Option ℕ) → new_function (object s c) ≡ f → Sized s → c < object_limit → SamePending s (start-by go s t c f).store
-  unfolding start-by
+  start-pending : (s : Store) (t c : ℕ) (f : Option ℕ) → new_function (object s c) ≡ f → Sized s → c < object_limit → SamePending s (start_by go s t c f).store
+  unfolding start_by
   start-pending s t c none e z l = failed-pending s t Error.CoroutineReuse z
   start-pending s t c (some f) e z l =
       pending-then (put_pending s c (Object.Coroutine f CoroutineState.Running) z l (new_no (object s c) f e) (coroutine_no f)) (run-pending _ t (start c f))
 
-  state-pending : (s : Store) (t : ℕ) (x : TaskState) → Sized s → SamePending s (activate-state go s t x).store
-  unfolding activate-state start-task
+  state-pending : (s : Store) (t : ℕ) (x : TaskState) → Sized s → SamePending s (activate_state go s t x).store
+  unfolding activate_state start_task
   state-pending s t TaskState.Absent z = yield-pending s
   state-pending s t TaskState.Unstarted z =
       start-pending s t (task s t).coroutine.0 (new_function (object s (task s t).coroutine.0)) refl z (task-fits s t).coroutine-fits
@@ -203,7 +203,7 @@ activate-pending s t z l = within_pending _ s t z l
 -- ---- the whole await
 
 -- a task that blocks, and another that runs
-block_pending : (s : Store) (t o : ℕ) → Sized s → SamePending s (resume-next activate (add_log (set_state s t (TaskState.Blocked (heap_id o))) (blocked t))).store
+block_pending : (s : Store) (t o : ℕ) → Sized s → SamePending s (resume_next activate (add_log (set_state s t (TaskState.Blocked (heap_id o))) (blocked t))).store
 block_pending s t o z =
     let u : Store = add_log (set_state s t (TaskState.Blocked (heap_id o))) (blocked t) in
     let same : u.objects ≡ s.objects = unfold add_log set_state put_task in refl in

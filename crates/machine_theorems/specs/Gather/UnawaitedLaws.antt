@@ -11,7 +11,7 @@ use Rattle.asyncio.specs.declared.GatherState.{GatherState}
 use Rattle.machine.specs.Store.{Store, task, object, put_object, add_log, exited}
 use Rattle.machine.specs.Scheduler.{as_awaited, remove_task}
 use Rattle.machine.specs.Delivery.{nobody_woken, climb, resolve_child, resolve_awaited, fail_gather, fail_awaited, send_value, send_error, deliver_awaiter_success, deliver_awaiter_failure}
-use Rattle.machine.specs.Events.{completed, resume-after-task-exit, handle_task_completion, activate}
+use Rattle.machine.specs.Events.{completed, resume_after_task_exit, handle_task_completion, activate}
 
 -- a gather that failed is awaited no more
 pub failed-not-awaited : (x : Object) (f n : ℕ) (e : Error) → x ≡ Object.GatherFuture f n (GatherState.Failed e) → as_awaited x ≡ none
@@ -39,6 +39,6 @@ left_by s t =
 -- A task completes whose gather is awaited no more: its coroutine is completed and the task goes as at any end, nobody is woken, and the
 -- next that is ready runs.
 pub unawaited_completes : (s : Store) (t : ℕ) (v : Value) (g source : HeapId) → (task s t).awaiter ≡ Awaiter.GatherSlot g source
-    → as_awaited (object (left_by s t) g.0) ≡ none → handle_task_completion s t v ≡ resume-after-task-exit activate (nobody_woken (left_by s t))
+    → as_awaited (object (left_by s t) g.0) ≡ none → handle_task_completion s t v ≡ resume_after_task_exit activate (nobody_woken (left_by s t))
 unfolding handle_task_completion deliver_awaiter_success send_value resolve_child resolve_awaited climb
 unawaited_completes s t v g source a h = rw (a, h) refl

@@ -46,15 +46,15 @@ use Rattle.machine_laws.specs.DeliveryLaws.{absurd_some, awaited-object, first_b
 use Rattle.machine_theorems.specs.Soundness.Stores.{Kept, Runs, SoundDuring, SoundStore}
 use Rattle.machine_theorems.specs.Soundness.Deliver.{Detached}
 use Rattle.machine_theorems.specs.Bounds.Bits.{none-set}
-use Rattle.machine_theorems.specs.Soundness.Fill.{all-filled}
+use Rattle.machine_theorems.specs.Soundness.Fill.{all_filled}
 use Rattle.machine_theorems.specs.Soundness.Cycle.{Spawned, spawned_of, coroutine-is}
-use Rattle.machine_theorems.specs.Soundness.Exits.{is_run_state, runner-low, runner-runs}
+use Rattle.machine_theorems.specs.Soundness.Exits.{is_run_state, runner_low, runner-runs}
 use Rattle.machine_theorems.specs.Soundness.CommitInv.{OnStack, Stacked, bottom, above, stacked_object, Inv}
 use Rattle.machine_theorems.specs.Soundness.CommitLoop.{rest-done}
 
 -- ---- who is activated
 
--- the states that `activate-state` starts or runs; of a task in any other state the host gets control, where the Rust panics
+-- the states that `activate_state` starts or runs; of a task in any other state the host gets control, where the Rust panics
 pub data Activated : TaskState → Type 0 where
   starts : Activated TaskState.Unstarted
   goes_on : (v : Value) → Activated (TaskState.Woken v)
@@ -71,24 +71,24 @@ ready_activated (TaskState.Blocked o) h = absurd h
 
 module _ {k : ℕ} {P Q : ℕ → Type 0} {v : View} (h : SoundBut k P Q v) where
   -- scheduler.rs:197, 312: so is every entry of the queue, which is a task in use
-  pub entry-activated : (i : ℕ) → i < length v.queue → (get_or v.queue i 0 < v.header.next) × Activated (v.tasks (get_or v.queue i 0)).state
+  pub entry_activated : (i : ℕ) → i < length v.queue → (get_or v.queue i 0 < v.header.next) × Activated (v.tasks (get_or v.queue i 0)).state
   unfolding entry_ready
-  entry-activated i l =
+  entry_activated i l =
       let e = h.entries i l in
       let t : ℕ = get_or v.queue i 0 in
       (ltb→lt t v.header.next (both_left _ _ e), ready_activated (v.tasks t).state (both_left _ _ (both_right (ltb t v.header.next) _ e)))
 
   -- async_exec.rs:476, 627 (X1): main is never unstarted
-  pub main-started : (v.tasks 0).state ≡ TaskState.Unstarted → ⊥
+  pub main_started : (v.tasks 0).state ≡ TaskState.Unstarted → ⊥
   unfolding task_in_range
-  main-started e = subst (λ (y : TaskState). T (not (is_unstarted y))) e (both_left _ _ (h.tasks 0 h.main))
+  main_started e = subst (λ (y : TaskState). T (not (is_unstarted y))) e (both_left _ _ (h.tasks 0 h.main))
 
   -- async_exec.rs:476, 627: so a task that is started is a spawned one
   pub started-spawned : (t : ℕ) → (v.tasks t).state ≡ TaskState.Unstarted → (u : ℕ) × (t ≡ suc u)
-  started-spawned zero e = absurd (main-started e)
+  started-spawned zero e = absurd (main_started e)
   started-spawned (suc u) e = (u, refl)
 
--- scheduler.rs:197, 312: the task that `resume-next` takes from the queue's front
+-- scheduler.rs:197, 312: the task that `resume_next` takes from the queue's front
 pub front_activated : {k : ℕ} {P Q : ℕ → Type 0} (s : Store) → Kept k P Q s → eqb s.queue.len 0 ≡ false
     → ((front_of s.queue).0 < (header s).next) × Activated (task s (front_of s.queue).0).state
 unfolding view
@@ -100,7 +100,7 @@ front_activated s h ne = by (entries s.queue) refl
     by : (us : List ℕ) → entries s.queue ≡ us → ((front_of s.queue).0 < (header s).next) × Activated (task s (front_of s.queue).0).state
     by [] e = absurd (eqb-false s.queue.len 0 ne (sym (length-entries s.queue h.memory.ids len) ∙ ap length e))
     by (u ∷ us) e =
-        let first = entry-activated h.but 0 (subst (λ (q : List ℕ). 0 < length q) (sym e) (omega arith)) in
+        let first = entry_activated h.but 0 (subst (λ (q : List ℕ). 0 < length q) (sym e) (omega arith)) in
         let here : get_or (entries s.queue) 0 0 ≡ u = ap (λ (q : List ℕ). get_or q 0 0) e in
         let low : u < (header s).next = subst (λ (t : ℕ). t < (header s).next) here first.0 in
         let front : front_of s.queue ≡ task_id u = front_entry s.queue u us e (omega (arith, low, h.but.fits.next_fits)) in
@@ -128,7 +128,7 @@ unfolding is_run
 current_task s h e = by (header s).moment refl
   where
     by : (m : Moment) → (header s).moment ≡ m → Current s
-    by (Moment.Running t) q = record { number = t.0; moment = q; in_use = runner-low s t.0 h q; state = runner-runs s t.0 h q }
+    by (Moment.Running t) q = record { number = t.0; moment = q; in_use = runner_low s t.0 h q; state = runner-runs s t.0 h q }
     by Moment.Waiting q = absurd (subst T (sym e ∙ ap is_run q) tt)
     by Moment.Ended q = absurd (subst T (sym e ∙ ap is_run q) tt)
 
@@ -160,9 +160,9 @@ module _ {k : ℕ} {P Q : ℕ → Type 0} {v : View} (h : SoundBut k P Q v) wher
   -- ---- items
 
   -- async_exec.rs:278: what is made is one of the three sorts
-  pub made-awaitable : (o : ℕ) → o < v.header.made → v.objects o ≡ Object.Unmade → ⊥
+  pub made_awaitable : (o : ℕ) → o < v.header.made → v.objects o ≡ Object.Unmade → ⊥
   unfolding object_in_range
-  made-awaitable o l e = subst (λ (y : Object). T (object_in_range v.header (places_below v.objects o) y)) e (h.objects o l)
+  made_awaitable o l e = subst (λ (y : Object). T (object_in_range v.header (places_below v.objects o) y)) e (h.objects o l)
 
   -- async_exec.rs:231, 278: an item is lower than its gather
   pub item-lower : (g f n : ℕ) (x : GatherState) → g < v.header.made → v.objects g ≡ Object.GatherFuture f n x → (i : ℕ) → i < n → (v.places (f + i)).item.0 < g
@@ -170,9 +170,9 @@ module _ {k : ℕ} {P Q : ℕ → Type 0} {v : View} (h : SoundBut k P Q v) wher
   item-lower g f n x l e i m = ltb→lt _ g (below n _ (subst (λ (y : Object). T (items_below v.places g y)) e (h.items g l)) i m)
 
   -- async_exec.rs:278: so it is made, and `item_object` never meets an object that is not
-  pub item-awaitable : (g f n : ℕ) (x : GatherState) → g < v.header.made → v.objects g ≡ Object.GatherFuture f n x → (i : ℕ) → i < n
+  pub item_awaitable : (g f n : ℕ) (x : GatherState) → g < v.header.made → v.objects g ≡ Object.GatherFuture f n x → (i : ℕ) → i < n
       → v.objects (v.places (f + i)).item.0 ≡ Object.Unmade → ⊥
-  item-awaitable g f n x l e i m = made-awaitable (v.places (f + i)).item.0 (omega (arith, item-lower g f n x l e i m))
+  item_awaitable g f n x l e i m = made_awaitable (v.places (f + i)).item.0 (omega (arith, item-lower g f n x l e i m))
 
   -- async_exec.rs:231, 282, 984, 1099: a place of a gather is one of those used
   pub place-used : (g f n : ℕ) (x : GatherState) → g < v.header.made → v.objects g ≡ Object.GatherFuture f n x → (i : ℕ) → i < n → f + i < v.header.used
@@ -188,10 +188,10 @@ module _ {k : ℕ} {P Q : ℕ → Type 0} {v : View} (h : SoundBut k P Q v) wher
   -- ---- results
 
   -- async_exec.rs:308, 1127: the places of an awaited gather that are not open are filled
-  pub closed-filled : (g : ℕ) (w : AwaitedGather) → g < v.header.made → (Q g → ⊥) → as_awaited (v.objects g) ≡ some w
+  pub closed_filled : (g : ℕ) (w : AwaitedGather) → g < v.header.made → (Q g → ⊥) → as_awaited (v.objects g) ≡ some w
       → (i : ℕ) → i < w.count → bit w.open-places i ≡ false → T (is_filled (v.places (w.first + i)).result)
   unfolding object_filled gather_filled rest_filled
-  closed-filled g w l n e i m c =
+  closed_filled g w l n e i m c =
       or_use (bit w.open-places i) _ c
       (below w.count (λ j. bit w.open-places j || is_filled (v.places (w.first + j)).result)
       (both_right (not (eqb w.open-places 0)) _ (subst (λ (y : Object). T (object_filled v.places y)) (awaited-object (v.objects g) w e) (h.filled g l n))) i m)
@@ -219,7 +219,7 @@ pub delivered-filled : {r : ℕ → Bool} {D : ℕ → Type 0} {hd : Header} (s 
     → as_awaited (object s g) ≡ some w → T (value_known (header s).made (object s) v)
     → (fill_from s.places w.open-places w.first x v 0 w.count).open-places ≡ 0
     → (i : ℕ) → i < w.count → T (is_filled (place_at (fill_from s.places w.open-places w.first x v 0 w.count).places (w.first + i)).result)
-delivered-filled s g x v w h l e k z = all_of_rest _ w.first w.count _ z (all-filled s g x v w h l e k).rest
+delivered-filled s g x v w h l e k z = all_of_rest _ w.first w.count _ z (all_filled s g x v w h l e k).rest
 
 -- ---- the gathers of a commit
 
@@ -278,14 +278,14 @@ slot_registered {ps = ps} h w e = subst (Open ps w) (sym h.own) (h.opens w e)
 
 module _ {k : ℕ} {P Q : ℕ → Type 0} {v : View} (h : SoundBut k P Q v) where
   -- async_exec.rs:763, 784, 1074, 1084: of the slot of a pending external or an awaited gather
-  pub object-slotted : (o : ℕ) → o < v.header.made → (Q o → ⊥) → (g x : ℕ) → awaiter_of (v.objects o) ≡ Awaiter.GatherSlot (heap_id g) (heap_id x)
+  pub object_slotted : (o : ℕ) → o < v.header.made → (Q o → ⊥) → (g x : ℕ) → awaiter_of (v.objects o) ≡ Awaiter.GatherSlot (heap_id g) (heap_id x)
       → Slotted v.header.made v.objects v.places o g x
-  object-slotted = h.object-slots
+  object_slotted = h.object-slots
 
   -- and of a live task
-  pub task-slotted : (t : ℕ) → t < v.header.next → T (is_live (v.tasks t).state) → (g x : ℕ) → (v.tasks t).awaiter ≡ Awaiter.GatherSlot (heap_id g) (heap_id x)
+  pub task_slotted : (t : ℕ) → t < v.header.next → T (is_live (v.tasks t).state) → (g x : ℕ) → (v.tasks t).awaiter ≡ Awaiter.GatherSlot (heap_id g) (heap_id x)
       → Slotted v.header.made v.objects v.places (v.tasks t).coroutine.0 g x
-  task-slotted = h.task-slots
+  task_slotted = h.task-slots
 
 -- and of what is on its way up the gathers, when its object has it no more
 pub detached_slotted : {v : View} {o : ℕ} {a : Awaiter} → Detached v o a → (g x : ℕ) → a ≡ Awaiter.GatherSlot (heap_id g) (heap_id x)

@@ -19,7 +19,7 @@ use Rattle.machine_theorems.specs.Soundness.Fill.{gather_within}
 use Rattle.machine_theorems.specs.Soundness.FillLaws.{hit, Fills, fill_fills}
 use Rattle.machine_theorems.specs.Soundness.CommitInv.{Stacked, above, stacked_object, Inv}
 use Rattle.machine_theorems.specs.Soundness.CommitItems.{AtNested}
-use Rattle.machine_theorems.specs.Panics.NoPanicLaws.{top_gather, item-awaitable, slot_registered}
+use Rattle.machine_theorems.specs.Panics.NoPanicLaws.{top_gather, item_awaitable, slot_registered}
 
 -- ---- in a commit
 
@@ -30,7 +30,7 @@ opened_gather h = h.is_new
 -- async_exec.rs:231, 278: the item that is stepped next is made
 pub stepped_awaitable : {root t e : ℕ} {Q : ℕ → Type 0} {v : View} {g i : ℕ} {fs : List Frame} (h : Inv root t e Q v g i fs) → i < h.w.count
     → v.objects (v.places (h.w.first + i)).item.0 ≡ Object.Unmade → ⊥
-stepped_awaitable {g = g} {i = i} h l = item-awaitable h.but g h.w.first h.w.count _ h.opened.made (top_gather h) i l
+stepped_awaitable {g = g} {i = i} h l = item_awaitable h.but g h.w.first h.w.count _ h.opened.made (top_gather h) i l
 
 -- the frame of a gather that is awaited, and its next place is one of the gather's
 pub record Resumable (os : ℕ → Object) (f : Frame) : Type 0 where

@@ -28,16 +28,16 @@ use Rattle.machine.specs.Events.{activate, stays, go_on, await_coroutine, await_
 use Rattle.machine.specs.Sound.{awaiter_in_range, object_in_range, committed_places, items_below, object_values, state_values, object_filled, runs_now}
 use Rattle.machine_laws.specs.Views.{update, with_object}
 use Rattle.machine_laws.specs.Facts.{Slotted, Nothing}
-use Rattle.machine_laws.specs.StoreLaws.{update-case, task-fits, object-fits, object_put-object, header_put-object, view-put_object}
+use Rattle.machine_laws.specs.StoreLaws.{update_case, task-fits, object-fits, object_put-object, header_put-object, view-put_object}
 use Rattle.machine_laws.specs.DeliveryLaws.{absurd_some, pending-object}
 use Rattle.machine_laws.specs.MakingLaws.{nobody-task}
 use Rattle.machine_theorems.specs.Soundness.ReadyTasks.{not-queued, queued-same}
 use Rattle.machine_theorems.specs.Soundness.PutObject.{Fits}
 use Rattle.machine_theorems.specs.Soundness.PutTask.{with_task_queue, Closes, TaskWrite}
-use Rattle.machine_theorems.specs.Soundness.Stores.{Kept, Runs, idle, SoundDuring, SoundStore, object-kept, task-kept, view-task-queue, add-log-during, object-during, during_of, sound_store_during}
+use Rattle.machine_theorems.specs.Soundness.Stores.{Kept, Runs, idle, SoundDuring, SoundStore, object-kept, task-kept, view-task_queue, add_log-during, object-during, during_of, sound_store_during}
 use Rattle.machine_theorems.specs.Soundness.Deliver.{restated_in_range, restated_fits}
-use Rattle.machine_theorems.specs.Soundness.Cycle.{coroutine-fits, next-keeps, activate-keeps}
-use Rattle.machine_theorems.specs.Soundness.Exits.{runner-low, runner-runs, others-commits-none, commits-none-on}
+use Rattle.machine_theorems.specs.Soundness.Cycle.{coroutine-fits, next_keeps, activate_keeps}
+use Rattle.machine_theorems.specs.Soundness.Exits.{runner_low, runner-runs, others_commits_none, commits_none-on}
 
 -- ---- the awaiting task blocks
 
@@ -83,24 +83,24 @@ module _ (s : Store) (t o : ℕ) (r : ℕ → Bool) (low : t < (header s).next) 
       closed p (yes q) = inr (subst (Closes (view s) t) (sym q) c)
       closed p (no d) = inl d
 
-  pub block-keeps : {D : ℕ → Type 0} {hd : Header} → ((u : ℕ) → (u ≡ t → ⊥) → r u ≡ false) → Runs r (view s) → ((p : ℕ) → D p → T (is_completed (kind (object s p))))
+  pub block_keeps : {D : ℕ → Type 0} {hd : Header} → ((u : ℕ) → (u ≡ t → ⊥) → r u ≡ false) → Runs r (view s) → ((p : ℕ) → D p → T (is_completed (kind (object s p))))
       → header s ≡ hd → SoundDuring Nothing idle D hd (add_log (set_state s t (TaskState.Blocked (heap_id o))) (blocked t))
   unfolding set_state put_task put_queue
-  block-keeps {D} {hd} still rn dn head = add-log-during (put_task s t row) during (blocked t)
+  block_keeps {D} {hd} still rn dn head = add_log-during (put_task s t row) during (blocked t)
     where
       room : t < task_limit
       room = unfold view in (omega (arith, low, h.but.fits.next_fits))
 
       now : Runs idle (with_task_queue (view s) t row (entries s.queue))
       now u l = unfold with_task_queue view restate in
-          (update-case (task s) t row (λ (y : Task). is_running y.state ≡ false) u (λ q. refl) (λ d. rn u l ∙ still u d))
+          (update_case (task s) t row (λ (y : Task). is_running y.state ≡ false) u (λ q. refl) (λ d. rn u l ∙ still u d))
 
       during : SoundDuring Nothing idle D hd (put_queue (put_task s t row) s.queue)
       during =
           record {
             kept = task-kept s h t row s.queue low (restated_fits (task s t) (TaskState.Blocked (heap_id o)) (task-fits s t) (unfold view in (omega (arith, made, h.but.fits.made-fits))))
                 h.memory.words_right.queue-short h.memory.ids block-fits;
-            runs = subst (Runs idle) (sym (view-task-queue s h t row s.queue room (restated_fits (task s t) (TaskState.Blocked (heap_id o)) (task-fits s t) (unfold view in (omega (arith, made, h.but.fits.made-fits)))))) now;
+            runs = subst (Runs idle) (sym (view-task_queue s h t row s.queue room (restated_fits (task s t) (TaskState.Blocked (heap_id o)) (task-fits s t) (unfold view in (omega (arith, made, h.but.fits.made-fits)))))) now;
             done = λ p d. unfold object put_task in (dn p d);
             head = unfold header put_task in head;
           }
@@ -150,12 +150,12 @@ module _ (s : Store) (t : ℕ) (h : SoundStore s) (m : (header s).moment ≡ Mom
     unfolding view
     fit =
         let old : ObjectFits (Object.ExternalFuture p.call (ExternalFutureState.Pending p.awaiter p.stored)) = subst ObjectFits (pending-object (object s o) p e) (object-fits s o) in
-        (old.0, (omega (arith, runner-low s t h m, h.facts.but.fits.next_fits), old.1.1))
+        (old.0, (omega (arith, runner_low s t h m, h.facts.but.fits.next_fits), old.1.1))
 
     fits : Fits 0 0 Nothing Nothing Nothing (λ q. q ≡ o) (view s) o x
     unfolding view awaiter_in_range
     fits =
-        takes-fits 0 Nothing (λ q. q ≡ o) (view s) o p (Awaiter.Task (task_id t)) l e free (lt→ltb t (header s).next (runner-low s t h m))
+        takes-fits 0 Nothing (λ q. q ≡ o) (view s) o p (Awaiter.Task (task_id t)) l e free (lt→ltb t (header s).next (runner_low s t h m))
         (λ n. absurd (n refl)) (λ n. absurd (n refl)) (λ q d n z. z)
 
     abbrev next : Store
@@ -183,32 +183,32 @@ module _ (s : Store) (t : ℕ) (h : SoundStore s) (m : (header s).moment ≡ Mom
           filled = subst (λ (y : Object). T (object_filled (view next).places y)) (sym row-o) (unfold object_filled in tt);
         }
 
-    pub wait-external : SoundDuring Nothing idle (λ o. T (is_completed (kind (object s o)))) (header s) (add_log (set_state next t (TaskState.Blocked (heap_id o))) (blocked t))
+    pub wait_external : SoundDuring Nothing idle (λ o. T (is_completed (kind (object s o)))) (header s) (add_log (set_state next t (TaskState.Blocked (heap_id o))) (blocked t))
     unfolding with_object view task put_object
-    wait-external =
-        block-keeps next t o (runs_now (header s).moment) (subst (λ (y : Header). t < y.next) (sym head) (runner-low s t h m)) (runner-runs s t h m)
-        (subst (λ (y : Header). o < y.made) (sym head) l) closes kept (others-commits-none s t h m)
+    wait_external =
+        block_keeps next t o (runs_now (header s).moment) (subst (λ (y : Header). t < y.next) (sym head) (runner_low s t h m)) (runner-runs s t h m)
+        (subst (λ (y : Header). o < y.made) (sym head) l) closes kept (others_commits_none s t h m)
         (subst (Runs (runs_now (header s).moment)) (sym there) (during_of s h).runs)
         (λ q d. subst (λ (v : View). T (is_completed (kind (v.objects q)))) (sym there)
-        (update-case (object s) o x (λ (y : Object). T (is_completed (kind y))) q (λ z. fits.completed (subst (λ (j : ℕ). T (is_completed (kind (object s j)))) z d)) (λ z. d)))
+        (update_case (object s) o x (λ (y : Object). T (is_completed (kind y))) q (λ z. fits.completed (subst (λ (j : ℕ). T (is_completed (kind (object s j)))) z d)) (λ z. d)))
         head
 
-  pub await-external-keeps : (o : ℕ) (c : CallId) (x : ExternalFutureState) → o < (header s).made → object s o ≡ Object.ExternalFuture c x
+  pub await_external_keeps : (o : ℕ) (c : CallId) (x : ExternalFutureState) → o < (header s).made → object s o ≡ Object.ExternalFuture c x
       → SoundStore (await_external_future s t o c x).store
   unfolding await_external_future go_on stays await_external await_pending as_pending
-  await-external-keeps o c (ExternalFutureState.Pending Awaiter.Nobody r) l e =
-      next-keeps (λ o. T (is_completed (kind (object s o)))) (header s) (commits-none-on s t h m) activate (activate-keeps _ (header s) (commits-none-on s t h m)) _
-      (wait-external o (record { call = c; awaiter = Awaiter.Nobody; stored = r }) l (ap as_pending e) refl)
-  await-external-keeps o c (ExternalFutureState.Pending (Awaiter.Task u) r) l e = h
-  await-external-keeps o c (ExternalFutureState.Pending (Awaiter.GatherSlot g y) r) l e = h
-  await-external-keeps o c (ExternalFutureState.Resolved v) l e = h
-  await-external-keeps o c (ExternalFutureState.Failed v) l e = h
+  await_external_keeps o c (ExternalFutureState.Pending Awaiter.Nobody r) l e =
+      next_keeps (λ o. T (is_completed (kind (object s o)))) (header s) (commits_none-on s t h m) activate (activate_keeps _ (header s) (commits_none-on s t h m)) _
+      (wait_external o (record { call = c; awaiter = Awaiter.Nobody; stored = r }) l (ap as_pending e) refl)
+  await_external_keeps o c (ExternalFutureState.Pending (Awaiter.Task u) r) l e = h
+  await_external_keeps o c (ExternalFutureState.Pending (Awaiter.GatherSlot g y) r) l e = h
+  await_external_keeps o c (ExternalFutureState.Resolved v) l e = h
+  await_external_keeps o c (ExternalFutureState.Failed v) l e = h
 
-  pub await-coroutine-keeps : (o f : ℕ) (x : CoroutineState) → o < (header s).made → object s o ≡ Object.Coroutine f x → SoundStore (await_coroutine s t o f x).store
+  pub await_coroutine_keeps : (o f : ℕ) (x : CoroutineState) → o < (header s).made → object s o ≡ Object.Coroutine f x → SoundStore (await_coroutine s t o f x).store
   unfolding await_coroutine stays view
-  await-coroutine-keeps o f CoroutineState.New l e =
+  await_coroutine_keeps o f CoroutineState.New l e =
       sound_store_during (put_object s o (Object.Coroutine f CoroutineState.Running)) h.facts.runner
       (object-during s (during_of s h) o (Object.Coroutine f CoroutineState.Running) (subst ObjectFits e (object-fits s o))
       (coroutine-fits (view s) o f CoroutineState.New CoroutineState.Running l e))
-  await-coroutine-keeps o f CoroutineState.Running l e = h
-  await-coroutine-keeps o f CoroutineState.Completed l e = h
+  await_coroutine_keeps o f CoroutineState.Running l e = h
+  await_coroutine_keeps o f CoroutineState.Completed l e = h

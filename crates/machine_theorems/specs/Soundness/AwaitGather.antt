@@ -36,7 +36,7 @@ use Rattle.machine_theorems.specs.Soundness.Deliver.{awaiter_is, Done}
 use Rattle.machine_theorems.specs.Soundness.Fill.{completed-done}
 use Rattle.machine_theorems.specs.Soundness.Memory.{Memory, memory_object}
 use Rattle.machine_theorems.specs.Soundness.CommitSteps.{park}
-use Rattle.machine_theorems.specs.Soundness.CommitInv.{OnTop, Stacked, bottom, Inv, lessen, nest_step, After, settle-memory, settle-top}
+use Rattle.machine_theorems.specs.Soundness.CommitInv.{OnTop, Stacked, bottom, Inv, lessen, nest_step, After, settle_memory, settle_top}
 use Rattle.asyncio.specs.declared.TaskState.{TaskState}
 use Rattle.asyncio.specs.declared.Moment.{Moment}
 use Rattle.machine.specs.Store.{set_state, blocked}
@@ -44,12 +44,12 @@ use Rattle.machine.specs.Commit.{commit_gather_tree}
 use Rattle.machine.specs.Events.{activate, stays, go_on, await_gather, await_object, exec_get_awaitable}
 use Rattle.machine.specs.Sound.{is_ended, runs_now, runner_in_range, places_below}
 use Rattle.machine_theorems.specs.Soundness.Stores.{idle, SoundDuring, SoundStore}
-use Rattle.machine_theorems.specs.Soundness.Cycle.{next-keeps, activate-keeps}
-use Rattle.machine_theorems.specs.Soundness.Exits.{is_run_state, runner-low}
-use Rattle.machine_theorems.specs.Soundness.Await.{block-keeps, await-external-keeps, await-coroutine-keeps}
+use Rattle.machine_theorems.specs.Soundness.Cycle.{next_keeps, activate_keeps}
+use Rattle.machine_theorems.specs.Soundness.Exits.{is_run_state, runner_low}
+use Rattle.machine_theorems.specs.Soundness.Await.{block_keeps, await_external_keeps, await_coroutine_keeps}
 use Rattle.machine_theorems.specs.Soundness.CommitInv.{open_fits}
-use Rattle.machine_theorems.specs.Soundness.PutObject.{object-keeps}
-use Rattle.machine_theorems.specs.Soundness.CommitLoop.{Ends, unwind_keeps, rest-done, Commits, settle-next}
+use Rattle.machine_theorems.specs.Soundness.PutObject.{object_keeps}
+use Rattle.machine_theorems.specs.Soundness.CommitLoop.{Ends, unwind_keeps, rest-done, Commits, settle_next}
 use Rattle.machine_theorems.specs.Soundness.CommitItems.{AtNested, AtError, StopOk, inv_count, items_keep}
 
 -- ---- the end of a commit: an answer for the task that awaits, or it is to block
@@ -105,8 +105,8 @@ root_keeps root t s g i mem h end =
         let d : Done (place s) w.first w.count GatherState.Completed =
         completed-done (place s) w.first w.count (subst (λ (m : ℕ). T (rest_filled (place s) w.first w.count m)) (eqb-true w.open-places 0 q) rest_of) in
         record {
-          memory = settle-memory s root t 0 h.k g w [] GatherState.Completed d tt mem h.opened.made h.opened.awaited;
-          after = settle-top s root t 0 h.k g w [] GatherState.Completed d tt mem h.opened.made h.opened.awaited h.stack (after_of root t 0 (OnTop g []) (view s) g i [] h);
+          memory = settle_memory s root t 0 h.k g w [] GatherState.Completed d tt mem h.opened.made h.opened.awaited;
+          after = settle_top s root t 0 h.k g w [] GatherState.Completed d tt mem h.opened.made h.opened.awaited h.stack (after_of root t 0 (OnTop g []) (view s) g i [] h);
         }
     by false q =
         let a : After t 0 (OnTop g []) (view s) = after_of root t 0 (OnTop g []) (view s) g i [] h in
@@ -165,7 +165,7 @@ turn_keeps root t loop go f fs n j k (at_nested s i o) h =
 turn_keeps root t loop go f fs n j k (at_error s e) h = error_keeps root t f fs s e h
 turn_keeps root t loop go f [] n j k (at_end s) h = root_keeps root t s f.gather h.i h.memory h.inv h.end
 turn_keeps root t loop go f (p ∷ ps) n j k (at_end s) h =
-    go _ (record { gather = p.gather; next = p.next + 1 }) ps _ _ _ (settle-next root t s f.gather h.i p ps h.memory h.inv h.end)
+    go _ (record { gather = p.gather; next = p.next + 1 }) ps _ _ _ (settle_next root t s f.gather h.i p ps h.memory h.inv h.end)
 
 -- the items of the frame on top
 pub frame-stops : (root t : ℕ) (s : Store) (f : Frame) (fs : List Frame) → Commits root t f.gather f.next fs s → StopOk root t f.gather fs (step_gather_commit s f)
@@ -195,10 +195,10 @@ module _ (o t : ℕ) (x : Store) (a : BlocksOn o t x) where
   unfolding view runs_now
   waits-runs = is_run_state (task x t).state (af.runs t low ∙ eq-eqb t t refl)
 
-  pub waits-blocks : SoundDuring Nothing idle Nothing (header x) (add_log (set_state x t (TaskState.Blocked (heap_id o))) (blocked t))
+  pub waits_blocks : SoundDuring Nothing idle Nothing (header x) (add_log (set_state x t (TaskState.Blocked (heap_id o))) (blocked t))
   unfolding runs_now
-  waits-blocks =
-      block-keeps x t o (runs_now (Moment.Running (task_id t))) low waits-runs a.made a.closes
+  waits_blocks =
+      block_keeps x t o (runs_now (Moment.Running (task_id t))) low waits-runs a.made a.closes
       (record { memory = a.ends.memory; but = af.but }) (λ u d. ne_eqb t u (λ q. d (sym q))) af.runs
       (λ p d. absurd d) refl
 
@@ -218,7 +218,7 @@ module _ (s : Store) (t : ℕ) (h : SoundStore s) (m : (header s).moment ≡ Mom
       x = Object.GatherFuture f n (GatherState.Awaited (Awaiter.Task (task_id t)) 0)
 
       low : t < (header s).next
-      low = runner-low s t h m
+      low = runner_low s t h m
 
       old : ObjectFits (Object.GatherFuture f n GatherState.Pending)
       old = subst ObjectFits q (object-fits s g)
@@ -230,7 +230,7 @@ module _ (s : Store) (t : ℕ) (h : SoundStore s) (m : (header s).moment ≡ Mom
       fits = open_fits 0 Nothing (OnTop g []) (view s) g f n (Awaiter.Task (task_id t)) l q (lt→ltb t (header s).next low) (inl refl) (λ p n z. z)
 
       kept : SoundBut ((n - 0) + 0) Nothing (OnTop g []) (with_object (view s) g x)
-      kept = object-keeps 0 ((n - 0) + 0) Nothing Nothing Nothing (OnTop g []) (view s) g x fits h.facts.but
+      kept = object_keeps 0 ((n - 0) + 0) Nothing Nothing Nothing (OnTop g []) (view s) g x fits h.facts.but
 
       start : Inv g t 0 (OnTop g []) (with_object (view s) g x) g 0 []
       start =
@@ -250,10 +250,10 @@ module _ (s : Store) (t : ℕ) (h : SoundStore s) (m : (header s).moment ≡ Mom
             moment = m;
           }
 
-  pub commit-keeps : (g f n : ℕ) → g < (header s).made → object s g ≡ Object.GatherFuture f n GatherState.Pending
+  pub commit_keeps : (g f n : ℕ) → g < (header s).made → object s g ≡ Object.GatherFuture f n GatherState.Pending
       → EndOk g t (commit_gather_tree s g (Awaiter.Task (task_id t))).store (commit_gather_tree s g (Awaiter.Task (task_id t))).poll
   unfolding commit_gather_tree
-  commit-keeps g f n l q = loop_keeps _ g t (open_gather_commit s g (Awaiter.Task (task_id t))) (record { gather = g; next = 0 }) [] 0 1 0 (commit_begins g f n l q)
+  commit_keeps g f n l q = loop_keeps _ g t (open_gather_commit s g (Awaiter.Task (task_id t))) (record { gather = g; next = 0 }) [] 0 1 0 (commit_begins g f n l q)
 
   ends-sound-store : (x : Store) → Ends t 0 Nothing x → SoundStore x
   unfolding view runner_in_range
@@ -272,7 +272,7 @@ module _ (s : Store) (t : ℕ) (h : SoundStore s) (m : (header s).moment ≡ Mom
   unfolding go_on stays view
   go-on-keeps o n x (ready v) a = ends-sound-store x a
   go-on-keeps o n x (raised e) a = ends-sound-store x a
-  go-on-keeps o n x pending a = next-keeps Nothing (header x) on activate (activate-keeps Nothing (header x) on) _ (waits-blocks o t x a)
+  go-on-keeps o n x pending a = next_keeps Nothing (header x) on activate (activate_keeps Nothing (header x) on) _ (waits_blocks o t x a)
     where
       on : is_ended (header x).moment ≡ false
       on = ap is_ended a.ends.after.moment ∙ (unfold is_ended in refl)
@@ -281,7 +281,7 @@ module _ (s : Store) (t : ℕ) (h : SoundStore s) (m : (header s).moment ≡ Mom
   await-gather-keeps : (o f n : ℕ) (x : GatherState) → o < (header s).made → object s o ≡ Object.GatherFuture f n x → SoundStore (await_gather s t o x).store
   unfolding await_gather stays
   await-gather-keeps o f n GatherState.Pending l e =
-      go-on-keeps o _ (commit_gather_tree s o (Awaiter.Task (task_id t))).store (commit_gather_tree s o (Awaiter.Task (task_id t))).poll (commit-keeps o f n l e)
+      go-on-keeps o _ (commit_gather_tree s o (Awaiter.Task (task_id t))).store (commit_gather_tree s o (Awaiter.Task (task_id t))).poll (commit_keeps o f n l e)
   await-gather-keeps o f n (GatherState.Awaited a k) l e = h
   await-gather-keeps o f n GatherState.Completed l e = h
   await-gather-keeps o f n (GatherState.Failed x) l e = h
@@ -291,12 +291,12 @@ module _ (s : Store) (t : ℕ) (h : SoundStore s) (m : (header s).moment ≡ Mom
   made-is o l e = subst (λ (y : Object). T (object_in_range (header s) (places_below (object s) o) y)) e (h.facts.but.objects o l)
 
   -- of whichever object
-  pub await-keeps : (o : ℕ) → o < (header s).made → SoundStore (exec_get_awaitable s t o).store
+  pub await_keeps : (o : ℕ) → o < (header s).made → SoundStore (exec_get_awaitable s t o).store
   unfolding exec_get_awaitable await_object
-  await-keeps o l = by (object s o) refl
+  await_keeps o l = by (object s o) refl
     where
       by : (x : Object) → object s o ≡ x → SoundStore (await_object s t o x).store
       by Object.Unmade e = absurd (made-is o l e)
-      by (Object.Coroutine f x) e = await-coroutine-keeps s t h m o f x l e
-      by (Object.ExternalFuture c x) e = await-external-keeps s t h m o c x l e
+      by (Object.Coroutine f x) e = await_coroutine_keeps s t h m o f x l e
+      by (Object.ExternalFuture c x) e = await_external_keeps s t h m o c x l e
       by (Object.GatherFuture f n x) e = await-gather-keeps o f n x l e

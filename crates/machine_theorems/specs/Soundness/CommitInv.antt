@@ -28,14 +28,14 @@ use Rattle.machine.specs.Sound.{awaiter_in_range, open_in_range, object_in_range
 use Rattle.machine_laws.specs.Views.{update, with_object, with_place, with_places}
 use Rattle.machine_laws.specs.Facts.{Open, Slotted, SoundBut, Nothing}
 use Rattle.machine_laws.specs.TestLaws.{or_second, both, both_left}
-use Rattle.machine_laws.specs.StoreLaws.{update_same, update_other, update-case, view-put_object}
+use Rattle.machine_laws.specs.StoreLaws.{update_same, update_other, update_case, view-put_object}
 use Rattle.machine_laws.specs.DeliveryLaws.{absurd_some, awaited-object, awaited-fits}
 use Rattle.machine_laws.specs.MakingLaws.{nobody-task}
 use Rattle.machine_theorems.specs.Soundness.ReadyTasks.{Queued}
-use Rattle.machine_theorems.specs.Soundness.PutObject.{Fits, object-keeps}
+use Rattle.machine_theorems.specs.Soundness.PutObject.{Fits, object_keeps}
 use Rattle.machine_theorems.specs.Soundness.PutTask.{but_keeps, PlacesWrite, places-keep}
 use Rattle.machine_theorems.specs.Soundness.Stores.{Runs}
-use Rattle.machine_theorems.specs.Soundness.SpawnTask.{spawned_row, spawn_view, spawn-keeps}
+use Rattle.machine_theorems.specs.Soundness.SpawnTask.{spawned_row, spawn_view, spawn_keeps}
 use Rattle.machine_theorems.specs.Soundness.Deliver.{task_slot, task-same, awaiter_is, Done}
 use Rattle.machine_theorems.specs.Soundness.Fill.{awaits_on, open_small}
 use Rattle.machine_theorems.specs.Soundness.Exits.{is_run_state}
@@ -120,7 +120,7 @@ module _ (root t : ℕ) (Q : ℕ → Type 0) (v : View) (g i : ℕ) (fs : List F
           before = λ j z. earlier j z (ℕ_discrete j i);
         };
         stack = stacked_object g (awaits_on w (wider w i)) (le_refl _) h.stack;
-        but = object-keeps (0 + ((w.count - i) + h.k)) (1 + ((w.count - (i + 1)) + h.k)) Nothing Q Nothing Q v g (awaits_on w (wider w i)) fits h.but;
+        but = object_keeps (0 + ((w.count - i) + h.k)) (1 + ((w.count - (i + 1)) + h.k)) Nothing Q Nothing Q v g (awaits_on w (wider w i)) fits h.but;
         runs = h.runs;
         low = h.low;
         moment = h.moment;
@@ -161,12 +161,12 @@ module _ (root t : ℕ) (Q : ℕ → Type 0) (v : View) (g i : ℕ) (fs : List F
     abbrev row : Place
     row = record { item = (v.places at).item; result = OptionValue.Some x }
 
-    pub fill-write : PlacesWrite v (update v.places at row)
-    fill-write =
+    pub fill_write : PlacesWrite v (update v.places at row)
+    fill_write =
         record {
-          item = λ p. update-case v.places at row (λ (y : Place). y.item ≡ (v.places p).item) p (λ q. ap (λ (j : ℕ). (v.places j).item) (sym q)) (λ d. refl);
-          filled = λ p s. update-case v.places at row (λ (y : Place). T (is_filled y.result)) p (λ q. unfold is_filled in tt) (λ d. s);
-          known = λ p s. update-case v.places at row (λ (y : Place). T (option_known v.header.made v.objects y.result)) p (λ q. unfold option_known in k) (λ d. s);
+          item = λ p. update_case v.places at row (λ (y : Place). y.item ≡ (v.places p).item) p (λ q. ap (λ (j : ℕ). (v.places j).item) (sym q)) (λ d. refl);
+          filled = λ p s. update_case v.places at row (λ (y : Place). T (is_filled y.result)) p (λ q. unfold is_filled in tt) (λ d. s);
+          known = λ p s. update_case v.places at row (λ (y : Place). T (option_known v.header.made v.objects y.result)) p (λ q. unfold option_known in k) (λ d. s);
         }
 
     pub fill_step : Inv root t 0 Q (with_place v at row) g (i + 1) fs
@@ -176,8 +176,8 @@ module _ (root t : ℕ) (Q : ℕ → Type 0) (v : View) (g i : ℕ) (fs : List F
           w = h.w;
           k = h.k;
           opened = record { made = h.opened.made; awaited = h.opened.awaited; under = omega arith; before = λ j z. earlier j z (ℕ_discrete j i) };
-          stack = stacked_places (update v.places at row) fill-write.item fill-write.filled h.stack;
-          but = lessen {k = 0 + ((h.w.count - i) + h.k)} (omega arith) (places-keep v (update v.places at row) fill-write h.but);
+          stack = stacked_places (update v.places at row) fill_write.item fill_write.filled h.stack;
+          but = lessen {k = 0 + ((h.w.count - i) + h.k)} (omega arith) (places-keep v (update v.places at row) fill_write h.but);
           runs = h.runs;
           low = h.low;
           moment = h.moment;
@@ -187,7 +187,7 @@ module _ (root t : ℕ) (Q : ℕ → Type 0) (v : View) (g i : ℕ) (fs : List F
         earlier j z (yes q) =
             or_second (bit h.w.open-places j) _ (subst (λ (m : ℕ). T (is_filled (update v.places at row (h.w.first + m)).result)) (sym q)
             (subst (λ (y : Place). T (is_filled y.result)) (sym (update_same v.places at row)) (unfold is_filled in tt)))
-        earlier j z (no d) = or_filled (bit h.w.open-places j) _ _ (fill-write.filled (h.w.first + j)) (h.opened.before j (omega arith))
+        earlier j z (no d) = or_filled (bit h.w.open-places j) _ _ (fill_write.filled (h.w.first + j)) (h.opened.before j (omega arith))
 
   -- a lower object is written
   pub lower-step : {e : ℕ} (h : Inv root t e Q v g i fs) (o : ℕ) (x : Object) → o < g → ((k : ℕ) → Fits k k Nothing Q Nothing Q v o x) → Inv root t e Q (with_object v o x) g i fs
@@ -203,7 +203,7 @@ module _ (root t : ℕ) (Q : ℕ → Type 0) (v : View) (g i : ℕ) (fs : List F
           before = h.opened.before;
         };
         stack = stacked_object o x (omega arith) h.stack;
-        but = object-keeps _ _ Nothing Q Nothing Q v o x (ft (e + ((h.w.count - i) + h.k))) h.but;
+        but = object_keeps _ _ Nothing Q Nothing Q v o x (ft (e + ((h.w.count - i) + h.k))) h.but;
         runs = h.runs;
         low = h.low;
         moment = h.moment;
@@ -222,8 +222,8 @@ module _ (root t : ℕ) (Q : ℕ → Type 0) (v : View) (g i : ℕ) (fs : List F
         k = h.k;
         opened = h.opened;
         stack = h.stack;
-        but = spawn-keeps (0 + ((h.w.count - i) + h.k)) Q v c g (subst (λ (m : ℕ). SoundBut m Nothing Q v) (omega arith) h.but) co l free room sl q queue;
-        runs = λ u z. update-case v.tasks v.header.next _ (λ (y : Task). is_running y.state ≡ runs_now (Moment.Running (task_id t)) u) u
+        but = spawn_keeps (0 + ((h.w.count - i) + h.k)) Q v c g (subst (λ (m : ℕ). SoundBut m Nothing Q v) (omega arith) h.but) co l free room sl q queue;
+        runs = λ u z. update_case v.tasks v.header.next _ (λ (y : Task). is_running y.state ≡ runs_now (Moment.Running (task_id t)) u) u
             (λ q. unfold runs_now in (sym (ne_eqb t u (λ e. not-suc-le-zero {n = 0} (omega (arith, h.low)))))) (λ d. h.runs u (omega arith));
         low = omega (arith, h.low);
         moment = h.moment;
@@ -286,7 +286,7 @@ module _ (root t : ℕ) (v : View) (g i : ℕ) (fs : List Frame) where
             })
             l nm lo refl (le_refl _) (stacked_object o x (omega arith) h.stack);
         but = lessen {k = (n - 0) + (0 + ((w.count - i) + h.k))} (omega arith)
-            (object-keeps (0 + ((w.count - i) + h.k)) ((n - 0) + (0 + ((w.count - i) + h.k))) Nothing (OnTop g fs) Nothing (OnTop o (frame ∷ fs)) v o x fits h.but);
+            (object_keeps (0 + ((w.count - i) + h.k)) ((n - 0) + (0 + ((w.count - i) + h.k))) Nothing (OnTop g fs) Nothing (OnTop o (frame ∷ fs)) v o x fits h.but);
         runs = h.runs;
         low = h.low;
         moment = h.moment;
@@ -337,13 +337,13 @@ module _ (s : Store) (root t k j g : ℕ) (w : AwaitedGather) (fs : List Frame) 
   unfolding x0
   fit = ((awaited-fits s g w e).0, f)
 
-  pub settle-memory : Memory (set_gather s g y)
+  pub settle_memory : Memory (set_gather s g y)
   unfolding set_gather x0
-  settle-memory = subst (λ (x : Object). Memory (put_object s g x)) (sym (with_state-is (object s g) w y e)) (memory_object s g x0 l fit m)
+  settle_memory = subst (λ (x : Object). Memory (put_object s g x)) (sym (with_state-is (object s g) w y e)) (memory_object s g x0 l fit m)
 
-  pub settle-top : Stacked (header s).made (object s) (place s) root t g w.awaiter fs j → After t k (OnTop g fs) (view s) → After t k (OnStack fs) (view (set_gather s g y))
+  pub settle_top : Stacked (header s).made (object s) (place s) root t g w.awaiter fs j → After t k (OnTop g fs) (view s) → After t k (OnStack fs) (view (set_gather s g y))
   unfolding set_gather view x0
-  settle-top st h =
+  settle_top st h =
       subst (λ (x : Object). After t k (OnStack fs) (view (put_object s g x))) (sym (with_state-is (object s g) w y e))
       (subst (After t k (OnStack fs)) (sym (view-put_object s g x0 m.sized (omega (arith, l, h.but.fits.made-fits)) fit)) after)
     where
@@ -363,4 +363,4 @@ module _ (s : Store) (root t k j g : ℕ) (w : AwaitedGather) (fs : List Frame) 
 
       after : After t k (OnStack fs) (with_object (view s) g x0)
       after = unfold with_object in
-          (record { but = object-keeps k k Nothing (OnTop g fs) Nothing (OnStack fs) (view s) g x0 fits h.but; runs = h.runs; low = h.low; moment = h.moment })
+          (record { but = object_keeps k k Nothing (OnTop g fs) Nothing (OnStack fs) (view s) g x0 fits h.but; runs = h.runs; low = h.low; moment = h.moment })

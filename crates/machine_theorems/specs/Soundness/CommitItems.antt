@@ -36,7 +36,7 @@ use Rattle.machine_laws.specs.Facts.{Open, Slotted, Nothing, WordsInRange}
 use Rattle.machine_laws.specs.TestLaws.{both, both_left, both_right, below}
 use Rattle.machine_laws.specs.StoreLaws.{update_same, update_other, sized-put_task, sized-put_header, sized-put_queue, object-fits, header-fits, header_put-object, object_put-object}
 use Rattle.machine_laws.specs.StoreLaws.{view-put_task, view-put_object, view-put_header}
-use Rattle.machine_laws.specs.WordLaws.{words-put-task, words-put-header, words-put-queue, words-add-log}
+use Rattle.machine_laws.specs.WordLaws.{words_put_task, words_put_header, words_put_queue, words_add_log}
 use Rattle.machine_laws.specs.SizedLaws.{sized-spawn_as}
 use Rattle.machine_laws.specs.DeliveryLaws.{absurd_some, awaited-object, pending-object}
 use Rattle.machine_theorems.specs.Soundness.ReadyTasks.{none-queued, queued-back}
@@ -144,28 +144,28 @@ module _ (s : Store) (c g : ℕ) (mem : Memory s) (room : (header s).next < task
   x : Store
   x = put_header u (one_more (header s))
 
-  pub spawn-store-view : view (spawn_as s t0 c g) ≡ spawn_view (view s) c g (entries (push_back s.queue t0))
+  pub spawn_store_view : view (spawn_as s t0 c g) ≡ spawn_view (view s) c g (entries (push_back s.queue t0))
   unfolding spawn_as add_log push_ready put_queue set_next view spawn_view with_header with_task task object place header put_task put_header u
-  spawn-store-view =
+  spawn_store_view =
       ap (λ (w : View). record { tasks = w.tasks; objects = w.objects; places = w.places; header = w.header; queue = entries (push_back s.queue t0) })
       (view-put_header u (one_more (header s)) u-sized more-fits ∙ ap (λ (v : View). with_header v (one_more (header s))) (view-put_task s t0 (spawned_row c g) mem.sized room row_fits))
 
   header-then : header (spawn_as s t0 c g) ≡ one_more (header s)
   unfolding view spawn_view
-  header-then = ap (λ (v : View). v.header) spawn-store-view
+  header-then = ap (λ (v : View). v.header) spawn_store_view
 
   words : WordsInRange (t0 + 1) (header s).made (header s).used (spawn_as s t0 c g)
   unfolding spawn_as add_log push_ready put_queue set_next header put_task put_header u x
   words =
-      words-add-log (t0 + 1) (header s).made (header s).used (put_queue x (push_back s.queue t0)) (sized-put_queue x (push_back s.queue t0) (sized-put_header u (one_more (header s)) u-sized))
-      (words-put-queue (t0 + 1) (header s).made (header s).used x (sized-put_header u (one_more (header s)) u-sized)
-      (words-put-header (t0 + 1) (header s).made (header s).used u u-sized
-      (words-put-task _ _ _ s mem.sized mem.words_right (t0 + 1) t0 (spawned_row c g) room row_fits (λ j m ne. omega arith))
+      words_add_log (t0 + 1) (header s).made (header s).used (put_queue x (push_back s.queue t0)) (sized-put_queue x (push_back s.queue t0) (sized-put_header u (one_more (header s)) u-sized))
+      (words_put_queue (t0 + 1) (header s).made (header s).used x (sized-put_header u (one_more (header s)) u-sized)
+      (words_put_header (t0 + 1) (header s).made (header s).used u u-sized
+      (words_put_task _ _ _ s mem.sized mem.words_right (t0 + 1) t0 (spawned_row c g) room row_fits (λ j m ne. omega arith))
       (one_more (header s)) more-fits)
       (push_back s.queue t0) (push_back-len s.queue t0 mem.words_right.queue-short)) (spawned t0 c)
 
-  pub spawn-memory : Memory (spawn_as s t0 c g)
-  spawn-memory =
+  pub spawn_memory : Memory (spawn_as s t0 c g)
+  spawn_memory =
       record {
         sized = sized-spawn_as s t0 c g mem.sized;
         ids = unfold spawn_as add_log push_ready put_queue set_next put_header put_task in (push_back-length s.queue t0 ∙ mem.ids);
@@ -350,7 +350,7 @@ module _ (root t g : ℕ) (fs : List Frame) (i : ℕ) (s : Store) (mem : Memory 
 
       spawned-ok : task_of s o ≡ none → (header s).next < task_limit → Ok (polled (polled_spawn s (some (spawn_as s (header s).next o g))))
       spawned-ok e room = unfold polled_spawn in
-          (opens_in s2 (spawn_view (view s) o g q1) (spawn-memory s o g mem room low-o low-g) (subst (λ (y : View). g < y.header.made) (sym there) (unfold spawn_view view in made)) there
+          (opens_in s2 (spawn_view (view s) o g q1) (spawn_memory s o g mem room low-o low-g) (subst (λ (y : View). g < y.header.made) (sym there) (unfold spawn_view view in made)) there
           (unfold spawn_view with_object in stepped))
         where
           low-o : o < object_limit
@@ -360,7 +360,7 @@ module _ (root t g : ℕ) (fs : List Frame) (i : ℕ) (s : Store) (mem : Memory 
           s2 = spawn_as s (header s).next o g
 
           there : view s2 ≡ spawn_view (view s) o g q1
-          there = spawn-store-view s o g mem room low-o low-g
+          there = spawn_store_view s o g mem room low-o low-g
 
           co : T (is_coroutine (kind (v1.objects o)))
           co = subst (λ (y : Object). T (is_coroutine (kind y))) (sym (v1-other o lower ∙ q)) (unfold kind in tt)
@@ -400,9 +400,9 @@ module _ (root t g : ℕ) (fs : List Frame) (i : ℕ) (s : Store) (mem : Memory 
       fills (Value.List (heap_id o)) (unfold value_known in (both _ _ (lt→ltb o (header s).made (omega (arith, lower, made))) (subst (λ (y : Object). T (is_completed (kind y))) (sym e) (unfold kind in tt))))
   item-keeps (Object.GatherFuture f m (GatherState.Failed x)) e = err x (subst ObjectFits e (object-fits s o)).1
 
-  pub one-keeps : Ok (item s g w o)
+  pub one_keeps : Ok (item s g w o)
   unfolding item
-  one-keeps = by (open_from (place s) w o 0 w.count)
+  one_keeps = by (open_from (place s) w o 0 w.count)
     where
       by : (b : Bool) → Ok (pick b (polled (gives s pending)) (item_object s g o (object s o)))
       by true = again
@@ -416,4 +416,4 @@ items_keep zero root t g i fs s mem h e = record { i = i; memory = mem; inv = h;
 items_keep (suc n) root t g i fs s mem h e =
     subst (λ (o : Option AwaitedGather). StopOk root t g fs (step_item g i s o (λ x. step_items n x g (i + 1)))) (sym h.opened.awaited)
     (put_ok root t g fs h.w i (place s (h.w.first + i)).item.0 s (λ x. step_items n x g (i + 1))
-    (λ x k. items_keep n root t g (i + 1) fs x k.memory k.inv (goes-length root t g i fs h.w.count n x e k)) _ (one-keeps root t g fs i s mem h (omega arith)))
+    (λ x k. items_keep n root t g (i + 1) fs x k.memory k.inv (goes-length root t g i fs h.w.count n x e k)) _ (one_keeps root t g fs i s mem h (omega arith)))

@@ -40,7 +40,7 @@ use Rattle.machine_theorems.specs.Soundness.Deliver.{task_slot, awaiter_is, Done
 use Rattle.machine_theorems.specs.Soundness.Fill.{gather_within, open_small, awaits_on, completed-done}
 use Rattle.machine_theorems.specs.Soundness.Memory.{Memory, memory_object, memory_place}
 use Rattle.machine_theorems.specs.Soundness.CommitSteps.{wider, wider_small, wider-opens, Parked, park, Opened}
-use Rattle.machine_theorems.specs.Soundness.CommitInv.{OnStack, OnTop, Stacked, above, stacked_object, Inv, lessen, relax, open_step, fill_step, After, with_state-is, settle-memory, settle-top}
+use Rattle.machine_theorems.specs.Soundness.CommitInv.{OnStack, OnTop, Stacked, above, stacked_object, Inv, lessen, relax, open_step, fill_step, After, with_state-is, settle_memory, settle_top}
 
 -- ---- rows that are written fit their words
 
@@ -81,14 +81,14 @@ unfolding unwind
 unwind_keeps [] s root t k j g i w e ok l q st h =
     let d = failed-done (place s) w.first w.count e in
     record {
-      memory = settle-memory s root t k j g w [] (GatherState.Failed e) d ok h.memory l q;
-      after = settle-top s root t k j g w [] (GatherState.Failed e) d ok h.memory l q st h.after;
+      memory = settle_memory s root t k j g w [] (GatherState.Failed e) d ok h.memory l q;
+      after = settle_top s root t k j g w [] (GatherState.Failed e) d ok h.memory l q st h.after;
     }
 unwind_keeps (f ∷ fs) s root t k j g i w e ok l q st h =
     by (stacked_set s g w (GatherState.Failed e) h.memory l q ((awaited-fits s g w q).0, ok) st)
     (record {
-      memory = settle-memory s root t k j g w (f ∷ fs) (GatherState.Failed e) (failed-done (place s) w.first w.count e) ok h.memory l q;
-      after = settle-top s root t k j g w (f ∷ fs) (GatherState.Failed e) (failed-done (place s) w.first w.count e) ok h.memory l q st h.after;
+      memory = settle_memory s root t k j g w (f ∷ fs) (GatherState.Failed e) (failed-done (place s) w.first w.count e) ok h.memory l q;
+      after = settle_top s root t k j g w (f ∷ fs) (GatherState.Failed e) (failed-done (place s) w.first w.count e) ok h.memory l q st h.after;
     })
     (λ j' w' l' q' st' h'. unwind_keeps fs (set_gather s g (GatherState.Failed e)) root t k j' f.gather f.next w' e ok l' q' st' h')
   where
@@ -173,10 +173,10 @@ module _ (root t : ℕ) (s : Store) (g i : ℕ) (p : Frame) (ps : List Frame) (m
       done = completed-done (place s) w.first w.count (subst (λ (m : ℕ). T (rest_filled (place s) w.first w.count m)) none_open rest_of)
 
       mem1 : Memory s1
-      mem1 = settle-memory s root t (0 + ((w.count - i) + h.k)) h.k g w (p ∷ ps) GatherState.Completed done tt mem made top
+      mem1 = settle_memory s root t (0 + ((w.count - i) + h.k)) h.k g w (p ∷ ps) GatherState.Completed done tt mem made top
 
       aft : After t (0 + ((w.count - i) + h.k)) (OnStack (p ∷ ps)) (view s1)
-      aft = settle-top s root t (0 + ((w.count - i) + h.k)) h.k g w (p ∷ ps) GatherState.Completed done tt mem made top h.stack
+      aft = settle_top s root t (0 + ((w.count - i) + h.k)) h.k g w (p ∷ ps) GatherState.Completed done tt mem made top h.stack
           (record { but = h.but; runs = h.runs; low = h.low; moment = h.moment })
 
       by : Stacked (header s1).made (object s1) (place s1) root t g w.awaiter (p ∷ ps) h.k → Next (resume_as p (gives s1 (ready (Value.List (heap_id g)))) (as_awaited (object s1 p.gather)))
@@ -305,9 +305,9 @@ module _ (root t : ℕ) (s : Store) (g i : ℕ) (p : Frame) (ps : List Frame) (m
                 moment = stepped.moment;
               }
 
-  pub settle-next : Next (resume_after_child p (settle_gather_commit s g))
+  pub settle_next : Next (resume_after_child p (settle_gather_commit s g))
   unfolding settle_gather_commit view s1
-  settle-next = subst (λ (o : Option AwaitedGather). Next (resume_after_child p (settle_as s g o))) (sym h.opened.awaited) (unfold settle_as in (by (eqb w.open-places 0) refl))
+  settle_next = subst (λ (o : Option AwaitedGather). Next (resume_after_child p (settle_as s g o))) (sym h.opened.awaited) (unfold settle_as in (by (eqb w.open-places 0) refl))
     where
       by : (b : Bool) → eqb w.open-places 0 ≡ b
           → Next (resume_after_child p (pick b (gives (set_gather s g GatherState.Completed) (ready (Value.List (heap_id g)))) (gives s pending)))

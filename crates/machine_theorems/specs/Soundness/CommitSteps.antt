@@ -18,7 +18,7 @@ use Rattle.machine_laws.specs.Facts.{Open, Slotted, SoundBut, Nothing}
 use Rattle.machine_laws.specs.TestLaws.{holds, both, both_left}
 use Rattle.machine_laws.specs.DeliveryLaws.{absurd_some, awaited-object}
 use Rattle.machine_laws.specs.MakingLaws.{nobody-task, nobody_slot}
-use Rattle.machine_theorems.specs.Bounds.Bits.{bit-set-other, bit-set-same, bit-set_small}
+use Rattle.machine_theorems.specs.Bounds.Bits.{bit-set-other, bit-set-same, bit_set_small}
 use Rattle.machine_theorems.specs.Soundness.PutObject.{Fits}
 use Rattle.machine_theorems.specs.Soundness.Deliver.{awaiter_is}
 
@@ -33,7 +33,7 @@ wider_small w i l s = by (bit w.open-places i) refl
   where
     by : (b : Bool) → bit w.open-places i ≡ b → pick b w.open-places (w.open-places + 2 ^ i) < 2 ^ w.count
     by true e = s
-    by false e = bit-set_small i w.count w.open-places l s e
+    by false e = bit_set_small i w.count w.open-places l s e
 
 pub wider-opens : (w : AwaitedGather) (i : ℕ) → bit (wider w i) i ≡ true
 unfolding wider

@@ -32,18 +32,18 @@ use Rattle.machine.specs.Tests.{implies}
 use Rattle.machine.specs.Store.{Store, View, view, task, object, header, put_task, put_object, put_queue, add_log, set_state, restate, absent, LogEntry, exited}
 use Rattle.machine.specs.Scheduler.{as_awaited, as_pending, blocked_on, remove_from_ready_queue, remove_task, live_count}
 use Rattle.machine.specs.Delivery.{Delivery, deliver_awaiter_failure}
-use Rattle.machine.specs.Events.{Switched, How, start, value, raises, run, yield, new_function, resume-next, resume-after-task-exit, handle-task-failure, start-by, start-task, activate-state, activate_within, activate}
+use Rattle.machine.specs.Events.{Switched, How, start, value, raises, run, yield, new_function, resume_next, resume_after_task_exit, handle_task_failure, start_by, start_task, activate_state, activate_within, activate}
 use Rattle.machine.specs.Sound.{awaiter_in_range, object_in_range, is_slot, task_in_range, committed_places, items_below, object_values, state_values, is_ended, object_filled, runs_now, runner_in_range}
 use Rattle.machine_laws.specs.Facts.{SoundBut, Nothing}
 use Rattle.machine_laws.specs.TestLaws.{both, both_left, both_right, implies_use}
-use Rattle.machine_laws.specs.StoreLaws.{update-case, task-fits, object-fits, header_put-object}
+use Rattle.machine_laws.specs.StoreLaws.{update_case, task-fits, object-fits, header_put-object}
 use Rattle.machine_laws.specs.DeliveryLaws.{absurd_some}
 use Rattle.machine_laws.specs.MakingLaws.{nobody-task, nobody_slot}
 use Rattle.machine_theorems.specs.Soundness.ReadyTasks.{Queued, to_queued, queued-same, queued_less, queued-remove, gone, was_there, head_gone}
 use Rattle.machine_theorems.specs.Soundness.PutObject.{Fits}
 use Rattle.machine_theorems.specs.Soundness.PutTask.{with_task_queue, TaskWrite}
-use Rattle.machine_theorems.specs.Soundness.Stores.{Runs, idle, SoundDuring, SoundStore, object-during, task-during, queue-during, add-log-during, moment_sound_store}
-use Rattle.machine_theorems.specs.Soundness.Deliver.{DeliveryEnds, Detached, take_off, restated_in_range, restated_fits, DeliveringError, failure-keeps}
+use Rattle.machine_theorems.specs.Soundness.Stores.{Runs, idle, SoundDuring, SoundStore, object-during, task-during, queue_during, add_log-during, moment_sound_store}
+use Rattle.machine_theorems.specs.Soundness.Deliver.{DeliveryEnds, Detached, take_off, restated_in_range, restated_fits, DeliveringError, failure_keeps}
 
 -- ---- a live spawned task
 
@@ -188,15 +188,15 @@ module _ {r : ℕ → Bool} {D : ℕ → Type 0} {hd : Header} (s : Store) (t : 
       }
 
   -- task t goes; who runs then is z
-  pub remove-keeps : (x : LogEntry) (z : ℕ → Bool) → z t ≡ false → ((u : ℕ) → (u ≡ t → ⊥) → r u ≡ z u) → SoundDuring Nothing z D hd (add_log (remove_task s t) x)
+  pub remove_keeps : (x : LogEntry) (z : ℕ → Bool) → z t ≡ false → ((u : ℕ) → (u ≡ t → ⊥) → r u ≡ z u) → SoundDuring Nothing z D hd (add_log (remove_task s t) x)
   unfolding remove_task remove_from_ready_queue put_task
-  remove-keeps x z zt rz =
-      add-log-during (put_queue (put_task s t absent) (remove s.queue t))
+  remove_keeps x z zt rz =
+      add_log-during (put_queue (put_task s t absent) (remove s.queue t))
       (task-during s h t absent (remove s.queue t) low absent-fits (remove-len s.queue t h.kept.memory.words_right.queue-short) (remove-length s.queue t ∙ h.kept.memory.ids)
       remove-fits now) x
     where
       now : Runs z (with_task_queue (view s) t absent (entries (remove s.queue t)))
-      now u l = unfold with_task_queue view in (update-case (task s) t absent (λ (y : Task). is_running y.state ≡ z u) u
+      now u l = unfold with_task_queue view in (update_case (task s) t absent (λ (y : Task). is_running y.state ≡ z u) u
           (λ q. unfold absent in (sym zt ∙ ap z (sym q))) (λ d. h.runs u l ∙ rz u d))
 
 -- ---- a ready task runs
@@ -224,14 +224,14 @@ module _ {D : ℕ → Type 0} {hd : Header} (s : Store) (t : ℕ) (h : SoundDuri
 
   run-runs : Runs (runs_now (Moment.Running (task_id t))) (with_task_queue (view s) t running (entries s.queue))
   unfolding with_task_queue runs_now view restate
-  run-runs u l = update-case (task s) t running (λ (y : Task). is_running y.state ≡ eqb t u) u (λ q. sym (eq-eqb t u (sym q))) (λ d. h.runs u l ∙ sym (ne_eqb t u (λ q. d (sym q))))
+  run-runs u l = update_case (task s) t running (λ (y : Task). is_running y.state ≡ eqb t u) u (λ q. sym (eq-eqb t u (sym q))) (λ d. h.runs u l ∙ sym (ne_eqb t u (λ q. d (sym q))))
 
   low-hd : t < hd.next
   low-hd = subst (λ (y : Header). t < y.next) h.head low
 
-  pub run-keeps : is_ended hd.moment ≡ false → (how : How) → SoundStore (run s t how).store
+  pub run_keeps : is_ended hd.moment ≡ false → (how : How) → SoundStore (run s t how).store
   unfolding run set_state put_task put_queue view runner_in_range
-  run-keeps on how =
+  run_keeps on how =
       moment_sound_store {D = D} {hd = hd} (set_state s t TaskState.Running) (Moment.Running (task_id t)) (omega (arith, low, h.kept.but.fits.next_fits))
       (lt→ltb t hd.next low-hd) (λ z. on)
       (task-during s h t running s.queue low (restated_fits (task s t) TaskState.Running (task-fits s t) tt) h.kept.memory.words_right.queue-short h.kept.memory.ids run_fits run-runs)
@@ -249,8 +249,8 @@ module _ (D : ℕ → Type 0) (hd : Header) (R : Switched → Switched → Type 
   pub next-by : (s : Store) → SoundDuring Nothing idle D hd s → R (yield s) (yield s)
       → ((q : ReadyQueue) (u : ℕ) → u < hd.next → occurrences (entries q) u ≡ 0 → T (is_ready (task s u).state) → SoundDuring Nothing idle D hd (put_queue s q)
       → R (act (put_queue s q) u) (other (put_queue s q) u))
-      → R (resume-next act s) (resume-next other s)
-  unfolding resume-next view
+      → R (resume_next act s) (resume_next other s)
+  unfolding resume_next view
   next-by s h y go = by (eqb s.queue.len 0) refl
     where
       q : ReadyQueue
@@ -270,7 +270,7 @@ module _ (D : ℕ → Type 0) (hd : Header) (R : Switched → Switched → Type 
           let front : front_of q ≡ task_id u = front_entry q u us e (omega (arith, first.0.0, h.kept.but.fits.next_fits)) in
           subst (λ (y : TaskId). Next y.0) (sym front)
           (go (pop_front q) u low (rw rest first.1) first.0.1
-          (queue-during s h (pop_front q) (pop_front-len q len) (pop_front-length q ∙ h.kept.memory.ids)
+          (queue_during s h (pop_front q) (pop_front-len q len) (pop_front-length q ∙ h.kept.memory.ids)
           (λ z. subst (Queued (header s).next (task s)) (sym rest) first.2)))
 
       at_least_one : (us : List ℕ) → entries q ≡ us → (q.len ≡ 0 → ⊥) → Next (front_of q).0
@@ -288,8 +288,8 @@ module _ (D : ℕ → Type 0) (hd : Header) (R : Switched → Switched → Type 
       → R (act (put_queue d.store q) u) (other (put_queue d.store q) u))
       → ((q : ReadyQueue) (u : ℕ) → d.woken ≡ some u → u < hd.next → occurrences (entries q) u ≡ 0 → SoundDuring Nothing idle D hd (put_queue d.store q)
       → R (act (put_queue d.store q) u) (other (put_queue d.store q) u))
-      → R (resume-after-task-exit act d) (resume-after-task-exit other d)
-  unfolding resume-after-task-exit remove_from_ready_queue
+      → R (resume_after_task_exit act d) (resume_after_task_exit other d)
+  unfolding resume_after_task_exit remove_from_ready_queue
   exit_by d h y next woke = by d.woken refl
     where
       s : Store
@@ -299,15 +299,15 @@ module _ (D : ℕ → Type 0) (hd : Header) (R : Switched → Switched → Type 
       len = h.during.kept.memory.words_right.queue-short
 
       by : (w : Option ℕ) → d.woken ≡ w
-          → R (elim w [ none ↦ resume-next act d.store | some t ↦ act (remove_from_ready_queue d.store t) t ])
-          (elim w [ none ↦ resume-next other d.store | some t ↦ other (remove_from_ready_queue d.store t) t ])
+          → R (elim w [ none ↦ resume_next act d.store | some t ↦ act (remove_from_ready_queue d.store t) t ])
+          (elim w [ none ↦ resume_next other d.store | some t ↦ other (remove_from_ready_queue d.store t) t ])
       by none e = next-by s h.during y next
       by (some t) e =
           let gone-from : entries (remove s.queue t) ≡ without (entries s.queue) t = entries-remove s.queue t h.during.kept.memory.ids len in
           let was : Queued (header s).next (task s) (entries s.queue) = queue_of s h.during in
           woke (remove s.queue t) t e (h.woken t e)
           (rw gone-from (gone (entries s.queue) t was.distinct))
-          (queue-during s h.during (remove s.queue t) (remove-len s.queue t len) (remove-length s.queue t ∙ h.during.kept.memory.ids)
+          (queue_during s h.during (remove s.queue t) (remove-len s.queue t len) (remove-length s.queue t ∙ h.during.kept.memory.ids)
           (λ z. subst (Queued (header s).next (task s)) (sym gone-from)
           (queued_less (was_there (entries s.queue) t) (distinct_without (entries s.queue) t z.distinct) z)))
 
@@ -316,9 +316,9 @@ abbrev pub Good : Switched → Type 0
 Good x = SoundStore x.store
 
 module _ (D : ℕ → Type 0) (hd : Header) (on : is_ended hd.moment ≡ false) where
-  pub yield-keeps : (s : Store) → SoundDuring Nothing idle D hd s → SoundStore (yield s).store
+  pub yield_keeps : (s : Store) → SoundDuring Nothing idle D hd s → SoundStore (yield s).store
   unfolding yield runs_now runner_in_range
-  yield-keeps s h =
+  yield_keeps s h =
       moment_sound_store {D = D} {hd = hd} s Moment.Waiting tt tt (λ z. on) (record { kept = h.kept; runs = h.runs; done = h.done; head = h.head })
 
   -- a task below the next number that does not stand in the queue is activated
@@ -326,25 +326,25 @@ module _ (D : ℕ → Type 0) (hd : Header) (on : is_ended hd.moment ≡ false) 
   Activates act = (s : Store) (t : ℕ) → t < hd.next → occurrences (entries s.queue) t ≡ 0 → SoundDuring Nothing idle D hd s → SoundStore (act s t).store
 
   module _ (act : Store → ℕ → Switched) (go : Activates act) where
-    pub next-keeps : (s : Store) → SoundDuring Nothing idle D hd s → SoundStore (resume-next act s).store
+    pub next_keeps : (s : Store) → SoundDuring Nothing idle D hd s → SoundStore (resume_next act s).store
     unfolding Activates put_queue
-    next-keeps s h = next-by D hd (λ x y. Good x) act act s h (yield-keeps s h) (λ q u low off r m. go (put_queue s q) u low off m)
+    next_keeps s h = next-by D hd (λ x y. Good x) act act s h (yield_keeps s h) (λ q u low off r m. go (put_queue s q) u low off m)
 
-    pub exit-keeps : (d : Delivery) → DeliveryEnds idle D hd d → SoundStore (resume-after-task-exit act d).store
+    pub exit_keeps : (d : Delivery) → DeliveryEnds idle D hd d → SoundStore (resume_after_task_exit act d).store
     unfolding Activates put_queue
-    exit-keeps d h =
-        exit_by D hd (λ x y. Good x) act act d h (yield-keeps d.store h.during) (λ q u low off r m. go (put_queue d.store q) u low off m)
+    exit_keeps d h =
+        exit_by D hd (λ x y. Good x) act act d h (yield_keeps d.store h.during) (λ q u low off r m. go (put_queue d.store q) u low off m)
         (λ q u e low off m. go (put_queue d.store q) u low off m)
 
     -- a live spawned task fails: no other task runs
-    pub failure-exit : (s : Store) (t : ℕ) (e : Error) (r : ℕ → Bool) → ErrorFits e → suc t < hd.next → T (is_live (task s (suc t)).state)
-        → ((u : ℕ) → (u ≡ suc t → ⊥) → r u ≡ false) → SoundDuring Nothing r D hd s → SoundStore (handle-task-failure act s (suc t) e).store
-    unfolding handle-task-failure
-    failure-exit s t e r k low l other h =
+    pub failure_exit : (s : Store) (t : ℕ) (e : Error) (r : ℕ → Bool) → ErrorFits e → suc t < hd.next → T (is_live (task s (suc t)).state)
+        → ((u : ℕ) → (u ≡ suc t → ⊥) → r u ≡ false) → SoundDuring Nothing r D hd s → SoundStore (handle_task_failure act s (suc t) e).store
+    unfolding handle_task_failure
+    failure_exit s t e r k low l other h =
         let sent : DeliveryEnds r D hd (deliver_awaiter_failure s (task s (suc t)).awaiter e) =
-        failure-keeps r D hd e k s (task s (suc t)).coroutine.0 (task s (suc t)).awaiter (task_delivering s t h low l) in
-        exit-keeps _ (record {
-          during = remove-keeps (deliver_awaiter_failure s (task s (suc t)).awaiter e).store (suc t) sent.during
+        failure_keeps r D hd e k s (task s (suc t)).coroutine.0 (task s (suc t)).awaiter (task_delivering s t h low l) in
+        exit_keeps _ (record {
+          during = remove_keeps (deliver_awaiter_failure s (task s (suc t)).awaiter e).store (suc t) sent.during
               (subst (λ (y : Header). suc t < y.next) (sym sent.during.head) low) (exited (suc t)) idle refl other;
           woken = sent.woken;
         })
@@ -359,8 +359,8 @@ module _ (D : ℕ → Type 0) (hd : Header) (on : is_ended hd.moment ≡ false) 
     new_is (Object.GatherFuture c n y) f e = absurd_some e
 
     start-keeps : (s : Store) (t : ℕ) → suc t < hd.next → (task s (suc t)).state ≡ TaskState.Unstarted → occurrences (entries s.queue) (suc t) ≡ 0
-        → SoundDuring Nothing idle D hd s → SoundStore (start-task act s (suc t)).store
-    unfolding start-task start-by view task put_object
+        → SoundDuring Nothing idle D hd s → SoundStore (start_task act s (suc t)).store
+    unfolding start_task start_by view task put_object
     start-keeps s t low fr off h = by (new_function (object s (task s (suc t)).coroutine.0)) refl
       where
         live : T (is_live (task s (suc t)).state)
@@ -375,15 +375,15 @@ module _ (D : ℕ → Type 0) (hd : Header) (on : is_ended hd.moment ≡ false) 
         c : ℕ
         c = (task s (suc t)).coroutine.0
 
-        by : (n : Option ℕ) → new_function (object s c) ≡ n → SoundStore (start-by act s (suc t) c n).store
-        by none q = failure-exit s t Error.CoroutineReuse idle tt low live (λ u d. refl) h
+        by : (n : Option ℕ) → new_function (object s c) ≡ n → SoundStore (start_by act s (suc t) c n).store
+        by none q = failure_exit s t Error.CoroutineReuse idle tt low live (λ u d. refl) h
         by (some f) q =
             let x : Object = Object.Coroutine f CoroutineState.Running in
             let sp : Spawned (view s) (suc t) = spawned_of t h.kept.but low-s live in
             let is_new : object s c ≡ Object.Coroutine f CoroutineState.New = new_is (object s c) f q in
             let ft : Fits 0 0 Nothing Nothing Nothing Nothing (view s) c x = coroutine-fits (view s) c f CoroutineState.New CoroutineState.Running sp.made is_new in
             let m : SoundDuring Nothing idle D hd (put_object s c x) = object-during s h c x (subst ObjectFits is_new (object-fits s c)) ft in
-            run-keeps (put_object s c x) (suc t) m (subst (λ (y : Header). suc t < y.next) (sym (header_put-object s c x)) low-s) live free off on (start c f)
+            run_keeps (put_object s c x) (suc t) m (subst (λ (y : Header). suc t < y.next) (sym (header_put-object s c x)) low-s) live free off on (start c f)
 
     -- main is never unstarted
     main-old : (s : Store) → SoundDuring Nothing idle D hd s → (task s 0).state ≡ TaskState.Unstarted → ⊥
@@ -391,23 +391,23 @@ module _ (D : ℕ → Type 0) (hd : Header) (on : is_ended hd.moment ≡ false) 
     main-old s h e = subst (λ (y : TaskState). T (not (is_unstarted y))) e (both_left _ _ (h.kept.but.tasks 0 h.kept.but.main))
 
     state-keeps : (s : Store) (t : ℕ) (x : TaskState) → t < hd.next → (task s t).state ≡ x → occurrences (entries s.queue) t ≡ 0 → SoundDuring Nothing idle D hd s
-        → SoundStore (activate-state act s t x).store
-    unfolding activate-state blocked_on
-    state-keeps s t TaskState.Absent low e off h = yield-keeps s h
+        → SoundStore (activate_state act s t x).store
+    unfolding activate_state blocked_on
+    state-keeps s t TaskState.Absent low e off h = yield_keeps s h
     state-keeps s zero TaskState.Unstarted low e off h = absurd (main-old s h e)
     state-keeps s (suc t) TaskState.Unstarted low e off h = start-keeps s t low e off h
-    state-keeps s t TaskState.Running low e off h = yield-keeps s h
+    state-keeps s t TaskState.Running low e off h = yield_keeps s h
     state-keeps s t (TaskState.Woken v) low e off h =
-        run-keeps s t h (subst (λ (y : Header). t < y.next) (sym h.head) low) (rw e tt) (ap blocked_on e) off on (value v)
+        run_keeps s t h (subst (λ (y : Header). t < y.next) (sym h.head) low) (rw e tt) (ap blocked_on e) off on (value v)
     state-keeps s t (TaskState.Raised x) low e off h =
-        run-keeps s t h (subst (λ (y : Header). t < y.next) (sym h.head) low) (rw e tt) (ap blocked_on e) off on (raises x)
-    state-keeps s t (TaskState.Blocked o) low e off h = yield-keeps s h
+        run_keeps s t h (subst (λ (y : Header). t < y.next) (sym h.head) low) (rw e tt) (ap blocked_on e) off on (raises x)
+    state-keeps s t (TaskState.Blocked o) low e off h = yield_keeps s h
 
   within-keeps : (k : ℕ) → Activates (activate_within k)
   unfolding activate_within Activates
-  within-keeps zero s t low off h = yield-keeps s h
+  within-keeps zero s t low off h = yield_keeps s h
   within-keeps (suc k) s t low off h = state-keeps (λ x u. activate_within k x u) (within-keeps k) s t (task s t).state low refl off h
 
-  pub activate-keeps : Activates activate
+  pub activate_keeps : Activates activate
   unfolding activate Activates
-  activate-keeps s t low off h = within-keeps (live_count s) s t low off h
+  activate_keeps s t low off h = within-keeps (live_count s) s t low off h

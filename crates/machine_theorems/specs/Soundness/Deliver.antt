@@ -31,13 +31,13 @@ use Rattle.machine.specs.Sound.{awaiter_in_range, open_in_range, object_in_range
 use Rattle.machine_laws.specs.Views.{with_object}
 use Rattle.machine_laws.specs.Facts.{Open, Slotted, SoundBut, Nothing}
 use Rattle.machine_laws.specs.TestLaws.{both, both_left, both_right, below, implies_use, implies_give}
-use Rattle.machine_laws.specs.StoreLaws.{update_same, update-case, view-put_object, task-fits}
+use Rattle.machine_laws.specs.StoreLaws.{update_same, update_case, view-put_object, task-fits}
 use Rattle.machine_laws.specs.DeliveryLaws.{absurd_some, awaited-object, awaited-fits, failure_climbs}
 use Rattle.machine_laws.specs.MakingLaws.{nobody-task, nobody_slot}
 use Rattle.machine_theorems.specs.Soundness.ReadyTasks.{not-queued, queued-back}
 use Rattle.machine_theorems.specs.Soundness.PutObject.{by_object, Fits, slotted}
 use Rattle.machine_theorems.specs.Soundness.PutTask.{with_task_queue, TaskWrite, but_keeps}
-use Rattle.machine_theorems.specs.Soundness.Stores.{Runs, SoundDuring, object-during, task-during, add-log-during}
+use Rattle.machine_theorems.specs.Soundness.Stores.{Runs, SoundDuring, object-during, task-during, add_log-during}
 use Rattle.machine_theorems.specs.Soundness.SpawnTask.{awaiter_below}
 
 -- A delivery is at its end: no awaiter is detached, and a task that it woke is below the next number.
@@ -147,14 +147,14 @@ settle_detached v o x st h =
 
 module _ {r : ℕ → Bool} {D : ℕ → Type 0} {hd : Header} (s : Store) (o : ℕ) (x : Object) (f : ObjectFits x) (st : Settles (view s) o x) (h : SoundDuring Nothing r D hd s) where
   -- the object of a store is settled
-  pub settle-keeps : SoundDuring (Delivering (awaiter_of (object s o))) r D hd (put_object s o x)
+  pub settle_keeps : SoundDuring (Delivering (awaiter_of (object s o))) r D hd (put_object s o x)
   unfolding view
-  settle-keeps = object-during s h o x f (settle_fits (view s) o x st)
+  settle_keeps = object-during s h o x f (settle_fits (view s) o x st)
 
   -- and its awaiter is detached then
-  pub detached-keeps : Detached (view (put_object s o x)) o (awaiter_of (object s o))
+  pub detached_keeps : Detached (view (put_object s o x)) o (awaiter_of (object s o))
   unfolding view
-  detached-keeps =
+  detached_keeps =
       subst (λ (v : View). Detached v o (awaiter_of (object s o)))
       (sym (view-put_object s o x h.kept.memory.sized (omega (arith, st.made, h.kept.but.fits.made-fits)) f)) (settle_detached (view s) o x st h.kept.but)
 
@@ -236,7 +236,7 @@ module _ {r : ℕ → Bool} {D : ℕ → Type 0} {hd : Header} (s : Store) (t o 
     wake-runs : Runs r (with_task_queue (view s) t row (entries (push_back s.queue t)))
     unfolding with_task_queue view restate
     wake-runs u l =
-        update-case (task s) t row (λ (y : Task). is_running y.state ≡ r u) u
+        update_case (task s) t row (λ (y : Task). is_running y.state ≡ r u) u
         (λ q. rs.stands ∙ subst (λ (m : ℕ). false ≡ r m) (sym q) (sym was-still ∙ h.runs t low)) (λ d. h.runs u l)
 
     woken : SoundDuring Nothing r D hd (put_queue (put_task s t row) (push_back s.queue t))
@@ -245,15 +245,15 @@ module _ {r : ℕ → Bool} {D : ℕ → Type 0} {hd : Header} (s : Store) (t o 
         (push_back-length s.queue t ∙ h.kept.memory.ids) wake-fits wake-runs
 
   -- The last step of a delivery, of a value or an error: the task that awaits is woken if it is blocked.
-  pub reach-keeps : DeliveryEnds r D hd (deliver_to_task s t x)
+  pub reach_keeps : DeliveryEnds r D hd (deliver_to_task s t x)
   unfolding deliver_to_task make_ready push_ready set_state put_task
-  reach-keeps = by (is_blocked (task s t).state) refl
+  reach_keeps = by (is_blocked (task s t).state) refl
     where
       by : (c : Bool) → is_blocked (task s t).state ≡ c → DeliveryEnds r D hd (pick c (record { store = add_log (make_ready s t x) (reached t); woken = some t }) (nobody_woken s))
       by true e =
           let i = is_the_block (task s t).state e in
           record {
-            during = add-log-during (put_queue (put_task s t row) (push_back s.queue t)) (woken i.0 i.1) (reached t);
+            during = add_log-during (put_queue (put_task s t row) (push_back s.queue t)) (woken i.0 i.1) (reached t);
             woken = λ u q. subst (λ (j : ℕ). j < hd.next) (some-injective t u q) (subst (λ (y : Header). t < y.next) h.head low);
           }
       by false e =
@@ -353,8 +353,8 @@ module _ (r : ℕ → Bool) (D : ℕ → Type 0) (hd : Header) (e : Error) (k : 
           let fit : ObjectFits y = ((awaited-fits s g w q).0, k) in
           sends-on r D hd (DeliveringError r D hd g) o g (put_object s g y) w.awaiter
           (record {
-            detached = subst (λ (a : Awaiter). Detached (view (put_object s g y)) g a) aw (detached-keeps s g y fit st h);
-            during = subst (λ (a : Awaiter). SoundDuring (Delivering a) r D hd (put_object s g y)) aw (settle-keeps s g y fit st h);
+            detached = subst (λ (a : Awaiter). Detached (view (put_object s g y)) g a) aw (detached_keeps s g y fit st h);
+            during = subst (λ (a : Awaiter). SoundDuring (Delivering a) r D hd (put_object s g y)) aw (settle_keeps s g y fit st h);
           }) (open_lower g w o h.kept.but sl.made q (sl.opens w q))
 
   failure-slot : (n : ℕ) (s : Store) (o g x : ℕ) → object_limit ≤ suc n + o → DeliveringError r D hd o s (Awaiter.GatherSlot (heap_id g) (heap_id x))
@@ -379,9 +379,9 @@ module _ (r : ℕ → Bool) (D : ℕ → Type 0) (hd : Header) (e : Error) (k : 
   failure-climb zero s o a f i = absurd (not-suc-le-zero {n = 0} (omega (arith, f, i.detached.made, i.during.kept.but.fits.made-fits)))
   failure-climb (suc n) s o Awaiter.Nobody f i = unfold deliver_awaiter_failure send_error in (nobody_delivery_ends s (delivery_ends s (λ u z. nobody-task z) i.during))
   failure-climb (suc n) s o (Awaiter.Task t) f i = unfold deliver_awaiter_failure send_error in
-      (reach-keeps s t.0 o (TaskState.Raised e) (raised_resumes e) k (unfold state_values in tt) i.detached i.during)
+      (reach_keeps s t.0 o (TaskState.Raised e) (raised_resumes e) k (unfold state_values in tt) i.detached i.during)
   failure-climb (suc n) s o (Awaiter.GatherSlot g x) f i = failure-slot n s o g.0 x.0 f i (λ y p b j m. failure-climb n y p b j m)
 
   -- A failure of object o goes to its awaiter.
-  pub failure-keeps : (s : Store) (o : ℕ) (a : Awaiter) → DeliveringError r D hd o s a → DeliveryEnds r D hd (deliver_awaiter_failure s a e)
-  failure-keeps s o a i = failure-climb object_limit s o a (omega arith) i
+  pub failure_keeps : (s : Store) (o : ℕ) (a : Awaiter) → DeliveringError r D hd o s a → DeliveryEnds r D hd (deliver_awaiter_failure s a e)
+  failure_keeps s o a i = failure-climb object_limit s o a (omega arith) i

@@ -33,23 +33,23 @@ use Rattle.machine.specs.Store.{Store, View, view, task, object, place, header, 
 use Rattle.rows.specs.Tables.{task_at}
 use Rattle.machine.specs.Scheduler.{AwaitedGather, as_awaited, is_some, bit, pending_call_ids, blocked_on, remove_from_ready_queue, remove_task, task_of_in, task_of, cancel_one, Walk, reach_if, reach, remove_blocked, still_live, visit_by, visit, visit_place, visit_open, walk_gather, walk_next, walk, walk_from, cancel_task, remove_from, cleanup}
 use Rattle.machine.specs.Delivery.{deliver_awaiter_success}
-use Rattle.machine.specs.Events.{handle-task-failure, activate, completed, handle_task_completion, resume-next}
+use Rattle.machine.specs.Events.{handle_task_failure, activate, completed, handle_task_completion, resume_next}
 use Rattle.machine.specs.Machine.{switched, repeat_wait, resume_with_resolved_futures}
 use Rattle.machine.specs.Sound.{is_slot, task_in_range, value_known, state_values, is_ended, is_task_of_at, runs_now, runner_in_range}
 use Rattle.machine_laws.specs.Views.{update}
 use Rattle.machine_laws.specs.Facts.{SoundBut, Nothing}
 use Rattle.machine_laws.specs.TestLaws.{holds, both, both_left, both_right}
 use Rattle.machine_laws.specs.ValueLaws.{value_stays}
-use Rattle.machine_laws.specs.StoreLaws.{update-case, update_same, update_other, object-fits}
+use Rattle.machine_laws.specs.StoreLaws.{update_case, update_same, update_other, object-fits}
 use Rattle.machine_laws.specs.DeliveryLaws.{absurd_some, first_below}
 use Rattle.machine_laws.specs.MakingLaws.{nobody_slot}
 use Rattle.machine_theorems.specs.Soundness.ReadyTasks.{Queued, none-ready}
 use Rattle.machine_theorems.specs.Soundness.PutObject.{by_object, by_task}
 use Rattle.machine_theorems.specs.Soundness.PutTask.{is_task_of_give, with_task_queue, TaskWrite}
-use Rattle.machine_theorems.specs.Soundness.Stores.{Kept, Runs, idle, SoundDuring, SoundStore, view-task-queue, object-during, task-during, queue-during, add-log-during, during_of, sound_store_during, moment_sound_store}
+use Rattle.machine_theorems.specs.Soundness.Stores.{Kept, Runs, idle, SoundDuring, SoundStore, view-task_queue, object-during, task-during, queue_during, add_log-during, during_of, sound_store_during, moment_sound_store}
 use Rattle.machine_theorems.specs.Soundness.Deliver.{DeliveryEnds, Detached, take_off}
-use Rattle.machine_theorems.specs.Soundness.Fill.{Alone, DeliveringValue, success-keeps}
-use Rattle.machine_theorems.specs.Soundness.Cycle.{Spawned, spawned_of, not-a_task, coroutine-is, no_awaiter, task_detached, coroutine-fits, absent_in_range, absent-fits, remove-keeps, next-keeps, exit-keeps, failure-exit, activate-keeps}
+use Rattle.machine_theorems.specs.Soundness.Fill.{Alone, DeliveringValue, success_keeps}
+use Rattle.machine_theorems.specs.Soundness.Cycle.{Spawned, spawned_of, not-a_task, coroutine-is, no_awaiter, task_detached, coroutine-fits, absent_in_range, absent-fits, remove_keeps, next_keeps, exit_keeps, failure_exit, activate_keeps}
 
 -- ---- the running task
 
@@ -63,24 +63,24 @@ is_run_state (TaskState.Blocked o) e = absurd (true≢false (sym e))
 
 -- In the moment of task t, that task runs and no other does.
 module _ (s : Store) (t : ℕ) (h : SoundStore s) (m : (header s).moment ≡ Moment.Running (task_id t)) where
-  pub runner-low : t < (header s).next
+  pub runner_low : t < (header s).next
   unfolding view runner_in_range
-  runner-low = ltb→lt t (header s).next (subst (λ (y : Moment). T (runner_in_range (header s).next y)) m h.facts.runner)
+  runner_low = ltb→lt t (header s).next (subst (λ (y : Moment). T (runner_in_range (header s).next y)) m h.facts.runner)
 
   pub runner-runs : (task s t).state ≡ TaskState.Running
   unfolding view runs_now
-  runner-runs = is_run_state _ (h.facts.runs t runner-low ∙ (ap (λ (y : Moment). runs_now y t) m ∙ eq-eqb t t refl))
+  runner-runs = is_run_state _ (h.facts.runs t runner_low ∙ (ap (λ (y : Moment). runs_now y t) m ∙ eq-eqb t t refl))
 
   pub runner-live : T (is_live (task s t).state)
   runner-live = rw runner-runs tt
 
-  pub others-commits-none : (u : ℕ) → (u ≡ t → ⊥) → runs_now (header s).moment u ≡ false
+  pub others_commits_none : (u : ℕ) → (u ≡ t → ⊥) → runs_now (header s).moment u ≡ false
   unfolding runs_now
-  others-commits-none u d = ap (λ (y : Moment). runs_now y u) m ∙ ne_eqb t u (λ q. d (sym q))
+  others_commits_none u d = ap (λ (y : Moment). runs_now y u) m ∙ ne_eqb t u (λ q. d (sym q))
 
-  pub commits-none-on : is_ended (header s).moment ≡ false
+  pub commits_none-on : is_ended (header s).moment ≡ false
   unfolding is_ended
-  commits-none-on = ap is_ended m
+  commits_none-on = ap is_ended m
 
 -- ---- the end of a spawned task
 
@@ -136,7 +136,7 @@ remove_detached s t o x a k fl =
 remove-view : {k : ℕ} {P Q : ℕ → Type 0} (s : Store) (t : ℕ) (x : LogEntry) → Kept k P Q s → t < (header s).next
     → view (add_log (remove_task s t) x) ≡ with_task_queue (view s) t absent (entries (remove s.queue t))
 unfolding view add_log remove_task remove_from_ready_queue put_queue put_task task object place header
-remove-view s t x h low = view-task-queue s h t absent (remove s.queue t) (omega (arith, low, h.but.fits.next_fits)) absent-fits
+remove-view s t x h low = view-task_queue s h t absent (remove s.queue t) (omega (arith, low, h.but.fits.next_fits)) absent-fits
 
 -- A spawned task completes: its coroutine is completed, it is removed, and its value is on its way.
 module _ (s : Store) (t : ℕ) (v : Value) (h : SoundStore s) (m : (header s).moment ≡ Moment.Running (task_id (suc t))) (k : T (value_known (header s).made (object s) v)) where
@@ -151,7 +151,7 @@ module _ (s : Store) (t : ℕ) (v : Value) (h : SoundStore s) (m : (header s).mo
   left_by = add_log (remove_task done (suc t)) (exited (suc t))
 
   low : suc t < (header s).next
-  low = runner-low s (suc t) h m
+  low = runner_low s (suc t) h m
 
   sp : Spawned (view s) (suc t)
   unfolding view
@@ -165,15 +165,15 @@ module _ (s : Store) (t : ℕ) (v : Value) (h : SoundStore s) (m : (header s).mo
   low1 = subst (λ (y : Header). suc t < y.next) (sym mid1.head) low
 
   mid2 : SoundDuring Nothing idle (λ o. T (is_completed (kind (object s o)))) (header s) left_by
-  mid2 = remove-keeps done (suc t) mid1 low1 (exited (suc t)) idle refl (λ u d. others-commits-none s (suc t) h m u d)
+  mid2 = remove_keeps done (suc t) mid1 low1 (exited (suc t)) idle refl (λ u d. others_commits_none s (suc t) h m u d)
 
   live1 : T (is_live (task done (suc t)).state)
   unfolding task put_object
   live1 = runner-live s (suc t) h m
 
-  pub completion-delivering : DeliveringValue idle (λ o. T (is_completed (kind (object s o)))) (header s) c v left_by (task s (suc t)).awaiter
+  pub completion_delivering : DeliveringValue idle (λ o. T (is_completed (kind (object s o)))) (header s) c v left_by (task s (suc t)).awaiter
   unfolding view task put_object
-  completion-delivering =
+  completion_delivering =
       record {
         known = subst (λ (y : Header). T (value_known y.made (object left_by) v)) (sym mid2.head) (value_stays (header s).made (header s).made (le_refl _) (object s) (object left_by) (λ o l. mid2.done o) v k);
         detached = remove_detached done (suc t) c (exited (suc t)) (task s (suc t)).awaiter sp.slot (task_detached done t mid1 low1 live1);
@@ -183,20 +183,20 @@ module _ (s : Store) (t : ℕ) (v : Value) (h : SoundStore s) (m : (header s).mo
       }
 
   -- It reaches its awaiter.
-  pub completion-delivery-ends : DeliveryEnds idle (λ o. T (is_completed (kind (object s o)))) (header s) (deliver_awaiter_success left_by (task s (suc t)).awaiter v)
-  completion-delivery-ends = success-keeps idle _ (header s) left_by c (task s (suc t)).awaiter v completion-delivering
+  pub completion_delivery_ends : DeliveryEnds idle (λ o. T (is_completed (kind (object s o)))) (header s) (deliver_awaiter_success left_by (task s (suc t)).awaiter v)
+  completion_delivery_ends = success_keeps idle _ (header s) left_by c (task s (suc t)).awaiter v completion_delivering
 
   -- The event `complete`, of a spawned task.
-  pub completion-keeps : SoundStore (handle_task_completion s (suc t) v).store
+  pub completion_keeps : SoundStore (handle_task_completion s (suc t) v).store
   unfolding handle_task_completion
-  completion-keeps = exit-keeps _ (header s) (commits-none-on s (suc t) h m) activate (activate-keeps _ (header s) (commits-none-on s (suc t) h m)) _ completion-delivery-ends
+  completion_keeps = exit_keeps _ (header s) (commits_none-on s (suc t) h m) activate (activate_keeps _ (header s) (commits_none-on s (suc t) h m)) _ completion_delivery_ends
 
 -- The event `fail`, of a spawned task.
 pub fail_keeps : (s : Store) (t : ℕ) (e : Error) → SoundStore s → (header s).moment ≡ Moment.Running (task_id (suc t)) → ErrorFits e
-    → SoundStore (handle-task-failure activate s (suc t) e).store
+    → SoundStore (handle_task_failure activate s (suc t) e).store
 fail_keeps s t e h m k =
-    failure-exit (λ o. T (is_completed (kind (object s o)))) (header s) (commits-none-on s (suc t) h m) activate (activate-keeps _ (header s) (commits-none-on s (suc t) h m)) s t e
-    (runs_now (header s).moment) k (runner-low s (suc t) h m) (runner-live s (suc t) h m) (others-commits-none s (suc t) h m) (during_of s h)
+    failure_exit (λ o. T (is_completed (kind (object s o)))) (header s) (commits_none-on s (suc t) h m) activate (activate_keeps _ (header s) (commits_none-on s (suc t) h m)) s t e
+    (runs_now (header s).moment) k (runner_low s (suc t) h m) (runner-live s (suc t) h m) (others_commits_none s (suc t) h m) (during_of s h)
 
 -- ---- the session's end
 
@@ -219,13 +219,13 @@ remove_queue (suc k) s t q = by (is_live (task s t).state) (λ x. remove_queue k
 abbrev but_for : (ℕ → Bool) → ℕ → ℕ → Bool
 but_for r t u = pick (eqb t u) false (r u)
 
-not-live_commits_none : (x : TaskState) → is_live x ≡ false → is_running x ≡ false
-not-live_commits_none TaskState.Absent e = refl
-not-live_commits_none TaskState.Unstarted e = refl
-not-live_commits_none TaskState.Running e = e
-not-live_commits_none (TaskState.Woken v) e = refl
-not-live_commits_none (TaskState.Raised v) e = refl
-not-live_commits_none (TaskState.Blocked o) e = refl
+not_live_commits_none : (x : TaskState) → is_live x ≡ false → is_running x ≡ false
+not_live_commits_none TaskState.Absent e = refl
+not_live_commits_none TaskState.Unstarted e = refl
+not_live_commits_none TaskState.Running e = e
+not_live_commits_none (TaskState.Woken v) e = refl
+not_live_commits_none (TaskState.Raised v) e = refl
+not_live_commits_none (TaskState.Blocked o) e = refl
 
 module _ {D : ℕ → Type 0} {hd : Header} where
   -- a task goes, and nothing stands in the queue
@@ -233,7 +233,7 @@ module _ {D : ℕ → Type 0} {hd : Header} where
       → SoundDuring Nothing (but_for r t) D hd (add_log (put_task s t absent) (removed t))
   unfolding put_queue put_task
   end-one {r} s t e low h =
-      add-log-during (put_task s t absent) (task-during s h t absent s.queue low absent-fits h.kept.memory.words_right.queue-short h.kept.memory.ids write now) (removed t)
+      add_log-during (put_task s t absent) (task-during s h t absent s.queue low absent-fits h.kept.memory.words_right.queue-short h.kept.memory.ids write now) (removed t)
     where
       none-queued : Queued (header s).next (update (task s) t absent) (entries s.queue)
       none-queued =
@@ -254,7 +254,7 @@ module _ {D : ℕ → Type 0} {hd : Header} where
       })
 
       now : Runs (but_for r t) (with_task_queue (view s) t absent (entries s.queue))
-      now u l = unfold with_task_queue view in (update-case (task s) t absent (λ (y : Task). is_running y.state ≡ but_for r t u) u
+      now u l = unfold with_task_queue view in (update_case (task s) t absent (λ (y : Task). is_running y.state ≡ but_for r t u) u
           (λ q. unfold absent in (rw (eq-eqb t u (sym q)))) (λ d. rw (ne_eqb t u (λ q. d (sym q))) (h.runs u l)))
 
   end-all : (k : ℕ) (s : Store) (t : ℕ) (r : ℕ → Bool) → t + k ≡ hd.next → entries s.queue ≡ [] → ((u : ℕ) → u < t → r u ≡ false) → SoundDuring Nothing r D hd s
@@ -283,7 +283,7 @@ module _ {D : ℕ → Type 0} {hd : Header} where
           past u m = at (ℕ_discrete u t)
             where
               at : Dec (u ≡ t) → r u ≡ false
-              at (yes p) = ap r p ∙ (sym (h.runs t low) ∙ not-live_commits_none (task s t).state l)
+              at (yes p) = ap r p ∙ (sym (h.runs t low) ∙ not_live_commits_none (task s t).state l)
               at (no p) = f u (omega arith)
 
 -- The events `complete` and `fail`, of main.
@@ -303,7 +303,7 @@ end_keeps s h =
     ended z = unfold is_ended in (true≢false z)
 
     emptied : SoundDuring Nothing (runs_now (header s).moment) D hd (put_queue s empty_queue)
-    emptied = queue-during s (during_of s h) empty_queue (unfold empty_queue in (omega arith)) (unfold empty_queue in refl)
+    emptied = queue_during s (during_of s h) empty_queue (unfold empty_queue in (omega arith)) (unfold empty_queue in refl)
         (λ z. subst (Queued (header s).next (task s)) (sym entries-empty) (none-ready (header s).next (task s)))
 
     all-gone : SoundDuring Nothing idle D hd (remove_from (put_queue s empty_queue) 0 (header s).next)
@@ -318,9 +318,9 @@ module _ (D : ℕ → Type 0) (hd : Header) where
     during : SoundDuring Nothing idle D hd w.store
     low : (o t : ℕ) → w.tasks-of o ≡ some t → t < hd.next
 
-  one-keeps : (s : Store) (t : ℕ) → t < hd.next → SoundDuring Nothing idle D hd s → SoundDuring Nothing idle D hd (cancel_one s t)
+  one_keeps : (s : Store) (t : ℕ) → t < hd.next → SoundDuring Nothing idle D hd s → SoundDuring Nothing idle D hd (cancel_one s t)
   unfolding cancel_one
-  one-keeps s t low h = remove-keeps s t h (subst (λ (y : Header). t < y.next) (sym h.head) low) (removed t) idle refl (λ u d. refl)
+  one_keeps s t low h = remove_keeps s t h (subst (λ (y : Header). t < y.next) (sym h.head) low) (removed t) idle refl (λ u d. refl)
 
   reach-none-runs : (w : Walk) (g : ℕ) → NoneRuns w → NoneRuns (reach w g)
   unfolding reach
@@ -332,8 +332,8 @@ module _ (D : ℕ → Type 0) (hd : Header) where
 
   blocked-none-runs : (w : Walk) (t : ℕ) (b : Option ℕ) → t < hd.next → NoneRuns w → NoneRuns (remove_blocked w t b)
   unfolding remove_blocked
-  blocked-none-runs w t none l h = record { during = one-keeps w.store t l h.during; low = h.low }
-  blocked-none-runs w t (some b) l h = reach-none-runs _ b (record { during = one-keeps w.store t l h.during; low = h.low })
+  blocked-none-runs w t none l h = record { during = one_keeps w.store t l h.during; low = h.low }
+  blocked-none-runs w t (some b) l h = reach-none-runs _ b (record { during = one_keeps w.store t l h.during; low = h.low })
 
   visit-none-runs : (w : Walk) (o : ℕ) → NoneRuns w → NoneRuns (visit w o)
   unfolding visit
@@ -405,6 +405,6 @@ resume_keeps s h m = by (eqb s.queue.len 0)
     on : is_ended (header s).moment ≡ false
     on = ap is_ended m
 
-    by : (b : Bool) → SoundStore (pick b (record { store = s; answer = repeat_wait (pending_call_ids s) }) (switched (resume-next activate s))).store
+    by : (b : Bool) → SoundStore (pick b (record { store = s; answer = repeat_wait (pending_call_ids s) }) (switched (resume_next activate s))).store
     by true = h
-    by false = next-keeps _ (header s) on activate (activate-keeps _ (header s) on) s (only_changes_of s h m)
+    by false = next_keeps _ (header s) on activate (activate_keeps _ (header s) on) s (only_changes_of s h m)

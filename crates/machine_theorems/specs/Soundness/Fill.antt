@@ -35,14 +35,14 @@ use Rattle.machine.specs.Sound.{value_known, option_known, object_values, state_
 use Rattle.machine_laws.specs.Views.{update, with_object, with_place}
 use Rattle.machine_laws.specs.Facts.{Open, Slotted, SoundBut, Nothing}
 use Rattle.machine_laws.specs.TestLaws.{holds, is_true, or_second, both, both_left, both_right, below, from-below, implies_use, sum_last, sum_more}
-use Rattle.machine_laws.specs.StoreLaws.{update_same, update_other, update-case, view-put_object, view-put_place, place-fits, object_put-object, header_put-object}
+use Rattle.machine_laws.specs.StoreLaws.{update_same, update_other, update_case, view-put_object, view-put_place, place-fits, object_put-object, header_put-object}
 use Rattle.machine_laws.specs.MakingLaws.{value-fits, nobody-task, nobody_slot}
 use Rattle.machine_laws.specs.DeliveryLaws.{absurd_some, awaited-object, awaited-fits, success_climbs}
 use Rattle.machine_theorems.specs.Bounds.Bits.{bit_clear}
 use Rattle.machine_theorems.specs.Soundness.PutObject.{Held, by_object, by_task, Fits}
 use Rattle.machine_theorems.specs.Soundness.PutTask.{PlacesWrite}
 use Rattle.machine_theorems.specs.Soundness.Stores.{SoundDuring, object-during, place-during}
-use Rattle.machine_theorems.specs.Soundness.Deliver.{task_slot, DeliveryEnds, Delivering, Detached, delivery_ends, nobody_delivery_ends, Settles, settle-keeps, detached-keeps, Resumes, reach-keeps, awaiter_is, Done, gather_settles, open_lower}
+use Rattle.machine_theorems.specs.Soundness.Deliver.{task_slot, DeliveryEnds, Delivering, Detached, delivery_ends, nobody_delivery_ends, Settles, settle_keeps, detached_keeps, Resumes, reach_keeps, awaiter_is, Done, gather_settles, open_lower}
 use Rattle.machine_theorems.specs.Soundness.Deliver.{Sends, sends-nothing, sends-on}
 
 -- ---- what an awaited gather's row says
@@ -124,9 +124,9 @@ module _ {r : ℕ → Bool} {D : ℕ → Type 0} {hd : Header} (s : Store) (g x 
     unfolding view place put_places header object
     row_write =
         record {
-          item = λ p. update-case (place_at ps) at row (λ (y : Place). y.item ≡ (place_at ps p).item) p (λ q. ap (λ (j : ℕ). (place_at ps j).item) (sym q)) (λ d. refl);
-          filled = λ p t. update-case (place_at ps) at row (λ (y : Place). T (is_filled y.result)) p (λ q. unfold is_filled in tt) (λ d. t);
-          known = λ p t. update-case (place_at ps) at row (λ (y : Place). T (option_known (header s).made (object s) y.result)) p
+          item = λ p. update_case (place_at ps) at row (λ (y : Place). y.item ≡ (place_at ps p).item) p (λ q. ap (λ (j : ℕ). (place_at ps j).item) (sym q)) (λ d. refl);
+          filled = λ p t. update_case (place_at ps) at row (λ (y : Place). T (is_filled y.result)) p (λ q. unfold is_filled in tt) (λ d. t);
+          known = λ p t. update_case (place_at ps) at row (λ (y : Place). T (option_known (header s).made (object s) y.result)) p
               (λ q. unfold option_known in k) (λ d. t);
         }
 
@@ -143,7 +143,7 @@ module _ {r : ℕ → Bool} {D : ℕ → Type 0} {hd : Header} (s : Store) (g x 
         record {
           during = unfold put_places put_place in (place-during u f.during at row low-used row_fits row_write);
           item = λ p. ap (λ (y : Place). y.item) (now p)
-              ∙ update-case (place_at ps) at row (λ (y : Place). y.item ≡ (place s p).item) p (λ q. ap (λ (j : ℕ). (place_at ps j).item) (sym q) ∙ f.item p) (λ d. f.item p);
+              ∙ update_case (place_at ps) at row (λ (y : Place). y.item ≡ (place s p).item) p (λ q. ap (λ (j : ℕ). (place_at ps j).item) (sym q) ∙ f.item p) (λ d. f.item p);
           less = omega (arith, f.less);
           rest = unfold rest_filled in (from-below w.count _ (λ j z. each j z (ℕ_discrete j i)));
           kept = λ j b ne. bit_clear i m j open-i (λ q. ne (ap (λ (y : HeapId). y.0) (sym (f.item (w.first + j))) ∙ (ap (λ (n : ℕ). (place_at ps (w.first + n)).item.0) q ∙ named)))
@@ -186,8 +186,8 @@ module _ {r : ℕ → Bool} {D : ℕ → Type 0} {hd : Header} (s : Store) (g x 
   abbrev pub after : Filled
   after = fill_from s.places w.open-places w.first x v 0 w.count
 
-  pub all-filled : Filling after.places after.open-places
-  all-filled = fill-keeps w.count s.places w.open-places 0 (omega arith) begins
+  pub all_filled : Filling after.places after.open-places
+  all_filled = fill-keeps w.count s.places w.open-places 0 (omega arith) begins
 
 -- ---- holders of slots
 
@@ -292,7 +292,7 @@ module _ {r : ℕ → Bool} {D : ℕ → Type 0} {hd : Header} (s : Store) (g x 
 
   fills : Filling s g x v w h l e k (after s g x v w h l e k).places mask
   unfolding mask
-  fills = all-filled s g x v w h l e k
+  fills = all_filled s g x v w h l e k
 
   full : Object
   full = Object.GatherFuture w.first w.count GatherState.Completed
@@ -417,9 +417,9 @@ module _ (r : ℕ → Bool) (D : ℕ → Type 0) (hd : Header) where
               (sends-on r D hd R o g (put_object md g fu) w.awaiter
               (record {
                 known = list-known s g x v w h sl.made q k;
-                detached = subst (λ (a : Awaiter). Detached (view (put_object md g fu)) g a) aw (detached-keeps md g fu fit st keep);
+                detached = subst (λ (a : Awaiter). Detached (view (put_object md g fu)) g a) aw (detached_keeps md g fu fit st keep);
                 alone = alone_keeps md g fu fit st (unfold full kind in refl) keep;
-                during = subst (λ (a : Awaiter). SoundDuring (Delivering a) r D hd (put_object md g fu)) aw (settle-keeps md g fu fit st keep);
+                during = subst (λ (a : Awaiter). SoundDuring (Delivering a) r D hd (put_object md g fu)) aw (settle_keeps md g fu fit st keep);
               }) (open_lower g w o h.kept.but sl.made q (sl.opens w q)))
           left false z =
               subst (Sends r D hd R o g) (sym (resolved-on s g x v w h sl.made q k z))
@@ -447,10 +447,10 @@ module _ (r : ℕ → Bool) (D : ℕ → Type 0) (hd : Header) where
   success-climb zero s o a v f i = absurd (not-suc-le-zero {n = 0} (omega (arith, f, i.detached.made, i.during.kept.but.fits.made-fits)))
   success-climb (suc n) s o Awaiter.Nobody v f i = unfold deliver_awaiter_success send_value in (nobody_delivery_ends s (delivery_ends s (λ u z. nobody-task z) i.during))
   success-climb (suc n) s o (Awaiter.Task t) v f i = unfold deliver_awaiter_success send_value in
-      (reach-keeps s t.0 o (TaskState.Woken v) (woken_resumes v) (value-fits (header s).made (object s) v i.during.kept.but.fits.made-fits i.known)
+      (reach_keeps s t.0 o (TaskState.Woken v) (woken_resumes v) (value-fits (header s).made (object s) v i.during.kept.but.fits.made-fits i.known)
       (unfold state_values in i.known) i.detached i.during)
   success-climb (suc n) s o (Awaiter.GatherSlot g x) v f i = success-slot n s o g.0 x.0 v f i (λ y p b w j m. success-climb n y p b w j m)
 
   -- A value of object o goes to its awaiter.
-  pub success-keeps : (s : Store) (o : ℕ) (a : Awaiter) (v : Value) → DeliveringValue r D hd o v s a → DeliveryEnds r D hd (deliver_awaiter_success s a v)
-  success-keeps s o a v i = success-climb object_limit s o a v (omega arith) i
+  pub success_keeps : (s : Store) (o : ℕ) (a : Awaiter) (v : Value) → DeliveringValue r D hd o v s a → DeliveryEnds r D hd (deliver_awaiter_success s a v)
+  success_keeps s o a v i = success-climb object_limit s o a v (omega arith) i

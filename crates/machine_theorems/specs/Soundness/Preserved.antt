@@ -24,8 +24,8 @@ use Rattle.machine_laws.specs.StoreLaws.{header-fits}
 use Rattle.machine_laws.specs.SoundLaws.{pass, running-rest}
 use Rattle.machine_theorems.specs.Soundness.Stores.{SoundStore, during_of, sound_store_during}
 use Rattle.machine_theorems.specs.Soundness.Results.{MayApply, AllApply, results-keep, ordered-keep}
-use Rattle.machine_theorems.specs.Soundness.Exits.{completion-keeps, fail_keeps, end_keeps, cancel_keeps, resume_keeps}
-use Rattle.machine_theorems.specs.Soundness.AwaitGather.{await-keeps}
+use Rattle.machine_theorems.specs.Soundness.Exits.{completion_keeps, fail_keeps, end_keeps, cancel_keeps, resume_keeps}
+use Rattle.machine_theorems.specs.Soundness.AwaitGather.{await_keeps}
 use Rattle.machine.specs.Sessions.{InRange}
 
 -- ---- what the table of refusals lets through
@@ -93,7 +93,7 @@ module _ (s : Store) (h : SoundStore s) where
   completes : (t : ℕ) (v : Value) → (header s).moment ≡ Moment.Running (task_id t) → T (value_known (header s).made (object s) v) → SoundStore (task_completes s t v).store
   unfolding task_completes end_main switched
   completes zero v m k = end_keeps s h
-  completes (suc t) v m k = rw (ne_eqb (suc t) 0 (λ e. omega arith)) (completion-keeps s t v h m k)
+  completes (suc t) v m k = rw (ne_eqb (suc t) 0 (λ e. omega arith)) (completion_keeps s t v h m k)
 
   fails : (t n : ℕ) → (header s).moment ≡ Moment.Running (task_id t) → n < u32_limit → SoundStore (task_fails s t (Error.Script n)).store
   unfolding task_fails end_main switched
@@ -123,9 +123,9 @@ module _ (s : Store) (h : SoundStore s) where
   complete-known v r = let known : Bool = value_known (header s).made (object s) v in not-not known (pass 4 (not known) [] (running-rest s _ r)).0
 
   -- so may those of the host's results
-  pub results-apply : (rs : List Result) → first_refusal (refusals s (Event.results rs)) ≡ 0 → AllApply (header s).made (λ o. T (is_completed (kind (object s o)))) rs
+  pub results_apply : (rs : List Result) → first_refusal (refusals s (Event.results rs)) ≡ 0 → AllApply (header s).made (λ o. T (is_completed (kind (object s o)))) rs
   unfolding refusals in_both
-  results-apply rs r =
+  results_apply rs r =
       let c = pass 2 (is_ended (header s).moment) _ r in
       let d = pass 4 (any_of (result_unknown s) rs) _ c.1 in
       let f = pass 9 (ltb result_limit (length rs) || any_of bad_result rs) [] d.1 in
@@ -159,10 +159,10 @@ accept_keeps s Event.call h a r = absurd a
 accept_keeps s (Event.pending c x) h a r = absurd a
 accept_keeps s (Event.settled v) h a r = absurd a
 accept_keeps s (Event.gather os) h a r = absurd a
-accept_keeps s (Event.await o) h a r = await-keeps s (runner (header s).moment) h (running s h _ r) o (await-made s h o r)
+accept_keeps s (Event.await o) h a r = await_keeps s (runner (header s).moment) h (running s h _ r) o (await-made s h o r)
 accept_keeps s (Event.complete v) h a r = completes s h (runner (header s).moment) v (running s h _ r) (complete-known s h v r)
 accept_keeps s (Event.fail n) h a r = fails s h (runner (header s).moment) n (running s h _ r) a
-accept_keeps s (Event.results rs) h a r = results-sound-store s h rs (results-apply s h rs r)
+accept_keeps s (Event.results rs) h a r = results-sound-store s h rs (results_apply s h rs r)
 accept_keeps s Event.resume h a r = resume_keeps s h (waiting s h [] r).0
 accept_keeps s (Event.cancel t) h a r =
     let c = waiting s h _ r in

@@ -23,21 +23,21 @@ use Rattle.machine.specs.Sound.{object_values, object_filled}
 use Rattle.machine_laws.specs.Views.{update, with_object}
 use Rattle.machine_laws.specs.Facts.{Open, Slotted, AwaitedBy, SoundBut}
 use Rattle.machine_laws.specs.TestLaws.{sum_same}
-use Rattle.machine_laws.specs.ValueLaws.{option-stays, object-stays, state-stays}
+use Rattle.machine_laws.specs.ValueLaws.{option_stays, object-stays, state_stays}
 use Rattle.machine_laws.specs.MakingLaws.{task_more}
-use Rattle.machine_laws.specs.StoreLaws.{update_same, update_other, update-case}
+use Rattle.machine_laws.specs.StoreLaws.{update_same, update_other, update_case}
 
 -- ---- sums with one row written
 
 module _ (f : Object → ℕ) (os : ℕ → Object) (i : ℕ) (x : Object) where
-  pub sum-before : (m : ℕ) → m ≤ i → sum_below m (λ o. f (update os i x o)) ≡ sum_below m (λ o. f (os o))
-  sum-before m l = sum_same m _ _ (λ j k. ap f (update_other os i x j (λ e. omega arith)))
+  pub sum_before : (m : ℕ) → m ≤ i → sum_below m (λ o. f (update os i x o)) ≡ sum_below m (λ o. f (os o))
+  sum_before m l = sum_same m _ _ (λ j k. ap f (update_other os i x j (λ e. omega arith)))
 
   sum_step : (n : ℕ) → (i < n → sum_below n (λ o. f (update os i x o)) + f (os i) ≡ sum_below n (λ o. f (os o)) + f x) → i < suc n → Dec (i ≡ n)
       → sum_below (suc n) (λ o. f (update os i x o)) + f (os i) ≡ sum_below (suc n) (λ o. f (os o)) + f x
   unfolding sum_below
   sum_step n h l (yes e) =
-      let a : sum_below n (λ o. f (update os i x o)) ≡ sum_below n (λ o. f (os o)) = sum-before n (omega arith) in
+      let a : sum_below n (λ o. f (update os i x o)) ≡ sum_below n (λ o. f (os o)) = sum_before n (omega arith) in
       let b : f (update os i x n) ≡ f x = subst (λ (m : ℕ). f (update os i x m) ≡ f x) e (ap f (update_same os i x)) in
       let c : f (os i) ≡ f (os n) = ap (λ (m : ℕ). f (os m)) e in
       omega arith
@@ -45,9 +45,9 @@ module _ (f : Object → ℕ) (os : ℕ → Object) (i : ℕ) (x : Object) where
       let b : f (update os i x n) ≡ f (os n) = ap f (update_other os i x n (λ e. d (sym e))) in
       omega (arith, h (omega arith))
 
-  pub sum-update : (n : ℕ) → i < n → sum_below n (λ o. f (update os i x o)) + f (os i) ≡ sum_below n (λ o. f (os o)) + f x
-  sum-update zero h = absurd (not-suc-le-zero h)
-  sum-update (suc n) h = sum_step n (λ l. sum-update n l) h (ℕ_discrete i n)
+  pub sum_update : (n : ℕ) → i < n → sum_below n (λ o. f (update os i x o)) + f (os i) ≡ sum_below n (λ o. f (os o)) + f x
+  sum_update zero h = absurd (not-suc-le-zero h)
+  sum_update (suc n) h = sum_step n (λ l. sum_update n l) h (ℕ_discrete i n)
 
 -- ---- one object
 
@@ -87,14 +87,14 @@ module _ (k l : ℕ) (P Q P' Q' : ℕ → Type 0) (v : View) (o : ℕ) (x : Obje
   new = update v.objects o x
 
   case : (F : ℕ → Object → Type 0) (p : ℕ) → F o x → ((p ≡ o → ⊥) → F p (v.objects p)) → F p (new p)
-  case F p a b = update-case v.objects o x (F p) p (λ q. subst (λ (m : ℕ). F m x) (sym q) a) b
+  case F p a b = update_case v.objects o x (F p) p (λ q. subst (λ (m : ℕ). F m x) (sym q) a) b
 
   more : (F : Object → Type 0) → (F (v.objects o) → F x) → (p : ℕ) → F (v.objects p) → F (new p)
-  more F f p h = update-case v.objects o x F p (λ q. f (subst (λ (m : ℕ). F (v.objects m)) q h)) (λ d. h)
+  more F f p h = update_case v.objects o x F p (λ q. f (subst (λ (m : ℕ). F (v.objects m)) q h)) (λ d. h)
 
   same-below : (p : ℕ) → places_below new p ≡ places_below v.objects p
   unfolding places_below
-  same-below p = sum_same p _ _ (λ i z. update-case v.objects o x (λ (y : Object). count_of y ≡ count_of (v.objects i)) i
+  same-below p = sum_same p _ _ (λ i z. update_case v.objects o x (λ (y : Object). count_of y ≡ count_of (v.objects i)) i
       (λ q. subst (λ (m : ℕ). count_of x ≡ count_of (v.objects m)) (sym q) ft.count) (λ d. refl))
 
   -- a holder of a slot of gather g still holds one
@@ -125,9 +125,9 @@ module _ (k l : ℕ) (P Q P' Q' : ℕ → Type 0) (v : View) (o : ℕ) (x : Obje
       case (λ r y. as_pending y ≡ some a → (b : PendingExternal) × (as_pending (v.objects r) ≡ some b) × (a.call.0 ≡ b.call.0)) r
       (λ z. ft.call a z) (λ d z. (a, z, refl))
 
-  pub object-keeps : SoundBut k P Q v → SoundBut l P' Q' (with_object v o x)
+  pub object_keeps : SoundBut k P Q v → SoundBut l P' Q' (with_object v o x)
   unfolding with_object
-  object-keeps h =
+  object_keeps h =
       record {
         fits = h.fits;
         main = h.main;
@@ -136,12 +136,12 @@ module _ (k l : ℕ) (P Q P' Q' : ℕ → Type 0) (v : View) (o : ℕ) (x : Obje
             (more (λ (y : Object). T (object_in_range v.header (places_below v.objects p) y)) (ft.range (places_below v.objects p)) p (h.objects p z));
         awaiters = λ p z. more (λ (y : Object). T (awaiter_in_range v.header (awaiter_of y))) ft.awaiter p (h.awaiters p z);
         tasks = λ t z. task_more v.header v.header (le_refl _) (le_refl _) v.objects new (λ o l. more (λ (y : Object). T (is_coroutine (kind y))) ft.coroutine o) t (v.tasks t) (h.tasks t z);
-        spawned = omega (arith, h.spawned, ft.room, sum-update committed_places v.objects o x v.header.made ft.made);
+        spawned = omega (arith, h.spawned, ft.room, sum_update committed_places v.objects o x v.header.made ft.made);
         items = λ g z. case (λ g y. T (items_below v.places g y)) g (ft.lower (h.items o ft.made)) (λ d. h.items g z);
         object-lists = λ p z. object-stays v.header.made v.header.made (le_refl _) v.objects new (λ o l. more-completed o) (new p)
             (more (λ (y : Object). T (object_values v.header.made v.objects y)) ft.known p (h.object-lists p z));
-        task-lists = λ t z. state-stays v.header.made v.header.made (le_refl _) v.objects new (λ o l. more-completed o) (v.tasks t).state (h.task-lists t z);
-        place-lists = λ p z. option-stays v.header.made v.header.made (le_refl _) v.objects new (λ o l. more-completed o) (v.places p).result (h.place-lists p z);
+        task-lists = λ t z. state_stays v.header.made v.header.made (le_refl _) v.objects new (λ o l. more-completed o) (v.tasks t).state (h.task-lists t z);
+        place-lists = λ p z. option_stays v.header.made v.header.made (le_refl _) v.objects new (λ o l. more-completed o) (v.places p).result (h.place-lists p z);
         entries = h.entries;
         calls = λ n p q y z a b e f c.
             let i = old-call p a e in
@@ -171,7 +171,7 @@ module _ (k l : ℕ) (P Q P' Q' : ℕ → Type 0) (v : View) (o : ℕ) (x : Obje
           let old : AwaitedBy v.header.made v.objects t b = h.awaits t z f b e in
           record {
             made = old.made;
-            awaiter = update-case v.objects o x (λ (y : Object). awaiter_of y ≡ Awaiter.Task (task_id t)) b
+            awaiter = update_case v.objects o x (λ (y : Object). awaiter_of y ≡ Awaiter.Task (task_id t)) b
                 (λ q. ft.awaits t z d (subst (λ (m : ℕ). blocked_on (v.tasks t).state ≡ some m) q e)
                 (subst (λ (m : ℕ). awaiter_of (v.objects m) ≡ Awaiter.Task (task_id t)) q old.awaiter)) (λ n. old.awaiter);
           }

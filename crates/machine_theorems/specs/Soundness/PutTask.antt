@@ -21,7 +21,7 @@ use Rattle.machine.specs.Sound.{task_in_range, items_below, state_values, option
 use Rattle.machine_laws.specs.Views.{update, with_places, with_queue}
 use Rattle.machine_laws.specs.Facts.{Open, Slotted, AwaitedBy, SoundBut}
 use Rattle.machine_laws.specs.TestLaws.{both, both_left, both_right, below, from-below}
-use Rattle.machine_laws.specs.StoreLaws.{update-case}
+use Rattle.machine_laws.specs.StoreLaws.{update_case}
 use Rattle.machine_theorems.specs.Soundness.ReadyTasks.{Queued, to_queued, from-queued}
 
 -- ---- a live task that drives a coroutine
@@ -72,7 +72,7 @@ module _ (k : ℕ) (P Q P' Q' : ℕ → Type 0) (v : View) (t : ℕ) (r : Task) 
   new = update v.tasks t r
 
   case : (F : ℕ → Task → Type 0) (u : ℕ) → F t r → ((u ≡ t → ⊥) → F u (v.tasks u)) → F u (new u)
-  case F u a b = update-case v.tasks t r (F u) u (λ e. subst (λ (m : ℕ). F m r) (sym e) a) b
+  case F u a b = update_case v.tasks t r (F u) u (λ e. subst (λ (m : ℕ). F m r) (sym e) a) b
 
   -- a task that lives now lived before, with its awaiter and its coroutine
   lived : (u : ℕ) → T (is_live (new u).state) → T (is_live (v.tasks u).state)
@@ -91,23 +91,23 @@ module _ (k : ℕ) (P Q P' Q' : ℕ → Type 0) (v : View) (t : ℕ) (r : Task) 
       let i = is_task_of_parts c (new u) (both_right (not (eqb u 0)) _ d) in
       both _ _ (both_left _ _ d) (is_task_of_give c (v.tasks u) (lived u i.0) (sym (coroutine_same u i.0) ∙ i.1))
 
-  pub task-keeps : SoundBut k P Q v → SoundBut k P' Q' (with_task_queue v t r q)
+  pub task_keeps : SoundBut k P Q v → SoundBut k P' Q' (with_task_queue v t r q)
   unfolding with_task_queue
-  task-keeps h =
+  task_keeps h =
       record {
         fits = h.fits;
         main = h.main;
         all-used = h.all-used;
         objects = h.objects;
         awaiters = h.awaiters;
-        tasks = λ u z. update-case v.tasks t r (λ (y : Task). T (task_in_range v.header v.objects u y)) u
+        tasks = λ u z. update_case v.tasks t r (λ (y : Task). T (task_in_range v.header v.objects u y)) u
             (λ e. subst (λ (m : ℕ). T (task_in_range v.header v.objects m r)) (sym e)
             (ft.range (subst (λ (m : ℕ). T (task_in_range v.header v.objects m (v.tasks m))) e (h.tasks u z))))
             (λ d. h.tasks u z);
         spawned = h.spawned;
         items = h.items;
         object-lists = h.object-lists;
-        task-lists = λ u z. update-case v.tasks t r (λ (y : Task). T (state_values v.header.made v.objects y.state)) u (λ e. ft.known) (λ d. h.task-lists u z);
+        task-lists = λ u z. update_case v.tasks t r (λ (y : Task). T (state_values v.header.made v.objects y.state)) u (λ e. ft.known) (λ d. h.task-lists u z);
         place-lists = h.place-lists;
         entries = from-queued v.header.next new q (ft.queue (to_queued v.header.next v.tasks v.queue h.entries));
         calls = h.calls;
@@ -230,12 +230,12 @@ module _ (v : View) (ps : ℕ → Place) (ft : PlacesWrite v ps) where
   filled_more (Object.ExternalFuture c x) h = h
   filled_more (Object.GatherFuture f n x) h = gather-more f n x h
 
-  pub open-same : (w : AwaitedGather) (z : ℕ) → Open v.places w z → Open ps w z
-  open-same w z h =
+  pub open_same : (w : AwaitedGather) (z : ℕ) → Open v.places w z → Open ps w z
+  open_same w z h =
       record { at = h.at; under = h.under; is_open = h.is_open; names = ap (λ (y : HeapId). y.0) (ft.item (w.first + h.at)) ∙ h.names }
 
   slotted-same : (z g y : ℕ) → Slotted v.header.made v.objects v.places z g y → Slotted v.header.made v.objects ps z g y
-  slotted-same z g y h = record { own = h.own; made = h.made; committed = h.committed; opens = λ w e. open-same w z (h.opens w e) }
+  slotted-same z g y h = record { own = h.own; made = h.made; committed = h.committed; opens = λ w e. open_same w z (h.opens w e) }
 
   pub places-keep : {k : ℕ} {P Q : ℕ → Type 0} → SoundBut k P Q v → SoundBut k P Q (with_places v ps)
   unfolding with_places

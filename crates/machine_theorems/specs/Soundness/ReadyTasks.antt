@@ -8,12 +8,12 @@ use Rattle.asyncio.specs.States.{pick, is_ready}
 use Rattle.asyncio.specs.Limits.{task_limit}
 use Rattle.queue.specs.declared.ReadyQueue.{ReadyQueue}
 use Rattle.queue.specs.Queue.{entries, push_back, remove, occurrences, Distinct, without}
-use Rattle.queue.specs.QueueLaws.{push_back-full, entries_push, entries-remove, occurrences_append, occurrences-without, at-most_once, distinct_append, distinct_without}
+use Rattle.queue.specs.QueueLaws.{push_back-full, entries_push, entries-remove, occurrences_append, occurrences-without, at_most_once, distinct_append, distinct_without}
 use Rattle.queue.specs.OrderLaws.{distinct_same}
 use Rattle.machine.specs.Sound.{entry_ready}
 use Rattle.machine_laws.specs.Views.{update}
 use Rattle.machine_laws.specs.TestLaws.{both, both_left, both_right, below, from-below}
-use Rattle.machine_laws.specs.StoreLaws.{update-case}
+use Rattle.machine_laws.specs.StoreLaws.{update_case}
 
 -- what stands in the queue is a task below the next number that is ready, and nothing stands there twice
 pub record Queued (next : ℕ) (ts : ℕ → Task) (q : List ℕ) : Type 0 where
@@ -135,16 +135,16 @@ module _ {next : ℕ} {ts : ℕ → Task} {q : List ℕ} (t : ℕ) (r : Task) (h
   pub queued-same : (n : ℕ) → next ≤ n → occurrences q t ≡ 0 → Queued n (update ts t r) q
   queued-same n m z =
       record {
-        ready = λ u l. update-case ts t r (λ (y : Task). (u < n) × T (is_ready y.state)) u (λ e. absurd (other u z l e))
+        ready = λ u l. update_case ts t r (λ (y : Task). (u < n) × T (is_ready y.state)) u (λ e. absurd (other u z l e))
             (λ ne. let y = h.ready u l in (omega (arith, y.0), y.1));
         distinct = h.distinct;
       }
 
   -- a task with a new row comes to the back
-  pub queued-push : (n : ℕ) → next ≤ n → occurrences q t ≡ 0 → t < n → T (is_ready r.state) → Queued n (update ts t r) (q ++ (t ∷ []))
-  queued-push n m z l k =
+  pub queued_push : (n : ℕ) → next ≤ n → occurrences q t ≡ 0 → t < n → T (is_ready r.state) → Queued n (update ts t r) (q ++ (t ∷ []))
+  queued_push n m z l k =
       record {
-        ready = λ u i. update-case ts t r (λ (y : Task). (u < n) × T (is_ready y.state)) u (λ e. (omega arith, k))
+        ready = λ u i. update_case ts t r (λ (y : Task). (u < n) × T (is_ready y.state)) u (λ e. (omega arith, k))
             (λ ne. let y = h.ready u (was u ne i) in (omega (arith, y.0), y.1));
         distinct = distinct_append q t h.distinct z;
       }
@@ -154,10 +154,10 @@ module _ {next : ℕ} {ts : ℕ → Task} {q : List ℕ} (t : ℕ) (r : Task) (h
           omega (arith, occurrences_append q (t ∷ []) u, not_the_one t u (λ d. ne (sym d)))
 
   -- a task goes out, and its row is written
-  pub queued-off : Queued next (update ts t r) (without q t)
-  queued-off =
+  pub queued_off : Queued next (update ts t r) (without q t)
+  queued_off =
       record {
-        ready = λ u l. update-case ts t r (λ (y : Task). (u < next) × T (is_ready y.state)) u (λ e. absurd (gone u e l)) (λ ne. h.ready u (was u l));
+        ready = λ u l. update_case ts t r (λ (y : Task). (u < next) × T (is_ready y.state)) u (λ e. absurd (gone u e l)) (λ ne. h.ready u (was u l));
         distinct = distinct_without q t h.distinct;
       }
     where
@@ -168,13 +168,13 @@ module _ {next : ℕ} {ts : ℕ → Task} {q : List ℕ} (t : ℕ) (r : Task) (h
       gone u e l =
           let z : eqb t u ≡ true = eq-eqb t u (sym e) in
           let k : occurrences (without q t) u ≡ occurrences q u - 1 = (rw z at (occurrences-without q t u)) in
-          not-suc-le-zero {n = 0} (omega (arith, at-most_once q h.distinct u))
+          not-suc-le-zero {n = 0} (omega (arith, at_most_once q h.distinct u))
 
 -- what was taken out is gone
 pub gone : (q : List ℕ) (t : ℕ) → Distinct q → occurrences (without q t) t ≡ 0
 gone q t d =
     let k : occurrences (without q t) t ≡ occurrences q t - 1 = (rw (eq-eqb t t refl) at (occurrences-without q t t)) in
-    omega (arith, at-most_once q d t)
+    omega (arith, at_most_once q d t)
 
 pub was_there : (q : List ℕ) (t u : ℕ) → 1 ≤ occurrences (without q t) u → 1 ≤ occurrences q u
 was_there q t u l = omega (arith, occurrences-without q t u)
@@ -198,8 +198,8 @@ module _ (q : ReadyQueue) (ids : length q.ids ≡ task_limit) {next : ℕ} {ts :
   queued-back n m z l k h = by (dec_lt q.len task_limit)
     where
       by : Dec (q.len < task_limit) → Queued n (update ts t r) (entries (push_back q t))
-      by (yes y) = subst (Queued n (update ts t r)) (sym (entries_push q t ids y)) (queued-push t r h n m z l k)
+      by (yes y) = subst (Queued n (update ts t r)) (sym (entries_push q t ids y)) (queued_push t r h n m z l k)
       by (no y) = subst (λ (p : ReadyQueue). Queued n (update ts t r) (entries p)) (sym (push_back-full q t (omega arith))) (queued-same t r h n m z)
 
   pub queued-remove : q.len ≤ task_limit → Queued next ts (entries q) → Queued next (update ts t r) (entries (remove q t))
-  queued-remove l h = subst (Queued next (update ts t r)) (sym (entries-remove q t ids l)) (queued-off t r h)
+  queued-remove l h = subst (Queued next (update ts t r)) (sym (entries-remove q t ids l)) (queued_off t r h)

@@ -32,9 +32,9 @@ use Rattle.machine_laws.specs.StoreLaws.{object-fits, object_put-object, header_
 use Rattle.machine_laws.specs.MakingLaws.{value-fits}
 use Rattle.machine_laws.specs.DeliveryLaws.{pending-object, first_below}
 use Rattle.machine_theorems.specs.Soundness.ReadyTasks.{queued-ordered}
-use Rattle.machine_theorems.specs.Soundness.Stores.{SoundDuring, queue-during}
-use Rattle.machine_theorems.specs.Soundness.Deliver.{Delivering, Detached, Settles, settle-keeps, detached-keeps, DeliveringError, failure-keeps}
-use Rattle.machine_theorems.specs.Soundness.Fill.{alone_keeps, DeliveringValue, success-keeps}
+use Rattle.machine_theorems.specs.Soundness.Stores.{SoundDuring, queue_during}
+use Rattle.machine_theorems.specs.Soundness.Deliver.{Delivering, Detached, Settles, settle_keeps, detached_keeps, DeliveringError, failure_keeps}
+use Rattle.machine_theorems.specs.Soundness.Fill.{alone_keeps, DeliveringValue, success_keeps}
 
 -- ---- a pending external settles
 
@@ -117,15 +117,15 @@ module _ {r : ℕ → Bool} {D : ℕ → Type 0} {hd : Header} (s : Store) (h : 
   unfolding view
   known-settled o y x f st k =
       let m : SoundDuring (Delivering (awaiter_of (object s o))) r (λ p. T (is_completed (kind (object s p)))) hd (put_object s o y) =
-      settle-keeps s o y f st (record { kept = h.kept; runs = h.runs; done = λ p d. d; head = h.head }) in
+      settle_keeps s o y f st (record { kept = h.kept; runs = h.runs; done = λ p d. d; head = h.head }) in
       subst (λ (z : Header). T (value_known z.made (object (put_object s o y)) x)) (sym (header_put-object s o y))
       (value_stays (header s).made (header s).made (le_refl _) (object s) (object (put_object s o y)) (λ p l. m.done p) x k)
 
   -- the pending external o is settled with the host's value, or what is stored, which is on its way then
-  pub resolve-delivering : (v : Value) → T (value_known (header s).made (object s) v) → (o : ℕ) (p : PendingExternal) → o < (header s).made → as_pending (object s o) ≡ some p
+  pub resolve_delivering : (v : Value) → T (value_known (header s).made (object s) v) → (o : ℕ) (p : PendingExternal) → o < (header s).made → as_pending (object s o) ≡ some p
       → DeliveringValue r D hd o (value_or p.stored v) (put_object s o (Object.ExternalFuture p.call (ExternalFutureState.Resolved (value_or p.stored v)))) p.awaiter
   unfolding view
-  resolve-delivering v k o p l e =
+  resolve_delivering v k o p l e =
       let x : Value = value_or p.stored v in
       let y : Object = Object.ExternalFuture p.call (ExternalFutureState.Resolved x) in
       let known : T (value_known (header s).made (object s) x) = known_or (view s) o p v h.kept.but l e k in
@@ -134,38 +134,38 @@ module _ {r : ℕ → Bool} {D : ℕ → Type 0} {hd : Header} (s : Store) (h : 
       let aw : awaiter_of (object s o) ≡ p.awaiter = pending_awaiter (object s o) p e in
       record {
         known = known-settled o y x fit st known;
-        detached = subst (λ (a : Awaiter). Detached (view (put_object s o y)) o a) aw (detached-keeps s o y fit st h);
+        detached = subst (λ (a : Awaiter). Detached (view (put_object s o y)) o a) aw (detached_keeps s o y fit st h);
         alone = alone_keeps s o y fit st (unfold kind in refl) h;
-        during = subst (λ (a : Awaiter). SoundDuring (Delivering a) r D hd (put_object s o y)) aw (settle-keeps s o y fit st h);
+        during = subst (λ (a : Awaiter). SoundDuring (Delivering a) r D hd (put_object s o y)) aw (settle_keeps s o y fit st h);
       }
 
   -- the row is written
-  pub resolve-row : (v : Value) → T (value_known (header s).made (object s) v) → (o : ℕ) (p : PendingExternal) → o < (header s).made → as_pending (object s o) ≡ some p
+  pub resolve_row : (v : Value) → T (value_known (header s).made (object s) v) → (o : ℕ) (p : PendingExternal) → o < (header s).made → as_pending (object s o) ≡ some p
       → object (put_object s o (Object.ExternalFuture p.call (ExternalFutureState.Resolved (value_or p.stored v)))) o
       ≡ Object.ExternalFuture p.call (ExternalFutureState.Resolved (value_or p.stored v))
   unfolding view
-  resolve-row v k o p l e =
+  resolve_row v k o p l e =
       object_put-object s o _ h.kept.memory.sized (omega (arith, l, h.kept.but.fits.made-fits))
       ((pending-fits s o p e).0, value-fits (header s).made (object s) (value_or p.stored v) h.kept.but.fits.made-fits (known_or (view s) o p v h.kept.but l e k))
 
-  pub resolve-keeps : (call : ℕ) (v : Value) → T (value_known (header s).made (object s) v) → SoundDuring Nothing r D hd (resolve_future s call v)
+  pub resolve_keeps : (call : ℕ) (v : Value) → T (value_known (header s).made (object s) v) → SoundDuring Nothing r D hd (resolve_future s call v)
   unfolding resolve_future resolve_pending
-  resolve-keeps call v k =
+  resolve_keeps call v k =
       found-keeps (pending_external s call) _ (low call)
-      (λ o p l e. (success-keeps r D hd _ o p.awaiter (value_or p.stored v) (resolve-delivering v k o p l e)).during)
+      (λ o p l e. (success_keeps r D hd _ o p.awaiter (value_or p.stored v) (resolve_delivering v k o p l e)).during)
 
   -- with an error
-  pub fail-delivering : (x : Error) → ErrorFits x → (o : ℕ) (p : PendingExternal) → o < (header s).made → as_pending (object s o) ≡ some p
+  pub fail_delivering : (x : Error) → ErrorFits x → (o : ℕ) (p : PendingExternal) → o < (header s).made → as_pending (object s o) ≡ some p
       → DeliveringError r D hd o (put_object s o (Object.ExternalFuture p.call (ExternalFutureState.Failed x))) p.awaiter
   unfolding view
-  fail-delivering x k o p l e =
+  fail_delivering x k o p l e =
       let y : Object = Object.ExternalFuture p.call (ExternalFutureState.Failed x) in
       let st : Settles (view s) o y = external_settles (view s) o p (ExternalFutureState.Failed x) l e (failed-answered (view s) p.call x) in
       let fit : ObjectFits y = ((pending-fits s o p e).0, k) in
       let aw : awaiter_of (object s o) ≡ p.awaiter = pending_awaiter (object s o) p e in
       record {
-        detached = subst (λ (a : Awaiter). Detached (view (put_object s o y)) o a) aw (detached-keeps s o y fit st h);
-        during = subst (λ (a : Awaiter). SoundDuring (Delivering a) r D hd (put_object s o y)) aw (settle-keeps s o y fit st h);
+        detached = subst (λ (a : Awaiter). Detached (view (put_object s o y)) o a) aw (detached_keeps s o y fit st h);
+        during = subst (λ (a : Awaiter). SoundDuring (Delivering a) r D hd (put_object s o y)) aw (settle_keeps s o y fit st h);
       }
 
   pub fail-row : (x : Error) → ErrorFits x → (o : ℕ) (p : PendingExternal) → o < (header s).made → as_pending (object s o) ≡ some p
@@ -173,10 +173,10 @@ module _ {r : ℕ → Bool} {D : ℕ → Type 0} {hd : Header} (s : Store) (h : 
   unfolding view
   fail-row x k o p l e = object_put-object s o _ h.kept.memory.sized (omega (arith, l, h.kept.but.fits.made-fits)) ((pending-fits s o p e).0, k)
 
-  pub fail-future-keeps : (call : ℕ) (x : Error) → ErrorFits x → SoundDuring Nothing r D hd (fail_future s call x)
+  pub fail_future_keeps : (call : ℕ) (x : Error) → ErrorFits x → SoundDuring Nothing r D hd (fail_future s call x)
   unfolding fail_future fail_pending
-  fail-future-keeps call x k =
-      found-keeps (pending_external s call) _ (low call) (λ o p l e. (failure-keeps r D hd x k _ o p.awaiter (fail-delivering x k o p l e)).during)
+  fail_future_keeps call x k =
+      found-keeps (pending_external s call) _ (low call) (λ o p l e. (failure_keeps r D hd x k _ o p.awaiter (fail_delivering x k o p l e)).during)
 
 -- ---- the event `results`
 
@@ -199,12 +199,12 @@ result_keeps {r} {D} {hd} s x m h = by (eqb x.kind 0) refl (eqb x.kind 1) (eqb x
     by : (a : Bool) → eqb x.kind 0 ≡ a → (b c d : Bool) → SoundDuring Nothing r D hd (pick a (resolve_future s x.call (to_value x.tag x.number))
         (pick b (fail_future s x.call (to_error 0 x.number)) (pick c s (pick d (fail_future s x.call Error.NotFound) (fail_future s x.call Error.ModuleFile)))))
     by true e b c d =
-        resolve-keeps s h x.call (to_value x.tag x.number)
+        resolve_keeps s h x.call (to_value x.tag x.number)
         (subst (λ (y : Header). T (value_known y.made (object s) (to_value x.tag x.number))) (sym h.head) (m (eqb-true x.kind 0 e) (object s) h.done))
-    by false e true c d = fail-future-keeps s h x.call (to_error 0 x.number) (host_fits x.number)
+    by false e true c d = fail_future_keeps s h x.call (to_error 0 x.number) (host_fits x.number)
     by false e false true d = h
-    by false e false false true = fail-future-keeps s h x.call Error.NotFound tt
-    by false e false false false = fail-future-keeps s h x.call Error.ModuleFile tt
+    by false e false false true = fail_future_keeps s h x.call Error.NotFound tt
+    by false e false false false = fail_future_keeps s h x.call Error.ModuleFile tt
 
 pub results-keep : {r : ℕ → Bool} {D : ℕ → Type 0} {hd : Header} (xs : List Result) (s : Store) → AllApply hd.made D xs → SoundDuring Nothing r D hd s
     → SoundDuring Nothing r D hd (apply_future_results s xs)
@@ -220,5 +220,5 @@ ordered-keep s u h =
     let n : ℕ = s.queue.len in
     let ids : length q.ids ≡ task_limit = h.kept.memory.ids in
     let short : q.len ≤ task_limit = h.kept.memory.words_right.queue-short in
-    queue-during u h (order_from q n) (subst (λ (k : ℕ). k ≤ task_limit) (sym (order_from-len q n)) short) (order_from-length q n ∙ ids)
+    queue_during u h (order_from q n) (subst (λ (k : ℕ). k ≤ task_limit) (sym (order_from-len q n)) short) (order_from-length q n ∙ ids)
     (queued-ordered (entries q) (entries (order_from q n)) (order_occurrences q n ids short))

@@ -24,7 +24,7 @@ use Rattle.machine.specs.Sound.{awaiter_in_range, object_in_range, is_slot, task
 use Rattle.machine_laws.specs.Views.{update}
 use Rattle.machine_laws.specs.Facts.{Slotted, AwaitedBy, SoundBut, Nothing}
 use Rattle.machine_laws.specs.TestLaws.{both, both_left, both_right, implies-map, ltb_more}
-use Rattle.machine_laws.specs.StoreLaws.{update-case}
+use Rattle.machine_laws.specs.StoreLaws.{update_case}
 use Rattle.machine_laws.specs.DeliveryLaws.{absurd_some}
 use Rattle.machine_theorems.specs.Soundness.ReadyTasks.{Queued, to_queued, from-queued}
 use Rattle.machine_theorems.specs.Soundness.PutTask.{is_task_of_parts}
@@ -86,7 +86,7 @@ module _ (k : ℕ) (Q : ℕ → Type 0) (v : View) (c g : ℕ) (h : SoundBut (su
   new = update v.tasks n row
 
   case : (F : ℕ → Task → Type 0) (u : ℕ) → F n row → ((u ≡ n → ⊥) → F u (v.tasks u)) → F u (new u)
-  case F u a b = update-case v.tasks n row (F u) u (λ e. subst (λ (m : ℕ). F m row) (sym e) a) b
+  case F u a b = update_case v.tasks n row (F u) u (λ e. subst (λ (m : ℕ). F m row) (sym e) a) b
 
   row-in-range : (m : ℕ) → n ≡ m → T (task_in_range (one_more v.header) v.objects n row)
   unfolding task_in_range is_slot awaiter_in_range implies
@@ -103,9 +103,9 @@ module _ (k : ℕ) (Q : ℕ → Type 0) (v : View) (c g : ℕ) (h : SoundBut (su
       (λ z. (λ e. sym (is_task_of_parts d row (both_right (not (eqb n 0)) _ z)).1, λ ne. absurd (ne refl)))
       (λ ne z. (λ e. absurd (ne e), λ m. z))
 
-  pub spawn-keeps : (q : List ℕ) → (Queued n v.tasks v.queue → Queued (n + 1) new q) → SoundBut k Nothing Q (spawn_view v c g q)
+  pub spawn_keeps : (q : List ℕ) → (Queued n v.tasks v.queue → Queued (n + 1) new q) → SoundBut k Nothing Q (spawn_view v c g q)
   unfolding spawn_view
-  spawn-keeps q queue =
+  spawn_keeps q queue =
       record {
         fits = record {
           made-fits = h.fits.made-fits;

@@ -19,16 +19,16 @@ use Rattle.machine.specs.Sound.{is_ended, runs_now, runner_in_range, sound}
 use Rattle.machine_laws.specs.Views.{Sized, update, with_task, with_object, with_place, with_places, with_header, with_queue}
 use Rattle.machine_laws.specs.Facts.{SoundBut, Nothing, SoundFacts, WordsInRange}
 use Rattle.machine_laws.specs.TestLaws.{both, both_left}
-use Rattle.machine_laws.specs.StoreLaws.{update-case, sized-put_task, sized-put_header, sized-put_queue, sized-add_log, header_put-header, header_put-object}
+use Rattle.machine_laws.specs.StoreLaws.{update_case, sized-put_task, sized-put_header, sized-put_queue, sized-add_log, header_put-header, header_put-object}
 use Rattle.machine_laws.specs.StoreLaws.{view-put_task, view-put_object, view-put_place, view-put_header, view-put_queue, view-add_log}
-use Rattle.machine_laws.specs.WordLaws.{words_facts, words_test, words-put-task, words-put-header, words-put-queue, words-add-log}
-use Rattle.machine_laws.specs.FactLaws.{to-test}
+use Rattle.machine_laws.specs.WordLaws.{words_facts, words_test, words_put_task, words_put_header, words_put_queue, words_add_log}
+use Rattle.machine_laws.specs.FactLaws.{to_test}
 use Rattle.machine_laws.specs.MakingLaws.{called_at, header_keeps}
 use Rattle.machine_laws.specs.SoundLaws.{sound_facts}
 use Rattle.machine_theorems.specs.Soundness.Memory.{Memory, memory_object, memory_place}
 use Rattle.machine_theorems.specs.Soundness.ReadyTasks.{Queued}
-use Rattle.machine_theorems.specs.Soundness.PutObject.{Fits, object-keeps}
-use Rattle.machine_theorems.specs.Soundness.PutTask.{with_task_queue, TaskWrite, task-keeps, queue_keeps, PlacesWrite, places-keep}
+use Rattle.machine_theorems.specs.Soundness.PutObject.{Fits, object_keeps}
+use Rattle.machine_theorems.specs.Soundness.PutTask.{with_task_queue, TaskWrite, task_keeps, queue_keeps, PlacesWrite, places-keep}
 
 -- the memory is of its lengths, the rows in use are canonical, and the view is sound but for what k, P and Q except
 pub record Kept (k : ℕ) (P Q : ℕ → Type 0) (s : Store) : Type 0 where
@@ -61,7 +61,7 @@ sound-store_of s z i h = record { memory = record { sized = z; ids = i; words_ri
 
 pub sound_store_sound : (s : Store) → SoundStore s → T (sound s)
 unfolding sound
-sound_store_sound s h = both _ _ (words_test s h.memory.words_right) (to-test (view s) h.facts)
+sound_store_sound s h = both _ _ (words_test s h.memory.words_right) (to_test (view s) h.facts)
 
 -- ---- each write
 
@@ -72,13 +72,13 @@ module _ {k : ℕ} {P Q : ℕ → Type 0} (s : Store) (h : Kept k P Q s) where
       let low : o < object_limit = omega (arith, ft.made, h.but.fits.made-fits) in
       record {
         memory = memory_object s o x ft.made f h.memory;
-        but = subst (SoundBut l P' Q') (sym (view-put_object s o x h.memory.sized low f)) (object-keeps k l P Q P' Q' (view s) o x ft h.but);
+        but = subst (SoundBut l P' Q') (sym (view-put_object s o x h.memory.sized low f)) (object_keeps k l P Q P' Q' (view s) o x ft h.but);
       }
 
-  pub view-task-queue : (t : ℕ) (r : Task) (q : ReadyQueue) → t < task_limit → TaskFits r
+  pub view-task_queue : (t : ℕ) (r : Task) (q : ReadyQueue) → t < task_limit → TaskFits r
       → view (put_queue (put_task s t r) q) ≡ with_task_queue (view s) t r (entries q)
   unfolding with_task_queue with_task with_queue
-  view-task-queue t r q low f = view-put_queue (put_task s t r) q ∙ ap (λ (v : View). with_queue v (entries q)) (view-put_task s t r h.memory.sized low f)
+  view-task_queue t r q low f = view-put_queue (put_task s t r) q ∙ ap (λ (v : View). with_queue v (entries q)) (view-put_task s t r h.memory.sized low f)
 
   pub task-kept : {P' Q' : ℕ → Type 0} (t : ℕ) (r : Task) (q : ReadyQueue) → t < (header s).next → TaskFits r → q.len ≤ task_limit → length q.ids ≡ task_limit
       → TaskWrite P Q P' Q' (view s) t r (entries q) → Kept k P' Q' (put_queue (put_task s t r) q)
@@ -89,20 +89,20 @@ module _ {k : ℕ} {P Q : ℕ → Type 0} (s : Store) (h : Kept k P Q s) where
           sized = sized-put_queue (put_task s t r) q (sized-put_task s t r h.memory.sized);
           ids = unfold put_queue in ids;
           words_right = unfold header put_queue put_task in
-              (words-put-queue (header s).next (header s).made (header s).used (put_task s t r) (sized-put_task s t r h.memory.sized)
-              (words-put-task _ _ _ s h.memory.sized h.memory.words_right (header s).next t r room f (λ u m ne. m)) q len);
+              (words_put_queue (header s).next (header s).made (header s).used (put_task s t r) (sized-put_task s t r h.memory.sized)
+              (words_put_task _ _ _ s h.memory.sized h.memory.words_right (header s).next t r room f (λ u m ne. m)) q len);
         };
-        but = subst (SoundBut k P' Q') (sym (view-task-queue t r q room f)) (task-keeps k P Q P' Q' (view s) t r (entries q) ft h.but);
+        but = subst (SoundBut k P' Q') (sym (view-task_queue t r q room f)) (task_keeps k P Q P' Q' (view s) t r (entries q) ft h.but);
       }
 
-  pub queue-kept : (q : ReadyQueue) → q.len ≤ task_limit → length q.ids ≡ task_limit
+  pub queue_kept : (q : ReadyQueue) → q.len ≤ task_limit → length q.ids ≡ task_limit
       → (Queued (header s).next (task s) (entries s.queue) → Queued (header s).next (task s) (entries q)) → Kept k P Q (put_queue s q)
-  queue-kept q len ids f =
+  queue_kept q len ids f =
       record {
         memory = record {
           sized = sized-put_queue s q h.memory.sized;
           ids = unfold put_queue in ids;
-          words_right = unfold header put_queue in (words-put-queue (header s).next (header s).made (header s).used s h.memory.sized h.memory.words_right q len);
+          words_right = unfold header put_queue in (words_put_queue (header s).next (header s).made (header s).used s h.memory.sized h.memory.words_right q len);
         };
         but = subst (SoundBut k P Q) (sym (view-put_queue s q)) (unfold view in (queue_keeps (entries q) f h.but));
       }
@@ -115,13 +115,13 @@ module _ {k : ℕ} {P Q : ℕ → Type 0} (s : Store) (h : Kept k P Q s) where
         but = subst (SoundBut k P Q) (sym (view-put_place s p r h.memory.sized room f)) (unfold with_place with_places view in (places-keep (view s) (update (place s) p r) ft h.but));
       }
 
-  pub add-log-kept : (x : LogEntry) → Kept k P Q (add_log s x)
-  add-log-kept x =
+  pub add_log-kept : (x : LogEntry) → Kept k P Q (add_log s x)
+  add_log-kept x =
       record {
         memory = record {
           sized = sized-add_log s x h.memory.sized;
           ids = unfold add_log in h.memory.ids;
-          words_right = unfold header add_log in (words-add-log (header s).next (header s).made (header s).used s h.memory.sized h.memory.words_right x);
+          words_right = unfold header add_log in (words_add_log (header s).next (header s).made (header s).used s h.memory.sized h.memory.words_right x);
         };
         but = subst (SoundBut k P Q) (sym (view-add_log s x)) h.but;
       }
@@ -143,7 +143,7 @@ module _ {P : ℕ → Type 0} {r : ℕ → Bool} {D : ℕ → Type 0} {hd : Head
       same = view-put_object s o x h.kept.memory.sized (omega (arith, ft.made, h.kept.but.fits.made-fits)) f
 
       more-done : (p : ℕ) → T (is_completed (kind (object s p))) → T (is_completed (kind (update (object s) o x p)))
-      more-done p t = update-case (object s) o x (λ (y : Object). T (is_completed (kind y))) p
+      more-done p t = update_case (object s) o x (λ (y : Object). T (is_completed (kind y))) p
           (λ q. ft.completed (subst (λ (m : ℕ). T (is_completed (kind (object s m)))) q t)) (λ d. t)
 
   pub task-during : {P' : ℕ → Type 0} {z : ℕ → Bool} (t : ℕ) (x : Task) (q : ReadyQueue) → t < (header s).next → TaskFits x → q.len ≤ task_limit → length q.ids ≡ task_limit
@@ -151,16 +151,16 @@ module _ {P : ℕ → Type 0} {r : ℕ → Bool} {D : ℕ → Type 0} {hd : Head
   task-during {P'} {z} t x q low f len ids ft rn =
       record {
         kept = task-kept s h.kept t x q low f len ids ft;
-        runs = subst (Runs z) (sym (view-task-queue s h.kept t x q (unfold view in (omega (arith, low, h.kept.but.fits.next_fits))) f)) rn;
+        runs = subst (Runs z) (sym (view-task_queue s h.kept t x q (unfold view in (omega (arith, low, h.kept.but.fits.next_fits))) f)) rn;
         done = λ p d. unfold object put_queue put_task in (h.done p d);
         head = unfold header put_queue put_task in h.head;
       }
 
-  pub queue-during : (q : ReadyQueue) → q.len ≤ task_limit → length q.ids ≡ task_limit
+  pub queue_during : (q : ReadyQueue) → q.len ≤ task_limit → length q.ids ≡ task_limit
       → (Queued (header s).next (task s) (entries s.queue) → Queued (header s).next (task s) (entries q)) → SoundDuring P r D hd (put_queue s q)
-  queue-during q len ids f =
+  queue_during q len ids f =
       record {
-        kept = queue-kept s h.kept q len ids f;
+        kept = queue_kept s h.kept q len ids f;
         runs = unfold view task header put_queue in h.runs;
         done = λ p d. unfold object put_queue in (h.done p d);
         head = unfold header put_queue in h.head;
@@ -175,10 +175,10 @@ module _ {P : ℕ → Type 0} {r : ℕ → Bool} {D : ℕ → Type 0} {hd : Head
         head = unfold header put_place in h.head;
       }
 
-  pub add-log-during : (x : LogEntry) → SoundDuring P r D hd (add_log s x)
-  add-log-during x =
+  pub add_log-during : (x : LogEntry) → SoundDuring P r D hd (add_log s x)
+  add_log-during x =
       record {
-        kept = add-log-kept s h.kept x;
+        kept = add_log-kept s h.kept x;
         runs = unfold view task header add_log in h.runs;
         done = λ o d. unfold object add_log in (h.done o d);
         head = unfold header add_log in h.head;
@@ -217,7 +217,7 @@ moment_sound_store {D} {hd} s m f k e h =
         sized = sized-put_header s i z;
         ids = unfold put_header in h.kept.memory.ids;
         words_right = subst (λ (y : Header). WordsInRange y.next y.made y.used (put_header s i)) (sym (header_put-header s i z but.fits))
-            (words-put-header _ _ _ s z h.kept.memory.words_right i but.fits);
+            (words_put_header _ _ _ s z h.kept.memory.words_right i but.fits);
       };
       facts = subst SoundFacts (sym (view-put_header s i z but.fits))
           (record { but = but; runner = subst (λ (y : Header). T (runner_in_range y.next m)) (sym h.head) k; runs = h.runs });

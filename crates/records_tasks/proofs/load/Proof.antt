@@ -60,8 +60,8 @@ loop-again c =
     let x = c.before.before.before.before.task_of.result in (
       omega arith,
       (
-        ap (λ (w : List ℕ). length w) c.before.store-task.ensures ∙ length-task_put w₁ c.before.before.new.result.0 x ∙ inv.1.0,
-        c.before.store-task.ensures
+        ap (λ (w : List ℕ). length w) c.before.store_task.ensures ∙ length-task_put w₁ c.before.before.new.result.0 x ∙ inv.1.0,
+        c.before.store_task.ensures
             ∙ ap (λ (i : TaskId). task_put w₁ i.0 x) c.before.before.new.ensures
             ∙ ap (λ (w : List ℕ). task_put w t₁ x) inv.1.1
             ∙ ap (λ (y : Task). task_put (loaded ts t₁ (replicate 4104 0)) t₁ y) c.before.before.before.before.task_of.ensures

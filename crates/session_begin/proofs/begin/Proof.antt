@@ -2,7 +2,7 @@ use lib.ListN.{length}
 use mathlib.Core.Path.{◌≡◌, refl, sym, ap, ◌∙◌}
 use Rattle.step_checks.specs.LentLaws.{slices_have}
 use Rattle.session_begin.specs.Begin.{with_numbers}
-use Rattle.session_begin.specs.BeginLaws.{begin-refused, begins}
+use Rattle.session_begin.specs.BeginLaws.{begin_refused, begins}
 use borrow.Author.Rules.{rules}
 use Rattle.session_begin.proofs.begin.Statement.{statement}
 use Rattle.session_begin.proofs.begin.Tie as tie
@@ -47,7 +47,7 @@ same-length-6 : tie.Need-same-length-6
 same-length-6 c = search rules
 
 returns-2 : tie.Need-returns-2
-returns-2 c = λ l. ap with_numbers (begin-refused c.before.before.before.before.before.before.before.before.args.tasks.now c.before.before.before.before.before.before.before.before.args.objects.now c.before.before.before.before.before.before.before.before.args.places.now c.before.before.before.before.before.before.before.before.args.queue l c.before.slices_right.ensures c.if1.false)
+returns-2 c = λ l. ap with_numbers (begin_refused c.before.before.before.before.before.before.before.before.args.tasks.now c.before.before.before.before.before.before.before.before.args.objects.now c.before.before.before.before.before.before.before.before.args.places.now c.before.before.before.before.before.before.before.before.args.queue l c.before.slices_right.ensures c.if1.false)
 
 pub begin-spec : {M : Type 1} → statement M
 begin-spec =

@@ -18,7 +18,7 @@ same-length-2 : tie.Need_same_length_2
 same-length-2 c = search rules
 
 returns : tie.Need_returns
-returns c = (rw c.before.before.before.new.ensures at c.before.before.store-task.ensures, c.before.before.before.before.before.before.before.store-header.ensures)
+returns c = (rw c.before.before.before.new.ensures at c.before.before.store_task.ensures, c.before.before.before.before.before.before.before.store-header.ensures)
 
 pub store-main-spec : {M : Type 1} → statement M
 store-main-spec =

@@ -2,7 +2,7 @@ use mathlib.Core.Path.{◌≡◌, sym, ◌∙◌}
 use mathlib.Core.List.{[]}
 use lib.ListN.{length}
 use Rattle.machine.specs.Lent.{lengths_right, slices_right}
-use Rattle.step_checks.specs.LentLaws.{lengths_have, wrong-length, not_sound}
+use Rattle.step_checks.specs.LentLaws.{lengths_have, wrong_length, not_sound}
 use borrow.Author.Rules.{rules}
 use Rattle.session_dispatch.proofs.dispatch.Statement.{statement}
 use Rattle.session_dispatch.proofs.dispatch.Tie as tie
@@ -83,7 +83,7 @@ same-length-12 c = search rules
 
 -- src/lib.rt:89:1
 returns-3 : tie.Need-returns-3
-returns-3 c = λ l. wrong-length c.before.before.before.before.before.before.before.before.before.before.before.before.args.tasks.now c.before.before.before.before.before.before.before.before.before.before.before.before.args.objects.now c.before.before.before.before.before.before.before.before.before.before.before.before.args.places.now c.before.before.before.before.before.before.before.before.before.before.before.before.args.queue c.before.before.before.before.before.before.before.before.before.before.before.before.args.calls.now l _ c.before.lengths_right.ensures c.if1.false
+returns-3 c = λ l. wrong_length c.before.before.before.before.before.before.before.before.before.before.before.before.args.tasks.now c.before.before.before.before.before.before.before.before.before.before.before.before.args.objects.now c.before.before.before.before.before.before.before.before.before.before.before.before.args.places.now c.before.before.before.before.before.before.before.before.before.before.before.before.args.queue c.before.before.before.before.before.before.before.before.before.before.before.before.args.calls.now l _ c.before.lengths_right.ensures c.if1.false
 
 pub dispatch-spec : {M : Type 1} → statement M
 dispatch-spec =

@@ -4,7 +4,7 @@ use lib.ListN.{length}
 use Rattle.machine.specs.Machine.{Event}
 use Rattle.machine.specs.Lent.{slices_right, read_as}
 use Rattle.step_checks.specs.LentLaws.{slices_have}
-use Rattle.step_read.specs.ReadLaws.{read_length, read-unsound, read-sound}
+use Rattle.step_read.specs.ReadLaws.{read_length, read_unsound, read-sound}
 use borrow.Author.Rules.{rules}
 use Rattle.session_reads.proofs.eager.Statement.{statement}
 use Rattle.session_reads.proofs.eager.Tie as tie
@@ -23,7 +23,7 @@ unfolding slices_right
 returns c = λ l. ap read_as (read-sound c.before.before.before.before.before.before.before.before.args.tasks.now c.before.before.before.before.before.before.before.before.args.objects.now c.before.before.before.before.before.before.before.before.args.places.now c.before.before.before.before.before.before.before.before.args.queue l Event.eager c.before.before.before.before.slices_right.ensures c.before.before.before.if1.true (c.before.before.is-sound.ensures l) c.before.if2.true (c.eager.ensures c.before.before.before.before.before.before.before.before.args.tasks.now c.before.before.before.before.before.before.before.before.args.places.now []))
 
 returns-2 : tie.Need-returns-2
-returns-2 c = λ l. ap read_as (read-unsound c.before.before.before.before.before.before.before.args.tasks.now c.before.before.before.before.before.before.before.args.objects.now c.before.before.before.before.before.before.before.args.places.now c.before.before.before.before.before.before.before.args.queue l Event.eager c.before.before.before.slices_right.ensures c.before.before.if1.true (c.before.is-sound.ensures l) c.if2.false)
+returns-2 c = λ l. ap read_as (read_unsound c.before.before.before.before.before.before.before.args.tasks.now c.before.before.before.before.before.before.before.args.objects.now c.before.before.before.before.before.before.before.args.places.now c.before.before.before.before.before.before.before.args.queue l Event.eager c.before.before.before.slices_right.ensures c.before.before.if1.true (c.before.is-sound.ensures l) c.if2.false)
 
 returns-3 : tie.Need-returns-3
 returns-3 c = λ l. ap read_as (read_length c.before.before.before.before.before.args.tasks.now c.before.before.before.before.before.args.objects.now c.before.before.before.before.before.args.places.now c.before.before.before.before.before.args.queue l Event.eager c.before.slices_right.ensures c.if1.false)

@@ -1,13 +1,13 @@
 use mathlib.Core.Path.{sym, ◌∙◌}
 use Rattle.rows.specs.TableLaws.{header_read}
 use Rattle.queue.specs.Queue.{entries}
-use Rattle.sound.specs.Clauses.{sound-long, sound-worded, sound-tabled, sound-tasked, sound-told}
+use Rattle.sound.specs.Clauses.{sound_long, sound_worded, sound_tabled, sound_tasked, sound-told}
 use borrow.Author.Rules.{rules}
 use Rattle.sound.proofs.is_sound.Statement.{statement}
 use Rattle.sound.proofs.is_sound.Tie as tie
 
 returns : tie.Need_returns
-returns c = λ l. sound-long _ _ _ _ l c.if1.true
+returns c = λ l. sound_long _ _ _ _ l c.if1.true
 
 load-header-requires : tie.Need-load-header-requires
 load-header-requires c κs = search rules
@@ -30,13 +30,13 @@ returns-2 c = λ l. sound-told _ _ _ _ l c.before.before.before.before.before.be
 
 returns-3 : tie.Need-returns-3
 unfolding entries
-returns-3 c = λ l. sound-tasked _ _ _ _ l c.before.before.before.before.before.before.before.before.if1.false c.before.before.before.before.before.before.load-header.ensures (sym c.before.before.before.before.if2.true ∙ c.before.before.before.before.before.rows_canonical.ensures) (sym c.before.before.if3.true ∙ c.before.before.before.tables_sound.ensures) (sym c.if4.false ∙ c.before.tasks_sound.ensures)
+returns-3 c = λ l. sound_tasked _ _ _ _ l c.before.before.before.before.before.before.before.before.if1.false c.before.before.before.before.before.before.load-header.ensures (sym c.before.before.before.before.if2.true ∙ c.before.before.before.before.before.rows_canonical.ensures) (sym c.before.before.if3.true ∙ c.before.before.before.tables_sound.ensures) (sym c.if4.false ∙ c.before.tasks_sound.ensures)
 
 returns-4 : tie.Need-returns-4
-returns-4 c = λ l. sound-tabled _ _ _ _ l c.before.before.before.before.before.before.if1.false c.before.before.before.before.load-header.ensures (sym c.before.before.if2.true ∙ c.before.before.before.rows_canonical.ensures) (sym c.if3.false ∙ c.before.tables_sound.ensures)
+returns-4 c = λ l. sound_tabled _ _ _ _ l c.before.before.before.before.before.before.if1.false c.before.before.before.before.load-header.ensures (sym c.before.before.if2.true ∙ c.before.before.before.rows_canonical.ensures) (sym c.if3.false ∙ c.before.tables_sound.ensures)
 
 returns-5 : tie.Need-returns-5
-returns-5 c = λ l. sound-worded _ _ _ _ l c.before.before.before.before.if1.false c.before.before.load-header.ensures (sym c.if2.false ∙ c.before.rows_canonical.ensures)
+returns-5 c = λ l. sound_worded _ _ _ _ l c.before.before.before.before.if1.false c.before.before.load-header.ensures (sym c.if2.false ∙ c.before.rows_canonical.ensures)
 
 pub is-sound-spec : {M : Type 1} → statement M
 is-sound-spec =

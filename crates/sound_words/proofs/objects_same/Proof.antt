@@ -4,7 +4,7 @@ use Prim.Native.Nat.{◌-◌, ◌≤◌}
 use native.Mathlib.Omega.{arith}
 use borrow.Author.Rules.{rules}
 use Rattle.machine.specs.Tests.{all_below}
-use Rattle.sound_words.specs.Loops.{all_none, all-turn, all-fails, all_end}
+use Rattle.sound_words.specs.Loops.{all_none, all_turn, all_fails, all_end}
 use Rattle.rows.specs.Canonical.{object_canonical}
 use Rattle.sound_words.proofs.objects_same.Statement.{statement}
 use Rattle.sound_words.proofs.objects_same.Tie as tie
@@ -28,13 +28,13 @@ loop-less : tie.Need-loop-smaller invariant_loop decreases_loop
 loop-less c = omega arith
 
 loop-again : tie.Need-loop-preserved invariant_loop decreases_loop
-loop-again c = (all-turn _ c.before.before.before.loop.i (sym c.if1.true ∙ c.before.object-same.ensures) c.before.before.before.loop.invariant.0, omega arith)
+loop-again c = (all_turn _ c.before.before.before.loop.i (sym c.if1.true ∙ c.before.object-same.ensures) c.before.before.before.loop.invariant.0, omega arith)
 
 returns : tie.Need_returns invariant_loop decreases_loop
-returns c = all-fails _ c.before.before.before.loop.i _ c.before.before.loop-test.true (sym c.if1.false ∙ c.before.object-same.ensures)
+returns c = all_fails _ c.before.before.before.loop.i _ c.before.before.loop_test.true (sym c.if1.false ∙ c.before.object-same.ensures)
 
 returns-2 : tie.Need-returns-2 invariant_loop decreases_loop
-returns-2 c = all_end _ c.before.loop.i _ (omega arith) c.loop-test.false c.before.loop.invariant.0
+returns-2 c = all_end _ c.before.loop.i _ (omega arith) c.loop_test.false c.before.loop.invariant.0
 
 pub objects-same-spec : {M : Type 1} → statement M
 objects-same-spec =

@@ -5,7 +5,7 @@ use native.Mathlib.Omega.{arith}
 use lib.ListN.{length}
 use borrow.Author.Tests.{eq-eqb, ne_eqb}
 use Rattle.machine.specs.Tests.{all_below}
-use Rattle.sound_words.specs.Loops.{all_none, all-turn, all-fails, all_end}
+use Rattle.sound_words.specs.Loops.{all_none, all_turn, all_fails, all_end}
 use Rattle.sound_words.specs.Words.{same_word, same-below}
 use Rattle.sound_words.proofs.same8.Statement.{statement}
 use Rattle.sound_words.proofs.same8.Tie as tie
@@ -38,13 +38,13 @@ loop-less : tie.Need-loop-smaller invariant_loop decreases_loop
 loop-less c = omega arith
 
 loop-again : tie.Need-loop-preserved invariant_loop decreases_loop
-loop-again c = (all-turn _ c.before.before.loop.i (sym (eq-eqb _ _ c.if1.true)) c.before.before.loop.invariant.0, omega arith, omega arith, omega arith)
+loop-again c = (all_turn _ c.before.before.loop.i (sym (eq-eqb _ _ c.if1.true)) c.before.before.loop.invariant.0, omega arith, omega arith, omega arith)
 
 returns : tie.Need_returns invariant_loop decreases_loop
-returns c = all-fails _ c.before.before.loop.i 8 c.before.loop-test.true (sym (ne_eqb _ _ c.if1.false)) ∙ same-below 8 _ _ c.before.before.loop.invariant.2 c.before.before.loop.invariant.3
+returns c = all_fails _ c.before.before.loop.i 8 c.before.loop_test.true (sym (ne_eqb _ _ c.if1.false)) ∙ same-below 8 _ _ c.before.before.loop.invariant.2 c.before.before.loop.invariant.3
 
 returns-2 : tie.Need-returns-2 invariant_loop decreases_loop
-returns-2 c = all_end _ c.before.loop.i 8 (omega arith) c.loop-test.false c.before.loop.invariant.0 ∙ same-below 8 _ _ c.before.loop.invariant.2 c.before.loop.invariant.3
+returns-2 c = all_end _ c.before.loop.i 8 (omega arith) c.loop_test.false c.before.loop.invariant.0 ∙ same-below 8 _ _ c.before.loop.invariant.2 c.before.loop.invariant.3
 
 pub same8-spec : {M : Type 1} → statement M
 same8-spec =

@@ -1,6 +1,6 @@
 use mathlib.Core.Path.{◌≡◌, sym, ◌∙◌}
 use mathlib.Core.List.{[]}
-use Rattle.step_event.specs.SoundStepLaws.{right_lengths, steps-soundly}
+use Rattle.step_event.specs.SoundStepLaws.{right_lengths, steps_soundly}
 use borrow.Author.Rules.{rules}
 use Rattle.step_event.proofs.step.Statement.{statement}
 use Rattle.step_event.proofs.step.Tie as tie
@@ -24,7 +24,7 @@ same-length-4 : tie.Need_same_length_4
 same-length-4 c = search rules
 
 returns : tie.Need_returns
-returns c = λ l. steps-soundly c.before.before.before.before.before.before.before.before.before.before.before.before.before.before.before.before.before.before.before.before.before.before.args.tasks.now c.before.before.before.before.before.before.before.before.before.before.before.before.before.before.before.before.before.before.before.before.before.before.args.objects.now c.before.before.before.before.before.before.before.before.before.before.before.before.before.before.before.before.before.before.before.before.before.before.args.places.now c.before.before.before.before.before.before.before.before.before.before.before.before.before.before.before.before.before.before.before.before.before.before.args.queue c.before.before.before.before.before.before.before.before.before.before.before.before.before.before.before.before.before.before.before.before.before.before.args.calls.now l _ c.before.before.before.before.before.before.before.before.before.before.before.before.before.before.before.before.before.before.before.before.before.before.requires.0 c.before.before.before.before.before.before.before.before.before.before.before.before.before.before.before.before.before.before.before.before.before.before.requires.1 c.before.before.before.before.before.before.before.before.before.before.before.before.checked.result.answer (c.before.before.before.before.before.before.before.before.before.before.before.before.checked.ensures []) c.before.before.write_calls.ensures
+returns c = λ l. steps_soundly c.before.before.before.before.before.before.before.before.before.before.before.before.before.before.before.before.before.before.before.before.before.before.args.tasks.now c.before.before.before.before.before.before.before.before.before.before.before.before.before.before.before.before.before.before.before.before.before.before.args.objects.now c.before.before.before.before.before.before.before.before.before.before.before.before.before.before.before.before.before.before.before.before.before.before.args.places.now c.before.before.before.before.before.before.before.before.before.before.before.before.before.before.before.before.before.before.before.before.before.before.args.queue c.before.before.before.before.before.before.before.before.before.before.before.before.before.before.before.before.before.before.before.before.before.before.args.calls.now l _ c.before.before.before.before.before.before.before.before.before.before.before.before.before.before.before.before.before.before.before.before.before.before.requires.0 c.before.before.before.before.before.before.before.before.before.before.before.before.before.before.before.before.before.before.before.before.before.before.requires.1 c.before.before.before.before.before.before.before.before.before.before.before.before.checked.result.answer (c.before.before.before.before.before.before.before.before.before.before.before.before.checked.ensures []) c.before.before.write_calls.ensures
 
 pub step_spec : {M : Type 1} → statement M
 step_spec =

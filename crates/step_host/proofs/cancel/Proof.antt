@@ -1,7 +1,7 @@
 use mathlib.Core.Path.{◌≡◌, refl, sym, ap, ◌∙◌}
 use mathlib.Core.List.{[]}
 use native.Mathlib.Omega.{arith}
-use Rattle.step_checks.specs.StepLaws.{cancel-ended, cancel-running, cancel-dead, cancel-main, cancel-goes, cancel-not-longer, cancel-lost-fits, live-fits}
+use Rattle.step_checks.specs.StepLaws.{cancel-ended, cancel-running, cancel_dead, cancel_main, cancel-goes, cancel-not_longer, cancel_lost_fits, live-fits}
 use borrow.Author.Rules.{rules}
 use Rattle.step_host.proofs.cancel.Statement.{statement}
 use Rattle.step_host.proofs.cancel.Tie as tie
@@ -25,13 +25,13 @@ same_length : tie.Need_same_length
 same_length c = search rules
 
 returns : tie.Need_returns
-returns c = λ l. cancel-dead c.before.before.before.before.before.before.before.before.before.args.tasks.now c.before.before.before.before.before.before.before.before.before.args.objects.now c.before.before.before.before.before.before.before.before.before.args.places.now c.before.before.before.before.before.before.before.before.before.args.queue l c.before.before.before.before.before.load-header.ensures c.before.before.before.before.before.before.before.before.before.args.t c.before.before.before.enum-told3.given.1 (c.before.not_live.ensures c.before.before.before.before.before.before.before.before.before.args.places.now c.before.before.before.before.before.before.before.before.before.args.queue l) c.if1.true
+returns c = λ l. cancel_dead c.before.before.before.before.before.before.before.before.before.args.tasks.now c.before.before.before.before.before.before.before.before.before.args.objects.now c.before.before.before.before.before.before.before.before.before.args.places.now c.before.before.before.before.before.before.before.before.before.args.queue l c.before.before.before.before.before.load-header.ensures c.before.before.before.before.before.before.before.before.before.args.t c.before.before.before.enum-told3.given.1 (c.before.not_live.ensures c.before.before.before.before.before.before.before.before.before.args.places.now c.before.before.before.before.before.before.before.before.before.args.queue l) c.if1.true
 
 same-length-2 : tie.Need_same_length_2
 same-length-2 c = search rules
 
 returns-2 : tie.Need-returns-2
-returns-2 c = λ l. cancel-main c.before.before.before.before.before.before.before.before.before.before.args.tasks.now c.before.before.before.before.before.before.before.before.before.before.args.objects.now c.before.before.before.before.before.before.before.before.before.before.args.places.now c.before.before.before.before.before.before.before.before.before.before.args.queue l c.before.before.before.before.before.before.load-header.ensures c.before.before.before.before.before.before.before.before.before.before.args.t c.before.before.before.before.enum-told3.given.1 (c.before.before.not_live.ensures c.before.before.before.before.before.before.before.before.before.before.args.places.now c.before.before.before.before.before.before.before.before.before.before.args.queue l) c.before.if1.false c.if2.true
+returns-2 c = λ l. cancel_main c.before.before.before.before.before.before.before.before.before.before.args.tasks.now c.before.before.before.before.before.before.before.before.before.before.args.objects.now c.before.before.before.before.before.before.before.before.before.before.args.places.now c.before.before.before.before.before.before.before.before.before.before.args.queue l c.before.before.before.before.before.before.load-header.ensures c.before.before.before.before.before.before.before.before.before.before.args.t c.before.before.before.before.enum-told3.given.1 (c.before.before.not_live.ensures c.before.before.before.before.before.before.before.before.before.before.args.places.now c.before.before.before.before.before.before.before.before.before.before.args.queue l) c.before.if1.false c.if2.true
 
 new-requires : tie.Need_new_requires
 new-requires c κs = search rules
@@ -40,10 +40,10 @@ cancel-task-requires : tie.Need-cancel-task-requires
 cancel-task-requires c κs = (c.before.before.before.before.before.before.before.before.before.before.before.before.requires.0, c.before.before.before.before.before.before.before.before.before.before.before.before.requires.1, c.before.before.before.before.before.before.before.before.before.before.before.before.requires.2, rw c.new.ensures (live-fits c.before.before.before.before.before.before.before.before.before.before.before.before.args.tasks.now c.before.before.before.before.before.before.before.before.before.before.before.before.args.objects.now c.before.before.before.before.before.before.before.before.before.before.before.before.args.places.now c.before.before.before.before.before.before.before.before.before.before.before.before.args.queue [] c.before.before.before.before.before.before.before.before.before.before.before.before.args.t (c.before.before.before.before.not_live.ensures c.before.before.before.before.before.before.before.before.before.before.before.before.args.places.now c.before.before.before.before.before.before.before.before.before.before.before.before.args.queue []) c.before.before.before.if1.false))
 
 sub-lost : tie.Need-overflow-sub-lost
-sub-lost c = let a = c.before.before.before.before.before.before.before.before.before.before.before.before.before.before.before.before.args in cancel-not-longer a.tasks.now a.objects.now a.places.now a.queue [] a.t (rw c.before.before.before.before.new.ensures at (c.before.before.before.cancel_task.ensures []))
+sub-lost c = let a = c.before.before.before.before.before.before.before.before.before.before.before.before.before.before.before.before.args in cancel-not_longer a.tasks.now a.objects.now a.places.now a.queue [] a.t (rw c.before.before.before.before.new.ensures at (c.before.before.before.cancel_task.ensures []))
 
 cast-lost : tie.Need-overflow-cast-lost
-cast-lost c = let a = c.before.before.before.before.before.before.before.before.before.before.before.before.before.before.before.before.args in omega (arith, cancel-lost-fits a.tasks.now a.objects.now a.places.now a.queue [] a.t (rw c.before.before.before.before.new.ensures at (c.before.before.before.cancel_task.ensures [])))
+cast-lost c = let a = c.before.before.before.before.before.before.before.before.before.before.before.before.before.before.before.before.args in omega (arith, cancel_lost_fits a.tasks.now a.objects.now a.places.now a.queue [] a.t (rw c.before.before.before.before.new.ensures at (c.before.before.before.cancel_task.ensures [])))
 
 returns-3 : tie.Need-returns-3
 returns-3 c = λ l. cancel-ended c.before.before.before.before.before.before.args.tasks.now c.before.before.before.before.before.before.args.objects.now c.before.before.before.before.before.before.args.places.now c.before.before.before.before.before.before.args.queue l c.before.before.load-header.ensures c.before.before.before.before.before.before.args.t c.enum_told.given.1

@@ -1,5 +1,5 @@
 use mathlib.Core.Path.{◌≡◌, refl, sym, ap, ◌∙◌}
-use Rattle.step_checks.specs.StepLaws.{results-ended, results-unknown, results-many, results-bad, results-done}
+use Rattle.step_checks.specs.StepLaws.{results-ended, results_unknown, results-many, results_bad, results-done}
 use borrow.Author.Rules.{rules}
 use Rattle.step_host.proofs.results.Statement.{statement}
 use Rattle.step_host.proofs.results.Tie as tie
@@ -20,7 +20,7 @@ same-length-2 : tie.Need_same_length_2
 same-length-2 c = search rules
 
 returns-2 : tie.Need-returns-2
-returns-2 c = λ l. results-unknown c.before.before.before.before.before.before.before.before.before.before.args.tasks.now c.before.before.before.before.before.before.before.before.before.before.args.objects.now c.before.before.before.before.before.before.before.before.before.before.args.places.now c.before.before.before.before.before.before.before.before.before.before.args.queue l c.before.before.before.before.before.before.before.before.before.before.args.results.now c.before.before.before.before.is_ended.ensures c.before.before.before.if1.false (c.before.any-unknown.ensures c.before.before.before.before.before.before.before.before.before.before.args.tasks.now c.before.before.before.before.before.before.before.before.before.before.args.places.now c.before.before.before.before.before.before.before.before.before.before.args.queue l) c.if2.true
+returns-2 c = λ l. results_unknown c.before.before.before.before.before.before.before.before.before.before.args.tasks.now c.before.before.before.before.before.before.before.before.before.before.args.objects.now c.before.before.before.before.before.before.before.before.before.before.args.places.now c.before.before.before.before.before.before.before.before.before.before.args.queue l c.before.before.before.before.before.before.before.before.before.before.args.results.now c.before.before.before.before.is_ended.ensures c.before.before.before.if1.false (c.before.any-unknown.ensures c.before.before.before.before.before.before.before.before.before.before.args.tasks.now c.before.before.before.before.before.before.before.before.before.before.args.places.now c.before.before.before.before.before.before.before.before.before.before.args.queue l) c.if2.true
 
 same-length-3 : tie.Need_same_length_3
 same-length-3 c = search rules
@@ -35,7 +35,7 @@ same-length-4 : tie.Need_same_length_4
 same-length-4 c = search rules
 
 returns-4 : tie.Need-returns-4
-returns-4 c = λ l. results-bad c.before.before.before.before.before.before.before.before.before.before.before.before.before.args.tasks.now c.before.before.before.before.before.before.before.before.before.before.before.before.before.args.objects.now c.before.before.before.before.before.before.before.before.before.before.before.before.before.args.places.now c.before.before.before.before.before.before.before.before.before.before.before.before.before.args.queue l c.before.before.before.before.before.before.before.before.before.before.before.before.before.args.results.now c.before.before.before.before.before.before.before.is_ended.ensures c.before.before.before.before.before.before.if1.false (c.before.before.before.before.any-unknown.ensures c.before.before.before.before.before.before.before.before.before.before.before.before.before.args.tasks.now c.before.before.before.before.before.before.before.before.before.before.before.before.before.args.places.now c.before.before.before.before.before.before.before.before.before.before.before.before.before.args.queue l) c.before.before.before.if2.false c.before.before.if3.false c.before.any-bad.ensures c.if4.true
+returns-4 c = λ l. results_bad c.before.before.before.before.before.before.before.before.before.before.before.before.before.args.tasks.now c.before.before.before.before.before.before.before.before.before.before.before.before.before.args.objects.now c.before.before.before.before.before.before.before.before.before.before.before.before.before.args.places.now c.before.before.before.before.before.before.before.before.before.before.before.before.before.args.queue l c.before.before.before.before.before.before.before.before.before.before.before.before.before.args.results.now c.before.before.before.before.before.before.before.is_ended.ensures c.before.before.before.before.before.before.if1.false (c.before.before.before.before.any-unknown.ensures c.before.before.before.before.before.before.before.before.before.before.before.before.before.args.tasks.now c.before.before.before.before.before.before.before.before.before.before.before.before.before.args.places.now c.before.before.before.before.before.before.before.before.before.before.before.before.before.args.queue l) c.before.before.before.if2.false c.before.before.if3.false c.before.any-bad.ensures c.if4.true
 
 apply-future-results-requires : tie.Need-apply-future-results-requires
 apply-future-results-requires c κs = search rules

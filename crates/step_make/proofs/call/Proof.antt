@@ -1,7 +1,7 @@
 use mathlib.Core.Path.{◌≡◌, refl, sym, ◌∙◌}
 use borrow.Author.Tests.{leb-false}
 use Rattle.machine.specs.Machine.{refusals}
-use Rattle.step_checks.specs.StepLaws.{no-turn, call-refused, call-given}
+use Rattle.step_checks.specs.StepLaws.{no_turn, call-refused, call-given}
 use borrow.Author.Rules.{rules}
 use Rattle.step_make.proofs.call.Statement.{statement}
 use Rattle.step_make.proofs.call.Tie as tie
@@ -32,7 +32,7 @@ same-length-2 c = search rules
 
 returns-2 : tie.Need-returns-2
 unfolding refusals
-returns-2 c = λ ts ps q l. no-turn ts c.before.before.before.before.before.before.args.objects.now ps q l c.before.before.before.running.ensures _ _ refl c.before.turn.given.0.0 c.before.turn.given.1
+returns-2 c = λ ts ps q l. no_turn ts c.before.before.before.before.before.before.args.objects.now ps q l c.before.before.before.running.ensures _ _ refl c.before.turn.given.0.0 c.before.turn.given.1
 
 same-length-3 : tie.Need_same_length_3
 same-length-3 c = search rules

@@ -2,7 +2,7 @@ use mathlib.Core.Path.{◌≡◌, refl, sym, ◌∙◌}
 use native.Mathlib.Omega.{arith}
 use borrow.Author.Tests.{leb-false}
 use Rattle.machine.specs.Machine.{refusals}
-use Rattle.step_checks.specs.StepLaws.{no-turn, coroutine-refused, coroutine-made}
+use Rattle.step_checks.specs.StepLaws.{no_turn, coroutine-refused, coroutine-made}
 use borrow.Author.Rules.{rules}
 use Rattle.step_make.proofs.coroutine.Statement.{statement}
 use Rattle.step_make.proofs.coroutine.Tie as tie
@@ -33,7 +33,7 @@ same-length-2 c = search rules
 
 returns-2 : tie.Need-returns-2
 unfolding refusals
-returns-2 c = λ ts ps q l. no-turn ts c.before.before.before.before.before.before.args.objects.now ps q l c.before.before.before.running.ensures _ _ refl c.before.turn.given.0.0 c.before.turn.given.1
+returns-2 c = λ ts ps q l. no_turn ts c.before.before.before.before.before.before.args.objects.now ps q l c.before.before.before.running.ensures _ _ refl c.before.turn.given.0.0 c.before.turn.given.1
 
 same-length-3 : tie.Need_same_length_3
 same-length-3 c = search rules

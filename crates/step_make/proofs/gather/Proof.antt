@@ -5,7 +5,7 @@ use Rattle.asyncio.specs.Ranges.{HeaderFits}
 use Rattle.asyncio.specs.declared.Header.{Header}
 use Rattle.rows.specs.TableLaws.{header_read}
 use Rattle.machine.specs.Machine.{refusals}
-use Rattle.step_checks.specs.StepLaws.{no-turn, gather-unmade, gather-full, gather-made, gather-room}
+use Rattle.step_checks.specs.StepLaws.{no_turn, gather-unmade, gather-full, gather-made, gather-room}
 use borrow.Author.Rules.{rules}
 use Rattle.step_make.proofs.gather.Statement.{statement}
 use Rattle.step_make.proofs.gather.Tie as tie
@@ -48,7 +48,7 @@ same-length-3 c = search rules
 
 returns-3 : tie.Need-returns-3
 unfolding refusals
-returns-3 c = λ ts q l. no-turn ts c.before.before.before.before.before.before.before.before.args.objects.now c.before.before.before.before.before.before.before.before.args.places.now q l c.before.before.before.running.ensures _ _ refl c.before.turn.given.0.0 c.before.turn.given.1
+returns-3 c = λ ts q l. no_turn ts c.before.before.before.before.before.before.before.before.args.objects.now c.before.before.before.before.before.before.before.before.args.places.now q l c.before.before.before.running.ensures _ _ refl c.before.turn.given.0.0 c.before.turn.given.1
 
 same-length-4 : tie.Need_same_length_4
 same-length-4 c = search rules

@@ -2,7 +2,7 @@ use mathlib.Core.Path.{◌≡◌, refl, sym, ◌∙◌}
 use borrow.Author.Tests.{leb-false}
 use Rattle.rows.specs.TableLaws.{header_read}
 use Rattle.machine.specs.Machine.{refusals}
-use Rattle.step_checks.specs.StepLaws.{no-turn, pending-unheard, pending-unknown, pending-again, pending-full, pending-made}
+use Rattle.step_checks.specs.StepLaws.{no_turn, pending_unheard, pending_unknown, pending_again, pending-full, pending-made}
 use borrow.Author.Rules.{rules}
 use Rattle.step_make.proofs.pending.Statement.{statement}
 use Rattle.step_make.proofs.pending.Tie as tie
@@ -23,7 +23,7 @@ same_length : tie.Need_same_length
 same_length c = search rules
 
 returns : tie.Need_returns
-returns c = λ ts ps q l. pending-unheard ts c.before.before.before.before.before.before.before.before.before.args.objects.now ps q l c.before.before.before.before.before.before.running.ensures _ c.before.before.before.before.enum_told.given.1 c.before.before.before.before.before.before.before.before.before.args.call c.before.before.before.before.before.before.before.before.before.args.stored c.before.before.load-header.ensures c.if1.true
+returns c = λ ts ps q l. pending_unheard ts c.before.before.before.before.before.before.before.before.before.args.objects.now ps q l c.before.before.before.before.before.before.running.ensures _ c.before.before.before.before.enum_told.given.1 c.before.before.before.before.before.before.before.before.before.args.call c.before.before.before.before.before.before.before.before.before.args.stored c.before.before.load-header.ensures c.if1.true
 
 option-known-requires : tie.Need-option-known-requires
 option-known-requires c κs = (c.before.before.before.before.before.before.before.before.before.before.requires, (header_read _ c.before.before.before.load-header.ensures).made-fits)
@@ -56,7 +56,7 @@ same-length-3 : tie.Need_same_length_3
 same-length-3 c = search rules
 
 returns-3 : tie.Need-returns-3
-returns-3 c = λ ts ps q l. pending-again ts c.before.before.before.before.before.before.before.before.before.before.before.before.before.before.before.before.args.objects.now ps q l c.before.before.before.before.before.before.before.before.before.before.before.before.before.running.ensures _ c.before.before.before.before.before.before.before.before.before.before.before.enum_told.given.1 c.before.before.before.before.before.before.before.before.before.before.before.before.before.before.before.before.args.call c.before.before.before.before.before.before.before.before.before.before.before.before.before.before.before.before.args.stored c.before.before.before.before.before.before.before.before.before.load-header.ensures c.before.before.before.before.before.before.before.if1.false c.before.before.before.before.before.option_known.ensures c.before.before.before.before.if2.true c.before.before.take-pending-external.ensures _ c.enum-told2.given.1
+returns-3 c = λ ts ps q l. pending_again ts c.before.before.before.before.before.before.before.before.before.before.before.before.before.before.before.before.args.objects.now ps q l c.before.before.before.before.before.before.before.before.before.before.before.before.before.running.ensures _ c.before.before.before.before.before.before.before.before.before.before.before.enum_told.given.1 c.before.before.before.before.before.before.before.before.before.before.before.before.before.before.before.before.args.call c.before.before.before.before.before.before.before.before.before.before.before.before.before.before.before.before.args.stored c.before.before.before.before.before.before.before.before.before.load-header.ensures c.before.before.before.before.before.before.before.if1.false c.before.before.before.before.before.option_known.ensures c.before.before.before.before.if2.true c.before.before.take-pending-external.ensures _ c.enum-told2.given.1
 
 same-length-4 : tie.Need_same_length_4
 same-length-4 c = search rules
@@ -69,13 +69,13 @@ same-length-5 c = search rules
 
 returns-5 : tie.Need-returns-5
 unfolding refusals
-returns-5 c = λ ts ps q l. no-turn ts c.before.before.before.before.before.before.args.objects.now ps q l c.before.before.before.running.ensures _ _ refl c.before.turn.given.0.0 c.before.turn.given.1
+returns-5 c = λ ts ps q l. no_turn ts c.before.before.before.before.before.before.args.objects.now ps q l c.before.before.before.running.ensures _ _ refl c.before.turn.given.0.0 c.before.turn.given.1
 
 same-length-6 : tie.Need-same-length-6
 same-length-6 c = search rules
 
 returns-6 : tie.Need-returns-6
-returns-6 c = λ ts ps q l. pending-unknown ts c.before.before.before.before.before.before.before.before.before.before.before.before.args.objects.now ps q l c.before.before.before.before.before.before.before.before.before.running.ensures _ c.before.before.before.before.before.before.before.enum_told.given.1 c.before.before.before.before.before.before.before.before.before.before.before.before.args.call c.before.before.before.before.before.before.before.before.before.before.before.before.args.stored c.before.before.before.before.before.load-header.ensures c.before.before.before.if1.false c.before.option_known.ensures c.if2.false
+returns-6 c = λ ts ps q l. pending_unknown ts c.before.before.before.before.before.before.before.before.before.before.before.before.args.objects.now ps q l c.before.before.before.before.before.before.before.before.before.running.ensures _ c.before.before.before.before.before.before.before.enum_told.given.1 c.before.before.before.before.before.before.before.before.before.before.before.before.args.call c.before.before.before.before.before.before.before.before.before.before.before.before.args.stored c.before.before.before.before.before.load-header.ensures c.before.before.before.if1.false c.before.option_known.ensures c.if2.false
 
 pub pending-spec : {M : Type 1} → statement M
 pending-spec =

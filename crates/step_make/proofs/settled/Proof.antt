@@ -3,7 +3,7 @@ use borrow.Author.Tests.{leb-false}
 use Rattle.asyncio.specs.Ranges.{HeaderFits}
 use Rattle.rows.specs.TableLaws.{header_read}
 use Rattle.machine.specs.Machine.{refusals}
-use Rattle.step_checks.specs.StepLaws.{no-turn, settled-unknown, settled-full, settled-over, settled-made}
+use Rattle.step_checks.specs.StepLaws.{no_turn, settled_unknown, settled-full, settled_over, settled-made}
 use borrow.Author.Rules.{rules}
 use Rattle.step_make.proofs.settled.Statement.{statement}
 use Rattle.step_make.proofs.settled.Tie as tie
@@ -39,7 +39,7 @@ same-length-2 : tie.Need_same_length_2
 same-length-2 c = search rules
 
 returns-2 : tie.Need-returns-2
-returns-2 c = λ ts ps q l. settled-over ts c.before.before.before.before.before.before.before.before.before.before.before.before.before.before.before.before.args.objects.now ps q l c.before.before.before.before.before.before.before.before.before.before.before.before.before.running.ensures _ c.before.before.before.before.before.before.before.before.before.before.before.enum_told.given.1 c.before.before.before.before.before.before.before.before.before.before.before.before.before.before.before.before.args.value c.before.before.before.before.before.before.before.before.before.load-header.ensures c.before.before.before.before.before.before.before.value_known.ensures c.before.before.before.before.before.before.if1.true c.before.before.before.before.is-full.ensures c.before.before.before.if2.false c.before.no_number.ensures c.if3.true
+returns-2 c = λ ts ps q l. settled_over ts c.before.before.before.before.before.before.before.before.before.before.before.before.before.before.before.before.args.objects.now ps q l c.before.before.before.before.before.before.before.before.before.before.before.before.before.running.ensures _ c.before.before.before.before.before.before.before.before.before.before.before.enum_told.given.1 c.before.before.before.before.before.before.before.before.before.before.before.before.before.before.before.before.args.value c.before.before.before.before.before.before.before.before.before.load-header.ensures c.before.before.before.before.before.before.before.value_known.ensures c.before.before.before.before.before.before.if1.true c.before.before.before.before.is-full.ensures c.before.before.before.if2.false c.before.no_number.ensures c.if3.true
 
 settled-awaitable-requires : tie.Need-settled-awaitable-requires
 settled-awaitable-requires c κs = (c.before.before.before.before.before.before.before.before.before.before.before.before.before.before.before.before.before.requires, leb-false _ _ (sym c.before.before.before.before.before.is-full.ensures ∙ c.before.before.before.before.if2.false), leb-false _ _ (sym c.before.before.no_number.ensures ∙ c.before.if3.false))
@@ -55,13 +55,13 @@ same-length-4 c = search rules
 
 returns-4 : tie.Need-returns-4
 unfolding refusals
-returns-4 c = λ ts ps q l. no-turn ts c.before.before.before.before.before.before.args.objects.now ps q l c.before.before.before.running.ensures _ _ refl c.before.turn.given.0.0 c.before.turn.given.1
+returns-4 c = λ ts ps q l. no_turn ts c.before.before.before.before.before.before.args.objects.now ps q l c.before.before.before.running.ensures _ _ refl c.before.turn.given.0.0 c.before.turn.given.1
 
 same-length-5 : tie.Need-same-length-5
 same-length-5 c = search rules
 
 returns-5 : tie.Need-returns-5
-returns-5 c = λ ts ps q l. settled-unknown ts c.before.before.before.before.before.before.before.before.before.before.args.objects.now ps q l c.before.before.before.before.before.before.before.running.ensures _ c.before.before.before.before.before.enum_told.given.1 c.before.before.before.before.before.before.before.before.before.before.args.value c.before.before.before.load-header.ensures c.before.value_known.ensures c.if1.false
+returns-5 c = λ ts ps q l. settled_unknown ts c.before.before.before.before.before.before.before.before.before.before.args.objects.now ps q l c.before.before.before.before.before.before.before.running.ensures _ c.before.before.before.before.before.enum_told.given.1 c.before.before.before.before.before.before.before.before.before.before.args.value c.before.before.before.load-header.ensures c.before.value_known.ensures c.if1.false
 
 pub settled-spec : {M : Type 1} → statement M
 settled-spec =

@@ -3,7 +3,7 @@ use native.Mathlib.Omega.{arith}
 use Rattle.asyncio.specs.Ranges.{HeaderFits}
 use Rattle.rows.specs.TableLaws.{header_read}
 use Rattle.machine.specs.Machine.{refusals}
-use Rattle.step_checks.specs.StepLaws.{no-turn-logs, runner-fits, await-unmade, await-goes}
+use Rattle.step_checks.specs.StepLaws.{no_turn_logs, runner-fits, await-unmade, await-goes}
 use borrow.Author.Rules.{rules}
 use Rattle.step_run.proofs.await_object.Statement.{statement}
 use Rattle.step_run.proofs.await_object.Tie as tie
@@ -37,7 +37,7 @@ same-length-2 c = search rules
 
 returns-2 : tie.Need-returns-2
 unfolding refusals
-returns-2 c = λ l. no-turn-logs c.before.before.before.before.before.before.before.before.args.tasks.now c.before.before.before.before.before.before.before.before.args.objects.now c.before.before.before.before.before.before.before.before.args.places.now c.before.before.before.before.before.before.before.before.args.queue l c.before.before.before.running.ensures _ _ refl c.before.turn.given.0.0 c.before.turn.given.1
+returns-2 c = λ l. no_turn_logs c.before.before.before.before.before.before.before.before.args.tasks.now c.before.before.before.before.before.before.before.before.args.objects.now c.before.before.before.before.before.before.before.before.args.places.now c.before.before.before.before.before.before.before.before.args.queue l c.before.before.before.running.ensures _ _ refl c.before.turn.given.0.0 c.before.turn.given.1
 
 same-length-3 : tie.Need_same_length_3
 same-length-3 c = search rules

@@ -2,7 +2,7 @@ use mathlib.Core.Path.{◌≡◌, refl, sym, ap, ◌∙◌}
 use Rattle.asyncio.specs.Ranges.{HeaderFits}
 use Rattle.rows.specs.TableLaws.{header_read}
 use Rattle.machine.specs.Machine.{refusals}
-use Rattle.step_checks.specs.StepLaws.{no-turn-logs, runner-fits, complete-unknown, complete-goes}
+use Rattle.step_checks.specs.StepLaws.{no_turn_logs, runner-fits, complete_unknown, complete-goes}
 use borrow.Author.Rules.{rules}
 use Rattle.step_run.proofs.complete.Statement.{statement}
 use Rattle.step_run.proofs.complete.Tie as tie
@@ -42,13 +42,13 @@ same-length-4 c = search rules
 
 returns-2 : tie.Need-returns-2
 unfolding refusals
-returns-2 c = λ l. no-turn-logs c.before.before.before.before.before.before.before.before.args.tasks.now c.before.before.before.before.before.before.before.before.args.objects.now c.before.before.before.before.before.before.before.before.args.places.now c.before.before.before.before.before.before.before.before.args.queue l c.before.before.before.running.ensures _ _ refl c.before.turn.given.0.0 c.before.turn.given.1
+returns-2 c = λ l. no_turn_logs c.before.before.before.before.before.before.before.before.args.tasks.now c.before.before.before.before.before.before.before.before.args.objects.now c.before.before.before.before.before.before.before.before.args.places.now c.before.before.before.before.before.before.before.before.args.queue l c.before.before.before.running.ensures _ _ refl c.before.turn.given.0.0 c.before.turn.given.1
 
 same-length-5 : tie.Need-same-length-5
 same-length-5 c = search rules
 
 returns-3 : tie.Need-returns-3
-returns-3 c = λ l. complete-unknown c.before.before.before.before.before.before.before.before.before.before.before.before.before.args.tasks.now c.before.before.before.before.before.before.before.before.before.before.before.before.before.args.objects.now c.before.before.before.before.before.before.before.before.before.before.before.before.before.args.places.now c.before.before.before.before.before.before.before.before.before.before.before.before.before.args.queue l c.before.before.before.before.before.before.before.before.running.ensures _ c.before.before.before.before.before.before.turn2.given.1 c.before.before.before.before.before.before.before.before.before.before.before.before.before.args.value c.before.before.before.load-header.ensures c.before.value_known.ensures c.if1.false
+returns-3 c = λ l. complete_unknown c.before.before.before.before.before.before.before.before.before.before.before.before.before.args.tasks.now c.before.before.before.before.before.before.before.before.before.before.before.before.before.args.objects.now c.before.before.before.before.before.before.before.before.before.before.before.before.before.args.places.now c.before.before.before.before.before.before.before.before.before.before.before.before.before.args.queue l c.before.before.before.before.before.before.before.before.running.ensures _ c.before.before.before.before.before.before.turn2.given.1 c.before.before.before.before.before.before.before.before.before.before.before.before.before.args.value c.before.before.before.load-header.ensures c.before.value_known.ensures c.if1.false
 
 pub complete-spec : {M : Type 1} → statement M
 complete-spec =

@@ -1,7 +1,7 @@
 use mathlib.Core.Path.{◌≡◌, refl, sym, ap, ◌∙◌}
 use mathlib.Core.List.{[]}
 use Rattle.machine.specs.Machine.{refusals}
-use Rattle.step_checks.specs.StepLaws.{no-turn-logs, runner-fits, fail-goes}
+use Rattle.step_checks.specs.StepLaws.{no_turn_logs, runner-fits, fail-goes}
 use borrow.Author.Rules.{rules}
 use Rattle.step_run.proofs.fail.Statement.{statement}
 use Rattle.step_run.proofs.fail.Tie as tie
@@ -23,7 +23,7 @@ same_length c = search rules
 
 returns : tie.Need_returns
 unfolding refusals
-returns c = λ ps l w. no-turn-logs c.before.before.before.before.before.before.before.args.tasks.now c.before.before.before.before.before.before.before.args.objects.now ps c.before.before.before.before.before.before.before.args.queue l c.before.before.before.running.ensures _ [] refl c.before.turn.given.0.0 c.before.turn.given.1
+returns c = λ ps l w. no_turn_logs c.before.before.before.before.before.before.before.args.tasks.now c.before.before.before.before.before.before.before.args.objects.now ps c.before.before.before.before.before.before.before.args.queue l c.before.before.before.running.ensures _ [] refl c.before.turn.given.0.0 c.before.turn.given.1
 
 same-length-2 : tie.Need_same_length_2
 same-length-2 c = search rules

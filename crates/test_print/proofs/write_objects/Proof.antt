@@ -35,7 +35,7 @@ same_length : tie.Need_same_length invariant_loop decreases_loop
 same_length c = c.before.loop.invariant.1
 
 returns : tie.Need_returns invariant_loop decreases_loop
-returns c = rows_end _ 175 c.before.loop.invariant.2 c.loop-test.false c.before.loop.invariant.0
+returns c = rows_end _ 175 c.before.loop.invariant.2 c.loop_test.false c.before.loop.invariant.0
 
 pub write-objects-spec : {M : Type 1} → statement M
 write-objects-spec =

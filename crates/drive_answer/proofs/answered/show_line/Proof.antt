@@ -4,7 +4,7 @@ use lib.ListN.{length}
 use Rattle.machine.specs.Machine.{Event}
 use Rattle.machine.specs.Lent.{slices_right}
 use Rattle.step_checks.specs.LentLaws.{slices_have}
-use Rattle.step_event.specs.SoundStepLaws.{sound-logged}
+use Rattle.step_event.specs.SoundStepLaws.{sound_logged}
 use Rattle.step_read.specs.ReadLaws.{read-sound}
 use Rattle.drive_answer.specs.DriveLaws.{show_drove}
 use borrow.Author.Rules.{rules}
@@ -23,7 +23,7 @@ same_length c = search rules
 
 returns : tie.Need_returns
 unfolding slices_right
-returns c = λ cs l. show_drove c.before.before.before.before.before.before.before.before.before.args.tasks.now c.before.before.before.before.before.before.before.before.before.args.objects.now c.before.before.before.before.before.before.before.before.before.args.places.now c.before.before.before.before.before.before.before.before.before.args.queue l cs c.before.before.before.before.before.before.before.before.before.args.o c.before.before.before.before.before.before.before.before.before.args.next c.before.before.before.before.before.before.before.before.before.args.number _ (read-sound c.before.before.before.before.before.before.before.before.before.args.tasks.now c.before.before.before.before.before.before.before.before.before.args.objects.now c.before.before.before.before.before.before.before.before.before.args.places.now c.before.before.before.before.before.before.before.before.before.args.queue l (Event.show c.before.before.before.before.before.before.before.before.before.args.o) refl c.before.before.before.before.before.before.before.before.before.requires.0 refl (sound-logged c.before.before.before.before.before.before.before.before.before.args.tasks.now c.before.before.before.before.before.before.before.before.before.args.objects.now c.before.before.before.before.before.before.before.before.before.args.places.now c.before.before.before.before.before.before.before.before.before.args.queue c.before.before.before.before.before.before.before.before.before.requires.1 l) (c.before.before.before.before.show.ensures c.before.before.before.before.before.before.before.before.before.args.tasks.now c.before.before.before.before.before.before.before.before.before.args.places.now c.before.before.before.before.before.before.before.before.before.args.queue [])) c.before.before.write-reading.ensures
+returns c = λ cs l. show_drove c.before.before.before.before.before.before.before.before.before.args.tasks.now c.before.before.before.before.before.before.before.before.before.args.objects.now c.before.before.before.before.before.before.before.before.before.args.places.now c.before.before.before.before.before.before.before.before.before.args.queue l cs c.before.before.before.before.before.before.before.before.before.args.o c.before.before.before.before.before.before.before.before.before.args.next c.before.before.before.before.before.before.before.before.before.args.number _ (read-sound c.before.before.before.before.before.before.before.before.before.args.tasks.now c.before.before.before.before.before.before.before.before.before.args.objects.now c.before.before.before.before.before.before.before.before.before.args.places.now c.before.before.before.before.before.before.before.before.before.args.queue l (Event.show c.before.before.before.before.before.before.before.before.before.args.o) refl c.before.before.before.before.before.before.before.before.before.requires.0 refl (sound_logged c.before.before.before.before.before.before.before.before.before.args.tasks.now c.before.before.before.before.before.before.before.before.before.args.objects.now c.before.before.before.before.before.before.before.before.before.args.places.now c.before.before.before.before.before.before.before.before.before.args.queue c.before.before.before.before.before.before.before.before.before.requires.1 l) (c.before.before.before.before.show.ensures c.before.before.before.before.before.before.before.before.before.args.tasks.now c.before.before.before.before.before.before.before.before.before.args.places.now c.before.before.before.before.before.before.before.before.before.args.queue [])) c.before.before.write-reading.ensures
 
 pub show-line-spec : {M : Type 1} → statement M
 show-line-spec = tie.close (tie.spec show-requires write-reading-requires same_length returns)

@@ -1,4 +1,4 @@
-use Rattle.drive_reader.specs.FormatLaws.{reads-unstored, reads-stored, reads-no-flag}
+use Rattle.drive_reader.specs.FormatLaws.{reads_unstored, reads_stored, reads_no_flag}
 use borrow.Author.Rules.{rules}
 use Rattle.drive_reader.proofs.body.pending_at.Statement.{statement}
 use Rattle.drive_reader.proofs.body.pending_at.Tie as tie
@@ -22,7 +22,7 @@ found-requires : tie.Need-found-requires
 found-requires c κs = search rules
 
 returns : tie.Need_returns
-returns c = reads-unstored c.before.before.before.before.before.args.s.now c.before.before.before.before.before.args.at c.before.before.before.before.before.args.next c.before.before.before.u32-at.ensures.0 c.before.before.u8-at.ensures.0 c.before.if1.true c.found.ensures
+returns c = reads_unstored c.before.before.before.before.before.args.s.now c.before.before.before.before.before.args.at c.before.before.before.before.before.args.next c.before.before.before.u32-at.ensures.0 c.before.before.u8-at.ensures.0 c.before.if1.true c.found.ensures
 
 add-value-at : tie.Need-overflow-add-value-at
 add-value-at c = search rules
@@ -34,10 +34,10 @@ stored-requires : tie.Need-stored-requires
 stored-requires c κs = search rules
 
 returns-2 : tie.Need-returns-2
-returns-2 c = reads-stored c.before.before.before.before.before.before.before.args.s.now c.before.before.before.before.before.before.before.args.at c.before.before.before.before.before.before.before.args.next c.before.before.before.before.before.u32-at.ensures.0 c.before.before.before.before.u8-at.ensures.0 c.before.before.if2.true c.before.value_at.ensures c.stored.ensures
+returns-2 c = reads_stored c.before.before.before.before.before.before.before.args.s.now c.before.before.before.before.before.before.before.args.at c.before.before.before.before.before.before.before.args.next c.before.before.before.before.before.u32-at.ensures.0 c.before.before.before.before.u8-at.ensures.0 c.before.before.if2.true c.before.value_at.ensures c.stored.ensures
 
 returns-3 : tie.Need-returns-3
-returns-3 c = reads-no-flag c.before.before.before.before.before.args.s.now c.before.before.before.before.before.args.at c.before.before.before.before.before.args.next c.before.before.before.u32-at.ensures.0 c.before.before.u8-at.ensures.0 c.before.if1.false c.if2.false
+returns-3 c = reads_no_flag c.before.before.before.before.before.args.s.now c.before.before.before.before.before.args.at c.before.before.before.before.before.args.next c.before.before.before.u32-at.ensures.0 c.before.before.u8-at.ensures.0 c.before.if1.false c.if2.false
 
 pub pending-at-spec : {M : Type 1} → statement M
 pending-at-spec =

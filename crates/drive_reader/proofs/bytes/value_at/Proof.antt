@@ -1,4 +1,4 @@
-use Rattle.drive_reader.specs.FormatLaws.{reads_plain, reads-list, reads_none}
+use Rattle.drive_reader.specs.FormatLaws.{reads_plain, reads_list, reads_none}
 use borrow.Author.Rules.{rules}
 use Rattle.drive_reader.proofs.bytes.value_at.Statement.{statement}
 use Rattle.drive_reader.proofs.bytes.value_at.Tie as tie
@@ -19,7 +19,7 @@ list-value-requires : tie.Need-list-value-requires
 list-value-requires c κs = search rules
 
 returns-2 : tie.Need-returns-2
-returns-2 c = reads-list c.before.before.before.before.before.before.args.s.now c.before.before.before.before.before.before.args.at c.before.before.before.before.u8-at.ensures.0 c.before.before.before.u64-at.ensures c.before.if2.true c.list_value.ensures
+returns-2 c = reads_list c.before.before.before.before.before.before.args.s.now c.before.before.before.before.before.before.args.at c.before.before.before.before.u8-at.ensures.0 c.before.before.before.u64-at.ensures c.before.if2.true c.list_value.ensures
 
 returns-3 : tie.Need-returns-3
 returns-3 c = reads_none c.before.before.before.before.before.args.s.now c.before.before.before.before.before.args.at c.before.before.before.u8-at.ensures.0 c.before.if1.false c.if2.false

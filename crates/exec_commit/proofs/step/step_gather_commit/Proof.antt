@@ -42,7 +42,7 @@ loop-less c = omega arith
 
 loop-again : tie.Need-loop-preserved invariant_loop decreases_loop
 loop-again c = (
-  walk-turns _ _ _ _ _ _ _ _ c.before.before.before.before.before.before.before.before.before.before.before.before.before.before.before.loop.invariant.0 c.before.before.before.before.before.before.before.before.before.before.before.before.before.before.loop-test.true _ _ _ _ _ c.before.before.before.before.before.before.before.before.step_item.ensures c.enum_told.given.1,
+  walk-turns _ _ _ _ _ _ _ _ c.before.before.before.before.before.before.before.before.before.before.before.before.before.before.before.loop.invariant.0 c.before.before.before.before.before.before.before.before.before.before.before.before.before.before.loop_test.true _ _ _ _ _ c.before.before.before.before.before.before.before.before.step_item.ensures c.enum_told.given.1,
   c.before.before.before.before.before.before.before.before.step_item.auto.0 ∙ c.before.before.before.before.before.before.before.before.before.before.before.before.before.before.before.loop.invariant.1,
   c.before.before.before.before.before.before.before.before.step_item.auto.1.0 ∙ c.before.before.before.before.before.before.before.before.before.before.before.before.before.before.before.loop.invariant.2,
   c.before.before.before.before.before.before.before.before.step_item.auto.1.1.0 ∙ c.before.before.before.before.before.before.before.before.before.before.before.before.before.before.before.loop.invariant.3,
@@ -62,7 +62,7 @@ same-length-3 : tie.Need_same_length_3 invariant_loop decreases_loop
 same-length-3 c = c.before.before.before.before.before.before.before.before.step_item.auto.1.1.0 ∙ c.before.before.before.before.before.before.before.before.before.before.before.before.before.before.before.loop.invariant.3
 
 returns : tie.Need_returns invariant_loop decreases_loop
-returns c = walk-cut _ _ _ _ _ _ _ _ c.before.before.before.before.before.before.before.before.before.before.before.before.before.before.before.loop.invariant.0 c.before.before.before.before.before.before.before.before.before.before.before.before.before.before.loop-test.true _ _ _ _ _ c.before.before.before.before.before.before.before.before.step_item.ensures c.enum-told2.given.1
+returns c = walk-cut _ _ _ _ _ _ _ _ c.before.before.before.before.before.before.before.before.before.before.before.before.before.before.before.loop.invariant.0 c.before.before.before.before.before.before.before.before.before.before.before.before.before.before.loop_test.true _ _ _ _ _ c.before.before.before.before.before.before.before.before.step_item.ensures c.enum-told2.given.1
 
 enum-known-step : tie.Need-enum-known-step invariant_loop decreases_loop
 enum-known-step c = search rules
@@ -77,7 +77,7 @@ same-length-6 : tie.Need-same-length-6 invariant_loop decreases_loop
 same-length-6 c = c.before.before.before.before.before.before.before.before.before.step_item.auto.1.1.0 ∙ c.before.before.before.before.before.before.before.before.before.before.before.before.before.before.before.before.loop.invariant.3
 
 returns-2 : tie.Need-returns-2 invariant_loop decreases_loop
-returns-2 c = walk-nested _ _ _ _ _ _ _ _ c.before.before.before.before.before.before.before.before.before.before.before.before.before.before.before.before.loop.invariant.0 c.before.before.before.before.before.before.before.before.before.before.before.before.before.before.before.loop-test.true _ _ _ _ _ c.before.before.before.before.before.before.before.before.before.step_item.ensures _ c.before.step.given.1
+returns-2 c = walk-nested _ _ _ _ _ _ _ _ c.before.before.before.before.before.before.before.before.before.before.before.before.before.before.before.before.loop.invariant.0 c.before.before.before.before.before.before.before.before.before.before.before.before.before.before.before.loop_test.true _ _ _ _ _ c.before.before.before.before.before.before.before.before.before.step_item.ensures _ c.before.step.given.1
 
 enum-known-step-2 : tie.Need-enum-known-step-2 invariant_loop decreases_loop
 enum-known-step-2 c = search rules
@@ -92,7 +92,7 @@ same-length-9 : tie.Need-same-length-9 invariant_loop decreases_loop
 same-length-9 c = c.before.before.before.before.before.before.before.before.before.step_item.auto.1.1.0 ∙ c.before.before.before.before.before.before.before.before.before.before.before.before.before.before.before.before.loop.invariant.3
 
 returns-3 : tie.Need-returns-3 invariant_loop decreases_loop
-returns-3 c = walk-raised _ _ _ _ _ _ _ _ c.before.before.before.before.before.before.before.before.before.before.before.before.before.before.before.before.loop.invariant.0 c.before.before.before.before.before.before.before.before.before.before.before.before.before.before.before.loop-test.true _ _ _ _ _ c.before.before.before.before.before.before.before.before.before.step_item.ensures _ c.before.step2.given.1
+returns-3 c = walk-raised _ _ _ _ _ _ _ _ c.before.before.before.before.before.before.before.before.before.before.before.before.before.before.before.before.loop.invariant.0 c.before.before.before.before.before.before.before.before.before.before.before.before.before.before.before.loop_test.true _ _ _ _ _ c.before.before.before.before.before.before.before.before.before.step_item.ensures _ c.before.step2.given.1
 
 same-length-10 : tie.Need-same-length-10 invariant_loop decreases_loop
 same-length-10 c = c.before.loop.invariant.1
@@ -104,7 +104,7 @@ same-length-12 : tie.Need-same-length-12 invariant_loop decreases_loop
 same-length-12 c = c.before.loop.invariant.3
 
 returns-4 : tie.Need-returns-4 invariant_loop decreases_loop
-returns-4 c = walk_ends _ _ _ _ _ _ _ _ c.before.loop.invariant.0 c.loop-test.false
+returns-4 c = walk_ends _ _ _ _ _ _ _ _ c.before.loop.invariant.0 c.loop_test.false
 
 pub step-gather-commit-spec : {M : Type 1} → statement M
 step-gather-commit-spec =

@@ -10,7 +10,7 @@ use Rattle.queue.specs.Queue.{empty_queue}
 use Rattle.queue.specs.declared.ReadyQueue.{ReadyQueue}
 use Rattle.machine.specs.Store.{LogEntry, store_of}
 use Rattle.machine.specs.Delivery.{deliver_awaiter_failure, awaited_in}
-use Rattle.exec_deliver.specs.ClimbLaws.{error-nobody, error-to-task, error-stays, error-climbs, error-fits, error-falls, some-places, some-places_long}
+use Rattle.exec_deliver.specs.ClimbLaws.{error-nobody, error-to_task, error-stays, error_climbs, error-fits, error-falls, some-places, some_places_long}
 use Rattle.exec_deliver.proofs.climb.deliver_awaiter_failure.Statement.{statement}
 use Rattle.exec_deliver.proofs.climb.deliver_awaiter_failure.Tie as tie
 
@@ -48,7 +48,7 @@ same-length-4 : tie.Need_same_length_4 invariant_loop decreases_loop
 same-length-4 c = c.before.before.before.before.before.before.before.loop.invariant.2
 
 returns-2 : tie.Need-returns-2 invariant_loop decreases_loop
-returns-2 c = λ q ps l z. error-to-task c.before.before.before.before.before.before.before.loop.tasks c.before.before.before.before.before.before.before.loop.objects ps q c.before.before.before.before.before.before.before.before.before.before.args.error l c.before.before.before.before.before.to.given.0.0 (rw c.before.before.before.before.before.to.given.1 at (c.before.before.before.before.before.before.before.loop.invariant.0 q ps l z)) c.before.before.deliver_to_task.result (c.before.before.deliver_to_task.ensures q c.before.before.before.before.before.before.before.loop.objects ps l)
+returns-2 c = λ q ps l z. error-to_task c.before.before.before.before.before.before.before.loop.tasks c.before.before.before.before.before.before.before.loop.objects ps q c.before.before.before.before.before.before.before.before.before.before.args.error l c.before.before.before.before.before.to.given.0.0 (rw c.before.before.before.before.before.to.given.1 at (c.before.before.before.before.before.before.before.loop.invariant.0 q ps l z)) c.before.before.deliver_to_task.result (c.before.before.deliver_to_task.ensures q c.before.before.before.before.before.before.before.loop.objects ps l)
 
 enum-known-to-2 : tie.Need-enum-known-to-2 invariant_loop decreases_loop
 enum-known-to-2 c = search rules
@@ -72,10 +72,10 @@ enum-known-onward : tie.Need-enum-known-onward invariant_loop decreases_loop
 enum-known-onward c = search rules
 
 loop-less : tie.Need-loop-smaller invariant_loop decreases_loop
-loop-less c = omega (arith, error-falls c.before.before.before.before.before.before.before.before.before.before.loop.tasks c.before.before.before.before.before.before.before.before.before.before.loop.objects some-places empty_queue c.before.before.before.before.before.before.before.before.before.before.before.before.before.args.error c.before.before.before.before.before.before.before.before.to2.given.0.0 c.before.before.before.before.before.before.before.before.to2.given.0.1.0 c.before.onward.given.0.0 (c.before.before.before.before.before.before.before.before.before.before.loop.invariant.1 ∙ c.before.before.before.before.before.before.before.before.before.before.before.before.before.requires.0) (c.before.before.before.before.before.before.before.before.before.before.loop.invariant.2 ∙ c.before.before.before.before.before.before.before.before.before.before.before.before.before.requires.1) some-places_long (rw c.before.before.before.before.before.before.before.before.to2.given.1 at c.before.before.before.before.before.before.before.before.before.before.loop.invariant.3).0 [] (rw c.before.onward.given.1 at (c.before.before.before.before.before.fail.ensures c.before.before.before.before.before.before.before.before.before.before.loop.tasks some-places empty_queue [])))
+loop-less c = omega (arith, error-falls c.before.before.before.before.before.before.before.before.before.before.loop.tasks c.before.before.before.before.before.before.before.before.before.before.loop.objects some-places empty_queue c.before.before.before.before.before.before.before.before.before.before.before.before.before.args.error c.before.before.before.before.before.before.before.before.to2.given.0.0 c.before.before.before.before.before.before.before.before.to2.given.0.1.0 c.before.onward.given.0.0 (c.before.before.before.before.before.before.before.before.before.before.loop.invariant.1 ∙ c.before.before.before.before.before.before.before.before.before.before.before.before.before.requires.0) (c.before.before.before.before.before.before.before.before.before.before.loop.invariant.2 ∙ c.before.before.before.before.before.before.before.before.before.before.before.before.before.requires.1) some_places_long (rw c.before.before.before.before.before.before.before.before.to2.given.1 at c.before.before.before.before.before.before.before.before.before.before.loop.invariant.3).0 [] (rw c.before.onward.given.1 at (c.before.before.before.before.before.fail.ensures c.before.before.before.before.before.before.before.before.before.before.loop.tasks some-places empty_queue [])))
 
 loop-again : tie.Need-loop-preserved invariant_loop decreases_loop
-loop-again c = ((λ q ps l z. error-climbs c.before.before.before.before.before.before.before.before.before.before.loop.tasks c.before.before.before.before.before.before.before.before.before.before.loop.objects ps q c.before.before.before.before.before.before.before.before.before.before.before.before.before.args.error c.before.before.before.before.before.before.before.before.to2.given.0.0 c.before.before.before.before.before.before.before.before.to2.given.0.1.0 c.before.onward.given.0.0 (c.before.before.before.before.before.before.before.before.before.before.loop.invariant.1 ∙ c.before.before.before.before.before.before.before.before.before.before.before.before.before.requires.0) (c.before.before.before.before.before.before.before.before.before.before.loop.invariant.2 ∙ c.before.before.before.before.before.before.before.before.before.before.before.before.before.requires.1) z (rw c.before.before.before.before.before.before.before.before.to2.given.1 at c.before.before.before.before.before.before.before.before.before.before.loop.invariant.3).0 l (rw c.before.onward.given.1 at (c.before.before.before.before.before.fail.ensures c.before.before.before.before.before.before.before.before.before.before.loop.tasks ps q l)) ∙ (rw c.before.before.before.before.before.before.before.before.to2.given.1 at (c.before.before.before.before.before.before.before.before.before.before.loop.invariant.0 q ps l z))), c.before.before.before.before.before.before.before.before.before.before.loop.invariant.1, c.before.before.before.before.before.fail.auto.0 ∙ c.before.before.before.before.before.before.before.before.before.before.loop.invariant.2, error-fits c.before.before.before.before.before.before.before.before.before.before.loop.tasks c.before.before.before.before.before.before.before.before.before.before.loop.objects some-places empty_queue c.before.before.before.before.before.before.before.before.before.before.before.before.before.args.error c.before.before.before.before.before.before.before.before.to2.given.0.0 c.before.before.before.before.before.before.before.before.to2.given.0.1.0 c.before.onward.given.0.0 (c.before.before.before.before.before.before.before.before.before.before.loop.invariant.1 ∙ c.before.before.before.before.before.before.before.before.before.before.before.before.before.requires.0) (c.before.before.before.before.before.before.before.before.before.before.loop.invariant.2 ∙ c.before.before.before.before.before.before.before.before.before.before.before.before.before.requires.1) some-places_long (rw c.before.before.before.before.before.before.before.before.to2.given.1 at c.before.before.before.before.before.before.before.before.before.before.loop.invariant.3).0 [] (rw c.before.onward.given.1 at (c.before.before.before.before.before.fail.ensures c.before.before.before.before.before.before.before.before.before.before.loop.tasks some-places empty_queue [])))
+loop-again c = ((λ q ps l z. error_climbs c.before.before.before.before.before.before.before.before.before.before.loop.tasks c.before.before.before.before.before.before.before.before.before.before.loop.objects ps q c.before.before.before.before.before.before.before.before.before.before.before.before.before.args.error c.before.before.before.before.before.before.before.before.to2.given.0.0 c.before.before.before.before.before.before.before.before.to2.given.0.1.0 c.before.onward.given.0.0 (c.before.before.before.before.before.before.before.before.before.before.loop.invariant.1 ∙ c.before.before.before.before.before.before.before.before.before.before.before.before.before.requires.0) (c.before.before.before.before.before.before.before.before.before.before.loop.invariant.2 ∙ c.before.before.before.before.before.before.before.before.before.before.before.before.before.requires.1) z (rw c.before.before.before.before.before.before.before.before.to2.given.1 at c.before.before.before.before.before.before.before.before.before.before.loop.invariant.3).0 l (rw c.before.onward.given.1 at (c.before.before.before.before.before.fail.ensures c.before.before.before.before.before.before.before.before.before.before.loop.tasks ps q l)) ∙ (rw c.before.before.before.before.before.before.before.before.to2.given.1 at (c.before.before.before.before.before.before.before.before.before.before.loop.invariant.0 q ps l z))), c.before.before.before.before.before.before.before.before.before.before.loop.invariant.1, c.before.before.before.before.before.fail.auto.0 ∙ c.before.before.before.before.before.before.before.before.before.before.loop.invariant.2, error-fits c.before.before.before.before.before.before.before.before.before.before.loop.tasks c.before.before.before.before.before.before.before.before.before.before.loop.objects some-places empty_queue c.before.before.before.before.before.before.before.before.before.before.before.before.before.args.error c.before.before.before.before.before.before.before.before.to2.given.0.0 c.before.before.before.before.before.before.before.before.to2.given.0.1.0 c.before.onward.given.0.0 (c.before.before.before.before.before.before.before.before.before.before.loop.invariant.1 ∙ c.before.before.before.before.before.before.before.before.before.before.before.before.before.requires.0) (c.before.before.before.before.before.before.before.before.before.before.loop.invariant.2 ∙ c.before.before.before.before.before.before.before.before.before.before.before.before.before.requires.1) some_places_long (rw c.before.before.before.before.before.before.before.before.to2.given.1 at c.before.before.before.before.before.before.before.before.before.before.loop.invariant.3).0 [] (rw c.before.onward.given.1 at (c.before.before.before.before.before.fail.ensures c.before.before.before.before.before.before.before.before.before.before.loop.tasks some-places empty_queue [])))
 
 pub deliver-awaiter-failure-spec : {M : Type 1} → statement M
 deliver-awaiter-failure-spec =

@@ -1,6 +1,6 @@
 use mathlib.Core.Path.{refl, ◌∙◌}
 use Rattle.machine.specs.Scheduler.{as_pending}
-use Rattle.exec_deliver.specs.FutureLaws.{resolve-nothing, resolves, external_range}
+use Rattle.exec_deliver.specs.FutureLaws.{resolve_nothing, resolves, external_range}
 use borrow.Author.Rules.{rules}
 use Rattle.exec_deliver.proofs.future.resolve_at.Statement.{statement}
 use Rattle.exec_deliver.proofs.future.resolve_at.Tie as tie
@@ -43,35 +43,35 @@ same_length c = search rules
 
 returns : tie.Need_returns
 unfolding as_pending
-returns c = λ q l. resolve-nothing c.before.before.before.before.before.before.before.args.tasks.now c.before.before.before.before.before.before.before.args.objects.now c.before.before.before.before.before.before.before.args.places.now q l c.before.before.before.before.before.before.before.args.o.0 c.before.before.load-object.ensures c.before.before.before.before.before.before.before.args.value _ c.enum_told.given.1 refl
+returns c = λ q l. resolve_nothing c.before.before.before.before.before.before.before.args.tasks.now c.before.before.before.before.before.before.before.args.objects.now c.before.before.before.before.before.before.before.args.places.now q l c.before.before.before.before.before.before.before.args.o.0 c.before.before.load-object.ensures c.before.before.before.before.before.before.before.args.value _ c.enum_told.given.1 refl
 
 same-length-2 : tie.Need_same_length_2
 same-length-2 c = search rules
 
 returns-2 : tie.Need-returns-2
 unfolding as_pending
-returns-2 c = λ q l. resolve-nothing c.before.before.before.before.before.before.before.args.tasks.now c.before.before.before.before.before.before.before.args.objects.now c.before.before.before.before.before.before.before.args.places.now q l c.before.before.before.before.before.before.before.args.o.0 c.before.before.load-object.ensures c.before.before.before.before.before.before.before.args.value _ c.enum-told2.given.1 refl
+returns-2 c = λ q l. resolve_nothing c.before.before.before.before.before.before.before.args.tasks.now c.before.before.before.before.before.before.before.args.objects.now c.before.before.before.before.before.before.before.args.places.now q l c.before.before.before.before.before.before.before.args.o.0 c.before.before.load-object.ensures c.before.before.before.before.before.before.before.args.value _ c.enum-told2.given.1 refl
 
 same-length-3 : tie.Need_same_length_3
 same-length-3 c = search rules
 
 returns-3 : tie.Need-returns-3
 unfolding as_pending
-returns-3 c = λ q l. resolve-nothing c.before.before.before.before.before.before.before.args.tasks.now c.before.before.before.before.before.before.before.args.objects.now c.before.before.before.before.before.before.before.args.places.now q l c.before.before.before.before.before.before.before.args.o.0 c.before.before.load-object.ensures c.before.before.before.before.before.before.before.args.value _ c.enum-told3.given.1 refl
+returns-3 c = λ q l. resolve_nothing c.before.before.before.before.before.before.before.args.tasks.now c.before.before.before.before.before.before.before.args.objects.now c.before.before.before.before.before.before.before.args.places.now q l c.before.before.before.before.before.before.before.args.o.0 c.before.before.load-object.ensures c.before.before.before.before.before.before.before.args.value _ c.enum-told3.given.1 refl
 
 same-length-4 : tie.Need_same_length_4
 same-length-4 c = search rules
 
 returns-4 : tie.Need-returns-4
 unfolding as_pending
-returns-4 c = λ q l. resolve-nothing c.before.before.before.before.before.before.before.before.before.before.args.tasks.now c.before.before.before.before.before.before.before.before.before.before.args.objects.now c.before.before.before.before.before.before.before.before.before.before.args.places.now q l c.before.before.before.before.before.before.before.before.before.before.args.o.0 c.before.before.before.before.before.load-object.ensures c.before.before.before.before.before.before.before.before.before.before.args.value _ c.before.before.before.x.given.1 (rw c.enum-told4.given.1)
+returns-4 c = λ q l. resolve_nothing c.before.before.before.before.before.before.before.before.before.before.args.tasks.now c.before.before.before.before.before.before.before.before.before.before.args.objects.now c.before.before.before.before.before.before.before.before.before.before.args.places.now q l c.before.before.before.before.before.before.before.before.before.before.args.o.0 c.before.before.before.before.before.load-object.ensures c.before.before.before.before.before.before.before.before.before.before.args.value _ c.before.before.before.x.given.1 (rw c.enum-told4.given.1)
 
 same-length-5 : tie.Need-same-length-5
 same-length-5 c = search rules
 
 returns-5 : tie.Need-returns-5
 unfolding as_pending
-returns-5 c = λ q l. resolve-nothing c.before.before.before.before.before.before.before.before.before.before.args.tasks.now c.before.before.before.before.before.before.before.before.before.before.args.objects.now c.before.before.before.before.before.before.before.before.before.before.args.places.now q l c.before.before.before.before.before.before.before.before.before.before.args.o.0 c.before.before.before.before.before.load-object.ensures c.before.before.before.before.before.before.before.before.before.before.args.value _ c.before.before.before.x.given.1 (rw c.enum-told5.given.1)
+returns-5 c = λ q l. resolve_nothing c.before.before.before.before.before.before.before.before.before.before.args.tasks.now c.before.before.before.before.before.before.before.before.before.before.args.objects.now c.before.before.before.before.before.before.before.before.before.before.args.places.now q l c.before.before.before.before.before.before.before.before.before.before.args.o.0 c.before.before.before.before.before.load-object.ensures c.before.before.before.before.before.before.before.before.before.before.args.value _ c.before.before.before.x.given.1 (rw c.enum-told5.given.1)
 
 same-length-6 : tie.Need-same-length-6
 same-length-6 c = search rules

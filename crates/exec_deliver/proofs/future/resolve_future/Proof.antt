@@ -1,4 +1,4 @@
-use Rattle.exec_deliver.specs.FutureLaws.{resolve-none, resolve-found, found_below}
+use Rattle.exec_deliver.specs.FutureLaws.{resolve_none, resolve_found, found_below}
 use borrow.Author.Rules.{rules}
 use Rattle.exec_deliver.proofs.future.resolve_future.Statement.{statement}
 use Rattle.exec_deliver.proofs.future.resolve_future.Tie as tie
@@ -19,7 +19,7 @@ same_length : tie.Need_same_length
 same_length c = search rules
 
 returns : tie.Need_returns
-returns c = λ q l. resolve-none c.before.before.before.before.before.before.before.args.tasks.now c.before.before.before.before.before.before.before.args.objects.now c.before.before.before.before.before.before.before.args.places.now q l c.before.before.before.before.before.before.before.args.call c.before.before.take-pending-external.ensures c.before.before.before.before.before.before.before.args.value c.enum_told.given.1
+returns c = λ q l. resolve_none c.before.before.before.before.before.before.before.args.tasks.now c.before.before.before.before.before.before.before.args.objects.now c.before.before.before.before.before.before.before.args.places.now q l c.before.before.before.before.before.before.before.args.call c.before.before.take-pending-external.ensures c.before.before.before.before.before.before.before.args.value c.enum_told.given.1
 
 same-length-2 : tie.Need_same_length_2
 same-length-2 c = search rules
@@ -31,7 +31,7 @@ same-length-4 : tie.Need_same_length_4
 same-length-4 c = search rules
 
 returns-2 : tie.Need-returns-2
-returns-2 c = λ q l. resolve-found c.before.before.before.before.before.before.before.before.before.before.before.before.before.before.before.before.before.before.args.tasks.now c.before.before.before.before.before.before.before.before.before.before.before.before.before.before.before.before.before.before.args.objects.now c.before.before.before.before.before.before.before.before.before.before.before.before.before.before.before.before.before.before.args.places.now q l c.before.before.before.before.before.before.before.before.before.before.before.before.before.before.before.before.before.before.args.call c.before.before.before.before.before.before.before.before.before.before.before.before.before.take-pending-external.ensures c.before.before.before.before.before.before.before.before.before.before.before.found.given.0.0 c.before.before.before.before.before.before.before.before.before.before.before.found.given.1 c.before.before.before.before.before.before.before.before.before.before.before.before.before.before.before.before.before.before.args.value (c.before.before.before.before.before.before.resolve_at.ensures q l)
+returns-2 c = λ q l. resolve_found c.before.before.before.before.before.before.before.before.before.before.before.before.before.before.before.before.before.before.args.tasks.now c.before.before.before.before.before.before.before.before.before.before.before.before.before.before.before.before.before.before.args.objects.now c.before.before.before.before.before.before.before.before.before.before.before.before.before.before.before.before.before.before.args.places.now q l c.before.before.before.before.before.before.before.before.before.before.before.before.before.before.before.before.before.before.args.call c.before.before.before.before.before.before.before.before.before.before.before.before.before.take-pending-external.ensures c.before.before.before.before.before.before.before.before.before.before.before.found.given.0.0 c.before.before.before.before.before.before.before.before.before.before.before.found.given.1 c.before.before.before.before.before.before.before.before.before.before.before.before.before.before.before.before.before.before.args.value (c.before.before.before.before.before.before.resolve_at.ensures q l)
 
 pub resolve-future-spec : {M : Type 1} → statement M
 resolve-future-spec =

@@ -1,4 +1,4 @@
-use Rattle.exec_fill.specs.StepLaws.{reaches, reaches-not}
+use Rattle.exec_fill.specs.StepLaws.{reaches, reaches_not}
 use borrow.Author.Rules.{rules}
 use Rattle.exec_deliver.proofs.task.deliver_to_task.Statement.{statement}
 use Rattle.exec_deliver.proofs.task.deliver_to_task.Tie as tie
@@ -19,7 +19,7 @@ same-length-2 : tie.Need_same_length_2
 same-length-2 c = search rules
 
 returns-2 : tie.Need-returns-2
-returns-2 c = λ q os ps l. reaches-not c.before.before.before.before.args.tasks.now os ps q l c.before.before.before.before.args.t.0 c.before.before.before.before.args.state c.before.is_blocked.ensures c.if1.false
+returns-2 c = λ q os ps l. reaches_not c.before.before.before.before.args.tasks.now os ps q l c.before.before.before.before.args.t.0 c.before.before.before.before.args.state c.before.is_blocked.ensures c.if1.false
 
 pub deliver-to-task-spec : {M : Type 1} → statement M
 deliver-to-task-spec =

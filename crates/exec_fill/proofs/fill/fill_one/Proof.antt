@@ -2,7 +2,7 @@ use native.Mathlib.Omega.{arith}
 use mathlib.Core.Path.{ap}
 use Prim.Native.Nat.{ℕ, ◌-◌}
 use Rattle.machine_laws.specs.BitLaws.{shifted_one, bit_le}
-use Rattle.exec_fill.specs.FillLaws.{fill-shut, fill-other, fill_here}
+use Rattle.exec_fill.specs.FillLaws.{fill_shut, fill_other, fill_here}
 use borrow.Author.Rules.{rules}
 use Rattle.exec_fill.proofs.fill.fill_one.Statement.{statement}
 use Rattle.exec_fill.proofs.fill.fill_one.Tie as tie
@@ -14,7 +14,7 @@ shr-if1 : tie.Need-overflow-shr-if1
 shr-if1 c = search rules
 
 returns : tie.Need_returns
-returns c = fill-shut c.before.before.args.places.now c.before.before.args.open-places c.before.before.args.p c.before.before.args.i c.before.before.args.source.0 c.before.before.args.value c.if1.true
+returns c = fill_shut c.before.before.args.places.now c.before.before.args.open-places c.before.before.args.p c.before.before.args.i c.before.before.args.source.0 c.before.before.args.value c.if1.true
 
 item-at-requires : tie.Need-item-at-requires
 item-at-requires c κs = search rules
@@ -41,7 +41,7 @@ same-length-2 : tie.Need_same_length_2
 same-length-2 c = search rules
 
 returns-3 : tie.Need-returns-3
-returns-3 c = fill-other c.before.before.before.before.before.before.before.args.places.now c.before.before.before.before.before.before.before.args.open-places c.before.before.before.before.before.before.before.args.p c.before.before.before.before.before.before.before.args.i c.before.before.before.before.before.before.before.args.source.0 c.before.before.before.before.before.before.before.args.value c.before.before.before.before.before.if1.false c.before.before.before.item_at.ensures c.if2.false
+returns-3 c = fill_other c.before.before.before.before.before.before.before.args.places.now c.before.before.before.before.before.before.before.args.open-places c.before.before.before.before.before.before.before.args.p c.before.before.before.before.before.before.before.args.i c.before.before.before.before.before.before.before.args.source.0 c.before.before.before.before.before.before.before.args.value c.before.before.before.before.before.if1.false c.before.before.before.item_at.ensures c.if2.false
 
 pub fill-one-spec : {M : Type 1} → statement M
 fill-one-spec =

@@ -30,13 +30,13 @@ loop-less : tie.Need-loop-smaller invariant_loop decreases_loop
 loop-less c = omega arith
 
 loop-again : tie.Need-loop-preserved invariant_loop decreases_loop
-loop-again c = (fill_turn _ c.before.before.before.before.before.loop.left c.before.before.before.before.before.before.before.args.first c.before.before.before.before.before.before.before.args.source.0 c.before.before.before.before.before.before.before.args.value c.before.before.before.before.before.loop.i c.before.before.before.before.before.before.before.args.count c.before.before.before.before.loop-test.true c.before.before.fill_one.ensures ∙ c.before.before.before.before.before.loop.invariant.0, c.before.before.fill_one.auto.0 ∙ c.before.before.before.before.before.loop.invariant.1, omega arith)
+loop-again c = (fill_turn _ c.before.before.before.before.before.loop.left c.before.before.before.before.before.before.before.args.first c.before.before.before.before.before.before.before.args.source.0 c.before.before.before.before.before.before.before.args.value c.before.before.before.before.before.loop.i c.before.before.before.before.before.before.before.args.count c.before.before.before.before.loop_test.true c.before.before.fill_one.ensures ∙ c.before.before.before.before.before.loop.invariant.0, c.before.before.fill_one.auto.0 ∙ c.before.before.before.before.before.loop.invariant.1, omega arith)
 
 same_length : tie.Need_same_length invariant_loop decreases_loop
 same_length c = c.before.loop.invariant.1
 
 returns : tie.Need_returns invariant_loop decreases_loop
-returns c = fill_end _ c.before.loop.left c.before.before.before.args.first c.before.before.before.args.source.0 c.before.before.before.args.value c.before.loop.i c.before.before.before.args.count c.loop-test.false ∙ c.before.loop.invariant.0
+returns c = fill_end _ c.before.loop.left c.before.before.before.args.first c.before.before.before.args.source.0 c.before.before.before.args.value c.before.loop.i c.before.before.before.args.count c.loop_test.false ∙ c.before.loop.invariant.0
 
 pub fill-places-spec : {M : Type 1} → statement M
 fill-places-spec =

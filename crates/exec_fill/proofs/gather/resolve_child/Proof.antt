@@ -1,5 +1,5 @@
 use Rattle.scheduler_states.specs.AwaitedLaws.{awaited_range}
-use Rattle.exec_fill.specs.StepLaws.{resolve-idle, resolve-completes, resolve-waits}
+use Rattle.exec_fill.specs.StepLaws.{resolve_idle, resolve_completes, resolve_waits}
 use borrow.Author.Rules.{rules}
 use Rattle.exec_fill.proofs.gather.resolve_child.Statement.{statement}
 use Rattle.exec_fill.proofs.gather.resolve_child.Tie as tie
@@ -32,7 +32,7 @@ same-length-2 : tie.Need_same_length_2
 same-length-2 c = search rules
 
 returns : tie.Need_returns
-returns c = λ ts q l. resolve-completes ts c.before.before.before.before.before.before.before.before.before.before.before.before.before.before.before.before.args.objects.now c.before.before.before.before.before.before.before.before.before.before.before.before.before.before.before.before.args.places.now q l c.before.before.before.before.before.before.before.before.before.before.before.before.before.before.before.before.args.g.0 c.before.before.before.before.before.before.before.before.before.before.before.before.as_awaited.ensures c.before.before.before.before.before.before.before.before.before.before.before.before.before.before.before.before.args.source.0 c.before.before.before.before.before.before.before.before.before.before.before.before.before.before.before.before.args.value _ c.before.before.before.before.before.before.before.before.before.before.a.given.1 c.before.before.before.before.before.before.before.fill-places.ensures c.before.before.before.before.if1.true c.before.before.put-gather.ensures
+returns c = λ ts q l. resolve_completes ts c.before.before.before.before.before.before.before.before.before.before.before.before.before.before.before.before.args.objects.now c.before.before.before.before.before.before.before.before.before.before.before.before.before.before.before.before.args.places.now q l c.before.before.before.before.before.before.before.before.before.before.before.before.before.before.before.before.args.g.0 c.before.before.before.before.before.before.before.before.before.before.before.before.as_awaited.ensures c.before.before.before.before.before.before.before.before.before.before.before.before.before.before.before.before.args.source.0 c.before.before.before.before.before.before.before.before.before.before.before.before.before.before.before.before.args.value _ c.before.before.before.before.before.before.before.before.before.before.a.given.1 c.before.before.before.before.before.before.before.fill-places.ensures c.before.before.before.before.if1.true c.before.before.put-gather.ensures
 
 put-gather-requires-2 : tie.Need-put-gather-requires-2
 put-gather-requires-2 c κs = search rules
@@ -41,7 +41,7 @@ same-length-3 : tie.Need_same_length_3
 same-length-3 c = search rules
 
 returns-2 : tie.Need-returns-2
-returns-2 c = λ ts q l. resolve-idle ts c.before.before.before.before.before.before.args.objects.now c.before.before.before.before.before.before.args.places.now q l c.before.before.before.before.before.before.args.g.0 c.before.before.as_awaited.ensures c.before.before.before.before.before.before.args.source.0 c.before.before.before.before.before.before.args.value c.enum_told.given.1
+returns-2 c = λ ts q l. resolve_idle ts c.before.before.before.before.before.before.args.objects.now c.before.before.before.before.before.before.args.places.now q l c.before.before.before.before.before.before.args.g.0 c.before.before.as_awaited.ensures c.before.before.before.before.before.before.args.source.0 c.before.before.before.before.before.before.args.value c.enum_told.given.1
 
 same-length-4 : tie.Need_same_length_4
 same-length-4 c = search rules
@@ -50,7 +50,7 @@ same-length-5 : tie.Need-same-length-5
 same-length-5 c = search rules
 
 returns-3 : tie.Need-returns-3
-returns-3 c = λ ts q l. resolve-waits ts c.before.before.before.before.before.before.before.before.before.before.before.before.before.before.before.before.args.objects.now c.before.before.before.before.before.before.before.before.before.before.before.before.before.before.before.before.args.places.now q l c.before.before.before.before.before.before.before.before.before.before.before.before.before.before.before.before.args.g.0 c.before.before.before.before.before.before.before.before.before.before.before.before.as_awaited.ensures c.before.before.before.before.before.before.before.before.before.before.before.before.before.before.before.before.args.source.0 c.before.before.before.before.before.before.before.before.before.before.before.before.before.before.before.before.args.value _ c.before.before.before.before.before.before.before.before.before.before.a.given.1 c.before.before.before.before.before.before.before.fill-places.ensures c.before.before.before.before.if1.false c.before.before.put-gather2.ensures
+returns-3 c = λ ts q l. resolve_waits ts c.before.before.before.before.before.before.before.before.before.before.before.before.before.before.before.before.args.objects.now c.before.before.before.before.before.before.before.before.before.before.before.before.before.before.before.before.args.places.now q l c.before.before.before.before.before.before.before.before.before.before.before.before.before.before.before.before.args.g.0 c.before.before.before.before.before.before.before.before.before.before.before.before.as_awaited.ensures c.before.before.before.before.before.before.before.before.before.before.before.before.before.before.before.before.args.source.0 c.before.before.before.before.before.before.before.before.before.before.before.before.before.before.before.before.args.value _ c.before.before.before.before.before.before.before.before.before.before.a.given.1 c.before.before.before.before.before.before.before.fill-places.ensures c.before.before.before.before.if1.false c.before.before.put-gather2.ensures
 
 pub resolve-child-spec : {M : Type 1} → statement M
 resolve-child-spec =

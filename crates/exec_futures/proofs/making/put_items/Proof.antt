@@ -7,7 +7,7 @@ use borrow.Author.Rules.{rules}
 use Rattle.queue.specs.declared.ReadyQueue.{ReadyQueue}
 use Rattle.machine.specs.Store.{LogEntry, store_of}
 use Rattle.machine.specs.Events.{put_items}
-use Rattle.exec_futures.specs.MakingLaws.{items-turn, items-end, items-begin}
+use Rattle.exec_futures.specs.MakingLaws.{items-turn, items-end, items_begin}
 use Rattle.exec_futures.proofs.making.put_items.Statement.{statement}
 use Rattle.exec_futures.proofs.making.put_items.Tie as tie
 
@@ -18,7 +18,7 @@ abbrev decreases_loop : tie.decreases_loop
 decreases_loop places₀ first items n i₀ places i = n - i
 
 loop-holds : tie.Need-loop-init invariant_loop decreases_loop
-loop-holds c = ((λ ts os q l. items-begin _ _ ts os q l _), refl, omega arith)
+loop-holds c = ((λ ts os q l. items_begin _ _ ts os q l _), refl, omega arith)
 
 mul-new : tie.Need-overflow-mul-new invariant_loop decreases_loop
 mul-new c = search rules
@@ -42,7 +42,7 @@ loop-less : tie.Need-loop-smaller invariant_loop decreases_loop
 loop-less c = omega arith
 
 loop-again : tie.Need-loop-preserved invariant_loop decreases_loop
-loop-again c = ((λ ts os q l. items-turn c.before.before.before.before.before.before.before.before.before.before.args.items.now c.before.before.before.before.before.before.before.before.before.before.args.first ts os q l c.before.before.before.before.before.before.before.loop.places c.before.before.before.before.before.before.before.loop.i c.before.before.before.before.before.before.loop-test.true c.before.before.before.before.new.ensures c.before.before.store-place.ensures ∙ c.before.before.before.before.before.before.before.loop.invariant.0 ts os q l), c.before.before.store-place.auto.0 ∙ c.before.before.before.before.before.before.before.loop.invariant.1, omega arith)
+loop-again c = ((λ ts os q l. items-turn c.before.before.before.before.before.before.before.before.before.before.args.items.now c.before.before.before.before.before.before.before.before.before.before.args.first ts os q l c.before.before.before.before.before.before.before.loop.places c.before.before.before.before.before.before.before.loop.i c.before.before.before.before.before.before.loop_test.true c.before.before.before.before.new.ensures c.before.before.store-place.ensures ∙ c.before.before.before.before.before.before.before.loop.invariant.0 ts os q l), c.before.before.store-place.auto.0 ∙ c.before.before.before.before.before.before.before.loop.invariant.1, omega arith)
 
 same_length : tie.Need_same_length invariant_loop decreases_loop
 same_length c = c.before.loop.invariant.1

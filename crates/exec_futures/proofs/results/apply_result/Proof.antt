@@ -1,5 +1,5 @@
 use Rattle.exec_futures.specs.Results.{result_at}
-use Rattle.exec_futures.specs.ResultLaws.{applies-value, applies-error, applies-nothing, applies-not-found, applies-module-file}
+use Rattle.exec_futures.specs.ResultLaws.{applies_value, applies_error, applies_nothing, applies_not-found, applies_module_file}
 use borrow.Author.Rules.{rules}
 use Rattle.exec_futures.proofs.results.apply_result.Statement.{statement}
 use Rattle.exec_futures.proofs.results.apply_result.Tie as tie
@@ -44,7 +44,7 @@ same-length-3 : tie.Need_same_length_3
 same-length-3 c = search rules
 
 returns : tie.Need_returns
-returns c = λ q l. applies-value c.before.before.before.before.before.before.before.before.before.before.before.before.before.before.before.before.before.before.before.before.args.tasks.now c.before.before.before.before.before.before.before.before.before.before.before.before.before.before.before.before.before.before.before.before.args.objects.now c.before.before.before.before.before.before.before.before.before.before.before.before.before.before.before.before.before.before.before.before.args.places.now q l (result_at c.before.before.before.before.before.before.before.before.before.before.before.before.before.before.before.before.before.before.before.before.args.results.now c.before.before.before.before.before.before.before.before.before.before.before.before.before.before.before.before.before.before.before.before.args.at) c.before.before.before.before.before.before.before.before.before.before.before.before.before.before.before.u32-at.ensures.0 c.before.before.before.before.before.before.before.before.before.before.before.before.before.before.u8-at.ensures.0 c.before.before.before.before.before.before.before.before.before.before.before.before.before.if1.true c.before.before.before.before.before.before.before.before.before.before.before.before.u8-at2.ensures.0 c.before.before.before.before.before.before.before.before.before.before.before.u64-at.ensures c.before.before.before.before.before.before.before.to_value.ensures (c.before.before.before.before.before.before.resolve_future.ensures q l)
+returns c = λ q l. applies_value c.before.before.before.before.before.before.before.before.before.before.before.before.before.before.before.before.before.before.before.before.args.tasks.now c.before.before.before.before.before.before.before.before.before.before.before.before.before.before.before.before.before.before.before.before.args.objects.now c.before.before.before.before.before.before.before.before.before.before.before.before.before.before.before.before.before.before.before.before.args.places.now q l (result_at c.before.before.before.before.before.before.before.before.before.before.before.before.before.before.before.before.before.before.before.before.args.results.now c.before.before.before.before.before.before.before.before.before.before.before.before.before.before.before.before.before.before.before.before.args.at) c.before.before.before.before.before.before.before.before.before.before.before.before.before.before.before.u32-at.ensures.0 c.before.before.before.before.before.before.before.before.before.before.before.before.before.before.u8-at.ensures.0 c.before.before.before.before.before.before.before.before.before.before.before.before.before.if1.true c.before.before.before.before.before.before.before.before.before.before.before.before.u8-at2.ensures.0 c.before.before.before.before.before.before.before.before.before.before.before.u64-at.ensures c.before.before.before.before.before.before.before.to_value.ensures (c.before.before.before.before.before.before.resolve_future.ensures q l)
 
 add-u64-at-2 : tie.Need-overflow-add-u64-at-2
 add-u64-at-2 c = search rules
@@ -65,10 +65,10 @@ same-length-5 : tie.Need-same-length-5
 same-length-5 c = search rules
 
 returns-2 : tie.Need-returns-2
-returns-2 c = λ q l. applies-error c.before.before.before.before.before.before.before.before.before.before.before.before.before.before.before.before.before.args.tasks.now c.before.before.before.before.before.before.before.before.before.before.before.before.before.before.before.before.before.args.objects.now c.before.before.before.before.before.before.before.before.before.before.before.before.before.before.before.before.before.args.places.now q l (result_at c.before.before.before.before.before.before.before.before.before.before.before.before.before.before.before.before.before.args.results.now c.before.before.before.before.before.before.before.before.before.before.before.before.before.before.before.before.before.args.at) c.before.before.before.before.before.before.before.before.before.before.before.before.u32-at.ensures.0 c.before.before.before.before.before.before.before.before.before.before.before.u8-at.ensures.0 c.before.before.before.before.before.before.before.before.before.before.if1.false c.before.before.before.before.before.before.before.before.before.if2.true c.before.before.before.before.before.before.before.before.u64-at2.ensures c.before.before.before.before.before.to_error.ensures (c.before.before.before.before.fail_future.ensures q c.before.before.before.before.before.before.before.before.before.before.before.before.before.before.before.before.before.args.places.now l c.before.before.before.before.before.before.before.before.before.before.before.before.before.before.before.before.before.requires.2)
+returns-2 c = λ q l. applies_error c.before.before.before.before.before.before.before.before.before.before.before.before.before.before.before.before.before.args.tasks.now c.before.before.before.before.before.before.before.before.before.before.before.before.before.before.before.before.before.args.objects.now c.before.before.before.before.before.before.before.before.before.before.before.before.before.before.before.before.before.args.places.now q l (result_at c.before.before.before.before.before.before.before.before.before.before.before.before.before.before.before.before.before.args.results.now c.before.before.before.before.before.before.before.before.before.before.before.before.before.before.before.before.before.args.at) c.before.before.before.before.before.before.before.before.before.before.before.before.u32-at.ensures.0 c.before.before.before.before.before.before.before.before.before.before.before.u8-at.ensures.0 c.before.before.before.before.before.before.before.before.before.before.if1.false c.before.before.before.before.before.before.before.before.before.if2.true c.before.before.before.before.before.before.before.before.u64-at2.ensures c.before.before.before.before.before.to_error.ensures (c.before.before.before.before.fail_future.ensures q c.before.before.before.before.before.before.before.before.before.before.before.before.before.before.before.before.before.args.places.now l c.before.before.before.before.before.before.before.before.before.before.before.before.before.before.before.before.before.requires.2)
 
 returns-3 : tie.Need-returns-3
-returns-3 c = λ q l. applies-nothing c.before.before.before.before.before.before.before.before.before.args.tasks.now c.before.before.before.before.before.before.before.before.before.args.objects.now c.before.before.before.before.before.before.before.before.before.args.places.now q l (result_at c.before.before.before.before.before.before.before.before.before.args.results.now c.before.before.before.before.before.before.before.before.before.args.at) c.before.before.before.before.u32-at.ensures.0 c.before.before.before.u8-at.ensures.0 c.before.before.if1.false c.before.if2.false c.if3.true
+returns-3 c = λ q l. applies_nothing c.before.before.before.before.before.before.before.before.before.args.tasks.now c.before.before.before.before.before.before.before.before.before.args.objects.now c.before.before.before.before.before.before.before.before.before.args.places.now q l (result_at c.before.before.before.before.before.before.before.before.before.args.results.now c.before.before.before.before.before.before.before.before.before.args.at) c.before.before.before.before.u32-at.ensures.0 c.before.before.before.u8-at.ensures.0 c.before.before.if1.false c.before.if2.false c.if3.true
 
 fail-future-requires-2 : tie.Need-fail-future-requires-2
 fail-future-requires-2 c κs = search rules
@@ -80,7 +80,7 @@ same-length-7 : tie.Need-same-length-7
 same-length-7 c = search rules
 
 returns-4 : tie.Need-returns-4
-returns-4 c = λ q l. applies-not-found c.before.before.before.before.before.before.before.before.before.before.before.before.before.before.before.before.before.args.tasks.now c.before.before.before.before.before.before.before.before.before.before.before.before.before.before.before.before.before.args.objects.now c.before.before.before.before.before.before.before.before.before.before.before.before.before.before.before.before.before.args.places.now q l (result_at c.before.before.before.before.before.before.before.before.before.before.before.before.before.before.before.before.before.args.results.now c.before.before.before.before.before.before.before.before.before.before.before.before.before.before.before.before.before.args.at) c.before.before.before.before.before.before.before.before.before.before.before.before.u32-at.ensures.0 c.before.before.before.before.before.before.before.before.before.before.before.u8-at.ensures.0 c.before.before.before.before.before.before.before.before.before.before.if1.false c.before.before.before.before.before.before.before.before.before.if2.false c.before.before.before.before.before.before.before.before.if3.false c.before.before.before.before.before.before.before.if4.true (c.before.before.before.before.fail-future2.ensures q c.before.before.before.before.before.before.before.before.before.before.before.before.before.before.before.before.before.args.places.now l c.before.before.before.before.before.before.before.before.before.before.before.before.before.before.before.before.before.requires.2)
+returns-4 c = λ q l. applies_not-found c.before.before.before.before.before.before.before.before.before.before.before.before.before.before.before.before.before.args.tasks.now c.before.before.before.before.before.before.before.before.before.before.before.before.before.before.before.before.before.args.objects.now c.before.before.before.before.before.before.before.before.before.before.before.before.before.before.before.before.before.args.places.now q l (result_at c.before.before.before.before.before.before.before.before.before.before.before.before.before.before.before.before.before.args.results.now c.before.before.before.before.before.before.before.before.before.before.before.before.before.before.before.before.before.args.at) c.before.before.before.before.before.before.before.before.before.before.before.before.u32-at.ensures.0 c.before.before.before.before.before.before.before.before.before.before.before.u8-at.ensures.0 c.before.before.before.before.before.before.before.before.before.before.if1.false c.before.before.before.before.before.before.before.before.before.if2.false c.before.before.before.before.before.before.before.before.if3.false c.before.before.before.before.before.before.before.if4.true (c.before.before.before.before.fail-future2.ensures q c.before.before.before.before.before.before.before.before.before.before.before.before.before.before.before.before.before.args.places.now l c.before.before.before.before.before.before.before.before.before.before.before.before.before.before.before.before.before.requires.2)
 
 fail-future-requires-3 : tie.Need-fail-future-requires-3
 fail-future-requires-3 c κs = search rules
@@ -92,7 +92,7 @@ same-length-9 : tie.Need-same-length-9
 same-length-9 c = search rules
 
 returns-5 : tie.Need-returns-5
-returns-5 c = λ q l. applies-module-file c.before.before.before.before.before.before.before.before.before.before.before.before.before.before.before.before.before.args.tasks.now c.before.before.before.before.before.before.before.before.before.before.before.before.before.before.before.before.before.args.objects.now c.before.before.before.before.before.before.before.before.before.before.before.before.before.before.before.before.before.args.places.now q l (result_at c.before.before.before.before.before.before.before.before.before.before.before.before.before.before.before.before.before.args.results.now c.before.before.before.before.before.before.before.before.before.before.before.before.before.before.before.before.before.args.at) c.before.before.before.before.before.before.before.before.before.before.before.before.u32-at.ensures.0 c.before.before.before.before.before.before.before.before.before.before.before.u8-at.ensures.0 c.before.before.before.before.before.before.before.before.before.before.if1.false c.before.before.before.before.before.before.before.before.before.if2.false c.before.before.before.before.before.before.before.before.if3.false c.before.before.before.before.before.before.before.if4.false (c.before.before.before.before.fail-future3.ensures q c.before.before.before.before.before.before.before.before.before.before.before.before.before.before.before.before.before.args.places.now l c.before.before.before.before.before.before.before.before.before.before.before.before.before.before.before.before.before.requires.2)
+returns-5 c = λ q l. applies_module_file c.before.before.before.before.before.before.before.before.before.before.before.before.before.before.before.before.before.args.tasks.now c.before.before.before.before.before.before.before.before.before.before.before.before.before.before.before.before.before.args.objects.now c.before.before.before.before.before.before.before.before.before.before.before.before.before.before.before.before.before.args.places.now q l (result_at c.before.before.before.before.before.before.before.before.before.before.before.before.before.before.before.before.before.args.results.now c.before.before.before.before.before.before.before.before.before.before.before.before.before.before.before.before.before.args.at) c.before.before.before.before.before.before.before.before.before.before.before.before.u32-at.ensures.0 c.before.before.before.before.before.before.before.before.before.before.before.u8-at.ensures.0 c.before.before.before.before.before.before.before.before.before.before.if1.false c.before.before.before.before.before.before.before.before.before.if2.false c.before.before.before.before.before.before.before.before.if3.false c.before.before.before.before.before.before.before.if4.false (c.before.before.before.before.fail-future3.ensures q c.before.before.before.before.before.before.before.before.before.before.before.before.before.before.before.before.before.args.places.now l c.before.before.before.before.before.before.before.before.before.before.before.before.before.before.before.before.before.requires.2)
 
 pub apply-result-spec : {M : Type 1} → statement M
 apply-result-spec =

@@ -1,5 +1,5 @@
 use Rattle.queue.specs.Queue.{queue_of}
-use Rattle.exec_poll.specs.ItemLaws.{item-unmade, item-spawns, item-awaits, item-nests}
+use Rattle.exec_poll.specs.ItemLaws.{item-unmade, item-spawns, item_awaits, item_nests}
 use borrow.Author.Rules.{rules}
 use Rattle.exec_poll.proofs.item.item_object.Statement.{statement}
 use Rattle.exec_poll.proofs.item.item_object.Tie as tie
@@ -47,13 +47,13 @@ same-length-4 : tie.Need_same_length_4
 same-length-4 c = search rules
 
 returns-3 : tie.Need-returns-3
-returns-3 c = λ ps l. item-awaits c.before.before.before.before.before.before.before.before.before.before.before.args.tasks.now c.before.before.before.before.before.before.before.before.before.before.before.args.objects.now ps (queue_of c.before.before.before.before.before.before.before.before.before.before.before.args.ids.now c.before.before.before.before.before.before.before.before.before.before.before.args.len.now) l c.before.before.before.before.before.before.before.before.before.before.before.args.g.0 c.before.before.before.before.before.before.before.before.before.before.before.args.o.0 c.before.before.before.before.before.before.before.load-object.ensures _ _ c.before.before.before.before.before.x2.given.1 c.before.before.await_external.result (c.before.before.await_external.ensures c.before.before.before.before.before.before.before.before.before.before.before.args.tasks.now ps (queue_of c.before.before.before.before.before.before.before.before.before.before.before.args.ids.now c.before.before.before.before.before.before.before.before.before.before.before.args.len.now) l)
+returns-3 c = λ ps l. item_awaits c.before.before.before.before.before.before.before.before.before.before.before.args.tasks.now c.before.before.before.before.before.before.before.before.before.before.before.args.objects.now ps (queue_of c.before.before.before.before.before.before.before.before.before.before.before.args.ids.now c.before.before.before.before.before.before.before.before.before.before.before.args.len.now) l c.before.before.before.before.before.before.before.before.before.before.before.args.g.0 c.before.before.before.before.before.before.before.before.before.before.before.args.o.0 c.before.before.before.before.before.before.before.load-object.ensures _ _ c.before.before.before.before.before.x2.given.1 c.before.before.await_external.result (c.before.before.await_external.ensures c.before.before.before.before.before.before.before.before.before.before.before.args.tasks.now ps (queue_of c.before.before.before.before.before.before.before.before.before.before.before.args.ids.now c.before.before.before.before.before.before.before.before.before.before.before.args.len.now) l)
 
 same-length-5 : tie.Need-same-length-5
 same-length-5 c = search rules
 
 returns-4 : tie.Need-returns-4
-returns-4 c = λ ps l. item-nests c.before.before.before.before.before.before.before.before.args.tasks.now c.before.before.before.before.before.before.before.before.args.objects.now ps (queue_of c.before.before.before.before.before.before.before.before.args.ids.now c.before.before.before.before.before.before.before.before.args.len.now) l c.before.before.before.before.before.before.before.before.args.g.0 c.before.before.before.before.before.before.before.before.args.o.0 c.before.before.before.before.load-object.ensures _ _ _ c.before.before.x3.given.1 c.item_gather.result (c.item_gather.ensures _)
+returns-4 c = λ ps l. item_nests c.before.before.before.before.before.before.before.before.args.tasks.now c.before.before.before.before.before.before.before.before.args.objects.now ps (queue_of c.before.before.before.before.before.before.before.before.args.ids.now c.before.before.before.before.before.before.before.before.args.len.now) l c.before.before.before.before.before.before.before.before.args.g.0 c.before.before.before.before.before.before.before.before.args.o.0 c.before.before.before.before.load-object.ensures _ _ _ c.before.before.x3.given.1 c.item_gather.result (c.item_gather.ensures _)
 
 pub item-object-spec : {M : Type 1} → statement M
 item-object-spec =

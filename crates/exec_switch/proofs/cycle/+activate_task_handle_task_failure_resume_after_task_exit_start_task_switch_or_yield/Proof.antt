@@ -7,25 +7,25 @@ use Rattle.asyncio.specs.declared.TaskId.{TaskId}
 use Rattle.rows.specs.Tables.{task_at, task_put}
 use Rattle.rows.specs.TableLaws.{task_at-fits}
 use Rattle.queue.specs.Queue.{front_of, queue_of}
-use Rattle.exec_deliver.specs.ClimbLaws.{some-places, some-places_long}
+use Rattle.exec_deliver.specs.ClimbLaws.{some-places, some_places_long}
 use Rattle.machine.specs.Store.{absent, exited}
 use Rattle.machine.specs.Scheduler.{live_in}
 use Rattle.machine.specs.Delivery.{deliver_awaiter_failure}
 use Rattle.machine.specs.Events as machine
-use Rattle.exec_switch.specs.CycleLaws.{front_fits, activate-yields, activate-runs, activate-starts, start-fails, start-runs, exit-next, exit-wakes, switch-yields, switch-goes, failure_exits, start_falls, failure_falls, failure-found}
+use Rattle.exec_switch.specs.CycleLaws.{front_fits, activate_yields, activate-runs, activate-starts, start-fails, start-runs, exit_next, exit_wakes, switch_yields, switch_goes, failure_exits, start_falls, failure_falls, failure_found}
 use Prim.Native.Nat.{ℕ, ◌<◌}
 use borrow.Fn.Kinds.{In}
 use borrow.Fn.PlainCycle.{Measures, is, falls, and}
 use Rattle.exec_switch.proofs.cycle.activate_task.Reads as activate-task
 use Rattle.exec_switch.proofs.cycle.activate_task.Kinds as activate-task-kinds
 use Rattle.exec_switch.proofs.cycle.+activate_task_handle_task_failure_resume_after_task_exit_start_task_switch_or_yield.Lts-activate_task as activate-task-lts
-use Rattle.exec_switch.proofs.cycle.handle_task_failure.Reads as handle-task-failure
+use Rattle.exec_switch.proofs.cycle.handle_task_failure.Reads as handle_task_failure
 use Rattle.exec_switch.proofs.cycle.handle_task_failure.Kinds as handle-task-failure-kinds
 use Rattle.exec_switch.proofs.cycle.+activate_task_handle_task_failure_resume_after_task_exit_start_task_switch_or_yield.Lts-handle_task_failure as handle-task-failure-lts
-use Rattle.exec_switch.proofs.cycle.resume_after_task_exit.Reads as resume-after-task-exit
+use Rattle.exec_switch.proofs.cycle.resume_after_task_exit.Reads as resume_after_task_exit
 use Rattle.exec_switch.proofs.cycle.resume_after_task_exit.Kinds as resume-after-task-exit-kinds
 use Rattle.exec_switch.proofs.cycle.+activate_task_handle_task_failure_resume_after_task_exit_start_task_switch_or_yield.Lts-resume_after_task_exit as resume-after-task-exit-lts
-use Rattle.exec_switch.proofs.cycle.start_task.Reads as start-task
+use Rattle.exec_switch.proofs.cycle.start_task.Reads as start_task
 use Rattle.exec_switch.proofs.cycle.start_task.Kinds as start-task-kinds
 use Rattle.exec_switch.proofs.cycle.+activate_task_handle_task_failure_resume_after_task_exit_start_task_switch_or_yield.Lts-start_task as start-task-lts
 use Rattle.exec_switch.proofs.cycle.switch_or_yield.Reads as switch-or-yield
@@ -84,7 +84,7 @@ handle-task-failure-at t =
     4
     handle-task-failure-kinds.ps
     (is 4 handle-task-failure-kinds.ps μ-handle-task-failure t)
-    handle-task-failure.Pre
+    handle_task_failure.Pre
 
 abbrev handle-task-failure-below : ℕ → In 4 handle-task-failure-kinds.ps
 handle-task-failure-below t =
@@ -92,7 +92,7 @@ handle-task-failure-below t =
     4
     handle-task-failure-kinds.ps
     (falls 4 handle-task-failure-kinds.ps ◌<◌ μ-handle-task-failure t)
-    handle-task-failure.Pre
+    handle_task_failure.Pre
 
 abbrev resume-after-task-exit-at : ℕ → In 4 resume-after-task-exit-kinds.ps
 resume-after-task-exit-at t =
@@ -100,7 +100,7 @@ resume-after-task-exit-at t =
     4
     resume-after-task-exit-kinds.ps
     (is 4 resume-after-task-exit-kinds.ps μ-resume-after-task-exit t)
-    resume-after-task-exit.Pre
+    resume_after_task_exit.Pre
 
 abbrev resume-after-task-exit-below : ℕ → In 4 resume-after-task-exit-kinds.ps
 resume-after-task-exit-below t =
@@ -108,15 +108,15 @@ resume-after-task-exit-below t =
     4
     resume-after-task-exit-kinds.ps
     (falls 4 resume-after-task-exit-kinds.ps ◌<◌ μ-resume-after-task-exit t)
-    resume-after-task-exit.Pre
+    resume_after_task_exit.Pre
 
 abbrev start-task-at : ℕ → In 4 start-task-kinds.ps
 start-task-at t =
-    and 4 start-task-kinds.ps (is 4 start-task-kinds.ps μ-start-task t) start-task.Pre
+    and 4 start-task-kinds.ps (is 4 start-task-kinds.ps μ-start-task t) start_task.Pre
 
 abbrev start-task-below : ℕ → In 4 start-task-kinds.ps
 start-task-below t =
-    and 4 start-task-kinds.ps (falls 4 start-task-kinds.ps ◌<◌ μ-start-task t) start-task.Pre
+    and 4 start-task-kinds.ps (falls 4 start-task-kinds.ps ◌<◌ μ-start-task t) start_task.Pre
 
 abbrev switch-or-yield-at : ℕ → In 4 switch-or-yield-kinds.ps
 switch-or-yield-at t =
@@ -140,7 +140,7 @@ activate-task-state-at-requires : (t : ℕ) → activate-task-lts.Need-state-at-
   yield-control-reads.Asked,
   yield-control-reads.Learnt,
   start-task-below t,
-  start-task.Post,
+  start_task.Post,
   run-reads.Asked,
   run-reads.Learnt,
 ) (activate-task-at t) activate-task.Post
@@ -152,7 +152,7 @@ activate-task-enum-told : (t : ℕ) → activate-task-lts.Need-enum-told (
   yield-control-reads.Asked,
   yield-control-reads.Learnt,
   start-task-below t,
-  start-task.Post,
+  start_task.Post,
   run-reads.Asked,
   run-reads.Learnt,
 ) (activate-task-at t) activate-task.Post
@@ -164,7 +164,7 @@ activate-task-yield-control-requires : (t : ℕ) → activate-task-lts.Need-yiel
   yield-control-reads.Asked,
   yield-control-reads.Learnt,
   start-task-below t,
-  start-task.Post,
+  start_task.Post,
   run-reads.Asked,
   run-reads.Learnt,
 ) (activate-task-at t) activate-task.Post
@@ -176,7 +176,7 @@ activate-task-enum-told-2 : (t : ℕ) → activate-task-lts.Need-enum-told-2 (
   yield-control-reads.Asked,
   yield-control-reads.Learnt,
   start-task-below t,
-  start-task.Post,
+  start_task.Post,
   run-reads.Asked,
   run-reads.Learnt,
 ) (activate-task-at t) activate-task.Post
@@ -188,7 +188,7 @@ activate-task-start-task-requires : (t : ℕ) → activate-task-lts.Need-start-t
   yield-control-reads.Asked,
   yield-control-reads.Learnt,
   start-task-below t,
-  start-task.Post,
+  start_task.Post,
   run-reads.Asked,
   run-reads.Learnt,
 ) (activate-task-at t) activate-task.Post
@@ -200,7 +200,7 @@ activate-task-enum-told-3 : (t : ℕ) → activate-task-lts.Need-enum-told-3 (
   yield-control-reads.Asked,
   yield-control-reads.Learnt,
   start-task-below t,
-  start-task.Post,
+  start_task.Post,
   run-reads.Asked,
   run-reads.Learnt,
 ) (activate-task-at t) activate-task.Post
@@ -212,7 +212,7 @@ activate-task-yield-control-requires-2 : (t : ℕ) → activate-task-lts.Need-yi
   yield-control-reads.Asked,
   yield-control-reads.Learnt,
   start-task-below t,
-  start-task.Post,
+  start_task.Post,
   run-reads.Asked,
   run-reads.Learnt,
 ) (activate-task-at t) activate-task.Post
@@ -224,7 +224,7 @@ activate-task-enum-known-state : (t : ℕ) → activate-task-lts.Need-enum-known
   yield-control-reads.Asked,
   yield-control-reads.Learnt,
   start-task-below t,
-  start-task.Post,
+  start_task.Post,
   run-reads.Asked,
   run-reads.Learnt,
 ) (activate-task-at t) activate-task.Post
@@ -236,7 +236,7 @@ activate-task-run-requires : (t : ℕ) → activate-task-lts.Need-run-requires (
   yield-control-reads.Asked,
   yield-control-reads.Learnt,
   start-task-below t,
-  start-task.Post,
+  start_task.Post,
   run-reads.Asked,
   run-reads.Learnt,
 ) (activate-task-at t) activate-task.Post
@@ -248,7 +248,7 @@ activate-task-enum-known-state-2 : (t : ℕ) → activate-task-lts.Need-enum-kno
   yield-control-reads.Asked,
   yield-control-reads.Learnt,
   start-task-below t,
-  start-task.Post,
+  start_task.Post,
   run-reads.Asked,
   run-reads.Learnt,
 ) (activate-task-at t) activate-task.Post
@@ -260,7 +260,7 @@ activate-task-run-requires-2 : (t : ℕ) → activate-task-lts.Need-run-requires
   yield-control-reads.Asked,
   yield-control-reads.Learnt,
   start-task-below t,
-  start-task.Post,
+  start_task.Post,
   run-reads.Asked,
   run-reads.Learnt,
 ) (activate-task-at t) activate-task.Post
@@ -272,7 +272,7 @@ activate-task-enum-told-4 : (t : ℕ) → activate-task-lts.Need-enum-told-4 (
   yield-control-reads.Asked,
   yield-control-reads.Learnt,
   start-task-below t,
-  start-task.Post,
+  start_task.Post,
   run-reads.Asked,
   run-reads.Learnt,
 ) (activate-task-at t) activate-task.Post
@@ -284,7 +284,7 @@ activate-task-yield-control-requires-3 : (t : ℕ) → activate-task-lts.Need-yi
   yield-control-reads.Asked,
   yield-control-reads.Learnt,
   start-task-below t,
-  start-task.Post,
+  start_task.Post,
   run-reads.Asked,
   run-reads.Learnt,
 ) (activate-task-at t) activate-task.Post
@@ -296,7 +296,7 @@ activate-task-same-length : (t : ℕ) → activate-task-lts.Need_same_length (
   yield-control-reads.Asked,
   yield-control-reads.Learnt,
   start-task-below t,
-  start-task.Post,
+  start_task.Post,
   run-reads.Asked,
   run-reads.Learnt,
 ) (activate-task-at t) activate-task.Post
@@ -308,7 +308,7 @@ activate-task-same-length-2 : (t : ℕ) → activate-task-lts.Need_same_length_2
   yield-control-reads.Asked,
   yield-control-reads.Learnt,
   start-task-below t,
-  start-task.Post,
+  start_task.Post,
   run-reads.Asked,
   run-reads.Learnt,
 ) (activate-task-at t) activate-task.Post
@@ -320,12 +320,12 @@ activate-task-returns : (t : ℕ) → activate-task-lts.Need_returns (
   yield-control-reads.Asked,
   yield-control-reads.Learnt,
   start-task-below t,
-  start-task.Post,
+  start_task.Post,
   run-reads.Asked,
   run-reads.Learnt,
 ) (activate-task-at t) activate-task.Post
-unfolding machine.activate-state
-activate-task-returns t c = λ ps l w. activate-yields c.before.before.before.before.before.before.before.before.before.before.args.tasks.now c.before.before.before.before.before.before.before.before.before.before.args.objects.now ps (queue_of c.before.before.before.before.before.before.before.before.before.before.args.ids.now c.before.before.before.before.before.before.before.before.before.before.args.len.now) l c.before.before.before.before.before.before.before.before.before.before.args.t.0 c.before.before.before.before.before.before.before.before.before.before.requires.1.0 c.before.before.before.before.before.before.before.before.before.before.requires.1.1 w c.before.before.before.before.before.before.before.before.before.before.requires.1.2 c.before.before.before.before.before.before.state-at.ensures _ c.before.before.before.before.enum_told.given.1 refl c.before.before.yield-control.result (c.before.before.yield-control.ensures c.before.before.before.before.before.before.before.before.before.before.args.tasks.now ps (queue_of c.before.before.before.before.before.before.before.before.before.before.args.ids.now c.before.before.before.before.before.before.before.before.before.before.args.len.now) l)
+unfolding machine.activate_state
+activate-task-returns t c = λ ps l w. activate_yields c.before.before.before.before.before.before.before.before.before.before.args.tasks.now c.before.before.before.before.before.before.before.before.before.before.args.objects.now ps (queue_of c.before.before.before.before.before.before.before.before.before.before.args.ids.now c.before.before.before.before.before.before.before.before.before.before.args.len.now) l c.before.before.before.before.before.before.before.before.before.before.args.t.0 c.before.before.before.before.before.before.before.before.before.before.requires.1.0 c.before.before.before.before.before.before.before.before.before.before.requires.1.1 w c.before.before.before.before.before.before.before.before.before.before.requires.1.2 c.before.before.before.before.before.before.state-at.ensures _ c.before.before.before.before.enum_told.given.1 refl c.before.before.yield-control.result (c.before.before.yield-control.ensures c.before.before.before.before.before.before.before.before.before.before.args.tasks.now ps (queue_of c.before.before.before.before.before.before.before.before.before.before.args.ids.now c.before.before.before.before.before.before.before.before.before.before.args.len.now) l)
 
 activate-task-same-length-3 : (t : ℕ) → activate-task-lts.Need_same_length_3 (
   state-at-reads.Asked,
@@ -333,7 +333,7 @@ activate-task-same-length-3 : (t : ℕ) → activate-task-lts.Need_same_length_3
   yield-control-reads.Asked,
   yield-control-reads.Learnt,
   start-task-below t,
-  start-task.Post,
+  start_task.Post,
   run-reads.Asked,
   run-reads.Learnt,
 ) (activate-task-at t) activate-task.Post
@@ -345,7 +345,7 @@ activate-task-same-length-4 : (t : ℕ) → activate-task-lts.Need_same_length_4
   yield-control-reads.Asked,
   yield-control-reads.Learnt,
   start-task-below t,
-  start-task.Post,
+  start_task.Post,
   run-reads.Asked,
   run-reads.Learnt,
 ) (activate-task-at t) activate-task.Post
@@ -357,12 +357,12 @@ activate-task-returns-2 : (t : ℕ) → activate-task-lts.Need-returns-2 (
   yield-control-reads.Asked,
   yield-control-reads.Learnt,
   start-task-below t,
-  start-task.Post,
+  start_task.Post,
   run-reads.Asked,
   run-reads.Learnt,
 ) (activate-task-at t) activate-task.Post
-unfolding machine.activate-state
-activate-task-returns-2 t c = λ ps l w. activate-starts c.before.before.before.before.before.before.before.before.before.before.before.before.before.before.before.args.tasks.now c.before.before.before.before.before.before.before.before.before.before.before.before.before.before.before.args.objects.now ps (queue_of c.before.before.before.before.before.before.before.before.before.before.before.before.before.before.before.args.ids.now c.before.before.before.before.before.before.before.before.before.before.before.before.before.before.before.args.len.now) l c.before.before.before.before.before.before.before.before.before.before.before.before.before.before.before.args.t.0 c.before.before.before.before.before.before.before.before.before.before.before.before.before.before.before.requires.1.0 c.before.before.before.before.before.before.before.before.before.before.before.before.before.before.before.requires.1.1 w c.before.before.before.before.before.before.before.before.before.before.before.before.before.before.before.requires.1.2 c.before.before.before.before.before.before.before.before.before.before.before.state-at.ensures _ c.before.before.before.before.before.before.before.before.before.enum-told2.given.1 refl c.before.before.before.before.start-task.result (c.before.before.before.before.start-task.ensures ps l w)
+unfolding machine.activate_state
+activate-task-returns-2 t c = λ ps l w. activate-starts c.before.before.before.before.before.before.before.before.before.before.before.before.before.before.before.args.tasks.now c.before.before.before.before.before.before.before.before.before.before.before.before.before.before.before.args.objects.now ps (queue_of c.before.before.before.before.before.before.before.before.before.before.before.before.before.before.before.args.ids.now c.before.before.before.before.before.before.before.before.before.before.before.before.before.before.before.args.len.now) l c.before.before.before.before.before.before.before.before.before.before.before.before.before.before.before.args.t.0 c.before.before.before.before.before.before.before.before.before.before.before.before.before.before.before.requires.1.0 c.before.before.before.before.before.before.before.before.before.before.before.before.before.before.before.requires.1.1 w c.before.before.before.before.before.before.before.before.before.before.before.before.before.before.before.requires.1.2 c.before.before.before.before.before.before.before.before.before.before.before.state-at.ensures _ c.before.before.before.before.before.before.before.before.before.enum-told2.given.1 refl c.before.before.before.before.start_task.result (c.before.before.before.before.start_task.ensures ps l w)
 
 activate-task-same-length-5 : (t : ℕ) → activate-task-lts.Need-same-length-5 (
   state-at-reads.Asked,
@@ -370,7 +370,7 @@ activate-task-same-length-5 : (t : ℕ) → activate-task-lts.Need-same-length-5
   yield-control-reads.Asked,
   yield-control-reads.Learnt,
   start-task-below t,
-  start-task.Post,
+  start_task.Post,
   run-reads.Asked,
   run-reads.Learnt,
 ) (activate-task-at t) activate-task.Post
@@ -382,7 +382,7 @@ activate-task-same-length-6 : (t : ℕ) → activate-task-lts.Need-same-length-6
   yield-control-reads.Asked,
   yield-control-reads.Learnt,
   start-task-below t,
-  start-task.Post,
+  start_task.Post,
   run-reads.Asked,
   run-reads.Learnt,
 ) (activate-task-at t) activate-task.Post
@@ -394,12 +394,12 @@ activate-task-returns-3 : (t : ℕ) → activate-task-lts.Need-returns-3 (
   yield-control-reads.Asked,
   yield-control-reads.Learnt,
   start-task-below t,
-  start-task.Post,
+  start_task.Post,
   run-reads.Asked,
   run-reads.Learnt,
 ) (activate-task-at t) activate-task.Post
-unfolding machine.activate-state
-activate-task-returns-3 t c = λ ps l w. activate-yields c.before.before.before.before.before.before.before.before.before.before.args.tasks.now c.before.before.before.before.before.before.before.before.before.before.args.objects.now ps (queue_of c.before.before.before.before.before.before.before.before.before.before.args.ids.now c.before.before.before.before.before.before.before.before.before.before.args.len.now) l c.before.before.before.before.before.before.before.before.before.before.args.t.0 c.before.before.before.before.before.before.before.before.before.before.requires.1.0 c.before.before.before.before.before.before.before.before.before.before.requires.1.1 w c.before.before.before.before.before.before.before.before.before.before.requires.1.2 c.before.before.before.before.before.before.state-at.ensures _ c.before.before.before.before.enum-told3.given.1 refl c.before.before.yield-control2.result (c.before.before.yield-control2.ensures c.before.before.before.before.before.before.before.before.before.before.args.tasks.now ps (queue_of c.before.before.before.before.before.before.before.before.before.before.args.ids.now c.before.before.before.before.before.before.before.before.before.before.args.len.now) l)
+unfolding machine.activate_state
+activate-task-returns-3 t c = λ ps l w. activate_yields c.before.before.before.before.before.before.before.before.before.before.args.tasks.now c.before.before.before.before.before.before.before.before.before.before.args.objects.now ps (queue_of c.before.before.before.before.before.before.before.before.before.before.args.ids.now c.before.before.before.before.before.before.before.before.before.before.args.len.now) l c.before.before.before.before.before.before.before.before.before.before.args.t.0 c.before.before.before.before.before.before.before.before.before.before.requires.1.0 c.before.before.before.before.before.before.before.before.before.before.requires.1.1 w c.before.before.before.before.before.before.before.before.before.before.requires.1.2 c.before.before.before.before.before.before.state-at.ensures _ c.before.before.before.before.enum-told3.given.1 refl c.before.before.yield-control2.result (c.before.before.yield-control2.ensures c.before.before.before.before.before.before.before.before.before.before.args.tasks.now ps (queue_of c.before.before.before.before.before.before.before.before.before.before.args.ids.now c.before.before.before.before.before.before.before.before.before.before.args.len.now) l)
 
 activate-task-same-length-7 : (t : ℕ) → activate-task-lts.Need-same-length-7 (
   state-at-reads.Asked,
@@ -407,7 +407,7 @@ activate-task-same-length-7 : (t : ℕ) → activate-task-lts.Need-same-length-7
   yield-control-reads.Asked,
   yield-control-reads.Learnt,
   start-task-below t,
-  start-task.Post,
+  start_task.Post,
   run-reads.Asked,
   run-reads.Learnt,
 ) (activate-task-at t) activate-task.Post
@@ -419,7 +419,7 @@ activate-task-same-length-8 : (t : ℕ) → activate-task-lts.Need-same-length-8
   yield-control-reads.Asked,
   yield-control-reads.Learnt,
   start-task-below t,
-  start-task.Post,
+  start_task.Post,
   run-reads.Asked,
   run-reads.Learnt,
 ) (activate-task-at t) activate-task.Post
@@ -431,11 +431,11 @@ activate-task-returns-4 : (t : ℕ) → activate-task-lts.Need-returns-4 (
   yield-control-reads.Asked,
   yield-control-reads.Learnt,
   start-task-below t,
-  start-task.Post,
+  start_task.Post,
   run-reads.Asked,
   run-reads.Learnt,
 ) (activate-task-at t) activate-task.Post
-unfolding machine.activate-state
+unfolding machine.activate_state
 activate-task-returns-4 t c = λ ps l w. activate-runs c.before.before.before.before.before.before.before.before.before.before.before.before.before.before.args.tasks.now c.before.before.before.before.before.before.before.before.before.before.before.before.before.before.args.objects.now ps (queue_of c.before.before.before.before.before.before.before.before.before.before.before.before.before.before.args.ids.now c.before.before.before.before.before.before.before.before.before.before.before.before.before.before.args.len.now) l c.before.before.before.before.before.before.before.before.before.before.before.before.before.before.args.t.0 c.before.before.before.before.before.before.before.before.before.before.before.before.before.before.requires.1.0 c.before.before.before.before.before.before.before.before.before.before.before.before.before.before.requires.1.1 w c.before.before.before.before.before.before.before.before.before.before.before.before.before.before.requires.1.2 c.before.before.before.before.before.before.before.before.before.before.state-at.ensures _ c.before.before.before.before.before.before.before.before.state.given.1 (machine.value c.before.before.before.before.before.before.before.before.state.given.0.0) refl c.before.before.before.before.run.result (c.before.before.before.before.run.ensures ps (queue_of c.before.before.before.before.before.before.before.before.before.before.before.before.before.before.args.ids.now c.before.before.before.before.before.before.before.before.before.before.before.before.before.before.args.len.now) l)
 
 activate-task-same-length-9 : (t : ℕ) → activate-task-lts.Need-same-length-9 (
@@ -444,7 +444,7 @@ activate-task-same-length-9 : (t : ℕ) → activate-task-lts.Need-same-length-9
   yield-control-reads.Asked,
   yield-control-reads.Learnt,
   start-task-below t,
-  start-task.Post,
+  start_task.Post,
   run-reads.Asked,
   run-reads.Learnt,
 ) (activate-task-at t) activate-task.Post
@@ -456,7 +456,7 @@ activate-task-same-length-10 : (t : ℕ) → activate-task-lts.Need-same-length-
   yield-control-reads.Asked,
   yield-control-reads.Learnt,
   start-task-below t,
-  start-task.Post,
+  start_task.Post,
   run-reads.Asked,
   run-reads.Learnt,
 ) (activate-task-at t) activate-task.Post
@@ -468,11 +468,11 @@ activate-task-returns-5 : (t : ℕ) → activate-task-lts.Need-returns-5 (
   yield-control-reads.Asked,
   yield-control-reads.Learnt,
   start-task-below t,
-  start-task.Post,
+  start_task.Post,
   run-reads.Asked,
   run-reads.Learnt,
 ) (activate-task-at t) activate-task.Post
-unfolding machine.activate-state
+unfolding machine.activate_state
 activate-task-returns-5 t c = λ ps l w. activate-runs c.before.before.before.before.before.before.before.before.before.before.before.before.before.before.args.tasks.now c.before.before.before.before.before.before.before.before.before.before.before.before.before.before.args.objects.now ps (queue_of c.before.before.before.before.before.before.before.before.before.before.before.before.before.before.args.ids.now c.before.before.before.before.before.before.before.before.before.before.before.before.before.before.args.len.now) l c.before.before.before.before.before.before.before.before.before.before.before.before.before.before.args.t.0 c.before.before.before.before.before.before.before.before.before.before.before.before.before.before.requires.1.0 c.before.before.before.before.before.before.before.before.before.before.before.before.before.before.requires.1.1 w c.before.before.before.before.before.before.before.before.before.before.before.before.before.before.requires.1.2 c.before.before.before.before.before.before.before.before.before.before.state-at.ensures _ c.before.before.before.before.before.before.before.before.state2.given.1 (machine.raises c.before.before.before.before.before.before.before.before.state2.given.0.0) refl c.before.before.before.before.run2.result (c.before.before.before.before.run2.ensures ps (queue_of c.before.before.before.before.before.before.before.before.before.before.before.before.before.before.args.ids.now c.before.before.before.before.before.before.before.before.before.before.before.before.before.before.args.len.now) l)
 
 activate-task-same-length-11 : (t : ℕ) → activate-task-lts.Need-same-length-11 (
@@ -481,7 +481,7 @@ activate-task-same-length-11 : (t : ℕ) → activate-task-lts.Need-same-length-
   yield-control-reads.Asked,
   yield-control-reads.Learnt,
   start-task-below t,
-  start-task.Post,
+  start_task.Post,
   run-reads.Asked,
   run-reads.Learnt,
 ) (activate-task-at t) activate-task.Post
@@ -493,7 +493,7 @@ activate-task-same-length-12 : (t : ℕ) → activate-task-lts.Need-same-length-
   yield-control-reads.Asked,
   yield-control-reads.Learnt,
   start-task-below t,
-  start-task.Post,
+  start_task.Post,
   run-reads.Asked,
   run-reads.Learnt,
 ) (activate-task-at t) activate-task.Post
@@ -505,12 +505,12 @@ activate-task-returns-6 : (t : ℕ) → activate-task-lts.Need-returns-6 (
   yield-control-reads.Asked,
   yield-control-reads.Learnt,
   start-task-below t,
-  start-task.Post,
+  start_task.Post,
   run-reads.Asked,
   run-reads.Learnt,
 ) (activate-task-at t) activate-task.Post
-unfolding machine.activate-state
-activate-task-returns-6 t c = λ ps l w. activate-yields c.before.before.before.before.before.before.before.before.before.before.args.tasks.now c.before.before.before.before.before.before.before.before.before.before.args.objects.now ps (queue_of c.before.before.before.before.before.before.before.before.before.before.args.ids.now c.before.before.before.before.before.before.before.before.before.before.args.len.now) l c.before.before.before.before.before.before.before.before.before.before.args.t.0 c.before.before.before.before.before.before.before.before.before.before.requires.1.0 c.before.before.before.before.before.before.before.before.before.before.requires.1.1 w c.before.before.before.before.before.before.before.before.before.before.requires.1.2 c.before.before.before.before.before.before.state-at.ensures _ c.before.before.before.before.enum-told4.given.1 refl c.before.before.yield-control3.result (c.before.before.yield-control3.ensures c.before.before.before.before.before.before.before.before.before.before.args.tasks.now ps (queue_of c.before.before.before.before.before.before.before.before.before.before.args.ids.now c.before.before.before.before.before.before.before.before.before.before.args.len.now) l)
+unfolding machine.activate_state
+activate-task-returns-6 t c = λ ps l w. activate_yields c.before.before.before.before.before.before.before.before.before.before.args.tasks.now c.before.before.before.before.before.before.before.before.before.before.args.objects.now ps (queue_of c.before.before.before.before.before.before.before.before.before.before.args.ids.now c.before.before.before.before.before.before.before.before.before.before.args.len.now) l c.before.before.before.before.before.before.before.before.before.before.args.t.0 c.before.before.before.before.before.before.before.before.before.before.requires.1.0 c.before.before.before.before.before.before.before.before.before.before.requires.1.1 w c.before.before.before.before.before.before.before.before.before.before.requires.1.2 c.before.before.before.before.before.before.state-at.ensures _ c.before.before.before.before.enum-told4.given.1 refl c.before.before.yield-control3.result (c.before.before.yield-control3.ensures c.before.before.before.before.before.before.before.before.before.before.args.tasks.now ps (queue_of c.before.before.before.before.before.before.before.before.before.before.args.ids.now c.before.before.before.before.before.before.before.before.before.before.args.len.now) l)
 
 handle-task-failure-task-awaiter-at-requires :
     (t : ℕ) → handle-task-failure-lts.Need-task-awaiter-at-requires (
@@ -523,8 +523,8 @@ handle-task-failure-task-awaiter-at-requires :
       remove-task-lent-reads.Asked,
       remove-task-lent-reads.Learnt,
       resume-after-task-exit-below t,
-      resume-after-task-exit.Post,
-    ) (handle-task-failure-at t) handle-task-failure.Post
+      resume_after_task_exit.Post,
+    ) (handle-task-failure-at t) handle_task_failure.Post
 handle-task-failure-task-awaiter-at-requires t c κs = search rules
 
 handle-task-failure-deliver-awaiter-failure-requires :
@@ -538,8 +538,8 @@ handle-task-failure-deliver-awaiter-failure-requires :
       remove-task-lent-reads.Asked,
       remove-task-lent-reads.Learnt,
       resume-after-task-exit-below t,
-      resume-after-task-exit.Post,
-    ) (handle-task-failure-at t) handle-task-failure.Post
+      resume_after_task_exit.Post,
+    ) (handle-task-failure-at t) handle_task_failure.Post
 handle-task-failure-deliver-awaiter-failure-requires t c κs = (search rules, search rules, rw c.before.before.task-awaiter-at.ensures (task_at-fits c.before.before.before.before.before.before.args.tasks.now c.before.before.before.before.before.before.args.t.0).awaiter_fits)
 
 handle-task-failure-queue-woken-requires :
@@ -553,8 +553,8 @@ handle-task-failure-queue-woken-requires :
       remove-task-lent-reads.Asked,
       remove-task-lent-reads.Learnt,
       resume-after-task-exit-below t,
-      resume-after-task-exit.Post,
-    ) (handle-task-failure-at t) handle-task-failure.Post
+      resume_after_task_exit.Post,
+    ) (handle-task-failure-at t) handle_task_failure.Post
 handle-task-failure-queue-woken-requires t c κs = search rules
 
 handle-task-failure-remove-task-lent-requires :
@@ -568,8 +568,8 @@ handle-task-failure-remove-task-lent-requires :
       remove-task-lent-reads.Asked,
       remove-task-lent-reads.Learnt,
       resume-after-task-exit-below t,
-      resume-after-task-exit.Post,
-    ) (handle-task-failure-at t) handle-task-failure.Post
+      resume_after_task_exit.Post,
+    ) (handle-task-failure-at t) handle_task_failure.Post
 handle-task-failure-remove-task-lent-requires t c κs = (c.before.before.before.before.before.before.before.before.before.before.deliver_awaiter_failure.auto.0 ∙ c.before.before.before.before.before.before.before.before.before.before.before.before.before.before.before.before.before.requires.1.0, c.before.before.before.before.before.before.before.before.before.before.before.before.before.before.before.before.before.requires.1.2)
 
 handle-task-failure-resume-after-task-exit-requires :
@@ -583,9 +583,9 @@ handle-task-failure-resume-after-task-exit-requires :
       remove-task-lent-reads.Asked,
       remove-task-lent-reads.Learnt,
       resume-after-task-exit-below t,
-      resume-after-task-exit.Post,
-    ) (handle-task-failure-at t) handle-task-failure.Post
-handle-task-failure-resume-after-task-exit-requires t c κs = (omega (arith, c.before.before.before.before.before.before.before.before.before.before.before.before.before.before.before.before.before.before.before.before.before.before.before.before.requires.0, failure_falls c.before.before.before.before.before.before.before.before.before.before.before.before.before.before.before.before.before.before.before.before.before.before.before.before.args.tasks.now c.before.before.before.before.before.before.before.before.before.before.before.before.before.before.before.before.before.before.before.before.before.before.before.before.args.objects.now (queue_of c.before.before.before.before.before.before.before.before.before.before.before.before.before.before.before.before.before.before.before.before.before.before.before.before.args.ids.now c.before.before.before.before.before.before.before.before.before.before.before.before.before.before.before.before.before.before.before.before.before.before.before.before.args.len.now) c.before.before.before.before.before.before.before.before.before.before.before.before.before.before.before.before.before.before.before.before.before.before.before.before.args.t.0 c.before.before.before.before.before.before.before.before.before.before.before.before.before.before.before.before.before.before.before.before.before.before.before.before.args.error c.before.before.before.before.before.before.before.before.before.before.before.before.before.before.before.before.before.before.before.before.before.before.before.before.requires.1.0 c.before.before.before.before.before.before.before.before.before.before.before.before.before.before.before.before.before.before.before.before.before.before.before.before.requires.1.1 c.before.before.before.before.before.before.before.before.before.before.before.before.before.before.before.before.before.before.before.before.before.before.before.before.requires.1.2 c.before.before.before.before.before.before.before.before.before.before.before.before.before.before.before.before.before.before.before.before.task-awaiter-at.ensures c.before.before.before.before.before.before.before.before.before.before.before.before.before.before.before.before.before.deliver_awaiter_failure.result (c.before.before.before.before.before.before.before.before.before.before.before.before.before.before.before.before.before.deliver_awaiter_failure.ensures (queue_of c.before.before.before.before.before.before.before.before.before.before.before.before.before.before.before.before.before.before.before.before.before.before.before.before.args.ids.now c.before.before.before.before.before.before.before.before.before.before.before.before.before.before.before.before.before.before.before.before.before.before.before.before.args.len.now) some-places [] some-places_long) (λ us rs k. rw c.before.before.before.before.before.before.before.before.before.before.queue-woken.ensures at (c.before.before.before.before.before.before.remove-task-lent.ensures.0 us rs k))), (c.before.before.before.before.before.before.remove-task-lent.auto.0 ∙ c.before.before.before.before.before.before.before.before.before.before.before.before.before.before.before.before.before.deliver_awaiter_failure.auto.0 ∙ c.before.before.before.before.before.before.before.before.before.before.before.before.before.before.before.before.before.before.before.before.before.before.before.before.requires.1.0, c.before.before.before.before.before.before.before.before.before.before.before.before.before.before.before.before.before.deliver_awaiter_failure.auto.1.0 ∙ c.before.before.before.before.before.before.before.before.before.before.before.before.before.before.before.before.before.before.before.before.before.before.before.before.requires.1.1, failure-found c.before.before.before.before.before.before.before.before.before.before.before.before.before.before.before.before.before.before.before.before.before.before.before.before.args.tasks.now c.before.before.before.before.before.before.before.before.before.before.before.before.before.before.before.before.before.before.before.before.before.before.before.before.args.objects.now (queue_of c.before.before.before.before.before.before.before.before.before.before.before.before.before.before.before.before.before.before.before.before.before.before.before.before.args.ids.now c.before.before.before.before.before.before.before.before.before.before.before.before.before.before.before.before.before.before.before.before.before.before.before.before.args.len.now) c.before.before.before.before.before.before.before.before.before.before.before.before.before.before.before.before.before.before.before.before.before.before.before.before.args.t.0 c.before.before.before.before.before.before.before.before.before.before.before.before.before.before.before.before.before.before.before.before.before.before.before.before.args.error c.before.before.before.before.before.before.before.before.before.before.before.before.before.before.before.before.before.before.before.before.before.before.before.before.requires.1.0 c.before.before.before.before.before.before.before.before.before.before.before.before.before.before.before.before.before.before.before.before.before.before.before.before.requires.1.1 c.before.before.before.before.before.before.before.before.before.before.before.before.before.before.before.before.before.before.before.before.before.before.before.before.requires.1.2 c.before.before.before.before.before.before.before.before.before.before.before.before.before.before.before.before.before.before.before.before.task-awaiter-at.ensures c.before.before.before.before.before.before.before.before.before.before.before.before.before.before.before.before.before.deliver_awaiter_failure.result (c.before.before.before.before.before.before.before.before.before.before.before.before.before.before.before.before.before.deliver_awaiter_failure.ensures (queue_of c.before.before.before.before.before.before.before.before.before.before.before.before.before.before.before.before.before.before.before.before.before.before.before.before.args.ids.now c.before.before.before.before.before.before.before.before.before.before.before.before.before.before.before.before.before.before.before.before.before.before.before.before.args.len.now) some-places [] some-places_long)))
+      resume_after_task_exit.Post,
+    ) (handle-task-failure-at t) handle_task_failure.Post
+handle-task-failure-resume-after-task-exit-requires t c κs = (omega (arith, c.before.before.before.before.before.before.before.before.before.before.before.before.before.before.before.before.before.before.before.before.before.before.before.before.requires.0, failure_falls c.before.before.before.before.before.before.before.before.before.before.before.before.before.before.before.before.before.before.before.before.before.before.before.before.args.tasks.now c.before.before.before.before.before.before.before.before.before.before.before.before.before.before.before.before.before.before.before.before.before.before.before.before.args.objects.now (queue_of c.before.before.before.before.before.before.before.before.before.before.before.before.before.before.before.before.before.before.before.before.before.before.before.before.args.ids.now c.before.before.before.before.before.before.before.before.before.before.before.before.before.before.before.before.before.before.before.before.before.before.before.before.args.len.now) c.before.before.before.before.before.before.before.before.before.before.before.before.before.before.before.before.before.before.before.before.before.before.before.before.args.t.0 c.before.before.before.before.before.before.before.before.before.before.before.before.before.before.before.before.before.before.before.before.before.before.before.before.args.error c.before.before.before.before.before.before.before.before.before.before.before.before.before.before.before.before.before.before.before.before.before.before.before.before.requires.1.0 c.before.before.before.before.before.before.before.before.before.before.before.before.before.before.before.before.before.before.before.before.before.before.before.before.requires.1.1 c.before.before.before.before.before.before.before.before.before.before.before.before.before.before.before.before.before.before.before.before.before.before.before.before.requires.1.2 c.before.before.before.before.before.before.before.before.before.before.before.before.before.before.before.before.before.before.before.before.task-awaiter-at.ensures c.before.before.before.before.before.before.before.before.before.before.before.before.before.before.before.before.before.deliver_awaiter_failure.result (c.before.before.before.before.before.before.before.before.before.before.before.before.before.before.before.before.before.deliver_awaiter_failure.ensures (queue_of c.before.before.before.before.before.before.before.before.before.before.before.before.before.before.before.before.before.before.before.before.before.before.before.before.args.ids.now c.before.before.before.before.before.before.before.before.before.before.before.before.before.before.before.before.before.before.before.before.before.before.before.before.args.len.now) some-places [] some_places_long) (λ us rs k. rw c.before.before.before.before.before.before.before.before.before.before.queue-woken.ensures at (c.before.before.before.before.before.before.remove-task-lent.ensures.0 us rs k))), (c.before.before.before.before.before.before.remove-task-lent.auto.0 ∙ c.before.before.before.before.before.before.before.before.before.before.before.before.before.before.before.before.before.deliver_awaiter_failure.auto.0 ∙ c.before.before.before.before.before.before.before.before.before.before.before.before.before.before.before.before.before.before.before.before.before.before.before.before.requires.1.0, c.before.before.before.before.before.before.before.before.before.before.before.before.before.before.before.before.before.deliver_awaiter_failure.auto.1.0 ∙ c.before.before.before.before.before.before.before.before.before.before.before.before.before.before.before.before.before.before.before.before.before.before.before.before.requires.1.1, failure_found c.before.before.before.before.before.before.before.before.before.before.before.before.before.before.before.before.before.before.before.before.before.before.before.before.args.tasks.now c.before.before.before.before.before.before.before.before.before.before.before.before.before.before.before.before.before.before.before.before.before.before.before.before.args.objects.now (queue_of c.before.before.before.before.before.before.before.before.before.before.before.before.before.before.before.before.before.before.before.before.before.before.before.before.args.ids.now c.before.before.before.before.before.before.before.before.before.before.before.before.before.before.before.before.before.before.before.before.before.before.before.before.args.len.now) c.before.before.before.before.before.before.before.before.before.before.before.before.before.before.before.before.before.before.before.before.before.before.before.before.args.t.0 c.before.before.before.before.before.before.before.before.before.before.before.before.before.before.before.before.before.before.before.before.before.before.before.before.args.error c.before.before.before.before.before.before.before.before.before.before.before.before.before.before.before.before.before.before.before.before.before.before.before.before.requires.1.0 c.before.before.before.before.before.before.before.before.before.before.before.before.before.before.before.before.before.before.before.before.before.before.before.before.requires.1.1 c.before.before.before.before.before.before.before.before.before.before.before.before.before.before.before.before.before.before.before.before.before.before.before.before.requires.1.2 c.before.before.before.before.before.before.before.before.before.before.before.before.before.before.before.before.before.before.before.before.task-awaiter-at.ensures c.before.before.before.before.before.before.before.before.before.before.before.before.before.before.before.before.before.deliver_awaiter_failure.result (c.before.before.before.before.before.before.before.before.before.before.before.before.before.before.before.before.before.deliver_awaiter_failure.ensures (queue_of c.before.before.before.before.before.before.before.before.before.before.before.before.before.before.before.before.before.before.before.before.before.before.before.before.args.ids.now c.before.before.before.before.before.before.before.before.before.before.before.before.before.before.before.before.before.before.before.before.before.before.before.before.args.len.now) some-places [] some_places_long)))
 
 handle-task-failure-same-length : (t : ℕ) → handle-task-failure-lts.Need_same_length (
   task-awaiter-at-reads.Asked,
@@ -597,8 +597,8 @@ handle-task-failure-same-length : (t : ℕ) → handle-task-failure-lts.Need_sam
   remove-task-lent-reads.Asked,
   remove-task-lent-reads.Learnt,
   resume-after-task-exit-below t,
-  resume-after-task-exit.Post,
-) (handle-task-failure-at t) handle-task-failure.Post
+  resume_after_task_exit.Post,
+) (handle-task-failure-at t) handle_task_failure.Post
 handle-task-failure-same-length t c = search rules
 
 handle-task-failure-same-length-2 : (t : ℕ) → handle-task-failure-lts.Need_same_length_2 (
@@ -611,8 +611,8 @@ handle-task-failure-same-length-2 : (t : ℕ) → handle-task-failure-lts.Need_s
   remove-task-lent-reads.Asked,
   remove-task-lent-reads.Learnt,
   resume-after-task-exit-below t,
-  resume-after-task-exit.Post,
-) (handle-task-failure-at t) handle-task-failure.Post
+  resume_after_task_exit.Post,
+) (handle-task-failure-at t) handle_task_failure.Post
 handle-task-failure-same-length-2 t c = search rules
 
 handle-task-failure-returns : (t : ℕ) → handle-task-failure-lts.Need_returns (
@@ -625,9 +625,9 @@ handle-task-failure-returns : (t : ℕ) → handle-task-failure-lts.Need_returns
   remove-task-lent-reads.Asked,
   remove-task-lent-reads.Learnt,
   resume-after-task-exit-below t,
-  resume-after-task-exit.Post,
-) (handle-task-failure-at t) handle-task-failure.Post
-handle-task-failure-returns t c = λ ps l w. failure_exits c.before.before.before.before.before.before.before.before.before.before.before.before.before.before.before.before.before.before.before.before.before.before.before.before.before.before.before.before.before.args.tasks.now c.before.before.before.before.before.before.before.before.before.before.before.before.before.before.before.before.before.before.before.before.before.before.before.before.before.before.before.before.before.args.objects.now ps (queue_of c.before.before.before.before.before.before.before.before.before.before.before.before.before.before.before.before.before.before.before.before.before.before.before.before.before.before.before.before.before.args.ids.now c.before.before.before.before.before.before.before.before.before.before.before.before.before.before.before.before.before.before.before.before.before.before.before.before.before.before.before.before.before.args.len.now) l c.before.before.before.before.before.before.before.before.before.before.before.before.before.before.before.before.before.before.before.before.before.before.before.before.before.before.before.before.before.args.t.0 c.before.before.before.before.before.before.before.before.before.before.before.before.before.before.before.before.before.before.before.before.before.before.before.before.before.before.before.before.before.args.error c.before.before.before.before.before.before.before.before.before.before.before.before.before.before.before.before.before.before.before.before.before.before.before.before.before.task-awaiter-at.ensures c.before.before.before.before.before.before.before.before.before.before.before.before.before.before.before.before.before.before.before.before.before.before.deliver_awaiter_failure.result (c.before.before.before.before.before.before.before.before.before.before.before.before.before.before.before.before.before.before.before.before.before.before.deliver_awaiter_failure.ensures (queue_of c.before.before.before.before.before.before.before.before.before.before.before.before.before.before.before.before.before.before.before.before.before.before.before.before.before.before.before.before.before.args.ids.now c.before.before.before.before.before.before.before.before.before.before.before.before.before.before.before.before.before.before.before.before.before.before.before.before.before.before.before.before.before.args.len.now) ps l w) (λ us rs k. rw c.before.before.before.before.before.before.before.before.before.before.before.before.before.before.before.queue-woken.ensures at (c.before.before.before.before.before.before.before.before.before.before.before.remove-task-lent.ensures.0 us rs k)) c.before.before.before.before.resume-after-task-exit.result (c.before.before.before.before.resume-after-task-exit.ensures ps _ w)
+  resume_after_task_exit.Post,
+) (handle-task-failure-at t) handle_task_failure.Post
+handle-task-failure-returns t c = λ ps l w. failure_exits c.before.before.before.before.before.before.before.before.before.before.before.before.before.before.before.before.before.before.before.before.before.before.before.before.before.before.before.before.before.args.tasks.now c.before.before.before.before.before.before.before.before.before.before.before.before.before.before.before.before.before.before.before.before.before.before.before.before.before.before.before.before.before.args.objects.now ps (queue_of c.before.before.before.before.before.before.before.before.before.before.before.before.before.before.before.before.before.before.before.before.before.before.before.before.before.before.before.before.before.args.ids.now c.before.before.before.before.before.before.before.before.before.before.before.before.before.before.before.before.before.before.before.before.before.before.before.before.before.before.before.before.before.args.len.now) l c.before.before.before.before.before.before.before.before.before.before.before.before.before.before.before.before.before.before.before.before.before.before.before.before.before.before.before.before.before.args.t.0 c.before.before.before.before.before.before.before.before.before.before.before.before.before.before.before.before.before.before.before.before.before.before.before.before.before.before.before.before.before.args.error c.before.before.before.before.before.before.before.before.before.before.before.before.before.before.before.before.before.before.before.before.before.before.before.before.before.task-awaiter-at.ensures c.before.before.before.before.before.before.before.before.before.before.before.before.before.before.before.before.before.before.before.before.before.before.deliver_awaiter_failure.result (c.before.before.before.before.before.before.before.before.before.before.before.before.before.before.before.before.before.before.before.before.before.before.deliver_awaiter_failure.ensures (queue_of c.before.before.before.before.before.before.before.before.before.before.before.before.before.before.before.before.before.before.before.before.before.before.before.before.before.before.before.before.before.args.ids.now c.before.before.before.before.before.before.before.before.before.before.before.before.before.before.before.before.before.before.before.before.before.before.before.before.before.before.before.before.before.args.len.now) ps l w) (λ us rs k. rw c.before.before.before.before.before.before.before.before.before.before.before.before.before.before.before.queue-woken.ensures at (c.before.before.before.before.before.before.before.before.before.before.before.remove-task-lent.ensures.0 us rs k)) c.before.before.before.before.resume_after_task_exit.result (c.before.before.before.before.resume_after_task_exit.ensures ps _ w)
 
 resume-after-task-exit-enum-told : (t : ℕ) → resume-after-task-exit-lts.Need-enum-told (
   switch-or-yield-below t,
@@ -636,7 +636,7 @@ resume-after-task-exit-enum-told : (t : ℕ) → resume-after-task-exit-lts.Need
   remove-lent-reads.Learnt,
   activate-task-below t,
   activate-task.Post,
-) (resume-after-task-exit-at t) resume-after-task-exit.Post
+) (resume-after-task-exit-at t) resume_after_task_exit.Post
 resume-after-task-exit-enum-told t c = search rules
 
 resume-after-task-exit-switch-or-yield-requires :
@@ -647,7 +647,7 @@ resume-after-task-exit-switch-or-yield-requires :
       remove-lent-reads.Learnt,
       activate-task-below t,
       activate-task.Post,
-    ) (resume-after-task-exit-at t) resume-after-task-exit.Post
+    ) (resume-after-task-exit-at t) resume_after_task_exit.Post
 resume-after-task-exit-switch-or-yield-requires t c κs = (omega (arith, c.before.before.before.before.before.before.before.before.requires.0), (search rules, search rules))
 
 resume-after-task-exit-enum-known-woken :
@@ -658,7 +658,7 @@ resume-after-task-exit-enum-known-woken :
       remove-lent-reads.Learnt,
       activate-task-below t,
       activate-task.Post,
-    ) (resume-after-task-exit-at t) resume-after-task-exit.Post
+    ) (resume-after-task-exit-at t) resume_after_task_exit.Post
 resume-after-task-exit-enum-known-woken t c = search rules
 
 resume-after-task-exit-remove-lent-requires :
@@ -669,7 +669,7 @@ resume-after-task-exit-remove-lent-requires :
       remove-lent-reads.Learnt,
       activate-task-below t,
       activate-task.Post,
-    ) (resume-after-task-exit-at t) resume-after-task-exit.Post
+    ) (resume-after-task-exit-at t) resume_after_task_exit.Post
 resume-after-task-exit-remove-lent-requires t c κs = search rules
 
 resume-after-task-exit-activate-task-requires :
@@ -680,7 +680,7 @@ resume-after-task-exit-activate-task-requires :
       remove-lent-reads.Learnt,
       activate-task-below t,
       activate-task.Post,
-    ) (resume-after-task-exit-at t) resume-after-task-exit.Post
+    ) (resume-after-task-exit-at t) resume_after_task_exit.Post
 resume-after-task-exit-activate-task-requires t c κs = (omega (arith, c.before.before.before.before.before.before.before.before.before.before.before.before.requires.0), (search rules, search rules, rw c.before.before.before.before.before.before.before.before.woken.given.1 at c.before.before.before.before.before.before.before.before.before.before.before.before.requires.1.2))
 
 resume-after-task-exit-same-length : (t : ℕ) → resume-after-task-exit-lts.Need_same_length (
@@ -690,7 +690,7 @@ resume-after-task-exit-same-length : (t : ℕ) → resume-after-task-exit-lts.Ne
   remove-lent-reads.Learnt,
   activate-task-below t,
   activate-task.Post,
-) (resume-after-task-exit-at t) resume-after-task-exit.Post
+) (resume-after-task-exit-at t) resume_after_task_exit.Post
 resume-after-task-exit-same-length t c = search rules
 
 resume-after-task-exit-same-length-2 : (t : ℕ) → resume-after-task-exit-lts.Need_same_length_2 (
@@ -700,7 +700,7 @@ resume-after-task-exit-same-length-2 : (t : ℕ) → resume-after-task-exit-lts.
   remove-lent-reads.Learnt,
   activate-task-below t,
   activate-task.Post,
-) (resume-after-task-exit-at t) resume-after-task-exit.Post
+) (resume-after-task-exit-at t) resume_after_task_exit.Post
 resume-after-task-exit-same-length-2 t c = search rules
 
 resume-after-task-exit-returns : (t : ℕ) → resume-after-task-exit-lts.Need_returns (
@@ -710,8 +710,8 @@ resume-after-task-exit-returns : (t : ℕ) → resume-after-task-exit-lts.Need_r
   remove-lent-reads.Learnt,
   activate-task-below t,
   activate-task.Post,
-) (resume-after-task-exit-at t) resume-after-task-exit.Post
-resume-after-task-exit-returns t c = λ ps l w. exit-next c.before.before.before.before.before.before.before.before.before.before.before.before.before.args.tasks.now c.before.before.before.before.before.before.before.before.before.before.before.before.before.args.objects.now ps (queue_of c.before.before.before.before.before.before.before.before.before.before.before.before.before.args.ids.now c.before.before.before.before.before.before.before.before.before.before.before.before.before.args.len.now) l _ c.before.before.before.before.before.before.before.before.before.enum_told.given.1 c.before.before.before.before.switch-or-yield.result (c.before.before.before.before.switch-or-yield.ensures ps l w)
+) (resume-after-task-exit-at t) resume_after_task_exit.Post
+resume-after-task-exit-returns t c = λ ps l w. exit_next c.before.before.before.before.before.before.before.before.before.before.before.before.before.args.tasks.now c.before.before.before.before.before.before.before.before.before.before.before.before.before.args.objects.now ps (queue_of c.before.before.before.before.before.before.before.before.before.before.before.before.before.args.ids.now c.before.before.before.before.before.before.before.before.before.before.before.before.before.args.len.now) l _ c.before.before.before.before.before.before.before.before.before.enum_told.given.1 c.before.before.before.before.switch-or-yield.result (c.before.before.before.before.switch-or-yield.ensures ps l w)
 
 resume-after-task-exit-same-length-3 : (t : ℕ) → resume-after-task-exit-lts.Need_same_length_3 (
   switch-or-yield-below t,
@@ -720,7 +720,7 @@ resume-after-task-exit-same-length-3 : (t : ℕ) → resume-after-task-exit-lts.
   remove-lent-reads.Learnt,
   activate-task-below t,
   activate-task.Post,
-) (resume-after-task-exit-at t) resume-after-task-exit.Post
+) (resume-after-task-exit-at t) resume_after_task_exit.Post
 resume-after-task-exit-same-length-3 t c = search rules
 
 resume-after-task-exit-same-length-4 : (t : ℕ) → resume-after-task-exit-lts.Need_same_length_4 (
@@ -730,7 +730,7 @@ resume-after-task-exit-same-length-4 : (t : ℕ) → resume-after-task-exit-lts.
   remove-lent-reads.Learnt,
   activate-task-below t,
   activate-task.Post,
-) (resume-after-task-exit-at t) resume-after-task-exit.Post
+) (resume-after-task-exit-at t) resume_after_task_exit.Post
 resume-after-task-exit-same-length-4 t c = search rules
 
 resume-after-task-exit-returns-2 : (t : ℕ) → resume-after-task-exit-lts.Need-returns-2 (
@@ -740,8 +740,8 @@ resume-after-task-exit-returns-2 : (t : ℕ) → resume-after-task-exit-lts.Need
   remove-lent-reads.Learnt,
   activate-task-below t,
   activate-task.Post,
-) (resume-after-task-exit-at t) resume-after-task-exit.Post
-resume-after-task-exit-returns-2 t c = λ ps l w. exit-wakes c.before.before.before.before.before.before.before.before.before.before.before.before.before.before.before.before.before.args.tasks.now c.before.before.before.before.before.before.before.before.before.before.before.before.before.before.before.before.before.args.objects.now ps (queue_of c.before.before.before.before.before.before.before.before.before.before.before.before.before.before.before.before.before.args.ids.now c.before.before.before.before.before.before.before.before.before.before.before.before.before.before.before.before.before.args.len.now) l _ c.before.before.before.before.before.before.before.before.before.before.before.before.before.woken.given.0.0 c.before.before.before.before.before.before.before.before.before.before.before.before.before.woken.given.1 c.before.before.before.before.before.before.before.before.before.remove-lent.ensures.0 c.before.before.before.before.activate-task.result (c.before.before.before.before.activate-task.ensures ps l w)
+) (resume-after-task-exit-at t) resume_after_task_exit.Post
+resume-after-task-exit-returns-2 t c = λ ps l w. exit_wakes c.before.before.before.before.before.before.before.before.before.before.before.before.before.before.before.before.before.args.tasks.now c.before.before.before.before.before.before.before.before.before.before.before.before.before.before.before.before.before.args.objects.now ps (queue_of c.before.before.before.before.before.before.before.before.before.before.before.before.before.before.before.before.before.args.ids.now c.before.before.before.before.before.before.before.before.before.before.before.before.before.before.before.before.before.args.len.now) l _ c.before.before.before.before.before.before.before.before.before.before.before.before.before.woken.given.0.0 c.before.before.before.before.before.before.before.before.before.before.before.before.before.woken.given.1 c.before.before.before.before.before.before.before.before.before.remove-lent.ensures.0 c.before.before.before.before.activate-task.result (c.before.before.before.before.activate-task.ensures ps l w)
 
 start-task-coroutine-at-requires : (t : ℕ) → start-task-lts.Need-coroutine-at-requires (
   coroutine-at-reads.Asked,
@@ -749,12 +749,12 @@ start-task-coroutine-at-requires : (t : ℕ) → start-task-lts.Need-coroutine-a
   new-function-reads.Asked,
   new-function-reads.Learnt,
   handle-task-failure-below t,
-  handle-task-failure.Post,
+  handle_task_failure.Post,
   store-object-reads.Asked,
   store-object-reads.Learnt,
   run-reads.Asked,
   run-reads.Learnt,
-) (start-task-at t) start-task.Post
+) (start-task-at t) start_task.Post
 start-task-coroutine-at-requires t c κs = search rules
 
 start-task-new-function-requires : (t : ℕ) → start-task-lts.Need-new-function-requires (
@@ -763,12 +763,12 @@ start-task-new-function-requires : (t : ℕ) → start-task-lts.Need-new-functio
   new-function-reads.Asked,
   new-function-reads.Learnt,
   handle-task-failure-below t,
-  handle-task-failure.Post,
+  handle_task_failure.Post,
   store-object-reads.Asked,
   store-object-reads.Learnt,
   run-reads.Asked,
   run-reads.Learnt,
-) (start-task-at t) start-task.Post
+) (start-task-at t) start_task.Post
 start-task-new-function-requires t c κs = (c.before.before.before.before.before.requires.1.1, rw c.before.coroutine-at.ensures (task_at-fits c.before.before.before.before.before.args.tasks.now c.before.before.before.before.before.args.t.0).coroutine-fits)
 
 start-task-enum-told : (t : ℕ) → start-task-lts.Need-enum-told (
@@ -777,12 +777,12 @@ start-task-enum-told : (t : ℕ) → start-task-lts.Need-enum-told (
   new-function-reads.Asked,
   new-function-reads.Learnt,
   handle-task-failure-below t,
-  handle-task-failure.Post,
+  handle_task_failure.Post,
   store-object-reads.Asked,
   store-object-reads.Learnt,
   run-reads.Asked,
   run-reads.Learnt,
-) (start-task-at t) start-task.Post
+) (start-task-at t) start_task.Post
 start-task-enum-told t c = search rules
 
 start-task-handle-task-failure-requires :
@@ -792,12 +792,12 @@ start-task-handle-task-failure-requires :
       new-function-reads.Asked,
       new-function-reads.Learnt,
       handle-task-failure-below t,
-      handle-task-failure.Post,
+      handle_task_failure.Post,
       store-object-reads.Asked,
       store-object-reads.Learnt,
       run-reads.Asked,
       run-reads.Learnt,
-    ) (start-task-at t) start-task.Post
+    ) (start-task-at t) start_task.Post
 start-task-handle-task-failure-requires t c κs = (omega (arith, c.before.before.before.before.before.before.before.before.before.before.before.before.requires.0), (search rules, search rules, search rules))
 
 start-task-enum-known-f : (t : ℕ) → start-task-lts.Need-enum-known-f (
@@ -806,12 +806,12 @@ start-task-enum-known-f : (t : ℕ) → start-task-lts.Need-enum-known-f (
   new-function-reads.Asked,
   new-function-reads.Learnt,
   handle-task-failure-below t,
-  handle-task-failure.Post,
+  handle_task_failure.Post,
   store-object-reads.Asked,
   store-object-reads.Learnt,
   run-reads.Asked,
   run-reads.Learnt,
-) (start-task-at t) start-task.Post
+) (start-task-at t) start_task.Post
 start-task-enum-known-f t c = search rules
 
 start-task-store-object-requires : (t : ℕ) → start-task-lts.Need-store-object-requires (
@@ -820,12 +820,12 @@ start-task-store-object-requires : (t : ℕ) → start-task-lts.Need-store-objec
   new-function-reads.Asked,
   new-function-reads.Learnt,
   handle-task-failure-below t,
-  handle-task-failure.Post,
+  handle_task_failure.Post,
   store-object-reads.Asked,
   store-object-reads.Learnt,
   run-reads.Asked,
   run-reads.Learnt,
-) (start-task-at t) start-task.Post
+) (start-task-at t) start_task.Post
 start-task-store-object-requires t c κs = (c.before.before.before.before.before.before.before.before.before.before.requires.1.1, rw c.before.before.before.before.before.before.coroutine-at.ensures (task_at-fits c.before.before.before.before.before.before.before.before.before.before.args.tasks.now c.before.before.before.before.before.before.before.before.before.before.args.t.0).coroutine-fits)
 
 start-task-run-requires : (t : ℕ) → start-task-lts.Need-run-requires (
@@ -834,12 +834,12 @@ start-task-run-requires : (t : ℕ) → start-task-lts.Need-run-requires (
   new-function-reads.Asked,
   new-function-reads.Learnt,
   handle-task-failure-below t,
-  handle-task-failure.Post,
+  handle_task_failure.Post,
   store-object-reads.Asked,
   store-object-reads.Learnt,
   run-reads.Asked,
   run-reads.Learnt,
-) (start-task-at t) start-task.Post
+) (start-task-at t) start_task.Post
 start-task-run-requires t c κs = (c.before.before.before.before.before.before.before.before.before.before.before.before.before.before.before.requires.1.0, c.before.before.before.before.store-object.auto.0 ∙ c.before.before.before.before.before.before.before.before.before.before.before.before.before.before.before.requires.1.1, c.before.before.before.before.before.before.before.before.before.before.before.before.before.before.before.requires.1.2)
 
 start-task-same-length : (t : ℕ) → start-task-lts.Need_same_length (
@@ -848,12 +848,12 @@ start-task-same-length : (t : ℕ) → start-task-lts.Need_same_length (
   new-function-reads.Asked,
   new-function-reads.Learnt,
   handle-task-failure-below t,
-  handle-task-failure.Post,
+  handle_task_failure.Post,
   store-object-reads.Asked,
   store-object-reads.Learnt,
   run-reads.Asked,
   run-reads.Learnt,
-) (start-task-at t) start-task.Post
+) (start-task-at t) start_task.Post
 start-task-same-length t c = search rules
 
 start-task-same-length-2 : (t : ℕ) → start-task-lts.Need_same_length_2 (
@@ -862,12 +862,12 @@ start-task-same-length-2 : (t : ℕ) → start-task-lts.Need_same_length_2 (
   new-function-reads.Asked,
   new-function-reads.Learnt,
   handle-task-failure-below t,
-  handle-task-failure.Post,
+  handle_task_failure.Post,
   store-object-reads.Asked,
   store-object-reads.Learnt,
   run-reads.Asked,
   run-reads.Learnt,
-) (start-task-at t) start-task.Post
+) (start-task-at t) start_task.Post
 start-task-same-length-2 t c = search rules
 
 start-task-returns : (t : ℕ) → start-task-lts.Need_returns (
@@ -876,13 +876,13 @@ start-task-returns : (t : ℕ) → start-task-lts.Need_returns (
   new-function-reads.Asked,
   new-function-reads.Learnt,
   handle-task-failure-below t,
-  handle-task-failure.Post,
+  handle_task_failure.Post,
   store-object-reads.Asked,
   store-object-reads.Learnt,
   run-reads.Asked,
   run-reads.Learnt,
-) (start-task-at t) start-task.Post
-start-task-returns t c = λ ps l w. start-fails c.before.before.before.before.before.before.before.before.before.before.before.before.before.before.before.before.before.args.tasks.now c.before.before.before.before.before.before.before.before.before.before.before.before.before.before.before.before.before.args.objects.now ps (queue_of c.before.before.before.before.before.before.before.before.before.before.before.before.before.before.before.before.before.args.ids.now c.before.before.before.before.before.before.before.before.before.before.before.before.before.before.before.before.before.args.len.now) l c.before.before.before.before.before.before.before.before.before.before.before.before.before.before.before.before.before.args.t.0 c.before.before.before.before.before.before.before.before.before.before.before.before.before.coroutine-at.ensures c.before.before.before.before.before.before.before.before.before.before.before.new_function.ensures c.before.before.before.before.before.before.before.before.before.enum_told.given.1 c.before.before.before.before.handle-task-failure.result (c.before.before.before.before.handle-task-failure.ensures ps l w)
+) (start-task-at t) start_task.Post
+start-task-returns t c = λ ps l w. start-fails c.before.before.before.before.before.before.before.before.before.before.before.before.before.before.before.before.before.args.tasks.now c.before.before.before.before.before.before.before.before.before.before.before.before.before.before.before.before.before.args.objects.now ps (queue_of c.before.before.before.before.before.before.before.before.before.before.before.before.before.before.before.before.before.args.ids.now c.before.before.before.before.before.before.before.before.before.before.before.before.before.before.before.before.before.args.len.now) l c.before.before.before.before.before.before.before.before.before.before.before.before.before.before.before.before.before.args.t.0 c.before.before.before.before.before.before.before.before.before.before.before.before.before.coroutine-at.ensures c.before.before.before.before.before.before.before.before.before.before.before.new_function.ensures c.before.before.before.before.before.before.before.before.before.enum_told.given.1 c.before.before.before.before.handle_task_failure.result (c.before.before.before.before.handle_task_failure.ensures ps l w)
 
 start-task-same-length-3 : (t : ℕ) → start-task-lts.Need_same_length_3 (
   coroutine-at-reads.Asked,
@@ -890,12 +890,12 @@ start-task-same-length-3 : (t : ℕ) → start-task-lts.Need_same_length_3 (
   new-function-reads.Asked,
   new-function-reads.Learnt,
   handle-task-failure-below t,
-  handle-task-failure.Post,
+  handle_task_failure.Post,
   store-object-reads.Asked,
   store-object-reads.Learnt,
   run-reads.Asked,
   run-reads.Learnt,
-) (start-task-at t) start-task.Post
+) (start-task-at t) start_task.Post
 start-task-same-length-3 t c = search rules
 
 start-task-same-length-4 : (t : ℕ) → start-task-lts.Need_same_length_4 (
@@ -904,12 +904,12 @@ start-task-same-length-4 : (t : ℕ) → start-task-lts.Need_same_length_4 (
   new-function-reads.Asked,
   new-function-reads.Learnt,
   handle-task-failure-below t,
-  handle-task-failure.Post,
+  handle_task_failure.Post,
   store-object-reads.Asked,
   store-object-reads.Learnt,
   run-reads.Asked,
   run-reads.Learnt,
-) (start-task-at t) start-task.Post
+) (start-task-at t) start_task.Post
 start-task-same-length-4 t c = search rules
 
 start-task-returns-2 : (t : ℕ) → start-task-lts.Need-returns-2 (
@@ -918,12 +918,12 @@ start-task-returns-2 : (t : ℕ) → start-task-lts.Need-returns-2 (
   new-function-reads.Asked,
   new-function-reads.Learnt,
   handle-task-failure-below t,
-  handle-task-failure.Post,
+  handle_task_failure.Post,
   store-object-reads.Asked,
   store-object-reads.Learnt,
   run-reads.Asked,
   run-reads.Learnt,
-) (start-task-at t) start-task.Post
+) (start-task-at t) start_task.Post
 start-task-returns-2 t c = λ ps l w. start-runs c.before.before.before.before.before.before.before.before.before.before.before.before.before.before.before.before.before.before.before.before.args.tasks.now c.before.before.before.before.before.before.before.before.before.before.before.before.before.before.before.before.before.before.before.before.args.objects.now ps (queue_of c.before.before.before.before.before.before.before.before.before.before.before.before.before.before.before.before.before.before.before.before.args.ids.now c.before.before.before.before.before.before.before.before.before.before.before.before.before.before.before.before.before.before.before.before.args.len.now) l c.before.before.before.before.before.before.before.before.before.before.before.before.before.before.before.before.before.before.before.before.args.t.0 c.before.before.before.before.before.before.before.before.before.before.before.before.before.before.before.before.coroutine-at.ensures c.before.before.before.before.before.before.before.before.before.before.before.before.before.before.new_function.ensures c.before.before.before.before.before.before.before.before.before.before.before.before.f.given.0.0 c.before.before.before.before.before.before.before.before.before.before.before.before.f.given.1 c.before.before.before.before.before.before.before.before.before.store-object.ensures c.before.before.before.before.run.result (c.before.before.before.before.run.ensures ps (queue_of c.before.before.before.before.before.before.before.before.before.before.before.before.before.before.before.before.before.before.before.before.args.ids.now c.before.before.before.before.before.before.before.before.before.before.before.before.before.before.before.before.before.before.before.before.args.len.now) l)
 
 switch-or-yield-yield-control-requires : (t : ℕ) → switch-or-yield-lts.Need-yield-control-requires (
@@ -960,7 +960,7 @@ switch-or-yield-returns : (t : ℕ) → switch-or-yield-lts.Need_returns (
   activate-task-below t,
   activate-task.Post,
 ) (switch-or-yield-at t) switch-or-yield.Post
-switch-or-yield-returns t c = λ ps l w. switch-yields c.before.before.before.before.before.before.before.before.args.tasks.now c.before.before.before.before.before.before.before.before.args.objects.now ps (queue_of c.before.before.before.before.before.before.before.before.args.ids.now c.before.before.before.before.before.before.before.before.args.len.now) l c.before.before.before.before.if1.true c.before.before.yield-control.result (c.before.before.yield-control.ensures c.before.before.before.before.before.before.before.before.args.tasks.now ps (queue_of c.before.before.before.before.before.before.before.before.args.ids.now c.before.before.before.before.before.before.before.before.args.len.now) l)
+switch-or-yield-returns t c = λ ps l w. switch_yields c.before.before.before.before.before.before.before.before.args.tasks.now c.before.before.before.before.before.before.before.before.args.objects.now ps (queue_of c.before.before.before.before.before.before.before.before.args.ids.now c.before.before.before.before.before.before.before.before.args.len.now) l c.before.before.before.before.if1.true c.before.before.yield-control.result (c.before.before.yield-control.ensures c.before.before.before.before.before.before.before.before.args.tasks.now ps (queue_of c.before.before.before.before.before.before.before.before.args.ids.now c.before.before.before.before.before.before.before.before.args.len.now) l)
 
 switch-or-yield-front-lent-requires : (t : ℕ) → switch-or-yield-lts.Need-front-lent-requires (
   yield-control-reads.Asked,
@@ -1032,7 +1032,7 @@ switch-or-yield-returns-2 : (t : ℕ) → switch-or-yield-lts.Need-returns-2 (
   activate-task-below t,
   activate-task.Post,
 ) (switch-or-yield-at t) switch-or-yield.Post
-switch-or-yield-returns-2 t c = λ ps l w. switch-goes c.before.before.before.before.before.before.before.before.before.before.before.before.before.before.before.before.before.before.args.tasks.now c.before.before.before.before.before.before.before.before.before.before.before.before.before.before.before.before.before.before.args.objects.now ps (queue_of c.before.before.before.before.before.before.before.before.before.before.before.before.before.before.before.before.before.before.args.ids.now c.before.before.before.before.before.before.before.before.before.before.before.before.before.before.before.before.before.before.args.len.now) l c.before.before.before.before.before.before.before.before.before.before.before.before.before.before.if1.false (c.before.before.before.before.before.before.before.before.before.before.before.before.front-lent.ensures c.before.before.before.before.before.before.before.before.before.before.before.before.before.before.before.before.before.before.args.len.now) c.before.before.before.before.before.before.before.before.before.pop-lent.ensures c.before.before.before.before.activate-task.result (c.before.before.before.before.activate-task.ensures ps l w)
+switch-or-yield-returns-2 t c = λ ps l w. switch_goes c.before.before.before.before.before.before.before.before.before.before.before.before.before.before.before.before.before.before.args.tasks.now c.before.before.before.before.before.before.before.before.before.before.before.before.before.before.before.before.before.before.args.objects.now ps (queue_of c.before.before.before.before.before.before.before.before.before.before.before.before.before.before.before.before.before.before.args.ids.now c.before.before.before.before.before.before.before.before.before.before.before.before.before.before.before.before.before.before.args.len.now) l c.before.before.before.before.before.before.before.before.before.before.before.before.before.before.if1.false (c.before.before.before.before.before.before.before.before.before.before.before.before.front-lent.ensures c.before.before.before.before.before.before.before.before.before.before.before.before.before.before.before.before.before.before.args.len.now) c.before.before.before.before.before.before.before.before.before.pop-lent.ensures c.before.before.before.before.activate-task.result (c.before.before.before.before.activate-task.ensures ps l w)
 
 pub +activate-task-handle-task-failure-resume-after-task-exit-start-task-switch-or-yield-spec :
     {M : Type 1} → statement M
@@ -1049,7 +1049,7 @@ pub +activate-task-handle-task-failure-resume-after-task-exit-start-task-switch-
       yield-control-reads.Asked,
       yield-control-reads.Learnt,
       start-task-below t,
-      start-task.Post,
+      start_task.Post,
       run-reads.Asked,
       run-reads.Learnt,
     )
@@ -1096,10 +1096,10 @@ pub +activate-task-handle-task-failure-resume-after-task-exit-start-task-switch-
       remove-task-lent-reads.Asked,
       remove-task-lent-reads.Learnt,
       resume-after-task-exit-below t,
-      resume-after-task-exit.Post,
+      resume_after_task_exit.Post,
     )
     (handle-task-failure-at t)
-    handle-task-failure.Post
+    handle_task_failure.Post
     (handle-task-failure-task-awaiter-at-requires t)
     (handle-task-failure-deliver-awaiter-failure-requires t)
     (handle-task-failure-queue-woken-requires t)
@@ -1117,7 +1117,7 @@ pub +activate-task-handle-task-failure-resume-after-task-exit-start-task-switch-
       activate-task.Post,
     )
     (resume-after-task-exit-at t)
-    resume-after-task-exit.Post
+    resume_after_task_exit.Post
     (resume-after-task-exit-enum-told t)
     (resume-after-task-exit-switch-or-yield-requires t)
     (resume-after-task-exit-enum-known-woken t)
@@ -1135,14 +1135,14 @@ pub +activate-task-handle-task-failure-resume-after-task-exit-start-task-switch-
       new-function-reads.Asked,
       new-function-reads.Learnt,
       handle-task-failure-below t,
-      handle-task-failure.Post,
+      handle_task_failure.Post,
       store-object-reads.Asked,
       store-object-reads.Learnt,
       run-reads.Asked,
       run-reads.Learnt,
     )
     (start-task-at t)
-    start-task.Post
+    start_task.Post
     (start-task-coroutine-at-requires t)
     (start-task-new-function-requires t)
     (start-task-enum-told t)

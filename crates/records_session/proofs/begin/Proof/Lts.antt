@@ -1217,14 +1217,14 @@ module _ (claims· : Claims) where
 
       pub record After_slice_known2 : Type 0 where
         pub before : After_slice_known
-        pub slice-known2 : After_slice_known2·own before
+        pub slice_known2 : After_slice_known2·own before
 
-      abbrev pub m6 : (before : After_slice_known2) → (given : (s6 before.before.before.blocks).gives (m5 before.before before.slice-known2.given)) → Typed.Mo T8
-      m6 = λ before given. (s6 before.before.before.blocks).next (m5 before.before before.slice-known2.given) given
+      abbrev pub m6 : (before : After_slice_known2) → (given : (s6 before.before.before.blocks).gives (m5 before.before before.slice_known2.given)) → Typed.Mo T8
+      m6 = λ before given. (s6 before.before.before.blocks).next (m5 before.before before.slice_known2.given) given
 
       module _ (before· : After_slice_known2) where
         pub record After_words·own : Type 0 where
-          pub given : (s6 before·.before.before.blocks).gives (m5 before·.before before·.slice-known2.given)
+          pub given : (s6 before·.before.before.blocks).gives (m5 before·.before before·.slice_known2.given)
 
       pub record After_words : Type 0 where
         pub before : After_slice_known2
@@ -1233,7 +1233,7 @@ module _ (claims· : Claims) where
       abbrev pub Need_slice_aggregate_begin : Type 0
       Need_slice_aggregate_begin = (c : After_words) → Relend.CountIs T8 8 9 (λ x. x) (λ u. 4104) (m6 c.before c.words.given)
 
-      abbrev pub m7 : (before : After_slice_known2) → (given : (s6 before.before.before.blocks).gives (m5 before.before before.slice-known2.given)) → Typed.Mo T9
+      abbrev pub m7 : (before : After_slice_known2) → (given : (s6 before.before.before.blocks).gives (m5 before.before before.slice_known2.given)) → Typed.Mo T9
       m7 = λ before given. (s7 before.before.before.blocks).next (m6 before given)
 
       abbrev pub m8 : (before : After_words) → (given : (s9 before.before.before.before.blocks).gives (m7 before.before before.words.given)) → Typed.Mo T11
@@ -1248,44 +1248,44 @@ module _ (claims· : Claims) where
 
       pub record After_begin_arg : Type 0 where
         pub before : After_words
-        pub begin-arg : After_begin_arg·own before
+        pub begin_arg : After_begin_arg·own before
 
-      abbrev pub m10 : (before : After_begin_arg) → (given : (s12 before.before.before.before.before.blocks).gives (m9 before.before before.begin-arg.given)) → Typed.Mo T14
-      m10 = λ before given. (s12 before.before.before.before.before.blocks).next (m9 before.before before.begin-arg.given) given
+      abbrev pub m10 : (before : After_begin_arg) → (given : (s12 before.before.before.before.before.blocks).gives (m9 before.before before.begin_arg.given)) → Typed.Mo T14
+      m10 = λ before given. (s12 before.before.before.before.before.blocks).next (m9 before.before before.begin_arg.given) given
 
-      abbrev pub m11 : (before : After_begin_arg) → (given : (s12 before.before.before.before.before.blocks).gives (m9 before.before before.begin-arg.given)) → Typed.Mo T15
+      abbrev pub m11 : (before : After_begin_arg) → (given : (s12 before.before.before.before.before.blocks).gives (m9 before.before before.begin_arg.given)) → Typed.Mo T15
       m11 = λ before given. (s13 before.before.before.before.before.blocks).next (m10 before given)
 
       module _ (before· : After_begin_arg) where
         pub record After_begin_arg2·own : Type 0 where
-          pub given : (s12 before·.before.before.before.before.blocks).gives (m9 before·.before before·.begin-arg.given)
+          pub given : (s12 before·.before.before.before.before.blocks).gives (m9 before·.before before·.begin_arg.given)
 
       pub record After_begin_arg2 : Type 0 where
         pub before : After_begin_arg
-        pub begin-arg2 : After_begin_arg2·own before
+        pub begin_arg2 : After_begin_arg2·own before
 
       abbrev pub Need_begin_requires : Type 0
-      Need_begin_requires = (c : After_begin_arg2) → (s14 c.before.before.before.before.before.blocks).asks (m11 c.before c.begin-arg2.given)
+      Need_begin_requires = (c : After_begin_arg2) → (s14 c.before.before.before.before.before.blocks).asks (m11 c.before c.begin_arg2.given)
 
-      abbrev pub m12 : (before : After_begin_arg2) → (given : (s14 before.before.before.before.before.before.blocks).gives (m11 before.before before.begin-arg2.given)) → Typed.Mo T16
-      m12 = λ before given. (s14 before.before.before.before.before.before.blocks).next (m11 before.before before.begin-arg2.given) given
+      abbrev pub m12 : (before : After_begin_arg2) → (given : (s14 before.before.before.before.before.before.blocks).gives (m11 before.before before.begin_arg2.given)) → Typed.Mo T16
+      m12 = λ before given. (s14 before.before.before.before.before.before.blocks).next (m11 before.before before.begin_arg2.given) given
 
       module _ (before· : After_begin_arg2) where
         abbrev pub After_begin·own : Type 0
         After_begin·own = Called.Called ps·0 r·0 claims·.1 T15
             (Num.v_at 5 λ x. x, (record { pos = 9; ty = Syntax.ty_ref Syntax.erased Syntax.mut El.word; ref = λ x. x }, (record { pos = 11; ty = Syntax.ty_ref Syntax.erased Syntax.mut El.word; ref = λ x. x }, (record { pos = 13; ty = Syntax.ty_ref Syntax.erased Syntax.mut El.word; ref = λ x. x }, (record { pos = 4; st = []; d = 0; at = λ x. x }, tt)))))
-            (m11 before·.before before·.begin-arg2.given)
+            (m11 before·.before before·.begin_arg2.given)
 
       pub record After_begin : Type 0 where
         pub before : After_begin_arg2
         pub begin : After_begin·own before
 
-      abbrev pub After_begin·gave : (c : After_begin) → (s14 c.before.before.before.before.before.before.blocks).gives (m11 c.before.before c.before.begin-arg2.given)
+      abbrev pub After_begin·gave : (c : After_begin) → (s14 c.before.before.before.before.before.before.blocks).gives (m11 c.before.before c.before.begin_arg2.given)
       After_begin·gave = λ c. Called.given ps·0 r·0 claims·.1 T15
           (Num.v_at 5 λ x. x, (record { pos = 9; ty = Syntax.ty_ref Syntax.erased Syntax.mut El.word; ref = λ x. x }, (record { pos = 11; ty = Syntax.ty_ref Syntax.erased Syntax.mut El.word; ref = λ x. x }, (record { pos = 13; ty = Syntax.ty_ref Syntax.erased Syntax.mut El.word; ref = λ x. x }, (record { pos = 4; st = []; d = 0; at = λ x. x }, tt)))))
-          (m11 c.before.before c.before.begin-arg2.given) c.begin
+          (m11 c.before.before c.before.begin_arg2.given) c.begin
 
-      abbrev pub m13 : (before : After_begin_arg2) → (given : (s14 before.before.before.before.before.before.blocks).gives (m11 before.before before.begin-arg2.given)) → Typed.Mo T17
+      abbrev pub m13 : (before : After_begin_arg2) → (given : (s14 before.before.before.before.before.before.blocks).gives (m11 before.before before.begin_arg2.given)) → Typed.Mo T17
       m13 = λ before given. s15 before.before.before.before.before.before.blocks (m12 before given)
 
       abbrev pub m14 : (before : After_begin) → (given : (s17 before.before.before.before.before.before.before.blocks).gives (m13 before.before (After_begin·gave before))) → Typed.Mo T19
@@ -1319,14 +1319,14 @@ module _ (claims· : Claims) where
 
       pub record After_slice_known3 : Type 0 where
         pub before : After_objects
-        pub slice-known3 : After_slice_known3·own before
+        pub slice_known3 : After_slice_known3·own before
 
-      abbrev pub m17 : (before : After_slice_known3) → (given : (s24 before.before.before.before.before.before.before.before.before.before.blocks).gives (m16 before.before before.slice-known3.given)) → Typed.Mo T26
-      m17 = λ before given. (s24 before.before.before.before.before.before.before.before.before.before.blocks).next (m16 before.before before.slice-known3.given) given
+      abbrev pub m17 : (before : After_slice_known3) → (given : (s24 before.before.before.before.before.before.before.before.before.before.blocks).gives (m16 before.before before.slice_known3.given)) → Typed.Mo T26
+      m17 = λ before given. (s24 before.before.before.before.before.before.before.before.before.before.blocks).next (m16 before.before before.slice_known3.given) given
 
       module _ (before· : After_slice_known3) where
         pub record After_places·own : Type 0 where
-          pub given : (s24 before·.before.before.before.before.before.before.before.before.before.blocks).gives (m16 before·.before before·.slice-known3.given)
+          pub given : (s24 before·.before.before.before.before.before.before.before.before.before.blocks).gives (m16 before·.before before·.slice_known3.given)
 
       pub record After_places : Type 0 where
         pub before : After_slice_known3
@@ -1341,31 +1341,31 @@ module _ (claims· : Claims) where
 
       pub record After_slice_known4 : Type 0 where
         pub before : After_places
-        pub slice-known4 : After_slice_known4·own before
+        pub slice_known4 : After_slice_known4·own before
 
-      abbrev pub m19 : (before : After_slice_known4) → (given : (s28 before.before.before.before.before.before.before.before.before.before.before.before.blocks).gives (m18 before.before before.slice-known4.given)) →
+      abbrev pub m19 : (before : After_slice_known4) → (given : (s28 before.before.before.before.before.before.before.before.before.before.before.before.blocks).gives (m18 before.before before.slice_known4.given)) →
           Typed.Mo T30
-      m19 = λ before given. (s28 before.before.before.before.before.before.before.before.before.before.before.before.blocks).next (m18 before.before before.slice-known4.given) given
+      m19 = λ before given. (s28 before.before.before.before.before.before.before.before.before.before.before.before.blocks).next (m18 before.before before.slice_known4.given) given
 
-      abbrev pub m20 : (before : After_slice_known4) → (given : (s28 before.before.before.before.before.before.before.before.before.before.before.before.blocks).gives (m18 before.before before.slice-known4.given)) →
+      abbrev pub m20 : (before : After_slice_known4) → (given : (s28 before.before.before.before.before.before.before.before.before.before.before.before.blocks).gives (m18 before.before before.slice_known4.given)) →
           Typed.Mo T31
       m20 = λ before given. (s29 before.before.before.before.before.before.before.before.before.before.before.before.blocks).next (m19 before given)
 
       module _ (before· : After_slice_known4) where
         pub record After_save_arg·own : Type 0 where
-          pub given : (s28 before·.before.before.before.before.before.before.before.before.before.before.before.blocks).gives (m18 before·.before before·.slice-known4.given)
+          pub given : (s28 before·.before.before.before.before.before.before.before.before.before.before.before.blocks).gives (m18 before·.before before·.slice_known4.given)
 
       pub record After_save_arg : Type 0 where
         pub before : After_slice_known4
-        pub save-arg : After_save_arg·own before
+        pub save_arg : After_save_arg·own before
 
-      abbrev pub m21 : (before : After_save_arg) → (given : (s31 before.before.before.before.before.before.before.before.before.before.before.before.before.blocks).gives (m20 before.before before.save-arg.given)) →
+      abbrev pub m21 : (before : After_save_arg) → (given : (s31 before.before.before.before.before.before.before.before.before.before.before.before.before.blocks).gives (m20 before.before before.save_arg.given)) →
           Typed.Mo T33
-      m21 = λ before given. (s31 before.before.before.before.before.before.before.before.before.before.before.before.before.blocks).next (m20 before.before before.save-arg.given) given
+      m21 = λ before given. (s31 before.before.before.before.before.before.before.before.before.before.before.before.before.blocks).next (m20 before.before before.save_arg.given) given
 
       module _ (before· : After_save_arg) where
         pub record After_words3·own : Type 0 where
-          pub given : (s31 before·.before.before.before.before.before.before.before.before.before.before.before.before.blocks).gives (m20 before·.before before·.save-arg.given)
+          pub given : (s31 before·.before.before.before.before.before.before.before.before.before.before.before.before.blocks).gives (m20 before·.before before·.save_arg.given)
 
       pub record After_words3 : Type 0 where
         pub before : After_save_arg
@@ -1374,7 +1374,7 @@ module _ (claims· : Claims) where
       abbrev pub Need_slice_aggregate_save : Type 0
       Need_slice_aggregate_save = (c : After_words3) → Relend.CountIs T33 17 18 (λ x. x) (λ u. 4104) (m21 c.before c.words3.given)
 
-      abbrev pub m22 : (before : After_save_arg) → (given : (s31 before.before.before.before.before.before.before.before.before.before.before.before.before.blocks).gives (m20 before.before before.save-arg.given)) →
+      abbrev pub m22 : (before : After_save_arg) → (given : (s31 before.before.before.before.before.before.before.before.before.before.before.before.before.blocks).gives (m20 before.before before.save_arg.given)) →
           Typed.Mo T34
       m22 = λ before given. (s32 before.before.before.before.before.before.before.before.before.before.before.before.before.blocks).next (m21 before given)
 
@@ -1464,11 +1464,11 @@ module _ (claims· : Claims) where
 
         lay1 : (c : After_begin) → at31 c.before.before.before.before.before.before.blocks (W0 c.before.before.before.before.before.before.κs c.before.before.before.before.before.before.args c.before.before.before.before.before.before.blocks) (m12 c.before (After_begin·gave c))
         lay1 = λ c.
-            (Path'.refl, λ g. (Path'.refl, λ g'. λ g''. (Path'.refl, λ g'3. λ g'4. λ g'5. (Path'.refl, λ g'6. (Relend.count_is T33 17 18 (λ x. x) (λ u. 4104) (m21 record { before = record { before = record { before = record { before = record { before = record { before = record { before = c.before; begin = c.begin }; words2 = record { given = g } }; objects = record { given = g' } }; slice-known3 = record { given = g'' } }; places = record { given = g'3 } }; slice-known4 = record { given = g'4 } }; save-arg = record { given = g'5 } } g'6) (slice-aggregate-save record { before = record { before = record { before = record { before = record { before = record { before = record { before = record { before = c.before; begin = c.begin }; words2 = record { given = g } }; objects = record { given = g' } }; slice-known3 = record { given = g'' } }; places = record { given = g'3 } }; slice-known4 = record { given = g'4 } }; save-arg = record { given = g'5 } }; words3 = record { given = g'6 } }), (save-requires record { before = record { before = record { before = record { before = record { before = record { before = record { before = record { before = c.before; begin = c.begin }; words2 = record { given = g } }; objects = record { given = g' } }; slice-known3 = record { given = g'' } }; places = record { given = g'3 } }; slice-known4 = record { given = g'4 } }; save-arg = record { given = g'5 } }; words3 = record { given = g'6 } }, λ g'7. lay2 record { before = record { before = record { before = record { before = record { before = record { before = record { before = record { before = record { before = c.before; begin = c.begin }; words2 = record { given = g } }; objects = record { given = g' } }; slice-known3 = record { given = g'' } }; places = record { given = g'3 } }; slice-known4 = record { given = g'4 } }; save-arg = record { given = g'5 } }; words3 = record { given = g'6 } }; save = Called.called ps·1 r·1 claims·.3 T34 (record { pos = 16; ty = Syntax.ty_ref Syntax.erased Syntax.mut El.named; ref = λ x. x }, (record { pos = 18; ty = Syntax.ty_ref Syntax.erased Syntax.imm El.word; ref = λ x. x }, (Num.v_fld 7 ((Syntax.field 1) ∷ []) 1088 λ x. ((Begun.struct).as_values x).1.0, tt))) (m22 record { before = record { before = record { before = record { before = record { before = record { before = record { before = c.before; begin = c.begin }; words2 = record { given = g } }; objects = record { given = g' } }; slice-known3 = record { given = g'' } }; places = record { given = g'3 } }; slice-known4 = record { given = g'4 } }; save-arg = record { given = g'5 } } g'6) g'7 }))))))
+            (Path'.refl, λ g. (Path'.refl, λ g'. λ g''. (Path'.refl, λ g'3. λ g'4. λ g'5. (Path'.refl, λ g'6. (Relend.count_is T33 17 18 (λ x. x) (λ u. 4104) (m21 record { before = record { before = record { before = record { before = record { before = record { before = record { before = c.before; begin = c.begin }; words2 = record { given = g } }; objects = record { given = g' } }; slice_known3 = record { given = g'' } }; places = record { given = g'3 } }; slice_known4 = record { given = g'4 } }; save_arg = record { given = g'5 } } g'6) (slice-aggregate-save record { before = record { before = record { before = record { before = record { before = record { before = record { before = record { before = c.before; begin = c.begin }; words2 = record { given = g } }; objects = record { given = g' } }; slice_known3 = record { given = g'' } }; places = record { given = g'3 } }; slice_known4 = record { given = g'4 } }; save_arg = record { given = g'5 } }; words3 = record { given = g'6 } }), (save-requires record { before = record { before = record { before = record { before = record { before = record { before = record { before = record { before = c.before; begin = c.begin }; words2 = record { given = g } }; objects = record { given = g' } }; slice_known3 = record { given = g'' } }; places = record { given = g'3 } }; slice_known4 = record { given = g'4 } }; save_arg = record { given = g'5 } }; words3 = record { given = g'6 } }, λ g'7. lay2 record { before = record { before = record { before = record { before = record { before = record { before = record { before = record { before = record { before = c.before; begin = c.begin }; words2 = record { given = g } }; objects = record { given = g' } }; slice_known3 = record { given = g'' } }; places = record { given = g'3 } }; slice_known4 = record { given = g'4 } }; save_arg = record { given = g'5 } }; words3 = record { given = g'6 } }; save = Called.called ps·1 r·1 claims·.3 T34 (record { pos = 16; ty = Syntax.ty_ref Syntax.erased Syntax.mut El.named; ref = λ x. x }, (record { pos = 18; ty = Syntax.ty_ref Syntax.erased Syntax.imm El.word; ref = λ x. x }, (Num.v_fld 7 ((Syntax.field 1) ∷ []) 1088 λ x. ((Begun.struct).as_values x).1.0, tt))) (m22 record { before = record { before = record { before = record { before = record { before = record { before = record { before = c.before; begin = c.begin }; words2 = record { given = g } }; objects = record { given = g' } }; slice_known3 = record { given = g'' } }; places = record { given = g'3 } }; slice_known4 = record { given = g'4 } }; save_arg = record { given = g'5 } } g'6) g'7 }))))))
 
         pub laid : (c : Start) → at46 c.blocks (W0 c.κs c.args c.blocks) (m0 c.κs c.args c.blocks)
         laid = λ c. λ g. λ g'. λ g''.
-            (Relend.count_is T8 8 9 (λ x. x) (λ u. 4104) (m6 record { before = record { before = c; slice-known = record { given = g } }; slice-known2 = record { given = g' } } g'') (slice-aggregate-begin record { before = record { before = record { before = c; slice-known = record { given = g } }; slice-known2 = record { given = g' } }; words = record { given = g'' } }), λ g'3. (Path'.refl, λ g'4. (Path'.refl, (begin-requires record { before = record { before = record { before = record { before = record { before = c; slice-known = record { given = g } }; slice-known2 = record { given = g' } }; words = record { given = g'' } }; begin-arg = record { given = g'3 } }; begin-arg2 = record { given = g'4 } }, λ g'5. lay1 record { before = record { before = record { before = record { before = record { before = record { before = c; slice-known = record { given = g } }; slice-known2 = record { given = g' } }; words = record { given = g'' } }; begin-arg = record { given = g'3 } }; begin-arg2 = record { given = g'4 } }; begin = Called.called ps·0 r·0 claims·.1 T15 (Num.v_at 5 λ x. x, (record { pos = 9; ty = Syntax.ty_ref Syntax.erased Syntax.mut El.word; ref = λ x. x }, (record { pos = 11; ty = Syntax.ty_ref Syntax.erased Syntax.mut El.word; ref = λ x. x }, (record { pos = 13; ty = Syntax.ty_ref Syntax.erased Syntax.mut El.word; ref = λ x. x }, (record { pos = 4; st = []; d = 0; at = λ x. x }, tt))))) (m11 record { before = record { before = record { before = record { before = c; slice-known = record { given = g } }; slice-known2 = record { given = g' } }; words = record { given = g'' } }; begin-arg = record { given = g'3 } } g'4) g'5 }))))
+            (Relend.count_is T8 8 9 (λ x. x) (λ u. 4104) (m6 record { before = record { before = c; slice-known = record { given = g } }; slice_known2 = record { given = g' } } g'') (slice-aggregate-begin record { before = record { before = record { before = c; slice-known = record { given = g } }; slice_known2 = record { given = g' } }; words = record { given = g'' } }), λ g'3. (Path'.refl, λ g'4. (Path'.refl, (begin-requires record { before = record { before = record { before = record { before = record { before = c; slice-known = record { given = g } }; slice_known2 = record { given = g' } }; words = record { given = g'' } }; begin_arg = record { given = g'3 } }; begin_arg2 = record { given = g'4 } }, λ g'5. lay1 record { before = record { before = record { before = record { before = record { before = record { before = c; slice-known = record { given = g } }; slice_known2 = record { given = g' } }; words = record { given = g'' } }; begin_arg = record { given = g'3 } }; begin_arg2 = record { given = g'4 } }; begin = Called.called ps·0 r·0 claims·.1 T15 (Num.v_at 5 λ x. x, (record { pos = 9; ty = Syntax.ty_ref Syntax.erased Syntax.mut El.word; ref = λ x. x }, (record { pos = 11; ty = Syntax.ty_ref Syntax.erased Syntax.mut El.word; ref = λ x. x }, (record { pos = 13; ty = Syntax.ty_ref Syntax.erased Syntax.mut El.word; ref = λ x. x }, (record { pos = 4; st = []; d = 0; at = λ x. x }, tt))))) (m11 record { before = record { before = record { before = record { before = c; slice-known = record { given = g } }; slice_known2 = record { given = g' } }; words = record { given = g'' } }; begin_arg = record { given = g'3 } } g'4) g'5 }))))
 
         module _ (κs : Lifetimes.Lfts 3) (qs : Lifetimes.Shares 3) where
           pub asked : (a : Kinds.Dens κs ps) → (good : Kinds.GoodsP κs ps a) → (pre : Pre· κs a) → (bs : List Nat.ℕ) → Φ bs (Any.want_q 3 ps r xs m κs qs a (Post· κs a)) (Function.init 3 ps r xs m κs qs a)

@@ -2008,79 +2008,79 @@ module _ (claims· : Claims) where
 
       pub record After_slice_known2 : Type 0 where
         pub before : After_slice_known
-        pub slice-known2 : After_slice_known2·own before
+        pub slice_known2 : After_slice_known2·own before
 
-      abbrev pub m3 : (before : After_slice_known2) → (given : (s2 before.before.before.blocks).gives (m2 before.before before.slice-known2.given)) → Typed.Mo T4
-      m3 = λ before given. (s2 before.before.before.blocks).next (m2 before.before before.slice-known2.given) given
+      abbrev pub m3 : (before : After_slice_known2) → (given : (s2 before.before.before.blocks).gives (m2 before.before before.slice_known2.given)) → Typed.Mo T4
+      m3 = λ before given. (s2 before.before.before.blocks).next (m2 before.before before.slice_known2.given) given
 
       module _ (before· : After_slice_known2) where
         pub record After_slice_known3·own : Type 0 where
-          pub given : (s2 before·.before.before.blocks).gives (m2 before·.before before·.slice-known2.given)
+          pub given : (s2 before·.before.before.blocks).gives (m2 before·.before before·.slice_known2.given)
 
       pub record After_slice_known3 : Type 0 where
         pub before : After_slice_known2
-        pub slice-known3 : After_slice_known3·own before
+        pub slice_known3 : After_slice_known3·own before
 
-      abbrev pub m4 : (before : After_slice_known3) → (given : (s3 before.before.before.before.blocks).gives (m3 before.before before.slice-known3.given)) → Typed.Mo T5
-      m4 = λ before given. (s3 before.before.before.before.blocks).next (m3 before.before before.slice-known3.given) given
+      abbrev pub m4 : (before : After_slice_known3) → (given : (s3 before.before.before.before.blocks).gives (m3 before.before before.slice_known3.given)) → Typed.Mo T5
+      m4 = λ before given. (s3 before.before.before.before.blocks).next (m3 before.before before.slice_known3.given) given
 
       module _ (before· : After_slice_known3) where
         pub record After_shared_slice_known·own : Type 0 where
-          pub given : (s3 before·.before.before.before.blocks).gives (m3 before·.before before·.slice-known3.given)
+          pub given : (s3 before·.before.before.before.blocks).gives (m3 before·.before before·.slice_known3.given)
 
       pub record After_shared_slice_known : Type 0 where
         pub before : After_slice_known3
-        pub shared-slice-known : After_shared_slice_known·own before
+        pub shared_slice-known : After_shared_slice_known·own before
 
-      abbrev pub m5 : (before : After_shared_slice_known) → (given : (s4 before.before.before.before.before.blocks).gives (m4 before.before before.shared-slice-known.given)) → Typed.Mo T6
-      m5 = λ before given. (s4 before.before.before.before.before.blocks).next (m4 before.before before.shared-slice-known.given) given
+      abbrev pub m5 : (before : After_shared_slice_known) → (given : (s4 before.before.before.before.before.blocks).gives (m4 before.before before.shared_slice-known.given)) → Typed.Mo T6
+      m5 = λ before given. (s4 before.before.before.before.before.blocks).next (m4 before.before before.shared_slice-known.given) given
 
-      abbrev pub m6 : (before : After_shared_slice_known) → (given : (s4 before.before.before.before.before.blocks).gives (m4 before.before before.shared-slice-known.given)) → Typed.Mo T7
+      abbrev pub m6 : (before : After_shared_slice_known) → (given : (s4 before.before.before.before.before.blocks).gives (m4 before.before before.shared_slice-known.given)) → Typed.Mo T7
       m6 = λ before given. s5 before.before.before.before.before.blocks (m5 before given)
 
       module _ (before· : After_shared_slice_known) where
         pub record After_shared_slice_known2·own : Type 0 where
-          pub given : (s4 before·.before.before.before.before.blocks).gives (m4 before·.before before·.shared-slice-known.given)
+          pub given : (s4 before·.before.before.before.before.blocks).gives (m4 before·.before before·.shared_slice-known.given)
 
       pub record After_shared_slice_known2 : Type 0 where
         pub before : After_shared_slice_known
-        pub shared-slice-known2 : After_shared_slice_known2·own before
+        pub shared_slice_known2 : After_shared_slice_known2·own before
 
-      abbrev pub m7 : (before : After_shared_slice_known2) → (given : (s7 before.before.before.before.before.before.blocks).gives (m6 before.before before.shared-slice-known2.given)) → Typed.Mo T9
-      m7 = λ before given. (s7 before.before.before.before.before.before.blocks).next (m6 before.before before.shared-slice-known2.given) given
+      abbrev pub m7 : (before : After_shared_slice_known2) → (given : (s7 before.before.before.before.before.before.blocks).gives (m6 before.before before.shared_slice_known2.given)) → Typed.Mo T9
+      m7 = λ before given. (s7 before.before.before.before.before.before.blocks).next (m6 before.before before.shared_slice_known2.given) given
 
-      abbrev pub m8 : (before : After_shared_slice_known2) → (given : (s7 before.before.before.before.before.before.blocks).gives (m6 before.before before.shared-slice-known2.given)) → Typed.Mo T10
+      abbrev pub m8 : (before : After_shared_slice_known2) → (given : (s7 before.before.before.before.before.before.blocks).gives (m6 before.before before.shared_slice_known2.given)) → Typed.Mo T10
       m8 = λ before given. (s8 before.before.before.before.before.before.blocks).next (m7 before given)
 
       module _ (before· : After_shared_slice_known2) where
         pub record After_rows_in_use_arg·own : Type 0 where
-          pub given : (s7 before·.before.before.before.before.before.blocks).gives (m6 before·.before before·.shared-slice-known2.given)
+          pub given : (s7 before·.before.before.before.before.before.blocks).gives (m6 before·.before before·.shared_slice_known2.given)
 
       pub record After_rows_in_use_arg : Type 0 where
         pub before : After_shared_slice_known2
-        pub rows-in-use-arg : After_rows_in_use_arg·own before
+        pub rows_in_use_arg : After_rows_in_use_arg·own before
 
       abbrev pub Need_rows_in_use_requires : Type 0
-      Need_rows_in_use_requires = (c : After_rows_in_use_arg) → (s9 c.before.before.before.before.before.before.blocks).asks (m8 c.before c.rows-in-use-arg.given)
+      Need_rows_in_use_requires = (c : After_rows_in_use_arg) → (s9 c.before.before.before.before.before.before.blocks).asks (m8 c.before c.rows_in_use_arg.given)
 
-      abbrev pub m9 : (before : After_rows_in_use_arg) → (given : (s9 before.before.before.before.before.before.before.blocks).gives (m8 before.before before.rows-in-use-arg.given)) → Typed.Mo T11
-      m9 = λ before given. (s9 before.before.before.before.before.before.before.blocks).next (m8 before.before before.rows-in-use-arg.given) given
+      abbrev pub m9 : (before : After_rows_in_use_arg) → (given : (s9 before.before.before.before.before.before.before.blocks).gives (m8 before.before before.rows_in_use_arg.given)) → Typed.Mo T11
+      m9 = λ before given. (s9 before.before.before.before.before.before.before.blocks).next (m8 before.before before.rows_in_use_arg.given) given
 
       module _ (before· : After_rows_in_use_arg) where
         abbrev pub After_rows_in_use·own : Type 0
-        After_rows_in_use·own = Called.Called ps·0 r·0 claims·.1 T10 (Num.v_at 9 λ x. x, (record { pos = 14; ty = Syntax.ty_ref Syntax.erased Syntax.imm El.word; ref = λ x. x }, tt)) (m8 before·.before before·.rows-in-use-arg.given)
+        After_rows_in_use·own = Called.Called ps·0 r·0 claims·.1 T10 (Num.v_at 9 λ x. x, (record { pos = 14; ty = Syntax.ty_ref Syntax.erased Syntax.imm El.word; ref = λ x. x }, tt)) (m8 before·.before before·.rows_in_use_arg.given)
 
       pub record After_rows_in_use : Type 0 where
         pub before : After_rows_in_use_arg
         pub rows_in_use : After_rows_in_use·own before
 
-      abbrev pub After_rows_in_use·gave : (c : After_rows_in_use) → (s9 c.before.before.before.before.before.before.before.blocks).gives (m8 c.before.before c.before.rows-in-use-arg.given)
-      After_rows_in_use·gave = λ c. Called.given ps·0 r·0 claims·.1 T10 (Num.v_at 9 λ x. x, (record { pos = 14; ty = Syntax.ty_ref Syntax.erased Syntax.imm El.word; ref = λ x. x }, tt)) (m8 c.before.before c.before.rows-in-use-arg.given) c.rows_in_use
+      abbrev pub After_rows_in_use·gave : (c : After_rows_in_use) → (s9 c.before.before.before.before.before.before.before.blocks).gives (m8 c.before.before c.before.rows_in_use_arg.given)
+      After_rows_in_use·gave = λ c. Called.given ps·0 r·0 claims·.1 T10 (Num.v_at 9 λ x. x, (record { pos = 14; ty = Syntax.ty_ref Syntax.erased Syntax.imm El.word; ref = λ x. x }, tt)) (m8 c.before.before c.before.rows_in_use_arg.given) c.rows_in_use
 
-      abbrev pub m10 : (before : After_rows_in_use_arg) → (given : (s9 before.before.before.before.before.before.before.blocks).gives (m8 before.before before.rows-in-use-arg.given)) → Typed.Mo T12
+      abbrev pub m10 : (before : After_rows_in_use_arg) → (given : (s9 before.before.before.before.before.before.before.blocks).gives (m8 before.before before.rows_in_use_arg.given)) → Typed.Mo T12
       m10 = λ before given. s10 before.before.before.before.before.before.before.blocks (m9 before given)
 
-      abbrev pub m11 : (before : After_rows_in_use_arg) → (given : (s9 before.before.before.before.before.before.before.blocks).gives (m8 before.before before.rows-in-use-arg.given)) → Typed.Mo T14
+      abbrev pub m11 : (before : After_rows_in_use_arg) → (given : (s9 before.before.before.before.before.before.before.blocks).gives (m8 before.before before.rows_in_use_arg.given)) → Typed.Mo T14
       m11 = λ before given. s12 before.before.before.before.before.before.before.blocks (m10 before given)
 
       abbrev pub m12 : (before : After_rows_in_use) → (given : (s15 before.before.before.before.before.before.before.before.blocks).gives (m11 before.before (After_rows_in_use·gave before))) → Typed.Mo T17
@@ -2095,35 +2095,35 @@ module _ (claims· : Claims) where
 
       pub record After_load_arg : Type 0 where
         pub before : After_rows_in_use
-        pub load-arg : After_load_arg·own before
+        pub load_arg : After_load_arg·own before
 
       abbrev pub Need_load_requires : Type 0
-      Need_load_requires = (c : After_load_arg) → (s17 c.before.before.before.before.before.before.before.before.blocks).asks (m13 c.before c.load-arg.given)
+      Need_load_requires = (c : After_load_arg) → (s17 c.before.before.before.before.before.before.before.before.blocks).asks (m13 c.before c.load_arg.given)
 
-      abbrev pub m14 : (before : After_load_arg) → (given : (s17 before.before.before.before.before.before.before.before.before.blocks).gives (m13 before.before before.load-arg.given)) → Typed.Mo T19
-      m14 = λ before given. (s17 before.before.before.before.before.before.before.before.before.blocks).next (m13 before.before before.load-arg.given) given
+      abbrev pub m14 : (before : After_load_arg) → (given : (s17 before.before.before.before.before.before.before.before.before.blocks).gives (m13 before.before before.load_arg.given)) → Typed.Mo T19
+      m14 = λ before given. (s17 before.before.before.before.before.before.before.before.before.blocks).next (m13 before.before before.load_arg.given) given
 
       module _ (before· : After_load_arg) where
         abbrev pub After_load·own : Type 0
-        After_load·own = Called.Called ps·1 r·1 claims·.3 T18 (record { pos = 17; ty = Syntax.ty_ref Syntax.erased Syntax.imm El.named; ref = λ x. x }, (Num.v_at 10 λ x. x, tt)) (m13 before·.before before·.load-arg.given)
+        After_load·own = Called.Called ps·1 r·1 claims·.3 T18 (record { pos = 17; ty = Syntax.ty_ref Syntax.erased Syntax.imm El.named; ref = λ x. x }, (Num.v_at 10 λ x. x, tt)) (m13 before·.before before·.load_arg.given)
 
       pub record After_load : Type 0 where
         pub before : After_load_arg
         pub load : After_load·own before
 
-      abbrev pub After_load·gave : (c : After_load) → (s17 c.before.before.before.before.before.before.before.before.before.blocks).gives (m13 c.before.before c.before.load-arg.given)
-      After_load·gave = λ c. Called.given ps·1 r·1 claims·.3 T18 (record { pos = 17; ty = Syntax.ty_ref Syntax.erased Syntax.imm El.named; ref = λ x. x }, (Num.v_at 10 λ x. x, tt)) (m13 c.before.before c.before.load-arg.given) c.load
+      abbrev pub After_load·gave : (c : After_load) → (s17 c.before.before.before.before.before.before.before.before.before.blocks).gives (m13 c.before.before c.before.load_arg.given)
+      After_load·gave = λ c. Called.given ps·1 r·1 claims·.3 T18 (record { pos = 17; ty = Syntax.ty_ref Syntax.erased Syntax.imm El.named; ref = λ x. x }, (Num.v_at 10 λ x. x, tt)) (m13 c.before.before c.before.load_arg.given) c.load
 
-      abbrev pub m15 : (before : After_load_arg) → (given : (s17 before.before.before.before.before.before.before.before.before.blocks).gives (m13 before.before before.load-arg.given)) → Typed.Mo T20
+      abbrev pub m15 : (before : After_load_arg) → (given : (s17 before.before.before.before.before.before.before.before.before.blocks).gives (m13 before.before before.load_arg.given)) → Typed.Mo T20
       m15 = λ before given. s18 before.before.before.before.before.before.before.before.before.blocks (m14 before given)
 
-      abbrev pub m16 : (before : After_load_arg) → (given : (s17 before.before.before.before.before.before.before.before.before.blocks).gives (m13 before.before before.load-arg.given)) → Typed.Mo T22
+      abbrev pub m16 : (before : After_load_arg) → (given : (s17 before.before.before.before.before.before.before.before.before.blocks).gives (m13 before.before before.load_arg.given)) → Typed.Mo T22
       m16 = λ before given. s20 before.before.before.before.before.before.before.before.before.blocks (m15 before given)
 
-      abbrev pub m17 : (before : After_load_arg) → (given : (s17 before.before.before.before.before.before.before.before.before.blocks).gives (m13 before.before before.load-arg.given)) → Typed.Mo T24
+      abbrev pub m17 : (before : After_load_arg) → (given : (s17 before.before.before.before.before.before.before.before.before.blocks).gives (m13 before.before before.load_arg.given)) → Typed.Mo T24
       m17 = λ before given. s22 before.before.before.before.before.before.before.before.before.blocks (m16 before given)
 
-      abbrev pub m18 : (before : After_load_arg) → (given : (s17 before.before.before.before.before.before.before.before.before.blocks).gives (m13 before.before before.load-arg.given)) → Typed.Mo T25
+      abbrev pub m18 : (before : After_load_arg) → (given : (s17 before.before.before.before.before.before.before.before.before.blocks).gives (m13 before.before before.load_arg.given)) → Typed.Mo T25
       m18 = λ before given. s23 before.before.before.before.before.before.before.before.before.blocks (m17 before given)
 
       abbrev pub m19 : (before : After_load) → (given : (s25 before.before.before.before.before.before.before.before.before.before.blocks).gives (m18 before.before (After_load·gave before))) → Typed.Mo T27
@@ -2155,63 +2155,63 @@ module _ (claims· : Claims) where
 
       pub record After_dispatch_arg : Type 0 where
         pub before : After_words
-        pub dispatch-arg : After_dispatch_arg·own before
+        pub dispatch_arg : After_dispatch_arg·own before
 
-      abbrev pub m23 : (before : After_dispatch_arg) → (given : (s31 before.before.before.before.before.before.before.before.before.before.before.before.blocks).gives (m22 before.before before.dispatch-arg.given)) →
+      abbrev pub m23 : (before : After_dispatch_arg) → (given : (s31 before.before.before.before.before.before.before.before.before.before.before.before.blocks).gives (m22 before.before before.dispatch_arg.given)) →
           Typed.Mo T33
-      m23 = λ before given. (s31 before.before.before.before.before.before.before.before.before.before.before.before.blocks).next (m22 before.before before.dispatch-arg.given) given
+      m23 = λ before given. (s31 before.before.before.before.before.before.before.before.before.before.before.before.blocks).next (m22 before.before before.dispatch_arg.given) given
 
-      abbrev pub m24 : (before : After_dispatch_arg) → (given : (s31 before.before.before.before.before.before.before.before.before.before.before.before.blocks).gives (m22 before.before before.dispatch-arg.given)) →
+      abbrev pub m24 : (before : After_dispatch_arg) → (given : (s31 before.before.before.before.before.before.before.before.before.before.before.before.blocks).gives (m22 before.before before.dispatch_arg.given)) →
           Typed.Mo T34
       m24 = λ before given. (s32 before.before.before.before.before.before.before.before.before.before.before.before.blocks).next (m23 before given)
 
       module _ (before· : After_dispatch_arg) where
         pub record After_dispatch_arg2·own : Type 0 where
-          pub given : (s31 before·.before.before.before.before.before.before.before.before.before.before.before.blocks).gives (m22 before·.before before·.dispatch-arg.given)
+          pub given : (s31 before·.before.before.before.before.before.before.before.before.before.before.before.blocks).gives (m22 before·.before before·.dispatch_arg.given)
 
       pub record After_dispatch_arg2 : Type 0 where
         pub before : After_dispatch_arg
-        pub dispatch-arg2 : After_dispatch_arg2·own before
+        pub dispatch_arg2 : After_dispatch_arg2·own before
 
-      abbrev pub m25 : (before : After_dispatch_arg2) → (given : (s34 before.before.before.before.before.before.before.before.before.before.before.before.before.blocks).gives (m24 before.before before.dispatch-arg2.given)) → Typed.Mo T36
-      m25 = λ before given. (s34 before.before.before.before.before.before.before.before.before.before.before.before.before.blocks).next (m24 before.before before.dispatch-arg2.given) given
+      abbrev pub m25 : (before : After_dispatch_arg2) → (given : (s34 before.before.before.before.before.before.before.before.before.before.before.before.before.blocks).gives (m24 before.before before.dispatch_arg2.given)) → Typed.Mo T36
+      m25 = λ before given. (s34 before.before.before.before.before.before.before.before.before.before.before.before.before.blocks).next (m24 before.before before.dispatch_arg2.given) given
 
-      abbrev pub m26 : (before : After_dispatch_arg2) → (given : (s34 before.before.before.before.before.before.before.before.before.before.before.before.before.blocks).gives (m24 before.before before.dispatch-arg2.given)) → Typed.Mo T37
+      abbrev pub m26 : (before : After_dispatch_arg2) → (given : (s34 before.before.before.before.before.before.before.before.before.before.before.before.before.blocks).gives (m24 before.before before.dispatch_arg2.given)) → Typed.Mo T37
       m26 = λ before given. (s35 before.before.before.before.before.before.before.before.before.before.before.before.before.blocks).next (m25 before given)
 
       module _ (before· : After_dispatch_arg2) where
         pub record After_dispatch_arg3·own : Type 0 where
-          pub given : (s34 before·.before.before.before.before.before.before.before.before.before.before.before.before.blocks).gives (m24 before·.before before·.dispatch-arg2.given)
+          pub given : (s34 before·.before.before.before.before.before.before.before.before.before.before.before.before.blocks).gives (m24 before·.before before·.dispatch_arg2.given)
 
       pub record After_dispatch_arg3 : Type 0 where
         pub before : After_dispatch_arg2
-        pub dispatch-arg3 : After_dispatch_arg3·own before
+        pub dispatch_arg3 : After_dispatch_arg3·own before
 
       abbrev pub Need_dispatch_requires : Type 0
-      Need_dispatch_requires = (c : After_dispatch_arg3) → (s36 c.before.before.before.before.before.before.before.before.before.before.before.before.before.blocks).asks (m26 c.before c.dispatch-arg3.given)
+      Need_dispatch_requires = (c : After_dispatch_arg3) → (s36 c.before.before.before.before.before.before.before.before.before.before.before.before.before.blocks).asks (m26 c.before c.dispatch_arg3.given)
 
-      abbrev pub m27 : (before : After_dispatch_arg3) → (given : (s36 before.before.before.before.before.before.before.before.before.before.before.before.before.before.blocks).gives (m26 before.before before.dispatch-arg3.given)) → Typed.Mo T38
-      m27 = λ before given. (s36 before.before.before.before.before.before.before.before.before.before.before.before.before.before.blocks).next (m26 before.before before.dispatch-arg3.given) given
+      abbrev pub m27 : (before : After_dispatch_arg3) → (given : (s36 before.before.before.before.before.before.before.before.before.before.before.before.before.before.blocks).gives (m26 before.before before.dispatch_arg3.given)) → Typed.Mo T38
+      m27 = λ before given. (s36 before.before.before.before.before.before.before.before.before.before.before.before.before.before.blocks).next (m26 before.before before.dispatch_arg3.given) given
 
       module _ (before· : After_dispatch_arg3) where
         abbrev pub After_dispatch·own : Type 0
         After_dispatch·own = Called.Called ps·2 r·2 claims·.5 T37
             (Num.v_at 9 λ x. x, (record { pos = 19; ty = Syntax.ty_ref Syntax.erased Syntax.mut El.word; ref = λ x. x }, (record { pos = 21; ty = Syntax.ty_ref Syntax.erased Syntax.mut El.word; ref = λ x. x }, (record { pos = 23; ty = Syntax.ty_ref Syntax.erased Syntax.mut El.word; ref = λ x. x }, (record { pos = 25; ty = Syntax.ty_ref Syntax.erased Syntax.mut El.word; ref = λ x. x }, (record { pos = 5; st = []; d = 0; at = λ x. x }, (record { pos = 6; st = []; d = 0; at = λ x. x }, (record { pos = 7; ty = Syntax.ty_ref (Syntax.named 4) Syntax.imm (Syntax.ty_int Syntax.w16); ref = λ x. x }, (record { pos = 8; ty = Syntax.ty_ref (Syntax.named 5) Syntax.imm (Syntax.ty_int Syntax.w8); ref = λ x. x }, tt)))))))))
-            (m26 before·.before before·.dispatch-arg3.given)
+            (m26 before·.before before·.dispatch_arg3.given)
 
       pub record After_dispatch : Type 0 where
         pub before : After_dispatch_arg3
         pub dispatch : After_dispatch·own before
 
-      abbrev pub After_dispatch·gave : (c : After_dispatch) → (s36 c.before.before.before.before.before.before.before.before.before.before.before.before.before.before.blocks).gives (m26 c.before.before c.before.dispatch-arg3.given)
+      abbrev pub After_dispatch·gave : (c : After_dispatch) → (s36 c.before.before.before.before.before.before.before.before.before.before.before.before.before.before.blocks).gives (m26 c.before.before c.before.dispatch_arg3.given)
       After_dispatch·gave = λ c. Called.given ps·2 r·2 claims·.5 T37
           (Num.v_at 9 λ x. x, (record { pos = 19; ty = Syntax.ty_ref Syntax.erased Syntax.mut El.word; ref = λ x. x }, (record { pos = 21; ty = Syntax.ty_ref Syntax.erased Syntax.mut El.word; ref = λ x. x }, (record { pos = 23; ty = Syntax.ty_ref Syntax.erased Syntax.mut El.word; ref = λ x. x }, (record { pos = 25; ty = Syntax.ty_ref Syntax.erased Syntax.mut El.word; ref = λ x. x }, (record { pos = 5; st = []; d = 0; at = λ x. x }, (record { pos = 6; st = []; d = 0; at = λ x. x }, (record { pos = 7; ty = Syntax.ty_ref (Syntax.named 4) Syntax.imm (Syntax.ty_int Syntax.w16); ref = λ x. x }, (record { pos = 8; ty = Syntax.ty_ref (Syntax.named 5) Syntax.imm (Syntax.ty_int Syntax.w8); ref = λ x. x }, tt)))))))))
-          (m26 c.before.before c.before.dispatch-arg3.given) c.dispatch
+          (m26 c.before.before c.before.dispatch_arg3.given) c.dispatch
 
-      abbrev pub m28 : (before : After_dispatch_arg3) → (given : (s36 before.before.before.before.before.before.before.before.before.before.before.before.before.before.blocks).gives (m26 before.before before.dispatch-arg3.given)) → Typed.Mo T39
+      abbrev pub m28 : (before : After_dispatch_arg3) → (given : (s36 before.before.before.before.before.before.before.before.before.before.before.before.before.before.blocks).gives (m26 before.before before.dispatch_arg3.given)) → Typed.Mo T39
       m28 = λ before given. s37 before.before.before.before.before.before.before.before.before.before.before.before.before.before.blocks (m27 before given)
 
-      abbrev pub m29 : (before : After_dispatch_arg3) → (given : (s36 before.before.before.before.before.before.before.before.before.before.before.before.before.before.blocks).gives (m26 before.before before.dispatch-arg3.given)) → Typed.Mo T40
+      abbrev pub m29 : (before : After_dispatch_arg3) → (given : (s36 before.before.before.before.before.before.before.before.before.before.before.before.before.before.blocks).gives (m26 before.before before.dispatch_arg3.given)) → Typed.Mo T40
       m29 = λ before given. s38 before.before.before.before.before.before.before.before.before.before.before.before.before.before.blocks (m28 before given)
 
       abbrev pub m30 : (before : After_dispatch) → (given : (s40 before.before.before.before.before.before.before.before.before.before.before.before.before.before.before.blocks).gives (m29 before.before
@@ -2247,15 +2247,15 @@ module _ (claims· : Claims) where
 
       pub record After_slice_known4 : Type 0 where
         pub before : After_objects
-        pub slice-known4 : After_slice_known4·own before
+        pub slice_known4 : After_slice_known4·own before
 
       abbrev pub m33 : (before : After_slice_known4) → (given : (s47 before.before.before.before.before.before.before.before.before.before.before.before.before.before.before.before.before.before.blocks).gives (m32
-          before.before before.slice-known4.given)) → Typed.Mo T49
-      m33 = λ before given. (s47 before.before.before.before.before.before.before.before.before.before.before.before.before.before.before.before.before.before.blocks).next (m32 before.before before.slice-known4.given) given
+          before.before before.slice_known4.given)) → Typed.Mo T49
+      m33 = λ before given. (s47 before.before.before.before.before.before.before.before.before.before.before.before.before.before.before.before.before.before.blocks).next (m32 before.before before.slice_known4.given) given
 
       module _ (before· : After_slice_known4) where
         pub record After_places·own : Type 0 where
-          pub given : (s47 before·.before.before.before.before.before.before.before.before.before.before.before.before.before.before.before.before.before.blocks).gives (m32 before·.before before·.slice-known4.given)
+          pub given : (s47 before·.before.before.before.before.before.before.before.before.before.before.before.before.before.before.before.before.before.blocks).gives (m32 before·.before before·.slice_known4.given)
 
       pub record After_places : Type 0 where
         pub before : After_slice_known4
@@ -2271,15 +2271,15 @@ module _ (claims· : Claims) where
 
       pub record After_slice_known5 : Type 0 where
         pub before : After_places
-        pub slice-known5 : After_slice_known5·own before
+        pub slice_known5 : After_slice_known5·own before
 
       abbrev pub m35 : (before : After_slice_known5) → (given : (s51 before.before.before.before.before.before.before.before.before.before.before.before.before.before.before.before.before.before.before.before.blocks
-          ).gives (m34 before.before before.slice-known5.given)) → Typed.Mo T53
-      m35 = λ before given. (s51 before.before.before.before.before.before.before.before.before.before.before.before.before.before.before.before.before.before.before.before.blocks).next (m34 before.before before.slice-known5.given) given
+          ).gives (m34 before.before before.slice_known5.given)) → Typed.Mo T53
+      m35 = λ before given. (s51 before.before.before.before.before.before.before.before.before.before.before.before.before.before.before.before.before.before.before.before.blocks).next (m34 before.before before.slice_known5.given) given
 
       module _ (before· : After_slice_known5) where
         pub record After_calls·own : Type 0 where
-          pub given : (s51 before·.before.before.before.before.before.before.before.before.before.before.before.before.before.before.before.before.before.before.before.blocks).gives (m34 before·.before before·.slice-known5.given)
+          pub given : (s51 before·.before.before.before.before.before.before.before.before.before.before.before.before.before.before.before.before.before.before.before.blocks).gives (m34 before·.before before·.slice_known5.given)
 
       pub record After_calls : Type 0 where
         pub before : After_slice_known5
@@ -2296,31 +2296,31 @@ module _ (claims· : Claims) where
 
       pub record After_slice_known6 : Type 0 where
         pub before : After_calls
-        pub slice-known6 : After_slice_known6·own before
+        pub slice_known6 : After_slice_known6·own before
 
-      abbrev pub m37 : (before : After_slice_known6) → (given : (s55 before.before.before.before.before.before.before.before.before.before.before.before.before.before.before.before.before.before.before.before.before.before.blocks).gives (m36 before.before before.slice-known6.given)) → Typed.Mo T57
-      m37 = λ before given. (s55 before.before.before.before.before.before.before.before.before.before.before.before.before.before.before.before.before.before.before.before.before.before.blocks).next (m36 before.before before.slice-known6.given) given
+      abbrev pub m37 : (before : After_slice_known6) → (given : (s55 before.before.before.before.before.before.before.before.before.before.before.before.before.before.before.before.before.before.before.before.before.before.blocks).gives (m36 before.before before.slice_known6.given)) → Typed.Mo T57
+      m37 = λ before given. (s55 before.before.before.before.before.before.before.before.before.before.before.before.before.before.before.before.before.before.before.before.before.before.blocks).next (m36 before.before before.slice_known6.given) given
 
-      abbrev pub m38 : (before : After_slice_known6) → (given : (s55 before.before.before.before.before.before.before.before.before.before.before.before.before.before.before.before.before.before.before.before.before.before.blocks).gives (m36 before.before before.slice-known6.given)) → Typed.Mo T58
+      abbrev pub m38 : (before : After_slice_known6) → (given : (s55 before.before.before.before.before.before.before.before.before.before.before.before.before.before.before.before.before.before.before.before.before.before.blocks).gives (m36 before.before before.slice_known6.given)) → Typed.Mo T58
       m38 = λ before given. (s56 before.before.before.before.before.before.before.before.before.before.before.before.before.before.before.before.before.before.before.before.before.before.blocks).next (m37 before
           given)
 
       module _ (before· : After_slice_known6) where
         pub record After_save_arg·own : Type 0 where
-          pub given : (s55 before·.before.before.before.before.before.before.before.before.before.before.before.before.before.before.before.before.before.before.before.before.before.blocks).gives (m36 before·.before before·.slice-known6.given)
+          pub given : (s55 before·.before.before.before.before.before.before.before.before.before.before.before.before.before.before.before.before.before.before.before.before.before.blocks).gives (m36 before·.before before·.slice_known6.given)
 
       pub record After_save_arg : Type 0 where
         pub before : After_slice_known6
-        pub save-arg : After_save_arg·own before
+        pub save_arg : After_save_arg·own before
 
-      abbrev pub m39 : (before : After_save_arg) → (given : (s58 before.before.before.before.before.before.before.before.before.before.before.before.before.before.before.before.before.before.before.before.before.before.before.blocks).gives (m38 before.before before.save-arg.given)) → Typed.Mo T60
+      abbrev pub m39 : (before : After_save_arg) → (given : (s58 before.before.before.before.before.before.before.before.before.before.before.before.before.before.before.before.before.before.before.before.before.before.before.blocks).gives (m38 before.before before.save_arg.given)) → Typed.Mo T60
       m39 = λ before given. (s58 before.before.before.before.before.before.before.before.before.before.before.before.before.before.before.before.before.before.before.before.before.before.before.blocks).next (m38
-          before.before before.save-arg.given) given
+          before.before before.save_arg.given) given
 
       module _ (before· : After_save_arg) where
         pub record After_words3·own : Type 0 where
           pub given : (s58 before·.before.before.before.before.before.before.before.before.before.before.before.before.before.before.before.before.before.before.before.before.before.before.blocks).gives (m38
-              before·.before before·.save-arg.given)
+              before·.before before·.save_arg.given)
 
       pub record After_words3 : Type 0 where
         pub before : After_save_arg
@@ -2329,7 +2329,7 @@ module _ (claims· : Claims) where
       abbrev pub Need_slice_aggregate_save : Type 0
       Need_slice_aggregate_save = (c : After_words3) → Relend.CountIs T60 29 30 (λ x. x) (λ u. 4104) (m39 c.before c.words3.given)
 
-      abbrev pub m40 : (before : After_save_arg) → (given : (s58 before.before.before.before.before.before.before.before.before.before.before.before.before.before.before.before.before.before.before.before.before.before.before.blocks).gives (m38 before.before before.save-arg.given)) → Typed.Mo T61
+      abbrev pub m40 : (before : After_save_arg) → (given : (s58 before.before.before.before.before.before.before.before.before.before.before.before.before.before.before.before.before.before.before.before.before.before.before.blocks).gives (m38 before.before before.save_arg.given)) → Typed.Mo T61
       m40 = λ before given. (s59 before.before.before.before.before.before.before.before.before.before.before.before.before.before.before.before.before.before.before.before.before.before.before.blocks).next (m39
           before given)
 
@@ -2425,19 +2425,19 @@ module _ (claims· : Claims) where
 
         lay3 : (c : After_dispatch) → at37 c.before.before.before.before.before.before.before.before.before.before.before.before.before.before.blocks (W0 c.before.before.before.before.before.before.before.before.before.before.before.before.before.before.κs c.before.before.before.before.before.before.before.before.before.before.before.before.before.before.args c.before.before.before.before.before.before.before.before.before.before.before.before.before.before.blocks) (m27 c.before (After_dispatch·gave c))
         lay3 = λ c.
-            (Path'.refl, λ g. (Path'.refl, λ g'. λ g''. (Path'.refl, λ g'3. λ g'4. (Path'.refl, λ g'5. λ g'6. λ g'7. (Path'.refl, λ g'8. (Relend.count_is T60 29 30 (λ x. x) (λ u. 4104) (m39 record { before = record { before = record { before = record { before = record { before = record { before = record { before = record { before = record { before = c.before; dispatch = c.dispatch }; words2 = record { given = g } }; objects = record { given = g' } }; slice-known4 = record { given = g'' } }; places = record { given = g'3 } }; slice-known5 = record { given = g'4 } }; calls = record { given = g'5 } }; slice-known6 = record { given = g'6 } }; save-arg = record { given = g'7 } } g'8) (slice-aggregate-save record { before = record { before = record { before = record { before = record { before = record { before = record { before = record { before = record { before = record { before = c.before; dispatch = c.dispatch }; words2 = record { given = g } }; objects = record { given = g' } }; slice-known4 = record { given = g'' } }; places = record { given = g'3 } }; slice-known5 = record { given = g'4 } }; calls = record { given = g'5 } }; slice-known6 = record { given = g'6 } }; save-arg = record { given = g'7 } }; words3 = record { given = g'8 } }), (save-requires record { before = record { before = record { before = record { before = record { before = record { before = record { before = record { before = record { before = record { before = c.before; dispatch = c.dispatch }; words2 = record { given = g } }; objects = record { given = g' } }; slice-known4 = record { given = g'' } }; places = record { given = g'3 } }; slice-known5 = record { given = g'4 } }; calls = record { given = g'5 } }; slice-known6 = record { given = g'6 } }; save-arg = record { given = g'7 } }; words3 = record { given = g'8 } }, λ g'9. lay4 record { before = record { before = record { before = record { before = record { before = record { before = record { before = record { before = record { before = record { before = record { before = c.before; dispatch = c.dispatch }; words2 = record { given = g } }; objects = record { given = g' } }; slice-known4 = record { given = g'' } }; places = record { given = g'3 } }; slice-known5 = record { given = g'4 } }; calls = record { given = g'5 } }; slice-known6 = record { given = g'6 } }; save-arg = record { given = g'7 } }; words3 = record { given = g'8 } }; save = Called.called ps·3 r·3 claims·.7 T61 (record { pos = 28; ty = Syntax.ty_ref Syntax.erased Syntax.mut El.named; ref = λ x. x }, (record { pos = 30; ty = Syntax.ty_ref Syntax.erased Syntax.imm El.word; ref = λ x. x }, (Num.v_fld 12 ((Syntax.field 1) ∷ []) 1096 λ x. ((Worked.struct).as_values x).1.0, tt))) (m40 record { before = record { before = record { before = record { before = record { before = record { before = record { before = record { before = record { before = c.before; dispatch = c.dispatch }; words2 = record { given = g } }; objects = record { given = g' } }; slice-known4 = record { given = g'' } }; places = record { given = g'3 } }; slice-known5 = record { given = g'4 } }; calls = record { given = g'5 } }; slice-known6 = record { given = g'6 } }; save-arg = record { given = g'7 } } g'8) g'9 })))))))
+            (Path'.refl, λ g. (Path'.refl, λ g'. λ g''. (Path'.refl, λ g'3. λ g'4. (Path'.refl, λ g'5. λ g'6. λ g'7. (Path'.refl, λ g'8. (Relend.count_is T60 29 30 (λ x. x) (λ u. 4104) (m39 record { before = record { before = record { before = record { before = record { before = record { before = record { before = record { before = record { before = c.before; dispatch = c.dispatch }; words2 = record { given = g } }; objects = record { given = g' } }; slice_known4 = record { given = g'' } }; places = record { given = g'3 } }; slice_known5 = record { given = g'4 } }; calls = record { given = g'5 } }; slice_known6 = record { given = g'6 } }; save_arg = record { given = g'7 } } g'8) (slice-aggregate-save record { before = record { before = record { before = record { before = record { before = record { before = record { before = record { before = record { before = record { before = c.before; dispatch = c.dispatch }; words2 = record { given = g } }; objects = record { given = g' } }; slice_known4 = record { given = g'' } }; places = record { given = g'3 } }; slice_known5 = record { given = g'4 } }; calls = record { given = g'5 } }; slice_known6 = record { given = g'6 } }; save_arg = record { given = g'7 } }; words3 = record { given = g'8 } }), (save-requires record { before = record { before = record { before = record { before = record { before = record { before = record { before = record { before = record { before = record { before = c.before; dispatch = c.dispatch }; words2 = record { given = g } }; objects = record { given = g' } }; slice_known4 = record { given = g'' } }; places = record { given = g'3 } }; slice_known5 = record { given = g'4 } }; calls = record { given = g'5 } }; slice_known6 = record { given = g'6 } }; save_arg = record { given = g'7 } }; words3 = record { given = g'8 } }, λ g'9. lay4 record { before = record { before = record { before = record { before = record { before = record { before = record { before = record { before = record { before = record { before = record { before = c.before; dispatch = c.dispatch }; words2 = record { given = g } }; objects = record { given = g' } }; slice_known4 = record { given = g'' } }; places = record { given = g'3 } }; slice_known5 = record { given = g'4 } }; calls = record { given = g'5 } }; slice_known6 = record { given = g'6 } }; save_arg = record { given = g'7 } }; words3 = record { given = g'8 } }; save = Called.called ps·3 r·3 claims·.7 T61 (record { pos = 28; ty = Syntax.ty_ref Syntax.erased Syntax.mut El.named; ref = λ x. x }, (record { pos = 30; ty = Syntax.ty_ref Syntax.erased Syntax.imm El.word; ref = λ x. x }, (Num.v_fld 12 ((Syntax.field 1) ∷ []) 1096 λ x. ((Worked.struct).as_values x).1.0, tt))) (m40 record { before = record { before = record { before = record { before = record { before = record { before = record { before = record { before = record { before = c.before; dispatch = c.dispatch }; words2 = record { given = g } }; objects = record { given = g' } }; slice_known4 = record { given = g'' } }; places = record { given = g'3 } }; slice_known5 = record { given = g'4 } }; calls = record { given = g'5 } }; slice_known6 = record { given = g'6 } }; save_arg = record { given = g'7 } } g'8) g'9 })))))))
 
         lay2 : (c : After_load) → at56 c.before.before.before.before.before.before.before.before.before.blocks (W0 c.before.before.before.before.before.before.before.before.before.κs c.before.before.before.before.before.before.before.before.before.args c.before.before.before.before.before.before.before.before.before.blocks) (m14 c.before (After_load·gave c))
         lay2 = λ c. λ g.
-            (Relend.count_is T27 18 19 (λ x. x) (λ u. 4104) (m19 record { before = c.before; load = c.load } g) (slice-aggregate-dispatch record { before = record { before = c.before; load = c.load }; words = record { given = g } }), λ g'. (Path'.refl, λ g''. (Path'.refl, λ g'3. (Path'.refl, (dispatch-requires record { before = record { before = record { before = record { before = record { before = c.before; load = c.load }; words = record { given = g } }; dispatch-arg = record { given = g' } }; dispatch-arg2 = record { given = g'' } }; dispatch-arg3 = record { given = g'3 } }, λ g'4. lay3 record { before = record { before = record { before = record { before = record { before = record { before = c.before; load = c.load }; words = record { given = g } }; dispatch-arg = record { given = g' } }; dispatch-arg2 = record { given = g'' } }; dispatch-arg3 = record { given = g'3 } }; dispatch = Called.called ps·2 r·2 claims·.5 T37 (Num.v_at 9 λ x. x, (record { pos = 19; ty = Syntax.ty_ref Syntax.erased Syntax.mut El.word; ref = λ x. x }, (record { pos = 21; ty = Syntax.ty_ref Syntax.erased Syntax.mut El.word; ref = λ x. x }, (record { pos = 23; ty = Syntax.ty_ref Syntax.erased Syntax.mut El.word; ref = λ x. x }, (record { pos = 25; ty = Syntax.ty_ref Syntax.erased Syntax.mut El.word; ref = λ x. x }, (record { pos = 5; st = []; d = 0; at = λ x. x }, (record { pos = 6; st = []; d = 0; at = λ x. x }, (record { pos = 7; ty = Syntax.ty_ref (Syntax.named 4) Syntax.imm (Syntax.ty_int Syntax.w16); ref = λ x. x }, (record { pos = 8; ty = Syntax.ty_ref (Syntax.named 5) Syntax.imm (Syntax.ty_int Syntax.w8); ref = λ x. x }, tt))))))))) (m26 record { before = record { before = record { before = record { before = c.before; load = c.load }; words = record { given = g } }; dispatch-arg = record { given = g' } }; dispatch-arg2 = record { given = g'' } } g'3) g'4 })))))
+            (Relend.count_is T27 18 19 (λ x. x) (λ u. 4104) (m19 record { before = c.before; load = c.load } g) (slice-aggregate-dispatch record { before = record { before = c.before; load = c.load }; words = record { given = g } }), λ g'. (Path'.refl, λ g''. (Path'.refl, λ g'3. (Path'.refl, (dispatch-requires record { before = record { before = record { before = record { before = record { before = c.before; load = c.load }; words = record { given = g } }; dispatch_arg = record { given = g' } }; dispatch_arg2 = record { given = g'' } }; dispatch_arg3 = record { given = g'3 } }, λ g'4. lay3 record { before = record { before = record { before = record { before = record { before = record { before = c.before; load = c.load }; words = record { given = g } }; dispatch_arg = record { given = g' } }; dispatch_arg2 = record { given = g'' } }; dispatch_arg3 = record { given = g'3 } }; dispatch = Called.called ps·2 r·2 claims·.5 T37 (Num.v_at 9 λ x. x, (record { pos = 19; ty = Syntax.ty_ref Syntax.erased Syntax.mut El.word; ref = λ x. x }, (record { pos = 21; ty = Syntax.ty_ref Syntax.erased Syntax.mut El.word; ref = λ x. x }, (record { pos = 23; ty = Syntax.ty_ref Syntax.erased Syntax.mut El.word; ref = λ x. x }, (record { pos = 25; ty = Syntax.ty_ref Syntax.erased Syntax.mut El.word; ref = λ x. x }, (record { pos = 5; st = []; d = 0; at = λ x. x }, (record { pos = 6; st = []; d = 0; at = λ x. x }, (record { pos = 7; ty = Syntax.ty_ref (Syntax.named 4) Syntax.imm (Syntax.ty_int Syntax.w16); ref = λ x. x }, (record { pos = 8; ty = Syntax.ty_ref (Syntax.named 5) Syntax.imm (Syntax.ty_int Syntax.w8); ref = λ x. x }, tt))))))))) (m26 record { before = record { before = record { before = record { before = c.before; load = c.load }; words = record { given = g } }; dispatch_arg = record { given = g' } }; dispatch_arg2 = record { given = g'' } } g'3) g'4 })))))
 
         lay1 : (c : After_rows_in_use) → at64 c.before.before.before.before.before.before.before.blocks (W0 c.before.before.before.before.before.before.before.κs c.before.before.before.before.before.before.before.args c.before.before.before.before.before.before.before.blocks) (m9 c.before (After_rows_in_use·gave c))
         lay1 = λ c. λ g.
-            (Path'.refl, (load-requires record { before = record { before = c.before; rows_in_use = c.rows_in_use }; load-arg = record { given = g } }, λ g'. lay2 record { before = record { before = record { before = c.before; rows_in_use = c.rows_in_use }; load-arg = record { given = g } }; load = Called.called ps·1 r·1 claims·.3 T18 (record { pos = 17; ty = Syntax.ty_ref Syntax.erased Syntax.imm El.named; ref = λ x. x }, (Num.v_at 10 λ x. x, tt)) (m13 record { before = c.before; rows_in_use = c.rows_in_use } g) g' }))
+            (Path'.refl, (load-requires record { before = record { before = c.before; rows_in_use = c.rows_in_use }; load_arg = record { given = g } }, λ g'. lay2 record { before = record { before = record { before = c.before; rows_in_use = c.rows_in_use }; load_arg = record { given = g } }; load = Called.called ps·1 r·1 claims·.3 T18 (record { pos = 17; ty = Syntax.ty_ref Syntax.erased Syntax.imm El.named; ref = λ x. x }, (Num.v_at 10 λ x. x, tt)) (m13 record { before = c.before; rows_in_use = c.rows_in_use } g) g' }))
 
         pub laid : (c : Start) → at74 c.blocks (W0 c.κs c.args c.blocks) (m0 c.κs c.args c.blocks)
         laid = λ c. λ g. λ g'. λ g''. λ g'3. λ g'4. λ g'5.
-            (Path'.refl, (rows-in-use-requires record { before = record { before = record { before = record { before = record { before = record { before = c; slice-known = record { given = g } }; slice-known2 = record { given = g' } }; slice-known3 = record { given = g'' } }; shared-slice-known = record { given = g'3 } }; shared-slice-known2 = record { given = g'4 } }; rows-in-use-arg = record { given = g'5 } }, λ g'6. lay1 record { before = record { before = record { before = record { before = record { before = record { before = record { before = c; slice-known = record { given = g } }; slice-known2 = record { given = g' } }; slice-known3 = record { given = g'' } }; shared-slice-known = record { given = g'3 } }; shared-slice-known2 = record { given = g'4 } }; rows-in-use-arg = record { given = g'5 } }; rows_in_use = Called.called ps·0 r·0 claims·.1 T10 (Num.v_at 9 λ x. x, (record { pos = 14; ty = Syntax.ty_ref Syntax.erased Syntax.imm El.word; ref = λ x. x }, tt)) (m8 record { before = record { before = record { before = record { before = record { before = c; slice-known = record { given = g } }; slice-known2 = record { given = g' } }; slice-known3 = record { given = g'' } }; shared-slice-known = record { given = g'3 } }; shared-slice-known2 = record { given = g'4 } } g'5) g'6 }))
+            (Path'.refl, (rows-in-use-requires record { before = record { before = record { before = record { before = record { before = record { before = c; slice-known = record { given = g } }; slice_known2 = record { given = g' } }; slice_known3 = record { given = g'' } }; shared_slice-known = record { given = g'3 } }; shared_slice_known2 = record { given = g'4 } }; rows_in_use_arg = record { given = g'5 } }, λ g'6. lay1 record { before = record { before = record { before = record { before = record { before = record { before = record { before = c; slice-known = record { given = g } }; slice_known2 = record { given = g' } }; slice_known3 = record { given = g'' } }; shared_slice-known = record { given = g'3 } }; shared_slice_known2 = record { given = g'4 } }; rows_in_use_arg = record { given = g'5 } }; rows_in_use = Called.called ps·0 r·0 claims·.1 T10 (Num.v_at 9 λ x. x, (record { pos = 14; ty = Syntax.ty_ref Syntax.erased Syntax.imm El.word; ref = λ x. x }, tt)) (m8 record { before = record { before = record { before = record { before = record { before = c; slice-known = record { given = g } }; slice_known2 = record { given = g' } }; slice_known3 = record { given = g'' } }; shared_slice-known = record { given = g'3 } }; shared_slice_known2 = record { given = g'4 } } g'5) g'6 }))
 
         module _ (κs : Lifetimes.Lfts 6) (qs : Lifetimes.Shares 6) where
           pub asked : (a : Kinds.Dens κs ps) → (good : Kinds.GoodsP κs ps a) → (pre : Pre· κs a) → (bs : List Nat.ℕ) → Φ bs (Any.want_q 6 ps r xs m κs qs a (Post· κs a)) (Function.init 6 ps r xs m κs qs a)

@@ -961,7 +961,7 @@ module _ (claims· : Claims) where
 
       pub record In_loop : Type 0 where
         pub before : At_loop
-        pub loop-test : In_loop·own before
+        pub loop_test : In_loop·own before
 
       abbrev pub m6 : (before : At_loop) → Typed.Mo T8
       m6 = λ before. s4 before.before.blocks (m5 before.before before.loop.words before.loop.t)
@@ -972,7 +972,7 @@ module _ (claims· : Claims) where
 
       pub record After_loop : Type 0 where
         pub before : At_loop
-        pub loop-test : After_loop·own before
+        pub loop_test : After_loop·own before
 
       abbrev pub m7 : (before : At_loop) → Typed.Mo T9
       m7 = λ before. s5 before.before.blocks (m5 before.before before.loop.words before.loop.t)
@@ -1071,12 +1071,12 @@ module _ (claims· : Claims) where
 
       pub record After_store_task : Type 0 where
         pub before : After_new
-        pub store-task : After_store_task·own before
+        pub store_task : After_store_task·own before
 
       abbrev pub After_store_task·gave : (c : After_store_task) → (s15 c.before.before.before.before.before.before.before.blocks).gives (m15 c.before.before (After_new·gave c.before))
       After_store_task·gave = λ c. Called.given ps·3 r·3 claims·.7 T18
           (record { pos = 11; ty = Syntax.ty_ref Syntax.erased Syntax.mut El.word; ref = λ x. x }, (record { pos = 12; st = []; d = 0; at = λ x. x }, (record { pos = 5; st = []; d = 0; at = λ x. x }, tt))) (m15 c.before.before
-          (After_new·gave c.before)) c.store-task
+          (After_new·gave c.before)) c.store_task
 
       abbrev pub m17 : (before : After_new) → (given : (s15 before.before.before.before.before.before.before.blocks).gives (m15 before.before (After_new·gave before))) → Typed.Mo T20
       m17 = λ before given. s16 before.before.before.before.before.before.before.blocks (m16 before given)
@@ -1129,15 +1129,15 @@ module _ (claims· : Claims) where
       module _ (loop-holds : Need_loop_holds) (cast-task-at : Need_cast_task_at) (task-at-requires : Need_task_at_requires) (task-of-requires : Need_task_of_requires) (slice-aggregate-store-task : Need_slice_aggregate_store_task)
           (new-requires : Need_new_requires) (store-task-requires : Need_store_task_requires) (add-t : Need_add_t) (loop-less : Need_loop_less) (loop-again : Need_loop_again) (returns : Need_returns) where
         lay8 : (c : After_loop) → at30 c.before.before.blocks (W0 c.before.before.κs c.before.before.args c.before.before.blocks) (m7 c.before)
-        lay8 = λ c. ((Path'.refl, (tt, tt)), returns record { before = c.before; loop-test = c.loop-test })
+        lay8 = λ c. ((Path'.refl, (tt, tt)), returns record { before = c.before; loop_test = c.loop_test })
 
         lay7 : (c : After_store_task) → at11 c.before.before.before.before.before.before.before.blocks (W3 c.before.before.before.before.before.before.before c.before.before.before.before.before.before.loop.words c.before.before.before.before.before.before.loop.t) (m16 c.before (After_store_task·gave c))
         lay7 = λ c.
-            (Path'.refl, λ g. (add-t record { before = record { before = c.before; store-task = c.store-task }; words2 = record { given = g } }, (μ·0 (Row.get 1 T4.locals (m3 c.before.before.before.before.before.before.before.κs c.before.before.before.before.before.before.before.args c.before.before.before.before.before.before.before.blocks)).now (Row.get 2 T4.locals (m3 c.before.before.before.before.before.before.before.κs c.before.before.before.before.before.before.before.args c.before.before.before.before.before.before.before.blocks)) (Row.get 3 T4.locals (m3 c.before.before.before.before.before.before.before.κs c.before.before.before.before.before.before.before.args c.before.before.before.before.before.before.before.blocks)) (Row.get 4 T4.locals (m3 c.before.before.before.before.before.before.before.κs c.before.before.before.before.before.before.before.args c.before.before.before.before.before.before.before.blocks)) (Row.get 3 T4.locals (m21 record { before = c.before; store-task = c.store-task } g)) (Row.get 4 T4.locals (m21 record { before = c.before; store-task = c.store-task } g)), loop-less record { before = record { before = c.before; store-task = c.store-task }; words2 = record { given = g } }, ((Row.get 3 T4.locals (m21 record { before = c.before; store-task = c.store-task } g), Row.get 4 T4.locals (m21 record { before = c.before; store-task = c.store-task } g)), Path'.refl {a = m21 record { before = c.before; store-task = c.store-task } g}, loop-again record { before = record { before = c.before; store-task = c.store-task }; words2 = record { given = g } }, Path'.refl {a = μ·0 (Row.get 1 T4.locals (m3 c.before.before.before.before.before.before.before.κs c.before.before.before.before.before.before.before.args c.before.before.before.before.before.before.before.blocks)).now (Row.get 2 T4.locals (m3 c.before.before.before.before.before.before.before.κs c.before.before.before.before.before.before.before.args c.before.before.before.before.before.before.before.blocks)) (Row.get 3 T4.locals (m3 c.before.before.before.before.before.before.before.κs c.before.before.before.before.before.before.before.args c.before.before.before.before.before.before.before.blocks)) (Row.get 4 T4.locals (m3 c.before.before.before.before.before.before.before.κs c.before.before.before.before.before.before.before.args c.before.before.before.before.before.before.before.blocks)) (Row.get 3 T4.locals (m21 record { before = c.before; store-task = c.store-task } g)) (Row.get 4 T4.locals (m21 record { before = c.before; store-task = c.store-task } g))}))))
+            (Path'.refl, λ g. (add-t record { before = record { before = c.before; store_task = c.store_task }; words2 = record { given = g } }, (μ·0 (Row.get 1 T4.locals (m3 c.before.before.before.before.before.before.before.κs c.before.before.before.before.before.before.before.args c.before.before.before.before.before.before.before.blocks)).now (Row.get 2 T4.locals (m3 c.before.before.before.before.before.before.before.κs c.before.before.before.before.before.before.before.args c.before.before.before.before.before.before.before.blocks)) (Row.get 3 T4.locals (m3 c.before.before.before.before.before.before.before.κs c.before.before.before.before.before.before.before.args c.before.before.before.before.before.before.before.blocks)) (Row.get 4 T4.locals (m3 c.before.before.before.before.before.before.before.κs c.before.before.before.before.before.before.before.args c.before.before.before.before.before.before.before.blocks)) (Row.get 3 T4.locals (m21 record { before = c.before; store_task = c.store_task } g)) (Row.get 4 T4.locals (m21 record { before = c.before; store_task = c.store_task } g)), loop-less record { before = record { before = c.before; store_task = c.store_task }; words2 = record { given = g } }, ((Row.get 3 T4.locals (m21 record { before = c.before; store_task = c.store_task } g), Row.get 4 T4.locals (m21 record { before = c.before; store_task = c.store_task } g)), Path'.refl {a = m21 record { before = c.before; store_task = c.store_task } g}, loop-again record { before = record { before = c.before; store_task = c.store_task }; words2 = record { given = g } }, Path'.refl {a = μ·0 (Row.get 1 T4.locals (m3 c.before.before.before.before.before.before.before.κs c.before.before.before.before.before.before.before.args c.before.before.before.before.before.before.before.blocks)).now (Row.get 2 T4.locals (m3 c.before.before.before.before.before.before.before.κs c.before.before.before.before.before.before.before.args c.before.before.before.before.before.before.before.blocks)) (Row.get 3 T4.locals (m3 c.before.before.before.before.before.before.before.κs c.before.before.before.before.before.before.before.args c.before.before.before.before.before.before.before.blocks)) (Row.get 4 T4.locals (m3 c.before.before.before.before.before.before.before.κs c.before.before.before.before.before.before.before.args c.before.before.before.before.before.before.before.blocks)) (Row.get 3 T4.locals (m21 record { before = c.before; store_task = c.store_task } g)) (Row.get 4 T4.locals (m21 record { before = c.before; store_task = c.store_task } g))}))))
 
         lay6 : (c : After_new) → at12 c.before.before.before.before.before.before.blocks (W3 c.before.before.before.before.before.before c.before.before.before.before.before.loop.words c.before.before.before.before.before.loop.t) (m15 c.before (After_new·gave c))
         lay6 = λ c.
-            (store-task-requires record { before = c.before; new = c.new }, λ g. lay7 record { before = record { before = c.before; new = c.new }; store-task = Called.called ps·3 r·3 claims·.7 T18 (record { pos = 11; ty = Syntax.ty_ref Syntax.erased Syntax.mut El.word; ref = λ x. x }, (record { pos = 12; st = []; d = 0; at = λ x. x }, (record { pos = 5; st = []; d = 0; at = λ x. x }, tt))) (m15 c.before (After_new·gave c)) g })
+            (store-task-requires record { before = c.before; new = c.new }, λ g. lay7 record { before = record { before = c.before; new = c.new }; store_task = Called.called ps·3 r·3 claims·.7 T18 (record { pos = 11; ty = Syntax.ty_ref Syntax.erased Syntax.mut El.word; ref = λ x. x }, (record { pos = 12; st = []; d = 0; at = λ x. x }, (record { pos = 5; st = []; d = 0; at = λ x. x }, tt))) (m15 c.before (After_new·gave c)) g })
 
         lay5 : (c : After_task_of) → at17 c.before.before.before.before.blocks (W3 c.before.before.before.before c.before.before.before.loop.words c.before.before.before.loop.t) (m11 c.before
             (After_task_of·gave c))
@@ -1150,17 +1150,17 @@ module _ (claims· : Claims) where
 
         lay3 : (c : In_loop) → at21 c.before.before.blocks (W3 c.before.before c.before.loop.words c.before.loop.t) (m6 c.before)
         lay3 = λ c.
-            (cast-task-at record { before = c.before; loop-test = c.loop-test }, (task-at-requires record { before = c.before; loop-test = c.loop-test }, λ g. lay4 record { before = record { before = c.before; loop-test = c.loop-test }; task_at = Called.called ps·0 r·0 claims·.1 T10 (record { pos = 1; ty = Syntax.ty_ref (Syntax.named 0) Syntax.imm El.named; ref = λ x. x }, (Num.v_at 8 λ x. x, tt)) (m8 c.before) g }))
+            (cast-task-at record { before = c.before; loop_test = c.loop_test }, (task-at-requires record { before = c.before; loop_test = c.loop_test }, λ g. lay4 record { before = record { before = c.before; loop_test = c.loop_test }; task_at = Called.called ps·0 r·0 claims·.1 T10 (record { pos = 1; ty = Syntax.ty_ref (Syntax.named 0) Syntax.imm El.named; ref = λ x. x }, (Num.v_at 8 λ x. x, tt)) (m8 c.before) g }))
 
         lay2 : (c : After_loop) → at3 c.before.before.blocks (W4 c.before.before c.before.loop.words c.before.loop.t) (m5 c.before.before c.before.loop.words c.before.loop.t)
-        lay2 = λ c. lay8 record { before = c.before; loop-test = c.loop-test }
+        lay2 = λ c. lay8 record { before = c.before; loop_test = c.loop_test }
 
         lay1 : (c : In_loop) → at1 c.before.before.blocks (W4 c.before.before c.before.loop.words c.before.loop.t) (m5 c.before.before c.before.loop.words c.before.loop.t)
-        lay1 = λ c. lay3 record { before = c.before; loop-test = c.loop-test }
+        lay1 = λ c. lay3 record { before = c.before; loop_test = c.loop_test }
 
         pub laid : (c : Start) → at34 c.blocks (W0 c.κs c.args c.blocks) (m0 c.κs c.args c.blocks)
         laid = λ c.
-            (((Row.get 3 T4.locals (m3 c.κs c.args c.blocks), Row.get 4 T4.locals (m3 c.κs c.args c.blocks)), Path'.refl {a = m3 c.κs c.args c.blocks}, loop-holds c), λ vs inv. (tt, (λ taken. lay1 record { before = record { before = c; loop = record { words = vs.0; t = vs.1; inv = inv } }; loop-test = record { taken = Tests.ltb-true (Row.get 4 T4.locals (m4 c vs.0 vs.1)) (Row.get 2 T4.locals (m4 c vs.0 vs.1)) taken } }, λ left. lay2 record { before = record { before = c; loop = record { words = vs.0; t = vs.1; inv = inv } }; loop-test = record { left = Tests.ltb-false (Row.get 4 T4.locals (m4 c vs.0 vs.1)) (Row.get 2 T4.locals (m4 c vs.0 vs.1)) left } })))
+            (((Row.get 3 T4.locals (m3 c.κs c.args c.blocks), Row.get 4 T4.locals (m3 c.κs c.args c.blocks)), Path'.refl {a = m3 c.κs c.args c.blocks}, loop-holds c), λ vs inv. (tt, (λ taken. lay1 record { before = record { before = c; loop = record { words = vs.0; t = vs.1; inv = inv } }; loop_test = record { taken = Tests.ltb-true (Row.get 4 T4.locals (m4 c vs.0 vs.1)) (Row.get 2 T4.locals (m4 c vs.0 vs.1)) taken } }, λ left. lay2 record { before = record { before = c; loop = record { words = vs.0; t = vs.1; inv = inv } }; loop_test = record { left = Tests.ltb-false (Row.get 4 T4.locals (m4 c vs.0 vs.1)) (Row.get 2 T4.locals (m4 c vs.0 vs.1)) left } })))
 
         module _ (κs : Lifetimes.Lfts 1) (qs : Lifetimes.Shares 1) where
           pub asked : (a : Kinds.Dens κs ps) → (good : Kinds.GoodsP κs ps a) → (pre : Pre· κs a) → (bs : List Nat.ℕ) → Φ bs (Any.want_q 1 ps r xs m κs qs a (Post· κs a)) (Function.init 1 ps r xs m κs qs a)

@@ -105,5 +105,5 @@ module _ {M : Type 1} where
       Code.function (Code.unfolded 𝓤 𝓛.H 𝓜 𝓡) (λ κs a g. tt) (λ κs. Reads'.owns κs record { M = M; 𝓤 = 𝓤; 𝓛 = 𝓛; 𝓜 = 𝓜; 𝓡 = 𝓡 }) (Reads'.passes record { M = M; 𝓤 = 𝓤; 𝓛 = 𝓛; 𝓜 = 𝓜; 𝓡 = 𝓡 }) λ g. closed 𝓤 𝓛
       (Run.Over 𝓛 𝓜 𝓡 Code.env) (Reads''.known record { M = M; 𝓤 = 𝓤; 𝓛 = 𝓛; 𝓜 = 𝓜; 𝓡 = 𝓡 } Code.env Symbol'.name Symbol'.routine Code.calls-records-tasks::task_at (Met'.met 𝓤 𝓛 𝓜 𝓡)) (Reads'3.known
       record { M = M; 𝓤 = 𝓤; 𝓛 = 𝓛; 𝓜 = 𝓜; 𝓡 = 𝓡 } Code.env Symbol''.name Symbol''.routine Code.calls-records-tasks::task_of (Met''.met 𝓤 𝓛 𝓜 𝓡)) (Reads.known record { M = M; 𝓤 = 𝓤; 𝓛 = 𝓛; 𝓜 = 𝓜; 𝓡 = 𝓡 } Code.env
-      Symbol.name Symbol.routine Code.calls-asyncio::TaskId::new (Met.met 𝓤 𝓛 𝓜 𝓡)) (Reads'4.known record { M = M; 𝓤 = 𝓤; 𝓛 = 𝓛; 𝓜 = 𝓜; 𝓡 = 𝓡 } Code.env Symbol'3.name Symbol'3.routine Code.calls-rows::tables::store-task (Met'3.met
+      Symbol.name Symbol.routine Code.calls-asyncio::TaskId::new (Met.met 𝓤 𝓛 𝓜 𝓡)) (Reads'4.known record { M = M; 𝓤 = 𝓤; 𝓛 = 𝓛; 𝓜 = 𝓜; 𝓡 = 𝓡 } Code.env Symbol'3.name Symbol'3.routine Code.calls-rows::tables::store_task (Met'3.met
       𝓤 𝓛 𝓜 𝓡))

@@ -917,20 +917,20 @@ module _ (claims· : Claims) where
 
       pub record After_shared_slice_known : Type 0 where
         pub before : Start
-        pub shared-slice-known : After_shared_slice_known·own before
+        pub shared_slice-known : After_shared_slice_known·own before
 
       abbrev pub Need_loop_holds : Type 0
-      Need_loop_holds = (c : After_shared_slice_known) → Inv·0 (Row.get 1 T3.locals (m2 c.before c.shared-slice-known.given)).now (Row.get 2 T3.locals (m2 c.before c.shared-slice-known.given)).now (Row.get 3 T3.locals (m2 c.before c.shared-slice-known.given)) (Row.get 4 T3.locals (m2 c.before c.shared-slice-known.given)) (Row.get 1 T3.locals (m2 c.before c.shared-slice-known.given)).now (Row.get 4 T3.locals (m2 c.before c.shared-slice-known.given))
+      Need_loop_holds = (c : After_shared_slice_known) → Inv·0 (Row.get 1 T3.locals (m2 c.before c.shared_slice-known.given)).now (Row.get 2 T3.locals (m2 c.before c.shared_slice-known.given)).now (Row.get 3 T3.locals (m2 c.before c.shared_slice-known.given)) (Row.get 4 T3.locals (m2 c.before c.shared_slice-known.given)) (Row.get 1 T3.locals (m2 c.before c.shared_slice-known.given)).now (Row.get 4 T3.locals (m2 c.before c.shared_slice-known.given))
 
       abbrev pub m3 : (before : After_shared_slice_known) → (tasks : List (El.row).Denot) → (t : (Rows.sc_here (Row.s_int Syntax.w16)).Mod) → Typed.Mo T3
       m3 = λ before tasks t. Row.set 4 (4, Rows.sc_here (Row.s_int Syntax.w16)) t (Row.set_row 1 (1, Mut.mslice El.row (Syntax.ty_ref (Syntax.named 0) Syntax.mut El.named) 0) T3.locals) (Row.set 1
           (1, Mut.mslice El.row (Syntax.ty_ref (Syntax.named 0) Syntax.mut El.named) 0)
-          record { ref_ptr = (Row.get 1 T3.locals (m2 before.before before.shared-slice-known.given)).ptr; ghost_name = (Row.get 1 T3.locals (m2 before.before before.shared-slice-known.given)).name; now = tasks } T3.locals
-          (m2 before.before before.shared-slice-known.given))
+          record { ref_ptr = (Row.get 1 T3.locals (m2 before.before before.shared_slice-known.given)).ptr; ghost_name = (Row.get 1 T3.locals (m2 before.before before.shared_slice-known.given)).name; now = tasks } T3.locals
+          (m2 before.before before.shared_slice-known.given))
 
       abbrev W3 : (before : After_shared_slice_known) → (tasks : List (El.row).Denot) → (t : (Rows.sc_here (Row.s_int Syntax.w16)).Mod) → Typed.Want O3
       W3 = λ before tasks t. Typed.in_loop T3 O2 (Typed.Round T3 O2 put0 (λ u vs. Inv·0 (Row.get 1 T3.locals u).now (Row.get 2 T3.locals u).now (Row.get 3 T3.locals u) (Row.get 4 T3.locals u) vs.0 vs.1) (λ u vs. μ·0
-          (Row.get 1 T3.locals u).now (Row.get 2 T3.locals u).now (Row.get 3 T3.locals u) (Row.get 4 T3.locals u) vs.0 vs.1) at23 (m2 before.before before.shared-slice-known.given) (tasks, t)) (W2 before.before before.shared-slice-known.given)
+          (Row.get 1 T3.locals u).now (Row.get 2 T3.locals u).now (Row.get 3 T3.locals u) (Row.get 4 T3.locals u) vs.0 vs.1) at23 (m2 before.before before.shared_slice-known.given) (tasks, t)) (W2 before.before before.shared_slice-known.given)
 
       abbrev pub m4 : (before : After_shared_slice_known) → (tasks : List (El.row).Denot) → (t : (Rows.sc_here (Row.s_int Syntax.w16)).Mod) → Typed.Mo T5
       m4 = λ before tasks t. s2.next (m3 before tasks t)
@@ -942,8 +942,8 @@ module _ (claims· : Claims) where
         pub record At_loop·own : Type 0 where
           pub tasks : List (El.row).Denot
           pub t : (Rows.sc_here (Row.s_int Syntax.w16)).Mod
-          pub inv : Inv·0 (Row.get 1 T3.locals (m2 before·.before before·.shared-slice-known.given)).now (Row.get 2 T3.locals (m2 before·.before before·.shared-slice-known.given)).now (Row.get 3 T3.locals (m2
-              before·.before before·.shared-slice-known.given)) (Row.get 4 T3.locals (m2 before·.before before·.shared-slice-known.given)) tasks t
+          pub inv : Inv·0 (Row.get 1 T3.locals (m2 before·.before before·.shared_slice-known.given)).now (Row.get 2 T3.locals (m2 before·.before before·.shared_slice-known.given)).now (Row.get 3 T3.locals (m2
+              before·.before before·.shared_slice-known.given)) (Row.get 4 T3.locals (m2 before·.before before·.shared_slice-known.given)) tasks t
 
       pub record At_loop : Type 0 where
         pub before : After_shared_slice_known
@@ -955,7 +955,7 @@ module _ (claims· : Claims) where
 
       pub record In_loop : Type 0 where
         pub before : At_loop
-        pub loop-test : In_loop·own before
+        pub loop_test : In_loop·own before
 
       abbrev pub m5 : (before : At_loop) → Typed.Mo T7
       m5 = λ before. s3 (m4 before.before before.loop.tasks before.loop.t)
@@ -966,7 +966,7 @@ module _ (claims· : Claims) where
 
       pub record After_loop : Type 0 where
         pub before : At_loop
-        pub loop-test : After_loop·own before
+        pub loop_test : After_loop·own before
 
       abbrev pub m6 : (before : At_loop) → Typed.Mo T8
       m6 = λ before. s4 (m4 before.before before.loop.tasks before.loop.t)
@@ -1021,32 +1021,32 @@ module _ (claims· : Claims) where
 
       pub record After_put_task_arg : Type 0 where
         pub before : After_load_task
-        pub put-task-arg : After_put_task_arg·own before
+        pub put_task_arg : After_put_task_arg·own before
 
       abbrev pub Need_cast_put_task : Type 0
-      Need_cast_put_task = (c : After_put_task_arg) → s11.asks (m11 c.before c.put-task-arg.given)
+      Need_cast_put_task = (c : After_put_task_arg) → s11.asks (m11 c.before c.put_task_arg.given)
 
       abbrev pub m12 : (before : After_load_task) → (given : s9.gives (m9 before.before (After_load_task·gave before))) → Typed.Mo T15
       m12 = λ before given. s11.next (m11 before given)
 
       abbrev pub Need_record_of_requires : Type 0
-      Need_record_of_requires = (c : After_put_task_arg) → s12.asks (m12 c.before c.put-task-arg.given)
+      Need_record_of_requires = (c : After_put_task_arg) → s12.asks (m12 c.before c.put_task_arg.given)
 
-      abbrev pub m13 : (before : After_put_task_arg) → (given : s12.gives (m12 before.before before.put-task-arg.given)) → Typed.Mo T16
-      m13 = λ before given. s12.next (m12 before.before before.put-task-arg.given) given
+      abbrev pub m13 : (before : After_put_task_arg) → (given : s12.gives (m12 before.before before.put_task_arg.given)) → Typed.Mo T16
+      m13 = λ before given. s12.next (m12 before.before before.put_task_arg.given) given
 
       module _ (before· : After_put_task_arg) where
         abbrev pub After_record_of·own : Type 0
-        After_record_of·own = Called.Called ps·2 r·2 claims·.5 T15 (record { pos = 5; st = []; d = 0; at = λ x. x }, tt) (m12 before·.before before·.put-task-arg.given)
+        After_record_of·own = Called.Called ps·2 r·2 claims·.5 T15 (record { pos = 5; st = []; d = 0; at = λ x. x }, tt) (m12 before·.before before·.put_task_arg.given)
 
       pub record After_record_of : Type 0 where
         pub before : After_put_task_arg
         pub record_of : After_record_of·own before
 
-      abbrev pub After_record_of·gave : (c : After_record_of) → s12.gives (m12 c.before.before c.before.put-task-arg.given)
-      After_record_of·gave = λ c. Called.given ps·2 r·2 claims·.5 T15 (record { pos = 5; st = []; d = 0; at = λ x. x }, tt) (m12 c.before.before c.before.put-task-arg.given) c.record_of
+      abbrev pub After_record_of·gave : (c : After_record_of) → s12.gives (m12 c.before.before c.before.put_task_arg.given)
+      After_record_of·gave = λ c. Called.given ps·2 r·2 claims·.5 T15 (record { pos = 5; st = []; d = 0; at = λ x. x }, tt) (m12 c.before.before c.before.put_task_arg.given) c.record_of
 
-      abbrev pub m14 : (before : After_put_task_arg) → (given : s12.gives (m12 before.before before.put-task-arg.given)) → Typed.Mo T17
+      abbrev pub m14 : (before : After_put_task_arg) → (given : s12.gives (m12 before.before before.put_task_arg.given)) → Typed.Mo T17
       m14 = λ before given. s13 (m13 before given)
 
       abbrev pub Need_put_task_requires : Type 0
@@ -1095,12 +1095,12 @@ module _ (claims· : Claims) where
       m20 = λ before given. s21.next (m19 before given)
 
       abbrev pub Need_loop_less : Type 0
-      Need_loop_less = (c : After_tasks) → Nat.◌<◌ (μ·0 (Row.get 1 T3.locals (m2 c.before.before.before.before.before.before.before.before.before c.before.before.before.before.before.before.before.before.shared-slice-known.given)).now (Row.get 2 T3.locals (m2 c.before.before.before.before.before.before.before.before.before c.before.before.before.before.before.before.before.before.shared-slice-known.given)).now (Row.get 3 T3.locals (m2 c.before.before.before.before.before.before.before.before.before c.before.before.before.before.before.before.before.before.shared-slice-known.given)) (Row.get 4
-          T3.locals (m2 c.before.before.before.before.before.before.before.before.before c.before.before.before.before.before.before.before.before.shared-slice-known.given)) (Row.get 1 T3.locals (m20 c.before c.tasks.given)).now (Row.get 4 T3.locals (m20 c.before c.tasks.given))) (μ·0 (Row.get 1 T3.locals (m2 c.before.before.before.before.before.before.before.before.before c.before.before.before.before.before.before.before.before.shared-slice-known.given)).now (Row.get 2 T3.locals (m2 c.before.before.before.before.before.before.before.before.before c.before.before.before.before.before.before.before.before.shared-slice-known.given)).now (Row.get 3 T3.locals (m2 c.before.before.before.before.before.before.before.before.before c.before.before.before.before.before.before.before.before.shared-slice-known.given)) (Row.get 4 T3.locals (m2 c.before.before.before.before.before.before.before.before.before c.before.before.before.before.before.before.before.before.shared-slice-known.given)) c.before.before.before.before.before.before.before.loop.tasks c.before.before.before.before.before.before.before.loop.t)
+      Need_loop_less = (c : After_tasks) → Nat.◌<◌ (μ·0 (Row.get 1 T3.locals (m2 c.before.before.before.before.before.before.before.before.before c.before.before.before.before.before.before.before.before.shared_slice-known.given)).now (Row.get 2 T3.locals (m2 c.before.before.before.before.before.before.before.before.before c.before.before.before.before.before.before.before.before.shared_slice-known.given)).now (Row.get 3 T3.locals (m2 c.before.before.before.before.before.before.before.before.before c.before.before.before.before.before.before.before.before.shared_slice-known.given)) (Row.get 4
+          T3.locals (m2 c.before.before.before.before.before.before.before.before.before c.before.before.before.before.before.before.before.before.shared_slice-known.given)) (Row.get 1 T3.locals (m20 c.before c.tasks.given)).now (Row.get 4 T3.locals (m20 c.before c.tasks.given))) (μ·0 (Row.get 1 T3.locals (m2 c.before.before.before.before.before.before.before.before.before c.before.before.before.before.before.before.before.before.shared_slice-known.given)).now (Row.get 2 T3.locals (m2 c.before.before.before.before.before.before.before.before.before c.before.before.before.before.before.before.before.before.shared_slice-known.given)).now (Row.get 3 T3.locals (m2 c.before.before.before.before.before.before.before.before.before c.before.before.before.before.before.before.before.before.shared_slice-known.given)) (Row.get 4 T3.locals (m2 c.before.before.before.before.before.before.before.before.before c.before.before.before.before.before.before.before.before.shared_slice-known.given)) c.before.before.before.before.before.before.before.loop.tasks c.before.before.before.before.before.before.before.loop.t)
 
       abbrev pub Need_loop_again : Type 0
-      Need_loop_again = (c : After_tasks) → Inv·0 (Row.get 1 T3.locals (m2 c.before.before.before.before.before.before.before.before.before c.before.before.before.before.before.before.before.before.shared-slice-known.given)).now (Row.get 2 T3.locals (m2 c.before.before.before.before.before.before.before.before.before c.before.before.before.before.before.before.before.before.shared-slice-known.given)).now (Row.get 3 T3.locals (m2 c.before.before.before.before.before.before.before.before.before c.before.before.before.before.before.before.before.before.shared-slice-known.given)) (Row.get 4
-          T3.locals (m2 c.before.before.before.before.before.before.before.before.before c.before.before.before.before.before.before.before.before.shared-slice-known.given)) (Row.get 1 T3.locals (m20 c.before c.tasks.given)).now (Row.get 4 T3.locals (m20 c.before c.tasks.given))
+      Need_loop_again = (c : After_tasks) → Inv·0 (Row.get 1 T3.locals (m2 c.before.before.before.before.before.before.before.before.before c.before.before.before.before.before.before.before.before.shared_slice-known.given)).now (Row.get 2 T3.locals (m2 c.before.before.before.before.before.before.before.before.before c.before.before.before.before.before.before.before.before.shared_slice-known.given)).now (Row.get 3 T3.locals (m2 c.before.before.before.before.before.before.before.before.before c.before.before.before.before.before.before.before.before.shared_slice-known.given)) (Row.get 4
+          T3.locals (m2 c.before.before.before.before.before.before.before.before.before c.before.before.before.before.before.before.before.before.shared_slice-known.given)) (Row.get 1 T3.locals (m20 c.before c.tasks.given)).now (Row.get 4 T3.locals (m20 c.before c.tasks.given))
 
       abbrev pub m21 : (before : At_loop) → Typed.Mo T26
       m21 = λ before. s22 (m6 before)
@@ -1122,12 +1122,12 @@ module _ (claims· : Claims) where
           Need_put_task_requires) (add-t : Need_add_t) (loop-less : Need_loop_less) (loop-again : Need_loop_again) (same_length : Need_same_length) (returns : Need_returns) where
         lay8 : (c : After_loop) → at29 (W0 c.before.before.before.κs c.before.before.before.args) (m6 c.before)
         lay8 = λ c.
-            ((MutSlice.fix_len (Row.get 1 T28.locals (m23 c.before)).ptr (Row.get 1 T28.locals (m23 c.before)).name (Row.get 1 T28.locals (m23 c.before)).now (dens c.before.before.before.κs c.before.before.before.args).0.now (same_length record { before = c.before; loop-test = c.loop-test }), (Path'.refl, (tt, tt))), returns record { before = c.before; loop-test = c.loop-test })
+            ((MutSlice.fix_len (Row.get 1 T28.locals (m23 c.before)).ptr (Row.get 1 T28.locals (m23 c.before)).name (Row.get 1 T28.locals (m23 c.before)).now (dens c.before.before.before.κs c.before.before.before.args).0.now (same_length record { before = c.before; loop_test = c.loop_test }), (Path'.refl, (tt, tt))), returns record { before = c.before; loop_test = c.loop_test })
 
         lay7 : (c : After_put_task) → at11 (W3 c.before.before.before.before.before.before.before c.before.before.before.before.before.before.loop.tasks c.before.before.before.before.before.before.loop.t)
             (m15 c.before (After_put_task·gave c))
         lay7 = λ c.
-            (Path'.refl, λ g. (add-t record { before = record { before = c.before; put_task = c.put_task }; tasks = record { given = g } }, (μ·0 (Row.get 1 T3.locals (m2 c.before.before.before.before.before.before.before.before c.before.before.before.before.before.before.before.shared-slice-known.given)).now (Row.get 2 T3.locals (m2 c.before.before.before.before.before.before.before.before c.before.before.before.before.before.before.before.shared-slice-known.given)).now (Row.get 3 T3.locals (m2 c.before.before.before.before.before.before.before.before c.before.before.before.before.before.before.before.shared-slice-known.given)) (Row.get 4 T3.locals (m2 c.before.before.before.before.before.before.before.before c.before.before.before.before.before.before.before.shared-slice-known.given)) (Row.get 1 T3.locals (m20 record { before = c.before; put_task = c.put_task } g)).now (Row.get 4 T3.locals (m20 record { before = c.before; put_task = c.put_task } g)), loop-less record { before = record { before = c.before; put_task = c.put_task }; tasks = record { given = g } }, (((Row.get 1 T3.locals (m20 record { before = c.before; put_task = c.put_task } g)).now, Row.get 4 T3.locals (m20 record { before = c.before; put_task = c.put_task } g)), Path'.refl {a = m20 record { before = c.before; put_task = c.put_task } g}, loop-again record { before = record { before = c.before; put_task = c.put_task }; tasks = record { given = g } }, Path'.refl {a = μ·0 (Row.get 1 T3.locals (m2 c.before.before.before.before.before.before.before.before c.before.before.before.before.before.before.before.shared-slice-known.given)).now (Row.get 2 T3.locals (m2 c.before.before.before.before.before.before.before.before c.before.before.before.before.before.before.before.shared-slice-known.given)).now (Row.get 3 T3.locals (m2 c.before.before.before.before.before.before.before.before c.before.before.before.before.before.before.before.shared-slice-known.given)) (Row.get 4 T3.locals (m2 c.before.before.before.before.before.before.before.before c.before.before.before.before.before.before.before.shared-slice-known.given)) (Row.get 1 T3.locals (m20 record { before = c.before; put_task = c.put_task } g)).now (Row.get 4 T3.locals (m20 record { before = c.before; put_task = c.put_task } g))}))))
+            (Path'.refl, λ g. (add-t record { before = record { before = c.before; put_task = c.put_task }; tasks = record { given = g } }, (μ·0 (Row.get 1 T3.locals (m2 c.before.before.before.before.before.before.before.before c.before.before.before.before.before.before.before.shared_slice-known.given)).now (Row.get 2 T3.locals (m2 c.before.before.before.before.before.before.before.before c.before.before.before.before.before.before.before.shared_slice-known.given)).now (Row.get 3 T3.locals (m2 c.before.before.before.before.before.before.before.before c.before.before.before.before.before.before.before.shared_slice-known.given)) (Row.get 4 T3.locals (m2 c.before.before.before.before.before.before.before.before c.before.before.before.before.before.before.before.shared_slice-known.given)) (Row.get 1 T3.locals (m20 record { before = c.before; put_task = c.put_task } g)).now (Row.get 4 T3.locals (m20 record { before = c.before; put_task = c.put_task } g)), loop-less record { before = record { before = c.before; put_task = c.put_task }; tasks = record { given = g } }, (((Row.get 1 T3.locals (m20 record { before = c.before; put_task = c.put_task } g)).now, Row.get 4 T3.locals (m20 record { before = c.before; put_task = c.put_task } g)), Path'.refl {a = m20 record { before = c.before; put_task = c.put_task } g}, loop-again record { before = record { before = c.before; put_task = c.put_task }; tasks = record { given = g } }, Path'.refl {a = μ·0 (Row.get 1 T3.locals (m2 c.before.before.before.before.before.before.before.before c.before.before.before.before.before.before.before.shared_slice-known.given)).now (Row.get 2 T3.locals (m2 c.before.before.before.before.before.before.before.before c.before.before.before.before.before.before.before.shared_slice-known.given)).now (Row.get 3 T3.locals (m2 c.before.before.before.before.before.before.before.before c.before.before.before.before.before.before.before.shared_slice-known.given)) (Row.get 4 T3.locals (m2 c.before.before.before.before.before.before.before.before c.before.before.before.before.before.before.before.shared_slice-known.given)) (Row.get 1 T3.locals (m20 record { before = c.before; put_task = c.put_task } g)).now (Row.get 4 T3.locals (m20 record { before = c.before; put_task = c.put_task } g))}))))
 
         lay6 : (c : After_record_of) → at13 (W3 c.before.before.before.before.before.before c.before.before.before.before.before.loop.tasks c.before.before.before.before.before.loop.t) (m13 c.before
             (After_record_of·gave c))
@@ -1136,7 +1136,7 @@ module _ (claims· : Claims) where
 
         lay5 : (c : After_load_task) → at19 (W3 c.before.before.before.before c.before.before.before.loop.tasks c.before.before.before.loop.t) (m8 c.before (After_load_task·gave c))
         lay5 = λ c. λ g.
-            (Path'.refl, (cast-put-task record { before = record { before = c.before; load-task = c.load-task }; put-task-arg = record { given = g } }, (record-of-requires record { before = record { before = c.before; load-task = c.load-task }; put-task-arg = record { given = g } }, λ g'. lay6 record { before = record { before = record { before = c.before; load-task = c.load-task }; put-task-arg = record { given = g } }; record_of = Called.called ps·2 r·2 claims·.5 T15 (record { pos = 5; st = []; d = 0; at = λ x. x }, tt) (m12 record { before = c.before; load-task = c.load-task } g) g' })))
+            (Path'.refl, (cast-put-task record { before = record { before = c.before; load-task = c.load-task }; put_task_arg = record { given = g } }, (record-of-requires record { before = record { before = c.before; load-task = c.load-task }; put_task_arg = record { given = g } }, λ g'. lay6 record { before = record { before = record { before = c.before; load-task = c.load-task }; put_task_arg = record { given = g } }; record_of = Called.called ps·2 r·2 claims·.5 T15 (record { pos = 5; st = []; d = 0; at = λ x. x }, tt) (m12 record { before = c.before; load-task = c.load-task } g) g' })))
 
         lay4 : (c : After_new) → at20 (W3 c.before.before.before c.before.before.loop.tasks c.before.before.loop.t) (m7 c.before (After_new·gave c))
         lay4 = λ c.
@@ -1144,17 +1144,17 @@ module _ (claims· : Claims) where
 
         lay3 : (c : In_loop) → at21 (W3 c.before.before c.before.loop.tasks c.before.loop.t) (m5 c.before)
         lay3 = λ c.
-            (new-requires record { before = c.before; loop-test = c.loop-test }, λ g. lay4 record { before = record { before = c.before; loop-test = c.loop-test }; new = Called.called ps·0 r·0 claims·.1 T6 (Num.v_at 4 λ x. x, tt) (m5 c.before) g })
+            (new-requires record { before = c.before; loop_test = c.loop_test }, λ g. lay4 record { before = record { before = c.before; loop_test = c.loop_test }; new = Called.called ps·0 r·0 claims·.1 T6 (Num.v_at 4 λ x. x, tt) (m5 c.before) g })
 
         lay2 : (c : After_loop) → at3 (W4 c.before.before c.before.loop.tasks c.before.loop.t) (m4 c.before.before c.before.loop.tasks c.before.loop.t)
-        lay2 = λ c. lay8 record { before = c.before; loop-test = c.loop-test }
+        lay2 = λ c. lay8 record { before = c.before; loop_test = c.loop_test }
 
         lay1 : (c : In_loop) → at1 (W4 c.before.before c.before.loop.tasks c.before.loop.t) (m4 c.before.before c.before.loop.tasks c.before.loop.t)
-        lay1 = λ c. lay3 record { before = c.before; loop-test = c.loop-test }
+        lay1 = λ c. lay3 record { before = c.before; loop_test = c.loop_test }
 
         pub laid : (c : Start) → at32 (W0 c.κs c.args) (m0 c.κs c.args)
         laid = λ c. λ g.
-            ((((Row.get 1 T3.locals (m2 c g)).now, Row.get 4 T3.locals (m2 c g)), Path'.refl {a = m2 c g}, loop-holds record { before = c; shared-slice-known = record { given = g } }), λ vs inv. (tt, (λ taken. lay1 record { before = record { before = record { before = c; shared-slice-known = record { given = g } }; loop = record { tasks = vs.0; t = vs.1; inv = inv } }; loop-test = record { taken = Tests.ltb-true (Row.get 4 T3.locals (m3 record { before = c; shared-slice-known = record { given = g } } vs.0 vs.1)) (Row.get 3 T3.locals (m3 record { before = c; shared-slice-known = record { given = g } } vs.0 vs.1)) taken } }, λ left. lay2 record { before = record { before = record { before = c; shared-slice-known = record { given = g } }; loop = record { tasks = vs.0; t = vs.1; inv = inv } }; loop-test = record { left = Tests.ltb-false (Row.get 4 T3.locals (m3 record { before = c; shared-slice-known = record { given = g } } vs.0 vs.1)) (Row.get 3 T3.locals (m3 record { before = c; shared-slice-known = record { given = g } } vs.0 vs.1)) left } })))
+            ((((Row.get 1 T3.locals (m2 c g)).now, Row.get 4 T3.locals (m2 c g)), Path'.refl {a = m2 c g}, loop-holds record { before = c; shared_slice-known = record { given = g } }), λ vs inv. (tt, (λ taken. lay1 record { before = record { before = record { before = c; shared_slice-known = record { given = g } }; loop = record { tasks = vs.0; t = vs.1; inv = inv } }; loop_test = record { taken = Tests.ltb-true (Row.get 4 T3.locals (m3 record { before = c; shared_slice-known = record { given = g } } vs.0 vs.1)) (Row.get 3 T3.locals (m3 record { before = c; shared_slice-known = record { given = g } } vs.0 vs.1)) taken } }, λ left. lay2 record { before = record { before = record { before = c; shared_slice-known = record { given = g } }; loop = record { tasks = vs.0; t = vs.1; inv = inv } }; loop_test = record { left = Tests.ltb-false (Row.get 4 T3.locals (m3 record { before = c; shared_slice-known = record { given = g } } vs.0 vs.1)) (Row.get 3 T3.locals (m3 record { before = c; shared_slice-known = record { given = g } } vs.0 vs.1)) left } })))
 
         module _ (κs : Lifetimes.Lfts 2) (qs : Lifetimes.Shares 2) where
           pub asked : (a : Kinds.Dens κs ps) → (good : Kinds.GoodsP κs ps a) → (pre : Pre· κs a) → (bs : List Nat.ℕ) → Φ (Any.want_q 2 ps r xs m κs qs a (Post· κs a)) (Function.init 2 ps r xs m κs qs a)

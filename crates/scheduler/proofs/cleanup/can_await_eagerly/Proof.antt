@@ -1,6 +1,6 @@
 use mathlib.Core.Path.{refl}
 use Rattle.machine.specs.Sound.{is_ended}
-use Rattle.scheduler.specs.EndLaws.{eager-asks, eager-ended, eager-not}
+use Rattle.scheduler.specs.EndLaws.{eager_asks, eager-ended, eager-not}
 use borrow.Author.Rules.{rules}
 use Rattle.scheduler.proofs.cleanup.can_await_eagerly.Statement.{statement}
 use Rattle.scheduler.proofs.cleanup.can_await_eagerly.Tie as tie
@@ -25,11 +25,11 @@ enum-told-3 c = search rules
 
 returns : tie.Need_returns
 unfolding is_ended
-returns c = λ ts ps l. eager-asks ts c.before.before.before.before.before.before.before.args.objects.now ps c.before.before.before.before.before.before.before.args.queue l c.before.before.before.load-header.ensures _ c.before.enum_told.given.1 refl c.before.before.before.before.if1.true c.no-call-pending.ensures
+returns c = λ ts ps l. eager_asks ts c.before.before.before.before.before.before.before.args.objects.now ps c.before.before.before.before.before.before.before.args.queue l c.before.before.before.load-header.ensures _ c.before.enum_told.given.1 refl c.before.before.before.before.if1.true c.no-call-pending.ensures
 
 returns-2 : tie.Need-returns-2
 unfolding is_ended
-returns-2 c = λ ts ps l. eager-asks ts c.before.before.before.before.before.before.before.args.objects.now ps c.before.before.before.before.before.before.before.args.queue l c.before.before.before.load-header.ensures _ c.before.enum-told2.given.1 refl c.before.before.before.before.if1.true c.no-call-pending2.ensures
+returns-2 c = λ ts ps l. eager_asks ts c.before.before.before.before.before.before.before.args.objects.now ps c.before.before.before.before.before.before.before.args.queue l c.before.before.before.load-header.ensures _ c.before.enum-told2.given.1 refl c.before.before.before.before.if1.true c.no-call-pending2.ensures
 
 returns-3 : tie.Need-returns-3
 unfolding is_ended

@@ -21,7 +21,7 @@ same_length c = search rules
 
 returns : tie.Need_returns
 unfolding clear_one absent
-returns c = rw (← c.before.before.before.before.before.before.before.state-at.ensures, ← c.before.before.before.before.before.before.is_live.ensures, c.before.before.before.before.before.if1.true, c.before.before.store-task.ensures, c.before.before.before.before.new.ensures)
+returns c = rw (← c.before.before.before.before.before.before.before.state-at.ensures, ← c.before.before.before.before.before.before.is_live.ensures, c.before.before.before.before.before.if1.true, c.before.before.store_task.ensures, c.before.before.before.before.new.ensures)
 
 same-length-2 : tie.Need_same_length_2
 same-length-2 c = search rules

@@ -31,13 +31,13 @@ loop-less : tie.Need-loop-smaller invariant_loop decreases_loop
 loop-less c = omega arith
 
 loop-again : tie.Need-loop-preserved invariant_loop decreases_loop
-loop-again c = (clear_turn _ c.before.before.before.before.before.before.loop.t c.before.before.before.before.before.before.before.before.args.next c.before.before.before.before.before.loop-test.true (c.before.before.clear_one.ensures ∙ ap (λ (u : TaskId). clear_one c.before.before.before.before.before.before.loop.tasks u.0) c.before.before.before.new.ensures) ∙ c.before.before.before.before.before.before.loop.invariant.0, c.before.before.clear_one.auto.0 ∙ c.before.before.before.before.before.before.loop.invariant.1)
+loop-again c = (clear_turn _ c.before.before.before.before.before.before.loop.t c.before.before.before.before.before.before.before.before.args.next c.before.before.before.before.before.loop_test.true (c.before.before.clear_one.ensures ∙ ap (λ (u : TaskId). clear_one c.before.before.before.before.before.before.loop.tasks u.0) c.before.before.before.new.ensures) ∙ c.before.before.before.before.before.before.loop.invariant.0, c.before.before.clear_one.auto.0 ∙ c.before.before.before.before.before.before.loop.invariant.1)
 
 same_length : tie.Need_same_length invariant_loop decreases_loop
 same_length c = c.before.loop.invariant.1
 
 returns : tie.Need_returns invariant_loop decreases_loop
-returns c = clear_end _ c.before.loop.t c.before.before.before.args.next c.loop-test.false ∙ c.before.loop.invariant.0
+returns c = clear_end _ c.before.loop.t c.before.before.before.args.next c.loop_test.false ∙ c.before.loop.invariant.0
 
 pub clear-tasks-spec : {M : Type 1} → statement M
 clear-tasks-spec =

@@ -37,7 +37,7 @@ is-pending-external-requires : tie.Need-is-pending-external-requires invariant_l
 is-pending-external-requires c κs = search rules
 
 returns : tie.Need_returns invariant_loop decreases_loop
-returns c = pending-here c.before.before.before.before.before.before.before.before.before.args.objects.now c.before.before.before.before.before.loop.o (ap (λ (h : HeapId). h.0) c.before.before.before.new.ensures) c.before.before.kind_at.ensures c.before.is_pending_external.ensures c.before.before.before.before.before.before.before.load-header.ensures c.before.before.before.before.loop-test.true c.if1.true
+returns c = pending-here c.before.before.before.before.before.before.before.before.before.args.objects.now c.before.before.before.before.before.loop.o (ap (λ (h : HeapId). h.0) c.before.before.before.new.ensures) c.before.before.kind_at.ensures c.before.is_pending_external.ensures c.before.before.before.before.before.before.before.load-header.ensures c.before.before.before.before.loop_test.true c.if1.true
 
 add-o : tie.Need-overflow-add-o invariant_loop decreases_loop
 add-o c = omega (arith, (header_read _ c.before.before.before.before.before.before.before.load-header.ensures).made-fits)

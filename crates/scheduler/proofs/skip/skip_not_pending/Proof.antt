@@ -2,7 +2,7 @@ use mathlib.Core.Path.{sym, ◌∙◌}
 use Prim.Native.Nat.{◌-◌}
 use native.Mathlib.Omega.{arith}
 use Rattle.scheduler.specs.Skips.{is_pending, BeginsAt}
-use Rattle.scheduler.specs.SkipLaws.{begins, begins-further}
+use Rattle.scheduler.specs.SkipLaws.{begins, begins_further}
 use Rattle.scheduler.proofs.skip.skip_not_pending.Statement.{statement}
 use Rattle.scheduler.proofs.skip.skip_not_pending.Tie as tie
 
@@ -31,7 +31,7 @@ loop-less : tie.Need-loop-smaller invariant_loop decreases_loop
 loop-less c = omega (arith, c.before.before.before.loop.invariant.within)
 
 loop-again : tie.Need-loop-preserved invariant_loop decreases_loop
-loop-again c = begins-further (is_pending c.before.before.before.before.before.args.objects.now) c.before.before.before.before.before.args.made c.before.before.before.loop.o 4 c.before.before.before.loop.invariant (omega (arith, c.before.before.before.loop.invariant.within)) (sym c.before.any-pending.ensures ∙ c.if1.false)
+loop-again c = begins_further (is_pending c.before.before.before.before.before.args.objects.now) c.before.before.before.before.before.args.made c.before.before.before.loop.o 4 c.before.before.before.loop.invariant (omega (arith, c.before.before.before.loop.invariant.within)) (sym c.before.any-pending.ensures ∙ c.if1.false)
 
 returns-2 : tie.Need-returns-2 invariant_loop decreases_loop
 returns-2 c = c.before.loop.invariant

@@ -1,5 +1,5 @@
 use Rattle.queue.specs.Queue.{queue_of}
-use Rattle.scheduler.specs.SpawnLaws.{spawn-taken, spawn-full, spawn-done}
+use Rattle.scheduler.specs.SpawnLaws.{spawn_taken, spawn-full, spawn-done}
 use Rattle.asyncio.specs.Ranges.{HeaderFits}
 use Rattle.rows.specs.TableLaws.{header_read}
 use borrow.Author.Rules.{rules}
@@ -37,7 +37,7 @@ same-length-4 : tie.Need_same_length_4
 same-length-4 c = search rules
 
 returns-2 : tie.Need-returns-2
-returns-2 c = spawn-taken c.before.before.before.before.before.before.before.before.args.tasks.now c.before.before.before.before.before.before.before.before.args.objects.now (queue_of c.before.before.before.before.before.before.before.before.args.ids.now c.before.before.before.before.before.before.before.before.args.len.now) c.before.before.before.before.before.before.before.before.args.c.0 c.before.before.before.before.before.before.before.before.args.g.0 c.before.before.before.before.load-header.ensures c.before.before.task_of.ensures _ c.enum_told.given.1
+returns-2 c = spawn_taken c.before.before.before.before.before.before.before.before.args.tasks.now c.before.before.before.before.before.before.before.before.args.objects.now (queue_of c.before.before.before.before.before.before.before.before.args.ids.now c.before.before.before.before.before.before.before.before.args.len.now) c.before.before.before.before.before.before.before.before.args.c.0 c.before.before.before.before.before.before.before.before.args.g.0 c.before.before.before.before.load-header.ensures c.before.before.task_of.ensures _ c.enum_told.given.1
 
 same-length-5 : tie.Need-same-length-5
 same-length-5 c = search rules

@@ -30,7 +30,7 @@ same-length-2 c = search rules
 
 returns : tie.Need_returns
 unfolding spawn_as push_ready set_next put_task put_header put_queue add_log header
-returns c = record { spawns = λ e ps l. rw (e, c.push-lent.ensures, c.before.before.before.before.before.store-header.ensures, c.before.before.before.before.before.before.before.before.before.before.store-task.ensures, c.before.before.before.before.before.before.before.before.before.before.before.before.new.ensures) }
+returns c = record { spawns = λ e ps l. rw (e, c.push-lent.ensures, c.before.before.before.before.before.store-header.ensures, c.before.before.before.before.before.before.before.before.before.before.store_task.ensures, c.before.before.before.before.before.before.before.before.before.before.before.before.new.ensures) }
 
 pub spawn-as-spec : {M : Type 1} → statement M
 spawn-as-spec =

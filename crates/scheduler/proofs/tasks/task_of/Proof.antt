@@ -7,7 +7,7 @@ use Rattle.rows.specs.Tables.{task_at}
 use Rattle.machine.specs.Scheduler.{first_from, is_task_of, task_of_in}
 use Rattle.scheduler.specs.Search.{found_task}
 use Rattle.scheduler.specs.declared.tasks.FoundTask.{FoundTask}
-use Rattle.scheduler.specs.SearchLaws.{first-here, first-turn, first-end, task_of-begins}
+use Rattle.scheduler.specs.SearchLaws.{first_here, first_turn, first_end, task_of-begins}
 use Rattle.scheduler.proofs.tasks.task_of.Statement.{statement}
 use Rattle.scheduler.proofs.tasks.task_of.Tie as tie
 
@@ -27,7 +27,7 @@ is-task-of-requires : tie.Need-is-task-of-requires invariant_loop decreases_loop
 is-task-of-requires c κs = (c.before.before.before.before.requires.0, omega (arith, ap (λ (u : TaskId). u.0) c.new.ensures))
 
 returns : tie.Need_returns invariant_loop decreases_loop
-returns c = ap FoundTask.At c.before.before.new.ensures ∙ ap found_task (sym (first-here (λ (u : ℕ). is_task_of c.before.before.before.before.before.before.args.c.0 (task_at c.before.before.before.before.before.before.args.tasks.now u)) c.before.before.before.before.loop.t c.before.before.before.before.before.before.args.next c.before.before.before.loop-test.true (ap (λ (u : TaskId). u.0) c.before.before.new.ensures) (sym c.if1.true ∙ c.before.is_task_of.ensures)) ∙ c.before.before.before.before.loop.invariant)
+returns c = ap FoundTask.At c.before.before.new.ensures ∙ ap found_task (sym (first_here (λ (u : ℕ). is_task_of c.before.before.before.before.before.before.args.c.0 (task_at c.before.before.before.before.before.before.args.tasks.now u)) c.before.before.before.before.loop.t c.before.before.before.before.before.before.args.next c.before.before.before.loop_test.true (ap (λ (u : TaskId). u.0) c.before.before.new.ensures) (sym c.if1.true ∙ c.before.is_task_of.ensures)) ∙ c.before.before.before.before.loop.invariant)
 
 add-t : tie.Need-overflow-add-t invariant_loop decreases_loop
 add-t c = omega arith
@@ -36,10 +36,10 @@ loop-less : tie.Need-loop-smaller invariant_loop decreases_loop
 loop-less c = omega arith
 
 loop-again : tie.Need-loop-preserved invariant_loop decreases_loop
-loop-again c = first-turn (λ (u : ℕ). is_task_of c.before.before.before.before.before.before.args.c.0 (task_at c.before.before.before.before.before.before.args.tasks.now u)) c.before.before.before.before.loop.t c.before.before.before.before.before.before.args.next c.before.before.before.loop-test.true (ap (λ (u : TaskId). u.0) c.before.before.new.ensures) (sym c.if1.false ∙ c.before.is_task_of.ensures) ∙ c.before.before.before.before.loop.invariant
+loop-again c = first_turn (λ (u : ℕ). is_task_of c.before.before.before.before.before.before.args.c.0 (task_at c.before.before.before.before.before.before.args.tasks.now u)) c.before.before.before.before.loop.t c.before.before.before.before.before.before.args.next c.before.before.before.loop_test.true (ap (λ (u : TaskId). u.0) c.before.before.new.ensures) (sym c.if1.false ∙ c.before.is_task_of.ensures) ∙ c.before.before.before.before.loop.invariant
 
 returns-2 : tie.Need-returns-2 invariant_loop decreases_loop
-returns-2 c = ap found_task (sym (first-end (λ (u : ℕ). is_task_of c.before.before.before.args.c.0 (task_at c.before.before.before.args.tasks.now u)) c.before.loop.t c.before.before.before.args.next c.loop-test.false) ∙ c.before.loop.invariant)
+returns-2 c = ap found_task (sym (first_end (λ (u : ℕ). is_task_of c.before.before.before.args.c.0 (task_at c.before.before.before.args.tasks.now u)) c.before.loop.t c.before.before.before.args.next c.loop_test.false) ∙ c.before.loop.invariant)
 
 pub task-of-spec : {M : Type 1} → statement M
 task-of-spec =

@@ -9,7 +9,7 @@ use Rattle.machine.specs.Store.{LogEntry}
 use Rattle.machine.specs.Scheduler.{visit_open}
 use Rattle.machine_laws.specs.Statements.{unmarked}
 use Rattle.scheduler_cancel.specs.Cancel.{walk_of, awaited_places}
-use Rattle.scheduler_cancel.specs.CancelLaws.{Logged, open_begin, open_turn, open-end, open_room}
+use Rattle.scheduler_cancel.specs.CancelLaws.{Logged, open_begin, open_turn, open_end, open_room}
 use Rattle.scheduler_cancel.proofs.cancel.visit_open.Statement.{statement}
 use Rattle.scheduler_cancel.proofs.cancel.visit_open.Tie as tie
 
@@ -37,7 +37,7 @@ loop-less : tie.Need-loop-smaller invariant_loop decreases_loop
 loop-less c = omega arith
 
 loop-again : tie.Need-loop-preserved invariant_loop decreases_loop
-loop-again c = ((λ a l. open_turn c.before.before.before.before.before.before.before.before.before.before.before.before.before.before.before.before.before.before.args.table.now c.before.before.before.before.before.before.before.before.before.before.before.loop.tasks c.before.before.before.before.before.before.before.before.before.before.before.before.before.before.before.before.before.before.args.objects.now c.before.before.before.before.before.before.before.before.before.before.before.before.before.before.before.before.before.before.args.places.now c.before.before.before.before.before.before.before.before.before.before.before.loop.w c.before.before.before.before.before.before.before.before.before.before.before.loop.marks c.before.before.before.before.before.before.before.before.before.before.before.loop.stack (awaited_places c.before.before.before.before.before.before.before.before.before.before.before.before.before.before.before.before.before.before.args.first c.before.before.before.before.before.before.before.before.before.before.before.before.before.before.before.before.before.before.args.count a c.before.before.before.before.before.before.before.before.before.before.before.before.before.before.before.before.before.before.args.open-places) c.before.before.before.before.before.before.before.before.before.before.before.loop.i c.before.before.before.before.before.before.before.before.before.before.before.before.before.before.before.before.before.before.args.count c.before.before.before.before.before.before.before.before.before.before.loop-test.true (λ m. c.before.before.before.before.before.before.visit_place.ensures m) (c.before.before.before.before.before.before.before.before.before.before.before.loop.invariant.0 a l)), c.before.before.before.before.before.before.visit_place.auto.0 ∙ c.before.before.before.before.before.before.before.before.before.before.before.loop.invariant.1, c.before.before.before.before.before.before.visit_place.auto.1.1.1.1.0 ∙ c.before.before.before.before.before.before.before.before.before.before.before.loop.invariant.2, c.before.before.before.before.before.before.visit_place.auto.1.1.1.1.1.0 ∙ c.before.before.before.before.before.before.before.before.before.before.before.loop.invariant.3, omega arith, omega (arith, open_room c.before.before.before.before.before.before.before.before.before.before.before.before.before.before.before.before.before.before.args.table.now c.before.before.before.before.before.before.before.before.before.before.before.loop.tasks c.before.before.before.before.before.before.before.before.before.before.before.before.before.before.before.before.before.before.args.objects.now c.before.before.before.before.before.before.before.before.before.before.before.before.before.before.before.before.before.before.args.places.now c.before.before.before.before.before.before.before.before.before.before.before.loop.w [] c.before.before.before.before.before.before.before.before.before.before.before.loop.marks c.before.before.before.before.before.before.before.before.before.before.before.loop.stack (c.before.before.before.before.before.before.before.before.before.before.before.before.before.before.before.before.before.before.args.first + c.before.before.before.before.before.before.before.before.before.before.before.loop.i) c.before.before.before.before.before.before.before.before.before.before.before.loop.i c.before.before.before.before.before.before.before.before.before.before.before.before.before.before.before.before.before.before.args.open-places (c.before.before.before.before.before.before.before.before.before.before.before.loop.invariant.2 ∙ c.before.before.before.before.before.before.before.before.before.before.before.before.before.before.before.before.before.before.requires.4) (c.before.before.before.before.before.before.visit_place.ensures []), c.before.before.before.before.before.before.before.before.before.before.before.loop.invariant.5))
+loop-again c = ((λ a l. open_turn c.before.before.before.before.before.before.before.before.before.before.before.before.before.before.before.before.before.before.args.table.now c.before.before.before.before.before.before.before.before.before.before.before.loop.tasks c.before.before.before.before.before.before.before.before.before.before.before.before.before.before.before.before.before.before.args.objects.now c.before.before.before.before.before.before.before.before.before.before.before.before.before.before.before.before.before.before.args.places.now c.before.before.before.before.before.before.before.before.before.before.before.loop.w c.before.before.before.before.before.before.before.before.before.before.before.loop.marks c.before.before.before.before.before.before.before.before.before.before.before.loop.stack (awaited_places c.before.before.before.before.before.before.before.before.before.before.before.before.before.before.before.before.before.before.args.first c.before.before.before.before.before.before.before.before.before.before.before.before.before.before.before.before.before.before.args.count a c.before.before.before.before.before.before.before.before.before.before.before.before.before.before.before.before.before.before.args.open-places) c.before.before.before.before.before.before.before.before.before.before.before.loop.i c.before.before.before.before.before.before.before.before.before.before.before.before.before.before.before.before.before.before.args.count c.before.before.before.before.before.before.before.before.before.before.loop_test.true (λ m. c.before.before.before.before.before.before.visit_place.ensures m) (c.before.before.before.before.before.before.before.before.before.before.before.loop.invariant.0 a l)), c.before.before.before.before.before.before.visit_place.auto.0 ∙ c.before.before.before.before.before.before.before.before.before.before.before.loop.invariant.1, c.before.before.before.before.before.before.visit_place.auto.1.1.1.1.0 ∙ c.before.before.before.before.before.before.before.before.before.before.before.loop.invariant.2, c.before.before.before.before.before.before.visit_place.auto.1.1.1.1.1.0 ∙ c.before.before.before.before.before.before.before.before.before.before.before.loop.invariant.3, omega arith, omega (arith, open_room c.before.before.before.before.before.before.before.before.before.before.before.before.before.before.before.before.before.before.args.table.now c.before.before.before.before.before.before.before.before.before.before.before.loop.tasks c.before.before.before.before.before.before.before.before.before.before.before.before.before.before.before.before.before.before.args.objects.now c.before.before.before.before.before.before.before.before.before.before.before.before.before.before.before.before.before.before.args.places.now c.before.before.before.before.before.before.before.before.before.before.before.loop.w [] c.before.before.before.before.before.before.before.before.before.before.before.loop.marks c.before.before.before.before.before.before.before.before.before.before.before.loop.stack (c.before.before.before.before.before.before.before.before.before.before.before.before.before.before.before.before.before.before.args.first + c.before.before.before.before.before.before.before.before.before.before.before.loop.i) c.before.before.before.before.before.before.before.before.before.before.before.loop.i c.before.before.before.before.before.before.before.before.before.before.before.before.before.before.before.before.before.before.args.open-places (c.before.before.before.before.before.before.before.before.before.before.before.loop.invariant.2 ∙ c.before.before.before.before.before.before.before.before.before.before.before.before.before.before.before.before.before.before.requires.4) (c.before.before.before.before.before.before.visit_place.ensures []), c.before.before.before.before.before.before.before.before.before.before.before.loop.invariant.5))
 
 same_length : tie.Need_same_length invariant_loop decreases_loop
 same_length c = c.before.loop.invariant.1
@@ -49,7 +49,7 @@ same-length-3 : tie.Need_same_length_3 invariant_loop decreases_loop
 same-length-3 c = c.before.loop.invariant.3
 
 returns : tie.Need_returns invariant_loop decreases_loop
-returns c = λ a l. open-end c.before.before.before.before.before.before.before.before.args.table.now c.before.loop.tasks c.before.before.before.before.before.before.before.before.args.objects.now c.before.before.before.before.before.before.before.before.args.places.now c.before.loop.w c.before.loop.marks c.before.loop.stack (awaited_places c.before.before.before.before.before.before.before.before.args.first c.before.before.before.before.before.before.before.before.args.count a c.before.before.before.before.before.before.before.before.args.open-places) c.before.loop.i c.before.before.before.before.before.before.before.before.args.count c.loop-test.false (c.before.loop.invariant.0 a l)
+returns c = λ a l. open_end c.before.before.before.before.before.before.before.before.args.table.now c.before.loop.tasks c.before.before.before.before.before.before.before.before.args.objects.now c.before.before.before.before.before.before.before.before.args.places.now c.before.loop.w c.before.loop.marks c.before.loop.stack (awaited_places c.before.before.before.before.before.before.before.before.args.first c.before.before.before.before.before.before.before.before.args.count a c.before.before.before.before.before.before.before.before.args.open-places) c.before.loop.i c.before.before.before.before.before.before.before.before.args.count c.loop_test.false (c.before.loop.invariant.0 a l)
 
 pub visit-open-spec : {M : Type 1} → statement M
 visit-open-spec =

@@ -6,7 +6,7 @@ use Rattle.asyncio.specs.declared.Awaiter.{Awaiter}
 use Rattle.rows.specs.Tables.{place_at}
 use Rattle.machine.specs.Commit.{open_from}
 use Rattle.scheduler_states.specs.Awaited.{awaited_gather}
-use Rattle.scheduler_states.specs.OpenPlaceLaws.{open-found, open_turn, open-end, open_begins}
+use Rattle.scheduler_states.specs.OpenPlaceLaws.{open_found, open_turn, open_end, open_begins}
 use Rattle.scheduler_states.proofs.places.is_open.Statement.{statement}
 use Rattle.scheduler_states.proofs.places.is_open.Tie as tie
 
@@ -26,7 +26,7 @@ is-open-here-requires : tie.Need-is-open-here-requires invariant_loop decreases_
 is-open-here-requires c κs = (search rules, omega (arith, c.before.before.before.requires.1.within), omega (arith, c.before.before.before.requires.1.at_most))
 
 returns : tie.Need_returns invariant_loop decreases_loop
-returns c = λ a. open-found _ (awaited_gather c.before.before.before.before.before.args.first c.before.before.before.before.before.args.count a c.before.before.before.before.before.args.open-places) c.before.before.before.before.before.args.o.0 c.before.before.before.loop.i c.before.before.before.before.before.args.count c.before.before.loop-test.true (sym c.if1.true ∙ c.before.is-open-here.ensures) ∙ c.before.before.before.loop.invariant.0 a
+returns c = λ a. open_found _ (awaited_gather c.before.before.before.before.before.args.first c.before.before.before.before.before.args.count a c.before.before.before.before.before.args.open-places) c.before.before.before.before.before.args.o.0 c.before.before.before.loop.i c.before.before.before.before.before.args.count c.before.before.loop_test.true (sym c.if1.true ∙ c.before.is-open-here.ensures) ∙ c.before.before.before.loop.invariant.0 a
 
 add-i : tie.Need-overflow-add-i invariant_loop decreases_loop
 add-i c = omega (arith, c.before.before.before.before.before.requires.1.at_most)
@@ -35,10 +35,10 @@ loop-less : tie.Need-loop-smaller invariant_loop decreases_loop
 loop-less c = omega arith
 
 loop-again : tie.Need-loop-preserved invariant_loop decreases_loop
-loop-again c = ((λ a. open_turn _ (awaited_gather c.before.before.before.before.before.args.first c.before.before.before.before.before.args.count a c.before.before.before.before.before.args.open-places) c.before.before.before.before.before.args.o.0 c.before.before.before.loop.i c.before.before.before.before.before.args.count c.before.before.loop-test.true (sym c.if1.false ∙ c.before.is-open-here.ensures) ∙ c.before.before.before.loop.invariant.0 a), omega arith)
+loop-again c = ((λ a. open_turn _ (awaited_gather c.before.before.before.before.before.args.first c.before.before.before.before.before.args.count a c.before.before.before.before.before.args.open-places) c.before.before.before.before.before.args.o.0 c.before.before.before.loop.i c.before.before.before.before.before.args.count c.before.before.loop_test.true (sym c.if1.false ∙ c.before.is-open-here.ensures) ∙ c.before.before.before.loop.invariant.0 a), omega arith)
 
 returns-2 : tie.Need-returns-2 invariant_loop decreases_loop
-returns-2 c = λ a. open-end _ (awaited_gather c.before.before.before.args.first c.before.before.before.args.count a c.before.before.before.args.open-places) c.before.before.before.args.o.0 c.before.loop.i c.before.before.before.args.count c.loop-test.false ∙ c.before.loop.invariant.0 a
+returns-2 c = λ a. open_end _ (awaited_gather c.before.before.before.args.first c.before.before.before.args.count a c.before.before.before.args.open-places) c.before.before.before.args.o.0 c.before.loop.i c.before.before.before.args.count c.loop_test.false ∙ c.before.loop.invariant.0 a
 
 pub is-open-spec : {M : Type 1} → statement M
 is-open-spec =

@@ -1,5 +1,5 @@
 use Rattle.rows.specs.Tables.{place_at}
-use Rattle.scheduler_states.specs.OpenPlaceLaws.{place-shut, place-named}
+use Rattle.scheduler_states.specs.OpenPlaceLaws.{place_shut, place-named}
 use borrow.Author.Rules.{rules}
 use Rattle.scheduler_states.proofs.places.is_open_here.Statement.{statement}
 use Rattle.scheduler_states.proofs.places.is_open_here.Tie as tie
@@ -11,7 +11,7 @@ shr-if1 : tie.Need-overflow-shr-if1
 shr-if1 c = search rules
 
 returns : tie.Need_returns
-returns c = place-shut (place_at c.before.before.args.places.now) c.before.before.args.open-places c.before.before.args.p c.before.before.args.i c.before.before.args.o.0 c.if1.true
+returns c = place_shut (place_at c.before.before.args.places.now) c.before.before.args.open-places c.before.before.args.p c.before.before.args.i c.before.before.args.o.0 c.if1.true
 
 item-at-requires : tie.Need-item-at-requires
 item-at-requires c κs = search rules

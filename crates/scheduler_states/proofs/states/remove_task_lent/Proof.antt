@@ -18,7 +18,7 @@ same_length c = search rules
 
 returns : tie.Need_returns
 unfolding remove_task remove_from_ready_queue put_task put_queue absent
-returns c = (λ os ps l. rw (c.remove-lent.ensures.0, c.before.before.before.before.before.store-task.ensures, c.before.before.before.before.before.before.before.new.ensures), c.remove-lent.ensures.1)
+returns c = (λ os ps l. rw (c.remove-lent.ensures.0, c.before.before.before.before.before.store_task.ensures, c.before.before.before.before.before.before.before.new.ensures), c.remove-lent.ensures.1)
 
 pub remove-task-lent-spec : {M : Type 1} → statement M
 remove-task-lent-spec =

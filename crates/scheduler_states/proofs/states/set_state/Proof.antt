@@ -14,7 +14,7 @@ same_length c = search rules
 
 returns : tie.Need_returns
 unfolding restate
-returns c = rw (c.before.before.store-task.ensures, c.before.before.before.before.before.load-task.ensures)
+returns c = rw (c.before.before.store_task.ensures, c.before.before.before.before.before.load-task.ensures)
 
 pub set-state-spec : {M : Type 1} → statement M
 set-state-spec = tie.close (tie.spec load-task-requires store-task-requires same_length returns)

@@ -1,4 +1,4 @@
-use Rattle.sound.specs.FilledLaws.{place-shut, place-open}
+use Rattle.sound.specs.FilledLaws.{place_shut, place_open}
 use borrow.Author.Rules.{rules}
 use Rattle.sound.proofs.filled.place_done.Statement.{statement}
 use Rattle.sound.proofs.filled.place_done.Tie as tie
@@ -19,10 +19,10 @@ is-filled-requires : tie.Need-is-filled-requires
 is-filled-requires c κs = search rules
 
 returns : tie.Need_returns
-returns c = place-shut _ _ _ _ c.before.before.if1.true c.before.result_at.ensures c.is_filled.ensures
+returns c = place_shut _ _ _ _ c.before.before.if1.true c.before.result_at.ensures c.is_filled.ensures
 
 returns-2 : tie.Need-returns-2
-returns-2 c = place-open _ _ _ _ c.if1.false
+returns-2 c = place_open _ _ _ _ c.if1.false
 
 pub place-done-spec : {M : Type 1} → statement M
 place-done-spec =

@@ -5,7 +5,7 @@ use native.Mathlib.Omega.{arith}
 use Rattle.sound_rows.specs.NumberLaws.{heap_number}
 use borrow.Author.Rules.{rules}
 use Rattle.machine.specs.Tests.{all_below}
-use Rattle.sound_words.specs.Loops.{all_none, all-turn, all-fails, all_end}
+use Rattle.sound_words.specs.Loops.{all_none, all_turn, all_fails, all_end}
 use Rattle.rows.specs.Tables.{object_at, place_at}
 use Rattle.machine.specs.Sound.{object_filled, places_filled}
 use Rattle.sound.proofs.filled.places_filled.Statement.{statement}
@@ -33,15 +33,15 @@ loop-less : tie.Need-loop-smaller invariant_loop decreases_loop
 loop-less c = omega arith
 
 loop-again : tie.Need-loop-preserved invariant_loop decreases_loop
-loop-again c = (all-turn _ c.before.before.before.before.loop.o (sym c.if1.true ∙ (rw c.before.before.new.ensures at c.before.object_filled.ensures)) c.before.before.before.before.loop.invariant.0, omega arith)
+loop-again c = (all_turn _ c.before.before.before.before.loop.o (sym c.if1.true ∙ (rw c.before.before.new.ensures at c.before.object_filled.ensures)) c.before.before.before.before.loop.invariant.0, omega arith)
 
 returns : tie.Need_returns invariant_loop decreases_loop
 unfolding places_filled
-returns c = all-fails _ c.before.before.before.before.loop.o _ c.before.before.before.loop-test.true (sym c.if1.false ∙ (rw c.before.before.new.ensures at c.before.object_filled.ensures))
+returns c = all_fails _ c.before.before.before.before.loop.o _ c.before.before.before.loop_test.true (sym c.if1.false ∙ (rw c.before.before.new.ensures at c.before.object_filled.ensures))
 
 returns-2 : tie.Need-returns-2 invariant_loop decreases_loop
 unfolding places_filled
-returns-2 c = all_end _ c.before.loop.o _ (omega arith) c.loop-test.false c.before.loop.invariant.0
+returns-2 c = all_end _ c.before.loop.o _ (omega arith) c.loop_test.false c.before.loop.invariant.0
 
 pub places-filled-spec : {M : Type 1} → statement M
 places-filled-spec =

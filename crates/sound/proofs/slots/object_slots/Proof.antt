@@ -5,12 +5,12 @@ use native.Mathlib.Omega.{arith}
 use Rattle.sound_rows.specs.NumberLaws.{heap_number}
 use borrow.Author.Rules.{rules}
 use Rattle.machine.specs.Tests.{all_below}
-use Rattle.sound_words.specs.Loops.{all_none, all-turn, all-fails, all_end}
+use Rattle.sound_words.specs.Loops.{all_none, all_turn, all_fails, all_end}
 use Rattle.rows.specs.Tables.{object_at, place_at}
 use Rattle.asyncio.specs.Parts.{awaiter_of}
 use Rattle.machine.specs.Sound.{slot_open}
 use Rattle.sound_tasks.specs.AwaiterLaws.{awaiter_fits}
-use Rattle.sound.specs.SlotLaws.{object-slot}
+use Rattle.sound.specs.SlotLaws.{object_slot}
 use Rattle.sound.proofs.slots.object_slots.Statement.{statement}
 use Rattle.sound.proofs.slots.object_slots.Tie as tie
 
@@ -30,7 +30,7 @@ awaiter-at-requires : tie.Need-awaiter-at-requires invariant_loop decreases_loop
 awaiter-at-requires c κs = search (rules, heap_number c.new.ensures)
 
 slot-open-requires : tie.Need-slot-open-requires invariant_loop decreases_loop
-slot-open-requires c κs = (search rules, (search rules, awaiter_fits _ _ (rw c.before.new.ensures at c.awaiter-at.ensures)))
+slot-open-requires c κs = (search rules, (search rules, awaiter_fits _ _ (rw c.before.new.ensures at c.awaiter_at.ensures)))
 
 add-o : tie.Need-overflow-add-o invariant_loop decreases_loop
 add-o c = omega arith
@@ -39,13 +39,13 @@ loop-less : tie.Need-loop-smaller invariant_loop decreases_loop
 loop-less c = omega arith
 
 loop-again : tie.Need-loop-preserved invariant_loop decreases_loop
-loop-again c = (all-turn _ c.before.before.before.before.before.loop.o (sym c.if1.true ∙ object-slot _ _ _ c.before.before.before.new.ensures c.before.before.awaiter-at.ensures c.before.slot_open.ensures) c.before.before.before.before.before.loop.invariant.0, omega arith)
+loop-again c = (all_turn _ c.before.before.before.before.before.loop.o (sym c.if1.true ∙ object_slot _ _ _ c.before.before.before.new.ensures c.before.before.awaiter_at.ensures c.before.slot_open.ensures) c.before.before.before.before.before.loop.invariant.0, omega arith)
 
 returns : tie.Need_returns invariant_loop decreases_loop
-returns c = all-fails _ c.before.before.before.before.before.loop.o _ c.before.before.before.before.loop-test.true (sym c.if1.false ∙ object-slot _ _ _ c.before.before.before.new.ensures c.before.before.awaiter-at.ensures c.before.slot_open.ensures)
+returns c = all_fails _ c.before.before.before.before.before.loop.o _ c.before.before.before.before.loop_test.true (sym c.if1.false ∙ object_slot _ _ _ c.before.before.before.new.ensures c.before.before.awaiter_at.ensures c.before.slot_open.ensures)
 
 returns-2 : tie.Need-returns-2 invariant_loop decreases_loop
-returns-2 c = all_end _ c.before.loop.o _ (omega arith) c.loop-test.false c.before.loop.invariant.0
+returns-2 c = all_end _ c.before.loop.o _ (omega arith) c.loop_test.false c.before.loop.invariant.0
 
 pub object-slots-spec : {M : Type 1} → statement M
 object-slots-spec =

@@ -7,7 +7,7 @@ use Rattle.rows.specs.Tables.{object_at}
 use Rattle.machine.specs.Tests.{sum_below}
 use Rattle.machine.specs.Sound.{committed_places}
 use Rattle.sound_words.specs.Loops.{sum_none}
-use Rattle.sound_rows.specs.NumberLaws.{count_fits, committed-turn, committed-skip}
+use Rattle.sound_rows.specs.NumberLaws.{count_fits, committed-turn, committed_skip}
 use Rattle.sound_rows.proofs.numbers.committed_places.Statement.{statement}
 use Rattle.sound_rows.proofs.numbers.committed_places.Tie as tie
 
@@ -55,7 +55,7 @@ loop-less-2 : tie.Need-loop-smaller-2 invariant_loop decreases_loop
 loop-less-2 c = omega arith
 
 loop-again-2 : tie.Need-loop-preserved-2 invariant_loop decreases_loop
-loop-again-2 c = (committed-skip _ c.before.before.before.before.before.loop.o c.before.before.before.before.before.loop.sum c.before.before.before.before.before.loop.invariant.0 (rw c.before.before.before.new.ensures at c.before.before.kind_at.ensures) (sym c.before.is_committed.ensures ∙ c.if1.false), omega arith, omega arith)
+loop-again-2 c = (committed_skip _ c.before.before.before.before.before.loop.o c.before.before.before.before.before.loop.sum c.before.before.before.before.before.loop.invariant.0 (rw c.before.before.before.new.ensures at c.before.before.kind_at.ensures) (sym c.before.is_committed.ensures ∙ c.if1.false), omega arith, omega arith)
 
 returns : tie.Need_returns invariant_loop decreases_loop
 returns c = (let e : c.before.loop.o ≡ c.before.before.before.args.made = omega arith in rw e at c.before.loop.invariant.0, omega arith)

@@ -1,5 +1,5 @@
 use mathlib.Core.Path.{sym, ◌∙◌}
-use Rattle.sound_rows.specs.NumberLaws.{count_fits, external-ranged, other-ranged, gather-apart, gather-ranged}
+use Rattle.sound_rows.specs.NumberLaws.{count_fits, external_ranged, other_ranged, gather-apart, gather_ranged}
 use borrow.Author.Rules.{rules}
 use Rattle.sound_rows.proofs.numbers.object_in_range.Statement.{statement}
 use Rattle.sound_rows.proofs.numbers.object_in_range.Tie as tie
@@ -20,7 +20,7 @@ cast-result : tie.Need-overflow-cast-result
 cast-result c = search rules
 
 returns : tie.Need_returns
-returns c = external-ranged _ _ _ _ c.before.before.before.before.before.kind_at.ensures (sym c.before.before.before.before.is_external.ensures ∙ c.before.before.before.if1.true) c.before.before.call_at.ensures c.before.word.ensures
+returns c = external_ranged _ _ _ _ c.before.before.before.before.before.kind_at.ensures (sym c.before.before.before.before.is_external.ensures ∙ c.before.before.before.if1.true) c.before.before.call_at.ensures c.before.word.ensures
 
 is-gather-requires : tie.Need-is-gather-requires
 is-gather-requires c κs = search rules
@@ -38,16 +38,16 @@ open-in-range-requires : tie.Need-open-in-range-requires
 open-in-range-requires c κs = count_fits _ _ c.before.count_at.ensures
 
 returns-2 : tie.Need-returns-2
-returns-2 c = gather-ranged _ _ _ _ c.before.before.before.before.before.before.before.before.before.kind_at.ensures (sym c.before.before.before.before.before.before.before.before.is_external.ensures ∙ c.before.before.before.before.before.before.before.if1.false) (sym c.before.before.before.before.before.before.is_gather.ensures ∙ c.before.before.before.before.before.if2.true) c.before.before.before.before.first-at.ensures c.before.before.before.if3.true c.before.before.count_at.ensures c.before.open_at.ensures c.open_in_range.ensures
+returns-2 c = gather_ranged _ _ _ _ c.before.before.before.before.before.before.before.before.before.kind_at.ensures (sym c.before.before.before.before.before.before.before.before.is_external.ensures ∙ c.before.before.before.before.before.before.before.if1.false) (sym c.before.before.before.before.before.before.is_gather.ensures ∙ c.before.before.before.before.before.if2.true) c.before.before.before.before.first_at.ensures c.before.before.before.if3.true c.before.before.count_at.ensures c.before.open_at.ensures c.open_in_range.ensures
 
 returns-3 : tie.Need-returns-3
-returns-3 c = gather-apart _ _ _ _ c.before.before.before.before.before.before.kind_at.ensures (sym c.before.before.before.before.before.is_external.ensures ∙ c.before.before.before.before.if1.false) (sym c.before.before.before.is_gather.ensures ∙ c.before.before.if2.true) c.before.first-at.ensures c.if3.false
+returns-3 c = gather-apart _ _ _ _ c.before.before.before.before.before.before.kind_at.ensures (sym c.before.before.before.before.before.is_external.ensures ∙ c.before.before.before.before.if1.false) (sym c.before.before.before.is_gather.ensures ∙ c.before.before.if2.true) c.before.first_at.ensures c.if3.false
 
 is-coroutine-requires : tie.Need-is-coroutine-requires
 is-coroutine-requires c κs = search rules
 
 returns-4 : tie.Need-returns-4
-returns-4 c = other-ranged _ _ _ _ c.before.before.before.before.before.kind_at.ensures (sym c.before.before.before.before.is_external.ensures ∙ c.before.before.before.if1.false) (sym c.before.before.is_gather.ensures ∙ c.before.if2.false) c.is_coroutine.ensures
+returns-4 c = other_ranged _ _ _ _ c.before.before.before.before.before.kind_at.ensures (sym c.before.before.before.before.is_external.ensures ∙ c.before.before.before.if1.false) (sym c.before.before.is_gather.ensures ∙ c.before.if2.false) c.is_coroutine.ensures
 
 pub object-in-range-spec : {M : Type 1} → statement M
 object-in-range-spec =

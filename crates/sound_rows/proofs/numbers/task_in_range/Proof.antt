@@ -1,5 +1,5 @@
 use mathlib.Core.Path.{sym, ◌∙◌}
-use Rattle.sound_rows.specs.NumberLaws.{main-unstarted, main-awaited, main-ranged, dead-ranged, live-apart, live-ranged}
+use Rattle.sound_rows.specs.NumberLaws.{main_unstarted, main_awaited, main_ranged, dead_ranged, live-apart, live_ranged}
 use borrow.Author.Rules.{rules}
 use Rattle.sound_rows.proofs.numbers.task_in_range.Statement.{statement}
 use Rattle.sound_rows.proofs.numbers.task_in_range.Tie as tie
@@ -20,16 +20,16 @@ is-unstarted-requires : tie.Need-is-unstarted-requires
 is-unstarted-requires c κs = search rules
 
 returns : tie.Need_returns
-returns c = main-unstarted _ _ _ _ c.before.before.before.before.before.before.state-at.ensures (sym c.before.before.before.is_main.ensures ∙ c.before.before.if1.true) (sym c.before.is_unstarted.ensures ∙ c.if2.true)
+returns c = main_unstarted _ _ _ _ c.before.before.before.before.before.before.state-at.ensures (sym c.before.before.before.is_main.ensures ∙ c.before.before.if1.true) (sym c.before.is_unstarted.ensures ∙ c.if2.true)
 
 is-nobody-requires : tie.Need-is-nobody-requires
 is-nobody-requires c κs = search rules
 
 returns-2 : tie.Need-returns-2
-returns-2 c = main-ranged _ _ _ _ c.before.before.before.before.before.before.before.before.before.state-at.ensures (sym c.before.before.before.before.before.before.is_main.ensures ∙ c.before.before.before.before.before.if1.true) (sym c.before.before.before.before.is_unstarted.ensures ∙ c.before.before.before.if2.false) c.before.before.before.before.before.before.before.before.task-awaiter-at.ensures (sym c.before.before.is_nobody.ensures ∙ c.before.if3.true) c.before.before.before.before.before.before.before.coroutine-at.ensures
+returns-2 c = main_ranged _ _ _ _ c.before.before.before.before.before.before.before.before.before.state-at.ensures (sym c.before.before.before.before.before.before.is_main.ensures ∙ c.before.before.before.before.before.if1.true) (sym c.before.before.before.before.is_unstarted.ensures ∙ c.before.before.before.if2.false) c.before.before.before.before.before.before.before.before.task-awaiter-at.ensures (sym c.before.before.is_nobody.ensures ∙ c.before.if3.true) c.before.before.before.before.before.before.before.coroutine-at.ensures
 
 returns-3 : tie.Need-returns-3
-returns-3 c = main-awaited _ _ _ _ c.before.before.before.before.before.before.before.before.state-at.ensures (sym c.before.before.before.before.before.is_main.ensures ∙ c.before.before.before.before.if1.true) (sym c.before.before.before.is_unstarted.ensures ∙ c.before.before.if2.false) c.before.before.before.before.before.before.before.task-awaiter-at.ensures (sym c.before.is_nobody.ensures ∙ c.if3.false)
+returns-3 c = main_awaited _ _ _ _ c.before.before.before.before.before.before.before.before.state-at.ensures (sym c.before.before.before.before.before.is_main.ensures ∙ c.before.before.before.before.if1.true) (sym c.before.before.before.is_unstarted.ensures ∙ c.before.before.if2.false) c.before.before.before.before.before.before.before.task-awaiter-at.ensures (sym c.before.is_nobody.ensures ∙ c.if3.false)
 
 is-live-requires : tie.Need-is-live-requires
 is-live-requires c κs = search rules
@@ -41,13 +41,13 @@ coroutine-made-requires : tie.Need-coroutine-made-requires
 coroutine-made-requires c κs = search rules
 
 returns-4 : tie.Need-returns-4
-returns-4 c = live-ranged _ _ _ _ c.before.before.before.before.before.before.before.before.before.state-at.ensures (sym c.before.before.before.before.before.before.is_main.ensures ∙ c.before.before.before.before.before.if1.false) (sym c.before.before.before.before.is_live.ensures ∙ c.before.before.before.if4.true) c.before.before.before.before.before.before.before.before.task-awaiter-at.ensures (sym c.before.if5.true ∙ c.before.before.slot-in-range.ensures) c.before.before.before.before.before.before.before.coroutine-at.ensures c.coroutine-made.ensures
+returns-4 c = live_ranged _ _ _ _ c.before.before.before.before.before.before.before.before.before.state-at.ensures (sym c.before.before.before.before.before.before.is_main.ensures ∙ c.before.before.before.before.before.if1.false) (sym c.before.before.before.before.is_live.ensures ∙ c.before.before.before.if4.true) c.before.before.before.before.before.before.before.before.task-awaiter-at.ensures (sym c.before.if5.true ∙ c.before.before.slot-in-range.ensures) c.before.before.before.before.before.before.before.coroutine-at.ensures c.coroutine-made.ensures
 
 returns-5 : tie.Need-returns-5
 returns-5 c = live-apart _ _ _ _ c.before.before.before.before.before.before.before.before.state-at.ensures (sym c.before.before.before.before.before.is_main.ensures ∙ c.before.before.before.before.if1.false) (sym c.before.before.before.is_live.ensures ∙ c.before.before.if4.true) c.before.before.before.before.before.before.before.task-awaiter-at.ensures (sym c.if5.false ∙ c.before.slot-in-range.ensures)
 
 returns-6 : tie.Need-returns-6
-returns-6 c = dead-ranged _ _ _ _ c.before.before.before.before.before.before.state-at.ensures (sym c.before.before.before.is_main.ensures ∙ c.before.before.if1.false) (sym c.before.is_live.ensures ∙ c.if4.false)
+returns-6 c = dead_ranged _ _ _ _ c.before.before.before.before.before.before.state-at.ensures (sym c.before.before.before.is_main.ensures ∙ c.before.before.if1.false) (sym c.before.is_live.ensures ∙ c.if4.false)
 
 pub task-in-range-spec : {M : Type 1} → statement M
 task-in-range-spec =

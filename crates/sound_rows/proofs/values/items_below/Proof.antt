@@ -7,7 +7,7 @@ use borrow.Author.Tests.{lt-ltb, le-ltb}
 use borrow.Author.Rules.{rules}
 use Rattle.rows.specs.Tables.{place_at}
 use Rattle.machine.specs.Tests.{all_below}
-use Rattle.sound_words.specs.Loops.{all_none, all-turn, all-fails, all_end}
+use Rattle.sound_words.specs.Loops.{all_none, all_turn, all_fails, all_end}
 use Rattle.sound_rows.proofs.values.items_below.Statement.{statement}
 use Rattle.sound_rows.proofs.values.items_below.Tie as tie
 
@@ -33,13 +33,13 @@ loop-less : tie.Need-loop-smaller invariant_loop decreases_loop
 loop-less c = omega arith
 
 loop-again : tie.Need-loop-preserved invariant_loop decreases_loop
-loop-again c = (all-turn _ c.before.before.before.before.loop.k (rw (← c.before.before.item_at.ensures, lt-ltb _ _ c.if1.true)) c.before.before.before.before.loop.invariant.0, omega arith)
+loop-again c = (all_turn _ c.before.before.before.before.loop.k (rw (← c.before.before.item_at.ensures, lt-ltb _ _ c.if1.true)) c.before.before.before.before.loop.invariant.0, omega arith)
 
 returns : tie.Need_returns invariant_loop decreases_loop
-returns c = all-fails _ c.before.before.before.before.loop.k _ c.before.before.before.loop-test.true (rw (← c.before.before.item_at.ensures, le-ltb _ _ c.if1.false))
+returns c = all_fails _ c.before.before.before.before.loop.k _ c.before.before.before.loop_test.true (rw (← c.before.before.item_at.ensures, le-ltb _ _ c.if1.false))
 
 returns-2 : tie.Need-returns-2 invariant_loop decreases_loop
-returns-2 c = all_end _ c.before.loop.k _ (omega arith) c.loop-test.false c.before.loop.invariant.0
+returns-2 c = all_end _ c.before.loop.k _ (omega arith) c.loop_test.false c.before.loop.invariant.0
 
 pub items-below-spec : {M : Type 1} → statement M
 items-below-spec =

@@ -5,7 +5,7 @@ use native.Mathlib.Omega.{arith}
 use Rattle.sound_rows.specs.NumberLaws.{heap_number}
 use borrow.Author.Rules.{rules}
 use Rattle.machine.specs.Tests.{all_below}
-use Rattle.sound_words.specs.Loops.{all_none, all-turn, all-fails, all_end}
+use Rattle.sound_words.specs.Loops.{all_none, all_turn, all_fails, all_end}
 use Rattle.rows.specs.Tables.{object_at, place_at}
 use Rattle.machine.specs.Sound.{items_below, items_lower}
 use Rattle.rows.specs.TableLaws.{places_fit}
@@ -38,7 +38,7 @@ cast-items-below-2 : tie.Need-overflow-cast-items-below-2 invariant_loop decreas
 cast-items-below-2 c = omega arith
 
 items-below-requires : tie.Need-items-below-requires invariant_loop decreases_loop
-items-below-requires c κs = (search rules, omega (arith, (places_fit c.before.before.before.before.before.before.before.args.objects.now c.before.before.before.before.loop.o (rw c.before.before.new.ensures at c.before.first-at.ensures) (rw c.before.before.new.ensures at c.count_at.ensures)).within))
+items-below-requires c κs = (search rules, omega (arith, (places_fit c.before.before.before.before.before.before.before.args.objects.now c.before.before.before.before.loop.o (rw c.before.before.new.ensures at c.before.first_at.ensures) (rw c.before.before.new.ensures at c.count_at.ensures)).within))
 
 add-o : tie.Need-overflow-add-o invariant_loop decreases_loop
 add-o c = omega arith
@@ -47,15 +47,15 @@ loop-less : tie.Need-loop-smaller invariant_loop decreases_loop
 loop-less c = omega arith
 
 loop-again : tie.Need-loop-preserved invariant_loop decreases_loop
-loop-again c = (all-turn _ c.before.before.before.before.before.before.loop.o (sym c.if1.true ∙ items-read _ _ _ (rw c.before.before.before.before.new.ensures at c.before.before.before.first-at.ensures) (rw c.before.before.before.before.new.ensures at c.before.before.count_at.ensures) c.before.items_below.ensures) c.before.before.before.before.before.before.loop.invariant.0, omega arith)
+loop-again c = (all_turn _ c.before.before.before.before.before.before.loop.o (sym c.if1.true ∙ items-read _ _ _ (rw c.before.before.before.before.new.ensures at c.before.before.before.first_at.ensures) (rw c.before.before.before.before.new.ensures at c.before.before.count_at.ensures) c.before.items_below.ensures) c.before.before.before.before.before.before.loop.invariant.0, omega arith)
 
 returns : tie.Need_returns invariant_loop decreases_loop
 unfolding items_lower
-returns c = all-fails _ c.before.before.before.before.before.before.loop.o _ c.before.before.before.before.before.loop-test.true (sym c.if1.false ∙ items-read _ _ _ (rw c.before.before.before.before.new.ensures at c.before.before.before.first-at.ensures) (rw c.before.before.before.before.new.ensures at c.before.before.count_at.ensures) c.before.items_below.ensures)
+returns c = all_fails _ c.before.before.before.before.before.before.loop.o _ c.before.before.before.before.before.loop_test.true (sym c.if1.false ∙ items-read _ _ _ (rw c.before.before.before.before.new.ensures at c.before.before.before.first_at.ensures) (rw c.before.before.before.before.new.ensures at c.before.before.count_at.ensures) c.before.items_below.ensures)
 
 returns-2 : tie.Need-returns-2 invariant_loop decreases_loop
 unfolding items_lower
-returns-2 c = all_end _ c.before.loop.o _ (omega arith) c.loop-test.false c.before.loop.invariant.0
+returns-2 c = all_end _ c.before.loop.o _ (omega arith) c.loop_test.false c.before.loop.invariant.0
 
 pub items-lower-spec : {M : Type 1} → statement M
 items-lower-spec =

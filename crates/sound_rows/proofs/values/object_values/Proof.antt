@@ -1,4 +1,4 @@
-use Rattle.sound_rows.specs.ValueLaws.{values-pending, values-resolved, values-none}
+use Rattle.sound_rows.specs.ValueLaws.{values-pending, values_resolved, values-none}
 use borrow.Author.Rules.{rules}
 use Rattle.sound_rows.proofs.values.object_values.Statement.{statement}
 use Rattle.sound_rows.proofs.values.object_values.Tie as tie
@@ -43,7 +43,7 @@ value-known-requires : tie.Need-value-known-requires
 value-known-requires c κs = search rules
 
 returns-2 : tie.Need-returns-2
-returns-2 c = values-resolved _ _ _ c.before.before.before.before.object_row.ensures c.before.before.if2.true c.before.to_value.ensures c.value_known.ensures
+returns-2 c = values_resolved _ _ _ c.before.before.before.before.object_row.ensures c.before.before.if2.true c.before.to_value.ensures c.value_known.ensures
 
 returns-3 : tie.Need-returns-3
 returns-3 c = values-none _ _ _ c.before.before.object_row.ensures c.before.if1.false c.if2.false

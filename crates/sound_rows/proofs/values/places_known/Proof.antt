@@ -4,7 +4,7 @@ use Prim.Native.Nat.{ℕ, ◌-◌, ◌≤◌}
 use native.Mathlib.Omega.{arith}
 use borrow.Author.Rules.{rules}
 use Rattle.machine.specs.Tests.{all_below}
-use Rattle.sound_words.specs.Loops.{all_none, all-turn, all-fails, all_end}
+use Rattle.sound_words.specs.Loops.{all_none, all_turn, all_fails, all_end}
 use Rattle.rows.specs.Tables.{object_at, place_at}
 use Rattle.machine.specs.Sound.{option_known}
 use Rattle.sound_rows.proofs.values.places_known.Statement.{statement}
@@ -32,13 +32,13 @@ loop-less : tie.Need-loop-smaller invariant_loop decreases_loop
 loop-less c = omega arith
 
 loop-again : tie.Need-loop-preserved invariant_loop decreases_loop
-loop-again c = (all-turn _ c.before.before.before.before.loop.p (sym c.if1.true ∙ c.before.option_known.ensures ∙ ap (option_known _ _) c.before.before.result_at.ensures) c.before.before.before.before.loop.invariant.0, omega arith)
+loop-again c = (all_turn _ c.before.before.before.before.loop.p (sym c.if1.true ∙ c.before.option_known.ensures ∙ ap (option_known _ _) c.before.before.result_at.ensures) c.before.before.before.before.loop.invariant.0, omega arith)
 
 returns : tie.Need_returns invariant_loop decreases_loop
-returns c = all-fails _ c.before.before.before.before.loop.p _ c.before.before.before.loop-test.true (sym c.if1.false ∙ c.before.option_known.ensures ∙ ap (option_known _ _) c.before.before.result_at.ensures)
+returns c = all_fails _ c.before.before.before.before.loop.p _ c.before.before.before.loop_test.true (sym c.if1.false ∙ c.before.option_known.ensures ∙ ap (option_known _ _) c.before.before.result_at.ensures)
 
 returns-2 : tie.Need-returns-2 invariant_loop decreases_loop
-returns-2 c = all_end _ c.before.loop.p _ (omega arith) c.loop-test.false c.before.loop.invariant.0
+returns-2 c = all_end _ c.before.loop.p _ (omega arith) c.loop_test.false c.before.loop.invariant.0
 
 pub places-known-spec : {M : Type 1} → statement M
 places-known-spec =

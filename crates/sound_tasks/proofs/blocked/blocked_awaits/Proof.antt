@@ -32,7 +32,7 @@ is-task-requires c κs = search rules
 
 returns : tie.Need_returns
 unfolding blocked_awaits blocked_on ◌and◌
-returns c = rw (c.before.before.before.before.before.s.given.1, lt-ltb _ _ c.before.before.if1.true, ← c.before.awaiter-at.ensures) c.is_task.ensures
+returns c = rw (c.before.before.before.before.before.s.given.1, lt-ltb _ _ c.before.before.if1.true, ← c.before.awaiter_at.ensures) c.is_task.ensures
 
 returns-2 : tie.Need-returns-2
 unfolding blocked_awaits blocked_on

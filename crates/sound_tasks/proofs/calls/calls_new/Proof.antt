@@ -7,8 +7,8 @@ use borrow.Author.Rules.{rules}
 use Rattle.rows.specs.Tables.{object_at}
 use Rattle.machine.specs.Tests.{all_below}
 use Rattle.machine.specs.Sound.{call_new}
-use Rattle.sound_words.specs.Loops.{all_none, all-turn, all-fails, all_end}
-use Rattle.sound_tasks.specs.CallLaws.{Highest, highest_none, highest_turn, call_none, call_high, call-looked}
+use Rattle.sound_words.specs.Loops.{all_none, all_turn, all_fails, all_end}
+use Rattle.sound_tasks.specs.CallLaws.{Highest, highest_none, highest_turn, call_none, call_high, call_looked}
 use Rattle.sound_tasks.proofs.calls.calls_new.Statement.{statement}
 use Rattle.sound_tasks.proofs.calls.calls_new.Tie as tie
 
@@ -35,7 +35,7 @@ loop-less c = omega arith
 
 loop-again : tie.Need-loop-preserved invariant_loop decreases_loop
 loop-again c = (
-  all-turn _ c.before.before.before.before.loop.o (call_none _ _ (rw c.before.before.new.ensures at c.before.call_number.ensures) c.if1.true) c.before.before.before.before.loop.invariant.0,
+  all_turn _ c.before.before.before.before.loop.o (call_none _ _ (rw c.before.before.new.ensures at c.before.call_number.ensures) c.if1.true) c.before.before.before.before.loop.invariant.0,
   omega arith,
   highest_turn _ _ c.before.before.before.before.loop.top c.before.before.before.before.loop.top (omega arith) (omega (arith, (rw c.before.before.new.ensures at c.before.call_number.ensures))) c.before.before.before.before.loop.invariant.2,
 )
@@ -48,7 +48,7 @@ loop-less-2 c = omega arith
 
 loop-again-2 : tie.Need-loop-preserved-2 invariant_loop decreases_loop
 loop-again-2 c = (
-  all-turn _ c.before.before.before.before.before.loop.o (call_high _ _ c.before.before.before.before.before.loop.top (rw c.before.before.before.new.ensures at c.before.before.call_number.ensures) c.if2.true c.before.before.before.before.before.loop.invariant.2) c.before.before.before.before.before.loop.invariant.0,
+  all_turn _ c.before.before.before.before.before.loop.o (call_high _ _ c.before.before.before.before.before.loop.top (rw c.before.before.before.new.ensures at c.before.before.call_number.ensures) c.if2.true c.before.before.before.before.before.loop.invariant.2) c.before.before.before.before.before.loop.invariant.0,
   omega arith,
   highest_turn _ _ c.before.before.before.before.before.loop.top _ (omega arith) (omega (arith, (rw c.before.before.before.new.ensures at c.before.before.call_number.ensures))) c.before.before.before.before.before.loop.invariant.2,
 )
@@ -64,16 +64,16 @@ loop-less-3 c = omega arith
 
 loop-again-3 : tie.Need-loop-preserved-3 invariant_loop decreases_loop
 loop-again-3 c = (
-  all-turn _ c.before.before.before.before.before.before.before.loop.o (sym c.if3.true ∙ call-looked _ _ (rw c.before.before.before.before.before.new.ensures at c.before.before.before.before.call_number.ensures) c.before.before.before.if1.false c.before.others-differ.ensures) c.before.before.before.before.before.before.before.loop.invariant.0,
+  all_turn _ c.before.before.before.before.before.before.before.loop.o (sym c.if3.true ∙ call_looked _ _ (rw c.before.before.before.before.before.new.ensures at c.before.before.before.before.call_number.ensures) c.before.before.before.if1.false c.before.others-differ.ensures) c.before.before.before.before.before.before.before.loop.invariant.0,
   omega arith,
   highest_turn _ _ c.before.before.before.before.before.before.before.loop.top c.before.before.before.before.before.before.before.loop.top (omega arith) (omega (arith, (rw c.before.before.before.before.before.new.ensures at c.before.before.before.before.call_number.ensures))) c.before.before.before.before.before.before.before.loop.invariant.2,
 )
 
 returns : tie.Need_returns invariant_loop decreases_loop
-returns c = all-fails _ c.before.before.before.before.before.before.before.loop.o _ c.before.before.before.before.before.before.loop-test.true (sym c.if3.false ∙ call-looked _ _ (rw c.before.before.before.before.before.new.ensures at c.before.before.before.before.call_number.ensures) c.before.before.before.if1.false c.before.others-differ.ensures)
+returns c = all_fails _ c.before.before.before.before.before.before.before.loop.o _ c.before.before.before.before.before.before.loop_test.true (sym c.if3.false ∙ call_looked _ _ (rw c.before.before.before.before.before.new.ensures at c.before.before.before.before.call_number.ensures) c.before.before.before.if1.false c.before.others-differ.ensures)
 
 returns-2 : tie.Need-returns-2 invariant_loop decreases_loop
-returns-2 c = all_end _ c.before.loop.o _ (omega arith) c.loop-test.false c.before.loop.invariant.0
+returns-2 c = all_end _ c.before.loop.o _ (omega arith) c.loop_test.false c.before.loop.invariant.0
 
 pub calls-new-spec : {M : Type 1} → statement M
 calls-new-spec =

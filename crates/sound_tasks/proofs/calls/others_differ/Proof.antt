@@ -6,7 +6,7 @@ use Rattle.sound_rows.specs.NumberLaws.{heap_number}
 use borrow.Author.Tests.{eq-eqb, ne_eqb}
 use borrow.Author.Rules.{rules}
 use Rattle.machine.specs.Tests.{all_below}
-use Rattle.sound_words.specs.Loops.{all_none, all-turn, all-fails, all_end}
+use Rattle.sound_words.specs.Loops.{all_none, all_turn, all_fails, all_end}
 use Rattle.sound_tasks.specs.CallLaws.{other_call}
 use Rattle.sound_tasks.proofs.calls.others_differ.Statement.{statement}
 use Rattle.sound_tasks.proofs.calls.others_differ.Tie as tie
@@ -28,7 +28,7 @@ call-number-requires c κs = search (rules, heap_number c.new.ensures)
 
 returns : tie.Need_returns invariant_loop decreases_loop
 unfolding other_call
-returns c = all-fails _ c.before.before.before.before.loop.p _ c.before.before.before.loop-test.true (rw (← (rw c.before.before.new.ensures at c.before.call_number.ensures), eq-eqb _ _ c.if1.true))
+returns c = all_fails _ c.before.before.before.before.loop.p _ c.before.before.before.loop_test.true (rw (← (rw c.before.before.new.ensures at c.before.call_number.ensures), eq-eqb _ _ c.if1.true))
 
 add-p : tie.Need-overflow-add-p invariant_loop decreases_loop
 add-p c = omega arith
@@ -38,10 +38,10 @@ loop-less c = omega arith
 
 loop-again : tie.Need-loop-preserved invariant_loop decreases_loop
 unfolding other_call
-loop-again c = (all-turn _ c.before.before.before.before.loop.p (rw (← (rw c.before.before.new.ensures at c.before.call_number.ensures), ne_eqb _ _ c.if1.false)) c.before.before.before.before.loop.invariant.0, omega arith)
+loop-again c = (all_turn _ c.before.before.before.before.loop.p (rw (← (rw c.before.before.new.ensures at c.before.call_number.ensures), ne_eqb _ _ c.if1.false)) c.before.before.before.before.loop.invariant.0, omega arith)
 
 returns-2 : tie.Need-returns-2 invariant_loop decreases_loop
-returns-2 c = all_end _ c.before.loop.p _ (omega arith) c.loop-test.false c.before.loop.invariant.0
+returns-2 c = all_end _ c.before.loop.p _ (omega arith) c.loop_test.false c.before.loop.invariant.0
 
 pub others-differ-spec : {M : Type 1} → statement M
 others-differ-spec =

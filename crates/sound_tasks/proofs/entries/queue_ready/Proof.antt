@@ -10,9 +10,9 @@ use Rattle.rows.specs.Tables.{task_at}
 use lib.ListN.{take}
 use Rattle.machine.specs.Tests.{all_below}
 use Rattle.machine.specs.Sound.{entry_ready}
-use Rattle.sound_words.specs.Loops.{all_none, all-turn, all-fails, all_end}
+use Rattle.sound_words.specs.Loops.{all_none, all_turn, all_fails, all_end}
 use Rattle.sound_tasks.specs.Marks.{Marks, marks_zeros}
-use Rattle.sound_tasks.specs.QueueLaws.{entry_is, entry_at, queue-told, entry-out, entry_seen, entry-idle, entry-good, entry-marks}
+use Rattle.sound_tasks.specs.QueueLaws.{entry_is, entry_at, queue_told, entry_out, entry_seen, entry-idle, entry-good, entry_marks}
 use Rattle.sound_tasks.proofs.entries.queue_ready.Statement.{statement}
 use Rattle.sound_tasks.proofs.entries.queue_ready.Tie as tie
 
@@ -32,7 +32,7 @@ array-read-t : tie.Need-array-read-t invariant_loop decreases_loop
 array-read-t c = omega arith
 
 returns : tie.Need_returns invariant_loop decreases_loop
-returns c = queue-told _ c.before.before.before.before.args.n _ _ (omega arith) (all-fails _ c.before.before.loop.i _ c.before.loop-test.true (entry-out _ _ _ c.before.before.loop.seen _ (entry_at _ c.before.before.before.before.args.n c.before.before.loop.i c.before.loop-test.true) c.if1.true))
+returns c = queue_told _ c.before.before.before.before.args.n _ _ (omega arith) (all_fails _ c.before.before.loop.i _ c.before.loop_test.true (entry_out _ _ _ c.before.before.loop.seen _ (entry_at _ c.before.before.before.before.args.n c.before.before.loop.i c.before.loop_test.true) c.if1.true))
 
 cast-k : tie.Need-overflow-cast-k invariant_loop decreases_loop
 cast-k c = omega arith
@@ -41,7 +41,7 @@ array-read-if2 : tie.Need-array-read-if2 invariant_loop decreases_loop
 array-read-if2 c = omega arith
 
 returns-2 : tie.Need-returns-2 invariant_loop decreases_loop
-returns-2 c = queue-told _ c.before.before.before.before.before.args.n _ _ (omega arith) (all-fails _ c.before.before.before.loop.i _ c.before.before.loop-test.true (entry_seen _ _ _ c.before.before.before.loop.seen _ (entry_at _ c.before.before.before.before.before.args.n c.before.before.before.loop.i c.before.before.loop-test.true) c.before.if1.false c.before.before.before.before.before.requires.1.1 c.before.before.before.loop.invariant.2 c.if2.true))
+returns-2 c = queue_told _ c.before.before.before.before.before.args.n _ _ (omega arith) (all_fails _ c.before.before.before.loop.i _ c.before.before.loop_test.true (entry_seen _ _ _ c.before.before.before.loop.seen _ (entry_at _ c.before.before.before.before.before.args.n c.before.before.before.loop.i c.before.before.loop_test.true) c.before.if1.false c.before.before.before.before.before.requires.1.1 c.before.before.before.loop.invariant.2 c.if2.true))
 
 new-requires : tie.Need_new_requires invariant_loop decreases_loop
 new-requires c κs = search rules
@@ -63,18 +63,18 @@ loop-less c = omega arith
 
 loop-again : tie.Need-loop-preserved invariant_loop decreases_loop
 loop-again c = (
-  all-turn _ c.before.before.before.before.before.before.before.loop.i (entry-good _ _ _ c.before.before.before.before.before.before.before.loop.seen _ (entry_at _ c.before.before.before.before.before.before.before.before.before.args.n c.before.before.before.before.before.before.before.loop.i c.before.before.before.before.before.before.loop-test.true) c.before.before.before.before.before.if1.false c.before.before.before.before.before.before.before.before.before.requires.1.1 c.before.before.before.before.before.before.before.loop.invariant.2 (rw c.before.before.before.new.ensures at c.before.before.state-at.ensures) c.before.before.before.before.if2.false (sym c.before.is_ready.ensures ∙ c.if3.true)) c.before.before.before.before.before.before.before.loop.invariant.0,
+  all_turn _ c.before.before.before.before.before.before.before.loop.i (entry-good _ _ _ c.before.before.before.before.before.before.before.loop.seen _ (entry_at _ c.before.before.before.before.before.before.before.before.before.args.n c.before.before.before.before.before.before.before.loop.i c.before.before.before.before.before.before.loop_test.true) c.before.before.before.before.before.if1.false c.before.before.before.before.before.before.before.before.before.requires.1.1 c.before.before.before.before.before.before.before.loop.invariant.2 (rw c.before.before.before.new.ensures at c.before.before.state-at.ensures) c.before.before.before.before.if2.false (sym c.before.is_ready.ensures ∙ c.if3.true)) c.before.before.before.before.before.before.before.loop.invariant.0,
   omega arith,
-  entry-marks _ c.before.before.before.before.before.before.before.before.before.args.tasks.now (take c.before.before.before.before.before.before.before.before.before.args.n c.before.before.before.before.before.before.before.before.before.args.t1) c.before.before.before.before.before.before.before.loop.seen _ (entry_at _ c.before.before.before.before.before.before.before.before.before.args.n c.before.before.before.before.before.before.before.loop.i c.before.before.before.before.before.before.loop-test.true) c.before.before.before.before.before.if1.false c.before.before.before.before.before.before.before.before.before.requires.1.1 c.before.before.before.before.before.before.before.loop.invariant.2,
+  entry_marks _ c.before.before.before.before.before.before.before.before.before.args.tasks.now (take c.before.before.before.before.before.before.before.before.before.args.n c.before.before.before.before.before.before.before.before.before.args.t1) c.before.before.before.before.before.before.before.loop.seen _ (entry_at _ c.before.before.before.before.before.before.before.before.before.args.n c.before.before.before.before.before.before.before.loop.i c.before.before.before.before.before.before.loop_test.true) c.before.before.before.before.before.if1.false c.before.before.before.before.before.before.before.before.before.requires.1.1 c.before.before.before.before.before.before.before.loop.invariant.2,
   omega arith,
   omega arith,
 )
 
 returns-3 : tie.Need-returns-3 invariant_loop decreases_loop
-returns-3 c = queue-told _ c.before.before.before.before.before.before.before.before.before.args.n _ _ (omega arith) (all-fails _ c.before.before.before.before.before.before.before.loop.i _ c.before.before.before.before.before.before.loop-test.true (entry-idle _ _ _ c.before.before.before.before.before.before.before.loop.seen _ (entry_at _ c.before.before.before.before.before.before.before.before.before.args.n c.before.before.before.before.before.before.before.loop.i c.before.before.before.before.before.before.loop-test.true) c.before.before.before.before.before.if1.false c.before.before.before.before.before.before.before.before.before.requires.1.1 c.before.before.before.before.before.before.before.loop.invariant.2 (rw c.before.before.before.new.ensures at c.before.before.state-at.ensures) (sym c.before.is_ready.ensures ∙ c.if3.false)))
+returns-3 c = queue_told _ c.before.before.before.before.before.before.before.before.before.args.n _ _ (omega arith) (all_fails _ c.before.before.before.before.before.before.before.loop.i _ c.before.before.before.before.before.before.loop_test.true (entry-idle _ _ _ c.before.before.before.before.before.before.before.loop.seen _ (entry_at _ c.before.before.before.before.before.before.before.before.before.args.n c.before.before.before.before.before.before.before.loop.i c.before.before.before.before.before.before.loop_test.true) c.before.before.before.before.before.if1.false c.before.before.before.before.before.before.before.before.before.requires.1.1 c.before.before.before.before.before.before.before.loop.invariant.2 (rw c.before.before.before.new.ensures at c.before.before.state-at.ensures) (sym c.before.is_ready.ensures ∙ c.if3.false)))
 
 returns-4 : tie.Need-returns-4 invariant_loop decreases_loop
-returns-4 c = queue-told _ c.before.before.before.args.n _ _ (omega arith) (all_end _ c.before.loop.i _ (omega arith) c.loop-test.false c.before.loop.invariant.0)
+returns-4 c = queue_told _ c.before.before.before.args.n _ _ (omega arith) (all_end _ c.before.loop.i _ (omega arith) c.loop_test.false c.before.loop.invariant.0)
 
 pub queue-ready-spec : {M : Type 1} → statement M
 queue-ready-spec =

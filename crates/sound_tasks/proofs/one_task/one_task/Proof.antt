@@ -8,10 +8,10 @@ use Rattle.asyncio.specs.Limits.{object_limit}
 use Rattle.rows.specs.Tables.{task_at}
 use Rattle.machine.specs.Tests.{all_below}
 use Rattle.machine.specs.Sound.{one_task, sole_task}
-use Rattle.sound_words.specs.Loops.{all_none, all-turn, all-fails, all_end}
+use Rattle.sound_words.specs.Loops.{all_none, all_turn, all_fails, all_end}
 use Rattle.sound_tasks.specs.Marks.{Marks, marks_zeros}
 use Rattle.rows.specs.TableLaws.{coroutine-fits}
-use Rattle.sound_tasks.specs.OneTaskLaws.{driven, task-of-main, marks-main, task-of-dead, marks-dead, task-of-second, task-of-first, marks-live}
+use Rattle.sound_tasks.specs.OneTaskLaws.{driven, task_of_main, marks_main, task_of_dead, marks_dead, task_of_second, task_of_first, marks_live}
 use Rattle.sound_tasks.proofs.one_task.one_task.Statement.{statement}
 use Rattle.sound_tasks.proofs.one_task.one_task.Tie as tie
 
@@ -38,9 +38,9 @@ loop-less c = omega arith
 
 loop-again : tie.Need-loop-preserved invariant_loop decreases_loop
 loop-again c = (
-  all-turn _ c.before.before.before.before.loop.t (task-of-main _ c.before.before.before.before.loop.seen _ c.before.before.before.before.loop.invariant.2 c.if1.true) c.before.before.before.before.loop.invariant.0,
+  all_turn _ c.before.before.before.before.loop.t (task_of_main _ c.before.before.before.before.loop.seen _ c.before.before.before.before.loop.invariant.2 c.if1.true) c.before.before.before.before.loop.invariant.0,
   omega arith,
-  marks-main _ c.before.before.before.before.loop.seen _ c.before.before.before.before.loop.invariant.2 c.if1.true,
+  marks_main _ c.before.before.before.before.loop.seen _ c.before.before.before.before.loop.invariant.2 c.if1.true,
 )
 
 is-live-requires : tie.Need-is-live-requires invariant_loop decreases_loop
@@ -57,7 +57,7 @@ array-read-if3 c = omega (arith, coroutine-fits _ _ (rw c.before.before.before.b
 
 returns : tie.Need_returns invariant_loop decreases_loop
 unfolding one_task
-returns c = all-fails _ c.before.before.before.before.before.before.before.before.before.loop.t _ c.before.before.before.before.before.before.before.before.loop-test.true (task-of-second _ c.before.before.before.before.before.before.before.before.before.loop.seen _ c.before.before.before.before.before.before.before.before.before.loop.invariant.2 (rw c.before.before.before.before.before.before.before.new.ensures at c.before.before.before.before.before.before.state-at.ensures) c.before.before.before.before.before.if1.false (sym c.before.before.before.before.is_live.ensures ∙ c.before.before.before.if2.true) (rw c.before.before.before.before.before.before.before.new.ensures at c.before.before.coroutine-at.ensures) c.if3.true)
+returns c = all_fails _ c.before.before.before.before.before.before.before.before.before.loop.t _ c.before.before.before.before.before.before.before.before.loop_test.true (task_of_second _ c.before.before.before.before.before.before.before.before.before.loop.seen _ c.before.before.before.before.before.before.before.before.before.loop.invariant.2 (rw c.before.before.before.before.before.before.before.new.ensures at c.before.before.before.before.before.before.state-at.ensures) c.before.before.before.before.before.if1.false (sym c.before.before.before.before.is_live.ensures ∙ c.before.before.before.if2.true) (rw c.before.before.before.before.before.before.before.new.ensures at c.before.before.coroutine-at.ensures) c.if3.true)
 
 array-write-seen : tie.Need-array-write-seen invariant_loop decreases_loop
 array-write-seen c = omega (arith, coroutine-fits _ _ (rw c.before.before.before.before.before.before.before.new.ensures at c.before.before.coroutine-at.ensures), c.before.before.before.before.before.before.before.before.before.loop.invariant.2.long)
@@ -70,9 +70,9 @@ loop-less-2 c = omega arith
 
 loop-again-2 : tie.Need-loop-preserved-2 invariant_loop decreases_loop
 loop-again-2 c = (
-  all-turn _ c.before.before.before.before.before.before.before.before.before.loop.t (task-of-first _ c.before.before.before.before.before.before.before.before.before.loop.seen _ c.before.before.before.before.before.before.before.before.before.loop.invariant.2 (rw c.before.before.before.before.before.before.before.new.ensures at c.before.before.before.before.before.before.state-at.ensures) c.before.before.before.before.before.if1.false (sym c.before.before.before.before.is_live.ensures ∙ c.before.before.before.if2.true) (rw c.before.before.before.before.before.before.before.new.ensures at c.before.before.coroutine-at.ensures) c.if3.false) c.before.before.before.before.before.before.before.before.before.loop.invariant.0,
+  all_turn _ c.before.before.before.before.before.before.before.before.before.loop.t (task_of_first _ c.before.before.before.before.before.before.before.before.before.loop.seen _ c.before.before.before.before.before.before.before.before.before.loop.invariant.2 (rw c.before.before.before.before.before.before.before.new.ensures at c.before.before.before.before.before.before.state-at.ensures) c.before.before.before.before.before.if1.false (sym c.before.before.before.before.is_live.ensures ∙ c.before.before.before.if2.true) (rw c.before.before.before.before.before.before.before.new.ensures at c.before.before.coroutine-at.ensures) c.if3.false) c.before.before.before.before.before.before.before.before.before.loop.invariant.0,
   omega arith,
-  marks-live _ c.before.before.before.before.before.before.before.before.before.loop.seen _ c.before.before.before.before.before.before.before.before.before.loop.invariant.2 (rw c.before.before.before.before.before.before.before.new.ensures at c.before.before.before.before.before.before.state-at.ensures) c.before.before.before.before.before.if1.false (sym c.before.before.before.before.is_live.ensures ∙ c.before.before.before.if2.true) (rw c.before.before.before.before.before.before.before.new.ensures at c.before.before.coroutine-at.ensures),
+  marks_live _ c.before.before.before.before.before.before.before.before.before.loop.seen _ c.before.before.before.before.before.before.before.before.before.loop.invariant.2 (rw c.before.before.before.before.before.before.before.new.ensures at c.before.before.before.before.before.before.state-at.ensures) c.before.before.before.before.before.if1.false (sym c.before.before.before.before.is_live.ensures ∙ c.before.before.before.if2.true) (rw c.before.before.before.before.before.before.before.new.ensures at c.before.before.coroutine-at.ensures),
 )
 
 add-t-3 : tie.Need-overflow-add-t-3 invariant_loop decreases_loop
@@ -83,14 +83,14 @@ loop-less-3 c = omega arith
 
 loop-again-3 : tie.Need-loop-preserved-3 invariant_loop decreases_loop
 loop-again-3 c = (
-  all-turn _ c.before.before.before.before.before.before.loop.t (task-of-dead _ c.before.before.before.before.before.before.loop.seen _ c.before.before.before.before.before.before.loop.invariant.2 (rw c.before.before.before.before.new.ensures at c.before.before.before.state-at.ensures) (sym c.before.is_live.ensures ∙ c.if2.false)) c.before.before.before.before.before.before.loop.invariant.0,
+  all_turn _ c.before.before.before.before.before.before.loop.t (task_of_dead _ c.before.before.before.before.before.before.loop.seen _ c.before.before.before.before.before.before.loop.invariant.2 (rw c.before.before.before.before.new.ensures at c.before.before.before.state-at.ensures) (sym c.before.is_live.ensures ∙ c.if2.false)) c.before.before.before.before.before.before.loop.invariant.0,
   omega arith,
-  marks-dead _ c.before.before.before.before.before.before.loop.seen _ c.before.before.before.before.before.before.loop.invariant.2 (rw c.before.before.before.before.new.ensures at c.before.before.before.state-at.ensures) (sym c.before.is_live.ensures ∙ c.if2.false),
+  marks_dead _ c.before.before.before.before.before.before.loop.seen _ c.before.before.before.before.before.before.loop.invariant.2 (rw c.before.before.before.before.new.ensures at c.before.before.before.state-at.ensures) (sym c.before.is_live.ensures ∙ c.if2.false),
 )
 
 returns-2 : tie.Need-returns-2 invariant_loop decreases_loop
 unfolding one_task
-returns-2 c = all_end _ c.before.loop.t _ (omega arith) c.loop-test.false c.before.loop.invariant.0
+returns-2 c = all_end _ c.before.loop.t _ (omega arith) c.loop_test.false c.before.loop.invariant.0
 
 pub one-task-spec : {M : Type 1} → statement M
 one-task-spec =

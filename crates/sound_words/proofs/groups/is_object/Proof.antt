@@ -1,6 +1,6 @@
 use mathlib.Core.Path.{◌∙◌}
 use native.Mathlib.Omega.{arith}
-use Rattle.sound_words.specs.PartLaws.{row-unmade, row-new-coroutine, row-running-coroutine, row-completed-coroutine, row-pending, row-resolved, row-failed, row-waiting-resting, row-awaited, row-done-resting, row-broken, row-unknown, past, past_zero}
+use Rattle.sound_words.specs.PartLaws.{row-unmade, row-new-coroutine, row-running_coroutine, row-completed-coroutine, row-pending, row_resolved, row-failed, row-waiting_resting, row-awaited, row-done_resting, row-broken, row_unknown, past, past_zero}
 use borrow.Author.Rules.{rules}
 use Rattle.sound_words.proofs.groups.is_object.Statement.{statement}
 use Rattle.sound_words.proofs.groups.is_object.Tie as tie
@@ -48,7 +48,7 @@ returns-2 : tie.Need-returns-2
 returns-2 c = c.is_coroutine.ensures ∙ row-new-coroutine _ (omega arith) c.before.match.keys2
 
 returns-3 : tie.Need-returns-3
-returns-3 c = c.is-coroutine2.ensures ∙ row-running-coroutine _ (omega arith) c.before.match.keys3
+returns-3 c = c.is-coroutine2.ensures ∙ row-running_coroutine _ (omega arith) c.before.match.keys3
 
 returns-4 : tie.Need-returns-4
 returns-4 c = c.is-coroutine3.ensures ∙ row-completed-coroutine _ (omega arith) c.before.match.keys4
@@ -57,25 +57,25 @@ returns-5 : tie.Need-returns-5
 returns-5 c = c.is_pending.ensures ∙ row-pending _ (omega arith) c.before.match.keys5
 
 returns-6 : tie.Need-returns-6
-returns-6 c = c.is-resolved.ensures ∙ row-resolved _ (omega arith) c.before.match.keys6
+returns-6 c = c.is-resolved.ensures ∙ row_resolved _ (omega arith) c.before.match.keys6
 
 returns-7 : tie.Need-returns-7
 returns-7 c = c.is_failed.ensures ∙ row-failed _ (omega arith) c.before.match.keys7
 
 returns-8 : tie.Need-returns-8
-returns-8 c = c.is-resting.ensures ∙ row-waiting-resting _ (omega arith) c.before.match.keys8
+returns-8 c = c.is-resting.ensures ∙ row-waiting_resting _ (omega arith) c.before.match.keys8
 
 returns-9 : tie.Need-returns-9
 returns-9 c = c.is_awaited.ensures ∙ row-awaited _ (omega arith) c.before.match.keys9
 
 returns-10 : tie.Need-returns-10
-returns-10 c = c.is-resting2.ensures ∙ row-done-resting _ (omega arith) c.before.match.keys10
+returns-10 c = c.is-resting2.ensures ∙ row-done_resting _ (omega arith) c.before.match.keys10
 
 returns-11 : tie.Need-returns-11
 returns-11 c = c.is-broken.ensures ∙ row-broken _ (omega arith) c.before.match.keys11
 
 returns-12 : tie.Need-returns-12
-returns-12 c = row-unknown c.before.args.t1 (omega arith) (past 10 (past 9 (past 8 (past 7 (past 6 (past 5 (past 4 (past 3 (past 2 (past 1 (past_zero c.match.rest.0.0.0.0.0.0.0.0.0.0.1) c.match.rest.0.0.0.0.0.0.0.0.0.1) c.match.rest.0.0.0.0.0.0.0.0.1) c.match.rest.0.0.0.0.0.0.0.1) c.match.rest.0.0.0.0.0.0.1) c.match.rest.0.0.0.0.0.1) c.match.rest.0.0.0.0.1) c.match.rest.0.0.0.1) c.match.rest.0.0.1) c.match.rest.0.1) c.match.rest.1)
+returns-12 c = row_unknown c.before.args.t1 (omega arith) (past 10 (past 9 (past 8 (past 7 (past 6 (past 5 (past 4 (past 3 (past 2 (past 1 (past_zero c.match.rest.0.0.0.0.0.0.0.0.0.0.1) c.match.rest.0.0.0.0.0.0.0.0.0.1) c.match.rest.0.0.0.0.0.0.0.0.1) c.match.rest.0.0.0.0.0.0.0.1) c.match.rest.0.0.0.0.0.0.1) c.match.rest.0.0.0.0.0.1) c.match.rest.0.0.0.0.1) c.match.rest.0.0.0.1) c.match.rest.0.0.1) c.match.rest.0.1) c.match.rest.1)
 
 pub is-object-spec : {M : Type 1} → statement M
 is-object-spec =

@@ -6,7 +6,7 @@ use lib.ListN.{drop}
 use borrow.Author.Rules.{rules}
 use borrow.Author.Tests.{le-leb, lt-leb}
 use Rattle.machine.specs.Machine.{any_of}
-use Rattle.step_checks.specs.TestLaws.{any_here, any-turn, any-end}
+use Rattle.step_checks.specs.TestLaws.{any_here, any_turn, any_end}
 use Rattle.step_checks.proofs.refusals.any_unmade.Statement.{statement}
 use Rattle.step_checks.proofs.refusals.any_unmade.Tie as tie
 
@@ -26,7 +26,7 @@ shared-slice-read-if1 : tie.Need-shared-slice-read-if1 invariant_loop decreases_
 shared-slice-read-if1 c = search rules
 
 returns : tie.Need_returns invariant_loop decreases_loop
-returns c = sym (any_here (leb c.before.before.before.before.args.made) c.before.before.before.before.args.items.now c.before.before.before.loop.i c.before.before.loop-test.true (le-leb _ _ c.if1.true)) ∙ c.before.before.before.loop.invariant.0
+returns c = sym (any_here (leb c.before.before.before.before.args.made) c.before.before.before.before.args.items.now c.before.before.before.loop.i c.before.before.loop_test.true (le-leb _ _ c.if1.true)) ∙ c.before.before.before.loop.invariant.0
 
 add-i : tie.Need-overflow-add-i invariant_loop decreases_loop
 add-i c = omega arith
@@ -35,10 +35,10 @@ loop-less : tie.Need-loop-smaller invariant_loop decreases_loop
 loop-less c = omega arith
 
 loop-again : tie.Need-loop-preserved invariant_loop decreases_loop
-loop-again c = (any-turn (leb c.before.before.before.before.args.made) c.before.before.before.before.args.items.now c.before.before.before.loop.i c.before.before.loop-test.true (lt-leb _ _ c.if1.false) ∙ c.before.before.before.loop.invariant.0, omega arith)
+loop-again c = (any_turn (leb c.before.before.before.before.args.made) c.before.before.before.before.args.items.now c.before.before.before.loop.i c.before.before.loop_test.true (lt-leb _ _ c.if1.false) ∙ c.before.before.before.loop.invariant.0, omega arith)
 
 returns-2 : tie.Need-returns-2 invariant_loop decreases_loop
-returns-2 c = sym (any-end (leb c.before.before.args.made) c.before.before.args.items.now c.before.loop.i (omega arith)) ∙ c.before.loop.invariant.0
+returns-2 c = sym (any_end (leb c.before.before.args.made) c.before.before.args.items.now c.before.loop.i (omega arith)) ∙ c.before.loop.invariant.0
 
 pub any-unmade-spec : {M : Type 1} → statement M
 any-unmade-spec =

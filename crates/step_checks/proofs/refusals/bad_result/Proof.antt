@@ -1,7 +1,7 @@
 use mathlib.Core.Path.{◌≡◌, refl, sym, ap, ◌∙◌}
 use native.Mathlib.Omega.{arith}
 use Rattle.exec_futures.specs.Results.{result_at}
-use Rattle.step_checks.specs.TestLaws.{bad_kind, bad-tag, bad-number, good-kind}
+use Rattle.step_checks.specs.TestLaws.{bad_kind, bad_tag, bad_number, good-kind}
 use borrow.Author.Rules.{rules}
 use Rattle.step_checks.proofs.refusals.bad_result.Statement.{statement}
 use Rattle.step_checks.proofs.refusals.bad_result.Tie as tie
@@ -22,7 +22,7 @@ u8-at-requires-2 : tie.Need-u8-at-requires-2
 u8-at-requires-2 c κs = search rules
 
 returns-2 : tie.Need-returns-2
-returns-2 c = bad-tag (result_at c.before.before.before.before.before.args.results.now c.before.before.before.before.before.args.at) (omega (arith, c.before.before.if1.false, c.before.before.before.u8-at.ensures.0)) (omega (arith, c.if2.true, c.before.u8-at2.ensures.0))
+returns-2 c = bad_tag (result_at c.before.before.before.before.before.args.results.now c.before.before.before.before.before.args.at) (omega (arith, c.before.before.if1.false, c.before.before.before.u8-at.ensures.0)) (omega (arith, c.if2.true, c.before.u8-at2.ensures.0))
 
 add-u64-at : tie.Need-overflow-add-u64-at
 add-u64-at c = search rules
@@ -31,7 +31,7 @@ u64-at-requires : tie.Need-u64-at-requires
 u64-at-requires c κs = search rules
 
 returns-3 : tie.Need-returns-3
-returns-3 c = rw c.u64-at.ensures (bad-number (result_at c.before.before.before.before.before.before.before.args.results.now c.before.before.before.before.before.before.before.args.at) (omega (arith, c.before.before.before.before.if1.false, c.before.before.before.before.before.u8-at.ensures.0)) (omega (arith, c.before.before.if2.false, c.before.before.before.u8-at2.ensures.0)) (sym c.before.before.before.before.before.u8-at.ensures.0 ∙ c.before.if3.true))
+returns-3 c = rw c.u64-at.ensures (bad_number (result_at c.before.before.before.before.before.before.before.args.results.now c.before.before.before.before.before.before.before.args.at) (omega (arith, c.before.before.before.before.if1.false, c.before.before.before.before.before.u8-at.ensures.0)) (omega (arith, c.before.before.if2.false, c.before.before.before.u8-at2.ensures.0)) (sym c.before.before.before.before.before.u8-at.ensures.0 ∙ c.before.if3.true))
 
 returns-4 : tie.Need-returns-4
 returns-4 c = good-kind (result_at c.before.before.before.before.before.before.args.results.now c.before.before.before.before.before.before.args.at) (omega (arith, c.before.before.before.if1.false, c.before.before.before.before.u8-at.ensures.0)) (omega (arith, c.before.if2.false, c.before.before.u8-at2.ensures.0)) (λ z. c.if3.false (c.before.before.before.before.u8-at.ensures.0 ∙ z))

@@ -3,7 +3,7 @@ use native.Mathlib.Omega.{arith}
 use Rattle.asyncio.specs.Kinds.{is_completed}
 use Rattle.asyncio.specs.declared.HeapId.{HeapId}
 use Rattle.exec_futures.specs.Results.{result_at}
-use Rattle.step_checks.specs.TestLaws.{known-kind, known-plain, unknown-unmade, unknown-by}
+use Rattle.step_checks.specs.TestLaws.{known-kind, known-plain, unknown_unmade, unknown_by}
 use borrow.Author.Rules.{rules}
 use Rattle.step_checks.proofs.refusals.result_unknown.Statement.{statement}
 use Rattle.step_checks.proofs.refusals.result_unknown.Tie as tie
@@ -39,10 +39,10 @@ is-completed-requires : tie.Need-is-completed-requires
 is-completed-requires c κs = search rules
 
 returns : tie.Need_returns
-returns c = λ ts ps q l. unknown-by ts c.before.before.before.before.before.before.before.before.before.before.before.args.objects.now ps q l (result_at c.before.before.before.before.before.before.before.before.before.before.before.args.results.now c.before.before.before.before.before.before.before.before.before.before.before.args.at) (sym c.before.before.before.before.before.before.before.before.u8-at.ensures.0 ∙ c.before.before.before.before.before.before.before.if1.true) (sym c.before.before.before.before.before.before.u8-at2.ensures.0 ∙ c.before.before.before.before.before.if2.true) c.before.before.before.before.u64-at.ensures (omega (arith, c.before.before.before.if3.true, c.before.before.before.before.before.before.before.before.before.before.before.requires.3)) (rw c.before.before.new.ensures at c.before.kind_at.ensures) c.is_completed.ensures
+returns c = λ ts ps q l. unknown_by ts c.before.before.before.before.before.before.before.before.before.before.before.args.objects.now ps q l (result_at c.before.before.before.before.before.before.before.before.before.before.before.args.results.now c.before.before.before.before.before.before.before.before.before.before.before.args.at) (sym c.before.before.before.before.before.before.before.before.u8-at.ensures.0 ∙ c.before.before.before.before.before.before.before.if1.true) (sym c.before.before.before.before.before.before.u8-at2.ensures.0 ∙ c.before.before.before.before.before.if2.true) c.before.before.before.before.u64-at.ensures (omega (arith, c.before.before.before.if3.true, c.before.before.before.before.before.before.before.before.before.before.before.requires.3)) (rw c.before.before.new.ensures at c.before.kind_at.ensures) c.is_completed.ensures
 
 returns-2 : tie.Need-returns-2
-returns-2 c = λ ts ps q l. unknown-unmade ts c.before.before.before.before.before.before.before.before.args.objects.now ps q l (result_at c.before.before.before.before.before.before.before.before.args.results.now c.before.before.before.before.before.before.before.before.args.at) (sym c.before.before.before.before.before.u8-at.ensures.0 ∙ c.before.before.before.before.if1.true) (sym c.before.before.before.u8-at2.ensures.0 ∙ c.before.before.if2.true) (omega (arith, c.if3.false, c.before.u64-at.ensures, c.before.before.before.before.before.before.before.before.requires.3))
+returns-2 c = λ ts ps q l. unknown_unmade ts c.before.before.before.before.before.before.before.before.args.objects.now ps q l (result_at c.before.before.before.before.before.before.before.before.args.results.now c.before.before.before.before.before.before.before.before.args.at) (sym c.before.before.before.before.before.u8-at.ensures.0 ∙ c.before.before.before.before.if1.true) (sym c.before.before.before.u8-at2.ensures.0 ∙ c.before.before.if2.true) (omega (arith, c.if3.false, c.before.u64-at.ensures, c.before.before.before.before.before.before.before.before.requires.3))
 
 returns-3 : tie.Need-returns-3
 returns-3 c = λ ts ps q l. known-plain ts c.before.before.before.before.before.before.args.objects.now ps q l (result_at c.before.before.before.before.before.before.args.results.now c.before.before.before.before.before.before.args.at) (sym c.before.before.before.u8-at.ensures.0 ∙ c.before.before.if1.true) (λ z. c.if2.false (c.before.u8-at2.ensures.0 ∙ z))
