@@ -10,14 +10,14 @@ use Rattle.asyncio.specs.declared.Place.{Place}
 
 -- ---- what a call asks: the slice has its length, and there is such a row
 
-abbrev pub TaskRow : Bor (List ℕ) → ℕ → Type 0
-TaskRow tasks t = (length tasks.now ≡ tasks_length) × (t < task_limit)
+abbrev pub TaskRow : List ℕ → ℕ → Type 0
+TaskRow tasks t = (length tasks ≡ tasks_length) × (t < task_limit)
 
-abbrev pub ObjectRow : Bor (List ℕ) → ℕ → Type 0
-ObjectRow objects o = (length objects.now ≡ objects_length) × (o < object_limit)
+abbrev pub ObjectRow : List ℕ → ℕ → Type 0
+ObjectRow objects o = (length objects ≡ objects_length) × (o < object_limit)
 
-abbrev pub PlaceRow : Bor (List ℕ) → ℕ → Type 0
-PlaceRow places p = (length places.now ≡ places_length) × (p < place_limit)
+abbrev pub PlaceRow : List ℕ → ℕ → Type 0
+PlaceRow places p = (length places ≡ places_length) × (p < place_limit)
 
 -- ---- what stood at each row before the call
 

@@ -11,7 +11,7 @@ use asyncio::{Awaiter, CallId, HeapId, Kind, OptionValue, TaskId, TaskState};
 
 // Its sort and state.
 pub fn kind_at(objects: &[u64], o: HeapId) -> Kind
-    requires { ObjectRow objects o.0 }
+    requires { ObjectRow objects.now o.0 }
     ensures { result ≡ kind (object_in objects o.0) }
 {
     let i = o.0 as usize;
@@ -21,7 +21,7 @@ pub fn kind_at(objects: &[u64], o: HeapId) -> Kind
 
 // The awaiter of a pending external or an awaited gather, else nobody.
 pub fn awaiter_at(objects: &[u64], o: HeapId) -> Awaiter
-    requires { ObjectRow objects o.0 }
+    requires { ObjectRow objects.now o.0 }
     ensures { result ≡ awaiter_of (object_in objects o.0) }
 {
     let i = o.0 as usize;
@@ -35,7 +35,7 @@ pub fn awaiter_at(objects: &[u64], o: HeapId) -> Awaiter
 
 // The call of an external, else 0.
 pub fn call_at(objects: &[u64], o: HeapId) -> CallId
-    requires { ObjectRow objects o.0 }
+    requires { ObjectRow objects.now o.0 }
     ensures { result ≡ call_of (object_in objects o.0) }
 {
     let i = o.0 as usize;
@@ -49,7 +49,7 @@ pub fn call_at(objects: &[u64], o: HeapId) -> CallId
 
 // The first place of a gather, else 0.
 pub fn first_at(objects: &[u64], o: HeapId) -> u16
-    requires { ObjectRow objects o.0 }
+    requires { ObjectRow objects.now o.0 }
     ensures { result ≡ first_of (object_in objects o.0) }
 {
     let i = o.0 as usize;
@@ -63,7 +63,7 @@ pub fn first_at(objects: &[u64], o: HeapId) -> u16
 
 // The number of places of a gather, else 0.
 pub fn count_at(objects: &[u64], o: HeapId) -> u16
-    requires { ObjectRow objects o.0 }
+    requires { ObjectRow objects.now o.0 }
     ensures { result ≡ count_of (object_in objects o.0) }
 {
     let i = o.0 as usize;
@@ -77,7 +77,7 @@ pub fn count_at(objects: &[u64], o: HeapId) -> u16
 
 // The open places of an awaited gather, else 0.
 pub fn open_at(objects: &[u64], o: HeapId) -> u32
-    requires { ObjectRow objects o.0 }
+    requires { ObjectRow objects.now o.0 }
     ensures { result ≡ open_of (object_in objects o.0) }
 {
     let i = o.0 as usize;
@@ -92,7 +92,7 @@ pub fn open_at(objects: &[u64], o: HeapId) -> u32
 // ---- tasks
 
 pub fn state_at(tasks: &[u64], t: TaskId) -> TaskState
-    requires { TaskRow tasks t.0 }
+    requires { TaskRow tasks.now t.0 }
     ensures { result ≡ (task_in tasks t.0).state }
 {
     let i = t.0 as usize;
@@ -101,7 +101,7 @@ pub fn state_at(tasks: &[u64], t: TaskId) -> TaskState
 }
 
 pub fn task_awaiter_at(tasks: &[u64], t: TaskId) -> Awaiter
-    requires { TaskRow tasks t.0 }
+    requires { TaskRow tasks.now t.0 }
     ensures { result ≡ (task_in tasks t.0).awaiter }
 {
     let i = t.0 as usize;
@@ -110,7 +110,7 @@ pub fn task_awaiter_at(tasks: &[u64], t: TaskId) -> Awaiter
 }
 
 pub fn coroutine_at(tasks: &[u64], t: TaskId) -> HeapId
-    requires { TaskRow tasks t.0 }
+    requires { TaskRow tasks.now t.0 }
     ensures { result ≡ (task_in tasks t.0).coroutine }
 {
     let i = t.0 as usize;
@@ -121,7 +121,7 @@ pub fn coroutine_at(tasks: &[u64], t: TaskId) -> HeapId
 // ---- places
 
 pub fn item_at(places: &[u64], p: usize) -> HeapId
-    requires { PlaceRow places p }
+    requires { PlaceRow places.now p }
     ensures { result ≡ (place_in places p).item }
 {
     let at = p * 4;
@@ -129,7 +129,7 @@ pub fn item_at(places: &[u64], p: usize) -> HeapId
 }
 
 pub fn result_at(places: &[u64], p: usize) -> OptionValue
-    requires { PlaceRow places p }
+    requires { PlaceRow places.now p }
     ensures { result ≡ (place_in places p).result }
 {
     let at = p * 4;

@@ -64,21 +64,21 @@ fn store4(w: &mut [u64], at: usize, r: [u64; 4])
 
 // The words of its row.
 pub fn task_row(tasks: &[u64], t: usize) -> [u64; 8]
-    requires { TaskRow tasks t }
+    requires { TaskRow tasks.now t }
     ensures { result ≡ row_from tasks.now (task_start t) 0 8 }
 {
     load8(tasks, t * 8)
 }
 
 pub fn load_task(tasks: &[u64], t: TaskId) -> Task
-    requires { TaskRow tasks t.0 }
+    requires { TaskRow tasks.now t.0 }
     ensures { result ≡ task_in tasks t.0 }
 {
     to_task(task_row(tasks, t.0 as usize))
 }
 
 pub fn store_task(tasks: &mut [u64], t: TaskId, r: Task)
-    requires { TaskRow tasks t.0 }
+    requires { TaskRow tasks.old t.0 }
     ensures { tasks.new ≡ task_put tasks.old t.0 r }
 {
     let i = t.0 as usize;
@@ -89,21 +89,21 @@ pub fn store_task(tasks: &mut [u64], t: TaskId, r: Task)
 
 // The words of its row.
 pub fn object_row(objects: &[u64], o: usize) -> [u64; 8]
-    requires { ObjectRow objects o }
+    requires { ObjectRow objects.now o }
     ensures { result ≡ row_from objects.now (object_start o) 0 8 }
 {
     load8(objects, o * 8 + 8)
 }
 
 pub fn load_object(objects: &[u64], o: HeapId) -> Object
-    requires { ObjectRow objects o.0 }
+    requires { ObjectRow objects.now o.0 }
     ensures { result ≡ object_in objects o.0 }
 {
     to_object(object_row(objects, o.0 as usize))
 }
 
 pub fn store_object(objects: &mut [u64], o: HeapId, r: Object)
-    requires { ObjectRow objects o.0 }
+    requires { ObjectRow objects.old o.0 }
     ensures { objects.new ≡ object_put objects.old o.0 r }
 {
     let i = o.0 as usize;
@@ -136,21 +136,21 @@ pub fn store_header(objects: &mut [u64], h: Header)
 
 // The words of its row.
 pub fn place_row(places: &[u64], p: usize) -> [u64; 4]
-    requires { PlaceRow places p }
+    requires { PlaceRow places.now p }
     ensures { result ≡ row_from places.now (place_start p) 0 4 }
 {
     load4(places, p * 4)
 }
 
 pub fn load_place(places: &[u64], p: usize) -> Place
-    requires { PlaceRow places p }
+    requires { PlaceRow places.now p }
     ensures { result ≡ place_in places p }
 {
     to_place(place_row(places, p))
 }
 
 pub fn store_place(places: &mut [u64], p: usize, r: Place)
-    requires { PlaceRow places p }
+    requires { PlaceRow places.old p }
     ensures { places.new ≡ place_put places.old p r }
 {
     store4(places, p * 4, place_words(r));

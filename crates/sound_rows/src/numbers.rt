@@ -37,7 +37,7 @@ fn open_in_range(n: u16, m: u32) -> bool
 
 // Object `o` is made; its call was handed out; a gather's places start at `p`.
 fn object_in_range(header: Header, objects: &[u64], o: HeapId, p: u16) -> bool
-    requires { ObjectRow objects o.0 }
+    requires { ObjectRow objects.now o.0 }
     ensures { result ≡ object_in_range header p (object_in objects o.0) }
 {
     let kind = kind_at(objects, o);

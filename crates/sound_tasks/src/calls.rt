@@ -12,7 +12,7 @@ use rows::parts::{call_at, kind_at};
 
 // One more than the call of a pending external, 0 for every other object.
 fn call_number(objects: &[u64], o: HeapId) -> u64
-    requires { ObjectRow objects o.0 }
+    requires { ObjectRow objects.now o.0 }
     ensures { result ≡ call_number objects.now o.0 }
 {
     let kind = kind_at(objects, o);

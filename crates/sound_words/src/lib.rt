@@ -36,7 +36,7 @@ pub fn header_same(objects: &[u64]) -> bool
 }
 
 fn task_same(tasks: &[u64], t: usize) -> bool
-    requires { TaskRow tasks t }
+    requires { TaskRow tasks.now t }
     ensures { result ≡ task_canonical tasks.now t }
 {
     let row = task_row(tasks, t);
@@ -44,7 +44,7 @@ fn task_same(tasks: &[u64], t: usize) -> bool
 }
 
 fn object_same(objects: &[u64], o: usize) -> bool
-    requires { ObjectRow objects o }
+    requires { ObjectRow objects.now o }
     ensures { result ≡ object_canonical objects.now o }
 {
     let row = object_row(objects, o);
@@ -52,7 +52,7 @@ fn object_same(objects: &[u64], o: usize) -> bool
 }
 
 fn place_same(places: &[u64], p: usize) -> bool
-    requires { PlaceRow places p }
+    requires { PlaceRow places.now p }
     ensures { result ≡ place_canonical places.now p }
 {
     let row = place_row(places, p);
