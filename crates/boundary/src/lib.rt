@@ -44,7 +44,7 @@ pub extern "C" fn sozgarru_is_sound(
     ids: &[u16; 513],
     len: usize,
 ) -> bool
-    ensures { result ≡ is_sound_lent tasks objects places ids len }
+    ensures { result ≡ is_sound_lent tasks.now objects.now places.now ids.now len }
 {
     boundary_lent::is_sound(tasks, objects, places, ids, len)
 }
@@ -473,7 +473,7 @@ pub extern "C" fn sozgarru_eager(
     ids: &[u16; 513],
     len: usize,
 ) -> Numbers
-    ensures { BoundaryRead tasks objects places ids len machine.Event.eager result }
+    ensures { BoundaryRead tasks.now objects.now places.now ids.now len machine.Event.eager result }
 {
     boundary_lent::eager(tasks, objects, places, ids, len)
 }
@@ -489,7 +489,7 @@ pub extern "C" fn sozgarru_show(
     len: usize,
     object: u16,
 ) -> Numbers
-    ensures { BoundaryRead tasks objects places ids len (machine.Event.show object) result }
+    ensures { BoundaryRead tasks.now objects.now places.now ids.now len (machine.Event.show object) result }
 {
     boundary_lent::show(tasks, objects, places, ids, len, object)
 }
@@ -506,7 +506,7 @@ pub extern "C" fn sozgarru_place(
     object: u16,
     place: u16,
 ) -> Numbers
-    ensures { BoundaryPlace tasks objects places ids len object place result }
+    ensures { BoundaryPlace tasks.now objects.now places.now ids.now len object place result }
 {
     boundary_lent::place(tasks, objects, places, ids, len, object, place)
 }
@@ -523,7 +523,7 @@ pub extern "C" fn sozgarru_coroutine_unchecked(
     len: &mut usize,
     function: u32,
 ) -> Numbers
-    requires { SoundLent tasks objects places ids len }
+    requires { SoundLent tasks.old objects.old places.old ids.old len.old }
     ensures { BoundaryStep tasks objects places calls ids len (machine.Event.coroutine function) result }
 {
     boundary_lent::step(
@@ -550,7 +550,7 @@ pub extern "C" fn sozgarru_call_unchecked(
     ids: &mut [u16; 513],
     len: &mut usize,
 ) -> Numbers
-    requires { SoundLent tasks objects places ids len }
+    requires { SoundLent tasks.old objects.old places.old ids.old len.old }
     ensures { BoundaryStep tasks objects places calls ids len machine.Event.call result }
 {
     boundary_lent::step(
@@ -578,7 +578,7 @@ pub extern "C" fn sozgarru_pending_unchecked(
     len: &mut usize,
     call: u32,
 ) -> Numbers
-    requires { SoundLent tasks objects places ids len }
+    requires { SoundLent tasks.old objects.old places.old ids.old len.old }
     ensures { BoundaryStep tasks objects places calls ids len (machine.Event.pending call OptionValue.None) result }
 {
     boundary_lent::step(
@@ -610,7 +610,7 @@ pub extern "C" fn sozgarru_pending_plain_unchecked(
     call: u32,
     number: u64,
 ) -> Numbers
-    requires { SoundLent tasks objects places ids len }
+    requires { SoundLent tasks.old objects.old places.old ids.old len.old }
     ensures { BoundaryStep tasks objects places calls ids len (machine.Event.pending call (OptionValue.Some (Value.Plain number))) result }
 {
     boundary_lent::step(
@@ -642,7 +642,7 @@ pub extern "C" fn sozgarru_pending_list_unchecked(
     call: u32,
     gather: u16,
 ) -> Numbers
-    requires { SoundLent tasks objects places ids len }
+    requires { SoundLent tasks.old objects.old places.old ids.old len.old }
     ensures { BoundaryStep tasks objects places calls ids len (machine.Event.pending call (OptionValue.Some (Value.List (heap_id gather)))) result }
 {
     boundary_lent::step(
@@ -673,7 +673,7 @@ pub extern "C" fn sozgarru_settled_plain_unchecked(
     len: &mut usize,
     number: u64,
 ) -> Numbers
-    requires { SoundLent tasks objects places ids len }
+    requires { SoundLent tasks.old objects.old places.old ids.old len.old }
     ensures { BoundaryStep tasks objects places calls ids len (machine.Event.settled (Value.Plain number)) result }
 {
     boundary_lent::step(
@@ -701,7 +701,7 @@ pub extern "C" fn sozgarru_settled_list_unchecked(
     len: &mut usize,
     gather: u16,
 ) -> Numbers
-    requires { SoundLent tasks objects places ids len }
+    requires { SoundLent tasks.old objects.old places.old ids.old len.old }
     ensures { BoundaryStep tasks objects places calls ids len (machine.Event.settled (Value.List (heap_id gather))) result }
 {
     boundary_lent::step(
@@ -729,7 +729,7 @@ pub extern "C" fn sozgarru_gather_unchecked(
     len: &mut usize,
     items: &[u16],
 ) -> Numbers
-    requires { SoundLent tasks objects places ids len }
+    requires { SoundLent tasks.old objects.old places.old ids.old len.old }
     ensures { BoundaryStep tasks objects places calls ids len (machine.Event.gather items.now) result }
 {
     boundary_lent::step(
@@ -757,7 +757,7 @@ pub extern "C" fn sozgarru_await_unchecked(
     len: &mut usize,
     object: u16,
 ) -> Numbers
-    requires { SoundLent tasks objects places ids len }
+    requires { SoundLent tasks.old objects.old places.old ids.old len.old }
     ensures { BoundaryStep tasks objects places calls ids len (machine.Event.await object) result }
 {
     boundary_lent::step(
@@ -785,7 +785,7 @@ pub extern "C" fn sozgarru_complete_plain_unchecked(
     len: &mut usize,
     number: u64,
 ) -> Numbers
-    requires { SoundLent tasks objects places ids len }
+    requires { SoundLent tasks.old objects.old places.old ids.old len.old }
     ensures { BoundaryStep tasks objects places calls ids len (machine.Event.complete (Value.Plain number)) result }
 {
     boundary_lent::step(
@@ -813,7 +813,7 @@ pub extern "C" fn sozgarru_complete_list_unchecked(
     len: &mut usize,
     gather: u16,
 ) -> Numbers
-    requires { SoundLent tasks objects places ids len }
+    requires { SoundLent tasks.old objects.old places.old ids.old len.old }
     ensures { BoundaryStep tasks objects places calls ids len (machine.Event.complete (Value.List (heap_id gather))) result }
 {
     boundary_lent::step(
@@ -841,7 +841,7 @@ pub extern "C" fn sozgarru_fail_unchecked(
     len: &mut usize,
     number: u32,
 ) -> Numbers
-    requires { SoundLent tasks objects places ids len }
+    requires { SoundLent tasks.old objects.old places.old ids.old len.old }
     ensures { BoundaryStep tasks objects places calls ids len (machine.Event.fail number) result }
 {
     boundary_lent::step(
@@ -869,7 +869,7 @@ pub extern "C" fn sozgarru_results_unchecked(
     len: &mut usize,
     results: &[u8],
 ) -> Numbers
-    requires { SoundLent tasks objects places ids len }
+    requires { SoundLent tasks.old objects.old places.old ids.old len.old }
     ensures { BoundaryStep tasks objects places calls ids len (machine.Event.results (results_in results.now)) result }
 {
     boundary_lent::step(
@@ -896,7 +896,7 @@ pub extern "C" fn sozgarru_resume_unchecked(
     ids: &mut [u16; 513],
     len: &mut usize,
 ) -> Numbers
-    requires { SoundLent tasks objects places ids len }
+    requires { SoundLent tasks.old objects.old places.old ids.old len.old }
     ensures { BoundaryStep tasks objects places calls ids len machine.Event.resume result }
 {
     boundary_lent::step(
@@ -924,7 +924,7 @@ pub extern "C" fn sozgarru_cancel_unchecked(
     len: &mut usize,
     task: u16,
 ) -> Numbers
-    requires { SoundLent tasks objects places ids len }
+    requires { SoundLent tasks.old objects.old places.old ids.old len.old }
     ensures { BoundaryStep tasks objects places calls ids len (machine.Event.cancel task) result }
 {
     boundary_lent::step(
@@ -950,8 +950,8 @@ pub extern "C" fn sozgarru_eager_unchecked(
     ids: &[u16; 513],
     len: usize,
 ) -> Numbers
-    requires { SoundRead tasks objects places ids len }
-    ensures { BoundaryRead tasks objects places ids len machine.Event.eager result }
+    requires { SoundRead tasks.now objects.now places.now ids.now len }
+    ensures { BoundaryRead tasks.now objects.now places.now ids.now len machine.Event.eager result }
 {
     boundary_lent::eager_unchecked(tasks, objects, places, ids, len)
 }
@@ -967,8 +967,8 @@ pub extern "C" fn sozgarru_show_unchecked(
     len: usize,
     object: u16,
 ) -> Numbers
-    requires { SoundRead tasks objects places ids len }
-    ensures { BoundaryRead tasks objects places ids len (machine.Event.show object) result }
+    requires { SoundRead tasks.now objects.now places.now ids.now len }
+    ensures { BoundaryRead tasks.now objects.now places.now ids.now len (machine.Event.show object) result }
 {
     boundary_lent::show_unchecked(tasks, objects, places, ids, len, object)
 }
@@ -985,8 +985,8 @@ pub extern "C" fn sozgarru_place_unchecked(
     object: u16,
     place: u16,
 ) -> Numbers
-    requires { SoundRead tasks objects places ids len }
-    ensures { BoundaryPlace tasks objects places ids len object place result }
+    requires { SoundRead tasks.now objects.now places.now ids.now len }
+    ensures { BoundaryPlace tasks.now objects.now places.now ids.now len object place result }
 {
     boundary_lent::place_unchecked(tasks, objects, places, ids, len, object, place)
 }

@@ -1,12 +1,11 @@
 -- What the exported functions promise: the memory that a host has after the call, and the numbers of the answer, are the machine's.
 use Rattle.std.specs.Prelude.{ℕ, ◌≡◌, Bool, true, List, []}
-use Rattle.std.specs.Borrow.{Bor}
 use Rattle.queue.specs.Queue.{queue_of}
 use Rattle.machine.specs.Store.{Store, store_of, fresh}
 use Rattle.machine.specs.Sound.{sound}
 use Rattle.machine.specs.Machine.{Event, Answer}
 use Rattle.machine.specs.Lent.{Lent, lent_step, lent_read}
-use Rattle.contract.specs.Contract.{Words, Slice, Count}
+use Rattle.contract.specs.Contract.{kept, Words, Slice, Count}
 use Rattle.boundary_numbers.specs.declared.Numbers.{Numbers}
 use Rattle.boundary_numbers.specs.Numbers.{numbers_as, place_as}
 
@@ -62,12 +61,12 @@ read_answer tasks objects places ids len e =
     (lent_read (store_in tasks.entry.now objects.entry.now places.entry.now ids.entry.now len) e).answer
 
 -- The call is the read e.
-abbrev pub BoundaryRead : Slice → Slice → Slice → Slice → ℕ → Event → Numbers → Type 0
-BoundaryRead tasks objects places ids len e r = r ≡ numbers_as (read_answer tasks objects places ids len e)
+abbrev pub BoundaryRead : Words → Words → Words → Words → ℕ → Event → Numbers → Type 0
+BoundaryRead tasks objects places ids len e r = r ≡ numbers_as (read_answer (kept tasks) (kept objects) (kept places) (kept ids) len e)
 
 -- The call reads place i of what object o shows.
-abbrev pub BoundaryPlace : Slice → Slice → Slice → Slice → ℕ → ℕ → ℕ → Numbers → Type 0
-BoundaryPlace tasks objects places ids len o i r = r ≡ place_as (read_answer tasks objects places ids len (Event.show o)) i
+abbrev pub BoundaryPlace : Words → Words → Words → Words → ℕ → ℕ → ℕ → Numbers → Type 0
+BoundaryPlace tasks objects places ids len o i r = r ≡ place_as (read_answer (kept tasks) (kept objects) (kept places) (kept ids) len (Event.show o)) i
 
 -- The call leaves a fresh session.
 abbrev pub BoundaryBegin : Slice → Slice → Slice → Slice → Count → Type 0
@@ -75,13 +74,13 @@ BoundaryBegin tasks objects places ids len =
     store_in tasks.exit.now objects.exit.now places.exit.now ids.exit.now len.exit.now ≡ fresh
 
 -- is the memory a sound store?
-abbrev pub is_sound_lent : Slice → Slice → Slice → Slice → ℕ → Bool
-is_sound_lent tasks objects places ids len = sound (store_in tasks.entry.now objects.entry.now places.entry.now ids.entry.now len)
+abbrev pub is_sound_lent : Words → Words → Words → Words → ℕ → Bool
+is_sound_lent tasks objects places ids len = sound (store_in tasks objects places ids len)
 
 -- What an event without the check asks: a sound store.
-abbrev pub SoundLent : Words → Words → Words → Words → Bor ℕ → Type 0
-SoundLent tasks objects places ids len = sound (store_in tasks.now objects.now places.now ids.now len.now) ≡ true
+abbrev pub SoundLent : Words → Words → Words → Words → ℕ → Type 0
+SoundLent tasks objects places ids len = sound (store_in tasks objects places ids len) ≡ true
 
 -- The same of a read, which takes the count by value.
 abbrev pub SoundRead : Words → Words → Words → Words → ℕ → Type 0
-SoundRead tasks objects places ids len = sound (store_in tasks.now objects.now places.now ids.now len) ≡ true
+SoundRead tasks objects places ids len = sound (store_in tasks objects places ids len) ≡ true

@@ -3,7 +3,7 @@
 ghost use Rattle.std.specs.Prelude.{◌≡◌, []};
 ghost use Rattle.machine.specs.Lent.{lent_read};
 ghost use Rattle.machine.specs.Machine as machine;
-ghost use Rattle.contract.specs.Contract.{before};
+ghost use Rattle.contract.specs.Contract.{kept, before};
 ghost use Rattle.contract.specs.Entries.{SoundSlices};
 ghost use Rattle.exec_switch.specs.Answer.{answer_of};
 ghost use Rattle.step_read.specs.Reads.{show_answer};
@@ -58,7 +58,7 @@ pub fn step(
     items: &[u16],
     results: &[u8],
 ) -> Numbers
-    requires { SoundLent tasks objects places ids len }
+    requires { SoundLent tasks.old objects.old places.old ids.old len.old }
     ensures { BoundaryStep tasks objects places calls ids len (event_of items.now results.now event) result }
 {
     let before = *ids;
@@ -100,7 +100,7 @@ pub fn is_sound(
     ids: &[u16; 513],
     len: usize,
 ) -> bool
-    ensures { result ≡ is_sound_lent tasks objects places ids len }
+    ensures { result ≡ is_sound_lent tasks.now objects.now places.now ids.now len }
 {
     let now = *ids;
     sound::is_sound(ReadyQueue { ids: now, len }, tasks, objects, places)
@@ -114,7 +114,7 @@ pub fn eager(
     ids: &[u16; 513],
     len: usize,
 ) -> Numbers
-    ensures { BoundaryRead tasks objects places ids len machine.Event.eager result }
+    ensures { BoundaryRead tasks.now objects.now places.now ids.now len machine.Event.eager result }
 {
     let now = *ids;
     let answer = session_reads::eager(tasks, objects, places, ReadyQueue { ids: now, len });
@@ -123,8 +123,8 @@ pub fn eager(
 
 // May a call be answered at once, in a sound store of the right lengths?
 fn sound_eager(tasks: &[u64], objects: &[u64], places: &[u64], queue: ReadyQueue) -> Answer
-    requires { SoundSlices tasks objects places queue }
-    ensures { answer_of objects.now result ≡ (lent_read (before tasks objects places queue []) machine.Event.eager).answer }
+    requires { SoundSlices tasks.now objects.now places.now queue }
+    ensures { answer_of objects.now result ≡ (lent_read (before (kept tasks.now) (kept objects.now) (kept places.now) queue []) machine.Event.eager).answer }
 {
     step_read::eager(objects, queue)
 }
@@ -137,8 +137,8 @@ fn sound_show(
     queue: ReadyQueue,
     object: u16,
 ) -> Reading
-    requires { SoundSlices tasks objects places queue }
-    ensures { show_answer places.now result ≡ (lent_read (before tasks objects places queue []) (machine.Event.show object)).answer }
+    requires { SoundSlices tasks.now objects.now places.now queue }
+    ensures { show_answer places.now result ≡ (lent_read (before (kept tasks.now) (kept objects.now) (kept places.now) queue []) (machine.Event.show object)).answer }
 {
     step_read::show(objects, object)
 }
@@ -151,8 +151,8 @@ pub fn eager_unchecked(
     ids: &[u16; 513],
     len: usize,
 ) -> Numbers
-    requires { SoundRead tasks objects places ids len }
-    ensures { BoundaryRead tasks objects places ids len machine.Event.eager result }
+    requires { SoundRead tasks.now objects.now places.now ids.now len }
+    ensures { BoundaryRead tasks.now objects.now places.now ids.now len machine.Event.eager result }
 {
     let now = *ids;
     let answer = sound_eager(tasks, objects, places, ReadyQueue { ids: now, len });
@@ -168,7 +168,7 @@ pub fn show(
     len: usize,
     object: u16,
 ) -> Numbers
-    ensures { BoundaryRead tasks objects places ids len (machine.Event.show object) result }
+    ensures { BoundaryRead tasks.now objects.now places.now ids.now len (machine.Event.show object) result }
 {
     let now = *ids;
     let reading = session_reads::show(tasks, objects, places, ReadyQueue { ids: now, len }, object);
@@ -184,8 +184,8 @@ pub fn show_unchecked(
     len: usize,
     object: u16,
 ) -> Numbers
-    requires { SoundRead tasks objects places ids len }
-    ensures { BoundaryRead tasks objects places ids len (machine.Event.show object) result }
+    requires { SoundRead tasks.now objects.now places.now ids.now len }
+    ensures { BoundaryRead tasks.now objects.now places.now ids.now len (machine.Event.show object) result }
 {
     let now = *ids;
     let reading = sound_show(tasks, objects, places, ReadyQueue { ids: now, len }, object);
@@ -202,7 +202,7 @@ pub fn place(
     object: u16,
     place: u16,
 ) -> Numbers
-    ensures { BoundaryPlace tasks objects places ids len object place result }
+    ensures { BoundaryPlace tasks.now objects.now places.now ids.now len object place result }
 {
     let now = *ids;
     let reading = session_reads::show(tasks, objects, places, ReadyQueue { ids: now, len }, object);
@@ -219,8 +219,8 @@ pub fn place_unchecked(
     object: u16,
     place: u16,
 ) -> Numbers
-    requires { SoundRead tasks objects places ids len }
-    ensures { BoundaryPlace tasks objects places ids len object place result }
+    requires { SoundRead tasks.now objects.now places.now ids.now len }
+    ensures { BoundaryPlace tasks.now objects.now places.now ids.now len object place result }
 {
     let now = *ids;
     let reading = sound_show(tasks, objects, places, ReadyQueue { ids: now, len }, object);

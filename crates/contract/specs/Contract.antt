@@ -3,7 +3,7 @@
 use Rattle.std.specs.Prelude.{◌≡◌, List, ℕ, length}
 use Rattle.std.proofs.Common.{sym, subst}
 use denote.Triple.Both.{Both}
-use Rattle.std.specs.Borrow.{Bor}
+use denote.MutBor.{MutBor}
 use Rattle.asyncio.specs.Limits.{tasks_length, objects_length, places_length}
 use Rattle.queue.specs.Queue.{queue_of}
 use Rattle.queue.specs.declared.ReadyQueue.{ReadyQueue}
@@ -11,23 +11,23 @@ use Rattle.machine.specs.Store.{Store, LogEntry, store_of}
 
 -- ---- a lent slice
 
--- of words, in a `requires`
+-- its words, in a `requires` or where the call only reads them
 abbrev pub Words : Type 0
-Words = Bor (List ℕ)
+Words = List ℕ
 
--- in an `ensures`: `.entry` before the call, `.exit` after it
+-- one that the call may change, in an `ensures`: `.entry` before the call, `.exit` after it
 abbrev pub Slice : Type 0
-Slice = Both Words Words
+Slice = Both (MutBor Words) (MutBor Words)
 
--- one that the call does not take, and so leaves
-abbrev pub kept : List ℕ → Slice
-kept ws = let x : Words = record { ref_ptr = (0, 0); now = ws } in record { entry = x; exit = x }
+-- one that the call only reads or does not take, and so leaves
+abbrev pub kept : {A : Type 0} → A → Both (MutBor A) (MutBor A)
+kept {A} ws = let x : MutBor A = record { ref_ptr = (0, 0); ghost_name = 0; now = ws } in record { entry = x; exit = x }
 
 -- ---- a lent queue: its array and its count
 
 -- the count
 abbrev pub Count : Type 0
-Count = Both (Bor ℕ) (Bor ℕ)
+Count = Both (MutBor ℕ) (MutBor ℕ)
 
 -- the queue before the call
 abbrev pub queue_before : Slice → Count → ReadyQueue
@@ -41,15 +41,15 @@ queue_after ids len = queue_of ids.exit.now len.exit.now
 
 -- the tasks, as a call asks it of them alone
 abbrev pub TasksLength : Words → Type 0
-TasksLength tasks = length tasks.now ≡ tasks_length
+TasksLength tasks = length tasks ≡ tasks_length
 
 -- the objects
 abbrev pub ObjectsLength : Words → Type 0
-ObjectsLength objects = length objects.now ≡ objects_length
+ObjectsLength objects = length objects ≡ objects_length
 
 -- the places
 abbrev pub PlacesLength : Words → Type 0
-PlacesLength places = length places.now ≡ places_length
+PlacesLength places = length places ≡ places_length
 
 -- tasks and objects
 abbrev pub Lengths₂ : Words → Words → Type 0
@@ -153,12 +153,12 @@ ChangesTasks tasks queue left f =
 -- ---- what a call reads: r is what f reads of the store, whatever the rest of it is
 
 -- of the objects
-abbrev pub ReadsObjects : {X : Type 0} → Slice → (Store → X) → X → Type 0
-ReadsObjects objects f r = (ts ps : List ℕ) (q : ReadyQueue) (l : List LogEntry) → r ≡ f (before (kept ts) objects (kept ps) q l)
+abbrev pub ReadsObjects : {X : Type 0} → Words → (Store → X) → X → Type 0
+ReadsObjects objects f r = (ts ps : List ℕ) (q : ReadyQueue) (l : List LogEntry) → r ≡ f (store_of ts objects ps q l)
 
 -- of the objects and the queue
-abbrev pub ReadsObjectsAndQueue : {X : Type 0} → Slice → ReadyQueue → (Store → X) → X → Type 0
-ReadsObjectsAndQueue objects queue f r = (ts ps : List ℕ) (l : List LogEntry) → r ≡ f (before (kept ts) objects (kept ps) queue l)
+abbrev pub ReadsObjectsAndQueue : {X : Type 0} → Words → ReadyQueue → (Store → X) → X → Type 0
+ReadsObjectsAndQueue objects queue f r = (ts ps : List ℕ) (l : List LogEntry) → r ≡ f (store_of ts objects ps queue l)
 
 -- ---- what holds of every log
 

@@ -7,7 +7,7 @@ use Rattle.machine.specs.Machine as machine
 use Rattle.drive_reader.specs.declared.Record.{Record}
 use Rattle.drive_reader.specs.declared.Parsed.{Parsed}
 use Rattle.drive_reader.specs.Format.{parse}
-use Rattle.contract.specs.Contract.{Slice, before}
+use Rattle.contract.specs.Contract.{Words, Slice, before}
 use Rattle.drive_text.specs.Out.{Out, out_of, Wrote}
 use Rattle.drive_lines.specs.Lines.{line_limit}
 use Rattle.drive_answer.specs.Driver.{Asked, Drives, answered, drive_one}
@@ -76,6 +76,6 @@ ParsedFits Parsed.Refused = Unit {0}
 ParsedFits (Parsed.Record r next) = RecordFits r
 
 -- The call reads the record at a place of the input, answers it and writes its line; the numbers that it stores whole fit.
-abbrev pub DrivesRecord : Slice → Slice → Slice → Slice → ReadyQueue → Slice → ℕ → Slice → ℕ → ℕ → Driven → Type 0
+abbrev pub DrivesRecord : Slice → Slice → Slice → Slice → ReadyQueue → Words → ℕ → Slice → ℕ → ℕ → Driven → Type 0
 DrivesRecord tasks objects places calls queue src from out at number r =
-    Writes tasks objects places calls queue out at (λ s cs. drive_one s cs src.entry.now from number) r × ParsedFits (parse src.entry.now from)
+    Writes tasks objects places calls queue out at (λ s cs. drive_one s cs src from number) r × ParsedFits (parse src from)

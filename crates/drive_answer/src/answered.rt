@@ -46,7 +46,7 @@ fn event_line(
     at: usize,
     number: u64,
 ) -> Driven
-    requires { SoundMemory tasks objects places calls queue }
+    requires { SoundMemory tasks.old objects.old places.old calls.old queue }
     ensures { WritesEvent tasks objects places calls queue out at next number (event_of items.now results.now event) result }
 {
     let stepped = step_event::step(tasks, objects, places, calls, queue, event, items, results);
@@ -77,8 +77,8 @@ fn gather_line(
     at: usize,
     number: u64,
 ) -> Driven
-    requires { SoundMemory tasks objects places calls queue }
-    ensures { WritesEvent tasks objects places calls queue out at next number (machine.Event.gather (items_at src.now first count)) result }
+    requires { SoundMemory tasks.now objects.old places.old calls.now queue }
+    ensures { WritesEvent (kept tasks.now) objects places (kept calls.now) queue out at next number (machine.Event.gather (items_at src.now first count)) result }
 {
     let mut items: [u16; 255] = [0; 255];
     let n = count as usize;
@@ -105,8 +105,8 @@ fn show_line(
     at: usize,
     number: u64,
 ) -> Driven
-    requires { SoundSlices tasks objects places queue }
-    ensures { (cs : List ℕ) → WritesAnswer tasks objects places (kept cs) queue out at next number (Asked.read (machine.Event.show o)) result }
+    requires { SoundSlices tasks.now objects.now places.now queue }
+    ensures { (cs : List ℕ) → WritesAnswer (kept tasks.now) (kept objects.now) (kept places.now) (kept cs) queue out at next number (Asked.read (machine.Event.show o)) result }
 {
     let reading = step_read::show(objects, o);
     let end = drive_shows::shows::write_reading(out, at, number, reading, places);
@@ -130,8 +130,8 @@ fn eager_line(
     at: usize,
     number: u64,
 ) -> Driven
-    requires { SoundSlices tasks objects places queue }
-    ensures { WritesAnswer tasks objects places calls queue out at next number (Asked.read machine.Event.eager) result }
+    requires { SoundSlices tasks.now objects.now places.now queue }
+    ensures { WritesAnswer (kept tasks.now) (kept objects.now) (kept places.now) (kept calls.now) queue out at next number (Asked.read machine.Event.eager) result }
 {
     let answer = step_read::eager(objects, queue);
     let end = drive_lines::answers::write_line(out, at, number, answer, &calls[..0]);
@@ -157,7 +157,7 @@ pub fn answered(
     at: usize,
     number: u64,
 ) -> Driven
-    requires { SoundMemoryAnd tasks objects places calls queue (InInput src.now what) }
+    requires { SoundMemoryAnd tasks.old objects.old places.old calls.old queue (InInput src.now what) }
     ensures { WritesAnswer tasks objects places calls queue out at next number (asked src.now what) result × RecordFits what }
 {
     let asks = match what {

@@ -81,7 +81,7 @@ fn put_control(out: &mut [u8], at: usize, control: Control, calls: &[u64]) -> us
 }
 
 fn put_awaited(out: &mut [u8], at: usize, control: Control, steps: u16, calls: &[u64]) -> usize
-    ensures { PutsAnswer out at result calls (Answer.Awaited control steps) }
+    ensures { PutsAnswer out at result calls.now (Answer.Awaited control steps) }
 {
     let p = put_control(out, at, control, calls);
     put_named(out, p, b" steps", steps as u64)
@@ -112,7 +112,7 @@ fn put_eager(out: &mut [u8], at: usize, yes: bool) -> usize
 
 // The word of an answer, and its fields.
 fn put_answer(out: &mut [u8], at: usize, answer: Answer, calls: &[u64]) -> usize
-    ensures { PutsAnswer out at result calls answer }
+    ensures { PutsAnswer out at result calls.now answer }
 {
     match answer {
         Answer::Made(o) => put_named(out, at, b" made", o.word()),
@@ -134,7 +134,7 @@ fn put_answer(out: &mut [u8], at: usize, answer: Answer, calls: &[u64]) -> usize
 // The line of record `number`: the answer of an event, or of the read `eager`. `calls` are those of a wait, as many words as the entry said; after any
 // other answer they are not looked at.
 pub fn write_line(out: &mut [u8], at: usize, number: u64, answer: Answer, calls: &[u64]) -> usize
-    ensures { PutsLine out at result number calls answer }
+    ensures { PutsLine out at result number calls.now answer }
 {
     let p = put_decimal(out, at, number);
     let q = put_answer(out, p, answer, calls);

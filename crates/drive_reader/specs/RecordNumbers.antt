@@ -3,7 +3,6 @@
 use Rattle.std.specs.Prelude.{◌≡◌, ℕ, List, [], ◌∷◌}
 use Rattle.std.proofs.Common.{ap}
 use denote.Triple.Both.{Both}
-use Rattle.std.specs.Borrow.{Bor}
 use Rattle.asyncio.specs.Layout.{value_numbers}
 use Rattle.asyncio.specs.declared.Value.{Value}
 use Rattle.asyncio.specs.declared.OptionValue.{OptionValue}
@@ -72,8 +71,8 @@ abbrev pub parsed_as : Parsed → ParsedAs
 parsed_as p = record { parsed = p; refusal = parse_refusal p; kind = parsed_kind p; values = parsed_values p }
 
 -- The call reads the record at a place of lent bytes: its answer, with document 01's numbers, is that of `parse`.
-abbrev pub Parses : Both (Bor (List ℕ)) (Bor (List ℕ)) → ℕ → Parsed → Type 0
-Parses src at r = parsed_as r ≡ parsed_as (parse src.entry.now at)
+abbrev pub Parses : List ℕ → ℕ → Parsed → Type 0
+Parses src at r = parsed_as r ≡ parsed_as (parse src at)
 
 -- so it is what `parse` reads
 pub parsed_is : {p q : Parsed} → parsed_as p ≡ parsed_as q → p ≡ q

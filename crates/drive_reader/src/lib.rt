@@ -63,7 +63,7 @@ impl<'a> Reader<'a> {
 
 // The record at a place of lent bytes, by a reader made over them.
 pub fn parse_record(src: &[u8], at: usize) -> Parsed
-    ensures { Parses src at result }
+    ensures { Parses src.now at result }
 {
     Reader::new(src, at).record()
 }

@@ -21,8 +21,8 @@ pub fn drive_record(
     at: usize,
     number: u64,
 ) -> Driven
-    requires { SoundMemory tasks objects places calls queue }
-    ensures { DrivesRecord tasks objects places calls queue src from out at number result }
+    requires { SoundMemory tasks.old objects.old places.old calls.old queue }
+    ensures { DrivesRecord tasks objects places calls queue src.now from out at number result }
 {
     match drive_reader::parse_record(src, from) {
         Parsed::End => Driven {

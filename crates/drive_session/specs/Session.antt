@@ -36,14 +36,14 @@ LeavesAll tasks objects places calls out r x =
 
 -- A session that has just begun, and a list with room for every wait.
 abbrev pub Begun : Words → Words → Words → Words → ReadyQueue → Type 0
-Begun tasks objects places calls queue = (store_of tasks.now objects.now places.now queue [] ≡ fresh) × (object_limit ≤ length calls.now)
+Begun tasks objects places calls queue = (store_of tasks objects places queue [] ≡ fresh) × (object_limit ≤ length calls)
 
 -- The call takes the records of a fresh session.
-abbrev pub DrivesRecords : Slice → Slice → Slice → Slice → Slice → Slice → DrivenSession → Type 0
-DrivesRecords tasks objects places calls src out r = LeavesAll tasks objects places calls out r (drive_all calls.entry.now src.entry.now)
+abbrev pub DrivesRecords : Slice → Slice → Slice → Slice → Words → Slice → DrivenSession → Type 0
+DrivesRecords tasks objects places calls src out r = LeavesAll tasks objects places calls out r (drive_all calls.entry.now src)
 
 -- The call begins a session and takes its records; all is unchanged where a length is wrong. With every log before it.
-abbrev pub DrivesSession : Slice → Slice → Slice → Slice → Slice → Slice → DrivenSession → Type 0
+abbrev pub DrivesSession : Slice → Slice → Slice → Slice → Words → Slice → DrivenSession → Type 0
 DrivesSession tasks objects places calls src out r =
     (l : List LogEntry)
-    → LeavesAll tasks objects places calls out r (lent_session (before tasks objects places empty_queue l) calls.entry.now src.entry.now)
+    → LeavesAll tasks objects places calls out r (lent_session (before tasks objects places empty_queue l) calls.entry.now src)

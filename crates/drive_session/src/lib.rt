@@ -51,8 +51,8 @@ fn drive_records(
     src: &[u8],
     out: &mut [u8],
 ) -> DrivenSession
-    requires { Begun tasks objects places calls begun }
-    ensures { DrivesRecords tasks objects places calls src out result }
+    requires { Begun tasks.old objects.old places.old calls.old begun }
+    ensures { DrivesRecords tasks objects places calls src.now out result }
 {
     let mut queue = begun;
     let mut from: usize = 0;
@@ -82,7 +82,7 @@ pub fn drive_session(
     src: &[u8],
     out: &mut [u8],
 ) -> DrivenSession
-    ensures { DrivesSession tasks objects places calls src out result }
+    ensures { DrivesSession tasks objects places calls src.now out result }
 {
     if lengths_right(tasks, objects, places, calls) {
         let begun = session_begin::begin(tasks, objects, places, ReadyQueue::new());

@@ -26,15 +26,15 @@ reading_count (Reading.Shows x) = shown_count x
 reading_count (Reading.Refused n) = 0
 
 -- a gather: its sort and state, how many places it has, and each place
-abbrev pub PutsGather : Slice → ℕ → ℕ → Slice → Slice → ℕ → ℕ → ℕ → Type 0
+abbrev pub PutsGather : Slice → ℕ → ℕ → List ℕ → List ℕ → ℕ → ℕ → ℕ → Type 0
 PutsGather out at r state places first count mask =
     Puts
-    (length state.entry.now + (21 + 27 * count))
+    (length state + (21 + 27 * count))
     out
     at
     r
-    (state.entry.now ++ (field count ++ places_text (places_from places.entry.now first mask 0 count)))
+    (state ++ (field count ++ places_text (places_from places first mask 0 count)))
 
 -- the line of a read
-abbrev pub PutsReading : Slice → ℕ → ℕ → ℕ → Slice → Reading → Type 0
-PutsReading out at r number places reading = Puts (75 + 27 * reading_count reading) out at r (line number (show_answer places.entry.now reading))
+abbrev pub PutsReading : Slice → ℕ → ℕ → ℕ → List ℕ → Reading → Type 0
+PutsReading out at r number places reading = Puts (75 + 27 * reading_count reading) out at r (line number (show_answer places reading))

@@ -71,7 +71,7 @@ fn put_gather(
     count: u16,
     mask: u32,
 ) -> usize
-    ensures { PutsGather out at result state places first count mask }
+    ensures { PutsGather out at result state.now places.now first count mask }
 {
     let p = put_text(out, at, state);
     let q = put_field(out, p, count as u64);
@@ -139,7 +139,7 @@ pub fn write_reading(
     reading: Reading,
     places: &[u64],
 ) -> usize
-    ensures { PutsReading out at result number places reading }
+    ensures { PutsReading out at result number places.now reading }
 {
     match reading {
         Reading::Shows(shown) => write_shown(out, at, number, shown, places),

@@ -10,7 +10,7 @@ use Rattle.drive_window.specs.declared.Window.{Window}
 
 -- The memory of a session, and a list with room for every wait.
 abbrev pub SoundSession : Words → Words → Words → Words → ReadyQueue → Type 0
-SoundSession tasks objects places calls queue = SoundStore (store_of tasks.now objects.now places.now queue []) × (object_limit ≤ length calls.now)
+SoundSession tasks objects places calls queue = SoundStore (store_of tasks objects places queue []) × (object_limit ≤ length calls)
 
 -- What the code has is w: the three slices and the queue are w's store (the log, which the code has not, is w's own), then the call list, the place and the
 -- number of the next record, whether the driver goes on; and at the buffer's front stand w's lines, whole.
@@ -24,9 +24,9 @@ pub record DroveWindow (ts os ps cs out : List ℕ) (r : Window) (w : DrivesWind
   pub at-is : r.at ≡ length w.text
 
 -- The call takes a window, with every log before it; it leaves a session's memory.
-abbrev pub DrivesOneWindow : Slice → Slice → Slice → Slice → ReadyQueue → Slice → ℕ → Bool → Slice → ℕ → Window → Type 0
+abbrev pub DrivesOneWindow : Slice → Slice → Slice → Slice → ReadyQueue → Words → ℕ → Bool → Slice → ℕ → Window → Type 0
 DrivesOneWindow tasks objects places calls queue src from ended out number r =
     ((l : List LogEntry)
     → DroveWindow tasks.exit.now objects.exit.now places.exit.now calls.exit.now out.exit.now r
-    (drive_window ended (length out.entry.now) (before tasks objects places queue l) calls.entry.now src.entry.now from number))
+    (drive_window ended (length out.entry.now) (before tasks objects places queue l) calls.entry.now src from number))
     × SoundStore (store_of tasks.exit.now objects.exit.now places.exit.now r.queue [])

@@ -61,8 +61,8 @@ pub fn drive_window(
     out: &mut [u8],
     number: u64,
 ) -> Window
-    requires { SoundSession tasks objects places calls queue }
-    ensures { DrivesOneWindow tasks objects places calls queue src from ended out number result }
+    requires { SoundSession tasks.old objects.old places.old calls.old queue }
+    ensures { DrivesOneWindow tasks objects places calls queue src.now from ended out number result }
 {
     let mut driven = Driven {
         queue,

@@ -34,7 +34,7 @@ fn go_on(
     steps: u16,
     poll: Poll,
 ) -> Awaited
-    requires { Lengths₂And tasks objects (t.0 < task_limit) }
+    requires { Lengths₂And tasks.old objects.old (t.0 < task_limit) }
     ensures { AwaitsKeepingPlaces tasks objects ids len
         (λ s. go_on t.0 o.0 steps s (poll_of poll)) result }
 {
@@ -69,7 +69,7 @@ fn await_coroutine(
     function: u32,
     state: CoroutineState,
 ) -> Awaited
-    requires { ObjectsLength objects × (o.0 < object_limit) }
+    requires { ObjectsLength objects.old × (o.0 < object_limit) }
     ensures { AwaitsOfObjects objects
         (λ s. await_coroutine s t.0 o.0 function state) result }
 {
@@ -120,7 +120,7 @@ fn await_external_future(
     call: CallId,
     state: ExternalFutureState,
 ) -> Awaited
-    requires { Lengths₂And₂ tasks objects (t.0 < task_limit) (o.0 < object_limit) }
+    requires { Lengths₂And₂ tasks.old objects.old (t.0 < task_limit) (o.0 < object_limit) }
     ensures { AwaitsKeepingPlaces tasks objects ids len
         (λ s. await_external_future s t.0 o.0 call state) result }
 {
@@ -139,7 +139,7 @@ fn await_gather_future(
     o: HeapId,
     state: GatherState,
 ) -> Awaited
-    requires { LengthsAnd₂ tasks objects places (t.0 < task_limit) (o.0 < object_limit) }
+    requires { LengthsAnd₂ tasks.old objects.old places.old (t.0 < task_limit) (o.0 < object_limit) }
     ensures { Awaits tasks objects places ids len
         (λ s. await_gather s t.0 o.0 state) result }
 {
@@ -175,7 +175,7 @@ pub fn exec_get_awaitable(
     t: TaskId,
     o: HeapId,
 ) -> Awaited
-    requires { LengthsAnd₂ tasks objects places (t.0 < task_limit) (o.0 < object_limit) }
+    requires { LengthsAnd₂ tasks.old objects.old places.old (t.0 < task_limit) (o.0 < object_limit) }
     ensures { Awaits tasks objects places ids len
         (λ s. exec_get_awaitable s t.0 o.0) result }
 {

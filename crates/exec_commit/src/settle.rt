@@ -37,7 +37,7 @@ fn with_state(o: Object, state: GatherState) -> Object
 
 // Gather `g` in that state.
 fn set_gather(objects: &mut [u64], g: HeapId, state: GatherState)
-    requires { ObjectsLength objects × (g.0 < object_limit) }
+    requires { ObjectsLength objects.old × (g.0 < object_limit) }
     ensures { ChangesObjects objects (λ s. set_gather s g.0 state) }
 {
     let o = rows::tables::load_object(objects, g);
@@ -47,7 +47,7 @@ fn set_gather(objects: &mut [u64], g: HeapId, state: GatherState)
 
 // Gather `g` is awaited, with no place open yet.
 pub(crate) fn open_gather_commit(objects: &mut [u64], g: HeapId, awaiter: Awaiter)
-    requires { ObjectsLength objects × (g.0 < object_limit) }
+    requires { ObjectsLength objects.old × (g.0 < object_limit) }
     ensures { ChangesObjects objects (λ s. open_gather_commit s g.0 awaiter) }
 {
     set_gather(
@@ -62,7 +62,7 @@ pub(crate) fn open_gather_commit(objects: &mut [u64], g: HeapId, awaiter: Awaite
 
 // Gather `g`, whose items are all stepped: completed where no place is open, the empty gather included.
 pub(crate) fn settle_gather_commit(objects: &mut [u64], g: HeapId) -> Poll
-    requires { ObjectsLength objects × (g.0 < object_limit) }
+    requires { ObjectsLength objects.old × (g.0 < object_limit) }
     ensures { PollsOfObjects objects (λ s. settle_gather_commit s g.0) result }
 {
     let a = as_awaited(objects, g);
@@ -86,7 +86,7 @@ pub(crate) fn resume_after_child(
     next: usize,
     poll: Poll,
 )
-    requires { ObjectsLength objects × PlacesLength places × (g.0 < object_limit)
+    requires { ObjectsLength objects.old × PlacesLength places.old × (g.0 < object_limit)
         × (next < count_of (object_at objects.old g.0)) }
     ensures { ChangesObjectsAndPlaces objects places
         (λ s. resume_after_child (frame g.0 next) (gives s (poll_of poll))) }
@@ -110,7 +110,7 @@ pub(crate) fn unwind_gather_commits(
     depth: usize,
     error: Error,
 )
-    requires { ObjectsLength objects × (g.0 < object_limit)
+    requires { ObjectsLength objects.old × (g.0 < object_limit)
         × (depth ≤ object_limit) × GathersFit gathers depth }
     ensures { Unwinds objects g.0 gathers depth error }
 {

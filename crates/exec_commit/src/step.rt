@@ -43,7 +43,7 @@ fn with_bit(open_places: u32, i: usize) -> u32
 
 // Place `i` of gather `g`, which is `w`, is open.
 pub(crate) fn open_place(objects: &mut [u64], g: HeapId, w: AwaitedGather, i: usize)
-    requires { ObjectsLength objects × (g.0 < object_limit) × (i < item_limit) }
+    requires { ObjectsLength objects.old × (g.0 < object_limit) × (i < item_limit) }
     ensures { ChangesObjects objects (λ s. open_place s g.0 (awaited_gather_of w) i) }
 {
     let awaiter = w.awaiter;
@@ -64,7 +64,7 @@ pub(crate) fn open_place(objects: &mut [u64], g: HeapId, w: AwaitedGather, i: us
 
 // Place `i` of the gather `w` has a value.
 pub(crate) fn fill_place(places: &mut [u64], w: AwaitedGather, i: usize, value: Value)
-    requires { PlacesLength places × (w.first + i < place_limit) }
+    requires { PlacesLength places.old × (w.first + i < place_limit) }
     ensures { ChangesPlaces places (λ s. fill_place s (awaited_gather_of w) i value) }
 {
     let p = w.first as usize + i;
@@ -88,7 +88,7 @@ fn put_polled(
     i: usize,
     poll: Poll,
 ) -> ItemStep
-    requires { ObjectsLength objects × PlacesLength places × (g.0 < object_limit)
+    requires { ObjectsLength objects.old × PlacesLength places.old × (g.0 < object_limit)
         × (i < item_limit) × (w.first + i < place_limit) }
     ensures { StepsPlace objects places i
         (λ s go. put_polled g.0 (awaited_gather_of w) i s (poll_of poll) go) result }
@@ -116,7 +116,7 @@ fn step_item(
     g: HeapId,
     i: usize,
 ) -> ItemStep
-    requires { LengthsAnd₂ tasks objects places (g.0 < object_limit) (i < count_of (object_at objects.old g.0)) }
+    requires { LengthsAnd₂ tasks.old objects.old places.old (g.0 < object_limit) (i < count_of (object_at objects.old g.0)) }
     ensures { StepsTo tasks objects places ids len i
         (λ s go. step_at s g.0 i go) result }
 {
@@ -144,7 +144,7 @@ pub(crate) fn step_gather_commit(
     g: HeapId,
     next: u16,
 ) -> Stop
-    requires { LengthsAnd tasks objects places (g.0 < object_limit) }
+    requires { LengthsAnd tasks.old objects.old places.old (g.0 < object_limit) }
     ensures { StopsAt tasks objects places ids len
         (λ s. step_gather_commit s (frame g.0 next)) result }
 {

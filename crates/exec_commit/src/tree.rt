@@ -31,7 +31,7 @@ pub fn commit_gather_tree(
     root: HeapId,
     awaiter: Awaiter,
 ) -> Committed
-    requires { LengthsAnd tasks objects places (root.0 < object_limit) }
+    requires { LengthsAnd tasks.old objects.old places.old (root.0 < object_limit) }
     ensures { Commits tasks objects places ids len
         (λ s. commit_gather_tree s root.0 awaiter) result }
 {

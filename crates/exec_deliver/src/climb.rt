@@ -17,7 +17,7 @@ pub fn deliver_awaiter_success(
     awaiter: Awaiter,
     value: Value,
 ) -> FoundTask
-    requires { LengthsAnd tasks objects places (AwaiterFits awaiter) }
+    requires { LengthsAnd tasks.old objects.old places.old (AwaiterFits awaiter) }
     ensures { Delivers tasks objects places
         (λ s. deliver_awaiter_success s awaiter value) result }
 {
@@ -48,7 +48,7 @@ pub fn deliver_awaiter_failure(
     awaiter: Awaiter,
     error: Error,
 ) -> FoundTask
-    requires { Lengths₂And tasks objects (AwaiterFits awaiter) }
+    requires { Lengths₂And tasks.old objects.old (AwaiterFits awaiter) }
     ensures { DeliversKeepingPlaces tasks objects
         (λ s. deliver_awaiter_failure s awaiter error) result }
 {

@@ -28,7 +28,7 @@ fn resolve_at(
     o: HeapId,
     value: Value,
 ) -> FoundTask
-    requires { LengthsAnd tasks objects places (o.0 < object_limit) }
+    requires { LengthsAnd tasks.old objects.old places.old (o.0 < object_limit) }
     ensures { Wakes tasks objects places (λ s. resolve_at s o.0 value) result }
 {
     let x = rows::tables::load_object(objects, o);
@@ -70,7 +70,7 @@ pub fn resolve_future(
     call: u32,
     value: Value,
 ) -> FoundTask
-    requires { Lengths tasks objects places }
+    requires { Lengths tasks.old objects.old places.old }
     ensures { Wakes tasks objects places
         (λ s. resolve_future s call value) result }
 {
@@ -83,7 +83,7 @@ pub fn resolve_future(
 
 // Object `o`, if it is a pending external, has failed, and its awaiter is served: the task that was woken. A stored result is dropped.
 fn fail_at(tasks: &mut [u64], objects: &mut [u64], o: HeapId, error: Error) -> FoundTask
-    requires { Lengths₂And tasks objects (o.0 < object_limit) }
+    requires { Lengths₂And tasks.old objects.old (o.0 < object_limit) }
     ensures { WakesKeepingPlaces tasks objects
         (λ s. fail_at s o.0 error) result }
 {
@@ -119,7 +119,7 @@ fn fail_at(tasks: &mut [u64], objects: &mut [u64], o: HeapId, error: Error) -> F
 
 // The task that the call's end woke, whom the caller queues. A call that is not pending is ignored.
 pub fn fail_future(tasks: &mut [u64], objects: &mut [u64], call: u32, error: Error) -> FoundTask
-    requires { Lengths₂ tasks objects }
+    requires { Lengths₂ tasks.old objects.old }
     ensures { WakesKeepingPlaces tasks objects
         (λ s. fail_future s call error) result }
 {

@@ -11,7 +11,7 @@ use scheduler::tasks::FoundTask;
 
 // A blocked task becomes ready with a value or an error: it was woken, and the caller queues it. Any other receives nothing.
 pub(crate) fn deliver_to_task(tasks: &mut [u64], t: TaskId, state: TaskState) -> FoundTask
-    requires { TasksLength tasks × (t.0 < task_limit) }
+    requires { TasksLength tasks.old × (t.0 < task_limit) }
     ensures { DeliversOfTasks tasks (λ s. deliver_to_task s t.0 state) result }
 {
     if scheduler_states::states::is_blocked(tasks, t) {

@@ -39,7 +39,7 @@ fn completed(x: Object) -> Object
 
 // The coroutine of a task that completed.
 fn complete_coroutine(objects: &mut [u64], c: HeapId)
-    requires { ObjectsLength objects × (c.0 < object_limit) }
+    requires { ObjectsLength objects.old × (c.0 < object_limit) }
     ensures { objects.new ≡ object_put objects.old c.0 (completed (object_at objects.old c.0)) }
 {
     let x = rows::tables::load_object(objects, c);
@@ -56,7 +56,7 @@ fn handle_task_completion(
     t: TaskId,
     value: Value,
 ) -> Control
-    requires { LengthsAnd tasks objects places (t.0 < task_limit) }
+    requires { LengthsAnd tasks.old objects.old places.old (t.0 < task_limit) }
     ensures { Switches tasks objects places ids len
         (λ s. handle_task_completion s t.0 value) result }
 {
@@ -79,7 +79,7 @@ pub fn complete(
     t: TaskId,
     value: Value,
 ) -> Stepped
-    requires { LengthsAnd tasks objects places (t.0 < task_limit) }
+    requires { LengthsAnd tasks.old objects.old places.old (t.0 < task_limit) }
     ensures { Answers tasks objects places queue
         (λ s. task_completes s t.0 value) result }
 {
@@ -108,7 +108,7 @@ pub fn fail(
     t: TaskId,
     error: Error,
 ) -> Stepped
-    requires { Lengths₂And tasks objects (t.0 < task_limit) }
+    requires { Lengths₂And tasks.old objects.old (t.0 < task_limit) }
     ensures { AnswersKeepingPlaces tasks objects queue
         (λ s. task_fails s t.0 error) result }
 {
@@ -135,7 +135,7 @@ pub fn resume_with_resolved_futures(
     objects: &mut [u64],
     queue: ReadyQueue,
 ) -> Stepped
-    requires { Lengths₂ tasks objects }
+    requires { Lengths₂ tasks.old objects.old }
     ensures { AnswersKeepingPlaces tasks objects queue resume_with_resolved_futures result }
 {
     if queue.len == 0 {

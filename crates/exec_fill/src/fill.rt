@@ -16,7 +16,7 @@ fn fill_one(
     source: HeapId,
     value: Value,
 ) -> u32
-    requires { PlacesLength places × (p < place_limit) × (i < item_limit) }
+    requires { PlacesLength places.old × (p < place_limit) × (i < item_limit) }
     ensures { filled places.new result ≡ fill_one places.old open_places p i source.0 value }
 {
     if (open_places >> i) % 2 == 0 {
@@ -46,7 +46,7 @@ pub(crate) fn fill_places(
     source: HeapId,
     value: Value,
 ) -> u32
-    requires { PlacesLength places × (first + count ≤ place_limit) × (count ≤ item_limit) }
+    requires { PlacesLength places.old × (first + count ≤ place_limit) × (count ≤ item_limit) }
     ensures { filled places.new result ≡ fill_from places.old open_places first source.0 value 0 count }
 {
     let mut left = open_places;

@@ -21,7 +21,7 @@ pub enum Onward {
 
 // Object `g` is a gather with these places, in that state.
 fn put_gather(objects: &mut [u64], g: HeapId, first: u16, count: u16, state: GatherState)
-    requires { ObjectsLength objects × (g.0 < object_limit) }
+    requires { ObjectsLength objects.old × (g.0 < object_limit) }
     ensures { objects.new ≡ object_put objects.old g.0 (Object.GatherFuture first count state) }
 {
     store_object(
@@ -43,7 +43,7 @@ pub fn resolve_child(
     source: HeapId,
     value: Value,
 ) -> Onward
-    requires { ObjectsLength objects × PlacesLength places × (g.0 < object_limit) }
+    requires { ObjectsLength objects.old × PlacesLength places.old × (g.0 < object_limit) }
     ensures { Settles objects places
         (λ s. resolve_child s g.0 source.0 value) result }
 {
@@ -78,7 +78,7 @@ pub fn resolve_child(
 
 // The first failure of an awaited gather. One that is not awaited keeps its state.
 pub fn fail(objects: &mut [u64], g: HeapId, error: Error) -> Onward
-    requires { ObjectsLength objects × (g.0 < object_limit) }
+    requires { ObjectsLength objects.old × (g.0 < object_limit) }
     ensures { SettlesKeepingPlaces objects (λ s. fail_gather s g.0 error) result }
 {
     let a = as_awaited(objects, g);

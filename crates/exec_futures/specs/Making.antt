@@ -8,15 +8,15 @@ use Rattle.contract.specs.Contract.{Words, Slice, ChangesObjects, ChangesObjects
 
 -- there is a number for one object more
 abbrev pub HasRoom : Words → Type 0
-HasRoom objects = (header_at objects.now).made < object_limit
+HasRoom objects = (header_at objects).made < object_limit
 
 -- and for one call more
 abbrev pub HasCall : Words → Type 0
-HasCall objects = (header_at objects.now).calls < call_limit
+HasCall objects = (header_at objects).calls < call_limit
 
 -- and n places are left
 abbrev pub HasPlaces : Words → ℕ → Type 0
-HasPlaces objects n = (header_at objects.now).used + n ≤ place_limit
+HasPlaces objects n = (header_at objects).used + n ≤ place_limit
 
 -- The call makes an object, as f does, and answers its number.
 abbrev pub MakesObject : Slice → (Store → Store) → HeapId → Type 0

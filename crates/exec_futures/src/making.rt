@@ -14,7 +14,7 @@ use asyncio::{
 
 // An object at the end, and `n` places given to it.
 fn add_object(objects: &mut [u64], x: Object, n: u16) -> HeapId
-    requires { ObjectsLength objects × HasRoom objects × (n ≤ item_limit) }
+    requires { ObjectsLength objects.old × HasRoom objects.old × (n ≤ item_limit) }
     ensures { MakesObject objects (λ s. add_object s x n) result }
 {
     let header = rows::tables::load_header(objects);
@@ -36,7 +36,7 @@ fn add_object(objects: &mut [u64], x: Object, n: u16) -> HeapId
 
 // The next call's number is handed out.
 pub fn allocate_call_id(objects: &mut [u64]) -> CallId
-    requires { ObjectsLength objects × HasCall objects }
+    requires { ObjectsLength objects.old × HasCall objects.old }
     ensures { (result.0 ≡ (header_at objects.old).calls) × ChangesObjects objects
         (λ s. set_calls s (result.0 + 1)) }
 {
@@ -58,7 +58,7 @@ pub fn allocate_call_id(objects: &mut [u64]) -> CallId
 
 // A new coroutine of a function.
 pub fn make_coroutine(objects: &mut [u64], function: u32) -> HeapId
-    requires { ObjectsLength objects × HasRoom objects }
+    requires { ObjectsLength objects.old × HasRoom objects.old }
     ensures { MakesObject objects (λ s. make_coroutine s function) result }
 {
     let x = Object::Coroutine {
@@ -70,7 +70,7 @@ pub fn make_coroutine(objects: &mut [u64], function: u32) -> HeapId
 
 // An external of a call, with a stored result or none (add_pending_call, add_pending_sleep).
 pub fn push_pending_future(objects: &mut [u64], call: CallId, stored: OptionValue) -> HeapId
-    requires { ObjectsLength objects × HasRoom objects }
+    requires { ObjectsLength objects.old × HasRoom objects.old }
     ensures { MakesObject objects (λ s. make_pending s call.0 stored) result }
 {
     let x = Object::ExternalFuture {
@@ -85,7 +85,7 @@ pub fn push_pending_future(objects: &mut [u64], call: CallId, stored: OptionValu
 
 // An external that has its value already. It takes a call number too.
 pub fn settled_awaitable(objects: &mut [u64], value: Value) -> HeapId
-    requires { ObjectsLength objects × HasRoom objects × HasCall objects }
+    requires { ObjectsLength objects.old × HasRoom objects.old × HasCall objects.old }
     ensures { MakesObject objects (λ s. make_settled s value) result }
 {
     let call = allocate_call_id(objects);
@@ -98,7 +98,7 @@ pub fn settled_awaitable(objects: &mut [u64], value: Value) -> HeapId
 
 // The items in the places from `first` on.
 fn put_items(places: &mut [u64], first: usize, items: &[u16])
-    requires { PlacesLength places × (first + length items.now ≤ place_limit) }
+    requires { PlacesLength places.old × (first + length items.now ≤ place_limit) }
     ensures { ChangesPlaces places (λ s. put_items s first items.now) }
 {
     let n = items.len();
@@ -115,8 +115,8 @@ fn put_items(places: &mut [u64], first: usize, items: &[u16])
 
 // A gather of the items, not committed.
 pub fn make_gather(objects: &mut [u64], places: &mut [u64], items: &[u16]) -> HeapId
-    requires { ObjectsLength objects × PlacesLength places × HasRoom objects × (length items.now ≤ item_limit)
-        × HasPlaces objects (length items.now) }
+    requires { ObjectsLength objects.old × PlacesLength places.old × HasRoom objects.old × (length items.now ≤ item_limit)
+        × HasPlaces objects.old (length items.now) }
     ensures { MakesGather objects places
         (λ s. make_gather s items.now) result }
 {

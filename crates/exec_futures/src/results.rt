@@ -19,7 +19,7 @@ fn apply_result(
     results: &[u8],
     at: usize,
 ) -> FoundTask
-    requires { LengthsAnd tasks objects places (at + 14 ≤ length results.now) }
+    requires { LengthsAnd tasks.old objects.old places.old (at + 14 ≤ length results.now) }
     ensures { Wakes tasks objects places
         (λ s. apply_result s (result_at results.now at)) result }
 {
@@ -51,7 +51,7 @@ pub fn apply_future_results(
     queue: ReadyQueue,
     results: &[u8],
 ) -> ReadyQueue
-    requires { Lengths tasks objects places }
+    requires { Lengths tasks.old objects.old places.old }
     ensures { Changes tasks objects places queue result
         (λ s. wake_in_order s (apply_future_results s (results_in results.now))) }
 {

@@ -5,7 +5,7 @@ use Rattle.machine.specs.Store.{Store, object}
 use Rattle.machine.specs.Scheduler as scheduler
 use Rattle.machine.specs.Commit.{ready, raised, pending, gives, polled, nested, item_object, item}
 use Rattle.machine.specs.Commit as machine
-use Rattle.contract.specs.Contract.{Slice, Count, queue_before, queue_after, Does, DoesOfTasksAndObjects, DoesOfObjects}
+use Rattle.contract.specs.Contract.{Words, kept, Slice, Count, queue_before, queue_after, Does, DoesOfTasksAndObjects, DoesOfObjects}
 use Rattle.exec_poll.specs.declared.item.Poll.{Poll}
 use Rattle.exec_poll.specs.declared.item.ItemPoll.{ItemPoll}
 
@@ -59,6 +59,6 @@ PollsItem tasks objects ids len f r =
     DoesOfTasksAndObjects (λ x. x.store.log) tasks objects (queue_before ids len) (queue_after ids len) (λ s. with_item s r) f
 
 -- The same of a call that takes the places, too.
-abbrev pub PollsItemOfPlaces : Slice → Slice → Slice → Slice → Count → (Store → Itemed) → ItemPoll → Type 0
+abbrev pub PollsItemOfPlaces : Slice → Slice → Words → Slice → Count → (Store → Itemed) → ItemPoll → Type 0
 PollsItemOfPlaces tasks objects places ids len f r =
-    Does (λ x. x.store.log) tasks objects places (queue_before ids len) (queue_after ids len) (λ s. with_item s r) f
+    Does (λ x. x.store.log) tasks objects (kept places) (queue_before ids len) (queue_after ids len) (λ s. with_item s r) f

@@ -38,7 +38,7 @@ pub fn await_external(
     state: ExternalFutureState,
     awaiter: Awaiter,
 ) -> Poll
-    requires { ObjectsLength objects × (o.0 < object_limit) }
+    requires { ObjectsLength objects.old × (o.0 < object_limit) }
     ensures { PollsOfObjects objects
         (λ s. await_external s o.0 call state awaiter) result }
 {
@@ -75,7 +75,7 @@ fn item_coroutine(
     o: HeapId,
     state: CoroutineState,
 ) -> Poll
-    requires { Lengths₂ tasks objects }
+    requires { Lengths₂ tasks.old objects.old }
     ensures { Polls tasks objects ids len
         (λ s. item_coroutine s g.0 o.0 state) result }
 {
@@ -116,7 +116,7 @@ fn item_object(
     g: HeapId,
     o: HeapId,
 ) -> ItemPoll
-    requires { Lengths₂And tasks objects (o.0 < object_limit) }
+    requires { Lengths₂And tasks.old objects.old (o.0 < object_limit) }
     ensures { PollsItem tasks objects ids len (λ s. item_here s g.0 o.0) result }
 {
     let x = rows::tables::load_object(objects, o);
@@ -158,8 +158,8 @@ pub fn item(
     w: AwaitedGather,
     o: HeapId,
 ) -> ItemPoll
-    requires { LengthsAnd₂ tasks objects places (PlacesFit w.first w.count) (o.0 < object_limit) }
-    ensures { PollsItemOfPlaces tasks objects places ids len
+    requires { LengthsAnd₂ tasks.old objects.old places.now (PlacesFit w.first w.count) (o.0 < object_limit) }
+    ensures { PollsItemOfPlaces tasks objects places.now ids len
         (λ s. item_at s g.0 (awaited_gather_of w) o.0) result }
 {
     if is_open(places, w.first, w.count, w.open_places, o) {

@@ -25,7 +25,7 @@ pub enum Control {
 
 // The moment of the session.
 fn set_moment(objects: &mut [u64], moment: Moment)
-    requires { ObjectsLength objects }
+    requires { ObjectsLength objects.old }
     ensures { objects.new ≡ moment_put objects.old moment }
 {
     let header = rows::tables::load_header(objects);
@@ -43,7 +43,7 @@ fn set_moment(objects: &mut [u64], moment: Moment)
 
 // Task `t` runs.
 pub(crate) fn run(tasks: &mut [u64], objects: &mut [u64], t: TaskId, how: How) -> Control
-    requires { Lengths₂And tasks objects (t.0 < task_limit) }
+    requires { Lengths₂And tasks.old objects.old (t.0 < task_limit) }
     ensures { SwitchesKeepingLog tasks objects
         (λ s. run s t.0 (how_of how)) result }
 {
@@ -54,7 +54,7 @@ pub(crate) fn run(tasks: &mut [u64], objects: &mut [u64], t: TaskId, how: How) -
 
 // The host has control.
 pub(crate) fn yield_control(objects: &mut [u64]) -> Control
-    requires { ObjectsLength objects }
+    requires { ObjectsLength objects.old }
     ensures { SwitchesOfObjects objects yield result }
 {
     set_moment(objects, Moment::Waiting);

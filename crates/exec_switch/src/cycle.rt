@@ -24,7 +24,7 @@ pub enum NewFunction {
 }
 
 fn new_function(objects: &[u64], c: HeapId) -> NewFunction
-    requires { ObjectsLength objects × (c.0 < object_limit) }
+    requires { ObjectsLength objects.now × (c.0 < object_limit) }
     ensures { result ≡ function_of (new_function (object_at objects.now c.0)) }
 {
     let x = rows::tables::load_object(objects, c);
@@ -53,7 +53,7 @@ fn activate_task(
     len: &mut usize,
     t: TaskId,
 ) -> Control
-    requires { Lengths₂And tasks objects (t.0 < task_limit) }
+    requires { Lengths₂And tasks.old objects.old (t.0 < task_limit) }
     ensures { SwitchesKeepingPlaces tasks objects ids len (λ s. activate s t.0) result }
 {
     let state = rows::parts::state_at(tasks, t);
@@ -76,7 +76,7 @@ fn start_task(
     len: &mut usize,
     t: TaskId,
 ) -> Control
-    requires { Lengths₂And tasks objects (t.0 < task_limit) }
+    requires { Lengths₂And tasks.old objects.old (t.0 < task_limit) }
     ensures { SwitchesKeepingPlaces tasks objects ids len
         (λ s. start_task activate s t.0) result }
 {
@@ -123,7 +123,7 @@ pub fn handle_task_failure(
     t: TaskId,
     error: Error,
 ) -> Control
-    requires { Lengths₂And tasks objects (t.0 < task_limit) }
+    requires { Lengths₂And tasks.old objects.old (t.0 < task_limit) }
     ensures { SwitchesKeepingPlaces tasks objects ids len
         (λ s. handle_task_failure activate s t.0 error) result }
 {
@@ -143,7 +143,7 @@ pub fn resume_after_task_exit(
     len: &mut usize,
     woken: FoundTask,
 ) -> Control
-    requires { Lengths₂And tasks objects (FoundFits woken) }
+    requires { Lengths₂And tasks.old objects.old (FoundFits woken) }
     ensures { SwitchesKeepingPlaces tasks objects ids len
         (λ s. resume_after_task_exit activate (delivered s woken)) result }
 {
@@ -164,7 +164,7 @@ pub fn switch_or_yield(
     ids: &mut [u16; TASKS],
     len: &mut usize,
 ) -> Control
-    requires { Lengths₂ tasks objects }
+    requires { Lengths₂ tasks.old objects.old }
     ensures { SwitchesKeepingPlaces tasks objects ids len
         (λ s. resume_next activate s) result }
 {

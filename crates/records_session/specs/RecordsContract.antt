@@ -1,12 +1,12 @@
 -- The contracts of the entries over task records.
 use Rattle.std.specs.Prelude.{◌≡◌, List, ℕ}
 use denote.Triple.Both.{Both}
-use Rattle.std.specs.Borrow.{Bor}
+use denote.MutBor.{MutBor}
 use Rattle.queue.specs.declared.ReadyQueue.{ReadyQueue}
 use Rattle.machine.specs.Machine as machine
 use Rattle.machine.specs.Answers.{answer_numbers}
 use Rattle.machine.specs.Lent.{read_as}
-use Rattle.contract.specs.Contract.{Slice}
+use Rattle.contract.specs.Contract.{Words, kept, Slice}
 use Rattle.exec_switch.specs.Answer.{answer_of}
 use Rattle.exec_switch.specs.declared.answer.Answer.{Answer}
 use Rattle.exec_switch.specs.declared.answer.Stepped.{Stepped}
@@ -16,7 +16,7 @@ use Rattle.records_session.specs.Records.{Records, RecordsLent, records_step, re
 
 -- a lent slice of records
 abbrev pub TaskSlice : Type 0
-TaskSlice = Both (Bor (List TaskRecord)) (Bor (List TaskRecord))
+TaskSlice = Both (MutBor (List TaskRecord)) (MutBor (List TaskRecord))
 
 -- the memory before the call
 abbrev pub memory_before : TaskSlice → Slice → Slice → ReadyQueue → Records
@@ -47,5 +47,5 @@ RecordsBegin tasks objects places queue r =
     ≡ records_begin (memory_before tasks objects places queue)
 
 -- The call is a read e of lent records: its answer, with document 01's numbers, is that of `records_read`.
-abbrev pub RecordsRead : TaskSlice → Slice → Slice → ReadyQueue → machine.Event → machine.Answer → Type 0
-RecordsRead tasks objects places queue e a = read_as a ≡ read_as (records_read (memory_before tasks objects places queue) e)
+abbrev pub RecordsRead : List TaskRecord → Words → Words → ReadyQueue → machine.Event → machine.Answer → Type 0
+RecordsRead tasks objects places queue e a = read_as a ≡ read_as (records_read (memory_before (kept tasks) (kept objects) (kept places) queue) e)

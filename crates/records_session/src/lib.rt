@@ -83,7 +83,7 @@ pub fn show(
     queue: ReadyQueue,
     o: u16,
 ) -> Reading
-    ensures { RecordsRead tasks objects places queue (machine.Event.show o) (show_answer places.now result) }
+    ensures { RecordsRead tasks.now objects.now places.now queue (machine.Event.show o) (show_answer places.now result) }
 {
     let records = tasks.len();
     let n = rows_in_use(records, objects);
@@ -93,7 +93,7 @@ pub fn show(
 
 // May the host answer a call at once: is no task ready and no call pending? Refused with 1 and 2; nothing is ever changed.
 pub fn eager(tasks: &[TaskRecord], objects: &[u64], places: &[u64], queue: ReadyQueue) -> Answer
-    ensures { RecordsRead tasks objects places queue machine.Event.eager (answer_of objects.now result) }
+    ensures { RecordsRead tasks.now objects.now places.now queue machine.Event.eager (answer_of objects.now result) }
 {
     let records = tasks.len();
     let n = rows_in_use(records, objects);

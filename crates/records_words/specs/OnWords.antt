@@ -7,7 +7,7 @@ use Rattle.machine.specs.Store.{Store}
 use Rattle.machine.specs.Machine as machine
 use Rattle.machine.specs.Machine.{Step}
 use Rattle.machine.specs.Lent.{Lent, read_as, lent_as, lent_step, lent_begin, lent_read}
-use Rattle.contract.specs.Contract.{Slice, before, DoesAt}
+use Rattle.contract.specs.Contract.{Words, kept, Slice, before, DoesAt}
 use Rattle.exec_switch.specs.Answer.{stepped_of}
 use Rattle.step_checks.specs.Lent.{lent_of}
 use Rattle.records_words.specs.declared.Worked.{Worked}
@@ -53,5 +53,5 @@ unfoldable pub words_read : ℕ → Store → machine.Event → machine.Answer
 words_read n s e = pick (eqb n task_limit) (lent_read s e).answer (machine.Answer.refused 1)
 
 -- The call is a read e of the words of n records.
-abbrev pub WordsRead : ℕ → Slice → Slice → Slice → ReadyQueue → machine.Event → machine.Answer → Type 0
-WordsRead n words objects places queue e a = read_as a ≡ read_as (words_read n (before words objects places queue []) e)
+abbrev pub WordsRead : ℕ → Words → Words → Words → ReadyQueue → machine.Event → machine.Answer → Type 0
+WordsRead n words objects places queue e a = read_as a ≡ read_as (words_read n (before (kept words) (kept objects) (kept places) queue []) e)

@@ -139,7 +139,7 @@ pub fn show(
     queue: ReadyQueue,
     o: u16,
 ) -> Reading
-    ensures { WordsRead records words objects places queue (machine.Event.show o) (show_answer places.now result) }
+    ensures { WordsRead records words.now objects.now places.now queue (machine.Event.show o) (show_answer places.now result) }
 {
     if records == TASKS {
         return session_reads::show(words, objects, places, queue, o);
@@ -155,7 +155,7 @@ pub fn eager(
     places: &[u64],
     queue: ReadyQueue,
 ) -> Answer
-    ensures { WordsRead records words objects places queue machine.Event.eager (answer_of objects.now result) }
+    ensures { WordsRead records words.now objects.now places.now queue machine.Event.eager (answer_of objects.now result) }
 {
     if records == TASKS {
         return session_reads::eager(words, objects, places, queue);

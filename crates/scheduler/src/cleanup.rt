@@ -11,7 +11,7 @@ use queue::ReadyQueue;
 
 // Is no call pending?
 pub fn no_call_pending(objects: &[u64]) -> bool
-    requires { ObjectsLength objects }
+    requires { ObjectsLength objects.now }
     ensures { result ≡ is_empty (pending_calls_in objects.now) }
 {
     let header = rows::tables::load_header(objects);
@@ -29,8 +29,8 @@ pub fn no_call_pending(objects: &[u64]) -> bool
 
 // May a call be answered at once? Nothing is ready and no call is pending; after the session's end none is.
 pub fn can_await_eagerly(objects: &[u64], queue: ReadyQueue) -> bool
-    requires { ObjectsLength objects }
-    ensures { ReadsObjectsAndQueue objects queue can_await_eagerly result }
+    requires { ObjectsLength objects.now }
+    ensures { ReadsObjectsAndQueue objects.now queue can_await_eagerly result }
 {
     if queue.len == 0 {
         let header = rows::tables::load_header(objects);
@@ -46,7 +46,7 @@ pub fn can_await_eagerly(objects: &[u64], queue: ReadyQueue) -> bool
 
 // Row `t` cleared, if it is a live task's.
 fn clear_one(tasks: &mut [u64], t: TaskId)
-    requires { TasksLength tasks × (t.0 < task_limit) }
+    requires { TasksLength tasks.old × (t.0 < task_limit) }
     ensures { tasks.new ≡ clear_one tasks.old t.0 }
 {
     let state = rows::parts::state_at(tasks, t);
@@ -62,7 +62,7 @@ fn clear_one(tasks: &mut [u64], t: TaskId)
 
 // The rows of the live tasks below `next` cleared.
 fn clear_tasks(tasks: &mut [u64], next: u16)
-    requires { TasksLength tasks × (next ≤ task_limit) }
+    requires { TasksLength tasks.old × (next ≤ task_limit) }
     ensures { tasks.new ≡ clear_from tasks.old 0 next }
 {
     let mut t: u16 = 0;
@@ -74,7 +74,7 @@ fn clear_tasks(tasks: &mut [u64], next: u16)
 
 // The session ends: no task is left, and none is ready.
 pub fn cleanup(tasks: &mut [u64], objects: &mut [u64]) -> ReadyQueue
-    requires { Lengths₂ tasks objects }
+    requires { Lengths₂ tasks.old objects.old }
     ensures { Cleans tasks objects result }
 {
     let header = rows::tables::load_header(objects);

@@ -20,7 +20,7 @@ fn spawn_as(
     c: HeapId,
     g: HeapId,
 )
-    requires { Lengths₂And tasks objects (header.next < task_limit) }
+    requires { Lengths₂And tasks.old objects.old (header.next < task_limit) }
     ensures { SpawnsTaskAs tasks objects ids len header c.0 g.0 }
 {
     let t = TaskId::new(header.next);
@@ -56,7 +56,7 @@ pub fn spawn(
     c: HeapId,
     g: HeapId,
 ) -> bool
-    requires { Lengths₂ tasks objects }
+    requires { Lengths₂ tasks.old objects.old }
     ensures { SpawnsTask tasks objects ids len c.0 g.0 result }
 {
     let header = rows::tables::load_header(objects);

@@ -24,7 +24,7 @@ pub enum FoundObject {
 
 // Does task `t` live and drive object `c`?
 fn is_task_of(tasks: &[u64], t: TaskId, c: HeapId) -> bool
-    requires { TasksLength tasks × (t.0 < task_limit) }
+    requires { TasksLength tasks.now × (t.0 < task_limit) }
     ensures { result ≡ is_task_of c.0 (task_at tasks.now t.0) }
 {
     let state = rows::parts::state_at(tasks, t);
@@ -37,7 +37,7 @@ fn is_task_of(tasks: &[u64], t: TaskId, c: HeapId) -> bool
 
 // The live spawned task below `next` that drives object `c`.
 pub(crate) fn task_of(tasks: &[u64], next: u16, c: HeapId) -> FoundTask
-    requires { TasksLength tasks × (next ≤ task_limit) }
+    requires { TasksLength tasks.now × (next ≤ task_limit) }
     ensures { result ≡ found_task (task_of_in tasks.now next c.0) }
 {
     let mut t: u16 = 1;
@@ -53,7 +53,7 @@ pub(crate) fn task_of(tasks: &[u64], next: u16, c: HeapId) -> FoundTask
 
 // Is object `o` a pending external of that call?
 pub(crate) fn is_call(objects: &[u64], call: u32, o: HeapId) -> bool
-    requires { ObjectsLength objects × (o.0 < object_limit) }
+    requires { ObjectsLength objects.now × (o.0 < object_limit) }
     ensures { result ≡ is_call objects.now call o.0 }
 {
     let kind = rows::parts::kind_at(objects, o);
@@ -67,7 +67,7 @@ pub(crate) fn is_call(objects: &[u64], call: u32, o: HeapId) -> bool
 // The pending external of a call. It only searches: nothing is taken out, and the store stays. The number is compared whole, so that
 // call 65,536 + n is not call n.
 pub fn take_pending_external(objects: &[u64], call: u32) -> FoundObject
-    requires { ObjectsLength objects }
+    requires { ObjectsLength objects.now }
     ensures { result ≡ found_object (pending_external_in objects.now call) }
 {
     let header = rows::tables::load_header(objects);

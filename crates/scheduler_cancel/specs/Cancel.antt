@@ -2,7 +2,7 @@
 use Rattle.std.specs.Prelude.{◌≡◌, Bool, List, [], ◌∷◌, ℕ, zero, suc, ◌+◌, ◌≤◌, eqb, length, get_or, set}
 use Rattle.std.proofs.Math.Option.{Option, none, some}
 use denote.Triple.Both.{Both}
-use Rattle.std.specs.Borrow.{Bor}
+use denote.MutBor.{MutBor}
 use Rattle.asyncio.specs.Limits.{object_limit}
 use Rattle.asyncio.specs.States.{pick, is_live}
 use Rattle.asyncio.specs.Numbers.{to_task_id, to_heap_id}
@@ -54,44 +54,47 @@ awaited_places i n a m = record { first = i; count = n; awaiter = a; open-places
 
 -- ---- what a call of the walk asks, and what it does
 
--- the marks, in a `requires` and in an `ensures`
+-- the marks, in a `requires`; in an `ensures` `.entry` before the call, `.exit` after it
 abbrev pub Marks : Type 0
-Marks = Bor (List Bool)
+Marks = List Bool
+
+abbrev pub MarksSlice : Type 0
+MarksSlice = Both (MutBor Marks) (MutBor Marks)
 
 -- table and stack have a word for each object
 abbrev pub TableLength : Words → Type 0
-TableLength table = length table.now ≡ object_limit
+TableLength table = length table ≡ object_limit
 
 -- and there is a mark for each
 abbrev pub MarksLength : Marks → Type 0
-MarksLength marks = length marks.now ≡ object_limit
+MarksLength marks = length marks ≡ object_limit
 
 -- a stack of that depth has room for every gather that is not marked
 abbrev pub HasRoom : Marks → ℕ → Type 0
-HasRoom marks depth = unmarked marks.now + depth ≤ object_limit
+HasRoom marks depth = unmarked marks + depth ≤ object_limit
 
 -- The call does what f does of the walk before it, with the log l.
-abbrev pub WalksAt : List LogEntry → Slice → Slice → Slice → Slice → Both Marks Marks → Slice → Walked → (Walk → Walk) → Walked → Type 0
+abbrev pub WalksAt : List LogEntry → Slice → Slice → Slice → Slice → MarksSlice → Slice → Walked → (Walk → Walk) → Walked → Type 0
 WalksAt l table tasks objects places marks stack at f r =
     Shows table.entry.now tasks.exit.now objects.entry.now places.entry.now r marks.exit.now stack.exit.now
     (f (walk_of table.entry.now tasks.entry.now objects.entry.now places.entry.now at l marks.entry.now stack.entry.now))
 
 -- with every log
-abbrev pub Walks : Slice → Slice → Slice → Slice → Both Marks Marks → Slice → Walked → (Walk → Walk) → Walked → Type 0
+abbrev pub Walks : Slice → Slice → Slice → Slice → MarksSlice → Slice → Walked → (Walk → Walk) → Walked → Type 0
 Walks table tasks objects places marks stack at f r = (l : List LogEntry) → WalksAt l table tasks objects places marks stack at f r
 
 -- and whatever the places are
-abbrev pub WalksKeepingPlaces : Slice → Slice → Slice → Both Marks Marks → Slice → Walked → (Walk → Walk) → Walked → Type 0
+abbrev pub WalksKeepingPlaces : Slice → Slice → Slice → MarksSlice → Slice → Walked → (Walk → Walk) → Walked → Type 0
 WalksKeepingPlaces table tasks objects marks stack at f r =
     (ps : List ℕ) (l : List LogEntry) → WalksAt l table tasks objects (kept ps) marks stack at f r
 
 -- and the table
-abbrev pub WalksOfTasks : Slice → Slice → Both Marks Marks → Slice → Walked → (Walk → Walk) → Walked → Type 0
+abbrev pub WalksOfTasks : Slice → Slice → MarksSlice → Slice → Walked → (Walk → Walk) → Walked → Type 0
 WalksOfTasks tasks objects marks stack at f r =
     (ds ps : List ℕ) (l : List LogEntry) → WalksAt l (kept ds) tasks objects (kept ps) marks stack at f r
 
 -- The same of a call that takes no tasks either: it logs nothing, and the depth is what it answers.
-abbrev pub Reaches : Slice → Both Marks Marks → Slice → ℕ → (Walk → Walk) → ℕ → Type 0
+abbrev pub Reaches : Slice → MarksSlice → Slice → ℕ → (Walk → Walk) → ℕ → Type 0
 Reaches objects marks stack depth f r =
     (ds ts ps : List ℕ) (q : ReadyQueue) (l : List LogEntry) →
     walk_of ds ts objects.entry.now ps (walked q r) l marks.exit.now stack.exit.now

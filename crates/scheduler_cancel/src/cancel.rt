@@ -6,7 +6,7 @@ ghost use Rattle.rows.specs.Tables.{task_at, object_at};
 ghost use Rattle.machine.specs.Scheduler.{as_awaited, blocked_on, task_of_in, still_live, reach, remove_blocked, visit, visit_place, visit_open, walk_gather, cancel_task};
 ghost use Rattle.scheduler.specs.Search.{found_task, found_object};
 ghost use Rattle.scheduler_cancel.specs.Cancel.{put_task_of, tasks_of_in, awaited_places, TableLength, MarksLength, Reaches, WalksOfTasks, WalksKeepingPlaces, Walks, HasRoom};
-ghost use Rattle.contract.specs.Contract.{TasksLength, ObjectsLength, PlacesLength, LengthsAnd, Changes};
+ghost use Rattle.contract.specs.Contract.{kept, TasksLength, ObjectsLength, PlacesLength, LengthsAnd, Changes};
 
 use asyncio::{HeapId, TaskId, TaskState};
 use queue::ReadyQueue;
@@ -19,7 +19,7 @@ const OBJECTS: usize = asyncio::OBJECTS as usize;
 
 // Task `t` is noted at its coroutine, if it lives.
 fn put_task_of(tasks: &[u64], table: &mut [u64], t: TaskId)
-    requires { TasksLength tasks × TableLength table × (t.0 < task_limit) }
+    requires { TasksLength tasks.now × TableLength table.old × (t.0 < task_limit) }
     ensures { table.new ≡ put_task_of tasks.now t.0 table.old }
 {
     let state = rows::parts::state_at(tasks, t);
@@ -46,7 +46,7 @@ fn find_tasks(tasks: &[u64], next: u16) -> [u64; OBJECTS]
 
 // The task that drives object `o` by the table, if it still lives.
 fn live_task_of(tasks: &[u64], table: &[u64], o: HeapId) -> FoundTask
-    requires { TasksLength tasks × TableLength table × (o.0 < object_limit) }
+    requires { TasksLength tasks.now × TableLength table.now × (o.0 < object_limit) }
     ensures { result ≡ found_task (still_live tasks.now (tasks_of_in table.now o.0)) }
 {
     let i = o.0 as usize;
@@ -86,9 +86,9 @@ fn blocked_on(state: TaskState) -> FoundObject
 
 // Gather `g` is marked and put on the stack, if it is awaited and was not marked. The depth of the stack then.
 fn reach(objects: &[u64], marks: &mut [bool], stack: &mut [u64], depth: usize, g: HeapId) -> usize
-    requires { ObjectsLength objects × MarksLength marks × TableLength stack
-        × HasRoom marks depth × (g.0 < object_limit) }
-    ensures { Reaches objects marks stack depth (λ w. reach w g.0) result }
+    requires { ObjectsLength objects.now × MarksLength marks.old × TableLength stack.old
+        × HasRoom marks.old depth × (g.0 < object_limit) }
+    ensures { Reaches (kept objects.now) marks stack depth (λ w. reach w g.0) result }
 {
     let i = g.0 as usize;
     let kind = rows::parts::kind_at(objects, g);
@@ -112,9 +112,9 @@ fn remove_blocked(
     at: Walked,
     t: TaskId,
 ) -> Walked
-    requires { TasksLength tasks × ObjectsLength objects × MarksLength marks × TableLength stack
-        × HasRoom marks at.depth × (t.0 < task_limit) }
-    ensures { WalksOfTasks tasks objects marks stack at
+    requires { TasksLength tasks.old × ObjectsLength objects.now × MarksLength marks.old × TableLength stack.old
+        × HasRoom marks.old at.depth × (t.0 < task_limit) }
+    ensures { WalksOfTasks tasks (kept objects.now) marks stack at
         (λ w. remove_blocked w t.0 (blocked_on (task_at tasks.old t.0).state)) result }
 {
     let state = rows::parts::state_at(tasks, t);
@@ -144,9 +144,9 @@ fn visit(
     at: Walked,
     o: HeapId,
 ) -> Walked
-    requires { TasksLength tasks × ObjectsLength objects × TableLength table × MarksLength marks × TableLength stack
-        × HasRoom marks at.depth × (o.0 < object_limit) }
-    ensures { WalksKeepingPlaces table tasks objects marks stack at (λ w. visit w o.0) result }
+    requires { TasksLength tasks.old × ObjectsLength objects.now × TableLength table.now × MarksLength marks.old × TableLength stack.old
+        × HasRoom marks.old at.depth × (o.0 < object_limit) }
+    ensures { WalksKeepingPlaces (kept table.now) tasks (kept objects.now) marks stack at (λ w. visit w o.0) result }
 {
     let d = live_task_of(tasks, table, o);
     match d {
@@ -172,9 +172,9 @@ fn visit_place(
     i: usize,
     open_places: u32,
 ) -> Walked
-    requires { TasksLength tasks × ObjectsLength objects × PlacesLength places × TableLength table × MarksLength marks
-        × TableLength stack × HasRoom marks at.depth × (p < place_limit) × (i < item_limit) }
-    ensures { Walks table tasks objects places marks stack at (λ w. visit_place w p i open_places) result }
+    requires { TasksLength tasks.old × ObjectsLength objects.now × PlacesLength places.now × TableLength table.now × MarksLength marks.old
+        × TableLength stack.old × HasRoom marks.old at.depth × (p < place_limit) × (i < item_limit) }
+    ensures { Walks (kept table.now) tasks (kept objects.now) (kept places.now) marks stack at (λ w. visit_place w p i open_places) result }
 {
     if (open_places >> i) % 2 == 0 {
         return at;
@@ -196,9 +196,9 @@ fn visit_open(
     count: usize,
     open_places: u32,
 ) -> Walked
-    requires { TasksLength tasks × ObjectsLength objects × PlacesLength places × TableLength table × MarksLength marks
-        × TableLength stack × HasRoom marks at.depth × (first + count ≤ place_limit) × (count ≤ item_limit) }
-    ensures { (a : Awaiter) → Walks table tasks objects places marks stack at
+    requires { TasksLength tasks.old × ObjectsLength objects.now × PlacesLength places.now × TableLength table.now × MarksLength marks.old
+        × TableLength stack.old × HasRoom marks.old at.depth × (first + count ≤ place_limit) × (count ≤ item_limit) }
+    ensures { (a : Awaiter) → Walks (kept table.now) tasks (kept objects.now) (kept places.now) marks stack at
         (λ w. visit_open w (awaited_places first count a open_places) 0 count) result }
 {
     let mut w = at;
@@ -232,9 +232,9 @@ fn walk_gather(
     at: Walked,
     g: HeapId,
 ) -> Walked
-    requires { TasksLength tasks × ObjectsLength objects × PlacesLength places × TableLength table × MarksLength marks
-        × TableLength stack × HasRoom marks at.depth × (g.0 < object_limit) }
-    ensures { Walks table tasks objects places marks stack at
+    requires { TasksLength tasks.old × ObjectsLength objects.now × PlacesLength places.now × TableLength table.now × MarksLength marks.old
+        × TableLength stack.old × HasRoom marks.old at.depth × (g.0 < object_limit) }
+    ensures { Walks (kept table.now) tasks (kept objects.now) (kept places.now) marks stack at
         (λ w. walk_gather w (as_awaited (object_at objects.now g.0))) result }
 {
     let kind = rows::parts::kind_at(objects, g);
@@ -266,8 +266,8 @@ pub fn cancel_task(
     queue: ReadyQueue,
     t: TaskId,
 ) -> ReadyQueue
-    requires { LengthsAnd tasks objects places (t.0 < task_limit) }
-    ensures { Changes tasks objects places queue result (λ s. cancel_task s t.0) }
+    requires { LengthsAnd tasks.old objects.now places.now (t.0 < task_limit) }
+    ensures { Changes tasks (kept objects.now) (kept places.now) queue result (λ s. cancel_task s t.0) }
 {
     let header = rows::tables::load_header(objects);
     let table = find_tasks(tasks, header.next);

@@ -25,7 +25,7 @@ pub enum OptionAwaited {
 
 // Object `g` as an awaited gather, if it is one.
 pub fn as_awaited(objects: &[u64], g: HeapId) -> OptionAwaited
-    requires { ObjectsLength objects × (g.0 < object_limit) }
+    requires { ObjectsLength objects.now × (g.0 < object_limit) }
     ensures { option_awaited result ≡ as_awaited (object_at objects.now g.0) }
 {
     let o = rows::tables::load_object(objects, g);

@@ -14,7 +14,7 @@ use queue::{Position, ReadyQueue, Removed, remove_lent};
 
 // Task `t` in another state.
 pub fn set_state(tasks: &mut [u64], t: TaskId, state: TaskState)
-    requires { TasksLength tasks × (t.0 < task_limit) }
+    requires { TasksLength tasks.old × (t.0 < task_limit) }
     ensures { Restates tasks t.0 state }
 {
     let old = rows::tables::load_task(tasks, t);
@@ -33,7 +33,7 @@ pub fn set_state(tasks: &mut [u64], t: TaskId, state: TaskState)
 
 // Is task `t` blocked on an awaitable?
 pub fn is_blocked(tasks: &[u64], t: TaskId) -> bool
-    requires { TasksLength tasks × (t.0 < task_limit) }
+    requires { TasksLength tasks.now × (t.0 < task_limit) }
     ensures { result ≡ is_blocked (task_at tasks.now t.0).state }
 {
     let state = rows::parts::state_at(tasks, t);
@@ -42,7 +42,7 @@ pub fn is_blocked(tasks: &[u64], t: TaskId) -> bool
 
 // Task `t` is given a value or an error. The caller puts it at the queue's back.
 pub fn make_ready(tasks: &mut [u64], t: TaskId, state: TaskState)
-    requires { TasksLength tasks × (t.0 < task_limit) }
+    requires { TasksLength tasks.old × (t.0 < task_limit) }
     ensures { MakesReady tasks t.0 state }
 {
     set_state(tasks, t, state);
@@ -50,7 +50,7 @@ pub fn make_ready(tasks: &mut [u64], t: TaskId, state: TaskState)
 
 // Task `t` waits for object `o`.
 pub fn block_current_on(tasks: &mut [u64], t: TaskId, o: HeapId)
-    requires { TasksLength tasks × (t.0 < task_limit) }
+    requires { TasksLength tasks.old × (t.0 < task_limit) }
     ensures { Restates tasks t.0 (TaskState.Blocked o) }
 {
     set_state(tasks, t, TaskState::Blocked(o));
@@ -63,7 +63,7 @@ pub fn remove_task_lent(
     len: &mut usize,
     t: TaskId,
 ) -> Position
-    requires { TasksLength tasks × (t.0 < task_limit) }
+    requires { TasksLength tasks.old × (t.0 < task_limit) }
     ensures { ChangesTasks tasks (queue_before ids len) (queue_after ids len) (λ s. remove_task s t.0)
         × (result ≡ stood_at (queue_before ids len) t.0) }
 {
@@ -78,7 +78,7 @@ pub fn remove_task_lent(
 
 // The same of a queue that is handed over and back.
 pub fn remove_task(tasks: &mut [u64], mut queue: ReadyQueue, t: TaskId) -> Removed
-    requires { TasksLength tasks × (t.0 < task_limit) }
+    requires { TasksLength tasks.old × (t.0 < task_limit) }
     ensures { ChangesTasks tasks queue result.queue (λ s. remove_task s t.0) × (result.at ≡ stood_at queue t.0) }
 {
     let mut n = queue.len;

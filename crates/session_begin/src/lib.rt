@@ -22,7 +22,7 @@ fn clear(words: &mut [u64])
 
 // Main runs, and nothing else exists.
 fn store_main(tasks: &mut [u64], objects: &mut [u64])
-    requires { Lengths₂ tasks objects }
+    requires { Lengths₂ tasks.old objects.old }
     ensures { StoresMain tasks objects }
 {
     rows::tables::store_header(

@@ -12,7 +12,7 @@ use step_read::Reading;
 
 // What object `o` is and has. Refused with 1, 2, 5 (not made); nothing is ever changed.
 pub fn show(tasks: &[u64], objects: &[u64], places: &[u64], queue: ReadyQueue, o: u16) -> Reading
-    ensures { LentRead tasks objects places queue (Event.show o) (show_answer places.now result) }
+    ensures { LentRead tasks.now objects.now places.now queue (Event.show o) (show_answer places.now result) }
 {
     if slices_right(tasks, objects, places) {
         if is_sound(queue, tasks, objects, places) {
@@ -25,7 +25,7 @@ pub fn show(tasks: &[u64], objects: &[u64], places: &[u64], queue: ReadyQueue, o
 
 // May the host answer a call at once: is no task ready and no call pending? Refused with 1 and 2; nothing is ever changed.
 pub fn eager(tasks: &[u64], objects: &[u64], places: &[u64], queue: ReadyQueue) -> Answer
-    ensures { LentRead tasks objects places queue Event.eager (answer_of objects.now result) }
+    ensures { LentRead tasks.now objects.now places.now queue Event.eager (answer_of objects.now result) }
 {
     if slices_right(tasks, objects, places) {
         if is_sound(queue, tasks, objects, places) {

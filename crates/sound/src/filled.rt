@@ -21,7 +21,7 @@ fn is_filled(x: OptionValue) -> bool
 
 // Place `k` of a gather whose places start at `first` is open in `m`, or filled.
 fn place_done(places: &[u64], first: usize, m: u32, k: usize) -> bool
-    requires { PlacesLengthAnd places ((first + k < place_limit) × (k < item_limit)) }
+    requires { PlacesLengthAnd places.now ((first + k < place_limit) × (k < item_limit)) }
     ensures { result ≡ (bit m k || is_filled (place_in places (first + k)).result) }
 {
     if (m >> k) % 2 == 0 {
@@ -32,7 +32,7 @@ fn place_done(places: &[u64], first: usize, m: u32, k: usize) -> bool
 
 // The places not open in `m` are filled.
 fn rest_filled(places: &[u64], first: usize, n: usize, m: u32) -> bool
-    requires { PlacesLengthAnd places ((first + n ≤ place_limit) × (n ≤ item_limit)) }
+    requires { PlacesLengthAnd places.now ((first + n ≤ place_limit) × (n ≤ item_limit)) }
     ensures { result ≡ rest_filled (place_in places) first n m }
 {
     let mut k: usize = 0;
@@ -48,7 +48,7 @@ fn rest_filled(places: &[u64], first: usize, n: usize, m: u32) -> bool
 
 // Object `o` by its kind: only gathers have places.
 fn object_filled(objects: &[u64], places: &[u64], o: HeapId) -> bool
-    requires { ObjectsLengthAnd objects (PlacesLengthAnd places (o.0 < object_limit)) }
+    requires { ObjectsLengthAnd objects.now (PlacesLengthAnd places.now (o.0 < object_limit)) }
     ensures { result ≡ object_filled (place_in places) (object_in objects o.0) }
 {
     let kind = kind_at(objects, o);
@@ -69,7 +69,7 @@ fn object_filled(objects: &[u64], places: &[u64], o: HeapId) -> bool
 
 // Of every object.
 pub fn places_filled(made: u16, objects: &[u64], places: &[u64]) -> bool
-    requires { ObjectsLengthAnd objects (PlacesLengthAnd places (made ≤ object_limit)) }
+    requires { ObjectsLengthAnd objects.now (PlacesLengthAnd places.now (made ≤ object_limit)) }
     ensures { result ≡ places_filled made (object_in objects) (place_in places) }
 {
     let mut o: u16 = 0;

@@ -48,7 +48,7 @@ fn runs_as_told(m: Moment, t: u16, s: TaskState) -> bool
 }
 
 fn tasks_as_told(header: Header, tasks: &[u64]) -> bool
-    requires { TasksLengthAnd tasks (header.next ≤ task_limit) }
+    requires { TasksLengthAnd tasks.now (header.next ≤ task_limit) }
     ensures { result ≡ all_below header.next (λ t. beq (is_running (task_in tasks t).state) (runs_now header.moment t)) }
 {
     let next = header.next;
@@ -66,7 +66,7 @@ fn tasks_as_told(header: Header, tasks: &[u64]) -> bool
 
 // The tasks whose state is running: the one of the moment.
 pub fn one_runs(header: Header, tasks: &[u64]) -> bool
-    requires { TasksLengthAnd tasks (header.next ≤ task_limit) }
+    requires { TasksLengthAnd tasks.now (header.next ≤ task_limit) }
     ensures { result ≡ one_runs header (task_in tasks) }
 {
     let moment = header.moment;

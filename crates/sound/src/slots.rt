@@ -17,7 +17,7 @@ use scheduler_states::places::is_open;
 
 // Gather `g` was committed and, if it is awaited, has object `o` open.
 fn gather_holds(objects: &[u64], places: &[u64], g: HeapId, o: HeapId) -> bool
-    requires { ObjectsLengthAnd objects (PlacesLengthAnd places (g.0 < object_limit)) }
+    requires { ObjectsLengthAnd objects.now (PlacesLengthAnd places.now (g.0 < object_limit)) }
     ensures { result ≡ gather_holds (object_in objects) (place_in places) g.0 o.0 }
 {
     let kind = kind_at(objects, g);
@@ -32,7 +32,7 @@ fn gather_holds(objects: &[u64], places: &[u64], g: HeapId, o: HeapId) -> bool
 
 // The awaiter of the holder of object `o`.
 fn slot_open(objects: &[u64], places: &[u64], o: HeapId, w: Awaiter) -> bool
-    requires { ObjectsLengthAnd objects (PlacesLengthAnd places (AwaiterFits w)) }
+    requires { ObjectsLengthAnd objects.now (PlacesLengthAnd places.now (AwaiterFits w)) }
     ensures { result ≡ slot_open (object_in objects) (place_in places) o.0 w }
 {
     match w {
@@ -49,7 +49,7 @@ fn slot_open(objects: &[u64], places: &[u64], o: HeapId, w: Awaiter) -> bool
 
 // Of every object.
 fn object_slots(made: u16, objects: &[u64], places: &[u64]) -> bool
-    requires { ObjectsLengthAnd objects (PlacesLengthAnd places (made ≤ object_limit)) }
+    requires { ObjectsLengthAnd objects.now (PlacesLengthAnd places.now (made ≤ object_limit)) }
     ensures { result ≡ all_below made (λ o. slot_open (object_in objects) (place_in places) o (awaiter_of (object_in objects o))) }
 {
     let mut o: u16 = 0;
@@ -66,7 +66,7 @@ fn object_slots(made: u16, objects: &[u64], places: &[u64]) -> bool
 
 // A live task's awaiter, for its coroutine.
 fn task_slot(tasks: &[u64], objects: &[u64], places: &[u64], t: TaskId) -> bool
-    requires { LengthsAnd tasks objects places (t.0 < task_limit) }
+    requires { LengthsAnd tasks.now objects.now places.now (t.0 < task_limit) }
     ensures { result ≡ task_slot_open (object_in objects) (task_in tasks) (place_in places) t.0 }
 {
     let state = state_at(tasks, t);
@@ -79,7 +79,7 @@ fn task_slot(tasks: &[u64], objects: &[u64], places: &[u64], t: TaskId) -> bool
 
 // Of every task.
 fn task_slots(next: u16, tasks: &[u64], objects: &[u64], places: &[u64]) -> bool
-    requires { LengthsAnd tasks objects places (next ≤ task_limit) }
+    requires { LengthsAnd tasks.now objects.now places.now (next ≤ task_limit) }
     ensures { result ≡ all_below next (task_slot_open (object_in objects) (task_in tasks) (place_in places)) }
 {
     let mut t: u16 = 0;
@@ -95,7 +95,7 @@ fn task_slots(next: u16, tasks: &[u64], objects: &[u64], places: &[u64]) -> bool
 
 // Of objects, and of live tasks for their coroutines.
 pub fn slots_open(header: Header, tasks: &[u64], objects: &[u64], places: &[u64]) -> bool
-    requires { LengthsAnd tasks objects places ((header.made ≤ object_limit) × (header.next ≤ task_limit)) }
+    requires { LengthsAnd tasks.now objects.now places.now ((header.made ≤ object_limit) × (header.next ≤ task_limit)) }
     ensures { result ≡ slots_open header (object_in objects) (task_in tasks) (place_in places) }
 {
     if object_slots(header.made, objects, places) {

@@ -56,7 +56,7 @@ fn object_in_range(header: Header, objects: &[u64], o: HeapId, p: u16) -> bool
 
 // Objects and their awaiters, and the places used: `p` is where the places of the gathers so far end.
 fn objects_in_range(header: Header, objects: &[u64]) -> bool
-    requires { ObjectsLengthAnd objects (header.made ≤ object_limit) }
+    requires { ObjectsLengthAnd objects.now (header.made ≤ object_limit) }
     ensures { result ≡ objects_ranged header (object_in objects) }
 {
     let made = header.made;
@@ -91,7 +91,7 @@ fn slot_in_range(header: Header, w: Awaiter) -> bool
 
 // Object `c` is made, and a coroutine.
 fn coroutine_made(made: u16, objects: &[u64], c: HeapId) -> bool
-    requires { ObjectsLengthAnd objects (made ≤ object_limit) }
+    requires { ObjectsLengthAnd objects.now (made ≤ object_limit) }
     ensures { result ≡ ltb c.0 made and is_coroutine (kind (object_in objects c.0)) }
 {
     if c.0 < made {
@@ -103,7 +103,7 @@ fn coroutine_made(made: u16, objects: &[u64], c: HeapId) -> bool
 
 // Main is never unstarted, and has no awaiter and no coroutine. A live spawned task has a slot for its awaiter, and names a coroutine.
 fn task_in_range(header: Header, tasks: &[u64], objects: &[u64], t: TaskId) -> bool
-    requires { Lengths₂And tasks objects ((header.made ≤ object_limit) × (t.0 < task_limit)) }
+    requires { Lengths₂And tasks.now objects.now ((header.made ≤ object_limit) × (t.0 < task_limit)) }
     ensures { result ≡ task_in_range header (object_in objects) t.0 (task_in tasks t.0) }
 {
     let state = state_at(tasks, t);
@@ -128,7 +128,7 @@ fn task_in_range(header: Header, tasks: &[u64], objects: &[u64], t: TaskId) -> b
 }
 
 fn tasks_in_range(header: Header, tasks: &[u64], objects: &[u64]) -> bool
-    requires { Lengths₂And tasks objects ((header.made ≤ object_limit) × (header.next ≤ task_limit)) }
+    requires { Lengths₂And tasks.now objects.now ((header.made ≤ object_limit) × (header.next ≤ task_limit)) }
     ensures { result ≡ all_below header.next (λ t. task_in_range header (object_in objects) t (task_in tasks t)) }
 {
     let next = header.next;
@@ -145,7 +145,7 @@ fn tasks_in_range(header: Header, tasks: &[u64], objects: &[u64]) -> bool
 
 // Counts, objects, awaiters and tasks.
 pub fn numbers_in_range(header: Header, tasks: &[u64], objects: &[u64]) -> bool
-    requires { Lengths₂And tasks objects ((header.made ≤ object_limit) × (header.next ≤ task_limit)) }
+    requires { Lengths₂And tasks.now objects.now ((header.made ≤ object_limit) × (header.next ≤ task_limit)) }
     ensures { result ≡ numbers_in_range header (object_in objects) (task_in tasks) }
 {
     if header.next == 0 {
@@ -161,7 +161,7 @@ pub fn numbers_in_range(header: Header, tasks: &[u64], objects: &[u64]) -> bool
 
 // The places of the committed gathers below `made`.
 fn committed_places(objects: &[u64], made: u16) -> u16
-    requires { ObjectsLengthAnd objects (made ≤ object_limit) }
+    requires { ObjectsLengthAnd objects.now (made ≤ object_limit) }
     ensures { (result ≡ sum_below made (λ o. committed_places (object_in objects o))) × (result ≤ item_limit * object_limit) }
 {
     let mut sum: u16 = 0;
@@ -181,7 +181,7 @@ fn committed_places(objects: &[u64], made: u16) -> u16
 
 // Spawned: the tasks below the next number but main.
 pub fn spawned_in_range(header: Header, objects: &[u64]) -> bool
-    requires { ObjectsLengthAnd objects (header.made ≤ object_limit) }
+    requires { ObjectsLengthAnd objects.now (header.made ≤ object_limit) }
     ensures { result ≡ spawned_in_range header (object_in objects) }
 {
     header.next <= committed_places(objects, header.made) + 1

@@ -16,7 +16,7 @@ use rows::tables::object_row;
 
 // The items of gather `g`, in its `n` places from `first` on.
 fn items_below(places: &[u64], g: u16, first: usize, n: usize) -> bool
-    requires { PlacesLengthAnd places (first + n ≤ place_limit) }
+    requires { PlacesLengthAnd places.now (first + n ≤ place_limit) }
     ensures { result ≡ all_below n (λ k. ltb (place_in places (first + k)).item.0 g) }
 {
     let mut k: usize = 0;
@@ -33,7 +33,7 @@ fn items_below(places: &[u64], g: u16, first: usize, n: usize) -> bool
 
 // Of every gather; other objects have no places.
 pub fn items_lower(made: u16, objects: &[u64], places: &[u64]) -> bool
-    requires { ObjectsLengthAnd objects (PlacesLengthAnd places (made ≤ object_limit)) }
+    requires { ObjectsLengthAnd objects.now (PlacesLengthAnd places.now (made ≤ object_limit)) }
     ensures { result ≡ items_lower made (object_in objects) (place_in places) }
 {
     let mut o: u16 = 0;
@@ -54,7 +54,7 @@ pub fn items_lower(made: u16, objects: &[u64], places: &[u64]) -> bool
 
 // A value that may be handed on: plain, or the list of a completed gather among the objects made.
 pub fn value_known(made: u16, objects: &[u64], v: Value) -> bool
-    requires { ObjectsLengthAnd objects (made ≤ object_limit) }
+    requires { ObjectsLengthAnd objects.now (made ≤ object_limit) }
     ensures { result ≡ value_known made (object_in objects) v }
 {
     match v {
@@ -71,7 +71,7 @@ pub fn value_known(made: u16, objects: &[u64], v: Value) -> bool
 
 // A value, or none.
 pub fn option_known(made: u16, objects: &[u64], x: OptionValue) -> bool
-    requires { ObjectsLengthAnd objects (made ≤ object_limit) }
+    requires { ObjectsLengthAnd objects.now (made ≤ object_limit) }
     ensures { result ≡ option_known made (object_in objects) x }
 {
     match x {
@@ -83,7 +83,7 @@ pub fn option_known(made: u16, objects: &[u64], x: OptionValue) -> bool
 // The value or stored result that object `o` holds, read from its own two words: a pending external (kind 4) holds the one, a resolved
 // external (kind 5) the other. Other objects hold none.
 fn object_values(made: u16, objects: &[u64], o: HeapId) -> bool
-    requires { ObjectsLengthAnd objects ((made ≤ object_limit) × (o.0 < object_limit)) }
+    requires { ObjectsLengthAnd objects.now ((made ≤ object_limit) × (o.0 < object_limit)) }
     ensures { result ≡ object_values made (object_in objects) (object_in objects o.0) }
 {
     let row = object_row(objects, o.0 as usize);
@@ -98,7 +98,7 @@ fn object_values(made: u16, objects: &[u64], o: HeapId) -> bool
 
 // The value delivered to a task.
 fn state_values(made: u16, objects: &[u64], s: TaskState) -> bool
-    requires { ObjectsLengthAnd objects (made ≤ object_limit) }
+    requires { ObjectsLengthAnd objects.now (made ≤ object_limit) }
     ensures { result ≡ state_values made (object_in objects) s }
 {
     match s {
@@ -112,7 +112,7 @@ fn state_values(made: u16, objects: &[u64], s: TaskState) -> bool
 }
 
 fn objects_known(made: u16, objects: &[u64]) -> bool
-    requires { ObjectsLengthAnd objects (made ≤ object_limit) }
+    requires { ObjectsLengthAnd objects.now (made ≤ object_limit) }
     ensures { result ≡ all_below made (λ o. object_values made (object_in objects) (object_in objects o)) }
 {
     let mut o: u16 = 0;
@@ -127,7 +127,7 @@ fn objects_known(made: u16, objects: &[u64]) -> bool
 }
 
 fn tasks_known(made: u16, next: u16, tasks: &[u64], objects: &[u64]) -> bool
-    requires { Lengths₂And tasks objects ((made ≤ object_limit) × (next ≤ task_limit)) }
+    requires { Lengths₂And tasks.now objects.now ((made ≤ object_limit) × (next ≤ task_limit)) }
     ensures { result ≡ all_below next (λ t. state_values made (object_in objects) (task_in tasks t).state) }
 {
     let mut t: u16 = 0;
@@ -142,7 +142,7 @@ fn tasks_known(made: u16, next: u16, tasks: &[u64], objects: &[u64]) -> bool
 }
 
 fn places_known(made: u16, used: u16, objects: &[u64], places: &[u64]) -> bool
-    requires { ObjectsLengthAnd objects (PlacesLengthAnd places ((made ≤ object_limit) × (used ≤ place_limit))) }
+    requires { ObjectsLengthAnd objects.now (PlacesLengthAnd places.now ((made ≤ object_limit) × (used ≤ place_limit))) }
     ensures { result ≡ all_below used (λ p. option_known made (object_in objects) (place_in places p).result) }
 {
     let n = used as usize;
@@ -159,7 +159,7 @@ fn places_known(made: u16, used: u16, objects: &[u64], places: &[u64]) -> bool
 
 // Of objects, tasks and places.
 pub fn lists_completed(header: Header, tasks: &[u64], objects: &[u64], places: &[u64]) -> bool
-    requires { LengthsAnd tasks objects places (HeaderFits header) }
+    requires { LengthsAnd tasks.now objects.now places.now (HeaderFits header) }
     ensures { result ≡ lists_completed header (object_in objects) (task_in tasks) (place_in places) }
 {
     if objects_known(header.made, objects) {

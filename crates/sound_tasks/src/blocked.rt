@@ -29,7 +29,7 @@ fn is_task(t: u16, w: Awaiter) -> bool
 
 // Task `t` in state `s`: where it is blocked on an object, that object is made and `t` is its awaiter.
 fn blocked_awaits(made: u16, objects: &[u64], t: u16, s: TaskState) -> bool
-    requires { ObjectsLengthAnd objects (made ≤ object_limit) }
+    requires { ObjectsLengthAnd objects.now (made ≤ object_limit) }
     ensures { result ≡ blocked_awaits made (object_in objects) t (blocked_on s) }
 {
     match s {
@@ -49,7 +49,7 @@ fn blocked_awaits(made: u16, objects: &[u64], t: u16, s: TaskState) -> bool
 
 // Of every task.
 fn tasks_await(header: Header, tasks: &[u64], objects: &[u64]) -> bool
-    requires { Lengths₂And tasks objects ((header.made ≤ object_limit) × (header.next ≤ task_limit)) }
+    requires { Lengths₂And tasks.now objects.now ((header.made ≤ object_limit) × (header.next ≤ task_limit)) }
     ensures { result ≡ all_below header.next (λ t. blocked_awaits header.made (object_in objects) t (blocked_on (task_in tasks t).state)) }
 {
     let next = header.next;
@@ -80,7 +80,7 @@ fn waits_for(s: TaskState, o: u16) -> bool
 
 // The awaiter of object `o`, if it is a live task, is blocked on `o`.
 fn awaiter_blocked(tasks: &[u64], o: u16, w: Awaiter) -> bool
-    requires { TasksLengthAnd tasks (AwaiterFits w) }
+    requires { TasksLengthAnd tasks.now (AwaiterFits w) }
     ensures { result ≡ awaiter_blocked (task_in tasks) o w }
 {
     match w {
@@ -95,7 +95,7 @@ fn awaiter_blocked(tasks: &[u64], o: u16, w: Awaiter) -> bool
 
 // Of every object.
 fn awaiters_blocked(made: u16, tasks: &[u64], objects: &[u64]) -> bool
-    requires { Lengths₂And tasks objects (made ≤ object_limit) }
+    requires { Lengths₂And tasks.now objects.now (made ≤ object_limit) }
     ensures { result ≡ all_below made (λ o. awaiter_blocked (task_in tasks) o (awaiter_of (object_in objects o))) }
 {
     let mut o: u16 = 0;
@@ -111,7 +111,7 @@ fn awaiters_blocked(made: u16, tasks: &[u64], objects: &[u64]) -> bool
 
 // Both ways.
 pub fn blocked_match(header: Header, tasks: &[u64], objects: &[u64]) -> bool
-    requires { Lengths₂And tasks objects ((header.made ≤ object_limit) × (header.next ≤ task_limit)) }
+    requires { Lengths₂And tasks.now objects.now ((header.made ≤ object_limit) × (header.next ≤ task_limit)) }
     ensures { result ≡ blocked_match header (object_in objects) (task_in tasks) }
 {
     if tasks_await(header, tasks, objects) {

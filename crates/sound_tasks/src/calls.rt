@@ -25,7 +25,7 @@ fn call_number(objects: &[u64], o: HeapId) -> u64
 
 // No object below `n` has the number `c`.
 fn others_differ(objects: &[u64], c: u64, n: u16) -> bool
-    requires { ObjectsLengthAnd objects (n ≤ object_limit) }
+    requires { ObjectsLengthAnd objects.now (n ≤ object_limit) }
     ensures { result ≡ all_below n (other_call objects.now c) }
 {
     let mut p: u16 = 0;
@@ -41,7 +41,7 @@ fn others_differ(objects: &[u64], c: u64, n: u16) -> bool
 
 // `top` is the highest so far: a call above it is new, and only one that is not is looked for among those before it.
 fn calls_new(objects: &[u64], made: u16) -> bool
-    requires { ObjectsLengthAnd objects (made ≤ object_limit) }
+    requires { ObjectsLengthAnd objects.now (made ≤ object_limit) }
     ensures { result ≡ all_below made (call_new (object_in objects)) }
 {
     let mut top: u64 = 0;
@@ -63,7 +63,7 @@ fn calls_new(objects: &[u64], made: u16) -> bool
 }
 
 pub fn calls_distinct(header: Header, objects: &[u64]) -> bool
-    requires { ObjectsLengthAnd objects (header.made ≤ object_limit) }
+    requires { ObjectsLengthAnd objects.now (header.made ≤ object_limit) }
     ensures { result ≡ calls_distinct header (object_in objects) }
 {
     let moment = header.moment;

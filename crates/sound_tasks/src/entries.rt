@@ -10,7 +10,7 @@ use rows::parts::state_at;
 
 // Of the first `n` places: each entry is a task below the next number, ready, and not seen before.
 pub fn queue_ready(ids: [u16; TASKS], n: usize, next: u16, tasks: &[u64]) -> bool
-    requires { TasksLengthAnd tasks ((n ≤ task_limit) × (next ≤ task_limit)) }
+    requires { TasksLengthAnd tasks.now ((n ≤ task_limit) × (next ≤ task_limit)) }
     ensures { result ≡ queue_ready next (task_in tasks) (take n ids) }
 {
     let mut seen = [0u8; TASKS];

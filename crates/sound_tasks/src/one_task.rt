@@ -10,7 +10,7 @@ use rows::parts::{coroutine_at, state_at};
 
 // The coroutine of each live spawned task is not seen before.
 pub fn one_task(next: u16, tasks: &[u64]) -> bool
-    requires { TasksLengthAnd tasks (next ≤ task_limit) }
+    requires { TasksLengthAnd tasks.now (next ≤ task_limit) }
     ensures { result ≡ one_task next (task_in tasks) }
 {
     let mut seen = [0u8; OBJECTS];

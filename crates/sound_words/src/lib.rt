@@ -28,7 +28,7 @@ fn same8(a: [u64; 8], b: [u64; 8]) -> bool
 }
 
 pub fn header_same(objects: &[u64]) -> bool
-    requires { ObjectsLength objects }
+    requires { ObjectsLength objects.now }
     ensures { result ≡ header_canonical objects.now }
 {
     let row = header_row(objects);
@@ -60,7 +60,7 @@ fn place_same(places: &[u64], p: usize) -> bool
 }
 
 pub fn tasks_same(tasks: &[u64], n: usize) -> bool
-    requires { TasksLengthAnd tasks (n ≤ task_limit) }
+    requires { TasksLengthAnd tasks.now (n ≤ task_limit) }
     ensures { result ≡ all_below n (λ t. task_canonical tasks.now t) }
 {
     let mut i: usize = 0;
@@ -75,7 +75,7 @@ pub fn tasks_same(tasks: &[u64], n: usize) -> bool
 }
 
 pub fn objects_same(objects: &[u64], n: usize) -> bool
-    requires { ObjectsLengthAnd objects (n ≤ object_limit) }
+    requires { ObjectsLengthAnd objects.now (n ≤ object_limit) }
     ensures { result ≡ all_below n (λ o. object_canonical objects.now o) }
 {
     let mut i: usize = 0;
@@ -90,7 +90,7 @@ pub fn objects_same(objects: &[u64], n: usize) -> bool
 }
 
 pub fn places_same(places: &[u64], n: usize) -> bool
-    requires { PlacesLengthAnd places (n ≤ place_limit) }
+    requires { PlacesLengthAnd places.now (n ≤ place_limit) }
     ensures { result ≡ all_below n (λ p. place_canonical places.now p) }
 {
     let mut i: usize = 0;

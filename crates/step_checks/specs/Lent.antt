@@ -5,7 +5,7 @@ use Rattle.machine.specs.Store.{Store}
 use Rattle.machine.specs.Machine as machine
 use Rattle.machine.specs.Answers.{answer_numbers}
 use Rattle.machine.specs.Lent.{Lent, answer_calls, written}
-use Rattle.contract.specs.Contract.{Slice}
+use Rattle.contract.specs.Contract.{Words, Slice}
 use Rattle.exec_switch.specs.Answer.{answer_of}
 use Rattle.exec_switch.specs.declared.control.Control.{Control}
 use Rattle.exec_switch.specs.declared.answer.Answer.{Answer}
@@ -15,8 +15,8 @@ abbrev pub are_slices : ℕ → ℕ → ℕ → Bool
 are_slices ts os ps = eqb ts tasks_length && eqb os objects_length && eqb ps places_length
 
 -- of lent ones
-abbrev pub slices_fit : Slice → Slice → Slice → Bool
-slices_fit tasks objects places = are_slices (length tasks.entry.now) (length objects.entry.now) (length places.entry.now)
+abbrev pub slices_fit : Words → Words → Words → Bool
+slices_fit tasks objects places = are_slices (length tasks) (length objects) (length places)
 
 -- the host has control
 abbrev pub host_waits : Control → Bool
@@ -44,7 +44,7 @@ lent_of s cs a n =
     record { store = s; list = cs; answer = x; numbers = answer_numbers x; count = n }
 
 -- The call writes the calls of a wait at the list's front, as document 01 has it, and returns how many there are.
-abbrev pub WritesWait : Slice → Slice → Answer → ℕ → Type 0
+abbrev pub WritesWait : Words → Slice → Answer → ℕ → Type 0
 WritesWait objects calls answer r =
-    let x : machine.Answer = answer_of objects.entry.now answer in
+    let x : machine.Answer = answer_of objects answer in
     (calls.exit.now ≡ written x calls.entry.now) × (r ≡ length (answer_calls x))

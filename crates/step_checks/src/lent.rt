@@ -19,7 +19,7 @@ const PLACES_LENGTH: usize = asyncio::PLACES as usize * 4;
 
 // Have the slices of the store their lengths?
 pub fn slices_right(tasks: &[u64], objects: &[u64], places: &[u64]) -> bool
-    ensures { result ≡ slices_fit tasks objects places }
+    ensures { result ≡ slices_fit tasks.now objects.now places.now }
 {
     if tasks.len() == TASKS_LENGTH {
         if objects.len() == OBJECTS_LENGTH {
@@ -32,7 +32,7 @@ pub fn slices_right(tasks: &[u64], objects: &[u64], places: &[u64]) -> bool
 
 // Has the list of calls room for every wait, too?
 pub fn lengths_right(tasks: &[u64], objects: &[u64], places: &[u64], calls: &[u64]) -> bool
-    ensures { result ≡ (slices_fit tasks objects places && leb object_limit (length calls.now)) }
+    ensures { result ≡ (slices_fit tasks.now objects.now places.now && leb object_limit (length calls.now)) }
 {
     if slices_right(tasks, objects, places) {
         return OBJECTS <= calls.len();
@@ -68,8 +68,8 @@ fn is_wait(answer: Answer) -> bool
 // A wait writes the pending calls at the list's front, and it is told how many there are. After any other answer the list keeps its contents, and
 // there are 0.
 pub fn write_calls(objects: &[u64], calls: &mut [u64], answer: Answer) -> usize
-    requires { ObjectsLength objects × (object_limit ≤ length calls.old) }
-    ensures { WritesWait objects calls answer result }
+    requires { ObjectsLength objects.now × (object_limit ≤ length calls.old) }
+    ensures { WritesWait objects.now calls answer result }
 {
     if is_wait(answer) {
         return pending_call_ids(objects, calls);

@@ -23,7 +23,7 @@ pub enum Turn {
 
 // An event of running: 3 after the session's end, 4 while the host has control.
 pub fn running(objects: &[u64]) -> Turn
-    requires { ObjectsLength objects }
+    requires { ObjectsLength objects.now }
     ensures { result ≡ turn_of (header_at objects.now).moment }
 {
     let header = rows::tables::load_header(objects);
@@ -37,7 +37,7 @@ pub fn running(objects: &[u64]) -> Turn
 
 // 7: are all objects made that there are numbers for?
 pub fn is_full(objects: &[u64]) -> bool
-    requires { ObjectsLength objects }
+    requires { ObjectsLength objects.now }
     ensures { result ≡ leb object_limit (header_at objects.now).made }
 {
     let header = rows::tables::load_header(objects);
@@ -46,7 +46,7 @@ pub fn is_full(objects: &[u64]) -> bool
 
 // 8: are all call numbers handed out?
 pub fn no_number(objects: &[u64]) -> bool
-    requires { ObjectsLength objects }
+    requires { ObjectsLength objects.now }
     ensures { result ≡ leb call_limit (header_at objects.now).calls }
 {
     let header = rows::tables::load_header(objects);
@@ -70,9 +70,9 @@ pub fn any_unmade(made: u16, items: &[u16]) -> bool
 
 // Is task `t` not live? A number that no task has is not, however large it is.
 pub fn not_live(tasks: &[u64], objects: &[u64], t: u16) -> bool
-    requires { Lengths₂ tasks objects }
+    requires { Lengths₂ tasks.now objects.now }
     ensures { (ps : List ℕ) (q : ReadyQueue) (l : List LogEntry)
-        → result ≡ not (live (before tasks objects (kept ps) q l) t) }
+        → result ≡ not (live (before (kept tasks.now) (kept objects.now) (kept ps) q l) t) }
 {
     let header = rows::tables::load_header(objects);
     if header.next <= t {
@@ -84,9 +84,9 @@ pub fn not_live(tasks: &[u64], objects: &[u64], t: u16) -> bool
 
 // Is the result at byte `at` a returned list of a gather that is not completed?
 fn result_unknown(objects: &[u64], made: u16, results: &[u8], at: usize) -> bool
-    requires { ObjectsLength objects × (made ≤ object_limit)
+    requires { ObjectsLength objects.now × (made ≤ object_limit)
         × (at + 14 ≤ length results.now) × ((header_at objects.now).made ≡ made) }
-    ensures { ReadsObjects objects
+    ensures { ReadsObjects objects.now
         (λ s. result_unknown s (result_at results.now at)) result }
 {
     if endian::u8_at(results, at + 4) == 0 {
@@ -105,8 +105,8 @@ fn result_unknown(objects: &[u64], made: u16, results: &[u8], at: usize) -> bool
 
 // Is one of the results such a list?
 pub fn any_unknown(objects: &[u64], results: &[u8]) -> bool
-    requires { ObjectsLength objects }
-    ensures { ReadsObjects objects
+    requires { ObjectsLength objects.now }
+    ensures { ReadsObjects objects.now
         (λ s. any_of (result_unknown s) (results_in results.now)) result }
 {
     let header = rows::tables::load_header(objects);

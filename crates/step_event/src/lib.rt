@@ -46,7 +46,7 @@ fn checked(
     items: &[u16],
     results: &[u8],
 ) -> Stepped
-    requires { Lengths tasks objects places }
+    requires { Lengths tasks.old objects.old places.old }
     ensures { Answers tasks objects places queue (λ s. checked s (event_of items.now results.now event)) result }
 {
     match event {
@@ -91,7 +91,7 @@ pub fn step(
     items: &[u16],
     results: &[u8],
 ) -> Answered
-    requires { SoundMemory tasks objects places calls queue }
+    requires { SoundMemory tasks.old objects.old places.old calls.old queue }
     ensures { LentStep tasks objects places calls queue (event_of items.now results.now event) result }
 {
     let stepped = checked(tasks, objects, places, queue, event, items, results);

@@ -3,7 +3,7 @@ ghost use Rattle.std.specs.Prelude.{◌≡◌};
 ghost use Rattle.rows.specs.Tables.{header_at};
 ghost use Rattle.machine.specs.Sound.{is_ended};
 ghost use Rattle.machine.specs.Machine.{Event};
-ghost use Rattle.contract.specs.Contract.{ObjectsLength, Lengths, Lengths₂};
+ghost use Rattle.contract.specs.Contract.{kept, ObjectsLength, Lengths, Lengths₂};
 ghost use Rattle.exec_switch.specs.Answer.{Answers, AnswersKeepingPlaces};
 ghost use Rattle.exec_futures.specs.Results.{results_in};
 ghost use Rattle.step_checks.specs.Checked.{checked};
@@ -18,7 +18,7 @@ use step_checks::refusals::{any_bad, any_unknown, not_live};
 
 // Has the session ended?
 fn is_ended(objects: &[u64]) -> bool
-    requires { ObjectsLength objects }
+    requires { ObjectsLength objects.now }
     ensures { result ≡ is_ended (header_at objects.now).moment }
 {
     let header = rows::tables::load_header(objects);
@@ -38,7 +38,7 @@ pub fn results(
     queue: ReadyQueue,
     results: &[u8],
 ) -> Stepped
-    requires { Lengths tasks objects places }
+    requires { Lengths tasks.old objects.old places.old }
     ensures { Answers tasks objects places queue (λ s. checked s (Event.results (results_in results.now))) result }
 {
     if is_ended(objects) {
@@ -74,7 +74,7 @@ pub fn results(
 
 // The host hands control back.
 pub fn resume(tasks: &mut [u64], objects: &mut [u64], queue: ReadyQueue) -> Stepped
-    requires { Lengths₂ tasks objects }
+    requires { Lengths₂ tasks.old objects.old }
     ensures { AnswersKeepingPlaces tasks objects queue (λ s. checked s Event.resume) result }
 {
     let header = rows::tables::load_header(objects);
@@ -102,8 +102,8 @@ pub fn cancel(
     queue: ReadyQueue,
     t: u16,
 ) -> Stepped
-    requires { Lengths tasks objects places }
-    ensures { Answers tasks objects places queue (λ s. checked s (Event.cancel t)) result }
+    requires { Lengths tasks.old objects.now places.now }
+    ensures { Answers tasks (kept objects.now) (kept places.now) queue (λ s. checked s (Event.cancel t)) result }
 {
     let header = rows::tables::load_header(objects);
     let moment = header.moment;

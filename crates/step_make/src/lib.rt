@@ -23,7 +23,7 @@ const PLACES: usize = asyncio::PLACES as usize;
 
 // A coroutine of a function is made.
 pub fn coroutine(objects: &mut [u64], function: u32) -> Answer
-    requires { ObjectsLength objects }
+    requires { ObjectsLength objects.old }
     ensures { AnswersOfObjects objects
         (λ s. checked s (Event.coroutine function)) result }
 {
@@ -42,7 +42,7 @@ pub fn coroutine(objects: &mut [u64], function: u32) -> Answer
 
 // A call number is handed out.
 pub fn call(objects: &mut [u64]) -> Answer
-    requires { ObjectsLength objects }
+    requires { ObjectsLength objects.old }
     ensures { AnswersOfObjects objects (λ s. checked s Event.call) result }
 {
     let turn = running(objects);
@@ -60,7 +60,7 @@ pub fn call(objects: &mut [u64]) -> Answer
 
 // An external of a call is made pending, with a stored result or none.
 pub fn pending(objects: &mut [u64], call: u32, stored: OptionValue) -> Answer
-    requires { ObjectsLength objects }
+    requires { ObjectsLength objects.old }
     ensures { AnswersOfObjects objects
         (λ s. checked s (Event.pending call stored)) result }
 {
@@ -93,7 +93,7 @@ pub fn pending(objects: &mut [u64], call: u32, stored: OptionValue) -> Answer
 
 // An external that has its value already.
 pub fn settled(objects: &mut [u64], value: Value) -> Answer
-    requires { ObjectsLength objects }
+    requires { ObjectsLength objects.old }
     ensures { AnswersOfObjects objects
         (λ s. checked s (Event.settled value)) result }
 {
@@ -119,7 +119,7 @@ pub fn settled(objects: &mut [u64], value: Value) -> Answer
 
 // A gather of objects.
 pub fn gather(objects: &mut [u64], places: &mut [u64], items: &[u16]) -> Answer
-    requires { ObjectsLength objects × PlacesLength places }
+    requires { ObjectsLength objects.old × PlacesLength places.old }
     ensures { AnswersOfObjectsAndPlaces objects places
         (λ s. checked s (Event.gather items.now)) result }
 {

@@ -8,7 +8,7 @@ use Rattle.machine.specs.Store.{LogEntry, store_of}
 use Rattle.machine.specs.Scheduler.{bit}
 use Rattle.machine.specs.Machine as machine
 use Rattle.machine.specs.Machine.{slot_value}
-use Rattle.contract.specs.Contract.{Slice}
+use Rattle.contract.specs.Contract.{Words, Slice}
 use Rattle.exec_switch.specs.Answer.{answer_of}
 use Rattle.exec_switch.specs.declared.answer.Answer.{Answer}
 use Rattle.step_checks.specs.Checked.{checked}
@@ -38,12 +38,12 @@ show_answer ps (Reading.Shows x) = machine.Answer.shows (shown_of ps x)
 show_answer ps (Reading.Refused n) = machine.Answer.refused n
 
 -- The call reads object o of a store that has these objects, whatever the rest of it is: its answer is what the checks from 3 on leave.
-abbrev pub ShowsChecked : Slice → ℕ → Reading → Type 0
+abbrev pub ShowsChecked : Words → ℕ → Reading → Type 0
 ShowsChecked objects o r =
-    (ts ps : List ℕ) (q : ReadyQueue) (l : List LogEntry) → show_answer ps r ≡ (checked (store_of ts objects.entry.now ps q l) (machine.Event.show o)).answer
+    (ts ps : List ℕ) (q : ReadyQueue) (l : List LogEntry) → show_answer ps r ≡ (checked (store_of ts objects ps q l) (machine.Event.show o)).answer
 
 -- The same of eager, which looks at the queue too.
-abbrev pub EagerChecked : Slice → ReadyQueue → Answer → Type 0
+abbrev pub EagerChecked : Words → ReadyQueue → Answer → Type 0
 EagerChecked objects queue r =
     (ts ps : List ℕ) (l : List LogEntry)
-    → answer_of objects.entry.now r ≡ (checked (store_of ts objects.entry.now ps queue l) machine.Event.eager).answer
+    → answer_of objects r ≡ (checked (store_of ts objects ps queue l) machine.Event.eager).answer

@@ -90,8 +90,8 @@ fn show_object(x: Object) -> Shown
 
 // What object `o` shows, or 5.
 pub fn show(objects: &[u64], o: u16) -> Reading
-    requires { ObjectsLength objects }
-    ensures { ShowsChecked objects o result }
+    requires { ObjectsLength objects.now }
+    ensures { ShowsChecked objects.now o result }
 {
     let header = rows::tables::load_header(objects);
     if header.made <= o {
@@ -103,8 +103,8 @@ pub fn show(objects: &[u64], o: u16) -> Reading
 
 // May the host answer a call at once?
 pub fn eager(objects: &[u64], queue: ReadyQueue) -> Answer
-    requires { ObjectsLength objects }
-    ensures { EagerChecked objects queue result }
+    requires { ObjectsLength objects.now }
+    ensures { EagerChecked objects.now queue result }
 {
     Answer::Eager(can_await_eagerly(objects, queue))
 }

@@ -19,7 +19,7 @@ pub fn await_object(
     queue: ReadyQueue,
     o: u16,
 ) -> Stepped
-    requires { Lengths tasks objects places }
+    requires { Lengths tasks.old objects.old places.old }
     ensures { Answers tasks objects places queue (λ s. checked s (Event.await o)) result }
 {
     let turn = running(objects);
@@ -66,7 +66,7 @@ pub fn complete(
     queue: ReadyQueue,
     value: Value,
 ) -> Stepped
-    requires { Lengths tasks objects places }
+    requires { Lengths tasks.old objects.old places.old }
     ensures { Answers tasks objects places queue (λ s. checked s (Event.complete value)) result }
 {
     let turn = running(objects);
@@ -90,7 +90,7 @@ pub fn complete(
 
 // The running task fails with the error script n.
 pub fn fail(tasks: &mut [u64], objects: &mut [u64], queue: ReadyQueue, n: u32) -> Stepped
-    requires { Lengths₂ tasks objects }
+    requires { Lengths₂ tasks.old objects.old }
     ensures { AnswersKeepingPlaces tasks objects queue (λ s. checked s (Event.fail n)) result }
 {
     let turn = running(objects);

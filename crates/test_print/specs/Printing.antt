@@ -2,7 +2,7 @@
 use Rattle.std.specs.Prelude.{List, [], ◌++◌, ℕ, zero, suc, ◌+◌, ◌*◌, ltb, get_or, length}
 use Prim.Native.String.{String}
 use denote.Triple.Both.{Both}
-use Rattle.std.specs.Borrow.{Bor}
+use denote.MutBor.{MutBor}
 use Rattle.asyncio.specs.Layout.{object_words, task_words}
 use Rattle.asyncio.specs.Limits.{task_limit, object_limit}
 use Rattle.asyncio.specs.States.{pick}
@@ -45,9 +45,9 @@ store_limit = 173 * task_limit + (175 * object_limit + 10779)
 
 -- lent words or bytes
 abbrev Slice : Type 0
-Slice = Both (Bor (List ℕ)) (Bor (List ℕ))
+Slice = Both (MutBor (List ℕ)) (MutBor (List ℕ))
 
 -- The call writes a line: a name, and numbers each after a space.
-abbrev pub PutsRow : Slice → ℕ → ℕ → Slice → Slice → Type 0
+abbrev pub PutsRow : Slice → ℕ → ℕ → List ℕ → List ℕ → Type 0
 PutsRow out at r name words =
-    Puts (length name.entry.now + (21 * length words.entry.now + 1)) out at r (name.entry.now ++ (fields words.entry.now ++ newline))
+    Puts (length name + (21 * length words + 1)) out at r (name ++ (fields words ++ newline))

@@ -14,7 +14,7 @@ use rows::tables::{load_header, load_object, load_task};
 
 // A line: a name and numbers.
 pub fn write_row(out: &mut [u8], at: usize, name: &[u8], words: &[u64]) -> usize
-    ensures { PutsRow out at result name words }
+    ensures { PutsRow out at result name.now words.now }
 {
     let p = put_text(out, at, name);
     let q = put_numbers(out, p, words);
