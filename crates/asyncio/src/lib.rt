@@ -35,7 +35,7 @@ pub const OBJECTS_LEN: usize = 2056;
 pub const PLACES_LEN: usize = 2048;
 
 // The number of an external call.
-#[derive(Drop)]
+#[derive(Clone, Copy)]
 pub struct CallId(pub u32);
 
 impl CallId {
@@ -59,7 +59,7 @@ impl CallId {
 }
 
 // The number of a task. Task 0 is main; spawned tasks are numbered from 1.
-#[derive(Drop)]
+#[derive(Clone, Copy)]
 pub struct TaskId(pub u16);
 
 impl TaskId {
@@ -91,7 +91,7 @@ impl TaskId {
 }
 
 // The number of an object (coroutine, external future or gather), in order of making from 0.
-#[derive(Drop)]
+#[derive(Clone, Copy)]
 pub struct HeapId(pub u16);
 
 impl HeapId {
@@ -115,21 +115,21 @@ impl HeapId {
 }
 
 // A value is plain, or the list of the results of a completed gather.
-#[derive(Drop)]
+#[derive(Clone, Copy)]
 pub enum Value {
     Plain(u64),
     List(HeapId),
 }
 
 // A value or none: an external's stored result, a place's result (Option<Value>).
-#[derive(Drop)]
+#[derive(Clone, Copy)]
 pub enum OptionValue {
     None,
     Some(Value),
 }
 
 // An error, in the order of document 01's list.
-#[derive(Drop)]
+#[derive(Clone, Copy)]
 pub enum Error {
     Host(u32),
     Script(u32),
@@ -141,7 +141,7 @@ pub enum Error {
 }
 
 // Where the result or error of an awaitable goes: to nobody, to a task, or to the open places of a gather that name the source.
-#[derive(Drop)]
+#[derive(Clone, Copy)]
 pub enum Awaiter {
     Nobody,
     Task(TaskId),
@@ -164,7 +164,7 @@ impl Awaiter {
 }
 
 // New: not run yet, though a task may be spawned for it. Running: for ever, where it was run inline. Completed: by the end of its task.
-#[derive(Drop)]
+#[derive(Clone, Copy)]
 pub enum CoroutineState {
     New,
     Running,
@@ -172,7 +172,7 @@ pub enum CoroutineState {
 }
 
 // Pending: not answered yet; a stored result will replace the host's value (sleep_result).
-#[derive(Drop)]
+#[derive(Clone, Copy)]
 pub enum ExternalFutureState {
     Pending {
         awaiter: Awaiter,
@@ -183,7 +183,7 @@ pub enum ExternalFutureState {
 }
 
 // Pending: never awaited. Awaited: bit i of the open places is set while place i waits for its item (PendingChildren).
-#[derive(Drop)]
+#[derive(Clone, Copy)]
 pub enum GatherState {
     Pending,
     Awaited { awaiter: Awaiter, open_places: u32 },
@@ -192,7 +192,7 @@ pub enum GatherState {
 }
 
 // An object. A gather has the places first, first + 1, .. first + count - 1.
-#[derive(Drop)]
+#[derive(Clone, Copy)]
 pub enum Object {
     Unmade,
     Coroutine {
@@ -211,7 +211,7 @@ pub enum Object {
 }
 
 // The sort and the state of an object, without what they hold.
-#[derive(Drop)]
+#[derive(Clone, Copy)]
 pub enum Kind {
     Unmade,
     NewCoroutine,
@@ -227,7 +227,7 @@ pub enum Kind {
 }
 
 // A place of a gather: the object that it names, and the result delivered for it.
-#[derive(Drop)]
+#[derive(Clone, Copy)]
 pub struct Place {
     pub item: HeapId,
     pub result: OptionValue,
@@ -235,7 +235,7 @@ pub struct Place {
 
 // Absent: not live (never spawned, ended or removed). Unstarted: spawned, not yet run. Running: the current task.
 // Woken and Raised: ready with a delivered value, or with an error to raise. Blocked: waits for an object.
-#[derive(Drop)]
+#[derive(Clone, Copy)]
 pub enum TaskState {
     Absent,
     Unstarted,
@@ -246,7 +246,7 @@ pub enum TaskState {
 }
 
 // A task: its state with the value delivered to it, where its result goes, and its coroutine (0 for main, which has none).
-#[derive(Drop)]
+#[derive(Clone, Copy)]
 pub struct Task {
     pub state: TaskState,
     pub awaiter: Awaiter,
@@ -254,7 +254,7 @@ pub struct Task {
 }
 
 // The moment of a session: a task runs, all wait for the host, or main has ended.
-#[derive(Drop)]
+#[derive(Clone, Copy)]
 pub enum Moment {
     Running(TaskId),
     Waiting,
@@ -262,7 +262,7 @@ pub enum Moment {
 }
 
 // The counts of a session (objects made, places used by gathers, calls handed out, the number of the next task) and its moment.
-#[derive(Drop)]
+#[derive(Clone, Copy)]
 pub struct Header {
     pub made: u16,
     pub used: u16,

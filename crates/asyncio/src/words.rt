@@ -14,10 +14,10 @@ use crate::{
 };
 
 // A tag and its number; a tag and its two numbers.
-#[derive(Drop)]
+#[derive(Clone, Copy)]
 pub struct Words2(pub u64, pub u64);
 
-#[derive(Drop)]
+#[derive(Clone, Copy)]
 pub struct Words3(pub u64, pub u64, pub u64);
 
 // ---- numbers

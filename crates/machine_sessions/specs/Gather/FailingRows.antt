@@ -313,11 +313,15 @@ module _ (s m : Store) (Young : ℕ → Type 0) (B : Error → Type 0) (X : ℕ 
       tasks i b e (yes d) = absurd (true≢false (sym (subst (λ (j : ℕ). is_live (task v j).state ≡ true) d e) ∙ dead (subst (λ (j : ℕ). j < task_limit) d b)))
       tasks i b e (no ne) = task-same u v i (ts i ∙ task_put-other u t i absent ne) e
 
+  spawns-left : (u : Store) (t i : ℕ) (b : Option ℕ) → spawned_by b (add_log (put_queue (put_task u t absent) (remove u.queue t)) (exited t)).log i ≡ spawned_by b u.log i
+  unfolding spawned_by add_log put_queue put_task
+  spawns-left u t i b = refl
+
   pub exit_failing : (R : ℕ → Error → Type 0) (Fr : Type 0) (u : Store) (t : ℕ) → ExitAs s X (add_log (remove_task u t) (exited t)) t → Failing R Fr u → Failing R Fr (add_log (remove_task u t) (exited t))
   unfolding remove_task remove_from_ready_queue put_task
   exit_failing R Fr u t why k =
       removed-failing R Fr u v t (sized-add_log _ (exited t) (sized-put_queue _ _ (sized-put_task u t absent k.sized))) (unfold header add_log put_queue put_task in refl) (λ o. unfold object add_log put_queue put_task in refl)
-      (λ i. unfold task add_log put_queue in refl) (λ i e. logs i ∙ more (eqb t i) (exits_in u.log i) e) (λ i e. fewer i (eqb t i) refl (sym (logs i) ∙ e)) (λ i b. spawns i b) k
+      (λ i. unfold task add_log put_queue in refl) (λ i e. logs i ∙ more (eqb t i) (exits_in u.log i) e) (λ i e. fewer i (eqb t i) refl (sym (logs i) ∙ e)) (λ i b. spawns-left u t i b) k
     where
       v : Store
       v = add_log (put_queue (put_task u t absent) (remove u.queue t)) (exited t)
@@ -332,9 +336,6 @@ module _ (s m : Store) (Young : ℕ → Type 0) (B : Error → Type 0) (X : ℕ 
       fewer : (i : ℕ) (a : Bool) → eqb t i ≡ a → (a || exits_in u.log i) ≡ true → (exits_in u.log i ≡ true) ⊎ ExitAs s X v i
       fewer i true d e = inr (subst (ExitAs s X v) (eqb-true t i d) (unfold remove_task remove_from_ready_queue in why))
       fewer i false d e = inl e
-
-      spawns : (i : ℕ) (b : Option ℕ) → spawned_by b v.log i ≡ spawned_by b u.log i
-      spawns i b = unfold spawned_by add_log put_queue put_task in refl
 
   pub goes_failing : (R : ℕ → Error → Type 0) (Fr : Type 0) (u : Store) (t : ℕ) → Failing R Fr u → Failing R Fr (add_log (remove_task u t) (removed t))
   unfolding remove_task remove_from_ready_queue put_task

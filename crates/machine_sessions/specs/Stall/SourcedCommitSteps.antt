@@ -193,10 +193,10 @@ unfolding fill_place
 fill_sourced {G} Q s w i v z low fits k =
     record {
       sourced = record {
-        sources = λ g o x l e op. still g o (k.sourced.sources g o x (unfold header put_place in l) (unfold object put_place in e) (was x o op));
-        rising = λ t g x r l lv a q. k.sourced.rising t g x r (unfold header put_place in l) (unfold task put_place in lv) (unfold task put_place in a) (roots-was q);
+        sources = λ g o x l e op. still g o (k.sourced.sources g o x (made_as g l) (object_as g x e) (was x o op));
+        rising = λ t g x r l lv a q. k.sourced.rising t g x r (next_as t l) (live_as t lv) (awaits_as t g x a) (roots-was q);
       };
-      unnamed = λ q p x r l e op. k.unnamed q p x r (unfold header put_place in l) (unfold object put_place in e) (was x q op);
+      unnamed = λ q p x r l e op. k.unnamed q p x r (made_as p l) (object_as p x e) (was x q op);
     }
   where
     row : Place
@@ -204,6 +204,21 @@ fill_sourced {G} Q s w i v z low fits k =
 
     u : Store
     u = put_place s (w.first + i) row
+
+    made_as : (g : ℕ) → g < (header u).made → g < (header s).made
+    made_as g l = unfold header put_place in l
+
+    object_as : (g : ℕ) (x : AwaitedGather) → as_awaited (object u g) ≡ some x → as_awaited (object s g) ≡ some x
+    object_as g x e = unfold object put_place in e
+
+    next_as : (t : ℕ) → t < (header u).next → t < (header s).next
+    next_as t l = unfold header put_place in l
+
+    live_as : (t : ℕ) → is_live (task u t).state ≡ true → is_live (task s t).state ≡ true
+    live_as t lv = unfold task put_place in lv
+
+    awaits_as : (t g x : ℕ) → (task u t).awaiter ≡ Awaiter.GatherSlot (heap_id g) (heap_id x) → (task s t).awaiter ≡ Awaiter.GatherSlot (heap_id g) (heap_id x)
+    awaits_as t g x a = unfold task put_place in a
 
     item : (p : ℕ) → (place u p).item.0 ≡ (place s p).item.0
     item p = by (ℕ_discrete p (w.first + i))

@@ -362,6 +362,10 @@ module _ (h : List Entry) (s : Store) (w : SoundStore s) (ag : Agrees h s) (clea
           came = later-came (Gone h s) (Exits s e) j (λ t q. q);
         }
 
+    exits-logged : (v : ℕ) → exits_by false x.happened v ≡ exits_by false u.log v
+    unfolding entry_of happened_by
+    exits-logged v = ap (λ (b : Bool). exits_by false (happened_by b u.log) v) (accept_accepts s e)
+
     -- Main ends the session: no coroutine of a task is at its end there.
     pub end-items : MainEnds s e → (accept s e).store ≡ cleanup s → ItemsWait h s → ItemsWait (x ∷ h) u
     end-items m same j =
@@ -393,10 +397,7 @@ module _ (h : List Entry) (s : Store) (w : SoundStore s) (ag : Agrees h s) (clea
             no_main c m a = not-suc-le-zero {n = 0} (k.tasks.born 0 c (ran 0 c m a)).0
 
         none-exits : (v : ℕ) → exits_by false x.happened v ≡ true → Cleaned s u → ⊥
-        none-exits v q y = true≢false (sym q ∙ (same_log v ∙ (y.exited_none false v ∙ (ap (λ (l : List LogEntry). exits_by false l v) clean ∙ (unfold exits_by in refl)))))
-          where
-            same_log : (v : ℕ) → exits_by false x.happened v ≡ exits_by false u.log v
-            same_log v = unfold entry_of happened_by in (ap (λ (b : Bool). exits_by false (happened_by b u.log) v) (accept_accepts s e))
+        none-exits v q y = true≢false (sym q ∙ (exits-logged v ∙ (y.exited_none false v ∙ (ap (λ (l : List LogEntry). exits_by false l v) clean ∙ (unfold exits_by in refl)))))
 
   -- A cancel.
   pub cancel-alive : (t : ℕ) (r : refusal s (Event.cancel t) ≡ 0) → Alive (x (Event.cancel t) r ∷ h) (u (Event.cancel t) r)

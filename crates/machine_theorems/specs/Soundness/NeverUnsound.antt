@@ -1,5 +1,5 @@
 -- From a fresh session refusal 2 is never given.
-use Rattle.std.specs.Prelude.{◌≡◌, refl, Bool, true, List, [], ◌∷◌, ℕ, T}
+use Rattle.std.specs.Prelude.{◌≡◌, refl, Bool, true, false, List, [], ◌∷◌, ℕ, T}
 use Rattle.std.proofs.Common.{arith}
 use Rattle.asyncio.specs.RangeLaws.{pick_has}
 use Rattle.machine.specs.Store.{Store, fresh}
@@ -42,6 +42,7 @@ others s Event.eager = tt
 pub not_two : (s : Store) (e : Event) → (b : Bool) → b ≡ sound s → T b → Other (refusal s e)
 unfolding refusal first_refusal
 not_two s e true h t = rw (← h) (first_other (refusals s e) (others s e))
+not_two s e false h t = elim t [ ]
 
 -- Corollary of `session-sound`: whatever came before, from a fresh session on, no event is refused because the store is not sound.
 pub never_unsound : (es : List Event) (e : Event) → AllInRange es → refusal (after fresh es) e ≡ 2 → ⊥
