@@ -1,3 +1,1 @@
 pub mod HostSessions
-pub mod SoundMemoryKept
-pub mod HostIsSession

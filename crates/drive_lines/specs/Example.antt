@@ -12,7 +12,7 @@ use Rattle.asyncio.specs.Numbers.{heap_id}
 use Rattle.machine.specs.Events.{start, value, raises, inline, runs, waits}
 use Rattle.machine.specs.Machine.{Answer, Shown}
 use Rattle.machine.specs.Cases.{Seen, seen, expected, turn_answer, cases}
-use Rattle.machine.specs.CasesHold.{no_row, cases_hold}
+use Rattle.machine.proofs.CasesHold.{no_row, cases_hold}
 use Rattle.drive_text.specs.Text.{bytes_of, digits, decimal, field, fields}
 use Rattle.drive_lines.specs.Lines.{value_text, error_text, how_text, control_text, state_text, place_text, places_text, shown_text, yes_no, answer_text, line, output}
 

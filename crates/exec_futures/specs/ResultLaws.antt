@@ -8,8 +8,8 @@ use Rattle.asyncio.specs.declared.Value.{Value}
 use Rattle.asyncio.specs.declared.Error.{Error}
 use Rattle.queue.specs.declared.ReadyQueue.{ReadyQueue}
 use Rattle.queue.specs.Queue.{push_back, order_from, push_in_order}
-use Rattle.queue.specs.QueueLaws.{push_back_either}
-use Rattle.queue.specs.OrderLaws.{order_none, push_ordered}
+use Rattle.queue.proofs.QueueLaws.{push_back_either}
+use Rattle.queue.proofs.OrderLaws.{order_none, push_ordered}
 use Rattle.scheduler.specs.declared.tasks.FoundTask.{FoundTask}
 use Rattle.exec_deliver.specs.Delivers.{queued}
 use Rattle.machine.specs.Store.{Store, LogEntry, store_of, put_queue}

@@ -2,8 +2,8 @@
 use Rattle.std.specs.Prelude.{◌≡◌, refl, ℕ, List, [], ◌∷◌, ◌++◌, map, get_or}
 use Rattle.std.proofs.Common.{sym, ap, ◌∙◌}
 use Rattle.machine.specs.Cases.{Case, Seen, turn_event, turn_answer, same_store, seen, expected, cases}
-use Rattle.machine.specs.CasesHold.{no_row, rows_hold}
-use Rattle.machine.specs.CasesHold as machine
+use Rattle.machine.proofs.CasesHold.{no_row, rows_hold}
+use Rattle.machine.proofs.CasesHold as machine
 use Rattle.machine.specs.Computes.{computes}
 use Rattle.machine_cases.specs.MoreCases.{more_cases}
 

@@ -5,8 +5,8 @@ use Rattle.machine.specs.Store.{Store, put_queue}
 use Rattle.machine.specs.Sound.{sound}
 use Rattle.machine.specs.Machine.{Event, step}
 use Rattle.machine.specs.Sessions.{session}
-use Rattle.machine.specs.DemandThreeCases.{e, res, computes3}
-use Rattle.machine.specs.CancelCountsTest.{is_count, branch, then}
+use Rattle.machine.proofs.DemandThreeCases.{e, res, computes3}
+use Rattle.machine.proofs.CancelCountsTest.{is_count, branch, then}
 
 -- task 2 is ready and stands nowhere: the store is sound, and its cancel counts nobody. (No session gets there.)
 abbrev unqueued : Store

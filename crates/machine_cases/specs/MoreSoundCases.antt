@@ -21,7 +21,7 @@ use Rattle.queue.specs.Queue.{push_back}
 use Rattle.machine.specs.Store.{Store, fresh, put_task, put_object, put_place, put_queue, set_state, set_next}
 use Rattle.machine.specs.Sound.{sound}
 use Rattle.machine.specs.Computes.{computes}
-use Rattle.machine.specs.SoundCases.{started, woken}
+use Rattle.machine.proofs.SoundCases.{started, woken}
 
 -- the same but for the queue's count
 unfoldable pub with_count : Store → ℕ → Store

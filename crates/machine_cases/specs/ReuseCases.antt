@@ -6,8 +6,8 @@ use Rattle.machine.specs.Machine.{Event}
 use Rattle.machine.specs.Tests.{is_in}
 use Rattle.machine.specs.Sessions.{Sent}
 use Rattle.machine.specs.DemandTwo.{has_task, is_pending, Reused}
-use Rattle.machine.specs.DemandThreeCases.{e, pend}
-use Rattle.machine.specs.DemandTwoCases.{computes2}
+use Rattle.machine.proofs.DemandThreeCases.{e, pend}
+use Rattle.machine.proofs.DemandTwoCases.{computes2}
 
 -- gather 3 of coroutines 0 and 1 and of call 0 (objects 0, 1, 2), awaited; the task of coroutine 0 makes another gather of one of them
 abbrev in_two_gathers : ℕ → List Sent

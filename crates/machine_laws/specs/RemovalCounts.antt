@@ -4,7 +4,7 @@ use Rattle.std.proofs.Common.{arith, lt-ltb, ltb-true, ltb-false}
 use Rattle.asyncio.specs.Limits.{task_limit}
 use Rattle.queue.specs.declared.ReadyQueue.{ReadyQueue}
 use Rattle.queue.specs.Queue.{remove, stood_at, position_from, removed_count}
-use Rattle.queue.specs.RemovalLaws.{removed-length}
+use Rattle.queue.proofs.RemovalLaws.{removed-length}
 use Rattle.machine.specs.Store.{Store, put_task, put_queue, add_log, removed}
 use Rattle.machine.specs.Scheduler.{remove_from_ready_queue, remove_task, cancel_task}
 use Rattle.machine_laws.specs.Walk.{walked-kept}

@@ -26,7 +26,7 @@ use Rattle.asyncio.specs.RangeLaws.{pick_has}
 use Rattle.asyncio.specs.States.{pick, is_live, is_ready, is_blocked, is_unstarted}
 use Rattle.queue.specs.declared.ReadyQueue.{ReadyQueue}
 use Rattle.queue.specs.Queue.{front_of, pop_front, empty_queue}
-use Rattle.queue.specs.QueueLaws.{front_of-fits}
+use Rattle.queue.proofs.QueueLaws.{front_of-fits}
 use Rattle.machine.specs.Store.{Store, task, object, place, header, put_task, put_object, put_place, put_places, put_queue, add_log, set_state, set_moment, set_next, absent, blocked, reached, exited, removed}
 use Rattle.machine.specs.Scheduler.{AwaitedGather, as_awaited, is_some, bit, first_from, task_of, task_of_in, still_live, live_count, make_ready, push_ready, remove_from_ready_queue, spawn_as, spawn, spawn_unless, remove_task, cancel_one}
 use Rattle.machine.specs.Scheduler.{Walk, reach_if, reach, remove_blocked, visit_by, visit, visit_place, visit_open, walk_gather, walk_next, walk, walk_from, cancel_task, remove_from, cleanup}

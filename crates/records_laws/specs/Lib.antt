@@ -1,4 +1,1 @@
 pub mod RecordsSessions
-pub mod UnusedRows
-pub mod LaidRows
-pub mod RecordsAreSession

@@ -1,1 +1,4 @@
 pub mod Made
+pub mod TaskRecordLaws
+pub mod TaskRowsLaws
+pub mod UnfitLaws

@@ -1,3 +1,2 @@
 pub mod RowsInUse
 pub mod OnWords
-pub mod OnWordsLaws

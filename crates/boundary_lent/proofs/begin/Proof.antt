@@ -1,5 +1,5 @@
 use mathlib.Core.List.{[]}
-use Rattle.boundary_lent.specs.BoundaryLaws.{begins-fresh}
+use Rattle.boundary_lent.proofs.BoundaryLaws.{begins-fresh}
 use borrow.Author.Rules.{rules}
 use Rattle.boundary_lent.proofs.begin.Statement.{statement}
 use Rattle.boundary_lent.proofs.begin.Tie as tie

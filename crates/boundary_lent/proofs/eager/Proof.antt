@@ -2,7 +2,7 @@ use mathlib.Core.Path.{ap}
 use mathlib.Core.List.{[]}
 use Rattle.machine.specs.Lent.{Read}
 use Rattle.boundary_lent.specs.Boundary.{store_in}
-use Rattle.boundary_lent.specs.BoundaryLaws.{eager_numbers}
+use Rattle.boundary_lent.proofs.BoundaryLaws.{eager_numbers}
 use borrow.Author.Rules.{rules}
 use Rattle.boundary_lent.proofs.eager.Statement.{statement}
 use Rattle.boundary_lent.proofs.eager.Tie as tie

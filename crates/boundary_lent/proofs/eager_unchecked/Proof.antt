@@ -1,5 +1,5 @@
 use Rattle.boundary_lent.specs.Boundary.{store_in}
-use Rattle.boundary_lent.specs.BoundaryLaws.{eager_numbers, right_slices}
+use Rattle.boundary_lent.proofs.BoundaryLaws.{eager_numbers, right_slices}
 use borrow.Author.Rules.{rules}
 use Rattle.boundary_lent.proofs.eager_unchecked.Statement.{statement}
 use Rattle.boundary_lent.proofs.eager_unchecked.Tie as tie

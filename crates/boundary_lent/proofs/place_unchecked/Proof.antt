@@ -1,7 +1,7 @@
 use mathlib.Core.Path.{◌∙◌, ap}
 use Rattle.machine.specs.Machine as machine
 use Rattle.boundary_numbers.specs.Numbers.{place_as}
-use Rattle.boundary_lent.specs.BoundaryLaws.{right_slices}
+use Rattle.boundary_lent.proofs.BoundaryLaws.{right_slices}
 use borrow.Author.Rules.{rules}
 use Rattle.boundary_lent.proofs.place_unchecked.Statement.{statement}
 use Rattle.boundary_lent.proofs.place_unchecked.Tie as tie

@@ -1,6 +1,6 @@
 use mathlib.Core.Path.{◌∙◌, ap}
 use Rattle.boundary_numbers.specs.Numbers.{numbers_as}
-use Rattle.boundary_lent.specs.BoundaryLaws.{right_slices}
+use Rattle.boundary_lent.proofs.BoundaryLaws.{right_slices}
 use borrow.Author.Rules.{rules}
 use Rattle.boundary_lent.proofs.show_unchecked.Statement.{statement}
 use Rattle.boundary_lent.proofs.show_unchecked.Tie as tie

@@ -1,6 +1,6 @@
 use mathlib.Core.List.{[]}
 use Rattle.machine.specs.Machine.{Event}
-use Rattle.boundary_lent.specs.BoundaryLaws.{reads_soundly, objects-right}
+use Rattle.boundary_lent.proofs.BoundaryLaws.{reads_soundly, objects-right}
 use Rattle.boundary_lent.proofs.sound_show.Statement.{statement}
 use Rattle.boundary_lent.proofs.sound_show.Tie as tie
 

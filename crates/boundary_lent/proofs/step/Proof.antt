@@ -1,7 +1,7 @@
 use mathlib.Core.List.{[]}
 use Rattle.queue.specs.Queue.{queue_of}
 use Rattle.step_event.specs.EventOf.{event_of}
-use Rattle.boundary_lent.specs.BoundaryLaws.{leaves, right_lengths}
+use Rattle.boundary_lent.proofs.BoundaryLaws.{leaves, right_lengths}
 use borrow.Author.Rules.{rules}
 use Rattle.boundary_lent.proofs.step.Statement.{statement}
 use Rattle.boundary_lent.proofs.step.Tie as tie

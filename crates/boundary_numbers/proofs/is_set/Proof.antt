@@ -1,5 +1,5 @@
 use native.Mathlib.Omega.{arith}
-use Rattle.boundary_numbers.specs.NumbersLaws.{bit_high}
+use Rattle.boundary_numbers.proofs.NumbersLaws.{bit_high}
 use borrow.Author.Rules.{rules}
 use Rattle.boundary_numbers.proofs.is_set.Statement.{statement}
 use Rattle.boundary_numbers.proofs.is_set.Tie as tie

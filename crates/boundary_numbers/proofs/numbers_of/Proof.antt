@@ -1,6 +1,6 @@
 use mathlib.Core.Path.{◌∙◌, ap}
 use Rattle.boundary_numbers.specs.Code.{answer_said}
-use Rattle.boundary_numbers.specs.NumbersLaws.{same_numbers}
+use Rattle.boundary_numbers.proofs.NumbersLaws.{same_numbers}
 use borrow.Author.Rules.{rules}
 use Rattle.boundary_numbers.proofs.numbers_of.Statement.{statement}
 use Rattle.boundary_numbers.proofs.numbers_of.Tie as tie

@@ -1,6 +1,6 @@
 use mathlib.Core.Path.{◌∙◌}
 use native.Mathlib.Omega.{arith}
-use Rattle.boundary_numbers.specs.NumbersLaws.{place_none, place-some}
+use Rattle.boundary_numbers.proofs.NumbersLaws.{place_none, place-some}
 use borrow.Author.Rules.{rules}
 use Rattle.boundary_numbers.proofs.place.Statement.{statement}
 use Rattle.boundary_numbers.proofs.place.Tie as tie

@@ -1,6 +1,6 @@
 use mathlib.Core.Path.{◌∙◌}
 use Rattle.boundary_numbers.specs.Numbers.{place_as}
-use Rattle.boundary_numbers.specs.NumbersLaws.{same-refused}
+use Rattle.boundary_numbers.proofs.NumbersLaws.{same-refused}
 use borrow.Author.Rules.{rules}
 use Rattle.boundary_numbers.proofs.place_numbers.Statement.{statement}
 use Rattle.boundary_numbers.proofs.place_numbers.Tie as tie

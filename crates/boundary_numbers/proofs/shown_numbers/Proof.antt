@@ -1,5 +1,5 @@
 use mathlib.Core.Path.{◌∙◌}
-use Rattle.boundary_numbers.specs.NumbersLaws.{same-shown, same-refused}
+use Rattle.boundary_numbers.proofs.NumbersLaws.{same-shown, same-refused}
 use borrow.Author.Rules.{rules}
 use Rattle.boundary_numbers.proofs.shown_numbers.Statement.{statement}
 use Rattle.boundary_numbers.proofs.shown_numbers.Tie as tie

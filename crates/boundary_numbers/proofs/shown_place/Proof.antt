@@ -1,6 +1,6 @@
 use mathlib.Core.Path.{◌∙◌}
 use Rattle.boundary_numbers.specs.Numbers.{places_shown, place_said}
-use Rattle.boundary_numbers.specs.NumbersLaws.{same-refused}
+use Rattle.boundary_numbers.proofs.NumbersLaws.{same-refused}
 use borrow.Author.Rules.{rules}
 use Rattle.boundary_numbers.proofs.shown_place.Statement.{statement}
 use Rattle.boundary_numbers.proofs.shown_place.Tie as tie

@@ -1,6 +1,6 @@
 use mathlib.Core.Path.{◌∙◌}
 use Rattle.machine.specs.Machine.{slot_value}
-use Rattle.boundary_numbers.specs.NumbersLaws.{slot_none, slot_some}
+use Rattle.boundary_numbers.proofs.NumbersLaws.{slot_none, slot_some}
 use borrow.Author.Rules.{rules}
 use Rattle.boundary_numbers.proofs.slot.Statement.{statement}
 use Rattle.boundary_numbers.proofs.slot.Tie as tie

@@ -23,7 +23,7 @@ use Rattle.asyncio.specs.RangeLaws.{pick_has}
 use Rattle.asyncio.specs.Layout.{object_words, to_object}
 use Rattle.asyncio.specs.States.{pick, is_live, is_blocked}
 use Rattle.queue.specs.Queue.{front_of, pop_front, empty_queue}
-use Rattle.queue.specs.QueueLaws.{front_of-fits}
+use Rattle.queue.proofs.QueueLaws.{front_of-fits}
 use Rattle.machine.specs.Store.{Store, task, object, header, put_task, put_header, put_object, put_places, put_queue, add_log, restate, set_state, set_moment, reached, exited, removed}
 use Rattle.machine.specs.Scheduler.{AwaitedGather, as_awaited, is_some, bit, blocked_on, live_count, remove_from_ready_queue, make_ready, push_ready, cancel_one}
 use Rattle.machine.specs.Scheduler.{Walk, reach_if, reach, remove_blocked, visit_by, visit, visit_place, visit_open, walk_gather, walk_next, walk, walk_from, cancel_task, remove_from, cleanup}

@@ -11,7 +11,7 @@ use Rattle.asyncio.specs.Limits.{task_limit}
 use Rattle.asyncio.specs.States.{is_ready, is_unstarted}
 use Rattle.queue.specs.declared.ReadyQueue.{ReadyQueue}
 use Rattle.queue.specs.Queue.{entries, occurrences, remove}
-use Rattle.queue.specs.QueueLaws.{remove-len, remove-length}
+use Rattle.queue.proofs.QueueLaws.{remove-len, remove-length}
 use Rattle.machine.specs.Store.{Store, LogEntry, task, header, put_task, put_places, put_queue, add_log, restate, reached, removed, absent}
 use Rattle.machine.specs.Scheduler.{make_ready, remove_from_ready_queue, remove_task}
 use Rattle.machine.specs.Events.{Result, apply_future_results, wake_in_order}

@@ -25,7 +25,7 @@ use Rattle.asyncio.specs.Layout.{object_words, to_object}
 use Rattle.asyncio.specs.States.{pick, is_live, is_ready, is_blocked, is_unstarted}
 use Rattle.queue.specs.declared.ReadyQueue.{ReadyQueue}
 use Rattle.queue.specs.Queue.{front_of, pop_front}
-use Rattle.queue.specs.QueueLaws.{front_of-fits}
+use Rattle.queue.proofs.QueueLaws.{front_of-fits}
 use Rattle.machine.specs.Store.{Store, task, object, header, put_task, put_object, put_places, put_queue, add_log, restate, set_state, reached, exited, removed}
 use Rattle.machine.specs.Scheduler.{AwaitedGather, PendingExternal, as_awaited, as_pending, is_some, bit, task_of, task_of_in, is_task_of, first_from, live_count, make_ready, push_ready, remove_from_ready_queue, remove_task, cancel_one, pending_external, pending_external_in, is_call}
 use Rattle.machine.specs.Scheduler.{Walk, reach_if, reach, remove_blocked, visit_by, visit, visit_place, visit_open, walk_gather, walk_next, walk, walk_from, cancel_task, still_live, blocked_on}

@@ -9,7 +9,7 @@ use Rattle.asyncio.specs.declared.Header.{Header}
 use Rattle.asyncio.specs.Limits.{task_limit}
 use Rattle.asyncio.specs.States.{is_live, is_ready}
 use Rattle.queue.specs.Queue.{entries, occurrences}
-use Rattle.queue.specs.QueueLaws.{length-entries}
+use Rattle.queue.proofs.QueueLaws.{length-entries}
 use Rattle.machine.specs.Tests.{count, is_in}
 use Rattle.machine.specs.Store.{Store, task, header, forget}
 use Rattle.machine.specs.Scheduler.{live, cancel_task}

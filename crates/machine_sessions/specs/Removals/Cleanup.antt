@@ -15,7 +15,7 @@ use Rattle.asyncio.specs.Limits.{task_limit}
 use Rattle.asyncio.specs.States.{pick, is_live}
 use Rattle.rows.specs.Tables.{task_at, header_at}
 use Rattle.queue.specs.Queue.{entries, empty_queue}
-use Rattle.queue.specs.QueueLaws.{length-entries, entries-empty}
+use Rattle.queue.proofs.QueueLaws.{length-entries, entries-empty}
 use Rattle.machine.specs.Tests.{count, is_in}
 use Rattle.machine.specs.Store.{Store, task, header, put_task, put_queue, put_header, set_moment, add_log, absent, removed}
 use Rattle.machine.specs.Scheduler.{live, remove_from_ready_queue, remove_task, cancel_one, remove_from, cleanup}

@@ -18,8 +18,8 @@ use Rattle.rows.specs.Tables.{task_at}
 use Rattle.queue.specs.declared.ReadyQueue.{ReadyQueue}
 use Rattle.queue.specs.declared.Position.{Position}
 use Rattle.queue.specs.Queue.{entries, occurrences, push_back, remove, stood_at}
-use Rattle.queue.specs.QueueLaws.{push_back-len, push_back-length, occurrences_push}
-use Rattle.queue.specs.RemovalLaws.{removed-none, absent_nowhere, pushed_last, pushed_removed}
+use Rattle.queue.proofs.QueueLaws.{push_back-len, push_back-length, occurrences_push}
+use Rattle.queue.proofs.RemovalLaws.{removed-none, absent_nowhere, pushed_last, pushed_removed}
 use Rattle.machine.specs.Store.{Store, task, object, header, put_task, put_object, put_queue, put_header, add_log, restate, set_state, set_moment, absent, exited, view}
 use Rattle.machine.specs.Scheduler.{remove_from_ready_queue, remove_task}
 use Rattle.machine.specs.Delivery.{Delivery, deliver_awaiter_success, deliver_awaiter_failure}

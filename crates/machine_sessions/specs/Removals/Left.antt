@@ -10,8 +10,8 @@ use Rattle.asyncio.specs.Limits.{task_limit}
 use Rattle.asyncio.specs.States.{is_live, is_ready}
 use Rattle.rows.specs.Tables.{task_at}
 use Rattle.queue.specs.Queue.{entries, retain, Distinct, remove, stood_at}
-use Rattle.queue.specs.QueueLaws.{remove-len, remove-length}
-use Rattle.queue.specs.RemovalLaws.{removal, removal_retains}
+use Rattle.queue.proofs.QueueLaws.{remove-len, remove-length}
+use Rattle.queue.proofs.RemovalLaws.{removal, removal_retains}
 use Rattle.machine.specs.Store.{Store, view, task, header, put_task, put_queue, add_log, absent, removed}
 use Rattle.machine.specs.Scheduler.{remove_from_ready_queue, remove_task, cancel_one}
 use Rattle.machine_laws.specs.Views.{Sized}

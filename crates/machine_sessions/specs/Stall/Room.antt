@@ -9,7 +9,7 @@ use Rattle.asyncio.specs.Limits.{task_limit}
 use Rattle.asyncio.specs.States.{pick}
 use Rattle.queue.specs.declared.ReadyQueue.{ReadyQueue}
 use Rattle.queue.specs.Queue.{entries, without, occurrences, Distinct, push_back}
-use Rattle.queue.specs.QueueLaws.{length-entries, occurrences-without, distinct_without, occurrences_push}
+use Rattle.queue.proofs.QueueLaws.{length-entries, occurrences-without, distinct_without, occurrences_push}
 use Rattle.machine_theorems.specs.Soundness.ReadyTasks.{Queued, gone, was_there}
 
 length_without : (l : List ℕ) (t : ℕ) → length l ≤ suc (length (without l t))

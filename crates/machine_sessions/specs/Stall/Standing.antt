@@ -27,7 +27,7 @@ use Rattle.rows.specs.Tables.{task_codec, task_start, task_at, task_put}
 use Rattle.rows.specs.RowLaws.{row-put_at}
 use Rattle.queue.specs.declared.ReadyQueue.{ReadyQueue}
 use Rattle.queue.specs.Queue.{entries, occurrences, without, one_if_same, front_of, pop_front, push_back, remove}
-use Rattle.queue.specs.QueueLaws.{distinct_without, length-entries, front_entry, entries_pop, entries-remove, occurrences_push, occurrences-without, pop_front-len, pop_front-length, remove-len, remove-length}
+use Rattle.queue.proofs.QueueLaws.{distinct_without, length-entries, front_entry, entries_pop, entries-remove, occurrences_push, occurrences-without, pop_front-len, pop_front-length, remove-len, remove-length}
 use Rattle.machine.specs.Store.{LogEntry, Store, view, task, object, header, put_task, put_object, put_queue, add_log, restate, set_state, set_moment, put_header, absent, exited}
 use Rattle.machine.specs.Scheduler.{live_count, remove_from_ready_queue, remove_task}
 use Rattle.machine.specs.Delivery.{Delivery, deliver_awaiter_success, deliver_awaiter_failure}

@@ -28,7 +28,7 @@ use Rattle.asyncio.specs.Ranges.{HeaderFits}
 use Rattle.asyncio.specs.States.{pick, is_live, is_ready}
 use Rattle.asyncio.specs.Kinds.{kind, is_completed}
 use Rattle.queue.specs.Queue.{entries, occurrences, Distinct, push_back, one_if_same, empty_queue}
-use Rattle.queue.specs.QueueLaws.{entries_push, occurrences_push, distinct_append, push_back-len, push_back-length}
+use Rattle.queue.proofs.QueueLaws.{entries_push, occurrences_push, distinct_append, push_back-len, push_back-length}
 use Rattle.machine.specs.Store.{Store, LogEntry, view, task, object, header, put_task, put_object, put_place, put_queue, put_header, add_log, restate, set_state, set_next, set_calls, set_moment, add_object, spawned, blocked}
 use Rattle.machine.specs.Scheduler.{as_pending, push_ready, spawn_as, remove_from, cleanup, pending_call_ids}
 use Rattle.machine.specs.Commit.{Poll, ready, raised, pending, await_external, await_pending, commit_gather_tree}

@@ -20,7 +20,7 @@ use Rattle.asyncio.specs.Ranges.{ErrorFits}
 use Rattle.asyncio.specs.States.{pick, is_live, is_ready, is_blocked}
 use Rattle.asyncio.specs.Kinds.{kind, is_completed}
 use Rattle.queue.specs.Queue.{entries, order_from}
-use Rattle.queue.specs.OrderLaws.{order_occurrences}
+use Rattle.queue.proofs.OrderLaws.{order_occurrences}
 use Rattle.machine.specs.Store.{Store, view, task, object, header, put_object, put_queue, add_log, exited}
 use Rattle.machine.specs.Scheduler.{pending_call_ids, remove_from_ready_queue, remove_task}
 use Rattle.machine.specs.Delivery.{deliver_awaiter_success}

@@ -17,7 +17,7 @@ use Rattle.asyncio.specs.States.{is_live, is_blocked}
 use Rattle.asyncio.specs.Limits.{task_limit}
 use Rattle.asyncio.specs.RangeLaws.{pick_has}
 use Rattle.queue.specs.Queue.{pop_front, front_of}
-use Rattle.queue.specs.QueueLaws.{front_of-fits}
+use Rattle.queue.proofs.QueueLaws.{front_of-fits}
 use Rattle.machine.specs.Store.{Store, task, header, object, put_task, put_object, put_header, put_queue, restate, set_state, set_moment, add_log, exited, absent}
 use Rattle.machine.specs.Scheduler.{AwaitedGather, as_awaited, live_count, make_ready, push_ready, remove_task, remove_from_ready_queue}
 use Rattle.machine.specs.Delivery.{Delivery, nobody_woken, deliver_to_task, fail_awaited, fail_gather, climb, awaited_count, send_error, climb_error, deliver_awaiter_failure}

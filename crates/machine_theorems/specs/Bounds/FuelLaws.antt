@@ -12,7 +12,7 @@ use Rattle.asyncio.specs.States.{is_live}
 use Rattle.asyncio.specs.Limits.{task_limit}
 use Rattle.asyncio.specs.Ranges.{AwaiterFits}
 use Rattle.queue.specs.Queue.{pop_front, front_of}
-use Rattle.queue.specs.QueueLaws.{front_of-fits}
+use Rattle.queue.proofs.QueueLaws.{front_of-fits}
 use Rattle.machine.specs.Store.{Store, task, put_task, put_queue, add_log, exited, absent}
 use Rattle.machine.specs.Scheduler.{live_count, remove_task, remove_from_ready_queue}
 use Rattle.machine.specs.Delivery.{Delivery, resolve_child, fail_gather, climb, awaited_count}

@@ -20,7 +20,7 @@ use Rattle.asyncio.specs.Ranges.{AwaiterFits}
 use Rattle.asyncio.specs.RangeLaws.{pick_has}
 use Rattle.rows.specs.Tables.{object_at}
 use Rattle.queue.specs.Queue.{pop_front, front_of}
-use Rattle.queue.specs.QueueLaws.{front_of-fits}
+use Rattle.queue.proofs.QueueLaws.{front_of-fits}
 use Rattle.machine.specs.Store.{Store, task, object, put_task, put_object, put_queue, set_state, set_moment, add_log, reached, blocked, exited}
 use Rattle.machine.specs.Scheduler.{AwaitedGather, as_awaited, make_ready, push_ready, remove_task, remove_from_ready_queue}
 use Rattle.machine.specs.Delivery.{Delivery, nobody_woken, deliver_to_task, fail_awaited, fail_gather, climb, awaited_count, send_error, climb_error, deliver_awaiter_failure}

@@ -27,7 +27,7 @@ use Rattle.asyncio.specs.States.{pick, is_live, is_unstarted, is_ready}
 use Rattle.asyncio.specs.Kinds.{kind, is_committed, is_pending_external}
 use Rattle.asyncio.specs.Parts.{awaiter_of, call_of, count_of}
 use Rattle.queue.specs.Queue.{entries, front_of}
-use Rattle.queue.specs.QueueLaws.{length-entries, front_entry}
+use Rattle.queue.proofs.QueueLaws.{length-entries, front_entry}
 use Rattle.machine.specs.Tests.{sum_below}
 use Rattle.machine.specs.Store.{Store, View, view, task, object, header}
 use Rattle.machine.specs.Scheduler.{AwaitedGather, PendingExternal, as_awaited, as_pending, bit, is_some, first_from, is_call, pending_external_in, pending_external}

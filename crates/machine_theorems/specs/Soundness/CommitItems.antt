@@ -25,7 +25,7 @@ use Rattle.asyncio.specs.States.{pick}
 use Rattle.asyncio.specs.Kinds.{kind, is_coroutine, is_completed, is_committed}
 use Rattle.asyncio.specs.Parts.{count_of}
 use Rattle.queue.specs.Queue.{entries, push_back}
-use Rattle.queue.specs.QueueLaws.{push_back-len, push_back-length}
+use Rattle.queue.proofs.QueueLaws.{push_back-len, push_back-length}
 use Rattle.machine.specs.Store.{Store, View, view, task, object, place, header, put_task, put_object, put_place, put_header, put_queue, add_log, set_next, spawned}
 use Rattle.machine.specs.Scheduler.{AwaitedGather, PendingExternal, as_awaited, as_pending, is_task_of, first_from, task_of_in, task_of, push_ready, spawn_as, spawn_unless, spawn}
 use Rattle.machine.specs.Commit.{Poll, ready, raised, pending, gives, await_pending, await_external, Item, polled, nested, polled_spawn, item_coroutine, item_gather, item_object, open_from, item}

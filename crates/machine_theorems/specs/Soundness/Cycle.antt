@@ -26,8 +26,8 @@ use Rattle.asyncio.specs.Kinds.{kind, is_coroutine, is_completed, is_committed}
 use Rattle.asyncio.specs.Parts.{awaiter_of, count_of}
 use Rattle.queue.specs.declared.ReadyQueue.{ReadyQueue}
 use Rattle.queue.specs.Queue.{entries, front_of, pop_front, remove, occurrences, without}
-use Rattle.queue.specs.QueueLaws.{length-entries, front_entry, entries_pop, entries-remove, pop_front-len, pop_front-length, remove-len, remove-length}
-use Rattle.queue.specs.QueueLaws.{distinct_without}
+use Rattle.queue.proofs.QueueLaws.{length-entries, front_entry, entries_pop, entries-remove, pop_front-len, pop_front-length, remove-len, remove-length}
+use Rattle.queue.proofs.QueueLaws.{distinct_without}
 use Rattle.machine.specs.Tests.{implies}
 use Rattle.machine.specs.Store.{Store, View, view, task, object, header, put_task, put_object, put_queue, add_log, set_state, restate, absent, LogEntry, exited}
 use Rattle.machine.specs.Scheduler.{as_awaited, as_pending, blocked_on, remove_from_ready_queue, remove_task, live_count}

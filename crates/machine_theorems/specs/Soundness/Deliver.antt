@@ -23,7 +23,7 @@ use Rattle.asyncio.specs.States.{pick, is_live, is_unstarted, is_ready, is_runni
 use Rattle.asyncio.specs.Kinds.{kind, is_coroutine, is_completed, is_committed}
 use Rattle.asyncio.specs.Parts.{awaiter_of, count_of}
 use Rattle.queue.specs.Queue.{entries, push_back}
-use Rattle.queue.specs.QueueLaws.{push_back-len, push_back-length}
+use Rattle.queue.proofs.QueueLaws.{push_back-len, push_back-length}
 use Rattle.machine.specs.Store.{Store, View, view, task, object, place, header, put_task, put_object, put_queue, set_state, restate, add_log, reached}
 use Rattle.machine.specs.Scheduler.{AwaitedGather, as_awaited, as_pending, blocked_on, make_ready, push_ready}
 use Rattle.machine.specs.Delivery.{Delivery, nobody_woken, deliver_to_task, Settled, fail_awaited, fail_gather, send_error, climb, deliver_awaiter_failure}

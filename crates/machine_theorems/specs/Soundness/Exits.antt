@@ -28,7 +28,7 @@ use Rattle.asyncio.specs.Kinds.{kind, is_coroutine, is_completed}
 use Rattle.asyncio.specs.Parts.{awaiter_of}
 use Rattle.queue.specs.declared.ReadyQueue.{ReadyQueue}
 use Rattle.queue.specs.Queue.{entries, empty_queue, remove}
-use Rattle.queue.specs.QueueLaws.{entries-empty}
+use Rattle.queue.proofs.QueueLaws.{entries-empty}
 use Rattle.machine.specs.Store.{Store, View, view, task, object, place, header, put_task, put_object, put_queue, add_log, absent, LogEntry, exited, removed}
 use Rattle.rows.specs.Tables.{task_at}
 use Rattle.machine.specs.Scheduler.{AwaitedGather, as_awaited, is_some, bit, pending_call_ids, blocked_on, remove_from_ready_queue, remove_task, task_of_in, task_of, cancel_one, Walk, reach_if, reach, remove_blocked, still_live, visit_by, visit, visit_place, visit_open, walk_gather, walk_next, walk, walk_from, cancel_task, remove_from, cleanup}

@@ -8,8 +8,8 @@ use Rattle.asyncio.specs.States.{pick, is_ready}
 use Rattle.asyncio.specs.Limits.{task_limit}
 use Rattle.queue.specs.declared.ReadyQueue.{ReadyQueue}
 use Rattle.queue.specs.Queue.{entries, push_back, remove, occurrences, Distinct, without}
-use Rattle.queue.specs.QueueLaws.{push_back-full, entries_push, entries-remove, occurrences_append, occurrences-without, at_most_once, distinct_append, distinct_without}
-use Rattle.queue.specs.OrderLaws.{distinct_same}
+use Rattle.queue.proofs.QueueLaws.{push_back-full, entries_push, entries-remove, occurrences_append, occurrences-without, at_most_once, distinct_append, distinct_without}
+use Rattle.queue.proofs.OrderLaws.{distinct_same}
 use Rattle.machine.specs.Sound.{entry_ready}
 use Rattle.machine_laws.specs.Views.{update}
 use Rattle.machine_laws.specs.TestLaws.{both, both_left, both_right, below, from-below}

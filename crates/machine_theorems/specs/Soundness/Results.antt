@@ -23,7 +23,7 @@ use Rattle.machine.specs.Scheduler.{PendingExternal, as_awaited, as_pending, pen
 use Rattle.machine.specs.Delivery.{value_or, resolve_pending, fail_pending, settle_pending, settle_found, resolve_future, fail_future}
 use Rattle.queue.specs.declared.ReadyQueue.{ReadyQueue}
 use Rattle.queue.specs.Queue.{entries, order_from}
-use Rattle.queue.specs.OrderLaws.{order_from-len, order_from-length, order_occurrences}
+use Rattle.queue.proofs.OrderLaws.{order_from-len, order_from-length, order_occurrences}
 use Rattle.machine.specs.Events.{Result, apply_result, apply_future_results, wake_in_order}
 use Rattle.machine.specs.Sound.{object_in_range, items_below, value_known, option_known, object_values, object_filled}
 use Rattle.machine_laws.specs.ValueLaws.{value_stays}

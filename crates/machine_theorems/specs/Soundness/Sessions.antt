@@ -12,7 +12,7 @@ use Rattle.machine.specs.Store.{Store, forget, fresh, empty, put_task, put_heade
 use Rattle.machine.specs.Events.{make_coroutine, make_pending, make_settled, put_items, make_gather}
 use Rattle.machine.specs.Machine.{Event, refusal, accept, step, after}
 use Rattle.machine.specs.Sound.{sound}
-use Rattle.machine.specs.SoundCases.{stores, verdicts, sound-cases}
+use Rattle.machine.proofs.SoundCases.{stores, verdicts, sound-cases}
 use Rattle.machine_laws.specs.Views.{Sized}
 use Rattle.machine_laws.specs.Statements.{Making}
 use Rattle.machine_laws.specs.TestLaws.{holds}

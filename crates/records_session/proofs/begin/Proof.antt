@@ -1,7 +1,7 @@
 -- The part that follows the code is `Proof/Lts.antt` (tools/mirror.py).
 mod Lts
 mod Tie
-use Rattle.records_session.specs.RecordsLaws.{begins}
+use Rattle.records_session.proofs.RecordsLaws.{begins}
 use borrow.Author.Rules.{rules}
 use Rattle.records_session.proofs.begin.Statement.{statement}
 use Rattle.records_session.proofs.begin.Proof.Tie as tie

@@ -2,7 +2,7 @@
 mod Lts
 mod Tie
 use Rattle.step_event.specs.EventOf.{event_of}
-use Rattle.records_session.specs.RecordsLaws.{stepped}
+use Rattle.records_session.proofs.RecordsLaws.{stepped}
 use borrow.Author.Rules.{rules}
 use Rattle.records_session.proofs.dispatch.Statement.{statement}
 use Rattle.records_session.proofs.dispatch.Proof.Tie as tie

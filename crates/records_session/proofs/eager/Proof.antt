@@ -2,7 +2,7 @@
 mod Lts
 mod Tie
 use Rattle.machine.specs.Machine.{Event}
-use Rattle.records_session.specs.RecordsLaws.{reads}
+use Rattle.records_session.proofs.RecordsLaws.{reads}
 use borrow.Author.Rules.{rules}
 use Rattle.records_session.proofs.eager.Statement.{statement}
 use Rattle.records_session.proofs.eager.Proof.Tie as tie

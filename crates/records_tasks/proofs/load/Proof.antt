@@ -14,7 +14,7 @@ use Rattle.rows.specs.TableLaws.{length-task_put}
 use Rattle.records_tasks.specs.declared.TaskRecord.{TaskRecord}
 use Rattle.records_tasks.specs.TaskRecord.{task_of}
 use Rattle.records_tasks.specs.TaskRows.{loaded}
-use Rattle.records_tasks.specs.TaskRowsLaws.{loaded-none, loaded-one, rows_are}
+use Rattle.records_tasks.proofs.TaskRowsLaws.{loaded-none, loaded-one, rows_are}
 use Rattle.records_tasks.proofs.load.Statement.{statement}
 use Rattle.records_tasks.proofs.load.Proof.Tie as tie
 

@@ -13,7 +13,7 @@ use Rattle.rows.specs.Tables.{task_at}
 use Rattle.records_tasks.specs.declared.TaskRecord.{TaskRecord}
 use Rattle.records_tasks.specs.TaskRecord.{record_of}
 use Rattle.records_tasks.specs.TaskRows.{saved}
-use Rattle.records_tasks.specs.TaskRowsLaws.{saved-none, saved-one}
+use Rattle.records_tasks.proofs.TaskRowsLaws.{saved-none, saved-one}
 use Rattle.records_tasks.proofs.save.Statement.{statement}
 use Rattle.records_tasks.proofs.save.Proof.Tie as tie
 

@@ -3,7 +3,7 @@ use mathlib.Core.List.{[]}
 use native.Mathlib.Omega.{arith}
 use Rattle.machine.specs.Machine.{Step}
 use Rattle.machine.specs.Answers.{Numbers}
-use Rattle.records_words.specs.OnWordsLaws.{begin_refused, begin_done}
+use Rattle.records_words.proofs.OnWordsLaws.{begin_refused, begin_done}
 use borrow.Author.Rules.{rules}
 use Rattle.records_words.proofs.begin.Statement.{statement}
 use Rattle.records_words.proofs.begin.Tie as tie

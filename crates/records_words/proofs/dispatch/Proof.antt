@@ -1,7 +1,7 @@
 use mathlib.Core.List.{[]}
 use native.Mathlib.Omega.{arith}
 use Rattle.step_event.specs.EventOf.{event_of}
-use Rattle.records_words.specs.OnWordsLaws.{step-refused, step-done}
+use Rattle.records_words.proofs.OnWordsLaws.{step-refused, step-done}
 use borrow.Author.Rules.{rules}
 use Rattle.records_words.proofs.dispatch.Statement.{statement}
 use Rattle.records_words.proofs.dispatch.Tie as tie

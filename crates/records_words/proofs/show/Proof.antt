@@ -1,7 +1,7 @@
 use mathlib.Core.List.{[]}
 use Rattle.machine.specs.Machine as machine
 use Rattle.machine.specs.Store.{store_of}
-use Rattle.records_words.specs.OnWordsLaws.{read-refused, read_done}
+use Rattle.records_words.proofs.OnWordsLaws.{read-refused, read_done}
 use borrow.Author.Rules.{rules}
 use Rattle.records_words.proofs.show.Statement.{statement}
 use Rattle.records_words.proofs.show.Tie as tie

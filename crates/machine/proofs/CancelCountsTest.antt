@@ -8,8 +8,8 @@ use Rattle.machine.specs.Events.{Result}
 use Rattle.machine.specs.Machine.{Event, Answer}
 use Rattle.machine.specs.History.{Entry, says, tells}
 use Rattle.machine.specs.Sessions.{Sent, session}
-use Rattle.machine.specs.DemandThreeTest.{and_both}
-use Rattle.machine.specs.DemandThreeCases.{e, res, pend, computes3}
+use Rattle.machine.proofs.DemandThreeTest.{and_both}
+use Rattle.machine.proofs.DemandThreeCases.{e, res, pend, computes3}
 use Rattle.machine.specs.CancelCounts.{had_been_ready, ready_removed, CountRight, CountsRight}
 
 -- the answer is a cancel's with count n

@@ -31,8 +31,8 @@ use Rattle.machine_laws.specs.WordLaws.{words_facts, words_test}
 use Rattle.machine_laws.specs.SoundLaws.{sound_facts}
 use Rattle.machine_widths.specs.Widths.{sound_at}
 use Rattle.machine_widths.specs.Readings.{words_of_header, words_of_object, with_call, to_object_by, to_header_by, header_by, object_by, words_in_range_by, view_by, sound_by}
-use Rattle.machine_widths.specs.WidthLaws.{same_test, sound_at_of, sound_of_at}
-use Rattle.machine_widths.specs.RowsInUse.{with_objects, facts_same}
+use Rattle.machine_widths.proofs.WidthLaws.{same_test, sound_at_of, sound_of_at}
+use Rattle.machine_widths.proofs.RowsInUse.{with_objects, facts_same}
 
 -- ---- rows
 

@@ -9,9 +9,9 @@ use Rattle.machine.specs.Lent.{slices_right, lengths_right, write_calls, control
 use Rattle.machine.specs.History.{lives_by, lives, blocked_by, stays_blocked, nothing_said, says, done_only, tells, said, is_at, reply_in, unanswered, later, making, first_reply, runner_by, running, started_by, coroutine_of, running_coroutine, completed_value, spawned_by, spawned_for, is_none, exits_unstarted, failed_error, coroutine_outcome, reply_error, stored_or, reply_outcome, shown_outcome, outcome_by, outcome, value_of, error_of, items, cancelled}
 use Rattle.machine.specs.Sessions.{Sent, Session, is_read, read_lent, lent_any, happened_by, entry_of, begun, send, send_all, session}
 use Rattle.machine.specs.DemandThree.{read, shown_by, look, delivered, none_open, empty_wait, is_stalled, goes_on}
-use Rattle.machine.specs.DemandThreeTest.{same_bit, same_value, same_place, same_places, queue_test, shown_test, answer_test, places_test, calls_test, control_test, waits_test, demand3_test}
+use Rattle.machine.proofs.DemandThreeTest.{same_bit, same_value, same_place, same_places, queue_test, shown_test, answer_test, places_test, calls_test, control_test, waits_test, demand3_test}
 use Rattle.machine.specs.Honest.{runs_task, last_await, left_waiting, shows_waiting, waits_at}
-use Rattle.machine.specs.HonestTest.{is_five, live_test, state_test}
+use Rattle.machine.proofs.HonestTest.{is_five, live_test, state_test}
 
 -- an event with a list that is long enough
 abbrev pub e : Event → Sent

@@ -22,8 +22,8 @@ use Rattle.step_checks.specs.LentLaws.{not_sound, step_unsound}
 use Rattle.records_tasks.specs.declared.TaskRecord.{TaskRecord}
 use Rattle.records_tasks.specs.TaskRecord.{no_record, fits}
 use Rattle.records_tasks.specs.TaskRows.{rows_of, saved}
-use Rattle.records_tasks.specs.TaskRowsLaws.{rows_are, length-loaded}
-use Rattle.records_tasks.specs.UnfitLaws.{unfit_unsound}
+use Rattle.records_tasks.proofs.TaskRowsLaws.{rows_are, length-loaded}
+use Rattle.records_tasks.proofs.UnfitLaws.{unfit_unsound}
 use Rattle.records_words.specs.RowsInUse.{next_in, rows_in_use}
 use Rattle.records_words.specs.OnWords.{with_rows, words_step, begun_rows, words_begin, words_read}
 use Rattle.records_session.specs.Records.{Records, RecordsLent, gone_back, refused_as, records_step, begun_with, records_begin, records_read}

@@ -6,7 +6,7 @@ use Rattle.machine.specs.Machine.{Event, Answer, step}
 use Rattle.machine.specs.History.{Entry, lives, stays_blocked}
 use Rattle.machine.specs.Sessions.{Session}
 use Rattle.machine.specs.DemandThree.{look}
-use Rattle.machine.specs.DemandThreeTest.{same_bit, bits_same, and_both}
+use Rattle.machine.proofs.DemandThreeTest.{same_bit, bits_same, and_both}
 use Rattle.machine.specs.Honest.{last_await, left_waiting, waits_at, StateHonest}
 
 -- is it a 5?

@@ -8,7 +8,7 @@ use Rattle.machine.specs.Store.{Store}
 use Rattle.machine.specs.Machine.{Event, Answer, Step, decide, step, after, answers}
 use Rattle.machine_theorems.specs.Soundness.Sessions.{AllInRange}
 use Rattle.machine_widths.specs.Widths.{refusal_at, step_at, after_at, answers_at, before_8, Without8}
-use Rattle.machine_widths.specs.WidthLaws.{SoundAt, sound-here, step-wider, step_limit, step-sound_at}
+use Rattle.machine_widths.proofs.WidthLaws.{SoundAt, sound-here, step-wider, step_limit, step-sound_at}
 
 -- the same answers and the same store
 abbrev pub Same : ℕ → ℕ → Store → List Event → Type 0

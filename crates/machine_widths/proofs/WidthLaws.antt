@@ -21,7 +21,7 @@ use Rattle.machine_laws.specs.WalkEvents.{HandsOut}
 use Rattle.machine_theorems.specs.Soundness.Stores.{SoundStore, sound_store_sound}
 use Rattle.machine_theorems.specs.Soundness.Sessions.{forget-sound_store, step-sound_store}
 use Rattle.machine_widths.specs.Widths.{sound_at, check_at, checks_at, refusal_at, step_at}
-use Rattle.machine_widths.specs.CallCount.{calls_stay, calls_next}
+use Rattle.machine_widths.proofs.CallCount.{calls_stay, calls_next}
 
 -- two tests that hold together
 pub same_test : (a b : Bool) → (T a → T b) → (T b → T a) → a ≡ b

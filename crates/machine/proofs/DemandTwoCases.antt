@@ -11,7 +11,7 @@ use Rattle.machine.specs.Sessions.{Sent, Session, begun, session}
 use Rattle.machine.specs.Singles.{batch_of, accepted_batch, each_alone, cut_by, cut}
 use Rattle.machine.specs.DemandThree.{look}
 use Rattle.machine.specs.DemandTwo.{came, committed, values, seen, arrives, arrivals_of, is_late, early, late, in_turn, arrivals_by, arrivals_in, arrivals_along, arrivals_from}
-use Rattle.machine.specs.DemandThreeCases.{e, res, pend, computes3}
+use Rattle.machine.proofs.DemandThreeCases.{e, res, pend, computes3}
 
 -- a session, and a gather of it
 pub record Gathering : Type 0 where

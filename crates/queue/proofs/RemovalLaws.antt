@@ -10,7 +10,7 @@ use Rattle.asyncio.specs.Limits.{task_limit}
 use Rattle.queue.specs.declared.ReadyQueue.{ReadyQueue}
 use Rattle.queue.specs.declared.Position.{Position}
 use Rattle.queue.specs.Queue.{entries, push_back, drop_entry, drop_place, find_task, remove, position_from, stood_at, removed_count, position, retain, occurrences, Distinct}
-use Rattle.queue.specs.QueueLaws.{find_task-position, length-entries, entries-drop_place, entries_push, drop_place_either, push_back-len, push_back-length, absent-head, position_absent, remove_absent, retain-absent, occurrences_append, at_most_once}
+use Rattle.queue.proofs.QueueLaws.{find_task-position, length-entries, entries-drop_place, entries_push, drop_place_either, push_back-len, push_back-length, absent-head, position_absent, remove_absent, retain-absent, occurrences_append, at_most_once}
 
 -- ---- the first t in a list
 

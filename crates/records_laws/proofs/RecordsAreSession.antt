@@ -27,12 +27,12 @@ use Rattle.machine_sessions.specs.Gather.LogApart.{lent_entry, left-alike, entry
 use Rattle.records_tasks.specs.declared.TaskRecord.{TaskRecord}
 use Rattle.records_tasks.specs.TaskRecord.{no_record, record_of}
 use Rattle.records_tasks.specs.TaskRows.{rows_of, saved}
-use Rattle.records_tasks.specs.TaskRowsLaws.{saved-none, length-saved}
+use Rattle.records_tasks.proofs.TaskRowsLaws.{saved-none, length-saved}
 use Rattle.records_words.specs.RowsInUse.{next_in, is_refused, rows_left}
 use Rattle.records_session.specs.Records.{Records, gone_back, begun_with, records_step, records_begin, records_read}
 use Rattle.records_laws.specs.RecordsSessions.{records_answer, records_left, RecordsSession, records_send, records_send_all, records_session, Lengths}
-use Rattle.records_laws.specs.UnusedRows.{Unused, step_unused, fresh_unused}
-use Rattle.records_laws.specs.LaidRows.{saved-at, laid_rows}
+use Rattle.records_laws.proofs.UnusedRows.{Unused, step_unused, fresh_unused}
+use Rattle.records_laws.proofs.LaidRows.{saved-at, laid_rows}
 
 -- The memory is the store's: the slices and the queue are the same, and each record in use is its task's.
 pub record SameStore (m : Records) (s : Store) : Type 0 where

@@ -14,10 +14,10 @@ use Rattle.rows.specs.Tables.{task_at, task_put, task_start}
 use Rattle.rows.specs.TableLaws.{length-task_put}
 use Rattle.records_tasks.specs.declared.TaskRecord.{TaskRecord}
 use Rattle.records_tasks.specs.TaskRecord.{no_record, record_of, task_of}
-use Rattle.records_tasks.specs.TaskRecordLaws.{task_back}
+use Rattle.records_tasks.proofs.TaskRecordLaws.{task_back}
 use Rattle.records_tasks.specs.TaskRows.{loaded, rows_of, saved}
-use Rattle.records_tasks.specs.TaskRowsLaws.{length-loaded, length-saved}
-use Rattle.records_laws.specs.UnusedRows.{zeros_clear, past_clear}
+use Rattle.records_tasks.proofs.TaskRowsLaws.{length-loaded, length-saved}
+use Rattle.records_laws.proofs.UnusedRows.{zeros_clear, past_clear}
 
 -- ---- what was saved
 

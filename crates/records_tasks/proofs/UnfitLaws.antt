@@ -20,9 +20,9 @@ use Rattle.machine_laws.specs.TestLaws.{holds, both_left}
 use Rattle.machine_laws.specs.WordLaws.{words_facts}
 use Rattle.records_tasks.specs.declared.TaskRecord.{TaskRecord}
 use Rattle.records_tasks.specs.TaskRecord.{no_record, fits, task_of}
-use Rattle.records_tasks.specs.TaskRecordLaws.{unfit_not_canonical}
+use Rattle.records_tasks.proofs.TaskRecordLaws.{unfit_not_canonical}
 use Rattle.records_tasks.specs.TaskRows.{loaded, rows_of}
-use Rattle.records_tasks.specs.TaskRowsLaws.{length-loaded, rows_are}
+use Rattle.records_tasks.proofs.TaskRowsLaws.{length-loaded, rows_are}
 
 module _ (ts : List TaskRecord) (t : ℕ) (f : fits (get_or ts t no_record) ≡ false) where
   -- the record laid out as row n: that of record t, or a row behind it

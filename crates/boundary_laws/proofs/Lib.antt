@@ -1,0 +1,2 @@
+pub mod SoundMemoryKept
+pub mod HostIsSession

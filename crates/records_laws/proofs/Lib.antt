@@ -1,0 +1,3 @@
+pub mod UnusedRows
+pub mod LaidRows
+pub mod RecordsAreSession

@@ -1,0 +1,10 @@
+use Rattle.machine.specs.Scheduler.{is_task_of}
+use Rattle.scheduler.proofs.tasks.is_task_of.Goals as goal
+
+pub returns-then-is_live : goal.returns-then-is_live
+unfolding is_task_of
+returns-then-is_live c = rw (← c.state_at-state.ensures, ← c.is_live.ensures, c.if-is_live.true, c.coroutine_at-coroutine.ensures)
+
+pub returns : goal.returns
+unfolding is_task_of
+returns c = rw (← c.state_at-state.ensures, ← c.is_live.ensures, c.if-is_live.false)
