@@ -99,10 +99,10 @@ state_back (TaskState.Raised e) p = ap TaskState.Raised (error_back e p)
 state_back (TaskState.Blocked h) p = rw (mod-eq_of_lt p)
 
 pub task_back : (t : Task) → TaskFits t → to_task (task_words t) ≡ t
-task_back t p = rw (state_back t.state p.state_fits, awaiter_back t.awaiter p.awaiter_fits, mod-eq_of_lt p.coroutine-fits)
+task_back t p = rw (state_back t.state p.state_fits, awaiter_back t.awaiter p.awaiter_fits, mod-eq_of_lt p.coroutine_fits)
 
 pub place_back : (p : Place) → PlaceFits p → to_place (place_words p) ≡ p
-place_back p f = rw (option_back p.result f.result_fits, mod-eq_of_lt f.item-fits)
+place_back p f = rw (option_back p.result f.result_fits, mod-eq_of_lt f.item_fits)
 
 moment_back : (m : Moment) → MomentFits m → to_moment (moment_words m).0 (moment_words m).1 ≡ m
 moment_back (Moment.Running t) f = rw (mod-eq_of_lt f)
@@ -115,7 +115,7 @@ up_to n h = mod-eq_of_lt (omega arith)
 
 pub header_back : (h : Header) → HeaderFits h → to_header (header_words h) ≡ h
 header_back h f =
-    rw (up_to object_limit f.made-fits, up_to place_limit f.used-fits, up_to call_limit f.calls-fit, up_to task_limit f.next_fits, moment_back h.moment f.moment_fits)
+    rw (up_to object_limit f.made_fits, up_to place_limit f.used_fits, up_to call_limit f.calls_fit, up_to task_limit f.next_fits, moment_back h.moment f.moment_fits)
 
 pub object_wide : (o : Object) → length (object_words o) ≡ 8
 object_wide =
@@ -186,20 +186,20 @@ pub to_task-fits : (w : List ℕ) → TaskFits (to_task w)
 to_task-fits w = record {
   state_fits = state_fits (get_or w 0 0) (get_or w 5 0) (get_or w 6 0);
   awaiter_fits = row_awaiter-fits w;
-  coroutine-fits = heap_fits (get_or w 4 0);
+  coroutine_fits = heap_fits (get_or w 4 0);
 }
 
 pub to_place-fits : (w : List ℕ) → PlaceFits (to_place w)
-to_place-fits w = record { item-fits = heap_fits (get_or w 0 0); result_fits = option_fits (get_or w 1 0) (get_or w 2 0) }
+to_place-fits w = record { item_fits = heap_fits (get_or w 0 0); result_fits = option_fits (get_or w 1 0) (get_or w 2 0) }
 
 moment_fits : (tag t : ℕ) → MomentFits (to_moment tag t)
 moment_fits tag t = pick_has MomentFits (eqb tag 0) (task-fits t) (pick_has MomentFits (eqb tag 1) tt tt)
 
 pub to_header-fits : (w : List ℕ) → HeaderFits (to_header w)
 to_header-fits w = record {
-  made-fits = omega arith;
-  used-fits = omega arith;
-  calls-fit = omega arith;
+  made_fits = omega arith;
+  used_fits = omega arith;
+  calls_fit = omega arith;
   next_fits = omega arith;
   moment_fits = moment_fits (get_or w 4 0) (get_or w 5 0);
 }

@@ -62,7 +62,7 @@ ObjectFits (Object.ExternalFuture c s) = (c.0 < u32_limit) × ExternalFits s
 ObjectFits (Object.GatherFuture i n s) = PlacesFit i n × GatherFits s
 
 pub record PlaceFits (p : Place) : Type 0 where
-  pub item-fits : p.item.0 < object_limit
+  pub item_fits : p.item.0 < object_limit
   pub result_fits : OptionFits p.result
 
 abbrev pub StateFits : TaskState → Type 0
@@ -76,7 +76,7 @@ StateFits (TaskState.Blocked h) = h.0 < object_limit
 pub record TaskFits (t : Task) : Type 0 where
   pub state_fits : StateFits t.state
   pub awaiter_fits : AwaiterFits t.awaiter
-  pub coroutine-fits : t.coroutine.0 < object_limit
+  pub coroutine_fits : t.coroutine.0 < object_limit
 
 abbrev pub MomentFits : Moment → Type 0
 MomentFits (Moment.Running t) = t.0 < task_limit
@@ -85,8 +85,8 @@ MomentFits Moment.Ended = Unit {0}
 
 -- a count takes one value more than the numbers that it counts
 pub record HeaderFits (h : Header) : Type 0 where
-  pub made-fits : h.made ≤ object_limit
-  pub used-fits : h.used ≤ place_limit
-  pub calls-fit : h.calls ≤ call_limit
+  pub made_fits : h.made ≤ object_limit
+  pub used_fits : h.used ≤ place_limit
+  pub calls_fit : h.calls ≤ call_limit
   pub next_fits : h.next ≤ task_limit
   pub moment_fits : MomentFits h.moment

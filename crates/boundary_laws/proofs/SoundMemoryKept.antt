@@ -13,7 +13,7 @@ use Rattle.machine.specs.Sessions.{InRange, is_read}
 use Rattle.machine_laws.specs.Views.{Sized}
 use Rattle.machine_laws.specs.TestLaws.{holds, is_true}
 use Rattle.machine_theorems.specs.Soundness.Stores.{SoundStore, sound-store_of, sound_store_sound}
-use Rattle.machine_theorems.specs.Soundness.Sessions.{AllInRange, forget-sound_store, lent_sound_store, fresh_sound_store}
+use Rattle.machine_theorems.specs.Soundness.Sessions.{AllInRange, forget_sound_store, lent_sound_store, fresh_sound_store}
 use Rattle.boundary_lent.specs.Boundary.{Memory, memory_of, memory_step}
 use Rattle.boundary_laws.specs.HostSessions.{store_held, after_event, after_read, after_any, HostSession, host_send, host_send_all, host_session}
 
@@ -22,7 +22,7 @@ event_keeps : (m : Memory) (e : Event) → InRange e → SoundStore (store_held 
 unfolding memory_step
 event_keeps m e i h =
     let x : Lent = lent_step (store_held m) m.calls e in
-    let kept : SoundStore (forget x.store) = forget-sound_store x.store (lent_sound_store (store_held m) m.calls e h i) in
+    let kept : SoundStore (forget x.store) = forget_sound_store x.store (lent_sound_store (store_held m) m.calls e h i) in
     let same : forget x.store ≡ store_of x.store.tasks x.store.objects x.store.places x.store.queue [] = unfold forget in refl in
     subst SoundStore same kept
 

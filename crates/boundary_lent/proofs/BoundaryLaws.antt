@@ -121,6 +121,6 @@ unfolding slices_right
 reads_soundly ts os ps q e i k c = read-sound ts os ps q [] e refl i (sym k) refl c
 
 -- the objects of slices of the right lengths
-pub objects-right : (ts os ps : List ℕ) (q : ReadyQueue) → slices_right (store_of ts os ps q []) ≡ true → length os ≡ objects_length
+pub objects_right : (ts os ps : List ℕ) (q : ReadyQueue) → slices_right (store_of ts os ps q []) ≡ true → length os ≡ objects_length
 unfolding slices_right
-objects-right ts os ps q i = (slices_have (length ts) (length os) (length ps) refl i).1
+objects_right ts os ps q i = (slices_have (length ts) (length os) (length ps) refl i).1

@@ -59,7 +59,7 @@ fn ready(src: &mut [u8], from: usize, filled: usize) -> Input
 }
 
 // A fresh session, and its records window by window, until the input ends, one is refused with 11, or a write fails. The loop's own end is never met before the
-// numbers of 64 bits are used up: each window takes a record or is the last (`window-goes_up`; the loop's measure rests on it). Its invariant
+// numbers of 64 bits are used up: each window takes a record or is the last (`window_goes_up`; the loop's measure rests on it). Its invariant
 // says that the windows so far are those of the input that was read (`Stands`): their lines together are the driver's (`program_is_drive`).
 fn run(src: &mut [u8], out: &mut [u8])
     requires record_limit_in_bounds { record_limit ≤ length src.old }

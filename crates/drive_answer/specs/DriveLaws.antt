@@ -44,9 +44,9 @@ pub event_drove : (u : Store) (l : List ℕ) (e : machine.Event) (next number : 
 unfolding answered
 event_drove u l e next number a k {ts} {os} {ps} {cs} {q} h w = record {
   store_is = ap (λ (z : Lent). z.store) h;
-  list-is = ap (λ (z : Lent). z.list) h;
-  next-is = refl;
-  going-is = refl;
+  list_is = ap (λ (z : Lent). z.list) h;
+  next_is = refl;
+  going_is = refl;
   wrote = wrote_event number (store_of ts os ps q (lent_step u l e).store.log) u cs l a k e h w;
 }
 
@@ -96,9 +96,9 @@ pub show_drove : (ts os ps : List ℕ) (q : ReadyQueue) (k : List LogEntry) (l :
 unfolding answered
 show_drove ts os ps q k l o next number r h w = record {
   store_is = refl;
-  list-is = refl;
-  next-is = refl;
-  going-is = refl;
+  list_is = refl;
+  next_is = refl;
+  going_is = refl;
   wrote = wrote_show number ps (store_of ts os ps q k) o r h w;
 }
 
@@ -110,9 +110,9 @@ pub eager_drove : (ts os ps : List ℕ) (q : ReadyQueue) (k : List LogEntry) (l 
 unfolding answered
 eager_drove ts os ps q k l next number a h w = record {
   store_is = refl;
-  list-is = refl;
-  next-is = refl;
-  going-is = refl;
+  list_is = refl;
+  next_is = refl;
+  going_is = refl;
   wrote = wrote_eager number os (store_of ts os ps q k) a h w;
 }
 
@@ -121,7 +121,7 @@ pub refused_drove : (ts os ps : List ℕ) (q : ReadyQueue) (k : List LogEntry) (
     → Wrote 50 x y (line number (machine.Answer.refused 11))
     → Drove ts os ps q l next false x y (refused_11 (store_of ts os ps q k) l next number)
 unfolding refused_11
-refused_drove ts os ps q k l next number w = record { store_is = refl; list-is = refl; next-is = refl; going-is = refl; wrote = at_most (omega arith) w }
+refused_drove ts os ps q k l next number w = record { store_is = refl; list_is = refl; next_is = refl; going_is = refl; wrote = at_most (omega arith) w }
 
 -- ---- the same
 
@@ -158,7 +158,7 @@ asks_inside src from Record.Eager e = tt
 
 -- A record that is an event of the code: no items are looked at, and its results stand within the input.
 pub record AsksEvent (src : List ℕ) (r : Record) (x : Asks) : Type 0 where
-  pub is-event : asked src r ≡ Asked.event (event_of (0 ∷ []) (take (x.count * 14) (drop x.first src)) x.event)
+  pub is_event : asked src r ≡ Asked.event (event_of (0 ∷ []) (take (x.count * 14) (drop x.first src)) x.event)
   pub inside : x.first + x.count * 14 ≤ length src
   pub fits : RecordFits r
 
@@ -170,7 +170,7 @@ pub asks_drove : (src : List ℕ) {r : Record} {x : Asks} (u : Store) (l : List 
 asks_drove src {r} {x} u l next number a w =
     same_drives
     (ap (λ (bs : List ℕ). answered u l next number (Asked.event (event_of (0 ∷ []) bs x.event))) (part_is src x.first (x.count * 14))
-    ∙ ap (answered u l next number) (sym a.is-event))
+    ∙ ap (answered u l next number) (sym a.is_event))
     w
 
 -- ---- one record
@@ -180,7 +180,7 @@ pub end_drove : (ts os ps : List ℕ) (q : ReadyQueue) (k : List LogEntry) (l sr
     → parse src from ≡ Parsed.End
     → Drove ts os ps q l from false x x (drive_one (store_of ts os ps q k) l src from number)
 unfolding drive_one drive_by
-end_drove ts os ps q k l src from number e = rw e (record { store_is = refl; list-is = refl; next-is = refl; going-is = refl; wrote = at_most (omega arith) (wrote_none _) })
+end_drove ts os ps q k l src from number e = rw e (record { store_is = refl; list_is = refl; next_is = refl; going_is = refl; wrote = at_most (omega arith) (wrote_none _) })
 
 -- no record
 pub none_drove : (ts os ps : List ℕ) (q : ReadyQueue) (k : List LogEntry) (l src : List ℕ) (from number : ℕ) {x y : Out}

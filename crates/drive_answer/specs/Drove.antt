@@ -17,9 +17,9 @@ use Rattle.drive_answer.specs.declared.answered.Driven.{Driven}
 -- the place of the next record and whether it is to be read; and from `before` to `after` the bytes of x were written, at most 8,192.
 pub record Drove (ts os ps : List ℕ) (q : ReadyQueue) (cs : List ℕ) (next : ℕ) (going : Bool) (before after : Out) (x : Drives) : Type 0 where
   pub store_is : store_of ts os ps q x.store.log ≡ x.store
-  pub list-is : cs ≡ x.list
-  pub next-is : next ≡ x.next
-  pub going-is : going ≡ x.going
+  pub list_is : cs ≡ x.list
+  pub next_is : next ≡ x.next
+  pub going_is : going ≡ x.going
   pub wrote : Wrote line_limit before after x.text
 
 -- The call leaves and writes what f says of the store and of the call list before it.

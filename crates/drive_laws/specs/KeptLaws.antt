@@ -14,7 +14,7 @@ use Rattle.machine_laws.specs.Views.{Sized}
 use Rattle.machine_laws.specs.TestLaws.{is_true}
 use Rattle.machine_theorems.specs.Soundness.Stores.{SoundStore, sound_store_sound}
 use Rattle.machine.specs.Sessions.{InRange}
-use Rattle.machine_theorems.specs.Soundness.Sessions.{forget-sound_store, fresh_sound_store, lent_sound_store}
+use Rattle.machine_theorems.specs.Soundness.Sessions.{forget_sound_store, fresh_sound_store, lent_sound_store}
 use Rattle.exec_switch.specs.Answer.{stepped_of}
 use Rattle.exec_switch.specs.declared.answer.Answer.{Answer}
 use Rattle.drive_text.specs.Out.{Out}
@@ -68,9 +68,9 @@ drives_sound_store s l src from number h i = by (parse src from) i
 sized-right : (s : Store) → Sized s → slices_right s ≡ true
 unfolding slices_right
 sized-right s h = rw (
-  eq-eqb (length s.tasks) tasks_length h.tasks-sized,
-  eq-eqb (length s.objects) objects_length h.objects-sized,
-  eq-eqb (length s.places) places_length h.places-sized,
+  eq-eqb (length s.tasks) tasks_length h.tasks_sized,
+  eq-eqb (length s.objects) objects_length h.objects_sized,
+  eq-eqb (length s.places) places_length h.places_sized,
 )
 
 begins-fresh : (s : Store) → slices_right s ≡ true → (lent_begin s).store ≡ fresh
@@ -82,7 +82,7 @@ module _ {ts os ps : List ℕ} {q : ReadyQueue} where
   unlogged : (s : Store) → SoundStore s → store_of ts os ps q s.log ≡ s → SoundStore (store_of ts os ps q [])
   unlogged s h e =
       let f : forget (store_of ts os ps q s.log) ≡ store_of ts os ps q [] = unfold forget in refl in
-      subst SoundStore (ap forget (sym e) ∙ f) (forget-sound_store s h)
+      subst SoundStore (ap forget (sym e) ∙ f) (forget_sound_store s h)
 
   -- after a record
   pub record_sound_store : (s : Store) (l src : List ℕ) (from number : ℕ) {cs : List ℕ} {next : ℕ} {going : Bool} {x y : Out} → SoundStore s → ParsedFits (parse src from)
@@ -93,13 +93,13 @@ module _ {ts os ps : List ℕ} {q : ReadyQueue} where
   module _ (s : Store) (a : Answer) (t : length s.tasks ≡ tasks_length) (o : length s.objects ≡ objects_length) (p : length s.places ≡ places_length)
       (e : stepped_of (store_of ts os ps q (lent_begin s).store.log) a ≡ lent_begin s) where
     begun : (lent_begin s).store ≡ fresh
-    begun = begins-fresh s (sized-right s (record { tasks-sized = t; objects-sized = o; places-sized = p }))
+    begun = begins-fresh s (sized-right s (record { tasks_sized = t; objects_sized = o; places_sized = p }))
 
     pub begun_fresh : store_of ts os ps q (lent_begin s).store.log ≡ fresh
     begun_fresh = ap (λ (x : Step). x.store) e ∙ begun
 
-    pub begun-sound_store : SoundStore (store_of ts os ps q [])
-    begun-sound_store = unlogged (lent_begin s).store (subst SoundStore (sym begun) fresh_sound_store) (ap (λ (x : Step). x.store) e)
+    pub begun_sound_store : SoundStore (store_of ts os ps q [])
+    begun_sound_store = unlogged (lent_begin s).store (subst SoundStore (sym begun) fresh_sound_store) (ap (λ (x : Step). x.store) e)
 
   -- The lengths, and soundness, as the code asks them.
   module _ (h : SoundStore (store_of ts os ps q [])) where

@@ -72,14 +72,14 @@ module _ (s : Store) (n : ℕ) where
   pub cut-settled : step s (Event.settled (list_value n)) ≡ step s (Event.settled (Value.List (heap_id n)))
   cut-settled =
       cut_has (λ m. step s (Event.settled (list m)) ≡ step s (Event.settled (list n))) n refl
-      (λ l. same-refusal s (Event.settled (list 65535)) (Event.settled (list n)) _ (settled-refused s 65535 (omega (arith, (header-fits s).made-fits))) (settled-refused s n (omega (arith, l, (header-fits s).made-fits))))
+      (λ l. same-refusal s (Event.settled (list 65535)) (Event.settled (list n)) _ (settled-refused s 65535 (omega (arith, (header-fits s).made_fits))) (settled-refused s n (omega (arith, l, (header-fits s).made_fits))))
 
   pub cut-complete : step s (Event.complete (list_value n)) ≡ step s (Event.complete (Value.List (heap_id n)))
   cut-complete =
       cut_has (λ m. step s (Event.complete (list m)) ≡ step s (Event.complete (list n))) n refl
-      (λ l. same-refusal s (Event.complete (list 65535)) (Event.complete (list n)) _ (complete-refused s 65535 (omega (arith, (header-fits s).made-fits))) (complete-refused s n (omega (arith, l, (header-fits s).made-fits))))
+      (λ l. same-refusal s (Event.complete (list 65535)) (Event.complete (list n)) _ (complete-refused s 65535 (omega (arith, (header-fits s).made_fits))) (complete-refused s n (omega (arith, l, (header-fits s).made_fits))))
 
   pub cut-pending : (c : ℕ) → step s (Event.pending c (OptionValue.Some (list_value n))) ≡ step s (Event.pending c (OptionValue.Some (Value.List (heap_id n))))
   cut-pending c =
       cut_has (λ m. step s (Event.pending c (OptionValue.Some (list m))) ≡ step s (Event.pending c (OptionValue.Some (list n)))) n refl
-      (λ l. same-refusal s (Event.pending c (OptionValue.Some (list 65535))) (Event.pending c (OptionValue.Some (list n))) _ (pending-refused s 65535 (omega (arith, (header-fits s).made-fits)) c) (pending-refused s n (omega (arith, l, (header-fits s).made-fits)) c))
+      (λ l. same-refusal s (Event.pending c (OptionValue.Some (list 65535))) (Event.pending c (OptionValue.Some (list n))) _ (pending-refused s 65535 (omega (arith, (header-fits s).made_fits)) c) (pending-refused s n (omega (arith, l, (header-fits s).made_fits)) c))

@@ -30,12 +30,12 @@ EndsAt Record.Eager next = Unit {0}
 
 -- a record of kind `kind` at place `at` that is m bytes long
 pub record Fits (kind at m : ℕ) (r : Record) : Type 0 where
-  pub kind-is : record_kind r ≡ kind
-  pub has-head : 3 ≤ m
+  pub kind_is : record_kind r ≡ kind
+  pub has_head : 3 ≤ m
   pub ends_at : EndsAt r (at + m)
 
 fits : {kind at m : ℕ} {r : Record} → record_kind r ≡ kind → 3 ≤ m → EndsAt r (at + m) → Fits kind at m r
-fits k h e = record { kind-is = k; has-head = h; ends_at = e }
+fits k h e = record { kind_is = k; has_head = h; ends_at = e }
 
 -- the same, if there is a record
 abbrev pub FitsIf : ℕ → ℕ → ℕ → Option Record → Type 0
@@ -83,7 +83,7 @@ contents_fit s at kind =
 
 -- a record that fits between its place and the end of the bytes
 pub record Inside (s : List ℕ) (at : ℕ) (r : Record) (next : ℕ) : Type 0 where
-  pub kind-byte : record_kind r ≡ le1 s (at + 2)
+  pub kind_byte : record_kind r ≡ le1 s (at + 2)
   pub size_is : next ≡ at + size (le1 s (at + 2)) (le1 s (at + 3))
   pub head : at + 3 ≤ next
   pub behind : at < next
@@ -99,7 +99,7 @@ InsideIf s at (Parsed.Record r next) = Inside s at r next
 found_inside : (s : List ℕ) (at m : ℕ) (o : Option Record) → m ≡ size (le1 s (at + 2)) (le1 s (at + 3)) → m ≤ length s - at → FitsIf (le1 s (at + 2)) at m o → InsideIf s at (found o (at + m))
 found_inside s at m none e h f = tt
 found_inside s at m (some r) e h f =
-    record { kind-byte = f.kind-is; size_is = rw e; head = omega (arith, f.has-head); behind = omega (arith, f.has-head); within = omega (arith, f.has-head); ends = f.ends_at }
+    record { kind_byte = f.kind_is; size_is = rw e; head = omega (arith, f.has_head); behind = omega (arith, f.has_head); within = omega (arith, f.has_head); ends = f.ends_at }
 
 kind_inside : (s : List ℕ) (at : ℕ) → InsideIf s at (parse_kind s at (le1 s (at + 2)))
 unfolding parse_kind

@@ -54,8 +54,8 @@ module _ (h : List Entry) (s u : Store) (q : forget s ≡ forget u) where
     sound = λ e a. d.sound e (ap (λ (x : Step). x.answer) (sym (step-alike s u e q)) ∙ a);
     queue = subst (λ (z : ReadyQueue). QueueRight h (entries z)) queue-alike d.queue;
     places = λ g. places-alike g (d.places g);
-    waits-right = d.waits-right;
-    no-stall = d.no-stall;
+    waits_right = d.waits_right;
+    no_stall = d.no_stall;
   }
 
 -- Of every input whose events are in range, with every call list: demand 3 of the session of its records, and of the store that they leave.
@@ -71,8 +71,8 @@ driven_holds l src i = driven_demand_three demand_three l src i
 -- Where the lengths are right the call was the session of the records' events, whose numbers are in range: the slices and the queue are its store, and the
 -- lines of its answers were written, with that of an 11 where one ended it.
 pub record RanSession (l src ts os ps : List ℕ) (r : DrivenSession) (start end : Out) : Type 0 where
-  pub in-range : AllSentInRange (sent_by src l)
-  pub records-are : r.records ≡ length (sent_by src l)
+  pub in_range : AllSentInRange (sent_by src l)
+  pub records_are : r.records ≡ length (sent_by src l)
   pub store_is : store_of ts os ps r.queue [] ≡ forget (session (sent_by src l)).store
   pub wrote : Wrote (line_limit * suc r.records) start end (output 1 (answers_in (session (sent_by src l)).history) ++ last_line r.refusal (suc r.records))
 
@@ -94,8 +94,8 @@ module _ (s : Store) (l src : List ℕ) (right : lengths_right s l ≡ true) {ts
       i.text_is ∙ ap (λ (n : ℕ). output 1 (answers_in (session (sent_by src l)).history) ++ last_line n (suc (length (sent_by src l)))) (sym d.refusal_is)
       ∙ ap (λ (n : ℕ). output 1 (answers_in (session (sent_by src l)).history) ++ last_line r.refusal (suc n)) (sym d.records_is) in
       record {
-        in-range = d.in-range;
-        records-are = d.records_is;
+        in_range = d.in_range;
+        records_are = d.records_is;
         store_is = sym f ∙ ap forget d.store_is ∙ i.store_is;
         wrote = subst (Wrote (line_limit * suc r.records) start end) t (subst (λ (n : ℕ). Wrote (line_limit * suc n) start end x.text) (sym d.records_is) d.wrote);
       }
@@ -104,7 +104,7 @@ module _ (s : Store) (l src : List ℕ) (right : lengths_right s l ≡ true) {ts
   pub call_demand_three : DemandThree → (k : List LogEntry) → Demand3 (session (sent_by src l)).history (store_of ts os ps r.queue k)
   call_demand_three d k =
       let f : forget (store_of ts os ps r.queue k) ≡ store_of ts os ps r.queue [] = unfold forget in refl in
-      demand_alike _ _ (session (sent_by src l)).store (f ∙ call-is-session.store_is) (d (sent_by src l) call-is-session.in-range)
+      demand_alike _ _ (session (sent_by src l)).store (f ∙ call-is-session.store_is) (d (sent_by src l) call-is-session.in_range)
 
   -- Demand 3 of what a caller has after the call.
   pub call_holds : (k : List LogEntry) → Demand3 (session (sent_by src l)).history (store_of ts os ps r.queue k)

@@ -97,12 +97,12 @@ pub record Left (l src : List ℕ) (start : Out) (ts os ps cs : List ℕ) (q : R
   pub log : List LogEntry
   pub text : List ℕ
   pub sent : List Sent
-  pub rest-is : behind text sent (drive_all_rest (store_of ts os ps q log) cs src from number) ≡ drive_all l src
+  pub rest_is : behind text sent (drive_all_rest (store_of ts os ps q log) cs src from number) ≡ drive_all l src
   pub wrote : Wrote (line_limit * length sent) start here text
   pub number_is : number ≡ suc (length sent)
   pub few : length sent ≤ from
   pub inside : from ≤ length src
-  pub in-range : AllSentInRange sent
+  pub in_range : AllSentInRange sent
   pub whole : SoundStore (store_of ts os ps q [])
 
 -- at the beginning
@@ -111,12 +111,12 @@ left-begins l src start {ts} {os} {ps} {q} e = record {
   log = [];
   text = [];
   sent = [];
-  rest-is = behind-none _ ∙ ap (λ (s : Store). drive_all_rest s l src 0 1) e ∙ (unfold drive_all in refl);
+  rest_is = behind-none _ ∙ ap (λ (s : Store). drive_all_rest s l src 0 1) e ∙ (unfold drive_all in refl);
   wrote = at_most (omega arith) (wrote_none start);
   number_is = refl;
   few = omega arith;
   inside = omega arith;
-  in-range = unfold AllSentInRange in tt;
+  in_range = unfold AllSentInRange in tt;
   whole = subst SoundStore (sym e) fresh_sound_store;
 }
 
@@ -128,30 +128,30 @@ module _ {l src : List ℕ} {start here : Out} {ts os ps cs : List ℕ} {q : Rea
 
   -- one record was read, and the driver goes on
   pub left_onward : not going ≡ false → Onward src from next
-  left_onward g = subst (Onward src from) (sym (d h.log).next-is) (going_on _ cs src from number (sym (d h.log).going-is ∙ not-false going g))
+  left_onward g = subst (Onward src from) (sym (d h.log).next_is) (going_on _ cs src from number (sym (d h.log).going_is ∙ not-false going g))
 
   pub left-turn : ParsedFits (parse src from) → not going ≡ false → Left l src start ts' os' ps' cs' q' next (number + 1) there
   left-turn i g =
       let w = d h.log in
-      let goes : one.going ≡ true = sym w.going-is ∙ not-false going g in
+      let goes : one.going ≡ true = sym w.going_is ∙ not-false going g in
       let more : List Sent = sent_of cs src (parse src from) in
       let count : length (h.sent ++ more) ≡ suc (length h.sent) =
       length-append h.sent more ∙ ap (λ (n : ℕ). length h.sent + n) (one_sent _ cs src from number goes) ∙ add-one _ in
       let o = left_onward g in
       let rest : drive_all_rest (store_of ts' os' ps' q' one.store.log) cs' src next (number + 1) ≡ drive_all_rest one.store one.list src one.next (number + 1) =
-      ap (λ (s : Store). drive_all_rest s cs' src next (number + 1)) w.store_is ∙ ap (λ (c : List ℕ). drive_all_rest one.store c src next (number + 1)) w.list-is
-      ∙ ap (λ (n : ℕ). drive_all_rest one.store one.list src n (number + 1)) w.next-is in
+      ap (λ (s : Store). drive_all_rest s cs' src next (number + 1)) w.store_is ∙ ap (λ (c : List ℕ). drive_all_rest one.store c src next (number + 1)) w.list_is
+      ∙ ap (λ (n : ℕ). drive_all_rest one.store one.list src n (number + 1)) w.next_is in
       record {
         log = one.store.log;
         text = h.text ++ one.text;
         sent = h.sent ++ more;
-        rest-is = ap (behind (h.text ++ one.text) (h.sent ++ more)) rest ∙ sym (behind-behind h.text one.text h.sent more _)
-            ∙ ap (behind h.text h.sent) (sym (all_goes_on _ cs src from number goes)) ∙ h.rest-is;
+        rest_is = ap (behind (h.text ++ one.text) (h.sent ++ more)) rest ∙ sym (behind-behind h.text one.text h.sent more _)
+            ∙ ap (behind h.text h.sent) (sym (all_goes_on _ cs src from number goes)) ∙ h.rest_is;
         wrote = at_most (omega (arith, count)) (then h.wrote w.wrote);
         number_is = omega (arith, count, h.number_is);
         few = omega (arith, count, h.few, o.behind);
         inside = o.within;
-        in-range = append_in_range h.sent more h.in-range (sent_in_range cs src (parse src from) i);
+        in_range = append_in_range h.sent more h.in_range (sent_in_range cs src (parse src from) i);
         whole = record_sound_store _ cs src from number h.whole i (d []);
       }
 
@@ -161,18 +161,18 @@ module _ {l src : List ℕ} {start here : Out} {ts os ps cs : List ℕ} {q : Rea
   unfolding behind stopped AllSentInRange
   all_done g at =
       let w = d h.log in
-      let stops : one.going ≡ false = sym w.going-is ∙ not-true going g in
+      let stops : one.going ≡ false = sym w.going_is ∙ not-true going g in
       let none : length (h.sent ++ []) ≡ length h.sent = ap length (append-nil h.sent) in
       let whole_is : behind h.text h.sent (stopped (parse_refusal (parse src from)) one) ≡ drive_all l src =
-      ap (behind h.text h.sent) (sym (all_stops _ cs src from number stops)) ∙ h.rest-is in
+      ap (behind h.text h.sent) (sym (all_stops _ cs src from number stops)) ∙ h.rest_is in
       subst (DroveAll ts' os' ps' cs' _ start there) whole_is (record {
         store_is = w.store_is;
-        list-is = w.list-is;
-        refusal_is = ap (stop_refusal (length src)) w.next-is ∙ stops_with _ cs src from number stops;
-        next-is = w.next-is;
+        list_is = w.list_is;
+        refusal_is = ap (stop_refusal (length src)) w.next_is ∙ stops_with _ cs src from number stops;
+        next_is = w.next_is;
         records_is = omega (arith, none, h.number_is);
         wrote = at_most (omega (arith, none)) (then h.wrote w.wrote);
-        in-range = append_in_range h.sent [] h.in-range tt;
+        in_range = append_in_range h.sent [] h.in_range tt;
       })
 
 -- the end, as the code returns it
@@ -212,10 +212,10 @@ module _ (ts os ps cs src : List ℕ) (q : ReadyQueue) (l : List LogEntry) {b : 
   unfolding lent_session lengths_right slices_right AllSentInRange
   session-refused i r start eq er ec en = rw (sym e ∙ i) (record {
     store_is = ap (λ (z : ReadyQueue). store_of ts os ps z l) eq;
-    list-is = refl;
+    list_is = refl;
     refusal_is = er;
-    next-is = en;
+    next_is = en;
     records_is = ec;
     wrote = at_most (omega arith) (wrote_none start);
-    in-range = tt;
+    in_range = tt;
   })

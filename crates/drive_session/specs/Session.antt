@@ -17,12 +17,12 @@ use Rattle.drive_session.specs.declared.DrivenSession.{DrivenSession}
 -- an 11. The events' numbers are of 32 bits, as the types of a record give it.
 pub record DroveAll (ts os ps cs : List ℕ) (r : DrivenSession) (start end : Out) (x : DrivesAll) : Type 0 where
   pub store_is : store_of ts os ps r.queue x.store.log ≡ x.store
-  pub list-is : cs ≡ x.list
+  pub list_is : cs ≡ x.list
   pub refusal_is : r.refusal ≡ x.refusal
-  pub next-is : r.next ≡ x.next
+  pub next_is : r.next ≡ x.next
   pub records_is : r.records ≡ length x.sent
   pub wrote : Wrote (line_limit * suc (length x.sent)) start end x.text
-  pub in-range : AllSentInRange x.sent
+  pub in_range : AllSentInRange x.sent
 
 -- what is returned where the records of an input of so many bytes end, before the record `number`
 abbrev pub ended_at : Driven → ℕ → ℕ → DrivenSession

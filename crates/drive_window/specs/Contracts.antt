@@ -16,12 +16,12 @@ SoundSession tasks objects places calls queue = SoundStore (store_of tasks objec
 -- number of the next record, whether the driver goes on; and at the buffer's front stand w's lines, whole.
 pub record DroveWindow (ts os ps cs out : List ℕ) (r : Window) (w : DrivesWindow) : Type 0 where
   pub store_is : store_of ts os ps r.queue w.store.log ≡ w.store
-  pub list-is : cs ≡ w.list
-  pub next-is : r.next ≡ w.next
+  pub list_is : cs ≡ w.list
+  pub next_is : r.next ≡ w.next
   pub number_is : r.number ≡ w.number
-  pub going-is : r.going ≡ w.going
+  pub going_is : r.going ≡ w.going
   pub text_is : take r.at out ≡ w.text
-  pub at-is : r.at ≡ length w.text
+  pub at_is : r.at ≡ length w.text
 
 -- The call takes a window, with every log before it; it leaves a session's memory.
 abbrev pub DrivesOneWindow : Slice → Slice → Slice → Slice → ReadyQueue → Words → ℕ → Bool → Slice → ℕ → Window → Type 0

@@ -7,7 +7,7 @@ use Rattle.drive_reader.specs.Windows.{record_limit}
 -- as a record can be, so many are unread.
 pub record Refilled (before after : List ℕ) (from filled from' filled' : ℕ) : Type 0 where
   pub more : List ℕ
-  pub unread-is : slice from' filled' after ≡ slice from filled before ++ more
+  pub unread_is : slice from' filled' after ≡ slice from filled before ++ more
   pub in_order : from' ≤ filled'
   pub within : filled' ≤ length after
   pub whole : record_limit ≤ length after → length after ≤ filled' → record_limit ≤ filled' - from'

@@ -53,7 +53,7 @@ module _ (before moved new tail : List ℕ) (from filled got : ℕ) (a : from �
       let n : length (new ++ tail) ≡ length new + length tail = length-append new tail in
       record {
         more = take got new;
-        unread-is =
+        unread_is =
             ap (λ (k : ℕ). take (k + got) (take rest moved ++ (new ++ tail))) (sym p) ∙ take-append-add (take rest moved) (new ++ tail) got
             ∙ ap (λ (l : List ℕ). take rest moved ++ l) (take-append-le got new tail g) ∙ ap (λ (l : List ℕ). l ++ take got new) front;
         in_order = omega arith;
@@ -64,6 +64,6 @@ module _ (before moved new tail : List ℕ) (from filled got : ℕ) (a : from �
 -- The buffer stays as it is.
 pub read-nothing : (src : List ℕ) (from filled : ℕ) → from ≤ filled → filled ≤ length src → (length src ≤ filled → record_limit ≤ filled - from) → Readied src src from filled from filled
 read-nothing src from filled a b w = record {
-  refilled = record { more = []; unread-is = sym (append-nil _); in_order = a; within = b; whole = λ x y. w y };
+  refilled = record { more = []; unread_is = sym (append-nil _); in_order = a; within = b; whole = λ x y. w y };
   ended = λ h. (refl, h);
 }

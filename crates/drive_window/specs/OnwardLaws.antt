@@ -80,10 +80,10 @@ module _ (ended : Bool) (size : ℕ) (src : List ℕ) where
       by false d = sym (takes_whole ended (length src) from size 0 number room n d (sym (le-leb record_limit (length src - from) (w d))))
 
   -- A window that has a whole record, or is the input's last, and room for a line, takes a record: it stops, or the number goes up.
-  pub window-goes_up : (s : Store) (l : List ℕ) (from number : ℕ) → line_limit ≤ size → number < last_number → (ended ≡ false → record_limit ≤ length src - from)
+  pub window_goes_up : (s : Store) (l : List ℕ) (from number : ℕ) → line_limit ≤ size → number < last_number → (ended ≡ false → record_limit ≤ length src - from)
       → (drive_window ended size s l src from number).going ≡ true → number < (drive_window ended size s l src from number).number
   unfolding drive_window window_rest window_from
-  window-goes_up s l from number r n w =
+  window_goes_up s l from number r n w =
       let x : Drives = drive_one s l src from number in
       turn-goes-up (takes ended (length src) from size 0 number) x.going x.text _ x s l from number (first_taken from number r n w)
       (number_up (length src - from) x.store x.list x.next (0 + length x.text) (number + 1))
@@ -93,7 +93,7 @@ module _ (ended : Bool) (size : ℕ) (src : List ℕ) where
 -- the lines are whole in the buffer
 pub drove_fits : {ts os ps cs out : List ℕ} {r : Window} {w : DrivesWindow} → DroveWindow ts os ps cs out r w → r.at ≤ length out
 drove_fits {out = out} {r = r} d =
-    let n : min r.at (length out) ≡ r.at = sym (length-take r.at out) ∙ (ap length d.text_is ∙ sym d.at-is) in
+    let n : min r.at (length out) ≡ r.at = sym (length-take r.at out) ∙ (ap length d.text_is ∙ sym d.at_is) in
     subst (λ (k : ℕ). k ≤ length out) n (min-le_right r.at (length out))
 
 -- where the window is what is filled of a buffer
@@ -103,10 +103,10 @@ module _ (ended : Bool) (size : ℕ) (s : Store) (l src : List ℕ) (from filled
   drove_goes_up a b w =
       let n : length (take filled src) ≡ filled = length-take-le filled src h in
       subst (λ (k : ℕ). number < k) (sym d.number_is)
-      (window-goes_up ended size (take filled src) s l from number a b (λ e. subst (λ (k : ℕ). record_limit ≤ k - from) (sym n) (w e)) (sym d.going-is ∙ g))
+      (window_goes_up ended size (take filled src) s l from number a b (λ e. subst (λ (k : ℕ). record_limit ≤ k - from) (sym n) (w e)) (sym d.going_is ∙ g))
 
   pub drove_within : from ≤ filled → r.next ≤ filled
   drove_within i =
       let n : length (take filled src) ≡ filled = length-take-le filled src h in
-      let w = window_within ended size (take filled src) s l from number (subst (λ (k : ℕ). from ≤ k) (sym n) i) (sym d.going-is ∙ g) in
-      omega (arith, n, w, d.next-is)
+      let w = window_within ended size (take filled src) s l from number (subst (λ (k : ℕ). from ≤ k) (sym n) i) (sym d.going_is ∙ g) in
+      omega (arith, n, w, d.next_is)

@@ -64,7 +64,7 @@ module _ (size : ℕ) (t : Turn) where
       ∙ (windows_go_on ended size t.store t.list window (more ++ later) t.from t.number in_window (λ e. none (ltb-true _ _ e)) g
       (window_within ended size window t.store t.list t.from t.number inside g)
       ∙ ap (λ (y : List ℕ). w.text ++ drive_rest w.store w.list y 0 w.number)
-      (sym (append_assoc (slice w.next t.filled t.buffer) more later) ∙ ap (λ (y : List ℕ). y ++ later) (sym r.refilled.unread-is)))
+      (sym (append_assoc (slice w.next t.filled t.buffer) more later) ∙ ap (λ (y : List ℕ). y ++ later) (sym r.refilled.unread_is)))
 
 -- ---- all of them
 
@@ -73,7 +73,7 @@ pub reached-is-drive : {size : ℕ} {t : Turn} {read wrote : List ℕ} → Reach
     → drive (read ++ later) ≡ wrote ++ left_of t later
 unfolding drive
 reached-is-drive (Reached.begins empty buffer from filled r b) later none =
-    ap (λ (y : List ℕ). drive_rest fresh (replicate object_limit 0) (y ++ later) 0 1) (sym r.unread-is)
+    ap (λ (y : List ℕ). drive_rest fresh (replicate object_limit 0) (y ++ later) 0 1) (sym r.unread_is)
 reached-is-drive {size = size} (Reached.goes t read wrote after from' filled' x g r b) later none =
     let more : List ℕ = r.refilled.more in
     let w : DrivesWindow = window_of size t in
@@ -114,7 +114,7 @@ stands_goes_on {size} {ts} {os} {ps} {cs} {src} {q} {from} {filled} {number} h {
     let x : DrivesWindow = drive_window (ltb filled (length src)) size (store_of ts os ps q h.log) cs (take filled src) from number in
     let d : DroveWindow ts' os' ps' cs' out w x =
     subst (λ (n : ℕ). DroveWindow ts' os' ps' cs' out w (drive_window (ltb filled (length src)) n (store_of ts os ps q h.log) cs (take filled src) from number)) same (d' h.log) in
-    let r : Readied src after x.next filled from' filled' = subst (λ (n : ℕ). Readied src after n filled from' filled') d.next-is r' in
+    let r : Readied src after x.next filled from' filled' = subst (λ (n : ℕ). Readied src after n filled from' filled') d.next_is r' in
     let read : List ℕ = h.read ++ r.refilled.more in
     let wrote : List ℕ = h.wrote ++ x.text in
     record {
@@ -126,7 +126,7 @@ stands_goes_on {size} {ts} {os} {ps} {cs} {src} {q} {from} {filled} {number} h {
       bytes = b;
       reached =
           subst (λ (s : Store). Reached size (turn_of s cs' w.number r.refilled b) read wrote) (sym d.store_is)
-          (subst (λ (l : List ℕ). Reached size (turn_of x.store l w.number r.refilled b) read wrote) (sym d.list-is)
+          (subst (λ (l : List ℕ). Reached size (turn_of x.store l w.number r.refilled b) read wrote) (sym d.list_is)
           (subst (λ (n : ℕ). Reached size (turn_of x.store x.list n r.refilled b) read wrote) (sym d.number_is)
-          (Reached.goes _ h.read h.wrote after from' filled' h.reached (sym d.going-is ∙ g) r b)));
+          (Reached.goes _ h.read h.wrote after from' filled' h.reached (sym d.going_is ∙ g) r b)));
     }

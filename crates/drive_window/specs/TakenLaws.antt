@@ -73,16 +73,16 @@ take_front (x ∷ t) z = ap (λ (y : List ℕ). x ∷ y) (take_front t z)
 pub record Taken (ended : Bool) (start : List ℕ) (w : DrivesWindow) (src ts os ps cs out : List ℕ) (q : ReadyQueue) (next at number : ℕ) : Type 0 where
   pub log : List LogEntry
   pub text : List ℕ
-  pub rest-is : behind text (window_rest ended (length start) (store_of ts os ps q log) cs src next at number) ≡ w
+  pub rest_is : behind text (window_rest ended (length start) (store_of ts os ps q log) cs src next at number) ≡ w
   pub wrote : out_of out at ≡ emit (out_of start 0) text
-  pub at-is : at ≡ length text
+  pub at_is : at ≡ length text
   pub room : at ≤ length start
 
 -- at the beginning
 pub taken_begins : (ended : Bool) (start src ts os ps cs : List ℕ) (q : ReadyQueue) (from number : ℕ) (l : List LogEntry)
     → Taken ended start (drive_window ended (length start) (store_of ts os ps q l) cs src from number) src ts os ps cs start q from 0 number
 unfolding emit drive_window
-taken_begins ended start src ts os ps cs q from number l = record { log = l; text = []; rest-is = behind-none _; wrote = refl; at-is = refl; room = omega arith }
+taken_begins ended start src ts os ps cs q from number l = record { log = l; text = []; rest_is = behind-none _; wrote = refl; at_is = refl; room = omega arith }
 
 -- the lines stand at the buffer's front
 front_is : (start out : List ℕ) (at : ℕ) (text : List ℕ) → out_of out at ≡ emit (out_of start 0) text → at ≡ length text → at ≤ length start → take at out ≡ text
@@ -99,15 +99,15 @@ module _ {ended : Bool} {start : List ℕ} {w : DrivesWindow} {src ts os ps cs o
       let t : takes ended (length src) next (length start) at number ≡ false = ap (λ (n : ℕ). takes ended (length src) next n at number) (sym same) ∙ t' in
       let s : Store = store_of ts os ps q h.log in
       let whole : behind h.text (stays s cs next number) ≡ w =
-      ap (behind h.text) (sym (window_turn ended (length start) s cs src next at number ∙ (rw t))) ∙ h.rest-is in
+      ap (behind h.text) (sym (window_turn ended (length start) s cs src next at number ∙ (rw t))) ∙ h.rest_is in
       subst (DroveWindow ts os ps cs out r) whole (unfold behind stays in (record {
         store_is = ap (λ (z : ReadyQueue). store_of ts os ps z h.log) eq;
-        list-is = refl;
-        next-is = en;
+        list_is = refl;
+        next_is = en;
         number_is = ec;
-        going-is = eg;
-        text_is = ap (λ (n : ℕ). take n out) ea ∙ front_is start out at h.text h.wrote h.at-is h.room ∙ sym (append-nil h.text);
-        at-is = ea ∙ (h.at-is ∙ ap length (sym (append-nil h.text)));
+        going_is = eg;
+        text_is = ap (λ (n : ℕ). take n out) ea ∙ front_is start out at h.text h.wrote h.at_is h.room ∙ sym (append-nil h.text);
+        at_is = ea ∙ (h.at_is ∙ ap length (sym (append-nil h.text)));
       }))
 
   module _ (same : length out ≡ length start) (t' : takes ended (length src) next (length out) at number ≡ true)
@@ -129,22 +129,22 @@ module _ {ended : Bool} {start : List ℕ} {w : DrivesWindow} {src ts os ps cs o
     wrote-behind = (d h.log).wrote.emitted ∙ (ap (λ (o : Out). emit o one.text) h.wrote ∙ sym (emit_append (out_of start 0) h.text one.text))
 
     length-behind : at' ≡ length (h.text ++ one.text)
-    length-behind = let n : length (h.text ++ one.text) ≡ length h.text + length one.text = length-append h.text one.text in omega (arith, at-behind, h.at-is, n)
+    length-behind = let n : length (h.text ++ one.text) ≡ length h.text + length one.text = length-append h.text one.text in omega (arith, at-behind, h.at_is, n)
 
     -- where the driver goes on, the place is behind the record
     pub taken_onward : not going ≡ false → Onward src next next'
-    taken_onward g = subst (Onward src next) (sym (d h.log).next-is) (going_on _ cs src next number (sym (d h.log).going-is ∙ not-false going g))
+    taken_onward g = subst (Onward src next) (sym (d h.log).next_is) (going_on _ cs src next number (sym (d h.log).going_is ∙ not-false going g))
 
     -- one record was taken
     pub taken_turn : not going ≡ false → Taken ended start w src ts' os' ps' cs' out' q' next' at' (number + 1)
     taken_turn g =
         let x = d h.log in
-        let goes : one.going ≡ true = sym x.going-is ∙ not-false going g in
+        let goes : one.going ≡ true = sym x.going_is ∙ not-false going g in
         let rest : window_rest ended (length start) (store_of ts' os' ps' q' one.store.log) cs' src next' at' (number + 1)
         ≡ window_rest ended (length start) one.store one.list src one.next (at + length one.text) (number + 1) =
         ap (λ (s : Store). window_rest ended (length start) s cs' src next' at' (number + 1)) x.store_is
-        ∙ (ap (λ (c : List ℕ). window_rest ended (length start) one.store c src next' at' (number + 1)) x.list-is
-        ∙ (ap (λ (n : ℕ). window_rest ended (length start) one.store one.list src n at' (number + 1)) x.next-is
+        ∙ (ap (λ (c : List ℕ). window_rest ended (length start) one.store c src next' at' (number + 1)) x.list_is
+        ∙ (ap (λ (n : ℕ). window_rest ended (length start) one.store one.list src n at' (number + 1)) x.next_is
         ∙ ap (λ (n : ℕ). window_rest ended (length start) one.store one.list src one.next n (number + 1)) at-behind)) in
         let turn : window_rest ended (length start) (store_of ts os ps q h.log) cs src next at number
         ≡ behind one.text (window_rest ended (length start) one.store one.list src one.next (at + length one.text) (number + 1)) =
@@ -152,9 +152,9 @@ module _ {ended : Bool} {start : List ℕ} {w : DrivesWindow} {src ts os ps cs o
         record {
           log = one.store.log;
           text = h.text ++ one.text;
-          rest-is = ap (behind (h.text ++ one.text)) rest ∙ (sym (behind-behind h.text one.text _) ∙ (ap (behind h.text) (sym turn) ∙ h.rest-is));
+          rest_is = ap (behind (h.text ++ one.text)) rest ∙ (sym (behind-behind h.text one.text _) ∙ (ap (behind h.text) (sym turn) ∙ h.rest_is));
           wrote = wrote-behind;
-          at-is = length-behind;
+          at_is = length-behind;
           room = omega (arith, at-behind, fits);
         }
 
@@ -163,15 +163,15 @@ module _ {ended : Bool} {start : List ℕ} {w : DrivesWindow} {src ts os ps cs o
         → DroveWindow ts' os' ps' cs' out' r w
     taken_stops g r eq en ea ec eg =
         let x = d h.log in
-        let ends : one.going ≡ false = sym x.going-is ∙ not-true going g in
+        let ends : one.going ≡ false = sym x.going_is ∙ not-true going g in
         let whole : behind h.text (stops one number) ≡ w =
-        ap (behind h.text) (sym (window_turn ended (length start) (store_of ts os ps q h.log) cs src next at number ∙ (rw (t, ends)))) ∙ h.rest-is in
+        ap (behind h.text) (sym (window_turn ended (length start) (store_of ts os ps q h.log) cs src next at number ∙ (rw (t, ends)))) ∙ h.rest_is in
         subst (DroveWindow ts' os' ps' cs' out' r) whole (unfold behind stops in (record {
           store_is = ap (λ (z : ReadyQueue). store_of ts' os' ps' z one.store.log) eq ∙ x.store_is;
-          list-is = x.list-is;
-          next-is = en ∙ x.next-is;
+          list_is = x.list_is;
+          next_is = en ∙ x.next_is;
           number_is = ec;
-          going-is = eg;
+          going_is = eg;
           text_is = ap (λ (n : ℕ). take n out') ea ∙ front_is start out' at' (h.text ++ one.text) wrote-behind length-behind (omega (arith, at-behind, fits));
-          at-is = ea ∙ length-behind;
+          at_is = ea ∙ length-behind;
         }))

@@ -80,7 +80,7 @@ place_range os g a w i e f h =
 
 -- the object that a place names is in range
 pub item_range : (ps : List ℕ) (p : ℕ) {o : HeapId} → o ≡ (place_at ps p).item → o.0 < object_limit
-item_range ps p e = rw e (place_at-fits ps p).item-fits
+item_range ps p e = rw e (place_at-fits ps p).item_fits
 
 itemed-nested : (s u : Store) (x : machine.Item) → record { store = u; poll = none } ≡ itemed s x → (x ≡ nested) × (s ≡ u)
 itemed-nested s u (polled r) e = absurd_some (ap (λ (y : Itemed). y.poll) e)
@@ -203,7 +203,7 @@ pub walk_counts : (ts os ps : List ℕ) (q : ReadyQueue) (g i : ℕ) (us vs rs :
     → x ≡ ItemStep.Next → count_of (object_at vs g) ≡ count_of (object_at os g)
 unfolding StopKeeps object stepped
 walk_counts ts os ps q g i us vs rs r x a b d h s e =
-    let z : Sized (store_of ts os ps q []) = record { tasks-sized = a; objects-sized = b; places-sized = d } in
+    let z : Sized (store_of ts os ps q []) = record { tasks_sized = a; objects_sized = b; places_sized = d } in
     let k : StopKeeps (store_of ts os ps q []) (step_at (store_of ts os ps q []) g i at_end) =
     step_item_kinds g i (store_of ts os ps q []) at_end z h (λ u y. same_kinds_refl u y) in
     let m : StopKeeps (store_of ts os ps q []) (at_end (store_of us vs rs r (stop_log (step_at (store_of ts os ps q []) g i at_end)))) =

@@ -87,7 +87,7 @@ module _ (ts os ps : List ℕ) (q : ReadyQueue) (g i : ℕ) (a : length ts ≡ t
   log_at l = stop_log (step_gather_commit (store_of ts os ps q l) (frame g i))
 
   sized : (l : List LogEntry) → Sized (store_of ts os ps q l)
-  sized l = record { tasks-sized = a; objects-sized = b; places-sized = c }
+  sized l = record { tasks_sized = a; objects_sized = b; places_sized = c }
 
   keeps : StopKeeps (store_of ts os ps q []) (stopped (store_of us vs rs r (log_at [])) x)
   keeps = rw (s []) (step_kinds (store_of ts os ps q []) (frame g i) (sized []) h)

@@ -47,7 +47,7 @@ module _ (ts os ps : List ℕ) (q : ReadyQueue) where
     module _ (w : Awaiter) (z : length ts ≡ tasks_length) (y : length os ≡ objects_length) (x : length ps ≡ places_length) (h : g.0 < object_limit) (l : List LogEntry)
         (f : settled (store_of ts us rs q l) (Onward.To w) ≡ resolve_child (store_of ts os ps q l) g.0 source.0 v) where
       sized : Sized (store_of ts os ps q l)
-      sized = record { tasks-sized = z; objects-sized = y; places-sized = x }
+      sized = record { tasks_sized = z; objects_sized = y; places_sized = x }
 
       sends : (resolve_child (store_of ts os ps q l) g.0 source.0 v).onward ≡ some w
       sends = sym (ap (λ (r : Settled). r.onward) f)
@@ -91,7 +91,7 @@ module _ (ts os ps : List ℕ) (q : ReadyQueue) (x : Error) where
     module _ (w : Awaiter) (z : length ts ≡ tasks_length) (y : length os ≡ objects_length) (v : length ps ≡ places_length) (h : g.0 < object_limit) (l : List LogEntry)
         (f : settled (store_of ts us ps q l) (Onward.To w) ≡ fail_gather (store_of ts os ps q l) g.0 x) where
       error-sized : Sized (store_of ts os ps q l)
-      error-sized = record { tasks-sized = z; objects-sized = y; places-sized = v }
+      error-sized = record { tasks_sized = z; objects_sized = y; places_sized = v }
 
       error-sends : (fail_gather (store_of ts os ps q l) g.0 x).onward ≡ some w
       error-sends = sym (ap (λ (r : Settled). r.onward) f)

@@ -30,7 +30,7 @@ use Rattle.exec_deliver.specs.Futures.{resolve_at, fail_at}
 pub found_below : (os : List ℕ) (call : ℕ) (n : HeapId) {d : FoundObject} → d ≡ found_object (pending_external_in os call) → d ≡ FoundObject.At n → n.0 < object_limit
 unfolding pending_external_in
 found_below os call n e t =
-    omega (arith, first_below (is_call os call) (header_at os).made 0 n.0 (object-found (first_from (is_call os call) 0 (header_at os).made) n (sym e ∙ t)), (header_at-fits os).made-fits)
+    omega (arith, first_below (is_call os call) (header_at os).made 0 n.0 (object-found (first_from (is_call os call) 0 (header_at os).made) n (sym e ∙ t)), (header_at-fits os).made_fits)
 
 -- the awaiter of a pending external that was read is in range
 pub external_range : (os : List ℕ) (o : ℕ) {x : Object} {c : CallId} {s : ExternalFutureState} {w : Awaiter} {y : OptionValue}

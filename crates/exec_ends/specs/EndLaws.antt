@@ -33,7 +33,7 @@ use Rattle.exec_switch.specs.declared.answer.Answer.{Answer}
 pub success_found : (ts os ps : List ℕ) (q : ReadyQueue) (l : List LogEntry) (a : Awaiter) (v : Value) → length ts ≡ tasks_length → length os ≡ objects_length → length ps ≡ places_length
     → AwaiterFits a → {s : Store} (m : FoundTask) → delivered s m ≡ deliver_awaiter_success (store_of ts os ps q l) a v → FoundFits m
 success_found ts os ps q l a v z y w f m d =
-    by m (success_woken (store_of ts os ps q l) a v (record { tasks-sized = z; objects-sized = y; places-sized = w }) f).fits (ap (λ (k : Delivery). k.woken) d)
+    by m (success_woken (store_of ts os ps q l) a v (record { tasks_sized = z; objects_sized = y; places_sized = w }) f).fits (ap (λ (k : Delivery). k.woken) d)
   where
     by : (n : FoundTask) → ((u : ℕ) → (deliver_awaiter_success (store_of ts os ps q l) a v).woken ≡ some u → u < task_limit)
         → number n ≡ (deliver_awaiter_success (store_of ts os ps q l) a v).woken → FoundFits n

@@ -30,7 +30,7 @@ pub fill_turn : (ps : List ℕ) (m : ℕ) {qs : List ℕ} {k : ℕ} (first sourc
 unfolding fill_from
 fill_turn ps m first source v i n h q =
     let e : n - i ≡ suc (n - (i + 1)) = omega arith in
-    rw e (ap (λ (f : Filled). fill_from f.places f.open-places first source v (i + 1) (n - (i + 1))) q)
+    rw e (ap (λ (f : Filled). fill_from f.places f.open_places first source v (i + 1) (n - (i + 1))) q)
 
 pub fill_end : (ps : List ℕ) (m first source : ℕ) (v : Value) (i n : ℕ) → n ≤ i → filled ps m ≡ fill_from ps m first source v i (n - i)
 unfolding fill_from

@@ -47,7 +47,7 @@ module _ (os : List ℕ) (z : length os ≡ objects_length) (c : CallId) (k : c.
       let f : HeaderFits (header_at os) = header_at-fits os in
       rw (ap (λ (s : Store). s.objects) (g [] [] empty_queue []))
       (ap (λ (x : Header). x.made)
-      (header_at_put os _ (record { made-fits = f.made-fits; used-fits = f.used-fits; calls-fit = omega arith; next_fits = f.next_fits; moment_fits = f.moment_fits }) (omega arith)))
+      (header_at_put os _ (record { made_fits = f.made_fits; used_fits = f.used_fits; calls_fit = omega arith; next_fits = f.next_fits; moment_fits = f.moment_fits }) (omega arith)))
 
   pub settles : c.0 ≡ (header_at os).calls → (v : Value) (ts ps : List ℕ) (q : ReadyQueue) (l : List LogEntry)
       → {vs : List ℕ} → store_of ts vs ps q l ≡ add_object (store_of ts us ps q l) (Object.ExternalFuture c (ExternalFutureState.Resolved v)) 0

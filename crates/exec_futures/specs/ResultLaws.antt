@@ -42,9 +42,9 @@ module _ (ts os ps : List ℕ) (q : ReadyQueue) (l : List LogEntry) (r : Result)
           same_store e refl
 
       module _ (w : kind ≡ 2 → ⊥) {ts' os' ps' : List ℕ} {q' : ReadyQueue} where
-        pub applies_not-found : kind ≡ 3 → store_of ts' os' ps' q' (fail_future here call Error.NotFound).log ≡ fail_future here call Error.NotFound
+        pub applies_not_found : kind ≡ 3 → store_of ts' os' ps' q' (fail_future here call Error.NotFound).log ≡ fail_future here call Error.NotFound
             → store_of ts' os' ps' q' (apply_result here r).log ≡ apply_result here r
-        applies_not-found v d =
+        applies_not_found v d =
             let e : apply_result here r ≡ fail_future here call Error.NotFound =
             unfold apply_result in (rw (← k, ne_eqb kind 0 z, ne_eqb kind 1 y, ne_eqb kind 2 w, eq-eqb kind 3 v, c)) in
             same_store e d

@@ -29,7 +29,7 @@ some_tasks_long = refl
 waiting-same : (os : List ℕ) (q : ReadyQueue) (l : List LogEntry) → length os ≡ objects_length → pending_calls_in (moment_put os Moment.Waiting) ≡ pending_calls_in os
 unfolding pending_call_ids set_moment put_header header moment_put
 waiting-same os q l y =
-    waiting_calls (store_of some-tasks os some-places q l) (record { tasks-sized = some_tasks_long; objects-sized = y; places-sized = some_places_long })
+    waiting_calls (store_of some-tasks os some-places q l) (record { tasks_sized = some_tasks_long; objects_sized = y; places_sized = some_places_long })
 
 module _ (ts os ps : List ℕ) (q : ReadyQueue) (l : List LogEntry) where
   pub runs_now : (t : TaskId) (h : How) {ts' os' : List ℕ} → ts' ≡ task_put ts t.0 (restate (task_at ts t.0) TaskState.Running) → os' ≡ moment_put os (Moment.Running t)

@@ -63,7 +63,7 @@ module _ (ts os ps : List ℕ) (q : ReadyQueue) (l : List LogEntry) where
     by_state : activate here t ≡ activate_state activate here t a
     unfolding task
     by_state =
-        activate-by here t (record { tasks-sized = z; objects-sized = y; places-sized = w }) h
+        activate-by here t (record { tasks_sized = z; objects_sized = y; places_sized = w }) h
         ∙ ap (λ (s : TaskState). activate_state activate here t s) (sym e ∙ f)
 
     pub activate_yields : activate_state activate here t a ≡ yield here → {os' : List ℕ} {q' : ReadyQueue} (c : Control)
@@ -177,14 +177,14 @@ pub start_falls : (ts : List ℕ) (t : ℕ) → length ts ≡ tasks_length → t
     → (os : List ℕ) (q : ReadyQueue) → length os ≡ objects_length → live_in ts ≡ suc (live_in (task_put ts t absent))
 unfolding live_count put_task task
 start_falls ts t z h e f os q y =
-    live-falls (store_of ts os some-places q []) t (record { tasks-sized = z; objects-sized = y; places-sized = some_places_long }) h (rw (← e, f))
+    live-falls (store_of ts os some-places q []) t (record { tasks_sized = z; objects_sized = y; places_sized = some_places_long }) h (rw (← e, f))
 
 -- the words of the tasks when a task has failed: as many live as if it had just gone
 module _ (ts os : List ℕ) (q : ReadyQueue) (t : ℕ) (x : Error) (z : length ts ≡ tasks_length) (y : length os ≡ objects_length) (h : t < task_limit)
     {a : Awaiter} (e : a ≡ (task_at ts t).awaiter) {ts₁ os₁ : List ℕ} {q₁ : ReadyQueue} (m : FoundTask)
     (d : delivered (store_of ts₁ os₁ some-places q₁ (deliver_awaiter_failure (store_of ts os some-places q []) a x).store.log) m ≡ deliver_awaiter_failure (store_of ts os some-places q []) a x) where
   sized : Sized (store_of ts os some-places q [])
-  sized = record { tasks-sized = z; objects-sized = y; places-sized = some_places_long }
+  sized = record { tasks_sized = z; objects_sized = y; places_sized = some_places_long }
 
   awaiter_fits : AwaiterFits a
   awaiter_fits = rw e (task_at-fits ts t).awaiter_fits

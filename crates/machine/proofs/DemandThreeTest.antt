@@ -205,5 +205,5 @@ unfolding demand3_test
 demand3_tested n x k =
     and_both _ _
     (and_both _ _ (and_both _ _ (queue_tested x.history (entries x.store.queue) k.queue) (places_tested n x.history x.store k.sound k.places))
-    (waits_tested n x.history k.waits-right))
-    (goes_tested (cancelled x.history) (goes_on x.history) k.no-stall)
+    (waits_tested n x.history k.waits_right))
+    (goes_tested (cancelled x.history) (goes_on x.history) k.no_stall)

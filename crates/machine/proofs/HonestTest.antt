@@ -61,5 +61,5 @@ pub state_tested : (n : ℕ) (h : List Entry) (s : Store) → StateHonest h s �
 unfolding state_test live_test
 state_tested zero h s k = refl
 state_tested (suc t) h s k =
-    and_both _ _ (if_live (lives h t) _ (λ l. and_both _ _ (bits_same _ _ (k.blocked-is t l)) (not_five (step s (Event.cancel t)).answer (k.alive t l))))
+    and_both _ _ (if_live (lives h t) _ (λ l. and_both _ _ (bits_same _ _ (k.blocked_is t l)) (not_five (step s (Event.cancel t)).answer (k.alive t l))))
     (state_tested t h s k)

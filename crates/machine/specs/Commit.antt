@@ -83,7 +83,7 @@ item_object s g o (Object.GatherFuture f n x) = item_gather s o x
 -- does an open place, one of the k from i on, name the object?
 unfoldable pub open_from : (ℕ → Place) → AwaitedGather → ℕ → ℕ → ℕ → Bool
 open_from ps w o i zero = false
-open_from ps w o i (suc k) = pick (bit w.open-places i && eqb (ps (w.first + i)).item.0 o) true (open_from ps w o (i + 1) k)
+open_from ps w o i (suc k) = pick (bit w.open_places i && eqb (ps (w.first + i)).item.0 o) true (open_from ps w o (i + 1) k)
 
 -- An item that is open already gets another place and no second task.
 unfoldable pub item : Store → ℕ → AwaitedGather → ℕ → Item
@@ -95,7 +95,7 @@ item s g w o = pick (open_from (place s) w o 0 w.count) (polled (gives s pending
 unfoldable pub open_place : Store → ℕ → AwaitedGather → ℕ → Store
 open_place s g w i =
     put_object s g
-    (Object.GatherFuture w.first w.count (GatherState.Awaited w.awaiter (pick (bit w.open-places i) w.open-places (w.open-places + 2 ^ i))))
+    (Object.GatherFuture w.first w.count (GatherState.Awaited w.awaiter (pick (bit w.open_places i) w.open_places (w.open_places + 2 ^ i))))
 
 -- place i has a value
 unfoldable pub fill_place : Store → AwaitedGather → ℕ → Value → Store
@@ -160,7 +160,7 @@ open_gather_commit s g a = set_gather s g (GatherState.Awaited a 0)
 unfoldable pub settle_as : Store → ℕ → Option AwaitedGather → Polled
 settle_as s g none = gives s pending
 settle_as s g (some w) =
-    pick (eqb w.open-places 0) (gives (set_gather s g GatherState.Completed) (ready (Value.List (heap_id g)))) (gives s pending)
+    pick (eqb w.open_places 0) (gives (set_gather s g GatherState.Completed) (ready (Value.List (heap_id g)))) (gives s pending)
 
 -- A gather whose items are all stepped.
 unfoldable pub settle_gather_commit : Store → ℕ → Polled

@@ -39,11 +39,11 @@ deliver_to_task s t x =
 -- The places' words and a gather's open word while its places are filled.
 pub record Filled : Type 0 where
   pub places : List ℕ
-  pub open-places : ℕ
+  pub open_places : ℕ
 
 -- the places and the open word
 abbrev pub filled : List ℕ → ℕ → Filled
-filled ps m = record { places = ps; open-places = m }
+filled ps m = record { places = ps; open_places = m }
 
 -- place p, which is place i of its gather: if it is open and names the source, the value goes in and the bit is cleared
 unfoldable pub fill_one : List ℕ → ℕ → ℕ → ℕ → ℕ → Value → Filled
@@ -59,7 +59,7 @@ unfoldable pub fill_from : List ℕ → ℕ → ℕ → ℕ → Value → ℕ �
 fill_from ps m first source v i zero = filled ps m
 fill_from ps m first source v i (suc k) =
     let f : Filled = fill_one ps m (first + i) i source v in
-    fill_from f.places f.open-places first source v (i + 1) k
+    fill_from f.places f.open_places first source v (i + 1) k
 
 -- The store after a gather was settled, and where its result goes on to: nowhere, if it was settled before or still waits.
 pub record Settled : Type 0 where
@@ -77,8 +77,8 @@ resolve_left false s g w m =
 unfoldable pub resolve_awaited : Store → ℕ → ℕ → Value → Option AwaitedGather → Settled
 resolve_awaited s g source v none = record { store = s; onward = none }
 resolve_awaited s g source v (some w) =
-    let f : Filled = fill_from s.places w.open-places w.first source v 0 w.count in
-    resolve_left (eqb f.open-places 0) (put_places s f.places) g w f.open-places
+    let f : Filled = fill_from s.places w.open_places w.first source v 0 w.count in
+    resolve_left (eqb f.open_places 0) (put_places s f.places) g w f.open_places
 
 -- A child's value, in a gather: it completes when no place is open. A gather that is not awaited discards the value.
 unfoldable pub resolve_child : Store → ℕ → ℕ → Value → Settled

@@ -123,8 +123,8 @@ pub record Demand3 (h : List Entry) (s : Store) : Type 0 where
   pub sound : (e : Event) → (step s e).answer ≡ Answer.refused 2 → ⊥
   pub queue : QueueRight h (entries s.queue)
   pub places : (g : ℕ) → PlacesRight h s g
-  pub waits-right : WaitsRight h
-  pub no-stall : cancelled h ≡ false → goes_on h ≡ true
+  pub waits_right : WaitsRight h
+  pub no_stall : cancelled h ≡ false → goes_on h ≡ true
 
 -- For every list of events, refused ones included, with any call lists.
 abbrev pub DemandThree : Type 0

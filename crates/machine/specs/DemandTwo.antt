@@ -117,7 +117,7 @@ arrivals_from x (e ∷ es) g = arrivals_along x (cut x.store e) g ++ arrivals_fr
 pub record Elsewhere (y : Session) (g o : ℕ) : Type 0 where
   pub user : ℕ
   pub other : user ≡ g → ⊥
-  pub was-committed : committed (look y.store user) ≡ true
+  pub was_committed : committed (look y.store user) ≡ true
   pub among : is_in o (items y.history user) ≡ true
 
 -- Who uses item o of gather g, by what is shown of it, and the error for that: an answer has started the coroutine, or it has a live task, and another gather has

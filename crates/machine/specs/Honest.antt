@@ -223,7 +223,7 @@ pub record EntryHonest (h : List Entry) (x : Entry) (look : ℕ → Shown) : Typ
 -- Blocked, by events and answers alone: a live task is blocked exactly when its last await left it waiting, and show gives what it awaited as a pending
 -- external or an awaited gather. In waiting, cancel of a task is refused with 5 exactly when it is not live.
 pub record StateHonest (h : List Entry) (s : Store) : Type 0 where
-  pub blocked-is : (t : ℕ) → lives h t ≡ true → stays_blocked h t ≡ (left_waiting h t && waits_at (look s) (last_await h t))
+  pub blocked_is : (t : ℕ) → lives h t ≡ true → stays_blocked h t ≡ (left_waiting h t && waits_at (look s) (last_await h t))
   pub dead : (t : ℕ) → lives h t ≡ false → (step s (Event.cancel t)).answer ≡ Answer.refused 5 ⊎ ((step s (Event.cancel t)).answer ≡ Answer.refused 3) ⊎ ((step s (Event.cancel t)).answer ≡ Answer.refused 4)
   pub alive : (t : ℕ) → lives h t ≡ true → (step s (Event.cancel t)).answer ≡ Answer.refused 5 → ⊥
 

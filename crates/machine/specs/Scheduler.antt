@@ -60,7 +60,7 @@ pub record AwaitedGather : Type 0 where
   pub first : ℕ
   pub count : ℕ
   pub awaiter : Awaiter
-  pub open-places : ℕ
+  pub open_places : ℕ
 
 -- the object as an awaited gather, if it is one
 unfoldable pub as_awaited : Object → Option AwaitedGather
@@ -68,7 +68,7 @@ as_awaited Object.Unmade = none
 as_awaited (Object.Coroutine f x) = none
 as_awaited (Object.ExternalFuture c x) = none
 as_awaited (Object.GatherFuture f n GatherState.Pending) = none
-as_awaited (Object.GatherFuture f n (GatherState.Awaited a m)) = some (record { first = f; count = n; awaiter = a; open-places = m })
+as_awaited (Object.GatherFuture f n (GatherState.Awaited a m)) = some (record { first = f; count = n; awaiter = a; open_places = m })
 as_awaited (Object.GatherFuture f n GatherState.Completed) = none
 as_awaited (Object.GatherFuture f n (GatherState.Failed e)) = none
 
@@ -183,13 +183,13 @@ cancel_one s t = add_log (remove_task s t) (removed t)
 -- The tasks of coroutines are those of the store in which the walk began, so that the tasks are searched once for the whole walk.
 pub record Walk : Type 0 where
   pub store : Store
-  pub tasks-of : ℕ → Option ℕ
+  pub tasks_of : ℕ → Option ℕ
   pub marks : List Bool
   pub stack : List ℕ
 
 -- an awaited gather that is not marked is marked and stacked
 unfoldable pub reach_if : Walk → ℕ → Bool → Walk
-reach_if w g true = record { store = w.store; tasks-of = w.tasks-of; marks = set w.marks g true; stack = g ∷ w.stack }
+reach_if w g true = record { store = w.store; tasks_of = w.tasks_of; marks = set w.marks g true; stack = g ∷ w.stack }
 reach_if w g false = w
 
 -- a gather is reached: walked once, if it is awaited
@@ -198,8 +198,8 @@ reach w g = reach_if w g (is_some (as_awaited (object w.store g)) && not (get_or
 
 -- a task goes, and what it is blocked on is reached
 unfoldable pub remove_blocked : Walk → ℕ → Option ℕ → Walk
-remove_blocked w t none = record { store = cancel_one w.store t; tasks-of = w.tasks-of; marks = w.marks; stack = w.stack }
-remove_blocked w t (some b) = reach (record { store = cancel_one w.store t; tasks-of = w.tasks-of; marks = w.marks; stack = w.stack }) b
+remove_blocked w t none = record { store = cancel_one w.store t; tasks_of = w.tasks_of; marks = w.marks; stack = w.stack }
+remove_blocked w t (some b) = reach (record { store = cancel_one w.store t; tasks_of = w.tasks_of; marks = w.marks; stack = w.stack }) b
 
 -- the task, if it still lives, by the tasks' words
 unfoldable pub still_live : List ℕ → Option ℕ → Option ℕ
@@ -213,16 +213,16 @@ visit_by w o (some t) = remove_blocked w t (blocked_on (task w.store t).state)
 
 -- an item
 unfoldable pub visit : Walk → ℕ → Walk
-visit w o = visit_by w o (still_live w.store.tasks (w.tasks-of o))
+visit w o = visit_by w o (still_live w.store.tasks (w.tasks_of o))
 
 -- the item of place p, which is place i of its gather, if it is one of the open places
 unfoldable pub visit_place : Walk → ℕ → ℕ → ℕ → Walk
-visit_place w p i open-places = pick (bit open-places i) (visit w (place w.store p).item.0) w
+visit_place w p i open_places = pick (bit open_places i) (visit w (place w.store p).item.0) w
 
 -- the items of the open places from i on, k of them
 unfoldable pub visit_open : Walk → AwaitedGather → ℕ → ℕ → Walk
 visit_open w a i zero = w
-visit_open w a i (suc k) = visit_open (visit_place w (a.first + i) i a.open-places) a (i + 1) k
+visit_open w a i (suc k) = visit_open (visit_place w (a.first + i) i a.open_places) a (i + 1) k
 
 -- the open items of a gather are visited
 unfoldable pub walk_gather : Walk → Option AwaitedGather → Walk
@@ -233,7 +233,7 @@ walk_gather w (some a) = visit_open w a 0 a.count
 unfoldable pub walk_next : (Walk → Store) → Walk → List ℕ → Store
 walk_next go w [] = w.store
 walk_next go w (g ∷ gs) =
-    go (walk_gather (record { store = w.store; tasks-of = w.tasks-of; marks = w.marks; stack = gs }) (as_awaited (object w.store g)))
+    go (walk_gather (record { store = w.store; tasks_of = w.tasks_of; marks = w.marks; stack = gs }) (as_awaited (object w.store g)))
 
 -- Each turn takes one gather off the stack, and each comes there once: fuel is the gathers not marked and those on the stack.
 unfoldable pub walk : ℕ → Walk → Store
@@ -242,7 +242,7 @@ walk (suc k) w = walk_next (λ x. walk k x) w w.stack
 
 -- a walk that has reached nothing
 unfoldable pub walk_from : Store → Walk
-walk_from s = record { store = s; tasks-of = task_of s; marks = replicate object_limit false; stack = [] }
+walk_from s = record { store = s; tasks_of = task_of s; marks = replicate object_limit false; stack = [] }
 
 -- task t goes, and the walk begins at what it is blocked on
 unfoldable pub cancel_task : Store → ℕ → Store

@@ -30,7 +30,7 @@ coroutine_in_use =
         within = omega arith;
         left = λ b l. absurd (not-suc-le-zero l);
         first = λ b l. absurd (not-suc-le-zero l);
-        in_use = has_task 8 2 refl refl (record { user = 3; other = λ q. not-suc-le-zero {n = 0} (omega (arith, q)); was-committed = refl; among = refl });
+        in_use = has_task 8 2 refl refl (record { user = 3; other = λ q. not-suc-le-zero {n = 0} (omega (arith, q)); was_committed = refl; among = refl });
       };
     }
 
@@ -50,6 +50,6 @@ external_in_use =
         within = omega arith;
         left = λ b l. absurd (not-suc-le-zero l);
         first = λ b l. absurd (not-suc-le-zero l);
-        in_use = is_pending (inr (record { user = 3; other = λ q. not-suc-le-zero {n = 0} (omega (arith, q)); was-committed = refl; among = refl }));
+        in_use = is_pending (inr (record { user = 3; other = λ q. not-suc-le-zero {n = 0} (omega (arith, q)); was_committed = refl; among = refl }));
       };
     }

@@ -48,7 +48,7 @@ settle_steps s g steps n k e = by (as_awaited (object s g))
   where
     by : (w : Option AwaitedGather) → StepFormula steps n k (settle_as s g w).poll
     by none = e
-    by (some w) = pick_has (λ (r : Polled). StepFormula steps n k r.poll) (eqb w.open-places 0) e e
+    by (some w) = pick_has (λ (r : Polled). StepFormula steps n k r.poll) (eqb w.open_places 0) e e
 
 -- In a loop with n steps, j gathers opened and k settled, each frame is of a gather opened and not settled.
 turn_steps : (loop : Store → Frame → List Frame → ℕ → ℕ → ℕ → Committed)
@@ -261,7 +261,7 @@ step_item_kinds g i s go z l h = by (as_awaited (object s g)) refl
     by none e = same_kinds_refl s z
     by (some w) e =
         let o : ℕ = (place s (w.first + i)).item.0 in
-        let m : o < object_limit = (place-fits s (w.first + i)).item-fits in
+        let m : o < object_limit = (place-fits s (w.first + i)).item_fits in
         put-item-kinds g l w (awaited-fits s g w e).0 i o go h s (item s g w o) z m (awaited-phase (object s g) w e) (awaited_count (object s g) w e) (item_kinds s g w o z m)
 
 step_items_kinds : (k : ℕ) (s : Store) (g i : ℕ) → Sized s → g < object_limit → StopKeeps s (step_items k s g i)
@@ -321,7 +321,7 @@ module _ (s : Store) (g : ℕ) (z : Sized s) (l : g < object_limit) where
           let p : phase (kind (object s g)) ≡ Kind.AwaitedGather = awaited-phase (object s g) w e in
           let q : kind (with_state (object s g) GatherState.Completed) ≡ Kind.CompletedGather =
           with_state-kind (object s g) GatherState.Completed Kind.CompletedGather (phase-gather (kind (object s g)) p) (λ f n. refl) in
-          pick_has (PolledKeeps s) (eqb w.open-places 0) (put_object_kinds s g _ z l (ap phase q ∙ sym p) (with_state-places (object s g) _ (object-fits s g)) (with_state-count (object s g) _)) (same_kinds_refl s z)
+          pick_has (PolledKeeps s) (eqb w.open_places 0) (put_object_kinds s g _ z l (ap phase q ∙ sym p) (with_state-places (object s g) _ (object-fits s g)) (with_state-count (object s g) _)) (same_kinds_refl s z)
 
 pub resume_kinds : (f : Frame) (r : Polled) → Sized r.store → f.gather < object_limit → SameKinds r.store (resume_after_child f r)
 unfolding resume_after_child resume_as resume_in
@@ -461,7 +461,7 @@ settle_fails s g b n k = by (as_awaited (object s g))
   where
     by : (a : Option AwaitedGather) → SettleFails b n k (settle_as s g a)
     by none = λ e. e
-    by (some w) = pick_has (SettleFails b n k) (eqb w.open-places 0) (λ e. e) (λ e. e)
+    by (some w) = pick_has (SettleFails b n k) (eqb w.open_places 0) (λ e. e) (λ e. e)
 
 abbrev LoopCounts : (Store → Frame → List Frame → ℕ → ℕ → ℕ → Committed) → Type 0
 LoopCounts loop =

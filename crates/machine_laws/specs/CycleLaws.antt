@@ -141,7 +141,7 @@ remove_counts_kept : (w : Walk) → length w.marks ≡ object_limit → (t : ℕ
 unfolding remove_blocked
 remove_counts_kept w m t none l = record { marked = m; pays = refl }
 remove_counts_kept w m t (some o) l =
-    let k = reach_counts_kept (record { store = cancel_one w.store t; tasks-of = w.tasks-of; marks = w.marks; stack = w.stack }) m o (l o refl) in
+    let k = reach_counts_kept (record { store = cancel_one w.store t; tasks_of = w.tasks_of; marks = w.marks; stack = w.stack }) m o (l o refl) in
     record { marked = k.marked; pays = k.pays }
 
 -- a task that goes with what it is blocked on
@@ -153,16 +153,16 @@ unfolding visit_by
 visit_counts_kept w m o l none = reach_counts_kept w m o l
 visit_counts_kept w m o l (some t) = blocked_counts_kept w m t
 
-pub place_counts_kept : (w : Walk) → length w.marks ≡ object_limit → (p i open-places : ℕ) → CountsKept w (visit_place w p i open-places)
+pub place_counts_kept : (w : Walk) → length w.marks ≡ object_limit → (p i open_places : ℕ) → CountsKept w (visit_place w p i open_places)
 unfolding visit_place visit
 place_counts_kept w m p i n =
-    pick_has (CountsKept w) (bit n i) (visit_counts_kept w m _ (place-fits w.store p).item-fits _) (record { marked = m; pays = refl })
+    pick_has (CountsKept w) (bit n i) (visit_counts_kept w m _ (place-fits w.store p).item_fits _) (record { marked = m; pays = refl })
 
 open_counts_kept : (k : ℕ) (w : Walk) → length w.marks ≡ object_limit → (a : AwaitedGather) (i : ℕ) → CountsKept w (visit_open w a i k)
 unfolding visit_open
 open_counts_kept zero w m a i = record { marked = m; pays = refl }
 open_counts_kept (suc k) w m a i =
-    let x = place_counts_kept w m (a.first + i) i a.open-places in
+    let x = place_counts_kept w m (a.first + i) i a.open_places in
     counts_kept_then x (open_counts_kept k _ x.marked a (i + 1))
 
 pub gather_counts_kept : (w : Walk) → length w.marks ≡ object_limit → (a : Option AwaitedGather) → CountsKept w (walk_gather w a)
@@ -183,8 +183,8 @@ walk_once w m = by w.stack refl
     by : (gs : List ℕ) → w.stack ≡ gs → walk (unmarked w.marks + length w.stack) w ≡ walk_next walk_rest w w.stack
     by [] e = walk_none (unmarked w.marks + length w.stack) w e ∙ rw e
     by (g ∷ gs) e =
-        let x : Walk = walk_gather (record { store = w.store; tasks-of = w.tasks-of; marks = w.marks; stack = gs }) (as_awaited (object w.store g)) in
-        let k = gather_counts_kept (record { store = w.store; tasks-of = w.tasks-of; marks = w.marks; stack = gs }) m (as_awaited (object w.store g)) in
+        let x : Walk = walk_gather (record { store = w.store; tasks_of = w.tasks_of; marks = w.marks; stack = gs }) (as_awaited (object w.store g)) in
+        let k = gather_counts_kept (record { store = w.store; tasks_of = w.tasks_of; marks = w.marks; stack = gs }) m (as_awaited (object w.store g)) in
         let fuel : unmarked w.marks + suc (length gs) ≡ suc (unmarked x.marks + length x.stack) = omega (arith, k.pays) in
         rw (e, fuel)
 

@@ -33,10 +33,10 @@ use Rattle.machine_laws.specs.StoreLaws.{sized-put_object, sized-put_places, siz
 use Rattle.machine_laws.specs.StoreLaws.{object-fits, kind_at_put, live-put_task, task_put-other, header_put-object}
 
 same_store : (s : Store) → Sized s → SameLive s s
-same_store s z = record { sized = z; same-header = refl; lives = λ t. refl }
+same_store s z = record { sized = z; same_header = refl; lives = λ t. refl }
 
 then_same : {s u x : Store} → SameLive s u → SameLive u x → SameLive s x
-then_same k l = record { sized = l.sized; same-header = l.same-header ∙ k.same-header; lives = λ t. l.lives t ∙ k.lives t }
+then_same k l = record { sized = l.sized; same_header = l.same_header ∙ k.same_header; lives = λ t. l.lives t ∙ k.lives t }
 
 -- ---- to a task
 
@@ -64,7 +64,7 @@ woken-same : (s : Store) (t : ℕ) (x : TaskState) → Sized s → t < task_limi
 unfolding make_ready push_ready add_log put_queue set_state put_task header task
 woken-same s t x z l e = record {
   sized = sized-add_log _ (reached t) (sized-put_queue _ _ (sized-set_state s t x z));
-  same-header = refl;
+  same_header = refl;
   lives = λ u. state_put s t u x z l e;
 }
 
@@ -84,14 +84,14 @@ absurd_some e = let z : ◌≡◌ {A = ℕ} 0 1 = cc in absurd (omega arith)
 
 -- the object that reads as an awaited gather
 pub awaited-object : (x : Object) (w : AwaitedGather) → as_awaited x ≡ some w
-    → x ≡ Object.GatherFuture w.first w.count (GatherState.Awaited w.awaiter w.open-places)
+    → x ≡ Object.GatherFuture w.first w.count (GatherState.Awaited w.awaiter w.open_places)
 unfolding as_awaited
 awaited-object Object.Unmade w e = absurd_some e
 awaited-object (Object.Coroutine f x) w e = absurd_some e
 awaited-object (Object.ExternalFuture c x) w e = absurd_some e
 awaited-object (Object.GatherFuture f n GatherState.Pending) w e = absurd_some e
 awaited-object (Object.GatherFuture f n (GatherState.Awaited a m)) w e =
-    ap (λ (y : AwaitedGather). Object.GatherFuture y.first y.count (GatherState.Awaited y.awaiter y.open-places)) (some-injective _ w e)
+    ap (λ (y : AwaitedGather). Object.GatherFuture y.first y.count (GatherState.Awaited y.awaiter y.open_places)) (some-injective _ w e)
 awaited-object (Object.GatherFuture f n GatherState.Completed) w e = absurd_some e
 awaited-object (Object.GatherFuture f n (GatherState.Failed x)) w e = absurd_some e
 
@@ -118,7 +118,7 @@ first_below p (suc k) i o e = by (p i) e (λ q. first_below p k (i + 1) o q)
 
 -- its parts are in range
 pub awaited-fits : (s : Store) (g : ℕ) (w : AwaitedGather) → as_awaited (object s g) ≡ some w
-    → ObjectFits (Object.GatherFuture w.first w.count (GatherState.Awaited w.awaiter w.open-places))
+    → ObjectFits (Object.GatherFuture w.first w.count (GatherState.Awaited w.awaiter w.open_places))
 awaited-fits s g w e = rw (awaited-object (object s g) w e) at (object-fits s g)
 
 -- an awaited gather gets a state that is not awaited: one awaited gather less
@@ -139,7 +139,7 @@ awaited_in-falls os g r z l e q =
 awaited-falls : (s : Store) (ps : List ℕ) (g : ℕ) (w : AwaitedGather) (r : Object) → Sized s → g < object_limit → as_awaited (object s g) ≡ some w
     → is_awaited (kind r) ≡ false → awaited_count s ≡ suc (awaited_count (put_object (put_places s ps) g r))
 unfolding awaited_count object put_object put_places kind
-awaited-falls s ps g w r z l e q = awaited_in-falls s.objects g r z.objects-sized l (rw (awaited-object (object s g) w e)) q
+awaited-falls s ps g w r z l e q = awaited_in-falls s.objects g r z.objects_sized l (rw (awaited-object (object s g) w e)) q
 
 -- what a gather sends on, if anything: it is in range, and one awaited gather less is left
 pub record Sent (s : Store) (r : Settled) : Type 0 where
@@ -154,7 +154,7 @@ object-same : (s : Store) (ps : List ℕ) (g : ℕ) (r : Object) → Sized s →
 unfolding put_places put_object header task
 object-same s ps g r z e = record {
   sized = sized-put_object (put_places s ps) g r (sized-put_places s ps e z);
-  same-header = header_put-object (put_places s ps) g r;
+  same_header = header_put-object (put_places s ps) g r;
   lives = λ t. refl;
 }
 
@@ -169,7 +169,7 @@ unfolding fill_from
 length-fill_from zero ps m first source v i = refl
 length-fill_from (suc k) ps m first source v i =
     let f : Filled = fill_one ps m (first + i) i source v in
-    length-fill_from k f.places f.open-places first source v (i + 1) ∙ length-fill_one ps m (first + i) i source v
+    length-fill_from k f.places f.open_places first source v (i + 1) ∙ length-fill_one ps m (first + i) i source v
 
 left_sent : (b : Bool) (s : Store) (ps : List ℕ) (g : ℕ) (w : AwaitedGather) (m : ℕ) → Sized s → length ps ≡ places_length → g < object_limit
     → as_awaited (object s g) ≡ some w → Sent s (resolve_left b (put_places s ps) g w m)
@@ -188,9 +188,9 @@ resolve_sent s g source v z l = by (as_awaited (object s g)) refl
     by : (w : Option AwaitedGather) → as_awaited (object s g) ≡ w → Sent s (resolve_awaited s g source v w)
     by none q = nothing_sent s s (same_store s z)
     by (some w) q =
-        let f : Filled = fill_from s.places w.open-places w.first source v 0 w.count in
-        left_sent (eqb f.open-places 0) s f.places g w f.open-places z
-        (length-fill_from w.count s.places w.open-places w.first source v 0 ∙ z.places-sized) l q
+        let f : Filled = fill_from s.places w.open_places w.first source v 0 w.count in
+        left_sent (eqb f.open_places 0) s f.places g w f.open_places z
+        (length-fill_from w.count s.places w.open_places w.first source v 0 ∙ z.places_sized) l q
 
 pub fail_sent : (s : Store) (g : ℕ) (x : Error) → Sized s → g < object_limit → Sent s (fail_gather s g x)
 unfolding fail_gather fail_awaited kind put_places
@@ -199,7 +199,7 @@ fail_sent s g x z l = by (as_awaited (object s g)) refl
     by : (w : Option AwaitedGather) → as_awaited (object s g) ≡ w → Sent s (fail_awaited s g x w)
     by none q = nothing_sent s s (same_store s z)
     by (some w) q = record {
-      same = object-same s s.places g _ z z.places-sized;
+      same = object-same s s.places g _ z z.places_sized;
       fits = λ a p. rw (← some-injective w.awaiter a p) (awaited-fits s g w q).1.0;
       falls = λ a p. awaited-falls s s.places g w (Object.GatherFuture w.first w.count (GatherState.Failed x)) z l q refl;
     }
@@ -271,7 +271,7 @@ failure_same s a e z f =
 -- what `live` and `live_count` say is the same
 pub same_live : (s u : Store) (t : ℕ) → SameLive s u → live u t ≡ live s t
 unfolding live
-same_live s u t k = rw (k.same-header, k.lives t)
+same_live s u t k = rw (k.same_header, k.lives t)
 
 -- as many live where each task lives as it did
 pub live_in-same : (ts us : List ℕ) → ((t : ℕ) → is_live (task_at us t).state ≡ is_live (task_at ts t).state) → live_in us ≡ live_in ts

@@ -35,7 +35,7 @@ use Rattle.machine_laws.specs.Facts.{Open, Slotted, AwaitedBy, SoundBut, Nothing
 
 module _ (ps : ℕ → Place) (w : AwaitedGather) (o : ℕ) where
   abbrev here : ℕ → Bool
-  here i = bit w.open-places i && eqb (ps (w.first + i)).item.0 o
+  here i = bit w.open_places i && eqb (ps (w.first + i)).item.0 o
 
   pub open_found : (k i : ℕ) → i + k ≤ w.count → T (open_from ps w o i k) → Open ps w o
   unfolding open_from
@@ -44,7 +44,7 @@ module _ (ps : ℕ → Place) (w : AwaitedGather) (o : ℕ) where
     where
       by : (b : Bool) → here i ≡ b → T (pick b true (open_from ps w o (i + 1) k)) → (T (open_from ps w o (i + 1) k) → Open ps w o) → Open ps w o
       by true e t f =
-          let h = and-true (bit w.open-places i) (eqb (ps (w.first + i)).item.0 o) e in
+          let h = and-true (bit w.open_places i) (eqb (ps (w.first + i)).item.0 o) e in
           record { at = i; under = omega arith; is_open = h.0; names = eqb-true (ps (w.first + i)).item.0 o h.1 }
       by false e t f = f t
 
@@ -249,15 +249,15 @@ module _ (v : View) where
             record {
               fits = f;
               main = leb→le 1 next (both_left _ _ counts);
-              all-used = eqb→eq v.header.used (places_below v.objects made) (both_right (leb 1 next) _ counts);
+              all_used = eqb→eq v.header.used (places_below v.objects made) (both_right (leb 1 next) _ counts);
               objects = below made _ (both_left _ _ range2);
               awaiters = awaiters;
               tasks = tasks;
               spawned = omega (arith, leb→le (next - 1) (sum_below made (λ o. committed_places (v.objects o))) (both_left _ _ h2));
               items = below made _ (both_left _ _ h3);
-              object-lists = below made _ (both_left _ _ lists);
-              task-lists = below next _ (both_left _ _ lists2);
-              place-lists = below v.header.used _ (both_right (all_below next (λ t. state_values made v.objects (v.tasks t).state)) _ lists2);
+              object_lists = below made _ (both_left _ _ lists);
+              task_lists = below next _ (both_left _ _ lists2);
+              place_lists = below v.header.used _ (both_right (all_below next (λ t. state_values made v.objects (v.tasks t).state)) _ lists2);
               entries = below (length v.queue) _ (both_left _ _ h5);
               calls = λ on. calls-of v.objects made (or_use (is_ended v.header.moment) _ on (both_left _ _ h6));
               task_of = task-of-of v.tasks next (both_left _ _ h7);
@@ -265,8 +265,8 @@ module _ (v : View) where
               awaited = λ o l d t e a. blocked_of v.tasks o t _
                   (below made _ (both_right (all_below next (λ t. blocked_awaits made v.objects t (blocked_on (v.tasks t).state))) _ match) o l) e a;
               filled = λ g l d. below made _ (both_left _ _ h9) g l;
-              object-slots = λ o l d g x e. slotted_of v.header v.objects v.places o _ g x (awaiters o l) (below made _ (both_left _ _ slots) o l) e;
-              task-slots = λ t l a g x e. slotted_of v.header v.objects v.places (v.tasks t).coroutine.0 _ g x
+              object_slots = λ o l d g x e. slotted_of v.header v.objects v.places o _ g x (awaiters o l) (below made _ (both_left _ _ slots) o l) e;
+              task_slots = λ t l a g x e. slotted_of v.header v.objects v.places (v.tasks t).coroutine.0 _ g x
                   (task_awaiter v.header v.objects t (v.tasks t) a (tasks t l))
                   (implies_use (is_live (v.tasks t).state) _ a (below next _ (both_right (all_below made (λ o. slot_open v.objects v.places o (awaiter_of (v.objects o)))) _ slots) t l)) e;
             };
@@ -279,17 +279,17 @@ module _ (v : View) where
   unfolding sound_view numbers_in_range counts_in_range spawned_in_range items_lower lists_completed queue_ready calls_distinct one_task blocked_match places_filled slots_open one_runs
   to_test s =
       let h : SoundBut 0 Nothing Nothing v = s.but in
-      both _ _ (both _ _ (both _ _ (le→leb 1 next h.main) (subst (λ (m : ℕ). T (eqb v.header.used m)) h.all-used (eqb_refl v.header.used)))
+      both _ _ (both _ _ (both _ _ (le→leb 1 next h.main) (subst (λ (m : ℕ). T (eqb v.header.used m)) h.all_used (eqb_refl v.header.used)))
       (both _ _ (from-below made _ h.objects) (both _ _ (from-below made _ h.awaiters) (from-below next _ h.tasks))))
       (both _ _ (le→leb (next - 1) (sum_below made (λ o. committed_places (v.objects o))) (omega (arith, h.spawned)))
       (both _ _ (from-below made _ h.items)
-      (both _ _ (both _ _ (from-below made _ h.object-lists) (both _ _ (from-below next _ h.task-lists) (from-below v.header.used _ h.place-lists)))
+      (both _ _ (both _ _ (from-below made _ h.object_lists) (both _ _ (from-below next _ h.task_lists) (from-below v.header.used _ h.place_lists)))
       (both _ _ (from-below (length v.queue) _ h.entries)
       (both _ _ (or_give (is_ended v.header.moment) _ (λ on. calls_test v.objects made (h.calls on)))
       (both _ _ (task-of-test v.tasks next h.task_of)
       (both _ _ (both _ _ (from-below next _ (λ t l. awaits_test made v.objects t _ (λ o e. h.awaits t l (λ z. z) o e)))
       (from-below made _ (λ o l. blocked_test v.tasks o _ (λ t e a. h.awaited o l (λ z. z) t e a))))
       (both _ _ (from-below made _ (λ g l. h.filled g l (λ z. z)))
-      (both _ _ (both _ _ (from-below made _ (λ o l. slot_test made v.objects v.places o _ (λ g x e. h.object-slots o l (λ z. z) g x e)))
-      (from-below next _ (λ t l. implies_give (is_live (v.tasks t).state) _ (λ a. slot_test made v.objects v.places _ _ (λ g x e. h.task-slots t l a g x e)))))
+      (both _ _ (both _ _ (from-below made _ (λ o l. slot_test made v.objects v.places o _ (λ g x e. h.object_slots o l (λ z. z) g x e)))
+      (from-below next _ (λ t l. implies_give (is_live (v.tasks t).state) _ (λ a. slot_test made v.objects v.places _ _ (λ g x e. h.task_slots t l a g x e)))))
       (both _ _ s.runner (from-below next _ (λ t l. same_give _ _ (s.runs t l)))))))))))))

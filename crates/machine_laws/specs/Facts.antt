@@ -23,7 +23,7 @@ use Rattle.machine.specs.Sound.{entry_ready, is_ended, is_task_of_at, object_fil
 pub record Open (ps : ℕ → Place) (w : AwaitedGather) (o : ℕ) : Type 0 where
   pub at : ℕ
   pub under : at < w.count
-  pub is_open : bit w.open-places at ≡ true
+  pub is_open : bit w.open_places at ≡ true
   pub names : (ps (w.first + at)).item.0 ≡ o
 
 -- the awaiter "slot of gather g, source x" of a holder whose own object is o; n objects are made
@@ -45,7 +45,7 @@ pub record SoundBut (k : ℕ) (P Q : ℕ → Type 0) (v : View) : Type 0 where
   -- clause 1: numbers and counts lie in range
   pub fits : HeaderFits v.header
   pub main : 1 ≤ v.header.next
-  pub all-used : v.header.used ≡ places_below v.objects v.header.made
+  pub all_used : v.header.used ≡ places_below v.objects v.header.made
   pub objects : (o : ℕ) → o < v.header.made → T (object_in_range v.header (places_below v.objects o) (v.objects o))
   pub awaiters : (o : ℕ) → o < v.header.made → T (awaiter_in_range v.header (awaiter_of (v.objects o)))
   pub tasks : (t : ℕ) → t < v.header.next → T (task_in_range v.header v.objects t (v.tasks t))
@@ -54,9 +54,9 @@ pub record SoundBut (k : ℕ) (P Q : ℕ → Type 0) (v : View) : Type 0 where
   -- 3: items are lower than their gather
   pub items : (g : ℕ) → g < v.header.made → T (items_below v.places g (v.objects g))
   -- 4: list values name completed gathers
-  pub object-lists : (o : ℕ) → o < v.header.made → T (object_values v.header.made v.objects (v.objects o))
-  pub task-lists : (t : ℕ) → t < v.header.next → T (state_values v.header.made v.objects (v.tasks t).state)
-  pub place-lists : (p : ℕ) → p < v.header.used → T (option_known v.header.made v.objects (v.places p).result)
+  pub object_lists : (o : ℕ) → o < v.header.made → T (object_values v.header.made v.objects (v.objects o))
+  pub task_lists : (t : ℕ) → t < v.header.next → T (state_values v.header.made v.objects (v.tasks t).state)
+  pub place_lists : (p : ℕ) → p < v.header.used → T (option_known v.header.made v.objects (v.places p).result)
   -- 5: queue entries are distinct, live, unblocked and none is running
   pub entries : (i : ℕ) → i < length v.queue → T (entry_ready v.header.next v.tasks v.queue i)
   -- 6: in a session not ended, pending calls and pending externals match one to one
@@ -72,9 +72,9 @@ pub record SoundBut (k : ℕ) (P Q : ℕ → Type 0) (v : View) : Type 0 where
   -- 9: an awaited gather has an open place and the rest filled, a completed one has all filled
   pub filled : (g : ℕ) → g < v.header.made → (Q g → ⊥) → T (object_filled v.places (v.objects g))
   -- 10: a slot awaiter's source is its holder's own object, and its gather was committed and, if still awaited, has that source open
-  pub object-slots : (o : ℕ) → o < v.header.made → (Q o → ⊥) → (g x : ℕ) → awaiter_of (v.objects o) ≡ Awaiter.GatherSlot (heap_id g) (heap_id x)
+  pub object_slots : (o : ℕ) → o < v.header.made → (Q o → ⊥) → (g x : ℕ) → awaiter_of (v.objects o) ≡ Awaiter.GatherSlot (heap_id g) (heap_id x)
       → Slotted v.header.made v.objects v.places o g x
-  pub task-slots : (t : ℕ) → t < v.header.next → T (is_live (v.tasks t).state) → (g x : ℕ)
+  pub task_slots : (t : ℕ) → t < v.header.next → T (is_live (v.tasks t).state) → (g x : ℕ)
       → (v.tasks t).awaiter ≡ Awaiter.GatherSlot (heap_id g) (heap_id x)
       → Slotted v.header.made v.objects v.places (v.tasks t).coroutine.0 g x
 
@@ -115,15 +115,15 @@ pub record AddFits (v : View) (x : Object) (n : ℕ) (ps : ℕ → Place) (c : �
       → (b : PendingExternal) → as_pending (v.objects p) ≡ some b → a.call.0 ≡ b.call.0 → ⊥
   pub free : awaiter_of x ≡ Awaiter.Nobody
   pub filled : T (object_filled ps x)
-  pub old-places : (p : ℕ) → p < v.header.used → ps p ≡ v.places p
-  pub new-places : (p : ℕ) → v.header.used ≤ p → p < v.header.used + n → (ps p).result ≡ OptionValue.None
+  pub old_places : (p : ℕ) → p < v.header.used → ps p ≡ v.places p
+  pub new_places : (p : ℕ) → v.header.used ≤ p → p < v.header.used + n → (ps p).result ≡ OptionValue.None
 
 -- ---- the words, which no view shows
 
 -- the rows in use (next tasks, made objects, used places) are canonical, and the queue's count is within its places
 pub record WordsInRange (next made used : ℕ) (s : Store) : Type 0 where
-  pub header-right : T (header_canonical s.objects)
-  pub tasks-right : (t : ℕ) → t < next → T (task_canonical s.tasks t)
-  pub objects-right : (o : ℕ) → o < made → T (object_canonical s.objects o)
-  pub places-right : (p : ℕ) → p < used → T (place_canonical s.places p)
-  pub queue-short : s.queue.len ≤ task_limit
+  pub header_right : T (header_canonical s.objects)
+  pub tasks_right : (t : ℕ) → t < next → T (task_canonical s.tasks t)
+  pub objects_right : (o : ℕ) → o < made → T (object_canonical s.objects o)
+  pub places_right : (p : ℕ) → p < used → T (place_canonical s.places p)
+  pub queue_short : s.queue.len ≤ task_limit

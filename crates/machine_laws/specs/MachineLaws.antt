@@ -39,7 +39,7 @@ use Rattle.machine_laws.specs.StoreLaws.{header-fits}
 
 pub forget-same : (s : Store) → SameWords s (forget s)
 unfolding forget
-forget-same s = record { same-tasks = refl; same-objects = refl; same_places = refl; same_queue = refl }
+forget-same s = record { same_tasks = refl; same_objects = refl; same_places = refl; same_queue = refl }
 
 -- Document 01's table: "all unchanged".
 pub refused-step : (s : Store) (e : Event) (n : ℕ) → refusal s e ≡ n → (n ≡ 0 → ⊥) → step s e ≡ record { store = forget s; answer = Answer.refused n }
@@ -109,7 +109,7 @@ unfolding pending_call_ids pending_calls_in header
 pending_calls_made s = calls_few s.objects (header s).made
 
 pub pending_calls_list : (s : Store) → CallList (pending_call_ids s)
-pending_calls_list s = record { few = omega (arith, pending_calls_made s, (header-fits s).made-fits); ascending = pending_calls_ascend s }
+pending_calls_list s = record { few = omega (arith, pending_calls_made s, (header-fits s).made_fits); ascending = pending_calls_ascend s }
 
 -- ---- the calls of every answer are such a list
 
@@ -259,14 +259,14 @@ written_calls a l = refl
 pub slices_sized : (s : Store) → slices_right s ≡ true → Sized s
 unfolding slices_right
 slices_sized s e =
-    let tasks-right : Bool = eqb (length s.tasks) tasks_length in
-    let objects-right : Bool = eqb (length s.objects) objects_length in
-    let h = and-true (tasks-right && objects-right) (eqb (length s.places) places_length) e in
-    let k = and-true tasks-right objects-right h.0 in
+    let tasks_right : Bool = eqb (length s.tasks) tasks_length in
+    let objects_right : Bool = eqb (length s.objects) objects_length in
+    let h = and-true (tasks_right && objects_right) (eqb (length s.places) places_length) e in
+    let k = and-true tasks_right objects_right h.0 in
     record {
-      tasks-sized = eqb-true (length s.tasks) tasks_length k.0;
-      objects-sized = eqb-true (length s.objects) objects_length k.1;
-      places-sized = eqb-true (length s.places) places_length h.1;
+      tasks_sized = eqb-true (length s.tasks) tasks_length k.0;
+      objects_sized = eqb-true (length s.objects) objects_length k.1;
+      places_sized = eqb-true (length s.places) places_length h.1;
     }
 
 pub lengths_sized : (s : Store) (l : List ℕ) → lengths_right s l ≡ true → Sized s

@@ -87,25 +87,25 @@ unfolding with_header
 header_keeps k P Q v c m l b f e h =
     let i : Header = called_at v.header c m in
     record {
-      fits = record { made-fits = h.fits.made-fits; used-fits = h.fits.used-fits; calls-fit = b; next_fits = h.fits.next_fits; moment_fits = f };
+      fits = record { made_fits = h.fits.made_fits; used_fits = h.fits.used_fits; calls_fit = b; next_fits = h.fits.next_fits; moment_fits = f };
       main = h.main;
-      all-used = h.all-used;
+      all_used = h.all_used;
       objects = λ o z. object_more v.header i l _ (v.objects o) (h.objects o z);
       awaiters = λ o z. awaiter_more v.header i (le_refl _) (le_refl _) (awaiter_of (v.objects o)) (h.awaiters o z);
       tasks = λ t z. task_more v.header i (le_refl _) (le_refl _) v.objects v.objects (λ o y d. d) t (v.tasks t) (h.tasks t z);
       spawned = h.spawned;
       items = h.items;
-      object-lists = h.object-lists;
-      task-lists = h.task-lists;
-      place-lists = h.place-lists;
+      object_lists = h.object_lists;
+      task_lists = h.task_lists;
+      place_lists = h.place_lists;
       entries = h.entries;
       calls = λ on. h.calls (e on);
       task_of = h.task_of;
       awaits = h.awaits;
       awaited = h.awaited;
       filled = h.filled;
-      object-slots = h.object-slots;
-      task-slots = h.task-slots;
+      object_slots = h.object_slots;
+      task_slots = h.task_slots;
     }
 
 -- ---- rows that stay where their places do
@@ -198,7 +198,7 @@ module _ (v : View) (x : Object) (n : ℕ) (ps : ℕ → Place) (c : ℕ) (ft : 
   unfolding places_below
   in-used p l =
       let more : sum_below (p + 1) (λ o. count_of (v.objects o)) ≤ sum_below top (λ o. count_of (v.objects o)) = sum_more _ (p + 1) top (omega arith) in
-      let all : v.header.used ≡ sum_below top (λ o. count_of (v.objects o)) = h.all-used in
+      let all : v.header.used ≡ sum_below top (λ o. count_of (v.objects o)) = h.all_used in
       within_range v.header.used v.header (places_below v.objects p) (v.objects p)
       (omega (arith, sum_last (λ o. count_of (v.objects o)) p)) (h.objects p l)
 
@@ -216,7 +216,7 @@ module _ (v : View) (x : Object) (n : ℕ) (ps : ℕ → Place) (c : ℕ) (ft : 
         committed = subst (λ (z : Object). T (is_committed (kind z))) (sym (old g sl.made)) sl.committed;
         opens = λ w e.
             let f : as_awaited (v.objects g) ≡ some w = ap as_awaited (sym (old g sl.made)) ∙ e in
-            open_stays v.header.used v.places ps ft.old-places (v.objects g) w o f (in-used g sl.made) (sl.opens w f);
+            open_stays v.header.used v.places ps ft.old_places (v.objects g) w o f (in-used g sl.made) (sl.opens w f);
       }
 
   place-add : (p : ℕ) → p < v.header.used + n → T (option_known (top + 1) new (ps p).result)
@@ -224,8 +224,8 @@ module _ (v : View) (x : Object) (n : ℕ) (ps : ℕ → Place) (c : ℕ) (ft : 
     where
       by : Dec (p < v.header.used) → T (option_known (top + 1) new (ps p).result)
       by (yes l) =
-          option_stays top (top + 1) (omega arith) v.objects new completed-add (ps p).result (subst (λ (y : Place). T (option_known top v.objects y.result)) (sym (ft.old-places p l)) (h.place-lists p l))
-      by (no l) = subst (λ (y : OptionValue). T (option_known (top + 1) new y)) (sym (ft.new-places p (omega arith) z)) (unfold option_known in tt)
+          option_stays top (top + 1) (omega arith) v.objects new completed-add (ps p).result (subst (λ (y : Place). T (option_known top v.objects y.result)) (sym (ft.old_places p l)) (h.place_lists p l))
+      by (no l) = subst (λ (y : OptionValue). T (option_known (top + 1) new y)) (sym (ft.new_places p (omega arith) z)) (unfold option_known in tt)
 
   calls-add : is_ended v.header.moment ≡ false → (o p : ℕ) → o < top + 1 → p < top + 1 → (a b : PendingExternal)
       → as_pending (new o) ≡ some a → as_pending (new p) ≡ some b → a.call.0 ≡ b.call.0 → o ≡ p
@@ -246,11 +246,11 @@ module _ (v : View) (x : Object) (n : ℕ) (ps : ℕ → Place) (c : ℕ) (ft : 
       record {
         fits = ft.room;
         main = h.main;
-        all-used =
-            let a : v.header.used ≡ sum_below top (λ o. count_of (v.objects o)) = h.all-used in
+        all_used =
+            let a : v.header.used ≡ sum_below top (λ o. count_of (v.objects o)) = h.all_used in
             omega (arith, sums-all count_of, ft.count);
         objects = λ p z. each (λ p y. T (object_in_range i (places_below new p) y)) p z
-            (subst (λ (m : ℕ). T (object_in_range i m x)) (h.all-used ∙ sym (sums count_of top (le_refl _))) ft.range)
+            (subst (λ (m : ℕ). T (object_in_range i m x)) (h.all_used ∙ sym (sums count_of top (le_refl _))) ft.range)
             (λ l. subst (λ (m : ℕ). T (object_in_range i m (v.objects p))) (sym (sums count_of p (omega arith)))
             (object_more v.header i ft.calls _ (v.objects p) (h.objects p l)));
         awaiters = λ p z. each (λ p y. T (awaiter_in_range i (awaiter_of y))) p z
@@ -260,10 +260,10 @@ module _ (v : View) (x : Object) (n : ℕ) (ps : ℕ → Place) (c : ℕ) (ft : 
             (λ o l k. subst (λ (y : Object). T (is_coroutine (kind y))) (sym (old o l)) k) t (v.tasks t) (h.tasks t z);
         spawned = omega (arith, sums-all committed_places, h.spawned, committed-none);
         items = λ p z. each (λ p y. T (items_below ps p y)) p z ft.lower
-            (λ l. lower-stays v.header.used v.places ps ft.old-places p (v.objects p) (in-used p l) (h.items p l));
-        object-lists = λ p z. each (λ p y. T (object_values (top + 1) new y)) p z (object-add x ft.known) (λ l. object-add (v.objects p) (h.object-lists p l));
-        task-lists = λ t z. state_stays top (top + 1) (omega arith) v.objects new completed-add (v.tasks t).state (h.task-lists t z);
-        place-lists = place-add;
+            (λ l. lower-stays v.header.used v.places ps ft.old_places p (v.objects p) (in-used p l) (h.items p l));
+        object_lists = λ p z. each (λ p y. T (object_values (top + 1) new y)) p z (object-add x ft.known) (λ l. object-add (v.objects p) (h.object_lists p l));
+        task_lists = λ t z. state_stays top (top + 1) (omega arith) v.objects new completed-add (v.tasks t).state (h.task_lists t z);
+        place_lists = place-add;
         entries = h.entries;
         calls = calls-add;
         task_of = h.task_of;
@@ -273,10 +273,10 @@ module _ (v : View) (x : Object) (n : ℕ) (ps : ℕ → Place) (c : ℕ) (ft : 
         awaited = λ p z d t. each (λ p y. awaiter_of y ≡ Awaiter.Task (task_id t) → T (is_live (v.tasks t).state) → blocked_on (v.tasks t).state ≡ some p) p z
             (λ e. absurd (nobody-task (sym ft.free ∙ e))) (λ l. h.awaited p l d t);
         filled = λ p z d. each (λ p y. T (object_filled ps y)) p z ft.filled
-            (λ l. filled-stays v.header.used v.places ps ft.old-places (v.objects p) (in-used p l) (h.filled p l d));
-        object-slots = λ p z d g y. each (λ p r. awaiter_of r ≡ Awaiter.GatherSlot (heap_id g) (heap_id y) → Slotted (top + 1) new ps p g y) p z
-            (λ e. absurd (nobody_slot (sym ft.free ∙ e))) (λ l e. slotted-add p g y (h.object-slots p l d g y e));
-        task-slots = λ t l a g y e. slotted-add (v.tasks t).coroutine.0 g y (h.task-slots t l a g y e);
+            (λ l. filled-stays v.header.used v.places ps ft.old_places (v.objects p) (in-used p l) (h.filled p l d));
+        object_slots = λ p z d g y. each (λ p r. awaiter_of r ≡ Awaiter.GatherSlot (heap_id g) (heap_id y) → Slotted (top + 1) new ps p g y) p z
+            (λ e. absurd (nobody_slot (sym ft.free ∙ e))) (λ l e. slotted-add p g y (h.object_slots p l d g y e));
+        task_slots = λ t l a g y e. slotted-add (v.tasks t).coroutine.0 g y (h.task_slots t l a g y e);
       }
 
 -- ---- the event `call`
@@ -300,7 +300,7 @@ added_to h n = record { made = h.made + 1; used = h.used + n; calls = h.calls; n
 pub added_fits : (s : Store) (n : ℕ) → (header s).made < object_limit → (header s).used + n ≤ place_limit → HeaderFits (added_to (header s) n)
 added_fits s n l r =
     let f : HeaderFits (header s) = header-fits s in
-    record { made-fits = omega arith; used-fits = r; calls-fit = f.calls-fit; next_fits = f.next_fits; moment_fits = f.moment_fits }
+    record { made_fits = omega arith; used_fits = r; calls_fit = f.calls_fit; next_fits = f.next_fits; moment_fits = f.moment_fits }
 
 pub view-add : (s : Store) (x : Object) (n : ℕ) → Sized s → (header s).made < object_limit → (header s).used + n ≤ place_limit → ObjectFits x
     → view (add_object s x n) ≡ add (view s) x n (place s) (header s).calls
@@ -329,13 +329,13 @@ module _ (s : Store) (z : Sized s) (h : SoundFacts (view s)) (l : (header s).mad
       (record { but = add_keeps (view s) x n (place s) (header s).calls ft h.but; runner = h.runner; runs = h.runs }))
 
   no-places : (header s).used + 0 ≤ place_limit
-  no-places = omega (arith, (header-fits s).used-fits)
+  no-places = omega (arith, (header-fits s).used_fits)
 
   -- ---- the event `coroutine`
 
-  coroutine-fits : (f : ℕ) → AddFits (view s) (Object.Coroutine f CoroutineState.New) 0 (place s) (header s).calls
+  coroutine_fits : (f : ℕ) → AddFits (view s) (Object.Coroutine f CoroutineState.New) 0 (place s) (header s).calls
   unfolding view add kind count_of object_in_range items_below object_values as_pending awaiter_of object_filled
-  coroutine-fits f = record {
+  coroutine_fits f = record {
     room = added_fits s 0 l no-places;
     calls = le_refl _;
     count = refl;
@@ -346,19 +346,19 @@ module _ (s : Store) (z : Sized s) (h : SoundFacts (view s)) (l : (header s).mad
     call = λ on a e. absurd_some e;
     free = refl;
     filled = tt;
-    old-places = λ p y. refl;
-    new-places = λ p y k. absurd (not-suc-le-zero {n = 0} (omega arith));
+    old_places = λ p y. refl;
+    new_places = λ p y k. absurd (not-suc-le-zero {n = 0} (omega arith));
   }
 
   pub coroutine_keeps : (f : ℕ) → f < u32_limit → SoundFacts (view (make_coroutine s f))
   unfolding make_coroutine
-  coroutine_keeps f k = add-sound (Object.Coroutine f CoroutineState.New) 0 k no-places (coroutine-fits f)
+  coroutine_keeps f k = add-sound (Object.Coroutine f CoroutineState.New) 0 k no-places (coroutine_fits f)
 
   -- ---- the events `pending` and `settled`: an external with no awaiter, of a call that was handed out
 
   module _ (c : ℕ) (k : c < (header s).calls) where
     c-fits : c < u32_limit
-    c-fits = omega (arith, (header-fits s).calls-fit)
+    c-fits = omega (arith, (header-fits s).calls_fit)
 
     pending-fits : (r : OptionValue) → T (option_known (header s).made (object s) r)
         → ((p : ℕ) → p < (header s).made → (b : PendingExternal) → as_pending (object s p) ≡ some b → c ≡ b.call.0 → ⊥)
@@ -375,8 +375,8 @@ module _ (s : Store) (z : Sized s) (h : SoundFacts (view s)) (l : (header s).mad
       call = λ on a e p m b f q. new p m b f (ap (λ (u : PendingExternal). u.call.0) (some-injective _ a e) ∙ q);
       free = refl;
       filled = tt;
-      old-places = λ p y. refl;
-      new-places = λ p y j. absurd (not-suc-le-zero {n = 0} (omega arith));
+      old_places = λ p y. refl;
+      new_places = λ p y j. absurd (not-suc-le-zero {n = 0} (omega arith));
     }
 
     resolved-fits : (v : Value) → T (value_known (header s).made (object s) v)
@@ -393,8 +393,8 @@ module _ (s : Store) (z : Sized s) (h : SoundFacts (view s)) (l : (header s).mad
       call = λ on a e. absurd_some e;
       free = refl;
       filled = tt;
-      old-places = λ p y. refl;
-      new-places = λ p y j. absurd (not-suc-le-zero {n = 0} (omega arith));
+      old_places = λ p y. refl;
+      new_places = λ p y j. absurd (not-suc-le-zero {n = 0} (omega arith));
     }
 
     resolved-sound : (v : Value) → T (value_known (header s).made (object s) v)
@@ -416,7 +416,7 @@ module _ (s : Store) (z : Sized s) where
   unfolding next_calls set_calls
   next-header k =
       let f : HeaderFits (header s) = header-fits s in
-      header_put-header s _ z (record { made-fits = f.made-fits; used-fits = f.used-fits; calls-fit = omega arith; next_fits = f.next_fits; moment_fits = f.moment_fits })
+      header_put-header s _ z (record { made_fits = f.made_fits; used_fits = f.used_fits; calls_fit = omega arith; next_fits = f.next_fits; moment_fits = f.moment_fits })
 
   next-objects : ◌≡◌ {A = ℕ → Object} (object next_calls) (object s)
   unfolding next_calls set_calls
@@ -473,7 +473,7 @@ items_there (o ∷ os) s p q n z m a l r i =
     there : q ≡ p → place (put_items (put_place s p (blank o)) (p + 1) os) q ≡ blank o
     there e =
         items-before os (put_place s p (blank o)) (p + 1) q (omega arith)
-        ∙ (rw e (place_put-place s p (blank o) z (omega arith) (record { item-fits = omega (arith, a.0); result_fits = tt })))
+        ∙ (rw e (place_put-place s p (blank o) z (omega arith) (record { item_fits = omega (arith, a.0); result_fits = tt })))
 
     by : Dec (q ≡ p) → ((q ≡ p → ⊥) → Fresh n (place (put_items (put_place s p (blank o)) (p + 1) os) q))
         → Fresh n (place (put_items (put_place s p (blank o)) (p + 1) os) q)
@@ -487,9 +487,9 @@ module _ (s : Store) (os : List ℕ) (z : Sized s) (h : SoundFacts (view s)) (l 
   abbrev gathered : Object
   gathered = Object.GatherFuture (header s).used (length os) GatherState.Pending
 
-  same-header : header filled_in ≡ header s
+  same_header : header filled_in ≡ header s
   unfolding filled_in view with_places
-  same-header = ap (λ (v : View). v.header) (items-view os s (header s).used)
+  same_header = ap (λ (v : View). v.header) (items-view os s (header s).used)
 
   there : (p : ℕ) → (header s).used ≤ p → p < (header s).used + length os → Fresh (header s).made (place filled_in p)
   unfolding filled_in
@@ -508,14 +508,14 @@ module _ (s : Store) (os : List ℕ) (z : Sized s) (h : SoundFacts (view s)) (l 
     call = λ on a e. absurd_some e;
     free = refl;
     filled = tt;
-    old-places = λ p y. items-before os s (header s).used p y;
-    new-places = λ p y k. (there p y k).empty;
+    old_places = λ p y. items-before os s (header s).used p y;
+    new_places = λ p y k. (there p y k).empty;
   }
 
   gather-view : view (add_object filled_in gathered (length os)) ≡ add (view s) gathered (length os) (place filled_in) (header s).calls
   unfolding filled_in add with_places view
   gather-view =
-      let e : header filled_in ≡ header s = same-header in
+      let e : header filled_in ≡ header s = same_header in
       view-add filled_in gathered (length os) (items-sized os s (header s).used z) (subst (λ (y : Header). y.made < object_limit) (sym e) l)
       (subst (λ (y : Header). y.used + length os ≤ place_limit) (sym e) r) (record { within = r; at_most = few }, tt)
       ∙ ap (λ (v : View). add v gathered (length os) (place filled_in) v.header.calls) (items-view os s (header s).used)

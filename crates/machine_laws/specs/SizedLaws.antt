@@ -58,7 +58,7 @@ sized-remove_task s t z = sized-put_queue _ _ (sized-put_task s t absent z)
 sized_commits : Commits Sized
 sized_commits = record {
   row = λ s o x l q z. sized-put_object s o x z;
-  value-put = λ s p v z. sized-put_place s p _ z;
+  value_put = λ s p v z. sized-put_place s p _ z;
   spawns = λ s c g l z. sized-spawn_as s _ c g z;
 }
 
@@ -66,7 +66,7 @@ pub sized_closed : Closed Sized
 sized_closed = record {
   sized = λ s z. z;
   row = λ s o x l q z. sized-put_object s o x z;
-  values-put = λ s ps e z. sized-put_places s ps e z;
+  values_put = λ s ps e z. sized-put_places s ps e z;
   queued = λ s q z. sized-put_queue s q z;
   moved = λ s m f z. sized-set_moment s m z;
   wakes = λ s t x l b r z. sized-add_log _ (reached t) (sized-make_ready s t x z);
@@ -111,7 +111,7 @@ waiting-header : (s : Store) → Sized s → (header (set_moment s Moment.Waitin
 unfolding set_moment
 waiting-header s z =
     let f : HeaderFits (header s) = header-fits s in
-    ap (λ (h : Header). h.made) (header_put-header s _ z (record { made-fits = f.made-fits; used-fits = f.used-fits; calls-fit = f.calls-fit; next_fits = f.next_fits; moment_fits = tt }))
+    ap (λ (h : Header). h.made) (header_put-header s _ z (record { made_fits = f.made_fits; used_fits = f.used_fits; calls_fit = f.calls_fit; next_fits = f.next_fits; moment_fits = tt }))
 
 pub waiting_calls : (s : Store) → Sized s → pending_call_ids (set_moment s Moment.Waiting) ≡ pending_call_ids s
 unfolding pending_call_ids pending_calls_in
@@ -264,9 +264,9 @@ step-says s e z = (step_left s e z).says
 empty-sized : Sized empty
 unfolding empty
 empty-sized = record {
-  tasks-sized = length-replicate {A = ℕ} tasks_length 0;
-  objects-sized = length-replicate {A = ℕ} objects_length 0;
-  places-sized = length-replicate {A = ℕ} places_length 0;
+  tasks_sized = length-replicate {A = ℕ} tasks_length 0;
+  objects_sized = length-replicate {A = ℕ} objects_length 0;
+  places_sized = length-replicate {A = ℕ} places_length 0;
 }
 
 pub fresh-sized : Sized fresh

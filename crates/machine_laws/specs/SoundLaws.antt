@@ -59,7 +59,7 @@ items_words (o ∷ os) s p next made z r a k =
     let e : p + 1 + length os ≡ p + suc (length os) = omega arith in
     subst (λ (n : ℕ). WordsInRange next made n (put_items (put_place s p (blank o)) (p + 1) os)) e
     (items_words os (put_place s p (blank o)) (p + 1) next made (sized-put_place s p (blank o) z) (omega arith) a.1
-    (words_put_place next made p s z k (p + 1) p (blank o) (omega arith) (record { item-fits = a.0; result_fits = tt }) (λ q m ne. omega arith)))
+    (words_put_place next made p s z k (p + 1) p (blank o) (omega arith) (record { item_fits = a.0; result_fits = tt }) (λ q m ne. omega arith)))
 
 all_below_more : (m n : ℕ) (os : List ℕ) → m ≤ n → AllBelow m os → AllBelow n os
 unfolding AllBelow
@@ -88,7 +88,7 @@ module _ (s : Store) (z : Sized s) (h : T (sound s)) where
   words-none = let e : (header s).used ≡ (header s).used + 0 = omega arith in subst (λ (u : ℕ). WordsInRange (header s).next (header s).made u s) e words
 
   no_room : (header s).used + 0 ≤ place_limit
-  no_room = omega (arith, (header-fits s).used-fits)
+  no_room = omega (arith, (header-fits s).used_fits)
 
   call-words : (header s).calls < call_limit → T (words_in_range (next_calls s z))
   unfolding next_calls set_calls
@@ -96,9 +96,9 @@ module _ (s : Store) (z : Sized s) (h : T (sound s)) where
       let f : HeaderFits (header s) = header-fits s in
       words_test (next_calls s z) (subst (λ (y : Header). WordsInRange y.next y.made y.used (next_calls s z)) (sym (next-header s z k))
       (words_put_header _ _ _ s z words _ (record {
-        made-fits = f.made-fits;
-        used-fits = f.used-fits;
-        calls-fit = omega arith;
+        made_fits = f.made_fits;
+        used_fits = f.used_fits;
+        calls_fit = omega arith;
         next_fits = f.next_fits;
         moment_fits = f.moment_fits;
       })))
@@ -116,7 +116,7 @@ module _ (s : Store) (z : Sized s) (h : T (sound s)) where
         → ((p : ℕ) → p < (header s).made → (b : PendingExternal) → as_pending (object s p) ≡ some b → c ≡ b.call.0 → ⊥) → T (sound (make_pending s c r))
     pending-sound c k r t new =
         sound-from (make_pending s c r) (unfold make_pending in
-        add_words s _ 0 z l no_room (omega (arith, (header-fits s).calls-fit), (tt, option_fits _ (object s) r (omega arith) t)) words-none)
+        add_words s _ 0 z l no_room (omega (arith, (header-fits s).calls_fit), (tt, option_fits _ (object s) r (omega arith) t)) words-none)
         (pending_keeps s z facts l c k r t new)
 
     settled-sound : (header s).calls < call_limit → (v : Value) → T (value_known (header s).made (object s) v) → T (sound (make_settled s v))
@@ -135,7 +135,7 @@ module _ (s : Store) (z : Sized s) (h : T (sound s)) where
 
         settled-words : T (words_in_range (make_settled s v))
         settled-words = unfold make_settled next_calls in
-            (add_words u _ 0 (next-sized s z) (subst (λ (y : Header). y.made < object_limit) (sym e) l) (omega (arith, (header-fits u).used-fits))
+            (add_words u _ 0 (next-sized s z) (subst (λ (y : Header). y.made < object_limit) (sym e) l) (omega (arith, (header-fits u).used_fits))
             (omega arith, value-fits _ (object s) v (omega arith) t) words_right)
 
     gather-sound : (os : List ℕ) → length os ≤ item_limit → (header s).used + length os ≤ place_limit → AllBelow (header s).made os → T (sound (make_gather s os))

@@ -17,15 +17,15 @@ use Rattle.machine_laws.specs.Views.{Sized}
 
 -- nothing but what has happened differs
 pub record SameWords (s u : Store) : Type 0 where
-  pub same-tasks : u.tasks ≡ s.tasks
-  pub same-objects : u.objects ≡ s.objects
+  pub same_tasks : u.tasks ≡ s.tasks
+  pub same_objects : u.objects ≡ s.objects
   pub same_places : u.places ≡ s.places
   pub same_queue : u.queue ≡ s.queue
 
 -- the same tasks live, and the header is as it was
 pub record SameLive (s u : Store) : Type 0 where
   pub sized : Sized u
-  pub same-header : header u ≡ header s
+  pub same_header : header u ≡ header s
   pub lives : (t : ℕ) → is_live (task u t).state ≡ is_live (task s t).state
 
 -- a kind, with no word of whether an awaited gather has completed

@@ -36,50 +36,50 @@ use Rattle.machine_laws.specs.Views.{Sized, update, with_task, with_object, with
 pub sized-put_task : (s : Store) (t : ℕ) (r : Task) → Sized s → Sized (put_task s t r)
 unfolding put_task
 sized-put_task s t r z = record {
-  tasks-sized = length-task_put s.tasks t r ∙ z.tasks-sized;
-  objects-sized = z.objects-sized;
-  places-sized = z.places-sized;
+  tasks_sized = length-task_put s.tasks t r ∙ z.tasks_sized;
+  objects_sized = z.objects_sized;
+  places_sized = z.places_sized;
 }
 
 pub sized-put_object : (s : Store) (o : ℕ) (r : Object) → Sized s → Sized (put_object s o r)
 unfolding put_object
 sized-put_object s o r z = record {
-  tasks-sized = z.tasks-sized;
-  objects-sized = length-object_put s.objects o r ∙ z.objects-sized;
-  places-sized = z.places-sized;
+  tasks_sized = z.tasks_sized;
+  objects_sized = length-object_put s.objects o r ∙ z.objects_sized;
+  places_sized = z.places_sized;
 }
 
 pub sized-put_place : (s : Store) (p : ℕ) (r : Place) → Sized s → Sized (put_place s p r)
 unfolding put_place
 sized-put_place s p r z = record {
-  tasks-sized = z.tasks-sized;
-  objects-sized = z.objects-sized;
-  places-sized = length-place_put s.places p r ∙ z.places-sized;
+  tasks_sized = z.tasks_sized;
+  objects_sized = z.objects_sized;
+  places_sized = length-place_put s.places p r ∙ z.places_sized;
 }
 
 pub sized-put_header : (s : Store) (h : Header) → Sized s → Sized (put_header s h)
 unfolding put_header
 sized-put_header s h z = record {
-  tasks-sized = z.tasks-sized;
-  objects-sized = length-header_put s.objects h ∙ z.objects-sized;
-  places-sized = z.places-sized;
+  tasks_sized = z.tasks_sized;
+  objects_sized = length-header_put s.objects h ∙ z.objects_sized;
+  places_sized = z.places_sized;
 }
 
 pub sized-put_places : (s : Store) (ps : List ℕ) → length ps ≡ places_length → Sized s → Sized (put_places s ps)
 unfolding put_places
-sized-put_places s ps e z = record { tasks-sized = z.tasks-sized; objects-sized = z.objects-sized; places-sized = e }
+sized-put_places s ps e z = record { tasks_sized = z.tasks_sized; objects_sized = z.objects_sized; places_sized = e }
 
 pub sized-put_queue : (s : Store) (q : ReadyQueue) → Sized s → Sized (put_queue s q)
 unfolding put_queue
-sized-put_queue s q z = record { tasks-sized = z.tasks-sized; objects-sized = z.objects-sized; places-sized = z.places-sized }
+sized-put_queue s q z = record { tasks_sized = z.tasks_sized; objects_sized = z.objects_sized; places_sized = z.places_sized }
 
 pub sized-add_log : (s : Store) (h : LogEntry) → Sized s → Sized (add_log s h)
 unfolding add_log
-sized-add_log s h z = record { tasks-sized = z.tasks-sized; objects-sized = z.objects-sized; places-sized = z.places-sized }
+sized-add_log s h z = record { tasks_sized = z.tasks_sized; objects_sized = z.objects_sized; places_sized = z.places_sized }
 
 pub sized-forget : (s : Store) → Sized s → Sized (forget s)
 unfolding forget
-sized-forget s z = record { tasks-sized = z.tasks-sized; objects-sized = z.objects-sized; places-sized = z.places-sized }
+sized-forget s z = record { tasks_sized = z.tasks_sized; objects_sized = z.objects_sized; places_sized = z.places_sized }
 
 pub sized-set_state : (s : Store) (t : ℕ) (x : TaskState) → Sized s → Sized (set_state s t x)
 unfolding set_state
@@ -105,19 +105,19 @@ sized-add_object s r n z = sized-put_object _ (header s).made r (sized-put_heade
 
 pub task_put-task : (s : Store) (t : ℕ) (r : Task) → Sized s → t < task_limit → TaskFits r → task (put_task s t r) t ≡ r
 unfolding task put_task
-task_put-task s t r z l f = task_at_put s.tasks t r f (omega (arith, z.tasks-sized))
+task_put-task s t r z l f = task_at_put s.tasks t r f (omega (arith, z.tasks_sized))
 
 pub object_put-object : (s : Store) (o : ℕ) (r : Object) → Sized s → o < object_limit → ObjectFits r → object (put_object s o r) o ≡ r
 unfolding object put_object
-object_put-object s o r z l f = object_at_put s.objects o r f (omega (arith, z.objects-sized))
+object_put-object s o r z l f = object_at_put s.objects o r f (omega (arith, z.objects_sized))
 
 pub place_put-place : (s : Store) (p : ℕ) (r : Place) → Sized s → p < place_limit → PlaceFits r → place (put_place s p r) p ≡ r
 unfolding place put_place
-place_put-place s p r z l f = place_at_put s.places p r f (omega (arith, z.places-sized))
+place_put-place s p r z l f = place_at_put s.places p r f (omega (arith, z.places_sized))
 
 pub header_put-header : (s : Store) (h : Header) → Sized s → HeaderFits h → header (put_header s h) ≡ h
 unfolding header put_header
-header_put-header s h z f = header_at_put s.objects h f (omega (arith, z.objects-sized))
+header_put-header s h z f = header_at_put s.objects h f (omega (arith, z.objects_sized))
 
 -- ---- of what was put the kind, and whether the task lives, is read back even where it does not fit
 
@@ -134,7 +134,7 @@ kind_at_put w o r z l = ap (λ (x : List ℕ). kind (to_object x)) (row-put_at o
 
 pub kind-put_object : (s : Store) (o : ℕ) (r : Object) → Sized s → o < object_limit → kind (object (put_object s o r) o) ≡ kind r
 unfolding object put_object
-kind-put_object s o r z l = kind_at_put s.objects o r z.objects-sized l
+kind-put_object s o r z l = kind_at_put s.objects o r z.objects_sized l
 
 -- a gather's places are in range
 abbrev pub PlacesOf : Object → Type 0
@@ -160,7 +160,7 @@ count_back (Object.GatherFuture i n (GatherState.Failed e)) f = omega (arith, f.
 pub count-put_object : (s : Store) (o : ℕ) (r : Object) → Sized s → o < object_limit → PlacesOf r → count_of (object (put_object s o r) o) ≡ count_of r
 unfolding object put_object object_at object_put
 count-put_object s o r z l f =
-    let w : length s.objects ≡ objects_length = z.objects-sized in
+    let w : length s.objects ≡ objects_length = z.objects_sized in
     ap (λ (x : List ℕ). count_of (to_object x)) (row-put_at object_codec s.objects (object_start o) r (omega arith)) ∙ count_back r f
 
 live_back : (x : TaskState) → is_live (to_state (state_words x).0 (state_words x).1 (state_words x).2) ≡ is_live x
@@ -174,7 +174,7 @@ live_back (TaskState.Blocked o) = refl
 pub live-put_task : (s : Store) (t : ℕ) (r : Task) → Sized s → t < task_limit → is_live (task (put_task s t r) t).state ≡ is_live r.state
 unfolding task put_task task_at task_put
 live-put_task s t r z l =
-    ap (λ (x : List ℕ). is_live (to_task x).state) (row-put_at task_codec s.tasks (task_start t) r (omega (arith, z.tasks-sized)))
+    ap (λ (x : List ℕ). is_live (to_task x).state) (row-put_at task_codec s.tasks (task_start t) r (omega (arith, z.tasks_sized)))
     ∙ live_back r.state
 
 -- ---- other rows stay

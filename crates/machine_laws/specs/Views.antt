@@ -10,9 +10,9 @@ use Rattle.machine.specs.Store.{Store, View}
 
 -- the slices have their lengths
 pub record Sized (s : Store) : Type 0 where
-  pub tasks-sized : length s.tasks ≡ tasks_length
-  pub objects-sized : length s.objects ≡ objects_length
-  pub places-sized : length s.places ≡ places_length
+  pub tasks_sized : length s.tasks ≡ tasks_length
+  pub objects_sized : length s.objects ≡ objects_length
+  pub places_sized : length s.places ≡ places_length
 
 -- a table with row i written
 unfoldable pub update : {R : Type 0} → (ℕ → R) → ℕ → R → ℕ → R

@@ -56,13 +56,13 @@ pub data Turns : Object → Object → Type 0 where
 -- K is kept by each write of a commit
 pub record Commits (K : Store → Type 0) : Type 0 where
   pub row : (s : Store) (o : ℕ) (x : Object) → o < object_limit → Turns (object s o) x → K s → K (put_object s o x)
-  pub value-put : (s : Store) (p : ℕ) (v : Value) → K s → K (put_place s p (record { item = (place s p).item; result = OptionValue.Some v }))
+  pub value_put : (s : Store) (p : ℕ) (v : Value) → K s → K (put_place s p (record { item = (place s p).item; result = OptionValue.Some v }))
   pub spawns : (s : Store) (c g : ℕ) → (header s).next < task_limit → K s → K (spawn_as s (header s).next c g)
 
 -- the same, where a task is spawned for a new coroutine without a live task
 pub record NewCommits (K : Store → Type 0) : Type 0 where
   pub row : (s : Store) (o : ℕ) (x : Object) → o < object_limit → Turns (object s o) x → K s → K (put_object s o x)
-  pub value-put : (s : Store) (p : ℕ) (v : Value) → K s → K (put_place s p (record { item = (place s p).item; result = OptionValue.Some v }))
+  pub value_put : (s : Store) (p : ℕ) (v : Value) → K s → K (put_place s p (record { item = (place s p).item; result = OptionValue.Some v }))
   pub spawns : (s : Store) (c g f : ℕ) → (header s).next < task_limit → c < object_limit → object s c ≡ Object.Coroutine f CoroutineState.New → task_of s c ≡ none → K s
       → K (spawn_as s (header s).next c g)
 
@@ -70,7 +70,7 @@ pub record NewCommits (K : Store → Type 0) : Type 0 where
 pub record Delivers (K : Store → Type 0) : Type 0 where
   pub sized : (s : Store) → K s → Sized s
   pub row : (s : Store) (o : ℕ) (x : Object) → o < object_limit → Turns (object s o) x → K s → K (put_object s o x)
-  pub values-put : (s : Store) (ps : List ℕ) → length ps ≡ places_length → K s → K (put_places s ps)
+  pub values_put : (s : Store) (ps : List ℕ) → length ps ≡ places_length → K s → K (put_places s ps)
   pub wakes : (s : Store) (t : ℕ) (x : TaskState) → t < task_limit → is_blocked (task s t).state ≡ true → is_ready x ≡ true → is_unstarted x ≡ false → K s → K (add_log (make_ready s t x) (reached t))
 
 -- by each write of a switch: a task that has started runs on; another starts its coroutine, which is new, or fails and goes, where it is not
@@ -92,7 +92,7 @@ pub record Cancels (K : Store → Type 0) : Type 0 where
 pub record Closed (K : Store → Type 0) : Type 0 where
   pub sized : (s : Store) → K s → Sized s
   pub row : (s : Store) (o : ℕ) (x : Object) → o < object_limit → Turns (object s o) x → K s → K (put_object s o x)
-  pub values-put : (s : Store) (ps : List ℕ) → length ps ≡ places_length → K s → K (put_places s ps)
+  pub values_put : (s : Store) (ps : List ℕ) → length ps ≡ places_length → K s → K (put_places s ps)
   pub queued : (s : Store) (q : ReadyQueue) → K s → K (put_queue s q)
   pub moved : (s : Store) (m : Moment) → MomentFits m → K s → K (set_moment s m)
   pub wakes : (s : Store) (t : ℕ) (x : TaskState) → t < task_limit → is_blocked (task s t).state ≡ true → is_ready x ≡ true → K s → K (add_log (make_ready s t x) (reached t))
@@ -130,7 +130,7 @@ not_external x w c y e q = absurd_some (sym (ap as_awaited q) ∙ e)
 -- what is found for a call is an object
 made_low : (s : Store) → (header_at s.objects).made ≤ object_limit
 unfolding header
-made_low s = (header-fits s).made-fits
+made_low s = (header-fits s).made_fits
 
 found_low : (s : Store) (c o : ℕ) → pending_external s c ≡ some o → o < object_limit
 unfolding pending_external pending_external_in
@@ -153,23 +153,23 @@ module _ (K : Store → Type 0) (kept : Delivers K) where
     where
       by : (w : Option AwaitedGather) → as_awaited (object s g) ≡ w → K (resolve_awaited s g x v w).store
       by none e = unfold resolve_awaited in k
-      by (some w) e = unfold resolve_awaited in (left (eqb f.open-places 0))
+      by (some w) e = unfold resolve_awaited in (left (eqb f.open_places 0))
         where
           f : Filled
-          f = fill_from s.places w.open-places w.first x v 0 w.count
+          f = fill_from s.places w.open_places w.first x v 0 w.count
 
           m : Store
           m = put_places s f.places
 
           k1 : K m
-          k1 = kept.values-put s f.places (length-fill_from w.count s.places w.open-places w.first x v 0 ∙ (kept.sized s k).places-sized) k
+          k1 = kept.values_put s f.places (length-fill_from w.count s.places w.open_places w.first x v 0 ∙ (kept.sized s k).places_sized) k
 
           e1 : as_awaited (object m g) ≡ some w
           e1 = unfold object put_places in e
 
-          left : (b : Bool) → K (resolve_left b m g w f.open-places).store
+          left : (b : Bool) → K (resolve_left b m g w f.open_places).store
           left true = unfold resolve_left in (kept.row m g _ l (awaited-turns (object m g) w GatherState.Completed e1) k1)
-          left false = unfold resolve_left in (kept.row m g _ l (awaited-turns (object m g) w (GatherState.Awaited w.awaiter f.open-places) e1) k1)
+          left false = unfold resolve_left in (kept.row m g _ l (awaited-turns (object m g) w (GatherState.Awaited w.awaiter f.open_places) e1) k1)
 
   fails : (s : Store) (g : ℕ) (e : Error) → g < object_limit → K s → K (fail_gather s g e).store
   unfolding fail_gather
@@ -431,7 +431,7 @@ module _ (K : Store → Type 0) (kept : NewCommits K) where
   put-item-kept g w i o go h lg lo s (polled r) e k p = by r.poll
     where
       by : (y : Poll) → StopKept (put_polled g w i r.store y go)
-      by (ready v) = unfold put_polled fill_place in (h _ (kept.value-put r.store _ v p.keeps))
+      by (ready v) = unfold put_polled fill_place in (h _ (kept.value_put r.store _ v p.keeps))
       by (raised x) = unfold put_polled StopKept in p.keeps
       by pending = unfold put_polled open_place in (h _ (kept.row r.store g _ lg (awaited-turns (object r.store g) w _ (ap as_awaited p.still ∙ e)) p.keeps))
 
@@ -444,7 +444,7 @@ module _ (K : Store → Type 0) (kept : NewCommits K) where
       by none e h = k
       by (some w) e h =
           let o : ℕ = (place s (w.first + i)).item.0 in
-          let low : o < object_limit = (place-fits s (w.first + i)).item-fits in
+          let low : o < object_limit = (place-fits s (w.first + i)).item_fits in
           put-item-kept g w i o (λ x. step_items n x g (i + 1)) h l low s (item s g w o) e k (item-kept s g w o low e k)
 
   set-kept : (s : Store) (g : ℕ) (y : GatherState) → g < object_limit → K s → K (set_gather s g y)
@@ -457,14 +457,14 @@ module _ (K : Store → Type 0) (kept : NewCommits K) where
     where
       by : (a : Option AwaitedGather) → K (settle_as s g a).store
       by none = unfold settle_as in k
-      by (some w) = unfold settle_as in (pick_has (λ (r : Polled). K r.store) (eqb w.open-places 0) (set-kept s g GatherState.Completed l k) k)
+      by (some w) = unfold settle_as in (pick_has (λ (r : Polled). K r.store) (eqb w.open_places 0) (set-kept s g GatherState.Completed l k) k)
 
   resume-child-kept : (f : Frame) (r : Polled) → f.gather < object_limit → K r.store → K (resume_after_child f r)
   unfolding resume_after_child
   resume-child-kept f r l k = by (as_awaited (object r.store f.gather)) refl
     where
       poll-by : (w : AwaitedGather) → as_awaited (object r.store f.gather) ≡ some w → (p : Poll) → K (resume_in r.store f w p)
-      poll-by w e (ready v) = unfold resume_in fill_place in (kept.value-put r.store _ v k)
+      poll-by w e (ready v) = unfold resume_in fill_place in (kept.value_put r.store _ v k)
       poll-by w e (raised x) = unfold resume_in in k
       poll-by w e pending = unfold resume_in open_place in (kept.row r.store f.gather _ l (awaited-turns (object r.store f.gather) w _ e) k)
 
@@ -555,37 +555,37 @@ task_of-spawned s c t e = first_above _ _ 1 t e
 module _ (K : Store → Type 0) (kept : Cancels K) (tasks : ℕ → Option ℕ) (spawned : (o t : ℕ) → tasks o ≡ some t → 1 ≤ t) where
   record WalkKept (w : Walk) : Type 0 where
     keeps : K w.store
-    same-tasks : w.tasks-of ≡ tasks
+    same_tasks : w.tasks_of ≡ tasks
 
   reach-kept : (w : Walk) (g : ℕ) → WalkKept w → WalkKept (reach w g)
   unfolding reach
   reach-kept w g k = by (is_some (as_awaited (object w.store g)) && not (get_or w.marks g false))
     where
       by : (b : Bool) → WalkKept (reach_if w g b)
-      by true = unfold reach_if in (record { keeps = k.keeps; same-tasks = k.same-tasks })
+      by true = unfold reach_if in (record { keeps = k.keeps; same_tasks = k.same_tasks })
       by false = unfold reach_if in k
 
-  removes : (w : Walk) (t : ℕ) (b : Option ℕ) → K (cancel_one w.store t) → w.tasks-of ≡ tasks → WalkKept (remove_blocked w t b)
+  removes : (w : Walk) (t : ℕ) (b : Option ℕ) → K (cancel_one w.store t) → w.tasks_of ≡ tasks → WalkKept (remove_blocked w t b)
   unfolding remove_blocked
-  removes w t none k e = record { keeps = k; same-tasks = e }
-  removes w t (some b) k e = reach-kept _ b (record { keeps = k; same-tasks = e })
+  removes w t none k e = record { keeps = k; same_tasks = e }
+  removes w t (some b) k e = reach-kept _ b (record { keeps = k; same_tasks = e })
 
   visits : (w : Walk) (o : ℕ) → WalkKept w → WalkKept (visit w o)
   unfolding visit
-  visits w o k = found (w.tasks-of o) refl
+  visits w o k = found (w.tasks_of o) refl
     where
       live-by : (t : ℕ) (b : Bool) → is_live (task w.store t).state ≡ b → 1 ≤ t → WalkKept (visit_by w o (pick b (some t) none))
-      live-by t true e n = unfold visit_by in (removes w t _ (unfold cancel_one in (kept.goes w.store t e n k.keeps)) k.same-tasks)
+      live-by t true e n = unfold visit_by in (removes w t _ (unfold cancel_one in (kept.goes w.store t e n k.keeps)) k.same_tasks)
       live-by t false e n = unfold visit_by in (reach-kept w o k)
 
-      found : (d : Option ℕ) → w.tasks-of o ≡ d → WalkKept (visit_by w o (still_live w.store.tasks d))
+      found : (d : Option ℕ) → w.tasks_of o ≡ d → WalkKept (visit_by w o (still_live w.store.tasks d))
       found none e = unfold still_live visit_by in (reach-kept w o k)
-      found (some t) e = unfold still_live in (live-by t (is_live (task_at w.store.tasks t).state) (unfold task in refl) (spawned o t (ap (λ (f : ℕ → Option ℕ). f o) (sym k.same-tasks) ∙ e)))
+      found (some t) e = unfold still_live in (live-by t (is_live (task_at w.store.tasks t).state) (unfold task in refl) (spawned o t (ap (λ (f : ℕ → Option ℕ). f o) (sym k.same_tasks) ∙ e)))
 
   visits-open : (n : ℕ) (w : Walk) (a : AwaitedGather) (i : ℕ) → WalkKept w → WalkKept (visit_open w a i n)
   unfolding visit_open visit_place
   visits-open zero w a i k = k
-  visits-open (suc n) w a i k = visits-open n _ a (i + 1) (pick_has WalkKept (bit a.open-places i) (visits w _ k) k)
+  visits-open (suc n) w a i k = visits-open n _ a (i + 1) (pick_has WalkKept (bit a.open_places i) (visits w _ k) k)
 
   walk-gather-kept : (w : Walk) (a : Option AwaitedGather) → WalkKept w → WalkKept (walk_gather w a)
   unfolding walk_gather
@@ -595,7 +595,7 @@ module _ (K : Store → Type 0) (kept : Cancels K) (tasks : ℕ → Option ℕ) 
   walk-next-kept : (go : Walk → Store) → ((w : Walk) → WalkKept w → K (go w)) → (w : Walk) (gs : List ℕ) → WalkKept w → K (walk_next go w gs)
   unfolding walk_next
   walk-next-kept go h w [] k = k.keeps
-  walk-next-kept go h w (g ∷ gs) k = h _ (walk-gather-kept _ _ (record { keeps = k.keeps; same-tasks = k.same-tasks }))
+  walk-next-kept go h w (g ∷ gs) k = h _ (walk-gather-kept _ _ (record { keeps = k.keeps; same_tasks = k.same_tasks }))
 
   walk_kept : (n : ℕ) (w : Walk) → WalkKept w → K (walk n w)
   unfolding walk
@@ -611,7 +611,7 @@ walked-kept K kept s t k = walk_kept K kept (task_of s) (task_of-spawned s) obje
 
 module _ (K : Store → Type 0) (kept : Commits K) where
   commits-of : NewCommits K
-  commits-of = record { row = kept.row; value-put = kept.value-put; spawns = λ s c g f l m e n k. kept.spawns s c g l k }
+  commits-of = record { row = kept.row; value_put = kept.value_put; spawns = λ s c g f l m e n k. kept.spawns s c g l k }
 
   -- an external is polled
   pub await_external-kept : (s : Store) (o : ℕ) (c : CallId) (x : ExternalFutureState) (a : Awaiter) → o < object_limit → object s o ≡ Object.ExternalFuture c x → K s → K (await_external s o c x a).store
@@ -623,7 +623,7 @@ module _ (K : Store → Type 0) (kept : Commits K) where
 
 module _ (K : Store → Type 0) (kept : Closed K) where
   delivers-of : Delivers K
-  delivers-of = record { sized = kept.sized; row = kept.row; values-put = kept.values-put; wakes = λ s t x l b r n k. kept.wakes s t x l b r k }
+  delivers-of = record { sized = kept.sized; row = kept.row; values_put = kept.values_put; wakes = λ s t x l b r n k. kept.wakes s t x l b r k }
 
   switches-of : Switches K
   switches-of =
@@ -638,7 +638,7 @@ module _ (K : Store → Type 0) (kept : Closed K) where
     where
       starts-on : (s : Store) (t f : ℕ) → t < task_limit → (task s t).state ≡ TaskState.Unstarted → object s (task s t).coroutine.0 ≡ Object.Coroutine f CoroutineState.New → K s
           → K (set_state (put_object s (task s t).coroutine.0 (Object.Coroutine f CoroutineState.Running)) t TaskState.Running)
-      starts-on s t f l e n k = kept.runs_on _ t l (unfold task put_object in (unfold task in (ap is_ready e))) (kept.row s _ _ (task-fits s t).coroutine-fits (subst (λ (x : Object). Turns x (Object.Coroutine f CoroutineState.Running)) (sym n) (starts f)) k)
+      starts-on s t f l e n k = kept.runs_on _ t l (unfold task put_object in (unfold task in (ap is_ready e))) (kept.row s _ _ (task-fits s t).coroutine_fits (subst (λ (x : Object). Turns x (Object.Coroutine f CoroutineState.Running)) (sym n) (starts f)) k)
 
   -- a value goes up
   pub success_kept : (s : Store) (a : Awaiter) (v : Value) → AwaiterFits a → K s → K (deliver_awaiter_success s a v).store

@@ -57,7 +57,7 @@ HandsOut Event.eager = ⊥
 -- what is awaited is an object
 pub await_low : (s : Store) (o : ℕ) → first_refusal (refusals s (Event.await o)) ≡ 0 → o < object_limit
 unfolding refusals unmade
-await_low s o r = omega (arith, leb-false (header s).made o (pass 4 (unmade s o) [] (running-rest s _ r)).0, (header-fits s).made-fits)
+await_low s o r = omega (arith, leb-false (header s).made o (pass 4 (unmade s o) [] (running-rest s _ r)).0, (header-fits s).made_fits)
 
 module _ (K : Store → Type 0) (kept : Writes K) where
   abbrev StepKept : Step → Type 0
@@ -77,7 +77,7 @@ module _ (K : Store → Type 0) (kept : Writes K) where
   completes-kept s t v k =
       let c : ℕ = (task s t).coroutine.0 in
       completion_kept K kept.closed (add_log (remove_task (put_object s c (completed (object s c))) t) (exited t)) (task s t).awaiter v (task-fits s t).awaiter_fits
-      (kept.closed.exits _ t (kept.completes s c (task-fits s t).coroutine-fits k))
+      (kept.closed.exits _ t (kept.completes s c (task-fits s t).coroutine_fits k))
 
   resumes-kept : (s : Store) → K s → StepKept (resume_with_resolved_futures s)
   unfolding resume_with_resolved_futures switched

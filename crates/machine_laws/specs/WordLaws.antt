@@ -33,18 +33,18 @@ words_facts s h =
     let h3 = both_right (all_below (header s).next (λ t. task_canonical s.tasks t)) _ h2 in
     let h4 = both_right (all_below (header s).made (λ o. object_canonical s.objects o)) _ h3 in
     record {
-      header-right = both_left _ _ h;
-      tasks-right = below (header s).next _ (both_left _ _ h2);
-      objects-right = below (header s).made _ (both_left _ _ h3);
-      places-right = below (header s).used _ (both_left _ _ h4);
-      queue-short = leb→le s.queue.len task_limit (both_right (all_below (header s).used (λ p. place_canonical s.places p)) _ h4);
+      header_right = both_left _ _ h;
+      tasks_right = below (header s).next _ (both_left _ _ h2);
+      objects_right = below (header s).made _ (both_left _ _ h3);
+      places_right = below (header s).used _ (both_left _ _ h4);
+      queue_short = leb→le s.queue.len task_limit (both_right (all_below (header s).used (λ p. place_canonical s.places p)) _ h4);
     }
 
 pub words_test : (s : Store) → WordsInRange (header s).next (header s).made (header s).used s → T (words_in_range s)
 unfolding words_in_range
 words_test s h =
-    both _ _ h.header-right (both _ _ (from-below (header s).next _ h.tasks-right) (both _ _ (from-below (header s).made _ h.objects-right)
-    (both _ _ (from-below (header s).used _ h.places-right) (le→leb s.queue.len task_limit h.queue-short))))
+    both _ _ h.header_right (both _ _ (from-below (header s).next _ h.tasks_right) (both _ _ (from-below (header s).made _ h.objects_right)
+    (both _ _ (from-below (header s).used _ h.places_right) (le→leb s.queue.len task_limit h.queue_short))))
 
 -- ---- rows
 
@@ -101,70 +101,70 @@ module _ (next made used : ℕ) (s : Store) (z : Sized s) (k : WordsInRange next
   pub words_put_task : (n t : ℕ) (r : Task) → t < task_limit → TaskFits r → ((u : ℕ) → u < n → (u ≡ t → ⊥) → u < next) → WordsInRange n made used (put_task s t r)
   unfolding put_task
   words_put_task n t r l f h = record {
-    header-right = k.header-right;
-    tasks-right = λ u m. task-row s.tasks t u r (omega (arith, z.tasks-sized)) f (λ ne. k.tasks-right u (h u m ne));
-    objects-right = k.objects-right;
-    places-right = k.places-right;
-    queue-short = k.queue-short;
+    header_right = k.header_right;
+    tasks_right = λ u m. task-row s.tasks t u r (omega (arith, z.tasks_sized)) f (λ ne. k.tasks_right u (h u m ne));
+    objects_right = k.objects_right;
+    places_right = k.places_right;
+    queue_short = k.queue_short;
   }
 
   pub words_put_object : (n o : ℕ) (r : Object) → o < object_limit → ObjectFits r → ((p : ℕ) → p < n → (p ≡ o → ⊥) → p < made)
       → WordsInRange next n used (put_object s o r)
   unfolding put_object
   words_put_object n o r l f h = record {
-    header-right = subst T (sym (header-row_object s.objects o r)) k.header-right;
-    tasks-right = k.tasks-right;
-    objects-right = λ p m. object_row s.objects o p r (omega (arith, z.objects-sized)) f (λ ne. k.objects-right p (h p m ne));
-    places-right = k.places-right;
-    queue-short = k.queue-short;
+    header_right = subst T (sym (header-row_object s.objects o r)) k.header_right;
+    tasks_right = k.tasks_right;
+    objects_right = λ p m. object_row s.objects o p r (omega (arith, z.objects_sized)) f (λ ne. k.objects_right p (h p m ne));
+    places_right = k.places_right;
+    queue_short = k.queue_short;
   }
 
   pub words_put_place : (n p : ℕ) (r : Place) → p < place_limit → PlaceFits r → ((q : ℕ) → q < n → (q ≡ p → ⊥) → q < used) → WordsInRange next made n (put_place s p r)
   unfolding put_place
   words_put_place n p r l f h = record {
-    header-right = k.header-right;
-    tasks-right = k.tasks-right;
-    objects-right = k.objects-right;
-    places-right = λ q m. place-row s.places p q r (omega (arith, z.places-sized)) f (λ ne. k.places-right q (h q m ne));
-    queue-short = k.queue-short;
+    header_right = k.header_right;
+    tasks_right = k.tasks_right;
+    objects_right = k.objects_right;
+    places_right = λ q m. place-row s.places p q r (omega (arith, z.places_sized)) f (λ ne. k.places_right q (h q m ne));
+    queue_short = k.queue_short;
   }
 
   pub words_put_header : (h : Header) → HeaderFits h → WordsInRange next made used (put_header s h)
   unfolding put_header
   words_put_header h f = record {
-    header-right = header_row s.objects h (omega (arith, z.objects-sized)) f;
-    tasks-right = k.tasks-right;
-    objects-right = λ o m. subst T (sym (object_row-header s.objects o h)) (k.objects-right o m);
-    places-right = k.places-right;
-    queue-short = k.queue-short;
+    header_right = header_row s.objects h (omega (arith, z.objects_sized)) f;
+    tasks_right = k.tasks_right;
+    objects_right = λ o m. subst T (sym (object_row-header s.objects o h)) (k.objects_right o m);
+    places_right = k.places_right;
+    queue_short = k.queue_short;
   }
 
   pub words_put_queue : (q : ReadyQueue) → q.len ≤ task_limit → WordsInRange next made used (put_queue s q)
   unfolding put_queue
   words_put_queue q l = record {
-    header-right = k.header-right;
-    tasks-right = k.tasks-right;
-    objects-right = k.objects-right;
-    places-right = k.places-right;
-    queue-short = l;
+    header_right = k.header_right;
+    tasks_right = k.tasks_right;
+    objects_right = k.objects_right;
+    places_right = k.places_right;
+    queue_short = l;
   }
 
   pub words_add_log : (x : LogEntry) → WordsInRange next made used (add_log s x)
   unfolding add_log
   words_add_log x = record {
-    header-right = k.header-right;
-    tasks-right = k.tasks-right;
-    objects-right = k.objects-right;
-    places-right = k.places-right;
-    queue-short = k.queue-short;
+    header_right = k.header_right;
+    tasks_right = k.tasks_right;
+    objects_right = k.objects_right;
+    places_right = k.places_right;
+    queue_short = k.queue_short;
   }
 
   pub words_forget : WordsInRange next made used (forget s)
   unfolding forget
   words_forget = record {
-    header-right = k.header-right;
-    tasks-right = k.tasks-right;
-    objects-right = k.objects-right;
-    places-right = k.places-right;
-    queue-short = k.queue-short;
+    header_right = k.header_right;
+    tasks_right = k.tasks_right;
+    objects_right = k.objects_right;
+    places_right = k.places_right;
+    queue_short = k.queue_short;
   }

@@ -25,7 +25,7 @@ use Rattle.machine_laws.specs.MachineLaws.{accepted-step}
 use Rattle.machine_laws.specs.SoundLaws.{sound_facts, sound-forget, refusal-sound}
 use Rattle.machine_theorems.specs.Soundness.Stores.{SoundStore}
 
--- ---- the walk that looks tasks up at each moment; `reach`, `remove_blocked` and `visit_by` are cancel's own, and nothing reads `tasks-of`
+-- ---- the walk that looks tasks up at each moment; `reach`, `remove_blocked` and `visit_by` are cancel's own, and nothing reads `tasks_of`
 
 -- an item: its task is the one that it has now
 unfoldable pub visit_now : Walk → ℕ → Walk
@@ -33,12 +33,12 @@ visit_now w o = visit_by w o (task_of w.store o)
 
 -- the item of place p, which is place i of its gather, if it is one of the open places
 unfoldable pub visit_place_now : Walk → ℕ → ℕ → ℕ → Walk
-visit_place_now w p i open-places = pick (bit open-places i) (visit_now w (place w.store p).item.0) w
+visit_place_now w p i open_places = pick (bit open_places i) (visit_now w (place w.store p).item.0) w
 
 -- the items of the open places from i on, k of them
 unfoldable pub visit_open_now : Walk → AwaitedGather → ℕ → ℕ → Walk
 visit_open_now w a i zero = w
-visit_open_now w a i (suc k) = visit_open_now (visit_place_now w (a.first + i) i a.open-places) a (i + 1) k
+visit_open_now w a i (suc k) = visit_open_now (visit_place_now w (a.first + i) i a.open_places) a (i + 1) k
 
 -- the open items of a gather are visited
 unfoldable pub walk_gather_now : Walk → Option AwaitedGather → Walk
@@ -49,7 +49,7 @@ walk_gather_now w (some a) = visit_open_now w a 0 a.count
 unfoldable pub walk_next_now : (Walk → Store) → Walk → List ℕ → Store
 walk_next_now go w [] = w.store
 walk_next_now go w (g ∷ gs) =
-    go (walk_gather_now (record { store = w.store; tasks-of = w.tasks-of; marks = w.marks; stack = gs }) (as_awaited (object w.store g)))
+    go (walk_gather_now (record { store = w.store; tasks_of = w.tasks_of; marks = w.marks; stack = gs }) (as_awaited (object w.store g)))
 
 -- with cancel's fuel
 unfoldable pub walk_now : ℕ → Walk → Store
@@ -58,7 +58,7 @@ walk_now (suc k) w = walk_next_now (λ x. walk_now k x) w w.stack
 
 -- a walk that has reached nothing, and knows no task
 unfoldable pub walk_from_now : Store → Walk
-walk_from_now s = record { store = s; tasks-of = λ o. none; marks = replicate object_limit false; stack = [] }
+walk_from_now s = record { store = s; tasks_of = λ o. none; marks = replicate object_limit false; stack = [] }
 
 -- task t goes, and the walk begins at what it is blocked on
 unfoldable pub cancel_task_now : Store → ℕ → Store
@@ -106,12 +106,12 @@ OneTask s = (c t u : ℕ) → t < (header s).next → u < (header s).next → T 
 record Left (s : Store) (w : Walk) : Type 0 where
   sized : Sized w.store
   head : header w.store ≡ header s
-  began : (o : ℕ) → w.tasks-of o ≡ task_of s o
+  began : (o : ℕ) → w.tasks_of o ≡ task_of s o
   rows : (t : ℕ) → t < task_limit → is_live (task w.store t).state ≡ true → task w.store t ≡ task s t
 
 -- the walk without its tasks of coroutines
 abbrev blind : Walk → Walk
-blind w = record { store = w.store; tasks-of = λ o. none; marks = w.marks; stack = w.stack }
+blind w = record { store = w.store; tasks_of = λ o. none; marks = w.marks; stack = w.stack }
 
 -- n is the walk x, but knows no tasks of coroutines
 record Alike (s : Store) (n x : Walk) : Type 0 where
@@ -120,7 +120,7 @@ record Alike (s : Store) (n x : Walk) : Type 0 where
 
 module _ (s : Store) (one : OneTask s) where
   -- the task found in the beginning, if it still lives, is the one found now
-  found-now : (w : Walk) (o : ℕ) → Left s w → task_of w.store o ≡ still_live w.store.tasks (w.tasks-of o)
+  found-now : (w : Walk) (o : ℕ) → Left s w → task_of w.store o ≡ still_live w.store.tasks (w.tasks_of o)
   found-now w o f = searched ∙ ap (still_live w.store.tasks) (sym (f.began o))
     where
       p : ℕ → Bool
@@ -172,7 +172,7 @@ module _ (s : Store) (one : OneTask s) where
       by false = unfold reach_if in (record { left = f; same = refl })
 
   -- a task goes
-  gone-left : (w : Walk) (t : ℕ) → Left s w → Left s (record { store = cancel_one w.store t; tasks-of = w.tasks-of; marks = w.marks; stack = w.stack })
+  gone-left : (w : Walk) (t : ℕ) → Left s w → Left s (record { store = cancel_one w.store t; tasks_of = w.tasks_of; marks = w.marks; stack = w.stack })
   unfolding cancel_one remove_task remove_from_ready_queue
   gone-left w t f =
       record {
@@ -198,7 +198,7 @@ module _ (s : Store) (one : OneTask s) where
 
   visit-alike : (w : Walk) (o : ℕ) → Left s w → Alike s (visit_now (blind w) o) (visit w o)
   unfolding visit_now visit
-  visit-alike w o f = subst (λ (d : Option ℕ). Alike s (visit_by (blind w) o d) (visit_by w o (still_live w.store.tasks (w.tasks-of o)))) (sym (found-now w o f)) (by _)
+  visit-alike w o f = subst (λ (d : Option ℕ). Alike s (visit_by (blind w) o d) (visit_by w o (still_live w.store.tasks (w.tasks_of o)))) (sym (found-now w o f)) (by _)
     where
       by : (d : Option ℕ) → Alike s (visit_by (blind w) o d) (visit_by w o d)
       by none = unfold visit_by in (reach-alike w o f)
@@ -216,8 +216,8 @@ module _ (s : Store) (one : OneTask s) where
   unfolding visit_open_now visit_open
   open-alike zero w a i f = record { left = f; same = refl }
   open-alike (suc k) w a i f =
-      let x : Walk = visit_place w (a.first + i) i a.open-places in
-      let p = place-alike w (a.first + i) i a.open-places f in
+      let x : Walk = visit_place w (a.first + i) i a.open_places in
+      let p = place-alike w (a.first + i) i a.open_places f in
       subst (λ (n : Walk). Alike s (visit_open_now n a (i + 1) k) (visit_open x a (i + 1) k)) (sym p.same) (open-alike k x a (i + 1) p.left)
 
   gather-alike : (w : Walk) (a : Option AwaitedGather) → Left s w → Alike s (walk_gather_now (blind w) a) (walk_gather w a)
@@ -233,7 +233,7 @@ module _ (s : Store) (one : OneTask s) where
       by : (gs : List ℕ) → ((x : Walk) → Left s x → walk_now k (blind x) ≡ walk k x) → walk_next_now (λ x. walk_now k x) (blind w) gs ≡ walk_next (λ x. walk k x) w gs
       by [] go = unfold walk_next_now walk_next in refl
       by (g ∷ gs) go =
-          let p = gather-alike (record { store = w.store; tasks-of = w.tasks-of; marks = w.marks; stack = gs }) (as_awaited (object w.store g))
+          let p = gather-alike (record { store = w.store; tasks_of = w.tasks_of; marks = w.marks; stack = gs }) (as_awaited (object w.store g))
           (record { sized = f.sized; head = f.head; began = f.began; rows = f.rows }) in
           unfold walk_next_now walk_next in (ap (walk_now k) p.same ∙ go _ p.left)
 

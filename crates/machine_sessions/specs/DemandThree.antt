@@ -40,8 +40,8 @@ demand_three es i =
       sound = never_two (session es).store (session_follows es i).whole;
       queue = queue_right (session es) (session_follows es i);
       places = λ g. record { completed = completed-right h s w k g; awaited = awaited-right h s w k g (λ v l e a b c. nothing-gives h s w k _ (waiting-items es i g v l e a b c)) };
-      waits-right = (session-answers es i).waits-are;
-      no-stall = session-goes es i;
+      waits_right = (session-answers es i).waits_are;
+      no_stall = session-goes es i;
     }
   where
     s : Store

@@ -563,8 +563,8 @@ module _ (ps : List Sent) (s : Sent) (j : AllSentInRange ps) (i : InRange s.even
     committed-on (Shown.a_gather_failed e) k = refl
     committed-on Shown.nothing k = absurd k
 
-    stays-committed : committed (look x.store g) ≡ true → committed (look y.store g) ≡ true
-    stays-committed c = by (which (look x.store g) c)
+    stays_committed : committed (look x.store g) ≡ true → committed (look y.store g) ≡ true
+    stays_committed c = by (which (look x.store g) c)
       where
         by : Which (look x.store g) → committed (look y.store g) ≡ true
         by (w_awaited vs q) = committed-on (look y.store g) (moved (Shown.a_gather_awaited vs) q)
@@ -660,8 +660,8 @@ module _ (ps : List Sent) (s : Sent) (j : AllSentInRange ps) (i : InRange s.even
         by o z n a b false l true m = inr (m, l)
         by o z n a b false l false m = inl (early-same e vs p q o z n a m (new-error o z a b) l)
 
-    fails-later : (e : Error) → committed (look x.store g) ≡ true → look y.store g ≡ Shown.a_gather_failed e → (look x.store g ≡ Shown.a_gather_failed e) ⊎ FailsLater x y g e
-    fails-later e c q = by (which (look x.store g) c)
+    fails_later : (e : Error) → committed (look x.store g) ≡ true → look y.store g ≡ Shown.a_gather_failed e → (look x.store g ≡ Shown.a_gather_failed e) ⊎ FailsLater x y g e
+    fails_later e c q = by (which (look x.store g) c)
       where
         same-error : (a b : Error) → Shown.a_gather_failed a ≡ Shown.a_gather_failed b → a ≡ b
         same-error a b d = cc
@@ -689,8 +689,8 @@ module _ (ps : List Sent) (s : Sent) (j : AllSentInRange ps) (i : InRange s.even
         by (Shown.a_gather_failed r) w = absurd (true≢false (sym (committed-on (Shown.a_gather_failed r) tt) ∙ (ap committed (sym w) ∙ c)))
         by Shown.nothing w = absurd ((session-stays ps s j i).not-failed g e w (unfold send in q))
 
-    fails-at-commit : (e : Error) → committed (look x.store g) ≡ false → look y.store g ≡ Shown.a_gather_failed e → ReuseAt y g e ⊎ FailsAtCommit y g e
-    fails-at-commit e c q = at-commit (fs.pending e (pending-before e c q) q)
+    fails_at_commit : (e : Error) → committed (look x.store g) ≡ false → look y.store g ≡ Shown.a_gather_failed e → ReuseAt y g e ⊎ FailsAtCommit y g e
+    fails_at_commit e c q = at-commit (fs.pending e (pending-before e c q) q)
       where
         at-commit : FirstFailed y.history y.store g e → ReuseAt y g e ⊎ FailsAtCommit y g e
         at-commit f = of f.raises
@@ -722,12 +722,12 @@ module _ (ps : List Sent) (s : Sent) (j : AllSentInRange ps) (i : InRange s.even
         record {
           stays = stays-now;
           items_stay = same-items;
-          stays-committed = stays-committed;
-          stays-failed = λ e q. moved (Shown.a_gather_failed e) q;
+          stays_committed = stays_committed;
+          stays_failed = λ e q. moved (Shown.a_gather_failed e) q;
           completed = after-right.0;
           awaited = after-right.1;
-          fails-later = fails-later;
-          fails-at-commit = fails-at-commit;
+          fails_later = fails_later;
+          fails_at_commit = fails_at_commit;
         }
 
 -- a fresh session has no gather

@@ -32,7 +32,7 @@ use Rattle.machine_laws.specs.MachineLaws.{accepted-step, refused-step}
 use Rattle.machine_laws.specs.SoundLaws.{refusal-forget}
 use Rattle.machine_laws.specs.SizedLaws.{step-says}
 use Rattle.machine_theorems.specs.Soundness.Stores.{SoundStore}
-use Rattle.machine_theorems.specs.Soundness.Sessions.{forget-sound_store}
+use Rattle.machine_theorems.specs.Soundness.Sessions.{forget_sound_store}
 use Rattle.machine.specs.Sessions.{Sent, lent_any, entry_of, Session, begun, send, send_all, session, AllSentInRange}
 use Rattle.machine.specs.DemandThree.{Above, Rising, WaitRight, ControlRight, WaitsRight}
 use Rattle.machine_sessions.specs.Queue.Following.{accept_accepts, Sends, stepped, short, sends, Following, send_following, session_follows}
@@ -107,8 +107,8 @@ pending_rise s d = calls_rise s.objects (header_at s.objects).made d
 -- ---- what every session has
 
 pub record Answering (h : List Entry) (s : Store) : Type 0 where
-  pub unanswered-are : (c : ℕ) → unanswered h c ≡ pends s c
-  pub waits-are : WaitsRight h
+  pub unanswered_are : (c : ℕ) → unanswered h c ≡ pends s c
+  pub waits_are : WaitsRight h
 
 forget-pends : (s : Store) (c : ℕ) → pends (forget s) c ≡ pends s c
 unfolding pends forget object header
@@ -187,14 +187,14 @@ StepAnswering h e x = Answering (entry_of e x.answer x.store ∷ h) x.store
 
 only_changes_entry : (h : List Entry) (e : Event) (n : ℕ) (u : Store) → ((c : ℕ) → unanswered h c ≡ pends u c) → WaitsRight h → Answering (entry_of e (Answer.refused n) u ∷ h) u
 unfolding WaitsRight ControlRight entry_of tells
-only_changes_entry h e n u k w = record { unanswered-are = λ c. refused-then h e (Answer.refused n) u c (refused_accepts n) ∙ k c; waits-are = (tt, w) }
+only_changes_entry h e n u k w = record { unanswered_are = λ c. refused-then h e (Answer.refused n) u c (refused_accepts n) ∙ k c; waits_are = (tt, w) }
 
 step_answering : (h : List Entry) (s : Store) (e : Event) → SoundStore s → Answering h s → StepAnswering h e (step s e)
 step_answering h s e w k = by (ℕ_discrete (refusal s e) 0)
   where
     accepted : (r : refusal s e ≡ 0) (x : Step) → x ≡ accept (forget s) e → AnswerSays x.store x.answer → StepAnswering h e x
     accepted r x q says-it =
-        record { unanswered-are = now; waits-are = both }
+        record { unanswered_are = now; waits_are = both }
       where
         f : Store
         f = forget s
@@ -206,19 +206,19 @@ step_answering h s e w k = by (ℕ_discrete (refusal s e) 0)
         accepts = subst (λ (y : Step). (tells y.answer).accepts ≡ true) (sym q) (accept_accepts f e)
 
         distinct : WaitDistinct x
-        distinct = subst WaitDistinct (sym q) (accept_distinct f (forget-sound_store s w) e r1)
+        distinct = subst WaitDistinct (sym q) (accept_distinct f (forget_sound_store s w) e r1)
 
         now : (c : ℕ) → unanswered (entry_of e x.answer x.store ∷ h) c ≡ pends x.store c
         now c =
             accepted-then h e x.answer x.store c accepts
-            ∙ (ap (λ (b : Bool). later_pends (says e) b c) (k.unanswered-are c ∙ sym (forget-pends s c)) ∙ sym (ap (λ (y : Step). pends y.store c) q ∙ accept-pends f (forget-sound_store s w) e r1 c))
+            ∙ (ap (λ (b : Bool). later_pends (says e) b c) (k.unanswered_are c ∙ sym (forget-pends s c)) ∙ sym (ap (λ (y : Step). pends y.store c) q ∙ accept-pends f (forget_sound_store s w) e r1 c))
 
         both : WaitsRight (entry_of e x.answer x.store ∷ h)
-        both = unfold WaitsRight entry_of in (control-right (entry_of e x.answer x.store ∷ h) x.store (tells x.answer).control distinct (says-control x.store x.answer says-it) now, k.waits-are)
+        both = unfold WaitsRight entry_of in (control-right (entry_of e x.answer x.store ∷ h) x.store (tells x.answer).control distinct (says-control x.store x.answer says-it) now, k.waits_are)
 
     by : Dec (refusal s e ≡ 0) → StepAnswering h e (step s e)
     by (yes r) = accepted r (step s e) (accepted-step s e r) (step-says s e w.memory.sized)
-    by (no ne) = subst (StepAnswering h e) (sym (refused-step s e (refusal s e) refl ne)) (only_changes_entry h e (refusal s e) (forget s) (λ c. k.unanswered-are c ∙ sym (forget-pends s c)) k.waits-are)
+    by (no ne) = subst (StepAnswering h e) (sym (refused-step s e (refusal s e) refl ne)) (only_changes_entry h e (refusal s e) (forget s) (λ c. k.unanswered_are c ∙ sym (forget-pends s c)) k.waits_are)
 
 pub send_answering : (x : Session) (e : Sent) → Following x → Answering x.history x.store → Answering (send x e).history (send x e).store
 unfolding send
@@ -236,7 +236,7 @@ send_answering x e f k = by (sends s e f.whole.memory.sized)
         (subst (λ (u : Store). Answering (entry_of e.event (step s e.event).answer u ∷ h) u) (sym p) (step_answering h s e.event f.whole k))
     by (short p q) =
         subst (λ (a : Answer). Answering (entry_of e.event a (lent_any s e).store ∷ h) (lent_any s e).store) (sym q)
-        (subst (λ (u : Store). Answering (entry_of e.event (Answer.refused 1) u ∷ h) u) (sym p) (only_changes_entry h e.event 1 s k.unanswered-are k.waits-are))
+        (subst (λ (u : Store). Answering (entry_of e.event (Answer.refused 1) u ∷ h) u) (sym p) (only_changes_entry h e.event 1 s k.unanswered_are k.waits_are))
 
 pub sessions_answer : (es : List Sent) (x : Session) → AllSentInRange es → Following x → Answering x.history x.store → Answering (send_all x es).history (send_all x es).store
 unfolding send_all AllSentInRange
@@ -253,7 +253,7 @@ fresh-none c = sym (ap (λ (n : ℕ). called (λ o. pending_call (object fresh o
 
 fresh-answers : Answering [] fresh
 unfolding WaitsRight
-fresh-answers = record { unanswered-are = fresh-none; waits-are = tt }
+fresh-answers = record { unanswered_are = fresh-none; waits_are = tt }
 
 -- Every session from its beginning.
 pub session-answers : (es : List Sent) → AllSentInRange es → Answering (session es).history (session es).store

@@ -27,12 +27,12 @@ use Rattle.machine.specs.Machine.{Event, refusal, step, after}
 use Rattle.machine.specs.Sound.{sound}
 use Rattle.machine_theorems.specs.Soundness.Stores.{SoundStore}
 use Rattle.machine.specs.Sessions.{InRange}
-use Rattle.machine_theorems.specs.Soundness.Sessions.{AllInRange, step-sound_store, session-sound}
+use Rattle.machine_theorems.specs.Soundness.Sessions.{AllInRange, step_sound_store, session-sound}
 use Rattle.machine_theorems.specs.Soundness.NeverUnsound.{never_unsound}
 
 -- Every event, refused or not, leaves a sound store sound. (InRange: a function's or an error's number has 32 bits, as the code's types have it.)
 pub event_keeps_soundness : (s : Store) (e : Event) → SoundStore s → InRange e → SoundStore (step s e).store
-event_keeps_soundness s e h i = step-sound_store s h e i
+event_keeps_soundness s e h i = step_sound_store s h e i
 
 -- After any events from a fresh session on, the store is sound.
 pub sessions_are_sound : (es : List Event) → AllInRange es → T (sound (after fresh es))

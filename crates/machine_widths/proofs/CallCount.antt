@@ -30,14 +30,14 @@ pub record Calls (k : ℕ) (s : Store) : Type 0 where
 -- a header that is written gives its calls back
 header_calls : (s : Store) (h : Header) → Sized s → (header (put_header s h)).calls ≡ h.calls % (call_limit + 1)
 unfolding header put_header header_at header_put
-header_calls s h z = ap (λ (w : List ℕ). (to_header w).calls) (row-put_at header_codec s.objects 0 h (omega (arith, z.objects-sized)))
+header_calls s h z = ap (λ (w : List ℕ). (to_header w).calls) (row-put_at header_codec s.objects 0 h (omega (arith, z.objects_sized)))
 
 pub header_counts : (s : Store) (h : Header) (k : ℕ) → h.calls ≡ k → k ≤ call_limit → Sized s → Calls k (put_header s h)
 header_counts s h k e l z = record { sized = sized-put_header s h z; count = header_calls s h z ∙ (rw e (mod-eq_of_lt (omega arith))) }
 
 module _ (k : ℕ) where
   fit : (s : Store) → Calls k s → k ≤ call_limit
-  fit s c = omega (arith, c.count, (header-fits s).calls-fit)
+  fit s c = omega (arith, c.count, (header-fits s).calls_fit)
 
   task-counts : (s : Store) (t : ℕ) (r : Task) → Calls k s → Calls k (put_task s t r)
   unfolding put_task
@@ -94,13 +94,13 @@ module _ (k : ℕ) where
   counts = record {
     commits = record {
       row = λ s o x l q c. object-counts s o x c;
-      value-put = λ s p v c. place-counts s p _ c;
+      value_put = λ s p v c. place-counts s p _ c;
       spawns = λ s c g l x. spawn-counts s _ c g x;
     };
     closed = record {
       sized = λ s c. c.sized;
       row = λ s o x l q c. object-counts s o x c;
-      values-put = λ s ps e c. places_count s ps e c;
+      values_put = λ s ps e c. places_count s ps e c;
       queued = λ s q c. queue-counts s q c;
       moved = λ s m f c. moment-counts s m c;
       wakes = λ s t x l b r c. log-counts _ (reached t) (ready-counts s t x c);

@@ -47,8 +47,8 @@ module _ (es : List Event) (s : Store) (i : AllInRange es) (z : Sized s) (q : le
       )
 
   -- So a session that met no refusal 8 is answered as it was, and leaves the same store.
-  pub old-session_carried : T (old_sound s) → Without8 (answers_at old_limit s es) → (answers s es ≡ answers_at old_limit s es) × (after s es ≡ after_at old_limit s es)
-  old-session_carried h w =
+  pub old_session_carried : T (old_sound s) → Without8 (answers_at old_limit s es) → (answers s es ≡ answers_at old_limit s es) × (after s es ≡ after_at old_limit s es)
+  old_session_carried h w =
       let k = old_state_carried h in
       let e : before_8 old_limit s es ≡ es = all_before_8 old_limit es s w in (
         subst (λ (xs : List Event). answers s xs ≡ answers_at old_limit s xs) e k.1,
@@ -57,8 +57,8 @@ module _ (es : List Event) (s : Store) (i : AllInRange es) (z : Sized s) (q : le
 
   -- Each state on the way, also behind a refusal 8, is sound as the old width read it, and its rows in use are read alike by both: what the machine of the
   -- old width read there, this one reads.
-  pub old_states_read-alike : T (old_sound s) → T (old_sound (after_at old_limit s es)) × ReadAlike old_limit old_limit (after_at old_limit s es)
-  old_states_read-alike h =
+  pub old_states_read_alike : T (old_sound s) → T (old_sound (after_at old_limit s es)) × ReadAlike old_limit old_limit (after_at old_limit s es)
+  old_states_read_alike h =
       let u : Store = after_at old_limit s es in
       let k : SoundAt old_limit u = session-sound_at old_limit (omega arith) es s i (stored old_limit (subst T (old_sound-is s) h)) in
       let t : T (old_sound u) = subst T (sym (old_sound-is u)) (sound-here old_limit (omega arith) u k) in

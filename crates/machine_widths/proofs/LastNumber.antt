@@ -32,7 +32,7 @@ pub pending_handed_out : (s : Store) (c : ℕ) (r : OptionValue) → refusal s (
 unfolding refusals in_running
 pending_handed_out s c r e =
     let k : c < (header s).calls = leb-false (header s).calls c (or_left _ _ (pass 4 _ _ (pass 3 _ _ (pass 2 _ _ (refusal-rest s (Event.pending c r) e)).1).1).0) in
-    (k, omega (arith, k, (header-fits s).calls-fit))
+    (k, omega (arith, k, (header-fits s).calls_fit))
 
 -- the call of a pending external of a sound store was handed out
 in_range_call : (s : Store) (p : ℕ) (x : Object) (b : PendingExternal) → as_pending x ≡ some b → T (object_in_range (header s) p x) → b.call.0 < (header s).calls
@@ -50,4 +50,4 @@ top_unknown s c h l = by (pending_external s c) refl
     by (some o) e =
         let f : PendingOf s c o = found-pending s c o e in
         let k : f.external.call.0 < (header s).calls = in_range_call s _ (object s o) f.external f.is ((sound_facts s h).but.objects o f.made) in
-        absurd (omega (arith, k, f.of-call, l, (header-fits s).calls-fit))
+        absurd (omega (arith, k, f.of_call, l, (header-fits s).calls_fit))

@@ -134,8 +134,8 @@ header_now s = refl
 
 -- every row in use is read alike
 pub record ReadAlike (k n : ℕ) (s : Store) : Type 0 where
-  pub header-same : header_by n s ≡ header s
-  pub objects-same : (o : ℕ) → o < (header s).made → object_by k s o ≡ object s o
+  pub header_same : header_by n s ≡ header s
+  pub objects_same : (o : ℕ) → o < (header s).made → object_by k s o ≡ object s o
 
 -- a view of the store with this header and these objects
 abbrev view_of : Store → Header → (ℕ → Object) → View
@@ -162,8 +162,8 @@ module _ (k n : ℕ) (p : 1 ≤ k) (wide : n ≤ k) (u : k ≤ u32_limit) (v : n
     unfolding sound_by words_in_range_by
     rest_part = both_right (same_words (header_words (header_by n s)) (words_of_header s)) _ (both_left _ _ h)
 
-    objects-right : (o : ℕ) → o < (header_by n s).made → T (same_words (object_words (object_by k s o)) (words_of_object s o))
-    objects-right = below (header_by n s).made _ (both_left _ _ (both_right tasks_part _ rest_part))
+    objects_right : (o : ℕ) → o < (header_by n s).made → T (same_words (object_words (object_by k s o)) (words_of_object s o))
+    objects_right = below (header_by n s).made _ (both_left _ _ (both_right tasks_part _ rest_part))
 
     count_low : get_or (words_of_header s) 2 0 ≤ n
     unfolding header_by
@@ -178,22 +178,22 @@ module _ (k n : ℕ) (p : 1 ≤ k) (wide : n ≤ k) (u : k ≤ u32_limit) (v : n
 
     alike : (o : ℕ) → o < (header s).made → object_by k s o ≡ object s o
     unfolding object_by object object_at
-    alike o l = object-alike (words_of_object s o) k u (object-call (words_of_object s o) k p (objects-right o (omega (arith, l, made-same))))
+    alike o l = object-alike (words_of_object s o) k u (object-call (words_of_object s o) k p (objects_right o (omega (arith, l, made-same))))
 
     -- the store is read alike
     pub read_alike : ReadAlike k n s
-    read_alike = record { header-same = head; objects-same = alike }
+    read_alike = record { header_same = head; objects_same = alike }
 
     words-now : T (words_in_range s)
     unfolding header_canonical object_canonical
     words-now = words_test s (record {
-      header-right = unfold header header_at in (subst (λ (y : Header). T (same_words (header_words y) (words_of_header s))) head row-part);
-      tasks-right = λ t l. below (header_by n s).next _ (both_left _ _ rest_part) t (omega (arith, l, ap (λ (y : Header). y.next) head));
-      objects-right = λ o l. unfold object object_at in
-          (subst (λ (x : Object). T (same_words (object_words x) (words_of_object s o))) (alike o l) (objects-right o (omega (arith, l, made-same))));
-      places-right = λ q l. below (header_by n s).used _ (both_left _ _ (both_right objects_part _ (both_right tasks_part _ rest_part))) q
+      header_right = unfold header header_at in (subst (λ (y : Header). T (same_words (header_words y) (words_of_header s))) head row-part);
+      tasks_right = λ t l. below (header_by n s).next _ (both_left _ _ rest_part) t (omega (arith, l, ap (λ (y : Header). y.next) head));
+      objects_right = λ o l. unfold object object_at in
+          (subst (λ (x : Object). T (same_words (object_words x) (words_of_object s o))) (alike o l) (objects_right o (omega (arith, l, made-same))));
+      places_right = λ q l. below (header_by n s).used _ (both_left _ _ (both_right objects_part _ (both_right tasks_part _ rest_part))) q
           (omega (arith, l, ap (λ (y : Header). y.used) head));
-      queue-short = leb→le s.queue.len task_limit (both_right places_part _ (both_right objects_part _ (both_right tasks_part _ rest_part)));
+      queue_short = leb→le s.queue.len task_limit (both_right places_part _ (both_right objects_part _ (both_right tasks_part _ rest_part)));
     })
 
     view-now : T (sound_view (view s))
@@ -225,7 +225,7 @@ module _ (k n : ℕ) (p : 1 ≤ k) (wide : n ≤ k) (u : k ≤ u32_limit) (v : n
 
     row_now : T (same_words (header_words (to_header (words_of_header s))) (words_of_header s))
     unfolding header_canonical
-    row_now = words.header-right
+    row_now = words.header_right
 
     same_head : header_by n s ≡ header s
     unfolding header_by header header_at
@@ -238,7 +238,7 @@ module _ (k n : ℕ) (p : 1 ≤ k) (wide : n ≤ k) (u : k ≤ u32_limit) (v : n
     handed_out o m e =
         let w : List ℕ = words_of_object s o in
         let c : get_or w 4 0 < u32_limit = object-call w u32_limit (omega arith)
-        (subst (λ (x : Object). T (same_words (object_words x) w)) (sym (to_object_now w)) (words.objects-right o m)) e in
+        (subst (λ (x : Object). T (same_words (object_words x) w)) (sym (to_object_now w)) (words.objects_right o m)) e in
         let r : get_or w 4 0 % u32_limit < (header s).calls = call-range w (header s) _ e (facts.but.objects o m) in
         omega (arith, mod-eq_of_lt {n = get_or w 4 0} {m = u32_limit} c, r, l, wide)
 
@@ -250,9 +250,9 @@ module _ (k n : ℕ) (p : 1 ≤ k) (wide : n ≤ k) (u : k ≤ u32_limit) (v : n
     unfolding words_in_range_by header_canonical object_canonical
     words-then =
         rw same_head (both _ _ (unfold header header_at in row_now)
-        (both _ _ (from-below (header s).next _ words.tasks-right)
-        (both _ _ (from-below (header s).made _ (λ o m. rw (same_object o m) (unfold object object_at in (words.objects-right o m))))
-        (both _ _ (from-below (header s).used _ words.places-right) (le→leb s.queue.len task_limit words.queue-short)))))
+        (both _ _ (from-below (header s).next _ words.tasks_right)
+        (both _ _ (from-below (header s).made _ (λ o m. rw (same_object o m) (unfold object object_at in (words.objects_right o m))))
+        (both _ _ (from-below (header s).used _ words.places_right) (le→leb s.queue.len task_limit words.queue_short)))))
 
     then-sound : T (sound_by k n s)
     unfolding sound_by view_by view with_objects

@@ -50,24 +50,24 @@ module _ (v : View) (os : ℕ → Object) (same : (o : ℕ) → o < v.header.mad
       record {
         fits = h.fits;
         main = h.main;
-        all-used = h.all-used ∙ sym (places_same made (le_refl made));
+        all_used = h.all_used ∙ sym (places_same made (le_refl made));
         objects = λ o l. rw (places_same o (omega (arith, l)), same o l) (h.objects o l);
         awaiters = λ o l. rw (same o l) (h.awaiters o l);
         tasks = λ t l. task_more v.header v.header (le_refl _) (le_refl _) v.objects os
             (λ o z d. subst (λ (x : Object). T (is_coroutine (kind x))) (back o z) d) t (v.tasks t) (h.tasks t l);
         spawned = rw (sum_same made (λ o. committed_places (os o)) (λ o. committed_places (v.objects o)) (λ o z. ap committed_places (same o z))) h.spawned;
         items = λ g l. rw (same g l) (h.items g l);
-        object-lists = λ o l. rw (same o l) (object-stays made made (le_refl made) v.objects os completed-same (v.objects o) (h.object-lists o l));
-        task-lists = λ t l. state_stays made made (le_refl made) v.objects os completed-same (v.tasks t).state (h.task-lists t l);
-        place-lists = λ p l. option_stays made made (le_refl made) v.objects os completed-same (v.places p).result (h.place-lists p l);
+        object_lists = λ o l. rw (same o l) (object-stays made made (le_refl made) v.objects os completed-same (v.objects o) (h.object_lists o l));
+        task_lists = λ t l. state_stays made made (le_refl made) v.objects os completed-same (v.tasks t).state (h.task_lists t l);
+        place_lists = λ p l. option_stays made made (le_refl made) v.objects os completed-same (v.places p).result (h.place_lists p l);
         entries = h.entries;
         calls = λ on o p l m a b e f. h.calls on o p l m a b (ap as_pending (back o l) ∙ e) (ap as_pending (back p m) ∙ f);
         task_of = h.task_of;
         awaits = λ t l d o e. awaited_same t o (h.awaits t l d o e);
         awaited = λ o l d t e a. h.awaited o l d t (ap awaiter_of (back o l) ∙ e) a;
         filled = λ g l d. rw (same g l) (h.filled g l d);
-        object-slots = λ o l d g x e. slotted-same o g x (h.object-slots o l d g x (ap awaiter_of (back o l) ∙ e));
-        task-slots = λ t l a g x e. slotted-same _ g x (h.task-slots t l a g x e);
+        object_slots = λ o l d g x e. slotted-same o g x (h.object_slots o l d g x (ap awaiter_of (back o l) ∙ e));
+        task_slots = λ t l a g x e. slotted-same _ g x (h.task_slots t l a g x e);
       }
 
   pub facts_same : SoundFacts v → SoundFacts (with_objects v os)

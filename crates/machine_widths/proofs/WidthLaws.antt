@@ -19,7 +19,7 @@ use Rattle.machine_laws.specs.StoreLaws.{sized-forget, header-fits}
 use Rattle.machine_laws.specs.SoundLaws.{pass, refusal-rest, refusal-forget}
 use Rattle.machine_laws.specs.WalkEvents.{HandsOut}
 use Rattle.machine_theorems.specs.Soundness.Stores.{SoundStore, sound_store_sound}
-use Rattle.machine_theorems.specs.Soundness.Sessions.{forget-sound_store, step-sound_store}
+use Rattle.machine_theorems.specs.Soundness.Sessions.{forget_sound_store, step_sound_store}
 use Rattle.machine_widths.specs.Widths.{sound_at, check_at, checks_at, refusal_at, step_at}
 use Rattle.machine_widths.proofs.CallCount.{calls_stay, calls_next}
 
@@ -113,7 +113,7 @@ table_limit s (Event.show o) = refl
 table_limit s Event.eager = refl
 
 pub sound_limit : (s : Store) → sound_at call_limit s ≡ sound s
-sound_limit s = same_test _ _ (λ h. (sound_of_at call_limit s h).0) (λ h. sound_at_of call_limit s h (header-fits s).calls-fit)
+sound_limit s = same_test _ _ (λ h. (sound_of_at call_limit s h).0) (λ h. sound_at_of call_limit s h (header-fits s).calls_fit)
 
 pub refusal_limit : (s : Store) (e : Event) → refusal_at call_limit s e ≡ refusal s e
 unfolding refusal_at refusal
@@ -200,8 +200,8 @@ module _ (n : ℕ) (l : n ≤ call_limit) (s : Store) (h : SoundAt n s) where
   step-store e i = by (ℕ_discrete (refusal_at n s e) 8)
     where
       by : Dec (refusal_at n s e ≡ 8) → SoundStore (step_at n s e).store
-      by (yes r) = unfold step_at decide in (rw r (forget-sound_store s h.store))
-      by (no r) = subst (λ (x : Step). SoundStore x.store) (same_step e r) (step-sound_store s h.store e i)
+      by (yes r) = unfold step_at decide in (rw r (forget_sound_store s h.store))
+      by (no r) = subst (λ (x : Step). SoundStore x.store) (same_step e r) (step_sound_store s h.store e i)
 
   -- An event, refused or not, leaves a sound store sound, with at most n calls handed out.
   pub step-sound_at : (e : Event) → InRange e → SoundAt n (step_at n s e).store

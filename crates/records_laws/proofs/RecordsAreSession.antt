@@ -21,7 +21,7 @@ use Rattle.machine_laws.specs.StoreLaws.{header-fits, sized-forget}
 use Rattle.machine_laws.specs.MachineLaws.{accepted-step, refused-step}
 use Rattle.machine_laws.specs.SoundLaws.{sound-forget}
 use Rattle.machine_theorems.specs.Soundness.Stores.{SoundStore, sound_store_sound}
-use Rattle.machine_theorems.specs.Soundness.Sessions.{forget-sound_store, step-sound_store, fresh_sound_store}
+use Rattle.machine_theorems.specs.Soundness.Sessions.{forget_sound_store, step_sound_store, fresh_sound_store}
 use Rattle.machine_sessions.specs.Queue.Following.{Sends, stepped, short, sends, any_event, any_read, read_leaves, accept_accepts, session_follows}
 use Rattle.machine_sessions.specs.Gather.LogApart.{lent_entry, left-alike, entry-alike}
 use Rattle.records_tasks.specs.declared.TaskRecord.{TaskRecord}
@@ -37,36 +37,36 @@ use Rattle.records_laws.proofs.LaidRows.{saved-at, laid_rows}
 -- The memory is the store's: the slices and the queue are the same, and each record in use is its task's.
 pub record SameStore (m : Records) (s : Store) : Type 0 where
   pub enough : length m.tasks ≡ task_limit
-  pub objects-same : m.objects ≡ s.objects
+  pub objects_same : m.objects ≡ s.objects
   pub places_same : m.places ≡ s.places
-  pub queue-same : m.queue ≡ s.queue
-  pub records-same : (t : ℕ) → t < (header s).next → get_or m.tasks t no_record ≡ record_of (task s t)
+  pub queue_same : m.queue ≡ s.queue
+  pub records_same : (t : ℕ) → t < (header s).next → get_or m.tasks t no_record ≡ record_of (task s t)
 
 -- The session is the machine's: the memory, and each answer.
 pub record SameSession (x : RecordsSession) (y : Session) : Type 0 where
-  pub memory-same : SameStore x.memory y.store
-  pub answers-same : x.answers ≡ map (λ (e : Entry). e.answer) y.history
+  pub memory_same : SameStore x.memory y.store
+  pub answers_same : x.answers ≡ map (λ (e : Entry). e.answer) y.history
 
 -- ---- the store of the records laid out
 
 next_of : (s : Store) → SoundStore s → next_in s.objects ≡ (header s).next
 unfolding next_in header
-next_of s h = rw h.memory.sized.objects-sized refl
+next_of s h = rw h.memory.sized.objects_sized refl
 
 -- laid out, the records are the tasks' words
 pub rows_laid : (m : Records) (s : Store) → SoundStore s → Unused 0 s → SameStore m s → rows_of m.tasks (header s).next ≡ s.tasks
 rows_laid m s h u k =
-    laid_rows s.tasks (header s).next m.tasks h.memory.sized.tasks-sized (header-fits s).next_fits
-    h.memory.words_right.tasks-right u.clear (λ t l. k.records-same t l ∙ (unfold task in refl))
+    laid_rows s.tasks (header s).next m.tasks h.memory.sized.tasks_sized (header-fits s).next_fits
+    h.memory.words_right.tasks_right u.clear (λ t l. k.records_same t l ∙ (unfold task in refl))
 
 -- the store that an event on the records meets is the machine's
 pub store_laid : (m : Records) (s : Store) → SoundStore s → Unused 0 s → SameStore m s
     → store_of (rows_of m.tasks (next_in m.objects)) m.objects m.places m.queue [] ≡ forget s
 unfolding forget
 store_laid m s h u k =
-    let n : next_in m.objects ≡ (header s).next = ap next_in k.objects-same ∙ next_of s h in
+    let n : next_in m.objects ≡ (header s).next = ap next_in k.objects_same ∙ next_of s h in
     let r : rows_of m.tasks (next_in m.objects) ≡ s.tasks = ap (rows_of m.tasks) n ∙ rows_laid m s h u k in
-    rw (r, k.objects-same, k.places_same, k.queue-same) refl
+    rw (r, k.objects_same, k.places_same, k.queue_same) refl
 
 -- ---- one event
 
@@ -95,10 +95,10 @@ module _ (s u : Store) (e : forget s ≡ forget u) where
   same_left : (m : Records) → SameStore m s → SameStore m u
   same_left m k = record {
     enough = k.enough;
-    objects-same = k.objects-same ∙ objects-left;
+    objects_same = k.objects_same ∙ objects-left;
     places_same = k.places_same ∙ places-left;
-    queue-same = k.queue-same ∙ queue-left;
-    records-same = λ t l. k.records-same t (subst (λ (n : ℕ). t < n) (sym next-left) l) ∙ (unfold task in (ap (λ (w : List ℕ). record_of (task_at w t)) tasks-left));
+    queue_same = k.queue_same ∙ queue-left;
+    records_same = λ t l. k.records_same t (subst (λ (n : ℕ). t < n) (sym next-left) l) ∙ (unfold task in (ap (λ (w : List ℕ). record_of (task_at w t)) tasks-left));
   }
 
 -- is an answer a refusal?
@@ -130,20 +130,20 @@ forget_twice s = refl
 gone_same : (m : Records) (s : Store) (x : Lent) → SameStore m s → SoundStore x.store → Outcome s x → SameStore (gone_back m.tasks x).memory x.store
 gone_same m s x k h (refused r e) = record {
   enough = length-saved _ _ m.tasks ∙ k.enough;
-  objects-same = refl;
+  objects_same = refl;
   places_same = refl;
-  queue-same = refl;
-  records-same = λ t l.
+  queue_same = refl;
+  records_same = λ t l.
       ap (λ (n : ℕ). get_or (saved x.store.tasks n m.tasks) t no_record) (rw r refl)
       ∙ ap (λ (ts : List TaskRecord). get_or ts t no_record) (saved-none x.store.tasks m.tasks)
-      ∙ (same_left s x.store (sym e) m k).records-same t l;
+      ∙ (same_left s x.store (sym e) m k).records_same t l;
 }
 gone_same m s x k h (accepted a) = record {
   enough = length-saved _ _ m.tasks ∙ k.enough;
-  objects-same = refl;
+  objects_same = refl;
   places_same = refl;
-  queue-same = refl;
-  records-same = λ t l.
+  queue_same = refl;
+  records_same = λ t l.
       let n : rows_left x.answer x.store.objects ≡ (header x.store).next = rw a (next_of x.store h) in
       ap (λ (j : ℕ). get_or (saved x.store.tasks j m.tasks) t no_record) n
       ∙ saved-at x.store.tasks (header x.store).next m.tasks t (rw k.enough (header-fits x.store).next_fits) l
@@ -155,7 +155,7 @@ sent_sound : (s : Store) (x : Sent) → InRange x.event → SoundStore s → Sou
 sent_sound s x i h = by (sends s x h.memory.sized)
   where
     by : Sends s x → SoundStore (lent_any s x).store
-    by (stepped p q) = subst SoundStore (sym p) (step-sound_store s h x.event i)
+    by (stepped p q) = subst SoundStore (sym p) (step_sound_store s h x.event i)
     by (short p q) = subst SoundStore (sym p) h
 
 sent_unused : (s : Store) (x : Sent) → SoundStore s → Unused 0 s → Unused 0 (lent_any s x).store
@@ -181,7 +181,7 @@ sent_outcome s x h = by (sends s x h.memory.sized)
 
 module _ (m : Records) (s : Store) (x : Sent) (i : InRange x.event) (h : SoundStore s) (u : Unused 0 s) (k : SameStore m s) where
   forgotten : SoundStore (forget s)
-  forgotten = forget-sound_store s h
+  forgotten = forget_sound_store s h
 
   same-forgotten : SameStore m (forget s)
   same-forgotten = same_left s (forget s) (sym (forget_twice s)) m k
@@ -238,8 +238,8 @@ all_same [] x y i h u k = k
 all_same (e ∷ es) x y i h u k =
     all_same es (records_send x e) (send y e) i.1 (unfold send in (sent_sound y.store e i.0 h)) (unfold send in (sent_unused y.store e h u))
     (unfold records_send send entry_of in (record {
-      memory-same = left-same x.memory y.store e i.0 h u k.memory-same;
-      answers-same = rw (answer-same x.memory y.store e i.0 h u k.memory-same, k.answers-same) refl;
+      memory_same = left-same x.memory y.store e i.0 h u k.memory_same;
+      answers_same = rw (answer-same x.memory y.store e i.0 h u k.memory_same, k.answers_same) refl;
     }))
 
 -- the unused rows of every session are 0
@@ -260,25 +260,25 @@ begins ts os ps q a b c = rw (a, b, c) refl
 
 module _ (m : Records) (l : Lengths m) where
   begin-words : lent_begin (store_of (replicate tasks_length 0) m.objects m.places m.queue []) ≡ record { store = fresh; answer = Answer.done }
-  begin-words = begins (replicate tasks_length 0) m.objects m.places m.queue (length-replicate {A = ℕ} tasks_length 0) l.objects-right l.places-right
+  begin-words = begins (replicate tasks_length 0) m.objects m.places m.queue (length-replicate {A = ℕ} tasks_length 0) l.objects_right l.places_right
 
   begin-is : records_begin m ≡ begun_with m.tasks (record { store = fresh; answer = Answer.done })
   unfolding records_begin
-  begin-is = rw (eq-eqb (length m.tasks) task_limit l.tasks-right) (ap (begun_with m.tasks) begin-words)
+  begin-is = rw (eq-eqb (length m.tasks) task_limit l.tasks_right) (ap (begun_with m.tasks) begin-words)
 
   begun-same : SameStore (records_begin m).0 fresh
   begun-same = rw begin-is (record {
-    enough = length-saved _ _ m.tasks ∙ l.tasks-right;
-    objects-same = refl;
+    enough = length-saved _ _ m.tasks ∙ l.tasks_right;
+    objects_same = refl;
     places_same = refl;
-    queue-same = refl;
-    records-same = λ t h. saved-at fresh.tasks task_limit m.tasks t (omega (arith, l.tasks-right)) (omega (arith, h, (header-fits fresh).next_fits)) ∙ (unfold task in refl);
+    queue_same = refl;
+    records_same = λ t h. saved-at fresh.tasks task_limit m.tasks t (omega (arith, l.tasks_right)) (omega (arith, h, (header-fits fresh).next_fits)) ∙ (unfold task in refl);
   })
 
   -- A session over task records is the session over words.
   pub records_are_session : (es : List Sent) → AllSentInRange es → SameSession (records_session m es) (session es)
   unfolding records_session session begun
-  records_are_session es i = all_same es _ _ i fresh_sound_store fresh_unused (record { memory-same = begun-same; answers-same = refl })
+  records_are_session es i = all_same es _ _ i fresh_sound_store fresh_unused (record { memory_same = begun-same; answers_same = refl })
 
   -- After every list of events the records, laid out, are a sound store: no event of a session is refused with 2.
   pub records_sound : (es : List Sent) → AllSentInRange es → let x : Records = (records_session m es).memory in
@@ -286,4 +286,4 @@ module _ (m : Records) (l : Lengths m) where
   records_sound es i =
       let y : Store = (session es).store in
       let h : SoundStore y = (session_follows es i).whole in
-      subst (λ (s : Store). T (sound s)) (sym (store_laid _ y h (session_unused es i) (records_are_session es i).memory-same)) (sound_store_sound (forget y) (forget-sound_store y h))
+      subst (λ (s : Store). T (sound s)) (sym (store_laid _ y h (session_unused es i) (records_are_session es i).memory_same)) (sound_store_sound (forget y) (forget_sound_store y h))

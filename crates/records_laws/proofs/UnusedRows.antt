@@ -40,7 +40,7 @@ use Rattle.machine_laws.specs.WalkEvents.{await_low}
 use Rattle.machine_laws.specs.SizedLaws.{fresh-sized}
 use Rattle.machine_theorems.specs.Soundness.RowFacts.{ready-live, blocked-live}
 use Rattle.machine_theorems.specs.Soundness.Stores.{SoundStore}
-use Rattle.machine_theorems.specs.Soundness.Sessions.{forget-sound_store}
+use Rattle.machine_theorems.specs.Soundness.Sessions.{forget_sound_store}
 
 -- The words from the next task's row on are 0, and the next number is at least m.
 pub record Unused (m : ℕ) (s : Store) : Type 0 where
@@ -85,7 +85,7 @@ absent-at w t h = ap to_task (zero_row 8 w (task_start t) 0 (λ i l. h i (omega 
 next_put : (s : Store) (h : Header) → Sized s → h.next ≤ task_limit → (header (put_header s h)).next ≡ h.next
 unfolding header put_header header_at header_put
 next_put s h z l =
-    ap (λ (w : List ℕ). (to_header w).next) (row-put_from s.objects 0 0 (header_words h) (omega (arith, z.objects-sized)))
+    ap (λ (w : List ℕ). (to_header w).next) (row-put_from s.objects 0 0 (header_words h) (omega (arith, z.objects_sized)))
     ∙ mod-eq_of_lt (omega (arith, l))
 
 -- a live task's number is below the next
@@ -207,7 +207,7 @@ module _ (m : ℕ) where
   commits : Commits (Unused m)
   commits = record {
     row = λ s o x l q u. object-kept s o x u;
-    value-put = λ s p v u. place_kept s p _ u;
+    value_put = λ s p v u. place_kept s p _ u;
     spawns = λ s c g l u. spawn-kept s c g l u;
   }
 
@@ -215,7 +215,7 @@ module _ (m : ℕ) where
   closed = record {
     sized = λ s u. u.sized;
     row = λ s o x l q u. object-kept s o x u;
-    values-put = λ s ps e u. places-kept s ps e u;
+    values_put = λ s ps e u. places-kept s ps e u;
     queued = λ s q u. queue_kept s q u;
     moved = λ s x f u. moment-kept s x u;
     wakes = λ s t x l b r u. woken-kept s t x _ b u;
@@ -305,7 +305,7 @@ step_unused s e h u = by (eqb (refusal s e) 0) refl
 
     by : (b : Bool) → eqb (refusal s e) 0 ≡ b → Unused 0 (pick b (accept (forget s) e) (record { store = forget s; answer = Answer.refused (refusal s e) })).store
     by true q =
-        lower _ (accept-kept n (forget s) e (runner-below (forget s) (forget-sound_store s h))
+        lower _ (accept-kept n (forget s) e (runner-below (forget s) (forget_sound_store s h))
         (refusal-rest (forget s) e (refusal-forget s e ∙ eqb-true (refusal s e) 0 q)) forgotten)
     by false q = lower _ forgotten
 
@@ -316,10 +316,10 @@ zeros_clear (suc n) (suc i) = zeros_clear n i
 
 -- A fresh session has main's row alone.
 pub fresh_unused : Unused 0 fresh
-fresh_unused = record { sized = fresh-sized; least = omega arith; clear = λ i l. rest i (subst (λ (k : ℕ). k * task_width ≤ i) next-is l) }
+fresh_unused = record { sized = fresh-sized; least = omega arith; clear = λ i l. rest i (subst (λ (k : ℕ). k * task_width ≤ i) next_is l) }
   where
-    next-is : (header fresh).next ≡ 1
-    next-is = unfold fresh empty put_task put_header header header_at header_put in refl
+    next_is : (header fresh).next ≡ 1
+    next_is = unfold fresh empty put_task put_header header header_at header_put in refl
 
     rest : (i : ℕ) → 1 * task_width ≤ i → get_or fresh.tasks i 0 ≡ 0
     rest i l = unfold fresh put_task put_header empty in (past_clear (replicate tasks_length 0) 0 i _ l ∙ zeros_clear tasks_length i)

@@ -35,6 +35,6 @@ records_session m es = records_send_all (record { memory = (records_begin m).0; 
 
 -- the slices have document 01's lengths: the beginning is accepted
 pub record Lengths (m : Records) : Type 0 where
-  pub tasks-right : length m.tasks ≡ task_limit
-  pub objects-right : length m.objects ≡ objects_length
-  pub places-right : length m.places ≡ places_length
+  pub tasks_right : length m.tasks ≡ task_limit
+  pub objects_right : length m.objects ≡ objects_length
+  pub places_right : length m.places ≡ places_length

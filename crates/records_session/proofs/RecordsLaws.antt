@@ -125,9 +125,9 @@ module _ (m : Records) where
 
   module _ (l : length m.tasks ≡ task_limit) (lo : length m.objects ≡ objects_length) (lp : length m.places ≡ places_length) where
     -- the rows in use are those below the next task's number
-    next-is : next_in m.objects ≡ (header_at m.objects).next
+    next_is : next_in m.objects ≡ (header_at m.objects).next
     unfolding next_in
-    next-is = rw (eq-eqb _ _ lo)
+    next_is = rw (eq-eqb _ _ lo)
 
     slices-are : (n : ℕ) → true ≡ are_slices (length (rows_of m.tasks n)) (length m.objects) (length m.places)
     slices-are n =
@@ -148,7 +148,7 @@ module _ (m : Records) where
         let core : lent_of (store_of (rows_of m.tasks n) m.objects m.places m.queue (lent_step (laid_out n) cs e).store.log) cs (Answer.Refused 2) 0 ≡ lent_step (laid_out n) cs e
         = not_sound (rows_of m.tasks n) m.objects m.places m.queue cs [] e (all_right cs lc n) refl refl unsound in
         ap (λ (b : Bool). pick b (gone_back m.tasks (lent_step (laid_out (next_in m.objects)) cs e)) (refused_as m cs 1)) (eq-eqb _ _ l)
-        ∙ ap (λ (k : ℕ). gone_back m.tasks (lent_step (laid_out k) cs e)) next-is
+        ∙ ap (λ (k : ℕ). gone_back m.tasks (lent_step (laid_out k) cs e)) next_is
         ∙ sym (ap (gone_back m.tasks) core)
 
     -- a read too
@@ -159,6 +159,6 @@ module _ (m : Records) where
         let n = (header_at m.objects).next in
         let unsound : sound (laid_out n) ≡ false = unfit_unsound m.tasks t f m.objects m.places m.queue [] h in
         ap (λ (b : Bool). pick b (lent_read (laid_out (next_in m.objects)) e).answer (machine.Answer.refused 1)) (eq-eqb _ _ l)
-        ∙ ap (λ (k : ℕ). (lent_read (laid_out k) e).answer) next-is
+        ∙ ap (λ (k : ℕ). (lent_read (laid_out k) e).answer) next_is
         ∙ ap (λ (b : Bool). (pick b (step (laid_out n) e) (record { store = laid_out n; answer = machine.Answer.refused 1 })).answer) (sym (slices-are n))
         ∙ ap (λ (x : Step). x.answer) (step_unsound (laid_out n) e unsound)

@@ -57,7 +57,7 @@ module _ (ts : List TaskRecord) (t : ℕ) (f : fits (get_or ts t no_record) ≡ 
     unfolding sound header
     unsound-by false e = e
     unsound-by true e =
-        let right : T (task_canonical (rows_of ts (header_at os).next) t) = (words_facts laid_out (both_left (words_in_range laid_out) (sound_view (view laid_out)) (holds _ e))).tasks-right t h in
+        let right : T (task_canonical (rows_of ts (header_at os).next) t) = (words_facts laid_out (both_left (words_in_range laid_out) (sound_view (view laid_out)) (holds _ e))).tasks_right t h in
         absurd (subst T row_laid_out right)
 
     pub unfit_unsound : sound laid_out ≡ false

@@ -120,4 +120,4 @@ module _ {R : Type 0} (C : Codec R) where
 
   -- whatever is read is in range
   pub read_fits : (w : List ℕ) (b : ℕ) → C.Fits (read_at C w b)
-  read_fits w b = C.in-range (row_from w b 0 C.width)
+  read_fits w b = C.in_range (row_from w b 0 C.width)

@@ -26,7 +26,7 @@ pub record Codec (R : Type 0) : Type 1 where
   pub Fits : R → Type 0
   pub wide : (r : R) → length (words r) ≡ width
   pub back : (r : R) → Fits r → reads (words r) ≡ r
-  pub in-range : (w : List ℕ) → Fits (reads w)
+  pub in_range : (w : List ℕ) → Fits (reads w)
 
 module _ {R : Type 0} (C : Codec R) where
   -- what stands at b

@@ -118,5 +118,5 @@ pub places_fit : (os : List ℕ) (g : ℕ) {i n : ℕ} → i ≡ first_of (objec
 places_fit os g e f = rw (e, f) (parts_fit (object_at os g) (object_at-fits os g))
 
 -- so is the coroutine of a task that was read
-pub coroutine-fits : (ts : List ℕ) (t : ℕ) {c : HeapId} → c ≡ (task_at ts t).coroutine → c.0 < object_limit
-coroutine-fits ts t e = rw e (task_at-fits ts t).coroutine-fits
+pub coroutine_fits : (ts : List ℕ) (t : ℕ) {c : HeapId} → c ≡ (task_at ts t).coroutine → c.0 < object_limit
+coroutine_fits ts t e = rw e (task_at-fits ts t).coroutine_fits

@@ -12,16 +12,16 @@ use Rattle.asyncio.specs.declared.Place.{Place}
 use Rattle.asyncio.specs.declared.Header.{Header}
 
 abbrev pub task_codec : Codec Task
-task_codec = record { width = task_width; reads = to_task; words = task_words; Fits = TaskFits; wide = λ r. refl; back = task_back; in-range = to_task-fits }
+task_codec = record { width = task_width; reads = to_task; words = task_words; Fits = TaskFits; wide = λ r. refl; back = task_back; in_range = to_task-fits }
 
 abbrev pub object_codec : Codec Object
-object_codec = record { width = object_width; reads = to_object; words = object_words; Fits = ObjectFits; wide = object_wide; back = object_back; in-range = to_object-fits }
+object_codec = record { width = object_width; reads = to_object; words = object_words; Fits = ObjectFits; wide = object_wide; back = object_back; in_range = to_object-fits }
 
 abbrev pub place_codec : Codec Place
-place_codec = record { width = place_width; reads = to_place; words = place_words; Fits = PlaceFits; wide = λ r. refl; back = place_back; in-range = to_place-fits }
+place_codec = record { width = place_width; reads = to_place; words = place_words; Fits = PlaceFits; wide = λ r. refl; back = place_back; in_range = to_place-fits }
 
 abbrev pub header_codec : Codec Header
-header_codec = record { width = object_width; reads = to_header; words = header_words; Fits = HeaderFits; wide = λ r. refl; back = header_back; in-range = to_header-fits }
+header_codec = record { width = object_width; reads = to_header; words = header_words; Fits = HeaderFits; wide = λ r. refl; back = header_back; in_range = to_header-fits }
 
 -- where each row starts: the objects' rows stand behind the header's
 abbrev pub task_start : ℕ → ℕ

@@ -42,7 +42,7 @@ walked q d = record { queue = q; depth = d }
 -- the walk with the table ds over the lent slices, with marks ms and stack gs
 abbrev pub walk_of : List ℕ → List ℕ → List ℕ → List ℕ → Walked → List LogEntry → List Bool → List ℕ → Walk
 walk_of ds ts os ps w l ms gs =
-    record { store = store_of ts os ps w.queue l; tasks-of = λ c. tasks_of_in ds c; marks = ms; stack = below gs w.depth }
+    record { store = store_of ts os ps w.queue l; tasks_of = λ c. tasks_of_in ds c; marks = ms; stack = below gs w.depth }
 
 -- what the code has is the walk x; the log is x's own
 pub record Shows (ds ts os ps : List ℕ) (w : Walked) (ms : List Bool) (gs : List ℕ) (x : Walk) : Type 0 where
@@ -50,7 +50,7 @@ pub record Shows (ds ts os ps : List ℕ) (w : Walked) (ms : List Bool) (gs : Li
 
 -- an awaited gather of the n places from i on
 abbrev pub awaited_places : ℕ → ℕ → Awaiter → ℕ → AwaitedGather
-awaited_places i n a m = record { first = i; count = n; awaiter = a; open-places = m }
+awaited_places i n a m = record { first = i; count = n; awaiter = a; open_places = m }
 
 -- ---- what a call of the walk asks, and what it does
 

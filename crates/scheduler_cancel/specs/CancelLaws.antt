@@ -148,8 +148,8 @@ module _ (ds ts os ps : List ℕ) (at : Walked) (l : List LogEntry) (ms : List B
 
 -- ---- visit, visit_place, visit_open
 
-pub item-fits : (ps : List ℕ) (p : ℕ) {h : HeapId} → h ≡ (place_at ps p).item → h.0 < object_limit
-item-fits ps p e = rw e (place_at-fits ps p).item-fits
+pub item_fits : (ps : List ℕ) (p : ℕ) {h : HeapId} → h ≡ (place_at ps p).item → h.0 < object_limit
+item_fits ps p e = rw e (place_at-fits ps p).item_fits
 
 module _ (ds ts os ps : List ℕ) (at : Walked) (l : List LogEntry) (ms : List Bool) (gs : List ℕ) where
   module _ (o : ℕ) {d : FoundTask} (e : d ≡ found_task (still_live ts (tasks_of_in ds o))) where
@@ -182,7 +182,7 @@ pub record Logged {A : Type 0} (f : List LogEntry → A) (x : A) : Type 0 where
 
 module _ (ds ts os ps : List ℕ) (at : Walked) (ms : List Bool) (gs : List ℕ) (a : AwaitedGather) (i n : ℕ) {x : Walk} where
   pub open_turn : i < n → {us hs : List ℕ} {r : Walked} {ns : List Bool}
-      → ((l : List LogEntry) → Shows ds us os ps r ns hs (visit_place (walk_of ds ts os ps at l ms gs) (a.first + i) i a.open-places))
+      → ((l : List LogEntry) → Shows ds us os ps r ns hs (visit_place (walk_of ds ts os ps at l ms gs) (a.first + i) i a.open_places))
       → Logged (λ l. visit_open (walk_of ds ts os ps at l ms gs) a i (n - i)) x → Logged (λ l. visit_open (walk_of ds us os ps r l ns hs) a (i + 1) (n - (i + 1))) x
   unfolding visit_open
   open_turn h s g =
@@ -247,7 +247,7 @@ cancel-begins ds ts os ps zs q l t {h} e d s =
     begins : walk_of ds ts os ps (walked q 0) l (replicate object_limit false) zs ≡ walk_from (store_of ts os ps q l)
     begins =
         unfold walk_from below in
-        (ap (λ (f : ℕ → Option ℕ). record { store = store_of ts os ps q l; tasks-of = f; marks = replicate object_limit false; stack = [] }) (fun_ext same))
+        (ap (λ (f : ℕ → Option ℕ). record { store = store_of ts os ps q l; tasks_of = f; marks = replicate object_limit false; stack = [] }) (fun_ext same))
 
     walks-so : cancel_task (store_of ts os ps q l) t ≡ walk_rest (remove_blocked (walk_from (store_of ts os ps q l)) t (blocked_on (task_at ts t).state))
     walks-so = unfold task in (cancel_walks (store_of ts os ps q l) t)

@@ -44,7 +44,7 @@ module _ (ts : List ℕ) (n : ℕ) where
   unfolding tasks_of_in put_task_of first_from is_task_of
   tasks_of_turn ds u t e h p z m i q f c =
       let k : n - u ≡ suc (n - (u + 1)) = omega arith in
-      rw (k, q, i, ← e, ← f c) (noted ds u (task_at ts u) (is_live (task_at ts u).state) m (task_at-fits ts u).coroutine-fits p (omega arith) c)
+      rw (k, q, i, ← e, ← f c) (noted ds u (task_at ts u) (is_live (task_at ts u).state) m (task_at-fits ts u).coroutine_fits p (omega arith) c)
 
   zeros : (k c : ℕ) → ◌≡◌ {A = ℕ} (get_or (replicate k 0) c 0) 0
   zeros zero c = refl

@@ -8,7 +8,7 @@ use Rattle.scheduler_states.specs.declared.awaited.OptionAwaited.{OptionAwaited}
 
 -- by its parts
 abbrev pub awaited_gather : ℕ → ℕ → Awaiter → ℕ → scheduler.AwaitedGather
-awaited_gather f n a m = record { first = f; count = n; awaiter = a; open-places = m }
+awaited_gather f n a m = record { first = f; count = n; awaiter = a; open_places = m }
 
 -- as the code has it
 abbrev pub awaited_gather_of : AwaitedGather → scheduler.AwaitedGather

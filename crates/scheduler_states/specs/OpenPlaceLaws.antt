@@ -21,11 +21,11 @@ module _ (ps : ℕ → Place) (m p i o : ℕ) where
 -- ---- the search
 
 module _ (ps : ℕ → Place) (w : AwaitedGather) (o i n : ℕ) where
-  pub open_found : i < n → true ≡ open_here ps w.open-places (w.first + i) i o → true ≡ open_from ps w o i (n - i)
+  pub open_found : i < n → true ≡ open_here ps w.open_places (w.first + i) i o → true ≡ open_from ps w o i (n - i)
   unfolding open_from
   open_found h e = let k : n - i ≡ suc (n - (i + 1)) = omega arith in rw (k, ← e)
 
-  pub open_turn : i < n → false ≡ open_here ps w.open-places (w.first + i) i o → open_from ps w o (i + 1) (n - (i + 1)) ≡ open_from ps w o i (n - i)
+  pub open_turn : i < n → false ≡ open_here ps w.open_places (w.first + i) i o → open_from ps w o (i + 1) (n - (i + 1)) ≡ open_from ps w o i (n - i)
   unfolding open_from
   open_turn h e = let k : n - i ≡ suc (n - (i + 1)) = omega arith in rw (k, ← e)
 

@@ -7,7 +7,7 @@ use Rattle.asyncio.specs.States.{is_live}
 use Rattle.asyncio.specs.declared.HeapId.{HeapId}
 use Rattle.asyncio.specs.declared.TaskState.{TaskState}
 use Rattle.rows.specs.Tables.{task_at}
-use Rattle.rows.specs.TableLaws.{coroutine-fits}
+use Rattle.rows.specs.TableLaws.{coroutine_fits}
 use Rattle.machine.specs.Scheduler.{is_task_of}
 use Rattle.machine.specs.Tests.{◌and◌, implies}
 use Rattle.machine.specs.Sound.{is_task_of_at, sole_task}
@@ -55,7 +55,7 @@ module _ (ts seen : List ℕ) (t : ℕ) (m : Marks seen object_limit t (driven t
       sole-by : sole_task (task_at ts) t ≡ eqb (get_or seen c.0 0) 0
       unfolding sole_task implies
       sole-by =
-          rw (← f, live-is-task-of ts t z e r f c.0, eq-eqb c.0 c.0 refl) (sym (m.marked c.0 (coroutine-fits ts t f)))
+          rw (← f, live-is-task-of ts t z e r f c.0, eq-eqb c.0 c.0 refl) (sym (m.marked c.0 (coroutine_fits ts t f)))
 
       pub task_of_second : (get_or seen c.0 0 ≡ 0 → ⊥) → false ≡ sole_task (task_at ts) t
       task_of_second ne = rw (sole-by, ne_eqb _ 0 ne)
@@ -64,4 +64,4 @@ module _ (ts seen : List ℕ) (t : ℕ) (m : Marks seen object_limit t (driven t
       task_of_first q = rw (sole-by, eq-eqb _ 0 q)
 
       pub marks_live : Marks (set seen c.0 1) object_limit (t + 1) (driven ts)
-      marks_live = marks_turn object_limit (driven ts) seen t m c.0 (coroutine-fits ts t f) (live-is-task-of ts t z e r f)
+      marks_live = marks_turn object_limit (driven ts) seen t m c.0 (coroutine_fits ts t f) (live-is-task-of ts t z e r f)

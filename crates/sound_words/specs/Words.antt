@@ -47,6 +47,6 @@ module _ {row words : List ℕ} {r : Bool} (h : r ≡ same_words words row) wher
   unfolding place_canonical
   same_place ps p l e q = h ∙ rw (q, e, l)
 
-  pub same-header : (os : List ℕ) {x : Header} → row ≡ row_from os 0 0 8 → x ≡ to_header row → words ≡ header_words x → r ≡ header_canonical os
+  pub same_header : (os : List ℕ) {x : Header} → row ≡ row_from os 0 0 8 → x ≡ to_header row → words ≡ header_words x → r ≡ header_canonical os
   unfolding header_canonical
-  same-header os l e q = h ∙ rw (q, e, l)
+  same_header os l e q = h ∙ rw (q, e, l)

@@ -388,8 +388,8 @@ module _ (ts os ps : List ℕ) (q : ReadyQueue) (l : List LogEntry) {v : Header}
 module _ (ts os ps : List ℕ) (q : ReadyQueue) (l : List LogEntry) (t : ℕ) {ts' os' ps' : List ℕ} {q' : ReadyQueue}
     (r : store_of ts' os' ps' q' (cancel_task (store_of ts os ps q l) t).log ≡ cancel_task (store_of ts os ps q l) t) where
   -- it is not longer
-  pub cancel-not_longer : q'.len ≤ q.len
-  cancel-not_longer = subst (λ (s : Store). s.queue.len ≤ q.len) (sym r) (cancel_shortens (store_of ts os ps q l) t)
+  pub cancel_not_longer : q'.len ≤ q.len
+  cancel_not_longer = subst (λ (s : Store). s.queue.len ≤ q.len) (sym r) (cancel_shortens (store_of ts os ps q l) t)
 
   -- by no more entries shorter than an array holds
   pub cancel_lost_fits : q.len - q'.len ≤ task_limit

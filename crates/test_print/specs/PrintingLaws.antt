@@ -63,4 +63,4 @@ pub store_wrote : (ts os : List ℕ) (q : ReadyQueue) {x y z u : Out} {h : Heade
 unfolding store_text
 store_wrote ts os q {x} {y} {z} {u} {h} e v w t =
     let f : HeaderFits h = header_read os e in
-    rw (← e) (at_most (omega (arith, f.next_fits, f.made-fits)) (then v (then w t)))
+    rw (← e) (at_most (omega (arith, f.next_fits, f.made_fits)) (then v (then w t)))

@@ -9,7 +9,7 @@ refuse-requires : tie.Need-refuse-requires
 refuse-requires c κs = search rules
 
 returns : tie.Need_returns
-returns c = c.refuse.ensures ∙ place_none c.before.before.before.args.places.now c.before.before.before.args.first c.before.before.before.args.open-places c.before.before.before.args.count 0 c.before.before.before.args.i c.before.if1.true
+returns c = c.refuse.ensures ∙ place_none c.before.before.before.args.places.now c.before.before.before.args.first c.before.before.before.args.open_places c.before.before.before.args.count 0 c.before.before.before.args.i c.before.if1.true
 
 result-at-requires : tie.Need-result-at-requires
 result-at-requires c κs = search rules
@@ -21,7 +21,7 @@ slot-requires : tie.Need-slot-requires
 slot-requires c κs = search rules
 
 returns-2 : tie.Need-returns-2
-returns-2 c = rw (c.slot.ensures, c.before.is_set.ensures, c.before.before.result_at.ensures) (place-some c.before.before.before.before.before.args.places.now c.before.before.before.before.before.args.first c.before.before.before.before.before.args.open-places c.before.before.before.before.before.args.count c.before.before.before.before.before.args.i (omega (arith, c.before.before.before.if1.false)))
+returns-2 c = rw (c.slot.ensures, c.before.is_set.ensures, c.before.before.result_at.ensures) (place-some c.before.before.before.before.before.args.places.now c.before.before.before.before.before.args.first c.before.before.before.before.before.args.open_places c.before.before.before.before.before.args.count c.before.before.before.before.before.args.i (omega (arith, c.before.before.before.if1.false)))
 
 pub place-spec : {M : Type 1} → statement M
 place-spec =

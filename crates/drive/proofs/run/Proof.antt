@@ -10,7 +10,7 @@ use Rattle.machine.specs.Store.{store_of}
 use Rattle.machine.specs.Machine.{Step}
 use Rattle.machine.specs.Answers.{Numbers}
 use Rattle.machine_theorems.specs.Soundness.Stores.{SoundStore}
-use Rattle.drive_laws.specs.KeptLaws.{begun_fresh, begun-sound_store}
+use Rattle.drive_laws.specs.KeptLaws.{begun_fresh, begun_sound_store}
 use Rattle.drive_window.specs.Run.{Stands}
 use Rattle.drive_window.specs.RunLaws.{stands_begins, stands_goes_on}
 use Rattle.drive_window.specs.OnwardLaws.{drove_fits, drove_goes_up, drove_within}
@@ -44,16 +44,16 @@ refill-requires : tie.Need-refill-requires invariant_loop decreases_loop
 refill-requires c κs = (omega arith, omega arith)
 
 loop-holds : tie.Need-loop-init invariant_loop decreases_loop
-loop-holds c = (begun-sound_store _ c.before.before.before.before.before.before.before.before.begin.result.answer refl refl refl (ap (λ (x : Step × Numbers). x.0) (c.before.before.before.before.before.before.before.before.begin.ensures [])), refl, c.before.before.refill.ensures.whole (omega (arith, c.before.before.before.before.before.before.before.before.before.before.before.before.before.before.before.requires.0, c.before.before.refill.auto.0)), refl, refl, stands_begins _ _ (begun_fresh _ c.before.before.before.before.before.before.before.before.begin.result.answer refl refl refl (ap (λ (x : Step × Numbers). x.0) (c.before.before.before.before.before.before.before.before.begin.ensures []))) c.before.before.refill.ensures (λ i. omega (arith, c.slice_known3.given i)))
+loop-holds c = (begun_sound_store _ c.before.before.before.before.before.before.before.before.begin.result.answer refl refl refl (ap (λ (x : Step × Numbers). x.0) (c.before.before.before.before.before.before.before.before.begin.ensures [])), refl, c.before.before.refill.ensures.whole (omega (arith, c.before.before.before.before.before.before.before.before.before.before.before.before.before.before.before.requires.0, c.before.before.refill.auto.0)), refl, refl, stands_begins _ _ (begun_fresh _ c.before.before.before.before.before.before.before.before.begin.result.answer refl refl refl (ap (λ (x : Step × Numbers). x.0) (c.before.before.before.before.before.before.before.before.begin.ensures []))) c.before.before.refill.ensures (λ i. omega (arith, c.slice_known3.given i)))
 
 slice-aggregate-drive-window : tie.Need-slice-aggregate-drive-window invariant_loop decreases_loop
-slice-aggregate-drive-window c = sym c.before.before.before.loop.invariant.0.memory.sized.tasks-sized
+slice-aggregate-drive-window c = sym c.before.before.before.loop.invariant.0.memory.sized.tasks_sized
 
 slice-aggregate-drive-window-2 : tie.Need-slice-aggregate-drive-window-2 invariant_loop decreases_loop
-slice-aggregate-drive-window-2 c = sym c.before.before.before.before.loop.invariant.0.memory.sized.objects-sized
+slice-aggregate-drive-window-2 c = sym c.before.before.before.before.loop.invariant.0.memory.sized.objects_sized
 
 slice-aggregate-drive-window-3 : tie.Need-slice-aggregate-drive-window-3 invariant_loop decreases_loop
-slice-aggregate-drive-window-3 c = sym c.before.before.before.before.before.loop.invariant.0.memory.sized.places-sized
+slice-aggregate-drive-window-3 c = sym c.before.before.before.before.before.loop.invariant.0.memory.sized.places_sized
 
 slice-aggregate-drive-window-4 : tie.Need-slice-aggregate-drive-window-4 invariant_loop decreases_loop
 slice-aggregate-drive-window-4 c = sym c.before.before.before.before.before.before.loop.invariant.1

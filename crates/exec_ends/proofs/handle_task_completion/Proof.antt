@@ -13,7 +13,7 @@ load-task-requires : tie.Need_load_task_requires
 load-task-requires c κs = search rules
 
 complete-coroutine-requires : tie.Need-complete-coroutine-requires
-complete-coroutine-requires c κs = (c.before.before.before.before.before.before.before.requires.1, rw c.before.before.load-task.ensures (task_at-fits c.before.before.before.before.before.before.before.args.tasks.now c.before.before.before.before.before.before.before.args.t.0).coroutine-fits)
+complete-coroutine-requires c κs = (c.before.before.before.before.before.before.before.requires.1, rw c.before.before.load-task.ensures (task_at-fits c.before.before.before.before.before.before.before.args.tasks.now c.before.before.before.before.before.before.before.args.t.0).coroutine_fits)
 
 remove-task-lent-requires : tie.Need-remove-task-lent-requires
 remove-task-lent-requires c κs = search rules

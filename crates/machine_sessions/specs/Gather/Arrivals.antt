@@ -63,10 +63,10 @@ returned-step os seen x xs r k = by (is_in x.awaitable os && not (is_in x.awaita
     by true (raised e) r = absurd r
     by false y r = k seen
 
-pub none-raised : (os : List ℕ) (xs : Arrivals) → AllReturned xs → (seen : List ℕ) → first_raised os seen xs ≡ none
+pub none_raised : (os : List ℕ) (xs : Arrivals) → AllReturned xs → (seen : List ℕ) → first_raised os seen xs ≡ none
 unfolding AllReturned
-none-raised os [] k seen = unfold first_raised in refl
-none-raised os (x ∷ xs) k seen = returned-step os seen x xs k.0 (none-raised os xs k.1)
+none_raised os [] k seen = unfold first_raised in refl
+none_raised os (x ∷ xs) k seen = returned-step os seen x xs k.0 (none_raised os xs k.1)
 
 pub all-returned-++ : (xs ys : Arrivals) → AllReturned xs → AllReturned ys → AllReturned (xs ++ ys)
 unfolding AllReturned

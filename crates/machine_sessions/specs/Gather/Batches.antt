@@ -30,7 +30,7 @@ use Rattle.machine_laws.specs.SoundLaws.{pass, refusal-sound, refusal-rest, refu
 use Rattle.machine_theorems.specs.Soundness.Stores.{SoundStore, SoundDuring, during_of, sound_store_sound}
 use Rattle.machine_theorems.specs.Soundness.Results.{AllApply, result_keeps}
 use Rattle.machine_theorems.specs.Soundness.Preserved.{results_apply}
-use Rattle.machine_theorems.specs.Soundness.Sessions.{forget-sound_store, step-sound_store}
+use Rattle.machine_theorems.specs.Soundness.Sessions.{forget_sound_store, step_sound_store}
 use Rattle.machine.specs.Lent.{slices_right, lengths_right, lent_by, lent_step}
 use Rattle.machine.specs.History.{Entry, Says, says, nothing_said, said, tells}
 use Rattle.machine.specs.Sessions.{InRange, AllSentInRange, Sent, is_read, lent_any, entry_of, Session, send, send_all}
@@ -129,13 +129,13 @@ module _ (s : Store) (r : Result) (rs : List Result) (h : SoundStore s) (e : ref
   then_is = results_step s (r ∷ []) first-accepted
 
   then-sound : SoundStore then
-  then-sound = step-sound_store s h (single r) (unfold InRange in tt)
+  then-sound = step_sound_store s h (single r) (unfold InRange in tt)
 
   one-during : SoundDuring Nothing (runs_now (header s).moment) (λ o. T (is_completed (kind (object s o)))) (header s) one
   unfolding AllApply header object forget
   one-during =
-      let a = results_apply (forget s) (forget-sound_store s h) (r ∷ rs) (refusal-rest (forget s) (Event.results (r ∷ rs)) (refusal-forget s (Event.results (r ∷ rs)) ∙ e)) in
-      result_keeps (forget s) r a.0 (during_of (forget s) (forget-sound_store s h))
+      let a = results_apply (forget s) (forget_sound_store s h) (r ∷ rs) (refusal-rest (forget s) (Event.results (r ∷ rs)) (refusal-forget s (Event.results (r ∷ rs)) ∙ e)) in
+      result_keeps (forget s) r a.0 (during_of (forget s) (forget_sound_store s h))
 
   then-header : header then ≡ header s
   unfolding header put_queue
@@ -196,7 +196,7 @@ lengths_stay : (s u : Store) (l : List ℕ) → Sized u → lengths_right s l �
 unfolding lengths_right slices_right
 lengths_stay s u l z q =
     let room = (and-true (slices_right s) (leb object_limit (length l)) (unfold slices_right in q)).1 in
-    rw (eq-eqb (length u.tasks) tasks_length z.tasks-sized, eq-eqb (length u.objects) objects_length z.objects-sized, eq-eqb (length u.places) places_length z.places-sized) room
+    rw (eq-eqb (length u.tasks) tasks_length z.tasks_sized, eq-eqb (length u.objects) objects_length z.objects_sized, eq-eqb (length u.places) places_length z.places_sized) room
 
 -- one by one they leave the tasks, the objects and the places that the batch leaves
 alone-rows : (rs : List Result) (l : List ℕ) (y : Session) → SoundStore y.store → lengths_right y.store l ≡ true → refusal y.store (Event.results rs) ≡ 0
@@ -208,7 +208,7 @@ alone-rows (r ∷ rs) l y h q e =
     let k = batch_splits s r rs h e in
     let u : Store = (step s (Event.results (r ∷ []))).store in
     let now : (send y (batch (r ∷ []) l)).store ≡ u = lent_batch s (r ∷ []) l q in
-    let w : SoundStore u = step-sound_store s h (Event.results (r ∷ [])) (unfold InRange in tt) in
+    let w : SoundStore u = step_sound_store s h (Event.results (r ∷ [])) (unfold InRange in tt) in
     alone-rows rs l (send y (batch (r ∷ []) l)) (subst SoundStore (sym now) w) (subst (λ (v : Store). lengths_right v l ≡ true) (sym now) (lengths_stay s u l w.memory.sized q))
     (subst (λ (v : Store). refusal v (Event.results rs) ≡ 0) (sym now) k.1) ∙ (ap (λ (v : Store). rows_of (step v (Event.results rs)).store) now ∙ k.2)
 
@@ -275,7 +275,7 @@ pub send-sound : (s : Store) (e : Sent) → SoundStore s → InRange e.event →
 send-sound s e h i = by (sends s e h.memory.sized)
   where
     by : Sends s e → SoundStore (lent_any s e).store
-    by (stepped p q) = subst SoundStore (sym p) (step-sound_store s h e.event i)
+    by (stepped p q) = subst SoundStore (sym p) (step_sound_store s h e.event i)
     by (short p q) = subst SoundStore (sym p) h
 
 -- numbers that are in range stay so

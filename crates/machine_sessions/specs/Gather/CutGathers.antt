@@ -150,10 +150,10 @@ module _ (g : ℕ) (no_result : (ps : List Sent) (r : Result) (l : List ℕ) (e 
     alike-quietly : committed (look x.store g) ≡ true → (xs : Arrivals) → Quietly y g xs → Quietly x g xs
     alike-quietly c xs w =
         record {
-          all-returned = w.all-returned;
+          all_returned = w.all_returned;
           own = subst (λ (f : ℕ → Option (Outcome Value Error)). All (λ (a : Arrival Value Error). f a.awaitable ≡ some a.outcome) xs) came-is w.own;
           known = λ o n. w.known o (subst (λ (os : List ℕ). is_in o os ≡ true) (sym same) n) ∙ ap (λ (f : ℕ → Option (Outcome Value Error)). f o) came-is;
-          none-raised = λ o n. ap (λ (f : ℕ → Option (Outcome Value Error)). error_of (f o)) (sym came-is) ∙ w.none-raised o (subst (λ (os : List ℕ). is_in o os ≡ true) (sym same) n);
+          none_raised = λ o n. ap (λ (f : ℕ → Option (Outcome Value Error)). error_of (f o)) (sym came-is) ∙ w.none_raised o (subst (λ (os : List ℕ). is_in o os ≡ true) (sym same) n);
         }
       where
         same : items y.history g ≡ items x.history g

@@ -91,7 +91,7 @@ woke_delivers =
     record {
       sized = λ u k. k.sized;
       row = λ u o x l y k. record { sized = sized-put_object u o x k.sized; log = unfold put_object in k.log };
-      values-put = λ u ps e k. record { sized = sized-put_places u ps e k.sized; log = unfold put_places in k.log };
+      values_put = λ u ps e k. record { sized = sized-put_places u ps e k.sized; log = unfold put_places in k.log };
       wakes = λ u t x l b r n k. record { sized = unfold make_ready push_ready in (sized-add_log _ (reached t) (sized-put_queue _ _ (sized-set_state u t x k.sized))); log = ready-log u t x k.log };
     }
   where

@@ -334,13 +334,13 @@ PendingState (ExternalFutureState.Failed e) = ⊥
 pub climb-awaited : (x y : Object) (w : AwaitedGather) → ClimbMoves x y → as_awaited y ≡ some w → AsAwaited x w
 climb-awaited x y w p e = by x (subst (ClimbMoves x) (awaited-object y w e) p)
   where
-    by : (x : Object) → ClimbMoves x (Object.GatherFuture w.first w.count (GatherState.Awaited w.awaiter w.open-places)) → AsAwaited x w
+    by : (x : Object) → ClimbMoves x (Object.GatherFuture w.first w.count (GatherState.Awaited w.awaiter w.open_places)) → AsAwaited x w
     by Object.Unmade q = absurd (subst IsUnmade (sym q) tt)
     by (Object.Coroutine f z) q = absurd q
     by (Object.ExternalFuture c z) q = absurd q
     by (Object.GatherFuture f n GatherState.Pending) q = absurd (subst AwaitedState q.2 tt)
     by (Object.GatherFuture f n (GatherState.Awaited a m)) q =
-        record { was = record { first = f; count = n; awaiter = a; open-places = m }; awaited = unfold as_awaited in refl; first = sym q.0; count = sym q.1; awaiter = sym q.2 }
+        record { was = record { first = f; count = n; awaiter = a; open_places = m }; awaited = unfold as_awaited in refl; first = sym q.0; count = sym q.1; awaiter = sym q.2 }
     by (Object.GatherFuture f n GatherState.Completed) q = absurd (subst AwaitedState q.2 tt)
     by (Object.GatherFuture f n (GatherState.Failed e)) q = absurd (subst AwaitedState q.2 tt)
 
@@ -372,7 +372,7 @@ climb-failed x y f n e p d = by x (subst (ClimbMoves x) d p)
     by (Object.Coroutine g z) q = absurd q
     by (Object.ExternalFuture c z) q = absurd q
     by (Object.GatherFuture g m GatherState.Pending) q = absurd (subst FailedState q.2 tt)
-    by (Object.GatherFuture g m (GatherState.Awaited a k)) q = inr (record { first = g; count = m; awaiter = a; open-places = k }, unfold as_awaited in refl)
+    by (Object.GatherFuture g m (GatherState.Awaited a k)) q = inr (record { first = g; count = m; awaiter = a; open_places = k }, unfold as_awaited in refl)
     by (Object.GatherFuture g m GatherState.Completed) q = absurd (subst FailedState q.2 tt)
     by (Object.GatherFuture g m (GatherState.Failed a)) q =
         let s : e ≡ a = failed-is e a q.2 in
@@ -383,11 +383,11 @@ climb-failed x y f n e p d = by x (subst (ClimbMoves x) d p)
 -- ---- what stays
 
 -- a failed gather
-pub climb-stays-failed : (y : Object) (f n : ℕ) (e : Error) → ClimbMoves (Object.GatherFuture f n (GatherState.Failed e)) y → y ≡ Object.GatherFuture f n (GatherState.Failed e)
-climb-stays-failed Object.Unmade f n e p = absurd p
-climb-stays-failed (Object.Coroutine g z) f n e p = absurd p
-climb-stays-failed (Object.ExternalFuture c z) f n e p = absurd p
-climb-stays-failed (Object.GatherFuture g m z) f n e p = let a : g ≡ f = p.0 in let b : m ≡ n = p.1 in let c : z ≡ GatherState.Failed e = p.2 in cc
+pub climb-stays_failed : (y : Object) (f n : ℕ) (e : Error) → ClimbMoves (Object.GatherFuture f n (GatherState.Failed e)) y → y ≡ Object.GatherFuture f n (GatherState.Failed e)
+climb-stays_failed Object.Unmade f n e p = absurd p
+climb-stays_failed (Object.Coroutine g z) f n e p = absurd p
+climb-stays_failed (Object.ExternalFuture c z) f n e p = absurd p
+climb-stays_failed (Object.GatherFuture g m z) f n e p = let a : g ≡ f = p.0 in let b : m ≡ n = p.1 in let c : z ≡ GatherState.Failed e = p.2 in cc
 
 -- a failed external
 pub climb-stays-broken : (y : Object) (c : CallId) (e : Error) → ClimbMoves (Object.ExternalFuture c (ExternalFutureState.Failed e)) y → y ≡ Object.ExternalFuture c (ExternalFutureState.Failed e)
@@ -516,17 +516,17 @@ pub commit_was : (x y : Object) (w : AwaitedGather) → CommitMoves x y → as_a
 unfolding as_awaited
 commit_was x y w p e = by x (subst (CommitMoves x) (awaited-object y w e) p)
   where
-    by : (x : Object) → CommitMoves x (Object.GatherFuture w.first w.count (GatherState.Awaited w.awaiter w.open-places)) → (as_awaited x ≡ some w) ⊎ ((f : ℕ) × (n : ℕ) × (x ≡ Object.GatherFuture f n GatherState.Pending))
+    by : (x : Object) → CommitMoves x (Object.GatherFuture w.first w.count (GatherState.Awaited w.awaiter w.open_places)) → (as_awaited x ≡ some w) ⊎ ((f : ℕ) × (n : ℕ) × (x ≡ Object.GatherFuture f n GatherState.Pending))
     by Object.Unmade q = absurd (subst IsUnmade (sym q) tt)
     by (Object.Coroutine f z) q = absurd q
     by (Object.ExternalFuture c z) q = absurd q
     by (Object.GatherFuture f n GatherState.Pending) q = inr (f, n, refl)
     by (Object.GatherFuture f n (GatherState.Awaited a m)) q = inl (same f n a m q.0 q.1 q.2)
       where
-        same : (f n : ℕ) (a : Awaiter) (m : ℕ) → w.first ≡ f → w.count ≡ n → GatherState.Awaited w.awaiter w.open-places ≡ GatherState.Awaited a m → as_awaited (Object.GatherFuture f n (GatherState.Awaited a m)) ≡ some w
+        same : (f n : ℕ) (a : Awaiter) (m : ℕ) → w.first ≡ f → w.count ≡ n → GatherState.Awaited w.awaiter w.open_places ≡ GatherState.Awaited a m → as_awaited (Object.GatherFuture f n (GatherState.Awaited a m)) ≡ some w
         same f n a m p q s =
             let b : w.awaiter ≡ a = cc in
-            let c : w.open-places ≡ m = cc in
-            unfold as_awaited in (ap (λ (x : AwaitedGather). some x) (λ j. record { first = sym p j; count = sym q j; awaiter = sym b j; open-places = sym c j }))
+            let c : w.open_places ≡ m = cc in
+            unfold as_awaited in (ap (λ (x : AwaitedGather). some x) (λ j. record { first = sym p j; count = sym q j; awaiter = sym b j; open_places = sym c j }))
     by (Object.GatherFuture f n GatherState.Completed) q = absurd (subst AwaitedState q.2 tt)
     by (Object.GatherFuture f n (GatherState.Failed z)) q = absurd (subst AwaitedState q.2 tt)

@@ -219,7 +219,7 @@ module _ (o : ℕ) (s : Store) (w : SoundStore s) (t : ℕ) (m : (header s).mome
         same = unfold task add_log set_state in refl
 
         fits : TaskFits r
-        fits = unfold restate in (record { state_fits = low-o; awaiter_fits = (task-fits x t).awaiter_fits; coroutine-fits = (task-fits x t).coroutine-fits })
+        fits = unfold restate in (record { state_fits = low-o; awaiter_fits = (task-fits x t).awaiter_fits; coroutine_fits = (task-fits x t).coroutine_fits })
 
     r-state : r.state ≡ TaskState.Blocked (heap_id o)
     r-state = unfold restate in refl
@@ -250,7 +250,7 @@ module _ (o : ℕ) (s : Store) (w : SoundStore s) (t : ℕ) (m : (header s).mome
 
     apart : (v p y : ℕ) → v < (header s).next → v < (header b).next → is_live (task b v).state ≡ true → (task b v).awaiter ≡ Awaiter.GatherSlot (heap_id p) (heap_id y) → Young p → ⊥
     unfolding view
-    apart v p y l n lv e yo = slot-old (w.facts.but.task-slots v l (holds (is_live (task s v).state) (live-was v l lv)) p y (sym (awaiter_same v l) ∙ e)) yo
+    apart v p y l n lv e yo = slot-old (w.facts.but.task_slots v l (holds (is_live (task s v).state) (live-was v l lv)) p y (sym (awaiter_same v l) ∙ e)) yo
 
     up : (g p y : ℕ) (v : AwaitedGather) → g < (header b).made → as_awaited (object b g) ≡ some v → v.awaiter ≡ Awaiter.GatherSlot (heap_id p) (heap_id y) → Young p → Young g
     unfolding view
@@ -260,7 +260,7 @@ module _ (o : ℕ) (s : Store) (w : SoundStore s) (t : ℕ) (m : (header s).mome
         low = subst (λ (j : ℕ). g < j) (ap (λ (i : Header). i.made) head ∙ c.made) l
 
         by : (as_awaited (object s g) ≡ some v) ⊎ Young g → Young g
-        by (inl q) = absurd (slot-old (w.facts.but.object-slots g low (λ i. i) p y (awaiter_is (object s g) v q ∙ a)) yo)
+        by (inl q) = absurd (slot-old (w.facts.but.object_slots g low (λ i. i) p y (awaiter_is (object s g) v q ∙ a)) yo)
         by (inr q) = q
 
     begins : Failing s b Young (Brings ev) (RunnerEnds ev s) (RunnerFails ev s) (Unit {0}) b
@@ -384,7 +384,7 @@ module _ (o : ℕ) (s : Store) (w : SoundStore s) (t : ℕ) (m : (header s).mome
 
   module _ (made : o < (header s).made) where
     low-o : o < object_limit
-    low-o = omega (arith, made, (header-fits s).made-fits)
+    low-o = omega (arith, made, (header-fits s).made_fits)
 
     unmade-not : object s o ≡ Object.Unmade → ⊥
     unfolding view object_in_range

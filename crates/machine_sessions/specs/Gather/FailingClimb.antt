@@ -33,7 +33,7 @@ use Rattle.machine_sessions.specs.Gather.Failing.{ClimbMoves, GatherClimbs, AsAw
 use Rattle.machine_sessions.specs.Gather.FailingRows.{ItemAt, Raised, by_gather, Because, Failing, places_failing, row_failing, wakes_failing}
 
 -- an awaited gather's row may go on as its state may
-pub awaited_climbs : (x : Object) (w : AwaitedGather) (y : GatherState) → as_awaited x ≡ some w → GatherClimbs (GatherState.Awaited w.awaiter w.open-places) y → ClimbMoves x (Object.GatherFuture w.first w.count y)
+pub awaited_climbs : (x : Object) (w : AwaitedGather) (y : GatherState) → as_awaited x ≡ some w → GatherClimbs (GatherState.Awaited w.awaiter w.open_places) y → ClimbMoves x (Object.GatherFuture w.first w.count y)
 awaited_climbs x w y e k = subst (λ (z : Object). ClimbMoves z (Object.GatherFuture w.first w.count y)) (sym (awaited-object x w e)) (refl, refl, k)
 
 -- and is no coroutine
@@ -70,7 +70,7 @@ module _ (s m : Store) (Young : ℕ → Type 0) (B : Error → Type 0) (X : ℕ 
     sl.made,
     λ w e.
         let op : Open (place m) w o = sl.opens w e in
-        let row : object m p ≡ Object.GatherFuture w.first w.count (GatherState.Awaited w.awaiter w.open-places) = awaited-object (object m p) w e in (
+        let row : object m p ≡ Object.GatherFuture w.first w.count (GatherState.Awaited w.awaiter w.open_places) = awaited-object (object m p) w e in (
           record { at = op.at; under = subst (λ (n : ℕ). op.at < n) (sym (ap count_of row)) op.under; names = ap (λ (n : ℕ). (place m (n + op.at)).item.0) (ap first_of row) ∙ op.names },
           old w e,
         ),
@@ -84,7 +84,7 @@ module _ (s m : Store) (Young : ℕ → Type 0) (B : Error → Type 0) (X : ℕ 
     gather-up g w Awaiter.Nobody l e old q = tt
     gather-up g w (Awaiter.Task t) l e old q = tt
     gather-up g w (Awaiter.GatherSlot p x) l e old q =
-        slotted_up g p.0 x.0 (sound.object-slots g l (λ z. z) p.0 x.0 (awaiter_is (object m g) w e ∙ q)) (λ v d y. old (up g p.0 x.0 w l e q y))
+        slotted_up g p.0 x.0 (sound.object_slots g l (λ z. z) p.0 x.0 (awaiter_is (object m g) w e ∙ q)) (λ v d y. old (up g p.0 x.0 w l e q y))
 
     module _ (R : ℕ → Error → Type 0) (Fr : Type 0) where
       abbrev K : Store → Type 0
@@ -113,32 +113,32 @@ module _ (s m : Store) (Young : ℕ → Type 0) (B : Error → Type 0) (X : ℕ 
         where
           by : (w : Option AwaitedGather) → as_awaited (object u g) ≡ w → K (resolve_awaited u g x v w).store
           by none e = unfold resolve_awaited in k
-          by (some w) e = unfold resolve_awaited in (left (eqb f.open-places 0))
+          by (some w) e = unfold resolve_awaited in (left (eqb f.open_places 0))
             where
               f : Filled
-              f = fill_from u.places w.open-places w.first x v 0 w.count
+              f = fill_from u.places w.open_places w.first x v 0 w.count
 
               n : Store
               n = put_places u f.places
 
               k1 : K n
-              k1 = places_failing s m Young B X R Fr u f.places (length-fill_from w.count u.places w.open-places w.first x v 0 ∙ k.sized.places-sized) k
+              k1 = places_failing s m Young B X R Fr u f.places (length-fill_from w.count u.places w.open_places w.first x v 0 ∙ k.sized.places_sized) k
 
               e1 : as_awaited (object n g) ≡ some w
               e1 = unfold object put_places in e
 
-              fits : ObjectFits (Object.GatherFuture w.first w.count (GatherState.Awaited w.awaiter w.open-places))
+              fits : ObjectFits (Object.GatherFuture w.first w.count (GatherState.Awaited w.awaiter w.open_places))
               fits = awaited-fits u g w e
 
-              less : f.open-places ≤ w.open-places
-              less = fill_less w.count u.places w.open-places w.first x v 0
+              less : f.open_places ≤ w.open_places
+              less = fill_less w.count u.places w.open_places w.first x v 0
 
-              left : (b : Bool) → K (resolve_left b n g w f.open-places).store
+              left : (b : Bool) → K (resolve_left b n g w f.open_places).store
               left true = unfold resolve_left in
                   (row_failing s m Young B X R Fr n g _ l (fits.0, tt) (awaited_climbs (object n g) w GatherState.Completed e1 tt) (λ a c d y p q. absurd (subst FailedRow (sym q) tt))
                   (λ i a q. awaited-coroutine (object n g) w a CoroutineState.New e1 q) k1)
               left false = unfold resolve_left in
-                  (row_failing s m Young B X R Fr n g _ l (fits.0, (fits.1.0, omega (arith, less, fits.1.1))) (awaited_climbs (object n g) w (GatherState.Awaited w.awaiter f.open-places) e1 refl)
+                  (row_failing s m Young B X R Fr n g _ l (fits.0, (fits.1.0, omega (arith, less, fits.1.1))) (awaited_climbs (object n g) w (GatherState.Awaited w.awaiter f.open_places) e1 refl)
                   (λ a c d y p q. absurd (subst FailedRow (sym q) tt)) (λ i a q. awaited-coroutine (object n g) w a CoroutineState.New e1 q) k1)
 
       sends-value : (go : Store → Awaiter → Value → Delivery) → ((u : Store) (a : Awaiter) (v : Value) → AwaiterFits a → ValueFits v → K u → K (go u a v).store)

@@ -182,7 +182,7 @@ module _ (s : Store) where
           first = w.first;
           count = w.count;
           was = same-was;
-          now = unwind-failed all x e g w.first w.count (GatherState.Awaited w.awaiter w.open-places) z l (awaited-fits x g w q).0 fits (awaited-object (object x g) w q) on;
+          now = unwind-failed all x e g w.first w.count (GatherState.Awaited w.awaiter w.open_places) z l (awaited-fits x g w q).0 fits (awaited-object (object x g) w q) on;
           why = record {
             at = i;
             under = subst (λ (n : ℕ). i < n) (sym spot.1) less;
@@ -196,16 +196,16 @@ module _ (s : Store) where
         quiet : (j : ℕ) → j < i → Passed (object u (item_at s g j))
         quiet j b = let y = k.left j b in subst Passed (sym (unwind-other all x e (item_at s g j) y.off)) y.passed
 
-        moved : CommitMoves (object s g) (Object.GatherFuture w.first w.count (GatherState.Awaited w.awaiter w.open-places))
+        moved : CommitMoves (object s g) (Object.GatherFuture w.first w.count (GatherState.Awaited w.awaiter w.open_places))
         moved = subst (CommitMoves (object s g)) (awaited-object (object x g) w q) (c.moves g)
 
         spot : (first_of (object s g) ≡ w.first) × (count_of (object s g) ≡ w.count)
-        spot = commit_places (object s g) w.first w.count (GatherState.Awaited w.awaiter w.open-places) moved
+        spot = commit_places (object s g) w.first w.count (GatherState.Awaited w.awaiter w.open_places) moved
 
         same-was : object s g ≡ Object.GatherFuture w.first w.count GatherState.Pending
         same-was =
-            let p : CommitMoves (Object.GatherFuture k.first k.count GatherState.Pending) (Object.GatherFuture w.first w.count (GatherState.Awaited w.awaiter w.open-places)) =
-            subst (λ (a : Object). CommitMoves a (Object.GatherFuture w.first w.count (GatherState.Awaited w.awaiter w.open-places))) k.was moved in
+            let p : CommitMoves (Object.GatherFuture k.first k.count GatherState.Pending) (Object.GatherFuture w.first w.count (GatherState.Awaited w.awaiter w.open_places)) =
+            subst (λ (a : Object). CommitMoves a (Object.GatherFuture w.first w.count (GatherState.Awaited w.awaiter w.open_places))) k.was moved in
             k.was ∙ again k.first w.first k.count w.count p.0 p.1
           where
             again : (a b c d : ℕ) → b ≡ a → d ≡ c → Object.GatherFuture a c GatherState.Pending ≡ Object.GatherFuture b d GatherState.Pending
@@ -216,7 +216,7 @@ module _ (s : Store) where
     item-was g i w q =
         c.items (w.first + i)
         ∙ ap (λ (n : ℕ). (place s (n + i)).item.0)
-        (sym (commit_places (object s g) w.first w.count (GatherState.Awaited w.awaiter w.open-places) (subst (CommitMoves (object s g)) (awaited-object (object x g) w q) (c.moves g))).0)
+        (sym (commit_places (object s g) w.first w.count (GatherState.Awaited w.awaiter w.open_places) (subst (CommitMoves (object s g)) (awaited-object (object x g) w q) (c.moves g))).0)
 
     raised_by : (p g f n : ℕ) → object u g ≡ Object.GatherFuture f n (GatherState.Failed e) → PollRaises u p g (object u g) e
     raised_by p g f n q = subst (λ (y : Object). PollRaises u p g y e) (sym q) (failed f n e)
@@ -230,7 +230,7 @@ module _ (s : Store) where
       where
         here : Falls u e f.gather
         here =
-            level-falls f.gather f.next w ls.0 op.awaited (omega (arith, op.made, (header-fits x).made-fits)) (on f.gather (inl refl)) lt
+            level-falls f.gather f.next w ls.0 op.awaited (omega (arith, op.made, (header-fits x).made_fits)) (on f.gather (inl refl)) lt
             (subst (λ (j : ℕ). PollRaises u f.gather j (object u j) e) named (raised_by f.gather g fl.first fl.count fl.now))
             (λ j b p d. subst Passed (ap (object u) (d ∙ sym named) ∙ fl.now) p)
           where
@@ -288,8 +288,8 @@ module _ (s : Store) where
 
       top : Falls v e g
       top =
-          level-falls x e (f ∷ fs) z h.fits goes_on c g k.i h.inv.w k.going.top h.inv.opened.awaited (omega (arith, made, (header-fits x).made-fits)) (inl refl)
-          (subst (λ (n : ℕ). k.i < n) (commit_places (object s g) h.inv.w.first h.inv.w.count (GatherState.Awaited h.inv.w.awaiter h.inv.w.open-places)
+          level-falls x e (f ∷ fs) z h.fits goes_on c g k.i h.inv.w k.going.top h.inv.opened.awaited (omega (arith, made, (header-fits x).made_fits)) (inl refl)
+          (subst (λ (n : ℕ). k.i < n) (commit_places (object s g) h.inv.w.first h.inv.w.count (GatherState.Awaited h.inv.w.awaiter h.inv.w.open_places)
           (subst (CommitMoves (object s g)) (awaited-object (object x g) h.inv.w h.inv.opened.awaited) (c.moves g))).1 k.under)
           (subst (λ (y : Object). PollRaises v g (item_at s g k.i) y e) (sym (other (item_at s g k.i) k.off)) (polls-same x v g (item_at s g k.i) same-task same.2 (object x (item_at s g k.i)) e k.raises))
           (λ j b p d. k.first j b d)
@@ -362,11 +362,11 @@ module _ (s : Store) where
       no-coroutine : (f n d : ℕ) → Object.GatherFuture f n GatherState.Pending ≡ Object.Coroutine d CoroutineState.New → ⊥
       no-coroutine f n d e = let z : ◌≡◌ {A = ℕ} 0 1 = cc in not-suc-le-zero {n = 0} (omega arith)
 
-      none : (w : AwaitedGather) → as_awaited (object v o) ≡ some w → (j : ℕ) → bit w.open-places j ≡ false
+      none : (w : AwaitedGather) → as_awaited (object v o) ≡ some w → (j : ℕ) → bit w.open_places j ≡ false
       none w e j =
-          let same : record { first = f; count = n; awaiter = a; open-places = 0 } ≡ w =
-          some-injective (record { first = f; count = n; awaiter = a; open-places = 0 }) w (sym (ap as_awaited (object_put-object x o y z l fits) ∙ (unfold as_awaited in refl)) ∙ e) in
-          ap (λ (b : AwaitedGather). bit b.open-places j) (sym same) ∙ none-set j
+          let same : record { first = f; count = n; awaiter = a; open_places = 0 } ≡ w =
+          some-injective (record { first = f; count = n; awaiter = a; open_places = 0 }) w (sym (ap as_awaited (object_put-object x o y z l fits) ∙ (unfold as_awaited in refl)) ∙ e) in
+          ap (λ (b : AwaitedGather). bit b.open_places j) (sym same) ∙ none-set j
 
       new : (p : ℕ) → Passed (object x p) → p ≡ o → ⊥
       new p b d = subst Passed q (subst (λ (j : ℕ). Passed (object x j)) d b)
@@ -386,7 +386,7 @@ module _ (s : Store) where
       k.commits k.taking k.opening (unfold Levels in (k.top, k.below)) (λ p z. z) (λ p z. z) apart
     where
       low-g : f.gather < object_limit
-      low-g = omega (arith, h.inv.opened.made, (header-fits x).made-fits)
+      low-g = omega (arith, h.inv.opened.made, (header-fits x).made_fits)
 
       low-o : o < object_limit
       low-o = omega (arith, h.lower, low-g)
@@ -427,7 +427,7 @@ module _ (s : Store) where
   root-fails : (root t : ℕ) (x : Store) (g i j : ℕ) → Memory x → Inv root t 0 (OnTop g []) (view x) g i [] → Going s x g j [] → EndFails root t (settle_gather_commit x g).store (settle_gather_commit x g).poll
   unfolding settle_gather_commit view
   root-fails root t x g i j mem h k =
-      subst (λ (o : Option AwaitedGather). EndFails root t (settle_as x g o).store (settle_as x g o).poll) (sym h.opened.awaited) (unfold settle_as in (by (eqb h.w.open-places 0)))
+      subst (λ (o : Option AwaitedGather). EndFails root t (settle_as x g o).store (settle_as x g o).poll) (sym h.opened.awaited) (unfold settle_as in (by (eqb h.w.open_places 0)))
     where
       alone : (p : ℕ) → (p ≡ g → ⊥) → (⊥ → ⊥) → OnTop g [] p → ⊥
       alone p n z (inl d) = n d
@@ -443,7 +443,7 @@ module _ (s : Store) where
       by : (b : Bool) → EndFails root t (pick b (gives (set_gather x g GatherState.Completed) (ready (Value.List (heap_id g)))) (gives x pending)).store
           (pick b (gives (set_gather x g GatherState.Completed) (ready (Value.List (heap_id g)))) (gives x pending)).poll
       by true =
-          let low : g < object_limit = omega (arith, h.opened.made, (header-fits x).made-fits) in
+          let low : g < object_limit = omega (arith, h.opened.made, (header-fits x).made_fits) in
           (completed-commits x g j [] h.w mem.sized low h.opened.awaited k, completed-takes x g h.w mem.sized low h.opened.awaited k.taking, completed-opens x g (OnTop g []) (λ p. ⊥) h.w mem.sized low h.opened.awaited alone k.opening)
       by false = (k.commits, k.taking, λ o v n e. k.opening o v (λ z. n (only o z)) e, λ v e. ap (λ (y : AwaitedGather). y.awaiter) (sym (some-injective h.w v (sym h.opened.awaited ∙ (ap (λ (p : ℕ). as_awaited (object x p)) (is-root h.stack).0 ∙ e)))) ∙ (is-root h.stack).1)
 
@@ -460,7 +460,7 @@ module _ (s : Store) where
     top = h.opened.awaited
 
     low : g < object_limit
-    low = omega (arith, made, (header-fits x).made-fits)
+    low = omega (arith, made, (header-fits x).made_fits)
 
     higher : (q : ℕ) → OnStack (p ∷ ps) q → g < q
     unfolding view
@@ -493,7 +493,7 @@ module _ (s : Store) where
     item-is w e nm =
         sym nm ∙ (k.commits.items (w.first + p.next)
         ∙ ap (λ (n : ℕ). (place s (n + p.next)).item.0)
-        (sym (commit_places (object s p.gather) w.first w.count (GatherState.Awaited w.awaiter w.open-places) (subst (CommitMoves (object s p.gather)) (awaited-object (object x p.gather) w e) (k.commits.moves p.gather))).0))
+        (sym (commit_places (object s p.gather) w.first w.count (GatherState.Awaited w.awaiter w.open_places) (subst (CommitMoves (object s p.gather)) (awaited-object (object x p.gather) w e) (k.commits.moves p.gather))).0))
 
     off_rest : (q : ℕ) → (q ≡ g → ⊥) → (OnTop p.gather ps q → ⊥) → OnTop g (p ∷ ps) q → ⊥
     off_rest q n m (inl d) = n d
@@ -510,7 +510,7 @@ module _ (s : Store) where
             subst (Opens s o) (sym (ap (λ (y : AwaitedGather). y.awaiter) (sym (some-injective h.w v (sym top ∙ subst (λ (j : ℕ). as_awaited (object x j) ≡ some v) d e))) ∙ aw))
             (inr (record {
               at = p.next;
-              under = subst (λ (c : ℕ). p.next < c) (sym (commit_places (object s p.gather) w.first w.count (GatherState.Awaited w.awaiter w.open-places) (subst (CommitMoves (object s p.gather)) (awaited-object (object x p.gather) w op.awaited) (k.commits.moves p.gather))).1) lt;
+              under = subst (λ (c : ℕ). p.next < c) (sym (commit_places (object s p.gather) w.first w.count (GatherState.Awaited w.awaiter w.open_places) (subst (CommitMoves (object s p.gather)) (awaited-object (object x p.gather) w op.awaited) (k.commits.moves p.gather))).1) lt;
               names = sym (item-is w op.awaited nm) ∙ sym d;
             }))
 
@@ -549,7 +549,7 @@ module _ (s : Store) where
         by (above w i op lt nm lo aw rm rest) =
             subst (λ (o : Option AwaitedGather). Next (resume_as p (gives x1 (ready (Value.List (heap_id g)))) o)) (sym (ap as_awaited (x1-other p.gather (inl refl)) ∙ op.awaited))
             (unfold resume_as resume_in in
-            (going_fills s x1 p.gather p.next ps w (Value.List (heap_id g)) x1-sized (omega (arith, gather_within p.gather w h.but op.made op.awaited, lt, h.but.fits.used-fits)) low
+            (going_fills s x1 p.gather p.next ps w (Value.List (heap_id g)) x1-sized (omega (arith, gather_within p.gather w h.but op.made op.awaited, lt, h.but.fits.used_fits)) low
             (subst (Calm s (OnTop p.gather ps) x1) (item-is w op.awaited nm) (record { passed = subst Passed (sym (object_put-object x g done mem.sized low full-fits)) tt; off = off-g }))
             (subst (λ (j : ℕ). Settled (object x1 j)) (item-is w op.awaited nm) (subst Settled (sym (object_put-object x g done mem.sized low full-fits)) tt)) filled))
 
@@ -561,14 +561,14 @@ module _ (s : Store) where
         by (above w i op lt nm lo aw rm rest) =
             subst (λ (o : Option AwaitedGather). Next (resume_as p (gives x pending) o)) (sym op.awaited)
             (unfold resume_as resume_in in
-            (going_opens s x p.gather p.next ps w mem.sized (omega (arith, op.made, (header-fits x).made-fits))
+            (going_opens s x p.gather p.next ps w mem.sized (omega (arith, op.made, (header-fits x).made_fits))
             (awaits_fits x p.gather w op.awaited (wider w p.next) (wider_small w p.next lt (open_small p.gather w h.but op.made op.awaited))) op.awaited
             (λ q z d. not-suc-le-zero {n = 0} (omega (arith, d, stack_above rest q z)))
             (subst (Calm s (OnTop p.gather ps) x) (item-is w op.awaited nm) (record { passed = subst Passed (sym (awaited-object (object x g) h.w top)) tt; off = off-g })) parked))
 
     pub resumed_going : Next (resume_after_child p (settle_gather_commit x g))
     unfolding settle_gather_commit
-    resumed_going = subst (λ (o : Option AwaitedGather). Next (resume_after_child p (settle_as x g o))) (sym top) (unfold settle_as in (by (eqb h.w.open-places 0)))
+    resumed_going = subst (λ (o : Option AwaitedGather). Next (resume_after_child p (settle_as x g o))) (sym top) (unfold settle_as in (by (eqb h.w.open_places 0)))
       where
         by : (b : Bool) → Next (resume_after_child p (pick b (gives (set_gather x g GatherState.Completed) (ready (Value.List (heap_id g)))) (gives x pending)))
         by true = subst (λ (y : Store). Next (resume_after_child p (gives y (ready (Value.List (heap_id g)))))) (sym completed-same) filled_next
@@ -593,7 +593,7 @@ module _ (s : Store) where
       (settle_next root t x f.gather h.i p ps h.memory h.inv h.end) (resumed_going root t x f.gather h.i r.i p ps h.memory h.inv r.going)
     where
       below-low : {g : ℕ} {a : Awaiter} {m : ℕ} → Stacked (header x).made (object x) (place x) root t g a (p ∷ ps) m → p.gather < object_limit
-      below-low (above w i op lt nm lo aw rm rest) = omega (arith, op.made, (header-fits x).made-fits)
+      below-low (above w i op lt nm lo aw rm rest) = omega (arith, op.made, (header-fits x).made_fits)
 
   loop-fails : (fuel root t : ℕ) → LoopFails root t fuel (commit_loop fuel)
   unfolding commit_loop step_gather_commit view
@@ -605,7 +605,7 @@ module _ (s : Store) where
       (omega (arith, h.inv.opened.under, inv_count root t f.next f.gather 0 (OnTop f.gather fs) fs x h.inv)) r)
     where
       low : f.gather < object_limit
-      low = omega (arith, h.inv.opened.made, (header-fits x).made-fits)
+      low = omega (arith, h.inv.opened.made, (header-fits x).made_fits)
 
   -- What a commit leaves.
   pub commit_fails : (t g f n : ℕ) → SoundStore s → (header s).moment ≡ Moment.Running (task_id t) → g < (header s).made → object s g ≡ Object.GatherFuture f n GatherState.Pending
@@ -613,5 +613,5 @@ module _ (s : Store) where
   unfolding commit_gather_tree Levels
   commit_fails t g f n w m l q =
       loop-fails _ g t (open_gather_commit s g (Awaiter.Task (task_id t))) (record { gather = g; next = 0 }) [] 0 1 0 (omega arith) (commit_begins s t w m g f n l q)
-      (opened-going s g f n (Awaiter.Task (task_id t)) g 0 [] (λ p. ⊥) w.memory.sized (omega (arith, l, (header-fits s).made-fits)) (omega (arith, runner_low s t w m, (header-fits s).next_fits)) q (committing_begins s) (taking_begins s) (opening_begins s (λ p. ⊥))
+      (opened-going s g f n (Awaiter.Task (task_id t)) g 0 [] (λ p. ⊥) w.memory.sized (omega (arith, l, (header-fits s).made_fits)) (omega (arith, runner_low s t w m, (header-fits s).next_fits)) q (committing_begins s) (taking_begins s) (opening_begins s (λ p. ⊥))
       (unfold Levels in tt) (λ p z. absurd z) (λ p z. absurd z) (λ p z. absurd z))

@@ -123,15 +123,15 @@ module _ (s : Store) where
     made = h.opened.made
 
     low-g : g < object_limit
-    low-g = omega (arith, made, (header-fits u).made-fits)
+    low-g = omega (arith, made, (header-fits u).made_fits)
 
     low-o : o < object_limit
-    low-o = (place-fits u (w.first + i)).item-fits
+    low-o = (place-fits u (w.first + i)).item_fits
 
     lower : o < g
     unfolding view items_below
     lower =
-        let low : T (items_below (place u) g (Object.GatherFuture w.first w.count (GatherState.Awaited w.awaiter w.open-places))) =
+        let low : T (items_below (place u) g (Object.GatherFuture w.first w.count (GatherState.Awaited w.awaiter w.open_places))) =
         subst (λ (y : Object). T (items_below (place u) g y)) (awaited-object (object u g) w top) (h.but.items g made) in
         ltb→lt _ g (below w.count _ low i less)
 
@@ -141,7 +141,7 @@ module _ (s : Store) where
 
     low-place : w.first + i < place_limit
     unfolding view
-    low-place = omega (arith, gather_within g w h.but made top, less, h.but.fits.used-fits)
+    low-place = omega (arith, gather_within g w h.but made top, less, h.but.fits.used_fits)
 
     -- no item is on the stack
     off-stack : OnTop g fs o → ⊥
@@ -154,7 +154,7 @@ module _ (s : Store) where
 
     -- places and items are as before the commit
     spot : (first_of (object s g) ≡ w.first) × (count_of (object s g) ≡ w.count)
-    spot = commit_places (object s g) w.first w.count (GatherState.Awaited w.awaiter w.open-places) (subst (CommitMoves (object s g)) (awaited-object (object u g) w top) (k.commits.moves g))
+    spot = commit_places (object s g) w.first w.count (GatherState.Awaited w.awaiter w.open_places) (subst (CommitMoves (object s g)) (awaited-object (object u g) w top) (k.commits.moves g))
 
     item-is : (j : ℕ) → (place u (w.first + j)).item.0 ≡ item_at s g j
     item-is j = k.commits.items (w.first + j) ∙ ap (λ (n : ℕ). (place s (n + j)).item.0) (sym spot.0)
@@ -219,7 +219,7 @@ module _ (s : Store) where
       first-named : (Settled (object u o) → ⊥) → (j : ℕ) → j < i → item_at s g j ≡ item_at s g i → ⊥
       first-named un j l d = by ((k.top.marks w top).1 j l)
         where
-          by : (bit w.open-places j ≡ true) ⊎ Settled (object u (item_at s g j)) → ⊥
+          by : (bit w.open_places j ≡ true) ⊎ Settled (object u (item_at s g j)) → ⊥
           by (inl b) = not-open (record { at = j; under = omega (arith, l, less); is_open = b; names = item-is j ∙ (d ∙ sym (item-is i)) })
           by (inr z) = un (subst (λ (n : ℕ). Settled (object u n)) (d ∙ sym (item-is i)) z)
 
@@ -240,10 +240,10 @@ module _ (s : Store) where
       slot-other c f y e sl d = not-open (subst (λ (j : ℕ). Open (place u) w j) e (sl.opens w (ap (λ (j : ℕ). as_awaited (object u j)) d ∙ top)))
 
       -- the live task of the coroutine
-      its-task : (t : ℕ) → task_of u o ≡ some t → TaskFor u g o
+      its_task : (t : ℕ) → task_of u o ≡ some t → TaskFor u g o
       unfolding view is_slot
-      its-task zero e = absurd (not-suc-le-zero (task_of-spawned u o zero e))
-      its-task (suc t) e =
+      its_task zero e = absurd (not-suc-le-zero (task_of-spawned u o zero e))
+      its_task (suc t) e =
           record {
             who = t;
             low = low-t;
@@ -261,7 +261,7 @@ module _ (s : Store) where
           by : (a : Awaiter) → (task u (suc t)).awaiter ≡ a → T (is_slot (task u (suc t)).awaiter) → Other g (task u (suc t)).awaiter
           by Awaiter.Nobody q z = absurd (subst (λ (a : Awaiter). T (is_slot a)) q z)
           by (Awaiter.Task v) q z = subst (Other g) (sym q) tt
-          by (Awaiter.GatherSlot f y) q z = subst (Other g) (sym q) (slot-other (task u (suc t)).coroutine.0 f.0 y.0 is.1 (h.but.task-slots (suc t) low-t (holds _ is.0) f.0 y.0 q))
+          by (Awaiter.GatherSlot f y) q z = subst (Other g) (sym q) (slot-other (task u (suc t)).coroutine.0 f.0 y.0 is.1 (h.but.task_slots (suc t) low-t (holds _ is.0) f.0 y.0 q))
 
       -- a task is spawned for a new coroutine that has none
       spawns : (f : ℕ) → object u o ≡ Object.Coroutine f CoroutineState.New → ItemFails (polled (polled_spawn u (spawn u o g)))
@@ -278,7 +278,7 @@ module _ (s : Store) where
               v = spawn_as u (header u).next o g
 
           by : (d : Option ℕ) → task_of u o ≡ d → ItemFails (polled (polled_spawn u (spawn_unless u o g d)))
-          by (some v) q = unfold spawn_unless polled_spawn in (raising Error.CoroutineReuse _ e (reuses _ _ (coroutine_reused f CoroutineState.New (its-task v q))) (λ z. z))
+          by (some v) q = unfold spawn_unless polled_spawn in (raising Error.CoroutineReuse _ e (reuses _ _ (coroutine_reused f CoroutineState.New (its_task v q))) (λ z. z))
           by none q =
               let room : (header u).next < task_limit = spawn-left u h less in
               unfold spawn_unless in (rw (lt-ltb (header u).next task_limit room) (spawned-fails room))
@@ -292,7 +292,7 @@ module _ (s : Store) where
       unfolding view
       parent Awaiter.Nobody e = tt
       parent (Awaiter.Task v) e = tt
-      parent (Awaiter.GatherSlot f y) e = slot-other o f.0 y.0 refl (h.but.object-slots o (omega (arith, lower, made)) off-stack f.0 y.0 (ap awaiter_of e ∙ (unfold awaiter_of in refl)))
+      parent (Awaiter.GatherSlot f y) e = slot-other o f.0 y.0 refl (h.but.object_slots o (omega (arith, lower, made)) off-stack f.0 y.0 (ap awaiter_of e ∙ (unfold awaiter_of in refl)))
 
       -- every item
       item-fails : (x : Object) → object u o ≡ x → ItemFails (item_object u g o x)
@@ -304,7 +304,7 @@ module _ (s : Store) where
       item-fails (Object.ExternalFuture c (ExternalFutureState.Pending Awaiter.Nobody r)) e = takes c r e
       item-fails (Object.ExternalFuture c (ExternalFutureState.Pending (Awaiter.Task v) r)) e = taken c (Awaiter.Task v) r e tt
       item-fails (Object.ExternalFuture c (ExternalFutureState.Pending (Awaiter.GatherSlot f y) r)) e =
-          taken c (Awaiter.GatherSlot f y) r e (slot-other o f.0 y.0 refl (h.but.object-slots o (omega (arith, lower, made)) off-stack f.0 y.0 (ap awaiter_of e ∙ (unfold awaiter_of in refl))))
+          taken c (Awaiter.GatherSlot f y) r e (slot-other o f.0 y.0 refl (h.but.object_slots o (omega (arith, lower, made)) off-stack f.0 y.0 (ap awaiter_of e ∙ (unfold awaiter_of in refl))))
       item-fails (Object.ExternalFuture c (ExternalFutureState.Resolved x)) e = fills x _ e (subst ObjectFits e (object-fits u o)).1 tt tt
       item-fails (Object.ExternalFuture c (ExternalFutureState.Failed x)) e = raising x _ e (broken c x) (λ z. z)
       item-fails (Object.GatherFuture f m GatherState.Pending) e = tt

@@ -45,8 +45,8 @@ use Rattle.machine_sessions.specs.Gather.FailingStated.{Passed, Settled, item_at
 pub opened_moves : (x y : Object) (f n : ℕ) (w : AwaitedGather) (z : GatherState) → x ≡ Object.GatherFuture f n GatherState.Pending → as_awaited y ≡ some w → CommitMoves x y → GatherCommits GatherState.Pending z
     → CommitMoves x (Object.GatherFuture w.first w.count z)
 opened_moves x y f n w z e d k g =
-    let p : CommitMoves (Object.GatherFuture f n GatherState.Pending) (Object.GatherFuture w.first w.count (GatherState.Awaited w.awaiter w.open-places)) =
-    subst (λ (a : Object). CommitMoves a (Object.GatherFuture w.first w.count (GatherState.Awaited w.awaiter w.open-places))) e (subst (CommitMoves x) (awaited-object y w d) k) in
+    let p : CommitMoves (Object.GatherFuture f n GatherState.Pending) (Object.GatherFuture w.first w.count (GatherState.Awaited w.awaiter w.open_places)) =
+    subst (λ (a : Object). CommitMoves a (Object.GatherFuture w.first w.count (GatherState.Awaited w.awaiter w.open_places))) e (subst (CommitMoves x) (awaited-object y w d) k) in
     subst (λ (a : Object). CommitMoves a (Object.GatherFuture w.first w.count z)) (sym e) (p.0, p.1, g)
 
 -- an awaited gather is no coroutine
@@ -135,7 +135,7 @@ module _ (s : Store) where
       by : (p : ℕ) → Dec (p ≡ w.first + i) → (place (put_place u (w.first + i) row) p).item.0 ≡ (place u p).item.0
       by p (yes d) =
           subst (λ (j : ℕ). (place (put_place u (w.first + i) row) j).item.0 ≡ (place u j).item.0) (sym d)
-          (ap (λ (y : Place). y.item.0) (place_put-place u (w.first + i) row z l (record { item-fits = (place-fits u (w.first + i)).item-fits; result_fits = fits })))
+          (ap (λ (y : Place). y.item.0) (place_put-place u (w.first + i) row z l (record { item_fits = (place-fits u (w.first + i)).item_fits; result_fits = fits })))
       by p (no ne) = ap (λ (y : Place). y.item.0) (place_put-other u (w.first + i) p row ne)
 
   -- a task is spawned for a new coroutine
@@ -150,7 +150,7 @@ module _ (s : Store) where
   unfolding set_next
   next-made u n z k =
       let f : HeaderFits (header u) = header-fits u in
-      ap (λ (h : Header). h.made) (header_put-header u _ z (record { made-fits = f.made-fits; used-fits = f.used-fits; calls-fit = f.calls-fit; next_fits = k; moment_fits = f.moment_fits }))
+      ap (λ (h : Header). h.made) (header_put-header u _ z (record { made_fits = f.made_fits; used_fits = f.used_fits; calls_fit = f.calls_fit; next_fits = k; moment_fits = f.moment_fits }))
 
   spawn-made : (u : Store) (t c g : ℕ) → Sized u → t + 1 ≤ task_limit → (header (spawn_as u t c g)).made ≡ (header u).made
   spawn-made u t c g z b = unfold spawn_as push_ready header add_log put_queue in (unfold header in (next-made (put_task u t _) (t + 1) (sized-put_task u t _ z) b ∙ same_head u t _))
@@ -199,7 +199,7 @@ module _ (s : Store) where
       r = record { state = TaskState.Unstarted; awaiter = Awaiter.GatherSlot (heap_id g) (heap_id c); coroutine = heap_id c }
 
       here : task v n ≡ r
-      here = same ∙ task_put-task u n r z room (record { state_fits = tt; awaiter_fits = (lg, lc); coroutine-fits = lc })
+      here = same ∙ task_put-task u n r z room (record { state_fits = tt; awaiter_fits = (lg, lc); coroutine_fits = lc })
         where
           same : task v n ≡ task (put_task u n r) n
           same = unfold spawn_as push_ready add_log put_queue set_next put_header task in refl
@@ -290,7 +290,7 @@ module _ (s : Store) where
   abbrev pub Marks : Store → ℕ → ℕ → Type 0
   Marks u g i =
       (w : AwaitedGather) → as_awaited (object u g) ≡ some w
-      → ((j : ℕ) → bit w.open-places j ≡ true → j < i) × ((j : ℕ) → j < i → (bit w.open-places j ≡ true) ⊎ Settled (object u (item_at s g j)))
+      → ((j : ℕ) → bit w.open_places j ≡ true → j < i) × ((j : ℕ) → j < i → (bit w.open_places j ≡ true) ⊎ Settled (object u (item_at s g j)))
 
   -- gather g, its places below i being done
   pub record Level (Q : ℕ → Type 0) (u : Store) (g i : ℕ) : Type 0 where
@@ -321,7 +321,7 @@ module _ (s : Store) where
   marks-onward : (Q : ℕ → Type 0) (u v : Store) (g i : ℕ) → Onward Q u v → as_awaited (object v g) ≡ as_awaited (object u g) → Level Q u g i → Marks v g i
   marks-onward Q u v g i on same k w e = let m = k.marks w (sym same ∙ e) in (m.0, λ j l. stays j l (m.1 j l))
     where
-      stays : (j : ℕ) → j < i → (bit w.open-places j ≡ true) ⊎ Settled (object u (item_at s g j)) → (bit w.open-places j ≡ true) ⊎ Settled (object v (item_at s g j))
+      stays : (j : ℕ) → j < i → (bit w.open_places j ≡ true) ⊎ Settled (object u (item_at s g j)) → (bit w.open_places j ≡ true) ⊎ Settled (object v (item_at s g j))
       stays j l (inl b) = inl b
       stays j l (inr z) = inr ((on (item_at s g j) (k.left j l).off (k.left j l).passed).1 z)
 
@@ -357,8 +357,8 @@ module _ (s : Store) where
         marks = λ w e. let m = k.marks w e in (λ j b. omega (arith, m.0 j b), λ j l. by w m.1 j l (ℕ_discrete j i));
       }
     where
-      by : (w : AwaitedGather) → ((j : ℕ) → j < i → (bit w.open-places j ≡ true) ⊎ Settled (object u (item_at s g j))) → (j : ℕ) → j < i + 1 → Dec (j ≡ i)
-          → (bit w.open-places j ≡ true) ⊎ Settled (object u (item_at s g j))
+      by : (w : AwaitedGather) → ((j : ℕ) → j < i → (bit w.open_places j ≡ true) ⊎ Settled (object u (item_at s g j))) → (j : ℕ) → j < i + 1 → Dec (j ≡ i)
+          → (bit w.open_places j ≡ true) ⊎ Settled (object u (item_at s g j))
       by w m j l (yes d) = inr (subst (λ (n : ℕ). Settled (object u (item_at s g n))) (sym d) z)
       by w m j l (no ne) = m j (omega (arith, l, ne))
 
@@ -392,13 +392,13 @@ module _ (s : Store) where
   going_more u g i fs c z k = record { commits = k.commits; taking = k.taking; opening = k.opening; top = level_more (OnTop g fs) u g i k.top c z; below = k.below }
 
   -- a bit of the wider word is one that was, or the new one
-  wider-was : (w : AwaitedGather) (i j : ℕ) → bit (wider w i) j ≡ true → (j ≡ i → ⊥) → bit w.open-places j ≡ true
+  wider-was : (w : AwaitedGather) (i j : ℕ) → bit (wider w i) j ≡ true → (j ≡ i → ⊥) → bit w.open_places j ≡ true
   unfolding wider
-  wider-was w i j e ne = by (bit w.open-places i) refl e
+  wider-was w i j e ne = by (bit w.open_places i) refl e
     where
-      by : (b : Bool) → bit w.open-places i ≡ b → bit (pick b w.open-places (w.open-places + 2 ^ i)) j ≡ true → bit w.open-places j ≡ true
+      by : (b : Bool) → bit w.open_places i ≡ b → bit (pick b w.open_places (w.open_places + 2 ^ i)) j ≡ true → bit w.open_places j ≡ true
       by true q e = e
-      by false q e = sym (bit-set-other i w.open-places j q ne) ∙ e
+      by false q e = sym (bit-set-other i w.open_places j q ne) ∙ e
 
   -- the gather on top opens place i, whose item is calm
   pub going_opens : (u : Store) (g i : ℕ) (fs : List Frame) (w : AwaitedGather) → Sized u → g < object_limit → ObjectFits (awaits_on w (wider w i)) → as_awaited (object u g) ≡ some w → ((p : ℕ) → OnStack fs p → p ≡ g → ⊥)
@@ -432,19 +432,19 @@ module _ (s : Store) where
       marked : Marks v g (i + 1)
       marked x q = (λ j b. bits j b (ℕ_discrete j i), λ j b. done j b (ℕ_discrete j i))
         where
-          same : record { first = w.first; count = w.count; awaiter = w.awaiter; open-places = wider w i } ≡ x
-          same = some-injective (record { first = w.first; count = w.count; awaiter = w.awaiter; open-places = wider w i }) x (sym (ap as_awaited (object_put-object u g y z l fits) ∙ (unfold as_awaited in refl)) ∙ q)
+          same : record { first = w.first; count = w.count; awaiter = w.awaiter; open_places = wider w i } ≡ x
+          same = some-injective (record { first = w.first; count = w.count; awaiter = w.awaiter; open_places = wider w i }) x (sym (ap as_awaited (object_put-object u g y z l fits) ∙ (unfold as_awaited in refl)) ∙ q)
 
-          bits : (j : ℕ) → bit x.open-places j ≡ true → Dec (j ≡ i) → j < i + 1
+          bits : (j : ℕ) → bit x.open_places j ≡ true → Dec (j ≡ i) → j < i + 1
           bits j b (yes d) = omega (arith, d)
-          bits j b (no ne) = omega (arith, (k.top.marks w e).0 j (wider-was w i j (ap (λ (a : AwaitedGather). bit a.open-places j) same ∙ b) ne))
+          bits j b (no ne) = omega (arith, (k.top.marks w e).0 j (wider-was w i j (ap (λ (a : AwaitedGather). bit a.open_places j) same ∙ b) ne))
 
-          still : (j : ℕ) → j < i → (bit w.open-places j ≡ true) ⊎ Settled (object u (item_at s g j)) → (bit x.open-places j ≡ true) ⊎ Settled (object v (item_at s g j))
-          still j b (inl a) = inl (ap (λ (r : AwaitedGather). bit r.open-places j) (sym same) ∙ wider_keeps w i j a)
+          still : (j : ℕ) → j < i → (bit w.open_places j ≡ true) ⊎ Settled (object u (item_at s g j)) → (bit x.open_places j ≡ true) ⊎ Settled (object v (item_at s g j))
+          still j b (inl a) = inl (ap (λ (r : AwaitedGather). bit r.open_places j) (sym same) ∙ wider_keeps w i j a)
           still j b (inr a) = inr ((on (item_at s g j) (k.top.left j b).off (k.top.left j b).passed).1 a)
 
-          done : (j : ℕ) → j < i + 1 → Dec (j ≡ i) → (bit x.open-places j ≡ true) ⊎ Settled (object v (item_at s g j))
-          done j b (yes d) = inl (subst (λ (n : ℕ). bit x.open-places n ≡ true) (sym d) (ap (λ (r : AwaitedGather). bit r.open-places i) (sym same) ∙ wider-opens w i))
+          done : (j : ℕ) → j < i + 1 → Dec (j ≡ i) → (bit x.open_places j ≡ true) ⊎ Settled (object v (item_at s g j))
+          done j b (yes d) = inl (subst (λ (n : ℕ). bit x.open_places n ≡ true) (sym d) (ap (λ (r : AwaitedGather). bit r.open_places i) (sym same) ∙ wider-opens w i))
           done j b (no ne) = let m : j < i = omega (arith, b, ne) in still j m ((k.top.marks w e).1 j m)
 
   -- it fills place i

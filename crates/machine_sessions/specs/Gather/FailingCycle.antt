@@ -78,7 +78,7 @@ module _ (c : ℕ) where
       record {
         sized = λ s k. k.sized;
         row = used-row;
-        values-put = λ s ps e k. record { sized = sized-put_places s ps e k.sized; used = unfold object put_places in (unfold object in k.used) };
+        values_put = λ s ps e k. record { sized = sized-put_places s ps e k.sized; used = unfold object put_places in (unfold object in k.used) };
         queued = λ s q k. record { sized = sized-put_queue s q k.sized; used = unfold object put_queue in (unfold object in k.used) };
         moved = λ s m f k. record { sized = sized-set_moment s m k.sized; used = ap new_function (moment_row s m c) ∙ k.used };
         wakes = λ s t x l e r k.
@@ -141,7 +141,7 @@ module _ (s m : Store) (Young : ℕ → Type 0) (B : Error → Type 0) (X : ℕ 
   task_up t Awaiter.Nobody l n lv e = tt
   task_up t (Awaiter.Task v) l n lv e = tt
   task_up t (Awaiter.GatherSlot p x) l n lv e =
-      slotted_up s m Young B X (task m t).coroutine.0 p.0 x.0 (sound.task-slots t n (holds (is_live (task m t).state) lv) p.0 x.0 e) (λ w d. apart t p.0 x.0 l n lv e)
+      slotted_up s m Young B X (task m t).coroutine.0 p.0 x.0 (sound.task_slots t n (holds (is_live (task m t).state) lv) p.0 x.0 e) (λ w d. apart t p.0 x.0 l n lv e)
 
   -- a live task runs
   run-left : (u : Store) (t : ℕ) (h : How) → t < (header m).next → is_live (task u t).state ≡ true → ((c f : ℕ) → h ≡ start c f → object u c ≡ Object.Coroutine f CoroutineState.Running) → Over u → LeftAs Over (run u t h)
@@ -177,7 +177,7 @@ module _ (s m : Store) (Young : ℕ → Type 0) (B : Error → Type 0) (X : ℕ 
       r = restate (task u t) TaskState.Running
 
       r-fits : TaskFits r
-      r-fits = unfold restate in (record { state_fits = tt; awaiter_fits = (task-fits u t).awaiter_fits; coroutine-fits = (task-fits u t).coroutine-fits })
+      r-fits = unfold restate in (record { state_fits = tt; awaiter_fits = (task-fits u t).awaiter_fits; coroutine_fits = (task-fits u t).coroutine_fits })
 
       lives : is_live (task (set_moment (set_state u t TaskState.Running) (Moment.Running (task_id t))) t).state ≡ true
       lives = same_row ∙ (ap (λ (y : Task). is_live y.state) (task_put-task u t r k.sized room r-fits) ∙ (unfold restate in refl))
@@ -279,7 +279,7 @@ module _ (s m : Store) (Young : ℕ → Type 0) (B : Error → Type 0) (X : ℕ 
 
           fails : new_function (object u c) ≡ none → LeftAs Over (handle_task_failure act u (suc t) Error.CoroutineReuse)
           fails q =
-              failed-left Q u t Error.CoroutineReuse idle tt reuse l (holds _ live) module-free (λ v d. refl) h delivers-on (inr (refl, refl)) (at_first first) back
+              failed-left Q u t Error.CoroutineReuse idle tt reuse l (holds _ live) module-free (λ v d. refl) h delivers_on (inr (refl, refl)) (at_first first) back
               (failing_as s m Young B X R Q (Unit {0}) u (λ o e r. by_task (inl r)) k)
             where
               Q : ℕ → Error → Type 0
@@ -297,8 +297,8 @@ module _ (s m : Store) (Young : ℕ → Type 0) (B : Error → Type 0) (X : ℕ 
               a : Awaiter
               a = (task u (suc t)).awaiter
 
-              delivers-on : Up s m Young B X c a
-              delivers-on = subst (λ (j : ℕ). Up s m Young B X j a) (ap (λ (i : HeapId). i.0) (sym was.coroutine)) (task_up (suc t) a old low was.live (sym was.awaiter))
+              delivers_on : Up s m Young B X c a
+              delivers_on = subst (λ (j : ℕ). Up s m Young B X j a) (ap (λ (i : HeapId). i.0) (sym was.coroutine)) (task_up (suc t) a old low was.live (sym was.awaiter))
 
               d : Store
               d = (deliver_awaiter_failure u a Error.CoroutineReuse).store
@@ -339,8 +339,8 @@ module _ (s m : Store) (Young : ℕ → Type 0) (B : Error → Type 0) (X : ℕ 
                   let fits : ObjectFits (Object.Coroutine f CoroutineState.Running) = subst ObjectFits row (object-fits u c) in
                   run-left (put_object u c (Object.Coroutine f CoroutineState.Running)) (suc t) (start c f) low (unfold task put_object in (unfold task in live))
                   (λ d g e. subst (λ (j : ℕ). object (put_object u c (Object.Coroutine f CoroutineState.Running)) j ≡ Object.Coroutine g CoroutineState.Running) (same_start c d f g e)
-                  (object_put-object u c (Object.Coroutine f CoroutineState.Running) k.sized (task-fits u (suc t)).coroutine-fits fits ∙ ap (λ (j : ℕ). Object.Coroutine j CoroutineState.Running) (same-function c d f g e)))
-                  (row_failing s m Young B X R ⊥ u c _ (task-fits u (suc t)).coroutine-fits fits (subst (λ (x : Object). ClimbMoves x (Object.Coroutine f CoroutineState.Running)) (sym row) (refl, tt))
+                  (object_put-object u c (Object.Coroutine f CoroutineState.Running) k.sized (task-fits u (suc t)).coroutine_fits fits ∙ ap (λ (j : ℕ). Object.Coroutine j CoroutineState.Running) (same-function c d f g e)))
+                  (row_failing s m Young B X R ⊥ u c _ (task-fits u (suc t)).coroutine_fits fits (subst (λ (x : Object). ClimbMoves x (Object.Coroutine f CoroutineState.Running)) (sym row) (refl, tt))
                   (λ g n e w p i. absurd (subst FailedRow (sym i) tt)) (λ z. absurd z) (over u k))
                 where
                   same_start : (c d f g : ℕ) → start c f ≡ start d g → c ≡ d

@@ -189,7 +189,7 @@ module _ (ev : Event) (s : Store) (w : SoundStore s) where
   unfolding view
   external-up o Awaiter.Nobody l e = tt
   external-up o (Awaiter.Task t) l e = tt
-  external-up o (Awaiter.GatherSlot p x) l e = slotted_up s s (λ g. ⊥) (Brings ev) (RunnerEnds ev s) o p.0 x.0 (w.facts.but.object-slots o l (λ z. z) p.0 x.0 e) (λ v d y. y)
+  external-up o (Awaiter.GatherSlot p x) l e = slotted_up s s (λ g. ⊥) (Brings ev) (RunnerEnds ev s) o p.0 x.0 (w.facts.but.object_slots o l (λ z. z) p.0 x.0 e) (λ v d y. y)
 
   module _ {r : ℕ → Bool} {D : ℕ → Type 0} (u : Store) (h : SoundDuring Nothing r D (header s) u) (k : J u) where
     found : (c : ℕ) (f : ℕ → PendingExternal → Store) → ((o : ℕ) (p : PendingExternal) → o < (header u).made → as_pending (object u o) ≡ some p → J (f o p)) → J (settle_found u (pending_external u c) f)
@@ -210,7 +210,7 @@ module _ (ev : Event) (s : Store) (w : SoundStore s) where
     made_as o l = subst (λ (y : Header). o < y.made) h.head l
 
     low-as : (o : ℕ) → o < (header u).made → o < object_limit
-    low-as o l = omega (arith, l, (header-fits u).made-fits)
+    low-as o l = omega (arith, l, (header-fits u).made_fits)
 
     -- the row of a pending external is written
     settles : (o : ℕ) (p : PendingExternal) (y : ExternalFutureState) → o < (header u).made → as_pending (object u o) ≡ some p → ObjectFits (Object.ExternalFuture p.call y)
@@ -219,15 +219,15 @@ module _ (ev : Event) (s : Store) (w : SoundStore s) where
         row_failing s s (λ g. ⊥) (Brings ev) (RunnerEnds ev s) (RunnerFails ev s) (Unit {0}) u o _ (low-as o l) f (subst (λ (x : Object). ClimbMoves x (Object.ExternalFuture p.call y)) (sym (pending-object (object u o) p e)) c)
         (λ a b d v q i. absurd (subst FailedRow (sym i) tt)) (λ i a q. pending-coroutine (object u o) p a CoroutineState.New e q) k
 
-    delivers-on : (o : ℕ) (p : PendingExternal) → o < (header u).made → as_pending (object u o) ≡ some p → Goes o p.awaiter
-    delivers-on o p l e = external-up o p.awaiter (made_as o l) (pending_awaiter (object s o) p (climb-pending (object s o) (object u o) p (k.moves o) e))
+    delivers_on : (o : ℕ) (p : PendingExternal) → o < (header u).made → as_pending (object u o) ≡ some p → Goes o p.awaiter
+    delivers_on o p l e = external-up o p.awaiter (made_as o l) (pending_awaiter (object s o) p (climb-pending (object s o) (object u o) p (k.moves o) e))
 
     resolves : (c : ℕ) (v : Value) → T (value_known (header u).made (object u) v) → J (resolve_future u c v)
     unfolding resolve_future resolve_pending view
     resolves c v g =
         found c _ (λ o p l e.
         let i = resolve_delivering u h v g o p l e in
-        let fv : ValueFits (value_or p.stored v) = value-fits _ _ _ i.during.kept.but.fits.made-fits i.known in
+        let fv : ValueFits (value_or p.stored v) = value-fits _ _ _ i.during.kept.but.fits.made_fits i.known in
         success_failing s s (λ g. ⊥) (Brings ev) (RunnerEnds ev s) Nothing w.facts.but (λ a b d x l q z y. y) (RunnerFails ev s) (Unit {0}) _ p.awaiter (value_or p.stored v) (call_fits o p e).1.0 fv
         (settles o p (ExternalFutureState.Resolved (value_or p.stored v)) l e ((call_fits o p e).0, fv) (refl, tt)))
 
@@ -236,7 +236,7 @@ module _ (ev : Event) (s : Store) (w : SoundStore s) where
     breaks c x f b =
         found c _ (λ o p l e.
         let fit : ObjectFits (Object.ExternalFuture p.call (ExternalFutureState.Failed x)) = ((call_fits o p e).0, f) in
-        failure_failing s s (λ g. ⊥) (Brings ev) (RunnerEnds ev s) Nothing w.facts.but (λ a b d x l q z y. y) (RunnerFails ev s) (Unit {0}) x f b _ o p.awaiter (call_fits o p e).1.0 (delivers-on o p l e)
+        failure_failing s s (λ g. ⊥) (Brings ev) (RunnerEnds ev s) Nothing w.facts.but (λ a b d x l q z y. y) (RunnerFails ev s) (Unit {0}) x f b _ o p.awaiter (call_fits o p e).1.0 (delivers_on o p l e)
         (by_external p.call (object_put-object u o _ k.sized (low-as o l) fit))
         (settles o p (ExternalFutureState.Failed x) l e fit (refl, tt)))
 
@@ -313,7 +313,7 @@ failure_fails s w t n m f =
     (activate-left s s (λ g. ⊥) (Brings (Event.fail n)) (RunnerEnds (Event.fail n) s) R Nothing w.facts.but (never (Event.fail n) s w) (rows_same (Event.fail n) s w) (never-slot (Event.fail n) s w) (fail-reuse n)
     (λ o. T (is_completed (kind (object s o)))) (header s) refl)
     R s t (Error.Script n) (runs_now (header s).moment) f (script n refl) (runner_low s (suc t) w m) (runner-live s (suc t) w m) (ap is_blocked (runner-runs s (suc t) w m)) (others_commits_none s (suc t) w m) (during_of s w)
-    (runner_up (Event.fail n) s w (suc t) m) (record { runner = t; number = n; fails = refl; runs-it = m; coroutine = refl; error = refl }) (as_runner (fails n t refl refl m)) (λ o d r. by_task r)
+    (runner_up (Event.fail n) s w (suc t) m) (record { runner = t; number = n; fails = refl; runs_it = m; coroutine = refl; error = refl }) (as_runner (fails n t refl refl m)) (λ o d r. by_task r)
     (begins (Event.fail n) s w.memory.sized))
   where
     R : ℕ → Error → Type 0
@@ -359,7 +359,7 @@ completion_fails s w t v m kn =
     left = add_log (remove_task done (suc t)) (exited (suc t))
 
     fv : ValueFits v
-    fv = value-fits (header s).made (object s) v w.facts.but.fits.made-fits kn
+    fv = value-fits (header s).made (object s) v w.facts.but.fits.made_fits kn
 
     k1 : K (Event.complete v) s (Unit {0}) done
     k1 = by (coroutine-is (object s o) (spawned_of t w.facts.but (runner_low s (suc t) w m) (runner-live s (suc t) w m)).coroutine)
@@ -368,7 +368,7 @@ completion_fails s w t v m kn =
         by x =
             let q : completed (object s o) ≡ Object.Coroutine x.0 CoroutineState.Completed = ap completed x.2 ∙ completed-is x.0 x.1 in
             subst (λ (y : Object). K (Event.complete v) s (Unit {0}) (put_object s o y)) (sym q) (anew (Event.complete v) s ⊥ (Unit {0}) _
-            (row_failing s s (λ g. ⊥) (Brings (Event.complete v)) (RunnerEnds (Event.complete v) s) (RunnerFails (Event.complete v) s) ⊥ s o _ (task-fits s (suc t)).coroutine-fits (subst ObjectFits x.2 (object-fits s o))
+            (row_failing s s (λ g. ⊥) (Brings (Event.complete v)) (RunnerEnds (Event.complete v) s) (RunnerFails (Event.complete v) s) ⊥ s o _ (task-fits s (suc t)).coroutine_fits (subst ObjectFits x.2 (object-fits s o))
             (subst (λ (y : Object). ClimbMoves y (Object.Coroutine x.0 CoroutineState.Completed)) (sym x.2) (completes_climbs x.0 x.1))
             (λ g n e u p i. absurd (subst FailedRow (sym i) tt)) (λ z. absurd z) (anew (Event.complete v) s (Unit {0}) ⊥ s (begins (Event.complete v) s w.memory.sized))))
 
@@ -427,7 +427,7 @@ module _ (ev : Event) (s : Store) where
   visits-open : (m : ℕ) (v : Walk) (a : AwaitedGather) (j : ℕ) → WalkKept v → WalkKept (visit_open v a j m)
   unfolding visit_open visit_place visit
   visits-open zero v a j k = k
-  visits-open (suc m) v a j k = visits-open m _ a (j + 1) (pick_has WalkKept (bit a.open-places j) (visits v _ _ k) k)
+  visits-open (suc m) v a j k = visits-open m _ a (j + 1) (pick_has WalkKept (bit a.open_places j) (visits v _ _ k) k)
 
   walk-gather-kept : (v : Walk) (a : Option AwaitedGather) → WalkKept v → WalkKept (walk_gather v a)
   unfolding walk_gather

@@ -173,10 +173,10 @@ pub record ExitsOf (f g : ℕ → Option ℕ) (hs : List LogEntry) (c : ℕ) : T
   pub who : ℕ
   pub exits : exits_in hs who ≡ true
   pub for_it : f who ≡ some c
-  pub none-started : g who ≡ none
+  pub none_started : g who ≡ none
 
 exits-later : {f g : ℕ → Option ℕ} {hs : List LogEntry} {c : ℕ} (x : LogEntry) → ((t : ℕ) → exits_in hs t ≡ true → exits_in (x ∷ hs) t ≡ true) → ExitsOf f g hs c → ExitsOf f g (x ∷ hs) c
-exits-later x h k = record { who = k.who; exits = h k.who k.exits; for_it = k.for_it; none-started = k.none-started }
+exits-later x h k = record { who = k.who; exits = h k.who k.exits; for_it = k.for_it; none_started = k.none_started }
 
 pub exits-found : (f g : ℕ → Option ℕ) (hs : List LogEntry) (c : ℕ) → exits_unstarted f g hs c ≡ true → ExitsOf f g hs c
 unfolding exits_unstarted exits_in
@@ -189,7 +189,7 @@ exits-found f g (exited u ∷ hs) c e = by (is_at (f u) c && is_none (g u)) refl
     by : (b : Bool) → (is_at (f u) c && is_none (g u)) ≡ b → (b || exits_unstarted f g hs c) ≡ true → (exits_unstarted f g hs c ≡ true → ExitsOf f g hs c) → ExitsOf f g (exited u ∷ hs) c
     by true q e ih =
         let y = both_true (is_at (f u) c) (is_none (g u)) q in
-        record { who = u; exits = unfold exits_in in (ap (λ (b : Bool). b || exits_in hs u) (eq-eqb u u refl)); for_it = is_there (f u) c y.0; none-started = none_is (g u) y.1 }
+        record { who = u; exits = unfold exits_in in (ap (λ (b : Bool). b || exits_in hs u) (eq-eqb u u refl)); for_it = is_there (f u) c y.0; none_started = none_is (g u) y.1 }
     by false q e ih = exits-later (exited u) (λ t i. more (eqb u t) (exits_in hs t) i) (ih e)
       where
         more : (a b : Bool) → b ≡ true → (a || b) ≡ true
@@ -396,7 +396,7 @@ module _ (h : List Entry) (s : Store) (w : SoundStore s) (a : Agrees h s) (k : K
       at t p n (at_first r) = first t p r
 
       by : ExitsOf (spawned_for (y ∷ h)) (coroutine_of (y ∷ h)) y.happened c → (v : ℕ) × FirstRun s u (suc v) × ((task s (suc v)).coroutine.0 ≡ c)
-      by r = at r.who r.for_it r.none-started (fl.exits r.who (subst (λ (i : List LogEntry). exits_in i r.who ≡ true) happened_is r.exits))
+      by r = at r.who r.for_it r.none_started (fl.exits r.who (subst (λ (i : List LogEntry). exits_in i r.who ≡ true) happened_is r.exits))
 
   -- what was used is
   used-still : (c : ℕ) → UsedRow (object s c) → UsedRow (object u c)
@@ -486,7 +486,7 @@ module _ (h : List Entry) (s : Store) (w : SoundStore s) (a : Agrees h s) (k : K
   runner-error : (o : ℕ) (r : Error) → RunnerFails e s o r → row_outcome Outcomes o (object u o) ≡ some (Outcome.raised r)
   runner-error o r z =
       subst (λ (j : ℕ). row_outcome Outcomes j (object u j) ≡ some (Outcome.raised r)) z.coroutine
-      (coroutine-row z.runner low live ∙ come-to c r no-value-now (failed-runs c z.number alone runs-it says-it ∙ ap (λ (i : Error). some i) (sym z.error)))
+      (coroutine-row z.runner low live ∙ come-to c r no-value-now (failed-runs c z.number alone runs_it says-it ∙ ap (λ (i : Error). some i) (sym z.error)))
     where
       t : ℕ
       t = z.runner
@@ -495,10 +495,10 @@ module _ (h : List Entry) (s : Store) (w : SoundStore s) (a : Agrees h s) (k : K
       c = (task s (suc z.runner)).coroutine.0
 
       low : suc z.runner < (header s).next
-      low = runner_low s (suc z.runner) w z.runs-it
+      low = runner_low s (suc z.runner) w z.runs_it
 
       live : is_live (task s (suc z.runner)).state ≡ true
-      live = ap is_live (runner-runs s (suc z.runner) w z.runs-it)
+      live = ap is_live (runner-runs s (suc z.runner) w z.runs_it)
 
       says-it : (said y).fails ≡ some z.number
       says-it = ap (λ (i : Says). i.fails) said-is ∙ (ap (λ (i : Event). (says i).fails) z.fails ∙ (unfold says in refl))
@@ -511,14 +511,14 @@ module _ (h : List Entry) (s : Store) (w : SoundStore s) (a : Agrees h s) (k : K
           none-completes : (n : ℕ) → (says (Event.fail n)).completes ≡ none
           none-completes n = unfold says in refl
 
-      runs-it : running_coroutine h ≡ some c
-      runs-it = running-is h (suc z.runner) c (a.runner (task_id (suc z.runner)) z.runs-it) (runner-coroutine z.runner z.runs-it)
+      runs_it : running_coroutine h ≡ some c
+      runs_it = running-is h (suc z.runner) c (a.runner (task_id (suc z.runner)) z.runs_it) (runner-coroutine z.runner z.runs_it)
 
       alone : exits_unstarted (spawned_for (y ∷ h)) (coroutine_of (y ∷ h)) y.happened c ≡ false
       alone = by (exits_unstarted (spawned_for (y ∷ h)) (coroutine_of (y ∷ h)) y.happened c) refl
         where
           by : (b : Bool) → exits_unstarted (spawned_for (y ∷ h)) (coroutine_of (y ∷ h)) y.happened c ≡ b → b ≡ false
-          by true q = let i = exit_first c q in not-both z.runner i.0 z.runs-it i.1.low i.1.was i.2
+          by true q = let i = exit_first c q in not-both z.runner i.0 z.runs_it i.1.low i.1.was i.2
           by false q = refl
 
   -- a task fails at its first run
@@ -531,14 +531,14 @@ module _ (h : List Entry) (s : Store) (w : SoundStore s) (a : Agrees h s) (k : K
       live : is_live (task s (suc t)).state ≡ true
       live = ap is_live r.was
 
-      none-started : coroutine_of (y ∷ h) (suc t) ≡ none
-      none-started =
+      none_started : coroutine_of (y ∷ h) (suc t) ≡ none
+      none_started =
           coroutine-is (suc t) ∙ (started_none (tells x.answer).control (suc t) (coroutine_of h (suc t)) (λ d f q. true≢false (sym (fl.alive (suc t) (start d f) q) ∙ r.gone))
           ∙ k.unstarted (suc t) r.low (ap is_unstarted r.was))
 
       error : failed_error (y ∷ h) c ≡ some Error.CoroutineReuse
       error = failed_by_exit y h c
-          (exits_there (spawned_for (y ∷ h)) (coroutine_of (y ∷ h)) y.happened c (suc t) (subst (λ (i : List LogEntry). exits_in i (suc t) ≡ true) (sym happened_is) r.logged) (spawned-old (suc t) r.low ∙ k.spawned t r.low live) none-started)
+          (exits_there (spawned_for (y ∷ h)) (coroutine_of (y ∷ h)) y.happened c (suc t) (subst (λ (i : List LogEntry). exits_in i (suc t) ≡ true) (sym happened_is) r.logged) (spawned-old (suc t) r.low ∙ k.spawned t r.low live) none_started)
 
       was-none : completed_value h c ≡ none
       was-none = (a.told.tasks t r.low live).undelivered

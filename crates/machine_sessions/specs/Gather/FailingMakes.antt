@@ -58,7 +58,7 @@ added e s v r n a c z low room em en os ts lg free shut =
     u = put_object (put_header v i) (header v).made r
 
     fits : HeaderFits i
-    fits = let f : HeaderFits (header v) = header-fits v in record { made-fits = omega (arith, em, low); used-fits = room; calls-fit = f.calls-fit; next_fits = f.next_fits; moment_fits = f.moment_fits }
+    fits = let f : HeaderFits (header v) = header-fits v in record { made_fits = omega (arith, em, low); used_fits = room; calls_fit = f.calls_fit; next_fits = f.next_fits; moment_fits = f.moment_fits }
 
     now : object u (header v).made ≡ to_object (object_words r)
     now = read_back (put_header v i) (header v).made r (sized-put_header v i z) (omega (arith, em, low))
@@ -80,18 +80,18 @@ added e s v r n a c z low room em en os ts lg free shut =
 
 pub coroutine-fails : (s : Store) (f : ℕ) → Sized s → (header s).made < object_limit → EventFails (Event.coroutine f) s (accept s (Event.coroutine f))
 unfolding accept make_coroutine tells
-coroutine-fails s f z low = added (Event.coroutine f) s s _ 0 (Answer.made (header s).made) refl z low (omega (arith, (header-fits s).used-fits)) refl refl (λ o. refl) (λ t. refl) refl (unfold awaiter_of in refl) (unfold as_awaited in refl)
+coroutine-fails s f z low = added (Event.coroutine f) s s _ 0 (Answer.made (header s).made) refl z low (omega (arith, (header-fits s).used_fits)) refl refl (λ o. refl) (λ t. refl) refl (unfold awaiter_of in refl) (unfold as_awaited in refl)
 
 pub pending-fails : (s : Store) (c : ℕ) (r : OptionValue) → Sized s → (header s).made < object_limit → EventFails (Event.pending c r) s (accept s (Event.pending c r))
 unfolding accept make_pending tells
-pending-fails s c r z low = added (Event.pending c r) s s _ 0 (Answer.made (header s).made) refl z low (omega (arith, (header-fits s).used-fits)) refl refl (λ o. refl) (λ t. refl) refl (unfold awaiter_of in refl) (unfold as_awaited in refl)
+pending-fails s c r z low = added (Event.pending c r) s s _ 0 (Answer.made (header s).made) refl z low (omega (arith, (header-fits s).used_fits)) refl refl (λ o. refl) (λ t. refl) refl (unfold awaiter_of in refl) (unfold as_awaited in refl)
 
 module _ (s : Store) (z : Sized s) (c : (header s).calls < call_limit) where
   more : header (set_calls s ((header s).calls + 1)) ≡ record { made = (header s).made; used = (header s).used; calls = (header s).calls + 1; next = (header s).next; moment = (header s).moment }
   unfolding set_calls
   more =
       let f : HeaderFits (header s) = header-fits s in
-      header_put-header s _ z (record { made-fits = f.made-fits; used-fits = f.used-fits; calls-fit = omega arith; next_fits = f.next_fits; moment_fits = f.moment_fits })
+      header_put-header s _ z (record { made_fits = f.made_fits; used_fits = f.used_fits; calls_fit = omega arith; next_fits = f.next_fits; moment_fits = f.moment_fits })
 
   rows : (o : ℕ) → object (set_calls s ((header s).calls + 1)) o ≡ object s o
   rows o = unfold set_calls in (object_put-header s _ o)
@@ -110,7 +110,7 @@ module _ (s : Store) (z : Sized s) (c : (header s).calls < call_limit) where
   unfolding accept make_settled tells
   settled-fails v low =
       added (Event.settled v) s (set_calls s ((header s).calls + 1)) _ 0 (Answer.made (header s).made) refl (sized-set_calls s _ z) low
-      (subst (λ (h : Header). h.used + 0 ≤ place_limit) (sym more) (omega (arith, (header-fits s).used-fits))) (ap (λ (h : Header). h.made) more) (ap (λ (h : Header). h.next) more) rows tasks logs (unfold awaiter_of in refl) (unfold as_awaited in refl)
+      (subst (λ (h : Header). h.used + 0 ≤ place_limit) (sym more) (omega (arith, (header-fits s).used_fits))) (ap (λ (h : Header). h.made) more) (ap (λ (h : Header). h.next) more) rows tasks logs (unfold awaiter_of in refl) (unfold as_awaited in refl)
 
 pub gather-fails : (s : Store) (os : List ℕ) → Sized s → (header s).made < object_limit → (header s).used + length os ≤ place_limit → EventFails (Event.gather os) s (accept s (Event.gather os))
 unfolding accept make_gather tells

@@ -33,7 +33,7 @@ use Rattle.machine_laws.specs.StoreLaws.{header-fits, task-fits, task_put-task, 
 use Rattle.machine_laws.specs.StoreLaws.{sized-put_task, sized-put_object, sized-put_places, sized-put_queue, sized-add_log, sized-set_state, sized-set_moment}
 use Rattle.machine_theorems.specs.Soundness.RowFacts.{blocked-live}
 use Rattle.machine_sessions.specs.Stall.Standing.{moment_head}
-use Rattle.machine_sessions.specs.Gather.Failing.{ClimbMoves, climb-then, climb-same, climb-failed, climb-stays-failed, climb-stays-broken, climb-used, failed-awaited}
+use Rattle.machine_sessions.specs.Gather.Failing.{ClimbMoves, climb-then, climb-same, climb-failed, climb-stays_failed, climb-stays-broken, climb-used, failed-awaited}
 
 -- ---- why
 
@@ -69,7 +69,7 @@ first_later s u v t l k = record { low = k.low; was = k.was; gone = l.gone t (om
 
 pub raised-later : (s : Store) (R : ℕ → Error → Type 0) (u v : Store) (o : ℕ) (e : Error) → Later u v → Raised s R u o e → Raised s R v o e
 raised-later s R u v o e l (by_external c q) = by_external c (climb-stays-broken (object v o) c e (subst (λ (x : Object). ClimbMoves x (object v o)) q (l.rows o)))
-raised-later s R u v o e l (by_gather f n q) = by_gather f n (climb-stays-failed (object v o) f n e (subst (λ (x : Object). ClimbMoves x (object v o)) q (l.rows o)))
+raised-later s R u v o e l (by_gather f n q) = by_gather f n (climb-stays_failed (object v o) f n e (subst (λ (x : Object). ClimbMoves x (object v o)) q (l.rows o)))
 raised-later s R u v o e l (by_task r) = by_task r
 raised-later s R u v o e l (by_first_run t k q d) = by_first_run t (first_later s u v t l k) q d
 
@@ -265,7 +265,7 @@ module _ (s m : Store) (Young : ℕ → Type 0) (B : Error → Type 0) (X : ℕ 
       v = put_task u t r
 
       r-fits : TaskFits r
-      r-fits = unfold restate in (record { state_fits = fits; awaiter_fits = (task-fits u t).awaiter_fits; coroutine-fits = (task-fits u t).coroutine-fits })
+      r-fits = unfold restate in (record { state_fits = fits; awaiter_fits = (task-fits u t).awaiter_fits; coroutine_fits = (task-fits u t).coroutine_fits })
 
       now : task v t ≡ r
       now = task_put-task u t r k.sized l r-fits

@@ -45,7 +45,7 @@ use Rattle.machine_laws.specs.DeliveryLaws.{absurd_some, awaited-object}
 use Rattle.machine_laws.specs.MachineLaws.{accepted-step, refused-step}
 use Rattle.machine_laws.specs.SoundLaws.{pass, refusal-rest, refusal-forget, step-forget}
 use Rattle.machine_theorems.specs.Soundness.Stores.{SoundStore}
-use Rattle.machine_theorems.specs.Soundness.Sessions.{forget-sound_store, step-sound_store}
+use Rattle.machine_theorems.specs.Soundness.Sessions.{forget_sound_store, step_sound_store}
 use Rattle.machine_sessions.specs.Queue.Following.{Sends, stepped, short, sends, Following, accept_accepts, send_following, session_follows}
 use Rattle.machine_sessions.specs.Places.Told.{Frozen, co, pends, gave, broke, many, frozen}
 use Rattle.machine_sessions.specs.Places.Agrees.{reply_row, ItemsAt, Makes, MadeRight, Agrees}
@@ -212,7 +212,7 @@ row-awaited s (Object.ExternalFuture c (ExternalFutureState.Pending a r)) k = ab
 row-awaited s (Object.ExternalFuture c (ExternalFutureState.Resolved v)) k = absurd k
 row-awaited s (Object.ExternalFuture c (ExternalFutureState.Failed e)) k = absurd k
 row-awaited s (Object.GatherFuture f n GatherState.Pending) k = absurd k
-row-awaited s (Object.GatherFuture f n (GatherState.Awaited a m)) k = (record { first = f; count = n; awaiter = a; open-places = m }, refl)
+row-awaited s (Object.GatherFuture f n (GatherState.Awaited a m)) k = (record { first = f; count = n; awaiter = a; open_places = m }, refl)
 row-awaited s (Object.GatherFuture f n GatherState.Completed) k = absurd k
 row-awaited s (Object.GatherFuture f n (GatherState.Failed e)) k = absurd k
 
@@ -515,7 +515,7 @@ module _ (h : List Entry) (s : Store) (w : SoundStore s) (a : Agrees h s) (k : K
       let b : FailedBy e s u g r = fl.awaited g f n r v l p q in
       let m = gather-list h s a g (first_of (object s g)) (count_of (object s g)) l (awaited-many (object s g) v p) in
       let low : b.item < (header s).made =
-      subst (λ (j : ℕ). j < (header s).made) b.among.names (item_low g b.among.at v.first v.count (GatherState.Awaited v.awaiter v.open-places) l (awaited-object (object s g) v p) b.among.under) in
+      subst (λ (j : ℕ). j < (header s).made) b.among.names (item_low g b.among.at v.first v.count (GatherState.Awaited v.awaiter v.open_places) l (awaited-object (object s g) v p) b.among.under) in
       record {
         item = b.item;
         among = ap (is_in b.item) (items_now g l)
@@ -696,7 +696,7 @@ step-fails h s e w a k i = by (ℕ_discrete (refusal s e) 0)
     z = forget s
 
     wz : SoundStore z
-    wz = forget-sound_store s w
+    wz = forget_sound_store s w
 
     blank : z.log ≡ []
     blank = unfold forget in refl
@@ -714,7 +714,7 @@ step-fails h s e w a k i = by (ℕ_discrete (refusal s e) 0)
         rz = refusal-forget s e ∙ r
 
         sound : SoundStore (accept z e).store
-        sound = subst (λ (x : Step). SoundStore x.store) (accepted-step s e r) (step-sound_store s w e i)
+        sound = subst (λ (x : Step). SoundStore x.store) (accepted-step s e r) (step_sound_store s w e i)
     by (no ne) =
         subst (StepFails h s e) (sym (refused-step s e (refusal s e) refl ne))
         (record {

@@ -43,7 +43,7 @@ pub record RunnerFails (e : Event) (s : Store) (o : ℕ) (x : Error) : Type 0 wh
   pub runner : ℕ
   pub number : ℕ
   pub fails : e ≡ Event.fail number
-  pub runs-it : (header s).moment ≡ Moment.Running (task_id (suc runner))
+  pub runs_it : (header s).moment ≡ Moment.Running (task_id (suc runner))
   pub coroutine : (task s (suc runner)).coroutine.0 ≡ o
   pub error : x ≡ Error.Script number
 

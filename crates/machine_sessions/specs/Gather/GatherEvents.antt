@@ -41,7 +41,7 @@ use Rattle.machine_laws.specs.DeliveryLaws.{absurd_some, awaited-object}
 use Rattle.machine_laws.specs.MachineLaws.{accepted-step, refused-step}
 use Rattle.machine_laws.specs.SoundLaws.{pass, refusal-rest, refusal-forget}
 use Rattle.machine_theorems.specs.Soundness.Stores.{SoundStore}
-use Rattle.machine_theorems.specs.Soundness.Sessions.{forget-sound_store, step-sound_store}
+use Rattle.machine_theorems.specs.Soundness.Sessions.{forget_sound_store, step_sound_store}
 use Rattle.machine_sessions.specs.Queue.Following.{Sends, stepped, short, sends, Following, accept_accepts, send_following, session_follows}
 use Rattle.machine_sessions.specs.Places.Told.{Frozen, co, pends, gave, broke, many, frozen}
 use Rattle.machine_sessions.specs.Places.Agrees.{reply_row, ItemsAt, Makes, MadeRight, Agrees}
@@ -232,7 +232,7 @@ module _ (h : List Entry) (s : Store) (w : SoundStore s) (ag : Agrees h s) (k : 
               pend os d =
                   subst (λ (c : ℕ). shown u (object u c) ≡ Shown.a_gather_pending) (sym at-made)
                   (subst (λ (c : Event). shown u (object (accept s c).store (header s).made) ≡ Shown.a_gather_pending) (sym d)
-                  (unfold accept in (made-pending s u os w.memory.sized (omega (arith, at-made, m, (header-fits u).made-fits)))))
+                  (unfold accept in (made-pending s u os w.memory.sized (omega (arith, at-made, m, (header-fits u).made_fits)))))
           of (Event.await o) d y = y
           of (Event.complete x) d y = y
           of (Event.fail c) d y = y
@@ -299,11 +299,11 @@ module _ (h : List Entry) (s : Store) (w : SoundStore s) (ag : Agrees h s) (k : 
           rz = refusal-forget s e ∙ r
 
           sound : SoundStore (accept zs e).store
-          sound = subst (λ (x : Step). SoundStore x.store) (accepted-step s e r) (step-sound_store s w e i)
+          sound = subst (λ (x : Step). SoundStore x.store) (accepted-step s e r) (step_sound_store s w e i)
 
-          x : Stays h zs (forget-sound_store s w) (forget_agrees h s ag) (forget-knows h s k) (λ on. forget-alive h s (al on)) e (accept zs e).answer (accept zs e).store
-          x = accepted h zs (forget-sound_store s w) (forget_agrees h s ag) (forget-knows h s k) refl (λ on. forget-alive h s (al on)) e i rz sound
-      by (no ne) = subst Left (sym (refused-step s e (refusal s e) refl ne)) (λ a. refused-stays h s w ag k al e (refusal s e) zs (forget-sound_store s w) a (λ o. unfold object forget in refl) (unfold header forget in refl) (λ o. ap (λ (f : ℕ → Shown). f o) same-look))
+          x : Stays h zs (forget_sound_store s w) (forget_agrees h s ag) (forget-knows h s k) (λ on. forget-alive h s (al on)) e (accept zs e).answer (accept zs e).store
+          x = accepted h zs (forget_sound_store s w) (forget_agrees h s ag) (forget-knows h s k) refl (λ on. forget-alive h s (al on)) e i rz sound
+      by (no ne) = subst Left (sym (refused-step s e (refusal s e) refl ne)) (λ a. refused-stays h s w ag k al e (refusal s e) zs (forget_sound_store s w) a (λ o. unfold object forget in refl) (unfold header forget in refl) (λ o. ap (λ (f : ℕ → Shown). f o) same-look))
 
 -- What one more event leaves.
 pub session-stays : (es : List Sent) (e : Sent) → (j : AllSentInRange es) → InRange e.event

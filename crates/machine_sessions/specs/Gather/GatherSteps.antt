@@ -18,7 +18,7 @@ use Rattle.machine.specs.DemandThree.{look, none_open}
 use Rattle.machine.specs.DemandTwo.{came, committed, values, seen, arrivals_of, is_late, in_turn, arrivals_by, arrivals_in, arrivals_along, arrivals_from, ReuseAt, Reused, GatherRight}
 use Rattle.machine_sessions.specs.Gather.LogApart.{lent_entry}
 use Rattle.machine_sessions.specs.Gather.Batches.{SingleFrom, cut_range, cut-single}
-use Rattle.machine_sessions.specs.Gather.Arrivals.{in_cons, Came, Arrivals, AllReturned, none-raised, all-returned-++, or_then, outcome-++, new_of, outcome-new, new-returned, in_turn_all, All, all-++, Quiet, first_behind, first_stays, Turn, first_in_turn, all_own, raises_own, first_from-left, listed_all, waiting-one}
+use Rattle.machine_sessions.specs.Gather.Arrivals.{in_cons, Came, Arrivals, AllReturned, none_raised, all-returned-++, or_then, outcome-++, new_of, outcome-new, new-returned, in_turn_all, All, all-++, Quiet, first_behind, first_stays, Turn, first_in_turn, all_own, raises_own, first_from-left, listed_all, waiting-one}
 
 -- ---- what one event does to gather g
 
@@ -50,23 +50,23 @@ pub record GatherStep (x y : Session) (g : ℕ) : Type 0 where
   pub stays : (o : ℕ) (z : Outcome Value Error) → came x o ≡ some z → came y o ≡ some z
   -- of a gather that was committed: its items stay, it stays committed; settled ones stay
   pub items_stay : committed (look x.store g) ≡ true → items y.history g ≡ items x.history g
-  pub stays-committed : committed (look x.store g) ≡ true → committed (look y.store g) ≡ true
-  pub stays-failed : (e : Error) → look x.store g ≡ Shown.a_gather_failed e → look y.store g ≡ Shown.a_gather_failed e
+  pub stays_committed : committed (look x.store g) ≡ true → committed (look y.store g) ≡ true
+  pub stays_failed : (e : Error) → look x.store g ≡ Shown.a_gather_failed e → look y.store g ≡ Shown.a_gather_failed e
   -- what is shown afterwards
   pub completed : (vs : List (Option Value)) → look y.store g ≡ Shown.a_gather_completed vs → Delivered y g vs × (none_open vs ≡ true)
   pub awaited : (vs : List (Option Value)) → look y.store g ≡ Shown.a_gather_awaited vs → Delivered y g vs × (none_open vs ≡ false) × NoneRaised y g
   -- why it fails
-  pub fails-later : (e : Error) → committed (look x.store g) ≡ true → look y.store g ≡ Shown.a_gather_failed e → (look x.store g ≡ Shown.a_gather_failed e) ⊎ FailsLater x y g e
-  pub fails-at-commit : (e : Error) → committed (look x.store g) ≡ false → look y.store g ≡ Shown.a_gather_failed e → ReuseAt y g e ⊎ FailsAtCommit y g e
+  pub fails_later : (e : Error) → committed (look x.store g) ≡ true → look y.store g ≡ Shown.a_gather_failed e → (look x.store g ≡ Shown.a_gather_failed e) ⊎ FailsLater x y g e
+  pub fails_at_commit : (e : Error) → committed (look x.store g) ≡ false → look y.store g ≡ Shown.a_gather_failed e → ReuseAt y g e ⊎ FailsAtCommit y g e
 
 -- ---- what holds after some events
 
 -- the arrivals so far: nothing has raised, and they say what has come of the items
 pub record Quietly (x : Session) (g : ℕ) (xs : Arrivals) : Type 0 where
-  pub all-returned : AllReturned xs
+  pub all_returned : AllReturned xs
   pub own : All (λ a. came x a.awaitable ≡ some a.outcome) xs
   pub known : (o : ℕ) → is_in o (items x.history g) ≡ true → outcome_of xs o ≡ came x o
-  pub none-raised : NoneRaised x g
+  pub none_raised : NoneRaised x g
 
 pub data SoFar (ps : List Sent) (x : Session) (g : ℕ) (xs : Arrivals) : Type 0 where
   uncommitted : committed (look x.store g) ≡ false → xs ≡ [] → SoFar ps x g xs
@@ -160,9 +160,9 @@ module _ (ps : List Sent) (s : Sent) (g : ℕ) where
     at-step : (a b : Bool) → committed (look x.store g) ≡ a → committed (look y.store g) ≡ b → arrivals_in x y g ≡ arrivals_by a b x y os
     at-step a b p q = unfold arrivals_in in (ap₂ (λ (c d : Bool). arrivals_by c d x y os) p q)
 
-    in-commit : committed (look x.store g) ≡ false → committed (look y.store g) ≡ true → arrivals_in x y g ≡ arrivals_of (λ o. none) (came y) os
+    in_commit : committed (look x.store g) ≡ false → committed (look y.store g) ≡ true → arrivals_in x y g ≡ arrivals_of (λ o. none) (came y) os
     unfolding arrivals_by
-    in-commit c d = at-step false true c d
+    in_commit c d = at-step false true c d
 
     behind-commit : committed (look x.store g) ≡ true → committed (look y.store g) ≡ true → arrivals_in x y g ≡ in_turn (arrivals_of (came x) (came y) os)
     unfolding arrivals_by
@@ -185,21 +185,21 @@ module _ (ps : List Sent) (s : Sent) (g : ℕ) where
     new_items : NoneRaised y g → Quietly y g (arrivals_of (λ o. none) (came y) os)
     new_items n =
         record {
-          all-returned = new-returned (λ o. none) (came y) os n;
+          all_returned = new-returned (λ o. none) (came y) os n;
           own = own_new (λ o. none);
           known = λ o i. outcome-new (λ o. none) (came y) o os i ∙ (unfold new_of in refl);
-          none-raised = n;
+          none_raised = n;
         }
 
     committed-now : committed (look x.store g) ≡ false → (xs : Arrivals) → xs ≡ [] → committed (look y.store g) ≡ true → Next xs
     committed-now c xs e d =
         subst (λ (zs : Arrivals). SoFar (ps ++ (s ∷ [])) y g (zs ++ arrivals_in x y g)) (sym e)
-        (subst (SoFar (ps ++ (s ∷ [])) y g) (sym (in-commit c d)) (by (which (look y.store g) d)))
+        (subst (SoFar (ps ++ (s ∷ [])) y g) (sym (in_commit c d)) (by (which (look y.store g) d)))
       where
         by : Which (look y.store g) → SoFar (ps ++ (s ∷ [])) y g (arrivals_of (λ o. none) (came y) os)
         by (w_awaited vs q) = let w = k.awaited vs q in is_awaited vs q w.0 w.1 (new_items w.2)
         by (w_completed vs q) = let w = k.completed vs q in is_completed vs q w.0 w.1 (new_items (values_quiet (came y) os (subst (λ (us : List (Option Value)). none_open us ≡ true) w.0 w.1)))
-        by (w_failed z q) = is_failed z q (why (k.fails-at-commit z c q))
+        by (w_failed z q) = is_failed z q (why (k.fails_at_commit z c q))
           where
             why : ReuseAt y g z ⊎ FailsAtCommit y g z → (first_raised os [] (arrivals_of (λ o. none) (came y) os) ≡ some z) ⊎ Reused (ps ++ (s ∷ [])) g z
             why (inl r) = inr (record { before = ps; commit = s; after = []; parts = refl; uncommitted = c; failed = q; reuse = r })
@@ -232,10 +232,10 @@ module _ (ps : List Sent) (s : Sent) (g : ℕ) where
           let r : AllReturned new = new-returned (came x) (came y) os n in
           subst (λ (zs : Arrivals). Quietly y g (xs ++ zs)) (sym (in_turn_all new r))
           (record {
-            all-returned = all-returned-++ xs new was.all-returned r;
+            all_returned = all-returned-++ xs new was.all_returned r;
             own = all-++ _ xs new (own-later xs was.own) (own_new (came x));
             known = known-now;
-            none-raised = n;
+            none_raised = n;
           })
 
       nobody : Quiet (came y) os []
@@ -243,20 +243,20 @@ module _ (ps : List Sent) (s : Sent) (g : ℕ) where
 
       fails-now : (e : Error) → FailsLater x y g e → first_raised os [] (xs ++ in_turn new) ≡ some e
       fails-now e f =
-          first_behind (came y) os e xs (in_turn new) [] was.all-returned nobody (own-later xs was.own)
+          first_behind (came y) os e xs (in_turn new) [] was.all_returned nobody (own-later xs was.own)
           (λ sn q. first_in_turn (came y) os e new sn q
           (all_own (came x) (came y) (Turn (came y) os e) os (λ o z i a b. record { item = i; own = b; only = λ w d. f.others o w i a (b ∙ ap (λ (u : Outcome Value Error). some u) d) }))
           (raises_own (came x) (came y) e f.item os f.named f.fresh f.raises))
 
       go_on : ((e : Error) → look x.store g ≡ Shown.a_gather_failed e → ⊥) → Next xs
       go_on not-failed =
-          let d : committed (look y.store g) ≡ true = k.stays-committed c in
+          let d : committed (look y.store g) ≡ true = k.stays_committed c in
           subst (λ (zs : Arrivals). SoFar (ps ++ (s ∷ [])) y g (xs ++ zs)) (sym (behind-commit c d)) (by (which (look y.store g) d))
         where
           by : Which (look y.store g) → SoFar (ps ++ (s ∷ [])) y g (xs ++ in_turn new)
           by (w_awaited vs q) = let w = k.awaited vs q in is_awaited vs q w.0 w.1 (quiet-now w.2)
           by (w_completed vs q) = let w = k.completed vs q in is_completed vs q w.0 w.1 (quiet-now (values_quiet (came y) os (subst (λ (us : List (Option Value)). none_open us ≡ true) w.0 w.1)))
-          by (w_failed e q) = is_failed e q (inl (why (k.fails-later e c q)))
+          by (w_failed e q) = is_failed e q (inl (why (k.fails_later e c q)))
             where
               why : (look x.store g ≡ Shown.a_gather_failed e) ⊎ FailsLater x y g e → first_raised os [] (xs ++ in_turn new) ≡ some e
               why (inl w) = absurd (not-failed e w)
@@ -271,7 +271,7 @@ module _ (ps : List Sent) (s : Sent) (g : ℕ) where
         by false d = uncommitted d (ap₂ (λ (a b : Arrivals). a ++ b) e (before-commit c d))
     next_so_far xs (is_awaited vs q d o w) = go_on (ap committed q ∙ (unfold committed in refl)) xs w (λ e z. true≢false (ap not-failed (sym q ∙ z)))
     next_so_far xs (is_completed vs q d o w) = go_on (ap committed q ∙ (unfold committed in refl)) xs w (λ e z. true≢false (ap not-failed (sym q ∙ z)))
-    next_so_far xs (is_failed e q w) = is_failed e (k.stays-failed e q) (by w)
+    next_so_far xs (is_failed e q w) = is_failed e (k.stays_failed e q) (by w)
       where
         c : committed (look x.store g) ≡ true
         c = ap committed q ∙ (unfold committed in refl)
@@ -355,11 +355,11 @@ module _ (g : ℕ) (steps : (ps : List Sent) (s : Sent) → AllSentInRange ps �
   right_by : (es : List Sent) → SoFar es (session es) g (arrivals_from begun es g) → committed (look (session es).store g) ≡ true → GatherRight es g
   right_by es (uncommitted c e) d = absurd (true≢false (sym d ∙ c))
   right_by es (is_awaited vs q d o w) c =
-      let r : Gathers es waiting = sym (gathered _ _ none (none-raised _ _ w.all-returned []) ∙ waiting-one _ (came (session es)) _ w.known w.none-raised (subst (λ (us : List (Option Value)). none_open us ≡ false) d o)) in
+      let r : Gathers es waiting = sym (gathered _ _ none (none_raised _ _ w.all_returned []) ∙ waiting-one _ (came (session es)) _ w.known w.none_raised (subst (λ (us : List (Option Value)). none_open us ≡ false) d o)) in
       inl (ap seen q ∙ (seen-awaited vs ∙ r))
   right_by es (is_completed vs q d o w) c =
       let r : Gathers es (listed (values (map (λ n. value_of (came (session es) n)) (items (session es).history g)))) =
-      sym (gathered _ _ none (none-raised _ _ w.all-returned []) ∙ listed_all _ (came (session es)) _ w.known (subst (λ (us : List (Option Value)). none_open us ≡ true) d o)) in
+      sym (gathered _ _ none (none_raised _ _ w.all_returned []) ∙ listed_all _ (came (session es)) _ w.known (subst (λ (us : List (Option Value)). none_open us ≡ true) d o)) in
       inl (ap seen q ∙ (seen-completed vs ∙ (ap (λ (us : List (Option Value)). listed (values us)) d ∙ r)))
   right_by es (is_failed e q (inl w)) c = inl (ap seen q ∙ (seen-failed e ∙ sym (gathered _ _ (some e) w)))
   right_by es (is_failed e q (inr w)) c = inr (e, q, w)

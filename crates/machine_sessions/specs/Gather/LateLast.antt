@@ -24,7 +24,7 @@ use Rattle.machine_laws.specs.DeliveryLaws.{absurd_some, awaited-object, pending
 use Rattle.machine_laws.specs.MachineLaws.{accepted-step, refused-step}
 use Rattle.machine_laws.specs.SoundLaws.{refusal-forget}
 use Rattle.machine_theorems.specs.Soundness.Stores.{SoundStore}
-use Rattle.machine_theorems.specs.Soundness.Sessions.{forget-sound_store}
+use Rattle.machine_theorems.specs.Soundness.Sessions.{forget_sound_store}
 use Rattle.machine_theorems.specs.Soundness.Exits.{runner-runs}
 use Rattle.machine_sessions.specs.Queue.Following.{Sends, stepped, short, sends, send_following, session_follows}
 use Rattle.machine_sessions.specs.Places.Agrees.{ItemsAt, Agrees}
@@ -100,7 +100,7 @@ pub item-place : (h : List Entry) (s : Store) → SoundStore s → Agrees h s �
 item-place h s w ag g o vs e z =
     let b = awaited-row s g vs w e in
     let v : AwaitedGather = b.1.0 in
-    let row : object s g ≡ Object.GatherFuture v.first v.count (GatherState.Awaited v.awaiter v.open-places) = awaited-object (object s g) v b.1.1 in
+    let row : object s g ≡ Object.GatherFuture v.first v.count (GatherState.Awaited v.awaiter v.open_places) = awaited-object (object s g) v b.1.1 in
     let m = gather-list h s ag g (first_of (object s g)) (count_of (object s g)) b.0 (awaited-many (object s g) v b.1.1) in
     let a = in_places (λ p. (place s p).item.0) (first_of (object s g)) (items h g) o m.1 z in
     record {
@@ -130,7 +130,7 @@ module _ (h : List Entry) (s : Store) (w : SoundStore s) (ag : Agrees h s) (clea
   waits_for : Source (Lost h s) s g o → Waits
   waits_for (by_external p e a) = for-external p e
   waits_for (by_gather v e a) = for-gather v e a
-  waits_for (by_nobody y) = for-task y.its-task y.spawned (λ lv. absurd (true≢false (sym lv ∙ y.gone.dead)))
+  waits_for (by_nobody y) = for-task y.its_task y.spawned (λ lv. absurd (true≢false (sym lv ∙ y.gone.dead)))
   waits_for (by_task t l lv a) = for-task t (slot_task h s w k t g o l lv a) (λ z. a)
 
   -- a task's object is a coroutine
@@ -205,7 +205,7 @@ module _ (ps : List Sent) (e : Sent) (j : AllSentInRange ps) (i : InRange e.even
   wu = (send_following (session ps) e i (session_follows ps j)).whole
 
   wb : SoundStore b
-  wb = forget-sound_store s w
+  wb = forget_sound_store s w
 
   ag : Agrees h b
   ag = forget_agrees h s (session_agrees ps j)

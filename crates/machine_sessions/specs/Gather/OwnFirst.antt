@@ -77,7 +77,7 @@ module _ (r : ℕ → Bool) (D : ℕ → Type 0) (hd : Header) (e : Error) (k : 
       sent = error-sends r D hd e k s q g x i
 
       low : g < object_limit
-      low = omega (arith, (i.detached.slot g x refl).made, i.during.kept.but.fits.made-fits)
+      low = omega (arith, (i.detached.slot g x refl).made, i.during.kept.but.fits.made_fits)
 
       z : Sized s
       z = i.during.kept.memory.sized
@@ -96,7 +96,7 @@ module _ (r : ℕ → Bool) (D : ℕ → Type 0) (hd : Header) (e : Error) (k : 
           is-put = ap (λ (t : Settled). t.store) (fail-on s g e w d)
 
           next : DeliveringError r D hd g y w.awaiter
-          next = sent.delivers-on w.awaiter onward
+          next = sent.delivers_on w.awaiter onward
 
           at : Rises s (deliver_awaiter_failure y w.awaiter e).store
           at o p j v a b c = of (ℕ_discrete o g)
@@ -113,7 +113,7 @@ module _ (r : ℕ → Bool) (D : ℕ → Type 0) (hd : Header) (e : Error) (k : 
 
   rises-climb : (n : ℕ) (s : Store) (q : ℕ) (a : Awaiter) → object_limit ≤ n + q → DeliveringError r D hd q s a → Rises s (deliver_awaiter_failure s a e).store
   unfolding view
-  rises-climb zero s q a f i = absurd (not-suc-le-zero {n = 0} (omega (arith, f, i.detached.made, i.during.kept.but.fits.made-fits)))
+  rises-climb zero s q a f i = absurd (not-suc-le-zero {n = 0} (omega (arith, f, i.detached.made, i.during.kept.but.fits.made_fits)))
   rises-climb (suc n) s q Awaiter.Nobody f i = unfold deliver_awaiter_failure send_error nobody_woken in (same_rises s s (λ o. refl))
   rises-climb (suc n) s q (Awaiter.Task t) f i = unfold deliver_awaiter_failure send_error in (to_task_rises s t.0 (TaskState.Raised e))
   rises-climb (suc n) s q (Awaiter.GatherSlot g x) f i = rises-slot n s q g.0 x.0 f i (λ y p b j m. rises-climb n y p b j m)

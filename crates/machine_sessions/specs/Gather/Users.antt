@@ -39,7 +39,7 @@ use Rattle.machine_laws.specs.MachineLaws.{accepted-step, refused-step}
 use Rattle.machine_laws.specs.SoundLaws.{refusal-forget}
 use Rattle.machine_theorems.specs.Soundness.Stores.{SoundStore}
 use Rattle.machine_theorems.specs.Soundness.Cycle.{spawned_of}
-use Rattle.machine_theorems.specs.Soundness.Sessions.{forget-sound_store, step-sound_store}
+use Rattle.machine_theorems.specs.Soundness.Sessions.{forget_sound_store, step_sound_store}
 use Rattle.machine_sessions.specs.Queue.Tracked.{live-is}
 use Rattle.machine_sessions.specs.Queue.Following.{Sends, stepped, short, sends, Following, accept_accepts, send_following, session_follows}
 use Rattle.machine_sessions.specs.Waits.{said-accepted}
@@ -222,13 +222,13 @@ step_uses h s e w a k i us = by (ℕ_discrete (refusal s e) 0)
     by : Dec (refusal s e ≡ 0) → StepUses h e (step s e).answer (step s e).store
     by (yes r) =
         subst (λ (x : Step). StepUses h e x.answer x.store) (sym (accepted-step s e r))
-        (accepted-uses h z (forget-sound_store s w) (forget_agrees h s a) (forget-knows h s k) blank e i rz sound (forget_uses h s us) (accept-fails z (forget-sound_store s w) e i rz))
+        (accepted-uses h z (forget_sound_store s w) (forget_agrees h s a) (forget-knows h s k) blank e i rz sound (forget_uses h s us) (accept-fails z (forget_sound_store s w) e i rz))
       where
         rz : refusal z e ≡ 0
         rz = refusal-forget s e ∙ r
 
         sound : SoundStore (accept z e).store
-        sound = subst (λ (x : Step). SoundStore x.store) (accepted-step s e r) (step-sound_store s w e i)
+        sound = subst (λ (x : Step). SoundStore x.store) (accepted-step s e r) (step_sound_store s w e i)
     by (no ne) =
         subst (λ (x : Step). StepUses h e x.answer x.store) (sym (refused-step s e (refusal s e) refl ne))
         (refused_uses h s z e (refusal s e) (unfold header forget in refl) (λ t. unfold task forget in refl) (λ o. unfold object forget in refl) us)
@@ -296,7 +296,7 @@ pending-is : (c : CallId) (b : Awaiter) (v : OptionValue) → as_pending (Object
 unfolding as_pending
 pending-is c b v = refl
 
-open_is : (f n : ℕ) (b : Awaiter) (m : ℕ) → as_awaited (Object.GatherFuture f n (GatherState.Awaited b m)) ≡ some (record { first = f; count = n; awaiter = b; open-places = m })
+open_is : (f n : ℕ) (b : Awaiter) (m : ℕ) → as_awaited (Object.GatherFuture f n (GatherState.Awaited b m)) ≡ some (record { first = f; count = n; awaiter = b; open_places = m })
 unfolding as_awaited
 open_is f n b m = refl
 
@@ -312,7 +312,7 @@ gather_awaiter f n b m = refl
 -- the slot that an object's awaiter is
 slotted : (s : Store) → SoundStore s → (o : ℕ) → o < (header s).made → (f y : HeapId) → awaiter_of (object s o) ≡ Awaiter.GatherSlot f y → Slotted (header s).made (object s) (place s) o f.0 y.0
 unfolding view
-slotted s w o l f y q = w.facts.but.object-slots o l (λ i. i) f.0 y.0 q
+slotted s w o l f y q = w.facts.but.object_slots o l (λ i. i) f.0 y.0 q
 
 committed-shown : (s : Store) (x : Object) → T (is_committed (kind x)) → committed (shown s x) ≡ true
 unfolding committed shown kind
@@ -354,7 +354,7 @@ module _ (es : List Sent) (i : AllSentInRange es) (g : ℕ) where
   -- a slot of another gather
   elsewhere : (o c : ℕ) (f y : HeapId) → (f.0 ≡ g → ⊥) → Slotted (header x.store).made (object x.store) (place x.store) c f.0 y.0 → Known x.history (header x.store).made o (Awaiter.GatherSlot f y) → Elsewhere x g o
   elsewhere o c f y ne sl k =
-      record { user = f.0; other = ne; was-committed = ap committed (look_is f.0 k.0) ∙ committed-shown x.store (object x.store f.0) sl.committed; among = k.1 }
+      record { user = f.0; other = ne; was_committed = ap committed (look_is f.0 k.0) ∙ committed-shown x.store (object x.store f.0) sl.committed; among = k.1 }
 
   -- a live task lives by the history
   lives-told : (t : ℕ) → t < (header x.store).next → is_live (task x.store t).state ≡ true → lives x.history t ≡ true
@@ -374,14 +374,14 @@ module _ (es : List Sent) (i : AllSentInRange es) (g : ℕ) where
       by Awaiter.Nobody q d n = absurd (subst (Other g) q d)
       by (Awaiter.Task v) q d n = absurd (not-task x.store k.who v w k.low k.live q)
       by (Awaiter.GatherSlot f p) q d n =
-          elsewhere o (task x.store t).coroutine.0 f p (subst (Other g) q d) (w.facts.but.task-slots t k.low (holds _ k.live) f.0 p.0 q) (subst (Known x.history (header x.store).made o) q n)
+          elsewhere o (task x.store t).coroutine.0 f p (subst (Other g) q d) (w.facts.but.task_slots t k.low (holds _ k.live) f.0 p.0 q) (subst (Known x.history (header x.store).made o) q n)
 
   -- An item that is reused is in use.
   pub reused_in_use : (o : ℕ) (r : Error) → is_ended (header x.store).moment ≡ false → o < (header x.store).made → Reuses x.store g o (object x.store o) r → InUse x g o (look x.store o) r
   reused_in_use o r on l k = subst (λ (v : Shown). InUse x g o v r) (sym (look_is o l)) (by (object x.store o) r refl k)
     where
       named-used : is_used (shape (object x.store o)) ≡ true → named x.history o ≡ true
-      named-used e = ((session_honest es i).kept on).origins.named-is o ∙ e
+      named-used e = ((session_honest es i).kept on).origins.named_is o ∙ e
 
       named_by : {f : ℕ} (z : CoroutineState) → object x.store o ≡ Object.Coroutine f z → started z ≡ true → named x.history o ≡ true
       named_by {f} z q e = named-used (ap (λ (p : Object). is_used (shape p)) q ∙ (shape-started f z ∙ e))
@@ -402,7 +402,7 @@ module _ (es : List Sent) (i : AllSentInRange es) (g : ℕ) where
 
       gather-used : (f n : ℕ) (b : Awaiter) (m : ℕ) → object x.store o ≡ Object.GatherFuture f n (GatherState.Awaited b m) → NoSlot g b → (awaited_before x.history o ≡ true) ⊎ Elsewhere x g o
       gather-used f n b m q d =
-          let z : Somebody b × Known x.history (header x.store).made o b = us.gathers o (record { first = f; count = n; awaiter = b; open-places = m }) (ap as_awaited q ∙ open_is f n b m) in
+          let z : Somebody b × Known x.history (header x.store).made o b = us.gathers o (record { first = f; count = n; awaiter = b; open_places = m }) (ap as_awaited q ∙ open_is f n b m) in
           taken b (ap awaiter_of q ∙ gather_awaiter f n b m) z.0 d z.1
 
       by : (z : Object) (e : Error) → object x.store o ≡ z → Reuses x.store g o z e → InUse x g o (shown x.store z) e

@@ -323,12 +323,12 @@ module _ (W : ℕ → Option ℕ) where
       → ((v : ℕ) → (v ≡ t → ⊥) → (D v → ⊥) → E v → ⊥) → Given W E Z s → Given W D Z (set_state s t x)
   unfolding set_state restate
   state_given D s t x l f st ho less k =
-      task-given D s t (record { state = x; awaiter = (task s t).awaiter; coroutine = (task s t).coroutine }) (record { state_fits = f; awaiter_fits = (task-fits s t).awaiter_fits; coroutine-fits = (task-fits s t).coroutine-fits }) st ho (k.slots t l) less k
+      task-given D s t (record { state = x; awaiter = (task s t).awaiter; coroutine = (task s t).coroutine }) (record { state_fits = f; awaiter_fits = (task-fits s t).awaiter_fits; coroutine_fits = (task-fits s t).coroutine_fits }) st ho (k.slots t l) less k
 
   pub absent-given : {E : ℕ → Type 0} {Z : ℕ → ℕ → Type 0} (s : Store) (t : ℕ) → Given W E Z s → Given W E Z (put_task s t absent)
   unfolding absent
   absent-given {E} s t k =
-      task-given E s t _ (record { state_fits = tt; awaiter_fits = tt; coroutine-fits = omega arith }) (λ n. tt) (λ o e l. absurd (true≢false (sym l))) tt (λ v ne n. n) k
+      task-given E s t _ (record { state_fits = tt; awaiter_fits = tt; coroutine_fits = omega arith }) (λ n. tt) (λ o e l. absurd (true≢false (sym l))) tt (λ v ne n. n) k
 
   -- ---- the rest
 
@@ -350,7 +350,7 @@ module _ (W : ℕ → Option ℕ) where
 
   pub moved-given : {E : ℕ → Type 0} {Z : ℕ → ℕ → Type 0} (s : Store) (m : Moment) → MomentFits m → Given W E Z s → Given W E Z (set_moment s m)
   unfolding set_moment
-  moved-given s m f k = let g : HeaderFits (header s) = header-fits s in header-given s _ (record { made-fits = g.made-fits; used-fits = g.used-fits; calls-fit = g.calls-fit; next_fits = g.next_fits; moment_fits = f }) refl k
+  moved-given s m f k = let g : HeaderFits (header s) = header-fits s in header-given s _ (record { made_fits = g.made_fits; used_fits = g.used_fits; calls_fit = g.calls_fit; next_fits = g.next_fits; moment_fits = f }) refl k
 
   pub gone-given : {E : ℕ → Type 0} {Z : ℕ → ℕ → Type 0} (s : Store) (t : ℕ) (x : LogEntry) → Given W E Z s → Given W E Z (add_log (remove_task s t) x)
   unfolding remove_task remove_from_ready_queue
@@ -375,7 +375,7 @@ module _ (W : ℕ → Option ℕ) where
       head : (header (set_next s ((header s).next + 1))).next ≡ (header s).next + 1
       head =
           let g : HeaderFits (header s) = header-fits s in
-          unfold set_next in (ap (λ (h : Header). h.next) (header_put-header s _ k.sized (record { made-fits = g.made-fits; used-fits = g.used-fits; calls-fit = g.calls-fit; next_fits = f; moment_fits = g.moment_fits })))
+          unfold set_next in (ap (λ (h : Header). h.next) (header_put-header s _ k.sized (record { made_fits = g.made_fits; used_fits = g.used_fits; calls_fit = g.calls_fit; next_fits = f; moment_fits = g.moment_fits })))
 
   pub spawns-given : {E : ℕ → Type 0} {Z : ℕ → ℕ → Type 0} (s : Store) (c g : ℕ) → (header s).next < task_limit → c < object_limit → g < object_limit → Given W E Z s → Given W E Z (spawn_as s (header s).next c g)
   unfolding spawn_as push_ready
@@ -392,7 +392,7 @@ module _ (W : ℕ → Option ℕ) where
 
       k1 : Given W E Z u
       k1 =
-          task-given E s (header s).next r (record { state_fits = tt; awaiter_fits = (n, m); coroutine-fits = m }) (λ x. k.unborn (header s).next (omega arith))
+          task-given E s (header s).next r (record { state_fits = tt; awaiter_fits = (n, m); coroutine_fits = m }) (λ x. k.unborn (header s).next (omega arith))
           (λ o e x. absurd (not-suc-le-zero {n = 0} (omega (arith, k.low o (header s).next e)))) tt (λ v ne x. x) k
 
       more : Given W E Z (set_next u ((header s).next + 1))

@@ -129,7 +129,7 @@ module _ (W U : ℕ → Option ℕ) (t o : ℕ) (here : U t ≡ some o) (other :
           stated = unfold restate in refl
 
           fits : TaskFits (restate (task u t) x)
-          fits = unfold restate in (record { state_fits = low; awaiter_fits = (task-fits u t).awaiter_fits; coroutine-fits = (task-fits u t).coroutine-fits })
+          fits = unfold restate in (record { state_fits = low; awaiter_fits = (task-fits u t).awaiter_fits; coroutine_fits = (task-fits u t).coroutine_fits })
 
       holders-by : (p v : ℕ) → (blocked_on (task (set_state u t x) v).state ≡ some p) ⊎ Takes t o p v → (blocked_on (task (set_state u t x) v).state ≡ some p) ⊎ ⊥
       holders-by p v (inl q) = inl q

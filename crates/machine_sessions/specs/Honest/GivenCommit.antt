@@ -303,7 +303,7 @@ module _ (W : ℕ → Option ℕ) (t g : ℕ) (low : g < object_limit) (unwaited
       by none e h = m
       by (some w) e h =
           let o : ℕ = (place s (w.first + j)).item.0 in
-          let b : o < object_limit = (place-fits s (w.first + j)).item-fits in
+          let b : o < object_limit = (place-fits s (w.first + j)).item_fits in
           put-given p w j o (λ x. step_items n x p (j + 1)) h l b s (item s p w o) e m (item-given s p w o b l e m)
 
   -- ---- the stack: the root at the bottom, above it gathers that nobody waits for
@@ -372,7 +372,7 @@ module _ (W : ℕ → Option ℕ) (t g : ℕ) (low : g < object_limit) (unwaited
     where
       by : (a : Option AwaitedGather) → Mid (settle_as s p a).store
       by none = unfold settle_as in m
-      by (some w) = unfold settle_as in (pick_has (λ (r : Polled). Mid r.store) (eqb w.open-places 0) (set-mid s p GatherState.Completed l ne q tt tt m) m)
+      by (some w) = unfold settle_as in (pick_has (λ (r : Polled). Mid r.store) (eqb w.open_places 0) (set-mid s p GatherState.Completed l ne q tt tt m) m)
 
   abbrev PolledEnded : Polled → Type 0
   PolledEnded r = Ended W t g r.store r.poll
@@ -383,7 +383,7 @@ module _ (W : ℕ → Option ℕ) (t g : ℕ) (low : g < object_limit) (unwaited
     where
       by : (a : Option AwaitedGather) → PolledEnded (settle_as s g a)
       by none = unfold settle_as in (m.given, m.root)
-      by (some w) = unfold settle_as in (pick_has PolledEnded (eqb w.open-places 0) (close-root s GatherState.Completed (ret (Value.List (heap_id g))) tt tt (unfold fate in refl) tt m) (m.given, m.root))
+      by (some w) = unfold settle_as in (pick_has PolledEnded (eqb w.open_places 0) (close-root s GatherState.Completed (ret (Value.List (heap_id g))) tt tt (unfold fate in refl) tt m) (m.given, m.root))
 
   resume-mid : (f : Frame) (r : Polled) → f.gather < object_limit → Mid r.store → Mid (resume_after_child f r)
   unfolding resume_after_child

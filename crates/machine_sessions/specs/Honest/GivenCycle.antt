@@ -226,16 +226,16 @@ module _ (W : ℕ → Option ℕ) where
     where
       by : (w : Option AwaitedGather) → as_awaited (object s g) ≡ w → Onward (ret (Value.List (heap_id g))) (resolve_awaited s g x v w)
       by none e = unfold resolve_awaited in (record { stops = λ q. k; goes = λ b q. absurd_some q })
-      by (some w) e = unfold resolve_awaited in (left (eqb f.open-places 0))
+      by (some w) e = unfold resolve_awaited in (left (eqb f.open_places 0))
         where
           f : Filled
-          f = fill_from s.places w.open-places w.first x v 0 w.count
+          f = fill_from s.places w.open_places w.first x v 0 w.count
 
           m : Store
           m = put_places s f.places
 
           k1 : K m
-          k1 = places-given W s f.places (length-fill_from w.count s.places w.open-places w.first x v 0 ∙ k.sized.places-sized) k
+          k1 = places-given W s f.places (length-fill_from w.count s.places w.open_places w.first x v 0 ∙ k.sized.places_sized) k
 
           e1 : as_awaited (object m g) ≡ some w
           e1 = unfold object put_places in e
@@ -243,7 +243,7 @@ module _ (W : ℕ → Option ℕ) where
           done : Object
           done = Object.GatherFuture w.first w.count GatherState.Completed
 
-          left : (b : Bool) → Onward (ret (Value.List (heap_id g))) (resolve_left b m g w f.open-places)
+          left : (b : Bool) → Onward (ret (Value.List (heap_id g))) (resolve_left b m g w f.open_places)
           left true = unfold resolve_left in
               (record {
                 stops = λ q. absurd_some (sym q);
@@ -252,7 +252,7 @@ module _ (W : ℕ → Option ℕ) where
               })
           left false = unfold resolve_left in
               (record {
-                stops = λ q. same-given W m g (Object.GatherFuture w.first w.count (GatherState.Awaited w.awaiter f.open-places)) l (awaited-fits s g w e).1.0 (awaits_fate g w.first w.count w.awaiter f.open-places ∙ sym (awaited-fate g (object m g) w e1)) k1;
+                stops = λ q. same-given W m g (Object.GatherFuture w.first w.count (GatherState.Awaited w.awaiter f.open_places)) l (awaited-fits s g w e).1.0 (awaits_fate g w.first w.count w.awaiter f.open_places ∙ sym (awaited-fate g (object m g) w e1)) k1;
                 goes = λ b q. absurd_some q;
               })
 
@@ -350,7 +350,7 @@ module _ (W : ℕ → Option ℕ) where
       r = restate (task s t) TaskState.Running
 
       fits : TaskFits r
-      fits = unfold restate in (record { state_fits = tt; awaiter_fits = (task-fits s t).awaiter_fits; coroutine-fits = (task-fits s t).coroutine-fits })
+      fits = unfold restate in (record { state_fits = tt; awaiter_fits = (task-fits s t).awaiter_fits; coroutine_fits = (task-fits s t).coroutine_fits })
 
       states : (task (set_moment u (Moment.Running (task_id t))) t).state ≡ TaskState.Running
       states = same ∙ (ap (λ (y : Task). y.state) (task_put-task s t r k.sized l fits) ∙ (unfold restate in refl))
@@ -394,7 +394,7 @@ module _ (W : ℕ → Option ℕ) where
         by none e = failure_left s t Error.CoroutineReuse l tt k
         by (some f) e =
             run-left u t (start o f) l (λ p q. absurd_some (sym none-waits ∙ q)) (ap blocked_on same ∙ (unfold blocked_on in refl)) (ap is_live same) tt
-            (unwaited_given W s o x (task-fits s t).coroutine-fits tt (loose_unwaited W s o (ap (fate o) (new-object (object s o) f e) ∙ (unfold fate in refl)) k) (λ v q. not-held v (fate o x) (unfold fate in tt) q) k)
+            (unwaited_given W s o x (task-fits s t).coroutine_fits tt (loose_unwaited W s o (ap (fate o) (new-object (object s o) f e) ∙ (unfold fate in refl)) k) (λ v q. not-held v (fate o x) (unfold fate in tt) q) k)
           where
             x : Object
             x = Object.Coroutine f CoroutineState.Running
@@ -466,7 +466,7 @@ module _ (W : ℕ → Option ℕ) where
   visits-open : (m : ℕ) (w : Walk) (a : AwaitedGather) (j : ℕ) → WalkKept w → WalkKept (visit_open w a j m)
   unfolding visit_open visit_place visit
   visits-open zero w a j k = k
-  visits-open (suc m) w a j k = visits-open m _ a (j + 1) (pick_has WalkKept (bit a.open-places j) (visits w _ _ k) k)
+  visits-open (suc m) w a j k = visits-open m _ a (j + 1) (pick_has WalkKept (bit a.open_places j) (visits w _ _ k) k)
 
   walk-gather-kept : (w : Walk) (a : Option AwaitedGather) → WalkKept w → WalkKept (walk_gather w a)
   unfolding walk_gather

@@ -83,17 +83,17 @@ module _ (W : ℕ → Option ℕ) where
       k1 : K (put_header s i)
       k1 =
           let g : HeaderFits (header s) = header-fits s in
-          header-given W s i (record { made-fits = omega (arith, l); used-fits = room; calls-fit = g.calls-fit; next_fits = g.next_fits; moment_fits = g.moment_fits }) refl k
+          header-given W s i (record { made_fits = omega (arith, l); used_fits = room; calls_fit = g.calls_fit; next_fits = g.next_fits; moment_fits = g.moment_fits }) refl k
 
   module _ (s : Store) (k : K s) where
     no-places : (header s).used + 0 ≤ place_limit
-    no-places = omega (arith, (header-fits s).used-fits)
+    no-places = omega (arith, (header-fits s).used_fits)
 
     pub calls_given : (header s).calls < call_limit → K (set_calls s ((header s).calls + 1))
     unfolding set_calls
     calls_given l =
         let g : HeaderFits (header s) = header-fits s in
-        header-given W s _ (record { made-fits = g.made-fits; used-fits = g.used-fits; calls-fit = omega (arith, l); next_fits = g.next_fits; moment_fits = g.moment_fits }) refl k
+        header-given W s _ (record { made_fits = g.made_fits; used_fits = g.used_fits; calls_fit = omega (arith, l); next_fits = g.next_fits; moment_fits = g.moment_fits }) refl k
 
     module _ (l : (header s).made < object_limit) (e : fate (header s).made (object s (header s).made) ≡ loose) where
       pub coroutine-given : (f : ℕ) → K (make_coroutine s f)
@@ -119,7 +119,7 @@ module _ (W : ℕ → Option ℕ) where
           head : header u ≡ i
           head =
               let g : HeaderFits (header s) = header-fits s in
-              unfold set_calls in (header_put-header s i k.sized (record { made-fits = g.made-fits; used-fits = g.used-fits; calls-fit = omega (arith, c); next_fits = g.next_fits; moment_fits = g.moment_fits }))
+              unfold set_calls in (header_put-header s i k.sized (record { made_fits = g.made_fits; used_fits = g.used_fits; calls_fit = omega (arith, c); next_fits = g.next_fits; moment_fits = g.moment_fits }))
 
           rows : (o : ℕ) → object u o ≡ object s o
           rows o = unfold set_calls in (object_put-header s i o)
@@ -154,7 +154,7 @@ module _ (W : ℕ → Option ℕ) where
 
       by : (o : Option ℕ) → pending_external s c ≡ o → K (settle_found s o f)
       by none e = unfold settle_found in k
-      by (some o) e = unfold settle_found in (row o (omega (arith, (found-call s c o e).0, (header-fits s).made-fits)) (as_pending (object s o)) refl)
+      by (some o) e = unfold settle_found in (row o (omega (arith, (found-call s c o e).0, (header-fits s).made_fits)) (as_pending (object s o)) refl)
 
   row_fits : (s : Store) (o : ℕ) (p : PendingExternal) → as_pending (object s o) ≡ some p → AwaiterFits p.awaiter × OptionFits p.stored
   row_fits s o p e = (subst ObjectFits (pending-object (object s o) p e) (object-fits s o)).1
@@ -200,4 +200,4 @@ module _ (W : ℕ → Option ℕ) where
   complete-left s t v l f k =
       let c : ℕ = (task s t).coroutine.0 in
       completion_left W _ (task s t).awaiter v (task-fits s t).awaiter_fits f (k.slots t l)
-      (gone-given W _ t (exited t) (same-given W s c (completed (object s c)) (task-fits s t).coroutine-fits (done_reads (object s c) (row_reads (object s c) (object-fits s c))) (done-fate c (object s c)) k))
+      (gone-given W _ t (exited t) (same-given W s c (completed (object s c)) (task-fits s t).coroutine_fits (done_reads (object s c) (row_reads (object s c) (object-fits s c))) (done-fate c (object s c)) k))

@@ -43,7 +43,7 @@ use Rattle.machine_laws.specs.TestLaws.{or_left, or_right}
 use Rattle.machine_theorems.specs.Soundness.Stores.{SoundStore}
 use Rattle.machine_theorems.specs.Soundness.Exits.{runner_low, runner-runs}
 use Rattle.machine_theorems.specs.Soundness.Preserved.{waiting, await-made, complete-known}
-use Rattle.machine_theorems.specs.Soundness.Sessions.{forget-sound_store, fresh_sound_store}
+use Rattle.machine_theorems.specs.Soundness.Sessions.{forget_sound_store, fresh_sound_store}
 use Rattle.machine_sessions.specs.Waits.{said-accepted, said-refused}
 use Rattle.machine_sessions.specs.Queue.Following.{Sends, stepped, short, sends, Following, send_following, session_follows}
 use Rattle.machine_sessions.specs.Places.Told.{Frozen, co, pends, gave, broke, many, frozen}
@@ -249,8 +249,8 @@ stay_told h x u t o (inline c) r e k = tt
 
 module _ (h : List Entry) (s : Store) (w : SoundStore s) (k : Agrees h s) (g : Given (waits_for h) NoneBut NoneYet s) where
   module _ (t o : ℕ) (m : (header s).moment ≡ Moment.Running (task_id t)) (l : o < (header s).made) where
-    runs-it : running h ≡ some t
-    runs-it = k.runner (task_id t) m
+    runs_it : running h ≡ some t
+    runs_it = k.runner (task_id t) m
 
     -- with this await
     U : ℕ → Option ℕ
@@ -286,8 +286,8 @@ module _ (h : List Entry) (s : Store) (w : SoundStore s) (k : Agrees h s) (g : G
       stays-given : (a : How) → Given (waits_for h) NoneBut NoneYet y.store → (task y.store t).state ≡ TaskState.Running → StayTells (fate o (object y.store o)) a → y.control ≡ runs t a → EntryGiven h x y.store
       stays-given a q r st c =
           record {
-            given = given-free (waits_for h) (waits_for (x ∷ h)) t y.store (λ v ne. other-waits x h t v runs-it ne) (own_waits x h t o runs-it said-it ∙ goes_on) r q;
-            told = subst (ToldBy h x y.store) (sym (control-is ∙ ap (λ (z : Control). some z) c)) (stay_told h x y.store t o a runs-it said-it st);
+            given = given-free (waits_for h) (waits_for (x ∷ h)) t y.store (λ v ne. other-waits x h t v runs_it ne) (own_waits x h t o runs_it said-it ∙ goes_on) r q;
+            told = subst (ToldBy h x y.store) (sym (control-is ∙ ap (λ (z : Control). some z) c)) (stay_told h x y.store t o a runs_it said-it st);
           }
         where
           goes_on : waits_by (not (runs_task (tells x.answer).control t)) (some o) ≡ none
@@ -297,8 +297,8 @@ module _ (h : List Entry) (s : Store) (w : SoundStore s) (k : Agrees h s) (g : G
       last-is v p d = by (ℕ_discrete v t)
         where
           by : Dec (v ≡ t) → last_await (x ∷ h) v ≡ some p
-          by (yes q) = subst (λ (n : ℕ). last_await (x ∷ h) n ≡ some p) (sym q) (own_last x h t o runs-it said-it ∙ (sym U-here ∙ subst (λ (n : ℕ). U n ≡ some p) q d))
-          by (no ne) = other_last x h t v runs-it ne ∙ (waits_last h v p (sym (U-other v ne) ∙ d)).1
+          by (yes q) = subst (λ (n : ℕ). last_await (x ∷ h) n ≡ some p) (sym q) (own_last x h t o runs_it said-it ∙ (sym U-here ∙ subst (λ (n : ℕ). U n ≡ some p) q d))
+          by (no ne) = other_last x h t v runs_it ne ∙ (waits_last h v p (sym (U-other v ne) ∙ d)).1
 
       -- it blocks
       blocks-given : Given U NoneBut NoneYet y.store → TellsBy U y.store y.control → EntryGiven h x y.store
@@ -309,11 +309,11 @@ module _ (h : List Entry) (s : Store) (w : SoundStore s) (k : Agrees h s) (g : G
           }
         where
           others : (v : ℕ) → (v ≡ t → ⊥) → waits_for (x ∷ h) v ≡ U v
-          others v ne = other-waits x h t v runs-it ne ∙ sym (U-other v ne)
+          others v ne = other-waits x h t v runs_it ne ∙ sym (U-other v ne)
 
           all : runs_task (tells x.answer).control t ≡ false → (v : ℕ) → Dec (v ≡ t) → waits_for (x ∷ h) v ≡ U v
           all d v (yes z) =
-              subst (λ (n : ℕ). waits_for (x ∷ h) n ≡ U n) (sym z) (own_waits x h t o runs-it said-it ∙ (ap (λ (b : Bool). waits_by (not b) (some o)) d ∙ (waits-true ∙ sym U-here)))
+              subst (λ (n : ℕ). waits_for (x ∷ h) n ≡ U n) (sym z) (own_waits x h t o runs_it said-it ∙ (ap (λ (b : Bool). waits_by (not b) (some o)) d ∙ (waits-true ∙ sym U-here)))
             where
               waits-true : waits_by (not false) (some o) ≡ some o
               waits-true = unfold waits_by in refl
@@ -321,7 +321,7 @@ module _ (h : List Entry) (s : Store) (w : SoundStore s) (k : Agrees h s) (g : G
 
           by : (b : Bool) → runs_task (tells x.answer).control t ≡ b → Given (waits_for (x ∷ h)) NoneBut NoneYet y.store
           by true d =
-              given-free U (waits_for (x ∷ h)) t y.store others (own_waits x h t o runs-it said-it ∙ (ap (λ (b : Bool). waits_by (not b) (some o)) d ∙ (unfold waits_by in refl)))
+              given-free U (waits_for (x ∷ h)) t y.store others (own_waits x h t o runs_it said-it ∙ (ap (λ (b : Bool). waits_by (not b) (some o)) d ∙ (unfold waits_by in refl)))
               (runner-told U y.store t y.control (subst (λ (z : Option Control). runs_task z t ≡ true) control-is d) c) q
           by false d = given_as U (waits_for (x ∷ h)) y.store (λ v. all d v (ℕ_discrete v t)) q
 
@@ -332,7 +332,7 @@ module _ (h : List Entry) (s : Store) (w : SoundStore s) (k : Agrees h s) (g : G
         next = runner_low s t w m
 
         low : o < object_limit
-        low = omega (arith, l, (header-fits s).made-fits)
+        low = omega (arith, l, (header-fits s).made_fits)
 
         tlow : t < task_limit
         tlow = omega (arith, next, (header-fits s).next_fits)
@@ -357,7 +357,7 @@ module _ (h : List Entry) (s : Store) (w : SoundStore s) (k : Agrees h s) (g : G
       quiet_given h (Event.complete v) (Answer.finished v) (cleanup s) (said-none (Event.complete v) (Answer.finished v) (cleanup s) (unfold says in refl)) (λ y. unfold tells done_only in tt) (cleanup-given (waits_for h) s g)
   complete-step (suc t) v m kn =
       rw (ne_eqb (suc t) 0 (λ y. not-suc-le-zero {n = 0} (omega arith)))
-      (switch_given h (Event.complete v) (handle_task_completion s (suc t) v) (unfold says in refl) (complete-left (waits_for h) s (suc t) v (tlow (suc t) m) (value-fits (header s).made (object s) v (header-fits s).made-fits kn) g))
+      (switch_given h (Event.complete v) (handle_task_completion s (suc t) v) (unfold says in refl) (complete-left (waits_for h) s (suc t) v (tlow (suc t) m) (value-fits (header s).made (object s) v (header-fits s).made_fits kn) g))
 
   fail-step : (t n : ℕ) → (header s).moment ≡ Moment.Running (task_id t) → n < u32_limit → StepGiven h (Event.fail n) (task_fails s t (Error.Script n))
   unfolding task_fails end_main
@@ -408,7 +408,7 @@ module _ (h : List Entry) (s : Store) (w : SoundStore s) (k : Agrees h s) (g : G
       let five = pass 4 (not (value_known (header s).made (object s) v)) _ (running-rest s _ (refusal-rest s (Event.settled v) r)) in
       let seven = pass 6 (full s) _ five.1 in
       quiet_step (Event.settled v) _ _ (unfold says nothing_said in refl) (unfold tells in refl)
-      (settled-given (waits_for h) s g (not_full s seven.0) behind v (has_number s (pass 7 (no_number s) [] seven.1).0) (value-fits (header s).made (object s) v (header-fits s).made-fits (not-not (value_known (header s).made (object s) v) five.0)))
+      (settled-given (waits_for h) s g (not_full s seven.0) behind v (has_number s (pass 7 (no_number s) [] seven.1).0) (value-fits (header s).made (object s) v (header-fits s).made_fits (not-not (value_known (header s).made (object s) v) five.0)))
   accept-given (Event.gather os) i r =
       let q = (pass 6 (full s || ltb item_limit (length os) || ltb place_limit ((header s).used + length os)) [] (pass 4 _ _ (running-rest s _ (refusal-rest s (Event.gather os) r))).1).0 in
       quiet_step (Event.gather os) _ _ (unfold says in refl) (unfold tells in refl)
@@ -438,7 +438,7 @@ pub step_given : (h : List Entry) (s : Store) (e : Event) → InRange e → Soun
 step_given h s e i w k g = by (ℕ_discrete (refusal s e) 0)
   where
     by : Dec (refusal s e ≡ 0) → StepGiven h e (step s e)
-    by (yes r) = subst (StepGiven h e) (sym (accepted-step s e r)) (accept-given h (forget s) (forget-sound_store s w) (forget_agrees h s k) (forget-given (waits_for h) s g) e i (refusal-forget s e ∙ r))
+    by (yes r) = subst (StepGiven h e) (sym (accepted-step s e r)) (accept-given h (forget s) (forget_sound_store s w) (forget_agrees h s k) (forget-given (waits_for h) s g) e i (refusal-forget s e ∙ r))
     by (no ne) = subst (StepGiven h e) (sym (refused-step s e (refusal s e) refl ne)) (refused-given h (forget s) e (refusal s e) (forget-given (waits_for h) s g))
 
 -- one event more: the entry, and what it leaves

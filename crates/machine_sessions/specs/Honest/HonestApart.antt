@@ -223,7 +223,7 @@ module _ (t : ℕ) (F : ℕ → Bool) (N : ℕ → Shape) where
       its = ap (λ (x : Task). x.awaiter) (et v) ∙ (row_awaiter s v r z l (unfold restate in (task-fits s v).awaiter_fits) ∙ (unfold restate in refl))
 
       of-it : (task u v).coroutine.0 ≡ (task s v).coroutine.0
-      of-it = ap (λ (x : Task). x.coroutine.0) (et v) ∙ (coroutine_back s v r z l (unfold restate in (task-fits s v).coroutine-fits) ∙ (unfold restate in refl))
+      of-it = ap (λ (x : Task). x.coroutine.0) (et v) ∙ (coroutine_back s v r z l (unfold restate in (task-fits s v).coroutine_fits) ∙ (unfold restate in refl))
 
       by : (m : ℕ) → m < task_limit → is_live (task u m).state ≡ true → Dec (m ≡ v) → KidOf F (task u m).awaiter (N (task u m).coroutine.0)
       by m b e (yes q) =

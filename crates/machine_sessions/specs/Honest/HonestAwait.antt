@@ -225,7 +225,7 @@ module _ (h : List Entry) (s : Store) (w : SoundStore s) (k : Held h s) (ag : Ag
   awaited-made g v e = by (leb (header s).made g) refl
     where
       none-there : frozen (object s g) ≡ Frozen.unmade → ⊥
-      none-there q = subst IsMany (sym (ap frozen (awaited-object (object s g) v e) ∙ gather-frozen v.first v.count (GatherState.Awaited v.awaiter v.open-places)) ∙ q) tt
+      none-there q = subst IsMany (sym (ap frozen (awaited-object (object s g) v e) ∙ gather-frozen v.first v.count (GatherState.Awaited v.awaiter v.open_places)) ∙ q) tt
 
       by : (b : Bool) → leb (header s).made g ≡ b → g < (header s).made
       by true q = absurd (none-there (ag.behind g (leb-true (header s).made g q)))
@@ -241,7 +241,7 @@ module _ (h : List Entry) (s : Store) (w : SoundStore s) (k : Held h s) (ag : Ag
       record {
         pends = λ g e. e;
         tops = λ g v e q. absurd (not-blocked g v e q);
-        ups = λ g v p x e q f. absurd (pending-not-committed (object s p.0) f (w.facts.but.object-slots g (awaited-made g v e) (λ z. z) p.0 x.0 (awaited-by g v e ∙ q)).committed);
+        ups = λ g v p x e q f. absurd (pending-not-committed (object s p.0) f (w.facts.but.object_slots g (awaited-made g v e) (λ z. z) p.0 x.0 (awaited-by g v e ∙ q)).committed);
         kids = λ v b e. kid v b e;
       }
     where
@@ -251,13 +251,13 @@ module _ (h : List Entry) (s : Store) (w : SoundStore s) (k : Held h s) (ag : Ag
           absurd_some (sym (ap Rattle.machine.specs.Scheduler.blocked_on runs_now ∙ (unfold Rattle.machine.specs.Scheduler.blocked_on in refl)) ∙ z)
 
       below : (v : ℕ) → v < task_limit → is_live (task s v).state ≡ true → v < (header s).next
-      below v b e = live_below (spawned_for h) (coroutine_of h) (spawns h) N s v b e k.spawns-are
+      below v b e = live_below (spawned_for h) (coroutine_of h) (spawns h) N s v b e k.spawns_are
 
       kid-by : (v : ℕ) → suc v < (header s).next → is_live (task s (suc v)).state ≡ true → (a : Awaiter) → (task s (suc v)).awaiter ≡ a → T (is_slot a) → KidOf F a (N (task s (suc v)).coroutine.0)
       kid-by v b e Awaiter.Nobody q y = tt
       kid-by v b e (Awaiter.Task u) q y = (unfold is_slot in y)
       kid-by v b e (Awaiter.GatherSlot p x) q y = λ f.
-          absurd (pending-not-committed (object s p.0) f (w.facts.but.task-slots (suc v) b (subst T (sym e) tt) p.0 x.0 q).committed)
+          absurd (pending-not-committed (object s p.0) f (w.facts.but.task_slots (suc v) b (subst T (sym e) tt) p.0 x.0 q).committed)
 
       main-kid : (a : Awaiter) → T (is_nobody a) → KidOf F a (N (task s 0).coroutine.0)
       main-kid Awaiter.Nobody y = tt
@@ -291,7 +291,7 @@ module _ (h : List Entry) (s : Store) (w : SoundStore s) (k : Held h s) (ag : Ag
     -- a gather that is awaited has its places as at its making
     its_shape : (u : Store) (g : ℕ) (v : AwaitedGather) → as_awaited (object u g) ≡ some v → J u → N g ≡ Shape.many v.first v.count
     unfolding shape
-    its_shape u g v e j = sym (j.logged.spawns-are.rows g) ∙ ap shape (awaited-object (object u g) v e)
+    its_shape u g v e j = sym (j.logged.spawns_are.rows g) ∙ ap shape (awaited-object (object u g) v e)
 
     downs : (u : Store) (g i : ℕ) (v : AwaitedGather) → as_awaited (object u g) ≡ some v → i < places_of (N g) → P g → J u → Q (place u (v.first + i)).item.0
     downs u g i v e l p j = subst Q (sym (j.items_stay (v.first + i))) (by p)
@@ -322,10 +322,10 @@ module _ (h : List Entry) (s : Store) (w : SoundStore s) (k : Held h s) (ag : Ag
     state-logged u g y l j = row_logged h x N u g _ l (by (object u g) refl) j.logged
       where
         by : (z : Object) → object u g ≡ z → shape (to_object (object_words (with_state z y))) ≡ N g
-        by Object.Unmade e = unfold with_state in (ap shape (object_back Object.Unmade tt) ∙ (sym (ap shape e) ∙ j.logged.spawns-are.rows g))
-        by (Object.Coroutine f c) e = unfold with_state in (ap shape (object_back _ (subst ObjectFits e (object-fits u g))) ∙ (sym (ap shape e) ∙ j.logged.spawns-are.rows g))
-        by (Object.ExternalFuture c z) e = unfold with_state in (ap shape (object_back _ (subst ObjectFits e (object-fits u g))) ∙ (sym (ap shape e) ∙ j.logged.spawns-are.rows g))
-        by (Object.GatherFuture f n z) e = unfold with_state in (gather-shape f n y (subst ObjectFits e (object-fits u g)).0 ∙ (sym (ap shape e ∙ gather-is f n z) ∙ j.logged.spawns-are.rows g))
+        by Object.Unmade e = unfold with_state in (ap shape (object_back Object.Unmade tt) ∙ (sym (ap shape e) ∙ j.logged.spawns_are.rows g))
+        by (Object.Coroutine f c) e = unfold with_state in (ap shape (object_back _ (subst ObjectFits e (object-fits u g))) ∙ (sym (ap shape e) ∙ j.logged.spawns_are.rows g))
+        by (Object.ExternalFuture c z) e = unfold with_state in (ap shape (object_back _ (subst ObjectFits e (object-fits u g))) ∙ (sym (ap shape e) ∙ j.logged.spawns_are.rows g))
+        by (Object.GatherFuture f n z) e = unfold with_state in (gather-shape f n y (subst ObjectFits e (object-fits u g)).0 ∙ (sym (ap shape e ∙ gather-is f n z) ∙ j.logged.spawns_are.rows g))
           where
             gather-is : (f n : ℕ) (z : GatherState) → shape (Object.GatherFuture f n z) ≡ Shape.many f n
             gather-is f n z = unfold shape in refl
@@ -333,20 +333,20 @@ module _ (h : List Entry) (s : Store) (w : SoundStore s) (k : Held h s) (ag : Ag
     -- a place is filled
     item_back : (u : Store) (p : ℕ) (r : Place) → Sized u → p < place_limit → r.item.0 < object_limit → (place (put_place u p r) p).item.0 ≡ r.item.0
     unfolding place put_place place_at place_put
-    item_back u p r z l f = ap (λ (y : List ℕ). (to_place y).item.0) (row-put_at place_codec u.places (place_start p) r (omega (arith, z.places-sized, l))) ∙ mod-eq_of_lt f
+    item_back u p r z l f = ap (λ (y : List ℕ). (to_place y).item.0) (row-put_at place_codec u.places (place_start p) r (omega (arith, z.places_sized, l))) ∙ mod-eq_of_lt f
 
     fills-kept : (u : Store) (g i : ℕ) (v : AwaitedGather) (a : Value) → as_awaited (object u g) ≡ some v → i < places_of (N g) → J u → J (fill_place u v i a)
     unfolding fill_place
     fills-kept u g i v a e l j =
         record {
           logged = record {
-            tracked = (tracked_commits (lives h) (stays_blocked h)).value-put u p a j.logged.tracked;
-            spawns-are =
+            tracked = (tracked_commits (lives h) (stays_blocked h)).value_put u p a j.logged.tracked;
+            spawns_are =
                 spawned_like (spawned_for h) (coroutine_of h) (spawns h) N u (put_place u p r) (sized-put_place u p r (sized_of u j)) (same-spawns (spawned_for h) u _ (unfold put_place in refl)) (unfold header put_place in refl)
-                (λ y. unfold object put_place in (unfold object in (j.logged.spawns-are.rows y))) (λ y. unfold task put_place in refl) j.logged.spawns-are;
-            log-right = unfold put_place in j.logged.log-right;
+                (λ y. unfold object put_place in (unfold object in (j.logged.spawns_are.rows y))) (λ y. unfold task put_place in refl) j.logged.spawns_are;
+            log_right = unfold put_place in j.logged.log_right;
           };
-          row = (row_commits t (task s t) (Moment.Running (task_id t))).value-put u p a j.row;
+          row = (row_commits t (task s t) (Moment.Running (task_id t))).value_put u p a j.row;
           items_stay = λ y. by y (ℕ_discrete y p);
           apart = apart_like t F N u (put_place u p r) (λ y. unfold object put_place in refl) (λ y. unfold task put_place in refl) j.apart;
           quiet = unfold put_place in j.quiet;
@@ -362,7 +362,7 @@ module _ (h : List Entry) (s : Store) (w : SoundStore s) (k : Held h s) (ag : Ag
         room = omega (arith, (awaited-fits u g v e).0.within, l, ap places_of (its_shape u g v e j))
 
         by : (y : ℕ) → Dec (y ≡ p) → (place (put_place u p r) y).item.0 ≡ (place s y).item.0
-        by y (yes q) = subst (λ (n : ℕ). (place (put_place u p r) n).item.0 ≡ (place s n).item.0) (sym q) (item_back u p r (sized_of u j) room (place-fits u p).item-fits ∙ j.items_stay p)
+        by y (yes q) = subst (λ (n : ℕ). (place (put_place u p r) n).item.0 ≡ (place s n).item.0) (sym q) (item_back u p r (sized_of u j) room (place-fits u p).item_fits ∙ j.items_stay p)
         by y (no ne) = ap (λ (z : Place). z.item.0) (place_put-other u p y r ne) ∙ j.items_stay y
 
     -- a task is spawned: nobody was spawned for its coroutine before
@@ -375,20 +375,20 @@ module _ (h : List Entry) (s : Store) (w : SoundStore s) (k : Held h s) (ag : Ag
           below = q;
           function = f;
           coroutine = k.origins.made_by c f is_new;
-          new = k.origins.named-is c ∙ ap is_used is_new;
+          new = k.origins.named_is c ∙ ap is_used is_new;
           first = λ v y. nobody v y;
-          number = j.logged.spawns-are.next;
+          number = j.logged.spawns_are.next;
         }
       where
         is_new : N c ≡ Shape.new f
-        is_new = sym (j.logged.spawns-are.rows c) ∙ ap shape e
+        is_new = sym (j.logged.spawns_are.rows c) ∙ ap shape e
 
         nobody : (v : ℕ) → spawned_by (spawned_for h v) u.log v ≡ some c → ⊥
-        nobody zero y = absurd_some (sym j.logged.spawns-are.not-main ∙ y)
+        nobody zero y = absurd_some (sym j.logged.spawns_are.not_main ∙ y)
         nobody (suc v) y =
-            let lv : live u (suc v) ≡ true = j.logged.spawns-are.first (suc v) c f y is_new in
+            let lv : live u (suc v) ≡ true = j.logged.spawns_are.first (suc v) c f y is_new in
             let b = live_low u (suc v) lv in
-            let its : (task u (suc v)).coroutine.0 ≡ c = some-injective _ c (sym (j.logged.spawns-are.tasks v b.0 b.1).origin ∙ y) in
+            let its : (task u (suc v)).coroutine.0 ≡ c = some-injective _ c (sym (j.logged.spawns_are.tasks v b.0 b.1).origin ∙ y) in
             true≢false (sym (drives u c (suc v) b.1 its) ∙ none_drives u c n (suc v) (omega arith) b.0)
 
     spawns-kept : (u : Store) (c g f : ℕ) → (header u).next < task_limit → c < object_limit → object u c ≡ Object.Coroutine f CoroutineState.New → task_of u c ≡ none → Q c → J u → J (spawn_as u (header u).next c g)
@@ -397,8 +397,8 @@ module _ (h : List Entry) (s : Store) (w : SoundStore s) (k : Held h s) (ag : Ag
         record {
           logged = record {
             tracked = (tracked_commits (lives h) (stays_blocked h)).spawns u c g l j.logged.tracked;
-            spawns-are = spawn-spawned (spawned_for h) (coroutine_of h) (spawns h) N u c g f l lc is_new j.logged.spawns-are;
-            log-right = subst (LogRight h x) (sym (spawn-log u (header u).next c g)) (unfold LogRight in (spawn-honest u c f e n q j, j.logged.log-right));
+            spawns_are = spawn-spawned (spawned_for h) (coroutine_of h) (spawns h) N u c g f l lc is_new j.logged.spawns_are;
+            log_right = subst (LogRight h x) (sym (spawn-log u (header u).next c g)) (unfold LogRight in (spawn-honest u c f e n q j, j.logged.log_right));
           };
           row = (row_commits t (task s t) (Moment.Running (task_id t))).spawns u c g l j.row;
           items_stay = λ p. same_place p ∙ j.items_stay p;
@@ -407,7 +407,7 @@ module _ (h : List Entry) (s : Store) (w : SoundStore s) (k : Held h s) (ag : Ag
         }
       where
         is_new : N c ≡ Shape.new f
-        is_new = sym (j.logged.spawns-are.rows c) ∙ ap shape e
+        is_new = sym (j.logged.spawns_are.rows c) ∙ ap shape e
 
         same_place : (p : ℕ) → (place (spawn_as u (header u).next c g) p).item.0 ≡ (place u p).item.0
         same_place p = unfold spawn_as Rattle.machine.specs.Scheduler.push_ready add_log put_queue Rattle.machine.specs.Store.set_next Rattle.machine.specs.Store.put_header put_task place in refl
@@ -420,12 +420,12 @@ module _ (h : List Entry) (s : Store) (w : SoundStore s) (k : Held h s) (ag : Ag
     unfolding set_gather
     committing =
         record {
-          counts = λ u g j. count-shape (object u g) ∙ ap places_of (j.logged.spawns-are.rows g);
+          counts = λ u g j. count-shape (object u g) ∙ ap places_of (j.logged.spawns_are.rows g);
           down = downs;
           nest = λ c q. inr q;
           takes = λ u y c r a l e j.
               object-kept u y _ (subst (λ (z : Object). Turns z (Object.ExternalFuture c (ExternalFutureState.Pending a r))) (sym e) (takes c r a)) l
-              (external_logged h x N u y _ c l (sym (j.logged.spawns-are.rows y) ∙ ap-shape u y c _ e) j.logged) (external_apart t F N u y c _ (sized_of u j) l j.apart) j;
+              (external_logged h x N u y _ c l (sym (j.logged.spawns_are.rows y) ∙ ap-shape u y c _ e) j.logged) (external_apart t F N u y c _ (sized_of u j) l j.apart) j;
           spawns = spawns-kept;
           fills = fills-kept;
           widens = λ u g n v l e j.
@@ -450,7 +450,7 @@ module _ (h : List Entry) (s : Store) (w : SoundStore s) (k : Held h s) (ag : Ag
 
     blocks-grow : Grows G
     unfolding blocks_in
-    blocks-grow = record { by-reached = λ l v e. e; by-exited = λ l v e. e }
+    blocks-grow = record { by_reached = λ l v e. e; by_exited = λ l v e. e }
 
     wakes-kept : (u : Store) (v : ℕ) (y : TaskState) → v < task_limit → (v ≡ t → ⊥) → is_blocked (task u v).state ≡ true → is_ready y ≡ true → is_unstarted y ≡ false → K u → K (add_log (make_ready u v y) (reached v))
     wakes-kept u v y l ne b r n j =
@@ -470,9 +470,9 @@ module _ (h : List Entry) (s : Store) (w : SoundStore s) (k : Held h s) (ag : Ag
                 apart = goes-apart t F N u g v y j.logged.tracked.sized l e go j.apart;
                 stuck = ap (λ (z : Task). is_blocked z.state) (row-task u g _ t) ∙ j.stuck;
               };
-          values-put = λ u ps e j.
+          values_put = λ u ps e j.
               record {
-                logged = (logged_delivers h x N).values-put u ps e j.logged;
+                logged = (logged_delivers h x N).values_put u ps e j.logged;
                 apart = apart_like t F N u (put_places u ps) (λ y. unfold object put_places in refl) (λ y. unfold task put_places in refl) j.apart;
                 stuck = unfold task put_places in (unfold task in j.stuck);
               };
@@ -489,7 +489,7 @@ module _ (h : List Entry) (s : Store) (w : SoundStore s) (k : Held h s) (ag : Ag
                 apart = apart_like t F N u (put_queue u q) (λ y. unfold object put_queue in refl) (λ y. unfold task put_queue in refl) j.apart;
                 stuck = unfold task put_queue in (unfold task in j.stuck);
               };
-          sent-to = λ u v l e n j. kid_away t F N (task u v).awaiter (N (task u v).coroutine.0) (reuse h x N k.origins u v l e n j.logged).1 (j.apart.kids v l (ap is_live e));
+          sent_to = λ u v l e n j. kid_away t F N (task u v).awaiter (N (task u v).coroutine.0) (reuse h x N k.origins u v l e n j.logged).1 (j.apart.kids v l (ap is_live e));
           exits = λ u v l e n j.
               record {
                 logged = (logged_switching h x N k.origins).exits u v l e n j.logged;
@@ -539,10 +539,10 @@ module _ (h : List Entry) (s : Store) (w : SoundStore s) (k : Held h s) (ag : Ag
         lg =
             record {
               tracked = blocks_tracked (lives h) (stays_blocked h) u t o (live_of u j) j.logged.tracked;
-              spawns-are =
+              spawns_are =
                   state_spawned (spawned_for h) (coroutine_of h) (spawns h) N u t y b low (ap is_live (row_of u j)) (ap is_unstarted (row_of u j)) refl refl (sized-add_log _ (blocked t) (sized-set_state u t y (sized_of u j)))
-                  (blocked-spawns (spawned_for h) u b t log_is) (unfold add_log set_state put_task header in refl) same_object same-task j.logged.spawns-are;
-              log-right = subst (LogRight h x) (sym log_is) (unfold LogRight in ((awaits-it, rn), j.logged.log-right));
+                  (blocked-spawns (spawned_for h) u b t log_is) (unfold add_log set_state put_task header in refl) same_object same-task j.logged.spawns_are;
+              log_right = subst (LogRight h x) (sym log_is) (unfold LogRight in ((awaits-it, rn), j.logged.log_right));
             }
 
     at_first : J s
@@ -552,7 +552,7 @@ module _ (h : List Entry) (s : Store) (w : SoundStore s) (k : Held h s) (ag : Ag
           row = record { sized = w.memory.sized; low = runner_low s t w m; row = refl; moment = m };
           items_stay = λ p. refl;
           apart = apart-now;
-          quiet = ap (λ (l : List LogEntry). blocks_in l t) k.empty-log ∙ (unfold blocks_in in refl);
+          quiet = ap (λ (l : List LogEntry). blocks_in l t) k.empty_log ∙ (unfold blocks_in in refl);
         }
 
     -- ---- how the await ends
@@ -566,7 +566,7 @@ module _ (h : List Entry) (s : Store) (w : SoundStore s) (k : Held h s) (ag : Ag
       is_made e = subst (λ (z : Object). T (object_in_range (header s) (places_below (object s) o) z)) e (w.facts.but.objects o made)
 
       o-low : o < object_limit
-      o-low = omega (arith, made, (header-fits s).made-fits)
+      o-low = omega (arith, made, (header-fits s).made_fits)
 
       ends : AwaitEnds J After t o y
       ends =

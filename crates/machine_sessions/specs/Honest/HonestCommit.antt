@@ -143,7 +143,7 @@ module _ (K : Store → Type 0) (P Q : ℕ → Type 0) (count : ℕ → ℕ) (ke
       by none e h = k
       by (some w) e h =
           let o : ℕ = (place s (w.first + j)).item.0 in
-          let low : o < object_limit = (place-fits s (w.first + j)).item-fits in
+          let low : o < object_limit = (place-fits s (w.first + j)).item_fits in
           let q : Q o = kept.down s g j w e (omega (arith, b)) p k in
           put-walk g w j o (λ x. step_items m x g (j + 1)) h l low q (omega (arith, b)) s (item s g w o) e k (item-walk s g w o low e q k)
 
@@ -153,7 +153,7 @@ module _ (K : Store → Type 0) (P Q : ℕ → Type 0) (count : ℕ → ℕ) (ke
     where
       by : (a : Option AwaitedGather) → K (settle_as s g a).store
       by none = unfold settle_as in k
-      by (some w) = unfold settle_as in (pick_has (λ (r : Polled). K r.store) (eqb w.open-places 0) (kept.closes s g GatherState.Completed l as_completed k) k)
+      by (some w) = unfold settle_as in (pick_has (λ (r : Polled). K r.store) (eqb w.open_places 0) (kept.closes s g GatherState.Completed l as_completed k) k)
 
   -- a gather on the stack, and its place that is stepped next
   abbrev OnStack : Frame → Type 0

@@ -48,10 +48,10 @@ ControlLeft h x l (some (waits cs)) = Unit {0}
 
 -- what an event leaves
 pub record Left (h : List Entry) (x : Entry) (u : Store) : Type 0 where
-  pub spawns-are : Spawned (spawned_for (x ∷ h)) (coroutine_of (x ∷ h)) (spawns (x ∷ h)) (λ o. shape (object u o)) (forget u)
+  pub spawns_are : Spawned (spawned_for (x ∷ h)) (coroutine_of (x ∷ h)) (spawns (x ∷ h)) (λ o. shape (object u o)) (forget u)
   pub origins : Origins (x ∷ h) (λ o. shape (object u o))
-  pub log-right : LogRight h x u.log
-  pub control-left : ControlLeft h x u.log (tells x.answer).control
+  pub log_right : LogRight h x u.log
+  pub control_left : ControlLeft h x u.log (tells x.answer).control
 
 -- ---- one entry later
 
@@ -90,13 +90,13 @@ left_of : (h : List Entry) (x : Entry) (u : Store) (c : Option Control) → Leav
     → Left h x u
 left_of h x u c e k nm mk l ct =
     record {
-      spawns-are = spawns-later h x u c _ e.happens e.controls k;
+      spawns_are = spawns-later h x u c _ e.happens e.controls k;
       origins = record {
-        named-is = λ o. unfold named in (ap (λ (y : Option Control). names_by y o || named h o) e.controls ∙ nm o);
+        named_is = λ o. unfold named in (ap (λ (y : Option Control). names_by y o || named h o) e.controls ∙ nm o);
         made_by = λ o f q. subst (λ (m : Option Making). MakesCoroutine m f) (sym (none_made x h o e.makes_none)) (makes_later x (making h o) f (mk o f q));
       };
-      log-right = l;
-      control-left = subst (ControlLeft h x u.log) (sym e.controls) ct;
+      log_right = l;
+      control_left = subst (ControlLeft h x u.log) (sym e.controls) ct;
     }
 
 -- an answer that starts nothing and runs nothing inline
@@ -159,10 +159,10 @@ module _ (h : List Entry) (x : Entry) (N : ℕ → Shape) (origins : Origins h N
   moved_logged s m f k =
       record {
         tracked = (tracked_closed (lives h) (stays_blocked h)).moved s m f k.tracked;
-        spawns-are =
+        spawns_are =
             spawned_like S C (spawns h) N s (set_moment s m) (sized-set_moment s m k.tracked.sized) (same-spawns S s _ (moment_log s m)) (moment_head s m k.tracked.sized f).0
-            (λ o. ap shape (moment_row s m o) ∙ k.spawns-are.rows o) (λ t. moment_task s m t) k.spawns-are;
-        log-right = subst (LogRight h x) (sym (moment_log s m)) k.log-right;
+            (λ o. ap shape (moment_row s m o) ∙ k.spawns_are.rows o) (λ t. moment_task s m t) k.spawns_are;
+        log_right = subst (LogRight h x) (sym (moment_log s m)) k.log_right;
       }
 
   -- a woken task runs
@@ -170,18 +170,18 @@ module _ (h : List Entry) (x : Entry) (N : ℕ → Shape) (origins : Origins h N
   runs-logged s t l r lv n k =
       record {
         tracked = (tracked_closed (lives h) (stays_blocked h)).runs_on s t l r k.tracked;
-        spawns-are =
+        spawns_are =
             state_spawned S C (spawns h) N s t TaskState.Running (set_state s t TaskState.Running) l lv n refl refl (sized-set_state s t TaskState.Running k.tracked.sized) (same-spawns S s _ (state_log s t TaskState.Running))
-            (ap (λ (y : Header). y.next) (state_header s t TaskState.Running)) (λ o. state_object s t TaskState.Running o) (λ v. state_row s t TaskState.Running v) k.spawns-are;
-        log-right = subst (LogRight h x) (sym (state_log s t TaskState.Running)) k.log-right;
+            (ap (λ (y : Header). y.next) (state_header s t TaskState.Running)) (λ o. state_object s t TaskState.Running o) (λ v. state_row s t TaskState.Running v) k.spawns_are;
+        log_right = subst (LogRight h x) (sym (state_log s t TaskState.Running)) k.log_right;
       }
 
   -- nothing starts
   pub logged_left : (u : Store) (c : Option Control) → Leaves x c u → Plain c → ControlLeft h x u.log c → L u → Left h x u
   logged_left u c e p ct k =
-      left_of h x u c e (spawned_as S S C (λ t. started_by c t (C t)) (spawns h) (spawns h) N (λ o. shape (object u o)) u (λ t. refl) (λ t. p.begins t (C t)) refl k.spawns-are.rows k.spawns-are)
-      (λ o. ap (λ (b : Bool). b || named h o) (p.names o) ∙ (origins.named-is o ∙ ap is_used (sym (k.spawns-are.rows o))))
-      (λ o f q. origins.made_by o f (sym (k.spawns-are.rows o) ∙ q)) k.log-right ct
+      left_of h x u c e (spawned_as S S C (λ t. started_by c t (C t)) (spawns h) (spawns h) N (λ o. shape (object u o)) u (λ t. refl) (λ t. p.begins t (C t)) refl k.spawns_are.rows k.spawns_are)
+      (λ o. ap (λ (b : Bool). b || named h o) (p.names o) ∙ (origins.named_is o ∙ ap is_used (sym (k.spawns_are.rows o))))
+      (λ o f q. origins.made_by o f (sym (k.spawns_are.rows o) ∙ q)) k.log_right ct
 
   -- a task that is live and not blocked has control
   pub control-plain : (u : Store) (t : ℕ) (a : How) → live u t ≡ true → is_blocked (task u t).state ≡ false → StartTold h x u.log t a → L u → ControlLeft h x u.log (some (runs t a))
@@ -199,17 +199,17 @@ module _ (h : List Entry) (x : Entry) (N : ℕ → Shape) (origins : Origins h N
 
     pub was-new : N c ≡ new f
     unfolding shape
-    was-new = sym (k.spawns-are.rows c) ∙ ap shape row
+    was-new = sym (k.spawns_are.rows c) ∙ ap shape row
 
     used-spawns : Spawned S C (spawns h) (λ o. shape (object w o)) w
-    used-spawns = use_spawned S C (spawns h) N u c f l fits was-new k.spawns-are
+    used-spawns = use_spawned S C (spawns h) N u c f l fits was-new k.spawns_are
 
     here : shape (object w c) ≡ used f
     unfolding shape
     here = ap shape (object_put-object u c (Object.Coroutine f CoroutineState.Running) k.tracked.sized l fits)
 
     there : (o : ℕ) → (o ≡ c → ⊥) → shape (object w o) ≡ N o
-    there o ne = ap shape (object_put-other u c o (Object.Coroutine f CoroutineState.Running) ne) ∙ k.spawns-are.rows o
+    there o ne = ap shape (object_put-other u c o (Object.Coroutine f CoroutineState.Running) ne) ∙ k.spawns_are.rows o
 
     -- by an answer that names it
     used-named : (d : Option Control) → ((o : ℕ) → names_by d o ≡ eqb c o) → (o : ℕ) → (names_by d o || named h o) ≡ is_used (shape (object w o))
@@ -217,7 +217,7 @@ module _ (h : List Entry) (x : Entry) (N : ℕ → Shape) (origins : Origins h N
       where
         by : Dec (o ≡ c) → (eqb c o || named h o) ≡ is_used (shape (object w o))
         by (yes q) = ap (λ (b : Bool). b || named h o) (eq-eqb c o (sym q)) ∙ sym (ap is_used (subst (λ (m : ℕ). shape (object w m) ≡ used f) (sym q) here))
-        by (no ne) = ap (λ (b : Bool). b || named h o) (ne_eqb c o (λ q. ne (sym q))) ∙ (origins.named-is o ∙ ap is_used (sym (there o ne)))
+        by (no ne) = ap (λ (b : Bool). b || named h o) (ne_eqb c o (λ q. ne (sym q))) ∙ (origins.named_is o ∙ ap is_used (sym (there o ne)))
 
     used-made : (o g : ℕ) → shape (object w o) ≡ new g → MakesCoroutine (making h o) g
     used-made o g q = by (ℕ_discrete o c)
@@ -230,14 +230,14 @@ module _ (h : List Entry) (x : Entry) (N : ℕ → Shape) (origins : Origins h N
     used-log = row-log u c (Object.Coroutine f CoroutineState.Running)
 
     pub unnamed : named h c ≡ false
-    unnamed = origins.named-is c ∙ ap is_used was-new
+    unnamed = origins.named_is c ∙ ap is_used was-new
 
     -- it runs inline, by task t
     pub inline-left : (t : ℕ) → Leaves x (some (runs t (inline c))) (put_object u c (Object.Coroutine f CoroutineState.Running)) → live u t ≡ true → is_blocked (task u t).state ≡ false → (said x).awaits ≡ some c → running h ≡ some t
         → Left h x (put_object u c (Object.Coroutine f CoroutineState.Running))
     inline-left t e lv b aw rn =
         left_of h x w (some (runs t (inline c))) e (spawned_as S S C _ (spawns h) (spawns h) _ _ w (λ v. refl) (λ v. unfold started_by in refl) refl (λ o. refl) used-spawns)
-        (used-named (some (runs t (inline c))) (λ o. unfold names_by in refl)) used-made (subst (LogRight h x) (sym used-log) k.log-right)
+        (used-named (some (runs t (inline c))) (λ o. unfold names_by in refl)) used-made (subst (LogRight h x) (sym used-log) k.log_right)
         (subst (λ (m : List LogEntry). ControlLeft h x m (some (runs t (inline c)))) (sym used-log) (control-plain u t (inline c) lv b (unfold StartTold in (aw, rn, unnamed)) k))
 
     -- it starts, as the coroutine of task t
@@ -282,10 +282,10 @@ module _ (h : List Entry) (x : Entry) (N : ℕ → Shape) (origins : Origins h N
       its-row = by t refl
         where
           by : (y : ℕ) → t ≡ y → TaskFrom S C N u.log t (task u t)
-          by zero q = absurd (true≢false (sym (ap is_unstarted un) ∙ subst (λ (m : ℕ). is_unstarted (task u m).state ≡ false) (sym q) k.spawns-are.main))
+          by zero q = absurd (true≢false (sym (ap is_unstarted un) ∙ subst (λ (m : ℕ). is_unstarted (task u m).state ≡ false) (sym q) k.spawns_are.main))
           by (suc y) q =
               subst (λ (m : ℕ). TaskFrom S C N u.log m (task u m)) (sym q)
-              (k.spawns-are.tasks y (subst (λ (m : ℕ). m < (header u).next) q (live_below S C (spawns h) N u t low lv k.spawns-are)) (subst (λ (m : ℕ). is_live (task u m).state ≡ true) q lv))
+              (k.spawns_are.tasks y (subst (λ (m : ℕ). m < (header u).next) q (live_below S C (spawns h) N u t low lv k.spawns_are)) (subst (λ (m : ℕ). is_live (task u m).state ≡ true) q lv))
 
       told : StartTold h x u.log t (start c f)
       unfolding StartTold
@@ -294,7 +294,7 @@ module _ (h : List Entry) (x : Entry) (N : ℕ → Shape) (origins : Origins h N
       start_left : Leaves x how z → Left h x z
       start_left e =
           left_of h x z how e moved-spawns (λ o. used-named how (λ y. unfold names_by in refl) o ∙ ap is_used (sym (final-object o))) (λ o g q. used-made o g (sym (final-object o) ∙ q))
-          (subst (LogRight h x) (sym final-log) k.log-right)
+          (subst (LogRight h x) (sym final-log) k.log_right)
           (subst (λ (m : List LogEntry). ControlLeft h x m how) (sym final-log) (control-plain u t (start c f) (is_live_now h x N u t low lv k) (ap is_blocked un) told k))
 
   -- ---- a switch
@@ -310,7 +310,7 @@ module _ (h : List Entry) (x : Entry) (N : ℕ → Shape) (origins : Origins h N
   ends-left y (started u t f l k un nw e) = subst EndLeft (sym e) by
     where
       by : EndLeft (run (put_object u (task u t).coroutine.0 (Object.Coroutine f CoroutineState.Running)) t (start (task u t).coroutine.0 f))
-      by = unfold run in (start_left u (task u t).coroutine.0 f (task-fits u t).coroutine-fits (new-object (object u (task u t).coroutine.0) f nw) k t l un refl)
+      by = unfold run in (start_left u (task u t).coroutine.0 f (task-fits u t).coroutine_fits (new-object (object u (task u t).coroutine.0) f nw) k t l un refl)
   ends-left y (woke u t v l k st e) = subst EndLeft (sym e) by
     where
       by : EndLeft (run u t (value v))

@@ -32,7 +32,7 @@ use Rattle.machine_laws.specs.MachineLaws.{accepted-step, refused-step}
 use Rattle.machine_laws.specs.SoundLaws.{refusal-forget}
 use Rattle.machine_laws.specs.StoreLaws.{sized-forget, object_put-header, task_put-other}
 use Rattle.machine_theorems.specs.Soundness.Stores.{SoundStore, sound_store_sound}
-use Rattle.machine_theorems.specs.Soundness.Sessions.{forget-sound_store, fresh_sound_store}
+use Rattle.machine_theorems.specs.Soundness.Sessions.{forget_sound_store, fresh_sound_store}
 use Rattle.machine_sessions.specs.Queue.Tracked.{Tracked}
 use Rattle.machine_sessions.specs.Queue.Following.{accept_accepts, Sends, stepped, short, sends, Following, send_following, session_follows}
 use Rattle.machine_sessions.specs.Waits.{said-refused}
@@ -78,15 +78,15 @@ module _ (h : List Entry) (e : Event) (n : ℕ) (u : Store) where
   refused_logged =
       record {
         log = subst (LogHonest h x) (sym nothing-happens) (unfold LogHonest in tt);
-        blocks = λ t d. absurd (no-await d);
+        blocks = λ t d. absurd (no_await d);
         exits = λ t d f. absurd (no_end f);
         ends = λ t d f. absurd (no_end f);
         removes = λ t d f. absurd (true≢false (sym f ∙ not-accepted));
         control = subst (ControlLeft h x x.happened) (sym nobody) (unfold ControlLeft in tt);
       }
     where
-      no-await : is_none (said x).awaits ≡ false → ⊥
-      no-await d = true≢false (none_said ∙ (sym (ap (λ (y : Says). is_none y.awaits) says_nothing) ∙ d))
+      no_await : is_none (said x).awaits ≡ false → ⊥
+      no_await d = true≢false (none_said ∙ (sym (ap (λ (y : Says). is_none y.awaits) says_nothing) ∙ d))
         where
           none_said : true ≡ is_none nothing_said.awaits
           none_said = unfold nothing_said is_none in refl
@@ -98,11 +98,11 @@ module _ (h : List Entry) (e : Event) (n : ℕ) (u : Store) where
   unfolding forget
   refused-kept k =
       record {
-        spawns-are =
+        spawns_are =
             spawns-later h x (forget u) none (λ o. shape (object u o)) nothing-happens nobody
-            (spawned_as (spawned_for h) (spawned_for h) (coroutine_of h) (λ t. started_by none t (coroutine_of h t)) (spawns h) (spawns h) _ _ (forget u) (λ t. refl) (λ t. none-plain.begins t (coroutine_of h t)) refl (λ o. refl) k.spawns-are);
+            (spawned_as (spawned_for h) (spawned_for h) (coroutine_of h) (λ t. started_by none t (coroutine_of h t)) (spawns h) (spawns h) _ _ (forget u) (λ t. refl) (λ t. none-plain.begins t (coroutine_of h t)) refl (λ o. refl) k.spawns_are);
         origins = record {
-          named-is = λ o. named-then o ∙ k.origins.named-is o;
+          named_is = λ o. named-then o ∙ k.origins.named_is o;
           made_by = λ o f q. subst (λ (m : Option Making). MakesCoroutine m f) (sym (none_made x h o makes_none)) (makes_later x (making h o) f (k.origins.made_by o f q));
         };
         idle = k.idle;
@@ -122,7 +122,7 @@ forget-idle s k =
 
 forget-kept : (h : List Entry) (s : Store) → Kept h s → Kept h (forget s)
 unfolding forget object
-forget-kept h s k = record { spawns-are = k.spawns-are; origins = k.origins; idle = unfold forget in (forget-idle s k.idle) }
+forget-kept h s k = record { spawns_are = k.spawns_are; origins = k.origins; idle = unfold forget in (forget-idle s k.idle) }
 
 forget_twice : (s : Store) → forget (forget s) ≡ forget s
 unfolding forget
@@ -138,7 +138,7 @@ step-stepped h s e w tr ag i k = by (ℕ_discrete (refusal s e) 0)
     by : Dec (refusal s e ≡ 0) → Stepped h e (step s e)
     by (yes r) =
         subst (Stepped h e) (sym (accepted-step s e r))
-        (accept-stepped h (forget s) (forget-sound_store s w) tr (forget_agrees h s ag) (forget_twice s) (λ on. forget-kept h s (k (sym (ap is_ended (forget_moment s)) ∙ on))) e i (refusal-forget s e ∙ r))
+        (accept-stepped h (forget s) (forget_sound_store s w) tr (forget_agrees h s ag) (forget_twice s) (λ on. forget-kept h s (k (sym (ap is_ended (forget_moment s)) ∙ on))) e i (refusal-forget s e ∙ r))
     by (no ne) =
         subst (Stepped h e) (sym (refused-step s e (refusal s e) refl ne))
         (record { entry = refused_logged h e (refusal s e) (forget s); after = λ on. refused-kept h e (refusal s e) (forget s) (forget-kept h s (k (sym (ap is_ended (forget_moment s)) ∙ on))) })
@@ -239,19 +239,19 @@ fresh_kept : Kept [] fresh
 unfolding forget spawned_for coroutine_of spawns spawns_in spawned_by named making MakesCoroutine object task header live
 fresh_kept =
     record {
-      spawns-are = record {
+      spawns_are = record {
         sized = sized-forget fresh fresh_sound_store.memory.sized;
         rows = λ o. refl;
         next = fresh-head.0;
         unused = λ t l b. ap is_live (fresh-task t (λ q. not-suc-le-zero {n = 0} (omega (arith, b, fresh-head.0))));
         unborn = λ t b. refl;
         main = fresh_main.2;
-        not-main = refl;
+        not_main = refl;
         tasks = λ t b l. absurd (not-suc-le-zero {n = 0} (omega (arith, b, fresh-head.0)));
         known = λ t c q. absurd_some q;
         first = λ t c f q w. absurd_some q;
       };
-      origins = record { named-is = λ c. sym (ap is_used (fresh-shape c)); made_by = λ c f q. not_new _ f (fresh-shape c) q };
+      origins = record { named_is = λ c. sym (ap is_used (fresh-shape c)); made_by = λ c f q. not_new _ f (fresh-shape c) q };
       idle = record {
         stood = record { main = fresh_main.0; stands = λ t l r n. absurd (true≢false (sym r ∙ subst (λ (v : ℕ). is_ready (task fresh v).state ≡ false) (sym (only t l)) fresh_main.1)) };
         begun = λ m. not-waiting (header fresh).moment fresh-head.1 m;
@@ -357,7 +357,7 @@ pub state_honest_from : (es : List Sent) → AllSentInRange es
 state_honest_from es i b =
     let f : Following (session es) = session_follows es i in
     record {
-      blocked-is = b;
+      blocked_is = b;
       dead = λ t d. dead_refused (session es).store t f.whole (sym (live_words (session es) f t) ∙ d);
       alive = λ t d. live-not-refused (session es).store t f.whole (sym (live_words (session es) f t) ∙ d);
     }

@@ -47,8 +47,8 @@ use Rattle.machine_sessions.specs.Honest.HonestEnds.{Left, Leaves, none-plain, C
 -- ---- K, and what is known of the log for good
 
 pub record Grows (G : List LogEntry → Type 0) : Type 0 where
-  pub by-reached : (l : List LogEntry) (t : ℕ) → G l → G (reached t ∷ l)
-  pub by-exited : (l : List LogEntry) (t : ℕ) → G l → G (exited t ∷ l)
+  pub by_reached : (l : List LogEntry) (t : ℕ) → G l → G (reached t ∷ l)
+  pub by_exited : (l : List LogEntry) (t : ℕ) → G l → G (exited t ∷ l)
 
 module _ (K : Store → Type 0) (A : Awaiter → Type 0) (G : List LogEntry → Type 0) (grows : Grows G) where
   abbrev pub With : Store → Type 0
@@ -59,8 +59,8 @@ module _ (K : Store → Type 0) (A : Awaiter → Type 0) (G : List LogEntry → 
       record {
         sized = λ s k. d.sized s k.0;
         row = λ s g w y l e go k. (d.row s g w y l e go k.0, subst G (sym (row-log s g _)) k.1);
-        values-put = λ s ps e k. (d.values-put s ps e k.0, unfold Rattle.machine.specs.Store.put_places in k.1);
-        wakes = λ s t y l a b r n k. (d.wakes s t y l a b r n k.0, subst G (sym (wakes-log s t.0 y)) (grows.by-reached s.log t.0 k.1));
+        values_put = λ s ps e k. (d.values_put s ps e k.0, unfold Rattle.machine.specs.Store.put_places in k.1);
+        wakes = λ s t y l a b r n k. (d.wakes s t y l a b r n k.0, subst G (sym (wakes-log s t.0 y)) (grows.by_reached s.log t.0 k.1));
         onward = λ s g x w e a k. d.onward s g x w e a k.0;
       }
 
@@ -68,8 +68,8 @@ module _ (K : Store → Type 0) (A : Awaiter → Type 0) (G : List LogEntry → 
   with_switching d =
       record {
         queued = λ s q k. (d.queued s q k.0, unfold put_queue in k.1);
-        sent-to = λ s t l e n k. d.sent-to s t l e n k.0;
-        exits = λ s t l e n k. (d.exits s t l e n k.0, subst G (sym (gone_log s t (exited t))) (grows.by-exited s.log t k.1));
+        sent_to = λ s t l e n k. d.sent_to s t l e n k.0;
+        exits = λ s t l e n k. (d.exits s t l e n k.0, subst G (sym (gone_log s t (exited t))) (grows.by_exited s.log t k.1));
       }
 
 -- what a switch ends with, of less
@@ -124,7 +124,7 @@ or_true false = refl
 
 exits_grow : (t : ℕ) → Grows (λ l. exits_in l t ≡ true)
 unfolding exits_in
-exits_grow t = record { by-reached = λ l u e. e; by-exited = λ l u e. ap (λ (b : Bool). eqb u t || b) e ∙ or_true (eqb u t) }
+exits_grow t = record { by_reached = λ l u e. e; by_exited = λ l u e. ap (λ (b : Bool). eqb u t || b) e ∙ or_true (eqb u t) }
 
 exits_now : (l : List LogEntry) (t : ℕ) → exits_in (exited t ∷ l) t ≡ true
 unfolding exits_in
@@ -153,9 +153,9 @@ completed-shape (Object.GatherFuture g n x) f e = absurd (true≢false (sym e))
 -- what is known before an event: nothing is logged yet
 pub record Held (h : List Entry) (s : Store) : Type 0 where
   pub tracked : Tracked (lives h) (stays_blocked h) s
-  pub spawns-are : Spawned (spawned_for h) (coroutine_of h) (spawns h) (λ o. shape (object s o)) s
+  pub spawns_are : Spawned (spawned_for h) (coroutine_of h) (spawns h) (λ o. shape (object s o)) s
   pub origins : Origins h (λ o. shape (object s o))
-  pub empty-log : s.log ≡ []
+  pub empty_log : s.log ≡ []
 
 module _ (h : List Entry) (s : Store) (w : SoundStore s) (k : Held h s) (x : Entry) where
   abbrev N : ℕ → Shape
@@ -165,7 +165,7 @@ module _ (h : List Entry) (s : Store) (w : SoundStore s) (k : Held h s) (x : Ent
   L u = Logged h x N u
 
   pub begins_logged : L s
-  begins_logged = record { tracked = k.tracked; spawns-are = k.spawns-are; log-right = subst (LogRight h x) (sym k.empty-log) (unfold LogRight in tt) }
+  begins_logged = record { tracked = k.tracked; spawns_are = k.spawns_are; log_right = subst (LogRight h x) (sym k.empty_log) (unfold LogRight in tt) }
 
   abbrev Any : Awaiter → Type 0
   Any a = Unit {0}
@@ -183,7 +183,7 @@ module _ (h : List Entry) (s : Store) (w : SoundStore s) (k : Held h s) (x : Ent
     low = omega (arith, runner_low s (suc t) w m, (header-fits s).next_fits)
 
     its-used : is_used (N c) ≡ true
-    its-used = (k.spawns-are.tasks t (runner_low s (suc t) w m) (ap is_live runs_now)).begun (ap is_unstarted runs_now)
+    its-used = (k.spawns_are.tasks t (runner_low s (suc t) w m) (ap is_live runs_now)).begun (ap is_unstarted runs_now)
 
     not-zero : eqb (suc t) 0 ≡ false
     not-zero = ne_eqb (suc t) 0 (λ q. not-suc-le-zero {n = 0} (omega arith))
@@ -211,7 +211,7 @@ module _ (h : List Entry) (s : Store) (w : SoundStore s) (k : Held h s) (x : Ent
     unfolding handle_task_completion
     complete-ends v =
         completion_walk Gone Any gone-delivers gone-switching _ (task s (suc t)).awaiter v (task-fits s (suc t)).awaiter_fits tt
-        (exit (put_object s c (completed (object s c))) (row-task s c _ (suc t)) (row_logged h x N s c _ (task-fits s (suc t)).coroutine-fits (completed-shape (object s c) (object-fits s c) its-used) begins_logged))
+        (exit (put_object s c (completed (object s c))) (row-task s c _ (suc t)) (row_logged h x N s c _ (task-fits s (suc t)).coroutine_fits (completed-shape (object s c) (object-fits s c) its-used) begins_logged))
 
     pub fail-ends : (e : Error) → Ends Gone (handle_task_failure activate s (suc t) e)
     unfolding handle_task_failure
@@ -270,7 +270,7 @@ module _ (h : List Entry) (s : Store) (w : SoundStore s) (k : Held h s) (x : Ent
     started-now : (u : Store) (v : ℕ) → IsSpawned v → R u → live u v ≡ true → is_used (N (task u v).coroutine.0) ≡ true
     started-now u zero b j lv = absurd (not-suc-le-zero {n = 0} b.0)
     started-now u (suc v) b j lv =
-        let y = live_low u (suc v) lv in (j.0.spawns-are.tasks v y.0 y.1).begun (j.1.begun.started m (suc v) (subst (λ (z : Header). suc v < z.next) j.1.begun.head y.0))
+        let y = live_low u (suc v) lv in (j.0.spawns_are.tasks v y.0 y.1).begun (j.1.begun.started m (suc v) (subst (λ (z : Header). suc v < z.next) j.1.begun.head y.0))
 
     goes-both : (u : Store) (v : ℕ) → IsSpawned v → R u → R (add_log (remove_task u v) (removed v))
     goes-both u v b j = (goes_logged h x N u v (started-now u v b j) (inl cn) j.0, goes_cancels (header s) u v b j.1)
@@ -281,7 +281,7 @@ module _ (h : List Entry) (s : Store) (w : SoundStore s) (k : Held h s) (x : Ent
     at_first : R s
     at_first = (
       begins_logged,
-      record { begun = record { sized = w.memory.sized; head = refl; started = λ q v b. idle.begun q v b }; ids = w.memory.ids; len = w.memory.words_right.queue-short; stood = idle.stood },
+      record { begun = record { sized = w.memory.sized; head = refl; started = λ q v b. idle.begun q v b }; ids = w.memory.ids; len = w.memory.words_right.queue_short; stood = idle.stood },
     )
 
     cancelled-all : Removed (cancel_task s t)
@@ -310,9 +310,9 @@ module _ (h : List Entry) (s : Store) (w : SoundStore s) (k : Held h s) (x : Ent
       by true = unfold add_log put_task LogRight in (r, j)
       by false = j
 
-  pub end-log-right : running h ≡ some 0 → ends_task (said x) ≡ true → LogRight h x (cleanup s).log
+  pub end-log_right : running h ≡ some 0 → ends_task (said x) ≡ true → LogRight h x (cleanup s).log
   unfolding cleanup set_moment put_header put_queue
-  end-log-right rn en = ends-log-right (header s).next s 0 (inr (rn, en)) begins_logged.log-right
+  end-log_right rn en = ends-log-right (header s).next s 0 (inr (rn, en)) begins_logged.log_right
 
   swept : (n : ℕ) (u : Store) (t : ℕ) → Sized u → t + n ≤ task_limit → ((v : ℕ) → v < t → is_live (task u v).state ≡ false) → (v : ℕ) → v < t + n → is_live (task (remove_from u t n) v).state ≡ false
   unfolding remove_from absent

@@ -44,7 +44,7 @@ use Rattle.machine_sessions.specs.Honest.HonestWalk.{Ends, IsSpawned}
 use Rattle.machine_sessions.specs.Honest.HonestLog.{BlockRight, LogRight, log_honest, Origins, Logged}
 use Rattle.machine_sessions.specs.Honest.HonestIdle.{NoFresh, Idle, empty-begun, Begun, results-begun}
 use Rattle.machine_sessions.specs.Honest.HonestEnds.{StartTold, ControlLeft, Left, Leaves, none-plain, waits-plain}
-use Rattle.machine_sessions.specs.Honest.HonestEvents.{Held, complete-ends, fail-ends, exit_left, exit_logged, exit_waits, resume-left, resume-waits, same_left, results-left, cancel_left, cancel_logged, cancel-idle, end-log-right, end_dead}
+use Rattle.machine_sessions.specs.Honest.HonestEvents.{Held, complete-ends, fail-ends, exit_left, exit_logged, exit_waits, resume-left, resume-waits, same_left, results-left, cancel_left, cancel_logged, cancel-idle, end-log_right, end_dead}
 use Rattle.machine_sessions.specs.Honest.HonestAwait.{await-left, await_blocks, await-waits}
 use Rattle.machine_sessions.specs.Honest.HonestMakes.{Adds, call_adds, settled_adds, settled-shape, coroutine_adds, coroutine-shape, pending_adds, pending-shape, gather_adds, gather-used, co-used, calls_object, makes_left, adds_left}
 
@@ -99,7 +99,7 @@ entry_honest h x look g r k =
 -- ---- what a session has until it ends
 
 pub record Kept (h : List Entry) (s : Store) : Type 0 where
-  pub spawns-are : Spawned (spawned_for h) (coroutine_of h) (spawns h) (λ o. shape (object s o)) (forget s)
+  pub spawns_are : Spawned (spawned_for h) (coroutine_of h) (spawns h) (λ o. shape (object s o)) (forget s)
   pub origins : Origins h (λ o. shape (object s o))
   pub idle : Idle s
 
@@ -120,9 +120,9 @@ none_is x e q = true≢false (ap is_none (sym e) ∙ q)
 
 -- what an event says: no await, no end, no cancel
 pub record Quiet (y : Says) : Type 0 where
-  pub no-await : y.awaits ≡ none
+  pub no_await : y.awaits ≡ none
   pub no_end : ends_task y ≡ false
-  pub no-cancel : y.cancels ≡ false
+  pub no_cancel : y.cancels ≡ false
 
 not-cancel : (e : Event) (t : ℕ) → (says e).cancels ≡ false → e ≡ Event.cancel t → ⊥
 not-cancel e t q d = true≢false (is-cancel t ∙ (ap (λ (z : Event). (says z).cancels) (sym d) ∙ q))
@@ -153,16 +153,16 @@ module _ (h : List Entry) (e : Event) (y : Step) (ok : (tells y.answer).accepts 
   pub quiet_logged : Quiet (says e) → LogRight h x y.store.log → ControlLeft h x y.store.log (tells y.answer).control → EntryLogged h x
   quiet_logged q l c =
       record {
-        log = logged-by (λ t r d. absurd (no-await r.0)) l;
-        blocks = λ t d. absurd (no-await d);
+        log = logged-by (λ t r d. absurd (no_await r.0)) l;
+        blocks = λ t d. absurd (no_await d);
         exits = λ t d f. absurd (no_end f);
         ends = λ t d f. absurd (no_end f);
-        removes = λ t d. absurd (not-cancel e t q.no-cancel (unfold entry_of in d));
+        removes = λ t d. absurd (not-cancel e t q.no_cancel (unfold entry_of in d));
         control = control-is c;
       }
     where
-      no-await : is_none (said x).awaits ≡ false → ⊥
-      no-await d = none_is (said x).awaits (ap (λ (z : Says). z.awaits) says-it ∙ q.no-await) d
+      no_await : is_none (said x).awaits ≡ false → ⊥
+      no_await d = none_is (said x).awaits (ap (λ (z : Says). z.awaits) says-it ∙ q.no_await) d
 
       no_end : ends_task (said x) ≡ true → ⊥
       no_end d = true≢false (sym d ∙ (ap ends_task says-it ∙ q.no_end))
@@ -172,7 +172,7 @@ module _ (h : List Entry) (e : Event) (y : Step) (ok : (tells y.answer).accepts 
   left-control k = k
 
   pub quiet_left : Quiet (says e) → Left h x y.store → EntryLogged h x
-  quiet_left q l = quiet_logged q l.log-right (left-control l.control-left)
+  quiet_left q l = quiet_logged q l.log_right (left-control l.control_left)
 
 -- ---- each event
 
@@ -181,20 +181,20 @@ abbrev StepLeft : Step → Type 0
 StepLeft y = StepRight (is_ended (header y.store).moment ≡ true) y
 
 left_by : (s : Store) (e : Event) → SoundStore s → Stands Nothing s → StepRight (MainEnds s e) (accept s e) → StepLeft (accept s e)
-left_by s e w st k = record { stood = λ n. k.stood (λ m. n (ended m)); waits-idle = k.waits-idle; stalls-idle = k.stalls-idle }
+left_by s e w st k = record { stood = λ n. k.stood (λ m. n (ended m)); waits_idle = k.waits_idle; stalls_idle = k.stalls_idle }
   where
     ended : MainEnds s e → is_ended (header (accept s e).store).moment ≡ true
     ended m = ap (λ (u : Store). is_ended (header u).moment) (main_finishes s e m).store_is ∙ ends s w st
 
 kept_of : (h : List Entry) (x : Entry) (u : Store) → Left h x u → Idle u → Kept (x ∷ h) u
-kept_of h x u l i = record { spawns-are = l.spawns-are; origins = l.origins; idle = i }
+kept_of h x u l i = record { spawns_are = l.spawns_are; origins = l.origins; idle = i }
 
 idle-by : (y : Step) → StepLeft y → is_ended (header y.store).moment ≡ false → ((header y.store).moment ≡ Moment.Waiting → NoFresh y.store) → Idle y.store
 idle-by y k on f = record { stood = k.stood (λ z. true≢false (sym z ∙ on)); begun = f }
 
 -- in waiting, the answer is a wait
 idle-waits : (y : Step) → StepLeft y → is_ended (header y.store).moment ≡ false → ((header y.store).moment ≡ Moment.Waiting → (cs : List ℕ) × ((tells y.answer).control ≡ some (waits cs))) → Idle y.store
-idle-waits y k on f = idle-by y k on (λ m. let c = f m in empty-begun y.store (k.stood (λ z. true≢false (sym z ∙ on))) (k.waits-idle c.0 c.1).1)
+idle-waits y k on f = idle-by y k on (λ m. let c = f m in empty-begun y.store (k.stood (λ z. true≢false (sym z ∙ on))) (k.waits_idle c.0 c.1).1)
 
 ended-not : (m : Moment) (t : ℕ) → m ≡ Moment.Running (task_id t) → is_ended m ≡ false
 unfolding is_ended
@@ -228,19 +228,19 @@ IsQuiet Event.eager = Unit {0}
 
 quiet_of : (e : Event) → IsQuiet e → Quiet (says e)
 unfolding IsQuiet says nothing_said ends_task has_value is_none
-quiet_of (Event.coroutine f) k = record { no-await = refl; no_end = refl; no-cancel = refl }
-quiet_of Event.call k = record { no-await = refl; no_end = refl; no-cancel = refl }
-quiet_of (Event.pending c r) k = record { no-await = refl; no_end = refl; no-cancel = refl }
-quiet_of (Event.settled v) k = record { no-await = refl; no_end = refl; no-cancel = refl }
-quiet_of (Event.gather os) k = record { no-await = refl; no_end = refl; no-cancel = refl }
+quiet_of (Event.coroutine f) k = record { no_await = refl; no_end = refl; no_cancel = refl }
+quiet_of Event.call k = record { no_await = refl; no_end = refl; no_cancel = refl }
+quiet_of (Event.pending c r) k = record { no_await = refl; no_end = refl; no_cancel = refl }
+quiet_of (Event.settled v) k = record { no_await = refl; no_end = refl; no_cancel = refl }
+quiet_of (Event.gather os) k = record { no_await = refl; no_end = refl; no_cancel = refl }
 quiet_of (Event.await o) k = absurd k
 quiet_of (Event.complete v) k = absurd k
 quiet_of (Event.fail n) k = absurd k
-quiet_of (Event.results rs) k = record { no-await = refl; no_end = refl; no-cancel = refl }
-quiet_of Event.resume k = record { no-await = refl; no_end = refl; no-cancel = refl }
+quiet_of (Event.results rs) k = record { no_await = refl; no_end = refl; no_cancel = refl }
+quiet_of Event.resume k = record { no_await = refl; no_end = refl; no_cancel = refl }
 quiet_of (Event.cancel t) k = absurd k
-quiet_of (Event.show o) k = record { no-await = refl; no_end = refl; no-cancel = refl }
-quiet_of Event.eager k = record { no-await = refl; no_end = refl; no-cancel = refl }
+quiet_of (Event.show o) k = record { no_await = refl; no_end = refl; no_cancel = refl }
+quiet_of Event.eager k = record { no_await = refl; no_end = refl; no_cancel = refl }
 
 new_is : (f g : ℕ) → Shape.new f ≡ Shape.new g → f ≡ g
 new_is f g e = cc
@@ -249,21 +249,21 @@ not-co : {A : Type 0} (y : Shape) (g : ℕ) → is_co y ≡ false → y ≡ Shap
 not-co y g e q = absurd (true≢false (ap is_co (sym q) ∙ e))
 
 module _ (h : List Entry) (s : Store) (w : SoundStore s) (tr : Tracked (lives h) (stays_blocked h) s) (ag : Agrees h s) (same : forget s ≡ s) (kept : is_ended (header s).moment ≡ false → Kept h s) where
-  empty-log : s.log ≡ []
-  empty-log = ap (λ (u : Store). u.log) (sym same) ∙ (unfold forget in refl)
+  empty_log : s.log ≡ []
+  empty_log = ap (λ (u : Store). u.log) (sym same) ∙ (unfold forget in refl)
 
   held : is_ended (header s).moment ≡ false → Held h s
   held on =
       record {
         tracked = tr;
-        spawns-are = subst (Spawned (spawned_for h) (coroutine_of h) (spawns h) (λ o. shape (object s o))) same (kept on).spawns-are;
+        spawns_are = subst (Spawned (spawned_for h) (coroutine_of h) (spawns h) (λ o. shape (object s o))) same (kept on).spawns_are;
         origins = (kept on).origins;
-        empty-log = empty-log;
+        empty_log = empty_log;
       }
 
   -- the store's own log is empty
   none_right : (x : Entry) (u : Store) → u.log ≡ s.log → LogRight h x u.log
-  none_right x u e = subst (LogRight h x) (sym (e ∙ empty-log)) (unfold LogRight in tt)
+  none_right x u e = subst (LogRight h x) (sym (e ∙ empty_log)) (unfold LogRight in tt)
 
   -- ---- making
 
@@ -275,7 +275,7 @@ module _ (h : List Entry) (s : Store) (w : SoundStore s) (tr : Tracked (lives h)
           entry = quiet_logged h e y ok q (none_right _ y.store ad.same_log) (subst (ControlLeft h _ y.store.log) (sym nobody) (unfold ControlLeft in tt));
           after = λ z. kept_of h _ y.store
               (makes_left h s (held (ended-not _ _ on)) ag y.store ad (entry_of e y.answer y.store) (happens_all e y.answer y.store ok) (unfold entry_of in nobody) (unfold entry_of in makes) us (λ f d. unfold entry_of in (nw f d)))
-              (idle-by y sr z (λ m. not-waiting (header y.store).moment _ (ad.same-moment ∙ on) m));
+              (idle-by y sr z (λ m. not-waiting (header y.store).moment _ (ad.same_moment ∙ on) m));
         }
       where
         ok : (tells y.answer).accepts ≡ true
@@ -293,7 +293,7 @@ module _ (h : List Entry) (s : Store) (w : SoundStore s) (tr : Tracked (lives h)
           entry = quiet_logged h e y ok q (none_right _ y.store ad.same_log) (subst (ControlLeft h _ y.store.log) (sym nobody) (unfold ControlLeft in tt));
           after = λ z. kept_of h _ y.store
               (adds_left h s (held (ended-not _ _ on)) ag y.store ad (entry_of e y.answer y.store) (subst (λ (c : Option Control). Leaves (entry_of e y.answer y.store) c y.store) nobody (leaves_it h e y ok makes)) os)
-              (idle-by y sr z (λ m. not-waiting (header y.store).moment _ (ad.same-moment ∙ on) m));
+              (idle-by y sr z (λ m. not-waiting (header y.store).moment _ (ad.same_moment ∙ on) m));
         }
       where
         ok : (tells y.answer).accepts ≡ true
@@ -344,8 +344,8 @@ module _ (h : List Entry) (s : Store) (w : SoundStore s) (tr : Tracked (lives h)
     unfolding switched
     sw-store = refl
 
-    runs-it : running h ≡ some (suc t)
-    runs-it = ag.runner (task_id (suc t)) m
+    runs_it : running h ≡ some (suc t)
+    runs_it = ag.runner (task_id (suc t)) m
 
     ends_it : ends_task (said xs) ≡ true
     ends_it = ap ends_task (said-accepted e sw.answer sw.store sw-ok) ∙ en
@@ -366,33 +366,33 @@ module _ (h : List Entry) (s : Store) (w : SoundStore s) (tr : Tracked (lives h)
     exit-stepped ends_so sr =
         record {
           entry = record {
-            log = logged-by h e sw sw-ok (λ u r d. absurd (no-await r.0)) (subst (λ (u : Store). LogRight h xs u.log) (sym sw-store) l.log-right);
-            blocks = λ u d. absurd (no-await d);
-            exits = λ u d f. ap (λ (k : List LogEntry). exits_in k (suc u)) log_is ∙ subst (λ (v : ℕ). exits_in z.store.log v ≡ true) (same_some (suc t) (suc u) (sym runs-it ∙ d)) (exit_logged h s w hd xs t m runs-it ends_it z ends_so);
-            ends = λ u d f. absurd (not-suc-le-zero {n = 0} (omega (arith, same_some (suc t) 0 (sym runs-it ∙ d))));
+            log = logged-by h e sw sw-ok (λ u r d. absurd (no_await r.0)) (subst (λ (u : Store). LogRight h xs u.log) (sym sw-store) l.log_right);
+            blocks = λ u d. absurd (no_await d);
+            exits = λ u d f. ap (λ (k : List LogEntry). exits_in k (suc u)) log_is ∙ subst (λ (v : ℕ). exits_in z.store.log v ≡ true) (same_some (suc t) (suc u) (sym runs_it ∙ d)) (exit_logged h s w hd xs t m runs_it ends_it z ends_so);
+            ends = λ u d f. absurd (not-suc-le-zero {n = 0} (omega (arith, same_some (suc t) 0 (sym runs_it ∙ d))));
             removes = λ u d. absurd (not-cancel e u nc (unfold entry_of in d));
-            control = subst (λ (k : List LogEntry). ControlLeft h xs k (tells xs.answer).control) (sym log_is) l.control-left;
+            control = subst (λ (k : List LogEntry). ControlLeft h xs k (tells xs.answer).control) (sym log_is) l.control_left;
           };
           after = λ on.
               kept_of h xs sw.store (subst (Left h xs) (sym sw-store) l)
-              (idle-waits sw sr on (λ q. let c = exit_waits h s w hd xs t m runs-it ends_it z ends_so (sym (ap (λ (u : Store). (header u).moment) sw-store) ∙ q) in (c.0, sw-control ∙ ap (λ (k : Control). some k) c.1)));
+              (idle-waits sw sr on (λ q. let c = exit_waits h s w hd xs t m runs_it ends_it z ends_so (sym (ap (λ (u : Store). (header u).moment) sw-store) ∙ q) in (c.0, sw-control ∙ ap (λ (k : Control). some k) c.1)));
         }
       where
         hd : Held h s
         hd = held (ended-not _ _ m)
 
         l : Left h xs z.store
-        l = exit_left h s w hd xs t m runs-it ends_it z ends_so (record { happens = log_is; controls = control_of; makes_none = makes-of })
+        l = exit_left h s w hd xs t m runs_it ends_it z ends_so (record { happens = log_is; controls = control_of; makes_none = makes-of })
 
-        no-await : is_none (said xs).awaits ≡ false → ⊥
-        no-await d = none_is (said xs).awaits (ap (λ (k : Says). k.awaits) (said-accepted e sw.answer sw.store sw-ok) ∙ na) d
+        no_await : is_none (said xs).awaits ≡ false → ⊥
+        no_await d = none_is (said xs).awaits (ap (λ (k : Says). k.awaits) (said-accepted e sw.answer sw.store sw-ok) ∙ na) d
 
   pub complete-stepped : (t : ℕ) (v : Value) → (header s).moment ≡ Moment.Running (task_id (suc t)) → StepLeft (switched (handle_task_completion s (suc t) v)) → Stepped h (Event.complete v) (switched (handle_task_completion s (suc t) v))
   unfolding says ends_task has_value
   complete-stepped t v m sr =
       let z : Switched = handle_task_completion s (suc t) v in
       exit-stepped (Event.complete v) t m refl refl refl z
-      (complete-ends h s w (held (ended-not _ _ m)) _ t m (runs-it (Event.complete v) t m refl refl refl z) (ends_it (Event.complete v) t m refl refl refl z) v) sr
+      (complete-ends h s w (held (ended-not _ _ m)) _ t m (runs_it (Event.complete v) t m refl refl refl z) (ends_it (Event.complete v) t m refl refl refl z) v) sr
 
   pub fail-stepped : (t n : ℕ) → (header s).moment ≡ Moment.Running (task_id (suc t)) → StepLeft (switched (handle_task_failure activate s (suc t) (Error.Script n)))
       → Stepped h (Event.fail n) (switched (handle_task_failure activate s (suc t) (Error.Script n)))
@@ -400,7 +400,7 @@ module _ (h : List Entry) (s : Store) (w : SoundStore s) (tr : Tracked (lives h)
   fail-stepped t n m sr =
       let z : Switched = handle_task_failure activate s (suc t) (Error.Script n) in
       exit-stepped (Event.fail n) t m refl refl refl z
-      (fail-ends h s w (held (ended-not _ _ m)) _ t m (runs-it (Event.fail n) t m refl refl refl z) (ends_it (Event.fail n) t m refl refl refl z) (Error.Script n)) sr
+      (fail-ends h s w (held (ended-not _ _ m)) _ t m (runs_it (Event.fail n) t m refl refl refl z) (ends_it (Event.fail n) t m refl refl refl z) (Error.Script n)) sr
 
   -- main
   pub main_stepped : (e : Event) (a : Answer) → (header s).moment ≡ Moment.Running (task_id 0) → (says e).awaits ≡ none → (says e).cancels ≡ false → ends_task (says e) ≡ true → (tells a).accepts ≡ true → (tells a).control ≡ none
@@ -409,8 +409,8 @@ module _ (h : List Entry) (s : Store) (w : SoundStore s) (tr : Tracked (lives h)
   main_stepped e a m na nc en ok nobody lv =
       record {
         entry = record {
-          log = logged-by h e y ok (λ u r d. absurd (no-await r.0)) (end-log-right h s w hd x rn en');
-          blocks = λ u d. absurd (no-await d);
+          log = logged-by h e y ok (λ u r d. absurd (no_await r.0)) (end-log_right h s w hd x rn en');
+          blocks = λ u d. absurd (no_await d);
           exits = λ u d f. absurd (not-suc-le-zero {n = 0} (omega (arith, same_some 0 (suc u) (sym rn ∙ d))));
           ends = λ u d f. lv u ∙ end_dead h s w hd x u;
           removes = λ u d. absurd (not-cancel e u nc (unfold entry_of in d));
@@ -437,8 +437,8 @@ module _ (h : List Entry) (s : Store) (w : SoundStore s) (tr : Tracked (lives h)
       nobody-now : (tells x.answer).control ≡ none
       nobody-now = unfold entry_of in nobody
 
-      no-await : is_none (said x).awaits ≡ false → ⊥
-      no-await d = none_is (said x).awaits (ap (λ (k : Says). k.awaits) (said-accepted e a (cleanup s) ok) ∙ na) d
+      no_await : is_none (said x).awaits ≡ false → ⊥
+      no_await d = none_is (said x).awaits (ap (λ (k : Says). k.awaits) (said-accepted e a (cleanup s) ok) ∙ na) d
 
   -- ---- resume
 
@@ -465,7 +465,7 @@ module _ (h : List Entry) (s : Store) (w : SoundStore s) (tr : Tracked (lives h)
       x = entry_of Event.resume y.answer y.store
 
       q : Quiet (says Event.resume)
-      q = unfold says nothing_said in (record { no-await = refl; no_end = unfold ends_task has_value is_none in refl; no-cancel = refl })
+      q = unfold says nothing_said in (record { no_await = refl; no_end = unfold ends_task has_value is_none in refl; no_cancel = refl })
 
       l : Left h x y.store
       l = unfold switched in (resume-left h s w hd x (record { happens = happens_all Event.resume y.answer y.store ok ∙ (unfold switched in refl); controls = unfold entry_of in controls; makes_none = unfold entry_of switched tells in refl }))
@@ -490,7 +490,7 @@ module _ (h : List Entry) (s : Store) (w : SoundStore s) (tr : Tracked (lives h)
       x = entry_of (Event.results rs) y.answer y.store
 
       q : Quiet (says (Event.results rs))
-      q = unfold says in (record { no-await = refl; no_end = unfold ends_task has_value is_none in refl; no-cancel = refl })
+      q = unfold says in (record { no_await = refl; no_end = unfold ends_task has_value is_none in refl; no_cancel = refl })
 
       l : Left h x y.store
       l = results-left h s w (held on) x rs (record { happens = happens_all (Event.results rs) y.answer y.store ok; controls = unfold entry_of tells done_only in refl; makes_none = unfold entry_of tells done_only in refl })
@@ -507,12 +507,12 @@ module _ (h : List Entry) (s : Store) (w : SoundStore s) (tr : Tracked (lives h)
   cancel-stepped t m sp =
       record {
         entry = record {
-          log = logged-by h (Event.cancel t) y ok (λ u r d. absurd (no-await r.0)) l.log-right;
-          blocks = λ u d. absurd (no-await d);
+          log = logged-by h (Event.cancel t) y ok (λ u r d. absurd (no_await r.0)) l.log_right;
+          blocks = λ u d. absurd (no_await d);
           exits = λ u d f. absurd (no_end f);
           ends = λ u d f. absurd (no_end f);
           removes = λ u d f. ap (λ (k : List LogEntry). removes_in k u) (happens_all (Event.cancel t) y.answer y.store ok) ∙ subst (λ (v : ℕ). removes_in y.store.log v ≡ true) (same-cancel t u (unfold entry_of in d)) (cancel_logged h s w hd x idle m t sp cn);
-          control = subst (λ (k : List LogEntry). ControlLeft h x k (tells x.answer).control) (sym (happens_all (Event.cancel t) y.answer y.store ok)) l.control-left;
+          control = subst (λ (k : List LogEntry). ControlLeft h x k (tells x.answer).control) (sym (happens_all (Event.cancel t) y.answer y.store ok)) l.control_left;
         };
         after = λ on. kept_of h x y.store l (cancel-idle h s w hd x idle m t sp cn);
       }
@@ -538,8 +538,8 @@ module _ (h : List Entry) (s : Store) (w : SoundStore s) (tr : Tracked (lives h)
       cn : (said x).cancels ≡ true
       cn = ap (λ (k : Says). k.cancels) says_so ∙ (unfold says in refl)
 
-      no-await : is_none (said x).awaits ≡ false → ⊥
-      no-await d = none_is (said x).awaits (ap (λ (k : Says). k.awaits) says_so ∙ (unfold says in refl)) d
+      no_await : is_none (said x).awaits ≡ false → ⊥
+      no_await d = none_is (said x).awaits (ap (λ (k : Says). k.awaits) says_so ∙ (unfold says in refl)) d
 
       no_end : ends_task (said x) ≡ true → ⊥
       no_end d = true≢false (sym d ∙ (ap ends_task says_so ∙ (unfold says ends_task has_value is_none in refl)))
@@ -556,12 +556,12 @@ module _ (h : List Entry) (s : Store) (w : SoundStore s) (tr : Tracked (lives h)
   await-stepped t o m lo sr =
       record {
         entry = record {
-          log = logged-by h (Event.await o) y ok (λ u r d. leaves u r.1 d) (subst (λ (v : Store). LogRight h x v.log) (sym store_is) l.log-right);
+          log = logged-by h (Event.await o) y ok (λ u r d. leaves u r.1 d) (subst (λ (v : Store). LogRight h x v.log) (sym store_is) l.log_right);
           blocks = λ u d r f. ap (λ (k : List LogEntry). blocks_in k u) log_is ∙ blocks u r (sym (ap (λ (c : Option Control). runs_task c u) control_of) ∙ f);
           exits = λ u d f. absurd (no_end f);
           ends = λ u d f. absurd (no_end f);
           removes = λ u d. absurd (not-cancel (Event.await o) u (unfold says in refl) (unfold entry_of in d));
-          control = subst (λ (k : List LogEntry). ControlLeft h x k (tells x.answer).control) (sym log_is) l.control-left;
+          control = subst (λ (k : List LogEntry). ControlLeft h x k (tells x.answer).control) (sym log_is) l.control_left;
         };
         after = λ on. kept_of h x y.store (subst (Left h x) (sym store_is) l)
             (idle-waits y sr on (λ p. let c = await-waits h s w hd ag t m x o rn aw lo (sym (ap (λ (v : Store). (header v).moment) store_is) ∙ p) in (c.0, controls ∙ ap (λ (k : Control). some k) c.1)));
@@ -701,19 +701,19 @@ module _ (h : List Entry) (s : Store) (w : SoundStore s) (tr : Tracked (lives h)
       let on = running-now _ q in
       let m : (header s).made < object_limit = not_full s (pass 6 (full s) [] (running-rest s _ q)).0 in
       let sh : shape (object (make_coroutine s f) (header s).made) ≡ Shape.new f = coroutine-shape s w.memory.sized f i m in
-      made-stepped (Event.coroutine f) _ 0 on (quiet_of (Event.coroutine f) tt) (right (Event.coroutine f) i (quiet_of (Event.coroutine f) tt).no-cancel r (ended-not _ _ on)) (coroutine_adds s w.memory.sized f m) refl (ap is_used sh)
+      made-stepped (Event.coroutine f) _ 0 on (quiet_of (Event.coroutine f) tt) (right (Event.coroutine f) i (quiet_of (Event.coroutine f) tt).no_cancel r (ended-not _ _ on)) (coroutine_adds s w.memory.sized f m) refl (ap is_used sh)
       (λ g d. ap Event.coroutine (new_is f g (sym sh ∙ d)))
   accept-stepped Event.call i r =
       let q = refusal-rest s Event.call r in
       let on = running-now _ q in
       let c : (header s).calls < call_limit = has_number s (pass 7 (no_number s) [] (running-rest s _ q)).0 in
-      called-stepped Event.call _ 0 on (quiet_of Event.call tt) (right Event.call tt (quiet_of Event.call tt).no-cancel r (ended-not _ _ on)) (call_adds s w.memory.sized c (header s).made) (header s).calls refl (calls_object s w.memory.sized c)
+      called-stepped Event.call _ 0 on (quiet_of Event.call tt) (right Event.call tt (quiet_of Event.call tt).no_cancel r (ended-not _ _ on)) (call_adds s w.memory.sized c (header s).made) (header s).calls refl (calls_object s w.memory.sized c)
   accept-stepped (Event.pending d v) i r =
       let q = refusal-rest s (Event.pending d v) r in
       let on = running-now _ q in
       let m : (header s).made < object_limit = not_full s (pass 6 (full s) [] (pass 5 _ _ (pass 4 _ _ (running-rest s _ q)).1).1).0 in
       let sh : shape (object (make_pending s d v) (header s).made) ≡ Shape.other = pending-shape s w.memory.sized d v m in
-      made-stepped (Event.pending d v) _ 0 on (quiet_of (Event.pending d v) tt) (right (Event.pending d v) tt (quiet_of (Event.pending d v) tt).no-cancel r (ended-not _ _ on)) (pending_adds s w.memory.sized d v m) refl (ap is_used sh)
+      made-stepped (Event.pending d v) _ 0 on (quiet_of (Event.pending d v) tt) (right (Event.pending d v) tt (quiet_of (Event.pending d v) tt).no_cancel r (ended-not _ _ on)) (pending_adds s w.memory.sized d v m) refl (ap is_used sh)
       (λ g z. not-co _ g (ap is_co sh) z)
   accept-stepped (Event.settled v) i r =
       let q = refusal-rest s (Event.settled v) r in
@@ -722,7 +722,7 @@ module _ (h : List Entry) (s : Store) (w : SoundStore s) (tr : Tracked (lives h)
       let m : (header s).made < object_limit = not_full s p.0 in
       let c : (header s).calls < call_limit = has_number s (pass 7 (no_number s) [] p.1).0 in
       let sh : shape (object (make_settled s v) (header s).made) ≡ Shape.other = settled-shape s w.memory.sized c v m in
-      made-stepped (Event.settled v) _ 0 on (quiet_of (Event.settled v) tt) (right (Event.settled v) tt (quiet_of (Event.settled v) tt).no-cancel r (ended-not _ _ on)) (settled_adds s w.memory.sized c v m) refl (ap is_used sh)
+      made-stepped (Event.settled v) _ 0 on (quiet_of (Event.settled v) tt) (right (Event.settled v) tt (quiet_of (Event.settled v) tt).no_cancel r (ended-not _ _ on)) (settled_adds s w.memory.sized c v m) refl (ap is_used sh)
       (λ g z. not-co _ g (ap is_co sh) z)
   accept-stepped (Event.gather os) i r =
       let q = refusal-rest s (Event.gather os) r in
@@ -731,7 +731,7 @@ module _ (h : List Entry) (s : Store) (w : SoundStore s) (tr : Tracked (lives h)
       let m : (header s).made < object_limit = not_full s (or_left (full s) (ltb item_limit (length os)) (or_left (full s || ltb item_limit (length os)) (ltb place_limit ((header s).used + length os)) p)) in
       let l : (header s).used + length os ≤ place_limit = ltb-false place_limit ((header s).used + length os) (or_right (full s || ltb item_limit (length os)) (ltb place_limit ((header s).used + length os)) p) in
       let us : is_co (shape (object (make_gather s os) (header s).made)) ≡ false = gather-used s w.memory.sized os m l in
-      made-stepped (Event.gather os) _ 0 on (quiet_of (Event.gather os) tt) (right (Event.gather os) tt (quiet_of (Event.gather os) tt).no-cancel r (ended-not _ _ on)) (gather_adds s w.memory.sized os m l) refl (co-used (shape (object (make_gather s os) (header s).made)) us)
+      made-stepped (Event.gather os) _ 0 on (quiet_of (Event.gather os) tt) (right (Event.gather os) tt (quiet_of (Event.gather os) tt).no_cancel r (ended-not _ _ on)) (gather_adds s w.memory.sized os m l) refl (co-used (shape (object (make_gather s os) (header s).made)) us)
       (λ g z. not-co _ g us z)
   accept-stepped (Event.await o) i r =
       let q = refusal-rest s (Event.await o) r in
@@ -748,10 +748,10 @@ module _ (h : List Entry) (s : Store) (w : SoundStore s) (tr : Tracked (lives h)
       fail-by n (runner (header s).moment) on (right (Event.fail n) i (fail-no-cancel n) r (ended-not _ _ on)) (accept_tracked (lives h) (stays_blocked h) s w (Event.fail n) r tr)
   accept-stepped (Event.results rs) i r =
       let q = pass 2 (is_ended (header s).moment) _ (refusal-rest s (Event.results rs) r) in
-      results-stepped rs q.0 (right (Event.results rs) tt (quiet_of (Event.results rs) tt).no-cancel r q.0)
+      results-stepped rs q.0 (right (Event.results rs) tt (quiet_of (Event.results rs) tt).no_cancel r q.0)
   accept-stepped Event.resume i r =
       let m = (waiting s w [] (refusal-rest s Event.resume r)).0 in
-      resume-by m (right Event.resume tt (quiet_of Event.resume tt).no-cancel r (waiting-not _ m))
+      resume-by m (right Event.resume tt (quiet_of Event.resume tt).no_cancel r (waiting-not _ m))
   accept-stepped (Event.cancel t) i r =
       let q = waiting s w _ (refusal-rest s (Event.cancel t) r) in
       let l = pass 4 (not (live s t)) _ q.1 in

@@ -61,7 +61,7 @@ begun_delivers hd f =
     record {
       sized = λ s k. k.sized;
       row = λ s g w y l e go k. record { sized = sized-put_object s g _ k.sized; head = header_put-object s g _ ∙ k.head; started = λ m t b. ap (λ (r : Task). is_unstarted r.state) (row-task s g _ t) ∙ k.started m t b };
-      values-put = λ s ps e k. record { sized = sized-put_places s ps e k.sized; head = same_head s ps ∙ k.head; started = λ m t b. ap (λ (r : Task). is_unstarted r.state) (places-task s ps t) ∙ k.started m t b };
+      values_put = λ s ps e k. record { sized = sized-put_places s ps e k.sized; head = same_head s ps ∙ k.head; started = λ m t b. ap (λ (r : Task). is_unstarted r.state) (places-task s ps t) ∙ k.started m t b };
       wakes = λ s t y l a b r n k.
           record {
             sized = sized-add_log _ (reached t.0) (sized-ready s t.0 y k.sized);

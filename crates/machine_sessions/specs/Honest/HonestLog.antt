@@ -57,14 +57,14 @@ log_honest h x (removed t ∷ hs) b k = (k.0, log_honest h x hs b k.1)
 
 -- which coroutines are new, and how they were made
 pub record Origins (h : List Entry) (N : ℕ → Shape) : Type 0 where
-  pub named-is : (c : ℕ) → named h c ≡ is_used (N c)
+  pub named_is : (c : ℕ) → named h c ≡ is_used (N c)
   pub made_by : (c f : ℕ) → N c ≡ new f → MakesCoroutine (making h c) f
 
 -- what a store has in the midst of the event of entry x, after the history h
 pub record Logged (h : List Entry) (x : Entry) (N : ℕ → Shape) (u : Store) : Type 0 where
   pub tracked : Tracked (lives h) (stays_blocked h) u
-  pub spawns-are : Spawned (spawned_for h) (coroutine_of h) (spawns h) N u
-  pub log-right : LogRight h x u.log
+  pub spawns_are : Spawned (spawned_for h) (coroutine_of h) (spawns h) N u
+  pub log_right : LogRight h x u.log
 
 -- ---- no task spawned
 
@@ -140,45 +140,45 @@ module _ (h : List Entry) (x : Entry) (N : ℕ → Shape) where
   row_logged s o y l e k =
       record {
         tracked = row_tracked (lives h) (stays_blocked h) s o y k.tracked;
-        spawns-are = row-spawned S C (spawns h) N s o y l e k.spawns-are;
-        log-right = subst (LogRight h x) (sym (row-log s o y)) k.log-right;
+        spawns_are = row-spawned S C (spawns h) N s o y l e k.spawns_are;
+        log_right = subst (LogRight h x) (sym (row-log s o y)) k.log_right;
       }
 
   -- a gather's
   pub gather_logged : (s : Store) (g : ℕ) (w : AwaitedGather) (y : GatherState) → g < object_limit → as_awaited (object s g) ≡ some w → L s → L (put_object s g (Object.GatherFuture w.first w.count y))
   unfolding shape
   gather_logged s g w y l e k =
-      row_logged s g _ l (gather-shape w.first w.count y (awaited-fits s g w e).0 ∙ (sym (ap shape (awaited-object (object s g) w e)) ∙ k.spawns-are.rows g)) k
+      row_logged s g _ l (gather-shape w.first w.count y (awaited-fits s g w e).0 ∙ (sym (ap shape (awaited-object (object s g) w e)) ∙ k.spawns_are.rows g)) k
 
   pub places_logged : (s : Store) (ps : List ℕ) → length ps ≡ places_length → L s → L (put_places s ps)
   places_logged s ps e k =
       record {
-        tracked = (tracked_closed (lives h) (stays_blocked h)).values-put s ps e k.tracked;
-        spawns-are =
-            spawned_like S C (spawns h) N s (put_places s ps) (sized-put_places s ps e k.spawns-are.sized) (same-spawns S s _ (unfold put_places in refl)) (unfold header put_places in refl)
-            (λ o. ap shape (places-object s ps o) ∙ k.spawns-are.rows o) (λ t. places-task s ps t) k.spawns-are;
-        log-right = unfold put_places in k.log-right;
+        tracked = (tracked_closed (lives h) (stays_blocked h)).values_put s ps e k.tracked;
+        spawns_are =
+            spawned_like S C (spawns h) N s (put_places s ps) (sized-put_places s ps e k.spawns_are.sized) (same-spawns S s _ (unfold put_places in refl)) (unfold header put_places in refl)
+            (λ o. ap shape (places-object s ps o) ∙ k.spawns_are.rows o) (λ t. places-task s ps t) k.spawns_are;
+        log_right = unfold put_places in k.log_right;
       }
 
   pub queue_logged : (s : Store) (q : ReadyQueue) → L s → L (put_queue s q)
   queue_logged s q k =
       record {
         tracked = (tracked_closed (lives h) (stays_blocked h)).queued s q k.tracked;
-        spawns-are =
-            spawned_like S C (spawns h) N s (put_queue s q) (sized-put_queue s q k.spawns-are.sized) (same-spawns S s _ (unfold put_queue in refl)) (unfold header put_queue in refl)
-            (λ o. rows o) (λ t. unfold task put_queue in refl) k.spawns-are;
-        log-right = unfold put_queue in k.log-right;
+        spawns_are =
+            spawned_like S C (spawns h) N s (put_queue s q) (sized-put_queue s q k.spawns_are.sized) (same-spawns S s _ (unfold put_queue in refl)) (unfold header put_queue in refl)
+            (λ o. rows o) (λ t. unfold task put_queue in refl) k.spawns_are;
+        log_right = unfold put_queue in k.log_right;
       }
     where
       same_object : (o : ℕ) → object (put_queue s q) o ≡ object s o
       same_object o = unfold object put_queue in refl
 
       rows : (o : ℕ) → shape (object (put_queue s q) o) ≡ N o
-      rows o = ap shape (same_object o) ∙ k.spawns-are.rows o
+      rows o = ap shape (same_object o) ∙ k.spawns_are.rows o
 
   -- a live task, by its row
   pub is_live_now : (s : Store) (t : ℕ) → t < task_limit → is_live (task s t).state ≡ true → L s → live s t ≡ true
-  is_live_now s t l e k = live-is s t (live_below S C (spawns h) N s t l e k.spawns-are) e
+  is_live_now s t l e k = live-is s t (live_below S C (spawns h) N s t l e k.spawns_are) e
 
   -- what the words of the history and the log so far say of it
   pub lives_now : (s : Store) (t : ℕ) → live s t ≡ true → L s → lives_by (lives h t) s.log t ≡ true
@@ -191,10 +191,10 @@ module _ (h : List Entry) (x : Entry) (N : ℕ → Shape) where
   wakes_logged s t y l b r n k =
       record {
         tracked = (tracked_closed (lives h) (stays_blocked h)).wakes s t y l b r k.tracked;
-        spawns-are =
+        spawns_are =
             state_spawned S C (spawns h) N s t y _ l (blocked-live (task s t).state b).0 (blocked-live (task s t).state b).1 (ready-live y r) n
-            ((tracked_closed (lives h) (stays_blocked h)).wakes s t y l b r k.tracked).sized (reached-spawns S s _ t (wakes-log s t y)) (ap (λ z. z.next) (wakes-header s t y)) (λ o. wakes-object s t y o) (λ v. wakes-task s t y v) k.spawns-are;
-        log-right = subst (LogRight h x) (sym (wakes-log s t y)) (unfold LogRight in (record { live = lives_now s t lv k; blocked = k.tracked.stuck t lv ∙ b }, k.log-right));
+            ((tracked_closed (lives h) (stays_blocked h)).wakes s t y l b r k.tracked).sized (reached-spawns S s _ t (wakes-log s t y)) (ap (λ z. z.next) (wakes-header s t y)) (λ o. wakes-object s t y o) (λ v. wakes-task s t y v) k.spawns_are;
+        log_right = subst (LogRight h x) (sym (wakes-log s t y)) (unfold LogRight in (record { live = lives_now s t lv k; blocked = k.tracked.stuck t lv ∙ b }, k.log_right));
       }
     where
       lv : live s t ≡ true
@@ -206,11 +206,11 @@ module _ (h : List Entry) (x : Entry) (N : ℕ → Shape) where
   exits_logged s t lv z b u r k =
       record {
         tracked = exits_tracked (lives h) (stays_blocked h) s t k.tracked;
-        spawns-are =
+        spawns_are =
             gone-spawned S C (spawns h) N s t _ (λ e. u) (exits_tracked (lives h) (stays_blocked h) s t k.tracked).sized (exited-spawns S s _ t (gone_log s t (exited t)))
-            (ap (λ y. y.next) (gone_header s t (exited t))) (λ o. gone_object s t (exited t) o) (λ v. gone_task s t (exited t) v) k.spawns-are;
-        log-right = subst (LogRight h x) (sym (gone_log s t (exited t)))
-            (unfold LogRight in (record { spawned = z; live = lives_now s t lv k; unblocked = free_now s t lv b k; why = r }, k.log-right));
+            (ap (λ y. y.next) (gone_header s t (exited t))) (λ o. gone_object s t (exited t) o) (λ v. gone_task s t (exited t) v) k.spawns_are;
+        log_right = subst (LogRight h x) (sym (gone_log s t (exited t)))
+            (unfold LogRight in (record { spawned = z; live = lives_now s t lv k; unblocked = free_now s t lv b k; why = r }, k.log_right));
       }
 
   -- a task is removed; if it was live, its coroutine is not new
@@ -218,10 +218,10 @@ module _ (h : List Entry) (x : Entry) (N : ℕ → Shape) where
   goes_logged s t u r k =
       record {
         tracked = (tracked_closed (lives h) (stays_blocked h)).goes s t k.tracked;
-        spawns-are =
+        spawns_are =
             gone-spawned S C (spawns h) N s t _ u ((tracked_closed (lives h) (stays_blocked h)).goes s t k.tracked).sized (removed-spawns S s _ t (gone_log s t (removed t)))
-            (ap (λ y. y.next) (gone_header s t (removed t))) (λ o. gone_object s t (removed t) o) (λ v. gone_task s t (removed t) v) k.spawns-are;
-        log-right = subst (LogRight h x) (sym (gone_log s t (removed t))) (unfold LogRight in (r, k.log-right));
+            (ap (λ y. y.next) (gone_header s t (removed t))) (λ o. gone_object s t (removed t) o) (λ v. gone_task s t (removed t) v) k.spawns_are;
+        log_right = subst (LogRight h x) (sym (gone_log s t (removed t))) (unfold LogRight in (r, k.log_right));
       }
 
   pub logged_delivers : Delivers L (λ a. Unit {0})
@@ -229,7 +229,7 @@ module _ (h : List Entry) (x : Entry) (N : ℕ → Shape) where
       record {
         sized = sized_logged;
         row = λ s g w y l e go k. gather_logged s g w y l e k;
-        values-put = places_logged;
+        values_put = places_logged;
         wakes = λ s t y l a b r n k. wakes_logged s t.0 y l b r n k;
         onward = λ s g y w e a k. tt;
       }
@@ -240,7 +240,7 @@ module _ (h : List Entry) (x : Entry) (N : ℕ → Shape) where
 
   pub settles_logged : (s : Store) (o : ℕ) (p : PendingExternal) (y : Rattle.asyncio.specs.declared.ExternalFutureState.ExternalFutureState) → o < object_limit → as_pending (object s o) ≡ some p → L s → L (put_object s o (Object.ExternalFuture p.call y))
   unfolding shape
-  settles_logged s o p y l e k = external_logged s o y p.call l (sym (k.spawns-are.rows o) ∙ ap shape (pending-object (object s o) p e)) k
+  settles_logged s o p y l e k = external_logged s o y p.call l (sym (k.spawns_are.rows o) ∙ ap shape (pending-object (object s o) p e)) k
 
   -- ---- a first run that fails
 
@@ -248,8 +248,8 @@ module _ (h : List Entry) (x : Entry) (N : ℕ → Shape) where
     -- a task whose coroutine is not new at its first run
     pub reuse : (s : Store) (t : ℕ) → t < task_limit → (task s t).state ≡ TaskState.Unstarted → new_function (object s (task s t).coroutine.0) ≡ none → L s
         → (eqb t 0 ≡ false) × (is_used (N (task s t).coroutine.0) ≡ true) × ExitReason h x s.log t
-    reuse s zero l e n k = absurd (true≢false (sym (ap is_unstarted e) ∙ k.spawns-are.main))
-    reuse s (suc t) l e n k = (ne_eqb (suc t) 0 (λ q. not-suc-le-zero {n = 0} (omega arith)), old, reused c y.origin (y.fresh (ap is_unstarted e)) (origins.named-is c ∙ old))
+    reuse s zero l e n k = absurd (true≢false (sym (ap is_unstarted e) ∙ k.spawns_are.main))
+    reuse s (suc t) l e n k = (ne_eqb (suc t) 0 (λ q. not-suc-le-zero {n = 0} (omega arith)), old, reused c y.origin (y.fresh (ap is_unstarted e)) (origins.named_is c ∙ old))
       where
         c : ℕ
         c = (task s (suc t)).coroutine.0
@@ -258,14 +258,14 @@ module _ (h : List Entry) (x : Entry) (N : ℕ → Shape) where
         lv = ap is_live e
 
         y : TaskFrom S C N s.log (suc t) (task s (suc t))
-        y = k.spawns-are.tasks t (live_below S C (spawns h) N s (suc t) l lv k.spawns-are) lv
+        y = k.spawns_are.tasks t (live_below S C (spawns h) N s (suc t) l lv k.spawns_are) lv
 
         old : is_used (N c) ≡ true
-        old = ap is_used (sym (k.spawns-are.rows c)) ∙ old_shape (object s c) n (ap is_co (k.spawns-are.rows c) ∙ y.coroutine)
+        old = ap is_used (sym (k.spawns_are.rows c)) ∙ old_shape (object s c) n (ap is_co (k.spawns_are.rows c) ∙ y.coroutine)
 
     pub reuse_logged : (s : Store) (t : ℕ) → t < task_limit → (task s t).state ≡ TaskState.Unstarted → new_function (object s (task s t).coroutine.0) ≡ none → L s → L (add_log (remove_task s t) (exited t))
     reuse_logged s t l e n k =
         let y = reuse s t l e n k in exits_logged s t (is_live_now s t l (ap is_live e) k) y.0 (ap is_blocked e) y.1 y.2 k
 
     pub logged_switching : Switching L (λ a. Unit {0})
-    logged_switching = record { queued = queue_logged; sent-to = λ s t l e n k. tt; exits = reuse_logged }
+    logged_switching = record { queued = queue_logged; sent_to = λ s t l e n k. tt; exits = reuse_logged }

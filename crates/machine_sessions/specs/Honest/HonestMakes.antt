@@ -43,10 +43,10 @@ use Rattle.machine_sessions.specs.Honest.HonestEvents.{Held}
 pub record Adds (s u : Store) (a : ℕ) : Type 0 where
   pub sized : Sized u
   pub others : (o : ℕ) → (o ≡ a → ⊥) → object u o ≡ object s o
-  pub same-tasks : (t : ℕ) → task u t ≡ task s t
+  pub same_tasks : (t : ℕ) → task u t ≡ task s t
   pub same_log : u.log ≡ s.log
   pub same_next : (header u).next ≡ (header s).next
-  pub same-moment : (header u).moment ≡ (header s).moment
+  pub same_moment : (header u).moment ≡ (header s).moment
 
 abbrev IsUnmade : Frozen → Type 0
 IsUnmade Frozen.unmade = Unit {0}
@@ -65,17 +65,17 @@ added s r n z m l =
     record {
       sized = sized-put_object _ _ r (sized-put_header s i z);
       others = λ o ne. object_put-other (put_header s i) (header s).made o r ne ∙ object_put-header s i o;
-      same-tasks = λ t. unfold task put_object put_header in refl;
+      same_tasks = λ t. unfold task put_object put_header in refl;
       same_log = unfold put_object put_header in refl;
       same_next = ap (λ (h : Header). h.next) head;
-      same-moment = ap (λ (h : Header). h.moment) head;
+      same_moment = ap (λ (h : Header). h.moment) head;
     }
   where
     i : Header
     i = record { made = (header s).made + 1; used = (header s).used + n; calls = (header s).calls; next = (header s).next; moment = (header s).moment }
 
     fits : HeaderFits i
-    fits = let f : HeaderFits (header s) = header-fits s in record { made-fits = omega arith; used-fits = l; calls-fit = f.calls-fit; next_fits = f.next_fits; moment_fits = f.moment_fits }
+    fits = let f : HeaderFits (header s) = header-fits s in record { made_fits = omega arith; used_fits = l; calls_fit = f.calls_fit; next_fits = f.next_fits; moment_fits = f.moment_fits }
 
     head : header (put_object (put_header s i) (header s).made r) ≡ i
     head = header_put-object (put_header s i) (header s).made r ∙ header_put-header s i z fits
@@ -90,10 +90,10 @@ adds_then s v u a b e k os ts l n m =
     record {
       sized = k.sized;
       others = λ o ne. k.others o (λ q. ne (q ∙ e)) ∙ os o;
-      same-tasks = λ t. k.same-tasks t ∙ ts t;
+      same_tasks = λ t. k.same_tasks t ∙ ts t;
       same_log = k.same_log ∙ l;
       same_next = k.same_next ∙ n;
-      same-moment = k.same-moment ∙ m;
+      same_moment = k.same_moment ∙ m;
     }
 
 items-object : (os : List ℕ) (s : Store) (p o : ℕ) → object (put_items s p os) o ≡ object s o
@@ -111,7 +111,7 @@ module _ (s : Store) (z : Sized s) where
     unfolding set_calls
     more =
         let f : HeaderFits (header s) = header-fits s in
-        header_put-header s _ z (record { made-fits = f.made-fits; used-fits = f.used-fits; calls-fit = omega arith; next_fits = f.next_fits; moment_fits = f.moment_fits })
+        header_put-header s _ z (record { made_fits = f.made_fits; used_fits = f.used_fits; calls_fit = omega arith; next_fits = f.next_fits; moment_fits = f.moment_fits })
 
     pub calls_object : (o : ℕ) → object (set_calls s ((header s).calls + 1)) o ≡ object s o
     unfolding set_calls
@@ -122,10 +122,10 @@ module _ (s : Store) (z : Sized s) where
         record {
           sized = sized-set_calls s _ z;
           others = λ o ne. calls_object o;
-          same-tasks = λ t. unfold task set_calls put_header in refl;
+          same_tasks = λ t. unfold task set_calls put_header in refl;
           same_log = unfold set_calls put_header in refl;
           same_next = ap (λ (h : Header). h.next) more;
-          same-moment = ap (λ (h : Header). h.moment) more;
+          same_moment = ap (λ (h : Header). h.moment) more;
         }
 
     pub settled_adds : (v : Value) → (header s).made < object_limit → Adds s (make_settled s v) (header s).made
@@ -133,7 +133,7 @@ module _ (s : Store) (z : Sized s) where
     settled_adds v m =
         adds_then s (set_calls s ((header s).calls + 1)) _ _ (header s).made (ap (λ (h : Header). h.made) more)
         (added (set_calls s ((header s).calls + 1)) _ 0 (sized-set_calls s _ z) (subst (λ (h : Header). h.made < object_limit) (sym more) m)
-        (subst (λ (h : Header). h.used + 0 ≤ place_limit) (sym more) (omega (arith, (header-fits s).used-fits))))
+        (subst (λ (h : Header). h.used + 0 ≤ place_limit) (sym more) (omega (arith, (header-fits s).used_fits))))
         calls_object (λ t. unfold task set_calls put_header in refl) (unfold set_calls put_header in refl) (ap (λ (h : Header). h.next) more) (ap (λ (h : Header). h.moment) more)
 
     pub settled-shape : (v : Value) → (header s).made < object_limit → shape (object (make_settled s v) (header s).made) ≡ Shape.other
@@ -144,7 +144,7 @@ module _ (s : Store) (z : Sized s) where
 
   pub coroutine_adds : (f : ℕ) → (header s).made < object_limit → Adds s (make_coroutine s f) (header s).made
   unfolding make_coroutine
-  coroutine_adds f m = added s _ 0 z m (omega (arith, (header-fits s).used-fits))
+  coroutine_adds f m = added s _ 0 z m (omega (arith, (header-fits s).used_fits))
 
   pub coroutine-shape : (f : ℕ) → f < u32_limit → (header s).made < object_limit → shape (object (make_coroutine s f) (header s).made) ≡ Shape.new f
   unfolding make_coroutine shape
@@ -152,7 +152,7 @@ module _ (s : Store) (z : Sized s) where
 
   pub pending_adds : (c : ℕ) (r : OptionValue) → (header s).made < object_limit → Adds s (make_pending s c r) (header s).made
   unfolding make_pending
-  pending_adds c r m = added s _ 0 z m (omega (arith, (header-fits s).used-fits))
+  pending_adds c r m = added s _ 0 z m (omega (arith, (header-fits s).used_fits))
 
   pub pending-shape : (c : ℕ) (r : OptionValue) → (header s).made < object_limit → shape (object (make_pending s c r) (header s).made) ≡ Shape.other
   unfolding make_pending
@@ -245,13 +245,13 @@ module _ (h : List Entry) (s : Store) (k : Held h s) (ag : Agrees h s) where
           sized = e.sized;
           rows = λ o. refl;
           next = e.same_next ∙ (j.next ∙ ap (λ (m : ℕ). suc (m + spawns h)) (sym sp.counted));
-          unused = λ t l b. ap (λ (r : Task). is_live r.state) (e.same-tasks t) ∙ j.unused t l (subst (λ (m : ℕ). m ≤ t) e.same_next b);
+          unused = λ t l b. ap (λ (r : Task). is_live r.state) (e.same_tasks t) ∙ j.unused t l (subst (λ (m : ℕ). m ≤ t) e.same_next b);
           unborn = λ t b. j.unborn t (subst (λ (m : ℕ). m ≤ t) e.same_next b);
-          main = ap (λ (r : Task). is_unstarted r.state) (e.same-tasks 0) ∙ j.main;
-          not-main = sp.for_it 0 ∙ j.not-main;
+          main = ap (λ (r : Task). is_unstarted r.state) (e.same_tasks 0) ∙ j.main;
+          not_main = sp.for_it 0 ∙ j.not_main;
           tasks = λ t b l.
-              let y : TaskFrom (spawned_for h) (coroutine_of h) N s.log (suc t) (task s (suc t)) = j.tasks t (subst (λ (m : ℕ). suc t < m) e.same_next b) (sym (ap (λ (r : Task). is_live r.state) (e.same-tasks (suc t))) ∙ l) in
-              subst (TaskFrom (spawned_for h) (coroutine_of h) M u.log (suc t)) (sym (e.same-tasks (suc t)))
+              let y : TaskFrom (spawned_for h) (coroutine_of h) N s.log (suc t) (task s (suc t)) = j.tasks t (subst (λ (m : ℕ). suc t < m) e.same_next b) (sym (ap (λ (r : Task). is_live r.state) (e.same_tasks (suc t))) ∙ l) in
+              subst (TaskFrom (spawned_for h) (coroutine_of h) M u.log (suc t)) (sym (e.same_tasks (suc t)))
               (record {
                 origin = sp.for_it (suc t) ∙ y.origin;
                 fresh = y.fresh;
@@ -261,11 +261,11 @@ module _ (h : List Entry) (s : Store) (k : Held h s) (ag : Agrees h s) where
           known = λ t c q. let y : is_co (N c) ≡ true = j.known t c (sym (sp.for_it t) ∙ q) in ap is_co (stays c y) ∙ y;
           first = λ t c f q y.
               let z : is_co (N c) ≡ true = j.known t c (sym (sp.for_it t) ∙ q) in
-              live_like s u t e.same_next (ap (λ (r : Task). is_live r.state) (e.same-tasks t)) ∙ j.first t c f (sym (sp.for_it t) ∙ q) (sym (stays c z) ∙ y);
+              live_like s u t e.same_next (ap (λ (r : Task). is_live r.state) (e.same_tasks t)) ∙ j.first t c f (sym (sp.for_it t) ∙ q) (sym (stays c z) ∙ y);
         }
       where
         j : Spawned (spawned_for h) (coroutine_of h) (spawns h) N s
-        j = k.spawns-are
+        j = k.spawns_are
 
         sp : SameSpawns (spawned_for h) s u
         sp = same-spawns (spawned_for h) s u e.same_log
@@ -274,18 +274,18 @@ module _ (h : List Entry) (s : Store) (k : Held h s) (ag : Agrees h s) where
     pub makes_left : (x : Entry) → x.happened ≡ u.log → (tells x.answer).control ≡ none → (tells x.answer).makes ≡ some a → is_used (M a) ≡ false → ((f : ℕ) → M a ≡ Shape.new f → x.event ≡ Event.coroutine f) → Left h x u
     makes_left x hp ct mk us nw =
         record {
-          spawns-are = spawns-later h x u none M hp ct (spawned_as (spawned_for h) (spawned_for h) (coroutine_of h) (λ t. started_by none t (coroutine_of h t)) (spawns h) (spawns h) M M u (λ t. refl) (λ t. none-plain.begins t (coroutine_of h t)) refl (λ o. refl) made-spawns);
-          origins = record { named-is = λ o. named-then o ∙ named_by o (ℕ_discrete o a); made_by = λ o f q. made_by o f q (ℕ_discrete o a) };
-          log-right = subst (LogRight h x) (sym (e.same_log ∙ k.empty-log)) (unfold LogRight in tt);
-          control-left = subst (ControlLeft h x u.log) (sym ct) (unfold ControlLeft in tt);
+          spawns_are = spawns-later h x u none M hp ct (spawned_as (spawned_for h) (spawned_for h) (coroutine_of h) (λ t. started_by none t (coroutine_of h t)) (spawns h) (spawns h) M M u (λ t. refl) (λ t. none-plain.begins t (coroutine_of h t)) refl (λ o. refl) made-spawns);
+          origins = record { named_is = λ o. named-then o ∙ named_by o (ℕ_discrete o a); made_by = λ o f q. made_by o f q (ℕ_discrete o a) };
+          log_right = subst (LogRight h x) (sym (e.same_log ∙ k.empty_log)) (unfold LogRight in tt);
+          control_left = subst (ControlLeft h x u.log) (sym ct) (unfold ControlLeft in tt);
         }
       where
         named-then : (o : ℕ) → named (x ∷ h) o ≡ named h o
         named-then o = unfold named in (ap (λ (y : Option Control). names_by y o || named h o) ct ∙ (unfold names_by in refl))
 
         named_by : (o : ℕ) → Dec (o ≡ a) → named h o ≡ is_used (M o)
-        named_by o (yes q) = k.origins.named-is o ∙ (ap (λ (m : ℕ). is_used (N m)) q ∙ (ap is_used was-none ∙ sym (subst (λ (m : ℕ). is_used (M m) ≡ false) (sym q) us)))
-        named_by o (no ne) = k.origins.named-is o ∙ ap is_used (sym (there o ne))
+        named_by o (yes q) = k.origins.named_is o ∙ (ap (λ (m : ℕ). is_used (N m)) q ∙ (ap is_used was-none ∙ sym (subst (λ (m : ℕ). is_used (M m) ≡ false) (sym q) us)))
+        named_by o (no ne) = k.origins.named_is o ∙ ap is_used (sym (there o ne))
 
         made_by : (o f : ℕ) → M o ≡ Shape.new f → Dec (o ≡ a) → MakesCoroutine (making (x ∷ h) o) f
         made_by o f y (yes q) =
@@ -298,13 +298,13 @@ module _ (h : List Entry) (s : Store) (k : Held h s) (ag : Agrees h s) where
     pub adds_left : (x : Entry) → Leaves x none u → ((o : ℕ) → object u o ≡ object s o) → Left h x u
     adds_left x l same =
         record {
-          spawns-are = spawns-later h x u none M l.happens l.controls (spawned_as (spawned_for h) (spawned_for h) (coroutine_of h) (λ t. started_by none t (coroutine_of h t)) (spawns h) (spawns h) M M u (λ t. refl) (λ t. none-plain.begins t (coroutine_of h t)) refl (λ o. refl) made-spawns);
+          spawns_are = spawns-later h x u none M l.happens l.controls (spawned_as (spawned_for h) (spawned_for h) (coroutine_of h) (λ t. started_by none t (coroutine_of h t)) (spawns h) (spawns h) M M u (λ t. refl) (λ t. none-plain.begins t (coroutine_of h t)) refl (λ o. refl) made-spawns);
           origins = record {
-            named-is = λ o. named-then o ∙ (k.origins.named-is o ∙ ap (λ (y : Object). is_used (shape y)) (sym (same o)));
+            named_is = λ o. named-then o ∙ (k.origins.named_is o ∙ ap (λ (y : Object). is_used (shape y)) (sym (same o)));
             made_by = λ o f q. subst (λ (m : Option Making). MakesCoroutine m f) (sym (none_made x h o l.makes_none)) (makes_later x (making h o) f (k.origins.made_by o f (sym (ap shape (same o)) ∙ q)));
           };
-          log-right = subst (LogRight h x) (sym (e.same_log ∙ k.empty-log)) (unfold LogRight in tt);
-          control-left = subst (ControlLeft h x u.log) (sym l.controls) (unfold ControlLeft in tt);
+          log_right = subst (LogRight h x) (sym (e.same_log ∙ k.empty_log)) (unfold LogRight in tt);
+          control_left = subst (ControlLeft h x u.log) (sym l.controls) (unfold ControlLeft in tt);
         }
       where
         named-then : (o : ℕ) → named (x ∷ h) o ≡ named h o

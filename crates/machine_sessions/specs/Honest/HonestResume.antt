@@ -103,8 +103,8 @@ module _ (es : List Sent) (e : Sent) (i : AllSentInRange es) (j : InRange e.even
   kept : Kept h s
   kept = (session_honest es i).kept (ap is_ended waiting-now ∙ (unfold is_ended in refl))
 
-  no-await : (said x).awaits ≡ none
-  no-await = resume_no_await x (unfold entry_of in is)
+  no_await : (said x).awaits ≡ none
+  no_await = resume_no_await x (unfold entry_of in is)
 
   left : ControlLeft h x x.happened (some (runs t (start c f)))
   left = subst (ControlLeft h x x.happened) gives (entry_logged es e i j).control
@@ -114,20 +114,20 @@ module _ (es : List Sent) (e : Sent) (i : AllSentInRange es) (j : InRange e.even
   told-it = (left.0, left.2.0, left.2.1)
 
   was-live : live s t ≡ true
-  was-live = sym (live_words (session es) (session_honest es i).follows t) ∙ lived h x no-await (lives h t) x.happened t (entry_logged es e i j).log told-it.0
+  was-live = sym (live_words (session es) (session_honest es i).follows t) ∙ lived h x no_await (lives h t) x.happened t (entry_logged es e i j).log told-it.0
 
   was-spawned : spawned_for h t ≡ some c
-  was-spawned = sym (spawned-before h x no-await (spawned_for h t) x.happened t (entry_logged es e i j).log) ∙ told-it.1
+  was-spawned = sym (spawned-before h x no_await (spawned_for h t) x.happened t (entry_logged es e i j).log) ∙ told-it.1
 
   -- A resume starts no task.
   pub resume-starts-none : ⊥
   resume-starts-none = by t refl
     where
-      not-main : spawned_for h 0 ≡ none
-      not-main = unfold forget spawned_by in kept.spawns-are.not-main
+      not_main : spawned_for h 0 ≡ none
+      not_main = unfold forget spawned_by in kept.spawns_are.not_main
 
       by : (v : ℕ) → t ≡ v → ⊥
-      by zero q = absurd_some (sym not-main ∙ subst (λ (m : ℕ). spawned_for h m ≡ some c) q was-spawned)
+      by zero q = absurd_some (sym not_main ∙ subst (λ (m : ℕ). spawned_for h m ≡ some c) q was-spawned)
       by (suc v) q =
           let b = live_low s (suc v) (subst (λ (m : ℕ). live s m ≡ true) q was-live) in
           absurd_some (sym (subst (λ (m : ℕ). coroutine_of h m ≡ none) q told-it.2) ∙ ((session_honest es i).agrees.told.tasks v b.0 b.1).started (kept.idle.begun waiting-now (suc v) b.0))

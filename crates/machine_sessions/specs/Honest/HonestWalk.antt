@@ -52,7 +52,7 @@ pub record Delivers (K : Store → Type 0) (A : Awaiter → Type 0) : Type 0 whe
   pub sized : (s : Store) → K s → Sized s
   pub row : (s : Store) (g : ℕ) (w : AwaitedGather) (y : GatherState) → g < object_limit → as_awaited (object s g) ≡ some w → Goes w.awaiter y → K s
       → K (put_object s g (Object.GatherFuture w.first w.count y))
-  pub values-put : (s : Store) (ps : List ℕ) → length ps ≡ places_length → K s → K (put_places s ps)
+  pub values_put : (s : Store) (ps : List ℕ) → length ps ≡ places_length → K s → K (put_places s ps)
   pub wakes : (s : Store) (t : TaskId) (x : TaskState) → t.0 < task_limit → A (Awaiter.Task t) → is_blocked (task s t.0).state ≡ true → is_ready x ≡ true → is_unstarted x ≡ false → K s
       → K (add_log (make_ready s t.0 x) (reached t.0))
   pub onward : (s : Store) (g x : HeapId) (w : AwaitedGather) → as_awaited (object s g.0) ≡ some w → A (Awaiter.GatherSlot g x) → K s → A w.awaiter
@@ -60,7 +60,7 @@ pub record Delivers (K : Store → Type 0) (A : Awaiter → Type 0) : Type 0 whe
 -- and by each write of a switch; a task exits there only at its first run
 pub record Switching (K : Store → Type 0) (A : Awaiter → Type 0) : Type 0 where
   pub queued : (s : Store) (q : ReadyQueue) → K s → K (put_queue s q)
-  pub sent-to : (s : Store) (t : ℕ) → t < task_limit → (task s t).state ≡ TaskState.Unstarted → new_function (object s (task s t).coroutine.0) ≡ none → K s → A (task s t).awaiter
+  pub sent_to : (s : Store) (t : ℕ) → t < task_limit → (task s t).state ≡ TaskState.Unstarted → new_function (object s (task s t).coroutine.0) ≡ none → K s → A (task s t).awaiter
   pub exits : (s : Store) (t : ℕ) → t < task_limit → (task s t).state ≡ TaskState.Unstarted → new_function (object s (task s t).coroutine.0) ≡ none → K s
       → K (add_log (remove_task s t) (exited t))
 
@@ -79,9 +79,9 @@ resolve_onward s g x v b e = by (as_awaited (object s g)) refl e
   where
     by : (a : Option AwaitedGather) → as_awaited (object s g) ≡ a → (resolve_awaited s g x v a).onward ≡ some b → (w : AwaitedGather) × (as_awaited (object s g) ≡ some w) × (w.awaiter ≡ b)
     by none q h = absurd_some h
-    by (some w) q h = left (eqb (fill_from s.places w.open-places w.first x v 0 w.count).open-places 0) h
+    by (some w) q h = left (eqb (fill_from s.places w.open_places w.first x v 0 w.count).open_places 0) h
       where
-        left : (c : Bool) → (resolve_left c (put_places s (fill_from s.places w.open-places w.first x v 0 w.count).places) g w (fill_from s.places w.open-places w.first x v 0 w.count).open-places).onward ≡ some b
+        left : (c : Bool) → (resolve_left c (put_places s (fill_from s.places w.open_places w.first x v 0 w.count).places) g w (fill_from s.places w.open_places w.first x v 0 w.count).open_places).onward ≡ some b
             → (w : AwaitedGather) × (as_awaited (object s g) ≡ some w) × (w.awaiter ≡ b)
         left true h = (w, q, some-injective w.awaiter b h)
         left false h = absurd_some h
@@ -111,23 +111,23 @@ module _ (K : Store → Type 0) (A : Awaiter → Type 0) (kept : Delivers K A) w
     where
       by : (w : Option AwaitedGather) → as_awaited (object s g) ≡ w → K (resolve_awaited s g x v w).store
       by none e = unfold resolve_awaited in k
-      by (some w) e = unfold resolve_awaited in (left (eqb f.open-places 0))
+      by (some w) e = unfold resolve_awaited in (left (eqb f.open_places 0))
         where
           f : Filled
-          f = fill_from s.places w.open-places w.first x v 0 w.count
+          f = fill_from s.places w.open_places w.first x v 0 w.count
 
           m : Store
           m = put_places s f.places
 
           k1 : K m
-          k1 = kept.values-put s f.places (length-fill_from w.count s.places w.open-places w.first x v 0 ∙ (kept.sized s k).places-sized) k
+          k1 = kept.values_put s f.places (length-fill_from w.count s.places w.open_places w.first x v 0 ∙ (kept.sized s k).places_sized) k
 
           e1 : as_awaited (object m g) ≡ some w
           e1 = unfold object put_places in e
 
-          left : (b : Bool) → K (resolve_left b m g w f.open-places).store
+          left : (b : Bool) → K (resolve_left b m g w f.open_places).store
           left true = unfold resolve_left in (kept.row m g w GatherState.Completed l e1 completes k1)
-          left false = unfold resolve_left in (kept.row m g w (GatherState.Awaited w.awaiter f.open-places) l e1 (waits_on f.open-places) k1)
+          left false = unfold resolve_left in (kept.row m g w (GatherState.Awaited w.awaiter f.open_places) l e1 (waits_on f.open_places) k1)
 
   gather-fails : (s : Store) (g : ℕ) (e : Error) → g < object_limit → K s → K (fail_gather s g e).store
   unfolding fail_gather
@@ -251,7 +251,7 @@ module _ (K : Store → Type 0) (A : Awaiter → Type 0) (kept : Delivers K A) (
       record {
         sized = λ s k. kept.sized s k.0;
         row = λ s g w y l e go k. (kept.row s g w y l e go k.0, fixed-row s g w y l (kept.sized s k.0) k.1);
-        values-put = λ s ps e k. (kept.values-put s ps e k.0, record { row = places-task s ps t ∙ k.1.row; old = ap new_function (places-object s ps c) ∙ k.1.old });
+        values_put = λ s ps e k. (kept.values_put s ps e k.0, record { row = places-task s ps t ∙ k.1.row; old = ap new_function (places-object s ps c) ∙ k.1.old });
         wakes = λ s v x l a b re un k. (kept.wakes s v x l a b re un k.0, fixed-wakes s v.0 x b k.1);
         onward = λ s g x w e a k. kept.onward s g x w e a k.0;
       }
@@ -291,7 +291,7 @@ module _ (K : Store → Type 0) (A : Awaiter → Type 0) (kept : Delivers K A) (
         d = (deliver_awaiter_failure s (task s t).awaiter Error.CoroutineReuse).store
 
         y : K d × Fixed t (task s t) (task s t).coroutine.0 d
-        y = failure_fixed s t Error.CoroutineReuse (ap is_blocked e) n (switch.sent-to s t l e n k) k
+        y = failure_fixed s t Error.CoroutineReuse (ap is_blocked e) n (switch.sent_to s t l e n k) k
 
     start-ends : (s : Store) (t : ℕ) → t < task_limit → (task s t).state ≡ TaskState.Unstarted → K s → Ends K (start_task go s t)
     unfolding start_task start_by
@@ -333,7 +333,7 @@ module _ (K : Store → Type 0) (A : Awaiter → Type 0) (kept : Delivers K A) (
 
 found_low : (s : Store) (c o : ℕ) → pending_external s c ≡ some o → o < object_limit
 unfolding pending_external pending_external_in
-found_low s c o e = omega (arith, first_below (is_call s.objects c) (header_at s.objects).made 0 o e, (header_at-fits s.objects).made-fits)
+found_low s c o e = omega (arith, first_below (is_call s.objects c) (header_at s.objects).made 0 o e, (header_at-fits s.objects).made_fits)
 
 -- ---- results, where an external that settles keeps K, and any awaiter will do
 
@@ -400,7 +400,7 @@ task_of-spawned s c t e =
 module _ (K : Store → Type 0) (goes : (s : Store) (t : ℕ) → IsSpawned t → K s → K (add_log (remove_task s t) (removed t))) where
   record WalkKept (w : Walk) : Type 0 where
     keeps : K w.store
-    found : (o t : ℕ) → w.tasks-of o ≡ some t → IsSpawned t
+    found : (o t : ℕ) → w.tasks_of o ≡ some t → IsSpawned t
 
   reach-walk : (w : Walk) (g : ℕ) → WalkKept w → WalkKept (reach w g)
   unfolding reach
@@ -426,16 +426,16 @@ module _ (K : Store → Type 0) (goes : (s : Store) (t : ℕ) → IsSpawned t �
 
   visits : (w : Walk) (o : ℕ) → WalkKept w → WalkKept (visit w o)
   unfolding visit
-  visits w o k = by (still_live w.store.tasks (w.tasks-of o)) refl
+  visits w o k = by (still_live w.store.tasks (w.tasks_of o)) refl
     where
-      by : (d : Option ℕ) → still_live w.store.tasks (w.tasks-of o) ≡ d → WalkKept (visit_by w o d)
+      by : (d : Option ℕ) → still_live w.store.tasks (w.tasks_of o) ≡ d → WalkKept (visit_by w o d)
       by none e = unfold visit_by in (reach-walk w o k)
-      by (some t) e = unfold visit_by in (removes w t _ (k.found o t (still-is w.store.tasks (w.tasks-of o) t e)) k)
+      by (some t) e = unfold visit_by in (removes w t _ (k.found o t (still-is w.store.tasks (w.tasks_of o) t e)) k)
 
   visits-open : (n : ℕ) (w : Walk) (a : AwaitedGather) (i : ℕ) → WalkKept w → WalkKept (visit_open w a i n)
   unfolding visit_open visit_place
   visits-open zero w a i k = k
-  visits-open (suc n) w a i k = visits-open n _ a (i + 1) (pick_has WalkKept (bit a.open-places i) (visits w _ k) k)
+  visits-open (suc n) w a i k = visits-open n _ a (i + 1) (pick_has WalkKept (bit a.open_places i) (visits w _ k) k)
 
   walk-gather-walk : (w : Walk) (a : Option AwaitedGather) → WalkKept w → WalkKept (walk_gather w a)
   unfolding walk_gather
@@ -453,7 +453,7 @@ module _ (K : Store → Type 0) (goes : (s : Store) (t : ℕ) → IsSpawned t �
   walk-walk (suc n) w k = walk-next-walk (λ x. walk n x) (λ x y. walk-walk n x y) w w.stack k
 
   -- task t has gone, and the walk begins
-  begins : (w : Walk) (t : ℕ) (b : Option ℕ) → K (add_log (remove_task w.store t) (removed t)) → ((o u : ℕ) → w.tasks-of o ≡ some u → IsSpawned u) → WalkKept (remove_blocked w t b)
+  begins : (w : Walk) (t : ℕ) (b : Option ℕ) → K (add_log (remove_task w.store t) (removed t)) → ((o u : ℕ) → w.tasks_of o ≡ some u → IsSpawned u) → WalkKept (remove_blocked w t b)
   unfolding remove_blocked cancel_one
   begins w t none k f = record { keeps = k; found = f }
   begins w t (some b) k f = reach-walk _ b (record { keeps = k; found = f })

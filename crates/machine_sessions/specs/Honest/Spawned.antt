@@ -123,7 +123,7 @@ pub record Spawned (S C : ℕ → Option ℕ) (n : ℕ) (N : ℕ → Shape) (u :
   pub unused : (t : ℕ) → t < task_limit → (header u).next ≤ t → is_live (task u t).state ≡ false
   pub unborn : (t : ℕ) → (header u).next ≤ t → C t ≡ none
   pub main : is_unstarted (task u 0).state ≡ false
-  pub not-main : spawned_by (S 0) u.log 0 ≡ none
+  pub not_main : spawned_by (S 0) u.log 0 ≡ none
   pub tasks : (t : ℕ) → suc t < (header u).next → is_live (task u (suc t)).state ≡ true → TaskFrom S C N u.log (suc t) (task u (suc t))
   pub known : (t c : ℕ) → spawned_by (S t) u.log t ≡ some c → is_co (N c) ≡ true
   -- a task that was spawned for a coroutine that is new lives still
@@ -189,7 +189,7 @@ module _ (S C : ℕ → Option ℕ) (n : ℕ) (N : ℕ → Shape) where
         unused = λ t l b. ap (λ (r : Task). is_live r.state) (et t) ∙ k.unused t l (subst (λ (m : ℕ). m ≤ t) en b);
         unborn = λ t b. k.unborn t (subst (λ (m : ℕ). m ≤ t) en b);
         main = ap (λ (r : Task). is_unstarted r.state) (et 0) ∙ k.main;
-        not-main = e.for_it 0 ∙ k.not-main;
+        not_main = e.for_it 0 ∙ k.not_main;
         tasks = λ t b lv.
             subst (TaskFrom S C N u.log (suc t)) (sym (et (suc t)))
             (from-like s u (suc t) (task s (suc t)) e (k.tasks t (subst (λ (m : ℕ). suc t < m) en b) (sym (ap (λ (r : Task). is_live r.state) (et (suc t))) ∙ lv)));
@@ -222,7 +222,7 @@ module _ (S C : ℕ → Option ℕ) (n : ℕ) (N : ℕ → Shape) where
         unused = λ v l b. unused-by v l (subst (λ (m : ℕ). m ≤ v) en b) (ℕ_discrete v t);
         unborn = λ v b. unborn-by v (subst (λ (m : ℕ). m ≤ v) en b);
         main = main-by (ℕ_discrete 0 t);
-        not-main = e.for_it 0 ∙ k.not-main;
+        not_main = e.for_it 0 ∙ k.not_main;
         tasks = λ v b l. tasks-by v (subst (λ (m : ℕ). suc v < m) en b) l (ℕ_discrete (suc v) t);
         known = λ v c q. k.known v c (sym (e.for_it v) ∙ q);
         first = λ v c f q w. same v ∙ k.first v c f (sym (e.for_it v) ∙ q) w;
@@ -242,7 +242,7 @@ module _ (S C : ℕ → Option ℕ) (n : ℕ) (N : ℕ → Shape) where
       starts = ap (λ (x : Task). is_unstarted x.state) (et t) ∙ (unstarted_back s t r k.sized low ∙ (unfold restate in uy))
 
       its : (task u t).coroutine.0 ≡ (task s t).coroutine.0
-      its = ap (λ (x : Task). x.coroutine.0) (et t) ∙ (coroutine_back s t r k.sized low (unfold restate in (task-fits s t).coroutine-fits) ∙ (unfold restate in refl))
+      its = ap (λ (x : Task). x.coroutine.0) (et t) ∙ (coroutine_back s t r k.sized low (unfold restate in (task-fits s t).coroutine_fits) ∙ (unfold restate in refl))
 
       others : (v : ℕ) → (v ≡ t → ⊥) → task u v ≡ task s v
       others v ne = et v ∙ task_put-other s t v r ne
@@ -303,7 +303,7 @@ module _ (S C : ℕ → Option ℕ) (n : ℕ) (N : ℕ → Shape) where
         unused = λ v l b. unused-by v l (subst (λ (m : ℕ). m ≤ v) en b) (ℕ_discrete v t);
         unborn = λ v b. k.unborn v (subst (λ (m : ℕ). m ≤ v) en b);
         main = main-by (ℕ_discrete 0 t);
-        not-main = e.for_it 0 ∙ k.not-main;
+        not_main = e.for_it 0 ∙ k.not_main;
         tasks = λ v b l. tasks-by v (subst (λ (m : ℕ). suc v < m) en b) l (ℕ_discrete (suc v) t);
         known = λ v c q. k.known v c (sym (e.for_it v) ∙ q);
         first = λ v c f q w. first_by v c f (sym (e.for_it v) ∙ q) w (ℕ_discrete v t);
@@ -331,7 +331,7 @@ module _ (S C : ℕ → Option ℕ) (n : ℕ) (N : ℕ → Shape) where
           subst (TaskFrom S C N u.log (suc v)) (sym (others (suc v) ne)) (from-like s u (suc v) (task s (suc v)) e (k.tasks v b (sym (ap (λ (x : Task). is_live x.state) (others (suc v) ne)) ∙ l)))
 
       first_by : (v c f : ℕ) → spawned_by (S v) s.log v ≡ some c → N c ≡ new f → Dec (v ≡ t) → live u v ≡ true
-      first_by zero c f q w d = absurd_some (sym k.not-main ∙ q)
+      first_by zero c f q w d = absurd_some (sym k.not_main ∙ q)
       first_by (suc v) c f q w (yes d) =
           let lv : live s (suc v) ≡ true = k.first (suc v) c f q w in
           let x : TaskFrom S C N s.log (suc v) (task s (suc v)) = k.tasks v (live_low s (suc v) lv).0 (live_low s (suc v) lv).1 in
@@ -345,12 +345,12 @@ module _ (S C : ℕ → Option ℕ) (n : ℕ) (N : ℕ → Shape) where
       record {
         sized = sized-spawn_as s m c g k.sized;
         rows = λ o. ap shape (spawn-object s m c g o) ∙ k.rows o;
-        next = next-is ∙ (ap (λ (x : ℕ). x + 1) k.next ∙ (counts ∙ ap (λ (l : List LogEntry). suc (spawns_in l + n)) (sym log_is)));
-        unused = λ v l b. ap (λ (x : Task). is_live x.state) (others v (λ q. not-suc-le-zero {n = 0} (omega (arith, b, next-is)))) ∙ k.unused v l (omega (arith, b, next-is));
-        unborn = λ v b. k.unborn v (omega (arith, b, next-is));
+        next = next_is ∙ (ap (λ (x : ℕ). x + 1) k.next ∙ (counts ∙ ap (λ (l : List LogEntry). suc (spawns_in l + n)) (sym log_is)));
+        unused = λ v l b. ap (λ (x : Task). is_live x.state) (others v (λ q. not-suc-le-zero {n = 0} (omega (arith, b, next_is)))) ∙ k.unused v l (omega (arith, b, next_is));
+        unborn = λ v b. k.unborn v (omega (arith, b, next_is));
         main = ap (λ (x : Task). is_unstarted x.state) (others 0 not-zero) ∙ k.main;
-        not-main = later 0 not-zero ∙ k.not-main;
-        tasks = λ v b l. tasks-by v (omega (arith, b, next-is)) l (ℕ_discrete (suc v) m);
+        not_main = later 0 not-zero ∙ k.not_main;
+        tasks = λ v b l. tasks-by v (omega (arith, b, next_is)) l (ℕ_discrete (suc v) m);
         known = λ v d q. known_by v d q (ℕ_discrete v m);
         first = λ v d x q y. first_by v d x q y (ℕ_discrete v m);
       }
@@ -364,8 +364,8 @@ module _ (S C : ℕ → Option ℕ) (n : ℕ) (N : ℕ → Shape) where
       r : Task
       r = record { state = TaskState.Unstarted; awaiter = Awaiter.GatherSlot (heap_id g) (heap_id c); coroutine = heap_id c }
 
-      next-is : (header u).next ≡ m + 1
-      next-is = spawn-next s m c g k.sized low
+      next_is : (header u).next ≡ m + 1
+      next_is = spawn-next s m c g k.sized low
 
       log_is : u.log ≡ spawned m c ∷ s.log
       log_is = spawn-log s m c g
@@ -413,8 +413,8 @@ module _ (S C : ℕ → Option ℕ) (n : ℕ) (N : ℕ → Shape) where
 
       first_by : (v d x : ℕ) → spawned_by (S v) u.log v ≡ some d → N d ≡ new x → Dec (v ≡ m) → live u v ≡ true
       first_by v d x q y (yes e) =
-          subst (λ (z : ℕ). live u z ≡ true) (sym e) (live-is u m (omega (arith, next-is)) (ap (λ (z : Task). is_live z.state) at-m ∙ live-put_task s m r k.sized low))
-      first_by v d x q y (no ne) = live-other s u v m next-is refl ne (ap (λ (z : Task). is_live z.state) (others v ne)) ∙ k.first v d x (sym (later v ne) ∙ q) y
+          subst (λ (z : ℕ). live u z ≡ true) (sym e) (live-is u m (omega (arith, next_is)) (ap (λ (z : Task). is_live z.state) at-m ∙ live-put_task s m r k.sized low))
+      first_by v d x q y (no ne) = live-other s u v m next_is refl ne (ap (λ (z : Task). is_live z.state) (others v ne)) ∙ k.first v d x (sym (later v ne) ∙ q) y
 
   -- coroutine c starts, or runs inline: it is new no more
   pub use_spawned : (s : Store) (c f : ℕ) → c < object_limit → f < u32_limit → N c ≡ new f → K s
@@ -428,7 +428,7 @@ module _ (S C : ℕ → Option ℕ) (n : ℕ) (N : ℕ → Shape) where
         unused = λ t b q. ap (λ (r : Task). is_live r.state) (row-task s c x t) ∙ k.unused t b (subst (λ (h : Header). h.next ≤ t) hd q);
         unborn = λ t q. k.unborn t (subst (λ (h : Header). h.next ≤ t) hd q);
         main = ap (λ (r : Task). is_unstarted r.state) (row-task s c x 0) ∙ k.main;
-        not-main = k.not-main;
+        not_main = k.not_main;
         tasks = λ t b lv. subst (TaskFrom S C M u.log (suc t)) (sym (row-task s c x (suc t))) (from t (k.tasks t (subst (λ (h : Header). suc t < h.next) hd b) (sym (ap (λ (r : Task). is_live r.state) (row-task s c x (suc t))) ∙ lv)));
         known = λ t d q. stays-co d (k.known t d q);
         first = λ t d g q y. live_like s u t (ap (λ (h : Header). h.next) hd) (ap (λ (r : Task). is_live r.state) (row-task s c x t)) ∙ k.first t d g q (was-new d g y (ℕ_discrete d c));
@@ -483,7 +483,7 @@ spawned_as S B C D n m N M u a b c d k =
       unused = k.unused;
       unborn = λ t l. b t ∙ k.unborn t l;
       main = k.main;
-      not-main = said 0 ∙ k.not-main;
+      not_main = said 0 ∙ k.not_main;
       tasks = λ t l v.
           let y : TaskFrom S C N u.log (suc t) (task u (suc t)) = k.tasks t l v in
           record { origin = said (suc t) ∙ y.origin; fresh = λ e. b (suc t) ∙ y.fresh e; begun = λ e. ap is_used (d _) ∙ y.begun e; coroutine = ap is_co (d _) ∙ y.coroutine };
@@ -505,7 +505,7 @@ spawned-then S C n N u k =
       unused = k.unused;
       unborn = k.unborn;
       main = k.main;
-      not-main = k.not-main;
+      not_main = k.not_main;
       tasks = λ t l v. let y : TaskFrom S C N u.log (suc t) (task u (suc t)) = k.tasks t l v in record { origin = y.origin; fresh = y.fresh; begun = y.begun; coroutine = y.coroutine };
       known = k.known;
       first = k.first;

@@ -198,7 +198,7 @@ module _ (h : List Entry) (s : Store) (w : SoundStore s) (k : Agrees h s) where
     rows o = unfold object add_log remove_task remove_from_ready_queue put_queue put_task in refl
 
     c-low : c < object_limit
-    c-low = (task-fits s (suc t)).coroutine-fits
+    c-low = (task-fits s (suc t)).coroutine_fits
 
     done-row : object done c ≡ to_object (object_words (Object.Coroutine the-coroutine.0 CoroutineState.Completed))
     unfolding done completed
@@ -301,7 +301,7 @@ module _ (h : List Entry) (s : Store) (w : SoundStore s) (k : Agrees h s) where
     unfolding handle_task_completion left done told
     ended =
         completion_ends Q (header s).made (λ p. (place s p).item.0) E S left r.awaiter v (task-fits s (suc t)).awaiter_fits
-        (gives_own Q (header s).made (λ p. (place s p).item.0) E S c r.awaiter v mine.own (record { tells = tells-now; fits = value-fits (header s).made (object s) v (header-fits s).made-fits kn }))
+        (gives_own Q (header s).made (λ p. (place s p).item.0) E S c r.awaiter v mine.own (record { tells = tells-now; fits = value-fits (header s).made (object s) v (header-fits s).made_fits kn }))
         left-told
       where
         tells-now : told E c (Q c) ≡ some v

@@ -68,7 +68,7 @@ pub forget_agrees : (h : List Entry) (s : Store) → Agrees h s → Agrees h (fo
 unfolding forget object place header task
 forget_agrees h s k =
     record {
-      told = told_like _ _ _ _ _ s (forget s) (unfold forget in (record { tasks-sized = k.told.sized.tasks-sized; objects-sized = k.told.sized.objects-sized; places-sized = k.told.sized.places-sized })) refl refl (λ o. refl) (λ p. refl) (λ t. refl) k.told;
+      told = told_like _ _ _ _ _ s (forget s) (unfold forget in (record { tasks_sized = k.told.sized.tasks_sized; objects_sized = k.told.sized.objects_sized; places_sized = k.told.sized.places_sized })) refl refl (λ o. refl) (λ p. refl) (λ t. refl) k.told;
       done = k.done;
       runner = k.runner;
       main = k.main;
@@ -118,7 +118,7 @@ module _ (h : List Entry) (s : Store) (w : SoundStore s) (k : Agrees h s) where
       row = runner-runs s t w m
 
       ends : AwaitEnds q n i D S k.done t (exec_get_awaitable s t o)
-      ends = await-ends q n i D S k.done t s (task s t) (ap is_live row) (ap is_unstarted row) low o (omega (arith, l, (header-fits s).made-fits)) (unmade-not o l)
+      ends = await-ends q n i D S k.done t s (task s t) (ap is_live row) (ap is_unstarted row) low o (omega (arith, l, (header-fits s).made_fits)) (unmade-not o l)
           (k.told, record { sized = w.memory.sized; low = runner_low s t w m; row = refl; moment = m })
 
       by : (x : Awaited) → AwaitEnds q n i D S k.done t x → Moved h s (some x.control) x.store
@@ -186,7 +186,7 @@ module _ (h : List Entry) (s : Store) (w : SoundStore s) (k : Agrees h s) where
       (commits_none_moved h s (set_calls s ((header s).calls + 1)) k (unfold set_calls in (header-told q n i D S s _ fits refl refl k.told)) (λ v e. ap (λ (y : Header). y.moment) (sym head) ∙ e))
     where
       fits : HeaderFits (record { made = (header s).made; used = (header s).used; calls = (header s).calls + 1; next = (header s).next; moment = (header s).moment })
-      fits = let f : HeaderFits (header s) = header-fits s in record { made-fits = f.made-fits; used-fits = f.used-fits; calls-fit = omega arith; next_fits = f.next_fits; moment_fits = f.moment_fits }
+      fits = let f : HeaderFits (header s) = header-fits s in record { made_fits = f.made_fits; used_fits = f.used_fits; calls_fit = omega arith; next_fits = f.next_fits; moment_fits = f.moment_fits }
 
       head : header (set_calls s ((header s).calls + 1)) ≡ record { made = (header s).made; used = (header s).used; calls = (header s).calls + 1; next = (header s).next; moment = (header s).moment }
       head = unfold set_calls in (header_put-header s _ w.memory.sized fits)

@@ -248,14 +248,14 @@ items-new (o ∷ os) s p q n z l b k = by (ℕ_discrete q p) (items-new os (put_
     by d (inr e) = inr e
     by (no ne) (inl e) = inl (e ∙ place_put-other s p q new ne)
     by (yes d) (inl e) =
-        inr (ap (λ (y : Place). y.result) (e ∙ (ap (place (put_place s p new)) d ∙ place_put-place s p new z (omega (arith, l)) (record { item-fits = omega (arith, k.0); result_fits = tt }))))
+        inr (ap (λ (y : Place). y.result) (e ∙ (ap (place (put_place s p new)) d ∙ place_put-place s p new z (omega (arith, l)) (record { item_fits = omega (arith, k.0); result_fits = tt }))))
 
 -- the items stand there
 items_there : (os : List ℕ) (s : Store) (p n : ℕ) → Sized s → p + length os ≤ place_limit → n ≤ object_limit → AllBelow n os → ItemsAt (λ q. (place (put_items s p os) q).item.0) p os
 unfolding put_items ItemsAt AllBelow
 items_there [] s p n z l b k = tt
 items_there (o ∷ os) s p n z l b k = (
-  ap (λ (y : Place). y.item.0) (items-before os (put_place s p new) (p + 1) p (omega arith) ∙ place_put-place s p new z (omega (arith, l)) (record { item-fits = omega (arith, k.0); result_fits = tt })),
+  ap (λ (y : Place). y.item.0) (items-before os (put_place s p new) (p + 1) p (omega arith) ∙ place_put-place s p new z (omega (arith, l)) (record { item_fits = omega (arith, k.0); result_fits = tt })),
   items_there os (put_place s p new) (p + 1) n (sized-put_place s p new z) (omega (arith, l)) b k.1,
 )
   where
@@ -296,7 +296,7 @@ module _ (s : Store) (w : SoundStore s) where
       head =
           let f : HeaderFits (header s1) = header-fits s1 in
           unfold add_object in (header_put-object (put_header s1 i) (header s1).made r
-          ∙ header_put-header s1 i z1 (record { made-fits = omega (arith, em, low); used-fits = room; calls-fit = f.calls-fit; next_fits = f.next_fits; moment_fits = f.moment_fits }))
+          ∙ header_put-header s1 i z1 (record { made_fits = omega (arith, em, low); used_fits = room; calls_fit = f.calls_fit; next_fits = f.next_fits; moment_fits = f.moment_fits }))
 
       row : object u (header s).made ≡ to_object (object_words r)
       row = subst (λ (o : ℕ). object u o ≡ to_object (object_words r)) em (unfold add_object in (read_back (put_header s1 i) (header s1).made r (sized-put_header s1 i z1) (omega (arith, em, low))))
@@ -316,7 +316,7 @@ module _ (s : Store) (w : SoundStore s) where
 
   plain-made : (r : Object) (y : Frozen) → (header s).made < object_limit → frozen (to_object (object_words r)) ≡ y → EndsTask (header s).made (awaiter_of r) → Made s (add_object s r 0) y
   plain-made r y low back own =
-      added-made s r 0 y z refl refl refl low (omega (arith, (header-fits s).used-fits)) (λ o. refl) (λ t. refl) (λ p l. refl) (λ p l. inl refl) back own
+      added-made s r 0 y z refl refl refl low (omega (arith, (header-fits s).used_fits)) (λ o. refl) (λ t. refl) (λ p l. refl) (λ p l. inl refl) back own
 
   module _ (h : List Entry) (k : Agrees h s) where
     pub coroutine_agrees : (f : ℕ) → (header s).made < object_limit → StepAgrees h (Event.coroutine f) (accept s (Event.coroutine f))
@@ -330,7 +330,7 @@ module _ (s : Store) (w : SoundStore s) where
     pending_agrees c r low cl kn =
         made_agrees h s w k (Event.pending c r) _ (pends c r)
         (plain-made (Object.ExternalFuture (call_id c) (ExternalFutureState.Pending Awaiter.Nobody r)) (pends c r) low
-        (ap frozen (object_back (Object.ExternalFuture (call_id c) (ExternalFutureState.Pending Awaiter.Nobody r)) (omega (arith, cl), (tt, option_fits (header s).made (object s) r (header-fits s).made-fits kn))) ∙ is-pends c r) (unfold awaiter_of in tt))
+        (ap frozen (object_back (Object.ExternalFuture (call_id c) (ExternalFutureState.Pending Awaiter.Nobody r)) (omega (arith, cl), (tt, option_fits (header s).made (object s) r (header-fits s).made_fits kn))) ∙ is-pends c r) (unfold awaiter_of in tt))
         (unfold says in refl) (unfold says in refl) (unfold Makes first_reply reply_row in refl)
       where
         is-pends : (c : ℕ) (r : OptionValue) → frozen (Object.ExternalFuture (call_id c) (ExternalFutureState.Pending Awaiter.Nobody r)) ≡ pends c r
@@ -341,8 +341,8 @@ module _ (s : Store) (w : SoundStore s) where
     settled_agrees v low cl kn =
         made_agrees h s w k (Event.settled v) _ (gave v)
         (added-made s1 y 0 (gave v) (sized-set_calls s _ z) (ap (λ (h : Header). h.made) head) (ap (λ (h : Header). h.next) head) (ap (λ (h : Header). h.moment) head) low
-        (subst (λ (h : Header). h.used + 0 ≤ place_limit) (sym head) (omega (arith, (header-fits s).used-fits))) rows (λ t. unfold task set_calls put_header in refl) (λ p l. places p) (λ p l. inl (places p))
-        (ap frozen (object_back y (omega (arith, cl), value-fits (header s).made (object s) v (header-fits s).made-fits kn)) ∙ is-gave (call_id (header s).calls)) (unfold awaiter_of in tt))
+        (subst (λ (h : Header). h.used + 0 ≤ place_limit) (sym head) (omega (arith, (header-fits s).used_fits))) rows (λ t. unfold task set_calls put_header in refl) (λ p l. places p) (λ p l. inl (places p))
+        (ap frozen (object_back y (omega (arith, cl), value-fits (header s).made (object s) v (header-fits s).made_fits kn)) ∙ is-gave (call_id (header s).calls)) (unfold awaiter_of in tt))
         (unfold says nothing_said in refl) (unfold says nothing_said in refl) (unfold Makes in refl)
       where
         s1 : Store
@@ -363,7 +363,7 @@ module _ (s : Store) (w : SoundStore s) where
         head : header s1 ≡ record { made = (header s).made; used = (header s).used; calls = (header s).calls + 1; next = (header s).next; moment = (header s).moment }
         head =
             let f : HeaderFits (header s) = header-fits s in
-            unfold set_calls in (header_put-header s _ z (record { made-fits = f.made-fits; used-fits = f.used-fits; calls-fit = omega arith; next_fits = f.next_fits; moment_fits = f.moment_fits }))
+            unfold set_calls in (header_put-header s _ z (record { made_fits = f.made_fits; used_fits = f.used_fits; calls_fit = omega arith; next_fits = f.next_fits; moment_fits = f.moment_fits }))
 
     -- the items of a gather
     pub gather_agrees : (os : List ℕ) → (header s).made < object_limit → (header s).used + length os ≤ place_limit → length os ≤ item_limit → AllBelow (header s).made os → StepAgrees h (Event.gather os) (accept s (Event.gather os))
@@ -372,10 +372,10 @@ module _ (s : Store) (w : SoundStore s) where
         made_agrees h s w k (Event.gather os) _ (many (header s).used (length os))
         (added-made s1 y (length os) (many (header s).used (length os)) (items-sized os s (header s).used z) (ap (λ (h : Header). h.made) head) (ap (λ (h : Header). h.next) head) (ap (λ (h : Header). h.moment) head) low
         (subst (λ (h : Header). h.used + length os ≤ place_limit) (sym head) room) (λ o. items-objects os s (header s).used o) (λ t. items-tasks os s (header s).used t) (λ p l. items-before os s (header s).used p l)
-        (λ p l. items-new os s (header s).used p (header s).made z room (header-fits s).made-fits made)
+        (λ p l. items-new os s (header s).used p (header s).made z room (header-fits s).made_fits made)
         (ap frozen (object_back y (record { within = room; at_most = few }, tt)) ∙ is-many (header s).used (length os)) (unfold awaiter_of in tt))
         (unfold says in refl) (unfold says in refl)
-        (unfold Makes in ((header s).used, refl, items_like _ _ (header s).used os (λ p. ap (λ (x : Place). x.item.0) (same_place p)) (items_there os s (header s).used (header s).made z room (header-fits s).made-fits made)))
+        (unfold Makes in ((header s).used, refl, items_like _ _ (header s).used os (λ p. ap (λ (x : Place). x.item.0) (same_place p)) (items_there os s (header s).used (header s).made z room (header-fits s).made_fits made)))
       where
         s1 : Store
         s1 = put_items s (header s).used os

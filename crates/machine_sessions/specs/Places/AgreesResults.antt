@@ -265,7 +265,7 @@ module _ (n : ℕ) (i : ℕ → ℕ) (D : ℕ → Option Value) (S : ℕ → Opt
     call_fits o p e = subst ObjectFits (pending-object (object s o) p e) (object-fits s o)
 
     object-low : (o : ℕ) → o < (header s).made → o < object_limit
-    object-low o l = omega (arith, l, (header-fits s).made-fits)
+    object-low o l = omega (arith, l, (header-fits s).made_fits)
 
     resolved : (x : Result) → eqb x.kind 0 ≡ true → eqb x.kind 2 ≡ false → T (value_known (header s).made (object s) (to_value x.tag x.number)) → Answered (x ∷ []) (λ j. frozen (object s j)) (resolve_future s x.call (to_value x.tag x.number))
     unfolding resolve_future resolve_pending view
@@ -274,7 +274,7 @@ module _ (n : ℕ) (i : ℕ → ℕ) (D : ℕ → Option Value) (S : ℕ → Opt
         let v : Value = value_or p.stored (to_value x.tag x.number) in
         let y : Object = Object.ExternalFuture p.call (ExternalFutureState.Resolved v) in
         let i0 = resolve_delivering s h (to_value x.tag x.number) kn o p l e in
-        let vf : ValueFits v = value-fits _ _ _ i0.during.kept.but.fits.made-fits i0.known in
+        let vf : ValueFits v = value-fits _ _ _ i0.during.kept.but.fits.made_fits i0.known in
         let bk : frozen (to_object (object_words y)) ≡ gave v = ap frozen (object_back y ((call_fits o p e).0, vf)) ∙ frozen-gave p.call v in
         let k1 = settled s k o p (object-low o l) e y (gave v) bk (free-resolved p.call v) in
         let own0 : EndsTask o p.awaiter = awaiter_own s k o p (object-low o l) e y (gave v) bk (free-resolved p.call v) in

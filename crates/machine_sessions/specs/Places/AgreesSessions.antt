@@ -44,7 +44,7 @@ use Rattle.machine_laws.specs.TestLaws.{or_left, or_right}
 use Rattle.machine_theorems.specs.Soundness.Stores.{SoundStore}
 use Rattle.machine_theorems.specs.Soundness.Preserved.{waiting, await-made, complete-known, results_apply}
 use Rattle.machine.specs.Sessions.{InRange}
-use Rattle.machine_theorems.specs.Soundness.Sessions.{forget-sound_store, step-sound_store, fresh_sound_store}
+use Rattle.machine_theorems.specs.Soundness.Sessions.{forget_sound_store, step_sound_store, fresh_sound_store}
 use Rattle.machine.specs.Sessions.{Sent, lent_any, entry_of, Session, begun, send, send_all, session}
 use Rattle.machine.specs.Sessions.{AllSentInRange}
 use Rattle.machine_sessions.specs.Queue.Tracked.{live_low}
@@ -76,7 +76,7 @@ module _ (h : List Entry) (s : Store) (w : SoundStore s) (k : Agrees h s) where
       let q = running-rest s _ (refusal-rest s (Event.pending c x) r) in
       let five = pass 4 (leb (header s).calls c || not (option_known (header s).made (object s) x)) _ q in
       let low : c < (header s).calls = leb-false (header s).calls c (or_left (leb (header s).calls c) _ five.0) in
-      pending_agrees s w h k c x (not_full s (pass 6 (full s) [] (pass 5 _ _ five.1).1).0) (omega (arith, low, (header-fits s).calls-fit))
+      pending_agrees s w h k c x (not_full s (pass 6 (full s) [] (pass 5 _ _ five.1).1).0) (omega (arith, low, (header-fits s).calls_fit))
       (not-not (option_known (header s).made (object s) x) (or_right (leb (header s).calls c) (not (option_known (header s).made (object s) x)) five.0))
   accept_agrees (Event.settled v) r =
       let five = pass 4 (not (value_known (header s).made (object s) v)) _ (running-rest s _ (refusal-rest s (Event.settled v) r)) in
@@ -123,7 +123,7 @@ pub step_agrees : (h : List Entry) (s : Store) (e : Event) → SoundStore s → 
 step_agrees h s e w k = by (ℕ_discrete (refusal s e) 0)
   where
     by : Dec (refusal s e ≡ 0) → StepAgrees h e (step s e)
-    by (yes r) = subst (StepAgrees h e) (sym (accepted-step s e r)) (accept_agrees h (forget s) (forget-sound_store s w) (forget_agrees h s k) e (refusal-forget s e ∙ r))
+    by (yes r) = subst (StepAgrees h e) (sym (accepted-step s e r)) (accept_agrees h (forget s) (forget_sound_store s w) (forget_agrees h s k) e (refusal-forget s e ∙ r))
     by (no ne) = subst (StepAgrees h e) (sym (refused-step s e (refusal s e) refl ne)) (refused_agrees h (forget s) (forget s) e (refusal s e) (forget_agrees h s k) (forget_agrees h s k).told refl)
 
 pub send_agrees : (x : Session) (e : Sent) → InRange e.event → Following x → Agrees x.history x.store → Agrees (send x e).history (send x e).store

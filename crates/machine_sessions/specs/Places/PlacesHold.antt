@@ -424,7 +424,7 @@ module _ (h : List Entry) (s : Store) (w : SoundStore s) (k : Agrees h s) where
         v,
         e,
         known-gives (place s p).item.0 v (subst (Holds (λ o. frozen (object s o)) D (place s p).item.0) e (k.told.holds p))
-            (known_some v (subst (λ (x : OptionValue). T (option_known (header s).made (object s) x)) e (w.facts.but.place-lists p l))),
+            (known_some v (subst (λ (x : OptionValue). T (option_known (header s).made (object s) x)) e (w.facts.but.place_lists p l))),
       )
         where
           known_some : (v : Value) → T (option_known (header s).made (object s) (OptionValue.Some v)) → T (value_known (header s).made (object s) v)
@@ -437,7 +437,7 @@ module _ (h : List Entry) (s : Store) (w : SoundStore s) (k : Agrees h s) where
 
   -- open places name what has delivered nothing
   abbrev pub OpenNone : ℕ → AwaitedGather → Type 0
-  OpenNone g v = (a : ℕ) → a < v.count → bit v.open-places a ≡ true → gives_now (place s (v.first + a)).item.0 ≡ none
+  OpenNone g v = (a : ℕ) → a < v.count → bit v.open_places a ≡ true → gives_now (place s (v.first + a)).item.0 ≡ none
 
   slot-filled : (b : Bool) (x : OptionValue) (v : Value) → b ≡ false → x ≡ OptionValue.Some v → slot_value b x ≡ some v
   unfolding slot_value
@@ -506,38 +506,38 @@ module _ (h : List Entry) (s : Store) (w : SoundStore s) (k : Agrees h s) where
       closed a b = closed_filled g f n 0 GatherState.Completed l e full a b (none-set a)
 
   -- a closed place of an awaited gather has what its item has delivered
-  awaited-closed : (g : ℕ) (v : AwaitedGather) → g < (header s).made → as_awaited (object s g) ≡ some v → (a : ℕ) → a < v.count → bit v.open-places a ≡ false
+  awaited-closed : (g : ℕ) (v : AwaitedGather) → g < (header s).made → as_awaited (object s g) ≡ some v → (a : ℕ) → a < v.count → bit v.open_places a ≡ false
       → (x : Value) × ((place s (v.first + a)).result ≡ OptionValue.Some x) × (gives_now (place s (v.first + a)).item.0 ≡ some x)
-  awaited-closed g v l e a b c = closed_filled g v.first v.count v.open-places (GatherState.Awaited v.awaiter v.open-places) l row full a b c
+  awaited-closed g v l e a b c = closed_filled g v.first v.count v.open_places (GatherState.Awaited v.awaiter v.open_places) l row full a b c
     where
-      row : object s g ≡ Object.GatherFuture v.first v.count (GatherState.Awaited v.awaiter v.open-places)
+      row : object s g ≡ Object.GatherFuture v.first v.count (GatherState.Awaited v.awaiter v.open_places)
       row = awaited-object (object s g) v e
 
-      full : T (rest_filled (place s) v.first v.count v.open-places)
-      full = open_up (gather-fill g (Object.GatherFuture v.first v.count (GatherState.Awaited v.awaiter v.open-places)) l row)
+      full : T (rest_filled (place s) v.first v.count v.open_places)
+      full = open_up (gather-fill g (Object.GatherFuture v.first v.count (GatherState.Awaited v.awaiter v.open_places)) l row)
         where
-          open_up : T (object_filled (place s) (Object.GatherFuture v.first v.count (GatherState.Awaited v.awaiter v.open-places))) → T (rest_filled (place s) v.first v.count v.open-places)
+          open_up : T (object_filled (place s) (Object.GatherFuture v.first v.count (GatherState.Awaited v.awaiter v.open_places))) → T (rest_filled (place s) v.first v.count v.open_places)
           open_up z = second (unfold object_filled gather_filled in z)
             where
-              second : T (not (eqb v.open-places 0) and rest_filled (place s) v.first v.count v.open-places) → T (rest_filled (place s) v.first v.count v.open-places)
-              second z = both_right (not (eqb v.open-places 0)) _ z
+              second : T (not (eqb v.open_places 0) and rest_filled (place s) v.first v.count v.open_places) → T (rest_filled (place s) v.first v.count v.open_places)
+              second z = both_right (not (eqb v.open_places 0)) _ z
 
   awaited-at : (g : ℕ) (v : AwaitedGather) → g < (header s).made → as_awaited (object s g) ≡ some v → OpenNone g v
-      → (show_places s v.first v.open-places 0 v.count ≡ map (delivered h s) (items h g)) × (none_open (show_places s v.first v.open-places 0 v.count) ≡ false)
+      → (show_places s v.first v.open_places 0 v.count ≡ map (delivered h s) (items h g)) × (none_open (show_places s v.first v.open_places 0 v.count) ≡ false)
   awaited-at g v l e none-there = (
-    shown-right g v.first v.count v.open-places (GatherState.Awaited v.awaiter v.open-places) l row (λ a b. each a b (bit v.open-places a) refl),
-    (let y = has_set v.count v.open-places (sound_no_other s g v w.facts.but l e) (sound-some_open s g v w.facts.but l e) in
-        one-open v.first v.open-places v.count 0 y.at (omega arith) (omega (arith, y.under)) y.is_set),
+    shown-right g v.first v.count v.open_places (GatherState.Awaited v.awaiter v.open_places) l row (λ a b. each a b (bit v.open_places a) refl),
+    (let y = has_set v.count v.open_places (sound_no_other s g v w.facts.but l e) (sound-some_open s g v w.facts.but l e) in
+        one-open v.first v.open_places v.count 0 y.at (omega arith) (omega (arith, y.under)) y.is_set),
   )
     where
-      row : object s g ≡ Object.GatherFuture v.first v.count (GatherState.Awaited v.awaiter v.open-places)
+      row : object s g ≡ Object.GatherFuture v.first v.count (GatherState.Awaited v.awaiter v.open_places)
       row = awaited-object (object s g) v e
 
-      each : (a : ℕ) → a < v.count → (b : Bool) → bit v.open-places a ≡ b → slot_value (bit v.open-places a) (place s (v.first + a)).result ≡ gives_now (place s (v.first + a)).item.0
-      each a b true c = slot_open (bit v.open-places a) (place s (v.first + a)).result c ∙ sym (none-there a b c)
+      each : (a : ℕ) → a < v.count → (b : Bool) → bit v.open_places a ≡ b → slot_value (bit v.open_places a) (place s (v.first + a)).result ≡ gives_now (place s (v.first + a)).item.0
+      each a b true c = slot_open (bit v.open_places a) (place s (v.first + a)).result c ∙ sym (none-there a b c)
       each a b false c =
           let y = awaited-closed g v l e a b c in
-          slot-filled (bit v.open-places a) (place s (v.first + a)).result y.0 c y.1 ∙ sym y.2
+          slot-filled (bit v.open_places a) (place s (v.first + a)).result y.0 c y.1 ∙ sym y.2
 
   -- ---- what is shown
 
@@ -579,7 +579,7 @@ module _ (h : List Entry) (s : Store) (w : SoundStore s) (k : Agrees h s) where
   as-open Shown.nothing = false
 
   abbrev IsAwaited : List (Option Value) → Object → Type 0
-  IsAwaited vs x = (v : AwaitedGather) × (as_awaited x ≡ some v) × (show_places s v.first v.open-places 0 v.count ≡ vs)
+  IsAwaited vs x = (v : AwaitedGather) × (as_awaited x ≡ some v) × (show_places s v.first v.open_places 0 v.count ≡ vs)
 
   awaited-shown : (vs : List (Option Value)) (x : Object) → shown s x ≡ Shown.a_gather_awaited vs → IsAwaited vs x
   unfolding shown as-open as_awaited
@@ -589,7 +589,7 @@ module _ (h : List Entry) (s : Store) (w : SoundStore s) (k : Agrees h s) where
   awaited-shown vs (Object.ExternalFuture c (ExternalFutureState.Resolved v)) e = absurd (true≢false (sym (ap as-open e)))
   awaited-shown vs (Object.ExternalFuture c (ExternalFutureState.Failed v)) e = absurd (true≢false (sym (ap as-open e)))
   awaited-shown vs (Object.GatherFuture f n GatherState.Pending) e = absurd (true≢false (sym (ap as-open e)))
-  awaited-shown vs (Object.GatherFuture f n (GatherState.Awaited a m)) e = (record { first = f; count = n; awaiter = a; open-places = m }, refl, let q : show_places s f m 0 n ≡ vs = cc in q)
+  awaited-shown vs (Object.GatherFuture f n (GatherState.Awaited a m)) e = (record { first = f; count = n; awaiter = a; open_places = m }, refl, let q : show_places s f m 0 n ≡ vs = cc in q)
   awaited-shown vs (Object.GatherFuture f n GatherState.Completed) e = absurd (true≢false (sym (ap as-open e)))
   awaited-shown vs (Object.GatherFuture f n (GatherState.Failed v)) e = absurd (true≢false (sym (ap as-open e)))
 
@@ -626,22 +626,22 @@ module _ (h : List Entry) (s : Store) (w : SoundStore s) (k : Agrees h s) where
 
   -- No item of an awaited gather has raised, if the items of its open places have come to nothing.
   pub items_no_error : (g : ℕ) (v : AwaitedGather) → g < (header s).made → as_awaited (object s g) ≡ some v
-      → ((a : ℕ) → a < v.count → bit v.open-places a ≡ true → row_outcome C (place s (v.first + a)).item.0 (object s (place s (v.first + a)).item.0) ≡ none)
+      → ((a : ℕ) → a < v.count → bit v.open_places a ≡ true → row_outcome C (place s (v.first + a)).item.0 (object s (place s (v.first + a)).item.0) ≡ none)
       → (a : ℕ) → a < v.count → error_of (outcome h (look s) (place s (v.first + a)).item.0) ≡ none
   items_no_error g v l e f a b =
-      ap error_of (outcome-row (place s (v.first + a)).item.0 (item_low g v.first v.count (GatherState.Awaited v.awaiter v.open-places) l (awaited-object (object s g) v e) a b)) ∙ by (bit v.open-places a) refl
+      ap error_of (outcome-row (place s (v.first + a)).item.0 (item_low g v.first v.count (GatherState.Awaited v.awaiter v.open_places) l (awaited-object (object s g) v e) a b)) ∙ by (bit v.open_places a) refl
     where
-      by : (x : Bool) → bit v.open-places a ≡ x → error_of (row_outcome C (place s (v.first + a)).item.0 (object s (place s (v.first + a)).item.0)) ≡ none
+      by : (x : Bool) → bit v.open_places a ≡ x → error_of (row_outcome C (place s (v.first + a)).item.0 (object s (place s (v.first + a)).item.0)) ≡ none
       by true c = ap error_of (f a b c) ∙ (unfold error_of in refl)
       by false c = let y = awaited-closed g v l e a b c in given-no-error _ y.0 y.2
 
   -- An item that has come to nothing stands in an open place.
   pub nothing_open : (g : ℕ) (v : AwaitedGather) → g < (header s).made → as_awaited (object s g) ≡ some v → (a : ℕ) → a < v.count → outcome h (look s) (place s (v.first + a)).item.0 ≡ none
-      → bit v.open-places a ≡ true
-  nothing_open g v l e a b q = by (bit v.open-places a) refl
+      → bit v.open_places a ≡ true
+  nothing_open g v l e a b q = by (bit v.open_places a) refl
     where
-      by : (x : Bool) → bit v.open-places a ≡ x → x ≡ true
+      by : (x : Bool) → bit v.open_places a ≡ x → x ≡ true
       by true c = refl
       by false c =
-          let low = item_low g v.first v.count (GatherState.Awaited v.awaiter v.open-places) l (awaited-object (object s g) v e) a b in
+          let low = item_low g v.first v.count (GatherState.Awaited v.awaiter v.open_places) l (awaited-object (object s g) v e) a b in
           absurd_some (sym (nothing-gives _ (sym (outcome-row _ low) ∙ q)) ∙ (awaited-closed g v l e a b c).2)

@@ -103,9 +103,9 @@ resolve_onward s g x v b e = by (as_awaited (object s g)) refl e
   where
     by : (a : Option AwaitedGather) → as_awaited (object s g) ≡ a → (resolve_awaited s g x v a).onward ≡ some b → (w : AwaitedGather) × (as_awaited (object s g) ≡ some w) × (w.awaiter ≡ b)
     by none q h = absurd_some h
-    by (some w) q h = left (eqb (fill_from s.places w.open-places w.first x v 0 w.count).open-places 0) h
+    by (some w) q h = left (eqb (fill_from s.places w.open_places w.first x v 0 w.count).open_places 0) h
       where
-        left : (c : Bool) → (resolve_left c (put_places s (fill_from s.places w.open-places w.first x v 0 w.count).places) g w (fill_from s.places w.open-places w.first x v 0 w.count).open-places).onward ≡ some b
+        left : (c : Bool) → (resolve_left c (put_places s (fill_from s.places w.open_places w.first x v 0 w.count).places) g w (fill_from s.places w.open_places w.first x v 0 w.count).open_places).onward ≡ some b
             → (w : AwaitedGather) × (as_awaited (object s g) ≡ some w) × (w.awaiter ≡ b)
         left true h = (w, q, some-injective w.awaiter b h)
         left false h = absurd_some h
@@ -146,24 +146,24 @@ module _ (q : ℕ → Frozen) (n : ℕ) (i : ℕ → ℕ) (D : ℕ → Option Va
     where
       by : (w : Option AwaitedGather) → as_awaited (object s g) ≡ w → K (resolve_awaited s g x v w).store
       by none e = unfold resolve_awaited in k
-      by (some w) e = unfold resolve_awaited in (left (eqb f.open-places 0))
+      by (some w) e = unfold resolve_awaited in (left (eqb f.open_places 0))
         where
           f : Filled
-          f = fill_from s.places w.open-places w.first x v 0 w.count
+          f = fill_from s.places w.open_places w.first x v 0 w.count
 
           m : Store
           m = put_places s f.places
 
           k1 : K m
-          k1 = fills_told q n i D S s w.open-places w.first x w.count v (awaited-fits s g w e).0.within gv k
+          k1 = fills_told q n i D S s w.open_places w.first x w.count v (awaited-fits s g w e).0.within gv k
 
           e1 : as_awaited (object m g) ≡ some w
           e1 = unfold object put_places in e
 
-          left : (b : Bool) → K (resolve_left b m g w f.open-places).store
+          left : (b : Bool) → K (resolve_left b m g w f.open_places).store
           left true = unfold resolve_left in (turns-told q n i D S m g _ l (awaited-turns (object m g) w GatherState.Completed e1) (gather_own g _ _ GatherState.Completed tt) k1)
-          left false = unfold resolve_left in (turns-told q n i D S m g _ l (awaited-turns (object m g) w (GatherState.Awaited w.awaiter f.open-places) e1)
-              (gather_own g _ _ (GatherState.Awaited w.awaiter f.open-places) (awaited_own g (object s g) w e (k.own g))) k1)
+          left false = unfold resolve_left in (turns-told q n i D S m g _ l (awaited-turns (object m g) w (GatherState.Awaited w.awaiter f.open_places) e1)
+              (gather_own g _ _ (GatherState.Awaited w.awaiter f.open_places) (awaited_own g (object s g) w e (k.own g))) k1)
 
   fails : (s : Store) (g : ℕ) (e : Error) → g < object_limit → K s → K (fail_gather s g e).store
   unfolding fail_gather
@@ -321,7 +321,7 @@ module _ (q : ℕ → Frozen) (n : ℕ) (i : ℕ → ℕ) (D : ℕ → Option Va
   visits-open : (m : ℕ) (w : Walk) (a : AwaitedGather) (j : ℕ) → WalkKept w → WalkKept (visit_open w a j m)
   unfolding visit_open visit_place visit
   visits-open zero w a j k = k
-  visits-open (suc m) w a j k = visits-open m _ a (j + 1) (pick_has WalkKept (bit a.open-places j) (visits w _ _ k) k)
+  visits-open (suc m) w a j k = visits-open m _ a (j + 1) (pick_has WalkKept (bit a.open_places j) (visits w _ _ k) k)
 
   walk-gather-kept : (w : Walk) (a : Option AwaitedGather) → WalkKept w → WalkKept (walk_gather w a)
   unfolding walk_gather

@@ -67,7 +67,7 @@ next_moment : (s : Store) (n : ℕ) → Sized s → n ≤ task_limit → (header
 unfolding set_next
 next_moment s n z k =
     let f : HeaderFits (header s) = header-fits s in
-    ap (λ (h : Header). h.moment) (header_put-header s _ z (record { made-fits = f.made-fits; used-fits = f.used-fits; calls-fit = f.calls-fit; next_fits = k; moment_fits = f.moment_fits }))
+    ap (λ (h : Header). h.moment) (header_put-header s _ z (record { made_fits = f.made_fits; used_fits = f.used_fits; calls_fit = f.calls_fit; next_fits = k; moment_fits = f.moment_fits }))
 
 spawn_moment : (s : Store) (c g : ℕ) → Sized s → (header s).next < task_limit → (header (spawn_as s (header s).next c g)).moment ≡ (header s).moment
 spawn_moment s c g z l = spawn-as-moment (header s).next (omega arith)
@@ -88,7 +88,7 @@ row_commits t r m =
             row = unfold task put_object in (unfold task in k.row);
             moment = ap (λ (h : Header). h.moment) (header_put-object s o x) ∙ k.moment;
           };
-      value-put = λ s p v k.
+      value_put = λ s p v k.
           record {
             sized = sized-put_place s p _ k.sized;
             low = unfold header put_place in (unfold header in k.low);

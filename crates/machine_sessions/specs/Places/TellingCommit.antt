@@ -188,7 +188,7 @@ module _ (q : ℕ → Frozen) (n : ℕ) (i : ℕ → ℕ) (D : ℕ → Option Va
       by none e h = k
       by (some w) e h =
           let o : ℕ = (place s (w.first + j)).item.0 in
-          let low : o < object_limit = (place-fits s (w.first + j)).item-fits in
+          let low : o < object_limit = (place-fits s (w.first + j)).item_fits in
           let nm : Names g j o = (sym (k.items (w.first + j) ∙ ap (λ (y : ℕ). i (y + j)) (spot s g w e k).0), omega (arith, b)) in
           put-tells g w j o (λ x. step_items m x g (j + 1)) h l low nm s (item s g w o) e k (item-tells s g w o low e k)
 
@@ -206,7 +206,7 @@ module _ (q : ℕ → Frozen) (n : ℕ) (i : ℕ → ℕ) (D : ℕ → Option Va
     where
       by : (a : Option AwaitedGather) → as_awaited (object s g) ≡ a → SettledTold g (settle_as s g a)
       by none e = unfold settle_as in (record { keeps = k; given = λ v d. not-ready pending v tt d })
-      by (some w) e = unfold settle_as in (pick_has (SettledTold g) (eqb w.open-places 0)
+      by (some w) e = unfold settle_as in (pick_has (SettledTold g) (eqb w.open_places 0)
           (record { keeps = set_tells s g GatherState.Completed l tt k; given = λ v d. subst (Gives q D g) (ready-is (Value.List (heap_id g)) v d) (many-gives q n i D S s g w.first w.count _ l (awaited-object (object s g) w e) k) })
           (record { keeps = k; given = λ v d. not-ready pending v tt d }))
 

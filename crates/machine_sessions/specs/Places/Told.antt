@@ -146,7 +146,7 @@ unstarted_words (TaskState.Blocked o) = refl
 
 pub task_back : (s : Store) (t : ℕ) (r : Task) → Sized s → t < task_limit → task (put_task s t r) t ≡ to_task (task_words r)
 unfolding task put_task task_at task_put
-task_back s t r z l = ap to_task (row-put_at task_codec s.tasks (task_start t) r (omega (arith, z.tasks-sized)))
+task_back s t r z l = ap to_task (row-put_at task_codec s.tasks (task_start t) r (omega (arith, z.tasks_sized)))
 
 pub unstarted_back : (s : Store) (t : ℕ) (r : Task) → Sized s → t < task_limit → is_unstarted (task (put_task s t r) t).state ≡ is_unstarted r.state
 unstarted_back s t r z l = ap (λ (y : Task). is_unstarted y.state) (task_back s t r z l) ∙ unstarted_words r.state
@@ -252,7 +252,7 @@ module _ (q : ℕ → Frozen) (n : ℕ) (i : ℕ → ℕ) (D : ℕ → Option Va
       y = record { item = (place_at ps p).item; result = OptionValue.Some v }
 
       now : place_at (place_put ps p y) p ≡ y
-      now = place_at_put ps p y (record { item-fits = (place_at-fits ps p).item-fits; result_fits = g.fits }) (omega (arith, z, l))
+      now = place_at_put ps p y (record { item_fits = (place_at-fits ps p).item_fits; result_fits = g.fits }) (omega (arith, z, l))
 
       by : Dec (r ≡ p) → ((place_at (place_put ps p y) r).item.0 ≡ i r) × Holds q D (i r) (place_at (place_put ps p y) r).result
       by (yes d) =
@@ -265,7 +265,7 @@ module _ (q : ℕ → Frozen) (n : ℕ) (i : ℕ → ℕ) (D : ℕ → Option Va
   pub value-told : (s : Store) (p : ℕ) (v : Value) → p < place_limit → Gives q D (place s p).item.0 v → K s → K (put_place s p (record { item = (place s p).item; result = OptionValue.Some v }))
   unfolding put_place place object task header
   value-told s p v l g k =
-      let y = one_told s.places p v k.sized.places-sized l g k.items k.holds in
+      let y = one_told s.places p v k.sized.places_sized l g k.items k.holds in
       record {
         sized = unfold put_place in (sized-put_place s p _ k.sized);
         made = k.made;
@@ -286,7 +286,7 @@ module _ (q : ℕ → Frozen) (n : ℕ) (i : ℕ → ℕ) (D : ℕ → Option Va
   fill-told (suc m) ps w f x v j z l g it ho r =
       let a : (y : ℕ) → ((place_at (fill_one ps w (f + j) j x v).places y).item.0 ≡ i y) × Holds q D (i y) (place_at (fill_one ps w (f + j) j x v).places y).result =
       λ y. unfold fill_one in (one (bit w j) (eqb (place_at ps (f + j)).item.0 x) refl y) in
-      fill-told m (fill_one ps w (f + j) j x v).places (fill_one ps w (f + j) j x v).open-places f x v (j + 1) (unfold fill_from in (length-fill_from 1 ps w f x v j) ∙ z) (omega (arith, l)) g (λ y. (a y).0) (λ y. (a y).1) r
+      fill-told m (fill_one ps w (f + j) j x v).places (fill_one ps w (f + j) j x v).open_places f x v (j + 1) (unfold fill_from in (length-fill_from 1 ps w f x v j) ∙ z) (omega (arith, l)) g (λ y. (a y).0) (λ y. (a y).1) r
     where
       put : Filled
       put = filled (place_put ps (f + j) (record { item = (place_at ps (f + j)).item; result = OptionValue.Some v })) (w - 2 ^ j)
@@ -300,8 +300,8 @@ module _ (q : ℕ → Frozen) (n : ℕ) (i : ℕ → ℕ) (D : ℕ → Option Va
 
   pub fills_told : (s : Store) (w f x m : ℕ) (v : Value) → f + m ≤ place_limit → Gives q D x v → K s → K (put_places s (fill_from s.places w f x v 0 m).places)
   fills_told s w f x m v l g k =
-      let a = fill-told m s.places w f x v 0 k.sized.places-sized (omega (arith, l)) g (unfold place in k.items) (unfold place in k.holds) in
-      places-told s _ (length-fill_from m s.places w f x v 0 ∙ k.sized.places-sized) (λ r. (a r).0) (λ r. (a r).1) k
+      let a = fill-told m s.places w f x v 0 k.sized.places_sized (omega (arith, l)) g (unfold place in k.items) (unfold place in k.holds) in
+      places-told s _ (length-fill_from m s.places w f x v 0 ∙ k.sized.places_sized) (λ r. (a r).0) (λ r. (a r).1) k
 
   -- ---- tasks
 
@@ -359,7 +359,7 @@ module _ (q : ℕ → Frozen) (n : ℕ) (i : ℕ → ℕ) (D : ℕ → Option Va
 
   pub moved_told : (s : Store) (m : Moment) → MomentFits m → K s → K (set_moment s m)
   unfolding set_moment
-  moved_told s m f k = let g : HeaderFits (header s) = header-fits s in header-told s _ (record { made-fits = g.made-fits; used-fits = g.used-fits; calls-fit = g.calls-fit; next_fits = g.next_fits; moment_fits = f }) refl refl k
+  moved_told s m f k = let g : HeaderFits (header s) = header-fits s in header-told s _ (record { made_fits = g.made_fits; used_fits = g.used_fits; calls_fit = g.calls_fit; next_fits = g.next_fits; moment_fits = f }) refl refl k
 
   -- one task more
   next-told : (s : Store) → (header s).next + 1 ≤ task_limit → ((m : ℕ) → (header s).next ≡ suc m → is_live (task s (header s).next).state ≡ true → TaskTold D S (header s).next (task s (header s).next)) → K s → K (set_next s ((header s).next + 1))
@@ -379,7 +379,7 @@ module _ (q : ℕ → Frozen) (n : ℕ) (i : ℕ → ℕ) (D : ℕ → Option Va
       head : header (set_next s ((header s).next + 1)) ≡ record { made = (header s).made; used = (header s).used; calls = (header s).calls; next = (header s).next + 1; moment = (header s).moment }
       head =
           let g : HeaderFits (header s) = header-fits s in
-          unfold set_next in (header_put-header s _ k.sized (record { made-fits = g.made-fits; used-fits = g.used-fits; calls-fit = g.calls-fit; next_fits = f; moment_fits = g.moment_fits }))
+          unfold set_next in (header_put-header s _ k.sized (record { made_fits = g.made_fits; used_fits = g.used_fits; calls_fit = g.calls_fit; next_fits = f; moment_fits = g.moment_fits }))
 
       rows_same : (o : ℕ) → object (set_next s ((header s).next + 1)) o ≡ object s o
       rows_same o = unfold set_next in (object_put-header s _ o)
@@ -405,7 +405,7 @@ module _ (q : ℕ → Frozen) (n : ℕ) (i : ℕ → ℕ) (D : ℕ → Option Va
   pub state_told : (s : Store) (t : ℕ) (x : TaskState) → is_unstarted x ≡ false → (t < (header s).next → (m : ℕ) → t ≡ suc m → TaskTold D S t (task s t)) → is_unstarted (task s t).state ≡ false → K s → K (set_state s t x)
   unfolding set_state restate
   state_told s t x e y u k =
-      task-told s t _ (λ d. e) (task-fits s t).coroutine-fits (λ b l m d. let z : TaskTold D S t (task s t) = y b m d in record { undelivered = z.undelivered; started = λ n. z.started u; own = z.own }) k
+      task-told s t _ (λ d. e) (task-fits s t).coroutine_fits (λ b l m d. let z : TaskTold D S t (task s t) = y b m d in record { undelivered = z.undelivered; started = λ n. z.started u; own = z.own }) k
 
   -- one that is woken
   pub wakes-told : (s : Store) (t : ℕ) (x : TaskState) → is_blocked (task s t).state ≡ true → is_unstarted x ≡ false → K s → K (add_log (make_ready s t x) (reached t))

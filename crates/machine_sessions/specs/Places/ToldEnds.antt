@@ -128,8 +128,8 @@ module _ (q : ℕ → Frozen) (n : ℕ) (i : ℕ → ℕ) (D : ℕ → Option Va
     R-here : R t ≡ some c
     R-here = start_here t c f (S t)
 
-    not-main : t ≡ 0 → ⊥
-    not-main e = true≢false (sym (ap is_unstarted fresh) ∙ subst (λ (v : ℕ). is_unstarted (task u v).state ≡ false) (sym e) k.main)
+    not_main : t ≡ 0 → ⊥
+    not_main e = true≢false (sym (ap is_unstarted fresh) ∙ subst (λ (v : ℕ). is_unstarted (task u v).state ≡ false) (sym e) k.main)
 
     told-before : Told q n i D R u
     told-before =
@@ -156,14 +156,14 @@ module _ (q : ℕ → Frozen) (n : ℕ) (i : ℕ → ℕ) (D : ℕ → Option Va
 
     k1 : Told q n i D R w
     unfolding awaiter_of
-    k1 = turns-told q n i D R u c _ (task-fits u t).coroutine-fits (subst (λ (x : Object). Turns x (Object.Coroutine f CoroutineState.Running)) (sym (new-object (object u c) f new)) (starts f)) tt told-before
+    k1 = turns-told q n i D R u c _ (task-fits u t).coroutine_fits (subst (λ (x : Object). Turns x (Object.Coroutine f CoroutineState.Running)) (sym (new-object (object u c) f new)) (starts f)) tt told-before
 
     same-task : (v : ℕ) → task w v ≡ task u v
     same-task v = unfold task put_object in refl
 
     k2 : Told q n i D R (set_state w t TaskState.Running)
     unfolding set_state restate
-    k2 = task-told q n i D R w t _ (λ d. refl) (task-fits w t).coroutine-fits (λ b lv m d. row b m d) k1
+    k2 = task-told q n i D R w t _ (λ d. refl) (task-fits w t).coroutine_fits (λ b lv m d. row b m d) k1
       where
         live_now : is_live (task w t).state ≡ true
         live_now = ap (λ (y : Task). is_live y.state) (same-task t) ∙ ap is_live fresh
@@ -179,7 +179,7 @@ module _ (q : ℕ → Frozen) (n : ℕ) (i : ℕ → ℕ) (D : ℕ → Option Va
         record {
           told = moved_told q n i D R _ (Moment.Running (task_id t)) l k2;
           runner = unfold run in (run-runner w t (start c f) k1.sized l);
-          main = λ e. R-other 0 (λ d. not-main (sym d)) ∙ e;
+          main = λ e. R-other 0 (λ d. not_main (sym d)) ∙ e;
         }
 
   -- What a switch leaves.

@@ -28,7 +28,7 @@ use Rattle.machine_laws.specs.SoundLaws.{refusal-forget}
 use Rattle.machine_theorems.specs.Soundness.ReadyTasks.{Queued, to_queued}
 use Rattle.machine_theorems.specs.Soundness.Stores.{SoundStore}
 use Rattle.machine.specs.Sessions.{InRange, AllSentInRange}
-use Rattle.machine_theorems.specs.Soundness.Sessions.{forget-sound_store, step-sound_store, fresh_sound_store}
+use Rattle.machine_theorems.specs.Soundness.Sessions.{forget_sound_store, step_sound_store, fresh_sound_store}
 use Rattle.machine.specs.Sessions.{Sent, is_read, read_lent, lent_any, happened_by, entry_of, Session, begun, send, send_all, session}
 use Rattle.machine.specs.DemandThree.{QueueRight}
 use Rattle.machine_sessions.specs.Queue.Tracked.{Tracked, live-is, live_low}
@@ -68,7 +68,7 @@ pub data Sends (s : Store) (e : Sent) : Type 0 where
 
 right_slices : (s : Store) → Sized s → slices_right s ≡ true
 unfolding slices_right
-right_slices s z = rw (eq-eqb (length s.tasks) tasks_length z.tasks-sized, eq-eqb (length s.objects) objects_length z.objects-sized, eq-eqb (length s.places) places_length z.places-sized)
+right_slices s z = rw (eq-eqb (length s.tasks) tasks_length z.tasks_sized, eq-eqb (length s.objects) objects_length z.objects_sized, eq-eqb (length s.places) places_length z.places_sized)
 
 pub sends : (s : Store) (e : Sent) → Sized s → Sends s e
 sends s e z = by (is_read e.event) refl
@@ -156,7 +156,7 @@ step_tracked h s e w k = by (ℕ_discrete (refusal s e) 0)
     by (yes r) =
         subst (StepAfter h e) (sym (accepted-step s e r))
         (tracked_then h e (accept (forget s) e).answer (accept (forget s) e).store (accept_accepts (forget s) e)
-        (accept_tracked (lives h) (stays_blocked h) (forget s) (forget-sound_store s w) e (refusal-forget s e ∙ r) k))
+        (accept_tracked (lives h) (stays_blocked h) (forget s) (forget_sound_store s w) e (refusal-forget s e ∙ r) k))
     by (no ne) =
         subst (StepAfter h e) (sym (refused-step s e (refusal s e) refl ne))
         (tracked_commits_none h e (Answer.refused (refusal s e)) (forget s) (refuses (refusal s e)) (subst (Tracked (lives h) (stays_blocked h)) (forget_twice s) k))
@@ -177,7 +177,7 @@ send_following x e i f = by (sends s e f.whole.memory.sized)
     by : Sends s e → Following (record { store = (lent_any s e).store; history = entry_of e.event (lent_any s e).answer (lent_any s e).store ∷ h })
     by (stepped p q) =
         record {
-          whole = subst SoundStore (sym p) (step-sound_store s f.whole e.event i);
+          whole = subst SoundStore (sym p) (step_sound_store s f.whole e.event i);
           tracked = subst (λ (a : Answer). After h e.event a (lent_any s e).store) (sym q)
               (subst (After h e.event (step s e.event).answer) (sym p) (step_tracked h s e.event f.whole f.tracked));
         }

@@ -50,7 +50,7 @@ blocked_back (TaskState.Blocked o) = refl
 pub blocked-put_task : (s : Store) (t : ℕ) (r : Task) → Sized s → t < task_limit → is_blocked (task (put_task s t r) t).state ≡ is_blocked r.state
 unfolding task put_task task_at task_put
 blocked-put_task s t r z l =
-    ap (λ (x : List ℕ). is_blocked (to_task x).state) (row-put_at task_codec s.tasks (task_start t) r (omega (arith, z.tasks-sized)))
+    ap (λ (x : List ℕ). is_blocked (to_task x).state) (row-put_at task_codec s.tasks (task_start t) r (omega (arith, z.tasks_sized)))
     ∙ blocked_back r.state
 
 pub ready-free : (x : TaskState) → is_ready x ≡ true → (is_live x ≡ true) × (is_blocked x ≡ false)
@@ -114,7 +114,7 @@ pub moment_next : (s : Store) (m : Moment) → Sized s → MomentFits m → (hea
 unfolding set_moment
 moment_next s m z k =
     let f : HeaderFits (header s) = header-fits s in
-    ap (λ (h : Header). h.next) (header_put-header s _ z (record { made-fits = f.made-fits; used-fits = f.used-fits; calls-fit = f.calls-fit; next_fits = f.next_fits; moment_fits = k }))
+    ap (λ (h : Header). h.next) (header_put-header s _ z (record { made_fits = f.made_fits; used_fits = f.used_fits; calls_fit = f.calls_fit; next_fits = f.next_fits; moment_fits = k }))
 
 -- a spawn: the next number rises
 spawn-sized : (s : Store) (t c g : ℕ) → Sized s → Sized (spawn_as s t c g)
@@ -129,7 +129,7 @@ next-set : (s : Store) (n : ℕ) → Sized s → n ≤ task_limit → (header (s
 unfolding set_next
 next-set s n z low =
     let f : HeaderFits (header s) = header-fits s in
-    ap (λ (h : Header). h.next) (header_put-header s _ z (record { made-fits = f.made-fits; used-fits = f.used-fits; calls-fit = f.calls-fit; next_fits = low; moment_fits = f.moment_fits }))
+    ap (λ (h : Header). h.next) (header_put-header s _ z (record { made_fits = f.made_fits; used_fits = f.used_fits; calls_fit = f.calls_fit; next_fits = low; moment_fits = f.moment_fits }))
 
 pub spawn-next : (s : Store) (t c g : ℕ) → Sized s → t < task_limit → (header (spawn_as s t c g)).next ≡ t + 1
 unfolding spawn_as push_ready
@@ -342,7 +342,7 @@ module _ (l b : ℕ → Bool) where
   tracked_commits =
       record {
         row = λ s o x low t k. row_tracked s o x k;
-        value-put = λ s p v k. like s _ (sized-put_place s p _ k.sized) (unfold put_place in refl) (unfold header put_place in refl) (λ t. unfold task put_place in refl) k;
+        value_put = λ s p v k. like s _ (sized-put_place s p _ k.sized) (unfold put_place in refl) (unfold header put_place in refl) (λ t. unfold task put_place in refl) k;
         spawns = spawns-tracked;
       }
 
@@ -351,7 +351,7 @@ module _ (l b : ℕ → Bool) where
       record {
         sized = λ s k. k.sized;
         row = λ s o x low t k. row_tracked s o x k;
-        values-put = λ s ps e k. like s _ (sized-put_places s ps e k.sized) (unfold put_places in refl) (unfold header put_places in refl) (λ t. unfold task put_places in refl) k;
+        values_put = λ s ps e k. like s _ (sized-put_places s ps e k.sized) (unfold put_places in refl) (unfold header put_places in refl) (λ t. unfold task put_places in refl) k;
         queued = λ s q k. like s _ (sized-put_queue s q k.sized) (unfold put_queue in refl) (unfold header put_queue in refl) (λ t. unfold task put_queue in refl) k;
         moved = moved-tracked;
         wakes = wakes-tracked;

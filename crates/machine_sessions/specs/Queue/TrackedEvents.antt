@@ -66,7 +66,7 @@ module _ (l b : ℕ → Bool) where
       i = record { made = (header s).made + 1; used = (header s).used + n; calls = (header s).calls; next = (header s).next; moment = (header s).moment }
 
       fits : HeaderFits i
-      fits = let f : HeaderFits (header s) = header-fits s in record { made-fits = omega arith; used-fits = u; calls-fit = f.calls-fit; next_fits = f.next_fits; moment_fits = f.moment_fits }
+      fits = let f : HeaderFits (header s) = header-fits s in record { made_fits = omega arith; used_fits = u; calls_fit = f.calls_fit; next_fits = f.next_fits; moment_fits = f.moment_fits }
 
   -- a call is handed out
   module _ (s : Store) (k : Tracked l b s) (c : (header s).calls < call_limit) where
@@ -77,7 +77,7 @@ module _ (l b : ℕ → Bool) where
     unfolding set_calls one_more
     more =
         let f : HeaderFits (header s) = header-fits s in
-        header_put-header s _ k.sized (record { made-fits = f.made-fits; used-fits = f.used-fits; calls-fit = omega arith; next_fits = f.next_fits; moment_fits = f.moment_fits })
+        header_put-header s _ k.sized (record { made_fits = f.made_fits; used_fits = f.used_fits; calls_fit = omega arith; next_fits = f.next_fits; moment_fits = f.moment_fits })
 
     calls-tracked : Tracked l b (set_calls s ((header s).calls + 1))
     unfolding one_more
@@ -88,7 +88,7 @@ module _ (l b : ℕ → Bool) where
     unfolding make_settled one_more
     settled-tracked v m =
         add-tracked (set_calls s ((header s).calls + 1)) _ 0 (subst (λ (y : Header). y.made < object_limit) (sym more) m)
-        (subst (λ (y : Header). y.used + 0 ≤ place_limit) (sym more) (omega (arith, (header-fits s).used-fits))) calls-tracked
+        (subst (λ (y : Header). y.used + 0 ≤ place_limit) (sym more) (omega (arith, (header-fits s).used_fits))) calls-tracked
 
   gather-tracked : (s : Store) (os : List ℕ) → (header s).made < object_limit → (header s).used + length os ≤ place_limit → Tracked l b s → Tracked l b (make_gather s os)
   unfolding make_gather
@@ -108,7 +108,7 @@ module _ (l b : ℕ → Bool) where
   lives_commits t =
       record {
         row = λ s o x low y k. (row_tracked l b s o x k.0, live_like s (put_object s o x) t (ap (λ (h : Header). h.next) (header_put-object s o x)) (unfold task put_object in refl) ∙ k.1);
-        value-put = λ s p v k. ((tracked_commits l b).value-put s p v k.0, place-live s p _ t ∙ k.1);
+        value_put = λ s p v k. ((tracked_commits l b).value_put s p v k.0, place-live s p _ t ∙ k.1);
         spawns = λ s c g low k. ((tracked_commits l b).spawns s c g low k.0, stays s c g low k.0.sized k.1);
       }
     where
@@ -148,7 +148,7 @@ module _ (l b : ℕ → Bool) where
 
   -- no more places are used
   same_places : (s : Store) → (header s).used + 0 ≤ place_limit
-  same_places s = omega (arith, (header-fits s).used-fits)
+  same_places s = omega (arith, (header-fits s).used_fits)
 
   pub accept_tracked : (s : Store) → SoundStore s → (e : Event) → refusal s e ≡ 0 → Tracked l b s → Tracked l b (accept s e).store
   unfolding accept refusals answer_await make_coroutine make_pending view
@@ -168,7 +168,7 @@ module _ (l b : ℕ → Bool) where
       let q = refusal-rest s (Event.await o) r in
       let m = running s h _ q in
       let t : ℕ = runner (header s).moment in
-      let low : o < object_limit = omega (arith, await-made s h o q, (header-fits s).made-fits) in
+      let low : o < object_limit = omega (arith, await-made s h o q, (header-fits s).made_fits) in
       await-tracked s t o low (live-is s t (runner_low s t h m) (true-is (is_live (task s t).state) (runner-live s t h m))) k
   accept_tracked s h (Event.complete v) r k = completes-tracked s _ v k
   accept_tracked s h (Event.fail n) r k = fails-tracked s _ (Error.Script n) k

@@ -23,7 +23,7 @@ use Rattle.machine_laws.specs.SoundLaws.{refusal-forget, refusal-sound}
 use Rattle.machine_theorems.specs.Soundness.ReadyTasks.{Queued}
 use Rattle.machine_theorems.specs.Soundness.RowFacts.{ready-live}
 use Rattle.machine_theorems.specs.Soundness.Stores.{SoundStore, sound-store_of}
-use Rattle.machine_theorems.specs.Soundness.Sessions.{forget-sound_store}
+use Rattle.machine_theorems.specs.Soundness.Sessions.{forget_sound_store}
 use Rattle.machine_sessions.specs.Queue.Tracked.{live-is}
 use Rattle.machine_sessions.specs.Queue.Following.{stands_there}
 use Rattle.machine_sessions.specs.Removals.Left.{sound_queue}
@@ -75,7 +75,7 @@ module _ (s : Store) (t : ℕ) (w : SoundStore s) (r : refusal s (Event.cancel t
   lost : entries_lost s u ≡ length (keep gone (entries s.queue))
   unfolding entries_lost
   lost =
-      let a : length (entries s.queue) ≡ s.queue.len = length-entries s.queue w.memory.ids w.memory.words_right.queue-short in
+      let a : length (entries s.queue) ≡ s.queue.len = length-entries s.queue w.memory.ids w.memory.words_right.queue_short in
       let b : length (entries u.queue) ≡ u.queue.len = length-entries u.queue rm.left.ids rm.left.len in
       let c : length (entries s.queue) ≡ length (entries u.queue) + length (keep gone (entries s.queue)) =
       keep_lengths (live u) (entries s.queue) ∙ ap (λ (l : List ℕ). length l + length (keep gone (entries s.queue))) (sym left) in
@@ -99,7 +99,7 @@ module _ (s : Store) (t : ℕ) (w : SoundStore s) (r : refusal s (Event.cancel t
 -- Whatever is lent: a cancel that no refusal meets.
 pub cancel-count : (s : Store) (t : ℕ) → Sized s → length s.queue.ids ≡ task_limit → refusal s (Event.cancel t) ≡ 0 → CancelLeaves s (step s (Event.cancel t))
 cancel-count s t z ids r =
-    subst (CancelLeaves s) (sym (accepted-step s (Event.cancel t) r)) (as-forgotten (accept-leaves (forget s) t (forget-sound_store s w) (refusal-forget s (Event.cancel t) ∙ r)))
+    subst (CancelLeaves s) (sym (accepted-step s (Event.cancel t) r)) (as-forgotten (accept-leaves (forget s) t (forget_sound_store s w) (refusal-forget s (Event.cancel t) ∙ r)))
   where
     w : SoundStore s
     w = sound-store_of s z ids (refusal-sound s (Event.cancel t) r)

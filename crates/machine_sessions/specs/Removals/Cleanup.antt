@@ -54,10 +54,10 @@ pub record CleanupLeaves (s : Store) : Type 0 where
 -- ---- one by one
 
 -- the queue is of no matter to who goes
-same-tasks : (k : ℕ) (s u : Store) (t : ℕ) → u.tasks ≡ s.tasks → u.log ≡ s.log → ((remove_each u t k).tasks ≡ (remove_from s t k).tasks) × ((remove_each u t k).log ≡ (remove_from s t k).log)
+same_tasks : (k : ℕ) (s u : Store) (t : ℕ) → u.tasks ≡ s.tasks → u.log ≡ s.log → ((remove_each u t k).tasks ≡ (remove_from s t k).tasks) × ((remove_each u t k).log ≡ (remove_from s t k).log)
 unfolding remove_each remove_from
-same-tasks zero s u t e l = (e, l)
-same-tasks (suc k) s u t e l = by (is_live (task s t).state) (unfold task in (ap (λ (ts : List ℕ). is_live (task_at ts t).state) e)) (λ x y. same-tasks k x y (t + 1))
+same_tasks zero s u t e l = (e, l)
+same_tasks (suc k) s u t e l = by (is_live (task s t).state) (unfold task in (ap (λ (ts : List ℕ). is_live (task_at ts t).state) e)) (λ x y. same_tasks k x y (t + 1))
   where
     by : (b : Bool) → is_live (task u t).state ≡ b → ((x y : Store) → y.tasks ≡ x.tasks → y.log ≡ x.log → ((remove_each y (t + 1) k).tasks ≡ (remove_from x (t + 1) k).tasks) × ((remove_each y (t + 1) k).log ≡ (remove_from x (t + 1) k).log))
         → ((remove_each (pick (is_live (task u t).state) (cancel_one u t) u) (t + 1) k).tasks ≡ (remove_from (pick b (add_log (put_task s t absent) (removed t)) s) (t + 1) k).tasks)
@@ -122,7 +122,7 @@ module _ (s : Store) (w : SoundStore s) where
   none_left = all_left.0.order ∙ keep-none _ (entries s.queue) (λ v o. dead v ((sound_queue s w).ready v o).0)
 
   same : ((removed_each s).tasks ≡ (remove_from s 0 (header s).next).tasks) × ((removed_each s).log ≡ (remove_from s 0 (header s).next).log)
-  same = same-tasks (header s).next s s 0 refl refl
+  same = same_tasks (header s).next s s 0 refl refl
 
   tasks-are : (removed_each s).tasks ≡ (cleanup s).tasks
   tasks-are = unfold cleanup set_moment put_header put_queue in same.0
@@ -131,9 +131,9 @@ module _ (s : Store) (w : SoundStore s) where
   queue-is = unfold cleanup set_moment put_header put_queue in refl
 
   -- nobody lives
-  next-is : (header (cleanup s)).next ≡ (header s).next
+  next_is : (header (cleanup s)).next ≡ (header s).next
   unfolding header
-  next-is = unfold cleanup in (moment_next u Moment.Ended sized tt ∙ ap (λ (os : List ℕ). (header_at os).next) rest.0)
+  next_is = unfold cleanup in (moment_next u Moment.Ended sized tt ∙ ap (λ (os : List ℕ). (header_at os).next) rest.0)
     where
       u : Store
       u = put_queue (remove_from s 0 (header s).next) empty_queue
@@ -144,9 +144,9 @@ module _ (s : Store) (w : SoundStore s) where
       sized : Sized u
       sized =
           record {
-            tasks-sized = unfold put_queue in (ap length (sym same.0) ∙ all_left.0.sized.tasks-sized);
-            objects-sized = ap length rest.0 ∙ w.memory.sized.objects-sized;
-            places-sized = ap length rest.1 ∙ w.memory.sized.places-sized;
+            tasks_sized = unfold put_queue in (ap length (sym same.0) ∙ all_left.0.sized.tasks_sized);
+            objects_sized = ap length rest.0 ∙ w.memory.sized.objects_sized;
+            places_sized = ap length rest.1 ∙ w.memory.sized.places_sized;
           }
 
   ended : (v : ℕ) → live (cleanup s) v ≡ false
@@ -161,7 +161,7 @@ module _ (s : Store) (w : SoundStore s) where
 
       by : Dec (v < (header s).next) → live (cleanup s) v ≡ false
       by (yes l) = unfold live in (inside (ltb v (header (cleanup s)).next) l)
-      by (no nl) = unfold live in (rw (next-is, le-ltb v (header s).next (omega (arith, nl))))
+      by (no nl) = unfold live in (rw (next_is, le-ltb v (header s).next (omega (arith, nl))))
 
   all-lost : entries_lost s (cleanup s) ≡ s.queue.len
   unfolding entries_lost empty_queue
@@ -171,7 +171,7 @@ module _ (s : Store) (w : SoundStore s) where
   unfolding is_queued removed_between
   counted =
       all-lost
-      ∙ sym (length-entries s.queue w.memory.ids w.memory.words_right.queue-short)
+      ∙ sym (length-entries s.queue w.memory.ids w.memory.words_right.queue_short)
       ∙ ap length (sym (keep_all (λ v. true) (entries s.queue) (λ v o. refl)))
       ∙ keep-count (λ v. true) task_limit (entries s.queue) (sound_queue s w).distinct (λ v o. omega (arith, ((sound_queue s w).ready v o).0, (header-fits s).next_fits))
       ∙ count_same _ _ task_limit (λ v l. by v (is_in v (entries s.queue)) refl)

@@ -59,7 +59,7 @@ failure_left s t e =
 pub record ExitLeaves (s : Store) (t : ℕ) (d : Delivery) : Type 0 where
   pub nowhere : stood_at s.queue t ≡ Position.Nowhere
   pub at_back : (w : ℕ) → d.woken ≡ some w → stood_at d.store.queue w ≡ Position.At s.queue.len
-  pub runs-ahead : (w : ℕ) → d.woken ≡ some w → entries (resume_after_task_exit activate d).store.queue ≡ entries s.queue
+  pub runs_ahead : (w : ℕ) → d.woken ≡ some w → entries (resume_after_task_exit activate d).store.queue ≡ entries s.queue
   pub unwoken : d.woken ≡ none → d.store.queue ≡ s.queue
 
 -- these are what the machine goes on with
@@ -130,10 +130,10 @@ runs_of : (s : Store) (t : ℕ) → SoundStore s → is_running (task s t).state
 runs_of s t w r =
     record {
       ids = w.memory.ids;
-      len = w.memory.words_right.queue-short;
+      len = w.memory.words_right.queue_short;
       apart = not-queued t (running-free (task s t).state r).0 q;
       free = (running-free (task s t).state r).1;
-      room = λ v l b. let z = not-queued v (blocked_unready (task s v).state b) q in (z, room_for s.queue v w.memory.ids w.memory.words_right.queue-short (header-fits s).next_fits q l z);
+      room = λ v l b. let z = not-queued v (blocked_unready (task s v).state b) q in (z, room_for s.queue v w.memory.ids w.memory.words_right.queue_short (header-fits s).next_fits q l z);
     }
   where
     q : Queued (header s).next (task s) (entries s.queue)
@@ -199,15 +199,15 @@ module _ (s : Store) (t : ℕ) (v : Value) (z : Sized s) (low : t < task_limit) 
       d-sized = success_kept Sized sized_closed left (task s t).awaiter v (task-fits s t).awaiter_fits left-sized
 
       by : Effect left d → ExitLeaves s t d
-      by (nobody e n) = record { nowhere = nowhere-now s t k; at_back = λ w q. absurd_some (sym n ∙ q); runs-ahead = λ w q. absurd_some (sym n ∙ q); unwoken = λ q. e.queue ∙ left-queue }
+      by (nobody e n) = record { nowhere = nowhere-now s t k; at_back = λ w q. absurd_some (sym n ∙ q); runs_ahead = λ w q. absurd_some (sym n ∙ q); unwoken = λ q. e.queue ∙ left-queue }
       by (wakes w x e n) =
-          let b = waiter-blocked w (unfold task in e.was-blocked) in
+          let b = waiter-blocked w (unfold task in e.was_blocked) in
           let q : d.store.queue ≡ push_back s.queue w = e.queue ∙ ap (λ (r : ReadyQueue). push_back r w) left-queue in
           record {
             nowhere = nowhere-now s t k;
             at_back = λ u y. subst (λ (m : ℕ). stood_at d.store.queue m ≡ Position.At s.queue.len) (some-injective w u (sym n ∙ y)) (rw q (back s t k w e.low b));
-            runs-ahead = λ u y.
-                ap entries (waiter_runs d left w x n d-sized left-sized e.low e.is_woken e.has-begun (unfold task put_task in (ap (λ (l : List ℕ). task_at l w) e.tasks))
+            runs_ahead = λ u y.
+                ap entries (waiter_runs d left w x n d-sized left-sized e.low e.is_woken e.has_begun (unfold task put_task in (ap (λ (l : List ℕ). task_at l w) e.tasks))
                 ∙ ap (λ (r : ReadyQueue). remove r w) q)
                 ∙ again s t k w e.low b;
             unwoken = λ y. absurd_some (sym y ∙ n);
@@ -234,21 +234,21 @@ module _ (s : Store) (t : ℕ) (e : Error) (z : Sized s) (k : Runs s t) where
           record {
             nowhere = nowhere-now s t k;
             at_back = λ w q. absurd_some (sym n ∙ q);
-            runs-ahead = λ w q. absurd_some (sym n ∙ q);
+            runs_ahead = λ w q. absurd_some (sym n ∙ q);
             unwoken = λ q. gone_queue ∙ (ap (λ (r : ReadyQueue). remove r t) f.queue ∙ same_queue s t k);
           }
       by (wakes w x f n) =
           record {
             nowhere = nowhere-now s t k;
             at_back = λ u y. subst (λ (m : ℕ). stood_at gone.queue m ≡ Position.At s.queue.len) (some-injective w u (sym n ∙ y)) (rw q (back s t k w f.low b));
-            runs-ahead = λ u y.
-                ap entries (waiter_runs (record { store = gone; woken = sent.woken }) s w x n gone_sized z f.low f.is_woken f.has-begun row ∙ ap (λ (r : ReadyQueue). remove r w) q)
+            runs_ahead = λ u y.
+                ap entries (waiter_runs (record { store = gone; woken = sent.woken }) s w x n gone_sized z f.low f.is_woken f.has_begun row ∙ ap (λ (r : ReadyQueue). remove r w) q)
                 ∙ again s t k w f.low b;
             unwoken = λ y. absurd_some (sym y ∙ n);
           }
         where
           b : is_blocked (task s w).state ≡ true
-          b = unfold task in f.was-blocked
+          b = unfold task in f.was_blocked
 
           gone_sized : Sized gone
           gone_sized =

@@ -37,7 +37,7 @@ live_in_table s t z e = by (dec_lt t task_limit)
     by : Dec (t < task_limit) → t < task_limit
     by (yes l) = l
     by (no nl) =
-        let word : get_or s.tasks (t * 8 + 0) 0 ≡ 0 = get_or-eq_default s.tasks 0 (omega (arith, z.tasks-sized, nl)) in
+        let word : get_or s.tasks (t * 8 + 0) 0 ≡ 0 = get_or-eq_default s.tasks 0 (omega (arith, z.tasks_sized, nl)) in
         absurd (true≢false (sym e ∙ (rw word)))
 
 -- ---- one task is removed
@@ -66,7 +66,7 @@ module _ (s : Store) (w : SoundStore s) where
       record {
         sized = w.memory.sized;
         ids = w.memory.ids;
-        len = w.memory.words_right.queue-short;
+        len = w.memory.words_right.queue_short;
         order = sym (keep_all _ (entries s.queue) (λ v o. ready-live (task s v).state (is_true (is_ready (task s v).state) (q.ready v o).1)));
       }
 

@@ -164,7 +164,7 @@ module _ (s u : Store) (k : Removes s u) where
           ∙ b (ap (λ (y : Header). y.moment) (sym head-same) ∙ m) t (subst (λ (y : Header). t < y.next) head-same l))))
       by false e = refl
 
-  module _ (F : ℕ → Option ℕ) (L E : ℕ → Type 0) (S : ℕ → Option ℕ) (Y : ℕ → Bool) (all-started : (t : ℕ) → t < (header s).next → is_unstarted (task s t).state ≡ false) where
+  module _ (F : ℕ → Option ℕ) (L E : ℕ → Type 0) (S : ℕ → Option ℕ) (Y : ℕ → Bool) (all_started : (t : ℕ) → t < (header s).next → is_unstarted (task s t).state ≡ false) where
     pub removed-tasks : Tasks F L E S Y s → Tasks F L E S Y u
     removed-tasks j =
         record {
@@ -193,7 +193,7 @@ module _ (s u : Store) (k : Removes s u) where
         used-by zero c e b a = absurd (not-suc-le-zero {n = 0} (j.born zero c e).0)
         used-by (suc t) c e true a =
             let l : suc t < (header s).next = (j.born (suc t) c e).1 in
-            subst (λ (m : ℕ). used_coroutine (object s m) ≡ true) (some-injective (task s (suc t)).coroutine.0 c (sym (j.rows t l a) ∙ e)) (j.started t l a (all-started (suc t) l))
+            subst (λ (m : ℕ). used_coroutine (object s m) ≡ true) (some-injective (task s (suc t)).coroutine.0 c (sym (j.rows t l a) ∙ e)) (j.started t l a (all_started (suc t) l))
         used-by (suc t) c e false a = j.used (suc t) c e a
 
   -- G before, H after: the coroutines of the tasks that have gone are of H

@@ -32,9 +32,9 @@ pub record SameTasks (s u : Store) : Type 0 where
 -- task t is woken with x
 pub record WokenBy (s u : Store) (t : ℕ) (x : TaskState) : Type 0 where
   pub low : t < task_limit
-  pub was-blocked : is_blocked (task_at s.tasks t).state ≡ true
+  pub was_blocked : is_blocked (task_at s.tasks t).state ≡ true
   pub is_woken : is_ready x ≡ true
-  pub has-begun : is_unstarted x ≡ false
+  pub has_begun : is_unstarted x ≡ false
   pub tasks : u.tasks ≡ task_put s.tasks t (restate (task_at s.tasks t) x)
   pub queue : u.queue ≡ push_back s.queue t
   pub head : header u ≡ header s
@@ -53,9 +53,9 @@ effect_from s u d k (nobody e w) = nobody (record { tasks = e.tasks ∙ k.tasks;
 effect_from s u d k (wakes t x e w) =
     wakes t x (record {
       low = e.low;
-      was-blocked = subst (λ (l : List ℕ). is_blocked (task_at l t).state ≡ true) k.tasks e.was-blocked;
+      was_blocked = subst (λ (l : List ℕ). is_blocked (task_at l t).state ≡ true) k.tasks e.was_blocked;
       is_woken = e.is_woken;
-      has-begun = e.has-begun;
+      has_begun = e.has_begun;
       tasks = e.tasks ∙ ap (λ (l : List ℕ). task_put l t (restate (task_at l t) x)) k.tasks;
       queue = e.queue ∙ ap (λ q. push_back q t) k.queue;
       head = e.head ∙ k.head;
@@ -70,9 +70,9 @@ to_task_effect s t x l r n = by (is_blocked (task s t).state) refl
     by true q =
         wakes t x (record {
           low = l;
-          was-blocked = unfold task in q;
+          was_blocked = unfold task in q;
           is_woken = r;
-          has-begun = n;
+          has_begun = n;
           tasks = unfold add_log make_ready push_ready put_queue set_state put_task task in refl;
           queue = unfold add_log make_ready push_ready put_queue set_state put_task in refl;
           head = unfold add_log make_ready push_ready put_queue set_state put_task header in refl;
@@ -94,7 +94,7 @@ resolve_same s g x v = by (as_awaited (object s g))
 
     by : (w : Option AwaitedGather) → SameTasks s (resolve_awaited s g x v w).store
     by none = unfold resolve_awaited in (same_refl s)
-    by (some w) = unfold resolve_awaited in (left (eqb (fill_from s.places w.open-places w.first x v 0 w.count).open-places 0) w _ _)
+    by (some w) = unfold resolve_awaited in (left (eqb (fill_from s.places w.open_places w.first x v 0 w.count).open_places 0) w _ _)
 
 fail-same : (s : Store) (g : ℕ) (e : Error) → SameTasks s (fail_gather s g e).store
 unfolding fail_gather

@@ -50,11 +50,11 @@ some-pending s k e = true≢false (sym there ∙ (sym (pending_calls_are s c) �
     c : ℕ
     c = k.external.call.0
 
-    row : pending_call (object s k.object-is) ≡ some c
-    row = ap pending_call (pending-object (object s k.object-is) k.external k.pending) ∙ (unfold pending_call in refl)
+    row : pending_call (object s k.object_is) ≡ some c
+    row = ap pending_call (pending-object (object s k.object_is) k.external k.pending) ∙ (unfold pending_call in refl)
 
     there : pends s c ≡ true
-    there = unfold pends in (called-found (λ o. pending_call (object s o)) (header s).made c k.object-is k.made row)
+    there = unfold pends in (called-found (λ o. pending_call (object s o)) (header s).made c k.object_is k.made row)
 
 -- ---- stalled: there is no pending call
 
@@ -86,8 +86,8 @@ stalled-none s Event.eager q = absurd (true≢false (sym q))
 
 pub record Reads (s : Store) (x : Step) : Type 0 where
   pub same_store : x.store ≡ s
-  pub no-control : (tells x.answer).control ≡ none
-  pub no-stall : is_stalled x.answer ≡ false
+  pub no_control : (tells x.answer).control ≡ none
+  pub no_stall : is_stalled x.answer ≡ false
 
 pub ended_reads : (s : Store) (e : Event) → refusal s e ≡ 0 → is_ended (header s).moment ≡ true → Reads s (accept s e)
 unfolding refusals in_running in_waiting in_both accept tells done_only is_stalled
@@ -102,8 +102,8 @@ ended_reads s (Event.fail n) r d = absurd (true≢false (sym d ∙ (pass 2 (is_e
 ended_reads s (Event.results rs) r d = absurd (true≢false (sym d ∙ (pass 2 (is_ended (header s).moment) _ (refusal-rest s (Event.results rs) r)).0))
 ended_reads s Event.resume r d = absurd (true≢false (sym d ∙ (pass 2 (is_ended (header s).moment) _ (refusal-rest s Event.resume r)).0))
 ended_reads s (Event.cancel t) r d = absurd (true≢false (sym d ∙ (pass 2 (is_ended (header s).moment) _ (refusal-rest s (Event.cancel t) r)).0))
-ended_reads s (Event.show o) r d = record { same_store = refl; no-control = refl; no-stall = refl }
-ended_reads s Event.eager r d = record { same_store = refl; no-control = refl; no-stall = refl }
+ended_reads s (Event.show o) r d = record { same_store = refl; no_control = refl; no_stall = refl }
+ended_reads s Event.eager r d = record { same_store = refl; no_control = refl; no_stall = refl }
 
 -- ---- one event
 
@@ -125,7 +125,7 @@ module _ (u : Store) (w : SoundStore u) (st : Stands Nothing u) (k : Sourced Not
 -- an answer is no empty wait and no stall
 pub accept-goes : (s : Store) (e : Event) → SoundStore (accept s e).store → Stands Nothing (accept s e).store → Sourced Nothing (accept s e).store → StepRight (MainEnds s e) (accept s e)
     → AnswerSays (accept s e).store (accept s e).answer → (empty_wait (tells (accept s e).answer).control ≡ false) × (is_stalled (accept s e).answer ≡ false)
-accept-goes s e w st k r says-it = (control-goes u w st k (tells (accept s e).answer).control r.waits-idle (says-control u (accept s e).answer says-it), stall-by (is_stalled (accept s e).answer) refl r.stalls-idle)
+accept-goes s e w st k r says-it = (control-goes u w st k (tells (accept s e).answer).control r.waits_idle (says-control u (accept s e).answer says-it), stall-by (is_stalled (accept s e).answer) refl r.stalls_idle)
   where
     u : Store
     u = (accept s e).store
@@ -139,8 +139,8 @@ accept-goes s e w st k r says-it = (control-goes u w st k (tells (accept s e).an
 -- it is no wait and no stall, and the session has ended
 pub record Finished (s : Store) (x : Step) : Type 0 where
   pub store_is : x.store ≡ cleanup s
-  pub no-control : (tells x.answer).control ≡ none
-  pub no-stall : is_stalled x.answer ≡ false
+  pub no_control : (tells x.answer).control ≡ none
+  pub no_stall : is_stalled x.answer ≡ false
 
 pub main_finishes : (s : Store) (e : Event) → MainEnds s e → Finished s (accept s e)
 unfolding MainEnds accept task_completes task_fails
@@ -152,10 +152,10 @@ main_finishes s (Event.gather os) m = absurd m
 main_finishes s (Event.await o) m = absurd m
 main_finishes s (Event.complete v) m =
     subst (λ (b : Bool). Finished s (pick b (end_main s (Answer.finished v)) (switched (handle_task_completion s (runner (header s).moment) v)))) (sym (eq-eqb (runner (header s).moment) 0 m))
-    (record { store_is = unfold end_main in refl; no-control = unfold end_main tells done_only in refl; no-stall = unfold end_main is_stalled in refl })
+    (record { store_is = unfold end_main in refl; no_control = unfold end_main tells done_only in refl; no_stall = unfold end_main is_stalled in refl })
 main_finishes s (Event.fail n) m =
     subst (λ (b : Bool). Finished s (pick b (end_main s (Answer.finished_error (Error.Script n))) (switched (handle_task_failure activate s (runner (header s).moment) (Error.Script n))))) (sym (eq-eqb (runner (header s).moment) 0 m))
-    (record { store_is = unfold end_main in refl; no-control = unfold end_main tells done_only in refl; no-stall = unfold end_main is_stalled in refl })
+    (record { store_is = unfold end_main in refl; no_control = unfold end_main tells done_only in refl; no_stall = unfold end_main is_stalled in refl })
 main_finishes s (Event.results rs) m = absurd m
 main_finishes s Event.resume m = absurd m
 main_finishes s (Event.cancel t) m = absurd m

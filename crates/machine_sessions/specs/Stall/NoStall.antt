@@ -100,10 +100,10 @@ module _ (G : ℕ → Type 0) (s u : Store) (objects : (o : ℕ) → object u o 
 
 -- a pending call
 pub record Call (s : Store) : Type 0 where
-  pub object-is : ℕ
-  pub made : object-is < (header s).made
+  pub object_is : ℕ
+  pub made : object_is < (header s).made
   pub external : PendingExternal
-  pub pending : as_pending (object s object-is) ≡ some external
+  pub pending : as_pending (object s object_is) ≡ some external
 
 -- what a live task that is neither ready nor running waits for
 waits_on : (x : TaskState) → is_live x ≡ true → is_ready x ≡ false → is_running x ≡ false → (o : ℕ) × (blocked_on x ≡ some o)
@@ -131,7 +131,7 @@ held (Object.ExternalFuture c (ExternalFutureState.Pending a r)) t e = held_exte
 held (Object.ExternalFuture c (ExternalFutureState.Resolved v)) t e = not-task t e
 held (Object.ExternalFuture c (ExternalFutureState.Failed x)) t e = not-task t e
 held (Object.GatherFuture f n GatherState.Pending) t e = not-task t e
-held (Object.GatherFuture f n (GatherState.Awaited a m)) t e = held_gather (record { first = f; count = n; awaiter = a; open-places = m }) refl e
+held (Object.GatherFuture f n (GatherState.Awaited a m)) t e = held_gather (record { first = f; count = n; awaiter = a; open_places = m }) refl e
 held (Object.GatherFuture f n GatherState.Completed) t e = not-task t e
 held (Object.GatherFuture f n (GatherState.Failed x)) t e = not-task t e
 
@@ -156,7 +156,7 @@ module _ (s : Store) (h : SoundStore s) (d : Driven s) (waiting : (header s).mom
   -- a gather has an open place
   opens : (g : ℕ) (w : AwaitedGather) → g < (header s).made → as_awaited (object s g) ≡ some w → (o : ℕ) × Open (place s) w o
   opens g w l e =
-      let k : SetBelow w.count w.open-places = has_set w.count w.open-places (sound_no_other s g w b l e) (sound-some_open s g w b l e) in
+      let k : SetBelow w.count w.open_places = has_set w.count w.open_places (sound_no_other s g w b l e) (sound-some_open s g w b l e) in
       ((place s (w.first + k.at)).item.0, record { at = k.at; under = k.under; is_open = k.is_set; names = refl })
 
   -- down the gathers: `more` goes on from a task above t
@@ -173,7 +173,7 @@ module _ (s : Store) (h : SoundStore s) (d : Driven s) (waiting : (header s).mom
           low = open_lower g w x.0 b m e x.1
 
           on : Source Nothing s g x.0 → Call s
-          on (by_external p q a) = record { object-is = x.0; made = omega (arith, low, m); external = p; pending = q }
+          on (by_external p q a) = record { object_is = x.0; made = omega (arith, low, m); external = p; pending = q }
           on (by_gather v q a) = down x.0 v (omega (arith, low, l)) (omega (arith, low, m)) q (above x.0 t g x.0 v q a r)
           on (by_nobody j) = absurd j
           on (by_task u lu live a) = more u (d.rising u g x.0 t lu live a r) lu live
@@ -191,7 +191,7 @@ module _ (s : Store) (h : SoundStore s) (d : Driven s) (waiting : (header s).mom
           a = b.awaits t l (λ z. z) x.0 x.1
 
           on : Held (object s x.0) (Awaiter.Task (task_id t)) → Call s
-          on (held_external p e) = record { object-is = x.0; made = a.made; external = p; pending = e }
+          on (held_external p e) = record { object_is = x.0; made = a.made; external = p; pending = e }
           on (held_gather w e c) = from-gather (suc x.0) t x.0 w more (omega arith) a.made e (root x.0 t w e c)
 
   -- There is a pending call.

@@ -91,7 +91,7 @@ awaiter_kept s t v x z l f = by (ℕ_discrete v t)
     r = record { state = x; awaiter = (task s t).awaiter; coroutine = (task s t).coroutine }
 
     fits : TaskFits r
-    fits = record { state_fits = f; awaiter_fits = (task-fits s t).awaiter_fits; coroutine-fits = (task-fits s t).coroutine-fits }
+    fits = record { state_fits = f; awaiter_fits = (task-fits s t).awaiter_fits; coroutine_fits = (task-fits s t).coroutine_fits }
 
     by : Dec (v ≡ t) → (task (put_task s t r) v).awaiter ≡ (task s v).awaiter
     by (yes q) = subst (λ (m : ℕ). (task (put_task s t r) m).awaiter ≡ (task s m).awaiter) (sym q) (ap (λ (y : Task). y.awaiter) (task_put-task s t r z l fits))
@@ -161,7 +161,7 @@ module _ (G : ℕ → Type 0) (r : ℕ → Bool) (D : ℕ → Type 0) (hd : Head
       sent = error-sends r D hd e k s o g x i
 
       low : g < object_limit
-      low = omega (arith, (i.detached.slot g x refl).made, i.during.kept.but.fits.made-fits)
+      low = omega (arith, (i.detached.slot g x refl).made, i.during.kept.but.fits.made_fits)
 
       slot_same : (p : ℕ) → Awaiter.GatherSlot (heap_id g) (heap_id x) ≡ Awaiter.GatherSlot (heap_id p) (heap_id o) → p ≡ g
       slot_same p q = sym (ap slot_of q)
@@ -181,11 +181,11 @@ module _ (G : ℕ → Type 0) (r : ℕ → Bool) (D : ℕ → Type 0) (hd : Head
           let k1 : SourcedBut G (OnWay w.awaiter g) (put_object s g y) =
           settle_sourced _ (OnWay (Awaiter.GatherSlot (heap_id g) (heap_id x)) o) s g w y z low ((awaited-fits s g w q).0, k) q (unfold as_awaited in refl) (λ p v d. slot_same p d.0) c in
           rw (failure_climbs s (heap_id g) (heap_id x) e w.awaiter z low a)
-          (go (fail_gather s g e).store g w.awaiter (omega (arith, sent.up w.awaiter a)) (sent.delivers-on w.awaiter a) (subst (SourcedBut G (OnWay w.awaiter g)) (sym st) k1))
+          (go (fail_gather s g e).store g w.awaiter (omega (arith, sent.up w.awaiter a)) (sent.delivers_on w.awaiter a) (subst (SourcedBut G (OnWay w.awaiter g)) (sym st) k1))
 
   failure-climb : (n : ℕ) (s : Store) (o : ℕ) (a : Awaiter) → object_limit ≤ n + o → DeliveringError r D hd o s a → SourcedBut G (OnWay a o) s → Sourced G (deliver_awaiter_failure s a e).store
   unfolding view
-  failure-climb zero s o a f i c = absurd (not-suc-le-zero {n = 0} (omega (arith, f, i.detached.made, i.during.kept.but.fits.made-fits)))
+  failure-climb zero s o a f i c = absurd (not-suc-le-zero {n = 0} (omega (arith, f, i.detached.made, i.during.kept.but.fits.made_fits)))
   failure-climb (suc n) s o Awaiter.Nobody f i c = unfold deliver_awaiter_failure send_error nobody_woken in (all_of s (no_way s o Awaiter.Nobody (λ g q. nobody_no g o q) c))
   failure-climb (suc n) s o (Awaiter.Task t) f i c =
       let fits : t.0 < task_limit = omega (arith, task_low s t i.detached.range, i.during.kept.but.fits.next_fits) in

@@ -87,7 +87,7 @@ opened_lit : {G : ℕ → Type 0} (s : Store) (Q R : ℕ → Type 0) (n o f c : 
 unfolding open_gather_commit set_gather with_state
 opened_lit {G} s Q R n o f c a z l fits was b slots stack k =
     subst (λ (y : Object). Lit G R (put_object s o y)) (sym (ap (λ (y : Object). with_state y (GatherState.Awaited a 0)) was))
-    (open_sourced _ s Q R n o f c a z (omega (arith, l, (header-fits s).made-fits)) fits was b slots stack k)
+    (open_sourced _ s Q R n o f c a z (omega (arith, l, (header-fits s).made_fits)) fits was b slots stack k)
 
 -- a slot in a gather is in a committed one
 pending_slot : (s : Store) (o f c : ℕ) → object s o ≡ Object.GatherFuture f c GatherState.Pending → T (is_committed (kind (object s o))) → ⊥
@@ -110,13 +110,13 @@ nested-lit {G} root t f fs x i q h k =
     fits : ObjectFits (Object.GatherFuture h.first h.count (GatherState.Awaited (Awaiter.GatherSlot (heap_id f.gather) (heap_id q)) 0))
     fits =
         let old : ObjectFits (Object.GatherFuture h.first h.count GatherState.Pending) = subst ObjectFits h.is_new (object-fits x q) in
-        (old.0, ((omega (arith, h.inv.opened.made, (header-fits x).made-fits), omega (arith, low-q, (header-fits x).made-fits)), omega arith))
+        (old.0, ((omega (arith, h.inv.opened.made, (header-fits x).made_fits), omega (arith, low-q, (header-fits x).made_fits)), omega arith))
 
     slots : (p : ℕ) (w : AwaitedGather) → p < (header x).made → as_awaited (object x p) ≡ some w → (y : ℕ) → w.awaiter ≡ Awaiter.GatherSlot (heap_id q) (heap_id y) → Dec (OnTop f.gather fs p) → ⊥
     slots p w l e y a (yes on) =
         let r = slot_awaited h.inv.w h.inv.opened.awaited refl h.inv.stack p on w e q y a in
         absurd_some (sym (ap as_awaited h.is_new ∙ (unfold as_awaited in refl)) ∙ r.1)
-    slots p w l e y a (no off) = pending_slot x q h.first h.count h.is_new (h.inv.but.object-slots p l off q y (awaiter_is (object x p) w e ∙ a)).committed
+    slots p w l e y a (no off) = pending_slot x q h.first h.count h.is_new (h.inv.but.object_slots p l off q y (awaiter_is (object x p) w e ∙ a)).committed
 
 -- ---- a gather leaves the stack, settled
 
@@ -141,11 +141,11 @@ unwind-lit : {G : ℕ → Type 0} (fs : List Frame) (s : Store) (root t j g i : 
     → Stacked (header s).made (object s) (place s) root t g w.awaiter fs j → Lit G (OnTop g fs) s → Lit G Nothing (unwind s (record { gather = g; next = i } ∷ fs) e)
 unfolding unwind
 unwind-lit [] s root t j g i w e ok m l q st k =
-    left-lit (OnTop g []) Nothing s g w (GatherState.Failed e) m.sized (omega (arith, l, (header-fits s).made-fits)) ((awaited-fits s g w q).0, ok) q (unfold as_awaited in refl) (inl refl) (λ p z. absurd z) k
+    left-lit (OnTop g []) Nothing s g w (GatherState.Failed e) m.sized (omega (arith, l, (header-fits s).made_fits)) ((awaited-fits s g w q).0, ok) q (unfold as_awaited in refl) (inl refl) (λ p z. absurd z) k
 unwind-lit {G} (f ∷ fs) s root t j g i w e ok m l q st k =
     by (stacked_set s g w (GatherState.Failed e) m l q ((awaited-fits s g w q).0, ok) st)
     (λ j' w' l' q' st'. unwind-lit fs (set_gather s g (GatherState.Failed e)) root t j' f.gather f.next w' e ok (memory_set s g w (GatherState.Failed e) m l q ((awaited-fits s g w q).0, ok)) l' q' st'
-    (left-lit (OnTop g (f ∷ fs)) (OnTop f.gather fs) s g w (GatherState.Failed e) m.sized (omega (arith, l, (header-fits s).made-fits)) ((awaited-fits s g w q).0, ok) q (unfold as_awaited in refl) (inl refl) (λ p z. inr z) k))
+    (left-lit (OnTop g (f ∷ fs)) (OnTop f.gather fs) s g w (GatherState.Failed e) m.sized (omega (arith, l, (header-fits s).made_fits)) ((awaited-fits s g w q).0, ok) q (unfold as_awaited in refl) (inl refl) (λ p z. inr z) k))
   where
     s1 : Store
     s1 = set_gather s g (GatherState.Failed e)
@@ -166,11 +166,11 @@ error-lit root t f fs x e h k =
 -- the root: it completes, or stays awaited
 root-lit : {G : ℕ → Type 0} (root t : ℕ) (x : Store) (g i : ℕ) → Memory x → Inv root t 0 (OnTop g []) (view x) g i [] → Lit G (OnTop g []) x → Sourced G (settle_gather_commit x g).store
 unfolding settle_gather_commit view
-root-lit {G} root t x g i mem h k = subst (λ (o : Option AwaitedGather). Sourced G (settle_as x g o).store) (sym h.opened.awaited) (unfold settle_as in (by (eqb h.w.open-places 0)))
+root-lit {G} root t x g i mem h k = subst (λ (o : Option AwaitedGather). Sourced G (settle_as x g o).store) (sym h.opened.awaited) (unfold settle_as in (by (eqb h.w.open_places 0)))
   where
     by : (b : Bool) → Sourced G (pick b (gives (set_gather x g GatherState.Completed) (ready (Value.List (heap_id g)))) (gives x pending)).store
     by true =
-        (left-lit (OnTop g []) Nothing x g h.w GatherState.Completed mem.sized (omega (arith, h.opened.made, (header-fits x).made-fits)) ((awaited-fits x g h.w h.opened.awaited).0, tt) h.opened.awaited
+        (left-lit (OnTop g []) Nothing x g h.w GatherState.Completed mem.sized (omega (arith, h.opened.made, (header-fits x).made_fits)) ((awaited-fits x g h.w h.opened.awaited).0, tt) h.opened.awaited
         (unfold as_awaited in refl) (inl refl) (λ p z. absurd z) k).sourced
     by false = k.sourced
 
@@ -188,7 +188,7 @@ module _ (G : ℕ → Type 0) (root t : ℕ) (x : Store) (g i : ℕ) (p : Frame)
   top = h.opened.awaited
 
   low : g < object_limit
-  low = omega (arith, made, (header-fits x).made-fits)
+  low = omega (arith, made, (header-fits x).made_fits)
 
   full-fits : ObjectFits (Object.GatherFuture h.w.first h.w.count GatherState.Completed)
   full-fits = ((awaited-fits x g h.w top).0, tt)
@@ -211,7 +211,7 @@ module _ (G : ℕ → Type 0) (root t : ℕ) (x : Store) (g i : ℕ) (p : Frame)
           subst (λ (o : Option AwaitedGather). Next (resume_as p (gives x1 (ready (Value.List (heap_id g)))) o)) (sym (ap as_awaited (set_other x g p.gather GatherState.Completed (λ d. omega arith)) ∙ op.awaited))
           (unfold resume_as resume_in in
           (fill_sourced (OnTop p.gather ps) x1 w p.next (Value.List (heap_id g)) mem1.sized
-          (omega (arith, gather_within p.gather w h.but op.made op.awaited, lt, h.but.fits.used-fits)) low k1))
+          (omega (arith, gather_within p.gather w h.but op.made op.awaited, lt, h.but.fits.used_fits)) low k1))
 
   parked-lit : Next (resume_after_child p (gives x pending))
   unfolding view resume_after_child
@@ -220,7 +220,7 @@ module _ (G : ℕ → Type 0) (root t : ℕ) (x : Store) (g i : ℕ) (p : Frame)
       by : {a : Awaiter} {n : ℕ} → Stacked (header x).made (object x) (place x) root t g a (p ∷ ps) n → h.w.awaiter ≡ a → Next (resume_as p (gives x pending) (as_awaited (object x p.gather)))
       by (above w j op lt nm lo aw rm rest) same =
           subst (λ (o : Option AwaitedGather). Next (resume_as p (gives x pending) o)) (sym op.awaited) (unfold resume_as resume_in in
-          (place_sourced (OnTop p.gather ps) x p.gather w p.next g mem.sized op.made (omega (arith, op.made, (header-fits x).made-fits))
+          (place_sourced (OnTop p.gather ps) x p.gather w p.next g mem.sized op.made (omega (arith, op.made, (header-fits x).made_fits))
           (awaits_fits x p.gather w op.awaited (wider w p.next) (wider_small w p.next lt (open_small p.gather w h.but op.made op.awaited)))
           op.awaited nm (by_gather h.w top (same ∙ aw)) (λ z. absurd (not-higher (stack_higher rest g z) lo)) (lit_fewer (λ q z. inr z) k)))
         where
@@ -229,7 +229,7 @@ module _ (G : ℕ → Type 0) (root t : ℕ) (x : Store) (g i : ℕ) (p : Frame)
 
   pub resumed-lit : Next (resume_after_child p (settle_gather_commit x g))
   unfolding settle_gather_commit
-  resumed-lit = subst (λ (o : Option AwaitedGather). Next (resume_after_child p (settle_as x g o))) (sym top) (unfold settle_as in (by (eqb h.w.open-places 0)))
+  resumed-lit = subst (λ (o : Option AwaitedGather). Next (resume_after_child p (settle_as x g o))) (sym top) (unfold settle_as in (by (eqb h.w.open_places 0)))
     where
       by : (b : Bool) → Next (resume_after_child p (pick b (gives (set_gather x g GatherState.Completed) (ready (Value.List (heap_id g)))) (gives x pending)))
       by true = filled-lit
@@ -276,4 +276,4 @@ commit_sourced {G} s t g f n h m l e k =
     slots p w lp q x a = pending_slot s g f n e (slot-committed p w lp q x a)
       where
         slot-committed : (p : ℕ) (w : AwaitedGather) → p < (header s).made → as_awaited (object s p) ≡ some w → (x : ℕ) → w.awaiter ≡ Awaiter.GatherSlot (heap_id g) (heap_id x) → T (is_committed (kind (object s g)))
-        slot-committed p w lp q x a = unfold view in (h.facts.but.object-slots p lp (λ z. z) g x (awaiter_is (object s p) w q ∙ a)).committed
+        slot-committed p w lp q x a = unfold view in (h.facts.but.object_slots p lp (λ z. z) g x (awaiter_is (object s p) w q ∙ a)).committed

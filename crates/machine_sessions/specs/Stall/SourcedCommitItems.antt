@@ -81,15 +81,15 @@ module _ (G : ℕ → Type 0) (root t g : ℕ) (fs : List Frame) (i : ℕ) (s : 
   made = h.opened.made
 
   low-g : g < object_limit
-  low-g = omega (arith, made, (header-fits s).made-fits)
+  low-g = omega (arith, made, (header-fits s).made_fits)
 
   low-o : o < object_limit
-  low-o = (place-fits s (w.first + i)).item-fits
+  low-o = (place-fits s (w.first + i)).item_fits
 
   lower : o < g
   unfolding view items_below
   lower =
-      let low : T (items_below (place s) g (Object.GatherFuture w.first w.count (GatherState.Awaited w.awaiter w.open-places))) =
+      let low : T (items_below (place s) g (Object.GatherFuture w.first w.count (GatherState.Awaited w.awaiter w.open_places))) =
       subst (λ (y : Object). T (items_below (place s) g y)) (awaited-object (object s g) w top) (h.but.items g made) in
       ltb→lt _ g (below w.count _ low i less)
 
@@ -99,7 +99,7 @@ module _ (G : ℕ → Type 0) (root t g : ℕ) (fs : List Frame) (i : ℕ) (s : 
 
   low-place : w.first + i < place_limit
   unfolding view
-  low-place = omega (arith, gather_within g w h.but made top, less, h.but.fits.used-fits)
+  low-place = omega (arith, gather_within g w h.but made top, less, h.but.fits.used_fits)
 
   -- what is no awaited gather is not on the stack
   not_on : as_awaited (object s o) ≡ none → Q o → ⊥

@@ -84,7 +84,7 @@ module _ (s : Store) (n : ℕ) (P Q : ℕ → Type 0) (b : SoundBut n P Q (view 
   pending_source p o f m e (by_gather x q a) = absurd_some (sym (ap as_awaited e) ∙ q)
   pending_source p o f m e (by_nobody j) = j
   pending_source p o f m e (by_task t l lv a) =
-      let own : o ≡ (task s t).coroutine.0 = (b.task-slots t l (holds _ lv) p o a).own in
+      let own : o ≡ (task s t).coroutine.0 = (b.task_slots t l (holds _ lv) p o a).own in
       let co : T (is_coroutine (kind (object s (task s t).coroutine.0))) = coroutine-at (header s) (object s) t (task s t) p o (b.tasks t l) (holds _ lv) a in
       absurd (subst (λ (y : Object). T (is_coroutine (kind y))) e (subst (λ (j : ℕ). T (is_coroutine (kind (object s j)))) (sym own) co))
 
@@ -115,9 +115,9 @@ module _ (G : ℕ → Type 0) (s : Store) (Q R : ℕ → Type 0) (n o f c : ℕ)
   closed : (w : AwaitedGather) (x : ℕ) → as_awaited (object u0 o) ≡ some w → Open (place s) w x → ⊥
   unfolding u0 y0
   closed w x e op =
-      let same : record { first = f; count = c; awaiter = a; open-places = 0 } ≡ w =
-      some-injective (record { first = f; count = c; awaiter = a; open-places = 0 }) w (sym (ap as_awaited (object_put-object s o y0 z low fits) ∙ (unfold as_awaited in refl)) ∙ e) in
-      true≢false (sym op.is_open ∙ (ap (λ (v : AwaitedGather). bit v.open-places op.at) (sym same) ∙ none-set op.at))
+      let same : record { first = f; count = c; awaiter = a; open_places = 0 } ≡ w =
+      some-injective (record { first = f; count = c; awaiter = a; open_places = 0 }) w (sym (ap as_awaited (object_put-object s o y0 z low fits) ∙ (unfold as_awaited in refl)) ∙ e) in
+      true≢false (sym op.is_open ∙ (ap (λ (v : AwaitedGather). bit v.open_places op.at) (sym same) ∙ none-set op.at))
 
   other : (p : ℕ) (w : AwaitedGather) → (p ≡ o → ⊥) → as_awaited (object u0 p) ≡ some w → as_awaited (object s p) ≡ some w
   unfolding u0 y0
@@ -153,7 +153,7 @@ module _ (G : ℕ → Type 0) (s : Store) (Q R : ℕ → Type 0) (n o f c : ℕ)
   no_task : (t g x : ℕ) → t < (header s).next → is_live (task s t).state ≡ true → (task s t).awaiter ≡ Awaiter.GatherSlot (heap_id g) (heap_id x) → (g < (header s).made) × (g ≡ o → ⊥)
   unfolding view
   no_task t g x l lv q =
-      let sl = b.task-slots t l (holds _ lv) g x q in
+      let sl = b.task_slots t l (holds _ lv) g x q in
       (sl.made, λ d. unfold kind in (subst (λ (y : Object). T (is_committed (kind y))) was (subst (λ (j : ℕ). T (is_committed (kind (object s j)))) d sl.committed)))
 
   pub open_sourced : Lit G Q s → Lit G R (put_object s o (Object.GatherFuture f c (GatherState.Awaited a 0)))
@@ -226,7 +226,7 @@ fill_sourced {G} Q s w i v z low fits k =
         by : Dec (p ≡ w.first + i) → (place u p).item.0 ≡ (place s p).item.0
         by (yes q) =
             subst (λ (m : ℕ). (place u m).item.0 ≡ (place s m).item.0) (sym q)
-            (ap (λ (y : Place). y.item.0) (place_put-place s (w.first + i) row z low (record { item-fits = (place-fits s (w.first + i)).item-fits; result_fits = fits })))
+            (ap (λ (y : Place). y.item.0) (place_put-place s (w.first + i) row z low (record { item_fits = (place-fits s (w.first + i)).item_fits; result_fits = fits })))
         by (no ne) = ap (λ (y : Place). y.item.0) (place_put-other s (w.first + i) p row ne)
 
     was : (x : AwaitedGather) (o : ℕ) → Open (place u) x o → Open (place s) x o
@@ -349,13 +349,13 @@ module _ (G : ℕ → Type 0) (Q : ℕ → Type 0) (s : Store) (g : ℕ) (w v : 
           at (no ne) b = above p t q j x (sym (ap as_awaited (object_put-other s g p y ne)) ∙ e) a b
 
 -- a bit of the wider word is one that was, or the new one
-wider-was : (w : AwaitedGather) (i j : ℕ) → bit (wider w i) j ≡ true → (j ≡ i → ⊥) → bit w.open-places j ≡ true
+wider-was : (w : AwaitedGather) (i j : ℕ) → bit (wider w i) j ≡ true → (j ≡ i → ⊥) → bit w.open_places j ≡ true
 unfolding wider
-wider-was w i j e ne = by (bit w.open-places i) refl e
+wider-was w i j e ne = by (bit w.open_places i) refl e
   where
-    by : (b : Bool) → bit w.open-places i ≡ b → bit (pick b w.open-places (w.open-places + 2 ^ i)) j ≡ true → bit w.open-places j ≡ true
+    by : (b : Bool) → bit w.open_places i ≡ b → bit (pick b w.open_places (w.open_places + 2 ^ i)) j ≡ true → bit w.open_places j ≡ true
     by true q e = e
-    by false q e = sym (bit-set-other i w.open-places j q ne) ∙ e
+    by false q e = sym (bit-set-other i w.open_places j q ne) ∙ e
 
 pub place_sourced : {G : ℕ → Type 0} (Q : ℕ → Type 0) (s : Store) (g : ℕ) (w : AwaitedGather) (i o : ℕ) → Sized s → g < (header s).made → g < object_limit → ObjectFits (awaits_on w (wider w i)) → as_awaited (object s g) ≡ some w
     → (place s (w.first + i)).item.0 ≡ o → Source G s g o → (Q o → G o) → Lit G Q s → Lit G Q (open_place s g w i)
@@ -364,7 +364,7 @@ place_sourced {G} Q s g w i o z made low fits was names src off k =
     wider_sourced _ Q s g w v (awaits_on w (wider w i)) z made low fits was (unfold as_awaited in refl) refl (λ q op. by q op (ℕ_discrete op.at i)) k
   where
     v : AwaitedGather
-    v = record { first = w.first; count = w.count; awaiter = w.awaiter; open-places = wider w i }
+    v = record { first = w.first; count = w.count; awaiter = w.awaiter; open_places = wider w i }
 
     by : (q : ℕ) (op : Open (place s) v q) → Dec (op.at ≡ i) → Open (place s) w q ⊎ (Source G s g q × (Q q → G q))
     by q op (yes d) =

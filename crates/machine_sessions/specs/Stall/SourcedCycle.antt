@@ -188,7 +188,7 @@ moment_sourced s m z f k =
     head =
         let h : HeaderFits (header s) = header-fits s in
         let e : header (set_moment s m) ≡ record { made = (header s).made; used = (header s).used; calls = (header s).calls; next = (header s).next; moment = m } =
-        unfold set_moment in (header_put-header s _ z (record { made-fits = h.made-fits; used-fits = h.used-fits; calls-fit = h.calls-fit; next_fits = h.next_fits; moment_fits = f })) in
+        unfold set_moment in (header_put-header s _ z (record { made_fits = h.made_fits; used_fits = h.used_fits; calls_fit = h.calls_fit; next_fits = h.next_fits; moment_fits = f })) in
         (ap (λ (y : Header). y.made) e, ap (λ (y : Header). y.next) e)
 
 pub queue_sourced : {G : ℕ → Type 0} (s : Store) (q : ReadyQueue) → Sourced G s → Sourced G (put_queue s q)
@@ -268,9 +268,9 @@ module _ (G : ℕ → Type 0) (D : ℕ → Type 0) (hd : Header) where
         let a : Awaiter = (task s (suc t)).awaiter in
         let z : Sized s = h.kept.memory.sized in
         let d : Delivery = deliver_awaiter_failure s a e in
-        let delivers-on = task_delivering s t h l live in
-        let sent : DeliveryEnds r D hd d = failure_keeps r D hd e f s (task s (suc t)).coroutine.0 a delivers-on in
-        let k1 : Sourced G d.store = failure_sourced _ r D hd e f s (task s (suc t)).coroutine.0 a delivers-on (but_of s k) in
+        let delivers_on = task_delivering s t h l live in
+        let sent : DeliveryEnds r D hd d = failure_keeps r D hd e f s (task s (suc t)).coroutine.0 a delivers_on in
+        let k1 : Sourced G d.store = failure_sourced _ r D hd e f s (task s (suc t)).coroutine.0 a delivers_on (but_of s k) in
         exit_sourced _ (record {
           during = remove_keeps d.store (suc t) sent.during (subst (λ (y : Header). suc t < y.next) (sym sent.during.head) l) (exited (suc t)) idle refl still;
           woken = sent.woken;
@@ -283,7 +283,7 @@ module _ (G : ℕ → Type 0) (D : ℕ → Type 0) (hd : Header) where
         same_awaiter : (s0 : Store) (a : Awaiter) (e : Error) → Sized s0 → Effect s (deliver_awaiter_failure s a e) → (task (deliver_awaiter_failure s a e).store (suc t)).awaiter ≡ (task s (suc t)).awaiter
         same_awaiter s0 a e z (nobody x w) = unfold task in (ap (λ (l : List ℕ). (task_at l (suc t)).awaiter) x.tasks)
         same_awaiter s0 a e z (wakes v y x w) =
-            unfold task in (ap (λ (l : List ℕ). (task_at l (suc t)).awaiter) x.tasks ∙ ap (λ (r : Task). r.awaiter) (other_row v y (λ q. true≢false (sym x.was-blocked ∙ (unfold task in (ap (λ (m : ℕ). is_blocked (task_at s.tasks m).state) (sym q) ∙ free-at))))))
+            unfold task in (ap (λ (l : List ℕ). (task_at l (suc t)).awaiter) x.tasks ∙ ap (λ (r : Task). r.awaiter) (other_row v y (λ q. true≢false (sym x.was_blocked ∙ (unfold task in (ap (λ (m : ℕ). is_blocked (task_at s.tasks m).state) (sym q) ∙ free-at))))))
           where
             free-at : is_blocked (task_at s.tasks (suc t)).state ≡ false
             free-at = unfold task in free
@@ -316,7 +316,7 @@ module _ (G : ℕ → Type 0) (D : ℕ → Type 0) (hd : Header) where
         by (some f) e =
             let x : Object = Object.Coroutine f CoroutineState.Running in
             let p = new-plain (object s o) f e in
-            let k1 : Sourced G (put_object s o x) = plain_sourced s o x z (task-fits s (suc t)).coroutine-fits (new_low (object s o) f e (object-fits s o)) p.0 p.1 (unfold as_awaited in refl) k in
+            let k1 : Sourced G (put_object s o x) = plain_sourced s o x z (task-fits s (suc t)).coroutine_fits (new_low (object s o) f e (object-fits s o)) p.0 p.1 (unfold as_awaited in refl) k in
             let k2 : Sourced G (run (put_object s o x) (suc t) (start o f)).store = run_sourced (put_object s o x) (suc t) (start o f) (sized-put_object s o x z) (room_of s (suc t) l h) (live-row x) k1 in
             unfold start_by in k2
 

@@ -108,16 +108,16 @@ module _ (G : ℕ → Type 0) {r : ℕ → Bool} {D : ℕ → Type 0} {hd : Head
   resolve-sourced c v g =
       found-sourced c _ (λ o p l e.
       let i = resolve_delivering s h v g o p l e in
-      let m : o < object_limit = omega (arith, l, (header-fits s).made-fits) in
+      let m : o < object_limit = omega (arith, l, (header-fits s).made_fits) in
       success_sourced _ r D hd _ o p.awaiter (value_or p.stored v) i
-      (external_sourced s o p _ h.kept.memory.sized m ((call_fits o p e).0, value-fits _ _ _ i.during.kept.but.fits.made-fits i.known) e (unfold as_awaited in refl) k))
+      (external_sourced s o p _ h.kept.memory.sized m ((call_fits o p e).0, value-fits _ _ _ i.during.kept.but.fits.made_fits i.known) e (unfold as_awaited in refl) k))
 
   fail-future-sourced : (c : ℕ) (x : Error) → ErrorFits x → Sourced G (fail_future s c x)
   unfolding fail_future fail_pending
   fail-future-sourced c x f =
       found-sourced c _ (λ o p l e.
       let i = fail_delivering s h x f o p l e in
-      let m : o < object_limit = omega (arith, l, (header-fits s).made-fits) in
+      let m : o < object_limit = omega (arith, l, (header-fits s).made_fits) in
       failure_sourced _ r D hd x f _ o p.awaiter i (external_sourced s o p _ h.kept.memory.sized m ((call_fits o p e).0, f) e (unfold as_awaited in refl) k))
 
   result-sourced : (x : Result) → MayApply hd.made D x → Sourced G (apply_result s x)
@@ -153,8 +153,8 @@ module _ (G : ℕ → Type 0) (s : Store) (h : SoundStore s) (k : Sourced G s) w
   unfolding handle_task_completion view
   complete_sourced t v m kn =
       exit_sourced _ D0 (header s) activate (activate_sourced _ D0 (header s)) (deliver_awaiter_success left a v) (completion_delivery_ends s t v h m kn)
-      (success_activated left a v delivers-on.during.kept.memory.sized (task-fits s (suc t)).awaiter_fits (value-fits (header s).made (object s) v h.facts.but.fits.made-fits kn))
-      (success_sourced _ idle D0 (header s) left o a v delivers-on but)
+      (success_activated left a v delivers_on.during.kept.memory.sized (task-fits s (suc t)).awaiter_fits (value-fits (header s).made (object s) v h.facts.but.fits.made_fits kn))
+      (success_sourced _ idle D0 (header s) left o a v delivers_on but)
     where
       D0 : ℕ → Type 0
       D0 o = T (is_completed (kind (object s o)))
@@ -171,8 +171,8 @@ module _ (G : ℕ → Type 0) (s : Store) (h : SoundStore s) (k : Sourced G s) w
       left : Store
       left = add_log (remove_task done (suc t)) (exited (suc t))
 
-      delivers-on : DeliveringValue idle D0 (header s) o v left a
-      delivers-on = completion_delivering s t v h m kn
+      delivers_on : DeliveringValue idle D0 (header s) o v left a
+      delivers_on = completion_delivering s t v h m kn
 
       live : T (is_live (task s (suc t)).state)
       live = runner-live s (suc t) h m
@@ -183,7 +183,7 @@ module _ (G : ℕ → Type 0) (s : Store) (h : SoundStore s) (k : Sourced G s) w
           by : (f : ℕ) × (y : CoroutineState) × (object s o ≡ Object.Coroutine f y) → Sourced G done
           by x =
               let e : object s o ≡ Object.Coroutine x.0 x.1 = x.2 in
-              plain_sourced s o (completed (object s o)) h.memory.sized (task-fits s (suc t)).coroutine-fits
+              plain_sourced s o (completed (object s o)) h.memory.sized (task-fits s (suc t)).coroutine_fits
               (subst ObjectFits (sym (ap completed e ∙ is-done x.0 x.1)) (subst ObjectFits e (object-fits s o))) (ap as_pending e ∙ (unfold as_pending in refl)) (ap as_awaited e ∙ (unfold as_awaited in refl))
               (ap (λ (j : Object). as_awaited (completed j)) e ∙ none-awaited x.0 x.1) k
             where
@@ -200,7 +200,7 @@ module _ (G : ℕ → Type 0) (s : Store) (h : SoundStore s) (k : Sourced G s) w
         where
           own : (g p : ℕ) → (task s (suc t)).awaiter ≡ Awaiter.GatherSlot (heap_id g) (heap_id p) → OnWay a o g p
           own g p b =
-              let q : p ≡ o = (h.facts.but.task-slots (suc t) (runner_low s (suc t) h m) live g p b).own in
+              let q : p ≡ o = (h.facts.but.task_slots (suc t) (runner_low s (suc t) h m) live g p b).own in
               (b ∙ ap (λ (j : ℕ). Awaiter.GatherSlot (heap_id g) (heap_id j)) q, q)
 
 -- ---- an external takes an awaiter; a task blocks

@@ -142,23 +142,23 @@ stays_all s g x v u e k = rw e (unfold climb nobody_woken in k)
 
 -- a place that is open after the filling was open before, and names another than the source
 left_open : (s : Store) (w : AwaitedGather) (x : ℕ) (v : Value) (j : ℕ) → Sized s → w.first + w.count ≤ place_limit → ValueFits v → j < w.count
-    → bit (fill_from s.places w.open-places w.first x v 0 w.count).open-places j ≡ true
-    → (bit w.open-places j ≡ true) × ((place_at s.places (w.first + j)).item.0 ≡ x → ⊥)
-left_open s w x v j z r f l e = by (hit s.places w.open-places w.first x j) refl
+    → bit (fill_from s.places w.open_places w.first x v 0 w.count).open_places j ≡ true
+    → (bit w.open_places j ≡ true) × ((place_at s.places (w.first + j)).item.0 ≡ x → ⊥)
+left_open s w x v j z r f l e = by (hit s.places w.open_places w.first x j) refl
   where
     F : Filled
-    F = fill_from s.places w.open-places w.first x v 0 w.count
+    F = fill_from s.places w.open_places w.first x v 0 w.count
 
     both_true : (a b : Bool) → (a && b) ≡ false → a ≡ true → b ≡ false
     both_true true b q p = q
     both_true false b q p = absurd (true≢false (sym p))
 
-    by : (b : Bool) → hit s.places w.open-places w.first x j ≡ b → (bit w.open-places j ≡ true) × ((place_at s.places (w.first + j)).item.0 ≡ x → ⊥)
-    by true h = absurd (true≢false (sym e ∙ (fill_fills w.count s.places w.open-places w.first x v 0 j z.places-sized (omega arith) f (omega arith) (omega arith) h).closed))
+    by : (b : Bool) → hit s.places w.open_places w.first x j ≡ b → (bit w.open_places j ≡ true) × ((place_at s.places (w.first + j)).item.0 ≡ x → ⊥)
+    by true h = absurd (true≢false (sym e ∙ (fill_fills w.count s.places w.open_places w.first x v 0 j z.places_sized (omega arith) f (omega arith) (omega arith) h).closed))
     by false h =
-        let st : Stays s.places w.open-places w.first j F = fill_stays w.count s.places w.open-places w.first x v 0 j (λ m n. true≢false (sym n ∙ h)) in
-        let b : bit w.open-places j ≡ true = sym st.same_bit ∙ e in
-        (b, λ q. true≢false (sym (eq-eqb _ x q) ∙ both_true (bit w.open-places j) _ h b))
+        let st : Stays s.places w.open_places w.first j F = fill_stays w.count s.places w.open_places w.first x v 0 j (λ m n. true≢false (sym n ∙ h)) in
+        let b : bit w.open_places j ≡ true = sym st.same_bit ∙ e in
+        (b, λ q. true≢false (sym (eq-eqb _ x q) ∙ both_true (bit w.open_places j) _ h b))
 
 module _ (G : ℕ → Type 0) (r : ℕ → Bool) (D : ℕ → Type 0) (hd : Header) where
   success-slot : (n : ℕ) (s : Store) (o g x : ℕ) (v : Value) → object_limit ≤ suc n + o → DeliveringValue r D hd o v s (Awaiter.GatherSlot (heap_id g) (heap_id x)) → SourcedBut G (OnWay (Awaiter.GatherSlot (heap_id g) (heap_id x)) o) s
@@ -180,25 +180,25 @@ module _ (G : ℕ → Type 0) (r : ℕ → Bool) (D : ℕ → Type 0) (hd : Head
       sent = value-sends r D hd s o g x v i
 
       low : g < object_limit
-      low = omega (arith, sl.made, i.during.kept.but.fits.made-fits)
+      low = omega (arith, sl.made, i.during.kept.but.fits.made_fits)
 
       vf : ValueFits v
-      vf = value-fits (header s).made (object s) v i.during.kept.but.fits.made-fits i.known
+      vf = value-fits (header s).made (object s) v i.during.kept.but.fits.made_fits i.known
 
       by : (w : Option AwaitedGather) → as_awaited (object s g) ≡ w → Sourced G (deliver_awaiter_success s (Awaiter.GatherSlot (heap_id g) (heap_id x)) v).store
       by none q =
           stays_all s (heap_id g) (heap_id x) v s (unfold resolve_child in (ap (resolve_awaited s g x v) q ∙ (unfold resolve_awaited in refl)))
           (all_of s (record { sources = λ p y w l d op m. c.sources p y w l d op (λ e. absurd_some (sym (subst (λ (t : ℕ). as_awaited (object s t) ≡ none) (sym (same_slot g x p o e.0)) q) ∙ d)); rising = c.rising }))
-      by (some w) q = left (eqb F.open-places 0) refl
+      by (some w) q = left (eqb F.open_places 0) refl
         where
           F : Filled
-          F = fill_from s.places w.open-places w.first x v 0 w.count
+          F = fill_from s.places w.open_places w.first x v 0 w.count
 
           md : Store
           md = put_places s F.places
 
           zmd : Sized md
-          zmd = sized-put_places s F.places (length-fill_from w.count s.places w.open-places w.first x v 0 ∙ z.places-sized) z
+          zmd = sized-put_places s F.places (length-fill_from w.count s.places w.open_places w.first x v 0 ∙ z.places_sized) z
 
           was : as_awaited (object md g) ≡ some w
           was = unfold object put_places in (unfold object in q)
@@ -206,13 +206,13 @@ module _ (G : ℕ → Type 0) (r : ℕ → Bool) (D : ℕ → Type 0) (hd : Head
           kmd : SourcedBut G (OnWay (Awaiter.GatherSlot (heap_id g) (heap_id x)) o) md
           kmd = places_sourced s F.places (all_filled s g x v w h sl.made q i.known).item c
 
-          shape : ObjectFits (Object.GatherFuture w.first w.count (GatherState.Awaited w.awaiter w.open-places))
+          shape : ObjectFits (Object.GatherFuture w.first w.count (GatherState.Awaited w.awaiter w.open_places))
           shape = awaited-fits s g w q
 
-          is-now : (b : Bool) → eqb F.open-places 0 ≡ b → resolve_child s g x v ≡ resolve_left b md g w F.open-places
-          is-now b e = unfold resolve_child in (ap (resolve_awaited s g x v) q ∙ (unfold resolve_awaited in (ap (λ (t : Bool). resolve_left t md g w F.open-places) e)))
+          is-now : (b : Bool) → eqb F.open_places 0 ≡ b → resolve_child s g x v ≡ resolve_left b md g w F.open_places
+          is-now b e = unfold resolve_child in (ap (resolve_awaited s g x v) q ∙ (unfold resolve_awaited in (ap (λ (t : Bool). resolve_left t md g w F.open_places) e)))
 
-          left : (b : Bool) → eqb F.open-places 0 ≡ b → Sourced G (deliver_awaiter_success s (Awaiter.GatherSlot (heap_id g) (heap_id x)) v).store
+          left : (b : Bool) → eqb F.open_places 0 ≡ b → Sourced G (deliver_awaiter_success s (Awaiter.GatherSlot (heap_id g) (heap_id x)) v).store
           left true e =
               let y : Object = Object.GatherFuture w.first w.count GatherState.Completed in
               let rc : resolve_child s g x v ≡ record { store = put_object md g y; onward = some w.awaiter } = is-now true e ∙ (unfold resolve_left in refl) in
@@ -220,16 +220,16 @@ module _ (G : ℕ → Type 0) (r : ℕ → Bool) (D : ℕ → Type 0) (hd : Head
               let k1 : SourcedBut G (OnWay w.awaiter g) (put_object md g y) =
               settle_sourced _ (OnWay (Awaiter.GatherSlot (heap_id g) (heap_id x)) o) md g w y zmd low (shape.0, tt) was (unfold as_awaited in refl) (λ p m d. same_slot g x p o d.0) kmd in
               rw (success_climbs s (heap_id g) (heap_id x) v w.awaiter z low a)
-              (go (resolve_child s g x v).store g w.awaiter (Value.List (heap_id g)) (omega (arith, sent.up w.awaiter a)) (sent.delivers-on w.awaiter a)
+              (go (resolve_child s g x v).store g w.awaiter (Value.List (heap_id g)) (omega (arith, sent.up w.awaiter a)) (sent.delivers_on w.awaiter a)
               (subst (SourcedBut G (OnWay w.awaiter g)) (sym (ap (λ (t : Settled). t.store) rc)) k1))
           left false e =
-              let y : Object = Object.GatherFuture w.first w.count (GatherState.Awaited w.awaiter F.open-places) in
-              let w2 : AwaitedGather = record { first = w.first; count = w.count; awaiter = w.awaiter; open-places = F.open-places } in
-              let less : F.open-places ≤ w.open-places = fill_less w.count s.places w.open-places w.first x v 0 in
+              let y : Object = Object.GatherFuture w.first w.count (GatherState.Awaited w.awaiter F.open_places) in
+              let w2 : AwaitedGather = record { first = w.first; count = w.count; awaiter = w.awaiter; open_places = F.open_places } in
+              let less : F.open_places ≤ w.open_places = fill_less w.count s.places w.open_places w.first x v 0 in
               stays_all s (heap_id g) (heap_id x) v (put_object md g y) (is-now false e ∙ (unfold resolve_left in refl))
               (waits_sourced _ o md g w w2 y zmd low (shape.0, (shape.1.0, omega (arith, less, shape.1.1))) was (unfold as_awaited in refl) refl fewer (weaken md (λ p m d. (same_slot g x p o d.0, d.1)) kmd))
             where
-              fewer : (p : ℕ) → Open (place md) (record { first = w.first; count = w.count; awaiter = w.awaiter; open-places = F.open-places }) p → Open (place md) w p × (p ≡ o → ⊥)
+              fewer : (p : ℕ) → Open (place md) (record { first = w.first; count = w.count; awaiter = w.awaiter; open_places = F.open_places }) p → Open (place md) w p × (p ≡ o → ⊥)
               fewer p op =
                   let l = left_open s w x v op.at z shape.0.within vf op.under op.is_open in (
                     record { at = op.at; under = op.under; is_open = l.0; names = op.names },
@@ -241,12 +241,12 @@ module _ (G : ℕ → Type 0) (r : ℕ → Bool) (D : ℕ → Type 0) (hd : Head
 
   success-climb : (n : ℕ) (s : Store) (o : ℕ) (a : Awaiter) (v : Value) → object_limit ≤ n + o → DeliveringValue r D hd o v s a → SourcedBut G (OnWay a o) s → Sourced G (deliver_awaiter_success s a v).store
   unfolding view
-  success-climb zero s o a v f i c = absurd (not-suc-le-zero {n = 0} (omega (arith, f, i.detached.made, i.during.kept.but.fits.made-fits)))
+  success-climb zero s o a v f i c = absurd (not-suc-le-zero {n = 0} (omega (arith, f, i.detached.made, i.during.kept.but.fits.made_fits)))
   success-climb (suc n) s o Awaiter.Nobody v f i c = nobody_all s v (all_of s (no_way s o Awaiter.Nobody (λ g q. nobody_no g o q) c))
   success-climb (suc n) s o (Awaiter.Task t) v f i c =
       let fits : t.0 < task_limit = omega (arith, task_low s t i.detached.range, i.during.kept.but.fits.next_fits) in
       let same : SameLive s (deliver_awaiter_success s (Awaiter.Task t) v).store = success_same s (Awaiter.Task t) v i.during.kept.memory.sized fits in
-      to_all s t v (to_task_sourced s t.0 (TaskState.Woken v) i.during.kept.memory.sized fits (value-fits (header s).made (object s) v i.during.kept.but.fits.made-fits i.known)
+      to_all s t v (to_task_sourced s t.0 (TaskState.Woken v) i.during.kept.memory.sized fits (value-fits (header s).made (object s) v i.during.kept.but.fits.made_fits i.known)
       (λ m. to_lives s t v m (same.lives m)) (no_way s o (Awaiter.Task t) (λ g q. task_no t g o q) c))
   success-climb (suc n) s o (Awaiter.GatherSlot g x) v f i c = success-slot n s o g.0 x.0 v f i c (λ y p b w j m d. success-climb n y p b w j m d)
 

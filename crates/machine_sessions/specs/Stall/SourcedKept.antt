@@ -74,7 +74,7 @@ lives_commits : (t : ℕ) → Commits (Lives t)
 lives_commits t =
     record {
       row = λ s o x low y k. (sized-put_object s o x k.0, live_like s (put_object s o x) t (ap (λ (h : Header). h.next) (header_put-object s o x)) (unfold task put_object in refl) ∙ k.1);
-      value-put = λ s p v k. (sized-put_place s p _ k.0, place-live s p _ t ∙ k.1);
+      value_put = λ s p v k. (sized-put_place s p _ k.0, place-live s p _ t ∙ k.1);
       spawns = λ s c g low k. (sized-spawn_as s (header s).next c g k.0, stays-live s c g low k.0 k.1);
     }
   where
@@ -105,7 +105,7 @@ module _ (G : ℕ → Type 0) (s : Store) (h : SoundStore s) (k : Sourced G s) (
       let y : Object = Object.ExternalFuture d (ExternalFutureState.Pending (Awaiter.Task (task_id t)) r) in
       let p : PendingExternal = record { call = d; awaiter = Awaiter.Nobody; stored = r } in
       let q : as_pending (object s o) ≡ some p = ap as_pending e ∙ (unfold as_pending in refl) in
-      let low : o < object_limit = omega (arith, l, (header-fits s).made-fits) in
+      let low : o < object_limit = omega (arith, l, (header-fits s).made_fits) in
       let f : ObjectFits (Object.ExternalFuture d (ExternalFutureState.Pending Awaiter.Nobody r)) = subst ObjectFits e (object-fits s o) in
       let k1 : Sourced G (put_object s o y) = takes_sourced s o p y h.memory.sized low (f.0, (t-low, f.1.1)) q refl (unfold as_awaited in refl) k in
       next_sourced _ (λ i. T (is_completed (kind (object s i)))) (header s) activate (activate_sourced _ (λ i. T (is_completed (kind (object s i)))) (header s)) _
@@ -124,7 +124,7 @@ module _ (G : ℕ → Type 0) (s : Store) (h : SoundStore s) (k : Sourced G s) (
   gather-sourced : (o f n : ℕ) (x : GatherState) → o < (header s).made → object s o ≡ Object.GatherFuture f n x → Sourced G (await_gather s t o x).store
   unfolding await_gather stays
   gather-sourced o f n GatherState.Pending l e =
-      let low : o < object_limit = omega (arith, l, (header-fits s).made-fits) in
+      let low : o < object_limit = omega (arith, l, (header-fits s).made_fits) in
       let x : Store = (commit_gather_tree s o (Awaiter.Task (task_id t))).store in
       let lv : Lives t x = commit_kept (Lives t) (lives_commits t) s o (Awaiter.Task (task_id t)) low (h.memory.sized, t-live) in
       go-on-sourced o _ low x (commit_gather_tree s o (Awaiter.Task (task_id t))).poll (commit_keeps s t h m o f n l e) lv.0 lv.1 (commit_sourced s t o f n h m l e k)
@@ -135,7 +135,7 @@ module _ (G : ℕ → Type 0) (s : Store) (h : SoundStore s) (k : Sourced G s) (
   coroutine-sourced : (o f : ℕ) (x : CoroutineState) → o < (header s).made → object s o ≡ Object.Coroutine f x → Sourced G (await_coroutine s t o f x).store
   unfolding await_coroutine stays
   coroutine-sourced o f CoroutineState.New l e =
-      plain_sourced s o (Object.Coroutine f CoroutineState.Running) h.memory.sized (omega (arith, l, (header-fits s).made-fits)) (subst ObjectFits e (object-fits s o))
+      plain_sourced s o (Object.Coroutine f CoroutineState.Running) h.memory.sized (omega (arith, l, (header-fits s).made_fits)) (subst ObjectFits e (object-fits s o))
       (ap as_pending e ∙ (unfold as_pending in refl)) (ap as_awaited e ∙ (unfold as_awaited in refl)) (unfold as_awaited in refl) k
   coroutine-sourced o f CoroutineState.Running l e = k
   coroutine-sourced o f CoroutineState.Completed l e = k
@@ -161,7 +161,7 @@ made_sourced {G} s u h made next rows new tasks places behind k =
       sources = λ g o w l e op.
           let gl : g < (header s).made = low g w (subst (λ (n : ℕ). g < n) made l) e in
           let e1 : as_awaited (object s g) ≡ some w = sym (ap as_awaited (rows g gl)) ∙ e in
-          let pu : w.first + op.at < (header s).used = place-used h.facts.but g w.first w.count (GatherState.Awaited w.awaiter w.open-places) gl (awaited-object (object s g) w e1) op.at op.under in
+          let pu : w.first + op.at < (header s).used = place-used h.facts.but g w.first w.count (GatherState.Awaited w.awaiter w.open_places) gl (awaited-object (object s g) w e1) op.at op.under in
           let op1 : Open (place s) w o = record { at = op.at; under = op.under; is_open = op.is_open; names = sym (ap (λ (p : Place). p.item.0) (places (w.first + op.at) pu)) ∙ op.names } in
           still g o (omega (arith, open_lower g w o h.facts.but gl e1 op1, gl)) (k.sources g o w gl e1 op1);
       rising = λ v g x t l lv a r.
@@ -221,7 +221,7 @@ added s r n z m u =
     head =
         let f : HeaderFits (header s) = header-fits s in
         header_put-object (put_header s i) (header s).made r
-        ∙ header_put-header s i z (record { made-fits = omega arith; used-fits = u; calls-fit = f.calls-fit; next_fits = f.next_fits; moment_fits = f.moment_fits })
+        ∙ header_put-header s i z (record { made_fits = omega arith; used_fits = u; calls_fit = f.calls_fit; next_fits = f.next_fits; moment_fits = f.moment_fits })
 
 added_sourced : {G : ℕ → Type 0} (s u : Store) (r : Object) → SoundStore s → Added s u r → as_awaited (to_object (object_words r)) ≡ none → Sourced G s → Sourced G u
 added_sourced s u r h a n k =
@@ -248,7 +248,7 @@ module _ (G : ℕ → Type 0) (s : Store) (h : SoundStore s) (k : Sourced G s) w
   z = h.memory.sized
 
   same_places : (header s).used + 0 ≤ place_limit
-  same_places = omega (arith, (header-fits s).used-fits)
+  same_places = omega (arith, (header-fits s).used_fits)
 
   calls-sourced : (header s).calls < call_limit → (Sourced G (set_calls s ((header s).calls + 1))) × (header (set_calls s ((header s).calls + 1)) ≡ record { made = (header s).made; used = (header s).used; calls = (header s).calls + 1; next = (header s).next; moment = (header s).moment })
   calls-sourced c = (
@@ -263,7 +263,7 @@ module _ (G : ℕ → Type 0) (s : Store) (h : SoundStore s) (k : Sourced G s) w
       head : header (set_calls s ((header s).calls + 1)) ≡ record { made = (header s).made; used = (header s).used; calls = (header s).calls + 1; next = (header s).next; moment = (header s).moment }
       head =
           let f : HeaderFits (header s) = header-fits s in
-          unfold set_calls in (header_put-header s _ z (record { made-fits = f.made-fits; used-fits = f.used-fits; calls-fit = omega arith; next_fits = f.next_fits; moment_fits = f.moment_fits }))
+          unfold set_calls in (header_put-header s _ z (record { made_fits = f.made_fits; used_fits = f.used_fits; calls_fit = omega arith; next_fits = f.next_fits; moment_fits = f.moment_fits }))
 
   settled-sourced : (v : Value) → (header s).calls < call_limit → (header s).made < object_limit → Sourced G (make_settled s v)
   unfolding make_settled

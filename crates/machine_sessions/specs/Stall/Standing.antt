@@ -87,7 +87,7 @@ ready_back (TaskState.Blocked o) = refl
 pub ready-put_task : (s : Store) (t : ℕ) (r : Task) → Sized s → t < task_limit → is_ready (task (put_task s t r) t).state ≡ is_ready r.state
 unfolding task put_task task_at task_put
 ready-put_task s t r z l =
-    ap (λ (x : List ℕ). is_ready (to_task x).state) (row-put_at task_codec s.tasks (task_start t) r (omega (arith, z.tasks-sized)))
+    ap (λ (x : List ℕ). is_ready (to_task x).state) (row-put_at task_codec s.tasks (task_start t) r (omega (arith, z.tasks_sized)))
     ∙ ready_back r.state
 
 pub blocked_unready : (x : TaskState) → is_blocked x ≡ true → is_ready x ≡ false
@@ -126,11 +126,11 @@ module _ {P : ℕ → Type 0} {r : ℕ → Bool} {D : ℕ → Type 0} {hd : Head
       z = h.kept.memory.sized
 
       blocked-now : is_blocked (task s t).state ≡ true
-      blocked-now = unfold task in e.was-blocked
+      blocked-now = unfold task in e.was_blocked
 
       room : s.queue.len < task_limit
       room =
-          room_for s.queue t h.kept.memory.ids h.kept.memory.words_right.queue-short (header-fits s).next_fits the-queue e.low
+          room_for s.queue t h.kept.memory.ids h.kept.memory.words_right.queue_short (header-fits s).next_fits the-queue e.low
           (not-queued t (blocked_unready (task s t).state blocked-now) the-queue)
 
       pushed : (v : ℕ) → occurrences (entries u.queue) v ≡ occurrences (entries s.queue) v + one_if_same t v
@@ -157,14 +157,14 @@ module _ {P : ℕ → Type 0} {r : ℕ → Bool} {D : ℕ → Type 0} {hd : Head
 -- what is left by a switch
 pub record Right (x : Switched) : Type 0 where
   pub stood : Stands Nothing x.store
-  pub waits-idle : (cs : List ℕ) → x.control ≡ waits cs → ((header x.store).moment ≡ Moment.Waiting) × (entries x.store.queue ≡ [])
+  pub waits_idle : (cs : List ℕ) → x.control ≡ waits cs → ((header x.store).moment ≡ Moment.Waiting) × (entries x.store.queue ≡ [])
   pub idle : (header x.store).moment ≡ Moment.Waiting → entries x.store.queue ≡ []
 
 pub moment_head : (s : Store) (m : Moment) → Sized s → MomentFits m → ((header (set_moment s m)).next ≡ (header s).next) × ((header (set_moment s m)).moment ≡ m)
 unfolding set_moment
 moment_head s m z k =
     let f : HeaderFits (header s) = header-fits s in
-    let e = header_put-header s _ z (record { made-fits = f.made-fits; used-fits = f.used-fits; calls-fit = f.calls-fit; next_fits = f.next_fits; moment_fits = k }) in
+    let e = header_put-header s _ z (record { made_fits = f.made_fits; used_fits = f.used_fits; calls_fit = f.calls_fit; next_fits = f.next_fits; moment_fits = k }) in
     (ap (λ (h : Header). h.next) e, ap (λ (h : Header). h.moment) e)
 
 entries_none : (q : ReadyQueue) → q.len ≡ 0 → entries q ≡ []
@@ -176,7 +176,7 @@ unfolding yield
 yield-right s z e k =
     record {
       stood = stands_like s (set_moment s Moment.Waiting) words.0 words.1 (moment_head s Moment.Waiting z tt).0 k;
-      waits-idle = λ cs q. ((moment_head s Moment.Waiting z tt).1, ap entries words.1 ∙ entries_none s.queue e);
+      waits_idle = λ cs q. ((moment_head s Moment.Waiting z tt).1, ap entries words.1 ∙ entries_none s.queue e);
       idle = λ q. ap entries words.1 ∙ entries_none s.queue e;
     }
   where
@@ -196,7 +196,7 @@ run-right s t h z l lv k =
     record {
       stood = stands_like u (set_moment u (Moment.Running (task_id t))) words.0 words.1 (moment_head u (Moment.Running (task_id t)) (sized-set_state s t TaskState.Running z) l).0
           (record { main = main-by (ℕ_discrete 0 t); stands = λ v m y n. by v m y (ℕ_discrete v t) });
-      waits-idle = λ cs q. not-waits t h cs q;
+      waits_idle = λ cs q. not-waits t h cs q;
       idle = λ q. not-waiting t (sym (moment_head u (Moment.Running (task_id t)) (sized-set_state s t TaskState.Running z) l).1 ∙ q);
     }
   where
@@ -285,7 +285,7 @@ module _ (D : ℕ → Type 0) (hd : Header) where
         q = s.queue
 
         len : q.len ≤ task_limit
-        len = h.kept.memory.words_right.queue-short
+        len = h.kept.memory.words_right.queue_short
 
         Next : ℕ → Type 0
         Next u = Right (act (put_queue s (pop_front q)) u)
@@ -326,7 +326,7 @@ module _ (D : ℕ → Type 0) (hd : Header) where
         s = d.store
 
         len : s.queue.len ≤ task_limit
-        len = h.during.kept.memory.words_right.queue-short
+        len = h.during.kept.memory.words_right.queue_short
 
         by : (w : Option ℕ) → d.woken ≡ w → Right (elim w [ none ↦ resume_next act d.store | some t ↦ act (remove_from_ready_queue d.store t) t ])
         by none e = next-right s h.during c st
@@ -392,7 +392,7 @@ module _ (D : ℕ → Type 0) (hd : Header) where
             omega arith
 
         gone-stands : Stands (λ u. u ≡ suc t) d → Stands Nothing left
-        gone-stands k1 = removed_stands d (suc t) (exited (suc t)) same.sized sent.during.kept.memory.ids sent.during.kept.memory.words_right.queue-short room (λ q. not-suc-le-zero {n = 0} (omega arith)) k1
+        gone-stands k1 = removed_stands d (suc t) (exited (suc t)) same.sized sent.during.kept.memory.ids sent.during.kept.memory.words_right.queue_short room (λ q. not-suc-le-zero {n = 0} (omega arith)) k1
 
     start_right : (s : Store) (t : ℕ) → suc t < hd.next → (task s (suc t)).state ≡ TaskState.Unstarted → SoundDuring Nothing idle D hd s → live_count s ≤ suc k → Stands (λ u. u ≡ suc t) s
         → Right (start_task act s (suc t))

@@ -117,7 +117,7 @@ spawns_lined : (s : Store) (c g : ℕ) → (header s).next < task_limit → Line
 spawns_lined s c g low k =
     record {
       sized = spawn-sized;
-      one = omega (arith, next-is);
+      one = omega (arith, next_is);
       ids = ap (λ x. length x.ids) queue-is ∙ (push_back-length s.queue n ∙ k.ids);
       len = subst (λ x. x.len ≤ task_limit) (sym queue-is) (push_back-len s.queue n k.len);
       queued = record { ready = λ v o. ready_by v (there v o) (ℕ_discrete v n); distinct = subst Distinct (sym entries-are) (distinct_append (entries s.queue) n k.queued.distinct absent-there) };
@@ -142,8 +142,8 @@ spawns_lined s c g low k =
     queue-is : u.queue ≡ push_back s.queue n
     queue-is = unfold spawn_as push_ready add_log put_queue set_next put_header put_task in refl
 
-    next-is : (header u).next ≡ n + 1
-    next-is = spawn-next s n c g k.sized low
+    next_is : (header u).next ≡ n + 1
+    next_is = spawn-next s n c g k.sized low
 
     absent-there : occurrences (entries s.queue) n ≡ 0
     absent-there = none-queued n (omega arith) k.queued
@@ -170,20 +170,20 @@ spawns_lined s c g low k =
     there v o ne = let z : one_if_same n v ≡ 0 = rw (ne_eqb n v (λ q. ne (sym q))) in omega (arith, pushed v)
 
     ready_by : (v : ℕ) → ((v ≡ n → ⊥) → 1 ≤ occurrences (entries s.queue) v) → Dec (v ≡ n) → (v < (header u).next) × T (is_ready (task u v).state)
-    ready_by v o (yes q) = (omega (arith, next-is), subst (λ (m : ℕ). T (is_ready (task u m).state)) (sym q) (true_T _ row_n))
+    ready_by v o (yes q) = (omega (arith, next_is), subst (λ (m : ℕ). T (is_ready (task u m).state)) (sym q) (true_T _ row_n))
     ready_by v o (no ne) =
-        let y = k.queued.ready v (o ne) in (omega (arith, y.0, next-is), subst (λ (w : Task). T (is_ready w.state)) (sym (spawn-row s n c g v ne)) y.1)
+        let y = k.queued.ready v (o ne) in (omega (arith, y.0, next_is), subst (λ (w : Task). T (is_ready w.state)) (sym (spawn-row s n c g v ne)) y.1)
 
     stands_by : (v : ℕ) → v < (header u).next → is_ready (task u v).state ≡ true → Dec (v ≡ n) → 1 ≤ occurrences (entries u.queue) v
     stands_by v l y (yes q) = let z : one_if_same n v ≡ 1 = rw (eq-eqb n v (sym q)) in omega (arith, pushed v)
     stands_by v l y (no ne) =
-        omega (arith, pushed v, k.stood.stands v (omega (arith, l, next-is)) (sym (ap (λ (w : Task). is_ready w.state) (spawn-row s n c g v ne)) ∙ y) (λ x. x))
+        omega (arith, pushed v, k.stood.stands v (omega (arith, l, next_is)) (sym (ap (λ (w : Task). is_ready w.state) (spawn-row s n c g v ne)) ∙ y) (λ x. x))
 
 lined_commits : Commits Lined
 lined_commits =
     record {
       row = λ s o x low y k. lined_like s (put_object s o x) (sized-put_object s o x k.sized) (unfold put_object in refl) (unfold put_object in refl) (ap (λ (h : Header). h.next) (header_put-object s o x)) k;
-      value-put = λ s p v k. lined_like s _ (sized-put_place s p _ k.sized) (unfold put_place in refl) (unfold put_place in refl) (unfold header put_place in refl) k;
+      value_put = λ s p v k. lined_like s _ (sized-put_place s p _ k.sized) (unfold put_place in refl) (unfold put_place in refl) (unfold header put_place in refl) k;
       spawns = spawns_lined;
     }
 
@@ -194,7 +194,7 @@ AwaitRight x = Right (record { store = x.store; control = x.control })
 
 stays-right : (s : Store) (t : ℕ) (h : How) (n : ℕ) → (header s).moment ≡ Moment.Running (task_id t) → Stands Nothing s → AwaitRight (stays s t h n)
 unfolding stays
-stays-right s t h n m k = record { stood = k; waits-idle = λ cs q. not-waits t h cs q; idle = λ q. not-waiting t (sym m ∙ q) }
+stays-right s t h n m k = record { stood = k; waits_idle = λ cs q. not-waits t h cs q; idle = λ q. not-waiting t (sym m ∙ q) }
 
 module _ (s : Store) (h : SoundStore s) (st : Stands Nothing s) (t : ℕ) (m : (header s).moment ≡ Moment.Running (task_id t)) where
   t-low : t < task_limit
@@ -207,7 +207,7 @@ module _ (s : Store) (h : SoundStore s) (st : Stands Nothing s) (t : ℕ) (m : (
         sized = h.memory.sized;
         one = h.facts.but.main;
         ids = h.memory.ids;
-        len = h.memory.words_right.queue-short;
+        len = h.memory.words_right.queue_short;
         queued = to_queued (header s).next (task s) (entries s.queue) h.facts.but.entries;
         stood = st;
       }
@@ -216,7 +216,7 @@ module _ (s : Store) (h : SoundStore s) (st : Stands Nothing s) (t : ℕ) (m : (
   unfolding go_on view
   go-on-right o n x (ready v) e k = stays-right x t (value v) n e.after.moment k.stood
   go-on-right o n x (raised v) e k = stays-right x t (raises v) n e.after.moment k.stood
-  go-on-right o n x pending e k = let r = resume-right Nothing (header x) b (waits_blocks o t x e) (blocks_stand x t o k.sized t-low k.stood) in record { stood = r.stood; waits-idle = r.waits-idle; idle = r.idle }
+  go-on-right o n x pending e k = let r = resume-right Nothing (header x) b (waits_blocks o t x e) (blocks_stand x t o k.sized t-low k.stood) in record { stood = r.stood; waits_idle = r.waits_idle; idle = r.idle }
     where
       b : Store
       b = add_log (set_state x t (TaskState.Blocked (heap_id o))) (blocked t)
@@ -229,7 +229,7 @@ module _ (s : Store) (h : SoundStore s) (st : Stands Nothing s) (t : ℕ) (m : (
       let w = resume-right (λ p. T (is_completed (kind (object s p)))) (header s) (add_log (set_state u t (TaskState.Blocked (heap_id o))) (blocked t))
       (wait_external s t h m o (record { call = c; awaiter = Awaiter.Nobody; stored = r }) l (ap as_pending e ∙ (unfold as_pending in refl)) refl)
       (blocks_stand u t o (sized-put_object s o y h.memory.sized) t-low (row_stands s o y st)) in
-      record { stood = w.stood; waits-idle = w.waits-idle; idle = w.idle }
+      record { stood = w.stood; waits_idle = w.waits_idle; idle = w.idle }
   external-right o c (ExternalFutureState.Pending (Awaiter.Task u) r) l e = stays-right s t _ 0 m st
   external-right o c (ExternalFutureState.Pending (Awaiter.GatherSlot g y) r) l e = stays-right s t _ 0 m st
   external-right o c (ExternalFutureState.Resolved v) l e = stays-right s t _ 0 m st
@@ -239,7 +239,7 @@ module _ (s : Store) (h : SoundStore s) (st : Stands Nothing s) (t : ℕ) (m : (
   unfolding await_gather
   gather-right o f n GatherState.Pending l e =
       go-on-right o _ (commit_gather_tree s o (Awaiter.Task (task_id t))).store (commit_gather_tree s o (Awaiter.Task (task_id t))).poll (commit_keeps s t h m o f n l e)
-      (commit_kept Lined lined_commits s o (Awaiter.Task (task_id t)) (omega (arith, l, (header-fits s).made-fits)) lined-now)
+      (commit_kept Lined lined_commits s o (Awaiter.Task (task_id t)) (omega (arith, l, (header-fits s).made_fits)) lined-now)
   gather-right o f n (GatherState.Awaited a k) l e = stays-right s t _ 0 m st
   gather-right o f n GatherState.Completed l e = stays-right s t _ 0 m st
   gather-right o f n (GatherState.Failed x) l e = stays-right s t _ 0 m st
@@ -268,11 +268,11 @@ module _ (s : Store) (h : SoundStore s) (st : Stands Nothing s) (t : ℕ) (m : (
 
 -- an answer that tells neither who has control nor a stall
 only_changes_right : {E : Type 0} (u : Store) (a : Answer) → (tells a).control ≡ none → is_stalled a ≡ false → Stands Nothing u → StepRight E (record { store = u; answer = a })
-only_changes_right u a c n k = record { stood = λ e. k; waits-idle = λ cs q. absurd_some (sym c ∙ q); stalls-idle = λ q. absurd (true≢false (sym q ∙ n)) }
+only_changes_right u a c n k = record { stood = λ e. k; waits_idle = λ cs q. absurd_some (sym c ∙ q); stalls_idle = λ q. absurd (true≢false (sym q ∙ n)) }
 
 -- the session has ended
 ended-right : (u : Store) (a : Answer) → (tells a).control ≡ none → is_stalled a ≡ false → StepRight (◌≡◌ {A = ℕ} 0 0) (record { store = u; answer = a })
-ended-right u a c n = record { stood = λ q. absurd (q refl); waits-idle = λ cs q. absurd_some (sym c ∙ q); stalls-idle = λ q. absurd (true≢false (sym q ∙ n)) }
+ended-right u a c n = record { stood = λ q. absurd (q refl); waits_idle = λ cs q. absurd_some (sym c ∙ q); stalls_idle = λ q. absurd (true≢false (sym q ∙ n)) }
 
 add_stands : (s : Store) (r : Object) (n : ℕ) → Sized s → (header s).made < object_limit → (header s).used + n ≤ place_limit → Stands Nothing s → Stands Nothing (add_object s r n)
 unfolding add_object
@@ -284,7 +284,7 @@ add_stands s r n z m u k =
     i = record { made = (header s).made + 1; used = (header s).used + n; calls = (header s).calls; next = (header s).next; moment = (header s).moment }
 
     fits : HeaderFits i
-    fits = let f : HeaderFits (header s) = header-fits s in record { made-fits = omega arith; used-fits = u; calls-fit = f.calls-fit; next_fits = f.next_fits; moment_fits = f.moment_fits }
+    fits = let f : HeaderFits (header s) = header-fits s in record { made_fits = omega arith; used_fits = u; calls_fit = f.calls_fit; next_fits = f.next_fits; moment_fits = f.moment_fits }
 
 items_words : (os : List ℕ) (s : Store) (p : ℕ) → ((put_items s p os).tasks ≡ s.tasks) × ((put_items s p os).queue ≡ s.queue)
 unfolding put_items put_place
@@ -296,7 +296,7 @@ module _ (s : Store) (h : SoundStore s) (st : Stands Nothing s) where
   z = h.memory.sized
 
   same_places : (header s).used + 0 ≤ place_limit
-  same_places = omega (arith, (header-fits s).used-fits)
+  same_places = omega (arith, (header-fits s).used_fits)
 
   module _ (c : (header s).calls < call_limit) where
     one_more : Header
@@ -306,7 +306,7 @@ module _ (s : Store) (h : SoundStore s) (st : Stands Nothing s) where
     unfolding set_calls one_more
     more =
         let f : HeaderFits (header s) = header-fits s in
-        header_put-header s _ z (record { made-fits = f.made-fits; used-fits = f.used-fits; calls-fit = omega arith; next_fits = f.next_fits; moment_fits = f.moment_fits })
+        header_put-header s _ z (record { made_fits = f.made_fits; used_fits = f.used_fits; calls_fit = omega arith; next_fits = f.next_fits; moment_fits = f.moment_fits })
 
     calls-stand : Stands Nothing (set_calls s ((header s).calls + 1))
     unfolding one_more

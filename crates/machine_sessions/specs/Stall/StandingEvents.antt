@@ -65,18 +65,18 @@ MainEnds s Event.eager = ⊥
 -- what an event leaves, if main does not end there (E)
 pub record StepRight (E : Type 0) (x : Step) : Type 0 where
   pub stood : (E → ⊥) → Stands Nothing x.store
-  pub waits-idle : (cs : List ℕ) → (tells x.answer).control ≡ some (waits cs) → OnlyChanges x.store
-  pub stalls-idle : is_stalled x.answer ≡ true → OnlyChanges x.store
+  pub waits_idle : (cs : List ℕ) → (tells x.answer).control ≡ some (waits cs) → OnlyChanges x.store
+  pub stalls_idle : is_stalled x.answer ≡ true → OnlyChanges x.store
 
 pub switched-right : {E : Type 0} (x : Switched) → Right x → StepRight E (switched x)
 unfolding switched tells is_stalled
 switched-right x k =
-    record { stood = λ e. k.stood; waits-idle = λ cs q. k.waits-idle cs (some-injective x.control (waits cs) q); stalls-idle = λ q. absurd (true≢false (sym q)) }
+    record { stood = λ e. k.stood; waits_idle = λ cs q. k.waits_idle cs (some-injective x.control (waits cs) q); stalls_idle = λ q. absurd (true≢false (sym q)) }
 
 pub awaited-right : {E : Type 0} (x : Awaited) → Right (record { store = x.store; control = x.control }) → StepRight E (answer_await x)
 unfolding answer_await tells is_stalled
 awaited-right x k =
-    record { stood = λ e. k.stood; waits-idle = λ cs q. k.waits-idle cs (some-injective x.control (waits cs) q); stalls-idle = λ q. absurd (true≢false (sym q)) }
+    record { stood = λ e. k.stood; waits_idle = λ cs q. k.waits_idle cs (some-injective x.control (waits cs) q); stalls_idle = λ q. absurd (true≢false (sym q)) }
 
 some_exempt : {E : ℕ → Type 0} (s : Store) → Stands Nothing s → Stands E s
 some_exempt s k = record { main = k.main; stands = λ t l r n. k.stands t l r (λ z. z) }
@@ -100,9 +100,9 @@ module _ (s : Store) (h : SoundStore s) (st : Stands Nothing s) where
   complete-right t v m k =
       leave_right D0 (header s) (deliver_awaiter_success left a v) (completion_delivery_ends s t v h m k)
       (λ u e. activated_ready _ (subst Activated (queue-row u)
-      (success_activated left a v delivers-on.during.kept.memory.sized (task-fits s (suc t)).awaiter_fits (value-fits (header s).made (object s) v h.facts.but.fits.made-fits k) u e)))
-      (delivered_stands left delivers-on.during (deliver_awaiter_success left a v) (success_effect left a v delivers-on.during.kept.memory.sized (task-fits s (suc t)).awaiter_fits)
-      (removed_stands done (suc t) (exited (suc t)) (sized-put_object s o _ h.memory.sized) (unfold put_object in h.memory.ids) (unfold put_object in h.memory.words_right.queue-short)
+      (success_activated left a v delivers_on.during.kept.memory.sized (task-fits s (suc t)).awaiter_fits (value-fits (header s).made (object s) v h.facts.but.fits.made_fits k) u e)))
+      (delivered_stands left delivers_on.during (deliver_awaiter_success left a v) (success_effect left a v delivers_on.during.kept.memory.sized (task-fits s (suc t)).awaiter_fits)
+      (removed_stands done (suc t) (exited (suc t)) (sized-put_object s o _ h.memory.sized) (unfold put_object in h.memory.ids) (unfold put_object in h.memory.words_right.queue_short)
       (omega (arith, runner_low s (suc t) h m, (header-fits s).next_fits)) (λ q. not-suc-le-zero {n = 0} (omega arith)) (row_stands s o (completed (object s o)) (some_exempt s st))))
     where
       o : ℕ
@@ -117,8 +117,8 @@ module _ (s : Store) (h : SoundStore s) (st : Stands Nothing s) where
       left : Store
       left = add_log (remove_task done (suc t)) (exited (suc t))
 
-      delivers-on : DeliveringValue idle D0 (header s) o v left a
-      delivers-on = completion_delivering s t v h m k
+      delivers_on : DeliveringValue idle D0 (header s) o v left a
+      delivers_on = completion_delivering s t v h m k
 
       queue-row : (u : ℕ) → (task (remove_from_ready_queue (deliver_awaiter_success left a v).store u) u).state ≡ (task (deliver_awaiter_success left a v).store u).state
       queue-row u = unfold remove_from_ready_queue put_queue task in refl
@@ -141,8 +141,8 @@ module _ (s : Store) (h : SoundStore s) (st : Stands Nothing s) where
       by true e =
           record {
             stood = λ x. st;
-            waits-idle = λ cs q. (m, none-there (eqb-true s.queue.len 0 e));
-            stalls-idle = λ q. (m, none-there (eqb-true s.queue.len 0 e));
+            waits_idle = λ cs q. (m, none-there (eqb-true s.queue.len 0 e));
+            stalls_idle = λ q. (m, none-there (eqb-true s.queue.len 0 e));
           }
       by false e = switched-right _ (resume-right D0 (header s) s (only_changes_of s h m) st)
 
@@ -156,4 +156,4 @@ pub ordered_stand : {r : ℕ → Bool} {D : ℕ → Type 0} {hd : Header} (s u :
 unfolding wake_in_order
 ordered_stand s u h st =
     stands_queue u (order_from u.queue s.queue.len) st.main
-    (λ t l r e. subst (λ (n : ℕ). 1 ≤ n) (sym (order_occurrences u.queue s.queue.len h.kept.memory.ids h.kept.memory.words_right.queue-short t)) (st.stands t l r e))
+    (λ t l r e. subst (λ (n : ℕ). 1 ≤ n) (sym (order_occurrences u.queue s.queue.len h.kept.memory.ids h.kept.memory.words_right.queue_short t)) (st.stands t l r e))

@@ -197,7 +197,7 @@ module _ (F : ℕ → Option ℕ) (L E : ℕ → Type 0) where
       live-by v (no ne) = ap (λ (y : Task). is_live y.state) (task_put-other s t v r ne)
 
       co-by : (v : ℕ) → Dec (v ≡ t) → (task w v).coroutine.0 ≡ (task s v).coroutine.0
-      co-by v (yes d) = subst (λ (m : ℕ). (task w m).coroutine.0 ≡ (task s m).coroutine.0) (sym d) (coroutine_back s t r k.sized l (task-fits s t).coroutine-fits)
+      co-by v (yes d) = subst (λ (m : ℕ). (task w m).coroutine.0 ≡ (task s m).coroutine.0) (sym d) (coroutine_back s t r k.sized l (task-fits s t).coroutine_fits)
       co-by v (no ne) = ap (λ (y : Task). y.coroutine.0) (task_put-other s t v r ne)
 
       first_by : Dec (0 ≡ t) → is_unstarted (task w 0).state ≡ false

@@ -54,13 +54,13 @@ use Rattle.machine_sessions.specs.Stall.SourcedKept.{items-objects}
 use Rattle.machine_sessions.specs.Places.TellingAwait.{Row, row_commits}
 use Rattle.machine_sessions.specs.Stall.TaskLog.{exits_by, any_coroutine, used_coroutine, used-row, Tasks, tasks-same, row-tasks, turns-tasks, state_tasks, exit_tasks, spawn-tasks}
 
-blocked-is : (x : TaskState) → is_blocked x ≡ true → (is_live x ≡ true) × (is_unstarted x ≡ false)
-blocked-is TaskState.Absent e = absurd (true≢false (sym e))
-blocked-is TaskState.Unstarted e = absurd (true≢false (sym e))
-blocked-is TaskState.Running e = absurd (true≢false (sym e))
-blocked-is (TaskState.Woken v) e = absurd (true≢false (sym e))
-blocked-is (TaskState.Raised x) e = absurd (true≢false (sym e))
-blocked-is (TaskState.Blocked o) e = (refl, refl)
+blocked_is : (x : TaskState) → is_blocked x ≡ true → (is_live x ≡ true) × (is_unstarted x ≡ false)
+blocked_is TaskState.Absent e = absurd (true≢false (sym e))
+blocked_is TaskState.Unstarted e = absurd (true≢false (sym e))
+blocked_is TaskState.Running e = absurd (true≢false (sym e))
+blocked_is (TaskState.Woken v) e = absurd (true≢false (sym e))
+blocked_is (TaskState.Raised x) e = absurd (true≢false (sym e))
+blocked_is (TaskState.Blocked o) e = (refl, refl)
 
 -- a coroutine that is not new
 not_new : (x : Object) → any_coroutine x ≡ true → new_function x ≡ none → used_coroutine x ≡ true
@@ -115,7 +115,7 @@ module _ (F : ℕ → Option ℕ) (X : ℕ → Bool) where
               is_used = used-row s o x c k.sized l y k.is_used;
               lives = unfold task put_object in (unfold task in k.lives);
             };
-        values-put = λ s ps e k.
+        values_put = λ s ps e k.
             record {
               sized = sized-put_places s ps e k.sized;
               of-it = unfold put_places in k.of-it;
@@ -184,7 +184,7 @@ module _ (F : ℕ → Option ℕ) (X : ℕ → Bool) where
     tasks_commits =
         record {
           row = λ s o x l t k. row_kept s o x (turns-tasks F L E s o x (S s) (Y s) l t k);
-          value-put = λ s p v k. like s _ (sized-put_place s p _ k.sized) (unfold header put_place in refl) (λ t. unfold put_place in refl) (λ t. unfold put_place in refl) (λ o. unfold object put_place in refl) (λ t. unfold task put_place in refl) k;
+          value_put = λ s p v k. like s _ (sized-put_place s p _ k.sized) (unfold header put_place in refl) (λ t. unfold put_place in refl) (λ t. unfold put_place in refl) (λ o. unfold object put_place in refl) (λ t. unfold task put_place in refl) k;
           spawns = λ s c g f room low new free k. spawn-kept s c g (spawn-tasks F L E s c g f (S s) (Y s) room low new free k);
         }
       where
@@ -196,9 +196,9 @@ module _ (F : ℕ → Option ℕ) (X : ℕ → Bool) where
         record {
           sized = λ s k. k.sized;
           row = λ s o x l t k. row_kept s o x (turns-tasks F L E s o x (S s) (Y s) l t k);
-          values-put = λ s ps e k. like s _ (sized-put_places s ps e k.sized) (unfold header put_places in refl) (λ t. unfold put_places in refl) (λ t. unfold put_places in refl) (λ o. unfold object put_places in refl) (λ t. unfold task put_places in refl) k;
+          values_put = λ s ps e k. like s _ (sized-put_places s ps e k.sized) (unfold header put_places in refl) (λ t. unfold put_places in refl) (λ t. unfold put_places in refl) (λ o. unfold object put_places in refl) (λ t. unfold task put_places in refl) k;
           wakes = λ s t x l b r n k.
-              let y = blocked-is (task s t).state b in
+              let y = blocked_is (task s t).state b in
               state_tasks F L E s (add_log (make_ready s t x) (reached t)) t x (S s) _ (Y s) _ l (ready-live x r) y.0 n (inl y.1)
               (unfold make_ready push_ready in (sized-add_log _ (reached t) (sized-put_queue _ _ (sized-set_state s t x k.sized)))) (unfold header add_log make_ready push_ready put_queue set_state put_task in refl)
               (λ v. unfold add_log make_ready push_ready put_queue set_state put_task spawned_by in refl) (λ v. unfold add_log make_ready push_ready put_queue set_state put_task exits_by in refl)
@@ -241,7 +241,7 @@ module _ (F : ℕ → Option ℕ) (X : ℕ → Bool) where
           runs_on = λ s t l r n k. runs s t l (ready-live (task s t).state r) (inl n) k;
           begins = λ s t f l e n k.
               runs (put_object s (task s t).coroutine.0 (Object.Coroutine f CoroutineState.Running)) t l (unfold task put_object in (unfold task in (ap is_live e)))
-              (inr (used-now s t f k.sized)) (row_kept s _ _ (row-tasks F L E s (task s t).coroutine.0 (Object.Coroutine f CoroutineState.Running) (S s) (Y s) (task-fits s t).coroutine-fits (λ a. unfold any_coroutine in refl) (λ a. unfold used_coroutine in refl) k));
+              (inr (used-now s t f k.sized)) (row_kept s _ _ (row-tasks F L E s (task s t).coroutine.0 (Object.Coroutine f CoroutineState.Running) (S s) (Y s) (task-fits s t).coroutine_fits (λ a. unfold any_coroutine in refl) (λ a. unfold used_coroutine in refl) k));
           fails = λ s t x l e n k d.
               let q : S s t ≡ some (task s t).coroutine.0 = spawned-is s t (ap is_live e) (ap is_unstarted e) k in
               fails-kept s t (task s t).coroutine.0 x E q (not_new (object s (task s t).coroutine.0) (k.coroutines t _ q) n) (ap is_live e) (λ v y. inr y) k d;
@@ -256,7 +256,7 @@ module _ (F : ℕ → Option ℕ) (X : ℕ → Bool) where
             (λ v. unfold set_state put_task in refl) (λ v. unfold set_state put_task in refl) (λ o. unfold object set_state put_task in refl) (λ v. refl) k
 
         used-now : (s : Store) (t f : ℕ) → Sized s → used_coroutine (object (put_object s (task s t).coroutine.0 (Object.Coroutine f CoroutineState.Running)) (task (put_object s (task s t).coroutine.0 (Object.Coroutine f CoroutineState.Running)) t).coroutine.0) ≡ true
-        used-now s t f z = ap (λ (c : ℕ). used_coroutine (object u c)) same ∙ (ap used_coroutine (read_back s (task s t).coroutine.0 (Object.Coroutine f CoroutineState.Running) z (task-fits s t).coroutine-fits) ∙ (unfold used_coroutine in refl))
+        used-now s t f z = ap (λ (c : ℕ). used_coroutine (object u c)) same ∙ (ap used_coroutine (read_back s (task s t).coroutine.0 (Object.Coroutine f CoroutineState.Running) z (task-fits s t).coroutine_fits) ∙ (unfold used_coroutine in refl))
           where
             u : Store
             u = put_object s (task s t).coroutine.0 (Object.Coroutine f CoroutineState.Running)
@@ -300,7 +300,7 @@ module _ (F : ℕ → Option ℕ) (X : ℕ → Bool) where
         head : header u ≡ i
         head =
             let f : HeaderFits (header s) = header-fits s in
-            header_put-header s i k.sized (record { made-fits = omega arith; used-fits = pl; calls-fit = f.calls-fit; next_fits = f.next_fits; moment_fits = f.moment_fits })
+            header_put-header s i k.sized (record { made_fits = omega arith; used_fits = pl; calls_fit = f.calls_fit; next_fits = f.next_fits; moment_fits = f.moment_fits })
 
         more : K u
         more = like s u (sized-put_header s i k.sized) (ap (λ (h : Header). h.next) head) (λ t. unfold put_header in refl) (λ t. unfold put_header in refl) rows (λ t. unfold task put_header in refl) k
@@ -318,7 +318,7 @@ module _ (F : ℕ → Option ℕ) (X : ℕ → Bool) where
         head : header (set_calls s ((header s).calls + 1)) ≡ record { made = (header s).made; used = (header s).used; calls = (header s).calls + 1; next = (header s).next; moment = (header s).moment }
         head =
             let f : HeaderFits (header s) = header-fits s in
-            unfold set_calls in (header_put-header s _ k.sized (record { made-fits = f.made-fits; used-fits = f.used-fits; calls-fit = omega arith; next_fits = f.next_fits; moment_fits = f.moment_fits }))
+            unfold set_calls in (header_put-header s _ k.sized (record { made_fits = f.made_fits; used_fits = f.used_fits; calls_fit = omega arith; next_fits = f.next_fits; moment_fits = f.moment_fits }))
 
   -- ---- the events
 
@@ -333,7 +333,7 @@ module _ (F : ℕ → Option ℕ) (X : ℕ → Bool) where
         by (Object.GatherFuture f n x) e = unfold used_coroutine in refl
 
     same_places : (header s).used + 0 ≤ place_limit
-    same_places = omega (arith, (header-fits s).used-fits)
+    same_places = omega (arith, (header-fits s).used_fits)
 
     settled-kept : (v : Value) → (header s).calls < call_limit → (header s).made < object_limit → K L Nothing (make_settled s v)
     unfolding make_settled
@@ -372,7 +372,7 @@ module _ (F : ℕ → Option ℕ) (X : ℕ → Bool) where
         first =
             record {
               row = λ u p x l y j. ((tasks_commits L Nothing).row u p x l y j.0, (row_commits t (task s t) (Moment.Running (task_id t))).row u p x l y j.1);
-              value-put = λ u p v j. ((tasks_commits L Nothing).value-put u p v j.0, (row_commits t (task s t) (Moment.Running (task_id t))).value-put u p v j.1);
+              value_put = λ u p v j. ((tasks_commits L Nothing).value_put u p v j.0, (row_commits t (task s t) (Moment.Running (task_id t))).value_put u p v j.1);
               spawns = λ u c g f room l new none_of j. ((tasks_commits L Nothing).spawns u c g f room l new none_of j.0, (row_commits t (task s t) (Moment.Running (task_id t))).spawns u c g room j.1);
             }
 
@@ -419,7 +419,7 @@ module _ (F : ℕ → Option ℕ) (X : ℕ → Bool) where
           let M : ℕ → Type 0 = λ u. u ≡ suc t in
           let done : Store = put_object s c (completed (object s c)) in
           let left : Store = add_log (remove_task done (suc t)) (exited (suc t)) in
-          let k1 : K L Nothing done = row_kept L Nothing s c _ (row-tasks F L Nothing s c (completed (object s c)) (S s) (Y s) (task-fits s (suc t)).coroutine-fits done-any done-used k) in
+          let k1 : K L Nothing done = row_kept L Nothing s c _ (row-tasks F L Nothing s c (completed (object s c)) (S s) (Y s) (task-fits s (suc t)).coroutine_fits done-any done-used k) in
           let k2 : K L M left = exits-kept L Nothing done (suc t) c M says-it used-it live-it (λ u d. inl d) k1 in
           woken-task-kept (K L M) (tasks-switches L M) _ (success_woken left (task s (suc t)).awaiter v k2.sized (task-fits s (suc t)).awaiter_fits)
           (value-kept (K L M) (tasks_delivers L M) left (task s (suc t)).awaiter v (task-fits s (suc t)).awaiter_fits k2)
@@ -431,7 +431,7 @@ module _ (F : ℕ → Option ℕ) (X : ℕ → Bool) where
           live-it = unfold task put_object in (unfold task in (ap is_live runs))
 
           used-it : used_coroutine (object (put_object s c (completed (object s c))) c) ≡ true
-          used-it = ap used_coroutine (read_back s c (completed (object s c)) k.sized (task-fits s (suc t)).coroutine-fits) ∙ done-used is_used
+          used-it = ap used_coroutine (read_back s c (completed (object s c)) k.sized (task-fits s (suc t)).coroutine_fits) ∙ done-used is_used
 
     complete-step : (t : ℕ) (v : Value) → (header s).moment ≡ Moment.Running (task_id t) → (t ≡ 0 → ⊥) → K L (λ u. u ≡ t) (task_completes s t v).store
     unfolding task_completes end_main switched
@@ -463,7 +463,7 @@ module _ (F : ℕ → Option ℕ) (X : ℕ → Bool) where
         gather-kept os (not_full s (or_left (full s) (ltb item_limit (length os)) (or_left (full s || ltb item_limit (length os)) (ltb place_limit ((header s).used + length os)) q)))
         (ltb-false place_limit ((header s).used + length os) (or_right (full s || ltb item_limit (length os)) (ltb place_limit ((header s).used + length os)) q))
     accept-tasks (Event.await o) n r on =
-        let q = refusal-rest s (Event.await o) r in await-kept (runner (header s).moment) o (running s h _ q) (omega (arith, await-made s h o q, (header-fits s).made-fits))
+        let q = refusal-rest s (Event.await o) r in await-kept (runner (header s).moment) o (running s h _ q) (omega (arith, await-made s h o q, (header-fits s).made_fits))
     accept-tasks (Event.complete v) n r on = complete-step (runner (header s).moment) v (running s h _ (refusal-rest s (Event.complete v) r)) on
     accept-tasks (Event.fail m) n r on = fail-step (runner (header s).moment) (Error.Script m) (running s h _ (refusal-rest s (Event.fail m) r)) on
     accept-tasks (Event.results rs) n r on =

@@ -34,17 +34,17 @@ pub record Gone (h : List Entry) (s : Store) (v : ℕ) : Type 0 where
 
 -- the task that was spawned for o was cancelled
 pub record Lost (h : List Entry) (s : Store) (o : ℕ) : Type 0 where
-  pub after-cancel : cancelled h ≡ true
-  pub its-task : ℕ
-  pub spawned : spawned_for h its-task ≡ some o
-  pub gone : Gone h s its-task
+  pub after_cancel : cancelled h ≡ true
+  pub its_task : ℕ
+  pub spawned : spawned_for h its_task ≡ some o
+  pub gone : Gone h s its_task
 
 -- until the end
 pub record Alive (h : List Entry) (s : Store) : Type 0 where
   -- main lives, and a ready task stands in the queue
   pub stands : Stands Nothing s
   -- in waiting every live task has started
-  pub all-started : AllStarted s
+  pub all_started : AllStarted s
   -- for whom each task was spawned, and who has exited
   pub tasks : Tasks (spawned_for h) Nothing Nothing (spawned_for h) (exits h) s
   -- an open place has a source, or its item's task was cancelled
@@ -54,7 +54,7 @@ pub record Alive (h : List Entry) (s : Store) : Type 0 where
 
 -- the items of open places have come to nothing
 abbrev pub ItemsWait : List Entry → Store → Type 0
-ItemsWait h s = (g : ℕ) (v : AwaitedGather) → g < (header s).made → as_awaited (object s g) ≡ some v → (a : ℕ) → a < v.count → bit v.open-places a ≡ true
+ItemsWait h s = (g : ℕ) (v : AwaitedGather) → g < (header s).made → as_awaited (object s g) ≡ some v → (a : ℕ) → a < v.count → bit v.open_places a ≡ true
     → row_outcome (outcome_of h) (place s (v.first + a)).item.0 (object s (place s (v.first + a)).item.0) ≡ none
 
 coroutine-row : (C : ℕ → Option (Outcome Value Error)) (o : ℕ) (x : Object) → any_coroutine x ≡ true → row_outcome C o x ≡ C o
@@ -84,7 +84,7 @@ module _ (h : List Entry) (s : Store) (w : SoundStore s) (k : Alive h s) where
   slot_task t g o l lv a = by (slot_spawned s t g o w l a)
     where
       own : o ≡ (task s t).coroutine.0
-      own = unfold view in (w.facts.but.task-slots t l (holds _ lv) g o a).own
+      own = unfold view in (w.facts.but.task_slots t l (holds _ lv) g o a).own
 
       by : (m : ℕ) × (t ≡ suc m) → spawned_for h t ≡ some o
       by x =
@@ -94,7 +94,7 @@ module _ (h : List Entry) (s : Store) (w : SoundStore s) (k : Alive h s) where
   source-none : (g o : ℕ) → Source (Lost h s) s g o → row_outcome (outcome_of h) o (object s o) ≡ none
   source-none g o (by_external p e a) = ap (row_outcome (outcome_of h) o) (pending-object (object s o) p e) ∙ (unfold row_outcome in refl)
   source-none g o (by_gather v e a) = ap (row_outcome (outcome_of h) o) (awaited-object (object s o) v e) ∙ (unfold row_outcome in refl)
-  source-none g o (by_nobody j) = nothing_yet j.its-task o j.spawned (λ q. true≢false (sym q ∙ j.gone.unexited))
+  source-none g o (by_nobody j) = nothing_yet j.its_task o j.spawned (λ q. true≢false (sym q ∙ j.gone.unexited))
   source-none g o (by_task t l lv a) = nothing_yet t o (slot_task t g o l lv a) (λ q. true≢false (sym lv ∙ (k.tasks.ended t q).1))
 
   pub alive-items : ItemsWait h s

@@ -176,7 +176,7 @@ cleanup_cleans s z =
     moved_made : (header (set_moment w Moment.Ended)).made ≡ (header v).made
     moved_made =
         let f : HeaderFits (header w) = header-fits w in
-        unfold set_moment in (ap (λ (i : Header). i.made) (header_put-header w _ (sized-put_queue v empty_queue k.sized) (record { made-fits = f.made-fits; used-fits = f.used-fits; calls-fit = f.calls-fit; next_fits = f.next_fits; moment_fits = tt }))) ∙ queue-made
+        unfold set_moment in (ap (λ (i : Header). i.made) (header_put-header w _ (sized-put_queue v empty_queue k.sized) (record { made_fits = f.made_fits; used_fits = f.used_fits; calls_fit = f.calls_fit; next_fits = f.next_fits; moment_fits = tt }))) ∙ queue-made
       where
         queue-made : (header w).made ≡ (header v).made
         queue-made = unfold header put_queue in refl
@@ -191,7 +191,7 @@ cleanup_cleans s z =
 
 pub record Ending (s : Store) (e : Event) : Type 0 where
   pub runs : (header s).moment ≡ Moment.Running (task_id (runner (header s).moment))
-  pub exits-it : Exits s e (runner (header s).moment)
+  pub exits_it : Exits s e (runner (header s).moment)
 
 pub completing : (s : Store) (e : Event) (v : Value) → SoundStore s → refusal s e ≡ 0 → (says e).completes ≡ some v → Ending s e
 unfolding says nothing_said
@@ -201,7 +201,7 @@ completing s (Event.pending c x) v w r q = absurd_some q
 completing s (Event.settled x) v w r q = absurd_some q
 completing s (Event.gather os) v w r q = absurd_some q
 completing s (Event.await o) v w r q = absurd_some q
-completing s (Event.complete x) v w r q = record { runs = unfold refusals in (Rattle.machine_theorems.specs.Soundness.Preserved.running s w _ (refusal-rest s (Event.complete x) r)); exits-it = unfold Exits in refl }
+completing s (Event.complete x) v w r q = record { runs = unfold refusals in (Rattle.machine_theorems.specs.Soundness.Preserved.running s w _ (refusal-rest s (Event.complete x) r)); exits_it = unfold Exits in refl }
 completing s (Event.fail n) v w r q = absurd_some q
 completing s (Event.results rs) v w r q = absurd_some q
 completing s Event.resume v w r q = absurd_some q
@@ -218,7 +218,7 @@ failing s (Event.settled x) n w r q = absurd_some q
 failing s (Event.gather os) n w r q = absurd_some q
 failing s (Event.await o) n w r q = absurd_some q
 failing s (Event.complete x) n w r q = absurd_some q
-failing s (Event.fail m) n w r q = record { runs = unfold refusals in (Rattle.machine_theorems.specs.Soundness.Preserved.running s w _ (refusal-rest s (Event.fail m) r)); exits-it = unfold Exits in refl }
+failing s (Event.fail m) n w r q = record { runs = unfold refusals in (Rattle.machine_theorems.specs.Soundness.Preserved.running s w _ (refusal-rest s (Event.fail m) r)); exits_it = unfold Exits in refl }
 failing s (Event.results rs) n w r q = absurd_some q
 failing s Event.resume n w r q = absurd_some q
 failing s (Event.cancel t) n w r q = absurd_some q
@@ -317,12 +317,12 @@ module _ (h : List Entry) (s : Store) (w : SoundStore s) (ag : Agrees h s) (clea
 
     later-lost : (E : ℕ → Type 0) → Tasks (spawned_for h) (Gone h s) E (λ t. spawned_by (spawned_for h t) u.log t) (λ t. exits_by (exits h t) u.log t) u → (o : ℕ) → Lost h s o → Lost (x ∷ h) u o
     later-lost E j o y =
-        let b = j.lost y.its-task y.gone in
+        let b = j.lost y.its_task y.gone in
         record {
-          after-cancel = cancelled-then x h (says e) said-it ∙ (ap (λ (a : Bool). (says e).cancels || a) y.after-cancel ∙ or_true (says e).cancels);
-          its-task = y.its-task;
-          spawned = says-for y.its-task ∙ j.before y.its-task o y.spawned;
-          gone = record { low = b.0; dead = b.1; unexited = says-exits y.its-task ∙ b.2 };
+          after_cancel = cancelled-then x h (says e) said-it ∙ (ap (λ (a : Bool). (says e).cancels || a) y.after_cancel ∙ or_true (says e).cancels);
+          its_task = y.its_task;
+          spawned = says-for y.its_task ∙ j.before y.its_task o y.spawned;
+          gone = record { low = b.0; dead = b.1; unexited = says-exits y.its_task ∙ b.2 };
         }
       where
         or_true : (a : Bool) → (a || true) ≡ true
@@ -337,7 +337,7 @@ module _ (h : List Entry) (s : Store) (w : SoundStore s) (ag : Agrees h s) (clea
         ended : (c : ℕ) → running_coroutine h ≡ some c → Ending s e → (v : ℕ) × (spawned_for (x ∷ h) v ≡ some c) × (exits (x ∷ h) v ≡ true)
         ended c a n =
             let t : ℕ = runner (header s).moment in
-            (t, says-for t ∙ j.before t c (ran t c n.runs a), says-exits t ∙ j.left t (own t n.exits-it))
+            (t, says-for t ∙ j.before t c (ran t c n.runs a), says-exits t ∙ j.left t (own t n.exits_it))
 
         on : Came x h c → (v : ℕ) × (spawned_for (x ∷ h) v ≡ some c) × (exits (x ∷ h) v ≡ true)
         on (was z a) =
@@ -356,7 +356,7 @@ module _ (h : List Entry) (s : Store) (w : SoundStore s) (ag : Agrees h s) (clea
         (tasks-same (spawned_for h) (Gone h s) Nothing s s (spawned_for h) (λ t. spawned_by (spawned_for h t) s.log t) (exits h) (λ t. exits_by (exits h t) s.log t) k.tasks.sized refl spawned-now exits_now (λ c q. q) (λ c q. q) (λ t. refl) from-gone) e n r on in
         record {
           stands = (accept-right s w k.stands e i n r).stood on;
-          all-started = accept-started s w k.stands k.all-started e i n r;
+          all_started = accept-started s w k.stands k.all_started e i n r;
           tasks = later-tasks (Gone h s) (Exits s e) j;
           sourced = sourced_more u (later-lost (Exits s e) j) (accept_sourced (Lost h s) s w k.sourced e i n r on);
           came = later-came (Gone h s) (Exits s e) j (λ t q. q);
@@ -405,7 +405,7 @@ module _ (h : List Entry) (s : Store) (w : SoundStore s) (ag : Agrees h s) (clea
   cancel-alive t r =
       record {
         stands = removed_stands s v rm k.stands;
-        all-started = removed-started s v rm k.all-started;
+        all_started = removed-started s v rm k.all_started;
         tasks = later-tasks (Event.cancel t) r (Gone h s) Nothing j;
         sourced = removed_sourced s v rm (Lost h s) (Lost (x (Event.cancel t) r ∷ h) v) (later-lost (Event.cancel t) r Nothing j) lost-now k.sourced;
         came = later-came (Event.cancel t) r (Gone h s) Nothing j (λ a q. absurd (unfold Exits in q));
@@ -422,14 +422,14 @@ module _ (h : List Entry) (s : Store) (w : SoundStore s) (ag : Agrees h s) (clea
 
       j : Tasks (spawned_for h) (Gone h s) Nothing (λ a. spawned_by (spawned_for h a) v.log a) (λ a. exits_by (exits h a) v.log a) v
       j =
-          let y = removed-tasks s v rm (spawned_for h) (Gone h s) Nothing (spawned_for h) (exits h) (k.all-started c.waits) from-gone in
+          let y = removed-tasks s v rm (spawned_for h) (Gone h s) Nothing (spawned_for h) (exits h) (k.all_started c.waits) from-gone in
           tasks-same (spawned_for h) (Gone h s) Nothing v v (spawned_for h) _ (exits h) _ y.sized refl (λ a. rm.spawned (spawned_for h a) a ∙ spawned-now a) (λ a. rm.exits (exits h a) a ∙ exits_now a) (λ c e. e) (λ c e. e) (λ a. refl) y
 
       lost-now : (a g o : ℕ) → a < (header s).next → is_live (task s a).state ≡ true → is_live (task v a).state ≡ false → (task s a).awaiter ≡ Awaiter.GatherSlot (heap_id g) (heap_id o) → Lost (x (Event.cancel t) r ∷ h) v o
       lost-now a g o l lv dead aw = by a l lv dead aw
         where
           own : (a : ℕ) → a < (header s).next → is_live (task s a).state ≡ true → (task s a).awaiter ≡ Awaiter.GatherSlot (heap_id g) (heap_id o) → o ≡ (task s a).coroutine.0
-          own a l lv aw = unfold view in (w.facts.but.task-slots a l (holds _ lv) g o aw).own
+          own a l lv aw = unfold view in (w.facts.but.task_slots a l (holds _ lv) g o aw).own
 
           unexited : (a : ℕ) → is_live (task s a).state ≡ true → (b : Bool) → exits h a ≡ b → b ≡ false
           unexited a lv true e = absurd (true≢false (sym lv ∙ (k.tasks.ended a e).1))
@@ -439,8 +439,8 @@ module _ (h : List Entry) (s : Store) (w : SoundStore s) (ag : Agrees h s) (clea
           by zero l lv dead aw = absurd (true≢false (sym (removed_stands s v rm k.stands).main ∙ dead))
           by (suc a) l lv dead aw =
               record {
-                after-cancel = cancelled-then (x (Event.cancel t) r) h (says (Event.cancel t)) (said-it (Event.cancel t) r) ∙ (unfold says in refl);
-                its-task = suc a;
+                after_cancel = cancelled-then (x (Event.cancel t) r) h (says (Event.cancel t)) (said-it (Event.cancel t) r) ∙ (unfold says in refl);
+                its_task = suc a;
                 spawned = says-for (Event.cancel t) r (suc a) ∙ (rm.spawned (spawned_for h (suc a)) (suc a) ∙ (spawned-now (suc a) ∙ (k.tasks.rows a l lv ∙ ap (λ (n : ℕ). some n) (sym (own (suc a) l lv aw)))));
                 gone = record {
                   low = subst (λ (y : Header). suc a < y.next) (sym (head-same s v rm)) l;

@@ -31,7 +31,7 @@ use Rattle.machine_laws.specs.MachineLaws.{accepted-step, refused-step}
 use Rattle.machine_laws.specs.SizedLaws.{step-says}
 use Rattle.machine_laws.specs.SoundLaws.{refusal-forget}
 use Rattle.machine_theorems.specs.Soundness.Stores.{SoundStore}
-use Rattle.machine_theorems.specs.Soundness.Sessions.{forget-sound_store, step-sound_store, fresh_sound_store}
+use Rattle.machine_theorems.specs.Soundness.Sessions.{forget_sound_store, step_sound_store, fresh_sound_store}
 use Rattle.machine_sessions.specs.Waits.{said-accepted, said-refused}
 use Rattle.machine_sessions.specs.Queue.Following.{accept_accepts, Sends, stepped, short, sends, Following, send_following, session_follows}
 use Rattle.machine_sessions.specs.Stall.Standing.{stands_like}
@@ -62,7 +62,7 @@ pub forget-alive : (h : List Entry) (s : Store) → Alive h s → Alive h (forge
 forget-alive h s k =
     record {
       stands = stands_like s (forget s) (unfold forget in refl) (unfold forget in refl) (unfold header forget in refl) k.stands;
-      all-started = λ m t l. unfold task forget in (unfold task in (k.all-started (unfold header forget in m) t (unfold header forget in l)));
+      all_started = λ m t l. unfold task forget in (unfold task in (k.all_started (unfold header forget in m) t (unfold header forget in l)));
       tasks = tasks-same _ _ _ s (forget s) _ _ _ _ (sized-forget s k.tasks.sized) (unfold header forget in refl) (λ t. refl) (λ t. refl) (λ c e. unfold object forget in (unfold object in e)) (λ c e. unfold object forget in (unfold object in e))
           (λ t. unfold task forget in refl) k.tasks;
       sourced = sourced_more (forget s) lost-now (sourced_like _ s (forget s) (λ o. unfold object forget in refl) (λ t. unfold task forget in refl) (λ p. unfold place forget in refl) (unfold header forget in refl) k.sourced);
@@ -72,8 +72,8 @@ forget-alive h s k =
     lost-now : (o : ℕ) → Lost h s o → Lost h (forget s) o
     lost-now o y =
         record {
-          after-cancel = y.after-cancel;
-          its-task = y.its-task;
+          after_cancel = y.after_cancel;
+          its_task = y.its_task;
           spawned = y.spawned;
           gone = record { low = unfold header forget in (unfold header in y.gone.low); dead = unfold task forget in (unfold task in y.gone.dead); unexited = y.gone.unexited };
         }
@@ -114,7 +114,7 @@ module _ (e : Event) (n : ℕ) (u : Store) (h : List Entry) where
       let j = k.tasks in
       record {
         stands = k.stands;
-        all-started = k.all-started;
+        all_started = k.all_started;
         tasks = record {
           sized = j.sized;
           main = j.main;
@@ -138,10 +138,10 @@ module _ (e : Event) (n : ℕ) (u : Store) (h : List Entry) where
       lost-now : (o : ℕ) → Lost h u o → Lost (x ∷ h) u o
       lost-now o y =
           record {
-            after-cancel = cancelled-as ∙ y.after-cancel;
-            its-task = y.its-task;
-            spawned = spawned_as y.its-task ∙ y.spawned;
-            gone = record { low = y.gone.low; dead = y.gone.dead; unexited = exits-as y.its-task ∙ y.gone.unexited };
+            after_cancel = cancelled-as ∙ y.after_cancel;
+            its_task = y.its_task;
+            spawned = spawned_as y.its_task ∙ y.spawned;
+            gone = record { low = y.gone.low; dead = y.gone.dead; unexited = exits-as y.its_task ∙ y.gone.unexited };
           }
 
       on : (c : ℕ) → Came x h c → (v : ℕ) × (spawned_for (x ∷ h) v ≡ some c) × (exits (x ∷ h) v ≡ true)
@@ -210,7 +210,7 @@ module _ (h : List Entry) (s : Store) (w : SoundStore s) (ag : Agrees h s) (clea
 
   -- nobody's task was cancelled
   none-lost : cancelled (y ∷ h) ≡ false → (o : ℕ) → Lost (y ∷ h) u o → ⊥
-  none-lost c o z = true≢false (sym z.after-cancel ∙ c)
+  none-lost c o z = true≢false (sym z.after_cancel ∙ c)
 
   -- before the end, and main does not end there
   on-waiting : (MainEnds s e → ⊥) → Alive h s → Alive (y ∷ h) u → Waiting (y ∷ h) u
@@ -237,7 +237,7 @@ module _ (h : List Entry) (s : Store) (w : SoundStore s) (ag : Agrees h s) (clea
       record {
         alive = λ on. absurd (true≢false (sym (ap (λ (v : Store). is_ended (header v).moment) f.store_is ∙ ends s w b.stands) ∙ on));
         items = end-items h s w ag clean b e r m f.store_is k.items;
-        goes = λ c. goes_then e (accept s e).answer u h (ap empty_wait f.no-control ∙ (unfold empty_wait in refl)) f.no-stall (k.goes (parts c).1);
+        goes = λ c. goes_then e (accept s e).answer u h (ap empty_wait f.no_control ∙ (unfold empty_wait in refl)) f.no_stall (k.goes (parts c).1);
       }
 
   -- it has ended: a read
@@ -249,7 +249,7 @@ module _ (h : List Entry) (s : Store) (w : SoundStore s) (ag : Agrees h s) (clea
         items = items-later y h s u (λ o. ap (λ (v : Store). object v o) f.same_store) (λ p. ap (λ (v : Store). place v p) f.same_store) (ap (λ (v : Store). (header v).made) f.same_store)
             (λ c. still_nothing y h c (λ v a q. none_runs (completing s e v w r (ap (λ (z : Says). z.completes) (sym said-it) ∙ q))) (λ n a q. none_runs (failing s e n w r (ap (λ (z : Says). z.fails) (sym said-it) ∙ q)))
             (λ q. true≢false (sym q ∙ (ap (λ (l : List LogEntry). exits_unstarted (spawned_for (y ∷ h)) (coroutine_of (y ∷ h)) l c) (none-happened f.same_store) ∙ (unfold exits_unstarted in refl))))) k.items;
-        goes = λ c. goes_then e (accept s e).answer u h (ap empty_wait f.no-control ∙ (unfold empty_wait in refl)) f.no-stall (k.goes (parts c).1);
+        goes = λ c. goes_then e (accept s e).answer u h (ap empty_wait f.no_control ∙ (unfold empty_wait in refl)) f.no_stall (k.goes (parts c).1);
       }
     where
       none_runs : Ending s e → ⊥
@@ -287,7 +287,7 @@ step-waiting h s e w i ag k = by (ℕ_discrete (refusal s e) 0)
     by (yes r) =
         let q : step s e ≡ accept (forget s) e = accepted-step s e r in
         subst (StepWaiting h e) (sym q)
-        (accepted-waiting h (forget s) (forget-sound_store s w) (forget_agrees h s ag) (unfold forget in refl) kf e i (refusal-forget s e ∙ r) (subst (λ (x : Step). SoundStore x.store) q (step-sound_store s w e i))
+        (accepted-waiting h (forget s) (forget_sound_store s w) (forget_agrees h s ag) (unfold forget in refl) kf e i (refusal-forget s e ∙ r) (subst (λ (x : Step). SoundStore x.store) q (step_sound_store s w e i))
         (subst (λ (x : Step). AnswerSays x.store x.answer) q (step-says s e w.memory.sized)))
     by (no ne) = subst (StepWaiting h e) (sym (refused-step s e (refusal s e) refl ne)) (refused-waiting e (refusal s e) (forget s) h kf.alive kf.items kf.goes)
 
@@ -342,7 +342,7 @@ fresh-waiting =
     record {
       alive = λ on. record {
         stands = record { main = fresh_main.0; stands = λ t l r n. absurd (true≢false (sym r ∙ subst (λ (v : ℕ). is_ready (task fresh v).state ≡ false) (sym (only t l)) fresh_main.1)) };
-        all-started = λ m t l. subst (λ (v : ℕ). is_unstarted (task fresh v).state ≡ false) (sym (only t l)) fresh_main.2;
+        all_started = λ m t l. subst (λ (v : ℕ). is_unstarted (task fresh v).state ≡ false) (sym (only t l)) fresh_main.2;
         tasks = fresh-tasks;
         sourced = record {
           sources = λ g o v l e op. absurd (none_made g l);
@@ -398,12 +398,12 @@ session-waits es i = sessions_wait es begun i (session_follows [] tt) (session_a
 
 -- An item that an open place of an awaited gather names has come to nothing, neither a value nor an error.
 pub waiting-items : (es : List Sent) → AllSentInRange es → let x = session es in (g : ℕ) (v : AwaitedGather) → g < (header x.store).made → as_awaited (object x.store g) ≡ some v → (a : ℕ) → a < v.count
-    → bit v.open-places a ≡ true → row_outcome (outcome_of x.history) (place x.store (v.first + a)).item.0 (object x.store (place x.store (v.first + a)).item.0) ≡ none
+    → bit v.open_places a ≡ true → row_outcome (outcome_of x.history) (place x.store (v.first + a)).item.0 (object x.store (place x.store (v.first + a)).item.0) ≡ none
 waiting-items es i = (session-waits es i).items
 
 -- The same, in the words of the history: its outcome is none.
 pub waiting_outcomes : (es : List Sent) → AllSentInRange es → let x = session es in (g : ℕ) (v : AwaitedGather) → g < (header x.store).made → as_awaited (object x.store g) ≡ some v → (a : ℕ) → a < v.count
-    → bit v.open-places a ≡ true → outcome x.history (look x.store) (place x.store (v.first + a)).item.0 ≡ none
+    → bit v.open_places a ≡ true → outcome x.history (look x.store) (place x.store (v.first + a)).item.0 ≡ none
 waiting_outcomes es i g v l e a b c =
     let w = (session_follows es i).whole in
     let k = session_agrees es i in

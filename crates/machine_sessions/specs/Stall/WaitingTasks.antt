@@ -81,7 +81,7 @@ as_started_delivers s =
     record {
       sized = λ u k. k.sized;
       row = λ u o x l y k. record { sized = sized-put_object u o x k.sized; as_before = λ t e. unfold task put_object in (unfold task in (k.as_before t e)) };
-      values-put = λ u ps e k. record { sized = sized-put_places u ps e k.sized; as_before = λ t q. unfold task put_places in (unfold task in (k.as_before t q)) };
+      values_put = λ u ps e k. record { sized = sized-put_places u ps e k.sized; as_before = λ t q. unfold task put_places in (unfold task in (k.as_before t q)) };
       wakes = λ u v x l b r n k.
           record {
             sized = unfold make_ready push_ready in (sized-add_log _ (reached v) (sized-put_queue _ _ (sized-set_state u v x k.sized)));
@@ -118,7 +118,7 @@ unfolding add_object
 add_moment s r n z m u =
     let f : HeaderFits (header s) = header-fits s in
     ap (λ (h : Header). h.moment) (header_put-object (put_header s i) (header s).made r
-    ∙ header_put-header s i z (record { made-fits = omega arith; used-fits = u; calls-fit = f.calls-fit; next_fits = f.next_fits; moment_fits = f.moment_fits }))
+    ∙ header_put-header s i z (record { made_fits = omega arith; used_fits = u; calls_fit = f.calls_fit; next_fits = f.next_fits; moment_fits = f.moment_fits }))
   where
     i : Header
     i = record { made = (header s).made + 1; used = (header s).used + n; calls = (header s).calls; next = (header s).next; moment = (header s).moment }
@@ -128,14 +128,14 @@ calls_head : (s : Store) → Sized s → (header s).calls < call_limit
 unfolding set_calls
 calls_head s z c =
     let f : HeaderFits (header s) = header-fits s in
-    header_put-header s _ z (record { made-fits = f.made-fits; used-fits = f.used-fits; calls-fit = omega arith; next_fits = f.next_fits; moment_fits = f.moment_fits })
+    header_put-header s _ z (record { made_fits = f.made_fits; used_fits = f.used_fits; calls_fit = omega arith; next_fits = f.next_fits; moment_fits = f.moment_fits })
 
 module _ (s : Store) (h : SoundStore s) (st : Stands Nothing s) (k : AllStarted s) where
   z : Sized s
   z = h.memory.sized
 
   same_places : (header s).used + 0 ≤ place_limit
-  same_places = omega (arith, (header-fits s).used-fits)
+  same_places = omega (arith, (header-fits s).used_fits)
 
   settled-moment : (v : Value) → (header s).calls < call_limit → (header s).made < object_limit → (header (make_settled s v)).moment ≡ (header s).moment
   unfolding make_settled

@@ -80,7 +80,7 @@ module _ (s : Store) (r : Object) (n : ℕ) (z : Sized s) (m : (header s).made <
 
   added_fits : HeaderFits added
   unfolding added
-  added_fits = let f : HeaderFits (header s) = header-fits s in record { made-fits = omega arith; used-fits = u; calls-fit = f.calls-fit; next_fits = f.next_fits; moment_fits = f.moment_fits }
+  added_fits = let f : HeaderFits (header s) = header-fits s in record { made_fits = omega arith; used_fits = u; calls_fit = f.calls_fit; next_fits = f.next_fits; moment_fits = f.moment_fits }
 
   add-made : (header (add_object s r n)).made ≡ suc (header s).made
   unfolding add_object added
@@ -231,7 +231,7 @@ module _ {r : ℕ → Bool} {D : ℕ → Type 0} {hd : Header} (s : Store) (h : 
           → pends (settle_pending s p (f o)) d ≡ pick (eqb c d) false (pends s d)
       row o l e none q = let y = call-pending (object s o) c e in absurd_some (sym q ∙ y.1)
       row o l e (some p) q =
-          unfold settle_pending in (g o p q (omega (arith, l, (header-fits s).made-fits)) (some-injective p.call.0 c (sym (pending_has (object s o) p q) ∙ e))
+          unfold settle_pending in (g o p q (omega (arith, l, (header-fits s).made_fits)) (some-injective p.call.0 c (sym (pending_has (object s o) p q) ∙ e))
           (λ m k j. let y = call-pending (object s m) c j in h.kept.but.calls on m o k l y.0 p y.1 q (y.2 ∙ sym (some-injective p.call.0 c (sym (pending_has (object s o) p q) ∙ e)))) d)
 
       by : (o : Option ℕ) → pending_external s c ≡ o → pends (settle_found s o f) d ≡ pick (eqb c d) false (pends s d)
@@ -359,7 +359,7 @@ module _ (s : Store) (h : SoundStore s) where
   sz = h.memory.sized
 
   same_places : (header s).used + 0 ≤ place_limit
-  same_places = omega (arith, (header-fits s).used-fits)
+  same_places = omega (arith, (header-fits s).used_fits)
 
   -- K of the walk: each object has the call that it had
   abbrev K : Store → Type 0
@@ -383,7 +383,7 @@ module _ (s : Store) (h : SoundStore s) where
     unfolding set_calls one_more
     more =
         let f : HeaderFits (header s) = header-fits s in
-        header_put-header s _ sz (record { made-fits = f.made-fits; used-fits = f.used-fits; calls-fit = omega arith; next_fits = f.next_fits; moment_fits = f.moment_fits })
+        header_put-header s _ sz (record { made_fits = f.made_fits; used_fits = f.used_fits; calls_fit = omega arith; next_fits = f.next_fits; moment_fits = f.moment_fits })
 
     more-row : (o : ℕ) → object (set_calls s ((header s).calls + 1)) o ≡ object s o
     unfolding set_calls
@@ -417,7 +417,7 @@ module _ (s : Store) (h : SoundStore s) where
       spawned-ends : K (handle_task_completion s t v).store
       spawned-ends =
           unfold handle_task_completion in (completion_kept K kept _ (task s t).awaiter v (task-fits s t).awaiter_fits
-          (kept.exits (put_object s o (completed (object s o))) t (row_pended _ _ s o (completed (object s o)) (task-fits s t).coroutine-fits (completed_calls (object s o) (object-fits s o)) start)))
+          (kept.exits (put_object s o (completed (object s o))) t (row_pended _ _ s o (completed (object s o)) (task-fits s t).coroutine_fits (completed_calls (object s o) (object-fits s o)) start)))
 
   fail-k : (t : ℕ) (e : Error) → K (task_fails s t e).store
   unfolding task_fails end_main switched
@@ -438,7 +438,7 @@ module _ (s : Store) (h : SoundStore s) where
   -- ---- what an event says of calls, and what it leaves
 
   await_low : (o : ℕ) → refusal s (Event.await o) ≡ 0 → o < object_limit
-  await_low o r = omega (arith, await-made s h o (refusal-rest s (Event.await o) r), (header-fits s).made-fits)
+  await_low o r = omega (arith, await-made s h o (refusal-rest s (Event.await o) r), (header-fits s).made_fits)
 
   pub accept-pends : (e : Event) → refusal s e ≡ 0 → (c : ℕ) → pends (accept s e).store c ≡ later_pends (says e) (pends s c) c
   unfolding accept refusals answer_await make_coroutine make_pending says nothing_said later_pends is_at reply_in view answered in_both
@@ -449,7 +449,7 @@ module _ (s : Store) (h : SoundStore s) where
       let q = running-rest s _ (refusal-rest s (Event.pending d x) r) in
       let low : d < (header s).calls = leb-false (header s).calls d (or_left (leb (header s).calls d) _ (pass 4 _ _ q).0) in
       add-pends s _ 0 sz (not_full s (pass 6 (full s) [] (pass 5 _ _ (pass 4 _ _ q).1).1).0) same_places c
-      ∙ (ap (λ (y : Option ℕ). is_at y c || pends s c) (pending-made d x (omega (arith, low, (header-fits s).calls-fit))) ∙ or_elim (eqb d c) (pends s c))
+      ∙ (ap (λ (y : Option ℕ). is_at y c || pends s c) (pending-made d x (omega (arith, low, (header-fits s).calls_fit))) ∙ or_elim (eqb d c) (pends s c))
   accept-pends (Event.settled v) r c =
       let q = pass 6 (full s) _ (pass 4 _ _ (running-rest s _ (refusal-rest s (Event.settled v) r))).1 in
       settled-pends-none (has_number s (pass 7 (no_number s) [] q.1).0) v (not_full s q.0) c

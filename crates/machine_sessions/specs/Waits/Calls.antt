@@ -133,19 +133,19 @@ turn_calls x y (turns f n a b) g = gather_none f n b ∙ (unfold pending_call in
 
 pub read_back : (s : Store) (o : ℕ) (x : Object) → Sized s → o < object_limit → object (put_object s o x) o ≡ to_object (object_words x)
 unfolding object put_object object_at object_put
-read_back s o x z l = let w : length s.objects ≡ objects_length = z.objects-sized in ap to_object (row-put_at object_codec s.objects (object_start o) x (omega arith))
+read_back s o x z l = let w : length s.objects ≡ objects_length = z.objects_sized in ap to_object (row-put_at object_codec s.objects (object_start o) x (omega arith))
 
 made_moment : (s : Store) (m : Moment) → Sized s → MomentFits m → (header (set_moment s m)).made ≡ (header s).made
 unfolding set_moment
 made_moment s m z k =
     let f : HeaderFits (header s) = header-fits s in
-    ap (λ (h : Header). h.made) (header_put-header s _ z (record { made-fits = f.made-fits; used-fits = f.used-fits; calls-fit = f.calls-fit; next_fits = f.next_fits; moment_fits = k }))
+    ap (λ (h : Header). h.made) (header_put-header s _ z (record { made_fits = f.made_fits; used_fits = f.used_fits; calls_fit = f.calls_fit; next_fits = f.next_fits; moment_fits = k }))
 
 made-next : (s : Store) (n : ℕ) → Sized s → n ≤ task_limit → (header (set_next s n)).made ≡ (header s).made
 unfolding set_next
 made-next s n z k =
     let f : HeaderFits (header s) = header-fits s in
-    ap (λ (h : Header). h.made) (header_put-header s _ z (record { made-fits = f.made-fits; used-fits = f.used-fits; calls-fit = f.calls-fit; next_fits = k; moment_fits = f.moment_fits }))
+    ap (λ (h : Header). h.made) (header_put-header s _ z (record { made_fits = f.made_fits; used_fits = f.used_fits; calls_fit = f.calls_fit; next_fits = k; moment_fits = f.moment_fits }))
 
 pub moment_row : (s : Store) (m : Moment) (o : ℕ) → object (set_moment s m) o ≡ object s o
 unfolding set_moment
@@ -208,7 +208,7 @@ module _ (p : ℕ → Option ℕ) (n : ℕ) where
   pended_commits =
       record {
         row = turned;
-        value-put = λ s q v k. words s _ (sized-put_place s q _ k.sized) (unfold put_place in refl) k;
+        value_put = λ s q v k. words s _ (sized-put_place s q _ k.sized) (unfold put_place in refl) k;
         spawns = spawns-pended;
       }
 
@@ -225,7 +225,7 @@ module _ (p : ℕ → Option ℕ) (n : ℕ) where
       record {
         sized = λ s k. k.sized;
         row = turned;
-        values-put = λ s ps e k. words s _ (sized-put_places s ps e k.sized) (unfold put_places in refl) k;
+        values_put = λ s ps e k. words s _ (sized-put_places s ps e k.sized) (unfold put_places in refl) k;
         queued = λ s q k. words s _ (sized-put_queue s q k.sized) (unfold put_queue in refl) k;
         moved = moved-pended;
         wakes = λ s t x l e r k. words s (add_log (make_ready s t x) (reached t)) (woken-sized s t x k.sized) (unfold add_log make_ready push_ready put_queue set_state put_task in refl) k;

@@ -36,7 +36,7 @@ use Rattle.machine_laws.specs.MachineLaws.{accepted-step}
 use Rattle.machine_laws.specs.SoundLaws.{refusal-rest, refusal-forget}
 use Rattle.machine_laws.specs.OrderedLists.{those_ascend, those-count, those_past, ascending-same}
 use Rattle.machine_theorems.specs.Soundness.Stores.{SoundDuring, SoundStore, during_of}
-use Rattle.machine_theorems.specs.Soundness.Sessions.{forget-sound_store}
+use Rattle.machine_theorems.specs.Soundness.Sessions.{forget_sound_store}
 use Rattle.machine_theorems.specs.Soundness.ReadyTasks.{Queued, to_queued, not-queued}
 use Rattle.machine_theorems.specs.Soundness.Results.{results-keep}
 use Rattle.machine_theorems.specs.Soundness.Preserved.{results_apply}
@@ -70,7 +70,7 @@ absent-then l t v = ap (λ (n : ℕ). eqb n 0) (occurrences_append l (t ∷ []) 
 -- was blocked in s and is not now; the others are as they were.
 pub record Reached (s u : Store) : Type 0 where
   pub behind : entries u.queue ≡ entries s.queue ++ reached_in u.log
-  pub were-blocked : (t : ℕ) → 1 ≤ occurrences (reached_in u.log) t → is_blocked (task s t).state ≡ true
+  pub were_blocked : (t : ℕ) → 1 ≤ occurrences (reached_in u.log) t → is_blocked (task s t).state ≡ true
   pub still : (t : ℕ) → is_blocked (task u t).state ≡ (is_blocked (task s t).state && absent_from (reached_in u.log) t)
   pub says : (b : Bool) (t : ℕ) → blocked_by b u.log t ≡ (b && absent_from (reached_in u.log) t)
 
@@ -79,7 +79,7 @@ unfolding task
 reached_like s u w t q l k =
     record {
       behind = ap entries q ∙ (k.behind ∙ ap (λ (h : List LogEntry). entries s.queue ++ reached_in h) (sym l));
-      were-blocked = λ v o. k.were-blocked v (subst (λ (h : List LogEntry). 1 ≤ occurrences (reached_in h) v) l o);
+      were_blocked = λ v o. k.were_blocked v (subst (λ (h : List LogEntry). 1 ≤ occurrences (reached_in h) v) l o);
       still = λ v. ap (λ (x : List ℕ). is_blocked (task_at x v).state) t ∙ (k.still v ∙ ap (λ (h : List LogEntry). is_blocked (task_at s.tasks v).state && absent_from (reached_in h) v) (sym l));
       says = λ b v. ap (λ (h : List LogEntry). blocked_by b h v) l ∙ (k.says b v ∙ ap (λ (h : List LogEntry). b && absent_from (reached_in h) v) (sym l));
     }
@@ -98,8 +98,8 @@ and_swap false false c = refl
 
 module _ (s : Store) {P : ℕ → Type 0} {r : ℕ → Bool} {D : ℕ → Type 0} {hd : Header} (u : Store) (h : SoundDuring P r D hd u) (k : Reached s u) where
   module _ (w : Store) (t : ℕ) (x : TaskState) (e : WokenBy u w t x) where
-    was-blocked : is_blocked (task u t).state ≡ true
-    was-blocked = unfold task in e.was-blocked
+    was_blocked : is_blocked (task u t).state ≡ true
+    was_blocked = unfold task in e.was_blocked
 
     the-queue : Queued (header u).next (task u) (entries u.queue)
     unfolding view
@@ -107,8 +107,8 @@ module _ (s : Store) {P : ℕ → Type 0} {r : ℕ → Bool} {D : ℕ → Type 0
 
     room : u.queue.len < task_limit
     room =
-        room_for u.queue t h.kept.memory.ids h.kept.memory.words_right.queue-short (header-fits u).next_fits the-queue e.low
-        (not-queued t (blocked_unready (task u t).state was-blocked) the-queue)
+        room_for u.queue t h.kept.memory.ids h.kept.memory.words_right.queue_short (header-fits u).next_fits the-queue e.low
+        (not-queued t (blocked_unready (task u t).state was_blocked) the-queue)
 
     abbrev old : List ℕ
     old = reached_in u.log
@@ -117,7 +117,7 @@ module _ (s : Store) {P : ℕ → Type 0} {r : ℕ → Bool} {D : ℕ → Type 0
     now-reached = ap reached_in e.log ∙ (unfold reached_in in refl)
 
     in-s : is_blocked (task s t).state ≡ true
-    in-s = (and-true (is_blocked (task s t).state) (absent_from old t) (sym (k.still t) ∙ was-blocked)).0
+    in-s = (and-true (is_blocked (task s t).state) (absent_from old t) (sym (k.still t) ∙ was_blocked)).0
 
     row_now : (v : ℕ) → is_blocked (task w v).state ≡ is_blocked (task (put_task u t (restate (task u t) x)) v).state
     row_now v = unfold task put_task in (ap (λ (l : List ℕ). is_blocked (task_at l v).state) e.tasks)
@@ -135,7 +135,7 @@ module _ (s : Store) {P : ℕ → Type 0} {r : ℕ → Bool} {D : ℕ → Type 0
     blocked-then v (yes q) o = subst (λ (m : ℕ). is_blocked (task s m).state ≡ true) (sym q) in-s
     blocked-then v (no ne) o =
         let one : occurrences (t ∷ []) v ≡ 0 = unfold occurrences in (rw (ne_eqb t v (λ q. ne (sym q))) (omega arith)) in
-        k.were-blocked v (omega (arith, o, occurrences_append old (t ∷ []) v, one))
+        k.were_blocked v (omega (arith, o, occurrences_append old (t ∷ []) v, one))
 
     says-now : (b : Bool) (v : ℕ) → blocked_by b w.log v ≡ (not (eqb t v) && (b && absent_from old v))
     unfolding blocked_by
@@ -146,7 +146,7 @@ module _ (s : Store) {P : ℕ → Type 0} {r : ℕ → Bool} {D : ℕ → Type 0
         record {
           behind = ap entries e.queue ∙ (entries_push u.queue t h.kept.memory.ids room ∙ (ap (λ (l : List ℕ). l ++ (t ∷ [])) k.behind
               ∙ (append_assoc (entries s.queue) old (t ∷ []) ∙ ap (λ (l : List ℕ). entries s.queue ++ l) (sym now-reached))));
-          were-blocked = λ v o. blocked-then v (ℕ_discrete v t) (subst (λ (l : List ℕ). 1 ≤ occurrences l v) now-reached o);
+          were_blocked = λ v o. blocked-then v (ℕ_discrete v t) (subst (λ (l : List ℕ). 1 ≤ occurrences l v) now-reached o);
           still = λ v. still-now v (ℕ_discrete v t) ∙ ap (λ (b : Bool). is_blocked (task s v).state && b) (sym (ap (λ (l : List ℕ). absent_from l v) now-reached ∙ absent-then old t v));
           says = λ b v. says-now b v
               ∙ (and_swap (not (eqb t v)) b (absent_from old v) ∙ ap (λ (c : Bool). b && c) (sym (ap (λ (l : List ℕ). absent_from l v) now-reached ∙ absent-then old t v)));
@@ -189,13 +189,13 @@ module _ (s : Store) (rs : List Result) (h : SoundStore s) (e : refusal s (Event
   batch-is = ap (λ (x : Step). x.store) (accepted-step s (Event.results rs) e) ∙ (unfold accept in refl)
 
   found-sound : SoundStore found
-  found-sound = forget-sound_store s h
+  found-sound = forget_sound_store s h
 
   nothing_yet : Reached found found
   unfolding forget reached_in occurrences blocked_by
   nothing_yet = record {
     behind = sym (append-nil (entries s.queue));
-    were-blocked = λ t o. absurd (not-suc-le-zero {n = 0} (omega (arith, o)));
+    were_blocked = λ t o. absurd (not-suc-le-zero {n = 0} (omega (arith, o)));
     still = λ t. and_unit _;
     says = λ b t. and_unit b;
   }
@@ -245,9 +245,9 @@ module _ (s : Store) (rs : List Result) (h : SoundStore s) (e : refusal s (Event
   queue-ordered : Ordered left.queue after_batch.queue s.queue.len
   unfolding wake_in_order put_queue forget
   queue-ordered =
-      let many : length (entries s.queue) ≡ s.queue.len = length-entries s.queue h.memory.ids h.memory.words_right.queue-short in
+      let many : length (entries s.queue) ≡ s.queue.len = length-entries s.queue h.memory.ids h.memory.words_right.queue_short in
       let ids : length left.queue.ids ≡ task_limit = left-during.kept.memory.ids in
-      let short : left.queue.len ≤ task_limit = left-during.kept.memory.words_right.queue-short in
+      let short : left.queue.len ≤ task_limit = left-during.kept.memory.words_right.queue_short in
       let long : s.queue.len ≤ left.queue.len = omega (arith, length-entries left.queue ids short, ap length left-reached.behind, length-append (entries s.queue) woken, many) in
       subst (λ (u : Store). Ordered left.queue u.queue s.queue.len) (sym batch-is) (order_entries left.queue s.queue.len ids short long)
 
@@ -255,7 +255,7 @@ module _ (s : Store) (rs : List Result) (h : SoundStore s) (e : refusal s (Event
   queue_after : entries after_batch.queue ≡ entries s.queue ++ behind_them
   unfolding forget
   queue_after =
-      let many : length (entries s.queue) ≡ s.queue.len = length-entries s.queue h.memory.ids h.memory.words_right.queue-short in
+      let many : length (entries s.queue) ≡ s.queue.len = length-entries s.queue h.memory.ids h.memory.words_right.queue_short in
       sym (take-append-drop s.queue.len (entries after_batch.queue))
       ∙ ap (λ (l : List ℕ). l ++ behind_them) (queue-ordered.front ∙ (ap (take s.queue.len) left-reached.behind ∙ take_at (entries s.queue) woken s.queue.len many))
 
@@ -285,7 +285,7 @@ module _ (s : Store) (rs : List Result) (h : SoundStore s) (e : refusal s (Event
 
   -- Of every sound store, lent ones too: the queue after an accepted batch is the queue before and the tasks that were blocked and are not, ascending.
   pub wakes_ascend : entries after_batch.queue ≡ entries s.queue ++ those (λ t. is_blocked (task s t).state && not (is_blocked (task after_batch t).state))
-  wakes_ascend = queue_by _ (λ t. ap (λ (b : Bool). is_blocked (task s t).state && not b) (now-blocked t) ∙ woken-is (is_blocked (task s t).state) t (λ o. was t ∙ left-reached.were-blocked t o))
+  wakes_ascend = queue_by _ (λ t. ap (λ (b : Bool). is_blocked (task s t).state && not b) (now-blocked t) ∙ woken-is (is_blocked (task s t).state) t (λ o. was t ∙ left-reached.were_blocked t o))
     where
       was : (t : ℕ) → is_blocked (task s t).state ≡ is_blocked (task found t).state
       was t = unfold task forget in refl

@@ -44,7 +44,7 @@ module _ (x : Session) (f : Following x) (rs : List Result) (l : List ℕ) where
     blocked-before : (t : ℕ) → 1 ≤ occurrences (woken s rs f.whole r) t → stays_blocked x.history t ≡ true
     unfolding forget blocked_by
     blocked-before t o =
-        let b : is_blocked (task (forget s) t).state ≡ true = (left-reached s rs f.whole r).were-blocked t o in
+        let b : is_blocked (task (forget s) t).state ≡ true = (left-reached s rs f.whole r).were_blocked t o in
         f.tracked.stuck t (live-is (forget s) t (woken_low s rs f.whole r t o) (blocked-live (task (forget s) t).state b)) ∙ b
 
     in-order-after : entries (send x sent).store.queue ≡ entries s.queue ++ those (was_woken x.history (send x sent).history)

@@ -27,7 +27,7 @@ settle_all s g n = by (as_awaited (object s g))
   where
     by : (w : Option AwaitedGather) → SettledOf n n (settle_as s g w).poll
     by none = refl
-    by (some w) = pick_has (λ (r : Polled). SettledOf n n r.poll) (eqb w.open-places 0) refl refl
+    by (some w) = pick_has (λ (r : Polled). SettledOf n n r.poll) (eqb w.open_places 0) refl refl
 
 -- In a loop with j gathers opened and k settled, each frame is of a gather opened and not settled.
 turn_settles : (loop : Store → Frame → List Frame → ℕ → ℕ → ℕ → Committed)

@@ -32,7 +32,7 @@ use Rattle.machine_theorems.specs.Bounds.Counts.{removals_in, Walks, walks_here,
 pub record WalkInvariant (w : Walk) : Type 0 where
   pub sized : Sized w.store
   pub marked : length w.marks ≡ object_limit
-  pub tasks-of-fit : (o t : ℕ) → w.tasks-of o ≡ some t → t < task_limit
+  pub tasks_of_fit : (o t : ℕ) → w.tasks_of o ≡ some t → t < task_limit
 
 -- what was reached since w stands on the stack, and each task that went since w lived
 pub record WalkKept (w x : Walk) : Type 0 where
@@ -71,7 +71,7 @@ reach-walk-kept w g f l = by (is_some (as_awaited (object w.store g))) (get_or w
     by : (a b : Bool) → is_some (as_awaited (object w.store g)) ≡ a → get_or w.marks g false ≡ b → WalkKept w (reach_if w g (a && not b))
     by true true p e = unfold reach_if in walk_kept_here w f
     by true false p e = record {
-      invariant = unfold reach_if in record { sized = f.sized; marked = length-set w.marks g true ∙ f.marked; tasks-of-fit = f.tasks-of-fit };
+      invariant = unfold reach_if in record { sized = f.sized; marked = length-set w.marks g true ∙ f.marked; tasks_of_fit = f.tasks_of_fit };
       gathers = let fall : unreached w ≡ suc (unreached (reach_if w g true)) = reach-falls w g f.marked l p e in
           let stack : length (reach_if w g true).stack ≡ suc (length w.stack) = unfold reach_if in refl in
           omega arith;
@@ -82,7 +82,7 @@ reach-walk-kept w g f l = by (is_some (as_awaited (object w.store g))) (get_or w
 -- ---- a task goes
 
 abbrev without : Walk → ℕ → Walk
-without w t = record { store = cancel_one w.store t; tasks-of = w.tasks-of; marks = w.marks; stack = w.stack }
+without w t = record { store = cancel_one w.store t; tasks_of = w.tasks_of; marks = w.marks; stack = w.stack }
 
 sized-cancel_one : (s : Store) (t : ℕ) → Sized s → Sized (cancel_one s t)
 unfolding cancel_one remove_task remove_from_ready_queue
@@ -96,7 +96,7 @@ task-walk-kept w t f l e =
     let more : removals_in (cancel_one s t).log ≡ suc (removals_in s.log) = unfold removals_in cancel_one add_log remove_task remove_from_ready_queue put_queue put_task in refl in
     let same : unreached (without w t) ≡ unreached w = unfold unreached cancel_one add_log remove_task remove_from_ready_queue put_queue put_task in refl in
     record {
-      invariant = record { sized = sized-cancel_one s t f.sized; marked = f.marked; tasks-of-fit = f.tasks-of-fit };
+      invariant = record { sized = sized-cancel_one s t f.sized; marked = f.marked; tasks_of_fit = f.tasks_of_fit };
       gathers = ap (λ (n : ℕ). n + length w.stack) same;
       tasks = omega arith;
     }
@@ -138,17 +138,17 @@ visit_by-walk-kept w o (some t) f l h = blocked-walk-kept w t f (h t refl).0 (h 
 visit-walk-kept : (w : Walk) (o : ℕ) → WalkInvariant w → o < object_limit → WalkKept w (visit w o)
 unfolding visit
 visit-walk-kept w o f l =
-    visit_by-walk-kept w o (still_live w.store.tasks (w.tasks-of o)) f l (λ t e. let k = still_of w.store (w.tasks-of o) t e in (f.tasks-of-fit o t k.same, k.alive))
+    visit_by-walk-kept w o (still_live w.store.tasks (w.tasks_of o)) f l (λ t e. let k = still_of w.store (w.tasks_of o) t e in (f.tasks_of_fit o t k.same, k.alive))
 
-place-walk-kept : (w : Walk) (p i open-places : ℕ) → WalkInvariant w → WalkKept w (visit_place w p i open-places)
+place-walk-kept : (w : Walk) (p i open_places : ℕ) → WalkInvariant w → WalkKept w (visit_place w p i open_places)
 unfolding visit_place
-place-walk-kept w p i n f = pick_has (WalkKept w) (bit n i) (visit-walk-kept w (place w.store p).item.0 f (place-fits w.store p).item-fits) (walk_kept_here w f)
+place-walk-kept w p i n f = pick_has (WalkKept w) (bit n i) (visit-walk-kept w (place w.store p).item.0 f (place-fits w.store p).item_fits) (walk_kept_here w f)
 
 open_walk_kept : (k : ℕ) (w : Walk) (a : AwaitedGather) (i : ℕ) → WalkInvariant w → WalkKept w (visit_open w a i k)
 unfolding visit_open
 open_walk_kept zero w a i f = walk_kept_here w f
 open_walk_kept (suc k) w a i f =
-    let x = place-walk-kept w (a.first + i) i a.open-places f in
+    let x = place-walk-kept w (a.first + i) i a.open_places f in
     walk-kept-then x (open_walk_kept k _ a (i + 1) x.invariant)
 
 gather-walk-kept : (w : Walk) (a : Option AwaitedGather) → WalkInvariant w → WalkKept w (walk_gather w a)
@@ -167,8 +167,8 @@ pub record Turned (w : Walk) (n : ℕ) (x : Walk) : Type 0 where
 pub walks_turned : (w : Walk) (n : ℕ) (x : Walk) → WalkInvariant w → Walks w n x → Turned w n x
 walks_turned w₀ n₀ x₀ f (walks_here w) = record { invariant = f; gathers = omega arith; tasks = refl }
 walks_turned w₀ n₀ x₀ f (walks_on w g gs n x e p) =
-    let v : Walk = record { store = w.store; tasks-of = w.tasks-of; marks = w.marks; stack = gs } in
-    let k = gather-walk-kept v (as_awaited (object w.store g)) (record { sized = f.sized; marked = f.marked; tasks-of-fit = f.tasks-of-fit }) in
+    let v : Walk = record { store = w.store; tasks_of = w.tasks_of; marks = w.marks; stack = gs } in
+    let k = gather-walk-kept v (as_awaited (object w.store g)) (record { sized = f.sized; marked = f.marked; tasks_of_fit = f.tasks_of_fit }) in
     let r = walks_turned (walk_gather v (as_awaited (object w.store g))) n x k.invariant p in
     let same : unreached v ≡ unreached w = unfold unreached in refl in
     let stack : length w.stack ≡ suc (length gs) = ap length e in
@@ -178,8 +178,8 @@ walks_turned w₀ n₀ x₀ f (walks_on w g gs n x e p) =
 walks_rest : (w : Walk) (n : ℕ) (x : Walk) → WalkInvariant w → Walks w n x → walk_rest w ≡ walk_rest x
 walks_rest w₀ n₀ x₀ f (walks_here w) = refl
 walks_rest w₀ n₀ x₀ f (walks_on w g gs n x e p) =
-    let v : Walk = record { store = w.store; tasks-of = w.tasks-of; marks = w.marks; stack = gs } in
-    let k = gather-walk-kept v (as_awaited (object w.store g)) (record { sized = f.sized; marked = f.marked; tasks-of-fit = f.tasks-of-fit }) in
+    let v : Walk = record { store = w.store; tasks_of = w.tasks_of; marks = w.marks; stack = gs } in
+    let k = gather-walk-kept v (as_awaited (object w.store g)) (record { sized = f.sized; marked = f.marked; tasks_of_fit = f.tasks_of_fit }) in
     let here : walk_next walk_rest w (g ∷ gs) ≡ walk_rest (walk_gather v (as_awaited (object w.store g))) = unfold walk_next in refl in
     walk_once w f.marked ∙ ap (walk_next walk_rest w) e ∙ here ∙ walks_rest (walk_gather v (as_awaited (object w.store g))) n x k.invariant p
 
@@ -205,7 +205,7 @@ start-unreached s =
 
 start_invariant : (s : Store) → Sized s → WalkInvariant (walk_from s)
 unfolding walk_from
-start_invariant s z = record { sized = z; marked = length-replicate {A = Bool} object_limit false; tasks-of-fit = task_of-below s }
+start_invariant s z = record { sized = z; marked = length-replicate {A = Bool} object_limit false; tasks_of_fit = task_of-below s }
 
 -- The walk of a cancel of the live task t, as it stands when t has gone.
 module _ (s : Store) (t : ℕ) (z : Sized s) (l : t < task_limit) (e : is_live (task s t).state ≡ true) where
@@ -263,8 +263,8 @@ walk_ends (suc k) w f p = by w.stack refl (λ x g q. walk_ends k x g q)
     by : (gs : List ℕ) → w.stack ≡ gs → ((x : Walk) → WalkInvariant x → unreached x + length x.stack ≤ k → Ends x) → Ends w
     by [] e h = record { turns = 0; last = w; walks = walks_here w; empty = e }
     by (g ∷ gs) e h =
-        let v : Walk = record { store = w.store; tasks-of = w.tasks-of; marks = w.marks; stack = gs } in
-        let r = gather-walk-kept v (as_awaited (object w.store g)) (record { sized = f.sized; marked = f.marked; tasks-of-fit = f.tasks-of-fit }) in
+        let v : Walk = record { store = w.store; tasks_of = w.tasks_of; marks = w.marks; stack = gs } in
+        let r = gather-walk-kept v (as_awaited (object w.store g)) (record { sized = f.sized; marked = f.marked; tasks_of_fit = f.tasks_of_fit }) in
         let same : unreached v ≡ unreached w = unfold unreached in refl in
         let stack : length w.stack ≡ suc (length gs) = ap length e in
         let x = h (walk_gather v (as_awaited (object w.store g))) r.invariant (omega (arith, r.gathers, same, stack, p)) in

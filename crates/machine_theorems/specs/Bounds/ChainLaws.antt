@@ -98,7 +98,7 @@ yield_spent s = record { spent = refl }
 
 state_live : (s : Store) (t : ℕ) (x : TaskState) → Sized s → t < task_limit → is_live x ≡ true → is_live (task s t).state ≡ true → SameLive s (set_state s t x)
 unfolding set_state restate put_task header
-state_live s t x z l e q = record { sized = sized-set_state s t x z; same-header = refl; lives = λ u. by u (ℕ_discrete u t) }
+state_live s t x z l e q = record { sized = sized-set_state s t x z; same_header = refl; lives = λ u. by u (ℕ_discrete u t) }
   where
     r : Task
     r = record { state = x; awaiter = (task s t).awaiter; coroutine = (task s t).coroutine }

@@ -75,7 +75,7 @@ removals_in (removed t ∷ hs) = suc (removals_in hs)
 pub data Walks : Walk → ℕ → Walk → Type 0 where
   walks_here : (w : Walk) → Walks w 0 w
   walks_on : (w : Walk) (g : ℕ) (gs : List ℕ) (n : ℕ) (x : Walk) → w.stack ≡ g ∷ gs
-      → Walks (walk_gather (record { store = w.store; tasks-of = w.tasks-of; marks = w.marks; stack = gs }) (as_awaited (object w.store g))) n x → Walks w (suc n) x
+      → Walks (walk_gather (record { store = w.store; tasks_of = w.tasks_of; marks = w.marks; stack = gs }) (as_awaited (object w.store g))) n x → Walks w (suc n) x
 
 -- how many awaited gathers a walk has not reached yet
 unfoldable pub unreached : Walk → ℕ

@@ -83,7 +83,7 @@ next_agrees : (go come : Walk → Store) (k : ℕ) (w : Walk) (gs : List ℕ) �
 unfolding walk_next
 next_agrees go come k w [] m p h = refl
 next_agrees go come k w (g ∷ gs) m p h =
-    let v : Walk = record { store = w.store; tasks-of = w.tasks-of; marks = w.marks; stack = gs } in
+    let v : Walk = record { store = w.store; tasks_of = w.tasks_of; marks = w.marks; stack = gs } in
     let r : CountsKept v (walk_gather v (as_awaited (object w.store g))) = gather_counts_kept v m (as_awaited (object w.store g)) in
     h (walk_gather v (as_awaited (object w.store g))) r.marked (omega (arith, r.pays))
 

@@ -184,7 +184,7 @@ module _ (go : Store → ℕ → Switched) (h : (s : Store) (t : ℕ) → Sized 
   unfolding activate_state start_task
   state-pending s t TaskState.Absent z = yield-pending s
   state-pending s t TaskState.Unstarted z =
-      start-pending s t (task s t).coroutine.0 (new_function (object s (task s t).coroutine.0)) refl z (task-fits s t).coroutine-fits
+      start-pending s t (task s t).coroutine.0 (new_function (object s (task s t).coroutine.0)) refl z (task-fits s t).coroutine_fits
   state-pending s t TaskState.Running z = yield-pending s
   state-pending s t (TaskState.Woken v) z = run-pending s t (value v)
   state-pending s t (TaskState.Raised x) z = run-pending s t (raises x)

@@ -95,7 +95,7 @@ unfolding view
 front_activated s h ne = by (entries s.queue) refl
   where
     len : s.queue.len ≤ task_limit
-    len = h.memory.words_right.queue-short
+    len = h.memory.words_right.queue_short
 
     by : (us : List ℕ) → entries s.queue ≡ us → ((front_of s.queue).0 < (header s).next) × Activated (task s (front_of s.queue).0).state
     by [] e = absurd (eqb-false s.queue.len 0 ne (sym (length-entries s.queue h.memory.ids len) ∙ ap length e))
@@ -182,19 +182,19 @@ module _ {k : ℕ} {P Q : ℕ → Type 0} {v : View} (h : SoundBut k P Q v) wher
       eqb→eq f _ (both_left (eqb f _) _ (subst (λ (y : Object). T (object_in_range v.header (places_below v.objects g) y)) e (h.objects g l))) in
       let mine : count_of (v.objects g) ≡ n = ap count_of e ∙ (unfold count_of in refl) in
       let more : sum_below (g + 1) (λ o. count_of (v.objects o)) ≤ sum_below v.header.made (λ o. count_of (v.objects o)) = sum_more _ (g + 1) v.header.made (omega arith) in
-      let all : v.header.used ≡ sum_below v.header.made (λ o. count_of (v.objects o)) = h.all-used in
+      let all : v.header.used ≡ sum_below v.header.made (λ o. count_of (v.objects o)) = h.all_used in
       omega (arith, sum_last (λ o. count_of (v.objects o)) g)
 
   -- ---- results
 
   -- async_exec.rs:308, 1127: the places of an awaited gather that are not open are filled
   pub closed_filled : (g : ℕ) (w : AwaitedGather) → g < v.header.made → (Q g → ⊥) → as_awaited (v.objects g) ≡ some w
-      → (i : ℕ) → i < w.count → bit w.open-places i ≡ false → T (is_filled (v.places (w.first + i)).result)
+      → (i : ℕ) → i < w.count → bit w.open_places i ≡ false → T (is_filled (v.places (w.first + i)).result)
   unfolding object_filled gather_filled rest_filled
   closed_filled g w l n e i m c =
-      or_use (bit w.open-places i) _ c
-      (below w.count (λ j. bit w.open-places j || is_filled (v.places (w.first + j)).result)
-      (both_right (not (eqb w.open-places 0)) _ (subst (λ (y : Object). T (object_filled v.places y)) (awaited-object (v.objects g) w e) (h.filled g l n))) i m)
+      or_use (bit w.open_places i) _ c
+      (below w.count (λ j. bit w.open_places j || is_filled (v.places (w.first + j)).result)
+      (both_right (not (eqb w.open_places 0)) _ (subst (λ (y : Object). T (object_filled v.places y)) (awaited-object (v.objects g) w e) (h.filled g l n))) i m)
 
 -- where no place is open, every place is filled
 all_of_rest : (ps : ℕ → Place) (f n m : ℕ) → m ≡ 0 → T (rest_filled ps f n m) → (i : ℕ) → i < n → T (is_filled (ps (f + i)).result)
@@ -209,23 +209,23 @@ completed-filled {v = v} h g f n l c e =
     all_of_rest v.places f n 0 refl (subst (λ (y : Object). T (object_filled v.places y)) e (h.filled g l c))
 
 -- async_exec.rs:308: a gather whose items are all stepped, with none open, has all its places filled
-pub committed-filled : {root t e : ℕ} {Q : ℕ → Type 0} {v : View} {g i : ℕ} {fs : List Frame} (h : Inv root t e Q v g i fs) → i ≡ h.w.count → h.w.open-places ≡ 0
+pub committed-filled : {root t e : ℕ} {Q : ℕ → Type 0} {v : View} {g i : ℕ} {fs : List Frame} (h : Inv root t e Q v g i fs) → i ≡ h.w.count → h.w.open_places ≡ 0
     → (j : ℕ) → j < h.w.count → T (is_filled (v.places (h.w.first + j)).result)
 committed-filled {v = v} {g = g} {i = i} h e z =
-    all_of_rest v.places h.w.first h.w.count h.w.open-places z (rest-done v.places v.header.made v.objects g i h.w e h.opened)
+    all_of_rest v.places h.w.first h.w.count h.w.open_places z (rest-done v.places v.header.made v.objects g i h.w e h.opened)
 
 -- async_exec.rs:1127: a gather that a value leaves with no place open has all its places filled
 pub delivered-filled : {r : ℕ → Bool} {D : ℕ → Type 0} {hd : Header} (s : Store) (g x : ℕ) (v : Value) (w : AwaitedGather) → SoundDuring Nothing r D hd s → g < (header s).made
     → as_awaited (object s g) ≡ some w → T (value_known (header s).made (object s) v)
-    → (fill_from s.places w.open-places w.first x v 0 w.count).open-places ≡ 0
-    → (i : ℕ) → i < w.count → T (is_filled (place_at (fill_from s.places w.open-places w.first x v 0 w.count).places (w.first + i)).result)
+    → (fill_from s.places w.open_places w.first x v 0 w.count).open_places ≡ 0
+    → (i : ℕ) → i < w.count → T (is_filled (place_at (fill_from s.places w.open_places w.first x v 0 w.count).places (w.first + i)).result)
 delivered-filled s g x v w h l e k z = all_of_rest _ w.first w.count _ z (all_filled s g x v w h l e k).rest
 
 -- ---- the gathers of a commit
 
 -- async_exec.rs:202, 225, 301: the frame on top is of an awaited gather
 pub top_gather : {root t e : ℕ} {Q : ℕ → Type 0} {v : View} {g i : ℕ} {fs : List Frame} (h : Inv root t e Q v g i fs)
-    → v.objects g ≡ Object.GatherFuture h.w.first h.w.count (GatherState.Awaited h.w.awaiter h.w.open-places)
+    → v.objects g ≡ Object.GatherFuture h.w.first h.w.count (GatherState.Awaited h.w.awaiter h.w.open_places)
 top_gather {v = v} {g = g} h = awaited-object (v.objects g) h.w h.opened.awaited
 
 -- async_exec.rs:202, 225, 301, 334: and so is every frame below it
@@ -280,12 +280,12 @@ module _ {k : ℕ} {P Q : ℕ → Type 0} {v : View} (h : SoundBut k P Q v) wher
   -- async_exec.rs:763, 784, 1074, 1084: of the slot of a pending external or an awaited gather
   pub object_slotted : (o : ℕ) → o < v.header.made → (Q o → ⊥) → (g x : ℕ) → awaiter_of (v.objects o) ≡ Awaiter.GatherSlot (heap_id g) (heap_id x)
       → Slotted v.header.made v.objects v.places o g x
-  object_slotted = h.object-slots
+  object_slotted = h.object_slots
 
   -- and of a live task
   pub task_slotted : (t : ℕ) → t < v.header.next → T (is_live (v.tasks t).state) → (g x : ℕ) → (v.tasks t).awaiter ≡ Awaiter.GatherSlot (heap_id g) (heap_id x)
       → Slotted v.header.made v.objects v.places (v.tasks t).coroutine.0 g x
-  task_slotted = h.task-slots
+  task_slotted = h.task_slots
 
 -- and of what is on its way up the gathers, when its object has it no more
 pub detached_slotted : {v : View} {o : ℕ} {a : Awaiter} → Detached v o a → (g x : ℕ) → a ≡ Awaiter.GatherSlot (heap_id g) (heap_id x)
@@ -308,7 +308,7 @@ pub record PendingOf (s : Store) (call o : ℕ) : Type 0 where
   pub made : o < (header s).made
   pub external : PendingExternal
   pub is : as_pending (object s o) ≡ some external
-  pub of-call : external.call.0 ≡ call
+  pub of_call : external.call.0 ≡ call
 
 pending_of : (s : Store) (call o : ℕ) (x : Object) → object s o ≡ x → o < (header s).made → pick (is_pending_external (kind x)) (eqb (call_of x).0 call) false ≡ true
     → PendingOf s call o
@@ -318,7 +318,7 @@ pending_of s call o (Object.Coroutine f CoroutineState.New) q l e = absurd (subs
 pending_of s call o (Object.Coroutine f CoroutineState.Running) q l e = absurd (subst T (sym e) tt)
 pending_of s call o (Object.Coroutine f CoroutineState.Completed) q l e = absurd (subst T (sym e) tt)
 pending_of s call o (Object.ExternalFuture c (ExternalFutureState.Pending a r)) q l e =
-    record { made = l; external = record { call = c; awaiter = a; stored = r }; is = ap as_pending q; of-call = eqb-true c.0 call e }
+    record { made = l; external = record { call = c; awaiter = a; stored = r }; is = ap as_pending q; of_call = eqb-true c.0 call e }
 pending_of s call o (Object.ExternalFuture c (ExternalFutureState.Resolved v)) q l e = absurd (subst T (sym e) tt)
 pending_of s call o (Object.ExternalFuture c (ExternalFutureState.Failed x)) q l e = absurd (subst T (sym e) tt)
 pending_of s call o (Object.GatherFuture f n GatherState.Pending) q l e = absurd (subst T (sym e) tt)
@@ -336,7 +336,7 @@ found-pending s call o e =
 pub found-alone : {k : ℕ} {P Q : ℕ → Type 0} (s : Store) → SoundBut k P Q (view s) → is_ended (header s).moment ≡ false → (call o p : ℕ)
     → PendingOf s call o → PendingOf s call p → o ≡ p
 unfolding view
-found-alone s h n call o p a b = h.calls n o p a.made b.made a.external b.external a.is b.is (a.of-call ∙ sym b.of-call)
+found-alone s h n call o p a b = h.calls n o p a.made b.made a.external b.external a.is b.is (a.of_call ∙ sym b.of_call)
 
 -- scheduler.rs:217: an external is made pending only for a call that is not (refusal 6)
 pub registered_once : (s : Store) (call : ℕ) (r : OptionValue) → refusal s (Event.pending call r) ≡ 0 → pending_external s call ≡ none
@@ -368,8 +368,8 @@ unfolding places_below
 number-left {v = v} h =
     let less : sum_below v.header.made (λ o. committed_places (v.objects o)) ≤ sum_below v.header.made (λ o. count_of (v.objects o)) =
     sum_less v.header.made _ _ (λ o. committed_less (v.objects o)) in
-    let all : v.header.used ≡ sum_below v.header.made (λ o. count_of (v.objects o)) = h.all-used in
-    omega (arith, h.spawned, h.fits.used-fits)
+    let all : v.header.used ≡ sum_below v.header.made (λ o. count_of (v.objects o)) = h.all_used in
+    omega (arith, h.spawned, h.fits.used_fits)
 
 -- in the midst of a commit: the test of the limit, before a task is spawned for the next item, never fails
 pub spawn-left : {root t g i : ℕ} {Q : ℕ → Type 0} {fs : List Frame} (s : Store) (h : Inv root t 0 Q (view s) g i fs) → i < h.w.count → (header s).next < task_limit

@@ -52,7 +52,7 @@ parent_resumable {g = g} r h = resumable (stacked_object g r (le_refl _) h)
 pub record Registered (s : Store) (w : AwaitedGather) (x : ℕ) (v : Value) : Type 0 where
   pub at : ℕ
   pub under : at < w.count
-  pub fills : Fills s.places w.open-places w.first at v (fill_from s.places w.open-places w.first x v 0 w.count)
+  pub fills : Fills s.places w.open_places w.first at v (fill_from s.places w.open_places w.first x v 0 w.count)
 
 -- async_exec.rs:1084: the value of a slot's source fills a place of its gather, if that is still awaited
 pub slot_fills : {k : ℕ} {P Q : ℕ → Type 0} (s : Store) (o g x : ℕ) (v : Value) (w : AwaitedGather) → Kept k P Q s → ValueFits v
@@ -61,10 +61,10 @@ unfolding view place
 slot_fills s o g x v w h f sl e =
     let op : Open (place s) w x = slot_registered sl w e in
     let room : w.first + w.count ≤ (header s).used = gather_within g w h.but sl.made e in
-    let named : hit s.places w.open-places w.first x op.at ≡ true = rw (op.is_open, eq-eqb _ x op.names) in
+    let named : hit s.places w.open_places w.first x op.at ≡ true = rw (op.is_open, eq-eqb _ x op.names) in
     record {
       at = op.at;
       under = op.under;
-      fills = fill_fills w.count s.places w.open-places w.first x v 0 op.at h.memory.sized.places-sized (omega (arith, room, h.but.fits.used-fits)) f (omega arith)
+      fills = fill_fills w.count s.places w.open_places w.first x v 0 op.at h.memory.sized.places_sized (omega (arith, room, h.but.fits.used_fits)) f (omega arith)
           (omega (arith, op.under)) named;
     }

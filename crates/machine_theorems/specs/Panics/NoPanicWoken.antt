@@ -67,13 +67,13 @@ resolve_tasks : (s : Store) (g source : ℕ) (v : Value) (t : ℕ) → task (res
 unfolding resolve_child resolve_awaited
 resolve_tasks s g source v t = by (as_awaited (object s g))
   where
-    left : (b : Bool) (w : AwaitedGather) (m : ℕ) → task (resolve_left b (put_places s (fill_from s.places w.open-places w.first source v 0 w.count).places) g w m).store t ≡ task s t
+    left : (b : Bool) (w : AwaitedGather) (m : ℕ) → task (resolve_left b (put_places s (fill_from s.places w.open_places w.first source v 0 w.count).places) g w m).store t ≡ task s t
     left true w m = unfold resolve_left task put_object put_places in refl
     left false w m = unfold resolve_left task put_object put_places in refl
 
     by : (w : Option AwaitedGather) → task (resolve_awaited s g source v w).store t ≡ task s t
     by none = refl
-    by (some w) = left (eqb (fill_from s.places w.open-places w.first source v 0 w.count).open-places 0) w _
+    by (some w) = left (eqb (fill_from s.places w.open_places w.first source v 0 w.count).open_places 0) w _
 
 fail-tasks : (s : Store) (g : ℕ) (e : Error) (t : ℕ) → task (fail_gather s g e).store t ≡ task s t
 unfolding fail_gather fail_awaited

@@ -93,7 +93,7 @@ module _ (panic : Panics) where
   unfoldable pub settle_as_or_panic : Store → ℕ → Option AwaitedGather → Polled
   settle_as_or_panic s g none = panic.polled s
   settle_as_or_panic s g (some w) =
-      pick (eqb w.open-places 0)
+      pick (eqb w.open_places 0)
       (pick (rest_filled (place s) w.first w.count 0)
       (gives (set_or_panic s g GatherState.Completed (object s g)) (ready (Value.List (heap_id g))))
       (panic.polled s))

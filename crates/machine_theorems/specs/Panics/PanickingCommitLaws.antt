@@ -108,7 +108,7 @@ module _ (panic : Panics) where
   unfolding step_gather_commit view
   frame_same root t s f fs h =
       let w : AwaitedGather = h.inv.w in
-      let is_one : object s f.gather ≡ Object.GatherFuture w.first w.count (GatherState.Awaited w.awaiter w.open-places) = top_gather h.inv in
+      let is_one : object s f.gather ≡ Object.GatherFuture w.first w.count (GatherState.Awaited w.awaiter w.open_places) = top_gather h.inv in
       subst (λ (x : Object). frame_or_panic panic s f x ≡ step_items (count_of x - f.next) s f.gather f.next) (sym is_one)
       (unfold frame_or_panic count_of in (items-same (h.inv.w.count - f.next) root t f.gather f.next fs s h.memory h.inv (omega (arith, h.inv.opened.under))))
 
@@ -124,7 +124,7 @@ module _ (panic : Panics) where
   open_same s g f n a e = set_same s g f n GatherState.Pending (GatherState.Awaited a 0) e
 
   awaited-set-same : (s : Store) (g : ℕ) (w : AwaitedGather) (y : GatherState) → as_awaited (object s g) ≡ some w → set_or_panic panic s g y (object s g) ≡ set_gather s g y
-  awaited-set-same s g w y e = set_same s g w.first w.count (GatherState.Awaited w.awaiter w.open-places) y (awaited-object (object s g) w e)
+  awaited-set-same s g w y e = set_same s g w.first w.count (GatherState.Awaited w.awaiter w.open_places) y (awaited-object (object s g) w e)
 
   unwind-same : (fs : List Frame) (s : Store) (root t j g i : ℕ) (w : AwaitedGather) (e : Error) → ErrorFits e → Memory s → g < (header s).made → as_awaited (object s g) ≡ some w
       → Stacked (header s).made (object s) (place s) root t g w.awaiter fs j
@@ -155,20 +155,20 @@ module _ (panic : Panics) where
       w : AwaitedGather
       w = h.w
 
-      rest : T (rest_filled (place s) w.first w.count w.open-places)
+      rest : T (rest_filled (place s) w.first w.count w.open_places)
       rest = rest-done (place s) (header s).made (object s) g i w end h.opened
 
-      done : (b : Bool) → eqb w.open-places 0 ≡ b
+      done : (b : Bool) → eqb w.open_places 0 ≡ b
           → pick b (pick (rest_filled (place s) w.first w.count 0) (gives (set_or_panic panic s g GatherState.Completed (object s g)) (ready (Value.List (heap_id g)))) (panic.polled s)) (gives s pending)
           ≡ pick b (gives (set_gather s g GatherState.Completed) (ready (Value.List (heap_id g)))) (gives s pending)
       done true q =
           let full : rest_filled (place s) w.first w.count 0 ≡ true =
-          is_true _ (subst (λ (m : ℕ). T (rest_filled (place s) w.first w.count m)) (eqb-true w.open-places 0 q) rest) in
+          is_true _ (subst (λ (m : ℕ). T (rest_filled (place s) w.first w.count m)) (eqb-true w.open_places 0 q) rest) in
           rw full (ap (λ (x : Store). gives x (ready (Value.List (heap_id g)))) (awaited-set-same s g w GatherState.Completed h.opened.awaited))
       done false q = refl
 
       by : (u : Option AwaitedGather) → u ≡ some w → settle_as_or_panic panic s g u ≡ settle_as s g u
-      by u q = rw q (unfold settle_as_or_panic settle_as in (done (eqb w.open-places 0) refl))
+      by u q = rw q (unfold settle_as_or_panic settle_as in (done (eqb w.open_places 0) refl))
 
   -- the frame below it resumes
   settled-resumable : (root t : ℕ) (s : Store) (g i : ℕ) (p : Frame) (ps : List Frame) → Memory s → Inv root t 0 (OnTop g (p ∷ ps)) (view s) g i (p ∷ ps)
@@ -184,7 +184,7 @@ module _ (panic : Panics) where
       done false = resumable h.stack
 
       by : (u : Option AwaitedGather) → u ≡ some w → Resumable (object (settle_as s g u).store) p
-      by u q = rw q (unfold settle_as in (done (eqb w.open-places 0)))
+      by u q = rw q (unfold settle_as in (done (eqb w.open_places 0)))
 
   resume-same : (f : Frame) (r : Polled) → Resumable (object r.store) f → resume_child_or_panic panic f r ≡ resume_after_child f r
   unfolding resume_child_or_panic resume_after_child
@@ -206,7 +206,7 @@ module _ (panic : Panics) where
   -- the gather of a frame
   top-low : (root t g i : ℕ) (fs : List Frame) (s : Store) → Commits root t g i fs s → g < object_limit
   unfolding view
-  top-low root t g i fs s h = omega (arith, h.inv.opened.made, (header-fits s).made-fits)
+  top-low root t g i fs s h = omega (arith, h.inv.opened.made, (header-fits s).made_fits)
 
   error_same : (root t : ℕ) (f : Frame) (fs : List Frame) (s : Store) (i : ℕ) (e : Error) → ErrorFits e → Memory s → Inv root t 0 (OnTop f.gather fs) (view s) f.gather i fs
       → unwind_or_panic panic s (f ∷ fs) e ≡ unwind s (f ∷ fs) e

@@ -47,7 +47,7 @@ module _ (panic : Panics) where
   fill_or_panic ps m first n source v i zero = filled ps m
   fill_or_panic ps m first n source v i (suc k) =
       let f : Filled = fill_one_or_panic ps m (first + i) i n source v in
-      fill_or_panic f.places f.open-places first n source v (i + 1) k
+      fill_or_panic f.places f.open_places first n source v (i + 1) k
 
   -- `resolve_left`: a gather that completes has all its results (async_exec.rs:1127)
   unfoldable pub left_or_panic : Bool → Store → ℕ → AwaitedGather → ℕ → Settled
@@ -61,9 +61,9 @@ module _ (panic : Panics) where
   -- `resolve_awaited`, of an awaited gather: the child is registered with it (async_exec.rs:1084)
   unfoldable pub awaited_or_panic : Store → ℕ → ℕ → Value → AwaitedGather → Settled
   awaited_or_panic s g source v w =
-      let f : Filled = fill_or_panic s.places w.open-places w.first w.count source v 0 w.count in
+      let f : Filled = fill_or_panic s.places w.open_places w.first w.count source v 0 w.count in
       pick (open_from (place s) w source 0 w.count)
-      (left_or_panic (eqb f.open-places 0) (put_places s f.places) g w f.open-places)
+      (left_or_panic (eqb f.open_places 0) (put_places s f.places) g w f.open_places)
       (panic.settled s)
 
   -- `resolve_child`, of the slot's object: it is a gather (async_exec.rs:763) that was awaited at some time (1074)
@@ -73,7 +73,7 @@ module _ (panic : Panics) where
   child_or_panic s g source v (Object.ExternalFuture c x) = panic.settled s
   child_or_panic s g source v (Object.GatherFuture f n GatherState.Pending) = panic.settled s
   child_or_panic s g source v (Object.GatherFuture f n (GatherState.Awaited a m)) =
-      awaited_or_panic s g source v (record { first = f; count = n; awaiter = a; open-places = m })
+      awaited_or_panic s g source v (record { first = f; count = n; awaiter = a; open_places = m })
   child_or_panic s g source v (Object.GatherFuture f n GatherState.Completed) = record { store = s; onward = none }
   child_or_panic s g source v (Object.GatherFuture f n (GatherState.Failed e)) = record { store = s; onward = none }
 

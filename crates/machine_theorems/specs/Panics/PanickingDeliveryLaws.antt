@@ -71,32 +71,32 @@ module _ (panic : Panics) where
   unfolding fill_or_panic fill_from
   fill-same zero ps m first n source v i l = refl
   fill-same (suc k) ps m first n source v i l =
-      ap (λ (f : Filled). fill_or_panic panic f.places f.open-places first n source v (i + 1) k) (fill-one-same ps m (first + i) i n source v (omega arith))
+      ap (λ (f : Filled). fill_or_panic panic f.places f.open_places first n source v (i + 1) k) (fill-one-same ps m (first + i) i n source v (omega arith))
       ∙ fill-same k _ _ first n source v (i + 1) (omega arith)
 
   -- a value of an awaited gather's child that is registered with it
   module _ {r : ℕ → Bool} {D : ℕ → Type 0} {hd : Header} (s : Store) (g x : ℕ) (v : Value) (w : AwaitedGather) (h : SoundDuring Nothing r D hd s)
       (l : g < (header s).made) (e : as_awaited (object s g) ≡ some w) (k : T (value_known (header s).made (object s) v)) (op : Open (place s) w x) where
     abbrev f : Filled
-    f = fill_from s.places w.open-places w.first x v 0 w.count
+    f = fill_from s.places w.open_places w.first x v 0 w.count
 
-    left-same : (b : Bool) → eqb f.open-places 0 ≡ b
-        → left_or_panic panic b (put_places s f.places) g w f.open-places ≡ resolve_left b (put_places s f.places) g w f.open-places
+    left-same : (b : Bool) → eqb f.open_places 0 ≡ b
+        → left_or_panic panic b (put_places s f.places) g w f.open_places ≡ resolve_left b (put_places s f.places) g w f.open_places
     unfolding left_or_panic resolve_left
     left-same true q = rw full
       where
-        rest : T (rest_filled (place (put_places s f.places)) w.first w.count f.open-places)
+        rest : T (rest_filled (place (put_places s f.places)) w.first w.count f.open_places)
         rest = unfold place put_places in (all_filled s g x v w h l e k).rest
 
         full : rest_filled (place (put_places s f.places)) w.first w.count 0 ≡ true
-        full = is_true _ (subst (λ (m : ℕ). T (rest_filled (place (put_places s f.places)) w.first w.count m)) (eqb-true f.open-places 0 q) rest)
+        full = is_true _ (subst (λ (m : ℕ). T (rest_filled (place (put_places s f.places)) w.first w.count m)) (eqb-true f.open_places 0 q) rest)
     left-same false q = refl
 
     awaited_same : awaited_or_panic panic s g x v w ≡ resolve_awaited s g x v (some w)
     unfolding awaited_or_panic resolve_awaited
     awaited_same =
         let found : open_from (place s) w x 0 w.count ≡ true = is_true _ (open_test (place s) w x w.count 0 op (omega arith) (omega (arith, op.under))) in
-        rw (found, fill-same w.count s.places w.open-places w.first w.count x v 0 (omega arith)) (left-same (eqb f.open-places 0) refl)
+        rw (found, fill-same w.count s.places w.open_places w.first w.count x v 0 (omega arith)) (left-same (eqb f.open_places 0) refl)
 
   -- the value goes into the gather of its slot
   child-same : (r : ℕ → Bool) (D : ℕ → Type 0) (hd : Header) (s : Store) (o g x : ℕ) (v : Value) → DeliveringValue r D hd o v s (Awaiter.GatherSlot (heap_id g) (heap_id x))
@@ -157,7 +157,7 @@ module _ (panic : Panics) where
     -- the gather of a slot that something is on its way to
     slot-low : (s : Store) (o g x : ℕ) → Detached (view s) o (Awaiter.GatherSlot (heap_id g) (heap_id x)) → g < object_limit
     unfolding view
-    slot-low s o g x f = omega (arith, (f.slot g x refl).made, (header-fits s).made-fits)
+    slot-low s o g x f = omega (arith, (f.slot g x refl).made, (header-fits s).made_fits)
 
     -- where two ways to go on do the same with what is sent on, so do two climbs
     climb-same : (R : Store → Awaiter → Type 0) (o g : ℕ) (go other : Store → Awaiter → Delivery) (y : Settled) → Sends r D hd R o g y
@@ -167,7 +167,7 @@ module _ (panic : Panics) where
       where
         by : (b : Option Awaiter) → y.onward ≡ b → climb go y.store b ≡ climb other y.store b
         by none e = unfold climb in refl
-        by (some a) e = unfold climb in (same a e (k.delivers-on a e))
+        by (some a) e = unfold climb in (same a e (k.delivers_on a e))
 
     -- two ways to go on do the same with one awaited gather less than m
     value_same : (m : ℕ) (go other : Store → Awaiter → Value → Delivery)

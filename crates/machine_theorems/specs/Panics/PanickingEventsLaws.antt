@@ -185,9 +185,9 @@ module _ (panic : Panics) (s : Store) (h : SoundStore s) where
   unfolding completes_or_panic handle_task_completion view
   complete_safe t v m k =
       rw (is_true (is_live (task s (suc t)).state) live)
-      (sends ∙ (ap (resume_after_task_exit (activate_or_panic panic)) (success_safe panic idle D0 (header s) left c a v delivers-on)
-      ∙ success_ends panic D0 (header s) left a v delivers-on.during.kept.memory.sized (task-fits s (suc t)).awaiter_fits
-      (value-fits (header s).made (object s) v h.facts.but.fits.made-fits k) (completion_delivery_ends s t v h m k)))
+      (sends ∙ (ap (resume_after_task_exit (activate_or_panic panic)) (success_safe panic idle D0 (header s) left c a v delivers_on)
+      ∙ success_ends panic D0 (header s) left a v delivers_on.during.kept.memory.sized (task-fits s (suc t)).awaiter_fits
+      (value-fits (header s).made (object s) v h.facts.but.fits.made_fits k) (completion_delivery_ends s t v h m k)))
     where
       c : ℕ
       c = (task s (suc t)).coroutine.0
@@ -201,8 +201,8 @@ module _ (panic : Panics) (s : Store) (h : SoundStore s) where
       live : T (is_live (task s (suc t)).state)
       live = runner-live s (suc t) h m
 
-      delivers-on : DeliveringValue idle D0 (header s) c v left a
-      delivers-on = completion_delivering s t v h m k
+      delivers_on : DeliveringValue idle D0 (header s) c v left a
+      delivers_on = completion_delivering s t v h m k
 
       is_one : IsCoroutine (view s) c
       is_one = task-coroutine h.facts.but t (runner_low s (suc t) h m) live

@@ -28,7 +28,7 @@ use Rattle.machine_laws.specs.SoundLaws.{refusal-sound, refusal-rest, refusal-fo
 use Rattle.machine_theorems.specs.Soundness.Stores.{SoundStore, sound-store_of, during_of}
 use Rattle.machine_theorems.specs.Soundness.Preserved.{running, waiting, await-made, complete-known, results_apply}
 use Rattle.machine.specs.Sessions.{InRange}
-use Rattle.machine_theorems.specs.Soundness.Sessions.{forget-sound_store, step-sound_store, AllInRange, fresh_sound_store}
+use Rattle.machine_theorems.specs.Soundness.Sessions.{forget_sound_store, step_sound_store, AllInRange, fresh_sound_store}
 use Rattle.machine_theorems.specs.Panics.NoPanicLaws.{registered_once}
 use Rattle.machine_theorems.specs.Panics.Panic.{Panics}
 use Rattle.machine_theorems.specs.Panics.PanickingDeliveryLaws.{results_safe}
@@ -109,7 +109,7 @@ module _ (panic : Panics) where
           ≡ pick b (accept (forget s) e) (record { store = forget s; answer = refused (refusal s e) })
       by true q =
           let r : refusal s e ≡ 0 = eqb-true (refusal s e) 0 q in
-          accept-safe (forget s) (forget-sound_store s (sound-store_of s z ids (refusal-sound s e r))) e i (refusal-forget s e ∙ r)
+          accept-safe (forget s) (forget_sound_store s (sound-store_of s z ids (refusal-sound s e r))) e i (refusal-forget s e ∙ r)
       by false q = refl
 
   -- ---- sessions
@@ -119,7 +119,7 @@ module _ (panic : Panics) where
   step-ids s e z ids i = by (eqb (refusal s e) 0) refl
     where
       by : (b : Bool) → eqb (refusal s e) 0 ≡ b → length (step s e).store.queue.ids ≡ task_limit
-      by true q = (step-sound_store s (sound-store_of s z ids (refusal-sound s e (eqb-true (refusal s e) 0 q))) e i).memory.ids
+      by true q = (step_sound_store s (sound-store_of s z ids (refusal-sound s e (eqb-true (refusal s e) 0 q))) e i).memory.ids
       by false q = rw (refused-step s e (refusal s e) refl (eqb-false (refusal s e) 0 q)) (unfold forget in ids)
 
   after-safe : (es : List Event) (s : Store) → Sized s → length s.queue.ids ≡ task_limit → AllInRange es → after_or_panic panic s es ≡ after s es

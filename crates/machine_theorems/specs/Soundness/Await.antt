@@ -34,10 +34,10 @@ use Rattle.machine_laws.specs.MakingLaws.{nobody-task}
 use Rattle.machine_theorems.specs.Soundness.ReadyTasks.{not-queued, queued-same}
 use Rattle.machine_theorems.specs.Soundness.PutObject.{Fits}
 use Rattle.machine_theorems.specs.Soundness.PutTask.{with_task_queue, Closes, TaskWrite}
-use Rattle.machine_theorems.specs.Soundness.Stores.{Kept, Runs, idle, SoundDuring, SoundStore, object-kept, task-kept, view-task_queue, add_log-during, object-during, during_of, sound_store_during}
+use Rattle.machine_theorems.specs.Soundness.Stores.{Kept, Runs, idle, SoundDuring, SoundStore, object-kept, task-kept, view_task_queue, add_log-during, object-during, during_of, sound_store_during}
 use Rattle.machine_theorems.specs.Soundness.Deliver.{restated_in_range, restated_fits}
-use Rattle.machine_theorems.specs.Soundness.Cycle.{coroutine-fits, next_keeps, activate_keeps}
-use Rattle.machine_theorems.specs.Soundness.Exits.{runner_low, runner-runs, others_commits_none, commits_none-on}
+use Rattle.machine_theorems.specs.Soundness.Cycle.{coroutine_fits, next_keeps, activate_keeps}
+use Rattle.machine_theorems.specs.Soundness.Exits.{runner_low, runner-runs, others_commits_none, commits_none_on}
 
 -- ---- the awaiting task blocks
 
@@ -71,7 +71,7 @@ module _ (s : Store) (t o : ℕ) (r : ℕ → Bool) (low : t < (header s).next) 
               awaiter = subst (λ (m : ℕ). awaiter_of (object s m) ≡ Awaiter.Task (task_id t)) q c.awaiter;
             };
         awaited = λ l p z n e. at p z e (ℕ_discrete p o);
-        in-commit = λ p n. closed p (ℕ_discrete p o);
+        in_commit = λ p n. closed p (ℕ_discrete p o);
         excepted = λ u d n z. z;
       }
     where
@@ -98,9 +98,9 @@ module _ (s : Store) (t o : ℕ) (r : ℕ → Bool) (low : t < (header s).next) 
       during : SoundDuring Nothing idle D hd (put_queue (put_task s t row) s.queue)
       during =
           record {
-            kept = task-kept s h t row s.queue low (restated_fits (task s t) (TaskState.Blocked (heap_id o)) (task-fits s t) (unfold view in (omega (arith, made, h.but.fits.made-fits))))
-                h.memory.words_right.queue-short h.memory.ids block-fits;
-            runs = subst (Runs idle) (sym (view-task_queue s h t row s.queue room (restated_fits (task s t) (TaskState.Blocked (heap_id o)) (task-fits s t) (unfold view in (omega (arith, made, h.but.fits.made-fits)))))) now;
+            kept = task-kept s h t row s.queue low (restated_fits (task s t) (TaskState.Blocked (heap_id o)) (task-fits s t) (unfold view in (omega (arith, made, h.but.fits.made_fits))))
+                h.memory.words_right.queue_short h.memory.ids block-fits;
+            runs = subst (Runs idle) (sym (view_task_queue s h t row s.queue room (restated_fits (task s t) (TaskState.Blocked (heap_id o)) (task-fits s t) (unfold view in (omega (arith, made, h.but.fits.made_fits)))))) now;
             done = λ p d. unfold object put_task in (dn p d);
             head = unfold header put_task in head;
           }
@@ -135,7 +135,7 @@ takes-fits k Q Q' v o p a l e free range awaited slot commit =
       slot = slot;
       opens = λ w f. absurd_some f;
       excepted = λ t b z d f. inl (λ z. z);
-      in-commit = commit;
+      in_commit = commit;
     }
 
 -- ---- the event `await`, of an external and of a coroutine
@@ -166,14 +166,14 @@ module _ (s : Store) (t : ℕ) (h : SoundStore s) (m : (header s).moment ≡ Mom
 
     there : view next ≡ with_object (view s) o x
     unfolding view
-    there = view-put_object s o x h.memory.sized (omega (arith, l, h.facts.but.fits.made-fits)) fit
+    there = view-put_object s o x h.memory.sized (omega (arith, l, h.facts.but.fits.made_fits)) fit
 
     head : header next ≡ header s
     head = header_put-object s o x
 
     row-o : object next o ≡ x
     unfolding view
-    row-o = object_put-object s o x h.memory.sized (omega (arith, l, h.facts.but.fits.made-fits)) fit
+    row-o = object_put-object s o x h.memory.sized (omega (arith, l, h.facts.but.fits.made_fits)) fit
 
     closes : Closes (view next) t o
     unfolding view
@@ -197,7 +197,7 @@ module _ (s : Store) (t : ℕ) (h : SoundStore s) (m : (header s).moment ≡ Mom
       → SoundStore (await_external_future s t o c x).store
   unfolding await_external_future go_on stays await_external await_pending as_pending
   await_external_keeps o c (ExternalFutureState.Pending Awaiter.Nobody r) l e =
-      next_keeps (λ o. T (is_completed (kind (object s o)))) (header s) (commits_none-on s t h m) activate (activate_keeps _ (header s) (commits_none-on s t h m)) _
+      next_keeps (λ o. T (is_completed (kind (object s o)))) (header s) (commits_none_on s t h m) activate (activate_keeps _ (header s) (commits_none_on s t h m)) _
       (wait_external o (record { call = c; awaiter = Awaiter.Nobody; stored = r }) l (ap as_pending e) refl)
   await_external_keeps o c (ExternalFutureState.Pending (Awaiter.Task u) r) l e = h
   await_external_keeps o c (ExternalFutureState.Pending (Awaiter.GatherSlot g y) r) l e = h
@@ -209,6 +209,6 @@ module _ (s : Store) (t : ℕ) (h : SoundStore s) (m : (header s).moment ≡ Mom
   await_coroutine_keeps o f CoroutineState.New l e =
       sound_store_during (put_object s o (Object.Coroutine f CoroutineState.Running)) h.facts.runner
       (object-during s (during_of s h) o (Object.Coroutine f CoroutineState.Running) (subst ObjectFits e (object-fits s o))
-      (coroutine-fits (view s) o f CoroutineState.New CoroutineState.Running l e))
+      (coroutine_fits (view s) o f CoroutineState.New CoroutineState.Running l e))
   await_coroutine_keeps o f CoroutineState.Running l e = h
   await_coroutine_keeps o f CoroutineState.Completed l e = h

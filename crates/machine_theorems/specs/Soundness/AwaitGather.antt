@@ -72,7 +72,7 @@ root_keeps : (root t : ℕ) (s : Store) (g i : ℕ) → Memory s → (h : Inv ro
     → EndOk root t (settle_gather_commit s g).store (settle_gather_commit s g).poll
 unfolding settle_gather_commit view
 root_keeps root t s g i mem h end =
-    subst (λ (o : Option AwaitedGather). EndOk root t (settle_as s g o).store (settle_as s g o).poll) (sym h.opened.awaited) (unfold settle_as in (by (eqb h.w.open-places 0) refl))
+    subst (λ (o : Option AwaitedGather). EndOk root t (settle_as s g o).store (settle_as s g o).poll) (sym h.opened.awaited) (unfold settle_as in (by (eqb h.w.open_places 0) refl))
   where
     w : AwaitedGather
     w = h.w
@@ -83,14 +83,14 @@ root_keeps root t s g i mem h end =
     low : (g ≡ root) × (w.awaiter ≡ Awaiter.Task (task_id t))
     low = bottoms h.stack
 
-    rest_of : T (rest_filled (place s) w.first w.count w.open-places)
+    rest_of : T (rest_filled (place s) w.first w.count w.open_places)
     rest_of = rest-done (place s) (header s).made (object s) g i w end h.opened
 
     not_on : (y : ℕ) → (y ≡ root → ⊥) → OnTop g [] y → ⊥
     not_on y n (inl e) = n (e ∙ low.0)
     not_on y n (inr e) = e
 
-    closed : eqb w.open-places 0 ≡ false → Closes (view s) t g
+    closed : eqb w.open_places 0 ≡ false → Closes (view s) t g
     closed q =
         record {
           awaiter = awaiter_is (object s g) w h.opened.awaited ∙ low.1;
@@ -98,12 +98,12 @@ root_keeps root t s g i mem h end =
               (unfold object_filled gather_filled in (both _ _ (subst (λ (b : Bool). T (not b)) (sym q) tt) rest_of));
         }
 
-    by : (b : Bool) → eqb w.open-places 0 ≡ b
+    by : (b : Bool) → eqb w.open_places 0 ≡ b
         → EndOk root t (pick b (gives (set_gather s g GatherState.Completed) (ready (Value.List (heap_id g)))) (gives s pending)).store
         (pick b (gives (set_gather s g GatherState.Completed) (ready (Value.List (heap_id g)))) (gives s pending)).poll
     by true q =
         let d : Done (place s) w.first w.count GatherState.Completed =
-        completed-done (place s) w.first w.count (subst (λ (m : ℕ). T (rest_filled (place s) w.first w.count m)) (eqb-true w.open-places 0 q) rest_of) in
+        completed-done (place s) w.first w.count (subst (λ (m : ℕ). T (rest_filled (place s) w.first w.count m)) (eqb-true w.open_places 0 q) rest_of) in
         record {
           memory = settle_memory s root t 0 h.k g w [] GatherState.Completed d tt mem h.opened.made h.opened.awaited;
           after = settle_top s root t 0 h.k g w [] GatherState.Completed d tt mem h.opened.made h.opened.awaited h.stack (after_of root t 0 (OnTop g []) (view s) g i [] h);
@@ -137,7 +137,7 @@ opened_in s o f n a mem l q fit =
     let x : Object = Object.GatherFuture f n (GatherState.Awaited a 0) in
     let same : with_state (object s o) (GatherState.Awaited a 0) ≡ x = ap (λ (y : Object). with_state y (GatherState.Awaited a 0)) q in (
       subst (λ (y : Object). Memory (put_object s o y)) (sym same) (memory_object s o x l fit mem),
-      ap (λ (y : Object). view (put_object s o y)) same ∙ view-put_object s o x mem.sized (omega (arith, l, (header-fits s).made-fits)) fit,
+      ap (λ (y : Object). view (put_object s o y)) same ∙ view-put_object s o x mem.sized (omega (arith, l, (header-fits s).made_fits)) fit,
     )
 
 -- so a nested gather is, and the commit goes on with it
@@ -148,7 +148,7 @@ nested_commits root t f fs s i o h =
     let low : f.gather < (header s).made = h.inv.opened.made in
     let low-o : o < (header s).made = omega (arith, h.lower) in
     let old : ObjectFits (Object.GatherFuture h.first h.count GatherState.Pending) = subst ObjectFits h.is_new (object-fits s o) in
-    let most : (header s).made ≤ object_limit = (header-fits s).made-fits in
+    let most : (header s).made ≤ object_limit = (header-fits s).made_fits in
     let r = opened_in s o h.first h.count (Awaiter.GatherSlot (heap_id f.gather) (heap_id o)) h.memory low-o h.is_new
     (old.0, ((omega arith, omega arith), omega arith)) in
     record {
@@ -235,7 +235,7 @@ module _ (s : Store) (t : ℕ) (h : SoundStore s) (m : (header s).moment ≡ Mom
       start : Inv g t 0 (OnTop g []) (with_object (view s) g x) g 0 []
       start =
           record {
-            w = record { first = f; count = n; awaiter = Awaiter.Task (task_id t); open-places = 0 };
+            w = record { first = f; count = n; awaiter = Awaiter.Task (task_id t); open_places = 0 };
             k = 0;
             opened = record {
               made = l;

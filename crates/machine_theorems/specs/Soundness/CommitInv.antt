@@ -83,7 +83,7 @@ stacked_places : {n : ℕ} {os : ℕ → Object} {ps : ℕ → Place} {root t g 
 stacked_places qs it fl (bottom e q) = bottom e q
 stacked_places qs it fl (above {f = f} w j op lt nm lo aw rm rest) =
     above w j
-    (record { made = op.made; awaited = op.awaited; under = op.under; before = λ i z. or_filled (bit w.open-places i) _ _ (fl (w.first + i)) (op.before i z) })
+    (record { made = op.made; awaited = op.awaited; under = op.under; before = λ i z. or_filled (bit w.open_places i) _ _ (fl (w.first + i)) (op.before i z) })
     lt (ap (λ (y : HeapId). y.0) (it (w.first + f.next)) ∙ nm) lo aw rm (stacked_places qs it fl rest)
 
 -- ---- what holds in the midst of a commit
@@ -130,13 +130,13 @@ module _ (root t : ℕ) (Q : ℕ → Type 0) (v : View) (g i : ℕ) (fs : List F
       w = h.w
 
       u : AwaitedGather
-      u = record { first = w.first; count = w.count; awaiter = w.awaiter; open-places = wider w i }
+      u = record { first = w.first; count = w.count; awaiter = w.awaiter; open_places = wider w i }
 
       earlier : (j : ℕ) → j < i + 1 → Dec (j ≡ i) → T (bit (wider w i) j || is_filled (v.places (w.first + j)).result)
       earlier j z (yes q) = or_first (bit (wider w i) j) _ (subst (λ (n : ℕ). bit (wider w i) n ≡ true) (sym q) (wider-opens w i))
-      earlier j z (no d) = by (bit w.open-places j) refl (h.opened.before j (omega arith))
+      earlier j z (no d) = by (bit w.open_places j) refl (h.opened.before j (omega arith))
         where
-          by : (b : Bool) → bit w.open-places j ≡ b → T (b || is_filled (v.places (w.first + j)).result) → T (bit (wider w i) j || is_filled (v.places (w.first + j)).result)
+          by : (b : Bool) → bit w.open_places j ≡ b → T (b || is_filled (v.places (w.first + j)).result) → T (bit (wider w i) j || is_filled (v.places (w.first + j)).result)
           by true e s = or_first (bit (wider w i) j) _ (wider_keeps w i j e)
           by false e s = or_second (bit (wider w i) j) _ s
 
@@ -183,11 +183,11 @@ module _ (root t : ℕ) (Q : ℕ → Type 0) (v : View) (g i : ℕ) (fs : List F
           moment = h.moment;
         }
       where
-        earlier : (j : ℕ) → j < i + 1 → Dec (j ≡ i) → T (bit h.w.open-places j || is_filled (update v.places at row (h.w.first + j)).result)
+        earlier : (j : ℕ) → j < i + 1 → Dec (j ≡ i) → T (bit h.w.open_places j || is_filled (update v.places at row (h.w.first + j)).result)
         earlier j z (yes q) =
-            or_second (bit h.w.open-places j) _ (subst (λ (m : ℕ). T (is_filled (update v.places at row (h.w.first + m)).result)) (sym q)
+            or_second (bit h.w.open_places j) _ (subst (λ (m : ℕ). T (is_filled (update v.places at row (h.w.first + m)).result)) (sym q)
             (subst (λ (y : Place). T (is_filled y.result)) (sym (update_same v.places at row)) (unfold is_filled in tt)))
-        earlier j z (no d) = or_filled (bit h.w.open-places j) _ _ (fill_write.filled (h.w.first + j)) (h.opened.before j (omega arith))
+        earlier j z (no d) = or_filled (bit h.w.open_places j) _ _ (fill_write.filled (h.w.first + j)) (h.opened.before j (omega arith))
 
   -- a lower object is written
   pub lower-step : {e : ℕ} (h : Inv root t e Q v g i fs) (o : ℕ) (x : Object) → o < g → ((k : ℕ) → Fits k k Nothing Q Nothing Q v o x) → Inv root t e Q (with_object v o x) g i fs
@@ -254,7 +254,7 @@ open_fits k Q Q' v o f n a l q range on commit =
       slot = λ m. absurd (m on);
       opens = λ y e z held sl. absurd (subst (λ (y : Object). T (is_committed (kind y))) q sl.committed);
       excepted = λ s b z d e. inl (λ z. z);
-      in-commit = λ p d m z. commit p m z;
+      in_commit = λ p d m z. commit p m z;
     }
 
 module _ (root t : ℕ) (v : View) (g i : ℕ) (fs : List Frame) where
@@ -296,7 +296,7 @@ module _ (root t : ℕ) (v : View) (g i : ℕ) (fs : List Frame) where
       w = h.w
 
       u : AwaitedGather
-      u = record { first = f; count = n; awaiter = Awaiter.GatherSlot (heap_id g) (heap_id o); open-places = 0 }
+      u = record { first = f; count = n; awaiter = Awaiter.GatherSlot (heap_id g) (heap_id o); open_places = 0 }
 
       x : Object
       x = Object.GatherFuture f n (GatherState.Awaited (Awaiter.GatherSlot (heap_id g) (heap_id o)) 0)
@@ -345,7 +345,7 @@ module _ (s : Store) (root t k j g : ℕ) (w : AwaitedGather) (fs : List Frame) 
   unfolding set_gather view x0
   settle_top st h =
       subst (λ (x : Object). After t k (OnStack fs) (view (put_object s g x))) (sym (with_state-is (object s g) w y e))
-      (subst (After t k (OnStack fs)) (sym (view-put_object s g x0 m.sized (omega (arith, l, h.but.fits.made-fits)) fit)) after)
+      (subst (After t k (OnStack fs)) (sym (view-put_object s g x0 m.sized (omega (arith, l, h.but.fits.made_fits)) fit)) after)
     where
       off : (p : ℕ) → (p ≡ g → ⊥) → (OnStack fs p → ⊥) → OnTop g fs p → ⊥
       off p n m (inl z) = n z

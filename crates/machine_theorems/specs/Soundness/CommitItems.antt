@@ -127,12 +127,12 @@ module _ (s : Store) (c g : ℕ) (mem : Memory s) (room : (header s).next < task
   t0 = (header s).next
 
   row_fits : TaskFits (spawned_row c g)
-  row_fits = record { state_fits = tt; awaiter_fits = (low-g, low-c); coroutine-fits = low-c }
+  row_fits = record { state_fits = tt; awaiter_fits = (low-g, low-c); coroutine_fits = low-c }
 
   more-fits : HeaderFits (one_more (header s))
   more-fits =
       let f : HeaderFits (header s) = header-fits s in
-      record { made-fits = f.made-fits; used-fits = f.used-fits; calls-fit = f.calls-fit; next_fits = omega arith; moment_fits = f.moment_fits }
+      record { made_fits = f.made_fits; used_fits = f.used_fits; calls_fit = f.calls_fit; next_fits = omega arith; moment_fits = f.moment_fits }
 
   u : Store
   u = put_task s t0 (spawned_row c g)
@@ -162,7 +162,7 @@ module _ (s : Store) (c g : ℕ) (mem : Memory s) (room : (header s).next < task
       (words_put_header (t0 + 1) (header s).made (header s).used u u-sized
       (words_put_task _ _ _ s mem.sized mem.words_right (t0 + 1) t0 (spawned_row c g) room row_fits (λ j m ne. omega arith))
       (one_more (header s)) more-fits)
-      (push_back s.queue t0) (push_back-len s.queue t0 mem.words_right.queue-short)) (spawned t0 c)
+      (push_back s.queue t0) (push_back-len s.queue t0 mem.words_right.queue_short)) (spawned t0 c)
 
   pub spawn_memory : Memory (spawn_as s t0 c g)
   spawn_memory =
@@ -228,12 +228,12 @@ module _ (root t g : ℕ) (fs : List Frame) (i : ℕ) (s : Store) (mem : Memory 
   lower : o < g
   unfolding view items_below
   lower =
-      let low : T (items_below (place s) g (Object.GatherFuture w.first w.count (GatherState.Awaited w.awaiter w.open-places))) =
+      let low : T (items_below (place s) g (Object.GatherFuture w.first w.count (GatherState.Awaited w.awaiter w.open_places))) =
       subst (λ (y : Object). T (items_below (place s) g y)) (awaited-object (object s g) w top) (h.but.items g made) in
       ltb→lt _ g (below w.count _ low i less)
 
   low-g : g < object_limit
-  low-g = omega (arith, made, (header-fits s).made-fits)
+  low-g = omega (arith, made, (header-fits s).made_fits)
 
   err : (e : Error) → ErrorFits e → Ok (polled (gives s (raised e)))
   err e k = record { i = i; memory = mem; inv = h; fits = k }
@@ -273,12 +273,12 @@ module _ (root t g : ℕ) (fs : List Frame) (i : ℕ) (s : Store) (mem : Memory 
 
   known-value : (x : Object) → object s o ≡ x → T (object_values (header s).made (object s) x)
   unfolding view
-  known-value x e = subst (λ (y : Object). T (object_values (header s).made (object s) y)) e (h.but.object-lists o (omega (arith, lower, made)))
+  known-value x e = subst (λ (y : Object). T (object_values (header s).made (object s) y)) e (h.but.object_lists o (omega (arith, lower, made)))
 
   abbrev v1 : View
   v1 = with_object (view s) g y1
 
-  v1-awaited : as_awaited (v1.objects g) ≡ some (record { first = w.first; count = w.count; awaiter = w.awaiter; open-places = wider w i })
+  v1-awaited : as_awaited (v1.objects g) ≡ some (record { first = w.first; count = w.count; awaiter = w.awaiter; open_places = wider w i })
   unfolding with_object as_awaited view
   v1-awaited = ap as_awaited (update_same (object s) g y1)
 

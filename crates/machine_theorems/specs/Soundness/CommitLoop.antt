@@ -46,7 +46,7 @@ use Rattle.machine_theorems.specs.Soundness.CommitInv.{OnStack, OnTop, Stacked, 
 
 pub awaits_fits : (s : Store) (g : ℕ) (w : AwaitedGather) → as_awaited (object s g) ≡ some w → (m : ℕ) → m < 2 ^ w.count → ObjectFits (awaits_on w m)
 awaits_fits s g w e m l =
-    let old : ObjectFits (awaits_on w w.open-places) = awaited-fits s g w e in
+    let old : ObjectFits (awaits_on w w.open_places) = awaited-fits s g w e in
     let most : 2 ^ w.count ≤ 2 ^ 32 = pow_mono old.0.at_most in
     (old.0, (old.1.0, omega arith))
 
@@ -58,7 +58,7 @@ stacked_put : (s : Store) (x : ℕ) (r : Object) {root t g : ℕ} {a : Awaiter} 
 unfolding view with_object
 stacked_put s x r {root} {t} {g} {a} {fs} {k} m low f l st =
     subst (λ (v : View). Stacked v.header.made v.objects v.places root t g a fs k)
-    (sym (view-put_object s x r m.sized (omega (arith, low, (header-fits s).made-fits)) f)) (stacked_object x r l st)
+    (sym (view-put_object s x r m.sized (omega (arith, low, (header-fits s).made_fits)) f)) (stacked_object x r l st)
 
 pub stacked_set : (s : Store) (g : ℕ) (w : AwaitedGather) (y : GatherState) {root t : ℕ} {a : Awaiter} {fs : List Frame} {k : ℕ} → Memory s → g < (header s).made
     → as_awaited (object s g) ≡ some w → ObjectFits (Object.GatherFuture w.first w.count y) → Stacked (header s).made (object s) (place s) root t g a fs k
@@ -104,7 +104,7 @@ unwind_keeps (f ∷ fs) s root t k j g i w e ok l q st h =
 -- ---- a gather whose places are all done
 
 -- the places are filled, or open
-pub rest-done : (ps : ℕ → Place) (n : ℕ) (os : ℕ → Object) (g i : ℕ) (w : AwaitedGather) → i ≡ w.count → Opened n os ps g i w → T (rest_filled ps w.first w.count w.open-places)
+pub rest-done : (ps : ℕ → Place) (n : ℕ) (os : ℕ → Object) (g i : ℕ) (w : AwaitedGather) → i ≡ w.count → Opened n os ps g i w → T (rest_filled ps w.first w.count w.open_places)
 unfolding rest_filled
 rest-done ps n os g i w e op = from-below w.count _ (λ j z. op.before j (omega arith))
 
@@ -121,9 +121,9 @@ fill_commits root t Q s g i fs m h l x k =
     let at : ℕ = h.w.first + i in
     let low : at < (header s).used = omega (arith, gather_within g h.w h.but h.opened.made h.opened.awaited) in
     let row : Place = record { item = (place s at).item; result = OptionValue.Some x } in
-    let fit : PlaceFits row = record { item-fits = (place-fits s at).item-fits; result_fits = value-fits (header s).made (object s) x (header-fits s).made-fits k } in (
+    let fit : PlaceFits row = record { item_fits = (place-fits s at).item_fits; result_fits = value-fits (header s).made (object s) x (header-fits s).made_fits k } in (
       memory_place s at row low fit m,
-      subst (λ (v : View). Inv root t 0 Q v g (i + 1) fs) (sym (view-put_place s at row m.sized (omega (arith, low, (header-fits s).used-fits)) fit))
+      subst (λ (v : View). Inv root t 0 Q v g (i + 1) fs) (sym (view-put_place s at row m.sized (omega (arith, low, (header-fits s).used_fits)) fit))
           (fill_step root t Q (view s) g i fs h l x k),
     )
 
@@ -143,7 +143,7 @@ module _ (root t : ℕ) (s : Store) (g i : ℕ) (p : Frame) (ps : List Frame) (m
   unfolding view
   top = h.opened.awaited
 
-  rest_of : T (rest_filled (place s) w.first w.count w.open-places)
+  rest_of : T (rest_filled (place s) w.first w.count w.open_places)
   unfolding view
   rest_of = rest-done (place s) (header s).made (object s) g i w end h.opened
 
@@ -160,14 +160,14 @@ module _ (root t : ℕ) (s : Store) (g i : ℕ) (p : Frame) (ps : List Frame) (m
       let same : with_state (object s g) GatherState.Completed ≡ x = with_state-is (object s g) w GatherState.Completed top in
       subst (λ (y : Object). T (ltb g (header (put_object s g y)).made and is_completed (kind (object (put_object s g y) g)))) (sym same)
       (both _ _ (lt→ltb g _ (subst (λ (y : Header). g < y.made) (sym (header_put-object s g x)) made))
-      (subst (λ (y : Object). T (is_completed (kind y))) (sym (object_put-object s g x mem.sized (omega (arith, made, (header-fits s).made-fits)) full-fits)) (unfold kind in tt)))
+      (subst (λ (y : Object). T (is_completed (kind y))) (sym (object_put-object s g x mem.sized (omega (arith, made, (header-fits s).made_fits)) full-fits)) (unfold kind in tt)))
 
-  filled_next : eqb w.open-places 0 ≡ true → Next (resume_after_child p (gives s1 (ready (Value.List (heap_id g)))))
+  filled_next : eqb w.open_places 0 ≡ true → Next (resume_after_child p (gives s1 (ready (Value.List (heap_id g)))))
   unfolding view s1 resume_after_child
   filled_next q = by (stacked_set s g w GatherState.Completed mem made top full-fits h.stack)
     where
-      none_open : w.open-places ≡ 0
-      none_open = eqb-true w.open-places 0 q
+      none_open : w.open_places ≡ 0
+      none_open = eqb-true w.open_places 0 q
 
       done : Done (place s) w.first w.count GatherState.Completed
       done = completed-done (place s) w.first w.count (subst (λ (m : ℕ). T (rest_filled (place s) w.first w.count m)) none_open rest_of)
@@ -201,7 +201,7 @@ module _ (root t : ℕ) (s : Store) (g i : ℕ) (p : Frame) (ps : List Frame) (m
               let r = fill_commits root t (OnTop p.gather ps) s1 p.gather p.next ps mem1 inv lt (Value.List (heap_id g)) s1-known in
               record { memory = r.0; inv = r.1 }
 
-  parked-next : eqb w.open-places 0 ≡ false → Next (resume_after_child p (gives s pending))
+  parked-next : eqb w.open_places 0 ≡ false → Next (resume_after_child p (gives s pending))
   unfolding view resume_after_child
   parked-next q = by h.stack refl
     where
@@ -233,7 +233,7 @@ module _ (root t : ℕ) (s : Store) (g i : ℕ) (p : Frame) (ps : List Frame) (m
           fit = awaits_fits s p.gather w' op.awaited (wider w' p.next) (wider_small w' p.next lt (open_small p.gather w' h.but op.made op.awaited))
 
           there : view (put_object s p.gather x) ≡ with_object (view s) p.gather x
-          there = view-put_object s p.gather x mem.sized (omega (arith, op.made, (header-fits s).made-fits)) fit
+          there = view-put_object s p.gather x mem.sized (omega (arith, op.made, (header-fits s).made_fits)) fit
 
           v1 : View
           v1 = with_object (view s) p.gather x
@@ -248,7 +248,7 @@ module _ (root t : ℕ) (s : Store) (g i : ℕ) (p : Frame) (ps : List Frame) (m
           awaiter-g = ap awaiter_of row-g ∙ (awaiter_is (object s g) w top ∙ (sym same ∙ aw))
 
           u : AwaitedGather
-          u = record { first = w'.first; count = w'.count; awaiter = w'.awaiter; open-places = wider w' p.next }
+          u = record { first = w'.first; count = w'.count; awaiter = w'.awaiter; open_places = wider w' p.next }
 
           row-p : as_awaited (v1.objects p.gather) ≡ some u
           row-p = unfold with_object as_awaited in (ap as_awaited (update_same (object s) p.gather x))
@@ -307,9 +307,9 @@ module _ (root t : ℕ) (s : Store) (g i : ℕ) (p : Frame) (ps : List Frame) (m
 
   pub settle_next : Next (resume_after_child p (settle_gather_commit s g))
   unfolding settle_gather_commit view s1
-  settle_next = subst (λ (o : Option AwaitedGather). Next (resume_after_child p (settle_as s g o))) (sym h.opened.awaited) (unfold settle_as in (by (eqb w.open-places 0) refl))
+  settle_next = subst (λ (o : Option AwaitedGather). Next (resume_after_child p (settle_as s g o))) (sym h.opened.awaited) (unfold settle_as in (by (eqb w.open_places 0) refl))
     where
-      by : (b : Bool) → eqb w.open-places 0 ≡ b
+      by : (b : Bool) → eqb w.open_places 0 ≡ b
           → Next (resume_after_child p (pick b (gives (set_gather s g GatherState.Completed) (ready (Value.List (heap_id g)))) (gives s pending)))
       by true q = filled_next q
       by false q = parked-next q

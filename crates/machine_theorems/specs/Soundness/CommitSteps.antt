@@ -25,32 +25,32 @@ use Rattle.machine_theorems.specs.Soundness.Deliver.{awaiter_is}
 -- ---- the open word with one place more
 
 unfoldable pub wider : AwaitedGather → ℕ → ℕ
-wider w i = pick (bit w.open-places i) w.open-places (w.open-places + 2 ^ i)
+wider w i = pick (bit w.open_places i) w.open_places (w.open_places + 2 ^ i)
 
-pub wider_small : (w : AwaitedGather) (i : ℕ) → i < w.count → w.open-places < 2 ^ w.count → wider w i < 2 ^ w.count
+pub wider_small : (w : AwaitedGather) (i : ℕ) → i < w.count → w.open_places < 2 ^ w.count → wider w i < 2 ^ w.count
 unfolding wider
-wider_small w i l s = by (bit w.open-places i) refl
+wider_small w i l s = by (bit w.open_places i) refl
   where
-    by : (b : Bool) → bit w.open-places i ≡ b → pick b w.open-places (w.open-places + 2 ^ i) < 2 ^ w.count
+    by : (b : Bool) → bit w.open_places i ≡ b → pick b w.open_places (w.open_places + 2 ^ i) < 2 ^ w.count
     by true e = s
-    by false e = bit_set_small i w.count w.open-places l s e
+    by false e = bit_set_small i w.count w.open_places l s e
 
 pub wider-opens : (w : AwaitedGather) (i : ℕ) → bit (wider w i) i ≡ true
 unfolding wider
-wider-opens w i = by (bit w.open-places i) refl
+wider-opens w i = by (bit w.open_places i) refl
   where
-    by : (b : Bool) → bit w.open-places i ≡ b → bit (pick b w.open-places (w.open-places + 2 ^ i)) i ≡ true
+    by : (b : Bool) → bit w.open_places i ≡ b → bit (pick b w.open_places (w.open_places + 2 ^ i)) i ≡ true
     by true e = e
-    by false e = bit-set-same i w.open-places e
+    by false e = bit-set-same i w.open_places e
 
-pub wider_keeps : (w : AwaitedGather) (i j : ℕ) → bit w.open-places j ≡ true → bit (wider w i) j ≡ true
+pub wider_keeps : (w : AwaitedGather) (i j : ℕ) → bit w.open_places j ≡ true → bit (wider w i) j ≡ true
 unfolding wider
-wider_keeps w i j o = by (bit w.open-places i) refl (ℕ_discrete j i)
+wider_keeps w i j o = by (bit w.open_places i) refl (ℕ_discrete j i)
   where
-    by : (b : Bool) → bit w.open-places i ≡ b → Dec (j ≡ i) → bit (pick b w.open-places (w.open-places + 2 ^ i)) j ≡ true
+    by : (b : Bool) → bit w.open_places i ≡ b → Dec (j ≡ i) → bit (pick b w.open_places (w.open_places + 2 ^ i)) j ≡ true
     by true e d = o
-    by false e (yes q) = subst (λ (n : ℕ). bit (w.open-places + 2 ^ i) n ≡ true) (sym q) (bit-set-same i w.open-places e)
-    by false e (no d) = bit-set-other i w.open-places j e d ∙ o
+    by false e (yes q) = subst (λ (n : ℕ). bit (w.open_places + 2 ^ i) n ≡ true) (sym q) (bit-set-same i w.open_places e)
+    by false e (no d) = bit-set-other i w.open_places j e d ∙ o
 
 -- ---- a gather leaves the stack as it is
 
@@ -65,23 +65,23 @@ park {Q = Q} {v = v} f h =
     record {
       fits = h.fits;
       main = h.main;
-      all-used = h.all-used;
+      all_used = h.all_used;
       objects = h.objects;
       awaiters = h.awaiters;
       tasks = h.tasks;
       spawned = h.spawned;
       items = h.items;
-      object-lists = h.object-lists;
-      task-lists = h.task-lists;
-      place-lists = h.place-lists;
+      object_lists = h.object_lists;
+      task_lists = h.task_lists;
+      place_lists = h.place_lists;
       entries = h.entries;
       calls = h.calls;
       task_of = h.task_of;
       awaits = h.awaits;
       awaited = λ o z n t e l. a o z t e l (f o n);
       filled = λ g z n. b g z (f g n);
-      object-slots = λ o z n g x e. c o z g x e (f o n);
-      task-slots = h.task-slots;
+      object_slots = λ o z n g x e. c o z g x e (f o n);
+      task_slots = h.task_slots;
     }
   where
     a : (o : ℕ) → o < v.header.made → (t : ℕ) → awaiter_of (v.objects o) ≡ Awaiter.Task (task_id t) → T (is_live (v.tasks t).state) → (Q o → ⊥) ⊎ Parked v o
@@ -95,7 +95,7 @@ park {Q = Q} {v = v} f h =
 
     c : (o : ℕ) → o < v.header.made → (g x : ℕ) → awaiter_of (v.objects o) ≡ Awaiter.GatherSlot (heap_id g) (heap_id x) → (Q o → ⊥) ⊎ Parked v o
         → Slotted v.header.made v.objects v.places o g x
-    c o z g x e (inl n) = h.object-slots o z n g x e
+    c o z g x e (inl n) = h.object_slots o z n g x e
     c o z g x e (inr p) = p.slot g x e
 
 -- ---- a gather on the stack
@@ -105,7 +105,7 @@ pub record Opened (n : ℕ) (os : ℕ → Object) (ps : ℕ → Place) (g i : �
   pub made : g < n
   pub awaited : as_awaited (os g) ≡ some w
   pub under : i ≤ w.count
-  pub before : (j : ℕ) → j < i → T (bit w.open-places j || is_filled (ps (w.first + j)).result)
+  pub before : (j : ℕ) → j < i → T (bit w.open_places j || is_filled (ps (w.first + j)).result)
 
 -- It is written: any state of it, as long as it was committed and the holders' places are open. Its awaiter is dropped only if no task
 -- is blocked on it.
@@ -139,5 +139,5 @@ stack_fits k l Q Q' v g w y made e less cmt range aw-range aw closed opens commi
       slot = λ n f z a. absurd (nobody_slot (sym (closed n).0 ∙ a));
       opens = λ u f z held sl. opens u f z (sl.opens w e);
       excepted = λ t b z d f. inl (λ z. z);
-      in-commit = commit;
+      in_commit = commit;
     }

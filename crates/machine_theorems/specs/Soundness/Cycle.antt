@@ -99,7 +99,7 @@ task_detached s t h low l =
       made = sp.made;
       free = no_awaiter _ sp.coroutine;
       range = sp.range;
-      slot = λ g x e. h.kept.but.task-slots (suc t) low l g x e;
+      slot = λ g x e. h.kept.but.task_slots (suc t) low l g x e;
       task = λ u e z. absurd (not-a_task (task s (suc t)).awaiter sp.slot (task_id u) e);
     }
 
@@ -111,10 +111,10 @@ task_delivering s t h low l =
 
 -- ---- a coroutine's state is written
 
-pub coroutine-fits : (v : View) (o f : ℕ) (x y : CoroutineState) → o < v.header.made → v.objects o ≡ Object.Coroutine f x
+pub coroutine_fits : (v : View) (o f : ℕ) (x y : CoroutineState) → o < v.header.made → v.objects o ≡ Object.Coroutine f x
     → Fits 0 0 Nothing Nothing Nothing Nothing v o (Object.Coroutine f y)
 unfolding count_of items_below object_filled as_awaited as_pending object_in_range object_values awaiter_of
-coroutine-fits v o f x y l q =
+coroutine_fits v o f x y l q =
     record {
       made = l;
       count = sym (ap count_of q);
@@ -133,7 +133,7 @@ coroutine-fits v o f x y l q =
       slot = λ n g z e. absurd (nobody_slot e);
       opens = λ w e. absurd_some e;
       excepted = λ t b z d e. inl (λ z. z);
-      in-commit = λ p d n z. z;
+      in_commit = λ p d n z. z;
     }
   where
     is_one : (c : CoroutineState) → T (is_coroutine (kind (Object.Coroutine f c)))
@@ -168,7 +168,7 @@ absent_in_range h os (suc t) = tt
 
 pub absent-fits : TaskFits absent
 unfolding absent
-absent-fits = record { state_fits = tt; awaiter_fits = tt; coroutine-fits = omega arith }
+absent-fits = record { state_fits = tt; awaiter_fits = tt; coroutine_fits = omega arith }
 
 module _ {r : ℕ → Bool} {D : ℕ → Type 0} {hd : Header} (s : Store) (t : ℕ) (h : SoundDuring Nothing r D hd s) (low : t < (header s).next) where
   remove-fits : TaskWrite Nothing Nothing Nothing Nothing (view s) t absent (entries (remove s.queue t))
@@ -180,10 +180,10 @@ module _ {r : ℕ → Bool} {D : ℕ → Type 0} {hd : Header} (s : Store) (t : 
         coroutine = λ z. absurd z;
         range = λ z. absent_in_range (header s) (object s) t;
         known = tt;
-        queue = λ z. queued-remove s.queue h.kept.memory.ids t absent h.kept.memory.words_right.queue-short z;
+        queue = λ z. queued-remove s.queue h.kept.memory.ids t absent h.kept.memory.words_right.queue_short z;
         awaits = λ d o e. absurd_some e;
         awaited = λ l. absurd l;
-        in-commit = λ p n. inl n;
+        in_commit = λ p n. inl n;
         excepted = λ u d n z. z;
       }
 
@@ -192,7 +192,7 @@ module _ {r : ℕ → Bool} {D : ℕ → Type 0} {hd : Header} (s : Store) (t : 
   unfolding remove_task remove_from_ready_queue put_task
   remove_keeps x z zt rz =
       add_log-during (put_queue (put_task s t absent) (remove s.queue t))
-      (task-during s h t absent (remove s.queue t) low absent-fits (remove-len s.queue t h.kept.memory.words_right.queue-short) (remove-length s.queue t ∙ h.kept.memory.ids)
+      (task-during s h t absent (remove s.queue t) low absent-fits (remove-len s.queue t h.kept.memory.words_right.queue_short) (remove-length s.queue t ∙ h.kept.memory.ids)
       remove-fits now) x
     where
       now : Runs z (with_task_queue (view s) t absent (entries (remove s.queue t)))
@@ -218,7 +218,7 @@ module _ {D : ℕ → Type 0} {hd : Header} (s : Store) (t : ℕ) (h : SoundDuri
         queue = λ z. queued-same t running z (header s).next (le_refl _) off;
         awaits = λ d o e. absurd_some e;
         awaited = λ l o z n e. absurd_some (sym free ∙ h.kept.but.awaited o z n t e live);
-        in-commit = λ p n. inl n;
+        in_commit = λ p n. inl n;
         excepted = λ u d n z. z;
       }
 
@@ -234,7 +234,7 @@ module _ {D : ℕ → Type 0} {hd : Header} (s : Store) (t : ℕ) (h : SoundDuri
   run_keeps on how =
       moment_sound_store {D = D} {hd = hd} (set_state s t TaskState.Running) (Moment.Running (task_id t)) (omega (arith, low, h.kept.but.fits.next_fits))
       (lt→ltb t hd.next low-hd) (λ z. on)
-      (task-during s h t running s.queue low (restated_fits (task s t) TaskState.Running (task-fits s t) tt) h.kept.memory.words_right.queue-short h.kept.memory.ids run_fits run-runs)
+      (task-during s h t running s.queue low (restated_fits (task s t) TaskState.Running (task-fits s t) tt) h.kept.memory.words_right.queue_short h.kept.memory.ids run_fits run-runs)
 
 -- ---- the cycle
 
@@ -257,7 +257,7 @@ module _ (D : ℕ → Type 0) (hd : Header) (R : Switched → Switched → Type 
       q = s.queue
 
       len : q.len ≤ task_limit
-      len = h.kept.memory.words_right.queue-short
+      len = h.kept.memory.words_right.queue_short
 
       Next : ℕ → Type 0
       Next u = R (act (put_queue s (pop_front q)) u) (other (put_queue s (pop_front q)) u)
@@ -296,7 +296,7 @@ module _ (D : ℕ → Type 0) (hd : Header) (R : Switched → Switched → Type 
       s = d.store
 
       len : s.queue.len ≤ task_limit
-      len = h.during.kept.memory.words_right.queue-short
+      len = h.during.kept.memory.words_right.queue_short
 
       by : (w : Option ℕ) → d.woken ≡ w
           → R (elim w [ none ↦ resume_next act d.store | some t ↦ act (remove_from_ready_queue d.store t) t ])
@@ -381,7 +381,7 @@ module _ (D : ℕ → Type 0) (hd : Header) (on : is_ended hd.moment ≡ false) 
             let x : Object = Object.Coroutine f CoroutineState.Running in
             let sp : Spawned (view s) (suc t) = spawned_of t h.kept.but low-s live in
             let is_new : object s c ≡ Object.Coroutine f CoroutineState.New = new_is (object s c) f q in
-            let ft : Fits 0 0 Nothing Nothing Nothing Nothing (view s) c x = coroutine-fits (view s) c f CoroutineState.New CoroutineState.Running sp.made is_new in
+            let ft : Fits 0 0 Nothing Nothing Nothing Nothing (view s) c x = coroutine_fits (view s) c f CoroutineState.New CoroutineState.Running sp.made is_new in
             let m : SoundDuring Nothing idle D hd (put_object s c x) = object-during s h c x (subst ObjectFits is_new (object-fits s c)) ft in
             run_keeps (put_object s c x) (suc t) m (subst (λ (y : Header). suc t < y.next) (sym (header_put-object s c x)) low-s) live free off on (start c f)
 

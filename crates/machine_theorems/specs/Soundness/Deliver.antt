@@ -129,7 +129,7 @@ settle_fits v o x st =
       slot = λ n g y e. absurd (nobody_slot (sym st.free ∙ e));
       opens = λ w e. absurd_some (sym st.settled ∙ e);
       excepted = λ t b l d e. inl (λ z. z);
-      in-commit = λ p d n z. z;
+      in_commit = λ p d n z. z;
     }
 
 settle_detached : (v : View) (o : ℕ) (x : Object) → Settles v o x → SoundBut 0 Nothing Nothing v → Detached (with_object v o x) o (awaiter_of (v.objects o))
@@ -141,7 +141,7 @@ settle_detached v o x st h =
       range = h.awaiters o st.made;
       slot = λ g y e.
           slotted 0 0 Nothing Nothing (Delivering (awaiter_of (v.objects o))) Nothing v o x (settle_fits v o x st) o g y
-          (λ q. by_object o st.made (λ z. z) (e ∙ ap (λ (i : ℕ). Awaiter.GatherSlot (heap_id g) (heap_id i)) q)) (h.object-slots o st.made (λ z. z) g y e);
+          (λ q. by_object o st.made (λ z. z) (e ∙ ap (λ (i : ℕ). Awaiter.GatherSlot (heap_id g) (heap_id i)) q)) (h.object_slots o st.made (λ z. z) g y e);
       task = λ t e l. h.awaited o st.made (λ z. z) t e l;
     }
 
@@ -156,7 +156,7 @@ module _ {r : ℕ → Bool} {D : ℕ → Type 0} {hd : Header} (s : Store) (o : 
   unfolding view
   detached_keeps =
       subst (λ (v : View). Detached v o (awaiter_of (object s o)))
-      (sym (view-put_object s o x h.kept.memory.sized (omega (arith, st.made, h.kept.but.fits.made-fits)) f)) (settle_detached (view s) o x st h.kept.but)
+      (sym (view-put_object s o x h.kept.memory.sized (omega (arith, st.made, h.kept.but.fits.made_fits)) f)) (settle_detached (view s) o x st h.kept.but)
 
 -- ---- a task is woken
 
@@ -194,7 +194,7 @@ not-blocked (TaskState.Blocked b) e = absurd (subst T e tt)
 
 pub restated_fits : (y : Task) (x : TaskState) → TaskFits y → StateFits x → TaskFits (restate y x)
 unfolding restate
-restated_fits y x f k = record { state_fits = k; awaiter_fits = f.awaiter_fits; coroutine-fits = f.coroutine-fits }
+restated_fits y x f k = record { state_fits = k; awaiter_fits = f.awaiter_fits; coroutine_fits = f.coroutine_fits }
 
 module _ {r : ℕ → Bool} {D : ℕ → Type 0} {hd : Header} (s : Store) (t o : ℕ) (x : TaskState) (rs : Resumes x) (f : StateFits x)
     (k : T (state_values (header s).made (object s) x)) (fl : Detached (view s) o (Awaiter.Task (task_id t)))
@@ -229,7 +229,7 @@ module _ {r : ℕ → Bool} {D : ℕ → Type 0} {hd : Header} (s : Store) (t o 
               let there : blocked_on (task s t).state ≡ some o = fl.task t refl was-live in
               let same : o ≡ p = some-injective o p (sym there ∙ here) in
               absurd (nobody-task (sym fl.free ∙ (ap (λ (m : ℕ). awaiter_of (object s m)) same ∙ a)));
-          in-commit = λ p n. inl n;
+          in_commit = λ p n. inl n;
           excepted = λ u d n z. d (sym (task-same z));
         }
 
@@ -241,7 +241,7 @@ module _ {r : ℕ → Bool} {D : ℕ → Type 0} {hd : Header} (s : Store) (t o 
 
     woken : SoundDuring Nothing r D hd (put_queue (put_task s t row) (push_back s.queue t))
     woken =
-        task-during s h t row (push_back s.queue t) low (restated_fits (task s t) x (task-fits s t) f) (push_back-len s.queue t h.kept.memory.words_right.queue-short)
+        task-during s h t row (push_back s.queue t) low (restated_fits (task s t) x (task-fits s t) f) (push_back-len s.queue t h.kept.memory.words_right.queue_short)
         (push_back-length s.queue t ∙ h.kept.memory.ids) wake-fits wake-runs
 
   -- The last step of a delivery, of a value or an error: the task that awaits is woken if it is blocked.
@@ -303,7 +303,7 @@ pub open_lower : {k : ℕ} {P Q : ℕ → Type 0} {v : View} (g : ℕ) (w : Awai
     → as_awaited (v.objects g) ≡ some w → Open v.places w z → z < g
 unfolding items_below
 open_lower {v = v} g w z h l e op =
-    let low : T (items_below v.places g (Object.GatherFuture w.first w.count (GatherState.Awaited w.awaiter w.open-places))) =
+    let low : T (items_below v.places g (Object.GatherFuture w.first w.count (GatherState.Awaited w.awaiter w.open_places))) =
     subst (λ (y : Object). T (items_below v.places g y)) (awaited-object (v.objects g) w e) (h.items g l) in
     subst (λ (m : ℕ). m < g) op.names (ltb→lt _ g (below w.count _ low op.at op.under))
 
@@ -317,15 +317,15 @@ raised_resumes e = record { lives = tt; unblocked = refl; stands = refl; old = r
 -- holds, and it is higher than o.
 pub record Sends (r : ℕ → Bool) (D : ℕ → Type 0) (hd : Header) (R : Store → Awaiter → Type 0) (o g : ℕ) (y : Settled) : Type 0 where
   pub stays : y.onward ≡ none → SoundDuring Nothing r D hd y.store
-  pub delivers-on : (b : Awaiter) → y.onward ≡ some b → R y.store b
+  pub delivers_on : (b : Awaiter) → y.onward ≡ some b → R y.store b
   pub up : (b : Awaiter) → y.onward ≡ some b → o < g
 
 module _ (r : ℕ → Bool) (D : ℕ → Type 0) (hd : Header) where
   pub sends-nothing : (R : Store → Awaiter → Type 0) (o g : ℕ) (s : Store) → SoundDuring Nothing r D hd s → Sends r D hd R o g (record { store = s; onward = none })
-  sends-nothing R o g s h = record { stays = λ e. h; delivers-on = λ b e. absurd_some e; up = λ b e. absurd_some e }
+  sends-nothing R o g s h = record { stays = λ e. h; delivers_on = λ b e. absurd_some e; up = λ b e. absurd_some e }
 
   pub sends-on : (R : Store → Awaiter → Type 0) (o g : ℕ) (s : Store) (a : Awaiter) → R s a → o < g → Sends r D hd R o g (record { store = s; onward = some a })
-  sends-on R o g s a h l = record { stays = λ e. absurd_some (sym e); delivers-on = λ b e. subst (R s) (some-injective a b e) h; up = λ b e. l }
+  sends-on R o g s a h l = record { stays = λ e. absurd_some (sym e); delivers_on = λ b e. subst (R s) (some-injective a b e) h; up = λ b e. l }
 
 -- an error of object o on its way to awaiter a
 pub record DeliveringError (r : ℕ → Bool) (D : ℕ → Type 0) (hd : Header) (o : ℕ) (s : Store) (a : Awaiter) : Type 0 where
@@ -367,16 +367,16 @@ module _ (r : ℕ → Bool) (D : ℕ → Type 0) (hd : Header) (e : Error) (k : 
       sent = error-sends s o g x i
 
       low : g < object_limit
-      low = omega (arith, (i.detached.slot g x refl).made, i.during.kept.but.fits.made-fits)
+      low = omega (arith, (i.detached.slot g x refl).made, i.during.kept.but.fits.made_fits)
 
       by : (b : Option Awaiter) → (fail_gather s g e).onward ≡ b → DeliveryEnds r D hd (deliver_awaiter_failure s (Awaiter.GatherSlot (heap_id g) (heap_id x)) e)
       by none q = unfold deliver_awaiter_failure send_error in (rw q (unfold climb in (nobody_delivery_ends _ (sent.stays q))))
-      by (some a) q = rw (failure_climbs s (heap_id g) (heap_id x) e a i.during.kept.memory.sized low q) (go _ g a (omega (arith, sent.up a q)) (sent.delivers-on a q))
+      by (some a) q = rw (failure_climbs s (heap_id g) (heap_id x) e a i.during.kept.memory.sized low q) (go _ g a (omega (arith, sent.up a q)) (sent.delivers_on a q))
 
   -- fuel is no matter: see failure_climbs
   failure-climb : (n : ℕ) (s : Store) (o : ℕ) (a : Awaiter) → object_limit ≤ n + o → DeliveringError r D hd o s a → DeliveryEnds r D hd (deliver_awaiter_failure s a e)
   unfolding view
-  failure-climb zero s o a f i = absurd (not-suc-le-zero {n = 0} (omega (arith, f, i.detached.made, i.during.kept.but.fits.made-fits)))
+  failure-climb zero s o a f i = absurd (not-suc-le-zero {n = 0} (omega (arith, f, i.detached.made, i.during.kept.but.fits.made_fits)))
   failure-climb (suc n) s o Awaiter.Nobody f i = unfold deliver_awaiter_failure send_error in (nobody_delivery_ends s (delivery_ends s (λ u z. nobody-task z) i.during))
   failure-climb (suc n) s o (Awaiter.Task t) f i = unfold deliver_awaiter_failure send_error in
       (reach_keeps s t.0 o (TaskState.Raised e) (raised_resumes e) k (unfold state_values in tt) i.detached i.during)

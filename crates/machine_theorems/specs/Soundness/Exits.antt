@@ -46,10 +46,10 @@ use Rattle.machine_laws.specs.MakingLaws.{nobody_slot}
 use Rattle.machine_theorems.specs.Soundness.ReadyTasks.{Queued, none-ready}
 use Rattle.machine_theorems.specs.Soundness.PutObject.{by_object, by_task}
 use Rattle.machine_theorems.specs.Soundness.PutTask.{is_task_of_give, with_task_queue, TaskWrite}
-use Rattle.machine_theorems.specs.Soundness.Stores.{Kept, Runs, idle, SoundDuring, SoundStore, view-task_queue, object-during, task-during, queue_during, add_log-during, during_of, sound_store_during, moment_sound_store}
+use Rattle.machine_theorems.specs.Soundness.Stores.{Kept, Runs, idle, SoundDuring, SoundStore, view_task_queue, object-during, task-during, queue_during, add_log-during, during_of, sound_store_during, moment_sound_store}
 use Rattle.machine_theorems.specs.Soundness.Deliver.{DeliveryEnds, Detached, take_off}
 use Rattle.machine_theorems.specs.Soundness.Fill.{Alone, DeliveringValue, success_keeps}
-use Rattle.machine_theorems.specs.Soundness.Cycle.{Spawned, spawned_of, not-a_task, coroutine-is, no_awaiter, task_detached, coroutine-fits, absent_in_range, absent-fits, remove_keeps, next_keeps, exit_keeps, failure_exit, activate_keeps}
+use Rattle.machine_theorems.specs.Soundness.Cycle.{Spawned, spawned_of, not-a_task, coroutine-is, no_awaiter, task_detached, coroutine_fits, absent_in_range, absent-fits, remove_keeps, next_keeps, exit_keeps, failure_exit, activate_keeps}
 
 -- ---- the running task
 
@@ -78,9 +78,9 @@ module _ (s : Store) (t : ℕ) (h : SoundStore s) (m : (header s).moment ≡ Mom
   unfolding runs_now
   others_commits_none u d = ap (λ (y : Moment). runs_now y u) m ∙ ne_eqb t u (λ q. d (sym q))
 
-  pub commits_none-on : is_ended (header s).moment ≡ false
+  pub commits_none_on : is_ended (header s).moment ≡ false
   unfolding is_ended
-  commits_none-on = ap is_ended m
+  commits_none_on = ap is_ended m
 
 -- ---- the end of a spawned task
 
@@ -125,7 +125,7 @@ complete_during {r} {D} {hd} s o l c h =
     let x : Object = Object.Coroutine i.0 CoroutineState.Completed in
     let q : completed (object s o) ≡ x = ap completed i.2 ∙ (unfold completed in refl) in
     subst (λ (y : Object). SoundDuring Nothing r D hd (put_object s o y)) (sym q)
-    (object-during s h o x (subst ObjectFits i.2 (object-fits s o)) (coroutine-fits (view s) o i.0 i.1 CoroutineState.Completed l i.2))
+    (object-during s h o x (subst ObjectFits i.2 (object-fits s o)) (coroutine_fits (view s) o i.0 i.1 CoroutineState.Completed l i.2))
 
 -- a flight does not see that a task was removed, if it is not bound for a task
 remove_detached : (s : Store) (t o : ℕ) (x : LogEntry) (a : Awaiter) → T (is_slot a) → Detached (view s) o a → Detached (view (add_log (remove_task s t) x)) o a
@@ -136,7 +136,7 @@ remove_detached s t o x a k fl =
 remove-view : {k : ℕ} {P Q : ℕ → Type 0} (s : Store) (t : ℕ) (x : LogEntry) → Kept k P Q s → t < (header s).next
     → view (add_log (remove_task s t) x) ≡ with_task_queue (view s) t absent (entries (remove s.queue t))
 unfolding view add_log remove_task remove_from_ready_queue put_queue put_task task object place header
-remove-view s t x h low = view-task_queue s h t absent (remove s.queue t) (omega (arith, low, h.but.fits.next_fits)) absent-fits
+remove-view s t x h low = view_task_queue s h t absent (remove s.queue t) (omega (arith, low, h.but.fits.next_fits)) absent-fits
 
 -- A spawned task completes: its coroutine is completed, it is removed, and its value is on its way.
 module _ (s : Store) (t : ℕ) (v : Value) (h : SoundStore s) (m : (header s).moment ≡ Moment.Running (task_id (suc t))) (k : T (value_known (header s).made (object s) v)) where
@@ -189,13 +189,13 @@ module _ (s : Store) (t : ℕ) (v : Value) (h : SoundStore s) (m : (header s).mo
   -- The event `complete`, of a spawned task.
   pub completion_keeps : SoundStore (handle_task_completion s (suc t) v).store
   unfolding handle_task_completion
-  completion_keeps = exit_keeps _ (header s) (commits_none-on s (suc t) h m) activate (activate_keeps _ (header s) (commits_none-on s (suc t) h m)) _ completion_delivery_ends
+  completion_keeps = exit_keeps _ (header s) (commits_none_on s (suc t) h m) activate (activate_keeps _ (header s) (commits_none_on s (suc t) h m)) _ completion_delivery_ends
 
 -- The event `fail`, of a spawned task.
 pub fail_keeps : (s : Store) (t : ℕ) (e : Error) → SoundStore s → (header s).moment ≡ Moment.Running (task_id (suc t)) → ErrorFits e
     → SoundStore (handle_task_failure activate s (suc t) e).store
 fail_keeps s t e h m k =
-    failure_exit (λ o. T (is_completed (kind (object s o)))) (header s) (commits_none-on s (suc t) h m) activate (activate_keeps _ (header s) (commits_none-on s (suc t) h m)) s t e
+    failure_exit (λ o. T (is_completed (kind (object s o)))) (header s) (commits_none_on s (suc t) h m) activate (activate_keeps _ (header s) (commits_none_on s (suc t) h m)) s t e
     (runs_now (header s).moment) k (runner_low s (suc t) h m) (runner-live s (suc t) h m) (others_commits_none s (suc t) h m) (during_of s h)
 
 -- ---- the session's end
@@ -233,7 +233,7 @@ module _ {D : ℕ → Type 0} {hd : Header} where
       → SoundDuring Nothing (but_for r t) D hd (add_log (put_task s t absent) (removed t))
   unfolding put_queue put_task
   end-one {r} s t e low h =
-      add_log-during (put_task s t absent) (task-during s h t absent s.queue low absent-fits h.kept.memory.words_right.queue-short h.kept.memory.ids write now) (removed t)
+      add_log-during (put_task s t absent) (task-during s h t absent s.queue low absent-fits h.kept.memory.words_right.queue_short h.kept.memory.ids write now) (removed t)
     where
       none-queued : Queued (header s).next (update (task s) t absent) (entries s.queue)
       none-queued =
@@ -249,7 +249,7 @@ module _ {D : ℕ → Type 0} {hd : Header} where
         queue = λ z. none-queued;
         awaits = λ d o e. absurd_some e;
         awaited = λ l. absurd l;
-        in-commit = λ p n. inl n;
+        in_commit = λ p n. inl n;
         excepted = λ u d n z. z;
       })
 
@@ -316,7 +316,7 @@ module _ (D : ℕ → Type 0) (hd : Header) where
   -- no task runs, and the tasks of coroutines are below the next number
   record NoneRuns (w : Walk) : Type 0 where
     during : SoundDuring Nothing idle D hd w.store
-    low : (o t : ℕ) → w.tasks-of o ≡ some t → t < hd.next
+    low : (o t : ℕ) → w.tasks_of o ≡ some t → t < hd.next
 
   one_keeps : (s : Store) (t : ℕ) → t < hd.next → SoundDuring Nothing idle D hd s → SoundDuring Nothing idle D hd (cancel_one s t)
   unfolding cancel_one
@@ -337,13 +337,13 @@ module _ (D : ℕ → Type 0) (hd : Header) where
 
   visit-none-runs : (w : Walk) (o : ℕ) → NoneRuns w → NoneRuns (visit w o)
   unfolding visit
-  visit-none-runs w o h = by (w.tasks-of o) refl
+  visit-none-runs w o h = by (w.tasks_of o) refl
     where
       by-live : (t : ℕ) → t < hd.next → (b : Bool) → NoneRuns (visit_by w o (pick b (some t) none))
       by-live t l true = unfold visit_by in (blocked-none-runs w t _ l h)
       by-live t l false = unfold visit_by in (reach-none-runs w o h)
 
-      by : (d : Option ℕ) → w.tasks-of o ≡ d → NoneRuns (visit_by w o (still_live w.store.tasks d))
+      by : (d : Option ℕ) → w.tasks_of o ≡ d → NoneRuns (visit_by w o (still_live w.store.tasks d))
       by none e = unfold still_live visit_by in (reach-none-runs w o h)
       by (some t) e = unfold still_live in (by-live t (h.low o t e) (is_live (task_at w.store.tasks t).state))
 
@@ -358,7 +358,7 @@ module _ (D : ℕ → Type 0) (hd : Header) where
   open-none-runs : (k : ℕ) (w : Walk) (a : AwaitedGather) (i : ℕ) → NoneRuns w → NoneRuns (visit_open w a i k)
   unfolding visit_open
   open-none-runs zero w a i h = h
-  open-none-runs (suc k) w a i h = open-none-runs k (visit_place w (a.first + i) i a.open-places) a (i + 1) (place-none-runs w (a.first + i) i a.open-places h)
+  open-none-runs (suc k) w a i h = open-none-runs k (visit_place w (a.first + i) i a.open_places) a (i + 1) (place-none-runs w (a.first + i) i a.open_places h)
 
   gather-none-runs : (w : Walk) (a : Option AwaitedGather) → NoneRuns w → NoneRuns (walk_gather w a)
   unfolding walk_gather

@@ -58,23 +58,23 @@ gather_within {v = v} g w h l e =
     eqb→eq w.first _ (both_left (eqb w.first _) _ (subst (λ (y : Object). T (object_in_range v.header (places_below v.objects g) y)) q (h.objects g l))) in
     let mine : count_of (v.objects g) ≡ w.count = ap count_of q ∙ (unfold count_of in refl) in
     let more : sum_below (g + 1) (λ o. count_of (v.objects o)) ≤ sum_below v.header.made (λ o. count_of (v.objects o)) = sum_more _ (g + 1) v.header.made (omega arith) in
-    let all : v.header.used ≡ sum_below v.header.made (λ o. count_of (v.objects o)) = h.all-used in
+    let all : v.header.used ≡ sum_below v.header.made (λ o. count_of (v.objects o)) = h.all_used in
     omega (arith, sum_last (λ o. count_of (v.objects o)) g)
 
 -- its open word has no bit at or above its count
 pub open_small : {k : ℕ} {P Q : ℕ → Type 0} {v : View} (g : ℕ) (w : AwaitedGather) → SoundBut k P Q v → g < v.header.made → as_awaited (v.objects g) ≡ some w
-    → w.open-places < 2 ^ w.count
+    → w.open_places < 2 ^ w.count
 unfolding object_in_range open_in_range
 open_small {v = v} g w h l e =
-    ltb→lt w.open-places _ (both_right (eqb w.first (places_below v.objects g)) _
+    ltb→lt w.open_places _ (both_right (eqb w.first (places_below v.objects g)) _
     (subst (λ (y : Object). T (object_in_range v.header (places_below v.objects g) y)) (awaited-object (v.objects g) w e) (h.objects g l)))
 
 -- the places not open are filled
 rest_of : {k : ℕ} {P : ℕ → Type 0} {v : View} (g : ℕ) (w : AwaitedGather) → SoundBut k P Nothing v → g < v.header.made → as_awaited (v.objects g) ≡ some w
-    → T (rest_filled v.places w.first w.count w.open-places)
+    → T (rest_filled v.places w.first w.count w.open_places)
 unfolding object_filled gather_filled
 rest_of {v = v} g w h l e =
-    both_right (not (eqb w.open-places 0)) _ (subst (λ (y : Object). T (object_filled v.places y)) (awaited-object (v.objects g) w e) (h.filled g l (λ z. z)))
+    both_right (not (eqb w.open_places 0)) _ (subst (λ (y : Object). T (object_filled v.places y)) (awaited-object (v.objects g) w e) (h.filled g l (λ z. z)))
 
 -- a live task whose awaiter is a slot drives a coroutine
 pub slot_task : (h : Header) (os : ℕ → Object) (t : ℕ) (y : Task) (g x : HeapId) → y.awaiter ≡ Awaiter.GatherSlot g x → T (is_live y.state)
@@ -92,11 +92,11 @@ module _ {r : ℕ → Bool} {D : ℕ → Type 0} {hd : Header} (s : Store) (g x 
   pub record Filling (ps : List ℕ) (m : ℕ) : Type 0 where
     pub during : SoundDuring Nothing r D hd (put_places s ps)
     pub item : (p : ℕ) → (place_at ps p).item ≡ (place s p).item
-    pub less : m ≤ w.open-places
+    pub less : m ≤ w.open_places
     pub rest : T (rest_filled (place_at ps) w.first w.count m)
-    pub kept : (j : ℕ) → bit w.open-places j ≡ true → ((place s (w.first + j)).item.0 ≡ x → ⊥) → bit m j ≡ true
+    pub kept : (j : ℕ) → bit w.open_places j ≡ true → ((place s (w.first + j)).item.0 ≡ x → ⊥) → bit m j ≡ true
 
-  begins : Filling s.places w.open-places
+  begins : Filling s.places w.open_places
   unfolding put_places place view
   begins =
       record { during = h; item = λ p. refl; less = le_refl _; rest = rest_of g w h.kept.but l e; kept = λ j b ne. b }
@@ -118,7 +118,7 @@ module _ {r : ℕ → Bool} {D : ℕ → Type 0} {hd : Header} (s : Store) (g x 
 
     row_fits : PlaceFits row
     unfolding view place put_places
-    row_fits = record { item-fits = (place-fits u at).item-fits; result_fits = value-fits (header s).made (object s) v h.kept.but.fits.made-fits k }
+    row_fits = record { item_fits = (place-fits u at).item_fits; result_fits = value-fits (header s).made (object s) v h.kept.but.fits.made_fits k }
 
     row_write : PlacesWrite (view u) (update (place u) at row)
     unfolding view place put_places header object
@@ -136,7 +136,7 @@ module _ {r : ℕ → Bool} {D : ℕ → Type 0} {hd : Header} (s : Store) (g x 
 
     now : (p : ℕ) → place_at (place_put ps at row) p ≡ update (place_at ps) at row p
     unfolding view with_place place put_place put_places
-    now p = ap (λ (y : View). y.places p) (view-put_place u at row f.during.kept.memory.sized (omega (arith, low-used, f.during.kept.but.fits.used-fits)) row_fits)
+    now p = ap (λ (y : View). y.places p) (view-put_place u at row f.during.kept.memory.sized (omega (arith, low-used, f.during.kept.but.fits.used_fits)) row_fits)
 
     written : Filling (place_put ps at row) (m - 2 ^ i)
     written =
@@ -163,10 +163,10 @@ module _ {r : ℕ → Bool} {D : ℕ → Type 0} {hd : Header} (s : Store) (g x 
   put ps m i = filled (place_put ps (w.first + i) (record { item = (place_at ps (w.first + i)).item; result = OptionValue.Some v })) (m - 2 ^ i)
 
   abbrev Fills : Filled → Type 0
-  Fills y = Filling y.places y.open-places
+  Fills y = Filling y.places y.open_places
 
   fill_step : (ps : List ℕ) (m i : ℕ) → Filling ps m → i < w.count
-      → Filling (fill_one ps m (w.first + i) i x v).places (fill_one ps m (w.first + i) i x v).open-places
+      → Filling (fill_one ps m (w.first + i) i x v).places (fill_one ps m (w.first + i) i x v).open_places
   unfolding fill_one
   fill_step ps m i f low = by (bit m i) refl (eqb (place_at ps (w.first + i)).item.0 x) refl
     where
@@ -177,17 +177,17 @@ module _ {r : ℕ → Bool} {D : ℕ → Type 0} {hd : Header} (s : Store) (g x 
       by false p c q = f
 
   fill-keeps : (n : ℕ) (ps : List ℕ) (m i : ℕ) → i + n ≤ w.count → Filling ps m
-      → Filling (fill_from ps m w.first x v i n).places (fill_from ps m w.first x v i n).open-places
+      → Filling (fill_from ps m w.first x v i n).places (fill_from ps m w.first x v i n).open_places
   unfolding fill_from
   fill-keeps zero ps m i z f = f
   fill-keeps (suc n) ps m i z f =
-      fill-keeps n (fill_one ps m (w.first + i) i x v).places (fill_one ps m (w.first + i) i x v).open-places (i + 1) (omega arith) (fill_step ps m i f (omega arith))
+      fill-keeps n (fill_one ps m (w.first + i) i x v).places (fill_one ps m (w.first + i) i x v).open_places (i + 1) (omega arith) (fill_step ps m i f (omega arith))
 
   abbrev pub after : Filled
-  after = fill_from s.places w.open-places w.first x v 0 w.count
+  after = fill_from s.places w.open_places w.first x v 0 w.count
 
-  pub all_filled : Filling after.places after.open-places
-  all_filled = fill-keeps w.count s.places w.open-places 0 (omega arith) begins
+  pub all_filled : Filling after.places after.open_places
+  all_filled = fill-keeps w.count s.places w.open_places 0 (omega arith) begins
 
 -- ---- holders of slots
 
@@ -207,7 +207,7 @@ settle_alone v o x st c h g z (by_task t m l e) q =
 pub alone_keeps : {r : ℕ → Bool} {D : ℕ → Type 0} {hd : Header} (s : Store) (o : ℕ) (x : Object) → ObjectFits x → Settles (view s) o x → is_coroutine (kind x) ≡ false
     → SoundDuring Nothing r D hd s → Alone (view (put_object s o x)) o
 alone_keeps s o x f st c h =
-    subst (λ (v : View). Alone v o) (sym (view-put_object s o x h.kept.memory.sized (omega (arith, st.made, h.kept.but.fits.made-fits)) f))
+    subst (λ (v : View). Alone v o) (sym (view-put_object s o x h.kept.memory.sized (omega (arith, st.made, h.kept.but.fits.made_fits)) f))
     (settle_alone (view s) o x st c h.kept.but)
 
 -- a gather's own slot is of another gather
@@ -237,7 +237,7 @@ awaits_on w m = Object.GatherFuture w.first w.count (GatherState.Awaited w.await
 -- an awaited gather with another open word: it is not 0, the rest is filled, and the holders' places are open
 mask_fits : (v : View) (g m : ℕ) (w : AwaitedGather) → SoundBut 0 Nothing Nothing v → g < v.header.made → as_awaited (v.objects g) ≡ some w
     → m < 2 ^ w.count → T (not (eqb m 0)) → T (rest_filled v.places w.first w.count m)
-    → ((z : ℕ) → Held Nothing v g z → (i : ℕ) → bit w.open-places i ≡ true → (v.places (w.first + i)).item.0 ≡ z → bit m i ≡ true)
+    → ((z : ℕ) → Held Nothing v g z → (i : ℕ) → bit w.open_places i ≡ true → (v.places (w.first + i)).item.0 ≡ z → bit m i ≡ true)
     → Fits 0 0 Nothing Nothing Nothing Nothing v g (awaits_on w m)
 unfolding count_of committed_places kind items_below object_filled gather_filled as_awaited as_pending object_in_range open_in_range object_values awaiter_of
 mask_fits v g m w h l e small some_open rest holders =
@@ -258,15 +258,15 @@ mask_fits v g m w h l e small some_open rest holders =
       awaited = λ n t f. h.awaited g l n t (awaiter_is (v.objects g) w e ∙ f);
       filled = λ n. both _ _ some_open rest;
       slot = λ n f y a.
-          let sl : Slotted v.header.made v.objects v.places g f y = h.object-slots g l n f y (awaiter_is (v.objects g) w e ∙ a) in
+          let sl : Slotted v.header.made v.objects v.places g f y = h.object_slots g l n f y (awaiter_is (v.objects g) w e ∙ a) in
           elsewhere v.header.made v.objects v.places g (awaits_on w m) g f y (not_own_slot g w h l e f y sl) sl;
       opens = λ u f z held sl.
           let op : Open v.places w z = sl.opens w e in
-          let same : ◌≡◌ {A = AwaitedGather} (record { first = w.first; count = w.count; awaiter = w.awaiter; open-places = m }) u = some-injective _ u f in
+          let same : ◌≡◌ {A = AwaitedGather} (record { first = w.first; count = w.count; awaiter = w.awaiter; open_places = m }) u = some-injective _ u f in
           subst (λ (x : AwaitedGather). Open v.places x z) same
           (record { at = op.at; under = op.under; is_open = holders z held op.at op.is_open op.names; names = op.names });
       excepted = λ t b z d e. inl (λ z. z);
-      in-commit = λ p d n z. z;
+      in_commit = λ p d n z. z;
     }
 
 pub completed-done : (ps : ℕ → Place) (f n : ℕ) → T (rest_filled ps f n 0) → Done ps f n GatherState.Completed
@@ -285,7 +285,7 @@ held-places s ps g z (by_task t m l e) = by_task t m l e
 module _ {r : ℕ → Bool} {D : ℕ → Type 0} {hd : Header} (s : Store) (g x : ℕ) (v : Value) (w : AwaitedGather) (h : SoundDuring Nothing r D hd s)
     (l : g < (header s).made) (e : as_awaited (object s g) ≡ some w) (k : T (value_known (header s).made (object s) v)) where
   mask : ℕ
-  mask = (after s g x v w h l e k).open-places
+  mask = (after s g x v w h l e k).open_places
 
   middle : Store
   middle = put_places s (after s g x v w h l e k).places
@@ -297,9 +297,9 @@ module _ {r : ℕ → Bool} {D : ℕ → Type 0} {hd : Header} (s : Store) (g x 
   full : Object
   full = Object.GatherFuture w.first w.count GatherState.Completed
 
-  same-header : header middle ≡ header s
+  same_header : header middle ≡ header s
   unfolding middle header put_places
-  same-header = refl
+  same_header = refl
 
   same_object : (o : ℕ) → object middle o ≡ object s o
   unfolding middle object put_places
@@ -310,7 +310,7 @@ module _ {r : ℕ → Bool} {D : ℕ → Type 0} {hd : Header} (s : Store) (g x 
   during = fills.during
 
   made : g < (header middle).made
-  made = subst (λ (y : Header). g < y.made) (sym same-header) l
+  made = subst (λ (y : Header). g < y.made) (sym same_header) l
 
   awaited : as_awaited (object middle g) ≡ some w
   awaited = ap as_awaited (same_object g) ∙ e
@@ -336,7 +336,7 @@ module _ {r : ℕ → Bool} {D : ℕ → Type 0} {hd : Header} (s : Store) (g x 
   list-known =
       both _ _ (lt→ltb g _ (subst (λ (y : Header). g < y.made) (sym (header_put-object middle g full)) made))
       (subst (λ (y : Object). T (is_completed (kind y)))
-      (sym (object_put-object middle g full during.kept.memory.sized (omega (arith, made, during.kept.but.fits.made-fits)) full-fits)) (unfold full kind in tt))
+      (sym (object_put-object middle g full during.kept.memory.sized (omega (arith, made, during.kept.but.fits.made_fits)) full-fits)) (unfold full kind in tt))
 
   -- it waits on
   waits-keeps : (mask ≡ 0 → ⊥) → ((z : ℕ) → Held Nothing (view s) g z → z ≡ x → ⊥) → SoundDuring Nothing r D hd (put_object middle g (awaits_on w mask))
@@ -346,7 +346,7 @@ module _ {r : ℕ → Bool} {D : ℕ → Type 0} {hd : Header} (s : Store) (g x 
       (mask_fits (view middle) g mask w during.kept.but made awaited small (holds _ (ap not (ne_eqb mask 0 some_open))) rest
       (λ z t i b n. fills.kept i b (λ y. alone z (unfold middle in (held-places s (after s g x v w h l e k).places g z t)) (sym n ∙ (item-same (w.first + i) ∙ y)))))
     where
-      old-fits : ObjectFits (awaits_on w w.open-places)
+      old-fits : ObjectFits (awaits_on w w.open_places)
       old-fits = awaited-fits s g w e
 
       small : mask < 2 ^ w.count
@@ -435,19 +435,19 @@ module _ (r : ℕ → Bool) (D : ℕ → Type 0) (hd : Header) where
       sent = value-sends s o g x v i
 
       low : g < object_limit
-      low = omega (arith, (i.detached.slot g x refl).made, i.during.kept.but.fits.made-fits)
+      low = omega (arith, (i.detached.slot g x refl).made, i.during.kept.but.fits.made_fits)
 
       by : (b : Option Awaiter) → (resolve_child s g x v).onward ≡ b → DeliveryEnds r D hd (deliver_awaiter_success s (Awaiter.GatherSlot (heap_id g) (heap_id x)) v)
       by none q = unfold deliver_awaiter_success send_value in (rw q (unfold climb in (nobody_delivery_ends _ (sent.stays q))))
       by (some a) q =
-          rw (success_climbs s (heap_id g) (heap_id x) v a i.during.kept.memory.sized low q) (go _ g a (Value.List (heap_id g)) (omega (arith, sent.up a q)) (sent.delivers-on a q))
+          rw (success_climbs s (heap_id g) (heap_id x) v a i.during.kept.memory.sized low q) (go _ g a (Value.List (heap_id g)) (omega (arith, sent.up a q)) (sent.delivers_on a q))
 
   success-climb : (n : ℕ) (s : Store) (o : ℕ) (a : Awaiter) (v : Value) → object_limit ≤ n + o → DeliveringValue r D hd o v s a → DeliveryEnds r D hd (deliver_awaiter_success s a v)
   unfolding view
-  success-climb zero s o a v f i = absurd (not-suc-le-zero {n = 0} (omega (arith, f, i.detached.made, i.during.kept.but.fits.made-fits)))
+  success-climb zero s o a v f i = absurd (not-suc-le-zero {n = 0} (omega (arith, f, i.detached.made, i.during.kept.but.fits.made_fits)))
   success-climb (suc n) s o Awaiter.Nobody v f i = unfold deliver_awaiter_success send_value in (nobody_delivery_ends s (delivery_ends s (λ u z. nobody-task z) i.during))
   success-climb (suc n) s o (Awaiter.Task t) v f i = unfold deliver_awaiter_success send_value in
-      (reach_keeps s t.0 o (TaskState.Woken v) (woken_resumes v) (value-fits (header s).made (object s) v i.during.kept.but.fits.made-fits i.known)
+      (reach_keeps s t.0 o (TaskState.Woken v) (woken_resumes v) (value-fits (header s).made (object s) v i.during.kept.but.fits.made_fits i.known)
       (unfold state_values in i.known) i.detached i.during)
   success-climb (suc n) s o (Awaiter.GatherSlot g x) v f i = success-slot n s o g.0 x.0 v f i (λ y p b w j m. success-climb n y p b w j m)
 

@@ -25,7 +25,7 @@ memory_object s o x l f h =
       sized = sized-put_object s o x h.sized;
       ids = unfold put_object in h.ids;
       words_right = subst (λ (y : Header). WordsInRange y.next y.made y.used (put_object s o x)) (sym (header_put-object s o x))
-          (words_put_object _ _ _ s h.sized h.words_right (header s).made o x (omega (arith, (header-fits s).made-fits)) f (λ p m ne. m));
+          (words_put_object _ _ _ s h.sized h.words_right (header s).made o x (omega (arith, (header-fits s).made_fits)) f (λ p m ne. m));
     }
 
 pub memory_place : (s : Store) (p : ℕ) (x : Place) → p < (header s).used → PlaceFits x → Memory s → Memory (put_place s p x)
@@ -34,5 +34,5 @@ memory_place s p x l f h =
     record {
       sized = sized-put_place s p x h.sized;
       ids = h.ids;
-      words_right = words_put_place (header s).next (header s).made (header s).used s h.sized h.words_right (header s).used p x (omega (arith, l, (header-fits s).used-fits)) f (λ q m ne. m);
+      words_right = words_put_place (header s).next (header s).made (header s).used s h.sized h.words_right (header s).used p x (omega (arith, l, (header-fits s).used_fits)) f (λ q m ne. m);
     }

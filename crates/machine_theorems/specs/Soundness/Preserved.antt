@@ -73,7 +73,7 @@ may_apply s x u b k os f = by (eqb x.tag 0) refl
         let one : eqb x.tag 1 ≡ true = eq-eqb x.tag 1 (omega (arith, tag_small, eqb-false x.tag 0 e)) in
         let known : T (ltb x.number (header s).made and is_completed (kind (object s x.number))) =
         and-false (eqb x.kind 0) (eqb x.tag 1) (ltb x.number (header s).made and is_completed (kind (object s x.number))) u (eq-eqb x.kind 0 k) one in
-        let low : x.number < object_limit = omega (arith, ltb→lt x.number (header s).made (both_left _ _ known), (header-fits s).made-fits) in
+        let low : x.number < object_limit = omega (arith, ltb→lt x.number (header s).made (both_left _ _ known), (header-fits s).made_fits) in
         let same : x.number % object_limit ≡ x.number = mod-eq_of_lt low in
         subst (λ (n : ℕ). T (ltb n (header s).made and is_completed (kind (os n)))) (sym same)
         (both _ _ (both_left _ _ known) (f x.number (both_right (ltb x.number (header s).made) _ known)))

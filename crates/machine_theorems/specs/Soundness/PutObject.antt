@@ -80,7 +80,7 @@ pub record Fits (k l : ℕ) (P Q P' Q' : ℕ → Type 0) (v : View) (o : ℕ) (x
       → Open v.places w z
   pub excepted : (t b : ℕ) → t < v.header.next → (P' t → ⊥) → blocked_on (v.tasks t).state ≡ some b
       → (P t → ⊥) ⊎ ((b ≡ o) × (awaiter_of x ≡ Awaiter.Task (task_id t)))
-  pub in-commit : (p : ℕ) → (p ≡ o → ⊥) → (Q' p → ⊥) → Q p → ⊥
+  pub in_commit : (p : ℕ) → (p ≡ o → ⊥) → (Q' p → ⊥) → Q p → ⊥
 
 module _ (k l : ℕ) (P Q P' Q' : ℕ → Type 0) (v : View) (o : ℕ) (x : Object) (ft : Fits k l P Q P' Q' v o x) where
   abbrev new : ℕ → Object
@@ -131,17 +131,17 @@ module _ (k l : ℕ) (P Q P' Q' : ℕ → Type 0) (v : View) (o : ℕ) (x : Obje
       record {
         fits = h.fits;
         main = h.main;
-        all-used = h.all-used ∙ sym (same-below v.header.made);
+        all_used = h.all_used ∙ sym (same-below v.header.made);
         objects = λ p z. rw (same-below p)
             (more (λ (y : Object). T (object_in_range v.header (places_below v.objects p) y)) (ft.range (places_below v.objects p)) p (h.objects p z));
         awaiters = λ p z. more (λ (y : Object). T (awaiter_in_range v.header (awaiter_of y))) ft.awaiter p (h.awaiters p z);
         tasks = λ t z. task_more v.header v.header (le_refl _) (le_refl _) v.objects new (λ o l. more (λ (y : Object). T (is_coroutine (kind y))) ft.coroutine o) t (v.tasks t) (h.tasks t z);
         spawned = omega (arith, h.spawned, ft.room, sum_update committed_places v.objects o x v.header.made ft.made);
         items = λ g z. case (λ g y. T (items_below v.places g y)) g (ft.lower (h.items o ft.made)) (λ d. h.items g z);
-        object-lists = λ p z. object-stays v.header.made v.header.made (le_refl _) v.objects new (λ o l. more-completed o) (new p)
-            (more (λ (y : Object). T (object_values v.header.made v.objects y)) ft.known p (h.object-lists p z));
-        task-lists = λ t z. state_stays v.header.made v.header.made (le_refl _) v.objects new (λ o l. more-completed o) (v.tasks t).state (h.task-lists t z);
-        place-lists = λ p z. option_stays v.header.made v.header.made (le_refl _) v.objects new (λ o l. more-completed o) (v.places p).result (h.place-lists p z);
+        object_lists = λ p z. object-stays v.header.made v.header.made (le_refl _) v.objects new (λ o l. more-completed o) (new p)
+            (more (λ (y : Object). T (object_values v.header.made v.objects y)) ft.known p (h.object_lists p z));
+        task_lists = λ t z. state_stays v.header.made v.header.made (le_refl _) v.objects new (λ o l. more-completed o) (v.tasks t).state (h.task_lists t z);
+        place_lists = λ p z. option_stays v.header.made v.header.made (le_refl _) v.objects new (λ o l. more-completed o) (v.places p).result (h.place_lists p z);
         entries = h.entries;
         calls = λ n p q y z a b e f c.
             let i = old-call p a e in
@@ -151,15 +151,15 @@ module _ (k l : ℕ) (P Q P' Q' : ℕ → Type 0) (v : View) (o : ℕ) (x : Obje
         awaits = λ t z d b e. awaits-new t b z d e (ft.excepted t b z d e);
         awaited = λ p z n t.
             case (λ p y. (Q' p → ⊥) → awaiter_of y ≡ Awaiter.Task (task_id t) → T (is_live (v.tasks t).state) → blocked_on (v.tasks t).state ≡ some p) p
-            (λ m e. ft.awaited m t e) (λ d m e. h.awaited p z (ft.in-commit p d m) t e) n;
-        filled = λ p z. case (λ p y. (Q' p → ⊥) → T (object_filled v.places y)) p ft.filled (λ d m. h.filled p z (ft.in-commit p d m));
-        object-slots = λ p z n g y.
+            (λ m e. ft.awaited m t e) (λ d m e. h.awaited p z (ft.in_commit p d m) t e) n;
+        filled = λ p z. case (λ p y. (Q' p → ⊥) → T (object_filled v.places y)) p ft.filled (λ d m. h.filled p z (ft.in_commit p d m));
+        object_slots = λ p z n g y.
             case (λ p r. (Q' p → ⊥) → awaiter_of r ≡ Awaiter.GatherSlot (heap_id g) (heap_id y) → Slotted v.header.made new v.places p g y) p
             (λ m e. ft.slot m g y e)
-            (λ d m e. slotted p g y (λ q. by_object p z (ft.in-commit p d m) (e ∙ ap (λ (i : ℕ). Awaiter.GatherSlot (heap_id g) (heap_id i)) q))
-            (h.object-slots p z (ft.in-commit p d m) g y e)) n;
-        task-slots = λ t z a g y e.
-            slotted (v.tasks t).coroutine.0 g y (λ q. by_task t z a (e ∙ ap (λ (i : ℕ). Awaiter.GatherSlot (heap_id g) (heap_id i)) q)) (h.task-slots t z a g y e);
+            (λ d m e. slotted p g y (λ q. by_object p z (ft.in_commit p d m) (e ∙ ap (λ (i : ℕ). Awaiter.GatherSlot (heap_id g) (heap_id i)) q))
+            (h.object_slots p z (ft.in_commit p d m) g y e)) n;
+        task_slots = λ t z a g y e.
+            slotted (v.tasks t).coroutine.0 g y (λ q. by_task t z a (e ∙ ap (λ (i : ℕ). Awaiter.GatherSlot (heap_id g) (heap_id i)) q)) (h.task_slots t z a g y e);
       }
     where
       more-completed : (p : ℕ) → T (is_completed (kind (v.objects p))) → T (is_completed (kind (new p)))

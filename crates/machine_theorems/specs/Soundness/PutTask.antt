@@ -64,7 +64,7 @@ pub record TaskWrite (P Q P' Q' : ℕ → Type 0) (v : View) (t : ℕ) (r : Task
   pub awaits : (P' t → ⊥) → (o : ℕ) → blocked_on r.state ≡ some o → AwaitedBy v.header.made v.objects t o
   pub awaited : T (is_live r.state) → (o : ℕ) → o < v.header.made → (Q' o → ⊥) → awaiter_of (v.objects o) ≡ Awaiter.Task (task_id t)
       → blocked_on r.state ≡ some o
-  pub in-commit : (p : ℕ) → (Q' p → ⊥) → (Q p → ⊥) ⊎ Closes v t p
+  pub in_commit : (p : ℕ) → (Q' p → ⊥) → (Q p → ⊥) ⊎ Closes v t p
   pub excepted : (u : ℕ) → (u ≡ t → ⊥) → (P' u → ⊥) → P u → ⊥
 
 module _ (k : ℕ) (P Q P' Q' : ℕ → Type 0) (v : View) (t : ℕ) (r : Task) (q : List ℕ) (ft : TaskWrite P Q P' Q' v t r q) where
@@ -97,7 +97,7 @@ module _ (k : ℕ) (P Q P' Q' : ℕ → Type 0) (v : View) (t : ℕ) (r : Task) 
       record {
         fits = h.fits;
         main = h.main;
-        all-used = h.all-used;
+        all_used = h.all_used;
         objects = h.objects;
         awaiters = h.awaiters;
         tasks = λ u z. update_case v.tasks t r (λ (y : Task). T (task_in_range v.header v.objects u y)) u
@@ -106,21 +106,21 @@ module _ (k : ℕ) (P Q P' Q' : ℕ → Type 0) (v : View) (t : ℕ) (r : Task) 
             (λ d. h.tasks u z);
         spawned = h.spawned;
         items = h.items;
-        object-lists = h.object-lists;
-        task-lists = λ u z. update_case v.tasks t r (λ (y : Task). T (state_values v.header.made v.objects y.state)) u (λ e. ft.known) (λ d. h.task-lists u z);
-        place-lists = h.place-lists;
+        object_lists = h.object_lists;
+        task_lists = λ u z. update_case v.tasks t r (λ (y : Task). T (state_values v.header.made v.objects y.state)) u (λ e. ft.known) (λ d. h.task_lists u z);
+        place_lists = h.place_lists;
         entries = from-queued v.header.next new q (ft.queue (to_queued v.header.next v.tasks v.queue h.entries));
         calls = h.calls;
         task_of = λ c u w a b d e. h.task_of c u w a b (drove c u d) (drove c w e);
         awaits = λ u z d o. case (λ u y. u < v.header.next → (P' u → ⊥) → blocked_on y.state ≡ some o → AwaitedBy v.header.made v.objects u o) u
             (λ l n e. ft.awaits n o e) (λ n l m e. h.awaits u l (ft.excepted u n m) o e) z d;
         awaited = λ o z n u e. case (λ u y. awaiter_of (v.objects o) ≡ Awaiter.Task (task_id u) → T (is_live y.state) → blocked_on y.state ≡ some o) u
-            (λ f a. ft.awaited a o z n f) (λ d f a. awaited-other o z u d f a (ft.in-commit o n)) e;
-        filled = λ p z n. filled-new p z (ft.in-commit p n);
-        object-slots = λ o z n g y e. slot-new o z g y e (ft.in-commit o n);
-        task-slots = λ u z a g y e.
+            (λ f a. ft.awaited a o z n f) (λ d f a. awaited-other o z u d f a (ft.in_commit o n)) e;
+        filled = λ p z n. filled-new p z (ft.in_commit p n);
+        object_slots = λ o z n g y e. slot-new o z g y e (ft.in_commit o n);
+        task_slots = λ u z a g y e.
             subst (λ (c : ℕ). Slotted v.header.made v.objects v.places c g y) (sym (coroutine_same u a))
-            (h.task-slots u z (lived u a) g y (sym (awaiter_same u a) ∙ e));
+            (h.task_slots u z (lived u a) g y (sym (awaiter_same u a) ∙ e));
       }
     where
       awaited-other : (o : ℕ) → o < v.header.made → (u : ℕ) → (u ≡ t → ⊥) → awaiter_of (v.objects o) ≡ Awaiter.Task (task_id u)
@@ -134,7 +134,7 @@ module _ (k : ℕ) (P Q P' Q' : ℕ → Type 0) (v : View) (t : ℕ) (r : Task) 
 
       slot-new : (o : ℕ) → o < v.header.made → (g y : ℕ) → awaiter_of (v.objects o) ≡ Awaiter.GatherSlot (heap_id g) (heap_id y)
           → (Q o → ⊥) ⊎ Closes v t o → Slotted v.header.made v.objects v.places o g y
-      slot-new o z g y e (inl n) = h.object-slots o z n g y e
+      slot-new o z g y e (inl n) = h.object_slots o z n g y e
       slot-new o z g y e (inr c) = absurd (let no_slot : ◌≡◌ {A = ℕ} 0 1 = cc c.awaiter in not-suc-le-zero {n = 0} (omega arith))
 
 -- ---- what is excepted changes, and the queue
@@ -146,23 +146,23 @@ pub but_keeps : {k l : ℕ} {P Q P' Q' : ℕ → Type 0} {v : View} → l ≤ k
 but_keeps {v = v} less f g h = record {
   fits = h.fits;
   main = h.main;
-  all-used = h.all-used;
+  all_used = h.all_used;
   objects = h.objects;
   awaiters = h.awaiters;
   tasks = h.tasks;
   spawned = omega (arith, h.spawned);
   items = h.items;
-  object-lists = h.object-lists;
-  task-lists = h.task-lists;
-  place-lists = h.place-lists;
+  object_lists = h.object_lists;
+  task_lists = h.task_lists;
+  place_lists = h.place_lists;
   entries = h.entries;
   calls = h.calls;
   task_of = h.task_of;
   awaits = λ t l d o e. h.awaits t l (f t o l d e) o e;
   awaited = λ o l d. h.awaited o l (g o l d);
   filled = λ p l d. h.filled p l (g p l d);
-  object-slots = λ o l d. h.object-slots o l (g o l d);
-  task-slots = h.task-slots;
+  object_slots = λ o l d. h.object_slots o l (g o l d);
+  task_slots = h.task_slots;
 }
 
 -- other entries
@@ -172,23 +172,23 @@ unfolding with_queue
 queue_keeps {v = v} q f h = record {
   fits = h.fits;
   main = h.main;
-  all-used = h.all-used;
+  all_used = h.all_used;
   objects = h.objects;
   awaiters = h.awaiters;
   tasks = h.tasks;
   spawned = h.spawned;
   items = h.items;
-  object-lists = h.object-lists;
-  task-lists = h.task-lists;
-  place-lists = h.place-lists;
+  object_lists = h.object_lists;
+  task_lists = h.task_lists;
+  place_lists = h.place_lists;
   entries = from-queued v.header.next v.tasks q (f (to_queued v.header.next v.tasks v.queue h.entries));
   calls = h.calls;
   task_of = h.task_of;
   awaits = h.awaits;
   awaited = h.awaited;
   filled = h.filled;
-  object-slots = h.object-slots;
-  task-slots = h.task-slots;
+  object_slots = h.object_slots;
+  task_slots = h.task_slots;
 }
 
 -- ---- the places
@@ -243,21 +243,21 @@ module _ (v : View) (ps : ℕ → Place) (ft : PlacesWrite v ps) where
       record {
         fits = h.fits;
         main = h.main;
-        all-used = h.all-used;
+        all_used = h.all_used;
         objects = h.objects;
         awaiters = h.awaiters;
         tasks = h.tasks;
         spawned = h.spawned;
         items = λ g z. lower-same g (v.objects g) (h.items g z);
-        object-lists = h.object-lists;
-        task-lists = h.task-lists;
-        place-lists = λ p z. ft.known p (h.place-lists p z);
+        object_lists = h.object_lists;
+        task_lists = h.task_lists;
+        place_lists = λ p z. ft.known p (h.place_lists p z);
         entries = h.entries;
         calls = h.calls;
         task_of = h.task_of;
         awaits = h.awaits;
         awaited = h.awaited;
         filled = λ g z n. filled_more (v.objects g) (h.filled g z n);
-        object-slots = λ o z n g y e. slotted-same o g y (h.object-slots o z n g y e);
-        task-slots = λ t z a g y e. slotted-same (v.tasks t).coroutine.0 g y (h.task-slots t z a g y e);
+        object_slots = λ o z n g y e. slotted-same o g y (h.object_slots o z n g y e);
+        task_slots = λ t z a g y e. slotted-same (v.tasks t).coroutine.0 g y (h.task_slots t z a g y e);
       }

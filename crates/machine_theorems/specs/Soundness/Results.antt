@@ -87,7 +87,7 @@ known_or : (v : View) (o : ℕ) (p : PendingExternal) (x : Value) → SoundBut 0
     → T (value_known v.header.made v.objects x) → T (value_known v.header.made v.objects (value_or p.stored x))
 unfolding object_values
 known_or v o p x h l e k =
-    by p.stored (subst (λ (y : Object). T (object_values v.header.made v.objects y)) (pending-object (v.objects o) p e) (h.object-lists o l))
+    by p.stored (subst (λ (y : Object). T (object_values v.header.made v.objects y)) (pending-object (v.objects o) p e) (h.object_lists o l))
   where
     by : (r : OptionValue) → T (option_known v.header.made v.objects r) → T (value_known v.header.made v.objects (value_or r x))
     by OptionValue.None t = unfold value_or in k
@@ -130,7 +130,7 @@ module _ {r : ℕ → Bool} {D : ℕ → Type 0} {hd : Header} (s : Store) (h : 
       let y : Object = Object.ExternalFuture p.call (ExternalFutureState.Resolved x) in
       let known : T (value_known (header s).made (object s) x) = known_or (view s) o p v h.kept.but l e k in
       let st : Settles (view s) o y = external_settles (view s) o p (ExternalFutureState.Resolved x) l e (resolved_answered (view s) p.call x known) in
-      let fit : ObjectFits y = ((pending-fits s o p e).0, value-fits (header s).made (object s) x h.kept.but.fits.made-fits known) in
+      let fit : ObjectFits y = ((pending-fits s o p e).0, value-fits (header s).made (object s) x h.kept.but.fits.made_fits known) in
       let aw : awaiter_of (object s o) ≡ p.awaiter = pending_awaiter (object s o) p e in
       record {
         known = known-settled o y x fit st known;
@@ -145,8 +145,8 @@ module _ {r : ℕ → Bool} {D : ℕ → Type 0} {hd : Header} (s : Store) (h : 
       ≡ Object.ExternalFuture p.call (ExternalFutureState.Resolved (value_or p.stored v))
   unfolding view
   resolve_row v k o p l e =
-      object_put-object s o _ h.kept.memory.sized (omega (arith, l, h.kept.but.fits.made-fits))
-      ((pending-fits s o p e).0, value-fits (header s).made (object s) (value_or p.stored v) h.kept.but.fits.made-fits (known_or (view s) o p v h.kept.but l e k))
+      object_put-object s o _ h.kept.memory.sized (omega (arith, l, h.kept.but.fits.made_fits))
+      ((pending-fits s o p e).0, value-fits (header s).made (object s) (value_or p.stored v) h.kept.but.fits.made_fits (known_or (view s) o p v h.kept.but l e k))
 
   pub resolve_keeps : (call : ℕ) (v : Value) → T (value_known (header s).made (object s) v) → SoundDuring Nothing r D hd (resolve_future s call v)
   unfolding resolve_future resolve_pending
@@ -171,7 +171,7 @@ module _ {r : ℕ → Bool} {D : ℕ → Type 0} {hd : Header} (s : Store) (h : 
   pub fail-row : (x : Error) → ErrorFits x → (o : ℕ) (p : PendingExternal) → o < (header s).made → as_pending (object s o) ≡ some p
       → object (put_object s o (Object.ExternalFuture p.call (ExternalFutureState.Failed x))) o ≡ Object.ExternalFuture p.call (ExternalFutureState.Failed x)
   unfolding view
-  fail-row x k o p l e = object_put-object s o _ h.kept.memory.sized (omega (arith, l, h.kept.but.fits.made-fits)) ((pending-fits s o p e).0, k)
+  fail-row x k o p l e = object_put-object s o _ h.kept.memory.sized (omega (arith, l, h.kept.but.fits.made_fits)) ((pending-fits s o p e).0, k)
 
   pub fail_future_keeps : (call : ℕ) (x : Error) → ErrorFits x → SoundDuring Nothing r D hd (fail_future s call x)
   unfolding fail_future fail_pending
@@ -219,6 +219,6 @@ ordered-keep s u h =
     let q : ReadyQueue = u.queue in
     let n : ℕ = s.queue.len in
     let ids : length q.ids ≡ task_limit = h.kept.memory.ids in
-    let short : q.len ≤ task_limit = h.kept.memory.words_right.queue-short in
+    let short : q.len ≤ task_limit = h.kept.memory.words_right.queue_short in
     queue_during u h (order_from q n) (subst (λ (k : ℕ). k ≤ task_limit) (sym (order_from-len q n)) short) (order_from-length q n ∙ ids)
     (queued-ordered (entries q) (entries (order_from q n)) (order_occurrences q n ids short))

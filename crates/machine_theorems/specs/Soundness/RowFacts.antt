@@ -63,16 +63,16 @@ remove-sized (suc k) s t z = remove-sized k _ (t + 1) (by (is_live (task s t).st
 
 -- ---- the open places of an awaited gather of a sound store
 
-pub sound-some_open : (s : Store) (g : ℕ) (w : AwaitedGather) → SoundBut 0 Nothing Nothing (view s) → g < (header s).made → as_awaited (object s g) ≡ some w → w.open-places ≡ 0 → ⊥
+pub sound-some_open : (s : Store) (g : ℕ) (w : AwaitedGather) → SoundBut 0 Nothing Nothing (view s) → g < (header s).made → as_awaited (object s g) ≡ some w → w.open_places ≡ 0 → ⊥
 unfolding view object_filled gather_filled
 sound-some_open s g w h l e =
-    let k : T (object_filled (place s) (Object.GatherFuture w.first w.count (GatherState.Awaited w.awaiter w.open-places))) =
+    let k : T (object_filled (place s) (Object.GatherFuture w.first w.count (GatherState.Awaited w.awaiter w.open_places))) =
     subst (λ (r : Object). T (object_filled (place s) r)) (awaited-object (object s g) w e) (h.filled g l (λ z. z)) in
-    eqb-false w.open-places 0 (is_false (eqb w.open-places 0) (both_left _ _ k))
+    eqb-false w.open_places 0 (is_false (eqb w.open_places 0) (both_left _ _ k))
 
-pub sound_no_other : (s : Store) (g : ℕ) (w : AwaitedGather) → SoundBut 0 Nothing Nothing (view s) → g < (header s).made → as_awaited (object s g) ≡ some w → w.open-places < 2 ^ w.count
+pub sound_no_other : (s : Store) (g : ℕ) (w : AwaitedGather) → SoundBut 0 Nothing Nothing (view s) → g < (header s).made → as_awaited (object s g) ≡ some w → w.open_places < 2 ^ w.count
 unfolding view object_in_range open_in_range
 sound_no_other s g w h l e =
-    let k : T (object_in_range (header s) (places_below (object s) g) (Object.GatherFuture w.first w.count (GatherState.Awaited w.awaiter w.open-places))) =
+    let k : T (object_in_range (header s) (places_below (object s) g) (Object.GatherFuture w.first w.count (GatherState.Awaited w.awaiter w.open_places))) =
     subst (λ (r : Object). T (object_in_range (header s) (places_below (object s) g) r)) (awaited-object (object s g) w e) (h.objects g l) in
-    ltb→lt w.open-places (2 ^ w.count) (both_right _ _ k)
+    ltb→lt w.open_places (2 ^ w.count) (both_right _ _ k)

@@ -51,8 +51,8 @@ making_queue s Event.eager m = absurd m
 -- ---- one event
 
 module _ (s : Store) (h : SoundStore s) where
-  pub forget-sound_store : SoundStore (forget s)
-  forget-sound_store = sound-store_of (forget s) (sized-forget s h.memory.sized) (unfold forget in h.memory.ids) (subst T (sym (sound-forget s)) (sound_store_sound s h))
+  pub forget_sound_store : SoundStore (forget s)
+  forget_sound_store = sound-store_of (forget s) (sized-forget s h.memory.sized) (unfold forget in h.memory.ids) (subst T (sym (sound-forget s)) (sound_store_sound s h))
 
   makes : (e : Event) → Making e → refusal s e ≡ 0 → SoundStore (step s e).store
   makes e m r =
@@ -60,7 +60,7 @@ module _ (s : Store) (h : SoundStore s) where
       sound-store_of (step s e).store (step-sized s e h.memory.sized) (ap (λ (q : ReadyQueue). length q.ids) same ∙ h.memory.ids) (holds _ (making-sound s e h.memory.sized m r))
 
   acts : (e : Event) → Acting e → refusal s e ≡ 0 → SoundStore (step s e).store
-  acts e a r = rw (accepted-step s e r) (accept_keeps (forget s) e forget-sound_store a (refusal-rest (forget s) e (refusal-forget s e ∙ r)))
+  acts e a r = rw (accepted-step s e r) (accept_keeps (forget s) e forget_sound_store a (refusal-rest (forget s) e (refusal-forget s e ∙ r)))
 
   accepted : (e : Event) → InRange e → refusal s e ≡ 0 → SoundStore (step s e).store
   unfolding InRange Acting Making
@@ -79,12 +79,12 @@ module _ (s : Store) (h : SoundStore s) where
   accepted Event.eager i r = acts Event.eager tt r
 
   -- An event, refused or not, leaves a sound store sound, and memory of its lengths.
-  pub step-sound_store : (e : Event) → InRange e → SoundStore (step s e).store
-  step-sound_store e i = by (ℕ_discrete (refusal s e) 0)
+  pub step_sound_store : (e : Event) → InRange e → SoundStore (step s e).store
+  step_sound_store e i = by (ℕ_discrete (refusal s e) 0)
     where
       by : Dec (refusal s e ≡ 0) → SoundStore (step s e).store
       by (yes r) = accepted e i r
-      by (no ne) = rw (refused-step s e (refusal s e) refl ne) forget-sound_store
+      by (no ne) = rw (refused-step s e (refusal s e) refl ne) forget_sound_store
 
 -- An event that no refusal meets leaves a sound store sound: that the store is sound before is the table's check 2. The memory is of its
 -- lengths, as the slices' lengths (refusal 1) and the queue's type have it.
@@ -97,7 +97,7 @@ unfolding lent_step
 lent_sound_store s l e h i = by (lengths_right s l)
   where
     by : (b : Bool) → SoundStore (lent_by b s l e).store
-    by true = unfold lent_by in (step-sound_store s h e i)
+    by true = unfold lent_by in (step_sound_store s h e i)
     by false = unfold lent_by in h
 
 -- ---- sessions
@@ -110,7 +110,7 @@ AllInRange (e ∷ es) = InRange e × AllInRange es
 pub session_sound_store : (es : List Event) (s : Store) → AllInRange es → SoundStore s → SoundStore (after s es)
 unfolding after AllInRange
 session_sound_store [] s i h = h
-session_sound_store (e ∷ es) s i h = session_sound_store es (step s e).store i.1 (step-sound_store s h e i.0)
+session_sound_store (e ∷ es) s i h = session_sound_store es (step s e).store i.1 (step_sound_store s h e i.0)
 
 fresh-sound : sound fresh ≡ true
 unfolding stores verdicts

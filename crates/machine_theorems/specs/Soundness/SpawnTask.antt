@@ -108,24 +108,24 @@ module _ (k : ℕ) (Q : ℕ → Type 0) (v : View) (c g : ℕ) (h : SoundBut (su
   spawn_keeps q queue =
       record {
         fits = record {
-          made-fits = h.fits.made-fits;
-          used-fits = h.fits.used-fits;
-          calls-fit = h.fits.calls-fit;
+          made_fits = h.fits.made_fits;
+          used_fits = h.fits.used_fits;
+          calls_fit = h.fits.calls_fit;
           next_fits = omega arith;
           moment_fits = h.fits.moment_fits;
         };
         main = omega arith;
-        all-used = h.all-used;
+        all_used = h.all_used;
         objects = λ o z. object-one_more v.header _ (v.objects o) (h.objects o z);
         awaiters = λ o z. awaiter_one_more v.header (awaiter_of (v.objects o)) (h.awaiters o z);
         tasks = λ t z. case (λ t y. t < n + 1 → T (task_in_range (one_more v.header) v.objects t y)) t (λ y. row-in-range n refl)
             (λ d y. task-one_more v.header v.objects t (v.tasks t) (h.tasks t (omega arith))) z;
         spawned = omega (arith, h.spawned);
         items = h.items;
-        object-lists = h.object-lists;
-        task-lists = λ t z. case (λ t y. t < n + 1 → T (state_values v.header.made v.objects y.state)) t (λ y. unfold state_values in tt)
-            (λ d y. h.task-lists t (omega arith)) z;
-        place-lists = h.place-lists;
+        object_lists = h.object_lists;
+        task_lists = λ t z. case (λ t y. t < n + 1 → T (state_values v.header.made v.objects y.state)) t (λ y. unfold state_values in tt)
+            (λ d y. h.task_lists t (omega arith)) z;
+        place_lists = h.place_lists;
         entries = from-queued (n + 1) new q (queue (to_queued n v.tasks v.queue h.entries));
         calls = h.calls;
         task_of = task-of-new;
@@ -134,10 +134,10 @@ module _ (k : ℕ) (Q : ℕ → Type 0) (v : View) (c g : ℕ) (h : SoundBut (su
         awaited = λ o z m t. case (λ t y. awaiter_of (v.objects o) ≡ Awaiter.Task (task_id t) → T (is_live y.state) → blocked_on y.state ≡ some o) t
             (λ e. absurd (not-suc-le-zero {n = 0} (omega (arith, awaiter_below v.header _ n (h.awaiters o z) e)))) (λ d e. h.awaited o z m t e);
         filled = h.filled;
-        object-slots = h.object-slots;
-        task-slots = λ t z. case (λ t y. t < n + 1 → T (is_live y.state) → (f x : ℕ) → y.awaiter ≡ Awaiter.GatherSlot (heap_id f) (heap_id x)
+        object_slots = h.object_slots;
+        task_slots = λ t z. case (λ t y. t < n + 1 → T (is_live y.state) → (f x : ℕ) → y.awaiter ≡ Awaiter.GatherSlot (heap_id f) (heap_id x)
             → Slotted v.header.made v.objects v.places y.coroutine.0 f x) t
-            (λ l a f x e. slot_is f x e) (λ d l a. h.task-slots t (omega arith) a) z;
+            (λ l a f x e. slot_is f x e) (λ d l a. h.task_slots t (omega arith) a) z;
       }
     where
       task-of-new : (d t u : ℕ) → t < n + 1 → u < n + 1 → T (is_task_of_at new d t) → T (is_task_of_at new d u) → t ≡ u

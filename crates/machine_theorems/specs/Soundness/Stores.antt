@@ -69,16 +69,16 @@ module _ {k : ℕ} {P Q : ℕ → Type 0} (s : Store) (h : Kept k P Q s) where
   pub object-kept : {l : ℕ} {P' Q' : ℕ → Type 0} (o : ℕ) (x : Object) → ObjectFits x → Fits k l P Q P' Q' (view s) o x → Kept l P' Q' (put_object s o x)
   unfolding view
   object-kept {l} {P'} {Q'} o x f ft =
-      let low : o < object_limit = omega (arith, ft.made, h.but.fits.made-fits) in
+      let low : o < object_limit = omega (arith, ft.made, h.but.fits.made_fits) in
       record {
         memory = memory_object s o x ft.made f h.memory;
         but = subst (SoundBut l P' Q') (sym (view-put_object s o x h.memory.sized low f)) (object_keeps k l P Q P' Q' (view s) o x ft h.but);
       }
 
-  pub view-task_queue : (t : ℕ) (r : Task) (q : ReadyQueue) → t < task_limit → TaskFits r
+  pub view_task_queue : (t : ℕ) (r : Task) (q : ReadyQueue) → t < task_limit → TaskFits r
       → view (put_queue (put_task s t r) q) ≡ with_task_queue (view s) t r (entries q)
   unfolding with_task_queue with_task with_queue
-  view-task_queue t r q low f = view-put_queue (put_task s t r) q ∙ ap (λ (v : View). with_queue v (entries q)) (view-put_task s t r h.memory.sized low f)
+  view_task_queue t r q low f = view-put_queue (put_task s t r) q ∙ ap (λ (v : View). with_queue v (entries q)) (view-put_task s t r h.memory.sized low f)
 
   pub task-kept : {P' Q' : ℕ → Type 0} (t : ℕ) (r : Task) (q : ReadyQueue) → t < (header s).next → TaskFits r → q.len ≤ task_limit → length q.ids ≡ task_limit
       → TaskWrite P Q P' Q' (view s) t r (entries q) → Kept k P' Q' (put_queue (put_task s t r) q)
@@ -92,7 +92,7 @@ module _ {k : ℕ} {P Q : ℕ → Type 0} (s : Store) (h : Kept k P Q s) where
               (words_put_queue (header s).next (header s).made (header s).used (put_task s t r) (sized-put_task s t r h.memory.sized)
               (words_put_task _ _ _ s h.memory.sized h.memory.words_right (header s).next t r room f (λ u m ne. m)) q len);
         };
-        but = subst (SoundBut k P' Q') (sym (view-task_queue t r q room f)) (task_keeps k P Q P' Q' (view s) t r (entries q) ft h.but);
+        but = subst (SoundBut k P' Q') (sym (view_task_queue t r q room f)) (task_keeps k P Q P' Q' (view s) t r (entries q) ft h.but);
       }
 
   pub queue_kept : (q : ReadyQueue) → q.len ≤ task_limit → length q.ids ≡ task_limit
@@ -109,7 +109,7 @@ module _ {k : ℕ} {P Q : ℕ → Type 0} (s : Store) (h : Kept k P Q s) where
 
   pub place_kept : (p : ℕ) (r : Place) → p < (header s).used → PlaceFits r → PlacesWrite (view s) (update (place s) p r) → Kept k P Q (put_place s p r)
   place_kept p r low f ft =
-      let room : p < 512 = unfold view in (omega (arith, low, h.but.fits.used-fits)) in
+      let room : p < 512 = unfold view in (omega (arith, low, h.but.fits.used_fits)) in
       record {
         memory = memory_place s p r low f h.memory;
         but = subst (SoundBut k P Q) (sym (view-put_place s p r h.memory.sized room f)) (unfold with_place with_places view in (places-keep (view s) (update (place s) p r) ft h.but));
@@ -140,7 +140,7 @@ module _ {P : ℕ → Type 0} {r : ℕ → Bool} {D : ℕ → Type 0} {hd : Head
       }
     where
       same : view (put_object s o x) ≡ with_object (view s) o x
-      same = view-put_object s o x h.kept.memory.sized (omega (arith, ft.made, h.kept.but.fits.made-fits)) f
+      same = view-put_object s o x h.kept.memory.sized (omega (arith, ft.made, h.kept.but.fits.made_fits)) f
 
       more-done : (p : ℕ) → T (is_completed (kind (object s p))) → T (is_completed (kind (update (object s) o x p)))
       more-done p t = update_case (object s) o x (λ (y : Object). T (is_completed (kind y))) p
@@ -151,7 +151,7 @@ module _ {P : ℕ → Type 0} {r : ℕ → Bool} {D : ℕ → Type 0} {hd : Head
   task-during {P'} {z} t x q low f len ids ft rn =
       record {
         kept = task-kept s h.kept t x q low f len ids ft;
-        runs = subst (Runs z) (sym (view-task_queue s h.kept t x q (unfold view in (omega (arith, low, h.kept.but.fits.next_fits))) f)) rn;
+        runs = subst (Runs z) (sym (view_task_queue s h.kept t x q (unfold view in (omega (arith, low, h.kept.but.fits.next_fits))) f)) rn;
         done = λ p d. unfold object put_queue put_task in (h.done p d);
         head = unfold header put_queue put_task in h.head;
       }
@@ -231,5 +231,5 @@ moment_sound_store {D} {hd} s m f k e h =
 
     but : SoundBut 0 Nothing Nothing (with_header (view s) i)
     but =
-        header_keeps 0 Nothing Nothing (view s) (header s).calls m (le_refl _) h.kept.but.fits.calls-fit f
+        header_keeps 0 Nothing Nothing (view s) (header s).calls m (le_refl _) h.kept.but.fits.calls_fit f
         (λ y. ap (λ (x : Header). is_ended x.moment) h.head ∙ e y) h.kept.but

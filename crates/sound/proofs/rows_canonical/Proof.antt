@@ -28,19 +28,19 @@ places-same-requires c κs = search rules
 
 returns : tie.Need_returns
 unfolding rows_canonical
-returns c = pass (sym c.before.before.before.before.before.before.before.before.if1.true ∙ c.before.before.before.before.before.before.before.before.before.header-same.ensures) (pass (sym c.before.before.before.before.before.if2.true ∙ c.before.before.before.before.before.before.tasks-same.ensures) (pass (sym c.before.before.if3.true ∙ c.before.before.before.objects-same.ensures) c.places_same.ensures))
+returns c = pass (sym c.before.before.before.before.before.before.before.before.if1.true ∙ c.before.before.before.before.before.before.before.before.before.header_same.ensures) (pass (sym c.before.before.before.before.before.if2.true ∙ c.before.before.before.before.before.before.tasks-same.ensures) (pass (sym c.before.before.if3.true ∙ c.before.before.before.objects_same.ensures) c.places_same.ensures))
 
 returns-2 : tie.Need-returns-2
 unfolding rows_canonical
-returns-2 c = pass (sym c.before.before.before.before.before.before.if1.true ∙ c.before.before.before.before.before.before.before.header-same.ensures) (pass (sym c.before.before.before.if2.true ∙ c.before.before.before.before.tasks-same.ensures) (stop _ (sym c.if3.false ∙ c.before.objects-same.ensures)))
+returns-2 c = pass (sym c.before.before.before.before.before.before.if1.true ∙ c.before.before.before.before.before.before.before.header_same.ensures) (pass (sym c.before.before.before.if2.true ∙ c.before.before.before.before.tasks-same.ensures) (stop _ (sym c.if3.false ∙ c.before.objects_same.ensures)))
 
 returns-3 : tie.Need-returns-3
 unfolding rows_canonical
-returns-3 c = pass (sym c.before.before.before.if1.true ∙ c.before.before.before.before.header-same.ensures) (stop _ (sym c.if2.false ∙ c.before.tasks-same.ensures))
+returns-3 c = pass (sym c.before.before.before.if1.true ∙ c.before.before.before.before.header_same.ensures) (stop _ (sym c.if2.false ∙ c.before.tasks-same.ensures))
 
 returns-4 : tie.Need-returns-4
 unfolding rows_canonical
-returns-4 c = stop _ (sym c.if1.false ∙ c.before.header-same.ensures)
+returns-4 c = stop _ (sym c.if1.false ∙ c.before.header_same.ensures)
 
 pub rows-canonical-spec : {M : Type 1} → statement M
 rows-canonical-spec =

@@ -1,7 +1,7 @@
 use mathlib.Core.Path.{◌≡◌, refl, sym, ap, ◌∙◌}
 use mathlib.Core.List.{[]}
 use native.Mathlib.Omega.{arith}
-use Rattle.step_checks.specs.StepLaws.{cancel-ended, cancel-running, cancel_dead, cancel_main, cancel-goes, cancel-not_longer, cancel_lost_fits, live-fits}
+use Rattle.step_checks.specs.StepLaws.{cancel-ended, cancel-running, cancel_dead, cancel_main, cancel-goes, cancel_not_longer, cancel_lost_fits, live-fits}
 use borrow.Author.Rules.{rules}
 use Rattle.step_host.proofs.cancel.Statement.{statement}
 use Rattle.step_host.proofs.cancel.Tie as tie
@@ -40,7 +40,7 @@ cancel-task-requires : tie.Need-cancel-task-requires
 cancel-task-requires c κs = (c.before.before.before.before.before.before.before.before.before.before.before.before.requires.0, c.before.before.before.before.before.before.before.before.before.before.before.before.requires.1, c.before.before.before.before.before.before.before.before.before.before.before.before.requires.2, rw c.new.ensures (live-fits c.before.before.before.before.before.before.before.before.before.before.before.before.args.tasks.now c.before.before.before.before.before.before.before.before.before.before.before.before.args.objects.now c.before.before.before.before.before.before.before.before.before.before.before.before.args.places.now c.before.before.before.before.before.before.before.before.before.before.before.before.args.queue [] c.before.before.before.before.before.before.before.before.before.before.before.before.args.t (c.before.before.before.before.not_live.ensures c.before.before.before.before.before.before.before.before.before.before.before.before.args.places.now c.before.before.before.before.before.before.before.before.before.before.before.before.args.queue []) c.before.before.before.if1.false))
 
 sub-lost : tie.Need-overflow-sub-lost
-sub-lost c = let a = c.before.before.before.before.before.before.before.before.before.before.before.before.before.before.before.before.args in cancel-not_longer a.tasks.now a.objects.now a.places.now a.queue [] a.t (rw c.before.before.before.before.new.ensures at (c.before.before.before.cancel_task.ensures []))
+sub-lost c = let a = c.before.before.before.before.before.before.before.before.before.before.before.before.before.before.before.before.args in cancel_not_longer a.tasks.now a.objects.now a.places.now a.queue [] a.t (rw c.before.before.before.before.new.ensures at (c.before.before.before.cancel_task.ensures []))
 
 cast-lost : tie.Need-overflow-cast-lost
 cast-lost c = let a = c.before.before.before.before.before.before.before.before.before.before.before.before.before.before.before.before.args in omega (arith, cancel_lost_fits a.tasks.now a.objects.now a.places.now a.queue [] a.t (rw c.before.before.before.before.new.ensures at (c.before.before.before.cancel_task.ensures [])))

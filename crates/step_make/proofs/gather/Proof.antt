@@ -32,7 +32,7 @@ returns : tie.Need_returns
 returns c = λ ts q l. gather-unmade ts c.before.before.before.before.before.before.before.before.before.before.before.args.objects.now c.before.before.before.before.before.before.before.before.before.before.before.args.places.now q l c.before.before.before.before.before.before.running.ensures _ c.before.before.before.before.enum_told.given.1 c.before.before.before.before.before.before.before.before.before.before.before.args.items.now c.before.before.load-header.ensures c.before.any-unmade.ensures c.if1.true
 
 too-many-requires : tie.Need-too-many-requires
-too-many-requires c κs = (header_read _ c.before.before.load-header.ensures).used-fits
+too-many-requires c κs = (header_read _ c.before.before.load-header.ensures).used_fits
 
 same-length-2 : tie.Need_same_length_2
 same-length-2 c = search rules

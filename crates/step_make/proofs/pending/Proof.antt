@@ -26,7 +26,7 @@ returns : tie.Need_returns
 returns c = λ ts ps q l. pending_unheard ts c.before.before.before.before.before.before.before.before.before.args.objects.now ps q l c.before.before.before.before.before.before.running.ensures _ c.before.before.before.before.enum_told.given.1 c.before.before.before.before.before.before.before.before.before.args.call c.before.before.before.before.before.before.before.before.before.args.stored c.before.before.load-header.ensures c.if1.true
 
 option-known-requires : tie.Need-option-known-requires
-option-known-requires c κs = (c.before.before.before.before.before.before.before.before.before.before.requires, (header_read _ c.before.before.before.load-header.ensures).made-fits)
+option-known-requires c κs = (c.before.before.before.before.before.before.before.before.before.before.requires, (header_read _ c.before.before.before.load-header.ensures).made_fits)
 
 take-pending-external-requires : tie.Need-take-pending-external-requires
 take-pending-external-requires c κs = search rules

@@ -21,7 +21,7 @@ load-header-requires : tie.Need-load-header-requires
 load-header-requires c κs = search rules
 
 value-known-requires : tie.Need-value-known-requires
-value-known-requires c κs = (c.before.before.before.before.before.before.before.before.requires, (header_read _ c.before.load-header.ensures).made-fits)
+value-known-requires c κs = (c.before.before.before.before.before.before.before.before.requires, (header_read _ c.before.load-header.ensures).made_fits)
 
 is-full-requires : tie.Need-is-full-requires
 is-full-requires c κs = search rules

@@ -18,7 +18,7 @@ new-requires : tie.Need_new_requires
 new-requires c κs = search rules
 
 load-object-requires : tie.Need-load-object-requires
-load-object-requires c κs = (c.before.before.before.before.before.requires, rw c.new.ensures (omega (arith, c.before.if1.false, (header_read _ c.before.before.before.load-header.ensures).made-fits)))
+load-object-requires c κs = (c.before.before.before.before.before.requires, rw c.new.ensures (omega (arith, c.before.if1.false, (header_read _ c.before.before.before.load-header.ensures).made_fits)))
 
 show-object-requires : tie.Need-show-object-requires
 show-object-requires c κs = search rules

@@ -30,7 +30,7 @@ new-requires : tie.Need_new_requires
 new-requires c κs = search rules
 
 exec-get-awaitable-requires : tie.Need-exec-get-awaitable-requires
-exec-get-awaitable-requires c κs = (c.before.before.before.before.before.before.before.before.before.before.before.before.before.before.before.before.before.before.requires.0, c.before.before.before.before.before.before.before.before.before.before.before.before.before.before.before.before.before.before.requires.1, c.before.before.before.before.before.before.before.before.before.before.before.before.before.before.before.before.before.before.requires.2, runner-fits c.before.before.before.before.before.before.before.before.before.before.before.before.before.before.before.before.before.before.args.objects.now c.before.before.before.before.before.before.before.before.before.before.before.before.before.running.ensures _ c.before.before.before.before.before.before.before.before.before.before.before.turn2.given.1, rw c.new.ensures (omega (arith, c.before.before.before.before.before.before.if1.false, (header_read _ c.before.before.before.before.before.before.before.before.load-header.ensures).made-fits)))
+exec-get-awaitable-requires c κs = (c.before.before.before.before.before.before.before.before.before.before.before.before.before.before.before.before.before.before.requires.0, c.before.before.before.before.before.before.before.before.before.before.before.before.before.before.before.before.before.before.requires.1, c.before.before.before.before.before.before.before.before.before.before.before.before.before.before.before.before.before.before.requires.2, runner-fits c.before.before.before.before.before.before.before.before.before.before.before.before.before.before.before.before.before.before.args.objects.now c.before.before.before.before.before.before.before.before.before.before.before.before.before.running.ensures _ c.before.before.before.before.before.before.before.before.before.before.before.turn2.given.1, rw c.new.ensures (omega (arith, c.before.before.before.before.before.before.if1.false, (header_read _ c.before.before.before.before.before.before.before.before.load-header.ensures).made_fits)))
 
 same-length-2 : tie.Need_same_length_2
 same-length-2 c = search rules

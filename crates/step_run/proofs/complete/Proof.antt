@@ -20,7 +20,7 @@ load-header-requires : tie.Need-load-header-requires
 load-header-requires c κs = search rules
 
 value-known-requires : tie.Need-value-known-requires
-value-known-requires c κs = (c.before.before.before.before.before.before.before.before.before.before.before.requires.1, (header_read _ c.before.load-header.ensures).made-fits)
+value-known-requires c κs = (c.before.before.before.before.before.before.before.before.before.before.before.requires.1, (header_read _ c.before.load-header.ensures).made_fits)
 
 complete-requires : tie.Need-complete-requires
 complete-requires c κs = (c.before.before.before.before.before.before.before.before.before.before.before.before.before.before.before.before.requires.0, c.before.before.before.before.before.before.before.before.before.before.before.before.before.before.before.before.requires.1, c.before.before.before.before.before.before.before.before.before.before.before.before.before.before.before.before.requires.2, runner-fits c.before.before.before.before.before.before.before.before.before.before.before.before.before.before.before.before.args.objects.now c.before.before.before.before.before.before.before.before.before.before.before.running.ensures _ c.before.before.before.before.before.before.before.before.before.turn2.given.1)

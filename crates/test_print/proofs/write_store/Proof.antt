@@ -11,7 +11,7 @@ write-tasks-requires : tie.Need-write-tasks-requires
 write-tasks-requires c κs = (c.before.before.before.before.before.requires.0, (header_read _ c.before.load-header.ensures).next_fits)
 
 write-objects-requires : tie.Need-write-objects-requires
-write-objects-requires c κs = (c.before.before.before.before.before.before.before.before.before.requires.1, (header_read _ c.before.before.before.before.before.load-header.ensures).made-fits)
+write-objects-requires c κs = (c.before.before.before.before.before.before.before.before.before.requires.1, (header_read _ c.before.before.before.before.before.load-header.ensures).made_fits)
 
 write-queue-requires : tie.Need-write-queue-requires
 write-queue-requires c κs = search rules

@@ -165,16 +165,16 @@ slice-aggregate-event-line c = search rules
 -- src/answered.rt:248:21
 add-event-line : tie.Need-overflow-add-event-line
 unfolding asked
-add-event-line c = let a : AsksEvent c.before.before.before.before.before.before.before.before.before.before.before.before.before.args.src.now c.before.before.before.before.before.before.before.before.before.before.before.before.before.args.what c.before.before.before.before.before.before.match.asks = ⊎_elim (λ w. rw (w.1.given.1, w.3) (record { is-event = refl; inside = omega arith; fits = omega (arith, w.2.given) }))
-    (⊎_elim (λ w. rw (w.1.given.1, w.2) (record { is-event = refl; inside = omega arith; fits = tt }))
-    (⊎_elim (λ w. rw (w.1.given.1, w.3) (record { is-event = refl; inside = omega arith; fits = tt }))
-    (⊎_elim (λ w. rw (w.1.given.1, w.3) (record { is-event = refl; inside = omega arith; fits = tt }))
-    (⊎_elim (λ w. rw (w.1.given.1, w.3) (record { is-event = refl; inside = omega arith; fits = tt }))
-    (⊎_elim (λ w. rw (w.1.given.1, w.3) (record { is-event = refl; inside = omega arith; fits = tt }))
-    (⊎_elim (λ w. rw (w.1.given.1, w.3) (record { is-event = refl; inside = omega arith; fits = omega (arith, w.2.given) }))
-    (⊎_elim (λ w. let i = rw w.1.given.1 at c.before.before.before.before.before.before.before.before.before.before.before.before.before.requires.2 in rw (w.1.given.1, w.3) (record { is-event = refl; inside = i; fits = tt }))
-    (⊎_elim (λ w. rw (w.1.given.1, w.2) (record { is-event = refl; inside = omega arith; fits = tt }))
-    (λ w. rw (w.1.given.1, w.3) (record { is-event = refl; inside = omega arith; fits = tt })))))))))) c.before.before.before.before.before.before.match.branch
+add-event-line c = let a : AsksEvent c.before.before.before.before.before.before.before.before.before.before.before.before.before.args.src.now c.before.before.before.before.before.before.before.before.before.before.before.before.before.args.what c.before.before.before.before.before.before.match.asks = ⊎_elim (λ w. rw (w.1.given.1, w.3) (record { is_event = refl; inside = omega arith; fits = omega (arith, w.2.given) }))
+    (⊎_elim (λ w. rw (w.1.given.1, w.2) (record { is_event = refl; inside = omega arith; fits = tt }))
+    (⊎_elim (λ w. rw (w.1.given.1, w.3) (record { is_event = refl; inside = omega arith; fits = tt }))
+    (⊎_elim (λ w. rw (w.1.given.1, w.3) (record { is_event = refl; inside = omega arith; fits = tt }))
+    (⊎_elim (λ w. rw (w.1.given.1, w.3) (record { is_event = refl; inside = omega arith; fits = tt }))
+    (⊎_elim (λ w. rw (w.1.given.1, w.3) (record { is_event = refl; inside = omega arith; fits = tt }))
+    (⊎_elim (λ w. rw (w.1.given.1, w.3) (record { is_event = refl; inside = omega arith; fits = omega (arith, w.2.given) }))
+    (⊎_elim (λ w. let i = rw w.1.given.1 at c.before.before.before.before.before.before.before.before.before.before.before.before.before.requires.2 in rw (w.1.given.1, w.3) (record { is_event = refl; inside = i; fits = tt }))
+    (⊎_elim (λ w. rw (w.1.given.1, w.2) (record { is_event = refl; inside = omega arith; fits = tt }))
+    (λ w. rw (w.1.given.1, w.3) (record { is_event = refl; inside = omega arith; fits = tt })))))))))) c.before.before.before.before.before.before.match.branch
     in search (rules, a.inside)
 
 -- src/answered.rt:248:9
@@ -188,16 +188,16 @@ part-event-line-start c = search rules
 -- src/answered.rt:248:9
 part-event-line-end : tie.Need-slice-bounds-event-line-end
 unfolding asked
-part-event-line-end c = let a : AsksEvent c.before.before.before.before.before.before.before.before.before.before.before.before.before.args.src.now c.before.before.before.before.before.before.before.before.before.before.before.before.before.args.what c.before.before.before.before.before.before.match.asks = ⊎_elim (λ w. rw (w.1.given.1, w.3) (record { is-event = refl; inside = omega arith; fits = omega (arith, w.2.given) }))
-    (⊎_elim (λ w. rw (w.1.given.1, w.2) (record { is-event = refl; inside = omega arith; fits = tt }))
-    (⊎_elim (λ w. rw (w.1.given.1, w.3) (record { is-event = refl; inside = omega arith; fits = tt }))
-    (⊎_elim (λ w. rw (w.1.given.1, w.3) (record { is-event = refl; inside = omega arith; fits = tt }))
-    (⊎_elim (λ w. rw (w.1.given.1, w.3) (record { is-event = refl; inside = omega arith; fits = tt }))
-    (⊎_elim (λ w. rw (w.1.given.1, w.3) (record { is-event = refl; inside = omega arith; fits = tt }))
-    (⊎_elim (λ w. rw (w.1.given.1, w.3) (record { is-event = refl; inside = omega arith; fits = omega (arith, w.2.given) }))
-    (⊎_elim (λ w. let i = rw w.1.given.1 at c.before.before.before.before.before.before.before.before.before.before.before.before.before.requires.2 in rw (w.1.given.1, w.3) (record { is-event = refl; inside = i; fits = tt }))
-    (⊎_elim (λ w. rw (w.1.given.1, w.2) (record { is-event = refl; inside = omega arith; fits = tt }))
-    (λ w. rw (w.1.given.1, w.3) (record { is-event = refl; inside = omega arith; fits = tt })))))))))) c.before.before.before.before.before.before.match.branch
+part-event-line-end c = let a : AsksEvent c.before.before.before.before.before.before.before.before.before.before.before.before.before.args.src.now c.before.before.before.before.before.before.before.before.before.before.before.before.before.args.what c.before.before.before.before.before.before.match.asks = ⊎_elim (λ w. rw (w.1.given.1, w.3) (record { is_event = refl; inside = omega arith; fits = omega (arith, w.2.given) }))
+    (⊎_elim (λ w. rw (w.1.given.1, w.2) (record { is_event = refl; inside = omega arith; fits = tt }))
+    (⊎_elim (λ w. rw (w.1.given.1, w.3) (record { is_event = refl; inside = omega arith; fits = tt }))
+    (⊎_elim (λ w. rw (w.1.given.1, w.3) (record { is_event = refl; inside = omega arith; fits = tt }))
+    (⊎_elim (λ w. rw (w.1.given.1, w.3) (record { is_event = refl; inside = omega arith; fits = tt }))
+    (⊎_elim (λ w. rw (w.1.given.1, w.3) (record { is_event = refl; inside = omega arith; fits = tt }))
+    (⊎_elim (λ w. rw (w.1.given.1, w.3) (record { is_event = refl; inside = omega arith; fits = omega (arith, w.2.given) }))
+    (⊎_elim (λ w. let i = rw w.1.given.1 at c.before.before.before.before.before.before.before.before.before.before.before.before.before.requires.2 in rw (w.1.given.1, w.3) (record { is_event = refl; inside = i; fits = tt }))
+    (⊎_elim (λ w. rw (w.1.given.1, w.2) (record { is_event = refl; inside = omega arith; fits = tt }))
+    (λ w. rw (w.1.given.1, w.3) (record { is_event = refl; inside = omega arith; fits = tt })))))))))) c.before.before.before.before.before.before.match.branch
     in a.inside
 
 -- src/answered.rt:240:5
@@ -227,16 +227,16 @@ same-length-19 c = search rules
 -- src/answered.rt:146:1
 returns-4 : tie.Need-returns-4
 unfolding asked
-returns-4 c = let a : AsksEvent c.before.before.before.before.before.before.before.before.before.before.before.before.before.before.before.before.before.before.before.before.before.before.before.before.before.before.args.src.now c.before.before.before.before.before.before.before.before.before.before.before.before.before.before.before.before.before.before.before.before.before.before.before.before.before.before.args.what c.before.before.before.before.before.before.before.before.before.before.before.before.before.before.before.before.before.before.before.match.asks = ⊎_elim (λ w. rw (w.1.given.1, w.3) (record { is-event = refl; inside = omega arith; fits = omega (arith, w.2.given) }))
-    (⊎_elim (λ w. rw (w.1.given.1, w.2) (record { is-event = refl; inside = omega arith; fits = tt }))
-    (⊎_elim (λ w. rw (w.1.given.1, w.3) (record { is-event = refl; inside = omega arith; fits = tt }))
-    (⊎_elim (λ w. rw (w.1.given.1, w.3) (record { is-event = refl; inside = omega arith; fits = tt }))
-    (⊎_elim (λ w. rw (w.1.given.1, w.3) (record { is-event = refl; inside = omega arith; fits = tt }))
-    (⊎_elim (λ w. rw (w.1.given.1, w.3) (record { is-event = refl; inside = omega arith; fits = tt }))
-    (⊎_elim (λ w. rw (w.1.given.1, w.3) (record { is-event = refl; inside = omega arith; fits = omega (arith, w.2.given) }))
-    (⊎_elim (λ w. let i = rw w.1.given.1 at c.before.before.before.before.before.before.before.before.before.before.before.before.before.before.before.before.before.before.before.before.before.before.before.before.before.before.requires.2 in rw (w.1.given.1, w.3) (record { is-event = refl; inside = i; fits = tt }))
-    (⊎_elim (λ w. rw (w.1.given.1, w.2) (record { is-event = refl; inside = omega arith; fits = tt }))
-    (λ w. rw (w.1.given.1, w.3) (record { is-event = refl; inside = omega arith; fits = tt })))))))))) c.before.before.before.before.before.before.before.before.before.before.before.before.before.before.before.before.before.before.before.match.branch
+returns-4 c = let a : AsksEvent c.before.before.before.before.before.before.before.before.before.before.before.before.before.before.before.before.before.before.before.before.before.before.before.before.before.before.args.src.now c.before.before.before.before.before.before.before.before.before.before.before.before.before.before.before.before.before.before.before.before.before.before.before.before.before.before.args.what c.before.before.before.before.before.before.before.before.before.before.before.before.before.before.before.before.before.before.before.match.asks = ⊎_elim (λ w. rw (w.1.given.1, w.3) (record { is_event = refl; inside = omega arith; fits = omega (arith, w.2.given) }))
+    (⊎_elim (λ w. rw (w.1.given.1, w.2) (record { is_event = refl; inside = omega arith; fits = tt }))
+    (⊎_elim (λ w. rw (w.1.given.1, w.3) (record { is_event = refl; inside = omega arith; fits = tt }))
+    (⊎_elim (λ w. rw (w.1.given.1, w.3) (record { is_event = refl; inside = omega arith; fits = tt }))
+    (⊎_elim (λ w. rw (w.1.given.1, w.3) (record { is_event = refl; inside = omega arith; fits = tt }))
+    (⊎_elim (λ w. rw (w.1.given.1, w.3) (record { is_event = refl; inside = omega arith; fits = tt }))
+    (⊎_elim (λ w. rw (w.1.given.1, w.3) (record { is_event = refl; inside = omega arith; fits = omega (arith, w.2.given) }))
+    (⊎_elim (λ w. let i = rw w.1.given.1 at c.before.before.before.before.before.before.before.before.before.before.before.before.before.before.before.before.before.before.before.before.before.before.before.before.before.before.requires.2 in rw (w.1.given.1, w.3) (record { is_event = refl; inside = i; fits = tt }))
+    (⊎_elim (λ w. rw (w.1.given.1, w.2) (record { is_event = refl; inside = omega arith; fits = tt }))
+    (λ w. rw (w.1.given.1, w.3) (record { is_event = refl; inside = omega arith; fits = tt })))))))))) c.before.before.before.before.before.before.before.before.before.before.before.before.before.before.before.before.before.before.before.match.branch
     in (λ l. asks_drove c.before.before.before.before.before.before.before.before.before.before.before.before.before.before.before.before.before.before.before.before.before.before.before.before.before.before.args.src.now _ _ _ _ a (c.before.before.before.before.before.before.before.before.before.before.event-line.ensures l), a.fits)
 
 pub answered-spec : {M : Type 1} → statement M

@@ -18,7 +18,7 @@ shl-result : tie.Need-overflow-shl-result
 shl-result c = search rules
 
 add-result : tie.Need-overflow-add-result
-add-result c = omega (arith, shifted_one c.before.args.i (search rules), bit-room c.before.args.open-places c.before.args.i (search rules) (search rules) c.if1.true)
+add-result c = omega (arith, shifted_one c.before.args.i (search rules), bit-room c.before.args.open_places c.before.args.i (search rules) (search rules) c.if1.true)
 
 returns : tie.Need_returns
 returns c = rw (shifted_one c.before.args.i (search rules), eq-eqb _ 0 c.if1.true)

@@ -9,10 +9,10 @@ use Rattle.exec_fill.proofs.fill.fill_places.Statement.{statement}
 use Rattle.exec_fill.proofs.fill.fill_places.Tie as tie
 
 abbrev invariant_loop : tie.invariant_loop
-invariant_loop places₀ first count open-places source value left₀ i₀ places left i = (fill_from places left first source.0 value i (count - i) ≡ fill_from places₀ open-places first source.0 value 0 count) × (length places ≡ length places₀) × (i ≤ count)
+invariant_loop places₀ first count open_places source value left₀ i₀ places left i = (fill_from places left first source.0 value i (count - i) ≡ fill_from places₀ open_places first source.0 value 0 count) × (length places ≡ length places₀) × (i ≤ count)
 
 abbrev decreases_loop : tie.decreases_loop
-decreases_loop places₀ first count open-places source value left₀ i₀ places left i = count - i
+decreases_loop places₀ first count open_places source value left₀ i₀ places left i = count - i
 
 loop-holds : tie.Need-loop-init invariant_loop decreases_loop
 loop-holds c = (fill_begin _ _ _ _ _ _, refl, omega arith)

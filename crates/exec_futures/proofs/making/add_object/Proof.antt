@@ -16,10 +16,10 @@ new-requires : tie.Need_new_requires
 new-requires c κs = search rules
 
 add-t12 : tie.Need-overflow-add-t12
-add-t12 c = omega (arith, (header_read _ c.before.before.before.load-header.ensures).made-fits)
+add-t12 c = omega (arith, (header_read _ c.before.before.before.load-header.ensures).made_fits)
 
 add-t13 : tie.Need-overflow-add-t13
-add-t13 c = omega (arith, (header_read _ c.before.before.before.before.load-header.ensures).used-fits, c.before.before.before.before.before.before.before.requires.2)
+add-t13 c = omega (arith, (header_read _ c.before.before.before.before.load-header.ensures).used_fits, c.before.before.before.before.before.before.before.requires.2)
 
 store-header-requires : tie.Need-store-header-requires
 store-header-requires c κs = search rules

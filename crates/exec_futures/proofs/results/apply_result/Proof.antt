@@ -1,5 +1,5 @@
 use Rattle.exec_futures.specs.Results.{result_at}
-use Rattle.exec_futures.specs.ResultLaws.{applies_value, applies_error, applies_nothing, applies_not-found, applies_module_file}
+use Rattle.exec_futures.specs.ResultLaws.{applies_value, applies_error, applies_nothing, applies_not_found, applies_module_file}
 use borrow.Author.Rules.{rules}
 use Rattle.exec_futures.proofs.results.apply_result.Statement.{statement}
 use Rattle.exec_futures.proofs.results.apply_result.Tie as tie
@@ -80,7 +80,7 @@ same-length-7 : tie.Need-same-length-7
 same-length-7 c = search rules
 
 returns-4 : tie.Need-returns-4
-returns-4 c = λ q l. applies_not-found c.before.before.before.before.before.before.before.before.before.before.before.before.before.before.before.before.before.args.tasks.now c.before.before.before.before.before.before.before.before.before.before.before.before.before.before.before.before.before.args.objects.now c.before.before.before.before.before.before.before.before.before.before.before.before.before.before.before.before.before.args.places.now q l (result_at c.before.before.before.before.before.before.before.before.before.before.before.before.before.before.before.before.before.args.results.now c.before.before.before.before.before.before.before.before.before.before.before.before.before.before.before.before.before.args.at) c.before.before.before.before.before.before.before.before.before.before.before.before.u32-at.ensures.0 c.before.before.before.before.before.before.before.before.before.before.before.u8-at.ensures.0 c.before.before.before.before.before.before.before.before.before.before.if1.false c.before.before.before.before.before.before.before.before.before.if2.false c.before.before.before.before.before.before.before.before.if3.false c.before.before.before.before.before.before.before.if4.true (c.before.before.before.before.fail-future2.ensures q c.before.before.before.before.before.before.before.before.before.before.before.before.before.before.before.before.before.args.places.now l c.before.before.before.before.before.before.before.before.before.before.before.before.before.before.before.before.before.requires.2)
+returns-4 c = λ q l. applies_not_found c.before.before.before.before.before.before.before.before.before.before.before.before.before.before.before.before.before.args.tasks.now c.before.before.before.before.before.before.before.before.before.before.before.before.before.before.before.before.before.args.objects.now c.before.before.before.before.before.before.before.before.before.before.before.before.before.before.before.before.before.args.places.now q l (result_at c.before.before.before.before.before.before.before.before.before.before.before.before.before.before.before.before.before.args.results.now c.before.before.before.before.before.before.before.before.before.before.before.before.before.before.before.before.before.args.at) c.before.before.before.before.before.before.before.before.before.before.before.before.u32-at.ensures.0 c.before.before.before.before.before.before.before.before.before.before.before.u8-at.ensures.0 c.before.before.before.before.before.before.before.before.before.before.if1.false c.before.before.before.before.before.before.before.before.before.if2.false c.before.before.before.before.before.before.before.before.if3.false c.before.before.before.before.before.before.before.if4.true (c.before.before.before.before.fail-future2.ensures q c.before.before.before.before.before.before.before.before.before.before.before.before.before.before.before.before.before.args.places.now l c.before.before.before.before.before.before.before.before.before.before.before.before.before.before.before.before.before.requires.2)
 
 fail-future-requires-3 : tie.Need-fail-future-requires-3
 fail-future-requires-3 c κs = search rules

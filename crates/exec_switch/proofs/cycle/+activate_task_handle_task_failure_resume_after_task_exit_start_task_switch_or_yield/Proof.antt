@@ -769,7 +769,7 @@ start-task-new-function-requires : (t : ℕ) → start-task-lts.Need-new-functio
   run-reads.Asked,
   run-reads.Learnt,
 ) (start-task-at t) start_task.Post
-start-task-new-function-requires t c κs = (c.before.before.before.before.before.requires.1.1, rw c.before.coroutine-at.ensures (task_at-fits c.before.before.before.before.before.args.tasks.now c.before.before.before.before.before.args.t.0).coroutine-fits)
+start-task-new-function-requires t c κs = (c.before.before.before.before.before.requires.1.1, rw c.before.coroutine-at.ensures (task_at-fits c.before.before.before.before.before.args.tasks.now c.before.before.before.before.before.args.t.0).coroutine_fits)
 
 start-task-enum-told : (t : ℕ) → start-task-lts.Need-enum-told (
   coroutine-at-reads.Asked,
@@ -826,7 +826,7 @@ start-task-store-object-requires : (t : ℕ) → start-task-lts.Need-store-objec
   run-reads.Asked,
   run-reads.Learnt,
 ) (start-task-at t) start_task.Post
-start-task-store-object-requires t c κs = (c.before.before.before.before.before.before.before.before.before.before.requires.1.1, rw c.before.before.before.before.before.before.coroutine-at.ensures (task_at-fits c.before.before.before.before.before.before.before.before.before.before.args.tasks.now c.before.before.before.before.before.before.before.before.before.before.args.t.0).coroutine-fits)
+start-task-store-object-requires t c κs = (c.before.before.before.before.before.before.before.before.before.before.requires.1.1, rw c.before.before.before.before.before.before.coroutine-at.ensures (task_at-fits c.before.before.before.before.before.before.before.before.before.before.args.tasks.now c.before.before.before.before.before.before.before.before.before.before.args.t.0).coroutine_fits)
 
 start-task-run-requires : (t : ℕ) → start-task-lts.Need-run-requires (
   coroutine-at-reads.Asked,

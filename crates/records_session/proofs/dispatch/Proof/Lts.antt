@@ -2030,17 +2030,17 @@ module _ (claims· : Claims) where
 
       pub record After_shared_slice_known : Type 0 where
         pub before : After_slice_known3
-        pub shared_slice-known : After_shared_slice_known·own before
+        pub shared_slice_known : After_shared_slice_known·own before
 
-      abbrev pub m5 : (before : After_shared_slice_known) → (given : (s4 before.before.before.before.before.blocks).gives (m4 before.before before.shared_slice-known.given)) → Typed.Mo T6
-      m5 = λ before given. (s4 before.before.before.before.before.blocks).next (m4 before.before before.shared_slice-known.given) given
+      abbrev pub m5 : (before : After_shared_slice_known) → (given : (s4 before.before.before.before.before.blocks).gives (m4 before.before before.shared_slice_known.given)) → Typed.Mo T6
+      m5 = λ before given. (s4 before.before.before.before.before.blocks).next (m4 before.before before.shared_slice_known.given) given
 
-      abbrev pub m6 : (before : After_shared_slice_known) → (given : (s4 before.before.before.before.before.blocks).gives (m4 before.before before.shared_slice-known.given)) → Typed.Mo T7
+      abbrev pub m6 : (before : After_shared_slice_known) → (given : (s4 before.before.before.before.before.blocks).gives (m4 before.before before.shared_slice_known.given)) → Typed.Mo T7
       m6 = λ before given. s5 before.before.before.before.before.blocks (m5 before given)
 
       module _ (before· : After_shared_slice_known) where
         pub record After_shared_slice_known2·own : Type 0 where
-          pub given : (s4 before·.before.before.before.before.blocks).gives (m4 before·.before before·.shared_slice-known.given)
+          pub given : (s4 before·.before.before.before.before.blocks).gives (m4 before·.before before·.shared_slice_known.given)
 
       pub record After_shared_slice_known2 : Type 0 where
         pub before : After_shared_slice_known
@@ -2437,7 +2437,7 @@ module _ (claims· : Claims) where
 
         pub laid : (c : Start) → at74 c.blocks (W0 c.κs c.args c.blocks) (m0 c.κs c.args c.blocks)
         laid = λ c. λ g. λ g'. λ g''. λ g'3. λ g'4. λ g'5.
-            (Path'.refl, (rows-in-use-requires record { before = record { before = record { before = record { before = record { before = record { before = c; slice-known = record { given = g } }; slice_known2 = record { given = g' } }; slice_known3 = record { given = g'' } }; shared_slice-known = record { given = g'3 } }; shared_slice_known2 = record { given = g'4 } }; rows_in_use_arg = record { given = g'5 } }, λ g'6. lay1 record { before = record { before = record { before = record { before = record { before = record { before = record { before = c; slice-known = record { given = g } }; slice_known2 = record { given = g' } }; slice_known3 = record { given = g'' } }; shared_slice-known = record { given = g'3 } }; shared_slice_known2 = record { given = g'4 } }; rows_in_use_arg = record { given = g'5 } }; rows_in_use = Called.called ps·0 r·0 claims·.1 T10 (Num.v_at 9 λ x. x, (record { pos = 14; ty = Syntax.ty_ref Syntax.erased Syntax.imm El.word; ref = λ x. x }, tt)) (m8 record { before = record { before = record { before = record { before = record { before = c; slice-known = record { given = g } }; slice_known2 = record { given = g' } }; slice_known3 = record { given = g'' } }; shared_slice-known = record { given = g'3 } }; shared_slice_known2 = record { given = g'4 } } g'5) g'6 }))
+            (Path'.refl, (rows-in-use-requires record { before = record { before = record { before = record { before = record { before = record { before = c; slice-known = record { given = g } }; slice_known2 = record { given = g' } }; slice_known3 = record { given = g'' } }; shared_slice_known = record { given = g'3 } }; shared_slice_known2 = record { given = g'4 } }; rows_in_use_arg = record { given = g'5 } }, λ g'6. lay1 record { before = record { before = record { before = record { before = record { before = record { before = record { before = c; slice-known = record { given = g } }; slice_known2 = record { given = g' } }; slice_known3 = record { given = g'' } }; shared_slice_known = record { given = g'3 } }; shared_slice_known2 = record { given = g'4 } }; rows_in_use_arg = record { given = g'5 } }; rows_in_use = Called.called ps·0 r·0 claims·.1 T10 (Num.v_at 9 λ x. x, (record { pos = 14; ty = Syntax.ty_ref Syntax.erased Syntax.imm El.word; ref = λ x. x }, tt)) (m8 record { before = record { before = record { before = record { before = record { before = c; slice-known = record { given = g } }; slice_known2 = record { given = g' } }; slice_known3 = record { given = g'' } }; shared_slice_known = record { given = g'3 } }; shared_slice_known2 = record { given = g'4 } } g'5) g'6 }))
 
         module _ (κs : Lifetimes.Lfts 6) (qs : Lifetimes.Shares 6) where
           pub asked : (a : Kinds.Dens κs ps) → (good : Kinds.GoodsP κs ps a) → (pre : Pre· κs a) → (bs : List Nat.ℕ) → Φ bs (Any.want_q 6 ps r xs m κs qs a (Post· κs a)) (Function.init 6 ps r xs m κs qs a)

@@ -609,17 +609,17 @@ module _ (claims· : Claims) where
 
       pub record After_shared_slice_known : Type 0 where
         pub before : Start
-        pub shared_slice-known : After_shared_slice_known·own before
+        pub shared_slice_known : After_shared_slice_known·own before
 
-      abbrev pub m2 : (before : After_shared_slice_known) → (given : s1.gives (m1 before.before before.shared_slice-known.given)) → Typed.Mo T3
-      m2 = λ before given. s1.next (m1 before.before before.shared_slice-known.given) given
+      abbrev pub m2 : (before : After_shared_slice_known) → (given : s1.gives (m1 before.before before.shared_slice_known.given)) → Typed.Mo T3
+      m2 = λ before given. s1.next (m1 before.before before.shared_slice_known.given) given
 
-      abbrev pub m3 : (before : After_shared_slice_known) → (given : s1.gives (m1 before.before before.shared_slice-known.given)) → Typed.Mo T4
+      abbrev pub m3 : (before : After_shared_slice_known) → (given : s1.gives (m1 before.before before.shared_slice_known.given)) → Typed.Mo T4
       m3 = λ before given. s2 (m2 before given)
 
       module _ (before· : After_shared_slice_known) where
         pub record After_shared_slice_known2·own : Type 0 where
-          pub given : s1.gives (m1 before·.before before·.shared_slice-known.given)
+          pub given : s1.gives (m1 before·.before before·.shared_slice_known.given)
 
       pub record After_shared_slice_known2 : Type 0 where
         pub before : After_shared_slice_known
@@ -739,7 +739,7 @@ module _ (claims· : Claims) where
 
         pub laid : (c : Start) → at19 (W0 c.κs c.args) (m0 c.κs c.args)
         laid = λ c. λ g. λ g'.
-            (rows-in-use-requires record { before = record { before = c; shared_slice-known = record { given = g } }; shared_slice_known2 = record { given = g' } }, λ g''. lay1 record { before = record { before = record { before = c; shared_slice-known = record { given = g } }; shared_slice_known2 = record { given = g' } }; rows_in_use = Called.called ps·0 r·0 claims·.1 T4 (Num.v_at 5 λ x. x, (record { pos = 2; ty = Syntax.ty_ref (Syntax.named 1) Syntax.imm El.word; ref = λ x. x }, tt)) (m3 record { before = c; shared_slice-known = record { given = g } } g') g'' })
+            (rows-in-use-requires record { before = record { before = c; shared_slice_known = record { given = g } }; shared_slice_known2 = record { given = g' } }, λ g''. lay1 record { before = record { before = record { before = c; shared_slice_known = record { given = g } }; shared_slice_known2 = record { given = g' } }; rows_in_use = Called.called ps·0 r·0 claims·.1 T4 (Num.v_at 5 λ x. x, (record { pos = 2; ty = Syntax.ty_ref (Syntax.named 1) Syntax.imm El.word; ref = λ x. x }, tt)) (m3 record { before = c; shared_slice_known = record { given = g } } g') g'' })
 
         module _ (κs : Lifetimes.Lfts 3) (qs : Lifetimes.Shares 3) where
           pub asked : (a : Kinds.Dens κs ps) → (good : Kinds.GoodsP κs ps a) → (pre : Pre· κs a) → (bs : List Nat.ℕ) → Φ (Any.want_q 3 ps r xs m κs qs a (Post· κs a)) (Function.init 3 ps r xs m κs qs a)

@@ -917,20 +917,20 @@ module _ (claims· : Claims) where
 
       pub record After_shared_slice_known : Type 0 where
         pub before : Start
-        pub shared_slice-known : After_shared_slice_known·own before
+        pub shared_slice_known : After_shared_slice_known·own before
 
       abbrev pub Need_loop_holds : Type 0
-      Need_loop_holds = (c : After_shared_slice_known) → Inv·0 (Row.get 1 T3.locals (m2 c.before c.shared_slice-known.given)).now (Row.get 2 T3.locals (m2 c.before c.shared_slice-known.given)).now (Row.get 3 T3.locals (m2 c.before c.shared_slice-known.given)) (Row.get 4 T3.locals (m2 c.before c.shared_slice-known.given)) (Row.get 1 T3.locals (m2 c.before c.shared_slice-known.given)).now (Row.get 4 T3.locals (m2 c.before c.shared_slice-known.given))
+      Need_loop_holds = (c : After_shared_slice_known) → Inv·0 (Row.get 1 T3.locals (m2 c.before c.shared_slice_known.given)).now (Row.get 2 T3.locals (m2 c.before c.shared_slice_known.given)).now (Row.get 3 T3.locals (m2 c.before c.shared_slice_known.given)) (Row.get 4 T3.locals (m2 c.before c.shared_slice_known.given)) (Row.get 1 T3.locals (m2 c.before c.shared_slice_known.given)).now (Row.get 4 T3.locals (m2 c.before c.shared_slice_known.given))
 
       abbrev pub m3 : (before : After_shared_slice_known) → (tasks : List (El.row).Denot) → (t : (Rows.sc_here (Row.s_int Syntax.w16)).Mod) → Typed.Mo T3
       m3 = λ before tasks t. Row.set 4 (4, Rows.sc_here (Row.s_int Syntax.w16)) t (Row.set_row 1 (1, Mut.mslice El.row (Syntax.ty_ref (Syntax.named 0) Syntax.mut El.named) 0) T3.locals) (Row.set 1
           (1, Mut.mslice El.row (Syntax.ty_ref (Syntax.named 0) Syntax.mut El.named) 0)
-          record { ref_ptr = (Row.get 1 T3.locals (m2 before.before before.shared_slice-known.given)).ptr; ghost_name = (Row.get 1 T3.locals (m2 before.before before.shared_slice-known.given)).name; now = tasks } T3.locals
-          (m2 before.before before.shared_slice-known.given))
+          record { ref_ptr = (Row.get 1 T3.locals (m2 before.before before.shared_slice_known.given)).ptr; ghost_name = (Row.get 1 T3.locals (m2 before.before before.shared_slice_known.given)).name; now = tasks } T3.locals
+          (m2 before.before before.shared_slice_known.given))
 
       abbrev W3 : (before : After_shared_slice_known) → (tasks : List (El.row).Denot) → (t : (Rows.sc_here (Row.s_int Syntax.w16)).Mod) → Typed.Want O3
       W3 = λ before tasks t. Typed.in_loop T3 O2 (Typed.Round T3 O2 put0 (λ u vs. Inv·0 (Row.get 1 T3.locals u).now (Row.get 2 T3.locals u).now (Row.get 3 T3.locals u) (Row.get 4 T3.locals u) vs.0 vs.1) (λ u vs. μ·0
-          (Row.get 1 T3.locals u).now (Row.get 2 T3.locals u).now (Row.get 3 T3.locals u) (Row.get 4 T3.locals u) vs.0 vs.1) at23 (m2 before.before before.shared_slice-known.given) (tasks, t)) (W2 before.before before.shared_slice-known.given)
+          (Row.get 1 T3.locals u).now (Row.get 2 T3.locals u).now (Row.get 3 T3.locals u) (Row.get 4 T3.locals u) vs.0 vs.1) at23 (m2 before.before before.shared_slice_known.given) (tasks, t)) (W2 before.before before.shared_slice_known.given)
 
       abbrev pub m4 : (before : After_shared_slice_known) → (tasks : List (El.row).Denot) → (t : (Rows.sc_here (Row.s_int Syntax.w16)).Mod) → Typed.Mo T5
       m4 = λ before tasks t. s2.next (m3 before tasks t)
@@ -942,8 +942,8 @@ module _ (claims· : Claims) where
         pub record At_loop·own : Type 0 where
           pub tasks : List (El.row).Denot
           pub t : (Rows.sc_here (Row.s_int Syntax.w16)).Mod
-          pub inv : Inv·0 (Row.get 1 T3.locals (m2 before·.before before·.shared_slice-known.given)).now (Row.get 2 T3.locals (m2 before·.before before·.shared_slice-known.given)).now (Row.get 3 T3.locals (m2
-              before·.before before·.shared_slice-known.given)) (Row.get 4 T3.locals (m2 before·.before before·.shared_slice-known.given)) tasks t
+          pub inv : Inv·0 (Row.get 1 T3.locals (m2 before·.before before·.shared_slice_known.given)).now (Row.get 2 T3.locals (m2 before·.before before·.shared_slice_known.given)).now (Row.get 3 T3.locals (m2
+              before·.before before·.shared_slice_known.given)) (Row.get 4 T3.locals (m2 before·.before before·.shared_slice_known.given)) tasks t
 
       pub record At_loop : Type 0 where
         pub before : After_shared_slice_known
@@ -1095,12 +1095,12 @@ module _ (claims· : Claims) where
       m20 = λ before given. s21.next (m19 before given)
 
       abbrev pub Need_loop_less : Type 0
-      Need_loop_less = (c : After_tasks) → Nat.◌<◌ (μ·0 (Row.get 1 T3.locals (m2 c.before.before.before.before.before.before.before.before.before c.before.before.before.before.before.before.before.before.shared_slice-known.given)).now (Row.get 2 T3.locals (m2 c.before.before.before.before.before.before.before.before.before c.before.before.before.before.before.before.before.before.shared_slice-known.given)).now (Row.get 3 T3.locals (m2 c.before.before.before.before.before.before.before.before.before c.before.before.before.before.before.before.before.before.shared_slice-known.given)) (Row.get 4
-          T3.locals (m2 c.before.before.before.before.before.before.before.before.before c.before.before.before.before.before.before.before.before.shared_slice-known.given)) (Row.get 1 T3.locals (m20 c.before c.tasks.given)).now (Row.get 4 T3.locals (m20 c.before c.tasks.given))) (μ·0 (Row.get 1 T3.locals (m2 c.before.before.before.before.before.before.before.before.before c.before.before.before.before.before.before.before.before.shared_slice-known.given)).now (Row.get 2 T3.locals (m2 c.before.before.before.before.before.before.before.before.before c.before.before.before.before.before.before.before.before.shared_slice-known.given)).now (Row.get 3 T3.locals (m2 c.before.before.before.before.before.before.before.before.before c.before.before.before.before.before.before.before.before.shared_slice-known.given)) (Row.get 4 T3.locals (m2 c.before.before.before.before.before.before.before.before.before c.before.before.before.before.before.before.before.before.shared_slice-known.given)) c.before.before.before.before.before.before.before.loop.tasks c.before.before.before.before.before.before.before.loop.t)
+      Need_loop_less = (c : After_tasks) → Nat.◌<◌ (μ·0 (Row.get 1 T3.locals (m2 c.before.before.before.before.before.before.before.before.before c.before.before.before.before.before.before.before.before.shared_slice_known.given)).now (Row.get 2 T3.locals (m2 c.before.before.before.before.before.before.before.before.before c.before.before.before.before.before.before.before.before.shared_slice_known.given)).now (Row.get 3 T3.locals (m2 c.before.before.before.before.before.before.before.before.before c.before.before.before.before.before.before.before.before.shared_slice_known.given)) (Row.get 4
+          T3.locals (m2 c.before.before.before.before.before.before.before.before.before c.before.before.before.before.before.before.before.before.shared_slice_known.given)) (Row.get 1 T3.locals (m20 c.before c.tasks.given)).now (Row.get 4 T3.locals (m20 c.before c.tasks.given))) (μ·0 (Row.get 1 T3.locals (m2 c.before.before.before.before.before.before.before.before.before c.before.before.before.before.before.before.before.before.shared_slice_known.given)).now (Row.get 2 T3.locals (m2 c.before.before.before.before.before.before.before.before.before c.before.before.before.before.before.before.before.before.shared_slice_known.given)).now (Row.get 3 T3.locals (m2 c.before.before.before.before.before.before.before.before.before c.before.before.before.before.before.before.before.before.shared_slice_known.given)) (Row.get 4 T3.locals (m2 c.before.before.before.before.before.before.before.before.before c.before.before.before.before.before.before.before.before.shared_slice_known.given)) c.before.before.before.before.before.before.before.loop.tasks c.before.before.before.before.before.before.before.loop.t)
 
       abbrev pub Need_loop_again : Type 0
-      Need_loop_again = (c : After_tasks) → Inv·0 (Row.get 1 T3.locals (m2 c.before.before.before.before.before.before.before.before.before c.before.before.before.before.before.before.before.before.shared_slice-known.given)).now (Row.get 2 T3.locals (m2 c.before.before.before.before.before.before.before.before.before c.before.before.before.before.before.before.before.before.shared_slice-known.given)).now (Row.get 3 T3.locals (m2 c.before.before.before.before.before.before.before.before.before c.before.before.before.before.before.before.before.before.shared_slice-known.given)) (Row.get 4
-          T3.locals (m2 c.before.before.before.before.before.before.before.before.before c.before.before.before.before.before.before.before.before.shared_slice-known.given)) (Row.get 1 T3.locals (m20 c.before c.tasks.given)).now (Row.get 4 T3.locals (m20 c.before c.tasks.given))
+      Need_loop_again = (c : After_tasks) → Inv·0 (Row.get 1 T3.locals (m2 c.before.before.before.before.before.before.before.before.before c.before.before.before.before.before.before.before.before.shared_slice_known.given)).now (Row.get 2 T3.locals (m2 c.before.before.before.before.before.before.before.before.before c.before.before.before.before.before.before.before.before.shared_slice_known.given)).now (Row.get 3 T3.locals (m2 c.before.before.before.before.before.before.before.before.before c.before.before.before.before.before.before.before.before.shared_slice_known.given)) (Row.get 4
+          T3.locals (m2 c.before.before.before.before.before.before.before.before.before c.before.before.before.before.before.before.before.before.shared_slice_known.given)) (Row.get 1 T3.locals (m20 c.before c.tasks.given)).now (Row.get 4 T3.locals (m20 c.before c.tasks.given))
 
       abbrev pub m21 : (before : At_loop) → Typed.Mo T26
       m21 = λ before. s22 (m6 before)
@@ -1127,7 +1127,7 @@ module _ (claims· : Claims) where
         lay7 : (c : After_put_task) → at11 (W3 c.before.before.before.before.before.before.before c.before.before.before.before.before.before.loop.tasks c.before.before.before.before.before.before.loop.t)
             (m15 c.before (After_put_task·gave c))
         lay7 = λ c.
-            (Path'.refl, λ g. (add-t record { before = record { before = c.before; put_task = c.put_task }; tasks = record { given = g } }, (μ·0 (Row.get 1 T3.locals (m2 c.before.before.before.before.before.before.before.before c.before.before.before.before.before.before.before.shared_slice-known.given)).now (Row.get 2 T3.locals (m2 c.before.before.before.before.before.before.before.before c.before.before.before.before.before.before.before.shared_slice-known.given)).now (Row.get 3 T3.locals (m2 c.before.before.before.before.before.before.before.before c.before.before.before.before.before.before.before.shared_slice-known.given)) (Row.get 4 T3.locals (m2 c.before.before.before.before.before.before.before.before c.before.before.before.before.before.before.before.shared_slice-known.given)) (Row.get 1 T3.locals (m20 record { before = c.before; put_task = c.put_task } g)).now (Row.get 4 T3.locals (m20 record { before = c.before; put_task = c.put_task } g)), loop-less record { before = record { before = c.before; put_task = c.put_task }; tasks = record { given = g } }, (((Row.get 1 T3.locals (m20 record { before = c.before; put_task = c.put_task } g)).now, Row.get 4 T3.locals (m20 record { before = c.before; put_task = c.put_task } g)), Path'.refl {a = m20 record { before = c.before; put_task = c.put_task } g}, loop-again record { before = record { before = c.before; put_task = c.put_task }; tasks = record { given = g } }, Path'.refl {a = μ·0 (Row.get 1 T3.locals (m2 c.before.before.before.before.before.before.before.before c.before.before.before.before.before.before.before.shared_slice-known.given)).now (Row.get 2 T3.locals (m2 c.before.before.before.before.before.before.before.before c.before.before.before.before.before.before.before.shared_slice-known.given)).now (Row.get 3 T3.locals (m2 c.before.before.before.before.before.before.before.before c.before.before.before.before.before.before.before.shared_slice-known.given)) (Row.get 4 T3.locals (m2 c.before.before.before.before.before.before.before.before c.before.before.before.before.before.before.before.shared_slice-known.given)) (Row.get 1 T3.locals (m20 record { before = c.before; put_task = c.put_task } g)).now (Row.get 4 T3.locals (m20 record { before = c.before; put_task = c.put_task } g))}))))
+            (Path'.refl, λ g. (add-t record { before = record { before = c.before; put_task = c.put_task }; tasks = record { given = g } }, (μ·0 (Row.get 1 T3.locals (m2 c.before.before.before.before.before.before.before.before c.before.before.before.before.before.before.before.shared_slice_known.given)).now (Row.get 2 T3.locals (m2 c.before.before.before.before.before.before.before.before c.before.before.before.before.before.before.before.shared_slice_known.given)).now (Row.get 3 T3.locals (m2 c.before.before.before.before.before.before.before.before c.before.before.before.before.before.before.before.shared_slice_known.given)) (Row.get 4 T3.locals (m2 c.before.before.before.before.before.before.before.before c.before.before.before.before.before.before.before.shared_slice_known.given)) (Row.get 1 T3.locals (m20 record { before = c.before; put_task = c.put_task } g)).now (Row.get 4 T3.locals (m20 record { before = c.before; put_task = c.put_task } g)), loop-less record { before = record { before = c.before; put_task = c.put_task }; tasks = record { given = g } }, (((Row.get 1 T3.locals (m20 record { before = c.before; put_task = c.put_task } g)).now, Row.get 4 T3.locals (m20 record { before = c.before; put_task = c.put_task } g)), Path'.refl {a = m20 record { before = c.before; put_task = c.put_task } g}, loop-again record { before = record { before = c.before; put_task = c.put_task }; tasks = record { given = g } }, Path'.refl {a = μ·0 (Row.get 1 T3.locals (m2 c.before.before.before.before.before.before.before.before c.before.before.before.before.before.before.before.shared_slice_known.given)).now (Row.get 2 T3.locals (m2 c.before.before.before.before.before.before.before.before c.before.before.before.before.before.before.before.shared_slice_known.given)).now (Row.get 3 T3.locals (m2 c.before.before.before.before.before.before.before.before c.before.before.before.before.before.before.before.shared_slice_known.given)) (Row.get 4 T3.locals (m2 c.before.before.before.before.before.before.before.before c.before.before.before.before.before.before.before.shared_slice_known.given)) (Row.get 1 T3.locals (m20 record { before = c.before; put_task = c.put_task } g)).now (Row.get 4 T3.locals (m20 record { before = c.before; put_task = c.put_task } g))}))))
 
         lay6 : (c : After_record_of) → at13 (W3 c.before.before.before.before.before.before c.before.before.before.before.before.loop.tasks c.before.before.before.before.before.loop.t) (m13 c.before
             (After_record_of·gave c))
@@ -1154,7 +1154,7 @@ module _ (claims· : Claims) where
 
         pub laid : (c : Start) → at32 (W0 c.κs c.args) (m0 c.κs c.args)
         laid = λ c. λ g.
-            ((((Row.get 1 T3.locals (m2 c g)).now, Row.get 4 T3.locals (m2 c g)), Path'.refl {a = m2 c g}, loop-holds record { before = c; shared_slice-known = record { given = g } }), λ vs inv. (tt, (λ taken. lay1 record { before = record { before = record { before = c; shared_slice-known = record { given = g } }; loop = record { tasks = vs.0; t = vs.1; inv = inv } }; loop_test = record { taken = Tests.ltb-true (Row.get 4 T3.locals (m3 record { before = c; shared_slice-known = record { given = g } } vs.0 vs.1)) (Row.get 3 T3.locals (m3 record { before = c; shared_slice-known = record { given = g } } vs.0 vs.1)) taken } }, λ left. lay2 record { before = record { before = record { before = c; shared_slice-known = record { given = g } }; loop = record { tasks = vs.0; t = vs.1; inv = inv } }; loop_test = record { left = Tests.ltb-false (Row.get 4 T3.locals (m3 record { before = c; shared_slice-known = record { given = g } } vs.0 vs.1)) (Row.get 3 T3.locals (m3 record { before = c; shared_slice-known = record { given = g } } vs.0 vs.1)) left } })))
+            ((((Row.get 1 T3.locals (m2 c g)).now, Row.get 4 T3.locals (m2 c g)), Path'.refl {a = m2 c g}, loop-holds record { before = c; shared_slice_known = record { given = g } }), λ vs inv. (tt, (λ taken. lay1 record { before = record { before = record { before = c; shared_slice_known = record { given = g } }; loop = record { tasks = vs.0; t = vs.1; inv = inv } }; loop_test = record { taken = Tests.ltb-true (Row.get 4 T3.locals (m3 record { before = c; shared_slice_known = record { given = g } } vs.0 vs.1)) (Row.get 3 T3.locals (m3 record { before = c; shared_slice_known = record { given = g } } vs.0 vs.1)) taken } }, λ left. lay2 record { before = record { before = record { before = c; shared_slice_known = record { given = g } }; loop = record { tasks = vs.0; t = vs.1; inv = inv } }; loop_test = record { left = Tests.ltb-false (Row.get 4 T3.locals (m3 record { before = c; shared_slice_known = record { given = g } } vs.0 vs.1)) (Row.get 3 T3.locals (m3 record { before = c; shared_slice_known = record { given = g } } vs.0 vs.1)) left } })))
 
         module _ (κs : Lifetimes.Lfts 2) (qs : Lifetimes.Shares 2) where
           pub asked : (a : Kinds.Dens κs ps) → (good : Kinds.GoodsP κs ps a) → (pre : Pre· κs a) → (bs : List Nat.ℕ) → Φ (Any.want_q 2 ps r xs m κs qs a (Post· κs a)) (Function.init 2 ps r xs m κs qs a)

@@ -11,19 +11,19 @@ use Rattle.rows.specs.TableLaws.{header_read}
 use Rattle.scheduler.proofs.tasks.take_pending_external.Goals as goal
 
 pub skip_other_calls-o-requires : goal.skip_other_calls-o-requires
-skip_other_calls-o-requires c = (c.requires, omega (arith, (header_read _ c.load_header-header.ensures).made-fits))
+skip_other_calls-o-requires c = (c.requires, omega (arith, (header_read _ c.load_header-header.ensures).made_fits))
 
 pub loop-o-init : goal.loop-o-init
 loop-o-init c = first_begins (is_call c.args.objects.now c.args.call) c.load_header-header.result.made c.skip_other_calls-o.result c.skip_other_calls-o.ensures ∙ pending-begins _ _ c.load_header-header.ensures
 
 pub is_call-requires : goal.is_call-requires
-is_call-requires c = (c.requires, omega (arith, (header_read _ c.load_header-header.ensures).made-fits, ap (λ (h : HeapId). h.0) c.new-id.ensures))
+is_call-requires c = (c.requires, omega (arith, (header_read _ c.load_header-header.ensures).made_fits, ap (λ (h : HeapId). h.0) c.new-id.ensures))
 
 pub returns-then-is_call : goal.returns-then-is_call
 returns-then-is_call c = ap FoundObject.At c.new-id.ensures ∙ ap found_object (sym (first_here (is_call c.args.objects.now c.args.call) c.loop-o.o c.load_header-header.result.made c.loop-o-test.true (ap (λ (h : HeapId). h.0) c.new-id.ensures) (sym c.if-is_call.true ∙ c.is_call.ensures)) ∙ c.loop-o.invariant)
 
 pub overflow_add-o : goal.overflow_add-o
-overflow_add-o c = omega (arith, (header_read _ c.load_header-header.ensures).made-fits)
+overflow_add-o c = omega (arith, (header_read _ c.load_header-header.ensures).made_fits)
 
 pub loop-o-preserved : goal.loop-o-preserved
 loop-o-preserved c = first_turn (is_call c.args.objects.now c.args.call) c.loop-o.o c.load_header-header.result.made c.loop-o-test.true (ap (λ (h : HeapId). h.0) c.new-id.ensures) (sym c.if-is_call.false ∙ c.is_call.ensures) ∙ c.loop-o.invariant

@@ -1,6 +1,6 @@
 use native.Mathlib.Omega.{arith}
 use Rattle.scheduler_cancel.specs.Cancel.{put_task_of}
-use Rattle.rows.specs.TableLaws.{coroutine-fits}
+use Rattle.rows.specs.TableLaws.{coroutine_fits}
 use borrow.Author.Rules.{rules}
 use Rattle.scheduler_cancel.proofs.cancel.put_task_of.Statement.{statement}
 use Rattle.scheduler_cancel.proofs.cancel.put_task_of.Tie as tie
@@ -24,7 +24,7 @@ mul-table : tie.Need-overflow-mul-table
 mul-table c = search rules
 
 slice-write-table : tie.Need-slice-write-table
-slice-write-table c = omega (arith, coroutine-fits c.before.before.before.before.before.before.before.before.args.tasks.now c.before.before.before.before.before.before.before.before.args.t.0 c.before.before.coroutine-at.ensures)
+slice-write-table c = omega (arith, coroutine_fits c.before.before.before.before.before.before.before.before.args.tasks.now c.before.before.before.before.before.before.before.before.args.t.0 c.before.before.coroutine-at.ensures)
 
 same_length : tie.Need_same_length
 same_length c = search rules

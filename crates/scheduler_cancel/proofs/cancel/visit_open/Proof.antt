@@ -14,11 +14,11 @@ use Rattle.scheduler_cancel.proofs.cancel.visit_open.Statement.{statement}
 use Rattle.scheduler_cancel.proofs.cancel.visit_open.Tie as tie
 
 abbrev invariant_loop : tie.invariant_loop
-invariant_loop tasks₀ objects places table marks₀ stack₀ first count open-places w₀ i₀ tasks marks stack w i =
-    ((a : Awaiter) (l : List LogEntry) → Logged (λ m. visit_open (walk_of table tasks objects places w m marks stack) (awaited_places first count a open-places) i (count - i)) (visit_open (walk_of table tasks₀ objects places w₀ l marks₀ stack₀) (awaited_places first count a open-places) 0 count)) × (length tasks ≡ length tasks₀) × (length marks ≡ length marks₀) × (length stack ≡ length stack₀) × (i ≤ count) × (unmarked marks + w.depth ≤ object_limit)
+invariant_loop tasks₀ objects places table marks₀ stack₀ first count open_places w₀ i₀ tasks marks stack w i =
+    ((a : Awaiter) (l : List LogEntry) → Logged (λ m. visit_open (walk_of table tasks objects places w m marks stack) (awaited_places first count a open_places) i (count - i)) (visit_open (walk_of table tasks₀ objects places w₀ l marks₀ stack₀) (awaited_places first count a open_places) 0 count)) × (length tasks ≡ length tasks₀) × (length marks ≡ length marks₀) × (length stack ≡ length stack₀) × (i ≤ count) × (unmarked marks + w.depth ≤ object_limit)
 
 abbrev decreases_loop : tie.decreases_loop
-decreases_loop tasks₀ objects places table marks₀ stack₀ first count open-places w₀ i₀ tasks marks stack w i =
+decreases_loop tasks₀ objects places table marks₀ stack₀ first count open_places w₀ i₀ tasks marks stack w i =
     count - i
 
 loop-holds : tie.Need-loop-init invariant_loop decreases_loop
@@ -37,7 +37,7 @@ loop-less : tie.Need-loop-smaller invariant_loop decreases_loop
 loop-less c = omega arith
 
 loop-again : tie.Need-loop-preserved invariant_loop decreases_loop
-loop-again c = ((λ a l. open_turn c.before.before.before.before.before.before.before.before.before.before.before.before.before.before.before.before.before.before.args.table.now c.before.before.before.before.before.before.before.before.before.before.before.loop.tasks c.before.before.before.before.before.before.before.before.before.before.before.before.before.before.before.before.before.before.args.objects.now c.before.before.before.before.before.before.before.before.before.before.before.before.before.before.before.before.before.before.args.places.now c.before.before.before.before.before.before.before.before.before.before.before.loop.w c.before.before.before.before.before.before.before.before.before.before.before.loop.marks c.before.before.before.before.before.before.before.before.before.before.before.loop.stack (awaited_places c.before.before.before.before.before.before.before.before.before.before.before.before.before.before.before.before.before.before.args.first c.before.before.before.before.before.before.before.before.before.before.before.before.before.before.before.before.before.before.args.count a c.before.before.before.before.before.before.before.before.before.before.before.before.before.before.before.before.before.before.args.open-places) c.before.before.before.before.before.before.before.before.before.before.before.loop.i c.before.before.before.before.before.before.before.before.before.before.before.before.before.before.before.before.before.before.args.count c.before.before.before.before.before.before.before.before.before.before.loop_test.true (λ m. c.before.before.before.before.before.before.visit_place.ensures m) (c.before.before.before.before.before.before.before.before.before.before.before.loop.invariant.0 a l)), c.before.before.before.before.before.before.visit_place.auto.0 ∙ c.before.before.before.before.before.before.before.before.before.before.before.loop.invariant.1, c.before.before.before.before.before.before.visit_place.auto.1.1.1.1.0 ∙ c.before.before.before.before.before.before.before.before.before.before.before.loop.invariant.2, c.before.before.before.before.before.before.visit_place.auto.1.1.1.1.1.0 ∙ c.before.before.before.before.before.before.before.before.before.before.before.loop.invariant.3, omega arith, omega (arith, open_room c.before.before.before.before.before.before.before.before.before.before.before.before.before.before.before.before.before.before.args.table.now c.before.before.before.before.before.before.before.before.before.before.before.loop.tasks c.before.before.before.before.before.before.before.before.before.before.before.before.before.before.before.before.before.before.args.objects.now c.before.before.before.before.before.before.before.before.before.before.before.before.before.before.before.before.before.before.args.places.now c.before.before.before.before.before.before.before.before.before.before.before.loop.w [] c.before.before.before.before.before.before.before.before.before.before.before.loop.marks c.before.before.before.before.before.before.before.before.before.before.before.loop.stack (c.before.before.before.before.before.before.before.before.before.before.before.before.before.before.before.before.before.before.args.first + c.before.before.before.before.before.before.before.before.before.before.before.loop.i) c.before.before.before.before.before.before.before.before.before.before.before.loop.i c.before.before.before.before.before.before.before.before.before.before.before.before.before.before.before.before.before.before.args.open-places (c.before.before.before.before.before.before.before.before.before.before.before.loop.invariant.2 ∙ c.before.before.before.before.before.before.before.before.before.before.before.before.before.before.before.before.before.before.requires.4) (c.before.before.before.before.before.before.visit_place.ensures []), c.before.before.before.before.before.before.before.before.before.before.before.loop.invariant.5))
+loop-again c = ((λ a l. open_turn c.before.before.before.before.before.before.before.before.before.before.before.before.before.before.before.before.before.before.args.table.now c.before.before.before.before.before.before.before.before.before.before.before.loop.tasks c.before.before.before.before.before.before.before.before.before.before.before.before.before.before.before.before.before.before.args.objects.now c.before.before.before.before.before.before.before.before.before.before.before.before.before.before.before.before.before.before.args.places.now c.before.before.before.before.before.before.before.before.before.before.before.loop.w c.before.before.before.before.before.before.before.before.before.before.before.loop.marks c.before.before.before.before.before.before.before.before.before.before.before.loop.stack (awaited_places c.before.before.before.before.before.before.before.before.before.before.before.before.before.before.before.before.before.before.args.first c.before.before.before.before.before.before.before.before.before.before.before.before.before.before.before.before.before.before.args.count a c.before.before.before.before.before.before.before.before.before.before.before.before.before.before.before.before.before.before.args.open_places) c.before.before.before.before.before.before.before.before.before.before.before.loop.i c.before.before.before.before.before.before.before.before.before.before.before.before.before.before.before.before.before.before.args.count c.before.before.before.before.before.before.before.before.before.before.loop_test.true (λ m. c.before.before.before.before.before.before.visit_place.ensures m) (c.before.before.before.before.before.before.before.before.before.before.before.loop.invariant.0 a l)), c.before.before.before.before.before.before.visit_place.auto.0 ∙ c.before.before.before.before.before.before.before.before.before.before.before.loop.invariant.1, c.before.before.before.before.before.before.visit_place.auto.1.1.1.1.0 ∙ c.before.before.before.before.before.before.before.before.before.before.before.loop.invariant.2, c.before.before.before.before.before.before.visit_place.auto.1.1.1.1.1.0 ∙ c.before.before.before.before.before.before.before.before.before.before.before.loop.invariant.3, omega arith, omega (arith, open_room c.before.before.before.before.before.before.before.before.before.before.before.before.before.before.before.before.before.before.args.table.now c.before.before.before.before.before.before.before.before.before.before.before.loop.tasks c.before.before.before.before.before.before.before.before.before.before.before.before.before.before.before.before.before.before.args.objects.now c.before.before.before.before.before.before.before.before.before.before.before.before.before.before.before.before.before.before.args.places.now c.before.before.before.before.before.before.before.before.before.before.before.loop.w [] c.before.before.before.before.before.before.before.before.before.before.before.loop.marks c.before.before.before.before.before.before.before.before.before.before.before.loop.stack (c.before.before.before.before.before.before.before.before.before.before.before.before.before.before.before.before.before.before.args.first + c.before.before.before.before.before.before.before.before.before.before.before.loop.i) c.before.before.before.before.before.before.before.before.before.before.before.loop.i c.before.before.before.before.before.before.before.before.before.before.before.before.before.before.before.before.before.before.args.open_places (c.before.before.before.before.before.before.before.before.before.before.before.loop.invariant.2 ∙ c.before.before.before.before.before.before.before.before.before.before.before.before.before.before.before.before.before.before.requires.4) (c.before.before.before.before.before.before.visit_place.ensures []), c.before.before.before.before.before.before.before.before.before.before.before.loop.invariant.5))
 
 same_length : tie.Need_same_length invariant_loop decreases_loop
 same_length c = c.before.loop.invariant.1
@@ -49,7 +49,7 @@ same-length-3 : tie.Need_same_length_3 invariant_loop decreases_loop
 same-length-3 c = c.before.loop.invariant.3
 
 returns : tie.Need_returns invariant_loop decreases_loop
-returns c = λ a l. open_end c.before.before.before.before.before.before.before.before.args.table.now c.before.loop.tasks c.before.before.before.before.before.before.before.before.args.objects.now c.before.before.before.before.before.before.before.before.args.places.now c.before.loop.w c.before.loop.marks c.before.loop.stack (awaited_places c.before.before.before.before.before.before.before.before.args.first c.before.before.before.before.before.before.before.before.args.count a c.before.before.before.before.before.before.before.before.args.open-places) c.before.loop.i c.before.before.before.before.before.before.before.before.args.count c.loop_test.false (c.before.loop.invariant.0 a l)
+returns c = λ a l. open_end c.before.before.before.before.before.before.before.before.args.table.now c.before.loop.tasks c.before.before.before.before.before.before.before.before.args.objects.now c.before.before.before.before.before.before.before.before.args.places.now c.before.loop.w c.before.loop.marks c.before.loop.stack (awaited_places c.before.before.before.before.before.before.before.before.args.first c.before.before.before.before.before.before.before.before.args.count a c.before.before.before.before.before.before.before.before.args.open_places) c.before.loop.i c.before.before.before.before.before.before.before.before.args.count c.loop_test.false (c.before.loop.invariant.0 a l)
 
 pub visit-open-spec : {M : Type 1} → statement M
 visit-open-spec =

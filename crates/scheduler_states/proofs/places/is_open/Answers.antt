@@ -16,13 +16,13 @@ pub is_open_here-requires : goal.is_open_here-requires
 is_open_here-requires c = (search rules, omega (arith, c.requires.1.within), omega (arith, c.requires.1.at_most))
 
 pub returns-then-is_open_here : goal.returns-then-is_open_here
-returns-then-is_open_here c = λ a. open_found _ (awaited_gather c.args.first c.args.count a c.args.open-places) c.args.o.0 c.loop-i.i c.args.count c.loop-i-test.true (sym c.if-is_open_here.true ∙ c.is_open_here.ensures) ∙ c.loop-i.invariant.0 a
+returns-then-is_open_here c = λ a. open_found _ (awaited_gather c.args.first c.args.count a c.args.open_places) c.args.o.0 c.loop-i.i c.args.count c.loop-i-test.true (sym c.if-is_open_here.true ∙ c.is_open_here.ensures) ∙ c.loop-i.invariant.0 a
 
 pub overflow_add-i : goal.overflow_add-i
 overflow_add-i c = omega (arith, c.requires.1.at_most)
 
 pub loop-i-preserved : goal.loop-i-preserved
-loop-i-preserved c = ((λ a. open_turn _ (awaited_gather c.args.first c.args.count a c.args.open-places) c.args.o.0 c.loop-i.i c.args.count c.loop-i-test.true (sym c.if-is_open_here.false ∙ c.is_open_here.ensures) ∙ c.loop-i.invariant.0 a), omega arith)
+loop-i-preserved c = ((λ a. open_turn _ (awaited_gather c.args.first c.args.count a c.args.open_places) c.args.o.0 c.loop-i.i c.args.count c.loop-i-test.true (sym c.if-is_open_here.false ∙ c.is_open_here.ensures) ∙ c.loop-i.invariant.0 a), omega arith)
 
 pub returns : goal.returns
-returns c = λ a. open_end _ (awaited_gather c.args.first c.args.count a c.args.open-places) c.args.o.0 c.loop-i.i c.args.count c.loop-i-test.false ∙ c.loop-i.invariant.0 a
+returns c = λ a. open_end _ (awaited_gather c.args.first c.args.count a c.args.open_places) c.args.o.0 c.loop-i.i c.args.count c.loop-i-test.false ∙ c.loop-i.invariant.0 a

@@ -10,7 +10,7 @@ use Rattle.machine.specs.Tests.{all_below}
 use Rattle.machine.specs.Sound.{one_task, sole_task}
 use Rattle.sound_words.specs.Loops.{all_none, all_turn, all_fails, all_end}
 use Rattle.sound_tasks.specs.Marks.{Marks, marks_zeros}
-use Rattle.rows.specs.TableLaws.{coroutine-fits}
+use Rattle.rows.specs.TableLaws.{coroutine_fits}
 use Rattle.sound_tasks.specs.OneTaskLaws.{driven, task_of_main, marks_main, task_of_dead, marks_dead, task_of_second, task_of_first, marks_live}
 use Rattle.sound_tasks.proofs.one_task.one_task.Statement.{statement}
 use Rattle.sound_tasks.proofs.one_task.one_task.Tie as tie
@@ -53,14 +53,14 @@ cast-k : tie.Need-overflow-cast-k invariant_loop decreases_loop
 cast-k c = omega arith
 
 array-read-if3 : tie.Need-array-read-if3 invariant_loop decreases_loop
-array-read-if3 c = omega (arith, coroutine-fits _ _ (rw c.before.before.before.before.before.before.new.ensures at c.before.coroutine-at.ensures), c.before.before.before.before.before.before.before.before.loop.invariant.2.long)
+array-read-if3 c = omega (arith, coroutine_fits _ _ (rw c.before.before.before.before.before.before.new.ensures at c.before.coroutine-at.ensures), c.before.before.before.before.before.before.before.before.loop.invariant.2.long)
 
 returns : tie.Need_returns invariant_loop decreases_loop
 unfolding one_task
 returns c = all_fails _ c.before.before.before.before.before.before.before.before.before.loop.t _ c.before.before.before.before.before.before.before.before.loop_test.true (task_of_second _ c.before.before.before.before.before.before.before.before.before.loop.seen _ c.before.before.before.before.before.before.before.before.before.loop.invariant.2 (rw c.before.before.before.before.before.before.before.new.ensures at c.before.before.before.before.before.before.state-at.ensures) c.before.before.before.before.before.if1.false (sym c.before.before.before.before.is_live.ensures ∙ c.before.before.before.if2.true) (rw c.before.before.before.before.before.before.before.new.ensures at c.before.before.coroutine-at.ensures) c.if3.true)
 
 array-write-seen : tie.Need-array-write-seen invariant_loop decreases_loop
-array-write-seen c = omega (arith, coroutine-fits _ _ (rw c.before.before.before.before.before.before.before.new.ensures at c.before.before.coroutine-at.ensures), c.before.before.before.before.before.before.before.before.before.loop.invariant.2.long)
+array-write-seen c = omega (arith, coroutine_fits _ _ (rw c.before.before.before.before.before.before.before.new.ensures at c.before.before.coroutine-at.ensures), c.before.before.before.before.before.before.before.before.before.loop.invariant.2.long)
 
 add-t-2 : tie.Need-overflow-add-t-2 invariant_loop decreases_loop
 add-t-2 c = omega arith

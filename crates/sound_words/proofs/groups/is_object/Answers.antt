@@ -1,6 +1,6 @@
 use mathlib.Core.Path.{◌∙◌}
 use native.Mathlib.Omega.{arith}
-use Rattle.sound_words.specs.PartLaws.{row-unmade, row-new-coroutine, row-running_coroutine, row-completed-coroutine, row-pending, row_resolved, row-failed, row-waiting_resting, row-awaited, row-done_resting, row-broken, row_unknown, past, past_zero}
+use Rattle.sound_words.specs.PartLaws.{row-unmade, row-new-coroutine, row-running_coroutine, row-completed-coroutine, row-pending, row_resolved, row-failed, row_waiting_resting, row-awaited, row_done_resting, row-broken, row_unknown, past, past_zero}
 use Rattle.sound_words.proofs.groups.is_object.Goals as goal
 
 pub returns-in-0 : goal.returns-in-0
@@ -25,13 +25,13 @@ pub returns-in-6 : goal.returns-in-6
 returns-in-6 c = c.is_failed.ensures ∙ row-failed _ (omega arith) c.in-6.keys7
 
 pub returns-in-7 : goal.returns-in-7
-returns-in-7 c = c.is_resting.ensures ∙ row-waiting_resting _ (omega arith) c.in-7.keys8
+returns-in-7 c = c.is_resting.ensures ∙ row_waiting_resting _ (omega arith) c.in-7.keys8
 
 pub returns-in-8 : goal.returns-in-8
 returns-in-8 c = c.is_awaited.ensures ∙ row-awaited _ (omega arith) c.in-8.keys9
 
 pub returns-in-9 : goal.returns-in-9
-returns-in-9 c = c.is_resting-in-9.ensures ∙ row-done_resting _ (omega arith) c.in-9.keys10
+returns-in-9 c = c.is_resting-in-9.ensures ∙ row_done_resting _ (omega arith) c.in-9.keys10
 
 pub returns-in-10 : goal.returns-in-10
 returns-in-10 c = c.is_broken.ensures ∙ row-broken _ (omega arith) c.in-10.keys11

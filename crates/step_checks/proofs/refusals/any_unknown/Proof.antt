@@ -30,7 +30,7 @@ mul-result-unknown : tie.Need-overflow-mul-result-unknown invariant_loop decreas
 mul-result-unknown c = omega arith
 
 result-unknown-requires : tie.Need-result-unknown-requires invariant_loop decreases_loop
-result-unknown-requires c κs = (c.before.before.before.before.before.requires, (header_read _ c.before.before.load-header.ensures).made-fits, omega arith, sym (ap (λ (h : Header). h.made) c.before.before.load-header.ensures))
+result-unknown-requires c κs = (c.before.before.before.before.before.requires, (header_read _ c.before.before.load-header.ensures).made_fits, omega arith, sym (ap (λ (h : Header). h.made) c.before.before.load-header.ensures))
 
 returns : tie.Need_returns invariant_loop decreases_loop
 returns c = λ ts ps q l. sym (some-here (result_unknown (store_of ts c.before.before.before.before.before.before.before.args.objects.now ps q l)) c.before.before.before.before.before.before.before.args.results.now c.before.before.before.loop.i _ c.before.before.loop_test.true (sym c.if1.true ∙ c.before.result_unknown.ensures ts ps q l)) ∙ c.before.before.before.loop.invariant.0 ts ps q l
