@@ -1,4 +1,3 @@
-pub mod Made
 pub mod TaskRecordLaws
 pub mod TaskRowsLaws
 pub mod UnfitLaws

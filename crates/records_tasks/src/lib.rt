@@ -1,4 +1,6 @@
 // A task record: document 01's four fields of a task, its copies to and from the tasks' words.
+#![tactic(auto)]
+
 ghost use Rattle.std.specs.Prelude.{◌≡◌, ◌<◌, ◌≤◌, length, set, get_or};
 ghost use Rattle.asyncio.specs.Limits.{task_limit, tasks_length};
 ghost use Rattle.records_tasks.specs.TaskRecord.{no_record, state_in, delivered_in, record_of, is_woken, fits, woken_with, state_with, task_of};
@@ -7,7 +9,7 @@ ghost use Rattle.records_tasks.specs.TaskRows.{rows_of, saved};
 use asyncio::{Awaiter, Error, HeapId, OptionValue, TASKS_LEN, Task, TaskId, TaskState};
 
 // A task's state, without the value that a woken task has.
-#[derive(Drop)]
+#[derive(Clone, Copy)]
 pub enum RecordState {
     Absent,
     Unstarted,
@@ -19,7 +21,7 @@ pub enum RecordState {
 
 // A task, in the four fields of document 01: its state, where its result goes, its coroutine (0 for main, which has none), and the value delivered to it,
 // which a woken task has and no other.
-#[derive(Drop)]
+#[derive(Clone, Copy)]
 pub struct TaskRecord {
     pub state: RecordState,
     pub awaiter: Awaiter,

@@ -13,7 +13,7 @@ pub clear_one-requires : goal.clear_one-requires
 clear_one-requires c = (c.loop-t.invariant.1 ∙ c.requires.0, omega (arith, ap (λ (u : TaskId). u.0) c.new.ensures))
 
 pub loop-t-preserved : goal.loop-t-preserved
-loop-t-preserved c = (clear_turn _ c.loop-t.t c.args.next c.loop-t-test.true (c.clear_one.ensures ∙ ap (λ (u : TaskId). clear_one c.loop-t.tasks u.0) c.new.ensures) ∙ c.loop-t.invariant.0, c.clear_one.auto.0 ∙ c.loop-t.invariant.1)
+loop-t-preserved c = (clear_turn _ c.loop-t.t c.args.next c.loop-t-test.true (c.clear_one.ensures ∙ ap (λ (u : TaskId). clear_one c.loop-t.tasks u.0) c.new.ensures) ∙ c.loop-t.invariant.0, c.clear_one.auto.tasks ∙ c.loop-t.invariant.1)
 
 pub returns : goal.returns
 returns c = clear_end _ c.loop-t.t c.args.next c.loop-t-test.false ∙ c.loop-t.invariant.0
