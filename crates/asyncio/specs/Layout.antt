@@ -1,12 +1,10 @@
 -- The words of each type (docs/LAYOUT.md), and what any words are read as. Every list of words has a reading, and every number that is
 -- read is in its range. A word that means nothing is 0.
-use Rattle.std.specs.Prelude.{Bool, true, false, List, [], ◌∷◌, ℕ, ◌+◌, ◌-◌, ◌%◌, eqb, get_or}
+use Rattle.std.specs.Prelude.{List, [], ◌∷◌, ℕ, ◌+◌, ◌-◌, ◌%◌, eqb, get_or}
 use Rattle.asyncio.specs.Limits.{task_limit, object_limit, place_limit, call_limit}
 use Rattle.asyncio.specs.Numbers.{to_call_id, to_task_id, to_heap_id, to_u32, to_first, to_count}
 use Rattle.asyncio.specs.States.{pick}
 use Rattle.asyncio.specs.declared.CallId.{CallId}
-use Rattle.asyncio.specs.declared.TaskId.{TaskId}
-use Rattle.asyncio.specs.declared.HeapId.{HeapId}
 use Rattle.asyncio.specs.declared.Value.{Value}
 use Rattle.asyncio.specs.declared.OptionValue.{OptionValue}
 use Rattle.asyncio.specs.declared.Error.{Error}

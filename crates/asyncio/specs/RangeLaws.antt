@@ -1,16 +1,13 @@
 -- What fits its words is read back as it was, and whatever is read fits, type by type.
-use Rattle.std.specs.Prelude.{◌≡◌, refl, Bool, true, false, List, ℕ, ◌+◌, ◌-◌, ◌≤◌, ◌<◌, ◌%◌, min, eqb, length, get_or}
+use Rattle.std.specs.Prelude.{◌≡◌, refl, Bool, true, false, List, ℕ, ◌+◌, ◌-◌, ◌≤◌, ◌<◌, ◌%◌, eqb, length, get_or}
 use Rattle.std.proofs.Common.{ap, mod-eq_of_lt, add-sub_cancel, arith, ne_eqb}
 use Rattle.asyncio.specs.Limits.{task_limit, object_limit, place_limit, call_limit, error_limit, u32_limit}
 use Rattle.asyncio.specs.Numbers.{to_call_id, to_task_id, to_heap_id, to_u32, to_first, to_count}
 use Rattle.asyncio.specs.States.{pick}
 use Rattle.asyncio.specs.Kinds.{each_object}
-use Rattle.asyncio.specs.Layout.{value_words, to_value, option_words, to_option, error_words, to_error, awaiter_words, to_awaiter, kind_word, to_kind, object_words, row_awaiter, row_object, to_object}
+use Rattle.asyncio.specs.Layout.{value_words, to_value, option_words, to_option, error_words, to_error, awaiter_words, to_awaiter, to_kind, object_words, row_awaiter, row_object, to_object}
 use Rattle.asyncio.specs.Layout.{state_words, to_state, task_words, to_task, place_words, to_place, moment_words, to_moment, header_words, to_header}
-use Rattle.asyncio.specs.Ranges.{ValueFits, OptionFits, ErrorFits, AwaiterFits, ExternalFits, GatherFits, PlacesFit, ObjectFits, PlaceFits, StateFits, TaskFits, MomentFits, HeaderFits}
-use Rattle.asyncio.specs.declared.CallId.{CallId}
-use Rattle.asyncio.specs.declared.TaskId.{TaskId}
-use Rattle.asyncio.specs.declared.HeapId.{HeapId}
+use Rattle.asyncio.specs.Ranges.{ValueFits, OptionFits, ErrorFits, AwaiterFits, PlacesFit, ObjectFits, PlaceFits, StateFits, TaskFits, MomentFits, HeaderFits}
 use Rattle.asyncio.specs.declared.Value.{Value}
 use Rattle.asyncio.specs.declared.OptionValue.{OptionValue}
 use Rattle.asyncio.specs.declared.Error.{Error}

@@ -1,9 +1,6 @@
 -- Which values fit their words: each number within its range.
 use Rattle.std.specs.Prelude.{ℕ, ◌+◌, ◌≤◌, ◌<◌}
 use Rattle.asyncio.specs.Limits.{task_limit, object_limit, place_limit, item_limit, call_limit, u32_limit}
-use Rattle.asyncio.specs.declared.CallId.{CallId}
-use Rattle.asyncio.specs.declared.TaskId.{TaskId}
-use Rattle.asyncio.specs.declared.HeapId.{HeapId}
 use Rattle.asyncio.specs.declared.Value.{Value}
 use Rattle.asyncio.specs.declared.OptionValue.{OptionValue}
 use Rattle.asyncio.specs.declared.Error.{Error}

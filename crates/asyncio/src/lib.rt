@@ -1,4 +1,6 @@
 // Numbers and states: document 01's module 1 (asyncio.rs; Task and TaskState are scheduler.rs's), and tests on them.
+#![tactic(auto)]
+
 pub mod words; // the words of each type (docs/LAYOUT.md)
 
 ghost use Rattle.std.specs.Prelude.{◌≡◌};

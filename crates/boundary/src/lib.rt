@@ -1,6 +1,8 @@
 // The library for other languages: one exported function for each event and each read, twice. A session's memory is lent as plain arrays, and the
 // answer comes back by value, as document 01's numbers; the calls of a wait stand in the list. Functions that end in _unchecked check no store: their
 // caller owes a sound one, as memory is that began with `sozgarru_begin` and that only these functions wrote. Made by tools/boundary.py from its table: change it there.
+#![tactic(auto)]
+
 ghost use Rattle.std.specs.Prelude.{◌≡◌};
 ghost use Rattle.asyncio.specs.Numbers.{heap_id};
 ghost use Rattle.asyncio.specs.declared.Value.{Value};

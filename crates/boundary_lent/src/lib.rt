@@ -1,5 +1,7 @@
 // What `boundary` calls: an event or a read on a session's memory as arrays, with the numbers of its answer.
 // The queue is lent as its array and its count.
+#![tactic(auto)]
+
 ghost use Rattle.std.specs.Prelude.{◌≡◌, []};
 ghost use Rattle.machine.specs.Lent.{lent_read};
 ghost use Rattle.machine.specs.Machine as machine;

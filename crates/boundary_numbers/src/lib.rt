@@ -1,4 +1,6 @@
 // An answer as document 01's numbers, by value: what crosses to other languages.
+#![tactic(auto)]
+
 ghost use Rattle.std.specs.Prelude.{◌≡◌, List, ◌∷◌, [], ℕ, length};
 ghost use Rattle.machine.specs.Answers.{coroutine_number};
 ghost use Rattle.machine.specs.Scheduler.{bit};

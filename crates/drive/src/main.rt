@@ -1,4 +1,6 @@
 // The program of document 01: records from standard input, one line an event to standard output. It stops after an 11's line, and where a write fails.
+#![tactic(auto)]
+
 ghost use Rattle.std.specs.Prelude.{◌+◌, ◌≤◌, ◌≡◌, length, drop};
 ghost use Rattle.std.proofs.Math.Seq.{paste};
 ghost use Rattle.drive_lines.specs.Lines.{line_limit};

@@ -1,5 +1,7 @@
 // One record of document 01's driver, read from lent bytes. The work is done on a slice and a number (`bytes`, `body`, `parse`); the
 // reader holds the two, and each of its functions hands them on. Whoever reads records calls `parse_record`.
+#![tactic(auto)]
+
 mod body; // what stands behind the kind byte
 mod bytes; // how much is left, bytes past the end, values
 pub mod items; // the numbers of a gather

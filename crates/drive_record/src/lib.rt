@@ -1,4 +1,5 @@
 // One record of document 01's driver to one line: the record is read, the library answers, the line is written.
+#![tactic(auto)]
 
 ghost use Rattle.contract.specs.Entries.{SoundMemory};
 ghost use Rattle.drive_answer.specs.Drove.{DrivesRecord};

@@ -1,4 +1,5 @@
 // A whole session of the driver on lent memory: it begins, and takes its records one after the other, each with its line.
+#![tactic(auto)]
 
 ghost use Rattle.std.specs.Prelude.{◌≡◌, ◌≤◌};
 ghost use Rattle.drive_session.specs.Fold.{stop_refusal};

@@ -1,2 +1,4 @@
 // The line of a show.
+#![tactic(auto)]
+
 pub mod shows;

@@ -1,5 +1,7 @@
 // Bytes, texts and numbers written into a lent buffer. Each function takes the place of the next byte and gives the place behind what it
 // wrote. Where the buffer ends nothing more is written.
+#![tactic(auto)]
+
 ghost use Rattle.std.specs.Prelude.{◌+◌, ◌*◌, [], ◌∷◌, ◌++◌, length};
 ghost use Rattle.drive_text.specs.Out.{Puts};
 ghost use Rattle.drive_text.specs.Text.{decimal, field, fields};

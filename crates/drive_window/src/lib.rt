@@ -1,4 +1,5 @@
 // A window of the driver's input: the records that are whole in it and have room for their lines.
+#![tactic(auto)]
 
 ghost use Rattle.std.specs.Prelude.{◌≡◌, ◌-◌};
 ghost use Rattle.drive_window.specs.Window.{takes};

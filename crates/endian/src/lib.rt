@@ -1,4 +1,6 @@
 // Numbers in lent bytes, low byte first.
+#![tactic(auto)]
+
 ghost use Rattle.std.specs.Prelude.{◌≡◌, ◌≤◌, ◌<◌, ◌+◌, ◌^◌, length};
 ghost use Rattle.endian.specs.Endian.{le1, le2, le4, le8};
 

@@ -1,4 +1,6 @@
 // Await, by the running task: exec_get_awaitable (async_exec.rs).
+#![tactic(auto)]
+
 ghost use Rattle.std.specs.Prelude.{◌<◌};
 ghost use Rattle.asyncio.specs.Limits.{task_limit, object_limit};
 ghost use Rattle.machine.specs.Events.{stays, raises, go_on, await_coroutine, await_external_future, await_gather, exec_get_awaitable};

@@ -1,4 +1,6 @@
 // Delivery (async_exec.rs): a result or an error goes to its awaiter, through gathers, to a blocked task.
+#![tactic(auto)]
+
 pub mod task; // to a task
 pub mod climb; // up the gathers; what a gather does with it is exec_fill
 pub mod future; // from an external

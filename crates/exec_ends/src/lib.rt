@@ -1,4 +1,6 @@
 // The end of a task and of main: handle_task_completion; resume_with_resolved_futures (async_exec.rs).
+#![tactic(auto)]
+
 ghost use Rattle.std.specs.Prelude.{◌≡◌, ◌<◌};
 ghost use Rattle.asyncio.specs.Limits.{task_limit, object_limit};
 ghost use Rattle.rows.specs.Tables.{object_at, object_put};

@@ -1,1 +1,2 @@
 // Soundness kept, no panic, bounds (specs/).
+#![tactic(auto)]

@@ -1,1 +1,2 @@
 // The machine with n call numbers: states of the old width carried over (specs/).
+#![tactic(auto)]

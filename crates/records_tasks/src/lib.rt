@@ -1,4 +1,6 @@
 // A task record: document 01's four fields of a task, its copies to and from the tasks' words.
+#![tactic(auto)]
+
 ghost use Rattle.std.specs.Prelude.{◌≡◌, ◌<◌, ◌≤◌, length, set, get_or};
 ghost use Rattle.asyncio.specs.Limits.{task_limit, tasks_length};
 ghost use Rattle.records_tasks.specs.TaskRecord.{no_record, state_in, delivered_in, record_of, is_woken, fits, woken_with, state_with, task_of};

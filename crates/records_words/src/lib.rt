@@ -1,4 +1,6 @@
 // The entries of `session` on the words of task records, and how many records they write.
+#![tactic(auto)]
+
 ghost use Rattle.std.specs.Prelude.{◌≡◌, ◌≤◌};
 ghost use Rattle.asyncio.specs.Limits.{task_limit};
 ghost use Rattle.machine.specs.Machine as machine;

@@ -2,7 +2,7 @@
 use Rattle.std.specs.Prelude.{◌≡◌, refl, Bool, true, false, ◌⊎◌, List, [], ◌∷◌, ℕ, ◌+◌, ◌≤◌, T, eqb, length}
 use Rattle.std.proofs.Common.{ap, eqb-true, eq-eqb}
 use Rattle.asyncio.specs.States.{pick}
-use Rattle.rows.specs.Rows.{row_from, Codec, put_at}
+use Rattle.rows.specs.Rows.{Codec, put_at}
 use Rattle.rows.specs.RowLaws.{row-put_at, read-put, row-put-apart}
 use Rattle.rows.specs.Canonical.{same_words, canonical_at}
 

@@ -1,5 +1,5 @@
 -- A part of an object is what its own words are read as, by the object's kind.
-use Rattle.std.specs.Prelude.{◌≡◌, refl, List, [], ◌∷◌, ℕ, ◌+◌, ◌*◌, get_or}
+use Rattle.std.specs.Prelude.{◌≡◌, refl, List, [], ◌∷◌, ℕ, ◌+◌, get_or}
 use Rattle.std.proofs.Math.Nat.{add-zero}
 use Rattle.asyncio.specs.Numbers.{call_id, to_call_id, to_u32, to_first, to_count}
 use Rattle.asyncio.specs.States.{pick}
@@ -7,7 +7,6 @@ use Rattle.asyncio.specs.Kinds.{kind, each_kind, has_awaiter, is_external, is_ga
 use Rattle.asyncio.specs.Layout.{to_kind, to_awaiter, row_awaiter, row_object}
 use Rattle.rows.specs.Tables.{object_at, object_start}
 use Rattle.asyncio.specs.Parts.{awaiter_of, call_of, first_of, count_of, open_of}
-use Rattle.asyncio.specs.declared.CallId.{CallId}
 use Rattle.asyncio.specs.declared.Awaiter.{Awaiter}
 use Rattle.asyncio.specs.declared.Kind.{Kind}
 

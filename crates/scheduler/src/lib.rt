@@ -1,4 +1,6 @@
 // spawn, the searches, pending calls and cleanup (scheduler.rs).
+#![tactic(auto)]
+
 pub mod calls; // pending_call_ids
 pub mod tasks; // the searches for a task, for an external
 pub mod spawn; // spawn

@@ -1,4 +1,6 @@
 // The beginning of a session: it meets only refusal 1, and overwrites the rest.
+#![tactic(auto)]
+
 ghost use Rattle.std.specs.Prelude.{◌≡◌, length, replicate};
 ghost use Rattle.contract.specs.Contract.{Lengths₂};
 ghost use Rattle.session_begin.specs.Begin.{StoresMain, LentBegin};

@@ -1,4 +1,6 @@
 // Any event on any memory: refusals 1 and 2, then `step_event::step`.
+#![tactic(auto)]
+
 ghost use Rattle.std.specs.Prelude.{[], ◌∷◌};
 ghost use Rattle.step_event.specs.EventOf.{event_of};
 ghost use Rattle.step_event.specs.LentStep.{LentStep};

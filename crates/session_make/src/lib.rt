@@ -2,6 +2,8 @@
 // All of them lend the same memory and ask nothing of their caller: a slice of the wrong length is refused with 1, a store that is not sound with 2, and so
 // on in the order of document 01's table; a refused event leaves the slices, the list of calls and the queue as they were. What an entry answers is in
 // `Answered`: the queue to pass back, the answer, and of a wait how many calls stand at the list's front.
+#![tactic(auto)]
+
 ghost use Rattle.machine.specs.Machine as machine;
 ghost use Rattle.step_event.specs.LentStep.{LentStep};
 

@@ -1,4 +1,6 @@
 // The reads show and eager on any memory: refusals 1, 2 and 5; they change nothing.
+#![tactic(auto)]
+
 ghost use Rattle.machine.specs.Machine.{Event};
 ghost use Rattle.contract.specs.Entries.{LentRead};
 ghost use Rattle.exec_switch.specs.Answer.{answer_of};

@@ -1,6 +1,8 @@
 // Soundness: clauses 9 to 11, and `is_sound`, the whole (document 01: "A store is sound when").
 // Clause by clause; it runs at every call: linear in the rows in use, and
 // nothing past the counts is looked at. The words and clauses 1 to 8 are in `sound_rows` and `sound_tasks`.
+#![tactic(auto)]
+
 pub mod filled; // clause 9
 pub mod slots; // clause 10
 pub mod runner; // clause 11

@@ -1,4 +1,6 @@
 // Soundness: clauses 1 to 4.
 // What each row says by itself. Each clause is a loop that returns false at the first row that fails.
+#![tactic(auto)]
+
 pub mod numbers; // clauses 1 and 2
 pub mod values; // clauses 3 and 4

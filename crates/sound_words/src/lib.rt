@@ -1,5 +1,7 @@
 // Soundness: canonical rows. Each row in use is tested by its groups of words.
 // The header is decoded and encoded, and its words have to come back.
+#![tactic(auto)]
+
 mod groups; // groups of words, and an object's row by its kind
 
 ghost use Rattle.std.specs.Prelude.{◌≡◌, ◌<◌, ◌≤◌};

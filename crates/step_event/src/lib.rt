@@ -1,5 +1,6 @@
 // One event of a sound store, whichever it is, with refusals 3 to 10: `step`.
 // It asks its caller for a sound store, and checks nothing of it.
+#![tactic(auto)]
 
 ghost use Rattle.contract.specs.Contract.{Lengths};
 ghost use Rattle.contract.specs.Entries.{SoundMemory};

@@ -1,4 +1,6 @@
 // Events of the host: results, resume, cancel.
+#![tactic(auto)]
+
 ghost use Rattle.std.specs.Prelude.{◌≡◌};
 ghost use Rattle.rows.specs.Tables.{header_at};
 ghost use Rattle.machine.specs.Sound.{is_ended};

@@ -1,4 +1,6 @@
 // Events that make: coroutine, call, pending, settled, gather.
+#![tactic(auto)]
+
 ghost use Rattle.std.specs.Prelude.{◌≡◌, ◌||◌, ◌≤◌, ◌+◌, ltb, leb, length};
 ghost use Rattle.asyncio.specs.Limits.{object_limit, item_limit, place_limit};
 ghost use Rattle.machine.specs.Machine.{Event};

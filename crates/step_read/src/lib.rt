@@ -1,4 +1,6 @@
 // show and eager behind the checks of lengths and soundness: refusal 5.
+#![tactic(auto)]
+
 ghost use Rattle.std.specs.Prelude.{◌≡◌};
 ghost use Rattle.asyncio.specs.declared.CallId.{CallId};
 ghost use Rattle.machine.specs.Store.{Store};

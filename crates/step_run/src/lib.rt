@@ -1,4 +1,6 @@
 // Events of the running task: await, complete, fail.
+#![tactic(auto)]
+
 ghost use Rattle.machine.specs.Machine.{Event};
 ghost use Rattle.contract.specs.Contract.{Lengths, Lengths₂};
 ghost use Rattle.exec_switch.specs.Answer.{Answers, AnswersKeepingPlaces};

@@ -2,6 +2,8 @@
 // Document 01's worked example goes event by event through the entries, and
 // then comes what else a host meets: a wait that is repeated, refusals 1, 2 and others, reads, a session that ends with an error, a task cancelled. Each
 // line is the answer as `drive` writes it; a line that begins with 0 is that of a beginning.
+#![tactic(auto)]
+
 mod lines; // an answer's line
 mod memory; // the memory that the host lends, and keeps
 

@@ -1,6 +1,8 @@
 // What `test_stores` prints of a store, written into a lent buffer.
 // A line for each row and for the queue: the words of docs/LAYOUT.md, decimal, a space before each. Each function takes the place of the next byte
 // and gives the place behind what it wrote.
+#![tactic(auto)]
+
 ghost use Rattle.std.specs.Prelude.{◌≡◌, length, ◌*◌, ◌<◌, ◌≤◌};
 ghost use Rattle.asyncio.specs.Limits.{tasks_length, objects_length, task_limit, object_limit};
 ghost use Rattle.drive_text.specs.Out.{Puts};

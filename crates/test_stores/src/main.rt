@@ -9,6 +9,8 @@
 //   d .        prints the store; ends the line
 // Entry 0 begins a session, the others are document 01's kinds: 1 to 11 the events, 12 `show`, 13 `eager`. A line "changed" would follow where a
 // refused call changed something.
+#![tactic(auto)]
+
 ghost use Rattle.std.specs.Prelude.{◌≤◌, length};
 
 mod answers; // what an answer prints

@@ -1,0 +1,18 @@
+use mathlib.Core.Path.{refl, ap, ◌∙◌}
+use Prim.Native.Nat.{◌-◌}
+use native.Mathlib.Omega.{arith}
+use Rattle.asyncio.specs.declared.TaskId.{TaskId}
+use Rattle.scheduler_cancel.specs.TaskOfLaws.{tasks_of_begin, tasks_of_turn, tasks_of_end}
+use Rattle.scheduler_cancel.proofs.cancel.find_tasks.Goals as goal
+
+pub loop-t-init : goal.loop-t-init
+loop-t-init c = (tasks_of_begin c.args.tasks.now c.args.next, refl, omega arith, omega arith)
+
+pub put_task_of-requires : goal.put_task_of-requires
+put_task_of-requires c = (c.requires.0, c.loop-t.invariant.1, omega (arith, ap (λ (u : TaskId). u.0) c.new.ensures))
+
+pub loop-t-preserved : goal.loop-t-preserved
+loop-t-preserved c = (tasks_of_turn c.args.tasks.now c.args.next c.loop-t.table (c.loop-t.t - 1) c.loop-t.t (omega arith) (omega arith) (omega arith) c.requires.1 c.loop-t.invariant.1 (ap (λ (u : TaskId). u.0) c.new.ensures) c.put_task_of.ensures c.loop-t.invariant.0, c.put_task_of.auto.table ∙ c.loop-t.invariant.1, omega arith, omega arith)
+
+pub returns : goal.returns
+returns c = tasks_of_end c.args.tasks.now c.args.next c.loop-t.table c.loop-t.t (omega arith) (omega arith) (omega arith) c.loop-t.invariant.0
