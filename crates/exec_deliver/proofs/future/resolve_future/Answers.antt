@@ -2,10 +2,10 @@ use Rattle.exec_deliver.specs.FutureLaws.{resolve_none, resolve_found, found_bel
 use Rattle.exec_deliver.proofs.future.resolve_future.Goals as goal
 
 pub resolve_at-requires : goal.resolve_at-requires
-resolve_at-requires c = (c.requires.0, c.requires.1, c.requires.2, found_below c.args.objects.now c.args.call c.found-1.given.0.0 c.take_pending_external-found.ensures c.found-1.given.1)
+resolve_at-requires c = (c.requires.0, c.requires.1, c.requires.2, found_below c.args.objects.now c.args.call c.in-At.o c.take_pending_external-found.ensures c.in-At.is)
 
 pub returns-in-Nothing : goal.returns-in-Nothing
-returns-in-Nothing c = λ q l. resolve_none c.args.tasks.now c.args.objects.now c.args.places.now q l c.args.call c.take_pending_external-found.ensures c.args.value c.enum_told-1.given.1
+returns-in-Nothing c = λ q l. resolve_none c.args.tasks.now c.args.objects.now c.args.places.now q l c.args.call c.take_pending_external-found.ensures c.args.value c.in-Nothing.is
 
 pub returns-in-At : goal.returns-in-At
-returns-in-At c = λ q l. resolve_found c.args.tasks.now c.args.objects.now c.args.places.now q l c.args.call c.take_pending_external-found.ensures c.found-1.given.0.0 c.found-1.given.1 c.args.value (c.resolve_at.ensures q l)
+returns-in-At c = λ q l. resolve_found c.args.tasks.now c.args.objects.now c.args.places.now q l c.args.call c.take_pending_external-found.ensures c.in-At.o c.in-At.is c.args.value (c.resolve_at.ensures q l)

@@ -1,0 +1,30 @@
+use mathlib.Core.List.{[]}
+use mathlib.Core.Path.{refl, ◌∙◌}
+use native.Mathlib.Omega.{arith}
+use Rattle.queue.specs.Queue.{empty_queue}
+use Rattle.exec_deliver.specs.ClimbLaws.{nobody, to_task, stays, climbs, climb-fits, climb-falls}
+use Rattle.exec_deliver.proofs.climb.deliver_awaiter_success.Goals as goal
+
+pub loop-to-init : goal.loop-to-init
+loop-to-init c = ((λ q l. refl), refl, refl, refl, c.requires.3)
+
+pub returns-in-Nobody : goal.returns-in-Nobody
+returns-in-Nobody c = λ q l. nobody c.loop-to.tasks c.loop-to.objects c.loop-to.places q l c.loop-to.given (rw c.in-Nobody.is at (c.loop-to.invariant.0 q l))
+
+pub deliver_to_task-requires : goal.deliver_to_task-requires
+deliver_to_task-requires c = (c.loop-to.invariant.1 ∙ c.requires.0, rw c.in-Task.is at c.loop-to.invariant.4)
+
+pub returns-in-Task : goal.returns-in-Task
+returns-in-Task c = λ q l. to_task c.loop-to.tasks c.loop-to.objects c.loop-to.places q l c.in-Task.t c.loop-to.given (rw c.in-Task.is at (c.loop-to.invariant.0 q l)) c.deliver_to_task.result (c.deliver_to_task.ensures q c.loop-to.objects c.loop-to.places l)
+
+pub resolve_child-onward-requires : goal.resolve_child-onward-requires
+resolve_child-onward-requires c = (c.loop-to.invariant.2 ∙ c.requires.1, c.loop-to.invariant.3 ∙ c.requires.2, (rw c.in-GatherSlot.is at c.loop-to.invariant.4).0)
+
+pub returns-in-Nowhere : goal.returns-in-Nowhere
+returns-in-Nowhere c = λ q l. stays c.loop-to.tasks c.loop-to.objects c.loop-to.places q c.in-GatherSlot.gather c.in-GatherSlot.source c.loop-to.given l (rw c.in-GatherSlot.is at (c.loop-to.invariant.0 q l)) (rw c.in-Nowhere.is at (c.resolve_child-onward.ensures c.loop-to.tasks q l))
+
+pub loop-to-smaller : goal.loop-to-smaller
+loop-to-smaller c = omega (arith, climb-falls c.loop-to.tasks c.loop-to.objects c.loop-to.places empty_queue c.in-GatherSlot.gather c.in-GatherSlot.source c.loop-to.given c.in-To.w (c.loop-to.invariant.1 ∙ c.requires.0) (c.loop-to.invariant.2 ∙ c.requires.1) (c.loop-to.invariant.3 ∙ c.requires.2) (rw c.in-GatherSlot.is at c.loop-to.invariant.4).0 [] (rw c.in-To.is at (c.resolve_child-onward.ensures c.loop-to.tasks empty_queue [])))
+
+pub loop-to-preserved : goal.loop-to-preserved
+loop-to-preserved c = ((λ q l. climbs c.loop-to.tasks c.loop-to.objects c.loop-to.places q c.in-GatherSlot.gather c.in-GatherSlot.source c.loop-to.given c.in-To.w (c.loop-to.invariant.1 ∙ c.requires.0) (c.loop-to.invariant.2 ∙ c.requires.1) (c.loop-to.invariant.3 ∙ c.requires.2) (rw c.in-GatherSlot.is at c.loop-to.invariant.4).0 l (rw c.in-To.is at (c.resolve_child-onward.ensures c.loop-to.tasks q l)) ∙ (rw c.in-GatherSlot.is at (c.loop-to.invariant.0 q l))), c.loop-to.invariant.1, c.resolve_child-onward.auto.objects ∙ c.loop-to.invariant.2, c.resolve_child-onward.auto.places ∙ c.loop-to.invariant.3, climb-fits c.loop-to.tasks c.loop-to.objects c.loop-to.places empty_queue c.in-GatherSlot.gather c.in-GatherSlot.source c.loop-to.given c.in-To.w (c.loop-to.invariant.1 ∙ c.requires.0) (c.loop-to.invariant.2 ∙ c.requires.1) (c.loop-to.invariant.3 ∙ c.requires.2) (rw c.in-GatherSlot.is at c.loop-to.invariant.4).0 [] (rw c.in-To.is at (c.resolve_child-onward.ensures c.loop-to.tasks empty_queue [])))
