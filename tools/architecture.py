@@ -48,8 +48,8 @@ def table():
     for line in (ROOT / "crates.txt").read_text(encoding="utf-8").splitlines():
         if line.startswith("#"):
             head = line[1:].strip()
-        elif re.match(r"[a-z0-9_]+:", line):
-            crate = line.split(":")[0]
+        elif re.match(r"[a-z0-9_]+( staticlib)?:", line):
+            crate = re.split("[ :]", line)[0]
             if head:
                 lines += ["", f"**{head}**", "", "| crate | what it is |", "|---|---|"]
                 head = None
