@@ -25,7 +25,7 @@ MEMORY = [("tasks", "u64", 4104), ("objects", "u64", 2056), ("places", "u64", 20
 PLAIN = "Value::Plain(number)"
 LIST = "Value::List(HeapId::new(gather))"
 GIVES_PLAIN = "(Value.Plain number)"
-GIVES_LIST = "(Value.List (heap-id gather))"
+GIVES_LIST = "(Value.List (heap_id gather))"
 STARTED = "3 the session has ended, 4 no task runs"
 
 # name, parameters, the code's event, the contract's event, what it does and answers, its refusals from 3 on
@@ -46,7 +46,7 @@ EVENTS = [
      "An external future that has a plain value already; it is handed a call number too. Made: its object.", STARTED + ", 7, 8"),
     ("settled_list", [("gather", "u16")], "Event::Settled(%s)" % LIST, "(machine.Event.settled %s)" % GIVES_LIST,
      "An external future that has the list of a gather already. Made: its object.", STARTED + ", 5 the gather is not completed, 7, 8"),
-    ("gather", [("items", "&[u16]")], "Event::Gather", "(machine.Event.gather (now (items .entry)))",
+    ("gather", [("items", "&[u16]")], "Event::Gather", "(machine.Event.gather items.now)",
      "A gather of objects, by their numbers, however many. Made: its object.", STARTED + ", 5 an object is not made, 7 (also over 32 items, over 512 places)"),
     ("await", [("object", "u16")], "Event::Await(object)", "(machine.Event.await object)",
      "The running task awaits an object. Runs or waits, and the commit steps.", STARTED + ", 5 the object is not made"),
@@ -56,7 +56,7 @@ EVENTS = [
      "The running task returns the list of a gather. Runs or waits; of main: finished.", STARTED + ", 5 the gather is not completed"),
     ("fail", [("number", "u32")], "Event::Fail(number)", "(machine.Event.fail number)",
      "The running task raises the error script n. Runs or waits; of main: finished.", STARTED),
-    ("results", [("results", "&[u8]")], "Event::Results", "(machine.Event.results (results-in (now (results .entry))))",
+    ("results", [("results", "&[u8]")], "Event::Results", "(machine.Event.results (results_in results.now))",
      "The host answers calls: 14 bytes each (call 4, kind 1, tag 1, value 8), a rest of 1 to 13 bytes is not read. Tasks woken go to the queue's back, lowest first. Done.",
      "3 the session has ended, 5 a list of a gather not completed, 10 over 64 results or one that is none; then nothing is applied"),
     ("resume", [], "Event::Resume", "machine.Event.resume",
@@ -68,11 +68,11 @@ EVENTS = [
 
 # name, parameters, the contract, what it answers, its refusals from 3 on
 READS = [
-    ("eager", [], "BoundaryRead tasks objects places ids len machine.Event.eager r",
+    ("eager", [], "BoundaryRead tasks.now objects.now places.now ids.now len machine.Event.eager result",
      "May the host answer a call at once: is no task ready and no call pending? Eager: 1 yes, 0 no.", "none"),
-    ("show", [("object", "u16")], "BoundaryRead tasks objects places ids len (machine.Event.show object) r",
+    ("show", [("object", "u16")], "BoundaryRead tasks.now objects.now places.now ids.now len (machine.Event.show object) result",
      "What an object is and has. Shows: sort, state, and what document 01 lists; of an awaited or completed gather how many places it has.", "5 the object is not made"),
-    ("place", [("object", "u16"), ("place", "u16")], "BoundaryPlace tasks objects places ids len object place r",
+    ("place", [("object", "u16"), ("place", "u16")], "BoundaryPlace tasks.now objects.now places.now ids.now len object place result",
      "A place of an awaited or completed gather, from 0. Shows: 0 where it is open; 1 and the value's tag and number.",
      "5 the object is not made, or shows no such place"),
 ]
@@ -113,47 +113,60 @@ def functions():
 
 # ---- Rattle
 
-RATTLE_HEAD = """// The library for other languages: one exported function for each event and each read, twice. A session's memory is lent as plain arrays, and the
+RATTLE_HEAD = """// %s. A session's memory is lent as plain arrays, and the
 // answer comes back by value, as document 01's numbers; the calls of a wait stand in the list. Functions that end in _unchecked check no store: their
 // caller owes a sound one, as memory is that began with `sozgarru_begin` and that only these functions wrote. %s
-use asyncio::HeapId;
-use asyncio::OptionValue;
-use asyncio::Value;
-use boundary_numbers::Numbers;
-use step_event::Event;
-ghost use mathlib.Core.Path.{_≡_};
-ghost use Rattle·asyncio.specs.Numbers.{heap-id};
-ghost use Rattle·asyncio.specs.declared.Value.{Value};
-ghost use Rattle·asyncio.specs.declared.OptionValue.{OptionValue};
-ghost use Rattle·machine.specs.Machine as machine;
-ghost use Rattle·exec_futures.specs.Results.{results-in};
-ghost use Rattle·boundary_lent.specs.Boundary.{BoundaryStep, BoundaryRead, BoundaryPlace, BoundaryBegin, SoundLent, SoundRead, is-sound-lent};
-""" % MADE
+#![tactic(auto)]
+
+ghost use Rattle.std.specs.Prelude.{◌≡◌};
+ghost use Rattle.asyncio.specs.Numbers.{heap_id};
+ghost use Rattle.asyncio.specs.declared.Value.{Value};
+ghost use Rattle.asyncio.specs.declared.OptionValue.{OptionValue};
+ghost use Rattle.machine.specs.Machine as machine;
+ghost use Rattle.exec_futures.specs.Results.{results_in};
+ghost use Rattle.boundary_lent.specs.Boundary.{BoundaryStep, BoundaryRead, BoundaryPlace, BoundaryBegin, SoundLent, SoundRead, is_sound_lent};
+
+%s
+"""
+LIBRARY_HEAD = RATTLE_HEAD % (
+    "The library for other languages: one function for each event and each read, twice", MADE,
+    "use asyncio::{HeapId, OptionValue, Value};\nuse boundary_numbers::Numbers;\nuse step_event::Event;")
+EXPORTS_HEAD = RATTLE_HEAD % ("What the archive exports: the functions of `boundary` under their names in C", MADE, "use boundary_numbers::Numbers;")
+# what each form of the memory is called in a `requires`, and in the `ensures` of a read
+OLD = "tasks.old objects.old places.old ids.old len.old"
+NOW = "tasks.now objects.now places.now ids.now len"
 
 
-def rattle_function(name, params, result, comment, requires, ensures, body):
-    lines = [f"// {c}" for c in comment] + ["#[no_mangle]", f'pub extern "C" fn sozgarru_{name}(']
+def rattle_function(name, params, result, comment, requires, ensures, body, exported):
+    lines = [f"// {c}" for c in comment] + ["#[unsafe(no_mangle)]"] * exported + [f'pub extern "C" fn sozgarru_{name}(']
+    if exported:
+        body = f"    boundary::sozgarru_{name}({', '.join(n for n, _ in params)})" + ("" if result else ";")
     lines += [f"    {n}: {t}," for n, t in params] + [f") -> {result}" if result else ")"]
-    lines += [f"    requires {{ ⌜ {requires} ⌝ }}"] if requires else []
-    return "\n".join(lines + [f"    ensures {{ λ {'r' if result else '_'}. ⌜ {ensures} ⌝ }}", "{", body, "}", ""])
+    lines += [f"    requires {{ {requires} }}"] if requires else []
+    return "\n".join(lines + [f"    ensures {{ {ensures} }}", "{", body, "}", ""])
 
 
-def rattle():
+def rattle(exported=False):
     says = {}
     for name, params, code, spec, *_ in EVENTS:
         names = [n for n, _ in params]
         rest = ", ".join(["items" if "items" in names else "&[0u16; 1]", "results" if "results" in names else "&[0u8; 1]"])
-        for suffix, callee, asks in (("", "dispatch", ""), ("_unchecked", "step", "SoundLent tasks objects places ids len")):
+        for suffix, callee, asks in (("", "dispatch", ""), ("_unchecked", "step", f"SoundLent {OLD}")):
             body = f"    boundary_lent::{callee}(tasks, objects, places, calls, ids, len, {code}, {rest})"
-            says[name + suffix] = (asks, f"BoundaryStep tasks objects places calls ids len {spec} r", body)
+            says[name + suffix] = (asks, f"BoundaryStep tasks objects places calls ids len {spec} result", body)
     for name, params, spec, *_ in READS:
         args = ", ".join(["tasks", "objects", "places", "ids", "len"] + [n for n, _ in params])
         says[name] = ("", spec, f"    boundary_lent::{name}({args})")
-        says[name + "_unchecked"] = ("SoundRead tasks objects places ids len", spec, f"    boundary_lent::{name}_unchecked({args})")
-    says["version"] = ("", f"r ≡ {VERSION}", f"    {VERSION}")
+        says[name + "_unchecked"] = (f"SoundRead {NOW}", spec, f"    boundary_lent::{name}_unchecked({args})")
+    says["version"] = ("", f"result ≡ {VERSION}", f"    {VERSION}")
     says["begin"] = ("", "BoundaryBegin tasks objects places ids len", "    boundary_lent::begin(tasks, objects, places, ids, len);")
-    says["is_sound"] = ("", "r ≡ is-sound-lent tasks objects places ids len", "    boundary_lent::is_sound(tasks, objects, places, ids, len)")
-    return RATTLE_HEAD + "\n" + "\n".join(rattle_function(n, p, r, c, *says[n]) for n, p, r, c in functions())
+    says["is_sound"] = ("", f"result ≡ is_sound_lent {NOW}", "    boundary_lent::is_sound(tasks, objects, places, ids, len)")
+    head = EXPORTS_HEAD if exported else LIBRARY_HEAD
+    return head + "\n" + "\n".join(rattle_function(n, p, r, c, *says[n], exported) for n, p, r, c in functions())
+
+
+def exports():
+    return rattle(exported=True)
 
 
 # ---- C
@@ -348,7 +361,7 @@ def binding():
     return PYTHON_HEAD + fields + PYTHON_LENT + memory + PYTHON_FUNCTIONS + "".join(rows) + "}\n"
 
 
-FILES = [("crates/boundary/src/lib.rt", rattle), ("host/c/sozgarru.h", header), ("host/rust/src/declarations.rs", declarations), ("host/python/sozgarru_declarations.py", binding)]
+FILES = [("crates/boundary/src/lib.rt", rattle), ("crates/boundary_c/src/lib.rt", exports), ("host/c/sozgarru.h", header), ("host/rust/src/declarations.rs", declarations), ("host/python/sozgarru_declarations.py", binding)]
 
 
 def tokens(text):

@@ -1,4 +1,4 @@
-// The library for other languages: one exported function for each event and each read, twice. A session's memory is lent as plain arrays, and the
+// The library for other languages: one function for each event and each read, twice. A session's memory is lent as plain arrays, and the
 // answer comes back by value, as document 01's numbers; the calls of a wait stand in the list. Functions that end in _unchecked check no store: their
 // caller owes a sound one, as memory is that began with `sozgarru_begin` and that only these functions wrote. Made by tools/boundary.py from its table: change it there.
 #![tactic(auto)]
@@ -16,7 +16,6 @@ use boundary_numbers::Numbers;
 use step_event::Event;
 
 // The version of this boundary and of the layout: a host compares it with the one that it was built for.
-#[unsafe(no_mangle)]
 pub extern "C" fn sozgarru_version() -> u64
     ensures { result ≡ 1 }
 {
@@ -24,7 +23,6 @@ pub extern "C" fn sozgarru_version() -> u64
 }
 
 // A fresh session, whatever the memory held: main runs, and nothing else exists.
-#[unsafe(no_mangle)]
 pub extern "C" fn sozgarru_begin(
     tasks: &mut [u64; 4104],
     objects: &mut [u64; 2056],
@@ -38,7 +36,6 @@ pub extern "C" fn sozgarru_begin(
 }
 
 // Is the memory a sound store? For memory that comes from outside, as a snapshot does.
-#[unsafe(no_mangle)]
 pub extern "C" fn sozgarru_is_sound(
     tasks: &[u64; 4104],
     objects: &[u64; 2056],
@@ -53,7 +50,6 @@ pub extern "C" fn sozgarru_is_sound(
 
 // The running task makes a coroutine of a function. Made: its object.
 // Refused with 3 the session has ended, 4 no task runs, 7 a 257th object. Refused also with 2, where the store is not sound.
-#[unsafe(no_mangle)]
 pub extern "C" fn sozgarru_coroutine(
     tasks: &mut [u64; 4104],
     objects: &mut [u64; 2056],
@@ -80,7 +76,6 @@ pub extern "C" fn sozgarru_coroutine(
 
 // The running task calls the host. Call: the call's number.
 // Refused with 3 the session has ended, 4 no task runs, 8 all numbers are handed out. Refused also with 2, where the store is not sound.
-#[unsafe(no_mangle)]
 pub extern "C" fn sozgarru_call(
     tasks: &mut [u64; 4104],
     objects: &mut [u64; 2056],
@@ -106,7 +101,6 @@ pub extern "C" fn sozgarru_call(
 
 // The external future of a call, without a stored result. Made: its object.
 // Refused with 3 the session has ended, 4 no task runs, 5 the number was not handed out, 6 it is pending already, 7. Refused also with 2, where the store is not sound.
-#[unsafe(no_mangle)]
 pub extern "C" fn sozgarru_pending(
     tasks: &mut [u64; 4104],
     objects: &mut [u64; 2056],
@@ -136,7 +130,6 @@ pub extern "C" fn sozgarru_pending(
 
 // The external future of a call, with a stored plain value, which replaces the host's. Made: its object.
 // Refused with 3 the session has ended, 4 no task runs, 5, 6, 7. Refused also with 2, where the store is not sound.
-#[unsafe(no_mangle)]
 pub extern "C" fn sozgarru_pending_plain(
     tasks: &mut [u64; 4104],
     objects: &mut [u64; 2056],
@@ -167,7 +160,6 @@ pub extern "C" fn sozgarru_pending_plain(
 
 // The external future of a call, with the list of a gather stored. Made: its object.
 // Refused with 3 the session has ended, 4 no task runs, 5 also: the gather is not completed, 6, 7. Refused also with 2, where the store is not sound.
-#[unsafe(no_mangle)]
 pub extern "C" fn sozgarru_pending_list(
     tasks: &mut [u64; 4104],
     objects: &mut [u64; 2056],
@@ -198,7 +190,6 @@ pub extern "C" fn sozgarru_pending_list(
 
 // An external future that has a plain value already; it is handed a call number too. Made: its object.
 // Refused with 3 the session has ended, 4 no task runs, 7, 8. Refused also with 2, where the store is not sound.
-#[unsafe(no_mangle)]
 pub extern "C" fn sozgarru_settled_plain(
     tasks: &mut [u64; 4104],
     objects: &mut [u64; 2056],
@@ -225,7 +216,6 @@ pub extern "C" fn sozgarru_settled_plain(
 
 // An external future that has the list of a gather already. Made: its object.
 // Refused with 3 the session has ended, 4 no task runs, 5 the gather is not completed, 7, 8. Refused also with 2, where the store is not sound.
-#[unsafe(no_mangle)]
 pub extern "C" fn sozgarru_settled_list(
     tasks: &mut [u64; 4104],
     objects: &mut [u64; 2056],
@@ -252,7 +242,6 @@ pub extern "C" fn sozgarru_settled_list(
 
 // A gather of objects, by their numbers, however many. Made: its object.
 // Refused with 3 the session has ended, 4 no task runs, 5 an object is not made, 7 (also over 32 items, over 512 places). Refused also with 2, where the store is not sound.
-#[unsafe(no_mangle)]
 pub extern "C" fn sozgarru_gather(
     tasks: &mut [u64; 4104],
     objects: &mut [u64; 2056],
@@ -279,7 +268,6 @@ pub extern "C" fn sozgarru_gather(
 
 // The running task awaits an object. Runs or waits, and the commit steps.
 // Refused with 3 the session has ended, 4 no task runs, 5 the object is not made. Refused also with 2, where the store is not sound.
-#[unsafe(no_mangle)]
 pub extern "C" fn sozgarru_await(
     tasks: &mut [u64; 4104],
     objects: &mut [u64; 2056],
@@ -306,7 +294,6 @@ pub extern "C" fn sozgarru_await(
 
 // The running task returns a plain value. Runs or waits; of main: finished.
 // Refused with 3 the session has ended, 4 no task runs. Refused also with 2, where the store is not sound.
-#[unsafe(no_mangle)]
 pub extern "C" fn sozgarru_complete_plain(
     tasks: &mut [u64; 4104],
     objects: &mut [u64; 2056],
@@ -333,7 +320,6 @@ pub extern "C" fn sozgarru_complete_plain(
 
 // The running task returns the list of a gather. Runs or waits; of main: finished.
 // Refused with 3 the session has ended, 4 no task runs, 5 the gather is not completed. Refused also with 2, where the store is not sound.
-#[unsafe(no_mangle)]
 pub extern "C" fn sozgarru_complete_list(
     tasks: &mut [u64; 4104],
     objects: &mut [u64; 2056],
@@ -360,7 +346,6 @@ pub extern "C" fn sozgarru_complete_list(
 
 // The running task raises the error script n. Runs or waits; of main: finished.
 // Refused with 3 the session has ended, 4 no task runs. Refused also with 2, where the store is not sound.
-#[unsafe(no_mangle)]
 pub extern "C" fn sozgarru_fail(
     tasks: &mut [u64; 4104],
     objects: &mut [u64; 2056],
@@ -387,7 +372,6 @@ pub extern "C" fn sozgarru_fail(
 
 // The host answers calls: 14 bytes each (call 4, kind 1, tag 1, value 8), a rest of 1 to 13 bytes is not read. Tasks woken go to the queue's back, lowest first. Done.
 // Refused with 3 the session has ended, 5 a list of a gather not completed, 10 over 64 results or one that is none; then nothing is applied. Refused also with 2, where the store is not sound.
-#[unsafe(no_mangle)]
 pub extern "C" fn sozgarru_results(
     tasks: &mut [u64; 4104],
     objects: &mut [u64; 2056],
@@ -414,7 +398,6 @@ pub extern "C" fn sozgarru_results(
 
 // The host hands control back. Runs; waits, where nothing is ready; stalled, where no call is pending either.
 // Refused with 3 the session has ended, 4 a task runs. Refused also with 2, where the store is not sound.
-#[unsafe(no_mangle)]
 pub extern "C" fn sozgarru_resume(
     tasks: &mut [u64; 4104],
     objects: &mut [u64; 2056],
@@ -440,7 +423,6 @@ pub extern "C" fn sozgarru_resume(
 
 // The operator cancels a task, and the tasks below the gather that it waits for. Done, with the number of removed tasks that stood in the ready queue.
 // Refused with 3 the session has ended, 4 a task runs, 5 the task is not live, 9 it is main. Refused also with 2, where the store is not sound.
-#[unsafe(no_mangle)]
 pub extern "C" fn sozgarru_cancel(
     tasks: &mut [u64; 4104],
     objects: &mut [u64; 2056],
@@ -467,7 +449,6 @@ pub extern "C" fn sozgarru_cancel(
 
 // May the host answer a call at once: is no task ready and no call pending? Eager: 1 yes, 0 no.
 // Refused also with 2, where the store is not sound.
-#[unsafe(no_mangle)]
 pub extern "C" fn sozgarru_eager(
     tasks: &[u64; 4104],
     objects: &[u64; 2056],
@@ -482,7 +463,6 @@ pub extern "C" fn sozgarru_eager(
 
 // What an object is and has. Shows: sort, state, and what document 01 lists; of an awaited or completed gather how many places it has.
 // Refused with 5 the object is not made. Refused also with 2, where the store is not sound.
-#[unsafe(no_mangle)]
 pub extern "C" fn sozgarru_show(
     tasks: &[u64; 4104],
     objects: &[u64; 2056],
@@ -498,7 +478,6 @@ pub extern "C" fn sozgarru_show(
 
 // A place of an awaited or completed gather, from 0. Shows: 0 where it is open; 1 and the value's tag and number.
 // Refused with 5 the object is not made, or shows no such place. Refused also with 2, where the store is not sound.
-#[unsafe(no_mangle)]
 pub extern "C" fn sozgarru_place(
     tasks: &[u64; 4104],
     objects: &[u64; 2056],
@@ -515,7 +494,6 @@ pub extern "C" fn sozgarru_place(
 
 // The running task makes a coroutine of a function. Made: its object.
 // Refused with 3 the session has ended, 4 no task runs, 7 a 257th object. The caller owes a sound store: nothing is checked.
-#[unsafe(no_mangle)]
 pub extern "C" fn sozgarru_coroutine_unchecked(
     tasks: &mut [u64; 4104],
     objects: &mut [u64; 2056],
@@ -543,7 +521,6 @@ pub extern "C" fn sozgarru_coroutine_unchecked(
 
 // The running task calls the host. Call: the call's number.
 // Refused with 3 the session has ended, 4 no task runs, 8 all numbers are handed out. The caller owes a sound store: nothing is checked.
-#[unsafe(no_mangle)]
 pub extern "C" fn sozgarru_call_unchecked(
     tasks: &mut [u64; 4104],
     objects: &mut [u64; 2056],
@@ -570,7 +547,6 @@ pub extern "C" fn sozgarru_call_unchecked(
 
 // The external future of a call, without a stored result. Made: its object.
 // Refused with 3 the session has ended, 4 no task runs, 5 the number was not handed out, 6 it is pending already, 7. The caller owes a sound store: nothing is checked.
-#[unsafe(no_mangle)]
 pub extern "C" fn sozgarru_pending_unchecked(
     tasks: &mut [u64; 4104],
     objects: &mut [u64; 2056],
@@ -601,7 +577,6 @@ pub extern "C" fn sozgarru_pending_unchecked(
 
 // The external future of a call, with a stored plain value, which replaces the host's. Made: its object.
 // Refused with 3 the session has ended, 4 no task runs, 5, 6, 7. The caller owes a sound store: nothing is checked.
-#[unsafe(no_mangle)]
 pub extern "C" fn sozgarru_pending_plain_unchecked(
     tasks: &mut [u64; 4104],
     objects: &mut [u64; 2056],
@@ -633,7 +608,6 @@ pub extern "C" fn sozgarru_pending_plain_unchecked(
 
 // The external future of a call, with the list of a gather stored. Made: its object.
 // Refused with 3 the session has ended, 4 no task runs, 5 also: the gather is not completed, 6, 7. The caller owes a sound store: nothing is checked.
-#[unsafe(no_mangle)]
 pub extern "C" fn sozgarru_pending_list_unchecked(
     tasks: &mut [u64; 4104],
     objects: &mut [u64; 2056],
@@ -665,7 +639,6 @@ pub extern "C" fn sozgarru_pending_list_unchecked(
 
 // An external future that has a plain value already; it is handed a call number too. Made: its object.
 // Refused with 3 the session has ended, 4 no task runs, 7, 8. The caller owes a sound store: nothing is checked.
-#[unsafe(no_mangle)]
 pub extern "C" fn sozgarru_settled_plain_unchecked(
     tasks: &mut [u64; 4104],
     objects: &mut [u64; 2056],
@@ -693,7 +666,6 @@ pub extern "C" fn sozgarru_settled_plain_unchecked(
 
 // An external future that has the list of a gather already. Made: its object.
 // Refused with 3 the session has ended, 4 no task runs, 5 the gather is not completed, 7, 8. The caller owes a sound store: nothing is checked.
-#[unsafe(no_mangle)]
 pub extern "C" fn sozgarru_settled_list_unchecked(
     tasks: &mut [u64; 4104],
     objects: &mut [u64; 2056],
@@ -721,7 +693,6 @@ pub extern "C" fn sozgarru_settled_list_unchecked(
 
 // A gather of objects, by their numbers, however many. Made: its object.
 // Refused with 3 the session has ended, 4 no task runs, 5 an object is not made, 7 (also over 32 items, over 512 places). The caller owes a sound store: nothing is checked.
-#[unsafe(no_mangle)]
 pub extern "C" fn sozgarru_gather_unchecked(
     tasks: &mut [u64; 4104],
     objects: &mut [u64; 2056],
@@ -749,7 +720,6 @@ pub extern "C" fn sozgarru_gather_unchecked(
 
 // The running task awaits an object. Runs or waits, and the commit steps.
 // Refused with 3 the session has ended, 4 no task runs, 5 the object is not made. The caller owes a sound store: nothing is checked.
-#[unsafe(no_mangle)]
 pub extern "C" fn sozgarru_await_unchecked(
     tasks: &mut [u64; 4104],
     objects: &mut [u64; 2056],
@@ -777,7 +747,6 @@ pub extern "C" fn sozgarru_await_unchecked(
 
 // The running task returns a plain value. Runs or waits; of main: finished.
 // Refused with 3 the session has ended, 4 no task runs. The caller owes a sound store: nothing is checked.
-#[unsafe(no_mangle)]
 pub extern "C" fn sozgarru_complete_plain_unchecked(
     tasks: &mut [u64; 4104],
     objects: &mut [u64; 2056],
@@ -805,7 +774,6 @@ pub extern "C" fn sozgarru_complete_plain_unchecked(
 
 // The running task returns the list of a gather. Runs or waits; of main: finished.
 // Refused with 3 the session has ended, 4 no task runs, 5 the gather is not completed. The caller owes a sound store: nothing is checked.
-#[unsafe(no_mangle)]
 pub extern "C" fn sozgarru_complete_list_unchecked(
     tasks: &mut [u64; 4104],
     objects: &mut [u64; 2056],
@@ -833,7 +801,6 @@ pub extern "C" fn sozgarru_complete_list_unchecked(
 
 // The running task raises the error script n. Runs or waits; of main: finished.
 // Refused with 3 the session has ended, 4 no task runs. The caller owes a sound store: nothing is checked.
-#[unsafe(no_mangle)]
 pub extern "C" fn sozgarru_fail_unchecked(
     tasks: &mut [u64; 4104],
     objects: &mut [u64; 2056],
@@ -861,7 +828,6 @@ pub extern "C" fn sozgarru_fail_unchecked(
 
 // The host answers calls: 14 bytes each (call 4, kind 1, tag 1, value 8), a rest of 1 to 13 bytes is not read. Tasks woken go to the queue's back, lowest first. Done.
 // Refused with 3 the session has ended, 5 a list of a gather not completed, 10 over 64 results or one that is none; then nothing is applied. The caller owes a sound store: nothing is checked.
-#[unsafe(no_mangle)]
 pub extern "C" fn sozgarru_results_unchecked(
     tasks: &mut [u64; 4104],
     objects: &mut [u64; 2056],
@@ -889,7 +855,6 @@ pub extern "C" fn sozgarru_results_unchecked(
 
 // The host hands control back. Runs; waits, where nothing is ready; stalled, where no call is pending either.
 // Refused with 3 the session has ended, 4 a task runs. The caller owes a sound store: nothing is checked.
-#[unsafe(no_mangle)]
 pub extern "C" fn sozgarru_resume_unchecked(
     tasks: &mut [u64; 4104],
     objects: &mut [u64; 2056],
@@ -916,7 +881,6 @@ pub extern "C" fn sozgarru_resume_unchecked(
 
 // The operator cancels a task, and the tasks below the gather that it waits for. Done, with the number of removed tasks that stood in the ready queue.
 // Refused with 3 the session has ended, 4 a task runs, 5 the task is not live, 9 it is main. The caller owes a sound store: nothing is checked.
-#[unsafe(no_mangle)]
 pub extern "C" fn sozgarru_cancel_unchecked(
     tasks: &mut [u64; 4104],
     objects: &mut [u64; 2056],
@@ -944,7 +908,6 @@ pub extern "C" fn sozgarru_cancel_unchecked(
 
 // May the host answer a call at once: is no task ready and no call pending? Eager: 1 yes, 0 no.
 // The caller owes a sound store: nothing is checked.
-#[unsafe(no_mangle)]
 pub extern "C" fn sozgarru_eager_unchecked(
     tasks: &[u64; 4104],
     objects: &[u64; 2056],
@@ -960,7 +923,6 @@ pub extern "C" fn sozgarru_eager_unchecked(
 
 // What an object is and has. Shows: sort, state, and what document 01 lists; of an awaited or completed gather how many places it has.
 // Refused with 5 the object is not made. The caller owes a sound store: nothing is checked.
-#[unsafe(no_mangle)]
 pub extern "C" fn sozgarru_show_unchecked(
     tasks: &[u64; 4104],
     objects: &[u64; 2056],
@@ -977,7 +939,6 @@ pub extern "C" fn sozgarru_show_unchecked(
 
 // A place of an awaited or completed gather, from 0. Shows: 0 where it is open; 1 and the value's tag and number.
 // Refused with 5 the object is not made, or shows no such place. The caller owes a sound store: nothing is checked.
-#[unsafe(no_mangle)]
 pub extern "C" fn sozgarru_place_unchecked(
     tasks: &[u64; 4104],
     objects: &[u64; 2056],

@@ -9,8 +9,8 @@ ghost use Rattle.drive_window.specs.Input.{Refilled, Readied};
 
 use asyncio::{OBJECTS, OBJECTS_LEN, PLACES_LEN, TASKS_LEN};
 use drive_window::RECORD_BYTES;
-use libc::{STDIN_FILENO, STDOUT_FILENO};
 use queue::ReadyQueue;
+use std::io::{Read, Stdin, Stdout, Write};
 
 // The bytes of the buffer that are read and not used: from `from` up to `filled`.
 #[derive(Drop)]
@@ -31,15 +31,34 @@ fn move_up(src: &mut [u8], from: usize, count: usize)
     }
 }
 
+// Reads until `buf` is full, the input ends or a read fails, and returns how many bytes it put at the front of `buf`.
+fn read_full(mut stdin: Stdin, buf: &mut [u8]) -> usize
+    ensures { result ≤ length buf.new }
+{
+    let mut done: usize = 0;
+    while done < buf.len() {
+        match stdin.read(&mut buf[done..]) {
+            Ok(n) => {
+                if n == 0 {
+                    return done;
+                }
+                done += n;
+            }
+            Err(_) => return done,
+        }
+    }
+    done
+}
+
 // What is read and not used goes to the front, and the buffer is filled behind it unless the input ends first.
-fn refill(src: &mut [u8], from: usize, filled: usize) -> Input
+fn refill(stdin: Stdin, src: &mut [u8], from: usize, filled: usize) -> Input
     requires from_le_filled { from ≤ filled }
     requires filled_in_bounds { filled ≤ length src.old }
     ensures { Refilled src.old src.new from filled result.from result.filled }
 {
     let rest = filled - from;
     move_up(src, from, rest);
-    let got = io::read_full(STDIN_FILENO, &mut src[rest..]);
+    let got = read_full(stdin, &mut src[rest..]);
     Input {
         from: 0,
         filled: rest + got,
@@ -47,14 +66,14 @@ fn refill(src: &mut [u8], from: usize, filled: usize) -> Input
 }
 
 // More is read where a record could be cut short, unless the input has ended: then the buffer is not full.
-fn ready(src: &mut [u8], from: usize, filled: usize) -> Input
+fn ready(stdin: Stdin, src: &mut [u8], from: usize, filled: usize) -> Input
     requires from_le_filled { from ≤ filled }
     requires filled_in_bounds { filled ≤ length src.old }
     ensures { Readied src.old src.new from filled result.from result.filled }
 {
     if filled == src.len() {
         if filled - from < RECORD_BYTES {
-            return refill(src, from, filled);
+            return refill(stdin, src, from, filled);
         }
     }
     Input { from, filled }
@@ -63,7 +82,7 @@ fn ready(src: &mut [u8], from: usize, filled: usize) -> Input
 // A fresh session, and its records window by window, until the input ends, one is refused with 11, or a write fails. The loop's own end is never met before the
 // numbers of 64 bits are used up: each window takes a record or is the last (`window_goes_up`; the loop's measure rests on it). Its invariant
 // says that the windows so far are those of the input that was read (`Stands`): their lines together are the driver's (`program_is_drive`).
-fn run(src: &mut [u8], out: &mut [u8])
+fn run(stdin: Stdin, mut stdout: Stdout, src: &mut [u8], out: &mut [u8])
     requires record_limit_in_bounds { record_limit ≤ length src.old }
     requires line_limit_in_bounds { line_limit ≤ length out.old }
 {
@@ -73,7 +92,7 @@ fn run(src: &mut [u8], out: &mut [u8])
     let mut calls: [u64; OBJECTS] = [0; OBJECTS];
     let begun = session_begin::begin(&mut tasks, &mut objects, &mut places, ReadyQueue::new());
     let mut queue = begun.queue;
-    let mut input = refill(src, 0, 0);
+    let mut input = refill(stdin, src, 0, 0);
     let mut number: u64 = 1;
     while number < u64::MAX {
         let ended = input.filled < src.len();
@@ -89,7 +108,7 @@ fn run(src: &mut [u8], out: &mut [u8])
             out,
             number,
         );
-        if !io::write_all(STDOUT_FILENO, &out[..window.at]) {
+        if stdout.write_all(&out[..window.at]).is_err() {
             return;
         }
         if !window.going {
@@ -97,12 +116,12 @@ fn run(src: &mut [u8], out: &mut [u8])
         }
         queue = window.queue;
         number = window.number;
-        input = ready(src, window.next, input.filled);
+        input = ready(stdin, src, window.next, input.filled);
     }
 }
 
-fn main() {
-    let mut src = io::large_buffer();
-    let mut out = io::large_buffer();
-    run(&mut src, &mut out);
+fn main(rt: HostRuntime) {
+    let mut src = [0u8; 65536];
+    let mut out = [0u8; 65536];
+    run(rt.stdin(), rt.stdout(), &mut src, &mut out);
 }

@@ -1,6 +1,6 @@
 pub mod Window
 pub mod WindowLaws
-pub mod Contracts
+pub mod OneWindow
 pub mod TakenLaws
 pub mod OnwardLaws
 pub mod Input

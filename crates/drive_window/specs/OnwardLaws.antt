@@ -14,7 +14,7 @@ use Rattle.drive_lines.specs.Lines.{line_limit}
 use Rattle.drive_answer.specs.Driver.{Drives, drive_one}
 use Rattle.drive_record.specs.ProgressLaws.{going_on}
 use Rattle.drive_window.specs.Window.{last_number, takes, DrivesWindow, stays, stops, behind, window_from, window_rest, drive_window}
-use Rattle.drive_window.specs.Contracts.{DroveWindow}
+use Rattle.drive_window.specs.OneWindow.{DroveWindow}
 use Rattle.drive_window.specs.declared.Window.{Window}
 use Rattle.drive_window.specs.TakenLaws.{takes_last, takes_whole}
 

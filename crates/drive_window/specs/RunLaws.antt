@@ -14,7 +14,7 @@ use Rattle.drive_window.specs.WindowLaws.{Bytes, rest-moved, windows_go_on, wind
 use Rattle.drive_window.specs.OnwardLaws.{window_within}
 use Rattle.drive_window.specs.Input.{Refilled, Readied}
 use Rattle.drive_window.specs.Run.{Turn, window_of, turn_of, Reached, Stands}
-use Rattle.drive_window.specs.Contracts.{DroveWindow}
+use Rattle.drive_window.specs.OneWindow.{DroveWindow}
 use Rattle.drive_window.specs.declared.Window.{Window}
 
 -- ---- one turn

@@ -18,7 +18,7 @@ use Rattle.drive_answer.specs.Drove.{Drove}
 use Rattle.drive_record.specs.ProgressLaws.{Onward, going_on}
 use Rattle.drive_window.specs.Window.{last_number, takes, DrivesWindow, stays, stops, behind, window_rest, drive_window}
 use Rattle.drive_window.specs.WindowLaws.{window_turn}
-use Rattle.drive_window.specs.Contracts.{DroveWindow}
+use Rattle.drive_window.specs.OneWindow.{DroveWindow}
 use Rattle.drive_window.specs.declared.Window.{Window}
 
 -- ---- the test

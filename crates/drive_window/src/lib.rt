@@ -3,7 +3,7 @@
 
 ghost use Rattle.std.specs.Prelude.{◌≡◌, ◌-◌};
 ghost use Rattle.drive_window.specs.Window.{takes};
-ghost use Rattle.drive_window.specs.Contracts.{SoundSession, DrivesOneWindow};
+ghost use Rattle.drive_window.specs.OneWindow.{SoundSession, DrivesOneWindow};
 
 use asyncio::words::least;
 use drive_answer::answered::Driven;

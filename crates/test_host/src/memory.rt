@@ -4,6 +4,7 @@ use session::{
     Answered, Event, ReadyQueue, await_object, call, cancel, complete, coroutine, dispatch, fail,
     gather, pending, results, resume, settled,
 };
+use std::io::Stdout;
 
 // Three slices, a list for calls, and the queue that the last call returned.
 #[derive(Drop)]
@@ -16,7 +17,7 @@ pub struct Memory {
 }
 
 // A fresh session.
-pub(crate) fn begin() -> Memory {
+pub(crate) fn begin(stdout: Stdout) -> Memory {
     let mut tasks = [7u64; 4104];
     let mut objects = [7u64; 2056];
     let mut places = [7u64; 2048];
@@ -24,7 +25,7 @@ pub(crate) fn begin() -> Memory {
     let queue = begun.queue;
     let calls = [0u64; 256];
     let answer = begun.answer;
-    print_answer(0, answer, &calls, 0);
+    print_answer(stdout, 0, answer, &calls, 0);
     Memory {
         tasks,
         objects,
@@ -64,7 +65,7 @@ fn entered(
 }
 
 // The event, and its line.
-pub(crate) fn enter(m: Memory, number: u64, event: Event) -> Memory {
+pub(crate) fn enter(stdout: Stdout, m: Memory, number: u64, event: Event) -> Memory {
     let mut tasks = m.tasks;
     let mut objects = m.objects;
     let mut places = m.places;
@@ -80,7 +81,7 @@ pub(crate) fn enter(m: Memory, number: u64, event: Event) -> Memory {
     let queue = r.queue;
     let answer = r.answer;
     let count = r.calls;
-    print_answer(number, answer, &calls, count);
+    print_answer(stdout, number, answer, &calls, count);
     Memory {
         tasks,
         objects,
@@ -91,7 +92,7 @@ pub(crate) fn enter(m: Memory, number: u64, event: Event) -> Memory {
 }
 
 // The event through `dispatch`, with a call list that is too short: nothing is changed.
-pub(crate) fn enter_short(m: Memory, number: u64, event: Event) -> Memory {
+pub(crate) fn enter_short(stdout: Stdout, m: Memory, number: u64, event: Event) -> Memory {
     let mut tasks = m.tasks;
     let mut objects = m.objects;
     let mut places = m.places;
@@ -110,7 +111,7 @@ pub(crate) fn enter_short(m: Memory, number: u64, event: Event) -> Memory {
     let queue = r.queue;
     let answer = r.answer;
     let count = r.calls;
-    print_answer(number, answer, &calls, count);
+    print_answer(stdout, number, answer, &calls, count);
     Memory {
         tasks,
         objects,
@@ -121,7 +122,7 @@ pub(crate) fn enter_short(m: Memory, number: u64, event: Event) -> Memory {
 }
 
 // The event on a store whose count of objects is 300, which no session has; the word is then put back.
-pub(crate) fn damaged(m: Memory, number: u64, event: Event) -> Memory {
+pub(crate) fn damaged(stdout: Stdout, m: Memory, number: u64, event: Event) -> Memory {
     let mut objects = m.objects;
     let made = objects[0];
     objects[0] = 300;
@@ -136,7 +137,7 @@ pub(crate) fn damaged(m: Memory, number: u64, event: Event) -> Memory {
         calls,
         queue,
     };
-    let left = enter(bad, number, event);
+    let left = enter(stdout, bad, number, event);
     let mut words = left.objects;
     words[0] = made;
     let ts = left.tasks;
@@ -153,13 +154,18 @@ pub(crate) fn damaged(m: Memory, number: u64, event: Event) -> Memory {
 }
 
 // The two reads: whether a call may be answered at once, and object `o`. They change nothing.
-pub(crate) fn read(m: Memory, number: u64, o: u16) -> Memory {
+pub(crate) fn read(stdout: Stdout, m: Memory, number: u64, o: u16) -> Memory {
     let tasks = m.tasks;
     let objects = m.objects;
     let places = m.places;
     let queue = m.queue;
-    print_eager(number, session::eager(&tasks, &objects, &places, queue));
+    print_eager(
+        stdout,
+        number,
+        session::eager(&tasks, &objects, &places, queue),
+    );
     print_shown(
+        stdout,
         number,
         session::show(&tasks, &objects, &places, queue, o),
         &places,

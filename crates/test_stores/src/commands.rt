@@ -6,8 +6,8 @@ use crate::entries::entered;
 use crate::store::{Store, cut, damaged, unused};
 use crate::text::{Command, find, read_command};
 use drive_text::{put_byte, put_text};
-use libc::STDOUT_FILENO;
 use queue::ReadyQueue;
+use std::io::{Stdout, Write};
 use test_print::write_store;
 
 // The store without the words too many.
@@ -95,14 +95,15 @@ fn store_named(letter: u8) -> Store {
     session(b"e0 e1=7 e1=8 e2 e3=0 e5=3 e6=3 e2 e3=1 e5=41")
 }
 
-fn write_out(out: &[u8], n: usize) {
+// A write that fails changes nothing else.
+fn write_out(mut stdout: Stdout, out: &[u8], n: usize) {
     if n <= out.len() {
-        io::write_all(STDOUT_FILENO, &out[..n]);
+        let _ = stdout.write_all(&out[..n]);
     }
 }
 
 // A line: its name from `at` to `bar`, the letter of a store, and commands.
-fn run_line(line: &[u8], at: usize, bar: usize)
+fn run_line(stdout: Stdout, line: &[u8], at: usize, bar: usize)
     requires { (at ≤ bar) × (bar < length line.now) }
 {
     let mut out = [0u8; 1024];
@@ -112,12 +113,12 @@ fn run_line(line: &[u8], at: usize, bar: usize)
     let next = c.next;
     if next < line.len() {
         let r = run(&mut out, p, store_named(line[next]), line, next + 1);
-        write_out(&out, r.at);
+        write_out(stdout, &out, r.at);
     }
 }
 
 // The line at `at`, and the place behind it.
-fn next_line(text: &[u8], at: usize) -> usize
+fn next_line(stdout: Stdout, text: &[u8], at: usize) -> usize
     requires { at < length text.now }
     ensures { at < result }
 {
@@ -125,14 +126,14 @@ fn next_line(text: &[u8], at: usize) -> usize
     let line = &text[..end];
     let bar = find(line, at, b'|');
     if bar < end {
-        run_line(line, at, bar);
+        run_line(stdout, line, at, bar);
     }
     end + 1
 }
 
-pub(crate) fn run_lines(text: &[u8]) {
+pub(crate) fn run_lines(stdout: Stdout, text: &[u8]) {
     let mut at: usize = 0;
     while at < text.len() {
-        at = next_line(text, at);
+        at = next_line(stdout, text, at);
     }
 }

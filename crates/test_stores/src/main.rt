@@ -11,6 +11,8 @@
 // refused call changed something.
 #![tactic(auto)]
 
+ghost use Rattle.std.specs.Prelude.{◌≤◌, length};
+
 mod answers; // what an answer prints
 mod compare; // what a refused call changed
 mod entries; // an entry of the library, by its number
@@ -18,12 +20,31 @@ mod commands; // the commands
 mod store; // a store as one value, and its damages
 mod text; // bytes and numbers of the text
 
-use libc::STDIN_FILENO;
+use std::io::{Read, Stdin};
 
-fn main() {
+// Reads until `buf` is full, the input ends or a read fails, and returns how many bytes it put at the front of `buf`.
+fn read_full(mut stdin: Stdin, buf: &mut [u8]) -> usize
+    ensures { result ≤ length buf.new }
+{
+    let mut done: usize = 0;
+    while done < buf.len() {
+        match stdin.read(&mut buf[done..]) {
+            Ok(n) => {
+                if n == 0 {
+                    return done;
+                }
+                done += n;
+            }
+            Err(_) => return done,
+        }
+    }
+    done
+}
+
+fn main(rt: HostRuntime) {
     let mut input = [0u8; 8192];
-    let n = io::read_full(STDIN_FILENO, &mut input);
+    let n = read_full(rt.stdin(), &mut input);
     if n <= 8192 {
-        commands::run_lines(&input[..n]);
+        commands::run_lines(rt.stdout(), &input[..n]);
     }
 }
