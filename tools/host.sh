@@ -3,11 +3,11 @@
 # beside the published Rust (300). Needs cargo; leaves nothing in the tree.
 #
 #     bash tools/host.sh                                # tests the shipped archive
-#     rt staticlib boundary                             # writes target/staticlib/libboundary.a
-#     LIB=target/staticlib bash tools/host.sh           # the same tests; the archive of the folder LIB must be the shipped one
-#     LIB=target/staticlib bash tools/host.sh --renew   # ships it: host/rust/native/libsozgarru.a and its sha256
+#     (cd crates/boundary_c && rt lib)                        # writes crates/boundary_c/out/libboundary_c.a
+#     LIB=crates/boundary_c/out bash tools/host.sh            # the same tests; the archive of the folder LIB must be the shipped one
+#     LIB=crates/boundary_c/out bash tools/host.sh --renew    # ships it: host/rust/native/libsozgarru.a and its sha256
 #
-# The archive of LIB is its libboundary.a or its libsozgarru.a. CARGO_TARGET_DIR is used if it is set.
+# The archive of LIB is its libboundary_c.a or its libsozgarru.a. CARGO_TARGET_DIR is used if it is set.
 set -euo pipefail
 cd "$(dirname "$0")/.."
 shipped=host/rust/native
@@ -27,10 +27,10 @@ told() {
 # the path of LIB's archive
 built() {
     local found=()
-    for name in libboundary.a libsozgarru.a; do
+    for name in libboundary_c.a libsozgarru.a; do
         [ ! -f "$LIB/$name" ] || found+=("$LIB/$name")
     done
-    [ ${#found[@]} = 1 ] || fail "LIB: $LIB has ${#found[@]} of libboundary.a and libsozgarru.a, and should have one"
+    [ ${#found[@]} = 1 ] || fail "LIB: $LIB has ${#found[@]} of libboundary_c.a and libsozgarru.a, and should have one"
     echo "${found[0]}"
 }
 
