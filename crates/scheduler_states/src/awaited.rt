@@ -9,7 +9,7 @@ ghost use Rattle.contract.specs.Contract.{ObjectsLength};
 use asyncio::{Awaiter, GatherState, HeapId, Object};
 
 // An awaited gather: its places, its awaiter, and the bits of the places that wait for their items.
-#[derive(Drop)]
+#[derive(Clone, Copy)]
 pub struct AwaitedGather {
     pub first: u16,
     pub count: u16,
