@@ -17,11 +17,7 @@ use Rattle.boundary_numbers.specs.declared.Numbers.{Numbers}
 use Rattle.boundary_numbers.specs.Numbers.{numbers_as}
 use Rattle.boundary_lent.specs.Boundary.{Memory, memory_of, memory_step}
 use Rattle.boundary_laws.specs.HostSessions.{store_held, after_event, after_read, after_any, HostSession, host_send, host_send_all, host_session, sent_by}
-
--- The host has the machine's session: the store but for the log, and the numbers of each answer.
-pub record IsSession (x : HostSession) (y : Session) : Type 0 where
-  pub store_same : store_held x.memory ≡ forget y.store
-  pub told_same : x.told ≡ map (λ (e : Entry). numbers_as e.answer) y.history
+use Rattle.boundary_laws.specs.HostIsSession.{IsSession}
 
 forget_twice : (s : Store) → forget (forget s) ≡ forget s
 unfolding forget

@@ -19,11 +19,7 @@ use Rattle.machine.specs.Machine.{Event, refusals, first_refusal, accept}
 use Rattle.machine_laws.specs.Views.{Sized}
 use Rattle.machine_laws.specs.StoreLaws.{sized-put_task, sized-put_object, sized-put_place, sized-put_header, sized-put_places, sized-put_queue, sized-add_log, header-fits, header_put-object}
 use Rattle.machine_laws.specs.WalkEvents.{Writes, HandsOut, accept-kept}
-
--- k calls are handed out
-pub record Calls (k : ℕ) (s : Store) : Type 0 where
-  pub sized : Sized s
-  pub count : (header s).calls ≡ k
+use Rattle.machine_widths.specs.CallCount.{Calls}
 
 -- ---- each write
 

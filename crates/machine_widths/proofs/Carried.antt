@@ -12,9 +12,11 @@ use Rattle.machine_theorems.specs.Soundness.Stores.{sound-store_of}
 use Rattle.machine_theorems.specs.Soundness.Sessions.{AllInRange}
 use Rattle.machine_widths.specs.Widths.{old_limit, sound_at, refusal_at, after_at, answers_at, before_8, Without8}
 use Rattle.machine_widths.specs.Readings.{old_sound}
-use Rattle.machine_widths.proofs.WidthLaws.{SoundAt, sound-here, sound_of_at, sound-wider, refusal_limit, let_through}
+use Rattle.machine_widths.specs.WidthLaws.{SoundAt}
+use Rattle.machine_widths.proofs.WidthLaws.{sound-here, sound_of_at, sound-wider, refusal_limit, let_through}
 use Rattle.machine_widths.proofs.Sessions.{same-before_8, all_before_8, session-sound_at, after_limit, answers_limit}
-use Rattle.machine_widths.proofs.ReadingLaws.{ReadAlike, read_alike, sound_by-is}
+use Rattle.machine_widths.specs.ReadingLaws.{ReadAlike}
+use Rattle.machine_widths.proofs.ReadingLaws.{read_alike, sound_by-is}
 
 -- Soundness as the old width read a store is that of the machine with 65,536 call numbers.
 pub old_sound-is : (s : Store) → old_sound s ≡ sound_at old_limit s

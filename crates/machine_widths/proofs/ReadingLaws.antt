@@ -33,6 +33,7 @@ use Rattle.machine_widths.specs.Widths.{sound_at}
 use Rattle.machine_widths.specs.Readings.{words_of_header, words_of_object, with_call, to_object_by, to_header_by, header_by, object_by, words_in_range_by, view_by, sound_by}
 use Rattle.machine_widths.proofs.WidthLaws.{same_test, sound_at_of, sound_of_at}
 use Rattle.machine_widths.proofs.RowsInUse.{with_objects, facts_same}
+use Rattle.machine_widths.specs.ReadingLaws.{ReadAlike}
 
 -- ---- rows
 
@@ -131,11 +132,6 @@ object_now s o = to_object_now (words_of_object s o)
 pub header_now : (s : Store) → header_by call_limit s ≡ header s
 unfolding header_by to_header_by header header_at
 header_now s = refl
-
--- every row in use is read alike
-pub record ReadAlike (k n : ℕ) (s : Store) : Type 0 where
-  pub header_same : header_by n s ≡ header s
-  pub objects_same : (o : ℕ) → o < (header s).made → object_by k s o ≡ object s o
 
 -- a view of the store with this header and these objects
 abbrev view_of : Store → Header → (ℕ → Object) → View

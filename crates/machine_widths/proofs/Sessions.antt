@@ -8,11 +8,9 @@ use Rattle.machine.specs.Store.{Store}
 use Rattle.machine.specs.Machine.{Event, Answer, Step, decide, step, after, answers}
 use Rattle.machine_theorems.specs.Soundness.Sessions.{AllInRange}
 use Rattle.machine_widths.specs.Widths.{refusal_at, step_at, after_at, answers_at, before_8, Without8}
-use Rattle.machine_widths.proofs.WidthLaws.{SoundAt, sound-here, step-wider, step_limit, step-sound_at}
-
--- the same answers and the same store
-abbrev pub Same : ℕ → ℕ → Store → List Event → Type 0
-Same n m s es = (answers_at m s es ≡ answers_at n s es) × (after_at m s es ≡ after_at n s es)
+use Rattle.machine_widths.specs.WidthLaws.{SoundAt}
+use Rattle.machine_widths.proofs.WidthLaws.{sound-here, step-wider, step_limit, step-sound_at}
+use Rattle.machine_widths.specs.Sessions.{Same}
 
 pub same-before_8 : (n m : ℕ) → n ≤ m → n ≤ call_limit → (es : List Event) (s : Store) → AllInRange es → SoundAt n s → Same n m s (before_8 n s es)
 unfolding before_8 AllInRange answers_at after_at

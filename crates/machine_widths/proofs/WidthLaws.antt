@@ -22,6 +22,7 @@ use Rattle.machine_theorems.specs.Soundness.Stores.{SoundStore, sound_store_soun
 use Rattle.machine_theorems.specs.Soundness.Sessions.{forget_sound_store, step_sound_store}
 use Rattle.machine_widths.specs.Widths.{sound_at, check_at, checks_at, refusal_at, step_at}
 use Rattle.machine_widths.proofs.CallCount.{calls_stay, calls_next}
+use Rattle.machine_widths.specs.WidthLaws.{SoundAt}
 
 -- two tests that hold together
 pub same_test : (a b : Bool) → (T a → T b) → (T b → T a) → a ≡ b
@@ -158,11 +159,6 @@ hands_out Event.resume = inr (λ o. o)
 hands_out (Event.cancel t) = inr (λ o. o)
 hands_out (Event.show x) = inr (λ o. o)
 hands_out Event.eager = inr (λ o. o)
-
--- memory of its lengths, sound, with at most n calls handed out
-pub record SoundAt (n : ℕ) (s : Store) : Type 0 where
-  pub store : SoundStore s
-  pub within : (header s).calls ≤ n
 
 module _ (n : ℕ) (l : n ≤ call_limit) (s : Store) (h : SoundAt n s) where
   pub sound-here : T (sound_at n s)

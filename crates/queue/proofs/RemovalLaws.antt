@@ -11,6 +11,7 @@ use Rattle.queue.specs.declared.ReadyQueue.{ReadyQueue}
 use Rattle.queue.specs.declared.Position.{Position}
 use Rattle.queue.specs.Queue.{entries, push_back, drop_entry, drop_place, find_task, remove, position_from, stood_at, removed_count, position, retain, occurrences, Distinct}
 use Rattle.queue.proofs.QueueLaws.{find_task-position, length-entries, entries-drop_place, entries_push, drop_place_either, push_back-len, push_back-length, absent-head, position_absent, remove_absent, retain-absent, occurrences_append, at_most_once}
+use Rattle.queue.specs.RemovalLaws.{Removal}
 
 -- ---- the first t in a list
 
@@ -44,12 +45,6 @@ position_pushed [] t h = rw (eq-eqb t t refl)
 position_pushed (x ∷ xs) t h = let a = absent-head x xs t h in rw (a.0, position_pushed xs t a.1)
 
 -- ---- the promise
-
--- What the entries l and r before and after the removal of t have to do with the position that is told: t stood there and nowhere before, and the others
--- are left in their former order; or t stood nowhere, and all are left.
-unfoldable pub Removal : ℕ → List ℕ → Position → List ℕ → Type 0
-Removal t l (Position.At i) r = (l ≡ take i l ++ (t ∷ drop (i + 1) l)) × (occurrences (take i l) t ≡ 0) × (r ≡ take i l ++ drop (i + 1) l)
-Removal t l Position.Nowhere r = (occurrences l t ≡ 0) × (r ≡ l)
 
 -- of every queue whose count is within its places: the position that `remove` tells, and what it leaves
 pub removal : (q : ReadyQueue) (t : ℕ) → length q.ids ≡ task_limit → q.len ≤ task_limit → Removal t (entries q) (stood_at q t) (entries (remove q t))

@@ -31,21 +31,10 @@ use Rattle.records_tasks.proofs.TaskRowsLaws.{saved-none, length-saved}
 use Rattle.records_words.specs.RowsInUse.{next_in, is_refused, rows_left}
 use Rattle.records_session.specs.Records.{Records, gone_back, begun_with, records_step, records_begin, records_read}
 use Rattle.records_laws.specs.RecordsSessions.{records_answer, records_left, RecordsSession, records_send, records_send_all, records_session, Lengths}
-use Rattle.records_laws.proofs.UnusedRows.{Unused, step_unused, fresh_unused}
+use Rattle.records_laws.specs.UnusedRows.{Unused}
+use Rattle.records_laws.proofs.UnusedRows.{step_unused, fresh_unused}
 use Rattle.records_laws.proofs.LaidRows.{saved-at, laid_rows}
-
--- The memory is the store's: the slices and the queue are the same, and each record in use is its task's.
-pub record SameStore (m : Records) (s : Store) : Type 0 where
-  pub enough : length m.tasks ≡ task_limit
-  pub objects_same : m.objects ≡ s.objects
-  pub places_same : m.places ≡ s.places
-  pub queue_same : m.queue ≡ s.queue
-  pub records_same : (t : ℕ) → t < (header s).next → get_or m.tasks t no_record ≡ record_of (task s t)
-
--- The session is the machine's: the memory, and each answer.
-pub record SameSession (x : RecordsSession) (y : Session) : Type 0 where
-  pub memory_same : SameStore x.memory y.store
-  pub answers_same : x.answers ≡ map (λ (e : Entry). e.answer) y.history
+use Rattle.records_laws.specs.RecordsAreSession.{SameStore, SameSession}
 
 -- ---- the store of the records laid out
 

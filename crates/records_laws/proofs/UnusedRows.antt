@@ -41,12 +41,7 @@ use Rattle.machine_laws.specs.SizedLaws.{fresh-sized}
 use Rattle.machine_theorems.specs.Soundness.RowFacts.{ready-live, blocked-live}
 use Rattle.machine_theorems.specs.Soundness.Stores.{SoundStore}
 use Rattle.machine_theorems.specs.Soundness.Sessions.{forget_sound_store}
-
--- The words from the next task's row on are 0, and the next number is at least m.
-pub record Unused (m : ℕ) (s : Store) : Type 0 where
-  pub sized : Sized s
-  pub least : m ≤ (header s).next
-  pub clear : (i : ℕ) → (header s).next * task_width ≤ i → get_or s.tasks i 0 ≡ 0
+use Rattle.records_laws.specs.UnusedRows.{Unused}
 
 -- ---- words
 

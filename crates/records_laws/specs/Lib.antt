@@ -1,1 +1,3 @@
 pub mod RecordsSessions
+pub mod RecordsAreSession
+pub mod UnusedRows

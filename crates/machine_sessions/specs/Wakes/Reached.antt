@@ -21,7 +21,8 @@ use Rattle.asyncio.specs.Kinds.{kind, is_completed}
 use Rattle.rows.specs.Tables.{task_at}
 use Rattle.queue.specs.Queue.{entries, occurrences, Ascending}
 use Rattle.queue.proofs.QueueLaws.{entries_push, length-entries, occurrences_append, at_most_once}
-use Rattle.queue.proofs.OrderLaws.{Ordered, order_entries}
+use Rattle.queue.specs.OrderLaws.{Ordered}
+use Rattle.queue.proofs.OrderLaws.{order_entries}
 use Rattle.machine.specs.Store.{Store, LogEntry, view, spawned, blocked, reached, exited, removed, task, object, header, put_object, put_task, put_queue, restate, forget}
 use Rattle.machine.specs.Delivery.{Delivery}
 use Rattle.machine.specs.Events.{Result, apply_future_results, wake_in_order}
