@@ -9,7 +9,7 @@ ghost use Rattle.contract.specs.Contract.{TasksLength, ObjectsLength};
 use asyncio::{HeapId, TaskId};
 
 // What a search for a task found.
-#[derive(Drop)]
+#[derive(Clone, Copy)]
 pub enum FoundTask {
     At(TaskId),
     Nothing,
