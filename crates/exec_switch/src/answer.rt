@@ -3,7 +3,7 @@ use crate::control::Control;
 use asyncio::{CallId, Error, HeapId, Value};
 use queue::ReadyQueue;
 
-#[derive(Drop)]
+#[derive(Clone, Copy)]
 pub enum Answer {
     Made(HeapId),
     Called(CallId),

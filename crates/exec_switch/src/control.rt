@@ -8,7 +8,7 @@ ghost use Rattle.contract.specs.Contract.{ObjectsLength, Lengths₂And};
 use asyncio::{Error, Header, HeapId, Moment, TaskId, TaskState, Value};
 
 // How a task goes on: it starts a coroutine with its function, receives a value, raises an error, or runs a coroutine inline.
-#[derive(Drop)]
+#[derive(Clone, Copy)]
 pub enum How {
     Start { coroutine: HeapId, function: u32 },
     Value(Value),
@@ -17,7 +17,7 @@ pub enum How {
 }
 
 // The calls that the host waits for are those pending in the store.
-#[derive(Drop)]
+#[derive(Clone, Copy)]
 pub enum Control {
     Runs { task: TaskId, how: How },
     Waits,

@@ -3,7 +3,7 @@ use crate::text::Command;
 use queue::ReadyQueue;
 
 // How many words of each slice are lent.
-#[derive(Drop)]
+#[derive(Clone, Copy)]
 pub struct Lengths {
     pub tasks: usize,
     pub objects: usize,
@@ -11,7 +11,7 @@ pub struct Lengths {
     pub calls: usize,
 }
 
-#[derive(Drop)]
+#[derive(Clone, Copy)]
 pub struct Store {
     pub tasks: [u64; 4105],
     pub objects: [u64; 2057],

@@ -28,7 +28,7 @@ pub(crate) fn read_number(text: &[u8], at: usize) -> Number
 }
 
 // A letter and up to two numbers, and the place behind them.
-#[derive(Drop)]
+#[derive(Clone, Copy)]
 pub struct Command {
     pub letter: u8,
     pub a: u64,
