@@ -39,8 +39,7 @@ pub enum Parsed {
     Record { what: Record, next: usize },
 }
 
-// Lent bytes, and the place of the next one. A function that takes, makes or has a local of a reader is proved by a walk of its MIR, by
-// hand: it takes the reader apart and calls a function on the slice and the number.
+// Lent bytes, and the place of the next one.
 #[derive(Drop)]
 pub struct Reader<'a> {
     pub src: &'a [u8],
