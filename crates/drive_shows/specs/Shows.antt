@@ -1,5 +1,5 @@
 -- How many places a line shows, and what the writers of a read's line say.
-use Rattle.std.specs.Prelude.{◌++◌, ℕ, ◌+◌, ◌*◌, length}
+use Rattle.std.specs.Prelude.{List, ◌++◌, ℕ, ◌+◌, ◌*◌, length}
 use Rattle.step_read.specs.declared.Shown.{Shown}
 use Rattle.step_read.specs.declared.Reading.{Reading}
 use Rattle.step_read.specs.Reads.{places_from, show_answer}
