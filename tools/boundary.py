@@ -138,7 +138,8 @@ NOW = "tasks.now objects.now places.now ids.now len"
 
 
 def rattle_function(name, params, result, comment, requires, ensures, body, exported):
-    lines = [f"// {c}" for c in comment] + ["#[unsafe(no_mangle)]"] * exported + [f'pub extern "C" fn sozgarru_{name}(']
+    of_c = 'extern "C" ' if exported else ""
+    lines = [f"// {c}" for c in comment] + ["#[unsafe(no_mangle)]"] * exported + [f"pub {of_c}fn sozgarru_{name}("]
     if exported:
         body = f"    boundary::sozgarru_{name}({', '.join(n for n, _ in params)})" + ("" if result else ";")
     lines += [f"    {n}: {t}," for n, t in params] + [f") -> {result}" if result else ")"]

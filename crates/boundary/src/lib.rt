@@ -16,14 +16,14 @@ use boundary_numbers::Numbers;
 use step_event::Event;
 
 // The version of this boundary and of the layout: a host compares it with the one that it was built for.
-pub extern "C" fn sozgarru_version() -> u64
+pub fn sozgarru_version() -> u64
     ensures { result ≡ 1 }
 {
     1
 }
 
 // A fresh session, whatever the memory held: main runs, and nothing else exists.
-pub extern "C" fn sozgarru_begin(
+pub fn sozgarru_begin(
     tasks: &mut [u64; 4104],
     objects: &mut [u64; 2056],
     places: &mut [u64; 2048],
@@ -36,7 +36,7 @@ pub extern "C" fn sozgarru_begin(
 }
 
 // Is the memory a sound store? For memory that comes from outside, as a snapshot does.
-pub extern "C" fn sozgarru_is_sound(
+pub fn sozgarru_is_sound(
     tasks: &[u64; 4104],
     objects: &[u64; 2056],
     places: &[u64; 2048],
@@ -50,7 +50,7 @@ pub extern "C" fn sozgarru_is_sound(
 
 // The running task makes a coroutine of a function. Made: its object.
 // Refused with 3 the session has ended, 4 no task runs, 7 a 257th object. Refused also with 2, where the store is not sound.
-pub extern "C" fn sozgarru_coroutine(
+pub fn sozgarru_coroutine(
     tasks: &mut [u64; 4104],
     objects: &mut [u64; 2056],
     places: &mut [u64; 2048],
@@ -76,7 +76,7 @@ pub extern "C" fn sozgarru_coroutine(
 
 // The running task calls the host. Call: the call's number.
 // Refused with 3 the session has ended, 4 no task runs, 8 all numbers are handed out. Refused also with 2, where the store is not sound.
-pub extern "C" fn sozgarru_call(
+pub fn sozgarru_call(
     tasks: &mut [u64; 4104],
     objects: &mut [u64; 2056],
     places: &mut [u64; 2048],
@@ -101,7 +101,7 @@ pub extern "C" fn sozgarru_call(
 
 // The external future of a call, without a stored result. Made: its object.
 // Refused with 3 the session has ended, 4 no task runs, 5 the number was not handed out, 6 it is pending already, 7. Refused also with 2, where the store is not sound.
-pub extern "C" fn sozgarru_pending(
+pub fn sozgarru_pending(
     tasks: &mut [u64; 4104],
     objects: &mut [u64; 2056],
     places: &mut [u64; 2048],
@@ -130,7 +130,7 @@ pub extern "C" fn sozgarru_pending(
 
 // The external future of a call, with a stored plain value, which replaces the host's. Made: its object.
 // Refused with 3 the session has ended, 4 no task runs, 5, 6, 7. Refused also with 2, where the store is not sound.
-pub extern "C" fn sozgarru_pending_plain(
+pub fn sozgarru_pending_plain(
     tasks: &mut [u64; 4104],
     objects: &mut [u64; 2056],
     places: &mut [u64; 2048],
@@ -160,7 +160,7 @@ pub extern "C" fn sozgarru_pending_plain(
 
 // The external future of a call, with the list of a gather stored. Made: its object.
 // Refused with 3 the session has ended, 4 no task runs, 5 also: the gather is not completed, 6, 7. Refused also with 2, where the store is not sound.
-pub extern "C" fn sozgarru_pending_list(
+pub fn sozgarru_pending_list(
     tasks: &mut [u64; 4104],
     objects: &mut [u64; 2056],
     places: &mut [u64; 2048],
@@ -190,7 +190,7 @@ pub extern "C" fn sozgarru_pending_list(
 
 // An external future that has a plain value already; it is handed a call number too. Made: its object.
 // Refused with 3 the session has ended, 4 no task runs, 7, 8. Refused also with 2, where the store is not sound.
-pub extern "C" fn sozgarru_settled_plain(
+pub fn sozgarru_settled_plain(
     tasks: &mut [u64; 4104],
     objects: &mut [u64; 2056],
     places: &mut [u64; 2048],
@@ -216,7 +216,7 @@ pub extern "C" fn sozgarru_settled_plain(
 
 // An external future that has the list of a gather already. Made: its object.
 // Refused with 3 the session has ended, 4 no task runs, 5 the gather is not completed, 7, 8. Refused also with 2, where the store is not sound.
-pub extern "C" fn sozgarru_settled_list(
+pub fn sozgarru_settled_list(
     tasks: &mut [u64; 4104],
     objects: &mut [u64; 2056],
     places: &mut [u64; 2048],
@@ -242,7 +242,7 @@ pub extern "C" fn sozgarru_settled_list(
 
 // A gather of objects, by their numbers, however many. Made: its object.
 // Refused with 3 the session has ended, 4 no task runs, 5 an object is not made, 7 (also over 32 items, over 512 places). Refused also with 2, where the store is not sound.
-pub extern "C" fn sozgarru_gather(
+pub fn sozgarru_gather(
     tasks: &mut [u64; 4104],
     objects: &mut [u64; 2056],
     places: &mut [u64; 2048],
@@ -268,7 +268,7 @@ pub extern "C" fn sozgarru_gather(
 
 // The running task awaits an object. Runs or waits, and the commit steps.
 // Refused with 3 the session has ended, 4 no task runs, 5 the object is not made. Refused also with 2, where the store is not sound.
-pub extern "C" fn sozgarru_await(
+pub fn sozgarru_await(
     tasks: &mut [u64; 4104],
     objects: &mut [u64; 2056],
     places: &mut [u64; 2048],
@@ -294,7 +294,7 @@ pub extern "C" fn sozgarru_await(
 
 // The running task returns a plain value. Runs or waits; of main: finished.
 // Refused with 3 the session has ended, 4 no task runs. Refused also with 2, where the store is not sound.
-pub extern "C" fn sozgarru_complete_plain(
+pub fn sozgarru_complete_plain(
     tasks: &mut [u64; 4104],
     objects: &mut [u64; 2056],
     places: &mut [u64; 2048],
@@ -320,7 +320,7 @@ pub extern "C" fn sozgarru_complete_plain(
 
 // The running task returns the list of a gather. Runs or waits; of main: finished.
 // Refused with 3 the session has ended, 4 no task runs, 5 the gather is not completed. Refused also with 2, where the store is not sound.
-pub extern "C" fn sozgarru_complete_list(
+pub fn sozgarru_complete_list(
     tasks: &mut [u64; 4104],
     objects: &mut [u64; 2056],
     places: &mut [u64; 2048],
@@ -346,7 +346,7 @@ pub extern "C" fn sozgarru_complete_list(
 
 // The running task raises the error script n. Runs or waits; of main: finished.
 // Refused with 3 the session has ended, 4 no task runs. Refused also with 2, where the store is not sound.
-pub extern "C" fn sozgarru_fail(
+pub fn sozgarru_fail(
     tasks: &mut [u64; 4104],
     objects: &mut [u64; 2056],
     places: &mut [u64; 2048],
@@ -372,7 +372,7 @@ pub extern "C" fn sozgarru_fail(
 
 // The host answers calls: 14 bytes each (call 4, kind 1, tag 1, value 8), a rest of 1 to 13 bytes is not read. Tasks woken go to the queue's back, lowest first. Done.
 // Refused with 3 the session has ended, 5 a list of a gather not completed, 10 over 64 results or one that is none; then nothing is applied. Refused also with 2, where the store is not sound.
-pub extern "C" fn sozgarru_results(
+pub fn sozgarru_results(
     tasks: &mut [u64; 4104],
     objects: &mut [u64; 2056],
     places: &mut [u64; 2048],
@@ -398,7 +398,7 @@ pub extern "C" fn sozgarru_results(
 
 // The host hands control back. Runs; waits, where nothing is ready; stalled, where no call is pending either.
 // Refused with 3 the session has ended, 4 a task runs. Refused also with 2, where the store is not sound.
-pub extern "C" fn sozgarru_resume(
+pub fn sozgarru_resume(
     tasks: &mut [u64; 4104],
     objects: &mut [u64; 2056],
     places: &mut [u64; 2048],
@@ -423,7 +423,7 @@ pub extern "C" fn sozgarru_resume(
 
 // The operator cancels a task, and the tasks below the gather that it waits for. Done, with the number of removed tasks that stood in the ready queue.
 // Refused with 3 the session has ended, 4 a task runs, 5 the task is not live, 9 it is main. Refused also with 2, where the store is not sound.
-pub extern "C" fn sozgarru_cancel(
+pub fn sozgarru_cancel(
     tasks: &mut [u64; 4104],
     objects: &mut [u64; 2056],
     places: &mut [u64; 2048],
@@ -449,7 +449,7 @@ pub extern "C" fn sozgarru_cancel(
 
 // May the host answer a call at once: is no task ready and no call pending? Eager: 1 yes, 0 no.
 // Refused also with 2, where the store is not sound.
-pub extern "C" fn sozgarru_eager(
+pub fn sozgarru_eager(
     tasks: &[u64; 4104],
     objects: &[u64; 2056],
     places: &[u64; 2048],
@@ -463,7 +463,7 @@ pub extern "C" fn sozgarru_eager(
 
 // What an object is and has. Shows: sort, state, and what document 01 lists; of an awaited or completed gather how many places it has.
 // Refused with 5 the object is not made. Refused also with 2, where the store is not sound.
-pub extern "C" fn sozgarru_show(
+pub fn sozgarru_show(
     tasks: &[u64; 4104],
     objects: &[u64; 2056],
     places: &[u64; 2048],
@@ -478,7 +478,7 @@ pub extern "C" fn sozgarru_show(
 
 // A place of an awaited or completed gather, from 0. Shows: 0 where it is open; 1 and the value's tag and number.
 // Refused with 5 the object is not made, or shows no such place. Refused also with 2, where the store is not sound.
-pub extern "C" fn sozgarru_place(
+pub fn sozgarru_place(
     tasks: &[u64; 4104],
     objects: &[u64; 2056],
     places: &[u64; 2048],
@@ -494,7 +494,7 @@ pub extern "C" fn sozgarru_place(
 
 // The running task makes a coroutine of a function. Made: its object.
 // Refused with 3 the session has ended, 4 no task runs, 7 a 257th object. The caller owes a sound store: nothing is checked.
-pub extern "C" fn sozgarru_coroutine_unchecked(
+pub fn sozgarru_coroutine_unchecked(
     tasks: &mut [u64; 4104],
     objects: &mut [u64; 2056],
     places: &mut [u64; 2048],
@@ -521,7 +521,7 @@ pub extern "C" fn sozgarru_coroutine_unchecked(
 
 // The running task calls the host. Call: the call's number.
 // Refused with 3 the session has ended, 4 no task runs, 8 all numbers are handed out. The caller owes a sound store: nothing is checked.
-pub extern "C" fn sozgarru_call_unchecked(
+pub fn sozgarru_call_unchecked(
     tasks: &mut [u64; 4104],
     objects: &mut [u64; 2056],
     places: &mut [u64; 2048],
@@ -547,7 +547,7 @@ pub extern "C" fn sozgarru_call_unchecked(
 
 // The external future of a call, without a stored result. Made: its object.
 // Refused with 3 the session has ended, 4 no task runs, 5 the number was not handed out, 6 it is pending already, 7. The caller owes a sound store: nothing is checked.
-pub extern "C" fn sozgarru_pending_unchecked(
+pub fn sozgarru_pending_unchecked(
     tasks: &mut [u64; 4104],
     objects: &mut [u64; 2056],
     places: &mut [u64; 2048],
@@ -577,7 +577,7 @@ pub extern "C" fn sozgarru_pending_unchecked(
 
 // The external future of a call, with a stored plain value, which replaces the host's. Made: its object.
 // Refused with 3 the session has ended, 4 no task runs, 5, 6, 7. The caller owes a sound store: nothing is checked.
-pub extern "C" fn sozgarru_pending_plain_unchecked(
+pub fn sozgarru_pending_plain_unchecked(
     tasks: &mut [u64; 4104],
     objects: &mut [u64; 2056],
     places: &mut [u64; 2048],
@@ -608,7 +608,7 @@ pub extern "C" fn sozgarru_pending_plain_unchecked(
 
 // The external future of a call, with the list of a gather stored. Made: its object.
 // Refused with 3 the session has ended, 4 no task runs, 5 also: the gather is not completed, 6, 7. The caller owes a sound store: nothing is checked.
-pub extern "C" fn sozgarru_pending_list_unchecked(
+pub fn sozgarru_pending_list_unchecked(
     tasks: &mut [u64; 4104],
     objects: &mut [u64; 2056],
     places: &mut [u64; 2048],
@@ -639,7 +639,7 @@ pub extern "C" fn sozgarru_pending_list_unchecked(
 
 // An external future that has a plain value already; it is handed a call number too. Made: its object.
 // Refused with 3 the session has ended, 4 no task runs, 7, 8. The caller owes a sound store: nothing is checked.
-pub extern "C" fn sozgarru_settled_plain_unchecked(
+pub fn sozgarru_settled_plain_unchecked(
     tasks: &mut [u64; 4104],
     objects: &mut [u64; 2056],
     places: &mut [u64; 2048],
@@ -666,7 +666,7 @@ pub extern "C" fn sozgarru_settled_plain_unchecked(
 
 // An external future that has the list of a gather already. Made: its object.
 // Refused with 3 the session has ended, 4 no task runs, 5 the gather is not completed, 7, 8. The caller owes a sound store: nothing is checked.
-pub extern "C" fn sozgarru_settled_list_unchecked(
+pub fn sozgarru_settled_list_unchecked(
     tasks: &mut [u64; 4104],
     objects: &mut [u64; 2056],
     places: &mut [u64; 2048],
@@ -693,7 +693,7 @@ pub extern "C" fn sozgarru_settled_list_unchecked(
 
 // A gather of objects, by their numbers, however many. Made: its object.
 // Refused with 3 the session has ended, 4 no task runs, 5 an object is not made, 7 (also over 32 items, over 512 places). The caller owes a sound store: nothing is checked.
-pub extern "C" fn sozgarru_gather_unchecked(
+pub fn sozgarru_gather_unchecked(
     tasks: &mut [u64; 4104],
     objects: &mut [u64; 2056],
     places: &mut [u64; 2048],
@@ -720,7 +720,7 @@ pub extern "C" fn sozgarru_gather_unchecked(
 
 // The running task awaits an object. Runs or waits, and the commit steps.
 // Refused with 3 the session has ended, 4 no task runs, 5 the object is not made. The caller owes a sound store: nothing is checked.
-pub extern "C" fn sozgarru_await_unchecked(
+pub fn sozgarru_await_unchecked(
     tasks: &mut [u64; 4104],
     objects: &mut [u64; 2056],
     places: &mut [u64; 2048],
@@ -747,7 +747,7 @@ pub extern "C" fn sozgarru_await_unchecked(
 
 // The running task returns a plain value. Runs or waits; of main: finished.
 // Refused with 3 the session has ended, 4 no task runs. The caller owes a sound store: nothing is checked.
-pub extern "C" fn sozgarru_complete_plain_unchecked(
+pub fn sozgarru_complete_plain_unchecked(
     tasks: &mut [u64; 4104],
     objects: &mut [u64; 2056],
     places: &mut [u64; 2048],
@@ -774,7 +774,7 @@ pub extern "C" fn sozgarru_complete_plain_unchecked(
 
 // The running task returns the list of a gather. Runs or waits; of main: finished.
 // Refused with 3 the session has ended, 4 no task runs, 5 the gather is not completed. The caller owes a sound store: nothing is checked.
-pub extern "C" fn sozgarru_complete_list_unchecked(
+pub fn sozgarru_complete_list_unchecked(
     tasks: &mut [u64; 4104],
     objects: &mut [u64; 2056],
     places: &mut [u64; 2048],
@@ -801,7 +801,7 @@ pub extern "C" fn sozgarru_complete_list_unchecked(
 
 // The running task raises the error script n. Runs or waits; of main: finished.
 // Refused with 3 the session has ended, 4 no task runs. The caller owes a sound store: nothing is checked.
-pub extern "C" fn sozgarru_fail_unchecked(
+pub fn sozgarru_fail_unchecked(
     tasks: &mut [u64; 4104],
     objects: &mut [u64; 2056],
     places: &mut [u64; 2048],
@@ -828,7 +828,7 @@ pub extern "C" fn sozgarru_fail_unchecked(
 
 // The host answers calls: 14 bytes each (call 4, kind 1, tag 1, value 8), a rest of 1 to 13 bytes is not read. Tasks woken go to the queue's back, lowest first. Done.
 // Refused with 3 the session has ended, 5 a list of a gather not completed, 10 over 64 results or one that is none; then nothing is applied. The caller owes a sound store: nothing is checked.
-pub extern "C" fn sozgarru_results_unchecked(
+pub fn sozgarru_results_unchecked(
     tasks: &mut [u64; 4104],
     objects: &mut [u64; 2056],
     places: &mut [u64; 2048],
@@ -855,7 +855,7 @@ pub extern "C" fn sozgarru_results_unchecked(
 
 // The host hands control back. Runs; waits, where nothing is ready; stalled, where no call is pending either.
 // Refused with 3 the session has ended, 4 a task runs. The caller owes a sound store: nothing is checked.
-pub extern "C" fn sozgarru_resume_unchecked(
+pub fn sozgarru_resume_unchecked(
     tasks: &mut [u64; 4104],
     objects: &mut [u64; 2056],
     places: &mut [u64; 2048],
@@ -881,7 +881,7 @@ pub extern "C" fn sozgarru_resume_unchecked(
 
 // The operator cancels a task, and the tasks below the gather that it waits for. Done, with the number of removed tasks that stood in the ready queue.
 // Refused with 3 the session has ended, 4 a task runs, 5 the task is not live, 9 it is main. The caller owes a sound store: nothing is checked.
-pub extern "C" fn sozgarru_cancel_unchecked(
+pub fn sozgarru_cancel_unchecked(
     tasks: &mut [u64; 4104],
     objects: &mut [u64; 2056],
     places: &mut [u64; 2048],
@@ -908,7 +908,7 @@ pub extern "C" fn sozgarru_cancel_unchecked(
 
 // May the host answer a call at once: is no task ready and no call pending? Eager: 1 yes, 0 no.
 // The caller owes a sound store: nothing is checked.
-pub extern "C" fn sozgarru_eager_unchecked(
+pub fn sozgarru_eager_unchecked(
     tasks: &[u64; 4104],
     objects: &[u64; 2056],
     places: &[u64; 2048],
@@ -923,7 +923,7 @@ pub extern "C" fn sozgarru_eager_unchecked(
 
 // What an object is and has. Shows: sort, state, and what document 01 lists; of an awaited or completed gather how many places it has.
 // Refused with 5 the object is not made. The caller owes a sound store: nothing is checked.
-pub extern "C" fn sozgarru_show_unchecked(
+pub fn sozgarru_show_unchecked(
     tasks: &[u64; 4104],
     objects: &[u64; 2056],
     places: &[u64; 2048],
@@ -939,7 +939,7 @@ pub extern "C" fn sozgarru_show_unchecked(
 
 // A place of an awaited or completed gather, from 0. Shows: 0 where it is open; 1 and the value's tag and number.
 // Refused with 5 the object is not made, or shows no such place. The caller owes a sound store: nothing is checked.
-pub extern "C" fn sozgarru_place_unchecked(
+pub fn sozgarru_place_unchecked(
     tasks: &[u64; 4104],
     objects: &[u64; 2056],
     places: &[u64; 2048],

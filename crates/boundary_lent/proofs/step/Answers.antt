@@ -1,0 +1,12 @@
+use mathlib.Core.List.{[]}
+use Rattle.queue.specs.Queue.{queue_of}
+use Rattle.step_event.specs.EventOf.{event_of}
+use Rattle.boundary_lent.proofs.BoundaryLaws.{leaves, right_lengths}
+use borrow.Author.Rules.{rules}
+use Rattle.boundary_lent.proofs.step.Goals as goal
+
+pub step-answered-requires : goal.step-answered-requires
+step-answered-requires c = (right_lengths _ _ _ _ _ (search rules) (search rules) (search rules) (search rules), search rules)
+
+pub returns : goal.returns
+returns c = leaves c.args.tasks.now c.args.objects.now c.args.places.now c.args.calls.now (queue_of c.args.ids.now c.args.len.now) (event_of c.args.items.now c.args.results.now c.args.event) c.step-answered.result.answer (c.step-answered.ensures []) c.numbers_of.ensures

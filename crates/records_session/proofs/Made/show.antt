@@ -1,3 +1,0 @@
--- Made by tools/mirror.py, and not trusted: antt checks it as it checks any proof. `records_session::show`, as its callers cite it.
-pub mod Kinds
-pub mod Reads
