@@ -1,14 +1,13 @@
 -- A session's store is sound: from its beginning, and after every record. So the program need not check it.
-use Rattle.std.specs.Prelude.{◌≡◌, Bool, true, false, ◌&&◌, List, [], ℕ, ◌≤◌, eqb, leb, length}
+use Rattle.std.specs.Prelude.{◌≡◌, Bool, true, List, [], ℕ, ◌≤◌, length}
 use Rattle.std.proofs.Math.Path.{refl, subst}
 use Rattle.std.proofs.Common.{sym, ap, ◌∙◌}
 use borrow.Author.Tests.{eq-eqb, le-leb}
 use Rattle.asyncio.specs.Limits.{object_limit, tasks_length, objects_length, places_length}
 use Rattle.queue.specs.declared.ReadyQueue.{ReadyQueue}
-use Rattle.machine.specs.Store.{Store, LogEntry, store_of, forget, fresh}
+use Rattle.machine.specs.Store.{Store, store_of, forget, fresh}
 use Rattle.machine.specs.Sound.{sound}
-use Rattle.machine.specs.Machine.{Event, Step, step}
-use Rattle.machine.specs.Machine as machine
+use Rattle.machine.specs.Machine.{Step}
 use Rattle.machine.specs.Lent.{slices_right, lengths_right, lent_begin}
 use Rattle.machine_laws.specs.Views.{Sized}
 use Rattle.machine_laws.specs.TestLaws.{is_true}
@@ -21,7 +20,7 @@ use Rattle.drive_text.specs.Out.{Out}
 use Rattle.drive_reader.specs.declared.Record.{Record}
 use Rattle.drive_reader.specs.declared.Parsed.{Parsed}
 use Rattle.drive_reader.specs.Format.{parse}
-use Rattle.drive_answer.specs.Driver.{Asked, asked, Drives, refused_11, answered, drive_by, drive_one}
+use Rattle.drive_answer.specs.Driver.{Asked, asked, refused_11, answered, drive_by, drive_one}
 use Rattle.drive_answer.specs.Drove.{Drove, RecordFits, ParsedFits}
 
 -- ---- one record

@@ -74,9 +74,15 @@ record_back r f = rw (f, state_kept r.state r.delivered f, value-kept r.state r.
 pub unfit_is : (r : TaskRecord) → fits r ≡ false → task_of r ≡ unfit_task
 unfit_is r f = rw f
 
+-- what is read from its words has other words
+unfit_apart : same_words (task_codec.words (task_codec.reads (task_codec.words unfit_task))) (task_codec.words unfit_task) ≡ false
+unfolding same_words
+unfit_apart = refl
+
 -- its words are not canonical
 pub unfit_not_canonical : (w : List ℕ) (t : ℕ) (r : TaskRecord) → fits r ≡ false → t * 8 + 8 ≤ length w → task_canonical (task_put w t (task_of r)) t ≡ false
 unfolding task_canonical task_put same_words
 unfit_not_canonical w t r f h =
     ap (λ (x : Task). task_canonical (task_put w t x) t) (unfit_is r f)
     ∙ ap (λ (x : List ℕ). same_words (task_codec.words (task_codec.reads x)) x) (row-put_at task_codec w (task_start t) unfit_task h)
+    ∙ unfit_apart

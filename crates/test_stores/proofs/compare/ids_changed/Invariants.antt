@@ -1,4 +1,4 @@
-use Prim.Native.Nat.{◌≤◌, ◌-◌}
+use Rattle.std.proofs.Common.{◌≤◌, ◌-◌}
 use Rattle.test_stores.proofs.compare.ids_changed.Given as goal
 
 abbrev pub invariant-loop-i : goal.invariant-loop-i
