@@ -1,8 +1,9 @@
 #!/usr/bin/env python3
-"""Writes what crosses to other languages, from one table: the exported functions (crates/boundary/src/lib.rt), the C header, the Rust
-declarations and the Python binding. `--check` writes nothing and says which file differs; the gate runs it.
+"""Writes what crosses to other languages, from one table: the functions (crates/boundary/src/lib.rt), their exports
+(crates/boundary_c/src/lib.rt), the C header, the Rust declarations and the Python binding. `--check` writes nothing and says which file differs; the
+gate runs it.
 
-    boundary.py            writes those of the four files that differ
+    boundary.py            writes those of the five files that differ
     boundary.py --check    compares
 
 The table has a row for each event and each read: its name, its parameters, the event as the code and as the contract has it, and what a host wants to
