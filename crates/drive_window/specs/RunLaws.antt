@@ -1,5 +1,5 @@
 -- What the turns of the program's loop write, one after the other, is what the driver writes of the whole input.
-use Rattle.std.specs.Prelude.{◌≡◌, refl, Bool, true, false, ℕ, zero, suc, ◌+◌, ◌≤◌, ◌<◌, ltb, length, take, replicate}
+use Rattle.std.specs.Prelude.{◌≡◌, Bool, true, false, ℕ, zero, suc, ◌+◌, ◌≤◌, ◌<◌, ltb, length, take, replicate}
 use Rattle.std.proofs.Math.Path.{sym}
 use Rattle.std.proofs.Common.{ap, subst, ◌∙◌, arith, length-take-le, ltb-true}
 use mathlib.Core.List.{List, [], ◌∷◌, ◌++◌, append_assoc}

@@ -1,16 +1,15 @@
 -- The records of a window, as the code takes them: what is left to take from a record on gives, behind the lines so far, what the whole window gives.
-use Rattle.std.specs.Prelude.{◌≡◌, refl, Bool, true, false, not, ◌&&◌, ◌||◌, List, [], ◌∷◌, ◌++◌, ℕ, zero, suc, ◌+◌, ◌-◌, ◌≤◌, ◌<◌, ltb, drop}
+use Rattle.std.specs.Prelude.{◌≡◌, refl, Bool, true, false, not, ◌&&◌, ◌||◌, List, [], ◌∷◌, ◌++◌, ℕ, ◌+◌, ◌-◌, ◌≤◌, ◌<◌, ltb, drop}
 use Rattle.std.proofs.Math.Path.{sym, ap}
 use Rattle.std.proofs.Common.{subst, ◌∙◌, append_assoc, append-nil, zero-add, arith, length-append}
 use Rattle.std.proofs.Math.Dec.{leb}
 use Rattle.std.proofs.Math.ListN.{length, take}
 use borrow.Author.Tests.{le-leb, lt-leb, lt-ltb, le-ltb, leb-true, ltb-true, not-true, not-false}
-use Rattle.asyncio.specs.States.{pick}
 use Rattle.queue.specs.declared.ReadyQueue.{ReadyQueue}
 use Rattle.machine.specs.Store.{Store, LogEntry, store_of}
 use Rattle.machine_laws.specs.TestLaws.{and-true}
 use Rattle.drive_text.specs.Out.{Out, out_of, emit}
-use Rattle.drive_text.specs.OutLaws.{emit_append, emit_exact, emit-length}
+use Rattle.drive_text.specs.OutLaws.{emit_append, emit_exact}
 use Rattle.drive_reader.specs.Windows.{record_limit}
 use Rattle.drive_lines.specs.Lines.{line_limit}
 use Rattle.drive_answer.specs.Driver.{Drives, drive_one}
