@@ -9,10 +9,14 @@ use Rattle.exec_switch.proofs.cycle.+activate_task_handle_task_failure_resume_af
 -- ---- activate_task
 
 pub activate_task-start_task-requires : goal.activate_task-start_task-requires
-activate_task-start_task-requires t c =
-    (omega (arith, c.decreases,
-    start_falls c.args.tasks.now c.args.t.0 c.requires.0 c.requires.2 c.state_at-state.ensures c.in-Unstarted.is c.args.objects.now (queue_of c.args.ids.now c.args.len.now) c.requires.1),
-    c.requires)
+activate_task-start_task-requires t c = (
+  omega (
+    arith,
+    c.decreases,
+    start_falls c.args.tasks.now c.args.t.0 c.requires.0 c.requires.2 c.state_at-state.ensures c.in-Unstarted.is c.args.objects.now (queue_of c.args.ids.now c.args.len.now) c.requires.1,
+  ),
+  c.requires,
+)
 
 pub activate_task-returns-in-Absent : goal.activate_task-returns-in-Absent
 unfolding machine.activate_state
@@ -57,17 +61,23 @@ handle_task_failure-deliver_awaiter_failure-woken-requires t c =
     (c.requires.0, c.requires.1, rw c.task_awaiter_at-awaiter.ensures (task_at-fits c.args.tasks.now c.args.t.0).awaiter_fits)
 
 pub handle_task_failure-resume_after_task_exit-requires : goal.handle_task_failure-resume_after_task_exit-requires
-handle_task_failure-resume_after_task_exit-requires t c =
-    (omega (arith, c.decreases,
+handle_task_failure-resume_after_task_exit-requires t c = (
+  omega (
+    arith,
+    c.decreases,
     failure_falls c.args.tasks.now c.args.objects.now (queue_of c.args.ids.now c.args.len.now) c.args.t.0 c.args.error c.requires.0 c.requires.1 c.requires.2
-    c.task_awaiter_at-awaiter.ensures c.deliver_awaiter_failure-woken.result
-    (c.deliver_awaiter_failure-woken.ensures (queue_of c.args.ids.now c.args.len.now) some-places [] some_places_long)
-    (λ us rs k. rw c.queue_woken.ensures at (c.remove_task_lent.ensures.0 us rs k))),
-    (c.remove_task_lent.auto.tasks ∙ c.deliver_awaiter_failure-woken.auto.tasks ∙ c.requires.0,
+        c.task_awaiter_at-awaiter.ensures c.deliver_awaiter_failure-woken.result
+        (c.deliver_awaiter_failure-woken.ensures (queue_of c.args.ids.now c.args.len.now) some-places [] some_places_long)
+        (λ us rs k. rw c.queue_woken.ensures at (c.remove_task_lent.ensures.0 us rs k)),
+  ),
+  (
+    c.remove_task_lent.auto.tasks ∙ c.deliver_awaiter_failure-woken.auto.tasks ∙ c.requires.0,
     c.deliver_awaiter_failure-woken.auto.objects ∙ c.requires.1,
     failure_found c.args.tasks.now c.args.objects.now (queue_of c.args.ids.now c.args.len.now) c.args.t.0 c.args.error c.requires.0 c.requires.1 c.requires.2
-    c.task_awaiter_at-awaiter.ensures c.deliver_awaiter_failure-woken.result
-    (c.deliver_awaiter_failure-woken.ensures (queue_of c.args.ids.now c.args.len.now) some-places [] some_places_long)))
+        c.task_awaiter_at-awaiter.ensures c.deliver_awaiter_failure-woken.result
+        (c.deliver_awaiter_failure-woken.ensures (queue_of c.args.ids.now c.args.len.now) some-places [] some_places_long),
+  ),
+)
 
 pub handle_task_failure-returns : goal.handle_task_failure-returns
 handle_task_failure-returns t c = λ ps l w.
