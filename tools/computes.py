@@ -4,10 +4,10 @@
 import re
 
 FILES = [
-    ("asyncio", "Rattle·asyncio.specs", ["Kinds", "Parts"]),
-    ("rows", "Rattle·rows.specs", ["Tables", "Canonical"]),
-    ("queue", "Rattle·queue.specs", ["Queue"]),
-    ("machine", "Rattle·machine·specs.specs", ["Tests", "Store", "Scheduler", "Delivery", "Commit", "Events", "Sound", "Machine"]),
+    ("asyncio", "Rattle.asyncio.specs", ["Kinds", "Parts"]),
+    ("rows", "Rattle.rows.specs", ["Tables", "Canonical"]),
+    ("queue", "Rattle.queue.specs", ["Queue"]),
+    ("machine", "Rattle.machine.specs", ["Tests", "Store", "Scheduler", "Delivery", "Commit", "Events", "Sound", "Machine"]),
 ]
 names = []
 for crate, path, files in FILES:

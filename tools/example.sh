@@ -1,5 +1,5 @@
 #!/usr/bin/env bash
-# example.sh FILE.txt: builds `drive` (quickly, without its proof) and runs a text of records through it; each answer stands behind its record.
+# example.sh FILE.txt: builds `drive` (proved: tools/quickbuild.sh) and runs a text of records through it; each answer stands behind its record.
 set -euo pipefail
 [ $# -eq 1 ] || { echo "usage: example.sh FILE.txt" >&2; exit 2; }
 file=$(realpath "$1")

@@ -33,7 +33,7 @@ def main(arguments):
     parser = argparse.ArgumentParser(description=__doc__, epilog=LARGE, formatter_class=argparse.RawDescriptionHelpFormatter)
     parser.add_argument("file")
     parser.add_argument("-o", "--out", help="where the page goes")
-    parser.add_argument("--drive", help="the program drive; without it one is built in seconds, by the kit or, where that is not there, by cargo (host/rust)")
+    parser.add_argument("--drive", help="the program drive; without it one is built, by the kit or, where that is not there, by cargo (host/rust)")
     parser.add_argument("--last", type=int, default=2000, metavar="N", help="draw the last N columns (2000)")
     given = parser.parse_args(arguments)
     try:

@@ -107,7 +107,7 @@ def read_bytes(data):
 
 
 def build():
-    """drive, built without its proof; where there is no kit, `records` of the Rust crate, which writes the same lines. In a folder that is removed at the
+    """drive, built by the kit; where there is no kit, `records` of the Rust crate, which writes the same lines. In a folder that is removed at the
     end of the run."""
     room = tempfile.TemporaryDirectory()
     if shutil.which("rt"):
