@@ -1,19 +1,17 @@
 -- The records of bytes: the numbers that a record stores whole are of 32 bits, so that the events of an input are in range. (The code says so of each record
 -- that it reads, by its types; here it is said of the definition.)
-use Rattle.std.specs.Prelude.{◌≡◌, refl, Bool, true, false, List, [], eqb, leb, ltb, length}
-use Rattle.std.proofs.Common.{sym, ap, subst, arith}
+use Rattle.std.specs.Prelude.{List, eqb, leb, ltb, length}
+use Rattle.std.proofs.Common.{arith}
 use Rattle.std.proofs.Math.Option.{Option, none, some}
 use Prim.Native.Nat.{ℕ, zero, suc, ◌+◌, ◌-◌, ◌<◌}
 use Rattle.asyncio.specs.Limits.{u32_limit}
-use Rattle.asyncio.specs.States.{pick}
 use Rattle.asyncio.specs.RangeLaws.{pick_has}
 use Rattle.asyncio.specs.declared.Value.{Value}
 use Rattle.asyncio.specs.declared.OptionValue.{OptionValue}
 use Rattle.machine.specs.Store.{Store, fresh}
-use Rattle.machine.specs.Sessions.{Sent, AllSentInRange}
+use Rattle.machine.specs.Sessions.{AllSentInRange}
 use Rattle.endian.specs.Endian.{le1, le2, le4}
 use Rattle.drive_reader.specs.declared.Record.{Record}
-use Rattle.drive_reader.specs.declared.Parsed.{Parsed}
 use Rattle.drive_reader.specs.Format.{mark, value_at, with_value, size, pending_at, contents, found, parse_kind, parse}
 use Rattle.drive_answer.specs.Driver.{Drives, drive_one}
 use Rattle.drive_answer.specs.Drove.{RecordFits, ParsedFits}

@@ -4,12 +4,11 @@ use Rattle.std.proofs.Math.Path.{refl, sym, ap, subst, fun_ext}
 use Rattle.std.proofs.Common.{◌∙◌}
 use Rattle.std.proofs.Math.Option.{Option}
 use Prim.Native.Nat.{ℕ, suc, ◌*◌}
-use Rattle.asyncio.specs.States.{pick}
 use Rattle.asyncio.specs.declared.Value.{Value}
 use Rattle.queue.specs.declared.ReadyQueue.{ReadyQueue}
 use Rattle.queue.specs.Queue.{entries}
 use Rattle.machine.specs.Store.{Store, LogEntry, store_of, forget}
-use Rattle.machine.specs.Machine.{Event, Answer, Shown, Step, step}
+use Rattle.machine.specs.Machine.{Event, Shown, Step}
 use Rattle.machine.specs.Lent.{lengths_right}
 use Rattle.machine.specs.History.{Entry, outcome, value_of, items}
 use Rattle.machine.specs.Sessions.{session, AllSentInRange}

@@ -1,5 +1,5 @@
 -- The driver over a whole input: one record and those behind it; its text is `drive`'s; what it stops with.
-use Rattle.std.specs.Prelude.{◌≡◌, Bool, List, [], ◌++◌, ℕ, zero, suc, ◌+◌, ◌-◌, ◌<◌, ◌≤◌, length, replicate}
+use Rattle.std.specs.Prelude.{◌≡◌, Bool, List, [], ◌++◌, ℕ, zero, suc, ◌+◌, ◌-◌, ◌<◌, length, replicate}
 use Rattle.std.proofs.Math.Path.{refl}
 use Rattle.std.proofs.Common.{sym, ap, ◌∙◌, append-nil, arith, le-ltb, ltb-false}
 use Rattle.std.proofs.Math.Bool.{true, false, true≢false}
@@ -8,7 +8,6 @@ use Rattle.asyncio.specs.Limits.{object_limit}
 use Rattle.asyncio.specs.States.{pick}
 use Rattle.machine.specs.Store.{Store, fresh}
 use Rattle.machine.specs.Sessions.{Sent}
-use Rattle.drive_reader.specs.declared.Record.{Record}
 use Rattle.drive_reader.specs.declared.Parsed.{Parsed}
 use Rattle.drive_reader.specs.Format.{parse}
 use Rattle.drive_reader.specs.ParseLaws.{parse_end, end_behind}

@@ -1,5 +1,5 @@
 -- The records of a session, as the code takes them: what is left to do from a record on gives what the whole does.
-use Rattle.std.specs.Prelude.{◌≡◌, refl, Bool, true, not, ◌&&◌, ℕ, suc, ◌+◌, ◌-◌, ◌*◌, ◌≤◌, ◌<◌, leb}
+use Rattle.std.specs.Prelude.{◌≡◌, refl, Bool, true, not, ◌&&◌, ℕ, suc, ◌+◌, ◌-◌, ◌*◌, ◌≤◌, leb}
 use Rattle.std.proofs.Math.Path.{sym, ap, subst}
 use Rattle.std.proofs.Common.{◌∙◌, add-one, arith, length-append}
 use Rattle.std.proofs.Math.Bool.{false}
@@ -8,7 +8,6 @@ use Rattle.std.proofs.Math.ListN.{length}
 use borrow.Author.Tests.{not-true, not-false}
 use Rattle.asyncio.specs.Limits.{object_limit}
 use Rattle.queue.specs.declared.ReadyQueue.{ReadyQueue}
-use Rattle.queue.specs.Queue.{empty_queue}
 use Rattle.machine.specs.Store.{Store, LogEntry, store_of, put_task, put_header, empty, fresh}
 use Rattle.machine.specs.Sessions.{Sent, InRange, AllSentInRange}
 use Rattle.machine.specs.Machine.{Step}
@@ -24,10 +23,9 @@ use Rattle.drive_text.specs.OutLaws.{wrote_none, then, at_most}
 use Rattle.drive_reader.specs.declared.Record.{Record}
 use Rattle.drive_reader.specs.declared.Parsed.{Parsed}
 use Rattle.drive_reader.specs.Format.{parse}
-use Rattle.drive_reader.specs.ParseLaws.{parse_inside}
 use Rattle.drive_reader.specs.RecordNumbers.{parse_refusal}
 use Rattle.drive_lines.specs.Lines.{line_limit}
-use Rattle.drive_answer.specs.Driver.{Asked, asked, Drives, refused_11, answered, drive_by, drive_one}
+use Rattle.drive_answer.specs.Driver.{asked, Drives, refused_11, drive_by, drive_one}
 use Rattle.drive_answer.specs.declared.answered.Driven.{Driven}
 use Rattle.drive_answer.specs.Drove.{Drove, RecordFits, ParsedFits}
 use Rattle.drive_record.specs.ProgressLaws.{Onward, going_on}

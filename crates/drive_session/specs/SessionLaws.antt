@@ -1,16 +1,15 @@
 -- The driver over a whole input is a session of the machine: the events of the records, sent from the beginning on. Its text is the lines of the answers in
 -- the session's history, and of the 11 that ended it, if one did. The stores differ in the log alone: the driver leaves it at a read, a session empties it.
-use Rattle.std.specs.Prelude.{◌≡◌, Bool, ◌&&◌, List, [], ◌∷◌, ◌++◌, ℕ, zero, suc, ◌+◌, ◌-◌, ◌<◌, eqb, leb, length}
+use Rattle.std.specs.Prelude.{◌≡◌, Bool, List, [], ◌∷◌, ◌++◌, ℕ, zero, suc, ◌+◌, ◌-◌, ◌<◌, eqb, length}
 use Rattle.std.proofs.Math.Path.{refl, ap, subst}
-use Rattle.std.proofs.Common.{sym, ◌∙◌, append_assoc, append-nil, add-one, arith, length-append}
+use Rattle.std.proofs.Common.{sym, ◌∙◌, append_assoc, append-nil, arith, length-append}
 use Rattle.std.proofs.Math.Bool.{true, false}
-use Rattle.asyncio.specs.Limits.{object_limit}
 use Rattle.asyncio.specs.States.{pick}
 use Rattle.machine.specs.Store.{Store, forget, fresh}
 use Rattle.machine.specs.Machine.{Event, Answer, Step, step}
-use Rattle.machine.specs.Lent.{Lent, slices_right, lengths_right, written, lent_as, lent_by, lent_step, lent_read}
+use Rattle.machine.specs.Lent.{Lent, slices_right, lengths_right, lent_by, lent_step, lent_read}
 use Rattle.machine.specs.History.{Entry}
-use Rattle.machine.specs.Sessions.{Sent, is_read, read_lent, lent_any, entry_of, Session, begun, send, send_all, session}
+use Rattle.machine.specs.Sessions.{Sent, is_read, lent_any, entry_of, Session, begun, send, send_all, session}
 use Rattle.machine_laws.specs.MachineLaws.{show-step, eager-step}
 use Rattle.machine_laws.specs.SoundLaws.{step-forget}
 use Rattle.machine_sessions.specs.Queue.Following.{any_event, any_read}
