@@ -89,7 +89,7 @@ module _ (panic : Panics) where
   unfoldable pub open_or_panic : Store → ℕ → Awaiter → Store
   open_or_panic s g a = set_or_panic s g (GatherState.Awaited a 0) (object s g)
 
-  -- `settle_as_lem`: it is a gather in the midst of its commit (async_exec.rs:301); one that completes has all its results (308)
+  -- `settle_as`: it is a gather in the midst of its commit (async_exec.rs:301); one that completes has all its results (308)
   unfoldable pub settle_as_or_panic : Store → ℕ → Option AwaitedGather → Polled
   settle_as_or_panic s g none = panic.polled s
   settle_as_or_panic s g (some w) =
