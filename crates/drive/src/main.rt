@@ -10,7 +10,7 @@ ghost use Rattle.drive_window.specs.Input.{Refilled, Readied};
 use asyncio::{OBJECTS, OBJECTS_LEN, PLACES_LEN, TASKS_LEN};
 use drive_window::RECORD_BYTES;
 use queue::ReadyQueue;
-use std::io::{Read, Stdin, Stdout, Write};
+use std::io::{Stdin, Stdout, Write};
 
 // The bytes of the buffer that are read and not used: from `from` up to `filled`.
 #[derive(Drop)]
@@ -31,25 +31,6 @@ fn move_up(src: &mut [u8], from: usize, count: usize)
     }
 }
 
-// Reads until `buf` is full, the input ends or a read fails, and returns how many bytes it put at the front of `buf`.
-fn read_full(mut stdin: Stdin, buf: &mut [u8]) -> usize
-    ensures { result ≤ length buf.new }
-{
-    let mut done: usize = 0;
-    while done < buf.len() {
-        match stdin.read(&mut buf[done..]) {
-            Ok(n) => {
-                if n == 0 {
-                    return done;
-                }
-                done += n;
-            }
-            Err(_) => return done,
-        }
-    }
-    done
-}
-
 // What is read and not used goes to the front, and the buffer is filled behind it unless the input ends first.
 fn refill(stdin: Stdin, src: &mut [u8], from: usize, filled: usize) -> Input
     requires from_le_filled { from ≤ filled }
@@ -58,7 +39,7 @@ fn refill(stdin: Stdin, src: &mut [u8], from: usize, filled: usize) -> Input
 {
     let rest = filled - from;
     move_up(src, from, rest);
-    let got = read_full(stdin, &mut src[rest..]);
+    let got = drive_input::read_full(stdin, &mut src[rest..]);
     Input {
         from: 0,
         filled: rest + got,

@@ -20,30 +20,9 @@ mod commands; // the commands
 mod store; // a store as one value, and its damages
 mod text; // bytes and numbers of the text
 
-use std::io::{Read, Stdin};
-
-// Reads until `buf` is full, the input ends or a read fails, and returns how many bytes it put at the front of `buf`.
-fn read_full(mut stdin: Stdin, buf: &mut [u8]) -> usize
-    ensures { result ≤ length buf.new }
-{
-    let mut done: usize = 0;
-    while done < buf.len() {
-        match stdin.read(&mut buf[done..]) {
-            Ok(n) => {
-                if n == 0 {
-                    return done;
-                }
-                done += n;
-            }
-            Err(_) => return done,
-        }
-    }
-    done
-}
-
 fn main(rt: HostRuntime) {
     let mut input = [0u8; 8192];
-    let n = read_full(rt.stdin(), &mut input);
+    let n = drive_input::read_full(rt.stdin(), &mut input);
     if n <= 8192 {
         commands::run_lines(rt.stdout(), &input[..n]);
     }
