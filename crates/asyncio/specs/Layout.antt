@@ -6,7 +6,8 @@ use Rattle.asyncio.specs.Numbers.{to_call_id, to_task_id, to_heap_id, to_u32, to
 use Rattle.asyncio.specs.States.{pick}
 use Rattle.asyncio.specs.declared.CallId.{CallId}
 use Rattle.asyncio.specs.declared.Value.{Value}
-use Rattle.asyncio.specs.declared.OptionValue.{OptionValue}
+use Rattle.asyncio.specs.Options.{OptionValue}
+use Rattle.std.specs.Prelude.{None, Some}
 use Rattle.asyncio.specs.declared.Error.{Error}
 use Rattle.asyncio.specs.declared.Awaiter.{Awaiter}
 use Rattle.asyncio.specs.declared.CoroutineState.{CoroutineState}
@@ -42,11 +43,11 @@ to_value tag n = pick (eqb tag 0) (Value.Plain n) (Value.List (to_heap_id n))
 
 -- a value or none: 0 none; one more than the value's tag, its number
 abbrev pub option_words : OptionValue → Words2
-option_words OptionValue.None = words2 0 0
-option_words (OptionValue.Some v) = words2 ((value_words v).0 + 1) (value_words v).1
+option_words None = words2 0 0
+option_words (Some v) = words2 ((value_words v).0 + 1) (value_words v).1
 
 abbrev pub to_option : ℕ → ℕ → OptionValue
-to_option tag n = pick (eqb tag 0) OptionValue.None (OptionValue.Some (to_value (tag - 1) n))
+to_option tag n = pick (eqb tag 0) None (Some (to_value (tag - 1) n))
 
 -- an error: its place in document 01's list, from 0; its number, 0 where it has none
 abbrev pub error_words : Error → Words2

@@ -1,5 +1,6 @@
 pub mod Limits
 pub mod Numbers
+pub mod Options
 pub mod States
 pub mod Kinds
 pub mod Parts

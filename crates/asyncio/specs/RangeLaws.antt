@@ -9,7 +9,8 @@ use Rattle.asyncio.specs.Layout.{value_words, to_value, option_words, to_option,
 use Rattle.asyncio.specs.Layout.{state_words, to_state, task_words, to_task, place_words, to_place, moment_words, to_moment, header_words, to_header}
 use Rattle.asyncio.specs.Ranges.{ValueFits, OptionFits, ErrorFits, AwaiterFits, PlacesFit, ObjectFits, PlaceFits, StateFits, TaskFits, MomentFits, HeaderFits}
 use Rattle.asyncio.specs.declared.Value.{Value}
-use Rattle.asyncio.specs.declared.OptionValue.{OptionValue}
+use Rattle.asyncio.specs.Options.{OptionValue}
+use Rattle.std.specs.Prelude.{None, Some}
 use Rattle.asyncio.specs.declared.Error.{Error}
 use Rattle.asyncio.specs.declared.Awaiter.{Awaiter}
 use Rattle.asyncio.specs.declared.CoroutineState.{CoroutineState}
@@ -39,9 +40,9 @@ pub tag_of : {w : Words2} (v : Value) → w ≡ value_words v → w.0 < 2
 tag_of {w} v e = rw e (value_tag v)
 
 option_back : (x : OptionValue) → OptionFits x → to_option (option_words x).0 (option_words x).1 ≡ x
-option_back OptionValue.None p = refl
-option_back (OptionValue.Some v) p =
-    rw (ne_eqb ((value_words v).0 + 1) 0 (λ q. omega arith), add-sub_cancel (value_words v).0 1) (ap OptionValue.Some (value_back v p))
+option_back None p = refl
+option_back (Some v) p =
+    rw (ne_eqb ((value_words v).0 + 1) 0 (λ q. omega arith), add-sub_cancel (value_words v).0 1) (ap Some (value_back v p))
 
 -- an error's word is its place in the list
 pub error-place : (e : Error) → (error_words e).0 < error_limit

@@ -2,7 +2,8 @@
 use Rattle.std.specs.Prelude.{ℕ, ◌+◌, ◌≤◌, ◌<◌}
 use Rattle.asyncio.specs.Limits.{task_limit, object_limit, place_limit, item_limit, call_limit, u32_limit}
 use Rattle.asyncio.specs.declared.Value.{Value}
-use Rattle.asyncio.specs.declared.OptionValue.{OptionValue}
+use Rattle.asyncio.specs.Options.{OptionValue}
+use Rattle.std.specs.Prelude.{None, Some}
 use Rattle.asyncio.specs.declared.Error.{Error}
 use Rattle.asyncio.specs.declared.Awaiter.{Awaiter}
 use Rattle.asyncio.specs.declared.ExternalFutureState.{ExternalFutureState}
@@ -19,8 +20,8 @@ ValueFits (Value.Plain n) = Unit {0}
 ValueFits (Value.List h) = h.0 < object_limit
 
 abbrev pub OptionFits : OptionValue → Type 0
-OptionFits OptionValue.None = Unit {0}
-OptionFits (OptionValue.Some v) = ValueFits v
+OptionFits None = Unit {0}
+OptionFits (Some v) = ValueFits v
 
 abbrev pub ErrorFits : Error → Type 0
 ErrorFits (Error.Host n) = n < u32_limit

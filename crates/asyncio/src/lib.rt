@@ -36,8 +36,15 @@ pub const OBJECTS_LEN: usize = 2056;
 
 pub const PLACES_LEN: usize = 2048;
 
+// The lent words, once their number is known: a lent slice has another number or this one (`as_mut_array`).
+pub type Tasks = [u64; TASKS_LEN];
+
+pub type Objects = [u64; OBJECTS_LEN];
+
+pub type Places = [u64; PLACES_LEN];
+
 // The number of an external call.
-#[derive(Clone, Copy)]
+#[derive(Clone, Copy, PartialEq, Eq, Debug)]
 pub struct CallId(pub u32);
 
 impl CallId {
@@ -61,7 +68,7 @@ impl CallId {
 }
 
 // The number of a task. Task 0 is main; spawned tasks are numbered from 1.
-#[derive(Clone, Copy)]
+#[derive(Clone, Copy, PartialEq, Eq, Debug)]
 pub struct TaskId(pub u16);
 
 impl TaskId {
@@ -93,7 +100,7 @@ impl TaskId {
 }
 
 // The number of an object (coroutine, external future or gather), in order of making from 0.
-#[derive(Clone, Copy)]
+#[derive(Clone, Copy, PartialEq, Eq, Debug)]
 pub struct HeapId(pub u16);
 
 impl HeapId {
@@ -117,21 +124,14 @@ impl HeapId {
 }
 
 // A value is plain, or the list of the results of a completed gather.
-#[derive(Clone, Copy)]
+#[derive(Clone, Copy, PartialEq, Eq, Debug)]
 pub enum Value {
     Plain(u64),
     List(HeapId),
 }
 
-// A value or none: an external's stored result, a place's result (Option<Value>).
-#[derive(Clone, Copy)]
-pub enum OptionValue {
-    None,
-    Some(Value),
-}
-
 // An error, in the order of document 01's list.
-#[derive(Clone, Copy)]
+#[derive(Clone, Copy, PartialEq, Eq, Debug)]
 pub enum Error {
     Host(u32),
     Script(u32),
@@ -143,7 +143,7 @@ pub enum Error {
 }
 
 // Where the result or error of an awaitable goes: to nobody, to a task, or to the open places of a gather that name the source.
-#[derive(Clone, Copy)]
+#[derive(Clone, Copy, PartialEq, Eq, Debug)]
 pub enum Awaiter {
     Nobody,
     Task(TaskId),
@@ -154,19 +154,12 @@ impl Awaiter {
     pub fn is_nobody(self) -> bool
         ensures { result ≡ is_nobody self }
     {
-        match self {
-            Awaiter::Nobody => true,
-            Awaiter::Task(_) => false,
-            Awaiter::GatherSlot {
-                gather: _,
-                source: _,
-            } => false,
-        }
+        matches!(self, Awaiter::Nobody)
     }
 }
 
 // New: not run yet, though a task may be spawned for it. Running: for ever, where it was run inline. Completed: by the end of its task.
-#[derive(Clone, Copy)]
+#[derive(Clone, Copy, PartialEq, Eq, Debug)]
 pub enum CoroutineState {
     New,
     Running,
@@ -174,18 +167,18 @@ pub enum CoroutineState {
 }
 
 // Pending: not answered yet; a stored result will replace the host's value (sleep_result).
-#[derive(Clone, Copy)]
+#[derive(Clone, Copy, PartialEq, Eq, Debug)]
 pub enum ExternalFutureState {
     Pending {
         awaiter: Awaiter,
-        stored: OptionValue,
+        stored: Option<Value>,
     },
     Resolved(Value),
     Failed(Error),
 }
 
 // Pending: never awaited. Awaited: bit i of the open places is set while place i waits for its item (PendingChildren).
-#[derive(Clone, Copy)]
+#[derive(Clone, Copy, PartialEq, Eq, Debug)]
 pub enum GatherState {
     Pending,
     Awaited { awaiter: Awaiter, open_places: u32 },
@@ -194,7 +187,7 @@ pub enum GatherState {
 }
 
 // An object. A gather has the places first, first + 1, .. first + count - 1.
-#[derive(Clone, Copy)]
+#[derive(Clone, Copy, PartialEq, Eq, Debug)]
 pub enum Object {
     Unmade,
     Coroutine {
@@ -213,7 +206,7 @@ pub enum Object {
 }
 
 // The sort and the state of an object, without what they hold.
-#[derive(Clone, Copy)]
+#[derive(Clone, Copy, PartialEq, Eq, Debug)]
 pub enum Kind {
     Unmade,
     NewCoroutine,
@@ -229,15 +222,15 @@ pub enum Kind {
 }
 
 // A place of a gather: the object that it names, and the result delivered for it.
-#[derive(Clone, Copy)]
+#[derive(Clone, Copy, PartialEq, Eq, Debug)]
 pub struct Place {
     pub item: HeapId,
-    pub result: OptionValue,
+    pub result: Option<Value>,
 }
 
 // Absent: not live (never spawned, ended or removed). Unstarted: spawned, not yet run. Running: the current task.
 // Woken and Raised: ready with a delivered value, or with an error to raise. Blocked: waits for an object.
-#[derive(Clone, Copy)]
+#[derive(Clone, Copy, PartialEq, Eq, Debug)]
 pub enum TaskState {
     Absent,
     Unstarted,
@@ -248,7 +241,7 @@ pub enum TaskState {
 }
 
 // A task: its state with the value delivered to it, where its result goes, and its coroutine (0 for main, which has none).
-#[derive(Clone, Copy)]
+#[derive(Clone, Copy, PartialEq, Eq, Debug)]
 pub struct Task {
     pub state: TaskState,
     pub awaiter: Awaiter,
@@ -256,7 +249,7 @@ pub struct Task {
 }
 
 // The moment of a session: a task runs, all wait for the host, or main has ended.
-#[derive(Clone, Copy)]
+#[derive(Clone, Copy, PartialEq, Eq, Debug)]
 pub enum Moment {
     Running(TaskId),
     Waiting,
@@ -264,7 +257,7 @@ pub enum Moment {
 }
 
 // The counts of a session (objects made, places used by gathers, calls handed out, the number of the next task) and its moment.
-#[derive(Clone, Copy)]
+#[derive(Clone, Copy, PartialEq, Eq, Debug)]
 pub struct Header {
     pub made: u16,
     pub used: u16,
@@ -277,67 +270,35 @@ impl TaskState {
     pub fn is_live(self) -> bool
         ensures { result ≡ is_live self }
     {
-        match self {
-            TaskState::Absent => false,
-            TaskState::Unstarted => true,
-            TaskState::Running => true,
-            TaskState::Woken(_) => true,
-            TaskState::Raised(_) => true,
-            TaskState::Blocked(_) => true,
-        }
+        !matches!(self, TaskState::Absent)
     }
 
     pub fn is_unstarted(self) -> bool
         ensures { result ≡ is_unstarted self }
     {
-        match self {
-            TaskState::Absent => false,
-            TaskState::Unstarted => true,
-            TaskState::Running => false,
-            TaskState::Woken(_) => false,
-            TaskState::Raised(_) => false,
-            TaskState::Blocked(_) => false,
-        }
+        matches!(self, TaskState::Unstarted)
     }
 
     // Live, and neither running nor blocked: it may stand in the queue.
     pub fn is_ready(self) -> bool
         ensures { result ≡ is_ready self }
     {
-        match self {
-            TaskState::Absent => false,
-            TaskState::Unstarted => true,
-            TaskState::Running => false,
-            TaskState::Woken(_) => true,
-            TaskState::Raised(_) => true,
-            TaskState::Blocked(_) => false,
-        }
+        matches!(
+            self,
+            TaskState::Unstarted | TaskState::Woken(_) | TaskState::Raised(_)
+        )
     }
 
     pub fn is_running(self) -> bool
         ensures { result ≡ is_running self }
     {
-        match self {
-            TaskState::Absent => false,
-            TaskState::Unstarted => false,
-            TaskState::Running => true,
-            TaskState::Woken(_) => false,
-            TaskState::Raised(_) => false,
-            TaskState::Blocked(_) => false,
-        }
+        matches!(self, TaskState::Running)
     }
 
     pub fn is_blocked(self) -> bool
         ensures { result ≡ is_blocked self }
     {
-        match self {
-            TaskState::Absent => false,
-            TaskState::Unstarted => false,
-            TaskState::Running => false,
-            TaskState::Woken(_) => false,
-            TaskState::Raised(_) => false,
-            TaskState::Blocked(_) => true,
-        }
+        matches!(self, TaskState::Blocked(_))
     }
 }
 
@@ -346,147 +307,63 @@ impl Kind {
     pub fn has_awaiter(self) -> bool
         ensures { result ≡ has_awaiter self }
     {
-        match self {
-            Kind::Unmade => false,
-            Kind::NewCoroutine => false,
-            Kind::RunningCoroutine => false,
-            Kind::CompletedCoroutine => false,
-            Kind::PendingExternal => true,
-            Kind::ResolvedExternal => false,
-            Kind::FailedExternal => false,
-            Kind::PendingGather => false,
-            Kind::AwaitedGather => true,
-            Kind::CompletedGather => false,
-            Kind::FailedGather => false,
-        }
+        matches!(self, Kind::PendingExternal | Kind::AwaitedGather)
     }
 
     pub fn is_coroutine(self) -> bool
         ensures { result ≡ is_coroutine self }
     {
-        match self {
-            Kind::Unmade => false,
-            Kind::NewCoroutine => true,
-            Kind::RunningCoroutine => true,
-            Kind::CompletedCoroutine => true,
-            Kind::PendingExternal => false,
-            Kind::ResolvedExternal => false,
-            Kind::FailedExternal => false,
-            Kind::PendingGather => false,
-            Kind::AwaitedGather => false,
-            Kind::CompletedGather => false,
-            Kind::FailedGather => false,
-        }
+        matches!(
+            self,
+            Kind::NewCoroutine | Kind::RunningCoroutine | Kind::CompletedCoroutine
+        )
     }
 
     pub fn is_external(self) -> bool
         ensures { result ≡ is_external self }
     {
-        match self {
-            Kind::Unmade => false,
-            Kind::NewCoroutine => false,
-            Kind::RunningCoroutine => false,
-            Kind::CompletedCoroutine => false,
-            Kind::PendingExternal => true,
-            Kind::ResolvedExternal => true,
-            Kind::FailedExternal => true,
-            Kind::PendingGather => false,
-            Kind::AwaitedGather => false,
-            Kind::CompletedGather => false,
-            Kind::FailedGather => false,
-        }
+        matches!(
+            self,
+            Kind::PendingExternal | Kind::ResolvedExternal | Kind::FailedExternal
+        )
     }
 
     pub fn is_pending_external(self) -> bool
         ensures { result ≡ is_pending_external self }
     {
-        match self {
-            Kind::Unmade => false,
-            Kind::NewCoroutine => false,
-            Kind::RunningCoroutine => false,
-            Kind::CompletedCoroutine => false,
-            Kind::PendingExternal => true,
-            Kind::ResolvedExternal => false,
-            Kind::FailedExternal => false,
-            Kind::PendingGather => false,
-            Kind::AwaitedGather => false,
-            Kind::CompletedGather => false,
-            Kind::FailedGather => false,
-        }
+        matches!(self, Kind::PendingExternal)
     }
 
     pub fn is_gather(self) -> bool
         ensures { result ≡ is_gather self }
     {
-        match self {
-            Kind::Unmade => false,
-            Kind::NewCoroutine => false,
-            Kind::RunningCoroutine => false,
-            Kind::CompletedCoroutine => false,
-            Kind::PendingExternal => false,
-            Kind::ResolvedExternal => false,
-            Kind::FailedExternal => false,
-            Kind::PendingGather => true,
-            Kind::AwaitedGather => true,
-            Kind::CompletedGather => true,
-            Kind::FailedGather => true,
-        }
+        matches!(
+            self,
+            Kind::PendingGather | Kind::AwaitedGather | Kind::CompletedGather | Kind::FailedGather
+        )
     }
 
     // An awaited gather.
     pub fn is_awaited(self) -> bool
         ensures { result ≡ is_awaited self }
     {
-        match self {
-            Kind::Unmade => false,
-            Kind::NewCoroutine => false,
-            Kind::RunningCoroutine => false,
-            Kind::CompletedCoroutine => false,
-            Kind::PendingExternal => false,
-            Kind::ResolvedExternal => false,
-            Kind::FailedExternal => false,
-            Kind::PendingGather => false,
-            Kind::AwaitedGather => true,
-            Kind::CompletedGather => false,
-            Kind::FailedGather => false,
-        }
+        matches!(self, Kind::AwaitedGather)
     }
 
     // A completed gather: a list value may name it.
     pub fn is_completed(self) -> bool
         ensures { result ≡ is_completed self }
     {
-        match self {
-            Kind::Unmade => false,
-            Kind::NewCoroutine => false,
-            Kind::RunningCoroutine => false,
-            Kind::CompletedCoroutine => false,
-            Kind::PendingExternal => false,
-            Kind::ResolvedExternal => false,
-            Kind::FailedExternal => false,
-            Kind::PendingGather => false,
-            Kind::AwaitedGather => false,
-            Kind::CompletedGather => true,
-            Kind::FailedGather => false,
-        }
+        matches!(self, Kind::CompletedGather)
     }
 
     // A gather that was committed: no longer pending.
     pub fn is_committed(self) -> bool
         ensures { result ≡ is_committed self }
     {
-        match self {
-            Kind::Unmade => false,
-            Kind::NewCoroutine => false,
-            Kind::RunningCoroutine => false,
-            Kind::CompletedCoroutine => false,
-            Kind::PendingExternal => false,
-            Kind::ResolvedExternal => false,
-            Kind::FailedExternal => false,
-            Kind::PendingGather => false,
-            Kind::AwaitedGather => true,
-            Kind::CompletedGather => true,
-            Kind::FailedGather => true,
-        }
+        matches!(
+            self,
+            Kind::AwaitedGather | Kind::CompletedGather | Kind::FailedGather
+        )
     }
 }

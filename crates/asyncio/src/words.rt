@@ -9,8 +9,8 @@ ghost use Rattle.asyncio.specs.Layout.{place_words, to_place, moment_words, to_m
 
 use crate::{
     Awaiter, CALLS, CallId, CoroutineState, Error, ExternalFutureState, GatherState, Header,
-    HeapId, ITEMS, Kind, Moment, OBJECTS, Object, OptionValue, PLACES, Place, TASKS, Task, TaskId,
-    TaskState, U32_LIMIT, Value,
+    HeapId, ITEMS, Kind, Moment, OBJECTS, Object, PLACES, Place, TASKS, Task, TaskId, TaskState,
+    U32_LIMIT, Value,
 };
 
 // A tag and its number; a tag and its two numbers.
@@ -68,24 +68,24 @@ pub fn to_value(tag: u64, n: u64) -> Value
     }
 }
 
-fn option_words(x: OptionValue) -> Words2
+fn option_words(x: Option<Value>) -> Words2
     ensures { result ≡ option_words x }
 {
     match x {
-        OptionValue::None => Words2(0, 0),
-        OptionValue::Some(v) => {
+        None => Words2(0, 0),
+        Some(v) => {
             let w = value_words(v);
             Words2(w.0 + 1, w.1)
         }
     }
 }
 
-pub fn to_option(tag: u64, n: u64) -> OptionValue
+pub fn to_option(tag: u64, n: u64) -> Option<Value>
     ensures { result ≡ to_option tag n }
 {
     match tag {
-        0 => OptionValue::None,
-        _ => OptionValue::Some(to_value(tag - 1, n)),
+        0 => None,
+        _ => Some(to_value(tag - 1, n)),
     }
 }
 

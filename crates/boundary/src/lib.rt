@@ -6,12 +6,12 @@
 ghost use Rattle.std.specs.Prelude.{◌≡◌};
 ghost use Rattle.asyncio.specs.Numbers.{heap_id};
 ghost use Rattle.asyncio.specs.declared.Value.{Value};
-ghost use Rattle.asyncio.specs.declared.OptionValue.{OptionValue};
+ghost use Rattle.std.specs.Prelude.{None, Some};
 ghost use Rattle.machine.specs.Machine as machine;
 ghost use Rattle.exec_futures.specs.Results.{results_in};
 ghost use Rattle.boundary_lent.specs.Boundary.{BoundaryStep, BoundaryRead, BoundaryPlace, BoundaryBegin, SoundLent, SoundRead, is_sound_lent};
 
-use asyncio::{HeapId, OptionValue, Value};
+use asyncio::{HeapId, Value};
 use boundary_numbers::Numbers;
 use step_event::Event;
 
@@ -110,7 +110,7 @@ pub fn sozgarru_pending(
     len: &mut usize,
     call: u32,
 ) -> Numbers
-    ensures { BoundaryStep tasks objects places calls ids len (machine.Event.pending call OptionValue.None) result }
+    ensures { BoundaryStep tasks objects places calls ids len (machine.Event.pending call None) result }
 {
     boundary_lent::dispatch(
         tasks,
@@ -121,7 +121,7 @@ pub fn sozgarru_pending(
         len,
         Event::Pending {
             call,
-            stored: OptionValue::None,
+            stored: None,
         },
         &[0u16; 1],
         &[0u8; 1],
@@ -140,7 +140,7 @@ pub fn sozgarru_pending_plain(
     call: u32,
     number: u64,
 ) -> Numbers
-    ensures { BoundaryStep tasks objects places calls ids len (machine.Event.pending call (OptionValue.Some (Value.Plain number))) result }
+    ensures { BoundaryStep tasks objects places calls ids len (machine.Event.pending call (Some (Value.Plain number))) result }
 {
     boundary_lent::dispatch(
         tasks,
@@ -151,7 +151,7 @@ pub fn sozgarru_pending_plain(
         len,
         Event::Pending {
             call,
-            stored: OptionValue::Some(Value::Plain(number)),
+            stored: Some(Value::Plain(number)),
         },
         &[0u16; 1],
         &[0u8; 1],
@@ -170,7 +170,7 @@ pub fn sozgarru_pending_list(
     call: u32,
     gather: u16,
 ) -> Numbers
-    ensures { BoundaryStep tasks objects places calls ids len (machine.Event.pending call (OptionValue.Some (Value.List (heap_id gather)))) result }
+    ensures { BoundaryStep tasks objects places calls ids len (machine.Event.pending call (Some (Value.List (heap_id gather)))) result }
 {
     boundary_lent::dispatch(
         tasks,
@@ -181,7 +181,7 @@ pub fn sozgarru_pending_list(
         len,
         Event::Pending {
             call,
-            stored: OptionValue::Some(Value::List(HeapId::new(gather))),
+            stored: Some(Value::List(HeapId::new(gather))),
         },
         &[0u16; 1],
         &[0u8; 1],
@@ -557,7 +557,7 @@ pub fn sozgarru_pending_unchecked(
     call: u32,
 ) -> Numbers
     requires { SoundLent tasks.old objects.old places.old ids.old len.old }
-    ensures { BoundaryStep tasks objects places calls ids len (machine.Event.pending call OptionValue.None) result }
+    ensures { BoundaryStep tasks objects places calls ids len (machine.Event.pending call None) result }
 {
     boundary_lent::step(
         tasks,
@@ -568,7 +568,7 @@ pub fn sozgarru_pending_unchecked(
         len,
         Event::Pending {
             call,
-            stored: OptionValue::None,
+            stored: None,
         },
         &[0u16; 1],
         &[0u8; 1],
@@ -588,7 +588,7 @@ pub fn sozgarru_pending_plain_unchecked(
     number: u64,
 ) -> Numbers
     requires { SoundLent tasks.old objects.old places.old ids.old len.old }
-    ensures { BoundaryStep tasks objects places calls ids len (machine.Event.pending call (OptionValue.Some (Value.Plain number))) result }
+    ensures { BoundaryStep tasks objects places calls ids len (machine.Event.pending call (Some (Value.Plain number))) result }
 {
     boundary_lent::step(
         tasks,
@@ -599,7 +599,7 @@ pub fn sozgarru_pending_plain_unchecked(
         len,
         Event::Pending {
             call,
-            stored: OptionValue::Some(Value::Plain(number)),
+            stored: Some(Value::Plain(number)),
         },
         &[0u16; 1],
         &[0u8; 1],
@@ -619,7 +619,7 @@ pub fn sozgarru_pending_list_unchecked(
     gather: u16,
 ) -> Numbers
     requires { SoundLent tasks.old objects.old places.old ids.old len.old }
-    ensures { BoundaryStep tasks objects places calls ids len (machine.Event.pending call (OptionValue.Some (Value.List (heap_id gather)))) result }
+    ensures { BoundaryStep tasks objects places calls ids len (machine.Event.pending call (Some (Value.List (heap_id gather)))) result }
 {
     boundary_lent::step(
         tasks,
@@ -630,7 +630,7 @@ pub fn sozgarru_pending_list_unchecked(
         len,
         Event::Pending {
             call,
-            stored: OptionValue::Some(Value::List(HeapId::new(gather))),
+            stored: Some(Value::List(HeapId::new(gather))),
         },
         &[0u16; 1],
         &[0u8; 1],

@@ -6,7 +6,7 @@
 ghost use Rattle.std.specs.Prelude.{◌≡◌};
 ghost use Rattle.asyncio.specs.Numbers.{heap_id};
 ghost use Rattle.asyncio.specs.declared.Value.{Value};
-ghost use Rattle.asyncio.specs.declared.OptionValue.{OptionValue};
+ghost use Rattle.std.specs.Prelude.{None, Some};
 ghost use Rattle.machine.specs.Machine as machine;
 ghost use Rattle.exec_futures.specs.Results.{results_in};
 ghost use Rattle.boundary_lent.specs.Boundary.{BoundaryStep, BoundaryRead, BoundaryPlace, BoundaryBegin, SoundLent, SoundRead, is_sound_lent};
@@ -94,7 +94,7 @@ pub extern "C" fn sozgarru_pending(
     len: &mut usize,
     call: u32,
 ) -> Numbers
-    ensures { BoundaryStep tasks objects places calls ids len (machine.Event.pending call OptionValue.None) result }
+    ensures { BoundaryStep tasks objects places calls ids len (machine.Event.pending call None) result }
 {
     boundary::sozgarru_pending(tasks, objects, places, calls, ids, len, call)
 }
@@ -112,7 +112,7 @@ pub extern "C" fn sozgarru_pending_plain(
     call: u32,
     number: u64,
 ) -> Numbers
-    ensures { BoundaryStep tasks objects places calls ids len (machine.Event.pending call (OptionValue.Some (Value.Plain number))) result }
+    ensures { BoundaryStep tasks objects places calls ids len (machine.Event.pending call (Some (Value.Plain number))) result }
 {
     boundary::sozgarru_pending_plain(tasks, objects, places, calls, ids, len, call, number)
 }
@@ -130,7 +130,7 @@ pub extern "C" fn sozgarru_pending_list(
     call: u32,
     gather: u16,
 ) -> Numbers
-    ensures { BoundaryStep tasks objects places calls ids len (machine.Event.pending call (OptionValue.Some (Value.List (heap_id gather)))) result }
+    ensures { BoundaryStep tasks objects places calls ids len (machine.Event.pending call (Some (Value.List (heap_id gather)))) result }
 {
     boundary::sozgarru_pending_list(tasks, objects, places, calls, ids, len, call, gather)
 }
@@ -400,7 +400,7 @@ pub extern "C" fn sozgarru_pending_unchecked(
     call: u32,
 ) -> Numbers
     requires { SoundLent tasks.old objects.old places.old ids.old len.old }
-    ensures { BoundaryStep tasks objects places calls ids len (machine.Event.pending call OptionValue.None) result }
+    ensures { BoundaryStep tasks objects places calls ids len (machine.Event.pending call None) result }
 {
     boundary::sozgarru_pending_unchecked(tasks, objects, places, calls, ids, len, call)
 }
@@ -419,7 +419,7 @@ pub extern "C" fn sozgarru_pending_plain_unchecked(
     number: u64,
 ) -> Numbers
     requires { SoundLent tasks.old objects.old places.old ids.old len.old }
-    ensures { BoundaryStep tasks objects places calls ids len (machine.Event.pending call (OptionValue.Some (Value.Plain number))) result }
+    ensures { BoundaryStep tasks objects places calls ids len (machine.Event.pending call (Some (Value.Plain number))) result }
 {
     boundary::sozgarru_pending_plain_unchecked(
         tasks, objects, places, calls, ids, len, call, number,
@@ -440,7 +440,7 @@ pub extern "C" fn sozgarru_pending_list_unchecked(
     gather: u16,
 ) -> Numbers
     requires { SoundLent tasks.old objects.old places.old ids.old len.old }
-    ensures { BoundaryStep tasks objects places calls ids len (machine.Event.pending call (OptionValue.Some (Value.List (heap_id gather)))) result }
+    ensures { BoundaryStep tasks objects places calls ids len (machine.Event.pending call (Some (Value.List (heap_id gather)))) result }
 {
     boundary::sozgarru_pending_list_unchecked(tasks, objects, places, calls, ids, len, call, gather)
 }

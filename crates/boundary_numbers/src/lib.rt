@@ -11,7 +11,7 @@ ghost use Rattle.boundary_numbers.specs.Numbers.{numbers_as, places_shown, place
 ghost use Rattle.boundary_numbers.specs.Code.{said, refused_as, valued, errored, how_said, control_said, answer_said, shown_said};
 
 use asyncio::words::{error_words, value_words};
-use asyncio::{CoroutineState, Error, OptionValue, Value};
+use asyncio::{CoroutineState, Error, Value};
 use exec_switch::answer::Answer;
 use exec_switch::control::{Control, How};
 use rows::total::result_at;
@@ -184,15 +184,15 @@ pub fn shown_numbers(reading: Reading) -> Numbers
 }
 
 // An open place, or its value.
-fn slot(is_open: bool, res: OptionValue) -> Numbers
+fn slot(is_open: bool, res: Option<Value>) -> Numbers
     ensures { result ≡ slot_said (slot_value is_open res) }
 {
     if is_open {
         return say(10, 1, 0, 0, 0, 0, 0);
     }
     match res {
-        OptionValue::None => say(10, 1, 0, 0, 0, 0, 0),
-        OptionValue::Some(v) => {
+        None => say(10, 1, 0, 0, 0, 0, 0),
+        Some(v) => {
             let w = value_words(v);
             say(10, 3, 1, w.0, w.1, 0, 0)
         }

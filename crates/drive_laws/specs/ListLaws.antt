@@ -5,7 +5,7 @@ use Rattle.std.proofs.Common.{sym, ◌∙◌, arith, le-ltb, ltb-true, ltb-false
 use Rattle.asyncio.specs.Numbers.{heap_id}
 use Rattle.asyncio.specs.States.{pick}
 use Rattle.asyncio.specs.declared.Value.{Value}
-use Rattle.asyncio.specs.declared.OptionValue.{OptionValue}
+use Rattle.std.specs.Prelude.{Some}
 use Rattle.asyncio.specs.declared.Object.{Object}
 use Rattle.machine.specs.Tests.{◌and◌}
 use Rattle.machine.specs.Store.{Store, object, header}
@@ -55,7 +55,7 @@ module _ (s : Store) (n : ℕ) (h : (header s).made ≤ n) where
   unfolding refusal refusals
   complete-refused = rw (list_unknown (header s).made (object s) n h)
 
-  pending-refused : (c : ℕ) → refusal s (Event.pending c (OptionValue.Some (list n))) ≡ first_refusal ((2, not (sound s)) ∷ in_running s ((5, true) ∷ (6, is_some (pending_external s c)) ∷ (7, full s) ∷ []))
+  pending-refused : (c : ℕ) → refusal s (Event.pending c (Some (list n))) ≡ first_refusal ((2, not (sound s)) ∷ in_running s ((5, true) ∷ (6, is_some (pending_external s c)) ∷ (7, full s) ∷ []))
   unfolding refusal refusals option_known
   pending-refused c = rw (list_unknown (header s).made (object s) n h, or_true (leb (header s).calls c))
 
@@ -79,7 +79,7 @@ module _ (s : Store) (n : ℕ) where
       cut_has (λ m. step s (Event.complete (list m)) ≡ step s (Event.complete (list n))) n refl
       (λ l. same-refusal s (Event.complete (list 65535)) (Event.complete (list n)) _ (complete-refused s 65535 (omega (arith, (header-fits s).made_fits))) (complete-refused s n (omega (arith, l, (header-fits s).made_fits))))
 
-  pub cut-pending : (c : ℕ) → step s (Event.pending c (OptionValue.Some (list_value n))) ≡ step s (Event.pending c (OptionValue.Some (Value.List (heap_id n))))
+  pub cut-pending : (c : ℕ) → step s (Event.pending c (Some (list_value n))) ≡ step s (Event.pending c (Some (Value.List (heap_id n))))
   cut-pending c =
-      cut_has (λ m. step s (Event.pending c (OptionValue.Some (list m))) ≡ step s (Event.pending c (OptionValue.Some (list n)))) n refl
-      (λ l. same-refusal s (Event.pending c (OptionValue.Some (list 65535))) (Event.pending c (OptionValue.Some (list n))) _ (pending-refused s 65535 (omega (arith, (header-fits s).made_fits)) c) (pending-refused s n (omega (arith, l, (header-fits s).made_fits)) c))
+      cut_has (λ m. step s (Event.pending c (Some (list m))) ≡ step s (Event.pending c (Some (list n)))) n refl
+      (λ l. same-refusal s (Event.pending c (Some (list 65535))) (Event.pending c (Some (list n))) _ (pending-refused s 65535 (omega (arith, (header-fits s).made_fits)) c) (pending-refused s n (omega (arith, l, (header-fits s).made_fits)) c))

@@ -4,7 +4,8 @@ use Rattle.std.proofs.Math.Option.{Option, none, some}
 use Rattle.asyncio.specs.Numbers.{heap_id}
 use Rattle.asyncio.specs.States.{pick}
 use Rattle.asyncio.specs.declared.Value.{Value}
-use Rattle.asyncio.specs.declared.OptionValue.{OptionValue}
+use Rattle.asyncio.specs.Options.{OptionValue}
+use Rattle.std.specs.Prelude.{None, Some}
 use Rattle.endian.specs.Endian.{le1, le2, le4, le8}
 use Rattle.drive_reader.specs.declared.Record.{Record}
 use Rattle.drive_reader.specs.declared.Parsed.{Parsed}
@@ -27,13 +28,13 @@ list_value n = Value.List (heap_id (min n 65535))
 -- the value at a place; none if its tag is above 1
 unfoldable pub value_at : List ℕ → ℕ → OptionValue
 value_at s at =
-    pick (eqb (le1 s at) 0) (OptionValue.Some (Value.Plain (le8 s (at + 1))))
-    (pick (eqb (le1 s at) 1) (OptionValue.Some (list_value (le8 s (at + 1)))) OptionValue.None)
+    pick (eqb (le1 s at) 0) (Some (Value.Plain (le8 s (at + 1))))
+    (pick (eqb (le1 s at) 1) (Some (list_value (le8 s (at + 1)))) None)
 
 -- the record that a value makes; none without a value
 abbrev pub with_value : (Value → Record) → OptionValue → Option Record
-with_value f OptionValue.None = none
-with_value f (OptionValue.Some v) = some (f v)
+with_value f None = none
+with_value f (Some v) = some (f v)
 
 -- ---- records: the mark in bytes 0 and 1, the kind in byte 2, and what the kind has from byte 3 on
 
@@ -60,8 +61,8 @@ unfoldable pub pending_at : List ℕ → ℕ → Option Record
 pending_at s at =
     let call = le4 s (at + 3) in
     let flag = le1 s (at + 7) in
-    pick (eqb flag 0) (some (Record.Pending call OptionValue.None))
-    (pick (eqb flag 1) (with_value (λ (v : Value). Record.Pending call (OptionValue.Some v)) (value_at s (at + 8))) none)
+    pick (eqb flag 0) (some (Record.Pending call None))
+    (pick (eqb flag 1) (with_value (λ (v : Value). Record.Pending call (Some v)) (value_at s (at + 8))) none)
 
 -- What a record of a kind says, if all its bytes are there; none for a kind that there is not, a flag or a tag above 1. What a result
 -- holds is not looked at.

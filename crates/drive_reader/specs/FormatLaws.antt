@@ -2,7 +2,8 @@
 use Rattle.std.specs.Prelude.{◌≡◌, List, ℕ, ◌+◌, ◌-◌, ◌≤◌, ◌<◌, length}
 use borrow.Author.Tests.{ne_eqb, lt-ltb, le-ltb, le-leb, lt-leb}
 use Rattle.asyncio.specs.declared.Value.{Value}
-use Rattle.asyncio.specs.declared.OptionValue.{OptionValue}
+use Rattle.asyncio.specs.Options.{OptionValue}
+use Rattle.std.specs.Prelude.{None, Some}
 use Rattle.endian.specs.Endian.{le1, le2, le4, le8}
 use Rattle.drive_reader.specs.declared.Record.{Record}
 use Rattle.drive_reader.specs.declared.Parsed.{Parsed}
@@ -16,27 +17,27 @@ size_of_kind k n e h = rw e at h
 -- ---- value_at: plain, a list, another tag
 
 module _ (s : List ℕ) (at : ℕ) {tag : ℕ} (t : tag ≡ le1 s at) where
-  pub reads_plain : {n : ℕ} → n ≡ le8 s (at + 1) → tag ≡ 0 → OptionValue.Some (Value.Plain n) ≡ value_at s at
+  pub reads_plain : {n : ℕ} → n ≡ le8 s (at + 1) → tag ≡ 0 → Some (Value.Plain n) ≡ value_at s at
   unfolding value_at
   reads_plain e z = rw (← t, z, e)
 
-  pub reads_list : {n : ℕ} {v : Value} → n ≡ le8 s (at + 1) → tag ≡ 1 → v ≡ list_value n → OptionValue.Some v ≡ value_at s at
+  pub reads_list : {n : ℕ} {v : Value} → n ≡ le8 s (at + 1) → tag ≡ 1 → v ≡ list_value n → Some v ≡ value_at s at
   unfolding value_at
   reads_list e o v = rw (← t, o, v, e)
 
-  pub reads_none : (tag ≡ 0 → ⊥) → (tag ≡ 1 → ⊥) → OptionValue.None ≡ value_at s at
+  pub reads_none : (tag ≡ 0 → ⊥) → (tag ≡ 1 → ⊥) → None ≡ value_at s at
   unfolding value_at
   reads_none z o = rw (← t, ne_eqb tag 0 z, ne_eqb tag 1 o)
 
 -- ---- pending_at: flag 0, flag 1, another flag
 
 module _ (s : List ℕ) (at next : ℕ) {call flag : ℕ} (c : call ≡ le4 s (at + 3)) (f : flag ≡ le1 s (at + 7)) where
-  pub reads_unstored : {r : Parsed} → flag ≡ 0 → r ≡ Parsed.Record (Record.Pending call OptionValue.None) next → r ≡ found (pending_at s at) next
+  pub reads_unstored : {r : Parsed} → flag ≡ 0 → r ≡ Parsed.Record (Record.Pending call None) next → r ≡ found (pending_at s at) next
   unfolding pending_at
   reads_unstored z r = rw (← f, z, r, c)
 
   pub reads_stored : {v : OptionValue} {r : Parsed} → flag ≡ 1 → v ≡ value_at s (at + 8)
-      → r ≡ found (with_value (λ (x : Value). Record.Pending call (OptionValue.Some x)) v) next → r ≡ found (pending_at s at) next
+      → r ≡ found (with_value (λ (x : Value). Record.Pending call (Some x)) v) next → r ≡ found (pending_at s at) next
   unfolding pending_at
   reads_stored o v r = rw (← f, o, r, v, c)
 

@@ -5,7 +5,8 @@ use Rattle.std.proofs.Common.{sym, arith, eqb-true, leb-true, eq-eqb}
 use Rattle.std.proofs.Math.Option.{Option, none, some}
 use Rattle.asyncio.specs.States.{pick}
 use Rattle.asyncio.specs.declared.Value.{Value}
-use Rattle.asyncio.specs.declared.OptionValue.{OptionValue}
+use Rattle.asyncio.specs.Options.{OptionValue}
+use Rattle.std.specs.Prelude.{None, Some}
 use Rattle.endian.specs.Endian.{le1, le2, le4}
 use Rattle.drive_reader.specs.declared.Record.{Record}
 use Rattle.drive_reader.specs.declared.Parsed.{Parsed}
@@ -51,16 +52,16 @@ either_kind P kind k {x} {x'} {y} {y'} same other = by (eqb kind k) refl
     by false e = other
 
 with_value-fits : (kind at m : ℕ) (f : Value → Record) (x : OptionValue) → ((v : Value) → Fits kind at m (f v)) → FitsIf kind at m (with_value f x)
-with_value-fits kind at m f OptionValue.None h = tt
-with_value-fits kind at m f (OptionValue.Some v) h = h v
+with_value-fits kind at m f None h = tt
+with_value-fits kind at m f (Some v) h = h v
 
 pending-fits : (s : List ℕ) (kind at m : ℕ) → ((c : ℕ) (x : OptionValue) → Fits kind at m (Record.Pending c x)) → FitsIf kind at m (pending_at s at)
 unfolding pending_at
 pending-fits s kind at m h = by (eqb (le1 s (at + 7)) 0) (eqb (le1 s (at + 7)) 1)
   where
-    by : (a b : Bool) → FitsIf kind at m (pick a (some (Record.Pending (le4 s (at + 3)) OptionValue.None)) (pick b (with_value (λ (v : Value). Record.Pending (le4 s (at + 3)) (OptionValue.Some v)) (value_at s (at + 8))) none))
-    by true b = h (le4 s (at + 3)) OptionValue.None
-    by false true = with_value-fits kind at m (λ (v : Value). Record.Pending (le4 s (at + 3)) (OptionValue.Some v)) (value_at s (at + 8)) (λ v. h (le4 s (at + 3)) (OptionValue.Some v))
+    by : (a b : Bool) → FitsIf kind at m (pick a (some (Record.Pending (le4 s (at + 3)) None)) (pick b (with_value (λ (v : Value). Record.Pending (le4 s (at + 3)) (Some v)) (value_at s (at + 8))) none))
+    by true b = h (le4 s (at + 3)) None
+    by false true = with_value-fits kind at m (λ (v : Value). Record.Pending (le4 s (at + 3)) (Some v)) (value_at s (at + 8)) (λ v. h (le4 s (at + 3)) (Some v))
     by false false = tt
 
 contents_fit : (s : List ℕ) (at kind : ℕ) → FitsIf kind at (size kind (le1 s (at + 3))) (contents s at kind)

@@ -3,7 +3,7 @@
 use Rattle.std.specs.Prelude.{ℕ, List, [], ◌∷◌, ◌++◌, replicate}
 use Rattle.asyncio.specs.Numbers.{heap_id}
 use Rattle.asyncio.specs.declared.Value.{Value}
-use Rattle.asyncio.specs.declared.OptionValue.{OptionValue}
+use Rattle.std.specs.Prelude.{None, Some}
 use Rattle.drive_reader.specs.declared.Record.{Record}
 use Rattle.drive_reader.specs.declared.Parsed.{Parsed}
 use Rattle.drive_reader.specs.Format.{parse}
@@ -72,7 +72,7 @@ cases =
     -- the worked example, and its end
     example 0 (Record.Coroutine 7) 7
     ∷ example 7 Record.Call 10
-    ∷ example 10 (Record.Pending 0 OptionValue.None) 27
+    ∷ example 10 (Record.Pending 0 None) 27
     ∷ example 27 (Record.Gather 31 3) 37
     ∷ example 37 (Record.Await 2) 42
     ∷ example 42 (Record.Complete (Value.Plain 40)) 54
@@ -84,7 +84,7 @@ cases =
     ∷ ends worked_example 93
     ∷ ends [] 0
     -- the kinds that it has not
-    ∷ one (marked 3 (0 ∷ 1 ∷ 0 ∷ 0 ∷ 1 ∷ plain 8)) (Record.Pending 256 (OptionValue.Some (Value.Plain 8))) 17
+    ∷ one (marked 3 (0 ∷ 1 ∷ 0 ∷ 0 ∷ 1 ∷ plain 8)) (Record.Pending 256 (Some (Value.Plain 8))) 17
     ∷ one (marked 4 (1 ∷ eight 2)) (Record.Settled (Value.List (heap_id 2))) 12
     ∷ one (marked 8 (4 ∷ 0 ∷ 0 ∷ 1 ∷ [])) (Record.Fail 16777220) 7
     ∷ one (marked 11 (1 ∷ 1 ∷ [])) (Record.Cancel 257) 5
@@ -108,7 +108,7 @@ cases =
     ∷ refused (marked 9 (1 ∷ replicate 13 0))
     ∷ refused (marked 9 (255 ∷ replicate 3569 0))
     -- pending: at flag 0 no byte of the value counts; flags above 1; a tag above 1
-    ∷ one (marked 3 (0 ∷ 0 ∷ 0 ∷ 0 ∷ 0 ∷ replicate 9 255)) (Record.Pending 0 OptionValue.None) 17
+    ∷ one (marked 3 (0 ∷ 0 ∷ 0 ∷ 0 ∷ 0 ∷ replicate 9 255)) (Record.Pending 0 None) 17
     ∷ refused (marked 3 (0 ∷ 0 ∷ 0 ∷ 0 ∷ 2 ∷ plain 0))
     ∷ refused (marked 3 (0 ∷ 0 ∷ 0 ∷ 0 ∷ 1 ∷ 2 ∷ eight 0))
     -- tags above 1, and in results, where nothing is looked at

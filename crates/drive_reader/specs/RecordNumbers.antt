@@ -5,7 +5,7 @@ use Rattle.std.proofs.Common.{ap}
 use denote.Triple.Both.{Both}
 use Rattle.asyncio.specs.Layout.{value_numbers}
 use Rattle.asyncio.specs.declared.Value.{Value}
-use Rattle.asyncio.specs.declared.OptionValue.{OptionValue}
+use Rattle.std.specs.Prelude.{None, Some}
 use Rattle.drive_reader.specs.declared.Record.{Record}
 use Rattle.drive_reader.specs.declared.Parsed.{Parsed}
 use Rattle.drive_reader.specs.Format.{parse}
@@ -35,8 +35,8 @@ record_kind Record.Eager = 13
 unfoldable pub record_numbers : Record → List ℕ
 record_numbers (Record.Coroutine f) = f ∷ []
 record_numbers Record.Call = []
-record_numbers (Record.Pending c OptionValue.None) = c ∷ 0 ∷ []
-record_numbers (Record.Pending c (OptionValue.Some v)) = c ∷ 1 ∷ value_numbers v
+record_numbers (Record.Pending c None) = c ∷ 0 ∷ []
+record_numbers (Record.Pending c (Some v)) = c ∷ 1 ∷ value_numbers v
 record_numbers (Record.Settled v) = value_numbers v
 record_numbers (Record.Gather first count) = count ∷ first ∷ []
 record_numbers (Record.Await o) = o ∷ []

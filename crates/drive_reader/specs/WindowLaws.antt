@@ -12,7 +12,8 @@ use borrow.Author.Tests.{ne_eqb, le-leb, le-ltb, ltb-true, ltb-false}
 use Rattle.asyncio.specs.RangeLaws.{pick_has}
 use Rattle.asyncio.specs.States.{pick}
 use Rattle.asyncio.specs.declared.Value.{Value}
-use Rattle.asyncio.specs.declared.OptionValue.{OptionValue}
+use Rattle.asyncio.specs.Options.{OptionValue}
+use Rattle.std.specs.Prelude.{None, Some}
 use Rattle.endian.specs.Endian.{le1, le2, le4, le8}
 use Rattle.drive_reader.specs.declared.Record.{Record}
 use Rattle.drive_reader.specs.declared.Parsed.{Parsed}
@@ -168,8 +169,8 @@ module _ (s : List ℕ) (k : ℕ) where
 
   -- a value's record has no places
   move-value : (f : Value → Record) (x : OptionValue) → ((v : Value) → f v ≡ move_record k (f v)) → with_value f x ≡ move_some k (with_value f x)
-  move-value f OptionValue.None h = refl
-  move-value f (OptionValue.Some v) h = ap (λ (r : Record). some r) (h v)
+  move-value f None h = refl
+  move-value f (Some v) h = ap (λ (r : Record). some r) (h v)
 
   drop-pending : (at : ℕ) → pending_at s (k + at) ≡ move_some k (pending_at (drop k s) at)
   unfolding pending_at move_record
@@ -178,11 +179,11 @@ module _ (s : List ℕ) (k : ℕ) where
       (by (eqb (le1 (drop k s) (at + 7)) 0) (eqb (le1 (drop k s) (at + 7)) 1) (value_at (drop k s) (at + 8)))
     where
       answer : Bool → Bool → OptionValue → Option Record
-      answer a b x = pick a (some (Record.Pending (le4 (drop k s) (at + 3)) OptionValue.None)) (pick b (with_value (λ (v : Value). Record.Pending (le4 (drop k s) (at + 3)) (OptionValue.Some v)) x) none)
+      answer a b x = pick a (some (Record.Pending (le4 (drop k s) (at + 3)) None)) (pick b (with_value (λ (v : Value). Record.Pending (le4 (drop k s) (at + 3)) (Some v)) x) none)
 
       by : (a b : Bool) (x : OptionValue) → answer a b x ≡ move_some k (answer a b x)
       by true b x = refl
-      by false true x = move-value (λ (v : Value). Record.Pending (le4 (drop k s) (at + 3)) (OptionValue.Some v)) x (λ v. refl)
+      by false true x = move-value (λ (v : Value). Record.Pending (le4 (drop k s) (at + 3)) (Some v)) x (λ v. refl)
       by false false x = refl
 
   drop-contents : (at kind : ℕ) → contents s (k + at) kind ≡ move_some k (contents (drop k s) at kind)

@@ -6,7 +6,7 @@ ghost use Rattle.drive_reader.specs.Format.{size, with_value, pending_at, conten
 
 use crate::bytes::value_at;
 use crate::{Parsed, Record};
-use asyncio::OptionValue;
+use asyncio::Value;
 
 // How many bytes a record has; `count` is the byte behind its kind. 0 for a kind that there is not.
 pub fn size_of(kind: u64, count: u64) -> usize
@@ -39,33 +39,33 @@ fn found(what: Record, next: usize) -> Parsed
 }
 
 // A settled external of a value.
-fn settled(value: OptionValue, next: usize) -> Parsed
+fn settled(value: Option<Value>, next: usize) -> Parsed
     ensures { result ≡ found (with_value Record.Settled value) next }
 {
     match value {
-        OptionValue::None => Parsed::Refused,
-        OptionValue::Some(v) => found(Record::Settled(v), next),
+        None => Parsed::Refused,
+        Some(v) => found(Record::Settled(v), next),
     }
 }
 
 // A completion with a value.
-fn complete(value: OptionValue, next: usize) -> Parsed
+fn complete(value: Option<Value>, next: usize) -> Parsed
     ensures { result ≡ found (with_value Record.Complete value) next }
 {
     match value {
-        OptionValue::None => Parsed::Refused,
-        OptionValue::Some(v) => found(Record::Complete(v), next),
+        None => Parsed::Refused,
+        Some(v) => found(Record::Complete(v), next),
     }
 }
 
 // A pending external with a stored value.
-fn stored(call: u32, value: OptionValue, next: usize) -> Parsed
-    ensures { result ≡ found (with_value (λ (v : Value). Record.Pending call (OptionValue.Some v)) value) next }
+fn stored(call: u32, value: Option<Value>, next: usize) -> Parsed
+    ensures { result ≡ found (with_value (λ (v : Value). Record.Pending call (Some v)) value) next }
 {
     match value {
-        OptionValue::None => Parsed::Refused,
-        OptionValue::Some(v) => {
-            let stored = OptionValue::Some(v);
+        None => Parsed::Refused,
+        Some(v) => {
+            let stored = Some(v);
             found(Record::Pending { call, stored }, next)
         }
     }
@@ -79,7 +79,7 @@ fn pending_at(s: &[u8], at: usize, next: usize) -> Parsed
     let call = endian::u32_at(s, at + 3) as u32;
     let flag = endian::u8_at(s, at + 7);
     if flag == 0 {
-        let stored = OptionValue::None;
+        let stored = None;
         return found(Record::Pending { call, stored }, next);
     }
     if flag == 1 {

@@ -3,7 +3,7 @@ ghost use Rattle.std.specs.Prelude.{◌≡◌, ◌≤◌, ◌<◌, ◌+◌, ◌-
 ghost use Rattle.endian.specs.Endian.{le1};
 ghost use Rattle.drive_reader.specs.Format.{list_value, value_at};
 
-use asyncio::{HeapId, OptionValue, Value};
+use asyncio::{HeapId, Value};
 
 // How many bytes there are from `at` on.
 pub fn left_at(s: &[u8], at: usize) -> usize
@@ -35,17 +35,17 @@ pub fn list_value(n: u64) -> Value
 }
 
 // The value at a place: a tag, and 8 bytes. None if the tag is above 1.
-pub fn value_at(s: &[u8], at: usize) -> OptionValue
+pub fn value_at(s: &[u8], at: usize) -> Option<Value>
     requires { 9 ≤ length s.now - at }
     ensures { result ≡ value_at s.now at }
 {
     let tag = endian::u8_at(s, at);
     let number = endian::u64_at(s, at + 1);
     if tag == 0 {
-        return OptionValue::Some(Value::Plain(number));
+        return Some(Value::Plain(number));
     }
     if tag == 1 {
-        return OptionValue::Some(list_value(number));
+        return Some(list_value(number));
     }
-    OptionValue::None
+    None
 }

@@ -11,14 +11,14 @@ ghost use Rattle.std.specs.Prelude.{◌≡◌};
 ghost use Rattle.drive_reader.specs.Format.{parse};
 ghost use Rattle.drive_reader.specs.RecordNumbers.{Parses};
 
-use asyncio::{OptionValue, Value};
+use asyncio::{Value};
 
 // The records, kinds 1 to 13. Of a gather's items and of results it is told where they begin in the bytes and how many there are.
 #[derive(Drop)]
 pub enum Record {
     Coroutine(u32),
     Call,
-    Pending { call: u32, stored: OptionValue },
+    Pending { call: u32, stored: Option<Value> },
     Settled(Value),
     Gather { first: usize, count: u8 },
     Await(u16),

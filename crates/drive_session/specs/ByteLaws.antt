@@ -7,7 +7,8 @@ use Prim.Native.Nat.{ℕ, zero, suc, ◌+◌, ◌-◌, ◌<◌}
 use Rattle.asyncio.specs.Limits.{u32_limit}
 use Rattle.asyncio.specs.RangeLaws.{pick_has}
 use Rattle.asyncio.specs.declared.Value.{Value}
-use Rattle.asyncio.specs.declared.OptionValue.{OptionValue}
+use Rattle.asyncio.specs.Options.{OptionValue}
+use Rattle.std.specs.Prelude.{None, Some}
 use Rattle.machine.specs.Store.{Store, fresh}
 use Rattle.machine.specs.Sessions.{AllSentInRange}
 use Rattle.endian.specs.Endian.{le1, le2, le4}
@@ -28,8 +29,8 @@ FitsIf none = Unit {0}
 FitsIf (some r) = RecordFits r
 
 value-fits : (f : Value → Record) (x : OptionValue) → ((v : Value) → RecordFits (f v)) → FitsIf (with_value f x)
-value-fits f OptionValue.None h = tt
-value-fits f (OptionValue.Some v) h = h v
+value-fits f None h = tt
+value-fits f (Some v) h = h v
 
 found-fits : (o : Option Record) (next : ℕ) → FitsIf o → ParsedFits (found o next)
 found-fits none next h = tt

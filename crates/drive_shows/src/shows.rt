@@ -9,7 +9,7 @@ ghost use Rattle.drive_text.specs.Text.{word};
 ghost use Rattle.drive_lines.specs.Lines.{error_text, place_text, places_text, shown_text, line};
 ghost use Rattle.drive_shows.specs.Shows.{shown_count, PutsGather, PutsReading};
 
-use asyncio::{CoroutineState, Error, OptionValue, Value};
+use asyncio::{CoroutineState, Error, Value};
 use drive_lines::answers::{put_error, put_value, write_refused};
 use drive_text::{put_byte, put_decimal, put_field, put_named, put_text};
 use rows::total::result_at;
@@ -27,12 +27,12 @@ fn put_coroutine(out: &mut [u8], at: usize, state: CoroutineState, function: u32
 }
 
 // A place that is not open: its result.
-fn put_result(out: &mut [u8], at: usize, x: OptionValue) -> usize
+fn put_result(out: &mut [u8], at: usize, x: Option<Value>) -> usize
     ensures { Puts 27 out at result (place_text (slot_value false x)) }
 {
     match x {
-        OptionValue::None => put_text(out, at, b" open"),
-        OptionValue::Some(v) => put_value(out, at, v),
+        None => put_text(out, at, b" open"),
+        Some(v) => put_value(out, at, v),
     }
 }
 

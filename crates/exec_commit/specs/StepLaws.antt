@@ -10,7 +10,7 @@ use Rattle.asyncio.specs.Ranges.{PlacesFit}
 use Rattle.asyncio.specs.declared.HeapId.{HeapId}
 use Rattle.asyncio.specs.declared.Value.{Value}
 use Rattle.asyncio.specs.declared.Error.{Error}
-use Rattle.asyncio.specs.declared.OptionValue.{OptionValue}
+use Rattle.std.specs.Prelude.{Some}
 use Rattle.asyncio.specs.declared.GatherState.{GatherState}
 use Rattle.asyncio.specs.declared.Object.{Object}
 use Rattle.rows.specs.Tables.{object_at, object_put, place_at, place_put}
@@ -44,7 +44,7 @@ module _ (ts os ps : List ℕ) (q : ReadyQueue) (l : List LogEntry) (w : Awaited
   place_opened g e p = rw (p, e)
 
   pub place-filled : (v : Value) {h : HeapId} → h ≡ (place_at ps (w.first + i)).item
-      → {rs : List ℕ} → rs ≡ place_put ps (w.first + i) (record { item = h; result = OptionValue.Some v })
+      → {rs : List ℕ} → rs ≡ place_put ps (w.first + i) (record { item = h; result = Some v })
       → store_of ts os rs q l ≡ fill_place (store_of ts os ps q l) (awaited_gather_of w) i v
   unfolding fill_place put_place place
   place-filled v e p = rw (p, e)

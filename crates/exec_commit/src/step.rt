@@ -9,7 +9,7 @@ ghost use Rattle.exec_poll.specs.Polls.{poll_of};
 ghost use Rattle.exec_commit.specs.Steps.{with_bit, step_at, frame, StepsPlace, StepsTo, StopsAt};
 ghost use Rattle.contract.specs.Contract.{ObjectsLength, PlacesLength, LengthsAnd, LengthsAnd₂, ChangesObjects, ChangesPlaces};
 
-use asyncio::{Error, GatherState, HeapId, Object, OptionValue, Place, TASKS, Value};
+use asyncio::{Error, GatherState, HeapId, Object, Place, TASKS, Value};
 use exec_poll::item::{ItemPoll, Poll, item};
 use scheduler_states::awaited::{AwaitedGather, OptionAwaited, as_awaited};
 
@@ -74,7 +74,7 @@ pub(crate) fn fill_place(places: &mut [u64], w: AwaitedGather, i: usize, value: 
         p,
         Place {
             item,
-            result: OptionValue::Some(value),
+            result: Some(value),
         },
     );
 }

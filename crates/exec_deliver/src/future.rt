@@ -7,16 +7,16 @@ ghost use Rattle.exec_deliver.specs.Delivers.{Wakes, WakesKeepingPlaces};
 ghost use Rattle.contract.specs.Contract.{Lengths₂, Lengths, Lengths₂And, LengthsAnd};
 
 use crate::climb::{deliver_awaiter_failure, deliver_awaiter_success};
-use asyncio::{Error, ExternalFutureState, HeapId, Object, OptionValue, Value};
+use asyncio::{Error, ExternalFutureState, HeapId, Object, Value};
 use scheduler::tasks::{FoundObject, FoundTask, take_pending_external};
 
 // A stored result replaces the host's value.
-fn value_or(stored: OptionValue, value: Value) -> Value
+fn value_or(stored: Option<Value>, value: Value) -> Value
     ensures { result ≡ value_or stored value }
 {
     match stored {
-        OptionValue::None => value,
-        OptionValue::Some(v) => v,
+        None => value,
+        Some(v) => v,
     }
 }
 

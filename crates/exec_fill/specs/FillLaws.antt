@@ -4,7 +4,7 @@ use Rattle.std.proofs.Common.{ap, arith}
 use borrow.Author.Tests.{eq-eqb, ne_eqb}
 use Rattle.asyncio.specs.declared.HeapId.{HeapId}
 use Rattle.asyncio.specs.declared.Value.{Value}
-use Rattle.asyncio.specs.declared.OptionValue.{OptionValue}
+use Rattle.std.specs.Prelude.{Some}
 use Rattle.asyncio.specs.declared.Place.{Place}
 use Rattle.rows.specs.Tables.{place_at, place_put}
 use Rattle.machine.specs.Delivery.{Filled, filled, fill_one, fill_from}
@@ -19,7 +19,7 @@ module _ (ps : List ℕ) (m p i : ℕ) (source : ℕ) (v : Value) where
     unfolding fill_one
     fill_other n = rw (ne_eqb (m / 2 ^ i % 2) 0 b, ← e, ne_eqb h.0 source n)
 
-    pub fill_here : h.0 ≡ source → {qs : List ℕ} → qs ≡ place_put ps p (record { item = h; result = OptionValue.Some v }) → {k : ℕ} → k ≡ m - 2 ^ i
+    pub fill_here : h.0 ≡ source → {qs : List ℕ} → qs ≡ place_put ps p (record { item = h; result = Some v }) → {k : ℕ} → k ≡ m - 2 ^ i
         → filled qs k ≡ fill_one ps m p i source v
     unfolding fill_one
     fill_here s q r = rw (ne_eqb (m / 2 ^ i % 2) 0 b, ← e, eq-eqb h.0 source s, q, r)

@@ -4,7 +4,7 @@ ghost use Rattle.asyncio.specs.Limits.{item_limit, place_limit};
 ghost use Rattle.machine.specs.Delivery.{filled, fill_one, fill_from};
 ghost use Rattle.contract.specs.Contract.{PlacesLength};
 
-use asyncio::{HeapId, OptionValue, Place, Value};
+use asyncio::{HeapId, Place, Value};
 
 // Place `p`, which is place `i` of its gather: where it is open and names `source`, the value goes in and its bit is cleared. The open
 // places that are left.
@@ -29,7 +29,7 @@ fn fill_one(
             p,
             Place {
                 item,
-                result: OptionValue::Some(value),
+                result: Some(value),
             },
         );
         return open_places - (1u32 << i);

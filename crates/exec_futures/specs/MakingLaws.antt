@@ -12,7 +12,7 @@ use Rattle.asyncio.specs.Ranges.{HeaderFits}
 use Rattle.asyncio.specs.declared.CallId.{CallId}
 use Rattle.asyncio.specs.declared.HeapId.{HeapId}
 use Rattle.asyncio.specs.declared.Value.{Value}
-use Rattle.asyncio.specs.declared.OptionValue.{OptionValue}
+use Rattle.std.specs.Prelude.{None}
 use Rattle.asyncio.specs.declared.ExternalFutureState.{ExternalFutureState}
 use Rattle.asyncio.specs.declared.GatherState.{GatherState}
 use Rattle.asyncio.specs.declared.Object.{Object}
@@ -61,7 +61,7 @@ module _ (os : List ℕ) (z : length os ≡ objects_length) (c : CallId) (k : c.
 
 module _ (items : List ℕ) (first : ℕ) (ts os : List ℕ) (q : ReadyQueue) (l : List LogEntry) where
   pub items-turn : (ps : List ℕ) (i : ℕ) → i < length items → {o : HeapId} → o ≡ heap_id (get_or items i 0) → {rs : List ℕ}
-      → rs ≡ place_put ps (first + i) (record { item = o; result = OptionValue.None })
+      → rs ≡ place_put ps (first + i) (record { item = o; result = None })
       → put_items (store_of ts os rs q l) (first + (i + 1)) (drop (i + 1) items) ≡ put_items (store_of ts os ps q l) (first + i) (drop i items)
   unfolding put_items put_place
   items-turn ps i h {o} j {rs} p =

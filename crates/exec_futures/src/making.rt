@@ -7,10 +7,7 @@ ghost use Rattle.machine.specs.Events.{make_coroutine, make_pending, make_settle
 ghost use Rattle.contract.specs.Contract.{ObjectsLength, PlacesLength, ChangesObjects, ChangesPlaces};
 ghost use Rattle.exec_futures.specs.Making.{MakesObject, MakesGather, HasCall, HasPlaces, HasRoom};
 
-use asyncio::{
-    Awaiter, CallId, CoroutineState, ExternalFutureState, GatherState, Header, HeapId, Object,
-    OptionValue, Place, Value,
-};
+use asyncio::{Awaiter, CallId, CoroutineState, ExternalFutureState, GatherState, Header, HeapId, Object, Place, Value};
 
 // An object at the end, and `n` places given to it.
 fn add_object(objects: &mut [u64], x: Object, n: u16) -> HeapId
@@ -69,7 +66,7 @@ pub fn make_coroutine(objects: &mut [u64], function: u32) -> HeapId
 }
 
 // An external of a call, with a stored result or none (add_pending_call, add_pending_sleep).
-pub fn push_pending_future(objects: &mut [u64], call: CallId, stored: OptionValue) -> HeapId
+pub fn push_pending_future(objects: &mut [u64], call: CallId, stored: Option<Value>) -> HeapId
     requires { ObjectsLength objects.old × HasRoom objects.old }
     ensures { MakesObject objects (λ s. make_pending s call.0 stored) result }
 {
@@ -106,7 +103,7 @@ fn put_items(places: &mut [u64], first: usize, items: &[u16])
     while i < n {
         let place = Place {
             item: HeapId::new(items[i]),
-            result: OptionValue::None,
+            result: None,
         };
         rows::tables::store_place(places, first + i, place);
         i += 1;

@@ -1,7 +1,7 @@
 -- Sessions of which demand 3's test is computed. A wrong machine fails one of them (must-fail/).
 use Rattle.std.specs.Prelude.{ℕ, ◌≡◌, refl, Bool, true, false, ◌&&◌, List, [], ◌∷◌, map, replicate}
 use Rattle.asyncio.specs.declared.Value.{Value}
-use Rattle.asyncio.specs.declared.OptionValue.{OptionValue}
+use Rattle.std.specs.Prelude.{None, Some}
 use Rattle.machine.specs.Events.{Result}
 use Rattle.machine.specs.Machine.{Event}
 use Rattle.machine.specs.Computes.{computes}
@@ -22,13 +22,13 @@ abbrev pub res : ℕ → ℕ → ℕ → Result
 res c k n = record { call = c; kind = k; tag = 0; number = n }
 
 abbrev pub pend : ℕ → Event
-pend c = Event.pending c OptionValue.None
+pend c = Event.pending c None
 
 -- A repeat, an external with a stored result, a settled one, a nested gather, a call that nobody awaits; one reply of two. (Objects: coroutine 0, externals 1
 -- to 4, gathers 5 and 6.)
 abbrev some_open : List Sent
 some_open =
-    e (Event.coroutine 7) ∷ e Event.call ∷ e (Event.pending 0 (OptionValue.Some (Value.Plain 8))) ∷ e Event.call ∷ e (pend 1) ∷ e (Event.settled (Value.Plain 3))
+    e (Event.coroutine 7) ∷ e Event.call ∷ e (Event.pending 0 (Some (Value.Plain 8))) ∷ e Event.call ∷ e (pend 1) ∷ e (Event.settled (Value.Plain 3))
     ∷ e Event.call ∷ e (pend 3) ∷ e (Event.gather (2 ∷ 3 ∷ [])) ∷ e (Event.gather (0 ∷ 1 ∷ 0 ∷ 5 ∷ [])) ∷ e (Event.await 6) ∷ e (Event.complete (Value.Plain 40))
     ∷ e (Event.results (res 0 0 5 ∷ [])) ∷ []
 

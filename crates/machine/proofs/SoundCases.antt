@@ -1,7 +1,7 @@
 -- Stores that are sound and one that is not, as a table; one computed test proves all rows. (More are in the crate `cases`.)
 use Rattle.std.specs.Prelude.{◌≡◌, refl, Bool, true, false, List, [], ◌∷◌, map}
 use Rattle.asyncio.specs.Numbers.{task_id, call_id}
-use Rattle.asyncio.specs.declared.OptionValue.{OptionValue}
+use Rattle.std.specs.Prelude.{None}
 use Rattle.asyncio.specs.declared.Awaiter.{Awaiter}
 use Rattle.asyncio.specs.declared.ExternalFutureState.{ExternalFutureState}
 use Rattle.asyncio.specs.declared.Object.{Object}
@@ -15,20 +15,20 @@ use Rattle.machine.specs.Computes.{computes}
 unfoldable pub started : Store
 started =
     after fresh
-    (Event.coroutine 7 ∷ Event.coroutine 8 ∷ Event.call ∷ Event.pending 0 OptionValue.None ∷ Event.gather (0 ∷ 1 ∷ 2 ∷ []) ∷ Event.await 3 ∷ [])
+    (Event.coroutine 7 ∷ Event.coroutine 8 ∷ Event.call ∷ Event.pending 0 None ∷ Event.gather (0 ∷ 1 ∷ 2 ∷ []) ∷ Event.await 3 ∷ [])
 
 -- main awaits a call, and its value has come: main is ready
 unfoldable pub woken : Store
 woken =
     after fresh
-    (Event.call ∷ Event.pending 0 OptionValue.None ∷ Event.await 0 ∷ Event.results (record { call = 0; kind = 0; tag = 0; number = 5 } ∷ []) ∷ [])
+    (Event.call ∷ Event.pending 0 None ∷ Event.await 0 ∷ Event.results (record { call = 0; kind = 0; tag = 0; number = 5 } ∷ []) ∷ [])
 
 -- what is said of the stores, row by row
 unfoldable pub stores : List Store
 stores =
     fresh ∷ started ∷ woken ∷
     -- not sound, X5: an awaiter that is not below the next number
-    put_object woken 0 (Object.ExternalFuture (call_id 0) (ExternalFutureState.Pending (Awaiter.Task (task_id 1)) OptionValue.None)) ∷
+    put_object woken 0 (Object.ExternalFuture (call_id 0) (ExternalFutureState.Pending (Awaiter.Task (task_id 1)) None)) ∷
     []
 
 -- is each sound?

@@ -4,7 +4,7 @@ use Rattle.std.specs.Prelude.{ℕ, Bool, true, false, ◌&&◌, List, [], ◌∷
 use Rattle.std.proofs.Math.Option.{Option, none, some}
 use Rattle.asyncio.specs.declared.Value.{Value}
 use Rattle.asyncio.specs.declared.Error.{Error}
-use Rattle.asyncio.specs.declared.OptionValue.{OptionValue}
+use Rattle.std.specs.Prelude.{None}
 use Rattle.asyncio.specs.declared.CoroutineState.{CoroutineState}
 use Rattle.asyncio.specs.Numbers.{heap_id}
 use Rattle.rows.specs.Canonical.{same_words}
@@ -77,7 +77,7 @@ error c n = result c 1 0 n
 
 -- call c is made pending without a stored result
 abbrev pub pending : ℕ → Event
-pending c = Event.pending c OptionValue.None
+pending c = Event.pending c None
 
 -- ---- the rows
 

@@ -7,7 +7,8 @@ use Rattle.asyncio.specs.declared.CallId.{CallId}
 use Rattle.asyncio.specs.declared.Value.{Value}
 use Rattle.asyncio.specs.declared.Error.{Error}
 use Rattle.asyncio.specs.declared.Awaiter.{Awaiter}
-use Rattle.asyncio.specs.declared.OptionValue.{OptionValue}
+use Rattle.asyncio.specs.Options.{OptionValue}
+use Rattle.std.specs.Prelude.{Some}
 use Rattle.asyncio.specs.declared.CoroutineState.{CoroutineState}
 use Rattle.asyncio.specs.declared.ExternalFutureState.{ExternalFutureState}
 use Rattle.asyncio.specs.declared.GatherState.{GatherState}
@@ -99,7 +100,7 @@ open_place s g w i =
 
 -- place i has a value
 unfoldable pub fill_place : Store → AwaitedGather → ℕ → Value → Store
-fill_place s w i v = put_place s (w.first + i) (record { item = (place s (w.first + i)).item; result = OptionValue.Some v })
+fill_place s w i v = put_place s (w.first + i) (record { item = (place s (w.first + i)).item; result = Some v })
 
 -- Where the walk through a gather's items stopped: at the end, at a nested gather in a place, at an error.
 pub data Stop : Type 0 where

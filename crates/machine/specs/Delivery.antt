@@ -8,7 +8,8 @@ use Rattle.asyncio.specs.declared.Value.{Value}
 use Rattle.asyncio.specs.declared.Error.{Error}
 use Rattle.asyncio.specs.declared.TaskState.{TaskState}
 use Rattle.asyncio.specs.declared.Awaiter.{Awaiter}
-use Rattle.asyncio.specs.declared.OptionValue.{OptionValue}
+use Rattle.asyncio.specs.Options.{OptionValue}
+use Rattle.std.specs.Prelude.{None, Some}
 use Rattle.asyncio.specs.declared.ExternalFutureState.{ExternalFutureState}
 use Rattle.asyncio.specs.declared.GatherState.{GatherState}
 use Rattle.asyncio.specs.declared.Object.{Object}
@@ -50,7 +51,7 @@ unfoldable pub fill_one : List ℕ → ℕ → ℕ → ℕ → ℕ → Value →
 fill_one ps m p i source v =
     pick (bit m i)
     (pick (eqb (place_at ps p).item.0 source)
-    (filled (place_put ps p (record { item = (place_at ps p).item; result = OptionValue.Some v })) (m - 2 ^ i))
+    (filled (place_put ps p (record { item = (place_at ps p).item; result = Some v })) (m - 2 ^ i))
     (filled ps m))
     (filled ps m)
 
@@ -147,8 +148,8 @@ deliver_awaiter_failure s a e = send_error (λ x b f. climb_error (awaited_count
 
 -- a stored result replaces the host's value
 unfoldable pub value_or : OptionValue → Value → Value
-value_or OptionValue.None v = v
-value_or (OptionValue.Some x) v = x
+value_or None v = v
+value_or (Some x) v = x
 
 -- the pending external o is settled; then its awaiter is served
 unfoldable pub resolve_pending : Store → ℕ → PendingExternal → Value → Store

@@ -10,7 +10,8 @@ use Rattle.asyncio.specs.declared.Error.{Error}
 use Rattle.asyncio.specs.declared.TaskState.{TaskState}
 use Rattle.asyncio.specs.declared.Task.{Task}
 use Rattle.asyncio.specs.declared.Awaiter.{Awaiter}
-use Rattle.asyncio.specs.declared.OptionValue.{OptionValue}
+use Rattle.asyncio.specs.Options.{OptionValue}
+use Rattle.std.specs.Prelude.{None}
 use Rattle.asyncio.specs.declared.CoroutineState.{CoroutineState}
 use Rattle.asyncio.specs.declared.ExternalFutureState.{ExternalFutureState}
 use Rattle.asyncio.specs.declared.GatherState.{GatherState}
@@ -221,7 +222,7 @@ make_settled s v =
 -- the items in the places from p on
 unfoldable pub put_items : Store → ℕ → List ℕ → Store
 put_items s p [] = s
-put_items s p (o ∷ os) = put_items (put_place s p (record { item = heap_id o; result = OptionValue.None })) (p + 1) os
+put_items s p (o ∷ os) = put_items (put_place s p (record { item = heap_id o; result = None })) (p + 1) os
 
 -- a gather of the items, not committed
 unfoldable pub make_gather : Store → List ℕ → Store

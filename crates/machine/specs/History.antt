@@ -4,7 +4,8 @@ use Rattle.std.specs.Prelude.{ℕ, zero, suc, Bool, true, false, not, ◌&&◌, 
 use Rattle.std.proofs.Math.Option.{Option, none, some}
 use Rattle.asyncio.specs.declared.Value.{Value}
 use Rattle.asyncio.specs.declared.Error.{Error}
-use Rattle.asyncio.specs.declared.OptionValue.{OptionValue}
+use Rattle.asyncio.specs.Options.{OptionValue}
+use Rattle.std.specs.Prelude.{None, Some}
 use Rattle.asyncio.specs.States.{pick}
 use Rattle.asyncio.specs.declared.HeapId.{HeapId}
 use Rattle.asyncio.specs.Numbers.{heap_id}
@@ -245,8 +246,8 @@ reply_error r = pick (eqb r.kind 1) (to_error 0 r.number) (pick (eqb r.kind 3) E
 
 -- the stored value or, without one, the result's. (Document 01's words: the machine's own `value_or` is not used here.)
 unfoldable pub stored_or : OptionValue → Value → Value
-stored_or OptionValue.None v = v
-stored_or (OptionValue.Some x) v = x
+stored_or None v = v
+stored_or (Some x) v = x
 
 -- a pending external, by the first result not of kind 2
 unfoldable pub reply_outcome : OptionValue → Option Result → Option (Outcome Value Error)

@@ -6,7 +6,8 @@ use Rattle.asyncio.specs.declared.HeapId.{HeapId}
 use Rattle.asyncio.specs.declared.TaskId.{TaskId}
 use Rattle.asyncio.specs.declared.Value.{Value}
 use Rattle.asyncio.specs.declared.Error.{Error}
-use Rattle.asyncio.specs.declared.OptionValue.{OptionValue}
+use Rattle.asyncio.specs.Options.{OptionValue}
+use Rattle.std.specs.Prelude.{None, Some}
 use Rattle.asyncio.specs.declared.CoroutineState.{CoroutineState}
 use Rattle.asyncio.specs.declared.ExternalFutureState.{ExternalFutureState}
 use Rattle.asyncio.specs.declared.GatherState.{GatherState}
@@ -163,8 +164,8 @@ refusal s e = first_refusal ((2, not (sound s)) ∷ refusals s e)
 -- open, or the value
 unfoldable pub slot_value : Bool → OptionValue → Option Value
 slot_value true x = none
-slot_value false OptionValue.None = none
-slot_value false (OptionValue.Some v) = some v
+slot_value false None = none
+slot_value false (Some v) = some v
 
 -- n places from p on, with the open ones
 unfoldable pub show_places : Store → ℕ → ℕ → ℕ → ℕ → List (Option Value)

@@ -7,7 +7,8 @@ use Rattle.asyncio.specs.declared.HeapId.{HeapId}
 use Rattle.asyncio.specs.declared.CallId.{CallId}
 use Rattle.asyncio.specs.declared.TaskId.{TaskId}
 use Rattle.asyncio.specs.declared.Value.{Value}
-use Rattle.asyncio.specs.declared.OptionValue.{OptionValue}
+use Rattle.asyncio.specs.Options.{OptionValue}
+use Rattle.std.specs.Prelude.{None, Some}
 use Rattle.asyncio.specs.declared.TaskState.{TaskState}
 use Rattle.asyncio.specs.declared.Awaiter.{Awaiter}
 use Rattle.asyncio.specs.declared.ExternalFutureState.{ExternalFutureState}
@@ -120,8 +121,8 @@ value_known made os (Value.List g) = ltb g.0 made and is_completed (kind (os g.0
 
 -- a value or none
 unfoldable pub option_known : ℕ → (ℕ → Object) → OptionValue → Bool
-option_known made os OptionValue.None = true
-option_known made os (OptionValue.Some v) = value_known made os v
+option_known made os None = true
+option_known made os (Some v) = value_known made os v
 
 -- the value or stored result that an object holds
 unfoldable pub object_values : ℕ → (ℕ → Object) → Object → Bool
@@ -229,8 +230,8 @@ blocked_match h os ts =
 
 -- a value is there
 unfoldable pub is_filled : OptionValue → Bool
-is_filled OptionValue.None = false
-is_filled (OptionValue.Some v) = true
+is_filled None = false
+is_filled (Some v) = true
 
 -- the places not open are filled
 unfoldable pub rest_filled : (ℕ → Place) → ℕ → ℕ → ℕ → Bool

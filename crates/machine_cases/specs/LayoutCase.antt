@@ -2,7 +2,7 @@
 -- row against LAYOUT.md.
 use Rattle.std.specs.Prelude.{◌≡◌, refl, ℕ, List, [], ◌∷◌, take, drop}
 use Rattle.asyncio.specs.declared.Value.{Value}
-use Rattle.asyncio.specs.declared.OptionValue.{OptionValue}
+use Rattle.std.specs.Prelude.{None}
 use Rattle.machine.specs.Store.{Store, fresh}
 use Rattle.machine.specs.Machine.{Event, after}
 use Rattle.machine.specs.Computes.{computes}
@@ -11,7 +11,7 @@ use Rattle.machine.specs.Computes.{computes}
 unfoldable pub waiting : Store
 waiting =
     after fresh
-    (Event.coroutine 7 ∷ Event.call ∷ Event.pending 0 OptionValue.None ∷ Event.gather (0 ∷ 1 ∷ 0 ∷ []) ∷ Event.await 2 ∷ Event.complete (Value.Plain 40) ∷ [])
+    (Event.coroutine 7 ∷ Event.call ∷ Event.pending 0 None ∷ Event.gather (0 ∷ 1 ∷ 0 ∷ []) ∷ Event.await 2 ∷ Event.complete (Value.Plain 40) ∷ [])
 
 -- the header: 3 objects made, 3 places used, 1 call handed out, 2 tasks, waiting
 pub header_words : take 8 waiting.objects ≡ 3 ∷ 3 ∷ 1 ∷ 2 ∷ 1 ∷ 0 ∷ 0 ∷ 0 ∷ []

@@ -2,7 +2,7 @@
 use Rattle.std.specs.Prelude.{List, [], ◌∷◌, true, false, replicate}
 use Rattle.std.proofs.Math.Option.{none, some}
 use Rattle.asyncio.specs.declared.Error.{Error}
-use Rattle.asyncio.specs.declared.OptionValue.{OptionValue}
+use Rattle.std.specs.Prelude.{Some}
 use Rattle.asyncio.specs.declared.CoroutineState.{CoroutineState}
 use Rattle.machine.specs.Events.{runs, waits, start, value, raises, inline}
 use Rattle.machine.specs.Machine.{Event, Answer, Shown}
@@ -79,7 +79,7 @@ more_cases =
     -- P8 stored 8, host 5: 8
     answered (
     Event.call ⇒ Answer.called 0 ∷
-    Event.pending 0 (OptionValue.Some (plain 8)) ⇒ Answer.made 0 ∷
+    Event.pending 0 (Some (plain 8)) ⇒ Answer.made 0 ∷
     Event.await 0 ⇒ Answer.awaited (waits (0 ∷ [])) 0 ∷
     Event.results (return 0 5 ∷ []) ⇒ Answer.done ∷
     Event.resume ⇒ Answer.control (runs 0 (value (plain 8))) ∷
@@ -312,7 +312,7 @@ more_cases =
     Event.gather (0 ∷ 2 ∷ []) ⇒ Answer.refused 5 ∷
     Event.complete (list 0) ⇒ Answer.refused 5 ∷
     Event.settled (list 0) ⇒ Answer.refused 5 ∷
-    Event.pending 0 (OptionValue.Some (list 0)) ⇒ Answer.refused 5 ∷
+    Event.pending 0 (Some (list 0)) ⇒ Answer.refused 5 ∷
     Event.settled (plain 1) ⇒ Answer.made 2 ∷
     Event.call ⇒ Answer.called 2 ∷
     Event.gather (replicate 32 2) ⇒ Answer.made 3 ∷

@@ -2,7 +2,7 @@
 -- machine's `SoundCases` has the sessions.)
 use Rattle.std.specs.Prelude.{◌≡◌, refl, ℕ, suc, Bool, true, false, List, [], ◌∷◌, map, set}
 use Rattle.asyncio.specs.declared.Value.{Value}
-use Rattle.asyncio.specs.declared.OptionValue.{OptionValue}
+use Rattle.std.specs.Prelude.{None, Some}
 use Rattle.asyncio.specs.declared.TaskState.{TaskState}
 use Rattle.asyncio.specs.declared.Task.{Task}
 use Rattle.asyncio.specs.declared.Awaiter.{Awaiter}
@@ -41,7 +41,7 @@ more_stores =
     -- rows at or past the counts are not in use: they may hold anything
     put_task fresh 5 (a_task TaskState.Running (slot_of 9 9) 9) ∷
     put_object fresh 3 (Object.GatherFuture 7 30 (GatherState.Awaited (Awaiter.Task (task_id 9)) 5)) ∷
-    put_place fresh 100 (record { item = heap_id 9; result = OptionValue.Some (Value.List (heap_id 9)) }) ∷
+    put_place fresh 100 (record { item = heap_id 9; result = Some (Value.List (heap_id 9)) }) ∷
     -- the words behind the queue's count are free
     put_queue fresh (record { ids = set fresh.queue.ids 0 9; len = 0 }) ∷
     -- not sound: an unknown tag; a word that is not in use and not 0
@@ -62,11 +62,11 @@ more_stores =
     put_object started 3 (Object.GatherFuture 0 3 (GatherState.Awaited (Awaiter.Task (task_id 0)) 15)) ∷
     put_object started 3 (Object.GatherFuture 1 3 (GatherState.Awaited (Awaiter.Task (task_id 0)) 7)) ∷
     -- a call that was not handed out
-    put_object started 2 (Object.ExternalFuture (call_id 1) (ExternalFutureState.Pending (slot_of 3 2) OptionValue.None)) ∷
+    put_object started 2 (Object.ExternalFuture (call_id 1) (ExternalFutureState.Pending (slot_of 3 2) None)) ∷
     -- more tasks than places
     set_next started 5 ∷
     -- an item that is not lower than its gather; a list of a gather not completed
-    put_place started 0 (record { item = heap_id 3; result = OptionValue.None }) ∷
+    put_place started 0 (record { item = heap_id 3; result = None }) ∷
     set_state woken 0 (TaskState.Woken (Value.List (heap_id 0))) ∷
     -- a queue entry twice; one that runs
     put_queue started (push_back started.queue 2) ∷

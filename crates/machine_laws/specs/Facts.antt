@@ -2,7 +2,7 @@
 use Rattle.std.specs.Prelude.{◌≡◌, true, false, ℕ, suc, ◌+◌, ◌≤◌, ◌<◌, T, length}
 use Rattle.std.proofs.Math.Option.{some}
 use Rattle.asyncio.specs.declared.Awaiter.{Awaiter}
-use Rattle.asyncio.specs.declared.OptionValue.{OptionValue}
+use Rattle.std.specs.Prelude.{None}
 use Rattle.asyncio.specs.declared.Object.{Object}
 use Rattle.asyncio.specs.declared.Place.{Place}
 use Rattle.asyncio.specs.Numbers.{heap_id, task_id}
@@ -116,7 +116,7 @@ pub record AddFits (v : View) (x : Object) (n : ℕ) (ps : ℕ → Place) (c : �
   pub free : awaiter_of x ≡ Awaiter.Nobody
   pub filled : T (object_filled ps x)
   pub old_places : (p : ℕ) → p < v.header.used → ps p ≡ v.places p
-  pub new_places : (p : ℕ) → v.header.used ≤ p → p < v.header.used + n → (ps p).result ≡ OptionValue.None
+  pub new_places : (p : ℕ) → v.header.used ≤ p → p < v.header.used + n → (ps p).result ≡ None
 
 -- ---- the words, which no view shows
 

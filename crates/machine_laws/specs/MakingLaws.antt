@@ -11,7 +11,8 @@ use Rattle.std.proofs.Math.ListN.{length}
 use Rattle.asyncio.specs.declared.TaskId.{TaskId}
 use Rattle.asyncio.specs.declared.HeapId.{HeapId}
 use Rattle.asyncio.specs.declared.Value.{Value}
-use Rattle.asyncio.specs.declared.OptionValue.{OptionValue}
+use Rattle.asyncio.specs.Options.{OptionValue}
+use Rattle.std.specs.Prelude.{None, Some}
 use Rattle.asyncio.specs.declared.Task.{Task}
 use Rattle.asyncio.specs.declared.Awaiter.{Awaiter}
 use Rattle.asyncio.specs.declared.CoroutineState.{CoroutineState}
@@ -318,8 +319,8 @@ value-fits n os (Value.List g) l t = omega (arith, ltb→lt g.0 n (both_left _ _
 
 pub option_fits : (n : ℕ) (os : ℕ → Object) (r : OptionValue) → n ≤ object_limit → T (option_known n os r) → OptionFits r
 unfolding option_known
-option_fits n os OptionValue.None l t = tt
-option_fits n os (OptionValue.Some v) l t = value-fits n os v l t
+option_fits n os None l t = tt
+option_fits n os (Some v) l t = value-fits n os v l t
 
 module _ (s : Store) (z : Sized s) (h : SoundFacts (view s)) (l : (header s).made < object_limit) where
   add-sound : (x : Object) (n : ℕ) → ObjectFits x → (header s).used + n ≤ place_limit → AddFits (view s) x n (place s) (header s).calls
@@ -440,7 +441,7 @@ module _ (s : Store) (z : Sized s) where
 
 -- a place that names o, with no result yet
 abbrev pub blank : ℕ → Place
-blank o = record { item = heap_id o; result = OptionValue.None }
+blank o = record { item = heap_id o; result = None }
 
 pub items-view : (os : List ℕ) (s : Store) (p : ℕ) → view (put_items s p os) ≡ with_places (view s) (place (put_items s p os))
 unfolding put_items with_places view put_place task object header
@@ -460,7 +461,7 @@ items-before (o ∷ os) s p q l =
 
 -- a place that names an object below n, with no result yet
 record Fresh (n : ℕ) (r : Place) : Type 0 where
-  empty : r.result ≡ OptionValue.None
+  empty : r.result ≡ None
   lower : r.item.0 < n
 
 items_there : (os : List ℕ) (s : Store) (p q n : ℕ) → Sized s → n ≤ object_limit → AllBelow n os → p ≤ q → q < p + length os → p + length os ≤ place_limit

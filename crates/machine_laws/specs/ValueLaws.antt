@@ -3,7 +3,8 @@ use Rattle.std.specs.Prelude.{ℕ, ◌≤◌, ◌<◌, ltb}
 use Rattle.std.proofs.Math.Dec.{T}
 use Rattle.std.proofs.Common.{ltb→lt}
 use Rattle.asyncio.specs.declared.Value.{Value}
-use Rattle.asyncio.specs.declared.OptionValue.{OptionValue}
+use Rattle.asyncio.specs.Options.{OptionValue}
+use Rattle.std.specs.Prelude.{None, Some}
 use Rattle.asyncio.specs.declared.TaskState.{TaskState}
 use Rattle.asyncio.specs.declared.ExternalFutureState.{ExternalFutureState}
 use Rattle.asyncio.specs.declared.Object.{Object}
@@ -21,8 +22,8 @@ module _ (m n : ℕ) (l : m ≤ n) (os ps : ℕ → Object) (same : (o : ℕ) �
 
   pub option_stays : (r : OptionValue) → T (option_known m os r) → T (option_known n ps r)
   unfolding option_known
-  option_stays OptionValue.None t = t
-  option_stays (OptionValue.Some v) t = value_stays v t
+  option_stays None t = t
+  option_stays (Some v) t = value_stays v t
 
   pub object-stays : (x : Object) → T (object_values m os x) → T (object_values n ps x)
   unfolding object_values

@@ -11,7 +11,8 @@ use Rattle.std.proofs.Math.Dec.{ltb}
 use Rattle.asyncio.specs.declared.CallId.{CallId}
 use Rattle.asyncio.specs.declared.Value.{Value}
 use Rattle.asyncio.specs.declared.Error.{Error}
-use Rattle.asyncio.specs.declared.OptionValue.{OptionValue}
+use Rattle.asyncio.specs.Options.{OptionValue}
+use Rattle.std.specs.Prelude.{Some}
 use Rattle.asyncio.specs.declared.TaskState.{TaskState}
 use Rattle.asyncio.specs.declared.Awaiter.{Awaiter}
 use Rattle.asyncio.specs.declared.CoroutineState.{CoroutineState}
@@ -56,13 +57,13 @@ pub data Turns : Object → Object → Type 0 where
 -- K is kept by each write of a commit
 pub record Commits (K : Store → Type 0) : Type 0 where
   pub row : (s : Store) (o : ℕ) (x : Object) → o < object_limit → Turns (object s o) x → K s → K (put_object s o x)
-  pub value_put : (s : Store) (p : ℕ) (v : Value) → K s → K (put_place s p (record { item = (place s p).item; result = OptionValue.Some v }))
+  pub value_put : (s : Store) (p : ℕ) (v : Value) → K s → K (put_place s p (record { item = (place s p).item; result = Some v }))
   pub spawns : (s : Store) (c g : ℕ) → (header s).next < task_limit → K s → K (spawn_as s (header s).next c g)
 
 -- the same, where a task is spawned for a new coroutine without a live task
 pub record NewCommits (K : Store → Type 0) : Type 0 where
   pub row : (s : Store) (o : ℕ) (x : Object) → o < object_limit → Turns (object s o) x → K s → K (put_object s o x)
-  pub value_put : (s : Store) (p : ℕ) (v : Value) → K s → K (put_place s p (record { item = (place s p).item; result = OptionValue.Some v }))
+  pub value_put : (s : Store) (p : ℕ) (v : Value) → K s → K (put_place s p (record { item = (place s p).item; result = Some v }))
   pub spawns : (s : Store) (c g f : ℕ) → (header s).next < task_limit → c < object_limit → object s c ≡ Object.Coroutine f CoroutineState.New → task_of s c ≡ none → K s
       → K (spawn_as s (header s).next c g)
 

@@ -10,7 +10,7 @@ use Rattle.std.proofs.Math.Dec.{eqb}
 use borrow.Author.Tests.{eqb-true, leb-false}
 use Rattle.asyncio.specs.declared.Value.{Value}
 use Rattle.asyncio.specs.declared.Error.{Error}
-use Rattle.asyncio.specs.declared.OptionValue.{OptionValue}
+use Rattle.std.specs.Prelude.{None}
 use Rattle.asyncio.specs.declared.TaskState.{TaskState}
 use Rattle.asyncio.specs.declared.ExternalFutureState.{ExternalFutureState}
 use Rattle.asyncio.specs.declared.Object.{Object}
@@ -36,7 +36,7 @@ pub record Writes (K : Store → Type 0) : Type 0 where
       → K (put_object s o (Object.ExternalFuture p.call y))
   pub completes : (s : Store) (o : ℕ) → o < object_limit → K s → K (put_object s o (completed (object s o)))
   pub adds : (s : Store) (x : Object) (n : ℕ) → K s → K (add_object s x n)
-  pub names : (s : Store) (p o : ℕ) → K s → K (put_place s p (record { item = heap_id o; result = OptionValue.None }))
+  pub names : (s : Store) (p o : ℕ) → K s → K (put_place s p (record { item = heap_id o; result = None }))
 
 -- an event that hands out a call number
 unfoldable pub HandsOut : Event → Type 0

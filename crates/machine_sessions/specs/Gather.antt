@@ -37,7 +37,7 @@ use Rattle.asyncio.specs.declared.Value.{Value}
 use Rattle.asyncio.specs.declared.Error.{Error}
 use Rattle.asyncio.specs.declared.GatherState.{GatherState}
 use Rattle.asyncio.specs.declared.Object.{Object}
-use Rattle.asyncio.specs.declared.OptionValue.{OptionValue}
+use Rattle.asyncio.specs.Options.{OptionValue}
 use Rattle.asyncio.specs.Numbers.{heap_id}
 use Rattle.asyncio.specs.Layout.{to_value, to_error}
 use Rattle.asyncio.specs.States.{pick}

@@ -12,7 +12,6 @@ use Rattle.asyncio.specs.RangeLaws.{pick_has}
 use Rattle.asyncio.specs.Layout.{task_words, to_task, header_words, to_header}
 use Rattle.asyncio.specs.declared.Value.{Value}
 use Rattle.asyncio.specs.declared.Error.{Error}
-use Rattle.asyncio.specs.declared.OptionValue.{OptionValue}
 use Rattle.asyncio.specs.declared.Awaiter.{Awaiter}
 use Rattle.asyncio.specs.declared.TaskId.{TaskId}
 use Rattle.asyncio.specs.declared.TaskState.{TaskState}

@@ -13,7 +13,7 @@ ghost use Rattle.step_read.specs.Reads.{show_answer};
 ghost use Rattle.step_event.specs.EventOf.{event_of};
 ghost use Rattle.records_session.specs.RecordsContract.{RecordsStep, RecordsBegin, RecordsRead};
 
-use asyncio::{OptionValue, TASKS_LEN, Value};
+use asyncio::{TASKS_LEN, Value};
 use exec_switch::answer::{Answer, Stepped};
 use queue::ReadyQueue;
 use records_tasks::{TaskRecord, load, save};
@@ -146,7 +146,7 @@ pub fn pending(
     calls: &mut [u64],
     queue: ReadyQueue,
     call: u32,
-    stored: OptionValue,
+    stored: Option<Value>,
 ) -> Answered
     ensures { RecordsStep tasks objects places calls queue (machine.Event.pending call stored) result }
 {

@@ -1,7 +1,8 @@
 -- A record and the task that it stands for: each is read back from the other, and a record that does not fit has no canonical words.
 use Rattle.std.specs.Prelude.{◌≡◌, refl, true, false, List, ℕ, ◌+◌, ◌*◌, ◌≤◌, length}
 use Rattle.std.proofs.Common.{sym, ap, ◌∙◌, true≢false}
-use Rattle.asyncio.specs.declared.OptionValue.{OptionValue}
+use Rattle.asyncio.specs.Options.{OptionValue}
+use Rattle.std.specs.Prelude.{None, Some}
 use Rattle.asyncio.specs.declared.Task.{Task}
 use Rattle.asyncio.specs.declared.TaskState.{TaskState}
 use Rattle.rows.specs.Tables.{task_codec, task_start, task_put}
@@ -46,24 +47,24 @@ state_kept : (s : RecordState) (x : OptionValue) → fit_together s x ≡ true �
 state_kept RecordState.Absent x f = refl
 state_kept RecordState.Unstarted x f = refl
 state_kept RecordState.Running x f = refl
-state_kept RecordState.Woken OptionValue.None f = no_fit f
-state_kept RecordState.Woken (OptionValue.Some v) f = refl
+state_kept RecordState.Woken None f = no_fit f
+state_kept RecordState.Woken (Some v) f = refl
 state_kept (RecordState.Raised e) x f = refl
 state_kept (RecordState.Blocked o) x f = refl
 
 value-kept : (s : RecordState) (x : OptionValue) → fit_together s x ≡ true → delivered_in (state_with s x) ≡ x
-value-kept RecordState.Absent OptionValue.None f = refl
-value-kept RecordState.Absent (OptionValue.Some v) f = no_fit f
-value-kept RecordState.Unstarted OptionValue.None f = refl
-value-kept RecordState.Unstarted (OptionValue.Some v) f = no_fit f
-value-kept RecordState.Running OptionValue.None f = refl
-value-kept RecordState.Running (OptionValue.Some v) f = no_fit f
-value-kept RecordState.Woken OptionValue.None f = no_fit f
-value-kept RecordState.Woken (OptionValue.Some v) f = refl
-value-kept (RecordState.Raised e) OptionValue.None f = refl
-value-kept (RecordState.Raised e) (OptionValue.Some v) f = no_fit f
-value-kept (RecordState.Blocked o) OptionValue.None f = refl
-value-kept (RecordState.Blocked o) (OptionValue.Some v) f = no_fit f
+value-kept RecordState.Absent None f = refl
+value-kept RecordState.Absent (Some v) f = no_fit f
+value-kept RecordState.Unstarted None f = refl
+value-kept RecordState.Unstarted (Some v) f = no_fit f
+value-kept RecordState.Running None f = refl
+value-kept RecordState.Running (Some v) f = no_fit f
+value-kept RecordState.Woken None f = no_fit f
+value-kept RecordState.Woken (Some v) f = refl
+value-kept (RecordState.Raised e) None f = refl
+value-kept (RecordState.Raised e) (Some v) f = no_fit f
+value-kept (RecordState.Blocked o) None f = refl
+value-kept (RecordState.Blocked o) (Some v) f = no_fit f
 
 -- a record that fits is the record of the task that it stands for
 pub record_back : (r : TaskRecord) → fits r ≡ true → record_of (task_of r) ≡ r

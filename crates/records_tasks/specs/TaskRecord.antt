@@ -4,7 +4,8 @@ use Rattle.asyncio.specs.Limits.{object_limit}
 use Rattle.asyncio.specs.Numbers.{heap_id}
 use Rattle.asyncio.specs.States.{pick}
 use Rattle.asyncio.specs.declared.Awaiter.{Awaiter}
-use Rattle.asyncio.specs.declared.OptionValue.{OptionValue}
+use Rattle.asyncio.specs.Options.{OptionValue}
+use Rattle.std.specs.Prelude.{None, Some}
 use Rattle.asyncio.specs.declared.Task.{Task}
 use Rattle.asyncio.specs.declared.TaskState.{TaskState}
 use Rattle.records_tasks.specs.declared.RecordState.{RecordState}
@@ -23,12 +24,12 @@ state_in (TaskState.Blocked o) = RecordState.Blocked o
 
 -- the value delivered
 abbrev pub delivered_in : TaskState → OptionValue
-delivered_in TaskState.Absent = OptionValue.None
-delivered_in TaskState.Unstarted = OptionValue.None
-delivered_in TaskState.Running = OptionValue.None
-delivered_in (TaskState.Woken v) = OptionValue.Some v
-delivered_in (TaskState.Raised e) = OptionValue.None
-delivered_in (TaskState.Blocked o) = OptionValue.None
+delivered_in TaskState.Absent = None
+delivered_in TaskState.Unstarted = None
+delivered_in TaskState.Running = None
+delivered_in (TaskState.Woken v) = Some v
+delivered_in (TaskState.Raised e) = None
+delivered_in (TaskState.Blocked o) = None
 
 -- the record of a task
 abbrev pub record_of : Task → TaskRecord
@@ -46,8 +47,8 @@ is_woken (RecordState.Blocked o) = false
 
 -- a state, and a value or none, of one task
 abbrev pub fit_together : RecordState → OptionValue → Bool
-fit_together s OptionValue.None = not (is_woken s)
-fit_together s (OptionValue.Some v) = is_woken s
+fit_together s None = not (is_woken s)
+fit_together s (Some v) = is_woken s
 
 -- A record fits: a woken task has a value, and every other has none.
 abbrev pub fits : TaskRecord → Bool
@@ -55,8 +56,8 @@ fits r = fit_together r.state r.delivered
 
 -- woken with a value
 abbrev pub woken_with : OptionValue → TaskState
-woken_with OptionValue.None = TaskState.Absent
-woken_with (OptionValue.Some v) = TaskState.Woken v
+woken_with None = TaskState.Absent
+woken_with (Some v) = TaskState.Woken v
 
 -- the state, with the value delivered
 abbrev pub state_with : RecordState → OptionValue → TaskState
@@ -78,4 +79,4 @@ task_of r = pick (fits r) (record { state = state_with r.state r.delivered; awai
 
 -- what stands past the end of a slice of records
 abbrev pub no_record : TaskRecord
-no_record = record { state = RecordState.Absent; awaiter = Awaiter.Nobody; coroutine = heap_id 0; delivered = OptionValue.None }
+no_record = record { state = RecordState.Absent; awaiter = Awaiter.Nobody; coroutine = heap_id 0; delivered = None }

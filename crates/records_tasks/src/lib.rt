@@ -6,7 +6,7 @@ ghost use Rattle.asyncio.specs.Limits.{task_limit, tasks_length};
 ghost use Rattle.records_tasks.specs.TaskRecord.{no_record, state_in, delivered_in, record_of, is_woken, fits, woken_with, state_with, task_of};
 ghost use Rattle.records_tasks.specs.TaskRows.{rows_of, saved};
 
-use asyncio::{Awaiter, Error, HeapId, OptionValue, TASKS_LEN, Task, TaskId, TaskState};
+use asyncio::{Awaiter, Error, HeapId, TASKS_LEN, Task, TaskId, TaskState, Value};
 
 // A task's state, without the value that a woken task has.
 #[derive(Clone, Copy)]
@@ -26,7 +26,7 @@ pub struct TaskRecord {
     pub state: RecordState,
     pub awaiter: Awaiter,
     pub coroutine: HeapId,
-    pub delivered: OptionValue,
+    pub delivered: Option<Value>,
 }
 
 // ---- a record of a task
@@ -44,16 +44,16 @@ fn state_in(state: TaskState) -> RecordState
     }
 }
 
-fn delivered_in(state: TaskState) -> OptionValue
+fn delivered_in(state: TaskState) -> Option<Value>
     ensures { result ≡ delivered_in state }
 {
     match state {
-        TaskState::Absent => OptionValue::None,
-        TaskState::Unstarted => OptionValue::None,
-        TaskState::Running => OptionValue::None,
-        TaskState::Woken(v) => OptionValue::Some(v),
-        TaskState::Raised(_) => OptionValue::None,
-        TaskState::Blocked(_) => OptionValue::None,
+        TaskState::Absent => None,
+        TaskState::Unstarted => None,
+        TaskState::Running => None,
+        TaskState::Woken(v) => Some(v),
+        TaskState::Raised(_) => None,
+        TaskState::Blocked(_) => None,
     }
 }
 
@@ -94,21 +94,21 @@ pub fn fits(task: TaskRecord) -> bool
     let delivered = task.delivered;
     let woken = is_woken(state);
     match delivered {
-        OptionValue::None => !woken,
-        OptionValue::Some(_) => woken,
+        None => !woken,
+        Some(_) => woken,
     }
 }
 
-fn woken_with(delivered: OptionValue) -> TaskState
+fn woken_with(delivered: Option<Value>) -> TaskState
     ensures { result ≡ woken_with delivered }
 {
     match delivered {
-        OptionValue::None => TaskState::Absent,
-        OptionValue::Some(v) => TaskState::Woken(v),
+        None => TaskState::Absent,
+        Some(v) => TaskState::Woken(v),
     }
 }
 
-fn state_with(state: RecordState, delivered: OptionValue) -> TaskState
+fn state_with(state: RecordState, delivered: Option<Value>) -> TaskState
     ensures { result ≡ state_with state delivered }
 {
     match state {

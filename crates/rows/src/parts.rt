@@ -5,7 +5,7 @@ ghost use Rattle.asyncio.specs.Parts.{awaiter_of, call_of, first_of, count_of, o
 ghost use Rattle.rows.specs.Slices.{TaskRow, ObjectRow, PlaceRow, task_in, object_in, place_in};
 
 use asyncio::words::{to_awaiter, to_count, to_first, to_kind, to_option, to_state, to_u32};
-use asyncio::{Awaiter, CallId, HeapId, Kind, OptionValue, TaskId, TaskState};
+use asyncio::{Awaiter, CallId, HeapId, Kind, TaskId, TaskState, Value};
 
 // ---- objects
 
@@ -128,7 +128,7 @@ pub fn item_at(places: &[u64], p: usize) -> HeapId
     HeapId::from_word(places[at])
 }
 
-pub fn result_at(places: &[u64], p: usize) -> OptionValue
+pub fn result_at(places: &[u64], p: usize) -> Option<Value>
     requires { PlaceRow places.now p }
     ensures { result ≡ (place_in places p).result }
 {

@@ -2,7 +2,7 @@
 ghost use Rattle.std.specs.Prelude.{◌≡◌, ◌+◌, get_or};
 ghost use Rattle.rows.specs.Tables.{place_at};
 
-use asyncio::OptionValue;
+use asyncio::Value;
 use asyncio::words::to_option;
 
 fn word_at(words: &[u64], i: usize) -> u64
@@ -15,7 +15,7 @@ fn word_at(words: &[u64], i: usize) -> u64
 }
 
 // The result of place `i` of a gather that starts at `first`.
-pub fn result_at(places: &[u64], first: u16, i: u16) -> OptionValue
+pub fn result_at(places: &[u64], first: u16, i: u16) -> Option<Value>
     ensures { result ≡ (place_at places.now (first + i)).result }
 {
     let p = first as usize + i as usize;

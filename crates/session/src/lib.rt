@@ -1,7 +1,7 @@
 // The library that a host links: a session is begun, gets its events, and is read. docs/HOST.md says how, with an example that is run (`test_host`).
 #![tactic(auto)]
 
-pub use asyncio::{CallId, CoroutineState, Error, HeapId, OptionValue, TaskId, Value};
+pub use asyncio::{CallId, CoroutineState, Error, HeapId, TaskId, Value};
 pub use exec_switch::answer::{Answer, Stepped};
 pub use exec_switch::control::{Control, How};
 pub use queue::ReadyQueue;

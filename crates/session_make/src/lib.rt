@@ -7,7 +7,7 @@
 ghost use Rattle.machine.specs.Machine as machine;
 ghost use Rattle.step_event.specs.LentStep.{LentStep};
 
-use asyncio::{OptionValue, Value};
+use asyncio::{Value};
 use queue::ReadyQueue;
 use session_dispatch::{dispatch, dispatch_plain};
 use step_event::{Answered, Event};
@@ -55,7 +55,7 @@ pub fn pending(
     calls: &mut [u64],
     queue: ReadyQueue,
     call: u32,
-    stored: OptionValue,
+    stored: Option<Value>,
 ) -> Answered
     ensures { LentStep tasks objects places calls queue (machine.Event.pending call stored) result }
 {

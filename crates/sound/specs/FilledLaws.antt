@@ -9,7 +9,7 @@ use Rattle.asyncio.specs.declared.ExternalFutureState.{ExternalFutureState}
 use Rattle.asyncio.specs.declared.GatherState.{GatherState}
 use Rattle.asyncio.specs.declared.Kind.{Kind}
 use Rattle.asyncio.specs.declared.Object.{Object}
-use Rattle.asyncio.specs.declared.OptionValue.{OptionValue}
+use Rattle.asyncio.specs.Options.{OptionValue}
 use Rattle.asyncio.specs.declared.Place.{Place}
 use Rattle.rows.specs.Tables.{object_at, place_at}
 use Rattle.machine.specs.Tests.{◌and◌}

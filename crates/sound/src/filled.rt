@@ -6,16 +6,16 @@ ghost use Rattle.contract.specs.Contract.{ObjectsLengthAnd, PlacesLengthAnd};
 ghost use Rattle.machine.specs.Scheduler.{bit};
 ghost use Rattle.machine.specs.Sound.{is_filled, rest_filled, object_filled, places_filled};
 
-use asyncio::{HeapId, OptionValue};
+use asyncio::{HeapId, Value};
 use rows::parts::{count_at, first_at, kind_at, open_at, result_at};
 
 // A value is there.
-fn is_filled(x: OptionValue) -> bool
+fn is_filled(x: Option<Value>) -> bool
     ensures { result ≡ is_filled x }
 {
     match x {
-        OptionValue::None => false,
-        OptionValue::Some(_) => true,
+        None => false,
+        Some(_) => true,
     }
 }
 

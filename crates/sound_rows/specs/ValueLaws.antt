@@ -6,7 +6,7 @@ use Rattle.asyncio.specs.Parts.{first_of, count_of}
 use Rattle.asyncio.specs.RangeLaws.{pick_has}
 use Rattle.asyncio.specs.declared.Kind.{Kind}
 use Rattle.asyncio.specs.declared.Object.{Object}
-use Rattle.asyncio.specs.declared.OptionValue.{OptionValue}
+use Rattle.asyncio.specs.Options.{OptionValue}
 use Rattle.asyncio.specs.declared.Place.{Place}
 use Rattle.asyncio.specs.declared.Value.{Value}
 use Rattle.rows.specs.Rows.{row_from}

@@ -8,7 +8,7 @@ ghost use Rattle.machine.specs.Sound.{items_lower, value_known, option_known, ob
 ghost use Rattle.asyncio.specs.Ranges.{HeaderFits};
 
 use asyncio::words::{to_option, to_value};
-use asyncio::{Header, HeapId, OptionValue, TaskId, TaskState, Value};
+use asyncio::{Header, HeapId, TaskId, TaskState, Value};
 use rows::parts::{count_at, first_at, item_at, kind_at, result_at, state_at};
 use rows::tables::object_row;
 
@@ -70,13 +70,13 @@ pub fn value_known(made: u16, objects: &[u64], v: Value) -> bool
 }
 
 // A value, or none.
-pub fn option_known(made: u16, objects: &[u64], x: OptionValue) -> bool
+pub fn option_known(made: u16, objects: &[u64], x: Option<Value>) -> bool
     requires { ObjectsLengthAnd objects.now (made ≤ object_limit) }
     ensures { result ≡ option_known made (object_in objects) x }
 {
     match x {
-        OptionValue::None => true,
-        OptionValue::Some(v) => value_known(made, objects, v),
+        None => true,
+        Some(v) => value_known(made, objects, v),
     }
 }
 

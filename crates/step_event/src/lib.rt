@@ -9,7 +9,7 @@ ghost use Rattle.step_checks.specs.Checked.{checked};
 ghost use Rattle.step_event.specs.EventOf.{event_of};
 ghost use Rattle.step_event.specs.LentStep.{LentStep};
 
-use asyncio::{OptionValue, Value};
+use asyncio::{Value};
 use exec_switch::answer::{Answer, Stepped};
 use queue::ReadyQueue;
 
@@ -18,7 +18,7 @@ use queue::ReadyQueue;
 pub enum Event {
     Coroutine(u32),
     Call,
-    Pending { call: u32, stored: OptionValue },
+    Pending { call: u32, stored: Option<Value> },
     Settled(Value),
     Gather,
     Await(u16),

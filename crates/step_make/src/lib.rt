@@ -8,7 +8,7 @@ ghost use Rattle.step_checks.specs.Checked.{checked};
 ghost use Rattle.contract.specs.Contract.{ObjectsLength, PlacesLength};
 ghost use Rattle.exec_switch.specs.Answer.{AnswersOfObjects, AnswersOfObjectsAndPlaces};
 
-use asyncio::{CallId, OptionValue, Value};
+use asyncio::{CallId, Value};
 use exec_futures::making::{
     allocate_call_id, make_coroutine, make_gather, push_pending_future, settled_awaitable,
 };
@@ -61,7 +61,7 @@ pub fn call(objects: &mut [u64]) -> Answer
 }
 
 // An external of a call is made pending, with a stored result or none.
-pub fn pending(objects: &mut [u64], call: u32, stored: OptionValue) -> Answer
+pub fn pending(objects: &mut [u64], call: u32, stored: Option<Value>) -> Answer
     requires { ObjectsLength objects.old }
     ensures { AnswersOfObjects objects
         (λ s. checked s (Event.pending call stored)) result }

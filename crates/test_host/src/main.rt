@@ -7,7 +7,7 @@
 mod lines; // an answer's line
 mod memory; // the memory that the host lends, and keeps
 
-use asyncio::{OptionValue, Value};
+use asyncio::{Value};
 use memory::{Memory, begin, damaged, enter, enter_short, read};
 use session::Event;
 use std::io::Stdout;
@@ -22,7 +22,7 @@ fn awaited_gather(stdout: Stdout, fresh: Memory) -> Memory {
         3,
         Event::Pending {
             call: 0,
-            stored: OptionValue::None,
+            stored: None,
         },
     );
     let gathered = enter(stdout, pending, 4, Event::Gather);
@@ -49,7 +49,7 @@ fn cancels(stdout: Stdout, fresh: Memory) -> Memory {
         7,
         Event::Pending {
             call: 1,
-            stored: OptionValue::None,
+            stored: None,
         },
     );
     let waiting = enter(stdout, pending, 8, Event::Await(3));

@@ -1,7 +1,7 @@
 // An entry of the library, by its number, on the slices as they are lent.
 use crate::compare::words_changed;
 use crate::store::{Lengths, Store};
-use asyncio::{OptionValue, Value};
+use asyncio::{Value};
 use exec_switch::answer::Answer;
 use queue::ReadyQueue;
 use session_begin::begin;
@@ -16,7 +16,7 @@ fn event_of(kind: u64, n: u64) -> Event {
         2 => Event::Call,
         3 => Event::Pending {
             call: (n % 4294967296) as u32,
-            stored: OptionValue::None,
+            stored: None,
         },
         4 => Event::Settled(Value::Plain(n)),
         5 => Event::Gather,

@@ -9,7 +9,7 @@ use Rattle.std.proofs.Math.Option.{Option, none, some, some-injective}
 use Rattle.std.proofs.Math.Decide.{ℕ_discrete}
 use Rattle.asyncio.specs.declared.Value.{Value}
 use Rattle.asyncio.specs.declared.Error.{Error}
-use Rattle.asyncio.specs.declared.OptionValue.{OptionValue}
+use Rattle.std.specs.Prelude.{Some}
 use Rattle.asyncio.specs.declared.Awaiter.{Awaiter}
 use Rattle.asyncio.specs.declared.TaskState.{TaskState}
 use Rattle.asyncio.specs.declared.Task.{Task}
@@ -130,7 +130,7 @@ module _ (s : Store) where
       }
     where
       row : Place
-      row = record { item = (place u (w.first + i)).item; result = OptionValue.Some v }
+      row = record { item = (place u (w.first + i)).item; result = Some v }
 
       by : (p : ℕ) → Dec (p ≡ w.first + i) → (place (put_place u (w.first + i) row) p).item.0 ≡ (place u p).item.0
       by p (yes d) =

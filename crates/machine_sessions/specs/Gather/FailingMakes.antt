@@ -5,7 +5,8 @@ use Rattle.std.proofs.Common.{sym, ap, subst, ◌∙◌, inl, inr, not-suc-le-ze
 use Rattle.std.proofs.Math.Option.{Option, none, some}
 use Rattle.std.proofs.Math.Decide.{ℕ_discrete}
 use Rattle.asyncio.specs.declared.Value.{Value}
-use Rattle.asyncio.specs.declared.OptionValue.{OptionValue}
+use Rattle.asyncio.specs.Options.{OptionValue}
+use Rattle.std.specs.Prelude.{None}
 use Rattle.asyncio.specs.declared.Awaiter.{Awaiter}
 use Rattle.asyncio.specs.declared.Object.{Object}
 use Rattle.asyncio.specs.declared.Task.{Task}
@@ -33,7 +34,7 @@ use Rattle.machine_sessions.specs.Gather.FailingEvents.{same_ends, pending_await
 items-objects : (os : List ℕ) (s : Store) (p o : ℕ) → object (put_items s p os) o ≡ object s o
 unfolding put_items object put_place
 items-objects [] s p o = refl
-items-objects (x ∷ os) s p o = items-objects os (put_place s p (record { item = heap_id x; result = OptionValue.None })) (p + 1) o
+items-objects (x ∷ os) s p o = items-objects os (put_place s p (record { item = heap_id x; result = None })) (p + 1) o
 
 -- rows as they were: awaiters too
 same_takes : (s u : Store) → ((o : ℕ) → object u o ≡ object s o) → (o : ℕ) (r : PendingExternal) → as_pending (object u o) ≡ some r → Took s o r.awaiter

@@ -18,7 +18,6 @@ use Rattle.asyncio.specs.declared.GatherState.{GatherState}
 use Rattle.asyncio.specs.declared.Object.{Object}
 use Rattle.asyncio.specs.declared.Moment.{Moment}
 use Rattle.asyncio.specs.declared.Header.{Header}
-use Rattle.asyncio.specs.declared.OptionValue.{OptionValue}
 use Rattle.asyncio.specs.Numbers.{task_id}
 use Rattle.asyncio.specs.Layout.{to_value, to_object, object_words}
 use Rattle.asyncio.specs.RangeLaws.{pick_has}

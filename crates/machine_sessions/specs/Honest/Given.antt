@@ -7,7 +7,7 @@ use native.Mathlib.Omega.{arith}
 use Rattle.std.proofs.Math.Decide.{ℕ_discrete}
 use Rattle.asyncio.specs.declared.Value.{Value}
 use Rattle.asyncio.specs.declared.Error.{Error}
-use Rattle.asyncio.specs.declared.OptionValue.{OptionValue}
+use Rattle.std.specs.Prelude.{None}
 use Rattle.asyncio.specs.declared.Awaiter.{Awaiter}
 use Rattle.asyncio.specs.declared.TaskState.{TaskState}
 use Rattle.asyncio.specs.declared.Task.{Task}
@@ -76,7 +76,7 @@ fate_back o Object.Unmade f = refl
 fate_back o (Object.Coroutine g CoroutineState.New) f = refl
 fate_back o (Object.Coroutine g CoroutineState.Running) f = refl
 fate_back o (Object.Coroutine g CoroutineState.Completed) f = refl
-fate_back o (Object.ExternalFuture c (ExternalFutureState.Pending a r)) f = ap (fate o) (object_back (Object.ExternalFuture (call_id 0) (ExternalFutureState.Pending a OptionValue.None)) (omega arith, (f, tt)))
+fate_back o (Object.ExternalFuture c (ExternalFutureState.Pending a r)) f = ap (fate o) (object_back (Object.ExternalFuture (call_id 0) (ExternalFutureState.Pending a None)) (omega arith, (f, tt)))
 fate_back o (Object.ExternalFuture c (ExternalFutureState.Resolved v)) f = ap (fate o) (object_back (Object.ExternalFuture (call_id 0) (ExternalFutureState.Resolved v)) (omega arith, f))
 fate_back o (Object.ExternalFuture c (ExternalFutureState.Failed e)) f = ap (fate o) (object_back (Object.ExternalFuture (call_id 0) (ExternalFutureState.Failed e)) (omega arith, f))
 fate_back o (Object.GatherFuture i n GatherState.Pending) f = refl

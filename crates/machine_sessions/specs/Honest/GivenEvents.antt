@@ -9,7 +9,8 @@ use Rattle.std.proofs.Math.ListN.{length}
 use Rattle.asyncio.specs.declared.CallId.{CallId}
 use Rattle.asyncio.specs.declared.Value.{Value}
 use Rattle.asyncio.specs.declared.Error.{Error}
-use Rattle.asyncio.specs.declared.OptionValue.{OptionValue}
+use Rattle.asyncio.specs.Options.{OptionValue}
+use Rattle.std.specs.Prelude.{None, Some}
 use Rattle.asyncio.specs.declared.Awaiter.{Awaiter}
 use Rattle.asyncio.specs.declared.CoroutineState.{CoroutineState}
 use Rattle.asyncio.specs.declared.ExternalFutureState.{ExternalFutureState}
@@ -63,8 +64,8 @@ to_value-fits tag n = pick_has ValueFits (eqb tag 0) tt (low n)
 
 or_fits : (x : OptionValue) (v : Value) → OptionFits x → ValueFits v → ValueFits (value_or x v)
 unfolding value_or
-or_fits OptionValue.None v f g = g
-or_fits (OptionValue.Some y) v f g = f
+or_fits None v f g = g
+or_fits (Some y) v f g = f
 
 module _ (W : ℕ → Option ℕ) where
   abbrev K : Store → Type 0
@@ -132,7 +133,7 @@ module _ (W : ℕ → Option ℕ) where
   items-rows : (os : List ℕ) (s : Store) (p q : ℕ) → object (put_items s p os) q ≡ object s q
   unfolding put_items object put_place
   items-rows [] s p q = refl
-  items-rows (o ∷ os) s p q = items-rows os (put_place s p (record { item = heap_id o; result = OptionValue.None })) (p + 1) q
+  items-rows (o ∷ os) s p q = items-rows os (put_place s p (record { item = heap_id o; result = None })) (p + 1) q
 
   pub gather-given : (s : Store) (os : List ℕ) → (header s).made < object_limit → (header s).used + length os ≤ place_limit → fate (header s).made (object s (header s).made) ≡ loose → K s → K (make_gather s os)
   unfolding make_gather

@@ -13,7 +13,8 @@ use Rattle.std.proofs.Math.Dec.{T}
 use borrow.Author.Tests.{eq-eqb, ne_eqb, leb-true, leb-false}
 use Rattle.asyncio.specs.declared.CallId.{CallId}
 use Rattle.asyncio.specs.declared.Value.{Value}
-use Rattle.asyncio.specs.declared.OptionValue.{OptionValue}
+use Rattle.asyncio.specs.Options.{OptionValue}
+use Rattle.std.specs.Prelude.{Some}
 use Rattle.asyncio.specs.declared.Awaiter.{Awaiter}
 use Rattle.asyncio.specs.declared.TaskState.{TaskState}
 use Rattle.asyncio.specs.declared.Task.{Task}
@@ -356,7 +357,7 @@ module _ (h : List Entry) (s : Store) (w : SoundStore s) (k : Held h s) (ag : Ag
         p = v.first + i
 
         r : Place
-        r = record { item = (place u (v.first + i)).item; result = OptionValue.Some a }
+        r = record { item = (place u (v.first + i)).item; result = Some a }
 
         room : p < place_limit
         room = omega (arith, (awaited-fits u g v e).0.within, l, ap places_of (its_shape u g v e j))

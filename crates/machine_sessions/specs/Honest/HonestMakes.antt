@@ -6,7 +6,8 @@ use Rattle.std.proofs.Math.Option.{Option, none, some}
 use Rattle.std.proofs.Math.Decide.{ℕ_discrete}
 use Rattle.std.proofs.Math.ListN.{length}
 use Rattle.asyncio.specs.declared.Value.{Value}
-use Rattle.asyncio.specs.declared.OptionValue.{OptionValue}
+use Rattle.asyncio.specs.Options.{OptionValue}
+use Rattle.std.specs.Prelude.{None}
 use Rattle.asyncio.specs.declared.Awaiter.{Awaiter}
 use Rattle.asyncio.specs.declared.Task.{Task}
 use Rattle.asyncio.specs.declared.CoroutineState.{CoroutineState}
@@ -99,7 +100,7 @@ adds_then s v u a b e k os ts l n m =
 items-object : (os : List ℕ) (s : Store) (p o : ℕ) → object (put_items s p os) o ≡ object s o
 unfolding put_items object put_place
 items-object [] s p o = refl
-items-object (x ∷ xs) s p o = items-object xs (put_place s p (record { item = heap_id x; result = OptionValue.None })) (p + 1) o
+items-object (x ∷ xs) s p o = items-object xs (put_place s p (record { item = heap_id x; result = None })) (p + 1) o
 
 module _ (s : Store) (z : Sized s) where
   -- a call is handed out

@@ -10,7 +10,8 @@ use Rattle.std.proofs.Math.Decide.{ℕ_discrete}
 use borrow.Author.Tests.{eq-eqb, ne_eqb, eqb-true}
 use Rattle.asyncio.specs.declared.TaskId.{TaskId}
 use Rattle.asyncio.specs.declared.Value.{Value}
-use Rattle.asyncio.specs.declared.OptionValue.{OptionValue}
+use Rattle.asyncio.specs.Options.{OptionValue}
+use Rattle.std.specs.Prelude.{None, Some}
 use Rattle.asyncio.specs.declared.TaskState.{TaskState}
 use Rattle.asyncio.specs.declared.Task.{Task}
 use Rattle.asyncio.specs.declared.Awaiter.{Awaiter}
@@ -254,12 +255,12 @@ module _ (h : List Entry) (s : Store) (w : SoundStore s) (k : Agrees h s) where
     -- a place that names the coroutine is not filled
     here-holds : (x : OptionValue) → Holds (λ o. frozen (object s o)) D c x → Holds Q E c x
     unfolding told
-    here-holds OptionValue.None y = tt
-    here-holds (OptionValue.Some z) y = absurd_some (sym (ap (told D c) was-co.1 ∙ fresh) ∙ y)
+    here-holds None y = tt
+    here-holds (Some z) y = absurd_some (sym (ap (told D c) was-co.1 ∙ fresh) ∙ y)
 
     other-holds : (o : ℕ) → (o ≡ c → ⊥) → (x : OptionValue) → Holds (λ o. frozen (object s o)) D o x → Holds Q E o x
-    other-holds o ne OptionValue.None y = tt
-    other-holds o ne (OptionValue.Some z) y = ap (λ (x : Object). told E o (frozen x)) (other_row o ne) ∙ (told_same D E o (frozen (object s o)) (E-other o ne) ∙ y)
+    other-holds o ne None y = tt
+    other-holds o ne (Some z) y = ap (λ (x : Object). told E o (frozen x)) (other_row o ne) ∙ (told_same D E o (frozen (object s o)) (E-other o ne) ∙ y)
 
     is_task_of_it : (u : ℕ) → is_live (task s (suc u)).state ≡ true → (task s (suc u)).coroutine.0 ≡ c → T (is_task_of_at (task s) c (suc u))
     unfolding is_task_of_at is_task_of ◌and◌

@@ -12,7 +12,8 @@ use Rattle.std.proofs.Math.ListN.{length}
 use Rattle.asyncio.specs.declared.TaskId.{TaskId}
 use Rattle.asyncio.specs.declared.CallId.{CallId}
 use Rattle.asyncio.specs.declared.Value.{Value}
-use Rattle.asyncio.specs.declared.OptionValue.{OptionValue}
+use Rattle.asyncio.specs.Options.{OptionValue}
+use Rattle.std.specs.Prelude.{None, Some}
 use Rattle.asyncio.specs.declared.Awaiter.{Awaiter}
 use Rattle.asyncio.specs.declared.CoroutineState.{CoroutineState}
 use Rattle.asyncio.specs.declared.ExternalFutureState.{ExternalFutureState}
@@ -121,7 +122,7 @@ pub record Made (s u : Store) (z : Frozen) : Type 0 where
   pub other : (o : ℕ) → (o ≡ (header s).made → ⊥) → object u o ≡ object s o
   pub tasks : (t : ℕ) → task u t ≡ task s t
   pub old : (p : ℕ) → p < (header s).used → place u p ≡ place s p
-  pub new : (p : ℕ) → (header s).used ≤ p → (place u p ≡ place s p) ⊎ ((place u p).result ≡ OptionValue.None)
+  pub new : (p : ℕ) → (header s).used ≤ p → (place u p ≡ place s p) ⊎ ((place u p).result ≡ None)
 
 module _ (h : List Entry) (s : Store) (w : SoundStore s) (k : Agrees h s) (e : Event) (u : Store) (z : Frozen) (a : Made s u z) (r : (says e).results ≡ []) (c : (says e).completes ≡ none)
     (new : Makes e [] z (λ p. (place u p).item.0)) where
@@ -149,9 +150,9 @@ module _ (h : List Entry) (s : Store) (w : SoundStore s) (k : Agrees h s) (e : E
 
   holds_by : (o : ℕ) (v : OptionValue) → Dec (o ≡ (header s).made) → Holds (λ o. frozen (object s o)) (completed_value h) o v → Holds Q (completed_value h) o v
   unfolding told
-  holds_by o OptionValue.None d y = tt
-  holds_by o (OptionValue.Some v) (yes d) y = absurd_some (sym (ap (λ (m : ℕ). told (completed_value h) m (frozen (object s m))) d ∙ ap (told (completed_value h) (header s).made) was) ∙ y)
-  holds_by o (OptionValue.Some v) (no ne) y = ap (λ (b : Object). told (completed_value h) o (frozen b)) (a.other o ne) ∙ y
+  holds_by o None d y = tt
+  holds_by o (Some v) (yes d) y = absurd_some (sym (ap (λ (m : ℕ). told (completed_value h) m (frozen (object s m))) d ∙ ap (told (completed_value h) (header s).made) was) ∙ y)
+  holds_by o (Some v) (no ne) y = ap (λ (b : Object). told (completed_value h) o (frozen b)) (a.other o ne) ∙ y
 
   holds_at : (p : ℕ) → Holds Q (completed_value h) (place u p).item.0 (place u p).result
   holds_at p = by (dec_lt p (header s).used)
@@ -159,7 +160,7 @@ module _ (h : List Entry) (s : Store) (w : SoundStore s) (k : Agrees h s) (e : E
       same : place u p ≡ place s p → Holds Q (completed_value h) (place u p).item.0 (place u p).result
       same q = subst (λ (y : Place). Holds Q (completed_value h) y.item.0 y.result) (sym q) (holds_by (place s p).item.0 (place s p).result (ℕ_discrete (place s p).item.0 (header s).made) (k.told.holds p))
 
-      late : (place u p ≡ place s p) ⊎ ((place u p).result ≡ OptionValue.None) → Holds Q (completed_value h) (place u p).item.0 (place u p).result
+      late : (place u p ≡ place s p) ⊎ ((place u p).result ≡ None) → Holds Q (completed_value h) (place u p).item.0 (place u p).result
       late (inl q) = same q
       late (inr q) = subst (Holds Q (completed_value h) (place u p).item.0) (sym q) tt
 
@@ -222,12 +223,12 @@ module _ (h : List Entry) (s : Store) (w : SoundStore s) (k : Agrees h s) (e : E
 items-objects : (os : List ℕ) (s : Store) (p q : ℕ) → object (put_items s p os) q ≡ object s q
 unfolding put_items object put_place
 items-objects [] s p q = refl
-items-objects (o ∷ os) s p q = items-objects os (put_place s p (record { item = heap_id o; result = OptionValue.None })) (p + 1) q
+items-objects (o ∷ os) s p q = items-objects os (put_place s p (record { item = heap_id o; result = None })) (p + 1) q
 
 items-tasks : (os : List ℕ) (s : Store) (p t : ℕ) → task (put_items s p os) t ≡ task s t
 unfolding put_items task put_place
 items-tasks [] s p t = refl
-items-tasks (o ∷ os) s p t = items-tasks os (put_place s p (record { item = heap_id o; result = OptionValue.None })) (p + 1) t
+items-tasks (o ∷ os) s p t = items-tasks os (put_place s p (record { item = heap_id o; result = None })) (p + 1) t
 
 items-before : (os : List ℕ) (s : Store) (p q : ℕ) → q < p → place (put_items s p os) q ≡ place s q
 unfolding put_items
@@ -235,16 +236,16 @@ items-before [] s p q l = refl
 items-before (o ∷ os) s p q l = items-before os (put_place s p _) (p + 1) q (omega arith) ∙ place_put-other s p q _ (λ e. not-suc-le-zero {n = 0} (omega (arith, l)))
 
 -- a place that is written holds nothing
-items-new : (os : List ℕ) (s : Store) (p q n : ℕ) → Sized s → p + length os ≤ place_limit → n ≤ object_limit → AllBelow n os → (place (put_items s p os) q ≡ place s q) ⊎ ((place (put_items s p os) q).result ≡ OptionValue.None)
+items-new : (os : List ℕ) (s : Store) (p q n : ℕ) → Sized s → p + length os ≤ place_limit → n ≤ object_limit → AllBelow n os → (place (put_items s p os) q ≡ place s q) ⊎ ((place (put_items s p os) q).result ≡ None)
 unfolding put_items AllBelow
 items-new [] s p q n z l b k = inl refl
 items-new (o ∷ os) s p q n z l b k = by (ℕ_discrete q p) (items-new os (put_place s p new) (p + 1) q n (sized-put_place s p new z) (omega (arith, l)) b k.1)
   where
     new : Place
-    new = record { item = heap_id o; result = OptionValue.None }
+    new = record { item = heap_id o; result = None }
 
-    by : Dec (q ≡ p) → (place (put_items (put_place s p new) (p + 1) os) q ≡ place (put_place s p new) q) ⊎ ((place (put_items (put_place s p new) (p + 1) os) q).result ≡ OptionValue.None)
-        → (place (put_items (put_place s p new) (p + 1) os) q ≡ place s q) ⊎ ((place (put_items (put_place s p new) (p + 1) os) q).result ≡ OptionValue.None)
+    by : Dec (q ≡ p) → (place (put_items (put_place s p new) (p + 1) os) q ≡ place (put_place s p new) q) ⊎ ((place (put_items (put_place s p new) (p + 1) os) q).result ≡ None)
+        → (place (put_items (put_place s p new) (p + 1) os) q ≡ place s q) ⊎ ((place (put_items (put_place s p new) (p + 1) os) q).result ≡ None)
     by d (inr e) = inr e
     by (no ne) (inl e) = inl (e ∙ place_put-other s p q new ne)
     by (yes d) (inl e) =
@@ -260,7 +261,7 @@ items_there (o ∷ os) s p n z l b k = (
 )
   where
     new : Place
-    new = record { item = heap_id o; result = OptionValue.None }
+    new = record { item = heap_id o; result = None }
 
 -- ---- each making
 
@@ -271,7 +272,7 @@ module _ (s : Store) (w : SoundStore s) where
   -- an object is added to a store that differs from s in calls and places
   added-made : (s1 : Store) (r : Object) (m : ℕ) (y : Frozen) → Sized s1 → (header s1).made ≡ (header s).made → (header s1).next ≡ (header s).next → (header s1).moment ≡ (header s).moment → (header s).made < object_limit
       → (header s1).used + m ≤ place_limit → ((o : ℕ) → object s1 o ≡ object s o) → ((t : ℕ) → task s1 t ≡ task s t) → ((p : ℕ) → p < (header s).used → place s1 p ≡ place s p)
-      → ((p : ℕ) → (header s).used ≤ p → (place s1 p ≡ place s p) ⊎ ((place s1 p).result ≡ OptionValue.None)) → frozen (to_object (object_words r)) ≡ y → EndsTask (header s).made (awaiter_of r) → Made s (add_object s1 r m) y
+      → ((p : ℕ) → (header s).used ≤ p → (place s1 p ≡ place s p) ⊎ ((place s1 p).result ≡ None)) → frozen (to_object (object_words r)) ≡ y → EndsTask (header s).made (awaiter_of r) → Made s (add_object s1 r m) y
   added-made s1 r m y z1 em en eo low room rows tasks old new back own =
       record {
         sized = sized-add_object s1 r m z1;
@@ -310,7 +311,7 @@ module _ (s : Store) (w : SoundStore s) where
       same_place : (p : ℕ) → place u p ≡ place s1 p
       same_place p = unfold add_object place put_object put_header in refl
 
-      late : (p : ℕ) → (place s1 p ≡ place s p) ⊎ ((place s1 p).result ≡ OptionValue.None) → (place u p ≡ place s p) ⊎ ((place u p).result ≡ OptionValue.None)
+      late : (p : ℕ) → (place s1 p ≡ place s p) ⊎ ((place s1 p).result ≡ None) → (place u p ≡ place s p) ⊎ ((place u p).result ≡ None)
       late p (inl q) = inl (same_place p ∙ q)
       late p (inr q) = inr (ap (λ (y : Place). y.result) (same_place p) ∙ q)
 

@@ -14,7 +14,8 @@ use Rattle.asyncio.specs.declared.TaskId.{TaskId}
 use Rattle.asyncio.specs.declared.CallId.{CallId}
 use Rattle.asyncio.specs.declared.Value.{Value}
 use Rattle.asyncio.specs.declared.Error.{Error}
-use Rattle.asyncio.specs.declared.OptionValue.{OptionValue}
+use Rattle.asyncio.specs.Options.{OptionValue}
+use Rattle.std.specs.Prelude.{None, Some}
 use Rattle.asyncio.specs.declared.Awaiter.{Awaiter}
 use Rattle.asyncio.specs.declared.CoroutineState.{CoroutineState}
 use Rattle.asyncio.specs.declared.ExternalFutureState.{ExternalFutureState}
@@ -160,12 +161,12 @@ module _ (n : ℕ) (i : ℕ → ℕ) (D : ℕ → Option Value) (S : ℕ → Opt
 
     here-holds : (x : OptionValue) → Holds (λ j. frozen (object s j)) D o x → Holds Q D o x
     unfolding told
-    here-holds OptionValue.None h = tt
-    here-holds (OptionValue.Some v) h = absurd_some (sym (ap (told D o) was) ∙ h)
+    here-holds None h = tt
+    here-holds (Some v) h = absurd_some (sym (ap (told D o) was) ∙ h)
 
     other-holds : (j : ℕ) → (j ≡ o → ⊥) → (x : OptionValue) → Holds (λ j. frozen (object s j)) D j x → Holds Q D j x
-    other-holds j ne OptionValue.None h = tt
-    other-holds j ne (OptionValue.Some v) h = ap (told D j) (other j ne) ∙ h
+    other-holds j ne None h = tt
+    other-holds j ne (Some v) h = ap (told D j) (other j ne) ∙ h
 
     settled : Told Q n i D S u
     settled =

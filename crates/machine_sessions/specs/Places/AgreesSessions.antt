@@ -12,7 +12,7 @@ use borrow.Author.Tests.{eqb-true, leb-false, ltb-false}
 use Rattle.asyncio.specs.declared.TaskId.{TaskId}
 use Rattle.asyncio.specs.declared.Value.{Value}
 use Rattle.asyncio.specs.declared.Error.{Error}
-use Rattle.asyncio.specs.declared.OptionValue.{OptionValue}
+use Rattle.std.specs.Prelude.{None}
 use Rattle.asyncio.specs.declared.TaskState.{TaskState}
 use Rattle.asyncio.specs.declared.Task.{Task}
 use Rattle.asyncio.specs.declared.Awaiter.{Awaiter}
@@ -172,7 +172,7 @@ fresh-object o = by-header ∙ zero_row
     zero_row : object empty o ≡ Object.Unmade
     zero_row = unfold object empty object_at in (ap to_object (row-zeros objects_length (object_start o) 0 8))
 
-fresh-place : (p : ℕ) → (place fresh p).result ≡ OptionValue.None
+fresh-place : (p : ℕ) → (place fresh p).result ≡ None
 fresh-place p = unfold place fresh put_task put_header empty place_at in (ap (λ (w : List ℕ). (to_place w).result) (row-zeros places_length (place_start p) 0 4))
 
 fresh-head : ((header fresh).made ≡ 0) × ((header fresh).next ≡ 1) × ((header fresh).moment ≡ Moment.Running (task_id 0))

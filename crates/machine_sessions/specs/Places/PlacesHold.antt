@@ -14,7 +14,8 @@ use Rattle.std.proofs.Math.ListN.{length}
 use borrow.Author.Tests.{eq-eqb, ne_eqb, eqb-true, leb-false, lt-leb}
 use Rattle.asyncio.specs.declared.Value.{Value}
 use Rattle.asyncio.specs.declared.Error.{Error}
-use Rattle.asyncio.specs.declared.OptionValue.{OptionValue}
+use Rattle.asyncio.specs.Options.{OptionValue}
+use Rattle.std.specs.Prelude.{None, Some}
 use Rattle.asyncio.specs.declared.CoroutineState.{CoroutineState}
 use Rattle.asyncio.specs.declared.ExternalFutureState.{ExternalFutureState}
 use Rattle.asyncio.specs.declared.GatherState.{GatherState}
@@ -223,8 +224,8 @@ plain-gives D o (Object.GatherFuture f n x) m = absurd m
 -- the reply of a pending external
 stored_same : (r : OptionValue) (v : Value) → stored_or r v ≡ value_or r v
 unfolding stored_or value_or
-stored_same OptionValue.None v = refl
-stored_same (OptionValue.Some x) v = refl
+stored_same None v = refl
+stored_same (Some x) v = refl
 
 reply_frozen : (C : ℕ → Option (Outcome Value Error)) (o c : ℕ) (r : OptionValue) (x : Option Result) → reply_outcome r x ≡ frozen_outcome C o (reply_row c r x)
 unfolding reply_outcome frozen_outcome reply_row
@@ -411,23 +412,23 @@ module _ (h : List Entry) (s : Store) (w : SoundStore s) (k : Agrees h s) where
       by (Object.ExternalFuture c (ExternalFutureState.Failed x)) q = plain _ q (unfold frozen in tt)
       by (Object.GatherFuture f n y) q = list-known f n y q
 
-  filled-right : (p : ℕ) → p < (header s).used → T (is_filled (place s p).result) → (v : Value) × ((place s p).result ≡ OptionValue.Some v) × (row_gives D (place s p).item.0 (object s (place s p).item.0) ≡ some v)
+  filled-right : (p : ℕ) → p < (header s).used → T (is_filled (place s p).result) → (v : Value) × ((place s p).result ≡ Some v) × (row_gives D (place s p).item.0 (object s (place s p).item.0) ≡ some v)
   unfolding view
   filled-right p l t = by (place s p).result refl t
     where
-      by : (x : OptionValue) → (place s p).result ≡ x → T (is_filled x) → (v : Value) × ((place s p).result ≡ OptionValue.Some v) × (row_gives D (place s p).item.0 (object s (place s p).item.0) ≡ some v)
-      by OptionValue.None e z = absurd (unfold-filled z)
+      by : (x : OptionValue) → (place s p).result ≡ x → T (is_filled x) → (v : Value) × ((place s p).result ≡ Some v) × (row_gives D (place s p).item.0 (object s (place s p).item.0) ≡ some v)
+      by None e z = absurd (unfold-filled z)
         where
-          unfold-filled : T (is_filled OptionValue.None) → ⊥
+          unfold-filled : T (is_filled None) → ⊥
           unfold-filled y = unfold is_filled in y
-      by (OptionValue.Some v) e z = (
+      by (Some v) e z = (
         v,
         e,
         known-gives (place s p).item.0 v (subst (Holds (λ o. frozen (object s o)) D (place s p).item.0) e (k.told.holds p))
             (known_some v (subst (λ (x : OptionValue). T (option_known (header s).made (object s) x)) e (w.facts.but.place_lists p l))),
       )
         where
-          known_some : (v : Value) → T (option_known (header s).made (object s) (OptionValue.Some v)) → T (value_known (header s).made (object s) v)
+          known_some : (v : Value) → T (option_known (header s).made (object s) (Some v)) → T (value_known (header s).made (object s) v)
           known_some v y = unfold option_known in y
 
   -- ---- the claim of one gather
@@ -439,7 +440,7 @@ module _ (h : List Entry) (s : Store) (w : SoundStore s) (k : Agrees h s) where
   abbrev pub OpenNone : ℕ → AwaitedGather → Type 0
   OpenNone g v = (a : ℕ) → a < v.count → bit v.open_places a ≡ true → gives_now (place s (v.first + a)).item.0 ≡ none
 
-  slot-filled : (b : Bool) (x : OptionValue) (v : Value) → b ≡ false → x ≡ OptionValue.Some v → slot_value b x ≡ some v
+  slot-filled : (b : Bool) (x : OptionValue) (v : Value) → b ≡ false → x ≡ Some v → slot_value b x ≡ some v
   unfolding slot_value
   slot-filled b x v p q = ap₂ slot_value p q
 
@@ -477,7 +478,7 @@ module _ (h : List Entry) (s : Store) (w : SoundStore s) (k : Agrees h s) where
 
   -- the places that are not open are filled
   closed_filled : (g f n m : ℕ) (x : GatherState) → g < (header s).made → object s g ≡ Object.GatherFuture f n x → T (rest_filled (place s) f n m) → (a : ℕ) → a < n → bit m a ≡ false
-      → (v : Value) × ((place s (f + a)).result ≡ OptionValue.Some v) × (gives_now (place s (f + a)).item.0 ≡ some v)
+      → (v : Value) × ((place s (f + a)).result ≡ Some v) × (gives_now (place s (f + a)).item.0 ≡ some v)
   unfolding view rest_filled
   closed_filled g f n m x l e t a b c =
       filled-right (f + a) (place-used w.facts.but g f n x l e a b) (or-false (bit m a) (is_filled (place s (f + a)).result) c (below n (λ k. bit m k || is_filled (place s (f + k)).result) t a b))
@@ -502,12 +503,12 @@ module _ (h : List Entry) (s : Store) (w : SoundStore s) (k : Agrees h s) where
           open_up : T (object_filled (place s) (Object.GatherFuture f n GatherState.Completed)) → T (rest_filled (place s) f n 0)
           open_up z = unfold object_filled gather_filled in z
 
-      closed : (a : ℕ) → a < n → (v : Value) × ((place s (f + a)).result ≡ OptionValue.Some v) × (gives_now (place s (f + a)).item.0 ≡ some v)
+      closed : (a : ℕ) → a < n → (v : Value) × ((place s (f + a)).result ≡ Some v) × (gives_now (place s (f + a)).item.0 ≡ some v)
       closed a b = closed_filled g f n 0 GatherState.Completed l e full a b (none-set a)
 
   -- a closed place of an awaited gather has what its item has delivered
   awaited-closed : (g : ℕ) (v : AwaitedGather) → g < (header s).made → as_awaited (object s g) ≡ some v → (a : ℕ) → a < v.count → bit v.open_places a ≡ false
-      → (x : Value) × ((place s (v.first + a)).result ≡ OptionValue.Some x) × (gives_now (place s (v.first + a)).item.0 ≡ some x)
+      → (x : Value) × ((place s (v.first + a)).result ≡ Some x) × (gives_now (place s (v.first + a)).item.0 ≡ some x)
   awaited-closed g v l e a b c = closed_filled g v.first v.count v.open_places (GatherState.Awaited v.awaiter v.open_places) l row full a b c
     where
       row : object s g ≡ Object.GatherFuture v.first v.count (GatherState.Awaited v.awaiter v.open_places)

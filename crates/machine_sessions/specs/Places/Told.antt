@@ -11,7 +11,8 @@ use Rattle.asyncio.specs.declared.HeapId.{HeapId}
 use Rattle.asyncio.specs.declared.CallId.{CallId}
 use Rattle.asyncio.specs.declared.Value.{Value}
 use Rattle.asyncio.specs.declared.Error.{Error}
-use Rattle.asyncio.specs.declared.OptionValue.{OptionValue}
+use Rattle.asyncio.specs.Options.{OptionValue}
+use Rattle.std.specs.Prelude.{None, Some}
 use Rattle.asyncio.specs.declared.Awaiter.{Awaiter}
 use Rattle.asyncio.specs.declared.TaskState.{TaskState}
 use Rattle.asyncio.specs.declared.Task.{Task}
@@ -167,8 +168,8 @@ pub record TaskTold (D : ℕ → Option Value) (S : ℕ → Option ℕ) (t : ℕ
 
 -- a place's value is its item's
 abbrev pub Holds : (ℕ → Frozen) → (ℕ → Option Value) → ℕ → OptionValue → Type 0
-Holds q D o OptionValue.None = Unit {0}
-Holds q D o (OptionValue.Some v) = told D o (q o) ≡ some v
+Holds q D o None = Unit {0}
+Holds q D o (Some v) = told D o (q o) ≡ some v
 
 pub record Told (q : ℕ → Frozen) (n : ℕ) (i : ℕ → ℕ) (D : ℕ → Option Value) (S : ℕ → Option ℕ) (u : Store) : Type 0 where
   pub sized : Sized u
@@ -244,12 +245,12 @@ module _ (q : ℕ → Frozen) (n : ℕ) (i : ℕ → ℕ) (D : ℕ → Option Va
 
   -- one place of the words
   one_told : (ps : List ℕ) (p : ℕ) (v : Value) → length ps ≡ places_length → p < place_limit → Gives q D (place_at ps p).item.0 v → ((r : ℕ) → (place_at ps r).item.0 ≡ i r) → ((r : ℕ) → Holds q D (i r) (place_at ps r).result)
-      → (r : ℕ) → ((place_at (place_put ps p (record { item = (place_at ps p).item; result = OptionValue.Some v })) r).item.0 ≡ i r)
-      × Holds q D (i r) (place_at (place_put ps p (record { item = (place_at ps p).item; result = OptionValue.Some v })) r).result
+      → (r : ℕ) → ((place_at (place_put ps p (record { item = (place_at ps p).item; result = Some v })) r).item.0 ≡ i r)
+      × Holds q D (i r) (place_at (place_put ps p (record { item = (place_at ps p).item; result = Some v })) r).result
   one_told ps p v z l g it ho r = by (ℕ_discrete r p)
     where
       y : Place
-      y = record { item = (place_at ps p).item; result = OptionValue.Some v }
+      y = record { item = (place_at ps p).item; result = Some v }
 
       now : place_at (place_put ps p y) p ≡ y
       now = place_at_put ps p y (record { item_fits = (place_at-fits ps p).item_fits; result_fits = g.fits }) (omega (arith, z, l))
@@ -262,7 +263,7 @@ module _ (q : ℕ → Frozen) (n : ℕ) (i : ℕ → ℕ) (D : ℕ → Option Va
           let e : place_at (place_put ps p y) r ≡ place_at ps r = place_at-other ps p r y ne in
           (ap (λ (x : Place). x.item.0) e ∙ it r, subst (λ (x : Place). Holds q D (i r) x.result) (sym e) (ho r))
 
-  pub value-told : (s : Store) (p : ℕ) (v : Value) → p < place_limit → Gives q D (place s p).item.0 v → K s → K (put_place s p (record { item = (place s p).item; result = OptionValue.Some v }))
+  pub value-told : (s : Store) (p : ℕ) (v : Value) → p < place_limit → Gives q D (place s p).item.0 v → K s → K (put_place s p (record { item = (place s p).item; result = Some v }))
   unfolding put_place place object task header
   value-told s p v l g k =
       let y = one_told s.places p v k.sized.places_sized l g k.items k.holds in
@@ -289,7 +290,7 @@ module _ (q : ℕ → Frozen) (n : ℕ) (i : ℕ → ℕ) (D : ℕ → Option Va
       fill-told m (fill_one ps w (f + j) j x v).places (fill_one ps w (f + j) j x v).open_places f x v (j + 1) (unfold fill_from in (length-fill_from 1 ps w f x v j) ∙ z) (omega (arith, l)) g (λ y. (a y).0) (λ y. (a y).1) r
     where
       put : Filled
-      put = filled (place_put ps (f + j) (record { item = (place_at ps (f + j)).item; result = OptionValue.Some v })) (w - 2 ^ j)
+      put = filled (place_put ps (f + j) (record { item = (place_at ps (f + j)).item; result = Some v })) (w - 2 ^ j)
 
       one : (b c : Bool) → eqb (place_at ps (f + j)).item.0 x ≡ c → (y : ℕ)
           → ((place_at (pick b (pick c put (filled ps w)) (filled ps w)).places y).item.0 ≡ i y) × Holds q D (i y) (place_at (pick b (pick c put (filled ps w)) (filled ps w)).places y).result

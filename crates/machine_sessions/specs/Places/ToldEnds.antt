@@ -9,7 +9,8 @@ use Rattle.std.proofs.Math.Decide.{ℕ_discrete}
 use Rattle.asyncio.specs.declared.TaskId.{TaskId}
 use Rattle.asyncio.specs.declared.Value.{Value}
 use Rattle.asyncio.specs.declared.Error.{Error}
-use Rattle.asyncio.specs.declared.OptionValue.{OptionValue}
+use Rattle.asyncio.specs.Options.{OptionValue}
+use Rattle.std.specs.Prelude.{None, Some}
 use Rattle.asyncio.specs.declared.TaskState.{TaskState}
 use Rattle.asyncio.specs.declared.Task.{Task}
 use Rattle.asyncio.specs.declared.Awaiter.{Awaiter}
@@ -44,8 +45,8 @@ told_same D E o (broke x) e = refl
 told_same D E o (many f n) e = refl
 
 holds_same : (q p : ℕ → Frozen) (D E : ℕ → Option Value) (o : ℕ) (x : OptionValue) → p o ≡ q o → E o ≡ D o → Holds q D o x → Holds p E o x
-holds_same q p D E o OptionValue.None a b h = tt
-holds_same q p D E o (OptionValue.Some v) a b h = ap (told E o) a ∙ (told_same D E o (q o) b ∙ h)
+holds_same q p D E o None a b h = tt
+holds_same q p D E o (Some v) a b h = ap (told E o) a ∙ (told_same D E o (q o) b ∙ h)
 
 pub told_as : (q p : ℕ → Frozen) (n m : ℕ) (i j : ℕ → ℕ) (D E : ℕ → Option Value) (S R : ℕ → Option ℕ) (u : Store)
     → ((o : ℕ) → p o ≡ q o) → m ≡ n → ((x : ℕ) → j x ≡ i x) → ((o : ℕ) → E o ≡ D o) → ((t : ℕ) → R t ≡ S t) → Told q n i D S u → Told p m j E R u

@@ -11,7 +11,7 @@ use Rattle.std.proofs.Math.ListN.{length}
 use Rattle.std.proofs.Math.Option.{some}
 use Rattle.asyncio.specs.declared.Value.{Value}
 use Rattle.asyncio.specs.declared.Error.{Error}
-use Rattle.asyncio.specs.declared.OptionValue.{OptionValue}
+use Rattle.std.specs.Prelude.{None}
 use Rattle.asyncio.specs.declared.TaskState.{TaskState}
 use Rattle.asyncio.specs.declared.Task.{Task}
 use Rattle.asyncio.specs.declared.Awaiter.{Awaiter}
@@ -43,12 +43,12 @@ use Rattle.machine_sessions.specs.Queue.Tracked.{Tracked, like, live_like, live-
 pub items-tasks : (os : List ℕ) (s : Store) (p t : ℕ) → task (put_items s p os) t ≡ task s t
 unfolding put_items task put_place
 items-tasks [] s p t = refl
-items-tasks (o ∷ os) s p t = items-tasks os (put_place s p (record { item = heap_id o; result = OptionValue.None })) (p + 1) t
+items-tasks (o ∷ os) s p t = items-tasks os (put_place s p (record { item = heap_id o; result = None })) (p + 1) t
 
 pub items-log : (os : List ℕ) (s : Store) (p : ℕ) → (put_items s p os).log ≡ s.log
 unfolding put_items put_place
 items-log [] s p = refl
-items-log (o ∷ os) s p = items-log os (put_place s p (record { item = heap_id o; result = OptionValue.None })) (p + 1)
+items-log (o ∷ os) s p = items-log os (put_place s p (record { item = heap_id o; result = None })) (p + 1)
 
 true-is : (b : Bool) → T b → b ≡ true
 true-is true h = refl

@@ -7,7 +7,7 @@ use Rattle.std.proofs.Math.Option.{none, some, some-injective}
 use Rattle.std.proofs.Math.Decide.{ℕ_discrete}
 use Rattle.std.proofs.Math.Dec.{T}
 use Rattle.asyncio.specs.declared.Value.{Value}
-use Rattle.asyncio.specs.declared.OptionValue.{OptionValue}
+use Rattle.std.specs.Prelude.{Some}
 use Rattle.asyncio.specs.declared.Awaiter.{Awaiter}
 use Rattle.asyncio.specs.declared.GatherState.{GatherState}
 use Rattle.asyncio.specs.declared.Object.{Object}
@@ -200,7 +200,7 @@ fill_sourced {G} Q s w i v z low fits k =
     }
   where
     row : Place
-    row = record { item = (place s (w.first + i)).item; result = OptionValue.Some v }
+    row = record { item = (place s (w.first + i)).item; result = Some v }
 
     u : Store
     u = put_place s (w.first + i) row

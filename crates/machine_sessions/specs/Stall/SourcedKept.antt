@@ -13,7 +13,7 @@ use Rattle.std.proofs.Math.ListN.{length}
 use Rattle.asyncio.specs.declared.CallId.{CallId}
 use Rattle.asyncio.specs.declared.Value.{Value}
 use Rattle.asyncio.specs.declared.Error.{Error}
-use Rattle.asyncio.specs.declared.OptionValue.{OptionValue}
+use Rattle.std.specs.Prelude.{None}
 use Rattle.asyncio.specs.declared.TaskState.{TaskState}
 use Rattle.asyncio.specs.declared.Task.{Task}
 use Rattle.asyncio.specs.declared.Place.{Place}
@@ -236,12 +236,12 @@ items-places (o ∷ os) s p q l = items-places os (put_place s p _) (p + 1) q (o
 pub items-objects : (os : List ℕ) (s : Store) (p q : ℕ) → object (put_items s p os) q ≡ object s q
 unfolding put_items object put_place
 items-objects [] s p q = refl
-items-objects (o ∷ os) s p q = items-objects os (put_place s p (record { item = heap_id o; result = OptionValue.None })) (p + 1) q
+items-objects (o ∷ os) s p q = items-objects os (put_place s p (record { item = heap_id o; result = None })) (p + 1) q
 
 items_rows3 : (os : List ℕ) (s : Store) (p t : ℕ) → task (put_items s p os) t ≡ task s t
 unfolding put_items task put_place
 items_rows3 [] s p t = refl
-items_rows3 (o ∷ os) s p t = items_rows3 os (put_place s p (record { item = heap_id o; result = OptionValue.None })) (p + 1) t
+items_rows3 (o ∷ os) s p t = items_rows3 os (put_place s p (record { item = heap_id o; result = None })) (p + 1) t
 
 module _ (G : ℕ → Type 0) (s : Store) (h : SoundStore s) (k : Sourced G s) where
   z : Sized s

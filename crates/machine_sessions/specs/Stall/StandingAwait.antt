@@ -12,7 +12,7 @@ use Rattle.std.proofs.Math.ListN.{length}
 use Rattle.asyncio.specs.declared.CallId.{CallId}
 use Rattle.asyncio.specs.declared.Value.{Value}
 use Rattle.asyncio.specs.declared.Error.{Error}
-use Rattle.asyncio.specs.declared.OptionValue.{OptionValue}
+use Rattle.std.specs.Prelude.{None}
 use Rattle.asyncio.specs.declared.TaskState.{TaskState}
 use Rattle.asyncio.specs.declared.Task.{Task}
 use Rattle.asyncio.specs.declared.Awaiter.{Awaiter}
@@ -289,7 +289,7 @@ add_stands s r n z m u k =
 items_words : (os : List ℕ) (s : Store) (p : ℕ) → ((put_items s p os).tasks ≡ s.tasks) × ((put_items s p os).queue ≡ s.queue)
 unfolding put_items put_place
 items_words [] s p = (refl, refl)
-items_words (o ∷ os) s p = items_words os (put_place s p (record { item = heap_id o; result = OptionValue.None })) (p + 1)
+items_words (o ∷ os) s p = items_words os (put_place s p (record { item = heap_id o; result = None })) (p + 1)
 
 module _ (s : Store) (h : SoundStore s) (st : Stands Nothing s) where
   z : Sized s

@@ -15,7 +15,8 @@ use borrow.Author.Tests.{leb-false, ltb-false, eqb-true, eqb-false, eq-eqb, ne_e
 use Rattle.asyncio.specs.declared.CallId.{CallId}
 use Rattle.asyncio.specs.declared.Value.{Value}
 use Rattle.asyncio.specs.declared.Error.{Error}
-use Rattle.asyncio.specs.declared.OptionValue.{OptionValue}
+use Rattle.asyncio.specs.Options.{OptionValue}
+use Rattle.std.specs.Prelude.{None}
 use Rattle.asyncio.specs.declared.Awaiter.{Awaiter}
 use Rattle.asyncio.specs.declared.TaskState.{TaskState}
 use Rattle.asyncio.specs.declared.Task.{Task}
@@ -321,7 +322,7 @@ results-pend (x ∷ xs) s a h on d =
 items-rows : (os : List ℕ) (s : Store) (p q : ℕ) → object (put_items s p os) q ≡ object s q
 unfolding put_items object put_place
 items-rows [] s p q = refl
-items-rows (o ∷ os) s p q = items-rows os (put_place s p (record { item = heap_id o; result = OptionValue.None })) (p + 1) q
+items-rows (o ∷ os) s p q = items-rows os (put_place s p (record { item = heap_id o; result = None })) (p + 1) q
 
 -- the calls pending after an event, by what it says
 unfoldable pub later_pends : Says → Bool → ℕ → Bool

@@ -5,7 +5,7 @@ use Rattle.std.specs.Prelude.{ℕ, zero, suc, ◌+◌, ◌-◌, ◌^◌, Bool, t
 use Rattle.std.proofs.Math.Option.{Option, none, some}
 use Rattle.asyncio.specs.declared.Value.{Value}
 use Rattle.asyncio.specs.declared.Error.{Error}
-use Rattle.asyncio.specs.declared.OptionValue.{OptionValue}
+use Rattle.std.specs.Prelude.{Some}
 use Rattle.asyncio.specs.declared.TaskState.{TaskState}
 use Rattle.asyncio.specs.declared.Awaiter.{Awaiter}
 use Rattle.asyncio.specs.declared.ExternalFutureState.{ExternalFutureState}
@@ -38,7 +38,7 @@ module _ (panic : Panics) where
   fill_one_or_panic ps m p i n source v =
       pick (bit m i)
       (pick (eqb (place_at ps p).item.0 source)
-      (pick (ltb i n) (filled (place_put ps p (record { item = (place_at ps p).item; result = OptionValue.Some v })) (m - 2 ^ i)) (panic.filled ps))
+      (pick (ltb i n) (filled (place_put ps p (record { item = (place_at ps p).item; result = Some v })) (m - 2 ^ i)) (panic.filled ps))
       (filled ps m))
       (filled ps m)
 

@@ -8,7 +8,7 @@ use Rattle.std.proofs.Math.Decide.{ℕ_discrete}
 use Rattle.std.proofs.Math.Dec.{T}
 use Rattle.asyncio.specs.declared.HeapId.{HeapId}
 use Rattle.asyncio.specs.declared.Value.{Value}
-use Rattle.asyncio.specs.declared.OptionValue.{OptionValue}
+use Rattle.std.specs.Prelude.{Some}
 use Rattle.asyncio.specs.declared.Task.{Task}
 use Rattle.asyncio.specs.declared.Awaiter.{Awaiter}
 use Rattle.asyncio.specs.declared.GatherState.{GatherState}
@@ -159,7 +159,7 @@ module _ (root t : ℕ) (Q : ℕ → Type 0) (v : View) (g i : ℕ) (fs : List F
     at = h.w.first + i
 
     abbrev row : Place
-    row = record { item = (v.places at).item; result = OptionValue.Some x }
+    row = record { item = (v.places at).item; result = Some x }
 
     pub fill_write : PlacesWrite v (update v.places at row)
     fill_write =

@@ -10,7 +10,7 @@ use Rattle.std.proofs.Math.Dec.{T, eqb}
 use borrow.Author.Tests.{eqb-true}
 use Rattle.asyncio.specs.declared.HeapId.{HeapId}
 use Rattle.asyncio.specs.declared.Value.{Value}
-use Rattle.asyncio.specs.declared.OptionValue.{OptionValue}
+use Rattle.std.specs.Prelude.{Some}
 use Rattle.asyncio.specs.declared.Error.{Error}
 use Rattle.asyncio.specs.declared.Awaiter.{Awaiter}
 use Rattle.asyncio.specs.declared.GatherState.{GatherState}
@@ -120,7 +120,7 @@ unfolding fill_place view
 fill_commits root t Q s g i fs m h l x k =
     let at : ℕ = h.w.first + i in
     let low : at < (header s).used = omega (arith, gather_within g h.w h.but h.opened.made h.opened.awaited) in
-    let row : Place = record { item = (place s at).item; result = OptionValue.Some x } in
+    let row : Place = record { item = (place s at).item; result = Some x } in
     let fit : PlaceFits row = record { item_fits = (place-fits s at).item_fits; result_fits = value-fits (header s).made (object s) x (header-fits s).made_fits k } in (
       memory_place s at row low fit m,
       subst (λ (v : View). Inv root t 0 Q v g (i + 1) fs) (sym (view-put_place s at row m.sized (omega (arith, low, (header-fits s).used_fits)) fit))

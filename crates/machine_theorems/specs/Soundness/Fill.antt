@@ -11,7 +11,7 @@ use Rattle.std.proofs.Math.Dec.{T, eqb}
 use Rattle.std.proofs.lemmas.Bool.{eqb-false}
 use Rattle.asyncio.specs.declared.HeapId.{HeapId}
 use Rattle.asyncio.specs.declared.Value.{Value}
-use Rattle.asyncio.specs.declared.OptionValue.{OptionValue}
+use Rattle.std.specs.Prelude.{Some}
 use Rattle.asyncio.specs.declared.Task.{Task}
 use Rattle.asyncio.specs.declared.TaskState.{TaskState}
 use Rattle.asyncio.specs.declared.Awaiter.{Awaiter}
@@ -111,7 +111,7 @@ module _ {r : ℕ → Bool} {D : ℕ → Type 0} {hd : Header} (s : Store) (g x 
     at = w.first + i
 
     abbrev row : Place
-    row = record { item = (place_at ps at).item; result = OptionValue.Some v }
+    row = record { item = (place_at ps at).item; result = Some v }
 
     abbrev u : Store
     u = put_places s ps
@@ -160,7 +160,7 @@ module _ {r : ℕ → Bool} {D : ℕ → Type 0} {hd : Header} (s : Store) (g x 
             (unfold rest_filled in (below w.count _ f.rest j z)))
 
   abbrev put : List ℕ → ℕ → ℕ → Filled
-  put ps m i = filled (place_put ps (w.first + i) (record { item = (place_at ps (w.first + i)).item; result = OptionValue.Some v })) (m - 2 ^ i)
+  put ps m i = filled (place_put ps (w.first + i) (record { item = (place_at ps (w.first + i)).item; result = Some v })) (m - 2 ^ i)
 
   abbrev Fills : Filled → Type 0
   Fills y = Filling y.places y.open_places

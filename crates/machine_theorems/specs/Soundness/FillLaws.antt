@@ -4,7 +4,7 @@ use Rattle.std.specs.Prelude.{◌≡◌, refl, Bool, true, false, ◌&&◌, List
 use Rattle.std.proofs.Common.{sym, ap, ◌∙◌, not-suc-le-zero, arith}
 use Rattle.std.proofs.Math.Decide.{ℕ_discrete}
 use Rattle.asyncio.specs.declared.Value.{Value}
-use Rattle.asyncio.specs.declared.OptionValue.{OptionValue}
+use Rattle.std.specs.Prelude.{Some}
 use Rattle.asyncio.specs.declared.Place.{Place}
 use Rattle.asyncio.specs.States.{pick}
 use Rattle.asyncio.specs.Ranges.{ValueFits}
@@ -19,7 +19,7 @@ use Rattle.machine_theorems.specs.Bounds.Bits.{bit_clear, cleared}
 
 -- place p with the value
 abbrev pub with_value : List ℕ → ℕ → Value → Place
-with_value ps p v = record { item = (place_at ps p).item; result = OptionValue.Some v }
+with_value ps p v = record { item = (place_at ps p).item; result = Some v }
 
 -- place i is open and names the source
 abbrev pub hit : List ℕ → ℕ → ℕ → ℕ → ℕ → Bool
@@ -129,7 +129,7 @@ fill_fills (suc k) ps m first source v i j z r fv lo hi h =
     by (no ne) go =
         let a : Stays ps m first j f = one-stays ps m first i source j v (λ q. absurd (ne q)) in
         let b : Fills f.places f.open_places first j v last = go (same-hit ps m first source j f a ∙ h) (omega (arith, lo, ne)) in
-        record { value = b.value ∙ ap (λ (p : Place). record { item = p.item; result = OptionValue.Some v }) a.same_place; closed = b.closed }
+        record { value = b.value ∙ ap (λ (p : Place). record { item = p.item; result = Some v }) a.same_place; closed = b.closed }
 
 -- no bit is set that was not
 pub fill_less : (k : ℕ) (ps : List ℕ) (m first source : ℕ) (v : Value) (i : ℕ) → (fill_from ps m first source v i k).open_places ≤ m

@@ -6,7 +6,8 @@ use Rattle.std.proofs.Math.Option.{Option, none, some}
 use Rattle.std.proofs.Math.Dec.{T}
 use Rattle.asyncio.specs.declared.CallId.{CallId}
 use Rattle.asyncio.specs.declared.Value.{Value}
-use Rattle.asyncio.specs.declared.OptionValue.{OptionValue}
+use Rattle.asyncio.specs.Options.{OptionValue}
+use Rattle.std.specs.Prelude.{None, Some}
 use Rattle.asyncio.specs.declared.Error.{Error}
 use Rattle.asyncio.specs.declared.Awaiter.{Awaiter}
 use Rattle.asyncio.specs.declared.ExternalFutureState.{ExternalFutureState}
@@ -90,8 +91,8 @@ known_or v o p x h l e k =
     by p.stored (subst (λ (y : Object). T (object_values v.header.made v.objects y)) (pending-object (v.objects o) p e) (h.object_lists o l))
   where
     by : (r : OptionValue) → T (option_known v.header.made v.objects r) → T (value_known v.header.made v.objects (value_or r x))
-    by OptionValue.None t = unfold value_or in k
-    by (OptionValue.Some y) t = unfold value_or option_known in t
+    by None t = unfold value_or in k
+    by (Some y) t = unfold value_or option_known in t
 
 -- ---- one result of the host
 

@@ -2,7 +2,7 @@
 use Rattle.std.specs.Prelude.{◌≡◌, refl, Bool, true, false, List, [], ◌∷◌, ℕ, zero, suc, ◌+◌, ◌<◌, ◌^◌, T, eqb, ltb}
 use Rattle.std.proofs.Common.{sym, subst, true≢false, ltb→lt}
 use Rattle.std.proofs.Math.Option.{some}
-use Rattle.asyncio.specs.declared.OptionValue.{OptionValue}
+use Rattle.std.specs.Prelude.{None}
 use Rattle.asyncio.specs.declared.TaskState.{TaskState}
 use Rattle.asyncio.specs.declared.GatherState.{GatherState}
 use Rattle.asyncio.specs.declared.Object.{Object}
@@ -50,7 +50,7 @@ unstarted-live (TaskState.Blocked o) e = refl
 pub items-header : (os : List ℕ) (s : Store) (p : ℕ) → header (put_items s p os) ≡ header s
 unfolding put_items header put_place
 items-header [] s p = refl
-items-header (o ∷ os) s p = items-header os (put_place s p (record { item = heap_id o; result = OptionValue.None })) (p + 1)
+items-header (o ∷ os) s p = items-header os (put_place s p (record { item = heap_id o; result = None })) (p + 1)
 
 pub remove-sized : (k : ℕ) (s : Store) (t : ℕ) → Sized s → Sized (remove_from s t k)
 unfolding remove_from
