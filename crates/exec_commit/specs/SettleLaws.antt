@@ -1,5 +1,5 @@
 -- The ways through opening, settling, resuming and unwinding, in the shape of what the code knows there.
-use Rattle.std.specs.Prelude.{◌≡◌, List, ◌∷◌, ℕ, suc, get_or}
+use Rattle.std.specs.Prelude.{◌≡◌, List, ◌∷◌, ℕ, suc, get_or, None, Some}
 use borrow.Author.Tests.{eq-eqb, ne_eqb}
 use Rattle.asyncio.specs.Numbers.{heap_id}
 use Rattle.asyncio.specs.declared.Value.{Value}
@@ -16,7 +16,7 @@ use Rattle.exec_poll.specs.Polls.{poll_of}
 use Rattle.exec_commit.specs.Steps.{frame}
 use Rattle.exec_commit.specs.Frames.{below}
 use Rattle.scheduler_states.specs.declared.awaited.AwaitedGather.{AwaitedGather}
-use Rattle.scheduler_states.specs.declared.awaited.OptionAwaited.{OptionAwaited}
+use Rattle.scheduler_states.specs.Awaited.{OptionAwaited}
 use Rattle.exec_poll.specs.declared.item.Poll.{Poll}
 
 pub gather-set : (ts os ps : List ℕ) (q : ReadyQueue) (l : List LogEntry) (g : ℕ) (y : GatherState) {o x : Object} {us : List ℕ}
@@ -27,11 +27,11 @@ gather-set ts os ps q l g y e f p = rw (p, f, e)
 module _ (ts os ps : List ℕ) (q : ReadyQueue) (l : List LogEntry) (g : ℕ) (a : OptionAwaited) (e : option_awaited a ≡ as_awaited (object_at os g)) where
   -- ---- settling
 
-  pub settle_none : a ≡ OptionAwaited.None → gives (store_of ts os ps q l) pending ≡ settle_gather_commit (store_of ts os ps q l) g
+  pub settle_none : a ≡ None → gives (store_of ts os ps q l) pending ≡ settle_gather_commit (store_of ts os ps q l) g
   unfolding settle_gather_commit settle_as object
   settle_none f = rw (← e, f)
 
-  module _ (w : AwaitedGather) (f : a ≡ OptionAwaited.Some w) where
+  module _ (w : AwaitedGather) (f : a ≡ Some w) where
     -- no place is open
     pub settle_done : w.open_places ≡ 0 → {us : List ℕ} → store_of ts us ps q l ≡ set_gather (store_of ts os ps q l) g GatherState.Completed
         → gives (store_of ts us ps q l) (ready (Value.List (heap_id g))) ≡ settle_gather_commit (store_of ts os ps q l) g
@@ -45,11 +45,11 @@ module _ (ts os ps : List ℕ) (q : ReadyQueue) (l : List LogEntry) (g : ℕ) (a
   -- ---- resuming
 
   module _ (i : ℕ) (p : Poll) where
-    pub resume-none : a ≡ OptionAwaited.None → store_of ts os ps q l ≡ resume_after_child (frame g i) (gives (store_of ts os ps q l) (poll_of p))
+    pub resume-none : a ≡ None → store_of ts os ps q l ≡ resume_after_child (frame g i) (gives (store_of ts os ps q l) (poll_of p))
     unfolding resume_after_child resume_as object
     resume-none f = rw (← e, f)
 
-    module _ (w : AwaitedGather) (f : a ≡ OptionAwaited.Some w) where
+    module _ (w : AwaitedGather) (f : a ≡ Some w) where
       pub resume-ready : (v : Value) → p ≡ Poll.Ready v → {rs : List ℕ} → store_of ts os rs q l ≡ fill_place (store_of ts os ps q l) (awaited_gather_of w) i v
           → store_of ts os rs q l ≡ resume_after_child (frame g i) (gives (store_of ts os ps q l) (poll_of p))
       unfolding resume_after_child resume_as resume_in object

@@ -1,5 +1,5 @@
 -- The ways through the items of a gather, in the shape of what the code knows there.
-use Rattle.std.specs.Prelude.{◌≡◌, refl, List, [], length}
+use Rattle.std.specs.Prelude.{◌≡◌, refl, List, [], length, None, Some}
 use Rattle.std.proofs.Common.{sym, ap, ◌∙◌}
 use Rattle.std.proofs.Math.Option.{none, some, some-injective}
 use Prim.Native.Nat.{ℕ, suc, ◌+◌, ◌-◌, ◌≤◌, ◌<◌}
@@ -28,7 +28,7 @@ use Rattle.scheduler_states.specs.AwaitedLaws.{awaited_range}
 use Rattle.exec_poll.specs.Polls.{poll_of, Itemed, with_item, itemed, item_at}
 use Rattle.exec_commit.specs.Steps.{Goes, with_bit, stepped, step_at, stopped, stop_log, WalksOn, frame}
 use Rattle.scheduler_states.specs.declared.awaited.AwaitedGather.{AwaitedGather}
-use Rattle.scheduler_states.specs.declared.awaited.OptionAwaited.{OptionAwaited}
+use Rattle.scheduler_states.specs.Awaited.{OptionAwaited}
 use Rattle.exec_poll.specs.declared.item.Poll.{Poll}
 use Rattle.exec_poll.specs.declared.item.ItemPoll.{ItemPoll}
 use Rattle.exec_commit.specs.declared.step.ItemStep.{ItemStep}
@@ -71,7 +71,7 @@ pub record InPlace (w : AwaitedGather) (i : ℕ) : Type 0 where
   pub in_places : w.first + i < place_limit
   pub in_items : i < item_limit
 
-pub place_range : (os : List ℕ) (g : ℕ) (a : OptionAwaited) (w : AwaitedGather) (i : ℕ) → option_awaited a ≡ as_awaited (object_at os g) → a ≡ OptionAwaited.Some w
+pub place_range : (os : List ℕ) (g : ℕ) (a : OptionAwaited) (w : AwaitedGather) (i : ℕ) → option_awaited a ≡ as_awaited (object_at os g) → a ≡ Some w
     → i < count_of (object_at os g) → InPlace w i
 place_range os g a w i e f h =
     let n : w.count ≡ count_of (object_at os g) = awaited_count (object_at os g) (awaited_gather_of w) (sym (rw f at e)) in
@@ -112,11 +112,11 @@ module _ (ts os ps : List ℕ) (q : ReadyQueue) (l : List LogEntry) (g i : ℕ) 
   here = store_of ts os ps q l
 
   -- the gather is not awaited
-  pub step-none : a ≡ OptionAwaited.None → (go : Goes) → stepped (store_of ts os ps q (stop_log (step_at here g i at_end))) i ItemStep.End go ≡ step_at here g i go
+  pub step-none : a ≡ None → (go : Goes) → stepped (store_of ts os ps q (stop_log (step_at here g i at_end))) i ItemStep.End go ≡ step_at here g i go
   unfolding step_item object stepped
   step-none f = own_step ts os ps q l i ItemStep.End (λ go. step_at here g i go) (λ go. rw (← e, f))
 
-  module _ (w : AwaitedGather) (f : a ≡ OptionAwaited.Some w) {o : HeapId} (n : o ≡ (place_at ps (w.first + i)).item)
+  module _ (w : AwaitedGather) (f : a ≡ Some w) {o : HeapId} (n : o ≡ (place_at ps (w.first + i)).item)
       {us vs : List ℕ} {r : ReadyQueue} (x : ItemPoll)
       (h : with_item (store_of us vs ps r (item_at here g (awaited_gather_of w) o.0).store.log) x ≡ item_at here g (awaited_gather_of w) o.0) where
     abbrev there : List LogEntry

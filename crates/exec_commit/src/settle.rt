@@ -13,7 +13,7 @@ use crate::OBJECTS;
 use crate::step::{fill_place, open_place};
 use asyncio::{Awaiter, Error, GatherState, HeapId, Object, Value};
 use exec_poll::item::Poll;
-use scheduler_states::awaited::{OptionAwaited, as_awaited};
+use scheduler_states::awaited::{as_awaited};
 
 // A gather with that state; any other object as it is.
 fn with_state(o: Object, state: GatherState) -> Object
@@ -67,8 +67,8 @@ pub(crate) fn settle_gather_commit(objects: &mut [u64], g: HeapId) -> Poll
 {
     let a = as_awaited(objects, g);
     match a {
-        OptionAwaited::None => Poll::Pending,
-        OptionAwaited::Some(w) => {
+        None => Poll::Pending,
+        Some(w) => {
             if w.open_places == 0 {
                 set_gather(objects, g, GatherState::Completed);
                 return Poll::Ready(Value::List(g));
@@ -93,8 +93,8 @@ pub(crate) fn resume_after_child(
 {
     let a = as_awaited(objects, g);
     match a {
-        OptionAwaited::None => {}
-        OptionAwaited::Some(w) => match poll {
+        None => {}
+        Some(w) => match poll {
             Poll::Ready(v) => fill_place(places, w, next, v),
             Poll::Raised(_) => {}
             Poll::Pending => open_place(objects, g, w, next),

@@ -11,7 +11,7 @@ ghost use Rattle.contract.specs.Contract.{ObjectsLength, PlacesLength, LengthsAn
 
 use asyncio::{Error, GatherState, HeapId, Object, Place, TASKS, Value};
 use exec_poll::item::{ItemPoll, Poll, item};
-use scheduler_states::awaited::{AwaitedGather, OptionAwaited, as_awaited};
+use scheduler_states::awaited::{AwaitedGather, as_awaited};
 
 // How a walk stands after an item: it goes on, or it stops because the gather is not awaited, at a nested gather, at an error.
 #[derive(Drop)]
@@ -122,8 +122,8 @@ fn step_item(
 {
     let a = as_awaited(objects, g);
     match a {
-        OptionAwaited::None => ItemStep::End,
-        OptionAwaited::Some(w) => {
+        None => ItemStep::End,
+        Some(w) => {
             let o = rows::parts::item_at(places, w.first as usize + i);
             let polled = item(tasks, objects, places, ids, len, g, w, o);
             match polled {

@@ -1,5 +1,5 @@
 -- The turns of the climbs, in the shape of what the code knows there.
-use Rattle.std.specs.Prelude.{◌≡◌, refl, List, length, replicate}
+use Rattle.std.specs.Prelude.{◌≡◌, refl, List, length, replicate, None, Some}
 use Rattle.std.proofs.Math.Path.{sym}
 use Rattle.std.proofs.Common.{ap, ◌∙◌}
 use Rattle.std.proofs.Math.Option.{Option, none, some}
@@ -13,18 +13,17 @@ use Rattle.asyncio.specs.declared.Error.{Error}
 use Rattle.asyncio.specs.declared.Awaiter.{Awaiter}
 use Rattle.asyncio.specs.declared.TaskState.{TaskState}
 use Rattle.queue.specs.declared.ReadyQueue.{ReadyQueue}
-use Rattle.scheduler.specs.declared.tasks.FoundTask.{FoundTask}
+use Rattle.scheduler.specs.Search.{FoundTask}
 use Rattle.machine.specs.Store.{Store, LogEntry, store_of}
 use Rattle.machine.specs.Delivery.{Delivery, Settled, nobody_woken, deliver_to_task, resolve_child, fail_gather, climb, awaited_in, awaited_count, send_value, send_error, deliver_awaiter_success, deliver_awaiter_failure}
 use Rattle.machine_laws.specs.Views.{Sized}
 use Rattle.machine_laws.specs.DeliveryLaws.{Sent, resolve_sent, fail_sent, success_climbs, failure_climbs}
 use Rattle.exec_fill.specs.Delivered.{delivered, settled}
-use Rattle.exec_fill.specs.declared.gather.Onward.{Onward}
 
 module _ (ts os ps : List ℕ) (q : ReadyQueue) where
   -- nobody gets anything
   pub nobody : (l : List LogEntry) (v : Value) {d : Delivery} → deliver_awaiter_success (store_of ts os ps q l) Awaiter.Nobody v ≡ d
-      → delivered (store_of ts os ps q d.store.log) FoundTask.Nothing ≡ d
+      → delivered (store_of ts os ps q d.store.log) None ≡ d
   unfolding deliver_awaiter_success send_value nobody_woken
   nobody l v e = rw (← e)
 
@@ -39,13 +38,13 @@ module _ (ts os ps : List ℕ) (q : ReadyQueue) where
   module _ (g source : HeapId) (v : Value) {us rs : List ℕ} where
     -- a gather that sends nothing on
     pub stays : (l : List LogEntry) {d : Delivery} → deliver_awaiter_success (store_of ts os ps q l) (Awaiter.GatherSlot g source) v ≡ d
-        → settled (store_of ts us rs q l) Onward.Nowhere ≡ resolve_child (store_of ts os ps q l) g.0 source.0 v
-        → delivered (store_of ts us rs q d.store.log) FoundTask.Nothing ≡ d
+        → settled (store_of ts us rs q l) None ≡ resolve_child (store_of ts os ps q l) g.0 source.0 v
+        → delivered (store_of ts us rs q d.store.log) None ≡ d
     unfolding deliver_awaiter_success send_value climb nobody_woken
     stays l e f = rw (← e, ← f)
 
     module _ (w : Awaiter) (z : length ts ≡ tasks_length) (y : length os ≡ objects_length) (x : length ps ≡ places_length) (h : g.0 < object_limit) (l : List LogEntry)
-        (f : settled (store_of ts us rs q l) (Onward.To w) ≡ resolve_child (store_of ts os ps q l) g.0 source.0 v) where
+        (f : settled (store_of ts us rs q l) (Some w) ≡ resolve_child (store_of ts os ps q l) g.0 source.0 v) where
       sized : Sized (store_of ts os ps q l)
       sized = record { tasks_sized = z; objects_sized = y; places_sized = x }
 
@@ -70,7 +69,7 @@ module _ (ts os ps : List ℕ) (q : ReadyQueue) where
 
 module _ (ts os ps : List ℕ) (q : ReadyQueue) (x : Error) where
   pub error-nobody : (l : List LogEntry) {d : Delivery} → deliver_awaiter_failure (store_of ts os ps q l) Awaiter.Nobody x ≡ d
-      → delivered (store_of ts os ps q d.store.log) FoundTask.Nothing ≡ d
+      → delivered (store_of ts os ps q d.store.log) None ≡ d
   unfolding deliver_awaiter_failure send_error nobody_woken
   error-nobody l e = rw (← e)
 
@@ -83,13 +82,13 @@ module _ (ts os ps : List ℕ) (q : ReadyQueue) (x : Error) where
 
   module _ (g source : HeapId) {us : List ℕ} where
     pub error-stays : (l : List LogEntry) {d : Delivery} → deliver_awaiter_failure (store_of ts os ps q l) (Awaiter.GatherSlot g source) x ≡ d
-        → settled (store_of ts us ps q l) Onward.Nowhere ≡ fail_gather (store_of ts os ps q l) g.0 x
-        → delivered (store_of ts us ps q d.store.log) FoundTask.Nothing ≡ d
+        → settled (store_of ts us ps q l) None ≡ fail_gather (store_of ts os ps q l) g.0 x
+        → delivered (store_of ts us ps q d.store.log) None ≡ d
     unfolding deliver_awaiter_failure send_error climb nobody_woken
     error-stays l e f = rw (← e, ← f)
 
     module _ (w : Awaiter) (z : length ts ≡ tasks_length) (y : length os ≡ objects_length) (v : length ps ≡ places_length) (h : g.0 < object_limit) (l : List LogEntry)
-        (f : settled (store_of ts us ps q l) (Onward.To w) ≡ fail_gather (store_of ts os ps q l) g.0 x) where
+        (f : settled (store_of ts us ps q l) (Some w) ≡ fail_gather (store_of ts os ps q l) g.0 x) where
       error-sized : Sized (store_of ts os ps q l)
       error-sized = record { tasks_sized = z; objects_sized = y; places_sized = v }
 

@@ -1,8 +1,8 @@
 -- What a call of delivery does: it gives the task that it woke, whom the caller puts at the queue's back.
-use Rattle.std.specs.Prelude.{ℕ, List}
+use Rattle.std.specs.Prelude.{ℕ, List, None, Some}
 use Rattle.queue.specs.Queue.{push_back}
 use Rattle.queue.specs.declared.ReadyQueue.{ReadyQueue}
-use Rattle.scheduler.specs.declared.tasks.FoundTask.{FoundTask}
+use Rattle.scheduler.specs.Search.{FoundTask}
 use Rattle.machine.specs.Store.{Store, LogEntry}
 use Rattle.machine.specs.Delivery.{Delivery}
 use Rattle.contract.specs.Contract.{Slice, kept, DoesAt, Does, DoesKeepingPlaces, Changes, ChangesKeepingPlaces}
@@ -10,8 +10,8 @@ use Rattle.exec_fill.specs.Delivered.{delivered}
 
 -- a queue with the task that was woken at its back
 abbrev pub queued : ReadyQueue → FoundTask → ReadyQueue
-queued q (FoundTask.At t) = push_back q t.0
-queued q FoundTask.Nothing = q
+queued q (Some t) = push_back q t.0
+queued q None = q
 
 -- The call delivers, as f does, whatever the queue is: it woke r.
 abbrev pub Delivers : Slice → Slice → Slice → (Store → Delivery) → FoundTask → Type 0

@@ -1,5 +1,5 @@
 -- The ways through resolve_future and fail_future, in the shape of what the code knows there.
-use Rattle.std.specs.Prelude.{◌≡◌, List, ℕ, ◌<◌}
+use Rattle.std.specs.Prelude.{◌≡◌, List, ℕ, ◌<◌, None, Some}
 use Rattle.std.proofs.Common.{sym, ap, ◌∙◌, arith}
 use Rattle.std.proofs.Math.Option.{none, some}
 use Rattle.asyncio.specs.Limits.{object_limit}
@@ -15,8 +15,8 @@ use Rattle.asyncio.specs.declared.Object.{Object}
 use Rattle.rows.specs.Tables.{object_at, object_put, header_at}
 use Rattle.rows.specs.TableLaws.{object_at-fits, header_at-fits}
 use Rattle.queue.specs.declared.ReadyQueue.{ReadyQueue}
-use Rattle.scheduler.specs.declared.tasks.FoundTask.{FoundTask}
-use Rattle.scheduler.specs.declared.tasks.FoundObject.{FoundObject}
+use Rattle.scheduler.specs.Search.{FoundTask}
+use Rattle.scheduler.specs.Search.{FoundObject}
 use Rattle.scheduler.specs.Search.{found_object}
 use Rattle.scheduler.specs.SearchLaws.{object-found, no_object}
 use Rattle.machine.specs.Store.{LogEntry, store_of, object, put_object}
@@ -27,7 +27,7 @@ use Rattle.exec_fill.specs.Delivered.{delivered}
 use Rattle.exec_deliver.specs.Futures.{resolve_at, fail_at}
 
 -- the object that a call was found at
-pub found_below : (os : List ℕ) (call : ℕ) (n : HeapId) {d : FoundObject} → d ≡ found_object (pending_external_in os call) → d ≡ FoundObject.At n → n.0 < object_limit
+pub found_below : (os : List ℕ) (call : ℕ) (n : HeapId) {d : FoundObject} → d ≡ found_object (pending_external_in os call) → d ≡ Some n → n.0 < object_limit
 unfolding pending_external_in
 found_below os call n e t =
     omega (arith, first_below (is_call os call) (header_at os).made 0 n.0 (object-found (first_from (is_call os call) 0 (header_at os).made) n (sym e ∙ t)), (header_at-fits os).made_fits)
@@ -75,21 +75,21 @@ module _ (ts os ps : List ℕ) (q : ReadyQueue) (l : List LogEntry) where
       fails-at v p k d = rw (fail-goes v p) (ap (λ (r : Delivery). r.store) d)
 
   module _ (call : ℕ) {d : FoundObject} (e : d ≡ found_object (pending_external_in os call)) where
-    free : d ≡ FoundObject.Nothing → pending_external_in os call ≡ none
+    free : d ≡ None → pending_external_in os call ≡ none
     free t = no_object (pending_external_in os call) (sym e ∙ t)
 
-    here : (n : HeapId) → d ≡ FoundObject.At n → pending_external_in os call ≡ some n.0
+    here : (n : HeapId) → d ≡ Some n → pending_external_in os call ≡ some n.0
     here n t = object-found (pending_external_in os call) n (sym e ∙ t)
 
-    pub resolve_none : (v : Value) → d ≡ FoundObject.Nothing → store_of ts os ps q (resolve_future (store_of ts os ps q l) call v).log ≡ resolve_future (store_of ts os ps q l) call v
+    pub resolve_none : (v : Value) → d ≡ None → store_of ts os ps q (resolve_future (store_of ts os ps q l) call v).log ≡ resolve_future (store_of ts os ps q l) call v
     unfolding resolve_future pending_external settle_found
     resolve_none v t = rw (free t)
 
-    pub fail-none : (v : Error) → d ≡ FoundObject.Nothing → store_of ts os ps q (fail_future (store_of ts os ps q l) call v).log ≡ fail_future (store_of ts os ps q l) call v
+    pub fail-none : (v : Error) → d ≡ None → store_of ts os ps q (fail_future (store_of ts os ps q l) call v).log ≡ fail_future (store_of ts os ps q l) call v
     unfolding fail_future pending_external settle_found
     fail-none v t = rw (free t)
 
-    module _ (n : HeapId) (t : d ≡ FoundObject.At n) {ts' os' ps' : List ℕ} {q' : ReadyQueue} where
+    module _ (n : HeapId) (t : d ≡ Some n) {ts' os' ps' : List ℕ} {q' : ReadyQueue} where
       pub resolve_found : (v : Value) → store_of ts' os' ps' q' (resolve_at (store_of ts os ps q l) n.0 v).log ≡ resolve_at (store_of ts os ps q l) n.0 v
           → store_of ts' os' ps' q' (resolve_future (store_of ts os ps q l) call v).log ≡ resolve_future (store_of ts os ps q l) call v
       unfolding resolve_future pending_external resolve_at

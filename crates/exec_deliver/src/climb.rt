@@ -5,9 +5,8 @@ ghost use Rattle.contract.specs.Contract.{Lengths₂And, LengthsAnd};
 ghost use Rattle.exec_deliver.specs.Delivers.{Delivers, DeliversKeepingPlaces};
 
 use crate::task::deliver_to_task;
-use asyncio::{Awaiter, Error, TaskState, Value};
-use exec_fill::gather::{Onward, fail, resolve_child};
-use scheduler::tasks::FoundTask;
+use asyncio::{Awaiter, Error, TaskId, TaskState, Value};
+use exec_fill::gather::{fail, resolve_child};
 
 // Success climbs through each gather that it completes, and wakes the blocked task at the end: the task that was woken, whom the caller queues.
 pub fn deliver_awaiter_success(
@@ -16,7 +15,7 @@ pub fn deliver_awaiter_success(
     places: &mut [u64],
     awaiter: Awaiter,
     value: Value,
-) -> FoundTask
+) -> Option<TaskId>
     requires { LengthsAnd tasks.old objects.old places.old (AwaiterFits awaiter) }
     ensures { Delivers tasks objects places
         (λ s. deliver_awaiter_success s awaiter value) result }
@@ -25,13 +24,13 @@ pub fn deliver_awaiter_success(
     let mut given = value;
     loop {
         match to {
-            Awaiter::Nobody => return FoundTask::Nothing,
+            Awaiter::Nobody => return None,
             Awaiter::Task(t) => return deliver_to_task(tasks, t, TaskState::Woken(given)),
             Awaiter::GatherSlot { gather, source } => {
                 let onward = resolve_child(objects, places, gather, source, given);
                 match onward {
-                    Onward::Nowhere => return FoundTask::Nothing,
-                    Onward::To(w) => {
+                    None => return None,
+                    Some(w) => {
                         given = Value::List(gather);
                         to = w;
                     }
@@ -47,7 +46,7 @@ pub fn deliver_awaiter_failure(
     objects: &mut [u64],
     awaiter: Awaiter,
     error: Error,
-) -> FoundTask
+) -> Option<TaskId>
     requires { Lengths₂And tasks.old objects.old (AwaiterFits awaiter) }
     ensures { DeliversKeepingPlaces tasks objects
         (λ s. deliver_awaiter_failure s awaiter error) result }
@@ -55,13 +54,13 @@ pub fn deliver_awaiter_failure(
     let mut to = awaiter;
     loop {
         match to {
-            Awaiter::Nobody => return FoundTask::Nothing,
+            Awaiter::Nobody => return None,
             Awaiter::Task(t) => return deliver_to_task(tasks, t, TaskState::Raised(error)),
             Awaiter::GatherSlot { gather, source: _ } => {
                 let onward = fail(objects, gather, error);
                 match onward {
-                    Onward::Nowhere => return FoundTask::Nothing,
-                    Onward::To(w) => {
+                    None => return None,
+                    Some(w) => {
                         to = w;
                     }
                 }

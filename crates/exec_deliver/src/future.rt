@@ -7,8 +7,8 @@ ghost use Rattle.exec_deliver.specs.Delivers.{Wakes, WakesKeepingPlaces};
 ghost use Rattle.contract.specs.Contract.{Lengths₂, Lengths, Lengths₂And, LengthsAnd};
 
 use crate::climb::{deliver_awaiter_failure, deliver_awaiter_success};
-use asyncio::{Error, ExternalFutureState, HeapId, Object, Value};
-use scheduler::tasks::{FoundObject, FoundTask, take_pending_external};
+use asyncio::{Error, ExternalFutureState, HeapId, Object, TaskId, Value};
+use scheduler::tasks::{take_pending_external};
 
 // A stored result replaces the host's value.
 fn value_or(stored: Option<Value>, value: Value) -> Value
@@ -27,25 +27,25 @@ fn resolve_at(
     places: &mut [u64],
     o: HeapId,
     value: Value,
-) -> FoundTask
+) -> Option<TaskId>
     requires { LengthsAnd tasks.old objects.old places.old (o.0 < object_limit) }
     ensures { Wakes tasks objects places (λ s. resolve_at s o.0 value) result }
 {
     let x = rows::tables::load_object(objects, o);
     match x {
-        Object::Unmade => FoundTask::Nothing,
+        Object::Unmade => None,
         Object::Coroutine {
             function: _,
             state: _,
-        } => FoundTask::Nothing,
+        } => None,
         Object::GatherFuture {
             first: _,
             count: _,
             state: _,
-        } => FoundTask::Nothing,
+        } => None,
         Object::ExternalFuture { call, state } => match state {
-            ExternalFutureState::Resolved(_) => FoundTask::Nothing,
-            ExternalFutureState::Failed(_) => FoundTask::Nothing,
+            ExternalFutureState::Resolved(_) => None,
+            ExternalFutureState::Failed(_) => None,
             ExternalFutureState::Pending { awaiter, stored } => {
                 let v = value_or(stored, value);
                 rows::tables::store_object(
@@ -69,39 +69,39 @@ pub fn resolve_future(
     places: &mut [u64],
     call: u32,
     value: Value,
-) -> FoundTask
+) -> Option<TaskId>
     requires { Lengths tasks.old objects.old places.old }
     ensures { Wakes tasks objects places
         (λ s. resolve_future s call value) result }
 {
     let found = take_pending_external(objects, call);
     match found {
-        FoundObject::Nothing => FoundTask::Nothing,
-        FoundObject::At(o) => resolve_at(tasks, objects, places, o, value),
+        None => None,
+        Some(o) => resolve_at(tasks, objects, places, o, value),
     }
 }
 
 // Object `o`, if it is a pending external, has failed, and its awaiter is served: the task that was woken. A stored result is dropped.
-fn fail_at(tasks: &mut [u64], objects: &mut [u64], o: HeapId, error: Error) -> FoundTask
+fn fail_at(tasks: &mut [u64], objects: &mut [u64], o: HeapId, error: Error) -> Option<TaskId>
     requires { Lengths₂And tasks.old objects.old (o.0 < object_limit) }
     ensures { WakesKeepingPlaces tasks objects
         (λ s. fail_at s o.0 error) result }
 {
     let x = rows::tables::load_object(objects, o);
     match x {
-        Object::Unmade => FoundTask::Nothing,
+        Object::Unmade => None,
         Object::Coroutine {
             function: _,
             state: _,
-        } => FoundTask::Nothing,
+        } => None,
         Object::GatherFuture {
             first: _,
             count: _,
             state: _,
-        } => FoundTask::Nothing,
+        } => None,
         Object::ExternalFuture { call, state } => match state {
-            ExternalFutureState::Resolved(_) => FoundTask::Nothing,
-            ExternalFutureState::Failed(_) => FoundTask::Nothing,
+            ExternalFutureState::Resolved(_) => None,
+            ExternalFutureState::Failed(_) => None,
             ExternalFutureState::Pending { awaiter, stored: _ } => {
                 rows::tables::store_object(
                     objects,
@@ -118,14 +118,14 @@ fn fail_at(tasks: &mut [u64], objects: &mut [u64], o: HeapId, error: Error) -> F
 }
 
 // The task that the call's end woke, whom the caller queues. A call that is not pending is ignored.
-pub fn fail_future(tasks: &mut [u64], objects: &mut [u64], call: u32, error: Error) -> FoundTask
+pub fn fail_future(tasks: &mut [u64], objects: &mut [u64], call: u32, error: Error) -> Option<TaskId>
     requires { Lengths₂ tasks.old objects.old }
     ensures { WakesKeepingPlaces tasks objects
         (λ s. fail_future s call error) result }
 {
     let found = take_pending_external(objects, call);
     match found {
-        FoundObject::Nothing => FoundTask::Nothing,
-        FoundObject::At(o) => fail_at(tasks, objects, o, error),
+        None => None,
+        Some(o) => fail_at(tasks, objects, o, error),
     }
 }

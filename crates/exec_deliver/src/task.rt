@@ -7,26 +7,25 @@ ghost use Rattle.exec_deliver.specs.Delivers.{queued, DeliversOfTasks};
 
 use asyncio::{TASKS, TaskId, TaskState};
 use queue::push_lent;
-use scheduler::tasks::FoundTask;
 
 // A blocked task becomes ready with a value or an error: it was woken, and the caller queues it. Any other receives nothing.
-pub(crate) fn deliver_to_task(tasks: &mut [u64], t: TaskId, state: TaskState) -> FoundTask
+pub(crate) fn deliver_to_task(tasks: &mut [u64], t: TaskId, state: TaskState) -> Option<TaskId>
     requires { TasksLength tasks.old × (t.0 < task_limit) }
     ensures { DeliversOfTasks tasks (λ s. deliver_to_task s t.0 state) result }
 {
     if scheduler_states::states::is_blocked(tasks, t) {
         scheduler_states::states::make_ready(tasks, t, state);
-        return FoundTask::At(t);
+        return Some(t);
     }
-    FoundTask::Nothing
+    None
 }
 
 // The task that a delivery woke goes to the back of a lent queue.
-pub fn queue_woken(ids: &mut [u16; TASKS], len: &mut usize, woken: FoundTask)
+pub fn queue_woken(ids: &mut [u16; TASKS], len: &mut usize, woken: Option<TaskId>)
     ensures { queue_after ids len ≡ queued (queue_before ids len) woken }
 {
     match woken {
-        FoundTask::Nothing => {}
-        FoundTask::At(t) => push_lent(ids, len, t),
+        None => {}
+        Some(t) => push_lent(ids, len, t),
     }
 }

@@ -1,5 +1,5 @@
 -- The ways through handle_task_completion, complete, fail and resume_with_resolved_futures, in the shape of what the code knows there.
-use Rattle.std.specs.Prelude.{◌≡◌, Bool, true, false, List, [], ◌∷◌, ℕ, ◌<◌, eqb, length}
+use Rattle.std.specs.Prelude.{◌≡◌, Bool, true, false, List, [], ◌∷◌, ℕ, ◌<◌, eqb, length, None, Some}
 use Rattle.std.proofs.Math.Path.{refl}
 use Rattle.std.proofs.Common.{sym, ap, ◌∙◌, arith, eq-eqb, ne_eqb}
 use Rattle.std.proofs.Math.Option.{Option, none, some}
@@ -13,7 +13,7 @@ use Rattle.asyncio.specs.declared.TaskId.{TaskId}
 use Rattle.asyncio.specs.declared.Awaiter.{Awaiter}
 use Rattle.rows.specs.Tables.{task_at, object_at, object_put}
 use Rattle.queue.specs.declared.ReadyQueue.{ReadyQueue}
-use Rattle.scheduler.specs.declared.tasks.FoundTask.{FoundTask}
+use Rattle.scheduler.specs.Search.{FoundTask}
 use Rattle.exec_fill.specs.Delivered.{number, delivered}
 use Rattle.machine.specs.Store.{Store, LogEntry, exited, store_of, task, object, put_object, add_log}
 use Rattle.machine.specs.Scheduler.{pending_calls_in, pending_call_ids, remove_task, cleanup}
@@ -37,8 +37,8 @@ success_found ts os ps q l a v z y w f m d =
   where
     by : (n : FoundTask) → ((u : ℕ) → (deliver_awaiter_success (store_of ts os ps q l) a v).woken ≡ some u → u < task_limit)
         → number n ≡ (deliver_awaiter_success (store_of ts os ps q l) a v).woken → FoundFits n
-    by (FoundTask.At u) k g = k u.0 (sym g)
-    by FoundTask.Nothing k g = tt
+    by (Some u) k g = k u.0 (sym g)
+    by None k g = tt
 
 module _ (ts os ps : List ℕ) (q : ReadyQueue) (l : List LogEntry) where
   abbrev here : Store

@@ -10,14 +10,7 @@ ghost use Rattle.exec_fill.specs.Delivered.{Settles, SettlesKeepingPlaces};
 use crate::fill::fill_places;
 use asyncio::{Awaiter, Error, GatherState, HeapId, Object, Value};
 use rows::tables::store_object;
-use scheduler_states::awaited::{OptionAwaited, as_awaited};
-
-// Where the result of a gather goes on to: nowhere, where it was settled before or still waits.
-#[derive(Drop)]
-pub enum Onward {
-    Nowhere,
-    To(Awaiter),
-}
+use scheduler_states::awaited::{as_awaited};
 
 // Object `g` is a gather with these places, in that state.
 fn put_gather(objects: &mut [u64], g: HeapId, first: u16, count: u16, state: GatherState)
@@ -42,15 +35,15 @@ pub fn resolve_child(
     g: HeapId,
     source: HeapId,
     value: Value,
-) -> Onward
+) -> Option<Awaiter>
     requires { ObjectsLength objects.old × PlacesLength places.old × (g.0 < object_limit) }
     ensures { Settles objects places
         (λ s. resolve_child s g.0 source.0 value) result }
 {
     let a = as_awaited(objects, g);
     match a {
-        OptionAwaited::None => Onward::Nowhere,
-        OptionAwaited::Some(w) => {
+        None => None,
+        Some(w) => {
             let first = w.first;
             let count = w.count;
             let awaiter = w.awaiter;
@@ -64,31 +57,31 @@ pub fn resolve_child(
             );
             if left == 0 {
                 put_gather(objects, g, first, count, GatherState::Completed);
-                return Onward::To(awaiter);
+                return Some(awaiter);
             }
             let state = GatherState::Awaited {
                 awaiter,
                 open_places: left,
             };
             put_gather(objects, g, first, count, state);
-            Onward::Nowhere
+            None
         }
     }
 }
 
 // The first failure of an awaited gather. One that is not awaited keeps its state.
-pub fn fail(objects: &mut [u64], g: HeapId, error: Error) -> Onward
+pub fn fail(objects: &mut [u64], g: HeapId, error: Error) -> Option<Awaiter>
     requires { ObjectsLength objects.old × (g.0 < object_limit) }
     ensures { SettlesKeepingPlaces objects (λ s. fail_gather s g.0 error) result }
 {
     let a = as_awaited(objects, g);
     match a {
-        OptionAwaited::None => Onward::Nowhere,
-        OptionAwaited::Some(w) => {
+        None => None,
+        Some(w) => {
             let awaiter = w.awaiter;
             let state = GatherState::Failed(error);
             put_gather(objects, g, w.first, w.count, state);
-            Onward::To(awaiter)
+            Some(awaiter)
         }
     }
 }

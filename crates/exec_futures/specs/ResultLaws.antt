@@ -1,5 +1,5 @@
 -- The ways through apply_result and the loop of apply_future_results, in the shape of what the code knows there.
-use Rattle.std.specs.Prelude.{◌≡◌, List, [], ◌∷◌, ℕ, zero, suc, ◌+◌, ◌*◌, ◌/◌, ◌≤◌, eqb, length}
+use Rattle.std.specs.Prelude.{◌≡◌, List, [], ◌∷◌, ℕ, zero, suc, ◌+◌, ◌*◌, ◌/◌, ◌≤◌, eqb, length, None, Some}
 use Rattle.std.proofs.Math.Path.{refl}
 use Rattle.std.proofs.Common.{sym, ap, ◌∙◌, add-one, arith}
 use borrow.Author.Tests.{eq-eqb, ne_eqb}
@@ -10,7 +10,7 @@ use Rattle.queue.specs.declared.ReadyQueue.{ReadyQueue}
 use Rattle.queue.specs.Queue.{push_back, order_from, push_in_order}
 use Rattle.queue.proofs.QueueLaws.{push_back_either}
 use Rattle.queue.proofs.OrderLaws.{order_none, push_ordered}
-use Rattle.scheduler.specs.declared.tasks.FoundTask.{FoundTask}
+use Rattle.scheduler.specs.Search.{FoundTask}
 use Rattle.exec_deliver.specs.Delivers.{queued}
 use Rattle.machine.specs.Store.{Store, LogEntry, store_of, put_queue}
 use Rattle.machine.specs.Delivery.{resolve_future, fail_future}
@@ -90,16 +90,16 @@ module _ (bs : List ℕ) (s : Store) where
 
 -- a queue with the task that was woken in its place behind the first n
 abbrev pub queued_in_order : ReadyQueue → FoundTask → ℕ → ReadyQueue
-queued_in_order q (FoundTask.At t) n = push_in_order q t.0 n
-queued_in_order q FoundTask.Nothing n = q
+queued_in_order q (Some t) n = push_in_order q t.0 n
+queued_in_order q None n = q
 
 queued_order : (q : ReadyQueue) (w : FoundTask) (n : ℕ) → n ≤ q.len → queued_in_order (order_from q n) w n ≡ order_from (queued q w) n
-queued_order q (FoundTask.At t) n h = sym (push_ordered q t.0 n h)
-queued_order q FoundTask.Nothing n h = refl
+queued_order q (Some t) n h = sym (push_ordered q t.0 n h)
+queued_order q None n h = refl
 
 queued_long : (q : ReadyQueue) (w : FoundTask) (n : ℕ) → n ≤ q.len → n ≤ (queued q w).len
-queued_long q (FoundTask.At t) n h = push_back_either (λ r. n ≤ r.len) q t.0 (λ room. omega arith) (λ full. h)
-queued_long q FoundTask.Nothing n h = h
+queued_long q (Some t) n h = push_back_either (λ r. n ≤ r.len) q t.0 (λ room. omega arith) (λ full. h)
+queued_long q None n h = h
 
 -- What i results have left of the slices and the queue q₀: the code's queue is the machine's, the entries behind the former ones in order.
 pub record Applied (bs ts₀ os₀ ps₀ : List ℕ) (q₀ : ReadyQueue) (i : ℕ) (ts os ps : List ℕ) (left : ReadyQueue) : Type 0 where

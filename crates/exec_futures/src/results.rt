@@ -6,10 +6,9 @@ ghost use Rattle.exec_deliver.specs.Delivers.{Wakes};
 ghost use Rattle.contract.specs.Contract.{Lengths, LengthsAnd, Changes};
 
 use asyncio::words::{to_error, to_value};
-use asyncio::{Error, RESULT_BYTES};
+use asyncio::{Error, RESULT_BYTES, TaskId};
 use exec_deliver::future::{fail_future, resolve_future};
 use queue::ReadyQueue;
-use scheduler::tasks::FoundTask;
 
 // The result at byte `at`, applied: the task that it woke. Kinds: 0 return, 1 error, 2 still a future, 3 not found, 4 module file.
 fn apply_result(
@@ -18,7 +17,7 @@ fn apply_result(
     places: &mut [u64],
     results: &[u8],
     at: usize,
-) -> FoundTask
+) -> Option<TaskId>
     requires { LengthsAnd tasks.old objects.old places.old (at + 14 ≤ length results.now) }
     ensures { Wakes tasks objects places
         (λ s. apply_result s (result_at results.now at)) result }
@@ -35,7 +34,7 @@ fn apply_result(
         return fail_future(tasks, objects, call, to_error(0, number));
     }
     if kind == 2 {
-        return FoundTask::Nothing;
+        return None;
     }
     if kind == 3 {
         return fail_future(tasks, objects, call, Error::NotFound);
@@ -62,8 +61,8 @@ pub fn apply_future_results(
     while i < n {
         let woken = apply_result(tasks, objects, places, results, i * RESULT_BYTES);
         match woken {
-            FoundTask::Nothing => {}
-            FoundTask::At(t) => left = left.push_in_order(t, stood),
+            None => {}
+            Some(t) => left = left.push_in_order(t, stood),
         }
         i += 1;
     }

@@ -1,6 +1,7 @@
 -- Who has control, as the code answers it.
-use Rattle.std.specs.Prelude.{ℕ, ◌<◌, List}
+use Rattle.std.specs.Prelude.{ℕ, ◌<◌, List, None, Some}
 use Rattle.std.proofs.Math.Option.{Option, none, some}
+use Rattle.std.specs.Prelude as rust
 use Rattle.asyncio.specs.Limits.{task_limit}
 use Rattle.asyncio.specs.declared.Moment.{Moment}
 use Rattle.asyncio.specs.declared.Header.{Header}
@@ -10,10 +11,9 @@ use Rattle.machine.specs.Store.{Store, LogEntry}
 use Rattle.machine.specs.Scheduler.{pending_calls_in}
 use Rattle.machine.specs.Events as machine
 use Rattle.contract.specs.Contract.{Slice, Count, queue_before, queue_after, kept, DoesKeepingPlaces, DoesKeepingLogAt, DoesOfObjects}
-use Rattle.scheduler.specs.declared.tasks.FoundTask.{FoundTask}
+use Rattle.scheduler.specs.Search.{FoundTask}
 use Rattle.exec_switch.specs.declared.control.How.{How}
 use Rattle.exec_switch.specs.declared.control.Control.{Control}
-use Rattle.exec_switch.specs.declared.cycle.NewFunction.{NewFunction}
 
 -- the objects' words with another moment
 unfoldable pub moment_put : List ℕ → Moment → List ℕ
@@ -45,15 +45,19 @@ switched_of s c = record { store = s; control = control_of s.objects c }
 abbrev pub awaited_of : Store → Control → ℕ → machine.Awaited
 awaited_of s c n = record { store = s; control = control_of s.objects c; steps = n }
 
+-- the function of a new coroutine, or none
+abbrev pub NewFunction : Type 0
+NewFunction = rust.Option ℕ
+
 -- the function of a new coroutine
 abbrev pub function_of : Option ℕ → NewFunction
-function_of none = NewFunction.None
-function_of (some f) = NewFunction.Some f
+function_of none = None
+function_of (some f) = Some f
 
 -- a task that was found has a number in range
 abbrev pub FoundFits : FoundTask → Type 0
-FoundFits (FoundTask.At t) = t.0 < task_limit
-FoundFits FoundTask.Nothing = Unit {0}
+FoundFits (Some t) = t.0 < task_limit
+FoundFits None = Unit {0}
 
 -- ---- what a call does
 

@@ -1,6 +1,6 @@
 -- The ways through activate_task, start_task, handle_task_failure, resume_after_task_exit and switch_or_yield, in the shape of what the
 -- code knows there, and how many tasks live on each of them.
-use Rattle.std.specs.Prelude.{◌≡◌, refl, ℕ, suc, ◌<◌, eqb, length, get_or}
+use Rattle.std.specs.Prelude.{◌≡◌, refl, ℕ, suc, ◌<◌, eqb, length, get_or, None, Some}
 use Rattle.std.proofs.Common.{sym, ◌∙◌, mod-lt, arith, eq-eqb, ne_eqb}
 use Rattle.std.proofs.Math.Path.{ap}
 use mathlib.Core.List.{List, [], ◌∷◌}
@@ -18,7 +18,7 @@ use Rattle.rows.specs.Tables.{task_at, task_put, object_at, object_put}
 use Rattle.rows.specs.TableLaws.{task_at-fits}
 use Rattle.queue.specs.declared.ReadyQueue.{ReadyQueue}
 use Rattle.queue.specs.Queue.{front_of, pop_front, remove}
-use Rattle.scheduler.specs.declared.tasks.FoundTask.{FoundTask}
+use Rattle.scheduler.specs.Search.{FoundTask}
 use Rattle.exec_fill.specs.Delivered.{number, delivered}
 use Rattle.exec_deliver.specs.ClimbLaws.{some-places, some_places_long}
 use Rattle.machine.specs.Store.{Store, LogEntry, exited, store_of, task, put_task, object, put_object, put_queue, add_log, absent, set_moment, set_state, put_header}
@@ -34,7 +34,7 @@ use Rattle.exec_switch.specs.Control.{switched_of, function_of, FoundFits}
 use Rattle.exec_switch.specs.ControlLaws.{some-tasks, some_tasks_long}
 use Rattle.exec_switch.specs.LogLaws.{same_switch}
 use Rattle.exec_switch.specs.declared.control.Control.{Control}
-use Rattle.exec_switch.specs.declared.cycle.NewFunction.{NewFunction}
+use Rattle.exec_switch.specs.Control.{NewFunction}
 
 -- the number at a queue's front is a task's
 pub front_fits : (q : ReadyQueue) → (front_of q).0 < task_limit
@@ -82,15 +82,15 @@ module _ (ts os ps : List ℕ) (q : ReadyQueue) (l : List LogEntry) where
   -- ---- start_task
 
   module _ (t : ℕ) {k : HeapId} (e : k ≡ (task_at ts t).coroutine) {f : NewFunction} (g : f ≡ function_of (new_function (object_at os k.0))) where
-    function-none : (o : Option ℕ) → function_of o ≡ NewFunction.None → o ≡ none
+    function-none : (o : Option ℕ) → function_of o ≡ None → o ≡ none
     function-none none i = refl
     function-none (some n) i = let v : ◌≡◌ {A = ℕ} 0 1 = cc in absurd (omega arith)
 
-    function-some : (o : Option ℕ) (n : ℕ) → function_of o ≡ NewFunction.Some n → o ≡ some n
+    function-some : (o : Option ℕ) (n : ℕ) → function_of o ≡ Some n → o ≡ some n
     function-some none n i = let v : ◌≡◌ {A = ℕ} 0 1 = cc in absurd (omega arith)
     function-some (some m) n i = let v : m ≡ n = cc in ap some v
 
-    pub start-fails : f ≡ NewFunction.None → {ts' os' : List ℕ} {q' : ReadyQueue} (c : Control)
+    pub start-fails : f ≡ None → {ts' os' : List ℕ} {q' : ReadyQueue} (c : Control)
         → switched_of (store_of ts' os' ps q' (handle_task_failure activate here t Error.CoroutineReuse).store.log) c ≡ handle_task_failure activate here t Error.CoroutineReuse
         → switched_of (store_of ts' os' ps q' (start_task activate here t).store.log) c ≡ start_task activate here t
     start-fails i c r = same_switch fails c r
@@ -98,7 +98,7 @@ module _ (ts os ps : List ℕ) (q : ReadyQueue) (l : List LogEntry) where
         fails : start_task activate here t ≡ handle_task_failure activate here t Error.CoroutineReuse
         fails = unfold start_task start_by task object in (rw (← e, function-none (new_function (object_at os k.0)) (sym g ∙ i)))
 
-    pub start-runs : (n : ℕ) → f ≡ NewFunction.Some n → {us : List ℕ} → us ≡ object_put os k.0 (Object.Coroutine n CoroutineState.Running)
+    pub start-runs : (n : ℕ) → f ≡ Some n → {us : List ℕ} → us ≡ object_put os k.0 (Object.Coroutine n CoroutineState.Running)
         → {ts' os' : List ℕ} {q' : ReadyQueue} (c : Control)
         → switched_of (store_of ts' os' ps q' l) c ≡ run (store_of ts us ps q l) t (start k.0 n)
         → switched_of (store_of ts' os' ps q' (start_task activate here t).store.log) c ≡ start_task activate here t
@@ -109,13 +109,13 @@ module _ (ts os ps : List ℕ) (q : ReadyQueue) (l : List LogEntry) where
 
   -- ---- resume_after_task_exit
 
-  pub exit_next : (m : FoundTask) → m ≡ FoundTask.Nothing → {ts' os' : List ℕ} {q' : ReadyQueue} (c : Control)
+  pub exit_next : (m : FoundTask) → m ≡ None → {ts' os' : List ℕ} {q' : ReadyQueue} (c : Control)
       → switched_of (store_of ts' os' ps q' (resume_next activate here).store.log) c ≡ resume_next activate here
       → switched_of (store_of ts' os' ps q' (resume_after_task_exit activate (delivered here m)).store.log) c ≡ resume_after_task_exit activate (delivered here m)
   unfolding resume_after_task_exit
   exit_next m e c r = rw e r
 
-  pub exit_wakes : (m : FoundTask) (t : TaskId) → m ≡ FoundTask.At t → {p : ReadyQueue} → p ≡ remove q t.0 → {ts' os' : List ℕ} {q' : ReadyQueue} (c : Control)
+  pub exit_wakes : (m : FoundTask) (t : TaskId) → m ≡ Some t → {p : ReadyQueue} → p ≡ remove q t.0 → {ts' os' : List ℕ} {q' : ReadyQueue} (c : Control)
       → switched_of (store_of ts' os' ps q' (activate (store_of ts os ps p l) t.0).store.log) c ≡ activate (store_of ts os ps p l) t.0
       → switched_of (store_of ts' os' ps q' (resume_after_task_exit activate (delivered here m)).store.log) c ≡ resume_after_task_exit activate (delivered here m)
   unfolding resume_after_task_exit remove_from_ready_queue put_queue
@@ -204,5 +204,5 @@ module _ (ts os : List ℕ) (q : ReadyQueue) (t : ℕ) (x : Error) (z : length t
     where
       by : (n : FoundTask) → ((u : ℕ) → (deliver_awaiter_failure (store_of ts os some-places q []) a x).woken ≡ some u → u < task_limit)
           → number n ≡ (deliver_awaiter_failure (store_of ts os some-places q []) a x).woken → FoundFits n
-      by (FoundTask.At u) k g = k u.0 (sym g)
-      by FoundTask.Nothing k g = tt
+      by (Some u) k g = k u.0 (sym g)
+      by None k g = tt

@@ -13,33 +13,25 @@ use asyncio::{CoroutineState, Error, HeapId, Object, TASKS, TaskId, TaskState};
 use exec_deliver::climb::deliver_awaiter_failure;
 use exec_deliver::task::queue_woken;
 use queue::{front_lent, pop_lent, remove_lent};
-use scheduler::tasks::FoundTask;
 use scheduler_states::states::remove_task_lent;
 
-// The function of a new coroutine.
-#[derive(Drop)]
-pub enum NewFunction {
-    None,
-    Some(u32),
-}
-
-fn new_function(objects: &[u64], c: HeapId) -> NewFunction
+fn new_function(objects: &[u64], c: HeapId) -> Option<u32>
     requires { ObjectsLength objects.now × (c.0 < object_limit) }
     ensures { result ≡ function_of (new_function (object_at objects.now c.0)) }
 {
     let x = rows::tables::load_object(objects, c);
     match x {
-        Object::Unmade => NewFunction::None,
-        Object::ExternalFuture { call: _, state: _ } => NewFunction::None,
+        Object::Unmade => None,
+        Object::ExternalFuture { call: _, state: _ } => None,
         Object::GatherFuture {
             first: _,
             count: _,
             state: _,
-        } => NewFunction::None,
+        } => None,
         Object::Coroutine { function, state } => match state {
-            CoroutineState::New => NewFunction::Some(function),
-            CoroutineState::Running => NewFunction::None,
-            CoroutineState::Completed => NewFunction::None,
+            CoroutineState::New => Some(function),
+            CoroutineState::Running => None,
+            CoroutineState::Completed => None,
         },
     }
 }
@@ -83,7 +75,7 @@ fn start_task(
     let c = rows::parts::coroutine_at(tasks, t);
     let f = new_function(objects, c);
     match f {
-        NewFunction::None => handle_task_failure(
+        None => handle_task_failure(
             tasks,
             objects,
             ids,
@@ -91,7 +83,7 @@ fn start_task(
             t,
             Error::CoroutineReuse,
         ),
-        NewFunction::Some(function) => {
+        Some(function) => {
             rows::tables::store_object(
                 objects,
                 c,
@@ -141,15 +133,15 @@ pub fn resume_after_task_exit(
     objects: &mut [u64],
     ids: &mut [u16; TASKS],
     len: &mut usize,
-    woken: FoundTask,
+    woken: Option<TaskId>,
 ) -> Control
     requires { Lengths₂And tasks.old objects.old (FoundFits woken) }
     ensures { SwitchesKeepingPlaces tasks objects ids len
         (λ s. resume_after_task_exit activate (delivered s woken)) result }
 {
     match woken {
-        FoundTask::Nothing => switch_or_yield(tasks, objects, ids, len),
-        FoundTask::At(t) => {
+        None => switch_or_yield(tasks, objects, ids, len),
+        Some(t) => {
             remove_lent(ids, len, t);
             activate_task(tasks, objects, ids, len, t)
         }

@@ -1,5 +1,5 @@
 -- What a removal promises (document 02, No. 8): whether the task stood in the queue, at which position, and that the others keep their former order.
-use Rattle.std.specs.Prelude.{◌≡◌, refl, Bool, true, false, ℕ, suc, ◌+◌, ◌-◌, ◌≤◌, ◌<◌, eqb, ltb, length, take, drop}
+use Rattle.std.specs.Prelude.{◌≡◌, refl, Bool, true, false, ℕ, suc, ◌+◌, ◌-◌, ◌≤◌, ◌<◌, eqb, ltb, length, take, drop, None, Some}
 use Rattle.std.proofs.Common.{sym, subst, ◌∙◌, add-one, length-append, drop_of_length-le, take_at}
 use Rattle.std.proofs.Math.Path.{ap}
 use mathlib.Core.List.{List, [], ◌∷◌, ◌++◌, append-nil}
@@ -8,7 +8,7 @@ use borrow.Author.Tests.{eq-eqb, eqb-true, ltb-true, ltb-false, lt-ltb, le-ltb}
 use Rattle.asyncio.specs.States.{pick}
 use Rattle.asyncio.specs.Limits.{task_limit}
 use Rattle.queue.specs.declared.ReadyQueue.{ReadyQueue}
-use Rattle.queue.specs.declared.Position.{Position}
+use Rattle.queue.specs.Queue.{Position}
 use Rattle.queue.specs.Queue.{entries, push_back, drop_entry, drop_place, find_task, remove, position_from, stood_at, removed_count, position, retain, occurrences, Distinct}
 use Rattle.queue.proofs.QueueLaws.{find_task-position, length-entries, entries-drop_place, entries_push, drop_place_either, push_back-len, push_back-length, absent-head, position_absent, remove_absent, retain-absent, occurrences_append, at_most_once}
 use Rattle.queue.specs.RemovalLaws.{Removal}
@@ -60,7 +60,7 @@ removal q t l h = rw (le-ltb task_limit q.len h) (by (ltb at q.len) refl)
     left : entries (drop_place q at) ≡ take at (entries q) ++ drop (at + 1) (entries q)
     left = entries-drop_place q at l h
 
-    by : (b : Bool) → ltb at q.len ≡ b → Removal t (entries q) (pick b (Position.At at) Position.Nowhere) (entries (drop_place q at))
+    by : (b : Bool) → ltb at q.len ≡ b → Removal t (entries q) (pick b (Some at) None) (entries (drop_place q at))
     by true e =
         let there : position (entries q) t < length (entries q) = rw (← first, length-entries q l h) (ltb-true at q.len e) in
         let f = first_of-list (entries q) t there in
@@ -70,12 +70,12 @@ removal q t l h = rw (le-ltb task_limit q.len h) (by (ltb at q.len) refl)
         (not_in_list (entries q) t none, drop_place_either (λ r. entries r ≡ entries q) q at (λ inside within. absurd (omega (arith, ltb-false at q.len e))) (λ behind. refl) (λ over. refl))
 
 -- it stood at i
-pub removed-at : (q : ReadyQueue) (t i : ℕ) → length q.ids ≡ task_limit → q.len ≤ task_limit → stood_at q t ≡ Position.At i
+pub removed-at : (q : ReadyQueue) (t i : ℕ) → length q.ids ≡ task_limit → q.len ≤ task_limit → stood_at q t ≡ Some i
     → (entries q ≡ take i (entries q) ++ (t ∷ drop (i + 1) (entries q))) × (occurrences (take i (entries q)) t ≡ 0) × (entries (remove q t) ≡ take i (entries q) ++ drop (i + 1) (entries q))
 removed-at q t i l h e = unfold Removal in (subst (λ (p : Position). Removal t (entries q) p (entries (remove q t))) e (removal q t l h))
 
 -- it stood nowhere: every place of the queue stays, the unused ones too
-pub removed-none : (q : ReadyQueue) (t : ℕ) → length q.ids ≡ task_limit → q.len ≤ task_limit → stood_at q t ≡ Position.Nowhere → (occurrences (entries q) t ≡ 0) × (remove q t ≡ q)
+pub removed-none : (q : ReadyQueue) (t : ℕ) → length q.ids ≡ task_limit → q.len ≤ task_limit → stood_at q t ≡ None → (occurrences (entries q) t ≡ 0) × (remove q t ≡ q)
 removed-none q t l h e =
     let absent : occurrences (entries q) t ≡ 0 = unfold Removal in (subst (λ (p : Position). Removal t (entries q) p (entries (remove q t))) e (removal q t l h)).0 in
     (absent, remove_absent q t l absent)
@@ -89,7 +89,7 @@ removed-length q t = by (ltb task_limit q.len) (ltb at q.len) refl
     at = find_task q t
 
     by : (a b : Bool) → ltb at q.len ≡ b
-        → q.len ≡ (pick a q (pick b (drop_entry q at) q)).len + removed_count (pick a Position.Nowhere (pick b (Position.At at) Position.Nowhere))
+        → q.len ≡ (pick a q (pick b (drop_entry q at) q)).len + removed_count (pick a None (pick b (Some at) None))
     by true b e = omega arith
     by false true e = omega (arith, ltb-true at q.len e)
     by false false e = omega arith
@@ -109,7 +109,7 @@ retain_around (x ∷ a) t b = by (eqb x t) (retain_around a t b)
 
 pub removal_retains : (t : ℕ) (l : List ℕ) (p : Position) (r : List ℕ) → Distinct l → Removal t l p r → r ≡ retain l t
 unfolding Removal
-removal_retains t l (Position.At i) r d k =
+removal_retains t l (Some i) r d k =
     let a = take i l in
     let b = drop (i + 1) l in
     let n : occurrences (a ++ (t ∷ b)) t ≤ 1 = subst (λ (m : List ℕ). occurrences m t ≤ 1) k.0 (at_most_once l d t) in
@@ -118,19 +118,19 @@ removal_retains t l (Position.At i) r d k =
     let behind : occurrences b t ≡ 0 = omega (arith, n, m, one) in
     let around : retain (a ++ (t ∷ b)) t ≡ a ++ b = retain_around a t b ∙ rw (retain-absent a t k.1, retain-absent b t behind) in
     k.2 ∙ (sym around ∙ ap (λ (m : List ℕ). retain m t) (sym k.0))
-removal_retains t l Position.Nowhere r d k = k.1 ∙ sym (retain-absent l t k.0)
+removal_retains t l None r d k = k.1 ∙ sym (retain-absent l t k.0)
 
 -- ---- two removals of a task's end
 
 -- a task that is not queued stands nowhere
-pub absent_nowhere : (q : ReadyQueue) (t : ℕ) → length q.ids ≡ task_limit → q.len ≤ task_limit → occurrences (entries q) t ≡ 0 → stood_at q t ≡ Position.Nowhere
+pub absent_nowhere : (q : ReadyQueue) (t : ℕ) → length q.ids ≡ task_limit → q.len ≤ task_limit → occurrences (entries q) t ≡ 0 → stood_at q t ≡ None
 unfolding stood_at position_from
 absent_nowhere q t l h a =
     let end : q.len ≤ find_task q t = rw (find_task-position q t l h, position_absent (entries q) t a, length-entries q l h) (omega arith) in
     rw (le-ltb task_limit q.len h, le-ltb (find_task q t) q.len end)
 
 -- a task that was put at the back stands there
-pub pushed_last : (q : ReadyQueue) (t : ℕ) → length q.ids ≡ task_limit → q.len < task_limit → occurrences (entries q) t ≡ 0 → stood_at (push_back q t) t ≡ Position.At q.len
+pub pushed_last : (q : ReadyQueue) (t : ℕ) → length q.ids ≡ task_limit → q.len < task_limit → occurrences (entries q) t ≡ 0 → stood_at (push_back q t) t ≡ Some q.len
 unfolding stood_at position_from
 pushed_last q t l h a =
     let r = push_back q t in

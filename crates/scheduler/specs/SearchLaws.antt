@@ -1,5 +1,5 @@
 -- How a loop meets `first_from`: here, one further, at the end; and how the two searches begin.
-use Rattle.std.specs.Prelude.{◌≡◌, refl, Bool, true, List}
+use Rattle.std.specs.Prelude.{◌≡◌, refl, Bool, true, List, None, Some}
 use Rattle.std.proofs.Common.{ap}
 use Rattle.std.proofs.Math.Bool.{false}
 use Rattle.std.proofs.Math.Option.{Option, none, some}
@@ -11,8 +11,6 @@ use Rattle.asyncio.specs.Numbers.{task_id, heap_id}
 use Rattle.asyncio.specs.declared.TaskId.{TaskId}
 use Rattle.asyncio.specs.declared.HeapId.{HeapId}
 use Rattle.scheduler.specs.Search.{found_task, found_object}
-use Rattle.scheduler.specs.declared.tasks.FoundTask.{FoundTask}
-use Rattle.scheduler.specs.declared.tasks.FoundObject.{FoundObject}
 use Rattle.machine.specs.Scheduler.{first_from, is_task_of, task_of_in, is_call, pending_external_in}
 
 -- j is the number that the code tested, i as a number of its type
@@ -39,18 +37,18 @@ unfolding pending_external_in
 pending-begins os call {h} e = let k : h.made - 0 ≡ h.made = omega arith in rw (k, e)
 
 -- what the code found is what the search gave
-pub task-found : (o : Option ℕ) (t : TaskId) → found_task o ≡ FoundTask.At t → o ≡ some t.0
+pub task-found : (o : Option ℕ) (t : TaskId) → found_task o ≡ Some t → o ≡ some t.0
 task-found none t e = let z : ◌≡◌ {A = ℕ} 0 1 = cc in absurd (omega arith)
 task-found (some m) t e = let z : task_id m ≡ t = cc in ap (λ (x : TaskId). some x.0) z
 
-pub no_task : (o : Option ℕ) → found_task o ≡ FoundTask.Nothing → o ≡ none
+pub no_task : (o : Option ℕ) → found_task o ≡ None → o ≡ none
 no_task none e = refl
 no_task (some m) e = let z : ◌≡◌ {A = ℕ} 0 1 = cc in absurd (omega arith)
 
-pub object-found : (o : Option ℕ) (h : HeapId) → found_object o ≡ FoundObject.At h → o ≡ some h.0
+pub object-found : (o : Option ℕ) (h : HeapId) → found_object o ≡ Some h → o ≡ some h.0
 object-found none h e = let z : ◌≡◌ {A = ℕ} 0 1 = cc in absurd (omega arith)
 object-found (some m) h e = let z : heap_id m ≡ h = cc in ap (λ (x : HeapId). some x.0) z
 
-pub no_object : (o : Option ℕ) → found_object o ≡ FoundObject.Nothing → o ≡ none
+pub no_object : (o : Option ℕ) → found_object o ≡ None → o ≡ none
 no_object none e = refl
 no_object (some m) e = let z : ◌≡◌ {A = ℕ} 0 1 = cc in absurd (omega arith)

@@ -4,7 +4,7 @@ ghost use Rattle.asyncio.specs.Limits.{task_limit};
 ghost use Rattle.contract.specs.Contract.{Lengths₂, Lengths₂And};
 ghost use Rattle.scheduler.specs.Spawn.{SpawnsTaskAs, SpawnsTask};
 
-use crate::tasks::{FoundTask, task_of};
+use crate::tasks::{task_of};
 use asyncio::{Awaiter, Header, HeapId, TASKS, Task, TaskId, TaskState};
 use queue::push_lent;
 
@@ -63,8 +63,8 @@ pub fn spawn(
     let next = header.next;
     let d = task_of(tasks, next, c);
     match d {
-        FoundTask::At(_) => false,
-        FoundTask::Nothing => {
+        Some(_) => false,
+        None => {
             if next < LIMIT {
                 spawn_as(tasks, objects, ids, len, header, c, g);
                 return true;

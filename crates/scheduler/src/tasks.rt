@@ -8,20 +8,6 @@ ghost use Rattle.contract.specs.Contract.{TasksLength, ObjectsLength};
 
 use asyncio::{HeapId, TaskId};
 
-// What a search for a task found.
-#[derive(Clone, Copy)]
-pub enum FoundTask {
-    At(TaskId),
-    Nothing,
-}
-
-// What a search for an object found.
-#[derive(Drop)]
-pub enum FoundObject {
-    At(HeapId),
-    Nothing,
-}
-
 // Does task `t` live and drive object `c`?
 fn is_task_of(tasks: &[u64], t: TaskId, c: HeapId) -> bool
     requires { TasksLength tasks.now × (t.0 < task_limit) }
@@ -36,7 +22,7 @@ fn is_task_of(tasks: &[u64], t: TaskId, c: HeapId) -> bool
 }
 
 // The live spawned task below `next` that drives object `c`.
-pub(crate) fn task_of(tasks: &[u64], next: u16, c: HeapId) -> FoundTask
+pub(crate) fn task_of(tasks: &[u64], next: u16, c: HeapId) -> Option<TaskId>
     requires { TasksLength tasks.now × (next ≤ task_limit) }
     ensures { result ≡ found_task (task_of_in tasks.now next c.0) }
 {
@@ -44,11 +30,11 @@ pub(crate) fn task_of(tasks: &[u64], next: u16, c: HeapId) -> FoundTask
     while t < next {
         let id = TaskId::new(t);
         if is_task_of(tasks, id, c) {
-            return FoundTask::At(id);
+            return Some(id);
         }
         t += 1;
     }
-    FoundTask::Nothing
+    None
 }
 
 // Is object `o` a pending external of that call?
@@ -66,7 +52,7 @@ pub(crate) fn is_call(objects: &[u64], call: u32, o: HeapId) -> bool
 
 // The pending external of a call. It only searches: nothing is taken out, and the store stays. The number is compared whole, so that
 // call 65,536 + n is not call n.
-pub fn take_pending_external(objects: &[u64], call: u32) -> FoundObject
+pub fn take_pending_external(objects: &[u64], call: u32) -> Option<HeapId>
     requires { ObjectsLength objects.now }
     ensures { result ≡ found_object (pending_external_in objects.now call) }
 {
@@ -76,9 +62,9 @@ pub fn take_pending_external(objects: &[u64], call: u32) -> FoundObject
     while o < made {
         let id = HeapId::new(o);
         if is_call(objects, call, id) {
-            return FoundObject::At(id);
+            return Some(id);
         }
         o += 1;
     }
-    FoundObject::Nothing
+    None
 }

@@ -1,5 +1,5 @@
 -- The ways through the functions of cancel, in the shape of what the code knows there.
-use Rattle.std.specs.Prelude.{◌≡◌, Bool, not, length, get_or, set}
+use Rattle.std.specs.Prelude.{◌≡◌, Bool, not, length, get_or, set, None, Some}
 use Rattle.std.proofs.Math.Path.{refl, sym, ap, fun_ext}
 use Rattle.std.proofs.Common.{◌∙◌, get_or-set_same, get_or-set_other, eq-eqb, ne_eqb}
 use Rattle.std.proofs.Math.Bool.{true, false}
@@ -37,8 +37,8 @@ use Rattle.machine_laws.specs.CycleLaws.{CountsKept, mark-falls, blocked-fits, b
 use Rattle.scheduler.specs.Search.{found_task, found_object}
 use Rattle.scheduler.specs.SearchLaws.{task-found, no_task, object-found, no_object}
 use Rattle.scheduler_cancel.specs.Cancel.{tasks_of_in, below, walked, walk_of, Shows, awaited_places}
-use Rattle.scheduler.specs.declared.tasks.FoundTask.{FoundTask}
-use Rattle.scheduler.specs.declared.tasks.FoundObject.{FoundObject}
+use Rattle.scheduler.specs.Search.{FoundTask}
+use Rattle.scheduler.specs.Search.{FoundObject}
 use Rattle.scheduler_cancel.specs.declared.cancel.Walked.{Walked}
 
 -- ---- the stack
@@ -126,7 +126,7 @@ module _ (ds ts os ps : List ℕ) (q : ReadyQueue) (d : ℕ) (l : List LogEntry)
 -- ---- remove_blocked
 
 -- what a task is blocked on is in range
-pub blocked-object : (ts : List ℕ) (t : ℕ) {x : TaskState} {b : FoundObject} (o : HeapId) → x ≡ (task_at ts t).state → b ≡ found_object (blocked_on x) → b ≡ FoundObject.At o
+pub blocked-object : (ts : List ℕ) (t : ℕ) {x : TaskState} {b : FoundObject} (o : HeapId) → x ≡ (task_at ts t).state → b ≡ found_object (blocked_on x) → b ≡ Some o
     → o.0 < object_limit
 blocked-object ts t {x} o e f g =
     blocked-fits (task_at ts t).state (task_at-fits ts t).state_fits o.0 (rw e at (object-found (blocked_on x) o (sym f ∙ g)))
@@ -134,11 +134,11 @@ blocked-object ts t {x} o e f g =
 module _ (ds ts os ps : List ℕ) (at : Walked) (l : List LogEntry) (ms : List Bool) (gs : List ℕ) (t : ℕ)
     {x : TaskState} {b : FoundObject} (e : x ≡ (task_at ts t).state) (f : b ≡ found_object (blocked_on x)) {us : List ℕ} {r : ReadyQueue}
     (h : store_of us os ps r l ≡ remove_task (store_of ts os ps at.queue l) t) where
-  pub removes_only : b ≡ FoundObject.Nothing → Shows ds us os ps (walked r at.depth) ms gs (remove_blocked (walk_of ds ts os ps at l ms gs) t (blocked_on (task_at ts t).state))
+  pub removes_only : b ≡ None → Shows ds us os ps (walked r at.depth) ms gs (remove_blocked (walk_of ds ts os ps at l ms gs) t (blocked_on (task_at ts t).state))
   unfolding remove_blocked cancel_one add_log
   removes_only g = let k : blocked_on (task_at ts t).state ≡ none = rw e at (no_object (blocked_on x) (sym f ∙ g)) in rw (k, ← h) (record { shows = refl })
 
-  pub removes_blocked : (o : HeapId) → b ≡ FoundObject.At o → {d : ℕ} {ns : List Bool} {hs : List ℕ}
+  pub removes_blocked : (o : HeapId) → b ≡ Some o → {d : ℕ} {ns : List Bool} {hs : List ℕ}
       → walk_of ds us os ps (walked r d) (removed t ∷ l) ns hs ≡ reach (walk_of ds us os ps (walked r at.depth) (removed t ∷ l) ms gs) o.0
       → Shows ds us os ps (walked r d) ns hs (remove_blocked (walk_of ds ts os ps at l ms gs) t (blocked_on (task_at ts t).state))
   unfolding remove_blocked cancel_one add_log
@@ -153,13 +153,13 @@ item_fits ps p e = rw e (place_at-fits ps p).item_fits
 
 module _ (ds ts os ps : List ℕ) (at : Walked) (l : List LogEntry) (ms : List Bool) (gs : List ℕ) where
   module _ (o : ℕ) {d : FoundTask} (e : d ≡ found_task (still_live ts (tasks_of_in ds o))) where
-    pub visit-driven : (t : TaskId) → d ≡ FoundTask.At t → {us hs : List ℕ} {r : Walked} {ns : List Bool}
+    pub visit-driven : (t : TaskId) → d ≡ Some t → {us hs : List ℕ} {r : Walked} {ns : List Bool}
         → Shows ds us os ps r ns hs (remove_blocked (walk_of ds ts os ps at l ms gs) t.0 (blocked_on (task_at ts t.0).state))
         → Shows ds us os ps r ns hs (visit (walk_of ds ts os ps at l ms gs) o)
     unfolding visit visit_by task
     visit-driven t f s = rw (task-found (still_live ts (tasks_of_in ds o)) t (sym e ∙ f)) s
 
-    pub visit-nested : d ≡ FoundTask.Nothing → {n : ℕ} {ns : List Bool} {hs : List ℕ}
+    pub visit-nested : d ≡ None → {n : ℕ} {ns : List Bool} {hs : List ℕ}
         → walk_of ds ts os ps (walked at.queue n) l ns hs ≡ reach (walk_of ds ts os ps at l ms gs) o
         → Shows ds ts os ps (walked at.queue n) ns hs (visit (walk_of ds ts os ps at l ms gs) o)
     unfolding visit visit_by

@@ -1,5 +1,5 @@
 -- The table of the coroutines' tasks: how find_tasks fills it, and the ways through live_task_of.
-use Rattle.std.specs.Prelude.{◌≡◌, refl, Bool, true, false, List, eqb, length, get_or, set, replicate}
+use Rattle.std.specs.Prelude.{◌≡◌, refl, Bool, true, false, List, eqb, length, get_or, set, replicate, None, Some}
 use Rattle.std.proofs.Common.{sym, ap, ◌∙◌, mod-eq_of_lt, get_or-set_same, get_or-set_other, ne_eqb, eqb-true}
 use Rattle.std.proofs.Math.Option.{Option, none, some}
 use Prim.Native.Nat.{ℕ, zero, suc, ◌+◌, ◌-◌, ◌%◌, ◌≤◌, ◌<◌, min}
@@ -19,7 +19,7 @@ use Rattle.machine.specs.Scheduler.{first_from, is_task_of, task_of_in, still_li
 use Rattle.scheduler.specs.Search.{found_task}
 use Rattle.scheduler.specs.SearchLaws.{task-found}
 use Rattle.scheduler_cancel.specs.Cancel.{named, tasks_of_in, put_task_of}
-use Rattle.scheduler.specs.declared.tasks.FoundTask.{FoundTask}
+use Rattle.scheduler.specs.Search.{FoundTask}
 
 named-task : (t : ℕ) → 0 < t → t < task_limit → named t ≡ some t
 unfolding named
@@ -66,16 +66,16 @@ module _ (ts ds : List ℕ) (o : ℕ) {u : TaskId} (e : u ≡ to_task_id (get_or
   number : get_or ds o 0 % task_limit ≡ u.0
   number = sym (ap (λ (x : TaskId). x.0) e)
 
-  pub task_of-none : b ≡ true → FoundTask.Nothing ≡ found_task (still_live ts (tasks_of_in ds o))
+  pub task_of-none : b ≡ true → None ≡ found_task (still_live ts (tasks_of_in ds o))
   unfolding tasks_of_in named still_live
   task_of-none t = rw (number, ← f, t)
 
   module _ (n : b ≡ false) {x : TaskState} (g : x ≡ (task_at ts u.0).state) {y : Bool} (h : y ≡ is_live x) where
-    pub task_of-lives : y ≡ true → FoundTask.At u ≡ found_task (still_live ts (tasks_of_in ds o))
+    pub task_of-lives : y ≡ true → Some u ≡ found_task (still_live ts (tasks_of_in ds o))
     unfolding tasks_of_in named still_live
     task_of-lives t = rw (number, ← f, n, ← g, ← h, t)
 
-    pub task_of-gone : y ≡ false → FoundTask.Nothing ≡ found_task (still_live ts (tasks_of_in ds o))
+    pub task_of-gone : y ≡ false → None ≡ found_task (still_live ts (tasks_of_in ds o))
     unfolding tasks_of_in named still_live
     task_of-gone t = rw (number, ← f, n, ← g, ← h, t)
 
@@ -84,7 +84,7 @@ abbrev NumberFits : Option ℕ → Type 0
 NumberFits none = Unit {0}
 NumberFits (some t) = t < task_limit
 
-pub task_of-fits : (ts ds : List ℕ) (o : ℕ) {d : FoundTask} (t : TaskId) → d ≡ found_task (still_live ts (tasks_of_in ds o)) → d ≡ FoundTask.At t → t.0 < task_limit
+pub task_of-fits : (ts ds : List ℕ) (o : ℕ) {d : FoundTask} (t : TaskId) → d ≡ found_task (still_live ts (tasks_of_in ds o)) → d ≡ Some t → t.0 < task_limit
 unfolding tasks_of_in
 task_of-fits ts ds o t e f = rw (task-found (still_live ts (tasks_of_in ds o)) t (sym e ∙ f)) at (lives (tasks_of_in ds o) (names (get_or ds o 0)))
   where

@@ -10,7 +10,6 @@ ghost use Rattle.contract.specs.Contract.{kept, TasksLength, ObjectsLength, Plac
 
 use asyncio::{HeapId, TaskId, TaskState};
 use queue::ReadyQueue;
-use scheduler::tasks::{FoundObject, FoundTask};
 use scheduler_states::states::remove_task;
 
 const OBJECTS: usize = asyncio::OBJECTS as usize;
@@ -45,20 +44,20 @@ fn find_tasks(tasks: &[u64], next: u16) -> [u64; OBJECTS]
 }
 
 // The task that drives object `o` by the table, if it still lives.
-fn live_task_of(tasks: &[u64], table: &[u64], o: HeapId) -> FoundTask
+fn live_task_of(tasks: &[u64], table: &[u64], o: HeapId) -> Option<TaskId>
     requires { TasksLength tasks.now × TableLength table.now × (o.0 < object_limit) }
     ensures { result ≡ found_task (still_live tasks.now (tasks_of_in table.now o.0)) }
 {
     let i = o.0 as usize;
     let t = TaskId::from_word(table[i]);
     if t.is_main() {
-        return FoundTask::Nothing;
+        return None;
     }
     let state = rows::parts::state_at(tasks, t);
     if state.is_live() {
-        return FoundTask::At(t);
+        return Some(t);
     }
-    FoundTask::Nothing
+    None
 }
 
 // ---- the walk: marks for the gathers that were reached, a stack of those still to be walked
@@ -71,16 +70,16 @@ pub struct Walked {
 }
 
 // What a task in that state is blocked on.
-fn blocked_on(state: TaskState) -> FoundObject
+fn blocked_on(state: TaskState) -> Option<HeapId>
     ensures { result ≡ found_object (blocked_on state) }
 {
     match state {
-        TaskState::Absent => FoundObject::Nothing,
-        TaskState::Unstarted => FoundObject::Nothing,
-        TaskState::Running => FoundObject::Nothing,
-        TaskState::Woken(_) => FoundObject::Nothing,
-        TaskState::Raised(_) => FoundObject::Nothing,
-        TaskState::Blocked(o) => FoundObject::At(o),
+        TaskState::Absent => None,
+        TaskState::Unstarted => None,
+        TaskState::Running => None,
+        TaskState::Woken(_) => None,
+        TaskState::Raised(_) => None,
+        TaskState::Blocked(o) => Some(o),
     }
 }
 
@@ -123,11 +122,11 @@ fn remove_blocked(
     let gone = remove_task(tasks, ready, t);
     let queue = gone.queue;
     match blocked {
-        FoundObject::At(o) => {
+        Some(o) => {
             let depth = reach(objects, marks, stack, at.depth, o);
             Walked { queue, depth }
         }
-        FoundObject::Nothing => {
+        None => {
             let depth = at.depth;
             Walked { queue, depth }
         }
@@ -150,8 +149,8 @@ fn visit(
 {
     let d = live_task_of(tasks, table, o);
     match d {
-        FoundTask::At(t) => remove_blocked(tasks, objects, marks, stack, at, t),
-        FoundTask::Nothing => {
+        Some(t) => remove_blocked(tasks, objects, marks, stack, at, t),
+        None => {
             let depth = reach(objects, marks, stack, at.depth, o);
             let queue = at.queue;
             Walked { queue, depth }

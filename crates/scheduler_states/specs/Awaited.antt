@@ -1,10 +1,14 @@
 -- An awaited gather, as the machine's record.
-use Rattle.std.specs.Prelude.{ℕ}
+use Rattle.std.specs.Prelude.{ℕ, None, Some}
 use Rattle.std.proofs.Math.Option.{Option, none, some}
+use Rattle.std.specs.Prelude as rust
 use Rattle.asyncio.specs.declared.Awaiter.{Awaiter}
 use Rattle.machine.specs.Scheduler as scheduler
 use Rattle.scheduler_states.specs.declared.awaited.AwaitedGather.{AwaitedGather}
-use Rattle.scheduler_states.specs.declared.awaited.OptionAwaited.{OptionAwaited}
+
+-- one, or none
+abbrev pub OptionAwaited : Type 0
+OptionAwaited = rust.Option AwaitedGather
 
 -- by its parts
 abbrev pub awaited_gather : ℕ → ℕ → Awaiter → ℕ → scheduler.AwaitedGather
@@ -16,5 +20,5 @@ awaited_gather_of w = awaited_gather w.first w.count w.awaiter w.open_places
 
 -- one, or none
 abbrev pub option_awaited : OptionAwaited → Option scheduler.AwaitedGather
-option_awaited OptionAwaited.None = none
-option_awaited (OptionAwaited.Some w) = some (awaited_gather_of w)
+option_awaited None = none
+option_awaited (Some w) = some (awaited_gather_of w)

@@ -1,5 +1,5 @@
 -- The ways through as_awaited, and what is known of a gather that it found.
-use Rattle.std.specs.Prelude.{◌≡◌, List, [], ℕ}
+use Rattle.std.specs.Prelude.{◌≡◌, List, [], ℕ, Some}
 use Rattle.std.proofs.Common.{sym}
 use Rattle.std.proofs.Math.Option.{none, some}
 use Rattle.asyncio.specs.Ranges.{PlacesFit}
@@ -12,7 +12,7 @@ use Rattle.machine.specs.Scheduler.{as_awaited}
 use Rattle.machine_laws.specs.DeliveryLaws.{awaited-fits}
 use Rattle.scheduler_states.specs.Awaited.{awaited_gather, awaited_gather_of, option_awaited}
 use Rattle.scheduler_states.specs.declared.awaited.AwaitedGather.{AwaitedGather}
-use Rattle.scheduler_states.specs.declared.awaited.OptionAwaited.{OptionAwaited}
+use Rattle.scheduler_states.specs.Awaited.{OptionAwaited}
 
 module _ (os : List ℕ) (g : ℕ) {o : Object} (e : o ≡ object_at os g) where
   pub not-awaited : (x : Object) → o ≡ x → as_awaited x ≡ none → none ≡ as_awaited (object_at os g)
@@ -24,7 +24,7 @@ module _ (os : List ℕ) (g : ℕ) {o : Object} (e : o ≡ object_at os g) where
   is_awaited i n m a f k = rw (← e, f, k)
 
 -- the places of an awaited gather that was read are in range
-pub awaited_range : (os : List ℕ) (g : ℕ) (a : OptionAwaited) (w : AwaitedGather) → option_awaited a ≡ as_awaited (object_at os g) → a ≡ OptionAwaited.Some w
+pub awaited_range : (os : List ℕ) (g : ℕ) (a : OptionAwaited) (w : AwaitedGather) → option_awaited a ≡ as_awaited (object_at os g) → a ≡ Some w
     → PlacesFit w.first w.count
 unfolding object
 awaited_range os g a w e f = (awaited-fits (store_of [] os [] (record { len = 0; ids = [] }) []) g (awaited_gather_of w) (sym (rw f at e))).0

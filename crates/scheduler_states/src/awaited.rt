@@ -17,37 +17,31 @@ pub struct AwaitedGather {
     pub open_places: u32,
 }
 
-#[derive(Drop)]
-pub enum OptionAwaited {
-    None,
-    Some(AwaitedGather),
-}
-
 // Object `g` as an awaited gather, if it is one.
-pub fn as_awaited(objects: &[u64], g: HeapId) -> OptionAwaited
+pub fn as_awaited(objects: &[u64], g: HeapId) -> Option<AwaitedGather>
     requires { ObjectsLength objects.now × (g.0 < object_limit) }
     ensures { option_awaited result ≡ as_awaited (object_at objects.now g.0) }
 {
     let o = rows::tables::load_object(objects, g);
     match o {
-        Object::Unmade => OptionAwaited::None,
+        Object::Unmade => None,
         Object::Coroutine {
             function: _,
             state: _,
-        } => OptionAwaited::None,
-        Object::ExternalFuture { call: _, state: _ } => OptionAwaited::None,
+        } => None,
+        Object::ExternalFuture { call: _, state: _ } => None,
         Object::GatherFuture {
             first,
             count,
             state,
         } => match state {
-            GatherState::Pending => OptionAwaited::None,
-            GatherState::Completed => OptionAwaited::None,
-            GatherState::Failed(_) => OptionAwaited::None,
+            GatherState::Pending => None,
+            GatherState::Completed => None,
+            GatherState::Failed(_) => None,
             GatherState::Awaited {
                 awaiter,
                 open_places,
-            } => OptionAwaited::Some(AwaitedGather {
+            } => Some(AwaitedGather {
                 first,
                 count,
                 awaiter,

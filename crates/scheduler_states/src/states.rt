@@ -10,7 +10,7 @@ ghost use Rattle.contract.specs.Contract.{TasksLength, ChangesTasks, queue_befor
 ghost use Rattle.scheduler_states.specs.States.{Restates, MakesReady};
 
 use asyncio::{Awaiter, HeapId, TASKS, Task, TaskId, TaskState};
-use queue::{Position, ReadyQueue, Removed, remove_lent};
+use queue::{ReadyQueue, Removed, remove_lent};
 
 // Task `t` in another state.
 pub fn set_state(tasks: &mut [u64], t: TaskId, state: TaskState)
@@ -62,7 +62,7 @@ pub fn remove_task_lent(
     ids: &mut [u16; TASKS],
     len: &mut usize,
     t: TaskId,
-) -> Position
+) -> Option<usize>
     requires { TasksLength tasks.old × (t.0 < task_limit) }
     ensures { ChangesTasks tasks (queue_before ids len) (queue_after ids len) (λ s. remove_task s t.0)
         × (result ≡ stood_at (queue_before ids len) t.0) }

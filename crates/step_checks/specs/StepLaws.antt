@@ -1,5 +1,5 @@
 -- The ways through each event, in the shape of what the code knows there.
-use Rattle.std.specs.Prelude.{◌≡◌, Bool, false, not, ◌||◌, eqb, leb, length}
+use Rattle.std.specs.Prelude.{◌≡◌, Bool, false, not, ◌||◌, eqb, leb, length, None, Some}
 use Rattle.std.proofs.Math.Path.{refl, sym, ap}
 use Rattle.std.proofs.Common.{subst, ◌∙◌, true≢false, arith, eq-eqb, ne_eqb, le-leb, leb-false, lt-ltb, le-ltb, ltb-true, ltb-false}
 use Rattle.std.proofs.Math.Bool.{true}
@@ -23,7 +23,7 @@ use Rattle.asyncio.specs.States.{pick, is_live}
 use Rattle.rows.specs.Tables.{task_at, object_at, header_at}
 use Rattle.rows.specs.TableLaws.{header_at-fits}
 use Rattle.queue.specs.declared.ReadyQueue.{ReadyQueue}
-use Rattle.scheduler.specs.declared.tasks.FoundObject.{FoundObject}
+use Rattle.scheduler.specs.Search.{FoundObject}
 use Rattle.scheduler.specs.Search.{found_object}
 use Rattle.scheduler.specs.SearchLaws.{object-found, no_object}
 use Rattle.machine.specs.Store.{Store, LogEntry, store_of, task, object, header, set_calls}
@@ -131,12 +131,12 @@ module _ (ts os ps : List ℕ) (q : ReadyQueue) (l : List LogEntry) {x : Turn} (
           words_right : (leb (header_at os).calls c || not (option_known (header_at os).made (object_at os) r)) ≡ false
           words_right = or_none _ _ heard (rw (known_as, k))
 
-          pub pending_again : (n : HeapId) → d ≡ FoundObject.At n → stepped_of here (Answer.Refused 6) ≡ checked here (Event.pending c r)
+          pub pending_again : (n : HeapId) → d ≡ Some n → stepped_of here (Answer.Refused 6) ≡ checked here (Event.pending c r)
           unfolding refusals header object pending_external is_some
           pending_again n j =
               refused-by (Event.pending c r) _ refl 5 (unmet 5 _ _ words_right ∙ met 6 _ _ (rw (object-found (pending_external_in os c) n (sym m ∙ j))))
 
-          module _ (j : d ≡ FoundObject.Nothing) {u : Bool} (y : u ≡ leb object_limit (header_at os).made) where
+          module _ (j : d ≡ None) {u : Bool} (y : u ≡ leb object_limit (header_at os).made) where
             free : is_some (pending_external_in os c) ≡ false
             unfolding is_some
             free = rw (no_object (pending_external_in os c) (sym m ∙ j))

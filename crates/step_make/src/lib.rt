@@ -9,11 +9,9 @@ ghost use Rattle.contract.specs.Contract.{ObjectsLength, PlacesLength};
 ghost use Rattle.exec_switch.specs.Answer.{AnswersOfObjects, AnswersOfObjectsAndPlaces};
 
 use asyncio::{CallId, Value};
-use exec_futures::making::{
-    allocate_call_id, make_coroutine, make_gather, push_pending_future, settled_awaitable,
-};
+use exec_futures::making::{allocate_call_id, make_coroutine, make_gather, push_pending_future, settled_awaitable};
 use exec_switch::answer::Answer;
-use scheduler::tasks::{FoundObject, take_pending_external};
+use scheduler::tasks::{take_pending_external};
 use sound_rows::values::{option_known, value_known};
 use step_checks::refusals::{Turn, any_unmade, is_full, no_number, running};
 
@@ -78,8 +76,8 @@ pub fn pending(objects: &mut [u64], call: u32, stored: Option<Value>) -> Answer
             if option_known(made, objects, stored) {
                 let found = take_pending_external(objects, call);
                 return match found {
-                    FoundObject::At(_) => Answer::Refused(6),
-                    FoundObject::Nothing => {
+                    Some(_) => Answer::Refused(6),
+                    None => {
                         if is_full(objects) {
                             return Answer::Refused(7);
                         }

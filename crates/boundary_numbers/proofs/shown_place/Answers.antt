@@ -35,6 +35,6 @@ pub returns-in-GatherFailed : goal.returns-in-GatherFailed
 unfolding places_shown place_said
 returns-in-GatherFailed c = rw c.in-GatherFailed.is (c.refuse-in-GatherFailed.ensures ∙ same-refused 5)
 
-pub returns-in-Nothing : goal.returns-in-Nothing
+pub returns-in-None : goal.returns-in-None
 unfolding places_shown place_said
-returns-in-Nothing c = rw c.in-Nothing.is (c.refuse-in-Nothing.ensures ∙ same-refused 5)
+returns-in-None c = rw c.in-None.is (c.refuse-in-None.ensures ∙ same-refused 5)

@@ -1,6 +1,6 @@
 -- A task's end (document 02, No. 8): the task that ends stood nowhere in the ready queue; the waiter that it woke was put at the back, and is taken out there to
 -- run ahead of the queue, which then has the entries that it had before the event.
-use Rattle.std.specs.Prelude.{◌≡◌, true, false, ℕ, ◌≤◌, ◌<◌, length}
+use Rattle.std.specs.Prelude.{◌≡◌, true, false, ℕ, ◌≤◌, ◌<◌, length, None, Some}
 use Rattle.std.proofs.Math.Path.{refl, ap, subst}
 use Rattle.std.proofs.Common.{sym, ◌∙◌, true≢false, arith, eq-eqb, ne_eqb}
 use mathlib.Core.List.{List}
@@ -16,7 +16,6 @@ use Rattle.asyncio.specs.Numbers.{task_id}
 use Rattle.asyncio.specs.States.{is_ready, is_blocked, is_running, is_unstarted}
 use Rattle.rows.specs.Tables.{task_at}
 use Rattle.queue.specs.declared.ReadyQueue.{ReadyQueue}
-use Rattle.queue.specs.declared.Position.{Position}
 use Rattle.queue.specs.Queue.{entries, occurrences, push_back, remove, stood_at}
 use Rattle.queue.proofs.QueueLaws.{push_back-len, push_back-length, occurrences_push}
 use Rattle.queue.proofs.RemovalLaws.{removed-none, absent_nowhere, pushed_last, pushed_removed}
@@ -57,8 +56,8 @@ failure_left s t e =
 -- The end of task t in s leaves d. The task stood nowhere in the queue; the waiter that it woke, if any, stands at the back, and when it runs the queue has the
 -- entries that it had; where none was woken the queue is as it was, before the next task is taken from it.
 pub record ExitLeaves (s : Store) (t : ℕ) (d : Delivery) : Type 0 where
-  pub nowhere : stood_at s.queue t ≡ Position.Nowhere
-  pub at_back : (w : ℕ) → d.woken ≡ some w → stood_at d.store.queue w ≡ Position.At s.queue.len
+  pub nowhere : stood_at s.queue t ≡ None
+  pub at_back : (w : ℕ) → d.woken ≡ some w → stood_at d.store.queue w ≡ Some s.queue.len
   pub runs_ahead : (w : ℕ) → d.woken ≡ some w → entries (resume_after_task_exit activate d).store.queue ≡ entries s.queue
   pub unwoken : d.woken ≡ none → d.store.queue ≡ s.queue
 
@@ -144,7 +143,7 @@ unfolding view runs_now
 runs_there s t w l m = w.facts.runs t l ∙ (ap (λ (x : Moment). runs_now x t) m ∙ eq-eqb t t refl)
 
 module _ (s : Store) (t : ℕ) (k : Runs s t) where
-  nowhere-now : stood_at s.queue t ≡ Position.Nowhere
+  nowhere-now : stood_at s.queue t ≡ None
   nowhere-now = absent_nowhere s.queue t k.ids k.len k.apart
 
   same_queue : remove s.queue t ≡ s.queue
@@ -152,7 +151,7 @@ module _ (s : Store) (t : ℕ) (k : Runs s t) where
 
   -- a waiter that was blocked is put at the back, and taken out again
   module _ (w : ℕ) (low : w < task_limit) (b : is_blocked (task s w).state ≡ true) where
-    back : stood_at (push_back s.queue w) w ≡ Position.At s.queue.len
+    back : stood_at (push_back s.queue w) w ≡ Some s.queue.len
     back = let z = k.room w low b in pushed_last s.queue w k.ids z.1 z.0
 
     again : entries (remove (push_back s.queue w) w) ≡ entries s.queue
@@ -205,7 +204,7 @@ module _ (s : Store) (t : ℕ) (v : Value) (z : Sized s) (low : t < task_limit) 
           let q : d.store.queue ≡ push_back s.queue w = e.queue ∙ ap (λ (r : ReadyQueue). push_back r w) left-queue in
           record {
             nowhere = nowhere-now s t k;
-            at_back = λ u y. subst (λ (m : ℕ). stood_at d.store.queue m ≡ Position.At s.queue.len) (some-injective w u (sym n ∙ y)) (rw q (back s t k w e.low b));
+            at_back = λ u y. subst (λ (m : ℕ). stood_at d.store.queue m ≡ Some s.queue.len) (some-injective w u (sym n ∙ y)) (rw q (back s t k w e.low b));
             runs_ahead = λ u y.
                 ap entries (waiter_runs d left w x n d-sized left-sized e.low e.is_woken e.has_begun (unfold task put_task in (ap (λ (l : List ℕ). task_at l w) e.tasks))
                 ∙ ap (λ (r : ReadyQueue). remove r w) q)
@@ -240,7 +239,7 @@ module _ (s : Store) (t : ℕ) (e : Error) (z : Sized s) (k : Runs s t) where
       by (wakes w x f n) =
           record {
             nowhere = nowhere-now s t k;
-            at_back = λ u y. subst (λ (m : ℕ). stood_at gone.queue m ≡ Position.At s.queue.len) (some-injective w u (sym n ∙ y)) (rw q (back s t k w f.low b));
+            at_back = λ u y. subst (λ (m : ℕ). stood_at gone.queue m ≡ Some s.queue.len) (some-injective w u (sym n ∙ y)) (rw q (back s t k w f.low b));
             runs_ahead = λ u y.
                 ap entries (waiter_runs (record { store = gone; woken = sent.woken }) s w x n gone_sized z f.low f.is_woken f.has_begun row ∙ ap (λ (r : ReadyQueue). remove r w) q)
                 ∙ again s t k w f.low b;

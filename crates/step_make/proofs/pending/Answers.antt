@@ -12,16 +12,16 @@ pub option_known-requires : goal.option_known-requires
 option_known-requires c = (c.requires, (header_read _ c.load_header-header.ensures).made_fits)
 
 pub returns-then-is_full : goal.returns-then-is_full
-returns-then-is_full c = λ ts ps q l. pending-full ts c.args.objects.now ps q l c.running-turn.ensures _ c.in-Runs.is c.args.call c.args.stored c.load_header-header.ensures c.if-header-call.false c.option_known.ensures c.if-option_known.true c.take_pending_external-found.ensures c.in-Nothing.is c.is_full.ensures c.if-is_full.true
+returns-then-is_full c = λ ts ps q l. pending-full ts c.args.objects.now ps q l c.running-turn.ensures _ c.in-Runs.is c.args.call c.args.stored c.load_header-header.ensures c.if-header-call.false c.option_known.ensures c.if-option_known.true c.take_pending_external-found.ensures c.in-None.is c.is_full.ensures c.if-is_full.true
 
 pub push_pending_future-o-requires : goal.push_pending_future-o-requires
 push_pending_future-o-requires c = (c.requires, leb-false _ _ (sym c.is_full.ensures ∙ c.if-is_full.false))
 
-pub returns-in-At : goal.returns-in-At
-returns-in-At c = λ ts ps q l. pending_again ts c.args.objects.now ps q l c.running-turn.ensures _ c.in-Runs.is c.args.call c.args.stored c.load_header-header.ensures c.if-header-call.false c.option_known.ensures c.if-option_known.true c.take_pending_external-found.ensures _ c.in-At.is
+pub returns-in-Some : goal.returns-in-Some
+returns-in-Some c = λ ts ps q l. pending_again ts c.args.objects.now ps q l c.running-turn.ensures _ c.in-Runs.is c.args.call c.args.stored c.load_header-header.ensures c.if-header-call.false c.option_known.ensures c.if-option_known.true c.take_pending_external-found.ensures _ c.in-Some.is
 
 pub returns-else-is_full : goal.returns-else-is_full
-returns-else-is_full c = λ ts ps q l. pending-made ts c.args.objects.now ps q l c.running-turn.ensures _ c.in-Runs.is c.args.call c.args.stored c.load_header-header.ensures c.if-header-call.false c.option_known.ensures c.if-option_known.true c.take_pending_external-found.ensures c.in-Nothing.is c.is_full.ensures c.if-is_full.false c.push_pending_future-o.ensures.0 (rw c.new.ensures at (c.push_pending_future-o.ensures.1 ts ps q l))
+returns-else-is_full c = λ ts ps q l. pending-made ts c.args.objects.now ps q l c.running-turn.ensures _ c.in-Runs.is c.args.call c.args.stored c.load_header-header.ensures c.if-header-call.false c.option_known.ensures c.if-option_known.true c.take_pending_external-found.ensures c.in-None.is c.is_full.ensures c.if-is_full.false c.push_pending_future-o.ensures.0 (rw c.new.ensures at (c.push_pending_future-o.ensures.1 ts ps q l))
 
 pub returns-in-Refused : goal.returns-in-Refused
 unfolding refusals

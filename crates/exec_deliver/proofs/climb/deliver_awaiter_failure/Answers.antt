@@ -20,11 +20,11 @@ returns-in-Task c = λ q ps l z. error-to_task c.loop-to.tasks c.loop-to.objects
 pub fail-onward-requires : goal.fail-onward-requires
 fail-onward-requires c = (c.loop-to.invariant.2 ∙ c.requires.1, (rw c.in-GatherSlot.is at c.loop-to.invariant.3).0)
 
-pub returns-in-Nowhere : goal.returns-in-Nowhere
-returns-in-Nowhere c = λ q ps l z. error-stays c.loop-to.tasks c.loop-to.objects ps q c.args.error c.in-GatherSlot.gather c.in-GatherSlot.source l (rw c.in-GatherSlot.is at (c.loop-to.invariant.0 q ps l z)) (rw c.in-Nowhere.is at (c.fail-onward.ensures c.loop-to.tasks ps q l))
+pub returns-in-None : goal.returns-in-None
+returns-in-None c = λ q ps l z. error-stays c.loop-to.tasks c.loop-to.objects ps q c.args.error c.in-GatherSlot.gather c.in-GatherSlot.source l (rw c.in-GatherSlot.is at (c.loop-to.invariant.0 q ps l z)) (rw c.in-None.is at (c.fail-onward.ensures c.loop-to.tasks ps q l))
 
 pub loop-to-smaller : goal.loop-to-smaller
-loop-to-smaller c = omega (arith, error-falls c.loop-to.tasks c.loop-to.objects some-places empty_queue c.args.error c.in-GatherSlot.gather c.in-GatherSlot.source c.in-To.w (c.loop-to.invariant.1 ∙ c.requires.0) (c.loop-to.invariant.2 ∙ c.requires.1) some_places_long (rw c.in-GatherSlot.is at c.loop-to.invariant.3).0 [] (rw c.in-To.is at (c.fail-onward.ensures c.loop-to.tasks some-places empty_queue [])))
+loop-to-smaller c = omega (arith, error-falls c.loop-to.tasks c.loop-to.objects some-places empty_queue c.args.error c.in-GatherSlot.gather c.in-GatherSlot.source c.in-Some.w (c.loop-to.invariant.1 ∙ c.requires.0) (c.loop-to.invariant.2 ∙ c.requires.1) some_places_long (rw c.in-GatherSlot.is at c.loop-to.invariant.3).0 [] (rw c.in-Some.is at (c.fail-onward.ensures c.loop-to.tasks some-places empty_queue [])))
 
 pub loop-to-preserved : goal.loop-to-preserved
-loop-to-preserved c = ((λ q ps l z. error_climbs c.loop-to.tasks c.loop-to.objects ps q c.args.error c.in-GatherSlot.gather c.in-GatherSlot.source c.in-To.w (c.loop-to.invariant.1 ∙ c.requires.0) (c.loop-to.invariant.2 ∙ c.requires.1) z (rw c.in-GatherSlot.is at c.loop-to.invariant.3).0 l (rw c.in-To.is at (c.fail-onward.ensures c.loop-to.tasks ps q l)) ∙ (rw c.in-GatherSlot.is at (c.loop-to.invariant.0 q ps l z))), c.loop-to.invariant.1, c.fail-onward.auto.objects ∙ c.loop-to.invariant.2, error-fits c.loop-to.tasks c.loop-to.objects some-places empty_queue c.args.error c.in-GatherSlot.gather c.in-GatherSlot.source c.in-To.w (c.loop-to.invariant.1 ∙ c.requires.0) (c.loop-to.invariant.2 ∙ c.requires.1) some_places_long (rw c.in-GatherSlot.is at c.loop-to.invariant.3).0 [] (rw c.in-To.is at (c.fail-onward.ensures c.loop-to.tasks some-places empty_queue [])))
+loop-to-preserved c = ((λ q ps l z. error_climbs c.loop-to.tasks c.loop-to.objects ps q c.args.error c.in-GatherSlot.gather c.in-GatherSlot.source c.in-Some.w (c.loop-to.invariant.1 ∙ c.requires.0) (c.loop-to.invariant.2 ∙ c.requires.1) z (rw c.in-GatherSlot.is at c.loop-to.invariant.3).0 l (rw c.in-Some.is at (c.fail-onward.ensures c.loop-to.tasks ps q l)) ∙ (rw c.in-GatherSlot.is at (c.loop-to.invariant.0 q ps l z))), c.loop-to.invariant.1, c.fail-onward.auto.objects ∙ c.loop-to.invariant.2, error-fits c.loop-to.tasks c.loop-to.objects some-places empty_queue c.args.error c.in-GatherSlot.gather c.in-GatherSlot.source c.in-Some.w (c.loop-to.invariant.1 ∙ c.requires.0) (c.loop-to.invariant.2 ∙ c.requires.1) some_places_long (rw c.in-GatherSlot.is at c.loop-to.invariant.3).0 [] (rw c.in-Some.is at (c.fail-onward.ensures c.loop-to.tasks some-places empty_queue [])))

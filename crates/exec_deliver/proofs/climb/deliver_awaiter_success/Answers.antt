@@ -20,11 +20,11 @@ returns-in-Task c = λ q l. to_task c.loop-to.tasks c.loop-to.objects c.loop-to.
 pub resolve_child-onward-requires : goal.resolve_child-onward-requires
 resolve_child-onward-requires c = (c.loop-to.invariant.2 ∙ c.requires.1, c.loop-to.invariant.3 ∙ c.requires.2, (rw c.in-GatherSlot.is at c.loop-to.invariant.4).0)
 
-pub returns-in-Nowhere : goal.returns-in-Nowhere
-returns-in-Nowhere c = λ q l. stays c.loop-to.tasks c.loop-to.objects c.loop-to.places q c.in-GatherSlot.gather c.in-GatherSlot.source c.loop-to.given l (rw c.in-GatherSlot.is at (c.loop-to.invariant.0 q l)) (rw c.in-Nowhere.is at (c.resolve_child-onward.ensures c.loop-to.tasks q l))
+pub returns-in-None : goal.returns-in-None
+returns-in-None c = λ q l. stays c.loop-to.tasks c.loop-to.objects c.loop-to.places q c.in-GatherSlot.gather c.in-GatherSlot.source c.loop-to.given l (rw c.in-GatherSlot.is at (c.loop-to.invariant.0 q l)) (rw c.in-None.is at (c.resolve_child-onward.ensures c.loop-to.tasks q l))
 
 pub loop-to-smaller : goal.loop-to-smaller
-loop-to-smaller c = omega (arith, climb-falls c.loop-to.tasks c.loop-to.objects c.loop-to.places empty_queue c.in-GatherSlot.gather c.in-GatherSlot.source c.loop-to.given c.in-To.w (c.loop-to.invariant.1 ∙ c.requires.0) (c.loop-to.invariant.2 ∙ c.requires.1) (c.loop-to.invariant.3 ∙ c.requires.2) (rw c.in-GatherSlot.is at c.loop-to.invariant.4).0 [] (rw c.in-To.is at (c.resolve_child-onward.ensures c.loop-to.tasks empty_queue [])))
+loop-to-smaller c = omega (arith, climb-falls c.loop-to.tasks c.loop-to.objects c.loop-to.places empty_queue c.in-GatherSlot.gather c.in-GatherSlot.source c.loop-to.given c.in-Some.w (c.loop-to.invariant.1 ∙ c.requires.0) (c.loop-to.invariant.2 ∙ c.requires.1) (c.loop-to.invariant.3 ∙ c.requires.2) (rw c.in-GatherSlot.is at c.loop-to.invariant.4).0 [] (rw c.in-Some.is at (c.resolve_child-onward.ensures c.loop-to.tasks empty_queue [])))
 
 pub loop-to-preserved : goal.loop-to-preserved
-loop-to-preserved c = ((λ q l. climbs c.loop-to.tasks c.loop-to.objects c.loop-to.places q c.in-GatherSlot.gather c.in-GatherSlot.source c.loop-to.given c.in-To.w (c.loop-to.invariant.1 ∙ c.requires.0) (c.loop-to.invariant.2 ∙ c.requires.1) (c.loop-to.invariant.3 ∙ c.requires.2) (rw c.in-GatherSlot.is at c.loop-to.invariant.4).0 l (rw c.in-To.is at (c.resolve_child-onward.ensures c.loop-to.tasks q l)) ∙ (rw c.in-GatherSlot.is at (c.loop-to.invariant.0 q l))), c.loop-to.invariant.1, c.resolve_child-onward.auto.objects ∙ c.loop-to.invariant.2, c.resolve_child-onward.auto.places ∙ c.loop-to.invariant.3, climb-fits c.loop-to.tasks c.loop-to.objects c.loop-to.places empty_queue c.in-GatherSlot.gather c.in-GatherSlot.source c.loop-to.given c.in-To.w (c.loop-to.invariant.1 ∙ c.requires.0) (c.loop-to.invariant.2 ∙ c.requires.1) (c.loop-to.invariant.3 ∙ c.requires.2) (rw c.in-GatherSlot.is at c.loop-to.invariant.4).0 [] (rw c.in-To.is at (c.resolve_child-onward.ensures c.loop-to.tasks empty_queue [])))
+loop-to-preserved c = ((λ q l. climbs c.loop-to.tasks c.loop-to.objects c.loop-to.places q c.in-GatherSlot.gather c.in-GatherSlot.source c.loop-to.given c.in-Some.w (c.loop-to.invariant.1 ∙ c.requires.0) (c.loop-to.invariant.2 ∙ c.requires.1) (c.loop-to.invariant.3 ∙ c.requires.2) (rw c.in-GatherSlot.is at c.loop-to.invariant.4).0 l (rw c.in-Some.is at (c.resolve_child-onward.ensures c.loop-to.tasks q l)) ∙ (rw c.in-GatherSlot.is at (c.loop-to.invariant.0 q l))), c.loop-to.invariant.1, c.resolve_child-onward.auto.objects ∙ c.loop-to.invariant.2, c.resolve_child-onward.auto.places ∙ c.loop-to.invariant.3, climb-fits c.loop-to.tasks c.loop-to.objects c.loop-to.places empty_queue c.in-GatherSlot.gather c.in-GatherSlot.source c.loop-to.given c.in-Some.w (c.loop-to.invariant.1 ∙ c.requires.0) (c.loop-to.invariant.2 ∙ c.requires.1) (c.loop-to.invariant.3 ∙ c.requires.2) (rw c.in-GatherSlot.is at c.loop-to.invariant.4).0 [] (rw c.in-Some.is at (c.resolve_child-onward.ensures c.loop-to.tasks empty_queue [])))

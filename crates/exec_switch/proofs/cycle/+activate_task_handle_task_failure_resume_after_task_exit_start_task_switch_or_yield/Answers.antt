@@ -87,13 +87,13 @@ handle_task_failure-returns t c = λ ps l w.
 
 -- ---- resume_after_task_exit
 
-pub resume_after_task_exit-returns-in-Nothing : goal.resume_after_task_exit-returns-in-Nothing
-resume_after_task_exit-returns-in-Nothing t c = λ ps l w.
-    exit_next c.args.tasks.now c.args.objects.now ps (queue_of c.args.ids.now c.args.len.now) l _ c.in-Nothing.is c.switch_or_yield.result (c.switch_or_yield.ensures ps l w)
+pub resume_after_task_exit-returns-in-None : goal.resume_after_task_exit-returns-in-None
+resume_after_task_exit-returns-in-None t c = λ ps l w.
+    exit_next c.args.tasks.now c.args.objects.now ps (queue_of c.args.ids.now c.args.len.now) l _ c.in-None.is c.switch_or_yield.result (c.switch_or_yield.ensures ps l w)
 
-pub resume_after_task_exit-returns-in-At : goal.resume_after_task_exit-returns-in-At
-resume_after_task_exit-returns-in-At t c = λ ps l w.
-    exit_wakes c.args.tasks.now c.args.objects.now ps (queue_of c.args.ids.now c.args.len.now) l _ c.in-At.t c.in-At.is c.remove_lent.ensures.0 c.activate_task.result
+pub resume_after_task_exit-returns-in-Some : goal.resume_after_task_exit-returns-in-Some
+resume_after_task_exit-returns-in-Some t c = λ ps l w.
+    exit_wakes c.args.tasks.now c.args.objects.now ps (queue_of c.args.ids.now c.args.len.now) l _ c.in-Some.t c.in-Some.is c.remove_lent.ensures.0 c.activate_task.result
     (c.activate_task.ensures ps l w)
 
 -- ---- start_task

@@ -1,3 +1,4 @@
+use Rattle.std.specs.Prelude.{Some}
 use Rattle.scheduler.specs.SkipLaws.{first_begins}
 use Prim.Native.Nat.{◌-◌}
 use mathlib.Core.Path.{sym, ap, ◌∙◌}
@@ -5,7 +6,6 @@ use native.Mathlib.Omega.{arith}
 use Rattle.asyncio.specs.declared.HeapId.{HeapId}
 use Rattle.machine.specs.Scheduler.{is_call}
 use Rattle.scheduler.specs.Search.{found_object}
-use Rattle.scheduler.specs.declared.tasks.FoundObject.{FoundObject}
 use Rattle.scheduler.specs.SearchLaws.{first_here, first_turn, first_end, pending-begins}
 use Rattle.rows.specs.TableLaws.{header_read}
 use Rattle.scheduler.proofs.tasks.take_pending_external.Goals as goal
@@ -20,7 +20,7 @@ pub is_call-requires : goal.is_call-requires
 is_call-requires c = (c.requires, omega (arith, (header_read _ c.load_header-header.ensures).made_fits, ap (λ (h : HeapId). h.0) c.new-id.ensures))
 
 pub returns-then-is_call : goal.returns-then-is_call
-returns-then-is_call c = ap FoundObject.At c.new-id.ensures ∙ ap found_object (sym (first_here (is_call c.args.objects.now c.args.call) c.loop-o.o c.load_header-header.result.made c.loop-o-test.true (ap (λ (h : HeapId). h.0) c.new-id.ensures) (sym c.if-is_call.true ∙ c.is_call.ensures)) ∙ c.loop-o.invariant)
+returns-then-is_call c = ap Some c.new-id.ensures ∙ ap found_object (sym (first_here (is_call c.args.objects.now c.args.call) c.loop-o.o c.load_header-header.result.made c.loop-o-test.true (ap (λ (h : HeapId). h.0) c.new-id.ensures) (sym c.if-is_call.true ∙ c.is_call.ensures)) ∙ c.loop-o.invariant)
 
 pub overflow_add-o : goal.overflow_add-o
 overflow_add-o c = omega (arith, (header_read _ c.load_header-header.ensures).made_fits)
