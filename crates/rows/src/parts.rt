@@ -1,17 +1,18 @@
 // One part of a row, read from its own words: the same as that part of the whole row, at the cost of the words it needs.
-ghost use Rattle.std.specs.Prelude.{◌≡◌};
+ghost use Rattle.std.specs.Prelude.{◌≡◌, ◌<◌};
+ghost use Rattle.asyncio.specs.Limits.{task_limit, object_limit, place_limit};
 ghost use Rattle.asyncio.specs.Kinds.{kind};
 ghost use Rattle.asyncio.specs.Parts.{awaiter_of, call_of, first_of, count_of, open_of};
-ghost use Rattle.rows.specs.Slices.{TaskRow, ObjectRow, PlaceRow, task_in, object_in, place_in};
+ghost use Rattle.rows.specs.Slices.{task_in, object_in, place_in};
 
 use asyncio::words::{to_awaiter, to_count, to_first, to_kind, to_option, to_state, to_u32};
-use asyncio::{Awaiter, CallId, HeapId, Kind, TaskId, TaskState, Value};
+use asyncio::{Awaiter, CallId, HeapId, Kind, Objects, Places, TaskId, TaskState, Tasks, Value};
 
 // ---- objects
 
 // Its sort and state.
-pub fn kind_at(objects: &[u64], o: HeapId) -> Kind
-    requires { ObjectRow objects.now o.0 }
+pub fn kind_at(objects: &Objects, o: HeapId) -> Kind
+    requires { o.0 < object_limit }
     ensures { result ≡ kind (object_in objects o.0) }
 {
     let i = o.0 as usize;
@@ -20,8 +21,8 @@ pub fn kind_at(objects: &[u64], o: HeapId) -> Kind
 }
 
 // The awaiter of a pending external or an awaited gather, else nobody.
-pub fn awaiter_at(objects: &[u64], o: HeapId) -> Awaiter
-    requires { ObjectRow objects.now o.0 }
+pub fn awaiter_at(objects: &Objects, o: HeapId) -> Awaiter
+    requires { o.0 < object_limit }
     ensures { result ≡ awaiter_of (object_in objects o.0) }
 {
     let i = o.0 as usize;
@@ -34,8 +35,8 @@ pub fn awaiter_at(objects: &[u64], o: HeapId) -> Awaiter
 }
 
 // The call of an external, else 0.
-pub fn call_at(objects: &[u64], o: HeapId) -> CallId
-    requires { ObjectRow objects.now o.0 }
+pub fn call_at(objects: &Objects, o: HeapId) -> CallId
+    requires { o.0 < object_limit }
     ensures { result ≡ call_of (object_in objects o.0) }
 {
     let i = o.0 as usize;
@@ -48,8 +49,8 @@ pub fn call_at(objects: &[u64], o: HeapId) -> CallId
 }
 
 // The first place of a gather, else 0.
-pub fn first_at(objects: &[u64], o: HeapId) -> u16
-    requires { ObjectRow objects.now o.0 }
+pub fn first_at(objects: &Objects, o: HeapId) -> u16
+    requires { o.0 < object_limit }
     ensures { result ≡ first_of (object_in objects o.0) }
 {
     let i = o.0 as usize;
@@ -62,8 +63,8 @@ pub fn first_at(objects: &[u64], o: HeapId) -> u16
 }
 
 // The number of places of a gather, else 0.
-pub fn count_at(objects: &[u64], o: HeapId) -> u16
-    requires { ObjectRow objects.now o.0 }
+pub fn count_at(objects: &Objects, o: HeapId) -> u16
+    requires { o.0 < object_limit }
     ensures { result ≡ count_of (object_in objects o.0) }
 {
     let i = o.0 as usize;
@@ -76,8 +77,8 @@ pub fn count_at(objects: &[u64], o: HeapId) -> u16
 }
 
 // The open places of an awaited gather, else 0.
-pub fn open_at(objects: &[u64], o: HeapId) -> u32
-    requires { ObjectRow objects.now o.0 }
+pub fn open_at(objects: &Objects, o: HeapId) -> u32
+    requires { o.0 < object_limit }
     ensures { result ≡ open_of (object_in objects o.0) }
 {
     let i = o.0 as usize;
@@ -91,8 +92,8 @@ pub fn open_at(objects: &[u64], o: HeapId) -> u32
 
 // ---- tasks
 
-pub fn state_at(tasks: &[u64], t: TaskId) -> TaskState
-    requires { TaskRow tasks.now t.0 }
+pub fn state_at(tasks: &Tasks, t: TaskId) -> TaskState
+    requires { t.0 < task_limit }
     ensures { result ≡ (task_in tasks t.0).state }
 {
     let i = t.0 as usize;
@@ -100,8 +101,8 @@ pub fn state_at(tasks: &[u64], t: TaskId) -> TaskState
     to_state(tasks[at], tasks[at + 5], tasks[at + 6])
 }
 
-pub fn task_awaiter_at(tasks: &[u64], t: TaskId) -> Awaiter
-    requires { TaskRow tasks.now t.0 }
+pub fn task_awaiter_at(tasks: &Tasks, t: TaskId) -> Awaiter
+    requires { t.0 < task_limit }
     ensures { result ≡ (task_in tasks t.0).awaiter }
 {
     let i = t.0 as usize;
@@ -109,8 +110,8 @@ pub fn task_awaiter_at(tasks: &[u64], t: TaskId) -> Awaiter
     to_awaiter(tasks[at + 1], tasks[at + 2], tasks[at + 3])
 }
 
-pub fn coroutine_at(tasks: &[u64], t: TaskId) -> HeapId
-    requires { TaskRow tasks.now t.0 }
+pub fn coroutine_at(tasks: &Tasks, t: TaskId) -> HeapId
+    requires { t.0 < task_limit }
     ensures { result ≡ (task_in tasks t.0).coroutine }
 {
     let i = t.0 as usize;
@@ -120,16 +121,16 @@ pub fn coroutine_at(tasks: &[u64], t: TaskId) -> HeapId
 
 // ---- places
 
-pub fn item_at(places: &[u64], p: usize) -> HeapId
-    requires { PlaceRow places.now p }
+pub fn item_at(places: &Places, p: usize) -> HeapId
+    requires { p < place_limit }
     ensures { result ≡ (place_in places p).item }
 {
     let at = p * 4;
     HeapId::from_word(places[at])
 }
 
-pub fn result_at(places: &[u64], p: usize) -> Option<Value>
-    requires { PlaceRow places.now p }
+pub fn result_at(places: &Places, p: usize) -> Option<Value>
+    requires { p < place_limit }
     ensures { result ≡ (place_in places p).result }
 {
     let at = p * 4;
